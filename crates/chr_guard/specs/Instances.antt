@@ -1,0 +1,32 @@
+-- What is an instance of a rule.
+use Rattle.std.specs.Prelude.{◌≡◌, ◌≢◌, ℕ, ℤ, List, [], ◌∷◌, map, Some}
+use Rattle.std.specs.List.{AllByRecursion}
+use Rattle.chr_value.specs.Terms.{Fact, Int}
+use Rattle.chr_rule.specs.Rules.{Shape, Member, Is, Add, Simpagation}
+use Rattle.chr_guard.specs.Values.{Valuation, value_of, term_under, Holds}
+
+-- a constraint of a rule under a valuation
+abbrev pub atom_under : Valuation → Shape ℕ → Fact ℕ
+atom_under v s = record { name = s.name; args = map (term_under v) s.args }
+
+-- a variable left of an `is` stands for the expression's value
+abbrev pub IsRight : Valuation → Member ℕ → Type 0
+IsRight v (Is x e) = (n : ℤ) × (value_of v e ≡ Some n) × (v x ≡ Int n)
+IsRight v (Add s) = Unit {0}
+
+-- the constraints of a body, in written order
+abbrev pub added : Valuation → List (Member ℕ) → List (Fact ℕ)
+added v [] = []
+added v (Is x e ∷ ms) = added v ms
+added v (Add s ∷ ms) = atom_under v s ∷ added v ms
+
+-- An instance of a rule (Frühwirth): a valuation under which the guard holds and each `is` is right. It keeps, removes
+-- and adds these atoms, and it removes something.
+pub record Instance (rule : Simpagation ℕ) (kept removed body : List (Fact ℕ)) : Type 0 where
+  pub valuation : Valuation
+  pub guard : AllByRecursion (Holds valuation) rule.guard
+  pub right : AllByRecursion (IsRight valuation) rule.body
+  pub kept_are : kept ≡ map (atom_under valuation) rule.kept
+  pub removed_are : removed ≡ map (atom_under valuation) rule.removed
+  pub some_removed : removed ≢ []
+  pub body_is : body ≡ added valuation rule.body

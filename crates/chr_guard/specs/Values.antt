@@ -1,0 +1,72 @@
+-- The value of an expression, and when a comparison holds.
+use Rattle.std.specs.Prelude.{◌≡◌, ◌≢◌, ℕ, Bool, true, not, ◌&&◌, ◌||◌, if◌then◌else◌, ℤ, pos, negsuc, ◌+ℤ◌, ◌-ℤ◌, ◌*ℤ◌, int_lt, int_le, int_div, int_rem, Option, Some, None}
+use Rattle.chr_value.specs.Terms.{Term}
+use Rattle.chr_value.specs.Terms as terms
+use Rattle.chr_rule.specs.declared.expression.Operator.{Operator}
+use Rattle.chr_rule.specs.declared.expression.Operator.TheVariants.{Add, Sub, Mul, Quot, Rem, Mod}
+use Rattle.chr_rule.specs.declared.expression.Relation.{Relation}
+use Rattle.chr_rule.specs.declared.expression.Relation.TheVariants.{Less, LessEqual, Greater, GreaterEqual, Equal, Unequal}
+use Rattle.chr_rule.specs.Rules.{Argument, Var, Given, Expression, Number, Variable, Operation, Test, Compared, Same, Differ}
+
+-- what each variable of a rule stands for
+abbrev pub Valuation : Type 0
+Valuation = ℕ → Term ℕ
+
+-- a number, where it has 64 bits with sign
+abbrev pub in_range : ℤ → Option ℤ
+in_range n = if int_le (negsuc 9223372036854775807) n && int_le n (pos 9223372036854775807) then Some n else None
+
+abbrev pub is_zero : ℤ → Bool
+is_zero n = int_le n (pos 0) && int_le (pos 0) n
+
+-- whether two numbers lie on different sides of 0
+abbrev pub signs_differ : ℤ → ℤ → Bool
+signs_differ a b = int_lt a (pos 0) && int_lt (pos 0) b || int_lt (pos 0) a && int_lt b (pos 0)
+
+-- the remainder with the sign of the divisor
+abbrev pub int_mod : ℤ → ℤ → ℤ
+int_mod a b = if signs_differ (int_rem a b) b then int_rem a b +ℤ b else int_rem a b
+
+-- an operator's result over exact numbers: none out of range, and none by a divisor 0
+abbrev pub computed : Operator → ℤ → ℤ → Option ℤ
+computed Add a b = in_range (a +ℤ b)
+computed Sub a b = in_range (a -ℤ b)
+computed Mul a b = in_range (a *ℤ b)
+computed Quot a b = if is_zero b then None else in_range (int_div a b)
+computed Rem a b = if is_zero b then None else in_range (int_rem a b)
+computed Mod a b = if is_zero b then None else in_range (int_mod a b)
+
+-- a symbol is no number
+abbrev pub number_in : Term ℕ → Option ℤ
+number_in (terms.Int n) = Some n
+number_in (terms.Sym s) = None
+
+abbrev pub both : {A B C : Type 0} → (A → B → Option C) → Option A → Option B → Option C
+both f (Some a) (Some b) = f a b
+both f (Some a) None = None
+both f None b = None
+
+-- an expression's value, where each part has one
+abbrev pub value_of : Valuation → Expression → Option ℤ
+value_of v (Number n) = Some n
+value_of v (Variable x) = number_in (v x)
+value_of v (Operation o a b) = both (computed o) (value_of v a) (value_of v b)
+
+abbrev pub compares : Relation → ℤ → ℤ → Bool
+compares Less a b = int_lt a b
+compares LessEqual a b = int_le a b
+compares Greater a b = int_lt b a
+compares GreaterEqual a b = int_le b a
+compares Equal a b = int_le a b && int_le b a
+compares Unequal a b = not (int_le a b && int_le b a)
+
+-- what an argument stands for
+abbrev pub term_under : Valuation → Argument ℕ → Term ℕ
+term_under v (Var x) = v x
+term_under v (Given t) = t
+
+-- numbers are compared where both sides have values, terms as they are
+abbrev pub Holds : Valuation → Test ℕ → Type 0
+Holds v (Compared r a b) = both (λ m n. Some (compares r m n)) (value_of v a) (value_of v b) ≡ Some true
+Holds v (Same s t) = term_under v s ≡ term_under v t
+Holds v (Differ s t) = term_under v s ≢ term_under v t

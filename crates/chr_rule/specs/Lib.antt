@@ -1,0 +1,4 @@
+pub mod Rules
+pub mod Scope
+pub mod Parts
+pub mod Code

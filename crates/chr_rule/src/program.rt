@@ -1,0 +1,70 @@
+//! Programs.
+ghost use Rattle.std.specs.Prelude.{◌≡◌, ◌-◌, ◌<◌, ◌≤◌, ◌++◌, ◌∷◌, [], length, map, slice_get, OnOk, OnErr, MatchOption};
+ghost use Rattle.std.specs.Arc.{arc_value};
+
+use crate::rule::Rule;
+use std::alloc::{AllocError, Allocator};
+use std::marker::Model;
+use std::sync::Arc;
+
+/// How many rules a program may have.
+pub const MOST_RULES: usize = 256;
+
+/// Rules in text order, numbered from 1, which several holders share. Contracts see the list of the rules.
+#[derive(Drop)]
+pub struct Program<A: Allocator> {
+    rules: Vec<Arc<Rule<A>, A>, A>,
+}
+
+impl<A: Allocator> Model for Program<A> {
+    ghost use Rattle.std.specs.Prelude.{ℕ, List, map, length, ◌≤◌};
+    ghost use Rattle.std.specs.Arc.{arc_value};
+    ghost use Rattle.chr_rule.specs.Rules.{Simpagation};
+    ghost use Rattle.chr_rule.specs.Code.{expression_code};
+    ghost use Rattle.std.specs.Coded.{codes};
+
+    ghost Value = { List (Simpagation ℕ) };
+
+    ghost coded = { Prim.hlevel (codes, expression_code) };
+
+    ghost view = { λ p. map arc_value p.rules.items };
+
+    ghost invariant = { λ p. length p.rules.items ≤ 256 };
+}
+
+impl<A: Allocator + Copy> Program<A> {
+    /// A program of no rules.
+    pub fn new(alloc: A) -> Program<A>
+        ensures { result ≡ [] }
+    {
+        Program {
+            rules: Vec::new(alloc),
+        }
+    }
+
+    /// How many rules there are, at most [`MOST_RULES`].
+    pub fn len(&self) -> usize
+        ensures count { result ≡ length self.now }
+        ensures few { result ≤ 256 }
+    {
+        self.rules.len()
+    }
+
+    /// The rules, in text order.
+    pub fn rules(&self) -> &[Arc<Rule<A>, A>]
+        ensures rules { map arc_value result.now ≡ self.now }
+        ensures few { length result.now ≤ 256 }
+    {
+        &self.rules
+    }
+
+    /// One rule more, behind the others.
+    pub fn push(&mut self, rule: Arc<Rule<A>, A>) -> Result<(), AllocError>
+        requires { length self.old < 256 }
+        ensures ok { OnOk result (self.new ≡ self.old ++ arc_value rule ∷ []) }
+        ensures err { OnErr result (self.new ≡ self.old) }
+    {
+        self.rules.push(rule)?;
+        Ok(())
+    }
+}

@@ -1,0 +1,38 @@
+-- Values and atoms as clauses see them: over the numbers of names, or over their texts.
+use Rattle.std.specs.Prelude.{ℕ, ℤ, List, [], map}
+use Rattle.std.specs.List.{slice_index_or}
+use Rattle.chr_value.specs.declared.atom.Value.{Value}
+use Rattle.chr_value.specs.declared.atom.Value.TheVariants as values
+
+pub data Term (N : Type 0) : Type 0 where
+  Int : ℤ → Term N
+  Sym : N → Term N
+
+-- an atom: a predicate's name and its arguments
+pub record Fact (N : Type 0) : Type 0 where
+  pub name : N
+  pub args : List (Term N)
+
+-- what a value says
+abbrev pub ground : Value → Term ℕ
+ground (values.Int z) = Int z
+ground (values.Sym s) = Sym s.number
+
+abbrev pub grounds : List Value → List (Term ℕ)
+grounds vs = map ground vs
+
+-- the same over other names
+abbrev pub renamed : {M N : Type 0} → (M → N) → Term M → Term N
+renamed f (Int z) = Int z
+renamed f (Sym s) = Sym (f s)
+
+abbrev pub fact_renamed : {M N : Type 0} → (M → N) → Fact M → Fact N
+fact_renamed f a = record { name = f a.name; args = map (renamed f) a.args }
+
+-- a name's text, which is empty for a number outside the table
+abbrev pub text_of : List (List ℕ) → ℕ → List ℕ
+text_of table n = slice_index_or table n []
+
+-- an atom by the texts of its names
+abbrev pub said : List (List ℕ) → Fact ℕ → Fact (List ℕ)
+said table a = fact_renamed (text_of table) a
