@@ -1,6 +1,6 @@
 -- Values and atoms as clauses see them: over the numbers of names, or over their texts.
-use Rattle.std.specs.Prelude.{ℕ, ℤ, List, [], map}
-use Rattle.std.specs.List.{slice_index_or}
+use Rattle.std.specs.Prelude.{ℕ, ℤ, ◌<◌, List, [], map}
+use Rattle.std.specs.List.{slice_index_or, AllByRecursion}
 use Rattle.chr_value.specs.declared.atom.Value.{Value}
 use Rattle.chr_value.specs.declared.atom.Value.TheVariants as values
 
@@ -36,3 +36,13 @@ text_of table n = slice_index_or table n []
 -- an atom by the texts of its names
 abbrev pub said : List (List ℕ) → Fact ℕ → Fact (List ℕ)
 said table a = fact_renamed (text_of table) a
+
+-- a table of n names has the term's name
+abbrev pub TermIsNamed : ℕ → Term ℕ → Type 0
+TermIsNamed n (Int z) = Unit {0}
+TermIsNamed n (Sym s) = s < n
+
+-- a table of n names has the atom's name and its symbols
+pub record FactIsNamed (n : ℕ) (a : Fact ℕ) : Type 0 where
+  pub name : a.name < n
+  pub args : AllByRecursion (TermIsNamed n) a.args

@@ -1,10 +1,12 @@
-//! Values and atoms.
+//! Values, predicates and atoms.
 ghost use Rattle.std.specs.Prelude.{◌≡◌, ◌<◌, ◌≤◌, ◌↔◌, ◌++◌, ◌∷◌, [], length, IsTrue, IfOk};
-ghost use Rattle.chr_value.specs.Terms.{ground, grounds};
+ghost use Rattle.std.specs.List.{AllByRecursion};
+ghost use Rattle.chr_value.specs.Terms.{ground, grounds, TermIsNamed, FactIsNamed};
 
 use crate::names::Name;
 use arrayvec::ArrayVec;
 use std::alloc::{AllocError, Allocator};
+use std::default::MadeWith;
 use std::marker::Model;
 
 /// How many arguments an atom may have.
@@ -32,6 +34,16 @@ impl Value {
             (Value::Int(m), Value::Int(n)) => *m == *n,
             (Value::Sym(s), Value::Sym(t)) => s.number == t.number,
             _ => false,
+        }
+    }
+
+    /// Whether a table of `count` names has the value's name. A number needs none.
+    pub fn is_named(&self, count: usize) -> bool
+        ensures { IsTrue result ↔ TermIsNamed count (ground self.now) }
+    {
+        match self {
+            Value::Int(_) => true,
+            Value::Sym(name) => (name.number as usize) < count,
         }
     }
 
@@ -70,7 +82,7 @@ impl<A: Allocator> Model for Atom<A> {
 }
 
 impl<A: Allocator + Copy> Atom<A> {
-    /// The predicate without arguments.
+    /// The predicate without arguments. Takes no memory.
     pub fn new(alloc: A, name: Name) -> Atom<A>
         ensures { result ≡ record { name = name.number; args = [] } }
     {
@@ -107,7 +119,7 @@ impl<A: Allocator + Copy> Atom<A> {
         self.args.as_slice()
     }
 
-    /// One argument more.
+    /// One argument more, behind the others. There must be fewer than [`MOST_ARGS`].
     pub fn push(&mut self, value: Value)
         requires { length self.old.args < 8 }
         ensures { self.new ≡ record { name = self.old.name; args = self.old.args ++ ground value ∷ [] } }
@@ -115,7 +127,24 @@ impl<A: Allocator + Copy> Atom<A> {
         self.args.push(value);
     }
 
-    /// The same atom once more.
+    /// Whether a table of `count` names has the atom's name and its symbols.
+    pub fn is_named(&self, count: usize) -> bool
+        ensures { IsTrue result ↔ FactIsNamed count self.now }
+    {
+        (self.name.number as usize) < count && are_named(self.args.as_slice(), count)
+    }
+
+    /// Whether two atoms are one: the same predicate and the same arguments.
+    pub fn same(&self, other: &Atom<A>) -> bool
+        ensures { IsTrue result ↔ (self.now ≡ other.now) }
+    {
+        if self.name.number != other.name.number {
+            return false;
+        }
+        same_values(self.args.as_slice(), other.args.as_slice())
+    }
+
+    /// The same atom once more. E01 where memory ran out.
     pub fn copy(&self, alloc: A) -> Result<Atom<A>, AllocError>
         ensures { IfOk result (λ made. made ≡ self.now) }
     {
@@ -124,5 +153,38 @@ impl<A: Allocator + Copy> Atom<A> {
             atom.push(value.duplicate());
         }
         Ok(atom)
+    }
+}
+
+// Whether two lists of values are one.
+fn same_values(xs: &[Value], ys: &[Value]) -> bool
+    ensures { IsTrue result ↔ (grounds xs.now ≡ grounds ys.now) }
+{
+    if xs.len() != ys.len() {
+        return false;
+    }
+    for (i, x) in xs.iter().enumerate() {
+        if !x.same(&ys[i]) {
+            return false;
+        }
+    }
+    true
+}
+
+// Whether a table of `count` names has the names of all values.
+fn are_named(values: &[Value], count: usize) -> bool
+    ensures { IsTrue result ↔ AllByRecursion (TermIsNamed count) (grounds values.now) }
+{
+    for value in values {
+        if !value.is_named(count) {
+            return false;
+        }
+    }
+    true
+}
+
+impl<A: Allocator + Copy> MadeWith<A> for Atom<A> {
+    fn made_with(alloc: A) -> Atom<A> {
+        Atom::new(alloc, Name { number: 0 })
     }
 }

@@ -1,5 +1,6 @@
-//! The text of an atom.
-ghost use Rattle.std.specs.Prelude.{◌≡◌, ◌++◌, ◌∷◌, [], OnOk};
+//! The text of an atom. Each call writes behind what is there; after a refusal of memory (E01) that still stands, with
+//! at most a beginning of what was to be written behind it.
+ghost use Rattle.std.specs.Prelude.{◌≡◌, ◌++◌, ◌∷◌, [], length, take, OnOk, OnErr};
 ghost use Rattle.std.specs.Fmt.{decimal, signed_decimal};
 ghost use Rattle.chr_value.specs.Terms.{ground, renamed, text_of, said};
 ghost use Rattle.chr_value.specs.Spelling.{spell_term, spell, bracketed};
@@ -9,9 +10,10 @@ use crate::names::{Name, Names};
 use itoa::Buffer;
 use std::alloc::{AllocError, Allocator};
 
-/// A number in decimal.
+/// A number in decimal, without leading zeros.
 pub fn put_number<C: Allocator>(out: &mut Vec<u8, C>, n: u64) -> Result<(), AllocError>
-    ensures { OnOk result (out.new.items ≡ out.old.items ++ decimal n) }
+    ensures writes { OnOk result (out.new.items ≡ out.old.items ++ decimal n) }
+    ensures unchanged { OnErr result (out.new.items ≡ out.old.items) }
 {
     let mut buffer = Buffer::new();
     out.extend_from_slice(buffer.format(n).as_bytes())
@@ -23,7 +25,8 @@ pub fn put_name<A: Allocator + Copy, C: Allocator>(
     names: &Names<A>,
     name: Name,
 ) -> Result<(), AllocError>
-    ensures { OnOk result (out.new.items ≡ out.old.items ++ text_of names.now name.number) }
+    ensures writes { OnOk result (out.new.items ≡ out.old.items ++ text_of names.now name.number) }
+    ensures unchanged { OnErr result (out.new.items ≡ out.old.items) }
 {
     if let Some(text) = names.text(name) {
         out.extend_from_slice(text.as_bytes())?;
@@ -31,12 +34,14 @@ pub fn put_name<A: Allocator + Copy, C: Allocator>(
     Ok(())
 }
 
+/// A number in decimal with `-` in front where it is below zero, or a symbol by its name's text.
 pub fn put_value<A: Allocator + Copy, C: Allocator>(
     out: &mut Vec<u8, C>,
     names: &Names<A>,
     value: &Value,
 ) -> Result<(), AllocError>
-    ensures { OnOk result (out.new.items ≡ out.old.items ++ spell_term (renamed (text_of names.now) (ground value.now))) }
+    ensures writes { OnOk result (out.new.items ≡ out.old.items ++ spell_term (renamed (text_of names.now) (ground value.now))) }
+    ensures unchanged { OnErr result (out.new.items ≡ out.old.items) }
 {
     match value {
         Value::Int(n) => {
@@ -47,13 +52,14 @@ pub fn put_value<A: Allocator + Copy, C: Allocator>(
     }
 }
 
-/// The bytes of an atom, behind what is there.
+/// The bytes of an atom: its name's text, and where it has arguments `(`, the arguments by `,` without blanks, and `)`.
 pub fn write_atom<A: Allocator + Copy, C: Allocator>(
     out: &mut Vec<u8, C>,
     names: &Names<A>,
     atom: &Atom<A>,
 ) -> Result<(), AllocError>
-    ensures { OnOk result (out.new.items ≡ out.old.items ++ spell (said names.now atom.now)) }
+    ensures writes { OnOk result (out.new.items ≡ out.old.items ++ spell (said names.now atom.now)) }
+    ensures keeps { take (length out.old.items) out.new.items ≡ out.old.items }
 {
     put_name(out, names, atom.name())?;
     let args = atom.args();

@@ -1,0 +1,56 @@
+-- What a table's names say is numbered as it was.
+use Rattle.std.proofs.Common.{◌≡◌, ◌<◌, ◌+◌, ℕ, zero, suc, Bool, true, false, ◌||◌, List, [], ◌∷◌, length, map, Option, Some, Result, refl, ap, ◌∙◌, arith, subst}
+use Rattle.std.specs.List.{AllByRecursion}
+use Rattle.std.proofs.lemmas.Cmp.{nat_list_eq_equiv}
+use Rattle.chr_value.specs.Names.{is_text, has_text, number_of, HasDistinctTexts}
+use Rattle.chr_value.specs.Terms.{Term, Int, Sym, Fact, TermIsNamed, FactIsNamed, renamed, text_of, said}
+use Rattle.chr_value.specs.declared.names.NamesFault.{NamesFault}
+use Rattle.chr_value.specs.Naming.{Table, Named, number_name, number_term, number_terms, number_fact}
+
+neither : (a b : Bool) → (a || b) ≡ false → (a ≡ false) × (b ≡ false)
+neither true b h = absurd cc
+neither false b h = (refl, h)
+
+or-true : (a : Bool) → (a || true) ≡ true
+or-true true = refl
+or-true false = refl
+
+-- a text that a table lacks is none of its texts
+lacks : (t : List ℕ) (table : Table) (n : ℕ) → has_text table t ≡ false → n < length table → is_text t (text_of table n) ≡ false
+lacks t [] n h lt = absurd (omega arith)
+lacks t (k ∷ ks) zero h lt = (neither (is_text t k) (has_text ks t) h).0
+lacks t (k ∷ ks) (suc n) h lt = lacks t ks n (neither (is_text t k) (has_text ks t) h).1 (omega arith)
+
+has-own : (table : Table) (n : ℕ) → n < length table → has_text table (text_of table n) ≡ true
+has-own [] n lt = absurd (omega arith)
+has-own (t ∷ ts) zero lt = rw (nat_list_eq_equiv.refl t) refl
+has-own (t ∷ ts) (suc n) lt = rw (has-own ts n (omega arith)) (or-true (is_text (text_of ts n) t))
+
+number-own : (table : Table) (n : ℕ) → HasDistinctTexts table → n < length table → number_of table (text_of table n) ≡ n
+number-own [] n apart lt = absurd (omega arith)
+number-own (t ∷ ts) zero apart lt = rw (nat_list_eq_equiv.refl t) refl
+number-own (t ∷ ts) (suc n) apart lt =
+    let one : 1 + n ≡ suc n = omega arith in
+    rw (nat_list_eq_equiv.symm (text_of ts n) t, lacks t ts n apart.0 (omega arith), number-own ts n apart.1 (omega arith)) one
+
+pub name_again : (table : Table) (n : ℕ) → HasDistinctTexts table → n < length table → number_name table (text_of table n) ≡ Some (n, table)
+name_again table n apart lt = rw (has-own table n lt, number-own table n apart lt) refl
+
+pub term_again : (table : Table) (v : Term ℕ) → HasDistinctTexts table → TermIsNamed (length table) v → number_term table (renamed (text_of table) v) ≡ Some (v, table)
+term_again table (Int z) apart named = refl
+term_again table (Sym n) apart named = rw (name_again table n apart named) refl
+
+pub terms_again : (table : Table) (vs : List (Term ℕ)) → HasDistinctTexts table → AllByRecursion (TermIsNamed (length table)) vs → number_terms table (map (renamed (text_of table)) vs) ≡ Some (vs, table)
+unfolding number_terms
+terms_again table [] apart named = refl
+terms_again table (v ∷ vs) apart named = rw (term_again table v apart named.0, terms_again table vs apart named.1) refl
+
+pub fact_again : (table : Table) (a : Fact ℕ) → HasDistinctTexts table → FactIsNamed (length table) a → number_fact table (said table a) ≡ Some (a, table)
+unfolding number_fact
+fact_again table a apart named = rw (name_again table a.name apart named.name, terms_again table a.args apart named.args) refl
+
+-- what numbering a text gives, where an atom of the table was written so
+pub read_again : {X : Type 0} (view : X → Fact ℕ) (table new : Table) (text : Fact (List ℕ)) (r : Result X NamesFault) (a : Fact ℕ) → Named view r (number_fact table text) new → HasDistinctTexts table → FactIsNamed (length table) a → text ≡ said table a → Named view r (Some (a, table)) new
+read_again view table new text r a gives apart named is =
+    let e : number_fact table text ≡ Some (a, table) = ap (number_fact table) is ∙ fact_again table a apart named in
+    subst (λ (w : Option (Fact ℕ × Table)). Named view r w new) e gives

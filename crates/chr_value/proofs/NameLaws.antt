@@ -1,0 +1,85 @@
+-- Numbering names, one after another.
+use Rattle.std.proofs.Common.{◌≡◌, ℕ, zero, suc, ◌+◌, ◌≤◌, ◌<◌, Bool, true, false, cond, ltb, ◌||◌, List, [], ◌∷◌, ◌++◌, length, take, Option, Some, None, Result, Ok, Err, refl, sym, ap, ◌∙◌, append_assoc, arith, length-append, length-take, length-drop, drop, drop-cons, add-one, get_or}
+use Rattle.std.specs.Prelude.{IfOk, OnOk, OnErr}
+use Rattle.std.proofs.lemmas.Grind.{common_steps}
+use Rattle.std.proofs.lemmas.Bool.{lt-ltb}
+use Rattle.std.proofs.lemmas.List.{take_at, append-nil, nil_from_length}
+use Rattle.chr_value.specs.Names.{has_text, number_of, with_text}
+use Rattle.chr_value.specs.declared.names.Name.{Name}
+use Rattle.chr_value.specs.declared.names.NamesFault.{NamesFault}
+use Rattle.chr_value.specs.declared.names.NamesFault.TheVariants as faults
+use Rattle.chr_value.specs.Terms.{Term, Fact}
+use Rattle.std.specs.List.{AllByRecursion}
+use Rattle.chr_value.specs.declared.words.Word.{Word}
+use Rattle.chr_value.specs.Words.{word, words_of}
+use Rattle.chr_value.specs.Spelling.{FitsTerm}
+use Rattle.chr_value.specs.Naming.{◌>>=◌, Table, Named, number_name, number_term, number_terms, number_more, number_fact}
+
+pub grown : (table : Table) (t : List ℕ) (b : Bool) → take (length table) (cond b table (table ++ t ∷ [])) ≡ table
+grown table t true = ap (take (length table)) (sym (append-nil table)) ∙ take_at table [] (length table) refl
+grown table t false = take_at table (t ∷ []) (length table) refl
+
+named_ok-step : (table : Table) (t : List ℕ) (b : Bool) (n : ℕ) → length (cond b table (table ++ t ∷ [])) ≤ 65536 → cond {A = Option (ℕ × Table)} (b || ltb (length table) 65536) (Some (n, cond b table (table ++ t ∷ []))) None ≡ Some (n, cond b table (table ++ t ∷ []))
+named_ok-step table t true n h = refl
+named_ok-step table t false n h = let lt : length table < 65536 = omega (arith, length-append table (t ∷ [])) in rw (lt-ltb (length table) 65536 lt) refl
+
+pub name_gives : (table new : Table) (t : List ℕ) (r : Result Name NamesFault) → IfOk r (λ n. n.number ≡ number_of table t) → OnOk r (new ≡ with_text table t) → (r ≡ Err faults.Full → (length table ≡ 65536) × (has_text table t ≡ false)) → length new ≤ 65536 → Named (λ n. n.number) r (number_name table t) new
+name_gives table new t (Ok n) number is full fits =
+    let small : length (with_text table t) ≤ 65536 = omega (arith, ap length is) in
+    named_ok-step table t (has_text table t) (number_of table t) small ∙ ap (λ (k : ℕ). Some (k, with_text table t)) (sym number) ∙ ap (λ (w : Table). Some (n.number, w)) (sym is)
+name_gives table new t (Err faults.NoMemory) number is full fits = tt
+name_gives table new t (Err faults.Full) number is full fits = let h = full refl in rw (h.1, h.0) refl
+
+pub name_keeps : (table new : Table) (t : List ℕ) (r : Result Name NamesFault) → OnOk r (new ≡ with_text table t) → OnErr r (new ≡ table) → take (length table) new ≡ table
+name_keeps table new t (Ok n) is same = ap (take (length table)) is ∙ grown table t (has_text table t)
+name_keeps table new t (Err e) is same = ap (take (length table)) same ∙ grown table t true
+
+-- ---- an atom's arguments
+
+pub err_first : {X Z : Type 0} (v : X → ℕ) (w : Z → Fact ℕ) (e : NamesFault) (table new : Table) (a : Fact (List ℕ)) → Named v (Err e) (number_name table a.name) new → Named w (Err e) (number_fact table a) new
+unfolding number_fact
+err_first v w faults.NoMemory table new a h = tt
+err_first v w faults.Full table new a h = rw h refl
+
+pub err_more : {X Z : Type 0} (v : X → Term ℕ) (w : Z → Fact ℕ) (e : NamesFault) (name : ℕ) (front : List (Term ℕ)) (table new : Table) (t : Term (List ℕ)) (ts all : List (Term (List ℕ))) (total : Option (Fact ℕ × Table)) → all ≡ t ∷ ts → Named v (Err e) (number_term table t) new → number_more name front (number_terms table all) ≡ total → Named w (Err e) total new
+unfolding number_terms
+err_more v w faults.NoMemory name front table new t ts all total is h so_far = tt
+err_more v w faults.Full name front table new t ts all total is h so_far = sym so_far ∙ rw (is, h) refl
+
+pub first_done : (table new : Table) (a : Fact (List ℕ)) (n : ℕ) → number_name table a.name ≡ Some (n, new) → number_more n [] (number_terms new a.args) ≡ number_fact table a
+unfolding number_fact
+first_done table new a n h = rw h refl
+
+regroup : (name : ℕ) (front : List (Term ℕ)) (v : Term ℕ) (rest : Option (List (Term ℕ) × Table)) → number_more name front (rest >>= λ xs. Some (v ∷ xs.0, xs.1)) ≡ number_more name (front ++ v ∷ []) rest
+regroup name front v (Some x) = ap (λ (w : List (Term ℕ)). Some (record { name = name; args = w }, x.1)) (sym (append_assoc front (v ∷ []) x.0))
+regroup name front v None = refl
+
+pub one_more : (name : ℕ) (front : List (Term ℕ)) (table new : Table) (t : Term (List ℕ)) (ts all : List (Term (List ℕ))) (v : Term ℕ) (total : Option (Fact ℕ × Table)) → all ≡ t ∷ ts → number_term table t ≡ Some (v, new)
+    → number_more name front (number_terms table all) ≡ total → number_more name (front ++ v ∷ []) (number_terms new ts) ≡ total
+unfolding number_terms
+one_more name front table new t ts all v total is h so_far =
+    let here : number_more name front (number_terms table all) ≡ number_more name front (number_terms new ts >>= λ xs. Some (v ∷ xs.0, xs.1)) = rw (is, h) refl in
+    sym (regroup name front v (number_terms new ts)) ∙ sym here ∙ so_far
+
+pub all_done : (name : ℕ) (front : List (Term ℕ)) (table : Table) (all : List (Term (List ℕ))) (total : Option (Fact ℕ × Table)) → all ≡ [] → number_more name front (number_terms table all) ≡ total → total ≡ Some (record { name = name; args = front }, table)
+unfolding number_terms
+all_done name front table all total is so_far =
+    let here : number_more name front (number_terms table all) ≡ Some (record { name = name; args = front ++ [] }, table) = rw is refl in
+    sym so_far ∙ here ∙ ap (λ (w : List (Term ℕ)). Some (record { name = name; args = w }, table)) (append-nil front)
+
+pub words_from : (ws : List Word) (i : ℕ) (d : Word) → i < length ws → words_of (drop i ws) ≡ word (get_or ws i d) ∷ words_of (drop (i + 1) ws)
+words_from ws i d lt = let e : drop i ws ≡ get_or ws i d ∷ drop (i + 1) ws = rw (add-one, drop-cons ws i d) refl in ap words_of e
+
+pub words_end : (ws : List Word) (i : ℕ) → length ws ≤ i → words_of (drop i ws) ≡ []
+words_end ws i le = ap words_of (nil_from_length (drop i ws) (omega (arith, length-drop i ws)))
+
+pub words_fit : (ws : List Word) (i : ℕ) (d : Word) → AllByRecursion FitsTerm (words_of ws) → i < length ws → FitsTerm (word (get_or ws i d))
+words_fit [] i d fits lt = absurd (omega arith)
+words_fit (w ∷ ws) zero d fits lt = fits.0
+words_fit (w ∷ ws) (suc i) d fits lt = words_fit ws i d fits.1 (omega arith)
+
+pub keeps-then : (a b c : Table) → take (length a) b ≡ a → take (length b) c ≡ b → take (length a) c ≡ a
+keeps-then a b c h k =
+    let le : length a ≤ length b = omega (arith, ap length h, length-take (length a) b) in
+    let both : take (length a) (take (length b) c) ≡ take (length a) c = grind (arith, common_steps) in
+    sym both ∙ ap (take (length a)) k ∙ h

@@ -1,0 +1,91 @@
+-- What is numbered says the same by the table after it.
+use Rattle.std.proofs.Common.{◌≡◌, ℕ, suc, ◌+◌, ◌<◌, Bool, true, false, cond, ltb, ◌||◌, not, List, [], ◌∷◌, ◌++◌, length, take, map, Some, None, refl, sym, ap, subst, ◌∙◌, arith, inl, inr, get_or-take}
+use Rattle.std.specs.Prelude.{nat_eq}
+use Rattle.std.specs.Cmp.Lexicographic.{pointwise}
+use Rattle.std.proofs.lemmas.Bool.{eqb-true}
+use Rattle.chr_value.specs.Names.{has_text, number_of, with_text, is_text}
+use Rattle.chr_value.specs.Terms.{Term, Int, Sym, Fact, renamed, text_of, said}
+use Rattle.chr_value.specs.Naming.{◌>>=◌, Table, number_name, number_term, number_terms, number_more, number_fact}
+use Rattle.chr_value.proofs.Chosen.{bind_some, some_is, chosen, both}
+use Rattle.chr_value.proofs.NameLaws.{keeps-then, grown}
+
+same_text : (a b : List ℕ) → is_text a b ≡ true → a ≡ b
+same_text [] [] e = refl
+same_text [] (y ∷ ys) e = absurd cc
+same_text (x ∷ xs) [] e = absurd cc
+same_text (x ∷ xs) (y ∷ ys) e = let p = both (nat_eq x y) (pointwise nat_eq xs ys) e in let h : x ≡ y = eqb-true x y p.0 in let t = same_text xs ys p.1 in cc
+
+-- the text at the number that a name gets
+abbrev At : Bool → List ℕ → List ℕ → Table → Type 0
+At b k t ks = (text_of (cond (b || has_text ks t) (k ∷ ks) (k ∷ (ks ++ t ∷ []))) (cond (not b) (1 + number_of ks t) 0) ≡ t)
+    × (cond (not b) (1 + number_of ks t) 0 < length (cond (b || has_text ks t) (k ∷ ks) (k ∷ (ks ++ t ∷ []))))
+
+later : (k t : List ℕ) (ks : Table) (b : Bool) (n : ℕ) → (text_of (cond b ks (ks ++ t ∷ [])) n ≡ t) × (n < length (cond b ks (ks ++ t ∷ []))) → (text_of (cond b (k ∷ ks) (k ∷ (ks ++ t ∷ []))) (1 + n) ≡ t) × (1 + n < length (cond b (k ∷ ks) (k ∷ (ks ++ t ∷ []))))
+later k t ks true n h = let e : 1 + n ≡ suc n = omega arith in (ap (λ (m : ℕ). text_of (k ∷ ks) m) e ∙ h.0, omega (arith, h.1))
+later k t ks false n h = let e : 1 + n ≡ suc n = omega arith in (ap (λ (m : ℕ). text_of (k ∷ (ks ++ t ∷ [])) m) e ∙ h.0, omega (arith, h.1))
+
+at_step : (k t : List ℕ) (ks : Table) (b : Bool) → is_text t k ≡ b → (text_of (with_text ks t) (number_of ks t) ≡ t) × (number_of ks t < length (with_text ks t)) → At b k t ks
+at_step k t ks true e h = (sym (same_text t k e), omega arith)
+at_step k t ks false e h = later k t ks (has_text ks t) (number_of ks t) h
+
+text_at : (table : Table) (t : List ℕ) → (text_of (with_text table t) (number_of table t) ≡ t) × (number_of table t < length (with_text table t))
+text_at [] t = (refl, omega arith)
+text_at (k ∷ ks) t = at_step k t ks (is_text t k) refl (text_at ks t)
+
+-- a number keeps its text
+text_kept : (a b : Table) (n : ℕ) → take (length a) b ≡ a → n < length a → text_of b n ≡ text_of a n
+text_kept a b n h lt = sym (get_or-take (length a) b n [] lt) ∙ ap (λ (w : Table). text_of w n) h
+
+name_says : (table : Table) (t : List ℕ) (n : ℕ) (new : Table) → number_name table t ≡ Some (n, new) → (text_of new n ≡ t) × (n < length new) × (take (length table) new ≡ table)
+name_says table t n new e =
+    elim (chosen (has_text table t || ltb (length table) 65536) (Some (number_of table t, with_text table t)) None (Some (n, new)) e) [
+      | inl p ↦
+          let h = some_is (number_of table t, with_text table t) (n, new) p.1 in
+          let a = text_at table t in
+          subst (λ (x : ℕ × Table). (text_of x.1 x.0 ≡ t) × (x.0 < length x.1) × (take (length table) x.1 ≡ table)) h (a.0, a.1, grown table t (has_text table t))
+      | inr p ↦ absurd (let k = p.1 in cc)
+    ]
+
+-- a term whose names the table has
+abbrev Inside : Table → Term ℕ → Type 0
+Inside table (Int z) = Unit {0}
+Inside table (Sym n) = n < length table
+
+term_says : (table : Table) (t : Term (List ℕ)) (v : Term ℕ) (new : Table) → number_term table t ≡ Some (v, new) → (renamed (text_of new) v ≡ t) × Inside new v × (take (length table) new ≡ table)
+term_says table (Int z) v new e =
+    let h = some_is (Int z, table) (v, new) e in
+    subst (λ (x : Term ℕ × Table). (renamed (text_of x.1) x.0 ≡ Int z) × Inside x.1 x.0 × (take (length table) x.1 ≡ table)) h (refl, tt, grown table [] true)
+term_says table (Sym t) v new e =
+    let a = bind_some (number_name table t) (λ n. Some (Sym n.0, n.1)) (v, new) e in
+    let s = name_says table t a.0.0 a.0.1 a.1 in
+    subst (λ (x : Term ℕ × Table). (renamed (text_of x.1) x.0 ≡ Sym t) × Inside x.1 x.0 × (take (length table) x.1 ≡ table)) (some_is (Sym a.0.0, a.0.1) (v, new) a.2) (ap (λ (w : List ℕ). Sym w) s.0, s.1, s.2)
+
+term_kept : (a b : Table) (v : Term ℕ) → take (length a) b ≡ a → Inside a v → renamed (text_of b) v ≡ renamed (text_of a) v
+term_kept a b (Int z) h i = refl
+term_kept a b (Sym n) h i = ap (λ (w : List ℕ). Sym w) (text_kept a b n h i)
+
+terms_say : (table : Table) (ts : List (Term (List ℕ))) (vs : List (Term ℕ)) (new : Table) → number_terms table ts ≡ Some (vs, new) → (map (renamed (text_of new)) vs ≡ ts) × (take (length table) new ≡ table)
+unfolding number_terms
+terms_say table [] vs new e =
+    subst (λ (x : List (Term ℕ) × Table). (map (renamed (text_of x.1)) x.0 ≡ []) × (take (length table) x.1 ≡ table)) (some_is ([], table) (vs, new) e) (refl, grown table [] true)
+terms_say table (t ∷ ts) vs new e =
+    let a = bind_some (number_term table t) (λ x. number_terms x.1 ts >>= λ xs. Some (x.0 ∷ xs.0, xs.1)) (vs, new) e in
+    let b = bind_some (number_terms a.0.1 ts) (λ xs. Some (a.0.0 ∷ xs.0, xs.1)) (vs, new) a.2 in
+    let s = term_says table t a.0.0 a.0.1 a.1 in
+    let r = terms_say a.0.1 ts b.0.0 b.0.1 b.1 in
+    let head : renamed (text_of b.0.1) a.0.0 ≡ t = term_kept a.0.1 b.0.1 a.0.0 r.1 s.1 ∙ s.0 in
+    let rest : map (renamed (text_of b.0.1)) b.0.0 ≡ ts = r.0 in
+    subst (λ (x : List (Term ℕ) × Table). (map (renamed (text_of x.1)) x.0 ≡ t ∷ ts) × (take (length table) x.1 ≡ table)) (some_is (a.0.0 ∷ b.0.0, b.0.1) (vs, new) b.2)
+    (ap (λ (w : Term (List ℕ)). w ∷ map (renamed (text_of b.0.1)) b.0.0) head ∙ ap (λ (w : List (Term (List ℕ))). t ∷ w) rest, keeps-then table a.0.1 b.0.1 s.2 r.1)
+
+pub fact_says : (table : Table) (a : Fact (List ℕ)) (f : Fact ℕ) (new : Table) → number_fact table a ≡ Some (f, new) → (said new f ≡ a) × (take (length table) new ≡ table)
+unfolding number_fact
+fact_says table a f new e =
+    let n = bind_some (number_name table a.name) (λ n. number_more n.0 [] (number_terms n.1 a.args)) (f, new) e in
+    let x = bind_some (number_terms n.0.1 a.args) (λ x. Some (record { name = n.0.0; args = [] ++ x.0 }, x.1)) (f, new) n.2 in
+    let s = name_says table a.name n.0.0 n.0.1 n.1 in
+    let t = terms_say n.0.1 a.args x.0.0 x.0.1 x.1 in
+    let made : Fact ℕ = record { name = n.0.0; args = x.0.0 } in
+    let name : text_of x.0.1 n.0.0 ≡ a.name = text_kept n.0.1 x.0.1 n.0.0 t.1 s.1 ∙ s.0 in
+    let whole : said x.0.1 made ≡ a = ap (λ (w : List ℕ). record { name = w; args = map (renamed (text_of x.0.1)) x.0.0 }) name ∙ ap (λ (w : List (Term (List ℕ))). record { name = a.name; args = w }) t.0 in
+    subst (λ (y : Fact ℕ × Table). (said y.1 y.0 ≡ a) × (take (length table) y.1 ≡ table)) (some_is (made, x.0.1) (f, new) x.2) (whole, keeps-then table n.0.1 x.0.1 s.2 t.1)
