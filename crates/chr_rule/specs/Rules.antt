@@ -1,5 +1,5 @@
 -- What a rule says, over the numbers of names or over their texts.
-use Rattle.std.specs.Prelude.{ℕ, ℤ, List}
+use Rattle.std.specs.Prelude.{ℕ, zero, suc, ℤ, List, ◌++◌, Option, None, slice_get}
 use Rattle.chr_value.specs.Terms.{Term}
 use Rattle.chr_rule.specs.declared.expression.Operator.{Operator}
 use Rattle.chr_rule.specs.declared.expression.Relation.{Relation}
@@ -37,3 +37,17 @@ pub record Simpagation (N : Type 0) : Type 0 where
   pub removed : List (Shape N)
   pub guard : List (Test N)
   pub body : List (Member N)
+
+-- the head of a number, from 1: kept heads first
+abbrev pub head_at : {N : Type 0} → Simpagation N → ℕ → Option (Shape N)
+head_at rule zero = None
+head_at rule (suc k) = slice_get (rule.kept ++ rule.removed) k
+
+-- the rule of these parts
+abbrev pub of_parts : {N : Type 0} → ℕ → List (Shape N) → List (Shape N) → List (Test N) → List (Member N) → Simpagation N
+of_parts n kept removed guard body = record { variables = n; kept = kept; removed = removed; guard = guard; body = body }
+
+-- the rule of a number, from 1
+abbrev pub numbered : {N : Type 0} → List (Simpagation N) → ℕ → Option (Simpagation N)
+numbered rules zero = None
+numbered rules (suc k) = slice_get rules k

@@ -1,4 +1,8 @@
 //! Expressions, comparisons and the members of a body.
+ghost use Rattle.std.specs.Prelude.{◌≡◌, ◌↔◌, IsTrue, map};
+ghost use Rattle.chr_rule.specs.Parts.{expression, comparison, member};
+ghost use Rattle.chr_rule.specs.Scope.{expression_known, test_known};
+
 use crate::pattern::{Pattern, Term};
 use std::alloc::Allocator;
 
@@ -25,6 +29,33 @@ pub enum Expr<A: Allocator> {
     Number(i64),
     Var(u8),
     Operation(Operator, Box<Expr<A>, A>, Box<Expr<A>, A>),
+}
+
+impl<A: Allocator> Expr<A> {
+    /// Whether two expressions are one, wherever their sides lie.
+    pub fn same(&self, other: &Expr<A>) -> bool
+        ensures { IsTrue result ↔ (expression self.now ≡ expression other.now) }
+    {
+        match (self, other) {
+            (Expr::Number(m), Expr::Number(n)) => *m == *n,
+            (Expr::Var(x), Expr::Var(y)) => *x == *y,
+            (Expr::Operation(o, a, b), Expr::Operation(p, c, d)) => *o == *p
+                && a.same(c)
+                && b.same(d),
+            _ => false,
+        }
+    }
+
+    /// Whether each variable is below `known`.
+    pub fn is_known(&self, known: usize) -> bool
+        ensures { result ≡ expression_known known (expression self.now) }
+    {
+        match self {
+            Expr::Number(_) => true,
+            Expr::Var(x) => usize::from(*x) < known,
+            Expr::Operation(_, a, b) => a.is_known(known) && b.is_known(known),
+        }
+    }
 }
 
 /// How the two sides of a comparison of numbers are to stand.
@@ -62,4 +93,74 @@ pub enum BodyItem<A: Allocator> {
     Is(u8, Expr<A>),
     /// A constraint to add.
     Add(Pattern),
+}
+
+impl<A: Allocator> Comparison<A> {
+    /// Whether two comparisons are one, wherever their parts lie.
+    pub fn same(&self, other: &Comparison<A>) -> bool
+        ensures { IsTrue result ↔ (comparison self.now ≡ comparison other.now) }
+    {
+        match (self, other) {
+            (Comparison::Numbers(r, a, b), Comparison::Numbers(s, c, d)) => {
+                *r == *s && a.same(c) && b.same(d)
+            }
+            (Comparison::Same(s, t), Comparison::Same(u, v)) => s.same(u) && t.same(v),
+            (Comparison::Differ(s, t), Comparison::Differ(u, v)) => s.same(u) && t.same(v),
+            _ => false,
+        }
+    }
+
+    /// Whether each variable is below `known`.
+    pub fn is_known(&self, known: usize) -> bool
+        ensures { result ≡ test_known known (comparison self.now) }
+    {
+        match self {
+            Comparison::Numbers(_, a, b) => a.is_known(known) && b.is_known(known),
+            Comparison::Same(s, t) => s.is_known(known) && t.is_known(known),
+            Comparison::Differ(s, t) => s.is_known(known) && t.is_known(known),
+        }
+    }
+}
+
+impl<A: Allocator> BodyItem<A> {
+    /// Whether two members are one, wherever their parts lie.
+    pub fn same(&self, other: &BodyItem<A>) -> bool
+        ensures { IsTrue result ↔ (member self.now ≡ member other.now) }
+    {
+        match (self, other) {
+            (BodyItem::Is(x, e), BodyItem::Is(y, f)) => *x == *y && e.same(f),
+            (BodyItem::Add(p), BodyItem::Add(q)) => p.same(q),
+            _ => false,
+        }
+    }
+}
+
+/// Whether two guards are one.
+pub fn same_guards<A: Allocator>(guard: &[Comparison<A>], other: &[Comparison<A>]) -> bool
+    ensures { IsTrue result ↔ (map comparison guard.now ≡ map comparison other.now) }
+{
+    if guard.len() != other.len() {
+        return false;
+    }
+    for i in 0..guard.len() {
+        if !guard[i].same(&other[i]) {
+            return false;
+        }
+    }
+    true
+}
+
+/// Whether two bodies are one.
+pub fn same_bodies<A: Allocator>(body: &[BodyItem<A>], other: &[BodyItem<A>]) -> bool
+    ensures { IsTrue result ↔ (map member body.now ≡ map member other.now) }
+{
+    if body.len() != other.len() {
+        return false;
+    }
+    for i in 0..body.len() {
+        if !body[i].same(&other[i]) {
+            return false;
+        }
+    }
+    true
 }

@@ -1,6 +1,10 @@
 //! Programs.
-ghost use Rattle.std.specs.Prelude.{◌≡◌, ◌-◌, ◌<◌, ◌≤◌, ◌++◌, ◌∷◌, [], length, map, slice_get, OnOk, OnErr, MatchOption};
+ghost use Rattle.std.specs.Prelude.{◌≡◌, ◌<◌, ◌≤◌, ◌++◌, ◌∷◌, [], length, map, OnOk, OnErr, IfOk};
+ghost use Rattle.std.specs.Option.{option_map};
 ghost use Rattle.std.specs.Arc.{arc_value};
+ghost use Rattle.std.specs.List.{AllByRecursion};
+ghost use Rattle.chr_rule.specs.Rules.{numbered};
+ghost use Rattle.chr_rule.specs.Scope.{IsRule};
 
 use crate::rule::Rule;
 use std::alloc::{AllocError, Allocator};
@@ -19,7 +23,9 @@ pub struct Program<A: Allocator> {
 impl<A: Allocator> Model for Program<A> {
     ghost use Rattle.std.specs.Prelude.{ℕ, List, map, length, ◌≤◌};
     ghost use Rattle.std.specs.Arc.{arc_value};
+    ghost use Rattle.std.specs.List.{AllByRecursion};
     ghost use Rattle.chr_rule.specs.Rules.{Simpagation};
+    ghost use Rattle.chr_rule.specs.Scope.{IsRule};
     ghost use Rattle.chr_rule.specs.Code.{expression_code};
     ghost use Rattle.std.specs.Coded.{codes};
 
@@ -29,7 +35,7 @@ impl<A: Allocator> Model for Program<A> {
 
     ghost view = { λ p. map arc_value p.rules.items };
 
-    ghost invariant = { λ p. length p.rules.items ≤ 256 };
+    ghost invariant = { λ p. (length p.rules.items ≤ 256) × AllByRecursion IsRule (map arc_value p.rules.items) };
 }
 
 impl<A: Allocator + Copy> Program<A> {
@@ -54,8 +60,21 @@ impl<A: Allocator + Copy> Program<A> {
     pub fn rules(&self) -> &[Arc<Rule<A>, A>]
         ensures rules { map arc_value result.now ≡ self.now }
         ensures few { length result.now ≤ 256 }
+        ensures whole { AllByRecursion IsRule self.now }
     {
         &self.rules
+    }
+
+    /// The rule of a number, from 1.
+    pub fn rule(&self, number: usize) -> Option<&Arc<Rule<A>, A>>
+        ensures rule { option_map (λ rule. arc_value rule.now) result ≡ numbered self.now number }
+        ensures whole { AllByRecursion IsRule self.now }
+    {
+        let rules = self.rules();
+        if number == 0 || rules.len() < number {
+            return None;
+        }
+        Some(&rules[number - 1])
     }
 
     /// One rule more, behind the others.
@@ -64,7 +83,19 @@ impl<A: Allocator + Copy> Program<A> {
         ensures ok { OnOk result (self.new ≡ self.old ++ arc_value rule ∷ []) }
         ensures err { OnErr result (self.new ≡ self.old) }
     {
+        let _variables = rule.variables();
         self.rules.push(rule)?;
         Ok(())
+    }
+
+    /// The same rules in a list of their own, which shares each of them.
+    pub fn copy(&self, alloc: A) -> Result<Program<A>, AllocError>
+        ensures { IfOk result (λ made. made ≡ self.now) }
+    {
+        let mut copy = Program::new(alloc);
+        for rule in &self.rules {
+            copy.push(Arc::try_clone(rule)?)?;
+        }
+        Ok(copy)
     }
 }

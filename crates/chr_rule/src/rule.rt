@@ -1,12 +1,27 @@
 //! Rules.
-ghost use Rattle.std.specs.Prelude.{◌≡◌, ◌+◌, ◌≤◌, ◌<◌, map, length, IsSome, IfSome, ◌↔◌};
+ghost use Rattle.std.specs.Prelude.{◌≡◌, ◌+◌, ◌≤◌, ℕ, length, map, IsSome, IfSome, IsTrue, ◌↔◌};
+ghost use Rattle.std.specs.Option.{option_map};
 ghost use Rattle.chr_rule.specs.Parts.{shape, comparison, member};
+ghost use Rattle.chr_rule.specs.Rules.{head_at, of_parts};
 ghost use Rattle.chr_rule.specs.Scope.{IsRule};
 
-use crate::expression::{BodyItem, Comparison};
-use crate::pattern::Pattern;
+use crate::expression::{BodyItem, Comparison, same_bodies, same_guards};
+use crate::pattern::{Pattern, same_patterns};
+use crate::scope::count_variables;
 use std::alloc::Allocator;
 use std::marker::Model;
+
+/// How many variables a rule may have.
+pub const MOST_VARIABLES: usize = 24;
+
+/// How many heads a rule may have, kept and removed together.
+pub const MOST_HEADS: usize = 6;
+
+/// How many comparisons a guard may have.
+pub const MOST_COMPARISONS: usize = 16;
+
+/// How many members a body may have.
+pub const MOST_ITEMS: usize = 16;
 
 /// A rule: each variable that is used has a value by then, and the limits are kept.
 #[derive(Drop)]
@@ -36,6 +51,51 @@ impl<A: Allocator> Model for Rule<A> {
 }
 
 impl<A: Allocator> Rule<A> {
+    /// The test of what is a rule: these parts as one where each variable has a value wherever it is used and the
+    /// limits are kept, and none elsewhere.
+    pub fn new(
+        kept: Vec<Pattern, A>,
+        removed: Vec<Pattern, A>,
+        guard: Vec<Comparison<A>, A>,
+        body: Vec<BodyItem<A>, A>,
+    ) -> Option<Rule<A>>
+        ensures rule { IfSome result (λ rule. rule ≡ of_parts rule.variables (map shape kept.items) (map shape removed.items) (map comparison guard.items) (map member body.items)) }
+        ensures whole { IfSome result IsRule }
+        ensures exact { IsSome result ↔ ((n : ℕ) × IsRule (of_parts n (map shape kept.items) (map shape removed.items) (map comparison guard.items) (map member body.items))) }
+    {
+        if removed.is_empty()
+            || kept.len() > MOST_HEADS
+            || removed.len() > MOST_HEADS - kept.len()
+        {
+            return None;
+        }
+        if guard.len() > MOST_COMPARISONS || body.len() > MOST_ITEMS {
+            return None;
+        }
+        let variables = count_variables(&kept, &removed, &guard, &body)?;
+        if variables > MOST_VARIABLES {
+            return None;
+        }
+        Some(Rule {
+            variables: variables as u8,
+            kept,
+            removed,
+            guard,
+            body,
+        })
+    }
+
+    /// Whether two rules are one: the same heads, guard and body, wherever these lie in memory.
+    pub fn same(&self, other: &Rule<A>) -> bool
+        ensures { IsTrue result ↔ (self.now ≡ other.now) }
+    {
+        self.variables == other.variables
+            && same_patterns(&self.kept, &other.kept)
+            && same_patterns(&self.removed, &other.removed)
+            && same_guards(&self.guard, &other.guard)
+            && same_bodies(&self.body, &other.body)
+    }
+
     /// How many variables the rule has, at most 24.
     pub fn variables(&self) -> usize
         ensures count { result ≡ self.now.variables }
@@ -58,6 +118,32 @@ impl<A: Allocator> Rule<A> {
         ensures whole { IsRule self.now }
     {
         &self.removed
+    }
+
+    /// How many heads there are, from 1 to [`MOST_HEADS`].
+    pub fn heads(&self) -> usize
+        ensures count { result ≡ length self.now.kept + length self.now.removed }
+        ensures few { result ≤ 6 }
+        ensures whole { IsRule self.now }
+    {
+        self.kept.len() + self.removed.len()
+    }
+
+    /// The head of a number, from 1: kept heads first.
+    pub fn head(&self, number: usize) -> Option<&Pattern>
+        ensures head { option_map (λ head. shape head.now) result ≡ head_at self.now number }
+        ensures whole { IsRule self.now }
+    {
+        let kept = self.kept();
+        let removed = self.removed();
+        if number == 0 || kept.len() + removed.len() < number {
+            return None;
+        }
+        let place = number - 1;
+        if place < kept.len() {
+            return Some(&kept[place]);
+        }
+        Some(&removed[place - kept.len()])
     }
 
     /// The comparisons of the guard.

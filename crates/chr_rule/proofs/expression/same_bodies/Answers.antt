@@ -1,0 +1,7 @@
+use Rattle.std.proofs.Common.{arith}
+use Rattle.chr_rule.specs.Parts.{member}
+use Rattle.chr_rule.proofs.Lists.{differ_at}
+use Rattle.chr_rule.proofs.expression.same_bodies.Goals as goal
+
+pub returns-then-not-same : goal.returns-then-not-same
+returns-then-not-same g c = differ_at member c.args.body.now c.args.other.now c.loop-i.i _ _ _ (omega arith) (omega arith) c.index-body-i.is c.index-other-i.is c.same.ensures c.if-not-same.true
