@@ -1,5 +1,5 @@
 -- What is an instance of a rule.
-use Rattle.std.specs.Prelude.{◌≡◌, ◌≢◌, ℕ, ℤ, List, [], ◌∷◌, map, Some}
+use Rattle.std.specs.Prelude.{◌≡◌, ◌≢◌, ℕ, ℤ, List, [], ◌∷◌, length, map, take, drop, Some}
 use Rattle.std.specs.List.{AllByRecursion}
 use Rattle.chr_value.specs.Terms.{Fact, Int}
 use Rattle.chr_rule.specs.Rules.{Shape, Member, Is, Add, Simpagation}
@@ -30,3 +30,11 @@ pub record Instance (rule : Simpagation ℕ) (kept removed body : List (Fact ℕ
   pub removed_are : removed ≡ map (atom_under valuation) rule.removed
   pub some_removed : removed ≢ []
   pub body_is : body ≡ added valuation rule.body
+
+-- atoms in head order, the kept heads' first, are an instance that adds this body
+abbrev pub IsInstance : Simpagation ℕ → List (Fact ℕ) → List (Fact ℕ) → Type 0
+IsInstance rule atoms body = Instance rule (take (length rule.kept) atoms) (drop (length rule.kept) atoms) body
+
+-- they are none, whatever the body
+abbrev pub NoInstance : Simpagation ℕ → List (Fact ℕ) → Type 0
+NoInstance rule atoms = (body : List (Fact ℕ)) → IsInstance rule atoms body → ⊥

@@ -1,2 +1,4 @@
 pub mod Values
+pub mod Bindings
 pub mod Instances
+pub mod Matching

@@ -1,4 +1,21 @@
 //! What rules mean: the value of an expression, when a guard holds, and which atoms are an instance of a rule.
+//!
+//! [`value`](values::value), [`holds`](values::holds) and [`guard_holds`](values::guard_holds) answer under a
+//! [`Binding`](binding::Binding) of a rule's variables. [`fit`](matching::fit) finds the one binding under which some
+//! heads of a rule are some atoms, [`body`](body::body) the atoms that the rule then adds, and
+//! [`instance`](instance::instance) decides whether a full list of atoms is an instance of a rule. Each answers None
+//! only where there is none, and none of them takes memory.
+//!
+//! Contracts speak of valuations, which give each variable a term. A binding is the list of what its variables are bound
+//! to; the valuations that extend it are those that give each bound variable its term.
 #![tactic(auto)]
 
 pub mod arithmetic;
+pub mod binding;
+pub mod body;
+pub mod instance;
+pub mod laws;
+pub mod matching;
+#[cfg(test)]
+mod tests;
+pub mod values;

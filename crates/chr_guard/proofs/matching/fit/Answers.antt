@@ -1,0 +1,44 @@
+use Rattle.std.proofs.Common.{◌≡◌, ◌<◌, ◌≤◌, Some, length, map, None, replicate, arith, sym, subst, ap, ◌∙◌}
+use Rattle.std.proofs.lemmas.List.{length-map, length-replicate}
+use Rattle.chr_rule.specs.Rules.{head_at}
+use Rattle.chr_rule.specs.Parts.{shape}
+use Rattle.chr_guard.specs.Matching.{Stands, AllStand}
+use Rattle.chr_guard.proofs.Scoped.{IsPlaced}
+use Rattle.chr_guard.proofs.Steps.{map_read, narrows_whole}
+use Rattle.chr_guard.proofs.Matched.{head_placed, fit_from_free, stands_more, stands_stop, stands_nowhere, none_from_free}
+use Rattle.chr_guard.proofs.matching.fit.Goals as goal
+
+pub returns-in_err-head : goal.returns-in_err-head
+returns-in_err-head g c =
+    let placed = c.args.placed.now in
+    let here : c.loop-number.number-index < length placed = c.loop-number-test.true in
+    let there : c.loop-number.number-index < length (map (λ p. (p.0, p.1.now)) placed) = rw length-map here in
+    rw c.from_residual.ensures (stands_nowhere c.args.rule.now (map (λ p. (p.0, p.1.now)) placed) c.loop-number.number-index (c.loop-number-item.result.0, c.loop-number-item.result.1.now) there (map_read (λ p. (p.0, p.1.now)) placed c.loop-number.number-index c.loop-number-item.result here c.loop-number-item.is) (sym c.in_err-head.ensures.head))
+
+pub fit_head-requires : goal.fit_head-requires
+fit_head-requires g c =
+    let len : length c.loop-number.binding ≡ c.args.rule.now.variables = c.loop-number.invariant.places ∙ length-replicate c.args.rule.now.variables None in
+    subst (λ n. IsPlaced n (shape c.in_ok-head.head.now)) (sym len) (head_placed c.args.rule.now c.variables.ensures.whole c.loop-number-item.result.0 (shape c.in_ok-head.head.now) (sym c.in_ok-head.ensures.head))
+
+pub returns-then-not-fit_head : goal.returns-then-not-fit_head
+returns-then-not-fit_head g c =
+    let placed = c.args.placed.now in
+    let here : c.loop-number.number-index < length placed = c.loop-number-test.true in
+    let there : c.loop-number.number-index < length (map (λ p. (p.0, p.1.now)) placed) = rw length-map here in
+    none_from_free (AllStand c.args.rule.now (map (λ p. (p.0, p.1.now)) placed)) c.args.rule.now.variables
+    (stands_stop c.args.rule.now (map (λ p. (p.0, p.1.now)) placed) c.loop-number.number-index (c.loop-number-item.result.0, c.loop-number-item.result.1.now) (shape c.in_ok-head.head.now) (replicate c.args.rule.now.variables None) c.loop-number.binding there (map_read (λ p. (p.0, p.1.now)) placed c.loop-number.number-index c.loop-number-item.result here c.loop-number-item.is) (sym c.in_ok-head.ensures.head) c.loop-number.invariant c.if-not-fit_head.ensures)
+
+pub loop-number-preserved : goal.loop-number-preserved
+loop-number-preserved g c =
+    let placed = c.args.placed.now in
+    let here : c.loop-number.number-index < length placed = c.loop-number-test.true in
+    let there : c.loop-number.number-index < length (map (λ p. (p.0, p.1.now)) placed) = rw length-map here in
+    stands_more c.args.rule.now (map (λ p. (p.0, p.1.now)) placed) c.loop-number.number-index (c.loop-number-item.result.0, c.loop-number-item.result.1.now) (shape c.in_ok-head.head.now) (replicate c.args.rule.now.variables None) c.loop-number.binding c.fit_head.new.binding there (map_read (λ p. (p.0, p.1.now)) placed c.loop-number.number-index c.loop-number-item.result here c.loop-number-item.is) (sym c.in_ok-head.ensures.head) c.loop-number.invariant c.if-not-fit_head.ensures
+
+pub returns : goal.returns
+returns g c =
+    let placed = c.args.placed.now in
+    let past : length placed ≤ c.loop-number.number-index = c.loop-number-test.false in
+    let out : length (map (λ p. (p.0, p.1.now)) placed) ≤ c.loop-number.number-index = rw length-map past in
+    fit_from_free c.args.rule.now (AllStand c.args.rule.now (map (λ p. (p.0, p.1.now)) placed)) c.loop-number.binding
+    (narrows_whole (Stands c.args.rule.now) (map (λ p. (p.0, p.1.now)) placed) c.loop-number.number-index (replicate c.args.rule.now.variables None) c.loop-number.binding out c.loop-number.invariant)

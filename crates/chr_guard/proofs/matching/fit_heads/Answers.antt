@@ -1,0 +1,35 @@
+use Rattle.std.proofs.Common.{◌≡◌, ◌<◌, ◌≤◌, true, length, map, arith, sym, subst, ap, ◌∙◌}
+use Rattle.std.proofs.lemmas.List.{length-map}
+use Rattle.std.specs.List.{list_all}
+use Rattle.chr_rule.specs.Parts.{shape}
+use Rattle.chr_rule.specs.Scope.{argument_known}
+use Rattle.chr_guard.specs.Instances.{atom_under}
+use Rattle.chr_guard.proofs.Scoped.{IsPlaced}
+use Rattle.chr_guard.proofs.Steps.{all_at, map_read, read_more, read_stop, read_end}
+use Rattle.chr_guard.proofs.matching.fit_heads.Goals as goal
+
+pub fit_head-requires : goal.fit_head-requires
+fit_head-requires g c =
+    let heads = c.args.heads.now in
+    let here : c.loop-i.i < length heads = omega arith in
+    let there : c.loop-i.i < length (map shape heads) = rw length-map here in
+    let placed = (all_at (IsPlaced (length c.args.binding.now)) (map shape heads) c.loop-i.i (shape c.index-heads-i.result) there (map_read shape heads c.loop-i.i c.index-heads-i.result here c.index-heads-i.is) c.requires).1 in
+    subst (λ n. IsPlaced n (shape c.index-heads-i.result)) (sym c.loop-i.invariant.places) placed
+
+pub returns-then-not-fit_head : goal.returns-then-not-fit_head
+returns-then-not-fit_head g c =
+    let left : c.loop-i.i < length c.args.heads.now = omega arith in
+    let right : c.loop-i.i < length c.args.atoms.now = omega arith in
+    read_stop atom_under shape (λ a. a.now) c.args.heads.now c.args.atoms.now c.loop-i.i c.index-heads-i.result c.index-atoms-i.result left right c.index-heads-i.is c.index-atoms-i.is c.args.binding.now c.loop-i.binding c.loop-i.invariant (c.if-not-fit_head.ensures)
+
+pub loop-i-preserved : goal.loop-i-preserved
+loop-i-preserved g c =
+    let left : c.loop-i.i < length c.args.heads.now = omega arith in
+    let right : c.loop-i.i < length c.args.atoms.now = omega arith in
+    read_more atom_under shape (λ a. a.now) c.args.heads.now c.args.atoms.now c.loop-i.i c.index-heads-i.result c.index-atoms-i.result left right c.index-heads-i.is c.index-atoms-i.is c.args.binding.now c.loop-i.binding c.fit_head.new.binding c.loop-i.invariant (c.if-not-fit_head.ensures)
+
+pub returns : goal.returns
+returns g c =
+    let left : length c.args.heads.now ≤ c.loop-i.i = omega arith in
+    let right : length c.args.atoms.now ≤ c.loop-i.i = omega arith in
+    read_end atom_under shape (λ a. a.now) c.args.heads.now c.args.atoms.now c.loop-i.i c.args.binding.now c.loop-i.binding left right c.loop-i.invariant

@@ -1,0 +1,10 @@
+use Rattle.std.proofs.Common.{map}
+use Rattle.chr_value.specs.Terms.{grounds}
+use Rattle.chr_rule.specs.Parts.{argument}
+use Rattle.chr_guard.specs.Values.{term_under}
+use Rattle.chr_guard.specs.Bindings.{Narrows}
+use Rattle.chr_guard.proofs.Steps.{SoFar}
+use Rattle.chr_guard.proofs.matching.fit_terms.Given as goal
+
+abbrev pub invariant-loop-i : goal.invariant-loop-i
+invariant-loop-i l = Narrows (SoFar term_under (map argument l.terms) (grounds l.values) l.i) l.fn.binding l.binding

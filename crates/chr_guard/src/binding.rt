@@ -1,0 +1,179 @@
+//! What the variables of a rule are bound to.
+ghost use Rattle.std.specs.Prelude.{◌≡◌, ◌<◌, ◌≤◌, ◌↔◌, IsTrue, None, length, replicate, slice_set};
+ghost use Rattle.chr_value.specs.Terms.{ground, Int};
+ghost use Rattle.chr_rule.specs.Parts.{argument};
+ghost use Rattle.chr_guard.specs.Values.{number_in, term_under};
+ghost use Rattle.chr_guard.specs.Bindings.{bound_term, bound_at, or_symbol, holding, Told};
+
+use arrayvec::ArrayVec;
+use chr_rule::pattern::Term;
+use chr_value::atom::Value;
+use chr_value::names::Name;
+use std::marker::Model;
+
+/// What one variable is bound to: nothing, a value that an atom holds, or a number.
+#[derive(Clone, Copy, Debug)]
+pub enum Bound<'a> {
+    Free,
+    Held(&'a Value),
+    Number(i64),
+}
+
+impl<'a> Default for Bound<'a> {
+    fn default() -> Self {
+        Bound::Free
+    }
+}
+
+impl<'a> Bound<'a> {
+    /// Whether it stands for a value. What is free stands for some symbol.
+    pub fn is(&self, value: &Value) -> bool
+        ensures { IsTrue result ↔ (or_symbol (bound_term self.now) ≡ ground value.now) }
+    {
+        match self {
+            Bound::Free => value.same(&Value::Sym(Name { number: 0 })),
+            Bound::Held(held) => held.same(value),
+            Bound::Number(n) => value.same(&Value::Int(*n)),
+        }
+    }
+
+    /// Whether two stand for one value.
+    pub fn same(&self, other: &Bound) -> bool
+        ensures { IsTrue result ↔ (or_symbol (bound_term self.now) ≡ or_symbol (bound_term other.now)) }
+    {
+        match other {
+            Bound::Free => self.is(&Value::Sym(Name { number: 0 })),
+            Bound::Held(held) => self.is(held),
+            Bound::Number(n) => self.is(&Value::Int(*n)),
+        }
+    }
+
+    /// The value that it stands for, once more.
+    pub fn value(&self) -> Value
+        ensures { ground result ≡ or_symbol (bound_term self.now) }
+    {
+        match self {
+            Bound::Free => Value::Sym(Name { number: 0 }),
+            Bound::Held(held) => held.duplicate(),
+            Bound::Number(n) => Value::Int(*n),
+        }
+    }
+}
+
+/// What the variables of a rule are bound to, at most 24. It borrows the values from the atoms that hold them, and
+/// takes no memory.
+#[derive(Drop)]
+pub struct Binding<'a> {
+    bound: ArrayVec<Bound<'a>, 24>,
+}
+
+impl<'a> Model for Binding<'a> {
+    ghost use Rattle.std.specs.Prelude.{ℕ, List, Option, map};
+    ghost use Rattle.chr_value.specs.Terms.{Term};
+    ghost use Rattle.chr_guard.specs.Bindings.{bound_term};
+
+    ghost Value = { List (Option (Term ℕ)) };
+
+    ghost view = { λ b. map bound_term b.bound.items };
+}
+
+impl<'a> Binding<'a> {
+    /// This many variables, at most 24, which are all free.
+    pub fn free(variables: usize) -> Binding<'a>
+        requires { variables ≤ 24 }
+        ensures { result ≡ replicate variables None }
+    {
+        let mut bound = ArrayVec::new();
+        for _ in 0..variables {
+            bound.push(Bound::Free);
+        }
+        Binding { bound }
+    }
+
+    /// What a variable is bound to.
+    pub fn at(&self, variable: u8) -> Bound<'a>
+        ensures { bound_term result ≡ bound_at self.now variable }
+    {
+        match self.bound.as_slice().get(usize::from(variable)) {
+            Some(bound) => *bound,
+            None => Bound::Free,
+        }
+    }
+
+    /// The number that a variable stands for, if it stands for one.
+    pub fn number(&self, variable: u8) -> Option<i64>
+        ensures { result ≡ number_in (holding self.now variable) }
+    {
+        match self.at(variable) {
+            Bound::Held(Value::Int(n)) => Some(*n),
+            Bound::Number(n) => Some(n),
+            _ => None,
+        }
+    }
+
+    fn put(&mut self, variable: u8, bound: Bound<'a>)
+        requires { variable < length self.old }
+        ensures { self.new ≡ slice_set self.old variable (bound_term bound.entry) }
+    {
+        self.bound[usize::from(variable)] = bound;
+    }
+
+    /// Binds a variable to a value. Where it is bound already, tells whether it is bound to this one.
+    pub fn hold(&mut self, variable: u8, value: &'a Value) -> bool
+        requires { variable < length self.old }
+        ensures { Told (λ v. v variable ≡ ground value.now) result self.old self.new }
+    {
+        match self.at(variable) {
+            Bound::Free => {
+                self.put(variable, Bound::Held(value));
+                true
+            }
+            bound => bound.is(value),
+        }
+    }
+
+    /// Binds a variable to a number. Where it is bound already, tells whether it is bound to this one.
+    pub fn count(&mut self, variable: u8, number: i64) -> bool
+        requires { variable < length self.old }
+        ensures { Told (λ v. v variable ≡ Int number) result self.old self.new }
+    {
+        match self.at(variable) {
+            Bound::Free => {
+                self.put(variable, Bound::Number(number));
+                true
+            }
+            bound => bound.is(&Value::Int(number)),
+        }
+    }
+
+    /// The same once more.
+    pub fn copy(&self) -> Binding<'a>
+        ensures { result ≡ self.now }
+    {
+        let mut copy = ArrayVec::new();
+        for bound in self.bound.as_slice() {
+            copy.push(*bound);
+        }
+        Binding { bound: copy }
+    }
+
+    /// The value that an argument of a rule stands for, once more.
+    pub fn value(&self, term: &Term) -> Value
+        ensures { ground result ≡ term_under (holding self.now) (argument term.now) }
+    {
+        match term {
+            Term::Var(x) => self.at(*x).value(),
+            Term::Value(value) => value.duplicate(),
+        }
+    }
+
+    /// What an argument of a rule stands for.
+    pub fn term<'b>(&'b self, term: &'b Term) -> Bound<'b>
+        ensures { or_symbol (bound_term result) ≡ term_under (holding self.now) (argument term.now) }
+    {
+        match term {
+            Term::Var(x) => self.at(*x),
+            Term::Value(value) => Bound::Held(value),
+        }
+    }
+}

@@ -1,0 +1,120 @@
+//! Which binding makes heads of a rule equal to atoms.
+ghost use Rattle.std.specs.Prelude.{◌≡◌, true, length, map, MatchOption};
+ghost use Rattle.std.specs.List.{list_all, AllByRecursion};
+ghost use Rattle.chr_value.specs.Terms.{ground, grounds};
+ghost use Rattle.chr_rule.specs.Parts.{argument, shape};
+ghost use Rattle.chr_rule.specs.Scope.{argument_known};
+ghost use Rattle.chr_guard.specs.Values.{term_under};
+ghost use Rattle.chr_guard.specs.Bindings.{Told};
+ghost use Rattle.chr_guard.specs.Instances.{atom_under};
+ghost use Rattle.chr_guard.specs.Matching.{AllStand, HeadsAre, IsFit};
+
+use crate::binding::Binding;
+use chr_rule::pattern::{Pattern, Term};
+use chr_rule::rule::Rule;
+use chr_value::atom::{Atom, Value};
+use std::alloc::Allocator;
+
+/// Binds what is needed for a term to be a value. False only where no valuation makes it so.
+pub fn fit_term<'a>(binding: &mut Binding<'a>, term: &Term, value: &'a Value) -> bool
+    requires { argument_known (length binding.old) (argument term.now) ≡ true }
+    ensures { Told (λ v. term_under v (argument term.now) ≡ ground value.now) result binding.old binding.new }
+{
+    match term {
+        Term::Var(x) => binding.hold(*x, value),
+        Term::Value(given) => given.same(value),
+    }
+}
+
+/// The same for several terms.
+pub fn fit_terms<'a>(binding: &mut Binding<'a>, terms: &[Term], values: &'a [Value]) -> bool
+    requires { list_all (argument_known (length binding.old)) (map argument terms.now) ≡ true }
+    ensures { Told (λ v. map (term_under v) (map argument terms.now) ≡ grounds values.now) result binding.old binding.new }
+{
+    if terms.len() != values.len() {
+        return false;
+    }
+    for i in 0..terms.len() {
+        if !fit_term(binding, &terms[i], &values[i]) {
+            return false;
+        }
+    }
+    true
+}
+
+/// Binds what is needed for a head to be an atom. False only where no valuation makes it so.
+pub fn fit_head<'a, A: Allocator + Copy>(
+    binding: &mut Binding<'a>,
+    head: &Pattern,
+    atom: &'a Atom<A>,
+) -> bool
+    requires { list_all (argument_known (length binding.old)) (shape head.now).args ≡ true }
+    ensures { Told (λ v. atom_under v (shape head.now) ≡ atom.now) result binding.old binding.new }
+{
+    let name = atom.name();
+    if head.name.number != name.number {
+        return false;
+    }
+    fit_terms(binding, head.terms.as_slice(), atom.args())
+}
+
+/// The same for several heads.
+pub fn fit_heads<'a, A: Allocator + Copy>(
+    binding: &mut Binding<'a>,
+    heads: &[Pattern],
+    atoms: &[&'a Atom<A>],
+) -> bool
+    requires { AllByRecursion (λ h. list_all (argument_known (length binding.old)) h.args ≡ true) (map shape heads.now) }
+    ensures { Told (λ v. map (atom_under v) (map shape heads.now) ≡ map (λ a. a.now) atoms.now) result binding.old binding.new }
+{
+    if heads.len() != atoms.len() {
+        return false;
+    }
+    for i in 0..heads.len() {
+        if !fit_head(binding, &heads[i], atoms[i]) {
+            return false;
+        }
+    }
+    true
+}
+
+/// The one binding of the listed heads' variables under which these heads are the listed atoms, or none where there is
+/// none. Heads are numbered from 1, kept heads first; a number that no head has fits no atom. For no heads all is free.
+pub fn fit<'a, A: Allocator + Copy>(
+    rule: &Rule<A>,
+    placed: &[(usize, &'a Atom<A>)],
+) -> Option<Binding<'a>>
+    ensures { let places = map (λ p. (p.0, p.1.now)) placed.now in MatchOption result ((v : _) → AllStand rule.now places v → ⊥) (λ binding. IsFit rule.now (AllStand rule.now places) binding) }
+{
+    let mut binding = Binding::free(rule.variables());
+    for (number, atom) in placed {
+        let head = rule.head(*number)?;
+        if !fit_head(&mut binding, head, atom) {
+            return None;
+        }
+    }
+    Some(binding)
+}
+
+/// The one binding under which the rule's heads are these atoms, in head order, or none where there is none.
+pub fn fit_all<'a, A: Allocator + Copy>(
+    rule: &Rule<A>,
+    atoms: &[&'a Atom<A>],
+) -> Option<Binding<'a>>
+    ensures { let facts = map (λ a. a.now) atoms.now in MatchOption result ((v : _) → HeadsAre rule.now facts v → ⊥) (λ binding. IsFit rule.now (HeadsAre rule.now facts) binding) }
+{
+    let kept = rule.kept();
+    if atoms.len() < kept.len() {
+        return None;
+    }
+    let (first, rest) = atoms.split_at(kept.len());
+    let mut binding = Binding::free(rule.variables());
+    if !fit_heads(&mut binding, kept, first) {
+        return None;
+    }
+    let removed = rule.removed();
+    if !fit_heads(&mut binding, removed, rest) {
+        return None;
+    }
+    Some(binding)
+}
