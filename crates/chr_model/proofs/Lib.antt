@@ -1,0 +1,14 @@
+pub mod Stores
+pub mod Quiet
+pub mod Once
+pub mod Erasure
+pub mod Strict
+pub mod Older
+pub mod Fixed
+pub mod Seats
+pub mod Programs
+pub mod PostsFirst
+pub mod Alone
+pub mod Worked
+pub mod Onward
+pub mod Youngest

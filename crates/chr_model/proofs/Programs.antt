@@ -1,0 +1,44 @@
+-- What holds of a program's instances.
+use Rattle.std.proofs.Common.{◌≡◌, ℕ, zero, suc, List, [], ◌∷◌, Some, None, sym, ◌∙◌, subst, slice_get}
+use Rattle.std.specs.List.{AllByRecursion}
+use Rattle.chr_value.specs.Terms.{Fact}
+use Rattle.chr_rule.specs.Rules.{Simpagation, numbered}
+use Rattle.chr_rule.specs.Scope.{IsRule}
+use Rattle.chr_guard.specs.Instances.{Instance}
+use Rattle.chr_guard.proofs.Fixed.{body_fixed}
+use Rattle.chr_model.specs.Programs.{Instances}
+use Rattle.chr_model.proofs.Quiet.{Removes}
+use Rattle.chr_model.proofs.Fixed.{Fixes}
+
+pub program_removes : (rules : List (Simpagation ℕ)) → Removes (Instances rules)
+program_removes rules r kept removed body i = i.2.some_removed
+
+-- an instance of the first rule, and of those behind it
+pub of_zero : (rules : List (Simpagation ℕ)) (kept removed body : List (Fact ℕ)) → Instances rules 0 kept removed body → ⊥
+of_zero rules kept removed body i = let e : None ≡ Some i.0 = i.1 in cc
+
+pub of_first : (rule : Simpagation ℕ) (rules : List (Simpagation ℕ)) (kept removed body : List (Fact ℕ)) → Instances (rule ∷ rules) 1 kept removed body → Instance rule kept removed body
+of_first rule rules kept removed body i =
+    let e : Some rule ≡ Some i.0 = i.1 in
+    let same : i.0 ≡ rule = cc in
+    subst (λ x. Instance x kept removed body) same i.2
+
+pub of_later : (rule : Simpagation ℕ) (rules : List (Simpagation ℕ)) (n : ℕ) (kept removed body : List (Fact ℕ)) → Instances (rule ∷ rules) (suc (suc n)) kept removed body → Instances rules (suc n) kept removed body
+of_later rule rules n kept removed body i = i
+
+pub of_none : (n : ℕ) (kept removed body : List (Fact ℕ)) → Instances [] n kept removed body → ⊥
+of_none zero kept removed body i = of_zero [] kept removed body i
+of_none (suc n) kept removed body i = let e : None ≡ Some i.0 = i.1 in cc
+
+-- where each rule is in scope, the heads' atoms fix the body's
+rule_at : (rules : List (Simpagation ℕ)) → AllByRecursion IsRule rules → (k : ℕ) (rule : Simpagation ℕ) → slice_get rules k ≡ Some rule → IsRule rule
+rule_at [] all k rule e = absurd (cc)
+rule_at (x ∷ xs) all zero rule e = let same : x ≡ rule = cc in subst IsRule same all.0
+rule_at (x ∷ xs) all (suc k) rule e = rule_at xs all.1 k rule e
+
+pub program_fixes : (rules : List (Simpagation ℕ)) → AllByRecursion IsRule rules → Fixes (Instances rules)
+program_fixes rules all zero kept removed body other i j = absurd (of_zero rules kept removed body i)
+program_fixes rules all (suc n) kept removed body other i j =
+    let e : Some i.0 ≡ Some j.0 = sym i.1 ∙ j.1 in
+    let same : j.0 ≡ i.0 = cc in
+    body_fixed i.0 (rule_at rules all n i.0 i.1) kept removed body other i.2 (subst (λ x. Instance x kept removed other) same j.2)

@@ -1,0 +1,69 @@
+-- Where searches look at older partners only: the youngest label of each instance is a numbered goal, and that gives the
+-- second condition of a drop.
+use Rattle.std.proofs.Common.{◌≡◌, ◌≢◌, ℕ, ◌+◌, ◌<◌, ◌≤◌, ◌⊎◌, inl, inr, Bool, true, false, leb, ◌||◌, ◌==◌, if◌then◌else◌, List, [], ◌∷◌, ◌++◌, map, sym, ◌∙◌, ap, subst, arith, true-eqb, true≢false, refl}
+use Rattle.std.proofs.lemmas.Bool.Decides.{nat_tests}
+use Rattle.chr_value.specs.Terms.{Fact}
+use Rattle.chr_log.specs.declared.events.Version.TheVariants.{One, Two}
+use Rattle.chr_model.specs.Abstract.{Rules}
+use Rattle.chr_model.specs.Stores.{Store, atom_at, without, labels, among, Labelled}
+use Rattle.chr_model.specs.Goals.{Goal, Waiting, Active, Ended, State, goal_at, IsNumbered}
+use Rattle.chr_model.specs.Steps.{posted, activated, ended, replaced, MayDrop}
+use Rattle.chr_model.specs.Logs.{times}
+use Rattle.chr_model.specs.Searches.{IsYoungest, YoungestAreGoals, NoneYoungest}
+use Rattle.chr_model.proofs.Stores.{atom_at-old, among-itself, among-more, Labelled-move, Labelled-there, times-there}
+use Rattle.chr_model.proofs.Once.{room, LabelsOnce}
+use Rattle.chr_model.proofs.Quiet.{numbered-more, numbered-ended, numbered-activated, numbered-new, Labelled-left, Labelled-alive}
+
+-- in a list with one more label in front
+split : (x k y : ℕ) (zs : List ℕ) → among (x ∷ zs) k ≡ true → x ≤ y → (among zs k ≡ true → k ≤ y) → k ≤ y
+split x k y zs j le f =
+    elim (x == k) as (λ b. (x == k ≡ b) → k ≤ y) [ true ↦ λ e. grind (arith, nat_tests) | false ↦ λ e. f (grind (arith, nat_tests)) ] refl
+
+-- a list with a label in it has a youngest one
+pub youngest : (ls : List ℕ) (l : ℕ) → among ls l ≡ true → (y : ℕ) × IsYoungest ls y
+youngest [] l h = absurd (cc)
+youngest (x ∷ []) l h = (x, record { there = among-itself x []; greatest = λ k j. grind (arith, nat_tests) })
+youngest (x ∷ z ∷ xs) l h =
+    let rest = youngest (z ∷ xs) z (among-itself z xs) in
+    elim (leb x rest.0) as (λ b. (leb x rest.0 ≡ b) → (y : ℕ) × IsYoungest (x ∷ z ∷ xs) y) [
+      | true ↦ λ e. (rest.0, record { there = among-more x (z ∷ xs) rest.0 rest.1.there; greatest = λ k j. split x k rest.0 (z ∷ xs) j (grind (arith, nat_tests)) (λ i. rest.1.greatest k i) })
+      | false ↦ λ e. (x, record { there = among-itself x (z ∷ xs); greatest = λ k j. split x k x (z ∷ xs) j (omega arith) (λ i. let g : k ≤ rest.0 = rest.1.greatest k i in grind (arith, nat_tests)) })
+    ] refl
+
+-- the second condition of a drop
+pub older_done : (I : Rules) (s : State) (l : ℕ) → YoungestAreGoals I s → NoneYoungest I s.store l → MayDrop Two I s l
+older_done I s l g none r kept removed body i h =
+    let y = youngest (kept ++ removed) l h in
+    (y.0, y.1.there, (λ e. none r kept removed body (subst (IsYoungest (kept ++ removed)) e y.1) i), g r kept removed body i y.0 y.1)
+
+-- each step keeps that, where no goal is dropped that is some instance's youngest
+pub young_posted : (I : Rules) (s : State) (a : Fact ℕ) → YoungestAreGoals I s → YoungestAreGoals I (posted s a)
+young_posted I s a g r kept removed body i y h = numbered-more s s.goals (Waiting a ∷ []) s.store s.next y (g r kept removed body i y h)
+
+pub young_dropped : (I : Rules) (s : State) (t l : ℕ) → goal_at s t ≡ Active l → NoneYoungest I s.store l → YoungestAreGoals I s → YoungestAreGoals I (ended s t)
+young_dropped I s t l at none g r kept removed body i y h =
+    numbered-ended s t l y at (λ e. none r kept removed body (subst (IsYoungest (kept ++ removed)) e h) i) (g r kept removed body i y h)
+
+pub young_simplified : (I : Rules) (s : State) (t l : ℕ) (gone : List ℕ) (added : List (Fact ℕ)) → goal_at s t ≡ Active l → among gone l ≡ true → YoungestAreGoals I s → YoungestAreGoals I (replaced (ended s t) gone added)
+young_simplified I s t l gone added at dead g r kept removed body i y h =
+    let alive : among gone y ≡ false = Labelled-alive I s.store gone r kept removed body y h.there i in
+    numbered-more s (ended s t).goals (map Waiting added) (without gone s.store) s.next y
+    (numbered-ended s t l y at (λ z. true≢false (sym dead ∙ ap (among gone) (sym z) ∙ alive)) (g r kept removed body (Labelled-left I s.store gone r kept removed body i) y h))
+
+pub young_propagated : (I : Rules) (s : State) (gone : List ℕ) (added : List (Fact ℕ)) → YoungestAreGoals I s → YoungestAreGoals I (replaced s gone added)
+young_propagated I s gone added g r kept removed body i y h =
+    numbered-more s s.goals (map Waiting added) (without gone s.store) s.next y (g r kept removed body (Labelled-left I s.store gone r kept removed body i) y h)
+
+pub young_activated : (I : Rules) (s : State) (t : ℕ) (a : Fact ℕ) → LabelsOnce s → goal_at s t ≡ Waiting a → YoungestAreGoals I s → YoungestAreGoals I (activated s t a)
+young_activated I s t a few at g r kept removed body i y h =
+    let there = Labelled-there I (s.store ++ (s.next, a) ∷ []) r kept removed body y h.there i in
+    elim (s.next == y) as (λ b. (s.next == y ≡ b) → IsNumbered (activated s t a) y) [
+      | true ↦ λ e. subst (IsNumbered (activated s t a)) (true-eqb s.next y (sym e)) (numbered-new s t a at)
+      | false ↦ λ e.
+          let ne : s.next ≢ y = grind (arith, nat_tests) in
+          let old : 1 ≤ times y (labels s.store) = times-there y s.store there.0 (atom_at-old s.store s.next a y there.0 ne there.1) in
+          let bound : room y s ≤ 1 = few y in
+          let less : y < s.next = grind (arith, nat_tests) in
+          numbered-activated s t a y at
+          (g r kept removed body (Labelled-move I (s.store ++ (s.next, a) ∷ []) s.store r kept removed body (λ l x j k. atom_at-old s.store s.next a l x (λ z. let le : l ≤ y = h.greatest l j in absurd (omega arith)) k) i) y h)
+    ] refl

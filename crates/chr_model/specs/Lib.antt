@@ -1,0 +1,10 @@
+pub mod Abstract
+pub mod Stores
+pub mod Goals
+pub mod Steps
+pub mod Logs
+pub mod Programs
+pub mod Seats
+pub mod PostsFirst
+pub mod Examples
+pub mod Searches
