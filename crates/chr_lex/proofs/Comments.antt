@@ -1,0 +1,78 @@
+-- The text without its comments, from a place on.
+use Rattle.std.proofs.Common.{◌≡◌, ◌≤◌, ◌<◌, ℕ, zero, suc, ◌+◌, ◌-◌, true, false, cond, List, [], ◌∷◌, ◌++◌, length, take, drop, refl, sym, ap, ◌∙◌, arith, length-take, length-drop, length-append, append_assoc}
+use Rattle.std.specs.Prelude.{◌==◌, ◌||◌}
+use Rattle.std.specs.List.{take_while}
+use Rattle.std.proofs.lemmas.Grind.{common_steps}
+use Rattle.std.proofs.lemmas.Bool.{and_parts, false_from_ne_true}
+use Rattle.std.proofs.lemmas.Bool.Decides.{nat_tests}
+use Rattle.std.proofs.lemmas.List.Filters.{length-filter_both}
+use Rattle.chr_lex.specs.Plain.{is_text, as_text, first_is, closes_here, closes, before_close, is_within_line, is_line_end, line_ends, plain, plain_of, block}
+
+pub plain-skip : (skip : ℕ) (bs : List ℕ) → plain skip bs ≡ plain zero (drop skip bs)
+plain-skip zero [] = refl
+plain-skip (suc skip) [] = refl
+plain-skip zero (b ∷ bs) = refl
+plain-skip (suc skip) (b ∷ bs) = plain-skip skip bs
+
+some_after : (bs : List ℕ) → first_is 47 bs ≡ true → 1 ≤ length bs
+some_after [] h = absurd cc
+some_after (b ∷ bs) h = omega arith
+
+-- a comment has room for its end
+pub closes_fits : (bs : List ℕ) → closes bs ≡ true → length (before_close bs) + 2 ≤ length bs
+closes_fits [] h = absurd cc
+closes_fits (b ∷ bs) h =
+    (elim (closes_here b bs) as (λ v. closes_here b bs ≡ v → v || closes bs ≡ true → length (cond v [] (b ∷ before_close bs)) + 2 ≤ length (b ∷ bs)) [
+      | true ↦ λ e t. omega (arith, some_after bs (and_parts (b == 42) (first_is 47 bs) e).1)
+      | false ↦ λ e t. omega (arith, closes_fits bs t)
+    ]) refl h
+
+pub line_same : (front out : List ℕ) (first n : ℕ) (bs : List ℕ) → first ≡ 37 → n ≡ length (take_while is_within_line bs) → out ≡ front ++ 32 ∷ []
+    → out ++ plain_of (drop n bs) ≡ front ++ plain_of (first ∷ bs)
+line_same front out first n bs h is grown =
+    rw (h, grown, append_assoc) (ap (λ (r : List ℕ). front ++ 32 ∷ r) (sym (plain-skip n bs) ∙ ap (λ (k : ℕ). plain k bs) is))
+
+before_len : (n : ℕ) (bs : List ℕ) → n ≤ length bs → take n bs ≡ before_close bs → length (before_close bs) ≡ n
+before_len n bs fits is = omega (arith, length-take n bs, ap length is)
+
+pub block_fits : (n : ℕ) (bs : List ℕ) → 0 < length bs → closes (drop 1 bs) ≡ true → n ≤ length (drop 1 bs) → take n (drop 1 bs) ≡ before_close (drop 1 bs) → n + 3 ≤ length bs
+block_fits n bs some h fits is = omega (arith, closes_fits (drop 1 bs) h, before_len n (drop 1 bs) fits is, length-drop 1 bs)
+
+pub block_same : (front out : List ℕ) (n : ℕ) (bs comment : List ℕ) → closes (drop 1 bs) ≡ true → n ≤ length (drop 1 bs) → take n (drop 1 bs) ≡ before_close (drop 1 bs)
+    → comment ≡ take n (drop 1 bs) → out ≡ (front ++ 1 ∷ []) ++ line_ends comment
+    → out ++ plain_of (drop (n + 3) bs) ≡ front ++ block bs
+block_same front out n bs comment h fits is comment-is grown =
+    let count : n + 3 ≡ 3 + length (before_close (drop 1 bs)) = omega (arith, before_len n (drop 1 bs) fits is) in
+    let there : plain_of (drop (n + 3) bs) ≡ plain (3 + length (before_close (drop 1 bs))) bs = sym (plain-skip (n + 3) bs) ∙ ap (λ (k : ℕ). plain k bs) count in
+    rw (grown, comment-is, is, there, h) (append_assoc (front ++ 1 ∷ []) _ _ ∙ append_assoc front (1 ∷ []) _)
+
+pub rest_of : (n : ℕ) (xs : List ℕ) → take (length xs - n) (drop n xs) ≡ drop n xs
+rest_of n xs = grind (arith, common_steps)
+
+ends_below : (bs : List ℕ) → length (line_ends bs) ≤ length bs
+ends_below bs = omega (arith, length-filter_both is_line_end is_within_line (λ x. refl) bs)
+
+pub block_room : (front out comment : List ℕ) (n : ℕ) → length comment ≤ n → out ≡ (front ++ 1 ∷ []) ++ line_ends comment → length out ≤ length front + (n + 3 + 1)
+block_room front out comment n fits grown =
+    rw grown (omega (arith, length-append (front ++ 1 ∷ []) (line_ends comment), length-append front (1 ∷ []), ends_below comment))
+
+-- ---- the bytes that stand for comments are no text
+
+pub text_stays : (b : ℕ) → is_text b ≡ true → as_text b ≡ b
+text_stays b h = rw h refl
+
+pub other_is_bad : (b : ℕ) → is_text b ≡ false → as_text b ≡ 0
+other_is_bad b h = rw h refl
+
+text_above : (b : ℕ) → is_text b ≡ true → 9 ≤ b
+text_above b h = grind (arith, nat_tests, h)
+
+pub bad_is_other : (b : ℕ) → as_text b ≡ 0 → is_text b ≡ false
+bad_is_other b e = false_from_ne_true (is_text b) (λ h. let low : b ≡ 0 = sym (text_stays b h) ∙ e in let high = text_above b h in absurd (omega arith))
+
+pub never : (n : ℕ) → 0 < n → n < 9 → (b : ℕ) → as_text b ≡ n → ⊥
+never n some low b e =
+    (elim (is_text b) as (λ v. is_text b ≡ v → ⊥) [
+      | true ↦ λ h. let same : b ≡ n = sym (text_stays b h) ∙ e in let high = text_above b h in omega arith
+      | false ↦ λ h. let zero_ : 0 ≡ n = sym (other_is_bad b h) ∙ e in omega arith
+    ]) refl

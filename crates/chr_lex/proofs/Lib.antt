@@ -1,0 +1,7 @@
+pub mod Comments
+pub mod Items
+pub mod Tokens
+pub mod Longest
+pub mod Lexing
+pub mod Cutting
+pub mod Replaced
