@@ -1,0 +1,202 @@
+//! Expressions as they are written.
+ghost use Rattle.std.specs.Prelude.{◌≡◌, ◌≤◌, ◌<◌, length, IfOk};
+
+use crate::sign::{is_close, is_open};
+use chr_lex::fault::{ItemError, Kind};
+use chr_lex::mark::Mark;
+use chr_lex::token::{Token, Written};
+use chr_rule::expression::Operator;
+use std::alloc::Allocator;
+
+/// How deep an expression may be. A number or a variable has depth 1; an operation is one deeper than its deeper
+/// side, and parentheses add one.
+pub const MOST_DEPTH: u32 = 16;
+
+/// An expression as it is written, with its parentheses.
+#[derive(Drop)]
+pub enum Tree<'a, A: Allocator> {
+    Number { negative: bool, digits: &'a [u8] },
+    Variable(&'a [u8]),
+    Group(Box<Tree<'a, A>, A>),
+    Operation(Operator, Box<Tree<'a, A>, A>, Box<Tree<'a, A>, A>),
+}
+
+/// `+` or `-`
+fn sum_operator(token: Token) -> Option<Operator> {
+    match token {
+        Token::Mark(Mark::Plus) => Some(Operator::Add),
+        Token::Mark(Mark::Minus) => Some(Operator::Sub),
+        _ => None,
+    }
+}
+
+/// `*`, `//`, `mod` or `rem`, which bind tighter.
+fn product_operator(token: Token) -> Option<Operator> {
+    match token {
+        Token::Mark(Mark::Star) => Some(Operator::Mul),
+        Token::Mark(Mark::Quotient) => Some(Operator::Quot),
+        Token::Mark(Mark::Rem) => Some(Operator::Rem),
+        Token::Mark(Mark::Mod) => Some(Operator::Mod),
+        _ => None,
+    }
+}
+
+/// Whether the depth is within so much.
+fn fits<A: Allocator>(tree: &Tree<'_, A>, room: u32) -> bool {
+    if room == 0 {
+        return false;
+    }
+    match tree {
+        Tree::Number { .. } => true,
+        Tree::Variable(_) => true,
+        Tree::Group(inner) => fits(inner, room - 1),
+        Tree::Operation(_, left, right) => fits(left, room - 1) && fits(right, room - 1),
+    }
+}
+
+fn joined<'a, A: Allocator + Copy>(
+    alloc: A,
+    operator: Operator,
+    left: Tree<'a, A>,
+    right: Tree<'a, A>,
+) -> Result<Tree<'a, A>, ItemError> {
+    Ok(Tree::Operation(operator, Box::new(alloc, left)?, Box::new(alloc, right)?))
+}
+
+/// What stands in parentheses, at its closing one.
+fn closed<'a, A: Allocator + Copy>(
+    alloc: A,
+    inner: Tree<'a, A>,
+    tokens: &'a [Token<'a>],
+) -> Result<(Tree<'a, A>, &'a [Token<'a>]), ItemError>
+    ensures shorter { IfOk result (λ x. length x.1.now < length tokens.now) }
+{
+    match tokens {
+        [first, after @ ..] if is_close(*first) => {
+            Ok((Tree::Group(Box::new(alloc, inner)?), after))
+        }
+        _ => Err(ItemError::Fault(Kind::Syntax)),
+    }
+}
+
+/// No more than `room` parentheses stand in one another.
+#[cycle(expression)]
+fn sum<'a, A: Allocator + Copy>(
+    alloc: A,
+    room: u32,
+    tokens: &'a [Token<'a>],
+) -> Result<(Tree<'a, A>, &'a [Token<'a>]), ItemError>
+    ensures shorter { IfOk result (λ x. length x.1.now < length tokens.now) }
+{
+    if room == 0 {
+        return Err(ItemError::Fault(Kind::Syntax));
+    }
+    let (left, after) = product(alloc, room - 1, tokens)?;
+    more_sums(alloc, room - 1, MOST_DEPTH - 1, left, after)
+}
+
+#[cycle(expression)]
+fn product<'a, A: Allocator + Copy>(
+    alloc: A,
+    room: u32,
+    tokens: &'a [Token<'a>],
+) -> Result<(Tree<'a, A>, &'a [Token<'a>]), ItemError>
+    ensures shorter { IfOk result (λ x. length x.1.now < length tokens.now) }
+{
+    let (left, after) = factor(alloc, room, tokens)?;
+    more_products(alloc, room, MOST_DEPTH - 1, left, after)
+}
+
+#[cycle(expression)]
+fn factor<'a, A: Allocator + Copy>(
+    alloc: A,
+    room: u32,
+    tokens: &'a [Token<'a>],
+) -> Result<(Tree<'a, A>, &'a [Token<'a>]), ItemError>
+    ensures shorter { IfOk result (λ x. length x.1.now < length tokens.now) }
+{
+    match tokens {
+        [first, after @ ..] => match *first {
+            Token::Written(Written::Name(_)) => Err(ItemError::Fault(Kind::Syntax)),
+            Token::Written(Written::Variable(name)) => Ok((Tree::Variable(name), after)),
+            Token::Written(Written::Number { negative, digits }) => {
+                Ok((Tree::Number { negative, digits }, after))
+            }
+            Token::Mark(_) => {
+                if !is_open(*first) {
+                    return Err(ItemError::Fault(Kind::Syntax));
+                }
+                let (inner, rest) = sum(alloc, room, after)?;
+                closed(alloc, inner, rest)
+            }
+        },
+        [] => Err(ItemError::Fault(Kind::Syntax)),
+    }
+}
+
+/// To the left: what was read so far is the left side of the next operator.
+#[cycle(expression)]
+fn more_sums<'a, A: Allocator + Copy>(
+    alloc: A,
+    room: u32,
+    count: u32,
+    left: Tree<'a, A>,
+    tokens: &'a [Token<'a>],
+) -> Result<(Tree<'a, A>, &'a [Token<'a>]), ItemError>
+    ensures shorter { IfOk result (λ x. length x.1.now ≤ length tokens.now) }
+{
+    match tokens {
+        [first, after @ ..] => match sum_operator(*first) {
+            None => Ok((left, tokens)),
+            Some(operator) => {
+                if count == 0 {
+                    return Err(ItemError::Fault(Kind::Syntax));
+                }
+                let (right, rest) = product(alloc, room, after)?;
+                let both = joined(alloc, operator, left, right)?;
+                more_sums(alloc, room, count - 1, both, rest)
+            }
+        },
+        [] => Ok((left, tokens)),
+    }
+}
+
+#[cycle(expression)]
+fn more_products<'a, A: Allocator + Copy>(
+    alloc: A,
+    room: u32,
+    count: u32,
+    left: Tree<'a, A>,
+    tokens: &'a [Token<'a>],
+) -> Result<(Tree<'a, A>, &'a [Token<'a>]), ItemError>
+    ensures shorter { IfOk result (λ x. length x.1.now ≤ length tokens.now) }
+{
+    match tokens {
+        [first, after @ ..] => match product_operator(*first) {
+            None => Ok((left, tokens)),
+            Some(operator) => {
+                if count == 0 {
+                    return Err(ItemError::Fault(Kind::Syntax));
+                }
+                let (right, rest) = factor(alloc, room, after)?;
+                let both = joined(alloc, operator, left, right)?;
+                more_products(alloc, room, count - 1, both, rest)
+            }
+        },
+        [] => Ok((left, tokens)),
+    }
+}
+
+/// The expression at the front, and the tokens behind it.
+pub fn parse_expression<'a, A: Allocator + Copy>(
+    alloc: A,
+    tokens: &'a [Token<'a>],
+) -> Result<(Tree<'a, A>, &'a [Token<'a>]), ItemError>
+    ensures shorter { IfOk result (λ x. length x.1.now < length tokens.now) }
+{
+    let (tree, after) = sum(alloc, MOST_DEPTH, tokens)?;
+    if !fits(&tree, MOST_DEPTH) {
+        return Err(ItemError::Fault(Kind::Syntax));
+    }
+    Ok((tree, after))
+}

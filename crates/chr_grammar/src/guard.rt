@@ -1,0 +1,154 @@
+//! The members of a guard as they are written.
+ghost use Rattle.std.specs.Prelude.{◌≡◌, ◌≤◌, ◌<◌, length, IfOk};
+
+use crate::expression::{Tree, parse_expression};
+use crate::sign::{is_comma, is_true};
+use chr_lex::fault::{ItemError, Kind};
+use chr_lex::mark::Mark;
+use chr_lex::token::{Token, Written};
+use chr_rule::expression::Relation;
+use std::alloc::Allocator;
+
+/// A member of a guard as it is written.
+#[derive(Drop)]
+pub enum Test<'a, A: Allocator> {
+    True,
+    Compared(Relation, Tree<'a, A>, Tree<'a, A>),
+    /// `==`
+    Same(Written<'a>, Written<'a>),
+    /// `\==`
+    Differ(Written<'a>, Written<'a>),
+}
+
+/// A comparison of numbers.
+fn relation(token: Token) -> Option<Relation> {
+    match token {
+        Token::Mark(Mark::Less) => Some(Relation::Less),
+        Token::Mark(Mark::AtMost) => Some(Relation::LessEqual),
+        Token::Mark(Mark::Greater) => Some(Relation::Greater),
+        Token::Mark(Mark::AtLeast) => Some(Relation::GreaterEqual),
+        Token::Mark(Mark::SameValue) => Some(Relation::Equal),
+        Token::Mark(Mark::OtherValue) => Some(Relation::Unequal),
+        _ => None,
+    }
+}
+
+/// `==`, or `\==`, which is false
+fn equality(token: Token) -> Option<bool> {
+    match token {
+        Token::Mark(Mark::Equals) => Some(true),
+        Token::Mark(Mark::Differs) => Some(false),
+        _ => None,
+    }
+}
+
+fn equal<'a, A: Allocator>(same: bool, left: Written<'a>, right: Written<'a>) -> Test<'a, A> {
+    if same {
+        Test::Same(left, right)
+    } else {
+        Test::Differ(left, right)
+    }
+}
+
+/// Two expressions and what stands between them.
+fn compared<'a, A: Allocator + Copy>(
+    alloc: A,
+    tokens: &'a [Token<'a>],
+) -> Result<(Test<'a, A>, &'a [Token<'a>]), ItemError>
+    ensures shorter { IfOk result (λ x. length x.1.now < length tokens.now) }
+{
+    let (left, after) = parse_expression(alloc, tokens)?;
+    match after {
+        [first, behind @ ..] => match relation(*first) {
+            None => Err(ItemError::Fault(Kind::Syntax)),
+            Some(relation) => {
+                let (right, rest) = parse_expression(alloc, behind)?;
+                Ok((Test::Compared(relation, left, right), rest))
+            }
+        },
+        [] => Err(ItemError::Fault(Kind::Syntax)),
+    }
+}
+
+/// What is compared with a term by `==` or `\==`.
+fn other_side<'a, A: Allocator>(
+    same: bool,
+    left: Written<'a>,
+    tokens: &'a [Token<'a>],
+) -> Result<(Test<'a, A>, &'a [Token<'a>]), ItemError>
+    ensures shorter { IfOk result (λ x. length x.1.now < length tokens.now) }
+{
+    match tokens {
+        [first, rest @ ..] => match *first {
+            Token::Written(right) => Ok((equal(same, left, right), rest)),
+            Token::Mark(_) => Err(ItemError::Fault(Kind::Syntax)),
+        },
+        [] => Err(ItemError::Fault(Kind::Syntax)),
+    }
+}
+
+/// The member at the front where no `==` or `\==` stands behind its first token.
+fn plain_test<'a, A: Allocator + Copy>(
+    alloc: A,
+    tokens: &'a [Token<'a>],
+) -> Result<(Test<'a, A>, &'a [Token<'a>]), ItemError>
+    ensures shorter { IfOk result (λ x. length x.1.now < length tokens.now) }
+{
+    match tokens {
+        [first, rest @ ..] if is_true(*first) => Ok((Test::True, rest)),
+        _ => compared(alloc, tokens),
+    }
+}
+
+/// The member of a guard at the front, and the tokens behind it.
+pub fn parse_test<'a, A: Allocator + Copy>(
+    alloc: A,
+    tokens: &'a [Token<'a>],
+) -> Result<(Test<'a, A>, &'a [Token<'a>]), ItemError>
+    ensures shorter { IfOk result (λ x. length x.1.now < length tokens.now) }
+{
+    match tokens {
+        [first, second, after @ ..] => match equality(*second) {
+            None => plain_test(alloc, tokens),
+            Some(same) => match *first {
+                Token::Written(left) => other_side(same, left, after),
+                Token::Mark(_) => Err(ItemError::Fault(Kind::Syntax)),
+            },
+        },
+        _ => plain_test(alloc, tokens),
+    }
+}
+
+/// The member at a place, and the place behind it.
+fn test_from<'a, A: Allocator + Copy>(
+    alloc: A,
+    tokens: &'a [Token<'a>],
+    from: usize,
+) -> Result<(Test<'a, A>, usize), ItemError>
+    requires { from ≤ length tokens.now }
+    ensures next { IfOk result (λ x. (from < x.1) × (x.1 ≤ length tokens.now)) }
+{
+    let (test, after) = parse_test(alloc, &tokens[from..])?;
+    Ok((test, tokens.len() - after.len()))
+}
+
+/// The members of a guard by commas, at least one.
+pub fn parse_tests<'a, A: Allocator + Copy>(
+    alloc: A,
+    tokens: &'a [Token<'a>],
+) -> Result<Vec<Test<'a, A>, A>, ItemError> {
+    let mut tests = Vec::new(alloc);
+    let mut from = 0;
+    for _ in 0..tokens.len() {
+        let (test, next) = test_from(alloc, tokens, from)?;
+        tests.push(test)?;
+        if next == tokens.len() {
+            return Ok(tests);
+        }
+        if !is_comma(tokens[next]) {
+            return Err(ItemError::Fault(Kind::Syntax));
+        }
+        from = next + 1;
+    }
+    Err(ItemError::Fault(Kind::Syntax))
+}

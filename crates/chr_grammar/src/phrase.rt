@@ -1,0 +1,115 @@
+//! Atoms as they are written, and lists of them.
+ghost use Rattle.std.specs.Prelude.{◌≡◌, ◌≤◌, ◌<◌, length, IfOk};
+
+use crate::sign::{is_close, is_comma, is_open};
+use chr_lex::fault::{ItemError, Kind};
+use chr_lex::token::{Token, Written};
+use std::alloc::Allocator;
+
+/// An atom as it is written.
+#[derive(Drop)]
+pub struct Phrase<'a, A: Allocator> {
+    pub name: &'a [u8],
+    pub args: Vec<Written<'a>, A>,
+}
+
+/// These words are no atoms.
+fn is_reserved(name: &[u8]) -> bool {
+    name == b"true".as_slice() || name == b"fail".as_slice() || name == b"false".as_slice()
+}
+
+/// Terms by commas and a closing parenthesis, and the tokens behind it.
+fn terms<'a, A: Allocator + Copy>(
+    alloc: A,
+    tokens: &'a [Token<'a>],
+) -> Result<(Vec<Written<'a>, A>, &'a [Token<'a>]), ItemError>
+    ensures shorter { IfOk result (λ x. length x.1.now < length tokens.now) }
+{
+    let mut terms = Vec::new(alloc);
+    let mut rest = tokens;
+    while let [first, mark, after @ ..] = rest {
+        match *first {
+            Token::Written(term) => terms.push(term)?,
+            Token::Mark(_) => break,
+        }
+        if is_comma(*mark) {
+            rest = after;
+        } else if is_close(*mark) {
+            return Ok((terms, after));
+        } else {
+            break;
+        }
+    }
+    Err(ItemError::Fault(Kind::Syntax))
+}
+
+/// The atom at the front, and the tokens behind it.
+pub fn parse_phrase<'a, A: Allocator + Copy>(
+    alloc: A,
+    tokens: &'a [Token<'a>],
+) -> Result<(Phrase<'a, A>, &'a [Token<'a>]), ItemError>
+    ensures shorter { IfOk result (λ x. length x.1.now < length tokens.now) }
+{
+    match tokens {
+        [first, after @ ..] => match *first {
+            Token::Written(Written::Name(name)) => args(alloc, name, after),
+            _ => Err(ItemError::Fault(Kind::Syntax)),
+        },
+        [] => Err(ItemError::Fault(Kind::Syntax)),
+    }
+}
+
+/// The atom of this name, by what stands behind the name.
+fn args<'a, A: Allocator + Copy>(
+    alloc: A,
+    name: &'a [u8],
+    tokens: &'a [Token<'a>],
+) -> Result<(Phrase<'a, A>, &'a [Token<'a>]), ItemError>
+    ensures shorter { IfOk result (λ x. length x.1.now ≤ length tokens.now) }
+{
+    match tokens {
+        [first, inside @ ..] if is_open(*first) => {
+            let (args, after) = terms(alloc, inside)?;
+            Ok((Phrase { name, args }, after))
+        }
+        _ if is_reserved(name) => Err(ItemError::Fault(Kind::Syntax)),
+        _ => {
+            let args = Vec::new(alloc);
+            Ok((Phrase { name, args }, tokens))
+        }
+    }
+}
+
+/// The atom at a place, and the place behind it.
+fn phrase_from<'a, A: Allocator + Copy>(
+    alloc: A,
+    tokens: &'a [Token<'a>],
+    from: usize,
+) -> Result<(Phrase<'a, A>, usize), ItemError>
+    requires { from ≤ length tokens.now }
+    ensures next { IfOk result (λ x. (from < x.1) × (x.1 ≤ length tokens.now)) }
+{
+    let (phrase, after) = parse_phrase(alloc, &tokens[from..])?;
+    Ok((phrase, tokens.len() - after.len()))
+}
+
+/// Atoms by commas, at least one: a post, or the heads of a rule.
+pub fn parse_phrases<'a, A: Allocator + Copy>(
+    alloc: A,
+    tokens: &'a [Token<'a>],
+) -> Result<Vec<Phrase<'a, A>, A>, ItemError> {
+    let mut phrases = Vec::new(alloc);
+    let mut from = 0;
+    for _ in 0..tokens.len() {
+        let (phrase, next) = phrase_from(alloc, tokens, from)?;
+        phrases.push(phrase)?;
+        if next == tokens.len() {
+            return Ok(phrases);
+        }
+        if !is_comma(tokens[next]) {
+            return Err(ItemError::Fault(Kind::Syntax));
+        }
+        from = next + 1;
+    }
+    Err(ItemError::Fault(Kind::Syntax))
+}

@@ -1,0 +1,137 @@
+//! Rules as they are written.
+ghost use Rattle.std.specs.Prelude.{◌≡◌, ◌≤◌, ◌<◌, length};
+
+use crate::body::{Member, parse_members};
+use crate::guard::{Test, parse_tests};
+use crate::phrase::{Phrase, parse_phrases};
+use crate::sign::{is_arrow, is_at, is_backslash, is_bar, is_propagate, named};
+use chr_lex::fault::{ItemError, Kind};
+use chr_lex::token::Token;
+use std::alloc::Allocator;
+
+/// The heads of a rule as they are written.
+#[derive(Drop)]
+pub struct Heads<'a, A: Allocator> {
+    pub kept: Vec<Phrase<'a, A>, A>,
+    pub removed: Vec<Phrase<'a, A>, A>,
+}
+
+/// What stands behind the arrow.
+#[derive(Drop)]
+pub struct Consequence<'a, A: Allocator> {
+    pub guard: Vec<Test<'a, A>, A>,
+    pub body: Vec<Member<'a, A>, A>,
+}
+
+/// A rule as it is written. A propagation rule is one that removes nothing.
+#[derive(Drop)]
+pub struct RawRule<'a, A: Allocator> {
+    /// The rule's name.
+    pub label: Option<&'a [u8]>,
+    pub heads: Heads<'a, A>,
+    pub then: Consequence<'a, A>,
+}
+
+/// How many tokens stand before the first arrow.
+fn before_arrow(tokens: &[Token]) -> usize
+    ensures { result ≤ length tokens.now }
+{
+    tokens.iter().take_while(|token| !is_arrow(**token)).count()
+}
+
+/// How many tokens stand before the first `\`.
+fn before_backslash(tokens: &[Token]) -> usize
+    ensures { result ≤ length tokens.now }
+{
+    tokens
+        .iter()
+        .take_while(|token| !is_backslash(**token))
+        .count()
+}
+
+/// How many tokens stand before the first `|`.
+fn before_bar(tokens: &[Token]) -> usize
+    ensures { result ≤ length tokens.now }
+{
+    tokens.iter().take_while(|token| !is_bar(**token)).count()
+}
+
+/// The heads of a rule with `<=>`.
+fn parse_heads<'a, A: Allocator + Copy>(
+    alloc: A,
+    tokens: &'a [Token<'a>],
+) -> Result<Heads<'a, A>, ItemError> {
+    let at = before_backslash(tokens);
+    if at == tokens.len() {
+        return Ok(Heads {
+            kept: Vec::new(alloc),
+            removed: parse_phrases(alloc, tokens)?,
+        });
+    }
+    Ok(Heads {
+        kept: parse_phrases(alloc, &tokens[..at])?,
+        removed: parse_phrases(alloc, &tokens[at + 1..])?,
+    })
+}
+
+/// The heads of a rule with `==>`.
+fn all_kept<'a, A: Allocator + Copy>(
+    alloc: A,
+    tokens: &'a [Token<'a>],
+) -> Result<Heads<'a, A>, ItemError> {
+    Ok(Heads {
+        kept: parse_phrases(alloc, tokens)?,
+        removed: Vec::new(alloc),
+    })
+}
+
+/// The guard, if there is one, and the body.
+fn parse_consequence<'a, A: Allocator + Copy>(
+    alloc: A,
+    tokens: &'a [Token<'a>],
+) -> Result<Consequence<'a, A>, ItemError> {
+    let at = before_bar(tokens);
+    if at == tokens.len() {
+        return Ok(Consequence {
+            guard: Vec::new(alloc),
+            body: parse_members(alloc, tokens)?,
+        });
+    }
+    Ok(Consequence {
+        guard: parse_tests(alloc, &tokens[..at])?,
+        body: parse_members(alloc, &tokens[at + 1..])?,
+    })
+}
+
+/// The rule of this name, by what stands behind the name.
+fn named_rule<'a, A: Allocator + Copy>(
+    alloc: A,
+    label: Option<&'a [u8]>,
+    tokens: &'a [Token<'a>],
+) -> Result<RawRule<'a, A>, ItemError> {
+    let at = before_arrow(tokens);
+    if at == tokens.len() {
+        return Err(ItemError::Fault(Kind::Syntax));
+    }
+    let heads = if is_propagate(tokens[at]) {
+        all_kept(alloc, &tokens[..at])?
+    } else {
+        parse_heads(alloc, &tokens[..at])?
+    };
+    let then = parse_consequence(alloc, &tokens[at + 1..])?;
+    Ok(RawRule { label, heads, then })
+}
+
+/// The rule that the tokens are.
+pub fn parse_rule<'a, A: Allocator + Copy>(
+    alloc: A,
+    tokens: &'a [Token<'a>],
+) -> Result<RawRule<'a, A>, ItemError> {
+    match tokens {
+        [first, second, after @ ..] if is_at(*second) => match named(*first) {
+            Some(name) => named_rule(alloc, Some(name), after),
+            None => Err(ItemError::Fault(Kind::Syntax)),
+        },
+        _ => named_rule(alloc, None, tokens),
+    }
+}

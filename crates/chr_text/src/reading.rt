@@ -1,0 +1,256 @@
+//! Reading programs and posts.
+ghost use Rattle.std.specs.Prelude.{◌≡◌, ◌≤◌, length, take, OnErr};
+ghost use Rattle.chr_text.specs.Tables.{Table, Keeps};
+
+use crate::build::{ground_phrases, number_rule};
+use crate::limits::{
+    any_declared_too_great, any_declared_too_long, any_phrase_too_great, any_phrase_too_large,
+    is_rule_too_great, is_rule_too_large,
+};
+use crate::scope::is_in_scope;
+use crate::variables::{has_too_many_variables, push_phrases};
+use chr_grammar::declaration::Declared;
+use chr_grammar::phrase::parse_phrases;
+use chr_grammar::rule::RawRule;
+use chr_grammar::statement::{Statement, parse_statement};
+use chr_lex::fault::{ItemError, Kind, ReadError, ReadFault};
+use chr_lex::item::{Item, next_item};
+use chr_lex::plain::{has_bad_byte, plain_text};
+use chr_lex::token::{Token, tokens};
+use chr_rule::program::{MOST_RULES, Program};
+use chr_value::atom::Atom;
+use chr_value::names::Names;
+use std::alloc::{AllocError, Allocator};
+use std::sync::Arc;
+
+/// How many bytes a text may have.
+pub const MOST_BYTES: usize = 65_536;
+
+/// The tokens of an item that has its end point and no bad byte.
+fn item_tokens<'a, A: Allocator + Copy>(
+    alloc: A,
+    item: Item<'a>,
+) -> Result<Vec<Token<'a>, A>, ItemError> {
+    if has_bad_byte(item.text) {
+        return Err(ItemError::Fault(Kind::BadByte));
+    }
+    if !item.whole {
+        return Err(ItemError::Fault(Kind::Syntax));
+    }
+    tokens(alloc, item.text)
+}
+
+fn judge_declaration(all: &[Declared]) -> Result<(), ItemError> {
+    if any_declared_too_great(all) {
+        return Err(ItemError::Fault(Kind::NumberRange));
+    }
+    if any_declared_too_long(all) {
+        return Err(ItemError::Fault(Kind::TooMany));
+    }
+    Ok(())
+}
+
+/// What may not stand in a rule, in the order of the tests. A rule that removes nothing is a propagation rule.
+fn judge_rule<A: Allocator + Copy>(
+    alloc: A,
+    full: bool,
+    rule: &RawRule<'_, A>,
+) -> Result<(), ItemError> {
+    if rule.heads.removed.is_empty() {
+        return Err(ItemError::Fault(Kind::Propagation));
+    }
+    if is_rule_too_great(rule) {
+        return Err(ItemError::Fault(Kind::NumberRange));
+    }
+    if full || is_rule_too_large(rule) || has_too_many_variables(alloc, rule)? {
+        return Err(ItemError::Fault(Kind::TooMany));
+    }
+    if !is_in_scope(alloc, rule)? {
+        return Err(ItemError::Fault(Kind::Binding));
+    }
+    Ok(())
+}
+
+/// One rule more.
+fn add_rule<A: Allocator + Copy>(
+    alloc: A,
+    names: &mut Names<A>,
+    program: &mut Program<A>,
+    rule: &RawRule<'_, A>,
+) -> Result<(), ItemError>
+    ensures keeps { (t : Table) → Keeps t names.old → Keeps t names.new }
+{
+    let full = program.len() >= MOST_RULES;
+    judge_rule(alloc, full, rule)?;
+    if full {
+        return Err(ItemError::Fault(Kind::TooMany));
+    }
+    let rule = number_rule(alloc, names, rule)?;
+    program.push(Arc::new(alloc, rule)?)?;
+    Ok(())
+}
+
+/// An item of a program.
+fn read_statement<A: Allocator + Copy>(
+    alloc: A,
+    names: &mut Names<A>,
+    program: &mut Program<A>,
+    item: Item,
+) -> Result<(), ItemError>
+    ensures keeps { (t : Table) → Keeps t names.old → Keeps t names.new }
+{
+    let tokens = item_tokens(alloc, item)?;
+    match parse_statement(alloc, &tokens)? {
+        Statement::Import => Ok(()),
+        Statement::Declaration(all) => judge_declaration(&all),
+        Statement::Rule(rule) => add_rule(alloc, names, program, &rule),
+    }
+}
+
+/// An item of a text of posts.
+fn read_post<A: Allocator + Copy>(
+    alloc: A,
+    names: &mut Names<A>,
+    atoms: &mut Vec<Atom<A>, A>,
+    item: Item,
+) -> Result<(), ItemError>
+    ensures keeps { (t : Table) → Keeps t names.old → Keeps t names.new }
+{
+    let tokens = item_tokens(alloc, item)?;
+    let phrases = parse_phrases(alloc, &tokens)?;
+    if any_phrase_too_great(&phrases) {
+        return Err(ItemError::Fault(Kind::NumberRange));
+    }
+    if any_phrase_too_large(&phrases) {
+        return Err(ItemError::Fault(Kind::TooMany));
+    }
+    let mut places = Vec::new(alloc);
+    push_phrases(&mut places, &phrases)?;
+    if !places.is_empty() {
+        return Err(ItemError::Fault(Kind::Binding));
+    }
+    ground_phrases(alloc, names, atoms, &phrases)
+}
+
+fn at_line(line: u32, error: ItemError) -> ReadError {
+    match error {
+        ItemError::Memory => ReadError::Memory,
+        ItemError::Fault(kind) => ReadError::Fault(ReadFault { kind, line }),
+    }
+}
+
+fn too_long() -> ReadError {
+    ReadError::Fault(ReadFault {
+        kind: Kind::TooLong,
+        line: 0,
+    })
+}
+
+/// The rules of all items.
+fn read_statements<A: Allocator + Copy>(
+    alloc: A,
+    names: &mut Names<A>,
+    text: &[u8],
+) -> Result<Program<A>, ReadError>
+    requires { length text.now ≤ 65536 }
+    ensures keeps { (t : Table) → Keeps t names.old → Keeps t names.new }
+{
+    let mut program = Program::new(alloc);
+    let mut line = 1;
+    let mut rest = text;
+    'items: loop {
+        match next_item(line, rest) {
+            None => return Ok(program),
+            Some((item, next_line, after)) => {
+                match read_statement(alloc, names, &mut program, item) {
+                    Ok(()) => {}
+                    Err(e) => return Err(at_line(item.line, e)),
+                }
+                line = next_line;
+                rest = after;
+            }
+        }
+    }
+}
+
+/// The atoms of all items.
+fn read_posts<A: Allocator + Copy>(
+    alloc: A,
+    names: &mut Names<A>,
+    text: &[u8],
+) -> Result<Vec<Atom<A>, A>, ReadError>
+    requires { length text.now ≤ 65536 }
+    ensures keeps { (t : Table) → Keeps t names.old → Keeps t names.new }
+{
+    let mut atoms = Vec::new(alloc);
+    let mut line = 1;
+    let mut rest = text;
+    'items: loop {
+        match next_item(line, rest) {
+            None => return Ok(atoms),
+            Some((item, next_line, after)) => {
+                match read_post(alloc, names, &mut atoms, item) {
+                    Ok(()) => {}
+                    Err(e) => return Err(at_line(item.line, e)),
+                }
+                line = next_line;
+                rest = after;
+            }
+        }
+    }
+}
+
+/// The rules of a text, numbered from 1 in text order.
+///
+/// A text of more than [`MOST_BYTES`] bytes is E09 TooLong at line 0. Else the first faulty item is told, with the
+/// line of its first byte, by the first of these that stands: E03 BadByte, E04 Syntax, E05 Propagation, E06
+/// NumberRange, E07 TooMany, E08 Binding, E02 NamesFull. E01 comes only where a growth was refused. After any of
+/// these `names` is as before; else the names of the rules are in it, behind those from before, in text order.
+#[tactic(auto, using(crate::proofs::Tables::keeps_same))]
+pub fn read_program<A: Allocator + Copy>(
+    alloc: A,
+    bytes: &[u8],
+    names: &mut Names<A>,
+) -> Result<Program<A>, ReadError>
+    ensures unchanged { OnErr result (names.new ≡ names.old) }
+    ensures keeps { take (length names.old) names.new ≡ names.old }
+{
+    if bytes.len() > MOST_BYTES {
+        return Err(too_long());
+    }
+    let plain = plain_text(alloc, bytes)?;
+    let before = names.len();
+    match read_statements(alloc, names, &plain) {
+        Ok(program) => Ok(program),
+        Err(error) => {
+            names.truncate(before);
+            Err(error)
+        }
+    }
+}
+
+/// The atoms of a text of posts, in text order.
+///
+/// The errors are those of [`read_program`]; a variable is E08 Binding. After any of them `names` is as before.
+#[tactic(auto, using(crate::proofs::Tables::keeps_same))]
+pub fn read_atoms<A: Allocator + Copy>(
+    alloc: A,
+    bytes: &[u8],
+    names: &mut Names<A>,
+) -> Result<Vec<Atom<A>, A>, ReadError>
+    ensures unchanged { OnErr result (names.new ≡ names.old) }
+    ensures keeps { take (length names.old) names.new ≡ names.old }
+{
+    if bytes.len() > MOST_BYTES {
+        return Err(too_long());
+    }
+    let plain = plain_text(alloc, bytes)?;
+    let before = names.len();
+    match read_posts(alloc, names, &plain) {
+        Ok(atoms) => Ok(atoms),
+        Err(error) => {
+            names.truncate(before);
+            Err(error)
+        }
+    }
+}
