@@ -1,0 +1,4 @@
+pub mod Stores
+pub mod Labels
+pub mod Keys
+pub mod Faults

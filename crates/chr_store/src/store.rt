@@ -1,0 +1,190 @@
+//! Constraints under labels.
+ghost use Rattle.std.specs.Prelude.{◌≡◌, ℕ, ◌+◌, ◌<◌, ◌≤◌, ◌++◌, ◌∷◌, ◌↔◌, [], length, Some, Err, IfOk, OnOk, IfErr, OnErr, IsTrue};
+ghost use Rattle.std.specs.Option.{option_copied};
+ghost use Rattle.std.specs.Map.Iter.{ShowsInOrder, deref_pair};
+ghost use Rattle.chr_value.specs.Terms.{Fact, ground};
+ghost use Rattle.chr_store.specs.Stores.{atom_at, drop_label};
+ghost use Rattle.chr_store.specs.Labels.{IsLabelled};
+ghost use Rattle.chr_store.specs.Keys.{arg_at, HasPred, HasKey, key_of, IsLeastMeeting};
+ghost use Rattle.chr_store.specs.Faults.{given_back};
+ghost use Rattle.chr_store.specs.declared.store.StoreFault.TheVariants.{LabelsSpent};
+
+use chr_value::atom::{Atom, Pred, Value};
+use std::alloc::{AllocError, Allocator};
+use std::collections::BTreeMap;
+use std::collections::btree_map::Iter;
+use std::marker::Model;
+
+/// The number of a constraint in a store, from 1 on.
+pub type Label = u64;
+
+/// The greatest limit that a store may have for its labels.
+pub const GREATEST_LIMIT: u64 = 4_294_967_295;
+
+/// Why an atom was not entered. The atom comes back.
+#[derive(Drop)]
+pub enum StoreFault<A: Allocator> {
+    /// E01: the store could not grow.
+    NoMemory(Atom<A>),
+    /// E10: the next label is above the limit.
+    LabelsSpent(Atom<A>),
+}
+
+/// A map from labels to atoms. Contracts see the list of labels and atoms, rising, with the next label and the limit.
+#[derive(Drop)]
+pub struct Store<A: Allocator> {
+    atoms: BTreeMap<u64, Atom<A>, A>,
+    next: u64,
+    limit: u64,
+}
+
+impl<A: Allocator> Model for Store<A> {
+    ghost use Rattle.chr_store.specs.Labels.{LabelledStore, IsLabelled};
+
+    ghost Value = { LabelledStore };
+
+    ghost view = { λ s. record { entries = s.atoms.entries; next = s.next; limit = s.limit } };
+
+    ghost invariant = { λ s. IsLabelled (record { entries = s.atoms.entries; next = s.next; limit = s.limit }) };
+}
+
+/// Whether an atom has a value at a place. Places are numbered from 1.
+fn has_at<A: Allocator + Copy>(atom: &Atom<A>, place: u8, value: &Value) -> bool
+    ensures { IsTrue result ↔ (arg_at atom.now place ≡ Some (ground value.now)) }
+{
+    if place == 0 {
+        return false;
+    }
+    match atom.args().get(place as usize - 1) {
+        None => false,
+        Some(found) => found.same(value),
+    }
+}
+
+/// Whether an atom has a predicate and, where there is a key, its value at its place.
+fn meets<A: Allocator + Copy>(atom: &Atom<A>, pred: Pred, key: Option<(u8, &Value)>) -> bool
+    ensures { IsTrue result ↔ (HasPred pred atom.now × HasKey (key_of key.entry) atom.now) }
+{
+    if atom.pred() != pred {
+        return false;
+    }
+    match key {
+        None => true,
+        Some((place, value)) => has_at(atom, place, value),
+    }
+}
+
+impl<A: Allocator + Copy> Store<A> {
+    /// A store of no constraints, whose labels go from 1 to the limit.
+    pub fn new(alloc: A, limit: u64) -> Store<A>
+        requires { limit ≤ 4294967295 }
+        ensures { result ≡ record { entries = []; next = 1; limit = limit } }
+    {
+        Store {
+            atoms: BTreeMap::new(alloc),
+            next: 1,
+            limit,
+        }
+    }
+
+    /// How many constraints there are.
+    pub fn len(&self) -> usize
+        ensures count { result ≡ length self.now.entries }
+        ensures whole { IsLabelled self.now }
+    {
+        self.atoms.len()
+    }
+
+    /// The label that [`insert`](Store::insert) gives next. It is above the limit once all are spent.
+    pub fn next_label(&self) -> Label
+        ensures value { result ≡ self.now.next }
+        ensures whole { IsLabelled self.now }
+    {
+        self.next
+    }
+
+    /// Enters an atom under the next label. Where the labels are spent (E10) or the store could not grow (E01), the
+    /// atom comes back and the store is unchanged.
+    pub fn insert(&mut self, atom: Atom<A>) -> Result<Label, StoreFault<A>>
+        ensures label { IfOk result (λ label. label ≡ self.old.next) }
+        ensures ok { OnOk result (self.new ≡ record { entries = self.old.entries ++ (self.old.next, atom) ∷ []; next = self.old.next + 1; limit = self.old.limit }) }
+        ensures spent { (self.old.limit < self.old.next) ↔ (result ≡ Err (LabelsSpent atom)) }
+        ensures back { IfErr result (λ fault. given_back fault ≡ atom) }
+        ensures unchanged { OnErr result (self.new ≡ self.old) }
+    {
+        if self.next > self.limit {
+            return Err(StoreFault::LabelsSpent(atom));
+        }
+        let label = self.next;
+        match self.atoms.insert(label, atom) {
+            Ok(_) => {
+                self.next = label + 1;
+                Ok(label)
+            }
+            Err(refused) => Err(StoreFault::NoMemory(refused.value.1)),
+        }
+    }
+
+    /// The atom under a label.
+    pub fn get(&self, label: Label) -> Option<&Atom<A>>
+        ensures { option_copied result ≡ atom_at self.now.entries label }
+    {
+        self.atoms.get(&label)
+    }
+
+    /// Takes a constraint out of the store.
+    pub fn remove(&mut self, label: Label) -> Option<Atom<A>>
+        ensures value { result ≡ atom_at self.old.entries label }
+        ensures rest { self.new ≡ record { entries = drop_label label self.old.entries; next = self.old.next; limit = self.old.limit } }
+    {
+        self.atoms.remove(&label)
+    }
+
+    /// The least label over `after` and under `below` whose atom has the predicate and, where `key` is a place and a
+    /// value, that value at that place. Places are numbered from 1.
+    pub fn next_at(
+        &self,
+        pred: Pred,
+        key: Option<(u8, &Value)>,
+        after: Label,
+        below: Label,
+    ) -> Option<Label>
+        ensures { IsLeastMeeting self.now.entries (record { pred = pred; key = key_of key.entry; after = after; below = below }) result }
+    {
+        if below <= after {
+            return None;
+        }
+        for (label, atom) in self.atoms.range(after + 1..below) {
+            if meets(atom, pred, key) {
+                return Some(*label);
+            }
+        }
+        None
+    }
+
+    /// The constraints with their labels, which rise.
+    pub fn iter(&self) -> Iter<'_, u64, Atom<A>>
+        ensures rest { result ≡ self.now.entries }
+        ensures runs { ShowsInOrder (deref_pair {K = ℕ} {X = Fact ℕ}) }
+        ensures whole { IsLabelled self.now }
+    {
+        self.atoms.iter()
+    }
+
+    /// The same store once more.
+    pub fn copy(&self, alloc: A) -> Result<Store<A>, AllocError>
+        ensures { IfOk result (λ made. made ≡ self.now) }
+    {
+        let mut atoms = BTreeMap::new(alloc);
+        for (label, atom) in &self.atoms {
+            let Ok(_) = atoms.insert(*label, atom.copy(alloc)?) else {
+                return Err(AllocError);
+            };
+        }
+        Ok(Store {
+            atoms,
+            next: self.next,
+            limit: self.limit,
+        })
+    }
+}
