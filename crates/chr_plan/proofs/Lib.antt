@@ -1,0 +1,5 @@
+pub mod Lists
+pub mod Next
+pub mod Planning
+pub mod Made
+pub mod OnePlan

@@ -1,0 +1,17 @@
+//! Join plans: the order in which the heads of a rule are tried.
+//!
+//! The heads of a rule are numbered from 1, kept heads in text order and then removed heads. The plan of a head begins
+//! with that head. Then, until every head is named, comes the least-numbered open head that has an argument whose
+//! value is known by then, with the first place of such an argument as its key; where there is none, the least-numbered
+//! open head, without a key. Known are numbers, symbols, and the variables of the heads before. So a partner with a
+//! key can be looked up by a predicate and one value.
+//!
+//! Contracts see the plans as a list of orders for each rule, and say of each order that it is that of the definition.
+//! [`laws`] has what follows: a head has one plan, it names every head, and each key is bound by the steps before.
+#![tactic(auto)]
+
+pub mod laws;
+pub mod order;
+pub mod plans;
+#[cfg(test)]
+mod tests;

@@ -1,0 +1,154 @@
+//! The order in which the heads of a rule are tried.
+ghost use Rattle.std.specs.Prelude.{◌≡◌, ℕ, ◌≤◌, ◌||◌, false, length, map, position, MatchOption, slice_index_or};
+ghost use Rattle.std.specs.Option.{option_map};
+ghost use Rattle.chr_rule.specs.Parts.{argument, shape};
+ghost use Rattle.chr_plan.specs.Orders.{heads_of, head_at, is_variable, has_variable, binds, is_bound, is_known, key_in, is_named, IsOpen, IsNext, IsPlan};
+
+use arrayvec::ArrayVec;
+use chr_rule::pattern::{Pattern, Term};
+use chr_rule::rule::Rule;
+use std::alloc::Allocator;
+
+/// How many heads a rule may have.
+pub const MOST_HEADS: usize = 6;
+
+/// A head by its number, and the place of its first argument whose value is known by then. Places are numbered from 1.
+#[derive(Clone, Copy, Debug, PartialEq, Eq)]
+pub struct Step {
+    pub head: u8,
+    pub key: Option<u8>,
+}
+
+impl Default for Step {
+    fn default() -> Self {
+        Step { head: 0, key: None }
+    }
+}
+
+/// The heads of a rule in the order in which they are tried.
+pub type Order = ArrayVec<Step, 6>;
+
+/// For each number of a variable, whether it is bound.
+type Bound = [bool; 256];
+
+/// No variable is bound.
+fn nothing_bound() -> Bound
+    ensures { (x : ℕ) → slice_index_or result x false ≡ false }
+{
+    [false; 256]
+}
+
+/// How many heads a rule has, from 1 to 6.
+pub fn head_count<A: Allocator>(rule: &Rule<A>) -> usize
+    ensures count { result ≡ length (heads_of rule.now) }
+    ensures few { result ≤ 6 }
+{
+    rule.kept().len() + rule.removed().len()
+}
+
+/// The head of a number.
+pub fn head<A: Allocator>(rule: &Rule<A>, number: u8) -> Option<&Pattern>
+    ensures { option_map (λ h. shape h.now) result ≡ head_at (heads_of rule.now) number }
+{
+    if number == 0 {
+        return None;
+    }
+    let at = usize::from(number) - 1;
+    let kept = rule.kept();
+    if at < kept.len() {
+        kept.get(at)
+    } else {
+        rule.removed().get(at - kept.len())
+    }
+}
+
+/// Whether one of the steps is for the head.
+fn is_named(steps: &[Step], number: u8) -> bool
+    ensures { result ≡ is_named steps.now number }
+{
+    steps.iter().any(|step| step.head == number)
+}
+
+/// Whether a term is a value or a bound variable.
+fn is_known(term: &Term, bound: &Bound) -> bool
+    ensures { result ≡ is_known (λ x. slice_index_or bound.now x false) (argument term.now) }
+{
+    match term {
+        Term::Var(x) => bound[usize::from(*x)],
+        Term::Value(_) => true,
+    }
+}
+
+/// The index of the first term that is known.
+fn first_known(terms: &[Term], bound: &Bound) -> Option<usize>
+    ensures { result ≡ position (λ t. is_known (λ x. slice_index_or bound.now x false) (argument t)) terms.now }
+{
+    terms.iter().position(|term| is_known(term, bound))
+}
+
+/// The key of a head.
+fn key<A: Allocator>(rule: &Rule<A>, number: u8, bound: &Bound) -> Option<u8>
+    ensures { result ≡ key_in (λ x. slice_index_or bound.now x false) (head_at (heads_of rule.now) number) }
+{
+    let pattern = head(rule, number)?;
+    let index = first_known(pattern.terms.as_slice(), bound)?;
+    Some(index as u8 + 1)
+}
+
+/// Binds the variables of these terms.
+fn bind_terms(terms: &[Term], bound: &mut Bound)
+    ensures { (x : ℕ) → slice_index_or bound.new x false ≡ (has_variable x (map argument terms.now) || slice_index_or bound.old x false) }
+{
+    for term in terms {
+        if let Term::Var(x) = term {
+            bound[usize::from(*x)] = true;
+        }
+    }
+}
+
+/// Binds the variables of a head.
+fn bind<A: Allocator>(rule: &Rule<A>, number: u8, bound: &mut Bound)
+    ensures { (x : ℕ) → slice_index_or bound.new x false ≡ (binds (head_at (heads_of rule.now) number) x || slice_index_or bound.old x false) }
+{
+    if let Some(pattern) = head(rule, number) {
+        bind_terms(pattern.terms.as_slice(), bound);
+    }
+}
+
+/// The next step: the least open head with a key, else the least open head. None where no head is open.
+fn next_step<A: Allocator>(rule: &Rule<A>, before: &[Step], bound: &Bound) -> Option<Step>
+    requires { (x : ℕ) → slice_index_or bound.now x false ≡ is_bound (heads_of rule.now) before.now x }
+    ensures step { MatchOption result ((j : ℕ) → IsOpen (heads_of rule.now) before.now j → ⊥) (IsNext (heads_of rule.now) before.now) }
+    ensures few { length (heads_of rule.now) ≤ 6 }
+{
+    let mut first = None;
+    for at in 0..head_count(rule) {
+        let number = at as u8 + 1;
+        if !is_named(before, number) {
+            let key = key(rule, number, bound);
+            let step = Step { head: number, key };
+            if key.is_some() {
+                return Some(step);
+            }
+            first = Some(first.unwrap_or(step));
+        }
+    }
+    first
+}
+
+/// The plan of a head.
+pub fn plan_of<A: Allocator>(rule: &Rule<A>, head: u8) -> Order
+    requires from { 1 ≤ head }
+    requires to { head ≤ length (heads_of rule.now) }
+    ensures { IsPlan (heads_of rule.now) head result.items }
+{
+    let mut order = ArrayVec::new();
+    let mut bound = nothing_bound();
+    order.push(Step { head, key: None });
+    bind(rule, head, &mut bound);
+    while let Some(step) = next_step(rule, order.as_slice(), &bound) {
+        order.push(step);
+        bind(rule, step.head, &mut bound);
+    }
+    order
+}

@@ -1,0 +1,62 @@
+//! The plans of a program.
+ghost use Rattle.std.specs.Prelude.{◌≡◌, map, IfOk};
+ghost use Rattle.std.specs.Option.{option_map};
+ghost use Rattle.chr_plan.specs.Plans.{plan_at, AreOrders, ArePlans};
+
+use crate::order::{Order, Step, head_count, plan_of};
+use chr_rule::program::Program;
+use chr_rule::rule::Rule;
+use std::alloc::{AllocError, Allocator};
+use std::marker::Model;
+
+/// For each rule and head the order in which the heads are tried. Contracts see the orders of each rule.
+#[derive(Drop)]
+pub struct Plans<A: Allocator> {
+    rules: Vec<Vec<Order, A>, A>,
+}
+
+impl<A: Allocator> Model for Plans<A> {
+    ghost use Rattle.std.specs.Prelude.{map};
+    ghost use Rattle.chr_plan.specs.Plans.{PlanList};
+
+    ghost Value = { PlanList };
+
+    ghost view = { λ p. map (λ orders. map (λ order. order.items) orders.items) p.rules.items };
+}
+
+/// The plans of a rule.
+fn plan_rule<A: Allocator + Copy>(alloc: A, rule: &Rule<A>) -> Result<Vec<Order, A>, AllocError>
+    ensures { IfOk result (λ orders. AreOrders rule.now (map (λ order. order.items) orders.items)) }
+{
+    let count = head_count(rule);
+    let mut orders = Vec::with_capacity(alloc, count)?;
+    for at in 0..count {
+        orders.push(plan_of(rule, at as u8 + 1))?;
+    }
+    Ok(orders)
+}
+
+impl<A: Allocator + Copy> Plans<A> {
+    /// A plan for each rule and head.
+    pub fn make(alloc: A, program: &Program<A>) -> Result<Plans<A>, AllocError>
+        ensures { IfOk result (λ plans. ArePlans program.now plans) }
+    {
+        let mut rules = Vec::with_capacity(alloc, program.len())?;
+        for rule in program.rules() {
+            rules.push(plan_rule(alloc, rule)?)?;
+        }
+        Ok(Plans { rules })
+    }
+
+    /// The plan of a rule and a head, both by their numbers from 1. None where the program has no such head.
+    pub fn plan(&self, rule: usize, head: u8) -> Option<&[Step]>
+        ensures { option_map (λ steps. steps.now) result ≡ plan_at self.now rule head }
+    {
+        if rule == 0 || head == 0 {
+            return None;
+        }
+        let orders = self.rules.get(rule - 1)?;
+        let order = orders.get(usize::from(head) - 1)?;
+        Some(order.as_slice())
+    }
+}
