@@ -1,0 +1,45 @@
+//! The command line of `chr`.
+use clap::error::ErrorKind;
+use clap::{Arg, ArgAction, Command, Error};
+use std::alloc::{AllocError, Global};
+use std::convert::AsStr;
+
+/// What the command line asks for.
+#[derive(Clone, Copy, Debug, PartialEq, Eq)]
+pub enum Order<'a> {
+    /// `chr run FILE POSTS`
+    Run { file: &'a str, posts: &'a str },
+}
+
+/// A word that must be there.
+fn word<'a>(alloc: Global, name: &'a str, help: &'a str) -> Arg<'a> {
+    Arg::new(alloc, name)
+        .required(true)
+        .action(ArgAction::Set)
+        .help(help)
+}
+
+/// What the program understands.
+fn command<'a>(alloc: Global) -> Result<Command<'a>, AllocError> {
+    let run = Command::new(alloc, "run")
+        .about("Runs rules on posted constraints, and prints the store and the log")
+        .arg(word(alloc, "FILE", "The rules"))?
+        .arg(word(alloc, "POSTS", "The constraints to post"))?;
+    Command::new(alloc, "chr")
+        .about("Runs Constraint Handling Rules, and logs each activation, firing and drop")
+        .subcommand_required(true)
+        .subcommand(run)
+}
+
+/// Reads the words of a command line, the program's own name first. Help that is asked for comes as an error too, whose
+/// exit code is 0 and which belongs on standard output.
+pub fn read<'a, S: AsStr>(alloc: Global, words: &'a [S]) -> Result<Order<'a>, Error> {
+    let mut command = command(alloc)?;
+    let matches = command.try_get_matches_from_mut(words)?;
+    if let Some(("run", run)) = matches.subcommand() {
+        if let (Some(file), Some(posts)) = (run.get_str("FILE"), run.get_str("POSTS")) {
+            return Ok(Order::Run { file, posts });
+        }
+    }
+    Err(command.error(ErrorKind::MissingSubcommand, "a command is missing")?)
+}

@@ -1,0 +1,15 @@
+//! Fetching files.
+ghost use Rattle.std.specs.Prelude.{IfOk, ◌≤◌, ◌+◌, length};
+
+use std::alloc::Allocator;
+use std::fs::File;
+use std::io::{self, Read};
+use std::rt::Files;
+
+/// The bytes of a file, at most one more than `most`, so that its reader sees where it is too long.
+pub fn fetch<R: Files + Alloc>(rt: &R, path: &str, most: u64) -> io::Result<Vec<u8, R::A>> {
+    let mut bytes = Vec::new(rt.alloc());
+    let file = File::open(rt, path)?;
+    file.take(most.saturating_add(1)).read_to_end(&mut bytes)?;
+    Ok(bytes)
+}
