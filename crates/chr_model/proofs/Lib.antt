@@ -12,3 +12,4 @@ pub mod Alone
 pub mod Worked
 pub mod Onward
 pub mod Youngest
+pub mod GoalRuns

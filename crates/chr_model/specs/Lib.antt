@@ -8,3 +8,4 @@ pub mod Seats
 pub mod PostsFirst
 pub mod Examples
 pub mod Searches
+pub mod GoalRuns

@@ -10,10 +10,14 @@ ghost use Rattle.chr_model.specs.Stores.{Final, Labelled, among, atom_at, labels
 ghost use Rattle.chr_model.specs.Goals.{State, Quiet, IsNumbered, start, erase};
 ghost use Rattle.chr_model.specs.Steps.{MayDrop, Simplify, Propagate, Step, Run};
 ghost use Rattle.chr_model.specs.Logs.{Lawful, times, removed_by, given_by, posted_by, up_from, firings, strict};
+ghost use Rattle.chr_model.specs.GoalRuns.{GoalRun, opening, unposted};
 ghost use Rattle.chr_model.specs.PostsFirst.{LawfulPostsFirst};
 ghost use Rattle.chr_model.specs.Programs.{Instances};
 ghost use Rattle.chr_model.specs.Searches.{AllBelow, NoneBelow, NoneYoungest, YoungestAreGoals};
 ghost use Rattle.chr_model.specs.Seats.{made};
+
+use chr_rule::program::Program;
+use std::alloc::Allocator;
 
 /// Where a lawful log leaves no goal open, no rule applies to the store.
 pub fn quiet_is_final()
@@ -49,6 +53,14 @@ pub fn labels_stand_once()
         → Lawful v (Instances rules) log last → (l : ℕ) (a : Fact ℕ) → atom_at last.store l ≡ Some a → l < last.next }
 {}
 
+/// A log that is lawful for a program has one last state.
+pub fn last_is_fixed<A: Allocator + Copy>(program: &Program<A>)
+    ensures { (v : Version) (log : List (Happening ℕ)) (last other : State)
+        → Lawful v (Instances program.now) log last → Lawful v (Instances program.now) log other → last ≡ other }
+{
+    let _rules = program.rules();
+}
+
 /// A lawful log and a step from its last state are a lawful log.
 pub fn one_event_more()
     ensures { (v : Version) (rules : List (Simpagation ℕ)) (log : List (Happening ℕ)) (event : Happening ℕ) (last new : State)
@@ -66,6 +78,13 @@ pub fn posts_may_stand_first()
     ensures run { (v : Version) (rules : List (Simpagation ℕ)) (log : List (Happening ℕ)) (last : State)
         → LawfulPostsFirst v (Instances rules) log last
         → (fired : List Firing) × AbstractRun (Instances rules) (posted_by log) fired (erase last) }
+{}
+
+/// With its posts moved to the front, a lawful log is a goal-based run from all that it posts to its last state.
+pub fn log_is_a_goal_run()
+    ensures { (v : Version) (rules : List (Simpagation ℕ)) (log : List (Happening ℕ)) (last : State)
+        → Lawful v (Instances rules) log last
+        → GoalRun v (Instances rules) (opening (posted_by log)) (unposted log) last }
 {}
 
 /// A step, and a run, may be made beside any further atoms.

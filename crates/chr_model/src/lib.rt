@@ -10,6 +10,7 @@
 //!   may be dropped by one of two versions of the condition.
 //! - `Logs`: a lawful log and the state after it; what a log posts, gives, removes and fires; its strict log.
 //! - `PostsFirst`: the same lawful logs with all posted atoms as plain goals from the start.
+//! - `GoalRuns`: goal-based runs with tickets forgotten, from a multiset of plain goals.
 //! - `Searches`: what a search for partners must have found none of.
 //! - `Seats`: what each seat has made in a log.
 //! - `Programs`: the instances of a program's rules.
@@ -24,8 +25,10 @@
 //! | [`removed_at_most_once`](laws::removed_at_most_once) | no label is removed twice |
 //! | [`given_in_order`](laws::given_in_order) | the labels given are 1, 2, .. in order |
 //! | [`labels_stand_once`](laws::labels_stand_once) | the store has each label once, and only labels that were given |
+//! | [`last_is_fixed`](laws::last_is_fixed) | a lawful log has one last state |
 //! | [`one_event_more`](laws::one_event_more) | a lawful log and a step behind it are a lawful log |
 //! | [`posts_may_stand_first`](laws::posts_may_stand_first) | the same with all posted atoms as plain goals from the start |
+//! | [`log_is_a_goal_run`](laws::log_is_a_goal_run) | a lawful log is a goal-based run from all that it posts |
 //! | [`step_beside`](laws::step_beside) | a step beside further atoms |
 //! | [`firing_is_one_of_two`](laws::firing_is_one_of_two) | a firing doesn't both simplify and propagate |
 //! | [`some_label_is_a_goal`](laws::some_label_is_a_goal) | each labelled instance has a label that is a numbered goal |
