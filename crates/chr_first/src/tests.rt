@@ -15,7 +15,8 @@ const STEPS: u64 = 1_000_000;
 /// Whether a run gives this text, and ends as its first line says.
 fn gives(rt: &HostRuntime, program: &[u8], posts: &[u8], steps: u64, text: &[u8]) -> bool {
     match first_run(rt.alloc(), program, posts, steps) {
-        Ok(made) => made.bytes.as_slice() == text && (made.end == End::Quiet) == (text[0] == b'q'),
+        Ok(made) => made.bytes.as_slice() == text
+            && (made.end == End::Quiet) == text.starts_with(b"quiet"),
         Err(_) => false,
     }
 }
