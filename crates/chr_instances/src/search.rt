@@ -47,8 +47,8 @@ fn with_entry<'s>(
 }
 
 /// The first labelled instance of a program's rules over a store that has a label, in the order of trials: by rule, by
-/// the head at which the label stands, and by the labels of the other heads, least first. None exactly where the label
-/// is in no labelled instance over the store. It takes no memory.
+/// the head at which the label stands, and by the labels of the other heads, least first. It is meant to give none
+/// only where the label is in no labelled instance over the store, which no contract says yet. It takes no memory.
 pub fn with_label(
     alloc: Global,
     program: &Program<Global>,
