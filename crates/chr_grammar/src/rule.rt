@@ -29,7 +29,7 @@ pub struct RawRule<'a, A: Allocator> {
     /// The rule's name.
     pub label: Option<&'a [u8]>,
     pub heads: Heads<'a, A>,
-    pub then: Consequence<'a, A>,
+    pub consequence: Consequence<'a, A>,
 }
 
 /// How many tokens stand before the first arrow.
@@ -118,8 +118,12 @@ fn named_rule<'a, A: Allocator + Copy>(
     } else {
         parse_heads(alloc, &tokens[..at])?
     };
-    let then = parse_consequence(alloc, &tokens[at + 1..])?;
-    Ok(RawRule { label, heads, then })
+    let consequence = parse_consequence(alloc, &tokens[at + 1..])?;
+    Ok(RawRule {
+        label,
+        heads,
+        consequence,
+    })
 }
 
 /// The rule that the tokens are.

@@ -1,26 +1,8 @@
--- A store, and the instances of rules over it.
-use Rattle.std.specs.Prelude.{◌≡◌, ℕ, Bool, false, true, ◌||◌, ◌==◌, if◌then◌else◌, List, [], ◌∷◌, ◌++◌, map, Option, Some, None}
+-- The instances of rules over a store.
+use Rattle.std.specs.Prelude.{◌≡◌, ℕ, Bool, false, true, ◌||◌, ◌==◌, List, [], ◌∷◌, ◌++◌, map, Some}
 use Rattle.chr_value.specs.Terms.{Fact}
+pub use Rattle.chr_value.specs.Stores.{Store, atom_at, drop_label, without}
 use Rattle.chr_model.specs.Abstract.{Rules}
-
--- A store: labels with their atoms, in the order in which the labels were given.
-abbrev pub Store : Type 0
-Store = List (ℕ × Fact ℕ)
-
--- the atom of a label
-abbrev pub atom_at : Store → ℕ → Option (Fact ℕ)
-atom_at [] l = None
-atom_at (e ∷ es) l = if e.0 == l then Some e.1 else atom_at es l
-
--- the store without a label
-abbrev pub drop_label : ℕ → Store → Store
-drop_label l [] = []
-drop_label l (e ∷ es) = if e.0 == l then drop_label l es else e ∷ drop_label l es
-
--- the store without these labels
-abbrev pub without : List ℕ → Store → Store
-without [] store = store
-without (l ∷ ls) store = without ls (drop_label l store)
 
 abbrev pub labels : Store → List ℕ
 labels store = map (λ e. e.0) store

@@ -5,7 +5,7 @@ use Rattle.std.specs.Map.{lookup, remove_entry}
 use Rattle.std.specs.BTreeMap.{insert_entry, is_at}
 use Rattle.std.proofs.lemmas.Bool.Decides.{nat_tests}
 use Rattle.chr_value.specs.Terms.{Fact}
-use Rattle.chr_store.specs.Stores.{Store, atom_at, drop_label}
+use Rattle.chr_value.specs.Stores.{Store, atom_at, drop_label}
 use Rattle.chr_store.specs.Labels.{Rising, GivenBefore, IsLabelled}
 
 pub insert_last : (n : ℕ) (a : Fact ℕ) (es : Store) → GivenBefore n es → insert_entry nat_cmp es n a ≡ es ++ (n, a) ∷ []

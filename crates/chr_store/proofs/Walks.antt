@@ -8,7 +8,7 @@ use Rattle.std.proofs.lemmas.Option.{slice_get-map}
 use Rattle.chr_value.specs.declared.atom.Value.{Value}
 use Rattle.std.proofs.lemmas.Bool.Decides.{nat_tests}
 use Rattle.chr_value.specs.Terms.{Term, Fact, ground, grounds}
-use Rattle.chr_store.specs.Stores.{Store, atom_at}
+use Rattle.chr_value.specs.Stores.{Store, atom_at}
 use Rattle.chr_store.specs.Labels.{Rising}
 use Rattle.chr_store.specs.Keys.{arg_at, Query, HasPred, HasKey, IsLeastMeeting}
 

@@ -5,7 +5,7 @@ use Rattle.std.specs.Option.{MatchOption, option_map}
 use Rattle.chr_value.specs.Terms.{Term, Fact, ground}
 use Rattle.chr_value.specs.declared.atom.Pred.{Pred}
 use Rattle.chr_value.specs.declared.atom.Value.{Value}
-use Rattle.chr_store.specs.Stores.{Store, atom_at}
+use Rattle.chr_value.specs.Stores.{Store, atom_at}
 
 -- the argument at a place, places being numbered from 1
 abbrev pub arg_at : Fact ℕ → ℕ → Option (Term ℕ)

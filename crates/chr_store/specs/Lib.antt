@@ -1,4 +1,3 @@
-pub mod Stores
 pub mod Labels
 pub mod Keys
 pub mod Faults

@@ -3,7 +3,7 @@ ghost use Rattle.std.specs.Prelude.{◌≡◌, ℕ, ◌+◌, ◌<◌, ◌≤◌,
 ghost use Rattle.std.specs.Option.{option_copied};
 ghost use Rattle.std.specs.Map.Iter.{ShowsInOrder, deref_pair};
 ghost use Rattle.chr_value.specs.Terms.{Fact, ground};
-ghost use Rattle.chr_store.specs.Stores.{atom_at, drop_label};
+ghost use Rattle.chr_value.specs.Stores.{atom_at, drop_label};
 ghost use Rattle.chr_store.specs.Labels.{IsLabelled};
 ghost use Rattle.chr_store.specs.Keys.{arg_at, HasPred, HasKey, key_of, IsLeastMeeting};
 ghost use Rattle.chr_store.specs.Faults.{given_back};

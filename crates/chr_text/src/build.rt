@@ -208,8 +208,8 @@ pub fn number_rule<A: Allocator + Copy>(
     let mut met = Vec::new(alloc);
     let kept = number_phrases(alloc, names, &mut met, &rule.heads.kept)?;
     let removed = number_phrases(alloc, names, &mut met, &rule.heads.removed)?;
-    let guard = number_tests(alloc, names, &mut met, &rule.then.guard)?;
-    let body = number_members(alloc, names, &mut met, &rule.then.body)?;
+    let guard = number_tests(alloc, names, &mut met, &rule.consequence.guard)?;
+    let body = number_members(alloc, names, &mut met, &rule.consequence.body)?;
     match Rule::new(kept, removed, guard, body) {
         Some(rule) => Ok(rule),
         None => Err(ItemError::Fault(Kind::Binding)),

@@ -124,9 +124,9 @@ pub fn any_phrase_too_large<A: Allocator>(phrases: &[Phrase<'_, A>]) -> bool {
 pub fn is_rule_too_great<A: Allocator>(rule: &RawRule<'_, A>) -> bool {
     any_phrase_too_great(&rule.heads.kept)
         || any_phrase_too_great(&rule.heads.removed)
-        || rule.then.guard.iter().any(|test| is_test_too_great(test))
+        || rule.consequence.guard.iter().any(|test| is_test_too_great(test))
         || rule
-            .then
+            .consequence
             .body
             .iter()
             .any(|member| is_member_too_great(member))
@@ -160,11 +160,11 @@ pub fn is_rule_too_large<A: Allocator>(rule: &RawRule<'_, A>) -> bool {
         || has_too_many_heads(rule)
         || any_phrase_too_large(&rule.heads.kept)
         || any_phrase_too_large(&rule.heads.removed)
-        || count_tests(&rule.then.guard) > MOST_TESTS
-        || rule.then.guard.iter().any(|test| is_test_too_long(test))
-        || count_members(&rule.then.body) > MOST_MEMBERS
+        || count_tests(&rule.consequence.guard) > MOST_TESTS
+        || rule.consequence.guard.iter().any(|test| is_test_too_long(test))
+        || count_members(&rule.consequence.body) > MOST_MEMBERS
         || rule
-            .then
+            .consequence
             .body
             .iter()
             .any(|member| is_member_too_large(member))

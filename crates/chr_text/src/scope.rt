@@ -74,9 +74,9 @@ pub fn is_in_scope<A: Allocator + Copy>(
     push_phrases(&mut met, &rule.heads.kept)?;
     push_phrases(&mut met, &rule.heads.removed)?;
     let mut places = Vec::new(alloc);
-    push_tests(&mut places, &rule.then.guard)?;
+    push_tests(&mut places, &rule.consequence.guard)?;
     if !are_met(&places, &met) {
         return Ok(false);
     }
-    is_body_in_scope(alloc, &mut met, &rule.then.body)
+    is_body_in_scope(alloc, &mut met, &rule.consequence.body)
 }

@@ -124,8 +124,8 @@ fn variables_of<'a, A: Allocator + Copy>(
     let mut out = Vec::new(alloc);
     push_phrases(&mut out, &rule.heads.kept)?;
     push_phrases(&mut out, &rule.heads.removed)?;
-    push_tests(&mut out, &rule.then.guard)?;
-    push_members(&mut out, &rule.then.body)?;
+    push_tests(&mut out, &rule.consequence.guard)?;
+    push_members(&mut out, &rule.consequence.body)?;
     Ok(out)
 }
 

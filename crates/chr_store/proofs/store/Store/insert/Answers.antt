@@ -1,5 +1,5 @@
 use Rattle.std.proofs.Common.{◌≤◌, ◌+◌, subst, sym, refl, arith, ◌∙◌}
-use Rattle.chr_store.specs.Stores.{Store}
+use Rattle.chr_value.specs.Stores.{Store}
 use Rattle.chr_store.specs.Labels.{IsLabelled}
 use Rattle.chr_store.proofs.Entries.{insert_last, labelled_push}
 use Rattle.chr_store.proofs.store.Store.insert.Goals as goal

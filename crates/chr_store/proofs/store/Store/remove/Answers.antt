@@ -1,5 +1,5 @@
 use Rattle.std.proofs.Common.{subst, sym, ap, ◌∙◌, refl}
-use Rattle.chr_store.specs.Stores.{Store, atom_at}
+use Rattle.chr_value.specs.Stores.{Store, atom_at}
 use Rattle.chr_store.specs.Labels.{LabelledStore, IsLabelled}
 use Rattle.chr_store.proofs.Entries.{looked_up, removed_label, labelled_drop}
 use Rattle.chr_store.proofs.store.Store.remove.Goals as goal
