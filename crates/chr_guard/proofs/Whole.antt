@@ -7,13 +7,13 @@ use Rattle.chr_rule.specs.Rules.{Member, Is, Add, Simpagation}
 use Rattle.chr_rule.specs.Scope.{IsRule}
 use Rattle.chr_guard.specs.Values.{Valuation, Holds}
 use Rattle.chr_guard.specs.Bindings.{Extends, Narrows, NoneUnder, holding}
-use Rattle.chr_guard.specs.Instances.{atom_under, IsRight, added, Instance, IsInstance, NoInstance}
+use Rattle.chr_guard.specs.Instances.{atom_under, IsRight, added, Instance, IsInstance, IsInstanceUnder, NoInstance}
 use Rattle.chr_guard.specs.Matching.{HeadsAre, IsFit, IsBody}
 use Rattle.chr_guard.proofs.Scoped.{scoped}
 use Rattle.chr_guard.proofs.Fixed.{Agree, heads_agree, guard_agrees}
 use Rattle.chr_guard.proofs.Bindings.{holding_extends}
 
-heads_of : (rule : Simpagation ℕ) (facts body : List (Fact ℕ)) (i : IsInstance rule facts body) → HeadsAre rule facts i.valuation
+pub heads_of : (rule : Simpagation ℕ) (facts body : List (Fact ℕ)) (i : IsInstance rule facts body) → HeadsAre rule facts i.valuation
 heads_of rule facts body i =
     map-append (atom_under i.valuation) rule.kept rule.removed ∙ ap₂ (λ a b. a ++ b) (sym i.kept_are) (sym i.removed_are) ∙ take-append-drop (length rule.kept) facts
 
@@ -38,6 +38,10 @@ is_instance rule r facts made binding new f guard done is =
       some_removed = λ e. (let none : length rule.removed ≡ 0 = sym (length-map rule.removed (atom_under v)) ∙ ap length (sym k ∙ e) in let some : 0 < length rule.removed = r.limits.removed in absurd (omega arith));
       body_is = is;
     }
+
+pub is_instance_under : (rule : Simpagation ℕ) → IsRule rule → (facts : List (Fact ℕ)) (binding new : List (Option (Term ℕ))) → IsFit rule (HeadsAre rule facts) binding → AllByRecursion (Holds (holding binding)) rule.guard → Narrows (λ v. AllByRecursion (IsRight v) rule.body) binding new → IsInstanceUnder rule facts new
+is_instance_under rule r facts binding new f guard done =
+    record { places = done.places ∙ f.places; instance = is_instance rule r facts (added (holding new) rule.body) binding new f guard done refl }
 
 pub no_fit : (rule : Simpagation ℕ) (facts : List (Fact ℕ)) → ((v : Valuation) → HeadsAre rule facts v → ⊥) → NoInstance rule facts
 no_fit rule facts none body i = none i.valuation (heads_of rule facts body i)

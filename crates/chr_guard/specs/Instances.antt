@@ -1,9 +1,10 @@
 -- What is an instance of a rule.
-use Rattle.std.specs.Prelude.{◌≡◌, ◌≢◌, ℕ, ℤ, List, [], ◌∷◌, length, map, take, drop, Some}
+use Rattle.std.specs.Prelude.{◌≡◌, ◌≢◌, ℕ, ℤ, List, [], ◌∷◌, length, map, take, drop, Option, Some}
 use Rattle.std.specs.List.{AllByRecursion}
-use Rattle.chr_value.specs.Terms.{Fact, Int}
+use Rattle.chr_value.specs.Terms.{Term, Fact, Int}
 use Rattle.chr_rule.specs.Rules.{Shape, Member, Is, Add, Simpagation}
 use Rattle.chr_guard.specs.Values.{Valuation, value_of, term_under, Holds}
+use Rattle.chr_guard.specs.Bindings.{holding}
 
 -- a constraint of a rule under a valuation
 abbrev pub atom_under : Valuation → Shape ℕ → Fact ℕ
@@ -38,3 +39,8 @@ IsInstance rule atoms body = Instance rule (take (length rule.kept) atoms) (drop
 -- they are none, whatever the body
 abbrev pub NoInstance : Simpagation ℕ → List (Fact ℕ) → Type 0
 NoInstance rule atoms = (body : List (Fact ℕ)) → IsInstance rule atoms body → ⊥
+
+-- they are an instance, and the binding of the rule's variables gives its body
+pub record IsInstanceUnder (rule : Simpagation ℕ) (atoms : List (Fact ℕ)) (binding : List (Option (Term ℕ))) : Type 0 where
+  pub places : length binding ≡ rule.variables
+  pub instance : IsInstance rule atoms (added (holding binding) rule.body)

@@ -1,13 +1,46 @@
 //! Which atoms are an instance of a rule.
-ghost use Rattle.std.specs.Prelude.{map, MatchOption};
-ghost use Rattle.chr_guard.specs.Instances.{IsInstance, NoInstance};
+ghost use Rattle.std.specs.Prelude.{List, ℕ, map, MatchOption};
+ghost use Rattle.chr_value.specs.Terms.{Fact};
+ghost use Rattle.chr_guard.specs.Instances.{IsInstance, IsInstanceUnder, NoInstance};
+ghost use Rattle.chr_guard.specs.Matching.{HeadsAre, IsFit};
 
+use crate::binding::Binding;
 use crate::body::{Body, added_atoms, complete};
 use crate::matching::fit_all;
 use crate::values::guard_holds;
 use chr_rule::rule::Rule;
 use chr_value::atom::Atom;
 use std::alloc::Allocator;
+
+/// The binding of all variables of a rule's instance, from that of its heads' variables. None where the heads' atoms
+/// are no instance, whatever the body.
+pub fn instance_from<'a, A: Allocator + Copy>(
+    rule: &Rule<A>,
+    mut binding: Binding<'a>,
+) -> Option<Binding<'a>>
+    requires { (facts : List (Fact ℕ)) × IsFit rule.now (HeadsAre rule.now facts) binding }
+    ensures { (facts : List (Fact ℕ)) → IsFit rule.now (HeadsAre rule.now facts) binding.entry → MatchOption result (NoInstance rule.now facts) (IsInstanceUnder rule.now facts) }
+{
+    if !guard_holds(rule, &binding) {
+        return None;
+    }
+    if !complete(rule, &mut binding) {
+        return None;
+    }
+    Some(binding)
+}
+
+/// The binding of all variables of the instance of a rule whose heads are these atoms, in head order: kept heads first.
+/// None where they are no instance, whatever the body. [`added_atoms`] makes the body.
+pub fn instance_under<'a, A: Allocator + Copy>(
+    rule: &Rule<A>,
+    atoms: &[&'a Atom<A>],
+) -> Option<Binding<'a>>
+    ensures { let facts = map (λ a. a.now) atoms.now in MatchOption result (NoInstance rule.now facts) (IsInstanceUnder rule.now facts) }
+{
+    let binding = fit_all(rule, atoms)?;
+    instance_from(rule, binding)
+}
 
 /// The body of the instance of a rule whose heads are these atoms, in head order: kept heads first. None where they are
 /// no instance, whatever the body. It takes no memory.
@@ -18,12 +51,6 @@ pub fn instance<A: Allocator + Copy>(
 ) -> Option<Body<A>>
     ensures { let facts = map (λ a. a.now) atoms.now in MatchOption result (NoInstance rule.now facts) (λ made. IsInstance rule.now facts made.items) }
 {
-    let mut binding = fit_all(rule, atoms)?;
-    if !guard_holds(rule, &binding) {
-        return None;
-    }
-    if !complete(rule, &mut binding) {
-        return None;
-    }
+    let binding = instance_under(rule, atoms)?;
     Some(added_atoms(alloc, rule, &binding))
 }

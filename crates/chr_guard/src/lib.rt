@@ -3,8 +3,9 @@
 //! [`value`](values::value), [`holds`](values::holds) and [`guard_holds`](values::guard_holds) answer under a
 //! [`Binding`](binding::Binding) of a rule's variables. [`fit`](matching::fit) finds the one binding under which some
 //! heads of a rule are some atoms, [`body`](body::body) the atoms that the rule then adds, and
-//! [`instance`](instance::instance) decides whether a full list of atoms is an instance of a rule. Each answers None
-//! only where there is none, and none of them takes memory.
+//! [`instance`](instance::instance) decides whether a full list of atoms is an instance of a rule.
+//! [`instance_under`](instance::instance_under) decides the same and gives the binding in place of the body. Each answers
+//! None only where there is none, and none of them takes memory.
 //!
 //! Contracts speak of valuations, which give each variable a term. A binding is the list of what its variables are bound
 //! to; the valuations that extend it are those that give each bound variable its term.
