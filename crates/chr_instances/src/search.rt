@@ -1,45 +1,63 @@
 //! The first labelled instance with a label.
+ghost use Rattle.std.specs.Prelude.{◌≡◌, Some, map, MatchOption};
+ghost use Rattle.std.specs.Option.{option_map};
+ghost use Rattle.chr_model.specs.Stores.{atom_at, labels, Distinct};
+ghost use Rattle.chr_instances.specs.Found.{listed, IsFound, NoneFound};
+ghost use Rattle.chr_instances.specs.Picks.{Has, IsMatch, NoMatch};
 
-use crate::slots::{Match, Slot, complete};
-use chr_guard::body::Body;
+use crate::slots::{Match, complete, fit_next};
+use chr_guard::binding::Binding;
 use chr_log::events::{Label, Labels};
 use chr_rule::program::Program;
 use chr_rule::rule::{MOST_HEADS, Rule};
 use chr_value::atom::Atom;
-use std::alloc::Global;
+use std::alloc::Allocator;
 
 /// A labelled instance: its rule's number from 1, the labels of its kept and of its removed heads, in head order, and
-/// the atoms that it adds.
+/// the binding of its rule's variables, from which [`added_atoms`](chr_guard::body::added_atoms) makes the body.
 #[derive(Drop)]
-pub struct Found {
+pub struct Found<'s> {
     pub rule: u16,
     pub kept: Labels,
     pub removed: Labels,
-    pub body: Body<Global>,
+    pub binding: Binding<'s>,
 }
 
-/// The constraint of a label.
-fn entry_of(store: &[(Label, Atom<Global>)], label: Label) -> Option<&(Label, Atom<Global>)> {
+/// The atom of a label.
+fn atom_of<'s, A: Allocator + Copy>(
+    store: &[(Label, &'s Atom<A>)],
+    label: Label,
+) -> Option<&'s Atom<A>>
+    ensures { option_map (λ atom. atom.now) result ≡ atom_at (listed store.now) label }
+{
     for entry in store {
         if entry.0 == label {
-            return Some(entry);
+            return Some(entry.1);
         }
     }
     None
 }
 
-/// The first labelled instance of a rule that has a constraint of the store.
-fn with_entry<'s>(
-    alloc: Global,
-    rule: &Rule<Global>,
-    store: &'s [(Label, Atom<Global>)],
-    entry: &'s (Label, Atom<Global>),
-) -> Option<Match> {
+/// The first labelled instance of a rule that has an entry of the store.
+fn with_entry<'s, A: Allocator + Copy>(
+    rule: &Rule<A>,
+    store: &[(Label, &'s Atom<A>)],
+    label: Label,
+    atom: &'s Atom<A>,
+) -> Option<Match<'s>>
+    requires distinct { Distinct (labels (listed store.now)) }
+    requires there { atom_at (listed store.now) label ≡ Some atom.now }
+    ensures { MatchOption result (NoMatch rule.now (listed store.now) (Has label)) (IsMatch rule.now (listed store.now) (Has label)) }
+{
+    let free = Binding::free(rule.variables());
     let heads = rule.heads();
     for head in 0..heads {
-        let mut slots: [Slot<'s>; MOST_HEADS] = [None; MOST_HEADS];
-        slots[head] = Some(entry);
-        if let Some(found) = complete(alloc, rule, store, entry, &mut slots[..heads], MOST_HEADS) {
+        let Some(binding) = fit_next(rule, &free, head + 1, atom) else {
+            continue;
+        };
+        let mut slots = [None; MOST_HEADS];
+        slots[head] = Some((label, atom));
+        if let Some(found) = complete(rule, store, &mut slots[..heads], binding) {
             return Some(found);
         }
     }
@@ -47,23 +65,25 @@ fn with_entry<'s>(
 }
 
 /// The first labelled instance of a program's rules over a store that has a label, in the order of trials: by rule, by
-/// the head at which the label stands, and by the labels of the other heads, least first. It is meant to give none
-/// only where the label is in no labelled instance over the store, which no contract says yet. It takes no memory.
-pub fn with_label(
-    alloc: Global,
-    program: &Program<Global>,
-    store: &[(Label, Atom<Global>)],
+/// the head at which the label stands, and by the entries of the other heads in the store's order. None only where the
+/// label is in no labelled instance over the store. No label may stand twice in the store.
+pub fn with_label<'s, A: Allocator + Copy>(
+    program: &Program<A>,
+    store: &[(Label, &'s Atom<A>)],
     label: Label,
-) -> Option<Found> {
-    let entry = entry_of(store, label)?;
+) -> Option<Found<'s>>
+    requires { Distinct (labels (listed store.now)) }
+    ensures { MatchOption result (NoneFound program.now (listed store.now) label) (IsFound program.now (listed store.now) label) }
+{
+    let atom = atom_of(store, label)?;
     let rules = program.rules();
     for (place, rule) in rules.iter().enumerate() {
-        if let Some(found) = with_entry(alloc, rule, store, entry) {
+        if let Some(found) = with_entry(rule, store, label, atom) {
             return Some(Found {
                 rule: (place + 1) as u16,
                 kept: found.kept,
                 removed: found.removed,
-                body: found.body,
+                binding: found.binding,
             });
         }
     }

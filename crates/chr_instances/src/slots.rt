@@ -1,30 +1,32 @@
-//! The heads of a rule, with the constraints that are picked for them.
-ghost use Rattle.std.specs.Prelude.{◌<◌, length, IfSome};
+//! The heads of a rule, with the entries of a store that are picked for them.
+ghost use Rattle.std.specs.Prelude.{◌≡◌, ◌≤◌, ◌<◌, ◌+◌, length, MatchOption};
+ghost use Rattle.chr_guard.specs.Bindings.{Narrows, NoneUnder};
+ghost use Rattle.chr_model.specs.Stores.{among, labels, Distinct};
+ghost use Rattle.chr_instances.specs.Found.{listed};
+ghost use Rattle.chr_instances.specs.Picks.{picks, picked, IsOpen, AllPicked, Fills, HeadIs, IsPartial, IsMatch, NoMatch};
 
-use arrayvec::ArrayVec;
-use chr_guard::body::Body;
-use chr_guard::instance::instance;
-use chr_guard::matching::fit;
+use chr_guard::binding::{Binding, Bound};
+use chr_guard::instance::instance_from;
+use chr_guard::matching::fit_head;
 use chr_log::events::{Label, Labels};
 use chr_rule::pattern::{Pattern, Term};
-use chr_rule::rule::{MOST_HEADS, Rule};
+use chr_rule::rule::Rule;
 use chr_value::atom::Atom;
-use std::alloc::Global;
+use std::alloc::Allocator;
 
-/// What is picked for a head, if anything is: a label with its atom.
-pub type Slot<'s> = Option<&'s (Label, Atom<Global>)>;
-
-/// A labelled instance of a rule: the labels of its kept and of its removed heads, in head order, and the atoms that
-/// it adds.
+/// A labelled instance of a rule: the labels of its kept and of its removed heads, in head order, and the binding of the
+/// rule's variables.
 #[derive(Drop)]
-pub struct Match {
+pub struct Match<'s> {
     pub kept: Labels,
     pub removed: Labels,
-    pub body: Body<Global>,
+    pub binding: Binding<'s>,
 }
 
 /// Whether a label is picked for some head.
-fn is_picked(slots: &[Slot<'_>], label: Label) -> bool {
+fn is_picked<A: Allocator>(slots: &[Option<(Label, &Atom<A>)>], label: Label) -> bool
+    ensures { result ≡ among (labels (picked (picks slots.now))) label }
+{
     for slot in slots {
         if let Some(entry) = slot {
             if entry.0 == label {
@@ -35,143 +37,128 @@ fn is_picked(slots: &[Slot<'_>], label: Label) -> bool {
     false
 }
 
-/// Whether a variable stands in a constraint of a rule.
-fn has_variable(pattern: &Pattern, variable: u8) -> bool {
-    for term in pattern.terms.as_slice() {
-        if let Term::Var(x) = term {
-            if *x == variable {
-                return true;
-            }
-        }
-    }
-    false
-}
-
-/// Whether a variable stands in a head for which a constraint is picked.
-fn is_bound(rule: &Rule<Global>, slots: &[Slot<'_>], variable: u8) -> bool {
-    for (head, slot) in slots.iter().enumerate() {
-        if slot.is_some() {
-            if let Some(pattern) = rule.head(head + 1) {
-                if has_variable(pattern, variable) {
-                    return true;
-                }
-            }
-        }
-    }
-    false
-}
-
 /// Whether a head has an argument that is known: a value, or a variable that is bound.
-fn is_joined(rule: &Rule<Global>, slots: &[Slot<'_>], head: usize) -> bool
-    requires { head < length slots.now }
-{
-    let Some(pattern) = rule.head(head + 1) else {
-        return false;
-    };
-    for term in pattern.terms.as_slice() {
+fn is_joined(head: &Pattern, binding: &Binding) -> bool {
+    for term in head.terms.as_slice() {
         match term {
             Term::Value(_) => return true,
-            Term::Var(x) => {
-                if is_bound(rule, slots, *x) {
-                    return true;
-                }
-            }
+            Term::Var(x) => match binding.at(*x) {
+                Bound::Free => {}
+                _ => return true,
+            },
         }
     }
     false
 }
 
-/// The head that is tried next, of those for which none is picked: the first with an argument that is known, else the
+/// The head that is tried next, of those for which nothing is picked: the first with an argument that is known, else the
 /// first.
-fn next_head(rule: &Rule<Global>, slots: &[Slot<'_>]) -> Option<usize>
-    ensures { IfSome result (λ head. head < length slots.now) }
+fn next_head<A: Allocator>(
+    rule: &Rule<A>,
+    slots: &[Option<(Label, &Atom<A>)>],
+    binding: &Binding,
+) -> Option<usize>
+    ensures { MatchOption result (AllPicked (picks slots.now)) (IsOpen (picks slots.now)) }
 {
-    for (joined, slot) in slots.iter().enumerate() {
-        if slot.is_none() && is_joined(rule, slots, joined) {
-            return Some(joined);
+    let mut first = None;
+    for (place, slot) in slots.iter().enumerate() {
+        if slot.is_some() {
+            continue;
         }
-    }
-    for (head, slot) in slots.iter().enumerate() {
-        if slot.is_none() {
-            return Some(head);
-        }
-    }
-    None
-}
-
-/// Whether the atoms that are picked fit their heads. Where they don't, no instance has them.
-fn fits<'s>(rule: &Rule<Global>, active: &'s (Label, Atom<Global>), slots: &[Slot<'s>]) -> bool {
-    let mut placed = [(0, &active.1); MOST_HEADS];
-    let mut count = 0;
-    for (head, slot) in slots.iter().enumerate() {
-        if let Some(entry) = slot {
-            if count < MOST_HEADS {
-                placed[count] = (head + 1, &entry.1);
-                count += 1;
+        if let Some(head) = rule.head(place + 1) {
+            if is_joined(head, binding) {
+                return Some(place);
             }
         }
-    }
-    fit(rule, &placed[..count.min(MOST_HEADS)]).is_some()
-}
-
-/// The instance that the constraints make which are picked for all heads, if they make one.
-fn whole<'s>(
-    alloc: Global,
-    rule: &Rule<Global>,
-    active: &'s (Label, Atom<Global>),
-    slots: &[Slot<'s>],
-) -> Option<Match> {
-    if slots.len() != rule.heads() {
-        return None;
-    }
-    let heads = rule.kept().len();
-    let mut atoms = [&active.1; MOST_HEADS];
-    let mut kept = ArrayVec::new();
-    let mut removed = ArrayVec::new();
-    for (head, slot) in slots.iter().enumerate() {
-        let Some(entry) = slot else {
-            continue;
-        };
-        atoms[head] = &entry.1;
-        if head < heads {
-            let _ = kept.try_push(entry.0);
-        } else {
-            let _ = removed.try_push(entry.0);
+        if first.is_none() {
+            first = Some(place);
         }
     }
-    let body = instance(alloc, rule, &atoms[..slots.len()])?;
+    first
+}
+
+/// The binding under which the head of a number, from 1, is an atom as well. None where there is none.
+pub fn fit_next<'s, A: Allocator + Copy>(
+    rule: &Rule<A>,
+    binding: &Binding<'s>,
+    number: usize,
+    atom: &'s Atom<A>,
+) -> Option<Binding<'s>>
+    requires { length binding.now ≡ rule.now.variables }
+    ensures { MatchOption result (NoneUnder (HeadIs rule.now number atom.now) binding.now) (Narrows (HeadIs rule.now number atom.now) binding.now) }
+{
+    let head = rule.head(number)?;
+    if head.name.number != atom.name().number {
+        return None;
+    }
+    let mut next = binding.copy();
+    if !fit_head(&mut next, head, atom) {
+        return None;
+    }
+    Some(next)
+}
+
+/// The labels that are picked, in head order.
+fn labels_of<A: Allocator>(slots: &[Option<(Label, &Atom<A>)>]) -> Labels
+    requires { length slots.now ≤ 6 }
+    ensures { result.items ≡ labels (picked (picks slots.now)) }
+{
+    let mut found = Labels::new();
+    for slot in slots {
+        if let Some(entry) = slot {
+            found.push(entry.0);
+        }
+    }
+    found
+}
+
+/// The instance that the entries make which are picked for all heads, if they make one.
+fn whole<'s, A: Allocator + Copy>(
+    rule: &Rule<A>,
+    store: &[(Label, &'s Atom<A>)],
+    slots: &[Option<(Label, &'s Atom<A>)>],
+    binding: Binding<'s>,
+) -> Option<Match<'s>>
+    requires partial { IsPartial rule.now (listed store.now) (picks slots.now) binding }
+    requires all { AllPicked (picks slots.now) }
+    ensures { MatchOption result (NoMatch rule.now (listed store.now) (Fills (picks slots.now))) (IsMatch rule.now (listed store.now) (Fills (picks slots.now))) }
+{
+    let binding = instance_from(rule, binding)?;
+    let (kept, removed) = slots.split_at(rule.kept().len());
     Some(Match {
-        kept,
-        removed,
-        body,
+        kept: labels_of(kept),
+        removed: labels_of(removed),
+        binding,
     })
 }
 
-/// The first labelled instance of a rule that has what is picked, the active constraint among it; at most `left` heads
-/// have none. Where there is no such instance the slots are as before.
-pub fn complete<'s>(
-    alloc: Global,
-    rule: &Rule<Global>,
-    store: &'s [(Label, Atom<Global>)],
-    active: &'s (Label, Atom<Global>),
-    slots: &mut [Slot<'s>],
-    left: usize,
-) -> Option<Match> {
-    let Some(head) = next_head(rule, slots) else {
-        return whole(alloc, rule, active, slots);
+/// The first labelled instance of a rule that has what is picked, where the binding is that of the picked heads'
+/// variables. Where there is none the slots are as before.
+pub fn complete<'s, A: Allocator + Copy>(
+    rule: &Rule<A>,
+    store: &[(Label, &'s Atom<A>)],
+    slots: &mut [Option<(Label, &'s Atom<A>)>],
+    binding: Binding<'s>,
+) -> Option<Match<'s>>
+    requires distinct { Distinct (labels (listed store.now)) }
+    requires partial { IsPartial rule.now (listed store.now) (picks slots.old) binding }
+    ensures { let ps = picks slots.old in MatchOption result ((picks slots.new ≡ ps) × NoMatch rule.now (listed store.now) (Fills ps)) (IsMatch rule.now (listed store.now) (Fills ps)) }
+{
+    let Some(place) = next_head(rule, slots, &binding) else {
+        return whole(rule, store, slots, binding);
     };
-    if left == 0 || !fits(rule, active, slots) {
-        return None;
-    }
     for entry in store {
         if is_picked(slots, entry.0) {
             continue;
         }
-        slots[head] = Some(entry);
-        if let Some(found) = complete(alloc, rule, store, active, slots, left - 1) {
+        let Some(next) = fit_next(rule, &binding, place + 1, entry.1) else {
+            continue;
+        };
+        slots[place] = Some(*entry);
+        if let Some(found) = complete(rule, store, slots, next) {
             return Some(found);
         }
-        slots[head] = None;
+        slots[place] = None;
     }
     None
 }

@@ -1,4 +1,16 @@
+use Rattle.std.proofs.Common.{◌≡◌, take, Some, slice_set, ℕ}
+use Rattle.std.specs.List.{AllByRecursion}
+use Rattle.chr_value.specs.Terms.{Fact}
+use Rattle.chr_instances.specs.Found.{listed}
+use Rattle.chr_instances.specs.Picks.{picks, Fills, NoMatch}
+use Rattle.chr_instances.proofs.Picking.{left}
 use Rattle.chr_instances.proofs.slots.+complete.Given as goal
 
 abbrev pub decreases-complete : goal.decreases-complete
-decreases-complete l = l.left
+decreases-complete g l = left (picks l.slots.now)
+
+abbrev pub invariant-loop-entry : goal.invariant-loop-entry
+invariant-loop-entry g l = record {
+  same : picks l.slots ≡ picks l.fn.slots;
+  none : AllByRecursion (λ (e : ℕ × Fact ℕ). NoMatch l.fn.rule (listed l.fn.store) (Fills (slice_set (picks l.fn.slots) l.place (Some e)))) (take l.entry-index (listed l.fn.store));
+}

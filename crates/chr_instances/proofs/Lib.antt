@@ -1,0 +1,4 @@
+mod Entries
+mod Picking
+mod Fitting
+mod Wholes
