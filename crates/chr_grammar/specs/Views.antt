@@ -1,5 +1,5 @@
 -- What the values of the code say, wherever they lie in memory.
-use Rattle.std.specs.Prelude.{ℕ, List, map}
+use Rattle.std.specs.Prelude.{map}
 use Rattle.std.specs.Option.{option_map}
 use Rattle.chr_lex.specs.Tokens.{word}
 use Rattle.chr_grammar.specs.declared.expression.Tree.{Tree}

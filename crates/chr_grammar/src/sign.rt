@@ -1,62 +1,92 @@
 //! Which mark or word a token is.
 
+ghost use Rattle.std.specs.Prelude.{◌≡◌, option_map};
+ghost use Rattle.chr_lex.specs.Tokens.{lexeme};
+ghost use Rattle.chr_grammar.specs.Parsing.{is_open, is_close, is_comma, is_slash, is_declares, is_at, is_backslash, is_bar, is_is, is_propagate, is_arrow, named, is_true};
+
 use chr_lex::mark::Mark;
 use chr_lex::token::{Token, Written};
 
-pub fn is_open(token: Token) -> bool {
+pub fn is_open(token: Token) -> bool
+    ensures { result ≡ is_open (lexeme token.entry) }
+{
     matches!(token, Token::Mark(Mark::Open))
 }
 
-pub fn is_close(token: Token) -> bool {
+pub fn is_close(token: Token) -> bool
+    ensures { result ≡ is_close (lexeme token.entry) }
+{
     matches!(token, Token::Mark(Mark::Close))
 }
 
-pub fn is_comma(token: Token) -> bool {
+pub fn is_comma(token: Token) -> bool
+    ensures { result ≡ is_comma (lexeme token.entry) }
+{
     matches!(token, Token::Mark(Mark::Comma))
 }
 
-pub fn is_slash(token: Token) -> bool {
+pub fn is_slash(token: Token) -> bool
+    ensures { result ≡ is_slash (lexeme token.entry) }
+{
     matches!(token, Token::Mark(Mark::Slash))
 }
 
-pub fn is_declares(token: Token) -> bool {
+pub fn is_declares(token: Token) -> bool
+    ensures { result ≡ is_declares (lexeme token.entry) }
+{
     matches!(token, Token::Mark(Mark::Declares))
 }
 
-pub fn is_at(token: Token) -> bool {
+pub fn is_at(token: Token) -> bool
+    ensures { result ≡ is_at (lexeme token.entry) }
+{
     matches!(token, Token::Mark(Mark::At))
 }
 
-pub fn is_backslash(token: Token) -> bool {
+pub fn is_backslash(token: Token) -> bool
+    ensures { result ≡ is_backslash (lexeme token.entry) }
+{
     matches!(token, Token::Mark(Mark::Backslash))
 }
 
-pub fn is_bar(token: Token) -> bool {
+pub fn is_bar(token: Token) -> bool
+    ensures { result ≡ is_bar (lexeme token.entry) }
+{
     matches!(token, Token::Mark(Mark::Bar))
 }
 
-pub fn is_is(token: Token) -> bool {
+pub fn is_is(token: Token) -> bool
+    ensures { result ≡ is_is (lexeme token.entry) }
+{
     matches!(token, Token::Mark(Mark::Is))
 }
 
-pub fn is_propagate(token: Token) -> bool {
+pub fn is_propagate(token: Token) -> bool
+    ensures { result ≡ is_propagate (lexeme token.entry) }
+{
     matches!(token, Token::Mark(Mark::Propagate))
 }
 
 /// `<=>` or `==>`
-pub fn is_arrow(token: Token) -> bool {
+pub fn is_arrow(token: Token) -> bool
+    ensures { result ≡ is_arrow (lexeme token.entry) }
+{
     matches!(token, Token::Mark(Mark::Simplify | Mark::Propagate))
 }
 
 /// The name that the token is.
-pub fn named(token: Token) -> Option<&[u8]> {
+pub fn named(token: Token) -> Option<&[u8]>
+    ensures { option_map (λ name. name.now) result ≡ named (lexeme token.entry) }
+{
     match token {
         Token::Written(Written::Name(name)) => Some(name),
         _ => None,
     }
 }
 
-pub fn is_true(token: Token) -> bool {
+pub fn is_true(token: Token) -> bool
+    ensures { result ≡ is_true (lexeme token.entry) }
+{
     match named(token) {
         Some(name) => name == b"true".as_slice(),
         None => false,

@@ -1,4 +1,4 @@
-use Rattle.std.proofs.Common.{◌≡◌, ◌≤◌, length}
+use Rattle.std.proofs.Common.{◌≤◌, length}
 use Rattle.chr_grammar.proofs.guard.parse_tests.Given as goal
 
 abbrev pub invariant-loop : goal.invariant-loop
