@@ -1,7 +1,6 @@
 -- What tokens say, read from the left: posts, declarations and rules. Each step takes what it reads from the front and
 -- gives it with the tokens behind it.
-use Rattle.std.specs.Prelude.{ℕ, zero, suc, ◌-◌, Bool, true, false, not, List, [], ◌∷◌, length, drop, ◌&&◌, ◌||◌, if◌then◌else◌, Option, Some, None, Result, Ok, Err, codes}
-use Rattle.std.specs.List.{take_while}
+use Rattle.std.specs.Prelude.{ℕ, zero, suc, ◌-◌, Bool, true, false, List, [], ◌∷◌, length, drop, ◌&&◌, ◌||◌, if◌then◌else◌, Option, Some, None, Result, Ok, Err, codes}
 use Rattle.std.specs.Str.{bytes_eq}
 use Rattle.chr_lex.specs.declared.fault.Kind.{Kind}
 use Rattle.chr_lex.specs.declared.fault.Kind.TheVariants.{Syntax}
@@ -258,11 +257,13 @@ body_of = each_by_commas member_at
 
 -- what stands before the first such token
 abbrev pub before : (Lexeme → Bool) → List Lexeme → List Lexeme
-before p ts = take_while (λ s. not (p s)) ts
+before p [] = []
+before p (s ∷ ts) = if p s then [] else s ∷ before p ts
 
 -- the first such token and what stands behind it
 abbrev pub from_first : (Lexeme → Bool) → List Lexeme → List Lexeme
-from_first p ts = drop (length (before p ts)) ts
+from_first p [] = []
+from_first p (s ∷ ts) = if p s then s ∷ ts else from_first p ts
 
 -- the heads: those that are kept, and those that are removed
 abbrev pub heads_by : List Lexeme → List Lexeme → Result (List Phrase × List Phrase) Kind
@@ -275,6 +276,9 @@ heads_of ts = heads_by (before is_backslash ts) (from_first is_backslash ts)
 abbrev pub all_kept : List Lexeme → Result (List Phrase × List Phrase) Kind
 all_kept ts = phrases_of ts >>= λ kept. Ok (kept, [])
 
+abbrev pub heads_by_arrow : Lexeme → List Lexeme → Result (List Phrase × List Phrase) Kind
+heads_by_arrow s ts = if is_propagate s then all_kept ts else heads_of ts
+
 -- the guard and the body
 abbrev pub consequence_by : List Lexeme → List Lexeme → Result (List Test × List Member) Kind
 consequence_by front [] = body_of front >>= λ body. Ok ([], body)
@@ -286,7 +290,7 @@ consequence_of ts = consequence_by (before is_bar ts) (from_first is_bar ts)
 abbrev pub rule_by : Option (List ℕ) → List Lexeme → List Lexeme → Result RawRule Kind
 rule_by label heads [] = Err Syntax
 rule_by label heads (s ∷ ts) =
-    (if is_propagate s then all_kept heads else heads_of heads) >>= λ hs. consequence_of ts >>= λ c.
+    heads_by_arrow s heads >>= λ hs. consequence_of ts >>= λ c.
     Ok (record { label = label; kept = hs.0; removed = hs.1; guard = c.0; body = c.1 })
 
 abbrev pub named_rule_of : Option (List ℕ) → List Lexeme → Result RawRule Kind
@@ -298,12 +302,28 @@ rule_of ts = named_rule_of None ts
 
 -- ---- declarations
 
+abbrev pub is_opened : List ℕ → Lexeme → Lexeme → Bool
+is_opened w s n = is_open s && is_named w (named n)
+
+abbrev pub are_closed : Lexeme → Lexeme → Bool
+are_closed s e = is_close s && is_close e
+
+-- `(chr))`
+abbrev pub is_module : List Lexeme → Bool
+is_module (s ∷ n ∷ c ∷ d ∷ []) = is_opened (codes "chr") s n && are_closed c d
+is_module _ = false
+
+-- `(library(chr))`
 abbrev pub is_library : List Lexeme → Bool
-is_library (a ∷ b ∷ c ∷ d ∷ e ∷ f ∷ []) = is_open a && is_named (codes "library") (named b) && is_open c && is_named (codes "chr") (named d) && is_close e && is_close f
+is_library (s ∷ n ∷ ts) = is_opened (codes "library") s n && is_module ts
 is_library _ = false
 
+abbrev pub declared_of : Lexeme → Lexeme → Lexeme → Result Declared Kind
+declared_of (Said (Name name)) (Sign mark.Slash) (Said (Number false digits)) = Ok (record { name = name; digits = digits })
+declared_of _ _ _ = Err Syntax
+
 abbrev pub declared_at : List Lexeme → Front Declared
-declared_at (Said (Name name) ∷ Sign mark.Slash ∷ Said (Number false digits) ∷ ts) = Ok (record { name = name; digits = digits }, ts)
+declared_at (name ∷ slash ∷ number ∷ ts) = declared_of name slash number >>= λ d. Ok (d, ts)
 declared_at _ = Err Syntax
 
 abbrev pub declarations_of : List Lexeme → Result (List Declared) Kind

@@ -1,5 +1,10 @@
 //! The members of a body as they are written.
-ghost use Rattle.std.specs.Prelude.{◌≡◌, ◌≤◌, ◌<◌, length, IfOk};
+
+ghost use Rattle.std.specs.Prelude.{◌≡◌, ◌≤◌, ◌<◌, length, drop, map, IfOk};
+ghost use Rattle.chr_lex.specs.Reading.{Gives};
+ghost use Rattle.chr_lex.specs.Tokens.{lexeme};
+ghost use Rattle.chr_grammar.specs.Views.{member};
+ghost use Rattle.chr_grammar.specs.Parsing.{added_at, is_member_at, last_member_at, member_at, body_of};
 
 use crate::expression::{Tree, parse_expression};
 use crate::phrase::{Phrase, parse_phrase};
@@ -23,6 +28,7 @@ fn is_member<'a, A: Allocator + Copy>(
     first: Token<'a>,
     tokens: &'a [Token<'a>],
 ) -> Result<(Member<'a, A>, &'a [Token<'a>]), ItemError>
+    ensures same { Gives (λ x. (member x.0, map lexeme x.1.now)) result (is_member_at (lexeme first.entry) (map lexeme tokens.now)) }
     ensures shorter { IfOk result (λ x. length x.1.now < length tokens.now) }
 {
     match first {
@@ -39,6 +45,7 @@ fn added<'a, A: Allocator + Copy>(
     alloc: A,
     tokens: &'a [Token<'a>],
 ) -> Result<(Member<'a, A>, &'a [Token<'a>]), ItemError>
+    ensures same { Gives (λ x. (member x.0, map lexeme x.1.now)) result (added_at (map lexeme tokens.now)) }
     ensures shorter { IfOk result (λ x. length x.1.now < length tokens.now) }
 {
     let (phrase, rest) = parse_phrase(alloc, tokens)?;
@@ -50,6 +57,7 @@ fn last_member<'a, A: Allocator + Copy>(
     alloc: A,
     tokens: &'a [Token<'a>],
 ) -> Result<(Member<'a, A>, &'a [Token<'a>]), ItemError>
+    ensures same { Gives (λ x. (member x.0, map lexeme x.1.now)) result (last_member_at (map lexeme tokens.now)) }
     ensures shorter { IfOk result (λ x. length x.1.now < length tokens.now) }
 {
     match tokens {
@@ -63,11 +71,19 @@ pub fn parse_member<'a, A: Allocator + Copy>(
     alloc: A,
     tokens: &'a [Token<'a>],
 ) -> Result<(Member<'a, A>, &'a [Token<'a>]), ItemError>
+    ensures same { Gives (λ x. (member x.0, map lexeme x.1.now)) result (member_at (map lexeme tokens.now)) }
     ensures shorter { IfOk result (λ x. length x.1.now < length tokens.now) }
 {
     match tokens {
-        [first, second, after @ ..] if is_is(*second) => is_member(alloc, *first, after),
-        [_, second, ..] if is_open(*second) => added(alloc, tokens),
+        [first, second, after @ ..] => {
+            if is_is(*second) {
+                is_member(alloc, *first, after)
+            } else if is_open(*second) {
+                added(alloc, tokens)
+            } else {
+                last_member(alloc, tokens)
+            }
+        }
         _ => last_member(alloc, tokens),
     }
 }
@@ -79,6 +95,7 @@ fn member_from<'a, A: Allocator + Copy>(
     from: usize,
 ) -> Result<(Member<'a, A>, usize), ItemError>
     requires { from ≤ length tokens.now }
+    ensures same { Gives (λ x. (member x.0, drop x.1 (map lexeme tokens.now))) result (member_at (drop from (map lexeme tokens.now))) }
     ensures next { IfOk result (λ x. (from < x.1) × (x.1 ≤ length tokens.now)) }
 {
     let (member, after) = parse_member(alloc, &tokens[from..])?;
@@ -89,7 +106,9 @@ fn member_from<'a, A: Allocator + Copy>(
 pub fn parse_members<'a, A: Allocator + Copy>(
     alloc: A,
     tokens: &'a [Token<'a>],
-) -> Result<Vec<Member<'a, A>, A>, ItemError> {
+) -> Result<Vec<Member<'a, A>, A>, ItemError>
+    ensures { Gives (λ v. map member v.items) result (body_of (map lexeme tokens.now)) }
+{
     let mut members = Vec::new(alloc);
     let mut from = 0;
     for _ in 0..tokens.len() {

@@ -1,5 +1,11 @@
 //! Declarations as they are written.
 
+ghost use Rattle.std.specs.Prelude.{◌≡◌, ◌≤◌, ◌<◌, length, drop, map, IfOk};
+ghost use Rattle.chr_lex.specs.Reading.{Gives};
+ghost use Rattle.chr_lex.specs.Tokens.{lexeme};
+ghost use Rattle.chr_grammar.specs.Views.{declared};
+ghost use Rattle.chr_grammar.specs.Parsing.{named, is_named, is_opened, are_closed, is_module, is_library, declared_of, declared_at, declarations_of};
+
 use crate::sign::{is_close, is_comma, is_open, is_slash, named};
 use chr_lex::fault::{ItemError, Kind};
 use chr_lex::token::{Token, Written};
@@ -12,33 +18,58 @@ pub struct Declared<'a> {
     pub digits: &'a [u8],
 }
 
-fn is_named(token: Token, word: &[u8]) -> bool {
+fn is_named(token: Token, word: &[u8]) -> bool
+    ensures { result ≡ is_named word.now (named (lexeme token.entry)) }
+{
     match named(token) {
         Some(name) => name == word,
         None => false,
     }
 }
 
-/// `(library(chr))`
-pub fn is_library(tokens: &[Token]) -> bool {
+/// A parenthesis and the word.
+fn is_opened(first: Token, name: Token, word: &[u8]) -> bool
+    ensures { result ≡ is_opened word.now (lexeme first.entry) (lexeme name.entry) }
+{
+    is_open(first) && is_named(name, word)
+}
+
+fn are_closed(first: Token, second: Token) -> bool
+    ensures { result ≡ are_closed (lexeme first.entry) (lexeme second.entry) }
+{
+    is_close(first) && is_close(second)
+}
+
+/// `(chr))`
+fn is_module(tokens: &[Token]) -> bool
+    ensures { result ≡ is_module (map lexeme tokens.now) }
+{
     match tokens {
-        [a, b, c, d, e, f] => {
-            is_open(*a)
-                && is_named(*b, b"library")
-                && is_open(*c)
-                && is_named(*d, b"chr")
-                && is_close(*e)
-                && is_close(*f)
+        [opening, name, first, second] => {
+            is_opened(*opening, *name, b"chr") && are_closed(*first, *second)
         }
         _ => false,
     }
 }
 
-fn parse_declared<'a>(
+/// `(library(chr))`
+pub fn is_library(tokens: &[Token]) -> bool
+    ensures { result ≡ is_library (map lexeme tokens.now) }
+{
+    match tokens {
+        [opening, name, inner @ ..] => is_opened(*opening, *name, b"library") && is_module(inner),
+        _ => false,
+    }
+}
+
+/// What is declared by a name, a slash and a number.
+fn declared_of<'a>(
     name: Token<'a>,
     slash: Token<'a>,
     number: Token<'a>,
-) -> Result<Declared<'a>, ItemError> {
+) -> Result<Declared<'a>, ItemError>
+    ensures { Gives declared result (declared_of (lexeme name.entry) (lexeme slash.entry) (lexeme number.entry)) }
+{
     if !is_slash(slash) {
         return Err(ItemError::Fault(Kind::Syntax));
     }
@@ -56,24 +87,52 @@ fn parse_declared<'a>(
     }
 }
 
+/// What is declared at the front, and the tokens behind it.
+fn parse_declared<'a>(tokens: &'a [Token<'a>]) -> Result<(Declared<'a>, &'a [Token<'a>]), ItemError>
+    ensures same { Gives (λ x. (declared x.0, map lexeme x.1.now)) result (declared_at (map lexeme tokens.now)) }
+    ensures shorter { IfOk result (λ x. length x.1.now < length tokens.now) }
+{
+    match tokens {
+        [name, slash, number, after @ ..] => {
+            let declared = declared_of(*name, *slash, *number)?;
+            Ok((declared, after))
+        }
+        _ => Err(ItemError::Fault(Kind::Syntax)),
+    }
+}
+
+/// What is declared at a place, and the place behind it.
+fn declared_from<'a>(
+    tokens: &'a [Token<'a>],
+    from: usize,
+) -> Result<(Declared<'a>, usize), ItemError>
+    requires { from ≤ length tokens.now }
+    ensures same { Gives (λ x. (declared x.0, drop x.1 (map lexeme tokens.now))) result (declared_at (drop from (map lexeme tokens.now))) }
+    ensures next { IfOk result (λ x. (from < x.1) × (x.1 ≤ length tokens.now)) }
+{
+    let (declared, after) = parse_declared(&tokens[from..])?;
+    Ok((declared, tokens.len() - after.len()))
+}
+
 /// Names with a slash and a number by commas, at least one.
 pub fn parse_declarations<'a, A: Allocator + Copy>(
     alloc: A,
     tokens: &'a [Token<'a>],
-) -> Result<Vec<Declared<'a>, A>, ItemError> {
+) -> Result<Vec<Declared<'a>, A>, ItemError>
+    ensures { Gives (λ v. map declared v.items) result (declarations_of (map lexeme tokens.now)) }
+{
     let mut all = Vec::new(alloc);
-    let mut rest = tokens;
-    while let [name, slash, number, after @ ..] = rest {
-        all.push(parse_declared(*name, *slash, *number)?)?;
-        match after {
-            [] => return Ok(all),
-            [comma, behind @ ..] => {
-                if !is_comma(*comma) {
-                    return Err(ItemError::Fault(Kind::Syntax));
-                }
-                rest = behind;
-            }
+    let mut from = 0;
+    for _ in 0..tokens.len() {
+        let (declared, next) = declared_from(tokens, from)?;
+        all.push(declared)?;
+        if next == tokens.len() {
+            return Ok(all);
         }
+        if !is_comma(tokens[next]) {
+            return Err(ItemError::Fault(Kind::Syntax));
+        }
+        from = next + 1;
     }
     Err(ItemError::Fault(Kind::Syntax))
 }

@@ -1,5 +1,11 @@
 //! Expressions as they are written.
-ghost use Rattle.std.specs.Prelude.{◌≡◌, ◌≤◌, ◌<◌, length, IfOk};
+
+ghost use Rattle.std.specs.Prelude.{◌≡◌, ◌≤◌, ◌<◌, length, map, IfOk, IfErr};
+ghost use Rattle.chr_lex.specs.Reading.{Gives};
+ghost use Rattle.chr_lex.specs.Tokens.{lexeme};
+ghost use Rattle.chr_grammar.specs.Written.{Operation};
+ghost use Rattle.chr_grammar.specs.Views.{formula};
+ghost use Rattle.chr_grammar.specs.Parsing.{sum_operator, product_operator, closed, fits, factor_at, chain_at, product_at, sum_at, expression_at};
 
 use crate::sign::{is_close, is_open};
 use chr_lex::fault::{ItemError, Kind};
@@ -22,7 +28,9 @@ pub enum Tree<'a, A: Allocator> {
 }
 
 /// `+` or `-`
-fn sum_operator(token: Token) -> Option<Operator> {
+fn sum_operator(token: Token) -> Option<Operator>
+    ensures { result ≡ sum_operator (lexeme token.entry) }
+{
     match token {
         Token::Mark(Mark::Plus) => Some(Operator::Add),
         Token::Mark(Mark::Minus) => Some(Operator::Sub),
@@ -31,7 +39,9 @@ fn sum_operator(token: Token) -> Option<Operator> {
 }
 
 /// `*`, `//`, `mod` or `rem`, which bind tighter.
-fn product_operator(token: Token) -> Option<Operator> {
+fn product_operator(token: Token) -> Option<Operator>
+    ensures { result ≡ product_operator (lexeme token.entry) }
+{
     match token {
         Token::Mark(Mark::Star) => Some(Operator::Mul),
         Token::Mark(Mark::Quotient) => Some(Operator::Quot),
@@ -42,7 +52,9 @@ fn product_operator(token: Token) -> Option<Operator> {
 }
 
 /// Whether the depth is within so much.
-fn fits<A: Allocator>(tree: &Tree<'_, A>, room: u32) -> bool {
+fn fits<A: Allocator>(tree: &Tree<'_, A>, room: u32) -> bool
+    ensures { result ≡ fits room (formula tree.now) }
+{
     if room == 0 {
         return false;
     }
@@ -59,7 +71,10 @@ fn joined<'a, A: Allocator + Copy>(
     operator: Operator,
     left: Tree<'a, A>,
     right: Tree<'a, A>,
-) -> Result<Tree<'a, A>, ItemError> {
+) -> Result<Tree<'a, A>, ItemError>
+    ensures both { IfOk result (λ t. formula t ≡ Operation operator (formula left.entry) (formula right.entry)) }
+    ensures memory { IfErr result (λ e. e ≡ ItemError.Memory) }
+{
     Ok(Tree::Operation(operator, Box::new(alloc, left)?, Box::new(alloc, right)?))
 }
 
@@ -69,6 +84,7 @@ fn closed<'a, A: Allocator + Copy>(
     inner: Tree<'a, A>,
     tokens: &'a [Token<'a>],
 ) -> Result<(Tree<'a, A>, &'a [Token<'a>]), ItemError>
+    ensures same { Gives (λ x. (formula x.0, map lexeme x.1.now)) result (closed (formula inner.entry) (map lexeme tokens.now)) }
     ensures shorter { IfOk result (λ x. length x.1.now < length tokens.now) }
 {
     match tokens {
@@ -81,11 +97,13 @@ fn closed<'a, A: Allocator + Copy>(
 
 /// No more than `room` parentheses stand in one another.
 #[cycle(expression)]
+#[tactic(auto, unfolding(crate::specs::Parsing::sum_at))]
 fn sum<'a, A: Allocator + Copy>(
     alloc: A,
     room: u32,
     tokens: &'a [Token<'a>],
 ) -> Result<(Tree<'a, A>, &'a [Token<'a>]), ItemError>
+    ensures same { Gives (λ x. (formula x.0, map lexeme x.1.now)) result (sum_at room (map lexeme tokens.now)) }
     ensures shorter { IfOk result (λ x. length x.1.now < length tokens.now) }
 {
     if room == 0 {
@@ -101,6 +119,7 @@ fn product<'a, A: Allocator + Copy>(
     room: u32,
     tokens: &'a [Token<'a>],
 ) -> Result<(Tree<'a, A>, &'a [Token<'a>]), ItemError>
+    ensures same { Gives (λ x. (formula x.0, map lexeme x.1.now)) result (product_at (sum_at room) (map lexeme tokens.now)) }
     ensures shorter { IfOk result (λ x. length x.1.now < length tokens.now) }
 {
     let (left, after) = factor(alloc, room, tokens)?;
@@ -113,6 +132,7 @@ fn factor<'a, A: Allocator + Copy>(
     room: u32,
     tokens: &'a [Token<'a>],
 ) -> Result<(Tree<'a, A>, &'a [Token<'a>]), ItemError>
+    ensures same { Gives (λ x. (formula x.0, map lexeme x.1.now)) result (factor_at (sum_at room) (map lexeme tokens.now)) }
     ensures shorter { IfOk result (λ x. length x.1.now < length tokens.now) }
 {
     match tokens {
@@ -143,6 +163,7 @@ fn more_sums<'a, A: Allocator + Copy>(
     left: Tree<'a, A>,
     tokens: &'a [Token<'a>],
 ) -> Result<(Tree<'a, A>, &'a [Token<'a>]), ItemError>
+    ensures same { Gives (λ x. (formula x.0, map lexeme x.1.now)) result (chain_at sum_operator (product_at (sum_at room)) count (formula left.entry) (map lexeme tokens.now)) }
     ensures shorter { IfOk result (λ x. length x.1.now ≤ length tokens.now) }
 {
     match tokens {
@@ -169,6 +190,7 @@ fn more_products<'a, A: Allocator + Copy>(
     left: Tree<'a, A>,
     tokens: &'a [Token<'a>],
 ) -> Result<(Tree<'a, A>, &'a [Token<'a>]), ItemError>
+    ensures same { Gives (λ x. (formula x.0, map lexeme x.1.now)) result (chain_at product_operator (factor_at (sum_at room)) count (formula left.entry) (map lexeme tokens.now)) }
     ensures shorter { IfOk result (λ x. length x.1.now ≤ length tokens.now) }
 {
     match tokens {
@@ -188,10 +210,12 @@ fn more_products<'a, A: Allocator + Copy>(
 }
 
 /// The expression at the front, and the tokens behind it.
+#[tactic(auto, unfolding(crate::specs::Parsing::expression_at))]
 pub fn parse_expression<'a, A: Allocator + Copy>(
     alloc: A,
     tokens: &'a [Token<'a>],
 ) -> Result<(Tree<'a, A>, &'a [Token<'a>]), ItemError>
+    ensures same { Gives (λ x. (formula x.0, map lexeme x.1.now)) result (expression_at (map lexeme tokens.now)) }
     ensures shorter { IfOk result (λ x. length x.1.now < length tokens.now) }
 {
     let (tree, after) = sum(alloc, MOST_DEPTH, tokens)?;

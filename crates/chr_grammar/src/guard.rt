@@ -1,5 +1,10 @@
 //! The members of a guard as they are written.
-ghost use Rattle.std.specs.Prelude.{◌≡◌, ◌≤◌, ◌<◌, length, IfOk};
+
+ghost use Rattle.std.specs.Prelude.{◌≡◌, ◌≤◌, ◌<◌, length, drop, map, IfOk};
+ghost use Rattle.chr_lex.specs.Reading.{Gives};
+ghost use Rattle.chr_lex.specs.Tokens.{word, lexeme};
+ghost use Rattle.chr_grammar.specs.Views.{test};
+ghost use Rattle.chr_grammar.specs.Parsing.{relation, equality, equal, other_side_at, plain_test_at, compared_at, test_at, tests_of};
 
 use crate::expression::{Tree, parse_expression};
 use crate::sign::{is_comma, is_true};
@@ -21,7 +26,9 @@ pub enum Test<'a, A: Allocator> {
 }
 
 /// A comparison of numbers.
-fn relation(token: Token) -> Option<Relation> {
+fn relation(token: Token) -> Option<Relation>
+    ensures { result ≡ relation (lexeme token.entry) }
+{
     match token {
         Token::Mark(Mark::Less) => Some(Relation::Less),
         Token::Mark(Mark::AtMost) => Some(Relation::LessEqual),
@@ -34,7 +41,9 @@ fn relation(token: Token) -> Option<Relation> {
 }
 
 /// `==`, or `\==`, which is false
-fn equality(token: Token) -> Option<bool> {
+fn equality(token: Token) -> Option<bool>
+    ensures { result ≡ equality (lexeme token.entry) }
+{
     match token {
         Token::Mark(Mark::Equals) => Some(true),
         Token::Mark(Mark::Differs) => Some(false),
@@ -42,7 +51,9 @@ fn equality(token: Token) -> Option<bool> {
     }
 }
 
-fn equal<'a, A: Allocator>(same: bool, left: Written<'a>, right: Written<'a>) -> Test<'a, A> {
+fn equal<'a, A: Allocator>(same: bool, left: Written<'a>, right: Written<'a>) -> Test<'a, A>
+    ensures { test result ≡ equal same (word left.entry) (word right.entry) }
+{
     if same {
         Test::Same(left, right)
     } else {
@@ -55,6 +66,7 @@ fn compared<'a, A: Allocator + Copy>(
     alloc: A,
     tokens: &'a [Token<'a>],
 ) -> Result<(Test<'a, A>, &'a [Token<'a>]), ItemError>
+    ensures same { Gives (λ x. (test x.0, map lexeme x.1.now)) result (compared_at (map lexeme tokens.now)) }
     ensures shorter { IfOk result (λ x. length x.1.now < length tokens.now) }
 {
     let (left, after) = parse_expression(alloc, tokens)?;
@@ -76,6 +88,7 @@ fn other_side<'a, A: Allocator>(
     left: Written<'a>,
     tokens: &'a [Token<'a>],
 ) -> Result<(Test<'a, A>, &'a [Token<'a>]), ItemError>
+    ensures same { Gives (λ x. (test x.0, map lexeme x.1.now)) result (other_side_at same (word left.entry) (map lexeme tokens.now)) }
     ensures shorter { IfOk result (λ x. length x.1.now < length tokens.now) }
 {
     match tokens {
@@ -92,6 +105,7 @@ fn plain_test<'a, A: Allocator + Copy>(
     alloc: A,
     tokens: &'a [Token<'a>],
 ) -> Result<(Test<'a, A>, &'a [Token<'a>]), ItemError>
+    ensures same { Gives (λ x. (test x.0, map lexeme x.1.now)) result (plain_test_at (map lexeme tokens.now)) }
     ensures shorter { IfOk result (λ x. length x.1.now < length tokens.now) }
 {
     match tokens {
@@ -105,6 +119,7 @@ pub fn parse_test<'a, A: Allocator + Copy>(
     alloc: A,
     tokens: &'a [Token<'a>],
 ) -> Result<(Test<'a, A>, &'a [Token<'a>]), ItemError>
+    ensures same { Gives (λ x. (test x.0, map lexeme x.1.now)) result (test_at (map lexeme tokens.now)) }
     ensures shorter { IfOk result (λ x. length x.1.now < length tokens.now) }
 {
     match tokens {
@@ -126,6 +141,7 @@ fn test_from<'a, A: Allocator + Copy>(
     from: usize,
 ) -> Result<(Test<'a, A>, usize), ItemError>
     requires { from ≤ length tokens.now }
+    ensures same { Gives (λ x. (test x.0, drop x.1 (map lexeme tokens.now))) result (test_at (drop from (map lexeme tokens.now))) }
     ensures next { IfOk result (λ x. (from < x.1) × (x.1 ≤ length tokens.now)) }
 {
     let (test, after) = parse_test(alloc, &tokens[from..])?;
@@ -136,7 +152,9 @@ fn test_from<'a, A: Allocator + Copy>(
 pub fn parse_tests<'a, A: Allocator + Copy>(
     alloc: A,
     tokens: &'a [Token<'a>],
-) -> Result<Vec<Test<'a, A>, A>, ItemError> {
+) -> Result<Vec<Test<'a, A>, A>, ItemError>
+    ensures { Gives (λ v. map test v.items) result (tests_of (map lexeme tokens.now)) }
+{
     let mut tests = Vec::new(alloc);
     let mut from = 0;
     for _ in 0..tokens.len() {

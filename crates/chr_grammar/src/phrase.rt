@@ -1,5 +1,10 @@
 //! Atoms as they are written, and lists of them.
-ghost use Rattle.std.specs.Prelude.{◌≡◌, ◌≤◌, ◌<◌, length, IfOk};
+
+ghost use Rattle.std.specs.Prelude.{◌≡◌, ◌≤◌, ◌<◌, length, drop, map, IfOk};
+ghost use Rattle.chr_lex.specs.Reading.{Gives};
+ghost use Rattle.chr_lex.specs.Tokens.{word, lexeme};
+ghost use Rattle.chr_grammar.specs.Views.{phrase};
+ghost use Rattle.chr_grammar.specs.Parsing.{is_reserved, terms_at, args_at, phrase_at, phrases_of};
 
 use crate::sign::{is_close, is_comma, is_open};
 use chr_lex::fault::{ItemError, Kind};
@@ -14,7 +19,9 @@ pub struct Phrase<'a, A: Allocator> {
 }
 
 /// These words are no atoms.
-fn is_reserved(name: &[u8]) -> bool {
+fn is_reserved(name: &[u8]) -> bool
+    ensures { result ≡ is_reserved name.now }
+{
     name == b"true".as_slice() || name == b"fail".as_slice() || name == b"false".as_slice()
 }
 
@@ -23,6 +30,7 @@ fn terms<'a, A: Allocator + Copy>(
     alloc: A,
     tokens: &'a [Token<'a>],
 ) -> Result<(Vec<Written<'a>, A>, &'a [Token<'a>]), ItemError>
+    ensures same { Gives (λ x. (map word x.0.items, map lexeme x.1.now)) result (terms_at (map lexeme tokens.now)) }
     ensures shorter { IfOk result (λ x. length x.1.now < length tokens.now) }
 {
     let mut terms = Vec::new(alloc);
@@ -48,6 +56,7 @@ pub fn parse_phrase<'a, A: Allocator + Copy>(
     alloc: A,
     tokens: &'a [Token<'a>],
 ) -> Result<(Phrase<'a, A>, &'a [Token<'a>]), ItemError>
+    ensures same { Gives (λ x. (phrase x.0, map lexeme x.1.now)) result (phrase_at (map lexeme tokens.now)) }
     ensures shorter { IfOk result (λ x. length x.1.now < length tokens.now) }
 {
     match tokens {
@@ -65,6 +74,7 @@ fn args<'a, A: Allocator + Copy>(
     name: &'a [u8],
     tokens: &'a [Token<'a>],
 ) -> Result<(Phrase<'a, A>, &'a [Token<'a>]), ItemError>
+    ensures same { Gives (λ x. (phrase x.0, map lexeme x.1.now)) result (args_at name.now (map lexeme tokens.now)) }
     ensures shorter { IfOk result (λ x. length x.1.now ≤ length tokens.now) }
 {
     match tokens {
@@ -87,6 +97,7 @@ fn phrase_from<'a, A: Allocator + Copy>(
     from: usize,
 ) -> Result<(Phrase<'a, A>, usize), ItemError>
     requires { from ≤ length tokens.now }
+    ensures same { Gives (λ x. (phrase x.0, drop x.1 (map lexeme tokens.now))) result (phrase_at (drop from (map lexeme tokens.now))) }
     ensures next { IfOk result (λ x. (from < x.1) × (x.1 ≤ length tokens.now)) }
 {
     let (phrase, after) = parse_phrase(alloc, &tokens[from..])?;
@@ -97,7 +108,9 @@ fn phrase_from<'a, A: Allocator + Copy>(
 pub fn parse_phrases<'a, A: Allocator + Copy>(
     alloc: A,
     tokens: &'a [Token<'a>],
-) -> Result<Vec<Phrase<'a, A>, A>, ItemError> {
+) -> Result<Vec<Phrase<'a, A>, A>, ItemError>
+    ensures { Gives (λ v. map phrase v.items) result (phrases_of (map lexeme tokens.now)) }
+{
     let mut phrases = Vec::new(alloc);
     let mut from = 0;
     for _ in 0..tokens.len() {

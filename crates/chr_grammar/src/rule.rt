@@ -1,5 +1,11 @@
 //! Rules as they are written.
-ghost use Rattle.std.specs.Prelude.{◌≡◌, ◌≤◌, ◌<◌, length};
+
+ghost use Rattle.std.specs.Prelude.{◌≡◌, ◌≤◌, length, map, option_map, not};
+ghost use Rattle.std.specs.List.{take_while};
+ghost use Rattle.chr_lex.specs.Reading.{Gives};
+ghost use Rattle.chr_lex.specs.Tokens.{lexeme};
+ghost use Rattle.chr_grammar.specs.Views.{phrase, test, member, raw_rule};
+ghost use Rattle.chr_grammar.specs.Parsing.{is_arrow, is_backslash, is_bar, heads_of, all_kept, heads_by_arrow, consequence_of, named_rule_of, rule_of};
 
 use crate::body::{Member, parse_members};
 use crate::guard::{Test, parse_tests};
@@ -34,14 +40,16 @@ pub struct RawRule<'a, A: Allocator> {
 
 /// How many tokens stand before the first arrow.
 fn before_arrow(tokens: &[Token]) -> usize
-    ensures { result ≤ length tokens.now }
+    ensures same { result ≡ length (take_while (λ t. not (is_arrow (lexeme t))) tokens.now) }
+    ensures within { result ≤ length tokens.now }
 {
     tokens.iter().take_while(|token| !is_arrow(**token)).count()
 }
 
 /// How many tokens stand before the first `\`.
 fn before_backslash(tokens: &[Token]) -> usize
-    ensures { result ≤ length tokens.now }
+    ensures same { result ≡ length (take_while (λ t. not (is_backslash (lexeme t))) tokens.now) }
+    ensures within { result ≤ length tokens.now }
 {
     tokens
         .iter()
@@ -51,7 +59,8 @@ fn before_backslash(tokens: &[Token]) -> usize
 
 /// How many tokens stand before the first `|`.
 fn before_bar(tokens: &[Token]) -> usize
-    ensures { result ≤ length tokens.now }
+    ensures same { result ≡ length (take_while (λ t. not (is_bar (lexeme t))) tokens.now) }
+    ensures within { result ≤ length tokens.now }
 {
     tokens.iter().take_while(|token| !is_bar(**token)).count()
 }
@@ -60,7 +69,9 @@ fn before_bar(tokens: &[Token]) -> usize
 fn parse_heads<'a, A: Allocator + Copy>(
     alloc: A,
     tokens: &'a [Token<'a>],
-) -> Result<Heads<'a, A>, ItemError> {
+) -> Result<Heads<'a, A>, ItemError>
+    ensures { Gives (λ h. (map phrase h.kept.items, map phrase h.removed.items)) result (heads_of (map lexeme tokens.now)) }
+{
     let at = before_backslash(tokens);
     if at == tokens.len() {
         return Ok(Heads {
@@ -78,18 +89,37 @@ fn parse_heads<'a, A: Allocator + Copy>(
 fn all_kept<'a, A: Allocator + Copy>(
     alloc: A,
     tokens: &'a [Token<'a>],
-) -> Result<Heads<'a, A>, ItemError> {
+) -> Result<Heads<'a, A>, ItemError>
+    ensures { Gives (λ h. (map phrase h.kept.items, map phrase h.removed.items)) result (all_kept (map lexeme tokens.now)) }
+{
     Ok(Heads {
         kept: parse_phrases(alloc, tokens)?,
         removed: Vec::new(alloc),
     })
 }
 
+/// The heads of a rule with this arrow.
+fn heads_by_arrow<'a, A: Allocator + Copy>(
+    alloc: A,
+    arrow: Token<'a>,
+    tokens: &'a [Token<'a>],
+) -> Result<Heads<'a, A>, ItemError>
+    ensures { Gives (λ h. (map phrase h.kept.items, map phrase h.removed.items)) result (heads_by_arrow (lexeme arrow.entry) (map lexeme tokens.now)) }
+{
+    if is_propagate(arrow) {
+        all_kept(alloc, tokens)
+    } else {
+        parse_heads(alloc, tokens)
+    }
+}
+
 /// The guard, if there is one, and the body.
 fn parse_consequence<'a, A: Allocator + Copy>(
     alloc: A,
     tokens: &'a [Token<'a>],
-) -> Result<Consequence<'a, A>, ItemError> {
+) -> Result<Consequence<'a, A>, ItemError>
+    ensures { Gives (λ c. (map test c.guard.items, map member c.body.items)) result (consequence_of (map lexeme tokens.now)) }
+{
     let at = before_bar(tokens);
     if at == tokens.len() {
         return Ok(Consequence {
@@ -108,16 +138,14 @@ fn named_rule<'a, A: Allocator + Copy>(
     alloc: A,
     label: Option<&'a [u8]>,
     tokens: &'a [Token<'a>],
-) -> Result<RawRule<'a, A>, ItemError> {
+) -> Result<RawRule<'a, A>, ItemError>
+    ensures { Gives raw_rule result (named_rule_of (option_map (λ name. name.now) label.entry) (map lexeme tokens.now)) }
+{
     let at = before_arrow(tokens);
     if at == tokens.len() {
         return Err(ItemError::Fault(Kind::Syntax));
     }
-    let heads = if is_propagate(tokens[at]) {
-        all_kept(alloc, &tokens[..at])?
-    } else {
-        parse_heads(alloc, &tokens[..at])?
-    };
+    let heads = heads_by_arrow(alloc, tokens[at], &tokens[..at])?;
     let consequence = parse_consequence(alloc, &tokens[at + 1..])?;
     Ok(RawRule {
         label,
@@ -130,12 +158,19 @@ fn named_rule<'a, A: Allocator + Copy>(
 pub fn parse_rule<'a, A: Allocator + Copy>(
     alloc: A,
     tokens: &'a [Token<'a>],
-) -> Result<RawRule<'a, A>, ItemError> {
+) -> Result<RawRule<'a, A>, ItemError>
+    ensures { Gives raw_rule result (rule_of (map lexeme tokens.now)) }
+{
     match tokens {
-        [first, second, after @ ..] if is_at(*second) => match named(*first) {
-            Some(name) => named_rule(alloc, Some(name), after),
-            None => Err(ItemError::Fault(Kind::Syntax)),
-        },
+        [first, second, after @ ..] => {
+            if !is_at(*second) {
+                return named_rule(alloc, None, tokens);
+            }
+            match named(*first) {
+                Some(name) => named_rule(alloc, Some(name), after),
+                None => Err(ItemError::Fault(Kind::Syntax)),
+            }
+        }
         _ => named_rule(alloc, None, tokens),
     }
 }

@@ -1,5 +1,11 @@
 //! Declarations and rules.
 
+ghost use Rattle.std.specs.Prelude.{◌≡◌, map};
+ghost use Rattle.chr_lex.specs.Reading.{Gives};
+ghost use Rattle.chr_lex.specs.Tokens.{lexeme};
+ghost use Rattle.chr_grammar.specs.Views.{statement};
+ghost use Rattle.chr_grammar.specs.Parsing.{directive_of, a_rule, statement_of};
+
 use crate::declaration::{Declared, is_library, parse_declarations};
 use crate::rule::{RawRule, parse_rule};
 use crate::sign::{is_declares, named};
@@ -22,7 +28,9 @@ fn directive<'a, A: Allocator + Copy>(
     alloc: A,
     name: &'a [u8],
     tokens: &'a [Token<'a>],
-) -> Result<Statement<'a, A>, ItemError> {
+) -> Result<Statement<'a, A>, ItemError>
+    ensures { Gives statement result (directive_of name.now (map lexeme tokens.now)) }
+{
     if name == b"chr_constraint".as_slice() {
         return Ok(Statement::Declaration(parse_declarations(alloc, tokens)?));
     }
@@ -32,16 +40,33 @@ fn directive<'a, A: Allocator + Copy>(
     Err(ItemError::Fault(Kind::Syntax))
 }
 
+/// The rule that the tokens are.
+fn a_rule<'a, A: Allocator + Copy>(
+    alloc: A,
+    tokens: &'a [Token<'a>],
+) -> Result<Statement<'a, A>, ItemError>
+    ensures { Gives statement result (a_rule (map lexeme tokens.now)) }
+{
+    Ok(Statement::Rule(parse_rule(alloc, tokens)?))
+}
+
 /// The declaration or the rule that the tokens are.
 pub fn parse_statement<'a, A: Allocator + Copy>(
     alloc: A,
     tokens: &'a [Token<'a>],
-) -> Result<Statement<'a, A>, ItemError> {
+) -> Result<Statement<'a, A>, ItemError>
+    ensures { Gives statement result (statement_of (map lexeme tokens.now)) }
+{
     match tokens {
-        [first, second, after @ ..] if is_declares(*first) => match named(*second) {
-            Some(name) => directive(alloc, name, after),
-            None => Err(ItemError::Fault(Kind::Syntax)),
-        },
-        _ => Ok(Statement::Rule(parse_rule(alloc, tokens)?)),
+        [first, second, after @ ..] => {
+            if !is_declares(*first) {
+                return a_rule(alloc, tokens);
+            }
+            match named(*second) {
+                Some(name) => directive(alloc, name, after),
+                None => Err(ItemError::Fault(Kind::Syntax)),
+            }
+        }
+        _ => a_rule(alloc, tokens),
     }
 }

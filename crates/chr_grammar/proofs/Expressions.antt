@@ -1,0 +1,41 @@
+-- Expressions: a step of the reading.
+use Rattle.std.proofs.Common.{◌≡◌, ◌≤◌, ℕ, zero, suc, ◌-◌, List, [], ◌∷◌, length, take, drop, get_or, map, refl, sym, ap, ◌∙◌, arith, Option, Some, Ok, Err}
+use Rattle.std.proofs.lemmas.Grind.{common_steps}
+use Rattle.chr_lex.specs.declared.fault.ItemError.{ItemError}
+use Rattle.chr_lex.specs.declared.fault.ItemError.TheVariants as errors
+use Rattle.chr_lex.specs.declared.token.Token.{Token}
+use Rattle.chr_lex.specs.Reading.{Fails}
+use Rattle.chr_lex.specs.Tokens.{lexeme, Lexeme}
+use Rattle.chr_rule.specs.declared.expression.Operator.{Operator}
+use Rattle.chr_grammar.specs.Written.{Formula, Operation}
+use Rattle.chr_grammar.specs.Parsing.{Front, sum_operator, chain_at, product_at, sum_at}
+
+pub sum_fails : (e : ItemError) (n : ℕ) (ts : List Lexeme) → (n ≡ 0 → ⊥) → Fails e (product_at (sum_at (n - 1)) ts) → Fails e (sum_at n ts)
+unfolding sum_at
+sum_fails errors.Memory n ts some h = tt
+sum_fails (errors.Fault k) zero ts some h = absurd (some refl)
+sum_fails (errors.Fault k) (suc n) ts some h =
+    let e : suc n - 1 ≡ n = omega arith in
+    let there : product_at (sum_at n) ts ≡ Err k = ap (λ (m : ℕ). product_at (sum_at m) ts) (sym e) ∙ h in
+    rw there refl
+
+pub sum_steps : (n : ℕ) (ts : List Lexeme) (left : Formula) (after : List Lexeme) → (n ≡ 0 → ⊥) → product_at (sum_at (n - 1)) ts ≡ Ok (left, after) → sum_at n ts ≡ chain_at sum_operator (product_at (sum_at (n - 1))) 15 left after
+unfolding sum_at
+sum_steps zero ts left after some found = absurd (some refl)
+sum_steps (suc n) ts left after some found =
+    let e : suc n - 1 ≡ n = omega arith in
+    let there : product_at (sum_at n) ts ≡ Ok (left, after) = ap (λ (m : ℕ). product_at (sum_at m) ts) (sym e) ∙ found in
+    rw there (ap (λ (m : ℕ). chain_at sum_operator (product_at (sum_at m)) 15 left after) (sym e))
+
+whole : (ts : List Token) → take (suc (length ts) - 1) ts ≡ ts
+whole ts = grind (arith, common_steps)
+
+pub chain_steps : (operator : Lexeme → Option Operator) (side : List Lexeme → Front Formula) (n : ℕ) (left right both : Formula) (o : Operator) (ts : List Token) (d : Token) (rest : List Lexeme) → (n ≡ 0 → ⊥) → 1 ≤ length ts
+    → Some o ≡ operator (lexeme (get_or ts 0 d)) → side (map lexeme (take (length ts - 1) (drop 1 ts))) ≡ Ok (right, rest) → both ≡ Operation o left right
+    → chain_at operator side n left (map lexeme ts) ≡ chain_at operator side (n - 1) both rest
+chain_steps operator side n left right both o [] d rest some long is found joined = absurd (omega arith)
+chain_steps operator side zero left right both o (t ∷ ts) d rest some long is found joined = absurd (some refl)
+chain_steps operator side (suc n) left right both o (t ∷ ts) d rest some long is found joined =
+    let e : suc n - 1 ≡ n = omega arith in
+    let there : side (map lexeme ts) ≡ Ok (right, rest) = ap (λ (x : List Token). side (map lexeme x)) (sym (whole ts)) ∙ found in
+    rw (← is, there, e, joined) refl

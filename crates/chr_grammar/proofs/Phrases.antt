@@ -1,0 +1,68 @@
+-- What is read as an atom is spelled so.
+use Rattle.std.proofs.Common.{◌≡◌, ℕ, List, [], ◌∷◌, ◌++◌, refl, sym, ap, subst, Ok, Err}
+use Rattle.std.proofs.lemmas.Bool.{cond_both}
+use Rattle.chr_lex.specs.declared.mark.Mark.TheVariants.{Open, Comma}
+use Rattle.chr_lex.specs.Reading.{◌>>=◌}
+use Rattle.chr_lex.specs.Tokens.{Word, Name, Variable, Number, Lexeme, Said, Sign}
+use Rattle.chr_grammar.specs.Written.{Phrase}
+use Rattle.chr_grammar.specs.Parsing.{Front, is_open, is_close, is_comma, is_reserved, terms_at, args_at, phrase_at}
+use Rattle.chr_grammar.specs.Spelling.{further, arguments, phrase_spelled, MayStand, IsPhrase}
+use Rattle.chr_grammar.proofs.Signs.{open_is, close_is, comma_is}
+
+abbrev TermsTaken : List Lexeme → List Word → List Lexeme → Type 0
+TermsTaken ts [] rest = ⊥
+TermsTaken ts (w ∷ ws) rest = ts ≡ Said w ∷ (further ws ++ rest)
+
+abbrev TermsRead : List Lexeme → Front (List Word) → Type 0
+TermsRead ts (Ok x) = TermsTaken ts x.0 x.1
+TermsRead ts (Err k) = Unit {0}
+
+terms_comma : (w : Word) (ts : List Lexeme) (ws : List Word) (rest : List Lexeme) → TermsTaken ts ws rest → TermsTaken (Said w ∷ Sign Comma ∷ ts) (w ∷ ws) rest
+terms_comma w ts [] rest h = absurd h
+terms_comma w ts (v ∷ vs) rest h = ap (λ (x : List Lexeme). Said w ∷ Sign Comma ∷ x) h
+
+terms_more : (w : Word) (ts : List Lexeme) (read : Front (List Word)) → TermsRead ts read → TermsRead (Said w ∷ Sign Comma ∷ ts) (read >>= λ x. Ok (w ∷ x.0, x.1))
+terms_more w ts (Ok x) h = terms_comma w ts x.0 x.1 h
+terms_more w ts (Err k) h = tt
+
+terms_found : (ts : List Lexeme) → TermsRead ts (terms_at ts)
+terms_found [] = tt
+terms_found (Sign m ∷ ts) = tt
+terms_found (Said w ∷ []) = tt
+terms_found (Said w ∷ s ∷ ts) =
+    cond_both (is_comma s) _ _ (TermsRead (Said w ∷ s ∷ ts))
+    (λ h. subst (λ (s : Lexeme). TermsRead (Said w ∷ s ∷ ts) (terms_at ts >>= λ x. Ok (w ∷ x.0, x.1))) (sym (comma_is s h)) (terms_more w ts (terms_at ts) (terms_found ts)))
+    (λ h. cond_both (is_close s) _ _ (TermsRead (Said w ∷ s ∷ ts)) (λ h. ap (λ (s : Lexeme). Said w ∷ s ∷ ts) (close_is s h)) (λ h. tt))
+
+abbrev pub PhraseRead : List Lexeme → Front Phrase → Type 0
+PhraseRead ts (Ok x) = IsPhrase x.0 × (ts ≡ phrase_spelled x.0 ++ x.1)
+PhraseRead ts (Err k) = Unit {0}
+
+args_some : (name : List ℕ) (ts : List Lexeme) (ws : List Word) (rest : List Lexeme) → TermsTaken ts ws rest
+    → MayStand name ws × (Said (Name name) ∷ Sign Open ∷ ts ≡ Said (Name name) ∷ (arguments ws ++ rest))
+args_some name ts [] rest h = absurd h
+args_some name ts (w ∷ ws) rest h = (tt, ap (λ (x : List Lexeme). Said (Name name) ∷ Sign Open ∷ x) h)
+
+args_read : (name : List ℕ) (ts : List Lexeme) (read : Front (List Word)) → TermsRead ts read → PhraseRead (Said (Name name) ∷ Sign Open ∷ ts) (read >>= λ x. Ok (record { name = name; args = x.0 }, x.1))
+args_read name ts (Ok x) h = args_some name ts x.0 x.1 h
+args_read name ts (Err k) h = tt
+
+args_found : (name : List ℕ) (ts : List Lexeme) → PhraseRead (Said (Name name) ∷ ts) (args_at name ts)
+args_found name [] = cond_both (is_reserved name) _ _ (PhraseRead (Said (Name name) ∷ [])) (λ h. tt) (λ h. (h, refl))
+args_found name (s ∷ ts) =
+    cond_both (is_open s) _ _ (PhraseRead (Said (Name name) ∷ s ∷ ts))
+    (λ h. subst (λ (s : Lexeme). PhraseRead (Said (Name name) ∷ s ∷ ts) (terms_at ts >>= λ x. Ok (record { name = name; args = x.0 }, x.1))) (sym (open_is s h)) (args_read name ts (terms_at ts) (terms_found ts)))
+    (λ h. cond_both (is_reserved name) _ _ (PhraseRead (Said (Name name) ∷ s ∷ ts)) (λ h. tt) (λ h. (h, refl)))
+
+pub phrase_found : (ts : List Lexeme) → PhraseRead ts (phrase_at ts)
+phrase_found [] = tt
+phrase_found (Sign m ∷ ts) = tt
+phrase_found (Said (Name name) ∷ ts) = args_found name ts
+phrase_found (Said (Variable name) ∷ ts) = tt
+phrase_found (Said (Number negative digits) ∷ ts) = tt
+
+pub phrase_so : (ts r : List Lexeme) (p : Phrase) → phrase_at ts ≡ Ok (p, r) → ts ≡ phrase_spelled p ++ r
+phrase_so ts r p h = (subst (PhraseRead ts) h (phrase_found ts)).1
+
+pub phrase_stands : (ts r : List Lexeme) (p : Phrase) → phrase_at ts ≡ Ok (p, r) → IsPhrase p
+phrase_stands ts r p h = (subst (PhraseRead ts) h (phrase_found ts)).0
