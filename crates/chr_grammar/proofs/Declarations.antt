@@ -1,34 +1,38 @@
 -- What is read as a declaration is spelled so.
 use Rattle.std.proofs.Common.{◌≡◌, false, List, [], ◌∷◌, ◌++◌, refl, ap, subst, Result, Ok, Err}
 use Rattle.chr_lex.specs.declared.fault.Kind.{Kind}
+use Rattle.chr_lex.specs.declared.fault.Kind.TheVariants.{Syntax}
 use Rattle.chr_lex.specs.declared.mark.Mark.TheVariants as mark
 use Rattle.chr_lex.specs.Reading.{◌>>=◌}
 use Rattle.chr_lex.specs.Tokens.{Name, Number, Lexeme, Said, Sign}
 use Rattle.chr_grammar.specs.Written.{Declared}
 use Rattle.chr_grammar.specs.Parsing.{Front, declared_of, declared_at}
 use Rattle.chr_grammar.specs.Spelling.{declared_spelled}
+use Rattle.chr_grammar.proofs.Fronts.{FrontRead}
+
+abbrev pub AnyDeclared : Declared → Type 0
+AnyDeclared d = Unit {0}
 
 abbrev DeclaredIs : List Lexeme → Result Declared Kind → Type 0
 DeclaredIs ts (Ok d) = ts ≡ declared_spelled d
-DeclaredIs ts (Err k) = Unit {0}
+DeclaredIs ts (Err k) = k ≡ Syntax
 
 declared_is : (n s d : Lexeme) → DeclaredIs (n ∷ s ∷ d ∷ []) (declared_of n s d)
 declared_is (Said (Name name)) (Sign mark.Slash) (Said (Number false digits)) = refl
-declared_is _ _ _ = tt
+declared_is _ _ _ = refl
 
 abbrev pub DeclaredRead : List Lexeme → Front Declared → Type 0
-DeclaredRead ts (Ok x) = ts ≡ declared_spelled x.0 ++ x.1
-DeclaredRead ts (Err k) = Unit {0}
+DeclaredRead = FrontRead AnyDeclared declared_spelled
 
 behind_found : (a b c : Lexeme) (ts : List Lexeme) (read : Result Declared Kind) → DeclaredIs (a ∷ b ∷ c ∷ []) read → DeclaredRead (a ∷ b ∷ c ∷ ts) (read >>= λ d. Ok (d, ts))
-behind_found a b c ts (Ok d) h = ap (λ (x : List Lexeme). x ++ ts) h
-behind_found a b c ts (Err k) h = tt
+behind_found a b c ts (Ok d) h = (tt, ap (λ (x : List Lexeme). x ++ ts) h)
+behind_found a b c ts (Err k) h = h
 
 pub declared_found : (ts : List Lexeme) → DeclaredRead ts (declared_at ts)
-declared_found [] = tt
-declared_found (a ∷ []) = tt
-declared_found (a ∷ b ∷ []) = tt
+declared_found [] = refl
+declared_found (a ∷ []) = refl
+declared_found (a ∷ b ∷ []) = refl
 declared_found (a ∷ b ∷ c ∷ ts) = behind_found a b c ts (declared_of a b c) (declared_is a b c)
 
 pub declared_so : (ts r : List Lexeme) (d : Declared) → declared_at ts ≡ Ok (d, r) → ts ≡ declared_spelled d ++ r
-declared_so ts r d h = subst (DeclaredRead ts) h (declared_found ts)
+declared_so ts r d h = (subst (DeclaredRead ts) h (declared_found ts)).1

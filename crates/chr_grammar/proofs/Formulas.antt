@@ -13,6 +13,7 @@ use Rattle.chr_grammar.specs.declared.expression.TheConstants.{MOST_DEPTH}
 use Rattle.chr_grammar.specs.Written.{Formula, Number, Variable, Group, Operation}
 use Rattle.chr_grammar.specs.Parsing.{Front, is_open, is_close, either, sum_operator, product_operator, closed, fits, fitting, factor_at, chain_at, product_at, sum_at, expression_at}
 use Rattle.chr_grammar.specs.Spelling.{operator_sign, formula_spelled, binds, holds, depth, IsGrouped, IsExpression}
+use Rattle.chr_grammar.proofs.Fronts.{FrontRead}
 use Rattle.chr_grammar.proofs.Signs.{open_is, close_is}
 
 -- the expression holds together so tightly, and stands at the front
@@ -21,30 +22,30 @@ Taken k ts f r = IsGrouped f × (k ≤ holds f) × (ts ≡ formula_spelled f ++ 
 
 abbrev pub FormulaRead : ℕ → List Lexeme → Front Formula → Type 0
 FormulaRead k ts (Ok x) = Taken k ts x.0 x.1
-FormulaRead k ts (Err e) = Unit {0}
+FormulaRead k ts (Err e) = e ≡ Syntax
 
 closed_found : (ts : List Lexeme) (f : Formula) (r : List Lexeme) → Taken 1 ts f r → FormulaRead 3 (Sign Open ∷ ts) (closed f r)
-closed_found ts f [] h = tt
+closed_found ts f [] h = refl
 closed_found ts f (s ∷ r) h =
     cond_both (is_close s) _ _ (FormulaRead 3 (Sign Open ∷ ts))
     (λ c.
     let at : ts ≡ formula_spelled f ++ (Sign Close ∷ r) = h.2 ∙ ap (λ (s : Lexeme). formula_spelled f ++ (s ∷ r)) (close_is s c) in
     (h.0, omega arith, ap (λ (x : List Lexeme). Sign Open ∷ x) (at ∙ sym (append_assoc (formula_spelled f) (Sign Close ∷ []) r))))
-    (λ c. tt)
+    (λ c. refl)
 
 group_found : (ts : List Lexeme) (read : Front Formula) → FormulaRead 1 ts read → FormulaRead 3 (Sign Open ∷ ts) (read >>= λ x. closed x.0 x.1)
 group_found ts (Ok x) h = closed_found ts x.0 x.1 h
-group_found ts (Err e) h = tt
+group_found ts (Err e) h = h
 
 factor_found : (inner : List Lexeme → Front Formula) → ((ts : List Lexeme) → FormulaRead 1 ts (inner ts)) → (ts : List Lexeme) → FormulaRead 3 ts (factor_at inner ts)
-factor_found inner h [] = tt
-factor_found inner h (Said (word.Name x) ∷ ts) = tt
+factor_found inner h [] = refl
+factor_found inner h (Said (word.Name x) ∷ ts) = refl
 factor_found inner h (Said (word.Variable x) ∷ ts) = (tt, omega arith, refl)
 factor_found inner h (Said (word.Number negative digits) ∷ ts) = (tt, omega arith, refl)
 factor_found inner h (Sign m ∷ ts) =
     cond_both (is_open (Sign m)) _ _ (FormulaRead 3 (Sign m ∷ ts))
     (λ o. subst (λ (s : Lexeme). FormulaRead 3 (s ∷ ts) (inner ts >>= λ x. closed x.0 x.1)) (sym (open_is (Sign m) o)) (group_found ts (inner ts) (h ts)))
-    (λ o. tt)
+    (λ o. refl)
 
 -- the operators of a level
 abbrev pub OfLevel : ℕ → (Lexeme → Option Operator) → Type 0
@@ -61,11 +62,11 @@ joined_found k ts us f g o s r is left right =
 further_found : (k : ℕ) (ts us : List Lexeme) (f : Formula) (o : Operator) (s : Lexeme) (read : Front Formula) (more : Formula → List Lexeme → Front Formula) → (binds o ≡ k) × (s ≡ operator_sign o) → Taken k ts f (s ∷ us)
     → FormulaRead (suc k) us read → ((g : Formula) (r : List Lexeme) → Taken k ts g r → FormulaRead k ts (more g r)) → FormulaRead k ts (read >>= λ x. more (Operation o f x.0) x.1)
 further_found k ts us f o s (Ok x) more is left right go = go (Operation o f x.0) x.1 (joined_found k ts us f x.0 o s x.1 is left right)
-further_found k ts us f o s (Err e) more is left right go = tt
+further_found k ts us f o s (Err e) more is left right go = right
 
 last_found : (k : ℕ) (ts us : List Lexeme) (f : Formula) (s : Lexeme) (o : Option Operator) → Taken k ts f (s ∷ us) → FormulaRead k ts (either o (Ok (f, s ∷ us)) (λ o. Err Syntax))
 last_found k ts us f s None h = h
-last_found k ts us f s (Some o) h = tt
+last_found k ts us f s (Some o) h = refl
 
 step_found : (k : ℕ) (ts us : List Lexeme) (f : Formula) (s : Lexeme) (o : Option Operator) (read : Front Formula) (more : Formula → List Lexeme → Front Formula)
     → ((p : Operator) → o ≡ Some p → (binds p ≡ k) × (s ≡ operator_sign p)) → Taken k ts f (s ∷ us)
@@ -87,7 +88,7 @@ looser k ts f r h = (h.0, omega (arith, h.1), h.2)
 then_found : (k : ℕ) (ts : List Lexeme) (read : Front Formula) (more : Formula → List Lexeme → Front Formula) → FormulaRead (suc k) ts read → ((f : Formula) (r : List Lexeme) → Taken k ts f r → FormulaRead k ts (more f r))
     → FormulaRead k ts (read >>= λ x. more x.0 x.1)
 then_found k ts (Ok x) more h go = go x.0 x.1 (looser k ts x.0 x.1 h)
-then_found k ts (Err e) more h go = tt
+then_found k ts (Err e) more h go = h
 
 pub sums : OfLevel 1 sum_operator
 sums (Said w) o h = absurd cc
@@ -110,7 +111,7 @@ product_found inner h ts =
 
 sum_found : (n : ℕ) (ts : List Lexeme) → FormulaRead 1 ts (sum_at n ts)
 unfolding sum_at
-sum_found zero ts = tt
+sum_found zero ts = refl
 sum_found (suc n) ts =
     then_found 1 ts (product_at (sum_at n) ts) (chain_at sum_operator (product_at (sum_at n)) 15) (product_found (sum_at n) (sum_found n) ts)
     (λ f r t. chain_found 1 sum_operator (product_at (sum_at n)) sums (product_found (sum_at n) (sum_found n)) 15 ts f r t)
@@ -134,12 +135,11 @@ fits_depth (suc n) (Operation o f g) h =
     omega arith
 
 abbrev pub ExpressionRead : List Lexeme → Front Formula → Type 0
-ExpressionRead ts (Ok x) = IsExpression x.0 × (ts ≡ formula_spelled x.0 ++ x.1)
-ExpressionRead ts (Err e) = Unit {0}
+ExpressionRead = FrontRead IsExpression formula_spelled
 
 fitting_found : (ts : List Lexeme) (read : Front Formula) → FormulaRead 1 ts read → ExpressionRead ts (read >>= λ x. fitting x.0 x.1)
-fitting_found ts (Ok x) h = cond_both (fits MOST_DEPTH x.0) _ _ (ExpressionRead ts) (λ d. ((h.0, fits_depth MOST_DEPTH x.0 d), h.2)) (λ d. tt)
-fitting_found ts (Err e) h = tt
+fitting_found ts (Ok x) h = cond_both (fits MOST_DEPTH x.0) _ _ (ExpressionRead ts) (λ d. ((h.0, fits_depth MOST_DEPTH x.0 d), h.2)) (λ d. refl)
+fitting_found ts (Err e) h = h
 
 pub expression_found : (ts : List Lexeme) → ExpressionRead ts (expression_at ts)
 unfolding expression_at

@@ -1,8 +1,12 @@
 pub mod Signs
 pub mod Lists
+pub mod Fronts
 pub mod Phrases
 pub mod Expressions
 pub mod Formulas
+pub mod Formulas_again
 pub mod Members
 pub mod Declarations
+pub mod Members_again
+pub mod Lists_again
 pub mod Rules

@@ -14,12 +14,12 @@ use Rattle.chr_grammar.specs.Written.{Formula, Phrase, Test, Compared, Member, I
 use Rattle.chr_grammar.specs.Parsing as parsing
 use Rattle.chr_grammar.specs.Parsing.{Front, is_true, is_is, is_open, either, equality, equal, relation_at, compared_at, other_side_at, sides_at, plain_test_at, test_at, added_at, is_member_at, last_member_at, member_at, phrase_at, expression_at}
 use Rattle.chr_grammar.specs.Spelling.{formula_spelled, test_spelled, member_spelled, relation_sign, true_word, IsExpression, IsTest, IsMember}
+use Rattle.chr_grammar.proofs.Fronts.{FrontRead}
 use Rattle.chr_grammar.proofs.Formulas.{ExpressionRead, expression_found}
 use Rattle.chr_grammar.proofs.Phrases.{PhraseRead, phrase_found}
 
 abbrev pub TestRead : List Lexeme → Front Test → Type 0
-TestRead ts (Ok x) = IsTest x.0 × (ts ≡ test_spelled x.0 ++ x.1)
-TestRead ts (Err e) = Unit {0}
+TestRead = FrontRead IsTest test_spelled
 
 pub true_is : (s : Lexeme) → is_true s ≡ true → s ≡ true_word
 true_is (Said (word.Name w)) h = ap (λ (w : List ℕ). Said (word.Name w)) ((bytes_eq-Decides w (codes "true")).0 h)
@@ -53,20 +53,20 @@ right_found : (ts us : List Lexeme) (f : Formula) (s : Lexeme) (r : Relation) (r
 right_found ts us f s r (Ok x) is stands at h =
     let there : ts ≡ formula_spelled f ++ (relation_sign r ∷ (formula_spelled x.0 ++ x.1)) = at ∙ ap (λ (s : Lexeme). formula_spelled f ++ (s ∷ us)) is ∙ ap (λ (y : List Lexeme). formula_spelled f ++ (relation_sign r ∷ y)) h.1 in
     ((stands, h.0), there ∙ sym (append_assoc (formula_spelled f) (relation_sign r ∷ formula_spelled x.0) x.1))
-right_found ts us f s r (Err e) is stands at h = tt
+right_found ts us f s r (Err e) is stands at h = h
 
 sign_found : (ts us : List Lexeme) (f : Formula) (s : Lexeme) (o : Option Relation) → ((r : Relation) → o ≡ Some r → s ≡ relation_sign r) → IsExpression f → ts ≡ formula_spelled f ++ (s ∷ us)
     → TestRead ts (either o (Err Syntax) (λ r. expression_at us >>= λ x. Ok (Compared r f x.0, x.1)))
-sign_found ts us f s None is stands at = tt
+sign_found ts us f s None is stands at = refl
 sign_found ts us f s (Some r) is stands at = right_found ts us f s r (expression_at us) (is r refl) stands at (expression_found us)
 
 relation_found : (ts r : List Lexeme) (f : Formula) → IsExpression f → ts ≡ formula_spelled f ++ r → TestRead ts (relation_at f r)
-relation_found ts [] f stands at = tt
+relation_found ts [] f stands at = refl
 relation_found ts (s ∷ us) f stands at = sign_found ts us f s (parsing.relation s) (relation_is s) stands at
 
 left_found : (ts : List Lexeme) (read : Front Formula) → ExpressionRead ts read → TestRead ts (read >>= λ x. relation_at x.0 x.1)
 left_found ts (Ok x) h = relation_found ts x.1 x.0 h.0 h.1
-left_found ts (Err e) h = tt
+left_found ts (Err e) h = h
 
 compared_found : (ts : List Lexeme) → TestRead ts (compared_at ts)
 compared_found ts = left_found ts (expression_at ts) (expression_found ts)
@@ -77,9 +77,9 @@ plain_test_found (s ∷ ts) =
     cond_both (is_true s) _ _ (TestRead (s ∷ ts)) (λ h. (tt, ap (λ (s : Lexeme). s ∷ ts) (true_is s h))) (λ h. compared_found (s ∷ ts))
 
 sides_found : (same : Bool) (s : Lexeme) (ts : List Lexeme) → TestRead (s ∷ equality_sign same ∷ ts) (sides_at same s ts)
-sides_found same (Sign m) ts = tt
-sides_found same (Said v) [] = tt
-sides_found same (Said v) (Sign m ∷ ts) = tt
+sides_found same (Sign m) ts = refl
+sides_found same (Said v) [] = refl
+sides_found same (Said v) (Sign m ∷ ts) = refl
 sides_found true (Said v) (Said w ∷ ts) = (tt, refl)
 sides_found false (Said v) (Said w ∷ ts) = (tt, refl)
 
@@ -101,29 +101,28 @@ test_stands ts r t h = (subst (TestRead ts) h (test_found ts)).0
 -- ---- bodies
 
 abbrev pub MemberRead : List Lexeme → Front Member → Type 0
-MemberRead ts (Ok x) = IsMember x.0 × (ts ≡ member_spelled x.0 ++ x.1)
-MemberRead ts (Err e) = Unit {0}
+MemberRead = FrontRead IsMember member_spelled
 
 atom_found : (ts : List Lexeme) (read : Front Phrase) → PhraseRead ts read → MemberRead ts (read >>= λ x. Ok (Add x.0, x.1))
 atom_found ts (Ok x) h = h
-atom_found ts (Err e) h = tt
+atom_found ts (Err e) h = h
 
 added_found : (ts : List Lexeme) → MemberRead ts (added_at ts)
 added_found ts = atom_found ts (phrase_at ts) (phrase_found ts)
 
 last_member_found : (ts : List Lexeme) → MemberRead ts (last_member_at ts)
-last_member_found [] = tt
+last_member_found [] = refl
 last_member_found (s ∷ ts) =
     cond_both (is_true s) _ _ (MemberRead (s ∷ ts)) (λ h. (tt, ap (λ (s : Lexeme). s ∷ ts) (true_is s h))) (λ h. added_found (s ∷ ts))
 
 value_found : (x : List ℕ) (ts : List Lexeme) (read : Front Formula) → ExpressionRead ts read → MemberRead (Said (word.Variable x) ∷ Sign mark.Is ∷ ts) (read >>= λ e. Ok (Is x e.0, e.1))
 value_found x ts (Ok e) h = (h.0, ap (λ (y : List Lexeme). Said (word.Variable x) ∷ Sign mark.Is ∷ y) h.1)
-value_found x ts (Err k) h = tt
+value_found x ts (Err k) h = h
 
 is_member_found : (s : Lexeme) (ts : List Lexeme) → MemberRead (s ∷ Sign mark.Is ∷ ts) (is_member_at s ts)
-is_member_found (Sign m) ts = tt
-is_member_found (Said (word.Name x)) ts = tt
-is_member_found (Said (word.Number n x)) ts = tt
+is_member_found (Sign m) ts = refl
+is_member_found (Said (word.Name x)) ts = refl
+is_member_found (Said (word.Number n x)) ts = refl
 is_member_found (Said (word.Variable x)) ts = value_found x ts (expression_at ts) (expression_found ts)
 
 is_is_is : (s : Lexeme) → is_is s ≡ true → s ≡ Sign mark.Is

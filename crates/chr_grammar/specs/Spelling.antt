@@ -1,5 +1,5 @@
 -- How what an item says is written: the grammar by its forms.
-use Rattle.std.specs.Prelude.{◌≡◌, ℕ, suc, ◌<◌, ◌≤◌, false, List, [], ◌∷◌, ◌++◌, length, max, codes}
+use Rattle.std.specs.Prelude.{◌≡◌, ℕ, ◌+◌, suc, ◌<◌, ◌≤◌, false, List, [], ◌∷◌, ◌++◌, length, max, Option, Some, None, codes}
 use Rattle.std.specs.List.{AllByRecursion}
 use Rattle.chr_lex.specs.declared.mark.Mark.TheVariants as mark
 use Rattle.chr_lex.specs.declared.mark.Mark.TheVariants.{Open, Close, Comma}
@@ -10,7 +10,7 @@ use Rattle.chr_rule.specs.declared.expression.Operator.TheVariants as operator
 use Rattle.chr_rule.specs.declared.expression.Relation.{Relation}
 use Rattle.chr_rule.specs.declared.expression.Relation.TheVariants as relation
 use Rattle.chr_grammar.specs.declared.expression.TheConstants.{MOST_DEPTH}
-use Rattle.chr_grammar.specs.Written.{Formula, Number, Variable, Group, Operation, Phrase, Test, Always, Compared, Same, Differ, Member, Nothing, Is, Add, Declared}
+use Rattle.chr_grammar.specs.Written.{Formula, Number, Variable, Group, Operation, Phrase, Test, Always, Compared, Same, Differ, Member, Nothing, Is, Add, RawRule, Declared, Statement, Import, Declaration, Rule}
 use Rattle.chr_grammar.specs.Parsing.{is_reserved}
 
 -- ---- lists by commas
@@ -98,6 +98,11 @@ depth (Operation o f g) = suc (max (depth f) (depth g))
 abbrev pub IsExpression : Formula → Type 0
 IsExpression f = IsGrouped f × (depth f ≤ MOST_DEPTH)
 
+-- nothing, or no operator
+abbrev pub EndsExpression : List Lexeme → Type 0
+EndsExpression [] = Unit {0}
+EndsExpression (s ∷ ts) = (o : Operator) → s ≡ operator_sign o → ⊥
+
 -- ---- guards
 
 abbrev pub relation_sign : Relation → Lexeme
@@ -121,6 +126,10 @@ abbrev pub IsTest : Test → Type 0
 IsTest (Compared r f g) = IsExpression f × IsExpression g
 IsTest _ = Unit {0}
 
+-- the tokens are these members by commas
+abbrev pub AreTests : List Lexeme → List Test → Type 0
+AreTests = AreByCommas IsTest test_spelled
+
 -- ---- bodies
 
 abbrev pub member_spelled : Member → List Lexeme
@@ -133,7 +142,63 @@ IsMember Nothing = Unit {0}
 IsMember (Is x f) = IsExpression f
 IsMember (Add p) = IsPhrase p
 
+-- the tokens are these members by commas
+abbrev pub AreMembers : List Lexeme → List Member → Type 0
+AreMembers = AreByCommas IsMember member_spelled
+
 -- ---- declarations
 
 abbrev pub declared_spelled : Declared → List Lexeme
 declared_spelled d = Said (word.Name d.name) ∷ Sign mark.Slash ∷ Said (word.Number false d.digits) ∷ []
+
+-- ---- rules
+
+abbrev pub label_spelled : Option (List ℕ) → List Lexeme
+label_spelled None = []
+label_spelled (Some name) = Said (word.Name name) ∷ Sign mark.At ∷ []
+
+-- those that are kept before those that are removed
+abbrev pub heads_spelled : List Phrase → List Phrase → List Lexeme
+heads_spelled [] removed = by_commas phrase_spelled removed
+heads_spelled kept [] = by_commas phrase_spelled kept
+heads_spelled kept removed = by_commas phrase_spelled kept ++ Sign mark.Backslash ∷ by_commas phrase_spelled removed
+
+-- `==>` where nothing is removed
+abbrev pub arrow_sign : List Phrase → Lexeme
+arrow_sign [] = Sign mark.Propagate
+arrow_sign removed = Sign mark.Simplify
+
+abbrev pub consequence_spelled : List Test → List Member → List Lexeme
+consequence_spelled [] body = by_commas member_spelled body
+consequence_spelled guard body = by_commas test_spelled guard ++ Sign mark.Bar ∷ by_commas member_spelled body
+
+abbrev pub rule_spelled : RawRule → List Lexeme
+rule_spelled r = label_spelled r.label ++ (heads_spelled r.kept r.removed ++ arrow_sign r.removed ∷ consequence_spelled r.guard r.body)
+
+pub record IsRule (r : RawRule) : Type 0 where
+  pub has_heads : 0 < length r.kept + length r.removed
+  pub kept : AllByRecursion IsPhrase r.kept
+  pub removed : AllByRecursion IsPhrase r.removed
+  pub guard : AllByRecursion IsTest r.guard
+  pub has_body : 0 < length r.body
+  pub body : AllByRecursion IsMember r.body
+
+-- ---- statements
+
+abbrev pub a_name : List ℕ → Lexeme
+a_name name = Said (word.Name name)
+
+abbrev pub statement_spelled : Statement → List Lexeme
+statement_spelled Import =
+    Sign mark.Declares ∷ a_name (codes "use_module") ∷ Sign Open ∷ a_name (codes "library") ∷ Sign Open ∷ a_name (codes "chr") ∷ Sign Close ∷ Sign Close ∷ []
+statement_spelled (Declaration ds) = Sign mark.Declares ∷ a_name (codes "chr_constraint") ∷ by_commas declared_spelled ds
+statement_spelled (Rule r) = rule_spelled r
+
+abbrev pub IsStatement : Statement → Type 0
+IsStatement Import = Unit {0}
+IsStatement (Declaration ds) = 0 < length ds
+IsStatement (Rule r) = IsRule r
+
+-- the tokens are this statement
+abbrev pub Says : List Lexeme → Statement → Type 0
+Says ts s = IsStatement s × (ts ≡ statement_spelled s)

@@ -9,6 +9,7 @@ pub mod body;
 pub mod declaration;
 pub mod expression;
 pub mod guard;
+pub mod laws;
 pub mod phrase;
 pub mod rule;
 pub mod sign;

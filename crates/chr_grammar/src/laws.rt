@@ -1,0 +1,32 @@
+//! Laws of the definitions: what is read is what the grammar has, so tokens say one thing at most.
+
+ghost use Rattle.std.specs.Prelude.{◌≡◌, ◌++◌, List, Ok};
+ghost use Rattle.chr_lex.specs.Tokens.{Lexeme};
+ghost use Rattle.chr_grammar.specs.Written.{Formula, Phrase, Test, Member};
+ghost use Rattle.chr_grammar.specs.Parsing.{phrases_of, expression_at, tests_of, body_of};
+ghost use Rattle.chr_grammar.specs.Spelling.{ArePhrases, AreTests, AreMembers, formula_spelled, IsExpression, EndsExpression};
+
+/// What is read as atoms by commas is written so, and what is written so is read.
+pub fn atoms_by_their_forms()
+    ensures found { (ts : List Lexeme) (ps : List Phrase) → phrases_of ts ≡ Ok ps → ArePhrases ts ps }
+    ensures only { (ts : List Lexeme) (ps : List Phrase) → ArePhrases ts ps → phrases_of ts ≡ Ok ps }
+{}
+
+/// What is read as an expression at the front is written there so, with parentheses where they must stand and a depth of
+/// 16 at most, and what is written so before something else than an operator is read.
+pub fn expressions_by_their_forms()
+    ensures found { (ts rest : List Lexeme) (f : Formula) → expression_at ts ≡ Ok (f, rest) → IsExpression f × (ts ≡ formula_spelled f ++ rest) }
+    ensures only { (f : Formula) (rest : List Lexeme) → IsExpression f → EndsExpression rest → expression_at (formula_spelled f ++ rest) ≡ Ok (f, rest) }
+{}
+
+/// What is read as the guard of a rule is written so, and what is written so is read.
+pub fn guards_by_their_forms()
+    ensures found { (ts : List Lexeme) (xs : List Test) → tests_of ts ≡ Ok xs → AreTests ts xs }
+    ensures only { (ts : List Lexeme) (xs : List Test) → AreTests ts xs → tests_of ts ≡ Ok xs }
+{}
+
+/// What is read as the body of a rule is written so, and what is written so is read.
+pub fn bodies_by_their_forms()
+    ensures found { (ts : List Lexeme) (xs : List Member) → body_of ts ≡ Ok xs → AreMembers ts xs }
+    ensures only { (ts : List Lexeme) (xs : List Member) → AreMembers ts xs → body_of ts ≡ Ok xs }
+{}
