@@ -9,4 +9,7 @@ pub mod Members
 pub mod Declarations
 pub mod Members_again
 pub mod Lists_again
+pub mod Cuts
+pub mod Statements
+pub mod Statements_again
 pub mod Rules

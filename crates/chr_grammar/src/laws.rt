@@ -1,10 +1,12 @@
 //! Laws of the definitions: what is read is what the grammar has, so tokens say one thing at most.
 
-ghost use Rattle.std.specs.Prelude.{◌≡◌, ◌++◌, List, Ok};
+ghost use Rattle.std.specs.Prelude.{◌≡◌, ◌++◌, List, Ok, Err};
+ghost use Rattle.chr_lex.specs.declared.fault.Kind.{Kind};
+ghost use Rattle.chr_lex.specs.declared.fault.Kind.TheVariants.{Syntax};
 ghost use Rattle.chr_lex.specs.Tokens.{Lexeme};
-ghost use Rattle.chr_grammar.specs.Written.{Formula, Phrase, Test, Member};
-ghost use Rattle.chr_grammar.specs.Parsing.{phrases_of, expression_at, tests_of, body_of};
-ghost use Rattle.chr_grammar.specs.Spelling.{ArePhrases, AreTests, AreMembers, formula_spelled, IsExpression, EndsExpression};
+ghost use Rattle.chr_grammar.specs.Written.{Formula, Phrase, Test, Member, Statement};
+ghost use Rattle.chr_grammar.specs.Parsing.{phrases_of, expression_at, tests_of, body_of, statement_of};
+ghost use Rattle.chr_grammar.specs.Spelling.{ArePhrases, AreTests, AreMembers, formula_spelled, IsExpression, EndsExpression, Says};
 
 /// What is read as atoms by commas is written so, and what is written so is read.
 pub fn atoms_by_their_forms()
@@ -29,4 +31,13 @@ pub fn guards_by_their_forms()
 pub fn bodies_by_their_forms()
     ensures found { (ts : List Lexeme) (xs : List Member) → body_of ts ≡ Ok xs → AreMembers ts xs }
     ensures only { (ts : List Lexeme) (xs : List Member) → AreMembers ts xs → body_of ts ≡ Ok xs }
+{}
+
+/// What is read as a declaration or a rule is written so, and what is written so is read. So tokens are one statement at
+/// most, and where they are none the fault is a fault of syntax.
+pub fn statements_by_their_forms()
+    ensures found { (ts : List Lexeme) (s : Statement) → statement_of ts ≡ Ok s → Says ts s }
+    ensures only { (ts : List Lexeme) (s : Statement) → Says ts s → statement_of ts ≡ Ok s }
+    ensures one { (ts : List Lexeme) (s t : Statement) → Says ts s → Says ts t → s ≡ t }
+    ensures refused { (ts : List Lexeme) (k : Kind) → statement_of ts ≡ Err k → (k ≡ Syntax) × ((s : Statement) → Says ts s → ⊥) }
 {}
