@@ -1,6 +1,7 @@
 -- What is read as an atom is spelled so.
 use Rattle.std.proofs.Common.{◌≡◌, ◌<◌, length, arith, ℕ, List, [], ◌∷◌, ◌++◌, refl, sym, ap, subst, Ok, Err}
 use Rattle.std.proofs.lemmas.Bool.{cond_both}
+use Rattle.chr_lex.specs.declared.fault.Kind.{Kind}
 use Rattle.chr_lex.specs.declared.fault.Kind.TheVariants.{Syntax}
 use Rattle.chr_lex.specs.declared.mark.Mark.TheVariants.{Open, Comma}
 use Rattle.chr_lex.specs.Reading.{◌>>=◌}
@@ -90,3 +91,6 @@ are_phrases ts ps h = subst (ListRead IsPhrase phrase_spelled ts) h (list_found 
 
 pub phrases_read : (ts : List Lexeme) (ps : List Phrase) → ArePhrases ts ps → phrases_of ts ≡ Ok ps
 phrases_read = list_read IsPhrase phrase_spelled phrase_at phrase_again phrase_some
+
+pub no_phrases : (ts : List Lexeme) (k : Kind) → phrases_of ts ≡ Err k → (k ≡ Syntax) × ((ps : List Phrase) → ArePhrases ts ps → ⊥)
+no_phrases ts k h = (subst (ListRead IsPhrase phrase_spelled ts) h (list_found IsPhrase phrase_spelled phrase_at phrase_found ts), λ ps a. let x = phrases_read ts ps a in cc)

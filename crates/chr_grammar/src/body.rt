@@ -66,7 +66,7 @@ fn last_member<'a, A: Allocator + Copy>(
     }
 }
 
-/// The member of a body at the front, and the tokens behind it.
+/// The member of a body at the front, and the tokens behind it. No member at the front is a fault of syntax (E04).
 pub fn parse_member<'a, A: Allocator + Copy>(
     alloc: A,
     tokens: &'a [Token<'a>],
@@ -102,7 +102,7 @@ fn member_from<'a, A: Allocator + Copy>(
     Ok((member, tokens.len() - after.len()))
 }
 
-/// The members of a body by commas, at least one.
+/// The members of a body by commas, at least one. Tokens that are something else are a fault of syntax (E04).
 pub fn parse_members<'a, A: Allocator + Copy>(
     alloc: A,
     tokens: &'a [Token<'a>],

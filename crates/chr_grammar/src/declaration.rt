@@ -52,7 +52,7 @@ fn is_module(tokens: &[Token]) -> bool
     }
 }
 
-/// `(library(chr))`
+/// Whether the tokens are `(library(chr))`.
 pub fn is_library(tokens: &[Token]) -> bool
     ensures { result ≡ is_library (map lexeme tokens.now) }
 {
@@ -114,7 +114,8 @@ fn declared_from<'a>(
     Ok((declared, tokens.len() - after.len()))
 }
 
-/// Names with a slash and a number by commas, at least one.
+/// Names with a slash and a number without a sign by commas, at least one. Tokens that are something else are a fault of
+/// syntax (E04).
 pub fn parse_declarations<'a, A: Allocator + Copy>(
     alloc: A,
     tokens: &'a [Token<'a>],

@@ -209,7 +209,9 @@ fn more_products<'a, A: Allocator + Copy>(
     }
 }
 
-/// The expression at the front, and the tokens behind it.
+/// The longest expression at the front, and the tokens behind it. `*`, `//`, `mod` and `rem` bind tighter than `+` and `-`,
+/// and all group to the left. No expression at the front is a fault of syntax (E04), and so is one that is deeper than
+/// [`MOST_DEPTH`].
 #[tactic(auto, unfolding(crate::specs::Parsing::expression_at))]
 pub fn parse_expression<'a, A: Allocator + Copy>(
     alloc: A,

@@ -114,7 +114,7 @@ fn plain_test<'a, A: Allocator + Copy>(
     }
 }
 
-/// The member of a guard at the front, and the tokens behind it.
+/// The member of a guard at the front, and the tokens behind it. No member at the front is a fault of syntax (E04).
 pub fn parse_test<'a, A: Allocator + Copy>(
     alloc: A,
     tokens: &'a [Token<'a>],
@@ -148,7 +148,7 @@ fn test_from<'a, A: Allocator + Copy>(
     Ok((test, tokens.len() - after.len()))
 }
 
-/// The members of a guard by commas, at least one.
+/// The members of a guard by commas, at least one. Tokens that are something else are a fault of syntax (E04).
 pub fn parse_tests<'a, A: Allocator + Copy>(
     alloc: A,
     tokens: &'a [Token<'a>],

@@ -8,10 +8,12 @@ ghost use Rattle.chr_grammar.specs.Written.{Formula, Phrase, Test, Member, State
 ghost use Rattle.chr_grammar.specs.Parsing.{phrases_of, expression_at, tests_of, body_of, statement_of};
 ghost use Rattle.chr_grammar.specs.Spelling.{ArePhrases, AreTests, AreMembers, formula_spelled, IsExpression, EndsExpression, Says};
 
-/// What is read as atoms by commas is written so, and what is written so is read.
+/// What is read as atoms by commas is written so, and what is written so is read. Where the tokens are none, the fault is a
+/// fault of syntax.
 pub fn atoms_by_their_forms()
     ensures found { (ts : List Lexeme) (ps : List Phrase) → phrases_of ts ≡ Ok ps → ArePhrases ts ps }
     ensures only { (ts : List Lexeme) (ps : List Phrase) → ArePhrases ts ps → phrases_of ts ≡ Ok ps }
+    ensures refused { (ts : List Lexeme) (k : Kind) → phrases_of ts ≡ Err k → (k ≡ Syntax) × ((ps : List Phrase) → ArePhrases ts ps → ⊥) }
 {}
 
 /// What is read as an expression at the front is written there so, with parentheses where they must stand and a depth of

@@ -1,8 +1,16 @@
 //! The grammar of rule text over tokens.
 //!
-//! [`statement`](statement::statement) gives a declaration or a rule as it is written, [`posts`](phrase::phrases) the
-//! atoms of a post. Names and variables are still bytes and numbers digits here: what they mean, and which limits
-//! they keep, is told in a later phase.
+//! [`parse_statement`](statement::parse_statement) gives the declaration or the rule that the tokens of an item are,
+//! [`parse_phrases`](phrase::parse_phrases) the atoms of a post. What they give is what is written: names and variables
+//! are still bytes, numbers digits, and an expression keeps its parentheses. What names mean and which limits they keep
+//! is told in a later phase, which also refuses propagation rules: here `==>` is an arrow as `<=>` is.
+//!
+//! Each call answers exactly what its definition over the tokens gives, unless memory runs out. The definitions themselves
+//! are proved to be the grammar, which says how each thing is written ([`laws`]): what is read is written so, and what is
+//! written so is read. So tokens are one statement at most, and a fault of syntax (E04) stands exactly where they are none.
+//! An expression is read at any depth up to [`MOST_DEPTH`](expression::MOST_DEPTH), and none that is deeper.
+//!
+//! Each call reads its tokens a fixed number of times, so it takes time in proportion to their number.
 #![tactic(auto)]
 
 pub mod body;
@@ -12,5 +20,5 @@ pub mod guard;
 pub mod laws;
 pub mod phrase;
 pub mod rule;
-pub mod sign;
+mod sign;
 pub mod statement;

@@ -51,7 +51,8 @@ fn terms<'a, A: Allocator + Copy>(
     Err(ItemError::Fault(Kind::Syntax))
 }
 
-/// The atom at the front, and the tokens behind it.
+/// The atom at the front, and the tokens behind it. `true`, `fail` and `false` without arguments are no atoms. No atom at
+/// the front is a fault of syntax (E04).
 pub fn parse_phrase<'a, A: Allocator + Copy>(
     alloc: A,
     tokens: &'a [Token<'a>],
@@ -104,7 +105,8 @@ fn phrase_from<'a, A: Allocator + Copy>(
     Ok((phrase, tokens.len() - after.len()))
 }
 
-/// Atoms by commas, at least one: a post, or the heads of a rule.
+/// Atoms by commas, at least one: a post, or the heads of a rule. Tokens that are something else are a fault of syntax
+/// (E04).
 pub fn parse_phrases<'a, A: Allocator + Copy>(
     alloc: A,
     tokens: &'a [Token<'a>],
