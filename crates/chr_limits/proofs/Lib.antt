@@ -1,0 +1,5 @@
+pub mod Digits
+pub mod Distinct
+pub mod Meeting
+pub mod Scoped
+pub mod Standing

@@ -1,0 +1,60 @@
+-- What a name, a variable or a number may not be, and the parts of a rule in which such a word stands.
+use Rattle.std.specs.Prelude.{ℕ, Bool, true, false, List, length, nat_lt, is_none, ◌||◌, Option, Some, None}
+use Rattle.std.specs.List.{list_any}
+use Rattle.chr_lex.specs.Tokens.{Word, Name, Variable, Number}
+use Rattle.chr_grammar.specs.Written as written
+use Rattle.chr_grammar.specs.Written.{Formula, Phrase, Test, Member, RawRule}
+use Rattle.chr_limits.specs.declared.limits.Unfit.{Unfit}
+use Rattle.chr_limits.specs.declared.limits.Unfit.TheVariants as unfit
+use Rattle.chr_limits.specs.Numbers.{whole_number}
+
+-- a number outside the range of 64 bits with sign
+abbrev pub is_out_of_range : Word → Bool
+is_out_of_range (Name name) = false
+is_out_of_range (Variable name) = false
+is_out_of_range (Number negative digits) = is_none (whole_number negative digits)
+
+-- a name or a variable of more than 64 bytes
+abbrev pub is_long : Word → Bool
+is_long (Name name) = nat_lt 64 (length name)
+is_long (Variable name) = nat_lt 64 (length name)
+is_long (Number negative digits) = false
+
+abbrev pub is_variable : Word → Bool
+is_variable (Name name) = false
+is_variable (Variable name) = true
+is_variable (Number negative digits) = false
+
+abbrev pub is_unfit : Unfit → Word → Bool
+is_unfit unfit.OutOfRange = is_out_of_range
+is_unfit unfit.TooLong = is_long
+is_unfit unfit.Variable = is_variable
+
+-- whether a word of a part passes a test
+abbrev pub formula_has : (Word → Bool) → Formula → Bool
+formula_has test (written.Number negative digits) = test (Number negative digits)
+formula_has test (written.Variable name) = test (Variable name)
+formula_has test (written.Group inner) = formula_has test inner
+formula_has test (written.Operation o a b) = formula_has test a || formula_has test b
+
+abbrev pub phrase_has : (Word → Bool) → Phrase → Bool
+phrase_has test p = test (Name p.name) || list_any test p.args
+
+abbrev pub test_has : (Word → Bool) → Test → Bool
+test_has test written.Always = false
+test_has test (written.Compared r a b) = formula_has test a || formula_has test b
+test_has test (written.Same s t) = test s || test t
+test_has test (written.Differ s t) = test s || test t
+
+abbrev pub member_has : (Word → Bool) → Member → Bool
+member_has test written.Nothing = false
+member_has test (written.Is x e) = test (Variable x) || formula_has test e
+member_has test (written.Add p) = phrase_has test p
+
+abbrev pub label_has : (Word → Bool) → Option (List ℕ) → Bool
+label_has test None = false
+label_has test (Some name) = test (Name name)
+
+abbrev pub rule_has : (Word → Bool) → RawRule → Bool
+rule_has test r =
+    label_has test r.label || list_any (phrase_has test) r.kept || list_any (phrase_has test) r.removed || list_any (test_has test) r.guard || list_any (member_has test) r.body

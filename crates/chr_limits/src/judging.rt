@@ -1,0 +1,121 @@
+//! What may not stand in an item, in the order in which it is tested.
+ghost use Rattle.std.specs.Prelude.{◌≡◌, ◌≢◌, false, map, IfErr};
+ghost use Rattle.std.specs.List.{list_any};
+ghost use Rattle.chr_grammar.specs.Views as said;
+ghost use Rattle.chr_lex.specs.Reading.{Gives};
+ghost use Rattle.chr_lex.specs.Tokens.{Name, Number};
+ghost use Rattle.chr_lex.specs.declared.fault.ItemError.TheVariants.{Memory};
+ghost use Rattle.chr_limits.specs.Words.{is_out_of_range, is_long};
+ghost use Rattle.chr_limits.specs.Limits.{is_too_large};
+ghost use Rattle.chr_limits.specs.Judging.{declaration_judged, rule_judged, post_judged};
+
+use crate::limits::{
+    MOST_COMPARISONS, MOST_ITEMS, MOST_NAME, Unfit, any_wide, count_comparisons, count_items,
+    has_many_heads, has_wide_atom, phrases_have, rule_has,
+};
+use crate::number::int;
+use crate::scope::is_in_scope;
+use crate::variables::has_many_variables;
+use chr_grammar::declaration::Declared;
+use chr_grammar::phrase::Phrase;
+use chr_grammar::rule::RawRule;
+use chr_lex::fault::{ItemError, Kind};
+use std::alloc::Allocator;
+
+fn any_out_of_range(all: &[Declared]) -> bool
+    ensures { result ≡ list_any (λ d. is_out_of_range (Number false d.digits)) (map said.declared all.now) }
+{
+    for declared in all {
+        if int(false, declared.digits).is_none() {
+            return true;
+        }
+    }
+    false
+}
+
+fn any_long(all: &[Declared]) -> bool
+    ensures { result ≡ list_any (λ d. is_long (Name d.name)) (map said.declared all.now) }
+{
+    for declared in all {
+        if declared.name.len() > MOST_NAME {
+            return true;
+        }
+    }
+    false
+}
+
+fn is_too_large<A: Allocator>(rule: &RawRule<'_, A>) -> bool
+    ensures { result ≡ is_too_large (said.raw_rule rule.now) }
+{
+    if rule_has(Unfit::TooLong, rule) || has_wide_atom(rule) || has_many_heads(rule) {
+        return true;
+    }
+    if count_comparisons(&rule.consequence.guard) > MOST_COMPARISONS {
+        return true;
+    }
+    if count_items(&rule.consequence.body) > MOST_ITEMS {
+        return true;
+    }
+    has_many_variables(rule)
+}
+
+/// Judges the names and numbers of a declaration. It takes no memory.
+///
+/// The fault is the first of these: a number outside the range of 64 bits with sign (E06), a name of more than 64 bytes
+/// (E07).
+pub fn judge_declaration(all: &[Declared]) -> Result<(), ItemError>
+    ensures judged { Gives (λ u. u) result (declaration_judged (map said.declared all.now)) }
+    ensures no_memory { IfErr result (λ e. e ≢ Memory) }
+{
+    if any_out_of_range(all) {
+        return Err(ItemError::Fault(Kind::NumberRange));
+    }
+    if any_long(all) {
+        return Err(ItemError::Fault(Kind::TooMany));
+    }
+    Ok(())
+}
+
+/// Judges a rule; `full` says that the program has all its rules already. It takes no memory.
+///
+/// The fault is the first of these: the rule removes nothing (E05), a number is outside the range of 64 bits with sign
+/// (E06), the program is full or something is too long or too many (E07), a variable is used where it has no value or
+/// gets a second one (E08).
+pub fn judge_rule<A: Allocator>(full: bool, rule: &RawRule<'_, A>) -> Result<(), ItemError>
+    ensures judged { Gives (λ u. u) result (rule_judged full (said.raw_rule rule.now)) }
+    ensures no_memory { IfErr result (λ e. e ≢ Memory) }
+{
+    if rule.heads.removed.is_empty() {
+        return Err(ItemError::Fault(Kind::Propagation));
+    }
+    if rule_has(Unfit::OutOfRange, rule) {
+        return Err(ItemError::Fault(Kind::NumberRange));
+    }
+    if full || is_too_large(rule) {
+        return Err(ItemError::Fault(Kind::TooMany));
+    }
+    if !is_in_scope(rule) {
+        return Err(ItemError::Fault(Kind::Binding));
+    }
+    Ok(())
+}
+
+/// Judges the atoms of a post. It takes no memory.
+///
+/// The fault is the first of these: a number outside the range of 64 bits with sign (E06), a name of more than 64 bytes
+/// or an atom with more than 8 arguments (E07), a variable (E08).
+pub fn judge_post<A: Allocator>(phrases: &[Phrase<'_, A>]) -> Result<(), ItemError>
+    ensures judged { Gives (λ u. u) result (post_judged (map said.phrase phrases.now)) }
+    ensures no_memory { IfErr result (λ e. e ≢ Memory) }
+{
+    if phrases_have(Unfit::OutOfRange, phrases) {
+        return Err(ItemError::Fault(Kind::NumberRange));
+    }
+    if phrases_have(Unfit::TooLong, phrases) || any_wide(phrases) {
+        return Err(ItemError::Fault(Kind::TooMany));
+    }
+    if phrases_have(Unfit::Variable, phrases) {
+        return Err(ItemError::Fault(Kind::Binding));
+    }
+    Ok(())
+}

@@ -1,0 +1,26 @@
+//! What may not stand in an item of rule text, though the grammar has it.
+//!
+//! An item is judged between the grammar and the numbering: names and variables are bytes still, and numbers digits.
+//! [`judge_rule`](judging::judge_rule), [`judge_declaration`](judging::judge_declaration) and
+//! [`judge_post`](judging::judge_post) answer with the first fault in this order: a rule that removes nothing (E05), a
+//! number outside the range of 64 bits with sign (E06), something too long or too many (E07), a variable that is used
+//! where it has no value or gets a second one (E08). Each answer is exactly the one of its definition (`rule_judged`,
+//! `declaration_judged`, `post_judged`), and no call takes memory, so none fails for want of it. The laws
+//! ([`laws`]) say limit by limit what was judged without a fault.
+//!
+//! [`int`](number::int) is the whole number that a sign and digits spell. [`is_met`](variables::is_met) tells a
+//! variable that was met before from a new one: a rule's variables are counted, and later numbered, in the order in
+//! which they are first met, and each `_` is a new one.
+//!
+//! Each call goes over its item a fixed number of times, and looks each variable up among the 24 at most that were met
+//! before. So it takes time in proportion to the item's length.
+#![tactic(auto)]
+
+pub mod judging;
+pub mod laws;
+mod limits;
+pub mod number;
+mod scope;
+#[cfg(test)]
+mod tests;
+pub mod variables;
