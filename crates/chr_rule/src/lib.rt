@@ -14,3 +14,5 @@ pub mod pattern;
 pub mod program;
 pub mod rule;
 pub mod scope;
+#[cfg(test)]
+mod tests;
