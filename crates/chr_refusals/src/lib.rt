@@ -6,4 +6,12 @@
 #![tactic(auto)]
 
 #[cfg(test)]
+mod logs;
+#[cfg(test)]
 mod names;
+#[cfg(test)]
+mod plans;
+#[cfg(test)]
+mod store;
+#[cfg(test)]
+mod texts;
