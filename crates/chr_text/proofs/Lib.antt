@@ -1,2 +1,13 @@
-pub mod Digits
+pub mod Facts
+pub mod Growing
+pub mod Judged
+pub mod Names
+pub mod Parts
+pub mod Places
+pub mod Plain
+pub mod Same
+pub mod Spoken
+pub mod Steps
 pub mod Tables
+pub mod Turns
+pub mod Valued

@@ -1,5 +1,5 @@
 -- Names keep their numbers over several steps.
-use Rattle.std.proofs.Common.{◌≡◌, ℕ, List, length, take, subst, sym}
+use Rattle.std.proofs.Common.{◌≡◌, length, take}
 use Rattle.std.proofs.Math.Seq.{take-length}
 use Rattle.chr_value.proofs.NameLaws.{keeps-then}
 use Rattle.chr_text.specs.Tables.{Table, Keeps}

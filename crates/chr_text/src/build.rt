@@ -1,86 +1,144 @@
-//! Rules and atoms from what is written: names and variables get their numbers.
+//! Rules from what is written: names and variables get their numbers.
+ghost use Rattle.std.specs.Prelude.{◌≡◌, ◌≤◌, ◌++◌, map, length, IfOk, OnOk, IfErr};
+ghost use Rattle.std.specs.Option.{option_map};
+ghost use Rattle.std.specs.List.{AllByRecursion, position_or_len};
+ghost use Rattle.std.specs.Str.{bytes_eq};
+ghost use Rattle.chr_lex.specs.Reading.{Gives};
+ghost use Rattle.chr_lex.specs.Tokens.{word};
+ghost use Rattle.chr_grammar.specs.Views as said;
+ghost use Rattle.chr_limits.specs.Views.{names as texts};
+ghost use Rattle.chr_rule.specs.Parts.{argument, shape, expression, comparison, member as item_of};
+ghost use Rattle.chr_rule.specs.Rules.{Operation};
+ghost use Rattle.chr_text.specs.Fitting.{WordFits, ShapeFits, FormulaStands, TestFits, MemberFits, RuleFits};
+ghost use Rattle.chr_text.specs.Numbering as numbering;
+ghost use Rattle.chr_text.specs.Numbering.{numbered, each, maybe, put};
+ghost use Rattle.chr_text.specs.Said as raw;
+ghost use Rattle.chr_text.specs.Said.{somes};
+ghost use Rattle.chr_text.specs.Variables.{in_turn, number_variable as number_of};
 ghost use Rattle.chr_text.specs.Tables.{Table, Keeps};
 
 use crate::naming::number_name;
-use crate::number::int;
-use crate::variables::{MOST_VARIABLES, is_blank};
 use arrayvec::ArrayVec;
 use chr_grammar::body::Member;
 use chr_grammar::expression::Tree;
 use chr_grammar::guard::Test;
 use chr_grammar::phrase::Phrase;
 use chr_grammar::rule::RawRule;
-use chr_lex::fault::{ItemError, Kind};
+use chr_lex::fault::ItemError;
 use chr_lex::token::Written;
-use chr_rule::expression::{BodyItem, Comparison, Expr};
+use chr_limits::number::int;
+use chr_limits::variables::{Met, is_met};
+use chr_rule::expression::{BodyItem, Comparison, Expr, Operator};
 use chr_rule::pattern::{Pattern, Term as Argument};
 use chr_rule::rule::Rule;
-use chr_value::atom::{Atom, Value};
+use chr_value::atom::Value;
 use chr_value::names::Names;
-use std::alloc::Allocator;
+use std::alloc::{AllocError, Allocator};
 
-/// The number of a variable, which gets the next one where it is new. `_` is new at each place.
-fn number_variable<'a, A: Allocator + Copy>(
-    met: &mut Vec<&'a [u8], A>,
-    name: &'a [u8],
-) -> Result<u8, ItemError> {
-    if !is_blank(name) {
-        if let Some(number) = met.iter().position(|other| name == *other) {
-            if number < MOST_VARIABLES {
-                return Ok(number as u8);
-            }
+/// The place of a variable among those that were met.
+fn place_of(met: &[&[u8]], name: &[u8]) -> usize
+    ensures place { result ≡ position_or_len (bytes_eq name.now) (texts met.now) }
+    ensures within { result ≤ length met.now }
+{
+    for (place, other) in met.iter().enumerate() {
+        if name == *other {
+            return place;
         }
     }
-    let number = met.len();
-    if number >= MOST_VARIABLES {
-        return Err(ItemError::Fault(Kind::TooMany));
+    met.len()
+}
+
+/// The number of a variable, which gets the next one where it is new. `_` is new at each place.
+fn number_variable<'a>(met: &mut Met<'a>, name: &'a [u8]) -> u8
+    requires { length (number_of (texts met.old.items) name.now).1 ≤ 24 }
+    ensures number { result ≡ (number_of (texts met.old.items) name.now).0 }
+    ensures met { texts met.new.items ≡ (number_of (texts met.old.items) name.now).1 }
+{
+    if is_met(met, name) {
+        return place_of(met, name) as u8;
     }
-    met.push(name)?;
-    Ok(number as u8)
+    let number = met.len();
+    met.push(name);
+    number as u8
+}
+
+fn push_some<T: Drop, A: Allocator>(out: &mut Vec<T, A>, item: Option<T>) -> Result<(), AllocError>
+    ensures { OnOk result (out.new.items ≡ out.old.items ++ put item) }
+{
+    if let Some(item) = item {
+        out.push(item)?;
+    }
+    Ok(())
 }
 
 fn number_term<'a, A: Allocator + Copy>(
     names: &mut Names<A>,
-    met: &mut Vec<&'a [u8], A>,
+    met: &mut Met<'a>,
     term: Written<'a>,
 ) -> Result<Argument, ItemError>
+    requires fits { WordFits (word term) }
+    requires room { length (raw.argument (texts met.old.items) (word term)).1 ≤ 24 }
+    ensures gives { Gives (λ t. (argument t, names.new)) result (numbered (numbering.number_argument names.old (raw.argument (texts met.old.items) (word term.entry)).0)) }
+    ensures met { OnOk result (texts met.new.items ≡ (raw.argument (texts met.old.items) (word term.entry)).1) }
     ensures keeps { (t : Table) → Keeps t names.old → Keeps t names.new }
 {
     match term {
-        Written::Variable(name) => Ok(Argument::Var(number_variable(met, name)?)),
+        Written::Variable(name) => Ok(Argument::Var(number_variable(met, name))),
         Written::Name(name) => Ok(Argument::Value(Value::Sym(number_name(names, name)?))),
         Written::Number { negative, digits } => match int(negative, digits) {
             Some(number) => Ok(Argument::Value(Value::Int(number))),
-            None => Err(ItemError::Fault(Kind::NumberRange)),
+            None => unreachable!(),
         },
     }
+}
+
+fn number_terms<'a, A: Allocator + Copy>(
+    names: &mut Names<A>,
+    met: &mut Met<'a>,
+    terms: &[Written<'a>],
+) -> Result<ArrayVec<Argument, 8>, ItemError>
+    requires fits { AllByRecursion WordFits (map word terms.now) }
+    requires few { length terms.now ≤ 8 }
+    requires room { length (in_turn raw.argument (texts met.old.items) (map word terms.now)).1 ≤ 24 }
+    ensures gives { Gives (λ v. (map argument v.items, names.new)) result (numbered (each numbering.number_argument names.old (in_turn raw.argument (texts met.old.items) (map word terms.now)).0)) }
+    ensures met { OnOk result (texts met.new.items ≡ (in_turn raw.argument (texts met.old.items) (map word terms.now)).1) }
+    ensures keeps { (t : Table) → Keeps t names.old → Keeps t names.new }
+{
+    let mut arguments = ArrayVec::new();
+    for term in terms {
+        let argument = number_term(names, met, *term)?;
+        arguments.push(argument);
+    }
+    Ok(arguments)
 }
 
 /// A constraint of a rule: its name, then its arguments.
 fn number_phrase<'a, A: Allocator + Copy>(
     names: &mut Names<A>,
-    met: &mut Vec<&'a [u8], A>,
+    met: &mut Met<'a>,
     phrase: &Phrase<'a, A>,
 ) -> Result<Pattern, ItemError>
+    requires fits { ShapeFits (said.phrase phrase.now) }
+    requires room { length (raw.shape (texts met.old.items) (said.phrase phrase.now)).1 ≤ 24 }
+    ensures gives { Gives (λ p. (shape p, names.new)) result (numbered (numbering.number_shape names.old (raw.shape (texts met.old.items) (said.phrase phrase.now)).0)) }
+    ensures met { OnOk result (texts met.new.items ≡ (raw.shape (texts met.old.items) (said.phrase phrase.now)).1) }
     ensures keeps { (t : Table) → Keeps t names.old → Keeps t names.new }
 {
     let name = number_name(names, phrase.name)?;
-    let mut terms = ArrayVec::new();
-    for term in &phrase.args {
-        if terms.is_full() {
-            return Err(ItemError::Fault(Kind::TooMany));
-        }
-        terms.push(number_term(names, met, *term)?);
-    }
+    let terms = number_terms(names, met, &phrase.args)?;
     Ok(Pattern { name, terms })
 }
 
 fn number_phrases<'a, A: Allocator + Copy>(
     alloc: A,
     names: &mut Names<A>,
-    met: &mut Vec<&'a [u8], A>,
+    met: &mut Met<'a>,
     phrases: &[Phrase<'a, A>],
 ) -> Result<Vec<Pattern, A>, ItemError>
+    requires fits { AllByRecursion ShapeFits (map said.phrase phrases.now) }
+    requires room { length (in_turn raw.shape (texts met.old.items) (map said.phrase phrases.now)).1 ≤ 24 }
+    ensures gives { Gives (λ v. (map shape v.items, names.new)) result (numbered (each numbering.number_shape names.old (in_turn raw.shape (texts met.old.items) (map said.phrase phrases.now)).0)) }
+    ensures met { OnOk result (texts met.new.items ≡ (in_turn raw.shape (texts met.old.items) (map said.phrase phrases.now)).1) }
     ensures keeps { (t : Table) → Keeps t names.old → Keeps t names.new }
 {
     let mut patterns = Vec::new(alloc);
@@ -91,33 +149,53 @@ fn number_phrases<'a, A: Allocator + Copy>(
     Ok(patterns)
 }
 
+fn operation<A: Allocator + Copy>(
+    alloc: A,
+    operator: Operator,
+    left: Expr<A>,
+    right: Expr<A>,
+) -> Result<Expr<A>, AllocError>
+    ensures { IfOk result (λ e. expression e ≡ Operation operator (expression left) (expression right)) }
+{
+    Ok(Expr::Operation(operator, Box::new(alloc, left)?, Box::new(alloc, right)?))
+}
+
 fn number_tree<'a, A: Allocator + Copy>(
     alloc: A,
-    met: &mut Vec<&'a [u8], A>,
+    met: &mut Met<'a>,
     tree: &Tree<'a, A>,
-) -> Result<Expr<A>, ItemError> {
+) -> Result<Expr<A>, AllocError>
+    requires { FormulaStands (texts met.old.items) (said.formula tree.now) }
+    ensures gives { IfOk result (λ e. expression e ≡ (raw.expression (texts met.old.items) (said.formula tree.now)).0) }
+    ensures met { OnOk result (texts met.new.items ≡ (raw.expression (texts met.old.items) (said.formula tree.now)).1) }
+{
     match tree {
         Tree::Number { negative, digits } => match int(*negative, digits) {
             Some(number) => Ok(Expr::Number(number)),
-            None => Err(ItemError::Fault(Kind::NumberRange)),
+            None => unreachable!(),
         },
-        Tree::Variable(name) => Ok(Expr::Var(number_variable(met, *name)?)),
+        Tree::Variable(name) => Ok(Expr::Var(number_variable(met, *name))),
         Tree::Group(inner) => number_tree(alloc, met, inner),
         Tree::Operation(operator, left, right) => {
             let left = number_tree(alloc, met, left)?;
             let right = number_tree(alloc, met, right)?;
-            Ok(Expr::Operation(*operator, Box::new(alloc, left)?, Box::new(alloc, right)?))
+            operation(alloc, *operator, left, right)
         }
     }
 }
 
 /// A comparison; nothing for `true`.
+#[tactic(auto, using(crate::proofs::Growing::expression_grows, crate::proofs::Growing::argument_grows, crate::proofs::Growing::formula_stands))]
 fn number_test<'a, A: Allocator + Copy>(
     alloc: A,
     names: &mut Names<A>,
-    met: &mut Vec<&'a [u8], A>,
+    met: &mut Met<'a>,
     test: &Test<'a, A>,
 ) -> Result<Option<Comparison<A>>, ItemError>
+    requires fits { TestFits (said.test test.now) }
+    requires room { length (raw.test (texts met.old.items) (said.test test.now)).1 ≤ 24 }
+    ensures gives { Gives (λ o. (option_map comparison o, names.new)) result (numbered (maybe numbering.number_test names.old (raw.test (texts met.old.items) (said.test test.now)).0)) }
+    ensures met { OnOk result (texts met.new.items ≡ (raw.test (texts met.old.items) (said.test test.now)).1) }
     ensures keeps { (t : Table) → Keeps t names.old → Keeps t names.new }
 {
     match test {
@@ -143,34 +221,42 @@ fn number_test<'a, A: Allocator + Copy>(
 fn number_tests<'a, A: Allocator + Copy>(
     alloc: A,
     names: &mut Names<A>,
-    met: &mut Vec<&'a [u8], A>,
+    met: &mut Met<'a>,
     tests: &[Test<'a, A>],
 ) -> Result<Vec<Comparison<A>, A>, ItemError>
+    requires fits { AllByRecursion TestFits (map said.test tests.now) }
+    requires room { length (in_turn raw.test (texts met.old.items) (map said.test tests.now)).1 ≤ 24 }
+    ensures gives { Gives (λ v. (map comparison v.items, names.new)) result (numbered (each numbering.number_test names.old (somes (in_turn raw.test (texts met.old.items) (map said.test tests.now)).0))) }
+    ensures met { OnOk result (texts met.new.items ≡ (in_turn raw.test (texts met.old.items) (map said.test tests.now)).1) }
     ensures keeps { (t : Table) → Keeps t names.old → Keeps t names.new }
 {
     let mut comparisons = Vec::new(alloc);
     for test in tests {
-        if let Some(comparison) = number_test(alloc, names, met, test)? {
-            comparisons.push(comparison)?;
-        }
+        let comparison = number_test(alloc, names, met, test)?;
+        push_some(&mut comparisons, comparison)?;
     }
     Ok(comparisons)
 }
 
 /// A member of the body; nothing for `true`.
+#[tactic(auto, using(crate::proofs::Growing::formula_stands))]
 fn number_member<'a, A: Allocator + Copy>(
     alloc: A,
     names: &mut Names<A>,
-    met: &mut Vec<&'a [u8], A>,
+    met: &mut Met<'a>,
     member: &Member<'a, A>,
 ) -> Result<Option<BodyItem<A>>, ItemError>
+    requires fits { MemberFits (said.member member.now) }
+    requires room { length (raw.member (texts met.old.items) (said.member member.now)).1 ≤ 24 }
+    ensures gives { Gives (λ o. (option_map item_of o, names.new)) result (numbered (maybe numbering.number_member names.old (raw.member (texts met.old.items) (said.member member.now)).0)) }
+    ensures met { OnOk result (texts met.new.items ≡ (raw.member (texts met.old.items) (said.member member.now)).1) }
     ensures keeps { (t : Table) → Keeps t names.old → Keeps t names.new }
 {
     match member {
         Member::True => Ok(None),
         Member::Is(name, tree) => {
+            let variable = number_variable(met, *name);
             let expression = number_tree(alloc, met, tree)?;
-            let variable = number_variable(met, *name)?;
             Ok(Some(BodyItem::Is(variable, expression)))
         }
         Member::Add(phrase) => {
@@ -183,16 +269,19 @@ fn number_member<'a, A: Allocator + Copy>(
 fn number_members<'a, A: Allocator + Copy>(
     alloc: A,
     names: &mut Names<A>,
-    met: &mut Vec<&'a [u8], A>,
+    met: &mut Met<'a>,
     members: &[Member<'a, A>],
 ) -> Result<Vec<BodyItem<A>, A>, ItemError>
+    requires fits { AllByRecursion MemberFits (map said.member members.now) }
+    requires room { length (in_turn raw.member (texts met.old.items) (map said.member members.now)).1 ≤ 24 }
+    ensures gives { Gives (λ v. (map item_of v.items, names.new)) result (numbered (each numbering.number_member names.old (somes (in_turn raw.member (texts met.old.items) (map said.member members.now)).0))) }
+    ensures met { OnOk result (texts met.new.items ≡ (in_turn raw.member (texts met.old.items) (map said.member members.now)).1) }
     ensures keeps { (t : Table) → Keeps t names.old → Keeps t names.new }
 {
     let mut items = Vec::new(alloc);
     for member in members {
-        if let Some(item) = number_member(alloc, names, met, member)? {
-            items.push(item)?;
-        }
+        let item = number_member(alloc, names, met, member)?;
+        push_some(&mut items, item)?;
     }
     Ok(items)
 }
@@ -203,62 +292,17 @@ pub fn number_rule<A: Allocator + Copy>(
     names: &mut Names<A>,
     rule: &RawRule<'_, A>,
 ) -> Result<Rule<A>, ItemError>
+    requires { RuleFits (said.raw_rule rule.now) }
+    ensures gives { Gives (λ r. (r, names.new)) result (numbered (numbering.number_rule names.old (raw.rule (said.raw_rule rule.now)))) }
     ensures keeps { (t : Table) → Keeps t names.old → Keeps t names.new }
 {
-    let mut met = Vec::new(alloc);
+    let mut met = Met::new();
     let kept = number_phrases(alloc, names, &mut met, &rule.heads.kept)?;
     let removed = number_phrases(alloc, names, &mut met, &rule.heads.removed)?;
     let guard = number_tests(alloc, names, &mut met, &rule.consequence.guard)?;
     let body = number_members(alloc, names, &mut met, &rule.consequence.body)?;
     match Rule::new(kept, removed, guard, body) {
         Some(rule) => Ok(rule),
-        None => Err(ItemError::Fault(Kind::Binding)),
+        None => unreachable!(),
     }
-}
-
-fn ground_term<A: Allocator + Copy>(names: &mut Names<A>, term: Written) -> Result<Value, ItemError>
-    ensures keeps { (t : Table) → Keeps t names.old → Keeps t names.new }
-{
-    match term {
-        Written::Variable(_) => Err(ItemError::Fault(Kind::Binding)),
-        Written::Name(name) => Ok(Value::Sym(number_name(names, name)?)),
-        Written::Number { negative, digits } => match int(negative, digits) {
-            Some(number) => Ok(Value::Int(number)),
-            None => Err(ItemError::Fault(Kind::NumberRange)),
-        },
-    }
-}
-
-fn ground_phrase<A: Allocator + Copy>(
-    alloc: A,
-    names: &mut Names<A>,
-    phrase: &Phrase<'_, A>,
-) -> Result<Atom<A>, ItemError>
-    ensures keeps { (t : Table) → Keeps t names.old → Keeps t names.new }
-{
-    let name = number_name(names, phrase.name)?;
-    let mut atom = Atom::new(alloc, name);
-    for term in &phrase.args {
-        if atom.args().len() >= 8 {
-            return Err(ItemError::Fault(Kind::TooMany));
-        }
-        atom.push(ground_term(names, *term)?);
-    }
-    Ok(atom)
-}
-
-/// The atoms, behind those that are there.
-pub fn ground_phrases<A: Allocator + Copy>(
-    alloc: A,
-    names: &mut Names<A>,
-    atoms: &mut Vec<Atom<A>, A>,
-    phrases: &[Phrase<'_, A>],
-) -> Result<(), ItemError>
-    ensures keeps { (t : Table) → Keeps t names.old → Keeps t names.new }
-{
-    for phrase in phrases {
-        let atom = ground_phrase(alloc, names, phrase)?;
-        atoms.push(atom)?;
-    }
-    Ok(())
 }

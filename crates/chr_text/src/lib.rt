@@ -8,11 +8,8 @@
 #![tactic(auto)]
 
 mod build;
-mod limits;
 mod naming;
-mod number;
+mod posts;
 pub mod reading;
-mod scope;
 #[cfg(test)]
 mod tests;
-mod variables;

@@ -1,15 +1,17 @@
 //! Reading programs and posts.
-ghost use Rattle.std.specs.Prelude.{◌≡◌, ◌≤◌, length, take, OnErr};
+ghost use Rattle.std.specs.Prelude.{◌≡◌, ◌≤◌, zero, [], length, map, take, OnErr};
+ghost use Rattle.chr_lex.specs.Items.{items, entry};
+ghost use Rattle.chr_lex.specs.Reading.{Gives, Reads, placed};
+ghost use Rattle.chr_lex.specs.Tokens.{lexeme};
+ghost use Rattle.chr_text.specs.Fitting.{RulePlain};
+ghost use Rattle.chr_text.specs.Reading.{item_lexemes, over_items, with_rule, with_item, program_of, with_post, posts_of};
+ghost use Rattle.chr_lex.specs.declared.fault.Kind.TheVariants.{TooLong};
+ghost use Rattle.chr_lex.specs.declared.fault.ReadError.TheVariants as errors;
+ghost use Rattle.chr_grammar.specs.Views as said;
 ghost use Rattle.chr_text.specs.Tables.{Table, Keeps};
 
-use crate::build::{ground_phrases, number_rule};
-use crate::limits::{
-    any_declared_too_great, any_declared_too_long, any_phrase_too_great, any_phrase_too_large,
-    is_rule_too_great, is_rule_too_large,
-};
-use crate::scope::is_in_scope;
-use crate::variables::{has_too_many_variables, push_phrases};
-use chr_grammar::declaration::Declared;
+use crate::build::number_rule;
+use crate::posts::number_posts;
 use chr_grammar::phrase::parse_phrases;
 use chr_grammar::rule::RawRule;
 use chr_grammar::statement::{Statement, parse_statement};
@@ -17,10 +19,11 @@ use chr_lex::fault::{ItemError, Kind, ReadError, ReadFault};
 use chr_lex::item::{Item, next_item};
 use chr_lex::plain::{has_bad_byte, plain_text};
 use chr_lex::token::{Token, tokens};
+use chr_limits::judging::{judge_declaration, judge_post, judge_rule};
 use chr_rule::program::{MOST_RULES, Program};
 use chr_value::atom::Atom;
 use chr_value::names::Names;
-use std::alloc::{AllocError, Allocator};
+use std::alloc::Allocator;
 use std::sync::Arc;
 
 /// How many bytes a text may have.
@@ -30,7 +33,9 @@ pub const MOST_BYTES: usize = 65_536;
 fn item_tokens<'a, A: Allocator + Copy>(
     alloc: A,
     item: Item<'a>,
-) -> Result<Vec<Token<'a>, A>, ItemError> {
+) -> Result<Vec<Token<'a>, A>, ItemError>
+    ensures { Gives (λ v. map lexeme v.items) result (item_lexemes (entry item.entry)) }
+{
     if has_bad_byte(item.text) {
         return Err(ItemError::Fault(Kind::BadByte));
     }
@@ -40,51 +45,18 @@ fn item_tokens<'a, A: Allocator + Copy>(
     tokens(alloc, item.text)
 }
 
-fn judge_declaration(all: &[Declared]) -> Result<(), ItemError> {
-    if any_declared_too_great(all) {
-        return Err(ItemError::Fault(Kind::NumberRange));
-    }
-    if any_declared_too_long(all) {
-        return Err(ItemError::Fault(Kind::TooMany));
-    }
-    Ok(())
-}
-
-/// What may not stand in a rule, in the order of the tests. A rule that removes nothing is a propagation rule.
-fn judge_rule<A: Allocator + Copy>(
-    alloc: A,
-    full: bool,
-    rule: &RawRule<'_, A>,
-) -> Result<(), ItemError> {
-    if rule.heads.removed.is_empty() {
-        return Err(ItemError::Fault(Kind::Propagation));
-    }
-    if is_rule_too_great(rule) {
-        return Err(ItemError::Fault(Kind::NumberRange));
-    }
-    if full || is_rule_too_large(rule) || has_too_many_variables(alloc, rule)? {
-        return Err(ItemError::Fault(Kind::TooMany));
-    }
-    if !is_in_scope(alloc, rule)? {
-        return Err(ItemError::Fault(Kind::Binding));
-    }
-    Ok(())
-}
-
-/// One rule more.
+/// One rule more, if it may stand.
 fn add_rule<A: Allocator + Copy>(
     alloc: A,
     names: &mut Names<A>,
     program: &mut Program<A>,
     rule: &RawRule<'_, A>,
 ) -> Result<(), ItemError>
+    requires { RulePlain (said.raw_rule rule.now) }
+    ensures gives { Gives (λ u. (program.new, names.new)) result (with_rule (program.old, names.old) (said.raw_rule rule.now)) }
     ensures keeps { (t : Table) → Keeps t names.old → Keeps t names.new }
 {
-    let full = program.len() >= MOST_RULES;
-    judge_rule(alloc, full, rule)?;
-    if full {
-        return Err(ItemError::Fault(Kind::TooMany));
-    }
+    judge_rule(program.len() >= MOST_RULES, rule)?;
     let rule = number_rule(alloc, names, rule)?;
     program.push(Arc::new(alloc, rule)?)?;
     Ok(())
@@ -97,6 +69,7 @@ fn read_statement<A: Allocator + Copy>(
     program: &mut Program<A>,
     item: Item,
 ) -> Result<(), ItemError>
+    ensures gives { Gives (λ u. (program.new, names.new)) result (with_item (program.old, names.old) (entry item.entry)) }
     ensures keeps { (t : Table) → Keeps t names.old → Keeps t names.new }
 {
     let tokens = item_tokens(alloc, item)?;
@@ -114,32 +87,27 @@ fn read_post<A: Allocator + Copy>(
     atoms: &mut Vec<Atom<A>, A>,
     item: Item,
 ) -> Result<(), ItemError>
+    ensures gives { Gives (λ u. (atoms.new.items, names.new)) result (with_post (atoms.old.items, names.old) (entry item.entry)) }
     ensures keeps { (t : Table) → Keeps t names.old → Keeps t names.new }
 {
     let tokens = item_tokens(alloc, item)?;
     let phrases = parse_phrases(alloc, &tokens)?;
-    if any_phrase_too_great(&phrases) {
-        return Err(ItemError::Fault(Kind::NumberRange));
-    }
-    if any_phrase_too_large(&phrases) {
-        return Err(ItemError::Fault(Kind::TooMany));
-    }
-    let mut places = Vec::new(alloc);
-    push_phrases(&mut places, &phrases)?;
-    if !places.is_empty() {
-        return Err(ItemError::Fault(Kind::Binding));
-    }
-    ground_phrases(alloc, names, atoms, &phrases)
+    judge_post(&phrases)?;
+    number_posts(alloc, names, atoms, &phrases)
 }
 
-fn at_line(line: u32, error: ItemError) -> ReadError {
+fn at_line(line: u32, error: ItemError) -> ReadError
+    ensures { result ≡ placed line error }
+{
     match error {
         ItemError::Memory => ReadError::Memory,
         ItemError::Fault(kind) => ReadError::Fault(ReadFault { kind, line }),
     }
 }
 
-fn too_long() -> ReadError {
+fn too_long() -> ReadError
+    ensures { result ≡ errors.Fault (record { kind = TooLong; line = 0 }) }
+{
     ReadError::Fault(ReadFault {
         kind: Kind::TooLong,
         line: 0,
@@ -153,6 +121,7 @@ fn read_statements<A: Allocator + Copy>(
     text: &[u8],
 ) -> Result<Program<A>, ReadError>
     requires { length text.now ≤ 65536 }
+    ensures reads { Reads (λ p. (p, names.new)) result (over_items with_item ([], names.old) (items zero 1 text.now)) }
     ensures keeps { (t : Table) → Keeps t names.old → Keeps t names.new }
 {
     let mut program = Program::new(alloc);
@@ -180,6 +149,7 @@ fn read_posts<A: Allocator + Copy>(
     text: &[u8],
 ) -> Result<Vec<Atom<A>, A>, ReadError>
     requires { length text.now ≤ 65536 }
+    ensures reads { Reads (λ v. (v.items, names.new)) result (over_items with_post ([], names.old) (items zero 1 text.now)) }
     ensures keeps { (t : Table) → Keeps t names.old → Keeps t names.new }
 {
     let mut atoms = Vec::new(alloc);
@@ -212,6 +182,7 @@ pub fn read_program<A: Allocator + Copy>(
     bytes: &[u8],
     names: &mut Names<A>,
 ) -> Result<Program<A>, ReadError>
+    ensures reads { Reads (λ p. (p, names.new)) result (program_of names.old bytes.now) }
     ensures unchanged { OnErr result (names.new ≡ names.old) }
     ensures keeps { take (length names.old) names.new ≡ names.old }
 {
@@ -238,6 +209,7 @@ pub fn read_atoms<A: Allocator + Copy>(
     bytes: &[u8],
     names: &mut Names<A>,
 ) -> Result<Vec<Atom<A>, A>, ReadError>
+    ensures reads { Reads (λ v. (v.items, names.new)) result (posts_of names.old bytes.now) }
     ensures unchanged { OnErr result (names.new ≡ names.old) }
     ensures keeps { take (length names.old) names.new ≡ names.old }
 {

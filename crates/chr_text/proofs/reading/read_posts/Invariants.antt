@@ -1,9 +1,12 @@
-use Rattle.std.proofs.Common.{◌≡◌, ◌+◌, ◌≤◌, length}
+use Rattle.std.proofs.Common.{◌≡◌, ◌+◌, ◌≤◌, zero, [], length}
+use Rattle.chr_lex.specs.Items.{items}
+use Rattle.chr_text.specs.Reading.{over_items, with_post}
 use Rattle.chr_text.specs.Tables.{Table, Keeps}
 use Rattle.chr_text.proofs.reading.read_posts.Given as goal
 
 abbrev pub invariant-items : goal.invariant-items
 invariant-items g l = record {
+  reads : over_items with_post (l.atoms.items, l.names) (items zero l.line l.rest) ≡ over_items with_post ([], l.fn.names) (items zero 1 l.text);
   keeps : (t : Table) → Keeps t l.fn.names → Keeps t l.names;
   fits : l.line + length l.rest ≤ 1 + length l.text;
 }

@@ -1,4 +1,3 @@
-use Rattle.std.proofs.Common.{◌≡◌, length, take}
 use Rattle.std.proofs.Math.Seq.{take-length}
 use Rattle.chr_text.proofs.Tables.{keeps_back}
 use Rattle.chr_text.proofs.reading.read_program.Goals as goal

@@ -1,0 +1,98 @@
+-- One more in its turn, with the variables met so far and the table of names.
+use Rattle.std.proofs.Common.{◌≡◌, ◌≤◌, List, [], ◌∷◌, ◌++◌, length, map, Option, Some, None, Err, refl, sym, ap, ◌∙◌, arith}
+use Rattle.std.proofs.lemmas.List.{append-nil, map_push}
+use Rattle.std.specs.Option.{option_map}
+use Rattle.chr_value.proofs.Chosen.{some_is}
+use Rattle.chr_lex.specs.declared.fault.Kind.{Kind}
+use Rattle.chr_lex.specs.declared.fault.ItemError.{ItemError}
+use Rattle.chr_lex.specs.declared.fault.ItemError.TheVariants as item_errors
+use Rattle.chr_lex.specs.Reading.{Fails}
+use Rattle.chr_value.specs.Naming.{◌>>=◌, Table}
+use Rattle.chr_text.specs.Numbering.{numbered, each, more, maybe, put}
+use Rattle.chr_text.specs.Said.{somes}
+use Rattle.chr_text.specs.Variables.{Met, in_turn}
+use Rattle.chr_text.proofs.Growing.{in_turn_grows}
+use Rattle.chr_text.proofs.Steps.{each_fails, each_more, each_done, kind_is}
+
+pub more_nothing : {B : Type 0} (rest : Option (List B × Table)) → more [] rest ≡ rest
+more_nothing None = refl
+more_nothing (Some x) = refl
+
+pub turn_met : {A B : Type 0} (g : Met → A → B × Met) (met after last : Met) (a : A) (as' all : List A) → all ≡ a ∷ as' → after ≡ (g met a).1 → (in_turn g met all).1 ≡ last → (in_turn g after as').1 ≡ last
+turn_met g met after last a as' all is e so_far = rw e (ap (λ l. (in_turn g met l).1) (sym is) ∙ so_far)
+
+pub turn_room : {A B : Type 0} (g : Met → A → B × Met) → ((met : Met) (a : A) → length met ≤ length (g met a).1) → (met last : Met) (a : A) (as' all : List A) → all ≡ a ∷ as' → (in_turn g met all).1 ≡ last → length last ≤ 24 → length (g met a).1 ≤ 24
+turn_room g grows met last a as' all is so_far room =
+    let e : (in_turn g (g met a).1 as').1 ≡ last = ap (λ l. (in_turn g met l).1) (sym is) ∙ so_far in
+    omega (arith, in_turn_grows g grows (g met a).1 as', ap length e)
+
+pub turn_more : {A B C : Type 0} (f : Table → B → Option (C × Table)) (g : Met → A → B × Met) (front : List C) (table new : Table) (met after : Met) (a : A) (as' all : List A) (y : C) (total : Option (List C × Table))
+    → all ≡ a ∷ as' → f table (g met a).0 ≡ Some (y, new) → after ≡ (g met a).1 → more front (each f table (in_turn g met all).0) ≡ total → more (front ++ y ∷ []) (each f new (in_turn g after as').0) ≡ total
+turn_more f g front table new met after a as' all y total is h e so_far =
+    rw e (each_more f front table new (g met a).0 (in_turn g (g met a).1 as').0 (in_turn g met all).0 y total (ap (λ l. (in_turn g met l).0) is) h so_far)
+
+pub turn_fails : {A B C : Type 0} (f : Table → B → Option (C × Table)) (g : Met → A → B × Met) (error : ItemError) (front : List C) (table : Table) (met : Met) (a : A) (as' all : List A) (total : Option (List C × Table))
+    → all ≡ a ∷ as' → Fails error (numbered (f table (g met a).0)) → more front (each f table (in_turn g met all).0) ≡ total → Fails error (numbered total)
+turn_fails f g error front table met a as' all total is h so_far =
+    each_fails f error front table (g met a).0 (in_turn g (g met a).1 as').0 (in_turn g met all).0 total (ap (λ l. (in_turn g met l).0) is) h so_far
+
+pub turn_done : {A B C : Type 0} (f : Table → B → Option (C × Table)) (g : Met → A → B × Met) (front : List C) (table : Table) (met : Met) (all : List A) (total : Option (List C × Table))
+    → all ≡ [] → more front (each f table (in_turn g met all).0) ≡ total → total ≡ Some (front, table)
+turn_done f g front table met all total is so_far = each_done f front table (in_turn g met all).0 total (ap (λ l. (in_turn g met l).0) is) so_far
+
+pub met_done : {A B : Type 0} (g : Met → A → B × Met) (met last : Met) (all : List A) → all ≡ [] → (in_turn g met all).1 ≡ last → met ≡ last
+met_done g met last all is so_far = ap (λ l. (in_turn g met l).1) (sym is) ∙ so_far
+
+-- ---- where some give nothing
+
+pub map_put : {C D : Type 0} (f : C → D) (xs : List C) (o : Option C) → map f (xs ++ put o) ≡ map f xs ++ put (option_map f o)
+map_put f xs None = ap (map f) (append-nil xs) ∙ sym (append-nil (map f xs))
+map_put f xs (Some x) = map_push f xs x
+
+abbrev with_some : {C : Type 0} → C × Table → Option (Option C × Table)
+with_some x = Some (Some x.0, x.1)
+
+given_one : {C : Type 0} (r : Option (C × Table)) (y : Option C) (new : Table) → (r >>= with_some) ≡ Some (y, new) → (c : C) × (y ≡ Some c) × (r ≡ Some (c, new))
+given_one None y new h = absurd cc
+given_one {C = C} (Some x) y new h =
+    let e = some_is {A = Option C × Table} (Some x.0, x.1) (y, new) h in
+    (x.0, sym (ap (λ (p : Option C × Table). p.0) e), ap (λ (t : Table). Some (x.0, t)) (ap (λ (p : Option C × Table). p.1) e))
+
+some_step : {B C : Type 0} (f : Table → B → Option (C × Table)) (front : List C) (table new : Table) (o : Option B) (os : List (Option B)) (y : Option C) (total : Option (List C × Table))
+    → maybe f table o ≡ Some (y, new) → more front (each f table (somes (o ∷ os))) ≡ total → more (front ++ put y) (each f new (somes os)) ≡ total
+some_step {C = C} f front table new None os y total h so_far =
+    let e = some_is {A = Option C × Table} (None, table) (y, new) h in
+    let p : None ≡ y = ap (λ (p : Option C × Table). p.0) e in
+    let q : table ≡ new = ap (λ (p : Option C × Table). p.1) e in
+    rw (← p, ← q, append-nil) so_far
+some_step f front table new (Some b) os y total h so_far =
+    let e = given_one (f table b) y new h in
+    rw e.1 (each_more f front table new b (somes os) (somes (Some b ∷ os)) e.0 total refl e.2 so_far)
+
+pub some_turn : {A B C : Type 0} (f : Table → B → Option (C × Table)) (g : Met → A → Option B × Met) (front : List C) (table new : Table) (met after : Met) (a : A) (as' all : List A) (y : Option C) (total : Option (List C × Table))
+    → all ≡ a ∷ as' → maybe f table (g met a).0 ≡ Some (y, new) → after ≡ (g met a).1 → more front (each f table (somes (in_turn g met all).0)) ≡ total → more (front ++ put y) (each f new (somes (in_turn g after as').0)) ≡ total
+some_turn f g front table new met after a as' all y total is h e so_far =
+    rw e (some_step f front table new (g met a).0 (in_turn g (g met a).1 as').0 y total h (ap (λ l. more front (each f table (somes (in_turn g met l).0))) (sym is) ∙ so_far))
+
+one_fails : {C : Type 0} (error : ItemError) (r : Option (C × Table)) → Fails error (numbered (r >>= with_some)) → Fails error (numbered r)
+one_fails item_errors.Memory r h = tt
+one_fails (item_errors.Fault k) None h = ap (λ (j : Kind). Err j) (kind_is k h)
+one_fails (item_errors.Fault k) (Some x) h = absurd cc
+
+no_error : {C D : Type 0} (error : ItemError) (x : C) (total : Option D) → Fails error (numbered (Some x)) → Fails error (numbered total)
+no_error item_errors.Memory x total h = tt
+no_error (item_errors.Fault k) x total h = absurd cc
+
+some_fails-step : {B C : Type 0} (f : Table → B → Option (C × Table)) (error : ItemError) (front : List C) (table : Table) (o : Option B) (os : List (Option B)) (total : Option (List C × Table))
+    → Fails error (numbered (maybe f table o)) → more front (each f table (somes (o ∷ os))) ≡ total → Fails error (numbered total)
+some_fails-step {C = C} f error front table None os total h so_far = no_error {C = Option C × Table} error (None, table) total h
+some_fails-step f error front table (Some b) os total h so_far = each_fails f error front table b (somes os) (somes (Some b ∷ os)) total refl (one_fails error (f table b) h) so_far
+
+pub some_fails : {A B C : Type 0} (f : Table → B → Option (C × Table)) (g : Met → A → Option B × Met) (error : ItemError) (front : List C) (table : Table) (met : Met) (a : A) (as' all : List A) (total : Option (List C × Table))
+    → all ≡ a ∷ as' → Fails error (numbered (maybe f table (g met a).0)) → more front (each f table (somes (in_turn g met all).0)) ≡ total → Fails error (numbered total)
+some_fails f g error front table met a as' all total is h so_far =
+    some_fails-step f error front table (g met a).0 (in_turn g (g met a).1 as').0 total h (ap (λ l. more front (each f table (somes (in_turn g met l).0))) (sym is) ∙ so_far)
+
+pub some_done : {A B C : Type 0} (f : Table → B → Option (C × Table)) (g : Met → A → Option B × Met) (front : List C) (table : Table) (met : Met) (all : List A) (total : Option (List C × Table))
+    → all ≡ [] → more front (each f table (somes (in_turn g met all).0)) ≡ total → total ≡ Some (front, table)
+some_done f g front table met all total is so_far = each_done f front table (somes (in_turn g met all).0) total (ap (λ l. somes (in_turn g met l).0) is) so_far

@@ -1,0 +1,73 @@
+//! Atoms from the phrases of a post: names get their numbers.
+ghost use Rattle.std.specs.Prelude.{◌≡◌, ◌++◌, map};
+ghost use Rattle.std.specs.List.{AllByRecursion};
+ghost use Rattle.chr_lex.specs.Reading.{Gives};
+ghost use Rattle.chr_lex.specs.Tokens.{word};
+ghost use Rattle.chr_grammar.specs.Views as said;
+ghost use Rattle.chr_value.specs.Terms.{ground};
+ghost use Rattle.chr_value.specs.Naming.{number_term, number_fact};
+ghost use Rattle.chr_text.specs.Fitting.{TermFits, PostFits};
+ghost use Rattle.chr_text.specs.Numbering.{numbered, each, more};
+ghost use Rattle.chr_text.specs.Said.{term as term_of, fact};
+ghost use Rattle.chr_text.specs.Tables.{Table, Keeps};
+
+use crate::naming::number_name;
+use chr_grammar::phrase::Phrase;
+use chr_lex::fault::ItemError;
+use chr_lex::token::Written;
+use chr_limits::number::int;
+use chr_value::atom::{Atom, Value};
+use chr_value::names::Names;
+use std::alloc::Allocator;
+
+/// A name's number or a number.
+fn number_term<A: Allocator + Copy>(names: &mut Names<A>, term: Written) -> Result<Value, ItemError>
+    requires { TermFits (word term) }
+    ensures gives { Gives (λ v. (ground v, names.new)) result (numbered (number_term names.old (term_of (word term.entry)))) }
+    ensures keeps { (t : Table) → Keeps t names.old → Keeps t names.new }
+{
+    match term {
+        Written::Variable(_) => unreachable!(),
+        Written::Name(name) => Ok(Value::Sym(number_name(names, name)?)),
+        Written::Number { negative, digits } => match int(negative, digits) {
+            Some(number) => Ok(Value::Int(number)),
+            None => unreachable!(),
+        },
+    }
+}
+
+/// An atom: its name, then its arguments.
+fn number_post<A: Allocator + Copy>(
+    alloc: A,
+    names: &mut Names<A>,
+    phrase: &Phrase<'_, A>,
+) -> Result<Atom<A>, ItemError>
+    requires { PostFits (said.phrase phrase.now) }
+    ensures gives { Gives (λ a. (a, names.new)) result (numbered (number_fact names.old (fact (said.phrase phrase.now)))) }
+    ensures keeps { (t : Table) → Keeps t names.old → Keeps t names.new }
+{
+    let name = number_name(names, phrase.name)?;
+    let mut atom = Atom::new(alloc, name);
+    for term in &phrase.args {
+        atom.push(number_term(names, *term)?);
+    }
+    Ok(atom)
+}
+
+/// The atoms of a post, behind those that are there.
+pub fn number_posts<A: Allocator + Copy>(
+    alloc: A,
+    names: &mut Names<A>,
+    atoms: &mut Vec<Atom<A>, A>,
+    phrases: &[Phrase<'_, A>],
+) -> Result<(), ItemError>
+    requires { AllByRecursion PostFits (map said.phrase phrases.now) }
+    ensures gives { Gives (λ u. (atoms.new.items, names.new)) result (numbered (more atoms.old.items (each number_fact names.old (map fact (map said.phrase phrases.now))))) }
+    ensures keeps { (t : Table) → Keeps t names.old → Keeps t names.new }
+{
+    for phrase in phrases {
+        let atom = number_post(alloc, names, phrase)?;
+        atoms.push(atom)?;
+    }
+    Ok(())
+}
