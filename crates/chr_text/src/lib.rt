@@ -5,6 +5,11 @@
 //! grammar; then the limits and the scope of its variables are tested, and last its names are numbered. The first
 //! faulty item is told by the kind of its fault and the line of its first byte. After any refusal, want of memory
 //! too, the table of names is as it was before the call.
+//!
+//! Both calls are exact: `program_of` and `posts_of` say for each table of names and each text what is read, with the
+//! table behind it, or the first fault, and the calls give just that unless memory runs out. A rule is first said by
+//! the texts of its names, with its variables numbered in the order of its text (`rule`); then its names are numbered
+//! from left to right over the table (`number_rule`). What the judges let pass is always a rule.
 #![tactic(auto)]
 
 mod build;

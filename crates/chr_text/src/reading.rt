@@ -217,11 +217,11 @@ pub fn read_atoms<A: Allocator + Copy>(
         return Err(too_long());
     }
     let plain = plain_text(alloc, bytes)?;
-    let before = names.len();
+    let known = names.len();
     match read_posts(alloc, names, &plain) {
         Ok(atoms) => Ok(atoms),
         Err(error) => {
-            names.truncate(before);
+            names.truncate(known);
             Err(error)
         }
     }

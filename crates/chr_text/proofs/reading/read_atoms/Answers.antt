@@ -6,7 +6,7 @@ pub returns-in-Ok-clause-keeps : goal.returns-in-Ok-clause-keeps
 returns-in-Ok-clause-keeps g c = keeps_back c.args.names.now c.read_posts.new.names c.in-Ok.ensures.keeps
 
 pub returns-clause-unchanged : goal.returns-clause-unchanged
-returns-clause-unchanged g c = rw (c.truncate.ensures, c.len-before.ensures.value) (keeps_back c.args.names.now c.read_posts.new.names c.in-Err.ensures.keeps)
+returns-clause-unchanged g c = rw (c.truncate.ensures, c.len-known.ensures.value) (keeps_back c.args.names.now c.read_posts.new.names c.in-Err.ensures.keeps)
 
 pub returns-clause-keeps : goal.returns-clause-keeps
 returns-clause-keeps g c = rw (returns-clause-unchanged g c) (take-length c.args.names.now)
