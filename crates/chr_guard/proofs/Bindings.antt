@@ -1,7 +1,7 @@
 -- Bindings and the valuations that extend them.
-use Rattle.std.proofs.Common.{◌≡◌, ◌≢◌, ◌↔◌, ℕ, zero, suc, ◌+◌, ◌<◌, ◌≤◌, Bool, true, false, IsTrue, ◌==◌, if◌then◌else◌, List, [], ◌∷◌, ◌++◌, length, take, drop, map, replicate, Option, Some, None, IsSome, pos, refl, sym, subst, ap, ap₂, ◌∙◌, arith, true-eqb, get_or, slice_index_or, slice_set, get_or-set_same, get_or-set_other, length-set}
+use Rattle.std.proofs.Common.{◌≡◌, ◌≢◌, ◌↔◌, ℕ, zero, suc, ◌<◌, Bool, true, false, IsTrue, ◌==◌, if◌then◌else◌, List, length, map, replicate, Option, Some, None, IsSome, pos, refl, sym, ap, ◌∙◌, arith, true-eqb, slice_index_or, slice_set, get_or-set_same, get_or-set_other, length-set}
 use Rattle.std.specs.List.{refill}
-use Rattle.std.proofs.lemmas.List.{take_at, take_more, map-set, map_push, take_all}
+use Rattle.std.proofs.lemmas.List.{take_at, map-set}
 use Rattle.std.proofs.lemmas.Bool.Decides.{nat_tests}
 use Rattle.chr_value.specs.Terms.{Term, Int, Sym}
 use Rattle.chr_guard.specs.declared.binding.Bound.{Bound}

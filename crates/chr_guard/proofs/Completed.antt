@@ -1,11 +1,11 @@
 -- Left sides of `is` bound one after another.
-use Rattle.std.proofs.Common.{◌≡◌, ◌↔◌, ℕ, zero, suc, ◌+◌, ◌<◌, ◌≤◌, Bool, true, false, ◌==◌, ℤ, List, [], ◌∷◌, length, take, drop, get_or, Option, Some, None, refl, sym, subst, ap, ◌∙◌, arith, true-eqb}
+use Rattle.std.proofs.Common.{◌≡◌, ℕ, suc, ◌+◌, ◌<◌, ◌≤◌, true, false, ◌==◌, ℤ, List, ◌∷◌, length, take, drop, get_or, Option, Some, None, refl, sym, subst, ap, ◌∙◌, arith, true-eqb}
 use Rattle.std.specs.List.{AllByRecursion}
 use Rattle.std.proofs.lemmas.List.{drop_more, take_all}
 use Rattle.std.proofs.lemmas.Bool.Decides.{nat_tests}
 use Rattle.chr_value.specs.Terms.{Term, Int}
 use Rattle.chr_rule.specs.Rules.{Expression, Member, Is, Add, Shape, Simpagation}
-use Rattle.chr_rule.specs.Scope.{known_behind_body, expression_known, IsRule}
+use Rattle.chr_rule.specs.Scope.{known_behind_body, IsRule}
 use Rattle.chr_guard.specs.Values.{Valuation, value_of}
 use Rattle.chr_guard.specs.Bindings.{Extends, Narrows, NoneUnder, AreBound, holding}
 use Rattle.chr_guard.specs.Instances.{IsRight}

@@ -1,10 +1,9 @@
 -- The heads' atoms fix the body's.
-use Rattle.std.proofs.Common.{◌≡◌, ◌≢◌, ℕ, suc, ◌<◌, Bool, true, false, ◌&&◌, ◌==◌, List, [], ◌∷◌, ◌++◌, map, ℤ, Option, Some, None, refl, sym, ◌∙◌, ap, ap₂, subst, arith, true-eqb}
+use Rattle.std.proofs.Common.{◌≡◌, ℕ, suc, ◌<◌, true, false, ◌==◌, List, [], ◌∷◌, ◌++◌, map, Some, refl, sym, ◌∙◌, ap, ap₂, subst, arith, true-eqb}
 use Rattle.std.specs.List.{AllByRecursion, list_all}
 use Rattle.std.proofs.lemmas.List.{map-append}
 use Rattle.std.proofs.lemmas.Bool.Decides.{nat_tests}
-use Rattle.chr_value.specs.Terms.{Term, Int, Sym, Fact}
-use Rattle.chr_rule.specs.declared.expression.Relation.{Relation}
+use Rattle.chr_value.specs.Terms.{Int, Fact}
 use Rattle.chr_rule.specs.Rules.{Argument, Var, Given, Shape, Expression, Number, Variable, Operation, Test, Compared, Same, Differ, Member, Is, Add, Simpagation}
 use Rattle.chr_rule.specs.Scope.{known_behind_args, known_behind_heads, known_behind_body, argument_known, expression_known, test_known, IsRule}
 use Rattle.chr_guard.specs.Values.{Valuation, value_of, number_in, computed, compares, both, term_under, Holds}

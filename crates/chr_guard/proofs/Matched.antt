@@ -3,17 +3,17 @@ use Rattle.std.proofs.Common.{◌≡◌, ◌≢◌, ◌↔◌, ℕ, zero, suc, �
 use Rattle.std.specs.List.{AllByRecursion, list_all}
 use Rattle.std.specs.Prelude.{slice_get}
 use Rattle.std.specs.Option.{option_map}
-use Rattle.std.proofs.lemmas.List.{length-replicate, length-append, map-append, length-map, take_at, drop_at, take-append-drop, take_all}
+use Rattle.std.proofs.lemmas.List.{length-replicate, length-append, map-append, length-map, take_at, drop_at}
 use Rattle.chr_value.specs.Terms.{Term, Fact}
-use Rattle.chr_rule.specs.Rules.{Argument, Shape, Simpagation, head_at}
-use Rattle.chr_rule.specs.Scope.{argument_known, known_behind_heads, IsRule}
-use Rattle.chr_guard.specs.Values.{Valuation, term_under, Holds}
-use Rattle.chr_guard.specs.Bindings.{Extends, Narrows, NoneUnder, Told, AreBound, holding}
-use Rattle.chr_guard.specs.Instances.{atom_under, IsRight, added, Instance, IsInstance, NoInstance}
-use Rattle.chr_guard.specs.Matching.{Stands, AllStand, HeadsAre, IsFit, HeadsBound, IsBody}
-use Rattle.chr_guard.proofs.Scoped.{some_same, Scoped, scoped, IsPlaced, heads_below, body_below, args_later}
-use Rattle.chr_guard.proofs.Fixed.{Agree, heads_agree, guard_agrees}
-use Rattle.chr_guard.proofs.Bindings.{narrows_both, narrows_as, none_after, narrows_nothing, free_extends, settled_bound, holding_extends}
+use Rattle.chr_rule.specs.Rules.{Shape, Simpagation, head_at}
+use Rattle.chr_rule.specs.Scope.{argument_known, IsRule}
+use Rattle.chr_guard.specs.Values.{Valuation, term_under}
+use Rattle.chr_guard.specs.Bindings.{Extends, Narrows, NoneUnder, Told}
+use Rattle.chr_guard.specs.Instances.{atom_under}
+use Rattle.chr_guard.specs.Matching.{Stands, AllStand, HeadsAre, IsFit, HeadsBound}
+use Rattle.chr_guard.proofs.Scoped.{some_same, scoped, IsPlaced, heads_below, body_below, args_later}
+use Rattle.chr_guard.proofs.Fixed.{heads_agree}
+use Rattle.chr_guard.proofs.Bindings.{narrows_both, narrows_as, none_after, narrows_nothing, free_extends, settled_bound}
 use Rattle.chr_guard.proofs.Steps.{all_more, all_at}
 
 pub told_as : (P Q : Valuation → Type 0) (told : Bool) (old new : List (Option (Term ℕ))) → ((v : Valuation) → P v ↔ Q v) → Told P told old new → Told Q told old new

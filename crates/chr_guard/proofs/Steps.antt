@@ -1,10 +1,10 @@
 -- What holds of each element of a list, and of lists compared, step by step.
-use Rattle.std.proofs.Common.{◌≡◌, ◌≢◌, ◌↔◌, ℕ, ◌+◌, ◌<◌, ◌≤◌, Bool, true, false, ◌&&◌, IsTrue, List, [], ◌∷◌, ◌++◌, length, take, drop, map, get_or, Option, zero, suc, refl, sym, subst, ap, ap₂, ◌∙◌, arith}
+use Rattle.std.proofs.Common.{◌≡◌, ◌≢◌, ◌↔◌, ℕ, ◌+◌, ◌<◌, ◌≤◌, Bool, true, false, IsTrue, List, [], ◌∷◌, ◌++◌, length, take, drop, map, get_or, Option, zero, suc, refl, sym, subst, ap, ap₂, ◌∙◌, arith}
 use Rattle.std.specs.List.{AllByRecursion, list_all}
-use Rattle.std.proofs.lemmas.List.{take-append-drop, map-append, take_more, take_all, drop_more, drop_all, map_push, same_from_push, get_or-map, get_or_default, take-map, drop-map, length-map}
+use Rattle.std.proofs.lemmas.List.{take-append-drop, map-append, take_more, take_all, drop_more, drop_all, map_push, same_from_push, get_or-map, get_or_default, take-map, length-map}
 use Rattle.chr_value.specs.Terms.{Term}
 use Rattle.chr_guard.specs.Values.{Valuation}
-use Rattle.chr_guard.specs.Bindings.{Narrows, NoneUnder, Told}
+use Rattle.chr_guard.specs.Bindings.{Narrows, NoneUnder}
 use Rattle.chr_guard.proofs.Scoped.{both_true}
 use Rattle.chr_guard.proofs.Bindings.{narrows_both, narrows_as, none_after}
 

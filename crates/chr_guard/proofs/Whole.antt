@@ -1,5 +1,5 @@
 -- Heads that fit, a guard that holds and a completed body are an instance, and nothing else is.
-use Rattle.std.proofs.Common.{◌≡◌, ◌≢◌, ℕ, ◌+◌, ◌<◌, List, [], ◌∷◌, ◌++◌, length, take, drop, map, get_or, Option, Some, None, refl, sym, subst, ap, ap₂, ◌∙◌, arith}
+use Rattle.std.proofs.Common.{◌≡◌, ℕ, ◌+◌, ◌<◌, List, [], ◌∷◌, ◌++◌, length, take, drop, map, get_or, Option, refl, sym, subst, ap, ap₂, ◌∙◌, arith}
 use Rattle.std.specs.List.{AllByRecursion}
 use Rattle.std.proofs.lemmas.List.{map-append, map_more, length-map, take_at, drop_at, take-append-drop}
 use Rattle.chr_value.specs.Terms.{Term, Fact}
@@ -7,7 +7,7 @@ use Rattle.chr_rule.specs.Rules.{Member, Is, Add, Simpagation}
 use Rattle.chr_rule.specs.Scope.{IsRule}
 use Rattle.chr_guard.specs.Values.{Valuation, Holds}
 use Rattle.chr_guard.specs.Bindings.{Extends, Narrows, NoneUnder, holding}
-use Rattle.chr_guard.specs.Instances.{atom_under, IsRight, added, Instance, IsInstance, IsInstanceUnder, NoInstance}
+use Rattle.chr_guard.specs.Instances.{atom_under, IsRight, added, IsInstance, IsInstanceUnder, NoInstance}
 use Rattle.chr_guard.specs.Matching.{HeadsAre, IsFit, IsBody}
 use Rattle.chr_guard.proofs.Scoped.{scoped}
 use Rattle.chr_guard.proofs.Fixed.{Agree, heads_agree, guard_agrees}

@@ -1,12 +1,12 @@
 -- When atoms stand at heads of a rule.
-use Rattle.std.specs.Prelude.{◌≡◌, ◌≢◌, ◌↔◌, ℕ, ◌<◌, ◌++◌, List, length, map, Option, Some, IsSome}
+use Rattle.std.specs.Prelude.{◌≡◌, ◌↔◌, ℕ, ◌++◌, List, length, map, Option, Some}
 use Rattle.std.specs.List.{AllByRecursion}
 use Rattle.std.specs.Option.{option_map}
 use Rattle.chr_value.specs.Terms.{Term, Fact}
 use Rattle.chr_rule.specs.Rules.{Simpagation, head_at}
 use Rattle.chr_rule.specs.Scope.{known_behind_heads}
 use Rattle.chr_guard.specs.Values.{Valuation}
-use Rattle.chr_guard.specs.Bindings.{Extends, NoneUnder, AreBound}
+use Rattle.chr_guard.specs.Bindings.{Extends, AreBound}
 use Rattle.chr_guard.specs.Instances.{atom_under, IsRight, added}
 
 -- under the valuation the head of that number is that atom

@@ -1,7 +1,7 @@
 use Rattle.std.proofs.Common.{◌≡◌, ◌≤◌, ◌+◌, ◌++◌, ◌∷◌, [], length, sym, ap, ◌∙◌, arith}
 use Rattle.std.proofs.lemmas.List.{append-nil, length_push}
 use Rattle.chr_rule.specs.Rules.{Is, Add}
-use Rattle.chr_rule.specs.Parts.{expression, shape, member}
+use Rattle.chr_rule.specs.Parts.{shape, member}
 use Rattle.chr_guard.specs.Bindings.{holding}
 use Rattle.chr_guard.specs.Instances.{atom_under}
 use Rattle.chr_guard.proofs.Whole.{added_more}

@@ -1,6 +1,5 @@
-use Rattle.std.proofs.Common.{◌≡◌, ◌<◌, ◌≤◌, Some, length, map, None, replicate, arith, sym, subst, ap, ◌∙◌}
+use Rattle.std.proofs.Common.{◌≡◌, ◌<◌, ◌≤◌, length, map, None, replicate, sym, subst, ◌∙◌}
 use Rattle.std.proofs.lemmas.List.{length-map, length-replicate}
-use Rattle.chr_rule.specs.Rules.{head_at}
 use Rattle.chr_rule.specs.Parts.{shape}
 use Rattle.chr_guard.specs.Matching.{Stands, AllStand}
 use Rattle.chr_guard.proofs.Scoped.{IsPlaced}

@@ -1,6 +1,6 @@
-use Rattle.std.proofs.Common.{◌≡◌, List, map, sym, subst₂, ap, ◌∙◌}
+use Rattle.std.proofs.Common.{◌≡◌, List, map, subst₂, ◌∙◌}
 use Rattle.chr_rule.specs.declared.pattern.Term.{Term as RuleTerm}
-use Rattle.chr_value.specs.Terms.{Term, grounds}
+use Rattle.chr_value.specs.Terms.{Term}
 use Rattle.std.specs.Prelude.{ℕ}
 use Rattle.chr_rule.specs.Parts.{shape, argument}
 use Rattle.chr_guard.specs.Values.{term_under}

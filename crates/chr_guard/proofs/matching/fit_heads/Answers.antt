@@ -1,8 +1,6 @@
-use Rattle.std.proofs.Common.{◌≡◌, ◌<◌, ◌≤◌, true, length, map, arith, sym, subst, ap, ◌∙◌}
+use Rattle.std.proofs.Common.{◌<◌, ◌≤◌, length, map, arith, sym, subst}
 use Rattle.std.proofs.lemmas.List.{length-map}
-use Rattle.std.specs.List.{list_all}
 use Rattle.chr_rule.specs.Parts.{shape}
-use Rattle.chr_rule.specs.Scope.{argument_known}
 use Rattle.chr_guard.specs.Instances.{atom_under}
 use Rattle.chr_guard.proofs.Scoped.{IsPlaced}
 use Rattle.chr_guard.proofs.Steps.{all_at, map_read, read_more, read_stop, read_end}

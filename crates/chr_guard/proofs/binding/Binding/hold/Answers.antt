@@ -1,4 +1,4 @@
-use Rattle.std.proofs.Common.{◌≡◌, None, Some, true, slice_set, sym, ap, ◌∙◌, subst}
+use Rattle.std.proofs.Common.{◌≡◌, None, true, sym, ap, ◌∙◌, subst}
 use Rattle.chr_value.specs.Terms.{ground}
 use Rattle.chr_guard.specs.Bindings.{bound_term, bound_at, Told}
 use Rattle.chr_guard.proofs.Bindings.{told_new}

@@ -1,4 +1,4 @@
-use Rattle.std.proofs.Common.{sym, ap, ap₂, ◌∙◌, length, map, slice_set}
+use Rattle.std.proofs.Common.{ap, ap₂, ◌∙◌, length, map, slice_set}
 use Rattle.std.specs.List.{refill}
 use Rattle.chr_guard.specs.Bindings.{bound_term}
 use Rattle.chr_guard.proofs.Bindings.{after_write}
