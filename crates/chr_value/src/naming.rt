@@ -1,10 +1,11 @@
 //! Numbering the names of atoms.
-ghost use Rattle.std.specs.Prelude.{◌≡◌, ◌≤◌, ℕ, Some, true, length, take, IfOk, IsOk, OnErr};
+ghost use Rattle.std.specs.Prelude.{◌≡◌, ◌≤◌, ◌↔◌, ℕ, Some, Err, true, false, length, take, IfOk, IsOk, OnErr};
 ghost use Rattle.chr_value.specs.Names.{has_text, HasDistinctTexts};
 ghost use Rattle.chr_value.specs.Terms.{Fact, FactIsNamed, ground, said as said_by};
 ghost use Rattle.chr_value.specs.Naming.{TermIsKnown, FactIsKnown, Named, number_name, number_term, number_fact};
 ghost use Rattle.chr_value.specs.Words.{word as word_of, fact_of};
 ghost use Rattle.chr_value.specs.Spelling.{FitsTerm, FitsAtom};
+ghost use Rattle.chr_value.specs.declared.names.NamesFault.TheVariants.{Full};
 
 use crate::atom::{Atom, Value};
 use crate::names::{Name, Names, NamesFault};
@@ -19,6 +20,7 @@ pub fn name_number<A: Allocator + Copy>(
 ) -> Result<Name, NamesFault>
     requires { length text.now ≤ 64 }
     ensures gives { Named (λ n. n.number) result (number_name names.old text.now) names.new }
+    ensures full { (result ≡ Err Full) ↔ ((length names.old ≡ 65536) × (has_text names.old text.now ≡ false)) }
     ensures finds { has_text names.old text.now ≡ true → IsOk result }
     ensures unchanged { OnErr result (names.new ≡ names.old) }
     ensures keeps { take (length names.old) names.new ≡ names.old }
