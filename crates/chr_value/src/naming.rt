@@ -12,8 +12,9 @@ use crate::names::{Name, Names, NamesFault};
 use crate::words::{SaidAtom, Word};
 use std::alloc::Allocator;
 
-/// The number of a name's text, which gets the next one where it is new. E01 where memory ran out; E02 only for a
-/// 65,537th name. The names that were there keep their numbers, so `truncate` to the length before takes a new one back.
+/// The number of a name's text, which gets the next one where it is new. E01 where memory ran out; E02 exactly where the
+/// text is new and the table full. The names that were there keep their numbers, so `truncate` to the length before takes
+/// a new one back.
 pub fn name_number<A: Allocator + Copy>(
     names: &mut Names<A>,
     text: &str,
@@ -35,6 +36,7 @@ pub fn word_value<A: Allocator + Copy>(
 ) -> Result<Value, NamesFault>
     requires { FitsTerm (word_of word.now) }
     ensures gives { Named ground result (number_term names.old (word_of word.now)) names.new }
+    ensures full { (result ≡ Err Full) ↔ ((length names.old ≡ 65536) × (TermIsKnown names.old (word_of word.now) → ⊥)) }
     ensures finds { TermIsKnown names.old (word_of word.now) → IsOk result }
     ensures keeps { take (length names.old) names.new ≡ names.old }
 {
