@@ -12,9 +12,9 @@ use crate::names::{Name, Names, NamesFault};
 use crate::words::{SaidAtom, Word};
 use std::alloc::Allocator;
 
-/// The number of a name's text, which gets the next one where it is new. E01 where memory ran out; E02 exactly where the
-/// text is new and the table full. The names that were there keep their numbers, so `truncate` to the length before takes
-/// a new one back.
+/// The number of a name's text, which gets the next one where it is new. E01 where memory ran out; E02 exactly where
+/// the text is new and the table full. The names that were there keep their numbers, so `truncate` to the length before
+/// takes a new one back.
 pub fn name_number<A: Allocator + Copy>(
     names: &mut Names<A>,
     text: &str,
