@@ -1,0 +1,5 @@
+pub mod Goals
+pub mod Firings
+pub mod Runs
+pub mod Output
+pub mod FirstRuns

@@ -1,5 +1,5 @@
 use crate::first::{End, FirstFault, first_run};
-use crate::run::run_posts;
+use crate::posts::run_posts;
 use chr_lex::fault::{Kind, ReadFault};
 use chr_text::reading::{read_atoms, read_program};
 use chr_value::names::Names;
