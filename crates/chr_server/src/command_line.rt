@@ -43,3 +43,59 @@ pub fn read<'a, S: AsStr>(alloc: Global, words: &'a [S]) -> Result<Order<'a>, Er
     }
     Err(command.error(ErrorKind::MissingSubcommand, "a command is missing")?)
 }
+
+#[cfg(test)]
+mod tests {
+    use super::{Order, read};
+    use clap::error::ErrorKind;
+    use std::test::*;
+
+    #[test]
+    fn two_files_to_run(rt: HostRuntime) {
+        let words = ["chr", "run", "rules", "posts"];
+        match read(rt.alloc(), &words) {
+            Ok(order) => {
+                let wanted = Order::Run {
+                    file: "rules",
+                    posts: "posts",
+                };
+                assert!(rt; order == wanted);
+            }
+            Err(_) => assert!(rt; false),
+        }
+    }
+
+    #[test]
+    fn other_words(rt: HostRuntime) {
+        let table: [(&[&str], ErrorKind, i32); 7] = [
+            (&["chr"], ErrorKind::MissingSubcommand, 2),
+            (&["chr", "run"], ErrorKind::MissingRequiredArgument, 2),
+            (
+                &["chr", "run", "rules"],
+                ErrorKind::MissingRequiredArgument,
+                2,
+            ),
+            (
+                &["chr", "run", "rules", "posts", "more"],
+                ErrorKind::UnknownArgument,
+                2,
+            ),
+            (
+                &["chr", "walk", "rules", "posts"],
+                ErrorKind::InvalidSubcommand,
+                2,
+            ),
+            (&["chr", "--help"], ErrorKind::DisplayHelp, 0),
+            (&["chr", "run", "--help"], ErrorKind::DisplayHelp, 0),
+        ];
+        for (words, kind, code) in &table {
+            match read(rt.alloc(), words) {
+                Ok(_) => assert!(rt; false),
+                Err(error) => {
+                    assert!(rt; error.kind() == *kind);
+                    assert!(rt; error.exit_code() == *code);
+                }
+            }
+        }
+    }
+}

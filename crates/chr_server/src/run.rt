@@ -98,3 +98,14 @@ pub fn run<R: Files + Print + Eprint + AllocGlobal>(rt: &R, file: &str, posts: &
         Err(FirstFault::Memory) => no_memory(rt),
     }
 }
+
+#[cfg(test)]
+mod tests {
+    use super::{Status, run};
+    use std::test::*;
+
+    #[test]
+    fn a_file_that_is_not_there(rt: HostRuntime) {
+        assert!(rt; run(&rt, "there-is-no-such-file.chr", "nor-this.txt") == Status::Usage);
+    }
+}
