@@ -16,10 +16,8 @@
 //! (E01).
 #![tactic(auto)]
 
-pub mod firing;
+mod firing;
 pub mod first;
-pub mod goals;
+mod goals;
 pub mod posts;
 pub mod run;
-#[cfg(test)]
-mod tests;

@@ -67,7 +67,7 @@ fn last_member<'a, A: Allocator + Copy>(
 }
 
 /// The member of a body at the front, and the tokens behind it. No member at the front is a fault of syntax (E04).
-pub fn parse_member<'a, A: Allocator + Copy>(
+pub(crate) fn parse_member<'a, A: Allocator + Copy>(
     alloc: A,
     tokens: &'a [Token<'a>],
 ) -> Result<(Member<'a, A>, &'a [Token<'a>]), ItemError>
@@ -103,7 +103,7 @@ fn member_from<'a, A: Allocator + Copy>(
 }
 
 /// The members of a body by commas, at least one. Tokens that are something else are a fault of syntax (E04).
-pub fn parse_members<'a, A: Allocator + Copy>(
+pub(crate) fn parse_members<'a, A: Allocator + Copy>(
     alloc: A,
     tokens: &'a [Token<'a>],
 ) -> Result<Vec<Member<'a, A>, A>, ItemError>

@@ -53,7 +53,7 @@ fn is_module(tokens: &[Token]) -> bool
 }
 
 /// Whether the tokens are `(library(chr))`.
-pub fn is_library(tokens: &[Token]) -> bool
+pub(crate) fn is_library(tokens: &[Token]) -> bool
     ensures { result ≡ is_library (map lexeme tokens.now) }
 {
     match tokens {
@@ -116,7 +116,7 @@ fn declared_from<'a>(
 
 /// Names with a slash and a number without a sign by commas, at least one. Tokens that are something else are a fault of
 /// syntax (E04).
-pub fn parse_declarations<'a, A: Allocator + Copy>(
+pub(crate) fn parse_declarations<'a, A: Allocator + Copy>(
     alloc: A,
     tokens: &'a [Token<'a>],
 ) -> Result<Vec<Declared<'a>, A>, ItemError>

@@ -213,7 +213,7 @@ fn more_products<'a, A: Allocator + Copy>(
 /// and all group to the left. No expression at the front is a fault of syntax (E04), and so is one that is deeper than
 /// [`MOST_DEPTH`].
 #[tactic(auto, unfolding(crate::specs::Parsing::expression_at))]
-pub fn parse_expression<'a, A: Allocator + Copy>(
+pub(crate) fn parse_expression<'a, A: Allocator + Copy>(
     alloc: A,
     tokens: &'a [Token<'a>],
 ) -> Result<(Tree<'a, A>, &'a [Token<'a>]), ItemError>

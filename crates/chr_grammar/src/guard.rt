@@ -115,7 +115,7 @@ fn plain_test<'a, A: Allocator + Copy>(
 }
 
 /// The member of a guard at the front, and the tokens behind it. No member at the front is a fault of syntax (E04).
-pub fn parse_test<'a, A: Allocator + Copy>(
+pub(crate) fn parse_test<'a, A: Allocator + Copy>(
     alloc: A,
     tokens: &'a [Token<'a>],
 ) -> Result<(Test<'a, A>, &'a [Token<'a>]), ItemError>
@@ -149,7 +149,7 @@ fn test_from<'a, A: Allocator + Copy>(
 }
 
 /// The members of a guard by commas, at least one. Tokens that are something else are a fault of syntax (E04).
-pub fn parse_tests<'a, A: Allocator + Copy>(
+pub(crate) fn parse_tests<'a, A: Allocator + Copy>(
     alloc: A,
     tokens: &'a [Token<'a>],
 ) -> Result<Vec<Test<'a, A>, A>, ItemError>

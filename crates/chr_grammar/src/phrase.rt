@@ -53,7 +53,7 @@ fn terms<'a, A: Allocator + Copy>(
 
 /// The atom at the front, and the tokens behind it. `true`, `fail` and `false` without arguments are no atoms. No atom at
 /// the front is a fault of syntax (E04).
-pub fn parse_phrase<'a, A: Allocator + Copy>(
+pub(crate) fn parse_phrase<'a, A: Allocator + Copy>(
     alloc: A,
     tokens: &'a [Token<'a>],
 ) -> Result<(Phrase<'a, A>, &'a [Token<'a>]), ItemError>

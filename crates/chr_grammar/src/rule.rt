@@ -155,7 +155,7 @@ fn named_rule<'a, A: Allocator + Copy>(
 }
 
 /// The rule that the tokens are, with `<=>` or with `==>`. Tokens that are no rule are a fault of syntax (E04).
-pub fn parse_rule<'a, A: Allocator + Copy>(
+pub(crate) fn parse_rule<'a, A: Allocator + Copy>(
     alloc: A,
     tokens: &'a [Token<'a>],
 ) -> Result<RawRule<'a, A>, ItemError>

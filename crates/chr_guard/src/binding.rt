@@ -38,7 +38,7 @@ impl<'a> Bound<'a> {
     }
 
     /// Whether two stand for one value.
-    pub fn same(&self, other: &Bound) -> bool
+    pub(crate) fn same(&self, other: &Bound) -> bool
         ensures { IsTrue result ↔ (or_symbol (bound_term self.now) ≡ or_symbol (bound_term other.now)) }
     {
         match other {
@@ -101,7 +101,7 @@ impl<'a> Binding<'a> {
     }
 
     /// The number that a variable stands for, if it stands for one.
-    pub fn number(&self, variable: u8) -> Option<i64>
+    pub(crate) fn number(&self, variable: u8) -> Option<i64>
         ensures { result ≡ number_in (holding self.now variable) }
     {
         match self.at(variable) {
@@ -119,7 +119,7 @@ impl<'a> Binding<'a> {
     }
 
     /// Binds a variable to a value. Where it is bound already, tells whether it is bound to this one.
-    pub fn hold(&mut self, variable: u8, value: &'a Value) -> bool
+    pub(crate) fn hold(&mut self, variable: u8, value: &'a Value) -> bool
         requires { variable < length self.old }
         ensures { Told (λ v. v variable ≡ ground value.now) result self.old self.new }
     {
@@ -133,7 +133,7 @@ impl<'a> Binding<'a> {
     }
 
     /// Binds a variable to a number. Where it is bound already, tells whether it is bound to this one.
-    pub fn count(&mut self, variable: u8, number: i64) -> bool
+    pub(crate) fn count(&mut self, variable: u8, number: i64) -> bool
         requires { variable < length self.old }
         ensures { Told (λ v. v variable ≡ Int number) result self.old self.new }
     {

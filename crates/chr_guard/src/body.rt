@@ -30,7 +30,7 @@ pub fn atom_of<A: Allocator + Copy>(alloc: A, pattern: &Pattern, binding: &Bindi
 }
 
 /// Binds the left sides of `is` in a rule's body to their values. False only where some `is` has no value.
-pub fn complete<A: Allocator>(rule: &Rule<A>, binding: &mut Binding) -> bool
+pub(crate) fn complete<A: Allocator>(rule: &Rule<A>, binding: &mut Binding) -> bool
     requires places { length binding.old ≡ rule.now.variables }
     requires heads { HeadsBound rule.now binding.old }
     ensures { Told (λ v. AllByRecursion (IsRight v) rule.now.body) result binding.old binding.new }
@@ -52,7 +52,11 @@ pub fn complete<A: Allocator>(rule: &Rule<A>, binding: &mut Binding) -> bool
 }
 
 /// The atoms of a rule's body, in written order, under a binding of all its variables.
-pub fn added_atoms<A: Allocator + Copy>(alloc: A, rule: &Rule<A>, binding: &Binding) -> Body<A>
+pub(crate) fn added_atoms<A: Allocator + Copy>(
+    alloc: A,
+    rule: &Rule<A>,
+    binding: &Binding,
+) -> Body<A>
     ensures { result.items ≡ added (holding binding.now) rule.now.body }
 {
     let mut atoms = ArrayVec::new_in(alloc);

@@ -11,12 +11,10 @@
 //! to; the valuations that extend it are those that give each bound variable its term.
 #![tactic(auto)]
 
-pub mod arithmetic;
+mod arithmetic;
 pub mod binding;
 pub mod body;
 pub mod instance;
 pub mod laws;
 pub mod matching;
-#[cfg(test)]
-mod tests;
 pub mod values;

@@ -16,7 +16,7 @@ use chr_value::atom::{Atom, Value};
 use std::alloc::Allocator;
 
 /// Binds what is needed for a term to be a value. False only where no valuation makes it so.
-pub fn fit_term<'a>(binding: &mut Binding<'a>, term: &Term, value: &'a Value) -> bool
+pub(crate) fn fit_term<'a>(binding: &mut Binding<'a>, term: &Term, value: &'a Value) -> bool
     requires { argument_known (length binding.old) (argument term.now) ≡ true }
     ensures { Told (λ v. term_under v (argument term.now) ≡ ground value.now) result binding.old binding.new }
 {
@@ -27,7 +27,7 @@ pub fn fit_term<'a>(binding: &mut Binding<'a>, term: &Term, value: &'a Value) ->
 }
 
 /// The same for several terms.
-pub fn fit_terms<'a>(binding: &mut Binding<'a>, terms: &[Term], values: &'a [Value]) -> bool
+pub(crate) fn fit_terms<'a>(binding: &mut Binding<'a>, terms: &[Term], values: &'a [Value]) -> bool
     requires { list_all (argument_known (length binding.old)) (map argument terms.now) ≡ true }
     ensures { Told (λ v. map (term_under v) (map argument terms.now) ≡ grounds values.now) result binding.old binding.new }
 {
@@ -59,7 +59,7 @@ pub fn fit_head<'a, A: Allocator + Copy>(
 }
 
 /// The same for several heads.
-pub fn fit_heads<'a, A: Allocator + Copy>(
+pub(crate) fn fit_heads<'a, A: Allocator + Copy>(
     binding: &mut Binding<'a>,
     heads: &[Pattern],
     atoms: &[&'a Atom<A>],
@@ -97,7 +97,7 @@ pub fn fit<'a, A: Allocator + Copy>(
 }
 
 /// The one binding under which the rule's heads are these atoms, in head order, or none where there is none.
-pub fn fit_all<'a, A: Allocator + Copy>(
+pub(crate) fn fit_all<'a, A: Allocator + Copy>(
     rule: &Rule<A>,
     atoms: &[&'a Atom<A>],
 ) -> Option<Binding<'a>>

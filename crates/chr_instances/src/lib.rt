@@ -8,5 +8,3 @@
 
 pub mod search;
 mod slots;
-#[cfg(test)]
-mod tests;

@@ -20,7 +20,7 @@ pub struct Item<'a> {
 }
 
 /// Whether a byte is layout or stands for a comment.
-pub fn is_gap(b: u8) -> bool
+pub(crate) fn is_gap(b: u8) -> bool
     ensures { result ≡ is_gap b }
 {
     is_layout(b) || b == COMMENT

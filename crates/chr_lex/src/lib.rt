@@ -21,6 +21,4 @@ pub mod item;
 pub mod laws;
 pub mod mark;
 pub mod plain;
-#[cfg(test)]
-mod tests;
 pub mod token;

@@ -124,7 +124,7 @@ impl Mark {
 }
 
 /// The longest mark at the front that is no word.
-pub fn mark_at(text: &[u8]) -> Option<Mark>
+pub(crate) fn mark_at(text: &[u8]) -> Option<Mark>
     ensures { result ≡ find (λ m. starts_with nat_eq text.now (spelling m)) marks }
 {
     MARKS
@@ -134,7 +134,7 @@ pub fn mark_at(text: &[u8]) -> Option<Mark>
 }
 
 /// The operator that is this word. Such a word is never a name.
-pub fn word_mark(word: &[u8]) -> Option<Mark>
+pub(crate) fn word_mark(word: &[u8]) -> Option<Mark>
     ensures { result ≡ find (λ m. bytes_eq word.now (spelling m)) word_marks }
 {
     WORD_MARKS

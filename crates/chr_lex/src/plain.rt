@@ -17,7 +17,7 @@ pub const COMMENT: u8 = 1;
 pub const UNCLOSED: u8 = 2;
 
 /// Whether a byte is a blank, a tab, a CR or an LF.
-pub fn is_layout(b: u8) -> bool
+pub(crate) fn is_layout(b: u8) -> bool
     ensures { result ≡ is_layout b }
 {
     matches!(b, b' ' | b'\t' | b'\r' | b'\n')

@@ -21,6 +21,4 @@ pub mod laws;
 mod limits;
 pub mod number;
 mod scope;
-#[cfg(test)]
-mod tests;
 pub mod variables;

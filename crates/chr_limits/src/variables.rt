@@ -21,7 +21,7 @@ pub const MOST_VARIABLES: usize = 24;
 pub type Met<'a> = ArrayVec<&'a [u8], 24>;
 
 /// Whether the variable is `_`, which is a new one at each place.
-pub fn is_blank(name: &[u8]) -> bool
+pub(crate) fn is_blank(name: &[u8]) -> bool
     ensures { result ≡ is_blank name.now }
 {
     name == b"_".as_slice()
@@ -154,7 +154,7 @@ fn meet_members<'a, A: Allocator>(met: &mut Met<'a>, members: &[Member<'a, A>]) 
 
 /// The variables of the heads, or None where there are more than [`MOST_VARIABLES`].
 #[tactic(auto, using(crate::proofs::Meeting::met_from_append, crate::proofs::Meeting::short_more))]
-pub fn head_variables<'a, A: Allocator>(rule: &RawRule<'a, A>) -> Option<Met<'a>>
+pub(crate) fn head_variables<'a, A: Allocator>(rule: &RawRule<'a, A>) -> Option<Met<'a>>
     ensures { MatchOption result (24 < length (met (head_variables (said.raw_rule rule.now)))) (λ known. names known.items ≡ met (head_variables (said.raw_rule rule.now))) }
 {
     let mut met = Met::new();
@@ -165,7 +165,7 @@ pub fn head_variables<'a, A: Allocator>(rule: &RawRule<'a, A>) -> Option<Met<'a>
 
 /// Whether a rule has more than [`MOST_VARIABLES`] variables.
 #[tactic(auto, using(crate::proofs::Meeting::met_from_append, crate::proofs::Meeting::short_more))]
-pub fn has_many_variables<A: Allocator>(rule: &RawRule<'_, A>) -> bool
+pub(crate) fn has_many_variables<A: Allocator>(rule: &RawRule<'_, A>) -> bool
     ensures { result ≡ nat_lt 24 (length (met (variables_of (said.raw_rule rule.now)))) }
 {
     let Some(mut met) = head_variables(rule) else {

@@ -13,5 +13,3 @@
 pub mod laws;
 pub mod order;
 pub mod plans;
-#[cfg(test)]
-mod tests;

@@ -39,7 +39,7 @@ fn nothing_bound() -> Bound
 }
 
 /// How many heads a rule has, from 1 to 6.
-pub fn head_count<A: Allocator>(rule: &Rule<A>) -> usize
+pub(crate) fn head_count<A: Allocator>(rule: &Rule<A>) -> usize
     ensures count { result ≡ length (heads_of rule.now) }
     ensures few { result ≤ 6 }
 {
@@ -47,7 +47,7 @@ pub fn head_count<A: Allocator>(rule: &Rule<A>) -> usize
 }
 
 /// The head of a number.
-pub fn head<A: Allocator>(rule: &Rule<A>, number: u8) -> Option<&Pattern>
+pub(crate) fn head<A: Allocator>(rule: &Rule<A>, number: u8) -> Option<&Pattern>
     ensures { option_map (λ h. shape h.now) result ≡ head_at (heads_of rule.now) number }
 {
     if number == 0 {
@@ -137,7 +137,7 @@ fn next_step<A: Allocator>(rule: &Rule<A>, before: &[Step], bound: &Bound) -> Op
 }
 
 /// The plan of a head.
-pub fn plan_of<A: Allocator>(rule: &Rule<A>, head: u8) -> Order
+pub(crate) fn plan_of<A: Allocator>(rule: &Rule<A>, head: u8) -> Order
     requires from { 1 ≤ head }
     requires to { head ≤ length (heads_of rule.now) }
     ensures { IsPlan (heads_of rule.now) head result.items }

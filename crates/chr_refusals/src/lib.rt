@@ -6,6 +6,8 @@
 #![tactic(auto)]
 
 #[cfg(test)]
+mod allocator;
+#[cfg(test)]
 mod logs;
 #[cfg(test)]
 mod names;

@@ -136,7 +136,7 @@ impl<A: Allocator> BodyItem<A> {
 }
 
 /// Whether two guards are one.
-pub fn same_guards<A: Allocator>(guard: &[Comparison<A>], other: &[Comparison<A>]) -> bool
+pub(crate) fn same_guards<A: Allocator>(guard: &[Comparison<A>], other: &[Comparison<A>]) -> bool
     ensures { IsTrue result ↔ (map comparison guard.now ≡ map comparison other.now) }
 {
     if guard.len() != other.len() {
@@ -151,7 +151,7 @@ pub fn same_guards<A: Allocator>(guard: &[Comparison<A>], other: &[Comparison<A>
 }
 
 /// Whether two bodies are one.
-pub fn same_bodies<A: Allocator>(body: &[BodyItem<A>], other: &[BodyItem<A>]) -> bool
+pub(crate) fn same_bodies<A: Allocator>(body: &[BodyItem<A>], other: &[BodyItem<A>]) -> bool
     ensures { IsTrue result ↔ (map member body.now ≡ map member other.now) }
 {
     if body.len() != other.len() {

@@ -13,6 +13,4 @@ pub mod expression;
 pub mod pattern;
 pub mod program;
 pub mod rule;
-pub mod scope;
-#[cfg(test)]
-mod tests;
+mod scope;

@@ -61,7 +61,7 @@ impl Pattern {
 }
 
 /// Whether two lists of terms are one.
-pub fn same_terms(terms: &[Term], others: &[Term]) -> bool
+pub(crate) fn same_terms(terms: &[Term], others: &[Term]) -> bool
     ensures { IsTrue result ↔ (map argument terms.now ≡ map argument others.now) }
 {
     if terms.len() != others.len() {
@@ -76,7 +76,7 @@ pub fn same_terms(terms: &[Term], others: &[Term]) -> bool
 }
 
 /// Whether two lists of constraints are one.
-pub fn same_patterns(patterns: &[Pattern], others: &[Pattern]) -> bool
+pub(crate) fn same_patterns(patterns: &[Pattern], others: &[Pattern]) -> bool
     ensures { IsTrue result ↔ (map shape patterns.now ≡ map shape others.now) }
 {
     if patterns.len() != others.len() {

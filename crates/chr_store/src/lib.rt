@@ -9,5 +9,3 @@
 #![tactic(auto)]
 
 pub mod store;
-#[cfg(test)]
-mod tests;

@@ -16,5 +16,3 @@ mod build;
 mod naming;
 mod posts;
 pub mod reading;
-#[cfg(test)]
-mod tests;

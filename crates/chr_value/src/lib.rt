@@ -30,7 +30,5 @@
 pub mod atom;
 pub mod names;
 pub mod naming;
-#[cfg(test)]
-mod tests;
 pub mod words;
 pub mod writing;

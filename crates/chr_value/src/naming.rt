@@ -30,7 +30,7 @@ pub fn name_number<A: Allocator + Copy>(
 }
 
 /// A word as a value: a symbol by its name's number, as [`name_number`] gives it, with its errors.
-pub fn word_value<A: Allocator + Copy>(
+pub(crate) fn word_value<A: Allocator + Copy>(
     names: &mut Names<A>,
     word: &Word<'_>,
 ) -> Result<Value, NamesFault>

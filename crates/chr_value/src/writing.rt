@@ -20,7 +20,7 @@ pub fn put_number<C: Allocator>(out: &mut Vec<u8, C>, n: u64) -> Result<(), Allo
 }
 
 /// A name's text; nothing for a number outside the table.
-pub fn put_name<A: Allocator + Copy, C: Allocator>(
+pub(crate) fn put_name<A: Allocator + Copy, C: Allocator>(
     out: &mut Vec<u8, C>,
     names: &Names<A>,
     name: Name,
@@ -35,7 +35,7 @@ pub fn put_name<A: Allocator + Copy, C: Allocator>(
 }
 
 /// A number in decimal with `-` in front where it is below zero, or a symbol by its name's text.
-pub fn put_value<A: Allocator + Copy, C: Allocator>(
+pub(crate) fn put_value<A: Allocator + Copy, C: Allocator>(
     out: &mut Vec<u8, C>,
     names: &Names<A>,
     value: &Value,
