@@ -6,9 +6,9 @@ use Rattle.std.proofs.lemmas.Bool.{cases_lt}
 use Rattle.std.proofs.Common.{⊎_elim}
 use borrow.Author.Count.{below_more}
 use Rattle.chr_first.specs.declared.goals.Goal.{Goal}
-use Rattle.chr_value.specs.Terms.{Fact}
+use Rattle.chr_value.specs.Atoms.{Atom}
 use Rattle.chr_first.specs.declared.goals.Goal.TheVariants as goals
-use Rattle.chr_model.specs.Goals.{Waiting, Active, Ended}
+use Rattle.chr_model.specs.Goals.{Plain, Numbered, Ended}
 use Rattle.chr_model.specs.Goals as model
 use Rattle.chr_first.specs.Goals.{goal_of, goals_of, goal_in, EndedFrom, NoneOpenFrom}
 
@@ -21,9 +21,9 @@ pub goal_taken : {Z : Type 0} (gs : List (Goal Z)) (t : ℕ) (x y : Goal Z) → 
 goal_taken gs t x y lt is e = goal_read gs t x (subst (λ n. t < n) (length-map gs goal_of) lt) is ∙ ap goal_of e
 
 -- a plain goal is one that waits
-pub waits : {Z : Type 0} (x : Goal Z) (a : Fact ℕ) → goal_of x ≡ Waiting a → x ≡ goals.Waiting a
-waits (goals.Waiting b) a h = let e : b ≡ a = cc in ap goals.Waiting e
-waits (goals.Active l) a h = absurd (cc)
+pub waits : {Z : Type 0} (x : Goal Z) (a : Atom ℕ) → goal_of x ≡ Plain a → x ≡ goals.Plain a
+waits (goals.Plain b) a h = let e : b ≡ a = cc in ap goals.Plain e
+waits (goals.Numbered l) a h = absurd (cc)
 waits goals.Ended a h = absurd (cc)
 
 pub set_twice : {X : Type 0} (xs : List X) (i : ℕ) (x y : X) → set (set xs i x) i y ≡ set xs i y

@@ -1,20 +1,20 @@
 -- What a label's goal can fire.
 use Rattle.std.specs.Prelude.{◌≡◌, ℕ, true, false, List, ◌++◌, map}
-use Rattle.chr_value.specs.Terms.{Fact}
+use Rattle.chr_value.specs.Atoms.{Atom}
 use Rattle.chr_rule.specs.Rules.{Simpagation}
 use Rattle.chr_model.specs.Programs.{Instances}
 use Rattle.chr_model.specs.Stores.{Store, Labelled, among}
-use Rattle.chr_model.specs.Goals.{Waiting}
+use Rattle.chr_model.specs.Goals.{Plain}
 use Rattle.chr_first.specs.Goals.{goals_of}
 use Rattle.chr_first.specs.declared.firing.Firing.{Firing}
 
 -- a labelled instance over the store that has the label, with its body's atoms as plain goals
 pub record IsFiring {Z : Type 0} (rules : List (Simpagation ℕ)) (store : Store) (label : ℕ) (f : Firing Z) : Type 0 where
-  pub atoms : List (Fact ℕ)
+  pub atoms : List (Atom ℕ)
   pub instance : Labelled (Instances rules) store f.rule f.kept.items f.removed.items atoms
   pub there : among (f.kept.items ++ f.removed.items) label ≡ true
-  pub body : goals_of f.body.items ≡ map Waiting atoms
+  pub body : goals_of f.body.items ≡ map Plain atoms
 
 -- the label is in no labelled instance over the store
 abbrev pub NoFiring : List (Simpagation ℕ) → Store → ℕ → Type 0
-NoFiring rules store label = (r : ℕ) (kept removed : List ℕ) (body : List (Fact ℕ)) → Labelled (Instances rules) store r kept removed body → among (kept ++ removed) label ≡ false
+NoFiring rules store label = (r : ℕ) (kept removed : List ℕ) (body : List (Atom ℕ)) → Labelled (Instances rules) store r kept removed body → among (kept ++ removed) label ≡ false

@@ -1,15 +1,15 @@
 -- Goals by their tickets, as the list of what each ticket stands for.
 use Rattle.std.specs.Prelude.{◌≡◌, ◌≢◌, ℕ, ◌<◌, ◌≤◌, Option, Some, None, List, map, length, slice_index_or}
-use Rattle.chr_value.specs.Terms.{Fact}
+use Rattle.chr_value.specs.Atoms.{Atom}
 use Rattle.chr_first.specs.declared.goals.Goal.{Goal}
 use Rattle.chr_first.specs.declared.goals.Goal.TheVariants as goals
-use Rattle.chr_model.specs.Goals.{Waiting, Active, Ended}
+use Rattle.chr_model.specs.Goals.{Plain, Numbered, Ended}
 use Rattle.chr_model.specs.Goals as model
 
 -- what a goal stands for
 abbrev pub goal_of : {Z : Type 0} → Goal Z → model.Goal
-goal_of (goals.Waiting a) = Waiting a
-goal_of (goals.Active l) = Active l
+goal_of (goals.Plain a) = Plain a
+goal_of (goals.Numbered l) = Numbered l
 goal_of goals.Ended = Ended
 
 abbrev pub goals_of : {Z : Type 0} → List (Goal Z) → List model.Goal
@@ -21,13 +21,13 @@ goal_in gs t = slice_index_or gs t Ended
 
 -- the label of a numbered goal
 abbrev pub label_in : model.Goal → Option ℕ
-label_in (Waiting a) = None
-label_in (Active l) = Some l
+label_in (Plain a) = None
+label_in (Numbered l) = Some l
 label_in Ended = None
 
 -- the goal is a plain one
 abbrev pub IsPlain : model.Goal → Type 0
-IsPlain g = (a : Fact ℕ) × (g ≡ Waiting a)
+IsPlain g = (a : Atom ℕ) × (g ≡ Plain a)
 
 -- the goals of the tickets from one to before another have ended
 abbrev pub EndedFrom : List model.Goal → ℕ → ℕ → Type 0

@@ -3,10 +3,10 @@ ghost use Rattle.std.specs.Prelude.{◌≡◌, MatchOption, IfOk};
 ghost use Rattle.chr_value.specs.Stores.{without};
 ghost use Rattle.chr_first.specs.Firings.{IsFiring, NoFiring};
 ghost use Rattle.chr_model.specs.Stores.{among, labels, Distinct};
-ghost use Rattle.chr_instances.specs.Found.{listed};
+ghost use Rattle.chr_enumeration.specs.Found.{listed};
 
 use crate::goals::{Goal, plain_goals};
-use chr_instances::search::with_label;
+use chr_enumeration::search::find_with_label;
 use chr_log::events::{Label, Labels};
 use chr_rule::program::Program;
 use chr_store::store::Store;
@@ -48,7 +48,7 @@ pub fn firing_with<A: Allocator + Copy>(
     ensures { IfOk result (λ made. MatchOption made (NoFiring program.now store.now.entries label) (IsFiring program.now store.now.entries label)) }
 {
     let list = listing(alloc, store)?;
-    let Some(found) = with_label(program, &list, label) else {
+    let Some(found) = find_with_label(program, &list, label) else {
         return Ok(None);
     };
     let Some(rule) = program.rule(usize::from(found.rule)) else {

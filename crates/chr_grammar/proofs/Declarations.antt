@@ -4,8 +4,8 @@ use Rattle.chr_lex.specs.declared.fault.Kind.{Kind}
 use Rattle.chr_lex.specs.declared.fault.Kind.TheVariants.{Syntax}
 use Rattle.chr_lex.specs.declared.mark.Mark.TheVariants as mark
 use Rattle.chr_lex.specs.Reading.{◌>>=◌}
-use Rattle.chr_lex.specs.Tokens.{Name, Number, Lexeme, Said, Sign}
-use Rattle.chr_grammar.specs.Written.{Declared}
+use Rattle.chr_lex.specs.Tokens.{Name, Number, Lexeme, OfWord, OfMark}
+use Rattle.chr_grammar.specs.Parsed.{Declared}
 use Rattle.chr_grammar.specs.Parsing.{Front, declared_of, declared_at}
 use Rattle.chr_grammar.specs.Spelling.{declared_spelled}
 use Rattle.chr_grammar.proofs.Fronts.{FrontRead}
@@ -18,7 +18,7 @@ DeclaredIs ts (Ok d) = ts ≡ declared_spelled d
 DeclaredIs ts (Err k) = k ≡ Syntax
 
 declared_is : (n s d : Lexeme) → DeclaredIs (n ∷ s ∷ d ∷ []) (declared_of n s d)
-declared_is (Said (Name name)) (Sign mark.Slash) (Said (Number false digits)) = refl
+declared_is (OfWord (Name name)) (OfMark mark.Slash) (OfWord (Number false digits)) = refl
 declared_is _ _ _ = refl
 
 abbrev pub DeclaredRead : List Lexeme → Front Declared → Type 0

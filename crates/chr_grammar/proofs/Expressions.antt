@@ -7,7 +7,7 @@ use Rattle.chr_lex.specs.declared.token.Token.{Token}
 use Rattle.chr_lex.specs.Reading.{Fails}
 use Rattle.chr_lex.specs.Tokens.{lexeme, Lexeme}
 use Rattle.chr_rule.specs.declared.expression.Operator.{Operator}
-use Rattle.chr_grammar.specs.Written.{Formula, Operation}
+use Rattle.chr_grammar.specs.Parsed.{ParsedExpression, Operation}
 use Rattle.chr_grammar.specs.Parsing.{Front, sum_operator, chain_at, product_at, sum_at}
 
 pub sum_fails : (e : ItemError) (n : ℕ) (ts : List Lexeme) → (n ≡ 0 → ⊥) → Fails e (product_at (sum_at (n - 1)) ts) → Fails e (sum_at n ts)
@@ -19,7 +19,7 @@ sum_fails (errors.Fault k) (suc n) ts some h =
     let there : product_at (sum_at n) ts ≡ Err k = ap (λ (m : ℕ). product_at (sum_at m) ts) (sym e) ∙ h in
     rw there refl
 
-pub sum_steps : (n : ℕ) (ts : List Lexeme) (left : Formula) (after : List Lexeme) → (n ≡ 0 → ⊥) → product_at (sum_at (n - 1)) ts ≡ Ok (left, after) → sum_at n ts ≡ chain_at sum_operator (product_at (sum_at (n - 1))) 15 left after
+pub sum_steps : (n : ℕ) (ts : List Lexeme) (left : ParsedExpression) (after : List Lexeme) → (n ≡ 0 → ⊥) → product_at (sum_at (n - 1)) ts ≡ Ok (left, after) → sum_at n ts ≡ chain_at sum_operator (product_at (sum_at (n - 1))) 15 left after
 unfolding sum_at
 sum_steps zero ts left after some found = absurd (some refl)
 sum_steps (suc n) ts left after some found =
@@ -30,7 +30,7 @@ sum_steps (suc n) ts left after some found =
 whole : (ts : List Token) → take (suc (length ts) - 1) ts ≡ ts
 whole ts = grind (arith, common_steps)
 
-pub chain_steps : (operator : Lexeme → Option Operator) (side : List Lexeme → Front Formula) (n : ℕ) (left right both : Formula) (o : Operator) (ts : List Token) (d : Token) (rest : List Lexeme) → (n ≡ 0 → ⊥) → 1 ≤ length ts
+pub chain_steps : (operator : Lexeme → Option Operator) (side : List Lexeme → Front ParsedExpression) (n : ℕ) (left right both : ParsedExpression) (o : Operator) (ts : List Token) (d : Token) (rest : List Lexeme) → (n ≡ 0 → ⊥) → 1 ≤ length ts
     → Some o ≡ operator (lexeme (get_or ts 0 d)) → side (map lexeme (take (length ts - 1) (drop 1 ts))) ≡ Ok (right, rest) → both ≡ Operation o left right
     → chain_at operator side n left (map lexeme ts) ≡ chain_at operator side (n - 1) both rest
 chain_steps operator side n left right both o [] d rest some long is found joined = absurd (omega arith)

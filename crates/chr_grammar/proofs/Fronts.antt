@@ -7,7 +7,7 @@ use Rattle.chr_lex.specs.declared.fault.Kind.{Kind}
 use Rattle.chr_lex.specs.declared.fault.Kind.TheVariants.{Syntax}
 use Rattle.chr_lex.specs.declared.mark.Mark.TheVariants.{Comma}
 use Rattle.chr_lex.specs.Reading.{◌>>=◌}
-use Rattle.chr_lex.specs.Tokens.{Lexeme, Sign}
+use Rattle.chr_lex.specs.Tokens.{Lexeme, OfMark}
 use Rattle.chr_grammar.specs.Parsing.{Front, is_comma, behind, members_at, each_by_commas}
 use Rattle.chr_grammar.specs.Spelling.{by_commas, AreByCommas}
 use Rattle.chr_grammar.proofs.Signs.{comma_is}
@@ -22,12 +22,12 @@ ListRead Stands spelled ts (Err k) = k ≡ Syntax
 
 -- ---- what is read is spelled so
 
-longer : {A : Type 0} (Stands : A → Type 0) (spelled : A → List Lexeme) (a : A) (ts r : List Lexeme) (xs : List A) → Stands a → ts ≡ spelled a ++ (Sign Comma ∷ r) → AreByCommas Stands spelled r xs → AreByCommas Stands spelled ts (a ∷ xs)
+longer : {A : Type 0} (Stands : A → Type 0) (spelled : A → List Lexeme) (a : A) (ts r : List Lexeme) (xs : List A) → Stands a → ts ≡ spelled a ++ (OfMark Comma ∷ r) → AreByCommas Stands spelled r xs → AreByCommas Stands spelled ts (a ∷ xs)
 longer Stands spelled a ts r [] stands is h = absurd (omega (arith, h.some))
 longer Stands spelled a ts r (b ∷ bs) stands is h =
-    record { some = omega arith; each = (stands, h.each); written = is ∙ ap (λ (x : List Lexeme). spelled a ++ (Sign Comma ∷ x)) h.written }
+    record { some = omega arith; each = (stands, h.each); written = is ∙ ap (λ (x : List Lexeme). spelled a ++ (OfMark Comma ∷ x)) h.written }
 
-others_read : {A : Type 0} (Stands : A → Type 0) (spelled : A → List Lexeme) (a : A) (ts r : List Lexeme) (read : Result (List A) Kind) → Stands a → ts ≡ spelled a ++ (Sign Comma ∷ r) → ListRead Stands spelled r read
+others_read : {A : Type 0} (Stands : A → Type 0) (spelled : A → List Lexeme) (a : A) (ts r : List Lexeme) (read : Result (List A) Kind) → Stands a → ts ≡ spelled a ++ (OfMark Comma ∷ r) → ListRead Stands spelled r read
     → ListRead Stands spelled ts (read >>= λ xs. Ok (a ∷ xs))
 others_read Stands spelled a ts r (Ok xs) stands is h = longer Stands spelled a ts r xs stands is h
 others_read Stands spelled a ts r (Err k) stands is h = h
@@ -57,7 +57,7 @@ list_found Stands spelled member each ts = members_found Stands spelled member e
 -- nothing, or a comma
 abbrev pub Ends : List Lexeme → Type 0
 Ends [] = Unit {0}
-Ends (s ∷ ts) = s ≡ Sign Comma
+Ends (s ∷ ts) = s ≡ OfMark Comma
 
 abbrev pub Again : {A : Type 0} → (A → Type 0) → (A → List Lexeme) → (List Lexeme → Front A) → Type 0
 Again {A} Stands spelled member = (x : A) (rest : List Lexeme) → Stands x → Ends rest → member (spelled x ++ rest) ≡ Ok (x, rest)
@@ -69,14 +69,14 @@ members_again Stands spelled member again (suc n) x [] le each =
     let one : member (spelled x) ≡ Ok (x, []) = ap member (sym (append-nil (spelled x))) ∙ again x [] each.0 tt in
     rw one refl
 members_again Stands spelled member again (suc n) x (y ∷ xs) le each =
-    let one : member (spelled x ++ Sign Comma ∷ by_commas spelled (y ∷ xs)) ≡ Ok (x, Sign Comma ∷ by_commas spelled (y ∷ xs)) = again x (Sign Comma ∷ by_commas spelled (y ∷ xs)) each.0 refl in
+    let one : member (spelled x ++ OfMark Comma ∷ by_commas spelled (y ∷ xs)) ≡ Ok (x, OfMark Comma ∷ by_commas spelled (y ∷ xs)) = again x (OfMark Comma ∷ by_commas spelled (y ∷ xs)) each.0 refl in
     let two : members_at member n (by_commas spelled (y ∷ xs)) ≡ Ok (y ∷ xs) = members_again Stands spelled member again n y xs (omega arith) each.1 in
     rw (one, two) refl
 
 pub no_more : {A : Type 0} (spelled : A → List Lexeme) → ((x : A) → 0 < length (spelled x)) → (xs : List A) → length xs ≤ length (by_commas spelled xs)
 no_more spelled some [] = omega arith
 no_more spelled some (x ∷ []) = let h = some x in omega (arith, h)
-no_more spelled some (x ∷ y ∷ xs) = let h = no_more spelled some (y ∷ xs) in omega (arith, h, length-append (spelled x) (Sign Comma ∷ by_commas spelled (y ∷ xs)))
+no_more spelled some (x ∷ y ∷ xs) = let h = no_more spelled some (y ∷ xs) in omega (arith, h, length-append (spelled x) (OfMark Comma ∷ by_commas spelled (y ∷ xs)))
 
 pub list_again : {A : Type 0} (Stands : A → Type 0) (spelled : A → List Lexeme) (member : List Lexeme → Front A) → Again Stands spelled member → ((x : A) → 0 < length (spelled x))
     → (xs : List A) → 0 < length xs → AllByRecursion Stands xs → each_by_commas member (by_commas spelled xs) ≡ Ok xs

@@ -1,25 +1,25 @@
 -- Guards, bodies and declarations: what is read is spelled so, and what is spelled so is read.
 use Rattle.std.proofs.Common.{◌≡◌, List, subst, Ok}
 use Rattle.chr_lex.specs.Tokens.{Lexeme}
-use Rattle.chr_grammar.specs.Written.{Test, Member, Declared}
+use Rattle.chr_grammar.specs.Parsed.{GuardMember, BodyMember, Declared}
 use Rattle.chr_grammar.specs.Parsing.{test_at, tests_of, member_at, body_of, declared_at, declarations_of}
-use Rattle.chr_grammar.specs.Spelling.{AreByCommas, test_spelled, member_spelled, declared_spelled, IsTest, IsMember, AreTests, AreMembers}
+use Rattle.chr_grammar.specs.Spelling.{AreByCommas, test_spelled, member_spelled, declared_spelled, IsGuardMember, IsBodyMember, AreGuardMembers, AreBodyMembers}
 use Rattle.chr_grammar.proofs.Fronts.{ListRead, list_found, list_read}
 use Rattle.chr_grammar.proofs.Members.{test_found, member_found}
 use Rattle.chr_grammar.proofs.Declarations.{AnyDeclared, declared_found}
 use Rattle.chr_grammar.proofs.Members_again.{test_again, test_some, member_again, member_some, declared_again, declared_some}
 
-pub are_tests : (ts : List Lexeme) (xs : List Test) → tests_of ts ≡ Ok xs → AreTests ts xs
-are_tests ts xs h = subst (ListRead IsTest test_spelled ts) h (list_found IsTest test_spelled test_at test_found ts)
+pub are_tests : (ts : List Lexeme) (xs : List GuardMember) → tests_of ts ≡ Ok xs → AreGuardMembers ts xs
+are_tests ts xs h = subst (ListRead IsGuardMember test_spelled ts) h (list_found IsGuardMember test_spelled test_at test_found ts)
 
-pub tests_read : (ts : List Lexeme) (xs : List Test) → AreTests ts xs → tests_of ts ≡ Ok xs
-tests_read = list_read IsTest test_spelled test_at test_again test_some
+pub tests_read : (ts : List Lexeme) (xs : List GuardMember) → AreGuardMembers ts xs → tests_of ts ≡ Ok xs
+tests_read = list_read IsGuardMember test_spelled test_at test_again test_some
 
-pub are_members : (ts : List Lexeme) (xs : List Member) → body_of ts ≡ Ok xs → AreMembers ts xs
-are_members ts xs h = subst (ListRead IsMember member_spelled ts) h (list_found IsMember member_spelled member_at member_found ts)
+pub are_members : (ts : List Lexeme) (xs : List BodyMember) → body_of ts ≡ Ok xs → AreBodyMembers ts xs
+are_members ts xs h = subst (ListRead IsBodyMember member_spelled ts) h (list_found IsBodyMember member_spelled member_at member_found ts)
 
-pub members_read : (ts : List Lexeme) (xs : List Member) → AreMembers ts xs → body_of ts ≡ Ok xs
-members_read = list_read IsMember member_spelled member_at member_again member_some
+pub members_read : (ts : List Lexeme) (xs : List BodyMember) → AreBodyMembers ts xs → body_of ts ≡ Ok xs
+members_read = list_read IsBodyMember member_spelled member_at member_again member_some
 
 pub are_declared : (ts : List Lexeme) (xs : List Declared) → declarations_of ts ≡ Ok xs → AreByCommas AnyDeclared declared_spelled ts xs
 are_declared ts xs h = subst (ListRead AnyDeclared declared_spelled ts) h (list_found AnyDeclared declared_spelled declared_at declared_found ts)

@@ -7,64 +7,64 @@ use Rattle.chr_lex.specs.declared.fault.Kind.TheVariants.{Syntax}
 use Rattle.chr_lex.specs.declared.mark.Mark.TheVariants as mark
 use Rattle.chr_lex.specs.Reading.{◌>>=◌}
 use Rattle.chr_lex.specs.Tokens as word
-use Rattle.chr_lex.specs.Tokens.{Word, Lexeme, Said, Sign}
+use Rattle.chr_lex.specs.Tokens.{Word, Lexeme, OfWord, OfMark}
 use Rattle.chr_rule.specs.declared.expression.Relation.{Relation}
 use Rattle.chr_rule.specs.declared.expression.Relation.TheVariants as relation
-use Rattle.chr_grammar.specs.Written.{Formula, Phrase, Test, Compared, Member, Is, Add}
+use Rattle.chr_grammar.specs.Parsed.{ParsedExpression, ParsedAtom, GuardMember, Compared, BodyMember, Is, Add}
 use Rattle.chr_grammar.specs.Parsing as parsing
 use Rattle.chr_grammar.specs.Parsing.{Front, is_true, is_is, is_open, either, equality, equal, relation_at, compared_at, other_side_at, sides_at, plain_test_at, test_at, added_at, is_member_at, last_member_at, member_at, phrase_at, expression_at}
-use Rattle.chr_grammar.specs.Spelling.{formula_spelled, test_spelled, member_spelled, relation_sign, true_word, IsExpression, IsTest, IsMember}
+use Rattle.chr_grammar.specs.Spelling.{formula_spelled, test_spelled, member_spelled, relation_sign, true_word, IsExpression, IsGuardMember, IsBodyMember}
 use Rattle.chr_grammar.proofs.Fronts.{FrontRead}
 use Rattle.chr_grammar.proofs.Formulas.{ExpressionRead, expression_found}
 use Rattle.chr_grammar.proofs.Phrases.{PhraseRead, phrase_found}
 
-abbrev pub TestRead : List Lexeme → Front Test → Type 0
-TestRead = FrontRead IsTest test_spelled
+abbrev pub TestRead : List Lexeme → Front GuardMember → Type 0
+TestRead = FrontRead IsGuardMember test_spelled
 
 pub true_is : (s : Lexeme) → is_true s ≡ true → s ≡ true_word
-true_is (Said (word.Name w)) h = ap (λ (w : List ℕ). Said (word.Name w)) ((bytes_eq-Decides w (codes "true")).0 h)
-true_is (Said (word.Variable w)) h = absurd cc
-true_is (Said (word.Number n w)) h = absurd cc
-true_is (Sign m) h = absurd cc
+true_is (OfWord (word.Name w)) h = ap (λ (w : List ℕ). OfWord (word.Name w)) ((bytes_eq-Decides w (codes "true")).0 h)
+true_is (OfWord (word.Variable w)) h = absurd cc
+true_is (OfWord (word.Number n w)) h = absurd cc
+true_is (OfMark m) h = absurd cc
 
 relation_is : (s : Lexeme) (r : Relation) → parsing.relation s ≡ Some r → s ≡ relation_sign r
-relation_is (Said w) r h = absurd cc
-relation_is (Sign mark.Less) r h = let e : relation.Less ≡ r = cc in ap relation_sign e
-relation_is (Sign mark.AtMost) r h = let e : relation.LessEqual ≡ r = cc in ap relation_sign e
-relation_is (Sign mark.Greater) r h = let e : relation.Greater ≡ r = cc in ap relation_sign e
-relation_is (Sign mark.AtLeast) r h = let e : relation.GreaterEqual ≡ r = cc in ap relation_sign e
-relation_is (Sign mark.SameValue) r h = let e : relation.Equal ≡ r = cc in ap relation_sign e
-relation_is (Sign mark.OtherValue) r h = let e : relation.Unequal ≡ r = cc in ap relation_sign e
-relation_is (Sign _) r h = absurd cc
+relation_is (OfWord w) r h = absurd cc
+relation_is (OfMark mark.Less) r h = let e : relation.Less ≡ r = cc in ap relation_sign e
+relation_is (OfMark mark.AtMost) r h = let e : relation.LessEqual ≡ r = cc in ap relation_sign e
+relation_is (OfMark mark.Greater) r h = let e : relation.Greater ≡ r = cc in ap relation_sign e
+relation_is (OfMark mark.AtLeast) r h = let e : relation.GreaterEqual ≡ r = cc in ap relation_sign e
+relation_is (OfMark mark.SameValue) r h = let e : relation.Equal ≡ r = cc in ap relation_sign e
+relation_is (OfMark mark.OtherValue) r h = let e : relation.Unequal ≡ r = cc in ap relation_sign e
+relation_is (OfMark _) r h = absurd cc
 
 -- the sign of `==` or `\==`
 abbrev equality_sign : Bool → Lexeme
-equality_sign true = Sign mark.Equals
-equality_sign false = Sign mark.Differs
+equality_sign true = OfMark mark.Equals
+equality_sign false = OfMark mark.Differs
 
 equality_is : (s : Lexeme) (b : Bool) → equality s ≡ Some b → s ≡ equality_sign b
-equality_is (Said w) b h = absurd cc
-equality_is (Sign mark.Equals) b h = let e : true ≡ b = cc in ap equality_sign e
-equality_is (Sign mark.Differs) b h = let e : false ≡ b = cc in ap equality_sign e
-equality_is (Sign _) b h = absurd cc
+equality_is (OfWord w) b h = absurd cc
+equality_is (OfMark mark.Equals) b h = let e : true ≡ b = cc in ap equality_sign e
+equality_is (OfMark mark.Differs) b h = let e : false ≡ b = cc in ap equality_sign e
+equality_is (OfMark _) b h = absurd cc
 
-right_found : (ts us : List Lexeme) (f : Formula) (s : Lexeme) (r : Relation) (read : Front Formula) → s ≡ relation_sign r → IsExpression f → ts ≡ formula_spelled f ++ (s ∷ us) → ExpressionRead us read
+right_found : (ts us : List Lexeme) (f : ParsedExpression) (s : Lexeme) (r : Relation) (read : Front ParsedExpression) → s ≡ relation_sign r → IsExpression f → ts ≡ formula_spelled f ++ (s ∷ us) → ExpressionRead us read
     → TestRead ts (read >>= λ x. Ok (Compared r f x.0, x.1))
 right_found ts us f s r (Ok x) is stands at h =
     let there : ts ≡ formula_spelled f ++ (relation_sign r ∷ (formula_spelled x.0 ++ x.1)) = at ∙ ap (λ (s : Lexeme). formula_spelled f ++ (s ∷ us)) is ∙ ap (λ (y : List Lexeme). formula_spelled f ++ (relation_sign r ∷ y)) h.1 in
     ((stands, h.0), there ∙ sym (append_assoc (formula_spelled f) (relation_sign r ∷ formula_spelled x.0) x.1))
 right_found ts us f s r (Err e) is stands at h = h
 
-sign_found : (ts us : List Lexeme) (f : Formula) (s : Lexeme) (o : Option Relation) → ((r : Relation) → o ≡ Some r → s ≡ relation_sign r) → IsExpression f → ts ≡ formula_spelled f ++ (s ∷ us)
+sign_found : (ts us : List Lexeme) (f : ParsedExpression) (s : Lexeme) (o : Option Relation) → ((r : Relation) → o ≡ Some r → s ≡ relation_sign r) → IsExpression f → ts ≡ formula_spelled f ++ (s ∷ us)
     → TestRead ts (either o (Err Syntax) (λ r. expression_at us >>= λ x. Ok (Compared r f x.0, x.1)))
 sign_found ts us f s None is stands at = refl
 sign_found ts us f s (Some r) is stands at = right_found ts us f s r (expression_at us) (is r refl) stands at (expression_found us)
 
-relation_found : (ts r : List Lexeme) (f : Formula) → IsExpression f → ts ≡ formula_spelled f ++ r → TestRead ts (relation_at f r)
+relation_found : (ts r : List Lexeme) (f : ParsedExpression) → IsExpression f → ts ≡ formula_spelled f ++ r → TestRead ts (relation_at f r)
 relation_found ts [] f stands at = refl
 relation_found ts (s ∷ us) f stands at = sign_found ts us f s (parsing.relation s) (relation_is s) stands at
 
-left_found : (ts : List Lexeme) (read : Front Formula) → ExpressionRead ts read → TestRead ts (read >>= λ x. relation_at x.0 x.1)
+left_found : (ts : List Lexeme) (read : Front ParsedExpression) → ExpressionRead ts read → TestRead ts (read >>= λ x. relation_at x.0 x.1)
 left_found ts (Ok x) h = relation_found ts x.1 x.0 h.0 h.1
 left_found ts (Err e) h = h
 
@@ -77,11 +77,11 @@ plain_test_found (s ∷ ts) =
     cond_both (is_true s) _ _ (TestRead (s ∷ ts)) (λ h. (tt, ap (λ (s : Lexeme). s ∷ ts) (true_is s h))) (λ h. compared_found (s ∷ ts))
 
 sides_found : (same : Bool) (s : Lexeme) (ts : List Lexeme) → TestRead (s ∷ equality_sign same ∷ ts) (sides_at same s ts)
-sides_found same (Sign m) ts = refl
-sides_found same (Said v) [] = refl
-sides_found same (Said v) (Sign m ∷ ts) = refl
-sides_found true (Said v) (Said w ∷ ts) = (tt, refl)
-sides_found false (Said v) (Said w ∷ ts) = (tt, refl)
+sides_found same (OfMark m) ts = refl
+sides_found same (OfWord v) [] = refl
+sides_found same (OfWord v) (OfMark m ∷ ts) = refl
+sides_found true (OfWord v) (OfWord w ∷ ts) = (tt, refl)
+sides_found false (OfWord v) (OfWord w ∷ ts) = (tt, refl)
 
 equality_found : (s e : Lexeme) (ts : List Lexeme) (o : Option Bool) → ((b : Bool) → o ≡ Some b → e ≡ equality_sign b) → TestRead (s ∷ e ∷ ts) (either o (plain_test_at (s ∷ e ∷ ts)) (λ same. sides_at same s ts))
 equality_found s e ts None is = plain_test_found (s ∷ e ∷ ts)
@@ -92,18 +92,18 @@ test_found [] = plain_test_found []
 test_found (s ∷ []) = plain_test_found (s ∷ [])
 test_found (s ∷ e ∷ ts) = equality_found s e ts (equality e) (equality_is e)
 
-pub test_so : (ts r : List Lexeme) (t : Test) → test_at ts ≡ Ok (t, r) → ts ≡ test_spelled t ++ r
+pub test_so : (ts r : List Lexeme) (t : GuardMember) → test_at ts ≡ Ok (t, r) → ts ≡ test_spelled t ++ r
 test_so ts r t h = (subst (TestRead ts) h (test_found ts)).1
 
-pub test_stands : (ts r : List Lexeme) (t : Test) → test_at ts ≡ Ok (t, r) → IsTest t
+pub test_stands : (ts r : List Lexeme) (t : GuardMember) → test_at ts ≡ Ok (t, r) → IsGuardMember t
 test_stands ts r t h = (subst (TestRead ts) h (test_found ts)).0
 
 -- ---- bodies
 
-abbrev pub MemberRead : List Lexeme → Front Member → Type 0
-MemberRead = FrontRead IsMember member_spelled
+abbrev pub MemberRead : List Lexeme → Front BodyMember → Type 0
+MemberRead = FrontRead IsBodyMember member_spelled
 
-atom_found : (ts : List Lexeme) (read : Front Phrase) → PhraseRead ts read → MemberRead ts (read >>= λ x. Ok (Add x.0, x.1))
+atom_found : (ts : List Lexeme) (read : Front ParsedAtom) → PhraseRead ts read → MemberRead ts (read >>= λ x. Ok (Add x.0, x.1))
 atom_found ts (Ok x) h = h
 atom_found ts (Err e) h = h
 
@@ -115,20 +115,20 @@ last_member_found [] = refl
 last_member_found (s ∷ ts) =
     cond_both (is_true s) _ _ (MemberRead (s ∷ ts)) (λ h. (tt, ap (λ (s : Lexeme). s ∷ ts) (true_is s h))) (λ h. added_found (s ∷ ts))
 
-value_found : (x : List ℕ) (ts : List Lexeme) (read : Front Formula) → ExpressionRead ts read → MemberRead (Said (word.Variable x) ∷ Sign mark.Is ∷ ts) (read >>= λ e. Ok (Is x e.0, e.1))
-value_found x ts (Ok e) h = (h.0, ap (λ (y : List Lexeme). Said (word.Variable x) ∷ Sign mark.Is ∷ y) h.1)
+value_found : (x : List ℕ) (ts : List Lexeme) (read : Front ParsedExpression) → ExpressionRead ts read → MemberRead (OfWord (word.Variable x) ∷ OfMark mark.Is ∷ ts) (read >>= λ e. Ok (Is x e.0, e.1))
+value_found x ts (Ok e) h = (h.0, ap (λ (y : List Lexeme). OfWord (word.Variable x) ∷ OfMark mark.Is ∷ y) h.1)
 value_found x ts (Err k) h = h
 
-is_member_found : (s : Lexeme) (ts : List Lexeme) → MemberRead (s ∷ Sign mark.Is ∷ ts) (is_member_at s ts)
-is_member_found (Sign m) ts = refl
-is_member_found (Said (word.Name x)) ts = refl
-is_member_found (Said (word.Number n x)) ts = refl
-is_member_found (Said (word.Variable x)) ts = value_found x ts (expression_at ts) (expression_found ts)
+is_member_found : (s : Lexeme) (ts : List Lexeme) → MemberRead (s ∷ OfMark mark.Is ∷ ts) (is_member_at s ts)
+is_member_found (OfMark m) ts = refl
+is_member_found (OfWord (word.Name x)) ts = refl
+is_member_found (OfWord (word.Number n x)) ts = refl
+is_member_found (OfWord (word.Variable x)) ts = value_found x ts (expression_at ts) (expression_found ts)
 
-is_is_is : (s : Lexeme) → is_is s ≡ true → s ≡ Sign mark.Is
-is_is_is (Said w) h = absurd cc
-is_is_is (Sign mark.Is) h = refl
-is_is_is (Sign _) h = absurd cc
+is_is_is : (s : Lexeme) → is_is s ≡ true → s ≡ OfMark mark.Is
+is_is_is (OfWord w) h = absurd cc
+is_is_is (OfMark mark.Is) h = refl
+is_is_is (OfMark _) h = absurd cc
 
 pub member_found : (ts : List Lexeme) → MemberRead ts (member_at ts)
 member_found [] = last_member_found []
@@ -138,8 +138,8 @@ member_found (s ∷ e ∷ ts) =
     (λ h. subst (λ (e : Lexeme). MemberRead (s ∷ e ∷ ts) (is_member_at s ts)) (sym (is_is_is e h)) (is_member_found s ts))
     (λ h. cond_both (is_open e) _ _ (MemberRead (s ∷ e ∷ ts)) (λ h. added_found (s ∷ e ∷ ts)) (λ h. last_member_found (s ∷ e ∷ ts)))
 
-pub member_so : (ts r : List Lexeme) (m : Member) → member_at ts ≡ Ok (m, r) → ts ≡ member_spelled m ++ r
+pub member_so : (ts r : List Lexeme) (m : BodyMember) → member_at ts ≡ Ok (m, r) → ts ≡ member_spelled m ++ r
 member_so ts r m h = (subst (MemberRead ts) h (member_found ts)).1
 
-pub member_stands : (ts r : List Lexeme) (m : Member) → member_at ts ≡ Ok (m, r) → IsMember m
+pub member_stands : (ts r : List Lexeme) (m : BodyMember) → member_at ts ≡ Ok (m, r) → IsBodyMember m
 member_stands ts r m h = (subst (MemberRead ts) h (member_found ts)).0

@@ -6,15 +6,15 @@ use Rattle.std.specs.Str.{bytes_eq}
 use Rattle.chr_lex.specs.declared.mark.Mark.TheVariants as mark
 use Rattle.chr_lex.specs.declared.mark.Mark.TheVariants.{Comma}
 use Rattle.chr_lex.specs.Tokens as word
-use Rattle.chr_lex.specs.Tokens.{Word, Lexeme, Said, Sign}
+use Rattle.chr_lex.specs.Tokens.{Word, Lexeme, OfWord, OfMark}
 use Rattle.chr_rule.specs.declared.expression.Operator.{Operator}
 use Rattle.chr_rule.specs.declared.expression.Operator.TheVariants as operator
 use Rattle.chr_rule.specs.declared.expression.Relation.{Relation}
 use Rattle.chr_rule.specs.declared.expression.Relation.TheVariants as relation
-use Rattle.chr_grammar.specs.Written.{Formula, Number, Variable, Group, Operation, Test, Always, Compared, Same, Differ, Member, Nothing, Is, Add, Declared}
+use Rattle.chr_grammar.specs.Parsed.{ParsedExpression, Number, Variable, Group, Operation, GuardMember, Always, Compared, Same, Differ, BodyMember, Nothing, Is, Add, Declared}
 use Rattle.chr_grammar.specs.Parsing as parsing
 use Rattle.chr_grammar.specs.Parsing.{Front, is_true, is_reserved, equality, sum_operator, product_operator, compared_at, test_at, added_at, member_at, declared_at, phrase_at, expression_at}
-use Rattle.chr_grammar.specs.Spelling.{formula_spelled, test_spelled, member_spelled, declared_spelled, operator_sign, relation_sign, arguments, MayStand, IsExpression, IsTest, IsMember}
+use Rattle.chr_grammar.specs.Spelling.{formula_spelled, test_spelled, member_spelled, declared_spelled, operator_sign, relation_sign, arguments, IsUnreserved, IsExpression, IsGuardMember, IsBodyMember}
 use Rattle.chr_grammar.proofs.Fronts.{Again, Ends}
 use Rattle.chr_grammar.proofs.Phrases.{phrase_again}
 use Rattle.chr_grammar.proofs.Declarations.{AnyDeclared}
@@ -24,7 +24,7 @@ pub all_append : {A : Type 0} (P : A → Type 0) (xs ys : List A) → AllByRecur
 all_append P [] ys a b = b
 all_append P (x ∷ xs) ys a b = (a.0, all_append P xs ys a.1 b)
 
-pub formula_some : (f : Formula) → 0 < length (formula_spelled f)
+pub formula_some : (f : ParsedExpression) → 0 < length (formula_spelled f)
 formula_some (Number negative digits) = omega arith
 formula_some (Variable x) = omega arith
 formula_some (Group f) = omega arith
@@ -40,7 +40,7 @@ ends_sum : (rest : List Lexeme) → Ends rest → NoOperator sum_operator rest
 ends_sum [] h = tt
 ends_sum (s ∷ ts) h = rw h refl
 
-last_expression : (f : Formula) (rest : List Lexeme) → IsExpression f → Ends rest → expression_at (formula_spelled f ++ rest) ≡ Ok (f, rest)
+last_expression : (f : ParsedExpression) (rest : List Lexeme) → IsExpression f → Ends rest → expression_at (formula_spelled f ++ rest) ≡ Ok (f, rest)
 last_expression f rest stands ends = expression_again f rest stands (ends_product rest ends) (ends_sum rest ends)
 
 relation_no_product : (r : Relation) → product_operator (relation_sign r) ≡ None
@@ -88,10 +88,10 @@ operator_compares operator.Quot = (refl, refl)
 operator_compares operator.Rem = (refl, refl)
 operator_compares operator.Mod = (refl, refl)
 
-formula_compares : (f : Formula) → AllByRecursion Compares (formula_spelled f)
+formula_compares : (f : ParsedExpression) → AllByRecursion Compares (formula_spelled f)
 formula_compares (Number negative digits) = ((refl, refl), tt)
 formula_compares (Variable x) = ((refl, refl), tt)
-formula_compares (Group f) = ((refl, refl), all_append Compares (formula_spelled f) (Sign mark.Close ∷ []) (formula_compares f) ((refl, refl), tt))
+formula_compares (Group f) = ((refl, refl), all_append Compares (formula_spelled f) (OfMark mark.Close ∷ []) (formula_compares f) ((refl, refl), tt))
 formula_compares (Operation o f g) = all_append Compares (formula_spelled f) (operator_sign o ∷ formula_spelled g) (formula_compares f) (operator_compares o, formula_compares g)
 
 comparison : (xs : List Lexeme) (s : Lexeme) (ys : List Lexeme) → 0 < length xs → AllByRecursion Compares xs → Compares s → test_at (xs ++ s ∷ ys) ≡ compared_at (xs ++ s ∷ ys)
@@ -99,14 +99,14 @@ comparison [] s ys some all this = absurd (omega (arith, some))
 comparison (x ∷ []) s ys some all this = rw (this.0, all.0.1) refl
 comparison (x ∷ y ∷ xs) s ys some all this = rw (all.1.0.0, all.0.1) refl
 
-compared_again : (r : Relation) (f g : Formula) (rest : List Lexeme) → IsExpression f → IsExpression g → Ends rest → compared_at (formula_spelled f ++ (relation_sign r ∷ (formula_spelled g ++ rest))) ≡ Ok (Compared r f g, rest)
+compared_again : (r : Relation) (f g : ParsedExpression) (rest : List Lexeme) → IsExpression f → IsExpression g → Ends rest → compared_at (formula_spelled f ++ (relation_sign r ∷ (formula_spelled g ++ rest))) ≡ Ok (Compared r f g, rest)
 compared_again r f g rest left right ends =
     let one : expression_at (formula_spelled f ++ (relation_sign r ∷ (formula_spelled g ++ rest))) ≡ Ok (f, relation_sign r ∷ (formula_spelled g ++ rest)) =
     expression_again f (relation_sign r ∷ (formula_spelled g ++ rest)) left (relation_no_product r) (relation_no_sum r) in
     let two : expression_at (formula_spelled g ++ rest) ≡ Ok (g, rest) = last_expression g rest right ends in
     rw (one, relation_known r, two) refl
 
-pub test_again : Again IsTest test_spelled test_at
+pub test_again : Again IsGuardMember test_spelled test_at
 test_again Always [] stands ends = refl
 test_again Always (s ∷ rest) stands ends = rw ends refl
 test_again (Compared r f g) rest stands ends =
@@ -115,7 +115,7 @@ test_again (Compared r f g) rest stands ends =
 test_again (Same v w) rest stands ends = refl
 test_again (Differ v w) rest stands ends = refl
 
-pub test_some : (t : Test) → 0 < length (test_spelled t)
+pub test_some : (t : GuardMember) → 0 < length (test_spelled t)
 test_some Always = omega arith
 test_some (Compared r f g) = omega (arith, length-append (formula_spelled f) (relation_sign r ∷ formula_spelled g))
 test_some (Same v w) = omega arith
@@ -131,27 +131,27 @@ not_true : (name : List ℕ) → is_reserved name ≡ false → bytes_eq name (c
 not_true name h =
     either_false (bytes_eq name (codes "true")) (bytes_eq name (codes "fail")) (either_false (bytes_eq name (codes "true") || bytes_eq name (codes "fail")) (bytes_eq name (codes "false")) h)
 
-member_atom : (name : List ℕ) (ws : List Word) (rest : List Lexeme) → MayStand name ws → Ends rest → phrase_at (Said (word.Name name) ∷ (arguments ws ++ rest)) ≡ Ok (record { name = name; args = ws }, rest)
-    → member_at (Said (word.Name name) ∷ (arguments ws ++ rest)) ≡ Ok (Add (record { name = name; args = ws }), rest)
+member_atom : (name : List ℕ) (ws : List Word) (rest : List Lexeme) → IsUnreserved name ws → Ends rest → phrase_at (OfWord (word.Name name) ∷ (arguments ws ++ rest)) ≡ Ok (record { name = name; args = ws }, rest)
+    → member_at (OfWord (word.Name name) ∷ (arguments ws ++ rest)) ≡ Ok (Add (record { name = name; args = ws }), rest)
 member_atom name (w ∷ ws) rest stands ends read = rw read refl
 member_atom name [] [] stands ends read =
     let no = not_true name stands in
-    let step : member_at (Said (word.Name name) ∷ []) ≡ added_at (Said (word.Name name) ∷ []) = rw no refl in
-    let last : added_at (Said (word.Name name) ∷ []) ≡ Ok (Add (record { name = name; args = [] }), []) = rw stands refl in
+    let step : member_at (OfWord (word.Name name) ∷ []) ≡ added_at (OfWord (word.Name name) ∷ []) = rw no refl in
+    let last : added_at (OfWord (word.Name name) ∷ []) ≡ Ok (Add (record { name = name; args = [] }), []) = rw stands refl in
     step ∙ last
 member_atom name [] (s ∷ rest) stands ends read =
     let no = not_true name stands in
-    let step : member_at (Said (word.Name name) ∷ Sign Comma ∷ rest) ≡ added_at (Said (word.Name name) ∷ Sign Comma ∷ rest) = rw no refl in
-    let last : added_at (Said (word.Name name) ∷ Sign Comma ∷ rest) ≡ Ok (Add (record { name = name; args = [] }), Sign Comma ∷ rest) = rw stands refl in
-    subst (λ (s : Lexeme). member_at (Said (word.Name name) ∷ s ∷ rest) ≡ Ok (Add (record { name = name; args = [] }), s ∷ rest)) (sym ends) (step ∙ last)
+    let step : member_at (OfWord (word.Name name) ∷ OfMark Comma ∷ rest) ≡ added_at (OfWord (word.Name name) ∷ OfMark Comma ∷ rest) = rw no refl in
+    let last : added_at (OfWord (word.Name name) ∷ OfMark Comma ∷ rest) ≡ Ok (Add (record { name = name; args = [] }), OfMark Comma ∷ rest) = rw stands refl in
+    subst (λ (s : Lexeme). member_at (OfWord (word.Name name) ∷ s ∷ rest) ≡ Ok (Add (record { name = name; args = [] }), s ∷ rest)) (sym ends) (step ∙ last)
 
-pub member_again : Again IsMember member_spelled member_at
+pub member_again : Again IsBodyMember member_spelled member_at
 member_again Nothing [] stands ends = refl
 member_again Nothing (s ∷ rest) stands ends = rw ends refl
 member_again (Is x f) rest stands ends = rw (last_expression f rest stands ends) refl
 member_again (Add p) rest stands ends = member_atom p.name p.args rest stands ends (phrase_again p rest stands ends)
 
-pub member_some : (m : Member) → 0 < length (member_spelled m)
+pub member_some : (m : BodyMember) → 0 < length (member_spelled m)
 member_some Nothing = omega arith
 member_some (Is x f) = omega arith
 member_some (Add p) = omega arith

@@ -9,7 +9,7 @@ use Rattle.chr_lex.specs.declared.fault.ItemError.TheVariants as errors
 use Rattle.chr_lex.specs.declared.token.Token.{Token}
 use Rattle.chr_lex.specs.Reading.{◌>>=◌, Fails}
 use Rattle.chr_lex.specs.Tokens.{lexeme, Lexeme}
-use Rattle.chr_grammar.specs.Written.{Phrase}
+use Rattle.chr_grammar.specs.Parsed.{ParsedAtom}
 use Rattle.chr_grammar.specs.Parsing.{heads_by_arrow, before, from_first, is_at, is_arrow, is_module, is_library, consequence_of, rule_by, named_rule_of, rule_of, last_member_at, member_at, a_rule, statement_of}
 use Rattle.chr_grammar.proofs.Lists.{token_there, tokens_past, tokens_from_place}
 
@@ -76,10 +76,10 @@ pub split_some : {A : Type 0} (f : List Lexeme → List Lexeme → A) (p : Lexem
     → f (before p (map lexeme ts)) (from_first p (map lexeme ts)) ≡ f (map lexeme (take n ts)) (lexeme (get_or ts n d) ∷ map lexeme (take (length ts - (n + 1)) (drop (n + 1) ts)))
 split_some f p ts n d is lt = both f _ _ _ _ (cut_front p ts n is) (cut_back p ts n d is lt)
 
-pub behind_heads : (label : Option (List ℕ)) (ts : List Token) (n : ℕ) (d : Token) (hs : List Phrase × List Phrase) → n ≡ count_before is_arrow ts → n < length ts → heads_by_arrow (lexeme (get_or ts n d)) (map lexeme (take n ts)) ≡ Ok hs
-    → named_rule_of label (map lexeme ts) ≡ (consequence_of (map lexeme (take (length ts - (n + 1)) (drop (n + 1) ts))) >>= λ c. Ok (record { label = label; kept = hs.0; removed = hs.1; guard = c.0; body = c.1 }))
-behind_heads label ts n d hs is lt read =
-    let split = split_some (rule_by label) is_arrow ts n d is lt in
+pub behind_heads : (rule_name : Option (List ℕ)) (ts : List Token) (n : ℕ) (d : Token) (hs : List ParsedAtom × List ParsedAtom) → n ≡ count_before is_arrow ts → n < length ts → heads_by_arrow (lexeme (get_or ts n d)) (map lexeme (take n ts)) ≡ Ok hs
+    → named_rule_of rule_name (map lexeme ts) ≡ (consequence_of (map lexeme (take (length ts - (n + 1)) (drop (n + 1) ts))) >>= λ c. Ok (record { rule_name = rule_name; kept = hs.0; removed = hs.1; guard = c.0; body = c.1 }))
+behind_heads rule_name ts n d hs is lt read =
+    let split = split_some (rule_by rule_name) is_arrow ts n d is lt in
     rw (split, read) refl
 
 -- ---- too few tokens

@@ -4,14 +4,14 @@ use Rattle.std.specs.List.{AllByRecursion}
 use Rattle.chr_lex.specs.declared.fault.Kind.{Kind}
 use Rattle.chr_lex.specs.declared.fault.Kind.TheVariants.{Syntax}
 use Rattle.chr_lex.specs.declared.mark.Mark.TheVariants as mark
-use Rattle.chr_lex.specs.Tokens.{Word, Lexeme, Sign}
+use Rattle.chr_lex.specs.Tokens.{Word, Lexeme, OfMark}
 use Rattle.chr_rule.specs.declared.expression.Operator.{Operator}
 use Rattle.chr_rule.specs.declared.expression.Operator.TheVariants as operator
 use Rattle.chr_rule.specs.declared.expression.Relation.{Relation}
 use Rattle.chr_rule.specs.declared.expression.Relation.TheVariants as relation
-use Rattle.chr_grammar.specs.Written.{Formula, Number, Variable, Group, Operation, Phrase, Test, Always, Compared, Same, Differ, Member, Nothing, Is, Add, RawRule, Declared, Statement, Import, Declaration, Rule}
+use Rattle.chr_grammar.specs.Parsed.{ParsedExpression, Number, Variable, Group, Operation, ParsedAtom, GuardMember, Always, Compared, Same, Differ, BodyMember, Nothing, Is, Add, ParsedRule, Declared, Statement, Import, Declaration, Rule}
 use Rattle.chr_grammar.specs.Parsing.{is_backslash, is_bar, is_arrow, is_at, is_declares, phrases_of, tests_of, body_of, heads_by, heads_of, heads_by_arrow, consequence_by, consequence_of, rule_by, named_rule_of, rule_of, declarations_of, a_rule, statement_of}
-use Rattle.chr_grammar.specs.Spelling.{by_commas, further, arguments, operator_sign, relation_sign, formula_spelled, phrase_spelled, test_spelled, member_spelled, declared_spelled, IsPhrase, IsTest, IsMember, label_spelled, heads_spelled, arrow_sign, consequence_spelled, rule_spelled, IsRule, statement_spelled, IsStatement, Says}
+use Rattle.chr_grammar.specs.Spelling.{by_commas, further, arguments, operator_sign, relation_sign, formula_spelled, phrase_spelled, test_spelled, member_spelled, declared_spelled, IsParsedAtom, IsGuardMember, IsBodyMember, rule_name_spelled, heads_spelled, arrow_sign, consequence_spelled, rule_spelled, IsParsedRule, statement_spelled, IsStatement, AreStatement}
 use Rattle.chr_grammar.proofs.Fronts.{no_more}
 use Rattle.chr_grammar.proofs.Phrases.{phrases_read, phrase_some}
 use Rattle.chr_grammar.proofs.Declarations.{AnyDeclared}
@@ -56,22 +56,22 @@ arguments_inside : (ws : List Word) → AllInside (arguments ws)
 arguments_inside [] = tt
 arguments_inside (w ∷ ws) = (plain, (plain, further_inside ws))
 
-phrase_inside : (p : Phrase) → AllInside (phrase_spelled p)
+phrase_inside : (p : ParsedAtom) → AllInside (phrase_spelled p)
 phrase_inside p = (plain, arguments_inside p.args)
 
-formula_inside : (f : Formula) → AllInside (formula_spelled f)
+formula_inside : (f : ParsedExpression) → AllInside (formula_spelled f)
 formula_inside (Number negative digits) = (plain, tt)
 formula_inside (Variable x) = (plain, tt)
-formula_inside (Group f) = (plain, all_append Inside (formula_spelled f) (Sign mark.Close ∷ []) (formula_inside f) (plain, tt))
+formula_inside (Group f) = (plain, all_append Inside (formula_spelled f) (OfMark mark.Close ∷ []) (formula_inside f) (plain, tt))
 formula_inside (Operation o f g) = all_append Inside (formula_spelled f) (operator_sign o ∷ formula_spelled g) (formula_inside f) (operator_inside o, formula_inside g)
 
-test_inside : (t : Test) → AllInside (test_spelled t)
+test_inside : (t : GuardMember) → AllInside (test_spelled t)
 test_inside Always = (plain, tt)
 test_inside (Compared r f g) = all_append Inside (formula_spelled f) (relation_sign r ∷ formula_spelled g) (formula_inside f) (relation_inside r, formula_inside g)
 test_inside (Same v w) = (plain, (plain, (plain, tt)))
 test_inside (Differ v w) = (plain, (plain, (plain, tt)))
 
-member_inside : (m : Member) → AllInside (member_spelled m)
+member_inside : (m : BodyMember) → AllInside (member_spelled m)
 member_inside Nothing = (plain, tt)
 member_inside (Is x f) = (plain, (plain, formula_inside f))
 member_inside (Add p) = phrase_inside p
@@ -79,7 +79,7 @@ member_inside (Add p) = phrase_inside p
 list_inside : {A : Type 0} (spelled : A → List Lexeme) → ((x : A) → AllInside (spelled x)) → (xs : List A) → AllInside (by_commas spelled xs)
 list_inside spelled each [] = tt
 list_inside spelled each (x ∷ []) = each x
-list_inside spelled each (x ∷ y ∷ xs) = all_append Inside (spelled x) (Sign mark.Comma ∷ by_commas spelled (y ∷ xs)) (each x) (plain, list_inside spelled each (y ∷ xs))
+list_inside spelled each (x ∷ y ∷ xs) = all_append Inside (spelled x) (OfMark mark.Comma ∷ by_commas spelled (y ∷ xs)) (each x) (plain, list_inside spelled each (y ∷ xs))
 
 weaker : {A : Type 0} (P Q : A → Type 0) → ((x : A) → P x → Q x) → (xs : List A) → AllByRecursion P xs → AllByRecursion Q xs
 weaker P Q f [] h = tt
@@ -91,32 +91,32 @@ weaker P Q f (x ∷ xs) h = (f x h.0, weaker P Q f xs h.1)
 abbrev InHeads : Lexeme → Type 0
 InHeads s = (is_arrow s ≡ false) × (is_at s ≡ false) × (is_declares s ≡ false)
 
-phrases_in_heads : (ps : List Phrase) → AllByRecursion InHeads (by_commas phrase_spelled ps)
+phrases_in_heads : (ps : List ParsedAtom) → AllByRecursion InHeads (by_commas phrase_spelled ps)
 phrases_in_heads ps = weaker Inside InHeads (λ s h. (h.0, h.3, h.4)) (by_commas phrase_spelled ps) (list_inside phrase_spelled phrase_inside ps)
 
-in_heads : (kept removed : List Phrase) → AllByRecursion InHeads (heads_spelled kept removed)
+in_heads : (kept removed : List ParsedAtom) → AllByRecursion InHeads (heads_spelled kept removed)
 in_heads [] removed = phrases_in_heads removed
 in_heads (p ∷ ps) [] = phrases_in_heads (p ∷ ps)
-in_heads (p ∷ ps) (q ∷ qs) = all_append InHeads (by_commas phrase_spelled (p ∷ ps)) (Sign mark.Backslash ∷ by_commas phrase_spelled (q ∷ qs)) (phrases_in_heads (p ∷ ps)) ((refl, refl, refl), phrases_in_heads (q ∷ qs))
+in_heads (p ∷ ps) (q ∷ qs) = all_append InHeads (by_commas phrase_spelled (p ∷ ps)) (OfMark mark.Backslash ∷ by_commas phrase_spelled (q ∷ qs)) (phrases_in_heads (p ∷ ps)) ((refl, refl, refl), phrases_in_heads (q ∷ qs))
 
-no_backslash : (ps : List Phrase) → None_such is_backslash (by_commas phrase_spelled ps)
+no_backslash : (ps : List ParsedAtom) → None_such is_backslash (by_commas phrase_spelled ps)
 no_backslash ps = weaker Inside (λ s. is_backslash s ≡ false) (λ s h. h.1) (by_commas phrase_spelled ps) (list_inside phrase_spelled phrase_inside ps)
 
-again : (p : Phrase) (ps : List Phrase) → AllByRecursion IsPhrase (p ∷ ps) → phrases_of (by_commas phrase_spelled (p ∷ ps)) ≡ Ok (p ∷ ps)
+again : (p : ParsedAtom) (ps : List ParsedAtom) → AllByRecursion IsParsedAtom (p ∷ ps) → phrases_of (by_commas phrase_spelled (p ∷ ps)) ≡ Ok (p ∷ ps)
 again p ps each = phrases_read (by_commas phrase_spelled (p ∷ ps)) (p ∷ ps) (record { some = omega arith; each = each; written = refl })
 
-only_removed : (ps : List Phrase) (read : phrases_of (by_commas phrase_spelled ps) ≡ Ok ps) → heads_of (by_commas phrase_spelled ps) ≡ Ok ([], ps)
+only_removed : (ps : List ParsedAtom) (read : phrases_of (by_commas phrase_spelled ps) ≡ Ok ps) → heads_of (by_commas phrase_spelled ps) ≡ Ok ([], ps)
 only_removed ps read =
     let cut : heads_of (by_commas phrase_spelled ps) ≡ heads_by (by_commas phrase_spelled ps) [] = cut_none heads_by is_backslash (by_commas phrase_spelled ps) (no_backslash ps) in
     cut ∙ rw read refl
 
-kept_and_removed : (ps qs : List Phrase) → phrases_of (by_commas phrase_spelled ps) ≡ Ok ps → phrases_of (by_commas phrase_spelled qs) ≡ Ok qs → heads_of (by_commas phrase_spelled ps ++ Sign mark.Backslash ∷ by_commas phrase_spelled qs) ≡ Ok (ps, qs)
+kept_and_removed : (ps qs : List ParsedAtom) → phrases_of (by_commas phrase_spelled ps) ≡ Ok ps → phrases_of (by_commas phrase_spelled qs) ≡ Ok qs → heads_of (by_commas phrase_spelled ps ++ OfMark mark.Backslash ∷ by_commas phrase_spelled qs) ≡ Ok (ps, qs)
 kept_and_removed ps qs one two =
-    let cut : heads_of (by_commas phrase_spelled ps ++ Sign mark.Backslash ∷ by_commas phrase_spelled qs) ≡ heads_by (by_commas phrase_spelled ps) (Sign mark.Backslash ∷ by_commas phrase_spelled qs) =
-    cut_past heads_by is_backslash (by_commas phrase_spelled ps) (by_commas phrase_spelled qs) (Sign mark.Backslash) (no_backslash ps) refl in
+    let cut : heads_of (by_commas phrase_spelled ps ++ OfMark mark.Backslash ∷ by_commas phrase_spelled qs) ≡ heads_by (by_commas phrase_spelled ps) (OfMark mark.Backslash ∷ by_commas phrase_spelled qs) =
+    cut_past heads_by is_backslash (by_commas phrase_spelled ps) (by_commas phrase_spelled qs) (OfMark mark.Backslash) (no_backslash ps) refl in
     cut ∙ rw (one, two) refl
 
-heads_again : (kept removed : List Phrase) → 0 < length kept + length removed → AllByRecursion IsPhrase kept → AllByRecursion IsPhrase removed → heads_by_arrow (arrow_sign removed) (heads_spelled kept removed) ≡ Ok (kept, removed)
+heads_again : (kept removed : List ParsedAtom) → 0 < length kept + length removed → AllByRecursion IsParsedAtom kept → AllByRecursion IsParsedAtom removed → heads_by_arrow (arrow_sign removed) (heads_spelled kept removed) ≡ Ok (kept, removed)
 heads_again [] [] some k r = absurd (omega (arith, some))
 heads_again [] (q ∷ qs) some k r = only_removed (q ∷ qs) (again q qs r)
 heads_again (p ∷ ps) [] some k r = rw (again p ps k) refl
@@ -124,74 +124,74 @@ heads_again (p ∷ ps) (q ∷ qs) some k r = kept_and_removed (p ∷ ps) (q ∷ 
 
 -- ---- guard and body
 
-no_bar_in_tests : (xs : List Test) → None_such is_bar (by_commas test_spelled xs)
+no_bar_in_tests : (xs : List GuardMember) → None_such is_bar (by_commas test_spelled xs)
 no_bar_in_tests xs = weaker Inside (λ s. is_bar s ≡ false) (λ s h. h.2) (by_commas test_spelled xs) (list_inside test_spelled test_inside xs)
 
-no_bar_in_members : (xs : List Member) → None_such is_bar (by_commas member_spelled xs)
+no_bar_in_members : (xs : List BodyMember) → None_such is_bar (by_commas member_spelled xs)
 no_bar_in_members xs = weaker Inside (λ s. is_bar s ≡ false) (λ s h. h.2) (by_commas member_spelled xs) (list_inside member_spelled member_inside xs)
 
-members_again : (xs : List Member) → 0 < length xs → AllByRecursion IsMember xs → body_of (by_commas member_spelled xs) ≡ Ok xs
+members_again : (xs : List BodyMember) → 0 < length xs → AllByRecursion IsBodyMember xs → body_of (by_commas member_spelled xs) ≡ Ok xs
 members_again xs some each = members_read (by_commas member_spelled xs) xs (record { some = some; each = each; written = refl })
 
-tests_again : (xs : List Test) → 0 < length xs → AllByRecursion IsTest xs → tests_of (by_commas test_spelled xs) ≡ Ok xs
+tests_again : (xs : List GuardMember) → 0 < length xs → AllByRecursion IsGuardMember xs → tests_of (by_commas test_spelled xs) ≡ Ok xs
 tests_again xs some each = tests_read (by_commas test_spelled xs) xs (record { some = some; each = each; written = refl })
 
-unguarded : (xs : List Member) → body_of (by_commas member_spelled xs) ≡ Ok xs → consequence_of (by_commas member_spelled xs) ≡ Ok ([], xs)
+unguarded : (xs : List BodyMember) → body_of (by_commas member_spelled xs) ≡ Ok xs → consequence_of (by_commas member_spelled xs) ≡ Ok ([], xs)
 unguarded xs read =
     let cut : consequence_of (by_commas member_spelled xs) ≡ consequence_by (by_commas member_spelled xs) [] = cut_none consequence_by is_bar (by_commas member_spelled xs) (no_bar_in_members xs) in
     cut ∙ rw read refl
 
-guarded : (gs : List Test) (xs : List Member) → tests_of (by_commas test_spelled gs) ≡ Ok gs → body_of (by_commas member_spelled xs) ≡ Ok xs → consequence_of (by_commas test_spelled gs ++ Sign mark.Bar ∷ by_commas member_spelled xs) ≡ Ok (gs, xs)
+guarded : (gs : List GuardMember) (xs : List BodyMember) → tests_of (by_commas test_spelled gs) ≡ Ok gs → body_of (by_commas member_spelled xs) ≡ Ok xs → consequence_of (by_commas test_spelled gs ++ OfMark mark.Bar ∷ by_commas member_spelled xs) ≡ Ok (gs, xs)
 guarded gs xs one two =
-    let cut : consequence_of (by_commas test_spelled gs ++ Sign mark.Bar ∷ by_commas member_spelled xs) ≡ consequence_by (by_commas test_spelled gs) (Sign mark.Bar ∷ by_commas member_spelled xs) =
-    cut_past consequence_by is_bar (by_commas test_spelled gs) (by_commas member_spelled xs) (Sign mark.Bar) (no_bar_in_tests gs) refl in
+    let cut : consequence_of (by_commas test_spelled gs ++ OfMark mark.Bar ∷ by_commas member_spelled xs) ≡ consequence_by (by_commas test_spelled gs) (OfMark mark.Bar ∷ by_commas member_spelled xs) =
+    cut_past consequence_by is_bar (by_commas test_spelled gs) (by_commas member_spelled xs) (OfMark mark.Bar) (no_bar_in_tests gs) refl in
     cut ∙ rw (one, two) refl
 
-consequence_again : (guard : List Test) (body : List Member) → AllByRecursion IsTest guard → 0 < length body → AllByRecursion IsMember body → consequence_of (consequence_spelled guard body) ≡ Ok (guard, body)
+consequence_again : (guard : List GuardMember) (body : List BodyMember) → AllByRecursion IsGuardMember guard → 0 < length body → AllByRecursion IsBodyMember body → consequence_of (consequence_spelled guard body) ≡ Ok (guard, body)
 consequence_again [] body g some b = unguarded body (members_again body some b)
 consequence_again (t ∷ gs) body g some b = guarded (t ∷ gs) body (tests_again (t ∷ gs) (omega arith) g) (members_again body some b)
 
 -- ---- rules
 
-arrow_is : (removed : List Phrase) → is_arrow (arrow_sign removed) ≡ true
+arrow_is : (removed : List ParsedAtom) → is_arrow (arrow_sign removed) ≡ true
 arrow_is [] = refl
 arrow_is (p ∷ ps) = refl
 
-arrow_no_at : (removed : List Phrase) → is_at (arrow_sign removed) ≡ false
+arrow_no_at : (removed : List ParsedAtom) → is_at (arrow_sign removed) ≡ false
 arrow_no_at [] = refl
 arrow_no_at (p ∷ ps) = refl
 
-abbrev bare : RawRule → List Lexeme
+abbrev bare : ParsedRule → List Lexeme
 bare r = heads_spelled r.kept r.removed ++ arrow_sign r.removed ∷ consequence_spelled r.guard r.body
 
-bare_again : (label : Option (List ℕ)) (r : RawRule) → IsRule r → named_rule_of label (bare r) ≡ Ok (record { label = label; kept = r.kept; removed = r.removed; guard = r.guard; body = r.body })
-bare_again label r is =
+bare_again : (rule_name : Option (List ℕ)) (r : ParsedRule) → IsParsedRule r → named_rule_of rule_name (bare r) ≡ Ok (record { rule_name = rule_name; kept = r.kept; removed = r.removed; guard = r.guard; body = r.body })
+bare_again rule_name r is =
     let heads = heads_spelled r.kept r.removed in
     let behind = consequence_spelled r.guard r.body in
     let none : None_such is_arrow heads = weaker InHeads (λ s. is_arrow s ≡ false) (λ s h. h.0) heads (in_heads r.kept r.removed) in
-    let cut : named_rule_of label (bare r) ≡ rule_by label heads (arrow_sign r.removed ∷ behind) = cut_past (rule_by label) is_arrow heads behind (arrow_sign r.removed) none (arrow_is r.removed) in
+    let cut : named_rule_of rule_name (bare r) ≡ rule_by rule_name heads (arrow_sign r.removed ∷ behind) = cut_past (rule_by rule_name) is_arrow heads behind (arrow_sign r.removed) none (arrow_is r.removed) in
     let one : heads_by_arrow (arrow_sign r.removed) heads ≡ Ok (r.kept, r.removed) = heads_again r.kept r.removed is.has_heads is.kept is.removed in
     let two : consequence_of behind ≡ Ok (r.guard, r.body) = consequence_again r.guard r.body is.guard is.has_body is.body in
     cut ∙ rw (one, two) refl
 
-heads_some : (kept removed : List Phrase) → 0 < length kept + length removed → 0 < length (heads_spelled kept removed)
+heads_some : (kept removed : List ParsedAtom) → 0 < length kept + length removed → 0 < length (heads_spelled kept removed)
 heads_some [] removed some = omega (arith, some, no_more phrase_spelled phrase_some removed)
 heads_some (p ∷ ps) [] some = omega (arith, no_more phrase_spelled phrase_some (p ∷ ps))
-heads_some (p ∷ ps) (q ∷ qs) some = omega (arith, length-append (by_commas phrase_spelled (p ∷ ps)) (Sign mark.Backslash ∷ by_commas phrase_spelled (q ∷ qs)))
+heads_some (p ∷ ps) (q ∷ qs) some = omega (arith, length-append (by_commas phrase_spelled (p ∷ ps)) (OfMark mark.Backslash ∷ by_commas phrase_spelled (q ∷ qs)))
 
 without_label : (xs : List Lexeme) (s : Lexeme) (ys : List Lexeme) → 0 < length xs → AllByRecursion InHeads xs → is_at s ≡ false → rule_of (xs ++ s ∷ ys) ≡ named_rule_of None (xs ++ s ∷ ys)
 without_label [] s ys some all this = absurd (omega (arith, some))
 without_label (x ∷ []) s ys some all this = rw this refl
 without_label (x ∷ y ∷ xs) s ys some all this = rw all.1.0.1 refl
 
-labelled : (label : Option (List ℕ)) (r : RawRule) → IsRule r → rule_of (label_spelled label ++ bare r) ≡ Ok (record { label = label; kept = r.kept; removed = r.removed; guard = r.guard; body = r.body })
+labelled : (rule_name : Option (List ℕ)) (r : ParsedRule) → IsParsedRule r → rule_of (rule_name_spelled rule_name ++ bare r) ≡ Ok (record { rule_name = rule_name; kept = r.kept; removed = r.removed; guard = r.guard; body = r.body })
 labelled (Some name) r is = bare_again (Some name) r is
 labelled None r is =
     without_label (heads_spelled r.kept r.removed) (arrow_sign r.removed) (consequence_spelled r.guard r.body) (heads_some r.kept r.removed is.has_heads) (in_heads r.kept r.removed) (arrow_no_at r.removed)
     ∙ bare_again None r is
 
-rule_again : (r : RawRule) → IsRule r → rule_of (rule_spelled r) ≡ Ok r
-rule_again r is = labelled r.label r is
+rule_again : (r : ParsedRule) → IsParsedRule r → rule_of (rule_spelled r) ≡ Ok r
+rule_again r is = labelled r.rule_name r is
 
 -- ---- statements
 
@@ -200,7 +200,7 @@ no_directive [] s ys some all = absurd (omega (arith, some))
 no_directive (x ∷ []) s ys some all = rw all.0.2 refl
 no_directive (x ∷ y ∷ xs) s ys some all = rw all.0.2 refl
 
-is_a_rule : (label : Option (List ℕ)) (r : RawRule) → IsRule r → statement_of (label_spelled label ++ bare r) ≡ a_rule (label_spelled label ++ bare r)
+is_a_rule : (rule_name : Option (List ℕ)) (r : ParsedRule) → IsParsedRule r → statement_of (rule_name_spelled rule_name ++ bare r) ≡ a_rule (rule_name_spelled rule_name ++ bare r)
 is_a_rule (Some name) r is = refl
 is_a_rule None r is = no_directive (heads_spelled r.kept r.removed) (arrow_sign r.removed) (consequence_spelled r.guard r.body) (heads_some r.kept r.removed is.has_heads) (in_heads r.kept r.removed)
 
@@ -217,13 +217,13 @@ statement_again (Declaration ds) is = let h = declared_again ds is in rw h refl
 statement_again (Rule r) is =
     let read : rule_of (rule_spelled r) ≡ Ok r = rule_again r is in
     let last : a_rule (rule_spelled r) ≡ Ok (Rule r) = rw read refl in
-    is_a_rule r.label r is ∙ last
+    is_a_rule r.rule_name r is ∙ last
 
-pub said : (ts : List Lexeme) (s : Statement) → Says ts s → statement_of ts ≡ Ok s
-said ts s h = ap statement_of h.1 ∙ statement_again s h.0
+pub by_texts : (ts : List Lexeme) (s : Statement) → AreStatement ts s → statement_of ts ≡ Ok s
+by_texts ts s h = ap statement_of h.1 ∙ statement_again s h.0
 
-pub one_statement : (ts : List Lexeme) (s t : Statement) → Says ts s → Says ts t → s ≡ t
-one_statement ts s t h k = let a = said ts s h in let b = said ts t k in cc
+pub one_statement : (ts : List Lexeme) (s t : Statement) → AreStatement ts s → AreStatement ts t → s ≡ t
+one_statement ts s t h k = let a = by_texts ts s h in let b = by_texts ts t k in cc
 
-pub refused : (ts : List Lexeme) (k : Kind) → statement_of ts ≡ Err k → (k ≡ Syntax) × ((s : Statement) → Says ts s → ⊥)
-refused ts k h = (subst (StatementRead ts) h (statement_found ts), λ s a. let x = said ts s a in cc)
+pub refused : (ts : List Lexeme) (k : Kind) → statement_of ts ≡ Err k → (k ≡ Syntax) × ((s : Statement) → AreStatement ts s → ⊥)
+refused ts k h = (subst (StatementRead ts) h (statement_found ts), λ s a. let x = by_texts ts s a in cc)

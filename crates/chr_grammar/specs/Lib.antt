@@ -1,4 +1,4 @@
-pub mod Written
+pub mod Parsed
 pub mod Views
 pub mod Parsing
 pub mod Spelling

@@ -6,14 +6,14 @@ use Rattle.chr_lex.specs.declared.fault.Kind.{Kind}
 use Rattle.chr_lex.specs.declared.fault.Kind.TheVariants.{Syntax}
 use Rattle.chr_lex.specs.declared.mark.Mark.TheVariants as mark
 use Rattle.chr_lex.specs.Reading.{◌>>=◌}
-use Rattle.chr_lex.specs.Tokens.{Word, Name, Variable, Number, Lexeme, Said, Sign}
+use Rattle.chr_lex.specs.Tokens.{Word, Name, Variable, Number, Lexeme, OfWord, OfMark}
 use Rattle.chr_rule.specs.declared.expression.Operator.{Operator}
 use Rattle.chr_rule.specs.declared.expression.Operator.TheVariants.{Add, Sub, Mul, Quot, Rem, Mod}
 use Rattle.chr_rule.specs.declared.expression.Relation.{Relation}
 use Rattle.chr_rule.specs.declared.expression.Relation.TheVariants.{Less, LessEqual, Greater, GreaterEqual, Equal, Unequal}
 use Rattle.chr_grammar.specs.declared.expression.TheConstants.{MOST_DEPTH}
-use Rattle.chr_grammar.specs.Written as written
-use Rattle.chr_grammar.specs.Written.{Formula, Phrase, Test, Member, RawRule, Declared, Statement}
+use Rattle.chr_grammar.specs.Parsed as parsed
+use Rattle.chr_grammar.specs.Parsed.{ParsedExpression, ParsedAtom, GuardMember, BodyMember, ParsedRule, Declared, Statement}
 
 -- what is read at the front, and the tokens behind it
 abbrev pub Front : Type 0 → Type 0
@@ -22,52 +22,52 @@ Front A = Result (A × List Lexeme) Kind
 -- ---- signs
 
 abbrev pub is_open : Lexeme → Bool
-is_open (Sign mark.Open) = true
+is_open (OfMark mark.Open) = true
 is_open _ = false
 
 abbrev pub is_close : Lexeme → Bool
-is_close (Sign mark.Close) = true
+is_close (OfMark mark.Close) = true
 is_close _ = false
 
 abbrev pub is_comma : Lexeme → Bool
-is_comma (Sign mark.Comma) = true
+is_comma (OfMark mark.Comma) = true
 is_comma _ = false
 
 abbrev pub is_slash : Lexeme → Bool
-is_slash (Sign mark.Slash) = true
+is_slash (OfMark mark.Slash) = true
 is_slash _ = false
 
 abbrev pub is_declares : Lexeme → Bool
-is_declares (Sign mark.Declares) = true
+is_declares (OfMark mark.Declares) = true
 is_declares _ = false
 
 abbrev pub is_at : Lexeme → Bool
-is_at (Sign mark.At) = true
+is_at (OfMark mark.At) = true
 is_at _ = false
 
 abbrev pub is_backslash : Lexeme → Bool
-is_backslash (Sign mark.Backslash) = true
+is_backslash (OfMark mark.Backslash) = true
 is_backslash _ = false
 
 abbrev pub is_bar : Lexeme → Bool
-is_bar (Sign mark.Bar) = true
+is_bar (OfMark mark.Bar) = true
 is_bar _ = false
 
 abbrev pub is_is : Lexeme → Bool
-is_is (Sign mark.Is) = true
+is_is (OfMark mark.Is) = true
 is_is _ = false
 
 abbrev pub is_propagate : Lexeme → Bool
-is_propagate (Sign mark.Propagate) = true
+is_propagate (OfMark mark.Propagate) = true
 is_propagate _ = false
 
 abbrev pub is_arrow : Lexeme → Bool
-is_arrow (Sign mark.Simplify) = true
-is_arrow (Sign mark.Propagate) = true
+is_arrow (OfMark mark.Simplify) = true
+is_arrow (OfMark mark.Propagate) = true
 is_arrow _ = false
 
 abbrev pub named : Lexeme → Option (List ℕ)
-named (Said (Name name)) = Some name
+named (OfWord (Name name)) = Some name
 named _ = None
 
 abbrev pub is_named : List ℕ → Option (List ℕ) → Bool
@@ -107,150 +107,150 @@ is_reserved name = bytes_eq name (codes "true") || bytes_eq name (codes "fail") 
 -- terms by commas, and a closing parenthesis
 abbrev pub terms_at : List Lexeme → Front (List Word)
 terms_at [] = Err Syntax
-terms_at (Sign m ∷ ts) = Err Syntax
-terms_at (Said w ∷ []) = Err Syntax
-terms_at (Said w ∷ s ∷ ts) =
+terms_at (OfMark m ∷ ts) = Err Syntax
+terms_at (OfWord w ∷ []) = Err Syntax
+terms_at (OfWord w ∷ s ∷ ts) =
     if is_comma s then (terms_at ts >>= λ x. Ok (w ∷ x.0, x.1))
     else (if is_close s then Ok (w ∷ [], ts) else Err Syntax)
 
 -- what follows the name of an atom
-abbrev pub args_at : List ℕ → List Lexeme → Front Phrase
+abbrev pub args_at : List ℕ → List Lexeme → Front ParsedAtom
 args_at name [] = if is_reserved name then Err Syntax else Ok (record { name = name; args = [] }, [])
 args_at name (s ∷ ts) =
     if is_open s then (terms_at ts >>= λ x. Ok (record { name = name; args = x.0 }, x.1))
     else (if is_reserved name then Err Syntax else Ok (record { name = name; args = [] }, s ∷ ts))
 
-abbrev pub phrase_at : List Lexeme → Front Phrase
-phrase_at (Said (Name name) ∷ ts) = args_at name ts
+abbrev pub phrase_at : List Lexeme → Front ParsedAtom
+phrase_at (OfWord (Name name) ∷ ts) = args_at name ts
 phrase_at _ = Err Syntax
 
 -- a post, or the heads of a rule
-abbrev pub phrases_of : List Lexeme → Result (List Phrase) Kind
+abbrev pub phrases_of : List Lexeme → Result (List ParsedAtom) Kind
 phrases_of = each_by_commas phrase_at
 
 -- ---- expressions
 
 abbrev pub sum_operator : Lexeme → Option Operator
-sum_operator (Sign mark.Plus) = Some Add
-sum_operator (Sign mark.Minus) = Some Sub
+sum_operator (OfMark mark.Plus) = Some Add
+sum_operator (OfMark mark.Minus) = Some Sub
 sum_operator _ = None
 
 abbrev pub product_operator : Lexeme → Option Operator
-product_operator (Sign mark.Star) = Some Mul
-product_operator (Sign mark.Quotient) = Some Quot
-product_operator (Sign mark.Rem) = Some Rem
-product_operator (Sign mark.Mod) = Some Mod
+product_operator (OfMark mark.Star) = Some Mul
+product_operator (OfMark mark.Quotient) = Some Quot
+product_operator (OfMark mark.Rem) = Some Rem
+product_operator (OfMark mark.Mod) = Some Mod
 product_operator _ = None
 
-abbrev pub closed : Formula → List Lexeme → Front Formula
+abbrev pub closed : ParsedExpression → List Lexeme → Front ParsedExpression
 closed f [] = Err Syntax
-closed f (s ∷ ts) = if is_close s then Ok (written.Group f, ts) else Err Syntax
+closed f (s ∷ ts) = if is_close s then Ok (parsed.Group f, ts) else Err Syntax
 
 -- a number, a variable, or what stands in parentheses
-abbrev pub factor_at : (List Lexeme → Front Formula) → List Lexeme → Front Formula
+abbrev pub factor_at : (List Lexeme → Front ParsedExpression) → List Lexeme → Front ParsedExpression
 factor_at inner [] = Err Syntax
-factor_at inner (Said (Name x) ∷ ts) = Err Syntax
-factor_at inner (Said (Variable x) ∷ ts) = Ok (written.Variable x, ts)
-factor_at inner (Said (Number negative digits) ∷ ts) = Ok (written.Number negative digits, ts)
-factor_at inner (Sign m ∷ ts) = if is_open (Sign m) then (inner ts >>= λ x. closed x.0 x.1) else Err Syntax
+factor_at inner (OfWord (Name x) ∷ ts) = Err Syntax
+factor_at inner (OfWord (Variable x) ∷ ts) = Ok (parsed.Variable x, ts)
+factor_at inner (OfWord (Number negative digits) ∷ ts) = Ok (parsed.Number negative digits, ts)
+factor_at inner (OfMark m ∷ ts) = if is_open (OfMark m) then (inner ts >>= λ x. closed x.0 x.1) else Err Syntax
 
 -- To the left: what was read so far is the left side of the next operator. No more operators than so many.
-abbrev pub chain_at : (Lexeme → Option Operator) → (List Lexeme → Front Formula) → ℕ → Formula → List Lexeme → Front Formula
+abbrev pub chain_at : (Lexeme → Option Operator) → (List Lexeme → Front ParsedExpression) → ℕ → ParsedExpression → List Lexeme → Front ParsedExpression
 chain_at operator side n left [] = Ok (left, [])
 chain_at operator side zero left (s ∷ ts) = either (operator s) (Ok (left, s ∷ ts)) (λ o. Err Syntax)
-chain_at operator side (suc n) left (s ∷ ts) = either (operator s) (Ok (left, s ∷ ts)) (λ o. side ts >>= λ x. chain_at operator side n (written.Operation o left x.0) x.1)
+chain_at operator side (suc n) left (s ∷ ts) = either (operator s) (Ok (left, s ∷ ts)) (λ o. side ts >>= λ x. chain_at operator side n (parsed.Operation o left x.0) x.1)
 
-abbrev pub product_at : (List Lexeme → Front Formula) → List Lexeme → Front Formula
+abbrev pub product_at : (List Lexeme → Front ParsedExpression) → List Lexeme → Front ParsedExpression
 product_at inner ts = factor_at inner ts >>= λ x. chain_at product_operator (factor_at inner) (MOST_DEPTH - 1) x.0 x.1
 
 -- no more parentheses in one another than so many
-unfoldable pub sum_at : ℕ → List Lexeme → Front Formula
+unfoldable pub sum_at : ℕ → List Lexeme → Front ParsedExpression
 sum_at zero ts = Err Syntax
 sum_at (suc n) ts = product_at (sum_at n) ts >>= λ x. chain_at sum_operator (product_at (sum_at n)) (MOST_DEPTH - 1) x.0 x.1
 
 -- A number or a variable has depth 1. An operation is one deeper than its deeper side, and parentheses add one.
-abbrev pub fits : ℕ → Formula → Bool
+abbrev pub fits : ℕ → ParsedExpression → Bool
 fits zero f = false
-fits (suc n) (written.Number negative digits) = true
-fits (suc n) (written.Variable x) = true
-fits (suc n) (written.Group f) = fits n f
-fits (suc n) (written.Operation o f g) = fits n f && fits n g
+fits (suc n) (parsed.Number negative digits) = true
+fits (suc n) (parsed.Variable x) = true
+fits (suc n) (parsed.Group f) = fits n f
+fits (suc n) (parsed.Operation o f g) = fits n f && fits n g
 
-abbrev pub fitting : Formula → List Lexeme → Front Formula
+abbrev pub fitting : ParsedExpression → List Lexeme → Front ParsedExpression
 fitting f ts = if fits MOST_DEPTH f then Ok (f, ts) else Err Syntax
 
-unfoldable pub expression_at : List Lexeme → Front Formula
+unfoldable pub expression_at : List Lexeme → Front ParsedExpression
 expression_at ts = sum_at MOST_DEPTH ts >>= λ x. fitting x.0 x.1
 
 -- ---- guards
 
 abbrev pub relation : Lexeme → Option Relation
-relation (Sign mark.Less) = Some Less
-relation (Sign mark.AtMost) = Some LessEqual
-relation (Sign mark.Greater) = Some Greater
-relation (Sign mark.AtLeast) = Some GreaterEqual
-relation (Sign mark.SameValue) = Some Equal
-relation (Sign mark.OtherValue) = Some Unequal
+relation (OfMark mark.Less) = Some Less
+relation (OfMark mark.AtMost) = Some LessEqual
+relation (OfMark mark.Greater) = Some Greater
+relation (OfMark mark.AtLeast) = Some GreaterEqual
+relation (OfMark mark.SameValue) = Some Equal
+relation (OfMark mark.OtherValue) = Some Unequal
 relation _ = None
 
 -- `==`, or `\==`, which is false
 abbrev pub equality : Lexeme → Option Bool
-equality (Sign mark.Equals) = Some true
-equality (Sign mark.Differs) = Some false
+equality (OfMark mark.Equals) = Some true
+equality (OfMark mark.Differs) = Some false
 equality _ = None
 
-abbrev pub equal : Bool → Word → Word → Test
-equal true v w = written.Same v w
-equal false v w = written.Differ v w
+abbrev pub equal : Bool → Word → Word → GuardMember
+equal true v w = parsed.Same v w
+equal false v w = parsed.Differ v w
 
 -- a relation and what is compared with this expression
-abbrev pub relation_at : Formula → List Lexeme → Front Test
+abbrev pub relation_at : ParsedExpression → List Lexeme → Front GuardMember
 relation_at f [] = Err Syntax
-relation_at f (s ∷ ts) = either (relation s) (Err Syntax) (λ r. expression_at ts >>= λ x. Ok (written.Compared r f x.0, x.1))
+relation_at f (s ∷ ts) = either (relation s) (Err Syntax) (λ r. expression_at ts >>= λ x. Ok (parsed.Compared r f x.0, x.1))
 
-abbrev pub compared_at : List Lexeme → Front Test
+abbrev pub compared_at : List Lexeme → Front GuardMember
 compared_at ts = expression_at ts >>= λ x. relation_at x.0 x.1
 
-abbrev pub other_side_at : Bool → Word → List Lexeme → Front Test
-other_side_at same v (Said w ∷ ts) = Ok (equal same v w, ts)
+abbrev pub other_side_at : Bool → Word → List Lexeme → Front GuardMember
+other_side_at same v (OfWord w ∷ ts) = Ok (equal same v w, ts)
 other_side_at same v _ = Err Syntax
 
-abbrev pub sides_at : Bool → Lexeme → List Lexeme → Front Test
-sides_at same (Said v) ts = other_side_at same v ts
-sides_at same (Sign m) ts = Err Syntax
+abbrev pub sides_at : Bool → Lexeme → List Lexeme → Front GuardMember
+sides_at same (OfWord v) ts = other_side_at same v ts
+sides_at same (OfMark m) ts = Err Syntax
 
-abbrev pub plain_test_at : List Lexeme → Front Test
+abbrev pub plain_test_at : List Lexeme → Front GuardMember
 plain_test_at [] = compared_at []
-plain_test_at (s ∷ ts) = if is_true s then Ok (written.Always, ts) else compared_at (s ∷ ts)
+plain_test_at (s ∷ ts) = if is_true s then Ok (parsed.Always, ts) else compared_at (s ∷ ts)
 
-abbrev pub test_at : List Lexeme → Front Test
+abbrev pub test_at : List Lexeme → Front GuardMember
 test_at (s ∷ e ∷ ts) = either (equality e) (plain_test_at (s ∷ e ∷ ts)) (λ same. sides_at same s ts)
 test_at ts = plain_test_at ts
 
-abbrev pub tests_of : List Lexeme → Result (List Test) Kind
+abbrev pub tests_of : List Lexeme → Result (List GuardMember) Kind
 tests_of = each_by_commas test_at
 
 -- ---- bodies
 
-abbrev pub added_at : List Lexeme → Front Member
-added_at ts = phrase_at ts >>= λ x. Ok (written.Add x.0, x.1)
+abbrev pub added_at : List Lexeme → Front BodyMember
+added_at ts = phrase_at ts >>= λ x. Ok (parsed.Add x.0, x.1)
 
 -- a variable, and what it is
-abbrev pub is_member_at : Lexeme → List Lexeme → Front Member
-is_member_at (Said (Variable x)) ts = expression_at ts >>= λ e. Ok (written.Is x e.0, e.1)
+abbrev pub is_member_at : Lexeme → List Lexeme → Front BodyMember
+is_member_at (OfWord (Variable x)) ts = expression_at ts >>= λ e. Ok (parsed.Is x e.0, e.1)
 is_member_at _ ts = Err Syntax
 
-abbrev pub last_member_at : List Lexeme → Front Member
+abbrev pub last_member_at : List Lexeme → Front BodyMember
 last_member_at [] = Err Syntax
-last_member_at (s ∷ ts) = if is_true s then Ok (written.Nothing, ts) else added_at (s ∷ ts)
+last_member_at (s ∷ ts) = if is_true s then Ok (parsed.Nothing, ts) else added_at (s ∷ ts)
 
-abbrev pub member_at : List Lexeme → Front Member
+abbrev pub member_at : List Lexeme → Front BodyMember
 member_at (s ∷ e ∷ ts) =
     if is_is e then is_member_at s ts
     else (if is_open e then added_at (s ∷ e ∷ ts) else last_member_at (s ∷ e ∷ ts))
 member_at ts = last_member_at ts
 
-abbrev pub body_of : List Lexeme → Result (List Member) Kind
+abbrev pub body_of : List Lexeme → Result (List BodyMember) Kind
 body_of = each_by_commas member_at
 
 -- ---- rules
@@ -266,37 +266,37 @@ from_first p [] = []
 from_first p (s ∷ ts) = if p s then s ∷ ts else from_first p ts
 
 -- the heads: those that are kept, and those that are removed
-abbrev pub heads_by : List Lexeme → List Lexeme → Result (List Phrase × List Phrase) Kind
+abbrev pub heads_by : List Lexeme → List Lexeme → Result (List ParsedAtom × List ParsedAtom) Kind
 heads_by heads [] = phrases_of heads >>= λ removed. Ok ([], removed)
 heads_by heads (s ∷ ts) = phrases_of heads >>= λ kept. phrases_of ts >>= λ removed. Ok (kept, removed)
 
-abbrev pub heads_of : List Lexeme → Result (List Phrase × List Phrase) Kind
+abbrev pub heads_of : List Lexeme → Result (List ParsedAtom × List ParsedAtom) Kind
 heads_of ts = heads_by (before is_backslash ts) (from_first is_backslash ts)
 
-abbrev pub all_kept : List Lexeme → Result (List Phrase × List Phrase) Kind
+abbrev pub all_kept : List Lexeme → Result (List ParsedAtom × List ParsedAtom) Kind
 all_kept ts = phrases_of ts >>= λ kept. Ok (kept, [])
 
-abbrev pub heads_by_arrow : Lexeme → List Lexeme → Result (List Phrase × List Phrase) Kind
+abbrev pub heads_by_arrow : Lexeme → List Lexeme → Result (List ParsedAtom × List ParsedAtom) Kind
 heads_by_arrow s ts = if is_propagate s then all_kept ts else heads_of ts
 
 -- the guard and the body
-abbrev pub consequence_by : List Lexeme → List Lexeme → Result (List Test × List Member) Kind
+abbrev pub consequence_by : List Lexeme → List Lexeme → Result (List GuardMember × List BodyMember) Kind
 consequence_by front [] = body_of front >>= λ body. Ok ([], body)
 consequence_by front (s ∷ ts) = tests_of front >>= λ guard. body_of ts >>= λ body. Ok (guard, body)
 
-abbrev pub consequence_of : List Lexeme → Result (List Test × List Member) Kind
+abbrev pub consequence_of : List Lexeme → Result (List GuardMember × List BodyMember) Kind
 consequence_of ts = consequence_by (before is_bar ts) (from_first is_bar ts)
 
-abbrev pub rule_by : Option (List ℕ) → List Lexeme → List Lexeme → Result RawRule Kind
-rule_by label heads [] = Err Syntax
-rule_by label heads (s ∷ ts) =
+abbrev pub rule_by : Option (List ℕ) → List Lexeme → List Lexeme → Result ParsedRule Kind
+rule_by rule_name heads [] = Err Syntax
+rule_by rule_name heads (s ∷ ts) =
     heads_by_arrow s heads >>= λ hs. consequence_of ts >>= λ c.
-    Ok (record { label = label; kept = hs.0; removed = hs.1; guard = c.0; body = c.1 })
+    Ok (record { rule_name = rule_name; kept = hs.0; removed = hs.1; guard = c.0; body = c.1 })
 
-abbrev pub named_rule_of : Option (List ℕ) → List Lexeme → Result RawRule Kind
-named_rule_of label ts = rule_by label (before is_arrow ts) (from_first is_arrow ts)
+abbrev pub named_rule_of : Option (List ℕ) → List Lexeme → Result ParsedRule Kind
+named_rule_of rule_name ts = rule_by rule_name (before is_arrow ts) (from_first is_arrow ts)
 
-abbrev pub rule_of : List Lexeme → Result RawRule Kind
+abbrev pub rule_of : List Lexeme → Result ParsedRule Kind
 rule_of (s ∷ e ∷ ts) = if is_at e then either (named s) (Err Syntax) (λ name. named_rule_of (Some name) ts) else named_rule_of None (s ∷ e ∷ ts)
 rule_of ts = named_rule_of None ts
 
@@ -319,7 +319,7 @@ is_library (s ∷ n ∷ ts) = is_opened (codes "library") s n && is_module ts
 is_library _ = false
 
 abbrev pub declared_of : Lexeme → Lexeme → Lexeme → Result Declared Kind
-declared_of (Said (Name name)) (Sign mark.Slash) (Said (Number false digits)) = Ok (record { name = name; digits = digits })
+declared_of (OfWord (Name name)) (OfMark mark.Slash) (OfWord (Number false digits)) = Ok (record { name = name; digits = digits })
 declared_of _ _ _ = Err Syntax
 
 abbrev pub declared_at : List Lexeme → Front Declared
@@ -331,11 +331,11 @@ declarations_of = each_by_commas declared_at
 
 abbrev pub directive_of : List ℕ → List Lexeme → Result Statement Kind
 directive_of name ts =
-    if bytes_eq name (codes "chr_constraint") then (declarations_of ts >>= λ ds. Ok (written.Declaration ds))
-    else (if bytes_eq name (codes "use_module") && is_library ts then Ok written.Import else Err Syntax)
+    if bytes_eq name (codes "chr_constraint") then (declarations_of ts >>= λ ds. Ok (parsed.Declaration ds))
+    else (if bytes_eq name (codes "use_module") && is_library ts then Ok parsed.Import else Err Syntax)
 
 abbrev pub a_rule : List Lexeme → Result Statement Kind
-a_rule ts = rule_of ts >>= λ r. Ok (written.Rule r)
+a_rule ts = rule_of ts >>= λ r. Ok (parsed.Rule r)
 
 abbrev pub statement_of : List Lexeme → Result Statement Kind
 statement_of (s ∷ e ∷ ts) = if is_declares s then either (named e) (Err Syntax) (λ name. directive_of name ts) else a_rule (s ∷ e ∷ ts)

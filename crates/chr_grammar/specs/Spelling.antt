@@ -3,14 +3,14 @@ use Rattle.std.specs.Prelude.{◌≡◌, ℕ, ◌+◌, suc, ◌<◌, ◌≤◌, 
 use Rattle.std.specs.List.{AllByRecursion}
 use Rattle.chr_lex.specs.declared.mark.Mark.TheVariants as mark
 use Rattle.chr_lex.specs.declared.mark.Mark.TheVariants.{Open, Close, Comma}
-use Rattle.chr_lex.specs.Tokens.{Word, Lexeme, Said, Sign}
+use Rattle.chr_lex.specs.Tokens.{Word, Lexeme, OfWord, OfMark}
 use Rattle.chr_lex.specs.Tokens as word
 use Rattle.chr_rule.specs.declared.expression.Operator.{Operator}
 use Rattle.chr_rule.specs.declared.expression.Operator.TheVariants as operator
 use Rattle.chr_rule.specs.declared.expression.Relation.{Relation}
 use Rattle.chr_rule.specs.declared.expression.Relation.TheVariants as relation
 use Rattle.chr_grammar.specs.declared.expression.TheConstants.{MOST_DEPTH}
-use Rattle.chr_grammar.specs.Written.{Formula, Number, Variable, Group, Operation, Phrase, Test, Always, Compared, Same, Differ, Member, Nothing, Is, Add, RawRule, Declared, Statement, Import, Declaration, Rule}
+use Rattle.chr_grammar.specs.Parsed.{ParsedExpression, Number, Variable, Group, Operation, ParsedAtom, GuardMember, Always, Compared, Same, Differ, BodyMember, Nothing, Is, Add, ParsedRule, Declared, Statement, Import, Declaration, Rule}
 use Rattle.chr_grammar.specs.Parsing.{is_reserved}
 
 -- ---- lists by commas
@@ -19,7 +19,7 @@ use Rattle.chr_grammar.specs.Parsing.{is_reserved}
 abbrev pub by_commas : {A : Type 0} → (A → List Lexeme) → List A → List Lexeme
 by_commas spelled [] = []
 by_commas spelled (x ∷ []) = spelled x
-by_commas spelled (x ∷ y ∷ xs) = spelled x ++ Sign Comma ∷ by_commas spelled (y ∷ xs)
+by_commas spelled (x ∷ y ∷ xs) = spelled x ++ OfMark Comma ∷ by_commas spelled (y ∷ xs)
 
 -- at least one member, each of them well formed, by commas
 pub record AreByCommas {A : Type 0} (Stands : A → Type 0) (spelled : A → List Lexeme) (ts : List Lexeme) (xs : List A) : Type 0 where
@@ -31,42 +31,42 @@ pub record AreByCommas {A : Type 0} (Stands : A → Type 0) (spelled : A → Lis
 
 -- further terms by commas, and the closing parenthesis
 abbrev pub further : List Word → List Lexeme
-further [] = Sign Close ∷ []
-further (w ∷ ws) = Sign Comma ∷ Said w ∷ further ws
+further [] = OfMark Close ∷ []
+further (w ∷ ws) = OfMark Comma ∷ OfWord w ∷ further ws
 
 abbrev pub arguments : List Word → List Lexeme
 arguments [] = []
-arguments (w ∷ ws) = Sign Open ∷ Said w ∷ further ws
+arguments (w ∷ ws) = OfMark Open ∷ OfWord w ∷ further ws
 
-abbrev pub phrase_spelled : Phrase → List Lexeme
-phrase_spelled p = Said (word.Name p.name) ∷ arguments p.args
+abbrev pub phrase_spelled : ParsedAtom → List Lexeme
+phrase_spelled p = OfWord (word.Name p.name) ∷ arguments p.args
 
 -- true, fail and false are no atoms without arguments
-abbrev pub MayStand : List ℕ → List Word → Type 0
-MayStand name [] = is_reserved name ≡ false
-MayStand name (w ∷ ws) = Unit {0}
+abbrev pub IsUnreserved : List ℕ → List Word → Type 0
+IsUnreserved name [] = is_reserved name ≡ false
+IsUnreserved name (w ∷ ws) = Unit {0}
 
-abbrev pub IsPhrase : Phrase → Type 0
-IsPhrase p = MayStand p.name p.args
+abbrev pub IsParsedAtom : ParsedAtom → Type 0
+IsParsedAtom p = IsUnreserved p.name p.args
 
 -- the tokens are these atoms by commas
-abbrev pub ArePhrases : List Lexeme → List Phrase → Type 0
-ArePhrases = AreByCommas IsPhrase phrase_spelled
+abbrev pub AreParsedAtoms : List Lexeme → List ParsedAtom → Type 0
+AreParsedAtoms = AreByCommas IsParsedAtom phrase_spelled
 
 -- ---- expressions
 
 abbrev pub operator_sign : Operator → Lexeme
-operator_sign operator.Add = Sign mark.Plus
-operator_sign operator.Sub = Sign mark.Minus
-operator_sign operator.Mul = Sign mark.Star
-operator_sign operator.Quot = Sign mark.Quotient
-operator_sign operator.Rem = Sign mark.Rem
-operator_sign operator.Mod = Sign mark.Mod
+operator_sign operator.Add = OfMark mark.Plus
+operator_sign operator.Sub = OfMark mark.Minus
+operator_sign operator.Mul = OfMark mark.Star
+operator_sign operator.Quot = OfMark mark.Quotient
+operator_sign operator.Rem = OfMark mark.Rem
+operator_sign operator.Mod = OfMark mark.Mod
 
-abbrev pub formula_spelled : Formula → List Lexeme
-formula_spelled (Number negative digits) = Said (word.Number negative digits) ∷ []
-formula_spelled (Variable x) = Said (word.Variable x) ∷ []
-formula_spelled (Group f) = Sign Open ∷ (formula_spelled f ++ Sign Close ∷ [])
+abbrev pub formula_spelled : ParsedExpression → List Lexeme
+formula_spelled (Number negative digits) = OfWord (word.Number negative digits) ∷ []
+formula_spelled (Variable x) = OfWord (word.Variable x) ∷ []
+formula_spelled (Group f) = OfMark Open ∷ (formula_spelled f ++ OfMark Close ∷ [])
 formula_spelled (Operation o f g) = formula_spelled f ++ operator_sign o ∷ formula_spelled g
 
 -- how tightly an operator binds
@@ -76,26 +76,26 @@ binds operator.Sub = 1
 binds _ = 2
 
 -- how tightly an expression holds together: an operation as its operator binds, all else more tightly
-abbrev pub holds : Formula → ℕ
+abbrev pub holds : ParsedExpression → ℕ
 holds (Operation o f g) = binds o
 holds _ = 3
 
 -- Parentheses stand where they must: what is left of an operator holds together at least as tightly as the operator
 -- binds, and what is right of it more tightly.
-abbrev pub IsGrouped : Formula → Type 0
+abbrev pub IsGrouped : ParsedExpression → Type 0
 IsGrouped (Number negative digits) = Unit {0}
 IsGrouped (Variable x) = Unit {0}
 IsGrouped (Group f) = IsGrouped f
 IsGrouped (Operation o f g) = (binds o ≤ holds f) × (binds o < holds g) × IsGrouped f × IsGrouped g
 
 -- A number or a variable has depth 1. An operation is one deeper than its deeper side, and parentheses add one.
-abbrev pub depth : Formula → ℕ
+abbrev pub depth : ParsedExpression → ℕ
 depth (Number negative digits) = 1
 depth (Variable x) = 1
 depth (Group f) = suc (depth f)
 depth (Operation o f g) = suc (max (depth f) (depth g))
 
-abbrev pub IsExpression : Formula → Type 0
+abbrev pub IsExpression : ParsedExpression → Type 0
 IsExpression f = IsGrouped f × (depth f ≤ MOST_DEPTH)
 
 -- nothing, or no operator
@@ -106,99 +106,99 @@ EndsExpression (s ∷ ts) = (o : Operator) → s ≡ operator_sign o → ⊥
 -- ---- guards
 
 abbrev pub relation_sign : Relation → Lexeme
-relation_sign relation.Less = Sign mark.Less
-relation_sign relation.LessEqual = Sign mark.AtMost
-relation_sign relation.Greater = Sign mark.Greater
-relation_sign relation.GreaterEqual = Sign mark.AtLeast
-relation_sign relation.Equal = Sign mark.SameValue
-relation_sign relation.Unequal = Sign mark.OtherValue
+relation_sign relation.Less = OfMark mark.Less
+relation_sign relation.LessEqual = OfMark mark.AtMost
+relation_sign relation.Greater = OfMark mark.Greater
+relation_sign relation.GreaterEqual = OfMark mark.AtLeast
+relation_sign relation.Equal = OfMark mark.SameValue
+relation_sign relation.Unequal = OfMark mark.OtherValue
 
 abbrev pub true_word : Lexeme
-true_word = Said (word.Name (codes "true"))
+true_word = OfWord (word.Name (codes "true"))
 
-abbrev pub test_spelled : Test → List Lexeme
+abbrev pub test_spelled : GuardMember → List Lexeme
 test_spelled Always = true_word ∷ []
 test_spelled (Compared r f g) = formula_spelled f ++ relation_sign r ∷ formula_spelled g
-test_spelled (Same v w) = Said v ∷ Sign mark.Equals ∷ Said w ∷ []
-test_spelled (Differ v w) = Said v ∷ Sign mark.Differs ∷ Said w ∷ []
+test_spelled (Same v w) = OfWord v ∷ OfMark mark.Equals ∷ OfWord w ∷ []
+test_spelled (Differ v w) = OfWord v ∷ OfMark mark.Differs ∷ OfWord w ∷ []
 
-abbrev pub IsTest : Test → Type 0
-IsTest (Compared r f g) = IsExpression f × IsExpression g
-IsTest _ = Unit {0}
+abbrev pub IsGuardMember : GuardMember → Type 0
+IsGuardMember (Compared r f g) = IsExpression f × IsExpression g
+IsGuardMember _ = Unit {0}
 
 -- the tokens are these members by commas
-abbrev pub AreTests : List Lexeme → List Test → Type 0
-AreTests = AreByCommas IsTest test_spelled
+abbrev pub AreGuardMembers : List Lexeme → List GuardMember → Type 0
+AreGuardMembers = AreByCommas IsGuardMember test_spelled
 
 -- ---- bodies
 
-abbrev pub member_spelled : Member → List Lexeme
+abbrev pub member_spelled : BodyMember → List Lexeme
 member_spelled Nothing = true_word ∷ []
-member_spelled (Is x f) = Said (word.Variable x) ∷ Sign mark.Is ∷ formula_spelled f
+member_spelled (Is x f) = OfWord (word.Variable x) ∷ OfMark mark.Is ∷ formula_spelled f
 member_spelled (Add p) = phrase_spelled p
 
-abbrev pub IsMember : Member → Type 0
-IsMember Nothing = Unit {0}
-IsMember (Is x f) = IsExpression f
-IsMember (Add p) = IsPhrase p
+abbrev pub IsBodyMember : BodyMember → Type 0
+IsBodyMember Nothing = Unit {0}
+IsBodyMember (Is x f) = IsExpression f
+IsBodyMember (Add p) = IsParsedAtom p
 
 -- the tokens are these members by commas
-abbrev pub AreMembers : List Lexeme → List Member → Type 0
-AreMembers = AreByCommas IsMember member_spelled
+abbrev pub AreBodyMembers : List Lexeme → List BodyMember → Type 0
+AreBodyMembers = AreByCommas IsBodyMember member_spelled
 
 -- ---- declarations
 
 abbrev pub declared_spelled : Declared → List Lexeme
-declared_spelled d = Said (word.Name d.name) ∷ Sign mark.Slash ∷ Said (word.Number false d.digits) ∷ []
+declared_spelled d = OfWord (word.Name d.name) ∷ OfMark mark.Slash ∷ OfWord (word.Number false d.digits) ∷ []
 
 -- ---- rules
 
-abbrev pub label_spelled : Option (List ℕ) → List Lexeme
-label_spelled None = []
-label_spelled (Some name) = Said (word.Name name) ∷ Sign mark.At ∷ []
+abbrev pub rule_name_spelled : Option (List ℕ) → List Lexeme
+rule_name_spelled None = []
+rule_name_spelled (Some name) = OfWord (word.Name name) ∷ OfMark mark.At ∷ []
 
 -- those that are kept before those that are removed
-abbrev pub heads_spelled : List Phrase → List Phrase → List Lexeme
+abbrev pub heads_spelled : List ParsedAtom → List ParsedAtom → List Lexeme
 heads_spelled [] removed = by_commas phrase_spelled removed
 heads_spelled kept [] = by_commas phrase_spelled kept
-heads_spelled kept removed = by_commas phrase_spelled kept ++ Sign mark.Backslash ∷ by_commas phrase_spelled removed
+heads_spelled kept removed = by_commas phrase_spelled kept ++ OfMark mark.Backslash ∷ by_commas phrase_spelled removed
 
 -- `==>` where nothing is removed
-abbrev pub arrow_sign : List Phrase → Lexeme
-arrow_sign [] = Sign mark.Propagate
-arrow_sign removed = Sign mark.Simplify
+abbrev pub arrow_sign : List ParsedAtom → Lexeme
+arrow_sign [] = OfMark mark.Propagate
+arrow_sign removed = OfMark mark.Simplify
 
-abbrev pub consequence_spelled : List Test → List Member → List Lexeme
+abbrev pub consequence_spelled : List GuardMember → List BodyMember → List Lexeme
 consequence_spelled [] body = by_commas member_spelled body
-consequence_spelled guard body = by_commas test_spelled guard ++ Sign mark.Bar ∷ by_commas member_spelled body
+consequence_spelled guard body = by_commas test_spelled guard ++ OfMark mark.Bar ∷ by_commas member_spelled body
 
-abbrev pub rule_spelled : RawRule → List Lexeme
-rule_spelled r = label_spelled r.label ++ (heads_spelled r.kept r.removed ++ arrow_sign r.removed ∷ consequence_spelled r.guard r.body)
+abbrev pub rule_spelled : ParsedRule → List Lexeme
+rule_spelled r = rule_name_spelled r.rule_name ++ (heads_spelled r.kept r.removed ++ arrow_sign r.removed ∷ consequence_spelled r.guard r.body)
 
-pub record IsRule (r : RawRule) : Type 0 where
+pub record IsParsedRule (r : ParsedRule) : Type 0 where
   pub has_heads : 0 < length r.kept + length r.removed
-  pub kept : AllByRecursion IsPhrase r.kept
-  pub removed : AllByRecursion IsPhrase r.removed
-  pub guard : AllByRecursion IsTest r.guard
+  pub kept : AllByRecursion IsParsedAtom r.kept
+  pub removed : AllByRecursion IsParsedAtom r.removed
+  pub guard : AllByRecursion IsGuardMember r.guard
   pub has_body : 0 < length r.body
-  pub body : AllByRecursion IsMember r.body
+  pub body : AllByRecursion IsBodyMember r.body
 
 -- ---- statements
 
 abbrev pub a_name : List ℕ → Lexeme
-a_name name = Said (word.Name name)
+a_name name = OfWord (word.Name name)
 
 abbrev pub statement_spelled : Statement → List Lexeme
 statement_spelled Import =
-    Sign mark.Declares ∷ a_name (codes "use_module") ∷ Sign Open ∷ a_name (codes "library") ∷ Sign Open ∷ a_name (codes "chr") ∷ Sign Close ∷ Sign Close ∷ []
-statement_spelled (Declaration ds) = Sign mark.Declares ∷ a_name (codes "chr_constraint") ∷ by_commas declared_spelled ds
+    OfMark mark.Declares ∷ a_name (codes "use_module") ∷ OfMark Open ∷ a_name (codes "library") ∷ OfMark Open ∷ a_name (codes "chr") ∷ OfMark Close ∷ OfMark Close ∷ []
+statement_spelled (Declaration ds) = OfMark mark.Declares ∷ a_name (codes "chr_constraint") ∷ by_commas declared_spelled ds
 statement_spelled (Rule r) = rule_spelled r
 
 abbrev pub IsStatement : Statement → Type 0
 IsStatement Import = Unit {0}
 IsStatement (Declaration ds) = 0 < length ds
-IsStatement (Rule r) = IsRule r
+IsStatement (Rule r) = IsParsedRule r
 
 -- the tokens are this statement
-abbrev pub Says : List Lexeme → Statement → Type 0
-Says ts s = IsStatement s × (ts ≡ statement_spelled s)
+abbrev pub AreStatement : List Lexeme → Statement → Type 0
+AreStatement ts s = IsStatement s × (ts ≡ statement_spelled s)

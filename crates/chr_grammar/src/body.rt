@@ -6,20 +6,20 @@ ghost use Rattle.chr_lex.specs.Tokens.{lexeme};
 ghost use Rattle.chr_grammar.specs.Views.{member};
 ghost use Rattle.chr_grammar.specs.Parsing.{added_at, is_member_at, last_member_at, member_at, body_of};
 
-use crate::expression::{Tree, parse_expression};
-use crate::phrase::{Phrase, parse_phrase};
+use crate::expression::{ParsedExpression, parse_expression};
+use crate::phrase::{ParsedAtom, parse_phrase};
 use crate::sign::{is_comma, is_is, is_open, is_true};
 use chr_lex::fault::{ItemError, Kind};
-use chr_lex::token::{Token, Written};
+use chr_lex::token::{Token, Word};
 use std::alloc::Allocator;
 
 /// A member of a body as it is written.
 #[derive(Drop)]
-pub enum Member<'a, A: Allocator> {
+pub enum BodyMember<'a, A: Allocator> {
     True,
     /// A variable `is` an expression.
-    Is(&'a [u8], Tree<'a, A>),
-    Add(Phrase<'a, A>),
+    Is(&'a [u8], ParsedExpression<'a, A>),
+    Add(ParsedAtom<'a, A>),
 }
 
 /// `first is` and an expression.
@@ -27,14 +27,14 @@ fn is_member<'a, A: Allocator + Copy>(
     alloc: A,
     first: Token<'a>,
     tokens: &'a [Token<'a>],
-) -> Result<(Member<'a, A>, &'a [Token<'a>]), ItemError>
+) -> Result<(BodyMember<'a, A>, &'a [Token<'a>]), ItemError>
     ensures same { Gives (λ x. (member x.0, map lexeme x.1.now)) result (is_member_at (lexeme first.entry) (map lexeme tokens.now)) }
     ensures shorter { IfOk result (λ x. length x.1.now < length tokens.now) }
 {
     match first {
-        Token::Written(Written::Variable(name)) => {
+        Token::Word(Word::Variable(name)) => {
             let (tree, rest) = parse_expression(alloc, tokens)?;
-            Ok((Member::Is(name, tree), rest))
+            Ok((BodyMember::Is(name, tree), rest))
         }
         _ => Err(ItemError::Fault(Kind::Syntax)),
     }
@@ -44,24 +44,24 @@ fn is_member<'a, A: Allocator + Copy>(
 fn added<'a, A: Allocator + Copy>(
     alloc: A,
     tokens: &'a [Token<'a>],
-) -> Result<(Member<'a, A>, &'a [Token<'a>]), ItemError>
+) -> Result<(BodyMember<'a, A>, &'a [Token<'a>]), ItemError>
     ensures same { Gives (λ x. (member x.0, map lexeme x.1.now)) result (added_at (map lexeme tokens.now)) }
     ensures shorter { IfOk result (λ x. length x.1.now < length tokens.now) }
 {
     let (phrase, rest) = parse_phrase(alloc, tokens)?;
-    Ok((Member::Add(phrase), rest))
+    Ok((BodyMember::Add(phrase), rest))
 }
 
 /// The member at the front where at most one token is left.
 fn last_member<'a, A: Allocator + Copy>(
     alloc: A,
     tokens: &'a [Token<'a>],
-) -> Result<(Member<'a, A>, &'a [Token<'a>]), ItemError>
+) -> Result<(BodyMember<'a, A>, &'a [Token<'a>]), ItemError>
     ensures same { Gives (λ x. (member x.0, map lexeme x.1.now)) result (last_member_at (map lexeme tokens.now)) }
     ensures shorter { IfOk result (λ x. length x.1.now < length tokens.now) }
 {
     match tokens {
-        [first, rest @ ..] if is_true(*first) => Ok((Member::True, rest)),
+        [first, rest @ ..] if is_true(*first) => Ok((BodyMember::True, rest)),
         _ => added(alloc, tokens),
     }
 }
@@ -70,7 +70,7 @@ fn last_member<'a, A: Allocator + Copy>(
 pub(crate) fn parse_member<'a, A: Allocator + Copy>(
     alloc: A,
     tokens: &'a [Token<'a>],
-) -> Result<(Member<'a, A>, &'a [Token<'a>]), ItemError>
+) -> Result<(BodyMember<'a, A>, &'a [Token<'a>]), ItemError>
     ensures same { Gives (λ x. (member x.0, map lexeme x.1.now)) result (member_at (map lexeme tokens.now)) }
     ensures shorter { IfOk result (λ x. length x.1.now < length tokens.now) }
 {
@@ -93,7 +93,7 @@ fn member_from<'a, A: Allocator + Copy>(
     alloc: A,
     tokens: &'a [Token<'a>],
     from: usize,
-) -> Result<(Member<'a, A>, usize), ItemError>
+) -> Result<(BodyMember<'a, A>, usize), ItemError>
     requires { from ≤ length tokens.now }
     ensures same { Gives (λ x. (member x.0, drop x.1 (map lexeme tokens.now))) result (member_at (drop from (map lexeme tokens.now))) }
     ensures next { IfOk result (λ x. (from < x.1) × (x.1 ≤ length tokens.now)) }
@@ -106,7 +106,7 @@ fn member_from<'a, A: Allocator + Copy>(
 pub(crate) fn parse_members<'a, A: Allocator + Copy>(
     alloc: A,
     tokens: &'a [Token<'a>],
-) -> Result<Vec<Member<'a, A>, A>, ItemError>
+) -> Result<Vec<BodyMember<'a, A>, A>, ItemError>
     ensures { Gives (λ v. map member v.items) result (body_of (map lexeme tokens.now)) }
 {
     let mut members = Vec::new(alloc);

@@ -8,7 +8,7 @@ ghost use Rattle.chr_grammar.specs.Parsing.{named, is_named, is_opened, are_clos
 
 use crate::sign::{is_close, is_comma, is_open, is_slash, named};
 use chr_lex::fault::{ItemError, Kind};
-use chr_lex::token::{Token, Written};
+use chr_lex::token::{Token, Word};
 use std::alloc::Allocator;
 
 /// A name and how many arguments it takes, as they are declared.
@@ -75,9 +75,9 @@ fn declared_of<'a>(
     }
     match (name, number) {
         (
-            Token::Written(Written::Name(name)),
-            Token::Written(
-                Written::Number {
+            Token::Word(Word::Name(name)),
+            Token::Word(
+                Word::Number {
                     negative: false,
                     digits,
                 },

@@ -3,14 +3,14 @@
 ghost use Rattle.std.specs.Prelude.{◌≡◌, ◌≤◌, ◌<◌, length, map, IfOk, IfErr};
 ghost use Rattle.chr_lex.specs.Reading.{Gives};
 ghost use Rattle.chr_lex.specs.Tokens.{lexeme};
-ghost use Rattle.chr_grammar.specs.Written.{Operation};
+ghost use Rattle.chr_grammar.specs.Parsed.{Operation};
 ghost use Rattle.chr_grammar.specs.Views.{formula};
 ghost use Rattle.chr_grammar.specs.Parsing.{sum_operator, product_operator, closed, fits, factor_at, chain_at, product_at, sum_at, expression_at};
 
 use crate::sign::{is_close, is_open};
 use chr_lex::fault::{ItemError, Kind};
 use chr_lex::mark::Mark;
-use chr_lex::token::{Token, Written};
+use chr_lex::token::{Token, Word};
 use chr_rule::expression::Operator;
 use std::alloc::Allocator;
 
@@ -20,11 +20,11 @@ pub const MOST_DEPTH: u32 = 16;
 
 /// An expression as it is written, with its parentheses.
 #[derive(Drop)]
-pub enum Tree<'a, A: Allocator> {
+pub enum ParsedExpression<'a, A: Allocator> {
     Number { negative: bool, digits: &'a [u8] },
     Variable(&'a [u8]),
-    Group(Box<Tree<'a, A>, A>),
-    Operation(Operator, Box<Tree<'a, A>, A>, Box<Tree<'a, A>, A>),
+    Group(Box<ParsedExpression<'a, A>, A>),
+    Operation(Operator, Box<ParsedExpression<'a, A>, A>, Box<ParsedExpression<'a, A>, A>),
 }
 
 /// `+` or `-`
@@ -52,44 +52,44 @@ fn product_operator(token: Token) -> Option<Operator>
 }
 
 /// Whether the depth is within so much.
-fn fits<A: Allocator>(tree: &Tree<'_, A>, room: u32) -> bool
+fn fits<A: Allocator>(tree: &ParsedExpression<'_, A>, room: u32) -> bool
     ensures { result ≡ fits room (formula tree.now) }
 {
     if room == 0 {
         return false;
     }
     match tree {
-        Tree::Number { .. } => true,
-        Tree::Variable(_) => true,
-        Tree::Group(inner) => fits(inner, room - 1),
-        Tree::Operation(_, left, right) => fits(left, room - 1) && fits(right, room - 1),
+        ParsedExpression::Number { .. } => true,
+        ParsedExpression::Variable(_) => true,
+        ParsedExpression::Group(inner) => fits(inner, room - 1),
+        ParsedExpression::Operation(_, left, right) => fits(left, room - 1) && fits(right, room - 1),
     }
 }
 
 fn joined<'a, A: Allocator + Copy>(
     alloc: A,
     operator: Operator,
-    left: Tree<'a, A>,
-    right: Tree<'a, A>,
-) -> Result<Tree<'a, A>, ItemError>
+    left: ParsedExpression<'a, A>,
+    right: ParsedExpression<'a, A>,
+) -> Result<ParsedExpression<'a, A>, ItemError>
     ensures both { IfOk result (λ t. formula t ≡ Operation operator (formula left.entry) (formula right.entry)) }
     ensures memory { IfErr result (λ e. e ≡ ItemError.Memory) }
 {
-    Ok(Tree::Operation(operator, Box::new(alloc, left)?, Box::new(alloc, right)?))
+    Ok(ParsedExpression::Operation(operator, Box::new(alloc, left)?, Box::new(alloc, right)?))
 }
 
 /// What stands in parentheses, at its closing one.
 fn closed<'a, A: Allocator + Copy>(
     alloc: A,
-    inner: Tree<'a, A>,
+    inner: ParsedExpression<'a, A>,
     tokens: &'a [Token<'a>],
-) -> Result<(Tree<'a, A>, &'a [Token<'a>]), ItemError>
+) -> Result<(ParsedExpression<'a, A>, &'a [Token<'a>]), ItemError>
     ensures same { Gives (λ x. (formula x.0, map lexeme x.1.now)) result (closed (formula inner.entry) (map lexeme tokens.now)) }
     ensures shorter { IfOk result (λ x. length x.1.now < length tokens.now) }
 {
     match tokens {
         [first, after @ ..] if is_close(*first) => {
-            Ok((Tree::Group(Box::new(alloc, inner)?), after))
+            Ok((ParsedExpression::Group(Box::new(alloc, inner)?), after))
         }
         _ => Err(ItemError::Fault(Kind::Syntax)),
     }
@@ -102,7 +102,7 @@ fn sum<'a, A: Allocator + Copy>(
     alloc: A,
     room: u32,
     tokens: &'a [Token<'a>],
-) -> Result<(Tree<'a, A>, &'a [Token<'a>]), ItemError>
+) -> Result<(ParsedExpression<'a, A>, &'a [Token<'a>]), ItemError>
     ensures same { Gives (λ x. (formula x.0, map lexeme x.1.now)) result (sum_at room (map lexeme tokens.now)) }
     ensures shorter { IfOk result (λ x. length x.1.now < length tokens.now) }
 {
@@ -118,7 +118,7 @@ fn product<'a, A: Allocator + Copy>(
     alloc: A,
     room: u32,
     tokens: &'a [Token<'a>],
-) -> Result<(Tree<'a, A>, &'a [Token<'a>]), ItemError>
+) -> Result<(ParsedExpression<'a, A>, &'a [Token<'a>]), ItemError>
     ensures same { Gives (λ x. (formula x.0, map lexeme x.1.now)) result (product_at (sum_at room) (map lexeme tokens.now)) }
     ensures shorter { IfOk result (λ x. length x.1.now < length tokens.now) }
 {
@@ -131,16 +131,16 @@ fn factor<'a, A: Allocator + Copy>(
     alloc: A,
     room: u32,
     tokens: &'a [Token<'a>],
-) -> Result<(Tree<'a, A>, &'a [Token<'a>]), ItemError>
+) -> Result<(ParsedExpression<'a, A>, &'a [Token<'a>]), ItemError>
     ensures same { Gives (λ x. (formula x.0, map lexeme x.1.now)) result (factor_at (sum_at room) (map lexeme tokens.now)) }
     ensures shorter { IfOk result (λ x. length x.1.now < length tokens.now) }
 {
     match tokens {
         [first, after @ ..] => match *first {
-            Token::Written(Written::Name(_)) => Err(ItemError::Fault(Kind::Syntax)),
-            Token::Written(Written::Variable(name)) => Ok((Tree::Variable(name), after)),
-            Token::Written(Written::Number { negative, digits }) => {
-                Ok((Tree::Number { negative, digits }, after))
+            Token::Word(Word::Name(_)) => Err(ItemError::Fault(Kind::Syntax)),
+            Token::Word(Word::Variable(name)) => Ok((ParsedExpression::Variable(name), after)),
+            Token::Word(Word::Number { negative, digits }) => {
+                Ok((ParsedExpression::Number { negative, digits }, after))
             }
             Token::Mark(_) => {
                 if !is_open(*first) {
@@ -160,9 +160,9 @@ fn more_sums<'a, A: Allocator + Copy>(
     alloc: A,
     room: u32,
     count: u32,
-    left: Tree<'a, A>,
+    left: ParsedExpression<'a, A>,
     tokens: &'a [Token<'a>],
-) -> Result<(Tree<'a, A>, &'a [Token<'a>]), ItemError>
+) -> Result<(ParsedExpression<'a, A>, &'a [Token<'a>]), ItemError>
     ensures same { Gives (λ x. (formula x.0, map lexeme x.1.now)) result (chain_at sum_operator (product_at (sum_at room)) count (formula left.entry) (map lexeme tokens.now)) }
     ensures shorter { IfOk result (λ x. length x.1.now ≤ length tokens.now) }
 {
@@ -187,9 +187,9 @@ fn more_products<'a, A: Allocator + Copy>(
     alloc: A,
     room: u32,
     count: u32,
-    left: Tree<'a, A>,
+    left: ParsedExpression<'a, A>,
     tokens: &'a [Token<'a>],
-) -> Result<(Tree<'a, A>, &'a [Token<'a>]), ItemError>
+) -> Result<(ParsedExpression<'a, A>, &'a [Token<'a>]), ItemError>
     ensures same { Gives (λ x. (formula x.0, map lexeme x.1.now)) result (chain_at product_operator (factor_at (sum_at room)) count (formula left.entry) (map lexeme tokens.now)) }
     ensures shorter { IfOk result (λ x. length x.1.now ≤ length tokens.now) }
 {
@@ -216,7 +216,7 @@ fn more_products<'a, A: Allocator + Copy>(
 pub(crate) fn parse_expression<'a, A: Allocator + Copy>(
     alloc: A,
     tokens: &'a [Token<'a>],
-) -> Result<(Tree<'a, A>, &'a [Token<'a>]), ItemError>
+) -> Result<(ParsedExpression<'a, A>, &'a [Token<'a>]), ItemError>
     ensures same { Gives (λ x. (formula x.0, map lexeme x.1.now)) result (expression_at (map lexeme tokens.now)) }
     ensures shorter { IfOk result (λ x. length x.1.now < length tokens.now) }
 {

@@ -6,23 +6,23 @@ ghost use Rattle.chr_lex.specs.Tokens.{word, lexeme};
 ghost use Rattle.chr_grammar.specs.Views.{test};
 ghost use Rattle.chr_grammar.specs.Parsing.{relation, equality, equal, other_side_at, plain_test_at, compared_at, test_at, tests_of};
 
-use crate::expression::{Tree, parse_expression};
+use crate::expression::{ParsedExpression, parse_expression};
 use crate::sign::{is_comma, is_true};
 use chr_lex::fault::{ItemError, Kind};
 use chr_lex::mark::Mark;
-use chr_lex::token::{Token, Written};
+use chr_lex::token::{Token, Word};
 use chr_rule::expression::Relation;
 use std::alloc::Allocator;
 
 /// A member of a guard as it is written.
 #[derive(Drop)]
-pub enum Test<'a, A: Allocator> {
+pub enum GuardMember<'a, A: Allocator> {
     True,
-    Compared(Relation, Tree<'a, A>, Tree<'a, A>),
+    Compared(Relation, ParsedExpression<'a, A>, ParsedExpression<'a, A>),
     /// `==`
-    Same(Written<'a>, Written<'a>),
+    Same(Word<'a>, Word<'a>),
     /// `\==`
-    Differ(Written<'a>, Written<'a>),
+    Differ(Word<'a>, Word<'a>),
 }
 
 /// A comparison of numbers.
@@ -51,13 +51,13 @@ fn equality(token: Token) -> Option<bool>
     }
 }
 
-fn equal<'a, A: Allocator>(same: bool, left: Written<'a>, right: Written<'a>) -> Test<'a, A>
+fn equal<'a, A: Allocator>(same: bool, left: Word<'a>, right: Word<'a>) -> GuardMember<'a, A>
     ensures { test result ≡ equal same (word left.entry) (word right.entry) }
 {
     if same {
-        Test::Same(left, right)
+        GuardMember::Same(left, right)
     } else {
-        Test::Differ(left, right)
+        GuardMember::Differ(left, right)
     }
 }
 
@@ -65,7 +65,7 @@ fn equal<'a, A: Allocator>(same: bool, left: Written<'a>, right: Written<'a>) ->
 fn compared<'a, A: Allocator + Copy>(
     alloc: A,
     tokens: &'a [Token<'a>],
-) -> Result<(Test<'a, A>, &'a [Token<'a>]), ItemError>
+) -> Result<(GuardMember<'a, A>, &'a [Token<'a>]), ItemError>
     ensures same { Gives (λ x. (test x.0, map lexeme x.1.now)) result (compared_at (map lexeme tokens.now)) }
     ensures shorter { IfOk result (λ x. length x.1.now < length tokens.now) }
 {
@@ -75,7 +75,7 @@ fn compared<'a, A: Allocator + Copy>(
             None => Err(ItemError::Fault(Kind::Syntax)),
             Some(relation) => {
                 let (right, rest) = parse_expression(alloc, behind)?;
-                Ok((Test::Compared(relation, left, right), rest))
+                Ok((GuardMember::Compared(relation, left, right), rest))
             }
         },
         [] => Err(ItemError::Fault(Kind::Syntax)),
@@ -85,15 +85,15 @@ fn compared<'a, A: Allocator + Copy>(
 /// What is compared with a term by `==` or `\==`.
 fn other_side<'a, A: Allocator>(
     same: bool,
-    left: Written<'a>,
+    left: Word<'a>,
     tokens: &'a [Token<'a>],
-) -> Result<(Test<'a, A>, &'a [Token<'a>]), ItemError>
+) -> Result<(GuardMember<'a, A>, &'a [Token<'a>]), ItemError>
     ensures same { Gives (λ x. (test x.0, map lexeme x.1.now)) result (other_side_at same (word left.entry) (map lexeme tokens.now)) }
     ensures shorter { IfOk result (λ x. length x.1.now < length tokens.now) }
 {
     match tokens {
         [first, rest @ ..] => match *first {
-            Token::Written(right) => Ok((equal(same, left, right), rest)),
+            Token::Word(right) => Ok((equal(same, left, right), rest)),
             Token::Mark(_) => Err(ItemError::Fault(Kind::Syntax)),
         },
         [] => Err(ItemError::Fault(Kind::Syntax)),
@@ -104,12 +104,12 @@ fn other_side<'a, A: Allocator>(
 fn plain_test<'a, A: Allocator + Copy>(
     alloc: A,
     tokens: &'a [Token<'a>],
-) -> Result<(Test<'a, A>, &'a [Token<'a>]), ItemError>
+) -> Result<(GuardMember<'a, A>, &'a [Token<'a>]), ItemError>
     ensures same { Gives (λ x. (test x.0, map lexeme x.1.now)) result (plain_test_at (map lexeme tokens.now)) }
     ensures shorter { IfOk result (λ x. length x.1.now < length tokens.now) }
 {
     match tokens {
-        [first, rest @ ..] if is_true(*first) => Ok((Test::True, rest)),
+        [first, rest @ ..] if is_true(*first) => Ok((GuardMember::True, rest)),
         _ => compared(alloc, tokens),
     }
 }
@@ -118,7 +118,7 @@ fn plain_test<'a, A: Allocator + Copy>(
 pub(crate) fn parse_test<'a, A: Allocator + Copy>(
     alloc: A,
     tokens: &'a [Token<'a>],
-) -> Result<(Test<'a, A>, &'a [Token<'a>]), ItemError>
+) -> Result<(GuardMember<'a, A>, &'a [Token<'a>]), ItemError>
     ensures same { Gives (λ x. (test x.0, map lexeme x.1.now)) result (test_at (map lexeme tokens.now)) }
     ensures shorter { IfOk result (λ x. length x.1.now < length tokens.now) }
 {
@@ -126,7 +126,7 @@ pub(crate) fn parse_test<'a, A: Allocator + Copy>(
         [first, second, after @ ..] => match equality(*second) {
             None => plain_test(alloc, tokens),
             Some(same) => match *first {
-                Token::Written(left) => other_side(same, left, after),
+                Token::Word(left) => other_side(same, left, after),
                 Token::Mark(_) => Err(ItemError::Fault(Kind::Syntax)),
             },
         },
@@ -139,7 +139,7 @@ fn test_from<'a, A: Allocator + Copy>(
     alloc: A,
     tokens: &'a [Token<'a>],
     from: usize,
-) -> Result<(Test<'a, A>, usize), ItemError>
+) -> Result<(GuardMember<'a, A>, usize), ItemError>
     requires { from ≤ length tokens.now }
     ensures same { Gives (λ x. (test x.0, drop x.1 (map lexeme tokens.now))) result (test_at (drop from (map lexeme tokens.now))) }
     ensures next { IfOk result (λ x. (from < x.1) × (x.1 ≤ length tokens.now)) }
@@ -152,7 +152,7 @@ fn test_from<'a, A: Allocator + Copy>(
 pub(crate) fn parse_tests<'a, A: Allocator + Copy>(
     alloc: A,
     tokens: &'a [Token<'a>],
-) -> Result<Vec<Test<'a, A>, A>, ItemError>
+) -> Result<Vec<GuardMember<'a, A>, A>, ItemError>
     ensures { Gives (λ v. map test v.items) result (tests_of (map lexeme tokens.now)) }
 {
     let mut tests = Vec::new(alloc);

@@ -8,14 +8,14 @@ ghost use Rattle.chr_grammar.specs.Parsing.{is_reserved, terms_at, args_at, phra
 
 use crate::sign::{is_close, is_comma, is_open};
 use chr_lex::fault::{ItemError, Kind};
-use chr_lex::token::{Token, Written};
+use chr_lex::token::{Token, Word};
 use std::alloc::Allocator;
 
 /// An atom as it is written.
 #[derive(Drop)]
-pub struct Phrase<'a, A: Allocator> {
+pub struct ParsedAtom<'a, A: Allocator> {
     pub name: &'a [u8],
-    pub args: Vec<Written<'a>, A>,
+    pub args: Vec<Word<'a>, A>,
 }
 
 /// These words are no atoms.
@@ -29,7 +29,7 @@ fn is_reserved(name: &[u8]) -> bool
 fn terms<'a, A: Allocator + Copy>(
     alloc: A,
     tokens: &'a [Token<'a>],
-) -> Result<(Vec<Written<'a>, A>, &'a [Token<'a>]), ItemError>
+) -> Result<(Vec<Word<'a>, A>, &'a [Token<'a>]), ItemError>
     ensures same { Gives (λ x. (map word x.0.items, map lexeme x.1.now)) result (terms_at (map lexeme tokens.now)) }
     ensures shorter { IfOk result (λ x. length x.1.now < length tokens.now) }
 {
@@ -37,7 +37,7 @@ fn terms<'a, A: Allocator + Copy>(
     let mut rest = tokens;
     while let [first, mark, after @ ..] = rest {
         match *first {
-            Token::Written(term) => terms.push(term)?,
+            Token::Word(term) => terms.push(term)?,
             Token::Mark(_) => break,
         }
         if is_comma(*mark) {
@@ -56,13 +56,13 @@ fn terms<'a, A: Allocator + Copy>(
 pub(crate) fn parse_phrase<'a, A: Allocator + Copy>(
     alloc: A,
     tokens: &'a [Token<'a>],
-) -> Result<(Phrase<'a, A>, &'a [Token<'a>]), ItemError>
+) -> Result<(ParsedAtom<'a, A>, &'a [Token<'a>]), ItemError>
     ensures same { Gives (λ x. (phrase x.0, map lexeme x.1.now)) result (phrase_at (map lexeme tokens.now)) }
     ensures shorter { IfOk result (λ x. length x.1.now < length tokens.now) }
 {
     match tokens {
         [first, after @ ..] => match *first {
-            Token::Written(Written::Name(name)) => args(alloc, name, after),
+            Token::Word(Word::Name(name)) => args(alloc, name, after),
             _ => Err(ItemError::Fault(Kind::Syntax)),
         },
         [] => Err(ItemError::Fault(Kind::Syntax)),
@@ -74,19 +74,19 @@ fn args<'a, A: Allocator + Copy>(
     alloc: A,
     name: &'a [u8],
     tokens: &'a [Token<'a>],
-) -> Result<(Phrase<'a, A>, &'a [Token<'a>]), ItemError>
+) -> Result<(ParsedAtom<'a, A>, &'a [Token<'a>]), ItemError>
     ensures same { Gives (λ x. (phrase x.0, map lexeme x.1.now)) result (args_at name.now (map lexeme tokens.now)) }
     ensures shorter { IfOk result (λ x. length x.1.now ≤ length tokens.now) }
 {
     match tokens {
         [first, inside @ ..] if is_open(*first) => {
             let (args, after) = terms(alloc, inside)?;
-            Ok((Phrase { name, args }, after))
+            Ok((ParsedAtom { name, args }, after))
         }
         _ if is_reserved(name) => Err(ItemError::Fault(Kind::Syntax)),
         _ => {
             let args = Vec::new(alloc);
-            Ok((Phrase { name, args }, tokens))
+            Ok((ParsedAtom { name, args }, tokens))
         }
     }
 }
@@ -96,7 +96,7 @@ fn phrase_from<'a, A: Allocator + Copy>(
     alloc: A,
     tokens: &'a [Token<'a>],
     from: usize,
-) -> Result<(Phrase<'a, A>, usize), ItemError>
+) -> Result<(ParsedAtom<'a, A>, usize), ItemError>
     requires { from ≤ length tokens.now }
     ensures same { Gives (λ x. (phrase x.0, drop x.1 (map lexeme tokens.now))) result (phrase_at (drop from (map lexeme tokens.now))) }
     ensures next { IfOk result (λ x. (from < x.1) × (x.1 ≤ length tokens.now)) }
@@ -110,7 +110,7 @@ fn phrase_from<'a, A: Allocator + Copy>(
 pub fn parse_phrases<'a, A: Allocator + Copy>(
     alloc: A,
     tokens: &'a [Token<'a>],
-) -> Result<Vec<Phrase<'a, A>, A>, ItemError>
+) -> Result<Vec<ParsedAtom<'a, A>, A>, ItemError>
     ensures { Gives (λ v. map phrase v.items) result (phrases_of (map lexeme tokens.now)) }
 {
     let mut phrases = Vec::new(alloc);

@@ -7,9 +7,9 @@ ghost use Rattle.chr_lex.specs.Tokens.{lexeme};
 ghost use Rattle.chr_grammar.specs.Views.{phrase, test, member, raw_rule};
 ghost use Rattle.chr_grammar.specs.Parsing.{is_arrow, is_backslash, is_bar, heads_of, all_kept, heads_by_arrow, consequence_of, named_rule_of, rule_of};
 
-use crate::body::{Member, parse_members};
-use crate::guard::{Test, parse_tests};
-use crate::phrase::{Phrase, parse_phrases};
+use crate::body::{BodyMember, parse_members};
+use crate::guard::{GuardMember, parse_tests};
+use crate::phrase::{ParsedAtom, parse_phrases};
 use crate::sign::{is_arrow, is_at, is_backslash, is_bar, is_propagate, named};
 use chr_lex::fault::{ItemError, Kind};
 use chr_lex::token::Token;
@@ -18,22 +18,22 @@ use std::alloc::Allocator;
 /// The heads of a rule as they are written.
 #[derive(Drop)]
 pub struct Heads<'a, A: Allocator> {
-    pub kept: Vec<Phrase<'a, A>, A>,
-    pub removed: Vec<Phrase<'a, A>, A>,
+    pub kept: Vec<ParsedAtom<'a, A>, A>,
+    pub removed: Vec<ParsedAtom<'a, A>, A>,
 }
 
 /// What stands behind the arrow.
 #[derive(Drop)]
 pub struct Consequence<'a, A: Allocator> {
-    pub guard: Vec<Test<'a, A>, A>,
-    pub body: Vec<Member<'a, A>, A>,
+    pub guard: Vec<GuardMember<'a, A>, A>,
+    pub body: Vec<BodyMember<'a, A>, A>,
 }
 
 /// A rule as it is written. A propagation rule is one that removes nothing.
 #[derive(Drop)]
-pub struct RawRule<'a, A: Allocator> {
+pub struct ParsedRule<'a, A: Allocator> {
     /// The rule's name.
-    pub label: Option<&'a [u8]>,
+    pub rule_name: Option<&'a [u8]>,
     pub heads: Heads<'a, A>,
     pub consequence: Consequence<'a, A>,
 }
@@ -136,10 +136,10 @@ fn parse_consequence<'a, A: Allocator + Copy>(
 /// The rule of this name, by what stands behind the name.
 fn named_rule<'a, A: Allocator + Copy>(
     alloc: A,
-    label: Option<&'a [u8]>,
+    rule_name: Option<&'a [u8]>,
     tokens: &'a [Token<'a>],
-) -> Result<RawRule<'a, A>, ItemError>
-    ensures { Gives raw_rule result (named_rule_of (option_map (λ name. name.now) label.entry) (map lexeme tokens.now)) }
+) -> Result<ParsedRule<'a, A>, ItemError>
+    ensures { Gives raw_rule result (named_rule_of (option_map (λ name. name.now) rule_name.entry) (map lexeme tokens.now)) }
 {
     let at = before_arrow(tokens);
     if at == tokens.len() {
@@ -147,8 +147,8 @@ fn named_rule<'a, A: Allocator + Copy>(
     }
     let heads = heads_by_arrow(alloc, tokens[at], &tokens[..at])?;
     let consequence = parse_consequence(alloc, &tokens[at + 1..])?;
-    Ok(RawRule {
-        label,
+    Ok(ParsedRule {
+        rule_name,
         heads,
         consequence,
     })
@@ -158,7 +158,7 @@ fn named_rule<'a, A: Allocator + Copy>(
 pub(crate) fn parse_rule<'a, A: Allocator + Copy>(
     alloc: A,
     tokens: &'a [Token<'a>],
-) -> Result<RawRule<'a, A>, ItemError>
+) -> Result<ParsedRule<'a, A>, ItemError>
     ensures { Gives raw_rule result (rule_of (map lexeme tokens.now)) }
 {
     match tokens {

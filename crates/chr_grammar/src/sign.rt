@@ -5,7 +5,7 @@ ghost use Rattle.chr_lex.specs.Tokens.{lexeme};
 ghost use Rattle.chr_grammar.specs.Parsing.{is_open, is_close, is_comma, is_slash, is_declares, is_at, is_backslash, is_bar, is_is, is_propagate, is_arrow, named, is_true};
 
 use chr_lex::mark::Mark;
-use chr_lex::token::{Token, Written};
+use chr_lex::token::{Token, Word};
 
 pub fn is_open(token: Token) -> bool
     ensures { result ≡ is_open (lexeme token.entry) }
@@ -79,7 +79,7 @@ pub fn named(token: Token) -> Option<&[u8]>
     ensures { option_map (λ name. name.now) result ≡ named (lexeme token.entry) }
 {
     match token {
-        Token::Written(Written::Name(name)) => Some(name),
+        Token::Word(Word::Name(name)) => Some(name),
         _ => None,
     }
 }

@@ -7,7 +7,7 @@ ghost use Rattle.chr_grammar.specs.Views.{statement};
 ghost use Rattle.chr_grammar.specs.Parsing.{directive_of, a_rule, statement_of};
 
 use crate::declaration::{Declared, is_library, parse_declarations};
-use crate::rule::{RawRule, parse_rule};
+use crate::rule::{ParsedRule, parse_rule};
 use crate::sign::{is_declares, named};
 use chr_lex::fault::{ItemError, Kind};
 use chr_lex::token::Token;
@@ -20,7 +20,7 @@ pub enum Statement<'a, A: Allocator> {
     Import,
     /// `:- chr_constraint` and what it declares.
     Declaration(Vec<Declared<'a>, A>),
-    Rule(RawRule<'a, A>),
+    Rule(ParsedRule<'a, A>),
 }
 
 /// What stands behind `:-`.

@@ -3,8 +3,8 @@ use Rattle.std.proofs.Common.{◌≡◌, ℕ, suc, ◌+◌, ◌<◌, ◌≤◌, 
 use Rattle.std.specs.List.{AllByRecursion}
 use Rattle.std.proofs.lemmas.List.{drop_more, take_all}
 use Rattle.std.proofs.lemmas.Bool.Decides.{nat_tests}
-use Rattle.chr_value.specs.Terms.{Term, Int}
-use Rattle.chr_rule.specs.Rules.{Expression, Member, Is, Add, Shape, Simpagation}
+use Rattle.chr_value.specs.Atoms.{Value, Int}
+use Rattle.chr_rule.specs.Rules.{Expression, BodyItem, Is, Add, RuleAtom, Simpagation}
 use Rattle.chr_rule.specs.Scope.{known_behind_body, IsRule}
 use Rattle.chr_guard.specs.Values.{Valuation, value_of}
 use Rattle.chr_guard.specs.Bindings.{Extends, Narrows, NoneUnder, AreBound, holding}
@@ -15,23 +15,23 @@ use Rattle.chr_guard.proofs.Fixed.{value_agrees}
 use Rattle.chr_guard.proofs.Bindings.{narrows_nothing, settled_bound, bound_settled, holding_extends}
 use Rattle.chr_guard.proofs.Steps.{all_more, all_at}
 
-abbrev Right : List (Member ℕ) → Valuation → Type 0
+abbrev Right : List (BodyItem ℕ) → Valuation → Type 0
 Right ms v = AllByRecursion (IsRight v) ms
 
 -- the binding once the first i members are done
-pub record Completing (rule : Simpagation ℕ) (i : ℕ) (old new : List (Option (Term ℕ))) : Type 0 where
+pub record Completing (rule : Simpagation ℕ) (i : ℕ) (old new : List (Option (Value ℕ))) : Type 0 where
   pub known : ℕ
   pub rest : known_behind_body known (drop i rule.body) ≡ Some rule.variables
   pub bound : AreBound known new
   pub places : length new ≡ rule.variables
   pub narrows : Narrows (λ v. AllByRecursion (IsRight v) (take i rule.body)) old new
 
-pub completing_start : (rule : Simpagation ℕ) (old : List (Option (Term ℕ))) → IsRule rule → length old ≡ rule.variables → HeadsBound rule old → Completing rule 0 old old
+pub completing_start : (rule : Simpagation ℕ) (old : List (Option (Value ℕ))) → IsRule rule → length old ≡ rule.variables → HeadsBound rule old → Completing rule 0 old old
 completing_start rule old r len heads =
     let s = scoped rule r in
-    record { known = s.count; rest = s.body; bound = heads s.count s.heads; places = len; narrows = narrows_nothing (λ v. AllByRecursion (IsRight v) (take 0 rule.body)) old (λ v. tt) }
+    record { known = s.bind_number; rest = s.body; bound = heads s.bind_number s.heads; places = len; narrows = narrows_nothing (λ v. AllByRecursion (IsRight v) (take 0 rule.body)) old (λ v. tt) }
 
-module _ (rule : Simpagation ℕ) (i x : ℕ) (e : Expression) (old mid : List (Option (Term ℕ))) (within : i < length rule.body) (there : Is x e ≡ get_or rule.body i (Is x e)) (done : Completing rule i old mid) where
+module _ (rule : Simpagation ℕ) (i x : ℕ) (e : Expression) (old mid : List (Option (Value ℕ))) (within : i < length rule.body) (there : Is x e ≡ get_or rule.body i (Is x e)) (done : Completing rule i old mid) where
   next : drop i rule.body ≡ Is x e ∷ drop (i + 1) rule.body
   next = drop_more rule.body i (Is x e) within ∙ ap (λ m. m ∷ drop (i + 1) rule.body) (sym there)
 
@@ -61,7 +61,7 @@ module _ (rule : Simpagation ℕ) (i x : ℕ) (e : Expression) (old mid : List (
       let same : n ≡ p.1.0 = some_same n p.1.0 (sym val ∙ sym (value_there v p.0) ∙ p.1.1) in
       none v p.0 (p.1.2 ∙ ap Int (sym same))
 
-  bound_more : (n : ℤ) (new : List (Option (Term ℕ))) → Narrows (λ v. v x ≡ Int n) mid new → x ≡ done.known → AreBound (suc done.known) new
+  bound_more : (n : ℤ) (new : List (Option (Value ℕ))) → Narrows (λ v. v x ≡ Int n) mid new → x ≡ done.known → AreBound (suc done.known) new
   bound_more n new m same y l =
       settled_bound new y (λ v w ev ew.
       let pv = (m.exactly v).0 ev in
@@ -71,7 +71,7 @@ module _ (rule : Simpagation ℕ) (i x : ℕ) (e : Expression) (old mid : List (
         | false ↦ λ t. let ne : y < done.known = grind (arith, nat_tests) in bound_settled mid y v w (done.bound y ne) pv.0 pw.0
       ] refl)
 
-  pub is_more : (n : ℤ) (new : List (Option (Term ℕ))) → value_of (holding mid) e ≡ Some n → Narrows (λ v. v x ≡ Int n) mid new → Completing rule (i + 1) old new
+  pub is_more : (n : ℤ) (new : List (Option (Value ℕ))) → value_of (holding mid) e ≡ Some n → Narrows (λ v. v x ≡ Int n) mid new → Completing rule (i + 1) old new
   is_more n new val m =
       is_known done.known rule.variables x e (drop (i + 1) rule.body) turn (λ same _ later. record {
         known = suc done.known;
@@ -94,7 +94,7 @@ module _ (rule : Simpagation ℕ) (i x : ℕ) (e : Expression) (old mid : List (
         };
       })
 
-pub add_more : (rule : Simpagation ℕ) (i : ℕ) (s : Shape ℕ) (old mid : List (Option (Term ℕ))) → i < length rule.body → Add s ≡ get_or rule.body i (Add s) → Completing rule i old mid → Completing rule (i + 1) old mid
+pub add_more : (rule : Simpagation ℕ) (i : ℕ) (s : RuleAtom ℕ) (old mid : List (Option (Value ℕ))) → i < length rule.body → Add s ≡ get_or rule.body i (Add s) → Completing rule i old mid → Completing rule (i + 1) old mid
 add_more rule i s old mid within there done =
     let next : drop i rule.body ≡ Add s ∷ drop (i + 1) rule.body = drop_more rule.body i (Add s) within ∙ ap (λ m. m ∷ drop (i + 1) rule.body) (sym there) in
     add_known done.known rule.variables s (drop (i + 1) rule.body) (subst (λ ms. known_behind_body done.known ms ≡ Some rule.variables) next done.rest) (λ _ later. record {
@@ -111,5 +111,5 @@ add_more rule i s old mid within there done =
       };
     })
 
-pub completing_end : (rule : Simpagation ℕ) (i : ℕ) (old new : List (Option (Term ℕ))) → length rule.body ≤ i → Completing rule i old new → Narrows (λ v. AllByRecursion (IsRight v) rule.body) old new
+pub completing_end : (rule : Simpagation ℕ) (i : ℕ) (old new : List (Option (Value ℕ))) → length rule.body ≤ i → Completing rule i old new → Narrows (λ v. AllByRecursion (IsRight v) rule.body) old new
 completing_end rule i old new h done = subst (λ ms. Narrows (λ v. AllByRecursion (IsRight v) ms) old new) (take_all i rule.body h) done.narrows

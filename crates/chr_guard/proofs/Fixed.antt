@@ -3,8 +3,8 @@ use Rattle.std.proofs.Common.{◌≡◌, ℕ, suc, ◌<◌, true, false, ◌==�
 use Rattle.std.specs.List.{AllByRecursion, list_all}
 use Rattle.std.proofs.lemmas.List.{map-append}
 use Rattle.std.proofs.lemmas.Bool.Decides.{nat_tests}
-use Rattle.chr_value.specs.Terms.{Int, Fact}
-use Rattle.chr_rule.specs.Rules.{Argument, Var, Given, Shape, Expression, Number, Variable, Operation, Test, Compared, Same, Differ, Member, Is, Add, Simpagation}
+use Rattle.chr_value.specs.Atoms.{Int, Atom}
+use Rattle.chr_rule.specs.Rules.{Term, Var, Given, RuleAtom, Expression, Number, Variable, Operation, Comparison, Compared, Same, Differ, BodyItem, Is, Add, Simpagation}
 use Rattle.chr_rule.specs.Scope.{known_behind_args, known_behind_heads, known_behind_body, argument_known, expression_known, test_known, IsRule}
 use Rattle.chr_guard.specs.Values.{Valuation, value_of, number_in, computed, compares, both, term_under, Holds}
 use Rattle.chr_guard.specs.Instances.{atom_under, IsRight, added, Instance}
@@ -24,7 +24,7 @@ agree_more v w n a e x h =
 agree_next : (v w : Valuation) (n x : ℕ) → Agree v w n → x ≡ n → v x ≡ w x → Agree v w (suc n)
 agree_next v w n x a e s = agree_more v w n a (subst (λ z. v z ≡ w z) e s)
 
-args_agree : (v w : Valuation) (n m : ℕ) (args : List (Argument ℕ)) → known_behind_args n args ≡ Some m → map (term_under v) args ≡ map (term_under w) args → Agree v w n → Agree v w m
+args_agree : (v w : Valuation) (n m : ℕ) (args : List (Term ℕ)) → known_behind_args n args ≡ Some m → map (term_under v) args ≡ map (term_under w) args → Agree v w n → Agree v w m
 args_agree v w n m [] k e a = let s : n ≡ m = cc in subst (Agree v w) s a
 args_agree v w n m (Given t ∷ args) k e a = args_agree v w n m args k (cc) a
 args_agree v w n m (Var x ∷ args) k e a =
@@ -35,7 +35,7 @@ args_agree v w n m (Var x ∷ args) k e a =
     (λ s j. args_agree v w (suc n) m args j rest (agree_next v w n x a s one))
 
 -- valuations that give the same atoms agree on the heads' variables
-pub heads_agree : (v w : Valuation) (n m : ℕ) (hs : List (Shape ℕ)) → known_behind_heads n hs ≡ Some m → map (atom_under v) hs ≡ map (atom_under w) hs → Agree v w n → Agree v w m
+pub heads_agree : (v w : Valuation) (n m : ℕ) (hs : List (RuleAtom ℕ)) → known_behind_heads n hs ≡ Some m → map (atom_under v) hs ≡ map (atom_under w) hs → Agree v w n → Agree v w m
 heads_agree v w n m [] k e a = let s : n ≡ m = cc in subst (Agree v w) s a
 heads_agree v w n m (h ∷ hs) k e a =
     let one : atom_under v h ≡ atom_under w h = cc in
@@ -52,17 +52,17 @@ value_agrees v w n (Operation o l r) a k =
     let two = both_true (expression_known n l) (expression_known n r) k in
     ap₂ (both (computed o)) (value_agrees v w n l a two.0) (value_agrees v w n r a two.1)
 
-pub term_agrees : (v w : Valuation) (n : ℕ) (t : Argument ℕ) → Agree v w n → argument_known n t ≡ true → term_under v t ≡ term_under w t
+pub term_agrees : (v w : Valuation) (n : ℕ) (t : Term ℕ) → Agree v w n → argument_known n t ≡ true → term_under v t ≡ term_under w t
 term_agrees v w n (Var x) a k = a x (lt_from x n k)
 term_agrees v w n (Given t) a k = refl
 
-pub args_known_agree : (v w : Valuation) (n : ℕ) (args : List (Argument ℕ)) → Agree v w n → list_all (argument_known n) args ≡ true → map (term_under v) args ≡ map (term_under w) args
+pub args_known_agree : (v w : Valuation) (n : ℕ) (args : List (Term ℕ)) → Agree v w n → list_all (argument_known n) args ≡ true → map (term_under v) args ≡ map (term_under w) args
 args_known_agree v w n [] a k = refl
 args_known_agree v w n (t ∷ args) a k =
     let two = both_true (argument_known n t) (list_all (argument_known n) args) k in
     ap₂ (λ y ys. y ∷ ys) (term_agrees v w n t a two.0) (args_known_agree v w n args a two.1)
 
-test_agrees : (v w : Valuation) (n : ℕ) (t : Test ℕ) → Agree v w n → test_known n t ≡ true → Holds v t → Holds w t
+test_agrees : (v w : Valuation) (n : ℕ) (t : Comparison ℕ) → Agree v w n → test_known n t ≡ true → Holds v t → Holds w t
 test_agrees v w n (Compared r l m) a k h =
     let two = both_true (expression_known n l) (expression_known n m) k in
     sym (ap₂ (both (λ i j. Some (compares r i j))) (value_agrees v w n l a two.0) (value_agrees v w n m a two.1)) ∙ h
@@ -73,13 +73,13 @@ test_agrees v w n (Differ s t) a k h =
     let two = both_true (argument_known n s) (argument_known n t) k in
     λ e. h (term_agrees v w n s a two.0 ∙ e ∙ sym (term_agrees v w n t a two.1))
 
-pub guard_agrees : (v w : Valuation) (n : ℕ) (ts : List (Test ℕ)) → Agree v w n → list_all (test_known n) ts ≡ true → AllByRecursion (Holds v) ts → AllByRecursion (Holds w) ts
+pub guard_agrees : (v w : Valuation) (n : ℕ) (ts : List (Comparison ℕ)) → Agree v w n → list_all (test_known n) ts ≡ true → AllByRecursion (Holds v) ts → AllByRecursion (Holds w) ts
 guard_agrees v w n [] a k h = tt
 guard_agrees v w n (t ∷ ts) a k h =
     let two = both_true (test_known n t) (list_all (test_known n) ts) k in
     (test_agrees v w n t a two.0 h.0, guard_agrees v w n ts a two.1 h.1)
 
-body_agrees : (v w : Valuation) (n m : ℕ) (ms : List (Member ℕ)) → known_behind_body n ms ≡ Some m → Agree v w n → AllByRecursion (IsRight v) ms → AllByRecursion (IsRight w) ms → added v ms ≡ added w ms
+body_agrees : (v w : Valuation) (n m : ℕ) (ms : List (BodyItem ℕ)) → known_behind_body n ms ≡ Some m → Agree v w n → AllByRecursion (IsRight v) ms → AllByRecursion (IsRight w) ms → added v ms ≡ added w ms
 body_agrees v w n m [] k a p q = refl
 body_agrees v w n m (Is x e ∷ ms) k a p q =
     is_known n m x e ms k (λ s known j.
@@ -91,12 +91,12 @@ body_agrees v w n m (Add s ∷ ms) k a p q =
     ap₂ (λ y ys. y ∷ ys) (ap (λ ts. record { name = s.name; args = ts }) (args_known_agree v w n s.args a known)) (body_agrees v w n m ms j a p.1 q.1))
 
 -- an instance's body is fixed by its heads
-pub body_fixed : (rule : Simpagation ℕ) → IsRule rule → (kept removed body other : List (Fact ℕ)) → Instance rule kept removed body → Instance rule kept removed other → body ≡ other
+pub body_fixed : (rule : Simpagation ℕ) → IsRule rule → (kept removed body other : List (Atom ℕ)) → Instance rule kept removed body → Instance rule kept removed other → body ≡ other
 body_fixed rule r kept removed body other i j =
     let s = scoped rule r in
     let same : map (atom_under i.valuation) (rule.kept ++ rule.removed) ≡ map (atom_under j.valuation) (rule.kept ++ rule.removed) =
     map-append (atom_under i.valuation) rule.kept rule.removed
     ∙ ap₂ (λ a b. a ++ b) (sym i.kept_are ∙ j.kept_are) (sym i.removed_are ∙ j.removed_are)
     ∙ sym (map-append (atom_under j.valuation) rule.kept rule.removed) in
-    let agree = heads_agree i.valuation j.valuation 0 s.count (rule.kept ++ rule.removed) s.heads same (λ x h. absurd (omega arith)) in
-    i.body_is ∙ body_agrees i.valuation j.valuation s.count rule.variables rule.body s.body agree i.right j.right ∙ sym j.body_is
+    let agree = heads_agree i.valuation j.valuation 0 s.bind_number (rule.kept ++ rule.removed) s.heads same (λ x h. absurd (omega arith)) in
+    i.body_is ∙ body_agrees i.valuation j.valuation s.bind_number rule.variables rule.body s.body agree i.right j.right ∙ sym j.body_is

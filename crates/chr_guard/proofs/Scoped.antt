@@ -2,7 +2,7 @@
 use Rattle.std.proofs.Common.{◌≡◌, ℕ, suc, ◌<◌, ◌≤◌, Bool, true, false, ◌&&◌, ◌==◌, nat_lt, if◌then◌else◌, List, [], ◌∷◌, ◌++◌, Option, Some, None, refl, sym, arith, true-eqb}
 use Rattle.std.specs.List.{AllByRecursion, list_all}
 use Rattle.std.proofs.lemmas.Bool.Decides.{nat_tests}
-use Rattle.chr_rule.specs.Rules.{Argument, Var, Given, Shape, Expression, Member, Is, Add, Simpagation}
+use Rattle.chr_rule.specs.Rules.{Term, Var, Given, RuleAtom, Expression, BodyItem, Is, Add, Simpagation}
 use Rattle.chr_rule.specs.Scope.{known_behind_args, known_behind_heads, known_behind_body, known_then, argument_known, expression_known, test_known, IsRule}
 
 pub some_same : {A : Type 0} (x y : A) → Some x ≡ Some y → x ≡ y
@@ -24,48 +24,48 @@ then_known (Some k) f m e g = g k refl e
 then_known None f m e g = let z : None ≡ Some m = e in absurd (cc)
 
 -- a variable in a head is known already, or it is the next one
-pub var_known : {P : Type 0} (n m x : ℕ) (args : List (Argument ℕ)) → known_behind_args n (Var x ∷ args) ≡ Some m → (x < n → known_behind_args n args ≡ Some m → P) → (x ≡ n → known_behind_args (suc n) args ≡ Some m → P) → P
+pub var_known : {P : Type 0} (n m x : ℕ) (args : List (Term ℕ)) → known_behind_args n (Var x ∷ args) ≡ Some m → (x < n → known_behind_args n args ≡ Some m → P) → (x ≡ n → known_behind_args (suc n) args ≡ Some m → P) → P
 var_known {P} n m x args k old new =
     elim (nat_lt x n) as (λ b. (nat_lt x n ≡ b) → (if b then known_behind_args n args else (if x == n then known_behind_args (suc n) args else None)) ≡ Some m → P) [
       | true ↦ λ t j. old (grind (arith, nat_tests)) j
       | false ↦ λ _ j. if_known (x == n) (known_behind_args (suc n) args) m j (λ t i. new (true-eqb x n (sym t)) i)
     ] refl k
 
-pub head_known : {P : Type 0} (n m : ℕ) (h : Shape ℕ) (hs : List (Shape ℕ)) → known_behind_heads n (h ∷ hs) ≡ Some m → ((k : ℕ) → known_behind_args n h.args ≡ Some k → known_behind_heads k hs ≡ Some m → P) → P
+pub head_known : {P : Type 0} (n m : ℕ) (h : RuleAtom ℕ) (hs : List (RuleAtom ℕ)) → known_behind_heads n (h ∷ hs) ≡ Some m → ((k : ℕ) → known_behind_args n h.args ≡ Some k → known_behind_heads k hs ≡ Some m → P) → P
 head_known n m h hs k f = then_known (known_behind_args n h.args) (λ z. known_behind_heads z hs) m k f
 
-pub is_known : {P : Type 0} (n m x : ℕ) (e : Expression) (ms : List (Member ℕ)) → known_behind_body n (Is x e ∷ ms) ≡ Some m → (x ≡ n → expression_known n e ≡ true → known_behind_body (suc n) ms ≡ Some m → P) → P
+pub is_known : {P : Type 0} (n m x : ℕ) (e : Expression) (ms : List (BodyItem ℕ)) → known_behind_body n (Is x e ∷ ms) ≡ Some m → (x ≡ n → expression_known n e ≡ true → known_behind_body (suc n) ms ≡ Some m → P) → P
 is_known n m x e ms k f =
     if_known ((x == n) && expression_known n e) (known_behind_body (suc n) ms) m k (λ t j. let two = both_true (x == n) (expression_known n e) t in f (true-eqb x n (sym two.0)) two.1 j)
 
-pub add_known : {P : Type 0} (n m : ℕ) (s : Shape ℕ) (ms : List (Member ℕ)) → known_behind_body n (Add s ∷ ms) ≡ Some m → (list_all (argument_known n) s.args ≡ true → known_behind_body n ms ≡ Some m → P) → P
+pub add_known : {P : Type 0} (n m : ℕ) (s : RuleAtom ℕ) (ms : List (BodyItem ℕ)) → known_behind_body n (Add s ∷ ms) ≡ Some m → (list_all (argument_known n) s.args ≡ true → known_behind_body n ms ≡ Some m → P) → P
 add_known n m s ms k f = if_known (list_all (argument_known n) s.args) (known_behind_body n ms) m k f
 
 -- how many variables the heads of a rule have, and what the guard and the body use of them
 pub record Scoped (rule : Simpagation ℕ) : Type 0 where
-  pub count : ℕ
-  pub heads : known_behind_heads 0 (rule.kept ++ rule.removed) ≡ Some count
-  pub guard : list_all (test_known count) rule.guard ≡ true
-  pub body : known_behind_body count rule.body ≡ Some rule.variables
+  pub bind_number : ℕ
+  pub heads : known_behind_heads 0 (rule.kept ++ rule.removed) ≡ Some bind_number
+  pub guard : list_all (test_known bind_number) rule.guard ≡ true
+  pub body : known_behind_body bind_number rule.body ≡ Some rule.variables
 
 pub scoped : (rule : Simpagation ℕ) → IsRule rule → Scoped rule
 scoped rule r =
     then_known (known_behind_heads 0 (rule.kept ++ rule.removed)) (λ n. if list_all (test_known n) rule.guard then known_behind_body n rule.body else None) rule.variables r.scoped
-    (λ n k j. if_known (list_all (test_known n) rule.guard) (known_behind_body n rule.body) rule.variables j (λ g b. record { count = n; heads = k; guard = g; body = b }))
+    (λ n k j. if_known (list_all (test_known n) rule.guard) (known_behind_body n rule.body) rule.variables j (λ g b. record { bind_number = n; heads = k; guard = g; body = b }))
 
 -- what is known stays known
-pub argument_later : (n m : ℕ) (a : Argument ℕ) → n ≤ m → argument_known n a ≡ true → argument_known m a ≡ true
+pub argument_later : (n m : ℕ) (a : Term ℕ) → n ≤ m → argument_known n a ≡ true → argument_known m a ≡ true
 argument_later n m (Var x) h k = grind (arith, nat_tests)
 argument_later n m (Given t) h k = refl
 
-pub args_later : (n m : ℕ) (args : List (Argument ℕ)) → n ≤ m → list_all (argument_known n) args ≡ true → list_all (argument_known m) args ≡ true
+pub args_later : (n m : ℕ) (args : List (Term ℕ)) → n ≤ m → list_all (argument_known n) args ≡ true → list_all (argument_known m) args ≡ true
 args_later n m [] h k = refl
 args_later n m (a ∷ args) h k =
     let two = both_true (argument_known n a) (list_all (argument_known n) args) k in
     all_true (argument_known m a) (list_all (argument_known m) args) (argument_later n m a h two.0) (args_later n m args h two.1)
 
 -- the arguments of a head are known behind it
-pub args_below : (n m : ℕ) (args : List (Argument ℕ)) → known_behind_args n args ≡ Some m → (n ≤ m) × (list_all (argument_known m) args ≡ true)
+pub args_below : (n m : ℕ) (args : List (Term ℕ)) → known_behind_args n args ≡ Some m → (n ≤ m) × (list_all (argument_known m) args ≡ true)
 args_below n m [] k = let e : n ≡ m = cc in (omega arith, refl)
 args_below n m (Given t ∷ args) k = args_below n m args k
 args_below n m (Var x ∷ args) k =
@@ -74,10 +74,10 @@ args_below n m (Var x ∷ args) k =
     (λ e j. let rest = args_below (suc n) m args j in let le : suc n ≤ m = rest.0 in (omega arith, all_true (nat_lt x m) _ (grind (arith, nat_tests)) rest.1))
 
 -- the variables of each head are known behind all of them
-abbrev pub IsPlaced : ℕ → Shape ℕ → Type 0
+abbrev pub IsPlaced : ℕ → RuleAtom ℕ → Type 0
 IsPlaced n h = list_all (argument_known n) h.args ≡ true
 
-pub heads_below : (n m : ℕ) (hs : List (Shape ℕ)) → known_behind_heads n hs ≡ Some m → (n ≤ m) × AllByRecursion (IsPlaced m) hs
+pub heads_below : (n m : ℕ) (hs : List (RuleAtom ℕ)) → known_behind_heads n hs ≡ Some m → (n ≤ m) × AllByRecursion (IsPlaced m) hs
 heads_below n m [] k = let e : n ≡ m = cc in (omega arith, tt)
 heads_below n m (h ∷ hs) k =
     head_known n m h hs k (λ z i j.
@@ -87,7 +87,7 @@ heads_below n m (h ∷ hs) k =
     let there : z ≤ m = rest.0 in
     (omega arith, (args_later z m h.args there one.1, rest.1)))
 
-pub body_below : (n m : ℕ) (ms : List (Member ℕ)) → known_behind_body n ms ≡ Some m → n ≤ m
+pub body_below : (n m : ℕ) (ms : List (BodyItem ℕ)) → known_behind_body n ms ≡ Some m → n ≤ m
 body_below n m [] k = let e : n ≡ m = cc in omega arith
 body_below n m (Is x e ∷ ms) k = is_known n m x e ms k (λ _ _ j. let le : suc n ≤ m = body_below (suc n) m ms j in omega arith)
 body_below n m (Add s ∷ ms) k = add_known n m s ms k (λ _ j. body_below n m ms j)

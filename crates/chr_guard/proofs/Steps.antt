@@ -2,7 +2,7 @@
 use Rattle.std.proofs.Common.{◌≡◌, ◌≢◌, ◌↔◌, ℕ, ◌+◌, ◌<◌, ◌≤◌, Bool, true, false, IsTrue, List, [], ◌∷◌, ◌++◌, length, take, drop, map, get_or, Option, zero, suc, refl, sym, subst, ap, ap₂, ◌∙◌, arith}
 use Rattle.std.specs.List.{AllByRecursion, list_all}
 use Rattle.std.proofs.lemmas.List.{take-append-drop, map-append, take_more, take_all, drop_more, drop_all, map_push, same_from_push, get_or-map, get_or_default, take-map, length-map}
-use Rattle.chr_value.specs.Terms.{Term}
+use Rattle.chr_value.specs.Atoms.{Value}
 use Rattle.chr_guard.specs.Values.{Valuation}
 use Rattle.chr_guard.specs.Bindings.{Narrows, NoneUnder}
 use Rattle.chr_guard.proofs.Scoped.{both_true}
@@ -70,7 +70,7 @@ same_places f xs ys i x y h k ex ey v =
     let right : take (i + 1) ys ≡ take i ys ++ y ∷ [] = take_more ys i y k ∙ ap (λ z. take i ys ++ z ∷ []) (sym ey) in
     (λ s. left ∙ ap₂ (λ a b. a ++ b ∷ []) s.0 s.1 ∙ sym right, λ s. same_from_push (map (f v) (take i xs)) (take i ys) (f v x) y (sym left ∙ s ∙ right))
 
-pub same_more : {X Y : Type 0} (f : Valuation → X → Y) (xs : List X) (ys : List Y) (i : ℕ) (x : X) (y : Y) (old mid new : List (Option (Term ℕ))) → i < length xs → i < length ys → x ≡ get_or xs i x → y ≡ get_or ys i y → Narrows (SoFar f xs ys i) old mid → Narrows (λ v. f v x ≡ y) mid new → Narrows (SoFar f xs ys (i + 1)) old new
+pub same_more : {X Y : Type 0} (f : Valuation → X → Y) (xs : List X) (ys : List Y) (i : ℕ) (x : X) (y : Y) (old mid new : List (Option (Value ℕ))) → i < length xs → i < length ys → x ≡ get_or xs i x → y ≡ get_or ys i y → Narrows (SoFar f xs ys i) old mid → Narrows (λ v. f v x ≡ y) mid new → Narrows (SoFar f xs ys (i + 1)) old new
 same_more f xs ys i x y old mid new h k ex ey p q =
     narrows_as (λ v. SoFar f xs ys i v × (f v x ≡ y)) (SoFar f xs ys (i + 1)) old new (same_places f xs ys i x y h k ex ey) (narrows_both (SoFar f xs ys i) (λ v. f v x ≡ y) old mid new p q)
 
@@ -78,15 +78,15 @@ same_all : {X Y : Type 0} (f : Valuation → X → Y) (xs : List X) (ys : List Y
 same_all f xs ys i x y h k ex ey v s =
     (sym (take-map (f v) i xs) ∙ ap (take i) s, ap (f v) ex ∙ sym (get_or-map (f v) xs i x y h) ∙ ap (λ l. get_or l i y) s ∙ sym ey)
 
-pub same_stop : {X Y : Type 0} (f : Valuation → X → Y) (xs : List X) (ys : List Y) (i : ℕ) (x : X) (y : Y) (old mid : List (Option (Term ℕ))) → i < length xs → i < length ys → x ≡ get_or xs i x → y ≡ get_or ys i y → Narrows (SoFar f xs ys i) old mid → NoneUnder (λ v. f v x ≡ y) mid → NoneUnder (Same f xs ys) old
+pub same_stop : {X Y : Type 0} (f : Valuation → X → Y) (xs : List X) (ys : List Y) (i : ℕ) (x : X) (y : Y) (old mid : List (Option (Value ℕ))) → i < length xs → i < length ys → x ≡ get_or xs i x → y ≡ get_or ys i y → Narrows (SoFar f xs ys i) old mid → NoneUnder (λ v. f v x ≡ y) mid → NoneUnder (Same f xs ys) old
 same_stop f xs ys i x y old mid h k ex ey p n = none_after (SoFar f xs ys i) (λ v. f v x ≡ y) (Same f xs ys) old mid p n (same_all f xs ys i x y h k ex ey)
 
-pub same_end : {X Y : Type 0} (f : Valuation → X → Y) (xs : List X) (ys : List Y) (i : ℕ) (old mid : List (Option (Term ℕ))) → length xs ≤ i → length ys ≤ i → Narrows (SoFar f xs ys i) old mid → Narrows (Same f xs ys) old mid
+pub same_end : {X Y : Type 0} (f : Valuation → X → Y) (xs : List X) (ys : List Y) (i : ℕ) (old mid : List (Option (Value ℕ))) → length xs ≤ i → length ys ≤ i → Narrows (SoFar f xs ys i) old mid → Narrows (Same f xs ys) old mid
 same_end f xs ys i old mid h k p =
     narrows_as (SoFar f xs ys i) (Same f xs ys) old mid
     (λ v. (λ s. ap (map (f v)) (sym (take_all i xs h)) ∙ s ∙ take_all i ys k, λ s. ap (map (f v)) (take_all i xs h) ∙ s ∙ sym (take_all i ys k))) p
 
-pub same_never : {X Y : Type 0} (f : Valuation → X → Y) (xs : List X) (ys : List Y) (old : List (Option (Term ℕ))) → length xs ≢ length ys → NoneUnder (Same f xs ys) old
+pub same_never : {X Y : Type 0} (f : Valuation → X → Y) (xs : List X) (ys : List Y) (old : List (Option (Value ℕ))) → length xs ≢ length ys → NoneUnder (Same f xs ys) old
 same_never f xs ys old ne v h s = ne (sym (length-map xs (f v)) ∙ ap length s)
 
 -- The same with the elements as they are read: a and b are the elements at i of lists that g and h translate.
@@ -97,19 +97,19 @@ pub read_there : {A : Type 0} (xs : List A) (i : ℕ) (d : A) → i < length xs 
 read_there xs i d h = get_or_default xs i d (get_or xs i d) h
 
 module _ {A B X Y : Type 0} (f : Valuation → X → Y) (g : A → X) (h : B → Y) (as' : List A) (bs : List B) (i : ℕ) (a : A) (b : B) (left : i < length as') (right : i < length bs) (ea : a ≡ get_or as' i a) (eb : b ≡ get_or bs i b) where
-  pub read_more : (old mid new : List (Option (Term ℕ))) → Narrows (SoFar f (map g as') (map h bs) i) old mid → Narrows (λ v. f v (g a) ≡ h b) mid new → Narrows (SoFar f (map g as') (map h bs) (i + 1)) old new
+  pub read_more : (old mid new : List (Option (Value ℕ))) → Narrows (SoFar f (map g as') (map h bs) i) old mid → Narrows (λ v. f v (g a) ≡ h b) mid new → Narrows (SoFar f (map g as') (map h bs) (i + 1)) old new
   read_more old mid new p q =
       same_more f (map g as') (map h bs) i (g a) (h b) old mid new (rw length-map left) (rw length-map right) (map_read g as' i a left ea) (map_read h bs i b right eb) p q
 
-  pub read_stop : (old mid : List (Option (Term ℕ))) → Narrows (SoFar f (map g as') (map h bs) i) old mid → NoneUnder (λ v. f v (g a) ≡ h b) mid → NoneUnder (Same f (map g as') (map h bs)) old
+  pub read_stop : (old mid : List (Option (Value ℕ))) → Narrows (SoFar f (map g as') (map h bs) i) old mid → NoneUnder (λ v. f v (g a) ≡ h b) mid → NoneUnder (Same f (map g as') (map h bs)) old
   read_stop old mid p n =
       same_stop f (map g as') (map h bs) i (g a) (h b) old mid (rw length-map left) (rw length-map right) (map_read g as' i a left ea) (map_read h bs i b right eb) p n
 
-pub read_end : {A B X Y : Type 0} (f : Valuation → X → Y) (g : A → X) (h : B → Y) (as' : List A) (bs : List B) (i : ℕ) (old mid : List (Option (Term ℕ))) → length as' ≤ i → length bs ≤ i → Narrows (SoFar f (map g as') (map h bs) i) old mid → Narrows (Same f (map g as') (map h bs)) old mid
+pub read_end : {A B X Y : Type 0} (f : Valuation → X → Y) (g : A → X) (h : B → Y) (as' : List A) (bs : List B) (i : ℕ) (old mid : List (Option (Value ℕ))) → length as' ≤ i → length bs ≤ i → Narrows (SoFar f (map g as') (map h bs) i) old mid → Narrows (Same f (map g as') (map h bs)) old mid
 read_end f g h as' bs i old mid l r p = same_end f (map g as') (map h bs) i old mid (rw length-map l) (rw length-map r) p
 
 -- the front is the whole
-pub narrows_whole : {X : Type 0} (P : Valuation → X → Type 0) (xs : List X) (i : ℕ) (old mid : List (Option (Term ℕ))) → length xs ≤ i → Narrows (λ v. AllByRecursion (P v) (take i xs)) old mid → Narrows (λ v. AllByRecursion (P v) xs) old mid
+pub narrows_whole : {X : Type 0} (P : Valuation → X → Type 0) (xs : List X) (i : ℕ) (old mid : List (Option (Value ℕ))) → length xs ≤ i → Narrows (λ v. AllByRecursion (P v) (take i xs)) old mid → Narrows (λ v. AllByRecursion (P v) xs) old mid
 narrows_whole P xs i old mid h n = subst (λ l. Narrows (λ v. AllByRecursion (P v) l) old mid) (take_all i xs h) n
 
 -- an element read through what translates its list

@@ -1,16 +1,16 @@
 -- The value of an expression, and when a comparison holds.
 use Rattle.std.specs.Prelude.{◌≡◌, ◌≢◌, ℕ, Bool, true, not, ◌&&◌, ◌||◌, if◌then◌else◌, ℤ, pos, negsuc, ◌+ℤ◌, ◌-ℤ◌, ◌*ℤ◌, int_lt, int_le, int_div, int_rem, Option, Some, None}
-use Rattle.chr_value.specs.Terms.{Term}
-use Rattle.chr_value.specs.Terms as terms
+use Rattle.chr_value.specs.Atoms.{Value}
+use Rattle.chr_value.specs.Atoms as terms
 use Rattle.chr_rule.specs.declared.expression.Operator.{Operator}
 use Rattle.chr_rule.specs.declared.expression.Operator.TheVariants.{Add, Sub, Mul, Quot, Rem, Mod}
 use Rattle.chr_rule.specs.declared.expression.Relation.{Relation}
 use Rattle.chr_rule.specs.declared.expression.Relation.TheVariants.{Less, LessEqual, Greater, GreaterEqual, Equal, Unequal}
-use Rattle.chr_rule.specs.Rules.{Argument, Var, Given, Expression, Number, Variable, Operation, Test, Compared, Same, Differ}
+use Rattle.chr_rule.specs.Rules.{Term, Var, Given, Expression, Number, Variable, Operation, Comparison, Compared, Same, Differ}
 
 -- what each variable of a rule stands for
 abbrev pub Valuation : Type 0
-Valuation = ℕ → Term ℕ
+Valuation = ℕ → Value ℕ
 
 -- a number, where it has 64 bits with sign
 abbrev pub in_range : ℤ → Option ℤ
@@ -37,7 +37,7 @@ computed Rem a b = if is_zero b then None else in_range (int_rem a b)
 computed Mod a b = if is_zero b then None else in_range (int_mod a b)
 
 -- a symbol is no number
-abbrev pub number_in : Term ℕ → Option ℤ
+abbrev pub number_in : Value ℕ → Option ℤ
 number_in (terms.Int n) = Some n
 number_in (terms.Sym s) = None
 
@@ -61,12 +61,12 @@ compares Equal a b = int_le a b && int_le b a
 compares Unequal a b = not (int_le a b && int_le b a)
 
 -- what an argument stands for
-abbrev pub term_under : Valuation → Argument ℕ → Term ℕ
+abbrev pub term_under : Valuation → Term ℕ → Value ℕ
 term_under v (Var x) = v x
 term_under v (Given t) = t
 
 -- numbers are compared where both sides have values, terms as they are
-abbrev pub Holds : Valuation → Test ℕ → Type 0
+abbrev pub Holds : Valuation → Comparison ℕ → Type 0
 Holds v (Compared r a b) = both (λ m n. Some (compares r m n)) (value_of v a) (value_of v b) ≡ Some true
 Holds v (Same s t) = term_under v s ≡ term_under v t
 Holds v (Differ s t) = term_under v s ≢ term_under v t

@@ -1,12 +1,12 @@
 //! What the variables of a rule are bound to.
 ghost use Rattle.std.specs.Prelude.{◌≡◌, ◌<◌, ◌≤◌, ◌↔◌, IsTrue, None, length, replicate, slice_set};
-ghost use Rattle.chr_value.specs.Terms.{ground, Int};
+ghost use Rattle.chr_value.specs.Atoms.{ground, Int};
 ghost use Rattle.chr_rule.specs.Parts.{argument};
 ghost use Rattle.chr_guard.specs.Values.{number_in, term_under};
-ghost use Rattle.chr_guard.specs.Bindings.{bound_term, bound_at, or_symbol, holding, Told};
+ghost use Rattle.chr_guard.specs.Bindings.{bound_term, bound_at, or_symbol, holding, NarrowsIf};
 
 use arrayvec::ArrayVec;
-use chr_rule::pattern::Term;
+use chr_rule::rule_atom::Term;
 use chr_value::atom::Value;
 use chr_value::names::Name;
 use std::marker::Model;
@@ -69,10 +69,10 @@ pub struct Binding<'a> {
 
 impl<'a> Model for Binding<'a> {
     ghost use Rattle.std.specs.Prelude.{ℕ, List, Option, map};
-    ghost use Rattle.chr_value.specs.Terms.{Term};
+    ghost use Rattle.chr_value.specs.Atoms.{Value};
     ghost use Rattle.chr_guard.specs.Bindings.{bound_term};
 
-    ghost Value = { List (Option (Term ℕ)) };
+    ghost Value = { List (Option (Value ℕ)) };
 
     ghost view = { λ b. map bound_term b.bound.items };
 }
@@ -121,7 +121,7 @@ impl<'a> Binding<'a> {
     /// Binds a variable to a value. Where it is bound already, tells whether it is bound to this one.
     pub(crate) fn hold(&mut self, variable: u8, value: &'a Value) -> bool
         requires { variable < length self.old }
-        ensures { Told (λ v. v variable ≡ ground value.now) result self.old self.new }
+        ensures { NarrowsIf (λ v. v variable ≡ ground value.now) result self.old self.new }
     {
         match self.at(variable) {
             Bound::Free => {
@@ -133,9 +133,9 @@ impl<'a> Binding<'a> {
     }
 
     /// Binds a variable to a number. Where it is bound already, tells whether it is bound to this one.
-    pub(crate) fn count(&mut self, variable: u8, number: i64) -> bool
+    pub(crate) fn bind_number(&mut self, variable: u8, number: i64) -> bool
         requires { variable < length self.old }
-        ensures { Told (λ v. v variable ≡ Int number) result self.old self.new }
+        ensures { NarrowsIf (λ v. v variable ≡ Int number) result self.old self.new }
     {
         match self.at(variable) {
             Bound::Free => {

@@ -2,7 +2,7 @@
 ghost use Rattle.std.specs.Prelude.{◌≡◌, map, length, MatchOption};
 ghost use Rattle.std.specs.List.{AllByRecursion};
 ghost use Rattle.chr_rule.specs.Parts.{shape};
-ghost use Rattle.chr_guard.specs.Bindings.{holding, Told};
+ghost use Rattle.chr_guard.specs.Bindings.{holding, NarrowsIf};
 ghost use Rattle.chr_guard.specs.Instances.{atom_under, IsRight, added};
 ghost use Rattle.chr_guard.specs.Matching.{HeadsBound, IsBody};
 
@@ -10,7 +10,7 @@ use crate::binding::Binding;
 use crate::values::value;
 use arrayvec::ArrayVec;
 use chr_rule::expression::BodyItem;
-use chr_rule::pattern::Pattern;
+use chr_rule::rule_atom::RuleAtom;
 use chr_rule::rule::Rule;
 use chr_value::atom::Atom;
 use std::alloc::Allocator;
@@ -19,7 +19,7 @@ use std::alloc::Allocator;
 pub type Body<A> = ArrayVec<Atom<A>, 16, A>;
 
 /// The atom that a constraint of a rule stands for.
-pub fn atom_of<A: Allocator + Copy>(alloc: A, pattern: &Pattern, binding: &Binding) -> Atom<A>
+pub fn make_atom<A: Allocator + Copy>(alloc: A, pattern: &RuleAtom, binding: &Binding) -> Atom<A>
     ensures { result ≡ atom_under (holding binding.now) (shape pattern.now) }
 {
     let mut atom = Atom::new(alloc, pattern.name);
@@ -30,10 +30,10 @@ pub fn atom_of<A: Allocator + Copy>(alloc: A, pattern: &Pattern, binding: &Bindi
 }
 
 /// Binds the left sides of `is` in a rule's body to their values. False only where some `is` has no value.
-pub(crate) fn complete<A: Allocator>(rule: &Rule<A>, binding: &mut Binding) -> bool
+pub(crate) fn bind_body<A: Allocator>(rule: &Rule<A>, binding: &mut Binding) -> bool
     requires places { length binding.old ≡ rule.now.variables }
     requires heads { HeadsBound rule.now binding.old }
-    ensures { Told (λ v. AllByRecursion (IsRight v) rule.now.body) result binding.old binding.new }
+    ensures { NarrowsIf (λ v. AllByRecursion (IsRight v) rule.now.body) result binding.old binding.new }
 {
     for item in rule.body() {
         match item {
@@ -41,7 +41,7 @@ pub(crate) fn complete<A: Allocator>(rule: &Rule<A>, binding: &mut Binding) -> b
                 let Some(n) = value(expr, binding) else {
                     return false;
                 };
-                if !binding.count(*x, n) {
+                if !binding.bind_number(*x, n) {
                     return false;
                 }
             }
@@ -63,7 +63,7 @@ pub(crate) fn added_atoms<A: Allocator + Copy>(
     for item in rule.body() {
         match item {
             BodyItem::Is(_, _) => {}
-            BodyItem::Add(pattern) => atoms.push(atom_of(alloc, pattern, binding)),
+            BodyItem::Add(pattern) => atoms.push(make_atom(alloc, pattern, binding)),
         }
     }
     atoms
@@ -77,7 +77,7 @@ pub fn body<A: Allocator + Copy>(alloc: A, rule: &Rule<A>, binding: &Binding) ->
     ensures { MatchOption result ((made : _) → IsBody rule.now binding.now made → ⊥) (λ made. IsBody rule.now binding.now made.items) }
 {
     let mut all = binding.copy();
-    if !complete(rule, &mut all) {
+    if !bind_body(rule, &mut all) {
         return None;
     }
     Some(added_atoms(alloc, rule, &all))

@@ -1,11 +1,11 @@
 //! Which atoms are an instance of a rule.
 ghost use Rattle.std.specs.Prelude.{List, ℕ, map, MatchOption};
-ghost use Rattle.chr_value.specs.Terms.{Fact};
+ghost use Rattle.chr_value.specs.Atoms.{Atom};
 ghost use Rattle.chr_guard.specs.Instances.{IsInstance, IsInstanceUnder, NoInstance};
 ghost use Rattle.chr_guard.specs.Matching.{HeadsAre, IsFit};
 
 use crate::binding::Binding;
-use crate::body::{Body, added_atoms, complete};
+use crate::body::{Body, added_atoms, bind_body};
 use crate::matching::fit_all;
 use crate::values::guard_holds;
 use chr_rule::rule::Rule;
@@ -18,13 +18,13 @@ pub fn instance_from<'a, A: Allocator + Copy>(
     rule: &Rule<A>,
     mut binding: Binding<'a>,
 ) -> Option<Binding<'a>>
-    requires { (facts : List (Fact ℕ)) × IsFit rule.now (HeadsAre rule.now facts) binding }
-    ensures { (facts : List (Fact ℕ)) → IsFit rule.now (HeadsAre rule.now facts) binding.entry → MatchOption result (NoInstance rule.now facts) (IsInstanceUnder rule.now facts) }
+    requires { (facts : List (Atom ℕ)) × IsFit rule.now (HeadsAre rule.now facts) binding }
+    ensures { (facts : List (Atom ℕ)) → IsFit rule.now (HeadsAre rule.now facts) binding.entry → MatchOption result (NoInstance rule.now facts) (IsInstanceUnder rule.now facts) }
 {
     if !guard_holds(rule, &binding) {
         return None;
     }
-    if !complete(rule, &mut binding) {
+    if !bind_body(rule, &mut binding) {
         return None;
     }
     Some(binding)

@@ -1,16 +1,16 @@
 //! Which binding makes heads of a rule equal to atoms.
 ghost use Rattle.std.specs.Prelude.{◌≡◌, true, length, map, MatchOption};
 ghost use Rattle.std.specs.List.{list_all, AllByRecursion};
-ghost use Rattle.chr_value.specs.Terms.{ground, grounds};
+ghost use Rattle.chr_value.specs.Atoms.{ground, grounds};
 ghost use Rattle.chr_rule.specs.Parts.{argument, shape};
 ghost use Rattle.chr_rule.specs.Scope.{argument_known};
 ghost use Rattle.chr_guard.specs.Values.{term_under};
-ghost use Rattle.chr_guard.specs.Bindings.{Told};
+ghost use Rattle.chr_guard.specs.Bindings.{NarrowsIf};
 ghost use Rattle.chr_guard.specs.Instances.{atom_under};
-ghost use Rattle.chr_guard.specs.Matching.{AllStand, HeadsAre, IsFit};
+ghost use Rattle.chr_guard.specs.Matching.{AreAtHeads, HeadsAre, IsFit};
 
 use crate::binding::Binding;
-use chr_rule::pattern::{Pattern, Term};
+use chr_rule::rule_atom::{RuleAtom, Term};
 use chr_rule::rule::Rule;
 use chr_value::atom::{Atom, Value};
 use std::alloc::Allocator;
@@ -18,7 +18,7 @@ use std::alloc::Allocator;
 /// Binds what is needed for a term to be a value. False only where no valuation makes it so.
 pub(crate) fn fit_term<'a>(binding: &mut Binding<'a>, term: &Term, value: &'a Value) -> bool
     requires { argument_known (length binding.old) (argument term.now) ≡ true }
-    ensures { Told (λ v. term_under v (argument term.now) ≡ ground value.now) result binding.old binding.new }
+    ensures { NarrowsIf (λ v. term_under v (argument term.now) ≡ ground value.now) result binding.old binding.new }
 {
     match term {
         Term::Var(x) => binding.hold(*x, value),
@@ -29,7 +29,7 @@ pub(crate) fn fit_term<'a>(binding: &mut Binding<'a>, term: &Term, value: &'a Va
 /// The same for several terms.
 pub(crate) fn fit_terms<'a>(binding: &mut Binding<'a>, terms: &[Term], values: &'a [Value]) -> bool
     requires { list_all (argument_known (length binding.old)) (map argument terms.now) ≡ true }
-    ensures { Told (λ v. map (term_under v) (map argument terms.now) ≡ grounds values.now) result binding.old binding.new }
+    ensures { NarrowsIf (λ v. map (term_under v) (map argument terms.now) ≡ grounds values.now) result binding.old binding.new }
 {
     if terms.len() != values.len() {
         return false;
@@ -45,11 +45,11 @@ pub(crate) fn fit_terms<'a>(binding: &mut Binding<'a>, terms: &[Term], values: &
 /// Binds what is needed for a head to be an atom. False only where no valuation makes it so.
 pub fn fit_head<'a, A: Allocator + Copy>(
     binding: &mut Binding<'a>,
-    head: &Pattern,
+    head: &RuleAtom,
     atom: &'a Atom<A>,
 ) -> bool
     requires { list_all (argument_known (length binding.old)) (shape head.now).args ≡ true }
-    ensures { Told (λ v. atom_under v (shape head.now) ≡ atom.now) result binding.old binding.new }
+    ensures { NarrowsIf (λ v. atom_under v (shape head.now) ≡ atom.now) result binding.old binding.new }
 {
     let name = atom.name();
     if head.name.number != name.number {
@@ -61,11 +61,11 @@ pub fn fit_head<'a, A: Allocator + Copy>(
 /// The same for several heads.
 pub(crate) fn fit_heads<'a, A: Allocator + Copy>(
     binding: &mut Binding<'a>,
-    heads: &[Pattern],
+    heads: &[RuleAtom],
     atoms: &[&'a Atom<A>],
 ) -> bool
     requires { AllByRecursion (λ h. list_all (argument_known (length binding.old)) h.args ≡ true) (map shape heads.now) }
-    ensures { Told (λ v. map (atom_under v) (map shape heads.now) ≡ map (λ a. a.now) atoms.now) result binding.old binding.new }
+    ensures { NarrowsIf (λ v. map (atom_under v) (map shape heads.now) ≡ map (λ a. a.now) atoms.now) result binding.old binding.new }
 {
     if heads.len() != atoms.len() {
         return false;
@@ -84,7 +84,7 @@ pub fn fit<'a, A: Allocator + Copy>(
     rule: &Rule<A>,
     placed: &[(usize, &'a Atom<A>)],
 ) -> Option<Binding<'a>>
-    ensures { let places = map (λ p. (p.0, p.1.now)) placed.now in MatchOption result ((v : _) → AllStand rule.now places v → ⊥) (λ binding. IsFit rule.now (AllStand rule.now places) binding) }
+    ensures { let places = map (λ p. (p.0, p.1.now)) placed.now in MatchOption result ((v : _) → AreAtHeads rule.now places v → ⊥) (λ binding. IsFit rule.now (AreAtHeads rule.now places) binding) }
 {
     let mut binding = Binding::free(rule.variables());
     for (number, atom) in placed {

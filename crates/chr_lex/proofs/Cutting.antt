@@ -4,7 +4,7 @@ use Rattle.std.specs.Prelude.{◌==◌, ◌||◌}
 use Rattle.std.proofs.lemmas.Bool.{cond_both, and_parts, and_from, eqb-true, eq-eqb, both_ways, false_from_ne_true}
 use Rattle.std.proofs.lemmas.List.{append-nil}
 use Rattle.std.proofs.Math.Seq.{take-append_seam, drop-append_seam}
-use Rattle.chr_lex.specs.Items.{Entry, is_gap, is_end, before_end, has_end, line_after, lines_after, items, begins_with_layout, BeginsItem}
+use Rattle.chr_lex.specs.Items.{Item, is_gap, is_end, before_end, has_end, line_after, lines_after, items, begins_with_layout, BeginsItem}
 use Rattle.chr_lex.specs.Cutting.{NoEnd, Items, no_more, gap, ended, cut}
 use Rattle.chr_lex.proofs.Items.{item_first, item_ends_no_line, point_ends_no_line}
 
@@ -27,7 +27,7 @@ has_past : (bs rest : List ℕ) → NoEnd bs rest → has_end (bs ++ rest) ≡ h
 has_past [] rest none = refl
 has_past (b ∷ bs) rest none = rw (no_end_here b bs rest none) (has_past bs rest (no_end_behind b bs rest none))
 
-ended_read : (line : ℕ) (inner rest : List ℕ) (es : List Entry) → BeginsItem (inner ++ 46 ∷ rest) → NoEnd inner (46 ∷ rest) → begins_with_layout rest ≡ true
+ended_read : (line : ℕ) (inner rest : List ℕ) (es : List Item) → BeginsItem (inner ++ 46 ∷ rest) → NoEnd inner (46 ∷ rest) → begins_with_layout rest ≡ true
     → items zero (lines_after inner line) rest ≡ es → items zero line (inner ++ 46 ∷ rest) ≡ record { line = line; bytes = inner; whole = true } ∷ es
 ended_read line inner rest es begins none layout more =
     let t = inner ++ 46 ∷ rest in
@@ -50,7 +50,7 @@ cut_read line b bs begins none =
     let gone : drop (length t) t ≡ [] = ap (drop (length t)) (sym nil) ∙ drop-append_seam t [] in
     item_first line (length t) t (omega arith) begins (omega arith) (front ∙ sym before) ∙ rw (front, open_, gone) refl
 
-pub are_read : (line : ℕ) (bs : List ℕ) (es : List Entry) → Items line bs es → items zero line bs ≡ es
+pub are_read : (line : ℕ) (bs : List ℕ) (es : List Item) → Items line bs es → items zero line bs ≡ es
 are_read _ _ _ (no_more line) = refl
 are_read _ _ _ (gap line b bs es h more) = rw h (are_read (line_after b line) bs es more)
 are_read _ _ _ (ended line inner rest es begins none layout more) = ended_read line inner rest es begins none layout (are_read (lines_after inner line) rest es more)
@@ -122,7 +122,7 @@ none_past [] k line h = refl
 none_past (b ∷ bs) zero line h = absurd (omega arith)
 none_past (b ∷ bs) (suc k) line h = none_past bs k (line_after b line) (omega arith)
 
-at_item : (line b : ℕ) (bs : List ℕ) (es : List Entry) → is_gap b ≡ false → es ≡ items (length (before_end (b ∷ bs))) line bs
+at_item : (line b : ℕ) (bs : List ℕ) (es : List Item) → is_gap b ≡ false → es ≡ items (length (before_end (b ∷ bs))) line bs
     → Items (lines_after (take (length (before_end (b ∷ bs))) bs) line) (drop (length (before_end (b ∷ bs))) bs) es
     → Items line (b ∷ bs) (record { line = line; bytes = before_end (b ∷ bs); whole = has_end (b ∷ bs) } ∷ es)
 at_item line b bs es h is more =
@@ -151,8 +151,8 @@ found_from (b ∷ bs) zero line =
     (λ h. gap line b bs (items zero (line_after b line) bs) h (found_from bs zero (line_after b line)))
     (λ h. at_item line b bs (items (length (before_end (b ∷ bs))) line bs) h refl (found_from bs (length (before_end (b ∷ bs))) line))
 
-pub are_items : (line : ℕ) (bs : List ℕ) (es : List Entry) → items zero line bs ≡ es → Items line bs es
+pub are_items : (line : ℕ) (bs : List ℕ) (es : List Item) → items zero line bs ≡ es → Items line bs es
 are_items line bs es h = subst (Items line bs) h (found_from bs zero line)
 
-pub one_list : (line : ℕ) (bs : List ℕ) (es fs : List Entry) → Items line bs es → Items line bs fs → es ≡ fs
+pub one_list : (line : ℕ) (bs : List ℕ) (es fs : List Item) → Items line bs es → Items line bs fs → es ≡ fs
 one_list line bs es fs a b = sym (are_read line bs es a) ∙ are_read line bs fs b

@@ -5,7 +5,7 @@ use Rattle.std.specs.Prelude.{◌==◌, ◌||◌}
 use Rattle.std.proofs.lemmas.Bool.{eqb-true, and_parts, or_parts, false_from_ne_true}
 use Rattle.std.proofs.lemmas.List.{drop-drop, nil_from_length}
 use Rattle.chr_lex.specs.Plain.{is_layout}
-use Rattle.chr_lex.specs.Items.{Entry, is_gap, is_end, before_end, has_end, line_after, lines_after, items, begins_with_layout, BeginsItem}
+use Rattle.chr_lex.specs.Items.{Item, is_gap, is_end, before_end, has_end, line_after, lines_after, items, begins_with_layout, BeginsItem}
 
 same_line : (c line : ℕ) → (c == 10) ≡ false → line_after c line ≡ line
 same_line c line h = rw h
@@ -47,7 +47,7 @@ item_first line n (b ∷ bs) long begins within is =
     let far : drop 1 (drop n (b ∷ bs)) ≡ drop n bs = drop-drop 1 n (b ∷ bs) ∙ ap (λ (k : ℕ). drop k (b ∷ bs)) e in
     let near : drop (length (before_end (b ∷ bs))) bs ≡ drop 1 (drop n (b ∷ bs)) = ap (λ (k : ℕ). drop k bs) count ∙ sym far in
     let next : items (length (before_end (b ∷ bs))) line bs ≡ items zero (lines_after (before_end (b ∷ bs)) line) (drop 1 (drop n (b ∷ bs))) = behind ∙ ap (items zero (lines_after (before_end (b ∷ bs)) line)) near in
-    let all : items zero line (b ∷ bs) ≡ record { line = line; bytes = before_end (b ∷ bs); whole = has_end (b ∷ bs) } ∷ items zero (lines_after (before_end (b ∷ bs)) line) (drop 1 (drop n (b ∷ bs))) = split ∙ ap (λ (r : List Entry). record { line = line; bytes = before_end (b ∷ bs); whole = has_end (b ∷ bs) } ∷ r) next in
+    let all : items zero line (b ∷ bs) ≡ record { line = line; bytes = before_end (b ∷ bs); whole = has_end (b ∷ bs) } ∷ items zero (lines_after (before_end (b ∷ bs)) line) (drop 1 (drop n (b ∷ bs))) = split ∙ ap (λ (r : List Item). record { line = line; bytes = before_end (b ∷ bs); whole = has_end (b ∷ bs) } ∷ r) next in
     subst (λ (taken : List ℕ). items zero line (b ∷ bs) ≡ record { line = line; bytes = taken; whole = has_end (b ∷ bs) } ∷ items zero (lines_after taken line) (drop 1 (drop n (b ∷ bs)))) (sym is) all
 
 take_rest : (k : ℕ) (xs : List ℕ) → length xs ≤ k → take k xs ≡ xs

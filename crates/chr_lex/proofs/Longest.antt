@@ -13,7 +13,7 @@ use Rattle.std.proofs.Math.Seq.{take-append_seam}
 use Rattle.chr_lex.specs.declared.mark.Mark.{Mark}
 use Rattle.chr_lex.specs.declared.mark.Mark.TheVariants as mark
 use Rattle.chr_lex.specs.Marks.{spelling, marks}
-use Rattle.chr_lex.specs.Tokens.{Lexeme, Said, Sign, Name, Variable, Number, is_word, begins_with_digit, named, lower_word, signed, signed_at, token_at}
+use Rattle.chr_lex.specs.Tokens.{Lexeme, OfWord, OfMark, Name, Variable, Number, is_word, begins_with_digit, named, lower_word, signed, signed_at, token_at}
 use Rattle.chr_lex.specs.Lexing.{is_operator, Spells, a_name, a_variable, a_number, below_zero, a_mark, Longest}
 use Rattle.chr_lex.proofs.Tokens.{take_all_passing, find_passes, token_fits}
 
@@ -74,9 +74,9 @@ pointwise_same a b = (bytes_eq-Decides a b).0
 named_spelled : (op : Bool) (b : ℕ) (bs : List ℕ) → is_ascii_lowercase b ≡ true → list_all is_word bs ≡ true → (i m r : Bool)
     → bytes_eq (b ∷ bs) (spelling mark.Is) ≡ i → bytes_eq (b ∷ bs) (spelling mark.Mod) ≡ m → bytes_eq (b ∷ bs) (spelling mark.Rem) ≡ r
     → Spells op (named (b ∷ bs) (cond i (Some mark.Is) (cond m (Some mark.Mod) (cond r (Some mark.Rem) None)))) (b ∷ bs)
-named_spelled op b bs lower all true m r hi hm hr = subst (Spells op (Sign mark.Is)) (sym (pointwise_same (b ∷ bs) (spelling mark.Is) hi)) (a_mark op mark.Is)
-named_spelled op b bs lower all false true r hi hm hr = subst (Spells op (Sign mark.Mod)) (sym (pointwise_same (b ∷ bs) (spelling mark.Mod) hm)) (a_mark op mark.Mod)
-named_spelled op b bs lower all false false true hi hm hr = subst (Spells op (Sign mark.Rem)) (sym (pointwise_same (b ∷ bs) (spelling mark.Rem) hr)) (a_mark op mark.Rem)
+named_spelled op b bs lower all true m r hi hm hr = subst (Spells op (OfMark mark.Is)) (sym (pointwise_same (b ∷ bs) (spelling mark.Is) hi)) (a_mark op mark.Is)
+named_spelled op b bs lower all false true r hi hm hr = subst (Spells op (OfMark mark.Mod)) (sym (pointwise_same (b ∷ bs) (spelling mark.Mod) hm)) (a_mark op mark.Mod)
+named_spelled op b bs lower all false false true hi hm hr = subst (Spells op (OfMark mark.Rem)) (sym (pointwise_same (b ∷ bs) (spelling mark.Rem) hr)) (a_mark op mark.Rem)
 named_spelled op b bs lower all false false false hi hm hr = a_name op b bs lower all (rw (hi, hm, hr) refl)
 
 lower_spelled : (op : Bool) (b : ℕ) (bs : List ℕ) → is_ascii_lowercase b ≡ true → list_all is_word bs ≡ true → Spells op (lower_word (b ∷ bs)) (b ∷ bs)
@@ -94,13 +94,13 @@ IsSpelled op bs t = Spells op t.0 (take t.1 bs)
 
 signed_spelled : (op : Bool) (bs : List ℕ) (o : Option Mark) → IfSome o (λ m. starts_with nat_eq bs (spelling m) ≡ true) → IfSome (signed o) (IsSpelled op bs)
 signed_spelled op bs None h = tt
-signed_spelled op bs (Some m) h = subst (Spells op (Sign m)) (pointwise_same (spelling m) (take (length (spelling m)) bs) h) (a_mark op m)
+signed_spelled op bs (Some m) h = subst (Spells op (OfMark m)) (pointwise_same (spelling m) (take (length (spelling m)) bs) h) (a_mark op m)
 
 below_zero_spelled : (op : Bool) (b : ℕ) (bs : List ℕ) → b ≡ 45 → op ≡ false → begins_with_digit bs ≡ true
-    → Spells op (Said (Number true (take_while is_ascii_digit bs))) (b ∷ take_while is_ascii_digit bs)
+    → Spells op (OfWord (Number true (take_while is_ascii_digit bs))) (b ∷ take_while is_ascii_digit bs)
 below_zero_spelled op b [] minus first digit = absurd cc
 below_zero_spelled op b (c ∷ cs) minus first digit =
-    rw (minus, first) (at_front (λ w. Spells false (Said (Number true w)) (45 ∷ w)) is_ascii_digit c cs digit (below_zero c (take_while is_ascii_digit cs) (and_from (is_ascii_digit c) (list_all is_ascii_digit (take_while is_ascii_digit cs)) digit (all_passing is_ascii_digit cs))))
+    rw (minus, first) (at_front (λ w. Spells false (OfWord (Number true w)) (45 ∷ w)) is_ascii_digit c cs digit (below_zero c (take_while is_ascii_digit cs) (and_from (is_ascii_digit c) (list_all is_ascii_digit (take_while is_ascii_digit cs)) digit (all_passing is_ascii_digit cs))))
 
 sign_spelled : (op : Bool) (bs : List ℕ) → IfSome (signed_at op bs) (IsSpelled op bs)
 sign_spelled op [] = tt
@@ -111,7 +111,7 @@ sign_spelled op (b ∷ bs) =
     let inner = and_parts (b == 45) (not op) outer.0 in
     let e : 1 + length (take_while is_ascii_digit bs) ≡ suc (length (take_while is_ascii_digit bs)) = omega arith in
     let bytes : take (1 + length (take_while is_ascii_digit bs)) (b ∷ bs) ≡ b ∷ take_while is_ascii_digit bs = ap (λ (k : ℕ). take k (b ∷ bs)) e ∙ ap (λ (r : List ℕ). b ∷ r) (taken is_ascii_digit bs) in
-    subst (Spells op (Said (Number true (take_while is_ascii_digit bs)))) (sym bytes) (below_zero_spelled op b bs (eqb-true b 45 inner.0) (not-true op inner.1) outer.1))
+    subst (Spells op (OfWord (Number true (take_while is_ascii_digit bs)))) (sym bytes) (below_zero_spelled op b bs (eqb-true b 45 inner.0) (not-true op inner.1) outer.1))
     (λ h. signed_spelled op (b ∷ bs) _ (find_passes (λ m. starts_with nat_eq (b ∷ bs) (spelling m)) marks))
 
 pub token_spelled : (op : Bool) (bs : List ℕ) → IfSome (token_at op bs) (IsSpelled op bs)
@@ -121,11 +121,11 @@ token_spelled op (b ∷ bs) =
     (λ h. subst (Spells op (lower_word (take_while is_word (b ∷ bs)))) (sym (taken is_word (b ∷ bs)))
     (at_front (λ w. Spells op (lower_word w) w) is_word b bs (lower_is_word b h) (lower_spelled op b (take_while is_word bs) h (all_passing is_word bs))))
     (λ h. cond_both (is_ascii_uppercase b || (b == 95)) _ _ (λ o. IfSome o (IsSpelled op (b ∷ bs)))
-    (λ h. subst (Spells op (Said (Variable (take_while is_word (b ∷ bs))))) (sym (taken is_word (b ∷ bs)))
-    (at_front (λ w. Spells op (Said (Variable w)) w) is_word b bs (upper_is_word b h) (a_variable op b (take_while is_word bs) h (all_passing is_word bs))))
+    (λ h. subst (Spells op (OfWord (Variable (take_while is_word (b ∷ bs))))) (sym (taken is_word (b ∷ bs)))
+    (at_front (λ w. Spells op (OfWord (Variable w)) w) is_word b bs (upper_is_word b h) (a_variable op b (take_while is_word bs) h (all_passing is_word bs))))
     (λ h. cond_both (is_ascii_digit b) _ _ (λ o. IfSome o (IsSpelled op (b ∷ bs)))
-    (λ h. subst (Spells op (Said (Number false (take_while is_ascii_digit (b ∷ bs))))) (sym (taken is_ascii_digit (b ∷ bs)))
-    (at_front (λ w. Spells op (Said (Number false w)) w) is_ascii_digit b bs h (a_number op b (take_while is_ascii_digit bs) (and_from (is_ascii_digit b) (list_all is_ascii_digit (take_while is_ascii_digit bs)) h (all_passing is_ascii_digit bs)))))
+    (λ h. subst (Spells op (OfWord (Number false (take_while is_ascii_digit (b ∷ bs))))) (sym (taken is_ascii_digit (b ∷ bs)))
+    (at_front (λ w. Spells op (OfWord (Number false w)) w) is_ascii_digit b bs h (a_number op b (take_while is_ascii_digit bs) (and_from (is_ascii_digit b) (list_all is_ascii_digit (take_while is_ascii_digit bs)) h (all_passing is_ascii_digit bs)))))
     (λ h. sign_spelled op (b ∷ bs))))
 
 -- ---- what is spelled is read, or something longer
@@ -205,13 +205,13 @@ first_digit b bs h = (and_parts (is_ascii_digit b) (list_all is_ascii_digit bs) 
 lower_read : (op : Bool) (b : ℕ) (bs : List ℕ) → is_ascii_lowercase b ≡ true → token_at op (b ∷ bs) ≡ Some (lower_word (take_while is_word (b ∷ bs)), length (take_while is_word (b ∷ bs)))
 lower_read op b bs lower = rw lower refl
 
-upper_read : (op : Bool) (b : ℕ) (bs : List ℕ) → (is_ascii_uppercase b || (b == 95)) ≡ true → token_at op (b ∷ bs) ≡ Some (Said (Variable (take_while is_word (b ∷ bs))), length (take_while is_word (b ∷ bs)))
+upper_read : (op : Bool) (b : ℕ) (bs : List ℕ) → (is_ascii_uppercase b || (b == 95)) ≡ true → token_at op (b ∷ bs) ≡ Some (OfWord (Variable (take_while is_word (b ∷ bs))), length (take_while is_word (b ∷ bs)))
 upper_read op b bs upper = rw (upper_not_lower b upper, upper) refl
 
-digit_read : (op : Bool) (b : ℕ) (bs : List ℕ) → is_ascii_digit b ≡ true → token_at op (b ∷ bs) ≡ Some (Said (Number false (take_while is_ascii_digit (b ∷ bs))), length (take_while is_ascii_digit (b ∷ bs)))
+digit_read : (op : Bool) (b : ℕ) (bs : List ℕ) → is_ascii_digit b ≡ true → token_at op (b ∷ bs) ≡ Some (OfWord (Number false (take_while is_ascii_digit (b ∷ bs))), length (take_while is_ascii_digit (b ∷ bs)))
 digit_read op b bs digit = rw (digit_not_lower b digit, digit_not_upper b digit, digit) refl
 
-minus_read : (b : ℕ) (bs : List ℕ) → is_ascii_digit b ≡ true → token_at false (45 ∷ b ∷ bs) ≡ Some (Said (Number true (take_while is_ascii_digit (b ∷ bs))), 1 + length (take_while is_ascii_digit (b ∷ bs)))
+minus_read : (b : ℕ) (bs : List ℕ) → is_ascii_digit b ≡ true → token_at false (45 ∷ b ∷ bs) ≡ Some (OfWord (Number true (take_while is_ascii_digit (b ∷ bs))), 1 + length (take_while is_ascii_digit (b ∷ bs)))
 minus_read b bs digit = rw digit refl
 
 spelled_reaches : (op : Bool) (u : Lexeme) (v more : List ℕ) → Spells op u v → Reaches (length v) (token_at op (v ++ more))
@@ -229,14 +229,14 @@ spelled_reaches _ _ _ more (a_mark op m) = mark_reaches op m more
 
 -- ---- a token alone is read as that token
 
-lower_named : (b : ℕ) (bs : List ℕ) → is_operator (b ∷ bs) ≡ false → lower_word (b ∷ bs) ≡ Said (Name (b ∷ bs))
+lower_named : (b : ℕ) (bs : List ℕ) → is_operator (b ∷ bs) ≡ false → lower_word (b ∷ bs) ≡ OfWord (Name (b ∷ bs))
 lower_named b bs free =
     let w = b ∷ bs in
     let outer = or_parts (bytes_eq w (spelling mark.Is) || bytes_eq w (spelling mark.Mod)) (bytes_eq w (spelling mark.Rem)) free in
     let inner = or_parts (bytes_eq w (spelling mark.Is)) (bytes_eq w (spelling mark.Mod)) outer.0 in
     rw (inner.0, inner.1, outer.1) refl
 
-mark_exact : (op : Bool) (m : Mark) → token_at op (spelling m) ≡ Some (Sign m, length (spelling m))
+mark_exact : (op : Bool) (m : Mark) → token_at op (spelling m) ≡ Some (OfMark m, length (spelling m))
 mark_exact op mark.Simplify = refl
 mark_exact op mark.Propagate = refl
 mark_exact op mark.SameValue = refl
@@ -270,12 +270,12 @@ exact _ _ _ (a_name op b bs lower all free) =
     lower_read op b bs lower ∙ ap (λ (w : List ℕ). Some (lower_word w, length w)) whole ∙ ap (λ (t : Lexeme). Some (t, length (b ∷ bs))) (lower_named b bs free)
 exact _ _ _ (a_variable op b bs upper all) =
     let whole : take_while is_word (b ∷ bs) ≡ b ∷ bs = while_all is_word (b ∷ bs) (and_from (is_word b) (list_all is_word bs) (upper_is_word b upper) all) in
-    upper_read op b bs upper ∙ ap (λ (w : List ℕ). Some (Said (Variable w), length w)) whole
+    upper_read op b bs upper ∙ ap (λ (w : List ℕ). Some (OfWord (Variable w), length w)) whole
 exact _ _ _ (a_number op b bs all) =
-    digit_read op b bs (first_digit b bs all) ∙ ap (λ (w : List ℕ). Some (Said (Number false w), length w)) (while_all is_ascii_digit (b ∷ bs) all)
+    digit_read op b bs (first_digit b bs all) ∙ ap (λ (w : List ℕ). Some (OfWord (Number false w), length w)) (while_all is_ascii_digit (b ∷ bs) all)
 exact _ _ _ (below_zero b bs all) =
     let count : 1 + length (b ∷ bs) ≡ length (45 ∷ b ∷ bs) = omega arith in
-    minus_read b bs (first_digit b bs all) ∙ ap (λ (w : List ℕ). Some (Said (Number true w), 1 + length w)) (while_all is_ascii_digit (b ∷ bs) all) ∙ ap (λ (k : ℕ). Some (Said (Number true (b ∷ bs)), k)) count
+    minus_read b bs (first_digit b bs all) ∙ ap (λ (w : List ℕ). Some (OfWord (Number true w), 1 + length w)) (while_all is_ascii_digit (b ∷ bs) all) ∙ ap (λ (k : ℕ). Some (OfWord (Number true (b ∷ bs)), k)) count
 exact _ _ _ (a_mark op m) = mark_exact op m
 
 abbrev lexeme_or : Lexeme → Option (Lexeme × ℕ) → Lexeme

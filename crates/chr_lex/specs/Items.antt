@@ -1,11 +1,11 @@
 -- The items of a text without comments.
 use Rattle.std.specs.Prelude.{◌≡◌, ℕ, zero, suc, ◌+◌, Bool, true, false, List, [], ◌∷◌, length, ◌==◌, ◌&&◌, ◌||◌, if◌then◌else◌}
 use Rattle.chr_lex.specs.declared.plain.TheConstants.{COMMENT}
-use Rattle.chr_lex.specs.declared.item.Item.{Item}
+use Rattle.chr_lex.specs.declared.item.Item.{Item as CodeItem}
 use Rattle.chr_lex.specs.Plain.{is_layout, plain_of}
 
 -- an item without its end point, and whether it has one
-pub record Entry : Type 0 where
+pub record Item : Type 0 where
   pub line : ℕ
   pub bytes : List ℕ
   pub whole : Bool
@@ -33,7 +33,7 @@ abbrev pub line_after : ℕ → ℕ → ℕ
 line_after b line = if b == 10 then line + 1 else line
 
 -- The items, where the first `skip` bytes belong to the item before.
-abbrev pub items : ℕ → ℕ → List ℕ → List Entry
+abbrev pub items : ℕ → ℕ → List ℕ → List Item
 items skip line [] = []
 items (suc skip) line (b ∷ bs) = items skip (line_after b line) bs
 items zero line (b ∷ bs) =
@@ -50,9 +50,9 @@ abbrev pub lines_after : List ℕ → ℕ → ℕ
 lines_after [] line = line
 lines_after (b ∷ bs) line = lines_after bs (line_after b line)
 
-abbrev pub entry : Item → Entry
+abbrev pub entry : CodeItem → Item
 entry i = record { line = i.line; bytes = i.text.now; whole = i.whole }
 
 -- the items of a text, comments and all
-abbrev pub items_of : List ℕ → List Entry
+abbrev pub items_of : List ℕ → List Item
 items_of bytes = items zero 1 (plain_of bytes)

@@ -7,8 +7,8 @@ use Rattle.chr_lex.specs.declared.fault.Kind.{Kind}
 use Rattle.chr_lex.specs.declared.fault.Kind.TheVariants.{Syntax}
 use Rattle.chr_lex.specs.declared.mark.Mark.{Mark}
 use Rattle.chr_lex.specs.declared.mark.Mark.TheVariants as mark
-use Rattle.chr_lex.specs.declared.token.Written.{Written}
-use Rattle.chr_lex.specs.declared.token.Written.TheVariants as written
+use Rattle.chr_lex.specs.declared.token.Word.{Word as CodeWritten}
+use Rattle.chr_lex.specs.declared.token.Word.TheVariants as written
 use Rattle.chr_lex.specs.declared.token.Token.{Token}
 use Rattle.chr_lex.specs.declared.token.Token.TheVariants as token
 use Rattle.chr_lex.specs.Items.{is_gap}
@@ -22,17 +22,17 @@ pub data Word : Type 0 where
   Number : Bool → List ℕ → Word
 
 pub data Lexeme : Type 0 where
-  Said : Word → Lexeme
-  Sign : Mark → Lexeme
+  OfWord : Word → Lexeme
+  OfMark : Mark → Lexeme
 
-abbrev pub word : Written → Word
+abbrev pub word : CodeWritten → Word
 word (written.Name bytes) = Name bytes.now
 word (written.Variable bytes) = Variable bytes.now
 word (written.Number negative digits) = Number negative digits.now
 
 abbrev pub lexeme : Token → Lexeme
-lexeme (token.Written t) = Said (word t)
-lexeme (token.Mark m) = Sign m
+lexeme (token.Word t) = OfWord (word t)
+lexeme (token.Mark m) = OfMark m
 
 -- a byte of a name or variable behind its first
 abbrev pub is_word : ℕ → Bool
@@ -48,26 +48,26 @@ closes_operand _ = false
 
 -- whether a minus behind it is an operator
 abbrev pub is_operand : Lexeme → Bool
-is_operand (Said w) = true
-is_operand (Sign m) = closes_operand m
+is_operand (OfWord w) = true
+is_operand (OfMark m) = closes_operand m
 
 -- An operator that is a word is no name.
 abbrev pub named : List ℕ → Option Mark → Lexeme
-named bytes None = Said (Name bytes)
-named bytes (Some m) = Sign m
+named bytes None = OfWord (Name bytes)
+named bytes (Some m) = OfMark m
 
 abbrev pub lower_word : List ℕ → Lexeme
 lower_word bytes = named bytes (find (λ m. bytes_eq bytes (spelling m)) word_marks)
 
 abbrev pub signed : Option Mark → Option (Lexeme × ℕ)
 signed None = None
-signed (Some m) = Some (Sign m, length (spelling m))
+signed (Some m) = Some (OfMark m, length (spelling m))
 
 -- A minus directly before a digit belongs to the number, but behind an operand it is an operator.
 abbrev pub signed_at : Bool → List ℕ → Option (Lexeme × ℕ)
 signed_at after_operand [] = None
 signed_at after_operand (b ∷ bs) =
-    if (b == 45) && not after_operand && begins_with_digit bs then Some (Said (Number true (take_while is_ascii_digit bs)), 1 + length (take_while is_ascii_digit bs))
+    if (b == 45) && not after_operand && begins_with_digit bs then Some (OfWord (Number true (take_while is_ascii_digit bs)), 1 + length (take_while is_ascii_digit bs))
     else signed (find (λ m. starts_with nat_eq (b ∷ bs) (spelling m)) marks)
 
 -- The longest token at the front, and how many bytes it takes.
@@ -75,8 +75,8 @@ abbrev pub token_at : Bool → List ℕ → Option (Lexeme × ℕ)
 token_at after_operand [] = None
 token_at after_operand (b ∷ bs) =
     if is_ascii_lowercase b then Some (lower_word (take_while is_word (b ∷ bs)), length (take_while is_word (b ∷ bs)))
-    else (if is_ascii_uppercase b || (b == 95) then Some (Said (Variable (take_while is_word (b ∷ bs))), length (take_while is_word (b ∷ bs)))
-    else (if is_ascii_digit b then Some (Said (Number false (take_while is_ascii_digit (b ∷ bs))), length (take_while is_ascii_digit (b ∷ bs)))
+    else (if is_ascii_uppercase b || (b == 95) then Some (OfWord (Variable (take_while is_word (b ∷ bs))), length (take_while is_word (b ∷ bs)))
+    else (if is_ascii_digit b then Some (OfWord (Number false (take_while is_ascii_digit (b ∷ bs))), length (take_while is_ascii_digit (b ∷ bs)))
     else signed_at after_operand (b ∷ bs)))
 
 abbrev pub token_or_fault : Option (Lexeme × ℕ) → Result (Lexeme × ℕ) Kind

@@ -4,7 +4,7 @@
 //! before layout or at the end of the text. Where a text ends inside an item, that item is not whole.
 
 ghost use Rattle.std.specs.Prelude.{◌≡◌, ◌≤◌, ◌<◌, ◌+◌, ◌^◌, zero, [], ◌∷◌, length, take, true, false, ◌↔◌, IsTrue, MatchOption, IfSome};
-ghost use Rattle.chr_lex.specs.Items.{Entry, is_gap, is_end, before_end, has_end, line_after, items, BeginsItem, lines_after, entry};
+ghost use Rattle.chr_lex.specs.Items.{Item, is_gap, is_end, before_end, has_end, line_after, items, BeginsItem, lines_after, entry};
 
 use crate::plain::{COMMENT, is_layout};
 

@@ -7,7 +7,7 @@ ghost use Rattle.chr_lex.specs.declared.fault.Kind.TheVariants.{Syntax};
 ghost use Rattle.chr_lex.specs.declared.plain.TheConstants.{BAD, COMMENT, UNCLOSED};
 ghost use Rattle.chr_lex.specs.Plain.{is_text, as_text, plain_of};
 ghost use Rattle.chr_lex.specs.Comments.{Plain};
-ghost use Rattle.chr_lex.specs.Items.{Entry, items, items_of};
+ghost use Rattle.chr_lex.specs.Items.{Item, items, items_of};
 ghost use Rattle.chr_lex.specs.Cutting.{Items, HasItems};
 ghost use Rattle.chr_lex.specs.Tokens.{Lexeme, token_at, tokens_from};
 ghost use Rattle.chr_lex.specs.Lexing.{Spells, Longest, Tokens};
@@ -30,16 +30,16 @@ pub fn comments_by_their_forms()
 
 /// The items that are read are those of the grammar, with their lines.
 pub fn items_by_their_forms()
-    ensures found { (line : ℕ) (bs : List ℕ) (es : List Entry) → items zero line bs ≡ es → Items line bs es }
-    ensures only { (line : ℕ) (bs : List ℕ) (es : List Entry) → Items line bs es → items zero line bs ≡ es }
-    ensures one { (line : ℕ) (bs : List ℕ) (es fs : List Entry) → Items line bs es → Items line bs fs → es ≡ fs }
+    ensures found { (line : ℕ) (bs : List ℕ) (es : List Item) → items zero line bs ≡ es → Items line bs es }
+    ensures only { (line : ℕ) (bs : List ℕ) (es : List Item) → Items line bs es → items zero line bs ≡ es }
+    ensures one { (line : ℕ) (bs : List ℕ) (es fs : List Item) → Items line bs es → Items line bs fs → es ≡ fs }
 {}
 
 /// The items that are read of a text, comments and all, are those of the grammar.
 pub fn texts_by_their_forms()
-    ensures found { (bs : List ℕ) (es : List Entry) → items_of bs ≡ es → HasItems bs es }
-    ensures only { (bs : List ℕ) (es : List Entry) → HasItems bs es → items_of bs ≡ es }
-    ensures one { (bs : List ℕ) (es fs : List Entry) → HasItems bs es → HasItems bs fs → es ≡ fs }
+    ensures found { (bs : List ℕ) (es : List Item) → items_of bs ≡ es → HasItems bs es }
+    ensures only { (bs : List ℕ) (es : List Item) → HasItems bs es → items_of bs ≡ es }
+    ensures one { (bs : List ℕ) (es fs : List Item) → HasItems bs es → HasItems bs fs → es ≡ fs }
 {}
 
 /// The token that is read at a place is the longest that is spelled there, and none is read only where none is spelled.

@@ -14,7 +14,7 @@ use std::alloc::Allocator;
 
 /// A name, a variable or a number, as it is written.
 #[derive(Clone, Copy, Debug)]
-pub enum Written<'a> {
+pub enum Word<'a> {
     /// A lower-case letter, then letters, digits and `_`.
     Name(&'a [u8]),
     /// An upper-case letter or `_`, then letters, digits and `_`.
@@ -26,7 +26,7 @@ pub enum Written<'a> {
 /// A token.
 #[derive(Clone, Copy, Debug)]
 pub enum Token<'a> {
-    Written(Written<'a>),
+    Word(Word<'a>),
     Mark(Mark),
 }
 
@@ -47,7 +47,7 @@ fn is_word(b: u8) -> bool
 
 #[tactic(auto, using(crate::proofs::Tokens::take_all_passing))]
 /// The bytes at the front that may stand in a name.
-fn word(text: &[u8]) -> &[u8]
+fn word_at(text: &[u8]) -> &[u8]
     ensures { result.now ≡ take_while is_word text.now }
 {
     &text[..word_len(text)]
@@ -79,7 +79,7 @@ fn lower_word(word: &[u8]) -> Token
 {
     match word_mark(word) {
         Some(mark) => Token::Mark(mark),
-        None => Token::Written(Written::Name(word)),
+        None => Token::Word(Word::Name(word)),
     }
 }
 
@@ -97,15 +97,15 @@ fn longest_at(after_operand: bool, text: &[u8]) -> Option<(Token, usize)>
 {
     let first = *text.first()?;
     if first.is_ascii_lowercase() {
-        let word = word(text);
+        let word = word_at(text);
         Some((lower_word(word), word.len()))
     } else if first.is_ascii_uppercase() || first == b'_' {
-        let word = word(text);
-        Some((Token::Written(Written::Variable(word)), word.len()))
+        let word = word_at(text);
+        Some((Token::Word(Word::Variable(word)), word.len()))
     } else if first.is_ascii_digit() {
         let digits = digits(text);
         Some((
-            Token::Written(Written::Number {
+            Token::Word(Word::Number {
                 negative: false,
                 digits,
             }),
@@ -124,7 +124,7 @@ fn sign_at(after_operand: bool, text: &[u8]) -> Option<(Token, usize)>
         [b'-', after @ ..] if !after_operand && begins_with_digit(after) => {
             let digits = digits(after);
             Some((
-                Token::Written(Written::Number {
+                Token::Word(Word::Number {
                     negative: true,
                     digits,
                 }),

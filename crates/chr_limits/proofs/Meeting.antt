@@ -1,62 +1,62 @@
--- Variables met in turn.
+-- Variables seen in turn.
 use Rattle.std.proofs.Common.{◌≡◌, ◌+◌, ◌≤◌, ◌<◌, ℕ, Bool, true, false, ◌&&◌, cond, List, [], ◌∷◌, ◌++◌, length, map, drop, get_or, flat_map, length-append, Option, Some, None, MatchOption, is_some, refl, sym, ap, ◌∙◌, arith}
 use Rattle.std.proofs.lemmas.List.{at_drop_more}
-use Rattle.chr_limits.specs.Variables.{is_met, met_from}
-use Rattle.chr_limits.specs.Scope.{are_met}
+use Rattle.chr_limits.specs.Variables.{is_seen, seen_from}
+use Rattle.chr_limits.specs.Scope.{are_seen}
 
-append_step : (b : Bool) (m n xs ys : List (List ℕ)) → met_from m (xs ++ ys) ≡ met_from (met_from m xs) ys → met_from n (xs ++ ys) ≡ met_from (met_from n xs) ys → cond b (met_from m (xs ++ ys)) (met_from n (xs ++ ys)) ≡ met_from (cond b (met_from m xs) (met_from n xs)) ys
+append_step : (b : Bool) (m n xs ys : List (List ℕ)) → seen_from m (xs ++ ys) ≡ seen_from (seen_from m xs) ys → seen_from n (xs ++ ys) ≡ seen_from (seen_from n xs) ys → cond b (seen_from m (xs ++ ys)) (seen_from n (xs ++ ys)) ≡ seen_from (cond b (seen_from m xs) (seen_from n xs)) ys
 append_step true m n xs ys p q = p
 append_step false m n xs ys p q = q
 
-pub met_from_append : (m xs ys : List (List ℕ)) → met_from m (xs ++ ys) ≡ met_from (met_from m xs) ys
+pub met_from_append : (m xs ys : List (List ℕ)) → seen_from m (xs ++ ys) ≡ seen_from (seen_from m xs) ys
 met_from_append m [] ys = refl
-met_from_append m (x ∷ xs) ys = append_step (is_met m x) m (m ++ x ∷ []) xs ys (met_from_append m xs ys) (met_from_append (m ++ x ∷ []) xs ys)
+met_from_append m (x ∷ xs) ys = append_step (is_seen m x) m (m ++ x ∷ []) xs ys (met_from_append m xs ys) (met_from_append (m ++ x ∷ []) xs ys)
 
-longer_step : (b : Bool) (m n xs : List (List ℕ)) → length m ≤ length n → length m ≤ length (met_from m xs) → length n ≤ length (met_from n xs) → length m ≤ length (cond b (met_from m xs) (met_from n xs))
+longer_step : (b : Bool) (m n xs : List (List ℕ)) → length m ≤ length n → length m ≤ length (seen_from m xs) → length n ≤ length (seen_from n xs) → length m ≤ length (cond b (seen_from m xs) (seen_from n xs))
 longer_step true m n xs h p q = p
 longer_step false m n xs h p q = omega arith
 
-pub met_from_longer : (m xs : List (List ℕ)) → length m ≤ length (met_from m xs)
+pub met_from_longer : (m xs : List (List ℕ)) → length m ≤ length (seen_from m xs)
 met_from_longer m [] = omega arith
-met_from_longer m (x ∷ xs) = longer_step (is_met m x) m (m ++ x ∷ []) xs (omega (arith, length-append m (x ∷ []))) (met_from_longer m xs) (met_from_longer (m ++ x ∷ []) xs)
+met_from_longer m (x ∷ xs) = longer_step (is_seen m x) m (m ++ x ∷ []) xs (omega (arith, length-append m (x ∷ []))) (met_from_longer m xs) (met_from_longer (m ++ x ∷ []) xs)
 
 -- too many so far are too many
-pub met_from_more : (m xs ys : List (List ℕ)) → length (met_from m xs) ≤ length (met_from m (xs ++ ys))
-met_from_more m xs ys = rw met_from_append (met_from_longer (met_from m xs) ys)
+pub met_from_more : (m xs ys : List (List ℕ)) → length (seen_from m xs) ≤ length (seen_from m (xs ++ ys))
+met_from_more m xs ys = rw met_from_append (met_from_longer (seen_from m xs) ys)
 
-pub short_more : (m xs ys : List (List ℕ)) → 24 < length (met_from m xs) → 24 < length (met_from m (xs ++ ys))
+pub short_more : (m xs ys : List (List ℕ)) → 24 < length (seen_from m xs) → 24 < length (seen_from m (xs ++ ys))
 short_more m xs ys h = omega (arith, met_from_more m xs ys)
 
 -- the variables of one element more, as at a step of a loop
-one_more : {X W : Type 0} (h : W → List (List ℕ)) (v : X → W) (m : List (List ℕ)) (xs : List X) (i : ℕ) (d : X) → i < length xs → met_from m (flat_map h (map v (drop i xs))) ≡ met_from (met_from m (h (v (get_or xs i d)))) (flat_map h (map v (drop (i + 1) xs)))
+one_more : {X W : Type 0} (h : W → List (List ℕ)) (v : X → W) (m : List (List ℕ)) (xs : List X) (i : ℕ) (d : X) → i < length xs → seen_from m (flat_map h (map v (drop i xs))) ≡ seen_from (seen_from m (h (v (get_or xs i d)))) (flat_map h (map v (drop (i + 1) xs)))
 one_more h v m xs i d k =
-    at_drop_more (λ ys. met_from m (flat_map h (map v ys))) xs i d k ∙ met_from_append m (h (v (get_or xs i d))) (flat_map h (map v (drop (i + 1) xs)))
+    at_drop_more (λ ys. seen_from m (flat_map h (map v ys))) xs i d k ∙ met_from_append m (h (v (get_or xs i d))) (flat_map h (map v (drop (i + 1) xs)))
 
-pub meet_turn : {X W : Type 0} (h : W → List (List ℕ)) (v : X → W) (m n b p : List (List ℕ)) (xs : List X) (i : ℕ) (d : X) → i < length xs → met_from m (flat_map h (map v (drop i xs))) ≡ b → p ≡ h (v (get_or xs i d)) → n ≡ met_from m p → met_from n (flat_map h (map v (drop (i + 1) xs))) ≡ b
+pub meet_turn : {X W : Type 0} (h : W → List (List ℕ)) (v : X → W) (m n b p : List (List ℕ)) (xs : List X) (i : ℕ) (d : X) → i < length xs → seen_from m (flat_map h (map v (drop i xs))) ≡ b → p ≡ h (v (get_or xs i d)) → n ≡ seen_from m p → seen_from n (flat_map h (map v (drop (i + 1) xs))) ≡ b
 meet_turn h v m n b p xs i d k e s f =
-    ap (λ (l : List (List ℕ)). met_from l (flat_map h (map v (drop (i + 1) xs)))) (f ∙ ap (met_from m) s) ∙ sym (one_more h v m xs i d k) ∙ e
+    ap (λ (l : List (List ℕ)). seen_from l (flat_map h (map v (drop (i + 1) xs)))) (f ∙ ap (seen_from m) s) ∙ sym (one_more h v m xs i d k) ∙ e
 
-pub meet_short : {X W : Type 0} (h : W → List (List ℕ)) (v : X → W) (m b p : List (List ℕ)) (xs : List X) (i : ℕ) (d : X) → i < length xs → met_from m (flat_map h (map v (drop i xs))) ≡ b → p ≡ h (v (get_or xs i d)) → 24 < length (met_from m p) → 24 < length b
+pub meet_short : {X W : Type 0} (h : W → List (List ℕ)) (v : X → W) (m b p : List (List ℕ)) (xs : List X) (i : ℕ) (d : X) → i < length xs → seen_from m (flat_map h (map v (drop i xs))) ≡ b → p ≡ h (v (get_or xs i d)) → 24 < length (seen_from m p) → 24 < length b
 meet_short h v m b p xs i d k e s f =
-    let longer = met_from_longer (met_from m (h (v (get_or xs i d)))) (flat_map h (map v (drop (i + 1) xs))) in
-    let same : length (met_from (met_from m (h (v (get_or xs i d)))) (flat_map h (map v (drop (i + 1) xs)))) ≡ length b = ap length (sym (one_more h v m xs i d k) ∙ e) in
-    let here : length (met_from m p) ≡ length (met_from m (h (v (get_or xs i d)))) = ap (λ (l : List (List ℕ)). length (met_from m l)) s in
+    let longer = met_from_longer (seen_from m (h (v (get_or xs i d)))) (flat_map h (map v (drop (i + 1) xs))) in
+    let same : length (seen_from (seen_from m (h (v (get_or xs i d)))) (flat_map h (map v (drop (i + 1) xs)))) ≡ length b = ap length (sym (one_more h v m xs i d k) ∙ e) in
+    let here : length (seen_from m p) ≡ length (seen_from m (h (v (get_or xs i d)))) = ap (λ (l : List (List ℕ)). length (seen_from m l)) s in
     omega arith
 
-pub short_first : (m : List (List ℕ)) (x : List ℕ) (ys : List (List ℕ)) → 24 < length (met_from m (x ∷ [])) → 24 < length (met_from m (x ∷ ys))
+pub short_first : (m : List (List ℕ)) (x : List ℕ) (ys : List (List ℕ)) → 24 < length (seen_from m (x ∷ [])) → 24 < length (seen_from m (x ∷ ys))
 short_first m x ys h = short_more m (x ∷ []) ys h
 
-are_met_step : (b c : Bool) (l r k : List (List ℕ)) → b && c ≡ true → (c ≡ true → l ≡ k) → cond b l r ≡ k
-are_met_step true c l r k e f = f e
-are_met_step false c l r k e f = absurd (cc)
+are_seen_step : (b c : Bool) (l r k : List (List ℕ)) → b && c ≡ true → (c ≡ true → l ≡ k) → cond b l r ≡ k
+are_seen_step true c l r k e f = f e
+are_seen_step false c l r k e f = absurd (cc)
 
--- those that were met add nothing
-pub met_from_met : (m xs : List (List ℕ)) → are_met m xs ≡ true → met_from m xs ≡ m
-met_from_met m [] e = refl
-met_from_met m (x ∷ xs) e = are_met_step (is_met m x) (are_met m xs) (met_from m xs) (met_from (m ++ x ∷ []) xs) m e (met_from_met m xs)
+-- those that were seen add nothing
+pub met_from_seen : (m xs : List (List ℕ)) → are_seen m xs ≡ true → seen_from m xs ≡ m
+met_from_seen m [] e = refl
+met_from_seen m (x ∷ xs) e = are_seen_step (is_seen m x) (are_seen m xs) (seen_from m xs) (seen_from (m ++ x ∷ []) xs) m e (met_from_seen m xs)
 
--- three lists met in turn
-pub met_in_turn : (xs ys zs m n k : List (List ℕ)) → m ≡ met_from [] xs → n ≡ met_from m ys → k ≡ met_from n zs → met_from [] (xs ++ ys ++ zs) ≡ k
+-- three lists seen in turn
+pub met_in_turn : (xs ys zs m n k : List (List ℕ)) → m ≡ seen_from [] xs → n ≡ seen_from m ys → k ≡ seen_from n zs → seen_from [] (xs ++ ys ++ zs) ≡ k
 met_in_turn xs ys zs m n k e f h = rw (met_from_append, met_from_append, ← e, ← f, ← h) refl
 
 pub some_then : (o : Option (Unit {0})) (P Q : Type 0) → MatchOption o P (λ _. Q) → is_some o ≡ true → Q

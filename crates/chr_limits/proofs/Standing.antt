@@ -3,12 +3,12 @@ use Rattle.std.proofs.Common.{◌≡◌, ◌<◌, ◌+◌, Bool, true, false, lt
 use Rattle.std.specs.List.{list_any}
 use Rattle.std.proofs.lemmas.Bool.{ltb-false, le-ltb}
 use Rattle.chr_lex.specs.declared.fault.Kind.{Kind}
-use Rattle.chr_grammar.specs.Written.{Declared, Phrase, RawRule}
+use Rattle.chr_grammar.specs.Parsed.{Declared, ParsedAtom, ParsedRule}
 use Rattle.chr_limits.specs.Words.{is_long, phrase_has, rule_has}
 use Rattle.chr_limits.specs.Limits.{has_many_args, has_wide_atom, has_many_parts, is_too_large, is_comparison, is_item}
-use Rattle.chr_limits.specs.Variables.{variables_of, met}
+use Rattle.chr_limits.specs.Variables.{variables_of, seen}
 use Rattle.chr_limits.specs.Judging.{removes_nothing, is_propagation, rule_judged, declaration_judged, post_judged}
-use Rattle.chr_limits.specs.Standing.{MayStand, MayBeDeclared, MayBePosted}
+use Rattle.chr_limits.specs.Standing.{IsAllowedRule, AreAllowedDeclarations, AreAllowedPosts}
 
 pub neither : (a b : Bool) → a || b ≡ false → (a ≡ false) × (b ≡ false)
 neither true b h = absurd cc
@@ -27,22 +27,22 @@ held : {A : Type 0} (b : Bool) (k : Kind) (x y : A) → cond b (Ok x) (Err k) �
 held true k x y h = refl
 held false k x y h = absurd cc
 
-some_removed : (ps : List Phrase) → removes_nothing ps ≡ false → 0 < length ps
+some_removed : (ps : List ParsedAtom) → removes_nothing ps ≡ false → 0 < length ps
 some_removed [] h = absurd cc
 some_removed (p ∷ ps) h = omega arith
 
-none_else : (ps : List Phrase) → 0 < length ps → removes_nothing ps ≡ false
+none_else : (ps : List ParsedAtom) → 0 < length ps → removes_nothing ps ≡ false
 none_else [] h = absurd (omega arith)
 none_else (p ∷ ps) h = refl
 
-removing : (r : RawRule) → is_propagation r ≡ false → 0 < length r.removed
+removing : (r : ParsedRule) → is_propagation r ≡ false → 0 < length r.removed
 removing r h = some_removed r.removed h
 
-removed : (r : RawRule) → 0 < length r.removed → is_propagation r ≡ false
+removed : (r : ParsedRule) → 0 < length r.removed → is_propagation r ≡ false
 removed r h = none_else r.removed h
 
 -- what the test of the limits passes keeps to each
-pub stands : (full : Bool) (r : RawRule) → rule_judged full r ≡ Ok tt → (full ≡ false) × MayStand r
+pub stands : (full : Bool) (r : ParsedRule) → rule_judged full r ≡ Ok tt → (full ≡ false) × IsAllowedRule r
 stands full r h =
     let first = passed _ _ _ tt h in
     let second = passed _ _ _ tt first.1 in
@@ -50,28 +50,28 @@ stands full r h =
     let whole = neither full (is_too_large r) third.0 in
     let large = neither (rule_has is_long r || has_wide_atom r) (has_many_parts r) whole.1 in
     let words = neither (rule_has is_long r) (has_wide_atom r) large.0 in
-    let parts = neither (ltb 6 (length r.kept + length r.removed) || ltb 16 (length (filter is_comparison r.guard)) || ltb 16 (length (filter is_item r.body))) (ltb 24 (length (met (variables_of r)))) large.1 in
+    let parts = neither (ltb 6 (length r.kept + length r.removed) || ltb 16 (length (filter is_comparison r.guard)) || ltb 16 (length (filter is_item r.body))) (ltb 24 (length (seen (variables_of r)))) large.1 in
     let items = neither (ltb 6 (length r.kept + length r.removed) || ltb 16 (length (filter is_comparison r.guard))) (ltb 16 (length (filter is_item r.body))) parts.0 in
     let heads = neither (ltb 6 (length r.kept + length r.removed)) (ltb 16 (length (filter is_comparison r.guard))) items.0 in
     (whole.0, record { removes = removing r first.0; numbers = second.0; names = words.0; args = words.1; heads = ltb-false _ _ heads.0; comparisons = ltb-false _ _ heads.1; items = ltb-false _ _ items.1; variables = ltb-false _ _ parts.1; scoped = held _ _ _ _ third.1 })
 
-small : (r : RawRule) → MayStand r → is_too_large r ≡ false
+small : (r : ParsedRule) → IsAllowedRule r → is_too_large r ≡ false
 small r s =
     nor (rule_has is_long r || has_wide_atom r) (has_many_parts r) (nor _ _ s.names s.args) (nor _ _ (nor _ _ (nor _ _ (le-ltb _ _ s.heads) (le-ltb _ _ s.comparisons)) (le-ltb _ _ s.items)) (le-ltb _ _ s.variables))
 
-pub passes : (full : Bool) (r : RawRule) → (full ≡ false) × MayStand r → rule_judged full r ≡ Ok tt
+pub passes : (full : Bool) (r : ParsedRule) → (full ≡ false) × IsAllowedRule r → rule_judged full r ≡ Ok tt
 passes full r h = rw (removed r h.1.removes, h.1.numbers, nor full (is_too_large r) h.0 (small r h.1), h.1.scoped) refl
 
-pub declared : (all : List Declared) → declaration_judged all ≡ Ok tt → MayBeDeclared all
+pub declared : (all : List Declared) → declaration_judged all ≡ Ok tt → AreAllowedDeclarations all
 declared all h =
     let first = passed _ _ _ tt h in
     let second = passed _ _ _ tt first.1 in
     record { numbers = first.0; names = second.0 }
 
-pub declares : (all : List Declared) → MayBeDeclared all → declaration_judged all ≡ Ok tt
+pub declares : (all : List Declared) → AreAllowedDeclarations all → declaration_judged all ≡ Ok tt
 declares all s = rw (s.numbers, s.names) refl
 
-pub posted : (atoms : List Phrase) → post_judged atoms ≡ Ok tt → MayBePosted atoms
+pub posted : (atoms : List ParsedAtom) → post_judged atoms ≡ Ok tt → AreAllowedPosts atoms
 posted atoms h =
     let first = passed _ _ _ tt h in
     let second = passed _ _ _ tt first.1 in
@@ -79,5 +79,5 @@ posted atoms h =
     let large = neither (list_any (phrase_has is_long) atoms) (list_any has_many_args atoms) second.0 in
     record { numbers = first.0; names = large.0; args = large.1; no_variables = third.0 }
 
-pub posts : (atoms : List Phrase) → MayBePosted atoms → post_judged atoms ≡ Ok tt
+pub posts : (atoms : List ParsedAtom) → AreAllowedPosts atoms → post_judged atoms ≡ Ok tt
 posts atoms s = rw (s.numbers, nor _ _ s.names s.args, s.no_variables) refl

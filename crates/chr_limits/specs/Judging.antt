@@ -4,24 +4,24 @@ use Rattle.std.specs.List.{list_any}
 use Rattle.chr_lex.specs.declared.fault.Kind.{Kind}
 use Rattle.chr_lex.specs.declared.fault.Kind.TheVariants.{Propagation, NumberRange, TooMany, Binding}
 use Rattle.chr_lex.specs.Tokens.{Name, Number}
-use Rattle.chr_grammar.specs.Written.{Declared, Phrase, RawRule}
+use Rattle.chr_grammar.specs.Parsed.{Declared, ParsedAtom, ParsedRule}
 use Rattle.chr_limits.specs.Words.{is_out_of_range, is_long, is_variable, phrase_has, rule_has}
 use Rattle.chr_limits.specs.Limits.{has_many_args, is_too_large}
 use Rattle.chr_limits.specs.Scope.{is_in_scope}
 
 -- a rule that removes nothing
-abbrev pub removes_nothing : List Phrase → Bool
+abbrev pub removes_nothing : List ParsedAtom → Bool
 removes_nothing [] = true
 removes_nothing (p ∷ ps) = false
 
-abbrev pub is_propagation : RawRule → Bool
+abbrev pub is_propagation : ParsedRule → Bool
 is_propagation r = removes_nothing r.removed
 
-abbrev pub has_number_out_of_range : RawRule → Bool
+abbrev pub has_number_out_of_range : ParsedRule → Bool
 has_number_out_of_range r = rule_has is_out_of_range r
 
 -- a rule; `full` says that the program has all its rules already
-abbrev pub rule_judged : Bool → RawRule → Result (Unit {0}) Kind
+abbrev pub rule_judged : Bool → ParsedRule → Result (Unit {0}) Kind
 rule_judged full r =
     if is_propagation r then Err Propagation
     else (if has_number_out_of_range r then Err NumberRange
@@ -35,7 +35,7 @@ declaration_judged all =
     else (if list_any (λ d. is_long (Name d.name)) all then Err TooMany else Ok tt)
 
 -- the atoms of a post
-abbrev pub post_judged : List Phrase → Result (Unit {0}) Kind
+abbrev pub post_judged : List ParsedAtom → Result (Unit {0}) Kind
 post_judged atoms =
     if list_any (phrase_has is_out_of_range) atoms then Err NumberRange
     else (if list_any (phrase_has is_long) atoms || list_any has_many_args atoms then Err TooMany

@@ -2,8 +2,8 @@
 use Rattle.std.specs.Prelude.{ℕ, Bool, true, false, List, length, nat_lt, is_none, ◌||◌, Option, Some, None}
 use Rattle.std.specs.List.{list_any}
 use Rattle.chr_lex.specs.Tokens.{Word, Name, Variable, Number}
-use Rattle.chr_grammar.specs.Written as written
-use Rattle.chr_grammar.specs.Written.{Formula, Phrase, Test, Member, RawRule}
+use Rattle.chr_grammar.specs.Parsed as parsed
+use Rattle.chr_grammar.specs.Parsed.{ParsedExpression, ParsedAtom, GuardMember, BodyMember, ParsedRule}
 use Rattle.chr_limits.specs.declared.limits.Unfit.{Unfit}
 use Rattle.chr_limits.specs.declared.limits.Unfit.TheVariants as unfit
 use Rattle.chr_limits.specs.Numbers.{whole_number}
@@ -31,30 +31,30 @@ is_unfit unfit.TooLong = is_long
 is_unfit unfit.Variable = is_variable
 
 -- whether a word of a part passes a test
-abbrev pub formula_has : (Word → Bool) → Formula → Bool
-formula_has test (written.Number negative digits) = test (Number negative digits)
-formula_has test (written.Variable name) = test (Variable name)
-formula_has test (written.Group inner) = formula_has test inner
-formula_has test (written.Operation o a b) = formula_has test a || formula_has test b
+abbrev pub formula_has : (Word → Bool) → ParsedExpression → Bool
+formula_has test (parsed.Number negative digits) = test (Number negative digits)
+formula_has test (parsed.Variable name) = test (Variable name)
+formula_has test (parsed.Group inner) = formula_has test inner
+formula_has test (parsed.Operation o a b) = formula_has test a || formula_has test b
 
-abbrev pub phrase_has : (Word → Bool) → Phrase → Bool
+abbrev pub phrase_has : (Word → Bool) → ParsedAtom → Bool
 phrase_has test p = test (Name p.name) || list_any test p.args
 
-abbrev pub test_has : (Word → Bool) → Test → Bool
-test_has test written.Always = false
-test_has test (written.Compared r a b) = formula_has test a || formula_has test b
-test_has test (written.Same s t) = test s || test t
-test_has test (written.Differ s t) = test s || test t
+abbrev pub test_has : (Word → Bool) → GuardMember → Bool
+test_has test parsed.Always = false
+test_has test (parsed.Compared r a b) = formula_has test a || formula_has test b
+test_has test (parsed.Same s t) = test s || test t
+test_has test (parsed.Differ s t) = test s || test t
 
-abbrev pub member_has : (Word → Bool) → Member → Bool
-member_has test written.Nothing = false
-member_has test (written.Is x e) = test (Variable x) || formula_has test e
-member_has test (written.Add p) = phrase_has test p
+abbrev pub member_has : (Word → Bool) → BodyMember → Bool
+member_has test parsed.Nothing = false
+member_has test (parsed.Is x e) = test (Variable x) || formula_has test e
+member_has test (parsed.Add p) = phrase_has test p
 
-abbrev pub label_has : (Word → Bool) → Option (List ℕ) → Bool
-label_has test None = false
-label_has test (Some name) = test (Name name)
+abbrev pub rule_name_has : (Word → Bool) → Option (List ℕ) → Bool
+rule_name_has test None = false
+rule_name_has test (Some name) = test (Name name)
 
-abbrev pub rule_has : (Word → Bool) → RawRule → Bool
+abbrev pub rule_has : (Word → Bool) → ParsedRule → Bool
 rule_has test r =
-    label_has test r.label || list_any (phrase_has test) r.kept || list_any (phrase_has test) r.removed || list_any (test_has test) r.guard || list_any (member_has test) r.body
+    rule_name_has test r.rule_name || list_any (phrase_has test) r.kept || list_any (phrase_has test) r.removed || list_any (test_has test) r.guard || list_any (member_has test) r.body

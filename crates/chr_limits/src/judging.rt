@@ -1,7 +1,7 @@
 //! What may not stand in an item, in the order in which it is tested.
 ghost use Rattle.std.specs.Prelude.{◌≡◌, ◌≢◌, false, map, IfErr};
 ghost use Rattle.std.specs.List.{list_any};
-ghost use Rattle.chr_grammar.specs.Views as said;
+ghost use Rattle.chr_grammar.specs.Views as by_texts;
 ghost use Rattle.chr_lex.specs.Reading.{Gives};
 ghost use Rattle.chr_lex.specs.Tokens.{Name, Number};
 ghost use Rattle.chr_lex.specs.declared.fault.ItemError.TheVariants.{Memory};
@@ -17,13 +17,13 @@ use crate::number::int;
 use crate::scope::is_in_scope;
 use crate::variables::has_many_variables;
 use chr_grammar::declaration::Declared;
-use chr_grammar::phrase::Phrase;
-use chr_grammar::rule::RawRule;
+use chr_grammar::phrase::ParsedAtom;
+use chr_grammar::rule::ParsedRule;
 use chr_lex::fault::{ItemError, Kind};
 use std::alloc::Allocator;
 
 fn any_out_of_range(all: &[Declared]) -> bool
-    ensures { result ≡ list_any (λ d. is_out_of_range (Number false d.digits)) (map said.declared all.now) }
+    ensures { result ≡ list_any (λ d. is_out_of_range (Number false d.digits)) (map text.declared all.now) }
 {
     for declared in all {
         if int(false, declared.digits).is_none() {
@@ -34,7 +34,7 @@ fn any_out_of_range(all: &[Declared]) -> bool
 }
 
 fn any_long(all: &[Declared]) -> bool
-    ensures { result ≡ list_any (λ d. is_long (Name d.name)) (map said.declared all.now) }
+    ensures { result ≡ list_any (λ d. is_long (Name d.name)) (map text.declared all.now) }
 {
     for declared in all {
         if declared.name.len() > MOST_NAME {
@@ -44,8 +44,8 @@ fn any_long(all: &[Declared]) -> bool
     false
 }
 
-fn is_too_large<A: Allocator>(rule: &RawRule<'_, A>) -> bool
-    ensures { result ≡ is_too_large (said.raw_rule rule.now) }
+fn is_too_large<A: Allocator>(rule: &ParsedRule<'_, A>) -> bool
+    ensures { result ≡ is_too_large (text.raw_rule rule.now) }
 {
     if rule_has(Unfit::TooLong, rule) || has_wide_atom(rule) || has_many_heads(rule) {
         return true;
@@ -64,7 +64,7 @@ fn is_too_large<A: Allocator>(rule: &RawRule<'_, A>) -> bool
 /// The fault is the first of these: a number outside the range of 64 bits with sign (E06), a name of more than 64 bytes
 /// (E07).
 pub fn judge_declaration(all: &[Declared]) -> Result<(), ItemError>
-    ensures judged { Gives (λ u. u) result (declaration_judged (map said.declared all.now)) }
+    ensures judged { Gives (λ u. u) result (declaration_judged (map text.declared all.now)) }
     ensures no_memory { IfErr result (λ e. e ≢ Memory) }
 {
     if any_out_of_range(all) {
@@ -81,8 +81,8 @@ pub fn judge_declaration(all: &[Declared]) -> Result<(), ItemError>
 /// The fault is the first of these: the rule removes nothing (E05), a number is outside the range of 64 bits with sign
 /// (E06), the program is full or something is too long or too many (E07), a variable is used where it has no value or
 /// gets a second one (E08).
-pub fn judge_rule<A: Allocator>(full: bool, rule: &RawRule<'_, A>) -> Result<(), ItemError>
-    ensures judged { Gives (λ u. u) result (rule_judged full (said.raw_rule rule.now)) }
+pub fn judge_rule<A: Allocator>(full: bool, rule: &ParsedRule<'_, A>) -> Result<(), ItemError>
+    ensures judged { Gives (λ u. u) result (rule_judged full (text.raw_rule rule.now)) }
     ensures no_memory { IfErr result (λ e. e ≢ Memory) }
 {
     if rule.heads.removed.is_empty() {
@@ -104,8 +104,8 @@ pub fn judge_rule<A: Allocator>(full: bool, rule: &RawRule<'_, A>) -> Result<(),
 ///
 /// The fault is the first of these: a number outside the range of 64 bits with sign (E06), a name of more than 64 bytes
 /// or an atom with more than 8 arguments (E07), a variable (E08).
-pub fn judge_post<A: Allocator>(phrases: &[Phrase<'_, A>]) -> Result<(), ItemError>
-    ensures judged { Gives (λ u. u) result (post_judged (map said.phrase phrases.now)) }
+pub fn judge_post<A: Allocator>(phrases: &[ParsedAtom<'_, A>]) -> Result<(), ItemError>
+    ensures judged { Gives (λ u. u) result (post_judged (map text.phrase phrases.now)) }
     ensures no_memory { IfErr result (λ e. e ≢ Memory) }
 {
     if phrases_have(Unfit::OutOfRange, phrases) {

@@ -2,29 +2,29 @@
 
 ghost use Rattle.std.specs.Prelude.{◌≡◌, ◌≤◌, ◌↔◌, ℕ, Bool, false, List, Ok, bytes_eq, count_by};
 ghost use Rattle.std.specs.List.{list_any};
-ghost use Rattle.chr_grammar.specs.Written.{Declared, Phrase, RawRule};
+ghost use Rattle.chr_grammar.specs.Parsed.{Declared, ParsedAtom, ParsedRule};
 ghost use Rattle.chr_limits.specs.Judging.{declaration_judged, rule_judged, post_judged};
-ghost use Rattle.chr_limits.specs.Variables.{is_blank, met};
-ghost use Rattle.chr_limits.specs.Standing.{MayStand, MayBeDeclared, MayBePosted};
+ghost use Rattle.chr_limits.specs.Variables.{is_blank, seen};
+ghost use Rattle.chr_limits.specs.Standing.{IsAllowedRule, AreAllowedDeclarations, AreAllowedPosts};
 
 /// Exactly the rules that may stand are judged without a fault, where the program is not full.
 pub fn rules_that_may_stand()
-    ensures { (full : Bool) (r : RawRule) → (rule_judged full r ≡ Ok tt) ↔ ((full ≡ false) × MayStand r) }
+    ensures { (full : Bool) (r : ParsedRule) → (rule_judged full r ≡ Ok tt) ↔ ((full ≡ false) × IsAllowedRule r) }
 {}
 
 /// Exactly the declarations that may stand are judged without a fault.
 pub fn declarations_that_may_stand()
-    ensures { (all : List Declared) → (declaration_judged all ≡ Ok tt) ↔ MayBeDeclared all }
+    ensures { (all : List Declared) → (declaration_judged all ≡ Ok tt) ↔ AreAllowedDeclarations all }
 {}
 
 /// Exactly the atoms that may be posted are judged without a fault.
 pub fn atoms_that_may_be_posted()
-    ensures { (atoms : List Phrase) → (post_judged atoms ≡ Ok tt) ↔ MayBePosted atoms }
+    ensures { (atoms : List ParsedAtom) → (post_judged atoms ≡ Ok tt) ↔ AreAllowedPosts atoms }
 {}
 
-/// The variables met are those at the places, each once; but each `_` is one of its own.
-pub fn variables_are_met_once()
-    ensures same { (names : List (List ℕ)) (x : List ℕ) → list_any (bytes_eq x) (met names) ≡ list_any (bytes_eq x) names }
-    ensures once { (names : List (List ℕ)) (x : List ℕ) → is_blank x ≡ false → count_by (bytes_eq x) (met names) ≤ 1 }
-    ensures blanks { (names : List (List ℕ)) → count_by is_blank (met names) ≡ count_by is_blank names }
+/// The variables seen are those at the places, each once; but each `_` is one of its own.
+pub fn variables_are_seen_once()
+    ensures same { (names : List (List ℕ)) (x : List ℕ) → list_any (bytes_eq x) (seen names) ≡ list_any (bytes_eq x) names }
+    ensures once { (names : List (List ℕ)) (x : List ℕ) → is_blank x ≡ false → count_by (bytes_eq x) (seen names) ≤ 1 }
+    ensures blanks { (names : List (List ℕ)) → count_by is_blank (seen names) ≡ count_by is_blank names }
 {}

@@ -3,17 +3,17 @@ ghost use Rattle.std.specs.Prelude.{◌≡◌, ◌+◌, length, map, nat_lt, fil
 ghost use Rattle.std.specs.List.{list_any};
 ghost use Rattle.std.specs.Option.{option_map};
 ghost use Rattle.chr_lex.specs.Tokens.{word};
-ghost use Rattle.chr_grammar.specs.Views as said;
-ghost use Rattle.chr_limits.specs.Words.{is_unfit, formula_has, phrase_has, test_has, member_has, label_has, rule_has};
+ghost use Rattle.chr_grammar.specs.Views as by_texts;
+ghost use Rattle.chr_limits.specs.Words.{is_unfit, formula_has, phrase_has, test_has, member_has, rule_name_has, rule_has};
 ghost use Rattle.chr_limits.specs.Limits.{has_many_args, adds_many_args, is_comparison, is_item, has_wide_atom};
 
 use crate::number::int;
-use chr_grammar::body::Member;
-use chr_grammar::expression::Tree;
-use chr_grammar::guard::Test;
-use chr_grammar::phrase::Phrase;
-use chr_grammar::rule::RawRule;
-use chr_lex::token::Written;
+use chr_grammar::body::BodyMember;
+use chr_grammar::expression::ParsedExpression;
+use chr_grammar::guard::GuardMember;
+use chr_grammar::phrase::ParsedAtom;
+use chr_grammar::rule::ParsedRule;
+use chr_lex::token::Word;
 use std::alloc::Allocator;
 
 /// How many bytes a name or a variable may have.
@@ -39,21 +39,21 @@ pub enum Unfit {
 }
 
 /// Whether a name, a variable or a number is unfit.
-pub fn is_unfit(unfit: Unfit, term: Written) -> bool
+pub fn is_unfit(unfit: Unfit, term: Word) -> bool
     ensures { result ≡ is_unfit unfit (word term.entry) }
 {
     match (unfit, term) {
-        (Unfit::OutOfRange, Written::Number { negative, digits }) => int(
+        (Unfit::OutOfRange, Word::Number { negative, digits }) => int(
             negative, digits,
         ).is_none(),
-        (Unfit::TooLong, Written::Name(name)) => name.len() > MOST_NAME,
-        (Unfit::TooLong, Written::Variable(name)) => name.len() > MOST_NAME,
-        (Unfit::Variable, Written::Variable(_)) => true,
+        (Unfit::TooLong, Word::Name(name)) => name.len() > MOST_NAME,
+        (Unfit::TooLong, Word::Variable(name)) => name.len() > MOST_NAME,
+        (Unfit::Variable, Word::Variable(_)) => true,
         _ => false,
     }
 }
 
-fn any_word(unfit: Unfit, terms: &[Written]) -> bool
+fn any_word(unfit: Unfit, terms: &[Word]) -> bool
     ensures { result ≡ list_any (is_unfit unfit) (map word terms.now) }
 {
     for term in terms {
@@ -64,32 +64,32 @@ fn any_word(unfit: Unfit, terms: &[Written]) -> bool
     false
 }
 
-fn tree_has<A: Allocator>(unfit: Unfit, tree: &Tree<'_, A>) -> bool
-    ensures { result ≡ formula_has (is_unfit unfit) (said.formula tree.now) }
+fn tree_has<A: Allocator>(unfit: Unfit, tree: &ParsedExpression<'_, A>) -> bool
+    ensures { result ≡ formula_has (is_unfit unfit) (text.formula tree.now) }
 {
     match tree {
-        Tree::Number { negative, digits } => is_unfit(
+        ParsedExpression::Number { negative, digits } => is_unfit(
             unfit,
-            Written::Number {
+            Word::Number {
                 negative: *negative,
                 digits: *digits,
             },
         ),
-        Tree::Variable(name) => is_unfit(unfit, Written::Variable(*name)),
-        Tree::Group(inner) => tree_has(unfit, inner),
-        Tree::Operation(_, left, right) => tree_has(unfit, left) || tree_has(unfit, right),
+        ParsedExpression::Variable(name) => is_unfit(unfit, Word::Variable(*name)),
+        ParsedExpression::Group(inner) => tree_has(unfit, inner),
+        ParsedExpression::Operation(_, left, right) => tree_has(unfit, left) || tree_has(unfit, right),
     }
 }
 
-fn phrase_has<A: Allocator>(unfit: Unfit, phrase: &Phrase<'_, A>) -> bool
-    ensures { result ≡ phrase_has (is_unfit unfit) (said.phrase phrase.now) }
+fn phrase_has<A: Allocator>(unfit: Unfit, phrase: &ParsedAtom<'_, A>) -> bool
+    ensures { result ≡ phrase_has (is_unfit unfit) (text.phrase phrase.now) }
 {
-    is_unfit(unfit, Written::Name(phrase.name)) || any_word(unfit, &phrase.args)
+    is_unfit(unfit, Word::Name(phrase.name)) || any_word(unfit, &phrase.args)
 }
 
 /// Whether a word of some atoms is unfit.
-pub fn phrases_have<A: Allocator>(unfit: Unfit, phrases: &[Phrase<'_, A>]) -> bool
-    ensures { result ≡ list_any (phrase_has (is_unfit unfit)) (map said.phrase phrases.now) }
+pub fn phrases_have<A: Allocator>(unfit: Unfit, phrases: &[ParsedAtom<'_, A>]) -> bool
+    ensures { result ≡ list_any (phrase_has (is_unfit unfit)) (map text.phrase phrases.now) }
 {
     for phrase in phrases {
         if phrase_has(unfit, phrase) {
@@ -99,40 +99,40 @@ pub fn phrases_have<A: Allocator>(unfit: Unfit, phrases: &[Phrase<'_, A>]) -> bo
     false
 }
 
-fn test_has<A: Allocator>(unfit: Unfit, test: &Test<'_, A>) -> bool
-    ensures { result ≡ test_has (is_unfit unfit) (said.test test.now) }
+fn test_has<A: Allocator>(unfit: Unfit, test: &GuardMember<'_, A>) -> bool
+    ensures { result ≡ test_has (is_unfit unfit) (text.test test.now) }
 {
     match test {
-        Test::True => false,
-        Test::Compared(_, left, right) => tree_has(unfit, left) || tree_has(unfit, right),
-        Test::Same(left, right) => is_unfit(unfit, *left) || is_unfit(unfit, *right),
-        Test::Differ(left, right) => is_unfit(unfit, *left) || is_unfit(unfit, *right),
+        GuardMember::True => false,
+        GuardMember::Compared(_, left, right) => tree_has(unfit, left) || tree_has(unfit, right),
+        GuardMember::Same(left, right) => is_unfit(unfit, *left) || is_unfit(unfit, *right),
+        GuardMember::Differ(left, right) => is_unfit(unfit, *left) || is_unfit(unfit, *right),
     }
 }
 
-fn member_has<A: Allocator>(unfit: Unfit, member: &Member<'_, A>) -> bool
-    ensures { result ≡ member_has (is_unfit unfit) (said.member member.now) }
+fn member_has<A: Allocator>(unfit: Unfit, member: &BodyMember<'_, A>) -> bool
+    ensures { result ≡ member_has (is_unfit unfit) (text.member member.now) }
 {
     match member {
-        Member::True => false,
-        Member::Is(name, tree) => {
-            is_unfit(unfit, Written::Variable(*name)) || tree_has(unfit, tree)
+        BodyMember::True => false,
+        BodyMember::Is(name, tree) => {
+            is_unfit(unfit, Word::Variable(*name)) || tree_has(unfit, tree)
         }
-        Member::Add(phrase) => phrase_has(unfit, phrase),
+        BodyMember::Add(phrase) => phrase_has(unfit, phrase),
     }
 }
 
-fn label_has(unfit: Unfit, label: Option<&[u8]>) -> bool
-    ensures { result ≡ label_has (is_unfit unfit) (option_map (λ l. l.now) label.entry) }
+fn rule_name_has(unfit: Unfit, rule_name: Option<&[u8]>) -> bool
+    ensures { result ≡ rule_name_has (is_unfit unfit) (option_map (λ l. l.now) rule_name.entry) }
 {
-    match label {
-        Some(name) => is_unfit(unfit, Written::Name(name)),
+    match rule_name {
+        Some(name) => is_unfit(unfit, Word::Name(name)),
         None => false,
     }
 }
 
-fn guard_has<A: Allocator>(unfit: Unfit, guard: &[Test<'_, A>]) -> bool
-    ensures { result ≡ list_any (test_has (is_unfit unfit)) (map said.test guard.now) }
+fn guard_has<A: Allocator>(unfit: Unfit, guard: &[GuardMember<'_, A>]) -> bool
+    ensures { result ≡ list_any (test_has (is_unfit unfit)) (map text.test guard.now) }
 {
     for test in guard {
         if test_has(unfit, test) {
@@ -142,8 +142,8 @@ fn guard_has<A: Allocator>(unfit: Unfit, guard: &[Test<'_, A>]) -> bool
     false
 }
 
-fn body_has<A: Allocator>(unfit: Unfit, body: &[Member<'_, A>]) -> bool
-    ensures { result ≡ list_any (member_has (is_unfit unfit)) (map said.member body.now) }
+fn body_has<A: Allocator>(unfit: Unfit, body: &[BodyMember<'_, A>]) -> bool
+    ensures { result ≡ list_any (member_has (is_unfit unfit)) (map text.member body.now) }
 {
     for member in body {
         if member_has(unfit, member) {
@@ -154,10 +154,10 @@ fn body_has<A: Allocator>(unfit: Unfit, body: &[Member<'_, A>]) -> bool
 }
 
 /// Whether a name, a variable or a number of a rule is unfit.
-pub fn rule_has<A: Allocator>(unfit: Unfit, rule: &RawRule<'_, A>) -> bool
-    ensures { result ≡ rule_has (is_unfit unfit) (said.raw_rule rule.now) }
+pub fn rule_has<A: Allocator>(unfit: Unfit, rule: &ParsedRule<'_, A>) -> bool
+    ensures { result ≡ rule_has (is_unfit unfit) (text.raw_rule rule.now) }
 {
-    label_has(unfit, rule.label)
+    rule_name_has(unfit, rule.rule_name)
         || phrases_have(unfit, &rule.heads.kept)
         || phrases_have(unfit, &rule.heads.removed)
         || guard_has(unfit, &rule.consequence.guard)
@@ -165,8 +165,8 @@ pub fn rule_has<A: Allocator>(unfit: Unfit, rule: &RawRule<'_, A>) -> bool
 }
 
 /// Whether an atom has more than [`MOST_ARGS`] arguments.
-pub fn any_wide<A: Allocator>(phrases: &[Phrase<'_, A>]) -> bool
-    ensures { result ≡ list_any has_many_args (map said.phrase phrases.now) }
+pub fn any_wide<A: Allocator>(phrases: &[ParsedAtom<'_, A>]) -> bool
+    ensures { result ≡ list_any has_many_args (map text.phrase phrases.now) }
 {
     for phrase in phrases {
         if phrase.args.len() > MOST_ARGS {
@@ -176,11 +176,11 @@ pub fn any_wide<A: Allocator>(phrases: &[Phrase<'_, A>]) -> bool
     false
 }
 
-fn adds_wide<A: Allocator>(body: &[Member<'_, A>]) -> bool
-    ensures { result ≡ list_any adds_many_args (map said.member body.now) }
+fn adds_wide<A: Allocator>(body: &[BodyMember<'_, A>]) -> bool
+    ensures { result ≡ list_any adds_many_args (map text.member body.now) }
 {
     for member in body {
-        if let Member::Add(phrase) = member {
+        if let BodyMember::Add(phrase) = member {
             if phrase.args.len() > MOST_ARGS {
                 return true;
             }
@@ -190,27 +190,27 @@ fn adds_wide<A: Allocator>(body: &[Member<'_, A>]) -> bool
 }
 
 /// Whether an atom of a rule has more than [`MOST_ARGS`] arguments.
-pub fn has_wide_atom<A: Allocator>(rule: &RawRule<'_, A>) -> bool
-    ensures { result ≡ has_wide_atom (said.raw_rule rule.now) }
+pub fn has_wide_atom<A: Allocator>(rule: &ParsedRule<'_, A>) -> bool
+    ensures { result ≡ has_wide_atom (text.raw_rule rule.now) }
 {
     any_wide(&rule.heads.kept) || any_wide(&rule.heads.removed) || adds_wide(&rule.consequence.body)
 }
 
 /// Whether a rule has more than [`MOST_HEADS`] heads.
-pub fn has_many_heads<A: Allocator>(rule: &RawRule<'_, A>) -> bool
-    ensures { result ≡ nat_lt 6 (length (said.raw_rule rule.now).kept + length (said.raw_rule rule.now).removed) }
+pub fn has_many_heads<A: Allocator>(rule: &ParsedRule<'_, A>) -> bool
+    ensures { result ≡ nat_lt 6 (length (text.raw_rule rule.now).kept + length (text.raw_rule rule.now).removed) }
 {
     let kept = rule.heads.kept.len();
     kept > MOST_HEADS || rule.heads.removed.len() > MOST_HEADS - kept
 }
 
 /// How many members of a guard are comparisons.
-pub fn count_comparisons<A: Allocator>(guard: &[Test<'_, A>]) -> usize
-    ensures { result ≡ length (filter is_comparison (map said.test guard.now)) }
+pub fn count_comparisons<A: Allocator>(guard: &[GuardMember<'_, A>]) -> usize
+    ensures { result ≡ length (filter is_comparison (map text.test guard.now)) }
 {
     let mut count = 0;
     for test in guard {
-        if !matches!(test, Test::True) {
+        if !matches!(test, GuardMember::True) {
             count += 1;
         }
     }
@@ -218,15 +218,15 @@ pub fn count_comparisons<A: Allocator>(guard: &[Test<'_, A>]) -> usize
 }
 
 /// How many members of a body are more than `true`.
-pub fn count_items<A: Allocator>(body: &[Member<'_, A>]) -> usize
-    ensures { result ≡ length (filter is_item (map said.member body.now)) }
+pub fn count_items<A: Allocator>(body: &[BodyMember<'_, A>]) -> usize
+    ensures { result ≡ length (filter is_item (map text.member body.now)) }
 {
     let mut count = 0;
     for member in body {
         match member {
-            Member::True => {}
-            Member::Is(..) => count += 1,
-            Member::Add(_) => count += 1,
+            BodyMember::True => {}
+            BodyMember::Is(..) => count += 1,
+            BodyMember::Add(_) => count += 1,
         }
     }
     count

@@ -1,7 +1,7 @@
 -- Over small stores few instances can stand.
 use Rattle.std.proofs.Common.{◌≡◌, ◌≢◌, ℕ, zero, suc, ◌+◌, ◌<◌, ◌≤◌, Bool, true, false, ◌||◌, ◌==◌, if◌then◌else◌, List, [], ◌∷◌, ◌++◌, map, length, length-append, Option, Some, None, refl, sym, ◌∙◌, ap, subst, arith, true-eqb}
 use Rattle.std.proofs.lemmas.Bool.Decides.{nat_tests}
-use Rattle.chr_value.specs.Terms.{Fact}
+use Rattle.chr_value.specs.Atoms.{Atom}
 use Rattle.chr_model.specs.Abstract.{Rules}
 use Rattle.chr_model.specs.Stores.{Store, atom_at, among, Distinct, Carry, Labelled}
 use Rattle.chr_model.specs.Goals.{Goal, Ended}
@@ -10,7 +10,7 @@ use Rattle.chr_model.proofs.Stores.{times-append, times-distinct}
 use Rattle.std.proofs.Common.{get_or}
 
 -- in a store of one label every head would have it
-carry_alone : (k : ℕ) (b : Fact ℕ) (ls : List ℕ) (as' : List (Fact ℕ)) → Carry ((k, b) ∷ []) ls as' → times k ls ≡ length as'
+carry_alone : (k : ℕ) (b : Atom ℕ) (ls : List ℕ) (as' : List (Atom ℕ)) → Carry ((k, b) ∷ []) ls as' → times k ls ≡ length as'
 carry_alone k b [] [] c = refl
 carry_alone k b (l ∷ ls) (a ∷ as') c =
     elim (k == l) as (λ t. (k == l ≡ t) → (if t then Some b else None) ≡ Some a → times k (l ∷ ls) ≡ length (a ∷ as')) [
@@ -21,12 +21,12 @@ carry_alone k b [] (a ∷ as') c = absurd c
 carry_alone k b (l ∷ ls) [] c = absurd c
 
 -- so there is one head at most
-pub one_head : (I : Rules) (k : ℕ) (b : Fact ℕ) (r : ℕ) (kept removed : List ℕ) (body : List (Fact ℕ)) → (i : Labelled I ((k, b) ∷ []) r kept removed body) → length i.kept_atoms + length i.removed_atoms ≤ 1
+pub one_head : (I : Rules) (k : ℕ) (b : Atom ℕ) (r : ℕ) (kept removed : List ℕ) (body : List (Atom ℕ)) → (i : Labelled I ((k, b) ∷ []) r kept removed body) → length i.kept_atoms + length i.removed_atoms ≤ 1
 one_head I k b r kept removed body i =
     omega (arith, times-distinct k (kept ++ removed) i.distinct, times-append k kept removed, carry_alone k b kept i.kept_atoms i.kept_there, carry_alone k b removed i.removed_atoms i.removed_there)
 
 -- the label of a lone head
-pub carry_one : (st : Store) (ls : List ℕ) (as' : List (Fact ℕ)) (a : Fact ℕ) → as' ≡ a ∷ [] → Carry st ls as' → (l : ℕ) × (ls ≡ l ∷ []) × (atom_at st l ≡ Some a)
+pub carry_one : (st : Store) (ls : List ℕ) (as' : List (Atom ℕ)) (a : Atom ℕ) → as' ≡ a ∷ [] → Carry st ls as' → (l : ℕ) × (ls ≡ l ∷ []) × (atom_at st l ≡ Some a)
 carry_one st (l ∷ []) (x ∷ []) a e c = let same : x ≡ a = cc in (l, refl, c.0 ∙ ap Some same)
 carry_one st (l ∷ m ∷ ls) (x ∷ []) a e c = absurd c.1
 carry_one st [] (x ∷ as') a e c = absurd c
@@ -34,14 +34,14 @@ carry_one st ls (x ∷ y ∷ as') a e c = absurd (cc)
 carry_one st ls [] a e c = absurd (cc)
 
 -- the atom of a lone label, and the label of the second of two atoms
-pub only_atom : (k : ℕ) (b : Fact ℕ) (l : ℕ) (a : Fact ℕ) → atom_at ((k, b) ∷ []) l ≡ Some a → b ≡ a
+pub only_atom : (k : ℕ) (b : Atom ℕ) (l : ℕ) (a : Atom ℕ) → atom_at ((k, b) ∷ []) l ≡ Some a → b ≡ a
 only_atom k b l a h =
     elim (k == l) as (λ t. (if t then Some b else None) ≡ Some a → b ≡ a) [
       | true ↦ λ e. (cc)
       | false ↦ λ e. (cc)
     ] h
 
-pub second_atom : (j : ℕ) (a : Fact ℕ) (k : ℕ) (b : Fact ℕ) (l : ℕ) (x : Fact ℕ) → a ≢ x → atom_at ((j, a) ∷ (k, b) ∷ []) l ≡ Some x → (k ≡ l) × (b ≡ x)
+pub second_atom : (j : ℕ) (a : Atom ℕ) (k : ℕ) (b : Atom ℕ) (l : ℕ) (x : Atom ℕ) → a ≢ x → atom_at ((j, a) ∷ (k, b) ∷ []) l ≡ Some x → (k ≡ l) × (b ≡ x)
 second_atom j a k b l x ne h =
     elim (j == l) as (λ t. (if t then Some a else atom_at ((k, b) ∷ []) l) ≡ Some x → (k ≡ l) × (b ≡ x)) [
       | true ↦ λ e. absurd (ne (let same : a ≡ x = cc in same))

@@ -2,43 +2,43 @@
 use Rattle.std.proofs.Common.{◌≡◌, ◌≢◌, ℕ, zero, suc, ◌+◌, ◌<◌, ◌≤◌, ◌⊎◌, inl, inr, Bool, true, false, cond, ◌||◌, ◌==◌, if◌then◌else◌, List, [], ◌∷◌, ◌++◌, map, length, Option, Some, None, refl, sym, ◌∙◌, ap, subst, arith, true-eqb, true≢false, get_or, set, slice_set, append_assoc, append-nil, IsPermutation}
 use Rattle.std.proofs.lemmas.Bool.Decides.{nat_tests}
 use Rattle.std.proofs.lemmas.List.Sorted.{IsPermutation-refl, IsPermutation-sym, IsPermutation-cons, IsPermutation-to_front, IsPermutation-append_left, IsPermutation-append_right, IsPermutation-trans, IsPermutation-middle, IsPermutation-append_comm}
-use Rattle.chr_value.specs.Terms.{Fact}
-use Rattle.chr_log.specs.Events.{Happening, Post, Activate, Fire, Drop}
+use Rattle.chr_value.specs.Atoms.{Atom}
+use Rattle.chr_log.specs.Events.{Event, Post, Activate, Fire, Drop}
 use Rattle.chr_log.specs.declared.events.Version.{Version}
 use Rattle.chr_model.specs.Abstract.{Rules, Firing, AbstractStep, AbstractRun}
 use Rattle.chr_model.specs.Stores.{Store, atom_at, drop_label, without, labels, atoms, among, Distinct, Carry, Labelled}
-use Rattle.chr_model.specs.Goals.{Goal, Waiting, Active, Ended, State, start, goal_at, plain_goals, erase}
+use Rattle.chr_model.specs.Goals.{Goal, Plain, Numbered, Ended, State, start, goal_at, plain_goals, erase}
 use Rattle.chr_model.specs.Steps.{posted, activated, ended, replaced, Simplify, Propagate, Step, Run}
 use Rattle.chr_model.specs.Logs.{Lawful, posted_by, firing, firings, times}
 use Rattle.chr_model.proofs.Stores.{atom_at-drop, atom_at-without, among-append, Carry-move, times-drop, times-without, apart, Distinct-left, Distinct-right}
 use Rattle.chr_model.proofs.Once.{LabelsOnce, Step-once, start_once}
 
 -- permutations, with lists that antt finds
-abbrev Same : List (Fact ℕ) → List (Fact ℕ) → Type 0
+abbrev Same : List (Atom ℕ) → List (Atom ℕ) → Type 0
 Same xs ys = IsPermutation xs ys
 
-both : {xs ys zs : List (Fact ℕ)} → IsPermutation xs ys → IsPermutation ys zs → IsPermutation xs zs
+both : {xs ys zs : List (Atom ℕ)} → IsPermutation xs ys → IsPermutation ys zs → IsPermutation xs zs
 both {xs} {ys} {zs} p q = IsPermutation-trans xs ys zs p q
 
-front : {xs ys : List (Fact ℕ)} (zs : List (Fact ℕ)) → IsPermutation xs ys → IsPermutation (zs ++ xs) (zs ++ ys)
+front : {xs ys : List (Atom ℕ)} (zs : List (Atom ℕ)) → IsPermutation xs ys → IsPermutation (zs ++ xs) (zs ++ ys)
 front {xs} {ys} zs p = IsPermutation-append_right zs xs ys p
 
-back : {xs ys : List (Fact ℕ)} (zs : List (Fact ℕ)) → IsPermutation xs ys → IsPermutation (xs ++ zs) (ys ++ zs)
+back : {xs ys : List (Atom ℕ)} (zs : List (Atom ℕ)) → IsPermutation xs ys → IsPermutation (xs ++ zs) (ys ++ zs)
 back {xs} {ys} zs p = IsPermutation-append_left zs xs ys p
 
-one_more : {xs ys : List (Fact ℕ)} (a : Fact ℕ) → IsPermutation xs ys → IsPermutation (a ∷ xs) (a ∷ ys)
+one_more : {xs ys : List (Atom ℕ)} (a : Atom ℕ) → IsPermutation xs ys → IsPermutation (a ∷ xs) (a ∷ ys)
 one_more {xs} {ys} a p = IsPermutation-cons a xs ys p
 
-equal : (xs ys : List (Fact ℕ)) → xs ≡ ys → IsPermutation xs ys
+equal : (xs ys : List (Atom ℕ)) → xs ≡ ys → IsPermutation xs ys
 equal xs ys e = subst (λ zs. IsPermutation xs zs) e (IsPermutation-refl xs)
 
-swapped : (a b : Fact ℕ) (xs : List (Fact ℕ)) → IsPermutation (a ∷ b ∷ xs) (b ∷ a ∷ xs)
+swapped : (a b : Atom ℕ) (xs : List (Atom ℕ)) → IsPermutation (a ∷ b ∷ xs) (b ∷ a ∷ xs)
 swapped a b xs = IsPermutation-middle (a ∷ []) b xs
 
-shift : (w x y : List (Fact ℕ)) → IsPermutation (w ++ (x ++ y)) (x ++ (w ++ y))
+shift : (w x y : List (Atom ℕ)) → IsPermutation (w ++ (x ++ y)) (x ++ (w ++ y))
 shift w x y = both (equal (w ++ (x ++ y)) ((w ++ x) ++ y) (sym (append_assoc w x y))) (both (back y (IsPermutation-append_comm w x)) (equal ((x ++ w) ++ y) (x ++ (w ++ y)) (append_assoc x w y)))
 
-mix : (w x k r : List (Fact ℕ)) → IsPermutation (w ++ (x ++ (k ++ r))) (x ++ (k ++ (w ++ r)))
+mix : (w x k r : List (Atom ℕ)) → IsPermutation (w ++ (x ++ (k ++ r))) (x ++ (k ++ (w ++ r)))
 mix w x k r = both (shift w x (k ++ r)) (front x (shift w k r))
 
 -- the atoms of a store, without those of some labels
@@ -50,7 +50,7 @@ drop_none l (e ∷ es) h =
       | false ↦ λ z. ap (λ xs. e ∷ xs) (drop_none l es (omega arith))
     ] h
 
-one_out : (st : Store) (l : ℕ) (a : Fact ℕ) → times l (labels st) ≤ 1 → atom_at st l ≡ Some a → IsPermutation (atoms st) (a ∷ atoms (drop_label l st))
+one_out : (st : Store) (l : ℕ) (a : Atom ℕ) → times l (labels st) ≤ 1 → atom_at st l ≡ Some a → IsPermutation (atoms st) (a ∷ atoms (drop_label l st))
 one_out [] l a u h = absurd (cc)
 one_out (e ∷ es) l a u h =
     elim (e.0 == l) as (λ b. (if b then 1 else 0) + times l (labels es) ≤ 1 → (if b then Some e.1 else atom_at es l) ≡ Some a → IsPermutation (e.1 ∷ atoms es) (a ∷ atoms (if b then drop_label l es else e ∷ drop_label l es))) [
@@ -61,7 +61,7 @@ one_out (e ∷ es) l a u h =
       | false ↦ λ few is. both (one_more e.1 (one_out es l a (omega arith) is)) (swapped e.1 a (atoms (drop_label l es)))
     ] u h
 
-all_out : (ls : List ℕ) (as' : List (Fact ℕ)) (st : Store) → ((l : ℕ) → times l (labels st) ≤ 1) → Distinct ls → Carry st ls as' → IsPermutation (atoms st) (as' ++ atoms (without ls st))
+all_out : (ls : List ℕ) (as' : List (Atom ℕ)) (st : Store) → ((l : ℕ) → times l (labels st) ≤ 1) → Distinct ls → Carry st ls as' → IsPermutation (atoms st) (as' ++ atoms (without ls st))
 all_out [] [] st u d c = IsPermutation-refl (atoms st)
 all_out (l ∷ ls) (a ∷ as') st u d c =
     both (one_out st l a (u l) c.0)
@@ -73,53 +73,53 @@ all_out (l ∷ ls) [] st u d c = absurd c
 -- the plain goals
 pub plain_goals-append : (gs hs : List Goal) → plain_goals (gs ++ hs) ≡ plain_goals gs ++ plain_goals hs
 plain_goals-append [] hs = refl
-plain_goals-append (Waiting a ∷ gs) hs = ap (λ xs. a ∷ xs) (plain_goals-append gs hs)
-plain_goals-append (Active l ∷ gs) hs = plain_goals-append gs hs
+plain_goals-append (Plain a ∷ gs) hs = ap (λ xs. a ∷ xs) (plain_goals-append gs hs)
+plain_goals-append (Numbered l ∷ gs) hs = plain_goals-append gs hs
 plain_goals-append (Ended ∷ gs) hs = plain_goals-append gs hs
 
-plain_goals-map : (body : List (Fact ℕ)) → plain_goals (map Waiting body) ≡ body
+plain_goals-map : (body : List (Atom ℕ)) → plain_goals (map Plain body) ≡ body
 plain_goals-map [] = refl
 plain_goals-map (a ∷ body) = ap (λ xs. a ∷ xs) (plain_goals-map body)
 
-plain_activated : (gs : List Goal) (t : ℕ) (a : Fact ℕ) (l : ℕ) → get_or gs t Ended ≡ Waiting a → IsPermutation (plain_goals gs) (a ∷ plain_goals (set gs t (Active l)))
-plain_activated [] t a l h = absurd (let c : Ended ≡ Waiting a = h in cc)
+plain_activated : (gs : List Goal) (t : ℕ) (a : Atom ℕ) (l : ℕ) → get_or gs t Ended ≡ Plain a → IsPermutation (plain_goals gs) (a ∷ plain_goals (set gs t (Numbered l)))
+plain_activated [] t a l h = absurd (let c : Ended ≡ Plain a = h in cc)
 plain_activated (g ∷ gs) zero a l h = subst (λ x. IsPermutation (plain_goals (x ∷ gs)) (a ∷ plain_goals gs)) (sym h) (IsPermutation-refl (a ∷ plain_goals gs))
-plain_activated (Waiting b ∷ gs) (suc t) a l h = both (one_more b (plain_activated gs t a l h)) (swapped b a (plain_goals (set gs t (Active l))))
-plain_activated (Active k ∷ gs) (suc t) a l h = plain_activated gs t a l h
+plain_activated (Plain b ∷ gs) (suc t) a l h = both (one_more b (plain_activated gs t a l h)) (swapped b a (plain_goals (set gs t (Numbered l))))
+plain_activated (Numbered k ∷ gs) (suc t) a l h = plain_activated gs t a l h
 plain_activated (Ended ∷ gs) (suc t) a l h = plain_activated gs t a l h
 
-plain_ended : (gs : List Goal) (t l : ℕ) → get_or gs t Ended ≡ Active l → plain_goals (set gs t Ended) ≡ plain_goals gs
+plain_ended : (gs : List Goal) (t l : ℕ) → get_or gs t Ended ≡ Numbered l → plain_goals (set gs t Ended) ≡ plain_goals gs
 plain_ended [] t l h = refl
 plain_ended (g ∷ gs) zero l h = ap (λ x. plain_goals (x ∷ gs)) (sym h)
-plain_ended (Waiting b ∷ gs) (suc t) l h = ap (λ xs. b ∷ xs) (plain_ended gs t l h)
-plain_ended (Active k ∷ gs) (suc t) l h = plain_ended gs t l h
+plain_ended (Plain b ∷ gs) (suc t) l h = ap (λ xs. b ∷ xs) (plain_ended gs t l h)
+plain_ended (Numbered k ∷ gs) (suc t) l h = plain_ended gs t l h
 plain_ended (Ended ∷ gs) (suc t) l h = plain_ended gs t l h
 
 -- what each kind of event does to the multiset
-erase_posted : (s : State) (a : Fact ℕ) (rest : List (Fact ℕ)) → IsPermutation (erase s ++ (a ∷ rest)) (erase (posted s a) ++ rest)
+erase_posted : (s : State) (a : Atom ℕ) (rest : List (Atom ℕ)) → IsPermutation (erase s ++ (a ∷ rest)) (erase (posted s a) ++ rest)
 erase_posted s a rest =
-    let e : plain_goals (s.goals ++ Waiting a ∷ []) ≡ plain_goals s.goals ++ a ∷ [] = plain_goals-append s.goals (Waiting a ∷ []) in
+    let e : plain_goals (s.goals ++ Plain a ∷ []) ≡ plain_goals s.goals ++ a ∷ [] = plain_goals-append s.goals (Plain a ∷ []) in
     both (IsPermutation-middle (erase s) a rest)
     (IsPermutation-sym _ _ (back rest (back (atoms s.store) (subst (λ w. IsPermutation w (a ∷ plain_goals s.goals)) (sym e) (IsPermutation-to_front (plain_goals s.goals) a)))))
 
-atoms-push : (st : Store) (n : ℕ) (a : Fact ℕ) → atoms (st ++ (n, a) ∷ []) ≡ atoms st ++ a ∷ []
+atoms-push : (st : Store) (n : ℕ) (a : Atom ℕ) → atoms (st ++ (n, a) ∷ []) ≡ atoms st ++ a ∷ []
 atoms-push [] n a = refl
 atoms-push (e ∷ es) n a = ap (λ xs. e.1 ∷ xs) (atoms-push es n a)
 
-erase_activated : (s : State) (t : ℕ) (a : Fact ℕ) → goal_at s t ≡ Waiting a → IsPermutation (erase s) (erase (activated s t a))
+erase_activated : (s : State) (t : ℕ) (a : Atom ℕ) → goal_at s t ≡ Plain a → IsPermutation (erase s) (erase (activated s t a))
 erase_activated s t a h =
-    let w = plain_goals (set s.goals t (Active s.next)) in
+    let w = plain_goals (set s.goals t (Numbered s.next)) in
     let e : erase (activated s t a) ≡ (w ++ atoms s.store) ++ a ∷ [] = ap (λ xs. w ++ xs) (atoms-push s.store s.next a) ∙ sym (append_assoc w (atoms s.store) (a ∷ [])) in
     both (back (atoms s.store) (plain_activated s.goals t a s.next h))
     (IsPermutation-sym _ _ (subst (λ x. IsPermutation x (a ∷ (w ++ atoms s.store))) (sym e) (IsPermutation-to_front (w ++ atoms s.store) a)))
 
-erase_ended : (s : State) (t l : ℕ) → goal_at s t ≡ Active l → erase (ended s t) ≡ erase s
+erase_ended : (s : State) (t l : ℕ) → goal_at s t ≡ Numbered l → erase (ended s t) ≡ erase s
 erase_ended s t l h = ap (λ w. w ++ atoms s.store) (plain_ended s.goals t l h)
 
-abbrev firing_by : (I : Rules) (st : Store) (r : ℕ) (kept removed : List ℕ) (body : List (Fact ℕ)) → Labelled I st r kept removed body → Firing
+abbrev firing_by : (I : Rules) (st : Store) (r : ℕ) (kept removed : List ℕ) (body : List (Atom ℕ)) → Labelled I st r kept removed body → Firing
 firing_by I st r kept removed body i = record { rule = r; kept = i.kept_atoms; removed = i.removed_atoms; body = body }
 
-erase_replaced : (I : Rules) (s : State) (r : ℕ) (kept removed : List ℕ) (body : List (Fact ℕ)) → LabelsOnce s → (i : Labelled I s.store r kept removed body) → AbstractStep I (firing_by I s.store r kept removed body i) (erase s) (erase (replaced s removed body))
+erase_replaced : (I : Rules) (s : State) (r : ℕ) (kept removed : List ℕ) (body : List (Atom ℕ)) → LabelsOnce s → (i : Labelled I s.store r kept removed body) → AbstractStep I (firing_by I s.store r kept removed body i) (erase s) (erase (replaced s removed body))
 erase_replaced I s r kept removed body u i =
     let mid = without removed s.store in
     let rest = atoms (without kept mid) in
@@ -128,7 +128,7 @@ erase_replaced I s r kept removed body u i =
     let out : IsPermutation (atoms s.store) (i.removed_atoms ++ atoms mid) = all_out removed i.removed_atoms s.store few (Distinct-right kept removed i.distinct) i.removed_there in
     let stay : Carry mid kept i.kept_atoms = Carry-move s.store mid kept i.kept_atoms (λ q b j e. let n : among removed q ≡ false = apart kept removed q i.distinct j in grind (arith, atom_at-without removed s.store q)) i.kept_there in
     let kept_out : IsPermutation (atoms mid) (i.kept_atoms ++ rest) = all_out kept i.kept_atoms mid (λ k. grind (arith, times-without k removed s.store, few k)) (Distinct-left kept removed i.distinct) stay in
-    let goals : plain_goals (s.goals ++ map Waiting body) ≡ w ++ body = plain_goals-append s.goals (map Waiting body) ∙ ap (λ xs. w ++ xs) (plain_goals-map body) in
+    let goals : plain_goals (s.goals ++ map Plain body) ≡ w ++ body = plain_goals-append s.goals (map Plain body) ∙ ap (λ xs. w ++ xs) (plain_goals-map body) in
     record {
       rest = w ++ rest;
       instance = i.instance;
@@ -137,7 +137,7 @@ erase_replaced I s r kept removed body u i =
           (both (equal ((w ++ body) ++ atoms mid) (w ++ (body ++ atoms mid)) (append_assoc w body (atoms mid))) (both (front w (front body kept_out)) (mix w body i.kept_atoms rest)));
     }
 
-erase_simplified : (I : Rules) (s : State) (t l r : ℕ) (kept removed : List ℕ) (body : List (Fact ℕ)) → LabelsOnce s → goal_at s t ≡ Active l → (i : Labelled I s.store r kept removed body) → AbstractStep I (firing_by I s.store r kept removed body i) (erase s) (erase (replaced (ended s t) removed body))
+erase_simplified : (I : Rules) (s : State) (t l r : ℕ) (kept removed : List ℕ) (body : List (Atom ℕ)) → LabelsOnce s → goal_at s t ≡ Numbered l → (i : Labelled I s.store r kept removed body) → AbstractStep I (firing_by I s.store r kept removed body i) (erase s) (erase (replaced (ended s t) removed body))
 erase_simplified I s t l r kept removed body u g i = subst (λ x. AbstractStep I (firing_by I s.store r kept removed body i) x (erase (replaced (ended s t) removed body))) (erase_ended s t l g) (erase_replaced I (ended s t) r kept removed body u i)
 
 erase_fired : (I : Rules) (s : State) (t r : ℕ) (kept removed : List ℕ) (n : State) → LabelsOnce s → (step : Simplify I s t r kept removed n ⊎ Propagate I s t r kept removed n) → AbstractStep I (firing step) (erase s) (erase n)
@@ -145,10 +145,10 @@ erase_fired I s t r kept removed n u (inl h) = subst (λ m. AbstractStep I (firi
 erase_fired I s t r kept removed n u (inr h) = subst (λ m. AbstractStep I (firing_by I s.store r kept removed h.body h.instance) (erase s) (erase m)) (sym h.after) (erase_replaced I s r kept removed h.body u h.instance)
 
 -- what else is there stays there
-regroup : (x k r t : List (Fact ℕ)) → (x ++ (k ++ r)) ++ t ≡ x ++ (k ++ (r ++ t))
+regroup : (x k r t : List (Atom ℕ)) → (x ++ (k ++ r)) ++ t ≡ x ++ (k ++ (r ++ t))
 regroup x k r t = append_assoc x (k ++ r) t ∙ ap (λ ys. x ++ ys) (append_assoc k r t)
 
-pub AbstractStep-frame : (I : Rules) (f : Firing) (old new more : List (Fact ℕ)) → AbstractStep I f old new → AbstractStep I f (old ++ more) (new ++ more)
+pub AbstractStep-frame : (I : Rules) (f : Firing) (old new more : List (Atom ℕ)) → AbstractStep I f old new → AbstractStep I f (old ++ more) (new ++ more)
 AbstractStep-frame I f old new more s = record {
   rest = s.rest ++ more;
   instance = s.instance;
@@ -156,17 +156,17 @@ AbstractStep-frame I f old new more s = record {
   after = both (back more s.after) (equal ((f.body ++ (f.kept ++ s.rest)) ++ more) (f.body ++ (f.kept ++ (s.rest ++ more))) (regroup f.body f.kept s.rest more));
 }
 
-pub AbstractRun-frame : (I : Rules) (fs : List Firing) (old new more : List (Fact ℕ)) → AbstractRun I old fs new → AbstractRun I (old ++ more) fs (new ++ more)
+pub AbstractRun-frame : (I : Rules) (fs : List Firing) (old new more : List (Atom ℕ)) → AbstractRun I old fs new → AbstractRun I (old ++ more) fs (new ++ more)
 AbstractRun-frame I [] old new more run = back more run
 AbstractRun-frame I (f ∷ fs) old new more run = (run.0 ++ more, AbstractStep-frame I f old run.0 more run.1, AbstractRun-frame I fs run.0 new more run.2)
 
-pub AbstractRun-from : (I : Rules) (fs : List Firing) (old same new : List (Fact ℕ)) → IsPermutation old same → AbstractRun I same fs new → AbstractRun I old fs new
+pub AbstractRun-from : (I : Rules) (fs : List Firing) (old same new : List (Atom ℕ)) → IsPermutation old same → AbstractRun I same fs new → AbstractRun I old fs new
 AbstractRun-from I [] old same new p run = both p run
 AbstractRun-from I (f ∷ fs) old same new p run =
     let s = run.1 in
     (run.0, record { rest = s.rest; instance = s.instance; before = both p s.before; after = s.after }, run.2)
 
-pub Run-erased : (v : Version) (I : Rules) (es : List (Happening ℕ)) (s n : State) → LabelsOnce s → (run : Run v I s es n) → AbstractRun I (erase s ++ posted_by es) (firings v I es s n run) (erase n)
+pub Run-erased : (v : Version) (I : Rules) (es : List (Event ℕ)) (s n : State) → LabelsOnce s → (run : Run v I s es n) → AbstractRun I (erase s ++ posted_by es) (firings v I es s n run) (erase n)
 Run-erased v I [] s n u run = equal (erase s ++ []) (erase n) (append-nil (erase s) ∙ ap erase (sym run))
 Run-erased v I (Post t a ∷ es) s n u run =
     let next = Run-erased v I es run.0 n (Step-once v I s (Post t a) run.0 run.1 u) run.2 in
@@ -187,5 +187,5 @@ Run-erased v I (Drop t ∷ es) s n u run =
     AbstractRun-from I (firings v I es run.0 n run.2) (erase s ++ posted_by es) (erase run.0 ++ posted_by es) (erase n)
     (back (posted_by es) (equal (erase s) (erase run.0) (sym (ap erase run.1.after ∙ erase_ended s t run.1.label run.1.numbered)))) next
 
-pub Lawful-erased : (v : Version) (I : Rules) (log : List (Happening ℕ)) (last : State) → (run : Lawful v I log last) → AbstractRun I (posted_by log) (firings v I log start last run) (erase last)
+pub Lawful-erased : (v : Version) (I : Rules) (log : List (Event ℕ)) (last : State) → (run : Lawful v I log last) → AbstractRun I (posted_by log) (firings v I log start last run) (erase last)
 Lawful-erased v I log last run = Run-erased v I log start last start_once run

@@ -1,8 +1,8 @@
 -- An instance of labels that were given before was an instance before: why a search may be cut into steps.
 use Rattle.std.proofs.Common.{◌≡◌, ◌≢◌, ℕ, ◌+◌, ◌<◌, ◌≤◌, ◌⊎◌, inl, inr, Bool, true, false, cond, leb, List, [], ◌∷◌, ◌++◌, Some, refl, sym, ◌∙◌, ap, subst, arith}
 use Rattle.std.proofs.lemmas.Bool.Decides.{nat_tests}
-use Rattle.chr_value.specs.Terms.{Fact}
-use Rattle.chr_log.specs.Events.{Happening, Post, Activate, Fire, Drop}
+use Rattle.chr_value.specs.Atoms.{Atom}
+use Rattle.chr_log.specs.Events.{Event, Post, Activate, Fire, Drop}
 use Rattle.chr_log.specs.declared.events.Version.{Version}
 use Rattle.chr_log.specs.declared.events.Version.TheVariants.{One, Two}
 use Rattle.chr_model.specs.Abstract.{Rules}
@@ -15,7 +15,7 @@ use Rattle.chr_model.proofs.Stores.{atom_at-old, atom_at-kept, Labelled-move, La
 use Rattle.chr_model.proofs.Once.{room, LabelsOnce, next_fired}
 use Rattle.chr_model.proofs.Quiet.{Labelled-left}
 
-pub Step-next : (v : Version) (I : Rules) (s : State) (e : Happening ℕ) (n : State) → Step v I s e n → s.next ≤ n.next
+pub Step-next : (v : Version) (I : Rules) (s : State) (e : Event ℕ) (n : State) → Step v I s e n → s.next ≤ n.next
 Step-next v I s (Post t a) n h = subst (λ m. s.next ≤ m.next) (sym h.after) (omega arith)
 Step-next v I s (Activate t l) n h = subst (λ m. s.next ≤ m.next) (sym h.after) (omega arith)
 Step-next v I s (Fire t r kept removed) n h = omega (arith, next_fired I s t r kept removed n h)
@@ -26,7 +26,7 @@ store_fired I s t r kept removed n (inl h) = ap (λ m. m.store) h.after
 store_fired I s t r kept removed n (inr h) = ap (λ m. m.store) h.after
 
 -- A step neither adds nor revives an instance of labels that were given before.
-pub Step-older : (v : Version) (I : Rules) (s : State) (e : Happening ℕ) (n : State) → Step v I s e n → (w : ℕ) → w ≤ s.next → (r : ℕ) (kept removed : List ℕ) (body : List (Fact ℕ)) → AllBelow w (kept ++ removed) → Labelled I n.store r kept removed body → Labelled I s.store r kept removed body
+pub Step-older : (v : Version) (I : Rules) (s : State) (e : Event ℕ) (n : State) → Step v I s e n → (w : ℕ) → w ≤ s.next → (r : ℕ) (kept removed : List ℕ) (body : List (Atom ℕ)) → AllBelow w (kept ++ removed) → Labelled I n.store r kept removed body → Labelled I s.store r kept removed body
 Step-older v I s (Post t a) n h w le r kept removed body below i = subst (λ m. Labelled I m.store r kept removed body) h.after i
 Step-older v I s (Activate t g) n h w le r kept removed body below i =
     Labelled-move I (s.store ++ (s.next, h.atom) ∷ []) s.store r kept removed body
@@ -36,7 +36,7 @@ Step-older v I s (Fire t q gone_kept gone) n h w le r kept removed body below i 
     Labelled-left I s.store gone r kept removed body (subst (λ st. Labelled I st r kept removed body) (store_fired I s t q gone_kept gone n h) i)
 Step-older v I s (Drop t) n h w le r kept removed body below i = subst (λ m. Labelled I m.store r kept removed body) h.after i
 
-pub Run-older : (v : Version) (I : Rules) (es : List (Happening ℕ)) (s n : State) → Run v I s es n → (r : ℕ) (kept removed : List ℕ) (body : List (Fact ℕ)) → AllBelow s.next (kept ++ removed) → Labelled I n.store r kept removed body → Labelled I s.store r kept removed body
+pub Run-older : (v : Version) (I : Rules) (es : List (Event ℕ)) (s n : State) → Run v I s es n → (r : ℕ) (kept removed : List ℕ) (body : List (Atom ℕ)) → AllBelow s.next (kept ++ removed) → Labelled I n.store r kept removed body → Labelled I s.store r kept removed body
 Run-older v I [] s n run r kept removed body below i = subst (λ m. Labelled I m.store r kept removed body) run i
 Run-older v I (e ∷ es) s n run r kept removed body below i =
     let le : s.next ≤ (run.0).next = Step-next v I s e run.0 run.1 in
@@ -44,7 +44,7 @@ Run-older v I (e ∷ es) s n run r kept removed body below i =
     (Run-older v I es run.0 n run.2 r kept removed body (λ l j. let b : l < s.next = below l j in omega arith) i)
 
 -- a store's labels were all given
-pub given_before : (I : Rules) (s : State) → LabelsOnce s → (r : ℕ) (kept removed : List ℕ) (body : List (Fact ℕ)) → Labelled I s.store r kept removed body → AllBelow s.next (kept ++ removed)
+pub given_before : (I : Rules) (s : State) → LabelsOnce s → (r : ℕ) (kept removed : List ℕ) (body : List (Atom ℕ)) → Labelled I s.store r kept removed body → AllBelow s.next (kept ++ removed)
 given_before I s few r kept removed body i l j =
     let there = Labelled-there I s.store r kept removed body l j i in
     let one : 1 ≤ times l (labels s.store) = times-there l s.store there.0 there.1 in
@@ -60,7 +60,7 @@ search_done I s l few none r kept removed body i =
     ] refl
 
 -- what no search found below a bound that had been given then, none would find later
-pub Run-none : (v : Version) (I : Rules) (es : List (Happening ℕ)) (s n : State) → Run v I s es n → (bound l : ℕ) → bound ≤ s.next → NoneBelow I s.store bound l → NoneBelow I n.store bound l
+pub Run-none : (v : Version) (I : Rules) (es : List (Event ℕ)) (s n : State) → Run v I s es n → (bound l : ℕ) → bound ≤ s.next → NoneBelow I s.store bound l → NoneBelow I n.store bound l
 Run-none v I es s n run bound l le none r kept removed body below h i =
     none r kept removed body below h (Run-older v I es s n run r kept removed body (λ q j. let b : q < bound = below q j in omega arith) i)
 
@@ -68,7 +68,7 @@ Run-none v I es s n run bound l le none r kept removed body below h i =
 pub store_once : (s : State) → LabelsOnce s → (l : ℕ) → times l (labels s.store) ≤ 1
 store_once s few l = let bound : room l s ≤ 1 = few l in grind (arith, nat_tests)
 
-pub store_below : (s : State) → LabelsOnce s → (l : ℕ) (a : Fact ℕ) → atom_at s.store l ≡ Some a → l < s.next
+pub store_below : (s : State) → LabelsOnce s → (l : ℕ) (a : Atom ℕ) → atom_at s.store l ≡ Some a → l < s.next
 store_below s few l a h =
     let one : 1 ≤ times l (labels s.store) = times-there l s.store a h in
     let bound : room l s ≤ 1 = few l in

@@ -1,8 +1,8 @@
 -- Labels are given once, and removed at most once.
 use Rattle.std.proofs.Common.{◌≡◌, ◌≢◌, ℕ, ◌+◌, ◌<◌, ◌≤◌, ◌⊎◌, inl, inr, Bool, true, false, cond, leb, ◌||◌, ◌==◌, if◌then◌else◌, List, [], ◌∷◌, ◌++◌, map, length, Option, Some, None, refl, sym, ◌∙◌, ap, subst, arith, true-eqb, true≢false}
 use Rattle.std.proofs.lemmas.Bool.Decides.{nat_tests}
-use Rattle.chr_value.specs.Terms.{Fact}
-use Rattle.chr_log.specs.Events.{Happening, Post, Activate, Fire, Drop}
+use Rattle.chr_value.specs.Atoms.{Atom}
+use Rattle.chr_log.specs.Events.{Event, Post, Activate, Fire, Drop}
 use Rattle.chr_log.specs.declared.events.Version.{Version}
 use Rattle.chr_model.specs.Abstract.{Rules}
 use Rattle.chr_model.specs.Stores.{Store, atom_at, without, labels, among, Distinct, Carry, Labelled}
@@ -12,7 +12,7 @@ use Rattle.chr_model.specs.Logs.{Lawful, removed_by, given_by, times, up_from}
 use Rattle.chr_model.proofs.Stores.{Carry-there, labels-push, times-append, times-without, times-none, times-distinct, times-there, Distinct-right}
 
 -- what is removed leaves as much room
-times_removed : (l : ℕ) (st : Store) (ls : List ℕ) (as' : List (Fact ℕ)) → Distinct ls → Carry st ls as' → times l ls + times l (labels (without ls st)) ≤ times l (labels st)
+times_removed : (l : ℕ) (st : Store) (ls : List ℕ) (as' : List (Atom ℕ)) → Distinct ls → Carry st ls as' → times l ls + times l (labels (without ls st)) ≤ times l (labels st)
 times_removed l st ls as' d c =
     elim (among ls l) as (λ b. (among ls l ≡ b) → times l ls + times l (labels (without ls st)) ≤ times l (labels st)) [
       | true ↦ λ e.
@@ -35,12 +35,12 @@ room l s = times l (labels s.store) + cond (leb s.next l) 1 0
 abbrev pub LabelsOnce : State → Type 0
 LabelsOnce s = (l : ℕ) → room l s ≤ 1
 
-room_activated : (l : ℕ) (s : State) (t : ℕ) (a : Fact ℕ) → room l (activated s t a) ≤ room l s
+room_activated : (l : ℕ) (s : State) (t : ℕ) (a : Atom ℕ) → room l (activated s t a) ≤ room l s
 room_activated l s t a =
     let e : times l (labels (s.store ++ (s.next, a) ∷ [])) ≡ times l (labels s.store) + times l (s.next ∷ []) = ap (times l) (labels-push s.store s.next a) ∙ times-append l (labels s.store) (s.next ∷ []) in
     grind (arith, nat_tests)
 
-room_replaced : (l : ℕ) (I : Rules) (s : State) (r : ℕ) (kept removed : List ℕ) (body : List (Fact ℕ)) → Labelled I s.store r kept removed body → times l removed + room l (replaced s removed body) ≤ room l s
+room_replaced : (l : ℕ) (I : Rules) (s : State) (r : ℕ) (kept removed : List ℕ) (body : List (Atom ℕ)) → Labelled I s.store r kept removed body → times l removed + room l (replaced s removed body) ≤ room l s
 room_replaced l I s r kept removed body i =
     let h : times l removed + times l (labels (without removed s.store)) ≤ times l (labels s.store) = times_removed l s.store removed i.removed_atoms (Distinct-right kept removed i.distinct) i.removed_there in
     omega arith
@@ -49,40 +49,40 @@ room_fired : (l : ℕ) (I : Rules) (s : State) (t r : ℕ) (kept removed : List 
 room_fired l I s t r kept removed n (inl h) = subst (λ m. times l (removed ++ []) + room l m ≤ room l s) (sym h.after) (omega (arith, times-append l removed [], room_replaced l I (ended s t) r kept removed h.body h.instance))
 room_fired l I s t r kept removed n (inr h) = subst (λ m. times l (removed ++ []) + room l m ≤ room l s) (sym h.after) (omega (arith, times-append l removed [], room_replaced l I s r kept removed h.body h.instance))
 
-pub Step-room : (l : ℕ) (v : Version) (I : Rules) (s : State) (e : Happening ℕ) (n : State) → Step v I s e n → times l (removed_by (e ∷ [])) + room l n ≤ room l s
+pub Step-room : (l : ℕ) (v : Version) (I : Rules) (s : State) (e : Event ℕ) (n : State) → Step v I s e n → times l (removed_by (e ∷ [])) + room l n ≤ room l s
 Step-room l v I s (Post t a) n h = subst (λ m. 0 + room l m ≤ room l s) (sym h.after) (omega arith)
 Step-room l v I s (Activate t k) n h = subst (λ m. 0 + room l m ≤ room l s) (sym h.after) (omega (arith, room_activated l s t h.atom))
 Step-room l v I s (Fire t r kept removed) n h = room_fired l I s t r kept removed n h
 Step-room l v I s (Drop t) n h = subst (λ m. 0 + room l m ≤ room l s) (sym h.after) (omega arith)
 
-removed_by-cons : (l : ℕ) (e : Happening ℕ) (es : List (Happening ℕ)) → times l (removed_by (e ∷ es)) ≡ times l (removed_by (e ∷ [])) + times l (removed_by es)
+removed_by-cons : (l : ℕ) (e : Event ℕ) (es : List (Event ℕ)) → times l (removed_by (e ∷ es)) ≡ times l (removed_by (e ∷ [])) + times l (removed_by es)
 removed_by-cons l (Post t a) es = omega arith
 removed_by-cons l (Activate t k) es = omega arith
 removed_by-cons l (Fire t r kept removed) es = omega (arith, times-append l removed (removed_by es), times-append l removed [])
 removed_by-cons l (Drop t) es = omega arith
 
-pub Run-room : (l : ℕ) (v : Version) (I : Rules) (es : List (Happening ℕ)) (s n : State) → Run v I s es n → times l (removed_by es) + room l n ≤ room l s
+pub Run-room : (l : ℕ) (v : Version) (I : Rules) (es : List (Event ℕ)) (s n : State) → Run v I s es n → times l (removed_by es) + room l n ≤ room l s
 Run-room l v I [] s n run = subst (λ m. 0 + room l m ≤ room l s) (sym run) (omega arith)
 Run-room l v I (e ∷ es) s n run = omega (arith, removed_by-cons l e es, Step-room l v I s e run.0 run.1, Run-room l v I es run.0 n run.2)
 
 pub start_once : LabelsOnce start
 start_once l = grind (arith, nat_tests)
 
-pub Step-once : (v : Version) (I : Rules) (s : State) (e : Happening ℕ) (n : State) → Step v I s e n → LabelsOnce s → LabelsOnce n
+pub Step-once : (v : Version) (I : Rules) (s : State) (e : Event ℕ) (n : State) → Step v I s e n → LabelsOnce s → LabelsOnce n
 Step-once v I s e n step u l = omega (arith, Step-room l v I s e n step, u l)
 
-pub removed_once : (v : Version) (I : Rules) (log : List (Happening ℕ)) (last : State) → Lawful v I log last → (l : ℕ) → times l (removed_by log) ≤ 1
+pub removed_once : (v : Version) (I : Rules) (log : List (Event ℕ)) (last : State) → Lawful v I log last → (l : ℕ) → times l (removed_by log) ≤ 1
 removed_once v I log last run l = omega (arith, Run-room l v I log start last run, start_once l)
 
 -- a lawful log's store has each label once, below the next label
-pub Lawful-once : (v : Version) (I : Rules) (log : List (Happening ℕ)) (last : State) → Lawful v I log last → LabelsOnce last
+pub Lawful-once : (v : Version) (I : Rules) (log : List (Event ℕ)) (last : State) → Lawful v I log last → LabelsOnce last
 Lawful-once v I log last run l = omega (arith, Run-room l v I log start last run, start_once l)
 
 pub next_fired : (I : Rules) (s : State) (t r : ℕ) (kept removed : List ℕ) (n : State) → (Simplify I s t r kept removed n ⊎ Propagate I s t r kept removed n) → n.next ≡ s.next
 next_fired I s t r kept removed n (inl h) = ap (λ m. m.next) h.after
 next_fired I s t r kept removed n (inr h) = ap (λ m. m.next) h.after
 
-pub given_rising : (v : Version) (I : Rules) (es : List (Happening ℕ)) (s n : State) → Run v I s es n → given_by es ≡ up_from s.next (length (given_by es))
+pub given_rising : (v : Version) (I : Rules) (es : List (Event ℕ)) (s n : State) → Run v I s es n → given_by es ≡ up_from s.next (length (given_by es))
 given_rising v I [] s n run = refl
 given_rising v I (Post t a ∷ es) s n run = given_rising v I es run.0 n run.2 ∙ ap (λ m. up_from m.next (length (given_by es))) run.1.after
 given_rising v I (Activate t l ∷ es) s n run =

@@ -1,7 +1,7 @@
 -- Whether posts stand at the front or at their own places, the same logs are lawful.
 use Rattle.std.proofs.Common.{◌≡◌, ℕ, List, [], ◌∷◌, refl, sym, ap}
-use Rattle.chr_value.specs.Terms.{Fact}
-use Rattle.chr_log.specs.Events.{Happening, Post, Activate, Fire, Drop}
+use Rattle.chr_value.specs.Atoms.{Atom}
+use Rattle.chr_log.specs.Events.{Event, Post, Activate, Fire, Drop}
 use Rattle.chr_log.specs.declared.events.Version.{Version}
 use Rattle.chr_model.specs.Abstract.{Rules}
 use Rattle.chr_model.specs.Goals.{State, start}
@@ -9,25 +9,25 @@ use Rattle.chr_model.specs.Steps.{Run}
 use Rattle.chr_model.specs.Logs.{Lawful, posted_by}
 use Rattle.chr_model.specs.PostsFirst.{Gathered, RunAmong, LawfulPostsFirst}
 
-abbrev with : List (Fact ℕ) → State → Gathered
+abbrev with : List (Atom ℕ) → State → Gathered
 with posts s = record { unticketed = posts; state = s }
 
-Run-gathered : (v : Version) (I : Rules) (es : List (Happening ℕ)) (s n : State) → Run v I s es n → RunAmong v I (with (posted_by es) s) es (with [] n)
+Run-gathered : (v : Version) (I : Rules) (es : List (Event ℕ)) (s n : State) → Run v I s es n → RunAmong v I (with (posted_by es) s) es (with [] n)
 Run-gathered v I [] s n run = ap (with []) run
 Run-gathered v I (Post t a ∷ es) s n run = (with (posted_by es) run.0, (refl, run.1), Run-gathered v I es run.0 n run.2)
 Run-gathered v I (Activate t l ∷ es) s n run = (with (posted_by es) run.0, (refl, run.1), Run-gathered v I es run.0 n run.2)
 Run-gathered v I (Fire t r kept removed ∷ es) s n run = (with (posted_by es) run.0, (refl, run.1), Run-gathered v I es run.0 n run.2)
 Run-gathered v I (Drop t ∷ es) s n run = (with (posted_by es) run.0, (refl, run.1), Run-gathered v I es run.0 n run.2)
 
-Run-scattered : (v : Version) (I : Rules) (es : List (Happening ℕ)) (g h : Gathered) → RunAmong v I g es h → Run v I g.state es h.state
+Run-scattered : (v : Version) (I : Rules) (es : List (Event ℕ)) (g h : Gathered) → RunAmong v I g es h → Run v I g.state es h.state
 Run-scattered v I [] g h run = ap (λ x. x.state) run
 Run-scattered v I (Post t a ∷ es) g h run = (run.0.state, run.1.1, Run-scattered v I es run.0 h run.2)
 Run-scattered v I (Activate t l ∷ es) g h run = (run.0.state, run.1.1, Run-scattered v I es run.0 h run.2)
 Run-scattered v I (Fire t r kept removed ∷ es) g h run = (run.0.state, run.1.1, Run-scattered v I es run.0 h run.2)
 Run-scattered v I (Drop t ∷ es) g h run = (run.0.state, run.1.1, Run-scattered v I es run.0 h run.2)
 
-pub posts_to_front : (v : Version) (I : Rules) (log : List (Happening ℕ)) (last : State) → Lawful v I log last → LawfulPostsFirst v I log last
+pub posts_to_front : (v : Version) (I : Rules) (log : List (Event ℕ)) (last : State) → Lawful v I log last → LawfulPostsFirst v I log last
 posts_to_front v I log last run = Run-gathered v I log start last run
 
-pub posts_to_places : (v : Version) (I : Rules) (log : List (Happening ℕ)) (last : State) → LawfulPostsFirst v I log last → Lawful v I log last
+pub posts_to_places : (v : Version) (I : Rules) (log : List (Event ℕ)) (last : State) → LawfulPostsFirst v I log last → Lawful v I log last
 posts_to_places v I log last run = Run-scattered v I log (with (posted_by log) start) (with [] last) run

@@ -1,7 +1,7 @@
 -- What holds of a program's instances.
 use Rattle.std.proofs.Common.{◌≡◌, ℕ, zero, suc, List, [], ◌∷◌, Some, None, sym, ◌∙◌, subst, slice_get}
 use Rattle.std.specs.List.{AllByRecursion}
-use Rattle.chr_value.specs.Terms.{Fact}
+use Rattle.chr_value.specs.Atoms.{Atom}
 use Rattle.chr_rule.specs.Rules.{Simpagation, numbered}
 use Rattle.chr_rule.specs.Scope.{IsRule}
 use Rattle.chr_guard.specs.Instances.{Instance}
@@ -14,19 +14,19 @@ pub program_removes : (rules : List (Simpagation ℕ)) → Removes (Instances ru
 program_removes rules r kept removed body i = i.2.some_removed
 
 -- an instance of the first rule, and of those behind it
-pub of_zero : (rules : List (Simpagation ℕ)) (kept removed body : List (Fact ℕ)) → Instances rules 0 kept removed body → ⊥
+pub of_zero : (rules : List (Simpagation ℕ)) (kept removed body : List (Atom ℕ)) → Instances rules 0 kept removed body → ⊥
 of_zero rules kept removed body i = let e : None ≡ Some i.0 = i.1 in cc
 
-pub of_first : (rule : Simpagation ℕ) (rules : List (Simpagation ℕ)) (kept removed body : List (Fact ℕ)) → Instances (rule ∷ rules) 1 kept removed body → Instance rule kept removed body
+pub of_first : (rule : Simpagation ℕ) (rules : List (Simpagation ℕ)) (kept removed body : List (Atom ℕ)) → Instances (rule ∷ rules) 1 kept removed body → Instance rule kept removed body
 of_first rule rules kept removed body i =
     let e : Some rule ≡ Some i.0 = i.1 in
     let same : i.0 ≡ rule = cc in
     subst (λ x. Instance x kept removed body) same i.2
 
-pub of_later : (rule : Simpagation ℕ) (rules : List (Simpagation ℕ)) (n : ℕ) (kept removed body : List (Fact ℕ)) → Instances (rule ∷ rules) (suc (suc n)) kept removed body → Instances rules (suc n) kept removed body
+pub of_later : (rule : Simpagation ℕ) (rules : List (Simpagation ℕ)) (n : ℕ) (kept removed body : List (Atom ℕ)) → Instances (rule ∷ rules) (suc (suc n)) kept removed body → Instances rules (suc n) kept removed body
 of_later rule rules n kept removed body i = i
 
-pub of_none : (n : ℕ) (kept removed body : List (Fact ℕ)) → Instances [] n kept removed body → ⊥
+pub of_none : (n : ℕ) (kept removed body : List (Atom ℕ)) → Instances [] n kept removed body → ⊥
 of_none zero kept removed body i = of_zero [] kept removed body i
 of_none (suc n) kept removed body i = let e : None ≡ Some i.0 = i.1 in cc
 

@@ -1,19 +1,19 @@
 -- Where no goal is open, no rule applies.
 use Rattle.std.proofs.Common.{◌≡◌, ◌≢◌, ℕ, zero, suc, ◌+◌, ◌<◌, ◌⊎◌, inl, inr, Bool, true, false, ◌||◌, ◌==◌, if◌then◌else◌, List, [], ◌∷◌, ◌++◌, map, length, slice_index_or, slice_set, Option, Some, None, refl, sym, ◌∙◌, ap, subst, arith, true-eqb, get_or, set, get_or-set_other, get_or-set_same, true≢false}
 use Rattle.std.proofs.lemmas.Bool.Decides.{nat_tests}
-use Rattle.chr_value.specs.Terms.{Fact}
-use Rattle.chr_log.specs.Events.{Happening, Post, Activate, Fire, Drop}
+use Rattle.chr_value.specs.Atoms.{Atom}
+use Rattle.chr_log.specs.Events.{Event, Post, Activate, Fire, Drop}
 use Rattle.chr_log.specs.declared.events.Version.{Version}
 use Rattle.chr_log.specs.declared.events.Version.TheVariants.{One, Two}
 use Rattle.chr_model.specs.Abstract.{Rules}
 use Rattle.chr_model.specs.Stores.{Store, atom_at, without, among, Carry, Labelled, Final}
-use Rattle.chr_model.specs.Goals.{Goal, Waiting, Active, Ended, State, start, goal_at, IsNumbered, Quiet}
+use Rattle.chr_model.specs.Goals.{Goal, Plain, Numbered, Ended, State, start, goal_at, IsNumbered, Quiet}
 use Rattle.chr_model.specs.Steps.{posted, activated, ended, replaced, MayDrop, Simplify, Propagate, Step, Run}
 use Rattle.chr_model.specs.Logs.{Lawful}
 use Rattle.chr_model.proofs.Stores.{atom_at-old, atom_at-kept, Labelled-move, Labelled-there}
 
 -- what each step keeps, a run keeps
-pub Run-keeps : (P : State → Type 0) (v : Version) (I : Rules) → ((s : State) (e : Happening ℕ) (n : State) → Step v I s e n → P s → P n) → (es : List (Happening ℕ)) (s n : State) → Run v I s es n → P s → P n
+pub Run-keeps : (P : State → Type 0) (v : Version) (I : Rules) → ((s : State) (e : Event ℕ) (n : State) → Step v I s e n → P s → P n) → (es : List (Event ℕ)) (s n : State) → Run v I s es n → P s → P n
 Run-keeps P v I step [] s n run p = subst P (sym run) p
 Run-keeps P v I step (e ∷ es) s n run p = Run-keeps P v I step es run.0 n run.2 (step s e run.0 run.1 p)
 
@@ -28,38 +28,38 @@ goal_stays [] hs t g ne h = absurd (ne (sym h))
 goal_stays (x ∷ gs) hs zero g ne h = h
 goal_stays (x ∷ gs) hs (suc t) g ne h = goal_stays gs hs t g ne h
 
-pub active_open : (l : ℕ) → Active l ≢ Ended
+pub active_open : (l : ℕ) → Numbered l ≢ Ended
 active_open l h = cc
 
-pub waiting_open : (a : Fact ℕ) → Waiting a ≢ Ended
+pub waiting_open : (a : Atom ℕ) → Plain a ≢ Ended
 waiting_open a h = cc
 
-pub same_label : (k l : ℕ) → Active k ≡ Active l → k ≡ l
+pub same_label : (k l : ℕ) → Numbered k ≡ Numbered l → k ≡ l
 same_label k l h = cc
 
 -- a numbered goal stays one where goals are added
-pub numbered-more : (s : State) (gs hs : List Goal) (store : Store) (next l : ℕ) → (t : ℕ) × (get_or gs t Ended ≡ Active l) → IsNumbered (record { goals = gs ++ hs; store = store; next = next }) l
-numbered-more s gs hs store next l h = (h.0, goal_stays gs hs h.0 (Active l) (active_open l) h.1)
+pub numbered-more : (s : State) (gs hs : List Goal) (store : Store) (next l : ℕ) → (t : ℕ) × (get_or gs t Ended ≡ Numbered l) → IsNumbered (record { goals = gs ++ hs; store = store; next = next }) l
+numbered-more s gs hs store next l h = (h.0, goal_stays gs hs h.0 (Numbered l) (active_open l) h.1)
 
 -- and where another goal ends
-pub numbered-ended : (s : State) (t l k : ℕ) → goal_at s t ≡ Active l → k ≢ l → IsNumbered s k → IsNumbered (ended s t) k
+pub numbered-ended : (s : State) (t l k : ℕ) → goal_at s t ≡ Numbered l → k ≢ l → IsNumbered s k → IsNumbered (ended s t) k
 numbered-ended s t l k at ne h = (h.0, get_or-set_other s.goals t h.0 Ended Ended (λ z. ne (same_label k l (sym h.1 ∙ ap (goal_at s) z ∙ at))) ∙ h.1)
 
 -- and where a plain goal is activated
-pub numbered-activated : (s : State) (t : ℕ) (a : Fact ℕ) (l : ℕ) → goal_at s t ≡ Waiting a → IsNumbered s l → IsNumbered (activated s t a) l
-numbered-activated s t a l at h = (h.0, get_or-set_other s.goals t h.0 (Active s.next) Ended (λ z. (let c : Active l ≡ Waiting a = sym h.1 ∙ ap (goal_at s) z ∙ at in cc)) ∙ h.1)
+pub numbered-activated : (s : State) (t : ℕ) (a : Atom ℕ) (l : ℕ) → goal_at s t ≡ Plain a → IsNumbered s l → IsNumbered (activated s t a) l
+numbered-activated s t a l at h = (h.0, get_or-set_other s.goals t h.0 (Numbered s.next) Ended (λ z. (let c : Numbered l ≡ Plain a = sym h.1 ∙ ap (goal_at s) z ∙ at in cc)) ∙ h.1)
 
-pub numbered-new : (s : State) (t : ℕ) (a : Fact ℕ) → goal_at s t ≡ Waiting a → IsNumbered (activated s t a) s.next
-numbered-new s t a at = (t, get_or-set_same s.goals t (Active s.next) Ended (place_within s.goals t (λ z. waiting_open a (sym at ∙ z))))
+pub numbered-new : (s : State) (t : ℕ) (a : Atom ℕ) → goal_at s t ≡ Plain a → IsNumbered (activated s t a) s.next
+numbered-new s t a at = (t, get_or-set_same s.goals t (Numbered s.next) Ended (place_within s.goals t (λ z. waiting_open a (sym at ∙ z))))
 
 -- in each instance over the store is a label that is a numbered goal
 abbrev pub Guarded : Rules → State → Type 0
-Guarded I s = (r : ℕ) (kept removed : List ℕ) (body : List (Fact ℕ)) → Labelled I s.store r kept removed body → (l : ℕ) × (among (kept ++ removed) l ≡ true) × IsNumbered s l
+Guarded I s = (r : ℕ) (kept removed : List ℕ) (body : List (Atom ℕ)) → Labelled I s.store r kept removed body → (l : ℕ) × (among (kept ++ removed) l ≡ true) × IsNumbered s l
 
-guarded_posted : (I : Rules) (s : State) (a : Fact ℕ) → Guarded I s → Guarded I (posted s a)
-guarded_posted I s a p r kept removed body i = let q = p r kept removed body i in (q.0, q.1, numbered-more s s.goals (Waiting a ∷ []) s.store s.next q.0 q.2)
+guarded_posted : (I : Rules) (s : State) (a : Atom ℕ) → Guarded I s → Guarded I (posted s a)
+guarded_posted I s a p r kept removed body i = let q = p r kept removed body i in (q.0, q.1, numbered-more s s.goals (Plain a ∷ []) s.store s.next q.0 q.2)
 
-guarded_activated : (I : Rules) (s : State) (t : ℕ) (a : Fact ℕ) → goal_at s t ≡ Waiting a → Guarded I s → Guarded I (activated s t a)
+guarded_activated : (I : Rules) (s : State) (t : ℕ) (a : Atom ℕ) → goal_at s t ≡ Plain a → Guarded I s → Guarded I (activated s t a)
 guarded_activated I s t a at p r kept removed body i =
     elim (among (kept ++ removed) s.next) as (λ b. (among (kept ++ removed) s.next ≡ b) → (l : ℕ) × (among (kept ++ removed) l ≡ true) × IsNumbered (activated s t a) l) [
       | true ↦ λ e. (s.next, e, numbered-new s t a at)
@@ -69,29 +69,29 @@ guarded_activated I s t a at p r kept removed body i =
     ] refl
 
 -- an instance over what is left was one before, and none of its labels was removed
-pub Labelled-left : (I : Rules) (s : Store) (gone : List ℕ) (r : ℕ) (kept removed : List ℕ) (body : List (Fact ℕ)) → Labelled I (without gone s) r kept removed body → Labelled I s r kept removed body
+pub Labelled-left : (I : Rules) (s : Store) (gone : List ℕ) (r : ℕ) (kept removed : List ℕ) (body : List (Atom ℕ)) → Labelled I (without gone s) r kept removed body → Labelled I s r kept removed body
 Labelled-left I s gone r kept removed body i = Labelled-move I (without gone s) s r kept removed body (λ l a j h. (atom_at-kept gone s l a h).0) i
 
-pub Labelled-alive : (I : Rules) (s : Store) (gone : List ℕ) (r : ℕ) (kept removed : List ℕ) (body : List (Fact ℕ)) (l : ℕ) → among (kept ++ removed) l ≡ true → Labelled I (without gone s) r kept removed body → among gone l ≡ false
+pub Labelled-alive : (I : Rules) (s : Store) (gone : List ℕ) (r : ℕ) (kept removed : List ℕ) (body : List (Atom ℕ)) (l : ℕ) → among (kept ++ removed) l ≡ true → Labelled I (without gone s) r kept removed body → among gone l ≡ false
 Labelled-alive I s gone r kept removed body l h i = let there = Labelled-there I (without gone s) r kept removed body l h i in (atom_at-kept gone s l there.0 there.1).1
 
-guarded_simplified : (I : Rules) (s : State) (t l : ℕ) (gone : List ℕ) (added : List (Fact ℕ)) → goal_at s t ≡ Active l → among gone l ≡ true → Guarded I s → Guarded I (replaced (ended s t) gone added)
+guarded_simplified : (I : Rules) (s : State) (t l : ℕ) (gone : List ℕ) (added : List (Atom ℕ)) → goal_at s t ≡ Numbered l → among gone l ≡ true → Guarded I s → Guarded I (replaced (ended s t) gone added)
 guarded_simplified I s t l gone added at dead p r kept removed body i =
     let q = p r kept removed body (Labelled-left I s.store gone r kept removed body i) in
     let alive : among gone q.0 ≡ false = Labelled-alive I s.store gone r kept removed body q.0 q.1 i in
-    (q.0, q.1, numbered-more s (ended s t).goals (map Waiting added) (without gone s.store) s.next q.0 (numbered-ended s t l q.0 at (λ z. true≢false (sym dead ∙ ap (among gone) (sym z) ∙ alive)) q.2))
+    (q.0, q.1, numbered-more s (ended s t).goals (map Plain added) (without gone s.store) s.next q.0 (numbered-ended s t l q.0 at (λ z. true≢false (sym dead ∙ ap (among gone) (sym z) ∙ alive)) q.2))
 
-guarded_propagated : (I : Rules) (s : State) (gone : List ℕ) (added : List (Fact ℕ)) → Guarded I s → Guarded I (replaced s gone added)
+guarded_propagated : (I : Rules) (s : State) (gone : List ℕ) (added : List (Atom ℕ)) → Guarded I s → Guarded I (replaced s gone added)
 guarded_propagated I s gone added p r kept removed body i =
     let q = p r kept removed body (Labelled-left I s.store gone r kept removed body i) in
-    (q.0, q.1, numbered-more s s.goals (map Waiting added) (without gone s.store) s.next q.0 q.2)
+    (q.0, q.1, numbered-more s s.goals (map Plain added) (without gone s.store) s.next q.0 q.2)
 
 -- the first condition of a drop is stronger than the second
 pub MayDrop-weaker : (v : Version) (I : Rules) (s : State) (l : ℕ) → MayDrop v I s l → MayDrop Two I s l
 MayDrop-weaker One I s l m = λ r kept removed body i h. absurd (true≢false (sym h ∙ m r kept removed body i))
 MayDrop-weaker Two I s l m = m
 
-guarded_dropped : (I : Rules) (s : State) (t l : ℕ) → goal_at s t ≡ Active l → MayDrop Two I s l → Guarded I s → Guarded I (ended s t)
+guarded_dropped : (I : Rules) (s : State) (t l : ℕ) → goal_at s t ≡ Numbered l → MayDrop Two I s l → Guarded I s → Guarded I (ended s t)
 guarded_dropped I s t l at m p r kept removed body i =
     let q = p r kept removed body i in
     elim (q.0 == l) as (λ b. (q.0 == l ≡ b) → (k : ℕ) × (among (kept ++ removed) k ≡ true) × IsNumbered (ended s t) k) [
@@ -103,7 +103,7 @@ guarded_fired : (I : Rules) (s : State) (t r : ℕ) (kept removed : List ℕ) (n
 guarded_fired I s t r kept removed n (inl h) p = subst (Guarded I) (sym h.after) (guarded_simplified I s t h.label removed h.body h.numbered h.stands p)
 guarded_fired I s t r kept removed n (inr h) p = subst (Guarded I) (sym h.after) (guarded_propagated I s removed h.body p)
 
-pub Step-guarded : (v : Version) (I : Rules) (s : State) (e : Happening ℕ) (n : State) → Step v I s e n → Guarded I s → Guarded I n
+pub Step-guarded : (v : Version) (I : Rules) (s : State) (e : Event ℕ) (n : State) → Step v I s e n → Guarded I s → Guarded I n
 Step-guarded v I s (Post t a) n h p = subst (Guarded I) (sym h.after) (guarded_posted I s a p)
 Step-guarded v I s (Activate t l) n h p = subst (Guarded I) (sym h.after) (guarded_activated I s t h.atom h.plain p)
 Step-guarded v I s (Fire t r kept removed) n h p = guarded_fired I s t r kept removed n h p
@@ -111,24 +111,24 @@ Step-guarded v I s (Drop t) n h p = subst (Guarded I) (sym h.after) (guarded_dro
 
 -- what each instance has: a head that is removed
 abbrev pub Removes : Rules → Type 0
-Removes I = (r : ℕ) (kept removed body : List (Fact ℕ)) → I r kept removed body → removed ≢ []
+Removes I = (r : ℕ) (kept removed body : List (Atom ℕ)) → I r kept removed body → removed ≢ []
 
 guarded_start : (I : Rules) → Removes I → Guarded I start
 guarded_start I rem r kept [] body i = absurd (no_labels i.removed_atoms i.removed_there (rem r i.kept_atoms i.removed_atoms body i.instance))
   where
-    no_labels : (as' : List (Fact ℕ)) → Carry [] [] as' → as' ≢ [] → ⊥
+    no_labels : (as' : List (Atom ℕ)) → Carry [] [] as' → as' ≢ [] → ⊥
     no_labels [] h ne = ne refl
     no_labels (a ∷ as') h ne = h
 guarded_start I rem r kept (l ∷ removed) body i = absurd (no_label i.removed_atoms i.removed_there)
   where
-    no_label : (as' : List (Fact ℕ)) → Carry [] (l ∷ removed) as' → ⊥
+    no_label : (as' : List (Atom ℕ)) → Carry [] (l ∷ removed) as' → ⊥
     no_label [] h = h
     no_label (a ∷ as') h = cc
 
-pub Lawful-guarded : (v : Version) (I : Rules) → Removes I → (log : List (Happening ℕ)) (last : State) → Lawful v I log last → Guarded I last
+pub Lawful-guarded : (v : Version) (I : Rules) → Removes I → (log : List (Event ℕ)) (last : State) → Lawful v I log last → Guarded I last
 Lawful-guarded v I rem log last run = Run-keeps (Guarded I) v I (Step-guarded v I) log start last run (guarded_start I rem)
 
-pub quiet_final : (v : Version) (I : Rules) → Removes I → (log : List (Happening ℕ)) (last : State) → Lawful v I log last → Quiet last → Final I last.store
+pub quiet_final : (v : Version) (I : Rules) → Removes I → (log : List (Event ℕ)) (last : State) → Lawful v I log last → Quiet last → Final I last.store
 quiet_final v I rem log last run quiet r kept removed body i =
     let q = Lawful-guarded v I rem log last run r kept removed body i in
     active_open q.0 (sym q.2.1 ∙ quiet q.2.0)

@@ -1,13 +1,13 @@
 -- Laws of stores.
 use Rattle.std.proofs.Common.{◌≡◌, ◌≢◌, ℕ, ◌+◌, ◌≤◌, Bool, true, false, ◌||◌, ◌==◌, if◌then◌else◌, List, [], ◌∷◌, ◌++◌, map, Option, Some, None, refl, sym, ◌∙◌, ap, ap₂, subst, arith, true-eqb}
 use Rattle.std.proofs.lemmas.Bool.Decides.{nat_tests}
-use Rattle.chr_value.specs.Terms.{Fact}
+use Rattle.chr_value.specs.Atoms.{Atom}
 use Rattle.chr_model.specs.Abstract.{Rules}
 use Rattle.chr_model.specs.Stores.{Store, atom_at, drop_label, without, labels, among, Distinct, Carry, Labelled}
 use Rattle.chr_model.specs.Logs.{times}
 
 -- a label that isn't the new one was there before
-pub atom_at-old : (st : Store) (n : ℕ) (a : Fact ℕ) (l : ℕ) (x : Fact ℕ) → n ≢ l → atom_at (st ++ (n, a) ∷ []) l ≡ Some x → atom_at st l ≡ Some x
+pub atom_at-old : (st : Store) (n : ℕ) (a : Atom ℕ) (l : ℕ) (x : Atom ℕ) → n ≢ l → atom_at (st ++ (n, a) ∷ []) l ≡ Some x → atom_at st l ≡ Some x
 atom_at-old [] n a l x ne h = grind (arith, nat_tests)
 atom_at-old (e ∷ es) n a l x ne h = grind (arith, nat_tests, atom_at-old es n a l x ne)
 
@@ -35,20 +35,20 @@ pub atom_at-without : (ls : List ℕ) (st : Store) (q : ℕ) → atom_at (withou
 atom_at-without [] st q = refl
 atom_at-without (l ∷ ls) st q = grind (arith, nat_tests, atom_at-without ls (drop_label l st) q, atom_at-drop st l q)
 
-pub atom_at-kept : (ls : List ℕ) (st : Store) (q : ℕ) (a : Fact ℕ) → atom_at (without ls st) q ≡ Some a → (atom_at st q ≡ Some a) × (among ls q ≡ false)
+pub atom_at-kept : (ls : List ℕ) (st : Store) (q : ℕ) (a : Atom ℕ) → atom_at (without ls st) q ≡ Some a → (atom_at st q ≡ Some a) × (among ls q ≡ false)
 atom_at-kept ls st q a h = (grind (arith, nat_tests, atom_at-without ls st q), grind (arith, nat_tests, atom_at-without ls st q))
 
 -- what carries its atoms in one store carries them in another, if each of its labels does
-pub Carry-move : (s n : Store) (ls : List ℕ) (as' : List (Fact ℕ)) → ((l : ℕ) (a : Fact ℕ) → among ls l ≡ true → atom_at s l ≡ Some a → atom_at n l ≡ Some a) → Carry s ls as' → Carry n ls as'
+pub Carry-move : (s n : Store) (ls : List ℕ) (as' : List (Atom ℕ)) → ((l : ℕ) (a : Atom ℕ) → among ls l ≡ true → atom_at s l ≡ Some a → atom_at n l ≡ Some a) → Carry s ls as' → Carry n ls as'
 Carry-move s n [] [] f h = tt
 Carry-move s n (l ∷ ls) (a ∷ as') f h = (f l a (among-itself l ls) h.0, Carry-move s n ls as' (λ q b i e. f q b (among-more l ls q i) e) h.1)
 Carry-move s n [] (a ∷ as') f h = h
 Carry-move s n (l ∷ ls) [] f h = h
 
-pub Carry-there : (s : Store) (ls : List ℕ) (as' : List (Fact ℕ)) (l : ℕ) → among ls l ≡ true → Carry s ls as' → (a : Fact ℕ) × (atom_at s l ≡ Some a)
+pub Carry-there : (s : Store) (ls : List ℕ) (as' : List (Atom ℕ)) (l : ℕ) → among ls l ≡ true → Carry s ls as' → (a : Atom ℕ) × (atom_at s l ≡ Some a)
 Carry-there s [] [] l i h = absurd (cc)
 Carry-there s (x ∷ xs) (a ∷ as') l i h =
-    elim (x == l) as (λ b. (x == l ≡ b) → (b || among xs l) ≡ true → (c : Fact ℕ) × (atom_at s l ≡ Some c)) [
+    elim (x == l) as (λ b. (x == l ≡ b) → (b || among xs l) ≡ true → (c : Atom ℕ) × (atom_at s l ≡ Some c)) [
       | true ↦ λ e _. (a, subst (λ q. atom_at s q ≡ Some a) (true-eqb x l (sym e)) h.0)
       | false ↦ λ _ j. Carry-there s xs as' l j h.1
     ] refl i
@@ -56,7 +56,7 @@ Carry-there s [] (a ∷ as') l i h = absurd h
 Carry-there s (x ∷ xs) [] l i h = absurd h
 
 -- the atoms that labels carry are fixed
-pub Carry-same : (st : Store) (ls : List ℕ) (xs ys : List (Fact ℕ)) → Carry st ls xs → Carry st ls ys → xs ≡ ys
+pub Carry-same : (st : Store) (ls : List ℕ) (xs ys : List (Atom ℕ)) → Carry st ls xs → Carry st ls ys → xs ≡ ys
 Carry-same st [] [] [] c d = refl
 Carry-same st (l ∷ ls) (x ∷ xs) (y ∷ ys) c d =
     let e : Some x ≡ Some y = sym c.0 ∙ d.0 in
@@ -68,7 +68,7 @@ Carry-same st (l ∷ ls) [] ys c d = absurd c
 Carry-same st (l ∷ ls) (x ∷ xs) [] c d = absurd d
 
 -- an instance over a store, whose labels are in another with the same atoms
-pub Labelled-move : (I : Rules) (s n : Store) (r : ℕ) (kept removed : List ℕ) (body : List (Fact ℕ)) → ((l : ℕ) (a : Fact ℕ) → among (kept ++ removed) l ≡ true → atom_at s l ≡ Some a → atom_at n l ≡ Some a) → Labelled I s r kept removed body → Labelled I n r kept removed body
+pub Labelled-move : (I : Rules) (s n : Store) (r : ℕ) (kept removed : List ℕ) (body : List (Atom ℕ)) → ((l : ℕ) (a : Atom ℕ) → among (kept ++ removed) l ≡ true → atom_at s l ≡ Some a → atom_at n l ≡ Some a) → Labelled I s r kept removed body → Labelled I n r kept removed body
 Labelled-move I s n r kept removed body f i = record {
   kept_atoms = i.kept_atoms;
   removed_atoms = i.removed_atoms;
@@ -78,9 +78,9 @@ Labelled-move I s n r kept removed body f i = record {
   removed_there = Carry-move s n removed i.removed_atoms (λ l a h. f l a (among-right kept removed l h)) i.removed_there;
 }
 
-pub Labelled-there : (I : Rules) (s : Store) (r : ℕ) (kept removed : List ℕ) (body : List (Fact ℕ)) (l : ℕ) → among (kept ++ removed) l ≡ true → Labelled I s r kept removed body → (a : Fact ℕ) × (atom_at s l ≡ Some a)
+pub Labelled-there : (I : Rules) (s : Store) (r : ℕ) (kept removed : List ℕ) (body : List (Atom ℕ)) (l : ℕ) → among (kept ++ removed) l ≡ true → Labelled I s r kept removed body → (a : Atom ℕ) × (atom_at s l ≡ Some a)
 Labelled-there I s r kept removed body l h i =
-    elim (among kept l) as (λ b. (among kept l ≡ b) → (a : Fact ℕ) × (atom_at s l ≡ Some a)) [
+    elim (among kept l) as (λ b. (among kept l ≡ b) → (a : Atom ℕ) × (atom_at s l ≡ Some a)) [
       | true ↦ λ e. Carry-there s kept i.kept_atoms l e i.kept_there
       | false ↦ λ e. Carry-there s removed i.removed_atoms l (grind (arith, nat_tests, among-append kept removed l)) i.removed_there
     ] refl
@@ -107,7 +107,7 @@ pub times-append : (l : ℕ) (xs ys : List ℕ) → times l (xs ++ ys) ≡ times
 times-append l [] ys = omega arith
 times-append l (x ∷ xs) ys = grind (arith, nat_tests, times-append l xs ys)
 
-pub labels-push : (st : Store) (n : ℕ) (a : Fact ℕ) → labels (st ++ (n, a) ∷ []) ≡ labels st ++ n ∷ []
+pub labels-push : (st : Store) (n : ℕ) (a : Atom ℕ) → labels (st ++ (n, a) ∷ []) ≡ labels st ++ n ∷ []
 labels-push [] n a = refl
 labels-push (e ∷ es) n a = ap (λ xs. e.0 ∷ xs) (labels-push es n a)
 
@@ -131,6 +131,6 @@ times-distinct l (x ∷ xs) h =
       | false ↦ λ e. grind (arith, nat_tests, times-distinct l xs h.1)
     ] refl
 
-pub times-there : (l : ℕ) (st : Store) (a : Fact ℕ) → atom_at st l ≡ Some a → 1 ≤ times l (labels st)
+pub times-there : (l : ℕ) (st : Store) (a : Atom ℕ) → atom_at st l ≡ Some a → 1 ≤ times l (labels st)
 times-there l [] a h = cc
 times-there l (e ∷ es) a h = grind (arith, nat_tests, times-there l es a)

@@ -1,15 +1,15 @@
 -- Worked runs, and logs that are no runs.
 use Rattle.std.proofs.Common.{◌≡◌, ◌≢◌, ℕ, zero, suc, ◌+◌, ◌≤◌, List, [], ◌∷◌, ◌++◌, map, length, Option, Some, None, ℤ, pos, negsuc, drop, ◌⊎◌, refl, sym, ◌∙◌, ap, subst, arith, inl, inr, slice_index_or, Bool, true, false, true≢false}
-use Rattle.chr_value.specs.Terms.{Term, Fact, Int, Sym}
+use Rattle.chr_value.specs.Atoms.{Value, Atom, Int, Sym}
 use Rattle.chr_rule.specs.declared.expression.Relation.TheVariants.{LessEqual}
 use Rattle.chr_rule.specs.Rules.{Variable, Compared}
 use Rattle.chr_guard.specs.Values.{Holds}
 use Rattle.chr_guard.specs.Instances.{Instance, atom_under}
-use Rattle.chr_log.specs.Events.{Happening}
+use Rattle.chr_log.specs.Events.{Event}
 use Rattle.chr_log.specs.declared.events.Version.{Version}
 use Rattle.chr_log.specs.declared.events.Version.TheVariants.{One, Two}
 use Rattle.chr_model.specs.Stores.{Store, atom_at, among, Labelled, Final}
-use Rattle.chr_model.specs.Goals.{Goal, Waiting, Active, Ended, State, start}
+use Rattle.chr_model.specs.Goals.{Goal, Plain, Numbered, Ended, State, start}
 use Rattle.chr_model.specs.Steps.{posted, activated, ended, replaced, Simplify, Propagate, Run}
 use Rattle.chr_model.specs.Programs.{Instances}
 use Rattle.chr_model.specs.Examples.{EndsIn, EndsQuietIn, IsUnlawful, of, gcd, gcd_zero, gcd_mod, gcd_rules, gcd_log, gcd_log_early_drop, pair_rule, pair_rules, pair_log, pair_log_one_label, min_rule, min_rules, min_log, token, token_rule, token_rules, token_log, token_log_two, token_log_strict}
@@ -18,14 +18,14 @@ use Rattle.chr_model.proofs.Alone.{one_head, carry_one, only_atom, second_atom, 
 use Rattle.chr_model.proofs.Onward.{after_post, after_activate, after_drop, drop_allowed}
 
 -- a valuation of three variables
-abbrev numbers : ℕ → ℕ → ℕ → ℕ → Term ℕ
+abbrev numbers : ℕ → ℕ → ℕ → ℕ → Value ℕ
 numbers x y z v = slice_index_or (Int (pos x) ∷ Int (pos y) ∷ Int (pos z) ∷ []) v (Int (pos 0))
 
 -- atoms of other names or numbers
-other_name : (a b : Fact ℕ) → a.name ≢ b.name → a ≢ b
+other_name : (a b : Atom ℕ) → a.name ≢ b.name → a ≢ b
 other_name a b ne e = ne (ap (λ x. x.name) e)
 
-abbrev first_number : List (Term ℕ) → ℕ
+abbrev first_number : List (Value ℕ) → ℕ
 first_number [] = 0
 first_number (Int (pos n) ∷ ts) = n
 first_number (Int (negsuc n) ∷ ts) = 0
@@ -154,7 +154,7 @@ gcd_early_drop last run =
     true≢false (m 2 (2 ∷ []) (1 ∷ []) (gcd 3 ∷ []) gcd_nine_six)
 
 -- Two equal constraints.
-pair_alone : (k : ℕ) (a : Fact ℕ) → Final (Instances pair_rules) ((k, a) ∷ [])
+pair_alone : (k : ℕ) (a : Atom ℕ) → Final (Instances pair_rules) ((k, a) ∷ [])
 pair_alone k a zero kept removed body i = of_zero pair_rules i.kept_atoms i.removed_atoms body i.instance
 pair_alone k a (suc zero) kept removed body i =
     let one = of_first pair_rule [] i.kept_atoms i.removed_atoms body i.instance in
@@ -225,7 +225,7 @@ pair_one_label v last run =
     one_label v (posted start (of 0 1)) last (after_post v (Instances pair_rules) start 1 (of 0 1) (drop 1 pair_log_one_label) last run)
 
 -- The least number.
-min_alone : (k : ℕ) (a : Fact ℕ) → Final (Instances min_rules) ((k, a) ∷ [])
+min_alone : (k : ℕ) (a : Atom ℕ) → Final (Instances min_rules) ((k, a) ∷ [])
 min_alone k a zero kept removed body i = of_zero min_rules i.kept_atoms i.removed_atoms body i.instance
 min_alone k a (suc zero) kept removed body i =
     let one = of_first min_rule [] i.kept_atoms i.removed_atoms body i.instance in
@@ -323,7 +323,7 @@ token_fires = record {
   removed_there = (refl, tt);
 }
 
-token_alone : (k : ℕ) (a : Fact ℕ) → Final (Instances token_rules) ((k, a) ∷ [])
+token_alone : (k : ℕ) (a : Atom ℕ) → Final (Instances token_rules) ((k, a) ∷ [])
 token_alone k a zero kept removed body i = of_zero token_rules i.kept_atoms i.removed_atoms body i.instance
 token_alone k a (suc zero) kept removed body i =
     let one = of_first token_rule [] i.kept_atoms i.removed_atoms body i.instance in
@@ -334,7 +334,7 @@ token_alone k a (suc zero) kept removed body i =
 token_alone k a (suc (suc n)) kept removed body i = of_none (suc n) i.kept_atoms i.removed_atoms body i.instance
 
 -- each instance over both has the token's label
-token_partner : (r : ℕ) (kept removed : List ℕ) (body : List (Fact ℕ)) → Labelled (Instances token_rules) ((1, of 1 1) ∷ (2, token) ∷ []) r kept removed body → among (kept ++ removed) 2 ≡ true
+token_partner : (r : ℕ) (kept removed : List ℕ) (body : List (Atom ℕ)) → Labelled (Instances token_rules) ((1, of 1 1) ∷ (2, token) ∷ []) r kept removed body → among (kept ++ removed) 2 ≡ true
 token_partner zero kept removed body i = absurd (of_zero token_rules i.kept_atoms i.removed_atoms body i.instance)
 token_partner (suc zero) kept removed body i =
     let one = of_first token_rule [] i.kept_atoms i.removed_atoms body i.instance in
@@ -347,7 +347,7 @@ token_done : Final (Instances token_rules) ((2, token) ∷ (3, of 2 1) ∷ [])
 token_done zero kept removed body i = of_zero token_rules i.kept_atoms i.removed_atoms body i.instance
 token_done (suc zero) kept removed body i =
     let one = of_first token_rule [] i.kept_atoms i.removed_atoms body i.instance in
-    let wanted : Fact ℕ = record { name = 1; args = one.valuation 0 ∷ [] } in
+    let wanted : Atom ℕ = record { name = 1; args = one.valuation 0 ∷ [] } in
     let at = carry_one ((2, token) ∷ (3, of 2 1) ∷ []) removed i.removed_atoms wanted one.removed_are i.removed_there in
     let same : of 2 1 ≡ wanted = (second_atom 2 token 3 (of 2 1) at.0 wanted (other_name token wanted (λ e. (cc))) at.2).1 in
     other_name (of 2 1) wanted (λ e. (cc)) same
@@ -355,7 +355,7 @@ token_done (suc (suc n)) kept removed body i = of_none (suc n) i.kept_atoms i.re
 
 pub token_ends : EndsIn One token_rules token_log ((2, token) ∷ [])
 token_ends = (
-  record { goals = Ended ∷ Ended ∷ Active 2 ∷ Waiting (of 2 1) ∷ []; store = (2, token) ∷ []; next = 3 },
+  record { goals = Ended ∷ Ended ∷ Numbered 2 ∷ Plain (of 2 1) ∷ []; store = (2, token) ∷ []; next = 3 },
   (
     _,
     record { ticket = refl; after = refl },

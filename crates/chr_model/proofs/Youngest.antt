@@ -2,11 +2,11 @@
 -- second condition of a drop.
 use Rattle.std.proofs.Common.{◌≡◌, ◌≢◌, ℕ, ◌+◌, ◌<◌, ◌≤◌, ◌⊎◌, inl, inr, Bool, true, false, leb, ◌||◌, ◌==◌, if◌then◌else◌, List, [], ◌∷◌, ◌++◌, map, sym, ◌∙◌, ap, subst, arith, true-eqb, true≢false, refl}
 use Rattle.std.proofs.lemmas.Bool.Decides.{nat_tests}
-use Rattle.chr_value.specs.Terms.{Fact}
+use Rattle.chr_value.specs.Atoms.{Atom}
 use Rattle.chr_log.specs.declared.events.Version.TheVariants.{One, Two}
 use Rattle.chr_model.specs.Abstract.{Rules}
 use Rattle.chr_model.specs.Stores.{Store, atom_at, without, labels, among, Labelled}
-use Rattle.chr_model.specs.Goals.{Goal, Waiting, Active, Ended, State, goal_at, IsNumbered}
+use Rattle.chr_model.specs.Goals.{Goal, Plain, Numbered, Ended, State, goal_at, IsNumbered}
 use Rattle.chr_model.specs.Steps.{posted, activated, ended, replaced, MayDrop}
 use Rattle.chr_model.specs.Logs.{times}
 use Rattle.chr_model.specs.Searches.{IsYoungest, YoungestAreGoals, NoneYoungest}
@@ -37,24 +37,24 @@ older_done I s l g none r kept removed body i h =
     (y.0, y.1.there, (λ e. none r kept removed body (subst (IsYoungest (kept ++ removed)) e y.1) i), g r kept removed body i y.0 y.1)
 
 -- each step keeps that, where no goal is dropped that is some instance's youngest
-pub young_posted : (I : Rules) (s : State) (a : Fact ℕ) → YoungestAreGoals I s → YoungestAreGoals I (posted s a)
-young_posted I s a g r kept removed body i y h = numbered-more s s.goals (Waiting a ∷ []) s.store s.next y (g r kept removed body i y h)
+pub young_posted : (I : Rules) (s : State) (a : Atom ℕ) → YoungestAreGoals I s → YoungestAreGoals I (posted s a)
+young_posted I s a g r kept removed body i y h = numbered-more s s.goals (Plain a ∷ []) s.store s.next y (g r kept removed body i y h)
 
-pub young_dropped : (I : Rules) (s : State) (t l : ℕ) → goal_at s t ≡ Active l → NoneYoungest I s.store l → YoungestAreGoals I s → YoungestAreGoals I (ended s t)
+pub young_dropped : (I : Rules) (s : State) (t l : ℕ) → goal_at s t ≡ Numbered l → NoneYoungest I s.store l → YoungestAreGoals I s → YoungestAreGoals I (ended s t)
 young_dropped I s t l at none g r kept removed body i y h =
     numbered-ended s t l y at (λ e. none r kept removed body (subst (IsYoungest (kept ++ removed)) e h) i) (g r kept removed body i y h)
 
-pub young_simplified : (I : Rules) (s : State) (t l : ℕ) (gone : List ℕ) (added : List (Fact ℕ)) → goal_at s t ≡ Active l → among gone l ≡ true → YoungestAreGoals I s → YoungestAreGoals I (replaced (ended s t) gone added)
+pub young_simplified : (I : Rules) (s : State) (t l : ℕ) (gone : List ℕ) (added : List (Atom ℕ)) → goal_at s t ≡ Numbered l → among gone l ≡ true → YoungestAreGoals I s → YoungestAreGoals I (replaced (ended s t) gone added)
 young_simplified I s t l gone added at dead g r kept removed body i y h =
     let alive : among gone y ≡ false = Labelled-alive I s.store gone r kept removed body y h.there i in
-    numbered-more s (ended s t).goals (map Waiting added) (without gone s.store) s.next y
+    numbered-more s (ended s t).goals (map Plain added) (without gone s.store) s.next y
     (numbered-ended s t l y at (λ z. true≢false (sym dead ∙ ap (among gone) (sym z) ∙ alive)) (g r kept removed body (Labelled-left I s.store gone r kept removed body i) y h))
 
-pub young_propagated : (I : Rules) (s : State) (gone : List ℕ) (added : List (Fact ℕ)) → YoungestAreGoals I s → YoungestAreGoals I (replaced s gone added)
+pub young_propagated : (I : Rules) (s : State) (gone : List ℕ) (added : List (Atom ℕ)) → YoungestAreGoals I s → YoungestAreGoals I (replaced s gone added)
 young_propagated I s gone added g r kept removed body i y h =
-    numbered-more s s.goals (map Waiting added) (without gone s.store) s.next y (g r kept removed body (Labelled-left I s.store gone r kept removed body i) y h)
+    numbered-more s s.goals (map Plain added) (without gone s.store) s.next y (g r kept removed body (Labelled-left I s.store gone r kept removed body i) y h)
 
-pub young_activated : (I : Rules) (s : State) (t : ℕ) (a : Fact ℕ) → LabelsOnce s → goal_at s t ≡ Waiting a → YoungestAreGoals I s → YoungestAreGoals I (activated s t a)
+pub young_activated : (I : Rules) (s : State) (t : ℕ) (a : Atom ℕ) → LabelsOnce s → goal_at s t ≡ Plain a → YoungestAreGoals I s → YoungestAreGoals I (activated s t a)
 young_activated I s t a few at g r kept removed body i y h =
     let there = Labelled-there I (s.store ++ (s.next, a) ∷ []) r kept removed body y h.there i in
     elim (s.next == y) as (λ b. (s.next == y ≡ b) → IsNumbered (activated s t a) y) [

@@ -1,13 +1,13 @@
 -- The instances of rules over a store.
 use Rattle.std.specs.Prelude.{◌≡◌, ℕ, Bool, false, true, ◌||◌, ◌==◌, List, [], ◌∷◌, ◌++◌, map, Some}
-use Rattle.chr_value.specs.Terms.{Fact}
+use Rattle.chr_value.specs.Atoms.{Atom}
 pub use Rattle.chr_value.specs.Stores.{Store, atom_at, drop_label, without}
 use Rattle.chr_model.specs.Abstract.{Rules}
 
 abbrev pub labels : Store → List ℕ
 labels store = map (λ e. e.0) store
 
-abbrev pub atoms : Store → List (Fact ℕ)
+abbrev pub atoms : Store → List (Atom ℕ)
 atoms store = map (λ e. e.1) store
 
 -- whether a label is among these
@@ -21,7 +21,7 @@ Distinct [] = Unit {0}
 Distinct (x ∷ xs) = (among xs x ≡ false) × Distinct xs
 
 -- the labels are in the store and carry these atoms, one each
-abbrev pub Carry : Store → List ℕ → List (Fact ℕ) → Type 0
+abbrev pub Carry : Store → List ℕ → List (Atom ℕ) → Type 0
 Carry store [] [] = Unit {0}
 Carry store (l ∷ ls) (a ∷ as') = (atom_at store l ≡ Some a) × Carry store ls as'
 Carry store [] (a ∷ as') = ⊥
@@ -29,9 +29,9 @@ Carry store (l ∷ ls) [] = ⊥
 
 -- A labelled instance (Lam and Sulzmann): an instance with a label for each head, all distinct, all in the store,
 -- carrying the heads' atoms.
-pub record Labelled (I : Rules) (store : Store) (r : ℕ) (kept removed : List ℕ) (body : List (Fact ℕ)) : Type 0 where
-  pub kept_atoms : List (Fact ℕ)
-  pub removed_atoms : List (Fact ℕ)
+pub record Labelled (I : Rules) (store : Store) (r : ℕ) (kept removed : List ℕ) (body : List (Atom ℕ)) : Type 0 where
+  pub kept_atoms : List (Atom ℕ)
+  pub removed_atoms : List (Atom ℕ)
   pub instance : I r kept_atoms removed_atoms body
   pub distinct : Distinct (kept ++ removed)
   pub kept_there : Carry store kept kept_atoms
@@ -39,4 +39,4 @@ pub record Labelled (I : Rules) (store : Store) (r : ℕ) (kept removed : List �
 
 -- Final (Frühwirth): no rule applies to the store.
 abbrev pub Final : Rules → Store → Type 0
-Final I store = (r : ℕ) (kept removed : List ℕ) (body : List (Fact ℕ)) → Labelled I store r kept removed body → ⊥
+Final I store = (r : ℕ) (kept removed : List ℕ) (body : List (Atom ℕ)) → Labelled I store r kept removed body → ⊥

@@ -3,9 +3,9 @@ use Rattle.std.proofs.Common.{◌≡◌, ℕ, zero, suc, ◌+◌, ◌-◌, ◌<�
 use Rattle.std.specs.List.{prefix_len}
 use Rattle.std.specs.Option.{option_map}
 use Rattle.std.proofs.lemmas.Bool.Decides.{nat_tests}
-use Rattle.chr_rule.specs.Rules.{Shape}
+use Rattle.chr_rule.specs.Rules.{RuleAtom}
 use Rattle.chr_rule.specs.Parts.{argument, shape}
-use Rattle.chr_rule.specs.declared.pattern.Pattern.{Pattern}
+use Rattle.chr_rule.specs.declared.rule_atom.RuleAtom.{RuleAtom as CodeRuleAtom}
 use Rattle.chr_plan.specs.Orders.{head_at, is_known, key_in}
 use Rattle.chr_plan.specs.Plans.{PlanList, order_in, plan_at}
 use Rattle.chr_plan.specs.declared.order.Step.{Step}
@@ -56,7 +56,7 @@ pub position-map : {A B : Type 0} (f : A → B) (p : B → Bool) (xs : List A) �
 position-map f p xs = simp (prefix_len-map f (λ y. not (p y)) xs, length-map)
 
 -- a head by its number, from 1
-pub head_from : (heads : List (Shape ℕ)) (n : ℕ) → 0 < n → head_at heads n ≡ slice_get heads (n - 1)
+pub head_from : (heads : List (RuleAtom ℕ)) (n : ℕ) → 0 < n → head_at heads n ≡ slice_get heads (n - 1)
 head_from heads zero h = absurd (omega arith)
 head_from heads (suc n) h = ap (slice_get heads) (omega arith)
 
@@ -66,16 +66,16 @@ got f xs i None t e = got_none f xs i t
 got f xs i (Some x) t e = got_some f xs i x.now t e
 
 -- a key by the index of its place
-pub key_found : (f : ℕ → Bool) (pattern : Pattern) (head : Option (Shape ℕ)) (found : Option ℕ) → Some (shape pattern) ≡ head → found ≡ position (λ t. is_known f (argument t)) pattern.terms.items → option_map (λ i. i + 1) found ≡ key_in f head
+pub key_found : (f : ℕ → Bool) (pattern : CodeRuleAtom) (head : Option (RuleAtom ℕ)) (found : Option ℕ) → Some (shape pattern) ≡ head → found ≡ position (λ t. is_known f (argument t)) pattern.terms.items → option_map (λ i. i + 1) found ≡ key_in f head
 key_found f pattern head found h e = ap (option_map (λ i. i + 1)) (e ∙ sym (position-map argument (is_known f) pattern.terms.items)) ∙ ap (key_in f) h
 
 -- a head behind the kept ones
-pub head_behind : (kept removed : List (Shape ℕ)) (ks rs : List Pattern) (n m : ℕ) (r : Option (Bor Pattern)) → map shape ks ≡ kept → map shape rs ≡ removed → m ≡ n → 0 < n → length ks ≤ m - 1 → is_some r ≡ ltb (m - 1 - length ks) (length rs) → IfSome r (λ x. x.now ≡ slice_index_or rs (m - 1 - length ks) x.now)
+pub head_behind : (kept removed : List (RuleAtom ℕ)) (ks rs : List CodeRuleAtom) (n m : ℕ) (r : Option (Bor CodeRuleAtom)) → map shape ks ≡ kept → map shape rs ≡ removed → m ≡ n → 0 < n → length ks ≤ m - 1 → is_some r ≡ ltb (m - 1 - length ks) (length rs) → IfSome r (λ x. x.now ≡ slice_index_or rs (m - 1 - length ks) x.now)
     → option_map (λ h. shape h.now) r ≡ head_at (kept ++ removed) n
 head_behind kept removed ks rs n m r hk hr e p b t i =
     let same : length ks ≡ length kept = sym (length-map ks shape) ∙ ap length hk in
     got shape rs (m - 1 - length ks) r t i
-    ∙ ap (λ (z : List (Shape ℕ)). slice_get z (m - 1 - length ks)) hr
+    ∙ ap (λ (z : List (RuleAtom ℕ)). slice_get z (m - 1 - length ks)) hr
     ∙ ap (slice_get removed) (let q : m - 1 - length ks ≡ n - 1 - length kept = omega arith in q)
     ∙ sym (get_behind kept removed (n - 1) (omega arith))
     ∙ sym (head_from (kept ++ removed) n p)

@@ -3,12 +3,12 @@ use Rattle.std.proofs.Common.{◌≡◌, ℕ, ◌+◌, ◌≤◌, Bool, true, fa
 use Rattle.std.proofs.lemmas.Bool.Decides.{nat_tests}
 use Rattle.std.specs.Option.{unwrap_or}
 use Rattle.std.proofs.lemmas.Bool.{false≢true}
-use Rattle.chr_rule.specs.Rules.{Shape}
+use Rattle.chr_rule.specs.Rules.{RuleAtom}
 use Rattle.chr_plan.specs.Orders.{head_at, is_bound, key_in, key_of, is_named, IsOpen, IsNext}
 use Rattle.chr_plan.specs.declared.order.Step.{Step}
 
 -- the least open head so far, without a key
-pub record IsFirst (heads : List (Shape ℕ)) (before : List Step) (i : ℕ) (s : Step) : Type 0 where
+pub record IsFirst (heads : List (RuleAtom ℕ)) (before : List Step) (i : ℕ) (s : Step) : Type 0 where
   pub open_head : IsOpen heads before s.head
   pub within : s.head ≤ i
   pub none : s.key ≡ None
@@ -16,15 +16,15 @@ pub record IsFirst (heads : List (Shape ℕ)) (before : List Step) (i : ℕ) (s 
   pub least : (j : ℕ) → IsOpen heads before j → s.head ≤ j
 
 -- the heads up to i have no key where they are open, and this is the first of them
-pub record Passed (heads : List (Shape ℕ)) (before : List Step) (i : ℕ) (first : Option Step) : Type 0 where
+pub record Passed (heads : List (RuleAtom ℕ)) (before : List Step) (i : ℕ) (first : Option Step) : Type 0 where
   pub unkeyed : (j : ℕ) → IsOpen heads before j → j ≤ i → key_of heads before j ≡ None
   pub first_is : MatchOption first ((j : ℕ) → IsOpen heads before j → j ≤ i → ⊥) (IsFirst heads before i)
 
 -- the same key, wherever the bound variables are read
-pub same_key : (heads : List (Shape ℕ)) (before : List Step) (f : ℕ → Bool) (j : ℕ) → ((x : ℕ) → f x ≡ is_bound heads before x) → key_in f (head_at heads j) ≡ key_of heads before j
+pub same_key : (heads : List (RuleAtom ℕ)) (before : List Step) (f : ℕ → Bool) (j : ℕ) → ((x : ℕ) → f x ≡ is_bound heads before x) → key_in f (head_at heads j) ≡ key_of heads before j
 same_key heads before f j h = let e : f ≡ is_bound heads before = λ i x. h x i in ap (λ (g : ℕ → Bool). key_in g (head_at heads j)) e
 
-pub passed_start : (heads : List (Shape ℕ)) (before : List Step) → Passed heads before 0 None
+pub passed_start : (heads : List (RuleAtom ℕ)) (before : List Step) → Passed heads before 0 None
 passed_start heads before = record {
   unkeyed = λ j o h. absurd (let f : 1 ≤ j = o.from in omega arith);
   first_is = λ j o h. let f : 1 ≤ j = o.from in omega arith;
@@ -33,7 +33,7 @@ passed_start heads before = record {
 up_or_here : (i j : ℕ) → j ≤ i + 1 → (j ≡ i + 1 → ⊥) → j ≤ i
 up_or_here i j h n = omega arith
 
-pub passed_named : (heads : List (Shape ℕ)) (before : List Step) (i : ℕ) (first : Option Step) → is_named before (i + 1) ≡ true → Passed heads before i first → Passed heads before (i + 1) first
+pub passed_named : (heads : List (RuleAtom ℕ)) (before : List Step) (i : ℕ) (first : Option Step) → is_named before (i + 1) ≡ true → Passed heads before i first → Passed heads before (i + 1) first
 passed_named heads before i first n h = record { unkeyed = λ j o l. h.unkeyed j o (below j o l); first_is = firsts first h.first_is }
   where
     below : (j : ℕ) → IsOpen heads before j → j ≤ i + 1 → j ≤ i
@@ -43,7 +43,7 @@ passed_named heads before i first n h = record { unkeyed = λ j o l. h.unkeyed j
     firsts None k = λ j o l. k j o (below j o l)
     firsts (Some s) k = record { open_head = k.open_head; within = (let w : s.head ≤ i = k.within in omega arith); none = k.none; key = k.key; least = k.least }
 
-pub passed_open : (heads : List (Shape ℕ)) (before : List Step) (i : ℕ) (first : Option Step) (s : Step) → s.head ≡ i + 1 → IsOpen heads before s.head → s.key ≡ key_of heads before s.head → s.key ≡ None → Passed heads before i first → Passed heads before (i + 1) (Some (unwrap_or first s))
+pub passed_open : (heads : List (RuleAtom ℕ)) (before : List Step) (i : ℕ) (first : Option Step) (s : Step) → s.head ≡ i + 1 → IsOpen heads before s.head → s.key ≡ key_of heads before s.head → s.key ≡ None → Passed heads before i first → Passed heads before (i + 1) (Some (unwrap_or first s))
 passed_open heads before i first s e o k n h = record { unkeyed = unkeyed; first_is = firsts first h.first_is }
   where
     unkeyed : (j : ℕ) → IsOpen heads before j → j ≤ i + 1 → key_of heads before j ≡ None
@@ -59,7 +59,7 @@ passed_open heads before i first s e o k n h = record { unkeyed = unkeyed; first
         least j p c = omega arith
     firsts (Some f) m = record { open_head = m.open_head; within = (let w : f.head ≤ i = m.within in omega arith); none = m.none; key = m.key; least = m.least }
 
-pub passed_found : (heads : List (Shape ℕ)) (before : List Step) (i : ℕ) (first : Option Step) (s : Step) → s.head ≡ i + 1 → IsOpen heads before s.head → s.key ≡ key_of heads before s.head → is_some s.key ≡ true → Passed heads before i first → IsNext heads before s
+pub passed_found : (heads : List (RuleAtom ℕ)) (before : List Step) (i : ℕ) (first : Option Step) (s : Step) → s.head ≡ i + 1 → IsOpen heads before s.head → s.key ≡ key_of heads before s.head → is_some s.key ≡ true → Passed heads before i first → IsNext heads before s
 passed_found heads before i first s e o k t h = record {
   open_head = o;
   key = k;
@@ -70,7 +70,7 @@ passed_found heads before i first s e o k t h = record {
     behind : (j : ℕ) → (j ≤ i → ⊥) → s.head ≤ j
     behind j c = omega arith
 
-pub passed_end : (heads : List (Shape ℕ)) (before : List Step) (first : Option Step) → Passed heads before (length heads) first → MatchOption first ((j : ℕ) → IsOpen heads before j → ⊥) (IsNext heads before)
+pub passed_end : (heads : List (RuleAtom ℕ)) (before : List Step) (first : Option Step) → Passed heads before (length heads) first → MatchOption first ((j : ℕ) → IsOpen heads before j → ⊥) (IsNext heads before)
 passed_end heads before first h = ends first h.first_is
   where
     ends : (first : Option Step) → MatchOption first ((j : ℕ) → IsOpen heads before j → j ≤ length heads → ⊥) (IsFirst heads before (length heads)) → MatchOption first ((j : ℕ) → IsOpen heads before j → ⊥) (IsNext heads before)

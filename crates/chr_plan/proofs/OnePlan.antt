@@ -1,6 +1,6 @@
 -- The definition of a plan leaves no choice.
 use Rattle.std.proofs.Common.{◌≡◌, ℕ, ◌≤◌, Bool, true, false, List, [], ◌∷◌, ◌++◌, length, Option, Some, None, is_some, refl, sym, ap, ap₂, subst, ◌∙◌, arith, append_assoc, zero, suc, take, slice_get}
-use Rattle.chr_rule.specs.Rules.{Shape}
+use Rattle.chr_rule.specs.Rules.{RuleAtom}
 use Rattle.chr_plan.specs.Orders.{key_of, is_named, IsOpen, IsNext, EachNext, IsPlan}
 use Rattle.chr_plan.specs.declared.order.Step.{Step}
 use Rattle.chr_plan.proofs.Planning.{start}
@@ -14,7 +14,7 @@ same_kind false false f g = refl
 least_both : (a b : ℕ) → a ≤ b → b ≤ a → a ≡ b
 least_both a b h k = omega arith
 
-next_same : (heads : List (Shape ℕ)) (before : List Step) (s t : Step) → IsNext heads before s → IsNext heads before t → s ≡ t
+next_same : (heads : List (RuleAtom ℕ)) (before : List Step) (s t : Step) → IsNext heads before s → IsNext heads before t → s ≡ t
 next_same heads before s t m n =
     let kind : is_some s.key ≡ is_some t.key = same_kind (is_some s.key) (is_some t.key)
     (λ e. n.keyed s.head m.open_head (sym (ap is_some m.key) ∙ e)) (λ e. m.keyed t.head n.open_head (sym (ap is_some n.key) ∙ e)) in
@@ -27,7 +27,7 @@ append-nil : (xs : List Step) → xs ++ [] ≡ xs
 append-nil [] = refl
 append-nil (x ∷ xs) = ap (λ (z : List Step). x ∷ z) (append-nil xs)
 
-each_same : (heads : List (Shape ℕ)) (before xs ys : List Step) → EachNext heads before xs → EachNext heads before ys → ((j : ℕ) → IsOpen heads (before ++ xs) j → ⊥) → ((j : ℕ) → IsOpen heads (before ++ ys) j → ⊥) → xs ≡ ys
+each_same : (heads : List (RuleAtom ℕ)) (before xs ys : List Step) → EachNext heads before xs → EachNext heads before ys → ((j : ℕ) → IsOpen heads (before ++ xs) j → ⊥) → ((j : ℕ) → IsOpen heads (before ++ ys) j → ⊥) → xs ≡ ys
 each_same heads before [] [] m n a b = refl
 each_same heads before [] (y ∷ ys) m n a b = absurd (a y.head (subst (λ (z : List Step). IsOpen heads z y.head) (sym (append-nil before)) n.0.open_head))
 each_same heads before (x ∷ xs) [] m n a b = absurd (b x.head (subst (λ (z : List Step). IsOpen heads z x.head) (sym (append-nil before)) m.0.open_head))
@@ -38,20 +38,20 @@ each_same heads before (x ∷ xs) (y ∷ ys) m n a b =
     (λ j o. b j (subst (λ (z : List Step). IsOpen heads z j) (append_assoc before (x ∷ []) ys ∙ ap (λ (z : Step). before ++ z ∷ ys) (sym same)) o)) in
     ap₂ (λ (z : Step) (zs : List Step). z ∷ zs) (sym same) rest
 
-pub one_plan_fact : (heads : List (Shape ℕ)) (h : ℕ) (p q : List Step) → IsPlan heads h p → IsPlan heads h q → p ≡ q
+pub one_plan_fact : (heads : List (RuleAtom ℕ)) (h : ℕ) (p q : List Step) → IsPlan heads h p → IsPlan heads h q → p ≡ q
 one_plan_fact heads h p q m n =
     let rest : m.rest ≡ n.rest = each_same heads (start h ∷ []) m.rest n.rest m.next n.next
     (λ j o. m.all j (subst (λ (z : List Step). IsOpen heads z j) (sym m.first) o)) (λ j o. n.all j (subst (λ (z : List Step). IsOpen heads z j) (sym n.first) o)) in
     m.first ∙ ap (λ (z : List Step). start h ∷ z) rest ∙ sym n.first
 
-pub names_each_fact : (heads : List (Shape ℕ)) (h : ℕ) (p : List Step) → IsPlan heads h p → (j : ℕ) → 1 ≤ j → j ≤ length heads → is_named p j ≡ true
+pub names_each_fact : (heads : List (RuleAtom ℕ)) (h : ℕ) (p : List Step) → IsPlan heads h p → (j : ℕ) → 1 ≤ j → j ≤ length heads → is_named p j ≡ true
 names_each_fact heads h p m j f t =
     elim (is_named p j) as (λ b. (is_named p j ≡ b) → b ≡ true) [
       | true ↦ λ e. refl
       | false ↦ λ e. absurd (m.all j (record { from = f; to = t; unnamed = e }))
     ] refl
 
-next_at : (heads : List (Shape ℕ)) (before xs : List Step) → EachNext heads before xs → (i : ℕ) (s : Step) → slice_get xs i ≡ Some s → IsNext heads (before ++ take i xs) s
+next_at : (heads : List (RuleAtom ℕ)) (before xs : List Step) → EachNext heads before xs → (i : ℕ) (s : Step) → slice_get xs i ≡ Some s → IsNext heads (before ++ take i xs) s
 next_at heads before [] e i s g = let n : None ≡ Some s = g in absurd (cc)
 next_at heads before (x ∷ xs) e zero s g =
     let same : x ≡ s = (let q : Some x ≡ Some s = g in cc) in
@@ -59,7 +59,7 @@ next_at heads before (x ∷ xs) e zero s g =
 next_at heads before (x ∷ xs) e (suc i) s g =
     subst (λ (z : List Step). IsNext heads z s) (append_assoc before (x ∷ []) (take i xs)) (next_at heads (before ++ x ∷ []) xs e.1 i s g)
 
-pub each_next_fact : (heads : List (Shape ℕ)) (h : ℕ) (p : List Step) → IsPlan heads h p → (i : ℕ) (s : Step) → slice_get p (suc i) ≡ Some s → IsNext heads (take (suc i) p) s
+pub each_next_fact : (heads : List (RuleAtom ℕ)) (h : ℕ) (p : List Step) → IsPlan heads h p → (i : ℕ) (s : Step) → slice_get p (suc i) ≡ Some s → IsNext heads (take (suc i) p) s
 each_next_fact heads h p m i s g =
     let there : slice_get m.rest i ≡ Some s = ap (λ (z : List Step). slice_get z (suc i)) (sym m.first) ∙ g in
     subst (λ (z : List Step). IsNext heads (take (suc i) z) s) (sym m.first) (next_at heads (start h ∷ []) m.rest m.next i s there)

@@ -3,7 +3,7 @@ use Rattle.std.proofs.Common.{◌≡◌, ℕ, zero, suc, ◌+◌, ◌<◌, ◌�
 use Rattle.std.specs.List.{list_any}
 use Rattle.std.proofs.lemmas.Bool.Decides.{nat_tests}
 use Rattle.std.proofs.lemmas.List.Folds.{list_any-append}
-use Rattle.chr_rule.specs.Rules.{Shape}
+use Rattle.chr_rule.specs.Rules.{RuleAtom}
 use Rattle.chr_plan.specs.Orders.{head_at, binds, is_bound, is_named, IsOpen, IsNext, EachNext, IsPlan}
 use Rattle.chr_plan.specs.declared.order.Step.{Step}
 
@@ -65,14 +65,14 @@ opens_all (suc n) = omega (arith, opens_all n)
 abbrev pub start : ℕ → Step
 start h = record { head = h; key = None }
 
-pub record Planning (heads : List (Shape ℕ)) (h : ℕ) (bound : ℕ → Bool) (order : List Step) : Type 0 where
+pub record Planning (heads : List (RuleAtom ℕ)) (h : ℕ) (bound : ℕ → Bool) (order : List Step) : Type 0 where
   pub rest : List Step
   pub first : order ≡ start h ∷ rest
   pub next : EachNext heads (start h ∷ []) rest
   pub count : length order + opens (length heads) order ≡ length heads
   pub agrees : (x : ℕ) → bound x ≡ is_bound heads order x
 
-each_push : (heads : List (Shape ℕ)) (before steps : List Step) (s : Step) → EachNext heads before steps → IsNext heads (before ++ steps) s → EachNext heads before (steps ++ s ∷ [])
+each_push : (heads : List (RuleAtom ℕ)) (before steps : List Step) (s : Step) → EachNext heads before steps → IsNext heads (before ++ steps) s → EachNext heads before (steps ++ s ∷ [])
 each_push heads before [] s e n = (subst (λ (b : List Step). IsNext heads b s) (append-nil before) n, tt)
   where
     append-nil : (xs : List Step) → xs ++ [] ≡ xs
@@ -80,7 +80,7 @@ each_push heads before [] s e n = (subst (λ (b : List Step). IsNext heads b s) 
     append-nil (x ∷ xs) = ap (λ (z : List Step). x ∷ z) (append-nil xs)
 each_push heads before (t ∷ steps) s e n = (e.0, each_push heads (before ++ t ∷ []) steps s e.1 (subst (λ (b : List Step). IsNext heads b s) (sym (append_assoc before (t ∷ []) steps)) n))
 
-pub planning_start : (heads : List (Shape ℕ)) (h : ℕ) (bound : ℕ → Bool) → 1 ≤ h → h ≤ length heads → ((x : ℕ) → bound x ≡ (binds (head_at heads h) x || false)) → Planning heads h bound (start h ∷ [])
+pub planning_start : (heads : List (RuleAtom ℕ)) (h : ℕ) (bound : ℕ → Bool) → 1 ≤ h → h ≤ length heads → ((x : ℕ) → bound x ≡ (binds (head_at heads h) x || false)) → Planning heads h bound (start h ∷ [])
 planning_start heads h bound f t b = record {
   rest = [];
   first = refl;
@@ -89,7 +89,7 @@ planning_start heads h bound f t b = record {
   agrees = b;
 }
 
-pub planning_push : (heads : List (Shape ℕ)) (h : ℕ) (old new : ℕ → Bool) (order : List Step) (s : Step) → Planning heads h old order → IsNext heads order s → ((x : ℕ) → new x ≡ (binds (head_at heads s.head) x || old x)) → Planning heads h new (order ++ s ∷ [])
+pub planning_push : (heads : List (RuleAtom ℕ)) (h : ℕ) (old new : ℕ → Bool) (order : List Step) (s : Step) → Planning heads h old order → IsNext heads order s → ((x : ℕ) → new x ≡ (binds (head_at heads s.head) x || old x)) → Planning heads h new (order ++ s ∷ [])
 planning_push heads h old new order s p n b = record {
   rest = p.rest ++ s ∷ [];
   first = ap (λ (z : List Step). z ++ s ∷ []) p.first;
@@ -98,8 +98,8 @@ planning_push heads h old new order s p n b = record {
   agrees = λ x. b x ∙ ap (λ v. binds (head_at heads s.head) x || v) (p.agrees x) ∙ sym (any_push (λ t. binds (head_at heads t.head) x) order s);
 }
 
-pub planning_room : (heads : List (Shape ℕ)) (h : ℕ) (old : ℕ → Bool) (order : List Step) (s : Step) → Planning heads h old order → IsNext heads order s → length order < length heads
+pub planning_room : (heads : List (RuleAtom ℕ)) (h : ℕ) (old : ℕ → Bool) (order : List Step) (s : Step) → Planning heads h old order → IsNext heads order s → length order < length heads
 planning_room heads h old order s p n = let one = opens_push (length heads) order s n.open_head.unnamed n.open_head.from n.open_head.to in let c = p.count in omega (arith, one, c)
 
-pub planning_end : (heads : List (Shape ℕ)) (h : ℕ) (old : ℕ → Bool) (order : List Step) → Planning heads h old order → ((j : ℕ) → IsOpen heads order j → ⊥) → IsPlan heads h order
+pub planning_end : (heads : List (RuleAtom ℕ)) (h : ℕ) (old : ℕ → Bool) (order : List Step) → Planning heads h old order → ((j : ℕ) → IsOpen heads order j → ⊥) → IsPlan heads h order
 planning_end heads h old order p a = record { rest = p.rest; first = p.first; next = p.next; all = a }

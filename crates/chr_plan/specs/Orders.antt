@@ -2,70 +2,70 @@
 use Rattle.std.specs.Prelude.{◌≡◌, ℕ, zero, suc, ◌+◌, ◌≤◌, Bool, true, false, ◌==◌, is_some, position, List, [], ◌∷◌, ◌++◌, length, Option, Some, None, slice_get, IsSome}
 use Rattle.std.specs.List.{list_any}
 use Rattle.std.specs.Option.{option_map}
-use Rattle.chr_rule.specs.Rules.{Argument, Var, Given, Shape, Simpagation}
+use Rattle.chr_rule.specs.Rules.{Term, Var, Given, RuleAtom, Simpagation}
 use Rattle.chr_plan.specs.declared.order.Step.{Step}
 
 -- the heads of a rule, kept ones first
-abbrev pub heads_of : Simpagation ℕ → List (Shape ℕ)
+abbrev pub heads_of : Simpagation ℕ → List (RuleAtom ℕ)
 heads_of rule = rule.kept ++ rule.removed
 
 -- the head of a number, from 1
-abbrev pub head_at : List (Shape ℕ) → ℕ → Option (Shape ℕ)
+abbrev pub head_at : List (RuleAtom ℕ) → ℕ → Option (RuleAtom ℕ)
 head_at heads zero = None
 head_at heads (suc i) = slice_get heads i
 
 -- whether the variable is among the arguments
-abbrev pub is_variable : ℕ → Argument ℕ → Bool
+abbrev pub is_variable : ℕ → Term ℕ → Bool
 is_variable x (Var y) = x == y
 is_variable x (Given t) = false
 
-abbrev pub has_variable : ℕ → List (Argument ℕ) → Bool
+abbrev pub has_variable : ℕ → List (Term ℕ) → Bool
 has_variable x args = list_any (is_variable x) args
 
-abbrev pub binds : Option (Shape ℕ) → ℕ → Bool
+abbrev pub binds : Option (RuleAtom ℕ) → ℕ → Bool
 binds None x = false
 binds (Some head) x = has_variable x head.args
 
 -- a variable is bound behind these steps: one of their heads has it
-abbrev pub is_bound : List (Shape ℕ) → List Step → ℕ → Bool
+abbrev pub is_bound : List (RuleAtom ℕ) → List Step → ℕ → Bool
 is_bound heads before x = list_any (λ s. binds (head_at heads s.head) x) before
 
 -- an argument is known: a number or a symbol as it is written, or a bound variable
-abbrev pub is_known : (ℕ → Bool) → Argument ℕ → Bool
+abbrev pub is_known : (ℕ → Bool) → Term ℕ → Bool
 is_known bound (Var x) = bound x
 is_known bound (Given t) = true
 
-abbrev pub key_in : (ℕ → Bool) → Option (Shape ℕ) → Option ℕ
+abbrev pub key_in : (ℕ → Bool) → Option (RuleAtom ℕ) → Option ℕ
 key_in bound None = None
 key_in bound (Some head) = option_map (λ i. i + 1) (position (is_known bound) head.args)
 
 -- the key of a head behind these steps: its first place, from 1, whose argument is known
-abbrev pub key_of : List (Shape ℕ) → List Step → ℕ → Option ℕ
+abbrev pub key_of : List (RuleAtom ℕ) → List Step → ℕ → Option ℕ
 key_of heads before j = key_in (is_bound heads before) (head_at heads j)
 
 abbrev pub is_named : List Step → ℕ → Bool
 is_named before j = list_any (λ s. s.head == j) before
 
 -- a head that no step names yet
-pub record IsOpen (heads : List (Shape ℕ)) (before : List Step) (j : ℕ) : Type 0 where
+pub record IsOpen (heads : List (RuleAtom ℕ)) (before : List Step) (j : ℕ) : Type 0 where
   pub from : 1 ≤ j
   pub to : j ≤ length heads
   pub unnamed : is_named before j ≡ false
 
 -- the next step: an open head with its key, one that has a key before those that have none, and then the least number
-pub record IsNext (heads : List (Shape ℕ)) (before : List Step) (step : Step) : Type 0 where
+pub record IsNext (heads : List (RuleAtom ℕ)) (before : List Step) (step : Step) : Type 0 where
   pub open_head : IsOpen heads before step.head
   pub key : step.key ≡ key_of heads before step.head
   pub keyed : (j : ℕ) → IsOpen heads before j → IsSome (key_of heads before j) → IsSome step.key
   pub least : (j : ℕ) → IsOpen heads before j → is_some (key_of heads before j) ≡ is_some step.key → step.head ≤ j
 
 -- each step is the next behind those before it
-abbrev pub EachNext : List (Shape ℕ) → List Step → List Step → Type 0
+abbrev pub EachNext : List (RuleAtom ℕ) → List Step → List Step → Type 0
 EachNext heads before [] = Unit {0}
 EachNext heads before (s ∷ steps) = IsNext heads before s × EachNext heads (before ++ s ∷ []) steps
 
 -- the plan of a head: that head without a key, then each time the next, until no head is open
-pub record IsPlan (heads : List (Shape ℕ)) (h : ℕ) (order : List Step) : Type 0 where
+pub record IsPlan (heads : List (RuleAtom ℕ)) (h : ℕ) (order : List Step) : Type 0 where
   pub rest : List Step
   pub first : order ≡ record { head = h; key = None } ∷ rest
   pub next : EachNext heads (record { head = h; key = None } ∷ []) rest

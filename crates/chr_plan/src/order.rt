@@ -5,7 +5,7 @@ ghost use Rattle.chr_rule.specs.Parts.{argument, shape};
 ghost use Rattle.chr_plan.specs.Orders.{heads_of, head_at, is_variable, has_variable, binds, is_bound, is_known, key_in, is_named, IsOpen, IsNext, IsPlan};
 
 use arrayvec::ArrayVec;
-use chr_rule::pattern::{Pattern, Term};
+use chr_rule::rule_atom::{RuleAtom, Term};
 use chr_rule::rule::Rule;
 use std::alloc::Allocator;
 
@@ -29,10 +29,10 @@ impl Default for Step {
 pub type Order = ArrayVec<Step, 6>;
 
 /// For each number of a variable, whether it is bound.
-type Bound = [bool; 256];
+type BoundVariables = [bool; 256];
 
 /// No variable is bound.
-fn nothing_bound() -> Bound
+fn nothing_bound() -> BoundVariables
     ensures { (x : ℕ) → slice_index_or result x false ≡ false }
 {
     [false; 256]
@@ -47,7 +47,7 @@ pub(crate) fn head_count<A: Allocator>(rule: &Rule<A>) -> usize
 }
 
 /// The head of a number.
-pub(crate) fn head<A: Allocator>(rule: &Rule<A>, number: u8) -> Option<&Pattern>
+pub(crate) fn head<A: Allocator>(rule: &Rule<A>, number: u8) -> Option<&RuleAtom>
     ensures { option_map (λ h. shape h.now) result ≡ head_at (heads_of rule.now) number }
 {
     if number == 0 {
@@ -70,7 +70,7 @@ fn is_named(steps: &[Step], number: u8) -> bool
 }
 
 /// Whether a term is a value or a bound variable.
-fn is_known(term: &Term, bound: &Bound) -> bool
+fn is_known(term: &Term, bound: &BoundVariables) -> bool
     ensures { result ≡ is_known (λ x. slice_index_or bound.now x false) (argument term.now) }
 {
     match term {
@@ -80,14 +80,14 @@ fn is_known(term: &Term, bound: &Bound) -> bool
 }
 
 /// The index of the first term that is known.
-fn first_known(terms: &[Term], bound: &Bound) -> Option<usize>
+fn first_known(terms: &[Term], bound: &BoundVariables) -> Option<usize>
     ensures { result ≡ position (λ t. is_known (λ x. slice_index_or bound.now x false) (argument t)) terms.now }
 {
     terms.iter().position(|term| is_known(term, bound))
 }
 
 /// The key of a head.
-fn key<A: Allocator>(rule: &Rule<A>, number: u8, bound: &Bound) -> Option<u8>
+fn key<A: Allocator>(rule: &Rule<A>, number: u8, bound: &BoundVariables) -> Option<u8>
     ensures { result ≡ key_in (λ x. slice_index_or bound.now x false) (head_at (heads_of rule.now) number) }
 {
     let pattern = head(rule, number)?;
@@ -96,7 +96,7 @@ fn key<A: Allocator>(rule: &Rule<A>, number: u8, bound: &Bound) -> Option<u8>
 }
 
 /// Binds the variables of these terms.
-fn bind_terms(terms: &[Term], bound: &mut Bound)
+fn bind_terms(terms: &[Term], bound: &mut BoundVariables)
     ensures { (x : ℕ) → slice_index_or bound.new x false ≡ (has_variable x (map argument terms.now) || slice_index_or bound.old x false) }
 {
     for term in terms {
@@ -107,7 +107,7 @@ fn bind_terms(terms: &[Term], bound: &mut Bound)
 }
 
 /// Binds the variables of a head.
-fn bind<A: Allocator>(rule: &Rule<A>, number: u8, bound: &mut Bound)
+fn bind<A: Allocator>(rule: &Rule<A>, number: u8, bound: &mut BoundVariables)
     ensures { (x : ℕ) → slice_index_or bound.new x false ≡ (binds (head_at (heads_of rule.now) number) x || slice_index_or bound.old x false) }
 {
     if let Some(pattern) = head(rule, number) {
@@ -116,7 +116,7 @@ fn bind<A: Allocator>(rule: &Rule<A>, number: u8, bound: &mut Bound)
 }
 
 /// The next step: the least open head with a key, else the least open head. None where no head is open.
-fn next_step<A: Allocator>(rule: &Rule<A>, before: &[Step], bound: &Bound) -> Option<Step>
+fn next_step<A: Allocator>(rule: &Rule<A>, before: &[Step], bound: &BoundVariables) -> Option<Step>
     requires { (x : ℕ) → slice_index_or bound.now x false ≡ is_bound (heads_of rule.now) before.now x }
     ensures step { MatchOption result ((j : ℕ) → IsOpen (heads_of rule.now) before.now j → ⊥) (IsNext (heads_of rule.now) before.now) }
     ensures few { length (heads_of rule.now) ≤ 6 }

@@ -1,7 +1,7 @@
 //! Refusals of a program and of its plans.
 use arrayvec::ArrayVec;
 use chr_plan::plans::Plans;
-use chr_rule::pattern::{Pattern, Term};
+use chr_rule::rule_atom::{RuleAtom, Term};
 use chr_rule::program::Program;
 use chr_rule::rule::Rule;
 use chr_value::names::Name;
@@ -17,7 +17,7 @@ fn rule_of<A: Allocator + Copy>(alloc: A) -> Result<Option<Rule<A>>, AllocError>
         let mut terms = ArrayVec::new();
         terms.push(Term::Var(0));
         let name = Name { number: 0 };
-        removed.push(Pattern { name, terms })?;
+        removed.push(RuleAtom { name, terms })?;
     }
     Ok(Rule::new(Vec::new(alloc), removed, Vec::new(alloc), Vec::new(alloc)))
 }

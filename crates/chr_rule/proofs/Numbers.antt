@@ -4,7 +4,7 @@ use Rattle.std.proofs.lemmas.Option.{slice_get-map, slice_get_read}
 use Rattle.std.proofs.lemmas.List.{map-append, get_or-append-add}
 use Rattle.std.specs.Prelude.{slice_get}
 use Rattle.std.specs.Option.{option_map}
-use Rattle.chr_rule.specs.Rules.{Shape, Simpagation, head_at, numbered}
+use Rattle.chr_rule.specs.Rules.{RuleAtom, Simpagation, head_at, numbered}
 
 before : (k : ℕ) → suc k - 1 ≡ k
 before k = omega arith
@@ -15,7 +15,7 @@ numbered_read f xs (suc k) x ne h e =
     slice_get-map f xs k ∙ ap (option_map f) (slice_get_read xs (length xs) k x refl (omega arith) (e ∙ ap (λ i. get_or xs i x) (before k)))
 
 -- a removed head, read from its own list
-pub head_removed : {X : Type 0} (f : X → Shape ℕ) (rule : Simpagation ℕ) (ks rs : List X) (n : ℕ) (x : X) → map f ks ≡ rule.kept → map f rs ≡ rule.removed → n ≢ 0 → length ks ≤ n - 1 → n ≤ length ks + length rs → x ≡ get_or rs (n - 1 - length ks) x → head_at rule n ≡ Some (f x)
+pub head_removed : {X : Type 0} (f : X → RuleAtom ℕ) (rule : Simpagation ℕ) (ks rs : List X) (n : ℕ) (x : X) → map f ks ≡ rule.kept → map f rs ≡ rule.removed → n ≢ 0 → length ks ≤ n - 1 → n ≤ length ks + length rs → x ≡ get_or rs (n - 1 - length ks) x → head_at rule n ≡ Some (f x)
 head_removed f rule ks rs zero x k r ne h l e = absurd (ne refl)
 head_removed f rule ks rs (suc j) x k r ne h l e =
     let at : j ≡ length ks + (j - length ks) = omega arith in

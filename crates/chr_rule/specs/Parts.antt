@@ -1,22 +1,22 @@
 -- What the parts of a rule say, wherever they lie in memory.
 use Rattle.std.specs.Prelude.{ℕ, map}
-use Rattle.chr_value.specs.Terms.{ground}
-use Rattle.chr_rule.specs.declared.pattern.Term.{Term}
-use Rattle.chr_rule.specs.declared.pattern.Term.TheVariants as terms
-use Rattle.chr_rule.specs.declared.pattern.Pattern.{Pattern}
+use Rattle.chr_value.specs.Atoms.{ground}
+use Rattle.chr_rule.specs.declared.rule_atom.Term.{Value as CodeTerm}
+use Rattle.chr_rule.specs.declared.rule_atom.Term.TheVariants as terms
+use Rattle.chr_rule.specs.declared.rule_atom.RuleAtom.{RuleAtom as CodeRuleAtom}
 use Rattle.chr_rule.specs.declared.expression.Expr.{Expr}
 use Rattle.chr_rule.specs.declared.expression.Expr.TheVariants as exprs
-use Rattle.chr_rule.specs.declared.expression.Comparison.{Comparison}
+use Rattle.chr_rule.specs.declared.expression.Comparison.{Comparison as CodeComparison}
 use Rattle.chr_rule.specs.declared.expression.Comparison.TheVariants as comparisons
-use Rattle.chr_rule.specs.declared.expression.BodyItem.{BodyItem}
+use Rattle.chr_rule.specs.declared.expression.BodyItem.{BodyItem as CodeBodyItem}
 use Rattle.chr_rule.specs.declared.expression.BodyItem.TheVariants as items
-use Rattle.chr_rule.specs.Rules.{Argument, Var, Given, Shape, Expression, Number, Variable, Operation, Test, Compared, Same, Differ, Member, Is, Add}
+use Rattle.chr_rule.specs.Rules.{Term, Var, Given, RuleAtom, Expression, Number, Variable, Operation, Comparison, Compared, Same, Differ, BodyItem, Is, Add}
 
-abbrev pub argument : Term → Argument ℕ
+abbrev pub argument : CodeTerm → Term ℕ
 argument (terms.Var x) = Var x
 argument (terms.Value v) = Given (ground v)
 
-abbrev pub shape : Pattern → Shape ℕ
+abbrev pub shape : CodeRuleAtom → RuleAtom ℕ
 shape p = record { name = p.name.number; args = map argument p.terms.items }
 
 abbrev pub expression : {Z : Type 0} → Expr Z → Expression
@@ -24,11 +24,11 @@ expression (exprs.Number n) = Number n
 expression (exprs.Var x) = Variable x
 expression (exprs.Operation' o p a q b) = Operation o (expression a) (expression b)
 
-abbrev pub comparison : {Z : Type 0} → Comparison Z → Test ℕ
+abbrev pub comparison : {Z : Type 0} → CodeComparison Z → Comparison ℕ
 comparison (comparisons.Numbers r a b) = Compared r (expression a) (expression b)
 comparison (comparisons.Same s t) = Same (argument s) (argument t)
 comparison (comparisons.Differ s t) = Differ (argument s) (argument t)
 
-abbrev pub member : {Z : Type 0} → BodyItem Z → Member ℕ
+abbrev pub member : {Z : Type 0} → CodeBodyItem Z → BodyItem ℕ
 member (items.Is x e) = Is x (expression e)
 member (items.Add p) = Add (shape p)

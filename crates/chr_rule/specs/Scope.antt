@@ -1,11 +1,11 @@
 -- Which rules are in scope: each variable has a value where it is used, and the limits are kept.
 use Rattle.std.specs.Prelude.{◌≡◌, ℕ, suc, ◌+◌, Bool, true, ◌&&◌, ◌==◌, ◌<◌, ◌≤◌, nat_lt, if◌then◌else◌, List, [], ◌∷◌, ◌++◌, length, Option, Some, None}
 use Rattle.std.specs.List.{list_all}
-use Rattle.chr_rule.specs.Rules.{Argument, Var, Given, Shape, Expression, Number, Variable, Operation, Test, Compared, Same, Differ, Member, Is, Add, Simpagation}
+use Rattle.chr_rule.specs.Rules.{Term, Var, Given, RuleAtom, Expression, Number, Variable, Operation, Comparison, Compared, Same, Differ, BodyItem, Is, Add, Simpagation}
 
 -- The variables below n are known; a new variable takes the number n. How many are known behind the arguments, or
 -- nothing where a variable comes out of turn.
-abbrev pub known_behind_args : {N : Type 0} → ℕ → List (Argument N) → Option ℕ
+abbrev pub known_behind_args : {N : Type 0} → ℕ → List (Term N) → Option ℕ
 known_behind_args n [] = Some n
 known_behind_args n (Given t ∷ as') = known_behind_args n as'
 known_behind_args n (Var x ∷ as') = if nat_lt x n then known_behind_args n as' else (if x == n then known_behind_args (suc n) as' else None)
@@ -14,12 +14,12 @@ abbrev pub known_then : {A : Type 0} → Option ℕ → (ℕ → Option A) → O
 known_then (Some n) f = f n
 known_then None f = None
 
-abbrev pub known_behind_heads : {N : Type 0} → ℕ → List (Shape N) → Option ℕ
+abbrev pub known_behind_heads : {N : Type 0} → ℕ → List (RuleAtom N) → Option ℕ
 known_behind_heads n [] = Some n
 known_behind_heads n (h ∷ hs) = known_then (known_behind_args n h.args) (λ m. known_behind_heads m hs)
 
 -- each variable is known
-abbrev pub argument_known : {N : Type 0} → ℕ → Argument N → Bool
+abbrev pub argument_known : {N : Type 0} → ℕ → Term N → Bool
 argument_known n (Var x) = nat_lt x n
 argument_known n (Given t) = true
 
@@ -28,19 +28,19 @@ expression_known n (Number z) = true
 expression_known n (Variable x) = nat_lt x n
 expression_known n (Operation o a b) = expression_known n a && expression_known n b
 
-abbrev pub test_known : {N : Type 0} → ℕ → Test N → Bool
+abbrev pub test_known : {N : Type 0} → ℕ → Comparison N → Bool
 test_known n (Compared r a b) = expression_known n a && expression_known n b
 test_known n (Same s t) = argument_known n s && argument_known n t
 test_known n (Differ s t) = argument_known n s && argument_known n t
 
 -- an `is` gives a value to the next variable, for the members behind it
-abbrev pub known_behind_body : {N : Type 0} → ℕ → List (Member N) → Option ℕ
+abbrev pub known_behind_body : {N : Type 0} → ℕ → List (BodyItem N) → Option ℕ
 known_behind_body n [] = Some n
 known_behind_body n (Is x e ∷ ms) = if (x == n) && expression_known n e then known_behind_body (suc n) ms else None
 known_behind_body n (Add s ∷ ms) = if list_all (argument_known n) s.args then known_behind_body n ms else None
 
 -- how many variables a rule of these parts has, or nothing where one is used that has no value by then
-abbrev pub variable_count : {N : Type 0} → List (Shape N) → List (Test N) → List (Member N) → Option ℕ
+abbrev pub variable_count : {N : Type 0} → List (RuleAtom N) → List (Comparison N) → List (BodyItem N) → Option ℕ
 variable_count heads guard body =
     known_then (known_behind_heads 0 heads) (λ n. if list_all (test_known n) guard then known_behind_body n body else None)
 

@@ -3,7 +3,7 @@ ghost use Rattle.std.specs.Prelude.{◌≡◌, ◌↔◌, IsTrue, map};
 ghost use Rattle.chr_rule.specs.Parts.{expression, comparison, member};
 ghost use Rattle.chr_rule.specs.Scope.{expression_known, test_known};
 
-use crate::pattern::{Pattern, Term};
+use crate::rule_atom::{RuleAtom, Term};
 use std::alloc::Allocator;
 
 /// An operator of arithmetic.
@@ -92,7 +92,7 @@ pub enum BodyItem<A: Allocator> {
     /// `x is e`
     Is(u8, Expr<A>),
     /// A constraint to add.
-    Add(Pattern),
+    Add(RuleAtom),
 }
 
 impl<A: Allocator> Comparison<A> {

@@ -10,7 +10,7 @@
 #![tactic(auto)]
 
 pub mod expression;
-pub mod pattern;
+pub mod rule_atom;
 pub mod program;
 pub mod rule;
 mod scope;

@@ -6,7 +6,7 @@ ghost use Rattle.chr_rule.specs.Rules.{head_at, of_parts};
 ghost use Rattle.chr_rule.specs.Scope.{IsRule};
 
 use crate::expression::{BodyItem, Comparison, same_bodies, same_guards};
-use crate::pattern::{Pattern, same_patterns};
+use crate::rule_atom::{RuleAtom, same_patterns};
 use crate::scope::count_variables;
 use std::alloc::Allocator;
 use std::marker::Model;
@@ -27,8 +27,8 @@ pub const MOST_ITEMS: usize = 16;
 #[derive(Drop)]
 pub struct Rule<A: Allocator> {
     variables: u8,
-    kept: Vec<Pattern, A>,
-    removed: Vec<Pattern, A>,
+    kept: Vec<RuleAtom, A>,
+    removed: Vec<RuleAtom, A>,
     guard: Vec<Comparison<A>, A>,
     body: Vec<BodyItem<A>, A>,
 }
@@ -54,8 +54,8 @@ impl<A: Allocator> Rule<A> {
     /// The test of what is a rule: these parts as one where each variable has a value wherever it is used and the
     /// limits are kept, and none elsewhere.
     pub fn new(
-        kept: Vec<Pattern, A>,
-        removed: Vec<Pattern, A>,
+        kept: Vec<RuleAtom, A>,
+        removed: Vec<RuleAtom, A>,
         guard: Vec<Comparison<A>, A>,
         body: Vec<BodyItem<A>, A>,
     ) -> Option<Rule<A>>
@@ -105,7 +105,7 @@ impl<A: Allocator> Rule<A> {
     }
 
     /// The kept heads in text order. They have the numbers from 1 on.
-    pub fn kept(&self) -> &[Pattern]
+    pub fn kept(&self) -> &[RuleAtom]
         ensures heads { map shape result.now ≡ self.now.kept }
         ensures whole { IsRule self.now }
     {
@@ -113,7 +113,7 @@ impl<A: Allocator> Rule<A> {
     }
 
     /// The removed heads in text order, at least one. They are numbered behind the kept ones.
-    pub fn removed(&self) -> &[Pattern]
+    pub fn removed(&self) -> &[RuleAtom]
         ensures heads { map shape result.now ≡ self.now.removed }
         ensures whole { IsRule self.now }
     {
@@ -130,7 +130,7 @@ impl<A: Allocator> Rule<A> {
     }
 
     /// The head of a number, from 1: kept heads first.
-    pub fn head(&self, number: usize) -> Option<&Pattern>
+    pub fn head(&self, number: usize) -> Option<&RuleAtom>
         ensures head { option_map (λ head. shape head.now) result ≡ head_at self.now number }
         ensures whole { IsRule self.now }
     {

@@ -5,7 +5,7 @@ ghost use Rattle.chr_rule.specs.Parts.{argument, shape, comparison, member};
 ghost use Rattle.chr_rule.specs.Scope.{known_behind_args, known_behind_heads, known_behind_body, argument_known, test_known, variable_count};
 
 use crate::expression::{BodyItem, Comparison};
-use crate::pattern::{Pattern, Term};
+use crate::rule_atom::{RuleAtom, Term};
 use std::alloc::Allocator;
 
 /// How many variables are known behind the arguments of a head, or none where a variable comes out of turn.
@@ -29,7 +29,7 @@ pub fn count_terms(mut known: usize, terms: &[Term]) -> Option<usize>
 }
 
 /// How many variables are known behind heads.
-pub fn count_heads(mut known: usize, heads: &[Pattern]) -> Option<usize>
+pub fn count_heads(mut known: usize, heads: &[RuleAtom]) -> Option<usize>
     requires { known ≤ 256 }
     ensures count { result ≡ known_behind_heads known (map shape heads.now) }
     ensures few { IfSome result (λ n. n ≤ 256) }
@@ -90,8 +90,8 @@ pub fn count_body<A: Allocator>(mut known: usize, body: &[BodyItem<A>]) -> Optio
 
 /// How many variables a rule of these parts has, or none where one is used that has no value by then.
 pub fn count_variables<A: Allocator>(
-    kept: &[Pattern],
-    removed: &[Pattern],
+    kept: &[RuleAtom],
+    removed: &[RuleAtom],
     guard: &[Comparison<A>],
     body: &[BodyItem<A>],
 ) -> Option<usize>

@@ -6,7 +6,7 @@ use std::convert::AsStr;
 
 /// What the command line asks for.
 #[derive(Clone, Copy, Debug, PartialEq, Eq)]
-pub enum Order<'a> {
+pub enum Request<'a> {
     /// `chr run FILE POSTS`
     Run { file: &'a str, posts: &'a str },
 }
@@ -33,12 +33,12 @@ fn command<'a>(alloc: Global) -> Result<Command<'a>, AllocError> {
 
 /// Reads the words of a command line, the program's own name first. Help that is asked for comes as an error too, whose
 /// exit code is 0 and which belongs on standard output.
-pub fn read<'a, S: AsStr>(alloc: Global, words: &'a [S]) -> Result<Order<'a>, Error> {
+pub fn read<'a, S: AsStr>(alloc: Global, words: &'a [S]) -> Result<Request<'a>, Error> {
     let mut command = command(alloc)?;
     let matches = command.try_get_matches_from_mut(words)?;
     if let Some(("run", run)) = matches.subcommand() {
         if let (Some(file), Some(posts)) = (run.get_str("FILE"), run.get_str("POSTS")) {
-            return Ok(Order::Run { file, posts });
+            return Ok(Request::Run { file, posts });
         }
     }
     Err(command.error(ErrorKind::MissingSubcommand, "a command is missing")?)
@@ -46,7 +46,7 @@ pub fn read<'a, S: AsStr>(alloc: Global, words: &'a [S]) -> Result<Order<'a>, Er
 
 #[cfg(test)]
 mod tests {
-    use super::{Order, read};
+    use super::{Request, read};
     use clap::error::ErrorKind;
     use std::test::*;
 
@@ -55,7 +55,7 @@ mod tests {
         let words = ["chr", "run", "rules", "posts"];
         match read(rt.alloc(), &words) {
             Ok(order) => {
-                let wanted = Order::Run {
+                let wanted = Request::Run {
                     file: "rules",
                     posts: "posts",
                 };

@@ -11,7 +11,7 @@ pub mod first;
 mod run;
 
 use clap::error::ErrorKind;
-use command_line::Order;
+use command_line::Request;
 use run::Status;
 use std::process::ExitCode;
 use std::{env, io};
@@ -43,7 +43,7 @@ fn main(rt: HostRuntime) -> ExitCode {
         Err(error) => return run::failed(&rt, "the command line", &error).code(),
     };
     let status = match command_line::read(rt.alloc(), words.as_slice()) {
-        Ok(Order::Run { file, posts }) => run::run(&rt, file, posts),
+        Ok(Request::Run { file, posts }) => run::run(&rt, file, posts),
         Err(error) => told(&rt, &error),
     };
     status.code()

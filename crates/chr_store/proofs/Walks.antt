@@ -5,15 +5,15 @@ use Rattle.std.specs.Option.{option_map}
 use Rattle.std.specs.BTreeMap.Range.{range_contains, entries_between}
 use Rattle.std.specs.declared.ops.Bound.TheVariants.{Included, Excluded}
 use Rattle.std.proofs.lemmas.Option.{slice_get-map}
-use Rattle.chr_value.specs.declared.atom.Value.{Value}
+use Rattle.chr_value.specs.declared.atom.Value.{Value as CodeValue}
 use Rattle.std.proofs.lemmas.Bool.Decides.{nat_tests}
-use Rattle.chr_value.specs.Terms.{Term, Fact, ground, grounds}
+use Rattle.chr_value.specs.Atoms.{Value, Atom, ground, grounds}
 use Rattle.chr_value.specs.Stores.{Store, atom_at}
 use Rattle.chr_store.specs.Labels.{Rising}
-use Rattle.chr_store.specs.Keys.{arg_at, Query, HasPred, HasKey, IsLeastMeeting}
+use Rattle.chr_store.specs.Keys.{arg_at, Query, HasPred, HasKey, IsLeastMatch}
 
 -- the entry lies in the store, between the labels asked for
-pub record LiesIn (store : Store) (q : Query) (e : ℕ × Fact ℕ) : Type 0 where
+pub record LiesIn (store : Store) (q : Query) (e : ℕ × Atom ℕ) : Type 0 where
   pub there : atom_at store e.0 ≡ Some e.1
   pub over : q.after < e.0
   pub under : e.0 < q.below
@@ -22,10 +22,10 @@ pub record LiesIn (store : Store) (q : Query) (e : ℕ × Fact ℕ) : Type 0 whe
 pub record IsLeft (store : Store) (q : Query) (left : Store) : Type 0 where
   pub rising : Rising left
   pub lies : AllByRecursion (LiesIn store q) left
-  pub all : (l : ℕ) (a : Fact ℕ) → atom_at store l ≡ Some a → HasPred q.pred a → HasKey q.key a → q.after < l → l < q.below → atom_at left l ≡ Some a
+  pub all : (l : ℕ) (a : Atom ℕ) → atom_at store l ≡ Some a → HasPred q.pred a → HasKey q.key a → q.after < l → l < q.below → atom_at left l ≡ Some a
 
 -- a label in front, or behind it a greater one
-above : (l : ℕ) (es : Store) (m : ℕ) (a : Fact ℕ) → AllByRecursion (λ f. l < f.0) es → atom_at es m ≡ Some a → l < m
+above : (l : ℕ) (es : Store) (m : ℕ) (a : Atom ℕ) → AllByRecursion (λ f. l < f.0) es → atom_at es m ≡ Some a → l < m
 above l [] m a h at = let z : None ≡ Some a = at in absurd (cc)
 above l (e ∷ es) m a h at =
     elim (e.0 == m) as (λ b. (e.0 == m ≡ b) → (if b then Some e.1 else atom_at es m) ≡ Some a → l < m) [
@@ -33,30 +33,30 @@ above l (e ∷ es) m a h at =
       | false ↦ λ t k. above l es m a h.1 k
     ] refl at
 
-pub left_skip : (store : Store) (q : Query) (l : ℕ) (x : Fact ℕ) (es : Store) → IsLeft store q ((l, x) ∷ es) → (HasPred q.pred x → HasKey q.key x → ⊥) → IsLeft store q es
+pub left_skip : (store : Store) (q : Query) (l : ℕ) (x : Atom ℕ) (es : Store) → IsLeft store q ((l, x) ∷ es) → (HasPred q.pred x → HasKey q.key x → ⊥) → IsLeft store q es
 left_skip store q l x es h n = record { rising = h.rising.1; lies = h.lies.1; all = all }
   where
-    all : (m : ℕ) (a : Fact ℕ) → atom_at store m ≡ Some a → HasPred q.pred a → HasKey q.key a → q.after < m → m < q.below → atom_at es m ≡ Some a
+    all : (m : ℕ) (a : Atom ℕ) → atom_at store m ≡ Some a → HasPred q.pred a → HasKey q.key a → q.after < m → m < q.below → atom_at es m ≡ Some a
     all m a there pred key over under =
         elim (l == m) as (λ b. (l == m ≡ b) → (if b then Some x else atom_at es m) ≡ Some a → atom_at es m ≡ Some a) [
           | true ↦ λ t k. let same : a ≡ x = cc in absurd (n (subst (HasPred q.pred) same pred) (subst (HasKey q.key) same key))
           | false ↦ λ t k. k
         ] refl (h.all m a there pred key over under)
 
-pub left_found : (store : Store) (q : Query) (l : ℕ) (x : Fact ℕ) (es : Store) → IsLeft store q ((l, x) ∷ es) → HasPred q.pred x → HasKey q.key x → IsLeastMeeting store q (Some l)
+pub left_found : (store : Store) (q : Query) (l : ℕ) (x : Atom ℕ) (es : Store) → IsLeft store q ((l, x) ∷ es) → HasPred q.pred x → HasKey q.key x → IsLeastMatch store q (Some l)
 left_found store q l x es h pred key = (record { atom = x; there = h.lies.0.there; pred = pred; key = key; over = h.lies.0.over; under = h.lies.0.under }, λ m w. least m w.atom (h.all m w.atom w.there w.pred w.key w.over w.under))
   where
-    least : (m : ℕ) (a : Fact ℕ) → (if l == m then Some x else atom_at es m) ≡ Some a → l ≤ m
+    least : (m : ℕ) (a : Atom ℕ) → (if l == m then Some x else atom_at es m) ≡ Some a → l ≤ m
     least m a at =
         elim (l == m) as (λ t. (l == m ≡ t) → (if t then Some x else atom_at es m) ≡ Some a → l ≤ m) [
           | true ↦ λ t _. let e : l ≡ m = true-eqb l m (sym t) in omega arith
           | false ↦ λ t j. let z : l < m = above l es m a h.rising.0 j in omega arith
         ] refl at
 
-pub left_none : (store : Store) (q : Query) → IsLeft store q [] → IsLeastMeeting store q None
+pub left_none : (store : Store) (q : Query) → IsLeft store q [] → IsLeastMatch store q None
 left_none store q h = λ l w. let z : None ≡ Some w.atom = h.all l w.atom w.there w.pred w.key w.over w.under in absurd (cc)
 
-pub none_between : (store : Store) (q : Query) → q.below ≤ q.after → IsLeastMeeting store q None
+pub none_between : (store : Store) (q : Query) → q.below ≤ q.after → IsLeastMatch store q None
 none_between store q h = λ l w. absurd (let o : q.after < l = w.over in let u : l < q.below = w.under in omega arith)
 
 -- ---- the walk begins with the entries whose labels pass a test
@@ -77,14 +77,14 @@ filter_at p (e ∷ es) l h =
       | false ↦ λ t. grind (arith, nat_tests, filter_at p es l h)
     ] refl
 
-at_head : (e : ℕ × Fact ℕ) (es : Store) → atom_at (e ∷ es) e.0 ≡ Some e.1
+at_head : (e : ℕ × Atom ℕ) (es : Store) → atom_at (e ∷ es) e.0 ≡ Some e.1
 at_head e es = grind (arith, nat_tests)
 
-at_tail : (e : ℕ × Fact ℕ) (es : Store) (l : ℕ) → e.0 < l → atom_at (e ∷ es) l ≡ atom_at es l
+at_tail : (e : ℕ × Atom ℕ) (es : Store) (l : ℕ) → e.0 < l → atom_at (e ∷ es) l ≡ atom_at es l
 at_tail e es l h = grind (arith, nat_tests)
 
 -- each entry of a rising list is what its label carries
-pub own_atoms : (P : ℕ × Fact ℕ → Type 0) (p : ℕ → Bool) (es : Store) → Rising es → ((e : ℕ × Fact ℕ) → p e.0 ≡ true → atom_at es e.0 ≡ Some e.1 → P e) → AllByRecursion P (filter (λ e. p e.0) es)
+pub own_atoms : (P : ℕ × Atom ℕ → Type 0) (p : ℕ → Bool) (es : Store) → Rising es → ((e : ℕ × Atom ℕ) → p e.0 ≡ true → atom_at es e.0 ≡ Some e.1 → P e) → AllByRecursion P (filter (λ e. p e.0) es)
 own_atoms P p [] r h = tt
 own_atoms P p (e ∷ es) r h =
     let rest : AllByRecursion P (filter (λ f. p f.0) es) = own_atoms P p es r.1 (λ f t at. h f t (at_tail e es f.0 (above e.0 es f.0 f.1 r.0 at) ∙ at)) in
@@ -108,9 +108,9 @@ left_between store q r = left_start store q (λ l. range_contains nat_cmp (Inclu
 
 -- ---- the argument at a place
 
-pub arg_here : (xs : List Value) (a : Fact ℕ) (place : ℕ) (w : Value) → 0 < place → grounds xs ≡ a.args → slice_get xs (place - 1) ≡ Some w → arg_at a place ≡ Some (ground w)
+pub arg_here : (xs : List CodeValue) (a : Atom ℕ) (place : ℕ) (w : CodeValue) → 0 < place → grounds xs ≡ a.args → slice_get xs (place - 1) ≡ Some w → arg_at a place ≡ Some (ground w)
 arg_here xs a zero w p e h = absurd (omega arith)
-arg_here xs a (suc i) w p e h = ap (λ (z : List (Term ℕ)). slice_get z i) (sym e) ∙ slice_get-map ground xs i ∙ ap (λ (o : Option Value). option_map ground o) (ap (slice_get xs) (sym (sub_suc i)) ∙ h)
+arg_here xs a (suc i) w p e h = ap (λ (z : List (Value ℕ)). slice_get z i) (sym e) ∙ slice_get-map ground xs i ∙ ap (λ (o : Option CodeValue). option_map ground o) (ap (slice_get xs) (sym (sub_suc i)) ∙ h)
   where
     sub_suc : (i : ℕ) → suc i - 1 ≡ i
     sub_suc i = omega arith

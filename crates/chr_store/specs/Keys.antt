@@ -1,40 +1,40 @@
--- What is asked of an atom, and the least label that meets it.
+-- What is asked of an atom, and the least label that matches_query it.
 use Rattle.std.specs.Prelude.{◌≡◌, ℕ, zero, suc, ◌<◌, ◌≤◌, length, Option, Some, None, slice_get}
 use Rattle.std.specs.Borrow.{Bor}
 use Rattle.std.specs.Option.{MatchOption, option_map}
-use Rattle.chr_value.specs.Terms.{Term, Fact, ground}
+use Rattle.chr_value.specs.Atoms.{Value, Atom, ground}
 use Rattle.chr_value.specs.declared.atom.Pred.{Pred}
-use Rattle.chr_value.specs.declared.atom.Value.{Value}
+use Rattle.chr_value.specs.declared.atom.Value.{Value as CodeValue}
 use Rattle.chr_value.specs.Stores.{Store, atom_at}
 
 -- the argument at a place, places being numbered from 1
-abbrev pub arg_at : Fact ℕ → ℕ → Option (Term ℕ)
+abbrev pub arg_at : Atom ℕ → ℕ → Option (Value ℕ)
 arg_at a zero = None
 arg_at a (suc i) = slice_get a.args i
 
 -- the atom has this name and so many arguments
-abbrev pub HasPred : Pred → Fact ℕ → Type 0
+abbrev pub HasPred : Pred → Atom ℕ → Type 0
 HasPred pred a = (a.name ≡ pred.name.number) × (length a.args ≡ pred.arity)
 
 -- and at the key's place the key's value
-abbrev pub HasKey : Option (ℕ × Term ℕ) → Fact ℕ → Type 0
+abbrev pub HasKey : Option (ℕ × Value ℕ) → Atom ℕ → Type 0
 HasKey None a = Unit {0}
 HasKey (Some key) a = arg_at a key.0 ≡ Some key.1
 
 -- a place and a value that is borrowed
-abbrev pub key_of : Option (ℕ × Bor Value) → Option (ℕ × Term ℕ)
+abbrev pub key_of : Option (ℕ × Bor CodeValue) → Option (ℕ × Value ℕ)
 key_of key = option_map (λ k. (k.0, ground k.1.now)) key
 
 -- what is asked for: a predicate, perhaps a place with a value, and the labels between which to look
 pub record Query : Type 0 where
   pub pred : Pred
-  pub key : Option (ℕ × Term ℕ)
+  pub key : Option (ℕ × Value ℕ)
   pub after : ℕ
   pub below : ℕ
 
--- a live label that is as asked
-pub record Meets (store : Store) (q : Query) (l : ℕ) : Type 0 where
-  pub atom : Fact ℕ
+-- a labelled_atom label that is as asked
+pub record Matches (store : Store) (q : Query) (l : ℕ) : Type 0 where
+  pub atom : Atom ℕ
   pub there : atom_at store l ≡ Some atom
   pub pred : HasPred q.pred atom
   pub key : HasKey q.key atom
@@ -42,6 +42,6 @@ pub record Meets (store : Store) (q : Query) (l : ℕ) : Type 0 where
   pub under : l < q.below
 
 -- the least of them, or none where there is none
-abbrev pub IsLeastMeeting : Store → Query → Option ℕ → Type 0
-IsLeastMeeting store q found =
-    MatchOption found ((l : ℕ) → Meets store q l → ⊥) (λ l. Meets store q l × ((m : ℕ) → Meets store q m → l ≤ m))
+abbrev pub IsLeastMatch : Store → Query → Option ℕ → Type 0
+IsLeastMatch store q found =
+    MatchOption found ((l : ℕ) → Matches store q l → ⊥) (λ l. Matches store q l × ((m : ℕ) → Matches store q m → l ≤ m))

@@ -2,10 +2,10 @@
 ghost use Rattle.std.specs.Prelude.{◌≡◌, ℕ, ◌+◌, ◌<◌, ◌≤◌, ◌++◌, ◌∷◌, ◌↔◌, [], length, Some, Err, IfOk, OnOk, IfErr, OnErr, IsTrue};
 ghost use Rattle.std.specs.Option.{option_copied};
 ghost use Rattle.std.specs.Map.Iter.{ShowsInOrder, deref_pair};
-ghost use Rattle.chr_value.specs.Terms.{Fact, ground};
+ghost use Rattle.chr_value.specs.Atoms.{Atom, ground};
 ghost use Rattle.chr_value.specs.Stores.{atom_at, drop_label};
 ghost use Rattle.chr_store.specs.Labels.{IsLabelled};
-ghost use Rattle.chr_store.specs.Keys.{arg_at, HasPred, HasKey, key_of, IsLeastMeeting};
+ghost use Rattle.chr_store.specs.Keys.{arg_at, HasPred, HasKey, key_of, IsLeastMatch};
 ghost use Rattle.chr_store.specs.Faults.{given_back};
 ghost use Rattle.chr_store.specs.declared.store.StoreFault.TheVariants.{LabelsSpent};
 
@@ -62,7 +62,7 @@ fn has_at<A: Allocator + Copy>(atom: &Atom<A>, place: u8, value: &Value) -> bool
 }
 
 /// Whether an atom has a predicate and, where there is a key, its value at its place.
-fn meets<A: Allocator + Copy>(atom: &Atom<A>, pred: Pred, key: Option<(u8, &Value)>) -> bool
+fn matches_query<A: Allocator + Copy>(atom: &Atom<A>, pred: Pred, key: Option<(u8, &Value)>) -> bool
     ensures { IsTrue result ↔ (HasPred pred atom.now × HasKey (key_of key.entry) atom.now) }
 {
     if atom.pred() != pred {
@@ -149,13 +149,13 @@ impl<A: Allocator + Copy> Store<A> {
         after: Label,
         below: Label,
     ) -> Option<Label>
-        ensures { IsLeastMeeting self.now.entries (record { pred = pred; key = key_of key.entry; after = after; below = below }) result }
+        ensures { IsLeastMatch self.now.entries (record { pred = pred; key = key_of key.entry; after = after; below = below }) result }
     {
         if below <= after {
             return None;
         }
         for (label, atom) in self.atoms.range(after + 1..below) {
-            if meets(atom, pred, key) {
+            if matches_query(atom, pred, key) {
                 return Some(*label);
             }
         }
@@ -165,7 +165,7 @@ impl<A: Allocator + Copy> Store<A> {
     /// The constraints with their labels, which rise.
     pub fn iter(&self) -> Iter<'_, u64, Atom<A>>
         ensures rest { result ≡ self.now.entries }
-        ensures runs { ShowsInOrder (deref_pair {K = ℕ} {X = Fact ℕ}) }
+        ensures runs { ShowsInOrder (deref_pair {K = ℕ} {X = Atom ℕ}) }
         ensures whole { IsLabelled self.now }
     {
         self.atoms.iter()

@@ -1,7 +1,7 @@
 use arrayvec::ArrayVec;
 use chr_guard::instance::instance;
 use chr_rule::expression::{BodyItem, Expr, Operator};
-use chr_rule::pattern::{Pattern, Term};
+use chr_rule::rule_atom::{RuleAtom, Term};
 use chr_rule::rule::Rule;
 use chr_value::atom::{Atom, Value};
 use chr_value::names::Name;
@@ -13,7 +13,7 @@ fn rule_of(alloc: Global, operator: Operator) -> Result<Option<Rule<Global>>, Al
     heads.push(Term::Var(0));
     heads.push(Term::Var(1));
     let mut removed = Vec::new(alloc);
-    removed.push(Pattern {
+    removed.push(RuleAtom {
         name: Name { number: 0 },
         terms: heads,
     })?;
@@ -23,7 +23,7 @@ fn rule_of(alloc: Global, operator: Operator) -> Result<Option<Rule<Global>>, Al
     let b = Box::new(alloc, Expr::Var(1))?;
     let mut body = Vec::new(alloc);
     body.push(BodyItem::Is(2, Expr::Operation(operator, a, b)))?;
-    body.push(BodyItem::Add(Pattern {
+    body.push(BodyItem::Add(RuleAtom {
         name: Name { number: 1 },
         terms: result,
     }))?;

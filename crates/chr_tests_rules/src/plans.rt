@@ -1,7 +1,7 @@
 use arrayvec::ArrayVec;
 use chr_plan::order::Step;
 use chr_plan::plans::Plans;
-use chr_rule::pattern::{Pattern, Term};
+use chr_rule::rule_atom::{RuleAtom, Term};
 use chr_rule::program::Program;
 use chr_rule::rule::Rule;
 use chr_value::atom::Value;
@@ -30,7 +30,7 @@ fn program_of(alloc: Global, heads: &[&str]) -> Result<Option<Program<Global>>, 
             let _room = terms.try_push(term_of(text));
         }
         let name = Name { number: 0 };
-        removed.push(Pattern { name, terms })?;
+        removed.push(RuleAtom { name, terms })?;
     }
     let Some(rule) = Rule::new(Vec::new(alloc), removed, Vec::new(alloc), Vec::new(alloc)) else {
         return Ok(None);

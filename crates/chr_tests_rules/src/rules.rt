@@ -1,6 +1,6 @@
 use arrayvec::ArrayVec;
 use chr_rule::expression::{BodyItem, Comparison, Expr, Operator, Relation};
-use chr_rule::pattern::{Pattern, Term};
+use chr_rule::rule_atom::{RuleAtom, Term};
 use chr_rule::program::Program;
 use chr_rule::rule::Rule;
 use chr_value::atom::Value;
@@ -10,16 +10,16 @@ use std::sync::Arc;
 use std::test::Fail;
 
 // A constraint of this many variables, from one on.
-fn pattern_of(first: u8, count: u8) -> Pattern {
+fn pattern_of(first: u8, count: u8) -> RuleAtom {
     let mut terms = ArrayVec::new();
     for i in 0..count {
         let _room = terms.try_push(Term::Var(first.wrapping_add(i)));
     }
     let name = Name { number: 3 };
-    Pattern { name, terms }
+    RuleAtom { name, terms }
 }
 
-fn heads_of(alloc: Global, heads: &[(u8, u8)]) -> Result<Vec<Pattern>, AllocError> {
+fn heads_of(alloc: Global, heads: &[(u8, u8)]) -> Result<Vec<RuleAtom>, AllocError> {
     let mut made = Vec::new(alloc);
     for (first, count) in heads {
         made.push(pattern_of(*first, *count))?;

@@ -2,7 +2,7 @@ use arrayvec::ArrayVec;
 use chr_value::atom::{Atom, MOST_ARGS, Value};
 use chr_value::names::{Name, Names};
 use chr_value::naming::{name_number, number_atom};
-use chr_value::words::SaidAtom;
+use chr_value::text_atom::TextAtom;
 use chr_value::writing::write_atom;
 use std::alloc::Global;
 use std::test::Fail;
@@ -76,11 +76,11 @@ fn atoms_are_written(rt: HostRuntime) {
 fn atoms_and_tables_are_copied(rt: HostRuntime) -> Result<(), Fail> {
     let alloc = rt.alloc();
     let mut names = two_names(alloc).ok_or("names")?;
-    let said = SaidAtom {
+    let text = TextAtom {
         name: "gcd",
         args: ArrayVec::new(),
     };
-    let atom = number_atom(alloc, &mut names, &said)?;
+    let atom = number_atom(alloc, &mut names, &text)?;
     let one = atom_of(alloc, GCD, [Value::Int(1)].as_slice()).ok_or("one")?;
     assert!(rt; atom.same(&atom.copy(alloc)?));
     assert!(rt; !atom.same(&one));

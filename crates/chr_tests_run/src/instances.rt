@@ -1,6 +1,6 @@
 use arrayvec::ArrayVec;
-use chr_instances::search::{Found, with_label};
-use chr_rule::pattern::{Pattern, Term};
+use chr_enumeration::search::{Found, find_with_label};
+use chr_rule::rule_atom::{RuleAtom, Term};
 use chr_rule::program::Program;
 use chr_rule::rule::Rule;
 use chr_value::atom::{Atom, Value};
@@ -22,11 +22,11 @@ fn atom(alloc: Global, name: u32, numbers: (i64, i64)) -> Atom<Global> {
 }
 
 /// A head with two variables.
-fn head(name: u32, variables: (u8, u8)) -> Pattern {
+fn head(name: u32, variables: (u8, u8)) -> RuleAtom {
     let mut terms = ArrayVec::new();
     terms.push(Term::Var(variables.0));
     terms.push(Term::Var(variables.1));
-    Pattern {
+    RuleAtom {
         name: Name { number: name },
         terms,
     }
@@ -36,8 +36,8 @@ fn head(name: u32, variables: (u8, u8)) -> Pattern {
 fn push(
     alloc: Global,
     program: &mut Program<Global>,
-    kept: Vec<Pattern>,
-    removed: Vec<Pattern>,
+    kept: Vec<RuleAtom>,
+    removed: Vec<RuleAtom>,
 ) -> Result<bool, AllocError> {
     let Some(rule) = Rule::new(kept, removed, Vec::new(alloc), Vec::new(alloc)) else {
         return Ok(false);
@@ -76,7 +76,7 @@ fn heads_with_known_arguments_are_tried_first(rt: HostRuntime) -> Result<(), Fai
     let near = atom(alloc, EDGE, (1, 2));
     let far = atom(alloc, EDGE, (2, 3));
     let end = atom(alloc, NODE, (3, 3));
-    let found = with_label(&program, &[(1, &near), (2, &far), (3, &end)], 3);
+    let found = find_with_label(&program, &[(1, &near), (2, &far), (3, &end)], 3);
     assert!(rt; is_found(found, 1, &[], &[1, 2, 3]));
     let other_near = atom(alloc, EDGE, (1, 4));
     let other_far = atom(alloc, EDGE, (4, 3));
@@ -87,8 +87,8 @@ fn heads_with_known_arguments_are_tried_first(rt: HostRuntime) -> Result<(), Fai
         (4, &other_far),
         (5, &end),
     ];
-    assert!(rt; is_found(with_label(&program, &store, 5), 1, &[], &[2, 3, 5]));
-    assert!(rt; is_found(with_label(&program, &store, 4), 1, &[], &[1, 4, 5]));
+    assert!(rt; is_found(find_with_label(&program, &store, 5), 1, &[], &[2, 3, 5]));
+    assert!(rt; is_found(find_with_label(&program, &store, 4), 1, &[], &[1, 4, 5]));
     Ok(())
 }
 
@@ -122,11 +122,11 @@ fn rules_then_heads_then_entries(rt: HostRuntime) -> Result<(), Fail> {
     let node = atom(alloc, NODE, (1, 1));
     let ring = atom(alloc, EDGE, (3, 3));
     let store = [(7, &there), (2, &back), (4, &node), (3, &ring)];
-    assert!(rt; is_found(with_label(&program, &store, 7), 1, &[7], &[2]));
-    assert!(rt; is_found(with_label(&program, &store, 2), 1, &[2], &[7]));
-    assert!(rt; is_found(with_label(&program, &store, 4), 2, &[], &[4]));
-    assert!(rt; is_found(with_label(&program, &store, 3), 3, &[], &[4, 3]));
-    assert!(rt; with_label(&program, &store, 1).is_none());
-    assert!(rt; with_label(&program, &[(3, &ring)], 3).is_none());
+    assert!(rt; is_found(find_with_label(&program, &store, 7), 1, &[7], &[2]));
+    assert!(rt; is_found(find_with_label(&program, &store, 2), 1, &[2], &[7]));
+    assert!(rt; is_found(find_with_label(&program, &store, 4), 2, &[], &[4]));
+    assert!(rt; is_found(find_with_label(&program, &store, 3), 3, &[], &[4, 3]));
+    assert!(rt; find_with_label(&program, &store, 1).is_none());
+    assert!(rt; find_with_label(&program, &[(3, &ring)], 3).is_none());
     Ok(())
 }

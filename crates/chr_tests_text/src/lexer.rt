@@ -1,7 +1,7 @@
 use chr_lex::fault::{ItemError, Kind, ReadError, ReadFault};
 use chr_lex::item::next_item;
 use chr_lex::plain::{has_bad_byte, plain_text};
-use chr_lex::token::{Token, Written, tokens};
+use chr_lex::token::{Token, Word, tokens};
 use std::test::*;
 
 /// Compares the items of a text with the expected ones: the line, the bytes, whether it is whole and whether a byte is bad.
@@ -35,16 +35,16 @@ fn has_items(
 
 fn kind_of<'a>(token: Token<'a>) -> (&'static str, &'a [u8]) {
     match token {
-        Token::Written(Written::Name(bytes)) => ("name", bytes),
-        Token::Written(Written::Variable(bytes)) => ("variable", bytes),
-        Token::Written(
-            Written::Number {
+        Token::Word(Word::Name(bytes)) => ("name", bytes),
+        Token::Word(Word::Variable(bytes)) => ("variable", bytes),
+        Token::Word(
+            Word::Number {
                 negative: false,
                 digits,
             },
         ) => ("number", digits),
-        Token::Written(
-            Written::Number {
+        Token::Word(
+            Word::Number {
                 negative: true,
                 digits,
             },

@@ -1,6 +1,6 @@
 use chr_lex::fault::ReadError;
 use chr_rule::expression::{BodyItem, Comparison, Expr, Operator, Relation};
-use chr_rule::pattern::Term;
+use chr_rule::rule_atom::Term;
 use chr_text::reading::{read_atoms, read_program};
 use chr_value::names::Names;
 use std::alloc::{AllocError, Allocator};

@@ -4,44 +4,44 @@ use Rattle.chr_lex.specs.declared.fault.ItemError.{ItemError}
 use Rattle.chr_lex.specs.Reading.{Fails}
 use Rattle.chr_value.specs.Naming.{◌>>=◌, Table}
 use Rattle.chr_value.proofs.Chosen.{some_is}
-use Rattle.chr_rule.specs.Rules.{Shape, Test, Member, Simpagation, of_parts}
+use Rattle.chr_rule.specs.Rules.{RuleAtom, Comparison, BodyItem, Simpagation, of_parts}
 use Rattle.chr_rule.specs.Scope.{variable_count, IsRule}
-use Rattle.chr_text.specs.Numbering.{numbered, each, number_shape, number_test, number_member, number_rule}
-use Rattle.chr_text.specs.Said.{somes}
-use Rattle.chr_text.specs.Variables.{Met, in_turn}
+use Rattle.chr_text.specs.Numbering.{or_full, each, numbered_rule_atom, number_test, number_member, number_rule}
+use Rattle.chr_text.specs.Translation.{somes}
+use Rattle.chr_text.specs.Variables.{Seen, in_turn}
 use Rattle.chr_text.proofs.Steps.{numbered_is, fails_then}
 
 -- the same, of the same
-pub got : {A B C : Type 0} (f : Table → B → Option (C × Table)) (g : Met → A → B × Met) (met start : Met) (xs ys : List A) (table : Table) (z : List C × Table) → met ≡ start → xs ≡ ys → numbered (each f table (in_turn g met xs).0) ≡ Ok z → each f table (in_turn g start ys).0 ≡ Some z
-got f g met start xs ys table z e h n = ap (λ l. each f table (in_turn g start l).0) (sym h) ∙ ap (λ l. each f table (in_turn g l xs).0) (sym e) ∙ numbered_is _ _ n
+pub got : {A B C : Type 0} (f : Table → B → Option (C × Table)) (g : Seen → A → B × Seen) (seen start : Seen) (xs ys : List A) (table : Table) (z : List C × Table) → seen ≡ start → xs ≡ ys → or_full (each f table (in_turn g seen xs).0) ≡ Ok z → each f table (in_turn g start ys).0 ≡ Some z
+got f g seen start xs ys table z e h n = ap (λ l. each f table (in_turn g start l).0) (sym h) ∙ ap (λ l. each f table (in_turn g l xs).0) (sym e) ∙ numbered_is _ _ n
 
-pub got_some : {A B C : Type 0} (f : Table → B → Option (C × Table)) (g : Met → A → Option B × Met) (met start : Met) (xs ys : List A) (table : Table) (z : List C × Table) → met ≡ start → xs ≡ ys → numbered (each f table (somes (in_turn g met xs).0)) ≡ Ok z → each f table (somes (in_turn g start ys).0) ≡ Some z
-got_some f g met start xs ys table z e h n = ap (λ l. each f table (somes (in_turn g start l).0)) (sym h) ∙ ap (λ l. each f table (somes (in_turn g l xs).0)) (sym e) ∙ numbered_is _ _ n
+pub got_some : {A B C : Type 0} (f : Table → B → Option (C × Table)) (g : Seen → A → Option B × Seen) (seen start : Seen) (xs ys : List A) (table : Table) (z : List C × Table) → seen ≡ start → xs ≡ ys → or_full (each f table (somes (in_turn g seen xs).0)) ≡ Ok z → each f table (somes (in_turn g start ys).0) ≡ Some z
+got_some f g seen start xs ys table z e h n = ap (λ l. each f table (somes (in_turn g start l).0)) (sym h) ∙ ap (λ l. each f table (somes (in_turn g l xs).0)) (sym e) ∙ numbered_is _ _ n
 
-pub met_as : {A B : Type 0} (g : Met → A → B × Met) (met start after : Met) (xs ys : List A) → met ≡ start → xs ≡ ys → after ≡ (in_turn g met xs).1 → after ≡ (in_turn g start ys).1
-met_as g met start after xs ys e h n = n ∙ ap (λ l. (in_turn g l xs).1) e ∙ ap (λ l. (in_turn g start l).1) h
+pub met_as : {A B : Type 0} (g : Seen → A → B × Seen) (seen start after : Seen) (xs ys : List A) → seen ≡ start → xs ≡ ys → after ≡ (in_turn g seen xs).1 → after ≡ (in_turn g start ys).1
+met_as g seen start after xs ys e h n = n ∙ ap (λ l. (in_turn g l xs).1) e ∙ ap (λ l. (in_turn g start l).1) h
 
-pub room_as : {A B : Type 0} (g : Met → A → B × Met) (met start : Met) (xs ys : List A) → met ≡ start → xs ≡ ys → length (in_turn g start ys).1 ≤ 24 → length (in_turn g met xs).1 ≤ 24
-room_as g met start xs ys e h n = rw (e, h) n
+pub room_as : {A B : Type 0} (g : Seen → A → B × Seen) (seen start : Seen) (xs ys : List A) → seen ≡ start → xs ≡ ys → length (in_turn g start ys).1 ≤ 24 → length (in_turn g seen xs).1 ≤ 24
+room_as g seen start xs ys e h n = rw (e, h) n
 
-pub kept_fail : (error : ItemError) (table : Table) (r : Simpagation (List ℕ)) → Fails error (numbered (each number_shape table r.kept)) → Fails error (numbered (number_rule table r))
-kept_fail error table r h = fails_then error (each number_shape table r.kept) (λ kept. each number_shape kept.1 r.removed >>= λ removed. each number_test removed.1 r.guard >>= λ guard. each number_member guard.1 r.body >>= λ body. Some (of_parts r.variables kept.0 removed.0 guard.0 body.0, body.1)) h
+pub kept_fail : (error : ItemError) (table : Table) (r : Simpagation (List ℕ)) → Fails error (or_full (each numbered_rule_atom table r.kept)) → Fails error (or_full (number_rule table r))
+kept_fail error table r h = fails_then error (each numbered_rule_atom table r.kept) (λ kept. each numbered_rule_atom kept.1 r.removed >>= λ removed. each number_test removed.1 r.guard >>= λ guard. each number_member guard.1 r.body >>= λ body. Some (of_parts r.variables kept.0 removed.0 guard.0 body.0, body.1)) h
 
-pub removed_fail : (error : ItemError) (table t1 : Table) (r : Simpagation (List ℕ)) (kept : List (Shape ℕ)) → each number_shape table r.kept ≡ Some (kept, t1) → Fails error (numbered (each number_shape t1 r.removed)) → Fails error (numbered (number_rule table r))
-removed_fail error table t1 r kept e1 h = rw e1 (fails_then error (each number_shape t1 r.removed) (λ removed. each number_test removed.1 r.guard >>= λ guard. each number_member guard.1 r.body >>= λ body. Some (of_parts r.variables kept removed.0 guard.0 body.0, body.1)) h)
+pub removed_fail : (error : ItemError) (table t1 : Table) (r : Simpagation (List ℕ)) (kept : List (RuleAtom ℕ)) → each numbered_rule_atom table r.kept ≡ Some (kept, t1) → Fails error (or_full (each numbered_rule_atom t1 r.removed)) → Fails error (or_full (number_rule table r))
+removed_fail error table t1 r kept e1 h = rw e1 (fails_then error (each numbered_rule_atom t1 r.removed) (λ removed. each number_test removed.1 r.guard >>= λ guard. each number_member guard.1 r.body >>= λ body. Some (of_parts r.variables kept removed.0 guard.0 body.0, body.1)) h)
 
-pub guard_fails : (error : ItemError) (table t1 t2 : Table) (r : Simpagation (List ℕ)) (kept removed : List (Shape ℕ)) → each number_shape table r.kept ≡ Some (kept, t1) → each number_shape t1 r.removed ≡ Some (removed, t2) → Fails error (numbered (each number_test t2 r.guard)) → Fails error (numbered (number_rule table r))
+pub guard_fails : (error : ItemError) (table t1 t2 : Table) (r : Simpagation (List ℕ)) (kept removed : List (RuleAtom ℕ)) → each numbered_rule_atom table r.kept ≡ Some (kept, t1) → each numbered_rule_atom t1 r.removed ≡ Some (removed, t2) → Fails error (or_full (each number_test t2 r.guard)) → Fails error (or_full (number_rule table r))
 guard_fails error table t1 t2 r kept removed e1 e2 h = rw (e1, e2) (fails_then error (each number_test t2 r.guard) (λ guard. each number_member guard.1 r.body >>= λ body. Some (of_parts r.variables kept removed guard.0 body.0, body.1)) h)
 
-pub body_fails : (error : ItemError) (table t1 t2 t3 : Table) (r : Simpagation (List ℕ)) (kept removed : List (Shape ℕ)) (guard : List (Test ℕ)) → each number_shape table r.kept ≡ Some (kept, t1) → each number_shape t1 r.removed ≡ Some (removed, t2) → each number_test t2 r.guard ≡ Some (guard, t3) → Fails error (numbered (each number_member t3 r.body)) → Fails error (numbered (number_rule table r))
+pub body_fails : (error : ItemError) (table t1 t2 t3 : Table) (r : Simpagation (List ℕ)) (kept removed : List (RuleAtom ℕ)) (guard : List (Comparison ℕ)) → each numbered_rule_atom table r.kept ≡ Some (kept, t1) → each numbered_rule_atom t1 r.removed ≡ Some (removed, t2) → each number_test t2 r.guard ≡ Some (guard, t3) → Fails error (or_full (each number_member t3 r.body)) → Fails error (or_full (number_rule table r))
 body_fails error table t1 t2 t3 r kept removed guard e1 e2 e3 h = rw (e1, e2, e3) (fails_then error (each number_member t3 r.body) (λ body. Some (of_parts r.variables kept removed guard body.0, body.1)) h)
 
-pub rule_done : (table t1 t2 t3 t4 : Table) (r : Simpagation (List ℕ)) (kept removed : List (Shape ℕ)) (guard : List (Test ℕ)) (body : List (Member ℕ)) → each number_shape table r.kept ≡ Some (kept, t1) → each number_shape t1 r.removed ≡ Some (removed, t2) → each number_test t2 r.guard ≡ Some (guard, t3) → each number_member t3 r.body ≡ Some (body, t4)
+pub rule_done : (table t1 t2 t3 t4 : Table) (r : Simpagation (List ℕ)) (kept removed : List (RuleAtom ℕ)) (guard : List (Comparison ℕ)) (body : List (BodyItem ℕ)) → each numbered_rule_atom table r.kept ≡ Some (kept, t1) → each numbered_rule_atom t1 r.removed ≡ Some (removed, t2) → each number_test t2 r.guard ≡ Some (guard, t3) → each number_member t3 r.body ≡ Some (body, t4)
     → number_rule table r ≡ Some (of_parts r.variables kept removed guard body, t4)
 rule_done table t1 t2 t3 t4 r kept removed guard body e1 e2 e3 e4 = rw (e1, e2, e3, e4) refl
 
 -- The variables of a rule are as many as its parts have.
-pub as_many : (made : Simpagation ℕ) (n : ℕ) (kept removed : List (Shape ℕ)) (guard : List (Test ℕ)) (body : List (Member ℕ)) → made ≡ of_parts made.variables kept removed guard body → IsRule made → IsRule (of_parts n kept removed guard body) → made ≡ of_parts n kept removed guard body
+pub as_many : (made : Simpagation ℕ) (n : ℕ) (kept removed : List (RuleAtom ℕ)) (guard : List (Comparison ℕ)) (body : List (BodyItem ℕ)) → made ≡ of_parts made.variables kept removed guard body → IsRule made → IsRule (of_parts n kept removed guard body) → made ≡ of_parts n kept removed guard body
 as_many made n kept removed guard body is whole other =
     let same : variable_count (kept ++ removed) guard body ≡ Some made.variables = ap (λ (s : Simpagation ℕ). variable_count (s.kept ++ s.removed) s.guard s.body) (sym is) ∙ whole.scoped in
     is ∙ ap (λ (k : ℕ). of_parts k kept removed guard body) (some_is made.variables n (sym same ∙ other.scoped))

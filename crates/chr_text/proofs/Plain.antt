@@ -5,11 +5,11 @@ use Rattle.std.specs.List.{AllByRecursion, list_all, prefix_len, starts_with, ta
 use Rattle.std.specs.Char.{is_ascii_digit, is_ascii_lowercase, is_ascii_uppercase}
 use Rattle.chr_lex.specs.declared.fault.Kind.{Kind}
 use Rattle.chr_lex.specs.declared.mark.Mark.{Mark}
-use Rattle.chr_lex.specs.Items.{Entry, is_gap}
+use Rattle.chr_lex.specs.Items.{Item, is_gap}
 use Rattle.chr_lex.specs.Marks.{spelling, marks}
 use Rattle.chr_lex.specs.Plain.{has_bad}
 use Rattle.chr_lex.specs.Reading.{◌>>=◌}
-use Rattle.chr_lex.specs.Tokens.{Variable, Number, Lexeme, Said, Sign, is_word, is_operand, begins_with_digit, named, lower_word, signed, signed_at, token_at, token_or_fault, tokens_from}
+use Rattle.chr_lex.specs.Tokens.{Variable, Number, Lexeme, OfWord, OfMark, is_word, is_operand, begins_with_digit, named, lower_word, signed, signed_at, token_at, token_or_fault, tokens_from}
 use Rattle.chr_lex.proofs.Longest.{all_passing}
 use Rattle.chr_text.specs.Fitting.{WordPlain}
 use Rattle.chr_text.specs.Reading.{item_lexemes}
@@ -27,8 +27,8 @@ if_cond P false r s p q = q
 -- ---- words
 
 abbrev pub LexemePlain : Lexeme → Type 0
-LexemePlain (Said w) = WordPlain w
-LexemePlain (Sign m) = Unit {0}
+LexemePlain (OfWord w) = WordPlain w
+LexemePlain (OfMark m) = Unit {0}
 
 abbrev pub AllPlain : List Lexeme → Type 0
 AllPlain ts = AllByRecursion LexemePlain ts
@@ -67,16 +67,16 @@ signed_plain (Some m) = tt
 signed_at-plain : (op : Bool) (bs : List ℕ) → TokenPlain (signed_at op bs)
 signed_at-plain op [] = tt
 signed_at-plain op (b ∷ bs) =
-    token_if ((b == 45) && not op && begins_with_digit bs) (Some (Said (Number true (take_while is_ascii_digit bs)), 1 + length (take_while is_ascii_digit bs))) (signed (find (λ m. starts_with nat_eq (b ∷ bs) (spelling m)) marks)) tt (signed_plain (find (λ m. starts_with nat_eq (b ∷ bs) (spelling m)) marks))
+    token_if ((b == 45) && not op && begins_with_digit bs) (Some (OfWord (Number true (take_while is_ascii_digit bs)), 1 + length (take_while is_ascii_digit bs))) (signed (find (λ m. starts_with nat_eq (b ∷ bs) (spelling m)) marks)) tt (signed_plain (find (λ m. starts_with nat_eq (b ∷ bs) (spelling m)) marks))
 
 token_plain : (op : Bool) (bs : List ℕ) → TokenPlain (token_at op bs)
 token_plain op [] = tt
 token_plain op (b ∷ bs) =
     let w = take_while is_word (b ∷ bs) in
     let digits = take_while is_ascii_digit (b ∷ bs) in
-    let number : Option (Lexeme × ℕ) = Some (Said (Number false digits), length digits) in
+    let number : Option (Lexeme × ℕ) = Some (OfWord (Number false digits), length digits) in
     let last : Option (Lexeme × ℕ) = cond (is_ascii_digit b) number (signed_at op (b ∷ bs)) in
-    let variable : Option (Lexeme × ℕ) = Some (Said (Variable w), length w) in
+    let variable : Option (Lexeme × ℕ) = Some (OfWord (Variable w), length w) in
     let name : Option (Lexeme × ℕ) = Some (lower_word w, length w) in
     token_if (is_ascii_lowercase b) name (cond (is_ascii_uppercase b || (b == 95)) variable last) (named_plain w _ (all_passing is_word (b ∷ bs))) (token_if (is_ascii_uppercase b || (b == 95)) variable last tt (token_if (is_ascii_digit b) number (signed_at op (b ∷ bs)) tt (signed_at-plain op (b ∷ bs))))
 
@@ -94,8 +94,8 @@ tokens_plain (suc skip) op [] = tt
 tokens_plain (suc skip) op (b ∷ bs) = tokens_plain skip op bs
 tokens_plain zero op (b ∷ bs) = if_cond AllPlain (is_gap b) _ _ (tokens_plain zero op bs) (tokens_step (token_at op (b ∷ bs)) (λ t. tokens_from (t.1 - 1) (is_operand t.0) bs) (token_plain op (b ∷ bs)) (λ t. tokens_plain (t.1 - 1) (is_operand t.0) bs))
 
-item_plain : (e : Entry) → IfOk (item_lexemes e) AllPlain
+item_plain : (e : Item) → IfOk (item_lexemes e) AllPlain
 item_plain e = if_cond AllPlain (has_bad e.bytes) _ _ tt (if_cond AllPlain e.whole _ _ (tokens_plain zero false e.bytes) tt)
 
-pub lexemes_plain : (e : Entry) (ts : List Lexeme) → item_lexemes e ≡ Ok ts → AllPlain ts
+pub lexemes_plain : (e : Item) (ts : List Lexeme) → item_lexemes e ≡ Ok ts → AllPlain ts
 lexemes_plain e ts h = subst (λ (r : Result (List Lexeme) Kind). IfOk r AllPlain) h (item_plain e)

@@ -1,11 +1,11 @@
 -- Numbering the names of a rule leaves its variables as they are.
 use Rattle.std.proofs.Common.{◌≡◌, ℕ, suc, Bool, cond, ltb, List, [], ◌∷◌, ◌++◌, length, Option, Some, None, refl, sym, ap, subst, ◌∙◌, arith}
 use Rattle.std.specs.List.{list_all}
-use Rattle.chr_value.specs.Naming.{Table, number_name, number_term}
+use Rattle.chr_value.specs.Naming.{Table, number_name, numbered_value}
 use Rattle.chr_value.proofs.Chosen.{bind_some, some_is}
-use Rattle.chr_rule.specs.Rules.{Argument, Var, Given, Shape, Test, Compared, Same, Differ, Member, Is, Add, Simpagation, of_parts}
+use Rattle.chr_rule.specs.Rules.{Term, Var, Given, RuleAtom, Comparison, Compared, Same, Differ, BodyItem, Is, Add, Simpagation, of_parts}
 use Rattle.chr_rule.specs.Scope.{known_behind_args, known_behind_heads, known_behind_body, known_then, argument_known, test_known, variable_count, IsRule}
-use Rattle.chr_text.specs.Numbering.{each, number_argument, number_shape, number_test, number_member}
+use Rattle.chr_text.specs.Numbering.{each, numbered_term, numbered_rule_atom, number_test, number_member}
 
 -- the lists are equally long, and each two elements at one place are so
 abbrev pub Paired : {A B : Type 0} → (A → B → Type 0) → List A → List B → Type 0
@@ -42,64 +42,64 @@ paired_all R p q h (a ∷ as') (b ∷ bs) s = rw (h a b s.0, paired_all R p q h 
 
 -- ---- the parts of a rule
 
-abbrev SameArgument : Argument (List ℕ) → Argument ℕ → Type 0
+abbrev SameArgument : Term (List ℕ) → Term ℕ → Type 0
 SameArgument (Var x) (Var y) = x ≡ y
 SameArgument (Var x) (Given t) = ⊥
 SameArgument (Given s) (Var y) = ⊥
 SameArgument (Given s) (Given t) = Unit {0}
 
-abbrev SameShape : Shape (List ℕ) → Shape ℕ → Type 0
+abbrev SameShape : RuleAtom (List ℕ) → RuleAtom ℕ → Type 0
 SameShape s t = Paired SameArgument s.args t.args
 
-abbrev SameTest : Test (List ℕ) → Test ℕ → Type 0
+abbrev SameTest : Comparison (List ℕ) → Comparison ℕ → Type 0
 SameTest s t = (n : ℕ) → test_known n s ≡ test_known n t
 
-abbrev SameMember : Member (List ℕ) → Member ℕ → Type 0
+abbrev SameMember : BodyItem (List ℕ) → BodyItem ℕ → Type 0
 SameMember (Is x e) (Is y f) = (x ≡ y) × (e ≡ f)
 SameMember (Is x e) (Add t) = ⊥
 SameMember (Add s) (Is y f) = ⊥
 SameMember (Add s) (Add t) = SameShape s t
 
-argument_same : (table new : Table) (a : Argument (List ℕ)) (b : Argument ℕ) → number_argument table a ≡ Some (b, new) → SameArgument a b
-argument_same table new (Var x) b e = subst (λ (z : Argument ℕ × Table). SameArgument (Var x) z.0) (some_is {A = Argument ℕ × Table} (Var x, table) (b, new) e) refl
+argument_same : (table new : Table) (a : Term (List ℕ)) (b : Term ℕ) → numbered_term table a ≡ Some (b, new) → SameArgument a b
+argument_same table new (Var x) b e = subst (λ (z : Term ℕ × Table). SameArgument (Var x) z.0) (some_is {A = Term ℕ × Table} (Var x, table) (b, new) e) refl
 argument_same table new (Given t) b e =
-    let x = bind_some (number_term table t) _ (b, new) e in
-    subst (λ (z : Argument ℕ × Table). SameArgument (Given t) z.0) (some_is {A = Argument ℕ × Table} (Given x.0.0, x.0.1) (b, new) x.2) tt
+    let x = bind_some (numbered_value table t) _ (b, new) e in
+    subst (λ (z : Term ℕ × Table). SameArgument (Given t) z.0) (some_is {A = Term ℕ × Table} (Given x.0.0, x.0.1) (b, new) x.2) tt
 
-shape_same : (table new : Table) (s : Shape (List ℕ)) (t : Shape ℕ) → number_shape table s ≡ Some (t, new) → SameShape s t
+shape_same : (table new : Table) (s : RuleAtom (List ℕ)) (t : RuleAtom ℕ) → numbered_rule_atom table s ≡ Some (t, new) → SameShape s t
 shape_same table new s t e =
     let x = bind_some (number_name table s.name) _ (t, new) e in
-    let y = bind_some (each number_argument x.0.1 s.args) _ (t, new) x.2 in
-    subst (λ (z : Shape ℕ × Table). SameShape s z.0) (some_is {A = Shape ℕ × Table} (record { name = x.0.0; args = y.0.0 }, y.0.1) (t, new) y.2) (each_paired SameArgument number_argument argument_same x.0.1 y.0.1 s.args y.0.0 y.1)
+    let y = bind_some (each numbered_term x.0.1 s.args) _ (t, new) x.2 in
+    subst (λ (z : RuleAtom ℕ × Table). SameShape s z.0) (some_is {A = RuleAtom ℕ × Table} (record { name = x.0.0; args = y.0.0 }, y.0.1) (t, new) y.2) (each_paired SameArgument numbered_term argument_same x.0.1 y.0.1 s.args y.0.0 y.1)
 
-argument_as_known : (n : ℕ) (a : Argument (List ℕ)) (b : Argument ℕ) → SameArgument a b → argument_known n a ≡ argument_known n b
+argument_as_known : (n : ℕ) (a : Term (List ℕ)) (b : Term ℕ) → SameArgument a b → argument_known n a ≡ argument_known n b
 argument_as_known n (Var x) (Var y) s = ap (λ (k : ℕ). ltb k n) s
 argument_as_known n (Var x) (Given t) s = absurd s
 argument_as_known n (Given t) (Var y) s = absurd s
 argument_as_known n (Given t) (Given u) s = refl
 
-test_same : (table new : Table) (s : Test (List ℕ)) (t : Test ℕ) → number_test table s ≡ Some (t, new) → SameTest s t
-test_same table new (Compared r a b) t e n = ap (λ (z : Test ℕ × Table). test_known n z.0) (some_is {A = Test ℕ × Table} (Compared r a b, table) (t, new) e)
+test_same : (table new : Table) (s : Comparison (List ℕ)) (t : Comparison ℕ) → number_test table s ≡ Some (t, new) → SameTest s t
+test_same table new (Compared r a b) t e n = ap (λ (z : Comparison ℕ × Table). test_known n z.0) (some_is {A = Comparison ℕ × Table} (Compared r a b, table) (t, new) e)
 test_same table new (Same a b) t e n =
-    let x = bind_some (number_argument table a) _ (t, new) e in
-    let y = bind_some (number_argument x.0.1 b) _ (t, new) x.2 in
-    let p = ap (λ (z : Test ℕ × Table). test_known n z.0) (some_is {A = Test ℕ × Table} (Same x.0.0 y.0.0, y.0.1) (t, new) y.2) in
+    let x = bind_some (numbered_term table a) _ (t, new) e in
+    let y = bind_some (numbered_term x.0.1 b) _ (t, new) x.2 in
+    let p = ap (λ (z : Comparison ℕ × Table). test_known n z.0) (some_is {A = Comparison ℕ × Table} (Same x.0.0 y.0.0, y.0.1) (t, new) y.2) in
     rw (argument_as_known n a x.0.0 (argument_same table x.0.1 a x.0.0 x.1), argument_as_known n b y.0.0 (argument_same x.0.1 y.0.1 b y.0.0 y.1)) p
 test_same table new (Differ a b) t e n =
-    let x = bind_some (number_argument table a) _ (t, new) e in
-    let y = bind_some (number_argument x.0.1 b) _ (t, new) x.2 in
-    let p = ap (λ (z : Test ℕ × Table). test_known n z.0) (some_is {A = Test ℕ × Table} (Differ x.0.0 y.0.0, y.0.1) (t, new) y.2) in
+    let x = bind_some (numbered_term table a) _ (t, new) e in
+    let y = bind_some (numbered_term x.0.1 b) _ (t, new) x.2 in
+    let p = ap (λ (z : Comparison ℕ × Table). test_known n z.0) (some_is {A = Comparison ℕ × Table} (Differ x.0.0 y.0.0, y.0.1) (t, new) y.2) in
     rw (argument_as_known n a x.0.0 (argument_same table x.0.1 a x.0.0 x.1), argument_as_known n b y.0.0 (argument_same x.0.1 y.0.1 b y.0.0 y.1)) p
 
-member_same : (table new : Table) (s : Member (List ℕ)) (t : Member ℕ) → number_member table s ≡ Some (t, new) → SameMember s t
-member_same table new (Is x e) t h = subst (λ (z : Member ℕ × Table). SameMember (Is x e) z.0) (some_is {A = Member ℕ × Table} (Is x e, table) (t, new) h) (refl, refl)
+member_same : (table new : Table) (s : BodyItem (List ℕ)) (t : BodyItem ℕ) → number_member table s ≡ Some (t, new) → SameMember s t
+member_same table new (Is x e) t h = subst (λ (z : BodyItem ℕ × Table). SameMember (Is x e) z.0) (some_is {A = BodyItem ℕ × Table} (Is x e, table) (t, new) h) (refl, refl)
 member_same table new (Add s) t h =
-    let x = bind_some (number_shape table s) _ (t, new) h in
-    subst (λ (z : Member ℕ × Table). SameMember (Add s) z.0) (some_is {A = Member ℕ × Table} (Add x.0.0, x.0.1) (t, new) x.2) (shape_same table x.0.1 s x.0.0 x.1)
+    let x = bind_some (numbered_rule_atom table s) _ (t, new) h in
+    subst (λ (z : BodyItem ℕ × Table). SameMember (Add s) z.0) (some_is {A = BodyItem ℕ × Table} (Add x.0.0, x.0.1) (t, new) x.2) (shape_same table x.0.1 s x.0.0 x.1)
 
 -- ---- what is known
 
-args_known : (n : ℕ) (as' : List (Argument (List ℕ))) (bs : List (Argument ℕ)) → Paired SameArgument as' bs → known_behind_args n as' ≡ known_behind_args n bs
+args_known : (n : ℕ) (as' : List (Term (List ℕ))) (bs : List (Term ℕ)) → Paired SameArgument as' bs → known_behind_args n as' ≡ known_behind_args n bs
 args_known n [] [] s = refl
 args_known n [] (b ∷ bs) s = absurd s
 args_known n (a ∷ as') [] s = absurd s
@@ -112,14 +112,14 @@ then_same : {A : Type 0} (o : Option ℕ) (f h : ℕ → Option A) → ((n : ℕ
 then_same None f h e = refl
 then_same (Some n) f h e = e n
 
-heads_known : (n : ℕ) (ss : List (Shape (List ℕ))) (ts : List (Shape ℕ)) → Paired SameShape ss ts → known_behind_heads n ss ≡ known_behind_heads n ts
+heads_known : (n : ℕ) (ss : List (RuleAtom (List ℕ))) (ts : List (RuleAtom ℕ)) → Paired SameShape ss ts → known_behind_heads n ss ≡ known_behind_heads n ts
 heads_known n [] [] s = refl
 heads_known n [] (b ∷ bs) s = absurd s
 heads_known n (a ∷ as') [] s = absurd s
 heads_known n (a ∷ as') (b ∷ bs) s =
     ap (λ o. known_then o (λ m. known_behind_heads m as')) (args_known n a.args b.args s.0) ∙ then_same (known_behind_args n b.args) (λ m. known_behind_heads m as') (λ m. known_behind_heads m bs) (λ m. heads_known m as' bs s.1)
 
-body_known : (n : ℕ) (ss : List (Member (List ℕ))) (ts : List (Member ℕ)) → Paired SameMember ss ts → known_behind_body n ss ≡ known_behind_body n ts
+body_known : (n : ℕ) (ss : List (BodyItem (List ℕ))) (ts : List (BodyItem ℕ)) → Paired SameMember ss ts → known_behind_body n ss ≡ known_behind_body n ts
 body_known n [] [] s = refl
 body_known n [] (b ∷ bs) s = absurd s
 body_known n (a ∷ as') [] s = absurd s
@@ -129,12 +129,12 @@ body_known n (Add t ∷ as') (Is y f ∷ bs) s = absurd s.0
 body_known n (Add t ∷ as') (Add u ∷ bs) s = rw (paired_all SameArgument (argument_known n) (argument_known n) (argument_as_known n) t.args u.args s.0, body_known n as' bs s.1) refl
 
 -- a rule stays one
-pub rule_same : (r : Simpagation (List ℕ)) (table t1 t2 t3 t4 : Table) (kept removed : List (Shape ℕ)) (guard : List (Test ℕ)) (body : List (Member ℕ))
-    → each number_shape table r.kept ≡ Some (kept, t1) → each number_shape t1 r.removed ≡ Some (removed, t2) → each number_test t2 r.guard ≡ Some (guard, t3) → each number_member t3 r.body ≡ Some (body, t4)
+pub rule_same : (r : Simpagation (List ℕ)) (table t1 t2 t3 t4 : Table) (kept removed : List (RuleAtom ℕ)) (guard : List (Comparison ℕ)) (body : List (BodyItem ℕ))
+    → each numbered_rule_atom table r.kept ≡ Some (kept, t1) → each numbered_rule_atom t1 r.removed ≡ Some (removed, t2) → each number_test t2 r.guard ≡ Some (guard, t3) → each number_member t3 r.body ≡ Some (body, t4)
     → IsRule r → IsRule (of_parts r.variables kept removed guard body)
 rule_same r table t1 t2 t3 t4 kept removed guard body e1 e2 e3 e4 whole =
-    let k = each_paired SameShape number_shape shape_same table t1 r.kept kept e1 in
-    let m = each_paired SameShape number_shape shape_same t1 t2 r.removed removed e2 in
+    let k = each_paired SameShape numbered_rule_atom shape_same table t1 r.kept kept e1 in
+    let m = each_paired SameShape numbered_rule_atom shape_same t1 t2 r.removed removed e2 in
     let g = each_paired SameTest number_test test_same t2 t3 r.guard guard e3 in
     let b = each_paired SameMember number_member member_same t3 t4 r.body body e4 in
     let heads : known_behind_heads 0 (r.kept ++ r.removed) ≡ known_behind_heads 0 (kept ++ removed) = heads_known 0 (r.kept ++ r.removed) (kept ++ removed) (paired_append SameShape r.kept r.removed kept removed k m) in

@@ -6,11 +6,11 @@ use Rattle.std.specs.Str.{bytes_eq}
 use Rattle.chr_lex.specs.declared.fault.Kind.{Kind}
 use Rattle.chr_lex.specs.declared.fault.Kind.TheVariants.{Syntax}
 use Rattle.chr_lex.specs.Reading.{◌>>=◌}
-use Rattle.chr_lex.specs.Tokens.{Word, Name, Variable, Number, Lexeme, Said, Sign, is_word}
+use Rattle.chr_lex.specs.Tokens.{Word, Name, Variable, Number, Lexeme, OfWord, OfMark, is_word}
 use Rattle.chr_rule.specs.declared.expression.Operator.{Operator}
 use Rattle.chr_grammar.specs.declared.expression.TheConstants.{MOST_DEPTH}
-use Rattle.chr_grammar.specs.Written as written
-use Rattle.chr_grammar.specs.Written.{Formula, Phrase, Test, Member, RawRule, Statement}
+use Rattle.chr_grammar.specs.Parsed as parsed
+use Rattle.chr_grammar.specs.Parsed.{ParsedExpression, ParsedAtom, GuardMember, BodyMember, ParsedRule, Statement}
 use Rattle.chr_grammar.specs.Parsing.{Front, either, behind, members_at, is_comma, is_close, is_open, is_reserved, terms_at, args_at, phrase_at, phrases_of, closed, factor_at, chain_at, product_operator, sum_operator, product_at, sum_at, fits, fitting, expression_at, relation, relation_at, compared_at, equal, equality, other_side_at, sides_at, is_true, plain_test_at, test_at, tests_of, added_at, is_member_at, last_member_at, is_is, member_at, body_of, heads_by, heads_of, before, from_first, is_backslash, all_kept, consequence_by, consequence_of, is_bar, rule_by, is_propagate, named_rule_of, is_arrow, rule_of, is_at, named, a_rule, declarations_of, is_library, directive_of, is_declares, statement_of}
 use Rattle.chr_text.specs.Fitting.{WordPlain, PhrasePlain, TestPlain, MemberPlain, RulePlain}
 use Rattle.chr_text.proofs.Plain.{if_bind, if_cond, LexemePlain, AllPlain, all_dropped}
@@ -33,9 +33,9 @@ members_plain P member h (suc n) ts all = if_bind (FrontPlain P) (AllByRecursion
 
 terms_plain : (ts : List Lexeme) → AllPlain ts → IfOk (terms_at ts) (FrontPlain (AllByRecursion WordPlain))
 terms_plain [] all = tt
-terms_plain (Sign m ∷ ts) all = tt
-terms_plain (Said w ∷ []) all = tt
-terms_plain (Said w ∷ s ∷ ts) all =
+terms_plain (OfMark m ∷ ts) all = tt
+terms_plain (OfWord w ∷ []) all = tt
+terms_plain (OfWord w ∷ s ∷ ts) all =
     if_cond (FrontPlain (AllByRecursion WordPlain)) (is_comma s) _ _
     (if_bind (FrontPlain (AllByRecursion WordPlain)) (FrontPlain (AllByRecursion WordPlain)) (terms_at ts) (λ x. Ok (w ∷ x.0, x.1)) (terms_plain ts all.1.1) (λ x p. ((all.0, p.0), p.1)))
     (if_cond (FrontPlain (AllByRecursion WordPlain)) (is_close s) _ _ ((all.0, tt), all.1.1) tt)
@@ -49,16 +49,16 @@ args_plain name (s ∷ ts) h all =
 
 pub phrase_plain : (ts : List Lexeme) → AllPlain ts → IfOk (phrase_at ts) (FrontPlain PhrasePlain)
 phrase_plain [] all = tt
-phrase_plain (Said (Name name) ∷ ts) all = args_plain name ts all.0 all.1
-phrase_plain (Said (Variable x) ∷ ts) all = tt
-phrase_plain (Said (Number negative ds) ∷ ts) all = tt
-phrase_plain (Sign m ∷ ts) all = tt
+phrase_plain (OfWord (Name name) ∷ ts) all = args_plain name ts all.0 all.1
+phrase_plain (OfWord (Variable x) ∷ ts) all = tt
+phrase_plain (OfWord (Number negative ds) ∷ ts) all = tt
+phrase_plain (OfMark m ∷ ts) all = tt
 
 pub phrases_plain : (ts : List Lexeme) → AllPlain ts → IfOk (phrases_of ts) (AllByRecursion PhrasePlain)
 phrases_plain ts all = members_plain PhrasePlain phrase_at phrase_plain (length ts) ts all
 
-pub phrases_are_plain : (ts : List Lexeme) (ps : List Phrase) → AllPlain ts → phrases_of ts ≡ Ok ps → AllByRecursion PhrasePlain ps
-phrases_are_plain ts ps all h = subst (λ (r : Result (List Phrase) Kind). IfOk r (AllByRecursion PhrasePlain)) h (phrases_plain ts all)
+pub phrases_are_plain : (ts : List Lexeme) (ps : List ParsedAtom) → AllPlain ts → phrases_of ts ≡ Ok ps → AllByRecursion PhrasePlain ps
+phrases_are_plain ts ps all h = subst (λ (r : Result (List ParsedAtom) Kind). IfOk r (AllByRecursion PhrasePlain)) h (phrases_plain ts all)
 
 -- ---- expressions: the tokens behind them have plain names
 
@@ -69,29 +69,29 @@ if_either : {A B : Type 0} (P : B → Type 0) (o : Option A) (without : Result B
 if_either P None without with p q = p
 if_either P (Some x) without with p q = q x
 
-abbrev Behind : Formula × List Lexeme → Type 0
+abbrev Behind : ParsedExpression × List Lexeme → Type 0
 Behind x = FrontPlain Whatever x
 
-closed_plain : (f : Formula) (ts : List Lexeme) → AllPlain ts → IfOk (closed f ts) Behind
+closed_plain : (f : ParsedExpression) (ts : List Lexeme) → AllPlain ts → IfOk (closed f ts) Behind
 closed_plain f [] all = tt
 closed_plain f (s ∷ ts) all = if_cond Behind (is_close s) _ _ (tt, all.1) tt
 
-factor_plain : (inner : List Lexeme → Front Formula) → ((ts : List Lexeme) → AllPlain ts → IfOk (inner ts) Behind) → (ts : List Lexeme) → AllPlain ts → IfOk (factor_at inner ts) Behind
+factor_plain : (inner : List Lexeme → Front ParsedExpression) → ((ts : List Lexeme) → AllPlain ts → IfOk (inner ts) Behind) → (ts : List Lexeme) → AllPlain ts → IfOk (factor_at inner ts) Behind
 factor_plain inner h [] all = tt
-factor_plain inner h (Said (Name x) ∷ ts) all = tt
-factor_plain inner h (Said (Variable x) ∷ ts) all = (tt, all.1)
-factor_plain inner h (Said (Number negative ds) ∷ ts) all = (tt, all.1)
-factor_plain inner h (Sign m ∷ ts) all = if_cond Behind (is_open (Sign m)) _ _ (if_bind Behind Behind (inner ts) (λ x. closed x.0 x.1) (h ts all.1) (λ x p. closed_plain x.0 x.1 p.1)) tt
+factor_plain inner h (OfWord (Name x) ∷ ts) all = tt
+factor_plain inner h (OfWord (Variable x) ∷ ts) all = (tt, all.1)
+factor_plain inner h (OfWord (Number negative ds) ∷ ts) all = (tt, all.1)
+factor_plain inner h (OfMark m ∷ ts) all = if_cond Behind (is_open (OfMark m)) _ _ (if_bind Behind Behind (inner ts) (λ x. closed x.0 x.1) (h ts all.1) (λ x p. closed_plain x.0 x.1 p.1)) tt
 
-chain_plain : (operator : Lexeme → Option Operator) (side : List Lexeme → Front Formula) → ((ts : List Lexeme) → AllPlain ts → IfOk (side ts) Behind) → (n : ℕ) (left : Formula) (ts : List Lexeme) → AllPlain ts → IfOk (chain_at operator side n left ts) Behind
+chain_plain : (operator : Lexeme → Option Operator) (side : List Lexeme → Front ParsedExpression) → ((ts : List Lexeme) → AllPlain ts → IfOk (side ts) Behind) → (n : ℕ) (left : ParsedExpression) (ts : List Lexeme) → AllPlain ts → IfOk (chain_at operator side n left ts) Behind
 chain_plain operator side h zero left [] all = (tt, all)
 chain_plain operator side h (suc n) left [] all = (tt, all)
 chain_plain operator side h zero left (s ∷ ts) all = if_either Behind (operator s) (Ok (left, s ∷ ts)) (λ o. Err Syntax) (tt, all) (λ o. tt)
 chain_plain operator side h (suc n) left (s ∷ ts) all =
-    if_either Behind (operator s) (Ok (left, s ∷ ts)) (λ o. side ts >>= λ x. chain_at operator side n (written.Operation o left x.0) x.1) (tt, all)
-    (λ o. if_bind Behind Behind (side ts) (λ x. chain_at operator side n (written.Operation o left x.0) x.1) (h ts all.1) (λ x p. chain_plain operator side h n (written.Operation o left x.0) x.1 p.1))
+    if_either Behind (operator s) (Ok (left, s ∷ ts)) (λ o. side ts >>= λ x. chain_at operator side n (parsed.Operation o left x.0) x.1) (tt, all)
+    (λ o. if_bind Behind Behind (side ts) (λ x. chain_at operator side n (parsed.Operation o left x.0) x.1) (h ts all.1) (λ x p. chain_plain operator side h n (parsed.Operation o left x.0) x.1 p.1))
 
-product_plain : (inner : List Lexeme → Front Formula) → ((ts : List Lexeme) → AllPlain ts → IfOk (inner ts) Behind) → (ts : List Lexeme) → AllPlain ts → IfOk (product_at inner ts) Behind
+product_plain : (inner : List Lexeme → Front ParsedExpression) → ((ts : List Lexeme) → AllPlain ts → IfOk (inner ts) Behind) → (ts : List Lexeme) → AllPlain ts → IfOk (product_at inner ts) Behind
 product_plain inner h ts all = if_bind Behind Behind (factor_at inner ts) (λ x. chain_at product_operator (factor_at inner) (MOST_DEPTH - 1) x.0 x.1) (factor_plain inner h ts all) (λ x p. chain_plain product_operator (factor_at inner) (factor_plain inner h) (MOST_DEPTH - 1) x.0 x.1 p.1)
 
 sum_plain : (n : ℕ) (ts : List Lexeme) → AllPlain ts → IfOk (sum_at n ts) Behind
@@ -105,9 +105,9 @@ expression_plain ts all = if_bind Behind Behind (sum_at MOST_DEPTH ts) (λ x. fi
 
 -- ---- guards
 
-relation_plain : (f : Formula) (ts : List Lexeme) → AllPlain ts → IfOk (relation_at f ts) (FrontPlain TestPlain)
+relation_plain : (f : ParsedExpression) (ts : List Lexeme) → AllPlain ts → IfOk (relation_at f ts) (FrontPlain TestPlain)
 relation_plain f [] all = tt
-relation_plain f (s ∷ ts) all = if_either (FrontPlain TestPlain) (relation s) (Err Syntax) (λ r. expression_at ts >>= λ x. Ok (written.Compared r f x.0, x.1)) tt (λ r. if_bind Behind (FrontPlain TestPlain) (expression_at ts) (λ x. Ok (written.Compared r f x.0, x.1)) (expression_plain ts all.1) (λ x p. (tt, p.1)))
+relation_plain f (s ∷ ts) all = if_either (FrontPlain TestPlain) (relation s) (Err Syntax) (λ r. expression_at ts >>= λ x. Ok (parsed.Compared r f x.0, x.1)) tt (λ r. if_bind Behind (FrontPlain TestPlain) (expression_at ts) (λ x. Ok (parsed.Compared r f x.0, x.1)) (expression_plain ts all.1) (λ x p. (tt, p.1)))
 
 compared_plain : (ts : List Lexeme) → AllPlain ts → IfOk (compared_at ts) (FrontPlain TestPlain)
 compared_plain ts all = if_bind Behind (FrontPlain TestPlain) (expression_at ts) (λ x. relation_at x.0 x.1) (expression_plain ts all) (λ x p. relation_plain x.0 x.1 p.1)
@@ -118,12 +118,12 @@ equal_plain false v w p q = (p, q)
 
 other_plain : (same : Bool) (v : Word) (ts : List Lexeme) → WordPlain v → AllPlain ts → IfOk (other_side_at same v ts) (FrontPlain TestPlain)
 other_plain same v [] p all = tt
-other_plain same v (Said w ∷ ts) p all = (equal_plain same v w p all.0, all.1)
-other_plain same v (Sign m ∷ ts) p all = tt
+other_plain same v (OfWord w ∷ ts) p all = (equal_plain same v w p all.0, all.1)
+other_plain same v (OfMark m ∷ ts) p all = tt
 
 sides_plain : (same : Bool) (s : Lexeme) (ts : List Lexeme) → LexemePlain s → AllPlain ts → IfOk (sides_at same s ts) (FrontPlain TestPlain)
-sides_plain same (Said v) ts p all = other_plain same v ts p all
-sides_plain same (Sign m) ts p all = tt
+sides_plain same (OfWord v) ts p all = other_plain same v ts p all
+sides_plain same (OfMark m) ts p all = tt
 
 plain_test-plain : (ts : List Lexeme) → AllPlain ts → IfOk (plain_test_at ts) (FrontPlain TestPlain)
 plain_test-plain [] all = compared_plain [] all
@@ -140,13 +140,13 @@ tests_plain ts all = members_plain TestPlain test_at test_plain (length ts) ts a
 -- ---- bodies
 
 added_plain : (ts : List Lexeme) → AllPlain ts → IfOk (added_at ts) (FrontPlain MemberPlain)
-added_plain ts all = if_bind (FrontPlain PhrasePlain) (FrontPlain MemberPlain) (phrase_at ts) (λ x. Ok (written.Add x.0, x.1)) (phrase_plain ts all) (λ x p. (p.0, p.1))
+added_plain ts all = if_bind (FrontPlain PhrasePlain) (FrontPlain MemberPlain) (phrase_at ts) (λ x. Ok (parsed.Add x.0, x.1)) (phrase_plain ts all) (λ x p. (p.0, p.1))
 
 is_plain : (s : Lexeme) (ts : List Lexeme) → AllPlain ts → IfOk (is_member_at s ts) (FrontPlain MemberPlain)
-is_plain (Said (Variable x)) ts all = if_bind Behind (FrontPlain MemberPlain) (expression_at ts) (λ e. Ok (written.Is x e.0, e.1)) (expression_plain ts all) (λ e p. (tt, p.1))
-is_plain (Said (Name x)) ts all = tt
-is_plain (Said (Number negative ds)) ts all = tt
-is_plain (Sign m) ts all = tt
+is_plain (OfWord (Variable x)) ts all = if_bind Behind (FrontPlain MemberPlain) (expression_at ts) (λ e. Ok (parsed.Is x e.0, e.1)) (expression_plain ts all) (λ e p. (tt, p.1))
+is_plain (OfWord (Name x)) ts all = tt
+is_plain (OfWord (Number negative ds)) ts all = tt
+is_plain (OfMark m) ts all = tt
 
 last_plain : (ts : List Lexeme) → AllPlain ts → IfOk (last_member_at ts) (FrontPlain MemberPlain)
 last_plain [] all = tt
@@ -162,10 +162,10 @@ body_plain ts all = members_plain MemberPlain member_at member_plain (length ts)
 
 -- ---- rules
 
-abbrev HeadsPlain : List Phrase × List Phrase → Type 0
+abbrev HeadsPlain : List ParsedAtom × List ParsedAtom → Type 0
 HeadsPlain x = AllByRecursion PhrasePlain x.0 × AllByRecursion PhrasePlain x.1
 
-abbrev ConsequencePlain : List Test × List Member → Type 0
+abbrev ConsequencePlain : List GuardMember × List BodyMember → Type 0
 ConsequencePlain x = AllByRecursion TestPlain x.0 × AllByRecursion MemberPlain x.1
 
 heads_by-plain : (heads ts : List Lexeme) → AllPlain heads → AllPlain ts → IfOk (heads_by heads ts) HeadsPlain
@@ -205,16 +205,16 @@ consequence_by-plain front (s ∷ ts) p q =
 consequence_plain : (ts : List Lexeme) → AllPlain ts → IfOk (consequence_of ts) ConsequencePlain
 consequence_plain ts all = consequence_by-plain (before is_bar ts) (from_first is_bar ts) (before_plain is_bar ts all) (from_plain is_bar ts all)
 
-rule_by-plain : (label : Option (List ℕ)) (heads ts : List Lexeme) → AllPlain heads → AllPlain ts → IfOk (rule_by label heads ts) RulePlain
-rule_by-plain label heads [] p q = tt
-rule_by-plain label heads (s ∷ ts) p q =
-    if_bind HeadsPlain RulePlain (cond (is_propagate s) (all_kept heads) (heads_of heads)) (λ hs. consequence_of ts >>= λ c. Ok (record { label = label; kept = hs.0; removed = hs.1; guard = c.0; body = c.1 }))
+rule_by-plain : (rule_name : Option (List ℕ)) (heads ts : List Lexeme) → AllPlain heads → AllPlain ts → IfOk (rule_by rule_name heads ts) RulePlain
+rule_by-plain rule_name heads [] p q = tt
+rule_by-plain rule_name heads (s ∷ ts) p q =
+    if_bind HeadsPlain RulePlain (cond (is_propagate s) (all_kept heads) (heads_of heads)) (λ hs. consequence_of ts >>= λ c. Ok (record { rule_name = rule_name; kept = hs.0; removed = hs.1; guard = c.0; body = c.1 }))
     (if_cond HeadsPlain (is_propagate s) (all_kept heads) (heads_of heads) (all_kept-plain heads p) (heads_plain heads p))
-    (λ hs h. if_bind ConsequencePlain RulePlain (consequence_of ts) (λ c. Ok (record { label = label; kept = hs.0; removed = hs.1; guard = c.0; body = c.1 })) (consequence_plain ts q.1)
+    (λ hs h. if_bind ConsequencePlain RulePlain (consequence_of ts) (λ c. Ok (record { rule_name = rule_name; kept = hs.0; removed = hs.1; guard = c.0; body = c.1 })) (consequence_plain ts q.1)
     (λ c k. record { kept = h.0; removed = h.1; guard = k.0; body = k.1 }))
 
-named_rule-plain : (label : Option (List ℕ)) (ts : List Lexeme) → AllPlain ts → IfOk (named_rule_of label ts) RulePlain
-named_rule-plain label ts all = rule_by-plain label (before is_arrow ts) (from_first is_arrow ts) (before_plain is_arrow ts all) (from_plain is_arrow ts all)
+named_rule-plain : (rule_name : Option (List ℕ)) (ts : List Lexeme) → AllPlain ts → IfOk (named_rule_of rule_name ts) RulePlain
+named_rule-plain rule_name ts all = rule_by-plain rule_name (before is_arrow ts) (from_first is_arrow ts) (before_plain is_arrow ts all) (from_plain is_arrow ts all)
 
 rule_plain : (ts : List Lexeme) → AllPlain ts → IfOk (rule_of ts) RulePlain
 rule_plain [] all = named_rule-plain None [] all
@@ -225,21 +225,21 @@ rule_plain (s ∷ e ∷ ts) all =
 -- ---- statements
 
 abbrev StatementPlain : Statement → Type 0
-StatementPlain written.Import = Unit {0}
-StatementPlain (written.Declaration ds) = Unit {0}
-StatementPlain (written.Rule r) = RulePlain r
+StatementPlain parsed.Import = Unit {0}
+StatementPlain (parsed.Declaration ds) = Unit {0}
+StatementPlain (parsed.Rule r) = RulePlain r
 
 a_rule-plain : (ts : List Lexeme) → AllPlain ts → IfOk (a_rule ts) StatementPlain
-a_rule-plain ts all = if_bind RulePlain StatementPlain (rule_of ts) (λ r. Ok (written.Rule r)) (rule_plain ts all) (λ r p. p)
+a_rule-plain ts all = if_bind RulePlain StatementPlain (rule_of ts) (λ r. Ok (parsed.Rule r)) (rule_plain ts all) (λ r p. p)
 
-declaration_plain : (r : Result (List written.Declared) Kind) → IfOk (r >>= λ ds. Ok (written.Declaration ds)) StatementPlain
+declaration_plain : (r : Result (List parsed.Declared) Kind) → IfOk (r >>= λ ds. Ok (parsed.Declaration ds)) StatementPlain
 declaration_plain (Ok ds) = tt
 declaration_plain (Err k) = tt
 
 directive_plain : (name : List ℕ) (ts : List Lexeme) → IfOk (directive_of name ts) StatementPlain
 directive_plain name ts =
     if_cond StatementPlain (bytes_eq name (codes "chr_constraint")) _ _ (declaration_plain (declarations_of ts))
-    (if_cond StatementPlain (bytes_eq name (codes "use_module") && is_library ts) (Ok written.Import) (Err Syntax) tt tt)
+    (if_cond StatementPlain (bytes_eq name (codes "use_module") && is_library ts) (Ok parsed.Import) (Err Syntax) tt tt)
 
 statement_plain : (ts : List Lexeme) → AllPlain ts → IfOk (statement_of ts) StatementPlain
 statement_plain [] all = a_rule-plain [] all
@@ -247,5 +247,5 @@ statement_plain (s ∷ []) all = a_rule-plain (s ∷ []) all
 statement_plain (s ∷ e ∷ ts) all =
     if_cond StatementPlain (is_declares s) _ _ (if_either StatementPlain (named e) (Err Syntax) (λ name. directive_of name ts) tt (λ name. directive_plain name ts)) (a_rule-plain (s ∷ e ∷ ts) all)
 
-pub rules_are_plain : (ts : List Lexeme) (r : RawRule) → AllPlain ts → statement_of ts ≡ Ok (written.Rule r) → RulePlain r
+pub rules_are_plain : (ts : List Lexeme) (r : ParsedRule) → AllPlain ts → statement_of ts ≡ Ok (parsed.Rule r) → RulePlain r
 rules_are_plain ts r all h = subst (λ (x : Result Statement Kind). IfOk x StatementPlain) h (statement_plain ts all)

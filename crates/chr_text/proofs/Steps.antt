@@ -7,23 +7,23 @@ use Rattle.chr_lex.specs.declared.fault.ItemError.{ItemError}
 use Rattle.chr_lex.specs.declared.fault.ItemError.TheVariants as item_errors
 use Rattle.chr_lex.specs.Reading.{Fails}
 use Rattle.chr_value.specs.Naming.{◌>>=◌, Table}
-use Rattle.chr_text.specs.Numbering.{numbered, each, more}
+use Rattle.chr_text.specs.Numbering.{or_full, each, more}
 
-pub numbered_is : {A : Type 0} (r : Option A) (x : A) → numbered r ≡ Ok x → r ≡ Some x
+pub numbered_is : {A : Type 0} (r : Option A) (x : A) → or_full r ≡ Ok x → r ≡ Some x
 numbered_is None x e = absurd cc
 numbered_is (Some y) x e = cc
 
-pub kind_is : {A : Type 0} (k : Kind) → numbered {A = A} None ≡ Err k → NamesFull ≡ k
+pub kind_is : {A : Type 0} (k : Kind) → or_full {A = A} None ≡ Err k → NamesFull ≡ k
 kind_is k h = cc
 
 -- What fails first fails.
-pub fails_then : {A B : Type 0} (e : ItemError) (r : Option A) (f : A → Option B) → Fails e (numbered r) → Fails e (numbered (r >>= f))
+pub fails_then : {A B : Type 0} (e : ItemError) (r : Option A) (f : A → Option B) → Fails e (or_full r) → Fails e (or_full (r >>= f))
 fails_then item_errors.Memory r f h = tt
 fails_then (item_errors.Fault k) None f h = ap (λ (j : Kind). Err j) (kind_is k h)
 fails_then (item_errors.Fault k) (Some x) f h = absurd cc
 
 pub each_fails : {A B : Type 0} (f : Table → A → Option (B × Table)) (e : ItemError) (front : List B) (table : Table) (a : A) (as' all : List A) (total : Option (List B × Table))
-    → all ≡ a ∷ as' → Fails e (numbered (f table a)) → more front (each f table all) ≡ total → Fails e (numbered total)
+    → all ≡ a ∷ as' → Fails e (or_full (f table a)) → more front (each f table all) ≡ total → Fails e (or_full total)
 each_fails f e front table a as' all total is h so_far =
     rw (← so_far, is) (fails_then e (f table a >>= λ x. each f x.1 as' >>= λ xs. Some (x.0 ∷ xs.0, xs.1)) (λ x. Some (front ++ x.0, x.1)) (fails_then e (f table a) (λ x. each f x.1 as' >>= λ xs. Some (x.0 ∷ xs.0, xs.1)) h))
 

@@ -1,4 +1,4 @@
--- One more in its turn, with the variables met so far and the table of names.
+-- One more in its turn, with the variables seen so far and the table of names.
 use Rattle.std.proofs.Common.{◌≡◌, ◌≤◌, List, [], ◌∷◌, ◌++◌, length, map, Option, Some, None, Err, refl, sym, ap, ◌∙◌, arith}
 use Rattle.std.proofs.lemmas.List.{append-nil, map_push}
 use Rattle.std.specs.Option.{option_map}
@@ -8,9 +8,9 @@ use Rattle.chr_lex.specs.declared.fault.ItemError.{ItemError}
 use Rattle.chr_lex.specs.declared.fault.ItemError.TheVariants as item_errors
 use Rattle.chr_lex.specs.Reading.{Fails}
 use Rattle.chr_value.specs.Naming.{◌>>=◌, Table}
-use Rattle.chr_text.specs.Numbering.{numbered, each, more, maybe, put}
-use Rattle.chr_text.specs.Said.{somes}
-use Rattle.chr_text.specs.Variables.{Met, in_turn}
+use Rattle.chr_text.specs.Numbering.{or_full, each, more, maybe, put}
+use Rattle.chr_text.specs.Translation.{somes}
+use Rattle.chr_text.specs.Variables.{Seen, in_turn}
 use Rattle.chr_text.proofs.Growing.{in_turn_grows}
 use Rattle.chr_text.proofs.Steps.{each_fails, each_more, each_done, kind_is}
 
@@ -18,30 +18,30 @@ pub more_nothing : {B : Type 0} (rest : Option (List B × Table)) → more [] re
 more_nothing None = refl
 more_nothing (Some x) = refl
 
-pub turn_met : {A B : Type 0} (g : Met → A → B × Met) (met after last : Met) (a : A) (as' all : List A) → all ≡ a ∷ as' → after ≡ (g met a).1 → (in_turn g met all).1 ≡ last → (in_turn g after as').1 ≡ last
-turn_met g met after last a as' all is e so_far = rw e (ap (λ l. (in_turn g met l).1) (sym is) ∙ so_far)
+pub turn_seen : {A B : Type 0} (g : Seen → A → B × Seen) (seen after last : Seen) (a : A) (as' all : List A) → all ≡ a ∷ as' → after ≡ (g seen a).1 → (in_turn g seen all).1 ≡ last → (in_turn g after as').1 ≡ last
+turn_seen g seen after last a as' all is e so_far = rw e (ap (λ l. (in_turn g seen l).1) (sym is) ∙ so_far)
 
-pub turn_room : {A B : Type 0} (g : Met → A → B × Met) → ((met : Met) (a : A) → length met ≤ length (g met a).1) → (met last : Met) (a : A) (as' all : List A) → all ≡ a ∷ as' → (in_turn g met all).1 ≡ last → length last ≤ 24 → length (g met a).1 ≤ 24
-turn_room g grows met last a as' all is so_far room =
-    let e : (in_turn g (g met a).1 as').1 ≡ last = ap (λ l. (in_turn g met l).1) (sym is) ∙ so_far in
-    omega (arith, in_turn_grows g grows (g met a).1 as', ap length e)
+pub turn_room : {A B : Type 0} (g : Seen → A → B × Seen) → ((seen : Seen) (a : A) → length seen ≤ length (g seen a).1) → (seen last : Seen) (a : A) (as' all : List A) → all ≡ a ∷ as' → (in_turn g seen all).1 ≡ last → length last ≤ 24 → length (g seen a).1 ≤ 24
+turn_room g grows seen last a as' all is so_far room =
+    let e : (in_turn g (g seen a).1 as').1 ≡ last = ap (λ l. (in_turn g seen l).1) (sym is) ∙ so_far in
+    omega (arith, in_turn_grows g grows (g seen a).1 as', ap length e)
 
-pub turn_more : {A B C : Type 0} (f : Table → B → Option (C × Table)) (g : Met → A → B × Met) (front : List C) (table new : Table) (met after : Met) (a : A) (as' all : List A) (y : C) (total : Option (List C × Table))
-    → all ≡ a ∷ as' → f table (g met a).0 ≡ Some (y, new) → after ≡ (g met a).1 → more front (each f table (in_turn g met all).0) ≡ total → more (front ++ y ∷ []) (each f new (in_turn g after as').0) ≡ total
-turn_more f g front table new met after a as' all y total is h e so_far =
-    rw e (each_more f front table new (g met a).0 (in_turn g (g met a).1 as').0 (in_turn g met all).0 y total (ap (λ l. (in_turn g met l).0) is) h so_far)
+pub turn_more : {A B C : Type 0} (f : Table → B → Option (C × Table)) (g : Seen → A → B × Seen) (front : List C) (table new : Table) (seen after : Seen) (a : A) (as' all : List A) (y : C) (total : Option (List C × Table))
+    → all ≡ a ∷ as' → f table (g seen a).0 ≡ Some (y, new) → after ≡ (g seen a).1 → more front (each f table (in_turn g seen all).0) ≡ total → more (front ++ y ∷ []) (each f new (in_turn g after as').0) ≡ total
+turn_more f g front table new seen after a as' all y total is h e so_far =
+    rw e (each_more f front table new (g seen a).0 (in_turn g (g seen a).1 as').0 (in_turn g seen all).0 y total (ap (λ l. (in_turn g seen l).0) is) h so_far)
 
-pub turn_fails : {A B C : Type 0} (f : Table → B → Option (C × Table)) (g : Met → A → B × Met) (error : ItemError) (front : List C) (table : Table) (met : Met) (a : A) (as' all : List A) (total : Option (List C × Table))
-    → all ≡ a ∷ as' → Fails error (numbered (f table (g met a).0)) → more front (each f table (in_turn g met all).0) ≡ total → Fails error (numbered total)
-turn_fails f g error front table met a as' all total is h so_far =
-    each_fails f error front table (g met a).0 (in_turn g (g met a).1 as').0 (in_turn g met all).0 total (ap (λ l. (in_turn g met l).0) is) h so_far
+pub turn_fails : {A B C : Type 0} (f : Table → B → Option (C × Table)) (g : Seen → A → B × Seen) (error : ItemError) (front : List C) (table : Table) (seen : Seen) (a : A) (as' all : List A) (total : Option (List C × Table))
+    → all ≡ a ∷ as' → Fails error (or_full (f table (g seen a).0)) → more front (each f table (in_turn g seen all).0) ≡ total → Fails error (or_full total)
+turn_fails f g error front table seen a as' all total is h so_far =
+    each_fails f error front table (g seen a).0 (in_turn g (g seen a).1 as').0 (in_turn g seen all).0 total (ap (λ l. (in_turn g seen l).0) is) h so_far
 
-pub turn_done : {A B C : Type 0} (f : Table → B → Option (C × Table)) (g : Met → A → B × Met) (front : List C) (table : Table) (met : Met) (all : List A) (total : Option (List C × Table))
-    → all ≡ [] → more front (each f table (in_turn g met all).0) ≡ total → total ≡ Some (front, table)
-turn_done f g front table met all total is so_far = each_done f front table (in_turn g met all).0 total (ap (λ l. (in_turn g met l).0) is) so_far
+pub turn_done : {A B C : Type 0} (f : Table → B → Option (C × Table)) (g : Seen → A → B × Seen) (front : List C) (table : Table) (seen : Seen) (all : List A) (total : Option (List C × Table))
+    → all ≡ [] → more front (each f table (in_turn g seen all).0) ≡ total → total ≡ Some (front, table)
+turn_done f g front table seen all total is so_far = each_done f front table (in_turn g seen all).0 total (ap (λ l. (in_turn g seen l).0) is) so_far
 
-pub met_done : {A B : Type 0} (g : Met → A → B × Met) (met last : Met) (all : List A) → all ≡ [] → (in_turn g met all).1 ≡ last → met ≡ last
-met_done g met last all is so_far = ap (λ l. (in_turn g met l).1) (sym is) ∙ so_far
+pub met_done : {A B : Type 0} (g : Seen → A → B × Seen) (seen last : Seen) (all : List A) → all ≡ [] → (in_turn g seen all).1 ≡ last → seen ≡ last
+met_done g seen last all is so_far = ap (λ l. (in_turn g seen l).1) (sym is) ∙ so_far
 
 -- ---- where some give nothing
 
@@ -69,30 +69,30 @@ some_step f front table new (Some b) os y total h so_far =
     let e = given_one (f table b) y new h in
     rw e.1 (each_more f front table new b (somes os) (somes (Some b ∷ os)) e.0 total refl e.2 so_far)
 
-pub some_turn : {A B C : Type 0} (f : Table → B → Option (C × Table)) (g : Met → A → Option B × Met) (front : List C) (table new : Table) (met after : Met) (a : A) (as' all : List A) (y : Option C) (total : Option (List C × Table))
-    → all ≡ a ∷ as' → maybe f table (g met a).0 ≡ Some (y, new) → after ≡ (g met a).1 → more front (each f table (somes (in_turn g met all).0)) ≡ total → more (front ++ put y) (each f new (somes (in_turn g after as').0)) ≡ total
-some_turn f g front table new met after a as' all y total is h e so_far =
-    rw e (some_step f front table new (g met a).0 (in_turn g (g met a).1 as').0 y total h (ap (λ l. more front (each f table (somes (in_turn g met l).0))) (sym is) ∙ so_far))
+pub some_turn : {A B C : Type 0} (f : Table → B → Option (C × Table)) (g : Seen → A → Option B × Seen) (front : List C) (table new : Table) (seen after : Seen) (a : A) (as' all : List A) (y : Option C) (total : Option (List C × Table))
+    → all ≡ a ∷ as' → maybe f table (g seen a).0 ≡ Some (y, new) → after ≡ (g seen a).1 → more front (each f table (somes (in_turn g seen all).0)) ≡ total → more (front ++ put y) (each f new (somes (in_turn g after as').0)) ≡ total
+some_turn f g front table new seen after a as' all y total is h e so_far =
+    rw e (some_step f front table new (g seen a).0 (in_turn g (g seen a).1 as').0 y total h (ap (λ l. more front (each f table (somes (in_turn g seen l).0))) (sym is) ∙ so_far))
 
-one_fails : {C : Type 0} (error : ItemError) (r : Option (C × Table)) → Fails error (numbered (r >>= with_some)) → Fails error (numbered r)
+one_fails : {C : Type 0} (error : ItemError) (r : Option (C × Table)) → Fails error (or_full (r >>= with_some)) → Fails error (or_full r)
 one_fails item_errors.Memory r h = tt
 one_fails (item_errors.Fault k) None h = ap (λ (j : Kind). Err j) (kind_is k h)
 one_fails (item_errors.Fault k) (Some x) h = absurd cc
 
-no_error : {C D : Type 0} (error : ItemError) (x : C) (total : Option D) → Fails error (numbered (Some x)) → Fails error (numbered total)
+no_error : {C D : Type 0} (error : ItemError) (x : C) (total : Option D) → Fails error (or_full (Some x)) → Fails error (or_full total)
 no_error item_errors.Memory x total h = tt
 no_error (item_errors.Fault k) x total h = absurd cc
 
 some_fails-step : {B C : Type 0} (f : Table → B → Option (C × Table)) (error : ItemError) (front : List C) (table : Table) (o : Option B) (os : List (Option B)) (total : Option (List C × Table))
-    → Fails error (numbered (maybe f table o)) → more front (each f table (somes (o ∷ os))) ≡ total → Fails error (numbered total)
+    → Fails error (or_full (maybe f table o)) → more front (each f table (somes (o ∷ os))) ≡ total → Fails error (or_full total)
 some_fails-step {C = C} f error front table None os total h so_far = no_error {C = Option C × Table} error (None, table) total h
 some_fails-step f error front table (Some b) os total h so_far = each_fails f error front table b (somes os) (somes (Some b ∷ os)) total refl (one_fails error (f table b) h) so_far
 
-pub some_fails : {A B C : Type 0} (f : Table → B → Option (C × Table)) (g : Met → A → Option B × Met) (error : ItemError) (front : List C) (table : Table) (met : Met) (a : A) (as' all : List A) (total : Option (List C × Table))
-    → all ≡ a ∷ as' → Fails error (numbered (maybe f table (g met a).0)) → more front (each f table (somes (in_turn g met all).0)) ≡ total → Fails error (numbered total)
-some_fails f g error front table met a as' all total is h so_far =
-    some_fails-step f error front table (g met a).0 (in_turn g (g met a).1 as').0 total h (ap (λ l. more front (each f table (somes (in_turn g met l).0))) (sym is) ∙ so_far)
+pub some_fails : {A B C : Type 0} (f : Table → B → Option (C × Table)) (g : Seen → A → Option B × Seen) (error : ItemError) (front : List C) (table : Table) (seen : Seen) (a : A) (as' all : List A) (total : Option (List C × Table))
+    → all ≡ a ∷ as' → Fails error (or_full (maybe f table (g seen a).0)) → more front (each f table (somes (in_turn g seen all).0)) ≡ total → Fails error (or_full total)
+some_fails f g error front table seen a as' all total is h so_far =
+    some_fails-step f error front table (g seen a).0 (in_turn g (g seen a).1 as').0 total h (ap (λ l. more front (each f table (somes (in_turn g seen l).0))) (sym is) ∙ so_far)
 
-pub some_done : {A B C : Type 0} (f : Table → B → Option (C × Table)) (g : Met → A → Option B × Met) (front : List C) (table : Table) (met : Met) (all : List A) (total : Option (List C × Table))
-    → all ≡ [] → more front (each f table (somes (in_turn g met all).0)) ≡ total → total ≡ Some (front, table)
-some_done f g front table met all total is so_far = each_done f front table (somes (in_turn g met all).0) total (ap (λ l. somes (in_turn g met l).0) is) so_far
+pub some_done : {A B C : Type 0} (f : Table → B → Option (C × Table)) (g : Seen → A → Option B × Seen) (front : List C) (table : Table) (seen : Seen) (all : List A) (total : Option (List C × Table))
+    → all ≡ [] → more front (each f table (somes (in_turn g seen all).0)) ≡ total → total ≡ Some (front, table)
+some_done f g front table seen all total is so_far = each_done f front table (somes (in_turn g seen all).0) total (ap (λ l. somes (in_turn g seen l).0) is) so_far

@@ -5,16 +5,16 @@ use Rattle.std.specs.Str.{bytes_eq}
 use Rattle.std.proofs.lemmas.Bool.{lt-ltb}
 use Rattle.chr_lex.specs.Tokens.{Word}
 use Rattle.chr_lex.specs.Tokens as words
-use Rattle.chr_grammar.specs.Written as written
-use Rattle.chr_rule.specs.Rules.{Shape}
+use Rattle.chr_grammar.specs.Parsed as parsed
+use Rattle.chr_rule.specs.Rules.{RuleAtom}
 use Rattle.chr_rule.specs.Scope.{known_behind_args, known_behind_heads, known_behind_body, known_then, argument_known, expression_known, test_known, variable_count}
 use Rattle.chr_value.proofs.Chosen.{both}
-use Rattle.chr_limits.specs.Variables.{is_blank, is_met, met_from, met, word_variables, formula_variables, phrase_variables, test_variables, member_variables, head_variables, variables_of}
-use Rattle.chr_limits.specs.Scope.{are_met, body_in_scope, is_in_scope}
+use Rattle.chr_limits.specs.Variables.{is_blank, is_seen, seen_from, seen, word_variables, formula_variables, phrase_variables, test_variables, member_variables, head_variables, variables_of}
+use Rattle.chr_limits.specs.Scope.{are_seen, body_in_scope, is_in_scope}
 use Rattle.chr_limits.proofs.Meeting.{met_from_append}
-use Rattle.chr_limits.proofs.Scoped.{still_all_met}
-use Rattle.chr_text.specs.Said.{argument, shape, expression, test, member, somes, behind_kept, behind_heads, behind_guard, behind_body, rule}
-use Rattle.chr_text.specs.Variables.{Met, number_variable, in_turn}
+use Rattle.chr_limits.proofs.Scoped.{still_all_seen}
+use Rattle.chr_text.specs.Translation.{argument, rule_atom, expression, test, member, somes, behind_kept, behind_heads, behind_guard, behind_body, rule}
+use Rattle.chr_text.specs.Variables.{Seen, number_variable, in_turn}
 
 -- ---- places
 
@@ -35,44 +35,44 @@ found_first : {A : Type 0} (p : A → Bool) (xs ys : List A) → list_any p xs �
 found_first p [] ys h = absurd cc
 found_first p (x ∷ xs) ys h = found_first-step (p x) (list_any p xs) (position_or_len p (xs ++ ys)) (position_or_len p xs) h (found_first p xs ys)
 
--- those of m are met in n too, at places of m
-abbrev Holds : Met → Met → Type 0
-Holds m n = (x : List ℕ) → is_met m x ≡ true → (is_met n x ≡ true) × (position_or_len (bytes_eq x) n < length m)
+-- those of m are seen in n too, at places of m
+abbrev Holds : Seen → Seen → Type 0
+Holds m n = (x : List ℕ) → is_seen m x ≡ true → (is_seen n x ≡ true) × (position_or_len (bytes_eq x) n < length m)
 
-holds_same : (m : Met) → Holds m m
+holds_same : (m : Seen) → Holds m m
 holds_same m x h = (h, found (bytes_eq x) m (both (not (is_blank x)) (list_any (bytes_eq x) m) h).1)
 
-one_met : (m : Met) (x : List ℕ) → are_met m (x ∷ []) ≡ true → is_met m x ≡ true
-one_met m x h = (both (is_met m x) true h).0
+one_seen : (m : Seen) (x : List ℕ) → are_seen m (x ∷ []) ≡ true → is_seen m x ≡ true
+one_seen m x h = (both (is_seen m x) true h).0
 
-still_met : (m : Met) (y x : List ℕ) → is_met m x ≡ true → is_met (m ++ y ∷ []) x ≡ true
-still_met m y x h = let one : are_met m (x ∷ []) ≡ true = rw h refl in one_met (m ++ y ∷ []) x (still_all_met m y (x ∷ []) one)
+still_seen : (m : Seen) (y x : List ℕ) → is_seen m x ≡ true → is_seen (m ++ y ∷ []) x ≡ true
+still_seen m y x h = let one : are_seen m (x ∷ []) ≡ true = rw h refl in one_seen (m ++ y ∷ []) x (still_all_seen m y (x ∷ []) one)
 
-holds_more : (m : Met) (y : List ℕ) → Holds m (m ++ y ∷ [])
+holds_more : (m : Seen) (y : List ℕ) → Holds m (m ++ y ∷ [])
 holds_more m y x h =
     let any = (both (not (is_blank x)) (list_any (bytes_eq x) m) h).1 in
-    (still_met m y x h, rw (found_first (bytes_eq x) m (y ∷ []) any) (found (bytes_eq x) m any))
+    (still_seen m y x h, rw (found_first (bytes_eq x) m (y ∷ []) any) (found (bytes_eq x) m any))
 
--- ---- variables that were met
+-- ---- variables that were seen
 
-old_variable : (m n : Met) (x : List ℕ) → Holds m n → is_met m x ≡ true → (ltb (number_variable n x).0 (length m) ≡ true) × ((number_variable n x).1 ≡ n)
+old_variable : (m n : Seen) (x : List ℕ) → Holds m n → is_seen m x ≡ true → (ltb (number_variable n x).0 (length m) ≡ true) × ((number_variable n x).1 ≡ n)
 old_variable m n x holds h =
     let k = holds x h in
     (rw k.0 (lt-ltb (position_or_len (bytes_eq x) n) (length m) k.1), rw k.0 refl)
 
-met_both : (m xs ys : List (List ℕ)) → are_met m (xs ++ ys) ≡ true → (are_met m xs ≡ true) × (are_met m ys ≡ true)
+met_both : (m xs ys : List (List ℕ)) → are_seen m (xs ++ ys) ≡ true → (are_seen m xs ≡ true) × (are_seen m ys ≡ true)
 met_both m [] ys h = (refl, h)
 met_both m (x ∷ xs) ys h =
-    let p = both (is_met m x) (are_met m (xs ++ ys)) h in
+    let p = both (is_seen m x) (are_seen m (xs ++ ys)) h in
     let q = met_both m xs ys p.1 in
     (rw (p.0, q.0) refl, q.1)
 
-old_argument : (m n : Met) (w : Word) → Holds m n → are_met m (word_variables w) ≡ true → (argument_known (length m) (argument n w).0 ≡ true) × ((argument n w).1 ≡ n)
+old_argument : (m n : Seen) (w : Word) → Holds m n → are_seen m (word_variables w) ≡ true → (argument_known (length m) (argument n w).0 ≡ true) × ((argument n w).1 ≡ n)
 old_argument m n (words.Name t) holds h = (refl, refl)
-old_argument m n (words.Variable x) holds h = old_variable m n x holds (one_met m x h)
+old_argument m n (words.Variable x) holds h = old_variable m n x holds (one_seen m x h)
 old_argument m n (words.Number negative ds) holds h = (refl, refl)
 
-old_arguments : (m n : Met) (ws : List Word) → Holds m n → are_met m (flat_map word_variables ws) ≡ true → (list_all (argument_known (length m)) (in_turn argument n ws).0 ≡ true) × ((in_turn argument n ws).1 ≡ n)
+old_arguments : (m n : Seen) (ws : List Word) → Holds m n → are_seen m (flat_map word_variables ws) ≡ true → (list_all (argument_known (length m)) (in_turn argument n ws).0 ≡ true) × ((in_turn argument n ws).1 ≡ n)
 old_arguments m n [] holds h = (refl, refl)
 old_arguments m n (w ∷ ws) holds h =
     let p = met_both m (word_variables w) (flat_map word_variables ws) h in
@@ -80,11 +80,11 @@ old_arguments m n (w ∷ ws) holds h =
     let b = old_arguments m n ws holds p.1 in
     (rw (a.0, a.1, b.0) refl, rw (a.1, b.1) refl)
 
-old_expression : (m n : Met) (e : written.Formula) → Holds m n → are_met m (formula_variables e) ≡ true → (expression_known (length m) (expression n e).0 ≡ true) × ((expression n e).1 ≡ n)
-old_expression m n (written.Number negative ds) holds h = (refl, refl)
-old_expression m n (written.Variable x) holds h = old_variable m n x holds (one_met m x h)
-old_expression m n (written.Group e) holds h = old_expression m n e holds h
-old_expression m n (written.Operation o e f) holds h =
+old_expression : (m n : Seen) (e : parsed.ParsedExpression) → Holds m n → are_seen m (formula_variables e) ≡ true → (expression_known (length m) (expression n e).0 ≡ true) × ((expression n e).1 ≡ n)
+old_expression m n (parsed.Number negative ds) holds h = (refl, refl)
+old_expression m n (parsed.Variable x) holds h = old_variable m n x holds (one_seen m x h)
+old_expression m n (parsed.Group e) holds h = old_expression m n e holds h
+old_expression m n (parsed.Operation o e f) holds h =
     let p = met_both m (formula_variables e) (formula_variables f) h in
     let a = old_expression m n e holds p.0 in
     let b = old_expression m n f holds p.1 in
@@ -92,24 +92,24 @@ old_expression m n (written.Operation o e f) holds h =
 
 -- ---- a guard
 
-old_tests : (m : Met) (ts : List written.Test) → are_met m (flat_map test_variables ts) ≡ true → (list_all (test_known (length m)) (somes (in_turn test m ts).0) ≡ true) × ((in_turn test m ts).1 ≡ m)
+old_tests : (m : Seen) (ts : List parsed.GuardMember) → are_seen m (flat_map test_variables ts) ≡ true → (list_all (test_known (length m)) (somes (in_turn test m ts).0) ≡ true) × ((in_turn test m ts).1 ≡ m)
 old_tests m [] h = (refl, refl)
-old_tests m (written.Always ∷ ts) h = old_tests m ts h
-old_tests m (written.Compared r e f ∷ ts) h =
+old_tests m (parsed.Always ∷ ts) h = old_tests m ts h
+old_tests m (parsed.Compared r e f ∷ ts) h =
     let p = met_both m (formula_variables e ++ formula_variables f) (flat_map test_variables ts) h in
     let q = met_both m (formula_variables e) (formula_variables f) p.0 in
     let a = old_expression m m e (holds_same m) q.0 in
     let b = old_expression m m f (holds_same m) q.1 in
     let c = old_tests m ts p.1 in
     (rw (a.0, a.1, b.0, b.1, c.0) refl, rw (a.1, b.1, c.1) refl)
-old_tests m (written.Same s t ∷ ts) h =
+old_tests m (parsed.Same s t ∷ ts) h =
     let p = met_both m (word_variables s ++ word_variables t) (flat_map test_variables ts) h in
     let q = met_both m (word_variables s) (word_variables t) p.0 in
     let a = old_argument m m s (holds_same m) q.0 in
     let b = old_argument m m t (holds_same m) q.1 in
     let c = old_tests m ts p.1 in
     (rw (a.0, a.1, b.0, b.1, c.0) refl, rw (a.1, b.1, c.1) refl)
-old_tests m (written.Differ s t ∷ ts) h =
+old_tests m (parsed.Differ s t ∷ ts) h =
     let p = met_both m (word_variables s ++ word_variables t) (flat_map test_variables ts) h in
     let q = met_both m (word_variables s) (word_variables t) p.0 in
     let a = old_argument m m s (holds_same m) q.0 in
@@ -125,89 +125,89 @@ not_below n = grind arith
 itself : (n : ℕ) → eqb n n ≡ true
 itself n = grind arith
 
-variable_known : (m : Met) (x : List ℕ) (b : Bool) (next : ℕ → Option ℕ) → (b ≡ true → position_or_len (bytes_eq x) m < length m)
-    → let v : ℕ × Met = cond b (position_or_len (bytes_eq x) m, m) (length m, m ++ x ∷ []) in cond (ltb v.0 (length m)) (next (length m)) (cond (eqb v.0 (length m)) (next (suc (length m))) None) ≡ next (length v.1)
+variable_known : (m : Seen) (x : List ℕ) (b : Bool) (next : ℕ → Option ℕ) → (b ≡ true → position_or_len (bytes_eq x) m < length m)
+    → let v : ℕ × Seen = cond b (position_or_len (bytes_eq x) m, m) (length m, m ++ x ∷ []) in cond (ltb v.0 (length m)) (next (length m)) (cond (eqb v.0 (length m)) (next (suc (length m))) None) ≡ next (length v.1)
 variable_known m x true next f = rw (lt-ltb (position_or_len (bytes_eq x) m) (length m) (f refl)) refl
 variable_known m x false next f =
     let len : length (m ++ x ∷ []) ≡ suc (length m) = omega (arith, length-append m (x ∷ [])) in
     rw (not_below (length m), itself (length m), len) refl
 
 -- each argument in turn is known, or a new variable with the next number
-args_known : (m : Met) (ws : List Word) → known_behind_args (length m) (in_turn argument m ws).0 ≡ Some (length (in_turn argument m ws).1)
+args_known : (m : Seen) (ws : List Word) → known_behind_args (length m) (in_turn argument m ws).0 ≡ Some (length (in_turn argument m ws).1)
 args_known m [] = refl
 args_known m (words.Name t ∷ ws) = args_known m ws
 args_known m (words.Number negative ds ∷ ws) = args_known m ws
 args_known m (words.Variable x ∷ ws) =
-    variable_known m x (is_met m x) (λ n. known_behind_args n (in_turn argument (number_variable m x).1 ws).0) (λ h. found (bytes_eq x) m (both (not (is_blank x)) (list_any (bytes_eq x) m) h).1)
+    variable_known m x (is_seen m x) (λ n. known_behind_args n (in_turn argument (number_variable m x).1 ws).0) (λ h. found (bytes_eq x) m (both (not (is_blank x)) (list_any (bytes_eq x) m) h).1)
     ∙ args_known (number_variable m x).1 ws
 
-heads_known : (m : Met) (ps : List written.Phrase) → known_behind_heads (length m) (in_turn shape m ps).0 ≡ Some (length (in_turn shape m ps).1)
+heads_known : (m : Seen) (ps : List parsed.ParsedAtom) → known_behind_heads (length m) (in_turn rule_atom m ps).0 ≡ Some (length (in_turn rule_atom m ps).1)
 heads_known m [] = refl
-heads_known m (p ∷ ps) = rw (args_known m p.args) (heads_known (shape m p).1 ps)
+heads_known m (p ∷ ps) = rw (args_known m p.args) (heads_known (rule_atom m p).1 ps)
 
-heads_append-step : {N : Type 0} (o : Option ℕ) (hs gs : List (Shape N)) → ((m : ℕ) → known_behind_heads m (hs ++ gs) ≡ known_then (known_behind_heads m hs) (λ k. known_behind_heads k gs))
+heads_append-step : {N : Type 0} (o : Option ℕ) (hs gs : List (RuleAtom N)) → ((m : ℕ) → known_behind_heads m (hs ++ gs) ≡ known_then (known_behind_heads m hs) (λ k. known_behind_heads k gs))
     → known_then o (λ m. known_behind_heads m (hs ++ gs)) ≡ known_then (known_then o (λ m. known_behind_heads m hs)) (λ k. known_behind_heads k gs)
 heads_append-step None hs gs f = refl
 heads_append-step (Some m) hs gs f = f m
 
-heads_append : {N : Type 0} (n : ℕ) (hs gs : List (Shape N)) → known_behind_heads n (hs ++ gs) ≡ known_then (known_behind_heads n hs) (λ m. known_behind_heads m gs)
+heads_append : {N : Type 0} (n : ℕ) (hs gs : List (RuleAtom N)) → known_behind_heads n (hs ++ gs) ≡ known_then (known_behind_heads n hs) (λ m. known_behind_heads m gs)
 heads_append n [] gs = refl
 heads_append n (h ∷ hs) gs = heads_append-step (known_behind_args n h.args) hs gs (λ m. heads_append m hs gs)
 
-all_heads_known : (r : written.RawRule) → known_behind_heads 0 ((rule r).kept ++ (rule r).removed) ≡ Some (length (behind_heads r))
+all_heads_known : (r : parsed.ParsedRule) → known_behind_heads 0 ((rule r).kept ++ (rule r).removed) ≡ Some (length (behind_heads r))
 all_heads_known r = heads_append 0 (rule r).kept (rule r).removed ∙ ap (λ o. known_then o (λ m. known_behind_heads m (rule r).removed)) (heads_known [] r.kept) ∙ heads_known (behind_kept r) r.removed
 
--- ---- what is met
+-- ---- what is seen
 
-variable_meets : (m : Met) (x : List ℕ) (b : Bool) → let v : ℕ × Met = cond b (position_or_len (bytes_eq x) m, m) (length m, m ++ x ∷ []) in v.1 ≡ cond b m (m ++ x ∷ [])
+variable_meets : (m : Seen) (x : List ℕ) (b : Bool) → let v : ℕ × Seen = cond b (position_or_len (bytes_eq x) m, m) (length m, m ++ x ∷ []) in v.1 ≡ cond b m (m ++ x ∷ [])
 variable_meets m x true = refl
 variable_meets m x false = refl
 
-meets_one : (m : Met) (x : List ℕ) (b : Bool) → cond b (met_from m []) (met_from (m ++ x ∷ []) []) ≡ cond b m (m ++ x ∷ [])
+meets_one : (m : Seen) (x : List ℕ) (b : Bool) → cond b (seen_from m []) (seen_from (m ++ x ∷ []) []) ≡ cond b m (m ++ x ∷ [])
 meets_one m x true = refl
 meets_one m x false = refl
 
-argument_meets : (m : Met) (w : Word) → (argument m w).1 ≡ met_from m (word_variables w)
+argument_meets : (m : Seen) (w : Word) → (argument m w).1 ≡ seen_from m (word_variables w)
 argument_meets m (words.Name t) = refl
-argument_meets m (words.Variable x) = variable_meets m x (is_met m x) ∙ sym (meets_one m x (is_met m x))
+argument_meets m (words.Variable x) = variable_meets m x (is_seen m x) ∙ sym (meets_one m x (is_seen m x))
 argument_meets m (words.Number negative ds) = refl
 
-pub turn_meets : {A B : Type 0} (g : Met → A → B × Met) (v : A → List (List ℕ)) → ((m : Met) (a : A) → (g m a).1 ≡ met_from m (v a)) → (m : Met) (as' : List A) → (in_turn g m as').1 ≡ met_from m (flat_map v as')
+pub turn_meets : {A B : Type 0} (g : Seen → A → B × Seen) (v : A → List (List ℕ)) → ((m : Seen) (a : A) → (g m a).1 ≡ seen_from m (v a)) → (m : Seen) (as' : List A) → (in_turn g m as').1 ≡ seen_from m (flat_map v as')
 turn_meets g v h m [] = refl
-turn_meets g v h m (a ∷ as') = turn_meets g v h (g m a).1 as' ∙ ap (λ l. met_from l (flat_map v as')) (h m a) ∙ sym (met_from_append m (v a) (flat_map v as'))
+turn_meets g v h m (a ∷ as') = turn_meets g v h (g m a).1 as' ∙ ap (λ l. seen_from l (flat_map v as')) (h m a) ∙ sym (met_from_append m (v a) (flat_map v as'))
 
-shape_meets : (m : Met) (p : written.Phrase) → (shape m p).1 ≡ met_from m (phrase_variables p)
+shape_meets : (m : Seen) (p : parsed.ParsedAtom) → (rule_atom m p).1 ≡ seen_from m (phrase_variables p)
 shape_meets m p = turn_meets argument word_variables argument_meets m p.args
 
-expression_meets : (m : Met) (e : written.Formula) → (expression m e).1 ≡ met_from m (formula_variables e)
-expression_meets m (written.Number negative ds) = refl
-expression_meets m (written.Variable x) = variable_meets m x (is_met m x) ∙ sym (meets_one m x (is_met m x))
-expression_meets m (written.Group e) = expression_meets m e
-expression_meets m (written.Operation o e f) = expression_meets (expression m e).1 f ∙ ap (λ l. met_from l (formula_variables f)) (expression_meets m e) ∙ sym (met_from_append m (formula_variables e) (formula_variables f))
+expression_meets : (m : Seen) (e : parsed.ParsedExpression) → (expression m e).1 ≡ seen_from m (formula_variables e)
+expression_meets m (parsed.Number negative ds) = refl
+expression_meets m (parsed.Variable x) = variable_meets m x (is_seen m x) ∙ sym (meets_one m x (is_seen m x))
+expression_meets m (parsed.Group e) = expression_meets m e
+expression_meets m (parsed.Operation o e f) = expression_meets (expression m e).1 f ∙ ap (λ l. seen_from l (formula_variables f)) (expression_meets m e) ∙ sym (met_from_append m (formula_variables e) (formula_variables f))
 
-test_meets : (m : Met) (t : written.Test) → (test m t).1 ≡ met_from m (test_variables t)
-test_meets m written.Always = refl
-test_meets m (written.Compared r e f) = expression_meets (expression m e).1 f ∙ ap (λ l. met_from l (formula_variables f)) (expression_meets m e) ∙ sym (met_from_append m (formula_variables e) (formula_variables f))
-test_meets m (written.Same s t) = argument_meets (argument m s).1 t ∙ ap (λ l. met_from l (word_variables t)) (argument_meets m s) ∙ sym (met_from_append m (word_variables s) (word_variables t))
-test_meets m (written.Differ s t) = argument_meets (argument m s).1 t ∙ ap (λ l. met_from l (word_variables t)) (argument_meets m s) ∙ sym (met_from_append m (word_variables s) (word_variables t))
+test_meets : (m : Seen) (t : parsed.GuardMember) → (test m t).1 ≡ seen_from m (test_variables t)
+test_meets m parsed.Always = refl
+test_meets m (parsed.Compared r e f) = expression_meets (expression m e).1 f ∙ ap (λ l. seen_from l (formula_variables f)) (expression_meets m e) ∙ sym (met_from_append m (formula_variables e) (formula_variables f))
+test_meets m (parsed.Same s t) = argument_meets (argument m s).1 t ∙ ap (λ l. seen_from l (word_variables t)) (argument_meets m s) ∙ sym (met_from_append m (word_variables s) (word_variables t))
+test_meets m (parsed.Differ s t) = argument_meets (argument m s).1 t ∙ ap (λ l. seen_from l (word_variables t)) (argument_meets m s) ∙ sym (met_from_append m (word_variables s) (word_variables t))
 
-member_meets : (m : Met) (b : written.Member) → (member m b).1 ≡ met_from m (member_variables b)
-member_meets m written.Nothing = refl
-member_meets m (written.Is x e) =
-    expression_meets (number_variable m x).1 e ∙ ap (λ l. met_from l (formula_variables e)) (variable_meets m x (is_met m x) ∙ sym (meets_one m x (is_met m x))) ∙ sym (met_from_append m (x ∷ []) (formula_variables e))
-member_meets m (written.Add p) = shape_meets m p
+member_meets : (m : Seen) (b : parsed.BodyMember) → (member m b).1 ≡ seen_from m (member_variables b)
+member_meets m parsed.Nothing = refl
+member_meets m (parsed.Is x e) =
+    expression_meets (number_variable m x).1 e ∙ ap (λ l. seen_from l (formula_variables e)) (variable_meets m x (is_seen m x) ∙ sym (meets_one m x (is_seen m x))) ∙ sym (met_from_append m (x ∷ []) (formula_variables e))
+member_meets m (parsed.Add p) = shape_meets m p
 
-heads_meet : (r : written.RawRule) → behind_heads r ≡ met (head_variables r)
+heads_meet : (r : parsed.ParsedRule) → behind_heads r ≡ seen (head_variables r)
 heads_meet r =
-    turn_meets shape phrase_variables shape_meets (behind_kept r) r.removed ∙ ap (λ l. met_from l (flat_map phrase_variables r.removed)) (turn_meets shape phrase_variables shape_meets [] r.kept)
+    turn_meets rule_atom phrase_variables shape_meets (behind_kept r) r.removed ∙ ap (λ l. seen_from l (flat_map phrase_variables r.removed)) (turn_meets rule_atom phrase_variables shape_meets [] r.kept)
     ∙ sym (met_from_append [] (flat_map phrase_variables r.kept) (flat_map phrase_variables r.removed))
 
-pub all_met : (r : written.RawRule) → behind_body r ≡ met (variables_of r)
-all_met r =
+pub all_seen : (r : parsed.ParsedRule) → behind_body r ≡ seen (variables_of r)
+all_seen r =
     let g = turn_meets test test_variables test_meets (behind_heads r) r.guard in
     let b = turn_meets member member_variables member_meets (behind_guard r) r.body in
-    b ∙ ap (λ l. met_from l (flat_map member_variables r.body)) (g ∙ ap (λ l. met_from l (flat_map test_variables r.guard)) (heads_meet r))
-    ∙ sym (met_from_append [] (head_variables r ++ flat_map test_variables r.guard) (flat_map member_variables r.body) ∙ ap (λ l. met_from l (flat_map member_variables r.body)) (met_from_append [] (head_variables r) (flat_map test_variables r.guard)))
+    b ∙ ap (λ l. seen_from l (flat_map member_variables r.body)) (g ∙ ap (λ l. seen_from l (flat_map test_variables r.guard)) (heads_meet r))
+    ∙ sym (met_from_append [] (head_variables r ++ flat_map test_variables r.guard) (flat_map member_variables r.body) ∙ ap (λ l. seen_from l (flat_map member_variables r.body)) (met_from_append [] (head_variables r) (flat_map test_variables r.guard)))
 
 -- ---- a body
 
@@ -215,26 +215,26 @@ not_so : (b : Bool) → not b ≡ true → b ≡ false
 not_so true h = absurd cc
 not_so false h = refl
 
-body_known : (m : Met) (ms : List written.Member) → body_in_scope m ms ≡ true → known_behind_body (length m) (somes (in_turn member m ms).0) ≡ Some (length (in_turn member m ms).1)
+body_known : (m : Seen) (ms : List parsed.BodyMember) → body_in_scope m ms ≡ true → known_behind_body (length m) (somes (in_turn member m ms).0) ≡ Some (length (in_turn member m ms).1)
 body_known m [] h = refl
-body_known m (written.Nothing ∷ ms) h = body_known m ms h
-body_known m (written.Is x e ∷ ms) h =
-    let p = both (not (is_met m x) && are_met m (formula_variables e)) (body_in_scope (m ++ x ∷ []) ms) h in
-    let q = both (not (is_met m x)) (are_met m (formula_variables e)) p.0 in
-    let new = not_so (is_met m x) q.0 in
+body_known m (parsed.Nothing ∷ ms) h = body_known m ms h
+body_known m (parsed.Is x e ∷ ms) h =
+    let p = both (not (is_seen m x) && are_seen m (formula_variables e)) (body_in_scope (m ++ x ∷ []) ms) h in
+    let q = both (not (is_seen m x)) (are_seen m (formula_variables e)) p.0 in
+    let new = not_so (is_seen m x) q.0 in
     let a = old_expression m (m ++ x ∷ []) e (holds_more m x) q.1 in
     let len : length (m ++ x ∷ []) ≡ suc (length m) = omega (arith, length-append m (x ∷ [])) in
     rw (new, a.0, a.1, itself (length m), ← len) (body_known (m ++ x ∷ []) ms p.1)
-body_known m (written.Add s ∷ ms) h =
-    let p = both (are_met m (phrase_variables s)) (body_in_scope m ms) h in
+body_known m (parsed.Add s ∷ ms) h =
+    let p = both (are_seen m (phrase_variables s)) (body_in_scope m ms) h in
     let a = old_arguments m m s.args (holds_same m) p.0 in
     rw (a.0, a.1) (body_known m ms p.1)
 
 -- ---- a rule
 
-pub rule_known : (r : written.RawRule) → is_in_scope r ≡ true → variable_count ((rule r).kept ++ (rule r).removed) (rule r).guard (rule r).body ≡ Some (rule r).variables
+pub rule_known : (r : parsed.ParsedRule) → is_in_scope r ≡ true → variable_count ((rule r).kept ++ (rule r).removed) (rule r).guard (rule r).body ≡ Some (rule r).variables
 rule_known r h =
-    let p = both (are_met (met (head_variables r)) (flat_map test_variables r.guard)) (body_in_scope (met (head_variables r)) r.body) h in
+    let p = both (are_seen (seen (head_variables r)) (flat_map test_variables r.guard)) (body_in_scope (seen (head_variables r)) r.body) h in
     let m = behind_heads r in
     let g = old_tests m r.guard (rw (heads_meet r) p.0) in
     let b = body_known m r.body (rw (heads_meet r) p.1) in

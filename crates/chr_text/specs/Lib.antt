@@ -1,6 +1,6 @@
 pub mod Tables
 pub mod Variables
-pub mod Said
+pub mod Translation
 pub mod Numbering
 pub mod Fitting
 pub mod Reading

@@ -2,8 +2,8 @@
 use Rattle.std.specs.Prelude.{ℕ, List, [], ◌∷◌, ◌++◌, Option, Some, None, Result, Ok, Err}
 use Rattle.chr_lex.specs.declared.fault.Kind.{Kind}
 use Rattle.chr_lex.specs.declared.fault.Kind.TheVariants.{NamesFull}
-use Rattle.chr_value.specs.Naming.{◌>>=◌, Table, number_name, number_term}
-use Rattle.chr_rule.specs.Rules.{Argument, Var, Given, Shape, Test, Compared, Same, Differ, Member, Is, Add, Simpagation, of_parts}
+use Rattle.chr_value.specs.Naming.{◌>>=◌, Table, number_name, numbered_value}
+use Rattle.chr_rule.specs.Rules.{Term, Var, Given, RuleAtom, Comparison, Compared, Same, Differ, BodyItem, Is, Add, Simpagation, of_parts}
 
 -- each from left to right, over the table that the one before it left
 abbrev pub each : {A B : Type 0} → (Table → A → Option (B × Table)) → Table → List A → Option (List B × Table)
@@ -23,30 +23,30 @@ abbrev pub put : {B : Type 0} → Option B → List B
 put None = []
 put (Some x) = x ∷ []
 
-abbrev pub number_argument : Table → Argument (List ℕ) → Option (Argument ℕ × Table)
-number_argument table (Var x) = Some (Var x, table)
-number_argument table (Given t) = number_term table t >>= λ x. Some (Given x.0, x.1)
+abbrev pub numbered_term : Table → Term (List ℕ) → Option (Term ℕ × Table)
+numbered_term table (Var x) = Some (Var x, table)
+numbered_term table (Given t) = numbered_value table t >>= λ x. Some (Given x.0, x.1)
 
 -- a constraint: its name, then its arguments
-abbrev pub number_shape : Table → Shape (List ℕ) → Option (Shape ℕ × Table)
-number_shape table s = number_name table s.name >>= λ n. each number_argument n.1 s.args >>= λ xs. Some (record { name = n.0; args = xs.0 }, xs.1)
+abbrev pub numbered_rule_atom : Table → RuleAtom (List ℕ) → Option (RuleAtom ℕ × Table)
+numbered_rule_atom table s = number_name table s.name >>= λ n. each numbered_term n.1 s.args >>= λ xs. Some (record { name = n.0; args = xs.0 }, xs.1)
 
-abbrev pub number_test : Table → Test (List ℕ) → Option (Test ℕ × Table)
+abbrev pub number_test : Table → Comparison (List ℕ) → Option (Comparison ℕ × Table)
 number_test table (Compared r a b) = Some (Compared r a b, table)
-number_test table (Same s t) = number_argument table s >>= λ x. number_argument x.1 t >>= λ y. Some (Same x.0 y.0, y.1)
-number_test table (Differ s t) = number_argument table s >>= λ x. number_argument x.1 t >>= λ y. Some (Differ x.0 y.0, y.1)
+number_test table (Same s t) = numbered_term table s >>= λ x. numbered_term x.1 t >>= λ y. Some (Same x.0 y.0, y.1)
+number_test table (Differ s t) = numbered_term table s >>= λ x. numbered_term x.1 t >>= λ y. Some (Differ x.0 y.0, y.1)
 
-abbrev pub number_member : Table → Member (List ℕ) → Option (Member ℕ × Table)
+abbrev pub number_member : Table → BodyItem (List ℕ) → Option (BodyItem ℕ × Table)
 number_member table (Is x e) = Some (Is x e, table)
-number_member table (Add s) = number_shape table s >>= λ x. Some (Add x.0, x.1)
+number_member table (Add s) = numbered_rule_atom table s >>= λ x. Some (Add x.0, x.1)
 
 -- a rule: its kept heads, its removed heads, its guard and its body
 abbrev pub number_rule : Table → Simpagation (List ℕ) → Option (Simpagation ℕ × Table)
 number_rule table r =
-    each number_shape table r.kept >>= λ kept. each number_shape kept.1 r.removed >>= λ removed. each number_test removed.1 r.guard >>= λ guard. each number_member guard.1 r.body >>= λ body.
+    each numbered_rule_atom table r.kept >>= λ kept. each numbered_rule_atom kept.1 r.removed >>= λ removed. each number_test removed.1 r.guard >>= λ guard. each number_member guard.1 r.body >>= λ body.
     Some (of_parts r.variables kept.0 removed.0 guard.0 body.0, body.1)
 
 -- nothing stands for a name that the table has no room for
-abbrev pub numbered : {A : Type 0} → Option A → Result A Kind
-numbered None = Err NamesFull
-numbered (Some x) = Ok x
+abbrev pub or_full : {A : Type 0} → Option A → Result A Kind
+or_full None = Err NamesFull
+or_full (Some x) = Ok x

@@ -3,7 +3,7 @@ ghost use Rattle.std.specs.Prelude.{◌≡◌};
 ghost use Rattle.chr_lex.specs.Reading.{Gives};
 ghost use Rattle.chr_value.specs.Naming.{number_name as number_of};
 ghost use Rattle.chr_text.specs.Fitting.{NameFits};
-ghost use Rattle.chr_text.specs.Numbering.{numbered};
+ghost use Rattle.chr_text.specs.Numbering.{or_full};
 ghost use Rattle.chr_text.specs.Tables.{Table, Keeps};
 
 use chr_lex::fault::{ItemError, Kind};
@@ -19,7 +19,7 @@ pub fn number_name<A: Allocator + Copy>(
     name: &[u8],
 ) -> Result<Name, ItemError>
     requires { NameFits name.now }
-    ensures gives { Gives (λ n. (n.number, names.new)) result (numbered (number_of names.old name.now)) }
+    ensures gives { Gives (λ n. (n.number, names.new)) result (or_full (number_of names.old name.now)) }
     ensures keeps { (t : Table) → Keeps t names.old → Keeps t names.new }
 {
     let Ok(text) = str::from_utf8(name) else {

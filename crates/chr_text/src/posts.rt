@@ -3,33 +3,33 @@ ghost use Rattle.std.specs.Prelude.{◌≡◌, ◌++◌, map};
 ghost use Rattle.std.specs.List.{AllByRecursion};
 ghost use Rattle.chr_lex.specs.Reading.{Gives};
 ghost use Rattle.chr_lex.specs.Tokens.{word};
-ghost use Rattle.chr_grammar.specs.Views as said;
-ghost use Rattle.chr_value.specs.Terms.{ground};
-ghost use Rattle.chr_value.specs.Naming.{number_term, number_fact};
+ghost use Rattle.chr_grammar.specs.Views as by_texts;
+ghost use Rattle.chr_value.specs.Atoms.{ground};
+ghost use Rattle.chr_value.specs.Naming.{numbered_value, numbered_atom};
 ghost use Rattle.chr_text.specs.Fitting.{TermFits, PostFits};
-ghost use Rattle.chr_text.specs.Numbering.{numbered, each, more};
-ghost use Rattle.chr_text.specs.Said.{term as term_of, fact};
+ghost use Rattle.chr_text.specs.Numbering.{or_full, each, more};
+ghost use Rattle.chr_text.specs.Translation.{term as term_of, atom_by_texts};
 ghost use Rattle.chr_text.specs.Tables.{Table, Keeps};
 
 use crate::naming::number_name;
-use chr_grammar::phrase::Phrase;
+use chr_grammar::phrase::ParsedAtom;
 use chr_lex::fault::ItemError;
-use chr_lex::token::Written;
+use chr_lex::token::Word;
 use chr_limits::number::int;
 use chr_value::atom::{Atom, Value};
 use chr_value::names::Names;
 use std::alloc::Allocator;
 
 /// A name's number or a number.
-fn number_term<A: Allocator + Copy>(names: &mut Names<A>, term: Written) -> Result<Value, ItemError>
+fn number_term<A: Allocator + Copy>(names: &mut Names<A>, term: Word) -> Result<Value, ItemError>
     requires { TermFits (word term) }
-    ensures gives { Gives (λ v. (ground v, names.new)) result (numbered (number_term names.old (term_of (word term.entry)))) }
+    ensures gives { Gives (λ v. (ground v, names.new)) result (or_full (numbered_value names.old (term_of (word term.entry)))) }
     ensures keeps { (t : Table) → Keeps t names.old → Keeps t names.new }
 {
     match term {
-        Written::Variable(_) => unreachable!(),
-        Written::Name(name) => Ok(Value::Sym(number_name(names, name)?)),
-        Written::Number { negative, digits } => match int(negative, digits) {
+        Word::Variable(_) => unreachable!(),
+        Word::Name(name) => Ok(Value::Sym(number_name(names, name)?)),
+        Word::Number { negative, digits } => match int(negative, digits) {
             Some(number) => Ok(Value::Int(number)),
             None => unreachable!(),
         },
@@ -40,10 +40,10 @@ fn number_term<A: Allocator + Copy>(names: &mut Names<A>, term: Written) -> Resu
 fn number_post<A: Allocator + Copy>(
     alloc: A,
     names: &mut Names<A>,
-    phrase: &Phrase<'_, A>,
+    phrase: &ParsedAtom<'_, A>,
 ) -> Result<Atom<A>, ItemError>
-    requires { PostFits (said.phrase phrase.now) }
-    ensures gives { Gives (λ a. (a, names.new)) result (numbered (number_fact names.old (fact (said.phrase phrase.now)))) }
+    requires { PostFits (text.phrase phrase.now) }
+    ensures gives { Gives (λ a. (a, names.new)) result (or_full (numbered_atom names.old (atom_by_texts (text.phrase phrase.now)))) }
     ensures keeps { (t : Table) → Keeps t names.old → Keeps t names.new }
 {
     let name = number_name(names, phrase.name)?;
@@ -59,10 +59,10 @@ pub fn number_posts<A: Allocator + Copy>(
     alloc: A,
     names: &mut Names<A>,
     atoms: &mut Vec<Atom<A>, A>,
-    phrases: &[Phrase<'_, A>],
+    phrases: &[ParsedAtom<'_, A>],
 ) -> Result<(), ItemError>
-    requires { AllByRecursion PostFits (map said.phrase phrases.now) }
-    ensures gives { Gives (λ u. (atoms.new.items, names.new)) result (numbered (more atoms.old.items (each number_fact names.old (map fact (map said.phrase phrases.now))))) }
+    requires { AllByRecursion PostFits (map text.phrase phrases.now) }
+    ensures gives { Gives (λ u. (atoms.new.items, names.new)) result (or_full (more atoms.old.items (each numbered_atom names.old (map atom_by_texts (map text.phrase phrases.now))))) }
     ensures keeps { (t : Table) → Keeps t names.old → Keeps t names.new }
 {
     for phrase in phrases {

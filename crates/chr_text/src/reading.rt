@@ -7,13 +7,13 @@ ghost use Rattle.chr_text.specs.Fitting.{RulePlain};
 ghost use Rattle.chr_text.specs.Reading.{item_lexemes, over_items, with_rule, with_item, program_of, with_post, posts_of};
 ghost use Rattle.chr_lex.specs.declared.fault.Kind.TheVariants.{TooLong};
 ghost use Rattle.chr_lex.specs.declared.fault.ReadError.TheVariants as errors;
-ghost use Rattle.chr_grammar.specs.Views as said;
+ghost use Rattle.chr_grammar.specs.Views as by_texts;
 ghost use Rattle.chr_text.specs.Tables.{Table, Keeps};
 
 use crate::build::number_rule;
 use crate::posts::number_posts;
 use chr_grammar::phrase::parse_phrases;
-use chr_grammar::rule::RawRule;
+use chr_grammar::rule::ParsedRule;
 use chr_grammar::statement::{Statement, parse_statement};
 use chr_lex::fault::{ItemError, Kind, ReadError, ReadFault};
 use chr_lex::item::{Item, next_item};
@@ -50,10 +50,10 @@ fn add_rule<A: Allocator + Copy>(
     alloc: A,
     names: &mut Names<A>,
     program: &mut Program<A>,
-    rule: &RawRule<'_, A>,
+    rule: &ParsedRule<'_, A>,
 ) -> Result<(), ItemError>
-    requires { RulePlain (said.raw_rule rule.now) }
-    ensures gives { Gives (λ u. (program.new, names.new)) result (with_rule (program.old, names.old) (said.raw_rule rule.now)) }
+    requires { RulePlain (text.raw_rule rule.now) }
+    ensures gives { Gives (λ u. (program.new, names.new)) result (with_rule (program.old, names.old) (text.raw_rule rule.now)) }
     ensures keeps { (t : Table) → Keeps t names.old → Keeps t names.new }
 {
     judge_rule(program.len() >= MOST_RULES, rule)?;
@@ -170,7 +170,7 @@ fn read_posts<A: Allocator + Copy>(
     }
 }
 
-/// The rules of a text, numbered from 1 in text order.
+/// The rules of a text, or_full from 1 in text order.
 ///
 /// A text of more than [`MOST_BYTES`] bytes is E09 TooLong at line 0. Else the first faulty item is told, with the
 /// line of its first byte, by the first of these that stands: E03 BadByte, E04 Syntax, E05 Propagation, E06

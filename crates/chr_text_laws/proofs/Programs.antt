@@ -1,22 +1,22 @@
 -- What is read as a program is one by the grammar and the limits, and the other way round.
 use Rattle.std.proofs.Common.{◌≡◌, ◌<◌, ℕ, false, leb, List, [], ◌∷◌, ◌++◌, length, Option, Some, None, Ok, Err, sym, ap, arith}
 use Rattle.chr_lex.specs.declared.fault.ReadFault.{ReadFault}
-use Rattle.chr_lex.specs.Items.{Entry}
+use Rattle.chr_lex.specs.Items.{Item}
 use Rattle.chr_lex.specs.Reading.{◌>>=◌}
 use Rattle.chr_value.specs.Naming.{Table}
-use Rattle.chr_grammar.specs.Written.{RawRule, Statement, Import, Declaration, Rule}
+use Rattle.chr_grammar.specs.Parsed.{ParsedRule, Statement, Import, Declaration, Rule}
 use Rattle.chr_grammar.specs.Parsing.{statement_of}
 use Rattle.chr_grammar.proofs.Statements.{says}
-use Rattle.chr_grammar.proofs.Statements_again.{said}
+use Rattle.chr_grammar.proofs.Statements_again.{by_texts}
 use Rattle.chr_limits.specs.Judging.{rule_judged, declaration_judged}
 use Rattle.chr_limits.proofs.Standing.{stands, passes, declared, declares}
-use Rattle.chr_text.specs.Said.{rule}
-use Rattle.chr_text.specs.Numbering.{numbered, number_rule}
+use Rattle.chr_text.specs.Translation.{rule}
+use Rattle.chr_text.specs.Numbering.{or_full, number_rule}
 use Rattle.chr_text.specs.Reading.{Program, item_lexemes, with_rule, with_statement, with_item, program_of}
 use Rattle.chr_text_laws.specs.Forms.{AddsRule, Adds, AddsStatement, IsProgramText}
 use Rattle.chr_text_laws.proofs.Texts.{bind_ok, ok_is, is_item, item_read, is_text, text_read}
 
-pub has_number : {A : Type 0} (o : Option A) (x : A) → numbered o ≡ Ok x → o ≡ Some x
+pub has_number : {A : Type 0} (o : Option A) (x : A) → or_full o ≡ Ok x → o ≡ Some x
 has_number (Some y) x h = ap Some (ok_is y x h)
 has_number None x h = absurd cc
 
@@ -26,15 +26,15 @@ room_left n h = grind arith
 not_full : (n : ℕ) → n < 256 → leb 256 n ≡ false
 not_full n h = grind arith
 
-adds_rule : (p : Program) (r : RawRule) (q : Program) → with_rule p r ≡ Ok q → AddsRule p r q
+adds_rule : (p : Program) (r : ParsedRule) (q : Program) → with_rule p r ≡ Ok q → AddsRule p r q
 adds_rule p r q h =
-    let judged = bind_ok (rule_judged (leb 256 (length p.0)) r) (λ judged. numbered (number_rule p.1 (rule r)) >>= λ x. Ok (p.0 ++ x.0 ∷ [], x.1)) q h in
+    let judged = bind_ok (rule_judged (leb 256 (length p.0)) r) (λ judged. or_full (number_rule p.1 (rule r)) >>= λ x. Ok (p.0 ++ x.0 ∷ [], x.1)) q h in
     let may = stands (leb 256 (length p.0)) r judged.1 in
-    let x = bind_ok (numbered (number_rule p.1 (rule r))) (λ x. Ok (p.0 ++ x.0 ∷ [], x.1)) q judged.2 in
-    record { room = room_left (length p.0) may.0; stands = may.1; new = x.0.0; table = x.0.1; numbered = has_number (number_rule p.1 (rule r)) x.0 x.1; added = sym (ok_is _ q x.2) }
+    let x = bind_ok (or_full (number_rule p.1 (rule r))) (λ x. Ok (p.0 ++ x.0 ∷ [], x.1)) q judged.2 in
+    record { room = room_left (length p.0) may.0; stands = may.1; new = x.0.0; table = x.0.1; or_full = has_number (number_rule p.1 (rule r)) x.0 x.1; added = sym (ok_is _ q x.2) }
 
-rule_added : (p : Program) (r : RawRule) (q : Program) → AddsRule p r q → with_rule p r ≡ Ok q
-rule_added p r q a = rw (passes (leb 256 (length p.0)) r (not_full (length p.0) a.room, a.stands), a.numbered) (ap Ok (sym a.added))
+rule_added : (p : Program) (r : ParsedRule) (q : Program) → AddsRule p r q → with_rule p r ≡ Ok q
+rule_added p r q a = rw (passes (leb 256 (length p.0)) r (not_full (length p.0) a.room, a.stands), a.or_full) (ap Ok (sym a.added))
 
 adds : (p : Program) (s : Statement) (q : Program) → with_statement p s ≡ Ok q → Adds p s q
 adds p Import q h = sym (ok_is p q h)
@@ -48,14 +48,14 @@ added p Import q a = ap Ok (sym a)
 added p (Declaration ds) q a = rw (declares ds a.0) (ap Ok (sym a.1))
 added p (Rule r) q a = rule_added p r q a
 
-adds_statement : (p : Program) (e : Entry) (q : Program) → with_item p e ≡ Ok q → AddsStatement p e q
+adds_statement : (p : Program) (e : Item) (q : Program) → with_item p e ≡ Ok q → AddsStatement p e q
 adds_statement p e q h =
     let s = bind_ok (item_lexemes e >>= statement_of) (with_statement p) q h in
     let t = bind_ok (item_lexemes e) statement_of s.0 s.1 in
     record { tokens = t.0; statement = s.0; item = is_item e t.0 t.1; says = says t.0 s.0 t.2; adds = adds p s.0 q s.2 }
 
-statement_added : (p : Program) (e : Entry) (q : Program) → AddsStatement p e q → with_item p e ≡ Ok q
-statement_added p e q a = rw (item_read e a.tokens a.item, said a.tokens a.statement a.says) (added p a.statement q a.adds)
+statement_added : (p : Program) (e : Item) (q : Program) → AddsStatement p e q → with_item p e ≡ Ok q
+statement_added p e q a = rw (item_read e a.tokens a.item, by_texts a.tokens a.statement a.says) (added p a.statement q a.adds)
 
 pub is_program : (table : Table) (bytes : List ℕ) (p : Program) → program_of table bytes ≡ Ok p → IsProgramText table bytes p
 is_program table bytes p h = is_text with_item AddsStatement adds_statement ([], table) bytes p h

@@ -4,7 +4,7 @@ use Rattle.std.proofs.lemmas.Bool.{ltb-false, le-ltb}
 use Rattle.chr_lex.specs.declared.fault.Kind.{Kind}
 use Rattle.chr_lex.specs.declared.fault.ReadFault.{ReadFault}
 use Rattle.chr_lex.specs.Plain.{has_bad, plain_of}
-use Rattle.chr_lex.specs.Items.{Entry, items, items_of}
+use Rattle.chr_lex.specs.Items.{Item, items, items_of}
 use Rattle.chr_lex.specs.Cutting.{HasItems}
 use Rattle.chr_lex.specs.Tokens.{Lexeme, tokens_of}
 use Rattle.chr_lex.specs.Reading.{◌>>=◌, at_line}
@@ -34,13 +34,13 @@ held false e rest y h = absurd cc
 
 -- ---- an item
 
-pub is_item : (e : Entry) (ts : List Lexeme) → item_lexemes e ≡ Ok ts → IsItem e ts
+pub is_item : (e : Item) (ts : List Lexeme) → item_lexemes e ≡ Ok ts → IsItem e ts
 is_item e ts h =
     let first = passed (has_bad e.bytes) _ _ ts h in
     let second = held e.whole _ (tokens_of e.bytes) ts first.1 in
     record { whole = second.0; no_bad_byte = first.0; tokens = lexing.are_tokens false e.bytes ts second.1 }
 
-pub item_read : (e : Entry) (ts : List Lexeme) → IsItem e ts → item_lexemes e ≡ Ok ts
+pub item_read : (e : Item) (ts : List Lexeme) → IsItem e ts → item_lexemes e ≡ Ok ts
 item_read e ts is = rw (is.no_bad_byte, is.whole) (lexing.are_read false e.bytes ts is.tokens)
 
 -- ---- items
@@ -49,15 +49,15 @@ on_line : {A B : Type 0} (line : ℕ) (r : Result A Kind) (f : A → Result B Re
 on_line line (Ok x) f y h = (x, refl, h)
 on_line line (Err k) f y h = absurd cc
 
-are_in_order : {A : Type 0} (f : A → Entry → Result A Kind) (Step : A → Entry → A → Type 0) → ((x : A) (e : Entry) (y : A) → f x e ≡ Ok y → Step x e y)
-    → (x : A) (es : List Entry) (y : A) → over_items f x es ≡ Ok y → InOrder Step x es y
+are_in_order : {A : Type 0} (f : A → Item → Result A Kind) (Step : A → Item → A → Type 0) → ((x : A) (e : Item) (y : A) → f x e ≡ Ok y → Step x e y)
+    → (x : A) (es : List Item) (y : A) → over_items f x es ≡ Ok y → InOrder Step x es y
 are_in_order f Step steps x [] y h = subst (InOrder Step x []) (ok_is x y h) (no_more x)
 are_in_order f Step steps x (e ∷ es) y h =
     let n = on_line e.line (f x e) (λ next. over_items f next es) y h in
     item x n.0 y e es (steps x e n.0 n.1) (are_in_order f Step steps n.0 es y n.2)
 
-read_in_order : {A : Type 0} (f : A → Entry → Result A Kind) (Step : A → Entry → A → Type 0) → ((x : A) (e : Entry) (y : A) → Step x e y → f x e ≡ Ok y)
-    → (x : A) (es : List Entry) (y : A) → InOrder Step x es y → over_items f x es ≡ Ok y
+read_in_order : {A : Type 0} (f : A → Item → Result A Kind) (Step : A → Item → A → Type 0) → ((x : A) (e : Item) (y : A) → Step x e y → f x e ≡ Ok y)
+    → (x : A) (es : List Item) (y : A) → InOrder Step x es y → over_items f x es ≡ Ok y
 read_in_order f Step steps _ _ _ (no_more x) = refl
 read_in_order f Step steps _ _ _ (item x next y e es s more) = rw (steps x e next s) (read_in_order f Step steps next es y more)
 
@@ -66,15 +66,15 @@ read_in_order f Step steps _ _ _ (item x next y e es s more) = rw (steps x e nex
 has_items : (bytes : List ℕ) → HasItems bytes (items_of bytes)
 has_items bytes = record { out = plain_of bytes; replaced = is_plain bytes (plain_of bytes) refl; items = are_items 1 (plain_of bytes) (items_of bytes) refl }
 
-items_read : (bytes : List ℕ) (es : List Entry) → HasItems bytes es → items_of bytes ≡ es
+items_read : (bytes : List ℕ) (es : List Item) → HasItems bytes es → items_of bytes ≡ es
 items_read bytes es h = ap (items zero 1) (are_plain bytes h.out h.replaced) ∙ are_read 1 h.out es h.items
 
-pub is_text : {A : Type 0} (f : A → Entry → Result A Kind) (Step : A → Entry → A → Type 0) → ((x : A) (e : Entry) (y : A) → f x e ≡ Ok y → Step x e y)
+pub is_text : {A : Type 0} (f : A → Item → Result A Kind) (Step : A → Item → A → Type 0) → ((x : A) (e : Item) (y : A) → f x e ≡ Ok y → Step x e y)
     → (x : A) (bytes : List ℕ) (y : A) → of_text f x bytes ≡ Ok y → IsText Step x bytes y
 is_text f Step steps x bytes y h =
     let p = passed (ltb 65536 (length bytes)) _ (over_items f x (items_of bytes)) y h in
     record { short = ltb-false _ _ p.0; entries = items_of bytes; has = has_items bytes; in_order = are_in_order f Step steps x (items_of bytes) y p.1 }
 
-pub text_read : {A : Type 0} (f : A → Entry → Result A Kind) (Step : A → Entry → A → Type 0) → ((x : A) (e : Entry) (y : A) → Step x e y → f x e ≡ Ok y)
+pub text_read : {A : Type 0} (f : A → Item → Result A Kind) (Step : A → Item → A → Type 0) → ((x : A) (e : Item) (y : A) → Step x e y → f x e ≡ Ok y)
     → (x : A) (bytes : List ℕ) (y : A) → IsText Step x bytes y → of_text f x bytes ≡ Ok y
 text_read f Step steps x bytes y is = rw (le-ltb _ _ is.short, items_read bytes is.entries is.has) (read_in_order f Step steps x is.entries y is.in_order)

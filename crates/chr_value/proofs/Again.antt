@@ -3,9 +3,9 @@ use Rattle.std.proofs.Common.{◌≡◌, ◌<◌, ◌+◌, ℕ, zero, suc, Bool,
 use Rattle.std.specs.List.{AllByRecursion}
 use Rattle.std.proofs.lemmas.Cmp.{nat_list_eq_equiv}
 use Rattle.chr_value.specs.Names.{is_text, has_text, number_of, HasDistinctTexts}
-use Rattle.chr_value.specs.Terms.{Term, Int, Sym, Fact, TermIsNamed, FactIsNamed, renamed, text_of, said}
+use Rattle.chr_value.specs.Atoms.{Value, Int, Sym, Atom, TermIsNamed, AtomIsNamed, renamed, text_of, by_texts}
 use Rattle.chr_value.specs.declared.names.NamesFault.{NamesFault}
-use Rattle.chr_value.specs.Naming.{Table, Named, number_name, number_term, number_terms, number_fact}
+use Rattle.chr_value.specs.Naming.{Table, Named, number_name, numbered_value, number_terms, numbered_atom}
 
 neither : (a b : Bool) → (a || b) ≡ false → (a ≡ false) × (b ≡ false)
 neither true b h = absurd cc
@@ -36,21 +36,21 @@ number-own (t ∷ ts) (suc n) apart lt =
 pub name_again : (table : Table) (n : ℕ) → HasDistinctTexts table → n < length table → number_name table (text_of table n) ≡ Some (n, table)
 name_again table n apart lt = rw (has-own table n lt, number-own table n apart lt) refl
 
-pub term_again : (table : Table) (v : Term ℕ) → HasDistinctTexts table → TermIsNamed (length table) v → number_term table (renamed (text_of table) v) ≡ Some (v, table)
+pub term_again : (table : Table) (v : Value ℕ) → HasDistinctTexts table → TermIsNamed (length table) v → numbered_value table (renamed (text_of table) v) ≡ Some (v, table)
 term_again table (Int z) apart named = refl
 term_again table (Sym n) apart named = rw (name_again table n apart named) refl
 
-pub terms_again : (table : Table) (vs : List (Term ℕ)) → HasDistinctTexts table → AllByRecursion (TermIsNamed (length table)) vs → number_terms table (map (renamed (text_of table)) vs) ≡ Some (vs, table)
+pub terms_again : (table : Table) (vs : List (Value ℕ)) → HasDistinctTexts table → AllByRecursion (TermIsNamed (length table)) vs → number_terms table (map (renamed (text_of table)) vs) ≡ Some (vs, table)
 unfolding number_terms
 terms_again table [] apart named = refl
 terms_again table (v ∷ vs) apart named = rw (term_again table v apart named.0, terms_again table vs apart named.1) refl
 
-pub fact_again : (table : Table) (a : Fact ℕ) → HasDistinctTexts table → FactIsNamed (length table) a → number_fact table (said table a) ≡ Some (a, table)
-unfolding number_fact
+pub fact_again : (table : Table) (a : Atom ℕ) → HasDistinctTexts table → AtomIsNamed (length table) a → numbered_atom table (by_texts table a) ≡ Some (a, table)
+unfolding numbered_atom
 fact_again table a apart named = rw (name_again table a.name apart named.name, terms_again table a.args apart named.args) refl
 
 -- what numbering a text gives, where an atom of the table was written so
-pub read_again : {X : Type 0} (view : X → Fact ℕ) (table new : Table) (text : Fact (List ℕ)) (r : Result X NamesFault) (a : Fact ℕ) → Named view r (number_fact table text) new → HasDistinctTexts table → FactIsNamed (length table) a → text ≡ said table a → Named view r (Some (a, table)) new
+pub read_again : {X : Type 0} (view : X → Atom ℕ) (table new : Table) (text : Atom (List ℕ)) (r : Result X NamesFault) (a : Atom ℕ) → Named view r (numbered_atom table text) new → HasDistinctTexts table → AtomIsNamed (length table) a → text ≡ by_texts table a → Named view r (Some (a, table)) new
 read_again view table new text r a gives apart named is =
-    let e : number_fact table text ≡ Some (a, table) = ap (number_fact table) is ∙ fact_again table a apart named in
-    subst (λ (w : Option (Fact ℕ × Table)). Named view r w new) e gives
+    let e : numbered_atom table text ≡ Some (a, table) = ap (numbered_atom table) is ∙ fact_again table a apart named in
+    subst (λ (w : Option (Atom ℕ × Table)). Named view r w new) e gives

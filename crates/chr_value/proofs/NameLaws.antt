@@ -8,12 +8,12 @@ use Rattle.chr_value.specs.Names.{has_text, number_of, with_text}
 use Rattle.chr_value.specs.declared.names.Name.{Name}
 use Rattle.chr_value.specs.declared.names.NamesFault.{NamesFault}
 use Rattle.chr_value.specs.declared.names.NamesFault.TheVariants as faults
-use Rattle.chr_value.specs.Terms.{Term, Fact}
+use Rattle.chr_value.specs.Atoms.{Value, Atom}
 use Rattle.std.specs.List.{AllByRecursion}
-use Rattle.chr_value.specs.declared.words.Word.{Word}
-use Rattle.chr_value.specs.Words.{word, words_of}
+use Rattle.chr_value.specs.declared.text_atom.TextValue.{TextValue}
+use Rattle.chr_value.specs.TextAtoms.{text_value, text_values}
 use Rattle.chr_value.specs.Spelling.{FitsTerm}
-use Rattle.chr_value.specs.Naming.{◌>>=◌, Table, Named, number_name, number_term, number_terms, number_more, number_fact}
+use Rattle.chr_value.specs.Naming.{◌>>=◌, Table, Named, number_name, numbered_value, number_terms, number_more, numbered_atom}
 
 pub grown : (table : Table) (t : List ℕ) (b : Bool) → take (length table) (cond b table (table ++ t ∷ [])) ≡ table
 grown table t true = ap (take (length table)) (sym (append-nil table)) ∙ take_at table [] (length table) refl
@@ -36,44 +36,44 @@ name_keeps table new t (Err e) is same = ap (take (length table)) same ∙ grown
 
 -- ---- an atom's arguments
 
-pub err_first : {X Z : Type 0} (v : X → ℕ) (w : Z → Fact ℕ) (e : NamesFault) (table new : Table) (a : Fact (List ℕ)) → Named v (Err e) (number_name table a.name) new → Named w (Err e) (number_fact table a) new
-unfolding number_fact
+pub err_first : {X Z : Type 0} (v : X → ℕ) (w : Z → Atom ℕ) (e : NamesFault) (table new : Table) (a : Atom (List ℕ)) → Named v (Err e) (number_name table a.name) new → Named w (Err e) (numbered_atom table a) new
+unfolding numbered_atom
 err_first v w faults.NoMemory table new a h = tt
 err_first v w faults.Full table new a h = rw h refl
 
-pub err_more : {X Z : Type 0} (v : X → Term ℕ) (w : Z → Fact ℕ) (e : NamesFault) (name : ℕ) (front : List (Term ℕ)) (table new : Table) (t : Term (List ℕ)) (ts all : List (Term (List ℕ))) (total : Option (Fact ℕ × Table)) → all ≡ t ∷ ts → Named v (Err e) (number_term table t) new → number_more name front (number_terms table all) ≡ total → Named w (Err e) total new
+pub err_more : {X Z : Type 0} (v : X → Value ℕ) (w : Z → Atom ℕ) (e : NamesFault) (name : ℕ) (front : List (Value ℕ)) (table new : Table) (t : Value (List ℕ)) (ts all : List (Value (List ℕ))) (total : Option (Atom ℕ × Table)) → all ≡ t ∷ ts → Named v (Err e) (numbered_value table t) new → number_more name front (number_terms table all) ≡ total → Named w (Err e) total new
 unfolding number_terms
 err_more v w faults.NoMemory name front table new t ts all total is h so_far = tt
 err_more v w faults.Full name front table new t ts all total is h so_far = sym so_far ∙ rw (is, h) refl
 
-pub first_done : (table new : Table) (a : Fact (List ℕ)) (n : ℕ) → number_name table a.name ≡ Some (n, new) → number_more n [] (number_terms new a.args) ≡ number_fact table a
-unfolding number_fact
+pub first_done : (table new : Table) (a : Atom (List ℕ)) (n : ℕ) → number_name table a.name ≡ Some (n, new) → number_more n [] (number_terms new a.args) ≡ numbered_atom table a
+unfolding numbered_atom
 first_done table new a n h = rw h refl
 
-regroup : (name : ℕ) (front : List (Term ℕ)) (v : Term ℕ) (rest : Option (List (Term ℕ) × Table)) → number_more name front (rest >>= λ xs. Some (v ∷ xs.0, xs.1)) ≡ number_more name (front ++ v ∷ []) rest
-regroup name front v (Some x) = ap (λ (w : List (Term ℕ)). Some (record { name = name; args = w }, x.1)) (sym (append_assoc front (v ∷ []) x.0))
+regroup : (name : ℕ) (front : List (Value ℕ)) (v : Value ℕ) (rest : Option (List (Value ℕ) × Table)) → number_more name front (rest >>= λ xs. Some (v ∷ xs.0, xs.1)) ≡ number_more name (front ++ v ∷ []) rest
+regroup name front v (Some x) = ap (λ (w : List (Value ℕ)). Some (record { name = name; args = w }, x.1)) (sym (append_assoc front (v ∷ []) x.0))
 regroup name front v None = refl
 
-pub one_more : (name : ℕ) (front : List (Term ℕ)) (table new : Table) (t : Term (List ℕ)) (ts all : List (Term (List ℕ))) (v : Term ℕ) (total : Option (Fact ℕ × Table)) → all ≡ t ∷ ts → number_term table t ≡ Some (v, new)
+pub one_more : (name : ℕ) (front : List (Value ℕ)) (table new : Table) (t : Value (List ℕ)) (ts all : List (Value (List ℕ))) (v : Value ℕ) (total : Option (Atom ℕ × Table)) → all ≡ t ∷ ts → numbered_value table t ≡ Some (v, new)
     → number_more name front (number_terms table all) ≡ total → number_more name (front ++ v ∷ []) (number_terms new ts) ≡ total
 unfolding number_terms
 one_more name front table new t ts all v total is h so_far =
     let here : number_more name front (number_terms table all) ≡ number_more name front (number_terms new ts >>= λ xs. Some (v ∷ xs.0, xs.1)) = rw (is, h) refl in
     sym (regroup name front v (number_terms new ts)) ∙ sym here ∙ so_far
 
-pub all_done : (name : ℕ) (front : List (Term ℕ)) (table : Table) (all : List (Term (List ℕ))) (total : Option (Fact ℕ × Table)) → all ≡ [] → number_more name front (number_terms table all) ≡ total → total ≡ Some (record { name = name; args = front }, table)
+pub all_done : (name : ℕ) (front : List (Value ℕ)) (table : Table) (all : List (Value (List ℕ))) (total : Option (Atom ℕ × Table)) → all ≡ [] → number_more name front (number_terms table all) ≡ total → total ≡ Some (record { name = name; args = front }, table)
 unfolding number_terms
 all_done name front table all total is so_far =
     let here : number_more name front (number_terms table all) ≡ Some (record { name = name; args = front ++ [] }, table) = rw is refl in
-    sym so_far ∙ here ∙ ap (λ (w : List (Term ℕ)). Some (record { name = name; args = w }, table)) (append-nil front)
+    sym so_far ∙ here ∙ ap (λ (w : List (Value ℕ)). Some (record { name = name; args = w }, table)) (append-nil front)
 
-pub words_from : (ws : List Word) (i : ℕ) (d : Word) → i < length ws → words_of (drop i ws) ≡ word (get_or ws i d) ∷ words_of (drop (i + 1) ws)
-words_from ws i d lt = let e : drop i ws ≡ get_or ws i d ∷ drop (i + 1) ws = rw (add-one, drop-cons ws i d) refl in ap words_of e
+pub words_from : (ws : List TextValue) (i : ℕ) (d : TextValue) → i < length ws → text_values (drop i ws) ≡ text_value (get_or ws i d) ∷ text_values (drop (i + 1) ws)
+words_from ws i d lt = let e : drop i ws ≡ get_or ws i d ∷ drop (i + 1) ws = rw (add-one, drop-cons ws i d) refl in ap text_values e
 
-pub words_end : (ws : List Word) (i : ℕ) → length ws ≤ i → words_of (drop i ws) ≡ []
-words_end ws i le = ap words_of (nil_from_length (drop i ws) (omega (arith, length-drop i ws)))
+pub words_end : (ws : List TextValue) (i : ℕ) → length ws ≤ i → text_values (drop i ws) ≡ []
+words_end ws i le = ap text_values (nil_from_length (drop i ws) (omega (arith, length-drop i ws)))
 
-pub words_fit : (ws : List Word) (i : ℕ) (d : Word) → AllByRecursion FitsTerm (words_of ws) → i < length ws → FitsTerm (word (get_or ws i d))
+pub words_fit : (ws : List TextValue) (i : ℕ) (d : TextValue) → AllByRecursion FitsTerm (text_values ws) → i < length ws → FitsTerm (text_value (get_or ws i d))
 words_fit [] i d fits lt = absurd (omega arith)
 words_fit (w ∷ ws) zero d fits lt = fits.0
 words_fit (w ∷ ws) (suc i) d fits lt = words_fit ws i d fits.1 (omega arith)

@@ -4,8 +4,8 @@ use Rattle.std.specs.Prelude.{nat_eq}
 use Rattle.std.specs.Cmp.Lexicographic.{pointwise}
 use Rattle.std.proofs.lemmas.Bool.{eqb-true}
 use Rattle.chr_value.specs.Names.{has_text, number_of, with_text, is_text}
-use Rattle.chr_value.specs.Terms.{Term, Int, Sym, Fact, renamed, text_of, said}
-use Rattle.chr_value.specs.Naming.{◌>>=◌, Table, number_name, number_term, number_terms, number_more, number_fact}
+use Rattle.chr_value.specs.Atoms.{Value, Int, Sym, Atom, renamed, text_of, by_texts}
+use Rattle.chr_value.specs.Naming.{◌>>=◌, Table, number_name, numbered_value, number_terms, number_more, numbered_atom}
 use Rattle.chr_value.proofs.Chosen.{bind_some, some_is, chosen, both}
 use Rattle.chr_value.proofs.NameLaws.{keeps-then, grown}
 
@@ -47,45 +47,45 @@ name_says table t n new e =
     ]
 
 -- a term whose names the table has
-abbrev Inside : Table → Term ℕ → Type 0
+abbrev Inside : Table → Value ℕ → Type 0
 Inside table (Int z) = Unit {0}
 Inside table (Sym n) = n < length table
 
-term_says : (table : Table) (t : Term (List ℕ)) (v : Term ℕ) (new : Table) → number_term table t ≡ Some (v, new) → (renamed (text_of new) v ≡ t) × Inside new v × (take (length table) new ≡ table)
+term_says : (table : Table) (t : Value (List ℕ)) (v : Value ℕ) (new : Table) → numbered_value table t ≡ Some (v, new) → (renamed (text_of new) v ≡ t) × Inside new v × (take (length table) new ≡ table)
 term_says table (Int z) v new e =
     let h = some_is (Int z, table) (v, new) e in
-    subst (λ (x : Term ℕ × Table). (renamed (text_of x.1) x.0 ≡ Int z) × Inside x.1 x.0 × (take (length table) x.1 ≡ table)) h (refl, tt, grown table [] true)
+    subst (λ (x : Value ℕ × Table). (renamed (text_of x.1) x.0 ≡ Int z) × Inside x.1 x.0 × (take (length table) x.1 ≡ table)) h (refl, tt, grown table [] true)
 term_says table (Sym t) v new e =
     let a = bind_some (number_name table t) (λ n. Some (Sym n.0, n.1)) (v, new) e in
     let s = name_says table t a.0.0 a.0.1 a.1 in
-    subst (λ (x : Term ℕ × Table). (renamed (text_of x.1) x.0 ≡ Sym t) × Inside x.1 x.0 × (take (length table) x.1 ≡ table)) (some_is (Sym a.0.0, a.0.1) (v, new) a.2) (ap (λ (w : List ℕ). Sym w) s.0, s.1, s.2)
+    subst (λ (x : Value ℕ × Table). (renamed (text_of x.1) x.0 ≡ Sym t) × Inside x.1 x.0 × (take (length table) x.1 ≡ table)) (some_is (Sym a.0.0, a.0.1) (v, new) a.2) (ap (λ (w : List ℕ). Sym w) s.0, s.1, s.2)
 
-term_kept : (a b : Table) (v : Term ℕ) → take (length a) b ≡ a → Inside a v → renamed (text_of b) v ≡ renamed (text_of a) v
+term_kept : (a b : Table) (v : Value ℕ) → take (length a) b ≡ a → Inside a v → renamed (text_of b) v ≡ renamed (text_of a) v
 term_kept a b (Int z) h i = refl
 term_kept a b (Sym n) h i = ap (λ (w : List ℕ). Sym w) (text_kept a b n h i)
 
-terms_say : (table : Table) (ts : List (Term (List ℕ))) (vs : List (Term ℕ)) (new : Table) → number_terms table ts ≡ Some (vs, new) → (map (renamed (text_of new)) vs ≡ ts) × (take (length table) new ≡ table)
+terms_say : (table : Table) (ts : List (Value (List ℕ))) (vs : List (Value ℕ)) (new : Table) → number_terms table ts ≡ Some (vs, new) → (map (renamed (text_of new)) vs ≡ ts) × (take (length table) new ≡ table)
 unfolding number_terms
 terms_say table [] vs new e =
-    subst (λ (x : List (Term ℕ) × Table). (map (renamed (text_of x.1)) x.0 ≡ []) × (take (length table) x.1 ≡ table)) (some_is ([], table) (vs, new) e) (refl, grown table [] true)
+    subst (λ (x : List (Value ℕ) × Table). (map (renamed (text_of x.1)) x.0 ≡ []) × (take (length table) x.1 ≡ table)) (some_is ([], table) (vs, new) e) (refl, grown table [] true)
 terms_say table (t ∷ ts) vs new e =
-    let a = bind_some (number_term table t) (λ x. number_terms x.1 ts >>= λ xs. Some (x.0 ∷ xs.0, xs.1)) (vs, new) e in
+    let a = bind_some (numbered_value table t) (λ x. number_terms x.1 ts >>= λ xs. Some (x.0 ∷ xs.0, xs.1)) (vs, new) e in
     let b = bind_some (number_terms a.0.1 ts) (λ xs. Some (a.0.0 ∷ xs.0, xs.1)) (vs, new) a.2 in
     let s = term_says table t a.0.0 a.0.1 a.1 in
     let r = terms_say a.0.1 ts b.0.0 b.0.1 b.1 in
     let head : renamed (text_of b.0.1) a.0.0 ≡ t = term_kept a.0.1 b.0.1 a.0.0 r.1 s.1 ∙ s.0 in
     let rest : map (renamed (text_of b.0.1)) b.0.0 ≡ ts = r.0 in
-    subst (λ (x : List (Term ℕ) × Table). (map (renamed (text_of x.1)) x.0 ≡ t ∷ ts) × (take (length table) x.1 ≡ table)) (some_is (a.0.0 ∷ b.0.0, b.0.1) (vs, new) b.2)
-    (ap (λ (w : Term (List ℕ)). w ∷ map (renamed (text_of b.0.1)) b.0.0) head ∙ ap (λ (w : List (Term (List ℕ))). t ∷ w) rest, keeps-then table a.0.1 b.0.1 s.2 r.1)
+    subst (λ (x : List (Value ℕ) × Table). (map (renamed (text_of x.1)) x.0 ≡ t ∷ ts) × (take (length table) x.1 ≡ table)) (some_is (a.0.0 ∷ b.0.0, b.0.1) (vs, new) b.2)
+    (ap (λ (w : Value (List ℕ)). w ∷ map (renamed (text_of b.0.1)) b.0.0) head ∙ ap (λ (w : List (Value (List ℕ))). t ∷ w) rest, keeps-then table a.0.1 b.0.1 s.2 r.1)
 
-pub fact_says : (table : Table) (a : Fact (List ℕ)) (f : Fact ℕ) (new : Table) → number_fact table a ≡ Some (f, new) → (said new f ≡ a) × (take (length table) new ≡ table)
-unfolding number_fact
+pub fact_says : (table : Table) (a : Atom (List ℕ)) (f : Atom ℕ) (new : Table) → numbered_atom table a ≡ Some (f, new) → (by_texts new f ≡ a) × (take (length table) new ≡ table)
+unfolding numbered_atom
 fact_says table a f new e =
     let n = bind_some (number_name table a.name) (λ n. number_more n.0 [] (number_terms n.1 a.args)) (f, new) e in
     let x = bind_some (number_terms n.0.1 a.args) (λ x. Some (record { name = n.0.0; args = [] ++ x.0 }, x.1)) (f, new) n.2 in
     let s = name_says table a.name n.0.0 n.0.1 n.1 in
     let t = terms_say n.0.1 a.args x.0.0 x.0.1 x.1 in
-    let made : Fact ℕ = record { name = n.0.0; args = x.0.0 } in
+    let made : Atom ℕ = record { name = n.0.0; args = x.0.0 } in
     let name : text_of x.0.1 n.0.0 ≡ a.name = text_kept n.0.1 x.0.1 n.0.0 t.1 s.1 ∙ s.0 in
-    let whole : said x.0.1 made ≡ a = ap (λ (w : List ℕ). record { name = w; args = map (renamed (text_of x.0.1)) x.0.0 }) name ∙ ap (λ (w : List (Term (List ℕ))). record { name = a.name; args = w }) t.0 in
-    subst (λ (y : Fact ℕ × Table). (said y.1 y.0 ≡ a) × (take (length table) y.1 ≡ table)) (some_is (made, x.0.1) (f, new) x.2) (whole, keeps-then table n.0.1 x.0.1 s.2 t.1)
+    let whole : by_texts x.0.1 made ≡ a = ap (λ (w : List ℕ). record { name = w; args = map (renamed (text_of x.0.1)) x.0.0 }) name ∙ ap (λ (w : List (Value (List ℕ))). record { name = a.name; args = w }) t.0 in
+    subst (λ (y : Atom ℕ × Table). (by_texts y.1 y.0 ≡ a) × (take (length table) y.1 ≡ table)) (some_is (made, x.0.1) (f, new) x.2) (whole, keeps-then table n.0.1 x.0.1 s.2 t.1)

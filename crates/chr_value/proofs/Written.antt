@@ -2,12 +2,12 @@
 use Rattle.std.proofs.Common.{◌≡◌, ℕ, zero, suc, ◌+◌, ◌<◌, List, [], ◌∷◌, ◌++◌, length, take, map, get_or, None, refl, sym, ap, ◌∙◌, append_assoc, arith, inl, inr, ◌⊎◌, length-take}
 use Rattle.std.proofs.lemmas.List.{append-nil, take_more}
 use Rattle.std.specs.Prelude.{slice_get}
-use Rattle.chr_value.specs.Terms.{Term, renamed, text_of, ground, grounds}
-use Rattle.chr_value.specs.declared.atom.Value.{Value}
+use Rattle.chr_value.specs.Atoms.{Value, renamed, text_of, ground, grounds}
+use Rattle.chr_value.specs.declared.atom.Value.{Value as CodeValue}
 use Rattle.chr_value.specs.Spelling.{behind, opened, spell_term}
 
 -- the texts of arguments
-abbrev pub arg_texts : List (List ℕ) → List (Term ℕ) → List (List ℕ)
+abbrev pub arg_texts : List (List ℕ) → List (Value ℕ) → List (List ℕ)
 arg_texts table args = map spell_term (map (renamed (text_of table)) args)
 
 behind-push : (ts : List (List ℕ)) (t : List ℕ) → behind (ts ++ t ∷ []) ≡ behind ts ++ 44 ∷ t
@@ -27,16 +27,16 @@ opened-step [] t i b len (inl h) = opened-first t ∙ ap (λ (m : ℕ). m ∷ t)
 opened-step (x ∷ xs) t i b len (inl h) = absurd (omega arith)
 opened-step ts t i b len (inr h) = opened-more ts t (omega arith) ∙ ap (λ (m : ℕ). opened ts ++ m ∷ t) (sym h.1)
 
-pub arg_texts-push : (table : List (List ℕ)) (vs : List Value) (v : Value) → arg_texts table (grounds (vs ++ v ∷ [])) ≡ arg_texts table (grounds vs) ++ spell_term (renamed (text_of table) (ground v)) ∷ []
+pub arg_texts-push : (table : List (List ℕ)) (vs : List CodeValue) (v : CodeValue) → arg_texts table (grounds (vs ++ v ∷ [])) ≡ arg_texts table (grounds vs) ++ spell_term (renamed (text_of table) (ground v)) ∷ []
 arg_texts-push table [] v = refl
 arg_texts-push table (x ∷ xs) v = ap (λ (r : List (List ℕ)). spell_term (renamed (text_of table) (ground x)) ∷ r) (arg_texts-push table xs v)
 
-pub length-arg_texts : (table : List (List ℕ)) (vs : List Value) → length (arg_texts table (grounds vs)) ≡ length vs
+pub length-arg_texts : (table : List (List ℕ)) (vs : List CodeValue) → length (arg_texts table (grounds vs)) ≡ length vs
 length-arg_texts table [] = refl
 length-arg_texts table (x ∷ xs) = ap suc (length-arg_texts table xs)
 
 -- one more argument written
-pub step : (table : List (List ℕ)) (out name new pushed before : List ℕ) (vs : List Value) (i b : ℕ) (d : Value) → i < length vs
+pub step : (table : List (List ℕ)) (out name new pushed before : List ℕ) (vs : List CodeValue) (i b : ℕ) (d : CodeValue) → i < length vs
     → ((i ≡ 0) × (b ≡ 40)) ⊎ ((0 < i) × (b ≡ 44))
     → new ≡ pushed ++ spell_term (renamed (text_of table) (ground (get_or vs i d)))
     → pushed ≡ before ++ b ∷ []
@@ -47,7 +47,7 @@ step table out name new pushed before vs i b d lt mark e1 e2 e3 =
     let ts = arg_texts table (grounds (take i vs)) in
     let t = spell_term (renamed (text_of table) (ground v)) in
     let len : length ts ≡ i = omega (arith, length-arg_texts table (take i vs), length-take i vs) in
-    let all : opened (arg_texts table (grounds (take (i + 1) vs))) ≡ opened ts ++ b ∷ t = ap (λ (w : List Value). opened (arg_texts table (grounds w))) (take_more vs i d lt) ∙ ap opened (arg_texts-push table (take i vs) v) ∙ opened-step ts t i b len mark in
+    let all : opened (arg_texts table (grounds (take (i + 1) vs))) ≡ opened ts ++ b ∷ t = ap (λ (w : List CodeValue). opened (arg_texts table (grounds w))) (take_more vs i d lt) ∙ ap opened (arg_texts-push table (take i vs) v) ∙ opened-step ts t i b len mark in
     let grouped : ((out ++ (name ++ opened ts)) ++ b ∷ []) ++ t ≡ out ++ (name ++ (opened ts ++ b ∷ t)) = simp append_assoc in
     e1 ∙ ap (λ (w : List ℕ). w ++ t) (e2 ∙ ap (λ (w : List ℕ). w ++ b ∷ []) e3) ∙ grouped ∙ ap (λ (w : List ℕ). out ++ (name ++ w)) (sym all)
 

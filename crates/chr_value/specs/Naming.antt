@@ -2,7 +2,7 @@
 use Rattle.std.specs.Prelude.{◌≡◌, ℕ, ◌||◌, true, List, [], ◌∷◌, ◌++◌, length, nat_lt, Option, Some, None, Result, Ok, Err, if◌then◌else◌}
 use Rattle.std.specs.List.{AllByRecursion}
 use Rattle.chr_value.specs.Names.{has_text, number_of, with_text}
-use Rattle.chr_value.specs.Terms.{Term, Int, Sym, Fact}
+use Rattle.chr_value.specs.Atoms.{Value, Int, Sym, Atom}
 use Rattle.chr_value.specs.declared.names.NamesFault.{NamesFault}
 use Rattle.chr_value.specs.declared.names.NamesFault.TheVariants as faults
 
@@ -21,32 +21,32 @@ abbrev pub number_name : Table → List ℕ → Option (ℕ × Table)
 number_name table t = if has_text table t || nat_lt (length table) 65536 then Some (number_of table t, with_text table t) else None
 
 -- the table has the term's name
-abbrev pub TermIsKnown : Table → Term (List ℕ) → Type 0
+abbrev pub TermIsKnown : Table → Value (List ℕ) → Type 0
 TermIsKnown table (Int z) = Unit {0}
 TermIsKnown table (Sym t) = has_text table t ≡ true
 
 -- the table has the atom's name and its symbols
-pub record FactIsKnown (table : Table) (a : Fact (List ℕ)) : Type 0 where
+pub record AtomIsKnown (table : Table) (a : Atom (List ℕ)) : Type 0 where
   pub name : has_text table a.name ≡ true
   pub args : AllByRecursion (TermIsKnown table) a.args
 
 -- a term by numbers, and the table that has its names
-abbrev pub number_term : Table → Term (List ℕ) → Option (Term ℕ × Table)
-number_term table (Int z) = Some (Int z, table)
-number_term table (Sym t) = number_name table t >>= λ n. Some (Sym n.0, n.1)
+abbrev pub numbered_value : Table → Value (List ℕ) → Option (Value ℕ × Table)
+numbered_value table (Int z) = Some (Int z, table)
+numbered_value table (Sym t) = number_name table t >>= λ n. Some (Sym n.0, n.1)
 
 -- terms from left to right, each over the table that the one before it left
-unfoldable pub number_terms : Table → List (Term (List ℕ)) → Option (List (Term ℕ) × Table)
+unfoldable pub number_terms : Table → List (Value (List ℕ)) → Option (List (Value ℕ) × Table)
 number_terms table [] = Some ([], table)
-number_terms table (t ∷ ts) = number_term table t >>= λ x. number_terms x.1 ts >>= λ xs. Some (x.0 ∷ xs.0, xs.1)
+number_terms table (t ∷ ts) = numbered_value table t >>= λ x. number_terms x.1 ts >>= λ xs. Some (x.0 ∷ xs.0, xs.1)
 
 -- an atom of the arguments in front and those to come
-abbrev pub number_more : ℕ → List (Term ℕ) → Option (List (Term ℕ) × Table) → Option (Fact ℕ × Table)
+abbrev pub number_more : ℕ → List (Value ℕ) → Option (List (Value ℕ) × Table) → Option (Atom ℕ × Table)
 number_more name front rest = rest >>= λ x. Some (record { name = name; args = front ++ x.0 }, x.1)
 
 -- an atom: its name, then its arguments
-unfoldable pub number_fact : Table → Fact (List ℕ) → Option (Fact ℕ × Table)
-number_fact table a = number_name table a.name >>= λ n. number_more n.0 [] (number_terms n.1 a.args)
+unfoldable pub numbered_atom : Table → Atom (List ℕ) → Option (Atom ℕ × Table)
+numbered_atom table a = number_name table a.name >>= λ n. number_more n.0 [] (number_terms n.1 a.args)
 
 -- What a function answered, with the table after it, is what numbering gives, unless memory ran out.
 abbrev pub Named : {X Y : Type 0} → (X → Y) → Result X NamesFault → Option (Y × Table) → Table → Type 0

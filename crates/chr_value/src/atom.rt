@@ -1,7 +1,7 @@
 //! Values, predicates and atoms.
 ghost use Rattle.std.specs.Prelude.{◌≡◌, ◌<◌, ◌≤◌, ◌↔◌, ◌++◌, ◌∷◌, [], length, IsTrue, IfOk};
 ghost use Rattle.std.specs.List.{AllByRecursion};
-ghost use Rattle.chr_value.specs.Terms.{ground, grounds, TermIsNamed, FactIsNamed};
+ghost use Rattle.chr_value.specs.Atoms.{ground, grounds, TermIsNamed, AtomIsNamed};
 
 use crate::names::Name;
 use arrayvec::ArrayVec;
@@ -72,9 +72,9 @@ pub struct Atom<A: Allocator> {
 
 impl<A: Allocator> Model for Atom<A> {
     ghost use Rattle.std.specs.Prelude.{ℕ, ◌≤◌, length};
-    ghost use Rattle.chr_value.specs.Terms.{Fact, grounds};
+    ghost use Rattle.chr_value.specs.Atoms.{Atom, grounds};
 
-    ghost Value = { Fact ℕ };
+    ghost Value = { Atom ℕ };
 
     ghost view = { λ a. record { name = a.name.number; args = grounds a.args.items } };
 
@@ -129,7 +129,7 @@ impl<A: Allocator + Copy> Atom<A> {
 
     /// Whether a table of `count` names has the atom's name and its symbols.
     pub fn is_named(&self, count: usize) -> bool
-        ensures { IsTrue result ↔ FactIsNamed count self.now }
+        ensures { IsTrue result ↔ AtomIsNamed count self.now }
     {
         (self.name.number as usize) < count && are_named(self.args.as_slice(), count)
     }

@@ -6,10 +6,10 @@
 //! - An [`Atom`](atom::Atom) is a predicate's name with at most eight values: a constraint without variables. Two atoms
 //!   are the same where predicate and arguments are.
 //! - [`write_atom`](writing::write_atom) gives an atom's text: its name, then its arguments by commas in brackets.
-//! - A [`SaidAtom`](words::SaidAtom) is an atom as a text says it, whose names are borrowed from that text, and
+//! - A [`TextAtom`](text_atom::TextAtom) is an atom as a text says it, whose names are borrowed from that text, and
 //!   [`number_atom`](naming::number_atom) makes an atom of it.
 //!
-//! Contracts see a table as the list of its texts, a value as a `Term ℕ` and an atom as a `Fact ℕ`, both over the
+//! Contracts see a table as the list of its texts, a value as a `Value ℕ` and an atom as a `Atom ℕ`, both over the
 //! numbers of names, and words and atoms of a text as the same over texts. So a clause of another crate needs no more
 //! than these, and stays when values become more than numbers and symbols; for the same reason nothing outside relies on
 //! a value being `Copy`.
@@ -30,5 +30,5 @@
 pub mod atom;
 pub mod names;
 pub mod naming;
-pub mod words;
+pub mod text_atom;
 pub mod writing;

@@ -1,15 +1,15 @@
 //! Numbering the names of atoms.
 ghost use Rattle.std.specs.Prelude.{◌≡◌, ◌≤◌, ◌↔◌, ℕ, Some, Err, true, false, length, take, IfOk, IsOk, OnErr};
 ghost use Rattle.chr_value.specs.Names.{has_text, HasDistinctTexts};
-ghost use Rattle.chr_value.specs.Terms.{Fact, FactIsNamed, ground, said as said_by};
-ghost use Rattle.chr_value.specs.Naming.{TermIsKnown, FactIsKnown, Named, number_name, number_term, number_fact};
-ghost use Rattle.chr_value.specs.Words.{word as word_of, fact_of};
+ghost use Rattle.chr_value.specs.Atoms.{Atom, AtomIsNamed, ground, by_texts as names_by};
+ghost use Rattle.chr_value.specs.Naming.{TermIsKnown, AtomIsKnown, Named, number_name, numbered_value, numbered_atom};
+ghost use Rattle.chr_value.specs.TextAtoms.{text_value as word_of, text_atom};
 ghost use Rattle.chr_value.specs.Spelling.{FitsTerm, FitsAtom};
 ghost use Rattle.chr_value.specs.declared.names.NamesFault.TheVariants.{Full};
 
 use crate::atom::{Atom, Value};
 use crate::names::{Name, Names, NamesFault};
-use crate::words::{SaidAtom, Word};
+use crate::text_atom::{TextAtom, TextValue};
 use std::alloc::Allocator;
 
 /// The number of a name's text, which gets the next one where it is new. E01 where memory ran out; E02 exactly where
@@ -29,20 +29,20 @@ pub fn name_number<A: Allocator + Copy>(
     names.intern(text)
 }
 
-/// A word as a value: a symbol by its name's number, as [`name_number`] gives it, with its errors.
+/// A text_value as a value: a symbol by its name's number, as [`name_number`] gives it, with its errors.
 pub(crate) fn word_value<A: Allocator + Copy>(
     names: &mut Names<A>,
-    word: &Word<'_>,
+    text_value: &TextValue<'_>,
 ) -> Result<Value, NamesFault>
-    requires { FitsTerm (word_of word.now) }
-    ensures gives { Named ground result (number_term names.old (word_of word.now)) names.new }
-    ensures full { (result ≡ Err Full) ↔ ((length names.old ≡ 65536) × (TermIsKnown names.old (word_of word.now) → ⊥)) }
-    ensures finds { TermIsKnown names.old (word_of word.now) → IsOk result }
+    requires { FitsTerm (word_of text_value.now) }
+    ensures gives { Named ground result (numbered_value names.old (word_of text_value.now)) names.new }
+    ensures full { (result ≡ Err Full) ↔ ((length names.old ≡ 65536) × (TermIsKnown names.old (word_of text_value.now) → ⊥)) }
+    ensures finds { TermIsKnown names.old (word_of text_value.now) → IsOk result }
     ensures keeps { take (length names.old) names.new ≡ names.old }
 {
-    match word {
-        Word::Int(n) => Ok(Value::Int(*n)),
-        Word::Sym(text) => {
+    match text_value {
+        TextValue::Int(n) => Ok(Value::Int(*n)),
+        TextValue::Sym(text) => {
             let name = name_number(names, text)?;
             Ok(Value::Sym(name))
         }
@@ -56,19 +56,19 @@ pub(crate) fn word_value<A: Allocator + Copy>(
 pub fn number_atom<A: Allocator + Copy>(
     alloc: A,
     names: &mut Names<A>,
-    said: &SaidAtom<'_>,
+    text: &TextAtom<'_>,
 ) -> Result<Atom<A>, NamesFault>
-    requires { FitsAtom (fact_of said.now) }
-    ensures gives { Named (λ a. a) result (number_fact names.old (fact_of said.now)) names.new }
-    ensures says { IfOk result (λ a. said_by names.new a ≡ fact_of said.now) }
-    ensures finds { FactIsKnown names.old (fact_of said.now) → IsOk result }
-    ensures again { (a : Fact ℕ) → HasDistinctTexts names.old → FactIsNamed (length names.old) a → fact_of said.now ≡ said_by names.old a → Named (λ b. b) result (Some (a, names.old)) names.new }
+    requires { FitsAtom (text_atom text.now) }
+    ensures gives { Named (λ a. a) result (numbered_atom names.old (text_atom text.now)) names.new }
+    ensures says { IfOk result (λ a. names_by names.new a ≡ text_atom text.now) }
+    ensures finds { AtomIsKnown names.old (text_atom text.now) → IsOk result }
+    ensures again { (a : Atom ℕ) → HasDistinctTexts names.old → AtomIsNamed (length names.old) a → text_atom text.now ≡ names_by names.old a → Named (λ b. b) result (Some (a, names.old)) names.new }
     ensures keeps { take (length names.old) names.new ≡ names.old }
 {
-    let name = name_number(names, said.name)?;
+    let name = name_number(names, text.name)?;
     let mut atom = Atom::new(alloc, name);
-    for word in said.args.as_slice() {
-        let value = word_value(names, word)?;
+    for text_value in text.args.as_slice() {
+        let value = word_value(names, text_value)?;
         atom.push(value);
     }
     Ok(atom)

@@ -2,7 +2,7 @@
 //! at most a beginning of what was to be written behind it.
 ghost use Rattle.std.specs.Prelude.{◌≡◌, ◌++◌, ◌∷◌, [], length, take, OnOk, OnErr};
 ghost use Rattle.std.specs.Fmt.{decimal, signed_decimal};
-ghost use Rattle.chr_value.specs.Terms.{ground, renamed, text_of, said};
+ghost use Rattle.chr_value.specs.Atoms.{ground, renamed, text_of, by_texts};
 ghost use Rattle.chr_value.specs.Spelling.{spell_term, spell, bracketed};
 
 use crate::atom::{Atom, Value};
@@ -58,7 +58,7 @@ pub fn write_atom<A: Allocator + Copy, C: Allocator>(
     names: &Names<A>,
     atom: &Atom<A>,
 ) -> Result<(), AllocError>
-    ensures writes { OnOk result (out.new.items ≡ out.old.items ++ spell (said names.now atom.now)) }
+    ensures writes { OnOk result (out.new.items ≡ out.old.items ++ spell (by_texts names.now atom.now)) }
     ensures keeps { take (length out.old.items) out.new.items ≡ out.old.items }
 {
     put_name(out, names, atom.name())?;

@@ -1,6 +1,6 @@
 use Rattle.std.proofs.Common.{ap, subst, ◌∙◌}
 use Rattle.chr_value.specs.Stores.{Store}
-use Rattle.chr_instances.specs.Found.{listed}
+use Rattle.chr_enumeration.specs.Found.{listed}
 use Rattle.chr_first.specs.Firings.{NoFiring}
 use Rattle.chr_first.proofs.firing.firing_with.Goals as goal
 

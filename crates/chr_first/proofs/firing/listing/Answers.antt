@@ -4,7 +4,7 @@ use Rattle.std.specs.Map.Iter.{deref_pair}
 use Rattle.std.proofs.lemmas.Map.Iter.{rest_all}
 use Rattle.chr_value.specs.Stores.{Store}
 use Rattle.chr_model.specs.Stores.{labels, Distinct}
-use Rattle.chr_instances.specs.Found.{listed}
+use Rattle.chr_enumeration.specs.Found.{listed}
 use Rattle.chr_first.proofs.Distinct.{rising_distinct}
 use Rattle.chr_first.proofs.firing.listing.Goals as goal
 

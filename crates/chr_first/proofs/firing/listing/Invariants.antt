@@ -1,5 +1,5 @@
 use Rattle.std.proofs.Common.{◌≡◌, ◌++◌}
-use Rattle.chr_instances.specs.Found.{listed}
+use Rattle.chr_enumeration.specs.Found.{listed}
 use Rattle.chr_first.proofs.firing.listing.Given as goal
 
 abbrev pub invariant-loop-label : goal.invariant-loop-label

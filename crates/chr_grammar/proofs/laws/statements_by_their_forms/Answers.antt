@@ -1,6 +1,6 @@
 use Rattle.chr_grammar.proofs.Statements.{says}
-use Rattle.chr_grammar.proofs.Statements_again.{said, one_statement, refused}
+use Rattle.chr_grammar.proofs.Statements_again.{by_texts, one_statement, refused}
 use Rattle.chr_grammar.proofs.laws.statements_by_their_forms.Goals as goal
 
 pub returns : goal.returns
-returns c = record { found = says; only = said; one = one_statement; refused = refused }
+returns c = record { found = says; only = by_texts; one = one_statement; refused = refused }

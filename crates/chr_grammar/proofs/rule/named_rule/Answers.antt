@@ -7,7 +7,7 @@ use Rattle.chr_grammar.proofs.rule.named_rule.Goals as goal
 
 pub returns-then-at-tokens : goal.returns-then-at-tokens
 returns-then-at-tokens g c =
-    split_none (rule_by (option_map (λ name. name.now) c.args.label)) is_arrow c.args.tokens.now c.before_arrow-at.result c.before_arrow-at.ensures.same c.if-at-tokens.true
+    split_none (rule_by (option_map (λ name. name.now) c.args.rule_name)) is_arrow c.args.tokens.now c.before_arrow-at.result c.before_arrow-at.ensures.same c.if-at-tokens.true
 
 pub returns-in_err-heads : goal.returns-in_err-heads
 returns-in_err-heads g c =
@@ -15,7 +15,7 @@ returns-in_err-heads g c =
     let ts = c.args.tokens.now in
     let n = c.before_arrow-at.result in
     let lt : n < length ts = omega (arith, c.before_arrow-at.ensures.within, c.if-at-tokens.false) in
-    let split = split_some (rule_by (option_map (λ name. name.now) c.args.label)) is_arrow ts n _ c.before_arrow-at.ensures.same lt in
+    let split = split_some (rule_by (option_map (λ name. name.now) c.args.rule_name)) is_arrow ts n _ c.before_arrow-at.ensures.same lt in
     rw (p.1, p.2, split) (fails_then c.in_err-heads.field-0.0 (heads_by_arrow (lexeme (get_or ts n _)) (map lexeme (take n ts))) _ c.in_err-heads.ensures)
 
 pub returns-in_err-consequence : goal.returns-in_err-consequence
@@ -24,7 +24,7 @@ returns-in_err-consequence g c =
     let ts = c.args.tokens.now in
     let n = c.before_arrow-at.result in
     let lt : n < length ts = omega (arith, c.before_arrow-at.ensures.within, c.if-at-tokens.false) in
-    let on = behind_heads (option_map (λ name. name.now) c.args.label) ts n _ _ c.before_arrow-at.ensures.same lt c.in_ok-heads.ensures in
+    let on = behind_heads (option_map (λ name. name.now) c.args.rule_name) ts n _ _ c.before_arrow-at.ensures.same lt c.in_ok-heads.ensures in
     rw (p.1, p.2, on) (fails_then c.in_err-consequence.field-0.0 (consequence_of (map lexeme (take (length ts - (n + 1)) (drop (n + 1) ts)))) _ c.in_err-consequence.ensures)
 
 pub returns : goal.returns
@@ -32,5 +32,5 @@ returns g c =
     let ts = c.args.tokens.now in
     let n = c.before_arrow-at.result in
     let lt : n < length ts = omega (arith, c.before_arrow-at.ensures.within, c.if-at-tokens.false) in
-    let on = behind_heads (option_map (λ name. name.now) c.args.label) ts n _ _ c.before_arrow-at.ensures.same lt c.in_ok-heads.ensures in
+    let on = behind_heads (option_map (λ name. name.now) c.args.rule_name) ts n _ _ c.before_arrow-at.ensures.same lt c.in_ok-heads.ensures in
     rw (on, c.in_ok-consequence.ensures) refl

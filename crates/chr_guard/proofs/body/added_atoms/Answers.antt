@@ -20,7 +20,7 @@ loop-item-preserved g c =
             few = omega arith;
           }
       | in-Add w ↦
-          let more : c.match-item.atoms.items ≡ c.loop-item.atoms.items ++ atom_under (holding c.args.binding.now) (shape w.in-Add.pattern) ∷ [] = ap (λ a. a.items) w.atoms-is ∙ w.push.ensures.items ∙ ap (λ a. c.loop-item.atoms.items ++ a ∷ []) w.atom_of.ensures in
+          let more : c.match-item.atoms.items ≡ c.loop-item.atoms.items ++ atom_under (holding c.args.binding.now) (shape w.in-Add.pattern) ∷ [] = ap (λ a. a.items) w.atoms-is ∙ w.push.ensures.items ∙ ap (λ a. c.loop-item.atoms.items ++ a ∷ []) w.make_atom.ensures in
           let len : length c.match-item.atoms.items ≡ length c.loop-item.atoms.items + 1 = ap length more ∙ length_push c.loop-item.atoms.items _ in
           let few : length c.loop-item.atoms.items ≤ c.loop-item.item-index = c.loop-item.invariant.few in
           record {

@@ -3,15 +3,15 @@ use Rattle.chr_guard.proofs.Matched.{fit_binds}
 use Rattle.chr_guard.proofs.Whole.{is_instance_under, no_guard, no_right}
 use Rattle.chr_guard.proofs.instance.instance_from.Goals as goal
 
-pub complete-requires-clause-heads : goal.complete-requires-clause-heads
-complete-requires-clause-heads g c = fit_binds c.args.rule.now c.requires.0 c.args.binding c.requires.1
+pub bind_body-requires-clause-heads : goal.bind_body-requires-clause-heads
+bind_body-requires-clause-heads g c = fit_binds c.args.rule.now c.requires.0 c.args.binding c.requires.1
 
 pub returns : goal.returns
 returns g c facts fit =
-    is_instance_under c.args.rule.now c.guard_holds.ensures.whole facts c.args.binding c.complete.new.binding fit (c.if-not-guard_holds.ensures.holds.0 refl) c.if-not-complete.ensures
+    is_instance_under c.args.rule.now c.guard_holds.ensures.whole facts c.args.binding c.bind_body.new.binding fit (c.if-not-guard_holds.ensures.holds.0 refl) c.if-not-bind_body.ensures
 
-pub returns-then-not-complete : goal.returns-then-not-complete
-returns-then-not-complete g c facts fit = no_right c.args.rule.now facts c.args.binding fit c.if-not-complete.ensures
+pub returns-then-not-bind_body : goal.returns-then-not-bind_body
+returns-then-not-bind_body g c facts fit = no_right c.args.rule.now facts c.args.binding fit c.if-not-bind_body.ensures
 
 pub returns-then-not-guard_holds : goal.returns-then-not-guard_holds
 returns-then-not-guard_holds g c facts fit =

@@ -1,7 +1,7 @@
 use Rattle.std.proofs.Common.{◌≡◌, ◌<◌, ◌≤◌, length, map, None, replicate, sym, subst, ◌∙◌}
 use Rattle.std.proofs.lemmas.List.{length-map, length-replicate}
 use Rattle.chr_rule.specs.Parts.{shape}
-use Rattle.chr_guard.specs.Matching.{Stands, AllStand}
+use Rattle.chr_guard.specs.Matching.{IsAtHead, AreAtHeads}
 use Rattle.chr_guard.proofs.Scoped.{IsPlaced}
 use Rattle.chr_guard.proofs.Steps.{map_read, narrows_whole}
 use Rattle.chr_guard.proofs.Matched.{head_placed, fit_from_free, stands_more, stands_stop, stands_nowhere, none_from_free}
@@ -24,7 +24,7 @@ returns-then-not-fit_head g c =
     let placed = c.args.placed.now in
     let here : c.loop-number.number-index < length placed = c.loop-number-test.true in
     let there : c.loop-number.number-index < length (map (λ p. (p.0, p.1.now)) placed) = rw length-map here in
-    none_from_free (AllStand c.args.rule.now (map (λ p. (p.0, p.1.now)) placed)) c.args.rule.now.variables
+    none_from_free (AreAtHeads c.args.rule.now (map (λ p. (p.0, p.1.now)) placed)) c.args.rule.now.variables
     (stands_stop c.args.rule.now (map (λ p. (p.0, p.1.now)) placed) c.loop-number.number-index (c.loop-number-item.result.0, c.loop-number-item.result.1.now) (shape c.in_ok-head.head.now) (replicate c.args.rule.now.variables None) c.loop-number.binding there (map_read (λ p. (p.0, p.1.now)) placed c.loop-number.number-index c.loop-number-item.result here c.loop-number-item.is) (sym c.in_ok-head.ensures.head) c.loop-number.invariant c.if-not-fit_head.ensures)
 
 pub loop-number-preserved : goal.loop-number-preserved
@@ -39,5 +39,5 @@ returns g c =
     let placed = c.args.placed.now in
     let past : length placed ≤ c.loop-number.number-index = c.loop-number-test.false in
     let out : length (map (λ p. (p.0, p.1.now)) placed) ≤ c.loop-number.number-index = rw length-map past in
-    fit_from_free c.args.rule.now (AllStand c.args.rule.now (map (λ p. (p.0, p.1.now)) placed)) c.loop-number.binding
-    (narrows_whole (Stands c.args.rule.now) (map (λ p. (p.0, p.1.now)) placed) c.loop-number.number-index (replicate c.args.rule.now.variables None) c.loop-number.binding out c.loop-number.invariant)
+    fit_from_free c.args.rule.now (AreAtHeads c.args.rule.now (map (λ p. (p.0, p.1.now)) placed)) c.loop-number.binding
+    (narrows_whole (IsAtHead c.args.rule.now) (map (λ p. (p.0, p.1.now)) placed) c.loop-number.number-index (replicate c.args.rule.now.variables None) c.loop-number.binding out c.loop-number.invariant)

@@ -10,13 +10,13 @@ use Rattle.chr_guard.proofs.matching.fit_all.Goals as goal
 pub fit_heads-requires : goal.fit_heads-requires
 fit_heads-requires g c =
     let rule = c.args.rule.now in
-    let len : length c.free-binding.result ≡ rule.variables = ap length c.free-binding.ensures ∙ length-replicate c.variables.result None ∙ c.variables.ensures.count in
+    let len : length c.free-binding.result ≡ rule.variables = ap length c.free-binding.ensures ∙ length-replicate c.variables.result None ∙ c.variables.ensures.bind_number in
     placed_in_binding rule (map shape c.kept-kept.result.now) (length c.free-binding.result) len (subst (AllByRecursion (IsPlaced rule.variables)) (sym c.kept-kept.ensures.heads) (kept_placed rule c.kept-kept.ensures.whole))
 
 pub fit_heads-requires-2 : goal.fit_heads-requires-2
 fit_heads-requires-2 g c =
     let rule = c.args.rule.now in
-    let len : length c.fit_heads.new.binding ≡ rule.variables = c.if-not-fit_heads.ensures.places ∙ ap length c.free-binding.ensures ∙ length-replicate c.variables.result None ∙ c.variables.ensures.count in
+    let len : length c.fit_heads.new.binding ≡ rule.variables = c.if-not-fit_heads.ensures.places ∙ ap length c.free-binding.ensures ∙ length-replicate c.variables.result None ∙ c.variables.ensures.bind_number in
     placed_in_binding rule (map shape c.removed-removed.result.now) (length c.fit_heads.new.binding) len (subst (AllByRecursion (IsPlaced rule.variables)) (sym c.removed-removed.ensures.heads) (removed_placed rule c.kept-kept.ensures.whole))
 
 pub returns : goal.returns
@@ -28,7 +28,7 @@ returns g c =
     let kept = c.kept-kept.result.now in
     let both : map (λ a. a.now) atoms ≡ map (λ a. a.now) first ++ map (λ a. a.now) rest = halves (λ a. a.now) atoms first rest (length kept) c.split_at.ensures.front c.split_at.ensures.back in
     let len : length (map (λ a. a.now) first) ≡ length (map shape kept) = length-map first (λ a. a.now) ∙ c.split_at.ensures.front_len ∙ sym (length-map kept shape) in
-    fit_both rule (map (λ a. a.now) atoms) (map (λ a. a.now) first) (map (λ a. a.now) rest) (map shape kept) (map shape c.removed-removed.result.now) c.free-binding.result c.fit_heads.new.binding c.fit_heads-2.new.binding c.kept-kept.ensures.heads c.removed-removed.ensures.heads both len (c.free-binding.ensures ∙ ap (λ n. replicate n None) c.variables.ensures.count) c.if-not-fit_heads.ensures c.if-not-fit_heads-2.ensures
+    fit_both rule (map (λ a. a.now) atoms) (map (λ a. a.now) first) (map (λ a. a.now) rest) (map shape kept) (map shape c.removed-removed.result.now) c.free-binding.result c.fit_heads.new.binding c.fit_heads-2.new.binding c.kept-kept.ensures.heads c.removed-removed.ensures.heads both len (c.free-binding.ensures ∙ ap (λ n. replicate n None) c.variables.ensures.bind_number) c.if-not-fit_heads.ensures c.if-not-fit_heads-2.ensures
 
 pub returns-then-not-fit_heads : goal.returns-then-not-fit_heads
 returns-then-not-fit_heads g c =
@@ -39,7 +39,7 @@ returns-then-not-fit_heads g c =
     let kept = c.kept-kept.result.now in
     let both : map (λ a. a.now) atoms ≡ map (λ a. a.now) first ++ map (λ a. a.now) rest = halves (λ a. a.now) atoms first rest (length kept) c.split_at.ensures.front c.split_at.ensures.back in
     let len : length (map (λ a. a.now) first) ≡ length (map shape kept) = length-map first (λ a. a.now) ∙ c.split_at.ensures.front_len ∙ sym (length-map kept shape) in
-    no_kept rule (map (λ a. a.now) atoms) (map (λ a. a.now) first) (map (λ a. a.now) rest) (map shape kept) c.free-binding.result c.kept-kept.ensures.heads both len (c.free-binding.ensures ∙ ap (λ n. replicate n None) c.variables.ensures.count) c.if-not-fit_heads.ensures
+    no_kept rule (map (λ a. a.now) atoms) (map (λ a. a.now) first) (map (λ a. a.now) rest) (map shape kept) c.free-binding.result c.kept-kept.ensures.heads both len (c.free-binding.ensures ∙ ap (λ n. replicate n None) c.variables.ensures.bind_number) c.if-not-fit_heads.ensures
 
 pub returns-then-not-fit_heads-2 : goal.returns-then-not-fit_heads-2
 returns-then-not-fit_heads-2 g c =
@@ -50,7 +50,7 @@ returns-then-not-fit_heads-2 g c =
     let kept = c.kept-kept.result.now in
     let both : map (λ a. a.now) atoms ≡ map (λ a. a.now) first ++ map (λ a. a.now) rest = halves (λ a. a.now) atoms first rest (length kept) c.split_at.ensures.front c.split_at.ensures.back in
     let len : length (map (λ a. a.now) first) ≡ length (map shape kept) = length-map first (λ a. a.now) ∙ c.split_at.ensures.front_len ∙ sym (length-map kept shape) in
-    no_removed rule (map (λ a. a.now) atoms) (map (λ a. a.now) first) (map (λ a. a.now) rest) (map shape kept) (map shape c.removed-removed.result.now) c.free-binding.result c.fit_heads.new.binding c.kept-kept.ensures.heads c.removed-removed.ensures.heads both len (c.free-binding.ensures ∙ ap (λ n. replicate n None) c.variables.ensures.count) c.if-not-fit_heads.ensures c.if-not-fit_heads-2.ensures
+    no_removed rule (map (λ a. a.now) atoms) (map (λ a. a.now) first) (map (λ a. a.now) rest) (map shape kept) (map shape c.removed-removed.result.now) c.free-binding.result c.fit_heads.new.binding c.kept-kept.ensures.heads c.removed-removed.ensures.heads both len (c.free-binding.ensures ∙ ap (λ n. replicate n None) c.variables.ensures.bind_number) c.if-not-fit_heads.ensures c.if-not-fit_heads-2.ensures
 
 pub returns-then-atoms-kept : goal.returns-then-atoms-kept
 returns-then-atoms-kept g c =

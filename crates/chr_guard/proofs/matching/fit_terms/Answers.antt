@@ -1,7 +1,7 @@
 use Rattle.std.proofs.Common.{◌<◌, ◌≤◌, length, map, get_or, arith, sym, ap, ◌∙◌}
 use Rattle.std.proofs.lemmas.List.{get_or-map, length-map}
-use Rattle.chr_value.specs.Terms.{ground}
-use Rattle.chr_rule.specs.declared.pattern.Term.TheVariants as variants
+use Rattle.chr_value.specs.Atoms.{ground}
+use Rattle.chr_rule.specs.declared.rule_atom.Term.TheVariants as variants
 use Rattle.chr_rule.specs.Parts.{argument}
 use Rattle.chr_rule.specs.Scope.{argument_known}
 use Rattle.chr_guard.specs.Values.{term_under}

@@ -1,5 +1,5 @@
 use Rattle.std.proofs.Common.{map}
-use Rattle.chr_value.specs.Terms.{grounds}
+use Rattle.chr_value.specs.Atoms.{grounds}
 use Rattle.chr_rule.specs.Parts.{argument}
 use Rattle.chr_guard.specs.Values.{term_under}
 use Rattle.chr_guard.specs.Bindings.{Narrows}

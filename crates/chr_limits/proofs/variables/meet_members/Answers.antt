@@ -7,8 +7,8 @@ use Rattle.chr_limits.proofs.variables.meet_members.Goals as goal
 
 pub returns-in_err-meet_member : goal.returns-in_err-meet_member
 returns-in_err-meet_member g c =
-    rw c.from_residual.ensures (meet_short member_variables member (names c.loop-member.met.items) _ _ c.args.members.now c.loop-member.member-index c.member-item.result (omega arith) c.loop-member.invariant (ap (λ l. member_variables (member l)) c.member-item.is) c.in_err-meet_member.ensures)
+    rw c.from_residual.ensures (meet_short member_variables member (names c.loop-member.seen.items) _ _ c.args.members.now c.loop-member.member-index c.member-item.result (omega arith) c.loop-member.invariant (ap (λ l. member_variables (member l)) c.member-item.is) c.in_err-meet_member.ensures)
 
 pub loop-member-preserved : goal.loop-member-preserved
 loop-member-preserved g c =
-    meet_turn member_variables member (names c.loop-member.met.items) _ _ _ c.args.members.now c.loop-member.member-index c.member-item.result (omega arith) c.loop-member.invariant (ap (λ l. member_variables (member l)) c.member-item.is) c.in_ok-meet_member.ensures
+    meet_turn member_variables member (names c.loop-member.seen.items) _ _ _ c.args.members.now c.loop-member.member-index c.member-item.result (omega arith) c.loop-member.invariant (ap (λ l. member_variables (member l)) c.member-item.is) c.in_ok-meet_member.ensures

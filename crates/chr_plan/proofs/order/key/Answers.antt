@@ -1,7 +1,7 @@
 use Rattle.std.proofs.Common.{ℕ, ◌+◌, false, ap, sym, ◌∙◌, slice_index_or, position}
 use Rattle.std.specs.Option.{option_map}
 use Rattle.chr_rule.specs.Parts.{argument, shape}
-use Rattle.chr_rule.specs.declared.pattern.Term.{Term}
+use Rattle.chr_rule.specs.declared.rule_atom.Term.{Term}
 use Rattle.chr_plan.specs.Orders.{heads_of, head_at, is_known}
 use Rattle.chr_plan.proofs.Lists.{key_found}
 use Rattle.chr_plan.proofs.order.key.Goals as goal

@@ -1,10 +1,10 @@
 use Rattle.std.proofs.Common.{[], map, ap}
 use Rattle.std.proofs.lemmas.Result.{err_from_is_err_and}
-use Rattle.chr_grammar.specs.Views as said
+use Rattle.chr_grammar.specs.Views as by_texts
 use Rattle.chr_limits.specs.Views.{names as texts}
-use Rattle.chr_rule.specs.Parts.{shape, comparison, member}
-use Rattle.chr_text.specs.Numbering.{numbered, number_shape, number_test, number_member}
-use Rattle.chr_text.specs.Said as raw
+use Rattle.chr_rule.specs.Parts.{rule_atom, comparison, member}
+use Rattle.chr_text.specs.Numbering.{or_full, numbered_rule_atom, number_test, number_member}
+use Rattle.chr_text.specs.Translation as raw
 use Rattle.chr_text.proofs.Growing.{kept_room, heads_room, guard_room}
 use Rattle.chr_text.proofs.Parts.{got, got_some, met_as, room_as, guard_fails, body_fails, rule_done, as_many}
 use Rattle.chr_text.proofs.Same.{rule_same}
@@ -12,72 +12,72 @@ use Rattle.chr_text.proofs.build.number_rule.Goals as goal
 
 pub number_phrases-requires-clause-room : goal.number_phrases-requires-clause-room
 number_phrases-requires-clause-room g c =
-    let r = said.raw_rule {Z = g.row.A.Denot} c.args.rule.now in
-    let m0 = ap texts c.new-met.ensures in
-    let d1 = ap (map (said.phrase {Z = g.row.A.Denot})) c.deref.ensures.value in
-    room_as raw.shape _ [] _ r.kept m0 d1 (kept_room r c.requires.room)
+    let r = by_texts.raw_rule {Z = g.row.A.Denot} c.args.rule.now in
+    let m0 = ap texts c.new-seen.ensures in
+    let d1 = ap (map (by_texts.phrase {Z = g.row.A.Denot})) c.deref.ensures.value in
+    room_as raw.rule_atom _ [] _ r.kept m0 d1 (kept_room r c.requires.room)
 
 pub number_phrases-requires-2-clause-room : goal.number_phrases-requires-2-clause-room
 number_phrases-requires-2-clause-room g c =
-    let r = said.raw_rule {Z = g.row.A.Denot} c.args.rule.now in
-    let m0 = ap texts c.new-met.ensures in
-    let d1 = ap (map (said.phrase {Z = g.row.A.Denot})) c.deref.ensures.value in
-    let d2 = ap (map (said.phrase {Z = g.row.A.Denot})) c.deref-2.ensures.value in
-    let m1 = met_as raw.shape _ [] _ _ r.kept m0 d1 c.in_ok-kept.ensures.met in
-    room_as raw.shape _ (raw.behind_kept r) _ r.removed m1 d2 (heads_room r c.requires.room)
+    let r = by_texts.raw_rule {Z = g.row.A.Denot} c.args.rule.now in
+    let m0 = ap texts c.new-seen.ensures in
+    let d1 = ap (map (by_texts.phrase {Z = g.row.A.Denot})) c.deref.ensures.value in
+    let d2 = ap (map (by_texts.phrase {Z = g.row.A.Denot})) c.deref-2.ensures.value in
+    let m1 = met_as raw.rule_atom _ [] _ _ r.kept m0 d1 c.in_ok-kept.ensures.seen in
+    room_as raw.rule_atom _ (raw.behind_kept r) _ r.removed m1 d2 (heads_room r c.requires.room)
 
 pub number_tests-requires-clause-room : goal.number_tests-requires-clause-room
 number_tests-requires-clause-room g c =
-    let r = said.raw_rule {Z = g.row.A.Denot} c.args.rule.now in
-    let m0 = ap texts c.new-met.ensures in
-    let d1 = ap (map (said.phrase {Z = g.row.A.Denot})) c.deref.ensures.value in
-    let d2 = ap (map (said.phrase {Z = g.row.A.Denot})) c.deref-2.ensures.value in
-    let d3 = ap (map (said.test {Z = g.row.A.Denot})) c.deref-3.ensures.value in
-    let m1 = met_as raw.shape _ [] _ _ r.kept m0 d1 c.in_ok-kept.ensures.met in
-    let m2 = met_as raw.shape _ (raw.behind_kept r) _ _ r.removed m1 d2 c.in_ok-removed.ensures.met in
+    let r = by_texts.raw_rule {Z = g.row.A.Denot} c.args.rule.now in
+    let m0 = ap texts c.new-seen.ensures in
+    let d1 = ap (map (by_texts.phrase {Z = g.row.A.Denot})) c.deref.ensures.value in
+    let d2 = ap (map (by_texts.phrase {Z = g.row.A.Denot})) c.deref-2.ensures.value in
+    let d3 = ap (map (by_texts.test {Z = g.row.A.Denot})) c.deref-3.ensures.value in
+    let m1 = met_as raw.rule_atom _ [] _ _ r.kept m0 d1 c.in_ok-kept.ensures.seen in
+    let m2 = met_as raw.rule_atom _ (raw.behind_kept r) _ _ r.removed m1 d2 c.in_ok-removed.ensures.seen in
     room_as raw.test _ (raw.behind_heads r) _ r.guard m2 d3 (guard_room r c.requires.room)
 
 pub number_members-requires-clause-room : goal.number_members-requires-clause-room
 number_members-requires-clause-room g c =
-    let r = said.raw_rule {Z = g.row.A.Denot} c.args.rule.now in
-    let m0 = ap texts c.new-met.ensures in
-    let d1 = ap (map (said.phrase {Z = g.row.A.Denot})) c.deref.ensures.value in
-    let d2 = ap (map (said.phrase {Z = g.row.A.Denot})) c.deref-2.ensures.value in
-    let d3 = ap (map (said.test {Z = g.row.A.Denot})) c.deref-3.ensures.value in
-    let d4 = ap (map (said.member {Z = g.row.A.Denot})) c.deref-4.ensures.value in
-    let m1 = met_as raw.shape _ [] _ _ r.kept m0 d1 c.in_ok-kept.ensures.met in
-    let m2 = met_as raw.shape _ (raw.behind_kept r) _ _ r.removed m1 d2 c.in_ok-removed.ensures.met in
-    let m3 = met_as raw.test _ (raw.behind_heads r) _ _ r.guard m2 d3 c.in_ok-guard.ensures.met in
+    let r = by_texts.raw_rule {Z = g.row.A.Denot} c.args.rule.now in
+    let m0 = ap texts c.new-seen.ensures in
+    let d1 = ap (map (by_texts.phrase {Z = g.row.A.Denot})) c.deref.ensures.value in
+    let d2 = ap (map (by_texts.phrase {Z = g.row.A.Denot})) c.deref-2.ensures.value in
+    let d3 = ap (map (by_texts.test {Z = g.row.A.Denot})) c.deref-3.ensures.value in
+    let d4 = ap (map (by_texts.member {Z = g.row.A.Denot})) c.deref-4.ensures.value in
+    let m1 = met_as raw.rule_atom _ [] _ _ r.kept m0 d1 c.in_ok-kept.ensures.seen in
+    let m2 = met_as raw.rule_atom _ (raw.behind_kept r) _ _ r.removed m1 d2 c.in_ok-removed.ensures.seen in
+    let m3 = met_as raw.test _ (raw.behind_heads r) _ _ r.guard m2 d3 c.in_ok-guard.ensures.seen in
     room_as raw.member _ (raw.behind_guard r) _ r.body m3 d4 c.requires.room
 
 pub returns-in_err-guard-clause-gives : goal.returns-in_err-guard-clause-gives
 returns-in_err-guard-clause-gives g c =
-    let r = said.raw_rule {Z = g.row.A.Denot} c.args.rule.now in
-    let m0 = ap texts c.new-met.ensures in
-    let d1 = ap (map (said.phrase {Z = g.row.A.Denot})) c.deref.ensures.value in
-    let d2 = ap (map (said.phrase {Z = g.row.A.Denot})) c.deref-2.ensures.value in
-    let d3 = ap (map (said.test {Z = g.row.A.Denot})) c.deref-3.ensures.value in
-    let e1 = got number_shape raw.shape _ [] _ r.kept c.args.names.now _ m0 d1 c.in_ok-kept.ensures.gives in
-    let m1 = met_as raw.shape _ [] _ _ r.kept m0 d1 c.in_ok-kept.ensures.met in
-    let e2 = got number_shape raw.shape _ (raw.behind_kept r) _ r.removed c.number_phrases.new.names _ m1 d2 c.in_ok-removed.ensures.gives in
-    let m2 = met_as raw.shape _ (raw.behind_kept r) _ _ r.removed m1 d2 c.in_ok-removed.ensures.met in
+    let r = by_texts.raw_rule {Z = g.row.A.Denot} c.args.rule.now in
+    let m0 = ap texts c.new-seen.ensures in
+    let d1 = ap (map (by_texts.phrase {Z = g.row.A.Denot})) c.deref.ensures.value in
+    let d2 = ap (map (by_texts.phrase {Z = g.row.A.Denot})) c.deref-2.ensures.value in
+    let d3 = ap (map (by_texts.test {Z = g.row.A.Denot})) c.deref-3.ensures.value in
+    let e1 = got numbered_rule_atom raw.rule_atom _ [] _ r.kept c.args.names.now _ m0 d1 c.in_ok-kept.ensures.gives in
+    let m1 = met_as raw.rule_atom _ [] _ _ r.kept m0 d1 c.in_ok-kept.ensures.seen in
+    let e2 = got numbered_rule_atom raw.rule_atom _ (raw.behind_kept r) _ r.removed c.number_phrases.new.names _ m1 d2 c.in_ok-removed.ensures.gives in
+    let m2 = met_as raw.rule_atom _ (raw.behind_kept r) _ _ r.removed m1 d2 c.in_ok-removed.ensures.seen in
     let p = err_from_is_err_and c.from_residual-in_err-guard.result c.from_residual-in_err-guard.ensures.1 in
     rw (p.1, p.2) (guard_fails c.in_err-guard.field-0.0 c.args.names.now _ _ (raw.rule r) _ _ e1 e2 (rw (← m2, ← d3) c.in_err-guard.ensures.gives))
 
 pub returns-in_err-body-clause-gives : goal.returns-in_err-body-clause-gives
 returns-in_err-body-clause-gives g c =
-    let r = said.raw_rule {Z = g.row.A.Denot} c.args.rule.now in
-    let m0 = ap texts c.new-met.ensures in
-    let d1 = ap (map (said.phrase {Z = g.row.A.Denot})) c.deref.ensures.value in
-    let d2 = ap (map (said.phrase {Z = g.row.A.Denot})) c.deref-2.ensures.value in
-    let d3 = ap (map (said.test {Z = g.row.A.Denot})) c.deref-3.ensures.value in
-    let d4 = ap (map (said.member {Z = g.row.A.Denot})) c.deref-4.ensures.value in
-    let e1 = got number_shape raw.shape _ [] _ r.kept c.args.names.now _ m0 d1 c.in_ok-kept.ensures.gives in
-    let m1 = met_as raw.shape _ [] _ _ r.kept m0 d1 c.in_ok-kept.ensures.met in
-    let e2 = got number_shape raw.shape _ (raw.behind_kept r) _ r.removed c.number_phrases.new.names _ m1 d2 c.in_ok-removed.ensures.gives in
-    let m2 = met_as raw.shape _ (raw.behind_kept r) _ _ r.removed m1 d2 c.in_ok-removed.ensures.met in
+    let r = by_texts.raw_rule {Z = g.row.A.Denot} c.args.rule.now in
+    let m0 = ap texts c.new-seen.ensures in
+    let d1 = ap (map (by_texts.phrase {Z = g.row.A.Denot})) c.deref.ensures.value in
+    let d2 = ap (map (by_texts.phrase {Z = g.row.A.Denot})) c.deref-2.ensures.value in
+    let d3 = ap (map (by_texts.test {Z = g.row.A.Denot})) c.deref-3.ensures.value in
+    let d4 = ap (map (by_texts.member {Z = g.row.A.Denot})) c.deref-4.ensures.value in
+    let e1 = got numbered_rule_atom raw.rule_atom _ [] _ r.kept c.args.names.now _ m0 d1 c.in_ok-kept.ensures.gives in
+    let m1 = met_as raw.rule_atom _ [] _ _ r.kept m0 d1 c.in_ok-kept.ensures.seen in
+    let e2 = got numbered_rule_atom raw.rule_atom _ (raw.behind_kept r) _ r.removed c.number_phrases.new.names _ m1 d2 c.in_ok-removed.ensures.gives in
+    let m2 = met_as raw.rule_atom _ (raw.behind_kept r) _ _ r.removed m1 d2 c.in_ok-removed.ensures.seen in
     let e3 = got_some number_test raw.test _ (raw.behind_heads r) _ r.guard c.number_phrases-2.new.names _ m2 d3 c.in_ok-guard.ensures.gives in
-    let m3 = met_as raw.test _ (raw.behind_heads r) _ _ r.guard m2 d3 c.in_ok-guard.ensures.met in
+    let m3 = met_as raw.test _ (raw.behind_heads r) _ _ r.guard m2 d3 c.in_ok-guard.ensures.seen in
     let p = err_from_is_err_and c.from_residual-in_err-body.result c.from_residual-in_err-body.ensures.1 in
     rw (p.1, p.2) (body_fails c.in_err-body.field-0.0 c.args.names.now _ _ _ (raw.rule r) _ _ _ e1 e2 e3 (rw (← m3, ← d4) c.in_err-body.ensures.gives))
 
@@ -86,42 +86,42 @@ returns-in_err-body-clause-keeps g c = λ t h. c.in_err-body.ensures.keeps t (c.
 
 pub unreachable-requires : goal.unreachable-requires
 unreachable-requires g c =
-    let r = said.raw_rule {Z = g.row.A.Denot} c.args.rule.now in
-    let m0 = ap texts c.new-met.ensures in
-    let d1 = ap (map (said.phrase {Z = g.row.A.Denot})) c.deref.ensures.value in
-    let d2 = ap (map (said.phrase {Z = g.row.A.Denot})) c.deref-2.ensures.value in
-    let d3 = ap (map (said.test {Z = g.row.A.Denot})) c.deref-3.ensures.value in
-    let d4 = ap (map (said.member {Z = g.row.A.Denot})) c.deref-4.ensures.value in
-    let e1 = got number_shape raw.shape _ [] _ r.kept c.args.names.now _ m0 d1 c.in_ok-kept.ensures.gives in
-    let m1 = met_as raw.shape _ [] _ _ r.kept m0 d1 c.in_ok-kept.ensures.met in
-    let e2 = got number_shape raw.shape _ (raw.behind_kept r) _ r.removed c.number_phrases.new.names _ m1 d2 c.in_ok-removed.ensures.gives in
-    let m2 = met_as raw.shape _ (raw.behind_kept r) _ _ r.removed m1 d2 c.in_ok-removed.ensures.met in
+    let r = by_texts.raw_rule {Z = g.row.A.Denot} c.args.rule.now in
+    let m0 = ap texts c.new-seen.ensures in
+    let d1 = ap (map (by_texts.phrase {Z = g.row.A.Denot})) c.deref.ensures.value in
+    let d2 = ap (map (by_texts.phrase {Z = g.row.A.Denot})) c.deref-2.ensures.value in
+    let d3 = ap (map (by_texts.test {Z = g.row.A.Denot})) c.deref-3.ensures.value in
+    let d4 = ap (map (by_texts.member {Z = g.row.A.Denot})) c.deref-4.ensures.value in
+    let e1 = got numbered_rule_atom raw.rule_atom _ [] _ r.kept c.args.names.now _ m0 d1 c.in_ok-kept.ensures.gives in
+    let m1 = met_as raw.rule_atom _ [] _ _ r.kept m0 d1 c.in_ok-kept.ensures.seen in
+    let e2 = got numbered_rule_atom raw.rule_atom _ (raw.behind_kept r) _ r.removed c.number_phrases.new.names _ m1 d2 c.in_ok-removed.ensures.gives in
+    let m2 = met_as raw.rule_atom _ (raw.behind_kept r) _ _ r.removed m1 d2 c.in_ok-removed.ensures.seen in
     let e3 = got_some number_test raw.test _ (raw.behind_heads r) _ r.guard c.number_phrases-2.new.names _ m2 d3 c.in_ok-guard.ensures.gives in
-    let m3 = met_as raw.test _ (raw.behind_heads r) _ _ r.guard m2 d3 c.in_ok-guard.ensures.met in
+    let m3 = met_as raw.test _ (raw.behind_heads r) _ _ r.guard m2 d3 c.in_ok-guard.ensures.seen in
     let e4 = got_some number_member raw.member _ (raw.behind_guard r) _ r.body c.number_tests.new.names _ m3 d4 c.in_ok-body.ensures.gives in
-    let whole = rule_same (raw.rule r) c.args.names.now _ _ _ _ (map shape c.in_ok-kept.kept.items) (map shape c.in_ok-removed.removed.items) (map (comparison {Z = g.row.A.Denot}) c.in_ok-guard.guard.items) (map (member {Z = g.row.A.Denot}) c.in_ok-body.body.items) e1 e2 e3 e4 c.requires.whole in
+    let whole = rule_same (raw.rule r) c.args.names.now _ _ _ _ (map rule_atom c.in_ok-kept.kept.items) (map rule_atom c.in_ok-removed.removed.items) (map (comparison {Z = g.row.A.Denot}) c.in_ok-guard.guard.items) (map (member {Z = g.row.A.Denot}) c.in_ok-body.body.items) e1 e2 e3 e4 c.requires.whole in
     let some = c.new.ensures.exact.1 ((raw.rule r).variables, whole) in
     let none = c.in-None.is in
     absurd cc
 
 pub returns-clause-gives : goal.returns-clause-gives
 returns-clause-gives g c =
-    let r = said.raw_rule {Z = g.row.A.Denot} c.args.rule.now in
-    let m0 = ap texts c.new-met.ensures in
-    let d1 = ap (map (said.phrase {Z = g.row.A.Denot})) c.deref.ensures.value in
-    let d2 = ap (map (said.phrase {Z = g.row.A.Denot})) c.deref-2.ensures.value in
-    let d3 = ap (map (said.test {Z = g.row.A.Denot})) c.deref-3.ensures.value in
-    let d4 = ap (map (said.member {Z = g.row.A.Denot})) c.deref-4.ensures.value in
-    let e1 = got number_shape raw.shape _ [] _ r.kept c.args.names.now _ m0 d1 c.in_ok-kept.ensures.gives in
-    let m1 = met_as raw.shape _ [] _ _ r.kept m0 d1 c.in_ok-kept.ensures.met in
-    let e2 = got number_shape raw.shape _ (raw.behind_kept r) _ r.removed c.number_phrases.new.names _ m1 d2 c.in_ok-removed.ensures.gives in
-    let m2 = met_as raw.shape _ (raw.behind_kept r) _ _ r.removed m1 d2 c.in_ok-removed.ensures.met in
+    let r = by_texts.raw_rule {Z = g.row.A.Denot} c.args.rule.now in
+    let m0 = ap texts c.new-seen.ensures in
+    let d1 = ap (map (by_texts.phrase {Z = g.row.A.Denot})) c.deref.ensures.value in
+    let d2 = ap (map (by_texts.phrase {Z = g.row.A.Denot})) c.deref-2.ensures.value in
+    let d3 = ap (map (by_texts.test {Z = g.row.A.Denot})) c.deref-3.ensures.value in
+    let d4 = ap (map (by_texts.member {Z = g.row.A.Denot})) c.deref-4.ensures.value in
+    let e1 = got numbered_rule_atom raw.rule_atom _ [] _ r.kept c.args.names.now _ m0 d1 c.in_ok-kept.ensures.gives in
+    let m1 = met_as raw.rule_atom _ [] _ _ r.kept m0 d1 c.in_ok-kept.ensures.seen in
+    let e2 = got numbered_rule_atom raw.rule_atom _ (raw.behind_kept r) _ r.removed c.number_phrases.new.names _ m1 d2 c.in_ok-removed.ensures.gives in
+    let m2 = met_as raw.rule_atom _ (raw.behind_kept r) _ _ r.removed m1 d2 c.in_ok-removed.ensures.seen in
     let e3 = got_some number_test raw.test _ (raw.behind_heads r) _ r.guard c.number_phrases-2.new.names _ m2 d3 c.in_ok-guard.ensures.gives in
-    let m3 = met_as raw.test _ (raw.behind_heads r) _ _ r.guard m2 d3 c.in_ok-guard.ensures.met in
+    let m3 = met_as raw.test _ (raw.behind_heads r) _ _ r.guard m2 d3 c.in_ok-guard.ensures.seen in
     let e4 = got_some number_member raw.member _ (raw.behind_guard r) _ r.body c.number_tests.new.names _ m3 d4 c.in_ok-body.ensures.gives in
-    let whole = rule_same (raw.rule r) c.args.names.now _ _ _ _ (map shape c.in_ok-kept.kept.items) (map shape c.in_ok-removed.removed.items) (map (comparison {Z = g.row.A.Denot}) c.in_ok-guard.guard.items) (map (member {Z = g.row.A.Denot}) c.in_ok-body.body.items) e1 e2 e3 e4 c.requires.whole in
-    let is = as_many c.in-Some.rule (raw.rule r).variables (map shape c.in_ok-kept.kept.items) (map shape c.in_ok-removed.removed.items) (map (comparison {Z = g.row.A.Denot}) c.in_ok-guard.guard.items) (map (member {Z = g.row.A.Denot}) c.in_ok-body.body.items) c.in-Some.ensures.rule c.in-Some.ensures.whole whole in
-    rw is (ap numbered (rule_done c.args.names.now _ _ _ _ (raw.rule r) (map shape c.in_ok-kept.kept.items) (map shape c.in_ok-removed.removed.items) (map (comparison {Z = g.row.A.Denot}) c.in_ok-guard.guard.items) (map (member {Z = g.row.A.Denot}) c.in_ok-body.body.items) e1 e2 e3 e4))
+    let whole = rule_same (raw.rule r) c.args.names.now _ _ _ _ (map rule_atom c.in_ok-kept.kept.items) (map rule_atom c.in_ok-removed.removed.items) (map (comparison {Z = g.row.A.Denot}) c.in_ok-guard.guard.items) (map (member {Z = g.row.A.Denot}) c.in_ok-body.body.items) e1 e2 e3 e4 c.requires.whole in
+    let is = as_many c.in-Some.rule (raw.rule r).variables (map rule_atom c.in_ok-kept.kept.items) (map rule_atom c.in_ok-removed.removed.items) (map (comparison {Z = g.row.A.Denot}) c.in_ok-guard.guard.items) (map (member {Z = g.row.A.Denot}) c.in_ok-body.body.items) c.in-Some.ensures.rule c.in-Some.ensures.whole whole in
+    rw is (ap or_full (rule_done c.args.names.now _ _ _ _ (raw.rule r) (map rule_atom c.in_ok-kept.kept.items) (map rule_atom c.in_ok-removed.removed.items) (map (comparison {Z = g.row.A.Denot}) c.in_ok-guard.guard.items) (map (member {Z = g.row.A.Denot}) c.in_ok-body.body.items) e1 e2 e3 e4))
 
 pub returns-clause-keeps : goal.returns-clause-keeps
 returns-clause-keeps g c = λ t h. c.in_ok-body.ensures.keeps t (c.in_ok-guard.ensures.keeps t (c.in_ok-removed.ensures.keeps t (c.in_ok-kept.ensures.keeps t h)))

@@ -6,28 +6,28 @@ use Rattle.chr_limits.specs.Views.{names as texts}
 use Rattle.chr_rule.specs.Parts.{argument}
 use Rattle.chr_text.specs.Fitting.{WordFits}
 use Rattle.chr_text.specs.Numbering as numbering
-use Rattle.chr_text.specs.Said as raw
+use Rattle.chr_text.specs.Translation as raw
 use Rattle.chr_text.proofs.Growing.{argument_grows}
 use Rattle.chr_text.proofs.Places.{map_at, all_at}
 use Rattle.chr_text.proofs.Steps.{numbered_is}
-use Rattle.chr_text.proofs.Turns.{turn_met, turn_room, turn_more, turn_fails}
+use Rattle.chr_text.proofs.Turns.{turn_seen, turn_room, turn_more, turn_fails}
 use Rattle.chr_text.proofs.build.number_terms.Goals as goal
 
-pub number_term-requires-clause-fits : goal.number_term-requires-clause-fits
-number_term-requires-clause-fits g c = all_at WordFits word c.args.terms.now c.loop-term.term-index _ c.requires.fits c.loop-term-test.true
+pub numbered_value-requires-clause-fits : goal.numbered_value-requires-clause-fits
+numbered_value-requires-clause-fits g c = all_at WordFits word c.args.terms.now c.loop-term.term-index _ c.requires.fits c.loop-term-test.true
 
-pub number_term-requires-clause-room : goal.number_term-requires-clause-room
-number_term-requires-clause-room g c = turn_room raw.argument argument_grows (texts c.loop-term.met.items) _ _ _ _ (map_at word c.args.terms.now c.loop-term.term-index _ c.loop-term-test.true) c.loop-term.invariant.met c.requires.room
+pub numbered_value-requires-clause-room : goal.numbered_value-requires-clause-room
+numbered_value-requires-clause-room g c = turn_room raw.argument argument_grows (texts c.loop-term.seen.items) _ _ _ _ (map_at word c.args.terms.now c.loop-term.term-index _ c.loop-term-test.true) c.loop-term.invariant.seen c.requires.room
 
 pub returns-in_err-argument-clause-gives : goal.returns-in_err-argument-clause-gives
 returns-in_err-argument-clause-gives g c =
     let p = err_from_is_err_and c.from_residual.result c.from_residual.ensures.1 in
-    rw (p.1, p.2) (turn_fails numbering.number_argument raw.argument c.in_err-argument.field-0.0 (map argument c.loop-term.arguments.items) c.loop-term.names (texts c.loop-term.met.items) _ _ _ _ (map_at word c.args.terms.now c.loop-term.term-index _ c.loop-term-test.true) c.in_err-argument.ensures.gives c.loop-term.invariant.gives)
+    rw (p.1, p.2) (turn_fails numbering.numbered_term raw.argument c.in_err-argument.field-0.0 (map argument c.loop-term.arguments.items) c.loop-term.names (texts c.loop-term.seen.items) _ _ _ _ (map_at word c.args.terms.now c.loop-term.term-index _ c.loop-term-test.true) c.in_err-argument.ensures.gives c.loop-term.invariant.gives)
 
 pub loop-term-preserved : goal.loop-term-preserved
 loop-term-preserved g c = record {
-  gives = rw (c.push.ensures.items, map_push argument c.loop-term.arguments.items c.in_ok-argument.argument) (turn_more numbering.number_argument raw.argument (map argument c.loop-term.arguments.items) c.loop-term.names c.number_term.new.names (texts c.loop-term.met.items) (texts c.number_term.new.met.items) _ _ _ (argument c.in_ok-argument.argument) _ (map_at word c.args.terms.now c.loop-term.term-index _ c.loop-term-test.true) (numbered_is _ _ c.in_ok-argument.ensures.gives) c.in_ok-argument.ensures.met c.loop-term.invariant.gives);
-  met = turn_met raw.argument (texts c.loop-term.met.items) (texts c.number_term.new.met.items) _ _ _ _ (map_at word c.args.terms.now c.loop-term.term-index _ c.loop-term-test.true) c.in_ok-argument.ensures.met c.loop-term.invariant.met;
+  gives = rw (c.push.ensures.items, map_push argument c.loop-term.arguments.items c.in_ok-argument.argument) (turn_more numbering.numbered_term raw.argument (map argument c.loop-term.arguments.items) c.loop-term.names c.number_term.new.names (texts c.loop-term.seen.items) (texts c.number_term.new.seen.items) _ _ _ (argument c.in_ok-argument.argument) _ (map_at word c.args.terms.now c.loop-term.term-index _ c.loop-term-test.true) (numbered_is _ _ c.in_ok-argument.ensures.gives) c.in_ok-argument.ensures.seen c.loop-term.invariant.gives);
+  seen = turn_seen raw.argument (texts c.loop-term.seen.items) (texts c.number_term.new.seen.items) _ _ _ _ (map_at word c.args.terms.now c.loop-term.term-index _ c.loop-term-test.true) c.in_ok-argument.ensures.seen c.loop-term.invariant.seen;
   few = omega (arith, c.push.ensures.len, c.loop-term.invariant.few);
   keeps = λ t h. c.in_ok-argument.ensures.keeps t (c.loop-term.invariant.keeps t h);
 }

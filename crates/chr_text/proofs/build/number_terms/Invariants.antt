@@ -4,15 +4,15 @@ use Rattle.chr_limits.specs.Views.{names as texts}
 use Rattle.chr_rule.specs.Parts.{argument}
 use Rattle.chr_text.specs.Numbering as numbering
 use Rattle.chr_text.specs.Numbering.{each, more}
-use Rattle.chr_text.specs.Said as raw
+use Rattle.chr_text.specs.Translation as raw
 use Rattle.chr_text.specs.Variables.{in_turn}
 use Rattle.chr_text.specs.Tables.{Table, Keeps}
 use Rattle.chr_text.proofs.build.number_terms.Given as goal
 
 abbrev pub invariant-loop-term : goal.invariant-loop-term
 invariant-loop-term g l = record {
-  gives : more (map argument l.arguments.items) (each numbering.number_argument l.names (in_turn raw.argument (texts l.met.items) (map word (drop l.term-index l.terms))).0) ≡ each numbering.number_argument l.fn.names (in_turn raw.argument (texts l.fn.met.items) (map word l.terms)).0;
-  met : (in_turn raw.argument (texts l.met.items) (map word (drop l.term-index l.terms))).1 ≡ (in_turn raw.argument (texts l.fn.met.items) (map word l.terms)).1;
+  gives : more (map argument l.arguments.items) (each numbering.numbered_term l.names (in_turn raw.argument (texts l.seen.items) (map word (drop l.term-index l.terms))).0) ≡ each numbering.numbered_term l.fn.names (in_turn raw.argument (texts l.fn.seen.items) (map word l.terms)).0;
+  seen : (in_turn raw.argument (texts l.seen.items) (map word (drop l.term-index l.terms))).1 ≡ (in_turn raw.argument (texts l.fn.seen.items) (map word l.terms)).1;
   few : length l.arguments.items ≡ l.term-index;
   keeps : (t : Table) → Keeps t l.fn.names → Keeps t l.names;
 }

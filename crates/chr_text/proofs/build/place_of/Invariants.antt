@@ -4,4 +4,4 @@ use Rattle.chr_limits.specs.Views.{names}
 use Rattle.chr_text.proofs.build.place_of.Given as goal
 
 abbrev pub invariant-loop-place : goal.invariant-loop-place
-invariant-loop-place l = l.place + position_or_len (bytes_eq l.name) (names (drop l.place l.met)) ≡ position_or_len (bytes_eq l.name) (names l.met)
+invariant-loop-place l = l.place + position_or_len (bytes_eq l.name) (names (drop l.place l.seen)) ≡ position_or_len (bytes_eq l.name) (names l.seen)

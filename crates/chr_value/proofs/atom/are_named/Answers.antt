@@ -1,6 +1,6 @@
 use Rattle.std.proofs.Common.{rules, IsTrue}
 use Rattle.std.specs.List.{AllByRecursion}
-use Rattle.chr_value.specs.Terms.{TermIsNamed, grounds}
+use Rattle.chr_value.specs.Atoms.{TermIsNamed, grounds}
 use Rattle.chr_value.proofs.Values.{all-at}
 use Rattle.chr_value.proofs.atom.are_named.Goals as goal
 

@@ -1,5 +1,5 @@
 use Rattle.std.proofs.Common.{◌≡◌, rules, IsTrue}
-use Rattle.chr_value.specs.Terms.{grounds}
+use Rattle.chr_value.specs.Atoms.{grounds}
 use Rattle.chr_value.proofs.Values.{ground-at}
 use Rattle.chr_value.proofs.atom.same_values.Goals as goal
 

@@ -1,9 +1,9 @@
 use Rattle.std.proofs.Common.{Ok, ◌+◌, length, drop, ap, ◌∙◌, ℕ}
 use Rattle.std.proofs.lemmas.Result.{err_from_is_err_and}
-use Rattle.chr_value.specs.Terms.{ground}
+use Rattle.chr_value.specs.Atoms.{ground}
 use Rattle.chr_value.specs.declared.names.Name.{Name}
 use Rattle.std.proofs.lemmas.List.{length_push}
-use Rattle.chr_value.specs.Words.{words_of, fact_of}
+use Rattle.chr_value.specs.TextAtoms.{text_values, text_atom}
 use Rattle.chr_value.proofs.NameLaws.{err_first, err_more, first_done, one_more, all_done, words_from, words_end, words_fit, keeps-then}
 use Rattle.chr_value.proofs.Said.{fact_says}
 use Rattle.chr_value.proofs.Again.{read_again}
@@ -13,49 +13,49 @@ use Rattle.chr_value.proofs.naming.number_atom.Goals as goal
 pub returns-in_err-name-clause-gives : goal.returns-in_err-name-clause-gives
 returns-in_err-name-clause-gives g c =
     let p = err_from_is_err_and c.from_residual.result c.from_residual.ensures.1 in
-    rw (p.1, p.2) (err_first (λ (n : Name). n.number) (λ a. a) c.in_err-name.field-0.0 c.args.names.now c.name_number.new.names (fact_of c.args.said.now) c.in_err-name.ensures.gives)
+    rw (p.1, p.2) (err_first (λ (n : Name). n.number) (λ a. a) c.in_err-name.field-0.0 c.args.names.now c.name_number.new.names (text_atom c.args.text.now) c.in_err-name.ensures.gives)
 
-pub loop-word-init : goal.loop-word-init
-loop-word-init g c = (
-  rw (c.new-atom.ensures, c.as_slice-word-items.ensures.value) (first_done c.args.names.now c.name_number.new.names (fact_of c.args.said.now) c.in_ok-name.name.number c.in_ok-name.ensures.gives),
+pub loop-text_value-init : goal.loop-text_value-init
+loop-text_value-init g c = (
+  rw (c.new-atom.ensures, c.as_slice-text_value-items.ensures.value) (first_done c.args.names.now c.name_number.new.names (text_atom c.args.text.now) c.in_ok-name.name.number c.in_ok-name.ensures.gives),
   c.in_ok-name.ensures.keeps,
   ap (λ a. length a.args) c.new-atom.ensures,
 )
 
 pub word_value-requires : goal.word_value-requires
-word_value-requires g c = words_fit c.as_slice-word-items.result.now c.loop-word.word-index _ (rw c.as_slice-word-items.ensures.value c.requires.args) c.loop-word-test.true
+word_value-requires g c = words_fit c.as_slice-text_value-items.result.now c.loop-text_value.text_value-index _ (rw c.as_slice-text_value-items.ensures.value c.requires.args) c.loop-text_value-test.true
 
 pub returns-in_err-value-clause-gives : goal.returns-in_err-value-clause-gives
 returns-in_err-value-clause-gives g c =
     let p = err_from_is_err_and c.from_residual-in_err-value.result c.from_residual-in_err-value.ensures.1 in
-    let ws = c.as_slice-word-items.result.now in
-    rw (p.1, p.2) (err_more ground (λ a. a) c.in_err-value.field-0.0 c.loop-word.atom.name c.loop-word.atom.args c.loop-word.names c.word_value.new.names _ _ (words_of (drop c.loop-word.word-index ws)) _ (words_from ws c.loop-word.word-index _ c.loop-word-test.true) c.in_err-value.ensures.gives c.loop-word.invariant.0)
+    let ws = c.as_slice-text_value-items.result.now in
+    rw (p.1, p.2) (err_more ground (λ a. a) c.in_err-value.field-0.0 c.loop-text_value.atom.name c.loop-text_value.atom.args c.loop-text_value.names c.word_value.new.names _ _ (text_values (drop c.loop-text_value.text_value-index ws)) _ (words_from ws c.loop-text_value.text_value-index _ c.loop-text_value-test.true) c.in_err-value.ensures.gives c.loop-text_value.invariant.0)
 
-pub loop-word-preserved : goal.loop-word-preserved
-loop-word-preserved g c =
-    let ws = c.as_slice-word-items.result.now in (
-      rw c.push.ensures (one_more c.loop-word.atom.name c.loop-word.atom.args c.loop-word.names c.word_value.new.names _ _ (words_of (drop c.loop-word.word-index ws)) (ground c.in_ok-value.value) _ (words_from ws c.loop-word.word-index _ c.loop-word-test.true) c.in_ok-value.ensures.gives c.loop-word.invariant.0),
-      keeps-then c.args.names.now c.loop-word.names c.word_value.new.names c.loop-word.invariant.1 c.in_ok-value.ensures.keeps,
-      ap (λ a. length a.args) c.push.ensures ∙ length_push c.loop-word.atom.args (ground c.in_ok-value.value) ∙ ap (λ (n : ℕ). n + 1) c.loop-word.invariant.2,
+pub loop-text_value-preserved : goal.loop-text_value-preserved
+loop-text_value-preserved g c =
+    let ws = c.as_slice-text_value-items.result.now in (
+      rw c.push.ensures (one_more c.loop-text_value.atom.name c.loop-text_value.atom.args c.loop-text_value.names c.word_value.new.names _ _ (text_values (drop c.loop-text_value.text_value-index ws)) (ground c.in_ok-value.value) _ (words_from ws c.loop-text_value.text_value-index _ c.loop-text_value-test.true) c.in_ok-value.ensures.gives c.loop-text_value.invariant.0),
+      keeps-then c.args.names.now c.loop-text_value.names c.word_value.new.names c.loop-text_value.invariant.1 c.in_ok-value.ensures.keeps,
+      ap (λ a. length a.args) c.push.ensures ∙ length_push c.loop-text_value.atom.args (ground c.in_ok-value.value) ∙ ap (λ (n : ℕ). n + 1) c.loop-text_value.invariant.2,
     )
 
 pub returns-clause-gives : goal.returns-clause-gives
-returns-clause-gives g c = all_done c.loop-word.atom.name c.loop-word.atom.args c.loop-word.names _ _ (words_end c.as_slice-word-items.result.now c.loop-word.word-index c.loop-word-test.false) c.loop-word.invariant.0
+returns-clause-gives g c = all_done c.loop-text_value.atom.name c.loop-text_value.atom.args c.loop-text_value.names _ _ (words_end c.as_slice-text_value-items.result.now c.loop-text_value.text_value-index c.loop-text_value-test.false) c.loop-text_value.invariant.0
 
 pub returns-clause-says : goal.returns-clause-says
-returns-clause-says g c = (fact_says c.args.names.now (fact_of c.args.said.now) c.loop-word.atom c.loop-word.names (returns-clause-gives g c)).0
+returns-clause-says g c = (fact_says c.args.names.now (text_atom c.args.text.now) c.loop-text_value.atom c.loop-text_value.names (returns-clause-gives g c)).0
 
 pub returns-in_err-name-clause-again : goal.returns-in_err-name-clause-again
-returns-in_err-name-clause-again g c = λ a apart named is. read_again (λ b. b) c.args.names.now c.name_number.new.names (fact_of c.args.said.now) c.from_residual.result a (returns-in_err-name-clause-gives g c) apart named is
+returns-in_err-name-clause-again g c = λ a apart named is. read_again (λ b. b) c.args.names.now c.name_number.new.names (text_atom c.args.text.now) c.from_residual.result a (returns-in_err-name-clause-gives g c) apart named is
 
 pub returns-in_err-value-clause-again : goal.returns-in_err-value-clause-again
-returns-in_err-value-clause-again g c = λ a apart named is. read_again (λ b. b) c.args.names.now c.word_value.new.names (fact_of c.args.said.now) c.from_residual-in_err-value.result a (returns-in_err-value-clause-gives g c) apart named is
+returns-in_err-value-clause-again g c = λ a apart named is. read_again (λ b. b) c.args.names.now c.word_value.new.names (text_atom c.args.text.now) c.from_residual-in_err-value.result a (returns-in_err-value-clause-gives g c) apart named is
 
 pub returns-clause-again : goal.returns-clause-again
-returns-clause-again g c = λ a apart named is. read_again (λ b. b) c.args.names.now c.loop-word.names (fact_of c.args.said.now) (Ok c.loop-word.atom) a (returns-clause-gives g c) apart named is
+returns-clause-again g c = λ a apart named is. read_again (λ b. b) c.args.names.now c.loop-text_value.names (text_atom c.args.text.now) (Ok c.loop-text_value.atom) a (returns-clause-gives g c) apart named is
 
 pub returns-in_err-value-clause-finds : goal.returns-in_err-value-clause-finds
 returns-in_err-value-clause-finds g c = λ known.
-    let here = words_known c.args.names.now c.as_slice-word-items.result.now c.loop-word.word-index _ (rw c.as_slice-word-items.ensures.value known.args) c.loop-word-test.true in
-    let found = c.in_err-value.ensures.finds (known-later c.args.names.now c.loop-word.names _ c.loop-word.invariant.1 here) in
+    let here = words_known c.args.names.now c.as_slice-text_value-items.result.now c.loop-text_value.text_value-index _ (rw c.as_slice-text_value-items.ensures.value known.args) c.loop-text_value-test.true in
+    let found = c.in_err-value.ensures.finds (known-later c.args.names.now c.loop-text_value.names _ c.loop-text_value.invariant.1 here) in
     absurd cc

@@ -14,18 +14,18 @@ loop-label-init g c =
     (subst (IsLeft c.self.inside.atoms.entries q) (sym (c.into_iter-label-iterator.ensures.into_iter_gives ∙ c.range-label-items.ensures.between tt))
     (left_between c.self.inside.atoms.entries q c.self.invariant.rising))
 
-pub returns-then-meets : goal.returns-then-meets
-returns-then-meets g c =
+pub returns-then-matches_query : goal.returns-then-matches_query
+returns-then-matches_query g c =
     let q : Query = record { pred = c.args.pred; key = key_of c.args.key; after = c.args.after; below = c.args.below } in
     let left = subst (IsLeft c.args.self.now.entries q) (rest_more deref_pair _ _ _ (c.in-Some.label, c.in-Some.atom) c.in-Some.is c.next.ensures.steps) c.loop-label.invariant in
-    let met = c.meets.ensures.0 c.if-meets.true in
+    let met = c.matches_query.ensures.0 c.if-matches_query.true in
     left_found c.args.self.now.entries q c.in-Some.label.now c.in-Some.atom.now c.next.new.self left met.0 met.1
 
 pub loop-label-preserved : goal.loop-label-preserved
 loop-label-preserved g c =
     let q : Query = record { pred = c.args.pred; key = key_of c.args.key; after = c.args.after; below = c.args.below } in
     let left = subst (IsLeft c.args.self.now.entries q) (rest_more deref_pair _ _ _ (c.in-Some.label, c.in-Some.atom) c.in-Some.is c.next.ensures.steps) c.loop-label.invariant in
-    left_skip c.args.self.now.entries q c.in-Some.label.now c.in-Some.atom.now c.next.new.self left (λ pred key. absurd (false≢true (sym c.if-meets.false ∙ c.meets.ensures.1 (pred, key))))
+    left_skip c.args.self.now.entries q c.in-Some.label.now c.in-Some.atom.now c.next.new.self left (λ pred key. absurd (false≢true (sym c.if-matches_query.false ∙ c.matches_query.ensures.1 (pred, key))))
 
 pub returns : goal.returns
 returns g c =

@@ -1,5 +1,5 @@
 use Rattle.std.proofs.Common.{◌≡◌, take}
-use Rattle.chr_value.specs.Terms.{grounds}
+use Rattle.chr_value.specs.Atoms.{grounds}
 use Rattle.chr_value.proofs.atom.Atom.copy.Given as goal
 
 abbrev pub invariant-loop-value : goal.invariant-loop-value

@@ -1,0 +1,108 @@
+-- Entries that are an instance of a rule, and labelled instances.
+use Rattle.std.proofs.Common.{◌≡◌, ℕ, zero, suc, ◌<◌, true, false, List, [], ◌∷◌, ◌++◌, length, take, drop, Some, None, refl, sym, ◌∙◌, ap, ap₂, subst, get_or}
+use Rattle.std.specs.Prelude.{slice_get}
+use Rattle.std.specs.List.{AllByRecursion}
+use Rattle.std.proofs.lemmas.List.{take_at, drop_at, take-append-drop, length-map}
+use Rattle.std.proofs.lemmas.Option.{slice_get_read}
+use Rattle.chr_value.specs.Atoms.{Atom}
+use Rattle.chr_rule.specs.Rules.{Simpagation, numbered}
+use Rattle.chr_guard.specs.Bindings.{holding}
+use Rattle.chr_guard.specs.Instances.{atom_under, added, Instance, IsInstance}
+use Rattle.chr_guard.proofs.Scoped.{some_same}
+use Rattle.chr_model.specs.Stores.{Store, labels, atoms, among, atom_at, Distinct, Carry, Labelled}
+use Rattle.chr_model.specs.Programs.{Instances}
+use Rattle.chr_model.proofs.Stores.{Labelled-there}
+use Rattle.chr_enumeration.specs.Found.{IsFound, NoneFound}
+use Rattle.chr_enumeration.specs.Picks.{Has, IsInstanceOver, IsMatch, NoMatch}
+use Rattle.chr_enumeration.specs.declared.search.Found.{Found}
+use Rattle.chr_enumeration.specs.declared.slots.Match.{Match}
+use Rattle.chr_enumeration.proofs.Entries.{carried, carry_both, carry_take, carry_drop}
+
+-- the instance of a rule over atoms in two parts
+joined : (rule : Simpagation ℕ) (kept removed body : List (Atom ℕ)) → Instance rule kept removed body → IsInstance rule (kept ++ removed) body
+joined rule kept removed body i =
+    let len : length kept ≡ length rule.kept = ap length i.kept_are ∙ length-map rule.kept (atom_under i.valuation) in
+    subst (λ xs. Instance rule xs (drop (length rule.kept) (kept ++ removed)) body) (sym (take_at kept removed (length rule.kept) len))
+    (subst (λ xs. Instance rule kept xs body) (sym (drop_at kept removed (length rule.kept) len)) i)
+
+-- a labelled instance as entries
+pub record AsEntries (rules : List (Simpagation ℕ)) (store : Store) (r : ℕ) (kept removed : List ℕ) (body : List (Atom ℕ)) : Type 0 where
+  pub rule : Simpagation ℕ
+  pub at : numbered rules r ≡ Some rule
+  pub entries : Store
+  pub labels_are : labels entries ≡ kept ++ removed
+  pub whole : IsInstanceOver rule store entries body
+
+pub as_entries : (rules : List (Simpagation ℕ)) (store : Store) (r : ℕ) (kept removed : List ℕ) (body : List (Atom ℕ)) → Labelled (Instances rules) store r kept removed body → AsEntries rules store r kept removed body
+as_entries rules store r kept removed body i =
+    let both : Carry store (kept ++ removed) (i.kept_atoms ++ i.removed_atoms) = carry_both store kept removed i.kept_atoms i.removed_atoms i.kept_there i.removed_there in
+    let made = carried store (kept ++ removed) (i.kept_atoms ++ i.removed_atoms) both in
+    let rule = i.instance.0 in
+    record {
+      rule = rule;
+      at = i.instance.1;
+      entries = made.0;
+      labels_are = made.1;
+      whole = record {
+        instance = subst (λ xs. IsInstance rule xs body) (sym made.2) (joined rule i.kept_atoms i.removed_atoms body i.instance.2);
+        distinct = subst Distinct (sym made.1) i.distinct;
+        there = subst (λ xs. Carry store (labels made.0) xs) (sym made.2) (subst (λ ls. Carry store ls (i.kept_atoms ++ i.removed_atoms)) (sym made.1) both);
+      };
+    }
+
+-- and back
+pub labelled : (rules : List (Simpagation ℕ)) (store : Store) (r : ℕ) (rule : Simpagation ℕ) (entries : Store) (body : List (Atom ℕ)) → numbered rules r ≡ Some rule → IsInstanceOver rule store entries body → Labelled (Instances rules) store r (take (length rule.kept) (labels entries)) (drop (length rule.kept) (labels entries)) body
+labelled rules store r rule entries body at w = record {
+  kept_atoms = take (length rule.kept) (atoms entries);
+  removed_atoms = drop (length rule.kept) (atoms entries);
+  instance = (rule, at, w.instance);
+  distinct = subst Distinct (sym (take-append-drop (length rule.kept) (labels entries))) w.distinct;
+  kept_there = carry_take store (length rule.kept) (labels entries) (atoms entries) w.there;
+  removed_there = carry_drop store (length rule.kept) (labels entries) (atoms entries) w.there;
+}
+
+all_numbered : (P : Simpagation ℕ → Type 0) (rules : List (Simpagation ℕ)) (r : ℕ) (rule : Simpagation ℕ) → AllByRecursion P rules → numbered rules r ≡ Some rule → P rule
+all_numbered P rules zero rule all at = let z : None ≡ Some rule = at in absurd (cc)
+all_numbered P rules (suc k) rule all at = by_place rules k all at
+  where
+    by_place : (rs : List (Simpagation ℕ)) (k : ℕ) → AllByRecursion P rs → slice_get rs k ≡ Some rule → P rule
+    by_place [] k a e = let z : None ≡ Some rule = e in absurd (cc)
+    by_place (x ∷ xs) zero a e = subst P (some_same x rule e) a.0
+    by_place (x ∷ xs) (suc k) a e = by_place xs k a.1 e
+
+pub none_found : (rules : List (Simpagation ℕ)) (store : Store) (label : ℕ) → AllByRecursion (λ (rule : Simpagation ℕ). NoMatch rule store (Has label)) rules → NoneFound rules store label
+none_found rules store label all r kept removed body i =
+    elim (among (kept ++ removed) label) as (λ b. (among (kept ++ removed) label ≡ b) → b ≡ false) [
+      | true ↦ λ has.
+          let e = as_entries rules store r kept removed body i in
+          absurd (all_numbered (λ (rule : Simpagation ℕ). NoMatch rule store (Has label)) rules r e.rule all e.at e.entries body e.whole (ap (λ ls. among ls label) e.labels_are ∙ has))
+      | false ↦ λ _. refl
+    ] refl
+
+pub none_there : (rules : List (Simpagation ℕ)) (store : Store) (label : ℕ) → atom_at store label ≡ None → NoneFound rules store label
+none_there rules store label away r kept removed body i =
+    elim (among (kept ++ removed) label) as (λ b. (among (kept ++ removed) label ≡ b) → b ≡ false) [
+      | true ↦ λ has.
+          let there = Labelled-there (Instances rules) store r kept removed body label has i in
+          let z : None ≡ Some there.0 = sym away ∙ there.1 in
+          absurd (cc)
+      | false ↦ λ _. refl
+    ] refl
+
+pub is_found : (rules : List (Simpagation ℕ)) (store : Store) (label : ℕ) (rule : Simpagation ℕ) (m : Match) (f : Found) → numbered rules f.rule ≡ Some rule → f.kept.items ≡ m.kept.items → f.removed.items ≡ m.removed.items → f.binding ≡ m.binding → IsMatch rule store (Has label) m → IsFound rules store label f
+is_found rules store label rule m f at kept removed binding i =
+    let k : f.kept.items ≡ take (length rule.kept) (labels i.entries) = kept ∙ i.kept in
+    let r : f.removed.items ≡ drop (length rule.kept) (labels i.entries) = removed ∙ i.removed in
+    let body : List (Atom ℕ) = added (holding f.binding) rule.body in
+    let whole : IsInstanceOver rule store i.entries body = subst (λ b. IsInstanceOver rule store i.entries (added (holding b) rule.body)) (sym binding) i.whole in
+    record {
+      rule = rule;
+      numbered = at;
+      labelled = subst (λ ls. Labelled (Instances rules) store f.rule ls f.removed.items body) (sym k)
+          (subst (λ ls. Labelled (Instances rules) store f.rule (take (length rule.kept) (labels i.entries)) ls body) (sym r) (labelled rules store f.rule rule i.entries body at whole));
+      has = ap₂ (λ a b. among (a ++ b) label) k r ∙ ap (λ ls. among ls label) (take-append-drop (length rule.kept) (labels i.entries)) ∙ i.such;
+      places = ap length binding ∙ i.places;
+    }
+
+pub numbered_at : (rules : List (Simpagation ℕ)) (n i : ℕ) (rule : Simpagation ℕ) → n ≡ suc i → i < length rules → rule ≡ get_or rules i rule → numbered rules n ≡ Some rule
+numbered_at rules n i rule next within is = ap (numbered rules) next ∙ slice_get_read rules (length rules) i rule refl within is

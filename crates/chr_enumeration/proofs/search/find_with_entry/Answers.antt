@@ -1,0 +1,48 @@
+use Rattle.std.proofs.Common.{◌≤◌, ◌+◌, Some, None, replicate, slice_set, sym, subst, arith}
+use borrow.Author.Count.{below_more}
+use Rattle.chr_enumeration.specs.Found.{listed}
+use Rattle.chr_enumeration.specs.Picks.{Fills, IsPartial, IsMatch, NoMatch}
+use Rattle.chr_enumeration.proofs.Picking.{none_among}
+use Rattle.chr_enumeration.proofs.Fitting.{no_fit_more, partial_more, partial_start, none_open, picks_one, match_has, no_has}
+use Rattle.chr_enumeration.proofs.search.find_with_entry.Goals as goal
+
+pub loop-head-preserved-in_default : goal.loop-head-preserved-in_default
+loop-head-preserved-in_default g c =
+    let rule = c.args.rule.now in
+    let store = listed c.args.store.now in
+    let n = c.heads-heads.result in
+    let start = partial_start rule store n c.variables.result c.free-free.result c.heads-heads.ensures.count c.free-free.ensures c.variables.ensures.count in
+    below_more (λ i. NoMatch rule store (Fills (slice_set (replicate n None) i (Some (c.args.label, c.args.atom.now))))) c.loop-head.head c.loop-head.invariant
+    (no_fit_more rule store (replicate n None) c.loop-head.head (c.args.label, c.args.atom.now) c.free-free.result start (none_open n c.loop-head.head c.loop-head-test.true) (c.loop-head.head + 1) (omega arith) c.in_default.ensures)
+
+pub find_match-requires-clause-partial : goal.find_match-requires-clause-partial
+find_match-requires-clause-partial g c =
+    let rule = c.args.rule.now in
+    let store = listed c.args.store.now in
+    let n = c.heads-heads.result in
+    let start = partial_start rule store n c.variables.result c.free-free.result c.heads-heads.ensures.count c.free-free.ensures c.variables.ensures.count in
+    subst (λ qs. IsPartial rule store qs c.in-Some.binding) (sym (picks_one n c.loop-head.head (c.args.label, c.args.atom) c.heads-heads.ensures.few))
+    (partial_more rule store (replicate n None) c.loop-head.head (c.args.label, c.args.atom.now) c.free-free.result c.in-Some.binding start (none_open n c.loop-head.head c.loop-head-test.true) (none_among n c.args.label) c.requires.there (c.loop-head.head + 1) (omega arith) c.in-Some.ensures)
+
+pub returns-in-Some-find_match : goal.returns-in-Some-find_match
+returns-in-Some-find_match g c =
+    let rule = c.args.rule.now in
+    let store = listed c.args.store.now in
+    let n = c.heads-heads.result in
+    match_has rule store (replicate n None) c.loop-head.head (c.args.label, c.args.atom.now) c.in-Some-find_match.found (none_open n c.loop-head.head c.loop-head-test.true).within
+    (subst (λ qs. IsMatch rule store (Fills qs) c.in-Some-find_match.found) (picks_one n c.loop-head.head (c.args.label, c.args.atom) c.heads-heads.ensures.few) c.in-Some-find_match.ensures)
+
+pub loop-head-preserved : goal.loop-head-preserved
+loop-head-preserved g c =
+    let rule = c.args.rule.now in
+    let store = listed c.args.store.now in
+    let n = c.heads-heads.result in
+    below_more (λ i. NoMatch rule store (Fills (slice_set (replicate n None) i (Some (c.args.label, c.args.atom.now))))) c.loop-head.head c.loop-head.invariant
+    (subst (λ qs. NoMatch rule store (Fills qs)) (picks_one n c.loop-head.head (c.args.label, c.args.atom) c.heads-heads.ensures.few) c.in_default-find_match.ensures.1)
+
+pub returns : goal.returns
+returns g c =
+    let rule = c.args.rule.now in
+    let store = listed c.args.store.now in
+    let past : c.heads-heads.result ≤ c.loop-head.head = c.loop-head-test.false in
+    no_has rule store c.heads-heads.result c.args.label c.args.atom.now c.heads-heads.ensures.count c.requires.there (λ i h. c.loop-head.invariant i (omega arith))

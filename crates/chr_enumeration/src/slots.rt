@@ -1,0 +1,164 @@
+//! The heads of a rule, with the entries of a store that are picked for them.
+ghost use Rattle.std.specs.Prelude.{◌≡◌, ◌≤◌, ◌<◌, ◌+◌, length, MatchOption};
+ghost use Rattle.chr_guard.specs.Bindings.{Narrows, NoneUnder};
+ghost use Rattle.chr_model.specs.Stores.{among, labels, Distinct};
+ghost use Rattle.chr_enumeration.specs.Found.{listed};
+ghost use Rattle.chr_enumeration.specs.Picks.{picks, picked, IsOpen, AllPicked, Fills, HeadIs, IsPartial, IsMatch, NoMatch};
+
+use chr_guard::binding::{Binding, Bound};
+use chr_guard::instance::instance_from;
+use chr_guard::matching::fit_head;
+use chr_log::events::{Label, Labels};
+use chr_rule::rule_atom::{RuleAtom, Term};
+use chr_rule::rule::Rule;
+use chr_value::atom::Atom;
+use std::alloc::Allocator;
+
+/// A labelled instance of a rule: the labels of its kept and of its removed heads, in head order, and the binding of the
+/// rule's variables.
+#[derive(Drop)]
+pub struct Match<'s> {
+    pub kept: Labels,
+    pub removed: Labels,
+    pub binding: Binding<'s>,
+}
+
+/// Whether a label is picked for some head.
+fn is_picked<A: Allocator>(slots: &[Option<(Label, &Atom<A>)>], label: Label) -> bool
+    ensures { result ≡ among (labels (picked (picks slots.now))) label }
+{
+    for slot in slots {
+        if let Some(entry) = slot {
+            if entry.0 == label {
+                return true;
+            }
+        }
+    }
+    false
+}
+
+/// Whether a head has an argument that is known: a value, or a variable that is bound.
+fn is_joined(head: &RuleAtom, binding: &Binding) -> bool {
+    for term in head.terms.as_slice() {
+        match term {
+            Term::Value(_) => return true,
+            Term::Var(x) => match binding.at(*x) {
+                Bound::Free => {}
+                _ => return true,
+            },
+        }
+    }
+    false
+}
+
+/// The head that is tried next, of those for which nothing is picked: the first with an argument that is known, else the
+/// first.
+fn next_head<A: Allocator>(
+    rule: &Rule<A>,
+    slots: &[Option<(Label, &Atom<A>)>],
+    binding: &Binding,
+) -> Option<usize>
+    ensures { MatchOption result (AllPicked (picks slots.now)) (IsOpen (picks slots.now)) }
+{
+    let mut first = None;
+    for (place, slot) in slots.iter().enumerate() {
+        if slot.is_some() {
+            continue;
+        }
+        if let Some(head) = rule.head(place + 1) {
+            if is_joined(head, binding) {
+                return Some(place);
+            }
+        }
+        if first.is_none() {
+            first = Some(place);
+        }
+    }
+    first
+}
+
+/// The binding under which the head of a number, from 1, is an atom as well. None where there is none.
+pub fn fit_next<'s, A: Allocator + Copy>(
+    rule: &Rule<A>,
+    binding: &Binding<'s>,
+    number: usize,
+    atom: &'s Atom<A>,
+) -> Option<Binding<'s>>
+    requires { length binding.now ≡ rule.now.variables }
+    ensures { MatchOption result (NoneUnder (HeadIs rule.now number atom.now) binding.now) (Narrows (HeadIs rule.now number atom.now) binding.now) }
+{
+    let head = rule.head(number)?;
+    if head.name.number != atom.name().number {
+        return None;
+    }
+    let mut next = binding.copy();
+    if !fit_head(&mut next, head, atom) {
+        return None;
+    }
+    Some(next)
+}
+
+/// The labels that are picked, in head order.
+fn labels_of<A: Allocator>(slots: &[Option<(Label, &Atom<A>)>]) -> Labels
+    requires { length slots.now ≤ 6 }
+    ensures { result.items ≡ labels (picked (picks slots.now)) }
+{
+    let mut found = Labels::new();
+    for slot in slots {
+        if let Some(entry) = slot {
+            found.push(entry.0);
+        }
+    }
+    found
+}
+
+/// The instance that the entries make which are picked for all heads, if they make one.
+fn whole<'s, A: Allocator + Copy>(
+    rule: &Rule<A>,
+    store: &[(Label, &'s Atom<A>)],
+    slots: &[Option<(Label, &'s Atom<A>)>],
+    binding: Binding<'s>,
+) -> Option<Match<'s>>
+    requires partial { IsPartial rule.now (listed store.now) (picks slots.now) binding }
+    requires all { AllPicked (picks slots.now) }
+    ensures { MatchOption result (NoMatch rule.now (listed store.now) (Fills (picks slots.now))) (IsMatch rule.now (listed store.now) (Fills (picks slots.now))) }
+{
+    let binding = instance_from(rule, binding)?;
+    let (kept, removed) = slots.split_at(rule.kept().len());
+    Some(Match {
+        kept: labels_of(kept),
+        removed: labels_of(removed),
+        binding,
+    })
+}
+
+/// The first labelled instance of a rule that has what is picked, where the binding is that of the picked heads'
+/// variables. Where there is none the slots are as before.
+pub fn find_match<'s, A: Allocator + Copy>(
+    rule: &Rule<A>,
+    store: &[(Label, &'s Atom<A>)],
+    slots: &mut [Option<(Label, &'s Atom<A>)>],
+    binding: Binding<'s>,
+) -> Option<Match<'s>>
+    requires distinct { Distinct (labels (listed store.now)) }
+    requires partial { IsPartial rule.now (listed store.now) (picks slots.old) binding }
+    ensures { let ps = picks slots.old in MatchOption result ((picks slots.new ≡ ps) × NoMatch rule.now (listed store.now) (Fills ps)) (IsMatch rule.now (listed store.now) (Fills ps)) }
+{
+    let Some(place) = next_head(rule, slots, &binding) else {
+        return whole(rule, store, slots, binding);
+    };
+    for entry in store {
+        if is_picked(slots, entry.0) {
+            continue;
+        }
+        let Some(next) = fit_next(rule, &binding, place + 1, entry.1) else {
+            continue;
+        };
+        slots[place] = Some(*entry);
+        if let Some(found) = find_match(rule, store, slots, next) {
+            return Some(found);
+        }
+        slots[place] = None;
+    }
+    None
+}

@@ -1,0 +1,50 @@
+use Rattle.std.proofs.Common.{rules, arith, to_z, of_z, w64, ◌≡◌, ◌≤◌, ◌+◌, length, sym, subst, ap, ◌∙◌}
+use Rattle.std.proofs.lemmas.List.{length-map}
+use Rattle.std.proofs.lemmas.Grind.{common_steps}
+use Rattle.std.proofs.lemmas.Int.{to_z-of_z}
+use Rattle.chr_value.specs.Atoms.{Int}
+use Rattle.chr_guard.specs.Bindings.{Narrows, NoneUnder}
+use Rattle.chr_rule.specs.Rules.{Is, Add}
+use Rattle.chr_rule.specs.Parts.{expression, member}
+use Rattle.chr_guard.proofs.Steps.{read_as}
+use Rattle.chr_guard.proofs.Completed.{Completing, completing_start, completing_end, is_place, is_valueless, is_otherwise, is_more, add_more}
+use Rattle.chr_guard.proofs.body.bind_body.Goals as goal
+use Rattle.chr_guard.proofs.body.bind_body.Goals.{in-Is+in-Some+else-not-bind_number, in-Add}
+
+pub loop-item-init : goal.loop-item-init
+loop-item-init g c = completing_start c.args.rule.now c.args.binding.now c.body-item-items.ensures.whole c.requires.places c.requires.heads
+
+pub returns-in_default : goal.returns-in_default
+returns-in_default g c =
+    let read = read_as (member {Z = g.row.A.Denot}) c.body-item-items.result.now c.args.rule.now.body c.loop-item.item-index c.item-item.result (Is c.in-Is.x (expression c.in-Is.expr)) c.body-item-items.ensures.members c.loop-item-test.true c.item-item.is (ap (member {Z = g.row.A.Denot}) c.in-Is.is) in
+    is_valueless c.args.rule.now c.loop-item.item-index c.in-Is.x (expression c.in-Is.expr) c.args.binding.now c.loop-item.binding read.0 read.1 c.loop-item.invariant (sym c.value.ensures ∙ c.in_default.is)
+
+pub bind_number-requires : goal.bind_number-requires
+bind_number-requires g c =
+    let read = read_as (member {Z = g.row.A.Denot}) c.body-item-items.result.now c.args.rule.now.body c.loop-item.item-index c.item-item.result (Is c.in-Is.x (expression c.in-Is.expr)) c.body-item-items.ensures.members c.loop-item-test.true c.item-item.is (ap (member {Z = g.row.A.Denot}) c.in-Is.is) in
+    is_place c.args.rule.now c.loop-item.item-index c.in-Is.x (expression c.in-Is.expr) c.args.binding.now c.loop-item.binding read.0 read.1 c.loop-item.invariant
+
+pub returns-then-not-bind_number : goal.returns-then-not-bind_number
+returns-then-not-bind_number g c =
+    let same : to_z w64 (of_z w64 c.in-Some.n) ≡ c.in-Some.n = first_of (search rules, grind (arith, common_steps, to_z-of_z)) in
+    let read = read_as (member {Z = g.row.A.Denot}) c.body-item-items.result.now c.args.rule.now.body c.loop-item.item-index c.item-item.result (Is c.in-Is.x (expression c.in-Is.expr)) c.body-item-items.ensures.members c.loop-item-test.true c.item-item.is (ap (member {Z = g.row.A.Denot}) c.in-Is.is) in
+    is_otherwise c.args.rule.now c.loop-item.item-index c.in-Is.x (expression c.in-Is.expr) c.args.binding.now c.loop-item.binding read.0 read.1 c.loop-item.invariant c.in-Some.n (sym c.value.ensures ∙ c.in-Some.is) (subst (λ z. NoneUnder (λ v. v c.in-Is.x ≡ Int z) c.loop-item.binding) same c.if-not-bind_number.ensures)
+
+pub loop-item-preserved : goal.loop-item-preserved
+loop-item-preserved g c =
+    elim c.match-item.branch [
+      | in-Is+in-Some+else-not-bind_number w ↦
+          let same : to_z w64 (of_z w64 w.in-Some.n) ≡ w.in-Some.n = first_of (search rules, grind (arith, common_steps, to_z-of_z)) in
+          let read = read_as (member {Z = g.row.A.Denot}) c.body-item-items.result.now c.args.rule.now.body c.loop-item.item-index c.item-item.result (Is w.in-Is.x (expression w.in-Is.expr)) c.body-item-items.ensures.members c.loop-item-test.true c.item-item.is (ap (member {Z = g.row.A.Denot}) w.in-Is.is) in
+          subst (Completing c.args.rule.now (c.loop-item.item-index + 1) c.args.binding.now) (sym w.binding-is)
+          (is_more c.args.rule.now c.loop-item.item-index w.in-Is.x (expression w.in-Is.expr) c.args.binding.now c.loop-item.binding read.0 read.1 c.loop-item.invariant w.in-Some.n w.bind_number.new.self (sym w.value.ensures ∙ w.in-Some.is) (subst (λ z. Narrows (λ v. v w.in-Is.x ≡ Int z) c.loop-item.binding w.bind_number.new.self) same w.if-not-bind_number.ensures))
+      | in-Add w ↦
+          let read = read_as (member {Z = g.row.A.Denot}) c.body-item-items.result.now c.args.rule.now.body c.loop-item.item-index c.item-item.result (Add _) c.body-item-items.ensures.members c.loop-item-test.true c.item-item.is (ap (member {Z = g.row.A.Denot}) w.in-Add.is) in
+          subst (Completing c.args.rule.now (c.loop-item.item-index + 1) c.args.binding.now) (sym w.binding-is)
+          (add_more c.args.rule.now c.loop-item.item-index _ c.args.binding.now c.loop-item.binding read.0 read.1 c.loop-item.invariant)
+    ]
+
+pub returns : goal.returns
+returns g c =
+    let past : length c.args.rule.now.body ≤ c.loop-item.item-index = subst (λ l. length l ≤ c.loop-item.item-index) c.body-item-items.ensures.members (rw length-map c.loop-item-test.false) in
+    completing_end c.args.rule.now c.loop-item.item-index c.args.binding.now c.loop-item.binding past c.loop-item.invariant

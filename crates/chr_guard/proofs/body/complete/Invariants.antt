@@ -1,5 +1,0 @@
-use Rattle.chr_guard.proofs.Completed.{Completing}
-use Rattle.chr_guard.proofs.body.complete.Given as goal
-
-abbrev pub invariant-loop-item : goal.invariant-loop-item
-invariant-loop-item g l = Completing l.rule l.item-index l.fn.binding l.binding

@@ -1,0 +1,48 @@
+-- Values and atoms as clauses see them: over the numbers of names, or over their texts.
+use Rattle.std.specs.Prelude.{ℕ, ℤ, ◌<◌, List, [], map}
+use Rattle.std.specs.List.{slice_index_or, AllByRecursion}
+use Rattle.chr_value.specs.declared.atom.Value.{Value as CodeValue}
+use Rattle.chr_value.specs.declared.atom.Value.TheVariants as values
+
+pub data Value (N : Type 0) : Type 0 where
+  Int : ℤ → Value N
+  Sym : N → Value N
+
+-- an atom: a predicate's name and its arguments
+pub record Atom (N : Type 0) : Type 0 where
+  pub name : N
+  pub args : List (Value N)
+
+-- what a value says
+abbrev pub ground : CodeValue → Value ℕ
+ground (values.Int z) = Int z
+ground (values.Sym s) = Sym s.number
+
+abbrev pub grounds : List CodeValue → List (Value ℕ)
+grounds vs = map ground vs
+
+-- the same over other names
+abbrev pub renamed : {M N : Type 0} → (M → N) → Value M → Value N
+renamed f (Int z) = Int z
+renamed f (Sym s) = Sym (f s)
+
+abbrev pub atom_renamed : {M N : Type 0} → (M → N) → Atom M → Atom N
+atom_renamed f a = record { name = f a.name; args = map (renamed f) a.args }
+
+-- a name's text, which is empty for a number outside the table
+abbrev pub text_of : List (List ℕ) → ℕ → List ℕ
+text_of table n = slice_index_or table n []
+
+-- an atom by the texts of its names
+abbrev pub by_texts : List (List ℕ) → Atom ℕ → Atom (List ℕ)
+by_texts table a = atom_renamed (text_of table) a
+
+-- a table of n names has the term's name
+abbrev pub TermIsNamed : ℕ → Value ℕ → Type 0
+TermIsNamed n (Int z) = Unit {0}
+TermIsNamed n (Sym s) = s < n
+
+-- a table of n names has the atom's name and its symbols
+pub record AtomIsNamed (n : ℕ) (a : Atom ℕ) : Type 0 where
+  pub name : a.name < n
+  pub args : AllByRecursion (TermIsNamed n) a.args
