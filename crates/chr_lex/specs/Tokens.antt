@@ -7,7 +7,7 @@ use Rattle.chr_lex.specs.declared.fault.Kind.{Kind}
 use Rattle.chr_lex.specs.declared.fault.Kind.TheVariants.{Syntax}
 use Rattle.chr_lex.specs.declared.mark.Mark.{Mark}
 use Rattle.chr_lex.specs.declared.mark.Mark.TheVariants as mark
-use Rattle.chr_lex.specs.declared.token.Word.{Word as CodeWritten}
+use Rattle.chr_lex.specs.declared.token.Word.{Word as CodeWord}
 use Rattle.chr_lex.specs.declared.token.Word.TheVariants as written
 use Rattle.chr_lex.specs.declared.token.Token.{Token}
 use Rattle.chr_lex.specs.declared.token.Token.TheVariants as token
@@ -25,7 +25,7 @@ pub data Lexeme : Type 0 where
   OfWord : Word → Lexeme
   OfMark : Mark → Lexeme
 
-abbrev pub word : CodeWritten → Word
+abbrev pub word : CodeWord → Word
 word (written.Name bytes) = Name bytes.now
 word (written.Variable bytes) = Variable bytes.now
 word (written.Number negative digits) = Number negative digits.now

@@ -1,7 +1,7 @@
 -- What the parts of a rule say, wherever they lie in memory.
 use Rattle.std.specs.Prelude.{ℕ, map}
 use Rattle.chr_value.specs.Atoms.{ground}
-use Rattle.chr_rule.specs.declared.rule_atom.Term.{Value as CodeTerm}
+use Rattle.chr_rule.specs.declared.rule_atom.Term.{Term as CodeTerm}
 use Rattle.chr_rule.specs.declared.rule_atom.Term.TheVariants as terms
 use Rattle.chr_rule.specs.declared.rule_atom.RuleAtom.{RuleAtom as CodeRuleAtom}
 use Rattle.chr_rule.specs.declared.expression.Expr.{Expr}
