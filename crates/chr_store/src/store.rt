@@ -10,16 +10,15 @@ ghost use Rattle.chr_store.specs.Faults.{given_back};
 ghost use Rattle.chr_store.specs.declared.store.StoreFault.TheVariants.{LabelsSpent};
 
 use chr_value::atom::{Atom, Pred, Value};
+use chr_value::label::GREATEST_LABEL;
+pub use chr_value::label::Label;
 use std::alloc::{AllocError, Allocator};
 use std::collections::BTreeMap;
 use std::collections::btree_map::Iter;
 use std::marker::Model;
 
-/// The number of a constraint in a store, from 1 on.
-pub type Label = u64;
-
 /// The greatest limit that a store may have for its labels.
-pub const GREATEST_LIMIT: u64 = 4_294_967_295;
+pub const GREATEST_LIMIT: u64 = GREATEST_LABEL;
 
 /// Why an atom was not entered. The atom comes back.
 #[derive(Drop)]

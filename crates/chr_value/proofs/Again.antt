@@ -5,11 +5,8 @@ use Rattle.std.proofs.lemmas.Cmp.{nat_list_eq_equiv}
 use Rattle.chr_value.specs.Names.{is_text, has_text, number_of, HasDistinctTexts}
 use Rattle.chr_value.specs.Atoms.{Value, Int, Sym, Atom, TermIsNamed, AtomIsNamed, renamed, text_of, by_texts}
 use Rattle.chr_value.specs.declared.names.NamesFault.{NamesFault}
+use Rattle.chr_value.proofs.Texts.{neither}
 use Rattle.chr_value.specs.Naming.{Table, Named, number_name, numbered_value, number_terms, numbered_atom}
-
-neither : (a b : Bool) → (a || b) ≡ false → (a ≡ false) × (b ≡ false)
-neither true b h = absurd cc
-neither false b h = (refl, h)
 
 or-true : (a : Bool) → (a || true) ≡ true
 or-true true = refl
@@ -21,7 +18,7 @@ lacks t [] n h lt = absurd (omega arith)
 lacks t (k ∷ ks) zero h lt = (neither (is_text t k) (has_text ks t) h).0
 lacks t (k ∷ ks) (suc n) h lt = lacks t ks n (neither (is_text t k) (has_text ks t) h).1 (omega arith)
 
-has-own : (table : Table) (n : ℕ) → n < length table → has_text table (text_of table n) ≡ true
+pub has-own : (table : Table) (n : ℕ) → n < length table → has_text table (text_of table n) ≡ true
 has-own [] n lt = absurd (omega arith)
 has-own (t ∷ ts) zero lt = rw (nat_list_eq_equiv.refl t) refl
 has-own (t ∷ ts) (suc n) lt = rw (has-own ts n (omega arith)) (or-true (is_text (text_of ts n) t))

@@ -1,11 +1,17 @@
 -- Names that a table has, and so has every table that begins with it.
-use Rattle.std.proofs.Common.{◌≡◌, ◌<◌, ℕ, zero, suc, Bool, true, false, ◌||◌, List, [], ◌∷◌, length, get_or, take, arith, refl, ap, ◌∙◌}
+use Rattle.std.proofs.Common.{◌≡◌, ◌<◌, ℕ, zero, suc, Bool, true, false, ◌||◌, List, [], ◌∷◌, ◌++◌, length, get_or, take, Some, Result, Err, arith, refl, sym, ap, subst, ◌∙◌}
+use Rattle.std.specs.Prelude.{◌↔◌}
 use Rattle.std.specs.List.{AllByRecursion}
 use Rattle.chr_value.specs.Names.{is_text, has_text}
-use Rattle.chr_value.specs.Atoms.{Value, Int, Sym}
+use Rattle.chr_value.specs.Atoms.{Value, Int, Sym, Atom}
+use Rattle.chr_value.specs.declared.names.NamesFault.{NamesFault}
+use Rattle.chr_value.specs.declared.names.NamesFault.TheVariants as faults
 use Rattle.chr_value.specs.declared.text_atom.TextValue.{TextValue}
 use Rattle.chr_value.specs.TextAtoms.{text_value, text_values}
-use Rattle.chr_value.specs.Naming.{Table, TermIsKnown}
+use Rattle.chr_value.specs.Naming.{◌>>=◌, Table, TermIsKnown, AtomIsKnown, number_name, numbered_value, number_terms, number_more, numbered_atom}
+use Rattle.chr_value.proofs.Chosen.{bind_some, some_is}
+use Rattle.chr_value.proofs.Said.{name_says, terms_say}
+use Rattle.chr_value.proofs.Again.{has-own}
 
 or-more : (a b c : Bool) → (b ≡ true → c ≡ true) → (a || b) ≡ true → (a || c) ≡ true
 or-more true b c f h = refl
@@ -24,3 +30,49 @@ pub words_known : (table : Table) (ws : List TextValue) (i : ℕ) (d : TextValue
 words_known table [] i d h lt = absurd (omega arith)
 words_known table (w ∷ ws) zero d h lt = h.0
 words_known table (w ∷ ws) (suc i) d h lt = words_known table ws i d h.1 (omega arith)
+
+-- ---- what was numbered is known
+
+name_known : (table : Table) (t : List ℕ) (n : ℕ) (new : Table) → number_name table t ≡ Some (n, new) → has_text new t ≡ true
+name_known table t n new e = let s = name_says table t n new e in ap (has_text new) (sym s.0) ∙ has-own new n s.1
+
+term_known : (table : Table) (t : Value (List ℕ)) (v : Value ℕ) (new : Table) → numbered_value table t ≡ Some (v, new) → TermIsKnown new t
+term_known table (Int z) v new e = tt
+term_known table (Sym t) v new e =
+    let a = bind_some (number_name table t) (λ n. Some (Sym n.0, n.1)) (v, new) e in
+    let h = some_is (Sym a.0.0, a.0.1) (v, new) a.2 in
+    subst (λ (x : Value ℕ × Table). has_text x.1 t ≡ true) h (name_known table t a.0.0 a.0.1 a.1)
+
+terms_known : (table : Table) (ts : List (Value (List ℕ))) (vs : List (Value ℕ)) (new : Table) → number_terms table ts ≡ Some (vs, new) → AllByRecursion (TermIsKnown new) ts
+unfolding number_terms
+terms_known table [] vs new e = tt
+terms_known table (t ∷ ts) vs new e =
+    let a = bind_some (numbered_value table t) (λ x. number_terms x.1 ts >>= λ xs. Some (x.0 ∷ xs.0, xs.1)) (vs, new) e in
+    let b = bind_some (number_terms a.0.1 ts) (λ xs. Some (a.0.0 ∷ xs.0, xs.1)) (vs, new) a.2 in
+    let r = terms_say a.0.1 ts b.0.0 b.0.1 b.1 in
+    subst (λ (x : List (Value ℕ) × Table). AllByRecursion (TermIsKnown x.1) (t ∷ ts)) (some_is (a.0.0 ∷ b.0.0, b.0.1) (vs, new) b.2)
+    (known-later a.0.1 b.0.1 t r.1 (term_known table t a.0.0 a.0.1 a.1), terms_known a.0.1 ts b.0.0 b.0.1 b.1)
+
+pub atom_known : (table : Table) (a : Atom (List ℕ)) (f : Atom ℕ) (new : Table) → numbered_atom table a ≡ Some (f, new) → AtomIsKnown new a
+unfolding numbered_atom
+atom_known table a f new e =
+    let n = bind_some (number_name table a.name) (λ n. number_more n.0 [] (number_terms n.1 a.args)) (f, new) e in
+    let x = bind_some (number_terms n.0.1 a.args) (λ x. Some (record { name = n.0.0; args = [] ++ x.0 }, x.1)) (f, new) n.2 in
+    let t = terms_say n.0.1 a.args x.0.0 x.0.1 x.1 in
+    let named : has_text x.0.1 a.name ≡ true = known-later n.0.1 x.0.1 (Sym a.name) t.1 (name_known table a.name n.0.0 n.0.1 n.1) in
+    let all : AtomIsKnown x.0.1 a = record { name = named; args = terms_known n.0.1 a.args x.0.0 x.0.1 x.1 } in
+    subst (λ (y : Atom ℕ × Table). AtomIsKnown y.1 a) (some_is (record { name = n.0.0; args = x.0.0 }, x.0.1) (f, new) x.2) all
+
+-- what is found when known is not known where it is refused
+pub refused : {K : Type 0} → (K → let r : Bool = false in r ≡ true) → K → ⊥
+refused finds known = let no = finds known in cc
+
+-- An atom is refused as full where the table that its names so far left is full and lacks the next.
+pub full_at : {X Z : Type 0} (e : NamesFault) (old new : Table) (Lacks All : Type 0) → ((let r : Result X NamesFault = Err e in r ≡ Err faults.Full) ↔ ((length old ≡ 65536) × Lacks)) → Lacks → (All → ⊥) → new ≡ old
+    → (let r : Result Z NamesFault = Err e in r ≡ Err faults.Full) ↔ ((length new ≡ 65536) × (All → ⊥))
+full_at {X} {Z} e old new Lacks All full lacks none same =
+    let X-err : NamesFault → Result X NamesFault = λ f. Err f in
+    let Z-err : NamesFault → Result Z NamesFault = λ f. Err f in (
+      λ is. let f : e ≡ faults.Full = cc in (ap length same ∙ (full.0 (ap X-err f)).0, none),
+      λ h. let r : X-err e ≡ X-err faults.Full = full.1 (sym (ap length same) ∙ h.0, lacks) in let f : e ≡ faults.Full = cc in ap Z-err f,
+    )

@@ -1,19 +1,11 @@
 -- What is numbered says the same by the table after it.
 use Rattle.std.proofs.Common.{◌≡◌, ℕ, suc, ◌+◌, ◌<◌, Bool, true, false, cond, ltb, ◌||◌, not, List, [], ◌∷◌, ◌++◌, length, take, map, Some, None, refl, sym, ap, subst, ◌∙◌, arith, inl, inr, get_or-take}
-use Rattle.std.specs.Prelude.{nat_eq}
-use Rattle.std.specs.Cmp.Lexicographic.{pointwise}
-use Rattle.std.proofs.lemmas.Bool.{eqb-true}
+use Rattle.std.proofs.lemmas.Slice.Eq.{bytes_eq-Decides}
 use Rattle.chr_value.specs.Names.{has_text, number_of, with_text, is_text}
-use Rattle.chr_value.specs.Atoms.{Value, Int, Sym, Atom, renamed, text_of, by_texts}
+use Rattle.chr_value.specs.Atoms.{Value, Int, Sym, Atom, TermIsNamed, renamed, text_of, by_texts}
 use Rattle.chr_value.specs.Naming.{◌>>=◌, Table, number_name, numbered_value, number_terms, number_more, numbered_atom}
-use Rattle.chr_value.proofs.Chosen.{bind_some, some_is, chosen, both}
+use Rattle.chr_value.proofs.Chosen.{bind_some, some_is, chosen}
 use Rattle.chr_value.proofs.NameLaws.{keeps-then, grown}
-
-same_text : (a b : List ℕ) → is_text a b ≡ true → a ≡ b
-same_text [] [] e = refl
-same_text [] (y ∷ ys) e = absurd cc
-same_text (x ∷ xs) [] e = absurd cc
-same_text (x ∷ xs) (y ∷ ys) e = let p = both (nat_eq x y) (pointwise nat_eq xs ys) e in let h : x ≡ y = eqb-true x y p.0 in let t = same_text xs ys p.1 in cc
 
 -- the text at the number that a name gets
 abbrev At : Bool → List ℕ → List ℕ → Table → Type 0
@@ -25,7 +17,7 @@ later k t ks true n h = let e : 1 + n ≡ suc n = omega arith in (ap (λ (m : �
 later k t ks false n h = let e : 1 + n ≡ suc n = omega arith in (ap (λ (m : ℕ). text_of (k ∷ (ks ++ t ∷ [])) m) e ∙ h.0, omega (arith, h.1))
 
 at_step : (k t : List ℕ) (ks : Table) (b : Bool) → is_text t k ≡ b → (text_of (with_text ks t) (number_of ks t) ≡ t) × (number_of ks t < length (with_text ks t)) → At b k t ks
-at_step k t ks true e h = (sym (same_text t k e), omega arith)
+at_step k t ks true e h = (sym ((bytes_eq-Decides t k).0 e), omega arith)
 at_step k t ks false e h = later k t ks (has_text ks t) (number_of ks t) h
 
 text_at : (table : Table) (t : List ℕ) → (text_of (with_text table t) (number_of table t) ≡ t) × (number_of table t < length (with_text table t))
@@ -33,10 +25,10 @@ text_at [] t = (refl, omega arith)
 text_at (k ∷ ks) t = at_step k t ks (is_text t k) refl (text_at ks t)
 
 -- a number keeps its text
-text_kept : (a b : Table) (n : ℕ) → take (length a) b ≡ a → n < length a → text_of b n ≡ text_of a n
+pub text_kept : (a b : Table) (n : ℕ) → take (length a) b ≡ a → n < length a → text_of b n ≡ text_of a n
 text_kept a b n h lt = sym (get_or-take (length a) b n [] lt) ∙ ap (λ (w : Table). text_of w n) h
 
-name_says : (table : Table) (t : List ℕ) (n : ℕ) (new : Table) → number_name table t ≡ Some (n, new) → (text_of new n ≡ t) × (n < length new) × (take (length table) new ≡ table)
+pub name_says : (table : Table) (t : List ℕ) (n : ℕ) (new : Table) → number_name table t ≡ Some (n, new) → (text_of new n ≡ t) × (n < length new) × (take (length table) new ≡ table)
 name_says table t n new e =
     elim (chosen (has_text table t || ltb (length table) 65536) (Some (number_of table t, with_text table t)) None (Some (n, new)) e) [
       | inl p ↦
@@ -46,25 +38,20 @@ name_says table t n new e =
       | inr p ↦ absurd (let k = p.1 in cc)
     ]
 
--- a term whose names the table has
-abbrev Inside : Table → Value ℕ → Type 0
-Inside table (Int z) = Unit {0}
-Inside table (Sym n) = n < length table
-
-term_says : (table : Table) (t : Value (List ℕ)) (v : Value ℕ) (new : Table) → numbered_value table t ≡ Some (v, new) → (renamed (text_of new) v ≡ t) × Inside new v × (take (length table) new ≡ table)
+term_says : (table : Table) (t : Value (List ℕ)) (v : Value ℕ) (new : Table) → numbered_value table t ≡ Some (v, new) → (renamed (text_of new) v ≡ t) × TermIsNamed (length new) v × (take (length table) new ≡ table)
 term_says table (Int z) v new e =
     let h = some_is (Int z, table) (v, new) e in
-    subst (λ (x : Value ℕ × Table). (renamed (text_of x.1) x.0 ≡ Int z) × Inside x.1 x.0 × (take (length table) x.1 ≡ table)) h (refl, tt, grown table [] true)
+    subst (λ (x : Value ℕ × Table). (renamed (text_of x.1) x.0 ≡ Int z) × TermIsNamed (length x.1) x.0 × (take (length table) x.1 ≡ table)) h (refl, tt, grown table [] true)
 term_says table (Sym t) v new e =
     let a = bind_some (number_name table t) (λ n. Some (Sym n.0, n.1)) (v, new) e in
     let s = name_says table t a.0.0 a.0.1 a.1 in
-    subst (λ (x : Value ℕ × Table). (renamed (text_of x.1) x.0 ≡ Sym t) × Inside x.1 x.0 × (take (length table) x.1 ≡ table)) (some_is (Sym a.0.0, a.0.1) (v, new) a.2) (ap (λ (w : List ℕ). Sym w) s.0, s.1, s.2)
+    subst (λ (x : Value ℕ × Table). (renamed (text_of x.1) x.0 ≡ Sym t) × TermIsNamed (length x.1) x.0 × (take (length table) x.1 ≡ table)) (some_is (Sym a.0.0, a.0.1) (v, new) a.2) (ap (λ (w : List ℕ). Sym w) s.0, s.1, s.2)
 
-term_kept : (a b : Table) (v : Value ℕ) → take (length a) b ≡ a → Inside a v → renamed (text_of b) v ≡ renamed (text_of a) v
+pub term_kept : (a b : Table) (v : Value ℕ) → take (length a) b ≡ a → TermIsNamed (length a) v → renamed (text_of b) v ≡ renamed (text_of a) v
 term_kept a b (Int z) h i = refl
 term_kept a b (Sym n) h i = ap (λ (w : List ℕ). Sym w) (text_kept a b n h i)
 
-terms_say : (table : Table) (ts : List (Value (List ℕ))) (vs : List (Value ℕ)) (new : Table) → number_terms table ts ≡ Some (vs, new) → (map (renamed (text_of new)) vs ≡ ts) × (take (length table) new ≡ table)
+pub terms_say : (table : Table) (ts : List (Value (List ℕ))) (vs : List (Value ℕ)) (new : Table) → number_terms table ts ≡ Some (vs, new) → (map (renamed (text_of new)) vs ≡ ts) × (take (length table) new ≡ table)
 unfolding number_terms
 terms_say table [] vs new e =
     subst (λ (x : List (Value ℕ) × Table). (map (renamed (text_of x.1)) x.0 ≡ []) × (take (length table) x.1 ≡ table)) (some_is ([], table) (vs, new) e) (refl, grown table [] true)

@@ -10,7 +10,7 @@ use Rattle.chr_value.specs.Spelling.{behind, opened, spell_term}
 abbrev pub arg_texts : List (List ℕ) → List (Value ℕ) → List (List ℕ)
 arg_texts table args = map spell_term (map (renamed (text_of table)) args)
 
-behind-push : (ts : List (List ℕ)) (t : List ℕ) → behind (ts ++ t ∷ []) ≡ behind ts ++ 44 ∷ t
+pub behind-push : (ts : List (List ℕ)) (t : List ℕ) → behind (ts ++ t ∷ []) ≡ behind ts ++ 44 ∷ t
 behind-push [] t = ap (λ (r : List ℕ). 44 ∷ r) (append-nil t)
 behind-push (x ∷ xs) t = ap (λ (r : List ℕ). 44 ∷ (x ++ r)) (behind-push xs t) ∙ ap (λ (r : List ℕ). 44 ∷ r) (sym (append_assoc x (behind xs) (44 ∷ t)))
 

@@ -26,7 +26,7 @@ impl Default for Value {
 }
 
 impl Value {
-    /// Whether two values are one. A number never equals a symbol.
+    /// Whether two values are equal. A number never equals a symbol.
     pub fn same(&self, other: &Value) -> bool
         ensures { IsTrue result ↔ (ground self.now ≡ ground other.now) }
     {
@@ -47,7 +47,7 @@ impl Value {
         }
     }
 
-    /// The same value once more.
+    /// A copy of the value.
     pub fn duplicate(&self) -> Value
         ensures { ground result ≡ ground self.now }
     {
@@ -62,7 +62,7 @@ pub struct Pred {
     pub arity: u8,
 }
 
-/// A predicate with its arguments, at most [`MOST_ARGS`]. Contracts see a name and a list of terms.
+/// A predicate with its arguments, at most [`MOST_ARGS`]. Contracts see a name and a list of values.
 #[derive(Drop)]
 pub struct Atom<A: Allocator> {
     name: Name,
@@ -119,7 +119,7 @@ impl<A: Allocator + Copy> Atom<A> {
         self.args.as_slice()
     }
 
-    /// One argument more, behind the others. There must be fewer than [`MOST_ARGS`].
+    /// Adds an argument after the others. There must be fewer than [`MOST_ARGS`].
     pub fn push(&mut self, value: Value)
         requires { length self.old.args < 8 }
         ensures { self.new ≡ record { name = self.old.name; args = self.old.args ++ ground value ∷ [] } }
@@ -134,7 +134,7 @@ impl<A: Allocator + Copy> Atom<A> {
         (self.name.number as usize) < count && are_named(self.args.as_slice(), count)
     }
 
-    /// Whether two atoms are one: the same predicate and the same arguments.
+    /// Whether two atoms are equal: the same predicate and the same arguments.
     pub fn same(&self, other: &Atom<A>) -> bool
         ensures { IsTrue result ↔ (self.now ≡ other.now) }
     {
@@ -144,7 +144,7 @@ impl<A: Allocator + Copy> Atom<A> {
         same_values(self.args.as_slice(), other.args.as_slice())
     }
 
-    /// The same atom once more. E01 where memory ran out.
+    /// A copy of the atom. An `Err` is E01.
     pub fn copy(&self, alloc: A) -> Result<Atom<A>, AllocError>
         ensures { IfOk result (λ made. made ≡ self.now) }
     {
@@ -156,7 +156,7 @@ impl<A: Allocator + Copy> Atom<A> {
     }
 }
 
-// Whether two lists of values are one.
+// Whether two lists of values are equal.
 fn same_values(xs: &[Value], ys: &[Value]) -> bool
     ensures { IsTrue result ↔ (grounds xs.now ≡ grounds ys.now) }
 {

@@ -5,29 +5,33 @@
 //! - A [`Value`](atom::Value) is a whole number of 64 bits or a symbol, which is a name.
 //! - An [`Atom`](atom::Atom) is a predicate's name with at most eight values: a constraint without variables. Two atoms
 //!   are the same where predicate and arguments are.
+//! - A [`Label`](label::Label) is the number of an atom in a store.
 //! - [`write_atom`](writing::write_atom) gives an atom's text: its name, then its arguments by commas in brackets.
-//! - A [`TextAtom`](text_atom::TextAtom) is an atom as a text says it, whose names are borrowed from that text, and
+//! - A [`TextAtom`](text_atom::TextAtom) is an atom as a text has it, whose names are borrowed from that text, and
 //!   [`number_atom`](naming::number_atom) makes an atom of it.
 //!
-//! Contracts see a table as the list of its texts, a value as a `Value ℕ` and an atom as a `Atom ℕ`, both over the
-//! numbers of names, and words and atoms of a text as the same over texts. So a clause of another crate needs no more
-//! than these, and stays when values become more than numbers and symbols; for the same reason nothing outside relies on
-//! a value being `Copy`.
+//! Contracts see a table as the list of its texts, a value as a `Value ℕ` and an atom as an `Atom ℕ`, both over the
+//! numbers of names, and values and atoms of a text as the same over texts. So a clause of another crate needs no more
+//! than these, and needs no change when values become more than numbers and symbols; for the same reason nothing outside
+//! relies on a value being `Copy`. Which bytes are a name, and which names are reserved, is defined in `specs/Spelling`
+//! for the texts of rules and of logs alike.
 //!
 //! What is promised:
 //!
 //! - `intern` answers a text's place in the table, where a new text goes last; it is refused as full exactly where the
-//!   text is new and the table has 65,536 names. `find` and `text` are exact, and no text stands twice.
-//! - `Value::same` and `Atom::same` say yes exactly where the contracts' terms and facts are equal.
-//! - `write_atom` gives exactly the bytes of the atom's spelling, and `number_atom` exactly what numbering its names from
-//!   left to right gives: by the table after it the atom says what the text said. An atom that was written by a table is
-//!   read by it as the same atom, and the table stays.
+//!   text is new and the table has 65,536 names. `find` and `text` are exact, and no text is there twice.
+//! - `Value::same` and `Atom::same` are true exactly where the contracts' values and atoms are equal.
+//! - `write_atom` writes exactly the bytes of the atom's spelling, and `number_atom` gives exactly what numbering its
+//!   names from left to right gives: by the texts of the table after it, it is the text's atom. It is refused as full
+//!   exactly where the table is then full and lacks one of its names. An atom that was written by a table is read by it as
+//!   the same atom, and the table is unchanged.
 //!
 //! Every call but `Names::intern`, `Names::copy`, `Atom::copy`, those of [`naming`] and those of [`writing`] takes no
 //! memory. Whether a call that may take memory gets it, no contract says.
 #![tactic(auto)]
 
 pub mod atom;
+pub mod label;
 pub mod names;
 pub mod naming;
 pub mod text_atom;

@@ -29,7 +29,7 @@ pub fn name_number<A: Allocator + Copy>(
     names.intern(text)
 }
 
-/// A text_value as a value: a symbol by its name's number, as [`name_number`] gives it, with its errors.
+/// A value of a text: a symbol by its name's number, as [`name_number`] gives it, with its errors.
 pub(crate) fn word_value<A: Allocator + Copy>(
     names: &mut Names<A>,
     text_value: &TextValue<'_>,
@@ -38,6 +38,7 @@ pub(crate) fn word_value<A: Allocator + Copy>(
     ensures gives { Named ground result (numbered_value names.old (word_of text_value.now)) names.new }
     ensures full { (result ≡ Err Full) ↔ ((length names.old ≡ 65536) × (TermIsKnown names.old (word_of text_value.now) → ⊥)) }
     ensures finds { TermIsKnown names.old (word_of text_value.now) → IsOk result }
+    ensures unchanged { OnErr result (names.new ≡ names.old) }
     ensures keeps { take (length names.old) names.new ≡ names.old }
 {
     match text_value {
@@ -50,9 +51,9 @@ pub(crate) fn word_value<A: Allocator + Copy>(
 }
 
 /// An atom of a text, by the numbers of its names; new names get the next ones, the predicate's first and then the
-/// arguments' from left to right. E01 where memory ran out; E02 only where one of its names would be the 65,537th. An
-/// `Err` may leave new names behind the old ones, which `truncate` to the length before takes back. Where the table has
-/// its names already, nothing is refused, the atom is the one that was written so, and the table is as before.
+/// arguments' from left to right. E01 where memory ran out; E02 exactly where the table is then full and lacks one of its
+/// names. An `Err` may leave new names after the old ones, which `truncate` to the length before takes back. Where the
+/// table has its names already, nothing is refused, the atom is the one that was written so, and the table is as before.
 pub fn number_atom<A: Allocator + Copy>(
     alloc: A,
     names: &mut Names<A>,
@@ -60,6 +61,7 @@ pub fn number_atom<A: Allocator + Copy>(
 ) -> Result<Atom<A>, NamesFault>
     requires { FitsAtom (text_atom text.now) }
     ensures gives { Named (λ a. a) result (numbered_atom names.old (text_atom text.now)) names.new }
+    ensures full { (result ≡ Err Full) ↔ ((length names.new ≡ 65536) × (AtomIsKnown names.new (text_atom text.now) → ⊥)) }
     ensures says { IfOk result (λ a. names_by names.new a ≡ text_atom text.now) }
     ensures finds { AtomIsKnown names.old (text_atom text.now) → IsOk result }
     ensures again { (a : Atom ℕ) → HasDistinctTexts names.old → AtomIsNamed (length names.old) a → text_atom text.now ≡ names_by names.old a → Named (λ b. b) result (Some (a, names.old)) names.new }

@@ -1,4 +1,4 @@
-//! Atoms as a text says them, before their names are numbered.
+//! Atoms as a text has them, before their names are numbered.
 use arrayvec::ArrayVec;
 
 /// A number or a name's text.

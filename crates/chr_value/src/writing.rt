@@ -1,5 +1,4 @@
-//! The text of an atom. Each call writes behind what is there; after a refusal of memory (E01) that still stands, with
-//! at most a beginning of what was to be written behind it.
+//! The text of an atom. Each call writes after the bytes that are there. An `Err` is E01, and those bytes stay.
 ghost use Rattle.std.specs.Prelude.{◌≡◌, ◌++◌, ◌∷◌, [], length, take, OnOk, OnErr};
 ghost use Rattle.std.specs.Fmt.{decimal, signed_decimal};
 ghost use Rattle.chr_value.specs.Atoms.{ground, renamed, text_of, by_texts};
@@ -10,7 +9,7 @@ use crate::names::{Name, Names};
 use itoa::Buffer;
 use std::alloc::{AllocError, Allocator};
 
-/// A number in decimal, without leading zeros.
+/// A number in decimal, without leading zeros. After an `Err` the bytes are as before.
 pub fn put_number<C: Allocator>(out: &mut Vec<u8, C>, n: u64) -> Result<(), AllocError>
     ensures writes { OnOk result (out.new.items ≡ out.old.items ++ decimal n) }
     ensures unchanged { OnErr result (out.new.items ≡ out.old.items) }
@@ -53,6 +52,7 @@ pub(crate) fn put_value<A: Allocator + Copy, C: Allocator>(
 }
 
 /// The bytes of an atom: its name's text, and where it has arguments `(`, the arguments by `,` without blanks, and `)`.
+/// An `Err` may leave part of them after the bytes that were there.
 pub fn write_atom<A: Allocator + Copy, C: Allocator>(
     out: &mut Vec<u8, C>,
     names: &Names<A>,
