@@ -1,19 +1,17 @@
-//! Refusals of a log and of its writers.
+//! A log, and the writers of a log and of a store.
+use crate::calls::is_refused;
 use chr_log::events::{Entry, Event, Labels};
 use chr_log::log::Log;
 use chr_log::writing::{write_log, write_store};
 use chr_value::atom::{Atom, Value};
-use chr_value::names::{Name, Names};
+use chr_value::names::Names;
 use refusing::Refusing;
-use std::alloc::{AllocError, Allocator};
-use std::test::Fail;
+use std::alloc::Global;
 
 const TEXT: &str = "chr-log 1\nF 1 256 \\4294967295\nF 2 256 \\4294967295\nF 3 256 \\4294967295\n";
 
-const LINES: &str = "#1 gcd(1000000000)\n#2 gcd(1000000000)\n#3 gcd(1000000000)\n";
-
-// A firing of rule 256 by a ticket, which takes no memory.
-fn entry_of<A: Allocator + Copy>(ticket: u64) -> Entry<A> {
+/// A firing of rule 256 by a ticket, which takes no memory.
+fn entry_of<'m>(ticket: u64) -> Entry<&'m Refusing<Global>> {
     let mut removed = Labels::new();
     removed.push(4_294_967_295);
     let event = Event::Fire {
@@ -25,119 +23,83 @@ fn entry_of<A: Allocator + Copy>(ticket: u64) -> Entry<A> {
     Entry { event, seat: 1 }
 }
 
-// Enters as many entries, each once more where it is refused. None where a refusal changed the log.
-fn entered<A: Allocator + Copy>(log: &mut Log<A>, count: u64) -> Result<Option<usize>, AllocError> {
-    for ticket in 0..count {
-        let before = log.len();
+/// Adds 40 entries, each again where that fails.
+pub fn push(memory: &Refusing<Global>, n: u64) -> Option<bool> {
+    let mut log = Log::new(memory);
+    let mut fails = false;
+    memory.refuse(n);
+    for ticket in 1..41u64 {
         if log.push(entry_of(ticket)).is_err() {
-            if log.len() != before {
-                return Ok(None);
-            }
-            log.push(entry_of(ticket))?;
+            fails = true;
+            log.push(entry_of(ticket)).ok()?;
         }
     }
-    Ok(Some(log.len()))
-}
-
-#[test]
-fn an_entry_is_added_or_the_log_is_as_before(rt: HostRuntime) -> Result<(), Fail> {
-    let mut refusals = 0u64;
-    for n in 1..100u64 {
-        let memory = Refusing::new(rt.alloc(), n);
-        let mut log = Log::new(&memory);
-        assert_eq!(rt; entered(&mut log, 40)?, Some(40), "request {n}");
-        if !memory.was_refused() {
-            break;
-        }
-        refusals = n;
+    if log.len() != 40 {
+        return None;
     }
-    assert!(rt; 2 < refusals);
-    Ok(())
+    is_refused(memory, fails)
 }
 
-#[test]
-fn reserved_entries_take_no_memory(rt: HostRuntime) -> Result<(), Fail> {
-    let memory = Refusing::new(rt.alloc(), 1);
-    let mut log = Log::new(&memory);
-    assert!(rt; log.reserve(2).is_err());
-    assert_eq!(rt; log.len(), 0);
-    log.reserve(2)?;
+/// Makes room for two entries, which then take no memory.
+pub fn reserve(memory: &Refusing<Global>, n: u64) -> Option<bool> {
+    let mut log = Log::new(memory);
+    memory.refuse(n);
+    let refused = is_refused(memory, log.reserve(2).is_err())?;
+    log.reserve(2).ok()?;
     let before = memory.requests();
     log.push_reserved(entry_of(1));
-    log.push(entry_of(2))?;
-    log.reserve(0)?;
-    assert_eq!(rt; log.len(), 2);
-    assert_eq!(rt; memory.requests(), before);
-    Ok(())
+    log.push_reserved(entry_of(2));
+    if memory.requests() != before {
+        return None;
+    }
+    Some(refused)
 }
 
-#[test]
-fn a_log_is_copied_or_not_at_all(rt: HostRuntime) -> Result<(), Fail> {
-    let mut refusals = 0u64;
-    for n in 1..100u64 {
-        let memory = Refusing::new(rt.alloc(), 0);
-        let mut log = Log::new(&memory);
-        assert_eq!(rt; entered(&mut log, 5)?, Some(5));
-        memory.refuse(n);
-        let answer = log.copy(&memory);
-        assert_eq!(rt; answer.is_err(), memory.was_refused(), "request {n}");
-        let Err(_) = answer else {
-            break;
-        };
-        refusals = n;
-        assert_eq!(rt; log.copy(&memory)?.len(), 5);
+/// A log of three firings.
+fn log_of(memory: &Refusing<Global>) -> Option<Log<&Refusing<Global>>> {
+    let mut log = Log::new(memory);
+    for ticket in 1..4u64 {
+        log.push(entry_of(ticket)).ok()?;
     }
-    assert!(rt; 0 < refusals);
-    Ok(())
+    Some(log)
 }
 
-#[test]
-fn a_log_is_written_or_memory_ran_out(rt: HostRuntime) -> Result<(), Fail> {
-    let mut refusals = 0u64;
-    for n in 1..100u64 {
-        let memory = Refusing::new(rt.alloc(), 0);
-        let names = Names::new(&memory);
-        let mut entries = Vec::new(&memory);
-        for ticket in 1..4u64 {
-            entries.push(entry_of(ticket))?;
-        }
-        memory.refuse(n);
-        let mut out = Vec::new(&memory);
-        let answer = write_log(&mut out, &names, &entries);
-        assert_eq!(rt; answer.is_err(), memory.was_refused(), "request {n}");
-        if answer.is_ok() {
-            assert_eq!(rt; out.as_slice(), TEXT.as_bytes());
-            break;
-        }
-        refusals = n;
+pub fn copy(memory: &Refusing<Global>, n: u64) -> Option<bool> {
+    let log = log_of(memory)?;
+    memory.refuse(n);
+    let refused = is_refused(memory, log.copy(memory).is_err())?;
+    if log.copy(memory).ok()?.len() != 3 {
+        return None;
     }
-    assert!(rt; 1 < refusals);
-    Ok(())
+    Some(refused)
 }
 
-#[test]
-fn a_store_is_written_or_memory_ran_out(rt: HostRuntime) -> Result<(), Fail> {
-    let mut refusals = 0u64;
-    for n in 1..100u64 {
-        let memory = Refusing::new(rt.alloc(), 0);
-        let mut names = Names::new(&memory);
-        let name: Name = names.intern("gcd")?;
-        let mut lines = Vec::new(&memory);
-        for label in 1..4u64 {
-            let mut atom = Atom::new(&memory, name);
-            atom.push(Value::Int(1_000_000_000));
-            lines.push((label, atom))?;
-        }
-        memory.refuse(n);
-        let mut out = Vec::new(&memory);
-        let answer = write_store(&mut out, &names, &lines);
-        assert_eq!(rt; answer.is_err(), memory.was_refused(), "request {n}");
-        if answer.is_ok() {
-            assert_eq!(rt; out.as_slice(), LINES.as_bytes());
-            break;
-        }
-        refusals = n;
+pub fn write_entries_of_a_log(memory: &Refusing<Global>, n: u64) -> Option<bool> {
+    let names = Names::new(memory);
+    let log = log_of(memory)?;
+    let mut out = Vec::new(memory);
+    memory.refuse(n);
+    let refused = is_refused(memory, write_log(&mut out, &names, log.entries()).is_err())?;
+    out.clear();
+    write_log(&mut out, &names, log.entries()).ok()?;
+    if out.as_slice() != TEXT.as_bytes() {
+        return None;
     }
-    assert!(rt; 1 < refusals);
-    Ok(())
+    Some(refused)
+}
+
+pub fn write_line_of_a_store(memory: &Refusing<Global>, n: u64) -> Option<bool> {
+    let mut names = Names::new(memory);
+    let mut atom = Atom::new(memory, names.intern("gcd").ok()?);
+    atom.push(Value::Int(1_000_000_000));
+    let lines = [(4_294_967_295, atom)];
+    let mut out = Vec::new(memory);
+    memory.refuse(n);
+    let refused = is_refused(memory, write_store(&mut out, &names, &lines).is_err())?;
+    out.clear();
+    write_store(&mut out, &names, &lines).ok()?;
+    if out.as_slice() != b"#4294967295 gcd(1000000000)\n".as_slice() {
+        return None;
+    }
+    Some(refused)
 }

@@ -1,106 +1,71 @@
-//! Refusals of a program and of its plans.
+//! A program and its plans.
+use crate::calls::is_refused;
 use arrayvec::ArrayVec;
 use chr_plan::plans::Plans;
-use chr_rule::rule_atom::{RuleAtom, Term};
 use chr_rule::program::Program;
 use chr_rule::rule::Rule;
+use chr_rule::rule_atom::{RuleAtom, Term};
 use chr_value::names::Name;
 use refusing::Refusing;
-use std::alloc::{AllocError, Allocator};
+use std::alloc::Global;
 use std::sync::Arc;
-use std::test::Fail;
 
-// p(X), p(X) <=> true, with both heads removed.
-fn rule_of<A: Allocator + Copy>(alloc: A) -> Result<Option<Rule<A>>, AllocError> {
-    let mut removed = Vec::new(alloc);
-    for _ in 0..2u8 {
-        let mut terms = ArrayVec::new();
-        terms.push(Term::Var(0));
-        let name = Name { number: 0 };
-        removed.push(RuleAtom { name, terms })?;
-    }
-    Ok(Rule::new(Vec::new(alloc), removed, Vec::new(alloc), Vec::new(alloc)))
+type SharedRule<'m> = Arc<Rule<&'m Refusing<Global>>, &'m Refusing<Global>>;
+
+/// `p(X) <=> true`.
+fn rule_of(memory: &Refusing<Global>) -> Option<SharedRule<'_>> {
+    let mut terms = ArrayVec::new();
+    terms.push(Term::Var(0));
+    let name = Name { number: 0 };
+    let removed = vec![in memory; RuleAtom { name, terms }].ok()?;
+    let rule = Rule::new(
+        Vec::new(memory),
+        removed,
+        Vec::new(memory),
+        Vec::new(memory),
+    )?;
+    Arc::new(memory, rule).ok()
 }
 
-// Enters a rule as often, once more where it is refused. None where a refusal changed the program.
-fn entered<A: Allocator + Copy>(
-    program: &mut Program<A>,
-    rule: &Arc<Rule<A>, A>,
-    count: usize,
-) -> Result<Option<usize>, AllocError> {
-    for _ in 0..count {
-        let before = program.len();
-        if before == 256 {
-            return Ok(None);
-        }
-        if program.push(Arc::try_clone(rule)?).is_err() {
-            if program.len() != before {
-                return Ok(None);
-            }
-            program.push(Arc::try_clone(rule)?)?;
+/// Adds a rule 20 times, each again where that fails.
+pub fn push(memory: &Refusing<Global>, n: u64) -> Option<bool> {
+    let rule = rule_of(memory)?;
+    let mut program = Program::new(memory);
+    let mut fails = false;
+    memory.refuse(n);
+    for _ in 0..40u8 {
+        if program.len() < 20 && program.push(Arc::try_clone(&rule).ok()?).is_err() {
+            fails = true;
         }
     }
-    Ok(Some(program.len()))
+    if program.len() != 20 {
+        return None;
+    }
+    is_refused(memory, fails)
 }
 
-#[test]
-fn a_rule_is_added_or_the_program_is_as_before(rt: HostRuntime) -> Result<(), Fail> {
-    let mut refusals = 0u64;
-    for n in 1..100u64 {
-        let memory = Refusing::new(rt.alloc(), 0);
-        let rule = Arc::new(&memory, rule_of(&memory)?.ok_or("rule")?)?;
-        let mut program = Program::new(&memory);
-        memory.refuse(n);
-        let count = entered(&mut program, &rule, 20)?;
-        assert_eq!(rt; count, Some(20), "request {n}");
-        if !memory.was_refused() {
-            break;
-        }
-        refusals = n;
-    }
-    assert!(rt; 1 < refusals);
-    Ok(())
+/// A program of one rule.
+fn program_of(memory: &Refusing<Global>) -> Option<Program<&Refusing<Global>>> {
+    let rule = rule_of(memory)?;
+    let mut program = Program::new(memory);
+    program.push(rule).ok()?;
+    Some(program)
 }
 
-#[test]
-fn plans_are_made_or_memory_ran_out(rt: HostRuntime) -> Result<(), Fail> {
-    let mut refusals = 0u64;
-    for n in 1..100u64 {
-        let memory = Refusing::new(rt.alloc(), 0);
-        let rule = Arc::new(&memory, rule_of(&memory)?.ok_or("rule")?)?;
-        let mut program = Program::new(&memory);
-        assert_eq!(rt; entered(&mut program, &rule, 3)?, Some(3));
-        memory.refuse(n);
-        let answer = Plans::make(&memory, &program);
-        assert_eq!(rt; answer.is_err(), memory.was_refused(), "request {n}");
-        if let Ok(plans) = answer {
-            assert!(rt; plans.plan(3, 2).is_some());
-            break;
-        }
-        refusals = n;
-        assert!(rt; Plans::make(&memory, &program)?.plan(3, 2).is_some());
+pub fn copy(memory: &Refusing<Global>, n: u64) -> Option<bool> {
+    let program = program_of(memory)?;
+    memory.refuse(n);
+    let refused = is_refused(memory, program.copy(memory).is_err())?;
+    if program.copy(memory).ok()?.len() != 1 {
+        return None;
     }
-    assert!(rt; 3 < refusals);
-    Ok(())
+    Some(refused)
 }
 
-#[test]
-fn a_program_is_copied_or_not_at_all(rt: HostRuntime) -> Result<(), Fail> {
-    let mut refusals = 0u64;
-    for n in 1..100u64 {
-        let memory = Refusing::new(rt.alloc(), 0);
-        let rule = Arc::new(&memory, rule_of(&memory)?.ok_or("rule")?)?;
-        let mut program = Program::new(&memory);
-        assert_eq!(rt; entered(&mut program, &rule, 5)?, Some(5));
-        memory.refuse(n);
-        let answer = program.copy(&memory);
-        assert_eq!(rt; answer.is_err(), memory.was_refused(), "request {n}");
-        let Err(_) = answer else {
-            break;
-        };
-        refusals = n;
-        assert_eq!(rt; program.copy(&memory)?.len(), 5);
-    }
-    assert!(rt; 0 < refusals);
-    Ok(())
+pub fn make(memory: &Refusing<Global>, n: u64) -> Option<bool> {
+    let program = program_of(memory)?;
+    memory.refuse(n);
+    let refused = is_refused(memory, Plans::make(memory, &program).is_err())?;
+    Plans::make(memory, &program).ok()?.plan(1, 1)?;
+    Some(refused)
 }

@@ -1,108 +1,48 @@
-//! Refusals of a store.
-use chr_store::store::{Label, Store, StoreFault};
-use chr_value::atom::{Atom, Value};
+//! A store.
+use crate::calls::is_refused;
+use chr_store::store::{Store, StoreFault};
+use chr_value::atom::Atom;
 use chr_value::names::Name;
 use refusing::Refusing;
-use std::alloc::Allocator;
-use std::test::Fail;
+use std::alloc::Global;
 
-// p(n), which takes no memory.
-fn p_of<A: Allocator + Copy>(alloc: A, n: u64) -> Atom<A> {
-    let mut atom = Atom::new(alloc, Name { number: 0 });
-    atom.push(Value::Int((n % 1_000_000) as i64));
-    atom
+/// An atom without arguments, which takes no memory.
+fn atom_of(memory: &Refusing<Global>, number: u32) -> Atom<&Refusing<Global>> {
+    Atom::new(memory, Name { number })
 }
 
-// Whether the store has p(1) under 1, p(2) under 2 and so on below `next`, and nothing else.
-fn holds_below<A: Allocator + Copy>(alloc: A, store: &Store<A>, next: Label) -> bool {
-    if store.next_label() != next || store.len() as u64 != next.saturating_sub(1) {
-        return false;
-    }
-    for (label, atom) in store.iter() {
-        if !atom.same(&p_of(alloc, *label)) {
-            return false;
+/// Inserts 40 atoms, each again where that fails.
+pub fn insert(memory: &Refusing<Global>, n: u64) -> Option<bool> {
+    let mut store = Store::new(memory, 40);
+    let mut fails = false;
+    memory.refuse(n);
+    for number in 0..40u32 {
+        if let Err(StoreFault::NoMemory(atom)) = store.insert(atom_of(memory, number)) {
+            fails = true;
+            store.insert(atom).ok()?;
         }
     }
-    true
-}
-
-// Enters p(label) under the next label, once more where it is refused. None where a refusal changed the store or gave
-// another atom back.
-fn entered<A: Allocator + Copy>(alloc: A, store: &mut Store<A>, label: Label) -> Option<Label> {
-    let back = match store.insert(p_of(alloc, label)) {
-        Ok(given) => return Some(given),
-        Err(StoreFault::LabelsSpent(_)) => return None,
-        Err(StoreFault::NoMemory(back)) => back,
-    };
-    if !holds_below(alloc, store, label) || !back.same(&p_of(alloc, label)) {
+    if store.len() != 40 {
         return None;
     }
-    match store.insert(back) {
-        Ok(given) => Some(given),
-        Err(_) => None,
-    }
+    is_refused(memory, fails)
 }
 
-// A store of p(1) to p(40).
-fn filled<A: Allocator + Copy>(alloc: A) -> Option<Store<A>> {
-    let mut store = Store::new(alloc, 40);
-    for label in 1..41u64 {
-        if entered(alloc, &mut store, label) != Some(label) {
-            return None;
-        }
+/// A store of 40 atoms.
+fn store_of(memory: &Refusing<Global>) -> Option<Store<&Refusing<Global>>> {
+    let mut store = Store::new(memory, 40);
+    for number in 0..40u32 {
+        store.insert(atom_of(memory, number)).ok()?;
     }
     Some(store)
 }
 
-#[test]
-fn a_constraint_is_entered_or_the_store_is_as_before(rt: HostRuntime) -> Result<(), Fail> {
-    let mut refusals = 0u64;
-    for n in 1..100u64 {
-        let memory = Refusing::new(rt.alloc(), n);
-        let store = filled(&memory).ok_or("filled")?;
-        assert!(rt; holds_below(&memory, &store, 41), "request {n}");
-        if !memory.was_refused() {
-            break;
-        }
-        refusals = n;
+pub fn copy(memory: &Refusing<Global>, n: u64) -> Option<bool> {
+    let store = store_of(memory)?;
+    memory.refuse(n);
+    let refused = is_refused(memory, store.copy(memory).is_err())?;
+    if store.copy(memory).ok()?.len() != 40 {
+        return None;
     }
-    assert!(rt; 2 < refusals);
-    Ok(())
-}
-
-#[test]
-fn a_store_is_copied_or_not_at_all(rt: HostRuntime) -> Result<(), Fail> {
-    let mut refusals = 0u64;
-    for n in 1..100u64 {
-        let memory = Refusing::new(rt.alloc(), 0);
-        let store = filled(&memory).ok_or("filled")?;
-        memory.refuse(n);
-        let answer = store.copy(&memory);
-        assert_eq!(rt; answer.is_err(), memory.was_refused(), "request {n}");
-        assert!(rt; holds_below(&memory, &store, 41), "request {n}");
-        let Err(_) = answer else {
-            break;
-        };
-        refusals = n;
-        let copy = store.copy(&memory)?;
-        assert!(rt; holds_below(&memory, &copy, 41), "request {n}");
-    }
-    assert!(rt; 2 < refusals);
-    Ok(())
-}
-
-#[test]
-fn removing_and_finding_take_no_memory(rt: HostRuntime) -> Result<(), Fail> {
-    let memory = Refusing::new(rt.alloc(), 0);
-    let mut store = filled(&memory).ok_or("filled")?;
-    let before = memory.requests();
-    for label in 1..41u64 {
-        let pred = p_of(&memory, label).pred();
-        assert_eq!(rt; store.next_at(pred, None, 0, 41), Some(label));
-        assert!(rt; store.get(label).is_some());
-        assert!(rt; store.remove(label).is_some());
-    }
-    assert_eq!(rt; store.len(), 0);
-    assert_eq!(rt; memory.requests(), before);
-    Ok(())
+    Some(refused)
 }
