@@ -11,28 +11,29 @@ pub enum Request<'a> {
     Run { file: &'a str, posts: &'a str },
 }
 
-/// A word that must be there.
-fn word<'a>(alloc: Global, name: &'a str, help: &'a str) -> Arg<'a> {
+/// Returns an argument that must be given.
+fn required<'a>(alloc: Global, name: &'a str, help: &'a str) -> Arg<'a> {
     Arg::new(alloc, name)
         .required(true)
         .action(ArgAction::Set)
         .help(help)
 }
 
-/// What the program understands.
+/// Returns the commands of the program with their arguments.
 fn command<'a>(alloc: Global) -> Result<Command<'a>, AllocError> {
     let run = Command::new(alloc, "run")
         .about("Runs rules on posted constraints, and prints the store and the log")
-        .arg(word(alloc, "FILE", "The rules"))?
-        .arg(word(alloc, "POSTS", "The constraints to post"))?;
+        .arg(required(alloc, "FILE", "The rules"))?
+        .arg(required(alloc, "POSTS", "The constraints to post"))?;
     Command::new(alloc, "chr")
         .about("Runs Constraint Handling Rules, and logs each activation, firing and drop")
         .subcommand_required(true)
         .subcommand(run)
 }
 
-/// Reads the words of a command line, the program's own name first. Help that is asked for comes as an error too, whose
-/// exit code is 0 and which belongs on standard output.
+/// Reads the words of a command line, the program's own name first.
+///
+/// Help that is asked for is an `Err` too, with exit code 0; it is printed to standard output.
 pub fn read<'a, S: AsStr>(alloc: Global, words: &'a [S]) -> Result<Request<'a>, Error> {
     let mut command = command(alloc)?;
     let matches = command.try_get_matches_from_mut(words)?;
@@ -54,12 +55,12 @@ mod tests {
     fn two_files_to_run(rt: HostRuntime) {
         let words = ["chr", "run", "rules", "posts"];
         match read(rt.alloc(), &words) {
-            Ok(order) => {
+            Ok(request) => {
                 let wanted = Request::Run {
                     file: "rules",
                     posts: "posts",
                 };
-                assert!(rt; order == wanted);
+                assert!(rt; request == wanted);
             }
             Err(_) => assert!(rt; false),
         }

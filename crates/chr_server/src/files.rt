@@ -1,4 +1,4 @@
-//! Fetching files.
+//! Reading files.
 ghost use Rattle.std.specs.Prelude.{IfOk, ◌≤◌, ◌+◌, length};
 
 use std::alloc::Allocator;
@@ -6,7 +6,7 @@ use std::fs::File;
 use std::io::{self, Read};
 use std::rt::Files;
 
-/// The bytes of a file, at most one more than `most`, so that its reader sees where it is too long.
+/// Returns the bytes of a file, but no more than `most` and one, which is enough to see that a file is too long.
 pub fn fetch<R: Files + Alloc>(rt: &R, path: &str, most: u64) -> io::Result<Vec<u8, R::A>> {
     let mut bytes = Vec::new(rt.alloc());
     let file = File::open(rt, path)?;

@@ -1,22 +1,25 @@
-//! The program `chr`: rules and constraints from files, the store and its log on standard output.
+//! The program `chr`: runs Constraint Handling Rules on constraints, both from files, and prints the store and the log.
 //!
-//! `chr run FILE POSTS` runs the rules of FILE on the constraints of POSTS. The statuses: 0 where no goal is left open,
-//! 1 for a fault in a text, 2 for the command line or a file, 3 where goals are left open, 5 for want of memory.
+//! `chr run FILE POSTS` posts the constraints of POSTS and runs the rules of FILE on them. The exit status is 0 where no
+//! goal is open at the end, 1 for a fault in a text, 2 for a wrong command line or a file that can't be read, 3 where
+//! goals are open at the end, and 5 where memory is refused.
 #![tactic(auto)]
 
 mod command_line;
-mod complaint;
 mod files;
 pub mod first;
+mod message;
 mod run;
 
 use clap::error::ErrorKind;
 use command_line::Request;
+use message::Detail;
 use run::Status;
+use std::env;
+use std::io::{self, IsTerminal};
 use std::process::ExitCode;
-use std::{env, io};
 
-/// The words of the command line, the program's own name first.
+/// Returns the words of the command line, the program's own name first.
 fn words(rt: &HostRuntime) -> io::Result<Vec<String>> {
     let mut words = Vec::new(rt.alloc());
     for word in env::args(rt)? {
@@ -25,12 +28,13 @@ fn words(rt: &HostRuntime) -> io::Result<Vec<String>> {
     Ok(words)
 }
 
-/// Tells of a mistake in the command line, or gives the help that was asked for.
-fn told(rt: &HostRuntime, error: &clap::Error) -> Status {
-    let printed = error.print(rt);
+/// Prints the help that was asked for, or what is wrong with the command line.
+fn print_usage(rt: &HostRuntime, detail: Detail, error: &clap::Error) -> Status {
     if error.kind() == ErrorKind::OutOfMemory {
-        Status::NoMemory
-    } else if printed.is_ok() && error.exit_code() == 0 {
+        return run::report_no_memory(rt, detail);
+    }
+    let printed = error.print(rt);
+    if printed.is_ok() && error.exit_code() == 0 {
         Status::Done
     } else {
         Status::Usage
@@ -38,13 +42,18 @@ fn told(rt: &HostRuntime, error: &clap::Error) -> Status {
 }
 
 fn main(rt: HostRuntime) -> ExitCode {
+    let detail = if rt.stderr().is_terminal() {
+        Detail::Explained
+    } else {
+        Detail::Line
+    };
     let words = match words(&rt) {
         Ok(words) => words,
-        Err(error) => return run::failed(&rt, "the command line", &error).code(),
+        Err(error) => return run::report_failure(&rt, detail, "the command line", &error).code(),
     };
     let status = match command_line::read(rt.alloc(), words.as_slice()) {
-        Ok(Request::Run { file, posts }) => run::run(&rt, file, posts),
-        Err(error) => told(&rt, &error),
+        Ok(Request::Run { file, posts }) => run::run(&rt, detail, file, posts),
+        Err(error) => print_usage(&rt, detail, &error),
     };
     status.code()
 }

@@ -1,36 +1,36 @@
 //! `chr run`.
-use crate::complaint::complaint;
 use crate::files::fetch;
 use crate::first::{End, FirstFault, first_run};
+use crate::message::{Detail, NO_MEMORY_MEANS, Source, Text, message};
 use chr_lex::fault::ReadFault;
 use std::alloc::AllocError;
 use std::io::{self, Write};
 use std::process::ExitCode;
 use std::rt::Files;
 
-/// How many bytes a text of rules or of posts may have.
+/// The limit on the bytes of a program and of posts.
 const MOST_TEXT: u64 = 65_536;
 
-/// How many steps a run makes.
+/// The limit on the steps of a run.
 const STEPS: u64 = 1_000_000;
 
 /// How the program ends.
 #[derive(Clone, Copy, Debug, PartialEq, Eq)]
 pub enum Status {
-    /// A run that is quiet, or help that was asked for.
+    /// No goal is open at the end of the run, or help was asked for.
     Done,
-    /// A fault in a text.
+    /// A text has a fault.
     Fault,
-    /// The command line, a file or an end of output that failed.
+    /// The command line is wrong, or a file or standard output failed.
     Usage,
-    /// A run that leaves goals open.
+    /// Goals are open at the end of the run.
     Open,
-    /// Want of memory (E01).
+    /// The system refused memory (E01).
     NoMemory,
 }
 
 impl Status {
-    /// The exit status.
+    /// Returns the exit status.
     pub fn code(self) -> ExitCode {
         ExitCode::from(match self {
             Status::Done => 0,
@@ -42,70 +42,103 @@ impl Status {
     }
 }
 
-/// Tells that memory was refused.
-fn no_memory(rt: &impl Eprint) -> Status {
+/// Writes E01 to standard error.
+pub fn report_no_memory(rt: &impl Eprint, detail: Detail) -> Status {
     let _ = eprintln!(rt; "chr: E01 NoMemory");
+    if detail == Detail::Explained {
+        let _ = eprintln!(rt; "{NO_MEMORY_MEANS}");
+    }
     Status::NoMemory
 }
 
-/// Tells what the system said of a file.
-pub fn failed(rt: &impl Eprint, what: &str, error: &io::Error) -> Status {
+/// Writes to standard error what failed, as the path of a file, and the system's error.
+pub fn report_failure(rt: &impl Eprint, detail: Detail, what: &str, error: &io::Error) -> Status {
     if error.kind() == io::ErrorKind::OutOfMemory {
-        return no_memory(rt);
+        return report_no_memory(rt, detail);
     }
     let _ = eprintln!(rt; "chr: {what}: {error}");
     Status::Usage
 }
 
-/// Tells of a fault in a text, with its place and the text there.
-fn at_fault<R: Eprint + AllocGlobal>(
+/// Writes a text's fault to standard error.
+fn report_fault<R: Eprint + AllocGlobal>(
     rt: &R,
-    what: &str,
-    path: &str,
-    text: &[u8],
+    detail: Detail,
+    source: Source<'_>,
     fault: ReadFault,
 ) -> Status {
-    match complaint(rt.alloc(), what, path, text, fault) {
-        Ok(said) => {
-            let _ = eprint!(rt; "{said}");
+    match message(rt.alloc(), detail, source, fault) {
+        Ok(message) => {
+            let _ = eprint!(rt; "{message}");
             Status::Fault
         }
-        Err(AllocError) => no_memory(rt),
+        Err(AllocError) => report_no_memory(rt, detail),
     }
 }
 
-/// Runs the rules of a file on the constraints of another, and prints the store and the log. On a fault nothing goes to
-/// standard output.
-pub fn run<R: Files + Print + Eprint + AllocGlobal>(rt: &R, file: &str, posts: &str) -> Status {
+/// Writes what a run gives to standard output.
+fn print(rt: &(impl Print + Eprint), detail: Detail, bytes: &[u8], end: End) -> Status {
+    match io::writer(rt).write_all(bytes) {
+        Ok(()) => match end {
+            End::Quiet => Status::Done,
+            End::Open => Status::Open,
+        },
+        Err(error) => report_failure(rt, detail, "standard output", &error),
+    }
+}
+
+/// Runs the rules of the file `file` on the constraints of the file `posts`, and writes the store and the log to
+/// standard output. After a fault nothing is written there.
+pub fn run<R: Files + Print + Eprint + AllocGlobal>(
+    rt: &R,
+    detail: Detail,
+    file: &str,
+    posts: &str,
+) -> Status {
     let program = match fetch(rt, file, MOST_TEXT) {
         Ok(bytes) => bytes,
-        Err(error) => return failed(rt, file, &error),
+        Err(error) => return report_failure(rt, detail, file, &error),
     };
     let posted = match fetch(rt, posts, MOST_TEXT) {
         Ok(bytes) => bytes,
-        Err(error) => return failed(rt, posts, &error),
+        Err(error) => return report_failure(rt, detail, posts, &error),
     };
     match first_run(rt.alloc(), &program, &posted, STEPS) {
-        Ok(first) => match io::writer(rt).write_all(&first.bytes) {
-            Ok(()) => match first.end {
-                End::Quiet => Status::Done,
-                End::Open => Status::Open,
-            },
-            Err(error) => failed(rt, "standard output", &error),
-        },
-        Err(FirstFault::Program(fault)) => at_fault(rt, "program", file, &program, fault),
-        Err(FirstFault::Posts(fault)) => at_fault(rt, "posts", posts, &posted, fault),
-        Err(FirstFault::Memory) => no_memory(rt),
+        Ok(first) => print(rt, detail, &first.bytes, first.end),
+        Err(FirstFault::Program(fault)) => {
+            let source = Source {
+                text: Text::Program,
+                path: file,
+                bytes: &program,
+            };
+            report_fault(rt, detail, source, fault)
+        }
+        Err(FirstFault::Posts(fault)) => {
+            let source = Source {
+                text: Text::Posts,
+                path: posts,
+                bytes: &posted,
+            };
+            report_fault(rt, detail, source, fault)
+        }
+        Err(FirstFault::Memory) => report_no_memory(rt, detail),
     }
 }
 
 #[cfg(test)]
 mod tests {
     use super::{Status, run};
+    use crate::message::Detail;
     use std::test::*;
 
     #[test]
     fn a_file_that_is_not_there(rt: HostRuntime) {
-        assert!(rt; run(&rt, "there-is-no-such-file.chr", "nor-this.txt") == Status::Usage);
+        let status = run(
+            &rt,
+            Detail::Line,
+            "there-is-no-such-file.chr",
+            "nor-this.txt",
+        );
+        assert!(rt; status == Status::Usage);
     }
 }
