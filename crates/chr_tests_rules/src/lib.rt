@@ -1,18 +1,13 @@
-//! Tests of the parts that rules and runs are made of: values, rules, guards, join plans, the store and logs.
+//! Tests of rules, of join plans and of the store.
 //!
-//! What each call answers is proved. The tests compare the definitions with worked values from outside, and show that
-//! the calls succeed where memory is left, which no clause says: each public call is made once at least.
+//! What each call answers is proved. The tests compare its definition with worked values from outside, from both sides
+//! of each limit, and show that the calls succeed where memory is left, which no clause says. Values, atoms, guards and
+//! logs are compared with worked values by the tests of texts and of whole runs.
 #![tactic(auto)]
 
-#[cfg(test)]
-mod guards;
-#[cfg(test)]
-mod logs;
 #[cfg(test)]
 mod plans;
 #[cfg(test)]
 mod rules;
 #[cfg(test)]
 mod store;
-#[cfg(test)]
-mod values;
