@@ -1,6 +1,4 @@
 //! Reading files.
-ghost use Rattle.std.specs.Prelude.{IfOk, ◌≤◌, ◌+◌, length};
-
 use std::alloc::Allocator;
 use std::fs::File;
 use std::io::{self, Read};
