@@ -39,11 +39,18 @@ pub struct Source<'a> {
     pub bytes: &'a [u8],
 }
 
-/// What want of memory (E01) means.
-pub const NO_MEMORY_MEANS: &str = "The system refused the memory that the program asked for.";
+/// Returns what standard error says where memory is refused (E01).
+pub fn no_memory_message(detail: Detail) -> &'static str {
+    match detail {
+        Detail::Line => "chr: E01 NoMemory\n",
+        Detail::Explained => {
+            "chr: E01 NoMemory\nThe system refused the memory that the program asked for.\n"
+        }
+    }
+}
 
-/// What a fault of a text means: what is wrong, and what is allowed.
-pub fn meaning(text: Text, kind: Kind) -> &'static str {
+/// Returns what a fault of a text means: what is wrong, and what is allowed.
+fn meaning(text: Text, kind: Kind) -> &'static str {
     match (kind, text) {
         (Kind::TooLong, _) => "The text is longer than 65,536 bytes, which is the limit.",
         (Kind::BadByte, _) => {
@@ -92,12 +99,12 @@ fn line_of(text: &[u8], number: u32) -> &[u8] {
     }
 }
 
-/// Returns the character that stands for a byte: `?` for what can't be printed.
+/// Returns the character that stands for a byte: a blank for layout, `?` for what else can't be printed.
 fn shown(b: u8) -> char {
-    if (0x20..=0x7e).contains(&b) {
-        char::from(b)
-    } else {
-        '?'
+    match b {
+        b'\t' | b'\r' => ' ',
+        0x20..=0x7e => char::from(b),
+        _ => '?',
     }
 }
 
@@ -139,7 +146,7 @@ pub fn message<A: Allocator + Copy>(
 
 #[cfg(test)]
 mod tests {
-    use super::{Detail, Source, Text, message};
+    use super::{Detail, Source, Text, message, no_memory_message};
     use chr_lex::fault::{Kind, ReadFault};
     use std::test::Fail;
 
@@ -212,6 +219,10 @@ mod tests {
             let want = format!(in rt.alloc(); "{want} --> f\n")?;
             assert_eq!(rt; full.as_str(), want.as_str());
         }
+        assert_eq!(rt; no_memory_message(Detail::Line), "chr: E01 NoMemory\n");
+        let full = no_memory_message(Detail::Explained);
+        let want = "chr: E01 NoMemory\nThe system refused the memory that the program asked for.\n";
+        assert_eq!(rt; full, want);
         Ok(())
     }
 
@@ -220,13 +231,13 @@ mod tests {
         let source = Source {
             text: Text::Posts,
             path: "f",
-            bytes: b"a <=> b.\n\n  p(X) <=> q(Y). % \xff\nlast",
+            bytes: b"a <=> b.\r\n\n\tp(X) <=> q(Y). % \xff\nlast",
         };
         for (line, place) in [
             (0, "\n"),
-            (1, ":1\n1 | a <=> b.\n"),
+            (1, ":1\n1 | a <=> b. \n"),
             (2, ":2\n2 | \n"),
-            (3, ":3\n3 |   p(X) <=> q(Y). % ?\n"),
+            (3, ":3\n3 |  p(X) <=> q(Y). % ?\n"),
             (4, ":4\n4 | last\n"),
         ] {
             let fault = ReadFault {

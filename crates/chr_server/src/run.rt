@@ -1,7 +1,7 @@
 //! `chr run`.
 use crate::files::fetch;
 use crate::first::{End, FirstFault, first_run};
-use crate::message::{Detail, NO_MEMORY_MEANS, Source, Text, message};
+use crate::message::{Detail, Source, Text, message, no_memory_message};
 use chr_lex::fault::ReadFault;
 use std::alloc::AllocError;
 use std::io::{self, Write};
@@ -44,10 +44,7 @@ impl Status {
 
 /// Writes E01 to standard error.
 pub fn report_no_memory(rt: &impl Eprint, detail: Detail) -> Status {
-    let _ = eprintln!(rt; "chr: E01 NoMemory");
-    if detail == Detail::Explained {
-        let _ = eprintln!(rt; "{NO_MEMORY_MEANS}");
-    }
+    let _ = eprint!(rt; "{}", no_memory_message(detail));
     Status::NoMemory
 }
 
