@@ -23,7 +23,7 @@ use chr_lex::fault::{ItemError, Kind};
 use std::alloc::Allocator;
 
 fn any_out_of_range(all: &[Declared]) -> bool
-    ensures { result ≡ list_any (λ d. is_out_of_range (Number false d.digits)) (map text.declared all.now) }
+    ensures { result ≡ list_any (λ d. is_out_of_range (Number false d.digits)) (map by_texts.declared all.now) }
 {
     for declared in all {
         if int(false, declared.digits).is_none() {
@@ -34,7 +34,7 @@ fn any_out_of_range(all: &[Declared]) -> bool
 }
 
 fn any_long(all: &[Declared]) -> bool
-    ensures { result ≡ list_any (λ d. is_long (Name d.name)) (map text.declared all.now) }
+    ensures { result ≡ list_any (λ d. is_long (Name d.name)) (map by_texts.declared all.now) }
 {
     for declared in all {
         if declared.name.len() > MOST_NAME {
@@ -45,7 +45,7 @@ fn any_long(all: &[Declared]) -> bool
 }
 
 fn is_too_large<A: Allocator>(rule: &ParsedRule<'_, A>) -> bool
-    ensures { result ≡ is_too_large (text.raw_rule rule.now) }
+    ensures { result ≡ is_too_large (by_texts.raw_rule rule.now) }
 {
     if rule_has(Unfit::TooLong, rule) || has_wide_atom(rule) || has_many_heads(rule) {
         return true;
@@ -64,7 +64,7 @@ fn is_too_large<A: Allocator>(rule: &ParsedRule<'_, A>) -> bool
 /// The fault is the first of these: a number outside the range of 64 bits with sign (E06), a name of more than 64 bytes
 /// (E07).
 pub fn judge_declaration(all: &[Declared]) -> Result<(), ItemError>
-    ensures judged { Gives (λ u. u) result (declaration_judged (map text.declared all.now)) }
+    ensures judged { Gives (λ u. u) result (declaration_judged (map by_texts.declared all.now)) }
     ensures no_memory { IfErr result (λ e. e ≢ Memory) }
 {
     if any_out_of_range(all) {
@@ -82,7 +82,7 @@ pub fn judge_declaration(all: &[Declared]) -> Result<(), ItemError>
 /// (E06), the program is full or something is too long or too many (E07), a variable is used where it has no value or
 /// gets a second one (E08).
 pub fn judge_rule<A: Allocator>(full: bool, rule: &ParsedRule<'_, A>) -> Result<(), ItemError>
-    ensures judged { Gives (λ u. u) result (rule_judged full (text.raw_rule rule.now)) }
+    ensures judged { Gives (λ u. u) result (rule_judged full (by_texts.raw_rule rule.now)) }
     ensures no_memory { IfErr result (λ e. e ≢ Memory) }
 {
     if rule.heads.removed.is_empty() {
@@ -105,7 +105,7 @@ pub fn judge_rule<A: Allocator>(full: bool, rule: &ParsedRule<'_, A>) -> Result<
 /// The fault is the first of these: a number outside the range of 64 bits with sign (E06), a name of more than 64 bytes
 /// or an atom with more than 8 arguments (E07), a variable (E08).
 pub fn judge_post<A: Allocator>(phrases: &[ParsedAtom<'_, A>]) -> Result<(), ItemError>
-    ensures judged { Gives (λ u. u) result (post_judged (map text.phrase phrases.now)) }
+    ensures judged { Gives (λ u. u) result (post_judged (map by_texts.phrase phrases.now)) }
     ensures no_memory { IfErr result (λ e. e ≢ Memory) }
 {
     if phrases_have(Unfit::OutOfRange, phrases) {

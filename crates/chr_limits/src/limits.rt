@@ -65,7 +65,7 @@ fn any_word(unfit: Unfit, terms: &[Word]) -> bool
 }
 
 fn tree_has<A: Allocator>(unfit: Unfit, tree: &ParsedExpression<'_, A>) -> bool
-    ensures { result ≡ formula_has (is_unfit unfit) (text.formula tree.now) }
+    ensures { result ≡ formula_has (is_unfit unfit) (by_texts.formula tree.now) }
 {
     match tree {
         ParsedExpression::Number { negative, digits } => is_unfit(
@@ -82,14 +82,14 @@ fn tree_has<A: Allocator>(unfit: Unfit, tree: &ParsedExpression<'_, A>) -> bool
 }
 
 fn phrase_has<A: Allocator>(unfit: Unfit, phrase: &ParsedAtom<'_, A>) -> bool
-    ensures { result ≡ phrase_has (is_unfit unfit) (text.phrase phrase.now) }
+    ensures { result ≡ phrase_has (is_unfit unfit) (by_texts.phrase phrase.now) }
 {
     is_unfit(unfit, Word::Name(phrase.name)) || any_word(unfit, &phrase.args)
 }
 
 /// Whether a word of some atoms is unfit.
 pub fn phrases_have<A: Allocator>(unfit: Unfit, phrases: &[ParsedAtom<'_, A>]) -> bool
-    ensures { result ≡ list_any (phrase_has (is_unfit unfit)) (map text.phrase phrases.now) }
+    ensures { result ≡ list_any (phrase_has (is_unfit unfit)) (map by_texts.phrase phrases.now) }
 {
     for phrase in phrases {
         if phrase_has(unfit, phrase) {
@@ -100,7 +100,7 @@ pub fn phrases_have<A: Allocator>(unfit: Unfit, phrases: &[ParsedAtom<'_, A>]) -
 }
 
 fn test_has<A: Allocator>(unfit: Unfit, test: &GuardMember<'_, A>) -> bool
-    ensures { result ≡ test_has (is_unfit unfit) (text.test test.now) }
+    ensures { result ≡ test_has (is_unfit unfit) (by_texts.test test.now) }
 {
     match test {
         GuardMember::True => false,
@@ -111,7 +111,7 @@ fn test_has<A: Allocator>(unfit: Unfit, test: &GuardMember<'_, A>) -> bool
 }
 
 fn member_has<A: Allocator>(unfit: Unfit, member: &BodyMember<'_, A>) -> bool
-    ensures { result ≡ member_has (is_unfit unfit) (text.member member.now) }
+    ensures { result ≡ member_has (is_unfit unfit) (by_texts.member member.now) }
 {
     match member {
         BodyMember::True => false,
@@ -132,7 +132,7 @@ fn rule_name_has(unfit: Unfit, rule_name: Option<&[u8]>) -> bool
 }
 
 fn guard_has<A: Allocator>(unfit: Unfit, guard: &[GuardMember<'_, A>]) -> bool
-    ensures { result ≡ list_any (test_has (is_unfit unfit)) (map text.test guard.now) }
+    ensures { result ≡ list_any (test_has (is_unfit unfit)) (map by_texts.test guard.now) }
 {
     for test in guard {
         if test_has(unfit, test) {
@@ -143,7 +143,7 @@ fn guard_has<A: Allocator>(unfit: Unfit, guard: &[GuardMember<'_, A>]) -> bool
 }
 
 fn body_has<A: Allocator>(unfit: Unfit, body: &[BodyMember<'_, A>]) -> bool
-    ensures { result ≡ list_any (member_has (is_unfit unfit)) (map text.member body.now) }
+    ensures { result ≡ list_any (member_has (is_unfit unfit)) (map by_texts.member body.now) }
 {
     for member in body {
         if member_has(unfit, member) {
@@ -155,7 +155,7 @@ fn body_has<A: Allocator>(unfit: Unfit, body: &[BodyMember<'_, A>]) -> bool
 
 /// Whether a name, a variable or a number of a rule is unfit.
 pub fn rule_has<A: Allocator>(unfit: Unfit, rule: &ParsedRule<'_, A>) -> bool
-    ensures { result ≡ rule_has (is_unfit unfit) (text.raw_rule rule.now) }
+    ensures { result ≡ rule_has (is_unfit unfit) (by_texts.raw_rule rule.now) }
 {
     rule_name_has(unfit, rule.rule_name)
         || phrases_have(unfit, &rule.heads.kept)
@@ -166,7 +166,7 @@ pub fn rule_has<A: Allocator>(unfit: Unfit, rule: &ParsedRule<'_, A>) -> bool
 
 /// Whether an atom has more than [`MOST_ARGS`] arguments.
 pub fn any_wide<A: Allocator>(phrases: &[ParsedAtom<'_, A>]) -> bool
-    ensures { result ≡ list_any has_many_args (map text.phrase phrases.now) }
+    ensures { result ≡ list_any has_many_args (map by_texts.phrase phrases.now) }
 {
     for phrase in phrases {
         if phrase.args.len() > MOST_ARGS {
@@ -177,7 +177,7 @@ pub fn any_wide<A: Allocator>(phrases: &[ParsedAtom<'_, A>]) -> bool
 }
 
 fn adds_wide<A: Allocator>(body: &[BodyMember<'_, A>]) -> bool
-    ensures { result ≡ list_any adds_many_args (map text.member body.now) }
+    ensures { result ≡ list_any adds_many_args (map by_texts.member body.now) }
 {
     for member in body {
         if let BodyMember::Add(phrase) = member {
@@ -191,14 +191,14 @@ fn adds_wide<A: Allocator>(body: &[BodyMember<'_, A>]) -> bool
 
 /// Whether an atom of a rule has more than [`MOST_ARGS`] arguments.
 pub fn has_wide_atom<A: Allocator>(rule: &ParsedRule<'_, A>) -> bool
-    ensures { result ≡ has_wide_atom (text.raw_rule rule.now) }
+    ensures { result ≡ has_wide_atom (by_texts.raw_rule rule.now) }
 {
     any_wide(&rule.heads.kept) || any_wide(&rule.heads.removed) || adds_wide(&rule.consequence.body)
 }
 
 /// Whether a rule has more than [`MOST_HEADS`] heads.
 pub fn has_many_heads<A: Allocator>(rule: &ParsedRule<'_, A>) -> bool
-    ensures { result ≡ nat_lt 6 (length (text.raw_rule rule.now).kept + length (text.raw_rule rule.now).removed) }
+    ensures { result ≡ nat_lt 6 (length (by_texts.raw_rule rule.now).kept + length (by_texts.raw_rule rule.now).removed) }
 {
     let kept = rule.heads.kept.len();
     kept > MOST_HEADS || rule.heads.removed.len() > MOST_HEADS - kept
@@ -206,7 +206,7 @@ pub fn has_many_heads<A: Allocator>(rule: &ParsedRule<'_, A>) -> bool
 
 /// How many members of a guard are comparisons.
 pub fn count_comparisons<A: Allocator>(guard: &[GuardMember<'_, A>]) -> usize
-    ensures { result ≡ length (filter is_comparison (map text.test guard.now)) }
+    ensures { result ≡ length (filter is_comparison (map by_texts.test guard.now)) }
 {
     let mut count = 0;
     for test in guard {
@@ -219,7 +219,7 @@ pub fn count_comparisons<A: Allocator>(guard: &[GuardMember<'_, A>]) -> usize
 
 /// How many members of a body are more than `true`.
 pub fn count_items<A: Allocator>(body: &[BodyMember<'_, A>]) -> usize
-    ensures { result ≡ length (filter is_item (map text.member body.now)) }
+    ensures { result ≡ length (filter is_item (map by_texts.member body.now)) }
 {
     let mut count = 0;
     for member in body {

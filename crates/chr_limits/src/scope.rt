@@ -36,7 +36,7 @@ fn are_terms_seen(seen: &[&[u8]], terms: &[Word]) -> bool
 }
 
 fn is_tree_seen<A: Allocator>(seen: &[&[u8]], tree: &ParsedExpression<'_, A>) -> bool
-    ensures { result ≡ are_seen (names seen.now) (formula_variables (text.formula tree.now)) }
+    ensures { result ≡ are_seen (names seen.now) (formula_variables (by_texts.formula tree.now)) }
 {
     match tree {
         ParsedExpression::Number { .. } => true,
@@ -47,7 +47,7 @@ fn is_tree_seen<A: Allocator>(seen: &[&[u8]], tree: &ParsedExpression<'_, A>) ->
 }
 
 fn is_test_seen<A: Allocator>(seen: &[&[u8]], test: &GuardMember<'_, A>) -> bool
-    ensures { result ≡ are_seen (names seen.now) (test_variables (text.test test.now)) }
+    ensures { result ≡ are_seen (names seen.now) (test_variables (by_texts.test test.now)) }
 {
     match test {
         GuardMember::True => true,
@@ -58,7 +58,7 @@ fn is_test_seen<A: Allocator>(seen: &[&[u8]], test: &GuardMember<'_, A>) -> bool
 }
 
 fn is_guard_seen<A: Allocator>(seen: &[&[u8]], guard: &[GuardMember<'_, A>]) -> bool
-    ensures { result ≡ are_seen (names seen.now) (flat_map test_variables (map text.test guard.now)) }
+    ensures { result ≡ are_seen (names seen.now) (flat_map test_variables (map by_texts.test guard.now)) }
 {
     for test in guard {
         if !is_test_seen(seen, test) {
@@ -70,8 +70,8 @@ fn is_guard_seen<A: Allocator>(seen: &[&[u8]], guard: &[GuardMember<'_, A>]) -> 
 
 /// Whether each variable of a body has a value where it is used, if those of `seen` have one.
 fn is_body_in_scope<'a, A: Allocator>(mut seen: Seen<'a>, body: &[BodyMember<'a, A>]) -> bool
-    requires { length (seen_from (names seen.items) (flat_map member_variables (map text.member body.now))) ≤ 24 }
-    ensures { result ≡ body_in_scope (names seen.entry.items) (map text.member body.now) }
+    requires { length (seen_from (names seen.items) (flat_map member_variables (map by_texts.member body.now))) ≤ 24 }
+    ensures { result ≡ body_in_scope (names seen.entry.items) (map by_texts.member body.now) }
 {
     for member in body {
         match member {
@@ -94,8 +94,8 @@ fn is_body_in_scope<'a, A: Allocator>(mut seen: Seen<'a>, body: &[BodyMember<'a,
 
 /// Whether each variable of a rule has a value where it is used, and none gets a second one.
 pub fn is_in_scope<A: Allocator>(rule: &ParsedRule<'_, A>) -> bool
-    requires { length (seen (variables_of (text.raw_rule rule.now))) ≤ 24 }
-    ensures { result ≡ is_in_scope (text.raw_rule rule.now) }
+    requires { length (seen (variables_of (by_texts.raw_rule rule.now))) ≤ 24 }
+    ensures { result ≡ is_in_scope (by_texts.raw_rule rule.now) }
 {
     let Some(seen) = head_variables(rule) else {
         return false;

@@ -77,7 +77,7 @@ fn meet_terms<'a>(seen: &mut Seen<'a>, terms: &[Word<'a>]) -> Option<()>
 
 #[tactic(auto, using(crate::proofs::Meeting::met_from_append, crate::proofs::Meeting::short_more))]
 fn meet_tree<'a, A: Allocator>(seen: &mut Seen<'a>, tree: &ParsedExpression<'a, A>) -> Option<()>
-    ensures { Sees result seen.old.items seen.new.items (formula_variables (text.formula tree.now)) }
+    ensures { Sees result seen.old.items seen.new.items (formula_variables (by_texts.formula tree.now)) }
 {
     match tree {
         ParsedExpression::Number { .. } => Some(()),
@@ -91,7 +91,7 @@ fn meet_tree<'a, A: Allocator>(seen: &mut Seen<'a>, tree: &ParsedExpression<'a, 
 }
 
 fn meet_phrases<'a, A: Allocator>(seen: &mut Seen<'a>, phrases: &[ParsedAtom<'a, A>]) -> Option<()>
-    ensures { Sees result seen.old.items seen.new.items (flat_map phrase_variables (map text.phrase phrases.now)) }
+    ensures { Sees result seen.old.items seen.new.items (flat_map phrase_variables (map by_texts.phrase phrases.now)) }
 {
     for phrase in phrases {
         meet_terms(seen, &phrase.args)?;
@@ -101,7 +101,7 @@ fn meet_phrases<'a, A: Allocator>(seen: &mut Seen<'a>, phrases: &[ParsedAtom<'a,
 
 #[tactic(auto, using(crate::proofs::Meeting::met_from_append, crate::proofs::Meeting::short_more))]
 fn meet_test<'a, A: Allocator>(seen: &mut Seen<'a>, test: &GuardMember<'a, A>) -> Option<()>
-    ensures { Sees result seen.old.items seen.new.items (test_variables (text.test test.now)) }
+    ensures { Sees result seen.old.items seen.new.items (test_variables (by_texts.test test.now)) }
 {
     match test {
         GuardMember::True => Some(()),
@@ -121,7 +121,7 @@ fn meet_test<'a, A: Allocator>(seen: &mut Seen<'a>, test: &GuardMember<'a, A>) -
 }
 
 fn meet_tests<'a, A: Allocator>(seen: &mut Seen<'a>, tests: &[GuardMember<'a, A>]) -> Option<()>
-    ensures { Sees result seen.old.items seen.new.items (flat_map test_variables (map text.test tests.now)) }
+    ensures { Sees result seen.old.items seen.new.items (flat_map test_variables (map by_texts.test tests.now)) }
 {
     for test in tests {
         meet_test(seen, test)?;
@@ -131,7 +131,7 @@ fn meet_tests<'a, A: Allocator>(seen: &mut Seen<'a>, tests: &[GuardMember<'a, A>
 
 #[tactic(auto, using(crate::proofs::Meeting::short_first))]
 fn meet_member<'a, A: Allocator>(seen: &mut Seen<'a>, member: &BodyMember<'a, A>) -> Option<()>
-    ensures { Sees result seen.old.items seen.new.items (member_variables (text.member member.now)) }
+    ensures { Sees result seen.old.items seen.new.items (member_variables (by_texts.member member.now)) }
 {
     match member {
         BodyMember::True => Some(()),
@@ -144,7 +144,7 @@ fn meet_member<'a, A: Allocator>(seen: &mut Seen<'a>, member: &BodyMember<'a, A>
 }
 
 fn meet_members<'a, A: Allocator>(seen: &mut Seen<'a>, members: &[BodyMember<'a, A>]) -> Option<()>
-    ensures { Sees result seen.old.items seen.new.items (flat_map member_variables (map text.member members.now)) }
+    ensures { Sees result seen.old.items seen.new.items (flat_map member_variables (map by_texts.member members.now)) }
 {
     for member in members {
         meet_member(seen, member)?;
@@ -155,7 +155,7 @@ fn meet_members<'a, A: Allocator>(seen: &mut Seen<'a>, members: &[BodyMember<'a,
 /// The variables of the heads, or None where there are more than [`MOST_VARIABLES`].
 #[tactic(auto, using(crate::proofs::Meeting::met_from_append, crate::proofs::Meeting::short_more))]
 pub(crate) fn head_variables<'a, A: Allocator>(rule: &ParsedRule<'a, A>) -> Option<Seen<'a>>
-    ensures { MatchOption result (24 < length (seen (head_variables (text.raw_rule rule.now)))) (λ known. names known.items ≡ seen (head_variables (text.raw_rule rule.now))) }
+    ensures { MatchOption result (24 < length (seen (head_variables (by_texts.raw_rule rule.now)))) (λ known. names known.items ≡ seen (head_variables (by_texts.raw_rule rule.now))) }
 {
     let mut seen = Seen::new();
     meet_phrases(&mut seen, &rule.heads.kept)?;
@@ -166,7 +166,7 @@ pub(crate) fn head_variables<'a, A: Allocator>(rule: &ParsedRule<'a, A>) -> Opti
 /// Whether a rule has more than [`MOST_VARIABLES`] variables.
 #[tactic(auto, using(crate::proofs::Meeting::met_from_append, crate::proofs::Meeting::short_more))]
 pub(crate) fn has_many_variables<A: Allocator>(rule: &ParsedRule<'_, A>) -> bool
-    ensures { result ≡ nat_lt 24 (length (seen (variables_of (text.raw_rule rule.now)))) }
+    ensures { result ≡ nat_lt 24 (length (seen (variables_of (by_texts.raw_rule rule.now)))) }
 {
     let Some(mut seen) = head_variables(rule) else {
         return true;
