@@ -1,35 +1,47 @@
 -- Left sides of `is` bound one after another.
-use Rattle.std.proofs.Common.{◌≡◌, ℕ, suc, ◌+◌, ◌<◌, ◌≤◌, true, false, ◌==◌, ℤ, List, ◌∷◌, length, take, drop, get_or, Option, Some, None, refl, sym, subst, ap, ◌∙◌, arith, true-eqb}
+use Rattle.std.proofs.Common.{◌≡◌, ℕ, suc, ◌+◌, ◌<◌, ◌≤◌, true, ℤ, List, ◌∷◌, ◌++◌, length, take, drop, get_or, Option, Some, None, IsSome, ◌⊎◌, inl, inr, refl, sym, subst, ap, ◌∙◌, arith}
 use Rattle.std.specs.List.{AllByRecursion}
-use Rattle.std.proofs.lemmas.List.{drop_more, take_all}
-use Rattle.std.proofs.lemmas.Bool.Decides.{nat_tests}
+use Rattle.std.proofs.lemmas.List.{drop_more, drop_all, take_all}
+use Rattle.std.proofs.lemmas.Bool.{cases_lt, cases_eq}
 use Rattle.chr_value.specs.Atoms.{Value, Int}
 use Rattle.chr_rule.specs.Rules.{Expression, BodyItem, Is, Add, RuleAtom, Simpagation}
-use Rattle.chr_rule.specs.Scope.{known_behind_body, IsRule}
+use Rattle.chr_rule.specs.Scope.{known_behind_heads, known_behind_body, IsRule}
 use Rattle.chr_guard.specs.Values.{Valuation, value_of}
-use Rattle.chr_guard.specs.Bindings.{Extends, Narrows, NoneUnder, AreBound, holding}
+use Rattle.chr_guard.specs.Bindings.{bound_at, Extends, Narrows, NoneUnder}
 use Rattle.chr_guard.specs.Instances.{IsRight}
-use Rattle.chr_guard.specs.Matching.{HeadsBound}
+use Rattle.chr_guard.specs.Matching.{IsOfHeads, Completes, IsCompleted}
 use Rattle.chr_guard.proofs.Scoped.{some_same, scoped, is_known, add_known, body_below}
-use Rattle.chr_guard.proofs.Fixed.{value_agrees}
-use Rattle.chr_guard.proofs.Bindings.{narrows_nothing, settled_bound, bound_settled, holding_extends}
+use Rattle.chr_guard.proofs.Under.{value_grows}
+use Rattle.chr_guard.proofs.Fixed.{Agree, value_agrees}
+use Rattle.chr_guard.proofs.Bindings.{narrows_nothing, extends_itself, others_stay, bound_settled, stays_bound}
 use Rattle.chr_guard.proofs.Steps.{all_more, all_at}
-
-abbrev Right : List (BodyItem ℕ) → Valuation → Type 0
-Right ms v = AllByRecursion (IsRight v) ms
 
 -- the binding once the first i members are done
 pub record Completing (rule : Simpagation ℕ) (i : ℕ) (old new : List (Option (Value ℕ))) : Type 0 where
+  pub first : ℕ
+  pub of_heads : known_behind_heads 0 (rule.kept ++ rule.removed) ≡ Some first
   pub known : ℕ
+  pub later : first ≤ known
   pub rest : known_behind_body known (drop i rule.body) ≡ Some rule.variables
-  pub bound : AreBound known new
-  pub places : length new ≡ rule.variables
+  pub bound : (x : ℕ) → first ≤ x → x < known → IsSome (bound_at new x)
+  pub heads : (x : ℕ) → x < first → bound_at new x ≡ bound_at old x
+  pub places : rule.variables ≤ length new
   pub narrows : Narrows (λ v. AllByRecursion (IsRight v) (take i rule.body)) old new
 
-pub completing_start : (rule : Simpagation ℕ) (old : List (Option (Value ℕ))) → IsRule rule → length old ≡ rule.variables → HeadsBound rule old → Completing rule 0 old old
-completing_start rule old r len heads =
+pub completing_start : (rule : Simpagation ℕ) (old : List (Option (Value ℕ))) → IsRule rule → rule.variables ≤ length old → Completing rule 0 old old
+completing_start rule old r len =
     let s = scoped rule r in
-    record { known = s.bind_number; rest = s.body; bound = heads s.bind_number s.heads; places = len; narrows = narrows_nothing (λ v. AllByRecursion (IsRight v) (take 0 rule.body)) old (λ v. tt) }
+    record {
+      first = s.count;
+      of_heads = s.heads;
+      known = s.count;
+      later = omega arith;
+      rest = s.body;
+      bound = λ x from to. absurd (omega arith);
+      heads = λ x h. refl;
+      places = len;
+      narrows = narrows_nothing (λ v. AllByRecursion (IsRight v) (take 0 rule.body)) old (λ v. tt);
+    }
 
 module _ (rule : Simpagation ℕ) (i x : ℕ) (e : Expression) (old mid : List (Option (Value ℕ))) (within : i < length rule.body) (there : Is x e ≡ get_or rule.body i (Is x e)) (done : Completing rule i old mid) where
   next : drop i rule.body ≡ Is x e ∷ drop (i + 1) rule.body
@@ -39,68 +51,81 @@ module _ (rule : Simpagation ℕ) (i x : ℕ) (e : Expression) (old mid : List (
   turn = subst (λ ms. known_behind_body done.known ms ≡ Some rule.variables) next done.rest
 
   pub is_place : x < length mid
-  is_place = is_known done.known rule.variables x e (drop (i + 1) rule.body) turn (λ same _ later. let le : suc done.known ≤ rule.variables = body_below (suc done.known) rule.variables (drop (i + 1) rule.body) later in let len : length mid ≡ rule.variables = done.places in omega arith)
+  is_place = is_known done.known rule.variables x e (drop (i + 1) rule.body) turn (λ same _ later. let le : suc done.known ≤ rule.variables = body_below (suc done.known) rule.variables (drop (i + 1) rule.body) later in let len : rule.variables ≤ length mid = done.places in omega arith)
 
-  value_there : (v : Valuation) → Extends v mid → value_of v e ≡ value_of (holding mid) e
-  value_there v h =
+  parts : (v : Valuation) → Completes rule old v → Extends v mid × IsRight v (Is x e)
+  parts v c = let two = all_at (IsRight v) rule.body i (Is x e) within there c.right in ((done.narrows.exactly v).1 (c.extends, two.0), two.1)
+
+  agree : (v : Valuation) → Completes rule old v → Extends v mid → Agree v (bound_at mid) done.known
+  agree v c h y l = by_place (cases_lt y done.first)
+    where
+      by_place : (y < done.first) ⊎ (done.first ≤ y) → v y ≡ bound_at mid y
+      by_place (inl below) = c.heads y (done.first, done.of_heads, below) ∙ sym (done.heads y below)
+      by_place (inr from) = bound_settled mid y v (done.bound y from l) h
+
+  pub is_valueless : value_of (bound_at mid) e ≡ None → (v : Valuation) → Completes rule old v → ⊥
+  is_valueless none v c =
+      let p = parts v c in
       is_known done.known rule.variables x e (drop (i + 1) rule.body) turn
-      (λ _ k _. value_agrees v (holding mid) done.known e (λ y l. bound_settled mid y v (holding mid) (done.bound y l) h (holding_extends mid)) k)
+      (λ _ k _. let z : None ≡ Some p.1.0 = sym none ∙ sym (value_agrees v (bound_at mid) done.known e (agree v c p.0) k) ∙ p.1.1 in absurd (cc))
 
-  parts : (v : Valuation) → Extends v old → Right rule.body v → Extends v mid × IsRight v (Is x e)
-  parts v h r = let two = all_at (IsRight v) rule.body i (Is x e) within there r in ((done.narrows.exactly v).1 (h, two.0), two.1)
+  pub is_otherwise : (n : ℤ) → value_of (bound_at mid) e ≡ Some n → NoneUnder (λ v. v x ≡ Some (Int n)) mid → (v : Valuation) → Completes rule old v → ⊥
+  is_otherwise n val none v c =
+      let p = parts v c in
+      let same : n ≡ p.1.0 = some_same n p.1.0 (sym (value_grows (bound_at mid) v p.0 e n val) ∙ p.1.1) in
+      none v p.0 (p.1.2 ∙ ap (λ z. Some (Int z)) (sym same))
 
-  pub is_valueless : value_of (holding mid) e ≡ None → NoneUnder (λ v. AllByRecursion (IsRight v) rule.body) old
-  is_valueless none v h r =
-      let p = parts v h r in
-      let z : None ≡ Some p.1.0 = sym none ∙ sym (value_there v p.0) ∙ p.1.1 in
-      absurd (cc)
+  bound_more : (n : ℤ) (new : List (Option (Value ℕ))) → Narrows (λ v. v x ≡ Some (Int n)) mid new → x ≡ done.known → (y : ℕ) → done.first ≤ y → y < suc done.known → IsSome (bound_at new y)
+  bound_more n new m same y from l = by_place (cases_eq y x)
+    where
+      by_place : (y ≡ x) ⊎ (y ≡ x → ⊥) → IsSome (bound_at new y)
+      by_place (inl z) = subst (λ o. IsSome o) (sym (ap (bound_at new) z ∙ ((m.exactly (bound_at new)).0 (extends_itself new)).1)) refl
+      by_place (inr ne) = stays_bound (λ v. v x ≡ Some (Int n)) mid new y m (done.bound y from (below ne))
+        where
+          below : (y ≡ x → ⊥) → y < done.known
+          below ne = omega arith
 
-  pub is_otherwise : (n : ℤ) → value_of (holding mid) e ≡ Some n → NoneUnder (λ v. v x ≡ Int n) mid → NoneUnder (λ v. AllByRecursion (IsRight v) rule.body) old
-  is_otherwise n val none v h r =
-      let p = parts v h r in
-      let same : n ≡ p.1.0 = some_same n p.1.0 (sym val ∙ sym (value_there v p.0) ∙ p.1.1) in
-      none v p.0 (p.1.2 ∙ ap Int (sym same))
-
-  bound_more : (n : ℤ) (new : List (Option (Value ℕ))) → Narrows (λ v. v x ≡ Int n) mid new → x ≡ done.known → AreBound (suc done.known) new
-  bound_more n new m same y l =
-      settled_bound new y (λ v w ev ew.
-      let pv = (m.exactly v).0 ev in
-      let pw = (m.exactly w).0 ew in
-      elim (y == x) as (λ b. (y == x ≡ b) → v y ≡ w y) [
-        | true ↦ λ t. let z : y ≡ x = true-eqb y x (sym t) in ap v z ∙ pv.1 ∙ sym pw.1 ∙ ap w (sym z)
-        | false ↦ λ t. let ne : y < done.known = grind (arith, nat_tests) in bound_settled mid y v w (done.bound y ne) pv.0 pw.0
-      ] refl)
-
-  pub is_more : (n : ℤ) (new : List (Option (Value ℕ))) → value_of (holding mid) e ≡ Some n → Narrows (λ v. v x ≡ Int n) mid new → Completing rule (i + 1) old new
+  pub is_more : (n : ℤ) (new : List (Option (Value ℕ))) → value_of (bound_at mid) e ≡ Some n → Narrows (λ v. v x ≡ Some (Int n)) mid new → Completing rule (i + 1) old new
   is_more n new val m =
       is_known done.known rule.variables x e (drop (i + 1) rule.body) turn (λ same _ later. record {
+        first = done.first;
+        of_heads = done.of_heads;
         known = suc done.known;
+        later = (let le : done.first ≤ done.known = done.later in omega arith);
         rest = later;
         bound = bound_more n new m same;
-        places = m.places ∙ done.places;
+        heads = λ y h. (let le : done.first ≤ done.known = done.later in others_stay mid new x y n' m (λ z. absurd (omega arith))) ∙ done.heads y h;
+        places = subst (λ k. rule.variables ≤ k) (sym m.places) done.places;
         narrows = record {
           places = m.places ∙ done.narrows.places;
           exactly = λ v. (
             λ h.
                 let p = (m.exactly v).0 h in
                 let o = (done.narrows.exactly v).0 p.0 in
-                (o.0, (all_more (IsRight v) rule.body i (Is x e) within there).1 (o.1, (n, value_there v p.0 ∙ val, p.1))),
+                (o.0, (all_more (IsRight v) rule.body i (Is x e) within there).1 (o.1, (n, value_grows (bound_at mid) v p.0 e n val, p.1))),
             λ h.
                 let two = (all_more (IsRight v) rule.body i (Is x e) within there).0 h.1 in
                 let p = (done.narrows.exactly v).1 (h.0, two.0) in
-                let number : n ≡ two.1.0 = some_same n two.1.0 (sym val ∙ sym (value_there v p) ∙ two.1.1) in
-                (m.exactly v).1 (p, two.1.2 ∙ ap Int (sym number)),
+                let number : n ≡ two.1.0 = some_same n two.1.0 (sym (value_grows (bound_at mid) v p e n val) ∙ two.1.1) in
+                (m.exactly v).1 (p, two.1.2 ∙ ap (λ z. Some (Int z)) (sym number)),
           );
         };
       })
+    where
+      n' : Value ℕ
+      n' = Int n
 
 pub add_more : (rule : Simpagation ℕ) (i : ℕ) (s : RuleAtom ℕ) (old mid : List (Option (Value ℕ))) → i < length rule.body → Add s ≡ get_or rule.body i (Add s) → Completing rule i old mid → Completing rule (i + 1) old mid
 add_more rule i s old mid within there done =
     let next : drop i rule.body ≡ Add s ∷ drop (i + 1) rule.body = drop_more rule.body i (Add s) within ∙ ap (λ m. m ∷ drop (i + 1) rule.body) (sym there) in
     add_known done.known rule.variables s (drop (i + 1) rule.body) (subst (λ ms. known_behind_body done.known ms ≡ Some rule.variables) next done.rest) (λ _ later. record {
+      first = done.first;
+      of_heads = done.of_heads;
       known = done.known;
+      later = done.later;
       rest = later;
       bound = done.bound;
+      heads = done.heads;
       places = done.places;
       narrows = record {
         places = done.narrows.places;
@@ -111,5 +136,16 @@ add_more rule i s old mid within there done =
       };
     })
 
-pub completing_end : (rule : Simpagation ℕ) (i : ℕ) (old new : List (Option (Value ℕ))) → length rule.body ≤ i → Completing rule i old new → Narrows (λ v. AllByRecursion (IsRight v) rule.body) old new
-completing_end rule i old new h done = subst (λ ms. Narrows (λ v. AllByRecursion (IsRight v) ms) old new) (take_all i rule.body h) done.narrows
+pub completing_end : (rule : Simpagation ℕ) (i : ℕ) (old new : List (Option (Value ℕ))) → length rule.body ≤ i → Completing rule i old new → IsCompleted rule old new
+completing_end rule i old new past done = record {
+  narrows = subst (λ ms. Narrows (λ v. AllByRecursion (IsRight v) ms) old new) (take_all i rule.body past) done.narrows;
+  heads = λ x h. done.heads x (subst (λ n. x < n) (some_same h.0 done.first (sym h.1 ∙ done.of_heads)) h.2);
+  others = λ x h. by_place x h (cases_lt x done.first);
+}
+  where
+    all_known : done.known ≡ rule.variables
+    all_known = some_same done.known rule.variables (sym (ap (known_behind_body done.known) (drop_all i rule.body past)) ∙ done.rest)
+
+    by_place : (x : ℕ) → x < rule.variables → (x < done.first) ⊎ (done.first ≤ x) → IsOfHeads rule x ⊎ IsSome (bound_at new x)
+    by_place x h (inl below) = inl (done.first, done.of_heads, below)
+    by_place x h (inr from) = inr (done.bound x from (subst (λ n. x < n) (sym all_known) h))

@@ -1,14 +1,15 @@
 -- The heads' atoms fix the body's.
-use Rattle.std.proofs.Common.{◌≡◌, ℕ, suc, ◌<◌, true, false, ◌==◌, List, [], ◌∷◌, ◌++◌, map, Some, refl, sym, ◌∙◌, ap, ap₂, subst, arith, true-eqb}
+use Rattle.std.proofs.Common.{◌≡◌, ◌≢◌, ℕ, suc, ◌<◌, ◌≤◌, true, false, ◌==◌, List, [], ◌∷◌, ◌++◌, map, Some, sym, ◌∙◌, ap, ap₂, subst, subst₂, refl, arith, true-eqb}
 use Rattle.std.specs.List.{AllByRecursion, list_all}
-use Rattle.std.proofs.lemmas.List.{map-append}
+use Rattle.std.specs.Option.{option_map}
 use Rattle.std.proofs.lemmas.Bool.Decides.{nat_tests}
-use Rattle.chr_value.specs.Atoms.{Int, Atom}
+use Rattle.chr_value.specs.Atoms.{Value, Int, Atom}
 use Rattle.chr_rule.specs.Rules.{Term, Var, Given, RuleAtom, Expression, Number, Variable, Operation, Comparison, Compared, Same, Differ, BodyItem, Is, Add, Simpagation}
 use Rattle.chr_rule.specs.Scope.{known_behind_args, known_behind_heads, known_behind_body, argument_known, expression_known, test_known, IsRule}
-use Rattle.chr_guard.specs.Values.{Valuation, value_of, number_in, computed, compares, both, term_under, Holds}
-use Rattle.chr_guard.specs.Instances.{atom_under, IsRight, added, Instance}
-use Rattle.chr_guard.proofs.Scoped.{both_true, var_known, head_known, is_known, add_known, scoped}
+use Rattle.chr_guard.specs.Values.{Valuation, value_of, number_in, computed, compares, both, term_under, WhereBoth, Holds}
+use Rattle.chr_guard.specs.Instances.{values_under, atom_under, AreUnder, IsRight, added, Instance}
+use Rattle.chr_guard.proofs.Scoped.{both_true, var_known, head_known, is_known, add_known, scoped, body_below, args_later}
+use Rattle.chr_guard.proofs.Under.{atom_is, under_append, somes}
 
 -- two valuations that give the first n variables the same terms
 abbrev pub Agree : Valuation → Valuation → ℕ → Type 0
@@ -24,23 +25,29 @@ agree_more v w n a e x h =
 agree_next : (v w : Valuation) (n x : ℕ) → Agree v w n → x ≡ n → v x ≡ w x → Agree v w (suc n)
 agree_next v w n x a e s = agree_more v w n a (subst (λ z. v z ≡ w z) e s)
 
-args_agree : (v w : Valuation) (n m : ℕ) (args : List (Term ℕ)) → known_behind_args n args ≡ Some m → map (term_under v) args ≡ map (term_under w) args → Agree v w n → Agree v w m
-args_agree v w n m [] k e a = let s : n ≡ m = cc in subst (Agree v w) s a
-args_agree v w n m (Given t ∷ args) k e a = args_agree v w n m args k (cc) a
-args_agree v w n m (Var x ∷ args) k e a =
-    let one : v x ≡ w x = cc in
-    let rest : map (term_under v) args ≡ map (term_under w) args = cc in
+args_agree : (v w : Valuation) (n m : ℕ) (args : List (Term ℕ)) (vs : List (Value ℕ)) → known_behind_args n args ≡ Some m → map (term_under v) args ≡ map (λ t. Some t) vs → map (term_under w) args ≡ map (λ t. Some t) vs → Agree v w n → Agree v w m
+args_agree v w n m [] vs k e f a = let s : n ≡ m = cc in subst (Agree v w) s a
+args_agree v w n m (t ∷ args) [] k e f a = absurd (cc)
+args_agree v w n m (Given t ∷ args) (x ∷ vs) k e f a = args_agree v w n m args vs k (cc) (cc) a
+args_agree v w n m (Var x ∷ args) (t ∷ vs) k e f a =
+    let one : v x ≡ Some t = cc in
+    let other : w x ≡ Some t = cc in
+    let rest : map (term_under v) args ≡ map (λ t. Some t) vs = cc in
+    let more : map (term_under w) args ≡ map (λ t. Some t) vs = cc in
     var_known n m x args k
-    (λ _ j. args_agree v w n m args j rest a)
-    (λ s j. args_agree v w (suc n) m args j rest (agree_next v w n x a s one))
+    (λ _ j. args_agree v w n m args vs j rest more a)
+    (λ s j. args_agree v w (suc n) m args vs j rest more (agree_next v w n x a s (one ∙ sym other)))
 
 -- valuations that give the same atoms agree on the heads' variables
-pub heads_agree : (v w : Valuation) (n m : ℕ) (hs : List (RuleAtom ℕ)) → known_behind_heads n hs ≡ Some m → map (atom_under v) hs ≡ map (atom_under w) hs → Agree v w n → Agree v w m
-heads_agree v w n m [] k e a = let s : n ≡ m = cc in subst (Agree v w) s a
-heads_agree v w n m (h ∷ hs) k e a =
-    let one : atom_under v h ≡ atom_under w h = cc in
-    let rest : map (atom_under v) hs ≡ map (atom_under w) hs = cc in
-    head_known n m h hs k (λ z i j. heads_agree v w z m hs j rest (args_agree v w n z h.args i (ap (λ f. f.args) one) a))
+pub heads_agree : (v w : Valuation) (n m : ℕ) (hs : List (RuleAtom ℕ)) (atoms : List (Atom ℕ)) → known_behind_heads n hs ≡ Some m → AreUnder v hs atoms → AreUnder w hs atoms → Agree v w n → Agree v w m
+heads_agree v w n m [] atoms k e f a = let s : n ≡ m = cc in subst (Agree v w) s a
+heads_agree v w n m (h ∷ hs) [] k e f a = absurd (cc)
+heads_agree v w n m (h ∷ hs) (x ∷ atoms) k e f a =
+    let one : atom_under v h ≡ Some x = cc in
+    let other : atom_under w h ≡ Some x = cc in
+    let rest : AreUnder v hs atoms = cc in
+    let more : AreUnder w hs atoms = cc in
+    head_known n m h hs k (λ z i j. heads_agree v w z m hs atoms j rest more (args_agree v w n z h.args x.args i ((atom_is v h x).0 one).1 ((atom_is w h x).0 other).1 a))
 
 lt_from : (x n : ℕ) → argument_known {N = ℕ} n (Var x) ≡ true → x < n
 lt_from x n k = grind (arith, nat_tests)
@@ -56,11 +63,11 @@ pub term_agrees : (v w : Valuation) (n : ℕ) (t : Term ℕ) → Agree v w n →
 term_agrees v w n (Var x) a k = a x (lt_from x n k)
 term_agrees v w n (Given t) a k = refl
 
-pub args_known_agree : (v w : Valuation) (n : ℕ) (args : List (Term ℕ)) → Agree v w n → list_all (argument_known n) args ≡ true → map (term_under v) args ≡ map (term_under w) args
+pub args_known_agree : (v w : Valuation) (n : ℕ) (args : List (Term ℕ)) → Agree v w n → list_all (argument_known n) args ≡ true → values_under v args ≡ values_under w args
 args_known_agree v w n [] a k = refl
 args_known_agree v w n (t ∷ args) a k =
     let two = both_true (argument_known n t) (list_all (argument_known n) args) k in
-    ap₂ (λ y ys. y ∷ ys) (term_agrees v w n t a two.0) (args_known_agree v w n args a two.1)
+    ap₂ (both (λ x xs. Some (x ∷ xs))) (term_agrees v w n t a two.0) (args_known_agree v w n args a two.1)
 
 test_agrees : (v w : Valuation) (n : ℕ) (t : Comparison ℕ) → Agree v w n → test_known n t ≡ true → Holds v t → Holds w t
 test_agrees v w n (Compared r l m) a k h =
@@ -68,10 +75,10 @@ test_agrees v w n (Compared r l m) a k h =
     sym (ap₂ (both (λ i j. Some (compares r i j))) (value_agrees v w n l a two.0) (value_agrees v w n m a two.1)) ∙ h
 test_agrees v w n (Same s t) a k h =
     let two = both_true (argument_known n s) (argument_known n t) k in
-    sym (term_agrees v w n s a two.0) ∙ h ∙ term_agrees v w n t a two.1
+    subst₂ (WhereBoth (λ x y. x ≡ y)) (term_agrees v w n s a two.0) (term_agrees v w n t a two.1) h
 test_agrees v w n (Differ s t) a k h =
     let two = both_true (argument_known n s) (argument_known n t) k in
-    λ e. h (term_agrees v w n s a two.0 ∙ e ∙ sym (term_agrees v w n t a two.1))
+    subst₂ (WhereBoth (λ x y. x ≢ y)) (term_agrees v w n s a two.0) (term_agrees v w n t a two.1) h
 
 pub guard_agrees : (v w : Valuation) (n : ℕ) (ts : List (Comparison ℕ)) → Agree v w n → list_all (test_known n) ts ≡ true → AllByRecursion (Holds v) ts → AllByRecursion (Holds w) ts
 guard_agrees v w n [] a k h = tt
@@ -79,24 +86,29 @@ guard_agrees v w n (t ∷ ts) a k h =
     let two = both_true (test_known n t) (list_all (test_known n) ts) k in
     (test_agrees v w n t a two.0 h.0, guard_agrees v w n ts a two.1 h.1)
 
-body_agrees : (v w : Valuation) (n m : ℕ) (ms : List (BodyItem ℕ)) → known_behind_body n ms ≡ Some m → Agree v w n → AllByRecursion (IsRight v) ms → AllByRecursion (IsRight w) ms → added v ms ≡ added w ms
-body_agrees v w n m [] k a p q = refl
+-- valuations under which each `is` is right agree on the body's variables
+body_agrees : (v w : Valuation) (n m : ℕ) (ms : List (BodyItem ℕ)) → known_behind_body n ms ≡ Some m → Agree v w n → AllByRecursion (IsRight v) ms → AllByRecursion (IsRight w) ms → Agree v w m
+body_agrees v w n m [] k a p q = let s : n ≡ m = cc in subst (Agree v w) s a
 body_agrees v w n m (Is x e ∷ ms) k a p q =
     is_known n m x e ms k (λ s known j.
     let left : Some p.0.0 ≡ Some q.0.0 = sym p.0.1 ∙ value_agrees v w n e a known ∙ q.0.1 in
     let number : p.0.0 ≡ q.0.0 = cc in
-    body_agrees v w (suc n) m ms j (agree_next v w n x a s (p.0.2 ∙ ap Int number ∙ sym q.0.2)) p.1 q.1)
-body_agrees v w n m (Add s ∷ ms) k a p q =
+    body_agrees v w (suc n) m ms j (agree_next v w n x a s (p.0.2 ∙ ap (λ z. Some (Int z)) number ∙ sym q.0.2)) p.1 q.1)
+body_agrees v w n m (Add s ∷ ms) k a p q = add_known n m s ms k (λ _ j. body_agrees v w n m ms j a p.1 q.1)
+
+-- the same constraints are added where all variables agree
+pub added_agrees : (v w : Valuation) (n m : ℕ) (ms : List (BodyItem ℕ)) → known_behind_body n ms ≡ Some m → Agree v w m → map (atom_under v) (added ms) ≡ map (atom_under w) (added ms)
+added_agrees v w n m [] k a = refl
+added_agrees v w n m (Is x e ∷ ms) k a = is_known n m x e ms k (λ _ _ j. added_agrees v w (suc n) m ms j a)
+added_agrees v w n m (Add s ∷ ms) k a =
     add_known n m s ms k (λ known j.
-    ap₂ (λ y ys. y ∷ ys) (ap (λ ts. record { name = s.name; args = ts }) (args_known_agree v w n s.args a known)) (body_agrees v w n m ms j a p.1 q.1))
+    let le : n ≤ m = body_below n m ms j in
+    ap₂ (λ y ys. y ∷ ys) (ap (option_map (λ values. record { name = s.name; args = values })) (args_known_agree v w m s.args a (args_later n m s.args le known))) (added_agrees v w n m ms j a))
 
 -- an instance's body is fixed by its heads
 pub body_fixed : (rule : Simpagation ℕ) → IsRule rule → (kept removed body other : List (Atom ℕ)) → Instance rule kept removed body → Instance rule kept removed other → body ≡ other
 body_fixed rule r kept removed body other i j =
     let s = scoped rule r in
-    let same : map (atom_under i.valuation) (rule.kept ++ rule.removed) ≡ map (atom_under j.valuation) (rule.kept ++ rule.removed) =
-    map-append (atom_under i.valuation) rule.kept rule.removed
-    ∙ ap₂ (λ a b. a ++ b) (sym i.kept_are ∙ j.kept_are) (sym i.removed_are ∙ j.removed_are)
-    ∙ sym (map-append (atom_under j.valuation) rule.kept rule.removed) in
-    let agree = heads_agree i.valuation j.valuation 0 s.bind_number (rule.kept ++ rule.removed) s.heads same (λ x h. absurd (omega arith)) in
-    i.body_is ∙ body_agrees i.valuation j.valuation s.bind_number rule.variables rule.body s.body agree i.right j.right ∙ sym j.body_is
+    let agree = heads_agree i.valuation j.valuation 0 s.count (rule.kept ++ rule.removed) (kept ++ removed) s.heads (under_append i.valuation rule.kept rule.removed kept removed i.kept_are i.removed_are) (under_append j.valuation rule.kept rule.removed kept removed j.kept_are j.removed_are) (λ x h. absurd (omega arith)) in
+    let all = body_agrees i.valuation j.valuation s.count rule.variables rule.body s.body agree i.right j.right in
+    somes body other (sym i.body_is ∙ added_agrees i.valuation j.valuation s.count rule.variables rule.body s.body all ∙ j.body_is)

@@ -1,4 +1,5 @@
 pub mod Scoped
+pub mod Under
 pub mod Fixed
 pub mod Bindings
 pub mod Steps

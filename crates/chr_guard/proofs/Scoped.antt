@@ -43,15 +43,15 @@ add_known n m s ms k f = if_known (list_all (argument_known n) s.args) (known_be
 
 -- how many variables the heads of a rule have, and what the guard and the body use of them
 pub record Scoped (rule : Simpagation ℕ) : Type 0 where
-  pub bind_number : ℕ
-  pub heads : known_behind_heads 0 (rule.kept ++ rule.removed) ≡ Some bind_number
-  pub guard : list_all (test_known bind_number) rule.guard ≡ true
-  pub body : known_behind_body bind_number rule.body ≡ Some rule.variables
+  pub count : ℕ
+  pub heads : known_behind_heads 0 (rule.kept ++ rule.removed) ≡ Some count
+  pub guard : list_all (test_known count) rule.guard ≡ true
+  pub body : known_behind_body count rule.body ≡ Some rule.variables
 
 pub scoped : (rule : Simpagation ℕ) → IsRule rule → Scoped rule
 scoped rule r =
     then_known (known_behind_heads 0 (rule.kept ++ rule.removed)) (λ n. if list_all (test_known n) rule.guard then known_behind_body n rule.body else None) rule.variables r.scoped
-    (λ n k j. if_known (list_all (test_known n) rule.guard) (known_behind_body n rule.body) rule.variables j (λ g b. record { bind_number = n; heads = k; guard = g; body = b }))
+    (λ n k j. if_known (list_all (test_known n) rule.guard) (known_behind_body n rule.body) rule.variables j (λ g b. record { count = n; heads = k; guard = g; body = b }))
 
 -- what is known stays known
 pub argument_later : (n m : ℕ) (a : Term ℕ) → n ≤ m → argument_known n a ≡ true → argument_known m a ≡ true

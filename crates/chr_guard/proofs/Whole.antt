@@ -1,73 +1,144 @@
 -- Heads that fit, a guard that holds and a completed body are an instance, and nothing else is.
-use Rattle.std.proofs.Common.{◌≡◌, ℕ, ◌+◌, ◌<◌, List, [], ◌∷◌, ◌++◌, length, take, drop, map, get_or, Option, refl, sym, subst, ap, ap₂, ◌∙◌, arith}
+use Rattle.std.proofs.Common.{◌≡◌, ℕ, ◌+◌, ◌<◌, List, [], ◌∷◌, ◌++◌, length, take, drop, map, get_or, Option, Some, None, IsSome, ◌⊎◌, inl, inr, refl, sym, subst, ap, ap₂, ◌∙◌, arith}
+use Rattle.std.specs.Prelude.{MatchOption}
 use Rattle.std.specs.List.{AllByRecursion}
-use Rattle.std.proofs.lemmas.List.{map-append, map_more, length-map, take_at, drop_at, take-append-drop}
+use Rattle.std.proofs.lemmas.List.{map_more, length-map, take-append-drop, drop_more, map-append}
 use Rattle.chr_value.specs.Atoms.{Value, Atom}
-use Rattle.chr_rule.specs.Rules.{BodyItem, Is, Add, Simpagation}
+use Rattle.chr_rule.specs.Rules.{RuleAtom, BodyItem, Is, Add, Simpagation}
 use Rattle.chr_rule.specs.Scope.{IsRule}
 use Rattle.chr_guard.specs.Values.{Valuation, Holds}
-use Rattle.chr_guard.specs.Bindings.{Extends, Narrows, NoneUnder, holding}
-use Rattle.chr_guard.specs.Instances.{atom_under, IsRight, added, IsInstance, IsInstanceUnder, NoInstance}
-use Rattle.chr_guard.specs.Matching.{HeadsAre, IsFit, IsBody}
+use Rattle.chr_guard.specs.Bindings.{bound_at, Extends, Narrows}
+use Rattle.chr_guard.specs.Instances.{atom_under, AreUnder, IsRight, added, IsInstance, NoInstance}
+use Rattle.chr_guard.specs.Matching.{HeadsAre, IsFit, IsOfHeads, Completes, IsBody, IsCompleted, IsInstanceUnder}
 use Rattle.chr_guard.proofs.Scoped.{scoped}
-use Rattle.chr_guard.proofs.Fixed.{Agree, heads_agree, guard_agrees}
-use Rattle.chr_guard.proofs.Bindings.{holding_extends}
+use Rattle.chr_guard.proofs.Under.{somes, under_append, under_parts, none_under, body_made}
+use Rattle.chr_guard.proofs.Fixed.{Agree, heads_agree, guard_agrees, added_agrees}
+use Rattle.chr_guard.proofs.Bindings.{extends_itself, bound_settled}
+use Rattle.chr_guard.proofs.Matched.{fit_binds}
 
 pub heads_of : (rule : Simpagation ℕ) (facts body : List (Atom ℕ)) (i : IsInstance rule facts body) → HeadsAre rule facts i.valuation
 heads_of rule facts body i =
-    map-append (atom_under i.valuation) rule.kept rule.removed ∙ ap₂ (λ a b. a ++ b) (sym i.kept_are) (sym i.removed_are) ∙ take-append-drop (length rule.kept) facts
+    subst (λ fs. HeadsAre rule fs i.valuation) (take-append-drop (length rule.kept) facts) (under_append i.valuation rule.kept rule.removed (take (length rule.kept) facts) (drop (length rule.kept) facts) i.kept_are i.removed_are)
 
-agree_on_heads : (rule : Simpagation ℕ) → (r : IsRule rule) → (facts : List (Atom ℕ)) (binding : List (Option (Value ℕ))) → IsFit rule (HeadsAre rule facts) binding → (v w : Valuation) → Extends v binding → Extends w binding → Agree v w (scoped rule r).bind_number
+agree_on_heads : (rule : Simpagation ℕ) → (r : IsRule rule) → (facts : List (Atom ℕ)) (binding : List (Option (Value ℕ))) → IsFit rule (HeadsAre rule facts) binding → (v w : Valuation) → Extends v binding → Extends w binding → Agree v w (scoped rule r).count
 agree_on_heads rule r facts binding f v w ev ew =
-    heads_agree v w 0 (scoped rule r).bind_number (rule.kept ++ rule.removed) (scoped rule r).heads ((f.exactly v).0 ev ∙ sym ((f.exactly w).0 ew)) (λ x h. absurd (omega arith))
+    heads_agree v w 0 (scoped rule r).count (rule.kept ++ rule.removed) facts (scoped rule r).heads ((f.exactly v).0 ev) ((f.exactly w).0 ew) (λ x h. absurd (omega arith))
 
--- the heads fit and the guard holds
-pub is_instance : (rule : Simpagation ℕ) → IsRule rule → (facts made : List (Atom ℕ)) (binding new : List (Option (Value ℕ))) → IsFit rule (HeadsAre rule facts) binding → AllByRecursion (Holds (holding binding)) rule.guard → Narrows (λ v. AllByRecursion (IsRight v) rule.body) binding new → made ≡ added (holding new) rule.body → IsInstance rule facts made
+-- the heads fit, the guard holds and the body is completed
+is_instance : (rule : Simpagation ℕ) → IsRule rule → (facts made : List (Atom ℕ)) (binding new : List (Option (Value ℕ))) → IsFit rule (HeadsAre rule facts) binding → AllByRecursion (Holds (bound_at binding)) rule.guard → IsCompleted rule binding new → AreUnder (bound_at new) (added rule.body) made → IsInstance rule facts made
 is_instance rule r facts made binding new f guard done is =
-    let v = holding new in
-    let both = (done.exactly v).0 (holding_extends new) in
-    let heads = (f.exactly v).0 both.0 in
-    let split : facts ≡ map (atom_under v) rule.kept ++ map (atom_under v) rule.removed = sym heads ∙ map-append (atom_under v) rule.kept rule.removed in
-    let k : drop (length rule.kept) facts ≡ map (atom_under v) rule.removed = ap (drop (length rule.kept)) split ∙ drop_at (map (atom_under v) rule.kept) (map (atom_under v) rule.removed) (length rule.kept) (length-map rule.kept (atom_under v)) in
+    let v = bound_at new in
+    let both = (done.narrows.exactly v).0 (extends_itself new) in
+    let parts = under_parts v rule.kept rule.removed facts ((f.exactly v).0 both.0) in
     record {
       valuation = v;
-      guard = guard_agrees (holding binding) v (scoped rule r).bind_number rule.guard (agree_on_heads rule r facts binding f (holding binding) v (holding_extends binding) both.0) (scoped rule r).guard guard;
+      guard = guard_agrees (bound_at binding) v (scoped rule r).count rule.guard (agree_on_heads rule r facts binding f (bound_at binding) v (extends_itself binding) both.0) (scoped rule r).guard guard;
       right = both.1;
-      kept_are = ap (take (length rule.kept)) split ∙ take_at (map (atom_under v) rule.kept) (map (atom_under v) rule.removed) (length rule.kept) (length-map rule.kept (atom_under v));
-      removed_are = k;
-      some_removed = λ e. (let none : length rule.removed ≡ 0 = sym (length-map rule.removed (atom_under v)) ∙ ap length (sym k ∙ e) in let some : 0 < length rule.removed = r.limits.removed in absurd (omega arith));
+      kept_are = parts.0;
+      removed_are = parts.1;
+      some_removed = λ e. (
+        let none : length rule.removed ≡ 0 = sym (length-map rule.removed (atom_under v)) ∙ ap length parts.1 ∙ length-map (drop (length rule.kept) facts) (λ a. Some a) ∙ ap length e in
+        let some : 0 < length rule.removed = r.limits.removed in
+        absurd (omega arith)
+      );
       body_is = is;
     }
 
-pub is_instance_under : (rule : Simpagation ℕ) → IsRule rule → (facts : List (Atom ℕ)) (binding new : List (Option (Value ℕ))) → IsFit rule (HeadsAre rule facts) binding → AllByRecursion (Holds (holding binding)) rule.guard → Narrows (λ v. AllByRecursion (IsRight v) rule.body) binding new → IsInstanceUnder rule facts new
+all_bound : (rule : Simpagation ℕ) (facts : List (Atom ℕ)) (binding new : List (Option (Value ℕ))) → IsFit rule (HeadsAre rule facts) binding → IsCompleted rule binding new → (x : ℕ) → x < rule.variables → IsSome (bound_at new x)
+all_bound rule facts binding new f done x h = by_place (done.others x h)
+  where
+    by_place : IsOfHeads rule x ⊎ IsSome (bound_at new x) → IsSome (bound_at new x)
+    by_place (inl head) = subst (λ o. IsSome o) (sym (done.heads x head)) (fit_binds rule facts binding f x head)
+    by_place (inr some) = some
+
+pub is_instance_under : (rule : Simpagation ℕ) → IsRule rule → (facts : List (Atom ℕ)) (binding new : List (Option (Value ℕ))) → IsFit rule (HeadsAre rule facts) binding → AllByRecursion (Holds (bound_at binding)) rule.guard → IsCompleted rule binding new → IsInstanceUnder rule facts new
 is_instance_under rule r facts binding new f guard done =
-    record { places = done.places ∙ f.places; instance = is_instance rule r facts (added (holding new) rule.body) binding new f guard done refl }
+    let made = body_made (bound_at new) (scoped rule r).count rule.variables rule.body (scoped rule r).body (all_bound rule facts binding new f done) in
+    record {
+      fit = record {
+        places = done.narrows.places ∙ f.places;
+        exactly = λ v. (
+          λ h. let both = (done.narrows.exactly v).0 h in ((f.exactly v).0 both.0, both.1),
+          λ h. (done.narrows.exactly v).1 ((f.exactly v).1 h.0, h.1),
+        );
+      };
+      body = made.0;
+      instance = is_instance rule r facts made.0 binding new f guard done made.1;
+      body_is = made.1;
+    }
 
 pub no_fit : (rule : Simpagation ℕ) (facts : List (Atom ℕ)) → ((v : Valuation) → HeadsAre rule facts v → ⊥) → NoInstance rule facts
 no_fit rule facts none body i = none i.valuation (heads_of rule facts body i)
 
-pub no_guard : (rule : Simpagation ℕ) → IsRule rule → (facts : List (Atom ℕ)) (binding : List (Option (Value ℕ))) → IsFit rule (HeadsAre rule facts) binding → (AllByRecursion (Holds (holding binding)) rule.guard → ⊥) → NoInstance rule facts
+pub no_guard : (rule : Simpagation ℕ) → IsRule rule → (facts : List (Atom ℕ)) (binding : List (Option (Value ℕ))) → IsFit rule (HeadsAre rule facts) binding → (AllByRecursion (Holds (bound_at binding)) rule.guard → ⊥) → NoInstance rule facts
 no_guard rule r facts binding f none body i =
     let e = (f.exactly i.valuation).1 (heads_of rule facts body i) in
-    none (guard_agrees i.valuation (holding binding) (scoped rule r).bind_number rule.guard (agree_on_heads rule r facts binding f i.valuation (holding binding) e (holding_extends binding)) (scoped rule r).guard i.guard)
+    none (guard_agrees i.valuation (bound_at binding) (scoped rule r).count rule.guard (agree_on_heads rule r facts binding f i.valuation (bound_at binding) e (extends_itself binding)) (scoped rule r).guard i.guard)
 
-pub no_right : (rule : Simpagation ℕ) (facts : List (Atom ℕ)) (binding : List (Option (Value ℕ))) → IsFit rule (HeadsAre rule facts) binding → NoneUnder (λ v. AllByRecursion (IsRight v) rule.body) binding → NoInstance rule facts
-no_right rule facts binding f none body i = none i.valuation ((f.exactly i.valuation).1 (heads_of rule facts body i)) i.right
+pub no_right : (rule : Simpagation ℕ) (facts : List (Atom ℕ)) (binding : List (Option (Value ℕ))) → IsFit rule (HeadsAre rule facts) binding → ((v : Valuation) → Completes rule binding v → ⊥) → NoInstance rule facts
+no_right rule facts binding f none body i =
+    let e = (f.exactly i.valuation).1 (heads_of rule facts body i) in
+    none i.valuation (record { extends = e; heads = λ x h. bound_settled binding x i.valuation (fit_binds rule facts binding f x h) e; right = i.right })
 
-pub is_body : (rule : Simpagation ℕ) (binding all new : List (Option (Value ℕ))) (made : List (Atom ℕ)) → all ≡ binding → Narrows (λ v. AllByRecursion (IsRight v) rule.body) all new → made ≡ added (holding new) rule.body → IsBody rule binding made
-is_body rule binding all new made same done is =
-    let both = (done.exactly (holding new)).0 (holding_extends new) in
-    record { valuation = holding new; extends = subst (Extends (holding new)) same both.0; right = both.1; body_is = is }
+-- what the binding of an instance adds is the instance's body
+pub is_added : (rule : Simpagation ℕ) (facts made : List (Atom ℕ)) (binding : List (Option (Value ℕ))) → IsInstanceUnder rule facts binding → AreUnder (bound_at binding) (added rule.body) made → IsInstance rule facts made
+is_added rule facts made binding u is = subst (IsInstance rule facts) (somes u.body made (sym u.body_is ∙ is)) u.instance
 
-pub no_body : (rule : Simpagation ℕ) (binding all : List (Option (Value ℕ))) → all ≡ binding → NoneUnder (λ v. AllByRecursion (IsRight v) rule.body) all → (made : List (Atom ℕ)) → IsBody rule binding made → ⊥
-no_body rule binding all same none made b = none b.valuation (subst (Extends b.valuation) (sym same) b.extends) b.right
+pub not_added : (rule : Simpagation ℕ) (facts : List (Atom ℕ)) (binding : List (Option (Value ℕ))) → IsInstanceUnder rule facts binding → ((made : List (Atom ℕ)) → AreUnder (bound_at binding) (added rule.body) made → ⊥) → NoInstance rule facts
+not_added rule facts binding u none = absurd (none u.body u.body_is)
 
-added_push : (v : Valuation) (ms : List (BodyItem ℕ)) (m : BodyItem ℕ) → added v (ms ++ m ∷ []) ≡ added v ms ++ added v (m ∷ [])
-added_push v [] m = refl
-added_push v (Is x e ∷ ms) m = added_push v ms m
-added_push v (Add s ∷ ms) m = ap (λ l. atom_under v s ∷ l) (added_push v ms m)
+-- the body under a binding, read through a copy that has more places
+module _ (rule : Simpagation ℕ) (binding all : List (Option (Value ℕ))) (same : (x : ℕ) → bound_at all x ≡ bound_at binding x) where
+  completes_copy : (v : Valuation) → Completes rule binding v → Completes rule all v
+  completes_copy v c = record { extends = λ x t at. c.extends x t (sym (same x) ∙ at); heads = λ x h. c.heads x h ∙ sym (same x); right = c.right }
+
+  pub is_body : (new : List (Option (Value ℕ))) (made : List (Atom ℕ)) → IsCompleted rule all new → AreUnder (bound_at new) (added rule.body) made → IsBody rule binding made
+  is_body new made done is =
+      let both = (done.narrows.exactly (bound_at new)).0 (extends_itself new) in
+      record {
+        valuation = bound_at new;
+        completes = record { extends = λ x t at. both.0 x t (same x ∙ at); heads = λ x h. done.heads x h ∙ same x; right = both.1 };
+        body_is = is;
+      }
+
+  pub no_body : ((v : Valuation) → Completes rule all v → ⊥) → (made : List (Atom ℕ)) → IsBody rule binding made → ⊥
+  no_body none made b = none b.valuation (completes_copy b.valuation b.completes)
+
+  pub no_arguments : IsRule rule → (new : List (Option (Value ℕ))) → IsCompleted rule all new → ((made : List (Atom ℕ)) → AreUnder (bound_at new) (added rule.body) made → ⊥) → (made : List (Atom ℕ)) → IsBody rule binding made → ⊥
+  no_arguments r new done none made b = none made (sym (added_agrees b.valuation (bound_at new) (scoped rule r).count rule.variables rule.body (scoped rule r).body agree) ∙ b.body_is)
+    where
+      c : Completes rule all b.valuation
+      c = completes_copy b.valuation b.completes
+
+      by_place : (x : ℕ) → IsOfHeads rule x ⊎ IsSome (bound_at new x) → b.valuation x ≡ bound_at new x
+      by_place x (inl head) = (completes_copy b.valuation b.completes).heads x head ∙ sym (done.heads x head)
+      by_place x (inr some) = bound_settled new x b.valuation some ((done.narrows.exactly b.valuation).1 ((completes_copy b.valuation b.completes).extends, b.completes.right))
+
+      agree : Agree b.valuation (bound_at new) rule.variables
+      agree x h = by_place x (done.others x h)
+
+-- an answer's two cases, each carried on
+pub carried_on : {A P R : Type 0} {Q S : A → Type 0} (o : Option A) → (P → R) → ((a : A) → Q a → S a) → MatchOption o P Q → MatchOption o R S
+carried_on (Some a) f g h = g a h
+carried_on None f g h = f h
+
+-- the constraints of a body joined
+added_append : (ms ns : List (BodyItem ℕ)) → added (ms ++ ns) ≡ added ms ++ added ns
+added_append [] ns = refl
+added_append (Is x e ∷ ms) ns = added_append ms ns
+added_append (Add s ∷ ms) ns = ap (λ l. s ∷ l) (added_append ms ns)
 
 -- the atoms of one member more
-pub added_more : {A : Type 0} (f : A → BodyItem ℕ) (v : Valuation) (xs : List A) (i : ℕ) (x : A) (m : BodyItem ℕ) (old new : List (Atom ℕ)) → i < length xs → x ≡ get_or xs i x → f x ≡ m → old ≡ added v (map f (take i xs)) → new ≡ old ++ added v (m ∷ []) → new ≡ added v (map f (take (i + 1) xs))
-added_more f v xs i x m old new h e is o n =
-    n ∙ ap (λ l. l ++ added v (m ∷ [])) o ∙ sym (added_push v (map f (take i xs)) m) ∙ ap (λ y. added v (map f (take i xs) ++ y ∷ [])) (sym is ∙ ap f e) ∙ ap (added v) (sym (map_more f xs i x h))
+pub added_more : {A : Type 0} (f : A → BodyItem ℕ) (v : Valuation) (xs : List A) (i : ℕ) (x : A) (old new : List (Atom ℕ)) → i < length xs → x ≡ get_or xs i x → AreUnder v (added (map f (take i xs))) old → AreUnder v (added (f x ∷ [])) new → AreUnder v (added (map f (take (i + 1) xs))) (old ++ new)
+added_more f v xs i x old new h is o n =
+    subst (λ ms. AreUnder v (added ms) (old ++ new)) (sym (map_more f xs i x h ∙ ap (λ y. map f (take i xs) ++ f y ∷ []) (sym is)))
+    (subst (λ ss. AreUnder v ss (old ++ new)) (sym (added_append (map f (take i xs)) (f x ∷ []))) (under_append v (added (map f (take i xs))) (added (f x ∷ [])) old new o n))
+
+-- a constraint of the body without a value
+pub not_made : {A : Type 0} (f : A → BodyItem ℕ) (v : Valuation) (xs : List A) (i : ℕ) (x : A) (s : RuleAtom ℕ) (made : List (Atom ℕ)) → i < length xs → x ≡ get_or xs i x → f x ≡ Add s → atom_under v s ≡ None → AreUnder v (added (map f xs)) made → ⊥
+not_made f v xs i x s made h is at none all =
+    let there : drop i xs ≡ x ∷ drop (i + 1) xs = drop_more xs i x h ∙ ap (λ y. y ∷ drop (i + 1) xs) (sym is) in
+    let apart : map f xs ≡ map f (take i xs) ++ (Add s ∷ map f (drop (i + 1) xs)) =
+        ap (map f) (sym (take-append-drop i xs)) ∙ map-append f (take i xs) (drop i xs) ∙ ap (λ l. map f (take i xs) ++ map f l) there ∙ ap (λ m. map f (take i xs) ++ (m ∷ map f (drop (i + 1) xs))) at in
+    none_under v (added (map f (take i xs))) (added (map f (drop (i + 1) xs))) s made none
+    (subst (λ ss. AreUnder v ss made) (added_append (map f (take i xs)) (Add s ∷ map f (drop (i + 1) xs))) (subst (λ ms. AreUnder v (added ms) made) apart all))

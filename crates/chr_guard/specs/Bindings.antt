@@ -1,6 +1,6 @@
 -- What the variables of a rule are bound to: a list in the order of their numbers.
 use Rattle.std.specs.Prelude.{◌≡◌, ℕ, Bool, true, false, ◌<◌, ◌↔◌, List, length, Option, Some, None, IsSome, slice_index_or}
-use Rattle.chr_value.specs.Atoms.{Value, Int, Sym, ground}
+use Rattle.chr_value.specs.Atoms.{Value, Int, ground}
 use Rattle.chr_guard.specs.declared.binding.Bound.{Bound}
 use Rattle.chr_guard.specs.declared.binding.Bound.TheVariants as bounds
 use Rattle.chr_guard.specs.Values.{Valuation}
@@ -11,22 +11,13 @@ bound_term bounds.Free = None
 bound_term (bounds.Held v) = Some (ground v.now)
 bound_term (bounds.Number n) = Some (Int n)
 
--- a variable past the end isn't bound
-abbrev pub bound_at : List (Option (Value ℕ)) → ℕ → Option (Value ℕ)
+-- a binding as a valuation; a variable past the end isn't bound
+abbrev pub bound_at : List (Option (Value ℕ)) → Valuation
 bound_at binding x = slice_index_or binding x None
 
--- a free variable stands for some symbol, which has no number
-abbrev pub or_symbol : Option (Value ℕ) → Value ℕ
-or_symbol (Some t) = t
-or_symbol None = Sym 0
-
--- a binding as a valuation
-abbrev pub holding : List (Option (Value ℕ)) → Valuation
-holding binding x = or_symbol (bound_at binding x)
-
--- the valuation gives each bound variable its term
+-- the valuation gives each bound variable its value
 abbrev pub Extends : Valuation → List (Option (Value ℕ)) → Type 0
-Extends v binding = (x : ℕ) (t : Value ℕ) → bound_at binding x ≡ Some t → v x ≡ t
+Extends v binding = (x : ℕ) (t : Value ℕ) → bound_at binding x ≡ Some t → v x ≡ Some t
 
 -- the valuations of the new binding are those of the old one under which something holds
 pub record Narrows (P : Valuation → Type 0) (old new : List (Option (Value ℕ))) : Type 0 where
@@ -37,7 +28,7 @@ pub record Narrows (P : Valuation → Type 0) (old new : List (Option (Value ℕ
 abbrev pub NoneUnder : (Valuation → Type 0) → List (Option (Value ℕ)) → Type 0
 NoneUnder P old = (v : Valuation) → Extends v old → P v → ⊥
 
--- told yes, the binding is narrowed; told no, there is none
+-- where the answer is yes the binding is narrowed, and where it is no there is none
 abbrev pub NarrowsIf : (Valuation → Type 0) → Bool → List (Option (Value ℕ)) → List (Option (Value ℕ)) → Type 0
 NarrowsIf P true old new = Narrows P old new
 NarrowsIf P false old new = NoneUnder P old

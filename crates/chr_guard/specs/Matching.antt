@@ -1,39 +1,62 @@
--- When atoms stand at heads of a rule.
-use Rattle.std.specs.Prelude.{◌≡◌, ◌↔◌, ℕ, ◌++◌, List, length, map, Option, Some}
+-- When a rule's heads are atoms, and which body it then adds.
+use Rattle.std.specs.Prelude.{◌≡◌, ◌↔◌, ◌<◌, ℕ, ◌++◌, ◌⊎◌, Bool, true, false, List, length, Option, Some, IsSome}
 use Rattle.std.specs.List.{AllByRecursion}
 use Rattle.std.specs.Option.{option_map}
 use Rattle.chr_value.specs.Atoms.{Value, Atom}
 use Rattle.chr_rule.specs.Rules.{Simpagation, head_at}
 use Rattle.chr_rule.specs.Scope.{known_behind_heads}
 use Rattle.chr_guard.specs.Values.{Valuation}
-use Rattle.chr_guard.specs.Bindings.{Extends, AreBound}
-use Rattle.chr_guard.specs.Instances.{atom_under, IsRight, added}
+use Rattle.chr_guard.specs.Bindings.{bound_at, Extends, Narrows}
+use Rattle.chr_guard.specs.Instances.{atom_under, AreUnder, IsRight, added, IsInstance}
 
 -- under the valuation the head of that number is that atom
 abbrev pub IsAtHead : Simpagation ℕ → Valuation → ℕ × Atom ℕ → Type 0
-IsAtHead rule v place = option_map (atom_under v) (head_at rule place.0) ≡ Some place.1
+IsAtHead rule v place = option_map (atom_under v) (head_at rule place.0) ≡ Some (Some place.1)
 
 -- under the valuation all these heads are these atoms
 abbrev pub AreAtHeads : Simpagation ℕ → List (ℕ × Atom ℕ) → Valuation → Type 0
 AreAtHeads rule placed v = AllByRecursion (IsAtHead rule v) placed
 
--- the one binding of these heads' variables: the valuations that extend it are those under which these heads are these
--- atoms
+-- under the valuation the rule's heads are these atoms, in head order
+abbrev pub HeadsAre : Simpagation ℕ → List (Atom ℕ) → Valuation → Type 0
+HeadsAre rule atoms v = AreUnder v (rule.kept ++ rule.removed) atoms
+
+-- the one binding for what is asked of the valuations: those that extend it are those for which that holds
 pub record IsFit (rule : Simpagation ℕ) (P : Valuation → Type 0) (binding : List (Option (Value ℕ))) : Type 0 where
   pub places : length binding ≡ rule.variables
   pub exactly : (v : Valuation) → Extends v binding ↔ P v
 
--- under the valuation the rule's heads are these atoms, in head order
-abbrev pub HeadsAre : Simpagation ℕ → List (Atom ℕ) → Valuation → Type 0
-HeadsAre rule atoms v = map (atom_under v) (rule.kept ++ rule.removed) ≡ atoms
+-- the variable stands in a head
+abbrev pub IsOfHeads : Simpagation ℕ → ℕ → Type 0
+IsOfHeads rule x = (n : ℕ) × (known_behind_heads 0 (rule.kept ++ rule.removed) ≡ Some n) × (x < n)
 
--- each variable of the heads is bound
-abbrev pub HeadsBound : Simpagation ℕ → List (Option (Value ℕ)) → Type 0
-HeadsBound rule binding = (n : ℕ) → known_behind_heads 0 (rule.kept ++ rule.removed) ≡ Some n → AreBound n binding
+-- The valuation completes a binding of the heads' variables: each `is` is right, and a variable of the heads has the value
+-- that it is bound to, or none.
+pub record Completes (rule : Simpagation ℕ) (binding : List (Option (Value ℕ))) (v : Valuation) : Type 0 where
+  pub extends : Extends v binding
+  pub heads : (x : ℕ) → IsOfHeads rule x → v x ≡ bound_at binding x
+  pub right : AllByRecursion (IsRight v) rule.body
 
--- under the binding each `is` can be right, and this is the body then
-pub record IsBody (rule : Simpagation ℕ) (binding : List (Option (Value ℕ))) (made : List (Atom ℕ)) : Type 0 where
+-- the body under a binding of the heads' variables, where each `is` and each argument has a value
+pub record IsBody (rule : Simpagation ℕ) (binding : List (Option (Value ℕ))) (body : List (Atom ℕ)) : Type 0 where
   pub valuation : Valuation
-  pub extends : Extends valuation binding
-  pub right : AllByRecursion (IsRight valuation) rule.body
-  pub body_is : made ≡ added valuation rule.body
+  pub completes : Completes rule binding valuation
+  pub body_is : AreUnder valuation (added rule.body) body
+
+-- the new binding is the old one with the values of the variables left of an `is`
+pub record IsCompleted (rule : Simpagation ℕ) (old new : List (Option (Value ℕ))) : Type 0 where
+  pub narrows : Narrows (λ v. AllByRecursion (IsRight v) rule.body) old new
+  pub heads : (x : ℕ) → IsOfHeads rule x → bound_at new x ≡ bound_at old x
+  pub others : (x : ℕ) → x < rule.variables → IsOfHeads rule x ⊎ IsSome (bound_at new x)
+
+-- where the answer is yes the binding is completed, and where it is no nothing completes it
+abbrev pub CompletedIf : Simpagation ℕ → Bool → List (Option (Value ℕ)) → List (Option (Value ℕ)) → Type 0
+CompletedIf rule true old new = IsCompleted rule old new
+CompletedIf rule false old new = (v : Valuation) → Completes rule old v → ⊥
+
+-- the atoms are an instance that adds the body, and this is the one binding of the rule's variables
+pub record IsInstanceUnder (rule : Simpagation ℕ) (atoms : List (Atom ℕ)) (binding : List (Option (Value ℕ))) : Type 0 where
+  pub fit : IsFit rule (λ v. HeadsAre rule atoms v × AllByRecursion (IsRight v) rule.body) binding
+  pub body : List (Atom ℕ)
+  pub instance : IsInstance rule atoms body
+  pub body_is : AreUnder (bound_at binding) (added rule.body) body

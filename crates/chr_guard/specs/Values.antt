@@ -8,9 +8,9 @@ use Rattle.chr_rule.specs.declared.expression.Relation.{Relation}
 use Rattle.chr_rule.specs.declared.expression.Relation.TheVariants.{Less, LessEqual, Greater, GreaterEqual, Equal, Unequal}
 use Rattle.chr_rule.specs.Rules.{Term, Var, Given, Expression, Number, Variable, Operation, Comparison, Compared, Same, Differ}
 
--- what each variable of a rule stands for
+-- what each variable of a rule stands for, if it stands for a value
 abbrev pub Valuation : Type 0
-Valuation = ℕ → Value ℕ
+Valuation = ℕ → Option (Value ℕ)
 
 -- a number, where it has 64 bits with sign
 abbrev pub in_range : ℤ → Option ℤ
@@ -36,17 +36,18 @@ computed Quot a b = if is_zero b then None else in_range (int_div a b)
 computed Rem a b = if is_zero b then None else in_range (int_rem a b)
 computed Mod a b = if is_zero b then None else in_range (int_mod a b)
 
--- a symbol is no number
-abbrev pub number_in : Value ℕ → Option ℤ
-number_in (terms.Int n) = Some n
-number_in (terms.Sym s) = None
+-- the number that a variable stands for, which has none if it stands for a symbol or for nothing
+abbrev pub number_in : Option (Value ℕ) → Option ℤ
+number_in (Some (terms.Int n)) = Some n
+number_in (Some (terms.Sym s)) = None
+number_in None = None
 
 abbrev pub both : {A B C : Type 0} → (A → B → Option C) → Option A → Option B → Option C
 both f (Some a) (Some b) = f a b
 both f (Some a) None = None
 both f None b = None
 
--- an expression's value, where each part has one
+-- an expression's value, which it has where each part has one
 abbrev pub value_of : Valuation → Expression → Option ℤ
 value_of v (Number n) = Some n
 value_of v (Variable x) = number_in (v x)
@@ -60,13 +61,19 @@ compares GreaterEqual a b = int_le b a
 compares Equal a b = int_le a b && int_le b a
 compares Unequal a b = not (int_le a b && int_le b a)
 
--- what an argument stands for
-abbrev pub term_under : Valuation → Term ℕ → Value ℕ
+-- what an argument stands for, if it stands for a value
+abbrev pub term_under : Valuation → Term ℕ → Option (Value ℕ)
 term_under v (Var x) = v x
-term_under v (Given t) = t
+term_under v (Given t) = Some t
 
--- numbers are compared where both sides have values, terms as they are
+-- both sides have values, and these are so
+abbrev pub WhereBoth : (Value ℕ → Value ℕ → Type 0) → Option (Value ℕ) → Option (Value ℕ) → Type 0
+WhereBoth P (Some a) (Some b) = P a b
+WhereBoth P (Some a) None = ⊥
+WhereBoth P None b = ⊥
+
+-- numbers are compared by their relation, values by whether they are equal; no comparison holds where a side has no value
 abbrev pub Holds : Valuation → Comparison ℕ → Type 0
 Holds v (Compared r a b) = both (λ m n. Some (compares r m n)) (value_of v a) (value_of v b) ≡ Some true
-Holds v (Same s t) = term_under v s ≡ term_under v t
-Holds v (Differ s t) = term_under v s ≢ term_under v t
+Holds v (Same s t) = WhereBoth (λ a b. a ≡ b) (term_under v s) (term_under v t)
+Holds v (Differ s t) = WhereBoth (λ a b. a ≢ b) (term_under v s) (term_under v t)

@@ -1,9 +1,10 @@
 //! What the variables of a rule are bound to.
-ghost use Rattle.std.specs.Prelude.{◌≡◌, ◌<◌, ◌≤◌, ◌↔◌, IsTrue, None, length, replicate, slice_set};
+ghost use Rattle.std.specs.Prelude.{◌≡◌, ◌≢◌, ◌<◌, ◌≤◌, ◌↔◌, ℕ, IsTrue, Some, None, length, replicate, slice_set};
+ghost use Rattle.std.specs.Option.{option_map};
 ghost use Rattle.chr_value.specs.Atoms.{ground, Int};
 ghost use Rattle.chr_rule.specs.Parts.{argument};
-ghost use Rattle.chr_guard.specs.Values.{number_in, term_under};
-ghost use Rattle.chr_guard.specs.Bindings.{bound_term, bound_at, or_symbol, holding, NarrowsIf};
+ghost use Rattle.chr_guard.specs.Values.{number_in, term_under, WhereBoth};
+ghost use Rattle.chr_guard.specs.Bindings.{bound_term, bound_at, NarrowsIf};
 
 use arrayvec::ArrayVec;
 use chr_rule::rule_atom::Term;
@@ -26,36 +27,56 @@ impl<'a> Default for Bound<'a> {
 }
 
 impl<'a> Bound<'a> {
-    /// Whether it stands for a value. What is free stands for some symbol.
-    pub fn is(&self, value: &Value) -> bool
-        ensures { IsTrue result ↔ (or_symbol (bound_term self.now) ≡ ground value.now) }
+    /// Whether it stands for no value.
+    pub fn is_free(&self) -> bool
+        ensures { IsTrue result ↔ (bound_term self.now ≡ None) }
     {
         match self {
-            Bound::Free => value.same(&Value::Sym(Name { number: 0 })),
+            Bound::Free => true,
+            _ => false,
+        }
+    }
+
+    /// Whether it stands for this value.
+    pub fn is(&self, value: &Value) -> bool
+        ensures { IsTrue result ↔ (bound_term self.now ≡ Some (ground value.now)) }
+    {
+        match self {
+            Bound::Free => false,
             Bound::Held(held) => held.same(value),
             Bound::Number(n) => value.same(&Value::Int(*n)),
         }
     }
 
-    /// Whether two stand for one value.
+    /// Whether two stand for values, and for the same one.
     pub(crate) fn same(&self, other: &Bound) -> bool
-        ensures { IsTrue result ↔ (or_symbol (bound_term self.now) ≡ or_symbol (bound_term other.now)) }
+        ensures { IsTrue result ↔ WhereBoth (λ a b. a ≡ b) (bound_term self.now) (bound_term other.now) }
     {
         match other {
-            Bound::Free => self.is(&Value::Sym(Name { number: 0 })),
+            Bound::Free => false,
             Bound::Held(held) => self.is(held),
             Bound::Number(n) => self.is(&Value::Int(*n)),
         }
     }
 
-    /// The value that it stands for, once more.
-    pub fn value(&self) -> Value
-        ensures { ground result ≡ or_symbol (bound_term self.now) }
+    /// Whether two stand for values, and for different ones.
+    pub(crate) fn differs(&self, other: &Bound) -> bool
+        ensures { IsTrue result ↔ WhereBoth (λ a b. a ≢ b) (bound_term self.now) (bound_term other.now) }
+    {
+        if self.is_free() || other.is_free() {
+            return false;
+        }
+        !self.same(other)
+    }
+
+    /// A copy of the value that it stands for, or None where it is free.
+    pub fn value(&self) -> Option<Value>
+        ensures { option_map ground result ≡ bound_term self.now }
     {
         match self {
-            Bound::Free => Value::Sym(Name { number: 0 }),
-            Bound::Held(held) => held.duplicate(),
-            Bound::Number(n) => Value::Int(*n),
+            Bound::Free => None,
+            Bound::Held(held) => Some(held.duplicate()),
+            Bound::Number(n) => Some(Value::Int(*n)),
         }
     }
 }
@@ -69,10 +90,10 @@ pub struct Binding<'a> {
 
 impl<'a> Model for Binding<'a> {
     ghost use Rattle.std.specs.Prelude.{ℕ, List, Option, map};
-    ghost use Rattle.chr_value.specs.Atoms.{Value};
+    ghost use Rattle.chr_value.specs.Atoms.{Value as PlainValue};
     ghost use Rattle.chr_guard.specs.Bindings.{bound_term};
 
-    ghost Value = { List (Option (Value ℕ)) };
+    ghost Value = { List (Option (PlainValue ℕ)) };
 
     ghost view = { λ b. map bound_term b.bound.items };
 }
@@ -102,7 +123,7 @@ impl<'a> Binding<'a> {
 
     /// The number that a variable stands for, if it stands for one.
     pub(crate) fn number(&self, variable: u8) -> Option<i64>
-        ensures { result ≡ number_in (holding self.now variable) }
+        ensures { result ≡ number_in (bound_at self.now variable) }
     {
         match self.at(variable) {
             Bound::Held(Value::Int(n)) => Some(*n),
@@ -118,10 +139,10 @@ impl<'a> Binding<'a> {
         self.bound[usize::from(variable)] = bound;
     }
 
-    /// Binds a variable to a value. Where it is bound already, tells whether it is bound to this one.
+    /// Binds a variable to a value. Where it is bound already, answers whether it is bound to this one.
     pub(crate) fn hold(&mut self, variable: u8, value: &'a Value) -> bool
         requires { variable < length self.old }
-        ensures { NarrowsIf (λ v. v variable ≡ ground value.now) result self.old self.new }
+        ensures { NarrowsIf (λ v. v variable ≡ Some (ground value.now)) result self.old self.new }
     {
         match self.at(variable) {
             Bound::Free => {
@@ -132,10 +153,10 @@ impl<'a> Binding<'a> {
         }
     }
 
-    /// Binds a variable to a number. Where it is bound already, tells whether it is bound to this one.
+    /// Binds a variable to a number. Where it is bound already, answers whether it is bound to this one.
     pub(crate) fn bind_number(&mut self, variable: u8, number: i64) -> bool
         requires { variable < length self.old }
-        ensures { NarrowsIf (λ v. v variable ≡ Int number) result self.old self.new }
+        ensures { NarrowsIf (λ v. v variable ≡ Some (Int number)) result self.old self.new }
     {
         match self.at(variable) {
             Bound::Free => {
@@ -146,7 +167,7 @@ impl<'a> Binding<'a> {
         }
     }
 
-    /// The same once more.
+    /// A copy.
     pub fn copy(&self) -> Binding<'a>
         ensures { result ≡ self.now }
     {
@@ -157,19 +178,29 @@ impl<'a> Binding<'a> {
         Binding { bound: copy }
     }
 
-    /// The value that an argument of a rule stands for, once more.
-    pub fn value(&self, term: &Term) -> Value
-        ensures { ground result ≡ term_under (holding self.now) (argument term.now) }
+    /// A copy with at least this many variables, at most 24: further ones are free.
+    pub(crate) fn widened(&self, variables: usize) -> Binding<'a>
+        requires { variables ≤ 24 }
+        ensures places { variables ≤ length result }
+        ensures same { (x : ℕ) → bound_at result x ≡ bound_at self.now x }
     {
-        match term {
-            Term::Var(x) => self.at(*x).value(),
-            Term::Value(value) => value.duplicate(),
+        let mut copy = self.copy();
+        for _ in copy.bound.len()..variables {
+            copy.bound.push(Bound::Free);
         }
+        copy
+    }
+
+    /// A copy of the value that an argument of a rule stands for, or None for a variable that is free.
+    pub fn value(&self, term: &Term) -> Option<Value>
+        ensures { option_map ground result ≡ term_under (bound_at self.now) (argument term.now) }
+    {
+        self.term(term).value()
     }
 
     /// What an argument of a rule stands for.
     pub fn term<'b>(&'b self, term: &'b Term) -> Bound<'b>
-        ensures { or_symbol (bound_term result) ≡ term_under (holding self.now) (argument term.now) }
+        ensures { bound_term result ≡ term_under (bound_at self.now) (argument term.now) }
     {
         match term {
             Term::Var(x) => self.at(*x),

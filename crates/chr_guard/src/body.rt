@@ -1,10 +1,10 @@
 //! The body of a rule under a binding.
-ghost use Rattle.std.specs.Prelude.{◌≡◌, map, length, MatchOption};
-ghost use Rattle.std.specs.List.{AllByRecursion};
+ghost use Rattle.std.specs.Prelude.{◌≡◌, ◌≤◌, List, ℕ, map, length, MatchOption};
+ghost use Rattle.chr_value.specs.Atoms.{Atom};
 ghost use Rattle.chr_rule.specs.Parts.{shape};
-ghost use Rattle.chr_guard.specs.Bindings.{holding, NarrowsIf};
-ghost use Rattle.chr_guard.specs.Instances.{atom_under, IsRight, added};
-ghost use Rattle.chr_guard.specs.Matching.{HeadsBound, IsBody};
+ghost use Rattle.chr_guard.specs.Bindings.{bound_at};
+ghost use Rattle.chr_guard.specs.Instances.{atom_under, AreUnder, added};
+ghost use Rattle.chr_guard.specs.Matching.{CompletedIf, IsBody};
 
 use crate::binding::Binding;
 use crate::values::value;
@@ -18,22 +18,26 @@ use std::alloc::Allocator;
 /// The atoms of a body, at most 16.
 pub type Body<A> = ArrayVec<Atom<A>, 16, A>;
 
-/// The atom that a constraint of a rule stands for.
-pub fn make_atom<A: Allocator + Copy>(alloc: A, pattern: &RuleAtom, binding: &Binding) -> Atom<A>
-    ensures { result ≡ atom_under (holding binding.now) (shape pattern.now) }
+/// The atom that a constraint of a rule stands for, or None where an argument has no value.
+pub fn make_atom<A: Allocator + Copy>(
+    alloc: A,
+    pattern: &RuleAtom,
+    binding: &Binding,
+) -> Option<Atom<A>>
+    ensures { result ≡ atom_under (bound_at binding.now) (shape pattern.now) }
 {
     let mut atom = Atom::new(alloc, pattern.name);
     for term in pattern.terms.as_slice() {
-        atom.push(binding.value(term));
+        atom.push(binding.value(term)?);
     }
-    atom
+    Some(atom)
 }
 
-/// Binds the left sides of `is` in a rule's body to their values. False only where some `is` has no value.
+/// Binds the variables left of `is` in a rule's body to the values. False only where some `is` has no value, or where its
+/// variable is bound to another.
 pub(crate) fn bind_body<A: Allocator>(rule: &Rule<A>, binding: &mut Binding) -> bool
-    requires places { length binding.old ≡ rule.now.variables }
-    requires heads { HeadsBound rule.now binding.old }
-    ensures { NarrowsIf (λ v. AllByRecursion (IsRight v) rule.now.body) result binding.old binding.new }
+    requires { rule.now.variables ≤ length binding.old }
+    ensures { CompletedIf rule.now result binding.old binding.new }
 {
     for item in rule.body() {
         match item {
@@ -51,34 +55,34 @@ pub(crate) fn bind_body<A: Allocator>(rule: &Rule<A>, binding: &mut Binding) -> 
     true
 }
 
-/// The atoms of a rule's body, in written order, under a binding of all its variables.
-pub(crate) fn added_atoms<A: Allocator + Copy>(
+/// The atoms that a rule's body adds, in written order, under a binding of the rule's variables. None only where an
+/// argument has no value. It takes no memory.
+pub fn added_atoms<A: Allocator + Copy>(
     alloc: A,
     rule: &Rule<A>,
     binding: &Binding,
-) -> Body<A>
-    ensures { result.items ≡ added (holding binding.now) rule.now.body }
+) -> Option<Body<A>>
+    ensures { MatchOption result ((made : List (Atom ℕ)) → AreUnder (bound_at binding.now) (added rule.now.body) made → ⊥) (λ made. AreUnder (bound_at binding.now) (added rule.now.body) made.items) }
 {
     let mut atoms = ArrayVec::new_in(alloc);
     for item in rule.body() {
         match item {
             BodyItem::Is(_, _) => {}
-            BodyItem::Add(pattern) => atoms.push(make_atom(alloc, pattern, binding)),
+            BodyItem::Add(pattern) => atoms.push(make_atom(alloc, pattern, binding)?),
         }
     }
-    atoms
+    Some(atoms)
 }
 
-/// The atoms of a rule's body in written order, under a binding of its heads' variables. None only where some `is` has
-/// no value. It takes no memory.
+/// The atoms that a rule's body adds, in written order, under a binding of its heads' variables. None only where an
+/// argument or an `is` has no value, as with a variable that is free, or where the variable of an `is` is bound to
+/// another value. It takes no memory.
 pub fn body<A: Allocator + Copy>(alloc: A, rule: &Rule<A>, binding: &Binding) -> Option<Body<A>>
-    requires places { length binding.now ≡ rule.now.variables }
-    requires heads { HeadsBound rule.now binding.now }
-    ensures { MatchOption result ((made : _) → IsBody rule.now binding.now made → ⊥) (λ made. IsBody rule.now binding.now made.items) }
+    ensures { MatchOption result ((made : List (Atom ℕ)) → IsBody rule.now binding.now made → ⊥) (λ made. IsBody rule.now binding.now made.items) }
 {
-    let mut all = binding.copy();
+    let mut all = binding.widened(rule.variables());
     if !bind_body(rule, &mut all) {
         return None;
     }
-    Some(added_atoms(alloc, rule, &all))
+    added_atoms(alloc, rule, &all)
 }

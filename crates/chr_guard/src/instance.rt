@@ -1,8 +1,8 @@
 //! Which atoms are an instance of a rule.
 ghost use Rattle.std.specs.Prelude.{List, ℕ, map, MatchOption};
 ghost use Rattle.chr_value.specs.Atoms.{Atom};
-ghost use Rattle.chr_guard.specs.Instances.{IsInstance, IsInstanceUnder, NoInstance};
-ghost use Rattle.chr_guard.specs.Matching.{HeadsAre, IsFit};
+ghost use Rattle.chr_guard.specs.Instances.{IsInstance, NoInstance};
+ghost use Rattle.chr_guard.specs.Matching.{HeadsAre, IsFit, IsInstanceUnder};
 
 use crate::binding::Binding;
 use crate::body::{Body, added_atoms, bind_body};
@@ -12,7 +12,7 @@ use chr_rule::rule::Rule;
 use chr_value::atom::Atom;
 use std::alloc::Allocator;
 
-/// The binding of all variables of a rule's instance, from that of its heads' variables. None where the heads' atoms
+/// The one binding of all variables of a rule's instance, from that of its heads' variables. None where the heads' atoms
 /// are no instance, whatever the body.
 pub fn instance_from<'a, A: Allocator + Copy>(
     rule: &Rule<A>,
@@ -30,7 +30,7 @@ pub fn instance_from<'a, A: Allocator + Copy>(
     Some(binding)
 }
 
-/// The binding of all variables of the instance of a rule whose heads are these atoms, in head order: kept heads first.
+/// The one binding of all variables of the instance of a rule whose heads are these atoms, in head order: kept heads first.
 /// None where they are no instance, whatever the body. [`added_atoms`] makes the body.
 pub fn instance_under<'a, A: Allocator + Copy>(
     rule: &Rule<A>,
@@ -52,5 +52,5 @@ pub fn instance<A: Allocator + Copy>(
     ensures { let facts = map (λ a. a.now) atoms.now in MatchOption result (NoInstance rule.now facts) (λ made. IsInstance rule.now facts made.items) }
 {
     let binding = instance_under(rule, atoms)?;
-    Some(added_atoms(alloc, rule, &binding))
+    added_atoms(alloc, rule, &binding)
 }

@@ -1,7 +1,7 @@
 //! Which binding makes heads of a rule equal to atoms.
-ghost use Rattle.std.specs.Prelude.{◌≡◌, true, length, map, MatchOption};
+ghost use Rattle.std.specs.Prelude.{◌≡◌, true, Some, length, map, MatchOption};
 ghost use Rattle.std.specs.List.{list_all, AllByRecursion};
-ghost use Rattle.chr_value.specs.Atoms.{ground, grounds};
+ghost use Rattle.chr_value.specs.Atoms.{ground};
 ghost use Rattle.chr_rule.specs.Parts.{argument, shape};
 ghost use Rattle.chr_rule.specs.Scope.{argument_known};
 ghost use Rattle.chr_guard.specs.Values.{term_under};
@@ -15,10 +15,10 @@ use chr_rule::rule::Rule;
 use chr_value::atom::{Atom, Value};
 use std::alloc::Allocator;
 
-/// Binds what is needed for a term to be a value. False only where no valuation makes it so.
+/// Extends a binding so that a term equals a value. False only where no valuation that extends it makes them equal.
 pub(crate) fn fit_term<'a>(binding: &mut Binding<'a>, term: &Term, value: &'a Value) -> bool
     requires { argument_known (length binding.old) (argument term.now) ≡ true }
-    ensures { NarrowsIf (λ v. term_under v (argument term.now) ≡ ground value.now) result binding.old binding.new }
+    ensures { NarrowsIf (λ v. term_under v (argument term.now) ≡ Some (ground value.now)) result binding.old binding.new }
 {
     match term {
         Term::Var(x) => binding.hold(*x, value),
@@ -29,7 +29,7 @@ pub(crate) fn fit_term<'a>(binding: &mut Binding<'a>, term: &Term, value: &'a Va
 /// The same for several terms.
 pub(crate) fn fit_terms<'a>(binding: &mut Binding<'a>, terms: &[Term], values: &'a [Value]) -> bool
     requires { list_all (argument_known (length binding.old)) (map argument terms.now) ≡ true }
-    ensures { NarrowsIf (λ v. map (term_under v) (map argument terms.now) ≡ grounds values.now) result binding.old binding.new }
+    ensures { NarrowsIf (λ v. map (term_under v) (map argument terms.now) ≡ map (λ t. Some (ground t)) values.now) result binding.old binding.new }
 {
     if terms.len() != values.len() {
         return false;
@@ -42,14 +42,14 @@ pub(crate) fn fit_terms<'a>(binding: &mut Binding<'a>, terms: &[Term], values: &
     true
 }
 
-/// Binds what is needed for a head to be an atom. False only where no valuation makes it so.
+/// Extends a binding so that a head equals an atom. False only where no valuation that extends it makes them equal.
 pub fn fit_head<'a, A: Allocator + Copy>(
     binding: &mut Binding<'a>,
     head: &RuleAtom,
     atom: &'a Atom<A>,
 ) -> bool
     requires { list_all (argument_known (length binding.old)) (shape head.now).args ≡ true }
-    ensures { NarrowsIf (λ v. atom_under v (shape head.now) ≡ atom.now) result binding.old binding.new }
+    ensures { NarrowsIf (λ v. atom_under v (shape head.now) ≡ Some atom.now) result binding.old binding.new }
 {
     let name = atom.name();
     if head.name.number != name.number {
@@ -65,7 +65,7 @@ pub(crate) fn fit_heads<'a, A: Allocator + Copy>(
     atoms: &[&'a Atom<A>],
 ) -> bool
     requires { AllByRecursion (λ h. list_all (argument_known (length binding.old)) h.args ≡ true) (map shape heads.now) }
-    ensures { NarrowsIf (λ v. map (atom_under v) (map shape heads.now) ≡ map (λ a. a.now) atoms.now) result binding.old binding.new }
+    ensures { NarrowsIf (λ v. map (atom_under v) (map shape heads.now) ≡ map (λ a. Some a.now) atoms.now) result binding.old binding.new }
 {
     if heads.len() != atoms.len() {
         return false;

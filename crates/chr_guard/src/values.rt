@@ -4,7 +4,7 @@ ghost use Rattle.std.specs.List.{AllByRecursion};
 ghost use Rattle.chr_rule.specs.Parts.{expression, comparison};
 ghost use Rattle.chr_rule.specs.Scope.{IsRule};
 ghost use Rattle.chr_guard.specs.Values.{value_of, Holds};
-ghost use Rattle.chr_guard.specs.Bindings.{holding};
+ghost use Rattle.chr_guard.specs.Bindings.{bound_at};
 
 use crate::arithmetic::{compare, compute};
 use crate::binding::Binding;
@@ -15,7 +15,7 @@ use std::alloc::Allocator;
 /// The value of an expression over exact whole numbers. It has none where a variable stands for a symbol or is free,
 /// where a part is out of the range of 64 bits with sign, or where a divisor is 0.
 pub fn value<A: Allocator>(expr: &Expr<A>, binding: &Binding) -> Option<i64>
-    ensures { result ≡ value_of (holding binding.now) (expression expr.now) }
+    ensures { result ≡ value_of (bound_at binding.now) (expression expr.now) }
 {
     match expr {
         Expr::Number(n) => Some(*n),
@@ -28,9 +28,9 @@ pub fn value<A: Allocator>(expr: &Expr<A>, binding: &Binding) -> Option<i64>
     }
 }
 
-/// Whether a comparison holds. Numbers are compared only where both sides have values; a number never equals a symbol.
+/// Whether a comparison holds. None does where a side has no value; a number never equals a symbol.
 pub fn holds<A: Allocator>(test: &Comparison<A>, binding: &Binding) -> bool
-    ensures { IsTrue result ↔ Holds (holding binding.now) (comparison test.now) }
+    ensures { IsTrue result ↔ Holds (bound_at binding.now) (comparison test.now) }
 {
     match test {
         Comparison::Numbers(relation, a, b) => match (value(a, binding), value(b, binding)) {
@@ -38,13 +38,13 @@ pub fn holds<A: Allocator>(test: &Comparison<A>, binding: &Binding) -> bool
             _ => false,
         },
         Comparison::Same(s, t) => binding.term(s).same(&binding.term(t)),
-        Comparison::Differ(s, t) => !binding.term(s).same(&binding.term(t)),
+        Comparison::Differ(s, t) => binding.term(s).differs(&binding.term(t)),
     }
 }
 
 /// Whether each comparison of a rule's guard holds.
 pub fn guard_holds<A: Allocator>(rule: &Rule<A>, binding: &Binding) -> bool
-    ensures holds { IsTrue result ↔ AllByRecursion (Holds (holding binding.now)) rule.now.guard }
+    ensures holds { IsTrue result ↔ AllByRecursion (Holds (bound_at binding.now)) rule.now.guard }
     ensures whole { IsRule rule.now }
 {
     for test in rule.guard() {

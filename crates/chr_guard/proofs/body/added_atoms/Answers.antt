@@ -1,30 +1,44 @@
-use Rattle.std.proofs.Common.{◌≡◌, ◌≤◌, ◌+◌, ◌++◌, ◌∷◌, [], length, sym, ap, ◌∙◌, arith}
+use Rattle.std.proofs.Common.{◌≡◌, ◌≤◌, ◌+◌, ◌++◌, ◌∷◌, [], length, map, take, Some, sym, ap, ◌∙◌, subst, subst₂, arith}
 use Rattle.std.proofs.lemmas.List.{append-nil, length_push}
+use Rattle.chr_value.specs.Atoms.{Atom}
+use Rattle.std.specs.Prelude.{ℕ, List}
 use Rattle.chr_rule.specs.Rules.{Is, Add}
-use Rattle.chr_rule.specs.Parts.{shape, member}
-use Rattle.chr_guard.specs.Bindings.{holding}
-use Rattle.chr_guard.specs.Instances.{atom_under}
-use Rattle.chr_guard.proofs.Whole.{added_more}
+use Rattle.chr_rule.specs.Parts.{shape, member, expression}
+use Rattle.chr_guard.specs.Bindings.{bound_at}
+use Rattle.chr_guard.specs.Instances.{atom_under, AreUnder, added}
+use Rattle.chr_guard.proofs.Whole.{added_more, not_made}
 use Rattle.chr_guard.proofs.body.added_atoms.Goals as goal
-use Rattle.chr_guard.proofs.body.added_atoms.Goals.{in-Is, in-Add}
+use Rattle.chr_guard.proofs.body.added_atoms.Goals.{in-Is, in-Add+in_ok-make_atom-in-Add}
+
+pub returns-in_err-make_atom-in-Add : goal.returns-in_err-make_atom-in-Add
+returns-in_err-make_atom-in-Add g c =
+    rw c.from_residual.ensures (λ made all. not_made (member {Z = g.row.A.Denot}) (bound_at c.args.binding.now) c.body-item-items.result.now c.loop-item.item-index c.item-item.result (shape c.in-Add.pattern) made c.loop-item-test.true c.item-item.is (ap (member {Z = g.row.A.Denot}) c.in-Add.is) (sym c.in_err-make_atom-in-Add.ensures) (subst (λ ms. AreUnder (bound_at c.args.binding.now) (added ms) made) (sym c.body-item-items.ensures.members) all))
 
 pub loop-item-preserved : goal.loop-item-preserved
 loop-item-preserved g c =
+    let v = bound_at c.args.binding.now in
+    let f = member {Z = g.row.A.Denot} in
+    let items = c.body-item-items.result.now in
     elim c.match-item.branch [
       | in-Is w ↦
           let same : c.match-item.atoms.items ≡ c.loop-item.atoms.items = ap (λ a. a.items) w.atoms-is in
           let len : length c.match-item.atoms.items ≡ length c.loop-item.atoms.items = ap length same in
           let few : length c.loop-item.atoms.items ≤ c.loop-item.item-index = c.loop-item.invariant.few in
+          let none : AreUnder v (added (f c.item-item.result ∷ [])) [] = ap (λ m. map (atom_under v) (added (m ∷ []))) (ap f w.in-Is.is) in
           record {
-            items = added_more (member {Z = g.row.A.Denot}) (holding c.args.binding.now) c.body-item-items.result.now c.loop-item.item-index c.item-item.result (Is _ _) c.loop-item.atoms.items c.match-item.atoms.items c.loop-item-test.true c.item-item.is (ap (member {Z = g.row.A.Denot}) w.in-Is.is) c.loop-item.invariant.items (same ∙ sym (append-nil c.loop-item.atoms.items));
+            items = subst (AreUnder v (added (map f (take (c.loop-item.item-index + 1) items)))) (append-nil c.loop-item.atoms.items ∙ sym same)
+                (added_more f v items c.loop-item.item-index c.item-item.result c.loop-item.atoms.items [] c.loop-item-test.true c.item-item.is c.loop-item.invariant.items none);
             few = omega arith;
           }
-      | in-Add w ↦
-          let more : c.match-item.atoms.items ≡ c.loop-item.atoms.items ++ atom_under (holding c.args.binding.now) (shape w.in-Add.pattern) ∷ [] = ap (λ a. a.items) w.atoms-is ∙ w.push.ensures.items ∙ ap (λ a. c.loop-item.atoms.items ++ a ∷ []) w.make_atom.ensures in
+      | in-Add+in_ok-make_atom-in-Add w ↦
+          let a = w.in_ok-make_atom-in-Add.field-0 in
+          let more : c.match-item.atoms.items ≡ c.loop-item.atoms.items ++ a ∷ [] = ap (λ a. a.items) w.atoms-is ∙ w.push.ensures.items in
           let len : length c.match-item.atoms.items ≡ length c.loop-item.atoms.items + 1 = ap length more ∙ length_push c.loop-item.atoms.items _ in
           let few : length c.loop-item.atoms.items ≤ c.loop-item.item-index = c.loop-item.invariant.few in
+          let one : AreUnder v (added (f c.item-item.result ∷ [])) (a ∷ []) = ap (λ m. map (atom_under v) (added (m ∷ []))) (ap f w.in-Add.is) ∙ ap (λ o. o ∷ []) (sym w.in_ok-make_atom-in-Add.ensures) in
           record {
-            items = added_more (member {Z = g.row.A.Denot}) (holding c.args.binding.now) c.body-item-items.result.now c.loop-item.item-index c.item-item.result (Add (shape w.in-Add.pattern)) c.loop-item.atoms.items c.match-item.atoms.items c.loop-item-test.true c.item-item.is (ap (member {Z = g.row.A.Denot}) w.in-Add.is) c.loop-item.invariant.items more;
+            items = subst (AreUnder v (added (map f (take (c.loop-item.item-index + 1) items)))) (sym more)
+                (added_more f v items c.loop-item.item-index c.item-item.result c.loop-item.atoms.items (a ∷ []) c.loop-item-test.true c.item-item.is c.loop-item.invariant.items one);
             few = omega arith;
           }
     ]

@@ -1,4 +1,4 @@
-use Rattle.std.proofs.Common.{rules, arith, to_z, of_z, w64, ◌≡◌, ◌≤◌, ◌+◌, length, sym, subst, ap, ◌∙◌}
+use Rattle.std.proofs.Common.{rules, arith, to_z, of_z, w64, ◌≡◌, ◌≤◌, ◌+◌, length, Some, sym, subst, ap, ◌∙◌}
 use Rattle.std.proofs.lemmas.List.{length-map}
 use Rattle.std.proofs.lemmas.Grind.{common_steps}
 use Rattle.std.proofs.lemmas.Int.{to_z-of_z}
@@ -12,7 +12,7 @@ use Rattle.chr_guard.proofs.body.bind_body.Goals as goal
 use Rattle.chr_guard.proofs.body.bind_body.Goals.{in-Is+in-Some+else-not-bind_number, in-Add}
 
 pub loop-item-init : goal.loop-item-init
-loop-item-init g c = completing_start c.args.rule.now c.args.binding.now c.body-item-items.ensures.whole c.requires.places c.requires.heads
+loop-item-init g c = completing_start c.args.rule.now c.args.binding.now c.body-item-items.ensures.whole c.requires
 
 pub returns-in_default : goal.returns-in_default
 returns-in_default g c =
@@ -28,7 +28,7 @@ pub returns-then-not-bind_number : goal.returns-then-not-bind_number
 returns-then-not-bind_number g c =
     let same : to_z w64 (of_z w64 c.in-Some.n) ≡ c.in-Some.n = first_of (search rules, grind (arith, common_steps, to_z-of_z)) in
     let read = read_as (member {Z = g.row.A.Denot}) c.body-item-items.result.now c.args.rule.now.body c.loop-item.item-index c.item-item.result (Is c.in-Is.x (expression c.in-Is.expr)) c.body-item-items.ensures.members c.loop-item-test.true c.item-item.is (ap (member {Z = g.row.A.Denot}) c.in-Is.is) in
-    is_otherwise c.args.rule.now c.loop-item.item-index c.in-Is.x (expression c.in-Is.expr) c.args.binding.now c.loop-item.binding read.0 read.1 c.loop-item.invariant c.in-Some.n (sym c.value.ensures ∙ c.in-Some.is) (subst (λ z. NoneUnder (λ v. v c.in-Is.x ≡ Int z) c.loop-item.binding) same c.if-not-bind_number.ensures)
+    is_otherwise c.args.rule.now c.loop-item.item-index c.in-Is.x (expression c.in-Is.expr) c.args.binding.now c.loop-item.binding read.0 read.1 c.loop-item.invariant c.in-Some.n (sym c.value.ensures ∙ c.in-Some.is) (subst (λ z. NoneUnder (λ v. v c.in-Is.x ≡ Some (Int z)) c.loop-item.binding) same c.if-not-bind_number.ensures)
 
 pub loop-item-preserved : goal.loop-item-preserved
 loop-item-preserved g c =
@@ -37,7 +37,7 @@ loop-item-preserved g c =
           let same : to_z w64 (of_z w64 w.in-Some.n) ≡ w.in-Some.n = first_of (search rules, grind (arith, common_steps, to_z-of_z)) in
           let read = read_as (member {Z = g.row.A.Denot}) c.body-item-items.result.now c.args.rule.now.body c.loop-item.item-index c.item-item.result (Is w.in-Is.x (expression w.in-Is.expr)) c.body-item-items.ensures.members c.loop-item-test.true c.item-item.is (ap (member {Z = g.row.A.Denot}) w.in-Is.is) in
           subst (Completing c.args.rule.now (c.loop-item.item-index + 1) c.args.binding.now) (sym w.binding-is)
-          (is_more c.args.rule.now c.loop-item.item-index w.in-Is.x (expression w.in-Is.expr) c.args.binding.now c.loop-item.binding read.0 read.1 c.loop-item.invariant w.in-Some.n w.bind_number.new.self (sym w.value.ensures ∙ w.in-Some.is) (subst (λ z. Narrows (λ v. v w.in-Is.x ≡ Int z) c.loop-item.binding w.bind_number.new.self) same w.if-not-bind_number.ensures))
+          (is_more c.args.rule.now c.loop-item.item-index w.in-Is.x (expression w.in-Is.expr) c.args.binding.now c.loop-item.binding read.0 read.1 c.loop-item.invariant w.in-Some.n w.bind_number.new.self (sym w.value.ensures ∙ w.in-Some.is) (subst (λ z. Narrows (λ v. v w.in-Is.x ≡ Some (Int z)) c.loop-item.binding w.bind_number.new.self) same w.if-not-bind_number.ensures))
       | in-Add w ↦
           let read = read_as (member {Z = g.row.A.Denot}) c.body-item-items.result.now c.args.rule.now.body c.loop-item.item-index c.item-item.result (Add _) c.body-item-items.ensures.members c.loop-item-test.true c.item-item.is (ap (member {Z = g.row.A.Denot}) w.in-Add.is) in
           subst (Completing c.args.rule.now (c.loop-item.item-index + 1) c.args.binding.now) (sym w.binding-is)

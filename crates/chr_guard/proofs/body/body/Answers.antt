@@ -1,13 +1,20 @@
-use Rattle.std.proofs.Common.{sym, subst}
-use Rattle.chr_guard.specs.Matching.{HeadsBound}
-use Rattle.chr_guard.proofs.Whole.{is_body, no_body}
+use Rattle.std.proofs.Common.{◌≤◌, length, map, arith}
+use Rattle.chr_guard.specs.Bindings.{bound_at}
+use Rattle.chr_guard.specs.Instances.{AreUnder, added}
+use Rattle.chr_guard.specs.Matching.{IsBody}
+use Rattle.chr_guard.proofs.Whole.{is_body, no_body, no_arguments, carried_on}
 use Rattle.chr_guard.proofs.body.body.Goals as goal
 
-pub bind_body-requires-clause-heads : goal.bind_body-requires-clause-heads
-bind_body-requires-clause-heads g c = subst (HeadsBound c.args.rule.now) (sym c.copy-all.ensures) c.requires.heads
-
 pub returns : goal.returns
-returns g c = is_body c.args.rule.now c.args.binding.now c.copy-all.result c.bind_body.new.binding c.added_atoms.result.items c.copy-all.ensures c.if-not-bind_body.ensures c.added_atoms.ensures
+returns g c =
+    let rule = c.args.rule.now in
+    let binding = c.args.binding.now in
+    let all = c.widened-all.result in
+    let new = c.bind_body.new.binding in
+    carried_on c.added_atoms.result
+    (no_arguments rule binding all c.widened-all.ensures.same c.variables.ensures.whole new c.if-not-bind_body.ensures)
+    (λ made is. is_body rule binding all c.widened-all.ensures.same new made.items c.if-not-bind_body.ensures is)
+    c.added_atoms.ensures
 
 pub returns-then-not-bind_body : goal.returns-then-not-bind_body
-returns-then-not-bind_body g c = no_body c.args.rule.now c.args.binding.now c.copy-all.result c.copy-all.ensures c.if-not-bind_body.ensures
+returns-then-not-bind_body g c = no_body c.args.rule.now c.args.binding.now c.widened-all.result c.widened-all.ensures.same c.if-not-bind_body.ensures

@@ -1,10 +1,9 @@
-use Rattle.std.proofs.Common.{◌≡◌, true, false, refl}
-use Rattle.chr_guard.proofs.Matched.{fit_binds}
+use Rattle.std.proofs.Common.{◌≡◌, ◌≤◌, length, true, false, refl, sym, subst, arith}
 use Rattle.chr_guard.proofs.Whole.{is_instance_under, no_guard, no_right}
 use Rattle.chr_guard.proofs.instance.instance_from.Goals as goal
 
-pub bind_body-requires-clause-heads : goal.bind_body-requires-clause-heads
-bind_body-requires-clause-heads g c = fit_binds c.args.rule.now c.requires.0 c.args.binding c.requires.1
+pub bind_body-requires : goal.bind_body-requires
+bind_body-requires g c = let len : length c.args.binding ≡ c.args.rule.now.variables = c.requires.1.places in omega arith
 
 pub returns : goal.returns
 returns g c facts fit =

@@ -1,22 +1,23 @@
-use Rattle.std.proofs.Common.{◌≡◌, ◌<◌, ◌++◌, length, map, None, replicate, arith, sym, subst, ap, ◌∙◌}
+use Rattle.std.proofs.Common.{◌≡◌, ◌<◌, ◌++◌, length, map, Some, None, replicate, arith, refl, sym, subst, ap, ◌∙◌}
 use Rattle.std.specs.List.{AllByRecursion}
 use Rattle.std.proofs.lemmas.List.{length-map, length-replicate}
+use Rattle.std.proofs.lemmas.Simd.{map-map}
 use Rattle.chr_rule.specs.Parts.{shape}
 use Rattle.chr_guard.proofs.Scoped.{IsPlaced}
 use Rattle.chr_guard.proofs.Steps.{halves}
-use Rattle.chr_guard.proofs.Matched.{kept_placed, removed_placed, placed_in_binding, fit_both, no_kept, no_removed, too_few}
+use Rattle.chr_guard.proofs.Matched.{InParts, kept_placed, removed_placed, placed_in_binding, fit_both, no_kept, no_removed, too_few}
 use Rattle.chr_guard.proofs.matching.fit_all.Goals as goal
 
 pub fit_heads-requires : goal.fit_heads-requires
 fit_heads-requires g c =
     let rule = c.args.rule.now in
-    let len : length c.free-binding.result ≡ rule.variables = ap length c.free-binding.ensures ∙ length-replicate c.variables.result None ∙ c.variables.ensures.bind_number in
+    let len : length c.free-binding.result ≡ rule.variables = ap length c.free-binding.ensures ∙ length-replicate c.variables.result None ∙ c.variables.ensures.count in
     placed_in_binding rule (map shape c.kept-kept.result.now) (length c.free-binding.result) len (subst (AllByRecursion (IsPlaced rule.variables)) (sym c.kept-kept.ensures.heads) (kept_placed rule c.kept-kept.ensures.whole))
 
 pub fit_heads-requires-2 : goal.fit_heads-requires-2
 fit_heads-requires-2 g c =
     let rule = c.args.rule.now in
-    let len : length c.fit_heads.new.binding ≡ rule.variables = c.if-not-fit_heads.ensures.places ∙ ap length c.free-binding.ensures ∙ length-replicate c.variables.result None ∙ c.variables.ensures.bind_number in
+    let len : length c.fit_heads.new.binding ≡ rule.variables = c.if-not-fit_heads.ensures.places ∙ ap length c.free-binding.ensures ∙ length-replicate c.variables.result None ∙ c.variables.ensures.count in
     placed_in_binding rule (map shape c.removed-removed.result.now) (length c.fit_heads.new.binding) len (subst (AllByRecursion (IsPlaced rule.variables)) (sym c.removed-removed.ensures.heads) (removed_placed rule c.kept-kept.ensures.whole))
 
 pub returns : goal.returns
@@ -26,9 +27,13 @@ returns g c =
     let first = c.split_at.result.0.now in
     let rest = c.split_at.result.1.now in
     let kept = c.kept-kept.result.now in
-    let both : map (λ a. a.now) atoms ≡ map (λ a. a.now) first ++ map (λ a. a.now) rest = halves (λ a. a.now) atoms first rest (length kept) c.split_at.ensures.front c.split_at.ensures.back in
-    let len : length (map (λ a. a.now) first) ≡ length (map shape kept) = length-map first (λ a. a.now) ∙ c.split_at.ensures.front_len ∙ sym (length-map kept shape) in
-    fit_both rule (map (λ a. a.now) atoms) (map (λ a. a.now) first) (map (λ a. a.now) rest) (map shape kept) (map shape c.removed-removed.result.now) c.free-binding.result c.fit_heads.new.binding c.fit_heads-2.new.binding c.kept-kept.ensures.heads c.removed-removed.ensures.heads both len (c.free-binding.ensures ∙ ap (λ n. replicate n None) c.variables.ensures.bind_number) c.if-not-fit_heads.ensures c.if-not-fit_heads-2.ensures
+    let parts : InParts rule (map (λ a. a.now) atoms) (map shape kept) (map shape c.removed-removed.result.now) (map (λ a. Some a.now) first) (map (λ a. Some a.now) rest) = record {
+      kept_are = c.kept-kept.ensures.heads;
+      removed_are = c.removed-removed.ensures.heads;
+      both = map-map (λ x. Some x) (λ a. a.now) atoms ∙ halves (λ a. Some a.now) atoms first rest (length kept) c.split_at.ensures.front c.split_at.ensures.back;
+      front = length-map first (λ a. Some a.now) ∙ c.split_at.ensures.front_len ∙ sym (length-map kept shape);
+    } in
+    fit_both rule (map (λ a. a.now) atoms) (map (λ a. Some a.now) first) (map (λ a. Some a.now) rest) (map shape kept) (map shape c.removed-removed.result.now) c.free-binding.result c.fit_heads.new.binding c.fit_heads-2.new.binding parts (c.free-binding.ensures ∙ ap (λ n. replicate n None) c.variables.ensures.count) c.if-not-fit_heads.ensures c.if-not-fit_heads-2.ensures
 
 pub returns-then-not-fit_heads : goal.returns-then-not-fit_heads
 returns-then-not-fit_heads g c =
@@ -37,9 +42,13 @@ returns-then-not-fit_heads g c =
     let first = c.split_at.result.0.now in
     let rest = c.split_at.result.1.now in
     let kept = c.kept-kept.result.now in
-    let both : map (λ a. a.now) atoms ≡ map (λ a. a.now) first ++ map (λ a. a.now) rest = halves (λ a. a.now) atoms first rest (length kept) c.split_at.ensures.front c.split_at.ensures.back in
-    let len : length (map (λ a. a.now) first) ≡ length (map shape kept) = length-map first (λ a. a.now) ∙ c.split_at.ensures.front_len ∙ sym (length-map kept shape) in
-    no_kept rule (map (λ a. a.now) atoms) (map (λ a. a.now) first) (map (λ a. a.now) rest) (map shape kept) c.free-binding.result c.kept-kept.ensures.heads both len (c.free-binding.ensures ∙ ap (λ n. replicate n None) c.variables.ensures.bind_number) c.if-not-fit_heads.ensures
+    let parts : InParts rule (map (λ a. a.now) atoms) (map shape kept) rule.removed (map (λ a. Some a.now) first) (map (λ a. Some a.now) rest) = record {
+      kept_are = c.kept-kept.ensures.heads;
+      removed_are = refl;
+      both = map-map (λ x. Some x) (λ a. a.now) atoms ∙ halves (λ a. Some a.now) atoms first rest (length kept) c.split_at.ensures.front c.split_at.ensures.back;
+      front = length-map first (λ a. Some a.now) ∙ c.split_at.ensures.front_len ∙ sym (length-map kept shape);
+    } in
+    no_kept rule (map (λ a. a.now) atoms) (map (λ a. Some a.now) first) (map (λ a. Some a.now) rest) (map shape kept) c.free-binding.result parts (c.free-binding.ensures ∙ ap (λ n. replicate n None) c.variables.ensures.count) c.if-not-fit_heads.ensures
 
 pub returns-then-not-fit_heads-2 : goal.returns-then-not-fit_heads-2
 returns-then-not-fit_heads-2 g c =
@@ -48,9 +57,13 @@ returns-then-not-fit_heads-2 g c =
     let first = c.split_at.result.0.now in
     let rest = c.split_at.result.1.now in
     let kept = c.kept-kept.result.now in
-    let both : map (λ a. a.now) atoms ≡ map (λ a. a.now) first ++ map (λ a. a.now) rest = halves (λ a. a.now) atoms first rest (length kept) c.split_at.ensures.front c.split_at.ensures.back in
-    let len : length (map (λ a. a.now) first) ≡ length (map shape kept) = length-map first (λ a. a.now) ∙ c.split_at.ensures.front_len ∙ sym (length-map kept shape) in
-    no_removed rule (map (λ a. a.now) atoms) (map (λ a. a.now) first) (map (λ a. a.now) rest) (map shape kept) (map shape c.removed-removed.result.now) c.free-binding.result c.fit_heads.new.binding c.kept-kept.ensures.heads c.removed-removed.ensures.heads both len (c.free-binding.ensures ∙ ap (λ n. replicate n None) c.variables.ensures.bind_number) c.if-not-fit_heads.ensures c.if-not-fit_heads-2.ensures
+    let parts : InParts rule (map (λ a. a.now) atoms) (map shape kept) (map shape c.removed-removed.result.now) (map (λ a. Some a.now) first) (map (λ a. Some a.now) rest) = record {
+      kept_are = c.kept-kept.ensures.heads;
+      removed_are = c.removed-removed.ensures.heads;
+      both = map-map (λ x. Some x) (λ a. a.now) atoms ∙ halves (λ a. Some a.now) atoms first rest (length kept) c.split_at.ensures.front c.split_at.ensures.back;
+      front = length-map first (λ a. Some a.now) ∙ c.split_at.ensures.front_len ∙ sym (length-map kept shape);
+    } in
+    no_removed rule (map (λ a. a.now) atoms) (map (λ a. Some a.now) first) (map (λ a. Some a.now) rest) (map shape kept) (map shape c.removed-removed.result.now) c.free-binding.result c.fit_heads.new.binding parts (c.free-binding.ensures ∙ ap (λ n. replicate n None) c.variables.ensures.count) c.if-not-fit_heads.ensures c.if-not-fit_heads-2.ensures
 
 pub returns-then-atoms-kept : goal.returns-then-atoms-kept
 returns-then-atoms-kept g c =

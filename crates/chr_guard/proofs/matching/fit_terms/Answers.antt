@@ -1,4 +1,4 @@
-use Rattle.std.proofs.Common.{◌<◌, ◌≤◌, length, map, get_or, arith, sym, ap, ◌∙◌}
+use Rattle.std.proofs.Common.{◌<◌, ◌≤◌, length, map, get_or, Some, arith, sym, ap, ◌∙◌}
 use Rattle.std.proofs.lemmas.List.{get_or-map, length-map}
 use Rattle.chr_value.specs.Atoms.{ground}
 use Rattle.chr_rule.specs.declared.rule_atom.Term.TheVariants as variants
@@ -22,7 +22,7 @@ returns-then-not-fit_term c =
     let values = c.args.values.now in
     let left : c.loop-i.i < length terms = omega arith in
     let right : c.loop-i.i < length values = omega arith in
-    read_stop term_under argument ground terms values c.loop-i.i _ _ left right (read_there terms c.loop-i.i _ left) (read_there values c.loop-i.i _ right) c.args.binding.now c.loop-i.binding c.loop-i.invariant (c.if-not-fit_term.ensures)
+    read_stop term_under argument (λ t. Some (ground t)) terms values c.loop-i.i _ _ left right (read_there terms c.loop-i.i _ left) (read_there values c.loop-i.i _ right) c.args.binding.now c.loop-i.binding c.loop-i.invariant (c.if-not-fit_term.ensures)
 
 pub loop-i-preserved : goal.loop-i-preserved
 loop-i-preserved c =
@@ -30,10 +30,10 @@ loop-i-preserved c =
     let values = c.args.values.now in
     let left : c.loop-i.i < length terms = omega arith in
     let right : c.loop-i.i < length values = omega arith in
-    read_more term_under argument ground terms values c.loop-i.i _ _ left right (read_there terms c.loop-i.i _ left) (read_there values c.loop-i.i _ right) c.args.binding.now c.loop-i.binding c.fit_term.new.binding c.loop-i.invariant (c.if-not-fit_term.ensures)
+    read_more term_under argument (λ t. Some (ground t)) terms values c.loop-i.i _ _ left right (read_there terms c.loop-i.i _ left) (read_there values c.loop-i.i _ right) c.args.binding.now c.loop-i.binding c.fit_term.new.binding c.loop-i.invariant (c.if-not-fit_term.ensures)
 
 pub returns : goal.returns
 returns c =
     let left : length c.args.terms.now ≤ c.loop-i.i = omega arith in
     let right : length c.args.values.now ≤ c.loop-i.i = omega arith in
-    read_end term_under argument ground c.args.terms.now c.args.values.now c.loop-i.i c.args.binding.now c.loop-i.binding left right c.loop-i.invariant
+    read_end term_under argument (λ t. Some (ground t)) c.args.terms.now c.args.values.now c.loop-i.i c.args.binding.now c.loop-i.binding left right c.loop-i.invariant

@@ -1,5 +1,5 @@
-use Rattle.std.proofs.Common.{map}
-use Rattle.chr_value.specs.Atoms.{grounds}
+use Rattle.std.proofs.Common.{map, Some}
+use Rattle.chr_value.specs.Atoms.{ground}
 use Rattle.chr_rule.specs.Parts.{argument}
 use Rattle.chr_guard.specs.Values.{term_under}
 use Rattle.chr_guard.specs.Bindings.{Narrows}
@@ -7,4 +7,4 @@ use Rattle.chr_guard.proofs.Steps.{SoFar}
 use Rattle.chr_guard.proofs.matching.fit_terms.Given as goal
 
 abbrev pub invariant-loop-i : goal.invariant-loop-i
-invariant-loop-i l = Narrows (SoFar term_under (map argument l.terms) (grounds l.values) l.i) l.fn.binding l.binding
+invariant-loop-i l = Narrows (SoFar term_under (map argument l.terms) (map (λ t. Some (ground t)) l.values) l.i) l.fn.binding l.binding

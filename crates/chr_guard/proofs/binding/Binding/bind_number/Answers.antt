@@ -8,4 +8,4 @@ pub returns-in-Free : goal.returns-in-Free
 returns-in-Free c =
     let free : bound_at c.args.self.now c.args.variable ≡ None = sym c.at.ensures ∙ ap bound_term c.in-Free.is in
     let after : c.put.new.self ≡ slice_set c.args.self.now c.args.variable (Some (Int c.args.number)) = search rules in
-    subst (NarrowsIf (λ v. v c.args.variable ≡ Int c.args.number) true c.args.self.now) (sym after) (told_new c.args.self.now c.args.variable (Int c.args.number) c.requires free)
+    subst (NarrowsIf (λ v. v c.args.variable ≡ Some (Int c.args.number)) true c.args.self.now) (sym after) (told_new c.args.self.now c.args.variable (Int c.args.number) c.requires free)
