@@ -10,11 +10,12 @@ use Rattle.chr_value.specs.Atoms.{Value, Atom}
 use Rattle.chr_rule.specs.Rules.{RuleAtom, Simpagation, head_at}
 use Rattle.chr_guard.specs.Values.{Valuation}
 use Rattle.chr_guard.specs.Bindings.{Narrows, NoneUnder}
-use Rattle.chr_guard.specs.Instances.{atom_under, IsInstance, IsInstanceUnder, NoInstance}
-use Rattle.chr_guard.specs.Matching.{HeadsAre, IsFit}
+use Rattle.chr_guard.specs.Instances.{atom_under, AreUnder, IsInstance, NoInstance}
+use Rattle.chr_guard.specs.Matching.{HeadsAre, IsFit, IsInstanceUnder}
 use Rattle.chr_guard.proofs.Scoped.{some_same}
 use Rattle.chr_guard.proofs.Bindings.{free_extends}
 use Rattle.chr_guard.proofs.Steps.{all_more, map_read}
+use Rattle.chr_guard.proofs.Under.{under_length}
 use Rattle.chr_guard.proofs.Whole.{heads_of}
 use Rattle.chr_model.specs.Stores.{Store, atom_at, labels, atoms, among, Distinct, Carry}
 use Rattle.chr_enumeration.specs.Found.{listed}
@@ -23,30 +24,31 @@ use Rattle.chr_enumeration.specs.declared.slots.Match.{Match}
 use Rattle.chr_enumeration.proofs.Entries.{all_there, stored_at, among_at, carry_at, entry_at}
 use Rattle.chr_enumeration.proofs.Picking.{distinct_set, carry_set, elsewhere, set_cases, fills_less, fills_at, fills_more, fills_itself, filled, picked_take, picked_drop, fills_distinct, none_picked, picked_none}
 
-pub head_is : (rule : Simpagation ℕ) (n : ℕ) (s : RuleAtom ℕ) (a : Atom ℕ) → head_at rule n ≡ Some s → (v : Valuation) → (atom_under v s ≡ a) ↔ HeadIs rule n a v
+pub head_is : (rule : Simpagation ℕ) (n : ℕ) (s : RuleAtom ℕ) (a : Atom ℕ) → head_at rule n ≡ Some s → (v : Valuation) → (atom_under v s ≡ Some a) ↔ HeadIs rule n a v
 head_is rule n s a at v =
     let this : option_map (atom_under v) (head_at rule n) ≡ Some (atom_under v s) = ap (option_map (atom_under v)) at in
-    (λ h. this ∙ ap Some h, λ h. some_same (atom_under v s) a (sym this ∙ h))
+    (λ h. this ∙ ap Some h, λ h. some_same (atom_under v s) (Some a) (sym this ∙ h))
 
 -- all heads are picked
-fit_by_heads : (hs : List (RuleAtom ℕ)) (ps : Picks) (v : Valuation) → length ps ≡ length hs → AllPicked ps → ((i : ℕ) (e : ℕ × Atom ℕ) → picked_at ps i ≡ Some e → option_map (atom_under v) (slice_get hs i) ≡ Some e.1) → map (atom_under v) hs ≡ atoms (picked ps)
+fit_by_heads : (hs : List (RuleAtom ℕ)) (ps : Picks) (v : Valuation) → length ps ≡ length hs → AllPicked ps → ((i : ℕ) (e : ℕ × Atom ℕ) → picked_at ps i ≡ Some e → option_map (atom_under v) (slice_get hs i) ≡ Some (Some e.1)) → AreUnder v hs (atoms (picked ps))
 fit_by_heads [] [] v len all f = refl
 fit_by_heads [] (p ∷ ps) v len all f = absurd (omega arith)
 fit_by_heads (h ∷ hs) [] v len all f = absurd (omega arith)
 fit_by_heads (h ∷ hs) (None ∷ ps) v len all f = let z = all.0 in absurd (cc)
-fit_by_heads (h ∷ hs) (Some p ∷ ps) v len all f = ap₂ (λ x xs. x ∷ xs) (some_same (atom_under v h) p.1 (f 0 p refl)) (fit_by_heads hs ps v (omega arith) all.1 (λ i e at. f (suc i) e at))
+fit_by_heads (h ∷ hs) (Some p ∷ ps) v len all f = ap₂ (λ x xs. x ∷ xs) (some_same (atom_under v h) (Some p.1) (f 0 p refl)) (fit_by_heads hs ps v (omega arith) all.1 (λ i e at. f (suc i) e at))
 
 -- entries that are an instance's, and the picks among them
 pub all_fit : (rule : Simpagation ℕ) (ps : Picks) (entries : Store) (v : Valuation) → HeadsAre rule (atoms entries) v → Fills ps entries → AllFit rule ps v
 all_fit rule ps entries v heads f i e at =
-    sym (slice_get-map (atom_under v) (rule.kept ++ rule.removed) i) ∙ ap (λ xs. slice_get xs i) heads ∙ slice_get-map (λ (x : ℕ × Atom ℕ). x.1) entries i ∙ ap (option_map (λ x. x.1)) (f i e at)
+    sym (slice_get-map (atom_under v) (rule.kept ++ rule.removed) i) ∙ ap (λ xs. slice_get xs i) heads ∙ slice_get-map (λ (a : Atom ℕ). Some a) (atoms entries) i
+    ∙ ap (option_map (λ (a : Atom ℕ). Some a)) (slice_get-map (λ (x : ℕ × Atom ℕ). x.1) entries i ∙ ap (option_map (λ x. x.1)) (f i e at))
 
 pub whole_fits : (rule : Simpagation ℕ) (store entries : Store) (body : List (Atom ℕ)) (w : IsInstanceOver rule store entries body) → HeadsAre rule (atoms entries) w.instance.valuation
 whole_fits rule store entries body w = heads_of rule (atoms entries) body w.instance
 
 pub whole_length : (rule : Simpagation ℕ) (store entries : Store) (body : List (Atom ℕ)) → IsInstanceOver rule store entries body → length entries ≡ length rule.kept + length rule.removed
 whole_length rule store entries body w =
-    sym (length-map entries (λ (x : ℕ × Atom ℕ). x.1)) ∙ ap length (sym (whole_fits rule store entries body w)) ∙ length-map (rule.kept ++ rule.removed) (atom_under w.instance.valuation) ∙ length-append rule.kept rule.removed
+    sym (length-map entries (λ (x : ℕ × Atom ℕ). x.1)) ∙ under_length w.instance.valuation (rule.kept ++ rule.removed) (atoms entries) (whole_fits rule store entries body w) ∙ length-append rule.kept rule.removed
 
 -- a full list of picks
 pub fit_whole : (rule : Simpagation ℕ) (store : Store) (ps : Picks) (binding : List (Option (Value ℕ))) → IsPartial rule store ps binding → AllPicked ps → IsFit rule (HeadsAre rule (atoms (picked ps))) binding
@@ -74,10 +76,10 @@ pub is_match : (rule : Simpagation ℕ) (store : Store) (ps : Picks) (binding : 
 is_match rule store ps binding m p all i kept removed = record {
   entries = picked ps;
   such = fills_itself ps all;
+  under = i;
   whole = record { instance = i.instance; distinct = p.distinct; there = p.there };
   kept = kept ∙ labels_front (length rule.kept) ps all;
   removed = removed ∙ labels_back (length rule.kept) ps all;
-  places = i.places;
 }
 
 -- one entry more
@@ -117,7 +119,7 @@ no_fit_more rule store ps i e binding p o n is none entries body w f =
     none v ((p.fit.exactly v).1 both.0) (subst (λ k. HeadIs rule k e.1 v) (sym is) both.1)
 
 pub match_less : (rule : Simpagation ℕ) (store : Store) (ps : Picks) (i : ℕ) (e : ℕ × Atom ℕ) (m : Match) → IsOpen ps i → IsMatch rule store (Fills (slice_set ps i (Some e))) m → IsMatch rule store (Fills ps) m
-match_less rule store ps i e m o f = record { entries = f.entries; such = fills_less ps i e f.entries o.none f.such; whole = f.whole; kept = f.kept; removed = f.removed; places = f.places }
+match_less rule store ps i e m o f = record { entries = f.entries; such = fills_less ps i e f.entries o.none f.such; under = f.under; whole = f.whole; kept = f.kept; removed = f.removed }
 
 -- no entry of the store is left to try
 pub no_more : (rule : Simpagation ℕ) (store : Store) (ps : Picks) (i : ℕ) (binding : List (Option (Value ℕ))) → IsPartial rule store ps binding → IsOpen ps i → AllByRecursion (λ (e : ℕ × Atom ℕ). NoMatch rule store (Fills (slice_set ps i (Some e)))) store → NoMatch rule store (Fills ps)
@@ -195,10 +197,10 @@ pub match_has : (rule : Simpagation ℕ) (store : Store) (ps : Picks) (i : ℕ) 
 match_has rule store ps i e m within f = record {
   entries = f.entries;
   such = among_at f.entries i e (fills_at ps i e f.entries within f.such);
+  under = f.under;
   whole = f.whole;
   kept = f.kept;
   removed = f.removed;
-  places = f.places;
 }
 
 -- the entry stands at none of the heads

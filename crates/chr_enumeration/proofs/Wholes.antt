@@ -5,14 +5,16 @@ use Rattle.std.specs.List.{AllByRecursion}
 use Rattle.std.proofs.lemmas.List.{take_at, drop_at, take-append-drop, length-map}
 use Rattle.std.proofs.lemmas.Option.{slice_get_read}
 use Rattle.chr_value.specs.Atoms.{Atom}
-use Rattle.chr_rule.specs.Rules.{Simpagation, numbered}
-use Rattle.chr_guard.specs.Bindings.{holding}
-use Rattle.chr_guard.specs.Instances.{atom_under, added, Instance, IsInstance}
+use Rattle.chr_rule.specs.Rules.{Simpagation, rule_at}
+use Rattle.chr_guard.specs.Bindings.{bound_at}
+use Rattle.chr_guard.specs.Instances.{AreUnder, IsRight, added, Instance, IsInstance}
+use Rattle.chr_guard.specs.Matching.{HeadsAre, IsFit, IsInstanceUnder}
 use Rattle.chr_guard.proofs.Scoped.{some_same}
-use Rattle.chr_model.specs.Stores.{Store, labels, atoms, among, atom_at, Distinct, Carry, Labelled}
+use Rattle.chr_guard.proofs.Under.{under_length}
+use Rattle.chr_model.specs.Stores.{Store, labels, atoms, among, atom_at, Distinct, Carry, Labelled, NoneWith}
 use Rattle.chr_model.specs.Programs.{Instances}
 use Rattle.chr_model.proofs.Stores.{Labelled-there}
-use Rattle.chr_enumeration.specs.Found.{IsFound, NoneFound}
+use Rattle.chr_enumeration.specs.Found.{IsFound}
 use Rattle.chr_enumeration.specs.Picks.{Has, IsInstanceOver, IsMatch, NoMatch}
 use Rattle.chr_enumeration.specs.declared.search.Found.{Found}
 use Rattle.chr_enumeration.specs.declared.slots.Match.{Match}
@@ -21,14 +23,14 @@ use Rattle.chr_enumeration.proofs.Entries.{carried, carry_both, carry_take, carr
 -- the instance of a rule over atoms in two parts
 joined : (rule : Simpagation ℕ) (kept removed body : List (Atom ℕ)) → Instance rule kept removed body → IsInstance rule (kept ++ removed) body
 joined rule kept removed body i =
-    let len : length kept ≡ length rule.kept = ap length i.kept_are ∙ length-map rule.kept (atom_under i.valuation) in
+    let len : length kept ≡ length rule.kept = under_length i.valuation rule.kept kept i.kept_are in
     subst (λ xs. Instance rule xs (drop (length rule.kept) (kept ++ removed)) body) (sym (take_at kept removed (length rule.kept) len))
     (subst (λ xs. Instance rule kept xs body) (sym (drop_at kept removed (length rule.kept) len)) i)
 
 -- a labelled instance as entries
 pub record AsEntries (rules : List (Simpagation ℕ)) (store : Store) (r : ℕ) (kept removed : List ℕ) (body : List (Atom ℕ)) : Type 0 where
   pub rule : Simpagation ℕ
-  pub at : numbered rules r ≡ Some rule
+  pub at : rule_at rules r ≡ Some rule
   pub entries : Store
   pub labels_are : labels entries ≡ kept ++ removed
   pub whole : IsInstanceOver rule store entries body
@@ -51,7 +53,7 @@ as_entries rules store r kept removed body i =
     }
 
 -- and back
-pub labelled : (rules : List (Simpagation ℕ)) (store : Store) (r : ℕ) (rule : Simpagation ℕ) (entries : Store) (body : List (Atom ℕ)) → numbered rules r ≡ Some rule → IsInstanceOver rule store entries body → Labelled (Instances rules) store r (take (length rule.kept) (labels entries)) (drop (length rule.kept) (labels entries)) body
+pub labelled : (rules : List (Simpagation ℕ)) (store : Store) (r : ℕ) (rule : Simpagation ℕ) (entries : Store) (body : List (Atom ℕ)) → rule_at rules r ≡ Some rule → IsInstanceOver rule store entries body → Labelled (Instances rules) store r (take (length rule.kept) (labels entries)) (drop (length rule.kept) (labels entries)) body
 labelled rules store r rule entries body at w = record {
   kept_atoms = take (length rule.kept) (atoms entries);
   removed_atoms = drop (length rule.kept) (atoms entries);
@@ -61,7 +63,7 @@ labelled rules store r rule entries body at w = record {
   removed_there = carry_drop store (length rule.kept) (labels entries) (atoms entries) w.there;
 }
 
-all_numbered : (P : Simpagation ℕ → Type 0) (rules : List (Simpagation ℕ)) (r : ℕ) (rule : Simpagation ℕ) → AllByRecursion P rules → numbered rules r ≡ Some rule → P rule
+all_numbered : (P : Simpagation ℕ → Type 0) (rules : List (Simpagation ℕ)) (r : ℕ) (rule : Simpagation ℕ) → AllByRecursion P rules → rule_at rules r ≡ Some rule → P rule
 all_numbered P rules zero rule all at = let z : None ≡ Some rule = at in absurd (cc)
 all_numbered P rules (suc k) rule all at = by_place rules k all at
   where
@@ -70,7 +72,7 @@ all_numbered P rules (suc k) rule all at = by_place rules k all at
     by_place (x ∷ xs) zero a e = subst P (some_same x rule e) a.0
     by_place (x ∷ xs) (suc k) a e = by_place xs k a.1 e
 
-pub none_found : (rules : List (Simpagation ℕ)) (store : Store) (label : ℕ) → AllByRecursion (λ (rule : Simpagation ℕ). NoMatch rule store (Has label)) rules → NoneFound rules store label
+pub none_found : (rules : List (Simpagation ℕ)) (store : Store) (label : ℕ) → AllByRecursion (λ (rule : Simpagation ℕ). NoMatch rule store (Has label)) rules → NoneWith (Instances rules) store label
 none_found rules store label all r kept removed body i =
     elim (among (kept ++ removed) label) as (λ b. (among (kept ++ removed) label ≡ b) → b ≡ false) [
       | true ↦ λ has.
@@ -79,7 +81,7 @@ none_found rules store label all r kept removed body i =
       | false ↦ λ _. refl
     ] refl
 
-pub none_there : (rules : List (Simpagation ℕ)) (store : Store) (label : ℕ) → atom_at store label ≡ None → NoneFound rules store label
+pub none_there : (rules : List (Simpagation ℕ)) (store : Store) (label : ℕ) → atom_at store label ≡ None → NoneWith (Instances rules) store label
 none_there rules store label away r kept removed body i =
     elim (among (kept ++ removed) label) as (λ b. (among (kept ++ removed) label ≡ b) → b ≡ false) [
       | true ↦ λ has.
@@ -89,20 +91,22 @@ none_there rules store label away r kept removed body i =
       | false ↦ λ _. refl
     ] refl
 
-pub is_found : (rules : List (Simpagation ℕ)) (store : Store) (label : ℕ) (rule : Simpagation ℕ) (m : Match) (f : Found) → numbered rules f.rule ≡ Some rule → f.kept.items ≡ m.kept.items → f.removed.items ≡ m.removed.items → f.binding ≡ m.binding → IsMatch rule store (Has label) m → IsFound rules store label f
+pub is_found : (rules : List (Simpagation ℕ)) (store : Store) (label : ℕ) (rule : Simpagation ℕ) (m : Match) (f : Found) → rule_at rules f.rule ≡ Some rule → f.kept.items ≡ m.kept.items → f.removed.items ≡ m.removed.items → f.binding ≡ m.binding → IsMatch rule store (Has label) m → IsFound rules store label f
 is_found rules store label rule m f at kept removed binding i =
     let k : f.kept.items ≡ take (length rule.kept) (labels i.entries) = kept ∙ i.kept in
     let r : f.removed.items ≡ drop (length rule.kept) (labels i.entries) = removed ∙ i.removed in
-    let body : List (Atom ℕ) = added (holding f.binding) rule.body in
-    let whole : IsInstanceOver rule store i.entries body = subst (λ b. IsInstanceOver rule store i.entries (added (holding b) rule.body)) (sym binding) i.whole in
+    let all : f.kept.items ++ f.removed.items ≡ labels i.entries = ap₂ (λ a b. a ++ b) k r ∙ take-append-drop (length rule.kept) (labels i.entries) in
+    let u = i.under in
     record {
       rule = rule;
-      numbered = at;
-      labelled = subst (λ ls. Labelled (Instances rules) store f.rule ls f.removed.items body) (sym k)
-          (subst (λ ls. Labelled (Instances rules) store f.rule (take (length rule.kept) (labels i.entries)) ls body) (sym r) (labelled rules store f.rule rule i.entries body at whole));
-      has = ap₂ (λ a b. among (a ++ b) label) k r ∙ ap (λ ls. among ls label) (take-append-drop (length rule.kept) (labels i.entries)) ∙ i.such;
-      places = ap length binding ∙ i.places;
+      of_program = at;
+      atoms = atoms i.entries;
+      there = subst (λ ls. Carry store ls (atoms i.entries)) (sym all) i.whole.there;
+      under = record { fit = subst (IsFit rule (λ v. HeadsAre rule (atoms i.entries) v × AllByRecursion (IsRight v) rule.body)) (sym binding) u.fit; body = u.body; instance = u.instance; body_is = subst (λ b. AreUnder (bound_at b) (added rule.body) u.body) (sym binding) u.body_is };
+      labelled = subst (λ ls. Labelled (Instances rules) store f.rule ls f.removed.items u.body) (sym k)
+          (subst (λ ls. Labelled (Instances rules) store f.rule (take (length rule.kept) (labels i.entries)) ls u.body) (sym r) (labelled rules store f.rule rule i.entries u.body at i.whole));
+      has = ap (λ ls. among ls label) all ∙ i.such;
     }
 
-pub numbered_at : (rules : List (Simpagation ℕ)) (n i : ℕ) (rule : Simpagation ℕ) → n ≡ suc i → i < length rules → rule ≡ get_or rules i rule → numbered rules n ≡ Some rule
-numbered_at rules n i rule next within is = ap (numbered rules) next ∙ slice_get_read rules (length rules) i rule refl within is
+pub numbered_at : (rules : List (Simpagation ℕ)) (n i : ℕ) (rule : Simpagation ℕ) → n ≡ suc i → i < length rules → rule ≡ get_or rules i rule → rule_at rules n ≡ Some rule
+numbered_at rules n i rule next within is = ap (rule_at rules) next ∙ slice_get_read rules (length rules) i rule refl within is

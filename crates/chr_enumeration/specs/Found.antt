@@ -1,11 +1,10 @@
 -- What a search for a labelled instance finds.
-use Rattle.std.specs.Prelude.{◌≡◌, ℕ, false, true, List, ◌++◌, length, map, Some}
+use Rattle.std.specs.Prelude.{◌≡◌, ℕ, true, List, ◌++◌, map, Some}
 use denote.Ref.{Bor}
 use Rattle.chr_value.specs.Atoms.{Atom}
-use Rattle.chr_rule.specs.Rules.{Simpagation, numbered}
-use Rattle.chr_guard.specs.Bindings.{holding}
-use Rattle.chr_guard.specs.Instances.{added}
-use Rattle.chr_model.specs.Stores.{Store, among, Labelled}
+use Rattle.chr_rule.specs.Rules.{Simpagation, rule_at}
+use Rattle.chr_guard.specs.Matching.{IsInstanceUnder}
+use Rattle.chr_model.specs.Stores.{Store, among, Carry, Labelled}
 use Rattle.chr_model.specs.Programs.{Instances}
 use Rattle.chr_enumeration.specs.declared.search.Found.{Found}
 
@@ -13,14 +12,12 @@ use Rattle.chr_enumeration.specs.declared.search.Found.{Found}
 abbrev pub listed : List (ℕ × Bor (Atom ℕ)) → Store
 listed entries = map (λ e. (e.0, e.1.now)) entries
 
--- a labelled instance over the store that has the label, with the binding that gives its body
+-- a labelled instance over the store that has the label, with the one binding of its rule's variables
 pub record IsFound (rules : List (Simpagation ℕ)) (store : Store) (label : ℕ) (f : Found) : Type 0 where
   pub rule : Simpagation ℕ
-  pub numbered : numbered rules f.rule ≡ Some rule
-  pub labelled : Labelled (Instances rules) store f.rule f.kept.items f.removed.items (added (holding f.binding) rule.body)
+  pub of_program : rule_at rules f.rule ≡ Some rule
+  pub atoms : List (Atom ℕ)
+  pub there : Carry store (f.kept.items ++ f.removed.items) atoms
+  pub under : IsInstanceUnder rule atoms f.binding
+  pub labelled : Labelled (Instances rules) store f.rule f.kept.items f.removed.items under.body
   pub has : among (f.kept.items ++ f.removed.items) label ≡ true
-  pub places : length f.binding ≡ rule.variables
-
--- the label is in no labelled instance over the store
-abbrev pub NoneFound : List (Simpagation ℕ) → Store → ℕ → Type 0
-NoneFound rules store label = (r : ℕ) (kept removed : List ℕ) (body : List (Atom ℕ)) → Labelled (Instances rules) store r kept removed body → among (kept ++ removed) label ≡ false

@@ -6,9 +6,8 @@ use denote.Ref.{Bor}
 use Rattle.chr_value.specs.Atoms.{Value, Atom}
 use Rattle.chr_rule.specs.Rules.{Simpagation}
 use Rattle.chr_guard.specs.Values.{Valuation}
-use Rattle.chr_guard.specs.Bindings.{holding}
-use Rattle.chr_guard.specs.Instances.{added, IsInstance}
-use Rattle.chr_guard.specs.Matching.{IsAtHead, IsFit}
+use Rattle.chr_guard.specs.Instances.{IsInstance}
+use Rattle.chr_guard.specs.Matching.{IsAtHead, IsFit, IsInstanceUnder}
 use Rattle.chr_model.specs.Stores.{Store, labels, atoms, among, Distinct, Carry}
 use Rattle.chr_enumeration.specs.declared.slots.Match.{Match}
 
@@ -66,14 +65,14 @@ pub record IsPartial (rule : Simpagation ℕ) (store : Store) (ps : Picks) (bind
   pub distinct : Distinct (labels (picked ps))
   pub there : Carry store (labels (picked ps)) (atoms (picked ps))
 
--- entries such as these are an instance of the rule over the store, and the match tells it
+-- entries such as these are an instance of the rule over the store, with the one binding of the rule's variables
 pub record IsMatch (rule : Simpagation ℕ) (store : Store) (Such : Store → Type 0) (m : Match) : Type 0 where
   pub entries : Store
   pub such : Such entries
-  pub whole : IsInstanceOver rule store entries (added (holding m.binding) rule.body)
+  pub under : IsInstanceUnder rule (atoms entries) m.binding
+  pub whole : IsInstanceOver rule store entries under.body
   pub kept : m.kept.items ≡ take (length rule.kept) (labels entries)
   pub removed : m.removed.items ≡ drop (length rule.kept) (labels entries)
-  pub places : length m.binding ≡ rule.variables
 
 -- no such entries are one
 abbrev pub NoMatch : Simpagation ℕ → Store → (Store → Type 0) → Type 0

@@ -1,8 +1,9 @@
 //! The first labelled instance with a label.
 ghost use Rattle.std.specs.Prelude.{◌≡◌, Some, map, MatchOption};
 ghost use Rattle.std.specs.Option.{option_map};
-ghost use Rattle.chr_model.specs.Stores.{atom_at, labels, Distinct};
-ghost use Rattle.chr_enumeration.specs.Found.{listed, IsFound, NoneFound};
+ghost use Rattle.chr_model.specs.Programs.{Instances};
+ghost use Rattle.chr_model.specs.Stores.{atom_at, labels, Distinct, NoneWith};
+ghost use Rattle.chr_enumeration.specs.Found.{listed, IsFound};
 ghost use Rattle.chr_enumeration.specs.Picks.{Has, IsMatch, NoMatch};
 
 use crate::slots::{Match, find_match, fit_next};
@@ -73,7 +74,7 @@ pub fn find_with_label<'s, A: Allocator + Copy>(
     label: Label,
 ) -> Option<Found<'s>>
     requires { Distinct (labels (listed store.now)) }
-    ensures { MatchOption result (NoneFound program.now (listed store.now) label) (IsFound program.now (listed store.now) label) }
+    ensures { MatchOption result (NoneWith (Instances program.now) (listed store.now) label) (IsFound program.now (listed store.now) label) }
 {
     let atom = find_atom(store, label)?;
     let rules = program.rules();

@@ -1,5 +1,5 @@
 -- What a label's goal can fire.
-use Rattle.std.specs.Prelude.{◌≡◌, ℕ, true, false, List, ◌++◌, map}
+use Rattle.std.specs.Prelude.{◌≡◌, ℕ, true, List, ◌++◌, map}
 use Rattle.chr_value.specs.Atoms.{Atom}
 use Rattle.chr_rule.specs.Rules.{Simpagation}
 use Rattle.chr_model.specs.Programs.{Instances}
@@ -14,7 +14,3 @@ pub record IsFiring {Z : Type 0} (rules : List (Simpagation ℕ)) (store : Store
   pub instance : Labelled (Instances rules) store f.rule f.kept.items f.removed.items atoms
   pub there : among (f.kept.items ++ f.removed.items) label ≡ true
   pub body : goals_of f.body.items ≡ map Plain atoms
-
--- the label is in no labelled instance over the store
-abbrev pub NoFiring : List (Simpagation ℕ) → Store → ℕ → Type 0
-NoFiring rules store label = (r : ℕ) (kept removed : List ℕ) (body : List (Atom ℕ)) → Labelled (Instances rules) store r kept removed body → among (kept ++ removed) label ≡ false

@@ -1,8 +1,9 @@
 //! What a goal can fire.
 ghost use Rattle.std.specs.Prelude.{◌≡◌, MatchOption, IfOk};
 ghost use Rattle.chr_value.specs.Stores.{without};
-ghost use Rattle.chr_first.specs.Firings.{IsFiring, NoFiring};
-ghost use Rattle.chr_model.specs.Stores.{among, labels, Distinct};
+ghost use Rattle.chr_model.specs.Programs.{Instances};
+ghost use Rattle.chr_first.specs.Firings.{IsFiring};
+ghost use Rattle.chr_model.specs.Stores.{among, labels, Distinct, NoneWith};
 ghost use Rattle.chr_enumeration.specs.Found.{listed};
 
 use crate::goals::{Goal, plain_goals};
@@ -45,7 +46,7 @@ pub fn firing_with<A: Allocator + Copy>(
     store: &Store<A>,
     label: Label,
 ) -> Result<Option<Firing<A>>, AllocError>
-    ensures { IfOk result (λ made. MatchOption made (NoFiring program.now store.now.entries label) (IsFiring program.now store.now.entries label)) }
+    ensures { IfOk result (λ made. MatchOption made (NoneWith (Instances program.now) store.now.entries label) (IsFiring program.now store.now.entries label)) }
 {
     let list = listing(alloc, store)?;
     let Some(found) = find_with_label(program, &list, label) else {

@@ -44,6 +44,7 @@ pub fn run_posts<A: Allocator + Copy>(
     let mut run = Run::new(alloc, program, greatest)?;
     post_all(&mut run, posts)?;
     advance(&mut run, steps)?;
+    // for its clause: the log is lawful and leads to the state
     let _next = run.next_label();
     Ok(run)
 }

@@ -3,7 +3,7 @@ use Rattle.std.proofs.Common.{◌≡◌, ◌↔◌, ℕ, ◌+◌, ◌<◌, ◌�
 use Rattle.std.specs.List.{list_all}
 use Rattle.std.specs.Option.{option_map}
 use Rattle.std.proofs.lemmas.Bool.Decides.{nat_tests}
-use Rattle.std.proofs.lemmas.List.{map-append, map_more, drop_more, take-append-drop}
+use Rattle.std.proofs.lemmas.List.{map-append, map_more, drop_more, take-append-drop, length-map}
 use Rattle.chr_value.specs.Atoms.{Value, Int, Sym, Atom}
 use Rattle.chr_rule.specs.Rules.{Term, Var, Given, RuleAtom, Expression, Number, Variable, Operation, BodyItem, Is, Add}
 use Rattle.chr_rule.specs.Scope.{known_behind_args, known_behind_heads, known_behind_body, argument_known}
@@ -89,6 +89,14 @@ under_parts v (x ∷ xs) ys (a ∷ as') e =
     let one : atom_under v x ≡ Some a = cc in
     let rest = under_parts v xs ys as' (cc) in
     (ap₂ (λ z zs. z ∷ zs) one rest.0, rest.1)
+
+pub under_length : (v : Valuation) (xs : List (RuleAtom ℕ)) (as' : List (Atom ℕ)) → AreUnder v xs as' → length as' ≡ length xs
+under_length v xs as' e = sym (length-map as' (λ a. Some a)) ∙ sym (ap length e) ∙ length-map xs (atom_under v)
+
+pub one_under : (v : Valuation) (x : RuleAtom ℕ) (as' : List (Atom ℕ)) → AreUnder v (x ∷ []) as' → (a : Atom ℕ) × (as' ≡ a ∷ []) × (atom_under v x ≡ Some a)
+one_under v x [] e = absurd (cc)
+one_under v x (a ∷ []) e = (a, refl, cc)
+one_under v x (a ∷ b ∷ as') e = absurd (cc)
 
 -- a constraint without a value among others
 pub none_under : (v : Valuation) (xs ys : List (RuleAtom ℕ)) (s : RuleAtom ℕ) (as' : List (Atom ℕ)) → atom_under v s ≡ None → AreUnder v (xs ++ s ∷ ys) as' → ⊥

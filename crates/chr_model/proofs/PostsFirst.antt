@@ -1,13 +1,14 @@
--- Whether posts stand at the front or at their own places, the same logs are lawful.
-use Rattle.std.proofs.Common.{◌≡◌, ℕ, List, [], ◌∷◌, refl, sym, ap}
+-- Whether posts come first or at their own places, the same logs are lawful.
+use Rattle.std.proofs.Common.{◌≡◌, ℕ, List, [], ◌∷◌, refl, sym, ap, subst}
 use Rattle.chr_value.specs.Atoms.{Atom}
 use Rattle.chr_log.specs.Events.{Event, Post, Activate, Fire, Drop}
 use Rattle.chr_log.specs.declared.events.Version.{Version}
-use Rattle.chr_model.specs.Abstract.{Rules}
-use Rattle.chr_model.specs.Goals.{State, start}
+use Rattle.chr_model.specs.Abstract.{Rules, AbstractRun}
+use Rattle.chr_model.specs.Goals.{State, start, erase}
 use Rattle.chr_model.specs.Steps.{Run}
-use Rattle.chr_model.specs.Logs.{Lawful, posted_by}
-use Rattle.chr_model.specs.PostsFirst.{Gathered, RunAmong, LawfulPostsFirst}
+use Rattle.chr_model.specs.Logs.{Lawful, posted_by, firing, firings}
+use Rattle.chr_model.specs.PostsFirst.{Gathered, RunAmong, LawfulPostsFirst, all_posted, none_left, firings_among}
+use Rattle.chr_model.proofs.Erasure.{Lawful-erased}
 
 abbrev with : List (Atom ℕ) → State → Gathered
 with posts s = record { unticketed = posts; state = s }
@@ -19,7 +20,7 @@ Run-gathered v I (Activate t l ∷ es) s n run = (with (posted_by es) run.0, (re
 Run-gathered v I (Fire t r kept removed ∷ es) s n run = (with (posted_by es) run.0, (refl, run.1), Run-gathered v I es run.0 n run.2)
 Run-gathered v I (Drop t ∷ es) s n run = (with (posted_by es) run.0, (refl, run.1), Run-gathered v I es run.0 n run.2)
 
-Run-scattered : (v : Version) (I : Rules) (es : List (Event ℕ)) (g h : Gathered) → RunAmong v I g es h → Run v I g.state es h.state
+abbrev Run-scattered : (v : Version) (I : Rules) (es : List (Event ℕ)) (g h : Gathered) → RunAmong v I g es h → Run v I g.state es h.state
 Run-scattered v I [] g h run = ap (λ x. x.state) run
 Run-scattered v I (Post t a ∷ es) g h run = (run.0.state, run.1.1, Run-scattered v I es run.0 h run.2)
 Run-scattered v I (Activate t l ∷ es) g h run = (run.0.state, run.1.1, Run-scattered v I es run.0 h run.2)
@@ -31,3 +32,15 @@ posts_to_front v I log last run = Run-gathered v I log start last run
 
 pub posts_to_places : (v : Version) (I : Rules) (log : List (Event ℕ)) (last : State) → LawfulPostsFirst v I log last → Lawful v I log last
 posts_to_places v I log last run = Run-scattered v I log (with (posted_by log) start) (with [] last) run
+
+-- the firings are the same
+firings_same : (v : Version) (I : Rules) (es : List (Event ℕ)) (g h : Gathered) (run : RunAmong v I g es h) → firings v I es g.state h.state (Run-scattered v I es g h run) ≡ firings_among v I es g h run
+firings_same v I [] g h run = refl
+firings_same v I (Post t a ∷ es) g h run = firings_same v I es run.0 h run.2
+firings_same v I (Activate t l ∷ es) g h run = firings_same v I es run.0 h run.2
+firings_same v I (Fire t r kept removed ∷ es) g h run = ap (λ fs. firing run.1.1 ∷ fs) (firings_same v I es run.0 h run.2)
+firings_same v I (Drop t ∷ es) g h run = firings_same v I es run.0 h run.2
+
+pub posts_erased : (v : Version) (I : Rules) (log : List (Event ℕ)) (last : State) (run : LawfulPostsFirst v I log last) → AbstractRun I (posted_by log) (firings_among v I log (all_posted log) (none_left last) run) (erase last)
+posts_erased v I log last run =
+    subst (λ fs. AbstractRun I (posted_by log) fs (erase last)) (firings_same v I log (all_posted log) (none_left last) run) (Lawful-erased v I log last (Run-scattered v I log (all_posted log) (none_left last) run))

@@ -2,7 +2,7 @@
 use Rattle.std.proofs.Common.{◌≡◌, ℕ, zero, suc, List, [], ◌∷◌, Some, None, sym, ◌∙◌, subst, slice_get}
 use Rattle.std.specs.List.{AllByRecursion}
 use Rattle.chr_value.specs.Atoms.{Atom}
-use Rattle.chr_rule.specs.Rules.{Simpagation, numbered}
+use Rattle.chr_rule.specs.Rules.{Simpagation, rule_at}
 use Rattle.chr_rule.specs.Scope.{IsRule}
 use Rattle.chr_guard.specs.Instances.{Instance}
 use Rattle.chr_guard.proofs.Fixed.{body_fixed}
@@ -31,14 +31,14 @@ of_none zero kept removed body i = of_zero [] kept removed body i
 of_none (suc n) kept removed body i = let e : None ≡ Some i.0 = i.1 in cc
 
 -- where each rule is in scope, the heads' atoms fix the body's
-rule_at : (rules : List (Simpagation ℕ)) → AllByRecursion IsRule rules → (k : ℕ) (rule : Simpagation ℕ) → slice_get rules k ≡ Some rule → IsRule rule
-rule_at [] all k rule e = absurd (cc)
-rule_at (x ∷ xs) all zero rule e = let same : x ≡ rule = cc in subst IsRule same all.0
-rule_at (x ∷ xs) all (suc k) rule e = rule_at xs all.1 k rule e
+rule_in_scope : (rules : List (Simpagation ℕ)) → AllByRecursion IsRule rules → (k : ℕ) (rule : Simpagation ℕ) → slice_get rules k ≡ Some rule → IsRule rule
+rule_in_scope [] all k rule e = absurd (cc)
+rule_in_scope (x ∷ xs) all zero rule e = let same : x ≡ rule = cc in subst IsRule same all.0
+rule_in_scope (x ∷ xs) all (suc k) rule e = rule_in_scope xs all.1 k rule e
 
 pub program_fixes : (rules : List (Simpagation ℕ)) → AllByRecursion IsRule rules → Fixes (Instances rules)
 program_fixes rules all zero kept removed body other i j = absurd (of_zero rules kept removed body i)
 program_fixes rules all (suc n) kept removed body other i j =
     let e : Some i.0 ≡ Some j.0 = sym i.1 ∙ j.1 in
     let same : j.0 ≡ i.0 = cc in
-    body_fixed i.0 (rule_at rules all n i.0 i.1) kept removed body other i.2 (subst (λ x. Instance x kept removed other) same j.2)
+    body_fixed i.0 (rule_in_scope rules all n i.0 i.1) kept removed body other i.2 (subst (λ x. Instance x kept removed other) same j.2)

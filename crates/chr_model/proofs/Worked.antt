@@ -3,8 +3,9 @@ use Rattle.std.proofs.Common.{◌≡◌, ◌≢◌, ℕ, zero, suc, ◌+◌, ◌
 use Rattle.chr_value.specs.Atoms.{Value, Atom, Int, Sym}
 use Rattle.chr_rule.specs.declared.expression.Relation.TheVariants.{LessEqual}
 use Rattle.chr_rule.specs.Rules.{Variable, Compared}
-use Rattle.chr_guard.specs.Values.{Holds}
+use Rattle.chr_guard.specs.Values.{Valuation, Holds}
 use Rattle.chr_guard.specs.Instances.{Instance, atom_under}
+use Rattle.chr_guard.proofs.Under.{somes, under_length, one_under, atom_is}
 use Rattle.chr_log.specs.Events.{Event}
 use Rattle.chr_log.specs.declared.events.Version.{Version}
 use Rattle.chr_log.specs.declared.events.Version.TheVariants.{One, Two}
@@ -12,14 +13,14 @@ use Rattle.chr_model.specs.Stores.{Store, atom_at, among, Labelled, Final}
 use Rattle.chr_model.specs.Goals.{Goal, Plain, Numbered, Ended, State, start}
 use Rattle.chr_model.specs.Steps.{posted, activated, ended, replaced, Simplify, Propagate, Run}
 use Rattle.chr_model.specs.Programs.{Instances}
-use Rattle.chr_model.specs.Examples.{EndsIn, EndsQuietIn, IsUnlawful, of, gcd, gcd_zero, gcd_mod, gcd_rules, gcd_log, gcd_log_early_drop, pair_rule, pair_rules, pair_log, pair_log_one_label, min_rule, min_rules, min_log, token, token_rule, token_rules, token_log, token_log_two, token_log_strict}
+use Rattle.chr_model.specs.Examples.{shape_of, EndsIn, EndsQuietIn, IsUnlawful, of, gcd, gcd_zero, gcd_mod, gcd_rules, gcd_log, gcd_log_early_drop, pair_rule, pair_rules, pair_log, pair_log_one_label, min_rule, min_rules, min_log, token, token_rule, token_rules, token_log, token_log_two, token_log_strict}
 use Rattle.chr_model.proofs.Programs.{of_zero, of_first, of_none}
 use Rattle.chr_model.proofs.Alone.{one_head, carry_one, only_atom, second_atom, endings, all_ended}
 use Rattle.chr_model.proofs.Onward.{after_post, after_activate, after_drop, drop_allowed}
 
 -- a valuation of three variables
-abbrev numbers : ℕ → ℕ → ℕ → ℕ → Value ℕ
-numbers x y z v = slice_index_or (Int (pos x) ∷ Int (pos y) ∷ Int (pos z) ∷ []) v (Int (pos 0))
+abbrev numbers : ℕ → ℕ → ℕ → Valuation
+numbers x y z v = slice_index_or (Some (Int (pos x)) ∷ Some (Int (pos y)) ∷ Some (Int (pos z)) ∷ []) v None
 
 -- atoms of other names or numbers
 other_name : (a b : Atom ℕ) → a.name ≢ b.name → a ≢ b
@@ -39,12 +40,12 @@ gcd_alone : (k n : ℕ) → gcd n ≢ gcd 0 → Final (Instances gcd_rules) ((k,
 gcd_alone k n ne zero kept removed body i = of_zero gcd_rules i.kept_atoms i.removed_atoms body i.instance
 gcd_alone k n ne (suc zero) kept removed body i =
     let one = of_first gcd_zero (gcd_mod ∷ []) i.kept_atoms i.removed_atoms body i.instance in
-    let at = carry_one ((k, gcd n) ∷ []) removed i.removed_atoms (gcd 0) one.removed_are i.removed_there in
+    let at = carry_one ((k, gcd n) ∷ []) removed i.removed_atoms (gcd 0) (somes i.removed_atoms (gcd 0 ∷ []) (sym one.removed_are)) i.removed_there in
     ne (only_atom k (gcd n) at.0 (gcd 0) at.2)
 gcd_alone k n ne (suc (suc zero)) kept removed body i =
     let one = of_first gcd_mod [] i.kept_atoms i.removed_atoms body i.instance in
-    let first : length i.kept_atoms ≡ 1 = ap length one.kept_are in
-    let second : length i.removed_atoms ≡ 1 = ap length one.removed_are in
+    let first : length i.kept_atoms ≡ 1 = under_length one.valuation gcd_mod.kept i.kept_atoms one.kept_are in
+    let second : length i.removed_atoms ≡ 1 = under_length one.valuation gcd_mod.removed i.removed_atoms one.removed_are in
     let few = one_head (Instances gcd_rules) k (gcd n) 2 kept removed body i in
     absurd (omega arith)
 gcd_alone k n ne (suc (suc (suc m))) kept removed body i = of_none (suc m) i.kept_atoms i.removed_atoms body i.instance
@@ -158,7 +159,7 @@ pair_alone : (k : ℕ) (a : Atom ℕ) → Final (Instances pair_rules) ((k, a) �
 pair_alone k a zero kept removed body i = of_zero pair_rules i.kept_atoms i.removed_atoms body i.instance
 pair_alone k a (suc zero) kept removed body i =
     let one = of_first pair_rule [] i.kept_atoms i.removed_atoms body i.instance in
-    let two : length i.removed_atoms ≡ 2 = ap length one.removed_are in
+    let two : length i.removed_atoms ≡ 2 = under_length one.valuation pair_rule.removed i.removed_atoms one.removed_are in
     let few = one_head (Instances pair_rules) k a 1 kept removed body i in
     absurd (omega arith)
 pair_alone k a (suc (suc n)) kept removed body i = of_none (suc n) i.kept_atoms i.removed_atoms body i.instance
@@ -229,8 +230,8 @@ min_alone : (k : ℕ) (a : Atom ℕ) → Final (Instances min_rules) ((k, a) ∷
 min_alone k a zero kept removed body i = of_zero min_rules i.kept_atoms i.removed_atoms body i.instance
 min_alone k a (suc zero) kept removed body i =
     let one = of_first min_rule [] i.kept_atoms i.removed_atoms body i.instance in
-    let first : length i.kept_atoms ≡ 1 = ap length one.kept_are in
-    let second : length i.removed_atoms ≡ 1 = ap length one.removed_are in
+    let first : length i.kept_atoms ≡ 1 = under_length one.valuation min_rule.kept i.kept_atoms one.kept_are in
+    let second : length i.removed_atoms ≡ 1 = under_length one.valuation min_rule.removed i.removed_atoms one.removed_are in
     let few = one_head (Instances min_rules) k a 1 kept removed body i in
     absurd (omega arith)
 min_alone k a (suc (suc n)) kept removed body i = of_none (suc n) i.kept_atoms i.removed_atoms body i.instance
@@ -327,8 +328,8 @@ token_alone : (k : ℕ) (a : Atom ℕ) → Final (Instances token_rules) ((k, a)
 token_alone k a zero kept removed body i = of_zero token_rules i.kept_atoms i.removed_atoms body i.instance
 token_alone k a (suc zero) kept removed body i =
     let one = of_first token_rule [] i.kept_atoms i.removed_atoms body i.instance in
-    let first : length i.kept_atoms ≡ 1 = ap length one.kept_are in
-    let second : length i.removed_atoms ≡ 1 = ap length one.removed_are in
+    let first : length i.kept_atoms ≡ 1 = under_length one.valuation token_rule.kept i.kept_atoms one.kept_are in
+    let second : length i.removed_atoms ≡ 1 = under_length one.valuation token_rule.removed i.removed_atoms one.removed_are in
     let few = one_head (Instances token_rules) k a 1 kept removed body i in
     absurd (omega arith)
 token_alone k a (suc (suc n)) kept removed body i = of_none (suc n) i.kept_atoms i.removed_atoms body i.instance
@@ -338,7 +339,7 @@ token_partner : (r : ℕ) (kept removed : List ℕ) (body : List (Atom ℕ)) →
 token_partner zero kept removed body i = absurd (of_zero token_rules i.kept_atoms i.removed_atoms body i.instance)
 token_partner (suc zero) kept removed body i =
     let one = of_first token_rule [] i.kept_atoms i.removed_atoms body i.instance in
-    let at = carry_one ((1, of 1 1) ∷ (2, token) ∷ []) kept i.kept_atoms token one.kept_are i.kept_there in
+    let at = carry_one ((1, of 1 1) ∷ (2, token) ∷ []) kept i.kept_atoms token (somes i.kept_atoms (token ∷ []) (sym one.kept_are)) i.kept_there in
     let two : 2 ≡ at.0 = (second_atom 1 (of 1 1) 2 token at.0 token (other_name (of 1 1) token (λ e. (cc))) at.2).0 in
     subst (λ ls. among (ls ++ removed) 2 ≡ true) (sym at.1) (subst (λ l. among (l ∷ removed) 2 ≡ true) two refl)
 token_partner (suc (suc n)) kept removed body i = absurd (of_none (suc n) i.kept_atoms i.removed_atoms body i.instance)
@@ -347,10 +348,12 @@ token_done : Final (Instances token_rules) ((2, token) ∷ (3, of 2 1) ∷ [])
 token_done zero kept removed body i = of_zero token_rules i.kept_atoms i.removed_atoms body i.instance
 token_done (suc zero) kept removed body i =
     let one = of_first token_rule [] i.kept_atoms i.removed_atoms body i.instance in
-    let wanted : Atom ℕ = record { name = 1; args = one.valuation 0 ∷ [] } in
-    let at = carry_one ((2, token) ∷ (3, of 2 1) ∷ []) removed i.removed_atoms wanted one.removed_are i.removed_there in
-    let same : of 2 1 ≡ wanted = (second_atom 2 token 3 (of 2 1) at.0 wanted (other_name token wanted (λ e. (cc))) at.2).1 in
-    other_name (of 2 1) wanted (λ e. (cc)) same
+    let lone = one_under one.valuation (shape_of 1 0) i.removed_atoms one.removed_are in
+    let wanted : Atom ℕ = lone.0 in
+    let name : 1 ≡ wanted.name = ((atom_is one.valuation (shape_of 1 0) wanted).0 lone.2).0 in
+    let at = carry_one ((2, token) ∷ (3, of 2 1) ∷ []) removed i.removed_atoms wanted lone.1 i.removed_there in
+    let same : of 2 1 ≡ wanted = (second_atom 2 token 3 (of 2 1) at.0 wanted (other_name token wanted (λ e. (let z : 0 ≡ 1 = e ∙ sym name in cc))) at.2).1 in
+    other_name (of 2 1) wanted (λ e. (let z : 2 ≡ 1 = e ∙ sym name in cc)) same
 token_done (suc (suc n)) kept removed body i = of_none (suc n) i.kept_atoms i.removed_atoms body i.instance
 
 pub token_ends : EndsIn One token_rules token_log ((2, token) ∷ [])

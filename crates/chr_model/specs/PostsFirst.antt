@@ -1,12 +1,12 @@
--- Lawful logs once more, with all posted atoms as plain goals from the start.
+-- Lawful logs with all posted atoms as plain goals from the start.
 use Rattle.std.specs.Prelude.{◌≡◌, ℕ, List, [], ◌∷◌}
 use Rattle.chr_value.specs.Atoms.{Atom}
 use Rattle.chr_log.specs.Events.{Event, Post, Activate, Fire, Drop}
 use Rattle.chr_log.specs.declared.events.Version.{Version}
-use Rattle.chr_model.specs.Abstract.{Rules}
+use Rattle.chr_model.specs.Abstract.{Rules, Firing}
 use Rattle.chr_model.specs.Goals.{State, start}
 use Rattle.chr_model.specs.Steps.{Step}
-use Rattle.chr_model.specs.Logs.{posted_by}
+use Rattle.chr_model.specs.Logs.{posted_by, firing}
 
 -- a state, and the plain goals beside it that have no ticket yet
 pub record Gathered : Type 0 where
@@ -24,7 +24,22 @@ abbrev pub RunAmong : Version → Rules → Gathered → List (Event ℕ) → Ga
 RunAmong v I g [] h = h ≡ g
 RunAmong v I g (e ∷ es) h = (middle : Gathered) × StepAmong v I g e middle × RunAmong v I middle es h
 
+-- the instances that such a run fires, in order
+abbrev pub firings_among : (v : Version) (I : Rules) (es : List (Event ℕ)) (g h : Gathered) → RunAmong v I g es h → List Firing
+firings_among v I [] g h run = []
+firings_among v I (Post t a ∷ es) g h run = firings_among v I es run.0 h run.2
+firings_among v I (Activate t l ∷ es) g h run = firings_among v I es run.0 h run.2
+firings_among v I (Fire t r kept removed ∷ es) g h run = firing run.1.1 ∷ firings_among v I es run.0 h run.2
+firings_among v I (Drop t ∷ es) g h run = firings_among v I es run.0 h run.2
+
+-- all posted atoms are plain goals, and nothing has happened; none is left without a ticket
+abbrev pub all_posted : List (Event ℕ) → Gathered
+all_posted log = record { unticketed = posted_by log; state = start }
+
+abbrev pub none_left : State → Gathered
+none_left last = record { unticketed = []; state = last }
+
 -- A lawful log with its posts moved to the front: all posted atoms are plain goals at the start, where the store is empty
--- and the next label is 1, and each ticket is used only behind the entry that gives it.
+-- and the next label is 1, and each ticket is used only after the entry that gives it.
 abbrev pub LawfulPostsFirst : Version → Rules → List (Event ℕ) → State → Type 0
-LawfulPostsFirst v I log last = RunAmong v I (record { unticketed = posted_by log; state = start }) log (record { unticketed = []; state = last })
+LawfulPostsFirst v I log last = RunAmong v I (all_posted log) log (none_left last)

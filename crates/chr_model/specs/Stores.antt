@@ -37,6 +37,10 @@ pub record Labelled (I : Rules) (store : Store) (r : ℕ) (kept removed : List �
   pub kept_there : Carry store kept kept_atoms
   pub removed_there : Carry store removed removed_atoms
 
+-- the label is in no labelled instance over the store
+abbrev pub NoneWith : Rules → Store → ℕ → Type 0
+NoneWith I store l = (r : ℕ) (kept removed : List ℕ) (body : List (Atom ℕ)) → Labelled I store r kept removed body → among (kept ++ removed) l ≡ false
+
 -- Final (Frühwirth): no rule applies to the store.
 abbrev pub Final : Rules → Store → Type 0
 Final I store = (r : ℕ) (kept removed : List ℕ) (body : List (Atom ℕ)) → Labelled I store r kept removed body → ⊥

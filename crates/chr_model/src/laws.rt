@@ -11,7 +11,7 @@ ghost use Rattle.chr_model.specs.Goals.{State, Quiet, IsNumbered, start, erase};
 ghost use Rattle.chr_model.specs.Steps.{MayDrop, Simplify, Propagate, Step, Run};
 ghost use Rattle.chr_model.specs.Logs.{Lawful, times, removed_by, given_by, posted_by, up_from, firings, strict};
 ghost use Rattle.chr_model.specs.GoalRuns.{GoalRun, opening, unposted};
-ghost use Rattle.chr_model.specs.PostsFirst.{LawfulPostsFirst};
+ghost use Rattle.chr_model.specs.PostsFirst.{LawfulPostsFirst, all_posted, none_left, firings_among};
 ghost use Rattle.chr_model.specs.Programs.{Instances};
 ghost use Rattle.chr_model.specs.Searches.{AllBelow, NoneBelow, NoneYoungest, YoungestAreGoals};
 ghost use Rattle.chr_model.specs.Seats.{made};
@@ -45,12 +45,17 @@ pub fn given_in_order()
         → Lawful v (Instances rules) log last → given_by log ≡ up_from 1 (length (given_by log)) }
 {}
 
-/// The store behind a lawful log has each label at most once, and only labels below the next one.
+/// The store after a lawful log has each label at most once, and only labels that the log has given, which are those from
+/// 1 to before the next one.
 pub fn labels_stand_once()
     ensures once { (v : Version) (rules : List (Simpagation ℕ)) (log : List (Event ℕ)) (last : State)
         → Lawful v (Instances rules) log last → (l : ℕ) → times l (labels last.store) ≤ 1 }
+    ensures given { (v : Version) (rules : List (Simpagation ℕ)) (log : List (Event ℕ)) (last : State)
+        → Lawful v (Instances rules) log last → (l : ℕ) (a : Atom ℕ) → atom_at last.store l ≡ Some a
+        → among (given_by log) l ≡ true }
     ensures below { (v : Version) (rules : List (Simpagation ℕ)) (log : List (Event ℕ)) (last : State)
-        → Lawful v (Instances rules) log last → (l : ℕ) (a : Atom ℕ) → atom_at last.store l ≡ Some a → l < last.next }
+        → Lawful v (Instances rules) log last → (l : ℕ) (a : Atom ℕ) → atom_at last.store l ≡ Some a
+        → (1 ≤ l) × (l < last.next) }
 {}
 
 /// A log that is lawful for a program has one last state.
@@ -58,6 +63,7 @@ pub fn last_is_fixed<A: Allocator + Copy>(program: &Program<A>)
     ensures { (v : Version) (log : List (Event ℕ)) (last other : State)
         → Lawful v (Instances program.now) log last → Lawful v (Instances program.now) log other → last ≡ other }
 {
+    // for its clause: each rule is in scope
     let _rules = program.rules();
 }
 
@@ -76,8 +82,9 @@ pub fn posts_may_stand_first()
     ensures places { (v : Version) (rules : List (Simpagation ℕ)) (log : List (Event ℕ)) (last : State)
         → LawfulPostsFirst v (Instances rules) log last → Lawful v (Instances rules) log last }
     ensures run { (v : Version) (rules : List (Simpagation ℕ)) (log : List (Event ℕ)) (last : State)
-        → LawfulPostsFirst v (Instances rules) log last
-        → (fired : List Firing) × AbstractRun (Instances rules) (posted_by log) fired (erase last) }
+        → (run : LawfulPostsFirst v (Instances rules) log last)
+        → AbstractRun (Instances rules) (posted_by log)
+            (firings_among v (Instances rules) log (all_posted log) (none_left last) run) (erase last) }
 {}
 
 /// With its posts moved to the front, a lawful log is a goal-based run from all that it posts to its last state.
@@ -103,7 +110,7 @@ pub fn firing_is_one_of_two()
         → Simplify (Instances rules) s t r kept removed new → Propagate (Instances rules) s t r kept removed other → ⊥ }
 {}
 
-/// Behind a lawful log each labelled instance over the store has a label that is a numbered goal.
+/// After a lawful log each labelled instance over the store has a label that is a numbered goal.
 pub fn some_label_is_a_goal()
     ensures { (v : Version) (rules : List (Simpagation ℕ)) (log : List (Event ℕ)) (last : State)
         → Lawful v (Instances rules) log last

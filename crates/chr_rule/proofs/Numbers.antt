@@ -4,12 +4,12 @@ use Rattle.std.proofs.lemmas.Option.{slice_get-map, slice_get_read}
 use Rattle.std.proofs.lemmas.List.{map-append, get_or-append-add}
 use Rattle.std.specs.Prelude.{slice_get}
 use Rattle.std.specs.Option.{option_map}
-use Rattle.chr_rule.specs.Rules.{RuleAtom, Simpagation, head_at, numbered}
+use Rattle.chr_rule.specs.Rules.{RuleAtom, Simpagation, head_at, rule_at}
 
 before : (k : ℕ) → suc k - 1 ≡ k
 before k = omega arith
 
-pub numbered_read : {X : Type 0} (f : X → Simpagation ℕ) (xs : List X) (n : ℕ) (x : X) → n ≢ 0 → n ≤ length xs → x ≡ get_or xs (n - 1) x → numbered (map f xs) n ≡ Some (f x)
+pub numbered_read : {X : Type 0} (f : X → Simpagation ℕ) (xs : List X) (n : ℕ) (x : X) → n ≢ 0 → n ≤ length xs → x ≡ get_or xs (n - 1) x → rule_at (map f xs) n ≡ Some (f x)
 numbered_read f xs zero x ne h e = absurd (ne refl)
 numbered_read f xs (suc k) x ne h e =
     slice_get-map f xs k ∙ ap (option_map f) (slice_get_read xs (length xs) k x refl (omega arith) (e ∙ ap (λ i. get_or xs i x) (before k)))

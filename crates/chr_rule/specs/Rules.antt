@@ -48,6 +48,6 @@ abbrev pub of_parts : {N : Type 0} → ℕ → List (RuleAtom N) → List (RuleA
 of_parts n kept removed guard body = record { variables = n; kept = kept; removed = removed; guard = guard; body = body }
 
 -- the rule of a number, from 1
-abbrev pub numbered : {N : Type 0} → List (Simpagation N) → ℕ → Option (Simpagation N)
-numbered rules zero = None
-numbered rules (suc k) = slice_get rules k
+abbrev pub rule_at : {N : Type 0} → List (Simpagation N) → ℕ → Option (Simpagation N)
+rule_at rules zero = None
+rule_at rules (suc k) = slice_get rules k

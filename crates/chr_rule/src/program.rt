@@ -3,7 +3,7 @@ ghost use Rattle.std.specs.Prelude.{◌≡◌, ◌<◌, ◌≤◌, ◌++◌, ◌
 ghost use Rattle.std.specs.Option.{option_map};
 ghost use Rattle.std.specs.Arc.{arc_value};
 ghost use Rattle.std.specs.List.{AllByRecursion};
-ghost use Rattle.chr_rule.specs.Rules.{numbered};
+ghost use Rattle.chr_rule.specs.Rules.{rule_at};
 ghost use Rattle.chr_rule.specs.Scope.{IsRule};
 
 use crate::rule::Rule;
@@ -67,7 +67,7 @@ impl<A: Allocator + Copy> Program<A> {
 
     /// The rule of a number, from 1.
     pub fn rule(&self, number: usize) -> Option<&Arc<Rule<A>, A>>
-        ensures rule { option_map (λ rule. arc_value rule.now) result ≡ numbered self.now number }
+        ensures rule { option_map (λ rule. arc_value rule.now) result ≡ rule_at self.now number }
         ensures whole { AllByRecursion IsRule self.now }
     {
         let rules = self.rules();
@@ -83,6 +83,7 @@ impl<A: Allocator + Copy> Program<A> {
         ensures ok { OnOk result (self.new ≡ self.old ++ arc_value rule ∷ []) }
         ensures err { OnErr result (self.new ≡ self.old) }
     {
+        // for its clause: the rule is in scope
         let _variables = rule.variables();
         self.rules.push(rule)?;
         Ok(())

@@ -1,4 +1,4 @@
-use Rattle.std.proofs.Common.{◌≡◌, length, sym, ap, subst, ◌∙◌}
+use Rattle.std.proofs.Common.{◌≡◌, Some, length, sym, ap, subst, ◌∙◌}
 use Rattle.chr_rule.specs.Parts.{shape}
 use Rattle.chr_guard.specs.Bindings.{Narrows}
 use Rattle.chr_guard.specs.Instances.{atom_under}
@@ -19,4 +19,4 @@ returns g c =
     let s = shape c.in_ok-head.head.now in
     let a = c.args.atom.now in
     subst (λ old. Narrows (HeadIs c.args.rule.now c.args.number a) old c.fit_head.new.binding) c.copy-next.ensures
-    (narrows_as (λ v. atom_under v s ≡ a) (HeadIs c.args.rule.now c.args.number a) c.copy-next.result c.fit_head.new.binding (head_is c.args.rule.now c.args.number s a (sym c.in_ok-head.ensures.head)) c.if-not-fit_head.ensures)
+    (narrows_as (λ v. atom_under v s ≡ Some a) (HeadIs c.args.rule.now c.args.number a) c.copy-next.result c.fit_head.new.binding (head_is c.args.rule.now c.args.number s a (sym c.in_ok-head.ensures.head)) c.if-not-fit_head.ensures)

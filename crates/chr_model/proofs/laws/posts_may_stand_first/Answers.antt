@@ -1,8 +1,5 @@
 use Rattle.chr_model.specs.Programs.{Instances}
-use Rattle.chr_model.specs.Goals.{start}
-use Rattle.chr_model.specs.Logs.{firings}
-use Rattle.chr_model.proofs.PostsFirst.{posts_to_front, posts_to_places}
-use Rattle.chr_model.proofs.Erasure.{Lawful-erased}
+use Rattle.chr_model.proofs.PostsFirst.{posts_to_front, posts_to_places, posts_erased}
 use Rattle.chr_model.proofs.laws.posts_may_stand_first.Goals as goal
 
 pub returns-clause-front : goal.returns-clause-front
@@ -12,6 +9,4 @@ pub returns-clause-places : goal.returns-clause-places
 returns-clause-places c = λ v rules log last run. posts_to_places v (Instances rules) log last run
 
 pub returns-clause-run : goal.returns-clause-run
-returns-clause-run c = λ v rules log last run.
-    let placed = posts_to_places v (Instances rules) log last run in
-    (firings v (Instances rules) log start last placed, Lawful-erased v (Instances rules) log last placed)
+returns-clause-run c = λ v rules log last run. posts_erased v (Instances rules) log last run
