@@ -7,7 +7,7 @@ ghost use Rattle.chr_lex.specs.Reading.{Gives};
 ghost use Rattle.chr_lex.specs.Tokens.{word};
 ghost use Rattle.chr_grammar.specs.Views as by_texts;
 ghost use Rattle.chr_limits.specs.Views.{names as texts};
-ghost use Rattle.chr_rule.specs.Parts.{argument, rule_atom, expression, comparison, member as item_of};
+ghost use Rattle.chr_rule.specs.Parts.{argument, shape, expression, comparison, member as item_of};
 ghost use Rattle.chr_rule.specs.Rules.{Operation};
 ghost use Rattle.chr_text.specs.Fitting.{WordFits, ShapeFits, FormulaStands, TestFits, MemberFits, RuleFits};
 ghost use Rattle.chr_text.specs.Numbering as numbering;
@@ -118,10 +118,10 @@ fn number_phrase<'a, A: Allocator + Copy>(
     seen: &mut Seen<'a>,
     phrase: &ParsedAtom<'a, A>,
 ) -> Result<RuleAtom, ItemError>
-    requires fits { ShapeFits (text.phrase phrase.now) }
-    requires room { length (raw.rule_atom (texts seen.old.items) (text.phrase phrase.now)).1 ≤ 24 }
-    ensures gives { Gives (λ p. (rule_atom p, names.new)) result (or_full (numbering.numbered_rule_atom names.old (raw.rule_atom (texts seen.old.items) (text.phrase phrase.now)).0)) }
-    ensures seen { OnOk result (texts seen.new.items ≡ (raw.rule_atom (texts seen.old.items) (text.phrase phrase.now)).1) }
+    requires fits { ShapeFits (by_texts.phrase phrase.now) }
+    requires room { length (raw.rule_atom (texts seen.old.items) (by_texts.phrase phrase.now)).1 ≤ 24 }
+    ensures gives { Gives (λ p. (shape p, names.new)) result (or_full (numbering.numbered_rule_atom names.old (raw.rule_atom (texts seen.old.items) (by_texts.phrase phrase.now)).0)) }
+    ensures seen { OnOk result (texts seen.new.items ≡ (raw.rule_atom (texts seen.old.items) (by_texts.phrase phrase.now)).1) }
     ensures keeps { (t : Table) → Keeps t names.old → Keeps t names.new }
 {
     let name = number_name(names, phrase.name)?;
@@ -135,10 +135,10 @@ fn number_phrases<'a, A: Allocator + Copy>(
     seen: &mut Seen<'a>,
     phrases: &[ParsedAtom<'a, A>],
 ) -> Result<Vec<RuleAtom, A>, ItemError>
-    requires fits { AllByRecursion ShapeFits (map text.phrase phrases.now) }
-    requires room { length (in_turn raw.rule_atom (texts seen.old.items) (map text.phrase phrases.now)).1 ≤ 24 }
-    ensures gives { Gives (λ v. (map rule_atom v.items, names.new)) result (or_full (each numbering.numbered_rule_atom names.old (in_turn raw.rule_atom (texts seen.old.items) (map text.phrase phrases.now)).0)) }
-    ensures seen { OnOk result (texts seen.new.items ≡ (in_turn raw.rule_atom (texts seen.old.items) (map text.phrase phrases.now)).1) }
+    requires fits { AllByRecursion ShapeFits (map by_texts.phrase phrases.now) }
+    requires room { length (in_turn raw.rule_atom (texts seen.old.items) (map by_texts.phrase phrases.now)).1 ≤ 24 }
+    ensures gives { Gives (λ v. (map shape v.items, names.new)) result (or_full (each numbering.numbered_rule_atom names.old (in_turn raw.rule_atom (texts seen.old.items) (map by_texts.phrase phrases.now)).0)) }
+    ensures seen { OnOk result (texts seen.new.items ≡ (in_turn raw.rule_atom (texts seen.old.items) (map by_texts.phrase phrases.now)).1) }
     ensures keeps { (t : Table) → Keeps t names.old → Keeps t names.new }
 {
     let mut patterns = Vec::new(alloc);
@@ -165,9 +165,9 @@ fn number_tree<'a, A: Allocator + Copy>(
     seen: &mut Seen<'a>,
     tree: &ParsedExpression<'a, A>,
 ) -> Result<Expr<A>, AllocError>
-    requires { FormulaStands (texts seen.old.items) (text.formula tree.now) }
-    ensures gives { IfOk result (λ e. expression e ≡ (raw.expression (texts seen.old.items) (text.formula tree.now)).0) }
-    ensures seen { OnOk result (texts seen.new.items ≡ (raw.expression (texts seen.old.items) (text.formula tree.now)).1) }
+    requires { FormulaStands (texts seen.old.items) (by_texts.formula tree.now) }
+    ensures gives { IfOk result (λ e. expression e ≡ (raw.expression (texts seen.old.items) (by_texts.formula tree.now)).0) }
+    ensures seen { OnOk result (texts seen.new.items ≡ (raw.expression (texts seen.old.items) (by_texts.formula tree.now)).1) }
 {
     match tree {
         ParsedExpression::Number { negative, digits } => match int(*negative, digits) {
@@ -192,10 +192,10 @@ fn number_test<'a, A: Allocator + Copy>(
     seen: &mut Seen<'a>,
     test: &GuardMember<'a, A>,
 ) -> Result<Option<Comparison<A>>, ItemError>
-    requires fits { TestFits (text.test test.now) }
-    requires room { length (raw.test (texts seen.old.items) (text.test test.now)).1 ≤ 24 }
-    ensures gives { Gives (λ o. (option_map comparison o, names.new)) result (or_full (maybe numbering.number_test names.old (raw.test (texts seen.old.items) (text.test test.now)).0)) }
-    ensures seen { OnOk result (texts seen.new.items ≡ (raw.test (texts seen.old.items) (text.test test.now)).1) }
+    requires fits { TestFits (by_texts.test test.now) }
+    requires room { length (raw.test (texts seen.old.items) (by_texts.test test.now)).1 ≤ 24 }
+    ensures gives { Gives (λ o. (option_map comparison o, names.new)) result (or_full (maybe numbering.number_test names.old (raw.test (texts seen.old.items) (by_texts.test test.now)).0)) }
+    ensures seen { OnOk result (texts seen.new.items ≡ (raw.test (texts seen.old.items) (by_texts.test test.now)).1) }
     ensures keeps { (t : Table) → Keeps t names.old → Keeps t names.new }
 {
     match test {
@@ -224,10 +224,10 @@ fn number_tests<'a, A: Allocator + Copy>(
     seen: &mut Seen<'a>,
     tests: &[GuardMember<'a, A>],
 ) -> Result<Vec<Comparison<A>, A>, ItemError>
-    requires fits { AllByRecursion TestFits (map text.test tests.now) }
-    requires room { length (in_turn raw.test (texts seen.old.items) (map text.test tests.now)).1 ≤ 24 }
-    ensures gives { Gives (λ v. (map comparison v.items, names.new)) result (or_full (each numbering.number_test names.old (somes (in_turn raw.test (texts seen.old.items) (map text.test tests.now)).0))) }
-    ensures seen { OnOk result (texts seen.new.items ≡ (in_turn raw.test (texts seen.old.items) (map text.test tests.now)).1) }
+    requires fits { AllByRecursion TestFits (map by_texts.test tests.now) }
+    requires room { length (in_turn raw.test (texts seen.old.items) (map by_texts.test tests.now)).1 ≤ 24 }
+    ensures gives { Gives (λ v. (map comparison v.items, names.new)) result (or_full (each numbering.number_test names.old (somes (in_turn raw.test (texts seen.old.items) (map by_texts.test tests.now)).0))) }
+    ensures seen { OnOk result (texts seen.new.items ≡ (in_turn raw.test (texts seen.old.items) (map by_texts.test tests.now)).1) }
     ensures keeps { (t : Table) → Keeps t names.old → Keeps t names.new }
 {
     let mut comparisons = Vec::new(alloc);
@@ -246,10 +246,10 @@ fn number_member<'a, A: Allocator + Copy>(
     seen: &mut Seen<'a>,
     member: &BodyMember<'a, A>,
 ) -> Result<Option<BodyItem<A>>, ItemError>
-    requires fits { MemberFits (text.member member.now) }
-    requires room { length (raw.member (texts seen.old.items) (text.member member.now)).1 ≤ 24 }
-    ensures gives { Gives (λ o. (option_map item_of o, names.new)) result (or_full (maybe numbering.number_member names.old (raw.member (texts seen.old.items) (text.member member.now)).0)) }
-    ensures seen { OnOk result (texts seen.new.items ≡ (raw.member (texts seen.old.items) (text.member member.now)).1) }
+    requires fits { MemberFits (by_texts.member member.now) }
+    requires room { length (raw.member (texts seen.old.items) (by_texts.member member.now)).1 ≤ 24 }
+    ensures gives { Gives (λ o. (option_map item_of o, names.new)) result (or_full (maybe numbering.number_member names.old (raw.member (texts seen.old.items) (by_texts.member member.now)).0)) }
+    ensures seen { OnOk result (texts seen.new.items ≡ (raw.member (texts seen.old.items) (by_texts.member member.now)).1) }
     ensures keeps { (t : Table) → Keeps t names.old → Keeps t names.new }
 {
     match member {
@@ -272,10 +272,10 @@ fn number_members<'a, A: Allocator + Copy>(
     seen: &mut Seen<'a>,
     members: &[BodyMember<'a, A>],
 ) -> Result<Vec<BodyItem<A>, A>, ItemError>
-    requires fits { AllByRecursion MemberFits (map text.member members.now) }
-    requires room { length (in_turn raw.member (texts seen.old.items) (map text.member members.now)).1 ≤ 24 }
-    ensures gives { Gives (λ v. (map item_of v.items, names.new)) result (or_full (each numbering.number_member names.old (somes (in_turn raw.member (texts seen.old.items) (map text.member members.now)).0))) }
-    ensures seen { OnOk result (texts seen.new.items ≡ (in_turn raw.member (texts seen.old.items) (map text.member members.now)).1) }
+    requires fits { AllByRecursion MemberFits (map by_texts.member members.now) }
+    requires room { length (in_turn raw.member (texts seen.old.items) (map by_texts.member members.now)).1 ≤ 24 }
+    ensures gives { Gives (λ v. (map item_of v.items, names.new)) result (or_full (each numbering.number_member names.old (somes (in_turn raw.member (texts seen.old.items) (map by_texts.member members.now)).0))) }
+    ensures seen { OnOk result (texts seen.new.items ≡ (in_turn raw.member (texts seen.old.items) (map by_texts.member members.now)).1) }
     ensures keeps { (t : Table) → Keeps t names.old → Keeps t names.new }
 {
     let mut items = Vec::new(alloc);
@@ -292,8 +292,8 @@ pub fn number_rule<A: Allocator + Copy>(
     names: &mut Names<A>,
     rule: &ParsedRule<'_, A>,
 ) -> Result<Rule<A>, ItemError>
-    requires { RuleFits (text.raw_rule rule.now) }
-    ensures gives { Gives (λ r. (r, names.new)) result (or_full (numbering.number_rule names.old (raw.rule (text.raw_rule rule.now)))) }
+    requires { RuleFits (by_texts.raw_rule rule.now) }
+    ensures gives { Gives (λ r. (r, names.new)) result (or_full (numbering.number_rule names.old (raw.rule (by_texts.raw_rule rule.now)))) }
     ensures keeps { (t : Table) → Keeps t names.old → Keeps t names.new }
 {
     let mut seen = Seen::new();

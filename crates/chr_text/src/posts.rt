@@ -42,8 +42,8 @@ fn number_post<A: Allocator + Copy>(
     names: &mut Names<A>,
     phrase: &ParsedAtom<'_, A>,
 ) -> Result<Atom<A>, ItemError>
-    requires { PostFits (text.phrase phrase.now) }
-    ensures gives { Gives (λ a. (a, names.new)) result (or_full (numbered_atom names.old (atom_by_texts (text.phrase phrase.now)))) }
+    requires { PostFits (by_texts.phrase phrase.now) }
+    ensures gives { Gives (λ a. (a, names.new)) result (or_full (numbered_atom names.old (atom_by_texts (by_texts.phrase phrase.now)))) }
     ensures keeps { (t : Table) → Keeps t names.old → Keeps t names.new }
 {
     let name = number_name(names, phrase.name)?;
@@ -61,8 +61,8 @@ pub fn number_posts<A: Allocator + Copy>(
     atoms: &mut Vec<Atom<A>, A>,
     phrases: &[ParsedAtom<'_, A>],
 ) -> Result<(), ItemError>
-    requires { AllByRecursion PostFits (map text.phrase phrases.now) }
-    ensures gives { Gives (λ u. (atoms.new.items, names.new)) result (or_full (more atoms.old.items (each numbered_atom names.old (map atom_by_texts (map text.phrase phrases.now))))) }
+    requires { AllByRecursion PostFits (map by_texts.phrase phrases.now) }
+    ensures gives { Gives (λ u. (atoms.new.items, names.new)) result (or_full (more atoms.old.items (each numbered_atom names.old (map atom_by_texts (map by_texts.phrase phrases.now))))) }
     ensures keeps { (t : Table) → Keeps t names.old → Keeps t names.new }
 {
     for phrase in phrases {

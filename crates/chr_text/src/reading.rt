@@ -52,8 +52,8 @@ fn add_rule<A: Allocator + Copy>(
     program: &mut Program<A>,
     rule: &ParsedRule<'_, A>,
 ) -> Result<(), ItemError>
-    requires { RulePlain (text.raw_rule rule.now) }
-    ensures gives { Gives (λ u. (program.new, names.new)) result (with_rule (program.old, names.old) (text.raw_rule rule.now)) }
+    requires { RulePlain (by_texts.raw_rule rule.now) }
+    ensures gives { Gives (λ u. (program.new, names.new)) result (with_rule (program.old, names.old) (by_texts.raw_rule rule.now)) }
     ensures keeps { (t : Table) → Keeps t names.old → Keeps t names.new }
 {
     judge_rule(program.len() >= MOST_RULES, rule)?;

@@ -3,7 +3,7 @@ use Rattle.std.proofs.lemmas.List.{map_push}
 use Rattle.std.proofs.lemmas.Result.{err_from_is_err_and}
 use Rattle.chr_grammar.specs.Views as by_texts
 use Rattle.chr_limits.specs.Views.{names as texts}
-use Rattle.chr_rule.specs.Parts.{rule_atom}
+use Rattle.chr_rule.specs.Parts.{shape}
 use Rattle.chr_text.specs.Fitting.{ShapeFits}
 use Rattle.chr_text.specs.Numbering as numbering
 use Rattle.chr_text.specs.Translation as raw
@@ -22,11 +22,11 @@ number_phrase-requires-clause-room g c = turn_room raw.rule_atom shape_grows (te
 pub returns-in_err-pattern-clause-gives : goal.returns-in_err-pattern-clause-gives
 returns-in_err-pattern-clause-gives g c =
     let p = err_from_is_err_and c.from_residual.result c.from_residual.ensures.1 in
-    rw (p.1, p.2) (turn_fails numbering.numbered_rule_atom raw.rule_atom c.in_err-pattern.field-0.0 (map rule_atom c.loop-phrase.patterns.items) c.loop-phrase.names (texts c.loop-phrase.seen.items) _ _ _ _ (map_from (by_texts.phrase {Z = g.row.A.Denot}) c.args.phrases.now c.loop-phrase.phrase-index c.phrase-item.result c.loop-phrase-test.true c.phrase-item.is) c.in_err-pattern.ensures.gives c.loop-phrase.invariant.gives)
+    rw (p.1, p.2) (turn_fails numbering.numbered_rule_atom raw.rule_atom c.in_err-pattern.field-0.0 (map shape c.loop-phrase.patterns.items) c.loop-phrase.names (texts c.loop-phrase.seen.items) _ _ _ _ (map_from (by_texts.phrase {Z = g.row.A.Denot}) c.args.phrases.now c.loop-phrase.phrase-index c.phrase-item.result c.loop-phrase-test.true c.phrase-item.is) c.in_err-pattern.ensures.gives c.loop-phrase.invariant.gives)
 
 pub loop-phrase-preserved : goal.loop-phrase-preserved
 loop-phrase-preserved g c = record {
-  gives = rw (c.in_ok-push.ensures.items, map_push rule_atom c.loop-phrase.patterns.items c.in_ok-pattern.pattern) (turn_more numbering.numbered_rule_atom raw.rule_atom (map rule_atom c.loop-phrase.patterns.items) c.loop-phrase.names c.number_phrase.new.names (texts c.loop-phrase.seen.items) (texts c.number_phrase.new.seen.items) _ _ _ (rule_atom c.in_ok-pattern.pattern) _ (map_from (by_texts.phrase {Z = g.row.A.Denot}) c.args.phrases.now c.loop-phrase.phrase-index c.phrase-item.result c.loop-phrase-test.true c.phrase-item.is) (numbered_is _ _ c.in_ok-pattern.ensures.gives) c.in_ok-pattern.ensures.seen c.loop-phrase.invariant.gives);
+  gives = rw (c.in_ok-push.ensures.items, map_push shape c.loop-phrase.patterns.items c.in_ok-pattern.pattern) (turn_more numbering.numbered_rule_atom raw.rule_atom (map shape c.loop-phrase.patterns.items) c.loop-phrase.names c.number_phrase.new.names (texts c.loop-phrase.seen.items) (texts c.number_phrase.new.seen.items) _ _ _ (shape c.in_ok-pattern.pattern) _ (map_from (by_texts.phrase {Z = g.row.A.Denot}) c.args.phrases.now c.loop-phrase.phrase-index c.phrase-item.result c.loop-phrase-test.true c.phrase-item.is) (numbered_is _ _ c.in_ok-pattern.ensures.gives) c.in_ok-pattern.ensures.seen c.loop-phrase.invariant.gives);
   seen = turn_seen raw.rule_atom (texts c.loop-phrase.seen.items) (texts c.number_phrase.new.seen.items) _ _ _ _ (map_from (by_texts.phrase {Z = g.row.A.Denot}) c.args.phrases.now c.loop-phrase.phrase-index c.phrase-item.result c.loop-phrase-test.true c.phrase-item.is) c.in_ok-pattern.ensures.seen c.loop-phrase.invariant.seen;
   keeps = λ t h. c.in_ok-pattern.ensures.keeps t (c.loop-phrase.invariant.keeps t h);
 }

@@ -2,7 +2,7 @@ use Rattle.std.proofs.Common.{[], map, ap}
 use Rattle.std.proofs.lemmas.Result.{err_from_is_err_and}
 use Rattle.chr_grammar.specs.Views as by_texts
 use Rattle.chr_limits.specs.Views.{names as texts}
-use Rattle.chr_rule.specs.Parts.{rule_atom, comparison, member}
+use Rattle.chr_rule.specs.Parts.{shape, comparison, member}
 use Rattle.chr_text.specs.Numbering.{or_full, numbered_rule_atom, number_test, number_member}
 use Rattle.chr_text.specs.Translation as raw
 use Rattle.chr_text.proofs.Growing.{kept_room, heads_room, guard_room}
@@ -99,7 +99,7 @@ unreachable-requires g c =
     let e3 = got_some number_test raw.test _ (raw.behind_heads r) _ r.guard c.number_phrases-2.new.names _ m2 d3 c.in_ok-guard.ensures.gives in
     let m3 = met_as raw.test _ (raw.behind_heads r) _ _ r.guard m2 d3 c.in_ok-guard.ensures.seen in
     let e4 = got_some number_member raw.member _ (raw.behind_guard r) _ r.body c.number_tests.new.names _ m3 d4 c.in_ok-body.ensures.gives in
-    let whole = rule_same (raw.rule r) c.args.names.now _ _ _ _ (map rule_atom c.in_ok-kept.kept.items) (map rule_atom c.in_ok-removed.removed.items) (map (comparison {Z = g.row.A.Denot}) c.in_ok-guard.guard.items) (map (member {Z = g.row.A.Denot}) c.in_ok-body.body.items) e1 e2 e3 e4 c.requires.whole in
+    let whole = rule_same (raw.rule r) c.args.names.now _ _ _ _ (map shape c.in_ok-kept.kept.items) (map shape c.in_ok-removed.removed.items) (map (comparison {Z = g.row.A.Denot}) c.in_ok-guard.guard.items) (map (member {Z = g.row.A.Denot}) c.in_ok-body.body.items) e1 e2 e3 e4 c.requires.whole in
     let some = c.new.ensures.exact.1 ((raw.rule r).variables, whole) in
     let none = c.in-None.is in
     absurd cc
@@ -119,9 +119,9 @@ returns-clause-gives g c =
     let e3 = got_some number_test raw.test _ (raw.behind_heads r) _ r.guard c.number_phrases-2.new.names _ m2 d3 c.in_ok-guard.ensures.gives in
     let m3 = met_as raw.test _ (raw.behind_heads r) _ _ r.guard m2 d3 c.in_ok-guard.ensures.seen in
     let e4 = got_some number_member raw.member _ (raw.behind_guard r) _ r.body c.number_tests.new.names _ m3 d4 c.in_ok-body.ensures.gives in
-    let whole = rule_same (raw.rule r) c.args.names.now _ _ _ _ (map rule_atom c.in_ok-kept.kept.items) (map rule_atom c.in_ok-removed.removed.items) (map (comparison {Z = g.row.A.Denot}) c.in_ok-guard.guard.items) (map (member {Z = g.row.A.Denot}) c.in_ok-body.body.items) e1 e2 e3 e4 c.requires.whole in
-    let is = as_many c.in-Some.rule (raw.rule r).variables (map rule_atom c.in_ok-kept.kept.items) (map rule_atom c.in_ok-removed.removed.items) (map (comparison {Z = g.row.A.Denot}) c.in_ok-guard.guard.items) (map (member {Z = g.row.A.Denot}) c.in_ok-body.body.items) c.in-Some.ensures.rule c.in-Some.ensures.whole whole in
-    rw is (ap or_full (rule_done c.args.names.now _ _ _ _ (raw.rule r) (map rule_atom c.in_ok-kept.kept.items) (map rule_atom c.in_ok-removed.removed.items) (map (comparison {Z = g.row.A.Denot}) c.in_ok-guard.guard.items) (map (member {Z = g.row.A.Denot}) c.in_ok-body.body.items) e1 e2 e3 e4))
+    let whole = rule_same (raw.rule r) c.args.names.now _ _ _ _ (map shape c.in_ok-kept.kept.items) (map shape c.in_ok-removed.removed.items) (map (comparison {Z = g.row.A.Denot}) c.in_ok-guard.guard.items) (map (member {Z = g.row.A.Denot}) c.in_ok-body.body.items) e1 e2 e3 e4 c.requires.whole in
+    let is = as_many c.in-Some.rule (raw.rule r).variables (map shape c.in_ok-kept.kept.items) (map shape c.in_ok-removed.removed.items) (map (comparison {Z = g.row.A.Denot}) c.in_ok-guard.guard.items) (map (member {Z = g.row.A.Denot}) c.in_ok-body.body.items) c.in-Some.ensures.rule c.in-Some.ensures.whole whole in
+    rw is (ap or_full (rule_done c.args.names.now _ _ _ _ (raw.rule r) (map shape c.in_ok-kept.kept.items) (map shape c.in_ok-removed.removed.items) (map (comparison {Z = g.row.A.Denot}) c.in_ok-guard.guard.items) (map (member {Z = g.row.A.Denot}) c.in_ok-body.body.items) e1 e2 e3 e4))
 
 pub returns-clause-keeps : goal.returns-clause-keeps
 returns-clause-keeps g c = λ t h. c.in_ok-body.ensures.keeps t (c.in_ok-guard.ensures.keeps t (c.in_ok-removed.ensures.keeps t (c.in_ok-kept.ensures.keeps t h)))

@@ -13,11 +13,11 @@ use Rattle.chr_text.proofs.Steps.{numbered_is}
 use Rattle.chr_text.proofs.Turns.{turn_seen, turn_room, turn_more, turn_fails}
 use Rattle.chr_text.proofs.build.number_terms.Goals as goal
 
-pub numbered_value-requires-clause-fits : goal.numbered_value-requires-clause-fits
-numbered_value-requires-clause-fits g c = all_at WordFits word c.args.terms.now c.loop-term.term-index _ c.requires.fits c.loop-term-test.true
+pub number_term-requires-clause-fits : goal.number_term-requires-clause-fits
+number_term-requires-clause-fits g c = all_at WordFits word c.args.terms.now c.loop-term.term-index _ c.requires.fits c.loop-term-test.true
 
-pub numbered_value-requires-clause-room : goal.numbered_value-requires-clause-room
-numbered_value-requires-clause-room g c = turn_room raw.argument argument_grows (texts c.loop-term.seen.items) _ _ _ _ (map_at word c.args.terms.now c.loop-term.term-index _ c.loop-term-test.true) c.loop-term.invariant.seen c.requires.room
+pub number_term-requires-clause-room : goal.number_term-requires-clause-room
+number_term-requires-clause-room g c = turn_room raw.argument argument_grows (texts c.loop-term.seen.items) _ _ _ _ (map_at word c.args.terms.now c.loop-term.term-index _ c.loop-term-test.true) c.loop-term.invariant.seen c.requires.room
 
 pub returns-in_err-argument-clause-gives : goal.returns-in_err-argument-clause-gives
 returns-in_err-argument-clause-gives g c =

@@ -25,21 +25,21 @@ loop-term-init g c = record {
   keeps = c.in_ok-name.ensures.keeps;
 }
 
-pub numbered_value-requires : goal.numbered_value-requires
-numbered_value-requires g c = all_at TermFits word c.deref-term-items.result.now c.loop-term.term-index _ (rw c.deref-term-items.ensures.value c.requires.args) c.loop-term-test.true
+pub number_term-requires : goal.number_term-requires
+number_term-requires g c = all_at TermFits word c.deref-term-items.result.now c.loop-term.term-index _ (rw c.deref-term-items.ensures.value c.requires.args) c.loop-term-test.true
 
-pub returns-in_err-numbered_value-clause-gives : goal.returns-in_err-numbered_value-clause-gives
-returns-in_err-numbered_value-clause-gives g c =
-    let p = err_from_is_err_and c.from_residual-in_err-numbered_value.result c.from_residual-in_err-numbered_value.ensures.1 in
+pub returns-in_err-number_term-clause-gives : goal.returns-in_err-number_term-clause-gives
+returns-in_err-number_term-clause-gives g c =
+    let p = err_from_is_err_and c.from_residual-in_err-number_term.result c.from_residual-in_err-number_term.ensures.1 in
     let ws = c.deref-term-items.result.now in
-    rw (p.1, p.2) (terms_fail c.in_err-numbered_value.field-0.0 c.loop-term.atom.name c.loop-term.atom.args c.loop-term.names _ _ (map term (map word (drop c.loop-term.term-index ws))) _ (ap (map term) (map_at word ws c.loop-term.term-index _ c.loop-term-test.true)) c.in_err-numbered_value.ensures.gives (rw c.deref-term-items.ensures.value c.loop-term.invariant.gives))
+    rw (p.1, p.2) (terms_fail c.in_err-number_term.field-0.0 c.loop-term.atom.name c.loop-term.atom.args c.loop-term.names _ _ (map term (map word (drop c.loop-term.term-index ws))) _ (ap (map term) (map_at word ws c.loop-term.term-index _ c.loop-term-test.true)) c.in_err-number_term.ensures.gives (rw c.deref-term-items.ensures.value c.loop-term.invariant.gives))
 
 pub loop-term-preserved : goal.loop-term-preserved
 loop-term-preserved g c =
     let ws = c.deref-term-items.result.now in record {
-      gives = rw (c.push.ensures, ← c.deref-term-items.ensures.value) (one_more c.loop-term.atom.name c.loop-term.atom.args c.loop-term.names c.number_term.new.names _ _ (map term (map word (drop c.loop-term.term-index ws))) (ground c.in_ok-numbered_value.field-0) _ (ap (map term) (map_at word ws c.loop-term.term-index _ c.loop-term-test.true)) (numbered_is _ _ c.in_ok-numbered_value.ensures.gives) (rw c.deref-term-items.ensures.value c.loop-term.invariant.gives));
-      few = ap (λ a. length a.args) c.push.ensures ∙ length_push c.loop-term.atom.args (ground c.in_ok-numbered_value.field-0) ∙ ap (λ (n : ℕ). n + 1) c.loop-term.invariant.few;
-      keeps = λ t h. c.in_ok-numbered_value.ensures.keeps t (c.loop-term.invariant.keeps t h);
+      gives = rw (c.push.ensures, ← c.deref-term-items.ensures.value) (one_more c.loop-term.atom.name c.loop-term.atom.args c.loop-term.names c.number_term.new.names _ _ (map term (map word (drop c.loop-term.term-index ws))) (ground c.in_ok-number_term.field-0) _ (ap (map term) (map_at word ws c.loop-term.term-index _ c.loop-term-test.true)) (numbered_is _ _ c.in_ok-number_term.ensures.gives) (rw c.deref-term-items.ensures.value c.loop-term.invariant.gives));
+      few = ap (λ a. length a.args) c.push.ensures ∙ length_push c.loop-term.atom.args (ground c.in_ok-number_term.field-0) ∙ ap (λ (n : ℕ). n + 1) c.loop-term.invariant.few;
+      keeps = λ t h. c.in_ok-number_term.ensures.keeps t (c.loop-term.invariant.keeps t h);
     }
 
 pub returns-clause-gives : goal.returns-clause-gives
