@@ -59,7 +59,7 @@ fn is_made_again(memory: &Refusing<Global>, n: u64, call: Call) -> Option<bool> 
         Call::PushEntry => logs::push(memory, n),
         Call::Reserve => logs::reserve(memory, n),
         Call::CopyLog => logs::copy(memory, n),
-        Call::WriteLog => logs::write_entries_of_a_log(memory, n),
+        Call::WriteLog => logs::write_events_of_a_log(memory, n),
         Call::WriteStore => logs::write_line_of_a_store(memory, n),
         Call::PushRule => plans::push(memory, n),
         Call::CopyProgram => plans::copy(memory, n),

@@ -1,6 +1,6 @@
 //! A log, and the writers of a log and of a store.
 use crate::calls::is_refused;
-use chr_log::events::{Entry, Event, Labels};
+use chr_log::events::{Entry, Event, Labels, Version};
 use chr_log::log::Log;
 use chr_log::writing::{write_log, write_store};
 use chr_value::atom::{Atom, Value};
@@ -74,14 +74,18 @@ pub fn copy(memory: &Refusing<Global>, n: u64) -> Option<bool> {
     Some(refused)
 }
 
-pub fn write_entries_of_a_log(memory: &Refusing<Global>, n: u64) -> Option<bool> {
+pub fn write_events_of_a_log(memory: &Refusing<Global>, n: u64) -> Option<bool> {
     let names = Names::new(memory);
-    let log = log_of(memory)?;
+    let mut events = Vec::new(memory);
+    for ticket in 1..4u64 {
+        events.push(entry_of(ticket).event).ok()?;
+    }
     let mut out = Vec::new(memory);
     memory.refuse(n);
-    let refused = is_refused(memory, write_log(&mut out, &names, log.entries()).is_err())?;
+    let answer = write_log(&mut out, &names, Version::One, &events);
+    let refused = is_refused(memory, answer.is_err())?;
     out.clear();
-    write_log(&mut out, &names, log.entries()).ok()?;
+    write_log(&mut out, &names, Version::One, &events).ok()?;
     if out.as_slice() != TEXT.as_bytes() {
         return None;
     }

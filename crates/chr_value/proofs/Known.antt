@@ -1,6 +1,7 @@
 -- Names that a table has, and so has every table that begins with it.
-use Rattle.std.proofs.Common.{◌≡◌, ◌<◌, ℕ, zero, suc, Bool, true, false, ◌||◌, List, [], ◌∷◌, ◌++◌, length, get_or, take, Some, Result, Err, arith, refl, sym, ap, subst, ◌∙◌}
-use Rattle.std.specs.Prelude.{◌↔◌}
+use Rattle.std.proofs.Common.{◌≡◌, ◌<◌, ℕ, zero, suc, Bool, true, false, ◌≤◌, ◌||◌, List, [], ◌∷◌, ◌++◌, length, get_or, take, Some, Result, Err, arith, refl, sym, ap, subst, ◌∙◌}
+use Rattle.std.specs.Prelude.{◌↔◌, IsOk}
+use Rattle.std.proofs.lemmas.List.{take_all}
 use Rattle.std.specs.List.{AllByRecursion}
 use Rattle.chr_value.specs.Names.{is_text, has_text}
 use Rattle.chr_value.specs.Atoms.{Value, Int, Sym, Atom}
@@ -76,3 +77,11 @@ full_at {X} {Z} e old new Lacks All full lacks none same =
       λ is. let f : e ≡ faults.Full = cc in (ap length same ∙ (full.0 (ap X-err f)).0, none),
       λ h. let r : X-err e ≡ X-err faults.Full = full.1 (sym (ap length same) ∙ h.0, lacks) in let f : e ≡ faults.Full = cc in ap Z-err f,
     )
+
+-- a full table takes no memory for names
+pub full_takes_none : {Z : Type 0} (old new : Table) (a : Atom (List ℕ)) (r : Result Z NamesFault) → (r ≡ Err faults.Full) ↔ ((length new ≡ 65536) × (AtomIsKnown new a → ⊥)) → (AtomIsKnown old a → IsOk r) → take (length old) new ≡ old → length new ≤ 65536 → length old ≡ 65536 → r ≡ Err faults.NoMemory → ⊥
+full_takes_none old new a r full finds keeps fits is none =
+    let same : new ≡ old = sym (take_all (length old) new (omega arith)) ∙ keeps in
+    let unknown : AtomIsKnown new a → ⊥ = λ k. let ok = finds (subst (λ (w : Table). AtomIsKnown w a) same k) in cc in
+    let clash = full.1 (ap length same ∙ is, unknown) in
+    cc

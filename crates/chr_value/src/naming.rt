@@ -25,6 +25,7 @@ pub fn name_number<A: Allocator + Copy>(
     ensures finds { has_text names.old text.now ≡ true → IsOk result }
     ensures unchanged { OnErr result (names.new ≡ names.old) }
     ensures keeps { take (length names.old) names.new ≡ names.old }
+    ensures fits { length names.new ≤ 65536 }
 {
     names.intern(text)
 }
@@ -40,6 +41,7 @@ pub(crate) fn word_value<A: Allocator + Copy>(
     ensures finds { TermIsKnown names.old (word_of text_value.now) → IsOk result }
     ensures unchanged { OnErr result (names.new ≡ names.old) }
     ensures keeps { take (length names.old) names.new ≡ names.old }
+    ensures fits { length names.old ≤ 65536 → length names.new ≤ 65536 }
 {
     match text_value {
         TextValue::Int(n) => Ok(Value::Int(*n)),
@@ -66,6 +68,7 @@ pub fn number_atom<A: Allocator + Copy>(
     ensures finds { AtomIsKnown names.old (text_atom text.now) → IsOk result }
     ensures again { (a : Atom ℕ) → HasDistinctTexts names.old → AtomIsNamed (length names.old) a → text_atom text.now ≡ names_by names.old a → Named (λ b. b) result (Some (a, names.old)) names.new }
     ensures keeps { take (length names.old) names.new ≡ names.old }
+    ensures fits { length names.new ≤ 65536 }
 {
     let name = name_number(names, text.name)?;
     let mut atom = Atom::new(alloc, name);

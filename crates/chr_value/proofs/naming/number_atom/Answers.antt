@@ -23,6 +23,7 @@ loop-text_value-init g c = (
   rw (c.new-atom.ensures, c.as_slice-text_value-items.ensures.value) (first_done c.args.names.now c.name_number.new.names (text_atom c.args.text.now) c.in_ok-name.name.number c.in_ok-name.ensures.gives),
   c.in_ok-name.ensures.keeps,
   ap (λ a. length a.args) c.new-atom.ensures,
+  c.in_ok-name.ensures.fits,
 )
 
 pub word_value-requires : goal.word_value-requires
@@ -40,6 +41,7 @@ loop-text_value-preserved g c =
       rw c.push.ensures (one_more c.loop-text_value.atom.name c.loop-text_value.atom.args c.loop-text_value.names c.word_value.new.names _ _ (text_values (drop c.loop-text_value.text_value-index ws)) (ground c.in_ok-value.value) _ (words_from ws c.loop-text_value.text_value-index _ c.loop-text_value-test.true) c.in_ok-value.ensures.gives c.loop-text_value.invariant.0),
       keeps-then c.args.names.now c.loop-text_value.names c.word_value.new.names c.loop-text_value.invariant.1 c.in_ok-value.ensures.keeps,
       ap (λ a. length a.args) c.push.ensures ∙ length_push c.loop-text_value.atom.args (ground c.in_ok-value.value) ∙ ap (λ (n : ℕ). n + 1) c.loop-text_value.invariant.2,
+      c.in_ok-value.ensures.fits c.loop-text_value.invariant.3,
     )
 
 pub returns-clause-gives : goal.returns-clause-gives
