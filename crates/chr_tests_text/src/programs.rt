@@ -1,12 +1,11 @@
+//! Texts of programs and of posts, each with what the reader gives.
 use chr_lex::fault::ReadError;
-use chr_rule::expression::{BodyItem, Comparison, Expr, Operator, Relation};
-use chr_rule::rule_atom::Term;
 use chr_text::reading::{read_atoms, read_program};
 use chr_value::names::Names;
-use std::alloc::{AllocError, Allocator};
-use std::test::*;
+use std::alloc::{AllocError, Global};
+use std::test::Fail;
 
-/// Texts of programs with what is told of them: how many rules they have, or the first fault and its line. In a text
+/// Texts of programs with what the reader gives: how many rules they have, or the first fault and its line. In a text
 /// `~` stands for the end of a line, and `{3 ab}` for `ababab`.
 const PROGRAMS: &[u8] = b"
 E04 Syntax 1: p(X) <=> q(X-1).
@@ -141,7 +140,7 @@ ok 1: p({64 X}) <=> q.
 E07 TooMany 1: p({65 X}) <=> q.
 ";
 
-/// Texts of posts with what is told of them: how many atoms they have, or the first fault and its line.
+/// Texts of posts with what the reader gives: how many atoms they have, or the first fault and its line.
 const POSTS: &[u8] = b"
 ok 0:
 ok 0: % nothing~
@@ -181,152 +180,74 @@ fn times(piece: &[u8]) -> usize {
     number
 }
 
-fn put_repeated<A: Allocator + Copy>(out: &mut Vec<u8, A>, piece: &[u8]) -> Result<(), AllocError> {
-    let count = times(piece);
+fn put(out: &mut Vec<u8>, text: &[u8]) -> Result<(), AllocError> {
+    for b in text {
+        out.push(if *b == b'~' { b'\n' } else { *b })?;
+    }
+    Ok(())
+}
+
+fn put_repeated(out: &mut Vec<u8>, piece: &[u8]) -> Result<(), AllocError> {
     if let Some(blank) = piece.iter().position(|b| *b == b' ') {
-        for _ in 0..count {
-            out.extend_from_slice(&piece[blank + 1..])?;
+        for _ in 0..times(piece) {
+            put(out, &piece[blank + 1..])?;
         }
     }
     Ok(())
 }
 
 /// The text that a row writes.
-fn text_of<A: Allocator + Copy>(alloc: A, row: &[u8]) -> Result<Vec<u8, A>, AllocError> {
+fn text_of(alloc: Global, row: &[u8]) -> Result<Vec<u8>, AllocError> {
     let mut out = Vec::new(alloc);
-    let mut piece: Option<usize> = None;
-    for (i, b) in row.iter().enumerate() {
-        match piece {
-            None if *b == b'{' => piece = Some(i + 1),
-            None if *b == b'~' => out.push(b'\n')?,
-            None => out.push(*b)?,
-            Some(from) => {
-                if *b == b'}' && from <= i {
-                    put_repeated(&mut out, &row[from..i])?;
-                    piece = None;
-                }
+    for piece in row.split(|b| *b == b'}') {
+        match piece.iter().position(|b| *b == b'{') {
+            None => put(&mut out, piece)?,
+            Some(at) => {
+                put(&mut out, &piece[..at])?;
+                put_repeated(&mut out, &piece[at + 1..])?;
             }
         }
     }
-    lines_in(&mut out);
     Ok(out)
 }
 
-/// A `~` in a repeated piece ends a line too.
-fn lines_in<A: Allocator>(out: &mut Vec<u8, A>) {
-    for b in out.iter_mut() {
-        if *b == b'~' {
-            *b = b'\n';
-        }
+/// How many rules or atoms the reader gives.
+fn count(alloc: Global, are_posts: bool, text: &[u8]) -> Result<usize, ReadError> {
+    let mut names = Names::new(alloc);
+    if are_posts {
+        Ok(read_atoms(alloc, text, &mut names)?.len())
+    } else {
+        Ok(read_program(alloc, text, &mut names)?.len())
     }
 }
 
-fn told<A: Allocator + Copy>(
-    alloc: A,
-    answer: Result<usize, ReadError>,
-) -> Result<String<A>, AllocError> {
-    match answer {
+fn answer(alloc: Global, are_posts: bool, text: &[u8]) -> Result<String, AllocError> {
+    match count(alloc, are_posts, text) {
         Ok(count) => format!(in alloc; "ok {count}"),
         Err(ReadError::Fault(fault)) => format!(in alloc; "{} {}", fault.kind, fault.line),
         Err(ReadError::Memory) => format!(in alloc; "E01"),
     }
 }
 
-fn told_of_program<A: Allocator + Copy>(alloc: A, text: &[u8]) -> Result<String<A>, AllocError> {
-    let mut names = Names::new(alloc);
-    match read_program(alloc, text, &mut names) {
-        Ok(program) => told(alloc, Ok(program.len())),
-        Err(e) => told(alloc, Err(e)),
-    }
-}
-
-fn told_of_posts<A: Allocator + Copy>(alloc: A, text: &[u8]) -> Result<String<A>, AllocError> {
-    let mut names = Names::new(alloc);
-    match read_atoms(alloc, text, &mut names) {
-        Ok(atoms) => told(alloc, Ok(atoms.len())),
-        Err(e) => told(alloc, Err(e)),
-    }
-}
-
-/// Whether the reader tells of the row's text what stands in front of its first colon.
-fn is_told<A: Allocator + Copy>(alloc: A, are_posts: bool, row: &[u8]) -> Result<bool, AllocError> {
+/// Whether the reader gives what stands in front of the row's first colon.
+fn is_given(alloc: Global, are_posts: bool, row: &[u8]) -> Result<bool, AllocError> {
     let Some(colon) = row.iter().position(|b| *b == b':') else {
         return Ok(true);
     };
     let text = text_of(alloc, &row[colon + 1..])?;
-    let answer = if are_posts {
-        told_of_posts(alloc, &text)?
-    } else {
-        told_of_program(alloc, &text)?
-    };
-    Ok(answer.as_bytes() == &row[..colon])
+    let given = answer(alloc, are_posts, &text)?;
+    Ok(given.as_bytes() == &row[..colon])
 }
 
-/// The number of the first row of which something else is told.
-fn first_wrong<A: Allocator + Copy>(
-    alloc: A,
-    are_posts: bool,
-    table: &[u8],
-) -> Result<Option<usize>, AllocError> {
-    let mut from = 0;
-    let mut row: usize = 0;
-    for (i, b) in table.iter().enumerate() {
-        if *b == b'\n' {
-            if from <= i && !is_told(alloc, are_posts, &table[from..i])? {
-                return Ok(Some(row));
-            }
-            from = i + 1;
-            row = row.saturating_add(1);
+#[test]
+fn texts_of_programs_and_posts(rt: HostRuntime) -> Result<(), Fail> {
+    for (are_posts, table) in [(false, PROGRAMS), (false, LIMITS), (true, POSTS)] {
+        for (i, row) in table.split(|b| *b == b'\n').enumerate() {
+            assert!(rt;
+                is_given(rt.alloc(), are_posts, row)?,
+                "posts: {are_posts}, row {i}"
+            );
         }
     }
-    Ok(None)
-}
-
-#[test]
-fn rows_are_told_as_they_say(rt: HostRuntime) -> Result<(), Fail> {
-    for (are_posts, table) in [(false, PROGRAMS), (false, LIMITS), (true, POSTS)] {
-        assert_eq!(rt; first_wrong(rt.alloc(), are_posts, table)?, None);
-    }
-    Ok(())
-}
-
-#[test]
-fn greatest_common_divisor(rt: HostRuntime) -> Result<(), Fail> {
-    let text = b"gcd(0) <=> true.\ngcd(N) \\ gcd(M) <=> 0 < N, N =< M | L is M mod N, gcd(L).\n";
-    assert_eq!(rt; text.len(), 75);
-    let mut names = Names::new(rt.alloc());
-    let Ok(program) = read_program(rt.alloc(), text, &mut names) else {
-        return Err(Fail::from("fault"));
-    };
-    assert_eq!(rt; names.len(), 1);
-    let rules = program.rules();
-    assert_eq!(rt; rules.len(), 2);
-    let first = &rules[0];
-    assert_eq!(rt; first.kept().len(), 0);
-    assert_eq!(rt; first.removed().len(), 1);
-    assert_eq!(rt; first.guard().len(), 0);
-    assert_eq!(rt; first.body().len(), 0);
-    let second = &rules[1];
-    assert_eq!(rt; second.variables(), 3);
-    assert_eq!(rt; second.kept().len(), 1);
-    assert_eq!(rt; second.removed().len(), 1);
-    assert_eq!(rt; names.text(second.kept()[0].name), Some("gcd"));
-    assert!(rt; matches!(second.kept()[0].terms.as_slice(), [Term::Var(0)]));
-    assert!(rt; matches!(second.removed()[0].terms.as_slice(), [Term::Var(1)]));
-    assert_eq!(rt; second.guard().len(), 2);
-    assert!(rt;
-        matches!(
-            &second.guard()[1],
-            Comparison::Numbers(Relation::LessEqual, Expr::Var(0), Expr::Var(1))
-        )
-    );
-    assert_eq!(rt; second.body().len(), 2);
-    assert!(rt;
-        matches!(
-            &second.body()[0],
-            BodyItem::Is(2, Expr::Operation(Operator::Mod, _, _))
-        )
-    );
-    assert!(rt; matches!(&second.body()[1], BodyItem::Add(_)));
     Ok(())
 }
