@@ -5,3 +5,4 @@ pub mod Distinct
 pub mod Posted
 pub mod Printing
 pub mod Printed
+pub mod Bodies

@@ -123,7 +123,7 @@ carried_on (Some a) f g h = g a h
 carried_on None f g h = f h
 
 -- the constraints of a body joined
-added_append : (ms ns : List (BodyItem ℕ)) → added (ms ++ ns) ≡ added ms ++ added ns
+pub added_append : (ms ns : List (BodyItem ℕ)) → added (ms ++ ns) ≡ added ms ++ added ns
 added_append [] ns = refl
 added_append (Is x e ∷ ms) ns = added_append ms ns
 added_append (Add s ∷ ms) ns = ap (λ l. s ∷ l) (added_append ms ns)
