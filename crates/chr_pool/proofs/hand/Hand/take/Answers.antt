@@ -1,0 +1,26 @@
+use Rattle.std.proofs.Common.{◌+◌, map, ap, ◌∙◌}
+use Rattle.crossbeam_deque.specs.Handles.{worker_view}
+use Rattle.chr_pool.specs.Handles.{queue_account, stolen}
+use Rattle.chr_pool.specs.Hands.{hand_views}
+use Rattle.chr_pool.proofs.Rules.{takes, finds}
+use Rattle.chr_pool.proofs.ViewLists.{later_grew, one_longer}
+use Rattle.chr_pool.proofs.hand.Hand.take.Goals as goal
+
+pub pop_as-requires-clause-fifo : goal.pop_as-requires-clause-fifo
+pop_as-requires-clause-fifo g c = λ _. takes g.T.Numbered.number _ _ c.args.self.now.some_part
+
+pub pop_as-requires-clause-empty : goal.pop_as-requires-clause-empty
+pop_as-requires-clause-empty g c = finds g.T.Numbered.number _ _
+
+pub invariant_of-self-2-clause-taken_counted : goal.invariant_of-self-2-clause-taken_counted
+invariant_of-self-2-clause-taken_counted g c =
+    let me = c.args.self.now in
+    let n = g.T.Numbered.number c.in_ok-task.task in
+    one_longer n (hand_views me) _
+    (later_grew n (worker_view me.own) (worker_view c.pop_as.new.self) (queue_account me.queue_handle) (queue_account c.take.new.self) (map stolen me.deque_handles.items) (map stolen c.steal_from.new.handles.items) c.in_default.ensures.rule.0 c.in_default-take.ensures.rule c.in_ok-task.ensures.rule)
+    ∙ ap (λ n. n + 1) me.taken_counted
+
+pub returns-clause-taken : goal.returns-clause-taken
+returns-clause-taken g c =
+    let me = c.args.self.now in
+    later_grew (g.T.Numbered.number c.in_ok-task.task) (worker_view me.own) (worker_view c.pop_as.new.self) (queue_account me.queue_handle) (queue_account c.take.new.self) (map stolen me.deque_handles.items) (map stolen c.steal_from.new.handles.items) c.in_default.ensures.rule.0 c.in_default-take.ensures.rule c.in_ok-task.ensures.rule

@@ -1,0 +1,91 @@
+use Rattle.std.proofs.Common.{◌≡◌, ◌+◌, [], ◌∷◌, ◌++◌, length, map, All, sym, ap, ◌∙◌, subst, append-nil, length-append, arith}
+use Rattle.std.specs.List.{range_with_len}
+use Rattle.std.specs.Vec.Iter.{into_iter_items}
+use Rattle.std.proofs.lemmas.List.Elements.{All-push}
+use Rattle.chr_pool.specs.declared.new_deque.NewDeque.{NewDeque}
+use Rattle.chr_pool.specs.declared.account.Account.{Account}
+use Rattle.chr_pool.specs.Handles.{queue_shape}
+use Rattle.chr_pool.specs.Hands.{hand_deque, hand_capacity, hand_number}
+use Rattle.chr_pool.specs.NewDeques.{new_deque, new_capacity, IsRow, IsNewHand}
+use Rattle.chr_pool.proofs.Gathers.{All-first, All-rest, nothing_left}
+use Rattle.chr_pool.proofs.Settles.{All-left, All-last}
+use Rattle.chr_pool.proofs.Makings.{nothing_stolen, snoc_map}
+use Rattle.chr_pool.proofs.making.all_hands.Goals as goal
+
+pub invariant_of-push-clause-taken_counted : goal.invariant_of-push-clause-taken_counted
+invariant_of-push-clause-taken_counted g c =
+    let D = map new_deque (into_iter_items c.into_iter-deque-iterator.result) in
+    let row = All-last (IsRow D) c.pop.new.self.items c.in-Some-pop.deque_handles (subst (All (IsRow D)) c.in-Some-pop.ensures.items c.loop-deque.invariant.6) in
+    let a = c.in-Some.deque.nothing_taken in
+    let b = ap (λ (v : Account). v.taken) c.in_ok-queue_handle.ensures.made.1 in
+    let e = nothing_stolen c.in-Some-pop.deque_handles.items row.1 in
+    λ k. length (a k ++ (b k ++ e k))
+
+pub loop-deque-preserved : goal.loop-deque-preserved
+loop-deque-preserved g c =
+    let at = c.loop-deque in
+    let deque = c.in-Some.deque in
+    let handles = c.in-Some-pop.deque_handles in
+    let left = into_iter_items c.next.new.self in
+    let all = into_iter_items c.into_iter-deque-iterator.result in
+    let D = map new_deque all in
+    let steps : into_iter_items at.deque-iterator ≡ deque ∷ left = c.in-Some.ensures.steps.0 in
+    let short = ap length steps in
+    let Kept : NewDeque g.row.T.Denot → Type 0 = λ d. d.parts + length all ≡ 64 in
+    let rows : All (IsRow D) (c.pop.new.self.items ++ handles ∷ []) = subst (All (IsRow D)) c.in-Some-pop.ensures.items at.invariant.6 in
+    let row = All-last (IsRow D) c.pop.new.self.items handles rows in
+    let kept : All Kept (deque ∷ left) = subst (All Kept) steps at.invariant.5 in
+    let fewer = ap length c.in-Some-pop.ensures.items in
+    let b = ap (λ (v : Account). v.taken) c.in_ok-queue_handle.ensures.made.1 in
+    let e = nothing_stolen handles.items row.1 in
+    let one_part = ap (λ (v : Account). v.parts) c.in_ok-queue_handle.ensures.made.1 in
+    let mine : deque.parts + length all ≡ 64 = All-first Kept deque left kept in
+    let pushed = c.in_ok-push.ensures.items in (
+      tt,
+      tt,
+      (let was = at.invariant.2 in let gone = c.in-Some.ensures.steps.1 in omega arith),
+      ap (λ l. map hand_deque l ++ map new_deque left) pushed
+          ∙ (snoc_map hand_deque at.made.items _ (map new_deque left)
+          ∙ (ap (λ l. map hand_deque at.made.items ++ map new_deque l) (sym steps) ∙ at.invariant.3)),
+      rw pushed
+          (All-push (IsNewHand D (queue_shape c.args.first.now).0 (length all)) at.made.items _ at.invariant.4
+          (row, c.in_ok-queue_handle.ensures.made.0 ∙ at.invariant.10, one_part, ap (λ n. n + length all) deque.parts_kept ∙ mine, deque.nothing_pushed, λ k. deque.nothing_taken k ++ (b k ++ e k))),
+      All-rest Kept deque left kept,
+      All-left (IsRow D) c.pop.new.self.items (handles ∷ []) rows,
+      (let n = at.invariant.7 in omega (arith, n, fewer, short, length-append c.pop.new.self.items (handles ∷ []))),
+      ap (λ l. map hand_number l ++ range_with_len (at.number + 1) (length left)) pushed
+          ∙ (snoc_map hand_number at.made.items _ (range_with_len (at.number + 1) (length left))
+          ∙ (ap (λ n. map hand_number at.made.items ++ range_with_len at.number n) (sym short) ∙ at.invariant.8)),
+      (let n = at.invariant.9 in omega (arith, n, short)),
+      c.in_ok-queue_handle.ensures.same.0 ∙ at.invariant.10,
+      (let n = at.invariant.11 in let p = c.in_ok-queue_handle.ensures.parts in omega (arith, n, p)),
+      c.in_ok-queue_handle.ensures.same.1 ∙ at.invariant.12,
+      c.in_ok-queue_handle.ensures.same.2 ∙ at.invariant.13,
+      ap (λ l. map hand_capacity l ++ map new_capacity left) pushed
+          ∙ (snoc_map hand_capacity at.made.items _ (map new_capacity left)
+          ∙ (ap (λ l. map hand_capacity at.made.items ++ map new_capacity l) (sym steps) ∙ at.invariant.14)),
+    )
+
+pub returns-clause-deques : goal.returns-clause-deques
+returns-clause-deques g c =
+    let at = c.loop-deque in
+    let empty = nothing_left (into_iter_items at.deque-iterator) (sym at.invariant.2 ∙ c.in-None.ensures.steps.0) in
+    sym (append-nil (map hand_deque at.made.items))
+    ∙ (ap (λ l. map hand_deque at.made.items ++ map new_deque l) (sym empty)
+    ∙ (at.invariant.3 ∙ ap (map new_deque) c.into_iter-deque-iterator.ensures.into_iter_gives.0))
+
+pub returns-clause-capacities : goal.returns-clause-capacities
+returns-clause-capacities g c =
+    let at = c.loop-deque in
+    let empty = nothing_left (into_iter_items at.deque-iterator) (sym at.invariant.2 ∙ c.in-None.ensures.steps.0) in
+    sym (append-nil (map hand_capacity at.made.items))
+    ∙ (ap (λ l. map hand_capacity at.made.items ++ map new_capacity l) (sym empty)
+    ∙ (at.invariant.14 ∙ ap (map new_capacity) c.into_iter-deque-iterator.ensures.into_iter_gives.0))
+
+pub returns-clause-numbers : goal.returns-clause-numbers
+returns-clause-numbers g c =
+    let at = c.loop-deque in
+    let empty = nothing_left (into_iter_items at.deque-iterator) (sym at.invariant.2 ∙ c.in-None.ensures.steps.0) in
+    sym (append-nil (map hand_number at.made.items))
+    ∙ (ap (λ l. map hand_number at.made.items ++ range_with_len at.number (length l)) (sym empty)
+    ∙ (at.invariant.8 ∙ ap (λ l. range_with_len 0 (length l)) c.into_iter-deque-iterator.ensures.into_iter_gives.0))
