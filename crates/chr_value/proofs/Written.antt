@@ -4,22 +4,22 @@ use Rattle.std.proofs.lemmas.List.{append-nil, take_more}
 use Rattle.std.specs.Prelude.{slice_get}
 use Rattle.chr_value.specs.Atoms.{Value, renamed, text_of, ground, grounds}
 use Rattle.chr_value.specs.declared.atom.Value.{Value as CodeValue}
-use Rattle.chr_value.specs.Spelling.{behind, opened, spell_term}
+use Rattle.chr_value.specs.Spelling.{after_commas, opened, spell_term}
 
 -- the texts of arguments
 abbrev pub arg_texts : List (List ℕ) → List (Value ℕ) → List (List ℕ)
 arg_texts table args = map spell_term (map (renamed (text_of table)) args)
 
-pub behind-push : (ts : List (List ℕ)) (t : List ℕ) → behind (ts ++ t ∷ []) ≡ behind ts ++ 44 ∷ t
-behind-push [] t = ap (λ (r : List ℕ). 44 ∷ r) (append-nil t)
-behind-push (x ∷ xs) t = ap (λ (r : List ℕ). 44 ∷ (x ++ r)) (behind-push xs t) ∙ ap (λ (r : List ℕ). 44 ∷ r) (sym (append_assoc x (behind xs) (44 ∷ t)))
+pub after_commas-push : (ts : List (List ℕ)) (t : List ℕ) → after_commas (ts ++ t ∷ []) ≡ after_commas ts ++ 44 ∷ t
+after_commas-push [] t = ap (λ (r : List ℕ). 44 ∷ r) (append-nil t)
+after_commas-push (x ∷ xs) t = ap (λ (r : List ℕ). 44 ∷ (x ++ r)) (after_commas-push xs t) ∙ ap (λ (r : List ℕ). 44 ∷ r) (sym (append_assoc x (after_commas xs) (44 ∷ t)))
 
 pub opened-first : (t : List ℕ) → opened (t ∷ []) ≡ 40 ∷ t
 opened-first t = ap (λ (r : List ℕ). 40 ∷ r) (append-nil t)
 
 pub opened-more : (ts : List (List ℕ)) (t : List ℕ) → 0 < length ts → opened (ts ++ t ∷ []) ≡ opened ts ++ 44 ∷ t
 opened-more [] t h = absurd (omega arith)
-opened-more (x ∷ xs) t h = ap (λ (r : List ℕ). 40 ∷ (x ++ r)) (behind-push xs t) ∙ ap (λ (r : List ℕ). 40 ∷ r) (sym (append_assoc x (behind xs) (44 ∷ t)))
+opened-more (x ∷ xs) t h = ap (λ (r : List ℕ). 40 ∷ (x ++ r)) (after_commas-push xs t) ∙ ap (λ (r : List ℕ). 40 ∷ r) (sym (append_assoc x (after_commas xs) (44 ∷ t)))
 
 -- the mark before the argument at i, and that argument
 pub opened-step : (ts : List (List ℕ)) (t : List ℕ) (i b : ℕ) → length ts ≡ i → ((i ≡ 0) × (b ≡ 40)) ⊎ ((0 < i) × (b ≡ 44)) → opened (ts ++ t ∷ []) ≡ opened ts ++ b ∷ t
