@@ -66,6 +66,8 @@ pub fn make(memory: &Refusing<Global>, n: u64) -> Option<bool> {
     let program = program_of(memory)?;
     memory.refuse(n);
     let refused = is_refused(memory, Plans::make(memory, &program).is_err())?;
-    Plans::make(memory, &program).ok()?.plan(1, 1)?;
+    if Plans::make(memory, &program).is_err() {
+        return None;
+    }
     Some(refused)
 }
