@@ -1,6 +1,8 @@
 -- What is spelled as an expression is read.
-use Rattle.std.proofs.Common.{◌≡◌, ◌≤◌, ◌<◌, ℕ, zero, suc, ◌+◌, ◌-◌, Bool, true, false, if◌then◌else◌, nat_eq, List, [], ◌∷◌, ◌++◌, refl, ap, subst, ◌∙◌, arith, append_assoc, max, Option, Some, None, Ok}
+use Rattle.std.proofs.Common.{◌≡◌, ◌≤◌, ◌<◌, ℕ, zero, suc, ◌+◌, ◌-◌, Bool, true, false, if◌then◌else◌, nat_eq, List, [], ◌∷◌, ◌++◌, refl, ap, subst, ◌∙◌, arith, append_assoc, max, Option, Some, None, Ok, Err}
 use Rattle.std.proofs.lemmas.Bool.{eqb-true, eqb-false}
+use Rattle.chr_lex.specs.declared.fault.Kind.{Kind}
+use Rattle.chr_lex.specs.declared.fault.Kind.TheVariants.{Syntax}
 use Rattle.chr_lex.specs.declared.mark.Mark.TheVariants.{Close}
 use Rattle.chr_lex.specs.Reading.{◌>>=◌}
 use Rattle.chr_lex.specs.Tokens.{Lexeme, OfMark}
@@ -209,3 +211,6 @@ read_before f (s ∷ ts) stands ends = expression_again f (s ∷ ts) stands (no_
 
 pub are_expressions : (ts rest : List Lexeme) (f : ParsedExpression) → expression_at ts ≡ Ok (f, rest) → IsExpression f × (ts ≡ formula_spelled f ++ rest)
 are_expressions ts rest f h = subst (ExpressionRead ts) h (expression_found ts)
+
+pub no_expressions : (ts : List Lexeme) (k : Kind) → expression_at ts ≡ Err k → (k ≡ Syntax) × ((f : ParsedExpression) (rest : List Lexeme) → IsExpression f → EndsExpression rest → ts ≡ formula_spelled f ++ rest → ⊥)
+no_expressions ts k h = (subst (ExpressionRead ts) h (expression_found ts), λ f rest stands ends is. let x = read_before f rest stands ends in let y = ap expression_at is in cc)

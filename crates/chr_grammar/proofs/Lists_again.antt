@@ -1,5 +1,7 @@
 -- Guards, bodies and declarations: what is read is spelled so, and what is spelled so is read.
-use Rattle.std.proofs.Common.{◌≡◌, List, subst, Ok}
+use Rattle.std.proofs.Common.{◌≡◌, List, subst, Ok, Err}
+use Rattle.chr_lex.specs.declared.fault.Kind.{Kind}
+use Rattle.chr_lex.specs.declared.fault.Kind.TheVariants.{Syntax}
 use Rattle.chr_lex.specs.Tokens.{Lexeme}
 use Rattle.chr_grammar.specs.Parsed.{GuardMember, BodyMember, Declared}
 use Rattle.chr_grammar.specs.Parsing.{test_at, tests_of, member_at, body_of, declared_at, declarations_of}
@@ -15,11 +17,17 @@ are_tests ts xs h = subst (ListRead IsGuardMember test_spelled ts) h (list_found
 pub tests_read : (ts : List Lexeme) (xs : List GuardMember) → AreGuardMembers ts xs → tests_of ts ≡ Ok xs
 tests_read = list_read IsGuardMember test_spelled test_at test_again test_some
 
+pub no_tests : (ts : List Lexeme) (k : Kind) → tests_of ts ≡ Err k → (k ≡ Syntax) × ((xs : List GuardMember) → AreGuardMembers ts xs → ⊥)
+no_tests ts k h = (subst (ListRead IsGuardMember test_spelled ts) h (list_found IsGuardMember test_spelled test_at test_found ts), λ xs a. let x = tests_read ts xs a in cc)
+
 pub are_members : (ts : List Lexeme) (xs : List BodyMember) → body_of ts ≡ Ok xs → AreBodyMembers ts xs
 are_members ts xs h = subst (ListRead IsBodyMember member_spelled ts) h (list_found IsBodyMember member_spelled member_at member_found ts)
 
 pub members_read : (ts : List Lexeme) (xs : List BodyMember) → AreBodyMembers ts xs → body_of ts ≡ Ok xs
 members_read = list_read IsBodyMember member_spelled member_at member_again member_some
+
+pub no_members : (ts : List Lexeme) (k : Kind) → body_of ts ≡ Err k → (k ≡ Syntax) × ((xs : List BodyMember) → AreBodyMembers ts xs → ⊥)
+no_members ts k h = (subst (ListRead IsBodyMember member_spelled ts) h (list_found IsBodyMember member_spelled member_at member_found ts), λ xs a. let x = members_read ts xs a in cc)
 
 pub are_declared : (ts : List Lexeme) (xs : List Declared) → declarations_of ts ≡ Ok xs → AreByCommas AnyDeclared declared_spelled ts xs
 are_declared ts xs h = subst (ListRead AnyDeclared declared_spelled ts) h (list_found AnyDeclared declared_spelled declared_at declared_found ts)

@@ -3,6 +3,7 @@ use Rattle.std.proofs.Common.{◌≡◌, ◌<◌, ℕ, Bool, true, false, List, 
 use Rattle.std.specs.Prelude.{codes, ◌||◌}
 use Rattle.std.specs.List.{AllByRecursion}
 use Rattle.std.specs.Str.{bytes_eq}
+use Rattle.chr_value.specs.Spelling.{is_reserved}
 use Rattle.chr_lex.specs.declared.mark.Mark.TheVariants as mark
 use Rattle.chr_lex.specs.declared.mark.Mark.TheVariants.{Comma}
 use Rattle.chr_lex.specs.Tokens as word
@@ -13,7 +14,7 @@ use Rattle.chr_rule.specs.declared.expression.Relation.{Relation}
 use Rattle.chr_rule.specs.declared.expression.Relation.TheVariants as relation
 use Rattle.chr_grammar.specs.Parsed.{ParsedExpression, Number, Variable, Group, Operation, GuardMember, Always, Compared, Same, Differ, BodyMember, Nothing, Is, Add, Declared}
 use Rattle.chr_grammar.specs.Parsing as parsing
-use Rattle.chr_grammar.specs.Parsing.{Front, is_true, is_reserved, equality, sum_operator, product_operator, compared_at, test_at, added_at, member_at, declared_at, phrase_at, expression_at}
+use Rattle.chr_grammar.specs.Parsing.{Front, is_true, equality, sum_operator, product_operator, compared_at, test_at, added_at, member_at, declared_at, phrase_at, expression_at}
 use Rattle.chr_grammar.specs.Spelling.{formula_spelled, test_spelled, member_spelled, declared_spelled, operator_sign, relation_sign, arguments, IsUnreserved, IsExpression, IsGuardMember, IsBodyMember}
 use Rattle.chr_grammar.proofs.Fronts.{Again, Ends}
 use Rattle.chr_grammar.proofs.Phrases.{phrase_again}

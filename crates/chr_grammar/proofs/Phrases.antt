@@ -1,13 +1,14 @@
 -- What is read as an atom is spelled so.
 use Rattle.std.proofs.Common.{◌≡◌, ◌<◌, length, arith, ℕ, List, [], ◌∷◌, ◌++◌, refl, sym, ap, subst, Ok, Err}
 use Rattle.std.proofs.lemmas.Bool.{cond_both}
+use Rattle.chr_value.specs.Spelling.{is_reserved}
 use Rattle.chr_lex.specs.declared.fault.Kind.{Kind}
 use Rattle.chr_lex.specs.declared.fault.Kind.TheVariants.{Syntax}
 use Rattle.chr_lex.specs.declared.mark.Mark.TheVariants.{Open, Comma}
 use Rattle.chr_lex.specs.Reading.{◌>>=◌}
 use Rattle.chr_lex.specs.Tokens.{Word, Name, Variable, Number, Lexeme, OfWord, OfMark}
 use Rattle.chr_grammar.specs.Parsed.{ParsedAtom}
-use Rattle.chr_grammar.specs.Parsing.{Front, is_open, is_close, is_comma, is_reserved, terms_at, args_at, phrase_at, phrases_of}
+use Rattle.chr_grammar.specs.Parsing.{Front, is_open, is_close, is_comma, terms_at, args_at, phrase_at, phrases_of}
 use Rattle.chr_grammar.specs.Spelling.{further, arguments, phrase_spelled, IsUnreserved, IsParsedAtom, AreParsedAtoms}
 use Rattle.chr_grammar.proofs.Fronts.{FrontRead, ListRead, Again, Ends, list_found, list_read}
 use Rattle.chr_grammar.proofs.Signs.{open_is, close_is, comma_is}

@@ -1,7 +1,8 @@
 -- What tokens say, read from the left: posts, declarations and rules. Each step takes what it reads from the front and
 -- gives it with the tokens behind it.
-use Rattle.std.specs.Prelude.{ℕ, zero, suc, ◌-◌, Bool, true, false, List, [], ◌∷◌, length, drop, ◌&&◌, ◌||◌, if◌then◌else◌, Option, Some, None, Result, Ok, Err, codes}
+use Rattle.std.specs.Prelude.{ℕ, zero, suc, ◌-◌, Bool, true, false, List, [], ◌∷◌, length, drop, ◌&&◌, if◌then◌else◌, Option, Some, None, Result, Ok, Err, codes}
 use Rattle.std.specs.Str.{bytes_eq}
+use Rattle.chr_value.specs.Spelling.{is_reserved}
 use Rattle.chr_lex.specs.declared.fault.Kind.{Kind}
 use Rattle.chr_lex.specs.declared.fault.Kind.TheVariants.{Syntax}
 use Rattle.chr_lex.specs.declared.mark.Mark.TheVariants as mark
@@ -99,10 +100,6 @@ abbrev pub each_by_commas : {A : Type 0} → (List Lexeme → Front A) → List 
 each_by_commas member ts = members_at member (length ts) ts
 
 -- ---- atoms
-
--- these words are no atoms
-abbrev pub is_reserved : List ℕ → Bool
-is_reserved name = bytes_eq name (codes "true") || bytes_eq name (codes "fail") || bytes_eq name (codes "false")
 
 -- terms by commas, and a closing parenthesis
 abbrev pub terms_at : List Lexeme → Front (List Word)

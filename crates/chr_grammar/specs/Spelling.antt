@@ -1,6 +1,7 @@
 -- How what an item says is written: the grammar by its forms.
 use Rattle.std.specs.Prelude.{◌≡◌, ℕ, ◌+◌, suc, ◌<◌, ◌≤◌, false, List, [], ◌∷◌, ◌++◌, length, max, Option, Some, None, codes}
 use Rattle.std.specs.List.{AllByRecursion}
+use Rattle.chr_value.specs.Spelling.{is_reserved}
 use Rattle.chr_lex.specs.declared.mark.Mark.TheVariants as mark
 use Rattle.chr_lex.specs.declared.mark.Mark.TheVariants.{Open, Close, Comma}
 use Rattle.chr_lex.specs.Tokens.{Word, Lexeme, OfWord, OfMark}
@@ -11,7 +12,6 @@ use Rattle.chr_rule.specs.declared.expression.Relation.{Relation}
 use Rattle.chr_rule.specs.declared.expression.Relation.TheVariants as relation
 use Rattle.chr_grammar.specs.declared.expression.TheConstants.{MOST_DEPTH}
 use Rattle.chr_grammar.specs.Parsed.{ParsedExpression, Number, Variable, Group, Operation, ParsedAtom, GuardMember, Always, Compared, Same, Differ, BodyMember, Nothing, Is, Add, ParsedRule, Declared, Statement, Import, Declaration, Rule}
-use Rattle.chr_grammar.specs.Parsing.{is_reserved}
 
 -- ---- lists by commas
 

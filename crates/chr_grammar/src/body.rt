@@ -66,7 +66,7 @@ fn last_member<'a, A: Allocator + Copy>(
     }
 }
 
-/// The member of a body at the front, and the tokens behind it. No member at the front is a fault of syntax (E04).
+/// The member of a body at the front, and the tokens after it. No member at the front is a fault of syntax (E04).
 pub(crate) fn parse_member<'a, A: Allocator + Copy>(
     alloc: A,
     tokens: &'a [Token<'a>],
@@ -88,7 +88,7 @@ pub(crate) fn parse_member<'a, A: Allocator + Copy>(
     }
 }
 
-/// The member at a place, and the place behind it.
+/// The member at a place, and the place after it.
 fn member_from<'a, A: Allocator + Copy>(
     alloc: A,
     tokens: &'a [Token<'a>],

@@ -87,7 +87,7 @@ fn declared_of<'a>(
     }
 }
 
-/// What is declared at the front, and the tokens behind it.
+/// What is declared at the front, and the tokens after it.
 fn parse_declared<'a>(tokens: &'a [Token<'a>]) -> Result<(Declared<'a>, &'a [Token<'a>]), ItemError>
     ensures same { Gives (λ x. (declared x.0, map lexeme x.1.now)) result (declared_at (map lexeme tokens.now)) }
     ensures shorter { IfOk result (λ x. length x.1.now < length tokens.now) }
@@ -101,7 +101,7 @@ fn parse_declared<'a>(tokens: &'a [Token<'a>]) -> Result<(Declared<'a>, &'a [Tok
     }
 }
 
-/// What is declared at a place, and the place behind it.
+/// What is declared at a place, and the place after it.
 fn declared_from<'a>(
     tokens: &'a [Token<'a>],
     from: usize,

@@ -62,7 +62,8 @@ fn fits<A: Allocator>(tree: &ParsedExpression<'_, A>, room: u32) -> bool
         ParsedExpression::Number { .. } => true,
         ParsedExpression::Variable(_) => true,
         ParsedExpression::Group(inner) => fits(inner, room - 1),
-        ParsedExpression::Operation(_, left, right) => fits(left, room - 1) && fits(right, room - 1),
+        ParsedExpression::Operation(_, left, right) => fits(left, room - 1)
+            && fits(right, room - 1),
     }
 }
 
@@ -209,7 +210,7 @@ fn more_products<'a, A: Allocator + Copy>(
     }
 }
 
-/// The longest expression at the front, and the tokens behind it. `*`, `//`, `mod` and `rem` bind tighter than `+` and `-`,
+/// The longest expression at the front, and the tokens after it. `*`, `//`, `mod` and `rem` bind tighter than `+` and `-`,
 /// and all group to the left. No expression at the front is a fault of syntax (E04), and so is one that is deeper than
 /// [`MOST_DEPTH`].
 #[tactic(auto, unfolding(crate::specs::Parsing::expression_at))]

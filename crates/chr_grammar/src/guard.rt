@@ -100,7 +100,7 @@ fn other_side<'a, A: Allocator>(
     }
 }
 
-/// The member at the front where no `==` or `\==` stands behind its first token.
+/// The member at the front where no `==` or `\==` stands after its first token.
 fn plain_test<'a, A: Allocator + Copy>(
     alloc: A,
     tokens: &'a [Token<'a>],
@@ -114,7 +114,7 @@ fn plain_test<'a, A: Allocator + Copy>(
     }
 }
 
-/// The member of a guard at the front, and the tokens behind it. No member at the front is a fault of syntax (E04).
+/// The member of a guard at the front, and the tokens after it. No member at the front is a fault of syntax (E04).
 pub(crate) fn parse_test<'a, A: Allocator + Copy>(
     alloc: A,
     tokens: &'a [Token<'a>],
@@ -134,7 +134,7 @@ pub(crate) fn parse_test<'a, A: Allocator + Copy>(
     }
 }
 
-/// The member at a place, and the place behind it.
+/// The member at a place, and the place after it.
 fn test_from<'a, A: Allocator + Copy>(
     alloc: A,
     tokens: &'a [Token<'a>],

@@ -1,4 +1,4 @@
-//! Laws of the definitions: what is read is what the grammar has, so tokens say one thing at most.
+//! Laws of the definitions: what is read is what the grammar has, so tokens have one reading at most.
 
 ghost use Rattle.std.specs.Prelude.{◌≡◌, ◌++◌, List, Ok, Err};
 ghost use Rattle.chr_lex.specs.declared.fault.Kind.{Kind};
@@ -17,22 +17,28 @@ pub fn atoms_by_their_forms()
 {}
 
 /// What is read as an expression at the front is written there so, with parentheses where they must stand and a depth of
-/// 16 at most, and what is written so before something else than an operator is read.
+/// 16 at most, and what is written so before something else than an operator is read. Where nothing is written so, the
+/// fault is a fault of syntax.
 pub fn expressions_by_their_forms()
     ensures found { (ts rest : List Lexeme) (f : ParsedExpression) → expression_at ts ≡ Ok (f, rest) → IsExpression f × (ts ≡ formula_spelled f ++ rest) }
     ensures only { (f : ParsedExpression) (rest : List Lexeme) → IsExpression f → EndsExpression rest → expression_at (formula_spelled f ++ rest) ≡ Ok (f, rest) }
+    ensures refused { (ts : List Lexeme) (k : Kind) → expression_at ts ≡ Err k → (k ≡ Syntax) × ((f : ParsedExpression) (rest : List Lexeme) → IsExpression f → EndsExpression rest → ts ≡ formula_spelled f ++ rest → ⊥) }
 {}
 
-/// What is read as the guard of a rule is written so, and what is written so is read.
+/// What is read as the guard of a rule is written so, and what is written so is read. Where the tokens are none, the fault
+/// is a fault of syntax.
 pub fn guards_by_their_forms()
     ensures found { (ts : List Lexeme) (xs : List GuardMember) → tests_of ts ≡ Ok xs → AreGuardMembers ts xs }
     ensures only { (ts : List Lexeme) (xs : List GuardMember) → AreGuardMembers ts xs → tests_of ts ≡ Ok xs }
+    ensures refused { (ts : List Lexeme) (k : Kind) → tests_of ts ≡ Err k → (k ≡ Syntax) × ((xs : List GuardMember) → AreGuardMembers ts xs → ⊥) }
 {}
 
-/// What is read as the body of a rule is written so, and what is written so is read.
+/// What is read as the body of a rule is written so, and what is written so is read. Where the tokens are none, the fault
+/// is a fault of syntax.
 pub fn bodies_by_their_forms()
     ensures found { (ts : List Lexeme) (xs : List BodyMember) → body_of ts ≡ Ok xs → AreBodyMembers ts xs }
     ensures only { (ts : List Lexeme) (xs : List BodyMember) → AreBodyMembers ts xs → body_of ts ≡ Ok xs }
+    ensures refused { (ts : List Lexeme) (k : Kind) → body_of ts ≡ Err k → (k ≡ Syntax) × ((xs : List BodyMember) → AreBodyMembers ts xs → ⊥) }
 {}
 
 /// What is read as a declaration or a rule is written so, and what is written so is read. So tokens are one statement at

@@ -1,10 +1,11 @@
 //! Atoms as they are written, and lists of them.
 
 ghost use Rattle.std.specs.Prelude.{◌≡◌, ◌≤◌, ◌<◌, length, drop, map, IfOk};
+ghost use Rattle.chr_value.specs.Spelling.{is_reserved};
 ghost use Rattle.chr_lex.specs.Reading.{Gives};
 ghost use Rattle.chr_lex.specs.Tokens.{word, lexeme};
 ghost use Rattle.chr_grammar.specs.Views.{phrase};
-ghost use Rattle.chr_grammar.specs.Parsing.{is_reserved, terms_at, args_at, phrase_at, phrases_of};
+ghost use Rattle.chr_grammar.specs.Parsing.{terms_at, args_at, phrase_at, phrases_of};
 
 use crate::sign::{is_close, is_comma, is_open};
 use chr_lex::fault::{ItemError, Kind};
@@ -25,7 +26,7 @@ fn is_reserved(name: &[u8]) -> bool
     name == b"true".as_slice() || name == b"fail".as_slice() || name == b"false".as_slice()
 }
 
-/// Terms by commas and a closing parenthesis, and the tokens behind it.
+/// Terms by commas and a closing parenthesis, and the tokens after it.
 fn terms<'a, A: Allocator + Copy>(
     alloc: A,
     tokens: &'a [Token<'a>],
@@ -51,7 +52,7 @@ fn terms<'a, A: Allocator + Copy>(
     Err(ItemError::Fault(Kind::Syntax))
 }
 
-/// The atom at the front, and the tokens behind it. `true`, `fail` and `false` without arguments are no atoms. No atom at
+/// The atom at the front, and the tokens after it. `true`, `fail` and `false` without arguments are no atoms. No atom at
 /// the front is a fault of syntax (E04).
 pub(crate) fn parse_phrase<'a, A: Allocator + Copy>(
     alloc: A,
@@ -69,7 +70,7 @@ pub(crate) fn parse_phrase<'a, A: Allocator + Copy>(
     }
 }
 
-/// The atom of this name, by what stands behind the name.
+/// The atom of this name, by what follows the name.
 fn args<'a, A: Allocator + Copy>(
     alloc: A,
     name: &'a [u8],
@@ -91,7 +92,7 @@ fn args<'a, A: Allocator + Copy>(
     }
 }
 
-/// The atom at a place, and the place behind it.
+/// The atom at a place, and the place after it.
 fn phrase_from<'a, A: Allocator + Copy>(
     alloc: A,
     tokens: &'a [Token<'a>],

@@ -22,7 +22,7 @@ pub struct Heads<'a, A: Allocator> {
     pub removed: Vec<ParsedAtom<'a, A>, A>,
 }
 
-/// What stands behind the arrow.
+/// What follows the arrow.
 #[derive(Drop)]
 pub struct Consequence<'a, A: Allocator> {
     pub guard: Vec<GuardMember<'a, A>, A>,
@@ -38,7 +38,7 @@ pub struct ParsedRule<'a, A: Allocator> {
     pub consequence: Consequence<'a, A>,
 }
 
-/// How many tokens stand before the first arrow.
+/// How many tokens there are before the first arrow.
 fn before_arrow(tokens: &[Token]) -> usize
     ensures same { result ≡ length (take_while (λ t. not (is_arrow (lexeme t))) tokens.now) }
     ensures within { result ≤ length tokens.now }
@@ -46,7 +46,7 @@ fn before_arrow(tokens: &[Token]) -> usize
     tokens.iter().take_while(|token| !is_arrow(**token)).count()
 }
 
-/// How many tokens stand before the first `\`.
+/// How many tokens there are before the first `\`.
 fn before_backslash(tokens: &[Token]) -> usize
     ensures same { result ≡ length (take_while (λ t. not (is_backslash (lexeme t))) tokens.now) }
     ensures within { result ≤ length tokens.now }
@@ -57,7 +57,7 @@ fn before_backslash(tokens: &[Token]) -> usize
         .count()
 }
 
-/// How many tokens stand before the first `|`.
+/// How many tokens there are before the first `|`.
 fn before_bar(tokens: &[Token]) -> usize
     ensures same { result ≡ length (take_while (λ t. not (is_bar (lexeme t))) tokens.now) }
     ensures within { result ≤ length tokens.now }
@@ -133,7 +133,7 @@ fn parse_consequence<'a, A: Allocator + Copy>(
     })
 }
 
-/// The rule of this name, by what stands behind the name.
+/// The rule of this name, by what follows the name.
 fn named_rule<'a, A: Allocator + Copy>(
     alloc: A,
     rule_name: Option<&'a [u8]>,

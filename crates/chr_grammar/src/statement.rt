@@ -23,7 +23,7 @@ pub enum Statement<'a, A: Allocator> {
     Rule(ParsedRule<'a, A>),
 }
 
-/// What stands behind `:-`.
+/// What follows `:-`.
 fn directive<'a, A: Allocator + Copy>(
     alloc: A,
     name: &'a [u8],

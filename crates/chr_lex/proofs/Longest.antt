@@ -10,11 +10,12 @@ use Rattle.std.proofs.lemmas.Bool.Decides.{nat_tests}
 use Rattle.std.proofs.lemmas.List.{take-append-drop}
 use Rattle.std.proofs.lemmas.Slice.Eq.{bytes_eq-Decides}
 use Rattle.std.proofs.Math.Seq.{take-append_seam}
+use Rattle.chr_value.specs.Spelling.{is_name_byte, is_operator}
 use Rattle.chr_lex.specs.declared.mark.Mark.{Mark}
 use Rattle.chr_lex.specs.declared.mark.Mark.TheVariants as mark
 use Rattle.chr_lex.specs.Marks.{spelling, marks}
-use Rattle.chr_lex.specs.Tokens.{Lexeme, OfWord, OfMark, Name, Variable, Number, is_word, begins_with_digit, named, lower_word, signed, signed_at, token_at}
-use Rattle.chr_lex.specs.Lexing.{is_operator, Spells, a_name, a_variable, a_number, below_zero, a_mark, Longest}
+use Rattle.chr_lex.specs.Tokens.{Lexeme, OfWord, OfMark, Name, Variable, Number, begins_with_digit, named, lower_word, signed, signed_at, token_at}
+use Rattle.chr_lex.specs.Lexing.{Spells, a_name, a_variable, a_number, below_zero, a_mark, Longest}
 use Rattle.chr_lex.proofs.Tokens.{take_all_passing, find_passes, token_fits}
 
 -- ---- bytes that pass
@@ -60,10 +61,10 @@ digit_not_lower b h = grind (arith, nat_tests, h)
 digit_not_upper : (b : ℕ) → is_ascii_digit b ≡ true → (is_ascii_uppercase b || (b == 95)) ≡ false
 digit_not_upper b h = grind (arith, nat_tests, h)
 
-lower_is_word : (b : ℕ) → is_ascii_lowercase b ≡ true → is_word b ≡ true
+lower_is_word : (b : ℕ) → is_ascii_lowercase b ≡ true → is_name_byte b ≡ true
 lower_is_word b h = grind (arith, h)
 
-upper_is_word : (b : ℕ) → (is_ascii_uppercase b || (b == 95)) ≡ true → is_word b ≡ true
+upper_is_word : (b : ℕ) → (is_ascii_uppercase b || (b == 95)) ≡ true → is_name_byte b ≡ true
 upper_is_word b h = grind (arith, h)
 
 -- ---- what is read is spelled
@@ -71,7 +72,7 @@ upper_is_word b h = grind (arith, h)
 pointwise_same : (a b : List ℕ) → pointwise nat_eq a b ≡ true → a ≡ b
 pointwise_same a b = (bytes_eq-Decides a b).0
 
-named_spelled : (op : Bool) (b : ℕ) (bs : List ℕ) → is_ascii_lowercase b ≡ true → list_all is_word bs ≡ true → (i m r : Bool)
+named_spelled : (op : Bool) (b : ℕ) (bs : List ℕ) → is_ascii_lowercase b ≡ true → list_all is_name_byte bs ≡ true → (i m r : Bool)
     → bytes_eq (b ∷ bs) (spelling mark.Is) ≡ i → bytes_eq (b ∷ bs) (spelling mark.Mod) ≡ m → bytes_eq (b ∷ bs) (spelling mark.Rem) ≡ r
     → Spells op (named (b ∷ bs) (cond i (Some mark.Is) (cond m (Some mark.Mod) (cond r (Some mark.Rem) None)))) (b ∷ bs)
 named_spelled op b bs lower all true m r hi hm hr = subst (Spells op (OfMark mark.Is)) (sym (pointwise_same (b ∷ bs) (spelling mark.Is) hi)) (a_mark op mark.Is)
@@ -79,7 +80,7 @@ named_spelled op b bs lower all false true r hi hm hr = subst (Spells op (OfMark
 named_spelled op b bs lower all false false true hi hm hr = subst (Spells op (OfMark mark.Rem)) (sym (pointwise_same (b ∷ bs) (spelling mark.Rem) hr)) (a_mark op mark.Rem)
 named_spelled op b bs lower all false false false hi hm hr = a_name op b bs lower all (rw (hi, hm, hr) refl)
 
-lower_spelled : (op : Bool) (b : ℕ) (bs : List ℕ) → is_ascii_lowercase b ≡ true → list_all is_word bs ≡ true → Spells op (lower_word (b ∷ bs)) (b ∷ bs)
+lower_spelled : (op : Bool) (b : ℕ) (bs : List ℕ) → is_ascii_lowercase b ≡ true → list_all is_name_byte bs ≡ true → Spells op (lower_word (b ∷ bs)) (b ∷ bs)
 lower_spelled op b bs lower all = named_spelled op b bs lower all _ _ _ refl refl refl
 
 -- what a token is, when its bytes are those that pass
@@ -118,11 +119,11 @@ pub token_spelled : (op : Bool) (bs : List ℕ) → IfSome (token_at op bs) (IsS
 token_spelled op [] = tt
 token_spelled op (b ∷ bs) =
     cond_both (is_ascii_lowercase b) _ _ (λ o. IfSome o (IsSpelled op (b ∷ bs)))
-    (λ h. subst (Spells op (lower_word (take_while is_word (b ∷ bs)))) (sym (taken is_word (b ∷ bs)))
-    (at_front (λ w. Spells op (lower_word w) w) is_word b bs (lower_is_word b h) (lower_spelled op b (take_while is_word bs) h (all_passing is_word bs))))
+    (λ h. subst (Spells op (lower_word (take_while is_name_byte (b ∷ bs)))) (sym (taken is_name_byte (b ∷ bs)))
+    (at_front (λ w. Spells op (lower_word w) w) is_name_byte b bs (lower_is_word b h) (lower_spelled op b (take_while is_name_byte bs) h (all_passing is_name_byte bs))))
     (λ h. cond_both (is_ascii_uppercase b || (b == 95)) _ _ (λ o. IfSome o (IsSpelled op (b ∷ bs)))
-    (λ h. subst (Spells op (OfWord (Variable (take_while is_word (b ∷ bs))))) (sym (taken is_word (b ∷ bs)))
-    (at_front (λ w. Spells op (OfWord (Variable w)) w) is_word b bs (upper_is_word b h) (a_variable op b (take_while is_word bs) h (all_passing is_word bs))))
+    (λ h. subst (Spells op (OfWord (Variable (take_while is_name_byte (b ∷ bs))))) (sym (taken is_name_byte (b ∷ bs)))
+    (at_front (λ w. Spells op (OfWord (Variable w)) w) is_name_byte b bs (upper_is_word b h) (a_variable op b (take_while is_name_byte bs) h (all_passing is_name_byte bs))))
     (λ h. cond_both (is_ascii_digit b) _ _ (λ o. IfSome o (IsSpelled op (b ∷ bs)))
     (λ h. subst (Spells op (OfWord (Number false (take_while is_ascii_digit (b ∷ bs))))) (sym (taken is_ascii_digit (b ∷ bs)))
     (at_front (λ w. Spells op (OfWord (Number false w)) w) is_ascii_digit b bs h (a_number op b (take_while is_ascii_digit bs) (and_from (is_ascii_digit b) (list_all is_ascii_digit (take_while is_ascii_digit bs)) h (all_passing is_ascii_digit bs)))))
@@ -195,17 +196,17 @@ mark_reaches op mark.Plus more = from_table (43 ∷ more) 19 mark.Plus refl refl
 mark_reaches op mark.Minus more =
     cond_both ((45 == 45) && not op && begins_with_digit more) _ _ (Reaches 1) (λ h. omega arith) (λ h. from_table (45 ∷ more) 20 mark.Minus refl refl)
 mark_reaches op mark.Star more = from_table (42 ∷ more) 21 mark.Star refl refl
-mark_reaches op mark.Is more = reaches is_word (105 ∷ 115 ∷ []) more refl
-mark_reaches op mark.Mod more = reaches is_word (109 ∷ 111 ∷ 100 ∷ []) more refl
-mark_reaches op mark.Rem more = reaches is_word (114 ∷ 101 ∷ 109 ∷ []) more refl
+mark_reaches op mark.Is more = reaches is_name_byte (105 ∷ 115 ∷ []) more refl
+mark_reaches op mark.Mod more = reaches is_name_byte (109 ∷ 111 ∷ 100 ∷ []) more refl
+mark_reaches op mark.Rem more = reaches is_name_byte (114 ∷ 101 ∷ 109 ∷ []) more refl
 
 first_digit : (b : ℕ) (bs : List ℕ) → list_all is_ascii_digit (b ∷ bs) ≡ true → is_ascii_digit b ≡ true
 first_digit b bs h = (and_parts (is_ascii_digit b) (list_all is_ascii_digit bs) h).0
 
-lower_read : (op : Bool) (b : ℕ) (bs : List ℕ) → is_ascii_lowercase b ≡ true → token_at op (b ∷ bs) ≡ Some (lower_word (take_while is_word (b ∷ bs)), length (take_while is_word (b ∷ bs)))
+lower_read : (op : Bool) (b : ℕ) (bs : List ℕ) → is_ascii_lowercase b ≡ true → token_at op (b ∷ bs) ≡ Some (lower_word (take_while is_name_byte (b ∷ bs)), length (take_while is_name_byte (b ∷ bs)))
 lower_read op b bs lower = rw lower refl
 
-upper_read : (op : Bool) (b : ℕ) (bs : List ℕ) → (is_ascii_uppercase b || (b == 95)) ≡ true → token_at op (b ∷ bs) ≡ Some (OfWord (Variable (take_while is_word (b ∷ bs))), length (take_while is_word (b ∷ bs)))
+upper_read : (op : Bool) (b : ℕ) (bs : List ℕ) → (is_ascii_uppercase b || (b == 95)) ≡ true → token_at op (b ∷ bs) ≡ Some (OfWord (Variable (take_while is_name_byte (b ∷ bs))), length (take_while is_name_byte (b ∷ bs)))
 upper_read op b bs upper = rw (upper_not_lower b upper, upper) refl
 
 digit_read : (op : Bool) (b : ℕ) (bs : List ℕ) → is_ascii_digit b ≡ true → token_at op (b ∷ bs) ≡ Some (OfWord (Number false (take_while is_ascii_digit (b ∷ bs))), length (take_while is_ascii_digit (b ∷ bs)))
@@ -216,9 +217,9 @@ minus_read b bs digit = rw digit refl
 
 spelled_reaches : (op : Bool) (u : Lexeme) (v more : List ℕ) → Spells op u v → Reaches (length v) (token_at op (v ++ more))
 spelled_reaches _ _ _ more (a_name op b bs lower all free) =
-    subst (Reaches (length (b ∷ bs))) (sym (lower_read op b (bs ++ more) lower)) (reaches is_word (b ∷ bs) more (and_from (is_word b) (list_all is_word bs) (lower_is_word b lower) all))
+    subst (Reaches (length (b ∷ bs))) (sym (lower_read op b (bs ++ more) lower)) (reaches is_name_byte (b ∷ bs) more (and_from (is_name_byte b) (list_all is_name_byte bs) (lower_is_word b lower) all))
 spelled_reaches _ _ _ more (a_variable op b bs upper all) =
-    subst (Reaches (length (b ∷ bs))) (sym (upper_read op b (bs ++ more) upper)) (reaches is_word (b ∷ bs) more (and_from (is_word b) (list_all is_word bs) (upper_is_word b upper) all))
+    subst (Reaches (length (b ∷ bs))) (sym (upper_read op b (bs ++ more) upper)) (reaches is_name_byte (b ∷ bs) more (and_from (is_name_byte b) (list_all is_name_byte bs) (upper_is_word b upper) all))
 spelled_reaches _ _ _ more (a_number op b bs all) =
     subst (Reaches (length (b ∷ bs))) (sym (digit_read op b (bs ++ more) (first_digit b bs all))) (reaches is_ascii_digit (b ∷ bs) more all)
 spelled_reaches _ _ _ more (below_zero b bs all) =
@@ -266,10 +267,10 @@ mark_exact op mark.Rem = refl
 
 exact : (op : Bool) (u : Lexeme) (v : List ℕ) → Spells op u v → token_at op v ≡ Some (u, length v)
 exact _ _ _ (a_name op b bs lower all free) =
-    let whole : take_while is_word (b ∷ bs) ≡ b ∷ bs = while_all is_word (b ∷ bs) (and_from (is_word b) (list_all is_word bs) (lower_is_word b lower) all) in
+    let whole : take_while is_name_byte (b ∷ bs) ≡ b ∷ bs = while_all is_name_byte (b ∷ bs) (and_from (is_name_byte b) (list_all is_name_byte bs) (lower_is_word b lower) all) in
     lower_read op b bs lower ∙ ap (λ (w : List ℕ). Some (lower_word w, length w)) whole ∙ ap (λ (t : Lexeme). Some (t, length (b ∷ bs))) (lower_named b bs free)
 exact _ _ _ (a_variable op b bs upper all) =
-    let whole : take_while is_word (b ∷ bs) ≡ b ∷ bs = while_all is_word (b ∷ bs) (and_from (is_word b) (list_all is_word bs) (upper_is_word b upper) all) in
+    let whole : take_while is_name_byte (b ∷ bs) ≡ b ∷ bs = while_all is_name_byte (b ∷ bs) (and_from (is_name_byte b) (list_all is_name_byte bs) (upper_is_word b upper) all) in
     upper_read op b bs upper ∙ ap (λ (w : List ℕ). Some (OfWord (Variable w), length w)) whole
 exact _ _ _ (a_number op b bs all) =
     digit_read op b bs (first_digit b bs all) ∙ ap (λ (w : List ℕ). Some (OfWord (Number false w), length w)) (while_all is_ascii_digit (b ∷ bs) all)

@@ -9,6 +9,7 @@ use Rattle.std.proofs.lemmas.Bool.{cond_both, and_parts}
 use Rattle.std.proofs.lemmas.List.Folds.{length-prefix_len}
 use Rattle.std.proofs.lemmas.List.Sums.{prefix_len-le-length}
 use Rattle.std.proofs.lemmas.List.{append-nil}
+use Rattle.chr_value.specs.Spelling.{is_name_byte}
 use Rattle.chr_lex.specs.declared.fault.Kind.{Kind}
 use Rattle.chr_lex.specs.declared.fault.Kind.TheVariants.{Syntax}
 use Rattle.chr_lex.specs.declared.mark.Mark.{Mark}
@@ -17,7 +18,7 @@ use Rattle.chr_lex.specs.declared.token.Token.{Token}
 use Rattle.chr_lex.specs.Items.{BeginsItem}
 use Rattle.chr_lex.specs.Marks.{spelling, marks}
 use Rattle.chr_lex.specs.Reading.{◌>>=◌}
-use Rattle.chr_lex.specs.Tokens.{Lexeme, lexeme, is_word, is_operand, begins_with_digit, signed, signed_at, token_at, tokens_from}
+use Rattle.chr_lex.specs.Tokens.{Lexeme, lexeme, is_operand, begins_with_digit, signed, signed_at, token_at, tokens_from}
 
 pub take_all_passing : (p : ℕ → Bool) (xs : List ℕ) (n : ℕ) → n ≡ length (take_while p xs) → take n xs ≡ take_while p xs
 take_all_passing p xs n is = ap (λ (k : ℕ). take k xs) (is ∙ length-prefix_len p xs)
@@ -97,9 +98,9 @@ pub token_fits : (op : Bool) (bs : List ℕ) → IfSome (token_at op bs) (Fits b
 token_fits op [] = tt
 token_fits op (b ∷ bs) =
     cond_both (is_ascii_lowercase b) _ _ (λ o. IfSome o (Fits (b ∷ bs)))
-    (λ h. passing_fits is_word b bs (grind (arith, h)))
+    (λ h. passing_fits is_name_byte b bs (grind (arith, h)))
     (λ h. cond_both (is_ascii_uppercase b || (b == 95)) _ _ (λ o. IfSome o (Fits (b ∷ bs)))
-    (λ h. passing_fits is_word b bs (is_word_from (is_ascii_lowercase b) (is_ascii_uppercase b) (is_ascii_digit b) (b == 95) h))
+    (λ h. passing_fits is_name_byte b bs (is_word_from (is_ascii_lowercase b) (is_ascii_uppercase b) (is_ascii_digit b) (b == 95) h))
     (λ h. cond_both (is_ascii_digit b) _ _ (λ o. IfSome o (Fits (b ∷ bs)))
     (λ h. passing_fits is_ascii_digit b bs h)
     (λ h. signed_at_fits op (b ∷ bs))))

@@ -3,6 +3,7 @@ use Rattle.std.specs.Prelude.{ℕ, zero, suc, ◌+◌, ◌-◌, Bool, true, fals
 use Rattle.std.specs.Char.{is_ascii_digit, is_ascii_lowercase, is_ascii_uppercase}
 use Rattle.std.specs.List.{starts_with, take_while}
 use Rattle.std.specs.Str.{bytes_eq}
+use Rattle.chr_value.specs.Spelling.{is_name_byte}
 use Rattle.chr_lex.specs.declared.fault.Kind.{Kind}
 use Rattle.chr_lex.specs.declared.fault.Kind.TheVariants.{Syntax}
 use Rattle.chr_lex.specs.declared.mark.Mark.{Mark}
@@ -33,10 +34,6 @@ word (written.Number negative digits) = Number negative digits.now
 abbrev pub lexeme : Token → Lexeme
 lexeme (token.Word t) = OfWord (word t)
 lexeme (token.Mark m) = OfMark m
-
--- a byte of a name or variable behind its first
-abbrev pub is_word : ℕ → Bool
-is_word b = is_ascii_lowercase b || is_ascii_uppercase b || is_ascii_digit b || (b == 95)
 
 abbrev pub begins_with_digit : List ℕ → Bool
 begins_with_digit [] = false
@@ -74,8 +71,8 @@ signed_at after_operand (b ∷ bs) =
 abbrev pub token_at : Bool → List ℕ → Option (Lexeme × ℕ)
 token_at after_operand [] = None
 token_at after_operand (b ∷ bs) =
-    if is_ascii_lowercase b then Some (lower_word (take_while is_word (b ∷ bs)), length (take_while is_word (b ∷ bs)))
-    else (if is_ascii_uppercase b || (b == 95) then Some (OfWord (Variable (take_while is_word (b ∷ bs))), length (take_while is_word (b ∷ bs)))
+    if is_ascii_lowercase b then Some (lower_word (take_while is_name_byte (b ∷ bs)), length (take_while is_name_byte (b ∷ bs)))
+    else (if is_ascii_uppercase b || (b == 95) then Some (OfWord (Variable (take_while is_name_byte (b ∷ bs))), length (take_while is_name_byte (b ∷ bs)))
     else (if is_ascii_digit b then Some (OfWord (Number false (take_while is_ascii_digit (b ∷ bs))), length (take_while is_ascii_digit (b ∷ bs)))
     else signed_at after_operand (b ∷ bs)))
 

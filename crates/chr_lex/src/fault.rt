@@ -60,7 +60,7 @@ impl<T: Drop> From<AllocFailed<T>> for ItemError {
     }
 }
 
-/// What is wrong with a text. It is written as its kind alone, since where the line stands is the caller's affair.
+/// What is wrong with a text. It is written as its kind alone, since the caller decides where the line goes.
 #[derive(Clone, Copy, Debug, PartialEq, Eq, Error)]
 #[error("{kind}")]
 pub struct ReadFault {

@@ -36,7 +36,7 @@ fn is_end(b: u8, after: &[u8]) -> bool
         }
 }
 
-/// How many bytes stand before the first end point.
+/// How many bytes there are before the first end point.
 fn item_len(text: &[u8]) -> usize
     ensures within { result ≤ length text.now }
     ensures taken { take result text.now ≡ before_end text.now }
@@ -87,7 +87,7 @@ fn lines_after(line: u32, text: &[u8]) -> u32
     line
 }
 
-/// The item at the front, and the line and the text behind it.
+/// The item at the front, and the line and the text after it.
 fn item_at(line: u32, text: &[u8]) -> (Item, u32, &[u8])
     requires fits { line + length text.now < 2 ^ 32 }
     requires some { 0 < length text.now }
@@ -120,7 +120,7 @@ fn item_at(line: u32, text: &[u8]) -> (Item, u32, &[u8])
     }
 }
 
-/// The next item, and the line and the text behind it. None where only layout and comments are left.
+/// The next item, and the line and the text after it. None where only layout and comments are left.
 pub fn next_item(line: u32, text: &[u8]) -> Option<(Item, u32, &[u8])>
     requires { line + length text.now < 2 ^ 32 }
     ensures same { MatchOption result (items zero line text.now ≡ [])

@@ -1,6 +1,6 @@
 //! The text without its comments.
 //!
-//! Comments are replaced by bytes that no text may have outside of comments, so that the items and tokens behind them
+//! Comments are replaced by bytes that no text may have outside of comments, so that the items and tokens after them
 //! are read from one list of bytes, and each line keeps its number.
 
 ghost use Rattle.std.specs.Prelude.{◌≡◌, ◌≤◌, ◌<◌, ◌+◌, ◌++◌, ◌∷◌, false, true, length, take, drop, IfOk, OnOk, MatchOption};
@@ -39,7 +39,7 @@ fn closes_here(b: u8, after: &[u8]) -> bool
     b == b'*' && after.first() == Some(&b'/')
 }
 
-/// How many bytes stand before the first `*/`.
+/// How many bytes there are before the first `*/`.
 fn comment_len(text: &[u8]) -> Option<usize>
     ensures { MatchOption result (closes text.now ≡ false) (λ n. (closes text.now ≡ true) × (n ≤ length text.now) × (take n text.now ≡ before_close text.now)) }
 {
@@ -50,7 +50,7 @@ fn comment_len(text: &[u8]) -> Option<usize>
     if len < text.len() { Some(len) } else { None }
 }
 
-/// How many bytes stand before the end of the line.
+/// How many bytes there are before the end of the line.
 fn line_len(text: &[u8]) -> usize
     ensures { result ≡ length (take_while is_within_line text.now) }
 {

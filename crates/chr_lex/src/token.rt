@@ -3,7 +3,8 @@
 ghost use Rattle.std.specs.Prelude.{◌≡◌, ◌≤◌, ◌<◌, length, take, IfOk, map, option_map, IsTrue, IfSome, Bool, zero};
 ghost use Rattle.std.specs.List.{take_while};
 ghost use Rattle.std.specs.Char.{is_ascii_digit};
-ghost use Rattle.chr_lex.specs.Tokens.{Lexeme, lexeme, is_word, is_operand, begins_with_digit, lower_word, signed_at, token_at, tokens_from, tokens_of};
+ghost use Rattle.chr_value.specs.Spelling.{is_name_byte};
+ghost use Rattle.chr_lex.specs.Tokens.{Lexeme, lexeme, is_operand, begins_with_digit, lower_word, signed_at, token_at, tokens_from, tokens_of};
 ghost use Rattle.chr_lex.specs.Items.{BeginsItem};
 ghost use Rattle.chr_lex.specs.Reading.{Gives};
 
@@ -19,7 +20,7 @@ pub enum Word<'a> {
     Name(&'a [u8]),
     /// An upper-case letter or `_`, then letters, digits and `_`.
     Variable(&'a [u8]),
-    /// Decimal digits, perhaps behind a minus. They may be any number of digits.
+    /// Decimal digits, perhaps after a minus. They may be any number of digits.
     Number { negative: bool, digits: &'a [u8] },
 }
 
@@ -31,7 +32,7 @@ pub enum Token<'a> {
 }
 
 impl Token<'_> {
-    /// Whether a minus behind it is an operator.
+    /// Whether a minus after it is an operator.
     fn is_operand(self) -> bool
         ensures { result ≡ is_operand (lexeme self.entry) }
     {
@@ -39,8 +40,8 @@ impl Token<'_> {
     }
 }
 
-fn is_word(b: u8) -> bool
-    ensures { result ≡ is_word b }
+fn is_name_byte(b: u8) -> bool
+    ensures { result ≡ is_name_byte b }
 {
     b.is_ascii_lowercase() || b.is_ascii_uppercase() || b.is_ascii_digit() || b == b'_'
 }
@@ -48,15 +49,15 @@ fn is_word(b: u8) -> bool
 #[tactic(auto, using(crate::proofs::Tokens::take_all_passing))]
 /// The bytes at the front that may stand in a name.
 fn word_at(text: &[u8]) -> &[u8]
-    ensures { result.now ≡ take_while is_word text.now }
+    ensures { result.now ≡ take_while is_name_byte text.now }
 {
     &text[..word_len(text)]
 }
 
 fn word_len(text: &[u8]) -> usize
-    ensures { result ≡ length (take_while is_word text.now) }
+    ensures { result ≡ length (take_while is_name_byte text.now) }
 {
-    text.iter().take_while(|b| is_word(**b)).count()
+    text.iter().take_while(|b| is_name_byte(**b)).count()
 }
 
 #[tactic(auto, using(crate::proofs::Tokens::take_all_passing))]

@@ -10,8 +10,8 @@ ghost use Rattle.chr_limits.specs.Limits.{is_too_large};
 ghost use Rattle.chr_limits.specs.Judging.{declaration_judged, rule_judged, post_judged};
 
 use crate::limits::{
-    MOST_COMPARISONS, MOST_ITEMS, MOST_NAME, Unfit, any_wide, count_comparisons, count_items,
-    has_many_heads, has_wide_atom, phrases_have, rule_has,
+    Unfit, any_wide, count_comparisons, count_items, has_many_heads, has_wide_atom, phrases_have,
+    rule_has,
 };
 use crate::number::int;
 use crate::scope::is_in_scope;
@@ -20,6 +20,8 @@ use chr_grammar::declaration::Declared;
 use chr_grammar::phrase::ParsedAtom;
 use chr_grammar::rule::ParsedRule;
 use chr_lex::fault::{ItemError, Kind};
+use chr_rule::rule::{MOST_COMPARISONS, MOST_ITEMS};
+use chr_value::names::MOST_NAME_BYTES;
 use std::alloc::Allocator;
 
 fn any_out_of_range(all: &[Declared]) -> bool
@@ -37,7 +39,7 @@ fn any_long(all: &[Declared]) -> bool
     ensures { result ≡ list_any (λ d. is_long (Name d.name)) (map by_texts.declared all.now) }
 {
     for declared in all {
-        if declared.name.len() > MOST_NAME {
+        if declared.name.len() > MOST_NAME_BYTES {
             return true;
         }
     }

@@ -14,25 +14,17 @@ use chr_grammar::guard::GuardMember;
 use chr_grammar::phrase::ParsedAtom;
 use chr_grammar::rule::ParsedRule;
 use chr_lex::token::Word;
+use chr_rule::rule::MOST_HEADS;
+use chr_value::atom::MOST_ARGS;
+use chr_value::names::MOST_NAME_BYTES;
 use std::alloc::Allocator;
-
-/// How many bytes a name or a variable may have.
-pub const MOST_NAME: usize = 64;
-/// How many arguments an atom may have.
-pub const MOST_ARGS: usize = 8;
-/// How many heads a rule may have, kept and removed together.
-pub const MOST_HEADS: usize = 6;
-/// How many comparisons a guard may have.
-pub const MOST_COMPARISONS: usize = 16;
-/// How many members other than `true` a body may have.
-pub const MOST_ITEMS: usize = 16;
 
 /// What a name, a variable or a number may not be.
 #[derive(Clone, Copy)]
 pub enum Unfit {
     /// A number outside the range of 64 bits with sign.
     OutOfRange,
-    /// A name or a variable of more than [`MOST_NAME`] bytes.
+    /// A name or a variable of more than [`MOST_NAME_BYTES`] bytes.
     TooLong,
     /// A variable, among posts.
     Variable,
@@ -43,11 +35,9 @@ pub fn is_unfit(unfit: Unfit, term: Word) -> bool
     ensures { result ≡ is_unfit unfit (word term.entry) }
 {
     match (unfit, term) {
-        (Unfit::OutOfRange, Word::Number { negative, digits }) => int(
-            negative, digits,
-        ).is_none(),
-        (Unfit::TooLong, Word::Name(name)) => name.len() > MOST_NAME,
-        (Unfit::TooLong, Word::Variable(name)) => name.len() > MOST_NAME,
+        (Unfit::OutOfRange, Word::Number { negative, digits }) => int(negative, digits).is_none(),
+        (Unfit::TooLong, Word::Name(name)) => name.len() > MOST_NAME_BYTES,
+        (Unfit::TooLong, Word::Variable(name)) => name.len() > MOST_NAME_BYTES,
         (Unfit::Variable, Word::Variable(_)) => true,
         _ => false,
     }
@@ -77,7 +67,8 @@ fn tree_has<A: Allocator>(unfit: Unfit, tree: &ParsedExpression<'_, A>) -> bool
         ),
         ParsedExpression::Variable(name) => is_unfit(unfit, Word::Variable(*name)),
         ParsedExpression::Group(inner) => tree_has(unfit, inner),
-        ParsedExpression::Operation(_, left, right) => tree_has(unfit, left) || tree_has(unfit, right),
+        ParsedExpression::Operation(_, left, right) => tree_has(unfit, left)
+            || tree_has(unfit, right),
     }
 }
 

@@ -42,7 +42,8 @@ fn is_tree_seen<A: Allocator>(seen: &[&[u8]], tree: &ParsedExpression<'_, A>) ->
         ParsedExpression::Number { .. } => true,
         ParsedExpression::Variable(name) => is_seen(seen, *name),
         ParsedExpression::Group(inner) => is_tree_seen(seen, inner),
-        ParsedExpression::Operation(_, left, right) => is_tree_seen(seen, left) && is_tree_seen(seen, right),
+        ParsedExpression::Operation(_, left, right) => is_tree_seen(seen, left)
+            && is_tree_seen(seen, right),
     }
 }
 
@@ -51,7 +52,8 @@ fn is_test_seen<A: Allocator>(seen: &[&[u8]], test: &GuardMember<'_, A>) -> bool
 {
     match test {
         GuardMember::True => true,
-        GuardMember::Compared(_, left, right) => is_tree_seen(seen, left) && is_tree_seen(seen, right),
+        GuardMember::Compared(_, left, right) => is_tree_seen(seen, left)
+            && is_tree_seen(seen, right),
         GuardMember::Same(left, right) => is_term_seen(seen, *left) && is_term_seen(seen, *right),
         GuardMember::Differ(left, right) => is_term_seen(seen, *left) && is_term_seen(seen, *right),
     }

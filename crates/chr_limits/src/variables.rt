@@ -12,13 +12,11 @@ use chr_grammar::guard::GuardMember;
 use chr_grammar::phrase::ParsedAtom;
 use chr_grammar::rule::ParsedRule;
 use chr_lex::token::Word;
+use chr_rule::rule::MOST_VARIABLES;
 use std::alloc::Allocator;
 
-/// How many variables a rule may have. Each `_` counts as one.
-pub const MOST_VARIABLES: usize = 24;
-
 /// The variables seen so far, each once, and each `_` apart.
-pub type Seen<'a> = ArrayVec<&'a [u8], 24>;
+pub type Seen<'a> = ArrayVec<&'a [u8], MOST_VARIABLES>;
 
 /// Whether the variable is `_`, which is a new one at each place.
 pub(crate) fn is_blank(name: &[u8]) -> bool

@@ -1,7 +1,8 @@
--- What is judged to stand can be or_full.
-use Rattle.std.proofs.Common.{◌≡◌, ℕ, suc, ◌≤◌, ◌<◌, Bool, true, false, leb, ltb, ◌||◌, List, [], ◌∷◌, length, filter, Ok, refl, ap, arith}
-use Rattle.std.specs.List.{AllByRecursion, list_any, list_all}
-use Rattle.chr_lex.specs.Tokens.{Word, Name, Variable, Number, is_word}
+-- What is judged to stand can be numbered.
+use Rattle.std.proofs.Common.{◌≡◌, ℕ, suc, ◌≤◌, ◌<◌, Bool, false, leb, ltb, ◌||◌, List, [], ◌∷◌, length, filter, Ok, refl, ap, arith}
+use Rattle.std.specs.List.{AllByRecursion, list_any}
+use Rattle.chr_value.specs.Spelling.{IsName}
+use Rattle.chr_lex.specs.Tokens.{Word, Name, Variable, Number}
 use Rattle.chr_grammar.specs.Parsed as parsed
 use Rattle.chr_grammar.specs.Parsed.{ParsedExpression, ParsedAtom, GuardMember, BodyMember, ParsedRule}
 use Rattle.chr_rule.specs.Scope.{IsRule}
@@ -10,7 +11,7 @@ use Rattle.chr_limits.specs.Limits.{has_many_args, adds_many_args, is_comparison
 use Rattle.chr_limits.specs.Judging.{post_judged, rule_judged}
 use Rattle.chr_limits.specs.Standing.{IsAllowedRule}
 use Rattle.chr_limits.proofs.Standing.{neither, posted, stands}
-use Rattle.chr_text.specs.Fitting.{WordPlain, PhrasePlain, TestPlain, MemberPlain, RulePlain, NameFits, WordFits, TermFits, PostFits, FormulaFits, ShapeFits, TestFits, MemberFits, RuleFits}
+use Rattle.chr_text.specs.Fitting.{WordPlain, PhrasePlain, TestPlain, MemberPlain, RulePlain, NamePlain, WordFits, TermFits, PostFits, FormulaFits, ShapeFits, TestFits, MemberFits, RuleFits}
 use Rattle.chr_text.specs.Translation.{rule_atom, test, member, somes, behind_kept, behind_heads, behind_guard, rule}
 use Rattle.chr_text.specs.Variables.{Seen, in_turn}
 use Rattle.chr_text.proofs.Valued.{rule_known, all_seen}
@@ -18,8 +19,8 @@ use Rattle.chr_text.proofs.Valued.{rule_known, all_seen}
 pub not_above : (n m : ℕ) → ltb n m ≡ false → m ≤ n
 not_above n m h = grind arith
 
-pub name_fits : (t : List ℕ) → is_long (Name t) ≡ false → list_all is_word t ≡ true → NameFits t
-name_fits t h p = record { short = not_above 64 (length t) h; plain = p }
+pub name_fits : (t : List ℕ) → is_long (Name t) ≡ false → NamePlain t → IsName t
+name_fits t h p = record { first = p.first; bytes = p.bytes; short = not_above 64 (length t) h; plain = p.plain }
 
 term_fits : (w : Word) → is_out_of_range w ≡ false → is_long w ≡ false → is_variable w ≡ false → WordPlain w → TermFits w
 term_fits (Name t) range long variable p = name_fits t long p

@@ -11,3 +11,13 @@ pub mod Steps
 pub mod Tables
 pub mod Turns
 pub mod Valued
+pub mod Texts
+pub mod ProgramTexts
+pub mod PostTexts
+pub mod Faulty
+pub mod ProgramFaults
+pub mod PostFaults
+pub mod InScope
+pub mod PlaceNumbers
+pub mod Writable
+pub mod RuleWritable

@@ -1,18 +1,19 @@
 -- What the grammar makes of tokens has no other names than theirs.
 use Rattle.std.proofs.Common.{◌≡◌, ℕ, zero, suc, ◌-◌, Bool, true, false, cond, ◌&&◌, List, [], ◌∷◌, length, drop, Option, Some, None, Result, Ok, Err, subst}
 use Rattle.std.specs.Prelude.{IfOk, codes}
-use Rattle.std.specs.List.{AllByRecursion, list_all}
+use Rattle.std.specs.List.{AllByRecursion}
 use Rattle.std.specs.Str.{bytes_eq}
+use Rattle.chr_value.specs.Spelling.{is_reserved}
 use Rattle.chr_lex.specs.declared.fault.Kind.{Kind}
 use Rattle.chr_lex.specs.declared.fault.Kind.TheVariants.{Syntax}
 use Rattle.chr_lex.specs.Reading.{◌>>=◌}
-use Rattle.chr_lex.specs.Tokens.{Word, Name, Variable, Number, Lexeme, OfWord, OfMark, is_word}
+use Rattle.chr_lex.specs.Tokens.{Word, Name, Variable, Number, Lexeme, OfWord, OfMark}
 use Rattle.chr_rule.specs.declared.expression.Operator.{Operator}
 use Rattle.chr_grammar.specs.declared.expression.TheConstants.{MOST_DEPTH}
 use Rattle.chr_grammar.specs.Parsed as parsed
 use Rattle.chr_grammar.specs.Parsed.{ParsedExpression, ParsedAtom, GuardMember, BodyMember, ParsedRule, Statement}
-use Rattle.chr_grammar.specs.Parsing.{Front, either, behind, members_at, is_comma, is_close, is_open, is_reserved, terms_at, args_at, phrase_at, phrases_of, closed, factor_at, chain_at, product_operator, sum_operator, product_at, sum_at, fits, fitting, expression_at, relation, relation_at, compared_at, equal, equality, other_side_at, sides_at, is_true, plain_test_at, test_at, tests_of, added_at, is_member_at, last_member_at, is_is, member_at, body_of, heads_by, heads_of, before, from_first, is_backslash, all_kept, consequence_by, consequence_of, is_bar, rule_by, is_propagate, named_rule_of, is_arrow, rule_of, is_at, named, a_rule, declarations_of, is_library, directive_of, is_declares, statement_of}
-use Rattle.chr_text.specs.Fitting.{WordPlain, PhrasePlain, TestPlain, MemberPlain, RulePlain}
+use Rattle.chr_grammar.specs.Parsing.{Front, either, behind, members_at, is_comma, is_close, is_open, terms_at, args_at, phrase_at, phrases_of, closed, factor_at, chain_at, product_operator, sum_operator, product_at, sum_at, fits, fitting, expression_at, relation, relation_at, compared_at, equal, equality, other_side_at, sides_at, is_true, plain_test_at, test_at, tests_of, added_at, is_member_at, last_member_at, is_is, member_at, body_of, heads_by, heads_of, before, from_first, is_backslash, all_kept, consequence_by, consequence_of, is_bar, rule_by, is_propagate, named_rule_of, is_arrow, rule_of, is_at, named, a_rule, declarations_of, is_library, directive_of, is_declares, statement_of}
+use Rattle.chr_text.specs.Fitting.{NamePlain, WordPlain, PhrasePlain, TestPlain, MemberPlain, RulePlain}
 use Rattle.chr_text.proofs.Plain.{if_bind, if_cond, LexemePlain, AllPlain, all_dropped}
 
 -- what is read at the front is so, and the tokens behind it have plain names
@@ -40,7 +41,7 @@ terms_plain (OfWord w ∷ s ∷ ts) all =
     (if_bind (FrontPlain (AllByRecursion WordPlain)) (FrontPlain (AllByRecursion WordPlain)) (terms_at ts) (λ x. Ok (w ∷ x.0, x.1)) (terms_plain ts all.1.1) (λ x p. ((all.0, p.0), p.1)))
     (if_cond (FrontPlain (AllByRecursion WordPlain)) (is_close s) _ _ ((all.0, tt), all.1.1) tt)
 
-args_plain : (name : List ℕ) (ts : List Lexeme) → list_all is_word name ≡ true → AllPlain ts → IfOk (args_at name ts) (FrontPlain PhrasePlain)
+args_plain : (name : List ℕ) (ts : List Lexeme) → NamePlain name → AllPlain ts → IfOk (args_at name ts) (FrontPlain PhrasePlain)
 args_plain name [] h all = if_cond (FrontPlain PhrasePlain) (is_reserved name) _ _ tt ((h, tt), tt)
 args_plain name (s ∷ ts) h all =
     if_cond (FrontPlain PhrasePlain) (is_open s) _ _

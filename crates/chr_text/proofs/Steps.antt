@@ -1,5 +1,5 @@
 -- Numbering one part after another.
-use Rattle.std.proofs.Common.{◌≡◌, List, [], ◌∷◌, ◌++◌, Option, Some, None, Ok, Err, refl, sym, ap, ◌∙◌, append_assoc}
+use Rattle.std.proofs.Common.{◌≡◌, ℕ, List, [], ◌∷◌, ◌++◌, Option, Some, None, Ok, Err, refl, sym, ap, ◌∙◌, append_assoc}
 use Rattle.std.proofs.lemmas.List.{append-nil}
 use Rattle.chr_lex.specs.declared.fault.Kind.{Kind}
 use Rattle.chr_lex.specs.declared.fault.Kind.TheVariants.{NamesFull}
@@ -7,7 +7,8 @@ use Rattle.chr_lex.specs.declared.fault.ItemError.{ItemError}
 use Rattle.chr_lex.specs.declared.fault.ItemError.TheVariants as item_errors
 use Rattle.chr_lex.specs.Reading.{Fails}
 use Rattle.chr_value.specs.Naming.{◌>>=◌, Table}
-use Rattle.chr_text.specs.Numbering.{or_full, each, more}
+use Rattle.chr_rule.specs.Rules.{Term, Same, Differ}
+use Rattle.chr_text.specs.Numbering.{or_full, each, more, maybe, numbered_term, number_test}
 
 pub numbered_is : {A : Type 0} (r : Option A) (x : A) → or_full r ≡ Ok x → r ≡ Some x
 numbered_is None x e = absurd cc
@@ -42,3 +43,16 @@ pub each_done : {A B : Type 0} (f : Table → A → Option (B × Table)) (front 
 each_done f front table all total is so_far =
     let here : more front (each f table all) ≡ Some (front ++ [], table) = rw is refl in
     sym so_far ∙ here ∙ ap (λ (w : List _). Some (w, table)) (append-nil front)
+
+-- two terms that are compared
+pub same_numbered : (table t1 t2 : Table) (s t : Term (List ℕ)) (x y : Term ℕ) → or_full (numbered_term table s) ≡ Ok (x, t1) → or_full (numbered_term t1 t) ≡ Ok (y, t2) → or_full (maybe number_test table (Some (Same s t))) ≡ Ok (Some (Same x y), t2)
+same_numbered table t1 t2 s t x y h k =
+    let a = numbered_is (numbered_term table s) (x, t1) h in
+    let b = numbered_is (numbered_term t1 t) (y, t2) k in
+    rw (a, b) refl
+
+pub differ_numbered : (table t1 t2 : Table) (s t : Term (List ℕ)) (x y : Term ℕ) → or_full (numbered_term table s) ≡ Ok (x, t1) → or_full (numbered_term t1 t) ≡ Ok (y, t2) → or_full (maybe number_test table (Some (Differ s t))) ≡ Ok (Some (Differ x y), t2)
+differ_numbered table t1 t2 s t x y h k =
+    let a = numbered_is (numbered_term table s) (x, t1) h in
+    let b = numbered_is (numbered_term t1 t) (y, t2) k in
+    rw (a, b) refl

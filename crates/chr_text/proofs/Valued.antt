@@ -22,7 +22,7 @@ found_step : (b c : Bool) (n m : ℕ) → (b || c) ≡ true → (c ≡ true → 
 found_step true c n m h f = omega arith
 found_step false c n m h f = omega (arith, f h)
 
-found : {A : Type 0} (p : A → Bool) (xs : List A) → list_any p xs ≡ true → position_or_len p xs < length xs
+pub found : {A : Type 0} (p : A → Bool) (xs : List A) → list_any p xs ≡ true → position_or_len p xs < length xs
 found p [] h = absurd cc
 found p (x ∷ xs) h = found_step (p x) (list_any p xs) (position_or_len p xs) (length xs) h (found p xs)
 
@@ -31,15 +31,15 @@ found_first-step true c m n h f = refl
 found_first-step false c m n h f = ap (λ (k : ℕ). 1 + k) (f h)
 
 -- what is found is found at the same place with more behind it
-found_first : {A : Type 0} (p : A → Bool) (xs ys : List A) → list_any p xs ≡ true → position_or_len p (xs ++ ys) ≡ position_or_len p xs
+pub found_first : {A : Type 0} (p : A → Bool) (xs ys : List A) → list_any p xs ≡ true → position_or_len p (xs ++ ys) ≡ position_or_len p xs
 found_first p [] ys h = absurd cc
 found_first p (x ∷ xs) ys h = found_first-step (p x) (list_any p xs) (position_or_len p (xs ++ ys)) (position_or_len p xs) h (found_first p xs ys)
 
 -- those of m are seen in n too, at places of m
-abbrev Holds : Seen → Seen → Type 0
+abbrev pub Holds : Seen → Seen → Type 0
 Holds m n = (x : List ℕ) → is_seen m x ≡ true → (is_seen n x ≡ true) × (position_or_len (bytes_eq x) n < length m)
 
-holds_same : (m : Seen) → Holds m m
+pub holds_same : (m : Seen) → Holds m m
 holds_same m x h = (h, found (bytes_eq x) m (both (not (is_blank x)) (list_any (bytes_eq x) m) h).1)
 
 one_seen : (m : Seen) (x : List ℕ) → are_seen m (x ∷ []) ≡ true → is_seen m x ≡ true
@@ -48,7 +48,7 @@ one_seen m x h = (both (is_seen m x) true h).0
 still_seen : (m : Seen) (y x : List ℕ) → is_seen m x ≡ true → is_seen (m ++ y ∷ []) x ≡ true
 still_seen m y x h = let one : are_seen m (x ∷ []) ≡ true = rw h refl in one_seen (m ++ y ∷ []) x (still_all_seen m y (x ∷ []) one)
 
-holds_more : (m : Seen) (y : List ℕ) → Holds m (m ++ y ∷ [])
+pub holds_more : (m : Seen) (y : List ℕ) → Holds m (m ++ y ∷ [])
 holds_more m y x h =
     let any = (both (not (is_blank x)) (list_any (bytes_eq x) m) h).1 in
     (still_seen m y x h, rw (found_first (bytes_eq x) m (y ∷ []) any) (found (bytes_eq x) m any))
@@ -67,12 +67,12 @@ met_both m (x ∷ xs) ys h =
     let q = met_both m xs ys p.1 in
     (rw (p.0, q.0) refl, q.1)
 
-old_argument : (m n : Seen) (w : Word) → Holds m n → are_seen m (word_variables w) ≡ true → (argument_known (length m) (argument n w).0 ≡ true) × ((argument n w).1 ≡ n)
+pub old_argument : (m n : Seen) (w : Word) → Holds m n → are_seen m (word_variables w) ≡ true → (argument_known (length m) (argument n w).0 ≡ true) × ((argument n w).1 ≡ n)
 old_argument m n (words.Name t) holds h = (refl, refl)
 old_argument m n (words.Variable x) holds h = old_variable m n x holds (one_seen m x h)
 old_argument m n (words.Number negative ds) holds h = (refl, refl)
 
-old_arguments : (m n : Seen) (ws : List Word) → Holds m n → are_seen m (flat_map word_variables ws) ≡ true → (list_all (argument_known (length m)) (in_turn argument n ws).0 ≡ true) × ((in_turn argument n ws).1 ≡ n)
+pub old_arguments : (m n : Seen) (ws : List Word) → Holds m n → are_seen m (flat_map word_variables ws) ≡ true → (list_all (argument_known (length m)) (in_turn argument n ws).0 ≡ true) × ((in_turn argument n ws).1 ≡ n)
 old_arguments m n [] holds h = (refl, refl)
 old_arguments m n (w ∷ ws) holds h =
     let p = met_both m (word_variables w) (flat_map word_variables ws) h in
@@ -80,7 +80,7 @@ old_arguments m n (w ∷ ws) holds h =
     let b = old_arguments m n ws holds p.1 in
     (rw (a.0, a.1, b.0) refl, rw (a.1, b.1) refl)
 
-old_expression : (m n : Seen) (e : parsed.ParsedExpression) → Holds m n → are_seen m (formula_variables e) ≡ true → (expression_known (length m) (expression n e).0 ≡ true) × ((expression n e).1 ≡ n)
+pub old_expression : (m n : Seen) (e : parsed.ParsedExpression) → Holds m n → are_seen m (formula_variables e) ≡ true → (expression_known (length m) (expression n e).0 ≡ true) × ((expression n e).1 ≡ n)
 old_expression m n (parsed.Number negative ds) holds h = (refl, refl)
 old_expression m n (parsed.Variable x) holds h = old_variable m n x holds (one_seen m x h)
 old_expression m n (parsed.Group e) holds h = old_expression m n e holds h
@@ -92,7 +92,7 @@ old_expression m n (parsed.Operation o e f) holds h =
 
 -- ---- a guard
 
-old_tests : (m : Seen) (ts : List parsed.GuardMember) → are_seen m (flat_map test_variables ts) ≡ true → (list_all (test_known (length m)) (somes (in_turn test m ts).0) ≡ true) × ((in_turn test m ts).1 ≡ m)
+pub old_tests : (m : Seen) (ts : List parsed.GuardMember) → are_seen m (flat_map test_variables ts) ≡ true → (list_all (test_known (length m)) (somes (in_turn test m ts).0) ≡ true) × ((in_turn test m ts).1 ≡ m)
 old_tests m [] h = (refl, refl)
 old_tests m (parsed.Always ∷ ts) h = old_tests m ts h
 old_tests m (parsed.Compared r e f ∷ ts) h =
@@ -154,7 +154,7 @@ heads_append : {N : Type 0} (n : ℕ) (hs gs : List (RuleAtom N)) → known_behi
 heads_append n [] gs = refl
 heads_append n (h ∷ hs) gs = heads_append-step (known_behind_args n h.args) hs gs (λ m. heads_append m hs gs)
 
-all_heads_known : (r : parsed.ParsedRule) → known_behind_heads 0 ((rule r).kept ++ (rule r).removed) ≡ Some (length (behind_heads r))
+pub all_heads_known : (r : parsed.ParsedRule) → known_behind_heads 0 ((rule r).kept ++ (rule r).removed) ≡ Some (length (behind_heads r))
 all_heads_known r = heads_append 0 (rule r).kept (rule r).removed ∙ ap (λ o. known_then o (λ m. known_behind_heads m (rule r).removed)) (heads_known [] r.kept) ∙ heads_known (behind_kept r) r.removed
 
 -- ---- what is seen
@@ -197,7 +197,7 @@ member_meets m (parsed.Is x e) =
     expression_meets (number_variable m x).1 e ∙ ap (λ l. seen_from l (formula_variables e)) (variable_meets m x (is_seen m x) ∙ sym (meets_one m x (is_seen m x))) ∙ sym (met_from_append m (x ∷ []) (formula_variables e))
 member_meets m (parsed.Add p) = shape_meets m p
 
-heads_meet : (r : parsed.ParsedRule) → behind_heads r ≡ seen (head_variables r)
+pub heads_meet : (r : parsed.ParsedRule) → behind_heads r ≡ seen (head_variables r)
 heads_meet r =
     turn_meets rule_atom phrase_variables shape_meets (behind_kept r) r.removed ∙ ap (λ l. seen_from l (flat_map phrase_variables r.removed)) (turn_meets rule_atom phrase_variables shape_meets [] r.kept)
     ∙ sym (met_from_append [] (flat_map phrase_variables r.kept) (flat_map phrase_variables r.removed))

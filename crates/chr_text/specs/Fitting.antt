@@ -1,7 +1,8 @@
--- What may be or_full: names are letters, digits and `_` in at most 64 bytes, and numbers have 64 bits with sign.
+-- What may be numbered: names that a log can hold, and numbers of 64 bits with sign.
 use Rattle.std.specs.Prelude.{◌≡◌, ℕ, ◌≤◌, true, false, List, length, is_none}
 use Rattle.std.specs.List.{list_all, AllByRecursion}
-use Rattle.chr_lex.specs.Tokens.{Word, Name, Variable, Number, is_word}
+use Rattle.chr_value.specs.Spelling.{is_name_byte, begins_lower, is_operator, IsName}
+use Rattle.chr_lex.specs.Tokens.{Word, Name, Variable, Number}
 use Rattle.chr_grammar.specs.Parsed as parsed
 use Rattle.chr_grammar.specs.Parsed.{ParsedAtom, GuardMember, BodyMember, ParsedRule}
 use Rattle.chr_rule.specs.Scope.{IsRule}
@@ -9,24 +10,20 @@ use Rattle.chr_limits.specs.Numbers.{whole_number}
 use Rattle.chr_text.specs.Translation.{expression, behind_body, rule}
 use Rattle.chr_text.specs.Variables.{Seen, number_variable}
 
-pub record NameFits (t : List ℕ) : Type 0 where
-  pub short : length t ≤ 64
-  pub plain : list_all is_word t ≡ true
-
 abbrev pub WordFits : Word → Type 0
-WordFits (Name t) = NameFits t
+WordFits (Name t) = IsName t
 WordFits (Variable x) = Unit {0}
 WordFits (Number negative ds) = is_none (whole_number negative ds) ≡ false
 
 -- a term of a post, which is no variable
 abbrev pub TermFits : Word → Type 0
-TermFits (Name t) = NameFits t
+TermFits (Name t) = IsName t
 TermFits (Variable x) = ⊥
 TermFits (Number negative ds) = is_none (whole_number negative ds) ≡ false
 
 -- an atom of a post
 pub record PostFits (p : ParsedAtom) : Type 0 where
-  pub name : NameFits p.name
+  pub name : IsName p.name
   pub args : AllByRecursion TermFits p.args
   pub few : length p.args ≤ 8
 
@@ -36,7 +33,7 @@ FormulaFits (parsed.Variable x) = Unit {0}
 FormulaFits (parsed.Group e) = FormulaFits e
 FormulaFits (parsed.Operation o a b) = FormulaFits a × FormulaFits b
 
--- the same with room for its variables behind those seen before it
+-- the same with room for its variables after those seen before it
 abbrev pub FormulaStands : Seen → parsed.ParsedExpression → Type 0
 FormulaStands seen (parsed.Number negative ds) = is_none (whole_number negative ds) ≡ false
 FormulaStands seen (parsed.Variable x) = length (number_variable seen x).1 ≤ 24
@@ -45,7 +42,7 @@ FormulaStands seen (parsed.Operation o a b) = FormulaStands seen a × FormulaSta
 
 -- an atom of a rule
 pub record ShapeFits (p : ParsedAtom) : Type 0 where
-  pub name : NameFits p.name
+  pub name : IsName p.name
   pub args : AllByRecursion WordFits p.args
   pub few : length p.args ≤ 8
 
@@ -69,15 +66,21 @@ pub record RuleFits (r : ParsedRule) : Type 0 where
   pub room : length (behind_body r) ≤ 24
   pub whole : IsRule (rule r)
 
--- ---- names of letters, digits and `_`, whatever the limits
+-- ---- names as tokens have them, however long
+
+-- a lower-case letter, then letters, digits and `_`; no operator
+pub record NamePlain (t : List ℕ) : Type 0 where
+  pub first : begins_lower t ≡ true
+  pub bytes : list_all is_name_byte t ≡ true
+  pub plain : is_operator t ≡ false
 
 abbrev pub WordPlain : Word → Type 0
-WordPlain (Name t) = list_all is_word t ≡ true
+WordPlain (Name t) = NamePlain t
 WordPlain (Variable x) = Unit {0}
 WordPlain (Number negative ds) = Unit {0}
 
 abbrev pub PhrasePlain : ParsedAtom → Type 0
-PhrasePlain p = (list_all is_word p.name ≡ true) × AllByRecursion WordPlain p.args
+PhrasePlain p = NamePlain p.name × AllByRecursion WordPlain p.args
 
 abbrev pub TestPlain : GuardMember → Type 0
 TestPlain parsed.Always = Unit {0}

@@ -4,3 +4,7 @@ pub mod Translation
 pub mod Numbering
 pub mod Fitting
 pub mod Reading
+pub mod Forms
+pub mod Faults
+pub mod Places
+pub mod Writable

@@ -10,7 +10,7 @@ abbrev pub each : {A B : Type 0} → (Table → A → Option (B × Table)) → T
 each f table [] = Some ([], table)
 each f table (a ∷ as') = f table a >>= λ x. each f x.1 as' >>= λ xs. Some (x.0 ∷ xs.0, xs.1)
 
--- the same behind some that are there
+-- the same after some that are there
 abbrev pub more : {B : Type 0} → List B → Option (List B × Table) → Option (List B × Table)
 more front rest = rest >>= λ x. Some (front ++ x.0, x.1)
 

@@ -16,3 +16,7 @@ number_variable seen x = if is_seen seen x then (position_or_len (bytes_eq x) se
 abbrev pub in_turn : {A B : Type 0} → (Seen → A → B × Seen) → Seen → List A → List B × Seen
 in_turn f seen [] = ([], seen)
 in_turn f seen (a ∷ as') = ((f seen a).0 ∷ (in_turn f (f seen a).1 as').0, (in_turn f (f seen a).1 as').1)
+
+-- the numbers of the variables at places, one place after another
+abbrev pub numbers : List (List ℕ) → List ℕ
+numbers names = (in_turn number_variable [] names).0

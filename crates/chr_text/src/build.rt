@@ -29,8 +29,8 @@ use chr_lex::token::Word;
 use chr_limits::number::int;
 use chr_limits::variables::{Seen, is_seen};
 use chr_rule::expression::{BodyItem, Comparison, Expr, Operator};
-use chr_rule::rule_atom::{RuleAtom, Term as Term};
 use chr_rule::rule::Rule;
+use chr_rule::rule_atom::{RuleAtom, Term};
 use chr_value::atom::Value;
 use chr_value::names::Names;
 use std::alloc::{AllocError, Allocator};
@@ -286,7 +286,7 @@ fn number_members<'a, A: Allocator + Copy>(
     Ok(items)
 }
 
-/// The rule, with its variables or_full in the order in which they are seen and its names by the table.
+/// The rule, with its variables numbered in the order in which they are seen and its names by the table.
 pub fn number_rule<A: Allocator + Copy>(
     alloc: A,
     names: &mut Names<A>,

@@ -2,17 +2,18 @@
 //!
 //! [`read_program`](reading::read_program) gives the rules of a text, [`read_atoms`](reading::read_atoms) the atoms of
 //! posts. A text is read in phases: comments are taken out, items and tokens found, and each item is parsed by the
-//! grammar; then the limits and the scope of its variables are tested, and last its names are or_full. The first
-//! faulty item is told by the kind of its fault and the line of its first byte. After any refusal, want of memory
+//! grammar; then the limits and the scope of its variables are tested, and last its names are numbered. A
+//! fault is that of the first faulty item: its kind and the line of the item's first byte. After any refusal, want of memory
 //! too, the table of names is as it was before the call.
 //!
 //! Both calls are exact: `program_of` and `posts_of` say for each table of names and each text what is read, with the
-//! table behind it, or the first fault, and the calls give just that unless memory runs out. A rule is first said by
-//! the texts of its names, with its variables or_full in the order of its text (`rule`); then its names are or_full
+//! table after it, or the first fault, and the calls give just that unless memory runs out. A rule is first given by
+//! the texts of its names, with its variables numbered in the order of its text (`rule`); then its names are numbered
 //! from left to right over the table (`number_rule`). What the judges let pass is always a rule.
 #![tactic(auto)]
 
 mod build;
+pub mod laws;
 mod naming;
 mod posts;
 pub mod reading;

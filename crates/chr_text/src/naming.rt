@@ -1,8 +1,11 @@
 //! The numbers of names that lie in a text.
-ghost use Rattle.std.specs.Prelude.{◌≡◌};
+ghost use Rattle.std.specs.Prelude.{◌≡◌, ◌↔◌, true, false, length, Err, IsOk};
 ghost use Rattle.chr_lex.specs.Reading.{Gives};
+ghost use Rattle.chr_lex.specs.declared.fault.ItemError.TheVariants.{Fault};
+ghost use Rattle.chr_lex.specs.declared.fault.Kind.TheVariants.{NamesFull};
+ghost use Rattle.chr_value.specs.Names.{has_text};
 ghost use Rattle.chr_value.specs.Naming.{number_name as number_of};
-ghost use Rattle.chr_text.specs.Fitting.{NameFits};
+ghost use Rattle.chr_value.specs.Spelling.{IsName};
 ghost use Rattle.chr_text.specs.Numbering.{or_full};
 ghost use Rattle.chr_text.specs.Tables.{Table, Keeps};
 
@@ -12,14 +15,17 @@ use chr_value::naming::name_number;
 use std::alloc::Allocator;
 use std::str;
 
-/// The number of a name, which gets the next one where it is new.
+/// The number of a name, which gets the next one where it is new. E01 where memory ran out; E02 exactly where the name is
+/// new and the table full, whatever the allocator says.
 #[tactic(auto, using(crate::proofs::Tables::keeps_more))]
 pub fn number_name<A: Allocator + Copy>(
     names: &mut Names<A>,
     name: &[u8],
 ) -> Result<Name, ItemError>
-    requires { NameFits name.now }
+    requires { IsName name.now }
     ensures gives { Gives (λ n. (n.number, names.new)) result (or_full (number_of names.old name.now)) }
+    ensures full { (result ≡ Err (Fault NamesFull)) ↔ ((length names.old ≡ 65536) × (has_text names.old name.now ≡ false)) }
+    ensures finds { has_text names.old name.now ≡ true → IsOk result }
     ensures keeps { (t : Table) → Keeps t names.old → Keeps t names.new }
 {
     let Ok(text) = str::from_utf8(name) else {

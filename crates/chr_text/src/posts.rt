@@ -54,7 +54,7 @@ fn number_post<A: Allocator + Copy>(
     Ok(atom)
 }
 
-/// The atoms of a post, behind those that are there.
+/// The atoms of a post, after those that are there.
 pub fn number_posts<A: Allocator + Copy>(
     alloc: A,
     names: &mut Names<A>,

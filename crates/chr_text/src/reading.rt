@@ -1,5 +1,5 @@
 //! Reading programs and posts.
-ghost use Rattle.std.specs.Prelude.{◌≡◌, ◌≤◌, zero, [], length, map, take, OnErr};
+ghost use Rattle.std.specs.Prelude.{◌≡◌, ◌≤◌, ◌<◌, zero, [], length, map, take, Err, OnErr};
 ghost use Rattle.chr_lex.specs.Items.{items, entry};
 ghost use Rattle.chr_lex.specs.Reading.{Gives, Reads, placed};
 ghost use Rattle.chr_lex.specs.Tokens.{lexeme};
@@ -45,7 +45,7 @@ fn item_tokens<'a, A: Allocator + Copy>(
     tokens(alloc, item.text)
 }
 
-/// One rule more, if it may stand.
+/// Adds a rule, if it may stand.
 fn add_rule<A: Allocator + Copy>(
     alloc: A,
     names: &mut Names<A>,
@@ -170,12 +170,13 @@ fn read_posts<A: Allocator + Copy>(
     }
 }
 
-/// The rules of a text, or_full from 1 in text order.
+/// The rules of a text, numbered from 1 in text order.
 ///
-/// A text of more than [`MOST_BYTES`] bytes is E09 TooLong at line 0. Else the first faulty item is told, with the
-/// line of its first byte, by the first of these that stands: E03 BadByte, E04 Syntax, E05 Propagation, E06
-/// NumberRange, E07 TooMany, E08 Binding, E02 NamesFull. E01 comes only where a growth was refused. After any of
-/// these `names` is as before; else the names of the rules are in it, behind those from before, in text order.
+/// A text of more than [`MOST_BYTES`] bytes is E09 TooLong at line 0, whatever the allocator says. Else the error is the
+/// fault of the first faulty item, with the line of the item's first byte: the first that applies of E03 BadByte, E04
+/// Syntax, E05 Propagation, E06 NumberRange, E07 TooMany, E08 Binding, E02 NamesFull. E01 comes only where a growth was
+/// refused. After any error `names` is as before; else the names of the rules are in it, after those from before, in
+/// text order.
 #[tactic(auto, using(crate::proofs::Tables::keeps_same))]
 pub fn read_program<A: Allocator + Copy>(
     alloc: A,
@@ -183,6 +184,7 @@ pub fn read_program<A: Allocator + Copy>(
     names: &mut Names<A>,
 ) -> Result<Program<A>, ReadError>
     ensures reads { Reads (λ p. (p, names.new)) result (program_of names.old bytes.now) }
+    ensures too_long { 65536 < length bytes.now → result ≡ Err (errors.Fault (record { kind = TooLong; line = 0 })) }
     ensures unchanged { OnErr result (names.new ≡ names.old) }
     ensures keeps { take (length names.old) names.new ≡ names.old }
 {
@@ -202,7 +204,7 @@ pub fn read_program<A: Allocator + Copy>(
 
 /// The atoms of a text of posts, in text order.
 ///
-/// The errors are those of [`read_program`]; a variable is E08 Binding. After any of them `names` is as before.
+/// The errors are those of [`read_program`]; a variable is E08 Binding. After any error `names` is as before.
 #[tactic(auto, using(crate::proofs::Tables::keeps_same))]
 pub fn read_atoms<A: Allocator + Copy>(
     alloc: A,
@@ -210,6 +212,7 @@ pub fn read_atoms<A: Allocator + Copy>(
     names: &mut Names<A>,
 ) -> Result<Vec<Atom<A>, A>, ReadError>
     ensures reads { Reads (λ v. (v.items, names.new)) result (posts_of names.old bytes.now) }
+    ensures too_long { 65536 < length bytes.now → result ≡ Err (errors.Fault (record { kind = TooLong; line = 0 })) }
     ensures unchanged { OnErr result (names.new ≡ names.old) }
     ensures keeps { take (length names.old) names.new ≡ names.old }
 {

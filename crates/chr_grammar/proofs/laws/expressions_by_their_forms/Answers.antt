@@ -1,5 +1,5 @@
-use Rattle.chr_grammar.proofs.Formulas_again.{are_expressions, read_before}
+use Rattle.chr_grammar.proofs.Formulas_again.{are_expressions, read_before, no_expressions}
 use Rattle.chr_grammar.proofs.laws.expressions_by_their_forms.Goals as goal
 
 pub returns : goal.returns
-returns c = record { found = are_expressions; only = read_before }
+returns c = record { found = are_expressions; only = read_before; refused = no_expressions }

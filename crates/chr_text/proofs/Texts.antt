@@ -12,7 +12,7 @@ use Rattle.chr_lex.proofs.Replaced.{is_plain, are_plain}
 use Rattle.chr_lex.proofs.Cutting.{are_items, are_read}
 use Rattle.chr_lex.proofs.Lexing as lexing
 use Rattle.chr_text.specs.Reading.{item_lexemes, over_items, of_text}
-use Rattle.chr_text_laws.specs.Forms.{IsItem, InOrder, no_more, item, IsText}
+use Rattle.chr_text.specs.Forms.{IsItem, InOrder, no_more, item, IsText}
 
 -- ---- steps that may fail
 
@@ -63,10 +63,10 @@ read_in_order f Step steps _ _ _ (item x next y e es s more) = rw (steps x e nex
 
 -- ---- texts
 
-has_items : (bytes : List ℕ) → HasItems bytes (items_of bytes)
+pub has_items : (bytes : List ℕ) → HasItems bytes (items_of bytes)
 has_items bytes = record { out = plain_of bytes; replaced = is_plain bytes (plain_of bytes) refl; items = are_items 1 (plain_of bytes) (items_of bytes) refl }
 
-items_read : (bytes : List ℕ) (es : List Item) → HasItems bytes es → items_of bytes ≡ es
+pub items_read : (bytes : List ℕ) (es : List Item) → HasItems bytes es → items_of bytes ≡ es
 items_read bytes es h = ap (items zero 1) (are_plain bytes h.out h.replaced) ∙ are_read 1 h.out es h.items
 
 pub is_text : {A : Type 0} (f : A → Item → Result A Kind) (Step : A → Item → A → Type 0) → ((x : A) (e : Item) (y : A) → f x e ≡ Ok y → Step x e y)

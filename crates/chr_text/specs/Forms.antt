@@ -37,13 +37,13 @@ pub record IsText {A : Type 0} (AddsItem : A → Item → A → Type 0) (before 
 
 -- ---- programs
 
--- A rule that may stand is put behind the ones before it, where these are fewer than 256.
+-- A rule that may stand is put after the ones before it, where these are fewer than 256.
 pub record AddsRule (before : Program) (r : ParsedRule) (after : Program) : Type 0 where
   pub room : length before.0 < 256
   pub stands : IsAllowedRule r
   pub new : Simpagation ℕ
   pub table : Table
-  pub or_full : number_rule before.1 (rule r) ≡ Some (new, table)
+  pub numbered : number_rule before.1 (rule r) ≡ Some (new, table)
   pub added : after ≡ (before.0 ++ new ∷ [], table)
 
 -- Only a rule adds to a program.
@@ -66,7 +66,7 @@ IsProgramText table bytes p = IsText AddsStatement ([], table) bytes p
 
 -- ---- posts
 
--- an item of atoms that may be posted, put behind the ones before it
+-- an item of atoms that may be posted, put after the ones before it
 pub record AddsAtoms (before : Posts) (e : Item) (after : Posts) : Type 0 where
   pub tokens : List Lexeme
   pub atoms : List ParsedAtom
@@ -75,7 +75,7 @@ pub record AddsAtoms (before : Posts) (e : Item) (after : Posts) : Type 0 where
   pub may : AreAllowedPosts atoms
   pub new : List (Atom ℕ)
   pub table : Table
-  pub or_full : each numbered_atom before.1 (map atom_by_texts atoms) ≡ Some (new, table)
+  pub numbered : each numbered_atom before.1 (map atom_by_texts atoms) ≡ Some (new, table)
   pub added : after ≡ (before.0 ++ new, table)
 
 -- The text is these posts over a table of names.

@@ -13,8 +13,8 @@ use Rattle.chr_limits.proofs.Standing.{stands, passes, declared, declares}
 use Rattle.chr_text.specs.Translation.{rule}
 use Rattle.chr_text.specs.Numbering.{or_full, number_rule}
 use Rattle.chr_text.specs.Reading.{Program, item_lexemes, with_rule, with_statement, with_item, program_of}
-use Rattle.chr_text_laws.specs.Forms.{AddsRule, Adds, AddsStatement, IsProgramText}
-use Rattle.chr_text_laws.proofs.Texts.{bind_ok, ok_is, is_item, item_read, is_text, text_read}
+use Rattle.chr_text.specs.Forms.{AddsRule, Adds, AddsStatement, IsProgramText}
+use Rattle.chr_text.proofs.Texts.{bind_ok, ok_is, is_item, item_read, is_text, text_read}
 
 pub has_number : {A : Type 0} (o : Option A) (x : A) → or_full o ≡ Ok x → o ≡ Some x
 has_number (Some y) x h = ap Some (ok_is y x h)
@@ -31,10 +31,10 @@ adds_rule p r q h =
     let judged = bind_ok (rule_judged (leb 256 (length p.0)) r) (λ judged. or_full (number_rule p.1 (rule r)) >>= λ x. Ok (p.0 ++ x.0 ∷ [], x.1)) q h in
     let may = stands (leb 256 (length p.0)) r judged.1 in
     let x = bind_ok (or_full (number_rule p.1 (rule r))) (λ x. Ok (p.0 ++ x.0 ∷ [], x.1)) q judged.2 in
-    record { room = room_left (length p.0) may.0; stands = may.1; new = x.0.0; table = x.0.1; or_full = has_number (number_rule p.1 (rule r)) x.0 x.1; added = sym (ok_is _ q x.2) }
+    record { room = room_left (length p.0) may.0; stands = may.1; new = x.0.0; table = x.0.1; numbered = has_number (number_rule p.1 (rule r)) x.0 x.1; added = sym (ok_is _ q x.2) }
 
 rule_added : (p : Program) (r : ParsedRule) (q : Program) → AddsRule p r q → with_rule p r ≡ Ok q
-rule_added p r q a = rw (passes (leb 256 (length p.0)) r (not_full (length p.0) a.room, a.stands), a.or_full) (ap Ok (sym a.added))
+rule_added p r q a = rw (passes (leb 256 (length p.0)) r (not_full (length p.0) a.room, a.stands), a.numbered) (ap Ok (sym a.added))
 
 adds : (p : Program) (s : Statement) (q : Program) → with_statement p s ≡ Ok q → Adds p s q
 adds p Import q h = sym (ok_is p q h)
@@ -48,13 +48,13 @@ added p Import q a = ap Ok (sym a)
 added p (Declaration ds) q a = rw (declares ds a.0) (ap Ok (sym a.1))
 added p (Rule r) q a = rule_added p r q a
 
-adds_statement : (p : Program) (e : Item) (q : Program) → with_item p e ≡ Ok q → AddsStatement p e q
+pub adds_statement : (p : Program) (e : Item) (q : Program) → with_item p e ≡ Ok q → AddsStatement p e q
 adds_statement p e q h =
     let s = bind_ok (item_lexemes e >>= statement_of) (with_statement p) q h in
     let t = bind_ok (item_lexemes e) statement_of s.0 s.1 in
     record { tokens = t.0; statement = s.0; item = is_item e t.0 t.1; says = says t.0 s.0 t.2; adds = adds p s.0 q s.2 }
 
-statement_added : (p : Program) (e : Item) (q : Program) → AddsStatement p e q → with_item p e ≡ Ok q
+pub statement_added : (p : Program) (e : Item) (q : Program) → AddsStatement p e q → with_item p e ≡ Ok q
 statement_added p e q a = rw (item_read e a.tokens a.item, by_texts a.tokens a.statement a.says) (added p a.statement q a.adds)
 
 pub is_program : (table : Table) (bytes : List ℕ) (p : Program) → program_of table bytes ≡ Ok p → IsProgramText table bytes p

@@ -1,0 +1,296 @@
+-- A log can hold each atom that a rule adds, whatever values that a log can hold its variables stand for.
+use Rattle.std.proofs.Common.{◌≡◌, ◌≤◌, ℕ, suc, pos, false, List, [], ◌∷◌, ◌++◌, length, take, map, Option, Some, Ok, refl, sym, ap, subst, ◌∙◌, arith, lit<}
+use Rattle.std.specs.List.{AllByRecursion}
+use Rattle.std.proofs.Math.Seq.{take-length}
+use Rattle.chr_lex.specs.Items.{Item}
+use Rattle.chr_lex.specs.Tokens.{Word, Name, Variable, Number}
+use Rattle.chr_value.specs.Atoms.{Value, Int, Atom, renamed, text_of, by_texts}
+use Rattle.chr_value.specs.Naming.{◌>>=◌, Table, number_name, numbered_value, number_terms}
+use Rattle.chr_value.specs.Spelling.{is_reserved, is_control, IsName, FitsTerm, FitsAtom}
+use Rattle.chr_value.proofs.Chosen.{bind_some, some_is}
+use Rattle.chr_value.proofs.NameLaws.{keeps-then}
+use Rattle.chr_value.proofs.Said.{name_says, terms_say}
+use Rattle.chr_value.proofs.Inside.{atom_inside, atom_kept}
+use Rattle.chr_rule.specs.Rules.{Term, Var, Given, RuleAtom, Comparison, Compared, Same, Differ, BodyItem, Is, Add, Simpagation}
+use Rattle.chr_grammar.specs.Parsed as parsed
+use Rattle.chr_grammar.specs.Parsed.{ParsedAtom, ParsedRule, Statement}
+use Rattle.chr_grammar.specs.Spelling.{IsUnreserved, IsParsedAtom, IsBodyMember, IsStatement}
+use Rattle.chr_grammar.proofs.Statements_again.{by_texts as statement_read}
+use Rattle.chr_limits.proofs.Standing as standing
+use Rattle.chr_text.specs.Fitting.{WordFits, ShapeFits, MemberFits}
+use Rattle.chr_text.specs.Variables.{Seen, in_turn}
+use Rattle.chr_text.specs.Translation.{argument, rule_atom, member, somes, behind_guard, rule}
+use Rattle.chr_text.specs.Numbering.{each, numbered_term, numbered_rule_atom, number_test, number_member, number_rule}
+use Rattle.chr_text.specs.Reading.{Program, program_of}
+use Rattle.chr_text.specs.Forms.{InOrder, no_more, item, Adds, AddsStatement}
+use Rattle.chr_text.specs.Writable.{term_with, CanHold, AddsWritable, HasWritable}
+use Rattle.chr_text.proofs.Judged.{rule_fits}
+use Rattle.chr_text.proofs.Plain.{lexemes_plain}
+use Rattle.chr_text.proofs.Spoken.{rules_are_plain}
+use Rattle.chr_text.proofs.Texts.{item_read}
+use Rattle.chr_text.proofs.ProgramTexts.{is_program}
+use Rattle.chr_text.proofs.Writable.{spelled_fits}
+
+-- ---- atoms of a rule by texts, and by numbers
+
+abbrev ArgumentFits : Term (List ℕ) → Type 0
+ArgumentFits (Var x) = Unit {0}
+ArgumentFits (Given t) = FitsTerm t
+
+abbrev Free : {A : Type 0} → List ℕ → List A → Type 0
+Free t [] = is_reserved t ≡ false
+Free t (x ∷ xs) = Unit {0}
+
+record TextFits (s : RuleAtom (List ℕ)) : Type 0 where
+  name : IsName s.name
+  args : AllByRecursion ArgumentFits s.args
+  few : length s.args ≤ 8
+  free : Free s.name s.args
+
+abbrev ArgumentHeld : Table → Term ℕ → Type 0
+ArgumentHeld table (Var x) = Unit {0}
+ArgumentHeld table (Given t) = CanHold table t
+
+record Held (table : Table) (s : RuleAtom ℕ) : Type 0 where
+  name : IsName (text_of table s.name)
+  args : AllByRecursion (ArgumentHeld table) s.args
+  few : length s.args ≤ 8
+  free : Free (text_of table s.name) s.args
+
+abbrev ItemHeld : Table → BodyItem ℕ → Type 0
+ItemHeld table (Is x e) = Unit {0}
+ItemHeld table (Add s) = Held table s
+
+-- ---- what a table can write, each table that begins with it can
+
+pair_kept : (old new : Table) (n : ℕ) (t : Value ℕ) → take (length old) new ≡ old → IsName (text_of old n) → CanHold old t → (text_of new n ≡ text_of old n) × (renamed (text_of new) t ≡ renamed (text_of old) t)
+pair_kept old new n t keeps name value =
+    let a : Atom ℕ = record { name = n; args = t ∷ [] } in
+    let fits : FitsAtom (by_texts old a) = record { name = name; args = (value, tt); few = omega arith; plain = refl } in
+    let same = atom_kept old new a keeps (atom_inside old a fits) in
+    let args : (renamed (text_of new) t ∷ []) ≡ (renamed (text_of old) t ∷ []) = ap (λ (b : Atom (List ℕ)). b.args) same in
+    (ap (λ (b : Atom (List ℕ)). b.name) same, cc)
+
+arguments_kept : (old new : Table) (n : ℕ) (as' : List (Term ℕ)) → take (length old) new ≡ old → IsName (text_of old n) → AllByRecursion (ArgumentHeld old) as' → AllByRecursion (ArgumentHeld new) as'
+arguments_kept old new n [] keeps name all = tt
+arguments_kept old new n (Var x ∷ as') keeps name all = (tt, arguments_kept old new n as' keeps name all.1)
+arguments_kept old new n (Given t ∷ as') keeps name all = (subst FitsTerm (sym (pair_kept old new n t keeps name all.0).1) all.0, arguments_kept old new n as' keeps name all.1)
+
+free_renamed : {A : Type 0} (t u : List ℕ) (as' : List A) → t ≡ u → Free t as' → Free u as'
+free_renamed t u [] e h = rw (← e) h
+free_renamed t u (x ∷ xs) e h = tt
+
+held_kept : (old new : Table) (s : RuleAtom ℕ) → take (length old) new ≡ old → Held old s → Held new s
+held_kept old new s keeps h =
+    let zero_held : CanHold old (Int (pos 0)) = lit< tt in
+    let same = sym (pair_kept old new s.name (Int (pos 0)) keeps h.name zero_held).0 in
+    record { name = subst IsName same h.name; args = arguments_kept old new s.name s.args keeps h.name h.args; few = h.few; free = free_renamed (text_of old s.name) (text_of new s.name) s.args same h.free }
+
+items_kept : (old new : Table) (ms : List (BodyItem ℕ)) → take (length old) new ≡ old → AllByRecursion (ItemHeld old) ms → AllByRecursion (ItemHeld new) ms
+items_kept old new [] keeps all = tt
+items_kept old new (Is x e ∷ ms) keeps all = (tt, items_kept old new ms keeps all.1)
+items_kept old new (Add s ∷ ms) keeps all = (held_kept old new s keeps all.0, items_kept old new ms keeps all.1)
+
+-- ---- numbering
+
+value_says : (table : Table) (t : Value (List ℕ)) (v : Value ℕ) (new : Table) → numbered_value table t ≡ Some (v, new) → (renamed (text_of new) v ≡ t) × (take (length table) new ≡ table)
+unfolding number_terms
+value_says table t v new h =
+    let one : number_terms table (t ∷ []) ≡ Some (v ∷ [], new) = rw h refl in
+    let says = terms_say table (t ∷ []) (v ∷ []) new one in
+    let list : (renamed (text_of new) v ∷ []) ≡ (t ∷ []) = says.0 in
+    (cc, says.1)
+
+term_numbered : (table new : Table) (a : Term (List ℕ)) (b : Term ℕ) → numbered_term table a ≡ Some (b, new) → (ArgumentFits a → ArgumentHeld new b) × (take (length table) new ≡ table)
+term_numbered table new (Var x) b h =
+    subst (λ (z : Term ℕ × Table). (Unit {0} → ArgumentHeld z.1 z.0) × (take (length table) z.1 ≡ table)) (some_is {A = Term ℕ × Table} (Var x, table) (b, new) h) (λ u. tt, take-length table)
+term_numbered table new (Given t) b h =
+    let x = bind_some (numbered_value table t) (λ x. Some (Given x.0, x.1)) (b, new) h in
+    let says = value_says table t x.0.0 x.0.1 x.1 in
+    subst (λ (z : Term ℕ × Table). (FitsTerm t → ArgumentHeld z.1 z.0) × (take (length table) z.1 ≡ table)) (some_is {A = Term ℕ × Table} (Given x.0.0, x.0.1) (b, new) x.2) (λ fits. subst FitsTerm (sym says.0) fits, says.1)
+
+each_keeps : {A B : Type 0} (f : Table → A → Option (B × Table)) → ((table new : Table) (a : A) (b : B) → f table a ≡ Some (b, new) → take (length table) new ≡ table) → (table new : Table) (as' : List A) (bs : List B) → each f table as' ≡ Some (bs, new) → take (length table) new ≡ table
+each_keeps {B = B} f keeps table new [] bs h = subst (λ (z : List B × Table). take (length table) z.1 ≡ table) (some_is {A = List B × Table} ([], table) (bs, new) h) (take-length table)
+each_keeps {B = B} f keeps table new (a ∷ as') bs h =
+    let x = bind_some (f table a) (λ x. each f x.1 as' >>= λ xs. Some (x.0 ∷ xs.0, xs.1)) (bs, new) h in
+    let y = bind_some (each f x.0.1 as') (λ xs. Some (x.0.0 ∷ xs.0, xs.1)) (bs, new) x.2 in
+    subst (λ (z : List B × Table). take (length table) z.1 ≡ table) (some_is {A = List B × Table} (x.0.0 ∷ y.0.0, y.0.1) (bs, new) y.2) (keeps-then table x.0.1 y.0.1 (keeps table x.0.1 a x.0.0 x.1) (each_keeps f keeps x.0.1 y.0.1 as' y.0.0 y.1))
+
+terms_keep : (table new : Table) (as' : List (Term (List ℕ))) (bs : List (Term ℕ)) → each numbered_term table as' ≡ Some (bs, new) → take (length table) new ≡ table
+terms_keep table new as' bs h = each_keeps numbered_term (λ t n a b e. (term_numbered t n a b e).1) table new as' bs h
+
+-- the table has a name in it, so that what it can write later tables can
+arguments_numbered : (n : ℕ) (table new : Table) (as' : List (Term (List ℕ))) (bs : List (Term ℕ)) → IsName (text_of table n) → AllByRecursion ArgumentFits as' → each numbered_term table as' ≡ Some (bs, new)
+    → AllByRecursion (ArgumentHeld new) bs × (length bs ≡ length as')
+arguments_numbered n table new [] bs name all h = subst (λ (z : List (Term ℕ) × Table). AllByRecursion (ArgumentHeld z.1) z.0 × (length z.0 ≡ 0)) (some_is {A = List (Term ℕ) × Table} ([], table) (bs, new) h) (tt, refl)
+arguments_numbered n table new (a ∷ as') bs name all h =
+    let x = bind_some (numbered_term table a) (λ x. each numbered_term x.1 as' >>= λ xs. Some (x.0 ∷ xs.0, xs.1)) (bs, new) h in
+    let y = bind_some (each numbered_term x.0.1 as') (λ xs. Some (x.0.0 ∷ xs.0, xs.1)) (bs, new) x.2 in
+    let one = term_numbered table x.0.1 a x.0.0 x.1 in
+    let zero_held : CanHold table (Int (pos 0)) = lit< tt in
+    let same = (pair_kept table x.0.1 n (Int (pos 0)) one.1 name zero_held).0 in
+    let later : IsName (text_of x.0.1 n) = subst IsName (sym same) name in
+    let rest = arguments_numbered n x.0.1 y.0.1 as' y.0.0 later all.1 y.1 in
+    let first = arguments_kept x.0.1 y.0.1 n (x.0.0 ∷ []) (terms_keep x.0.1 y.0.1 as' y.0.0 y.1) later (one.0 all.0, tt) in
+    subst (λ (z : List (Term ℕ) × Table). AllByRecursion (ArgumentHeld z.1) z.0 × (length z.0 ≡ suc (length as'))) (some_is {A = List (Term ℕ) × Table} (x.0.0 ∷ y.0.0, y.0.1) (bs, new) y.2) ((first.0, rest.0), ap suc rest.1)
+
+free_same : {A B : Type 0} (t : List ℕ) (as' : List A) (bs : List B) → length bs ≡ length as' → Free t as' → Free t bs
+free_same t [] [] e h = h
+free_same t [] (b ∷ bs) e h = absurd (omega (arith, e))
+free_same t (a ∷ as') [] e h = absurd (omega (arith, e))
+free_same t (a ∷ as') (b ∷ bs) e h = tt
+
+atom_numbered : (table new : Table) (s : RuleAtom (List ℕ)) (r : RuleAtom ℕ) → TextFits s → numbered_rule_atom table s ≡ Some (r, new) → Held new r
+atom_numbered table new s r fits h =
+    let n = bind_some (number_name table s.name) (λ n. each numbered_term n.1 s.args >>= λ xs. Some (record { name = n.0; args = xs.0 }, xs.1)) (r, new) h in
+    let x = bind_some (each numbered_term n.0.1 s.args) (λ xs. Some (record { name = n.0.0; args = xs.0 }, xs.1)) (r, new) n.2 in
+    let says = name_says table s.name n.0.0 n.0.1 n.1 in
+    let named : IsName (text_of n.0.1 n.0.0) = subst IsName (sym says.0) fits.name in
+    let args = arguments_numbered n.0.0 n.0.1 x.0.1 s.args x.0.0 named fits.args x.1 in
+    let zero_held : CanHold n.0.1 (Int (pos 0)) = lit< tt in
+    let same : text_of x.0.1 n.0.0 ≡ text_of n.0.1 n.0.0 = (pair_kept n.0.1 x.0.1 n.0.0 (Int (pos 0)) (terms_keep n.0.1 x.0.1 s.args x.0.0 x.1) named zero_held).0 in
+    let text : s.name ≡ text_of x.0.1 n.0.0 = sym (same ∙ says.0) in
+    let few : length x.0.0 ≤ 8 = (let e = args.1 in let le = fits.few in omega (arith, e, le)) in
+    let made : RuleAtom ℕ = record { name = n.0.0; args = x.0.0 } in
+    let held : Held x.0.1 made = record { name = subst IsName text fits.name; args = args.0; few = few; free = free_renamed s.name (text_of x.0.1 n.0.0) x.0.0 text (free_same s.name s.args x.0.0 args.1 fits.free) } in
+    subst (λ (z : RuleAtom ℕ × Table). Held z.1 z.0) (some_is {A = RuleAtom ℕ × Table} (made, x.0.1) (r, new) x.2) held
+
+atom_keeps : (table new : Table) (s : RuleAtom (List ℕ)) (r : RuleAtom ℕ) → numbered_rule_atom table s ≡ Some (r, new) → take (length table) new ≡ table
+atom_keeps table new s r h =
+    let n = bind_some (number_name table s.name) (λ n. each numbered_term n.1 s.args >>= λ xs. Some (record { name = n.0; args = xs.0 }, xs.1)) (r, new) h in
+    let x = bind_some (each numbered_term n.0.1 s.args) (λ xs. Some (record { name = n.0.0; args = xs.0 }, xs.1)) (r, new) n.2 in
+    let made : RuleAtom ℕ = record { name = n.0.0; args = x.0.0 } in
+    subst (λ (z : RuleAtom ℕ × Table). take (length table) z.1 ≡ table) (some_is {A = RuleAtom ℕ × Table} (made, x.0.1) (r, new) x.2) (keeps-then table n.0.1 x.0.1 (name_says table s.name n.0.0 n.0.1 n.1).2 (terms_keep n.0.1 x.0.1 s.args x.0.0 x.1))
+
+abbrev sides : (Term ℕ → Term ℕ → Comparison ℕ) → Table → Term (List ℕ) → Term (List ℕ) → Option (Comparison ℕ × Table)
+sides make table s t = numbered_term table s >>= λ x. numbered_term x.1 t >>= λ y. Some (make x.0 y.0, y.1)
+
+sides_keep : (table new : Table) (s t : Term (List ℕ)) (make : Term ℕ → Term ℕ → Comparison ℕ) (c : Comparison ℕ) → sides make table s t ≡ Some (c, new) → take (length table) new ≡ table
+sides_keep table new s t make c h =
+    let x = bind_some (numbered_term table s) _ (c, new) h in
+    let y = bind_some (numbered_term x.0.1 t) _ (c, new) x.2 in
+    subst (λ (z : Comparison ℕ × Table). take (length table) z.1 ≡ table) (some_is {A = Comparison ℕ × Table} (make x.0.0 y.0.0, y.0.1) (c, new) y.2) (keeps-then table x.0.1 y.0.1 (term_numbered table x.0.1 s x.0.0 x.1).1 (term_numbered x.0.1 y.0.1 t y.0.0 y.1).1)
+
+test_keeps : (table new : Table) (t : Comparison (List ℕ)) (c : Comparison ℕ) → number_test table t ≡ Some (c, new) → take (length table) new ≡ table
+test_keeps table new (Compared r a b) c h = subst (λ (z : Comparison ℕ × Table). take (length table) z.1 ≡ table) (some_is {A = Comparison ℕ × Table} (Compared r a b, table) (c, new) h) (take-length table)
+test_keeps table new (Same s t) c h = sides_keep table new s t (λ x y. Same x y) c h
+test_keeps table new (Differ s t) c h = sides_keep table new s t (λ x y. Differ x y) c h
+
+abbrev ItemFits : BodyItem (List ℕ) → Type 0
+ItemFits (Is x e) = Unit {0}
+ItemFits (Add s) = TextFits s
+
+item_numbered : (table new : Table) (m : BodyItem (List ℕ)) (b : BodyItem ℕ) → number_member table m ≡ Some (b, new) → (ItemFits m → ItemHeld new b) × (take (length table) new ≡ table)
+item_numbered table new (Is x e) b h = subst (λ (z : BodyItem ℕ × Table). (Unit {0} → ItemHeld z.1 z.0) × (take (length table) z.1 ≡ table)) (some_is {A = BodyItem ℕ × Table} (Is x e, table) (b, new) h) (λ u. tt, take-length table)
+item_numbered table new (Add s) b h =
+    let x = bind_some (numbered_rule_atom table s) (λ x. Some (Add x.0, x.1)) (b, new) h in
+    subst (λ (z : BodyItem ℕ × Table). (TextFits s → ItemHeld z.1 z.0) × (take (length table) z.1 ≡ table)) (some_is {A = BodyItem ℕ × Table} (Add x.0.0, x.0.1) (b, new) x.2) (λ fits. atom_numbered table x.0.1 s x.0.0 fits x.1, atom_keeps table x.0.1 s x.0.0 x.1)
+
+items_numbered : (table new : Table) (ms : List (BodyItem (List ℕ))) (bs : List (BodyItem ℕ)) → AllByRecursion ItemFits ms → each number_member table ms ≡ Some (bs, new) → AllByRecursion (ItemHeld new) bs
+items_numbered table new [] bs all h = subst (λ (z : List (BodyItem ℕ) × Table). AllByRecursion (ItemHeld z.1) z.0) (some_is {A = List (BodyItem ℕ) × Table} ([], table) (bs, new) h) tt
+items_numbered table new (m ∷ ms) bs all h =
+    let x = bind_some (number_member table m) (λ x. each number_member x.1 ms >>= λ xs. Some (x.0 ∷ xs.0, xs.1)) (bs, new) h in
+    let y = bind_some (each number_member x.0.1 ms) (λ xs. Some (x.0.0 ∷ xs.0, xs.1)) (bs, new) x.2 in
+    let keeps = each_keeps number_member (λ t n a b e. (item_numbered t n a b e).1) x.0.1 y.0.1 ms y.0.0 y.1 in
+    let first = items_kept x.0.1 y.0.1 (x.0.0 ∷ []) keeps ((item_numbered table x.0.1 m x.0.0 x.1).0 all.0, tt) in
+    subst (λ (z : List (BodyItem ℕ) × Table). AllByRecursion (ItemHeld z.1) z.0) (some_is {A = List (BodyItem ℕ) × Table} (x.0.0 ∷ y.0.0, y.0.1) (bs, new) y.2) (first.0, items_numbered x.0.1 y.0.1 ms y.0.0 all.1 y.1)
+
+-- ---- a rule as it is written
+
+arguments_fit : (seen : Seen) (ws : List Word) → AllByRecursion WordFits ws → AllByRecursion ArgumentFits (in_turn argument seen ws).0 × (length (in_turn argument seen ws).0 ≡ length ws)
+arguments_fit seen [] all = (tt, refl)
+arguments_fit seen (Name t ∷ ws) all = let rest = arguments_fit seen ws all.1 in ((all.0, rest.0), ap suc rest.1)
+arguments_fit seen (Variable x ∷ ws) all = let rest = arguments_fit (argument seen (Variable x)).1 ws all.1 in ((tt, rest.0), ap suc rest.1)
+arguments_fit seen (Number negative ds ∷ ws) all = let rest = arguments_fit seen ws all.1 in ((spelled_fits negative ds all.0, rest.0), ap suc rest.1)
+
+free_written : (name : List ℕ) (ws : List Word) → IsUnreserved name ws → Free name ws
+free_written name [] h = h
+free_written name (w ∷ ws) h = tt
+
+atom_fits : (seen : Seen) (p : ParsedAtom) → ShapeFits p → IsParsedAtom p → TextFits (rule_atom seen p).0
+atom_fits seen p fits free =
+    let args = arguments_fit seen p.args fits.args in
+    record { name = fits.name; args = args.0; few = (let e = args.1 in let le = fits.few in omega (arith, e, le)); free = free_same p.name p.args (in_turn argument seen p.args).0 args.1 (free_written p.name p.args free) }
+
+items_fit : (seen : Seen) (ms : List parsed.BodyMember) → AllByRecursion MemberFits ms → AllByRecursion IsBodyMember ms → AllByRecursion ItemFits (somes (in_turn member seen ms).0)
+items_fit seen [] fits written = tt
+items_fit seen (parsed.Nothing ∷ ms) fits written = items_fit seen ms fits.1 written.1
+items_fit seen (parsed.Is x e ∷ ms) fits written = (tt, items_fit (member seen (parsed.Is x e)).1 ms fits.1 written.1)
+items_fit seen (parsed.Add p ∷ ms) fits written = (atom_fits seen p fits.0 written.0, items_fit (member seen (parsed.Add p)).1 ms fits.1 written.1)
+
+rule_numbered : (table new : Table) (r : Simpagation (List ℕ)) (n : Simpagation ℕ) → AllByRecursion ItemFits r.body → number_rule table r ≡ Some (n, new) → AllByRecursion (ItemHeld new) n.body × (take (length table) new ≡ table)
+rule_numbered table new r n all h =
+    let a = bind_some (each numbered_rule_atom table r.kept) _ (n, new) h in
+    let b = bind_some (each numbered_rule_atom a.0.1 r.removed) _ (n, new) a.2 in
+    let c = bind_some (each number_test b.0.1 r.guard) _ (n, new) b.2 in
+    let d = bind_some (each number_member c.0.1 r.body) _ (n, new) c.2 in
+    let ka = each_keeps numbered_rule_atom atom_keeps table a.0.1 r.kept a.0.0 a.1 in
+    let kb = each_keeps numbered_rule_atom atom_keeps a.0.1 b.0.1 r.removed b.0.0 b.1 in
+    let kc = each_keeps number_test test_keeps b.0.1 c.0.1 r.guard c.0.0 c.1 in
+    let kd = each_keeps number_member (λ t n a b e. (item_numbered t n a b e).1) c.0.1 d.0.1 r.body d.0.0 d.1 in
+    let held = items_numbered c.0.1 d.0.1 r.body d.0.0 all d.1 in
+    let keeps = keeps-then table c.0.1 d.0.1 (keeps-then table b.0.1 c.0.1 (keeps-then table a.0.1 b.0.1 ka kb) kc) kd in
+    subst (λ (z : Simpagation ℕ × Table). AllByRecursion (ItemHeld z.1) z.0.body × (take (length table) z.1 ≡ table)) (some_is {A = Simpagation ℕ × Table} _ (n, new) d.2) (held, keeps)
+
+-- ---- a program
+
+abbrev BodiesHeld : Table → List (Simpagation ℕ) → Type 0
+BodiesHeld table rules = AllByRecursion (λ r. AllByRecursion (ItemHeld table) r.body) rules
+
+bodies_kept : (old new : Table) (rules : List (Simpagation ℕ)) → take (length old) new ≡ old → BodiesHeld old rules → BodiesHeld new rules
+bodies_kept old new [] keeps all = tt
+bodies_kept old new (r ∷ rs) keeps all = (items_kept old new r.body keeps all.0, bodies_kept old new rs keeps all.1)
+
+all_append : {A : Type 0} (P : A → Type 0) (xs ys : List A) → AllByRecursion P xs → AllByRecursion P ys → AllByRecursion P (xs ++ ys)
+all_append P [] ys p q = q
+all_append P (x ∷ xs) ys p q = (p.0, all_append P xs ys p.1 q)
+
+statement_held : (before : Program) (e : Item) (after : Program) (a : AddsStatement before e after) (s : Statement) → a.statement ≡ s → Adds before s after → IsStatement s → BodiesHeld before.1 before.0 → BodiesHeld after.1 after.0
+statement_held before e after a parsed.Import is adds written all = subst (λ (p : Program). BodiesHeld p.1 p.0) (sym adds) all
+statement_held before e after a (parsed.Declaration ds) is adds written all = subst (λ (p : Program). BodiesHeld p.1 p.0) (sym adds.1) all
+statement_held before e after a (parsed.Rule r) is adds written all =
+    let plain = lexemes_plain e a.tokens (item_read e a.tokens a.item) in
+    let read = statement_read a.tokens a.statement a.says in
+    let names = rules_are_plain a.tokens r plain (read ∙ ap (λ (s : Statement). Ok s) is) in
+    let fits = rule_fits false r tt (standing.passes false r (refl, adds.stands)) names in
+    let new = rule_numbered before.1 adds.table (rule r) adds.new (items_fit (behind_guard r) r.body fits.body written.body) adds.numbered in
+    subst (λ (p : Program). BodiesHeld p.1 p.0) (sym adds.added) (all_append (λ r. AllByRecursion (ItemHeld adds.table) r.body) before.0 (adds.new ∷ []) (bodies_kept before.1 adds.table before.0 new.1 all) (new.0, tt))
+
+items_held : (x : Program) (es : List Item) (y : Program) → InOrder AddsStatement x es y → BodiesHeld x.1 x.0 → BodiesHeld y.1 y.0
+items_held _ _ _ (no_more x) all = all
+items_held _ _ _ (item x next y e es a more) all = items_held next es y more (statement_held x e next a a.statement refl a.adds a.says.0 all)
+
+-- ---- with values in place of the variables
+
+few_terms : (v : ℕ → Value ℕ) (table : Table) (as' : List (Term ℕ)) → length (map (renamed (text_of table)) (map (term_with v) as')) ≡ length as'
+few_terms v table [] = refl
+few_terms v table (a ∷ as') = ap suc (few_terms v table as')
+
+terms_held : (v : ℕ → Value ℕ) (table : Table) → ((x : ℕ) → CanHold table (v x)) → (as' : List (Term ℕ)) → AllByRecursion (ArgumentHeld table) as' → AllByRecursion FitsTerm (map (renamed (text_of table)) (map (term_with v) as'))
+terms_held v table values [] all = tt
+terms_held v table values (Var x ∷ as') all = (values x, terms_held v table values as' all.1)
+terms_held v table values (Given t ∷ as') all = (all.0, terms_held v table values as' all.1)
+
+no_control : (v : ℕ → Value ℕ) (table : Table) (t : List ℕ) (as' : List (Term ℕ)) → Free t as' → is_control t (map (renamed (text_of table)) (map (term_with v) as')) ≡ false
+no_control v table t [] h = h
+no_control v table t (a ∷ as') h = refl
+
+item_writable : (table : Table) (m : BodyItem ℕ) → ItemHeld table m → AddsWritable table m
+item_writable table (Is x e) held = tt
+item_writable table (Add s) held = λ v values. record {
+  name = held.name;
+  args = terms_held v table values s.args held.args;
+  few = (let e = few_terms v table s.args in let le = held.few in omega (arith, e, le));
+  plain = no_control v table (text_of table s.name) s.args held.free;
+}
+
+items_writable : (table : Table) (ms : List (BodyItem ℕ)) → AllByRecursion (ItemHeld table) ms → AllByRecursion (AddsWritable table) ms
+items_writable table [] all = tt
+items_writable table (m ∷ ms) all = (item_writable table m all.0, items_writable table ms all.1)
+
+rules_writable : (table : Table) (rules : List (Simpagation ℕ)) → BodiesHeld table rules → HasWritable table rules
+rules_writable table [] all = tt
+rules_writable table (r ∷ rs) all = (items_writable table r.body all.0, rules_writable table rs all.1)
+
+pub program_writable : (table : Table) (bytes : List ℕ) (p : Program) → program_of table bytes ≡ Ok p → HasWritable p.1 p.0
+program_writable table bytes p h = let is = is_program table bytes p h in rules_writable p.1 p.0 (items_held ([], table) is.entries p is.in_order tt)

@@ -1,0 +1,114 @@
+-- The atoms of posts are atoms that a log can hold.
+use Rattle.std.proofs.Common.{◌≡◌, ◌≤◌, ◌^◌, ℕ, zero, suc, ℤ, pos, Bool, true, false, cond, ltb, leb, List, [], ◌∷◌, ◌++◌, length, take, map, Option, Some, None, Ok, is_none, refl, sym, ap, subst, arith, lit<}
+use Rattle.std.specs.List.{AllByRecursion}
+use Rattle.std.proofs.lemmas.Bool.{ltb-true}
+use Rattle.std.proofs.Math.Seq.{take-length}
+use Rattle.chr_lex.specs.Items.{Item}
+use Rattle.chr_lex.specs.Tokens.{Word, Name, Variable, Number}
+use Rattle.chr_value.specs.Atoms.{Int, Atom, by_texts}
+use Rattle.chr_value.specs.Naming.{◌>>=◌, Table, numbered_atom}
+use Rattle.chr_value.specs.Spelling.{is_control, FitsTerm, FitsAtom}
+use Rattle.chr_value.proofs.Chosen.{bind_some, some_is}
+use Rattle.chr_value.proofs.NameLaws.{keeps-then}
+use Rattle.chr_value.proofs.Said.{fact_says}
+use Rattle.chr_value.proofs.Inside.{atom_inside, atom_kept}
+use Rattle.chr_grammar.specs.Parsed.{ParsedAtom}
+use Rattle.chr_grammar.specs.Spelling.{IsUnreserved, IsParsedAtom}
+use Rattle.chr_grammar.proofs.Phrases.{phrases_read}
+use Rattle.chr_limits.specs.Numbers.{decimal_from, minus, whole_number}
+use Rattle.chr_limits.proofs.Standing as standing
+use Rattle.chr_text.specs.Fitting.{TermFits, PostFits}
+use Rattle.chr_text.specs.Translation.{spelled, term, atom_by_texts}
+use Rattle.chr_text.specs.Numbering.{each}
+use Rattle.chr_text.specs.Reading.{Posts, posts_of}
+use Rattle.chr_text.specs.Forms.{InOrder, no_more, item, AddsAtoms}
+use Rattle.chr_text.specs.Writable.{AreWritable}
+use Rattle.chr_text.proofs.Judged.{posts_fit}
+use Rattle.chr_text.proofs.Plain.{lexemes_plain}
+use Rattle.chr_text.proofs.Spoken.{phrases_are_plain}
+use Rattle.chr_text.proofs.Texts.{item_read}
+use Rattle.chr_text.proofs.PostTexts.{are_posts}
+
+-- ---- an atom as it is written
+
+minus_fits : (n : ℕ) → n ≤ 2 ^ 63 → FitsTerm (Int (minus n))
+minus_fits zero le = lit< tt
+minus_fits (suc n) le = omega (arith, le)
+
+plain_case : (n : ℕ) (b : Bool) → ltb n (2 ^ 63) ≡ b → is_none (let o : Option ℤ = cond b (Some (pos n)) None in o) ≡ false → FitsTerm (Int (pos n))
+plain_case n true is h = ltb-true _ _ is
+plain_case n false is h = absurd cc
+
+minus_case : (n : ℕ) (b : Bool) → leb n (2 ^ 63) ≡ b → is_none (let o : Option ℤ = cond b (Some (minus n)) None in o) ≡ false → FitsTerm (Int (minus n))
+minus_case n true is h = minus_fits n (grind arith)
+minus_case n false is h = absurd cc
+
+pub spelled_fits : (negative : Bool) (ds : List ℕ) → is_none (whole_number negative ds) ≡ false → FitsTerm (Int (spelled negative ds))
+spelled_fits false ds h = plain_case (decimal_from 0 ds) (ltb (decimal_from 0 ds) (2 ^ 63)) refl h
+spelled_fits true ds h = minus_case (decimal_from 0 ds) (leb (decimal_from 0 ds) (2 ^ 63)) refl h
+
+term_fits : (w : Word) → TermFits w → FitsTerm (term w)
+term_fits (Name t) fits = fits
+term_fits (Variable x) fits = absurd fits
+term_fits (Number negative ds) fits = spelled_fits negative ds fits
+
+terms_fit : (ws : List Word) → AllByRecursion TermFits ws → AllByRecursion FitsTerm (map term ws)
+terms_fit [] all = tt
+terms_fit (w ∷ ws) all = (term_fits w all.0, terms_fit ws all.1)
+
+no_control : (name : List ℕ) (ws : List Word) → IsUnreserved name ws → is_control name (map term ws) ≡ false
+no_control name [] h = h
+no_control name (w ∷ ws) h = refl
+
+few_terms : (ws : List Word) → length (map term ws) ≡ length ws
+few_terms [] = refl
+few_terms (w ∷ ws) = ap suc (few_terms ws)
+
+post_fits : (p : ParsedAtom) → PostFits p → IsParsedAtom p → FitsAtom (atom_by_texts p)
+post_fits p fits free = record { name = fits.name; args = terms_fit p.args fits.args; few = (let e = few_terms p.args in let le = fits.few in omega (arith, e, le)); plain = no_control p.name p.args free }
+
+posts_all_fit : (ps : List ParsedAtom) → AllByRecursion PostFits ps → AllByRecursion IsParsedAtom ps → AllByRecursion FitsAtom (map atom_by_texts ps)
+posts_all_fit [] all free = tt
+posts_all_fit (p ∷ ps) all free = (post_fits p all.0 free.0, posts_all_fit ps all.1 free.1)
+
+-- ---- atoms by numbers
+
+-- what a table can write, each table that begins with it can
+still_writable : (old new : Table) (as' : List (Atom ℕ)) → take (length old) new ≡ old → AreWritable old as' → AreWritable new as'
+still_writable old new [] keeps all = tt
+still_writable old new (a ∷ as') keeps all = (subst FitsAtom (sym (atom_kept old new a keeps (atom_inside old a all.0))) all.0, still_writable old new as' keeps all.1)
+
+numbered_writable : (table new : Table) (as' : List (Atom (List ℕ))) (bs : List (Atom ℕ)) → AllByRecursion FitsAtom as' → each numbered_atom table as' ≡ Some (bs, new) → AreWritable new bs × (take (length table) new ≡ table)
+numbered_writable table new [] bs all h =
+    let e = some_is {A = List (Atom ℕ) × Table} ([], table) (bs, new) h in
+    subst (λ (x : List (Atom ℕ) × Table). AreWritable x.1 x.0 × (take (length table) x.1 ≡ table)) e (tt, take-length table)
+numbered_writable table new (a ∷ as') bs all h =
+    let x = bind_some (numbered_atom table a) (λ x. each numbered_atom x.1 as' >>= λ xs. Some (x.0 ∷ xs.0, xs.1)) (bs, new) h in
+    let y = bind_some (each numbered_atom x.0.1 as') (λ xs. Some (x.0.0 ∷ xs.0, xs.1)) (bs, new) x.2 in
+    let says = fact_says table a x.0.0 x.0.1 x.1 in
+    let rest = numbered_writable x.0.1 y.0.1 as' y.0.0 all.1 y.1 in
+    let one : FitsAtom (by_texts x.0.1 x.0.0) = subst FitsAtom (sym says.0) all.0 in
+    let first = still_writable x.0.1 y.0.1 (x.0.0 ∷ []) rest.1 (one, tt) in
+    subst (λ (z : List (Atom ℕ) × Table). AreWritable z.1 z.0 × (take (length table) z.1 ≡ table)) (some_is {A = List (Atom ℕ) × Table} (x.0.0 ∷ y.0.0, y.0.1) (bs, new) y.2)
+    ((first.0, rest.0), keeps-then table x.0.1 y.0.1 says.1 rest.1)
+
+all_append : {A : Type 0} (P : A → Type 0) (xs ys : List A) → AllByRecursion P xs → AllByRecursion P ys → AllByRecursion P (xs ++ ys)
+all_append P [] ys p q = q
+all_append P (x ∷ xs) ys p q = (p.0, all_append P xs ys p.1 q)
+
+-- ---- a text of posts
+
+item_writable : (before : Posts) (e : Item) (after : Posts) → AddsAtoms before e after → AreWritable before.1 before.0 → AreWritable after.1 after.0
+item_writable before e after adds all =
+    let plain = lexemes_plain e adds.tokens (item_read e adds.tokens adds.item) in
+    let names = phrases_are_plain adds.tokens adds.atoms plain (phrases_read adds.tokens adds.atoms adds.are) in
+    let fit = posts_fit adds.atoms tt (standing.posts adds.atoms adds.may) names in
+    let new = numbered_writable before.1 adds.table (map atom_by_texts adds.atoms) adds.new (posts_all_fit adds.atoms fit adds.are.each) adds.numbered in
+    subst (λ (p : Posts). AreWritable p.1 p.0) (sym adds.added) (all_append (λ a. FitsAtom (by_texts adds.table a)) before.0 adds.new (still_writable before.1 adds.table before.0 new.1 all) new.0)
+
+items_writable : (x : Posts) (es : List Item) (y : Posts) → InOrder AddsAtoms x es y → AreWritable x.1 x.0 → AreWritable y.1 y.0
+items_writable _ _ _ (no_more x) all = all
+items_writable _ _ _ (item x next y e es adds more) all = items_writable next es y more (item_writable x e next adds all)
+
+pub posts_writable : (table : Table) (bytes : List ℕ) (p : Posts) → posts_of table bytes ≡ Ok p → AreWritable p.1 p.0
+posts_writable table bytes p h = let are = are_posts table bytes p h in items_writable ([], table) are.entries p are.in_order tt

@@ -1,3 +1,0 @@
-pub mod Texts
-pub mod Programs
-pub mod Posts

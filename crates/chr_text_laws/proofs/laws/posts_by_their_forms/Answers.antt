@@ -1,5 +1,0 @@
-use Rattle.chr_text_laws.proofs.Posts.{are_posts, posts_read, same_posts, no_posts}
-use Rattle.chr_text_laws.proofs.laws.posts_by_their_forms.Goals as goal
-
-pub returns : goal.returns
-returns c = record { found = are_posts; only = posts_read; one = same_posts; refused = no_posts }
