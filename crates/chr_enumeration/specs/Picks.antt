@@ -74,6 +74,6 @@ pub record IsMatch (rule : Simpagation ℕ) (store : Store) (Such : Store → Ty
   pub kept : m.kept.items ≡ take (length rule.kept) (labels entries)
   pub removed : m.removed.items ≡ drop (length rule.kept) (labels entries)
 
--- no such entries are one
+-- no such entries are an instance of the rule
 abbrev pub NoMatch : Simpagation ℕ → Store → (Store → Type 0) → Type 0
 NoMatch rule store Such = (entries : Store) (body : List (Atom ℕ)) → IsInstanceOver rule store entries body → Such entries → ⊥

@@ -2,13 +2,14 @@
 use Rattle.std.proofs.Common.{◌≡◌, ◌≢◌, ℕ, suc, ◌<◌, ◌≤◌, true, false, ◌==◌, List, [], ◌∷◌, ◌++◌, map, Some, sym, ◌∙◌, ap, ap₂, subst, subst₂, refl, arith, true-eqb}
 use Rattle.std.specs.List.{AllByRecursion, list_all}
 use Rattle.std.specs.Option.{option_map}
+use Rattle.std.proofs.lemmas.Bool.{and_parts}
 use Rattle.std.proofs.lemmas.Bool.Decides.{nat_tests}
 use Rattle.chr_value.specs.Atoms.{Value, Int, Atom}
 use Rattle.chr_rule.specs.Rules.{Term, Var, Given, RuleAtom, Expression, Number, Variable, Operation, Comparison, Compared, Same, Differ, BodyItem, Is, Add, Simpagation}
 use Rattle.chr_rule.specs.Scope.{known_behind_args, known_behind_heads, known_behind_body, argument_known, expression_known, test_known, IsRule}
 use Rattle.chr_guard.specs.Values.{Valuation, value_of, number_in, computed, compares, both, term_under, WhereBoth, Holds}
 use Rattle.chr_guard.specs.Instances.{values_under, atom_under, AreUnder, IsRight, added, Instance}
-use Rattle.chr_guard.proofs.Scoped.{both_true, var_known, head_known, is_known, add_known, scoped, body_below, args_later}
+use Rattle.chr_guard.proofs.Scoped.{var_known, head_known, is_known, add_known, scoped, body_below, args_later}
 use Rattle.chr_guard.proofs.Under.{atom_is, under_append, somes}
 
 -- two valuations that give the first n variables the same terms
@@ -56,7 +57,7 @@ pub value_agrees : (v w : Valuation) (n : ℕ) (e : Expression) → Agree v w n 
 value_agrees v w n (Number z) a k = refl
 value_agrees v w n (Variable x) a k = ap number_in (a x (lt_from x n k))
 value_agrees v w n (Operation o l r) a k =
-    let two = both_true (expression_known n l) (expression_known n r) k in
+    let two = and_parts (expression_known n l) (expression_known n r) k in
     ap₂ (both (computed o)) (value_agrees v w n l a two.0) (value_agrees v w n r a two.1)
 
 pub term_agrees : (v w : Valuation) (n : ℕ) (t : Term ℕ) → Agree v w n → argument_known n t ≡ true → term_under v t ≡ term_under w t
@@ -66,24 +67,24 @@ term_agrees v w n (Given t) a k = refl
 pub args_known_agree : (v w : Valuation) (n : ℕ) (args : List (Term ℕ)) → Agree v w n → list_all (argument_known n) args ≡ true → values_under v args ≡ values_under w args
 args_known_agree v w n [] a k = refl
 args_known_agree v w n (t ∷ args) a k =
-    let two = both_true (argument_known n t) (list_all (argument_known n) args) k in
+    let two = and_parts (argument_known n t) (list_all (argument_known n) args) k in
     ap₂ (both (λ x xs. Some (x ∷ xs))) (term_agrees v w n t a two.0) (args_known_agree v w n args a two.1)
 
 test_agrees : (v w : Valuation) (n : ℕ) (t : Comparison ℕ) → Agree v w n → test_known n t ≡ true → Holds v t → Holds w t
 test_agrees v w n (Compared r l m) a k h =
-    let two = both_true (expression_known n l) (expression_known n m) k in
+    let two = and_parts (expression_known n l) (expression_known n m) k in
     sym (ap₂ (both (λ i j. Some (compares r i j))) (value_agrees v w n l a two.0) (value_agrees v w n m a two.1)) ∙ h
 test_agrees v w n (Same s t) a k h =
-    let two = both_true (argument_known n s) (argument_known n t) k in
+    let two = and_parts (argument_known n s) (argument_known n t) k in
     subst₂ (WhereBoth (λ x y. x ≡ y)) (term_agrees v w n s a two.0) (term_agrees v w n t a two.1) h
 test_agrees v w n (Differ s t) a k h =
-    let two = both_true (argument_known n s) (argument_known n t) k in
+    let two = and_parts (argument_known n s) (argument_known n t) k in
     subst₂ (WhereBoth (λ x y. x ≢ y)) (term_agrees v w n s a two.0) (term_agrees v w n t a two.1) h
 
 pub guard_agrees : (v w : Valuation) (n : ℕ) (ts : List (Comparison ℕ)) → Agree v w n → list_all (test_known n) ts ≡ true → AllByRecursion (Holds v) ts → AllByRecursion (Holds w) ts
 guard_agrees v w n [] a k h = tt
 guard_agrees v w n (t ∷ ts) a k h =
-    let two = both_true (test_known n t) (list_all (test_known n) ts) k in
+    let two = and_parts (test_known n t) (list_all (test_known n) ts) k in
     (test_agrees v w n t a two.0 h.0, guard_agrees v w n ts a two.1 h.1)
 
 -- valuations under which each `is` is right agree on the body's variables

@@ -4,6 +4,7 @@ use Rattle.std.specs.List.{AllByRecursion, list_all}
 use Rattle.std.specs.Prelude.{slice_get}
 use Rattle.std.specs.Option.{option_map}
 use Rattle.std.proofs.lemmas.List.{length-replicate, length-append, map-append, length-map, take_at, drop_at}
+use Rattle.std.proofs.lemmas.Simd.{map-map}
 use Rattle.chr_value.specs.Atoms.{Value, Atom}
 use Rattle.chr_rule.specs.Rules.{RuleAtom, Simpagation, head_at}
 use Rattle.chr_rule.specs.Scope.{argument_known, IsRule}
@@ -14,7 +15,7 @@ use Rattle.chr_guard.specs.Matching.{IsAtHead, AreAtHeads, HeadsAre, IsFit, IsOf
 use Rattle.chr_guard.proofs.Scoped.{some_same, scoped, IsPlaced, heads_below, body_below, args_later}
 use Rattle.chr_guard.proofs.Under.{atom_is, heads_bound}
 use Rattle.chr_guard.proofs.Bindings.{narrows_both, narrows_as, none_after, narrows_nothing, free_extends, extends_itself}
-use Rattle.chr_guard.proofs.Steps.{all_more, all_at}
+use Rattle.chr_guard.proofs.Steps.{all_more, all_at, halves}
 
 pub told_as : (P Q : Valuation → Type 0) (told : Bool) (old new : List (Option (Value ℕ))) → ((v : Valuation) → P v ↔ Q v) → NarrowsIf P told old new → NarrowsIf Q told old new
 told_as P Q true old new e n = narrows_as P Q old new e n
@@ -126,6 +127,14 @@ pub record InParts (rule : Simpagation ℕ) (facts : List (Atom ℕ)) (kept remo
   pub removed_are : removed ≡ rule.removed
   pub both : map (λ a. Some a) facts ≡ first ++ rest
   pub front : length first ≡ length kept
+
+pub in_parts : {X : Type 0} (f : X → Atom ℕ) (rule : Simpagation ℕ) (atoms first rest : List X) (kept removed : List (RuleAtom ℕ)) (n : ℕ) → kept ≡ rule.kept → removed ≡ rule.removed → n ≡ length kept → first ≡ take n atoms → rest ≡ drop n atoms → length first ≡ n → InParts rule (map f atoms) kept removed (map (λ a. Some (f a)) first) (map (λ a. Some (f a)) rest)
+in_parts f rule atoms first rest kept removed n k r is front back len = record {
+  kept_are = k;
+  removed_are = r;
+  both = map-map (λ x. Some x) f atoms ∙ halves (λ a. Some (f a)) atoms first rest n front back;
+  front = length-map first (λ a. Some (f a)) ∙ len ∙ is;
+}
 
 pub fit_both : (rule : Simpagation ℕ) (facts : List (Atom ℕ)) (first rest : List (Option (Atom ℕ))) (kept removed : List (RuleAtom ℕ)) (start mid new : List (Option (Value ℕ))) → InParts rule facts kept removed first rest → start ≡ replicate rule.variables None
     → Narrows (λ v. map (atom_under v) kept ≡ first) start mid → Narrows (λ v. map (atom_under v) removed ≡ rest) mid new → IsFit rule (HeadsAre rule facts) new

@@ -1,16 +1,13 @@
 -- What the scoping of a rule says of its parts.
 use Rattle.std.proofs.Common.{◌≡◌, ℕ, suc, ◌<◌, ◌≤◌, Bool, true, false, ◌&&◌, ◌==◌, nat_lt, if◌then◌else◌, List, [], ◌∷◌, ◌++◌, Option, Some, None, refl, sym, arith, true-eqb}
 use Rattle.std.specs.List.{AllByRecursion, list_all}
+use Rattle.std.proofs.lemmas.Bool.{and_parts}
 use Rattle.std.proofs.lemmas.Bool.Decides.{nat_tests}
 use Rattle.chr_rule.specs.Rules.{Term, Var, Given, RuleAtom, Expression, BodyItem, Is, Add, Simpagation}
 use Rattle.chr_rule.specs.Scope.{known_behind_args, known_behind_heads, known_behind_body, known_then, argument_known, expression_known, test_known, IsRule}
 
 pub some_same : {A : Type 0} (x y : A) → Some x ≡ Some y → x ≡ y
 some_same x y e = cc
-
-pub both_true : (a b : Bool) → a && b ≡ true → (a ≡ true) × (b ≡ true)
-both_true true b e = (refl, e)
-both_true false b e = absurd (cc)
 
 pub all_true : (a b : Bool) → a ≡ true → b ≡ true → a && b ≡ true
 all_true a b e f = cc
@@ -36,7 +33,7 @@ head_known n m h hs k f = then_known (known_behind_args n h.args) (λ z. known_b
 
 pub is_known : {P : Type 0} (n m x : ℕ) (e : Expression) (ms : List (BodyItem ℕ)) → known_behind_body n (Is x e ∷ ms) ≡ Some m → (x ≡ n → expression_known n e ≡ true → known_behind_body (suc n) ms ≡ Some m → P) → P
 is_known n m x e ms k f =
-    if_known ((x == n) && expression_known n e) (known_behind_body (suc n) ms) m k (λ t j. let two = both_true (x == n) (expression_known n e) t in f (true-eqb x n (sym two.0)) two.1 j)
+    if_known ((x == n) && expression_known n e) (known_behind_body (suc n) ms) m k (λ t j. let two = and_parts (x == n) (expression_known n e) t in f (true-eqb x n (sym two.0)) two.1 j)
 
 pub add_known : {P : Type 0} (n m : ℕ) (s : RuleAtom ℕ) (ms : List (BodyItem ℕ)) → known_behind_body n (Add s ∷ ms) ≡ Some m → (list_all (argument_known n) s.args ≡ true → known_behind_body n ms ≡ Some m → P) → P
 add_known n m s ms k f = if_known (list_all (argument_known n) s.args) (known_behind_body n ms) m k f
@@ -61,7 +58,7 @@ argument_later n m (Given t) h k = refl
 pub args_later : (n m : ℕ) (args : List (Term ℕ)) → n ≤ m → list_all (argument_known n) args ≡ true → list_all (argument_known m) args ≡ true
 args_later n m [] h k = refl
 args_later n m (a ∷ args) h k =
-    let two = both_true (argument_known n a) (list_all (argument_known n) args) k in
+    let two = and_parts (argument_known n a) (list_all (argument_known n) args) k in
     all_true (argument_known m a) (list_all (argument_known m) args) (argument_later n m a h two.0) (args_later n m args h two.1)
 
 -- the arguments of a head are known behind it

@@ -2,10 +2,11 @@
 use Rattle.std.proofs.Common.{◌≡◌, ◌≢◌, ◌↔◌, ℕ, ◌+◌, ◌<◌, ◌≤◌, Bool, true, false, IsTrue, List, [], ◌∷◌, ◌++◌, length, take, drop, map, get_or, Option, zero, suc, refl, sym, subst, ap, ap₂, ◌∙◌, arith}
 use Rattle.std.specs.List.{AllByRecursion, list_all}
 use Rattle.std.proofs.lemmas.List.{take-append-drop, map-append, take_more, take_all, drop_more, drop_all, map_push, same_from_push, get_or-map, get_or_default, take-map, length-map}
+use Rattle.std.proofs.lemmas.Bool.{and_parts}
 use Rattle.chr_value.specs.Atoms.{Value}
 use Rattle.chr_guard.specs.Values.{Valuation}
 use Rattle.chr_guard.specs.Bindings.{Narrows, NoneUnder}
-use Rattle.chr_guard.proofs.Scoped.{both_true}
+
 use Rattle.chr_guard.proofs.Bindings.{narrows_both, narrows_as, none_after}
 
 pub all_push : {X : Type 0} (P : X → Type 0) (xs : List X) (x : X) → AllByRecursion P (xs ++ x ∷ []) ↔ (AllByRecursion P xs × P x)
@@ -35,8 +36,8 @@ all_at P xs i x h e a = (front P xs i a, there P xs i x h a e)
 
 pub list_all_at : {X : Type 0} (p : X → Bool) (xs : List X) (i : ℕ) (d : X) → i < length xs → list_all p xs ≡ true → p (get_or xs i d) ≡ true
 list_all_at p [] i d h a = absurd (omega arith)
-list_all_at p (x ∷ xs) zero d h a = (both_true (p x) (list_all p xs) a).0
-list_all_at p (x ∷ xs) (suc i) d h a = list_all_at p xs i d (omega arith) (both_true (p x) (list_all p xs) a).1
+list_all_at p (x ∷ xs) zero d h a = (and_parts (p x) (list_all p xs) a).0
+list_all_at p (x ∷ xs) (suc i) d h a = list_all_at p xs i d (omega arith) (and_parts (p x) (list_all p xs) a).1
 
 -- told of what is left of a list
 pub left_more : {X Y : Type 0} (P : Y → Type 0) (f : X → Y) (Q : Type 0) (xs : List X) (i : ℕ) (x : X) → i < length xs → x ≡ get_or xs i x → P (f x) → AllByRecursion P (map f (drop i xs)) ↔ Q → AllByRecursion P (map f (drop (i + 1) xs)) ↔ Q

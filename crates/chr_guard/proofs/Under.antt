@@ -2,6 +2,7 @@
 use Rattle.std.proofs.Common.{◌≡◌, ◌↔◌, ℕ, ◌+◌, ◌<◌, ◌≤◌, suc, true, List, [], ◌∷◌, ◌++◌, length, take, drop, map, get_or, Option, Some, None, IsSome, ℤ, ◌==◌, false, true-eqb, subst, refl, sym, ap, ap₂, ◌∙◌, arith}
 use Rattle.std.specs.List.{list_all}
 use Rattle.std.specs.Option.{option_map}
+use Rattle.std.proofs.lemmas.Bool.{and_parts}
 use Rattle.std.proofs.lemmas.Bool.Decides.{nat_tests}
 use Rattle.std.proofs.lemmas.List.{map-append, map_more, drop_more, take-append-drop, length-map}
 use Rattle.chr_value.specs.Atoms.{Value, Int, Sym, Atom}
@@ -9,7 +10,7 @@ use Rattle.chr_rule.specs.Rules.{Term, Var, Given, RuleAtom, Expression, Number,
 use Rattle.chr_rule.specs.Scope.{known_behind_args, known_behind_heads, known_behind_body, argument_known}
 use Rattle.chr_guard.specs.Values.{Valuation, value_of, number_in, computed, both, term_under}
 use Rattle.chr_guard.specs.Instances.{values_under, atom_under, AreUnder, added}
-use Rattle.chr_guard.proofs.Scoped.{both_true, some_same, var_known, head_known, is_known, add_known, body_below, args_later}
+use Rattle.chr_guard.proofs.Scoped.{some_same, var_known, head_known, is_known, add_known, body_below, args_later}
 
 -- lists of values are equal where they are equal as answers
 pub somes : {A : Type 0} (xs ys : List A) → map (λ x. Some x) xs ≡ map (λ x. Some x) ys → xs ≡ ys
@@ -149,7 +150,7 @@ heads_bound v n m (s ∷ hs) (a ∷ atoms) k e b x h =
 args_made : (v : Valuation) (n : ℕ) (args : List (Term ℕ)) → list_all (argument_known n) args ≡ true → ((x : ℕ) → x < n → IsSome (v x)) → (vs : List (Value ℕ)) × (values_under v args ≡ Some vs)
 args_made v n [] k b = ([], refl)
 args_made v n (t ∷ args) k b =
-    let two = both_true (argument_known n t) (list_all (argument_known n) args) k in
+    let two = and_parts (argument_known n t) (list_all (argument_known n) args) k in
     let one = term_made t two.0 in
     let rest = args_made v n args two.1 b in
     (one.0 ∷ rest.0, ap₂ (both (λ x xs. Some (x ∷ xs))) one.1 rest.1)

@@ -26,7 +26,7 @@ pub record IsFit (rule : Simpagation ℕ) (P : Valuation → Type 0) (binding : 
   pub places : length binding ≡ rule.variables
   pub exactly : (v : Valuation) → Extends v binding ↔ P v
 
--- the variable stands in a head
+-- the variable occurs in a head
 abbrev pub IsOfHeads : Simpagation ℕ → ℕ → Type 0
 IsOfHeads rule x = (n : ℕ) × (known_behind_heads 0 (rule.kept ++ rule.removed) ≡ Some n) × (x < n)
 

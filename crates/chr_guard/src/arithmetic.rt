@@ -35,7 +35,7 @@ pub fn compute(operator: Operator, a: i64, b: i64) -> Option<i64>
     }
 }
 
-/// Whether two numbers stand so.
+/// Whether the relation holds between two numbers.
 pub fn compare(relation: Relation, a: i64, b: i64) -> bool
     ensures { result ≡ compares relation a b }
 {

@@ -110,7 +110,7 @@ token_log_two =
     Post 1 (of 1 1) ∷ Post 2 token ∷ Activate 1 1 ∷ Activate 2 2 ∷ Drop 1 ∷ Fire 2 1 (2 ∷ []) (1 ∷ []) ∷ Drop 2 ∷ Activate 3 3
     ∷ Drop 3 ∷ []
 
--- the same with its drops behind the other events
+-- the same with its drops after the other events
 abbrev pub token_log_strict : List (Event ℕ)
 token_log_strict =
     Post 1 (of 1 1) ∷ Post 2 token ∷ Activate 1 1 ∷ Activate 2 2 ∷ Fire 2 1 (2 ∷ []) (1 ∷ []) ∷ Activate 3 3 ∷ Drop 1 ∷ Drop 2

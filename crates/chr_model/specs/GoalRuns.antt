@@ -18,7 +18,7 @@ pub record SameGoals (a b : State) : Type 0 where
   pub store : a.store ≡ b.store
   pub next : a.next ≡ b.next
 
--- A goal-based run (in the manner of Lam and Sulzmann): steps, one after another. Behind each the goals may take other
+-- A goal-based run (in the manner of Lam and Sulzmann): steps, one after another. After each the goals may take other
 -- tickets.
 abbrev pub GoalRun : Version → Rules → State → List (Event ℕ) → State → Type 0
 GoalRun v I s [] n = SameGoals s n

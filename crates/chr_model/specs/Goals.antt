@@ -11,7 +11,7 @@ pub data Goal : Type 0 where
   Numbered : ℕ → Goal
   Ended : Goal
 
--- A goal state. The goal of ticket t is at place t; at place 0 stands one that has ended.
+-- A goal state. The goal of ticket t is at place t; at place 0 is one that has ended.
 pub record State : Type 0 where
   pub goals : List Goal
   pub store : Store

@@ -15,7 +15,7 @@ abbrev pub among : List ℕ → ℕ → Bool
 among [] l = false
 among (x ∷ xs) l = x == l || among xs l
 
--- no label stands twice
+-- no label occurs twice
 abbrev pub Distinct : List ℕ → Type 0
 Distinct [] = Unit {0}
 Distinct (x ∷ xs) = (among xs x ≡ false) × Distinct xs

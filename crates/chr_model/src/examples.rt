@@ -5,7 +5,7 @@ ghost use Rattle.chr_log.specs.declared.events.Version.TheVariants.{One, Two};
 ghost use Rattle.chr_model.specs.Examples.{EndsIn, EndsQuietIn, IsUnlawful, of, gcd, gcd_rules, gcd_log, gcd_log_early_drop, pair_rules, pair_log, pair_log_one_label, min_rules, min_log, token, token_rules, token_log, token_log_two, token_log_strict};
 
 /// Worked logs are lawful and end with these stores. Three other logs are not lawful: a goal is dropped that still has an
-/// instance, one label stands at two heads, and a drop of version two is judged by version one.
+/// instance, one label is for two heads, and a drop of version two is judged by version one.
 pub fn worked_examples()
     ensures gcd { EndsQuietIn One gcd_rules gcd_log ((3, gcd 3) ∷ []) }
     ensures pair { EndsQuietIn One pair_rules pair_log ((3, of 1 1) ∷ []) }

@@ -26,7 +26,7 @@
 //! | [`given_in_order`](laws::given_in_order) | the labels given are 1, 2, .. in order |
 //! | [`labels_stand_once`](laws::labels_stand_once) | the store has each label once, and only labels that were given |
 //! | [`last_is_fixed`](laws::last_is_fixed) | a lawful log has one last state |
-//! | [`one_event_more`](laws::one_event_more) | a lawful log and a step behind it are a lawful log |
+//! | [`one_event_more`](laws::one_event_more) | a lawful log and a step after it are a lawful log |
 //! | [`posts_may_stand_first`](laws::posts_may_stand_first) | the same with all posted atoms as plain goals from the start |
 //! | [`log_is_a_goal_run`](laws::log_is_a_goal_run) | a lawful log is a goal-based run from all that it posts |
 //! | [`step_beside`](laws::step_beside) | a step beside further atoms |
@@ -35,7 +35,7 @@
 //! | [`older_instances_stood_before`](laws::older_instances_stood_before) | a run adds and revives no instance of labels given before |
 //! | [`search_allows_a_drop`](laws::search_allows_a_drop) | what a search must have found none of, for version one |
 //! | [`older_search_allows_a_drop`](laws::older_search_allows_a_drop) | and for version two |
-//! | [`strict_is_lawful`](laws::strict_is_lawful) | drops behind the other events are drops of version one, if all is quiet |
+//! | [`strict_is_lawful`](laws::strict_is_lawful) | drops after the other events are drops of version one, if all is quiet |
 //! | [`accounts_add_up`](laws::accounts_add_up) | what a seat has made in two parts of a log |
 //! | [`worked_examples`](examples::worked_examples) | worked logs are lawful, and changed ones aren't |
 //!

@@ -1,41 +1,26 @@
--- Heads by their numbers, and what a slice has at an index.
+-- What a slice has at an index, and plans by their numbers.
 use Rattle.std.proofs.Common.{◌≡◌, ℕ, zero, suc, ◌+◌, ◌-◌, ◌<◌, ◌≤◌, Bool, true, false, not, cond, replicate, ltb, List, [], ◌∷◌, ◌++◌, map, length, Option, Some, None, is_some, position, Bor, slice_index_or, slice_get, IfSome, refl, sym, ap, ◌∙◌, arith, ◌⊎◌, inl, inr}
 use Rattle.std.specs.List.{prefix_len}
 use Rattle.std.specs.Option.{option_map}
-use Rattle.std.proofs.lemmas.Bool.Decides.{nat_tests}
+use Rattle.std.proofs.lemmas.Bool.{ltb-true, ltb-false}
 use Rattle.chr_rule.specs.Rules.{RuleAtom}
 use Rattle.chr_rule.specs.Parts.{argument, shape}
 use Rattle.chr_rule.specs.declared.rule_atom.RuleAtom.{RuleAtom as CodeRuleAtom}
-use Rattle.chr_plan.specs.Orders.{head_at, is_known, key_in}
+use Rattle.chr_plan.specs.Orders.{is_known, key_in}
 use Rattle.chr_plan.specs.Plans.{PlanList, order_in, plan_at}
 use Rattle.chr_plan.specs.declared.order.Step.{Step}
-use Rattle.std.proofs.lemmas.Option.{slice_get-map, slice_get_past}
+use Rattle.std.proofs.lemmas.Option.{slice_get-map, slice_get_past, slice_get_read}
 use Rattle.std.proofs.lemmas.List.{length-map}
 
-pub get_there : {A : Type 0} (xs : List A) (i : ℕ) (x : A) → true ≡ ltb i (length xs) → x ≡ slice_index_or xs i x → slice_get xs i ≡ Some x
-get_there [] i x t e = absurd (let h : i < 0 = grind (arith, nat_tests) in omega arith)
-get_there (y ∷ xs) zero x t e = ap (λ z. Some z) (sym e)
-get_there (y ∷ xs) (suc i) x t e = get_there xs i x (let h : suc i < length (y ∷ xs) = grind (arith, nat_tests) in grind (arith, nat_tests)) e
-
 get_past : {A : Type 0} (xs : List A) (i : ℕ) → false ≡ ltb i (length xs) → slice_get xs i ≡ None
-get_past xs i t = slice_get_past xs i (let h : length xs ≤ i = grind (arith, nat_tests) in h)
+get_past xs i t = slice_get_past xs i (ltb-false i (length xs) (sym t))
 
 -- what `get` answers, read by a function
 pub got_none : {A B : Type 0} (f : A → B) (xs : List A) (i : ℕ) → false ≡ ltb i (length xs) → None ≡ slice_get (map f xs) i
 got_none f xs i t = sym (slice_get-map f xs i ∙ ap (option_map f) (get_past xs i t))
 
 pub got_some : {A B : Type 0} (f : A → B) (xs : List A) (i : ℕ) (x : A) → true ≡ ltb i (length xs) → x ≡ slice_index_or xs i x → Some (f x) ≡ slice_get (map f xs) i
-got_some f xs i x t e = sym (slice_get-map f xs i ∙ ap (option_map f) (get_there xs i x t e))
-
-pub get_behind : {A : Type 0} (xs ys : List A) (i : ℕ) → length xs ≤ i → slice_get (xs ++ ys) i ≡ slice_get ys (i - length xs)
-get_behind [] ys i h = ap (slice_get ys) (omega arith)
-get_behind (x ∷ xs) ys zero h = absurd (omega arith)
-get_behind (x ∷ xs) ys (suc i) h = get_behind xs ys i (omega arith) ∙ ap (slice_get ys) (omega arith)
-
-pub get_before : {A : Type 0} (xs ys : List A) (i : ℕ) → i < length xs → slice_get (xs ++ ys) i ≡ slice_get xs i
-get_before [] ys i h = absurd (omega arith)
-get_before (x ∷ xs) ys zero h = refl
-get_before (x ∷ xs) ys (suc i) h = get_before xs ys i (omega arith)
+got_some f xs i x t e = sym (slice_get-map f xs i ∙ ap (option_map f) (slice_get_read xs (length xs) i x refl (ltb-true i (length xs) (sym t)) e))
 
 -- an element of a list that takes one more is an old one, or it
 pub get_pushed : {A : Type 0} (xs : List A) (y z : A) (i : ℕ) → slice_get (xs ++ y ∷ []) i ≡ Some z → (slice_get xs i ≡ Some z) ⊎ ((i ≡ length xs) × (y ≡ z))
@@ -55,30 +40,9 @@ prefix_len-map f p (x ∷ xs) = ap (λ n. cond (p (f x)) (1 + n) 0) (prefix_len-
 pub position-map : {A B : Type 0} (f : A → B) (p : B → Bool) (xs : List A) → position p (map f xs) ≡ position (λ x. p (f x)) xs
 position-map f p xs = simp (prefix_len-map f (λ y. not (p y)) xs, length-map)
 
--- a head by its number, from 1
-pub head_from : (heads : List (RuleAtom ℕ)) (n : ℕ) → 0 < n → head_at heads n ≡ slice_get heads (n - 1)
-head_from heads zero h = absurd (omega arith)
-head_from heads (suc n) h = ap (slice_get heads) (omega arith)
-
--- what `get` answers, where a list is another's image
-pub got : {A B : Type 0} (f : A → B) (xs : List A) (i : ℕ) (r : Option (Bor A)) → is_some r ≡ ltb i (length xs) → IfSome r (λ x. x.now ≡ slice_index_or xs i x.now) → option_map (λ x. f x.now) r ≡ slice_get (map f xs) i
-got f xs i None t e = got_none f xs i t
-got f xs i (Some x) t e = got_some f xs i x.now t e
-
 -- a key by the index of its place
 pub key_found : (f : ℕ → Bool) (pattern : CodeRuleAtom) (head : Option (RuleAtom ℕ)) (found : Option ℕ) → Some (shape pattern) ≡ head → found ≡ position (λ t. is_known f (argument t)) pattern.terms.items → option_map (λ i. i + 1) found ≡ key_in f head
 key_found f pattern head found h e = ap (option_map (λ i. i + 1)) (e ∙ sym (position-map argument (is_known f) pattern.terms.items)) ∙ ap (key_in f) h
-
--- a head behind the kept ones
-pub head_behind : (kept removed : List (RuleAtom ℕ)) (ks rs : List CodeRuleAtom) (n m : ℕ) (r : Option (Bor CodeRuleAtom)) → map shape ks ≡ kept → map shape rs ≡ removed → m ≡ n → 0 < n → length ks ≤ m - 1 → is_some r ≡ ltb (m - 1 - length ks) (length rs) → IfSome r (λ x. x.now ≡ slice_index_or rs (m - 1 - length ks) x.now)
-    → option_map (λ h. shape h.now) r ≡ head_at (kept ++ removed) n
-head_behind kept removed ks rs n m r hk hr e p b t i =
-    let same : length ks ≡ length kept = sym (length-map ks shape) ∙ ap length hk in
-    got shape rs (m - 1 - length ks) r t i
-    ∙ ap (λ (z : List (RuleAtom ℕ)). slice_get z (m - 1 - length ks)) hr
-    ∙ ap (slice_get removed) (let q : m - 1 - length ks ≡ n - 1 - length kept = omega arith in q)
-    ∙ sym (get_behind kept removed (n - 1) (omega arith))
-    ∙ sym (head_from (kept ++ removed) n p)
 
 -- a plan by the numbers of its rule and head
 pub plan_there : (plans : PlanList) (r h : ℕ) (orders : List (List Step)) (o : Option (List Step)) → 0 < r → 0 < h → Some orders ≡ slice_get plans (r - 1) → o ≡ slice_get orders (h - 1) → o ≡ plan_at plans r h

@@ -4,7 +4,7 @@ use Rattle.std.proofs.lemmas.Bool.Decides.{nat_tests}
 use Rattle.std.specs.Option.{unwrap_or}
 use Rattle.std.proofs.lemmas.Bool.{false≢true}
 use Rattle.chr_rule.specs.Rules.{RuleAtom}
-use Rattle.chr_plan.specs.Orders.{head_at, is_bound, key_in, key_of, is_named, IsOpen, IsNext}
+use Rattle.chr_plan.specs.Orders.{head_in, is_bound, key_in, key_of, is_named, IsOpen, IsNext}
 use Rattle.chr_plan.specs.declared.order.Step.{Step}
 
 -- the least open head so far, without a key
@@ -21,8 +21,8 @@ pub record Passed (heads : List (RuleAtom ℕ)) (before : List Step) (i : ℕ) (
   pub first_is : MatchOption first ((j : ℕ) → IsOpen heads before j → j ≤ i → ⊥) (IsFirst heads before i)
 
 -- the same key, wherever the bound variables are read
-pub same_key : (heads : List (RuleAtom ℕ)) (before : List Step) (f : ℕ → Bool) (j : ℕ) → ((x : ℕ) → f x ≡ is_bound heads before x) → key_in f (head_at heads j) ≡ key_of heads before j
-same_key heads before f j h = let e : f ≡ is_bound heads before = λ i x. h x i in ap (λ (g : ℕ → Bool). key_in g (head_at heads j)) e
+pub same_key : (heads : List (RuleAtom ℕ)) (before : List Step) (f : ℕ → Bool) (j : ℕ) → ((x : ℕ) → f x ≡ is_bound heads before x) → key_in f (head_in heads j) ≡ key_of heads before j
+same_key heads before f j h = let e : f ≡ is_bound heads before = λ i x. h x i in ap (λ (g : ℕ → Bool). key_in g (head_in heads j)) e
 
 pub passed_start : (heads : List (RuleAtom ℕ)) (before : List Step) → Passed heads before 0 None
 passed_start heads before = record {

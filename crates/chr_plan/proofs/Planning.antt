@@ -4,7 +4,7 @@ use Rattle.std.specs.List.{list_any}
 use Rattle.std.proofs.lemmas.Bool.Decides.{nat_tests}
 use Rattle.std.proofs.lemmas.List.Folds.{list_any-append}
 use Rattle.chr_rule.specs.Rules.{RuleAtom}
-use Rattle.chr_plan.specs.Orders.{head_at, binds, is_bound, is_named, IsOpen, IsNext, EachNext, IsPlan}
+use Rattle.chr_plan.specs.Orders.{head_in, binds, is_bound, is_named, IsOpen, IsNext, EachNext, IsPlan}
 use Rattle.chr_plan.specs.declared.order.Step.{Step}
 
 -- how many of the first n heads are open
@@ -80,7 +80,7 @@ each_push heads before [] s e n = (subst (λ (b : List Step). IsNext heads b s) 
     append-nil (x ∷ xs) = ap (λ (z : List Step). x ∷ z) (append-nil xs)
 each_push heads before (t ∷ steps) s e n = (e.0, each_push heads (before ++ t ∷ []) steps s e.1 (subst (λ (b : List Step). IsNext heads b s) (sym (append_assoc before (t ∷ []) steps)) n))
 
-pub planning_start : (heads : List (RuleAtom ℕ)) (h : ℕ) (bound : ℕ → Bool) → 1 ≤ h → h ≤ length heads → ((x : ℕ) → bound x ≡ (binds (head_at heads h) x || false)) → Planning heads h bound (start h ∷ [])
+pub planning_start : (heads : List (RuleAtom ℕ)) (h : ℕ) (bound : ℕ → Bool) → 1 ≤ h → h ≤ length heads → ((x : ℕ) → bound x ≡ (binds (head_in heads h) x || false)) → Planning heads h bound (start h ∷ [])
 planning_start heads h bound f t b = record {
   rest = [];
   first = refl;
@@ -89,13 +89,13 @@ planning_start heads h bound f t b = record {
   agrees = b;
 }
 
-pub planning_push : (heads : List (RuleAtom ℕ)) (h : ℕ) (old new : ℕ → Bool) (order : List Step) (s : Step) → Planning heads h old order → IsNext heads order s → ((x : ℕ) → new x ≡ (binds (head_at heads s.head) x || old x)) → Planning heads h new (order ++ s ∷ [])
+pub planning_push : (heads : List (RuleAtom ℕ)) (h : ℕ) (old new : ℕ → Bool) (order : List Step) (s : Step) → Planning heads h old order → IsNext heads order s → ((x : ℕ) → new x ≡ (binds (head_in heads s.head) x || old x)) → Planning heads h new (order ++ s ∷ [])
 planning_push heads h old new order s p n b = record {
   rest = p.rest ++ s ∷ [];
   first = ap (λ (z : List Step). z ++ s ∷ []) p.first;
   next = each_push heads (start h ∷ []) p.rest s p.next (subst (λ (z : List Step). IsNext heads z s) p.first n);
   count = (let one = opens_push (length heads) order s n.open_head.unnamed n.open_head.from n.open_head.to in let c = p.count in let l = length-append order (s ∷ []) in omega (arith, one, c, l));
-  agrees = λ x. b x ∙ ap (λ v. binds (head_at heads s.head) x || v) (p.agrees x) ∙ sym (any_push (λ t. binds (head_at heads t.head) x) order s);
+  agrees = λ x. b x ∙ ap (λ v. binds (head_in heads s.head) x || v) (p.agrees x) ∙ sym (any_push (λ t. binds (head_in heads t.head) x) order s);
 }
 
 pub planning_room : (heads : List (RuleAtom ℕ)) (h : ℕ) (old : ℕ → Bool) (order : List Step) (s : Step) → Planning heads h old order → IsNext heads order s → length order < length heads

@@ -12,6 +12,6 @@ OnePlan = (heads : List (RuleAtom ℕ)) (h : ℕ) (p q : List Step) → IsPlan h
 abbrev pub NamesEachHead : Type 0
 NamesEachHead = (heads : List (RuleAtom ℕ)) (h : ℕ) (p : List Step) → IsPlan heads h p → (j : ℕ) → 1 ≤ j → j ≤ length heads → is_named p j ≡ true
 
--- each step behind the first is the next behind those before it: none of them names its head, and they bind its key
+-- each step after the first is the next after those before it: none of them names its head, and they bind its key
 abbrev pub EachStepIsNext : Type 0
 EachStepIsNext = (heads : List (RuleAtom ℕ)) (h : ℕ) (p : List Step) → IsPlan heads h p → (i : ℕ) (s : Step) → slice_get p (suc i) ≡ Some s → IsNext heads (take (suc i) p) s

@@ -1,18 +1,10 @@
 -- The order in which the heads of a rule are tried, beginning with one of them.
-use Rattle.std.specs.Prelude.{◌≡◌, ℕ, zero, suc, ◌+◌, ◌≤◌, Bool, true, false, ◌==◌, is_some, position, List, [], ◌∷◌, ◌++◌, length, Option, Some, None, slice_get, IsSome}
+use Rattle.std.specs.Prelude.{◌≡◌, ℕ, ◌+◌, ◌≤◌, Bool, true, false, ◌==◌, is_some, position, List, [], ◌∷◌, ◌++◌, length, Option, Some, None, IsSome}
 use Rattle.std.specs.List.{list_any}
 use Rattle.std.specs.Option.{option_map}
-use Rattle.chr_rule.specs.Rules.{Term, Var, Given, RuleAtom, Simpagation}
+use Rattle.chr_rule.specs.Rules.{Term, Var, Given, RuleAtom}
+pub use Rattle.chr_rule.specs.Rules.{heads_of, head_in}
 use Rattle.chr_plan.specs.declared.order.Step.{Step}
-
--- the heads of a rule, kept ones first
-abbrev pub heads_of : Simpagation ℕ → List (RuleAtom ℕ)
-heads_of rule = rule.kept ++ rule.removed
-
--- the head of a number, from 1
-abbrev pub head_at : List (RuleAtom ℕ) → ℕ → Option (RuleAtom ℕ)
-head_at heads zero = None
-head_at heads (suc i) = slice_get heads i
 
 -- whether the variable is among the arguments
 abbrev pub is_variable : ℕ → Term ℕ → Bool
@@ -26,9 +18,9 @@ abbrev pub binds : Option (RuleAtom ℕ) → ℕ → Bool
 binds None x = false
 binds (Some head) x = has_variable x head.args
 
--- a variable is bound behind these steps: one of their heads has it
+-- a variable is bound after these steps: one of their heads has it
 abbrev pub is_bound : List (RuleAtom ℕ) → List Step → ℕ → Bool
-is_bound heads before x = list_any (λ s. binds (head_at heads s.head) x) before
+is_bound heads before x = list_any (λ s. binds (head_in heads s.head) x) before
 
 -- an argument is known: a number or a symbol as it is written, or a bound variable
 abbrev pub is_known : (ℕ → Bool) → Term ℕ → Bool
@@ -39,9 +31,9 @@ abbrev pub key_in : (ℕ → Bool) → Option (RuleAtom ℕ) → Option ℕ
 key_in bound None = None
 key_in bound (Some head) = option_map (λ i. i + 1) (position (is_known bound) head.args)
 
--- the key of a head behind these steps: its first place, from 1, whose argument is known
+-- the key of a head after these steps: its first place, from 1, whose argument is known
 abbrev pub key_of : List (RuleAtom ℕ) → List Step → ℕ → Option ℕ
-key_of heads before j = key_in (is_bound heads before) (head_at heads j)
+key_of heads before j = key_in (is_bound heads before) (head_in heads j)
 
 abbrev pub is_named : List Step → ℕ → Bool
 is_named before j = list_any (λ s. s.head == j) before
@@ -59,7 +51,7 @@ pub record IsNext (heads : List (RuleAtom ℕ)) (before : List Step) (step : Ste
   pub keyed : (j : ℕ) → IsOpen heads before j → IsSome (key_of heads before j) → IsSome step.key
   pub least : (j : ℕ) → IsOpen heads before j → is_some (key_of heads before j) ≡ is_some step.key → step.head ≤ j
 
--- each step is the next behind those before it
+-- each step is the next after those before it
 abbrev pub EachNext : List (RuleAtom ℕ) → List Step → List Step → Type 0
 EachNext heads before [] = Unit {0}
 EachNext heads before (s ∷ steps) = IsNext heads before s × EachNext heads (before ++ s ∷ []) steps

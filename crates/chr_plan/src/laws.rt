@@ -11,7 +11,7 @@ pub fn names_each_head()
     ensures { NamesEachHead }
 {}
 
-/// Each step of a plan behind the first is the next behind those before it, so none of them names its head, and its
+/// Each step of a plan after the first is the next after those before it, so none of them names its head, and its
 /// key is the first place whose argument they bind.
 pub fn each_step_is_next()
     ensures { EachStepIsNext }

@@ -1,16 +1,13 @@
 //! The order in which the heads of a rule are tried.
 ghost use Rattle.std.specs.Prelude.{◌≡◌, ℕ, ◌≤◌, ◌||◌, false, length, map, position, MatchOption, slice_index_or};
-ghost use Rattle.std.specs.Option.{option_map};
-ghost use Rattle.chr_rule.specs.Parts.{argument, shape};
-ghost use Rattle.chr_plan.specs.Orders.{heads_of, head_at, is_variable, has_variable, binds, is_bound, is_known, key_in, is_named, IsOpen, IsNext, IsPlan};
+ghost use Rattle.chr_rule.specs.Rules.{heads_of, head_at};
+ghost use Rattle.chr_rule.specs.Parts.{argument};
+ghost use Rattle.chr_plan.specs.Orders.{is_variable, has_variable, binds, is_bound, is_known, key_in, is_named, IsOpen, IsNext, IsPlan};
 
 use arrayvec::ArrayVec;
-use chr_rule::rule_atom::{RuleAtom, Term};
+use chr_rule::rule_atom::Term;
 use chr_rule::rule::Rule;
 use std::alloc::Allocator;
-
-/// How many heads a rule may have.
-pub const MOST_HEADS: usize = 6;
 
 /// A head by its number, and the place of its first argument whose value is known by then. Places are numbered from 1.
 #[derive(Clone, Copy, Debug, PartialEq, Eq)]
@@ -36,30 +33,6 @@ fn nothing_bound() -> BoundVariables
     ensures { (x : ℕ) → slice_index_or result x false ≡ false }
 {
     [false; 256]
-}
-
-/// How many heads a rule has, from 1 to 6.
-pub(crate) fn head_count<A: Allocator>(rule: &Rule<A>) -> usize
-    ensures count { result ≡ length (heads_of rule.now) }
-    ensures few { result ≤ 6 }
-{
-    rule.kept().len() + rule.removed().len()
-}
-
-/// The head of a number.
-pub(crate) fn head<A: Allocator>(rule: &Rule<A>, number: u8) -> Option<&RuleAtom>
-    ensures { option_map (λ h. shape h.now) result ≡ head_at (heads_of rule.now) number }
-{
-    if number == 0 {
-        return None;
-    }
-    let at = usize::from(number) - 1;
-    let kept = rule.kept();
-    if at < kept.len() {
-        kept.get(at)
-    } else {
-        rule.removed().get(at - kept.len())
-    }
 }
 
 /// Whether one of the steps is for the head.
@@ -88,9 +61,9 @@ fn first_known(terms: &[Term], bound: &BoundVariables) -> Option<usize>
 
 /// The key of a head.
 fn key<A: Allocator>(rule: &Rule<A>, number: u8, bound: &BoundVariables) -> Option<u8>
-    ensures { result ≡ key_in (λ x. slice_index_or bound.now x false) (head_at (heads_of rule.now) number) }
+    ensures { result ≡ key_in (λ x. slice_index_or bound.now x false) (head_at rule.now number) }
 {
-    let pattern = head(rule, number)?;
+    let pattern = rule.head(usize::from(number))?;
     let index = first_known(pattern.terms.as_slice(), bound)?;
     Some(index as u8 + 1)
 }
@@ -108,9 +81,9 @@ fn bind_terms(terms: &[Term], bound: &mut BoundVariables)
 
 /// Binds the variables of a head.
 fn bind<A: Allocator>(rule: &Rule<A>, number: u8, bound: &mut BoundVariables)
-    ensures { (x : ℕ) → slice_index_or bound.new x false ≡ (binds (head_at (heads_of rule.now) number) x || slice_index_or bound.old x false) }
+    ensures { (x : ℕ) → slice_index_or bound.new x false ≡ (binds (head_at rule.now number) x || slice_index_or bound.old x false) }
 {
-    if let Some(pattern) = head(rule, number) {
+    if let Some(pattern) = rule.head(usize::from(number)) {
         bind_terms(pattern.terms.as_slice(), bound);
     }
 }
@@ -122,7 +95,7 @@ fn next_step<A: Allocator>(rule: &Rule<A>, before: &[Step], bound: &BoundVariabl
     ensures few { length (heads_of rule.now) ≤ 6 }
 {
     let mut first = None;
-    for at in 0..head_count(rule) {
+    for at in 0..rule.heads() {
         let number = at as u8 + 1;
         if !is_named(before, number) {
             let key = key(rule, number, bound);

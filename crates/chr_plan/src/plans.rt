@@ -3,7 +3,7 @@ ghost use Rattle.std.specs.Prelude.{◌≡◌, map, IfOk};
 ghost use Rattle.std.specs.Option.{option_map};
 ghost use Rattle.chr_plan.specs.Plans.{plan_at, AreOrders, ArePlans};
 
-use crate::order::{Order, Step, head_count, plan_of};
+use crate::order::{Order, Step, plan_of};
 use chr_rule::program::Program;
 use chr_rule::rule::Rule;
 use std::alloc::{AllocError, Allocator};
@@ -28,7 +28,7 @@ impl<A: Allocator> Model for Plans<A> {
 fn plan_rule<A: Allocator + Copy>(alloc: A, rule: &Rule<A>) -> Result<Vec<Order, A>, AllocError>
     ensures { IfOk result (λ orders. AreOrders rule.now (map (λ order. order.items) orders.items)) }
 {
-    let count = head_count(rule);
+    let count = rule.heads();
     let mut orders = Vec::with_capacity(alloc, count)?;
     for at in 0..count {
         orders.push(plan_of(rule, at as u8 + 1))?;

@@ -1,4 +1,4 @@
--- How a proof tells expressions apart: an expression as a list of marks, operators before their sides.
+-- A code of expressions, by which proofs tell them apart: an expression as a list of marks, operators before their sides.
 use Rattle.std.specs.Prelude.{◌≡◌, ℕ, zero, suc, ℤ, List, [], ◌∷◌, refl}
 use Rattle.std.proofs.Common.{◌⊎◌, inl, inr, ap, ◌∙◌}
 use Rattle.std.specs.Coded.{Coded, code_by, coded⊎, coded_ℕ, coded_ℤ, coded_list}

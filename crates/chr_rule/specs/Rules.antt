@@ -38,10 +38,17 @@ pub record Simpagation (N : Type 0) : Type 0 where
   pub guard : List (Comparison N)
   pub body : List (BodyItem N)
 
--- the head of a number, from 1: kept heads first
+-- the heads of a rule, kept ones first
+abbrev pub heads_of : {N : Type 0} → Simpagation N → List (RuleAtom N)
+heads_of rule = rule.kept ++ rule.removed
+
+-- the head of a number, from 1
+abbrev pub head_in : {N : Type 0} → List (RuleAtom N) → ℕ → Option (RuleAtom N)
+head_in heads zero = None
+head_in heads (suc k) = slice_get heads k
+
 abbrev pub head_at : {N : Type 0} → Simpagation N → ℕ → Option (RuleAtom N)
-head_at rule zero = None
-head_at rule (suc k) = slice_get (rule.kept ++ rule.removed) k
+head_at rule n = head_in (heads_of rule) n
 
 -- the rule of these parts
 abbrev pub of_parts : {N : Type 0} → ℕ → List (RuleAtom N) → List (RuleAtom N) → List (Comparison N) → List (BodyItem N) → Simpagation N

@@ -3,7 +3,7 @@ use Rattle.std.specs.Prelude.{◌≡◌, ℕ, suc, ◌+◌, Bool, true, ◌&&◌
 use Rattle.std.specs.List.{list_all}
 use Rattle.chr_rule.specs.Rules.{Term, Var, Given, RuleAtom, Expression, Number, Variable, Operation, Comparison, Compared, Same, Differ, BodyItem, Is, Add, Simpagation}
 
--- The variables below n are known; a new variable takes the number n. How many are known behind the arguments, or
+-- The variables below n are known; a new variable takes the number n. How many are known after the arguments, or
 -- nothing where a variable comes out of turn.
 abbrev pub known_behind_args : {N : Type 0} → ℕ → List (Term N) → Option ℕ
 known_behind_args n [] = Some n
@@ -33,7 +33,7 @@ test_known n (Compared r a b) = expression_known n a && expression_known n b
 test_known n (Same s t) = argument_known n s && argument_known n t
 test_known n (Differ s t) = argument_known n s && argument_known n t
 
--- an `is` gives a value to the next variable, for the members behind it
+-- an `is` gives a value to the next variable, for the members after it
 abbrev pub known_behind_body : {N : Type 0} → ℕ → List (BodyItem N) → Option ℕ
 known_behind_body n [] = Some n
 known_behind_body n (Is x e ∷ ms) = if (x == n) && expression_known n e then known_behind_body (suc n) ms else None
@@ -44,7 +44,8 @@ abbrev pub variable_count : {N : Type 0} → List (RuleAtom N) → List (Compari
 variable_count heads guard body =
     known_then (known_behind_heads 0 heads) (λ n. if list_all (test_known n) guard then known_behind_body n body else None)
 
--- within the limits: at most 24 variables, 6 heads of which one is removed, 16 comparisons and 16 members of the body
+-- Within the limits: at most 24 variables, 6 heads of which one is removed, 16 comparisons and 16 members of the body. How
+-- deep an expression nests is a limit of the text alone.
 pub record IsWithinLimits {N : Type 0} (rule : Simpagation N) : Type 0 where
   pub variables : rule.variables ≤ 24
   pub removed : 0 < length rule.removed
@@ -52,7 +53,7 @@ pub record IsWithinLimits {N : Type 0} (rule : Simpagation N) : Type 0 where
   pub guard : length rule.guard ≤ 16
   pub body : length rule.body ≤ 16
 
--- a rule that may stand in a program
+-- a rule that a program may have
 pub record IsRule {N : Type 0} (rule : Simpagation N) : Type 0 where
   pub scoped : variable_count (rule.kept ++ rule.removed) rule.guard rule.body ≡ Some rule.variables
   pub limits : IsWithinLimits rule

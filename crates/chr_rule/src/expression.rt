@@ -32,7 +32,7 @@ pub enum Expr<A: Allocator> {
 }
 
 impl<A: Allocator> Expr<A> {
-    /// Whether two expressions are one, wherever their sides lie.
+    /// Whether two expressions are equal, wherever their sides lie.
     pub fn same(&self, other: &Expr<A>) -> bool
         ensures { IsTrue result ↔ (expression self.now ≡ expression other.now) }
     {
@@ -58,7 +58,7 @@ impl<A: Allocator> Expr<A> {
     }
 }
 
-/// How the two sides of a comparison of numbers are to stand.
+/// The relation that a comparison of numbers asks for.
 #[derive(Clone, Copy, Debug, PartialEq, Eq)]
 pub enum Relation {
     /// `<`
@@ -96,7 +96,7 @@ pub enum BodyItem<A: Allocator> {
 }
 
 impl<A: Allocator> Comparison<A> {
-    /// Whether two comparisons are one, wherever their parts lie.
+    /// Whether two comparisons are equal, wherever their parts lie.
     pub fn same(&self, other: &Comparison<A>) -> bool
         ensures { IsTrue result ↔ (comparison self.now ≡ comparison other.now) }
     {
@@ -123,7 +123,7 @@ impl<A: Allocator> Comparison<A> {
 }
 
 impl<A: Allocator> BodyItem<A> {
-    /// Whether two members are one, wherever their parts lie.
+    /// Whether two members are equal, wherever their parts lie.
     pub fn same(&self, other: &BodyItem<A>) -> bool
         ensures { IsTrue result ↔ (member self.now ≡ member other.now) }
     {
@@ -135,7 +135,7 @@ impl<A: Allocator> BodyItem<A> {
     }
 }
 
-/// Whether two guards are one.
+/// Whether two guards are equal.
 pub(crate) fn same_guards<A: Allocator>(guard: &[Comparison<A>], other: &[Comparison<A>]) -> bool
     ensures { IsTrue result ↔ (map comparison guard.now ≡ map comparison other.now) }
 {
@@ -150,7 +150,7 @@ pub(crate) fn same_guards<A: Allocator>(guard: &[Comparison<A>], other: &[Compar
     true
 }
 
-/// Whether two bodies are one.
+/// Whether two bodies are equal.
 pub(crate) fn same_bodies<A: Allocator>(body: &[BodyItem<A>], other: &[BodyItem<A>]) -> bool
     ensures { IsTrue result ↔ (map member body.now ≡ map member other.now) }
 {

@@ -1,9 +1,10 @@
 //! The parts of a rule.
 //!
 //! A rule has kept heads, removed heads, a guard and a body. Its variables are numbered from 0 in the order in which
-//! they are first met: kept heads, removed heads, then the left sides of `is` in the body. [`Rule::new`](rule::Rule::new)
+//! they first occur: kept heads, removed heads, then the left sides of `is` in the body. [`Rule::new`](rule::Rule::new)
 //! is the test that the parts keep this order and the limits, so a [`Rule`](rule::Rule) always does: every variable
-//! that is used has a value by then. A [`Program`](program::Program) is a list of shared rules, numbered from 1.
+//! that is used has a value by then. How deep an expression nests is no limit of a rule: the reader of rule text keeps
+//! to 16 levels. A [`Program`](program::Program) is a list of shared rules, numbered from 1.
 //!
 //! Contracts see a rule as a `Simpagation ℕ` (Frühwirth's general form of a rule) over the numbers of names, without
 //! where its parts lie in memory, so two rules are equal exactly where their content is.

@@ -77,7 +77,7 @@ impl<A: Allocator + Copy> Program<A> {
         Some(&rules[number - 1])
     }
 
-    /// One rule more, behind the others.
+    /// Adds a rule after the others.
     pub fn push(&mut self, rule: Arc<Rule<A>, A>) -> Result<(), AllocError>
         requires { length self.old < 256 }
         ensures ok { OnOk result (self.new ≡ self.old ++ arc_value rule ∷ []) }

@@ -51,8 +51,8 @@ impl<A: Allocator> Model for Rule<A> {
 }
 
 impl<A: Allocator> Rule<A> {
-    /// The test of what is a rule: these parts as one where each variable has a value wherever it is used and the
-    /// limits are kept, and none elsewhere.
+    /// The rule of these parts, or None unless each variable has a value wherever it is used and the limits are kept.
+    /// How deep an expression nests is limited by the reader of rule text alone.
     pub fn new(
         kept: Vec<RuleAtom, A>,
         removed: Vec<RuleAtom, A>,
@@ -85,7 +85,7 @@ impl<A: Allocator> Rule<A> {
         })
     }
 
-    /// Whether two rules are one: the same heads, guard and body, wherever these lie in memory.
+    /// Whether two rules are equal: the same heads, guard and body, wherever these lie in memory.
     pub fn same(&self, other: &Rule<A>) -> bool
         ensures { IsTrue result ↔ (self.now ≡ other.now) }
     {
@@ -112,7 +112,7 @@ impl<A: Allocator> Rule<A> {
         &self.kept
     }
 
-    /// The removed heads in text order, at least one. They are numbered behind the kept ones.
+    /// The removed heads in text order, at least one. They are numbered after the kept ones.
     pub fn removed(&self) -> &[RuleAtom]
         ensures heads { map shape result.now ≡ self.now.removed }
         ensures whole { IsRule self.now }

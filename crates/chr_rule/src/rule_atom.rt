@@ -21,7 +21,7 @@ impl Default for Term {
 }
 
 impl Term {
-    /// Whether two terms are one.
+    /// Whether two terms are equal.
     pub fn same(&self, other: &Term) -> bool
         ensures { IsTrue result ↔ (argument self.now ≡ argument other.now) }
     {
@@ -51,7 +51,7 @@ pub struct RuleAtom {
 }
 
 impl RuleAtom {
-    /// Whether two constraints are one.
+    /// Whether two constraints are equal.
     pub fn same(&self, other: &RuleAtom) -> bool
         ensures { IsTrue result ↔ (shape self.now ≡ shape other.now) }
     {
@@ -60,7 +60,7 @@ impl RuleAtom {
     }
 }
 
-/// Whether two lists of terms are one.
+/// Whether two lists of terms are equal.
 pub(crate) fn same_terms(terms: &[Term], others: &[Term]) -> bool
     ensures { IsTrue result ↔ (map argument terms.now ≡ map argument others.now) }
 {
@@ -75,7 +75,7 @@ pub(crate) fn same_terms(terms: &[Term], others: &[Term]) -> bool
     true
 }
 
-/// Whether two lists of constraints are one.
+/// Whether two lists of constraints are equal.
 pub(crate) fn same_patterns(patterns: &[RuleAtom], others: &[RuleAtom]) -> bool
     ensures { IsTrue result ↔ (map shape patterns.now ≡ map shape others.now) }
 {

@@ -8,7 +8,7 @@ use crate::expression::{BodyItem, Comparison};
 use crate::rule_atom::{RuleAtom, Term};
 use std::alloc::Allocator;
 
-/// How many variables are known behind the arguments of a head, or none where a variable comes out of turn.
+/// How many variables are known after the arguments of a head, or None where a variable comes out of turn.
 pub fn count_terms(mut known: usize, terms: &[Term]) -> Option<usize>
     requires { known ≤ 256 }
     ensures count { result ≡ known_behind_args known (map argument terms.now) }
@@ -28,7 +28,7 @@ pub fn count_terms(mut known: usize, terms: &[Term]) -> Option<usize>
     Some(known)
 }
 
-/// How many variables are known behind heads.
+/// How many variables are known after heads.
 pub fn count_heads(mut known: usize, heads: &[RuleAtom]) -> Option<usize>
     requires { known ≤ 256 }
     ensures count { result ≡ known_behind_heads known (map shape heads.now) }
@@ -64,7 +64,7 @@ pub fn is_guard_known<A: Allocator>(known: usize, guard: &[Comparison<A>]) -> bo
     true
 }
 
-/// How many variables are known behind a body, or none where one is used that has no value by then.
+/// How many variables are known after a body, or None where one is used that has no value by then.
 pub fn count_body<A: Allocator>(mut known: usize, body: &[BodyItem<A>]) -> Option<usize>
     requires { known ≤ 256 }
     ensures count { result ≡ known_behind_body known (map member body.now) }

@@ -114,8 +114,3 @@ arg_here xs a (suc i) w p e h = ap (λ (z : List (Value ℕ)). slice_get z i) (s
   where
     sub_suc : (i : ℕ) → suc i - 1 ≡ i
     sub_suc i = omega arith
-
-pub get_there : {A : Type 0} (xs : List A) (i : ℕ) (x : A) → true ≡ ltb i (length xs) → x ≡ slice_index_or xs i x → slice_get xs i ≡ Some x
-get_there [] i x t e = absurd (let h : i < 0 = grind (arith, nat_tests) in omega arith)
-get_there (y ∷ xs) zero x t e = ap (λ z. Some z) (sym e)
-get_there (y ∷ xs) (suc i) x t e = get_there xs i x (let h : suc i < length (y ∷ xs) = grind (arith, nat_tests) in grind (arith, nat_tests)) e

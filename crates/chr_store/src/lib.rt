@@ -1,7 +1,7 @@
 //! The store: constraints under labels.
 //!
 //! A [`Store`](store::Store) is a map from labels to atoms. Labels are given from 1 on, each once, up to a limit, so
-//! two equal constraints stand under two labels and a removed label never comes back. [`next_at`](store::Store::next_at)
+//! two equal constraints have two labels and a removed label never comes back. [`next_at`](store::Store::next_at)
 //! finds the least label in a range whose atom has a predicate and, where one is asked for, a value at a place.
 //! [`insert`](store::Store::insert) and [`copy`](store::Store::copy) take memory, no other call does.
 //!

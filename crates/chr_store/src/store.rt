@@ -170,7 +170,7 @@ impl<A: Allocator + Copy> Store<A> {
         self.atoms.iter()
     }
 
-    /// The same store once more.
+    /// A copy of the store.
     pub fn copy(&self, alloc: A) -> Result<Store<A>, AllocError>
         ensures { IfOk result (λ made. made ≡ self.now) }
     {

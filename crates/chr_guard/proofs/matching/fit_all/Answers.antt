@@ -1,11 +1,12 @@
 use Rattle.std.proofs.Common.{◌≡◌, ◌<◌, ◌++◌, length, map, Some, None, replicate, arith, refl, sym, subst, ap, ◌∙◌}
 use Rattle.std.specs.List.{AllByRecursion}
 use Rattle.std.proofs.lemmas.List.{length-map, length-replicate}
-use Rattle.std.proofs.lemmas.Simd.{map-map}
+use denote.Ref.{Bor}
+use Rattle.std.specs.Prelude.{ℕ}
+use Rattle.chr_value.specs.Atoms.{Atom}
 use Rattle.chr_rule.specs.Parts.{shape}
 use Rattle.chr_guard.proofs.Scoped.{IsPlaced}
-use Rattle.chr_guard.proofs.Steps.{halves}
-use Rattle.chr_guard.proofs.Matched.{InParts, kept_placed, removed_placed, placed_in_binding, fit_both, no_kept, no_removed, too_few}
+use Rattle.chr_guard.proofs.Matched.{in_parts, kept_placed, removed_placed, placed_in_binding, fit_both, no_kept, no_removed, too_few}
 use Rattle.chr_guard.proofs.matching.fit_all.Goals as goal
 
 pub fit_heads-requires : goal.fit_heads-requires
@@ -27,12 +28,7 @@ returns g c =
     let first = c.split_at.result.0.now in
     let rest = c.split_at.result.1.now in
     let kept = c.kept-kept.result.now in
-    let parts : InParts rule (map (λ a. a.now) atoms) (map shape kept) (map shape c.removed-removed.result.now) (map (λ a. Some a.now) first) (map (λ a. Some a.now) rest) = record {
-      kept_are = c.kept-kept.ensures.heads;
-      removed_are = c.removed-removed.ensures.heads;
-      both = map-map (λ x. Some x) (λ a. a.now) atoms ∙ halves (λ a. Some a.now) atoms first rest (length kept) c.split_at.ensures.front c.split_at.ensures.back;
-      front = length-map first (λ a. Some a.now) ∙ c.split_at.ensures.front_len ∙ sym (length-map kept shape);
-    } in
+    let parts = in_parts (λ (a : Bor (Atom ℕ)). a.now) rule atoms first rest (map shape kept) (map shape c.removed-removed.result.now) (length kept) c.kept-kept.ensures.heads c.removed-removed.ensures.heads (sym (length-map kept shape)) c.split_at.ensures.front c.split_at.ensures.back c.split_at.ensures.front_len in
     fit_both rule (map (λ a. a.now) atoms) (map (λ a. Some a.now) first) (map (λ a. Some a.now) rest) (map shape kept) (map shape c.removed-removed.result.now) c.free-binding.result c.fit_heads.new.binding c.fit_heads-2.new.binding parts (c.free-binding.ensures ∙ ap (λ n. replicate n None) c.variables.ensures.count) c.if-not-fit_heads.ensures c.if-not-fit_heads-2.ensures
 
 pub returns-then-not-fit_heads : goal.returns-then-not-fit_heads
@@ -42,12 +38,7 @@ returns-then-not-fit_heads g c =
     let first = c.split_at.result.0.now in
     let rest = c.split_at.result.1.now in
     let kept = c.kept-kept.result.now in
-    let parts : InParts rule (map (λ a. a.now) atoms) (map shape kept) rule.removed (map (λ a. Some a.now) first) (map (λ a. Some a.now) rest) = record {
-      kept_are = c.kept-kept.ensures.heads;
-      removed_are = refl;
-      both = map-map (λ x. Some x) (λ a. a.now) atoms ∙ halves (λ a. Some a.now) atoms first rest (length kept) c.split_at.ensures.front c.split_at.ensures.back;
-      front = length-map first (λ a. Some a.now) ∙ c.split_at.ensures.front_len ∙ sym (length-map kept shape);
-    } in
+    let parts = in_parts (λ (a : Bor (Atom ℕ)). a.now) rule atoms first rest (map shape kept) rule.removed (length kept) c.kept-kept.ensures.heads refl (sym (length-map kept shape)) c.split_at.ensures.front c.split_at.ensures.back c.split_at.ensures.front_len in
     no_kept rule (map (λ a. a.now) atoms) (map (λ a. Some a.now) first) (map (λ a. Some a.now) rest) (map shape kept) c.free-binding.result parts (c.free-binding.ensures ∙ ap (λ n. replicate n None) c.variables.ensures.count) c.if-not-fit_heads.ensures
 
 pub returns-then-not-fit_heads-2 : goal.returns-then-not-fit_heads-2
@@ -57,12 +48,7 @@ returns-then-not-fit_heads-2 g c =
     let first = c.split_at.result.0.now in
     let rest = c.split_at.result.1.now in
     let kept = c.kept-kept.result.now in
-    let parts : InParts rule (map (λ a. a.now) atoms) (map shape kept) (map shape c.removed-removed.result.now) (map (λ a. Some a.now) first) (map (λ a. Some a.now) rest) = record {
-      kept_are = c.kept-kept.ensures.heads;
-      removed_are = c.removed-removed.ensures.heads;
-      both = map-map (λ x. Some x) (λ a. a.now) atoms ∙ halves (λ a. Some a.now) atoms first rest (length kept) c.split_at.ensures.front c.split_at.ensures.back;
-      front = length-map first (λ a. Some a.now) ∙ c.split_at.ensures.front_len ∙ sym (length-map kept shape);
-    } in
+    let parts = in_parts (λ (a : Bor (Atom ℕ)). a.now) rule atoms first rest (map shape kept) (map shape c.removed-removed.result.now) (length kept) c.kept-kept.ensures.heads c.removed-removed.ensures.heads (sym (length-map kept shape)) c.split_at.ensures.front c.split_at.ensures.back c.split_at.ensures.front_len in
     no_removed rule (map (λ a. a.now) atoms) (map (λ a. Some a.now) first) (map (λ a. Some a.now) rest) (map shape kept) (map shape c.removed-removed.result.now) c.free-binding.result c.fit_heads.new.binding parts (c.free-binding.ensures ∙ ap (λ n. replicate n None) c.variables.ensures.count) c.if-not-fit_heads.ensures c.if-not-fit_heads-2.ensures
 
 pub returns-then-atoms-kept : goal.returns-then-atoms-kept

@@ -1,5 +1,5 @@
 use Rattle.std.proofs.Common.{◌≡◌, ℕ, ◌+◌, ◌<◌, ◌≤◌, ◌||◌, ◌++◌, ◌∷◌, [], false, ap, sym, subst, ◌∙◌, List, None, length, slice_index_or, arith}
-use Rattle.chr_plan.specs.Orders.{heads_of, head_at, binds, IsNext}
+use Rattle.chr_plan.specs.Orders.{heads_of, head_in, binds, IsNext}
 use Rattle.chr_plan.specs.declared.order.Step.{Step}
 use Rattle.chr_plan.proofs.Planning.{Planning, planning_start, planning_push, planning_room}
 use Rattle.chr_plan.proofs.order.plan_of.Goals as goal
@@ -9,7 +9,7 @@ loop-step-init g c =
     let heads = heads_of c.args.rule.now in
     let bound = λ (x : ℕ). slice_index_or c.bind.new.bound x false in
     subst (Planning heads c.args.head bound) (sym (c.push.ensures.items ∙ ap (λ (z : List Step). z ++ record { head = c.args.head; key = None } ∷ []) c.new-order.ensures))
-    (planning_start heads c.args.head bound c.requires.from c.requires.to (λ x. c.bind.ensures x ∙ ap (λ b. binds (head_at heads c.args.head) x || b) (c.nothing_bound-bound.ensures x)))
+    (planning_start heads c.args.head bound c.requires.from c.requires.to (λ x. c.bind.ensures x ∙ ap (λ b. binds (head_in heads c.args.head) x || b) (c.nothing_bound-bound.ensures x)))
 
 pub push-requires-in-Some : goal.push-requires-in-Some
 push-requires-in-Some g c =

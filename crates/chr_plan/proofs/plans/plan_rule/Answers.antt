@@ -1,4 +1,5 @@
 use Rattle.std.proofs.Common.{◌+◌, List, map, sym, subst, arith}
+use Rattle.std.proofs.lemmas.List.{length-append}
 use Rattle.arrayvec.specs.ArrayVec.{ArrayVec}
 use Rattle.chr_plan.specs.declared.order.Step.{Step}
 use Rattle.chr_plan.proofs.Made.{OrdersSoFar, orders_start, orders_push, orders_end}
@@ -13,4 +14,4 @@ loop-at-preserved g c =
     (orders_push (λ o. o.items) c.args.rule.now c.loop-at.at c.loop-at.orders.items c.plan_of.result c.loop-at.invariant c.plan_of.ensures)
 
 pub returns : goal.returns
-returns g c = orders_end c.args.rule.now c.loop-at.at _ (omega arith) c.loop-at.invariant
+returns g c = orders_end c.args.rule.now c.loop-at.at _ (omega (arith, length-append c.args.rule.now.kept c.args.rule.now.removed)) c.loop-at.invariant
