@@ -9,8 +9,8 @@ use chr_guard::binding::{Binding, Bound};
 use chr_guard::instance::instance_from;
 use chr_guard::matching::fit_head;
 use chr_log::events::{Label, Labels};
-use chr_rule::rule_atom::{RuleAtom, Term};
 use chr_rule::rule::Rule;
+use chr_rule::rule_atom::{RuleAtom, Term};
 use chr_value::atom::Atom;
 use std::alloc::Allocator;
 

@@ -37,10 +37,10 @@ is_instance rule r facts made binding new f guard done is =
       kept_are = parts.0;
       removed_are = parts.1;
       some_removed = λ e. (
-        let none : length rule.removed ≡ 0 = sym (length-map rule.removed (atom_under v)) ∙ ap length parts.1 ∙ length-map (drop (length rule.kept) facts) (λ a. Some a) ∙ ap length e in
-        let some : 0 < length rule.removed = r.limits.removed in
-        absurd (omega arith)
-      );
+          let none : length rule.removed ≡ 0 = sym (length-map rule.removed (atom_under v)) ∙ ap length parts.1 ∙ length-map (drop (length rule.kept) facts) (λ a. Some a) ∙ ap length e in
+          let some : 0 < length rule.removed = r.limits.removed in
+          absurd (omega arith)
+          );
       body_is = is;
     }
 
@@ -139,6 +139,6 @@ pub not_made : {A : Type 0} (f : A → BodyItem ℕ) (v : Valuation) (xs : List 
 not_made f v xs i x s made h is at none all =
     let there : drop i xs ≡ x ∷ drop (i + 1) xs = drop_more xs i x h ∙ ap (λ y. y ∷ drop (i + 1) xs) (sym is) in
     let apart : map f xs ≡ map f (take i xs) ++ (Add s ∷ map f (drop (i + 1) xs)) =
-        ap (map f) (sym (take-append-drop i xs)) ∙ map-append f (take i xs) (drop i xs) ∙ ap (λ l. map f (take i xs) ++ map f l) there ∙ ap (λ m. map f (take i xs) ++ (m ∷ map f (drop (i + 1) xs))) at in
+    ap (map f) (sym (take-append-drop i xs)) ∙ map-append f (take i xs) (drop i xs) ∙ ap (λ l. map f (take i xs) ++ map f l) there ∙ ap (λ m. map f (take i xs) ++ (m ∷ map f (drop (i + 1) xs))) at in
     none_under v (added (map f (take i xs))) (added (map f (drop (i + 1) xs))) s made none
     (subst (λ ss. AreUnder v ss made) (added_append (map f (take i xs)) (Add s ∷ map f (drop (i + 1) xs))) (subst (λ ms. AreUnder v (added ms) made) apart all))

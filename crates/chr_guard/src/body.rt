@@ -10,8 +10,8 @@ use crate::binding::Binding;
 use crate::values::value;
 use arrayvec::ArrayVec;
 use chr_rule::expression::BodyItem;
-use chr_rule::rule_atom::RuleAtom;
 use chr_rule::rule::Rule;
+use chr_rule::rule_atom::RuleAtom;
 use chr_value::atom::Atom;
 use std::alloc::Allocator;
 

@@ -10,8 +10,8 @@ ghost use Rattle.chr_guard.specs.Instances.{atom_under};
 ghost use Rattle.chr_guard.specs.Matching.{AreAtHeads, HeadsAre, IsFit};
 
 use crate::binding::Binding;
-use chr_rule::rule_atom::{RuleAtom, Term};
 use chr_rule::rule::Rule;
+use chr_rule::rule_atom::{RuleAtom, Term};
 use chr_value::atom::{Atom, Value};
 use std::alloc::Allocator;
 

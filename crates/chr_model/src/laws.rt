@@ -84,7 +84,7 @@ pub fn posts_may_stand_first()
     ensures run { (v : Version) (rules : List (Simpagation ℕ)) (log : List (Event ℕ)) (last : State)
         → (run : LawfulPostsFirst v (Instances rules) log last)
         → AbstractRun (Instances rules) (posted_by log)
-            (firings_among v (Instances rules) log (all_posted log) (none_left last) run) (erase last) }
+        (firings_among v (Instances rules) log (all_posted log) (none_left last) run) (erase last) }
 {}
 
 /// With its posts moved to the front, a lawful log is a goal-based run from all that it posts to its last state.

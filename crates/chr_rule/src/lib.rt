@@ -11,7 +11,7 @@
 #![tactic(auto)]
 
 pub mod expression;
-pub mod rule_atom;
 pub mod program;
 pub mod rule;
+pub mod rule_atom;
 mod scope;
