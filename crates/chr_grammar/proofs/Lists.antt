@@ -88,7 +88,7 @@ take_rest n ts = grind (arith, common_steps)
 pub tokens_from_place : (ts : List Token) (n : ℕ) → map lexeme (take (length ts - n) (drop n ts)) ≡ drop n (map lexeme ts)
 tokens_from_place ts n = ap (map lexeme) (take_rest n ts) ∙ map_drop n ts
 
--- ---- what stands behind a member is the end of what was there
+-- ---- what comes after a member is the end of what was there
 
 -- a member is so spelled
 abbrev pub SpelledSo : {A : Type 0} → (List Lexeme → Front A) → (A → List Lexeme) → Type 0

@@ -1,4 +1,4 @@
--- Tokens before and behind a sign.
+-- Tokens before and after a sign.
 use Rattle.std.proofs.Common.{◌≡◌, ◌≤◌, ◌<◌, ℕ, suc, ◌+◌, ◌-◌, Bool, true, false, not, cond, if◌then◌else◌, get_or, List, [], ◌∷◌, length, take, drop, map, refl, sym, ap, ◌∙◌, arith, Option, None, Result, Ok}
 use Rattle.std.specs.List.{take_while}
 use Rattle.std.proofs.lemmas.Grind.{common_steps}
@@ -17,7 +17,7 @@ pub fails_then : {A B : Type 0} (e : ItemError) (read : Result A Kind) (f : A �
 fails_then errors.Memory read f h = tt
 fails_then (errors.Fault k) read f h = rw h refl
 
--- how many tokens stand before the first such sign
+-- how many tokens come before the first such sign
 abbrev pub count_before : (Lexeme → Bool) → List Token → ℕ
 count_before p ts = length (take_while (λ t. not (p (lexeme t))) ts)
 

@@ -140,7 +140,7 @@ consequence_found ts = consequence_by_found ts (before is_bar ts) (from_first is
 
 -- ---- rules
 
--- a rule of this name, by what stands behind the name
+-- a rule of this name, by what comes after the name
 abbrev BareRead : Option (List ℕ) → List Lexeme → Result ParsedRule Kind → Type 0
 BareRead rule_name ts (Ok r) = IsParsedRule r × (ts ≡ heads_spelled r.kept r.removed ++ arrow_sign r.removed ∷ consequence_spelled r.guard r.body) × (r.rule_name ≡ rule_name)
 BareRead rule_name ts (Err k) = k ≡ Syntax

@@ -1,5 +1,5 @@
 -- What tokens say, read from the left: posts, declarations and rules. Each step takes what it reads from the front and
--- gives it with the tokens behind it.
+-- gives it with the tokens after it.
 use Rattle.std.specs.Prelude.{ℕ, zero, suc, ◌-◌, Bool, true, false, List, [], ◌∷◌, length, drop, ◌&&◌, if◌then◌else◌, Option, Some, None, Result, Ok, Err, codes}
 use Rattle.std.specs.Str.{bytes_eq}
 use Rattle.chr_value.specs.Spelling.{is_reserved}
@@ -16,7 +16,7 @@ use Rattle.chr_grammar.specs.declared.expression.TheConstants.{MOST_DEPTH}
 use Rattle.chr_grammar.specs.Parsed as parsed
 use Rattle.chr_grammar.specs.Parsed.{ParsedExpression, ParsedAtom, GuardMember, BodyMember, ParsedRule, Declared, Statement}
 
--- what is read at the front, and the tokens behind it
+-- what is read at the front, and the tokens after it
 abbrev pub Front : Type 0 → Type 0
 Front A = Result (A × List Lexeme) Kind
 
@@ -252,12 +252,12 @@ body_of = each_by_commas member_at
 
 -- ---- rules
 
--- what stands before the first such token
+-- what comes before the first such token
 abbrev pub before : (Lexeme → Bool) → List Lexeme → List Lexeme
 before p [] = []
 before p (s ∷ ts) = if p s then [] else s ∷ before p ts
 
--- the first such token and what stands behind it
+-- the first such token and what comes after it
 abbrev pub from_first : (Lexeme → Bool) → List Lexeme → List Lexeme
 from_first p [] = []
 from_first p (s ∷ ts) = if p s then s ∷ ts else from_first p ts

@@ -61,7 +61,7 @@ args_later n m (a ∷ args) h k =
     let two = and_parts (argument_known n a) (list_all (argument_known n) args) k in
     all_true (argument_known m a) (list_all (argument_known m) args) (argument_later n m a h two.0) (args_later n m args h two.1)
 
--- the arguments of a head are known behind it
+-- the arguments of a head are known after it
 pub args_below : (n m : ℕ) (args : List (Term ℕ)) → known_behind_args n args ≡ Some m → (n ≤ m) × (list_all (argument_known m) args ≡ true)
 args_below n m [] k = let e : n ≡ m = cc in (omega arith, refl)
 args_below n m (Given t ∷ args) k = args_below n m args k
@@ -70,7 +70,7 @@ args_below n m (Var x ∷ args) k =
     (λ h j. let rest = args_below n m args j in (rest.0, all_true (nat_lt x m) _ (let le : n ≤ m = rest.0 in grind (arith, nat_tests)) rest.1))
     (λ e j. let rest = args_below (suc n) m args j in let le : suc n ≤ m = rest.0 in (omega arith, all_true (nat_lt x m) _ (grind (arith, nat_tests)) rest.1))
 
--- the variables of each head are known behind all of them
+-- the variables of each head are known after all of them
 abbrev pub IsPlaced : ℕ → RuleAtom ℕ → Type 0
 IsPlaced n h = list_all (argument_known n) h.args ≡ true
 

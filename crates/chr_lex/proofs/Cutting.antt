@@ -81,7 +81,7 @@ no_end_before (b ∷ bs) rest split =
           no_end_cons b (before_end bs) rest (ap (is_end b) (sym tail) ∙ h) (no_end_before bs rest tail)
     ]) refl split
 
--- what stands behind the end point
+-- what comes after the end point
 abbrev behind_end : List ℕ → List ℕ
 behind_end bs = drop (suc (length (before_end bs))) bs
 

@@ -35,7 +35,7 @@ items-behind_first b bs line gap =
       | false ↦ items-behind bs line ∙ ap (λ (n : ℕ). items zero (lines_after (before_end bs) n) (drop (suc (length (before_end bs))) bs)) (sym (item_ends_no_line b line gap))
     ]
 
--- an item, and what is read behind it
+-- an item, and what is read after it
 pub item_first : (line n : ℕ) (t : List ℕ) → 0 < length t → BeginsItem t → n ≤ length t → take n t ≡ before_end t
     → items zero line t ≡ record { line = line; bytes = take n t; whole = has_end t } ∷ items zero (lines_after (take n t) line) (drop 1 (drop n t))
 item_first line n [] long begins within is = absurd (omega arith)

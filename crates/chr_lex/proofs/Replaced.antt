@@ -33,7 +33,7 @@ first_alike : (comment : List ℕ) (rest : List ℕ) → first_is 47 (comment ++
 first_alike [] rest = refl
 first_alike (b ∷ comment) rest = refl
 
--- the first `*/` stands behind the comment
+-- the first `*/` comes after the comment
 closes_behind : (comment bs : List ℕ) → NoClose (comment ++ 42 ∷ []) → (closes (comment ++ 42 ∷ 47 ∷ bs) ≡ true) × (before_close (comment ++ 42 ∷ 47 ∷ bs) ≡ comment)
 closes_behind [] bs none = (refl, refl)
 closes_behind (b ∷ comment) bs none =

@@ -12,7 +12,7 @@ abbrev pub ends_line : List ℕ → Bool
 ends_line [] = true
 ends_line (b ∷ bs) = is_line_end b
 
--- no `*/` stands in these bytes
+-- there is no `*/` in these bytes
 abbrev pub NoClose : List ℕ → Type 0
 NoClose bs = (front back : List ℕ) → bs ≡ front ++ 42 ∷ 47 ∷ back → ⊥
 

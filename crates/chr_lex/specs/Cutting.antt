@@ -3,7 +3,7 @@ use Rattle.std.specs.Prelude.{◌≡◌, ℕ, true, false, List, [], ◌∷◌, 
 use Rattle.chr_lex.specs.Comments.{Plain}
 use Rattle.chr_lex.specs.Items.{Item, is_gap, begins_with_layout, line_after, lines_after, BeginsItem}
 
--- No end point stands in these bytes: a point in them stands before something else than layout or the end of the text.
+-- There is no end point in these bytes: a point in them comes before something else than layout or the end of the text.
 abbrev pub NoEnd : List ℕ → List ℕ → Type 0
 NoEnd inner rest = (front back : List ℕ) → inner ≡ front ++ 46 ∷ back → begins_with_layout (back ++ rest) ≡ true → ⊥
 

@@ -6,7 +6,7 @@ use Rattle.chr_lex.specs.declared.plain.TheConstants.{BAD, COMMENT, UNCLOSED}
 abbrev pub is_layout : ℕ → Bool
 is_layout b = (b == 32) || (b == 9) || (b == 13) || (b == 10)
 
--- what may stand outside of comments
+-- what may be outside of comments
 abbrev pub is_text : ℕ → Bool
 is_text b = is_layout b || (nat_le 32 b && nat_le b 126)
 
@@ -21,12 +21,12 @@ first_is a (b ∷ bs) = b == a
 abbrev pub closes_here : ℕ → List ℕ → Bool
 closes_here b bs = (b == 42) && first_is 47 bs
 
--- whether `*/` stands somewhere
+-- whether `*/` is somewhere
 abbrev pub closes : List ℕ → Bool
 closes [] = false
 closes (b ∷ bs) = closes_here b bs || closes bs
 
--- what stands before the first `*/`
+-- what comes before the first `*/`
 abbrev pub before_close : List ℕ → List ℕ
 before_close [] = []
 before_close (b ∷ bs) = if closes_here b bs then [] else b ∷ before_close bs
@@ -52,13 +52,13 @@ plain zero (b ∷ bs) =
     (if closes (drop 1 bs) then COMMENT ∷ (line_ends (before_close (drop 1 bs)) ++ plain (3 + length (before_close (drop 1 bs))) bs) else UNCLOSED ∷ [])
     else as_text b ∷ plain zero bs)
 
--- what a comment by `/*`, from its star on, stands for, and the text behind it
+-- what a comment by `/*`, from its star on, stands for, and the text after it
 abbrev pub block : List ℕ → List ℕ
 block bs = if closes (drop 1 bs) then COMMENT ∷ (line_ends (before_close (drop 1 bs)) ++ plain (3 + length (before_close (drop 1 bs))) bs) else UNCLOSED ∷ []
 
 abbrev pub plain_of : List ℕ → List ℕ
 plain_of = plain zero
 
--- whether a byte that no text may have stands outside of comments
+-- whether a byte that no text may have is outside of comments
 abbrev pub has_bad : List ℕ → Bool
 has_bad = list_any (λ b. b == BAD)

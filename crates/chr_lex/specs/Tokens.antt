@@ -43,7 +43,7 @@ abbrev closes_operand : Mark → Bool
 closes_operand mark.Close = true
 closes_operand _ = false
 
--- whether a minus behind it is an operator
+-- whether a minus after it is an operator
 abbrev pub is_operand : Lexeme → Bool
 is_operand (OfWord w) = true
 is_operand (OfMark m) = closes_operand m
@@ -60,7 +60,7 @@ abbrev pub signed : Option Mark → Option (Lexeme × ℕ)
 signed None = None
 signed (Some m) = Some (OfMark m, length (spelling m))
 
--- A minus directly before a digit belongs to the number, but behind an operand it is an operator.
+-- A minus directly before a digit belongs to the number, but after an operand it is an operator.
 abbrev pub signed_at : Bool → List ℕ → Option (Lexeme × ℕ)
 signed_at after_operand [] = None
 signed_at after_operand (b ∷ bs) =

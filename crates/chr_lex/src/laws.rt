@@ -12,7 +12,7 @@ ghost use Rattle.chr_lex.specs.Cutting.{Items, HasItems};
 ghost use Rattle.chr_lex.specs.Tokens.{Lexeme, token_at, tokens_from};
 ghost use Rattle.chr_lex.specs.Lexing.{Spells, Longest, Tokens};
 
-/// No byte of a text is taken for a comment: what may stand outside of comments stays as it is, and all else is BAD.
+/// No byte of a text is taken for a comment: what may be outside of comments stays as it is, and all else is BAD.
 pub fn marks_are_no_text()
     ensures text { (b : ℕ) → is_text b ≡ true → as_text b ≡ b }
     ensures bad { (b : ℕ) → is_text b ≡ false → as_text b ≡ BAD }

@@ -121,7 +121,7 @@ pub fn plain_text<A: Allocator>(alloc: A, text: &[u8]) -> Result<Vec<u8, A>, All
     Ok(out)
 }
 
-/// Whether a byte that no text may have stands outside of comments.
+/// Whether a byte that no text may have is outside of comments.
 pub fn has_bad_byte(text: &[u8]) -> bool
     ensures { result ≡ has_bad text.now }
 {

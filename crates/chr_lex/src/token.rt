@@ -47,7 +47,7 @@ fn is_name_byte(b: u8) -> bool
 }
 
 #[tactic(auto, using(crate::proofs::Tokens::take_all_passing))]
-/// The bytes at the front that may stand in a name.
+/// The bytes at the front that may be in a name.
 fn word_at(text: &[u8]) -> &[u8]
     ensures { result.now ≡ take_while is_name_byte text.now }
 {

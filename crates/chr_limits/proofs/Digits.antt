@@ -1,4 +1,4 @@
--- Digits behind a number never lower it.
+-- Digits after a number never lower it.
 use Rattle.std.proofs.Common.{◌≤◌, ℕ, ◌+◌, ◌-◌, ◌*◌, List, [], ◌∷◌, arith}
 use Rattle.chr_limits.specs.Numbers.{decimal_from}
 

@@ -23,7 +23,7 @@ still_seen : (m : List (List ℕ)) (x y : List ℕ) → is_seen m y ≡ true →
 still_seen m x y e =
     still_and (not (is_blank y)) (list_any (bytes_eq y) m) (list_any (bytes_eq y) (m ++ x ∷ [])) (λ h. list_any-append (bytes_eq y) m (x ∷ []) ∙ still_or _ _ h) e
 
--- those that were seen are so behind one more
+-- those that were seen are so after one more
 pub still_all_seen : (m : List (List ℕ)) (x : List ℕ) (ys : List (List ℕ)) → are_seen m ys ≡ true → are_seen (m ++ x ∷ []) ys ≡ true
 still_all_seen m x [] e = refl
 still_all_seen m x (y ∷ ys) e =
@@ -59,7 +59,7 @@ after_is all m x f ms e k h =
     let few : length (seen_from (m ++ x ∷ []) (formula_variables f ++ flat_map member_variables ms)) ≤ 24 = rw e at h.0 in
     (rw (skipped (m ++ x ∷ []) (formula_variables f) (flat_map member_variables ms) (still_all_seen m x (formula_variables f) k)) at few, rw (e, k) at h.1)
 
--- the variables left for the body behind heads and guard
+-- the variables left for the body after heads and guard
 pub body_left : (hs gs bs m : List (List ℕ)) → m ≡ seen_from [] hs → are_seen m gs ≡ true → length (seen_from [] (hs ++ gs ++ bs)) ≤ 24 → length (seen_from m bs) ≤ 24
 body_left hs gs bs m e k h =
     let first : seen_from [] (hs ++ gs) ≡ m = met_from_append [] hs gs ∙ ap (λ (l : List (List ℕ)). seen_from l gs) (sym e) ∙ met_from_seen m gs k in

@@ -8,7 +8,7 @@ use Rattle.chr_limits.specs.Variables.{formula_variables, phrase_variables, test
 abbrev pub are_seen : List (List ℕ) → List (List ℕ) → Bool
 are_seen known names = list_all (is_seen known) names
 
--- The variable left of `is` has no value before, and one behind it.
+-- The variable left of `is` has no value before, and one after it.
 abbrev pub body_in_scope : List (List ℕ) → List BodyMember → Bool
 body_in_scope known [] = true
 body_in_scope known (parsed.Nothing ∷ ms) = body_in_scope known ms

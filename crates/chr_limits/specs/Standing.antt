@@ -1,4 +1,4 @@
--- What may stand in a program and among posts.
+-- What may be in a program and among posts.
 use Rattle.std.specs.Prelude.{◌≡◌, ◌<◌, ◌≤◌, ◌+◌, true, false, List, length, filter}
 use Rattle.std.specs.List.{list_any}
 use Rattle.chr_lex.specs.Tokens.{Name, Number}
@@ -8,7 +8,7 @@ use Rattle.chr_limits.specs.Limits.{has_many_args, has_wide_atom, is_comparison,
 use Rattle.chr_limits.specs.Variables.{variables_of, seen}
 use Rattle.chr_limits.specs.Scope.{is_in_scope}
 
--- a rule that may stand in a program
+-- a rule that may be in a program
 pub record IsAllowedRule (r : ParsedRule) : Type 0 where
   pub removes : 0 < length r.removed
   pub numbers : rule_has is_out_of_range r ≡ false

@@ -46,7 +46,7 @@ is_blank name = bytes_eq name (95 ∷ [])
 abbrev pub is_seen : List (List ℕ) → List ℕ → Bool
 is_seen seen name = not (is_blank name) && list_any (bytes_eq name) seen
 
--- the variables seen with those at some places, behind those seen before: each once, and each `_` apart
+-- the variables seen with those at some places, after those seen before: each once, and each `_` apart
 abbrev pub seen_from : List (List ℕ) → List (List ℕ) → List (List ℕ)
 seen_from seen [] = seen
 seen_from seen (name ∷ names) = if is_seen seen name then seen_from seen names else seen_from (seen ++ name ∷ []) names

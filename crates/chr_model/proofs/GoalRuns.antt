@@ -54,7 +54,7 @@ same_turned x w m st n = record {
 same_equal : (a b : State) → a ≡ b → SameGoals a b
 same_equal a b e = subst (SameGoals a) e (record { plain = IsPermutation-refl (plain_goals a.goals); numbered = IsPermutation-refl (numbered_goals a.goals); store = refl; next = refl })
 
--- a state with the atoms that are still to be posted behind its goals
+-- a state with the atoms that are still to be posted after its goals
 abbrev ahead : State → List (Atom ℕ) → State
 ahead s ps = entry_of (s.goals ++ map Plain ps) s.store s.next
 
@@ -81,7 +81,7 @@ simplify_ahead : (s : State) (t l : ℕ) (removed : List ℕ) (body ps : List (A
 simplify_ahead s t l removed body ps at =
     subst (λ m. SameGoals (replaced m removed body) (ahead (replaced (ended s t) removed body) ps)) (sym (end_ahead s t l ps at)) (propagate_ahead (ended s t) removed body ps)
 
--- one firing, and the run behind it
+-- one firing, and the run after it
 fire_ahead : (v : Version) (I : Rules) (s : State) (t r : ℕ) (kept removed : List ℕ) (m n : State) (ps : List (Atom ℕ)) (es : List (Event ℕ)) → (Simplify I s t r kept removed m ⊎ Propagate I s t r kept removed m) → GoalRun v I (ahead m ps) es n → GoalRun v I (ahead s ps) (Fire t r kept removed ∷ es) n
 fire_ahead v I s t r kept removed m n ps es (inl h) rest = (
   replaced (ended (ahead s ps) t) removed h.body,

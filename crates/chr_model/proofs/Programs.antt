@@ -13,7 +13,7 @@ use Rattle.chr_model.proofs.Fixed.{Fixes}
 pub program_removes : (rules : List (Simpagation ℕ)) → Removes (Instances rules)
 program_removes rules r kept removed body i = i.2.some_removed
 
--- an instance of the first rule, and of those behind it
+-- an instance of the first rule, and of those after it
 pub of_zero : (rules : List (Simpagation ℕ)) (kept removed body : List (Atom ℕ)) → Instances rules 0 kept removed body → ⊥
 of_zero rules kept removed body i = let e : None ≡ Some i.0 = i.1 in cc
 

@@ -1,4 +1,4 @@
--- How many variables are known behind heads joined.
+-- How many variables are known after heads joined.
 use Rattle.std.proofs.Common.{◌≡◌, ℕ, List, [], ◌∷◌, ◌++◌, Option, Some, None, refl}
 use Rattle.chr_rule.specs.Rules.{RuleAtom}
 use Rattle.chr_rule.specs.Scope.{known_behind_args, known_behind_heads, known_then}

@@ -66,7 +66,7 @@ labelled_drop l n k es h = record {
   limit = h.limit;
 }
 
--- an entry that stands behind these in a rising list goes behind them
+-- an entry that comes after these in a rising list goes after them
 pub insert_behind : (l : ℕ) (a : Atom ℕ) (es rest : Store) → Rising (es ++ (l, a) ∷ rest) → insert_entry nat_cmp es l a ≡ es ++ (l, a) ∷ []
 insert_behind l a [] rest h = refl
 insert_behind l a (e ∷ es) rest h = let below : e.0 < l = before e.0 l a es rest h.0 in grind (arith, nat_tests, insert_behind l a es rest h.1)

@@ -24,7 +24,7 @@ pub record IsLeft (store : Store) (q : Query) (left : Store) : Type 0 where
   pub lies : AllByRecursion (LiesIn store q) left
   pub all : (l : ℕ) (a : Atom ℕ) → atom_at store l ≡ Some a → HasPred q.pred a → HasKey q.key a → q.after < l → l < q.below → atom_at left l ≡ Some a
 
--- a label in front, or behind it a greater one
+-- a label in front, or after it a greater one
 above : (l : ℕ) (es : Store) (m : ℕ) (a : Atom ℕ) → AllByRecursion (λ f. l < f.0) es → atom_at es m ≡ Some a → l < m
 above l [] m a h at = let z : None ≡ Some a = at in absurd (cc)
 above l (e ∷ es) m a h at =

@@ -32,7 +32,7 @@ pub record Query : Type 0 where
   pub after : ℕ
   pub below : ℕ
 
--- a labelled_atom label that is as asked
+-- a label in the store whose atom is as asked
 pub record Matches (store : Store) (q : Query) (l : ℕ) : Type 0 where
   pub atom : Atom ℕ
   pub there : atom_at store l ≡ Some atom

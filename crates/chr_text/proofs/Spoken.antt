@@ -16,7 +16,7 @@ use Rattle.chr_grammar.specs.Parsing.{Front, either, behind, members_at, is_comm
 use Rattle.chr_text.specs.Fitting.{NamePlain, WordPlain, PhrasePlain, TestPlain, MemberPlain, RulePlain}
 use Rattle.chr_text.proofs.Plain.{if_bind, if_cond, LexemePlain, AllPlain, all_dropped}
 
--- what is read at the front is so, and the tokens behind it have plain names
+-- what is read at the front is so, and the tokens after it have plain names
 abbrev pub FrontPlain : {A : Type 0} → (A → Type 0) → A × List Lexeme → Type 0
 FrontPlain P x = P x.0 × AllPlain x.1
 
@@ -61,7 +61,7 @@ phrases_plain ts all = members_plain PhrasePlain phrase_at phrase_plain (length 
 pub phrases_are_plain : (ts : List Lexeme) (ps : List ParsedAtom) → AllPlain ts → phrases_of ts ≡ Ok ps → AllByRecursion PhrasePlain ps
 phrases_are_plain ts ps all h = subst (λ (r : Result (List ParsedAtom) Kind). IfOk r (AllByRecursion PhrasePlain)) h (phrases_plain ts all)
 
--- ---- expressions: the tokens behind them have plain names
+-- ---- expressions: the tokens after them have plain names
 
 abbrev pub Whatever : {A : Type 0} → A → Type 0
 Whatever a = Unit {0}

@@ -30,7 +30,7 @@ found_first-step : (b c : Bool) (m n : ℕ) → (b || c) ≡ true → (c ≡ tru
 found_first-step true c m n h f = refl
 found_first-step false c m n h f = ap (λ (k : ℕ). 1 + k) (f h)
 
--- what is found is found at the same place with more behind it
+-- what is found is found at the same place with more after it
 pub found_first : {A : Type 0} (p : A → Bool) (xs ys : List A) → list_any p xs ≡ true → position_or_len p (xs ++ ys) ≡ position_or_len p xs
 found_first p [] ys h = absurd cc
 found_first p (x ∷ xs) ys h = found_first-step (p x) (list_any p xs) (position_or_len p (xs ++ ys)) (position_or_len p xs) h (found_first p xs ys)

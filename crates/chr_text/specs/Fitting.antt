@@ -93,7 +93,7 @@ MemberPlain parsed.Nothing = Unit {0}
 MemberPlain (parsed.Is x e) = Unit {0}
 MemberPlain (parsed.Add p) = PhrasePlain p
 
--- the names of a rule, its rule_name aside
+-- the names of a rule, its own name aside
 pub record RulePlain (r : ParsedRule) : Type 0 where
   pub kept : AllByRecursion PhrasePlain r.kept
   pub removed : AllByRecursion PhrasePlain r.removed
