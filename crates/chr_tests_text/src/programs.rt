@@ -1,4 +1,5 @@
 //! Texts of programs and of posts, each with what the reader gives.
+use crate::logs::full_table;
 use chr_lex::fault::ReadError;
 use chr_text::reading::{read_atoms, read_program};
 use chr_value::names::Names;
@@ -166,6 +167,20 @@ E04 Syntax 1: a ==> b.
 E04 Syntax 1: p().
 ";
 
+/// Texts over a full table, whose names are n0 to n65535: of programs, and of posts.
+const FULL: [&[u8]; 2] = [
+    b"
+E02 NamesFull 2: n0 <=> n1.~n2 <=> new.
+E08 Binding 1: n0 <=> new(Y).~n0 <=> new.
+ok 1: n0(n1) \\ n2(X) <=> X == n4 | n65535.
+",
+    b"
+E02 NamesFull 2: n0, n1(n2).~n3(new).
+E08 Binding 1: new(X).~new.
+ok 2: n0(n65535), n1.
+",
+];
+
 /// The number that the digits in front of the first blank spell.
 fn times(piece: &[u8]) -> usize {
     let mut number: usize = 0;
@@ -211,18 +226,27 @@ fn text_of(alloc: Global, row: &[u8]) -> Result<Vec<u8>, AllocError> {
     Ok(out)
 }
 
-/// How many rules or atoms the reader gives.
-fn count(alloc: Global, are_posts: bool, text: &[u8]) -> Result<usize, ReadError> {
-    let mut names = Names::new(alloc);
+/// How many rules or atoms the reader gives over a table of names.
+fn count(
+    alloc: Global,
+    names: &mut Names<Global>,
+    are_posts: bool,
+    text: &[u8],
+) -> Result<usize, ReadError> {
     if are_posts {
-        Ok(read_atoms(alloc, text, &mut names)?.len())
+        Ok(read_atoms(alloc, text, names)?.len())
     } else {
-        Ok(read_program(alloc, text, &mut names)?.len())
+        Ok(read_program(alloc, text, names)?.len())
     }
 }
 
-fn answer(alloc: Global, are_posts: bool, text: &[u8]) -> Result<String, AllocError> {
-    match count(alloc, are_posts, text) {
+fn answer(
+    alloc: Global,
+    names: &mut Names<Global>,
+    are_posts: bool,
+    text: &[u8],
+) -> Result<String, AllocError> {
+    match count(alloc, names, are_posts, text) {
         Ok(count) => format!(in alloc; "ok {count}"),
         Err(ReadError::Fault(fault)) => format!(in alloc; "{} {}", fault.kind, fault.line),
         Err(ReadError::Memory) => format!(in alloc; "E01"),
@@ -230,12 +254,17 @@ fn answer(alloc: Global, are_posts: bool, text: &[u8]) -> Result<String, AllocEr
 }
 
 /// Whether the reader gives what stands in front of the row's first colon.
-fn is_given(alloc: Global, are_posts: bool, row: &[u8]) -> Result<bool, AllocError> {
+fn is_given(
+    alloc: Global,
+    names: &mut Names<Global>,
+    are_posts: bool,
+    row: &[u8],
+) -> Result<bool, AllocError> {
     let Some(colon) = row.iter().position(|b| *b == b':') else {
         return Ok(true);
     };
     let text = text_of(alloc, &row[colon + 1..])?;
-    let given = answer(alloc, are_posts, &text)?;
+    let given = answer(alloc, names, are_posts, &text)?;
     Ok(given.as_bytes() == &row[..colon])
 }
 
@@ -243,11 +272,27 @@ fn is_given(alloc: Global, are_posts: bool, row: &[u8]) -> Result<bool, AllocErr
 fn texts_of_programs_and_posts(rt: HostRuntime) -> Result<(), Fail> {
     for (are_posts, table) in [(false, PROGRAMS), (false, LIMITS), (true, POSTS)] {
         for (i, row) in table.split(|b| *b == b'\n').enumerate() {
+            let mut names = Names::new(rt.alloc());
             assert!(rt;
-                is_given(rt.alloc(), are_posts, row)?,
+                is_given(rt.alloc(), &mut names, are_posts, row)?,
                 "posts: {are_posts}, row {i}"
             );
         }
     }
+    Ok(())
+}
+
+#[test]
+fn texts_over_a_full_table(rt: HostRuntime) -> Result<(), Fail> {
+    let mut names = full_table(rt.alloc())?;
+    for (are_posts, table) in [(false, FULL[0]), (true, FULL[1])] {
+        for (i, row) in table.split(|b| *b == b'\n').enumerate() {
+            assert!(rt;
+                is_given(rt.alloc(), &mut names, are_posts, row)?,
+                "posts: {are_posts}, row {i}"
+            );
+        }
+    }
+    assert_eq!(rt; names.len(), 65_536);
     Ok(())
 }
