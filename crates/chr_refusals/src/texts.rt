@@ -16,7 +16,12 @@ pub fn read_entries(memory: &Refusing<Global>, n: u64) -> Option<bool> {
     memory.refuse(n);
     let fault = read_log(memory, LOG.as_bytes(), &mut names).err();
     let refused = is_refused(memory, fault == Some(TextFault::NoMemory))?;
-    if read_log(memory, LOG.as_bytes(), &mut names).ok()?.events.len() != 7 {
+    if read_log(memory, LOG.as_bytes(), &mut names)
+        .ok()?
+        .events
+        .len()
+        != 7
+    {
         return None;
     }
     Some(refused)
