@@ -148,12 +148,14 @@ impl<A: Allocator + Copy> Store<A> {
         after: Label,
         below: Label,
     ) -> Option<Label>
-        ensures { IsLeastMatch self.now.entries (record { pred = pred; key = key_of key.entry; after = after; below = below }) result }
+        ensures least { IsLeastMatch self.now.entries (record { pred = pred; key = key_of key.entry; after = after; below = below }) result }
+        ensures whole { IsLabelled self.now }
     {
+        let atoms = &self.atoms;
         if below <= after {
             return None;
         }
-        for (label, atom) in self.atoms.range(after + 1..below) {
+        for (label, atom) in atoms.range(after + 1..below) {
             if matches_query(atom, pred, key) {
                 return Some(*label);
             }

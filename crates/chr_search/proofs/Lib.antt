@@ -1,0 +1,13 @@
+pub mod Positions
+pub mod Tree
+pub mod Plans
+pub mod Partners
+pub mod Descents
+pub mod Reaches
+pub mod Shrinking
+pub mod Asking
+pub mod Judging
+pub mod Making
+pub mod Wholes
+pub mod Searching
+pub mod Outcomes

@@ -1,0 +1,159 @@
+-- Making the trial of a position.
+use Rattle.std.proofs.Common.{◌≡◌, ℕ, zero, suc, ◌+◌, ◌<◌, ◌≤◌, Bool, true, false, ◌==◌, List, [], ◌∷◌, ◌++◌, map, take, drop, length, Option, Some, None, get_or, slice_get, refl, sym, ◌∙◌, ap, ap₂, subst, arith, length-append}
+use Rattle.std.specs.List.{AllByRecursion}
+use Rattle.std.proofs.lemmas.Bool.Decides.{nat_tests}
+use Rattle.std.proofs.lemmas.List.{length-map, take-append-drop, take_all}
+use Rattle.std.proofs.lemmas.Option.{slice_get_within, slice_get-get_or}
+use Rattle.chr_value.specs.Atoms.{Atom}
+use Rattle.chr_rule.specs.Rules.{Simpagation, rule_at}
+use Rattle.chr_rule.specs.Scope.{IsRule}
+use Rattle.chr_model.specs.Stores.{Store, atom_at, among, Distinct}
+use Rattle.chr_model.proofs.Stores.{Distinct-left}
+use Rattle.chr_plan.specs.Orders.{heads_of}
+use Rattle.chr_plan.specs.Plans.{PlanList, plan_at, ArePlans}
+use Rattle.chr_plan.specs.declared.order.Step.{Step}
+use Rattle.chr_store.specs.Labels.{GivenBefore, LabelledStore, IsLabelled}
+use Rattle.chr_search.specs.Tree.{Grows}
+use Rattle.chr_search.specs.Trials.{Join, MayFollow, Space, older, join_in, IsPlanned, Child, IsTrial, IsNext}
+use Rattle.chr_search.specs.Verdicts.{Placed, Trial, heads, labels, position, IsFormed, IsTrialOf}
+use Rattle.chr_search.proofs.Plans.{heads_in, IsWithin, IsOrder, planned_order}
+use Rattle.chr_search.proofs.Descents.{grows_in, rule_scoped}
+
+pub map_twice : {X Y Z : Type 0} (f : X → Y) (g : Y → Z) (xs : List X) → map g (map f xs) ≡ map (λ x. g (f x)) xs
+map_twice f g [] = refl
+map_twice f g (x ∷ xs) = ap (λ ys. g (f x) ∷ ys) (map_twice f g xs)
+
+-- one number more
+pub take_next : {X : Type 0} (ys : List X) (i : ℕ) (y : X) → slice_get ys i ≡ Some y → take (i + 1) ys ≡ take i ys ++ y ∷ []
+take_next [] i y e = absurd (let z : None ≡ Some y = e in cc)
+take_next (x ∷ ys) zero y e = let same : x ≡ y = (let z : Some x ≡ Some y = e in cc) in ap (λ z. z ∷ []) same
+take_next (x ∷ ys) (suc i) y e = let r = take_next ys i y e in subst (λ n. take n (x ∷ ys) ≡ x ∷ (take i ys ++ y ∷ [])) (let q : suc (i + 1) ≡ suc i + 1 = omega arith in q) (ap (λ zs. x ∷ zs) r)
+
+pub map_push : {X Y : Type 0} (f : X → Y) (xs : List X) (x : X) → map f (xs ++ x ∷ []) ≡ map f xs ++ f x ∷ []
+map_push f [] x = refl
+map_push f (y ∷ xs) x = ap (λ zs. f y ∷ zs) (map_push f xs x)
+
+pub read_more : {X : Type 0} (f : X → ℕ) (xs new : List X) (x : X) (ys : List ℕ) (i y : ℕ) → map f xs ≡ take i ys → new ≡ xs ++ x ∷ [] → f x ≡ y → slice_get ys i ≡ Some y → map f new ≡ take (i + 1) ys
+read_more f xs new x ys i y e n s at = ap (map f) n ∙ map_push f xs x ∙ ap₂ (λ zs z. zs ++ z ∷ []) e s ∙ sym (take_next ys i y at)
+
+pub all_push : {X : Type 0} (P : X → Type 0) (xs new : List X) (x : X) → AllByRecursion P xs → new ≡ xs ++ x ∷ [] → P x → AllByRecursion P new
+all_push P xs new x a e p = subst (AllByRecursion P) (sym e) (on xs a)
+  where
+    on : (ys : List _) → AllByRecursion P ys → AllByRecursion P (ys ++ x ∷ [])
+    on [] b = (p, tt)
+    on (y ∷ ys) b = (b.0, on ys b.1)
+
+-- the labels of a trial
+grows_count : (j : Join) (before more : List ℕ) → Grows (MayFollow j) before more → length before ≤ length j.order → length (before ++ more) ≤ length j.order
+grows_count j before [] g h = subst (λ (n : List ℕ). length n ≤ length j.order) (sym (append_nil before)) h
+  where
+    append_nil : (xs : List ℕ) → xs ++ [] ≡ xs
+    append_nil [] = refl
+    append_nil (x ∷ xs) = ap (λ ys. x ∷ ys) (append_nil xs)
+grows_count j before (x ∷ more) g h =
+    let less : length before < length j.order = slice_get_within j.order (length before) g.0.step g.0.step_is in
+    subst (λ (n : List ℕ). length n ≤ length j.order) (Rattle.chr_search.proofs.Tree.append_one before more x) (grows_count j (before ++ x ∷ []) more g.1 (omega (arith, length-append before (x ∷ []))))
+
+grows_live : (j : Join) (before more : List ℕ) → Grows (MayFollow j) before more → (i x : ℕ) → slice_get more i ≡ Some x → (a : Atom ℕ) × (atom_at j.store x ≡ Some a)
+grows_live j before [] g i x e = absurd (let z : None ≡ Some x = e in cc)
+grows_live j before (y ∷ more) g zero x e = let same : y ≡ x = (let z : Some y ≡ Some x = e in cc) in (g.0.atom, subst (λ l. atom_at j.store l ≡ Some g.0.atom) same g.0.live)
+grows_live j before (y ∷ more) g (suc i) x e = grows_live j (before ++ y ∷ []) more g.1 i x e
+
+-- what the parts of an admissible trial are
+pub record Parts (s : Space) (r h : ℕ) (ls : List ℕ) (rule : Simpagation ℕ) (order : List Step) : Type 0 where
+  pub planned : IsPlanned s r h rule order
+  pub some : 1 ≤ length ls
+  pub count : length ls ≤ length order
+  pub live : (i x : ℕ) → slice_get ls i ≡ Some x → (a : Atom ℕ) × (atom_at s.store x ≡ Some a)
+
+pub parts : (s : Space) (r h : ℕ) (ls p : List ℕ) (rule : Simpagation ℕ) (order : List Step) → r ∷ h ∷ ls ≡ p → IsTrial s p → rule_at s.rules r ≡ Some rule → plan_at s.plans r h ≡ Some order → Parts s r h ls rule order
+parts s r h ls p rule order e t ri oi =
+    let i : IsTrial s (r ∷ h ∷ ls) = subst (IsTrial s) (sym e) t in
+    let q : IsPlanned s r h rule order = record { rule_is = ri; order_is = oi } in
+    let g = grows_in s r h rule order q [] ls i.grows.1.1 in
+    record { planned = q; some = (let d : 3 ≤ length (r ∷ h ∷ ls) = i.deep in omega arith); count = grows_count (join_in s rule order) [] ls g (omega arith); live = grows_live (join_in s rule order) [] ls g }
+
+pub read_at : (xs : List ℕ) (i d : ℕ) → i < length xs → slice_get xs i ≡ Some (get_or xs i d)
+read_at xs i d h = slice_get-get_or xs i d h
+
+-- what holds of the trial that is made
+label_high : (next : ℕ) (es : Store) → GivenBefore next es → (l : ℕ) (a : Atom ℕ) → atom_at es l ≡ Some a → l < next
+label_high next [] g l a e = absurd (let z : None ≡ Some a = e in cc)
+label_high next (x ∷ es) g l a e =
+    elim (x.0 == l) as (λ b. (x.0 == l ≡ b) → l < next) [
+      | true ↦ λ b. (let less : x.0 < next = g.0.1 in let same : x.0 ≡ l = grind (arith, nat_tests) in omega arith)
+      | false ↦ λ b. label_high next es g.1 l a (sym (grind (arith, nat_tests)) ∙ e)
+    ] refl
+
+small_labels : (s : LabelledStore) → IsLabelled s → (ps : List Placed) → AllByRecursion (λ p. atom_at s.entries p.label ≡ Some p.atom) ps → AllByRecursion (λ p. p.label ≤ 4294967295) ps
+small_labels s w [] a = tt
+small_labels s w (p ∷ ps) a =
+    (let less : p.label < s.next = label_high s.next s.entries w.given p.label p.atom a.0 in let within : s.next ≤ s.limit + 1 = w.within in let limit : s.limit ≤ 4294967295 = w.limit in omega arith, small_labels s w ps a.1)
+
+heads_within : (n : ℕ) (order : List Step) → AllByRecursion (IsWithin n) order → AllByRecursion (λ h. (1 ≤ h) × (h ≤ n)) (heads_in order)
+heads_within n [] a = tt
+heads_within n (x ∷ order) a = (a.0, heads_within n order a.1)
+
+all_take : (P : ℕ → Type 0) (k : ℕ) (xs : List ℕ) → AllByRecursion P xs → AllByRecursion P (take k xs)
+all_take P zero xs a = tt
+all_take P (suc k) [] a = tt
+all_take P (suc k) (x ∷ xs) a = (a.0, all_take P k xs a.1)
+
+placed_within : (n : ℕ) (ps : List Placed) → AllByRecursion (λ h. (1 ≤ h) × (h ≤ n)) (map (λ (p : Placed). p.head) ps) → AllByRecursion (λ p. p.label ≤ 4294967295) ps → AllByRecursion (λ p. (1 ≤ p.head) × (p.head ≤ n) × (p.label ≤ 4294967295)) ps
+placed_within n [] a b = tt
+placed_within n (p ∷ ps) a b = ((a.0.0, a.0.1, b.0), placed_within n ps a.1 b.1)
+
+pub formed : (s : Space) (t : Trial) (order : List Step) (store : LabelledStore) → ArePlans s.rules s.plans → store.entries ≡ s.store → IsLabelled store → IsRule t.rule → 1 ≤ t.number → 1 ≤ t.head → Parts s t.number t.head (labels t) t.rule order
+    → heads t ≡ take (length t.placed) (heads_in order) → AllByRecursion (λ p. atom_at s.store p.label ≡ Some p.atom) t.placed → IsFormed t
+formed s t order store ps st w scoped number head p hs live =
+    let o = planned_order s.rules s.plans ps t.number t.head t.rule order p.planned.rule_is p.planned.order_is in
+    let n : ℕ = length (heads_of t.rule) in
+    let same : length (labels t) ≡ length t.placed = length-map t.placed (λ (x : Placed). x.label) in
+    let some : 1 ≤ length (labels t) = p.some in
+    let count : length (labels t) ≤ length order = p.count in
+    let all : length order ≡ n = o.count in
+    record {
+      scoped = scoped;
+      number = number;
+      head = head;
+      some = omega arith;
+      few = omega arith;
+      distinct = subst Distinct (sym hs) (Distinct-left (take (length t.placed) (heads_in order)) (drop (length t.placed) (heads_in order)) (subst Distinct (sym (take-append-drop (length t.placed) (heads_in order))) o.distinct));
+      within = placed_within n t.placed (subst (AllByRecursion (λ h. (1 ≤ h) × (h ≤ n))) (sym hs) (all_take (λ h. (1 ≤ h) × (h ≤ n)) (length t.placed) (heads_in order) (heads_within n order o.within)))
+          (small_labels store w t.placed (subst (λ es. AllByRecursion (λ p. atom_at es p.label ≡ Some p.atom) t.placed) (sym st) live));
+      full = λ e h low high.
+          let whole : take (length t.placed) (heads_in order) ≡ heads_in order = take_all (length t.placed) (heads_in order) (let l : length (heads_in order) ≡ length order = length-map order (λ (x : Step). x.head) in omega arith) in
+          ap (λ (xs : List ℕ). among xs h) (hs ∙ whole) ∙ o.named h low high;
+    }
+
+-- what the loop has read
+pub record Read (s : Space) (t : Trial) (order : List Step) (ls : List ℕ) : Type 0 where
+  pub labels_are : labels t ≡ ls
+  pub heads_are : heads t ≡ take (length t.placed) (heads_in order)
+  pub live : AllByRecursion (λ p. atom_at s.store p.label ≡ Some p.atom) t.placed
+
+all_map : {X Y : Type 0} (P : Y → Type 0) (f : X → Y) (xs : List X) → AllByRecursion (λ x. P (f x)) xs → AllByRecursion P (map f xs)
+all_map P f [] a = tt
+all_map P f (x ∷ xs) a = (a.0, all_map P f xs a.1)
+
+pub read_all : {X : Type 0} (f : X → Placed) (s : Space) (t : Trial) (order : List Step) (xs : List X) (i : ℕ) (ls : List ℕ) → t.placed ≡ map f xs → map (λ x. (f x).head) xs ≡ take i (heads_in order) → map (λ x. (f x).label) xs ≡ take i ls → AllByRecursion (λ x. atom_at s.store (f x).label ≡ Some (f x).atom) xs → length ls ≤ i → i ≤ length ls → Read s t order ls
+read_all f s t order xs i ls is hs lbs live past within =
+    let labels_are : labels t ≡ ls = ap (map (λ (p : Placed). p.label)) is ∙ map_twice f (λ (p : Placed). p.label) xs ∙ lbs ∙ take_all i ls past in
+    let count : length t.placed ≡ i = sym (length-map t.placed (λ (p : Placed). p.label)) ∙ ap length labels_are ∙ (let e : length ls ≡ i = omega arith in e) in
+    record {
+      labels_are = labels_are;
+      heads_are = ap (map (λ (p : Placed). p.head)) is ∙ map_twice f (λ (p : Placed). p.head) xs ∙ hs ∙ ap (λ n. take n (heads_in order)) (sym count);
+      live = subst (AllByRecursion (λ p. atom_at s.store p.label ≡ Some p.atom)) (sym is) (all_map (λ p. atom_at s.store p.label ≡ Some p.atom) f xs live);
+    }
+
+pub heads_read : (order : List Step) (i : ℕ) (d : Step) → i < length order → slice_get (heads_in order) i ≡ Some ((get_or order i d).head)
+heads_read [] i d h = absurd (omega arith)
+heads_read (x ∷ order) zero d h = refl
+heads_read (x ∷ order) (suc i) d h = heads_read order i d (omega arith)
+
+pub parts_as : (s : Space) (r h : ℕ) (ls new : List ℕ) (rule same : Simpagation ℕ) (order : List Step) → Parts s r h ls rule order → new ≡ ls → same ≡ rule → Parts s r h new same order
+parts_as s r h ls new rule same order p e f = subst (λ x. Parts s r h new x order) (sym f) (subst (λ x. Parts s r h x rule order) (sym e) p)
+
+-- the least trial is a trial
+pub next_trial : (s : Space) (place t : List ℕ) → IsNext s place t → IsTrial s t
+next_trial s place t l = subst (IsTrial s) (sym l.is) (record { grows = l.beyond.grows; deep = l.beyond.deep })

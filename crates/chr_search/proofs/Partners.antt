@@ -1,0 +1,257 @@
+-- Labels to which partners are added, one after another.
+use Rattle.std.proofs.Common.{◌≡◌, ◌≢◌, ◌↔◌, ℕ, zero, suc, ◌+◌, ◌<◌, ◌≤◌, Bool, true, false, List, [], ◌∷◌, ◌++◌, length, Option, Some, None, MatchOption, slice_get, refl, sym, ◌∙◌, ap, subst, arith, ◌⊎◌, inl, inr, true≢false}
+use Rattle.std.proofs.lemmas.Bool.Decides.{nat_tests}
+use Rattle.chr_value.specs.Atoms.{Value, Atom}
+use Rattle.chr_rule.specs.Rules.{Term, Var, Given, RuleAtom, head_at}
+use Rattle.chr_guard.specs.Values.{Valuation, term_under}
+use Rattle.chr_guard.specs.Bindings.{bound_at, Extends, Narrows, NoneUnder}
+use Rattle.chr_guard.specs.Matching.{IsFit}
+use Rattle.chr_model.specs.Stores.{atom_at, among, Distinct}
+use Rattle.chr_plan.specs.declared.order.Step.{Step}
+use Rattle.chr_store.specs.Keys.{arg_at, HasPred, HasKey, Query, Matches, IsLeastMatch}
+use Rattle.chr_value.specs.declared.atom.Pred.{Pred}
+use Rattle.chr_search.specs.Positions.{at_or_after}
+use Rattle.chr_search.specs.Tree.{Children, Beyond, Least, NoneBeyond, LeastFrom, NoneFrom}
+use Rattle.chr_search.specs.Trials.{Join, StandsAt, Fit, value_in, given_at, HasHeadPred, HasKeyValue, IsInTurn, MayFollow}
+use Rattle.chr_search.specs.Partners.{IsReady, LengthenedIf, KeyIs}
+use Rattle.chr_search.proofs.Tree.{Come, under, under_same, under_other, here, come_first, come_at, come_to_end, come_found, come_on}
+use Rattle.chr_search.proofs.Plans.{distinct_push, among_push}
+
+-- one label more
+pub fit_push : (j : Join) (v : Valuation) (steps : List Step) (before : List ℕ) (step : Step) (l : ℕ) → slice_get steps (length before) ≡ Some step → Fit j v steps before → StandsAt j v step l → Fit j v steps (before ++ l ∷ [])
+fit_push j v [] before step l at f s = absurd (let z : None ≡ Some step = at in cc)
+fit_push j v (x ∷ steps) [] step l at f s = let same : step ≡ x = (let z : Some x ≡ Some step = at in cc) in (subst (λ y. StandsAt j v y l) same s, tt)
+fit_push j v (x ∷ steps) (k ∷ before) step l at f s = (f.0, fit_push j v steps before step l at f.1 s)
+
+pub fit_less : (j : Join) (v : Valuation) (steps : List Step) (before : List ℕ) (l : ℕ) → Fit j v steps (before ++ l ∷ []) → (step : Step) × (slice_get steps (length before) ≡ Some step) × Fit j v steps before × StandsAt j v step l
+fit_less j v [] [] l f = absurd f
+fit_less j v [] (k ∷ before) l f = absurd f
+fit_less j v (x ∷ steps) [] l f = (x, refl, tt, f.0)
+fit_less j v (x ∷ steps) (k ∷ before) l f = let r = fit_less j v steps before l f.1 in (r.0, r.1, (f.0, r.2), r.3)
+
+distinct_less : (xs : List ℕ) (x : ℕ) → Distinct (xs ++ x ∷ []) → among xs x ≡ false
+distinct_less [] x d = refl
+distinct_less (y ∷ xs) x d = let e : among (xs ++ x ∷ []) y ≡ false = d.0 in let p = among_push xs x y in let r = distinct_less xs x d.1 in grind (arith, nat_tests, p, e, r)
+
+pub ready_more : (j : Join) (labels : List ℕ) (binding next : List (Option (Value ℕ))) (step : Step) (l : ℕ) → IsReady j labels binding → slice_get j.order (length labels) ≡ Some step → among labels l ≡ false → Narrows (λ v. StandsAt j v step l) binding next → IsReady j (labels ++ l ∷ []) next
+ready_more j labels binding next step l r at away n = record {
+  distinct = distinct_push labels l r.distinct away;
+  fit = record {
+    places = n.places ∙ r.fit.places;
+    exactly = λ v. (
+      λ e. let m = (n.exactly v).0 e in fit_push j v j.order labels step l at ((r.fit.exactly v).0 m.0) m.1,
+      λ f. let m = fit_less j v j.order labels l f in
+          let z : Some m.0 ≡ Some step = sym m.1 ∙ at in
+          let same : m.0 ≡ step = cc in
+          (n.exactly v).1 ((r.fit.exactly v).1 m.2, subst (λ y. StandsAt j v y l) same m.3),
+    );
+  };
+}
+
+pub repeated : (j : Join) (labels : List ℕ) (l x : ℕ) → among labels l ≡ true → MayFollow j (labels ++ l ∷ []) x → ⊥
+repeated j labels l x there m = true≢false (sym there ∙ distinct_less labels l m.distinct)
+
+pub no_fit : (j : Join) (labels : List ℕ) (binding : List (Option (Value ℕ))) (step : Step) (l x : ℕ) → IsReady j labels binding → slice_get j.order (length labels) ≡ Some step → NoneUnder (λ v. StandsAt j v step l) binding → MayFollow j (labels ++ l ∷ []) x → ⊥
+no_fit j labels binding step l x r at n m =
+    let f = fit_less j m.valuation j.order labels l m.fits in
+    let z : Some f.0 ≡ Some step = sym f.1 ∙ at in
+    let same : f.0 ≡ step = cc in
+    n m.valuation ((r.fit.exactly m.valuation).1 f.2) (subst (λ y. StandsAt j m.valuation y l) same f.3)
+
+pub no_step : (j : Join) (labels : List ℕ) (l x : ℕ) → slice_get j.order (length labels) ≡ None → MayFollow j (labels ++ l ∷ []) x → ⊥
+no_step j labels l x at m = let f = fit_less j m.valuation j.order labels l m.fits in let z : None ≡ Some f.0 = sym at ∙ f.1 in absurd (cc)
+
+-- the values that a binding gives are those of the valuations that extend it
+given_grows : (v : Valuation) (binding : List (Option (Value ℕ))) → Extends v binding → (head : RuleAtom ℕ) (place : ℕ) (x : Value ℕ) → given_at (bound_at binding) head place ≡ Some x → given_at v head place ≡ Some x
+given_grows v binding e head zero x g = g
+given_grows v binding e head (suc i) x g = by_term (slice_get head.args i) g
+  where
+    by_term : (o : Option (Term ℕ)) → value_in (bound_at binding) o ≡ Some x → value_in v o ≡ Some x
+    by_term None h = h
+    by_term (Some (Var y)) h = e y x h
+    by_term (Some (Given a)) h = h
+
+-- what is asked of the store for the next partner
+pub record IsAsked (j : Join) (labels : List ℕ) (binding : List (Option (Value ℕ))) (from : ℕ) (q : Query) : Type 0 where
+  pub some : 1 ≤ length labels
+  pub ready : IsReady j labels binding
+  pub step : Step
+  pub step_is : slice_get j.order (length labels) ≡ Some step
+  pub head : RuleAtom ℕ
+  pub head_is : head_at j.rule step.head ≡ Some head
+  pub name : q.pred.name.number ≡ head.name
+  pub arity : q.pred.arity ≡ length head.args
+  pub key : KeyIs (bound_at binding) head step.key q.key
+  pub over : (l : ℕ) → 1 ≤ l → (from ≤ l) ↔ (q.after < l)
+  pub under : q.below ≡ j.bound
+  pub labelled : (l : ℕ) (a : Atom ℕ) → atom_at j.store l ≡ Some a → 1 ≤ l
+
+has_key : (v : Valuation) (binding : List (Option (Value ℕ))) → Extends v binding → (head : RuleAtom ℕ) (place : Option ℕ) (key : Option (ℕ × Value ℕ)) (a : Atom ℕ) → KeyIs (bound_at binding) head place key → HasKeyValue v head place a → HasKey key a
+has_key v binding e head None key a k h = subst (λ o. HasKey o a) (sym k) tt
+has_key v binding e head (Some p) key a k h =
+    let z : Some h.0 ≡ Some k.0 = sym h.1 ∙ given_grows v binding e head p k.0 k.1 in
+    let same : h.0 ≡ k.0 = cc in
+    subst (λ o. HasKey o a) (sym k.2) (h.2 ∙ ap (λ x. Some x) same)
+
+has_value : (binding : List (Option (Value ℕ))) (head : RuleAtom ℕ) (place : Option ℕ) (key : Option (ℕ × Value ℕ)) (a : Atom ℕ) → KeyIs (bound_at binding) head place key → HasKey key a → HasKeyValue (bound_at binding) head place a
+has_value binding head None key a k h = tt
+has_value binding head (Some p) key a k h = (k.0, k.1, subst (λ o. HasKey o a) k.2 h)
+
+in_turn : (j : Join) (labels : List ℕ) (l : ℕ) → 1 ≤ length labels → IsInTurn j labels l → l < j.bound
+in_turn j [] l some t = absurd (omega arith)
+in_turn j (x ∷ labels) l some t = t
+
+turn_in : (j : Join) (labels : List ℕ) (l : ℕ) → 1 ≤ length labels → l < j.bound → IsInTurn j labels l
+turn_in j [] l some t = absurd (omega arith)
+turn_in j (x ∷ labels) l some t = t
+
+asked_for : (j : Join) (labels : List ℕ) (binding : List (Option (Value ℕ))) (from : ℕ) (q : Query) → IsAsked j labels binding from q → (l : ℕ) → from ≤ l → MayFollow j labels l → Matches j.store q l
+asked_for j labels binding from q a l low m =
+    let s : Some m.step ≡ Some a.step = sym m.step_is ∙ a.step_is in
+    let step : m.step ≡ a.step = cc in
+    let h : Some m.head ≡ Some a.head = sym m.head_is ∙ ap (λ (x : Step). head_at j.rule x.head) step ∙ a.head_is in
+    let head : m.head ≡ a.head = cc in
+    let extends = (a.ready.fit.exactly m.valuation).1 m.fits in
+    let key : HasKeyValue m.valuation a.head a.step.key m.atom = subst (λ x. HasKeyValue m.valuation x a.step.key m.atom) head (subst (λ (x : Step). HasKeyValue m.valuation m.head x.key m.atom) step m.key) in
+    let below : l < j.bound = in_turn j labels l a.some m.turn in
+    record {
+      atom = m.atom;
+      there = m.live;
+      pred = (m.pred.0 ∙ ap (λ (x : RuleAtom ℕ). x.name) head ∙ sym a.name, m.pred.1 ∙ ap (λ (x : RuleAtom ℕ). length x.args) head ∙ sym a.arity);
+      key = has_key m.valuation binding extends a.head a.step.key q.key m.atom a.key key;
+      over = (a.over l (a.labelled l m.atom m.live)).0 low;
+      under = subst (λ x. l < x) (sym a.under) below;
+    }
+
+found_follows : (j : Join) (labels : List ℕ) (binding : List (Option (Value ℕ))) (from : ℕ) (q : Query) → IsAsked j labels binding from q → (l : ℕ) → Matches j.store q l → MayFollow j labels l
+found_follows j labels binding from q a l m = record {
+  turn = turn_in j labels l a.some (subst (λ x. l < x) a.under m.under);
+  distinct = a.ready.distinct;
+  valuation = bound_at binding;
+  fits = (a.ready.fit.exactly (bound_at binding)).0 (λ x t e. e);
+  step = a.step;
+  step_is = a.step_is;
+  head = a.head;
+  head_is = a.head_is;
+  atom = m.atom;
+  live = m.there;
+  pred = (m.pred.0 ∙ a.name, m.pred.1 ∙ a.arity);
+  key = has_value binding a.head a.step.key q.key m.atom a.key m.key;
+}
+
+pub least_partner : (j : Join) (labels : List ℕ) (binding : List (Option (Value ℕ))) (from : ℕ) (q : Query) → IsAsked j labels binding from q → (found : Option ℕ) → IsLeastMatch j.store q found → MatchOption found (NoneFrom (MayFollow j labels) from) (LeastFrom (MayFollow j labels) from)
+least_partner j labels binding from q a None n = λ l m low. n l (asked_for j labels binding from q a l low m)
+least_partner j labels binding from q a (Some l) n = record {
+  holds = found_follows j labels binding from q a l n.0;
+  there = (a.over l (a.labelled l n.0.atom n.0.there)).1 n.0.over;
+  least = λ m f low. n.1 m (asked_for j labels binding from q a m low f);
+}
+
+-- no head is left
+pub no_head : (j : Join) (labels : List ℕ) (x : ℕ) → slice_get j.order (length labels) ≡ None → MayFollow j labels x → ⊥
+no_head j labels x e m = let z : None ≡ Some m.step = sym e ∙ m.step_is in absurd (cc)
+
+-- what a search at a place below a list comes to
+come_least : (C : Children) (d : ℕ) (path place : List ℕ) (from : ℕ) (below found : List ℕ) → Come C d path place from below → Least C d path (from ∷ below) found → Least C d path place found
+come_least C d path place from below found c l = record {
+  more = l.more;
+  is = l.is;
+  beyond = record { grows = l.beyond.grows; deep = l.beyond.deep; there = c.back l.more l.beyond.there };
+  least = λ other b. l.least other (record { grows = b.grows; deep = b.deep; there = c.into other b });
+}
+
+come_none : (C : Children) (d : ℕ) (path place : List ℕ) (from : ℕ) (below : List ℕ) → Come C d path place from below → NoneBeyond C d path (from ∷ below) → NoneBeyond C d path place
+come_none C d path place from below c n other b = n other (record { grows = b.grows; deep = b.deep; there = c.into other b })
+
+one_more : (labels : List ℕ) (l : ℕ) → 1 ≤ length (labels ++ l ∷ [])
+one_more [] l = omega arith
+one_more (x ∷ labels) l = omega arith
+
+-- the least label at or after the place is the least there, unless the place goes on below it
+pub lengthened : (j : Join) (labels : List ℕ) (first : ℕ) (below : List ℕ) (l : ℕ) → LeastFrom (MayFollow j labels) first l → (l ≢ first) ⊎ (below ≡ []) → Least (MayFollow j) 1 labels (first ∷ below) (labels ++ l ∷ [])
+lengthened j labels first below l f (inl ne) =
+    come_found (MayFollow j) 1 labels (first ∷ below) first below l (labels ++ l ∷ []) (come_at (MayFollow j) 1 labels first below) f
+    (subst (λ b. Least (MayFollow j) 1 (labels ++ l ∷ []) b (labels ++ l ∷ [])) (under_other first below l ne) (here (MayFollow j) 1 (labels ++ l ∷ []) (one_more labels l)))
+lengthened j labels first below l f (inr e) =
+    come_found (MayFollow j) 1 labels (first ∷ below) first below l (labels ++ l ∷ []) (come_at (MayFollow j) 1 labels first below) f
+    (subst (λ b. Least (MayFollow j) 1 (labels ++ l ∷ []) b (labels ++ l ∷ [])) (sym (none_under first l below e)) (here (MayFollow j) 1 (labels ++ l ∷ []) (one_more labels l)))
+  where
+    pick : (b : Bool) (below : List ℕ) → below ≡ [] → Rattle.std.specs.Prelude.if◌then◌else◌ b below [] ≡ []
+    pick true below e = e
+    pick false below e = refl
+
+    none_under : (from x : ℕ) (below : List ℕ) → below ≡ [] → under from below x ≡ []
+    none_under from x below e = pick (Rattle.std.specs.Prelude.◌==◌ x from) below e
+
+pub lengthened_none : (j : Join) (labels : List ℕ) (first : ℕ) (below : List ℕ) → NoneFrom (MayFollow j labels) first → NoneBeyond (MayFollow j) 1 labels (first ∷ below)
+lengthened_none j labels first below n = come_to_end (MayFollow j) 1 labels (first ∷ below) first below (come_at (MayFollow j) 1 labels first below) n
+
+-- below the least label
+pub lengthened_below : (j : Join) (labels : List ℕ) (first : ℕ) (below found : List ℕ) → LeastFrom (MayFollow j labels) first first → Least (MayFollow j) 1 (labels ++ first ∷ []) below found → Least (MayFollow j) 1 labels (first ∷ below) found
+lengthened_below j labels first below found f l =
+    come_found (MayFollow j) 1 labels (first ∷ below) first below first found (come_at (MayFollow j) 1 labels first below) f
+    (subst (λ b. Least (MayFollow j) 1 (labels ++ first ∷ []) b found) (under_same first below first refl) l)
+
+-- and past it, where there is none below it
+pub lengthened_past : (j : Join) (labels : List ℕ) (first : ℕ) (below : List ℕ) → LeastFrom (MayFollow j labels) first first → NoneBeyond (MayFollow j) 1 (labels ++ first ∷ []) below
+    → (told : Bool) (new : List ℕ) → LengthenedIf j ((first + 1) ∷ []) told labels new → LengthenedIf j (first ∷ below) told labels new
+lengthened_past j labels first below f none told new l =
+    let come : Come (MayFollow j) 1 labels (first ∷ below) (first + 1) [] = come_on (MayFollow j) 1 labels (first ∷ below) first below first (come_at (MayFollow j) 1 labels first below) f (subst (λ b. NoneBeyond (MayFollow j) 1 (labels ++ first ∷ []) b) (under_same first below first refl) none) in
+    by_told told l come
+  where
+    by_told : (b : Bool) → LengthenedIf j ((first + 1) ∷ []) b labels new → Come (MayFollow j) 1 labels (first ∷ below) (first + 1) [] → LengthenedIf j (first ∷ below) b labels new
+    by_told true k c = come_least (MayFollow j) 1 labels (first ∷ below) (first + 1) [] new c k
+    by_told false k c = (come_none (MayFollow j) 1 labels (first ∷ below) (first + 1) [] c k.0, k.1)
+
+-- the same over equal lists
+pub on_past : (j : Join) (labels mid : List ℕ) (first label next : ℕ) (below rest : List ℕ) → LeastFrom (MayFollow j labels) first label → label ≡ first → below ≡ next ∷ rest → NoneBeyond (MayFollow j) 1 (labels ++ label ∷ []) (next ∷ rest) → mid ≡ labels
+    → (told : Bool) (new : List ℕ) → LengthenedIf j ((first + 1) ∷ []) told mid new → LengthenedIf j (first ∷ below) told labels new
+on_past j labels mid first label next below rest f e b none m told new l =
+    lengthened_past j labels first below (subst (λ x. LeastFrom (MayFollow j labels) first x) e f)
+    (subst (λ z. NoneBeyond (MayFollow j) 1 (labels ++ first ∷ []) z) (sym b) (subst (λ x. NoneBeyond (MayFollow j) 1 (labels ++ x ∷ []) (next ∷ rest)) e none))
+    told new (subst (λ z. LengthenedIf j ((first + 1) ∷ []) told z new) m l)
+
+pub on_below : (j : Join) (labels pushed : List ℕ) (first label next : ℕ) (below rest found : List ℕ) → LeastFrom (MayFollow j labels) first label → label ≡ first → below ≡ next ∷ rest → pushed ≡ labels ++ label ∷ [] → Least (MayFollow j) 1 pushed (next ∷ rest) found → Least (MayFollow j) 1 labels (first ∷ below) found
+on_below j labels pushed first label next below rest found f e b p l =
+    lengthened_below j labels first below found (subst (λ x. LeastFrom (MayFollow j labels) first x) e f)
+    (subst (λ z. Least (MayFollow j) 1 (labels ++ first ∷ []) z found) (sym b) (subst (λ x. Least (MayFollow j) 1 (labels ++ x ∷ []) (next ∷ rest) found) e (subst (λ z. Least (MayFollow j) 1 z (next ∷ rest) found) p l)))
+
+-- below a label that doesn't fit
+pub none_below : (j : Join) (labels : List ℕ) (l : ℕ) (next : ℕ) (rest : List ℕ) → ((x : ℕ) → MayFollow j (labels ++ l ∷ []) x → ⊥) → NoneBeyond (MayFollow j) 1 (labels ++ l ∷ []) (next ∷ rest)
+none_below j labels l next rest n [] b = let z : false ≡ true = b.there in absurd (cc)
+none_below j labels l next rest n (y ∷ ys) b = n y b.grows.0
+
+-- the first label
+pub none_at_all : (j : Join) (place : List ℕ) → ((x : ℕ) → MayFollow j [] x → ⊥) → NoneBeyond (MayFollow j) 1 [] place
+none_at_all j [] n = come_to_end (MayFollow j) 1 [] [] 0 [] (come_first (MayFollow j) 1 [] (omega arith)) (λ y m low. n y m)
+none_at_all j (first ∷ below) n = lengthened_none j [] first below (λ y m low. n y m)
+
+pub active_least : (j : Join) (from : ℕ) → MayFollow j [] j.active → from ≤ j.active → LeastFrom (MayFollow j []) from j.active
+active_least j from m low = record { holds = m; there = low; least = λ y f k. let e : y ≡ j.active = f.turn in omega arith }
+
+pub active_past : (j : Join) (from : ℕ) → j.active < from → NoneFrom (MayFollow j []) from
+active_past j from h y m low = let e : y ≡ j.active = m.turn in absurd (omega arith)
+
+pub active_first : (j : Join) → MayFollow j [] j.active → Least (MayFollow j) 1 [] [] (j.active ∷ [])
+active_first j m = come_found (MayFollow j) 1 [] [] 0 [] j.active (j.active ∷ []) (come_first (MayFollow j) 1 [] (omega arith)) (active_least j 0 m (omega arith))
+    (subst (λ b. Least (MayFollow j) 1 (j.active ∷ []) b (j.active ∷ [])) (sym (pick (Rattle.std.specs.Prelude.◌==◌ j.active 0))) (here (MayFollow j) 1 (j.active ∷ []) (omega arith)))
+  where
+    pick : (b : Bool) → Rattle.std.specs.Prelude.if◌then◌else◌ {A = List ℕ} b [] [] ≡ []
+    pick true = refl
+    pick false = refl
+
+-- at the active label alone
+pub active_alone : (j : Join) (first : ℕ) (below : List ℕ) → MayFollow j [] j.active → first ≤ j.active → (j.active ≢ first) ⊎ (below ≡ []) → Least (MayFollow j) 1 [] (first ∷ below) (j.active ∷ [])
+active_alone j first below m low e = lengthened j [] first below j.active (active_least j first m low) e
+
+pub active_none : (j : Join) (first : ℕ) (below : List ℕ) → j.active < first → NoneBeyond (MayFollow j) 1 [] (first ∷ below)
+active_none j first below h = lengthened_none j [] first below (active_past j first h)
+
+-- and below it
+pub active_below : (j : Join) (first next : ℕ) (below rest found : List ℕ) → MayFollow j [] j.active → first ≡ j.active → below ≡ next ∷ rest → Least (MayFollow j) 1 (j.active ∷ []) (next ∷ rest) found → Least (MayFollow j) 1 [] (first ∷ below) found
+active_below j first next below rest found m e b l = on_below j [] (j.active ∷ []) first j.active next below rest found (active_least j first m (omega arith)) (sym e) b refl l
+
+pub active_none_below : (j : Join) (first next : ℕ) (below rest : List ℕ) → MayFollow j [] j.active → first ≡ j.active → below ≡ next ∷ rest → NoneBeyond (MayFollow j) 1 (j.active ∷ []) (next ∷ rest) → NoneBeyond (MayFollow j) 1 [] (first ∷ below)
+active_none_below j first next below rest m e b none =
+    (on_past j [] [] first j.active next below rest (active_least j first m (omega arith)) (sym e) b none refl false []
+    (lengthened_none j [] (first + 1) [] (active_past j (first + 1) (omega arith)), refl)).0

@@ -1,0 +1,142 @@
+-- Trials whose heads are all tried.
+use Rattle.std.proofs.Common.{◌≡◌, ◌≢◌, ◌↔◌, ℕ, zero, suc, ◌+◌, ◌<◌, ◌≤◌, Bool, true, false, IsTrue, ◌||◌, ◌==◌, if◌then◌else◌, List, [], ◌∷◌, ◌++◌, map, take, drop, length, Option, Some, None, MatchOption, slice_get, refl, sym, ◌∙◌, ap, ap₂, subst, arith, true≢false, true-eqb}
+use Rattle.std.specs.List.{AllByRecursion}
+use Rattle.std.specs.Option.{option_map}
+use Rattle.std.proofs.lemmas.Bool.Decides.{nat_tests}
+use Rattle.std.proofs.lemmas.List.{length-map}
+use Rattle.chr_value.specs.Atoms.{Value, Atom}
+use Rattle.chr_rule.specs.Rules.{RuleAtom, Simpagation, head_at}
+use Rattle.chr_rule.specs.Scope.{IsRule}
+use Rattle.chr_guard.specs.Values.{Valuation, Holds}
+use Rattle.chr_guard.specs.Bindings.{bound_at}
+use Rattle.chr_guard.specs.Instances.{atom_under, AreUnder, IsRight, added, IsInstance, NoInstance}
+use Rattle.chr_guard.specs.Matching.{IsAtHead, AreAtHeads, HeadsAre, IsFit, IsInstanceUnder}
+use Rattle.chr_guard.proofs.Under.{under_parts}
+use Rattle.chr_guard.proofs.Whole.{heads_of as instance_heads}
+use Rattle.chr_model.specs.Stores.{among, Distinct}
+use Rattle.chr_plan.specs.Orders.{heads_of}
+use Rattle.chr_search.specs.Verdicts.{Placed, Trial, heads, labels, at_heads, IsFormed, IsPart, IsWhole}
+use Rattle.chr_search.proofs.Making.{map_twice}
+
+-- the atom at a head, and the atoms at the next n heads
+abbrev pub atom_of : List Placed → ℕ → Atom ℕ
+atom_of [] h = record { name = 0; args = [] }
+atom_of (p ∷ ps) h = if p.head == h then p.atom else atom_of ps h
+
+abbrev pub atoms_from : List Placed → ℕ → ℕ → List (Atom ℕ)
+atoms_from ps h zero = []
+atoms_from ps h (suc n) = atom_of ps h ∷ atoms_from ps (suc h) n
+
+abbrev pub in_head_order : Trial → List (Atom ℕ)
+in_head_order t = atoms_from t.placed 1 (length (heads_of t.rule))
+
+abbrev pub places : List Placed → List (ℕ × Atom ℕ)
+places ps = map (λ p. (p.head, p.atom)) ps
+
+at_head : (rule : Simpagation ℕ) (v : Valuation) (ps : List Placed) → AreAtHeads rule (places ps) v → (h : ℕ) → among (map (λ (p : Placed). p.head) ps) h ≡ true → IsAtHead rule v (h, atom_of ps h)
+at_head rule v [] a h i = absurd (cc)
+at_head rule v (p ∷ ps) a h i =
+    elim (p.head == h) as (λ b. (p.head == h ≡ b) → IsAtHead rule v (h, if b then p.atom else atom_of ps h)) [
+      | true ↦ λ e. subst (λ n. IsAtHead rule v (n, p.atom)) (true-eqb p.head h (sym e)) a.0
+      | false ↦ λ e. at_head rule v ps a.1 h (grind (arith, nat_tests))
+    ] refl
+
+under_from : (v : Valuation) (ps : List Placed) (hs : List (RuleAtom ℕ)) (h : ℕ) → ((i : ℕ) → i < length hs → option_map (atom_under v) (slice_get hs i) ≡ Some (Some (atom_of ps (h + i)))) → map (atom_under v) hs ≡ map (λ a. Some a) (atoms_from ps h (length hs))
+under_from v ps [] h f = refl
+under_from v ps (x ∷ hs) h f =
+    let first : Some (atom_under v x) ≡ Some (Some (atom_of ps h)) = subst (λ n. Some (atom_under v x) ≡ Some (Some (atom_of ps n))) (let q : h + 0 ≡ h = omega arith in q) (f 0 (omega arith)) in
+    let one : atom_under v x ≡ Some (atom_of ps h) = cc in
+    ap₂ (λ y ys. y ∷ ys) one (under_from v ps hs (suc h) (λ i less. subst (λ n. option_map (atom_under v) (slice_get hs i) ≡ Some (Some (atom_of ps n))) (let q : h + suc i ≡ suc h + i = omega arith in q) (f (suc i) (omega arith))))
+
+from_under : (v : Valuation) (ps : List Placed) (hs : List (RuleAtom ℕ)) (h : ℕ) → map (atom_under v) hs ≡ map (λ a. Some a) (atoms_from ps h (length hs)) → (i : ℕ) → i < length hs → option_map (atom_under v) (slice_get hs i) ≡ Some (Some (atom_of ps (h + i)))
+from_under v ps [] h e i less = absurd (omega arith)
+from_under v ps (x ∷ hs) h e zero less =
+    let one : atom_under v x ≡ Some (atom_of ps h) = cc in
+    ap (λ o. Some o) one ∙ ap (λ n. Some (Some (atom_of ps n))) (let q : h ≡ h + 0 = omega arith in q)
+from_under v ps (x ∷ hs) h e (suc i) less =
+    from_under v ps hs (suc h) (cc) i (omega arith) ∙ ap (λ n. Some (Some (atom_of ps n))) (let q : suc h + i ≡ h + suc i = omega arith in q)
+
+-- each of them has its own atom
+others_apart : (ps : List Placed) (h : ℕ) → among (map (λ (p : Placed). p.head) ps) h ≡ false → AllByRecursion (λ q. (h == q.head) ≡ false) ps
+others_apart [] h e = tt
+others_apart (p ∷ ps) h e = ((grind (arith, nat_tests)), others_apart ps h (grind (arith, nat_tests)))
+
+past_first : (p : Placed) (ps qs : List Placed) → AllByRecursion (λ q. (p.head == q.head) ≡ false) qs → AllByRecursion (λ q. atom_of ps q.head ≡ q.atom) qs → AllByRecursion (λ q. atom_of (p ∷ ps) q.head ≡ q.atom) qs
+past_first p ps [] a b = tt
+past_first p ps (q ∷ qs) a b = (ap (λ (c : Bool). if c then p.atom else atom_of ps q.head) a.0 ∙ b.0, past_first p ps qs a.1 b.1)
+
+own_atoms : (ps : List Placed) → Distinct (map (λ (p : Placed). p.head) ps) → AllByRecursion (λ p. atom_of ps p.head ≡ p.atom) ps
+own_atoms [] d = tt
+own_atoms (p ∷ ps) d =
+    (ap (λ (c : Bool). if c then p.atom else atom_of ps p.head) (let e : (p.head == p.head) ≡ true = grind (arith, nat_tests) in e), past_first p ps ps (others_apart ps p.head d.0) (own_atoms ps d.1))
+
+back_at : (rule : Simpagation ℕ) (v : Valuation) (all ps : List Placed) → HeadsAre rule (atoms_from all 1 (length (heads_of rule))) v → AllByRecursion (λ p. (1 ≤ p.head) × (p.head ≤ length (heads_of rule)) × (p.label ≤ 4294967295)) ps → AllByRecursion (λ p. atom_of all p.head ≡ p.atom) ps → AreAtHeads rule (places ps) v
+back_at rule v all [] e w o = tt
+back_at rule v all (p ∷ ps) e w o = (by_number p.head w.0.0 w.0.1 p.atom o.0, back_at rule v all ps e w.1 o.1)
+  where
+    by_number : (h : ℕ) → 1 ≤ h → h ≤ length (heads_of rule) → (a : Atom ℕ) → atom_of all h ≡ a → IsAtHead rule v (h, a)
+    by_number zero low high a s = absurd (omega arith)
+    by_number (suc i) low high a s =
+        from_under v all (heads_of rule) 1 e i (omega arith) ∙ ap (λ x. Some (Some x)) (ap (atom_of all) (let q : 1 + i ≡ suc i = omega arith in q) ∙ s)
+
+-- all heads are tried: the labels' atoms in head order are the heads'
+pub all_heads : (t : Trial) → IsFormed t → length t.placed ≡ length (heads_of t.rule) → (v : Valuation) → AreAtHeads t.rule (at_heads t) v ↔ HeadsAre t.rule (in_head_order t) v
+all_heads t f full v = (
+  λ a. under_from v t.placed (heads_of t.rule) 1 (λ i less.
+      subst (λ n. option_map (atom_under v) (slice_get (heads_of t.rule) i) ≡ Some (Some (atom_of t.placed n))) (let q : suc i ≡ 1 + i = omega arith in q)
+      (at_head t.rule v t.placed a (suc i) (f.full full (suc i) (omega arith) (omega arith)))),
+  λ e. back_at t.rule v t.placed t.placed e f.within (own_atoms t.placed f.distinct),
+)
+
+pub full_fit : (t : Trial) → IsFormed t → length t.placed ≡ length (heads_of t.rule) → (binding : List (Option (Value ℕ))) → IsFit t.rule (AreAtHeads t.rule (at_heads t)) binding → IsFit t.rule (HeadsAre t.rule (in_head_order t)) binding
+full_fit t f full binding b = record {
+  places = b.places;
+  exactly = λ v. (λ e. (all_heads t f full v).0 ((b.exactly v).0 e), λ h. (b.exactly v).1 ((all_heads t f full v).1 h));
+}
+
+pub is_whole : (t : Trial) → IsFormed t → length t.placed ≡ length (heads_of t.rule) → Distinct (labels t) → (binding : List (Option (Value ℕ))) → IsInstanceUnder t.rule (in_head_order t) binding → IsWhole t
+is_whole t f full d binding i = record {
+  full = full;
+  distinct = d;
+  valuation = i.instance.valuation;
+  fits = (all_heads t f full i.instance.valuation).1 (instance_heads t.rule (in_head_order t) i.body i.instance);
+  guard = i.instance.guard;
+  right = i.instance.right;
+  body = i.body;
+  body_is = i.instance.body_is;
+}
+
+pub whole_instance : (t : Trial) → IsFormed t → (w : IsWhole t) → IsInstance t.rule (in_head_order t) w.body
+whole_instance t f w =
+    let parts = under_parts w.valuation t.rule.kept t.rule.removed (in_head_order t) ((all_heads t f w.full w.valuation).0 w.fits) in
+    record {
+      valuation = w.valuation;
+      guard = w.guard;
+      right = w.right;
+      kept_are = parts.0;
+      removed_are = parts.1;
+      some_removed = λ e. (
+          let none : length t.rule.removed ≡ 0 = sym (length-map t.rule.removed (atom_under w.valuation)) ∙ ap length parts.1 ∙ length-map (drop (length t.rule.kept) (in_head_order t)) (λ a. Some a) ∙ ap length e in
+          let some : 0 < length t.rule.removed = f.scoped.limits.removed in
+          absurd (omega arith)
+          );
+      body_is = w.body_is;
+    }
+
+-- the verdicts
+pub never_distinct : (t : Trial) → (Distinct (labels t) → ⊥) → (IsWhole t → ⊥) × (IsPart t → ⊥)
+never_distinct t n = (λ w. n w.distinct, λ p. n p.distinct)
+
+pub never_fits : (t : Trial) → ((v : Valuation) → AreAtHeads t.rule (at_heads t) v → ⊥) → (IsWhole t → ⊥) × (IsPart t → ⊥)
+never_fits t n = (λ w. n w.valuation w.fits, λ p. n p.valuation p.fits)
+
+pub no_instance : (t : Trial) → IsFormed t → length t.placed ≡ length (heads_of t.rule) → NoInstance t.rule (in_head_order t) → (IsWhole t → ⊥) × (IsPart t → ⊥)
+no_instance t f full n = (λ w. n w.body (whole_instance t f w), λ p. let left : length t.placed < length (heads_of t.rule) = p.left in absurd (omega arith))
+
+pub none_of : {A : Type 0} (found : Option A) (P : Type 0) (Q : A → Type 0) → MatchOption found P Q → found ≡ None → P
+none_of None P Q m e = m
+none_of (Some x) P Q m e = absurd (let z : Some x ≡ None = e in cc)
+
+pub some_of : {A : Type 0} (found : Option A) (P : Type 0) (Q : A → Type 0) (x : A) → MatchOption found P Q → found ≡ Some x → Q x
+some_of None P Q x m e = absurd (let z : None ≡ Some x = e in cc)
+some_of (Some y) P Q x m e = let same : y ≡ x = (let z : Some y ≡ Some x = e in cc) in subst Q same m

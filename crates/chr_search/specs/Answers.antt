@@ -1,0 +1,24 @@
+-- What a search answers, and where it goes on.
+use Rattle.std.specs.Prelude.{ℕ, List}
+use Rattle.chr_search.specs.declared.search.Ask.{Ask as CodeAsk}
+use Rattle.chr_search.specs.declared.search.Ask.TheVariants as answers
+use Rattle.chr_search.specs.declared.judged.Verdict.{Verdict}
+use Rattle.chr_search.specs.declared.judged.Verdict.TheVariants as verdicts
+use Rattle.chr_search.specs.Positions.{just_after, past}
+use Rattle.chr_search.specs.Trials.{Space, IsNext, NoneLeft}
+use Rattle.chr_search.specs.Verdicts.{Trial, position, IsTrialOf}
+use Rattle.chr_search.specs.Judged.{Judgement}
+
+-- the least admissible trial at or after a position with the store's atoms; done, where there is none
+abbrev pub IsAnswer : {Z : Type 0} → Space → List ℕ → CodeAsk Z → Type 0
+IsAnswer s place (answers.Trial t) = IsNext s place (position t) × IsTrialOf s.rules s.plans s.store t
+IsAnswer s place answers.Done = NoneLeft s place
+
+-- just after a part, and past any other trial
+abbrev pub after_verdict : Verdict → List ℕ → List ℕ
+after_verdict verdicts.Part t = just_after t
+after_verdict verdicts.Whole t = past t
+after_verdict verdicts.Misfit t = past t
+
+abbrev pub after_judging : Judgement → List ℕ
+after_judging j = after_verdict j.verdict (position j.trial)

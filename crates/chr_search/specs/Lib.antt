@@ -1,0 +1,11 @@
+pub mod Positions
+pub mod Tree
+pub mod Trials
+pub mod Partners
+pub mod Joined
+pub mod Admissible
+pub mod Reach
+pub mod Verdicts
+pub mod Placed
+pub mod Judged
+pub mod Answers

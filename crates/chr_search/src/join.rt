@@ -1,0 +1,185 @@
+//! The partners of an active label at the heads of a plan.
+ghost use Rattle.std.specs.Prelude.{◌≡◌, ◌↔◌, ℕ, ◌∷◌, ◌++◌, ◌≤◌, [], length, MatchOption, IsTrue};
+ghost use Rattle.chr_guard.specs.Bindings.{Narrows, NoneUnder};
+ghost use Rattle.chr_rule.specs.Parts.{shape};
+ghost use Rattle.chr_store.specs.Keys.{HasPred};
+ghost use Rattle.chr_search.specs.Tree.{Least, NoneBeyond, LeastFrom, NoneFrom};
+ghost use Rattle.chr_search.specs.Trials.{MayFollow, StandsAt};
+ghost use Rattle.chr_search.specs.Partners.{HasPlan, IsReady, LengthenedIf};
+ghost use Rattle.chr_search.specs.Joined.{join_of};
+
+use chr_guard::binding::Binding;
+use chr_guard::matching::fit_head;
+use chr_log::events::Labels;
+use chr_plan::order::Step;
+use chr_rule::rule::Rule;
+use chr_rule::rule_atom::RuleAtom;
+use chr_store::store::{Label, Store};
+use chr_value::atom::Pred;
+use std::alloc::Allocator;
+
+/// A rule and a plan of it, and the store in which partners older than an active label are looked for.
+#[derive(Drop)]
+pub(crate) struct Join<'s, A: Allocator> {
+    pub(crate) rule: &'s Rule<A>,
+    pub(crate) order: &'s [Step],
+    pub(crate) store: &'s Store<A>,
+    pub(crate) active: Label,
+}
+
+/// The predicate of a head.
+fn pred_of(head: &RuleAtom) -> Pred
+    ensures name { result.name.number ≡ (shape head.now).name }
+    ensures arity { result.arity ≡ length (shape head.now).args }
+{
+    Pred {
+        name: head.name,
+        arity: head.terms.len() as u8,
+    }
+}
+
+impl<'s, A: Allocator + Copy> Join<'s, A> {
+    /// The binding under which the step's head is the label's atom as well. None where there is none, or the label has
+    /// left the store.
+    fn fit_label(&self, binding: &Binding<'s>, step: Step, label: Label) -> Option<Binding<'s>>
+        requires { length binding.now ≡ self.now.rule.now.variables }
+        ensures { MatchOption result (NoneUnder (λ v. StandsAt (join_of self.now) v step label) binding.now) (Narrows (λ v. StandsAt (join_of self.now) v step label) binding.now) }
+    {
+        let head = self.rule.head(usize::from(step.head))?;
+        let atom = self.store.get(label)?;
+        let mut next = binding.copy();
+        if !fit_head(&mut next, head, atom) {
+            return None;
+        }
+        Some(next)
+    }
+
+    /// The binding with one label more. None where the labels are then not distinct, or don't fit.
+    fn narrow(&self, labels: &[Label], binding: &Binding<'s>, label: Label) -> Option<Binding<'s>>
+        requires { IsReady (join_of self.now) labels.now binding.now }
+        ensures { MatchOption result ((x : ℕ) → MayFollow (join_of self.now) (labels.now ++ label ∷ []) x → ⊥) (IsReady (join_of self.now) (labels.now ++ label ∷ [])) }
+    {
+        if labels.contains(&label) {
+            return None;
+        }
+        let step = self.order.get(labels.len())?;
+        self.fit_label(binding, *step, label)
+    }
+
+    /// The least label from one on that may be tried after these labels.
+    fn next_partner(&self, labels: &[Label], binding: &Binding<'s>, from: Label) -> Option<Label>
+        requires some { 1 ≤ length labels.now }
+        requires plan { HasPlan (join_of self.now) }
+        requires ready { IsReady (join_of self.now) labels.now binding.now }
+        ensures { MatchOption result (NoneFrom (MayFollow (join_of self.now) labels.now) from) (LeastFrom (MayFollow (join_of self.now) labels.now) from) }
+    {
+        let step = self.order.get(labels.len())?;
+        let head = self.rule.head(usize::from(step.head))?;
+        let after = from.saturating_sub(1);
+        let Some(place) = step.key else {
+            return self.store.next_at(pred_of(head), None, after, self.active);
+        };
+        let term = head.terms.as_slice().get(usize::from(place) - 1)?;
+        let value = binding.value(term)?;
+        self.store
+            .next_at(pred_of(head), Some((place, &value)), after, self.active)
+    }
+
+    /// Adds the least partner from one on. False where there is none.
+    fn push_next(&self, labels: &mut Labels, binding: &Binding<'s>, from: Label) -> bool
+        requires some { 1 ≤ length labels.old.items }
+        requires plan { HasPlan (join_of self.now) }
+        requires ready { IsReady (join_of self.now) labels.old.items binding.now }
+        ensures { LengthenedIf (join_of self.now) (from ∷ []) result labels.old.items labels.new.items }
+    {
+        let Some(label) = self.next_partner(labels.as_slice(), binding, from) else {
+            return false;
+        };
+        labels.push(label);
+        true
+    }
+
+    /// Adds partners up to the least labels at or after a place, which begins with a label. False where there are none.
+    fn lengthen(
+        &self,
+        labels: &mut Labels,
+        binding: &Binding<'s>,
+        first: Label,
+        below: &[Label],
+    ) -> bool
+        requires some { 1 ≤ length labels.old.items }
+        requires plan { HasPlan (join_of self.now) }
+        requires ready { IsReady (join_of self.now) labels.old.items binding.now }
+        ensures { LengthenedIf (join_of self.now) (first ∷ below.now) result labels.old.items labels.new.items }
+    {
+        let Some((next, rest)) = below.split_first() else {
+            return self.push_next(labels, binding, first);
+        };
+        let Some(label) = self.next_partner(labels.as_slice(), binding, first) else {
+            return false;
+        };
+        if label != first {
+            labels.push(label);
+            return true;
+        }
+        if let Some(narrowed) = self.narrow(labels.as_slice(), binding, label) {
+            labels.push(label);
+            if self.lengthen(labels, &narrowed, *next, rest) {
+                return true;
+            }
+            labels.pop();
+        }
+        self.push_next(labels, binding, first + 1)
+    }
+
+    /// Whether the active label is live and its atom has the predicate of the plan's first head.
+    fn begins(&self) -> bool
+        requires { HasPlan (join_of self.now) }
+        ensures { IsTrue result ↔ MayFollow (join_of self.now) [] self.now.active }
+    {
+        let Some(step) = self.order.first() else {
+            return false;
+        };
+        let Some(head) = self.rule.head(usize::from(step.head)) else {
+            return false;
+        };
+        match self.store.get(self.active) {
+            None => false,
+            Some(atom) => atom.pred() == pred_of(head),
+        }
+    }
+
+    /// The least labels at or after these: the active one at the plan's first head, and partners. None where there are
+    /// none.
+    pub(crate) fn find(&self, place: &[Label]) -> Option<Labels>
+        requires { HasPlan (join_of self.now) }
+        ensures { MatchOption result (NoneBeyond (MayFollow (join_of self.now)) 1 [] place.now) (λ labels. Least (MayFollow (join_of self.now)) 1 [] place.now labels.items) }
+    {
+        if !self.begins() {
+            return None;
+        }
+        let mut labels = Labels::new();
+        let Some((first, below)) = place.split_first() else {
+            labels.push(self.active);
+            return Some(labels);
+        };
+        if *first > self.active {
+            return None;
+        }
+        let Some((next, rest)) = below.split_first() else {
+            labels.push(self.active);
+            return Some(labels);
+        };
+        if *first < self.active {
+            labels.push(self.active);
+            return Some(labels);
+        }
+        let free = Binding::free(self.rule.variables());
+        let narrowed = self.narrow(&[], &free, self.active)?;
+        labels.push(self.active);
+        if self.lengthen(&mut labels, &narrowed, *next, rest) {
+            return Some(labels);
+        }
+        None
+    }
+}

@@ -1,0 +1,129 @@
+//! Judging trials.
+ghost use Rattle.std.specs.Prelude.{◌≡◌, ◌==◌, ◌↔◌, IsTrue, map, MatchOption};
+ghost use Rattle.std.specs.List.{list_any};
+ghost use Rattle.chr_guard.specs.Matching.{AreAtHeads, IsFit};
+ghost use Rattle.chr_model.specs.Stores.{Distinct};
+ghost use Rattle.chr_search.specs.Judged.{IsVerdict};
+ghost use Rattle.chr_search.specs.Placed.{placed_as};
+
+use crate::trial::{Placed, Trial};
+use chr_guard::binding::Binding;
+use chr_guard::instance::instance_from;
+use chr_guard::matching::fit_head;
+use chr_rule::rule::Rule;
+use chr_store::store::Label;
+use std::alloc::Allocator;
+use std::marker::Model;
+
+/// What a trial is found to be.
+#[derive(Clone, Copy, Debug, PartialEq, Eq)]
+pub enum Verdict {
+    /// Two of its labels are equal, or its heads don't fit; or all heads are tried, and the guard doesn't hold or the body
+    /// has no values.
+    Misfit,
+    /// Its labels are distinct and its heads fit, and heads are left.
+    Part,
+    /// It is an instance of its rule.
+    Whole,
+}
+
+/// A trial with the verdict on it, which is always the right one for its own rule, labels and atoms.
+#[derive(Drop)]
+pub struct Judged<A: Allocator> {
+    trial: Trial<A>,
+    verdict: Verdict,
+}
+
+impl<A: Allocator> Model for Judged<A> {
+    ghost use Rattle.std.specs.Coded.{codes};
+    ghost use Rattle.chr_rule.specs.Code.{expression_code};
+    ghost use Rattle.chr_search.specs.Judged.{Judgement, IsVerdict};
+
+    ghost Value = { Judgement };
+
+    ghost coded = { Prim.hlevel (codes, expression_code) };
+
+    ghost view = { λ j. record { trial = j.trial; verdict = j.verdict } };
+
+    ghost invariant = { λ j. IsVerdict j.trial j.verdict };
+}
+
+impl<A: Allocator + Copy> Judged<A> {
+    /// The trial.
+    pub fn trial(&self) -> &Trial<A>
+        ensures { result.now ≡ self.now.trial }
+    {
+        &self.trial
+    }
+
+    /// The verdict.
+    pub fn verdict(&self) -> Verdict
+        ensures verdict { result ≡ self.now.verdict }
+        ensures right { IsVerdict self.now.trial self.now.verdict }
+    {
+        self.verdict
+    }
+}
+
+/// Whether one of these has the label.
+fn has_label<A: Allocator>(placed: &[Placed<A>], label: Label) -> bool
+    ensures { result ≡ list_any (λ p. p.label == label) placed.now }
+{
+    placed.iter().any(|other| other.label == label)
+}
+
+/// Whether no label stands twice.
+fn are_distinct<A: Allocator>(placed: &[Placed<A>]) -> bool
+    ensures { IsTrue result ↔ Distinct (map (λ p. p.label) placed.now) }
+{
+    match placed.split_first() {
+        None => true,
+        Some((first, rest)) => !has_label(rest, first.label) && are_distinct(rest),
+    }
+}
+
+/// The one binding under which the heads are the atoms. None where there is none.
+fn fit_placed<'a, A: Allocator + Copy>(
+    rule: &Rule<A>,
+    placed: &'a [Placed<A>],
+) -> Option<Binding<'a>>
+    ensures { let places = map (λ p. (p.head, p.atom)) placed.now in MatchOption result ((v : _) → AreAtHeads rule.now places v → ⊥) (λ binding. IsFit rule.now (AreAtHeads rule.now places) binding) }
+{
+    let mut binding = Binding::free(rule.variables());
+    for one in placed {
+        let head = rule.head(usize::from(one.head))?;
+        if !fit_head(&mut binding, head, &one.atom) {
+            return None;
+        }
+    }
+    Some(binding)
+}
+
+/// The verdict on a trial.
+fn verdict_on<A: Allocator + Copy>(trial: &Trial<A>) -> Verdict
+    ensures { IsVerdict trial.now result }
+{
+    let rule = trial.rule();
+    let placed = trial.placed();
+    if !are_distinct(placed) {
+        return Verdict::Misfit;
+    }
+    let Some(binding) = fit_placed(rule, placed) else {
+        return Verdict::Misfit;
+    };
+    if placed.len() < rule.heads() {
+        return Verdict::Part;
+    }
+    match instance_from(rule, binding) {
+        None => Verdict::Misfit,
+        Some(_) => Verdict::Whole,
+    }
+}
+
+/// Judges a trial. It takes no memory.
+pub fn judge<A: Allocator + Copy>(trial: Trial<A>) -> Judged<A>
+    ensures { result.trial ≡ trial }
+{
+    let verdict = verdict_on(&trial);
+    Judged { trial, verdict }
+}
