@@ -11,3 +11,4 @@ pub mod Making
 pub mod Wholes
 pub mod Searching
 pub mod Outcomes
+pub mod Labelled

@@ -1,14 +1,16 @@
 //! The laws of searches. Each is the contract of a function that does nothing.
 ghost use Rattle.std.specs.Prelude.{◌≡◌, ◌≢◌, ℕ, List, [], ◌∷◌, ◌++◌, ◌<◌, ◌≤◌, ◌↔◌, true, false, Option, Some, None, length};
 ghost use Rattle.chr_value.specs.Atoms.{Atom};
-ghost use Rattle.chr_rule.specs.Rules.{Simpagation};
-ghost use Rattle.chr_model.specs.Stores.{Store, Labelled, drop_label};
+ghost use Rattle.std.specs.List.{AllByRecursion};
+ghost use Rattle.chr_rule.specs.Rules.{Simpagation, rule_at};
+ghost use Rattle.chr_model.specs.Stores.{Store, Labelled, among, atom_at, drop_label};
 ghost use Rattle.chr_model.specs.Searches.{IsYoungest, NoneYoungest};
 ghost use Rattle.chr_model.specs.Programs.{Instances};
 ghost use Rattle.chr_plan.specs.Plans.{PlanList, ArePlans, plan_at};
 ghost use Rattle.chr_plan.specs.declared.order.Step.{Step as PlanStep};
 ghost use Rattle.chr_search.specs.Positions.{at_or_after, begins, beginning, just_after, past};
 ghost use Rattle.chr_search.specs.Trials.{Space, older, IsTrial, IsNext, NoneLeft};
+ghost use Rattle.chr_search.specs.Verdicts.{Trial as PlainTrial, labels, position, kept_labels, removed_labels, IsFormed, IsPart, IsWhole, IsTrialOf, WasTrialOf};
 ghost use Rattle.chr_search.specs.Reach.{label_of, labels_in, Reach, HasNoMore, over, Searching};
 
 /// A labelled instance over the store whose youngest label is the active one is in the reach by each head at which that
@@ -60,4 +62,20 @@ pub fn positions_move_on()
 pub fn no_trial_left_no_instance()
     ensures { (rules : List (Simpagation ℕ)) (plans : PlanList) → ArePlans rules plans → (store : Store) (label : ℕ) (place : List ℕ) (candidate : Option (List ℕ))
         → Searching (older rules plans store label) place candidate → NoneLeft (older rules plans store label) place → NoneYoungest (Instances rules) store label }
+{}
+
+/// What a verdict says of the reach, where each label of the trial has its atom in the store or has left it. A part isn't
+/// in the reach; a misfit begins nothing in it, nor does a trial of which a label has left the store.
+pub fn verdicts_tell_of_the_reach()
+    ensures was { (s : Space) (t : PlainTrial) → IsTrialOf s.rules s.plans s.store t → WasTrialOf s.rules s.plans s.store t }
+    ensures part { (s : Space) (t : PlainTrial) → ArePlans s.rules s.plans → WasTrialOf s.rules s.plans s.store t → IsPart t → Reach s (position t) → ⊥ }
+    ensures misfit { (s : Space) (t : PlainTrial) → ArePlans s.rules s.plans → WasTrialOf s.rules s.plans s.store t → IsFormed t → (IsWhole t → ⊥) → (IsPart t → ⊥) → (u : List ℕ) → Reach s u → begins (position t) u ≡ true → ⊥ }
+    ensures gone { (s : Space) (t : PlainTrial) (l : ℕ) → among (labels t) l ≡ true → atom_at s.store l ≡ None → (u : List ℕ) → Reach s u → begins (position t) u ≡ true → ⊥ }
+{}
+
+/// A whole trial is a labelled instance over each store that has its labels with their atoms.
+pub fn whole_trials_are_labelled_instances()
+    ensures { (rules : List (Simpagation ℕ)) (store : Store) (t : PlainTrial) → IsFormed t → rule_at rules t.number ≡ Some t.rule
+        → AllByRecursion (λ p. atom_at store p.label ≡ Some p.atom) t.placed
+        → (w : IsWhole t) → Labelled (Instances rules) store t.number (kept_labels t) (removed_labels t) w.body }
 {}
