@@ -20,9 +20,11 @@ enum Call {
     CopyStore,
     ReadLog,
     ReadStore,
+    ReadProgram,
+    ReadPosts,
 }
 
-const CALLS: [Call; 14] = [
+const CALLS: [Call; 16] = [
     Call::Intern,
     Call::CopyNames,
     Call::PushEntry,
@@ -37,6 +39,8 @@ const CALLS: [Call; 14] = [
     Call::CopyStore,
     Call::ReadLog,
     Call::ReadStore,
+    Call::ReadProgram,
+    Call::ReadPosts,
 ];
 
 /// Whether a request was refused, where the call fails exactly then, and otherwise None. From now on none is refused.
@@ -68,6 +72,8 @@ fn is_made_again(memory: &Refusing<Global>, n: u64, call: Call) -> Option<bool> 
         Call::CopyStore => store::copy(memory, n),
         Call::ReadLog => texts::read_entries(memory, n),
         Call::ReadStore => texts::read_lines(memory, n),
+        Call::ReadProgram => texts::read_rules(memory, n),
+        Call::ReadPosts => texts::read_posts(memory, n),
     }
 }
 

@@ -1,7 +1,9 @@
-//! The readers of a log and of a store.
+//! The readers of a log, of a store, of rules and of posts.
 use crate::calls::is_refused;
+use chr_lex::fault::ReadError;
 use chr_log_text::fault::TextFault;
 use chr_log_text::reading::{read_log, read_store};
+use chr_text::reading::{read_atoms, read_program};
 use chr_value::names::Names;
 use refusing::Refusing;
 use std::alloc::Global;
@@ -10,6 +12,10 @@ const LOG: &str =
     "chr-log 1\nP 1 a(b,c)\nA 1 1\nP 2 d(e,f,g)\nA 2 2\nF 2 1 1\\2\nP 3 h(i,j,k)\nD 1\n";
 
 const STORE: &str = "#1 a(b,c)\n#2 d(e,f,g)\n#4 h(i,j,k)\n#5 a\n#6 d\n";
+
+const PROGRAM: &str = "a(X) \\ b(X,c) <=> X < 1, X == d | Y is X + 1, e(Y).\nf <=> g.\n";
+
+const POSTS: &str = "a(b,c), d.\ne(1).\n";
 
 pub fn read_entries(memory: &Refusing<Global>, n: u64) -> Option<bool> {
     let mut names = Names::new(memory);
@@ -33,6 +39,28 @@ pub fn read_lines(memory: &Refusing<Global>, n: u64) -> Option<bool> {
     let fault = read_store(memory, STORE.as_bytes(), &mut names).err();
     let refused = is_refused(memory, fault == Some(TextFault::NoMemory))?;
     if read_store(memory, STORE.as_bytes(), &mut names).ok()?.len() != 5 {
+        return None;
+    }
+    Some(refused)
+}
+
+pub fn read_rules(memory: &Refusing<Global>, n: u64) -> Option<bool> {
+    let mut names = Names::new(memory);
+    memory.refuse(n);
+    let answer = read_program(memory, PROGRAM.as_bytes(), &mut names);
+    let refused = is_refused(memory, matches!(answer, Err(ReadError::Memory)))?;
+    if read_program(memory, PROGRAM.as_bytes(), &mut names).ok()?.len() != 2 {
+        return None;
+    }
+    Some(refused)
+}
+
+pub fn read_posts(memory: &Refusing<Global>, n: u64) -> Option<bool> {
+    let mut names = Names::new(memory);
+    memory.refuse(n);
+    let answer = read_atoms(memory, POSTS.as_bytes(), &mut names);
+    let refused = is_refused(memory, matches!(answer, Err(ReadError::Memory)))?;
+    if read_atoms(memory, POSTS.as_bytes(), &mut names).ok()?.len() != 3 {
         return None;
     }
     Some(refused)
