@@ -1,4 +1,4 @@
-mod Entries
+pub mod Entries
 mod Picking
 mod Fitting
 mod Wholes

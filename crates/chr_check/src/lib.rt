@@ -1,0 +1,29 @@
+//! The replay of a log: whether its events are a run of a program that ends in a store.
+//!
+//! [`check`](checking::check) replays the events one by one against the definitions of a run (in the manner of Lam and
+//! Sulzmann, by this project's own rules), for either version of the condition under which a goal may be dropped. It
+//! answers that they are a run that ends in the given store, and whether that run is also quiet and final, or else it
+//! gives the first fault: E16 with its place, line and kind.
+//!
+//! | Kind | Where |
+//! |---|---|
+//! | BadTicket | a Post whose ticket isn't the next; an Activate whose ticket isn't a plain goal; a Fire or Drop whose ticket isn't a numbered goal |
+//! | BadLabel | an Activate whose label isn't the next; a Fire with a label that isn't in the store |
+//! | NoInstance | a Fire whose rule isn't in the program, whose labels aren't an instance with distinct labels, or whose ticket's label isn't among them |
+//! | StillApplies | a Drop of a goal that may not be dropped |
+//! | StoreDiffers | after the last event: the first entry of the store that differs from the run's, or one past the shorter of the two |
+//!
+//! The kinds are tested event by event, and for one event in this order. [`laws`] has the laws of the definitions.
+//!
+//! The replay knows a store as a list of labels with their atoms, and searches for partners by plain enumeration. It
+//! shares no code with the server's own search, so that a mistake there isn't repeated here. A label is found by
+//! binary search and a ticket by its place; only a Drop looks at each entry of the store.
+#![tactic(auto)]
+
+pub mod checking;
+pub mod fault;
+mod firing;
+mod goal;
+pub mod laws;
+mod replay;
+mod storing;
