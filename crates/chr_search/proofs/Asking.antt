@@ -1,6 +1,6 @@
 -- What is asked of a store for the next partner, and what its answer says.
-use Rattle.std.proofs.Common.{◌≡◌, ◌≢◌, ◌↔◌, ℕ, zero, suc, ◌+◌, ◌-◌, ◌<◌, ◌≤◌, Bool, true, false, IsTrue, ltb, ◌&&◌, ◌||◌, ◌==◌, take, List, [], ◌∷◌, ◌++◌, map, length, replicate, Option, Some, None, MatchOption, slice_get, slice_index_or, refl, sym, ◌∙◌, ap, subst, arith, length-append}
-use Rattle.std.specs.List.{AllByRecursion, list_any}
+use Rattle.std.proofs.Common.{◌≡◌, ◌↔◌, ℕ, zero, suc, ◌+◌, ◌-◌, ◌<◌, ◌≤◌, Bool, true, false, IsTrue, ltb, ◌&&◌, ◌||◌, ◌==◌, take, List, [], ◌∷◌, ◌++◌, length, replicate, Option, Some, None, MatchOption, slice_get, slice_index_or, refl, sym, ◌∙◌, ap, subst, arith, length-append}
+use Rattle.std.specs.List.{list_any}
 use Rattle.std.specs.Option.{option_map}
 use Rattle.std.proofs.lemmas.Bool.Decides.{nat_tests}
 use Rattle.std.proofs.lemmas.Bool.{ltb-true}
@@ -9,22 +9,19 @@ use Rattle.std.proofs.Math.Seq.{take-append_seam}
 use Rattle.chr_value.specs.Atoms.{Value, Atom}
 use Rattle.chr_value.specs.Stores.{Store}
 use Rattle.chr_value.specs.declared.atom.Pred.{Pred}
-use Rattle.chr_rule.specs.Rules.{Term, RuleAtom, head_at}
-use Rattle.chr_rule.specs.Scope.{IsRule}
-use Rattle.chr_guard.specs.Values.{Valuation, term_under}
+use Rattle.chr_rule.specs.Rules.{RuleAtom, head_at}
+use Rattle.chr_guard.specs.Values.{Valuation}
 use Rattle.chr_guard.specs.Bindings.{bound_at, Extends, Narrows, NoneUnder}
 use Rattle.chr_guard.specs.Instances.{atom_under}
-use Rattle.chr_guard.specs.Matching.{IsFit}
 use Rattle.chr_guard.proofs.Bindings.{free_extends}
 use Rattle.chr_model.specs.Stores.{atom_at, among}
 use Rattle.chr_plan.specs.Orders.{heads_of}
 use Rattle.chr_plan.specs.declared.order.Step.{Step}
-use Rattle.chr_store.specs.Keys.{Query}
 use Rattle.chr_store.specs.Labels.{GivenBefore}
 use Rattle.chr_search.specs.Trials.{Join, StandsAt, Fit, value_in, given_at, HasHeadPred, MayFollow}
 use Rattle.chr_search.specs.Partners.{HasPlan, IsReady, KeyIs}
-use Rattle.chr_search.proofs.Plans.{IsOrder, order_of_plan, step_key_given}
-use Rattle.chr_search.proofs.Partners.{IsAsked, ready_more, repeated, no_fit, no_step}
+use Rattle.chr_search.proofs.Plans.{order_of_plan, step_key_given}
+use Rattle.chr_search.proofs.Partners.{IsAsked, ready_more, no_fit}
 
 pub some_is : {A : Type 0} (x y : A) → Some x ≡ Some y → x ≡ y
 some_is x y e = cc

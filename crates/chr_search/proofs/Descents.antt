@@ -1,7 +1,6 @@
 -- From labels to heads and rules.
-use Rattle.std.proofs.Common.{◌≡◌, ◌↔◌, ℕ, zero, suc, ◌+◌, ◌<◌, ◌≤◌, Bool, true, false, List, [], ◌∷◌, ◌++◌, length, Option, Some, None, is_some, MatchOption, slice_get, refl, sym, ◌∙◌, ap, subst, arith, ◌⊎◌, inl, inr, ⊎_elim, length-append}
+use Rattle.std.proofs.Common.{◌≡◌, ℕ, zero, suc, ◌+◌, ◌<◌, ◌≤◌, true, false, List, [], ◌∷◌, ◌++◌, length, Option, Some, None, is_some, MatchOption, slice_get, refl, sym, ◌∙◌, ap, subst, arith, ⊎_elim, length-append}
 use Rattle.std.proofs.lemmas.Bool.Decides.{nat_tests}
-use Rattle.std.proofs.lemmas.Option.{slice_get_within}
 use Rattle.std.specs.List.{AllByRecursion}
 use Rattle.chr_rule.specs.Rules.{Simpagation, rule_at}
 use Rattle.chr_rule.specs.Scope.{IsRule}
@@ -9,12 +8,12 @@ use Rattle.chr_plan.specs.Orders.{heads_of}
 use Rattle.chr_plan.specs.Plans.{PlanList, order_in, orders_at, plan_at, ArePlans}
 use Rattle.chr_plan.specs.declared.order.Step.{Step}
 use Rattle.chr_search.specs.Positions.{at_or_after}
-use Rattle.chr_search.specs.Tree.{Grows, Beyond, Least, NoneBeyond, LeastFrom, NoneFrom}
-use Rattle.chr_search.specs.Trials.{Join, MayFollow, Space, join_in, IsPlanned, Child, IsNext, NoneLeft}
+use Rattle.chr_search.specs.Tree.{Grows, Beyond, Least, NoneBeyond, LeastFrom}
+use Rattle.chr_search.specs.Trials.{MayFollow, Space, join_in, IsPlanned, Child, IsNext, NoneLeft}
 use Rattle.chr_search.specs.Partners.{HasPlan}
 use Rattle.chr_search.proofs.Plans.{planned}
 use Rattle.chr_search.proofs.Positions.{after_cases, after_first, after_under}
-use Rattle.chr_search.proofs.Tree.{Come, under, under_same, come_at, come_to_end, come_found, come_on}
+use Rattle.chr_search.proofs.Tree.{Come, under_same, come_at, come_to_end, come_found, come_on}
 
 pub child_is : (s : Space) (r h : ℕ) (rule : Simpagation ℕ) (order : List Step) → IsPlanned s r h rule order → (path : List ℕ) (l : ℕ) → Child s (r ∷ h ∷ path) l → MayFollow (join_in s rule order) path l
 child_is s r h rule order p path l c =

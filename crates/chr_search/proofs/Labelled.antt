@@ -1,16 +1,15 @@
 -- A whole trial is a labelled instance over each store that has its labels with their atoms.
-use Rattle.std.proofs.Common.{◌≡◌, ◌≢◌, ℕ, zero, suc, ◌+◌, ◌<◌, ◌≤◌, Bool, true, false, ◌||◌, ◌==◌, if◌then◌else◌, List, [], ◌∷◌, ◌++◌, map, take, drop, length, Option, Some, None, refl, sym, ◌∙◌, ap, ap₂, subst, arith, true≢false, true-eqb, length-append}
+use Rattle.std.proofs.Common.{◌≡◌, ℕ, zero, suc, ◌+◌, ◌<◌, ◌≤◌, true, false, ◌||◌, ◌==◌, if◌then◌else◌, List, [], ◌∷◌, ◌++◌, map, take, drop, length, Some, refl, sym, ◌∙◌, ap, ap₂, subst, arith, true≢false, true-eqb, length-append}
 use Rattle.std.specs.List.{AllByRecursion}
 use Rattle.std.proofs.lemmas.Bool.Decides.{nat_tests}
 use Rattle.std.proofs.lemmas.List.{take_at, drop_at}
-use Rattle.chr_value.specs.Atoms.{Atom}
 use Rattle.chr_rule.specs.Rules.{Simpagation, rule_at}
 use Rattle.chr_guard.specs.Instances.{Instance}
 use Rattle.chr_model.specs.Stores.{Store, atom_at, among, Distinct, Carry, Labelled}
 use Rattle.chr_model.specs.Programs.{Instances}
 use Rattle.chr_model.proofs.Stores.{among-itself, among-more}
 use Rattle.chr_plan.specs.Orders.{heads_of}
-use Rattle.chr_search.specs.Verdicts.{Placed, Trial, heads, labels, label_at, labels_from, kept_labels, removed_labels, IsFormed, IsWhole}
+use Rattle.chr_search.specs.Verdicts.{Placed, Trial, label_at, labels_from, kept_labels, removed_labels, IsFormed, IsWhole}
 use Rattle.chr_search.proofs.Wholes.{atom_of, atoms_from, in_head_order, whole_instance}
 
 abbrev heads_in : List Placed → List ℕ

@@ -12,3 +12,4 @@ pub mod Wholes
 pub mod Searching
 pub mod Outcomes
 pub mod Labelled
+pub mod PlainTrials

@@ -1,5 +1,5 @@
 -- Making the trial of a position.
-use Rattle.std.proofs.Common.{◌≡◌, ℕ, zero, suc, ◌+◌, ◌<◌, ◌≤◌, Bool, true, false, ◌==◌, List, [], ◌∷◌, ◌++◌, map, take, drop, length, Option, Some, None, get_or, slice_get, refl, sym, ◌∙◌, ap, ap₂, subst, arith, length-append}
+use Rattle.std.proofs.Common.{◌≡◌, ℕ, zero, suc, ◌+◌, ◌<◌, ◌≤◌, true, false, ◌==◌, List, [], ◌∷◌, ◌++◌, map, take, drop, length, Some, None, get_or, slice_get, refl, sym, ◌∙◌, ap, ap₂, subst, arith, length-append}
 use Rattle.std.specs.List.{AllByRecursion}
 use Rattle.std.proofs.lemmas.Bool.Decides.{nat_tests}
 use Rattle.std.proofs.lemmas.List.{length-map, take-append-drop, take_all}
@@ -10,14 +10,14 @@ use Rattle.chr_rule.specs.Scope.{IsRule}
 use Rattle.chr_model.specs.Stores.{Store, atom_at, among, Distinct}
 use Rattle.chr_model.proofs.Stores.{Distinct-left}
 use Rattle.chr_plan.specs.Orders.{heads_of}
-use Rattle.chr_plan.specs.Plans.{PlanList, plan_at, ArePlans}
+use Rattle.chr_plan.specs.Plans.{plan_at, ArePlans}
 use Rattle.chr_plan.specs.declared.order.Step.{Step}
 use Rattle.chr_store.specs.Labels.{GivenBefore, LabelledStore, IsLabelled}
 use Rattle.chr_search.specs.Tree.{Grows}
-use Rattle.chr_search.specs.Trials.{Join, MayFollow, Space, older, join_in, IsPlanned, Child, IsTrial, IsNext}
-use Rattle.chr_search.specs.Verdicts.{Placed, Trial, heads, labels, position, IsFormed, IsTrialOf}
-use Rattle.chr_search.proofs.Plans.{heads_in, IsWithin, IsOrder, planned_order}
-use Rattle.chr_search.proofs.Descents.{grows_in, rule_scoped}
+use Rattle.chr_search.specs.Trials.{Join, MayFollow, Space, join_in, IsPlanned, IsTrial, IsNext}
+use Rattle.chr_search.specs.Verdicts.{Placed, Trial, heads, labels, IsFormed}
+use Rattle.chr_search.proofs.Plans.{heads_in, IsWithin, planned_order}
+use Rattle.chr_search.proofs.Descents.{grows_in}
 
 pub map_twice : {X Y Z : Type 0} (f : X → Y) (g : Y → Z) (xs : List X) → map g (map f xs) ≡ map (λ x. g (f x)) xs
 map_twice f g [] = refl

@@ -1,5 +1,5 @@
 -- What a verdict says of the reach.
-use Rattle.std.proofs.Common.{◌≡◌, ◌≢◌, ℕ, zero, suc, ◌+◌, ◌<◌, ◌≤◌, Bool, true, false, ltb, ◌||◌, ◌&&◌, ◌==◌, List, [], ◌∷◌, ◌++◌, map, take, length, Option, Some, None, refl, sym, ◌∙◌, ap, ap₂, subst, arith, true-eqb, length-append}
+use Rattle.std.proofs.Common.{◌≡◌, ℕ, ◌<◌, ◌≤◌, true, false, ltb, ◌==◌, List, [], ◌∷◌, ◌++◌, map, take, length, Some, None, refl, sym, ◌∙◌, ap, ap₂, subst, arith, true-eqb}
 use Rattle.std.specs.List.{AllByRecursion}
 use Rattle.std.specs.Option.{option_map}
 use Rattle.std.proofs.lemmas.Bool.Decides.{nat_tests}
@@ -15,14 +15,13 @@ use Rattle.chr_plan.specs.Plans.{plan_at, ArePlans}
 use Rattle.chr_plan.specs.declared.order.Step.{Step}
 use Rattle.chr_search.specs.Positions.{begins}
 use Rattle.chr_search.specs.Tree.{Grows}
-use Rattle.chr_search.specs.Trials.{Join, MayFollow, Space, join_in, IsTrial}
+use Rattle.chr_search.specs.Trials.{Join, MayFollow, Space, join_in}
 use Rattle.chr_search.specs.Reach.{label_of, labels_in, Reach}
 use Rattle.chr_search.specs.Verdicts.{Placed, Trial, heads, labels, position, at_heads, IsFormed, IsPart, IsWhole, IsTrialOf, WasTrialOf}
-use Rattle.chr_search.proofs.Plans.{heads_in, IsWithin, IsOrder, map_append}
+use Rattle.chr_search.proofs.Plans.{heads_in, IsWithin}
 use Rattle.chr_search.proofs.Reaches.{Stands, distinct_front, length_map}
-use Rattle.chr_search.proofs.Shrinking.{Branch, branch, Reached, reached}
+use Rattle.chr_search.proofs.Shrinking.{branch, reached}
 use Rattle.chr_search.proofs.Wholes.{places}
-use Rattle.chr_search.proofs.Making.{map_twice}
 
 -- a beginning of the labels of an instance
 begun_front : (f : Step → ℕ) (ls : List ℕ) (steps : List Step) → begins ls (map f steps) ≡ true → (front : List Step) × (rest : List Step) × (steps ≡ front ++ rest) × (ls ≡ map f front)

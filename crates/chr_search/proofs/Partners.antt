@@ -3,16 +3,13 @@ use Rattle.std.proofs.Common.{◌≡◌, ◌≢◌, ◌↔◌, ℕ, zero, suc, �
 use Rattle.std.proofs.lemmas.Bool.Decides.{nat_tests}
 use Rattle.chr_value.specs.Atoms.{Value, Atom}
 use Rattle.chr_rule.specs.Rules.{Term, Var, Given, RuleAtom, head_at}
-use Rattle.chr_guard.specs.Values.{Valuation, term_under}
+use Rattle.chr_guard.specs.Values.{Valuation}
 use Rattle.chr_guard.specs.Bindings.{bound_at, Extends, Narrows, NoneUnder}
-use Rattle.chr_guard.specs.Matching.{IsFit}
 use Rattle.chr_model.specs.Stores.{atom_at, among, Distinct}
 use Rattle.chr_plan.specs.declared.order.Step.{Step}
-use Rattle.chr_store.specs.Keys.{arg_at, HasPred, HasKey, Query, Matches, IsLeastMatch}
-use Rattle.chr_value.specs.declared.atom.Pred.{Pred}
-use Rattle.chr_search.specs.Positions.{at_or_after}
-use Rattle.chr_search.specs.Tree.{Children, Beyond, Least, NoneBeyond, LeastFrom, NoneFrom}
-use Rattle.chr_search.specs.Trials.{Join, StandsAt, Fit, value_in, given_at, HasHeadPred, HasKeyValue, IsInTurn, MayFollow}
+use Rattle.chr_store.specs.Keys.{HasKey, Query, Matches, IsLeastMatch}
+use Rattle.chr_search.specs.Tree.{Children, Least, NoneBeyond, LeastFrom, NoneFrom}
+use Rattle.chr_search.specs.Trials.{Join, StandsAt, Fit, value_in, given_at, HasKeyValue, IsInTurn, MayFollow}
 use Rattle.chr_search.specs.Partners.{IsReady, LengthenedIf, KeyIs}
 use Rattle.chr_search.proofs.Tree.{Come, under, under_same, under_other, here, come_first, come_at, come_to_end, come_found, come_on}
 use Rattle.chr_search.proofs.Plans.{distinct_push, among_push}

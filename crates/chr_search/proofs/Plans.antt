@@ -1,6 +1,6 @@
 -- What the plans of a program say: each names every head of its rule once, and its keys are known.
-use Rattle.std.proofs.Common.{◌≡◌, ℕ, zero, suc, ◌+◌, ◌<◌, ◌≤◌, Bool, true, false, ◌||◌, ◌==◌, List, [], ◌∷◌, ◌++◌, map, take, length, append_assoc, Option, Some, None, position, get_or, slice_get, refl, sym, ◌∙◌, ap, ap₂, subst, arith, true-eqb, true≢false, length-append}
-use Rattle.std.specs.List.{AllByRecursion, list_any}
+use Rattle.std.proofs.Common.{◌≡◌, ℕ, zero, suc, ◌+◌, ◌<◌, ◌≤◌, Bool, true, false, ◌||◌, ◌==◌, List, [], ◌∷◌, ◌++◌, map, take, length, append_assoc, Option, Some, None, position, get_or, slice_get, refl, sym, ◌∙◌, ap, subst, arith, true-eqb}
+use Rattle.std.specs.List.{AllByRecursion}
 use Rattle.std.specs.Option.{option_map}
 use Rattle.std.proofs.lemmas.Bool.Decides.{nat_tests}
 use Rattle.std.proofs.lemmas.List.Quantifiers.{position-Some}
@@ -11,7 +11,7 @@ use Rattle.chr_rule.specs.Rules as rules
 use Rattle.chr_guard.specs.Values.{Valuation, term_under}
 use Rattle.chr_guard.specs.Instances.{atom_under}
 use Rattle.chr_guard.proofs.Under.{atom_is}
-use Rattle.chr_plan.specs.Orders.{heads_of, head_in, is_variable, has_variable, binds, is_bound, is_known, key_in, key_of, is_named, IsOpen, IsNext, EachNext, IsPlan}
+use Rattle.chr_plan.specs.Orders.{heads_of, head_in, has_variable, binds, is_bound, is_known, key_in, is_named, IsNext, EachNext, IsPlan}
 use Rattle.chr_plan.specs.Plans.{PlanList, orders_at, plan_at, AreOrders, ArePlans}
 use Rattle.chr_plan.specs.declared.order.Step.{Step}
 use Rattle.chr_plan.proofs.Planning.{opens, start, any_push, Planning, planning_start, planning_push}

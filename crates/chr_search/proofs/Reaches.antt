@@ -1,5 +1,5 @@
 -- Each labelled instance whose labels are the active one and others below the bound is in the reach, once.
-use Rattle.std.proofs.Common.{◌≡◌, ◌≢◌, ℕ, zero, suc, ◌+◌, ◌<◌, ◌≤◌, Bool, true, false, ◌||◌, ◌==◌, List, [], ◌∷◌, ◌++◌, map, length, append_assoc, Option, Some, None, slice_get, slice_index_or, refl, sym, ◌∙◌, ap, ap₂, subst, arith, ◌⊎◌, inl, inr, ⊎_elim, true-eqb, true≢false, length-append}
+use Rattle.std.proofs.Common.{◌≡◌, ◌≢◌, ℕ, zero, suc, ◌<◌, ◌≤◌, true, false, ◌||◌, ◌==◌, List, [], ◌∷◌, ◌++◌, map, length, append_assoc, Option, Some, None, slice_get, slice_index_or, refl, sym, ◌∙◌, ap, subst, arith, true-eqb, true≢false}
 use Rattle.std.specs.List.{AllByRecursion}
 use Rattle.std.specs.Option.{option_map}
 use Rattle.std.proofs.lemmas.Bool.Decides.{nat_tests}
@@ -7,19 +7,19 @@ use Rattle.chr_value.specs.Atoms.{Atom}
 use Rattle.chr_rule.specs.Rules.{RuleAtom, Simpagation, rule_at}
 use Rattle.chr_rule.specs.Rules as rules
 use Rattle.chr_guard.specs.Values.{Valuation}
-use Rattle.chr_guard.specs.Instances.{atom_under, AreUnder, Instance}
+use Rattle.chr_guard.specs.Instances.{atom_under, Instance}
 use Rattle.chr_guard.proofs.Under.{under_append}
 use Rattle.chr_model.specs.Stores.{Store, atom_at, among, Distinct, Carry, Labelled}
 use Rattle.chr_model.specs.Programs.{Instances}
 use Rattle.chr_model.proofs.Stores.{among-itself, among-more}
 use Rattle.chr_plan.specs.Orders.{heads_of}
-use Rattle.chr_plan.specs.Plans.{PlanList, plan_at, ArePlans}
+use Rattle.chr_plan.specs.Plans.{plan_at, ArePlans}
 use Rattle.chr_plan.specs.declared.order.Step.{Step}
 use Rattle.chr_search.specs.Tree.{Grows}
 use Rattle.chr_search.specs.Trials.{Join, StandsAt, Fit, HasHeadPred, HasKeyValue, IsInTurn, MayFollow, Space, join_in, IsPlanned, Child, IsTrial}
 use Rattle.chr_search.specs.Reach.{label_of, labels_in, Reach}
 use Rattle.chr_search.proofs.Plans.{heads_in, IsWithin, IsOrder, IsPlanOf, planned, planned_order, given_is, step_key_given, map_append}
-use Rattle.chr_search.proofs.Descents.{child_is, grows_in, grows_out}
+use Rattle.chr_search.proofs.Descents.{grows_out}
 
 pub get_after : {A : Type 0} (xs : List A) (x : A) (ys : List A) → slice_get (xs ++ x ∷ ys) (length xs) ≡ Some x
 get_after [] x ys = refl

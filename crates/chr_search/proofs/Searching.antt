@@ -1,31 +1,23 @@
 -- What a search keeps between its steps.
-use Rattle.std.proofs.Common.{◌≡◌, ◌≢◌, ◌↔◌, ℕ, zero, suc, ◌+◌, ◌<◌, ◌≤◌, Bool, true, false, ◌||◌, ◌==◌, List, [], ◌∷◌, ◌++◌, map, take, length, Option, Some, None, slice_index_or, refl, sym, ◌∙◌, ap, ap₂, subst, arith, ◌⊎◌, inl, inr, true-eqb, true≢false, length-append}
-use Rattle.std.specs.List.{AllByRecursion}
-use Rattle.std.specs.Option.{option_map}
+use Rattle.std.proofs.Common.{◌≡◌, ◌≢◌, ℕ, ◌≤◌, Bool, true, false, List, [], ◌∷◌, ◌++◌, length, Option, Some, None, refl, sym, ◌∙◌, ap, ap₂, subst, arith}
 use Rattle.std.proofs.lemmas.Bool.Decides.{nat_tests}
-use Rattle.std.proofs.lemmas.List.{length-map}
 use Rattle.chr_value.specs.Atoms.{Atom}
-use Rattle.chr_rule.specs.Rules.{RuleAtom, Simpagation, rule_at}
-use Rattle.chr_guard.specs.Values.{Valuation}
-use Rattle.chr_guard.specs.Instances.{atom_under, Instance}
-use Rattle.chr_guard.specs.Matching.{IsAtHead, AreAtHeads}
-use Rattle.chr_model.specs.Stores.{Store, atom_at, among, Distinct, Labelled}
+use Rattle.chr_rule.specs.Rules.{Simpagation}
+use Rattle.chr_model.specs.Stores.{Store, Labelled}
 use Rattle.chr_model.specs.Searches.{IsYoungest, NoneYoungest}
 use Rattle.chr_model.specs.Programs.{Instances}
-use Rattle.chr_model.proofs.Stores.{among-itself, among-more}
 use Rattle.chr_plan.specs.Orders.{heads_of}
 use Rattle.chr_plan.specs.Plans.{PlanList, plan_at, ArePlans}
 use Rattle.chr_plan.specs.declared.order.Step.{Step}
 use Rattle.chr_search.specs.Positions.{at_or_after, begins, beginning, just_after, past}
 use Rattle.chr_search.specs.Tree.{Grows, Beyond}
-use Rattle.chr_search.specs.Trials.{Join, StandsAt, Fit, MayFollow, Space, older, join_in, IsPlanned, Child, IsTrial, IsNext, NoneLeft}
+use Rattle.chr_search.specs.Trials.{MayFollow, Space, older, join_in, Child, IsTrial, IsNext, NoneLeft}
 use Rattle.chr_search.specs.Reach.{label_of, labels_in, Reach, HasNoMore, over, Searching}
-use Rattle.chr_search.proofs.Positions.{after, passed, after_itself, just_after_reaches, passed_reaches, not_before, after_first, after_under}
-use Rattle.chr_search.proofs.Plans.{heads_in, IsWithin, has_plan, planned}
+use Rattle.chr_search.proofs.Positions.{after, passed}
+use Rattle.chr_search.proofs.Plans.{has_plan, planned}
 use Rattle.chr_search.proofs.Descents.{head_low, rule_low}
 use Rattle.chr_search.proofs.Reaches.{IsReached, in_reach, head_of, head_fixed, Stands, fit_front, distinct_front, length_map}
-use Rattle.chr_search.proofs.Shrinking.{Branch, branch, Reached, reached, reach_shrunk, trial_shrunk, reach_named}
-use Rattle.chr_search.proofs.Making.{next_trial}
+use Rattle.chr_search.proofs.Shrinking.{branch, reached, reach_shrunk, trial_shrunk}
 
 -- a trial at or after a position
 at_place : (s : Space) (place t : List ℕ) → at_or_after place t ≡ true → IsTrial s t → Beyond (Child s) 3 [] place t

@@ -1,22 +1,22 @@
 -- A store that has no more than another gives no more trials.
-use Rattle.std.proofs.Common.{◌≡◌, ◌≢◌, ℕ, zero, suc, ◌<◌, ◌≤◌, Bool, true, false, ◌||◌, ◌==◌, List, [], ◌∷◌, ◌++◌, map, length, append_assoc, Option, Some, None, refl, sym, ◌∙◌, ap, subst, arith, ◌⊎◌, inl, inr, true-eqb}
+use Rattle.std.proofs.Common.{◌≡◌, ℕ, ◌<◌, ◌≤◌, true, false, ◌==◌, List, [], ◌∷◌, ◌++◌, length, append_assoc, Some, None, refl, sym, ◌∙◌, ap, subst, arith, ◌⊎◌, inl, inr, true-eqb}
 use Rattle.std.proofs.lemmas.Bool.Decides.{nat_tests}
 use Rattle.chr_value.specs.Atoms.{Atom}
 use Rattle.chr_rule.specs.Rules.{Simpagation}
 use Rattle.std.specs.List.{AllByRecursion}
 use Rattle.chr_guard.specs.Values.{Valuation, Holds}
 use Rattle.chr_guard.specs.Instances.{AreUnder, IsRight, added}
-use Rattle.chr_model.specs.Stores.{Store, atom_at, drop_label, among, Labelled}
+use Rattle.chr_model.specs.Stores.{Store, atom_at, drop_label, among}
 use Rattle.chr_model.specs.Programs.{Instances}
 use Rattle.chr_model.proofs.Stores.{among-itself, among-more, atom_at-old, atom_at-drop, Labelled-move}
 use Rattle.chr_plan.specs.Plans.{ArePlans}
 use Rattle.chr_plan.specs.Orders.{heads_of}
 use Rattle.chr_plan.specs.declared.order.Step.{Step}
 use Rattle.chr_search.specs.Tree.{Grows}
-use Rattle.chr_search.specs.Trials.{Join, StandsAt, Fit, IsInTurn, MayFollow, Space, join_in, IsPlanned, Child, IsTrial}
+use Rattle.chr_search.specs.Trials.{Join, Fit, IsInTurn, MayFollow, Space, join_in, IsPlanned, Child, IsTrial}
 use Rattle.chr_search.specs.Reach.{label_of, labels_in, Reach, MayHave, HasNoMore, over}
 use Rattle.chr_search.proofs.Plans.{heads_in, planned_order, IsOrder}
-use Rattle.chr_search.proofs.Descents.{grows_in, grows_out, child_is}
+use Rattle.chr_search.proofs.Descents.{grows_in, grows_out}
 use Rattle.chr_search.proofs.Reaches.{Stands, stands, head_of}
 
 -- the labels that trials of a join may have

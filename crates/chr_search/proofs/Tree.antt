@@ -1,9 +1,9 @@
 -- The least path, child by child.
-use Rattle.std.proofs.Common.{◌≡◌, ◌≢◌, ℕ, ◌+◌, ◌<◌, ◌≤◌, Bool, true, false, cond, ◌&&◌, ◌||◌, ◌==◌, if◌then◌else◌, ltb, List, [], ◌∷◌, ◌++◌, length, append_assoc, refl, sym, ◌∙◌, ap, subst, arith, ◌⊎◌, inl, inr, ⊎_elim, true-eqb, length-append}
+use Rattle.std.proofs.Common.{◌≡◌, ◌≢◌, ℕ, ◌+◌, ◌<◌, ◌≤◌, true, false, ◌==◌, if◌then◌else◌, List, [], ◌∷◌, ◌++◌, length, append_assoc, refl, sym, ◌∙◌, ap, subst, arith, ⊎_elim, true-eqb, length-append}
 use Rattle.std.proofs.lemmas.Bool.Decides.{nat_tests}
 use Rattle.chr_search.specs.Positions.{at_or_after}
-use Rattle.chr_search.specs.Tree.{Children, Grows, Beyond, Least, NoneBeyond, LeastFrom, NoneFrom}
-use Rattle.chr_search.proofs.Positions.{after_itself, after_first, after_under, after_cases}
+use Rattle.chr_search.specs.Tree.{Children, Beyond, Least, NoneBeyond, LeastFrom, NoneFrom}
+use Rattle.chr_search.proofs.Positions.{after_first, after_under, after_cases}
 
 -- with a longer path there is a shorter rest
 pub append_one : (path more : List ℕ) (x : ℕ) → (path ++ x ∷ []) ++ more ≡ path ++ x ∷ more

@@ -1,22 +1,19 @@
 -- Trials whose heads are all tried.
-use Rattle.std.proofs.Common.{◌≡◌, ◌≢◌, ◌↔◌, ℕ, zero, suc, ◌+◌, ◌<◌, ◌≤◌, Bool, true, false, IsTrue, ◌||◌, ◌==◌, if◌then◌else◌, List, [], ◌∷◌, ◌++◌, map, take, drop, length, Option, Some, None, MatchOption, slice_get, refl, sym, ◌∙◌, ap, ap₂, subst, arith, true≢false, true-eqb}
+use Rattle.std.proofs.Common.{◌≡◌, ◌↔◌, ℕ, zero, suc, ◌+◌, ◌<◌, ◌≤◌, Bool, true, false, ◌==◌, if◌then◌else◌, List, [], ◌∷◌, map, drop, length, Option, Some, None, MatchOption, slice_get, refl, sym, ◌∙◌, ap, ap₂, subst, arith, true-eqb}
 use Rattle.std.specs.List.{AllByRecursion}
 use Rattle.std.specs.Option.{option_map}
 use Rattle.std.proofs.lemmas.Bool.Decides.{nat_tests}
 use Rattle.std.proofs.lemmas.List.{length-map}
 use Rattle.chr_value.specs.Atoms.{Value, Atom}
-use Rattle.chr_rule.specs.Rules.{RuleAtom, Simpagation, head_at}
-use Rattle.chr_rule.specs.Scope.{IsRule}
-use Rattle.chr_guard.specs.Values.{Valuation, Holds}
-use Rattle.chr_guard.specs.Bindings.{bound_at}
-use Rattle.chr_guard.specs.Instances.{atom_under, AreUnder, IsRight, added, IsInstance, NoInstance}
+use Rattle.chr_rule.specs.Rules.{RuleAtom, Simpagation}
+use Rattle.chr_guard.specs.Values.{Valuation}
+use Rattle.chr_guard.specs.Instances.{atom_under, IsInstance, NoInstance}
 use Rattle.chr_guard.specs.Matching.{IsAtHead, AreAtHeads, HeadsAre, IsFit, IsInstanceUnder}
 use Rattle.chr_guard.proofs.Under.{under_parts}
 use Rattle.chr_guard.proofs.Whole.{heads_of as instance_heads}
 use Rattle.chr_model.specs.Stores.{among, Distinct}
 use Rattle.chr_plan.specs.Orders.{heads_of}
-use Rattle.chr_search.specs.Verdicts.{Placed, Trial, heads, labels, at_heads, IsFormed, IsPart, IsWhole}
-use Rattle.chr_search.proofs.Making.{map_twice}
+use Rattle.chr_search.specs.Verdicts.{Placed, Trial, labels, at_heads, IsFormed, IsPart, IsWhole}
 
 -- the atom at a head, and the atoms at the next n heads
 abbrev pub atom_of : List Placed → ℕ → Atom ℕ

@@ -6,7 +6,7 @@ use Rattle.chr_search.specs.declared.judged.Verdict.{Verdict}
 use Rattle.chr_search.specs.declared.judged.Verdict.TheVariants as verdicts
 use Rattle.chr_search.specs.Positions.{just_after, past}
 use Rattle.chr_search.specs.Trials.{Space, IsNext, NoneLeft}
-use Rattle.chr_search.specs.Verdicts.{Trial, position, IsTrialOf}
+use Rattle.chr_search.specs.Verdicts.{position, IsTrialOf}
 use Rattle.chr_search.specs.Judged.{Judgement}
 
 -- the least admissible trial at or after a position with the store's atoms; done, where there is none

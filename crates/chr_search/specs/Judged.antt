@@ -1,5 +1,4 @@
 -- The verdicts on a trial.
-use Rattle.std.specs.Prelude.{ℕ, List}
 use Rattle.chr_search.specs.Verdicts.{Trial, IsWhole, IsPart}
 use Rattle.chr_search.specs.declared.judged.Verdict.{Verdict}
 use Rattle.chr_search.specs.declared.judged.Verdict.TheVariants as verdicts

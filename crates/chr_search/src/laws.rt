@@ -11,6 +11,7 @@ ghost use Rattle.chr_plan.specs.declared.order.Step.{Step as PlanStep};
 ghost use Rattle.chr_search.specs.Positions.{at_or_after, begins, beginning, just_after, past};
 ghost use Rattle.chr_search.specs.Trials.{Space, older, IsTrial, IsNext, NoneLeft};
 ghost use Rattle.chr_search.specs.Verdicts.{Trial as PlainTrial, labels, position, kept_labels, removed_labels, IsFormed, IsPart, IsWhole, IsTrialOf, WasTrialOf};
+ghost use Rattle.chr_search.specs.Admissible.{IsAdmissible};
 ghost use Rattle.chr_search.specs.Reach.{label_of, labels_in, Reach, HasNoMore, over, Searching};
 
 /// A labelled instance over the store whose youngest label is the active one is in the reach by each head at which that
@@ -78,4 +79,11 @@ pub fn whole_trials_are_labelled_instances()
     ensures { (rules : List (Simpagation ℕ)) (store : Store) (t : PlainTrial) → IsFormed t → rule_at rules t.number ≡ Some t.rule
         → AllByRecursion (λ p. atom_at store p.label ≡ Some p.atom) t.placed
         → (w : IsWhole t) → Labelled (Instances rules) store t.number (kept_labels t) (removed_labels t) w.body }
+{}
+
+/// Admissible in plain words is what trials that grow label by label are: all labels are live, each with its head's
+/// predicate; the others lie below the active one's bound; those before the last are distinct and fit; and the last has
+/// its plan's key value under that fit.
+pub fn admissible_trials_grow()
+    ensures { (s : Space) → ArePlans s.rules s.plans → (r h : ℕ) (labels : List ℕ) → IsAdmissible s r h labels ↔ IsTrial s (r ∷ h ∷ labels) }
 {}

@@ -1,5 +1,3 @@
-use Rattle.std.proofs.Common.{ℕ}
-use Rattle.chr_search.specs.declared.trial.Placed.{Placed}
 use Rattle.chr_search.proofs.Judging.{distinct_first, repeated_first}
 use Rattle.chr_search.proofs.judged.+are_distinct.Goals as goal
 

@@ -1,9 +1,8 @@
-use Rattle.std.proofs.Common.{◌≡◌, ◌≢◌, ◌<◌, ◌+◌, ℕ, List, [], ◌∷◌, ◌++◌, length, refl, sym, subst, ap, ◌∙◌, arith, inl}
+use Rattle.std.proofs.Common.{◌<◌, ℕ, List, [], ◌∷◌, ◌++◌, length, refl, sym, subst, ap, ◌∙◌, arith, inl}
 use Rattle.chr_search.specs.Tree.{Least, NoneBeyond, LeastFrom, NoneFrom}
 use Rattle.chr_search.specs.Trials.{MayFollow}
-use Rattle.chr_search.specs.Partners.{IsReady, LengthenedIf}
 use Rattle.chr_search.specs.Joined.{join_of}
-use Rattle.chr_search.proofs.Partners.{lengthened, lengthened_none, on_past, on_below, none_below}
+use Rattle.chr_search.proofs.Partners.{lengthened, lengthened_none, on_past, none_below}
 use Rattle.chr_search.proofs.Asking.{room, front}
 use Rattle.arrayvec.specs.ArrayVec.{ArrayVec}
 use Rattle.chr_search.proofs.join.Join.+lengthen.Goals as goal

@@ -1,4 +1,4 @@
-use Rattle.std.proofs.Common.{◌≡◌, Some, sym, ◌∙◌, subst}
+use Rattle.std.proofs.Common.{◌≡◌, Some, sym, subst}
 use Rattle.chr_rule.specs.Parts.{shape}
 use Rattle.chr_rule.specs.Rules.{head_at}
 use Rattle.chr_search.specs.Joined.{join_of}

@@ -1,4 +1,4 @@
-use Rattle.std.proofs.Common.{◌≡◌, ◌≢◌, true, false, true≢false, ◌<◌, ◌+◌, ℕ, List, [], ◌∷◌, ◌++◌, length, MatchOption, refl, sym, subst, ap, ◌∙◌, arith, inl}
+use Rattle.std.proofs.Common.{◌≡◌, true≢false, [], MatchOption, sym, subst, ◌∙◌, arith}
 use Rattle.chr_search.specs.Trials.{MayFollow}
 use Rattle.chr_search.specs.Joined.{join_of}
 use Rattle.chr_search.specs.Tree.{Least, NoneBeyond}

@@ -1,16 +1,15 @@
-use Rattle.std.proofs.Common.{◌≡◌, ◌-◌, ◌≤◌, ℕ, List, length, map, Option, Some, None, MatchOption, slice_get, refl, sym, ap, subst, ◌∙◌, arith}
+use Rattle.std.proofs.Common.{◌≡◌, ◌-◌, ◌≤◌, List, length, Some, None, slice_get, refl, sym, ap, subst, ◌∙◌, arith}
 use Rattle.std.specs.Option.{option_map}
 use Rattle.std.proofs.lemmas.Option.{slice_get-map}
-use Rattle.chr_value.specs.Atoms.{Value, ground}
+use Rattle.chr_value.specs.Atoms.{ground}
 use Rattle.chr_rule.specs.Parts.{argument, shape}
-use Rattle.chr_rule.specs.Rules.{Term, head_at}
+use Rattle.chr_rule.specs.Rules.{head_at}
 use Rattle.chr_rule.specs.declared.rule_atom.Term.{Term as CodeTerm}
 use Rattle.chr_guard.specs.Bindings.{bound_at}
-use Rattle.chr_search.specs.Tree.{LeastFrom, NoneFrom}
-use Rattle.chr_search.specs.Trials.{MayFollow, value_in, given_at}
+use Rattle.chr_search.specs.Trials.{value_in, given_at}
 use Rattle.chr_search.specs.Joined.{join_of}
 use Rattle.chr_search.proofs.Partners.{least_partner}
-use Rattle.chr_search.proofs.Asking.{get_there, some_is, none_if, past_get, known_key, place_low, given_there, key_none, key_some, asked}
+use Rattle.chr_search.proofs.Asking.{get_there, none_if, past_get, known_key, place_low, given_there, key_none, key_some, asked}
 use Rattle.chr_search.proofs.join.Join.next_partner.Goals as goal
 
 pub returns-in_default : goal.returns-in_default

@@ -1,4 +1,4 @@
-use Rattle.std.proofs.Common.{◌≡◌, ◌<◌, ℕ, List, [], ◌∷◌, length, refl, sym, subst, arith, inr}
+use Rattle.std.proofs.Common.{◌<◌, ℕ, List, [], ◌∷◌, length, refl, sym, subst, arith, inr}
 use Rattle.chr_search.specs.Tree.{Least, LeastFrom}
 use Rattle.chr_search.specs.Trials.{MayFollow}
 use Rattle.chr_search.specs.Joined.{join_of}

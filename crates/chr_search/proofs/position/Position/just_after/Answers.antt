@@ -1,6 +1,5 @@
 use Rattle.std.proofs.Common.{◌≡◌, ◌<◌, ◌≤◌, length, ap, arith, ◌∙◌}
 use Rattle.chr_plan.specs.Orders.{heads_of}
-use Rattle.chr_search.specs.Verdicts.{labels}
 use Rattle.chr_search.proofs.Judging.{few_heads, labels_of_view, labels_length}
 use Rattle.chr_search.proofs.position.Position.just_after.Goals as goal
 

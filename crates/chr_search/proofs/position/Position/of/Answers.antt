@@ -1,4 +1,4 @@
-use Rattle.std.proofs.Common.{◌≡◌, ◌∷◌, ◌∙◌, ap, ap₂, ℕ, List}
+use Rattle.std.proofs.Common.{◌∷◌, ap₂, ℕ, List}
 use Rattle.chr_search.specs.Placed.{placed_as}
 use Rattle.chr_search.proofs.Judging.{labels_read}
 use Rattle.chr_search.proofs.position.Position.of.Goals as goal

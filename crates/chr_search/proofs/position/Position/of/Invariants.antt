@@ -1,4 +1,4 @@
-use Rattle.std.proofs.Common.{◌≡◌, ℕ, map, take}
+use Rattle.std.proofs.Common.{◌≡◌, map, take}
 use Rattle.chr_search.proofs.position.Position.of.Given as goal
 
 abbrev pub invariant-loop-placed : goal.invariant-loop-placed

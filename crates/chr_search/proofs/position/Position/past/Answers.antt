@@ -1,5 +1,4 @@
-use Rattle.std.proofs.Common.{◌≡◌, ◌≤◌, ◌<◌, ◌+◌, ℕ, List, [], ◌∷◌, ◌++◌, length, sym, ap, arith, ◌∙◌}
-use Rattle.chr_search.specs.Verdicts.{labels}
+use Rattle.std.proofs.Common.{◌≡◌, ◌≤◌, length, sym, ap, arith, ◌∙◌}
 use Rattle.chr_search.proofs.Judging.{labels_of_view, labels_length, last_small}
 use Rattle.chr_search.proofs.position.Position.past.Goals as goal
 

@@ -1,4 +1,4 @@
-use Rattle.std.proofs.Common.{◌≡◌, ◌≤◌, ◌<◌, ◌∷◌, ℕ, length, Some, None, sym, ap, subst, ◌∙◌, arith}
+use Rattle.std.proofs.Common.{◌≡◌, ◌≤◌, ◌<◌, ◌∷◌, length, sym, ap, subst, ◌∙◌, arith}
 use Rattle.chr_search.specs.Trials.{Space, older}
 use Rattle.chr_search.specs.Reach.{SearchState}
 use Rattle.chr_search.proofs.Descents.{at_first_rule, AtRule, found_if_some, on_if_none, no_more_rules, rules_end}

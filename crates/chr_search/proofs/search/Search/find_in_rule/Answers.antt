@@ -1,4 +1,4 @@
-use Rattle.std.proofs.Common.{◌≡◌, ◌≤◌, ◌+◌, ℕ, List, [], ◌∷◌, Some, None, sym, ap, subst, ◌∙◌, arith}
+use Rattle.std.proofs.Common.{◌≡◌, ◌≤◌, [], Some, None, sym, ap, subst, ◌∙◌, arith}
 use Rattle.chr_rule.specs.Rules.{rule_at}
 use Rattle.chr_plan.specs.Plans.{plan_at}
 use Rattle.chr_search.specs.Tree.{Least, NoneBeyond}

@@ -1,4 +1,4 @@
-use Rattle.std.proofs.Common.{ℕ, ◌-◌, ◌≤◌}
+use Rattle.std.proofs.Common.{◌-◌, ◌≤◌}
 use Rattle.chr_search.specs.Trials.{older}
 use Rattle.chr_search.proofs.Descents.{AtHead}
 use Rattle.chr_search.proofs.search.Search.find_in_rule.Given as goal

@@ -1,11 +1,10 @@
-use Rattle.std.proofs.Common.{◌≡◌, ◌≤◌, ◌<◌, ℕ, List, ◌∷◌, map, take, length, Some, None, get_or, refl, sym, ap, ap₂, subst, ◌∙◌, arith}
+use Rattle.std.proofs.Common.{◌≡◌, ◌≤◌, ◌<◌, ℕ, List, ◌∷◌, map, length, Some, None, get_or, refl, sym, ap, subst, ◌∙◌, arith}
 use Rattle.std.specs.Arc.{arc_value}
 use Rattle.chr_rule.specs.Rules.{rule_at}
 use Rattle.chr_plan.specs.Plans.{plan_at}
 use Rattle.chr_search.specs.Trials.{Space, older}
-use Rattle.chr_search.specs.declared.trial.Placed.{Placed as CodePlaced}
 use Rattle.chr_search.specs.Placed.{placed_as}
-use Rattle.chr_search.specs.Verdicts.{Trial, labels, IsTrialOf}
+use Rattle.chr_search.specs.Verdicts.{Trial, labels}
 use Rattle.chr_search.proofs.Plans.{heads_in}
 use Rattle.chr_search.proofs.Descents.{rule_scoped}
 use Rattle.chr_search.proofs.Making.{parts, read_at, read_more, all_push, heads_read, read_all, formed, parts_as}

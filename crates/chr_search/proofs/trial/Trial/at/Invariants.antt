@@ -1,4 +1,4 @@
-use Rattle.std.proofs.Common.{◌≡◌, ℕ, map, take, Some}
+use Rattle.std.proofs.Common.{◌≡◌, map, take, Some}
 use Rattle.std.specs.List.{AllByRecursion}
 use Rattle.chr_model.specs.Stores.{atom_at}
 use Rattle.chr_search.proofs.Plans.{heads_in}
