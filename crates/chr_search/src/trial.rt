@@ -102,6 +102,7 @@ impl<A: Allocator + Copy> Trial<A> {
             unreachable!();
         };
         let labels = position.labels.as_slice();
+        // For the proof: the labels of a store are at most the greatest.
         let _given = store.next_label();
         let mut placed = Vec::with_capacity(alloc, labels.len())?;
         for (i, label) in labels.iter().enumerate() {
