@@ -20,6 +20,6 @@ pub fn fault_or_run<A: Allocator + Copy>(program: &Program<A>)
     ensures one_fault { (v : Version) (log : List (Event ℕ)) (store : Store) (f g : CheckFault)
         → IsFirstFault v (Instances program.now) log store f → IsFirstFault v (Instances program.now) log store g → f ≡ g }
 {
-    // For the proof: the rules of a program are in scope.
+    // For the proof: the rules of a program are in scope, so a log has one last state.
     let _rules = program.rules();
 }
