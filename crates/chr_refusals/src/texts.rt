@@ -49,7 +49,11 @@ pub fn read_rules(memory: &Refusing<Global>, n: u64) -> Option<bool> {
     memory.refuse(n);
     let answer = read_program(memory, PROGRAM.as_bytes(), &mut names);
     let refused = is_refused(memory, matches!(answer, Err(ReadError::Memory)))?;
-    if read_program(memory, PROGRAM.as_bytes(), &mut names).ok()?.len() != 2 {
+    if read_program(memory, PROGRAM.as_bytes(), &mut names)
+        .ok()?
+        .len()
+        != 2
+    {
         return None;
     }
     Some(refused)
