@@ -1,0 +1,6 @@
+pub mod Turns
+pub mod Tickets
+pub mod Books
+pub mod Calls
+pub mod Runs
+pub mod Headline

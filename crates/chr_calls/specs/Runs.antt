@@ -1,0 +1,52 @@
+-- Runs of a book: calls by any seats, one after another.
+use Rattle.std.specs.Prelude.{◌≡◌, ℕ, List, [], ◌∷◌, ◌++◌, Option, Result, Ok, Err}
+use Rattle.chr_value.specs.Atoms.{Atom}
+use Rattle.chr_search.specs.Judged.{Judgement, IsVerdict}
+use Rattle.chr_calls.specs.declared.answers.PostFault.{PostFault}
+use Rattle.chr_calls.specs.declared.answers.ClaimFault.{ClaimFault}
+use Rattle.chr_calls.specs.declared.answers.TurnFault.{TurnFault}
+use Rattle.chr_calls.specs.declared.answers.ReportFault.{ReportFault}
+use Rattle.chr_calls.specs.declared.answers.Firing.{Firing}
+use Rattle.chr_calls.specs.declared.answers.FireFault.{FireFault}
+use Rattle.chr_calls.specs.declared.answers.Dropping.{Dropping}
+use Rattle.chr_calls.specs.declared.answers.DropFault.{DropFault}
+use Rattle.chr_calls.specs.declared.answers.PutDownFault.{PutDownFault}
+use Rattle.chr_calls.specs.declared.answers.MarkFault.{MarkFault}
+use Rattle.chr_calls.specs.Turns.{Turn}
+use Rattle.chr_calls.specs.Books.{BookState}
+use Rattle.chr_calls.specs.Calls.{Posts, Claims, Turns, Reports, FiresOrMisses, Drops, PutsDown, Marks, TakesStray}
+
+-- A call by a seat, with its answer: it leads from one book to another. A judgement is the right one for its trial.
+pub data Call (b : BookState) (seat : ℕ) (n : BookState) : Type 0 where
+  Post : (atoms : List (Atom ℕ)) (answer : Result ℕ PostFault) → Posts b seat atoms answer n → Call b seat n
+  Claim : (t : ℕ) (answer : Result ℕ ClaimFault) → Claims b seat t answer n → Call b seat n
+  Trial : (t : ℕ) (answer : Result Turn TurnFault) → Turns b seat t answer n → Call b seat n
+  Report : (t : ℕ) (j : Judgement) (answer : Result (Unit {0}) ReportFault) → IsVerdict j.trial j.verdict → Reports b seat t j answer n → Call b seat n
+  Fire : (t : ℕ) (j : Judgement) (answer : Result Firing FireFault) → IsVerdict j.trial j.verdict → FiresOrMisses b seat t j answer n → Call b seat n
+  DropGoal : (t : ℕ) (answer : Result Dropping DropFault) → Drops b seat t answer n → Call b seat n
+  PutDown : (t : ℕ) (answer : Result (Unit {0}) PutDownFault) → PutsDown b seat t answer n → Call b seat n
+  MarkStray : (t : ℕ) (answer : Result (Unit {0}) MarkFault) → Marks b t answer n → Call b seat n
+  TakeStray : (answer : Option ℕ) → TakesStray b answer n → Call b seat n
+
+-- the atoms that a call posts: those of a post that is answered with a ticket
+abbrev pub posts_of : {b n : BookState} {seat : ℕ} → Call b seat n → List (Atom ℕ)
+posts_of (Post atoms (Ok first) made) = atoms
+posts_of (Post atoms (Err fault) made) = []
+posts_of (Claim t answer made) = []
+posts_of (Trial t answer made) = []
+posts_of (Report t j answer right made) = []
+posts_of (Fire t j answer right made) = []
+posts_of (DropGoal t answer made) = []
+posts_of (PutDown t answer made) = []
+posts_of (MarkStray t answer made) = []
+posts_of (TakeStray answer made) = []
+
+-- A run: calls by any seats, one after another, of which each posts these atoms.
+abbrev pub Run : BookState → List (List (Atom ℕ)) → BookState → Type 0
+Run b [] n = n ≡ b
+Run b (posts ∷ more) n = (middle : BookState) × (seat : ℕ) × (call : Call b seat middle) × (posts_of call ≡ posts) × Run middle more n
+
+-- all that a run posts, in order
+abbrev pub all_posts : List (List (Atom ℕ)) → List (Atom ℕ)
+all_posts [] = []
+all_posts (posts ∷ more) = posts ++ all_posts more

@@ -1,0 +1,16 @@
+//! The calls of a book, as a table, and the laws of their runs.
+//!
+//! A book is a program with a store, the goals by their tickets, and the log of what happened. Several seats call it, one
+//! call at a time. This crate says what each call answers and what the book is afterwards, and what holds of a book after
+//! any calls by any seats. It has no book of its own: [`answers`] are the answers that calls give, `specs/` the table, and
+//! [`laws`] are contracts of functions that do nothing.
+//!
+//! - `Turns`: what comes next for a goal.
+//! - `Tickets`: a ticket's goal with its holder, its stray mark and its search; the state that a seat is told.
+//! - `Books`: the state of a book.
+//! - `Calls`: the table, a relation for each call, from the book before it and its answer to the book after it.
+//! - `Runs`: calls by any seats, one after another.
+//! - `Headline`: what holds of a book after any run.
+#![tactic(auto)]
+
+pub mod answers;
