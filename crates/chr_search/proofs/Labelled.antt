@@ -67,7 +67,7 @@ distinct_from ps d h (suc n) f =
     (none_from ps d h (suc h) n (omega arith) (f h (omega arith) (omega arith)) (λ i low high. f i (omega arith) (omega arith)), distinct_from ps d (suc h) n (λ i low high. f i (omega arith) (omega arith)))
 
 -- the first a heads and the b after them
-labels_append : (ps : List Placed) (h a b : ℕ) → labels_from ps h (a + b) ≡ labels_from ps h a ++ labels_from ps (h + a) b
+pub labels_append : (ps : List Placed) (h a b : ℕ) → labels_from ps h (a + b) ≡ labels_from ps h a ++ labels_from ps (h + a) b
 labels_append ps h zero b = ap₂ (labels_from ps) (let q : h ≡ h + 0 = omega arith in q) (let q : 0 + b ≡ b = omega arith in q)
 labels_append ps h (suc a) b =
     ap (labels_from ps h) (let q : suc a + b ≡ suc (a + b) = omega arith in q) ∙ ap (λ ls. label_at ps h ∷ ls) (labels_append ps (suc h) a b ∙ ap (λ n. labels_from ps (suc h) a ++ labels_from ps n b) (let q : suc h + a ≡ h + suc a = omega arith in q))

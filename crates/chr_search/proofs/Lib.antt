@@ -13,3 +13,4 @@ pub mod Searching
 pub mod Outcomes
 pub mod Labelled
 pub mod PlainTrials
+pub mod Same

@@ -13,7 +13,7 @@ use Rattle.chr_guard.proofs.Under.{under_parts}
 use Rattle.chr_guard.proofs.Whole.{heads_of as instance_heads}
 use Rattle.chr_model.specs.Stores.{among, Distinct}
 use Rattle.chr_plan.specs.Orders.{heads_of}
-use Rattle.chr_search.specs.Verdicts.{Placed, Trial, labels, at_heads, IsFormed, IsPart, IsWhole}
+use Rattle.chr_search.specs.Verdicts.{Placed, Trial, labels, at_heads, IsFormed, IsPart, IsWhole, IsWholeUnder}
 
 -- the atom at a head, and the atoms at the next n heads
 abbrev pub atom_of : List Placed → ℕ → Atom ℕ
@@ -127,13 +127,11 @@ never_distinct t n = (λ w. n w.distinct, λ p. n p.distinct)
 pub never_fits : (t : Trial) → ((v : Valuation) → AreAtHeads t.rule (at_heads t) v → ⊥) → (IsWhole t → ⊥) × (IsPart t → ⊥)
 never_fits t n = (λ w. n w.valuation w.fits, λ p. n p.valuation p.fits)
 
-pub no_instance : (t : Trial) → IsFormed t → length t.placed ≡ length (heads_of t.rule) → NoInstance t.rule (in_head_order t) → (IsWhole t → ⊥) × (IsPart t → ⊥)
-no_instance t f full n = (λ w. n w.body (whole_instance t f w), λ p. let left : length t.placed < length (heads_of t.rule) = p.left in absurd (omega arith))
+pub no_instance : (t : Trial) → IsFormed t → length t.placed ≡ length (heads_of t.rule) → NoInstance t.rule (in_head_order t) → IsWhole t → ⊥
+no_instance t f full n w = n w.body (whole_instance t f w)
 
-pub none_of : {A : Type 0} (found : Option A) (P : Type 0) (Q : A → Type 0) → MatchOption found P Q → found ≡ None → P
-none_of None P Q m e = m
-none_of (Some x) P Q m e = absurd (let z : Some x ≡ None = e in cc)
-
-pub some_of : {A : Type 0} (found : Option A) (P : Type 0) (Q : A → Type 0) (x : A) → MatchOption found P Q → found ≡ Some x → Q x
-some_of None P Q x m e = absurd (let z : None ≡ Some x = e in cc)
-some_of (Some y) P Q x m e = let same : y ≡ x = (let z : Some y ≡ Some x = e in cc) in subst Q same m
+-- the binding that is found, or none
+pub completed : (t : Trial) → IsFormed t → length t.placed ≡ length (heads_of t.rule) → Distinct (labels t) → (found : Option (List (Option (Value ℕ)))) → MatchOption found (NoInstance t.rule (in_head_order t)) (IsInstanceUnder t.rule (in_head_order t)) → MatchOption found (IsWhole t → ⊥) (IsWholeUnder t)
+unfolding is_whole
+completed t f full d None m = no_instance t f full m
+completed t f full d (Some binding) m = record { whole = is_whole t f full d binding m; body_is = m.body_is }

@@ -1,10 +1,11 @@
 -- A trial with its atoms, and the verdict on it.
-use Rattle.std.specs.Prelude.{◌≡◌, ℕ, zero, suc, ◌<◌, ◌≤◌, true, ◌==◌, if◌then◌else◌, List, [], ◌∷◌, map, length, take, Some}
+use Rattle.std.specs.Prelude.{◌≡◌, ℕ, zero, suc, ◌<◌, ◌≤◌, true, ◌==◌, if◌then◌else◌, List, [], ◌∷◌, map, length, take, Option, Some}
 use Rattle.std.specs.List.{AllByRecursion}
-use Rattle.chr_value.specs.Atoms.{Atom}
+use Rattle.chr_value.specs.Atoms.{Value, Atom}
 use Rattle.chr_rule.specs.Rules.{Simpagation, rule_at}
 use Rattle.chr_rule.specs.Scope.{IsRule}
 use Rattle.chr_guard.specs.Values.{Valuation, Holds}
+use Rattle.chr_guard.specs.Bindings.{bound_at}
 use Rattle.chr_guard.specs.Matching.{AreAtHeads}
 use Rattle.chr_guard.specs.Instances.{AreUnder, IsRight, added}
 use Rattle.chr_model.specs.Stores.{Store, atom_at, among, Distinct}
@@ -89,6 +90,11 @@ pub record IsWhole (t : Trial) : Type 0 where
   pub right : AllByRecursion (IsRight valuation) t.rule.body
   pub body : List (Atom ℕ)
   pub body_is : AreUnder valuation (added t.rule.body) body
+
+-- the trial is whole, and its body is the rule's under the binding
+pub record IsWholeUnder (t : Trial) (binding : List (Option (Value ℕ))) : Type 0 where
+  pub whole : IsWhole t
+  pub body_is : AreUnder (bound_at binding) (added t.rule.body) whole.body
 
 -- the trial has the rule of its number, the heads of a plan of it, and its labels' atoms in the store
 pub record IsTrialOf (rules : List (Simpagation ℕ)) (plans : PlanList) (store : Store) (t : Trial) : Type 0 where

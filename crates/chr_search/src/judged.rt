@@ -1,10 +1,12 @@
 //! Judging trials.
-ghost use Rattle.std.specs.Prelude.{◌≡◌, ◌==◌, ◌↔◌, IsTrue, map, MatchOption};
+ghost use Rattle.std.specs.Prelude.{◌≡◌, ◌==◌, ◌↔◌, IsTrue, length, map, MatchOption};
 ghost use Rattle.std.specs.List.{list_any};
 ghost use Rattle.chr_guard.specs.Matching.{AreAtHeads, IsFit};
 ghost use Rattle.chr_model.specs.Stores.{Distinct};
+ghost use Rattle.chr_plan.specs.Orders.{heads_of};
 ghost use Rattle.chr_search.specs.Judged.{IsVerdict};
 ghost use Rattle.chr_search.specs.Placed.{placed_as};
+ghost use Rattle.chr_search.specs.Verdicts.{IsWhole, IsWholeUnder, labels, at_heads};
 
 use crate::trial::{Placed, Trial};
 use chr_guard::binding::Binding;
@@ -63,6 +65,17 @@ impl<A: Allocator + Copy> Judged<A> {
     {
         self.verdict
     }
+
+    /// The one binding of all variables of the instance that a whole trial is. None unless the verdict is
+    /// [`Verdict::Whole`]. It takes no memory.
+    pub fn binding(&self) -> Option<Binding<'_>>
+        ensures { MatchOption result (IsWhole self.now.trial → ⊥) (IsWholeUnder self.now.trial) }
+    {
+        match self.verdict {
+            Verdict::Whole => complete(&self.trial, fit(&self.trial)?),
+            Verdict::Part | Verdict::Misfit => None,
+        }
+    }
 }
 
 /// Whether one of these has the label.
@@ -99,22 +112,39 @@ fn fit_placed<'a, A: Allocator + Copy>(
     Some(binding)
 }
 
+/// The one binding under which the heads of a trial are its atoms. None where there is none.
+fn fit<A: Allocator + Copy>(trial: &Trial<A>) -> Option<Binding<'_>>
+    ensures { MatchOption result ((v : _) → AreAtHeads trial.now.rule (at_heads trial.now) v → ⊥) (IsFit trial.now.rule (AreAtHeads trial.now.rule (at_heads trial.now))) }
+{
+    fit_placed(trial.rule(), trial.placed())
+}
+
+/// The one binding of all variables of the instance that a trial without heads left is, from that of its heads' variables.
+/// None where it is none.
+fn complete<'a, A: Allocator + Copy>(trial: &Trial<A>, binding: Binding<'a>) -> Option<Binding<'a>>
+    requires full { length trial.now.placed ≡ length (heads_of trial.now.rule) }
+    requires distinct { Distinct (labels trial.now) }
+    requires fit { IsFit trial.now.rule (AreAtHeads trial.now.rule (at_heads trial.now)) binding }
+    ensures { MatchOption result (IsWhole trial.now → ⊥) (IsWholeUnder trial.now) }
+{
+    instance_from(trial.rule(), binding)
+}
+
 /// The verdict on a trial.
 fn verdict_on<A: Allocator + Copy>(trial: &Trial<A>) -> Verdict
     ensures { IsVerdict trial.now result }
 {
-    let rule = trial.rule();
     let placed = trial.placed();
     if !are_distinct(placed) {
         return Verdict::Misfit;
     }
-    let Some(binding) = fit_placed(rule, placed) else {
+    let Some(binding) = fit(trial) else {
         return Verdict::Misfit;
     };
-    if placed.len() < rule.heads() {
+    if placed.len() < trial.rule().heads() {
         return Verdict::Part;
     }
-    match instance_from(rule, binding) {
+    match complete(trial, binding) {
         None => Verdict::Misfit,
         Some(_) => Verdict::Whole,
     }

@@ -1,13 +1,13 @@
 //! Trials with their atoms.
-ghost use Rattle.std.specs.Prelude.{◌≡◌, ◌≤◌, length, map, IfOk};
+ghost use Rattle.std.specs.Prelude.{◌≡◌, ◌↔◌, ◌≤◌, ℕ, length, map, IfOk, IsTrue};
 ghost use Rattle.std.specs.Arc.{arc_value};
-ghost use Rattle.std.specs.Prelude.{ℕ};
 ghost use Rattle.chr_plan.specs.Plans.{ArePlans};
 ghost use Rattle.chr_search.specs.Trials.{older, IsTrial};
-ghost use Rattle.chr_search.specs.Verdicts.{IsFormed, position as position_of, IsTrialOf};
+ghost use Rattle.chr_search.specs.Verdicts.{IsFormed, position as position_of, IsTrialOf, label_at, labels_from, kept_labels, removed_labels};
 ghost use Rattle.chr_search.specs.Placed.{placed_as};
 
 use crate::position::Position;
+use chr_log::events::Labels;
 use chr_plan::plans::Plans;
 use chr_rule::program::Program;
 use chr_rule::rule::Rule;
@@ -52,6 +52,57 @@ impl<A: Allocator> Model for Trial<A> {
     ghost invariant = { λ t. IsFormed (record { rule = arc_value t.rule; number = t.number; head = t.head; placed = map placed_as t.placed.items }) };
 }
 
+impl<A: Allocator + Copy> Placed<A> {
+    /// A copy, with a copy of the atom. An `Err` is E01.
+    fn copy(&self, alloc: A) -> Result<Placed<A>, AllocError>
+        ensures { IfOk result (λ made. placed_as made ≡ placed_as self.now) }
+    {
+        Ok(Placed {
+            head: self.head,
+            label: self.label,
+            atom: self.atom.copy(alloc)?,
+        })
+    }
+
+    /// Whether two are equal: the head, the label and the atom.
+    fn same(&self, other: &Placed<A>) -> bool
+        ensures { IsTrue result ↔ (placed_as self.now ≡ placed_as other.now) }
+    {
+        self.head == other.head && self.label == other.label && self.atom.same(&other.atom)
+    }
+}
+
+/// Whether these have the same labels, in the same order.
+fn same_labels<A: Allocator>(placed: &[Placed<A>], other: &[Placed<A>]) -> bool
+    ensures { IsTrue result ↔ (map (λ p. p.label) placed.now ≡ map (λ p. p.label) other.now) }
+{
+    if placed.len() != other.len() {
+        return false;
+    }
+    for i in 0..placed.len() {
+        if placed[i].label != other[i].label {
+            return false;
+        }
+    }
+    true
+}
+
+/// Whether these are the same labels with the same heads and atoms, in the same order.
+fn same_placed<A: Allocator + Copy>(placed: &[Placed<A>], other: &[Placed<A>]) -> bool
+    ensures { IsTrue result ↔ (map placed_as placed.now ≡ map placed_as other.now) }
+{
+    // Most trials differ in their labels, which costs less to see than a difference of atoms.
+    if !same_labels(placed, other) {
+        return false;
+    }
+    for i in 0..placed.len() {
+        if !placed[i].same(&other[i]) {
+            return false;
+        }
+    }
+    true
+}
+
 impl<A: Allocator + Copy> Trial<A> {
     /// The rule.
     pub fn rule(&self) -> &Rule<A>
@@ -81,6 +132,72 @@ impl<A: Allocator + Copy> Trial<A> {
         ensures formed { IsFormed self.now }
     {
         &self.placed
+    }
+
+    /// The label at a head, 0 where there is none.
+    fn label_at(&self, head: usize) -> Label
+        ensures { result ≡ label_at self.now.placed head }
+    {
+        for one in &self.placed {
+            if usize::from(one.head) == head {
+                return one.label;
+            }
+        }
+        0
+    }
+
+    /// The labels at the next heads from one on, at most six.
+    fn labels_from(&self, first: usize, count: usize) -> Labels
+        requires first { first ≤ 7 }
+        requires count { count ≤ 6 }
+        ensures { result.items ≡ labels_from self.now.placed first count }
+    {
+        let mut labels = Labels::new();
+        for i in 0..count {
+            labels.push(self.label_at(first + i));
+        }
+        labels
+    }
+
+    /// The labels at the kept heads, in head order. A head that isn't tried has 0.
+    pub fn kept_labels(&self) -> Labels
+        ensures { result.items ≡ kept_labels self.now }
+    {
+        self.labels_from(1, self.rule.kept().len())
+    }
+
+    /// The labels at the removed heads, in head order. A head that isn't tried has 0.
+    pub fn removed_labels(&self) -> Labels
+        ensures { result.items ≡ removed_labels self.now }
+    {
+        self.labels_from(self.rule.kept().len() + 1, self.rule.removed().len())
+    }
+
+    /// A copy: it shares the rule and has copies of the atoms. E01 where memory ran out.
+    pub fn copy(&self, alloc: A) -> Result<Trial<A>, AllocError>
+        ensures { IfOk result (λ made. made ≡ self.now) }
+    {
+        let mut placed = Vec::with_capacity(alloc, self.placed.len())?;
+        for one in &self.placed {
+            placed.push(one.copy(alloc)?)?;
+        }
+        Ok(Trial {
+            rule: Arc::try_clone(&self.rule)?,
+            number: self.number,
+            head: self.head,
+            placed,
+        })
+    }
+
+    /// Whether two trials are equal: the rule with its number, the head, and the labels with their heads and atoms,
+    /// wherever the rules and the atoms lie in memory.
+    pub fn same(&self, other: &Trial<A>) -> bool
+        ensures { IsTrue result ↔ (self.now ≡ other.now) }
+    {
+        self.number == other.number
+            && self.head == other.head
+            && same_placed(&self.placed, &other.placed)
+            && self.rule.same(&other.rule)
     }
 
     /// The admissible trial of a position, with copies of its atoms. E01 where memory ran out.
