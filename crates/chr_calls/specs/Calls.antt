@@ -121,7 +121,7 @@ with_candidate_of b t candidate = with_ticket b t (with_candidate candidate (tic
 
 abbrev pub Turns : BookState → ℕ → ℕ → Result Turn TurnFault → BookState → Type 0
 Turns b seat t (Err turn_fault.NotHeld) n = IsNotHeld b.tickets seat t × (n ≡ b)
-Turns b seat t (Err turn_fault.NoMemory) n = (l : ℕ) × HoldsLive b seat t l × (IsDone b t l → ⊥) × (n ≡ b)
+Turns b seat t (Err turn_fault.NoMemory) n = (l : ℕ) × HoldsLive b seat t l × (n ≡ b)
 Turns b seat t (Ok turn.Gone) n = (l : ℕ) × Holds b.tickets seat t l × (IsLive b l → ⊥) × (n ≡ with_candidate_of b t None)
 Turns b seat t (Ok (turn.Next trial)) n = (l : ℕ) × HoldsLive b seat t l × IsNextTrial b t l trial × (n ≡ with_candidate_of b t (Some trial))
 Turns b seat t (Ok turn.Done) n = (l : ℕ) × HoldsLive b seat t l × IsDone b t l × (n ≡ with_candidate_of b t None)

@@ -1,5 +1,6 @@
 -- The headline: what holds of a book after any calls by any seats.
 use Rattle.std.specs.Prelude.{◌≡◌, ℕ, ◌<◌, ◌≤◌, true, List, Some}
+use Rattle.std.specs.List.{AllByRecursion}
 use Rattle.std.specs.Option.{option_map}
 use Rattle.chr_value.specs.Atoms.{Atom}
 use Rattle.chr_log.specs.declared.events.Version.TheVariants.{Two}
@@ -25,11 +26,13 @@ pub record Headline (b : BookState) (posts : List (Atom ℕ)) : Type 0 where
   pub once : (l : ℕ) → times l (removed_by (events b)) ≤ 1
   pub final : AreQuiet b.tickets → Final (Instances b.rules) b.store
 
--- what is kept of a ticket's candidate, whose active label is l: each of its labels has its atom in the store or has left it
+-- what is kept of a ticket's candidate, whose active label is l: each of its labels was given, and has its atom in the store
+-- or has left it
 pub record IsCandidate (b : BookState) (l : ℕ) (trial : Trial) : Type 0 where
   pub formed : IsFormed trial
   pub was : WasTrialOf b.rules b.plans b.store trial
   pub active : among (labels trial) l ≡ true
+  pub given : AllByRecursion (λ p. p.label < b.next) trial.placed
 
 -- What a book keeps, so that its drops are lawful: no trial of the reach of a numbered goal lies before the position of its
 -- search, whose candidate is before every other admissible trial from there on; and the youngest label of each labelled

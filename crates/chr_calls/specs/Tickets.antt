@@ -1,5 +1,5 @@
 -- Tickets: goals with what is known of each, and what a seat is told of them.
-use Rattle.std.specs.Prelude.{◌≡◌, ℕ, zero, suc, ◌≤◌, Bool, true, false, List, [], ◌∷◌, length, map, nat_lt, Option, Some, None, if◌then◌else◌, slice_index_or, slice_set}
+use Rattle.std.specs.Prelude.{◌≡◌, ℕ, zero, suc, ◌≤◌, Bool, true, false, List, [], length, nat_lt, Option, Some, None, if◌then◌else◌, slice_index_or, slice_set}
 use Rattle.chr_value.specs.Atoms.{Atom}
 use Rattle.chr_model.specs.Goals.{Goal, Plain, Numbered}
 use Rattle.chr_model.specs.Goals as goals

@@ -10,7 +10,13 @@
 //! - `Books`: the state of a book.
 //! - `Calls`: the table, a relation for each call, from the book before it and its answer to the book after it.
 //! - `Runs`: calls by any seats, one after another.
-//! - `Headline`: what holds of a book after any run.
+//! - `Headline`: what holds of a book after any run, and what each call keeps so that it does.
+//!
+//! The law that all others serve is [`runs_have_the_headline`](laws::runs_have_the_headline): after any calls by any seats
+//! on a book as it is opened, the log is lawful and leads to the book's store and goals; with labels erased its firings are
+//! an abstract run from the atoms posted; no label is removed twice; and where no goal is open, no rule applies to the
+//! store. It has no premise but that the book was opened with the plans of its rules.
 #![tactic(auto)]
 
 pub mod answers;
+pub mod laws;

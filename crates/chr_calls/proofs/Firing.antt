@@ -1,0 +1,263 @@
+-- A trial that is fired, and one that is missed.
+use Rattle.std.proofs.Common.{◌≡◌, ℕ, zero, suc, ◌+◌, ◌<◌, ◌≤◌, inl, inr, Bool, true, false, not, ◌==◌, ltb, if◌then◌else◌, List, [], ◌∷◌, ◌++◌, map, length, length-append, Some, None, Result, Ok, Err, refl, sym, ◌∙◌, ap, ap₂, subst, arith, slice_set, true≢false, true-eqb}
+use Rattle.std.specs.List.{AllByRecursion}
+use Rattle.std.specs.Option.{option_map}
+use Rattle.std.proofs.lemmas.Bool.Decides.{nat_tests}
+use Rattle.chr_value.specs.Atoms.{Atom}
+use Rattle.chr_log.specs.Events.{Fire}
+use Rattle.chr_log.specs.declared.events.Version.TheVariants.{Two}
+use Rattle.chr_model.specs.Stores.{Store, atom_at, without, among, Distinct, Labelled}
+use Rattle.chr_model.specs.Goals.{Goal, Numbered, goal_at}
+use Rattle.chr_model.specs.Goals as goals
+use Rattle.chr_model.specs.Steps.{Step}
+use Rattle.chr_model.specs.Steps as steps
+use Rattle.chr_model.specs.Logs.{Lawful}
+use Rattle.chr_model.specs.Programs.{Instances}
+use Rattle.chr_model.specs.Searches.{YoungestAreGoals}
+use Rattle.chr_model.proofs.Stores.{atom_at-kept, atom_at-without, among-itself, among-more}
+use Rattle.chr_model.proofs.Strict.{Lawful-push}
+use Rattle.chr_model.proofs.Youngest.{young_simplified, young_propagated}
+use Rattle.chr_plan.specs.Orders.{heads_of}
+use Rattle.chr_search.specs.Positions.{past}
+use Rattle.chr_search.specs.Verdicts.{Placed, Trial, labels, position, label_at, labels_from, kept_labels, removed_labels, IsFormed, IsWhole, WasTrialOf}
+use Rattle.chr_search.specs.Reach.{HasNoMore, over, Searching}
+use Rattle.chr_search.specs.Judged.{Judgement, IsVerdict}
+use Rattle.chr_search.specs.Answers.{after_verdict}
+use Rattle.chr_search.proofs.Searching.{shrunk, moved_past}
+use Rattle.chr_search.proofs.Outcomes.{gone_none}
+use Rattle.chr_calls.specs.declared.answers.Firing.{Firing}
+use Rattle.chr_calls.specs.declared.answers.Firing.TheVariants as firing
+use Rattle.chr_calls.specs.declared.answers.FireFault.{FireFault}
+use Rattle.chr_calls.specs.declared.answers.FireFault.TheVariants as fire
+use Rattle.chr_calls.specs.Tickets.{Ticket, ended, waiting, going_on, ticket_at}
+use Rattle.chr_calls.specs.Books.{BookState, goal_state, events, space_of, with_ticket}
+use Rattle.chr_calls.specs.Calls.{AreLive, FiresOrMisses, fired_ticket, fired}
+use Rattle.chr_calls.specs.Headline.{IsCandidate, IsKept}
+use Rattle.chr_calls.proofs.Tickets.{AfterSet, is_set, stands, after_set, goal_there, goals_set, goals_stay, goals_waiting, goals_appended, numbered_before, kept_as_is, kept_with, events_more}
+
+-- ---- a trial of which a label has left the store
+
+-- of labels that aren't all in the store, one that has left it
+one_gone : (store : Store) (ps : List Placed) → (AllByRecursion (λ p. (atom : Atom ℕ) × (atom_at store p.label ≡ Some atom)) ps → ⊥) → (l : ℕ) × (among (map (λ (p : Placed). p.label) ps) l ≡ true) × (atom_at store l ≡ None)
+one_gone store [] none = absurd (none tt)
+one_gone store (p ∷ ps) none =
+    elim (atom_at store p.label) as (λ o. (atom_at store p.label ≡ o) → (l : ℕ) × (among (p.label ∷ map (λ (q : Placed). q.label) ps) l ≡ true) × (atom_at store l ≡ None)) [
+      | None ↦ λ e. (p.label, among-itself p.label (map (λ (q : Placed). q.label) ps), e)
+      | Some a ↦ λ e.
+          let more = one_gone store ps (λ all. none ((a, e), all)) in
+          (more.0, among-more p.label (map (λ (q : Placed). q.label) ps) more.0 more.1, more.2)
+    ] refl
+
+-- the search of its ticket goes on past it
+past_gone : (b : BookState) (t l g : ℕ) (trial : Trial) → (ticket_at b.tickets t).goal ≡ Numbered l → (ticket_at b.tickets t).candidate ≡ Some trial → among (labels trial) g ≡ true
+    → (store : Store) → HasNoMore (space_of b l) store → atom_at store g ≡ None → IsKept b → Searching (over (space_of b l) store) (past (position trial)) None
+past_gone b t l g trial at c named store less gone k =
+    let x : Ticket = ticket_at b.tickets t in
+    let s : Searching (space_of b l) x.position (Some (position trial)) = subst (λ o. Searching (space_of b l) x.position (option_map position o)) c (k.searching t l at) in
+    moved_past (over (space_of b l) store) x.position (position trial) (shrunk (space_of b l) k.plans store less x.position (Some (position trial)) s) (gone_none (over (space_of b l) store) trial g named gone)
+
+missed_kept : (b : BookState) (t : ℕ) (trial : Trial) → (ticket_at b.tickets t).candidate ≡ Some trial → (AreLive b trial → ⊥) → IsKept b → IsKept (with_ticket b t (going_on (past (position trial)) (ticket_at b.tickets t)))
+missed_kept b t trial c dead k =
+    let gone = one_gone b.store trial.placed dead in
+    kept_with b t (going_on (past (position trial)) (ticket_at b.tickets t)) refl
+    (λ l at. past_gone b t l gone.0 trial at c gone.1 b.store (λ m a seen h. h) gone.2 k)
+    (λ l other at is. absurd (let z : None ≡ Some other = is in cc)) k
+
+-- ---- the labels of a whole trial
+
+-- the head at which a label stands
+own_head : (ps : List Placed) → Distinct (map (λ (p : Placed). p.head) ps) → (l : ℕ) → among (map (λ (p : Placed). p.label) ps) l ≡ true → (h : ℕ) × (among (map (λ (p : Placed). p.head) ps) h ≡ true) × (label_at ps h ≡ l)
+own_head [] d l i = absurd (cc)
+own_head (p ∷ ps) d l i =
+    elim (p.label == l) as (λ b. (p.label == l ≡ b) → (h : ℕ) × (among (p.head ∷ map (λ (q : Placed). q.head) ps) h ≡ true) × (label_at (p ∷ ps) h ≡ l)) [
+      | true ↦ λ e. (p.head, among-itself p.head (map (λ (q : Placed). q.head) ps), first (true-eqb p.label l (sym e)))
+      | false ↦ λ e.
+          let more = own_head ps d.1 l (grind (arith, nat_tests)) in
+          (more.0, among-more p.head (map (λ (q : Placed). q.head) ps) more.0 more.1, ap (λ (c : Bool). if c then p.label else label_at ps more.0) (apart more.0 more.1) ∙ more.2)
+    ] refl
+  where
+    first : p.label ≡ l → label_at (p ∷ ps) p.head ≡ l
+    first e = ap (λ (c : Bool). if c then p.label else label_at ps p.head) (let q : (p.head == p.head) ≡ true = grind (arith, nat_tests) in q) ∙ e
+
+    apart : (h : ℕ) → among (map (λ (q : Placed). q.head) ps) h ≡ true → (p.head == h) ≡ false
+    apart h j =
+        elim (p.head == h) as (λ c. (p.head == h ≡ c) → c ≡ false) [
+          | true ↦ λ e. absurd (true≢false (sym j ∙ ap (among (map (λ (q : Placed). q.head) ps)) (sym (true-eqb p.head h (sym e))) ∙ d.0))
+          | false ↦ λ e. refl
+        ] refl
+
+head_within : (n : ℕ) (ps : List Placed) → AllByRecursion (λ p. (1 ≤ p.head) × (p.head ≤ n) × (p.label ≤ 4294967295)) ps → (h : ℕ) → among (map (λ (p : Placed). p.head) ps) h ≡ true → (1 ≤ h) × (h ≤ n)
+head_within n [] all h i = absurd (cc)
+head_within n (p ∷ ps) all h i =
+    elim (p.head == h) as (λ b. (p.head == h ≡ b) → (1 ≤ h) × (h ≤ n)) [
+      | true ↦ λ e. subst (λ z. (1 ≤ z) × (z ≤ n)) (true-eqb p.head h (sym e)) (all.0.0, all.0.1)
+      | false ↦ λ e. head_within n ps all.1 h (grind (arith, nat_tests))
+    ] refl
+
+-- the labels at some heads in turn have the label at each of these
+label_from : (ps : List Placed) (h n k : ℕ) → h ≤ k → k < h + n → among (labels_from ps h n) (label_at ps k) ≡ true
+label_from ps h zero k low high = absurd (omega arith)
+label_from ps h (suc n) k low high =
+    elim (h == k) as (λ b. (h == k ≡ b) → among (label_at ps h ∷ labels_from ps (suc h) n) (label_at ps k) ≡ true) [
+      | true ↦ λ e. subst (λ z. among (label_at ps h ∷ labels_from ps (suc h) n) (label_at ps z) ≡ true) (true-eqb h k (sym e)) (among-itself (label_at ps h) (labels_from ps (suc h) n))
+      | false ↦ λ e. among-more (label_at ps h) (labels_from ps (suc h) n) (label_at ps k) (label_from ps (suc h) n k (grind (arith, nat_tests)) (omega arith))
+    ] refl
+
+label_named : (ps : List Placed) (h : ℕ) → among (map (λ (p : Placed). p.head) ps) h ≡ true → among (map (λ (p : Placed). p.label) ps) (label_at ps h) ≡ true
+label_named [] h i = absurd (cc)
+label_named (p ∷ ps) h i =
+    elim (p.head == h) as (λ b. (p.head == h ≡ b) → among (p.label ∷ map (λ (q : Placed). q.label) ps) (if b then p.label else label_at ps h) ≡ true) [
+      | true ↦ λ e. among-itself p.label (map (λ (q : Placed). q.label) ps)
+      | false ↦ λ e. among-more p.label (map (λ (q : Placed). q.label) ps) (label_at ps h) (label_named ps h (grind (arith, nat_tests)))
+    ] refl
+
+-- a label of a trial that isn't removed is kept
+kept_else : (trial : Trial) → IsFormed trial → (l : ℕ) → among (labels trial) l ≡ true → among (removed_labels trial) l ≡ false → among (kept_labels trial) l ≡ true
+kept_else trial f l i stays =
+    let a : ℕ = length trial.rule.kept in
+    let b : ℕ = length trial.rule.removed in
+    let all : length (heads_of trial.rule) ≡ a + b = length-append trial.rule.kept trial.rule.removed in
+    let h = own_head trial.placed f.distinct l i in
+    let w = head_within (length (heads_of trial.rule)) trial.placed f.within h.0 h.1 in
+    let low : 1 ≤ h.0 = w.0 in
+    let high : h.0 ≤ length (heads_of trial.rule) = w.1 in
+    elim (ltb h.0 (suc a)) as (λ c. (ltb h.0 (suc a) ≡ c) → among (kept_labels trial) l ≡ true) [
+      | true ↦ λ e.
+          let less : h.0 < suc a = grind (arith, nat_tests) in
+          subst (λ z. among (kept_labels trial) z ≡ true) h.2 (label_from trial.placed 1 a h.0 low (omega arith))
+      | false ↦ λ e.
+          let more : suc a ≤ h.0 = grind (arith, nat_tests) in
+          absurd (true≢false (sym (subst (λ z. among (removed_labels trial) z ≡ true) h.2 (label_from trial.placed (suc a) b h.0 more (omega arith))) ∙ stays))
+    ] refl
+
+-- a whole trial has a removed label
+one_removed : (trial : Trial) → IsFormed trial → length trial.placed ≡ length (heads_of trial.rule) → (l : ℕ) × (among (labels trial) l ≡ true) × (among (removed_labels trial) l ≡ true)
+one_removed trial f full =
+    let a : ℕ = length trial.rule.kept in
+    let b : ℕ = length trial.rule.removed in
+    let all : length (heads_of trial.rule) ≡ a + b = length-append trial.rule.kept trial.rule.removed in
+    let some : 0 < b = f.scoped.limits.removed in
+    (label_at trial.placed (suc a), label_named trial.placed (suc a) (f.full full (suc a) (omega arith) (omega arith)), label_from trial.placed (suc a) b (suc a) (omega arith) (omega arith))
+
+-- ---- a firing
+
+-- the tickets after it
+abbrev tickets_fired : List Ticket → ℕ → Trial → List (Atom ℕ) → Bool → List Ticket
+tickets_fired ts t trial body lives = slice_set ts t (fired_ticket (ticket_at ts t) trial lives) ++ map waiting body
+
+-- the store after it, which has no more than before
+abbrev store_fired : BookState → Trial → Store
+store_fired b trial = without (removed_labels trial) b.store
+
+no_more : (b : BookState) (trial : Trial) (l : ℕ) → HasNoMore (space_of b l) (store_fired b trial)
+no_more b trial l m a seen h = (atom_at-kept (removed_labels trial) b.store m a h).0
+
+was_before : (b : BookState) (trial other : Trial) → WasTrialOf b.rules b.plans b.store other → WasTrialOf b.rules b.plans (store_fired b trial) other
+was_before b trial other w = record { rule_is = w.rule_is; order = w.order; order_is = w.order_is; heads_are = w.heads_are; atoms = left other.placed w.atoms }
+  where
+    left : (ps : List Placed) → AllByRecursion (λ p. (a : Atom ℕ) → atom_at b.store p.label ≡ Some a → a ≡ p.atom) ps → AllByRecursion (λ p. (a : Atom ℕ) → atom_at (store_fired b trial) p.label ≡ Some a → a ≡ p.atom) ps
+    left [] all = tt
+    left (p ∷ ps) all = ((λ a h. all.0 a (atom_at-kept (removed_labels trial) b.store p.label a h).0), left ps all.1)
+
+-- a numbered goal is of the ticket that goes on, or of another, which stands as before
+data AfterFiring (ts : List Ticket) (t : ℕ) (trial : Trial) (body : List (Atom ℕ)) (lives : Bool) (u : ℕ) : Type 0 where
+  goes_on : ticket_at (tickets_fired ts t trial body lives) u ≡ going_on (past (position trial)) (ticket_at ts t) → AfterFiring ts t trial body lives u
+  is_other : ticket_at (tickets_fired ts t trial body lives) u ≡ ticket_at ts u → AfterFiring ts t trial body lives u
+
+after_firing : (ts : List Ticket) (t : ℕ) (trial : Trial) (body : List (Atom ℕ)) (lives : Bool) (u l : ℕ) → (ticket_at (tickets_fired ts t trial body lives) u).goal ≡ Numbered l → AfterFiring ts t trial body lives u
+after_firing ts t trial body lives u l h =
+    let x : Ticket = fired_ticket (ticket_at ts t) trial lives in
+    let same : ticket_at (tickets_fired ts t trial body lives) u ≡ ticket_at (slice_set ts t x) u = numbered_before (slice_set ts t x) body u l h in
+    of_set lives (after_set ts t x u) same (ap (λ (y : Ticket). y.goal) (sym same) ∙ h)
+  where
+    of_set : (c : Bool) → AfterSet ts t (fired_ticket (ticket_at ts t) trial c) u → ticket_at (tickets_fired ts t trial body c) u ≡ ticket_at (slice_set ts t (fired_ticket (ticket_at ts t) trial c)) u
+        → (ticket_at (slice_set ts t (fired_ticket (ticket_at ts t) trial c)) u).goal ≡ Numbered l → AfterFiring ts t trial body c u
+    of_set c (stands is) same at = is_other (same ∙ is)
+    of_set true (is_set e within is) same at = goes_on (same ∙ is)
+    of_set false (is_set e within is) same at = absurd (let z : goals.Ended ≡ Numbered l = sym (ap (λ (y : Ticket). y.goal) is) ∙ at in cc)
+
+-- the step that it is
+state_fired : (b : BookState) (seat t : ℕ) (trial : Trial) (body : List (Atom ℕ)) (lives : Bool) (gs : List Goal) → map (λ (y : Ticket). y.goal) (slice_set b.tickets t (fired_ticket (ticket_at b.tickets t) trial lives)) ≡ gs
+    → goal_state (fired b seat t trial body lives) ≡ steps.replaced (record { goals = gs; store = b.store; next = b.next }) (removed_labels trial) body
+state_fired b seat t trial body lives gs e =
+    ap (λ (hs : List Goal). record { goals = hs; store = store_fired b trial; next = b.next })
+    (goals_appended (slice_set b.tickets t (fired_ticket (ticket_at b.tickets t) trial lives)) (map waiting body) ∙ ap₂ (λ (xs ys : List Goal). xs ++ ys) e (goals_waiting body))
+
+record Outcome (b : BookState) (seat t : ℕ) (trial : Trial) (body : List (Atom ℕ)) (lives : Bool) : Type 0 where
+  pub step : Step Two (Instances b.rules) (goal_state b) (Fire t trial.number (kept_labels trial) (removed_labels trial)) (goal_state (fired b seat t trial body lives))
+  pub youngest : YoungestAreGoals (Instances b.rules) (goal_state (fired b seat t trial body lives))
+
+outcome : (b : BookState) (seat t l : ℕ) (trial : Trial) (body : List (Atom ℕ)) (lives : Bool) → (ticket_at b.tickets t).goal ≡ Numbered l → Labelled (Instances b.rules) b.store trial.number (kept_labels trial) (removed_labels trial) body
+    → lives ≡ not (among (removed_labels trial) l) → (among (removed_labels trial) l ≡ false → among (kept_labels trial) l ≡ true) → IsKept b → Outcome b seat t trial body lives
+outcome b seat t l trial body true at i e kept k =
+    let after : goal_state (fired b seat t trial body true) ≡ steps.replaced (goal_state b) (removed_labels trial) body = state_fired b seat t trial body true (goal_state b).goals (goals_stay b.tickets t (going_on (past (position trial)) (ticket_at b.tickets t)) refl) in
+    record {
+      step = inr (record { label = l; body = body; numbered = goal_there b t ∙ at; stands = kept (not_true (among (removed_labels trial) l) e); instance = i; after = after });
+      youngest = subst (YoungestAreGoals (Instances b.rules)) (sym after) (young_propagated (Instances b.rules) (goal_state b) (removed_labels trial) body k.youngest);
+    }
+  where
+    not_true : (c : Bool) → true ≡ not c → c ≡ false
+    not_true true h = absurd (cc)
+    not_true false h = refl
+outcome b seat t l trial body false at i e kept k =
+    let after : goal_state (fired b seat t trial body false) ≡ steps.replaced (steps.ended (goal_state b) t) (removed_labels trial) body = state_fired b seat t trial body false (steps.ended (goal_state b) t).goals (goals_set b.tickets t ended) in
+    let removed : among (removed_labels trial) l ≡ true = not_false (among (removed_labels trial) l) e in
+    let numbered : goal_at (goal_state b) t ≡ Numbered l = goal_there b t ∙ at in
+    record {
+      step = inl (record { label = l; body = body; numbered = numbered; stands = removed; instance = i; after = after });
+      youngest = subst (YoungestAreGoals (Instances b.rules)) (sym after) (young_simplified (Instances b.rules) (goal_state b) t l (removed_labels trial) body numbered removed k.youngest);
+    }
+  where
+    not_false : (c : Bool) → false ≡ not c → c ≡ true
+    not_false true h = refl
+    not_false false h = absurd (cc)
+
+fired_kept : (b : BookState) (seat t l : ℕ) (trial : Trial) (body : List (Atom ℕ)) (lives : Bool) → (ticket_at b.tickets t).goal ≡ Numbered l → (ticket_at b.tickets t).candidate ≡ Some trial → IsWhole trial
+    → Labelled (Instances b.rules) b.store trial.number (kept_labels trial) (removed_labels trial) body → lives ≡ not (among (removed_labels trial) l) → IsKept b → IsKept (fired b seat t trial body lives)
+fired_kept b seat t l trial body lives at c w i e k =
+    let n = fired b seat t trial body lives in
+    let gone = removed_labels trial in
+    let cand = k.candidates t l trial at c in
+    let o = outcome b seat t l trial body lives at i e (kept_else trial cand.formed l cand.active) k in
+    let one = one_removed trial cand.formed w.full in
+    let dead : atom_at (store_fired b trial) one.0 ≡ None = atom_at-without gone b.store one.0 ∙ ap (λ (z : Bool). if z then None else atom_at b.store one.0) one.2 in
+    record {
+      plans = k.plans;
+      lawful = subst (λ es. Lawful Two (Instances b.rules) es (goal_state n)) (sym (events_more b seat (Fire t trial.number (kept_labels trial) gone)))
+          (Lawful-push Two (Instances b.rules) (events b) (Fire t trial.number (kept_labels trial) gone) (goal_state b) (goal_state n) k.lawful o.step);
+      given = λ u m h. given u m (after_firing b.tickets t trial body lives u m h) h;
+      searching = λ u m h. searching one.0 one.1 dead u m (after_firing b.tickets t trial body lives u m h) h;
+      candidates = λ u m other h is. candidate u m other (after_firing b.tickets t trial body lives u m h) h is;
+      youngest = o.youngest;
+    }
+  where
+    given : (u m : ℕ) → AfterFiring b.tickets t trial body lives u → (ticket_at (tickets_fired b.tickets t trial body lives) u).goal ≡ Numbered m → m < b.next
+    given u m (goes_on is) h = k.given t m (ap (λ (y : Ticket). y.goal) (sym is) ∙ h)
+    given u m (is_other is) h = k.given u m (ap (λ (y : Ticket). y.goal) (sym is) ∙ h)
+
+    searching : (g : ℕ) → among (labels trial) g ≡ true → atom_at (store_fired b trial) g ≡ None → (u m : ℕ) → AfterFiring b.tickets t trial body lives u → (ticket_at (tickets_fired b.tickets t trial body lives) u).goal ≡ Numbered m
+        → Searching (over (space_of b m) (store_fired b trial)) (ticket_at (tickets_fired b.tickets t trial body lives) u).position (option_map position (ticket_at (tickets_fired b.tickets t trial body lives) u).candidate)
+    searching g named dead u m (goes_on is) h =
+        subst (λ (y : Ticket). Searching (over (space_of b m) (store_fired b trial)) y.position (option_map position y.candidate)) (sym is)
+        (past_gone b t m g trial (ap (λ (y : Ticket). y.goal) (sym is) ∙ h) c named (store_fired b trial) (no_more b trial m) dead k)
+    searching g named dead u m (is_other is) h =
+        subst (λ (y : Ticket). Searching (over (space_of b m) (store_fired b trial)) y.position (option_map position y.candidate)) (sym is)
+        (shrunk (space_of b m) k.plans (store_fired b trial) (no_more b trial m) (ticket_at b.tickets u).position (option_map position (ticket_at b.tickets u).candidate) (k.searching u m (ap (λ (y : Ticket). y.goal) (sym is) ∙ h)))
+
+    candidate : (u m : ℕ) (other : Trial) → AfterFiring b.tickets t trial body lives u → (ticket_at (tickets_fired b.tickets t trial body lives) u).goal ≡ Numbered m → (ticket_at (tickets_fired b.tickets t trial body lives) u).candidate ≡ Some other → IsCandidate (fired b seat t trial body lives) m other
+    candidate u m other (goes_on is) h has = absurd (let z : None ≡ Some other = sym (ap (λ (y : Ticket). y.candidate) is) ∙ has in cc)
+    candidate u m other (is_other is) h has =
+        let old = k.candidates u m other (ap (λ (y : Ticket). y.goal) (sym is) ∙ h) (ap (λ (y : Ticket). y.candidate) (sym is) ∙ has) in
+        record { formed = old.formed; was = was_before b trial other old.was; active = old.active; given = old.given }
+
+pub fires_keep : (b n : BookState) (seat t : ℕ) (j : Judgement) (answer : Result Firing FireFault) → IsVerdict j.trial j.verdict → FiresOrMisses b seat t j answer n → IsKept b → IsKept n
+fires_keep b n seat t j (Err fire.NotHeld) right f k = kept_as_is b n f.1 k
+fires_keep b n seat t j (Err fire.Stale) right f k = kept_as_is b n f.1 k
+fires_keep b n seat t j (Err fire.NotWhole) right f k = kept_as_is b n f.2 k
+fires_keep b n seat t j (Err fire.NoMemory) right f k = kept_as_is b n f.2 k
+fires_keep b n seat t j (Ok firing.Missed) right f k =
+    let moved : n ≡ with_ticket b t (going_on (past (position j.trial)) (ticket_at b.tickets t)) = f.2 ∙ ap (λ v. with_ticket b t (going_on (after_verdict v (position j.trial)) (ticket_at b.tickets t))) f.0.whole in
+    subst IsKept (sym moved) (missed_kept b t j.trial f.0.holds.candidate f.1 k)
+fires_keep b n seat t j (Ok (firing.Fired g)) right f k =
+    let w : IsWhole j.trial = subst (IsVerdict j.trial) f.0.whole right in
+    subst IsKept (sym f.2.after) (fired_kept b seat t f.2.label j.trial f.2.body g.active_lives f.2.goal f.0.holds.candidate w f.2.instance f.2.lives k)
