@@ -1,0 +1,8 @@
+use Rattle.chr_named.proofs.Entered.{program_named, posts_named}
+use Rattle.chr_named.proofs.laws.texts_enter_their_names.Goals as goal
+
+pub returns-clause-programs : goal.returns-clause-programs
+returns-clause-programs c = program_named
+
+pub returns-clause-posts : goal.returns-clause-posts
+returns-clause-posts c = posts_named
