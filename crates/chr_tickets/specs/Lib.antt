@@ -1,0 +1,3 @@
+pub mod Open
+pub mod Listed
+pub mod Stray

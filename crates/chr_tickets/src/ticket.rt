@@ -1,0 +1,173 @@
+//! A ticket that is open.
+ghost use Rattle.std.specs.Prelude.{◌≡◌};
+ghost use Rattle.std.specs.Option.{option_copied};
+ghost use Rattle.chr_search.specs.Answers.{after_judging};
+ghost use Rattle.chr_calls.specs.Tickets.{waiting, activated_by, held_by, put_down, with_candidate, going_on, atom_in, search_in};
+ghost use Rattle.chr_tickets.specs.Open.{shown_ticket, state_in, is_open_for, IsActiveGoal};
+
+use chr_calls::answers::TicketState;
+use chr_search::judged::Judged;
+use chr_search::search::Search;
+use chr_search::trial::Trial;
+use chr_store::store::Label;
+use chr_value::atom::Atom;
+use std::alloc::Allocator;
+
+/// What an open ticket stands for.
+#[derive(Drop)]
+pub(crate) enum Goal<A: Allocator> {
+    /// An atom that waits outside the store.
+    Waiting(Atom<A>),
+    /// The search of an atom in the store, and the seat that holds it.
+    Active {
+        search: Search,
+        candidate: Option<Trial<A>>,
+        holder: Option<u32>,
+    },
+}
+
+/// An open ticket's goal, and whether it is marked stray.
+#[derive(Drop)]
+pub(crate) struct Ticket<A: Allocator> {
+    pub(crate) goal: Goal<A>,
+    pub(crate) stray: bool,
+}
+
+impl<A: Allocator + Copy> Ticket<A> {
+    /// A ticket of an atom that waits.
+    pub(crate) fn waiting(atom: Atom<A>) -> Ticket<A>
+        ensures { shown_ticket result ≡ waiting atom }
+    {
+        Ticket {
+            goal: Goal::Waiting(atom),
+            stray: false,
+        }
+    }
+
+    /// What a seat is told of it.
+    pub(crate) fn state(&self) -> TicketState
+        ensures { result ≡ state_in (shown_ticket self.now) }
+    {
+        match &self.goal {
+            Goal::Waiting(_) => TicketState::Waiting,
+            Goal::Active {
+                holder: Some(seat),
+                ..
+            } => TicketState::Held(*seat),
+            Goal::Active { holder: None, .. } => TicketState::Resting,
+        }
+    }
+
+    /// Whether no other seat holds it.
+    pub(crate) fn is_free_for(&self, seat: u32) -> bool
+        ensures { result ≡ is_open_for seat (state_in (shown_ticket self.now)) }
+    {
+        match self.state() {
+            TicketState::Held(holder) => holder == seat,
+            TicketState::Waiting | TicketState::Resting => true,
+            TicketState::Unknown | TicketState::Ended => false,
+        }
+    }
+
+    /// The atom that waits.
+    pub(crate) fn atom(&self) -> Option<&Atom<A>>
+        ensures { option_copied result ≡ atom_in (shown_ticket self.now).goal }
+    {
+        match &self.goal {
+            Goal::Waiting(atom) => Some(atom),
+            Goal::Active { .. } => None,
+        }
+    }
+
+    /// The search.
+    pub(crate) fn search(&self) -> Option<&Search>
+        ensures { option_copied result ≡ search_in (shown_ticket self.now) }
+    {
+        match &self.goal {
+            Goal::Waiting(_) => None,
+            Goal::Active { search, .. } => Some(search),
+        }
+    }
+
+    /// The candidate.
+    pub(crate) fn candidate(&self) -> Option<&Trial<A>>
+        ensures { option_copied result ≡ (shown_ticket self.now).candidate }
+    {
+        match &self.goal {
+            Goal::Waiting(_) => None,
+            Goal::Active { candidate, .. } => candidate.as_ref(),
+        }
+    }
+
+    /// Makes it active under a label, held by a seat.
+    pub(crate) fn activate(&mut self, seat: u32, label: Label)
+        ensures { shown_ticket self.new ≡ activated_by seat label }
+    {
+        self.goal = Goal::Active {
+            search: Search::begin(label),
+            candidate: None,
+            holder: Some(seat),
+        };
+        self.stray = false;
+    }
+
+    /// Gives it to a seat, where it is active, and takes its mark off.
+    pub(crate) fn hold(&mut self, seat: u32)
+        requires { IsActiveGoal (shown_ticket self.old).goal }
+        ensures { shown_ticket self.new ≡ held_by seat (shown_ticket self.old) }
+    {
+        if let Goal::Active {
+            candidate,
+            holder,
+            ..
+        } = &mut self.goal
+        {
+            *candidate = None;
+            *holder = Some(seat);
+        }
+        self.stray = false;
+    }
+
+    /// Takes it from its seat, where it is active, and marks it.
+    pub(crate) fn put_down(&mut self)
+        requires { IsActiveGoal (shown_ticket self.old).goal }
+        ensures { shown_ticket self.new ≡ put_down (shown_ticket self.old) }
+    {
+        if let Goal::Active {
+            candidate,
+            holder,
+            ..
+        } = &mut self.goal
+        {
+            *candidate = None;
+            *holder = None;
+        }
+        self.stray = true;
+    }
+
+    /// Replaces the candidate, where it is active.
+    pub(crate) fn set_candidate(&mut self, new: Option<Trial<A>>)
+        requires { IsActiveGoal (shown_ticket self.old).goal }
+        ensures { shown_ticket self.new ≡ with_candidate new (shown_ticket self.old) }
+    {
+        if let Goal::Active { candidate, .. } = &mut self.goal {
+            *candidate = new;
+        }
+    }
+
+    /// Moves the search on, where it is active, and takes the candidate away.
+    pub(crate) fn advance(&mut self, judged: &Judged<A>)
+        requires { IsActiveGoal (shown_ticket self.old).goal }
+        ensures { shown_ticket self.new ≡ going_on (after_judging judged.now) (shown_ticket self.old) }
+    {
+        if let Goal::Active {
+            search,
+            candidate,
+            ..
+        } = &mut self.goal
+        {
+            search.advance(judged);
+            *candidate = None;
+        }
+    }
+}
