@@ -117,11 +117,12 @@ first_start p es n L fails g e s =
       | Some t ↦ λ is. first_listed p es n L t fails g e s is
     ] refl
 
-pub first_found : {Z : Type 0} (p : Ticket → Bool) (es fs : List (ℕ × CodeTicket Z)) (L : List Ticket) (t : ℕ) (x : CodeTicket Z) → IsFirst p L (first_by p es) → es ≡ (t, x) ∷ fs → p (shown_ticket x) ≡ true → IsFirst p L (Some t)
-first_found p es fs L t x h e passes = subst (IsFirst p L) (first_here p es fs t x e passes) h
+-- b is the test's answer on the next of them
+pub first_found : {Z : Type 0} (p : Ticket → Bool) (es fs : List (ℕ × CodeTicket Z)) (L : List Ticket) (t : ℕ) (x : CodeTicket Z) (b : Bool) → IsFirst p L (first_by p es) → es ≡ (t, x) ∷ fs → b ≡ p (shown_ticket x) → b ≡ true → IsFirst p L (Some t)
+first_found p es fs L t x b h e says passes = subst (IsFirst p L) (first_here p es fs t x e (sym says ∙ passes)) h
 
-pub first_passed : {Z : Type 0} (p : Ticket → Bool) (es fs : List (ℕ × CodeTicket Z)) (L : List Ticket) (t : ℕ) (x : CodeTicket Z) → IsFirst p L (first_by p es) → es ≡ (t, x) ∷ fs → p (shown_ticket x) ≡ false → IsFirst p L (first_by p fs)
-first_passed p es fs L t x h e not = subst (IsFirst p L) (first_later p es fs t x e not) h
+pub first_passed : {Z : Type 0} (p : Ticket → Bool) (es fs : List (ℕ × CodeTicket Z)) (L : List Ticket) (t : ℕ) (x : CodeTicket Z) (b : Bool) → IsFirst p L (first_by p es) → es ≡ (t, x) ∷ fs → b ≡ p (shown_ticket x) → b ≡ false → IsFirst p L (first_by p fs)
+first_passed p es fs L t x b h e says fails = subst (IsFirst p L) (first_later p es fs t x e (sym says ∙ fails)) h
 
 pub first_end : {Z : Type 0} (p : Ticket → Bool) (es : List (ℕ × CodeTicket Z)) (L : List Ticket) → IsFirst p L (first_by p es) → es ≡ [] → IsFirst p L None
 first_end p es L h e = subst (IsFirst p L) (ap (first_by p) e) h

@@ -99,7 +99,7 @@ impl<A: Allocator + Copy> Ticket<A> {
         }
     }
 
-    /// Makes it active under a label, held by a seat.
+    /// Makes it active under a label, held by a seat, without a mark. Its search begins.
     pub(crate) fn activate(&mut self, seat: u32, label: Label)
         ensures { shown_ticket self.new ≡ activated_by seat label }
     {
@@ -111,7 +111,7 @@ impl<A: Allocator + Copy> Ticket<A> {
         self.stray = false;
     }
 
-    /// Gives it to a seat, where it is active, and takes its mark off.
+    /// Gives an active ticket to a seat, without its candidate, and takes its mark off.
     pub(crate) fn hold(&mut self, seat: u32)
         requires { IsActiveGoal (shown_ticket self.old).goal }
         ensures { shown_ticket self.new ≡ held_by seat (shown_ticket self.old) }
@@ -128,7 +128,7 @@ impl<A: Allocator + Copy> Ticket<A> {
         self.stray = false;
     }
 
-    /// Takes it from its seat, where it is active, and marks it.
+    /// Takes an active ticket from its seat, without its candidate, and marks it.
     pub(crate) fn put_down(&mut self)
         requires { IsActiveGoal (shown_ticket self.old).goal }
         ensures { shown_ticket self.new ≡ put_down (shown_ticket self.old) }
@@ -145,7 +145,7 @@ impl<A: Allocator + Copy> Ticket<A> {
         self.stray = true;
     }
 
-    /// Replaces the candidate, where it is active.
+    /// Replaces the candidate of an active ticket.
     pub(crate) fn set_candidate(&mut self, new: Option<Trial<A>>)
         requires { IsActiveGoal (shown_ticket self.old).goal }
         ensures { shown_ticket self.new ≡ with_candidate new (shown_ticket self.old) }
@@ -155,7 +155,7 @@ impl<A: Allocator + Copy> Ticket<A> {
         }
     }
 
-    /// Moves the search on, where it is active, and takes the candidate away.
+    /// Moves the search of an active ticket on after a judged trial, and takes its candidate away.
     pub(crate) fn advance(&mut self, judged: &Judged<A>)
         requires { IsActiveGoal (shown_ticket self.old).goal }
         ensures { shown_ticket self.new ≡ going_on (after_judging judged.now) (shown_ticket self.old) }

@@ -13,14 +13,14 @@ loop-ticket-init g c =
 
 pub returns-then-found : goal.returns-then-found
 returns-then-found g c =
-    let found = first_found (λ (x : Ticket). x.stray) c.loop-ticket.ticket-iterator c.next.new.self c.args.self.now c.in-Some.ticket.now c.in-Some.found.now c.loop-ticket.invariant
-    (rest_more deref_pair _ _ _ (c.in-Some.ticket, c.in-Some.found) c.in-Some.is c.next.ensures.steps) (shown_stray c.in-Some.found.now.goal c.in-Some.found.now.stray ∙ c.if-found.true) in
+    let found = first_found (λ (x : Ticket). x.stray) c.loop-ticket.ticket-iterator c.next.new.self c.args.self.now c.in-Some.ticket.now c.in-Some.found.now c.in-Some.found.now.stray c.loop-ticket.invariant
+    (rest_more deref_pair _ _ _ (c.in-Some.ticket, c.in-Some.found) c.in-Some.is c.next.ensures.steps) (sym (shown_stray c.in-Some.found.now.goal c.in-Some.found.now.stray)) c.if-found.true in
     record { stray = found.0; least = found.1 }
 
 pub loop-ticket-preserved : goal.loop-ticket-preserved
 loop-ticket-preserved g c =
-    first_passed (λ (x : Ticket). x.stray) c.loop-ticket.ticket-iterator c.next.new.self c.args.self.now c.in-Some.ticket.now c.in-Some.found.now c.loop-ticket.invariant
-    (rest_more deref_pair _ _ _ (c.in-Some.ticket, c.in-Some.found) c.in-Some.is c.next.ensures.steps) (shown_stray c.in-Some.found.now.goal c.in-Some.found.now.stray ∙ c.if-found.false)
+    first_passed (λ (x : Ticket). x.stray) c.loop-ticket.ticket-iterator c.next.new.self c.args.self.now c.in-Some.ticket.now c.in-Some.found.now c.in-Some.found.now.stray c.loop-ticket.invariant
+    (rest_more deref_pair _ _ _ (c.in-Some.ticket, c.in-Some.found) c.in-Some.is c.next.ensures.steps) (sym (shown_stray c.in-Some.found.now.goal c.in-Some.found.now.stray)) c.if-found.false
 
 pub returns : goal.returns
 returns g c = first_end (λ (x : Ticket). x.stray) c.loop-ticket.ticket-iterator c.args.self.now c.loop-ticket.invariant (rest_all deref_pair _ _ _ c.in-None.is c.next.ensures.steps)

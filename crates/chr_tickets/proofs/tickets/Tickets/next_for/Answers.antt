@@ -16,14 +16,14 @@ pub returns-then-is_free_for : goal.returns-then-is_free_for
 returns-then-is_free_for g c =
     let p : Ticket → Bool = λ x. is_open_for c.args.seat (state_in x) in
     least_for c.args.seat c.self.inside.open.entries c.self.inside.next c.args.self.now c.in-Some.ticket.now c.self.invariant c.self.view_is
-    (first_found p c.loop-ticket.ticket-iterator c.next.new.self c.args.self.now c.in-Some.ticket.now c.in-Some.found.now c.loop-ticket.invariant
-    (rest_more deref_pair _ _ _ (c.in-Some.ticket, c.in-Some.found) c.in-Some.is c.next.ensures.steps) (sym c.is_free_for.ensures ∙ c.if-is_free_for.true))
+    (first_found p c.loop-ticket.ticket-iterator c.next.new.self c.args.self.now c.in-Some.ticket.now c.in-Some.found.now c.is_free_for.result c.loop-ticket.invariant
+    (rest_more deref_pair _ _ _ (c.in-Some.ticket, c.in-Some.found) c.in-Some.is c.next.ensures.steps) c.is_free_for.ensures c.if-is_free_for.true)
 
 pub loop-ticket-preserved : goal.loop-ticket-preserved
 loop-ticket-preserved g c =
     let p : Ticket → Bool = λ x. is_open_for c.args.seat (state_in x) in
-    first_passed p c.loop-ticket.ticket-iterator c.next.new.self c.args.self.now c.in-Some.ticket.now c.in-Some.found.now c.loop-ticket.invariant
-    (rest_more deref_pair _ _ _ (c.in-Some.ticket, c.in-Some.found) c.in-Some.is c.next.ensures.steps) (sym c.is_free_for.ensures ∙ c.if-is_free_for.false)
+    first_passed p c.loop-ticket.ticket-iterator c.next.new.self c.args.self.now c.in-Some.ticket.now c.in-Some.found.now c.is_free_for.result c.loop-ticket.invariant
+    (rest_more deref_pair _ _ _ (c.in-Some.ticket, c.in-Some.found) c.in-Some.is c.next.ensures.steps) c.is_free_for.ensures c.if-is_free_for.false
 
 pub returns : goal.returns
 returns g c =
