@@ -14,3 +14,4 @@ pub mod Outcomes
 pub mod Labelled
 pub mod PlainTrials
 pub mod Same
+pub mod Behind

@@ -1,11 +1,11 @@
 -- What a search answers, and where it goes on.
-use Rattle.std.specs.Prelude.{ℕ, List}
+use Rattle.std.specs.Prelude.{◌≡◌, true, ℕ, List}
 use Rattle.chr_search.specs.declared.search.Ask.{Ask as CodeAsk}
 use Rattle.chr_search.specs.declared.search.Ask.TheVariants as answers
 use Rattle.chr_search.specs.declared.judged.Verdict.{Verdict}
 use Rattle.chr_search.specs.declared.judged.Verdict.TheVariants as verdicts
-use Rattle.chr_search.specs.Positions.{just_after, past}
-use Rattle.chr_search.specs.Trials.{Space, IsNext, NoneLeft}
+use Rattle.chr_search.specs.Positions.{at_or_after, begins, just_after, past, front}
+use Rattle.chr_search.specs.Trials.{Space, IsTrial, IsNext, NoneLeft}
 use Rattle.chr_search.specs.Verdicts.{position, IsTrialOf}
 use Rattle.chr_search.specs.Judged.{Judgement}
 
@@ -13,6 +13,12 @@ use Rattle.chr_search.specs.Judged.{Judgement}
 abbrev pub IsAnswer : {Z : Type 0} → Space → List ℕ → CodeAsk Z → Type 0
 IsAnswer s place (answers.Trial t) = IsNext s place (position t) × IsTrialOf s.rules s.plans s.store t
 IsAnswer s place answers.Done = NoneLeft s place
+
+-- The least admissible trial past a position and all that it begins, which has all its numbers but the last; done, where no
+-- admissible trial past it begins with these.
+abbrev pub IsAnswerBehind : {Z : Type 0} → Space → List ℕ → CodeAsk Z → Type 0
+IsAnswerBehind s place (answers.Trial t) = IsNext s (past place) (position t) × (front (position t) ≡ front place) × IsTrialOf s.rules s.plans s.store t
+IsAnswerBehind s place answers.Done = (t : List ℕ) → IsTrial s t → at_or_after (past place) t ≡ true → begins (front place) t ≡ true → ⊥
 
 -- just after a part, and past any other trial
 abbrev pub after_verdict : Verdict → List ℕ → List ℕ

@@ -26,3 +26,9 @@ abbrev pub past : List ℕ → List ℕ
 past [] = []
 past (x ∷ []) = (x + 1) ∷ []
 past (x ∷ y ∷ ys) = x ∷ past (y ∷ ys)
+
+-- all numbers but the last
+abbrev pub front : List ℕ → List ℕ
+front [] = []
+front (x ∷ []) = []
+front (x ∷ y ∷ ys) = x ∷ front (y ∷ ys)

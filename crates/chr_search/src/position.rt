@@ -1,6 +1,6 @@
 //! Positions in the order of trials.
-ghost use Rattle.std.specs.Prelude.{◌≡◌, ◌∷◌, ◌<◌, ◌≤◌, length};
-ghost use Rattle.chr_search.specs.Positions.{beginning, just_after, past};
+ghost use Rattle.std.specs.Prelude.{◌≡◌, ◌↔◌, ◌∷◌, ◌<◌, ◌≤◌, length, IsTrue};
+ghost use Rattle.chr_search.specs.Positions.{beginning, just_after, past, front};
 ghost use Rattle.chr_search.specs.Verdicts.{position, IsFormed, IsPart};
 
 use crate::trial::Trial;
@@ -75,5 +75,22 @@ impl Position {
             after.labels.push(last + 1);
         }
         after
+    }
+    /// Whether this is a trial's position but for the last label.
+    pub(crate) fn is_beside<A: Allocator + Copy>(&self, trial: &Trial<A>) -> bool
+        ensures formed { IsFormed trial.now }
+        ensures beside { IsTrue result ↔ (front self.now ≡ front (position trial.now)) }
+    {
+        let other = Position::of(trial);
+        if self.rule != other.rule || self.head != other.head {
+            return false;
+        }
+        let Some((_, labels)) = self.labels.as_slice().split_last() else {
+            return false;
+        };
+        let Some((_, others)) = other.labels.as_slice().split_last() else {
+            return false;
+        };
+        labels == others
     }
 }

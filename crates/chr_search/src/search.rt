@@ -4,7 +4,8 @@ ghost use Rattle.chr_plan.specs.Plans.{ArePlans};
 ghost use Rattle.chr_search.specs.Positions.{beginning, just_after, past};
 ghost use Rattle.chr_search.specs.Tree.{Least, NoneBeyond};
 ghost use Rattle.chr_search.specs.Trials.{older, Child, IsNext, NoneLeft};
-ghost use Rattle.chr_search.specs.Answers.{IsAnswer, after_judging};
+ghost use Rattle.chr_search.specs.Answers.{IsAnswer, IsAnswerBehind, after_judging};
+ghost use Rattle.chr_search.specs.Verdicts.{position as position_of};
 
 use crate::join::Join;
 use crate::judged::{Judged, Verdict};
@@ -138,6 +139,32 @@ impl Search {
             None => Ok(Ask::Done),
             Some(position) => Ok(Ask::Trial(Trial::at(alloc, &position, program, plans, store)?)),
         }
+    }
+
+    /// The least admissible trial past another, with the same rule and head and the same labels but the last. Done where
+    /// there is none. E01 where memory ran out. The search's own position plays no part.
+    pub fn behind<A: Allocator + Copy>(
+        &self,
+        alloc: A,
+        trial: &Trial<A>,
+        program: &Program<A>,
+        plans: &Plans<A>,
+        store: &Store<A>,
+    ) -> Result<Ask<A>, AllocError>
+        requires { ArePlans program.now plans.now }
+        ensures { IfOk result (IsAnswerBehind (older program.now plans.now store.now.entries self.now.label) (position_of trial.now)) }
+    {
+        let past = Search {
+            label: self.label,
+            position: Position::past(trial),
+        };
+        let Some(next) = past.find(program, plans, store) else {
+            return Ok(Ask::Done);
+        };
+        if !next.is_beside(trial) {
+            return Ok(Ask::Done);
+        }
+        Ok(Ask::Trial(Trial::at(alloc, &next, program, plans, store)?))
     }
 
     /// Moves just after a trial that is a part, and past any other and all that it begins.
