@@ -76,6 +76,7 @@ impl Position {
         }
         after
     }
+
     /// Whether this is a trial's position but for the last label.
     pub(crate) fn is_beside<A: Allocator + Copy>(&self, trial: &Trial<A>) -> bool
         ensures formed { IsFormed trial.now }

@@ -11,7 +11,7 @@ use std::alloc::Global;
 type Row<'a> = (u16, u8, &'a [u64], Verdict);
 
 /// A store of these atoms, from label 1 on, of which some are removed. None where memory ran out.
-fn store_of(
+pub(crate) fn store_of(
     alloc: Global,
     posts: &str,
     names: &mut Names<Global>,
