@@ -1,9 +1,11 @@
 -- The trial behind another, which differs in the last label.
-use Rattle.std.proofs.Common.{◌≡◌, ◌≢◌, ◌↔◌, Decides, ℕ, ◌+◌, ◌≤◌, Bool, true, false, IsTrue, List, [], ◌∷◌, ◌++◌, length, refl, sym, ◌∙◌, ap, ap₂, subst, arith, ⊎_elim, length-append}
+use Rattle.std.proofs.Common.{◌≡◌, ◌≢◌, ◌↔◌, Decides, ℕ, ◌+◌, ◌≤◌, Bool, true, false, IsTrue, List, [], ◌∷◌, ◌++◌, length, Some, refl, sym, ◌∙◌, ap, ap₂, subst, arith, ⊎_elim, length-append}
 use Rattle.std.proofs.lemmas.Bool.Decides.{nat_tests}
+use Rattle.chr_rule.specs.Rules.{Simpagation, rule_at}
 use Rattle.chr_search.specs.Positions.{at_or_after, begins, past, front}
-use Rattle.chr_search.specs.Tree.{Children, Grows}
-use Rattle.chr_search.specs.Trials.{Space, Child, IsTrial, IsNext, NoneLeft}
+use Rattle.chr_search.specs.Tree.{Children, Grows, Least, NoneBeyond}
+use Rattle.chr_search.specs.Trials.{Space, Child, IsTrial, IsNext}
+use Rattle.chr_search.proofs.Descents.{at_first_rule, found_at_rule}
 use Rattle.chr_search.proofs.Positions.{after_under, after_cases, past_last}
 
 pub front_last : (xs : List ℕ) (x : ℕ) → front (xs ++ x ∷ []) ≡ xs
@@ -78,8 +80,29 @@ none_behind s p u deep n away t i there b =
     let end : r.1 ≡ [] = no_longer f r.0 r.1 (subst (λ q. at_or_after q short ≡ true) r.2 least) in
     away (ap front (r.2 ∙ ap (λ zs. f ++ r.0 ∷ zs) end) ∙ front_last f r.0)
 
-pub none_at_all : (s : Space) (p : List ℕ) → NoneLeft s (past p) → (t : List ℕ) → IsTrial s t → at_or_after (past p) t ≡ true → begins (front p) t ≡ true → ⊥
-none_at_all s p none t i there b = none t (record { grows = i.grows; deep = i.deep; there = there })
+-- only the trial's own rule is looked through
+pub none_in_rule : (s : Space) (p : List ℕ) (r h : ℕ) (ls : List ℕ) → 2 ≤ length p → r ∷ h ∷ ls ≡ past p → NoneBeyond (Child s) 3 (r ∷ []) (h ∷ ls) → (t : List ℕ) → IsTrial s t → at_or_after (past p) t ≡ true → begins (front p) t ≡ true → ⊥
+none_in_rule s [] r h ls deep e none t i there b = absurd (omega arith)
+none_in_rule s (q ∷ []) r h ls deep e none t i there b = absurd (omega arith)
+none_in_rule s (q ∷ k ∷ ks) r h ls deep e none [] i there b = absurd (cc)
+none_in_rule s (q ∷ k ∷ ks) r h ls deep e none (a ∷ more) i there b =
+    let same : r ≡ q = (let z : r ∷ h ∷ ls ≡ q ∷ past (k ∷ ks) = e in cc) in
+    let first : q ≡ a = grind (arith, nat_tests) in
+    let on : at_or_after (r ∷ h ∷ ls) (a ∷ more) ≡ true = subst (λ z. at_or_after z (a ∷ more) ≡ true) (sym e) there in
+    none more (record {
+      grows = subst (λ z. Grows (Child s) (z ∷ []) more) (sym (same ∙ first)) i.grows.1;
+      deep = i.deep;
+      there = ⊎_elim (λ l. absurd (omega arith)) (λ l. l.1) (after_cases r a (h ∷ ls) more on);
+    })
+
+next_rule : (s : Space) (r : ℕ) (more : List ℕ) → 3 ≤ length (r ∷ more) → Grows (Child s) (r ∷ []) more → (rule : Simpagation ℕ) × (rule_at s.rules r ≡ Some rule)
+next_rule s r [] deep g = absurd (omega arith)
+next_rule s r (h ∷ more) deep g = (g.0.0, g.0.2.rule_is)
+
+pub next_in_rule : (s : Space) (p u : List ℕ) (r h : ℕ) (ls : List ℕ) → r ∷ h ∷ ls ≡ p → Least (Child s) 3 (r ∷ []) (h ∷ ls) u → IsNext s p u
+next_in_rule s p u r h ls e l =
+    let found = next_rule s r l.more l.beyond.deep l.beyond.grows in
+    subst (λ q. IsNext s q u) e (found_at_rule s (r ∷ h ∷ ls) r h ls found.0 (at_first_rule s r h ls) found.1 u l)
 
 -- positions that are compared
 pub other_rule : (r q : ℕ) (xs ys : List ℕ) → 1 ≤ length xs → 1 ≤ length ys → r ≢ q → IsTrue false ↔ (front (r ∷ xs) ≡ front (q ∷ ys))

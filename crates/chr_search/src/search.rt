@@ -154,11 +154,10 @@ impl Search {
         requires { ArePlans program.now plans.now }
         ensures { IfOk result (IsAnswerBehind (older program.now plans.now store.now.entries self.now.label) (position_of trial.now)) }
     {
-        let past = Search {
-            label: self.label,
-            position: Position::past(trial),
-        };
-        let Some(next) = past.find(program, plans, store) else {
+        let past = Position::past(trial);
+        let labels = past.labels.as_slice();
+        let found = self.find_in_rule(program, plans, store, past.rule, past.head, labels);
+        let Some(next) = found else {
             return Ok(Ask::Done);
         };
         if !next.is_beside(trial) {
