@@ -1,0 +1,3 @@
+pub mod Fired
+pub mod Posted
+pub mod Turns

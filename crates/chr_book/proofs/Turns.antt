@@ -1,0 +1,127 @@
+-- What a call finds of a ticket that is claimed or held, and of its search, and what the book keeps after it.
+use Rattle.std.proofs.Common.{◌≡◌, ◌≢◌, ◌⊎◌, inl, inr, ◌↔◌, ℕ, Bool, true, false, true≢false, List, [], ◌∷◌, ◌++◌, Option, Some, None, MatchOption, is_some, IsTrue, Ok, refl, sym, ◌∙◌, ap, ap₂, subst, slice_set, Bor}
+use Rattle.std.specs.Option.{option_copied}
+use Rattle.chr_value.specs.Atoms.{Atom}
+use Rattle.chr_log.specs.Events.{Entry, Drop}
+use Rattle.chr_model.specs.Stores.{Store, atom_at}
+use Rattle.chr_search.specs.Trials.{IsNext, NoneLeft}
+use Rattle.chr_search.specs.Reach.{SearchState}
+use Rattle.chr_search.specs.Verdicts.{Trial, position, IsFormed, IsTrialOf}
+use Rattle.chr_search.specs.Judged.{Judgement, IsVerdict}
+use Rattle.chr_search.specs.Answers.{IsAnswer, after_judging}
+use Rattle.chr_search.specs.declared.search.Ask.{Ask}
+use Rattle.chr_search.specs.declared.search.Ask.TheVariants as answers
+use Rattle.chr_search.specs.declared.judged.Verdict.TheVariants.{Whole}
+use Rattle.chr_calls.specs.declared.answers.TicketState.{TicketState}
+use Rattle.chr_calls.specs.declared.answers.TicketState.TheVariants as states
+use Rattle.chr_calls.specs.declared.answers.Dropping.TheVariants as dropping
+use Rattle.chr_calls.specs.Turns as turn
+use Rattle.chr_calls.specs.Tickets.{Ticket, ended, marked, with_candidate, going_on, ticket_at, state_of, IsClaimable, waits, rests, IsActive, IsNotHeld}
+use Rattle.chr_calls.specs.Books.{BookState, space_of, IsLive, with_tickets, with_ticket}
+use Rattle.chr_calls.specs.Calls.{HoldsLive, MayBeDropped, Turns, Marks}
+use Rattle.chr_calls.specs.Headline.{IsKept}
+use Rattle.chr_calls.proofs.Dropping.{drops_keep}
+use Rattle.chr_calls.proofs.Turning.{reports_keep}
+use Rattle.chr_book.specs.Books.{IsHeldSearch, HasTrialLeft}
+
+-- ---- what can be claimed
+
+pub claimable_is : {s : TicketState} → IsClaimable s → (s ≡ states.Waiting) ⊎ (s ≡ states.Resting)
+claimable_is waits = inl refl
+claimable_is rests = inr refl
+
+pub is_claimable : (s : TicketState) → (s ≡ states.Waiting) ⊎ (s ≡ states.Resting) → IsClaimable s
+is_claimable s (inl e) = subst IsClaimable (sym e) waits
+is_claimable s (inr e) = subst IsClaimable (sym e) rests
+
+pub not_claimable : (s : TicketState) → (s ≡ states.Waiting → ⊥) → (s ≡ states.Resting → ⊥) → IsClaimable s → ⊥
+not_claimable s w r c = elim (claimable_is c) [ inl e ↦ w e | inr e ↦ r e ]
+
+-- a ticket that waits or rests is marked
+pub marked_turn : (b : BookState) (t : ℕ) (told : TicketState) (tickets : List Ticket) → told ≡ state_of b.tickets t → (told ≡ states.Waiting) ⊎ (told ≡ states.Resting) → tickets ≡ slice_set b.tickets t (marked true (ticket_at b.tickets t)) → Marks b t (Ok tt) (with_tickets b tickets)
+marked_turn b t told tickets is can ts = (subst IsClaimable is (is_claimable told can), ap (with_tickets b) ts)
+
+-- ---- the label's atom
+
+pub live_label : (store : Store) (given l : ℕ) (found : Option (Bor (Atom ℕ))) → is_some found ≡ true → option_copied found ≡ atom_at store given → given ≡ l → (a : Atom ℕ) × (atom_at store l ≡ Some a)
+live_label store given l None some e same = absurd (cc)
+live_label store given l (Some a) some e same = (a.now, sym (e ∙ ap (atom_at store) same))
+
+-- ---- the search of a ticket that is held
+
+pub held_in : (b now : BookState) → b ≡ now → (seat t : ℕ) (s : SearchState) → IsHeldSearch now.tickets seat t s → IsHeldSearch b.tickets seat t s
+held_in b now e seat t s h = subst (λ (n : BookState). IsHeldSearch n.tickets seat t s) (sym e) h
+
+pub held_search : (b now : BookState) → b ≡ now → (seat t : ℕ) (found : Option (Bor SearchState)) → is_some found ≡ true → MatchOption found (IsNotHeld now.tickets seat t) (λ s. IsHeldSearch now.tickets seat t s.now) → (s : SearchState) × IsHeldSearch b.tickets seat t s
+held_search b now e seat t None some h = absurd (cc)
+held_search b now e seat t (Some s) some h = (s.now, held_in b now e seat t s.now h)
+
+pub held_active : (b now : BookState) → b ≡ now → (seat t : ℕ) (found : Option (Bor SearchState)) → is_some found ≡ true → MatchOption found (IsNotHeld now.tickets seat t) (λ s. IsHeldSearch now.tickets seat t s.now) → IsActive b.tickets t
+held_active b now e seat t found some h = let s = held_search b now e seat t found some h in (s.0.label, s.1.holds.goal)
+
+-- it has a trial left where one was found
+pub left_is : (b now : BookState) → b ≡ now → (s : SearchState) (found : Option (List ℕ)) (r : Bool) → r ≡ is_some found → IsLive b s.label → MatchOption found (NoneLeft (space_of b s.label) s.place) (IsNext (space_of b s.label) s.place) → IsTrue r ↔ HasTrialLeft now s
+left_is b now e s found r is live h =
+    subst (λ (n : BookState). IsTrue r ↔ HasTrialLeft n s) e (subst (λ q. IsTrue q ↔ HasTrialLeft b s) (sym is) (found_is found h))
+  where
+    found_is : (o : Option (List ℕ)) → MatchOption o (NoneLeft (space_of b s.label) s.place) (IsNext (space_of b s.label) s.place) → IsTrue (is_some o) ↔ HasTrialLeft b s
+    found_is None none = (λ i. absurd (cc), λ i. absurd (i.left none))
+    found_is (Some place) next = (λ i. record { live = live; left = λ none. none next.more next.beyond }, λ i. refl)
+
+-- where none is left, the goal may be dropped
+pub may_drop : (b : BookState) (seat t : ℕ) (s : SearchState) → IsHeldSearch b.tickets seat t s → (HasTrialLeft b s → ⊥) → MayBeDropped b t s.label
+may_drop b seat t s h not_left live = subst (NoneLeft (space_of b s.label)) h.place (λ other beyond. not_left (record { live = live; left = λ none. none other beyond }))
+
+-- ---- what is kept
+
+-- where one ticket is set
+pub kept_set : (b : BookState) (t : ℕ) (x : Ticket) (tickets : List Ticket) → tickets ≡ slice_set b.tickets t x → IsKept (with_ticket b t x) → IsKept (with_tickets b tickets)
+kept_set b t x tickets e k = subst (λ ts. IsKept (with_tickets b ts)) (sym e) k
+
+-- where a goal is dropped that has no trial left
+pub dropped_keeps : (b now : BookState) → b ≡ now → (seat t : ℕ) (s : SearchState) (entries : List (Entry ℕ)) (tickets : List Ticket) → IsHeldSearch now.tickets seat t s → (HasTrialLeft now s → IsTrue false) → entries ≡ b.log ++ record { event = Drop t; seat = seat } ∷ [] → tickets ≡ slice_set b.tickets t ended → IsKept b
+    → IsKept (record { rules = b.rules; plans = b.plans; names = b.names; limit = b.limit; log = entries; store = b.store; next = b.next; tickets = tickets })
+dropped_keeps b now e seat t s entries tickets h not_left log ts k =
+    let held = held_in b now e seat t s h in
+    let none : HasTrialLeft b s → ⊥ = λ left. true≢false (sym (not_left (subst (λ (n : BookState). HasTrialLeft n s) e left))) in
+    drops_keep b n seat t (Ok dropping.Dropped) (s.label, held.holds, may_drop b seat t s held none, ap₂ with_both log ts) k
+  where
+    with_both : List (Entry ℕ) → List Ticket → BookState
+    with_both es xs = record { rules = b.rules; plans = b.plans; names = b.names; limit = b.limit; log = es; store = b.store; next = b.next; tickets = xs }
+
+    n : BookState
+    n = with_both entries tickets
+
+-- where the search moves on after a judgement that isn't whole
+pub reported_keeps : (b now : BookState) → b ≡ now → (seat t : ℕ) (j : Judgement) (found : Option (Bor SearchState)) (trial : Trial) (tickets : List Ticket) → is_some found ≡ true → MatchOption found (IsNotHeld now.tickets seat t) (λ s. IsHeldSearch now.tickets seat t s.now) → (ticket_at now.tickets t).candidate ≡ Some trial → trial ≡ j.trial → IsVerdict j.trial j.verdict → j.verdict ≢ Whole → tickets ≡ slice_set b.tickets t (going_on (after_judging j) (ticket_at b.tickets t)) → IsKept b → IsKept (with_tickets b tickets)
+reported_keeps b now e seat t j found trial tickets some h candidate same right ne ts k =
+    reports_keep b (with_tickets b tickets) seat t j (Ok tt) right (
+      record {
+        held = (held_search b now e seat t found some h).1.holds.state;
+        candidate = subst (λ (n : BookState). (ticket_at n.tickets t).candidate ≡ Some j.trial) (sym e) (candidate ∙ ap Some same);
+      },
+      ne,
+      ap (with_tickets b) ts,
+    ) k
+
+-- ---- turns
+
+pub holds_live : (b now : BookState) → b ≡ now → (seat t : ℕ) (s : SearchState) → IsHeldSearch now.tickets seat t s → IsLive b s.label → HoldsLive now seat t s.label
+holds_live b now e seat t s h live = subst (λ (n : BookState). HoldsLive n seat t s.label) e (record { holds = (held_in b now e seat t s h).holds; live = live })
+
+-- the answer of a search in a ticket's turn
+pub next_turn : {Z : Type 0} (b now : BookState) → b ≡ now → (seat t : ℕ) (s : SearchState) (ask : Ask Z) (trial candidate : Trial) (tickets : List Ticket) → IsHeldSearch now.tickets seat t s → IsLive b s.label → IsAnswer (space_of b s.label) s.place ask → ask ≡ answers.Trial trial → IsFormed trial → candidate ≡ trial → tickets ≡ slice_set b.tickets t (with_candidate (Some candidate) (ticket_at b.tickets t)) → Turns b seat t (Ok (turn.Next trial)) (with_tickets b tickets)
+next_turn b now e seat t s ask trial candidate tickets h live answer is formed same ts =
+    let held = held_in b now e seat t s h in
+    let next : IsNext (space_of b s.label) s.place (position trial) × IsTrialOf b.rules b.plans b.store trial = subst (IsAnswer (space_of b s.label) s.place) is answer in (
+      s.label,
+      record { holds = held.holds; live = live },
+      record { next = subst (λ place. IsNext (space_of b s.label) place (position trial)) held.place next.0; is = next.1; formed = formed },
+      ap (with_tickets b) (ts ∙ ap (λ c. slice_set b.tickets t (with_candidate (Some c) (ticket_at b.tickets t))) same),
+    )
+
+pub done_turn : {Z : Type 0} (b now : BookState) → b ≡ now → (seat t : ℕ) (s : SearchState) (ask : Ask Z) (tickets : List Ticket) → IsHeldSearch now.tickets seat t s → IsLive b s.label → IsAnswer (space_of b s.label) s.place ask → ask ≡ answers.Done → tickets ≡ slice_set b.tickets t (with_candidate None (ticket_at b.tickets t)) → Turns b seat t (Ok turn.Done) (with_tickets b tickets)
+done_turn b now e seat t s ask tickets h live answer is ts =
+    let held = held_in b now e seat t s h in
+    let none : NoneLeft (space_of b s.label) s.place = subst (IsAnswer (space_of b s.label) s.place) is answer in
+    (s.label, record { holds = held.holds; live = live }, subst (NoneLeft (space_of b s.label)) held.place none, ap (with_tickets b) ts)

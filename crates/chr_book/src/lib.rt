@@ -1,0 +1,28 @@
+//! A book: a program with a store, its goals by their tickets, and the log of what happened.
+//!
+//! Several seats work on one [`Book`](book::Book), one call at a time: whoever shares a book among threads holds a lock
+//! around each call. A seat posts atoms, claims a ticket, asks for the next trial of its goal, judges it elsewhere and
+//! reports the judgement or fires, until the goal has ended or is dropped. The book judges nothing: it looks at what a
+//! judged trial carries, and at the store.
+//!
+//! | Call | What it does |
+//! |---|---|
+//! | [`post`](book::Book::post) | atoms take the next tickets and wait |
+//! | [`claim`](book::Book::claim) | a waiting ticket's atom enters the store under the next label, or a resting one goes on |
+//! | [`trial`](book::Book::trial) | the next trial of a goal becomes its candidate |
+//! | [`report`](book::Book::report) | the search goes on after a candidate that is no instance |
+//! | [`fire`](book::Book::fire) | a candidate that is an instance fires, where its labels are all live |
+//! | [`drop_goal`](book::Book::drop_goal) | a goal whose search has no trial left ends |
+//! | [`put_down`](book::Book::put_down), [`mark_stray`](book::Book::mark_stray), [`take_stray`](book::Book::take_stray) | tickets that wait for another seat |
+//!
+//! The contract of each call is its line of the table in `chr_calls`. The type keeps what makes every drop lawful, so at
+//! any time, after any calls by any seats, a book has the headline of `chr_calls`: its log is lawful and leads to its
+//! store and goals; with labels erased its firings are an abstract run from the atoms posted; no label is removed twice;
+//! and where no goal is open, no rule applies to the store.
+//!
+//! Each call makes its growths before anything else, so after E01 nothing has changed.
+#![tactic(auto)]
+
+mod body;
+pub mod book;
+mod calls;
