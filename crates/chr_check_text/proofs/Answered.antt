@@ -1,0 +1,79 @@
+-- What the check of three texts answers.
+use Rattle.std.proofs.Common.{◌≡◌, ◌≢◌, ◌↔◌, ℕ, List, [], Result, Ok, Err, IsOk, ap, subst}
+use Rattle.chr_value.specs.Atoms.{Atom}
+use Rattle.chr_rule.specs.Rules.{Simpagation}
+use Rattle.chr_log.specs.Events.{Event, labelled_atoms}
+use Rattle.chr_log.specs.declared.events.Version.{Version}
+use Rattle.chr_log_text.specs.Texts.{IsLogText, IsStoreText, HasLogFault, HasStoreFault}
+use Rattle.chr_log_text.specs.declared.fault.TextFault.{TextFault}
+use Rattle.chr_log_text.specs.declared.fault.TextFault.TheVariants as text_faults
+use Rattle.chr_model.specs.Abstract.{Rules}
+use Rattle.chr_model.specs.Stores.{Store}
+use Rattle.chr_model.specs.Programs.{Instances}
+use Rattle.chr_text.specs.Reading.{program_of}
+use Rattle.chr_check.specs.declared.checking.Verdict.{Verdict}
+use Rattle.chr_check.specs.declared.checking.Verdict.TheVariants.{RunAndFinal}
+use Rattle.chr_check.specs.declared.fault.CheckFault.{CheckFault}
+use Rattle.chr_check.specs.declared.fault.CheckError.{CheckError}
+use Rattle.chr_check.specs.declared.fault.CheckError.TheVariants.{NoMemory, NotARun}
+use Rattle.chr_check.specs.Faults.{IsFirstFault, IsRun, IsFinalRun}
+use Rattle.chr_check_text.specs.declared.checked.Checked.{Checked}
+use Rattle.chr_check_text.specs.CheckTexts.{IsAnswer, IsTold, RulesOf, LogOf, StoreOf, IsChecked, IsUnread, log_fault, store_fault}
+
+abbrev answer : CheckError → Result Verdict CheckError
+answer e = Err e
+
+abbrev refusal : CheckFault → Result Verdict CheckError
+refusal f = answer (NotARun f)
+
+-- a refusal
+pub refused : (v : Version) (I : Rules) (log : List (Event ℕ)) (store : Store) (f : CheckFault)
+    → (refusal f ≢ Err NoMemory → (IsOk (refusal f) ↔ IsRun v I log store))
+    → (refusal f ≢ Err NoMemory → ((refusal f ≡ Ok RunAndFinal) ↔ IsFinalRun v I log store))
+    → ((g : CheckFault) → refusal f ≢ Err NoMemory → ((refusal f ≡ Err (NotARun g)) ↔ IsFirstFault v I log store g))
+    → IsAnswer v I log store (Err f)
+refused v I log store f run final_run fault =
+    let had_memory : refusal f ≢ Err NoMemory = λ e. absurd (cc) in
+    record {
+      run = (λ ok. absurd (cc), λ r. (let ok : IsOk (refusal f) = (run had_memory).1 r in absurd (cc)));
+      final_run = (λ e. absurd (cc), λ r. (let e : refusal f ≡ Ok RunAndFinal = (final_run had_memory).1 r in absurd (cc)));
+      fault = λ g. (
+        λ e. (let same : f ≡ g = cc in (fault g had_memory).0 (ap refusal same)),
+        λ h. (let e : refusal f ≡ refusal g = (fault g had_memory).1 h in cc),
+      );
+    }
+
+-- the same of an error that is a refusal
+pub refused_by : (v : Version) (I : Rules) (log : List (Event ℕ)) (store : Store) (error : CheckError) (f : CheckFault) → error ≡ NotARun f
+    → (answer error ≢ Err NoMemory → (IsOk (answer error) ↔ IsRun v I log store))
+    → (answer error ≢ Err NoMemory → ((answer error ≡ Ok RunAndFinal) ↔ IsFinalRun v I log store))
+    → ((g : CheckFault) → answer error ≢ Err NoMemory → ((answer error ≡ Err (NotARun g)) ↔ IsFirstFault v I log store g))
+    → IsAnswer v I log store (Err f)
+refused_by v I log store error f is run final_run fault =
+    refused v I log store f
+    (subst (λ e. answer e ≢ Err NoMemory → (IsOk (answer e) ↔ IsRun v I log store)) is run)
+    (subst (λ e. answer e ≢ Err NoMemory → ((answer e ≡ Ok RunAndFinal) ↔ IsFinalRun v I log store)) is final_run)
+    (subst (λ e. (g : CheckFault) → answer e ≢ Err NoMemory → ((answer e ≡ Err (NotARun g)) ↔ IsFirstFault v I log store g)) is fault)
+
+-- the text of the log has a fault
+pub log_unread : (program log store : List ℕ) (fault : TextFault) (rules : List (Simpagation ℕ)) (table : List (List ℕ)) → program_of [] program ≡ Ok (rules, table) → HasLogFault table log fault → IsUnread program log store (log_fault fault)
+log_unread program log store text_faults.NoMemory rules table p h = tt
+log_unread program log store text_faults.TooLong rules table p h = (λ e. absurd (cc), record { rules = rules; table = table; reads = p }, h)
+log_unread program log store (text_faults.BadEntry n) rules table p h = (λ e. absurd (cc), record { rules = rules; table = table; reads = p }, h)
+log_unread program log store (text_faults.NamesFull n) rules table p h = (λ e. absurd (cc), record { rules = rules; table = table; reads = p }, h)
+
+-- the text of the store has a fault
+pub store_unread : (program log store : List ℕ) (fault : TextFault) (rules : List (Simpagation ℕ)) (table : List (List ℕ)) (v : Version) (es : List (Event ℕ)) (names : List (List ℕ)) → program_of [] program ≡ Ok (rules, table) → IsLogText table log v es names → HasStoreFault names store fault → IsUnread program log store (store_fault fault)
+store_unread program log store text_faults.NoMemory rules table v es names p q h = tt
+store_unread program log store text_faults.TooLong rules table v es names p q h = (λ e. absurd (cc), record { rules = rules; table = table; reads = p }, record { version = v; events = es; names = names; reads = q }, h)
+store_unread program log store (text_faults.BadEntry n) rules table v es names p q h = (λ e. absurd (cc), record { rules = rules; table = table; reads = p }, record { version = v; events = es; names = names; reads = q }, h)
+store_unread program log store (text_faults.NamesFull n) rules table v es names p q h = (λ e. absurd (cc), record { rules = rules; table = table; reads = p }, record { version = v; events = es; names = names; reads = q }, h)
+
+-- all three are read
+pub is_checked : {Z : Type 0} (program log store : List ℕ) (made : Checked Z) (rules : List (Simpagation ℕ)) (table : List (List ℕ)) (v : Version) (es : List (Event ℕ)) (names : List (List ℕ)) (entries : List (ℕ × Atom ℕ)) (all : List (List ℕ)) → program_of [] program ≡ Ok (rules, table) → IsLogText table log v es names → IsStoreText names store (labelled_atoms entries) all → IsTold v (Instances rules) es entries made → IsChecked program log store made
+is_checked program log store made rules table v es names entries all p q r told = record {
+  read = record { rules = rules; table = table; reads = p };
+  logged = record { version = v; events = es; names = names; reads = q };
+  stored = record { entries = entries; names = all; reads = r };
+  told = told;
+}

@@ -1,0 +1,129 @@
+//! From the bytes of three texts to the line of an answer.
+ghost use Rattle.std.specs.Prelude.{◌≡◌, IfOk};
+ghost use Rattle.chr_log.specs.Events.{events_of};
+ghost use Rattle.chr_model.specs.Programs.{Instances};
+ghost use Rattle.chr_check_text.specs.CheckTexts.{IsAnswer, IsTold, IsCheckText, log_fault, store_fault};
+
+use crate::writing::written;
+use chr_check::checking::{Verdict, check};
+use chr_check::fault::{CheckError, CheckFault};
+use chr_lex::fault::{ReadError, ReadFault};
+use chr_log::events::{Event, Label, Version};
+use chr_log_text::fault::TextFault;
+use chr_log_text::reading::{read_log, read_store};
+use chr_rule::program::Program;
+use chr_text::reading::read_program;
+use chr_value::atom::Atom;
+use chr_value::names::Names;
+use std::alloc::{AllocError, Allocator};
+
+/// What a check gives.
+#[derive(Drop)]
+pub struct Checked<A: Allocator> {
+    /// `run final`, `run`, or a refusal as `refused E16 log 14 BadTicket`, ended by LF.
+    pub line: Vec<u8, A>,
+    /// The same: what the log is, or E16, its first fault.
+    pub answer: Result<Verdict, CheckFault>,
+}
+
+/// Why nothing was checked.
+#[derive(Clone, Copy, Debug, PartialEq, Eq)]
+pub enum CheckTextFault {
+    /// A fault in the text of rules.
+    Program(ReadFault),
+    /// A fault in the text of the log. It is never want of memory.
+    Log(TextFault),
+    /// A fault in the text of the store. It is never want of memory.
+    Store(TextFault),
+    /// E01: a growth was refused.
+    Memory,
+}
+
+/// The fault of a log's text.
+fn log_fault(fault: TextFault) -> CheckTextFault
+    ensures { result ≡ log_fault fault }
+{
+    match fault {
+        TextFault::NoMemory => CheckTextFault::Memory,
+        TextFault::NamesFull { .. } | TextFault::TooLong | TextFault::BadEntry { .. } => {
+            CheckTextFault::Log(fault)
+        }
+    }
+}
+
+/// The fault of a store's text.
+fn store_fault(fault: TextFault) -> CheckTextFault
+    ensures { result ≡ store_fault fault }
+{
+    match fault {
+        TextFault::NoMemory => CheckTextFault::Memory,
+        TextFault::NamesFull { .. } | TextFault::TooLong | TextFault::BadEntry { .. } => {
+            CheckTextFault::Store(fault)
+        }
+    }
+}
+
+/// What the check of a log answers. An `Err` is E01.
+fn answer_of<A: Allocator + Copy>(
+    alloc: A,
+    program: &Program<A>,
+    version: Version,
+    events: &[Event<A>],
+    store: &[(Label, Atom<A>)],
+) -> Result<Result<Verdict, CheckFault>, AllocError>
+    ensures { IfOk result (IsAnswer version (Instances program.now) (events_of events.now) store.now) }
+{
+    match check(alloc, program, version, events, store) {
+        Ok(verdict) => Ok(Ok(verdict)),
+        Err(CheckError::NotARun(fault)) => Ok(Err(fault)),
+        Err(CheckError::NoMemory) => Err(AllocError),
+    }
+}
+
+/// What the check of a log answers, with its line. An `Err` is E01.
+fn told<A: Allocator + Copy>(
+    alloc: A,
+    program: &Program<A>,
+    version: Version,
+    events: &[Event<A>],
+    store: &[(Label, Atom<A>)],
+) -> Result<Checked<A>, AllocError>
+    ensures { IfOk result (IsTold version (Instances program.now) (events_of events.now) store.now) }
+{
+    let answer = answer_of(alloc, program, version, events, store)?;
+    let line = written(alloc, answer)?;
+    Ok(Checked { line, answer })
+}
+
+/// Reads a text of rules, a text of a log and a text of a store, in this order and with one table of names, and checks
+/// by the version of the log's header whether the log is a run of the rules that ends in the store.
+///
+/// An `Err` is the fault of the first text that can't be read, or E01. A log that is no such run is an `Ok`: its line
+/// tells E16 with the first fault.
+pub fn check_text<A: Allocator + Copy>(
+    alloc: A,
+    program: &[u8],
+    log: &[u8],
+    store: &[u8],
+) -> Result<Checked<A>, CheckTextFault>
+    ensures { IsCheckText program.now log.now store.now result }
+{
+    let mut names = Names::new(alloc);
+    let program = match read_program(alloc, program, &mut names) {
+        Ok(program) => program,
+        Err(ReadError::Fault(fault)) => return Err(CheckTextFault::Program(fault)),
+        Err(ReadError::Memory) => return Err(CheckTextFault::Memory),
+    };
+    let log = match read_log(alloc, log, &mut names) {
+        Ok(log) => log,
+        Err(fault) => return Err(log_fault(fault)),
+    };
+    let store = match read_store(alloc, store, &mut names) {
+        Ok(store) => store,
+        Err(fault) => return Err(store_fault(fault)),
+    };
+    match told(alloc, &program, log.version, &log.events, &store) {
+        Ok(checked) => Ok(checked),
+        Err(AllocError) => Err(CheckTextFault::Memory),
+    }
+}
