@@ -8,7 +8,16 @@ use std::convert::AsStr;
 #[derive(Clone, Copy, Debug, PartialEq, Eq)]
 pub enum Request<'a> {
     /// `chr run FILE POSTS`
-    Run { file: &'a str, posts: &'a str },
+    Run {
+        file: &'a str,
+        posts: &'a str,
+    },
+    /// `chr check FILE LOG STORE`
+    Check {
+        file: &'a str,
+        log: &'a str,
+        store: &'a str,
+    },
 }
 
 /// Returns an argument that must be given.
@@ -25,10 +34,24 @@ fn command<'a>(alloc: Global) -> Result<Command<'a>, AllocError> {
         .about("Runs rules on posted constraints, and prints the store and the log")
         .arg(required(alloc, "FILE", "The rules"))?
         .arg(required(alloc, "POSTS", "The constraints to post"))?;
+    let check = Command::new(alloc, "check")
+        .about(
+            "Checks whether a log is that of a run of rules, and whether the run ends in a store",
+        )
+        .arg(required(alloc, "FILE", "The rules"))?
+        .arg(required(
+            alloc,
+            "LOG",
+            "The log, which begins with `chr-log 1` or `chr-log 2`",
+        ))?
+        .arg(required(alloc, "STORE", "The store, without the line that counts"))?;
     Command::new(alloc, "chr")
-        .about("Runs Constraint Handling Rules, and logs each activation, firing and drop")
+        .about(
+            "Runs Constraint Handling Rules, logs each activation, firing and drop, and checks logs",
+        )
         .subcommand_required(true)
-        .subcommand(run)
+        .subcommand(run)?
+        .subcommand(check)
 }
 
 /// Reads the words of a command line, the program's own name first.
@@ -42,6 +65,15 @@ pub fn read<'a, S: AsStr>(alloc: Global, words: &'a [S]) -> Result<Request<'a>, 
             return Ok(Request::Run { file, posts });
         }
     }
+    if let Some(("check", check)) = matches.subcommand() {
+        if let (Some(file), Some(log), Some(store)) = (
+            check.get_str("FILE"),
+            check.get_str("LOG"),
+            check.get_str("STORE"),
+        ) {
+            return Ok(Request::Check { file, log, store });
+        }
+    }
     Err(command.error(ErrorKind::MissingSubcommand, "a command is missing")?)
 }
 
@@ -52,23 +84,35 @@ mod tests {
     use std::test::*;
 
     #[test]
-    fn two_files_to_run(rt: HostRuntime) {
-        let words = ["chr", "run", "rules", "posts"];
-        match read(rt.alloc(), &words) {
-            Ok(request) => {
-                let wanted = Request::Run {
+    fn commands(rt: HostRuntime) {
+        let table: [(&[&str], Request); 2] = [
+            (
+                &["chr", "run", "rules", "posts"],
+                Request::Run {
                     file: "rules",
                     posts: "posts",
-                };
-                assert!(rt; request == wanted);
+                },
+            ),
+            (
+                &["chr", "check", "rules", "log", "store"],
+                Request::Check {
+                    file: "rules",
+                    log: "log",
+                    store: "store",
+                },
+            ),
+        ];
+        for (words, wanted) in &table {
+            match read(rt.alloc(), words) {
+                Ok(request) => assert!(rt; request == *wanted),
+                Err(_) => assert!(rt; false),
             }
-            Err(_) => assert!(rt; false),
         }
     }
 
     #[test]
     fn other_words(rt: HostRuntime) {
-        let table: [(&[&str], ErrorKind, i32); 7] = [
+        let table: [(&[&str], ErrorKind, i32); 10] = [
             (&["chr"], ErrorKind::MissingSubcommand, 2),
             (&["chr", "run"], ErrorKind::MissingRequiredArgument, 2),
             (
@@ -86,8 +130,19 @@ mod tests {
                 ErrorKind::InvalidSubcommand,
                 2,
             ),
+            (
+                &["chr", "check", "rules", "log"],
+                ErrorKind::MissingRequiredArgument,
+                2,
+            ),
+            (
+                &["chr", "check", "rules", "log", "store", "more"],
+                ErrorKind::UnknownArgument,
+                2,
+            ),
             (&["chr", "--help"], ErrorKind::DisplayHelp, 0),
             (&["chr", "run", "--help"], ErrorKind::DisplayHelp, 0),
+            (&["chr", "check", "--help"], ErrorKind::DisplayHelp, 0),
         ];
         for (words, kind, code) in &table {
             match read(rt.alloc(), words) {

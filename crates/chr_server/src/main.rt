@@ -1,20 +1,24 @@
-//! The program `chr`: runs Constraint Handling Rules on constraints, both from files, and prints the store and the log.
+//! The program `chr`: runs Constraint Handling Rules on constraints, and checks the log of a run, all from files.
 //!
-//! `chr run FILE POSTS` posts the constraints of POSTS and runs the rules of FILE on them. The exit status is 0 where no
-//! goal is open at the end, 1 for a fault in a text, 2 for a wrong command line or a file that can't be read, 3 where
-//! goals are open at the end, and 5 where memory is refused.
+//! `chr run FILE POSTS` posts the constraints of POSTS, runs the rules of FILE on them, and prints the store and the log.
+//! `chr check FILE LOG STORE` prints whether LOG is the log of a run of the rules of FILE that ends in STORE. The exit
+//! status is 0 where no goal is open at the end of the run or the log is one of a run, 1 for a fault in a text or a log
+//! that is refused, 2 for a wrong command line or a file that can't be read, 3 where goals are open at the end of the
+//! run, and 5 where memory is refused.
 #![tactic(auto)]
 
+mod check;
 mod command_line;
 mod files;
 pub mod first;
 mod message;
+mod report;
 mod run;
 
 use clap::error::ErrorKind;
 use command_line::Request;
 use message::Detail;
-use run::Status;
+use report::Status;
 use std::env;
 use std::io::{self, IsTerminal};
 use std::process::ExitCode;
@@ -31,7 +35,7 @@ fn words(rt: &HostRuntime) -> io::Result<Vec<String>> {
 /// Prints the help that was asked for, or what is wrong with the command line.
 fn print_usage(rt: &HostRuntime, detail: Detail, error: &clap::Error) -> Status {
     if error.kind() == ErrorKind::OutOfMemory {
-        return run::report_no_memory(rt, detail);
+        return report::report_no_memory(rt, detail);
     }
     let printed = error.print(rt);
     if printed.is_ok() && error.exit_code() == 0 {
@@ -49,10 +53,11 @@ fn main(rt: HostRuntime) -> ExitCode {
     };
     let words = match words(&rt) {
         Ok(words) => words,
-        Err(error) => return run::report_failure(&rt, detail, "the command line", &error).code(),
+        Err(error) => return report::report_failure(&rt, detail, "the command line", &error).code(),
     };
     let status = match command_line::read(rt.alloc(), words.as_slice()) {
         Ok(Request::Run { file, posts }) => run::run(&rt, detail, file, posts),
+        Ok(Request::Check { file, log, store }) => check::check(&rt, detail, file, log, store),
         Err(error) => print_usage(&rt, detail, &error),
     };
     status.code()

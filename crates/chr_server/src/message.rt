@@ -1,6 +1,9 @@
-//! What standard error says of a fault in a text.
+//! What standard error says of a fault in a text, and of a log that is refused.
+use chr_check::fault::{CheckFault, Kind as CheckKind};
 use chr_lex::fault::{Kind, ReadFault};
+use chr_log_text::fault::TextFault;
 use std::alloc::{AllocError, Allocator};
+use std::fmt;
 
 /// How many bytes of a line are shown.
 const MOST_SHOWN: usize = 160;
@@ -14,11 +17,13 @@ pub enum Detail {
     Explained,
 }
 
-/// The texts that `chr run` reads.
+/// The texts that `chr run` and `chr check` read.
 #[derive(Clone, Copy, Debug, PartialEq, Eq)]
 pub enum Text {
     Program,
     Posts,
+    Log,
+    Store,
 }
 
 impl Text {
@@ -27,6 +32,8 @@ impl Text {
         match self {
             Text::Program => "program",
             Text::Posts => "posts",
+            Text::Log => "log",
+            Text::Store => "store",
         }
     }
 }
@@ -39,6 +46,42 @@ pub struct Source<'a> {
     pub bytes: &'a [u8],
 }
 
+/// Why a text is not read.
+#[derive(Clone, Copy, Debug)]
+pub enum Fault {
+    /// Of a program or of posts.
+    Read(ReadFault),
+    /// Of a log or of a store.
+    Text(TextFault),
+}
+
+impl Fault {
+    /// The line at fault, or 0 for the whole text.
+    fn line(&self) -> u64 {
+        match self {
+            Fault::Read(fault) => u64::from(fault.line),
+            Fault::Text(fault) => fault.line(),
+        }
+    }
+
+    /// What it means: what is wrong, and what is allowed.
+    fn meaning(&self, text: Text) -> &'static str {
+        match self {
+            Fault::Read(fault) => read_meaning(text, fault.kind),
+            Fault::Text(fault) => text_meaning(text, *fault),
+        }
+    }
+}
+
+impl fmt::Display for Fault {
+    fn fmt<W: fmt::Write>(&self, f: &mut fmt::Formatter<W>) -> fmt::Result {
+        match self {
+            Fault::Read(fault) => write!(f, "{fault}"),
+            Fault::Text(fault) => write!(f, "{fault}"),
+        }
+    }
+}
+
 /// Returns what standard error says where memory is refused (E01).
 pub fn no_memory_message(detail: Detail) -> &'static str {
     match detail {
@@ -49,8 +92,8 @@ pub fn no_memory_message(detail: Detail) -> &'static str {
     }
 }
 
-/// Returns what a fault of a text means: what is wrong, and what is allowed.
-fn meaning(text: Text, kind: Kind) -> &'static str {
+/// Returns what a fault of a program or of posts means.
+fn read_meaning(text: Text, kind: Kind) -> &'static str {
     match (kind, text) {
         (Kind::TooLong, _) => "The text is longer than 65,536 bytes, which is the limit.",
         (Kind::BadByte, _) => {
@@ -59,7 +102,7 @@ fn meaning(text: Text, kind: Kind) -> &'static str {
         (Kind::Syntax, Text::Program) => {
             "This is not a rule or a declaration of the language, or the `.` that ends it is missing; an expression may be at most 16 deep."
         }
-        (Kind::Syntax, Text::Posts) => {
+        (Kind::Syntax, _) => {
             "This is not a list of constraints with commas between them, or the `.` that ends it is missing."
         }
         (Kind::Propagation, _) => {
@@ -71,21 +114,78 @@ fn meaning(text: Text, kind: Kind) -> &'static str {
         (Kind::TooMany, Text::Program) => {
             "A limit is exceeded: 256 rules in a program; 6 heads, 16 comparisons, 16 body members and 24 variables in a rule, where each `_` counts; 8 arguments; 64 bytes in a name or variable."
         }
-        (Kind::TooMany, Text::Posts) => {
+        (Kind::TooMany, _) => {
             "A limit is exceeded: 8 arguments; 64 bytes in a name or variable."
         }
         (Kind::Binding, Text::Program) => {
             "A variable is used where no head and no earlier `is` gives it a value, or an `is` gives a value to a variable that already has one."
         }
-        (Kind::Binding, Text::Posts) => "A constraint that is posted must not have variables.",
+        (Kind::Binding, _) => "A constraint that is posted must not have variables.",
         (Kind::NamesFull, _) => {
             "The item needs a new name, and there are 65,536 different names already, which is the limit."
         }
     }
 }
 
+/// Returns what a fault of a log or of a store means.
+fn text_meaning(text: Text, fault: TextFault) -> &'static str {
+    match (fault, text) {
+        (TextFault::NoMemory, _) => "The system refused the memory that the program asked for.",
+        (TextFault::TooLong, _) => "The text is longer than 67,108,864 bytes, which is the limit.",
+        (TextFault::NamesFull { .. }, _) => {
+            "The line needs a new name, and there are 65,536 different names already, which is the limit."
+        }
+        (TextFault::BadEntry { line: 1 }, Text::Log) => {
+            "The first line of a log must be `chr-log 1` or `chr-log 2`."
+        }
+        (TextFault::BadEntry { .. }, Text::Log) => {
+            "This is not an entry of a log, as `P 1 gcd(9)`, `A 1 1`, `F 2 2 2\\1` or `D 1`, with one blank between its parts and LF at its end."
+        }
+        (TextFault::BadEntry { .. }, _) => {
+            "This is not a line of a store, as `#3 gcd(3)`, with a label above the one before it and LF at its end."
+        }
+    }
+}
+
+/// Returns what is wrong with the ticket of an entry. The first byte of the entry's line tells the event.
+fn ticket_meaning(event: Option<&u8>) -> &'static str {
+    match event {
+        Some(b'P') => {
+            "A post must take the next ticket: one more than there were posts and body constraints before it."
+        }
+        Some(b'A') => {
+            "No goal with this ticket waits to be activated: no post and no firing before it gave the ticket, or the goal was activated before."
+        }
+        _ => {
+            "No active goal has this ticket: the goal was not activated before, or it was dropped, or it ended as it removed its own constraint."
+        }
+    }
+}
+
+/// Returns what is wrong with the entry of a log, or with the line of a store, where a log is refused.
+fn refusal_meaning(kind: CheckKind, entry: &[u8]) -> &'static str {
+    match (kind, entry.first()) {
+        (CheckKind::BadTicket, event) => ticket_meaning(event),
+        (CheckKind::BadLabel, Some(b'A')) => {
+            "An activation must give the next label: one more than there were activations before it."
+        }
+        (CheckKind::BadLabel, _) => {
+            "A label of this firing is not in the store: no activation before it gave the label, or its constraint was removed."
+        }
+        (CheckKind::NoInstance, _) => {
+            "The goal can't make this firing: the program must have the rule, the goal's own label must be among the labels, they must differ and their constraints match the heads, the guard must hold, and each `is` and each argument of the body must have a value."
+        }
+        (CheckKind::StillApplies, _) => {
+            "The goal can't be dropped yet: a rule applies with its constraint (in a log of version 2: with its constraint and none of another active goal)."
+        }
+        (CheckKind::StoreDiffers, _) => {
+            "The store after the log's last entry has another line here, or only one of the two stores has this line."
+        }
+    }
+}
+
 /// Returns the line of a number, counted from 1, without its end.
-fn line_of(text: &[u8], number: u32) -> &[u8] {
+fn line_of(text: &[u8], number: u64) -> &[u8] {
     let mut rest = text;
     for _ in 1..number {
         let Some(end) = rest.iter().position(|b| *b == b'\n') else {
@@ -108,28 +208,16 @@ fn shown(b: u8) -> char {
     }
 }
 
-/// Returns what standard error says of a fault: its line, as `chr: program 4: E08 Binding`, and with
-/// [`Detail::Explained`] what it means, the file and the line, and the text of that line up to 160 bytes.
-pub fn message<A: Allocator + Copy>(
-    alloc: A,
-    detail: Detail,
+/// Adds where a text has a line at fault: the file and the line, and the text of that line up to 160 bytes. Line 0 is
+/// the whole text.
+fn push_place<A: Allocator>(
+    message: &mut String<A>,
     source: Source<'_>,
-    fault: ReadFault,
-) -> Result<String<A>, AllocError> {
-    let line = fault.line;
-    let mut message = format!(in alloc; "chr: {} {line}: {fault}\n", source.text.word())?;
-    if detail == Detail::Line {
-        return Ok(message);
-    }
-    write!(
-        message,
-        "{}\n --> {}",
-        meaning(source.text, fault.kind),
-        source.path
-    )?;
+    line: u64,
+) -> Result<(), AllocError> {
+    write!(message, "\n --> {}", source.path)?;
     if line == 0 {
-        message.push('\n')?;
-        return Ok(message);
+        return message.push('\n');
     }
     let excerpt = line_of(source.bytes, line);
     write!(message, ":{line}\n{line} | ")?;
@@ -140,14 +228,45 @@ pub fn message<A: Allocator + Copy>(
         " ..\n"
     } else {
         "\n"
-    })?;
+    })
+}
+
+/// Returns what standard error says of a fault: its line, as `chr: program 4: E08 Binding`, and with
+/// [`Detail::Explained`] what it means and its place.
+pub fn message<A: Allocator + Copy>(
+    alloc: A,
+    detail: Detail,
+    source: Source<'_>,
+    fault: Fault,
+) -> Result<String<A>, AllocError> {
+    let line = fault.line();
+    let mut message = format!(in alloc; "chr: {} {line}: {fault}\n", source.text.word())?;
+    if detail == Detail::Explained {
+        message.push_str(fault.meaning(source.text))?;
+        push_place(&mut message, source, line)?;
+    }
+    Ok(message)
+}
+
+/// Returns what a terminal is told of a log that is refused, after the line on standard output: what is wrong with the
+/// entry, or with the line of the store, and its place.
+pub fn refusal_message<A: Allocator + Copy>(
+    alloc: A,
+    source: Source<'_>,
+    fault: CheckFault,
+) -> Result<String<A>, AllocError> {
+    let entry = line_of(source.bytes, fault.line);
+    let mut message = format!(in alloc; "{}", refusal_meaning(fault.kind, entry))?;
+    push_place(&mut message, source, fault.line)?;
     Ok(message)
 }
 
 #[cfg(test)]
 mod tests {
-    use super::{Detail, Source, Text, message, no_memory_message};
+    use super::{Detail, Fault, Source, Text, message, no_memory_message, refusal_message};
+    use chr_check::fault::{CheckFault, Kind as CheckKind, Place};
     use chr_lex::fault::{Kind, ReadFault};
+    use chr_log_text::fault::TextFault;
     use std::test::Fail;
 
     #[test]
@@ -214,7 +333,7 @@ mod tests {
                 path: "f",
                 bytes: b"",
             };
-            let fault = ReadFault { kind, line: 0 };
+            let fault = Fault::Read(ReadFault { kind, line: 0 });
             let full = message(rt.alloc(), Detail::Explained, source, fault)?;
             let want = format!(in rt.alloc(); "{want} --> f\n")?;
             assert_eq!(rt; full.as_str(), want.as_str());
@@ -240,10 +359,10 @@ mod tests {
             (3, ":3\n3 |  p(X) <=> q(Y). % ?\n"),
             (4, ":4\n4 | last\n"),
         ] {
-            let fault = ReadFault {
+            let fault = Fault::Read(ReadFault {
                 kind: Kind::NumberRange,
                 line,
-            };
+            });
             let short = message(rt.alloc(), Detail::Line, source, fault)?;
             let want = format!(in rt.alloc(); "chr: posts {line}: E06 NumberRange\n")?;
             assert_eq!(rt; short.as_str(), want.as_str(), "line {line}");
@@ -252,6 +371,111 @@ mod tests {
                 "{want}A number must be at least -9223372036854775808 and at most 9223372036854775807.\n --> f{place}"
             )?;
             assert_eq!(rt; full.as_str(), want.as_str(), "line {line} explained");
+        }
+        Ok(())
+    }
+
+    #[test]
+    fn sentences_of_logs_and_stores(rt: HostRuntime) -> Result<(), Fail> {
+        for (text, fault, want) in [
+            (
+                Text::Log,
+                TextFault::TooLong,
+                "chr: log 0: E09 TooLong\nThe text is longer than 67,108,864 bytes, which is the limit.\n --> f\n",
+            ),
+            (
+                Text::Store,
+                TextFault::NamesFull { line: 2 },
+                "chr: store 2: E02 NamesFull\nThe line needs a new name, and there are 65,536 different names already, which is the limit.\n --> f:2\n2 | second\n",
+            ),
+            (
+                Text::Log,
+                TextFault::BadEntry { line: 1 },
+                "chr: log 1: E11 BadEntry\nThe first line of a log must be `chr-log 1` or `chr-log 2`.\n --> f:1\n1 | first\n",
+            ),
+            (
+                Text::Log,
+                TextFault::BadEntry { line: 2 },
+                "chr: log 2: E11 BadEntry\nThis is not an entry of a log, as `P 1 gcd(9)`, `A 1 1`, `F 2 2 2\\1` or `D 1`, with one blank between its parts and LF at its end.\n --> f:2\n2 | second\n",
+            ),
+            (
+                Text::Store,
+                TextFault::BadEntry { line: 1 },
+                "chr: store 1: E11 BadEntry\nThis is not a line of a store, as `#3 gcd(3)`, with a label above the one before it and LF at its end.\n --> f:1\n1 | first\n",
+            ),
+        ] {
+            let source = Source {
+                text,
+                path: "f",
+                bytes: b"first\nsecond",
+            };
+            let full = message(rt.alloc(), Detail::Explained, source, Fault::Text(fault))?;
+            assert_eq!(rt; full.as_str(), want);
+        }
+        Ok(())
+    }
+
+    #[test]
+    fn sentences_of_refusals(rt: HostRuntime) -> Result<(), Fail> {
+        for (line, kind, want) in [
+            (
+                2,
+                CheckKind::BadTicket,
+                "A post must take the next ticket: one more than there were posts and body constraints before it.\n --> f:2\n2 | P 2 a\n",
+            ),
+            (
+                3,
+                CheckKind::BadTicket,
+                "No goal with this ticket waits to be activated: no post and no firing before it gave the ticket, or the goal was activated before.\n --> f:3\n3 | A 1 2\n",
+            ),
+            (
+                4,
+                CheckKind::BadTicket,
+                "No active goal has this ticket: the goal was not activated before, or it was dropped, or it ended as it removed its own constraint.\n --> f:4\n4 | F 1 1 \\1\n",
+            ),
+            (
+                5,
+                CheckKind::BadTicket,
+                "No active goal has this ticket: the goal was not activated before, or it was dropped, or it ended as it removed its own constraint.\n --> f:5\n5 | D 1\n",
+            ),
+            (
+                3,
+                CheckKind::BadLabel,
+                "An activation must give the next label: one more than there were activations before it.\n --> f:3\n3 | A 1 2\n",
+            ),
+            (
+                4,
+                CheckKind::BadLabel,
+                "A label of this firing is not in the store: no activation before it gave the label, or its constraint was removed.\n --> f:4\n4 | F 1 1 \\1\n",
+            ),
+            (
+                4,
+                CheckKind::NoInstance,
+                "The goal can't make this firing: the program must have the rule, the goal's own label must be among the labels, they must differ and their constraints match the heads, the guard must hold, and each `is` and each argument of the body must have a value.\n --> f:4\n4 | F 1 1 \\1\n",
+            ),
+            (
+                5,
+                CheckKind::StillApplies,
+                "The goal can't be dropped yet: a rule applies with its constraint (in a log of version 2: with its constraint and none of another active goal).\n --> f:5\n5 | D 1\n",
+            ),
+            (
+                6,
+                CheckKind::StoreDiffers,
+                "The store after the log's last entry has another line here, or only one of the two stores has this line.\n --> f:6\n6 | \n",
+            ),
+        ] {
+            let source = Source {
+                text: Text::Log,
+                path: "f",
+                bytes: b"chr-log 1\nP 2 a\nA 1 2\nF 1 1 \\1\nD 1\n",
+            };
+            let fault = CheckFault {
+                place: Place::Log,
+                line,
+                kind,
+            };
+            let text = refusal_message(rt.alloc(), source, fault)?;
+            assert_eq!(rt; text.as_str(), want);
         }
         Ok(())
     }

@@ -1,77 +1,13 @@
 //! `chr run`.
-use crate::files::fetch;
+use crate::files::{MOST_TEXT, fetch};
 use crate::first::{End, FirstFault, first_run};
-use crate::message::{Detail, Source, Text, message, no_memory_message};
-use chr_lex::fault::ReadFault;
-use std::alloc::AllocError;
+use crate::message::{Detail, Fault, Source, Text};
+use crate::report::{Status, report_failure, report_fault, report_no_memory};
 use std::io::{self, Write};
-use std::process::ExitCode;
 use std::rt::Files;
-
-/// The limit on the bytes of a program and of posts.
-const MOST_TEXT: u64 = 65_536;
 
 /// The limit on the steps of a run.
 const STEPS: u64 = 1_000_000;
-
-/// How the program ends.
-#[derive(Clone, Copy, Debug, PartialEq, Eq)]
-pub enum Status {
-    /// No goal is open at the end of the run, or help was asked for.
-    Done,
-    /// A text has a fault.
-    Fault,
-    /// The command line is wrong, or a file or standard output failed.
-    Usage,
-    /// Goals are open at the end of the run.
-    Open,
-    /// The system refused memory (E01).
-    NoMemory,
-}
-
-impl Status {
-    /// Returns the exit status.
-    pub fn code(self) -> ExitCode {
-        ExitCode::from(match self {
-            Status::Done => 0,
-            Status::Fault => 1,
-            Status::Usage => 2,
-            Status::Open => 3,
-            Status::NoMemory => 5,
-        })
-    }
-}
-
-/// Writes E01 to standard error.
-pub fn report_no_memory(rt: &impl Eprint, detail: Detail) -> Status {
-    let _ = eprint!(rt; "{}", no_memory_message(detail));
-    Status::NoMemory
-}
-
-/// Writes to standard error what failed, as the path of a file, and the system's error.
-pub fn report_failure(rt: &impl Eprint, detail: Detail, what: &str, error: &io::Error) -> Status {
-    if error.kind() == io::ErrorKind::OutOfMemory {
-        return report_no_memory(rt, detail);
-    }
-    let _ = eprintln!(rt; "chr: {what}: {error}");
-    Status::Usage
-}
-
-/// Writes a text's fault to standard error.
-fn report_fault<R: Eprint + AllocGlobal>(
-    rt: &R,
-    detail: Detail,
-    source: Source<'_>,
-    fault: ReadFault,
-) -> Status {
-    match message(rt.alloc(), detail, source, fault) {
-        Ok(message) => {
-            let _ = eprint!(rt; "{message}");
-            Status::Fault
-        }
-        Err(AllocError) => report_no_memory(rt, detail),
-    }
-}
 
 /// Writes what a run gives to standard output.
 fn print(rt: &(impl Print + Eprint), detail: Detail, bytes: &[u8], end: End) -> Status {
@@ -108,7 +44,7 @@ pub fn run<R: Files + Print + Eprint + AllocGlobal>(
                 path: file,
                 bytes: &program,
             };
-            report_fault(rt, detail, source, fault)
+            report_fault(rt, detail, source, Fault::Read(fault))
         }
         Err(FirstFault::Posts(fault)) => {
             let source = Source {
@@ -116,7 +52,7 @@ pub fn run<R: Files + Print + Eprint + AllocGlobal>(
                 path: posts,
                 bytes: &posted,
             };
-            report_fault(rt, detail, source, fault)
+            report_fault(rt, detail, source, Fault::Read(fault))
         }
         Err(FirstFault::Memory) => report_no_memory(rt, detail),
     }
@@ -124,8 +60,9 @@ pub fn run<R: Files + Print + Eprint + AllocGlobal>(
 
 #[cfg(test)]
 mod tests {
-    use super::{Status, run};
+    use super::run;
     use crate::message::Detail;
+    use crate::report::Status;
     use std::test::*;
 
     #[test]

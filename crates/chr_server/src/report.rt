@@ -1,0 +1,64 @@
+//! How the program ends, and what it says of a failure.
+use crate::message::{Detail, Fault, Source, message, no_memory_message};
+use std::alloc::AllocError;
+use std::io;
+use std::process::ExitCode;
+
+/// How the program ends.
+#[derive(Clone, Copy, Debug, PartialEq, Eq)]
+pub enum Status {
+    /// No goal is open at the end of the run, the log is a run, or help was asked for.
+    Done,
+    /// A text has a fault, or the log is no run that ends in the store.
+    Fault,
+    /// The command line is wrong, or a file or standard output failed.
+    Usage,
+    /// Goals are open at the end of the run.
+    Open,
+    /// The system refused memory (E01).
+    NoMemory,
+}
+
+impl Status {
+    /// Returns the exit status.
+    pub fn code(self) -> ExitCode {
+        ExitCode::from(match self {
+            Status::Done => 0,
+            Status::Fault => 1,
+            Status::Usage => 2,
+            Status::Open => 3,
+            Status::NoMemory => 5,
+        })
+    }
+}
+
+/// Writes E01 to standard error.
+pub fn report_no_memory(rt: &impl Eprint, detail: Detail) -> Status {
+    let _ = eprint!(rt; "{}", no_memory_message(detail));
+    Status::NoMemory
+}
+
+/// Writes to standard error what failed, as the path of a file, and the system's error.
+pub fn report_failure(rt: &impl Eprint, detail: Detail, what: &str, error: &io::Error) -> Status {
+    if error.kind() == io::ErrorKind::OutOfMemory {
+        return report_no_memory(rt, detail);
+    }
+    let _ = eprintln!(rt; "chr: {what}: {error}");
+    Status::Usage
+}
+
+/// Writes a text's fault to standard error.
+pub fn report_fault<R: Eprint + AllocGlobal>(
+    rt: &R,
+    detail: Detail,
+    source: Source<'_>,
+    fault: Fault,
+) -> Status {
+    match message(rt.alloc(), detail, source, fault) {
+        Ok(message) => {
+            let _ = eprint!(rt; "{message}");
+            Status::Fault
+        }
+        Err(AllocError) => report_no_memory(rt, detail),
+    }
+}
