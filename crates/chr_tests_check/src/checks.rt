@@ -1,7 +1,5 @@
-use chr_check::checking::{Verdict, check};
-use chr_log_text::reading::{read_log, read_store};
-use chr_text::reading::read_program;
-use chr_value::names::Names;
+use chr_check::checking::Verdict;
+use chr_check_text::checked::{CheckTextFault, check_text};
 use std::alloc::Global;
 use std::test::*;
 
@@ -32,16 +30,31 @@ const TOKEN: &str = "t \\ n(X) <=> r(X).";
 
 const TOKEN_STORE: &str = "#2 t\n#3 r(1)\n";
 
-/// What the check of a log and a store answers, all three read from their texts.
-fn answer(alloc: Global, program: &str, log: &str, store: &str) -> Result<String<Global>, Fail> {
-    let mut names = Names::new(alloc);
-    let program = read_program(alloc, program.as_bytes(), &mut names)?;
-    let log = read_log(alloc, log.as_bytes(), &mut names)?;
-    let store = read_store(alloc, store.as_bytes(), &mut names)?;
-    let text = match check(alloc, &program, log.version, &log.events, &store) {
-        Ok(Verdict::Run) => format!(in alloc; "run")?,
-        Ok(Verdict::RunAndFinal) => format!(in alloc; "run final")?,
-        Err(error) => format!(in alloc; "{error}")?,
+/// What is told of three texts: the line of the answer, or the fault of the first text that can't be read. A refusal's
+/// line is also the fault as it is displayed.
+fn told(alloc: Global, program: &str, log: &str, store: &str) -> Result<String<Global>, Fail> {
+    let (program, log, store) = (program.as_bytes(), log.as_bytes(), store.as_bytes());
+    let text = match check_text(alloc, program, log, store) {
+        Ok(checked) => {
+            let displayed = match checked.answer {
+                Ok(Verdict::RunAndFinal) => format!(in alloc; "run final\n")?,
+                Ok(Verdict::Run) => format!(in alloc; "run\n")?,
+                Err(fault) => format!(in alloc; "refused {fault}\n")?,
+            };
+            if displayed.as_bytes() == checked.line.as_slice() {
+                displayed
+            } else {
+                format!(in alloc; "another line than {displayed}")?
+            }
+        }
+        Err(CheckTextFault::Program(fault)) => {
+            format!(in alloc; "program {}: {fault}", fault.line)?
+        }
+        Err(CheckTextFault::Log(fault)) => format!(in alloc; "log {}: {fault}", fault.line())?,
+        Err(CheckTextFault::Store(fault)) => {
+            format!(in alloc; "store {}: {fault}", fault.line())?
+        }
+        Err(CheckTextFault::Memory) => format!(in alloc; "no memory")?,
     };
     Ok(text)
 }
@@ -62,23 +75,27 @@ fn a_log_without_one_line(rt: HostRuntime) -> Result<(), Fail> {
     let alloc = rt.alloc();
     for version in ['1', '2'] {
         for (line, wanted) in [
-            (1, "run final"),
-            (2, "E16 log 2 BadTicket"),
-            (3, "E16 log 5 BadTicket"),
-            (4, "E16 log 4 BadTicket"),
-            (5, "run"),
-            (6, "E16 log 6 BadTicket"),
-            (7, "E16 log 7 StillApplies"),
-            (8, "run"),
-            (9, "E16 log 9 BadTicket"),
-            (10, "E16 log 10 StillApplies"),
-            (11, "run"),
-            (12, "E16 log 12 BadTicket"),
-            (13, "E16 store 2 StoreDiffers"),
+            (1, "run final\n"),
+            (2, "refused E16 log 2 BadTicket\n"),
+            (3, "refused E16 log 5 BadTicket\n"),
+            (4, "refused E16 log 4 BadTicket\n"),
+            (5, "run\n"),
+            (6, "refused E16 log 6 BadTicket\n"),
+            (7, "refused E16 log 7 StillApplies\n"),
+            (8, "run\n"),
+            (9, "refused E16 log 9 BadTicket\n"),
+            (10, "refused E16 log 10 StillApplies\n"),
+            (11, "run\n"),
+            (12, "refused E16 log 12 BadTicket\n"),
+            (13, "refused E16 store 2 StoreDiffers\n"),
         ] {
             let log = gcd_log_without(alloc, version, line)?;
-            let text = answer(alloc, GCD, log.as_str(), GCD_STORE)?;
-            assert_eq!(rt; text.as_str(), wanted);
+            let text = told(alloc, GCD, log.as_str(), GCD_STORE)?;
+            assert_eq!(rt;
+                text.as_str(),
+                wanted,
+                "version {version} without line {line}"
+            );
         }
     }
     Ok(())
@@ -88,36 +105,47 @@ fn a_log_without_one_line(rt: HostRuntime) -> Result<(), Fail> {
 fn a_log_with_changed_lines(rt: HostRuntime) -> Result<(), Fail> {
     let alloc = rt.alloc();
     let head = "chr-log 1\nP 1 gcd(9)\nP 2 gcd(6)\nA 1 1\nD 1\nA 2 2\n";
-    for (tail, store, wanted) in [
+    let tail = "A 3 3\nF 3 2 3\\2\nD 3\nA 4 4\n";
+    for (row, before, last, store, wanted) in [
         (
-            "F 2 2 2\\1\nD 2\nA 3 3\nF 3 2 3\\2\nD 3\nA 4 4\nF 4 1 \\4\n",
+            "as it was",
+            "F 2 2 2\\1\nD 2\n",
+            "F 4 1 \\4\n",
             GCD_STORE,
-            "run final",
+            "run final\n",
         ),
         (
-            "F 2 2 2\\1\nD 2\nA 3 3\nF 3 2 3\\2\nD 3\nA 4 4\nF 4 1 \\4\nF 4 1 \\4\n",
+            "the last line twice",
+            "F 2 2 2\\1\nD 2\n",
+            "F 4 1 \\4\nF 4 1 \\4\n",
             GCD_STORE,
-            "E16 log 14 BadTicket",
+            "refused E16 log 14 BadTicket\n",
         ),
         (
-            "D 2\nF 2 2 2\\1\nA 3 3\nF 3 2 3\\2\nD 3\nA 4 4\nF 4 1 \\4\n",
+            "a drop too early",
+            "D 2\nF 2 2 2\\1\n",
+            "F 4 1 \\4\n",
             GCD_STORE,
-            "E16 log 7 StillApplies",
+            "refused E16 log 7 StillApplies\n",
         ),
         (
-            "F 2 2 2\\1\nD 2\nA 3 3\nF 3 2 3\\2\nD 3\nA 4 4\nF 4 1 \\4\n",
+            "another store",
+            "F 2 2 2\\1\nD 2\n",
+            "F 4 1 \\4\n",
             "#3 gcd(4)\n",
-            "E16 store 1 StoreDiffers",
+            "refused E16 store 1 StoreDiffers\n",
         ),
         (
-            "F 2 2 2\\1\nD 2\nA 3 3\nF 3 2 3\\2\nD 3\nA 4 4\n",
+            "cut after an activation",
+            "F 2 2 2\\1\nD 2\n",
+            "",
             "#3 gcd(3)\n#4 gcd(0)\n",
-            "run",
+            "run\n",
         ),
     ] {
-        let log = format!(in alloc; "{head}{tail}")?;
-        let text = answer(alloc, GCD, log.as_str(), store)?;
-        assert_eq!(rt; text.as_str(), wanted);
+        let log = format!(in alloc; "{head}{before}{tail}{last}")?;
+        let text = told(alloc, GCD, log.as_str(), store)?;
+        assert_eq!(rt; text.as_str(), wanted, "{row}");
     }
     Ok(())
 }
@@ -125,89 +153,90 @@ fn a_log_with_changed_lines(rt: HostRuntime) -> Result<(), Fail> {
 #[test]
 fn faults_by_kind(rt: HostRuntime) -> Result<(), Fail> {
     let alloc = rt.alloc();
-    for (program, log, store, wanted) in [
-        ("", "chr-log 1\n", "", "run final"),
-        ("", "chr-log 1\nP 1 a\n", "", "run"),
-        ("", "chr-log 1\nP 2 a\n", "", "E16 log 2 BadTicket"),
-        ("", "chr-log 1\nP 1 a\nA 1 2\n", "", "E16 log 3 BadLabel"),
-        ("", "chr-log 1\nP 1 a\nA 2 1\n", "", "E16 log 3 BadTicket"),
+    for (program, events, store, wanted) in [
+        ("", "", "", "run final\n"),
+        ("", "P 1 a\n", "", "run\n"),
+        ("", "P 2 a\n", "", "refused E16 log 2 BadTicket\n"),
+        ("", "P 1 a\nA 1 2\n", "", "refused E16 log 3 BadLabel\n"),
+        ("", "P 1 a\nA 2 1\n", "", "refused E16 log 3 BadTicket\n"),
         (
             "",
-            "chr-log 1\nP 1 a\nA 1 1\nA 1 2\n",
+            "P 1 a\nA 1 1\nA 1 2\n",
             "",
-            "E16 log 4 BadTicket",
+            "refused E16 log 4 BadTicket\n",
         ),
-        ("", "chr-log 1\nP 1 a\nD 1\n", "", "E16 log 3 BadTicket"),
+        ("", "P 1 a\nD 1\n", "", "refused E16 log 3 BadTicket\n"),
         (
             "",
-            "chr-log 1\nP 1 a\nA 1 1\nF 1 1 \\1\n",
+            "P 1 a\nA 1 1\nF 1 1 \\1\n",
             "",
-            "E16 log 4 NoInstance",
-        ),
-        (
-            TWICE,
-            "chr-log 1\nP 1 p(1)\nA 1 1\nF 1 1 \\1,1\n",
-            "",
-            "E16 log 4 NoInstance",
+            "refused E16 log 4 NoInstance\n",
         ),
         (
             TWICE,
-            "chr-log 1\nP 1 p(1)\nA 1 1\nF 1 1 \\1,2\n",
+            "P 1 p(1)\nA 1 1\nF 1 1 \\1,1\n",
             "",
-            "E16 log 4 BadLabel",
+            "refused E16 log 4 NoInstance\n",
         ),
         (
             TWICE,
-            "chr-log 1\nP 1 p(1)\nP 2 p(1)\nA 1 1\nA 2 2\nF 1 1 1\\2\n",
+            "P 1 p(1)\nA 1 1\nF 1 1 \\1,2\n",
             "",
-            "E16 log 6 NoInstance",
+            "refused E16 log 4 BadLabel\n",
         ),
         (
             TWICE,
-            "chr-log 1\nP 1 p(1)\nP 2 p(1)\nA 1 1\nD 1\nA 2 2\nF 2 1 \\2,1\nA 3 3\nD 3\n",
+            "P 1 p(1)\nP 2 p(1)\nA 1 1\nA 2 2\nF 1 1 1\\2\n",
+            "",
+            "refused E16 log 6 NoInstance\n",
+        ),
+        (
+            TWICE,
+            "P 1 p(1)\nP 2 p(1)\nA 1 1\nD 1\nA 2 2\nF 2 1 \\2,1\nA 3 3\nD 3\n",
             "#3 q(1)\n",
-            "run final",
+            "run final\n",
         ),
         (
             TWICE,
-            "chr-log 1\nP 1 p(1)\nP 2 p(1)\nA 1 1\nD 1\nA 2 2\nF 2 1 \\2,1\n",
+            "P 1 p(1)\nP 2 p(1)\nA 1 1\nD 1\nA 2 2\nF 2 1 \\2,1\n",
             "",
-            "run",
+            "run\n",
         ),
         (
             TWICE,
-            "chr-log 1\nP 1 p(1)\nP 2 p(1)\nP 3 p(1)\nA 1 1\nA 2 2\nA 3 3\nF 3 1 \\1,2\n",
+            "P 1 p(1)\nP 2 p(1)\nP 3 p(1)\nA 1 1\nA 2 2\nA 3 3\nF 3 1 \\1,2\n",
             "",
-            "E16 log 8 NoInstance",
+            "refused E16 log 8 NoInstance\n",
         ),
         (
             "",
-            "chr-log 1\nP 1 a\nA 1 1\nD 1\n",
+            "P 1 a\nA 1 1\nD 1\n",
             "",
-            "E16 store 1 StoreDiffers",
+            "refused E16 store 1 StoreDiffers\n",
         ),
         (
             "",
-            "chr-log 1\nP 1 a\nA 1 1\nD 1\n",
+            "P 1 a\nA 1 1\nD 1\n",
             "#1 b\n",
-            "E16 store 1 StoreDiffers",
+            "refused E16 store 1 StoreDiffers\n",
         ),
         (
             "",
-            "chr-log 1\nP 1 a\nA 1 1\nD 1\n",
+            "P 1 a\nA 1 1\nD 1\n",
             "#2 a\n",
-            "E16 store 1 StoreDiffers",
+            "refused E16 store 1 StoreDiffers\n",
         ),
         (
             "",
-            "chr-log 1\nP 1 a\nA 1 1\nD 1\n",
+            "P 1 a\nA 1 1\nD 1\n",
             "#1 a\n#2 a\n",
-            "E16 store 2 StoreDiffers",
+            "refused E16 store 2 StoreDiffers\n",
         ),
-        ("", "chr-log 1\nP 1 a\nA 1 1\nD 1\n", "#1 a\n", "run final"),
+        ("", "P 1 a\nA 1 1\nD 1\n", "#1 a\n", "run final\n"),
     ] {
-        let text = answer(alloc, program, log, store)?;
-        assert_eq!(rt; text.as_str(), wanted);
+        let log = format!(in alloc; "chr-log 1\n{events}")?;
+        let text = told(alloc, program, log.as_str(), store)?;
+        assert_eq!(rt; text.as_str(), wanted, "{program} {events} {store}");
     }
     Ok(())
 }
@@ -215,22 +244,69 @@ fn faults_by_kind(rt: HostRuntime) -> Result<(), Fail> {
 #[test]
 fn a_goal_may_be_dropped_by_version(rt: HostRuntime) -> Result<(), Fail> {
     let alloc = rt.alloc();
-    let body = "P 1 n(1)\nP 2 t\nA 1 1\nA 2 2\nD 1\nF 2 1 2\\1\nD 2\nA 3 3\nD 3\n";
+    let older = "P 1 n(1)\nP 2 t\nA 1 1\nA 2 2\nD 1\nF 2 1 2\\1\nD 2\nA 3 3\nD 3\n";
     let strict = "P 1 n(1)\nP 2 t\nA 1 1\nA 2 2\nF 2 1 2\\1\nA 3 3\nD 1\nD 2\nD 3\n";
-    for (header, events, wanted) in [
-        ("chr-log 2\n", body, "run final"),
-        ("chr-log 1\n", body, "E16 log 6 StillApplies"),
-        ("chr-log 1\n", strict, "run final"),
-        ("chr-log 2\n", strict, "run final"),
+    let strict_gcd =
+        "P 1 gcd(9)\nP 2 gcd(6)\nA 1 1\nA 2 2\nF 2 2 2\\1\nA 3 3\nF 3 2 3\\2\nA 4 4\nF 4 1 \\4\nD 1\nD 2\nD 3\n";
+    for (program, version, events, store, wanted) in [
+        (TOKEN, 2, older, TOKEN_STORE, "run final\n"),
         (
-            "chr-log 2\n",
-            "P 1 n(1)\nP 2 t\nA 1 1\nA 2 2\nD 1\nD 2\n",
-            "E16 log 7 StillApplies",
+            TOKEN,
+            1,
+            older,
+            TOKEN_STORE,
+            "refused E16 log 6 StillApplies\n",
         ),
+        (TOKEN, 1, strict, TOKEN_STORE, "run final\n"),
+        (TOKEN, 2, strict, TOKEN_STORE, "run final\n"),
+        (
+            TOKEN,
+            2,
+            "P 1 n(1)\nP 2 t\nA 1 1\nA 2 2\nD 1\nD 2\n",
+            TOKEN_STORE,
+            "refused E16 log 7 StillApplies\n",
+        ),
+        (GCD, 1, strict_gcd, GCD_STORE, "run final\n"),
     ] {
-        let log = format!(in alloc; "{header}{events}")?;
-        let text = answer(alloc, TOKEN, log.as_str(), TOKEN_STORE)?;
-        assert_eq!(rt; text.as_str(), wanted);
+        let log = format!(in alloc; "chr-log {version}\n{events}")?;
+        let text = told(alloc, program, log.as_str(), store)?;
+        assert_eq!(rt; text.as_str(), wanted, "version {version} {events}");
+    }
+    Ok(())
+}
+
+#[test]
+fn texts_that_are_not_read(rt: HostRuntime) -> Result<(), Fail> {
+    let alloc = rt.alloc();
+    let log = "chr-log 1\nP 1 a\nA 1 1\nD 1\n";
+    let long = " ".repeat(alloc, 65_537)?;
+    for (program, log, store, wanted) in [
+        ("", log, "#1 a\n", "run final\n"),
+        ("a ==> b.", log, "#1 a\n", "program 1: E05 Propagation"),
+        (
+            "% a\n% b\n% c\np(X) <=> q(Y).",
+            log,
+            "",
+            "program 4: E08 Binding",
+        ),
+        ("p(X) <=> q(X)", log, "", "program 1: E04 Syntax"),
+        (long.as_str(), log, "", "program 0: E09 TooLong"),
+        ("", "", "", "log 1: E11 BadEntry"),
+        ("", "chr-log 3\n", "", "log 1: E11 BadEntry"),
+        ("", "chr-log 1", "", "log 1: E11 BadEntry"),
+        ("", "chr-log 1\nA 01 1\n", "", "log 2: E11 BadEntry"),
+        ("", "chr-log 1\nF 1 1 1\\\n", "", "log 2: E11 BadEntry"),
+        ("", "chr-log 1\nP 1 a\nA 1 1", "", "log 3: E11 BadEntry"),
+        ("", log, "#1 a", "store 1: E11 BadEntry"),
+        ("", log, "#0 a\n", "store 1: E11 BadEntry"),
+        ("", log, "#1 a\n#1 a\n", "store 2: E11 BadEntry"),
+        ("", log, "store 1\n#1 a\n", "store 1: E11 BadEntry"),
+        ("a ==> b.", "", "#", "program 1: E05 Propagation"),
+        ("", "chr-log 1\nP 2 a\n", "#", "store 1: E11 BadEntry"),
+        ("", "chr-log 1\nP\n", "#", "log 2: E11 BadEntry"),
+    ] {
+        let text = told(alloc, program, log, store)?;
+        assert_eq!(rt; text.as_str(), wanted, "log {log} store {store}");
     }
     Ok(())
 }

@@ -1,8 +1,8 @@
 //! Tests of the check of a log.
 //!
-//! What a check answers is proved. The tables fix the lines and kinds that the formats' documents give for worked logs,
-//! from text to text, and how a fault is printed. They also show what no clause says: that a check succeeds where memory
-//! is left.
+//! What a check answers is proved, and so is each byte of its line. The tables fix the lines that are wanted for worked
+//! texts: logs and stores that are runs, changed ones with their first fault, and texts that can't be read. They also
+//! show what no clause says: that a check succeeds where memory is left, and that a fault is displayed as its line has it.
 #![tactic(auto)]
 
 #[cfg(test)]
