@@ -18,7 +18,7 @@ use Rattle.chr_check.specs.declared.fault.CheckError.{CheckError}
 use Rattle.chr_check.specs.declared.fault.CheckError.TheVariants.{NoMemory, NotARun}
 use Rattle.chr_check.specs.Faults.{IsFirstFault, IsRun, IsFinalRun}
 use Rattle.chr_check_text.specs.declared.checked.Checked.{Checked}
-use Rattle.chr_check_text.specs.CheckTexts.{IsAnswer, IsTold, RulesOf, LogOf, StoreOf, IsChecked, IsUnread, log_fault, store_fault}
+use Rattle.chr_check_text.specs.CheckTexts.{IsAnswer, IsTold, IsChecked, IsUnread, log_fault, store_fault}
 
 abbrev answer : CheckError → Result Verdict CheckError
 answer e = Err e

@@ -1,7 +1,6 @@
 -- From the bytes of three texts to the line of an answer.
 use Rattle.std.specs.Prelude.{◌≡◌, ◌≢◌, ℕ, ◌↔◌, List, [], Result, Ok, Err, IsOk}
 use Rattle.chr_rule.specs.Rules.{Simpagation}
-use Rattle.chr_lex.specs.declared.fault.ReadFault.{ReadFault}
 use Rattle.chr_log.specs.Events.{Event, labelled_atoms}
 use Rattle.chr_log.specs.declared.events.Version.{Version}
 use Rattle.chr_log_text.specs.Texts.{IsLogText, IsStoreText, HasLogFault, HasStoreFault}
