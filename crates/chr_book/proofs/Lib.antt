@@ -1,3 +1,5 @@
 pub mod Fired
 pub mod Posted
 pub mod Turns
+pub mod Lines
+pub mod StrictLogs

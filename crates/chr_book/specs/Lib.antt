@@ -1,1 +1,3 @@
 pub mod Books
+pub mod Texts
+pub mod Logs

@@ -15,6 +15,10 @@
 //! | [`drop_goal`](book::Book::drop_goal) | a goal whose search has no trial left ends |
 //! | [`put_down`](book::Book::put_down), [`mark_stray`](book::Book::mark_stray), [`take_stray`](book::Book::take_stray) | tickets that wait for another seat |
 //!
+//! [`post_text`](book::Book::post_text) posts the atoms of a text, by the book's own names;
+//! [`store_lines`](book::Book::store_lines) and [`log_lines`](book::Book::log_lines) write the lines of the store and of the
+//! log; [`strict_log`](book::Book::strict_log) is the log with its drops after the other entries, where no ticket is open.
+//!
 //! The contract of each call is its line of the table in `chr_calls`. The type keeps what makes every drop lawful, so at
 //! any time, after any calls by any seats, a book has the headline of `chr_calls`: its log is lawful and leads to its
 //! store and goals; with labels erased its firings are an abstract run from the atoms posted; no label is removed twice;
@@ -26,3 +30,5 @@
 mod body;
 pub mod book;
 mod calls;
+pub mod strict;
+pub mod texts;
