@@ -1,0 +1,2 @@
+pub mod SoloFixed
+pub mod SoloRuns

@@ -1,0 +1,134 @@
+-- Runs of one seat: what is judged stays the candidate of the next ticket, and a run goes on at its end.
+use Rattle.std.proofs.Common.{◌≡◌, ℕ, zero, suc, ◌+◌, ◌<◌, ◌≤◌, nat_lt, if◌then◌else◌, inl, inr, List, length, slice_set, Option, Some, None, MatchOption, Result, Ok, Err, OnErr, refl, sym, ◌∙◌, ap, subst, arith}
+use Rattle.std.proofs.Math.Numerals.{add-one}
+use Rattle.std.proofs.Math.Nat.{le_antisymm}
+use Rattle.std.proofs.lemmas.List.{length-set}
+use Rattle.chr_search.specs.Verdicts.{Trial}
+use Rattle.chr_search.specs.Judged.{Judgement}
+use Rattle.chr_calls.specs.declared.answers.ClaimFault.TheVariants.{LabelsSpent}
+use Rattle.chr_calls.specs.declared.answers.TicketState.{TicketState}
+use Rattle.chr_calls.specs.declared.answers.TicketState.TheVariants.{Unknown, Held}
+use Rattle.chr_calls.specs.Turns.{Next, Done, Gone}
+use Rattle.chr_calls.specs.Tickets.{Ticket, with_candidate, ticket_at, state_with, state_of, IsClaimable, waits, rests, IsOpenFor, waits_for, held_for, rests_for, IsLeastFor, NoneFor}
+use Rattle.chr_calls.specs.Books.{BookState}
+use Rattle.chr_calls.specs.Calls.{Claims, with_candidate_of, HoldsCandidate}
+use Rattle.chr_calls.proofs.Tickets.{AfterSet, is_set, stands, after_set, ticket_same, held_is}
+use Rattle.chr_solo.specs.Solo.{Known, Nothing, Judged, NoneLeft, SoloCall, claims, asks, fires, reports, drops, SoloRun, IsSpentFor, IsSolo, IsCutShort}
+use Rattle.chr_solo.specs.SoloCode.{IsAware, SoloSoFar}
+
+-- ---- a ticket that gets a candidate
+
+-- what is told of a ticket at a place in a list so long
+abbrev told : ℕ → ℕ → Ticket → TicketState
+told t many x = if nat_lt t many then state_with x.goal x.holder else Unknown
+
+told_same : (t many : ℕ) (x y : Ticket) → x.goal ≡ y.goal → x.holder ≡ y.holder → told t many x ≡ told t many y
+told_same t many x y g h = ap (λ s. if nat_lt t many then s else Unknown) (ap (λ z. state_with z x.holder) g ∙ ap (λ o. state_with y.goal o) h)
+
+told_after : (ts : List Ticket) (t u : ℕ) (c : Option Trial) → AfterSet ts t (with_candidate c (ticket_at ts t)) u → told u (length ts) (ticket_at (slice_set ts t (with_candidate c (ticket_at ts t))) u) ≡ told u (length ts) (ticket_at ts u)
+told_after ts t u c (is_set e within is) = told_same u (length ts) (ticket_at (slice_set ts t (with_candidate c (ticket_at ts t))) u) (ticket_at ts u) (ap (λ (x : Ticket). x.goal) is ∙ ap (λ v. (ticket_at ts v).goal) (sym e)) (ap (λ (x : Ticket). x.holder) is ∙ ap (λ v. (ticket_at ts v).holder) (sym e))
+told_after ts t u c (stands is) = told_same u (length ts) (ticket_at (slice_set ts t (with_candidate c (ticket_at ts t))) u) (ticket_at ts u) (ap (λ (x : Ticket). x.goal) is) (ap (λ (x : Ticket). x.holder) is)
+
+-- it is in the state that it was in, and so are the others
+pub state_stands : (ts : List Ticket) (t u : ℕ) (c : Option Trial) → state_of (slice_set ts t (with_candidate c (ticket_at ts t))) u ≡ state_of ts u
+state_stands ts t zero c = refl
+state_stands ts t (suc u) c =
+    let new : List Ticket = slice_set ts t (with_candidate c (ticket_at ts t)) in
+    ap (λ many. told (suc u) many (ticket_at new (suc u))) (length-set ts t (with_candidate c (ticket_at ts t))) ∙ told_after ts t (suc u) c (after_set ts t (with_candidate c (ticket_at ts t)) (suc u))
+
+-- so the same ticket is the next one
+pub least_stands : (b : BookState) (seat t u : ℕ) (c : Option Trial) → IsLeastFor b.tickets seat t → IsLeastFor (with_candidate_of b t c).tickets seat u → t ≡ u
+least_stands b seat t u c old new =
+    le_antisymm (old.least u (subst (IsOpenFor seat) (state_stands b.tickets t u c) new.free))
+    (new.least t (subst (IsOpenFor seat) (sym (state_stands b.tickets t t c)) old.free))
+
+-- an open ticket that no seat holds can be claimed
+pub open_claimable : (seat : ℕ) (s : TicketState) → IsOpenFor seat s → ((holder : ℕ) → s ≡ Held holder → ⊥) → IsClaimable s
+open_claimable seat s (waits_for o) free = waits
+open_claimable seat s (held_for o) free = absurd (free o refl)
+open_claimable seat s (rests_for o) free = rests
+
+-- and one that a seat holds is held by this one
+pub open_held : (seat holder : ℕ) (s : TicketState) → IsOpenFor seat s → s ≡ Held holder → s ≡ Held seat
+open_held seat holder s (waits_for o) held = absurd (cc)
+open_held seat holder s (held_for o) held = refl
+open_held seat holder s (rests_for o) held = absurd (cc)
+
+-- ---- what is judged
+
+pub same_judged : (i j : Judgement) → Judged i ≡ Judged j → i ≡ j
+same_judged i j e = cc
+
+holds_new : (b : BookState) (seat t : ℕ) (trial : Trial) → state_of b.tickets t ≡ Held seat → HoldsCandidate (with_candidate_of b t (Some trial)) seat t trial
+holds_new b seat t trial held = record {
+  held = state_stands b.tickets t t (Some trial) ∙ held;
+  candidate = ap (λ (x : Ticket). x.candidate) (ticket_same b.tickets t (with_candidate (Some trial) (ticket_at b.tickets t)) (held_is b.tickets t seat held).within);
+}
+
+-- after a call, what is judged is the candidate of the next ticket
+pub aware_after : (seat t : ℕ) (b : BookState) (known : Known) (n : BookState) (after : Known) → SoloCall seat t b known n after → IsLeastFor b.tickets seat t → (u : ℕ) → IsLeastFor n.tickets seat u → IsAware n seat u after
+aware_after seat t b known n after (claims l made none) old u new j is = absurd (let z : Nothing ≡ Judged j = sym none ∙ is in cc)
+aware_after seat t b known n after (asks (Next trial) nothing made knows) old u new j is =
+    let same : knows.0 ≡ j = same_judged knows.0 j (sym knows.3 ∙ is) in
+    let is_trial : trial ≡ j.trial = sym knows.1 ∙ ap (λ (i : Judgement). i.trial) same in
+    let there : t ≡ u = least_stands b seat t u (Some trial) old (subst (λ (m : BookState). IsLeastFor m.tickets seat u) made.3 new) in
+    let h : HoldsCandidate (with_candidate_of b t (Some trial)) seat t trial = holds_new b seat t trial made.1.holds.state in
+    subst (λ (m : BookState). HoldsCandidate m seat u j.trial) (sym made.3) (subst (λ v. HoldsCandidate (with_candidate_of b t (Some trial)) seat v j.trial) there (subst (HoldsCandidate (with_candidate_of b t (Some trial)) seat t) is_trial h))
+aware_after seat t b known n after (asks Done nothing made knows) old u new j is = absurd (let z : NoneLeft ≡ Judged j = sym knows ∙ is in cc)
+aware_after seat t b known n after (asks Gone nothing made knows) old u new j is = absurd (let z : NoneLeft ≡ Judged j = sym knows ∙ is in cc)
+aware_after seat t b known n after (fires i firing judged made none) old u new j is = absurd (let z : Nothing ≡ Judged j = sym none ∙ is in cc)
+aware_after seat t b known n after (reports i moved judged made none) old u new j is = absurd (let z : Nothing ≡ Judged j = sym none ∙ is in cc)
+aware_after seat t b known n after (drops dropping left made none) old u new j is = absurd (let z : Nothing ≡ Judged j = sym none ∙ is in cc)
+
+-- ---- a run and one call more
+
+pub run_more : (seat calls t : ℕ) (b : BookState) (first : Known) (n : BookState) (known : Known) (m : BookState) (after : Known) → SoloRun seat calls b first n known → IsLeastFor n.tickets seat t → SoloCall seat t n known m after → SoloRun seat (suc calls) b first m after
+run_more seat zero t b first n known m after run least call =
+    (t, subst (λ (x : BookState). IsLeastFor x.tickets seat t) run.0 least, m, after, subst (λ k. SoloCall seat t b k m after) run.1 (subst (λ x. SoloCall seat t x known m after) run.0 call), (refl, refl))
+run_more seat (suc calls) t b first n known m after run least call =
+    (run.0, run.1, run.2, run.3, run.4, run_more seat calls t run.2 run.3 n known m after run.5 least call)
+
+-- no call is made yet
+pub begins : (seat : ℕ) (b : BookState) → SoloSoFar seat b 0 b Nothing
+begins seat b = record { run = (refl, refl); aware = λ t least j is. absurd (cc) }
+
+-- one more is made
+pub goes_on : (seat calls t : ℕ) (b n : BookState) (known : Known) (m : BookState) (after : Known) → SoloSoFar seat b calls n known → IsLeastFor n.tickets seat t → SoloCall seat t n known m after → SoloSoFar seat b (calls + 1) m after
+goes_on seat calls t b n known m after so least call = record {
+  run = subst (λ many. SoloRun seat many b Nothing m after) (sym (add-one calls)) (run_more seat calls t b Nothing n known m after so.run least call);
+  aware = aware_after seat t n known m after call least;
+}
+
+-- ---- why a run ends
+
+-- as many calls were made as were asked for
+pub ends_full : (seat most calls : ℕ) (b n : BookState) (known : Known) → SoloSoFar seat b calls n known → calls ≤ most → most ≤ calls → IsSolo seat most b calls n
+ends_full seat most calls b n known so few many = record { made = calls; known = known; run = so.run; few = few; ends = inl (refl, inl (le_antisymm few many)) }
+
+-- no ticket is left for the seat
+pub ends_none : (seat most calls : ℕ) (b n : BookState) (known : Known) → SoloSoFar seat b calls n known → calls ≤ most → NoneFor n.tickets seat → IsSolo seat most b calls n
+ends_none seat most calls b n known so few none = record { made = calls; known = known; run = so.run; few = few; ends = inl (refl, inr none) }
+
+-- the labels are spent
+pub ends_spent : (seat most calls t : ℕ) (b n : BookState) (known : Known) (m : BookState) → SoloSoFar seat b calls n known → calls < most → IsLeastFor n.tickets seat t → Claims n seat t (Err LabelsSpent) m → IsSolo seat most b (calls + 1) m
+ends_spent seat most calls t b n known m so fewer least made = record {
+  made = calls;
+  known = known;
+  run = subst (λ x. SoloRun seat calls b Nothing x known) (sym made.2) so.run;
+  few = omega arith;
+  ends = inr (refl, subst (IsSpentFor seat) (sym made.2) (record { ticket = t; least = least; spent = (made.0, made.1, refl) }));
+}
+
+-- memory was refused
+pub cut_short : (seat most calls : ℕ) (b n : BookState) (known : Known) (m : BookState) → SoloSoFar seat b calls n known → calls < most → m ≡ n → IsCutShort seat most b m
+cut_short seat most calls b n known m so fewer e = record { made = calls; known = known; run = subst (λ x. SoloRun seat calls b Nothing x known) (sym e) so.run; fewer = fewer }
+
+-- ---- answers of two kinds
+
+pub none_of : {X : Type 0} (P : Type 0) (Q : X → Type 0) (o : Option X) → MatchOption o P Q → ((x : X) → o ≡ Some x → ⊥) → P
+none_of P Q None h other = h
+none_of P Q (Some x) h other = absurd (other x refl)
+
+pub on_err : {X E : Type 0} (P : Type 0) (r : Result X E) → P → OnErr r P
+on_err P (Ok x) h = tt
+on_err P (Err e) h = h

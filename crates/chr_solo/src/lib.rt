@@ -1,0 +1,9 @@
+//! The run of one seat on a book.
+//!
+//! [`solo_steps`](solo::solo_steps) makes calls for one seat: each is for the least open ticket that no other seat holds, to
+//! that ticket's end. A ticket that waits or rests is claimed; then its trials are asked for and judged one by one; a whole
+//! one fires, another is reported, and where none is left the goal is dropped. So with one seat a book's log is fixed by its
+//! rules, its label limit, the atoms posted and the number of calls.
+#![tactic(auto)]
+
+pub mod solo;
