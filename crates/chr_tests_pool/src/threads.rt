@@ -10,8 +10,10 @@ use std::test::*;
 use std::thread;
 use std::thread::Threads;
 
-/// How many tasks each hand and the inlet push.
-const EACH: u64 = 1_000;
+/// How many tasks each hand pushes, and how many the inlet: with 16 hands 100,000 in all.
+const EACH: u64 = 6_000;
+
+const FED: u64 = 4_000;
 
 // Counts a task.
 fn count(seen: &[AtomicU64], task: u64) {
@@ -76,7 +78,7 @@ fn feed<R: Wait>(rt: &R, inlets: Vec<Inlet<u64>>, first: u64) -> Vec<Inlet<u64>>
     ensures { map inlet_id result.items ≡ map inlet_id inlets.items }
 {
     let mut inlets = inlets;
-    for k in 0..EACH {
+    for k in 0..FED {
         if !inlets.is_empty() {
             let _ = inlets[0].push(rt, first.wrapping_add(k));
         }
@@ -103,7 +105,7 @@ fn each_once<R: Threads + Wait + Sync>(
 {
     let (hands, inlets) = make::<u64>(alloc, count_of_hands, 1, EACH)?;
     let first = count_of_hands as u64 * EACH;
-    let seen = counters(alloc, first + EACH)?;
+    let seen = counters(alloc, first + FED)?;
     let tasks = seen.as_slice();
     let (inlets, hands) = thread::join(
         rt,
@@ -120,7 +122,7 @@ fn each_once<R: Threads + Wait + Sync>(
     for task in &tally.left {
         count(tasks, *task);
     }
-    Ok(tally.pushed == first + EACH && tasks.iter().all(|times| times.load(Ordering::SeqCst) == 1))
+    Ok(tally.pushed == first + FED && tasks.iter().all(|times| times.load(Ordering::SeqCst) == 1))
 }
 
 #[test]

@@ -6,11 +6,11 @@ use Rattle.chr_tests_pool.proofs.rows.answers.Goals as goal
 
 pub returns-then-hand-len-clause-hands : goal.returns-then-hand-len-clause-hands
 returns-then-hand-len-clause-hands g c =
-    map-set_same hand_id c.args.hands.now.items c.in-Push.hand c.push.new.self _ (c.push.ensures.same ∙ ap hand_id c.index_mut.ensures.value)
+    map-set_same hand_id c.args.hands.now.items c.in-Push.hand c.push.new.hand _ (c.push.ensures ∙ ap hand_id c.index_mut.ensures.value)
 
 pub returns-then-inlet-len-clause-inlets : goal.returns-then-inlet-len-clause-inlets
 returns-then-inlet-len-clause-inlets g c =
-    map-set_same inlet_id c.args.inlets.now.items c.in-Feed.inlet c.push-then-inlet-len.new.self _ (c.push-then-inlet-len.ensures.same ∙ ap inlet_id c.index_mut-then-inlet-len.ensures.value)
+    map-set_same inlet_id c.args.inlets.now.items c.in-Feed.inlet c.feed.new.inlet _ (c.feed.ensures ∙ ap inlet_id c.index_mut-then-inlet-len.ensures.value)
 
 pub returns-then-hand-len-2-clause-hands : goal.returns-then-hand-len-2-clause-hands
 returns-then-hand-len-2-clause-hands g c =

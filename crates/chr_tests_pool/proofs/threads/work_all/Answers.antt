@@ -1,4 +1,4 @@
-use Rattle.std.proofs.Common.{◌≡◌, ℕ, ◌<◌, length, get_or, sym, ap, ◌∙◌, arith}
+use Rattle.std.proofs.Common.{sym, ap, ◌∙◌, arith}
 use Rattle.chr_pool.specs.Hands.{hand_id}
 use Rattle.chr_tests_pool.proofs.Maps.{map_by_each}
 use Rattle.chr_tests_pool.proofs.threads.work_all.Goals as goal
