@@ -1,8 +1,8 @@
 //! Calls and their answers in one thread.
 //!
 //! A call that is refused memory has to leave all as it was, and is made once more. So each test passes where any one of
-//! its requests is refused, as `rt try --test --fail-alloc N` does with the Nth. A plain run refuses none. No allocator of
-//! a test can refuse one, since a pool takes its memory from `Global`.
+//! its requests is refused, as `rt try --test --fail-alloc N` does with the Nth request of each test. A plain run refuses
+//! none. No allocator of a test can refuse one, since a pool takes its memory from `Global`.
 ghost use Rattle.std.specs.Prelude.{◌≡◌, map, IfOk};
 ghost use Rattle.chr_pool.specs.Hands.{hand_id};
 ghost use Rattle.chr_pool.specs.Inlets.{inlet_id};

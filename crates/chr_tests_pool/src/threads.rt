@@ -10,9 +10,10 @@ use std::test::*;
 use std::thread;
 use std::thread::Threads;
 
-/// How many tasks each hand pushes, and how many the inlet: with 16 hands 100,000 in all.
+/// How many tasks each hand pushes.
 const EACH: u64 = 6_000;
 
+/// How many tasks the inlet pushes, so that 16 hands and the inlet push 100,000.
 const FED: u64 = 4_000;
 
 // Counts a task.
