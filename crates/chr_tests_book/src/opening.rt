@@ -1,0 +1,40 @@
+//! Books of programs whose names aren't all in the table.
+use chr_book::book::{Book, OpenFault};
+use chr_text::reading::{read_atoms, read_program};
+use chr_value::names::Names;
+use std::alloc::Global;
+
+/// What a book is answered to a program and the table of other posts, None where a text isn't read.
+fn opened(alloc: Global, program: &str, posts: &str) -> Option<Result<(), OpenFault>> {
+    let mut numbered = Names::new(alloc);
+    let program = read_program(alloc, program.as_bytes(), &mut numbered).ok()?;
+    let mut names = Names::new(alloc);
+    let _posts = read_atoms(alloc, posts.as_bytes(), &mut names).ok()?;
+    Some(Book::new(alloc, program, names, 10).map(|_| ()))
+}
+
+/// Programs, with posts of as many names, and of one name less.
+const ROWS: [(&str, &str, &str); 12] = [
+    ("a <=> true.", "a.", ""),
+    ("a(b) <=> true.", "a, b.", "a."),
+    ("a \\ b <=> true.", "a, b.", "a."),
+    ("b, a \\ a <=> true.", "a, b.", "a."),
+    ("a(b) \\ a <=> true.", "a, b.", "a."),
+    ("a <=> b == a | true.", "a, b.", "a."),
+    ("a <=> a \\== b | true.", "a, b.", "a."),
+    ("a <=> b.", "a, b.", "a."),
+    ("a <=> a, b.", "a, b.", "a."),
+    ("a <=> a(b).", "a, b.", "a."),
+    ("a <=> true. b <=> true.", "a, b.", "a."),
+    ("a(X) <=> X =< 1 | Y is X, a(Y).", "a.", ""),
+];
+
+#[test]
+fn names_outside_the_table(rt: HostRuntime) {
+    for (i, (program, whole, less)) in ROWS.iter().enumerate() {
+        let answer = opened(rt.alloc(), program, whole);
+        assert_eq!(rt; answer, Some(Ok(())), "row {i}");
+        let answer = opened(rt.alloc(), program, less);
+        assert_eq!(rt; answer, Some(Err(OpenFault::UnknownName)), "row {i}");
+    }
+}
