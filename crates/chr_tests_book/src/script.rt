@@ -1,6 +1,4 @@
 //! Calls on a book, with their answers in words.
-ghost use Rattle.std.specs.Prelude.{◌≤◌};
-
 use chr_book::book::Book;
 use chr_calls::answers::{TicketState, Turn};
 use chr_log::writing::{write_entries, write_labelled_atom};
