@@ -3,3 +3,4 @@ pub mod Posted
 pub mod Turns
 pub mod Lines
 pub mod StrictLogs
+pub mod Continued

@@ -1,3 +1,4 @@
 pub mod Books
 pub mod Texts
 pub mod Logs
+pub mod Shots

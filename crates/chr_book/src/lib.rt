@@ -18,6 +18,8 @@
 //! [`post_text`](book::Book::post_text) posts the atoms of a text, by the book's own names;
 //! [`store_lines`](book::Book::store_lines) and [`log_lines`](book::Book::log_lines) write the lines of the store and of the
 //! log; [`strict_log`](book::Book::strict_log) is the log with its drops after the other entries, where no ticket is open.
+//! [`shot`](book::Book::shot) is a copy of program, store and log, and [`continues`](book::Book::continues) tells whether a
+//! book goes on from one by the work of its seats alone.
 //!
 //! The contract of each call is its line of the table in `chr_calls`. The type keeps what makes every drop lawful, so at
 //! any time, after any calls by any seats, a book has the headline of `chr_calls`: its log is lawful and leads to its
@@ -30,5 +32,6 @@
 mod body;
 pub mod book;
 mod calls;
+pub mod shot;
 pub mod strict;
 pub mod texts;
