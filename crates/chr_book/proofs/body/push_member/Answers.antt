@@ -1,4 +1,4 @@
-use Rattle.std.proofs.Common.{◌≡◌, ◌++◌, ◌∷◌, [], List, map, sym, ap, subst, ◌∙◌}
+use Rattle.std.proofs.Common.{◌++◌, ◌∷◌, [], List, map, sym, ap, subst, ◌∙◌}
 use Rattle.std.specs.Prelude.{ℕ}
 use Rattle.std.proofs.lemmas.List.{append-nil}
 use Rattle.chr_value.specs.Atoms.{Atom}
