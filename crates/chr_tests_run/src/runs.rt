@@ -1,122 +1,262 @@
 //! Worked runs.
-use chr_first::first::{End, first_run};
-use chr_first::posts::run_posts;
-use chr_text::reading::{read_atoms, read_program};
-use chr_value::names::Names;
+use chr_first::first::first_run;
+use chr_lex::fault::{Kind, ReadFault};
+use chr_run_text::output::Show;
+use chr_run_text::running::{RunFault, RunOut, run_text};
+use chr_solo::solo::End;
 use std::alloc::Global;
+use std::test::Fail;
 
 const GCD: &[u8] =
     b"gcd(0) <=> true.\ngcd(N) \\ gcd(M) <=> 0 < N, N =< M | L is M mod N, gcd(L).\n";
 
 const TWICE: &[u8] = b"p(X), p(X) <=> q(X).";
 
-const STEPS: u64 = 1_000_000;
+const STEPS: u32 = 1_000_000;
 
-/// A program, posts, a number of steps, and what is printed.
-type Row<'r> = (&'r [u8], &'r [u8], u64, &'r [u8]);
+const GREATEST: u32 = 4_294_967_295;
 
-const ROWS: [Row; 17] = [
+/// The most calls of a run, its greatest label, and what is shown.
+type Options = (u32, u32, Show);
+
+const ALL: Options = (STEPS, GREATEST, Show::All);
+
+const STORE: Options = (STEPS, GREATEST, Show::Store);
+
+const LOG: Options = (STEPS, GREATEST, Show::Log);
+
+const STRICT: Options = (STEPS, GREATEST, Show::Strict);
+
+/// A program, posts, options, the end, and what is shown.
+type Row<'r> = (&'r [u8], &'r [u8], Options, End, &'r [u8]);
+
+const ROWS: [Row; 33] = [
     (
         GCD,
         b"gcd(9), gcd(6).",
-        STEPS,
+        ALL,
+        End::Quiet,
         b"quiet\nstore 1\n#3 gcd(3)\nlog 12\nP 1 gcd(9)\nP 2 gcd(6)\nA 1 1\nD 1\nA 2 2\nF 2 2 2\\1\nD 2\nA 3 3\nF 3 2 3\\2\nD 3\nA 4 4\nF 4 1 \\4\n",
+    ),
+    (GCD, b"gcd(9), gcd(6).", STORE, End::Quiet, b"#3 gcd(3)\n"),
+    (
+        GCD,
+        b"gcd(9), gcd(6).",
+        LOG,
+        End::Quiet,
+        b"chr-log 2\nP 1 gcd(9)\nP 2 gcd(6)\nA 1 1\nD 1\nA 2 2\nF 2 2 2\\1\nD 2\nA 3 3\nF 3 2 3\\2\nD 3\nA 4 4\nF 4 1 \\4\n",
     ),
     (
         GCD,
         b"gcd(9), gcd(6).",
-        0,
+        STRICT,
+        End::Quiet,
+        b"chr-log 1\nP 1 gcd(9)\nP 2 gcd(6)\nA 1 1\nA 2 2\nF 2 2 2\\1\nA 3 3\nF 3 2 3\\2\nA 4 4\nF 4 1 \\4\nD 1\nD 2\nD 3\n",
+    ),
+    (
+        GCD,
+        b"gcd(9), gcd(6).",
+        (0, GREATEST, Show::All),
+        End::Open,
         b"open\nstore 0\nlog 2\nP 1 gcd(9)\nP 2 gcd(6)\n",
     ),
     (
         GCD,
         b"gcd(9), gcd(6).",
-        1,
+        (1, GREATEST, Show::All),
+        End::Open,
         b"open\nstore 1\n#1 gcd(9)\nlog 3\nP 1 gcd(9)\nP 2 gcd(6)\nA 1 1\n",
     ),
     (
         GCD,
         b"gcd(9), gcd(6).",
-        9,
-        b"open\nstore 2\n#3 gcd(3)\n#4 gcd(0)\nlog 11\nP 1 gcd(9)\nP 2 gcd(6)\nA 1 1\nD 1\nA 2 2\nF 2 2 2\\1\nD 2\nA 3 3\nF 3 2 3\\2\nD 3\nA 4 4\n",
+        (1, GREATEST, Show::Store),
+        End::Open,
+        b"#1 gcd(9)\n",
+    ),
+    (
+        GCD,
+        b"gcd(9), gcd(6).",
+        (1, GREATEST, Show::Log),
+        End::Open,
+        b"chr-log 2\nP 1 gcd(9)\nP 2 gcd(6)\nA 1 1\n",
+    ),
+    (
+        GCD,
+        b"gcd(9), gcd(6).",
+        (1, GREATEST, Show::Strict),
+        End::Open,
+        b"",
+    ),
+    (
+        GCD,
+        b"gcd(4).",
+        (8, GREATEST, Show::All),
+        End::Open,
+        b"open\nstore 1\n#1 gcd(4)\nlog 2\nP 1 gcd(4)\nA 1 1\n",
+    ),
+    (
+        GCD,
+        b"gcd(4).",
+        (9, GREATEST, Show::All),
+        End::Quiet,
+        b"quiet\nstore 1\n#1 gcd(4)\nlog 3\nP 1 gcd(4)\nA 1 1\nD 1\n",
     ),
     (
         b"",
         b"a, b(2).",
-        STEPS,
+        ALL,
+        End::Quiet,
         b"quiet\nstore 2\n#1 a\n#2 b(2)\nlog 6\nP 1 a\nP 2 b(2)\nA 1 1\nD 1\nA 2 2\nD 2\n",
     ),
-    (GCD, b"", STEPS, b"quiet\nstore 0\nlog 0\n"),
-    (GCD, b"", 0, b"quiet\nstore 0\nlog 0\n"),
+    (GCD, b"", ALL, End::Quiet, b"quiet\nstore 0\nlog 0\n"),
+    (
+        GCD,
+        b"",
+        (0, GREATEST, Show::All),
+        End::Quiet,
+        b"quiet\nstore 0\nlog 0\n",
+    ),
+    (GCD, b"", STORE, End::Quiet, b""),
+    (GCD, b"", LOG, End::Quiet, b"chr-log 2\n"),
+    (GCD, b"", STRICT, End::Quiet, b"chr-log 1\n"),
     (
         TWICE,
         b"p(1).",
-        STEPS,
+        ALL,
+        End::Quiet,
         b"quiet\nstore 1\n#1 p(1)\nlog 3\nP 1 p(1)\nA 1 1\nD 1\n",
     ),
     (
         TWICE,
         b"p(1), p(1).",
-        STEPS,
+        ALL,
+        End::Quiet,
         b"quiet\nstore 1\n#3 q(1)\nlog 8\nP 1 p(1)\nP 2 p(1)\nA 1 1\nD 1\nA 2 2\nF 2 1 \\2,1\nA 3 3\nD 3\n",
     ),
     (
         b"min(N) \\ min(M) <=> N =< M | true.",
         b"min(3), min(1), min(2), min(1).",
-        STEPS,
+        ALL,
+        End::Quiet,
         b"quiet\nstore 1\n#4 min(1)\nlog 14\nP 1 min(3)\nP 2 min(1)\nP 3 min(2)\nP 4 min(1)\nA 1 1\nD 1\nA 2 2\nF 2 1 2\\1\nD 2\nA 3 3\nF 3 1 2\\3\nA 4 4\nF 4 1 4\\2\nD 4\n",
+    ),
+    (
+        b"inc(N) <=> M is N + 1, inc(M).",
+        b"inc(9223372036854775806).",
+        ALL,
+        End::Quiet,
+        b"quiet\nstore 1\n#2 inc(9223372036854775807)\nlog 5\nP 1 inc(9223372036854775806)\nA 1 1\nF 1 1 \\1\nA 2 2\nD 2\n",
+    ),
+    (
+        b"t(A,B) <=> C is A rem B, r(C).",
+        b"t(-9223372036854775808,-1).",
+        ALL,
+        End::Quiet,
+        b"quiet\nstore 1\n#2 r(0)\nlog 5\nP 1 t(-9223372036854775808,-1)\nA 1 1\nF 1 1 \\1\nA 2 2\nD 2\n",
+    ),
+    (
+        b"t(A,B) <=> C is A // B, r(C).",
+        b"t(-9223372036854775808,-1).",
+        ALL,
+        End::Quiet,
+        b"quiet\nstore 1\n#1 t(-9223372036854775808,-1)\nlog 3\nP 1 t(-9223372036854775808,-1)\nA 1 1\nD 1\n",
     ),
     (
         b"edge(X,Y), edge(Y,Z), node(Z) <=> path(X,Z).",
         b"edge(a,b), edge(b,c), node(c).",
-        STEPS,
+        ALL,
+        End::Quiet,
         b"quiet\nstore 1\n#4 path(a,c)\nlog 11\nP 1 edge(a,b)\nP 2 edge(b,c)\nP 3 node(c)\nA 1 1\nD 1\nA 2 2\nD 2\nA 3 3\nF 3 1 \\1,2,3\nA 4 4\nD 4\n",
     ),
     (
         b":- use_module(library(chr)).\n:- chr_constraint leq/2.\ndup @ leq(X,Y) \\ leq(X,Y) <=> true. % twice\nloop @ leq(X,X) <=> true.\n",
         b"leq(a,b), leq(a,b), leq(c,c).",
-        STEPS,
+        ALL,
+        End::Quiet,
         b"quiet\nstore 1\n#2 leq(a,b)\nlog 10\nP 1 leq(a,b)\nP 2 leq(a,b)\nP 3 leq(c,c)\nA 1 1\nD 1\nA 2 2\nF 2 1 2\\1\nD 2\nA 3 3\nF 3 2 \\3\n",
     ),
     (
         b"p(X) <=> Y is 3 -1, q(Y).",
         b"p(0).",
-        STEPS,
+        ALL,
+        End::Quiet,
         b"quiet\nstore 1\n#2 q(2)\nlog 5\nP 1 p(0)\nA 1 1\nF 1 1 \\1\nA 2 2\nD 2\n",
     ),
     (
         b"p(_,_) <=> q.",
         b"p(1,2).",
-        STEPS,
+        ALL,
+        End::Quiet,
         b"quiet\nstore 1\n#2 q\nlog 5\nP 1 p(1,2)\nA 1 1\nF 1 1 \\1\nA 2 2\nD 2\n",
     ),
     (
         b"p(X) <=> X \\== 1 | q.",
         b"p(a), p(1).",
-        STEPS,
+        ALL,
+        End::Quiet,
         b"quiet\nstore 2\n#2 p(1)\n#3 q\nlog 8\nP 1 p(a)\nP 2 p(1)\nA 1 1\nF 1 1 \\1\nA 2 2\nD 2\nA 3 3\nD 3\n",
     ),
     (
         b"edge(X,Y), edge(Y,Z), node(Z,Z) <=> true.",
         b"edge(1,4), edge(1,2), edge(2,3), edge(4,3), node(3,3).",
-        STEPS,
+        ALL,
+        End::Quiet,
         b"quiet\nstore 2\n#1 edge(1,4)\n#4 edge(4,3)\nlog 15\nP 1 edge(1,4)\nP 2 edge(1,2)\nP 3 edge(2,3)\nP 4 edge(4,3)\nP 5 node(3,3)\nA 1 1\nD 1\nA 2 2\nD 2\nA 3 3\nD 3\nA 4 4\nD 4\nA 5 5\nF 5 1 \\2,3,5\n",
     ),
     (
         b"edge(X,Y) \\ edge(Y,X) <=> true. node(X,Y) <=> true. node(X,X), edge(Y,Y) <=> true.",
         b"edge(1,2), edge(2,1), node(1,1), edge(3,3).",
-        STEPS,
+        ALL,
+        End::Quiet,
         b"quiet\nstore 2\n#2 edge(2,1)\n#4 edge(3,3)\nlog 13\nP 1 edge(1,2)\nP 2 edge(2,1)\nP 3 node(1,1)\nP 4 edge(3,3)\nA 1 1\nD 1\nA 2 2\nF 2 1 2\\1\nD 2\nA 3 3\nF 3 2 \\3\nA 4 4\nD 4\n",
+    ),
+    (
+        b"",
+        b"a, b, c, d.",
+        (STEPS, 3, Show::All),
+        End::Open,
+        b"open\nstore 3\n#1 a\n#2 b\n#3 c\nlog 10\nP 1 a\nP 2 b\nP 3 c\nP 4 d\nA 1 1\nD 1\nA 2 2\nD 2\nA 3 3\nD 3\n",
+    ),
+    (
+        b"",
+        b"a.",
+        (STEPS, 0, Show::All),
+        End::Open,
+        b"open\nstore 0\nlog 1\nP 1 a\n",
+    ),
+    (
+        b"",
+        b"a.",
+        (STEPS, 1, Show::All),
+        End::Quiet,
+        b"quiet\nstore 1\n#1 a\nlog 3\nP 1 a\nA 1 1\nD 1\n",
     ),
 ];
 
-/// Whether a run prints this, and ends as its first line says.
-fn is_printed(alloc: Global, row: &Row) -> bool {
-    let (program, posts, steps, text) = *row;
-    match first_run(alloc, program, posts, steps) {
-        Ok(made) => {
-            made.bytes.as_slice() == text && (made.end == End::Quiet) == text.starts_with(b"quiet")
-        }
+/// The run of two texts with these options.
+fn run(
+    alloc: Global,
+    program: &[u8],
+    posts: &[u8],
+    options: Options,
+) -> Result<RunOut<Global>, RunFault> {
+    let (steps, labels, show) = options;
+    run_text(
+        alloc,
+        program,
+        posts,
+        u64::from(steps),
+        u64::from(labels),
+        show,
+    )
+}
+
+/// Whether a run ends so and shows this.
+fn is_shown(alloc: Global, row: &Row) -> bool {
+    let (program, posts, options, end, text) = *row;
+    match run(alloc, program, posts, options) {
+        Ok(made) => made.end == end && made.bytes.as_slice() == text,
         Err(_) => false,
     }
 }
@@ -124,8 +264,104 @@ fn is_printed(alloc: Global, row: &Row) -> bool {
 #[test]
 fn worked_runs(rt: HostRuntime) {
     for (i, row) in ROWS.iter().enumerate() {
-        assert!(rt; is_printed(rt.alloc(), row), "row {i}");
+        assert!(rt; is_shown(rt.alloc(), row), "row {i}");
     }
+}
+
+/// Whether the plain run and the run on a book print the same of two texts.
+fn is_agreed(alloc: Global, program: &[u8], posts: &[u8]) -> bool {
+    let plain = first_run(alloc, program, posts, u64::from(STEPS));
+    match (plain, run(alloc, program, posts, ALL)) {
+        (Ok(plain), Ok(made)) => plain.bytes.as_slice() == made.bytes.as_slice(),
+        _ => false,
+    }
+}
+
+#[test]
+fn book_and_first_run_agree(rt: HostRuntime) {
+    let texts: [(&[u8], &[u8]); 9] = [
+        (GCD, b"gcd(9), gcd(6)."),
+        (b"", b"a, b(2)."),
+        (GCD, b""),
+        (TWICE, b"p(1)."),
+        (TWICE, b"p(1), p(1)."),
+        (
+            b"min(N) \\ min(M) <=> N =< M | true.",
+            b"min(3), min(1), min(2), min(1).",
+        ),
+        (
+            b"inc(N) <=> M is N + 1, inc(M).",
+            b"inc(9223372036854775806).",
+        ),
+        (
+            b"t(A,B) <=> C is A rem B, r(C).",
+            b"t(-9223372036854775808,-1).",
+        ),
+        (
+            b"t(A,B) <=> C is A // B, r(C).",
+            b"t(-9223372036854775808,-1).",
+        ),
+    ];
+    for (i, (program, posts)) in texts.iter().enumerate() {
+        assert!(rt; is_agreed(rt.alloc(), program, posts), "texts {i}");
+    }
+}
+
+/// The fault of a text of rules.
+fn of_program(kind: Kind, line: u32) -> RunFault {
+    RunFault::Program(ReadFault { kind, line })
+}
+
+/// The fault of a text of posts.
+fn of_posts(kind: Kind, line: u32) -> RunFault {
+    RunFault::Posts(ReadFault { kind, line })
+}
+
+#[test]
+fn texts_at_fault(rt: HostRuntime) {
+    let table: [(&[u8], &[u8], RunFault); 8] = [
+        (b"a ==> b.", b"", of_program(Kind::Propagation, 1)),
+        (
+            b"p(99999999999999999999) ==> q(Y).",
+            b"",
+            of_program(Kind::Propagation, 1),
+        ),
+        (
+            b"% one\n% two\n% three\np(X) <=> q(Y).",
+            b"",
+            of_program(Kind::Binding, 4),
+        ),
+        (
+            b"p(9223372036854775808) <=> true.",
+            b"",
+            of_program(Kind::NumberRange, 1),
+        ),
+        (b"p(X) <=> q(X)", b"", of_program(Kind::Syntax, 1)),
+        (b"a ==> b.", b"p(X).", of_program(Kind::Propagation, 1)),
+        (b"a <=> b.", b"\np(X).", of_posts(Kind::Binding, 2)),
+        (b"a <=> b.", b"a", of_posts(Kind::Syntax, 1)),
+    ];
+    for (i, (program, posts, wanted)) in table.iter().enumerate() {
+        match run(rt.alloc(), program, posts, ALL) {
+            Ok(_) => assert!(rt; false, "texts {i}"),
+            Err(fault) => assert_eq!(rt; fault, *wanted, "texts {i}"),
+        }
+    }
+}
+
+#[test]
+fn texts_up_to_their_limit(rt: HostRuntime) -> Result<(), Fail> {
+    let mut blanks = Vec::new(rt.alloc());
+    blanks.resize(65_536, b' ')?;
+    let made = run(rt.alloc(), &blanks, b"a.", ALL).ok();
+    assert!(rt; made.is_some_and(|made| made.end == End::Quiet));
+    blanks.push(b' ')?;
+    let long = blanks.as_slice();
+    let fault = run(rt.alloc(), long, b"", ALL).err();
+    assert_eq!(rt; fault, Some(of_program(Kind::TooLong, 0)));
+    let fault = run(rt.alloc(), b"", long, ALL).err();
+    assert_eq!(rt; fault, Some(of_posts(Kind::TooLong, 0)));
+    Ok(())
 }
 
 /// An expression in `A` and `B`, the values of both, and the one atom that is left when `t(A,B)` may become `r(C)`.
@@ -162,7 +398,7 @@ fn is_left(alloc: Global, expression: &str, values: &str, left: &str) -> Option<
     let program = format!(in alloc; "t(A,B) <=> C is {expression}, r(C).").ok()?;
     let posts = format!(in alloc; "t({values}).").ok()?;
     let begin = format!(in alloc; "quiet\nstore 1\n{left}\nlog ").ok()?;
-    let made = first_run(alloc, program.as_bytes(), posts.as_bytes(), STEPS).ok()?;
+    let made = run(alloc, program.as_bytes(), posts.as_bytes(), ALL).ok()?;
     Some(made.bytes.as_slice().starts_with(begin.as_bytes()))
 }
 
@@ -172,18 +408,4 @@ fn worked_expressions(rt: HostRuntime) {
         let is = is_left(rt.alloc(), expression, values, left);
         assert_eq!(rt; is, Some(true), "{expression} at {values}");
     }
-}
-
-/// How many atoms, goals' events and labels a run of four posts has that may give three labels.
-fn with_three_labels(alloc: Global) -> Option<(bool, usize, usize)> {
-    let mut names = Names::new(alloc);
-    let program = read_program(alloc, b"", &mut names).ok()?;
-    let posts = read_atoms(alloc, b"a, b, c, d.", &mut names).ok()?;
-    let run = run_posts(alloc, program, posts, STEPS, 3).ok()?;
-    Some((run.is_quiet(), run.store().len(), run.entries().len()))
-}
-
-#[test]
-fn no_label_above_the_greatest(rt: HostRuntime) {
-    assert_eq!(rt; with_three_labels(rt.alloc()), Some((false, 3, 10)));
 }
