@@ -1,16 +1,35 @@
 //! The command line of `chr`.
+use chr_run_text::output::Show;
 use clap::error::ErrorKind;
-use clap::{Arg, ArgAction, Command, Error};
+use clap::{Arg, ArgAction, ArgMatches, Command, Error, value_parser};
 use std::alloc::{AllocError, Global};
 use std::convert::AsStr;
+
+/// The range of the number of calls and of the greatest label, as errors and the help name it.
+const RANGE: &str = "0..4294967295";
+
+/// What `--show` may ask for.
+const SHOWN: [&str; 4] = ["all", "store", "log", "strict"];
+
+/// The options of a run.
+#[derive(Clone, Copy, Debug, PartialEq, Eq)]
+pub struct RunOptions {
+    /// How many calls are made at most.
+    pub steps: u32,
+    /// The greatest label that may be given.
+    pub labels: u32,
+    /// What is shown of the run.
+    pub show: Show,
+}
 
 /// What the command line asks for.
 #[derive(Clone, Copy, Debug, PartialEq, Eq)]
 pub enum Request<'a> {
-    /// `chr run FILE POSTS`
+    /// `chr run FILE POSTS [--steps K] [--labels N] [--show all|store|log|strict]`
     Run {
         file: &'a str,
         posts: &'a str,
+        options: RunOptions,
     },
     /// `chr check FILE LOG STORE`
     Check {
@@ -28,12 +47,48 @@ fn required<'a>(alloc: Global, name: &'a str, help: &'a str) -> Arg<'a> {
         .help(help)
 }
 
-/// Returns the commands of the program with their arguments.
-fn command<'a>(alloc: Global) -> Result<Command<'a>, AllocError> {
-    let run = Command::new(alloc, "run")
+/// Returns an option whose value is a number of 32 bits without sign.
+fn number<'a>(alloc: Global, name: &'a str, default: &'a str, help: &'a str) -> Arg<'a> {
+    Arg::new(alloc, name)
+        .long(name)
+        .value_name(RANGE)
+        .value_parser(value_parser!(u32))
+        .allow_negative_numbers(true)
+        .default_value(default)
+        .action(ArgAction::Set)
+        .help(help)
+}
+
+/// Returns the command `run` with its arguments.
+fn run_command<'a>(alloc: Global) -> Result<Command<'a>, AllocError> {
+    Command::new(alloc, "run")
         .about("Runs rules on posted constraints, and prints the store and the log")
         .arg(required(alloc, "FILE", "The rules"))?
-        .arg(required(alloc, "POSTS", "The constraints to post"))?;
+        .arg(required(alloc, "POSTS", "The constraints to post"))?
+        .arg(number(alloc, "steps", "1000000", "How many calls are made at most"))?
+        .arg(number(
+            alloc,
+            "labels",
+            "4294967295",
+            "The greatest label that may be given",
+        ))?
+        .arg(
+            Arg::new(alloc, "show")
+                .long("show")
+                .value_name("all|store|log|strict")
+                .value_parser(SHOWN.as_slice())
+                .hide_possible_values(true)
+                .default_value("all")
+                .action(ArgAction::Set)
+                .help(
+                    "What is printed: all of the end, the store and the log, or one part; `strict` is the log with its drops after its other entries, and nothing where the run ends open",
+                ),
+        )
+}
+
+/// Returns the commands of the program with their arguments.
+fn command<'a>(alloc: Global) -> Result<Command<'a>, AllocError> {
+    let run = run_command(alloc)?;
     let check = Command::new(alloc, "check")
         .about(
             "Checks whether a log is that of a run of rules, and whether the run ends in a store",
@@ -54,6 +109,26 @@ fn command<'a>(alloc: Global) -> Result<Command<'a>, AllocError> {
         .subcommand(check)
 }
 
+/// What a value of `--show` asks for.
+fn show_of(word: &str) -> Option<Show> {
+    match word {
+        "all" => Some(Show::All),
+        "store" => Some(Show::Store),
+        "log" => Some(Show::Log),
+        "strict" => Some(Show::Strict),
+        _ => None,
+    }
+}
+
+/// Returns the options of a run.
+fn run_options(run: &ArgMatches) -> Option<RunOptions> {
+    Some(RunOptions {
+        steps: run.get_one("steps")?,
+        labels: run.get_one("labels")?,
+        show: show_of(run.get_str("show")?)?,
+    })
+}
+
 /// Reads the words of a command line, the program's own name first.
 ///
 /// Help that is asked for is an `Err` too, with exit code 0; it is printed to standard output.
@@ -61,8 +136,16 @@ pub fn read<'a, S: AsStr>(alloc: Global, words: &'a [S]) -> Result<Request<'a>, 
     let mut command = command(alloc)?;
     let matches = command.try_get_matches_from_mut(words)?;
     if let Some(("run", run)) = matches.subcommand() {
-        if let (Some(file), Some(posts)) = (run.get_str("FILE"), run.get_str("POSTS")) {
-            return Ok(Request::Run { file, posts });
+        if let (Some(file), Some(posts), Some(options)) = (
+            run.get_str("FILE"),
+            run.get_str("POSTS"),
+            run_options(run),
+        ) {
+            return Ok(Request::Run {
+                file,
+                posts,
+                options,
+            });
         }
     }
     if let Some(("check", check)) = matches.subcommand() {
@@ -79,34 +162,113 @@ pub fn read<'a, S: AsStr>(alloc: Global, words: &'a [S]) -> Result<Request<'a>, 
 
 #[cfg(test)]
 mod tests {
-    use super::{Request, read};
+    use super::{Request, RunOptions, read};
+    use chr_run_text::output::Show;
     use clap::error::ErrorKind;
     use std::test::*;
 
+    const DEFAULTS: RunOptions = RunOptions {
+        steps: 1_000_000,
+        labels: 4_294_967_295,
+        show: Show::All,
+    };
+
+    /// The words of a run with options, and what they ask for.
+    const OPTIONS: [(&[&str], RunOptions); 10] = [
+        (&["chr", "run", "rules", "posts"], DEFAULTS),
+        (
+            &["chr", "run", "rules", "posts", "--steps", "0"],
+            RunOptions {
+                steps: 0,
+                labels: 4_294_967_295,
+                show: Show::All,
+            },
+        ),
+        (
+            &["chr", "run", "--steps=4294967295", "rules", "posts"],
+            RunOptions {
+                steps: 4_294_967_295,
+                labels: 4_294_967_295,
+                show: Show::All,
+            },
+        ),
+        (
+            &["chr", "run", "rules", "--labels", "0", "posts"],
+            RunOptions {
+                steps: 1_000_000,
+                labels: 0,
+                show: Show::All,
+            },
+        ),
+        (
+            &["chr", "run", "rules", "posts", "--labels", "4294967295"],
+            DEFAULTS,
+        ),
+        (&["chr", "run", "--show", "all", "rules", "posts"], DEFAULTS),
+        (
+            &["chr", "run", "rules", "posts", "--show", "store"],
+            RunOptions {
+                steps: 1_000_000,
+                labels: 4_294_967_295,
+                show: Show::Store,
+            },
+        ),
+        (
+            &["chr", "run", "rules", "posts", "--show=log"],
+            RunOptions {
+                steps: 1_000_000,
+                labels: 4_294_967_295,
+                show: Show::Log,
+            },
+        ),
+        (
+            &[
+                "chr", "run", "--show", "strict", "rules", "--labels", "7", "posts", "--steps", "5",
+            ],
+            RunOptions {
+                steps: 5,
+                labels: 7,
+                show: Show::Strict,
+            },
+        ),
+        (
+            &[
+                "chr", "run", "--labels", "7", "--steps", "5", "--show", "strict", "rules", "posts",
+            ],
+            RunOptions {
+                steps: 5,
+                labels: 7,
+                show: Show::Strict,
+            },
+        ),
+    ];
+
     #[test]
-    fn commands(rt: HostRuntime) {
-        let table: [(&[&str], Request); 2] = [
-            (
-                &["chr", "run", "rules", "posts"],
-                Request::Run {
-                    file: "rules",
-                    posts: "posts",
-                },
-            ),
-            (
-                &["chr", "check", "rules", "log", "store"],
-                Request::Check {
-                    file: "rules",
-                    log: "log",
-                    store: "store",
-                },
-            ),
-        ];
-        for (words, wanted) in &table {
+    fn runs(rt: HostRuntime) {
+        for (i, (words, options)) in OPTIONS.iter().enumerate() {
+            let wanted = Request::Run {
+                file: "rules",
+                posts: "posts",
+                options: *options,
+            };
             match read(rt.alloc(), words) {
-                Ok(request) => assert!(rt; request == *wanted),
-                Err(_) => assert!(rt; false),
+                Ok(request) => assert!(rt; request == wanted, "words {i}"),
+                Err(_) => assert!(rt; false, "words {i}"),
             }
+        }
+    }
+
+    #[test]
+    fn checks(rt: HostRuntime) {
+        let wanted = Request::Check {
+            file: "rules",
+            log: "log",
+            store: "store",
+        };
+        let words: &[&str] = &["chr", "check", "rules", "log", "store"];
+        match read(rt.alloc(), words) {
+            Ok(request) => assert!(rt; request == wanted),
+            Err(_) => assert!(rt; false),
         }
     }
 
@@ -153,5 +315,94 @@ mod tests {
                 }
             }
         }
+    }
+
+    /// Words of a run whose options are refused, and how the text of the error begins.
+    const REFUSED: [(&[&str], ErrorKind, &str); 10] = [
+        (
+            &["chr", "run", "rules", "posts", "--steps", "4294967296"],
+            ErrorKind::ValueValidation,
+            "error: invalid value '4294967296' for '--steps <0..4294967295>': 4294967296 is not in 0..=4294967295\n",
+        ),
+        (
+            &["chr", "run", "rules", "posts", "--steps", "-1"],
+            ErrorKind::ValueValidation,
+            "error: invalid value '-1' for '--steps <0..4294967295>': -1 is not in 0..=4294967295\n",
+        ),
+        (
+            &["chr", "run", "rules", "posts", "--steps", "many"],
+            ErrorKind::ValueValidation,
+            "error: invalid value 'many' for '--steps <0..4294967295>': invalid digit found in string\n",
+        ),
+        (
+            &["chr", "run", "rules", "posts", "--labels", "4294967296"],
+            ErrorKind::ValueValidation,
+            "error: invalid value '4294967296' for '--labels <0..4294967295>': 4294967296 is not in 0..=4294967295\n",
+        ),
+        (
+            &[
+                "chr",
+                "run",
+                "--labels",
+                "99999999999999999999",
+                "rules",
+                "posts",
+            ],
+            ErrorKind::ValueValidation,
+            "error: invalid value '99999999999999999999' for '--labels <0..4294967295>': number too large to fit in target type\n",
+        ),
+        (
+            &["chr", "run", "rules", "posts", "--show", "goals"],
+            ErrorKind::InvalidValue,
+            "error: invalid value 'goals' for '--show <all|store|log|strict>'\n  [possible values: all, store, log, strict]\n",
+        ),
+        (
+            &[
+                "chr", "run", "rules", "posts", "--steps", "1", "--steps", "1",
+            ],
+            ErrorKind::ArgumentConflict,
+            "error: the argument '--steps <0..4294967295>' cannot be used multiple times\n",
+        ),
+        (
+            &[
+                "chr",
+                "run",
+                "--labels",
+                "1",
+                "rules",
+                "posts",
+                "--labels=2",
+            ],
+            ErrorKind::ArgumentConflict,
+            "error: the argument '--labels <0..4294967295>' cannot be used multiple times\n",
+        ),
+        (
+            &[
+                "chr", "run", "--show", "log", "rules", "posts", "--show", "log",
+            ],
+            ErrorKind::ArgumentConflict,
+            "error: the argument '--show <all|store|log|strict>' cannot be used multiple times\n",
+        ),
+        (
+            &["chr", "run", "rules", "posts", "--steps"],
+            ErrorKind::InvalidValue,
+            "error: a value is required for '--steps <0..4294967295>' but none was supplied\n",
+        ),
+    ];
+
+    #[test]
+    fn options_at_fault(rt: HostRuntime) -> Result<(), Fail> {
+        for (words, kind, wanted) in REFUSED {
+            match read(rt.alloc(), words) {
+                Ok(_) => assert!(rt; false),
+                Err(error) => {
+                    assert!(rt; error.kind() == kind);
+                    assert_eq!(rt; error.exit_code(), 2);
+                    let text = format!(in rt.alloc(); "{error}")?;
+                    assert!(rt; text.as_str().starts_with(wanted));
+                }
+            }
+        }
+        Ok(())
     }
 }

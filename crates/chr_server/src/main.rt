@@ -1,6 +1,7 @@
 //! The program `chr`: runs Constraint Handling Rules on constraints, and checks the log of a run, all from files.
 //!
-//! `chr run FILE POSTS` posts the constraints of POSTS, runs the rules of FILE on them, and prints the store and the log.
+//! `chr run FILE POSTS` posts the constraints of POSTS, runs the rules of FILE on them, and prints the store and the log,
+//! or one of them; options limit the calls that are made and the labels that are given.
 //! `chr check FILE LOG STORE` prints whether LOG is the log of a run of the rules of FILE that ends in STORE. The exit
 //! status is 0 where no goal is open at the end of the run or the log is one of a run, 1 for a fault in a text or a log
 //! that is refused, 2 for a wrong command line or a file that can't be read, 3 where goals are open at the end of the
@@ -56,7 +57,13 @@ fn main(rt: HostRuntime) -> ExitCode {
         Err(error) => return report::report_failure(&rt, detail, "the command line", &error).code(),
     };
     let status = match command_line::read(rt.alloc(), words.as_slice()) {
-        Ok(Request::Run { file, posts }) => run::run(&rt, detail, file, posts),
+        Ok(
+            Request::Run {
+                file,
+                posts,
+                options,
+            },
+        ) => run::run(&rt, detail, file, posts, options),
         Ok(Request::Check { file, log, store }) => check::check(&rt, detail, file, log, store),
         Err(error) => print_usage(&rt, detail, &error),
     };

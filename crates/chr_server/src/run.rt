@@ -1,13 +1,12 @@
 //! `chr run`.
+use crate::command_line::RunOptions;
 use crate::files::{MOST_TEXT, fetch};
-use crate::first::{End, FirstFault, first_run};
 use crate::message::{Detail, Fault, Source, Text};
 use crate::report::{Status, report_failure, report_fault, report_no_memory};
+use chr_run_text::running::{RunFault, run_text};
+use chr_solo::solo::End;
 use std::io::{self, Write};
 use std::rt::Files;
-
-/// The limit on the steps of a run.
-const STEPS: u64 = 1_000_000;
 
 /// Writes what a run gives to standard output.
 fn print(rt: &(impl Print + Eprint), detail: Detail, bytes: &[u8], end: End) -> Status {
@@ -20,13 +19,39 @@ fn print(rt: &(impl Print + Eprint), detail: Detail, bytes: &[u8], end: End) -> 
     }
 }
 
-/// Runs the rules of the file `file` on the constraints of the file `posts`, and writes the store and the log to
+/// Runs the rules of one text on the constraints of the other, and writes what the options ask for to standard output.
+/// After a fault nothing is written there.
+fn run_sources<R: Print + Eprint + AllocGlobal>(
+    rt: &R,
+    detail: Detail,
+    program: Source<'_>,
+    posts: Source<'_>,
+    options: RunOptions,
+) -> Status {
+    let (steps, labels) = (u64::from(options.steps), u64::from(options.labels));
+    match run_text(
+        rt.alloc(),
+        program.bytes,
+        posts.bytes,
+        steps,
+        labels,
+        options.show,
+    ) {
+        Ok(made) => print(rt, detail, &made.bytes, made.end),
+        Err(RunFault::Program(fault)) => report_fault(rt, detail, program, Fault::Read(fault)),
+        Err(RunFault::Posts(fault)) => report_fault(rt, detail, posts, Fault::Read(fault)),
+        Err(RunFault::Memory) => report_no_memory(rt, detail),
+    }
+}
+
+/// Runs the rules of the file `file` on the constraints of the file `posts`, and writes what the options ask for to
 /// standard output. After a fault nothing is written there.
 pub fn run<R: Files + Print + Eprint + AllocGlobal>(
     rt: &R,
     detail: Detail,
     file: &str,
     posts: &str,
+    options: RunOptions,
 ) -> Status {
     let program = match fetch(rt, file, MOST_TEXT) {
         Ok(bytes) => bytes,
@@ -36,43 +61,74 @@ pub fn run<R: Files + Print + Eprint + AllocGlobal>(
         Ok(bytes) => bytes,
         Err(error) => return report_failure(rt, detail, posts, &error),
     };
-    match first_run(rt.alloc(), &program, &posted, STEPS) {
-        Ok(first) => print(rt, detail, &first.bytes, first.end),
-        Err(FirstFault::Program(fault)) => {
-            let source = Source {
-                text: Text::Program,
-                path: file,
-                bytes: &program,
-            };
-            report_fault(rt, detail, source, Fault::Read(fault))
-        }
-        Err(FirstFault::Posts(fault)) => {
-            let source = Source {
-                text: Text::Posts,
-                path: posts,
-                bytes: &posted,
-            };
-            report_fault(rt, detail, source, Fault::Read(fault))
-        }
-        Err(FirstFault::Memory) => report_no_memory(rt, detail),
-    }
+    let program = Source {
+        text: Text::Program,
+        path: file,
+        bytes: &program,
+    };
+    let posted = Source {
+        text: Text::Posts,
+        path: posts,
+        bytes: &posted,
+    };
+    run_sources(rt, detail, program, posted, options)
 }
 
 #[cfg(test)]
 mod tests {
-    use super::run;
-    use crate::message::Detail;
+    use super::{run, run_sources};
+    use crate::command_line::RunOptions;
+    use crate::message::{Detail, Source, Text};
     use crate::report::Status;
+    use chr_run_text::output::Show;
     use std::test::*;
 
     #[test]
     fn a_file_that_is_not_there(rt: HostRuntime) {
+        let options = RunOptions {
+            steps: 0,
+            labels: 0,
+            show: Show::All,
+        };
         let status = run(
             &rt,
             Detail::Line,
             "there-is-no-such-file.chr",
             "nor-this.txt",
+            options,
         );
         assert!(rt; status == Status::Usage);
+    }
+
+    #[test]
+    fn statuses(rt: HostRuntime) {
+        for (program, posts, steps, labels, show, wanted) in [
+            ("a <=> b.", "a.", 1_000_000, 4, Show::All, Status::Done),
+            ("a <=> b.", "a.", 1_000_000, 4, Show::Strict, Status::Done),
+            ("a <=> b.", "", 0, 0, Show::Store, Status::Done),
+            ("a <=> b.", "a.", 1, 4, Show::All, Status::Open),
+            ("a <=> b.", "a.", 1, 4, Show::Strict, Status::Open),
+            ("a <=> b.", "a.", 1_000_000, 1, Show::Log, Status::Open),
+            ("a ==> b.", "a.", 1_000_000, 4, Show::All, Status::Fault),
+            ("a <=> b.", "a", 1_000_000, 4, Show::All, Status::Fault),
+        ] {
+            let program = Source {
+                text: Text::Program,
+                path: "rules",
+                bytes: program.as_bytes(),
+            };
+            let posts = Source {
+                text: Text::Posts,
+                path: "posts",
+                bytes: posts.as_bytes(),
+            };
+            let options = RunOptions {
+                steps,
+                labels,
+                show,
+            };
+            let status = run_sources(&rt, Detail::Line, program, posts, options);
+            assert!(rt; status == wanted);
+        }
     }
 }
