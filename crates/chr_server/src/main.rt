@@ -11,7 +11,6 @@
 mod check;
 mod command_line;
 mod files;
-pub mod first;
 mod message;
 mod report;
 mod run;

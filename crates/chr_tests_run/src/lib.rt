@@ -1,7 +1,8 @@
 //! Tests of whole runs, from the bytes of two texts to the bytes printed.
 //!
-//! Contracts leave the order of rules, heads and partners open, so a run may end in several ways. The tests fix the
-//! answers of this program: worked programs with their output, byte by byte, and the values of worked expressions.
+//! The contract of a whole run fixes its bytes by relations. The tests show them: worked programs with their output, byte
+//! by byte, by each way to show a run and up to each limit that its options give; the values of worked expressions; and
+//! texts that can't be read.
 #![tactic(auto)]
 
 #[cfg(test)]

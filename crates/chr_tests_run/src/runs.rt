@@ -1,5 +1,4 @@
 //! Worked runs.
-use chr_first::first::first_run;
 use chr_lex::fault::{Kind, ReadFault};
 use chr_run_text::output::Show;
 use chr_run_text::running::{RunFault, RunOut, run_text};
@@ -265,45 +264,6 @@ fn is_shown(alloc: Global, row: &Row) -> bool {
 fn worked_runs(rt: HostRuntime) {
     for (i, row) in ROWS.iter().enumerate() {
         assert!(rt; is_shown(rt.alloc(), row), "row {i}");
-    }
-}
-
-/// Whether the plain run and the run on a book print the same of two texts.
-fn is_agreed(alloc: Global, program: &[u8], posts: &[u8]) -> bool {
-    let plain = first_run(alloc, program, posts, u64::from(STEPS));
-    match (plain, run(alloc, program, posts, ALL)) {
-        (Ok(plain), Ok(made)) => plain.bytes.as_slice() == made.bytes.as_slice(),
-        _ => false,
-    }
-}
-
-#[test]
-fn book_and_first_run_agree(rt: HostRuntime) {
-    let texts: [(&[u8], &[u8]); 9] = [
-        (GCD, b"gcd(9), gcd(6)."),
-        (b"", b"a, b(2)."),
-        (GCD, b""),
-        (TWICE, b"p(1)."),
-        (TWICE, b"p(1), p(1)."),
-        (
-            b"min(N) \\ min(M) <=> N =< M | true.",
-            b"min(3), min(1), min(2), min(1).",
-        ),
-        (
-            b"inc(N) <=> M is N + 1, inc(M).",
-            b"inc(9223372036854775806).",
-        ),
-        (
-            b"t(A,B) <=> C is A rem B, r(C).",
-            b"t(-9223372036854775808,-1).",
-        ),
-        (
-            b"t(A,B) <=> C is A // B, r(C).",
-            b"t(-9223372036854775808,-1).",
-        ),
-    ];
-    for (i, (program, posts)) in texts.iter().enumerate() {
-        assert!(rt; is_agreed(rt.alloc(), program, posts), "texts {i}");
     }
 }
 
