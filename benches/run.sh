@@ -1,0 +1,68 @@
+#!/usr/bin/env bash
+# Prints, as a table in Markdown, how many firings a second `chr run` makes and how many bytes of memory an entry of its log
+# takes, for three programs at two sizes each, ten times apart: a chain of firings over two constraints, the primes up to a
+# number, and a union-find of so many elements. Run it by hand, on an idle machine.
+# The time is the best of five runs with `--show store`, less the best of five that make no calls; the memory is the most
+# that such a run had at once, less that of one that makes no calls. So store and tickets count as bytes of the entries.
+set -eu
+top=$(cd "$(dirname "${BASH_SOURCE[0]}")/.." && pwd)
+work=$(mktemp -d)
+trap 'rm -rf "$work"' EXIT
+program=$top/crates/chr_server/out/chr_server
+most=4294967295
+
+chain() {
+  echo 'gcd(0) <=> true.'
+  echo 'gcd(N) \ gcd(M) <=> 0 < N, N =< M | L is M - N, gcd(L).'
+  echo "gcd(1), gcd($1)." >&3
+}
+
+primes() {
+  echo 'candidate(1) <=> true.'
+  echo 'candidate(N) <=> 1 < N | M is N - 1, prime(N), candidate(M).'
+  echo 'prime(I) \ prime(J) <=> J mod I =:= 0 | true.'
+  echo "candidate($1)." >&3
+}
+
+union_find() {
+  echo 'make(A) <=> root(A).'
+  echo 'union(A,A) <=> true.'
+  echo 'up(A,B) \ union(A,C) <=> union(B,C).'
+  echo 'up(A,B) \ union(C,A) <=> union(C,B).'
+  echo 'root(A) \ root(B), union(A,B) <=> up(B,A).'
+  seq -f 'make(%.0f).' "$1" >&3
+  seq "$(($1 - 1))" | awk '{ print "union(" $1 "," $1 + 1 ")." }' >&3
+}
+
+# Prints the nanoseconds of the fastest of five runs of at most so many calls, and the kilobytes of the last.
+cost() {
+  local best=0 start spent
+  for _ in 1 2 3 4 5; do
+    start=$(date +%s%N)
+    "$program" run "$work/rules" "$work/posts" --steps "$1" --show store >"$work/store" || [ $? = 3 ]
+    spent=$(($(date +%s%N) - start))
+    [ "$best" != 0 ] && [ "$best" -le "$spent" ] || best=$spent
+  done
+  /usr/bin/time -q -f %M -o "$work/memory" "$program" run "$work/rules" "$work/posts" --steps "$1" --show store >"$work/store" || [ $? = 3 ]
+  echo "$best $(cat "$work/memory")"
+}
+
+# Prints the row of a program at a size.
+row() {
+  "$1" "$2" >"$work/rules" 3>"$work/posts"
+  "$program" run "$work/rules" "$work/posts" --steps $most --show log >"$work/log"
+  echo "$1 $2 $(grep -c '^F ' "$work/log") $(grep -c '^[PAFD] ' "$work/log") $(cost 0) $(cost $most)"
+}
+
+"$top/chr" --help >/dev/null
+echo "| Program | Size | Firings | Entries | Firings a second | Bytes an entry |"
+echo "|---|---|---|---|---|---|"
+for made in "chain 200" "chain 2000" "primes 30" "primes 300" "union_find 50" "union_find 500"; do
+  # shellcheck disable=SC2086
+  row $made
+done | awk '{
+  spent = $7 - $5
+  rate = spent > 0 ? sprintf("%.0f", $3 * 1e9 / spent) : "too fast to tell"
+  printf "| %s | %d | %d | %d | %s | %.0f |\n", $1, $2, $3, $4, rate, ($8 - $6) * 1024 / $4
+  fflush()
+}'
