@@ -1,12 +1,11 @@
 -- What was read, posted and run is a run of two texts.
-use Rattle.std.proofs.Common.{◌≡◌, ℕ, ◌↔◌, List, [], Ok, Err, refl, sym, ap, subst, ◌∙◌}
-use Rattle.chr_value.specs.Atoms.{Atom}
+use Rattle.std.proofs.Common.{◌≡◌, ℕ, ◌↔◌, List, Ok, Err, ap, subst, ◌∙◌}
 use Rattle.chr_rule.specs.Rules.{Simpagation}
 use Rattle.chr_lex.specs.declared.fault.ReadFault.{ReadFault}
 use Rattle.chr_model.specs.Logs.{posted_by}
 use Rattle.chr_model.specs.Programs.{Instances}
 use Rattle.chr_model.specs.Stores.{Final}
-use Rattle.chr_text.specs.Reading.{program_of, posts_of}
+use Rattle.chr_text.specs.Reading.{posts_of}
 use Rattle.chr_calls.specs.Tickets.{AreQuiet}
 use Rattle.chr_calls.specs.Books.{BookState, opened, events}
 use Rattle.chr_calls.specs.Calls.{all_posted}

@@ -2,7 +2,6 @@
 use Rattle.std.specs.Prelude.{◌≡◌, ℕ, ◌↔◌, List, [], Result, Ok, Err}
 use Rattle.chr_value.specs.Atoms.{Atom}
 use Rattle.chr_rule.specs.Rules.{Simpagation}
-use Rattle.chr_lex.specs.declared.fault.ReadFault.{ReadFault}
 use Rattle.chr_plan.specs.Plans.{PlanList, ArePlans}
 use Rattle.chr_model.specs.Programs.{Instances}
 use Rattle.chr_model.specs.Stores.{Final}

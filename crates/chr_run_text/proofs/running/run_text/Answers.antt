@@ -1,8 +1,4 @@
 use Rattle.std.proofs.Common.{ℕ, ◌++◌, List, Err, subst, sym, ap, ◌∙◌}
-use Rattle.std.specs.Prelude.{OnOk, IfOk}
-use Rattle.chr_model.specs.Logs.{posted_by}
-use Rattle.chr_calls.specs.Books.{BookState, events}
-use Rattle.chr_calls.specs.Headline.{Headline}
 use Rattle.chr_book.specs.Texts.{PostsText}
 use Rattle.chr_run_text.specs.Output.{shown}
 use Rattle.chr_run_text.proofs.Made.{is_made, posts_refused}
