@@ -38,13 +38,14 @@ use Rattle.chr_calls.specs.declared.answers.MarkFault.TheVariants as mark
 use Rattle.chr_calls.specs.Turns.{Turn}
 use Rattle.chr_calls.specs.Turns as turn
 use Rattle.chr_calls.specs.Tickets.{ended, ticket_at}
-use Rattle.chr_calls.specs.Books.{BookState, opened, goal_state, events, with_entry}
+use Rattle.chr_calls.specs.Books.{BookState, opened, goal_state, events, with_names, with_entry}
 use Rattle.chr_calls.specs.Calls.{posted, all_posted, Posts, Claims, Turns, Reports, FiresOrMisses, Drops, PutsDown, Marks}
+use Rattle.chr_calls.specs.Batches.{Batch, Trials, Done, Gone, BatchReport, Batches, ReportsAll, asks, ends, reports, passes, ReportsBatch, AreRight}
 use Rattle.chr_calls.specs.Runs.{Call, Run, posts_of, all_posts}
 use Rattle.chr_calls.specs.Runs as calls
 use Rattle.chr_calls.specs.Headline.{Headline, IsKept}
 use Rattle.chr_calls.proofs.Tickets.{goal_there, events_more}
-use Rattle.chr_calls.proofs.Posting.{posts_keep}
+use Rattle.chr_calls.proofs.Posting.{renamed_keeps, posts_keep}
 use Rattle.chr_calls.proofs.Claiming.{claims_keep}
 use Rattle.chr_calls.proofs.Marking.{put_downs_keep, marks_keep, strays_keep}
 
@@ -153,8 +154,28 @@ posts_of_mark : (b n : BookState) (t : ℕ) (answer : Result (Unit {0}) MarkFaul
 posts_of_mark b n t (Err (mark.NotWaiting state)) h = as_before b n h.2
 posts_of_mark b n t (Ok done) h = no_entry b n (ap events h.1)
 
+posts_of_batch : (b n : BookState) (seat t : ℕ) (answer : Result Batch TurnFault) → Batches b seat t answer n → HasPosted b n []
+posts_of_batch b n seat t (Err fault) h = posts_of_turn b n seat t (Err fault) h
+posts_of_batch b n seat t (Ok Gone) h = posts_of_turn b n seat t (Ok turn.Gone) h
+posts_of_batch b n seat t (Ok Done) h = posts_of_turn b n seat t (Ok turn.Done) h
+posts_of_batch b n seat t (Ok (Trials trials)) h = posts_of_turn b n seat t (Ok (turn.Next h.first)) h.turn
+
+-- a call that posts nothing, and then another
+then_none : (b m n : BookState) → HasPosted b m [] → HasPosted m n [] → HasPosted b n []
+then_none b m n first more = more ∙ ap (λ (xs : List (Atom ℕ)). xs ++ []) (first ∙ append-nil (posted_by (events b)))
+
+posts_of_reports : (seat t : ℕ) (b n : BookState) (js : List Judgement) (reported : ℕ) (next : Result Turn TurnFault) → ReportsAll seat t b js reported next n → HasPosted b n []
+posts_of_reports seat t b n js r next (asks b1 n1 next1 turned) = posts_of_turn b n seat t next turned
+posts_of_reports seat t b n js r next (ends b1 n1 j more next1 turned last) = posts_of_turn b n seat t next turned
+posts_of_reports seat t b n js r next (reports b1 asked moved n1 j more done reported next1 turned told rest) =
+    then_none b asked n (posts_of_turn b asked seat t (Ok (turn.Next j.trial)) turned)
+    (then_none asked moved n (posts_of_report asked moved seat t j (Ok done) told) (posts_of_reports seat t moved n more reported next rest))
+posts_of_reports seat t b n js r next (passes b1 asked n1 trial j more reported next1 other turned rest) =
+    then_none b asked n (posts_of_turn b asked seat t (Ok (turn.Next trial)) turned) (posts_of_reports seat t asked n more reported next rest)
+
 pub call_posts : (b n : BookState) (seat : ℕ) (call : Call b seat n) → HasPosted b n (posts_of call)
 call_posts b n seat (calls.Post atoms answer made) = posts_of_post b n seat atoms answer made
+call_posts b n seat (calls.PostText table atoms first made) = posts_of_post (with_names b table) n seat atoms (Ok first) made
 call_posts b n seat (calls.Claim t answer made) = posts_of_claim b n seat t answer made
 call_posts b n seat (calls.Trial t answer made) = posts_of_turn b n seat t answer made
 call_posts b n seat (calls.Report t j answer right made) = posts_of_report b n seat t j answer made
@@ -163,18 +184,23 @@ call_posts b n seat (calls.DropGoal t answer made) = posts_of_drop b n seat t an
 call_posts b n seat (calls.PutDown t answer made) = posts_of_put_down b n seat t answer made
 call_posts b n seat (calls.MarkStray t answer made) = posts_of_mark b n t answer made
 call_posts b n seat (calls.TakeStray answer made) = no_entry b n (ap events made.2)
+call_posts b n seat (calls.Batch t answer made) = posts_of_batch b n seat t answer made
+call_posts b n seat (calls.ReportBatch t js answer right made) = posts_of_reports seat t b n js answer.reported answer.next made
 
 -- ---- runs
 
--- what is shown of trials, reports, firings and drops
+-- what is shown of trials, reports, firings, drops and batches
 pub record SearchesKeep : Type 0 where
   pub turns : (b n : BookState) (seat t : ℕ) (answer : Result Turn TurnFault) → Turns b seat t answer n → IsKept b → IsKept n
   pub reports : (b n : BookState) (seat t : ℕ) (j : Judgement) (answer : Result (Unit {0}) ReportFault) → IsVerdict j.trial j.verdict → Reports b seat t j answer n → IsKept b → IsKept n
   pub fires : (b n : BookState) (seat t : ℕ) (j : Judgement) (answer : Result Firing FireFault) → IsVerdict j.trial j.verdict → FiresOrMisses b seat t j answer n → IsKept b → IsKept n
   pub drops : (b n : BookState) (seat t : ℕ) (answer : Result Dropping DropFault) → Drops b seat t answer n → IsKept b → IsKept n
+  pub batches : (b n : BookState) (seat t : ℕ) (answer : Result Batch TurnFault) → Batches b seat t answer n → IsKept b → IsKept n
+  pub batch_reports : (b n : BookState) (seat t : ℕ) (js : List Judgement) (answer : BatchReport) → AreRight js → ReportsBatch b seat t js answer n → IsKept b → IsKept n
 
 pub call_keeps : SearchesKeep → (b n : BookState) (seat : ℕ) → Call b seat n → IsKept b → IsKept n
 call_keeps s b n seat (calls.Post atoms answer made) k = posts_keep b n seat atoms answer made k
+call_keeps s b n seat (calls.PostText table atoms first made) k = posts_keep (with_names b table) n seat atoms (Ok first) made (renamed_keeps b table k)
 call_keeps s b n seat (calls.Claim t answer made) k = claims_keep b n seat t answer made k
 call_keeps s b n seat (calls.Trial t answer made) k = s.turns b n seat t answer made k
 call_keeps s b n seat (calls.Report t j answer right made) k = s.reports b n seat t j answer right made k
@@ -183,6 +209,8 @@ call_keeps s b n seat (calls.DropGoal t answer made) k = s.drops b n seat t answ
 call_keeps s b n seat (calls.PutDown t answer made) k = put_downs_keep b n seat t answer made k
 call_keeps s b n seat (calls.MarkStray t answer made) k = marks_keep b n t answer made k
 call_keeps s b n seat (calls.TakeStray answer made) k = strays_keep b n answer made k
+call_keeps s b n seat (calls.Batch t answer made) k = s.batches b n seat t answer made k
+call_keeps s b n seat (calls.ReportBatch t js answer right made) k = s.batch_reports b n seat t js answer right made k
 
 pub run_keeps : SearchesKeep → (b : BookState) (posts : List (List (Atom ℕ))) (n : BookState) → Run b posts n → IsKept b → IsKept n
 run_keeps s b [] n run k = subst IsKept (sym run) k

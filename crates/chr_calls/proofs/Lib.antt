@@ -3,6 +3,7 @@ pub mod Posting
 pub mod Claiming
 pub mod Marking
 pub mod Turning
+pub mod Batching
 pub mod Firing
 pub mod Dropping
 pub mod Headlines

@@ -3,6 +3,7 @@ use Rattle.std.proofs.Common.{◌≡◌, ℕ, List, [], ◌∷◌, ◌++◌, len
 use Rattle.std.proofs.lemmas.List.{length-map}
 use Rattle.std.specs.Option.{option_map}
 use Rattle.chr_value.specs.Atoms.{Atom}
+use Rattle.chr_value.specs.Naming.{Table}
 use Rattle.chr_log.specs.Events as log
 use Rattle.chr_log.specs.declared.events.Version.TheVariants.{Two}
 use Rattle.chr_model.specs.Goals.{Numbered}
@@ -17,10 +18,21 @@ use Rattle.chr_search.specs.Reach.{Searching}
 use Rattle.chr_calls.specs.declared.answers.PostFault.{PostFault}
 use Rattle.chr_calls.specs.declared.answers.PostFault.TheVariants as post
 use Rattle.chr_calls.specs.Tickets.{Ticket, waiting, ticket_at}
-use Rattle.chr_calls.specs.Books.{BookState, goal_state, events, space_of}
+use Rattle.chr_calls.specs.Books.{BookState, goal_state, events, space_of, with_names}
 use Rattle.chr_calls.specs.Calls.{posted, all_posted, Posts}
 use Rattle.chr_calls.specs.Headline.{IsCandidate, IsKept}
 use Rattle.chr_calls.proofs.Tickets.{goals_appended, numbered_before, kept_as_is, events_more}
+
+-- what is kept says nothing of names
+pub renamed_keeps : (b : BookState) (table : Table) → IsKept b → IsKept (with_names b table)
+renamed_keeps b table k = record {
+  plans = k.plans;
+  lawful = k.lawful;
+  given = k.given;
+  searching = k.searching;
+  candidates = λ t l trial at is. (let c = k.candidates t l trial at is in record { formed = c.formed; was = c.was; active = c.active; given = c.given });
+  youngest = k.youngest;
+}
 
 -- the goal state where an atom is posted
 posted_state : (b : BookState) (seat : ℕ) (a : Atom ℕ) → goal_state (posted b seat a) ≡ steps.posted (goal_state b) a

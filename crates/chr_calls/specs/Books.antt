@@ -1,6 +1,7 @@
 -- The state of a book: rules with their plans, names, a store, the log, and the tickets.
 use Rattle.std.specs.Prelude.{◌≡◌, ℕ, List, [], ◌∷◌, ◌++◌, map, Some, slice_set}
 use Rattle.chr_value.specs.Atoms.{Atom}
+use Rattle.chr_value.specs.Naming.{Table}
 use Rattle.chr_rule.specs.Rules.{Simpagation}
 use Rattle.chr_log.specs.Events.{Entry, Event}
 use Rattle.chr_plan.specs.Plans.{PlanList}
@@ -37,6 +38,10 @@ space_of b l = older b.rules b.plans b.store l
 
 abbrev pub IsLive : BookState → ℕ → Type 0
 IsLive b l = (atom : Atom ℕ) × (atom_at b.store l ≡ Some atom)
+
+-- the book with another table of names
+abbrev pub with_names : BookState → Table → BookState
+with_names b table = record { rules = b.rules; plans = b.plans; names = table; limit = b.limit; log = b.log; store = b.store; next = b.next; tickets = b.tickets }
 
 -- the book with other tickets, with another record of a ticket, and with an entry more
 abbrev pub with_tickets : BookState → List Ticket → BookState

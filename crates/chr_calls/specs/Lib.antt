@@ -2,5 +2,6 @@ pub mod Turns
 pub mod Tickets
 pub mod Books
 pub mod Calls
+pub mod Batches
 pub mod Runs
 pub mod Headline

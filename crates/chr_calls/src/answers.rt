@@ -48,6 +48,27 @@ pub enum Turn<A: Allocator> {
     Gone,
 }
 
+/// The next trials of a goal.
+#[derive(Drop)]
+pub enum Batch<A: Allocator> {
+    /// Its next trial, and those after it with the same rule and head and the same labels but the last, in order, at most
+    /// sixteen together.
+    Trials(Vec<Trial<A>, A>),
+    /// No trial is left.
+    Done,
+    /// Its label has left the store.
+    Gone,
+}
+
+/// What became of the judgements of a batch.
+#[derive(Drop)]
+pub struct BatchReport<A: Allocator> {
+    /// How many were reported.
+    pub reported: usize,
+    /// What comes next for the goal.
+    pub next: Result<Turn<A>, TurnFault>,
+}
+
 /// Why no turn was given.
 #[derive(Clone, Copy, Debug, PartialEq, Eq)]
 pub enum TurnFault {

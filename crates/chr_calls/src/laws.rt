@@ -18,6 +18,7 @@ ghost use Rattle.chr_calls.specs.declared.answers.MarkFault.{MarkFault};
 ghost use Rattle.chr_calls.specs.Turns.{Turn};
 ghost use Rattle.chr_calls.specs.Books.{BookState, opened, events};
 ghost use Rattle.chr_calls.specs.Calls.{Posts, Claims, Turns, Reports, FiresOrMisses, Drops, PutsDown, Marks, TakesStray};
+ghost use Rattle.chr_calls.specs.Batches.{Batch, BatchReport, Batches, ReportsBatch, AreRight};
 ghost use Rattle.chr_calls.specs.Runs.{Call, Run, posts_of, all_posts};
 ghost use Rattle.chr_calls.specs.Headline.{Headline, IsKept};
 
@@ -38,6 +39,12 @@ pub fn searches_keep()
     ensures reports { (b n : BookState) (seat t : ℕ) (j : Judgement) (answer : Result (Unit {0}) ReportFault) → IsVerdict j.trial j.verdict → Reports b seat t j answer n → IsKept b → IsKept n }
     ensures fires { (b n : BookState) (seat t : ℕ) (j : Judgement) (answer : Result Firing FireFault) → IsVerdict j.trial j.verdict → FiresOrMisses b seat t j answer n → IsKept b → IsKept n }
     ensures drops { (b n : BookState) (seat t : ℕ) (answer : Result Dropping DropFault) → Drops b seat t answer n → IsKept b → IsKept n }
+{}
+
+/// So do batches, and reports of batches.
+pub fn batches_keep()
+    ensures batches { (b n : BookState) (seat t : ℕ) (answer : Result Batch TurnFault) → Batches b seat t answer n → IsKept b → IsKept n }
+    ensures reports { (b n : BookState) (seat t : ℕ) (js : List Judgement) (answer : BatchReport) → AreRight js → ReportsBatch b seat t js answer n → IsKept b → IsKept n }
 {}
 
 /// So do tickets that are put down, and stray marks.

@@ -9,6 +9,7 @@
 //! - `Tickets`: a ticket's goal with its holder, its stray mark and its search; the state that a seat is told.
 //! - `Books`: the state of a book.
 //! - `Calls`: the table, a relation for each call, from the book before it and its answer to the book after it.
+//! - `Batches`: the calls that make several lines of the table at once.
 //! - `Runs`: calls by any seats, one after another.
 //! - `Headline`: what holds of a book after any run, and what each call keeps so that it does.
 //!

@@ -3,3 +3,4 @@ pub mod Next
 pub mod Planning
 pub mod Made
 pub mod OnePlan
+pub mod Once

@@ -1,3 +1,4 @@
 pub mod Orders
 pub mod Plans
+pub mod Places
 pub mod Laws

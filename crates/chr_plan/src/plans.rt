@@ -2,10 +2,13 @@
 ghost use Rattle.std.specs.Prelude.{◌≡◌, map, IfOk};
 ghost use Rattle.std.specs.Option.{option_map};
 ghost use Rattle.chr_plan.specs.Plans.{plan_at, AreOrders, ArePlans};
+ghost use Rattle.chr_plan.specs.Places.{places_of};
 
 use crate::order::{Order, Step, plan_of};
+use crate::places::add_orders;
 use chr_rule::program::Program;
 use chr_rule::rule::Rule;
+use chr_value::atom::Pred;
 use std::alloc::{AllocError, Allocator};
 use std::marker::Model;
 
@@ -58,5 +61,19 @@ impl<A: Allocator + Copy> Plans<A> {
         let orders = self.rules.get(rule - 1)?;
         let order = orders.get(usize::from(head) - 1)?;
         Some(order.as_slice())
+    }
+
+    /// The places that plans look up: each pair of a predicate and a place, from 1, that is a key in some plan, once, in
+    /// the order in which it is first met by rule, head and step. `program` is that of the plans.
+    pub fn places(&self, alloc: A, program: &Program<A>) -> Result<Vec<(Pred, u8), A>, AllocError>
+        ensures { IfOk result (λ places. places.items ≡ places_of program.now self.now) }
+    {
+        let rules = program.rules();
+        let count = rules.len().min(self.rules.len());
+        let mut places = Vec::new(alloc);
+        for at in 0..count {
+            add_orders(&mut places, &rules[at], &self.rules[at])?;
+        }
+        Ok(places)
     }
 }

@@ -16,7 +16,10 @@ enum Call {
     PushRule,
     CopyProgram,
     MakePlans,
+    Places,
+    OpenIndexed,
     Insert,
+    InsertIndexed,
     CopyStore,
     ReadLog,
     ReadStore,
@@ -24,7 +27,7 @@ enum Call {
     ReadPosts,
 }
 
-const CALLS: [Call; 16] = [
+const CALLS: [Call; 19] = [
     Call::Intern,
     Call::CopyNames,
     Call::PushEntry,
@@ -35,7 +38,10 @@ const CALLS: [Call; 16] = [
     Call::PushRule,
     Call::CopyProgram,
     Call::MakePlans,
+    Call::Places,
+    Call::OpenIndexed,
     Call::Insert,
+    Call::InsertIndexed,
     Call::CopyStore,
     Call::ReadLog,
     Call::ReadStore,
@@ -68,7 +74,10 @@ fn is_made_again(memory: &Refusing<Global>, n: u64, call: Call) -> Option<bool> 
         Call::PushRule => plans::push(memory, n),
         Call::CopyProgram => plans::copy(memory, n),
         Call::MakePlans => plans::make(memory, n),
+        Call::Places => plans::places(memory, n),
+        Call::OpenIndexed => store::open(memory, n),
         Call::Insert => store::insert(memory, n),
+        Call::InsertIndexed => store::insert_indexed(memory, n),
         Call::CopyStore => store::copy(memory, n),
         Call::ReadLog => texts::read_entries(memory, n),
         Call::ReadStore => texts::read_lines(memory, n),

@@ -12,12 +12,20 @@ use std::sync::Arc;
 
 type SharedRule<'m> = Arc<Rule<&'m Refusing<Global>>, &'m Refusing<Global>>;
 
-/// `p(X) <=> true`.
-fn rule_of(memory: &Refusing<Global>) -> Option<SharedRule<'_>> {
+/// `p(X)`.
+fn head() -> RuleAtom {
     let mut terms = ArrayVec::new();
     terms.push(Term::Var(0));
     let name = Name { number: 0 };
-    let removed = vec![in memory; RuleAtom { name, terms }].ok()?;
+    RuleAtom { name, terms }
+}
+
+/// `p(X) <=> true`, or `p(X), p(X) <=> true`.
+fn rule_with(memory: &Refusing<Global>, twice: bool) -> Option<SharedRule<'_>> {
+    let mut removed = vec![in memory; head()].ok()?;
+    if twice {
+        removed.push(head()).ok()?;
+    }
     let rule = Rule::new(
         Vec::new(memory),
         removed,
@@ -25,6 +33,10 @@ fn rule_of(memory: &Refusing<Global>) -> Option<SharedRule<'_>> {
         Vec::new(memory),
     )?;
     Arc::new(memory, rule).ok()
+}
+
+fn rule_of(memory: &Refusing<Global>) -> Option<SharedRule<'_>> {
+    rule_with(memory, false)
 }
 
 /// Adds a rule 20 times, each again where that fails.
@@ -67,6 +79,18 @@ pub fn make(memory: &Refusing<Global>, n: u64) -> Option<bool> {
     memory.refuse(n);
     let refused = is_refused(memory, Plans::make(memory, &program).is_err())?;
     if Plans::make(memory, &program).is_err() {
+        return None;
+    }
+    Some(refused)
+}
+
+pub fn places(memory: &Refusing<Global>, n: u64) -> Option<bool> {
+    let mut program = Program::new(memory);
+    program.push(rule_with(memory, true)?).ok()?;
+    let plans = Plans::make(memory, &program).ok()?;
+    memory.refuse(n);
+    let refused = is_refused(memory, plans.places(memory, &program).is_err())?;
+    if plans.places(memory, &program).ok()?.len() != 1 {
         return None;
     }
     Some(refused)

@@ -1,7 +1,7 @@
 //! A store.
 use crate::calls::is_refused;
 use chr_store::store::{Store, StoreFault};
-use chr_value::atom::Atom;
+use chr_value::atom::{Atom, Pred, Value};
 use chr_value::names::Name;
 use refusing::Refusing;
 use std::alloc::Global;
@@ -23,6 +23,65 @@ pub fn insert(memory: &Refusing<Global>, n: u64) -> Option<bool> {
         }
     }
     if store.len() != 40 {
+        return None;
+    }
+    is_refused(memory, fails)
+}
+
+const PRED: Pred = Pred {
+    name: Name { number: 0 },
+    arity: 1,
+};
+
+pub fn open(memory: &Refusing<Global>, n: u64) -> Option<bool> {
+    memory.refuse(n);
+    let refused = is_refused(memory, Store::indexed(memory, 40, &[(PRED, 1)]).is_err())?;
+    if Store::indexed(memory, 40, &[(PRED, 1)]).is_err() {
+        return None;
+    }
+    Some(refused)
+}
+
+/// An atom with one argument, which takes no memory.
+fn unary_of(memory: &Refusing<Global>, argument: i64) -> Atom<&Refusing<Global>> {
+    let mut atom = Atom::new(memory, PRED.name);
+    atom.push(Value::Int(argument));
+    atom
+}
+
+/// How many of the labels up to 40 have a value.
+fn count(store: &Store<&Refusing<Global>>, argument: i64) -> usize {
+    let value = Value::Int(argument);
+    let mut labels: usize = 0;
+    let mut last = 0;
+    for _ in 0..40u8 {
+        if let Some(label) = store.next_at(PRED, Some((1, &value)), last, 41) {
+            labels = labels.saturating_add(1);
+            last = label;
+        }
+    }
+    labels
+}
+
+/// Inserts 20 atoms of each of two values into a store with an index, each again where that fails, and the store has
+/// none of it in between.
+pub fn insert_indexed(memory: &Refusing<Global>, n: u64) -> Option<bool> {
+    let mut store = Store::indexed(memory, 40, &[(PRED, 1)]).ok()?;
+    let mut fails = false;
+    memory.refuse(n);
+    for number in 0..40i64 {
+        if let Err(StoreFault::NoMemory(atom)) = store.insert(unary_of(memory, number % 2)) {
+            fails = true;
+            if store
+                .next_at(PRED, None, store.next_label() - 1, 41)
+                .is_some()
+            {
+                return None;
+            }
+            store.insert(atom).ok()?;
+        }
+    }
+    if count(&store, 0) != 20 || count(&store, 1) != 20 {
         return None;
     }
     is_refused(memory, fails)

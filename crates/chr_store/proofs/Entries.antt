@@ -37,7 +37,7 @@ pub looked_up : (l : ℕ) (es : Store) → lookup (is_at (nat_cmp l)) es ≡ ato
 looked_up l [] = refl
 looked_up l (e ∷ es) = grind (arith, nat_tests, looked_up l es)
 
-drop_absent : (l : ℕ) (es : Store) → AllByRecursion (λ f. l < f.0) es → drop_label l es ≡ es
+pub drop_absent : (l : ℕ) (es : Store) → AllByRecursion (λ f. l < f.0) es → drop_label l es ≡ es
 drop_absent l [] h = refl
 drop_absent l (e ∷ es) h = let b : l < e.0 = h.0 in grind (arith, nat_tests, drop_absent l es h.1)
 

@@ -1,2 +1,6 @@
 pub mod Entries
 pub mod Walks
+pub mod Slots
+pub mod Keep
+pub mod Stored
+pub mod Jumps

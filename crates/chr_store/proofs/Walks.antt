@@ -25,7 +25,7 @@ pub record IsLeft (store : Store) (q : Query) (left : Store) : Type 0 where
   pub all : (l : ℕ) (a : Atom ℕ) → atom_at store l ≡ Some a → HasPred q.pred a → HasKey q.key a → q.after < l → l < q.below → atom_at left l ≡ Some a
 
 -- a label in front, or after it a greater one
-above : (l : ℕ) (es : Store) (m : ℕ) (a : Atom ℕ) → AllByRecursion (λ f. l < f.0) es → atom_at es m ≡ Some a → l < m
+pub above : (l : ℕ) (es : Store) (m : ℕ) (a : Atom ℕ) → AllByRecursion (λ f. l < f.0) es → atom_at es m ≡ Some a → l < m
 above l [] m a h at = let z : None ≡ Some a = at in absurd (cc)
 above l (e ∷ es) m a h at =
     elim (e.0 == m) as (λ b. (e.0 == m ≡ b) → (if b then Some e.1 else atom_at es m) ≡ Some a → l < m) [
@@ -114,3 +114,8 @@ arg_here xs a (suc i) w p e h = ap (λ (z : List (Value ℕ)). slice_get z i) (s
   where
     sub_suc : (i : ℕ) → suc i - 1 ≡ i
     sub_suc i = omega arith
+
+pub get_there : {A : Type 0} (xs : List A) (i : ℕ) (x : A) → true ≡ ltb i (length xs) → x ≡ slice_index_or xs i x → slice_get xs i ≡ Some x
+get_there [] i x t e = absurd (let h : i < 0 = grind (arith, nat_tests) in omega arith)
+get_there (y ∷ xs) zero x t e = ap (λ z. Some z) (sym e)
+get_there (y ∷ xs) (suc i) x t e = get_there xs i x (let h : suc i < length (y ∷ xs) = grind (arith, nat_tests) in grind (arith, nat_tests)) e

@@ -1,3 +1,7 @@
 pub mod Labels
 pub mod Keys
 pub mod Faults
+pub mod Buckets
+pub mod Index
+pub mod KeyLaws
+pub mod Indexed

@@ -7,14 +7,16 @@ ghost use Rattle.chr_value.specs.Stores.{atom_at, drop_label};
 ghost use Rattle.chr_store.specs.Labels.{IsLabelled};
 ghost use Rattle.chr_store.specs.Keys.{arg_at, HasPred, HasKey, key_of, IsLeastMatch};
 ghost use Rattle.chr_store.specs.Faults.{given_back};
+ghost use Rattle.chr_store.specs.Indexed.{LabelHas};
 ghost use Rattle.chr_store.specs.declared.store.StoreFault.TheVariants.{LabelsSpent};
 
+use crate::keys::{Buckets, Key, enter, is_chosen, leave, next_of};
 use chr_value::atom::{Atom, Pred, Value};
 use chr_value::label::GREATEST_LABEL;
 pub use chr_value::label::Label;
 use std::alloc::{AllocError, Allocator};
-use std::collections::BTreeMap;
 use std::collections::btree_map::Iter;
+use std::collections::{BTreeMap, HashMap};
 use std::marker::Model;
 
 /// The greatest limit that a store may have for its labels.
@@ -33,18 +35,22 @@ pub enum StoreFault<A: Allocator> {
 #[derive(Drop)]
 pub struct Store<A: Allocator> {
     atoms: BTreeMap<u64, Atom<A>, A>,
+    buckets: Buckets<A>,
+    places: Vec<(Pred, u8), A>,
+    alloc: A,
     next: u64,
     limit: u64,
 }
 
 impl<A: Allocator> Model for Store<A> {
-    ghost use Rattle.chr_store.specs.Labels.{LabelledStore, IsLabelled};
+    ghost use Rattle.chr_store.specs.Labels.{LabelledStore};
+    ghost use Rattle.chr_store.specs.Indexed.{IsIndexed};
 
     ghost Value = { LabelledStore };
 
     ghost view = { λ s. record { entries = s.atoms.entries; next = s.next; limit = s.limit } };
 
-    ghost invariant = { λ s. IsLabelled (record { entries = s.atoms.entries; next = s.next; limit = s.limit }) };
+    ghost invariant = { λ s. IsIndexed (record { entries = s.atoms.entries; next = s.next; limit = s.limit }) s.places.items s.buckets };
 }
 
 /// Whether an atom has a value at a place. Places are numbered from 1.
@@ -60,16 +66,18 @@ fn has_at<A: Allocator + Copy>(atom: &Atom<A>, place: u8, value: &Value) -> bool
     }
 }
 
-/// Whether an atom has a predicate and, where there is a key, its value at its place.
-fn matches_query<A: Allocator + Copy>(atom: &Atom<A>, pred: Pred, key: Option<(u8, &Value)>) -> bool
-    ensures { IsTrue result ↔ (HasPred pred atom.now × HasKey (key_of key.entry) atom.now) }
+/// Whether the atom under a label has a value at a place.
+fn label_has<A: Allocator + Copy>(
+    atoms: &BTreeMap<u64, Atom<A>, A>,
+    label: Label,
+    place: u8,
+    value: &Value,
+) -> bool
+    ensures { IsTrue result ↔ LabelHas atoms.now.entries label place (ground value.now) }
 {
-    if atom.pred() != pred {
-        return false;
-    }
-    match key {
-        None => true,
-        Some((place, value)) => has_at(atom, place, value),
+    match atoms.get(&label) {
+        None => false,
+        Some(atom) => has_at(atom, place, value),
     }
 }
 
@@ -81,9 +89,28 @@ impl<A: Allocator + Copy> Store<A> {
     {
         Store {
             atoms: BTreeMap::new(alloc),
+            buckets: HashMap::new(alloc),
+            places: Vec::new(alloc),
+            alloc,
             next: 1,
             limit,
         }
+    }
+
+    /// A store of no constraints as [`new`](Store::new) makes it, which keeps an index for each of these places, so that
+    /// [`next_at`](Store::next_at) with a key there takes no walk. Places are numbered from 1. E01 where memory ran out.
+    pub fn indexed(alloc: A, limit: u64, places: &[(Pred, u8)]) -> Result<Store<A>, AllocError>
+        requires { limit ≤ 4294967295 }
+        ensures { IfOk result (λ made. made ≡ record { entries = []; next = 1; limit = limit }) }
+    {
+        Ok(Store {
+            atoms: BTreeMap::new(alloc),
+            buckets: HashMap::new(alloc),
+            places: Vec::from_slice(alloc, places)?,
+            alloc,
+            next: 1,
+            limit,
+        })
     }
 
     /// How many constraints there are.
@@ -115,12 +142,20 @@ impl<A: Allocator + Copy> Store<A> {
             return Err(StoreFault::LabelsSpent(atom));
         }
         let label = self.next;
+        let Ok(()) = enter(&mut self.buckets, self.alloc, &self.places, &atom, label) else {
+            leave(&mut self.buckets, &self.places, &atom, label);
+            return Err(StoreFault::NoMemory(atom));
+        };
         match self.atoms.insert(label, atom) {
             Ok(_) => {
                 self.next = label + 1;
                 Ok(label)
             }
-            Err(refused) => Err(StoreFault::NoMemory(refused.value.1)),
+            Err(refused) => {
+                let atom = refused.value.1;
+                leave(&mut self.buckets, &self.places, &atom, label);
+                Err(StoreFault::NoMemory(atom))
+            }
         }
     }
 
@@ -136,7 +171,11 @@ impl<A: Allocator + Copy> Store<A> {
         ensures value { result ≡ atom_at self.old.entries label }
         ensures rest { self.new ≡ record { entries = drop_label label self.old.entries; next = self.old.next; limit = self.old.limit } }
     {
-        self.atoms.remove(&label)
+        let Some(atom) = self.atoms.remove(&label) else {
+            return None;
+        };
+        leave(&mut self.buckets, &self.places, &atom, label);
+        Some(atom)
     }
 
     /// The least label over `after` and under `below` whose atom has the predicate and, where `key` is a place and a
@@ -151,14 +190,28 @@ impl<A: Allocator + Copy> Store<A> {
         ensures least { IsLeastMatch self.now.entries (record { pred = pred; key = key_of key.entry; after = after; below = below }) result }
         ensures whole { IsLabelled self.now }
     {
-        let atoms = &self.atoms;
-        if below <= after {
-            return None;
+        let own = Key {
+            pred,
+            place: 0,
+            value: Value::Int(0),
+        };
+        let Some((place, value)) = key else {
+            return next_of(&self.buckets, own, after, below);
+        };
+        if place != 0 && is_chosen(&self.places, pred, place) {
+            let key = Key {
+                pred,
+                place,
+                value: *value,
+            };
+            return next_of(&self.buckets, key, after, below);
         }
-        for (label, atom) in atoms.range(after + 1..below) {
-            if matches_query(atom, pred, key) {
-                return Some(*label);
+        let mut from = after;
+        while let Some(label) = next_of(&self.buckets, own, from, below) {
+            if label_has(&self.atoms, label, place, value) {
+                return Some(label);
             }
+            from = label;
         }
         None
     }
@@ -177,13 +230,18 @@ impl<A: Allocator + Copy> Store<A> {
         ensures { IfOk result (λ made. made ≡ self.now) }
     {
         let mut atoms = BTreeMap::new(alloc);
+        let mut buckets = HashMap::new(alloc);
         for (label, atom) in &self.atoms {
+            enter(&mut buckets, alloc, &self.places, atom, *label)?;
             let Ok(_) = atoms.insert(*label, atom.copy(alloc)?) else {
                 return Err(AllocError);
             };
         }
         Ok(Store {
             atoms,
+            buckets,
+            places: Vec::from_slice(alloc, &self.places)?,
+            alloc,
             next: self.next,
             limit: self.limit,
         })

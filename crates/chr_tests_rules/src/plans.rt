@@ -80,6 +80,36 @@ fn first_wrong(alloc: Global, heads: &[&str], wanted: &[&[(u8, u8)]]) -> Option<
     Some(0)
 }
 
+/// Heads, and the places that their plans look up: pairs of an arity and a place.
+const PLACES: [(&[&str], &[(u8, u8)]); 3] = [
+    (&THREE, &[(2, 1), (1, 1), (2, 2)]),
+    (&SIX, &[(2, 1), (1, 1), (2, 2)]),
+    (&["X"], &[]),
+];
+
+/// Whether the plans of these heads look up these places. None if memory ran out.
+fn has_places(alloc: Global, heads: &[&str], wanted: &[(u8, u8)]) -> Option<bool> {
+    let program = program_of(alloc, heads)?;
+    let plans = Plans::make(alloc, &program).ok()?;
+    let places = plans.places(alloc, &program).ok()?;
+    Some(
+        places.len() == wanted.len()
+            && places.iter().zip(wanted).all(|((pred, place), (arity, at))| pred.arity == *arity
+                && *place == *at),
+    )
+}
+
+#[test]
+fn places_of_three_of_six_and_of_one_head(rt: HostRuntime) {
+    for (heads, wanted) in &PLACES {
+        assert_eq!(rt;
+            has_places(rt.alloc(), heads, wanted),
+            Some(true),
+            "{heads:?}"
+        );
+    }
+}
+
 #[test]
 fn plans_of_three_and_of_six_heads(rt: HostRuntime) {
     assert_eq!(rt; first_wrong(rt.alloc(), &THREE, &THREE_PLANS), Some(0));

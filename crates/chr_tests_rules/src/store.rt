@@ -1,4 +1,6 @@
 //! The store, up to its limit.
+ghost use Rattle.std.specs.Prelude.{◌≤◌};
+
 use chr_store::store::{Store, StoreFault};
 use chr_value::atom::{Atom, Pred, Value};
 use chr_value::names::Name;
@@ -6,9 +8,21 @@ use std::alloc::Global;
 
 const P: Name = Name { number: 0 };
 
+const PRED: Pred = Pred { name: P, arity: 1 };
+
+/// An empty store with a limit, plain or with an index for the place of `p/1`.
+fn empty(alloc: Global, indexed: bool, limit: u64) -> Option<Store<Global>>
+    requires { limit ≤ 4294967295 }
+{
+    if indexed {
+        return Store::indexed(alloc, limit, &[(PRED, 1)]).ok();
+    }
+    Some(Store::new(alloc, limit))
+}
+
 /// A store with the limit 3 of `p(1)`, `p(2)` and `p(1)`, under 1, 2 and 3.
-fn store_of(alloc: Global) -> Option<Store<Global>> {
-    let mut store = Store::new(alloc, 3);
+fn store_of(alloc: Global, indexed: bool) -> Option<Store<Global>> {
+    let mut store = empty(alloc, indexed, 3)?;
     for n in [1, 2, 1] {
         let mut atom = Atom::new(alloc, P);
         atom.push(Value::Int(n));
@@ -25,28 +39,40 @@ fn is_full(alloc: Global, store: &mut Store<Global>) -> bool {
     )
 }
 
+/// The first row of the table of `next_at` that a store doesn't answer as it should.
+fn first_wrong(store: &Store<Global>, rows: &[(bool, u64, u64, Option<u64>)]) -> Option<usize> {
+    let one = Value::Int(1);
+    rows.iter().position(|(keyed, after, below, wanted)| {
+        let key = if *keyed { Some((1, &one)) } else { None };
+        store.next_at(PRED, key, *after, *below) != *wanted
+    })
+}
+
+const ROWS: [(bool, u64, u64, Option<u64>); 4] = [
+    (true, 0, 4, Some(1)),
+    (true, 1, 4, Some(3)),
+    (true, 1, 3, None),
+    (false, 1, 3, Some(2)),
+];
+
+const ROWS_WITHOUT_3: [(bool, u64, u64, Option<u64>); 3] = [
+    (true, 0, 4, Some(1)),
+    (true, 1, 4, None),
+    (false, 1, 4, Some(2)),
+];
+
 #[test]
 fn finds_the_next_label_and_keeps_its_limit(rt: HostRuntime) {
-    let mut store = store_of(rt.alloc()).expect(&rt, "memory");
-    let pred = Pred { name: P, arity: 1 };
-    let one = Value::Int(1);
-    for (keyed, after, below, wanted) in [
-        (true, 0, 4, Some(1)),
-        (true, 1, 4, Some(3)),
-        (true, 1, 3, None),
-        (false, 1, 3, Some(2)),
-    ] {
-        let key = if keyed { Some((1, &one)) } else { None };
-        assert_eq!(rt;
-            store.next_at(pred, key, after, below),
-            wanted,
-            "{keyed} {after} {below}"
-        );
+    for indexed in [false, true] {
+        let mut store = store_of(rt.alloc(), indexed).expect(&rt, "memory");
+        assert_eq!(rt; first_wrong(&store, &ROWS), None, "{indexed}");
+        assert!(rt; is_full(rt.alloc(), &mut store));
+        assert_eq!(rt; (store.len(), store.next_label()), (3, 4));
+        let mut none = empty(rt.alloc(), indexed, 0).expect(&rt, "memory");
+        assert!(rt; is_full(rt.alloc(), &mut none));
+        assert!(rt; store.remove(3).is_some() && store.get(3).is_none());
+        assert_eq!(rt; first_wrong(&store, &ROWS_WITHOUT_3), None, "{indexed}");
+        assert!(rt; store.get(2).is_some() && is_full(rt.alloc(), &mut store));
+        assert_eq!(rt; store.iter().count(), 2);
     }
-    assert!(rt; is_full(rt.alloc(), &mut store));
-    assert_eq!(rt; (store.len(), store.next_label()), (3, 4));
-    assert!(rt; is_full(rt.alloc(), &mut Store::new(rt.alloc(), 0)));
-    assert!(rt; store.remove(3).is_some() && store.get(3).is_none());
-    assert!(rt; store.get(2).is_some() && is_full(rt.alloc(), &mut store));
-    assert_eq!(rt; store.iter().count(), 2);
 }

@@ -1,0 +1,118 @@
+use Rattle.std.proofs.Common.{◌≡◌, ℕ, zero, suc, ◌+◌, ◌<◌, ◌≤◌, ◌&&◌, if◌then◌else◌, Bool, true, false, List, [], ◌∷◌, Option, Some, None, refl, sym, ap, subst, arith, length, ◌∙◌, slice_get, get_or, nat_lt, inl, inr, pos}
+use Rattle.std.specs.HashMap.{HashMap}
+use Rattle.std.proofs.lemmas.Bool.{and_parts, and_from, eq-eqb, eqb-true, lt-ltb, le-ltb, cases_lt, cases_eq, false≢true}
+use Rattle.chr_value.specs.Atoms.{Value, Atom, ground}
+use Rattle.chr_value.specs.declared.atom.Pred.{Pred}
+use Rattle.chr_value.specs.declared.atom.Value.TheVariants as values
+use Rattle.chr_store.specs.declared.keys.Key.{Key}
+use Rattle.chr_store.specs.Keys.{arg_at}
+use Rattle.chr_store.specs.Index.{Places, chosen, value_at, IsKeyAt, is_term, same_key, fits, labels_in, reached, IsChanged}
+use Rattle.chr_store.specs.KeyLaws.{same_key_true, same_key_refl, same_term_true, same_term_refl, ground_one, same_parts}
+
+-- ---- an atom's own keys
+
+-- what the parts of an atom's key are
+pub record Fitting (k : Key) (a : Atom ℕ) : Type 0 where
+  pub name : k.pred.name.number ≡ a.name
+  pub arity : k.pred.arity ≡ length a.args
+  pub value : value_at a k.place ≡ Some (ground k.value)
+
+is_term_some : (t : Value ℕ) (o : Option (Value ℕ)) → is_term t o ≡ true → o ≡ Some t
+is_term_some t None h = absurd (cc)
+is_term_some t (Some u) h = ap (λ z. Some z) (sym (same_term_true t u h))
+
+pub fitting : (k : Key) (a : Atom ℕ) → fits k a ≡ true → Fitting k a
+fitting k a h =
+    let p = and_parts _ _ h in
+    let q = and_parts _ _ p.0 in
+    record { name = eqb-true _ _ q.0; arity = eqb-true _ _ q.1; value = is_term_some (ground k.value) (value_at a k.place) p.1 }
+
+pub fits_from : (k : Key) (a : Atom ℕ) → Fitting k a → fits k a ≡ true
+fits_from k a h = and_from _ _ (and_from _ _ (eq-eqb _ _ h.name) (eq-eqb _ _ h.arity)) (subst (λ (o : Option (Value ℕ)). is_term (ground k.value) o ≡ true) (sym h.value) (same_term_refl (ground k.value)))
+
+-- an atom's key at a place is each key that fits it there
+pub own_fits : (a : Atom ℕ) (n : ℕ) (kk k : Key) → IsKeyAt a n kk → same_key kk k ≡ true → (fits k a ≡ true) × (k.place ≡ n)
+own_fits a n kk k h t =
+    let e : kk ≡ k = same_key_true kk k t in
+    let own : Fitting kk a = record { name = h.name; arity = h.arity; value = subst (λ (z : ℕ). value_at a z ≡ Some (ground kk.value)) (sym h.place) h.value } in
+    (subst (λ (z : Key). fits z a ≡ true) e (fits_from kk a own), subst (λ (z : Key). z.place ≡ n) e h.place)
+
+pub some_one : {X : Type 0} (x y : X) → Some x ≡ Some y → x ≡ y
+some_one x y h = cc
+
+pub fits_own : (a : Atom ℕ) (n : ℕ) (kk k : Key) → IsKeyAt a n kk → fits k a ≡ true → k.place ≡ n → same_key kk k ≡ true
+fits_own a n kk k h f e =
+    let p : Fitting k a = fitting k a f in
+    let v : Some (ground kk.value) ≡ Some (ground k.value) = sym h.value ∙ ap (value_at a) (sym e) ∙ p.value in
+    let one : kk ≡ k = same_parts kk k (h.name ∙ sym p.name) (h.arity ∙ sym p.arity) (h.place ∙ sym e) (ground_one kk.value k.value (some_one _ _ v)) in
+    subst (λ (z : Key). same_key kk z ≡ true) one (same_key_refl kk)
+
+-- ---- step by step
+
+lt_more : (p n : ℕ) → (p ≡ n → ⊥) → nat_lt p (n + 1) ≡ nat_lt p n
+lt_more p n h = elim (cases_lt p n) [
+  | inl l ↦ lt-ltb p (n + 1) (omega arith) ∙ sym (lt-ltb p n l)
+  | inr l ↦ elim (cases_eq p n) [ inl e ↦ absurd (h e) | inr d ↦ le-ltb p (n + 1) (omega arith) ∙ sym (le-ltb p n l) ]
+]
+
+and_lt_more : (P : Bool) (p n : ℕ) → (p ≡ n → P ≡ true → ⊥) → (P && nat_lt p (n + 1)) ≡ (P && nat_lt p n)
+and_lt_more true p n h = lt_more p n (λ e. h e refl)
+and_lt_more false p n h = refl
+
+and_lt_not : (P : Bool) (p n : ℕ) → n ≤ p → (P && nat_lt p n) ≡ false
+and_lt_not true p n h = le-ltb p n h
+and_lt_not false p n h = refl
+
+pub unreached : (places : Places) (a : Atom ℕ) (n : ℕ) (k : Key) → n ≤ k.place → reached places a n k ≡ false
+unreached places a n k h = and_lt_not _ k.place n h
+
+pub touched_none : {S : Type 0} (f : List ℕ → List ℕ) (places : Places) (a : Atom ℕ) (m : HashMap Key (List ℕ) S) → IsChanged f places a 0 m m
+touched_none f places a m = λ k. sym (ap (λ (b : Bool). if b then f (labels_in m k) else labels_in m k) (unreached places a 0 k (omega arith)))
+
+pub own_unreached : {S : Type 0} (f : List ℕ → List ℕ) (places : Places) (a : Atom ℕ) (n : ℕ) (kk : Key) (old cur : HashMap Key (List ℕ) S) → IsKeyAt a n kk → IsChanged f places a n old cur → labels_in cur kk ≡ labels_in old kk
+own_unreached f places a n kk old cur h t = t kk ∙ ap (λ (b : Bool). if b then f (labels_in old kk) else labels_in old kk) (unreached places a n kk (let e : kk.place ≡ n = h.place in omega arith))
+
+abbrev pred_from : ℕ → ℕ → Pred
+pred_from n m = record { name = record { number = n }; arity = m }
+
+-- the pred of a key that fits is the atom's
+pred_one : (p q : Pred) → p.name.number ≡ q.name.number → p.arity ≡ q.arity → p ≡ q
+pred_one p q e f = ap (λ (z : ℕ). pred_from z p.arity) e ∙ ap (λ (z : ℕ). pred_from q.name.number z) f
+
+pub touched_same : {S : Type 0} (f : List ℕ → List ℕ) (places : Places) (a : Atom ℕ) (n : ℕ) (pred : Pred) (old cur : HashMap Key (List ℕ) S) → pred.name.number ≡ a.name → pred.arity ≡ length a.args → chosen places pred n ≡ false → IsChanged f places a n old cur → IsChanged f places a (n + 1) old cur
+touched_same f places a n pred old cur name arity not t = λ k. t k ∙ ap (λ (b : Bool). if b then f (labels_in old k) else labels_in old k) (sym (and_lt_more (chosen places k.pred k.place && fits k a) k.place n (λ e both.
+    let p = and_parts _ _ both in
+    let g : Fitting k a = fitting k a p.1 in
+    let one : k.pred ≡ pred = pred_one k.pred pred (g.name ∙ sym name) (g.arity ∙ sym arity) in
+    let c : chosen places pred n ≡ true = subst (λ (z : Pred). chosen places z n ≡ true) one (subst (λ (z : ℕ). chosen places k.pred z ≡ true) e p.0) in
+    false≢true (sym not ∙ c))))
+
+pub touched_more : {S : Type 0} (f : List ℕ → List ℕ) (places : Places) (a : Atom ℕ) (n : ℕ) (pred : Pred) (kk : Key) (old cur new : HashMap Key (List ℕ) S) → pred.name.number ≡ a.name → pred.arity ≡ length a.args → chosen places pred n ≡ true → IsKeyAt a n kk → IsChanged f places a n old cur → ((k : Key) → labels_in new k ≡ (if same_key kk k then f (labels_in cur kk) else labels_in cur k)) → IsChanged f places a (n + 1) old new
+touched_more f places a n pred kk old cur new name arity there h t s = λ k. s k ∙ elim (same_key kk k) as (λ b. (same_key kk k ≡ b) → (if b then f (labels_in cur kk) else labels_in cur k) ≡ (if reached places a (n + 1) k then f (labels_in old k) else labels_in old k)) [
+  | true ↦ λ u.
+      let e : kk ≡ k = same_key_true kk k u in
+      let own = own_fits a n kk k h u in
+      let one : k.pred ≡ pred = pred_one k.pred pred ((fitting k a own.0).name ∙ sym name) ((fitting k a own.0).arity ∙ sym arity) in
+      let c : chosen places k.pred k.place ≡ true = subst (λ (z : ℕ). chosen places k.pred z ≡ true) (sym own.1) (subst (λ (z : Pred). chosen places z n ≡ true) (sym one) there) in
+      let lt : nat_lt k.place (n + 1) ≡ true = lt-ltb k.place (n + 1) (let w : k.place ≡ n = own.1 in omega arith) in
+      let r : reached places a (n + 1) k ≡ true = and_from _ _ (and_from _ _ c own.0) lt in
+      ap f (own_unreached f places a n kk old cur h t ∙ ap (labels_in old) e) ∙ sym (ap (λ (b : Bool). if b then f (labels_in old k) else labels_in old k) r)
+  | false ↦ λ u. t k ∙ ap (λ (b : Bool). if b then f (labels_in old k) else labels_in old k) (sym (and_lt_more (chosen places k.pred k.place && fits k a) k.place n (λ e both.
+      let p = and_parts _ _ both in
+      false≢true (sym u ∙ fits_own a n kk k h p.1 e))))
+] refl
+
+-- ---- the key at a place
+
+pub value_here : (a : Atom ℕ) (n : ℕ) (o : Option (Value ℕ)) → 0 < n → arg_at a n ≡ o → value_at a n ≡ o
+value_here a zero o u h = absurd (omega arith)
+value_here a (suc i) o u h = h
+
+pub value_none : (a : Atom ℕ) (n : ℕ) → n ≡ 0 → value_at a n ≡ Some (ground (values.Int (pos 0)))
+value_none a zero h = refl
+value_none a (suc i) h = absurd (omega arith)
+
+pub get_here : {X : Type 0} (xs : List X) (i : ℕ) (d : X) → i < length xs → slice_get xs i ≡ Some (get_or xs i d)
+get_here [] i d u = absurd (omega arith)
+get_here (x ∷ xs) zero d u = refl
+get_here (x ∷ xs) (suc i) d u = get_here xs i d (omega arith)

@@ -1,0 +1,258 @@
+-- A store with the labels of its keys.
+use Rattle.std.proofs.Common.{◌≡◌, ℕ, zero, suc, ◌+◌, ◌<◌, ◌≤◌, ◌==◌, ◌&&◌, if◌then◌else◌, Bool, true, false, List, [], ◌∷◌, ◌++◌, Option, Some, None, refl, sym, ap, subst, arith, length, ◌∙◌, slice_get, nat_lt, inl, inr, pos, true-eqb}
+use Rattle.std.specs.List.{AllByRecursion}
+use Rattle.std.specs.HashMap.{HashMap}
+use Rattle.std.proofs.lemmas.Bool.{eq-eqb, lt-ltb, cases_eq}
+use Rattle.std.proofs.lemmas.Bool.Decides.{nat_tests}
+use Rattle.chr_value.specs.Atoms.{Value, Atom, ground}
+use Rattle.chr_value.specs.Stores.{Store, atom_at, drop_label}
+use Rattle.chr_value.specs.declared.atom.Pred.{Pred}
+use Rattle.chr_value.specs.declared.atom.Value.{Value as CodeValue}
+use Rattle.chr_value.specs.declared.atom.Value.TheVariants as values
+use Rattle.chr_store.specs.declared.keys.Key.{Key}
+use Rattle.chr_store.specs.Labels.{Rising, GivenBefore}
+use Rattle.chr_store.specs.Keys.{arg_at, HasPred, HasKey, Query, Matches, IsLeastMatch}
+use Rattle.chr_store.specs.Indexed.{LabelHas}
+use Rattle.chr_store.specs.Buckets.{drop_number, IsIn, IsLeastBetween}
+use Rattle.chr_store.specs.Index.{Places, chosen, value_at, fits, labels_in, labels_of, reached, IsChanged, IsIndexOf}
+use Rattle.chr_store.proofs.Entries.{drop_absent}
+use Rattle.chr_store.proofs.Slots.{drop_absent as number_absent, all_map}
+use Rattle.chr_store.proofs.Walks.{above}
+use Rattle.chr_store.proofs.Keep.{Fitting, fitting, fits_from, some_one}
+
+-- ---- the labels of a key, one atom more or fewer
+
+pub labels_all : (P : ℕ → Type 0) (k : Key) (es : Store) → AllByRecursion (λ e. P e.0) es → AllByRecursion P (labels_of k es)
+labels_all P k [] h = tt
+labels_all P k (e ∷ es) h = elim (fits k e.1) as (λ b. AllByRecursion P (if b then e.0 ∷ labels_of k es else labels_of k es)) [ true ↦ (h.0, labels_all P k es h.1) | false ↦ labels_all P k es h.1 ]
+
+given_below : (n : ℕ) (es : Store) → GivenBefore n es → AllByRecursion (λ e. e.0 < n) es
+given_below n [] h = tt
+given_below n (e ∷ es) h = (h.0.1, given_below n es h.1)
+
+pub labels_below : (n : ℕ) (k : Key) (es : Store) → GivenBefore n es → AllByRecursion (λ m. m < n) (labels_of k es)
+labels_below n k es h = labels_all (λ m. m < n) k es (given_below n es h)
+
+pub labels_push : (k : Key) (n : ℕ) (a : Atom ℕ) (es : Store) → labels_of k (es ++ (n, a) ∷ []) ≡ (if fits k a then labels_of k es ++ n ∷ [] else labels_of k es)
+labels_push k n a [] = refl
+labels_push k n a (e ∷ es) = elim (fits k e.1) as (λ b. (if b then e.0 ∷ labels_of k (es ++ (n, a) ∷ []) else labels_of k (es ++ (n, a) ∷ [])) ≡ (if fits k a then (if b then e.0 ∷ labels_of k es else labels_of k es) ++ n ∷ [] else (if b then e.0 ∷ labels_of k es else labels_of k es))) [
+  | true ↦ ap (λ (z : List ℕ). e.0 ∷ z) (labels_push k n a es) ∙ elim (fits k a) as (λ b. (e.0 ∷ (if b then labels_of k es ++ n ∷ [] else labels_of k es)) ≡ (if b then (e.0 ∷ labels_of k es) ++ n ∷ [] else (e.0 ∷ labels_of k es))) [ true ↦ refl | false ↦ refl ]
+  | false ↦ labels_push k n a es
+]
+
+apart_above : (l : ℕ) (ms : List ℕ) → AllByRecursion (λ m. l < m) ms → AllByRecursion (λ m. m ≡ l → ⊥) ms
+apart_above l ms h = all_map (λ m. l < m) (λ m. m ≡ l → ⊥) ms (λ m u e. absurd (omega arith)) h
+
+pub labels_drop : (k : Key) (l : ℕ) (a : Atom ℕ) (es : Store) → Rising es → atom_at es l ≡ Some a → labels_of k (drop_label l es) ≡ (if fits k a then drop_number l (labels_of k es) else labels_of k es)
+labels_drop k l a [] r h = let z : None ≡ Some a = h in absurd (cc)
+labels_drop k l a (e ∷ es) r h =
+    elim (e.0 == l) as (λ b. (e.0 == l ≡ b) → (if b then Some e.1 else atom_at es l) ≡ Some a → labels_of k (if b then drop_label l es else e ∷ drop_label l es) ≡ (if fits k a then drop_number l (if fits k e.1 then e.0 ∷ labels_of k es else labels_of k es) else (if fits k e.1 then e.0 ∷ labels_of k es else labels_of k es))) [
+      | true ↦ λ t at. head t at
+      | false ↦ λ t at. tail t at (labels_drop k l a es r.1 at)
+    ] refl h
+  where
+    head : (e.0 == l ≡ true) → Some e.1 ≡ Some a → labels_of k (drop_label l es) ≡ (if fits k a then drop_number l (if fits k e.1 then e.0 ∷ labels_of k es else labels_of k es) else (if fits k e.1 then e.0 ∷ labels_of k es else labels_of k es))
+    head t at =
+        let same : e.0 ≡ l = true-eqb e.0 l (sym t) in
+        let atom : e.1 ≡ a = cc in
+        let up : AllByRecursion (λ f. l < f.0) es = subst (λ z. AllByRecursion (λ f. z < f.0) es) same r.0 in
+        let gone : drop_label l es ≡ es = drop_absent l es up in
+        let none : drop_number l (labels_of k es) ≡ labels_of k es = number_absent l (labels_of k es) (apart_above l (labels_of k es) (labels_all (λ m. l < m) k es up)) in
+        let fit : fits k e.1 ≡ fits k a = ap (fits k) atom in
+        ap (labels_of k) gone ∙ subst (λ b. labels_of k es ≡ (if fits k a then drop_number l (if b then e.0 ∷ labels_of k es else labels_of k es) else (if b then e.0 ∷ labels_of k es else labels_of k es))) (sym fit) (elim (fits k a) as (λ b. labels_of k es ≡ (if b then drop_number l (if b then e.0 ∷ labels_of k es else labels_of k es) else (if b then e.0 ∷ labels_of k es else labels_of k es))) [
+          | true ↦ sym (ap (λ (b : Bool). if b then drop_number l (labels_of k es) else e.0 ∷ drop_number l (labels_of k es)) t ∙ none)
+          | false ↦ refl
+        ])
+
+    tail : (e.0 == l ≡ false) → atom_at es l ≡ Some a → labels_of k (drop_label l es) ≡ (if fits k a then drop_number l (labels_of k es) else labels_of k es) → (if fits k e.1 then e.0 ∷ labels_of k (drop_label l es) else labels_of k (drop_label l es)) ≡ (if fits k a then drop_number l (if fits k e.1 then e.0 ∷ labels_of k es else labels_of k es) else (if fits k e.1 then e.0 ∷ labels_of k es else labels_of k es))
+    tail t at rest =
+        ap (λ (z : List ℕ). if fits k e.1 then e.0 ∷ z else z) rest ∙ elim (fits k e.1) as (λ b. (if b then e.0 ∷ (if fits k a then drop_number l (labels_of k es) else labels_of k es) else (if fits k a then drop_number l (labels_of k es) else labels_of k es)) ≡ (if fits k a then drop_number l (if b then e.0 ∷ labels_of k es else labels_of k es) else (if b then e.0 ∷ labels_of k es else labels_of k es))) [
+          | true ↦ elim (fits k a) as (λ b. (e.0 ∷ (if b then drop_number l (labels_of k es) else labels_of k es)) ≡ (if b then drop_number l (e.0 ∷ labels_of k es) else e.0 ∷ labels_of k es)) [
+            | true ↦ sym (ap (λ (b : Bool). if b then drop_number l (labels_of k es) else e.0 ∷ drop_number l (labels_of k es)) t)
+            | false ↦ refl
+          ]
+          | false ↦ refl
+        ]
+
+-- ---- the index, one atom more or fewer
+
+place_within : (k : Key) (a : Atom ℕ) → fits k a ≡ true → k.place < length a.args + 1
+place_within k a h = within a.args k.place (ground k.value) (λ i e. subst (λ (z : ℕ). value_at a z ≡ Some (ground k.value)) e (fitting k a h).value)
+  where
+    short : (ts : List (Value ℕ)) (i : ℕ) (t : Value ℕ) → slice_get ts i ≡ Some t → i < length ts
+    short [] i t h = absurd (cc)
+    short (u ∷ ts) zero t h = omega arith
+    short (u ∷ ts) (suc i) t h = let z : i < length ts = short ts i t h in omega arith
+
+    within : (ts : List (Value ℕ)) (p : ℕ) (t : Value ℕ) → ((i : ℕ) → p ≡ suc i → slice_get ts i ≡ Some t) → p < length ts + 1
+    within ts zero t h = omega arith
+    within ts (suc i) t h = let z : i < length ts = short ts i t (h i refl) in omega arith
+
+-- with all places reached
+all_reached : (places : Places) (a : Atom ℕ) (k : Key) → reached places a (length a.args + 1) k ≡ (chosen places k.pred k.place && fits k a)
+all_reached places a k = elim (chosen places k.pred k.place) as (λ b. ((b && fits k a) && nat_lt k.place (length a.args + 1)) ≡ (b && fits k a)) [
+  | true ↦ elim (fits k a) as (λ b. (fits k a ≡ b) → (b && nat_lt k.place (length a.args + 1)) ≡ b) [ true ↦ λ t. lt-ltb _ _ (place_within k a t) | false ↦ λ t. refl ] refl
+  | false ↦ refl
+]
+
+-- what every place reaches, some place reaches only where all do
+part_reached : (places : Places) (a : Atom ℕ) (n : ℕ) (k : Key) → (chosen places k.pred k.place && fits k a) ≡ false → reached places a n k ≡ false
+part_reached places a n k h = ap (λ (b : Bool). b && nat_lt k.place n) h
+
+pub kept_push : {S : Type 0} (places : Places) (n : ℕ) (a : Atom ℕ) (es : Store) (old new : HashMap Key (List ℕ) S) → IsIndexOf places es old → IsChanged (λ ms. ms ++ n ∷ []) places a (length a.args + 1) old new → IsIndexOf places (es ++ (n, a) ∷ []) new
+kept_push places n a es old new h t = λ k. t k ∙ ap (λ (b : Bool). if b then labels_in old k ++ n ∷ [] else labels_in old k) (all_reached places a k) ∙ subst (λ (z : List ℕ). (if chosen places k.pred k.place && fits k a then z ++ n ∷ [] else z) ≡ (if chosen places k.pred k.place then labels_of k (es ++ (n, a) ∷ []) else [])) (sym (h k)) (elim (chosen places k.pred k.place) as (λ b. (if b && fits k a then (if b then labels_of k es else []) ++ n ∷ [] else (if b then labels_of k es else [])) ≡ (if b then labels_of k (es ++ (n, a) ∷ []) else [])) [
+  | true ↦ sym (labels_push k n a es)
+  | false ↦ refl
+])
+
+pub kept_drop : {S : Type 0} (places : Places) (l : ℕ) (a : Atom ℕ) (es : Store) (old new : HashMap Key (List ℕ) S) → Rising es → atom_at es l ≡ Some a → IsIndexOf places es old → IsChanged (drop_number l) places a (length a.args + 1) old new → IsIndexOf places (drop_label l es) new
+kept_drop places l a es old new r at h t = λ k. t k ∙ ap (λ (b : Bool). if b then drop_number l (labels_in old k) else labels_in old k) (all_reached places a k) ∙ subst (λ (z : List ℕ). (if chosen places k.pred k.place && fits k a then drop_number l z else z) ≡ (if chosen places k.pred k.place then labels_of k (drop_label l es) else [])) (sym (h k)) (elim (chosen places k.pred k.place) as (λ b. (if b && fits k a then drop_number l (if b then labels_of k es else []) else (if b then labels_of k es else [])) ≡ (if b then labels_of k (drop_label l es) else [])) [
+  | true ↦ sym (labels_drop k l a es r at)
+  | false ↦ refl
+])
+
+pub drop_none : (l : ℕ) (es : Store) → atom_at es l ≡ None → drop_label l es ≡ es
+drop_none l [] h = refl
+drop_none l (e ∷ es) h = elim (e.0 == l) as (λ b. (if b then Some e.1 else atom_at es l) ≡ None → (if b then drop_label l es else e ∷ drop_label l es) ≡ e ∷ es) [ true ↦ λ k. absurd (cc) | false ↦ λ k. ap (λ (z : Store). e ∷ z) (drop_none l es k) ] h
+
+pub kept_below : {S : Type 0} (places : Places) (n : ℕ) (es : Store) (m : HashMap Key (List ℕ) S) → GivenBefore n es → IsIndexOf places es m → (k : Key) → AllByRecursion (λ l. l < n) (labels_in m k)
+kept_below places n es m g h k = subst (AllByRecursion (λ l. l < n)) (sym (h k)) (elim (chosen places k.pred k.place) as (λ b. AllByRecursion (λ l. l < n) (if b then labels_of k es else [])) [ true ↦ labels_below n k es g | false ↦ tt ])
+
+pushed_back : (l : ℕ) (ms : List ℕ) → AllByRecursion (λ m. m < l) ms → drop_number l (ms ++ l ∷ []) ≡ ms
+pushed_back l [] h = grind (arith, nat_tests)
+pushed_back l (m ∷ ms) h = let u : m < l = h.0 in grind (arith, nat_tests, pushed_back l ms h.1)
+
+-- what was entered, in part or whole, and left again is as before
+pub kept_undone : {S : Type 0} (places : Places) (n l : ℕ) (a : Atom ℕ) (es : Store) (old mid new : HashMap Key (List ℕ) S) → GivenBefore l es → IsIndexOf places es old → IsChanged (λ ms. ms ++ l ∷ []) places a n old mid → IsChanged (drop_number l) places a (length a.args + 1) mid new → IsIndexOf places es new
+kept_undone places n l a es old mid new g h t s = λ k. s k ∙ ap (λ (b : Bool). if b then drop_number l (labels_in mid k) else labels_in mid k) (all_reached places a k) ∙ back k ∙ h k
+  where
+    below : (k : Key) → AllByRecursion (λ m. m < l) (labels_in old k)
+    below k = kept_below places l es old g h k
+
+    out : (k : Key) → drop_number l (if reached places a n k then labels_in old k ++ l ∷ [] else labels_in old k) ≡ labels_in old k
+    out k = elim (reached places a n k) as (λ b. drop_number l (if b then labels_in old k ++ l ∷ [] else labels_in old k) ≡ labels_in old k) [
+      | true ↦ pushed_back l (labels_in old k) (below k)
+      | false ↦ number_absent l (labels_in old k) (all_map (λ m. m < l) (λ m. m ≡ l → ⊥) (labels_in old k) (λ m u e. absurd (omega arith)) (below k))
+    ]
+
+    back : (k : Key) → (if chosen places k.pred k.place && fits k a then drop_number l (labels_in mid k) else labels_in mid k) ≡ labels_in old k
+    back k = elim (chosen places k.pred k.place && fits k a) as (λ b. (chosen places k.pred k.place && fits k a ≡ b) → (if b then drop_number l (labels_in mid k) else labels_in mid k) ≡ labels_in old k) [
+      | true ↦ λ u. ap (drop_number l) (t k) ∙ out k
+      | false ↦ λ u. t k ∙ ap (λ (b : Bool). if b then labels_in old k ++ l ∷ [] else labels_in old k) (part_reached places a n k u)
+    ] refl
+
+-- ---- the least of a key
+
+pub record Under (k : Key) (es : Store) (l : ℕ) : Type 0 where
+  pub atom : Atom ℕ
+  pub there : atom_at es l ≡ Some atom
+  pub fit : fits k atom ≡ true
+
+pub under_is_in : (k : Key) (es : Store) (l : ℕ) → Rising es → IsIn l (labels_of k es) → Under k es l
+under_is_in k [] l r h = absurd h
+under_is_in k (e ∷ es) l r h =
+    elim (fits k e.1) as (λ b. (fits k e.1 ≡ b) → IsIn l (if b then e.0 ∷ labels_of k es else labels_of k es) → Under k (e ∷ es) l) [
+      | true ↦ λ t st. elim st [
+        | inl same ↦ record { atom = e.1; there = ap (λ (b : Bool). if b then Some e.1 else atom_at es l) (eq-eqb e.0 l same); fit = t }
+        | inr more ↦ later (under_is_in k es l r.1 more)
+      ]
+      | false ↦ λ t st. later (under_is_in k es l r.1 st)
+    ] refl h
+  where
+    later : Under k es l → Under k (e ∷ es) l
+    later u = record { atom = u.atom; there = (let lt : e.0 < l = above e.0 es l u.atom r.0 u.there in grind (arith, nat_tests, u.there)); fit = u.fit }
+
+pub is_in_under : (k : Key) (es : Store) (l : ℕ) (a : Atom ℕ) → atom_at es l ≡ Some a → fits k a ≡ true → IsIn l (labels_of k es)
+is_in_under k [] l a h f = let z : None ≡ Some a = h in absurd (cc)
+is_in_under k (e ∷ es) l a h f =
+    elim (e.0 == l) as (λ b. (e.0 == l ≡ b) → (if b then Some e.1 else atom_at es l) ≡ Some a → IsIn l (if fits k e.1 then e.0 ∷ labels_of k es else labels_of k es)) [
+      | true ↦ λ t at. let atom : e.1 ≡ a = cc in subst (λ (b : Bool). IsIn l (if b then e.0 ∷ labels_of k es else labels_of k es)) (sym (ap (fits k) atom ∙ f)) (inl (true-eqb e.0 l (sym t)))
+      | false ↦ λ t at. elim (fits k e.1) as (λ b. IsIn l (if b then e.0 ∷ labels_of k es else labels_of k es)) [ true ↦ inr (is_in_under k es l a at f) | false ↦ is_in_under k es l a at f ]
+    ] refl h
+
+-- a key says what a query asks
+pub record Asks (k : Key) (q : Query) : Type 0 where
+  pub met : (a : Atom ℕ) → fits k a ≡ true → HasPred q.pred a × HasKey q.key a
+  pub fit : (a : Atom ℕ) → HasPred q.pred a → HasKey q.key a → fits k a ≡ true
+
+pub least_meets : (es : Store) (q : Query) (k : Key) (found : Option ℕ) → Rising es → Asks k q → IsLeastBetween (labels_of k es) q.after q.below found → IsLeastMatch es q found
+least_meets es q k None r asks h = λ l m. h l (is_in_under k es l m.atom m.there (asks.fit m.atom m.pred m.key)) m.over m.under
+least_meets es q k (Some l) r asks h =
+    let u = under_is_in k es l r h.0 in
+    let met = asks.met u.atom u.fit in
+    (record { atom = u.atom; there = u.there; pred = met.0; key = met.1; over = h.1; under = h.2 }, λ n m. h.3 n (is_in_under k es n m.atom m.there (asks.fit m.atom m.pred m.key)) m.over)
+
+-- ---- a walk over the labels of a predicate, for one whose atom has a term at a place
+
+abbrev pub own_key : Pred → Key
+own_key pred = record { pred = pred; place = 0; value = values.Int (pos 0) }
+
+abbrev pub asked : Pred → Option (ℕ × Value ℕ) → ℕ → ℕ → Query
+asked pred key after below = record { pred = pred; key = key; after = after; below = below }
+
+own_met : (pred : Pred) (a : Atom ℕ) → fits (own_key pred) a ≡ true → HasPred pred a
+own_met pred a f = let g : Fitting (own_key pred) a = fitting (own_key pred) a f in (sym g.name, sym g.arity)
+
+own_fit : (pred : Pred) (a : Atom ℕ) → HasPred pred a → fits (own_key pred) a ≡ true
+own_fit pred a h = fits_from (own_key pred) a (record { name = sym h.0; arity = sym h.1; value = refl })
+
+pub asks_own : (pred : Pred) (after below : ℕ) → Asks (own_key pred) (asked pred None after below)
+asks_own pred after below = record { met = λ a f. (own_met pred a f, tt); fit = λ a h k. own_fit pred a h }
+
+arg_value : (a : Atom ℕ) (n : ℕ) → 0 < n → arg_at a n ≡ value_at a n
+arg_value a zero u = absurd (omega arith)
+arg_value a (suc i) u = refl
+
+pub asks_at : (pred : Pred) (n : ℕ) (v : CodeValue) (after below : ℕ) → 0 < n → Asks (record { pred = pred; place = n; value = v }) (asked pred (Some (n, ground v)) after below)
+asks_at pred n v after below u = record {
+  met = λ a f. (let g : Fitting (record { pred = pred; place = n; value = v }) a = fitting (record { pred = pred; place = n; value = v }) a f in ((sym g.name, sym g.arity), arg_value a n u ∙ g.value));
+  fit = λ a h k. fits_from (record { pred = pred; place = n; value = v }) a (record { name = sym h.0; arity = sym h.1; value = sym (arg_value a n u) ∙ k });
+}
+
+-- the walk has left what lies up to a label
+pub record IsWalked (es : Store) (q : Query) (from : ℕ) : Type 0 where
+  pub over : q.after ≤ from
+  pub left : (m : ℕ) → Matches es q m → from < m
+
+pub walk_start : (es : Store) (q : Query) → IsWalked es q q.after
+walk_start es q = record { over = omega arith; left = λ m w. w.over }
+
+pub walk_on : (es : Store) (pred : Pred) (n : ℕ) (t : Value ℕ) (after below from l : ℕ) → IsWalked es (asked pred (Some (n, t)) after below) from → from < l → ((m : ℕ) → IsIn m (labels_of (own_key pred) es) → from < m → l ≤ m) → (LabelHas es l n t → ⊥) → IsWalked es (asked pred (Some (n, t)) after below) l
+walk_on es pred n t after below from l h u least lacks = record {
+  over = (let z : after ≤ from = h.over in omega arith);
+  left = λ m w. beyond m w (least m (is_in_under (own_key pred) es m w.atom w.there (own_fit pred w.atom w.pred)) (h.left m w));
+}
+  where
+    beyond : (m : ℕ) → Matches es (asked pred (Some (n, t)) after below) m → l ≤ m → l < m
+    beyond m w le = elim (cases_eq l m) [
+      | inl e ↦ absurd (lacks (record { atom = w.atom; there = subst (λ z. atom_at es z ≡ Some w.atom) (sym e) w.there; has = w.key }))
+      | inr d ↦ omega arith
+    ]
+
+pub walk_found : (es : Store) (pred : Pred) (n : ℕ) (t : Value ℕ) (after below from l : ℕ) → Rising es → IsWalked es (asked pred (Some (n, t)) after below) from → IsIn l (labels_of (own_key pred) es) → from < l → l < below → ((m : ℕ) → IsIn m (labels_of (own_key pred) es) → from < m → l ≤ m) → LabelHas es l n t → IsLeastMatch es (asked pred (Some (n, t)) after below) (Some l)
+walk_found es pred n t after below from l r h st u v least has =
+    let under = under_is_in (own_key pred) es l r st in
+    let same : under.atom ≡ has.atom = some_one _ _ (sym under.there ∙ has.there) in (
+      record { atom = has.atom; there = has.there; pred = subst (HasPred pred) same (own_met pred under.atom under.fit); key = has.has; over = (let z : after ≤ from = h.over in omega arith); under = v },
+      λ m w. least m (is_in_under (own_key pred) es m w.atom w.there (own_fit pred w.atom w.pred)) (h.left m w),
+    )
+
+pub walk_end : (es : Store) (pred : Pred) (n : ℕ) (t : Value ℕ) (after below from : ℕ) → IsWalked es (asked pred (Some (n, t)) after below) from → ((m : ℕ) → IsIn m (labels_of (own_key pred) es) → from < m → m < below → ⊥) → IsLeastMatch es (asked pred (Some (n, t)) after below) None
+walk_end es pred n t after below from h none = λ m w. none m (is_in_under (own_key pred) es m w.atom w.there (own_fit pred w.atom w.pred)) (h.left m w) w.under
+
+-- ---- a copy
+
+pub kept_under : {S : Type 0} (places : Places) (n : ℕ) (es : Store) (m : HashMap Key (List ℕ) S) → AllByRecursion (λ e. e.0 < n) es → IsIndexOf places es m → (k : Key) → AllByRecursion (λ l. l < n) (labels_in m k)
+kept_under places n es m g h k = subst (AllByRecursion (λ l. l < n)) (sym (h k)) (elim (chosen places k.pred k.place) as (λ b. AllByRecursion (λ l. l < n) (if b then labels_of k es else [])) [ true ↦ labels_all (λ l. l < n) k es g | false ↦ tt ])
+
+pub before_all : (l : ℕ) (a : Atom ℕ) (es rest : Store) → Rising (es ++ (l, a) ∷ rest) → AllByRecursion (λ e. e.0 < l) es
+before_all l a [] rest h = tt
+before_all l a (e ∷ es) rest h = (first e.0 es h.0, before_all l a es rest h.1)
+  where
+    first : (k : ℕ) (es : Store) → AllByRecursion (λ f. k < f.0) (es ++ (l, a) ∷ rest) → k < l
+    first k [] h = h.0
+    first k (f ∷ es) h = first k es h.1
+
+pub append_none : (es : Store) → es ++ [] ≡ es
+append_none [] = refl
+append_none (e ∷ es) = ap (λ (z : Store). e ∷ z) (append_none es)
