@@ -5,13 +5,9 @@ use Rattle.chr_value.specs.Naming.{Table}
 use Rattle.chr_lex.specs.declared.fault.ReadError.{ReadError}
 use Rattle.chr_lex.specs.declared.fault.ReadError.TheVariants as errors
 use Rattle.chr_text.specs.Reading.{posts_of}
-use Rattle.chr_calls.specs.Books.{BookState}
+use Rattle.chr_calls.specs.Books.{BookState, with_names}
 use Rattle.chr_calls.specs.Calls.{all_posted}
 use Rattle.chr_book.specs.declared.texts.Posted.{Posted}
-
--- the book with another table of names
-abbrev pub with_names : BookState → Table → BookState
-with_names b table = record { rules = b.rules; plans = b.plans; names = table; limit = b.limit; log = b.log; store = b.store; next = b.next; tickets = b.tickets }
 
 -- the text's atoms have taken the next tickets, and its names are in the table
 pub record PostsAtoms (b : BookState) (seat : ℕ) (bytes : List ℕ) (posted : Posted) (n : BookState) : Type 0 where

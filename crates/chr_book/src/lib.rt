@@ -11,6 +11,8 @@
 //! | [`claim`](book::Book::claim) | a waiting ticket's atom enters the store under the next label, or a resting one goes on |
 //! | [`trial`](book::Book::trial) | the next trial of a goal becomes its candidate |
 //! | [`report`](book::Book::report) | the search goes on after a candidate that is no instance |
+//! | [`batch`](book::Book::batch) | so does the next trial, and those after it that differ in their last label alone come along |
+//! | [`report_batch`](book::Book::report_batch) | the judgements of a batch are reported up to the first that is an instance |
 //! | [`fire`](book::Book::fire) | a candidate that is an instance fires, where its labels are all live |
 //! | [`drop_goal`](book::Book::drop_goal) | a goal whose search has no trial left ends |
 //! | [`put_down`](book::Book::put_down), [`mark_stray`](book::Book::mark_stray), [`take_stray`](book::Book::take_stray) | tickets that wait for another seat |
@@ -26,9 +28,11 @@
 //! store and goals; with labels erased its firings are an abstract run from the atoms posted; no label is removed twice;
 //! and where no goal is open, no rule applies to the store.
 //!
-//! Each call makes its growths before anything else, so after E01 nothing has changed.
+//! After E01 nothing has changed, but that the judgements which [`report_batch`](book::Book::report_batch) has reported
+//! before it stand.
 #![tactic(auto)]
 
+mod batches;
 mod body;
 pub mod book;
 mod calls;

@@ -1,0 +1,4 @@
+pub mod Lists
+pub mod Told
+pub mod CallLists
+pub mod Code

@@ -1,0 +1,20 @@
+//! Lists of calls of a book.
+//!
+//! [`run_calls`](run::run_calls) makes any list of calls by any seats on one book, one after another, and answers each as
+//! the table of `chr_calls` has it. So a list of calls is one order in which several seats come to a book that they share.
+//! Calls that only read a book, as `quiet`, `state` and `shot`, change nothing, and have no place in a list.
+//!
+//! A [`SeatCall`](calls::SeatCall) is a call with the number of its seat. A report or a firing names the judgement that it
+//! goes by, a [`Word`](calls::Word): one that is given, or the seat's own, which is that of the last trial that the seat
+//! was told for the ticket in this list. In the same way the report of a batch goes by [`Words`](calls::Words).
+//!
+//! `AnswersAre` says of a book, calls, their answers and the book afterwards that each answer is the one of its call's line
+//! in the table, in order. [`laws`] are contracts of functions that do nothing: answers to a list of calls are a run of the
+//! book, and so, from a book as it is opened, the headline of `chr_calls` holds for exactly the atoms that the calls
+//! posted.
+#![tactic(auto)]
+
+pub mod calls;
+pub mod laws;
+mod own;
+pub mod run;
