@@ -1,0 +1,9 @@
+pub mod Pieces
+pub mod Passed
+pub mod FirstSpelled
+pub mod Written
+pub mod Underway
+pub mod Once
+pub mod Numbers
+pub mod LaidOut
+pub mod CommandsRead

@@ -1,0 +1,43 @@
+-- One piece written after another.
+use Rattle.std.proofs.Common.{◌≡◌, ◌+◌, ◌-◌, ℕ, suc, zero-add, min, List, [], ◌∷◌, ◌++◌, length, take, drop, sym, ap, subst, ◌∙◌, arith, append_assoc}
+use Rattle.std.proofs.Math.Seq.{take-add}
+use Rattle.std.proofs.lemmas.List.{take_rest}
+use Rattle.std.proofs.lemmas.Grind.{common_steps}
+use Rattle.chr_session.specs.Replies.{Wrote, Began}
+
+pub wrote_piece : {A B C : List ℕ → Type 0} (bytes : List ℕ) (at n : ℕ) → Wrote A B (take at bytes) → ((all : List ℕ) → B all → C (all ++ take n (take (length bytes - at) (drop at bytes)))) → Wrote A C (take (at + n) bytes)
+wrote_piece {A} {B} {C} bytes at n before piece = record {
+  told = λ all a.
+      let e : (all ++ take at bytes) ++ take n (drop at bytes) ≡ all ++ take (at + n) bytes = append_assoc all (take at bytes) (take n (drop at bytes)) ∙ ap (λ t. all ++ t) (sym (take-add at n bytes)) in
+      let f : (all ++ take at bytes) ++ take n (take (length bytes - at) (drop at bytes)) ≡ (all ++ take at bytes) ++ take n (drop at bytes) = ap (λ t. (all ++ take at bytes) ++ take n t) (take_rest bytes at) in
+      subst C (f ∙ e) (piece (all ++ take at bytes) (before.told all a));
+}
+
+pub wrote_both : {A B C : List ℕ → Type 0} {x y : List ℕ} → Wrote A B x → Wrote B C y → Wrote A C (x ++ y)
+wrote_both {A} {B} {C} {x} {y} first second = record { told = λ all a. subst C (append_assoc all x y) (second.told (all ++ x) (first.told all a)) }
+
+take-all : (x : List ℕ) → take (length x) x ≡ x
+take-all x = grind (arith, common_steps)
+
+take_first : (k : ℕ) (x y : List ℕ) → take (min k (length x)) (x ++ y) ≡ take k x
+take_first k x y = grind (arith, common_steps)
+
+take_past : (k : ℕ) (x y : List ℕ) → take (length x + k) (x ++ y) ≡ x ++ take k y
+take_past k [] y = ap (λ n. take n y) (zero-add k)
+take_past k (b ∷ x) y = let e : length (b ∷ x) + k ≡ suc (length x + k) = omega arith in rw e (ap (λ t. b ∷ t) (take_past k x y))
+
+pub began_first : {A B : List ℕ → Type 0} {x : List ℕ} (y : List ℕ) → Began A B x → Began A B (x ++ y)
+began_first {A} {B} {x} y began = record {
+  told = λ all a. let b = began.told all a in (min b.0 (length x), subst B (ap (λ t. all ++ t) (sym (take_first b.0 x y))) b.1);
+}
+
+pub began_second : {A B C : List ℕ → Type 0} {x y : List ℕ} → Wrote A B x → Began B C y → Began A C (x ++ y)
+began_second {A} {B} {C} {x} {y} first second = record {
+  told = λ all a.
+      let b = second.told (all ++ x) (first.told all a) in
+      let e : (all ++ x) ++ take b.0 y ≡ all ++ take (length x + b.0) (x ++ y) = append_assoc all x (take b.0 y) ∙ ap (λ t. all ++ t) (sym (take_past b.0 x y)) in
+      (length x + b.0, subst C e b.1);
+}
+
+pub began_all : {A B : List ℕ → Type 0} {x : List ℕ} → Wrote A B x → Began A B x
+began_all {A} {B} {x} wrote = record { told = λ all a. (length x, subst B (ap (λ t. all ++ t) (sym (take-all x))) (wrote.told all a)) }

@@ -1,0 +1,5 @@
+use Rattle.chr_session.proofs.CommandsRead.{log_read}
+use Rattle.chr_session.proofs.laws.log_is_read.Goals as goal
+
+pub returns : goal.returns
+returns c = log_read

@@ -1,0 +1,5 @@
+use Rattle.chr_session.proofs.Once.{spells_once}
+use Rattle.chr_session.proofs.laws.spelled_once.Goals as goal
+
+pub returns : goal.returns
+returns c = spells_once

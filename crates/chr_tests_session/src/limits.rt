@@ -1,0 +1,210 @@
+//! Lines and loads up to their limits, and past them.
+use crate::serving::end;
+use crate::talks::GREATEST;
+use chr_session::commands::Ended;
+use chr_session::memory::{MemorySink, MemorySource};
+use chr_session::streams::StreamSource;
+use std::alloc::{AllocError, Global};
+use std::io::Read;
+use std::test::Fail;
+
+/// A text, a byte that follows it so many times, and what follows these; the replies, and how the session ends.
+type Row<'r> = (&'r [u8], u8, usize, &'r [u8], &'r [u8], Ended);
+
+const ROWS: [Row; 20] = [
+    (
+        b"",
+        b'x',
+        4097,
+        b"\nquit\n",
+        b"fault E22 LineTooLong\nbye\n",
+        Ended::Quit,
+    ),
+    (
+        b"",
+        b'x',
+        4096,
+        b"\nquit\n",
+        b"fault E21 UnknownCommand\nbye\n",
+        Ended::Quit,
+    ),
+    (
+        b"",
+        b'x',
+        4096,
+        b"\r\nquit\n",
+        b"fault E21 UnknownCommand\nbye\n",
+        Ended::Quit,
+    ),
+    (
+        b"",
+        b'x',
+        4096,
+        b"\r\r\nquit\n",
+        b"fault E22 LineTooLong\nbye\n",
+        Ended::Quit,
+    ),
+    (
+        b"",
+        b'x',
+        4096,
+        b"\rx\nquit\n",
+        b"fault E22 LineTooLong\nbye\n",
+        Ended::Quit,
+    ),
+    (b"", b' ', 4096, b"\nquit\n", b"bye\n", Ended::Quit),
+    (b"", b'\t', 4096, b"\r\nquit\n", b"bye\n", Ended::Quit),
+    (
+        b"",
+        b' ',
+        4097,
+        b"\nquit\n",
+        b"fault E22 LineTooLong\nbye\n",
+        Ended::Quit,
+    ),
+    (b"quit", b' ', 4092, b"\n", b"bye\n", Ended::Quit),
+    (
+        b"quit",
+        b' ',
+        4093,
+        b"\n",
+        b"fault E22 LineTooLong\n",
+        Ended::End,
+    ),
+    (
+        b"load 9",
+        b' ',
+        4091,
+        b"\nquit\n",
+        b"fault E22 LineTooLong\nbye\n",
+        Ended::Quit,
+    ),
+    (
+        b"load 0\npost a.",
+        b' ',
+        4089,
+        b"\nlog 1\n",
+        b"loaded 0\nposted 1 1\nlog 1\nP 1 a\n",
+        Ended::End,
+    ),
+    (
+        b"load 0\npost a.",
+        b' ',
+        4090,
+        b"\nlog 1\n",
+        b"loaded 0\nfault E22 LineTooLong\nlog 0\n",
+        Ended::End,
+    ),
+    (b"", b'x', 4097, b"", b"fault E23 Cut\n", Ended::Cut),
+    (
+        b"load 65536\na <=> b.",
+        b' ',
+        65_528,
+        b"quit\n",
+        b"loaded 1\nbye\n",
+        Ended::Quit,
+    ),
+    (
+        b"load 65536\n",
+        b' ',
+        65_535,
+        b"",
+        b"fault E23 Cut\n",
+        Ended::Cut,
+    ),
+    (
+        b"load 65537\n",
+        b'\n',
+        65_537,
+        b"store\n",
+        b"fault E09 TooLong 0\nfault E24 NoProgram\n",
+        Ended::End,
+    ),
+    (
+        b"load 75\ngcd(0) <=> true.\ngcd(N) \\ gcd(M) <=> 0 < N, N =< M | L is M mod N, gcd(L).\nload 65537\n",
+        b'x',
+        65_537,
+        b"store\n",
+        b"loaded 2\nfault E09 TooLong 0\nstore 0\n",
+        Ended::End,
+    ),
+    (
+        b"load 0\nload 65536\n",
+        b'x',
+        65_536,
+        b"store\n",
+        b"loaded 0\nfault E20 AlreadyLoaded\nstore 0\n",
+        Ended::End,
+    ),
+    (
+        b"load 65537\n",
+        b'\n',
+        65_536,
+        b"",
+        b"fault E23 Cut\n",
+        Ended::Cut,
+    ),
+];
+
+/// The input of a row.
+fn input(alloc: Global, row: &Row) -> Result<Vec<u8, Global>, AllocError> {
+    let (before, byte, count, after, _, _) = *row;
+    let mut input = Vec::new(alloc);
+    input.extend_from_slice(before)?;
+    for _filled in 0..count {
+        input.push(byte)?;
+    }
+    input.extend_from_slice(after)?;
+    Ok(input)
+}
+
+/// Whether a session is served as a row says, with its input cut in two at this byte.
+fn is_served(alloc: Global, row: &Row, input: &[u8], cut: usize) -> bool {
+    let (_, _, _, _, replies, wanted) = *row;
+    let Some((front, back)) = input.split_at_checked(cut) else {
+        return true;
+    };
+    let mut source = StreamSource::new(front.chain(back));
+    let mut sink = MemorySink::new(alloc, 65_536);
+    let (ended, _) = end(alloc, GREATEST, &mut source, &mut sink);
+    ended == Ok(wanted) && sink.bytes.as_slice() == replies
+}
+
+#[test]
+fn lines_and_loads(rt: HostRuntime) -> Result<(), Fail> {
+    for (i, row) in ROWS.iter().enumerate() {
+        let (before, _, count, _, replies, wanted) = *row;
+        let input = input(rt.alloc(), row)?;
+        for piece in [1, 65_536] {
+            let mut source = MemorySource::new(&input, piece);
+            let mut sink = MemorySink::new(rt.alloc(), piece);
+            let (ended, _) = end(rt.alloc(), GREATEST, &mut source, &mut sink);
+            assert_eq!(rt; ended, Ok(wanted), "row {i} in pieces of {piece}");
+            assert_eq!(rt;
+                sink.bytes.as_slice(),
+                replies,
+                "row {i} in pieces of {piece}"
+            );
+        }
+        // Around the place where the repeated bytes begin, and where they end.
+        for place in [before.len(), before.len().saturating_add(count)] {
+            for cut in place.saturating_sub(12)..place.saturating_add(12) {
+                let is = is_served(rt.alloc(), row, &input, cut);
+                assert!(rt; is, "row {i} cut at {cut}");
+            }
+        }
+    }
+    Ok(())
+}
+
+#[test]
+fn long_line_cut_anywhere(rt: HostRuntime) -> Result<(), Fail> {
+    let input = input(rt.alloc(), &ROWS[0])?;
+    for cut in 0..=input.len() {
+        assert!(rt;
+            is_served(rt.alloc(), &ROWS[0], &input, cut),
+            "cut at {cut}"
+        );
+    }
+    Ok(())
+}

@@ -1,0 +1,80 @@
+//! Sessions whose input comes in one piece, in single bytes, and in two pieces.
+use crate::serving::{end, texts};
+use crate::talks::{GREATEST, TALKS, Talk};
+use chr_session::commands::Ended;
+use chr_session::devices::Source;
+use chr_session::memory::{MemorySink, MemorySource};
+use chr_session::streams::StreamSource;
+use std::alloc::Global;
+use std::io::Read;
+use std::test::Fail;
+
+/// Whether a session is served so, with its replies taken in pieces of this size.
+fn is_served<S: Source>(
+    alloc: Global,
+    talk: &Talk,
+    replies: &[u8],
+    source: &mut S,
+    piece: usize,
+) -> bool {
+    let mut sink = MemorySink::new(alloc, piece);
+    let ended = end(alloc, talk.limit, source, &mut sink);
+    ended == (Ok(talk.ended), talk.stands) && sink.bytes.as_slice() == replies
+}
+
+#[test]
+fn worked_sessions(rt: HostRuntime) -> Result<(), Fail> {
+    for talk in &TALKS {
+        let (input, replies) = texts(rt.alloc(), talk.commands)?;
+        let mut whole = MemorySource::new(&input, 65_536);
+        let is = is_served(rt.alloc(), talk, &replies, &mut whole, 65_536);
+        assert!(rt; is, "{} in one piece", talk.name);
+        let mut bytes = MemorySource::new(&input, 1);
+        let is = is_served(rt.alloc(), talk, &replies, &mut bytes, 1);
+        assert!(rt; is, "{} in single bytes", talk.name);
+        for cut in 0..=input.len() {
+            let (front, back) = input.split_at(cut);
+            let mut halves = StreamSource::new(front.chain(back));
+            let is = is_served(rt.alloc(), talk, &replies, &mut halves, 65_536);
+            assert!(rt; is, "{} cut at {cut}", talk.name);
+        }
+    }
+    Ok(())
+}
+
+/// Inputs that end inside a command.
+const CUTS: [&[u8]; 16] = [
+    b"q",
+    b"quit",
+    b"quit\r",
+    b" ",
+    b"\t\r",
+    b"store a",
+    b"hello",
+    b"post p(X).",
+    b"load",
+    b"load 9",
+    b"load 9\r",
+    b"load 9\n",
+    b"load 9\na ==> b.",
+    b"load 65537",
+    b"load 65537\na <=> b.\nquit\n",
+    b"load 4294967295\na <=> b.\nquit\n",
+];
+
+#[test]
+fn cut_commands(rt: HostRuntime) {
+    for (i, input) in CUTS.iter().enumerate() {
+        for piece in [1, 65_536] {
+            let mut sink = MemorySink::new(rt.alloc(), piece);
+            let mut source = MemorySource::new(input, piece);
+            let ended = end(rt.alloc(), GREATEST, &mut source, &mut sink);
+            assert_eq!(rt; ended, (Ok(Ended::Cut), false), "input {i}");
+            assert_eq!(rt;
+                sink.bytes.as_slice(),
+                b"fault E23 Cut\n".as_slice(),
+                "input {i}"
+            );
+        }
+    }
+}

@@ -1,0 +1,32 @@
+//! Sessions over memory.
+use chr_session::commands::Ended;
+use chr_session::devices::{Sink, Source};
+use chr_session::session::{ServeFault, serve};
+use chr_solo_desk::solo_desk::SoloDesk;
+use std::alloc::{AllocError, Allocator, Global};
+
+/// The bytes of all commands, and those of all replies.
+pub fn texts(
+    alloc: Global,
+    commands: &[(&[u8], &[u8])],
+) -> Result<(Vec<u8, Global>, Vec<u8, Global>), AllocError> {
+    let mut input = Vec::new(alloc);
+    let mut replies = Vec::new(alloc);
+    for (command, reply) in commands {
+        input.extend_from_slice(command)?;
+        replies.extend_from_slice(reply)?;
+    }
+    Ok((input, replies))
+}
+
+/// Serves a session with a label limit. How it ended, and whether a program stands at its end.
+pub fn end<A: Allocator + Copy, S: Source, W: Sink>(
+    alloc: A,
+    limit: u32,
+    source: &mut S,
+    sink: &mut W,
+) -> (Result<Ended, ServeFault>, bool) {
+    let mut desk = SoloDesk::new(alloc, u64::from(limit));
+    let ended = serve(alloc, source, sink, &mut desk);
+    (ended, desk.book().is_some())
+}
