@@ -1,0 +1,30 @@
+-- Books that a crew has worked on.
+use Rattle.std.proofs.Common.{◌≡◌, ℕ, List, [], ◌++◌, sym, ◌∙◌, ap, refl}
+use Rattle.std.specs.Prelude.{Result, Ok, Err, IfOk, IfErr}
+use Rattle.std.proofs.lemmas.List.{append-nil}
+use Rattle.chr_calls.specs.Books.{BookState}
+use Rattle.chr_book.specs.declared.shot.Shot.{Shot}
+use Rattle.chr_book.specs.Shots.{IsShotOf, Continues, shot_entries}
+use Rattle.chr_crew.specs.Runs.{IsWorkedOn}
+
+-- a book that goes on from a shot goes on from the book that the shot is of
+pub worked_on : {Z : Type 0} (b n : BookState) (shot : Shot Z) (workers : ℕ) → IsShotOf b shot → Continues n shot workers → IsWorkedOn workers b n
+worked_on b n shot workers is continues = record {
+  rules = continues.program ∙ is.program;
+  more = continues.more;
+  log = continues.log ∙ ap (λ es. es ++ continues.more) is.log;
+  work = continues.work;
+}
+
+-- and a book is one that nobody has worked on
+pub not_worked_on : (b : BookState) (workers : ℕ) → IsWorkedOn workers b b
+not_worked_on b workers = record { rules = refl; more = []; log = sym (append-nil b.log); work = tt }
+
+-- what follows from what is said of an answer
+pub ok_then : {X E : Type 0} (P Q : X → Type 0) (r : Result X E) → IfOk r P → ((x : X) → P x → Q x) → IfOk r Q
+ok_then P Q (Ok x) p then = then x p
+ok_then P Q (Err e) p then = tt
+
+pub err_then : {X E : Type 0} (P Q : E → Type 0) (r : Result X E) → IfErr r P → ((e : E) → P e → Q e) → IfErr r Q
+err_then P Q (Ok x) p then = tt
+err_then P Q (Err e) p then = then e p

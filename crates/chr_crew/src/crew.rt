@@ -1,0 +1,326 @@
+//! Runs of a crew on a book.
+ghost use Rattle.std.specs.Prelude.{◌≡◌, ◌≢◌, ◌↔◌, ◌≤◌, ◌<◌, ◌+◌, ◌^◌, ℕ, map, length, get_or, vec_len, vec_capacity, true, IsSome, IfOk, IfErr, IfSome};
+ghost use Rattle.chr_model.specs.Logs.{posted_by};
+ghost use Rattle.chr_calls.specs.Tickets.{AreQuiet};
+ghost use Rattle.chr_calls.specs.Books.{events};
+ghost use Rattle.chr_calls.specs.Headline.{Headline};
+ghost use Rattle.chr_pool.specs.Hands.{hand_id};
+ghost use Rattle.chr_pool.specs.Inlets.{inlet_id};
+ghost use Rattle.chr_pool.specs.Pools.{OfOneMake};
+ghost use Rattle.chr_book.specs.Shots.{IsShotOf};
+ghost use Rattle.chr_seats.specs.Accounts.{log_of, counts_in, AreSeats};
+ghost use Rattle.chr_crew.specs.Runs.{IsWorkedOn};
+ghost use Rattle.chr_crew.specs.declared.crew.End.TheVariants.{Quiet};
+ghost use Rattle.chr_crew.specs.declared.crew.Cause.TheVariants.{NoMemory};
+
+use crate::gate::Gate;
+use crate::worker::{Worker, hands_of, join_all, work_all};
+use chr_book::book::Book;
+use chr_book::shot::Shot;
+use chr_calls::answers::TicketState;
+use chr_pool::{Hand, Inlet, Tally, gather, make};
+use chr_seats::counts::Counts;
+use chr_seats::kept::Kept;
+use chr_seats::seat::{PostLedger, Seats};
+use chr_seats::shared::Shared;
+use std::alloc::{AllocError, Allocator, Global};
+use std::sync::Wait;
+use std::sync::ledger::{Blank, Ledger};
+use std::thread::Threads;
+
+/// How many tickets each hand takes before it takes memory.
+const CAPACITY: u64 = 64;
+
+/// How a run ended.
+#[derive(Clone, Copy, Debug, PartialEq, Eq)]
+pub enum End {
+    /// No ticket is open.
+    Quiet,
+    /// A ticket is open.
+    Stopped,
+}
+
+/// What a run leaves.
+#[derive(Drop)]
+pub struct Finished<A: Allocator> {
+    /// The book.
+    pub book: Book<A>,
+    /// What the pool counted, and the tickets left in it.
+    pub tally: Tally<u64>,
+    /// What the workers' seats have made, in order.
+    pub counts: Vec<Counts, A>,
+    /// Whether it is quiet.
+    pub end: End,
+}
+
+/// Why a run was given up.
+#[derive(Clone, Copy, Debug, PartialEq, Eq)]
+pub enum Cause {
+    /// E01: a growth was refused.
+    NoMemory,
+    /// E26: a seat's counts aren't those under the lock, or the book doesn't go on from the one handed in.
+    WrongSeat,
+}
+
+/// A run that was given up.
+#[derive(Drop)]
+pub struct CrewFault<A: Allocator> {
+    /// Why.
+    pub cause: Cause,
+    /// The book as it came, or as the workers left it.
+    pub book: Book<A>,
+}
+
+/// All that a run takes of memory before its workers start, besides the seats.
+#[derive(Drop)]
+struct Room<L1: PostLedger, L2: Ledger, A: Allocator> {
+    before: Shot<A>,
+    tickets: Vec<u64, A>,
+    hands: Vec<Hand<u64>>,
+    inlets: Vec<Inlet<u64>>,
+    workers: Vec<Worker<L1, L2>, A>,
+    counts: Vec<Counts, A>,
+    back: Vec<Hand<u64>>,
+}
+
+/// The tickets of a book that wait or rest. An `Err` is E01.
+fn free_tickets<A: Allocator + Copy>(alloc: A, book: &Book<A>) -> Result<Vec<u64, A>, AllocError> {
+    let mut tickets = Vec::new(alloc);
+    for ticket in 1..u64::MAX {
+        match book.state(ticket) {
+            TicketState::Unknown => break,
+            TicketState::Waiting | TicketState::Resting => tickets.push(ticket)?,
+            TicketState::Held(_) | TicketState::Ended => {}
+        }
+    }
+    Ok(tickets)
+}
+
+/// Makes room for a run of `n` workers. An `Err` is E01.
+fn make_room<L1: PostLedger, L2: Ledger, A: Allocator + Copy>(
+    alloc: A,
+    pool: Global,
+    book: &Book<A>,
+    n: usize,
+) -> Result<Room<L1, L2, A>, AllocError>
+    requires { (1 ≤ n) × (n ≤ 16) }
+    ensures shot { IfOk result (λ r. IsShotOf book.now r.before) }
+    ensures pool { IfOk result (λ r. OfOneMake (map hand_id r.hands.items) (map inlet_id r.inlets.items)) }
+    ensures hands { IfOk result (λ r. length r.hands.items ≡ n) }
+    ensures workers { IfOk result (λ r. (vec_len r.workers ≡ 0) × (n ≤ vec_capacity r.workers)) }
+    ensures counts { IfOk result (λ r. (vec_len r.counts ≡ 0) × (n ≤ vec_capacity r.counts)) }
+    ensures back { IfOk result (λ r. (vec_len r.back ≡ 0) × (n ≤ vec_capacity r.back)) }
+{
+    let before = book.shot()?;
+    let tickets = free_tickets(alloc, book)?;
+    let (hands, inlets) = make(pool, n, 1, CAPACITY)?;
+    Ok(Room {
+        before,
+        tickets,
+        hands,
+        inlets,
+        workers: Vec::with_capacity(alloc, n)?,
+        counts: Vec::with_capacity(alloc, n)?,
+        back: Vec::with_capacity(pool, n)?,
+    })
+}
+
+/// Pushes tickets on the hands in turn. One that a hand refuses is marked stray.
+fn deal<L1: PostLedger, L2: Ledger, A: Allocator + Copy, R: Wait>(
+    rt: &R,
+    shared: &Shared<L1, L2, A>,
+    hands: &mut Vec<Hand<u64>>,
+    tickets: &[u64],
+)
+    requires { 0 < length hands.old.items }
+    ensures same { map hand_id hands.new.items ≡ map hand_id hands.old.items }
+    ensures count { length hands.new.items ≡ length hands.old.items }
+{
+    for k in 0..tickets.len() {
+        let hand = k % hands.len();
+        if hands[hand].push(tickets[k]).is_err() {
+            let _ = shared.mark_stray(rt, tickets[k]);
+        }
+    }
+}
+
+/// The counts of the workers' seats, if they are those under the lock.
+fn counted<L1: PostLedger, L2: Ledger, A: Allocator + Copy>(
+    kept: &Kept<L1, L2, A>,
+    workers: &[Worker<L1, L2>],
+    room: Vec<Counts, A>,
+) -> Option<Vec<Counts, A>>
+    requires empty { vec_len room ≡ 0 }
+    requires room { length workers.now ≤ vec_capacity room }
+    requires numbers { (k : ℕ) (d : _) → k < length workers.now → (get_or workers.now k d).seat.number ≡ k + 1 }
+    ensures all { IfSome result (λ v. vec_len v ≡ length workers.now) }
+    ensures each { IfSome result (λ v. (k : ℕ) (d : _) → k < length workers.now → get_or v.items k d ≡ counts_in (log_of kept.now) (k + 1)) }
+{
+    let mut counts = room;
+    for k in 0..workers.len() {
+        let seat = &workers[k].seat;
+        if !kept.knows(seat) {
+            return None;
+        }
+        counts.push_reserved(seat.counts());
+    }
+    Some(counts)
+}
+
+fn no_memory<A: Allocator>(book: Book<A>) -> CrewFault<A>
+    ensures cause { result.cause ≡ Cause.NoMemory }
+    ensures book { result.book ≡ book }
+{
+    CrewFault {
+        cause: Cause::NoMemory,
+        book,
+    }
+}
+
+fn wrong_seat<A: Allocator>(book: Book<A>) -> CrewFault<A>
+    ensures cause { result.cause ≡ Cause.WrongSeat }
+    ensures book { result.book ≡ book }
+{
+    CrewFault {
+        cause: Cause::WrongSeat,
+        book,
+    }
+}
+
+/// Has the workers work. Returns the book, and the counts of their seats, if they are those under the lock.
+fn worked<
+    L1: PostLedger + Send + Sync,
+    L2: Ledger + Send + Sync,
+    A: Allocator + Copy + Send + Sync,
+    R: Threads + Wait + Sync,
+    G: Gate + Sync,
+>(
+    rt: &R,
+    shared: Shared<L1, L2, A>,
+    workers: &mut [Worker<L1, L2>],
+    gate: &G,
+    turns: u64,
+    room: Vec<Counts, A>,
+) -> (Book<A>, Option<Vec<Counts, A>>)
+    requires there { L1.loaded ≡ true }
+    requires some { 0 < length workers.old }
+    requires empty { vec_len room ≡ 0 }
+    requires room { length workers.old ≤ vec_capacity room }
+    requires numbers { (k : ℕ) (d : _) → k < length workers.old → (get_or workers.old k d).seat.number ≡ k + 1 }
+    ensures count { length workers.new ≡ length workers.old }
+    ensures all { IfSome result.1 (λ v. vec_len v ≡ length workers.old) }
+    ensures each { IfSome result.1 (λ v. (k : ℕ) (d : _) → k < length workers.old → get_or v.items k d ≡ counts_in result.0.log (k + 1)) }
+    ensures hands { map (λ w. hand_id w.hand) workers.new ≡ map (λ w. hand_id w.hand) workers.old }
+{
+    work_all(rt, &shared, workers, gate, turns);
+    let kept = shared.into_kept();
+    let counts = counted(&kept, workers, room);
+    let Some(book) = kept.into_book() else {
+        unreachable!();
+    };
+    (book, counts)
+}
+
+/// How a run ended that left this book.
+fn end_of<A: Allocator + Copy>(book: &Book<A>) -> End
+    ensures end { (result ≡ Quiet) ↔ AreQuiet book.now.tickets }
+    ensures headline { Headline book.now (posted_by (events book.now)) }
+{
+    if book.quiet() {
+        End::Quiet
+    } else {
+        End::Stopped
+    }
+}
+
+/// Ends the pool of a run that has left the book.
+fn finish<A: Allocator + Copy, R: Wait>(
+    rt: &R,
+    pool: Global,
+    book: Book<A>,
+    counts: Vec<Counts, A>,
+    hands: Vec<Hand<u64>>,
+    inlets: Vec<Inlet<u64>>,
+) -> Result<Finished<A>, CrewFault<A>>
+    requires { OfOneMake (map hand_id hands.items) (map inlet_id inlets.items) }
+    ensures same { IfOk result (λ f. (f.book ≡ book) × (f.counts ≡ counts)) }
+    ensures headline { IfOk result (λ f. Headline f.book (posted_by (events f.book))) }
+    ensures end { IfOk result (λ f. (f.end ≡ Quiet) ↔ AreQuiet f.book.tickets) }
+    ensures tally { IfOk result (λ f. f.tally.taken + vec_len f.tally.left ≡ f.tally.pushed) }
+    ensures back { IfErr result (λ e. (e.cause ≡ NoMemory) × (e.book ≡ book)) }
+{
+    let Ok(tally) = gather(rt, pool, hands, inlets) else {
+        return Err(no_memory(book));
+    };
+    let end = end_of(&book);
+    Ok(Finished {
+        book,
+        tally,
+        counts,
+        end,
+    })
+}
+
+/// Runs `n` workers on a book, by the seats 1 to `n`, until each has made `turns` calls on goals or no worker finds a
+/// ticket to take. Each ticket that waits or rests is pushed on a hand first. The memory of the pool is of `pool`.
+///
+/// E01 comes where memory runs out before the workers start, with the book as it came, and at the end of the pool, with the
+/// book as the workers left it. A worker that runs out of memory ends, and its ticket is marked stray. Where no thread can
+/// be made for a worker, it works after another. E26 comes where a seat's counts aren't those under the lock, and where the
+/// book doesn't go on from the one handed in.
+pub fn run_crew<
+    L1: PostLedger + Send + Sync,
+    L2: Ledger + Send + Sync,
+    A: Allocator + Copy + Send + Sync,
+    R: Threads + Wait + Sync,
+    G: Gate + Sync,
+>(
+    rt: &R,
+    alloc: A,
+    pool: Global,
+    book: Book<A>,
+    n: usize,
+    gate: &G,
+    turns: u64,
+    posts: Blank,
+    others: Blank,
+) -> Result<Finished<A>, CrewFault<A>>
+    requires n { (1 ≤ n) × (n ≤ 16) }
+    requires there { L1.loaded ≡ true }
+    requires posts { (posts.name ≡ L1.name) × (posts.parts ≡ L1.parts) × (posts.parts ≡ 32) }
+    requires others { (others.name ≡ L2.name) × (others.parts ≡ L2.parts) × (others.parts ≡ 32) }
+    ensures worked_on { IfOk result (λ f. IsWorkedOn n book f.book) }
+    ensures headline { IfOk result (λ f. Headline f.book (posted_by (events f.book))) }
+    ensures all { IfOk result (λ f. vec_len f.counts ≡ n) }
+    ensures counts { IfOk result (λ f. (k : ℕ) (d : _) → k < n → get_or f.counts.items k d ≡ counts_in f.book.log (k + 1)) }
+    ensures end { IfOk result (λ f. (f.end ≡ Quiet) ↔ AreQuiet f.book.tickets) }
+    ensures tally { IfOk result (λ f. f.tally.taken + vec_len f.tally.left ≡ f.tally.pushed) }
+    ensures memory { IfErr result (λ e. e.cause ≡ NoMemory → IsWorkedOn n book e.book) }
+{
+    let Ok(room) = make_room(alloc, pool, &book, n) else {
+        return Err(no_memory(book));
+    };
+    let Room {
+        before,
+        tickets,
+        mut hands,
+        inlets,
+        workers,
+        counts,
+        back,
+    } = room;
+    let (shared, seats) = match Shared::<L1, L2, A>::with(alloc, book, posts, others) {
+        Ok(made) => made,
+        Err(book) => return Err(no_memory(book)),
+    };
+    deal(rt, &shared, &mut hands, tickets.as_slice());
+    let mut workers = join_all(hands, seats.workers, workers);
+    let (book, counts) = worked(rt, shared, workers.as_mut_slice(), gate, turns, counts);
+    let hands = hands_of(workers, back);
+    match counts {
+        Some(counts) if book.continues(&before, n as u32) => {
+            finish(rt, pool, book, counts, hands, inlets)
+        }
+        _ => Err(wrong_seat(book)),
+    }
+}

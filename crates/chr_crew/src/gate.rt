@@ -1,0 +1,24 @@
+//! What a worker asks of its surroundings.
+
+/// What a worker calls while it doesn't have the lock.
+pub trait Gate {
+    /// Comes before each judgement of a trial of this ticket's goal.
+    fn before_judging(&self, ticket: u64);
+}
+
+/// A gate that lets all pass.
+#[derive(Clone, Copy, Debug)]
+pub struct Open;
+
+impl Gate for Open {
+    fn before_judging(&self, _ticket: u64) {}
+}
+
+/// When a worker ends.
+#[derive(Clone, Copy, Debug, PartialEq, Eq)]
+pub enum Stop {
+    /// After so many calls on goals; before that where no worker finds a ticket to take, and after E01 and E10.
+    Turns(u64),
+    /// Once the crew is closed. After E01 and E10, and where there is no ticket to take, it sleeps until there may be one.
+    Closed,
+}

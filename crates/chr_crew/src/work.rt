@@ -1,0 +1,127 @@
+//! A worker.
+ghost use Rattle.std.specs.Prelude.{◌≡◌};
+ghost use Rattle.chr_pool.specs.Hands.{hand_id};
+
+use crate::gate::{Gate, Stop};
+use crate::goal::{Left, work_on_ticket};
+use chr_pool::Hand;
+use chr_seats::seat::{PostLedger, Seat};
+use chr_seats::shared::{Rest, Shared};
+use std::alloc::Allocator;
+use std::sync::Wait;
+use std::sync::ledger::Ledger;
+
+/// A ticket of the pool, else the least stray one.
+fn find<L1: PostLedger, L2: Ledger, A: Allocator + Copy, R: Wait>(
+    rt: &R,
+    shared: &Shared<L1, L2, A>,
+    hand: &mut Hand<u64>,
+) -> Option<u64>
+    ensures { hand_id hand.new ≡ hand_id hand.old }
+{
+    if let Some(ticket) = hand.take(rt) {
+        return Some(ticket);
+    }
+    shared.take_stray(rt)
+}
+
+/// Sleeps where there was no ticket to take since the news was `seen`.
+fn rest<L1: PostLedger, L2: Ledger, A: Allocator + Copy, R: Wait>(
+    rt: &R,
+    shared: &Shared<L1, L2, A>,
+    stop: Stop,
+    seen: u64,
+) -> Rest {
+    match stop {
+        Stop::Turns(_) => shared.rest_together(rt, seen),
+        Stop::Closed => shared.rest(rt, seen),
+    }
+}
+
+/// Waits for a ticket to take. None where there is none any more: then the worker has ended.
+fn next_ticket<L1: PostLedger, L2: Ledger, A: Allocator + Copy, R: Wait>(
+    rt: &R,
+    shared: &Shared<L1, L2, A>,
+    hand: &mut Hand<u64>,
+    stop: Stop,
+) -> Option<u64>
+    ensures { hand_id hand.new ≡ hand_id hand.old }
+{
+    for _ in rt.forever() {
+        if let Some(ticket) = find(rt, shared, hand) {
+            return Some(ticket);
+        }
+        let seen = shared.news(rt);
+        // What was announced before this is found now, and what is announced later ends the rest.
+        if let Some(ticket) = find(rt, shared, hand) {
+            return Some(ticket);
+        }
+        if rest(rt, shared, stop, seen) == Rest::Over {
+            return None;
+        }
+    }
+    unreachable!()
+}
+
+/// Whether a worker takes no ticket any more.
+fn is_over<L1: PostLedger, L2: Ledger, A: Allocator + Copy, R: Wait>(
+    rt: &R,
+    shared: &Shared<L1, L2, A>,
+    stop: Stop,
+) -> bool {
+    match stop {
+        Stop::Turns(turns) => turns == 0,
+        Stop::Closed => shared.is_closed(rt),
+    }
+}
+
+/// Ends a worker that works. The others look for what it leaves.
+fn leave<L1: PostLedger, L2: Ledger, A: Allocator + Copy, R: Wait>(
+    rt: &R,
+    shared: &Shared<L1, L2, A>,
+) {
+    shared.announce(rt);
+    shared.end(rt);
+}
+
+/// Works by a seat: takes a ticket of the pool, or else a stray one, claims it, and goes through its trials until its goal
+/// has ended; then it takes another. Trials are judged while the lock is free, the gate before each. The tickets of a
+/// firing are pushed on the hand, and one that the hand refuses is marked stray.
+///
+/// A ticket that another seat has meanwhile, or that has ended, is left alone. Where memory (E01) or labels (E10) run out,
+/// and where no turn is left, the ticket is put down or marked stray. It ends as `stop` says, and on E26.
+///
+/// By its contract the seat's entries are no posts, and the hand is still of the same pool.
+pub fn work<L1: PostLedger, L2: Ledger, A: Allocator + Copy, R: Wait, G: Gate>(
+    rt: &R,
+    shared: &Shared<L1, L2, A>,
+    hand: &mut Hand<u64>,
+    seat: &mut Seat<L1, L2>,
+    gate: &G,
+    stop: Stop,
+)
+    ensures hand { hand_id hand.new ≡ hand_id hand.old }
+    ensures number { seat.new.number ≡ seat.old.number }
+    ensures posts { seat.new.counts.posts ≡ seat.old.counts.posts }
+{
+    let mut stop = stop;
+    shared.begin(rt);
+    for _ in rt.forever() {
+        if is_over(rt, shared, stop) {
+            leave(rt, shared);
+            return;
+        }
+        let Some(ticket) = next_ticket(rt, shared, hand, stop) else {
+            return;
+        };
+        let left = work_on_ticket(rt, shared, hand, seat, gate, &mut stop, ticket);
+        if left == Left::Want && stop == Stop::Closed {
+            if shared.rest(rt, shared.news(rt)) == Rest::Over {
+                return;
+            }
+        } else if left != Left::Free {
+            leave(rt, shared);
+            return;
+        }
+    }
+}

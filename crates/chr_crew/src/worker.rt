@@ -1,0 +1,100 @@
+//! Workers: a hand and a seat each.
+ghost use Rattle.std.specs.Prelude.{◌≡◌, ◌≤◌, ◌<◌, ◌++◌, ℕ, List, map, length, get_or, vec_len, vec_capacity};
+ghost use Rattle.chr_seats.specs.Accounts.{SeatState};
+ghost use Rattle.chr_pool.specs.Hands.{hand_id};
+
+use crate::gate::{Gate, Stop};
+use crate::work::work;
+use chr_pool::Hand;
+use chr_seats::seat::{PostLedger, Seat};
+use chr_seats::shared::Shared;
+use std::alloc::{Allocator, Global};
+use std::sync::Wait;
+use std::sync::ledger::Ledger;
+use std::thread;
+use std::thread::Threads;
+
+/// A hand and a seat.
+#[derive(Drop)]
+pub struct Worker<L1: PostLedger, L2: Ledger> {
+    pub hand: Hand<u64>,
+    pub seat: Seat<L1, L2>,
+}
+
+/// Gives each hand a seat, in order.
+pub fn join_all<L1: PostLedger, L2: Ledger, A: Allocator>(
+    hands: Vec<Hand<u64>>,
+    seats: Vec<Seat<L1, L2>, A>,
+    room: Vec<Worker<L1, L2>, A>,
+) -> Vec<Worker<L1, L2>, A>
+    requires enough { length hands.items ≤ length seats.items }
+    requires empty { vec_len room ≡ 0 }
+    requires room { length hands.items ≤ vec_capacity room }
+    ensures hands { map (λ w. hand_id w.hand) result.items ≡ map hand_id hands.items }
+    ensures count { length result.items ≡ length hands.items }
+    ensures seats { (left : List SeatState) × (map (λ w. w.seat) result.items ++ left ≡ seats.items) }
+{
+    let mut workers = room;
+    let mut seats = seats.into_iter();
+    for hand in hands {
+        let Some(seat) = seats.next() else {
+            unreachable!();
+        };
+        workers.push_reserved(Worker { hand, seat });
+    }
+    workers
+}
+
+/// Takes the hands from workers that have ended, in order.
+pub fn hands_of<L1: PostLedger, L2: Ledger, A: Allocator>(
+    workers: Vec<Worker<L1, L2>, A>,
+    room: Vec<Hand<u64>>,
+) -> Vec<Hand<u64>>
+    requires empty { vec_len room ≡ 0 }
+    requires room { vec_len workers ≤ vec_capacity room }
+    ensures { map hand_id result.items ≡ map (λ w. hand_id w.hand) workers.items }
+{
+    let mut hands = room;
+    for worker in workers {
+        let Worker { hand, seat: _ } = worker;
+        hands.push_reserved(hand);
+    }
+    hands
+}
+
+/// The work of one worker.
+fn work_as<L1: PostLedger, L2: Ledger, A: Allocator + Copy, R: Wait, G: Gate>(
+    rt: &R,
+    shared: &Shared<L1, L2, A>,
+    worker: &mut Worker<L1, L2>,
+    gate: &G,
+    turns: u64,
+)
+    ensures hand { hand_id worker.new.hand ≡ hand_id worker.old.hand }
+    ensures number { worker.new.seat.number ≡ worker.old.seat.number }
+    ensures posts { worker.new.seat.counts.posts ≡ worker.old.seat.counts.posts }
+{
+    let Worker { hand, seat } = worker;
+    work(rt, shared, hand, seat, gate, Stop::Turns(turns));
+}
+
+/// Has all workers work at once, each in a thread of its own. Where no thread can be made, they work in turn.
+pub fn work_all<
+    L1: PostLedger + Send + Sync,
+    L2: Ledger + Send + Sync,
+    A: Allocator + Copy + Send + Sync,
+    R: Threads + Wait + Sync,
+    G: Gate + Sync,
+>(rt: &R, shared: &Shared<L1, L2, A>, workers: &mut [Worker<L1, L2>], gate: &G, turns: u64)
+    requires { 0 < length workers.old }
+    ensures hands { (k : ℕ) (d : _) → k < length workers.old → hand_id (get_or workers.new k d).hand ≡ hand_id (get_or workers.old k d).hand }
+    ensures numbers { (k : ℕ) (d : _) → k < length workers.old → (get_or workers.new k d).seat.number ≡ (get_or workers.old k d).seat.number }
+{
+    let n = workers.len();
+    thread::for_each_mut(
+        rt,
+        workers,
+        n,
+        &|_, worker| work_as(rt, shared, worker, gate, turns),
+    );
+}

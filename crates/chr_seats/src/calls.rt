@@ -1,0 +1,177 @@
+//! The calls that are made in holds.
+ghost use Rattle.std.specs.Prelude.{◌≡◌, ℕ, Bool, true, false};
+ghost use Rattle.chr_calls.specs.Books.{BookState};
+ghost use Rattle.chr_calls.specs.Batches.{Batches, ReportsBatch, batch_of, report_of};
+ghost use Rattle.chr_calls.specs.Calls.{Claims, FiresOrMisses, Drops, PutsDown};
+ghost use Rattle.chr_book.specs.Texts.{PostsText};
+ghost use Rattle.chr_seats.specs.Holds.{GoesOn};
+
+use chr_book::book::Book;
+use chr_book::texts::Posted;
+use chr_calls::answers::{
+    Batch, BatchReport, ClaimFault, DropFault, Dropping, FireFault, Firing, PutDownFault, TurnFault,
+};
+use chr_lex::fault::ReadError;
+use chr_search::judged::Judged;
+use chr_store::store::Label;
+use std::alloc::Allocator;
+
+/// A call of a book by a seat, which adds posts alone to the log, or other entries alone.
+pub trait Call<A: Allocator + Copy, X> {
+    /// The line of the call in the table: from a seat and a book to the answer and the book after it.
+    ghost line: { Self → ℕ → BookState → X → BookState → Type 0 };
+
+    /// Whether it adds posts.
+    ghost posts: { Bool };
+
+    /// Whether it adds posts.
+    fn posts(&self) -> bool
+        ensures { result ≡ posts };
+
+    /// Makes the call.
+    fn make(self, book: &mut Book<A>, seat: u32) -> X
+        ensures line { line self seat book.old result book.new }
+        ensures goes_on { GoesOn posts seat book.old book.new };
+}
+
+/// [`claim`](Book::claim) with these arguments.
+#[derive(Drop)]
+pub struct Claim {
+    pub ticket: u64,
+}
+
+impl<A: Allocator + Copy> Call<A, Result<Label, ClaimFault>> for Claim {
+    ghost line = { λ c seat b answer n. Claims b seat c.ticket answer n };
+
+    ghost posts = { false };
+
+    fn posts(&self) -> bool {
+        false
+    }
+
+    fn make(self, book: &mut Book<A>, seat: u32) -> Result<Label, ClaimFault> {
+        book.claim(seat, self.ticket)
+    }
+}
+
+/// [`batch`](Book::batch) with these arguments.
+#[derive(Drop)]
+pub struct AskBatch {
+    pub ticket: u64,
+}
+
+impl<A: Allocator + Copy> Call<A, Result<Batch<A>, TurnFault>> for AskBatch {
+    ghost line = { λ c seat b answer n. Batches b seat c.ticket (batch_of answer) n };
+
+    ghost posts = { false };
+
+    fn posts(&self) -> bool {
+        false
+    }
+
+    fn make(self, book: &mut Book<A>, seat: u32) -> Result<Batch<A>, TurnFault> {
+        book.batch(seat, self.ticket)
+    }
+}
+
+/// [`report_batch`](Book::report_batch) with these arguments.
+#[derive(Drop)]
+pub struct ReportBatch<'a, A: Allocator> {
+    pub ticket: u64,
+    pub judgements: &'a [Judged<A>],
+}
+
+impl<'a, A: Allocator + Copy> Call<A, BatchReport<A>> for ReportBatch<'a, A> {
+    ghost line = { λ c seat b answer n. ReportsBatch b seat c.ticket c.judgements.now (report_of answer) n };
+
+    ghost posts = { false };
+
+    fn posts(&self) -> bool {
+        false
+    }
+
+    fn make(self, book: &mut Book<A>, seat: u32) -> BatchReport<A> {
+        book.report_batch(seat, self.ticket, self.judgements)
+    }
+}
+
+/// [`fire`](Book::fire) with these arguments.
+#[derive(Drop)]
+pub struct Fire<'a, A: Allocator> {
+    pub ticket: u64,
+    pub judged: &'a Judged<A>,
+}
+
+impl<'a, A: Allocator + Copy> Call<A, Result<Firing, FireFault>> for Fire<'a, A> {
+    ghost line = { λ c seat b answer n. FiresOrMisses b seat c.ticket c.judged.now answer n };
+
+    ghost posts = { false };
+
+    fn posts(&self) -> bool {
+        false
+    }
+
+    fn make(self, book: &mut Book<A>, seat: u32) -> Result<Firing, FireFault> {
+        book.fire(seat, self.ticket, self.judged)
+    }
+}
+
+/// [`drop_goal`](Book::drop_goal) with these arguments.
+#[derive(Drop)]
+pub struct DropGoal {
+    pub ticket: u64,
+}
+
+impl<A: Allocator + Copy> Call<A, Result<Dropping, DropFault>> for DropGoal {
+    ghost line = { λ c seat b answer n. Drops b seat c.ticket answer n };
+
+    ghost posts = { false };
+
+    fn posts(&self) -> bool {
+        false
+    }
+
+    fn make(self, book: &mut Book<A>, seat: u32) -> Result<Dropping, DropFault> {
+        book.drop_goal(seat, self.ticket)
+    }
+}
+
+/// [`put_down`](Book::put_down) with these arguments.
+#[derive(Drop)]
+pub struct PutDown {
+    pub ticket: u64,
+}
+
+impl<A: Allocator + Copy> Call<A, Result<(), PutDownFault>> for PutDown {
+    ghost line = { λ c seat b answer n. PutsDown b seat c.ticket answer n };
+
+    ghost posts = { false };
+
+    fn posts(&self) -> bool {
+        false
+    }
+
+    fn make(self, book: &mut Book<A>, seat: u32) -> Result<(), PutDownFault> {
+        book.put_down(seat, self.ticket)
+    }
+}
+
+/// [`post_text`](Book::post_text) with these arguments.
+#[derive(Drop)]
+pub struct PostText<'a> {
+    pub bytes: &'a [u8],
+}
+
+impl<'a, A: Allocator + Copy> Call<A, Result<Posted, ReadError>> for PostText<'a> {
+    ghost line = { λ c seat b answer n. PostsText b seat c.bytes.now answer n };
+
+    ghost posts = { true };
+
+    fn posts(&self) -> bool {
+        true
+    }
+
+    fn make(self, book: &mut Book<A>, seat: u32) -> Result<Posted, ReadError> {
+        book.post_text(seat, self.bytes)
+    }
+}

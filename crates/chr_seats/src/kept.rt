@@ -1,0 +1,326 @@
+//! What is under the lock.
+ghost use Rattle.std.specs.Prelude.{◌≡◌, ◌↔◌, ◌+◌, ◌-◌, ◌^◌, ◌<◌, ◌++◌, ℕ, set, [], true, false, not, length, sum_by, vec_len, OnOk, OnErr, IfOk, IfErr, IsTrue, IsSome, Some, None, Err};
+ghost use Rattle.chr_seats.specs.Accounts.{log_of, made_upto, if_so, raised};
+ghost use Rattle.chr_seats.specs.Holds.{GoesOn, HasRightCounts, IsHold, IsReading, MarksIn, TakesStrayIn};
+ghost use Rattle.chr_seats.specs.Readings.{SaysQuiet, SaysShot, SaysStore, SaysLog};
+
+use crate::answers::{HoldFault, Lines};
+use crate::calls::Call;
+use crate::counts::Counts;
+use crate::seat::{PostLedger, Seat};
+use crate::seating::{merge_all, merged};
+use chr_book::book::Book;
+use chr_book::shot::Shot;
+use chr_calls::answers::{MarkFault, TicketState};
+use std::alloc::{AllocError, Allocator};
+use std::marker::Model;
+use std::sync::ledger;
+use std::sync::ledger::Ledger;
+
+/// What is under the lock: perhaps a book, what each seat has made of it, and who sleeps. Contracts see the book.
+#[derive(Drop)]
+pub struct Kept<L1: PostLedger, L2: Ledger, A: Allocator> {
+    pub(crate) book: Option<Book<A>>,
+    pub(crate) counts: [Counts; 32],
+    pub(crate) posts: ledger::Book<L1>,
+    pub(crate) others: ledger::Book<L2>,
+    /// Whether workers that wait for the end shall end.
+    pub(crate) closed: bool,
+    /// How often there was something new to take, modulo 2^64.
+    pub(crate) news: u64,
+    /// How many workers work, and don't sleep.
+    pub(crate) awake: u32,
+}
+
+impl<L1: PostLedger, L2: Ledger, A: Allocator> Model for Kept<L1, L2, A> {
+    ghost use Rattle.std.specs.Prelude.{◌≡◌, true, Option, IsSome};
+    ghost use Rattle.std.specs.Coded.{codes};
+    ghost use Rattle.chr_rule.specs.Code.{expression_code};
+    ghost use Rattle.chr_calls.specs.Books.{BookState};
+    ghost use Rattle.chr_seats.specs.Accounts.{log_of, IsCounted};
+
+    ghost Value = { Option BookState };
+
+    ghost coded = { Prim.hlevel (codes, expression_code) };
+
+    ghost view = { λ k. k.book };
+
+    ghost invariant = { λ k. IsCounted (log_of k.book) k.counts k.posts.total k.others.total × (L1.loaded ≡ true → IsSome k.book) };
+}
+
+/// Whether two counts are equal.
+fn same(counts: &Counts, others: &Counts) -> bool
+    ensures { IsTrue result ↔ (counts.now ≡ others.now) }
+{
+    counts.posts == others.posts && counts.others == others.others
+}
+
+/// Makes a call by a seat, and counts the entries that it adds.
+fn make<A: Allocator + Copy, X, C: Call<A, X> + Drop>(
+    book: &mut Book<A>,
+    seat: u32,
+    call: C,
+) -> (X, u64)
+    ensures line { C.line call seat book.old result.0 book.new }
+    ensures goes_on { GoesOn C.posts seat book.old book.new }
+    ensures count { length book.new.log ≡ length book.old.log + result.1 }
+    ensures room { length book.new.log < 2 ^ 64 }
+{
+    let before = book.log().len();
+    let answer = call.make(book, seat);
+    let more = book.log().len() - before;
+    (answer, more as u64)
+}
+
+/// Counts so many more entries of a seat, which are posts or others.
+fn raise<L1: PostLedger, L2: Ledger>(
+    counts: &mut [Counts; 32],
+    posts: &mut ledger::Book<L1>,
+    others: &mut ledger::Book<L2>,
+    seat: &mut Seat<L1, L2>,
+    are_posts: bool,
+    more: u64,
+)
+    requires posts { seat.old.counts.posts + more < 2 ^ 64 }
+    requires others { seat.old.counts.others + more < 2 ^ 64 }
+    ensures number { seat.new.number ≡ seat.old.number }
+    ensures seat { seat.new.counts ≡ raised are_posts more seat.old.counts }
+    ensures counts { counts.new ≡ set counts.old (seat.old.number - 1) seat.new.counts }
+    ensures post_total { posts.new.total ≡ posts.old.total + if_so are_posts more }
+    ensures other_total { others.new.total ≡ others.old.total + if_so (not are_posts) more }
+{
+    let more_posts = if are_posts { more } else { 0 };
+    let more_others = more - more_posts;
+    posts.add(&mut seat.posts, more_posts);
+    others.add(&mut seat.others, more_others);
+    seat.counts.posts += more_posts;
+    seat.counts.others += more_others;
+    counts[(seat.number - 1) as usize] = seat.counts;
+}
+
+/// The lines of a book's store. An `Err` is E01.
+fn store_lines<A: Allocator + Copy>(alloc: A, book: &Book<A>) -> Result<Lines<A>, AllocError>
+    ensures { SaysStore book.now result }
+{
+    let mut bytes = Vec::new(alloc);
+    book.store_lines(&mut bytes)?;
+    Ok(Lines {
+        count: book.store().len(),
+        bytes,
+    })
+}
+
+/// The lines of a book's log from an entry on. An `Err` is E01.
+fn log_lines<A: Allocator + Copy>(
+    alloc: A,
+    book: &Book<A>,
+    from: u64,
+) -> Result<Lines<A>, AllocError>
+    ensures { SaysLog from book.now result }
+{
+    let before = from.saturating_sub(1) as usize;
+    let mut bytes = Vec::new(alloc);
+    book.log_lines(&mut bytes, from)?;
+    Ok(Lines {
+        count: book.log().len().saturating_sub(before),
+        bytes,
+    })
+}
+
+impl<L1: PostLedger, L2: Ledger, A: Allocator + Copy> Kept<L1, L2, A> {
+    /// Whether a seat's counts are those that are kept for its number, which are what it has made.
+    pub fn knows(&self, seat: &Seat<L1, L2>) -> bool
+        ensures { IsTrue result ↔ HasRightCounts self.now seat.now }
+    {
+        let at = (seat.number - 1) as usize;
+        same(&self.counts[at], &seat.counts)
+    }
+
+    /// The book, if one is there.
+    pub fn into_book(self) -> Option<Book<A>>
+        ensures same { result ≡ self }
+        ensures there { L1.loaded ≡ true → IsSome result }
+    {
+        let Kept {
+            book,
+            counts: _,
+            posts: _,
+            others: _,
+            closed: _,
+            news: _,
+            awake: _,
+        } = self;
+        book
+    }
+
+    /// All 32 seats are back: their counts add up to what these seats have made in the log.
+    pub fn audit<C: Allocator>(
+        &mut self,
+        workers: Vec<Seat<L1, L2>, C>,
+        sessions: Vec<Seat<L1, L2>, C>,
+    )
+        requires all { vec_len workers + vec_len sessions ≡ 32 }
+        requires parts { (L1.parts ≡ 32) × (L2.parts ≡ 32) }
+        requires some { 0 < vec_len workers }
+        ensures same { self.new ≡ self.old }
+        ensures posts { sum_by (λ s. s.counts.posts) workers.items + sum_by (λ s. s.counts.posts) sessions.items ≡ (made_upto 32 (log_of self.old)).posts }
+        ensures others { sum_by (λ s. s.counts.others) workers.items + sum_by (λ s. s.counts.others) sessions.items ≡ (made_upto 32 (log_of self.old)).others }
+    {
+        let (mut posts, mut others) = merged(workers);
+        merge_all(sessions, &mut posts, &mut others);
+        self.posts.audit(&mut posts);
+        self.others.audit(&mut others);
+    }
+
+    /// Brings a book with an empty log. It comes back where one is there already.
+    pub(crate) fn install(&mut self, book: Book<A>) -> Result<(), Book<A>>
+        requires { book.log ≡ [] }
+        ensures there { OnOk result ((self.old ≡ None) × (self.new ≡ Some book)) }
+        ensures back { IfErr result (λ b. (b ≡ book) × IsSome self.old × (self.new ≡ self.old)) }
+    {
+        if self.book.is_some() {
+            return Err(book);
+        }
+        self.book = Some(book);
+        Ok(())
+    }
+
+    /// Makes a call by a seat. E26, and E24: then no call is made.
+    pub(crate) fn hold<X, C: Call<A, X> + Drop>(
+        &mut self,
+        seat: &mut Seat<L1, L2>,
+        call: C,
+    ) -> Result<X, HoldFault>
+        ensures hold { IsHold (λ b answer n. C.line call seat.old.number b answer n) self.old seat.old result self.new seat.new }
+        ensures posts { C.posts ≡ false → seat.new.counts.posts ≡ seat.old.counts.posts }
+        ensures others { C.posts ≡ true → seat.new.counts.others ≡ seat.old.counts.others }
+    {
+        let number = seat.number();
+        if !self.knows(seat) {
+            return Err(HoldFault::WrongSeat);
+        }
+        let Some(book) = &mut self.book else {
+            return Err(HoldFault::NoBook);
+        };
+        let are_posts = call.posts();
+        let (answer, more) = make(book, number, call);
+        raise(
+            &mut self.counts,
+            &mut self.posts,
+            &mut self.others,
+            seat,
+            are_posts,
+            more,
+        );
+        Ok(answer)
+    }
+
+    /// Marks a ticket stray.
+    pub(crate) fn mark_stray(&mut self, ticket: u64) -> Result<(), MarkFault>
+        ensures { MarksIn self.old ticket result self.new }
+    {
+        let Some(book) = &mut self.book else {
+            return Err(MarkFault::NotWaiting(TicketState::Unknown));
+        };
+        book.mark_stray(ticket)
+    }
+
+    /// Takes the least ticket that is marked stray.
+    pub(crate) fn take_stray(&mut self) -> Option<u64>
+        ensures { TakesStrayIn self.old result self.new }
+    {
+        match &mut self.book {
+            Some(book) => book.take_stray(),
+            None => None,
+        }
+    }
+
+    /// Whether no ticket is open.
+    pub(crate) fn quiet(&self, seat: &Seat<L1, L2>) -> Result<bool, HoldFault>
+        ensures { IsReading SaysQuiet self.now seat.now result }
+    {
+        if !self.knows(seat) {
+            return Err(HoldFault::WrongSeat);
+        }
+        match &self.book {
+            Some(book) => Ok(book.quiet()),
+            None => Err(HoldFault::NoBook),
+        }
+    }
+
+    /// A shot of the book.
+    pub(crate) fn shot(&self, seat: &Seat<L1, L2>) -> Result<Result<Shot<A>, AllocError>, HoldFault>
+        ensures { IsReading SaysShot self.now seat.now result }
+    {
+        if !self.knows(seat) {
+            return Err(HoldFault::WrongSeat);
+        }
+        match &self.book {
+            Some(book) => Ok(book.shot()),
+            None => Err(HoldFault::NoBook),
+        }
+    }
+
+    /// The lines of the store.
+    pub(crate) fn store_lines(
+        &self,
+        alloc: A,
+        seat: &Seat<L1, L2>,
+    ) -> Result<Result<Lines<A>, AllocError>, HoldFault>
+        ensures { IsReading SaysStore self.now seat.now result }
+    {
+        if !self.knows(seat) {
+            return Err(HoldFault::WrongSeat);
+        }
+        match &self.book {
+            Some(book) => Ok(store_lines(alloc, book)),
+            None => Err(HoldFault::NoBook),
+        }
+    }
+
+    /// The lines of the log's entries from one on, counted from 1.
+    pub(crate) fn log_lines(
+        &self,
+        alloc: A,
+        seat: &Seat<L1, L2>,
+        from: u64,
+    ) -> Result<Result<Lines<A>, AllocError>, HoldFault>
+        ensures { IsReading (SaysLog from) self.now seat.now result }
+    {
+        if !self.knows(seat) {
+            return Err(HoldFault::WrongSeat);
+        }
+        match &self.book {
+            Some(book) => Ok(log_lines(alloc, book, from)),
+            None => Err(HoldFault::NoBook),
+        }
+    }
+
+    /// A worker begins to work.
+    pub(crate) fn begin(&mut self)
+        ensures { self.new ≡ self.old }
+    {
+        self.awake = self.awake.saturating_add(1);
+    }
+
+    /// A worker that works sleeps, or ends.
+    pub(crate) fn end(&mut self)
+        ensures { self.new ≡ self.old }
+    {
+        self.awake = self.awake.saturating_sub(1);
+    }
+
+    /// There is something new to take.
+    pub(crate) fn announce(&mut self)
+        ensures { self.new ≡ self.old }
+    {
+        self.news = self.news.wrapping_add(1);
+    }
+
+    /// Workers that wait for this shall end.
+    pub(crate) fn close(&mut self)
+        ensures { self.new ≡ self.old }
+    {
+        self.closed = true;
+    }
+}

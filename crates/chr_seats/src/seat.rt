@@ -1,0 +1,60 @@
+//! Seats.
+ghost use Rattle.std.specs.Prelude.{◌≡◌, ◌≤◌, Bool, true};
+
+use crate::counts::Counts;
+use std::alloc::Allocator;
+use std::marker::{Brand, Model};
+use std::sync::ledger::{Ledger, Share};
+
+/// The ledger of the posts, which says besides whether a book is there from the start.
+pub trait PostLedger: Ledger {
+    ghost loaded: { Bool };
+}
+
+impl PostLedger for Brand {
+    ghost loaded = { true };
+}
+
+/// One of the 32 seats. Contracts see its number and its counts, which are the amounts of its shares of both ledgers.
+#[derive(Drop)]
+pub struct Seat<L1: PostLedger, L2: Ledger> {
+    pub(crate) number: u32,
+    pub(crate) counts: Counts,
+    pub(crate) posts: Share<L1>,
+    pub(crate) others: Share<L2>,
+}
+
+impl<L1: PostLedger, L2: Ledger> Model for Seat<L1, L2> {
+    ghost use Rattle.std.specs.Prelude.{◌≡◌, ◌≤◌};
+    ghost use Rattle.chr_seats.specs.Accounts.{SeatState};
+
+    ghost Value = { SeatState };
+
+    ghost view = { λ s. record { number = s.number; counts = s.counts } };
+
+    ghost invariant = { λ s. (1 ≤ s.number) × (s.number ≤ 32) × (s.posts.parts ≡ 1) × (s.others.parts ≡ 1) × (s.posts.amount ≡ s.counts.posts) × (s.others.amount ≡ s.counts.others) };
+}
+
+impl<L1: PostLedger, L2: Ledger> Seat<L1, L2> {
+    /// Its number, from 1 to 32.
+    pub fn number(&self) -> u32
+        ensures same { result ≡ self.now.number }
+        ensures range { (1 ≤ result) × (result ≤ 32) }
+    {
+        self.number
+    }
+
+    /// How many entries it has made.
+    pub fn counts(&self) -> Counts
+        ensures { result ≡ self.now.counts }
+    {
+        self.counts
+    }
+}
+
+/// All seats: the numbers 1 to 16 for workers, and 17 to 32 for sessions.
+#[derive(Drop)]
+pub struct Seats<L1: PostLedger, L2: Ledger, A: Allocator> {
+    pub workers: Vec<Seat<L1, L2>, A>,
+    pub sessions: Vec<Seat<L1, L2>, A>,
+}

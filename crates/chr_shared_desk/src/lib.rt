@@ -1,0 +1,14 @@
+//! The desk of a session on a book that others share.
+//!
+//! [`SharedDesk`](shared_desk::SharedDesk) makes its entries by a seat of a [`Shared`](chr_seats::shared::Shared) book, and
+//! pushes the tickets of its posts on an inlet of the workers' pool. A load brings a book where none is there yet (E20).
+//! `wait` looks at the book until it is quiet, so often at most, and sleeps between two looks while a worker is awake.
+//! `store` and `log` are read in one hold of the lock.
+//!
+//! What is promised: each reply, and the counts of the seat after it, are those of the step relation of this desk. A reply
+//! `posted F n` raises the seat's posts by n, in a hold in which the book answered the call of this seat with this text;
+//! no other reply raises a count. `quiet`, `open`, `store` and `log` are read off a book in which the seat's entries were
+//! exactly its counts, so all that was posted by it is in it. E24 comes only to a seat that has made nothing.
+#![tactic(auto)]
+
+pub mod shared_desk;

@@ -1,0 +1,256 @@
+//! The desk, and the replies to each command.
+ghost use Rattle.std.specs.Prelude.{◌≡◌, ◌+◌, ℕ};
+ghost use Rattle.chr_pool.specs.Inlets.{inlet_id};
+ghost use Rattle.chr_session.specs.Commands.{reply_of, command_of};
+ghost use Rattle.chr_shared_desk.specs.SharedReplies.{BringReplies, LoadReplies, PostReplies, WaitReplies, StoreReplies, LogReplies, SharedReplies, posted_by};
+
+use chr_book::book::{Book, OpenFault};
+use chr_lex::fault::ReadError;
+use chr_pool::Inlet;
+use chr_seats::answers::HoldFault;
+use chr_seats::seat::{PostLedger, Seat};
+use chr_seats::shared::Shared;
+use chr_session::desk::{Command, Desk, Fault, Reply};
+use chr_text::reading::read_program;
+use chr_value::names::Names;
+use std::alloc::Allocator;
+use std::marker::Model;
+use std::sync::Wait;
+use std::sync::ledger::Ledger;
+
+/// The greatest label of a book that a desk opens.
+const LIMIT: u64 = 4_294_967_295;
+
+/// Brings a book of the rules of a text. E20 where one is there already; else E02 to E09 with their line for a text that
+/// has a fault, and E01.
+fn bring<R: Wait, L1: PostLedger, L2: Ledger, A: Allocator + Copy>(
+    rt: &R,
+    alloc: A,
+    shared: &Shared<L1, L2, A>,
+    text: &[u8],
+) -> Reply<A>
+    ensures { BringReplies text.now (reply_of result) }
+{
+    let mut names = Names::new(alloc);
+    let program = match read_program(alloc, text, &mut names) {
+        Ok(program) => program,
+        Err(ReadError::Memory) => return Reply::Fault(Fault::NoMemory),
+        Err(ReadError::Fault(fault)) => return Reply::Fault(Fault::Reading(fault)),
+    };
+    let count = program.len();
+    let book = match Book::new(alloc, program, names, LIMIT) {
+        Ok(book) => book,
+        Err(OpenFault::NoMemory) => return Reply::Fault(Fault::NoMemory),
+        // The table has the names of the text that was read with it.
+        Err(OpenFault::UnknownName) => unreachable!(),
+    };
+    if shared.install(rt, book).is_err() {
+        return Reply::Fault(Fault::AlreadyLoaded);
+    }
+    Reply::Loaded(count)
+}
+
+/// Brings a book of the rules of a text where none is there. E26; E20; then the faults of a text and E01.
+fn load<R: Wait, L1: PostLedger, L2: Ledger, A: Allocator + Copy>(
+    rt: &R,
+    alloc: A,
+    shared: &Shared<L1, L2, A>,
+    seat: &Seat<L1, L2>,
+    text: &[u8],
+) -> Reply<A>
+    ensures { LoadReplies seat.now text.now (reply_of result) }
+{
+    match shared.quiet(rt, seat) {
+        Ok(_) => Reply::Fault(Fault::AlreadyLoaded),
+        Err(HoldFault::WrongSeat) => Reply::Fault(Fault::WrongSeat),
+        Err(HoldFault::NoBook) => bring(rt, alloc, shared, text),
+    }
+}
+
+/// Pushes so many tickets on the inlet, from `first` on. One that the inlet refuses is marked stray, so that a worker finds
+/// it all the same. Then those that rest are told.
+fn hand_out<R: Wait, L1: PostLedger, L2: Ledger, A: Allocator + Copy>(
+    rt: &R,
+    shared: &Shared<L1, L2, A>,
+    inlet: &mut Inlet<u64>,
+    first: u64,
+    count: usize,
+)
+    ensures { inlet_id inlet.new ≡ inlet_id inlet.old }
+{
+    for k in 0..count {
+        if let Err(ticket) = inlet.push(rt, first.wrapping_add(k as u64)) {
+            let _ = shared.mark_stray(rt, ticket);
+        }
+    }
+    shared.announce(rt);
+}
+
+/// Posts the atoms of a text.
+fn post<R: Wait, L1: PostLedger, L2: Ledger, A: Allocator + Copy>(
+    rt: &R,
+    shared: &Shared<L1, L2, A>,
+    seat: &mut Seat<L1, L2>,
+    inlet: &mut Inlet<u64>,
+    text: &[u8],
+) -> Reply<A>
+    ensures replies { PostReplies seat.old text.now (reply_of result) seat.new }
+    ensures number { seat.new.number ≡ seat.old.number }
+    ensures posts { seat.new.counts.posts ≡ seat.old.counts.posts + posted_by (reply_of result) }
+    ensures others { seat.new.counts.others ≡ seat.old.counts.others }
+    ensures inlet { inlet_id inlet.new ≡ inlet_id inlet.old }
+{
+    match shared.post_text(rt, seat, text) {
+        Ok(Ok(posted)) => {
+            hand_out(rt, shared, inlet, posted.first, posted.count);
+            Reply::Posted(posted.first, posted.count)
+        }
+        Ok(Err(ReadError::Memory)) => Reply::Fault(Fault::NoMemory),
+        Ok(Err(ReadError::Fault(fault))) => Reply::Fault(Fault::Reading(fault)),
+        Err(HoldFault::WrongSeat) => Reply::Fault(Fault::WrongSeat),
+        Err(HoldFault::NoBook) => Reply::Fault(Fault::NoProgram),
+    }
+}
+
+/// Looks once whether a ticket is open.
+fn look<R: Wait, L1: PostLedger, L2: Ledger, A: Allocator + Copy>(
+    rt: &R,
+    shared: &Shared<L1, L2, A>,
+    seat: &Seat<L1, L2>,
+) -> Reply<A>
+    ensures { WaitReplies seat.now (reply_of result) }
+{
+    match shared.quiet(rt, seat) {
+        Ok(true) => Reply::Quiet,
+        Ok(false) => Reply::Open,
+        Err(HoldFault::WrongSeat) => Reply::Fault(Fault::WrongSeat),
+        Err(HoldFault::NoBook) => Reply::Fault(Fault::NoProgram),
+    }
+}
+
+/// Looks at most `most + 1` times whether a ticket is open, until none is. Between two looks it sleeps until there is
+/// something new, only while a worker is awake.
+fn wait<R: Wait, L1: PostLedger, L2: Ledger, A: Allocator + Copy>(
+    rt: &R,
+    shared: &Shared<L1, L2, A>,
+    seat: &Seat<L1, L2>,
+    most: u32,
+) -> Reply<A>
+    ensures { WaitReplies seat.now (reply_of result) }
+{
+    for _ in 0..most {
+        let seen = shared.news(rt);
+        match look(rt, shared, seat) {
+            Reply::Open => shared.watch(rt, seen),
+            reply => return reply,
+        }
+    }
+    look(rt, shared, seat)
+}
+
+/// The lines of the store.
+fn store<R: Wait, L1: PostLedger, L2: Ledger, A: Allocator + Copy>(
+    rt: &R,
+    alloc: A,
+    shared: &Shared<L1, L2, A>,
+    seat: &Seat<L1, L2>,
+) -> Reply<A>
+    ensures { StoreReplies seat.now (reply_of result) }
+{
+    match shared.store_lines(rt, alloc, seat) {
+        Ok(Ok(lines)) => Reply::Store(lines.count, lines.bytes),
+        Ok(Err(_)) => Reply::Fault(Fault::NoMemory),
+        Err(HoldFault::WrongSeat) => Reply::Fault(Fault::WrongSeat),
+        Err(HoldFault::NoBook) => Reply::Fault(Fault::NoProgram),
+    }
+}
+
+/// The lines of the log from an entry on, counted from 1.
+fn log<R: Wait, L1: PostLedger, L2: Ledger, A: Allocator + Copy>(
+    rt: &R,
+    alloc: A,
+    shared: &Shared<L1, L2, A>,
+    seat: &Seat<L1, L2>,
+    from: u32,
+) -> Reply<A>
+    ensures { LogReplies seat.now from (reply_of result) }
+{
+    match shared.log_lines(rt, alloc, seat, u64::from(from)) {
+        Ok(Ok(lines)) => Reply::Log(lines.count, lines.bytes),
+        Ok(Err(_)) => Reply::Fault(Fault::NoMemory),
+        Err(HoldFault::WrongSeat) => Reply::Fault(Fault::WrongSeat),
+        Err(HoldFault::NoBook) => Reply::Fault(Fault::NoProgram),
+    }
+}
+
+/// A session's desk on a shared book. Contracts see its seat, and which queue its inlet feeds.
+#[derive(Drop)]
+pub struct SharedDesk<'a, R: Wait, L1: PostLedger, L2: Ledger, A: Allocator> {
+    rt: &'a R,
+    alloc: A,
+    shared: &'a Shared<L1, L2, A>,
+    seat: Seat<L1, L2>,
+    inlet: Inlet<u64>,
+}
+
+impl<'a, R: Wait, L1: PostLedger, L2: Ledger, A: Allocator> Model for SharedDesk<'a, R, L1, L2, A> {
+    ghost use Rattle.std.specs.Prelude.{ℕ};
+    ghost use Rattle.std.specs.declared.alloc.Global.{Global};
+    ghost use Rattle.crossbeam_queue.specs.SegTies.{SegId};
+    ghost use Rattle.chr_pool.specs.Inlets.{inlet_id};
+    ghost use Rattle.chr_seats.specs.Accounts.{SeatState};
+
+    ghost Value = { SeatState × (SegId Global × ℕ) };
+
+    ghost view = { λ d. (d.seat, inlet_id d.inlet) };
+}
+
+impl<'a, R: Wait, L1: PostLedger, L2: Ledger, A: Allocator + Copy> SharedDesk<'a, R, L1, L2, A> {
+    /// A desk on this book, by a session's seat and an inlet of the workers' pool.
+    pub fn new(
+        rt: &'a R,
+        alloc: A,
+        shared: &'a Shared<L1, L2, A>,
+        seat: Seat<L1, L2>,
+        inlet: Inlet<u64>,
+    ) -> SharedDesk<'a, R, L1, L2, A>
+        ensures { result ≡ (seat, inlet_id inlet) }
+    {
+        SharedDesk {
+            rt,
+            alloc,
+            shared,
+            seat,
+            inlet,
+        }
+    }
+
+    /// Gives back the seat and the inlet.
+    pub fn end(self) -> (Seat<L1, L2>, Inlet<u64>)
+        ensures seat { result.0 ≡ self.entry.0 }
+        ensures inlet { inlet_id result.1 ≡ self.entry.1 }
+    {
+        (self.seat, self.inlet)
+    }
+}
+
+impl<'a, R: Wait, L1: PostLedger, L2: Ledger, A: Allocator + Copy> Desk<A>
+    for SharedDesk<'a, R, L1, L2, A> {
+    ghost step = { λ old command reply new. SharedReplies old.0 command reply new.0 × (new.1 ≡ old.1) };
+
+    fn ask(&mut self, command: Command<'_>) -> Reply<A> {
+        match command {
+            Command::Load(text) => load(self.rt, self.alloc, self.shared, &self.seat, text),
+            Command::Post(text) => post(
+                self.rt,
+                self.shared,
+                &mut self.seat,
+                &mut self.inlet,
+                text,
+            ),
+            Command::Wait(most) => wait(self.rt, self.shared, &self.seat, most),
+            Command::Store => store(self.rt, self.alloc, self.shared, &self.seat),
+            Command::Log(from) => log(self.rt, self.alloc, self.shared, &self.seat, from),
+        }
+    }
+}
