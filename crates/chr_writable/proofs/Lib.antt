@@ -1,0 +1,5 @@
+pub mod Values
+pub mod Rules
+pub mod Instances
+pub mod States
+pub mod Entries
