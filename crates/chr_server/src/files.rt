@@ -1,4 +1,5 @@
-//! Reading files.
+//! Reading files and standard input.
+use chr_command_line::reading::STANDARD_INPUT;
 use std::alloc::Allocator;
 use std::fs::File;
 use std::io::{self, Read};
@@ -10,10 +11,24 @@ pub const MOST_TEXT: u64 = 65_536;
 /// The limit on the bytes of a log and of a store.
 pub const MOST_LOG: u64 = 67_108_864;
 
-/// Returns the bytes of a file, but no more than `most` and one, which is enough to see that a file is too long.
-pub fn fetch<R: Files + Alloc>(rt: &R, path: &str, most: u64) -> io::Result<Vec<u8, R::A>> {
+/// What messages call the file of a path.
+pub fn called(path: &str) -> &str {
+    if path == STANDARD_INPUT {
+        "standard input"
+    } else {
+        path
+    }
+}
+
+/// Returns the bytes of a file, or of standard input for the path that stands for it, but no more than `most` and one,
+/// which is enough to see that they are too many.
+pub fn fetch<R: Files + Input + Alloc>(rt: &R, path: &str, most: u64) -> io::Result<Vec<u8, R::A>> {
     let mut bytes = Vec::new(rt.alloc());
-    let file = File::open(rt, path)?;
-    file.take(most.saturating_add(1)).read_to_end(&mut bytes)?;
+    let taken = most.saturating_add(1);
+    if path == STANDARD_INPUT {
+        rt.reader().take(taken).read_to_end(&mut bytes)?;
+    } else {
+        File::open(rt, path)?.take(taken).read_to_end(&mut bytes)?;
+    }
     Ok(bytes)
 }

@@ -1,22 +1,27 @@
-//! The program `chr`: runs Constraint Handling Rules on constraints, and checks the log of a run, all from files.
+//! The program `chr`: runs Constraint Handling Rules on constraints and checks the log of a run, from files, and serves
+//! sessions.
 //!
 //! `chr run FILE POSTS` posts the constraints of POSTS, runs the rules of FILE on them, and prints the store and the log,
 //! or one of them; options limit the calls that are made and the labels that are given.
-//! `chr check FILE LOG STORE` prints whether LOG is the log of a run of the rules of FILE that ends in STORE. The exit
-//! status is 0 where no goal is open at the end of the run or the log is one of a run, 1 for a fault in a text or a log
-//! that is refused, 2 for a wrong command line or a file that can't be read, 3 where goals are open at the end of the
-//! run, and 5 where memory is refused.
+//! `chr check FILE LOG STORE` prints whether LOG is the log of a run of the rules of FILE that ends in STORE. One of the
+//! files may be `-`, which is standard input.
+//! `chr session` reads commands from standard input, and writes each reply to standard output before it reads the next.
+//! The exit status is 0 where no goal is open at the end of the run, the log is one of a run, or the session has ended
+//! between commands, 1 for a fault in a text, a log that is refused, or a session whose input is cut, 2 for a wrong
+//! command line or a file that can't be read or written, 3 where goals are open at the end of the run, and 5 where memory
+//! is refused.
 #![tactic(auto)]
 
 mod check;
-mod command_line;
 mod files;
 mod message;
+mod refused;
 mod report;
 mod run;
+mod session;
 
+use chr_command_line::reading::{Request, read};
 use clap::error::ErrorKind;
-use command_line::Request;
 use message::Detail;
 use report::Status;
 use std::env;
@@ -37,11 +42,10 @@ fn print_usage(rt: &HostRuntime, detail: Detail, error: &clap::Error) -> Status 
     if error.kind() == ErrorKind::OutOfMemory {
         return report::report_no_memory(rt, detail);
     }
-    let printed = error.print(rt);
-    if printed.is_ok() && error.exit_code() == 0 {
-        Status::Done
-    } else {
-        Status::Usage
+    match error.print(rt) {
+        Err(failure) if !report::is_closed(&failure) => Status::Usage,
+        _ if error.exit_code() == 0 => Status::Done,
+        _ => Status::Usage,
     }
 }
 
@@ -55,7 +59,7 @@ fn main(rt: HostRuntime) -> ExitCode {
         Ok(words) => words,
         Err(error) => return report::report_failure(&rt, detail, "the command line", &error).code(),
     };
-    let status = match command_line::read(rt.alloc(), words.as_slice()) {
+    let status = match read(rt.alloc(), words.as_slice()) {
         Ok(
             Request::Run {
                 file,
@@ -64,6 +68,7 @@ fn main(rt: HostRuntime) -> ExitCode {
             },
         ) => run::run(&rt, detail, file, posts, options),
         Ok(Request::Check { file, log, store }) => check::check(&rt, detail, file, log, store),
+        Ok(Request::Session { labels }) => session::session(&rt, detail, labels),
         Err(error) => print_usage(&rt, detail, &error),
     };
     status.code()

@@ -249,14 +249,19 @@ pub fn message<A: Allocator + Copy>(
 }
 
 /// Returns what a terminal is told of a log that is refused, after the line on standard output: what is wrong with the
-/// entry, or with the line of the store, and its place.
+/// entry, or with the line of the store, what `told` says of it, and its place.
 pub fn refusal_message<A: Allocator + Copy>(
     alloc: A,
     source: Source<'_>,
     fault: CheckFault,
+    told: Option<&str>,
 ) -> Result<String<A>, AllocError> {
     let entry = line_of(source.bytes, fault.line);
     let mut message = format!(in alloc; "{}", refusal_meaning(fault.kind, entry))?;
+    if let Some(told) = told {
+        message.push(' ')?;
+        message.push_str(told)?;
+    }
     push_place(&mut message, source, fault.line)?;
     Ok(message)
 }
@@ -474,9 +479,24 @@ mod tests {
                 line,
                 kind,
             };
-            let text = refusal_message(rt.alloc(), source, fault)?;
+            let text = refusal_message(rt.alloc(), source, fault, None)?;
             assert_eq!(rt; text.as_str(), want);
         }
+        let source = Source {
+            text: Text::Log,
+            path: "f",
+            bytes: b"chr-log 1\nP 2 a\n",
+        };
+        let fault = CheckFault {
+            place: Place::Log,
+            line: 2,
+            kind: CheckKind::BadTicket,
+        };
+        let text = refusal_message(rt.alloc(), source, fault, Some("The next one is 1."))?;
+        assert_eq!(rt;
+            text.as_str(),
+            "A post must take the next ticket: one more than there were posts and body constraints before it. The next one is 1.\n --> f:2\n2 | P 2 a\n"
+        );
         Ok(())
     }
 }

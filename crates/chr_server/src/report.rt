@@ -1,17 +1,18 @@
 //! How the program ends, and what it says of a failure.
 use crate::message::{Detail, Fault, Source, message, no_memory_message};
 use std::alloc::AllocError;
-use std::io;
+use std::io::{self, Write};
 use std::process::ExitCode;
 
 /// How the program ends.
 #[derive(Clone, Copy, Debug, PartialEq, Eq)]
 pub enum Status {
-    /// No goal is open at the end of the run, the log is a run, or help was asked for.
+    /// No goal is open at the end of the run, the log is a run, the session has ended between commands, or help was asked
+    /// for.
     Done,
-    /// A text has a fault, or the log is no run that ends in the store.
+    /// A text has a fault, the log is no run that ends in the store, or the input of the session is cut.
     Fault,
-    /// The command line is wrong, or a file or standard output failed.
+    /// The command line is wrong, or a file, standard input or standard output failed.
     Usage,
     /// Goals are open at the end of the run.
     Open,
@@ -29,6 +30,19 @@ impl Status {
             Status::Open => 3,
             Status::NoMemory => 5,
         })
+    }
+}
+
+/// Whether a write failed as its reader has gone away, which is no failure of the program.
+pub fn is_closed(error: &io::Error) -> bool {
+    error.kind() == io::ErrorKind::BrokenPipe
+}
+
+/// Writes to standard output, as much as its reader takes.
+pub fn put(rt: &impl Print, bytes: &[u8]) -> io::Result<()> {
+    match io::writer(rt).write_all(bytes) {
+        Err(error) if !is_closed(&error) => Err(error),
+        _ => Ok(()),
     }
 }
 

@@ -1,16 +1,15 @@
 //! `chr run`.
-use crate::command_line::RunOptions;
-use crate::files::{MOST_TEXT, fetch};
+use crate::files::{MOST_TEXT, called, fetch};
 use crate::message::{Detail, Fault, Source, Text};
-use crate::report::{Status, report_failure, report_fault, report_no_memory};
+use crate::report::{Status, put, report_failure, report_fault, report_no_memory};
+use chr_command_line::reading::RunOptions;
 use chr_run_text::running::{RunFault, run_text};
 use chr_solo::solo::End;
-use std::io::{self, Write};
 use std::rt::Files;
 
 /// Writes what a run gives to standard output.
 fn print(rt: &(impl Print + Eprint), detail: Detail, bytes: &[u8], end: End) -> Status {
-    match io::writer(rt).write_all(bytes) {
+    match put(rt, bytes) {
         Ok(()) => match end {
             End::Quiet => Status::Done,
             End::Open => Status::Open,
@@ -46,7 +45,7 @@ fn run_sources<R: Print + Eprint + AllocGlobal>(
 
 /// Runs the rules of the file `file` on the constraints of the file `posts`, and writes what the options ask for to
 /// standard output. After a fault nothing is written there.
-pub fn run<R: Files + Print + Eprint + AllocGlobal>(
+pub fn run<R: Files + Input + Print + Eprint + AllocGlobal>(
     rt: &R,
     detail: Detail,
     file: &str,
@@ -55,20 +54,20 @@ pub fn run<R: Files + Print + Eprint + AllocGlobal>(
 ) -> Status {
     let program = match fetch(rt, file, MOST_TEXT) {
         Ok(bytes) => bytes,
-        Err(error) => return report_failure(rt, detail, file, &error),
+        Err(error) => return report_failure(rt, detail, called(file), &error),
     };
     let posted = match fetch(rt, posts, MOST_TEXT) {
         Ok(bytes) => bytes,
-        Err(error) => return report_failure(rt, detail, posts, &error),
+        Err(error) => return report_failure(rt, detail, called(posts), &error),
     };
     let program = Source {
         text: Text::Program,
-        path: file,
+        path: called(file),
         bytes: &program,
     };
     let posted = Source {
         text: Text::Posts,
-        path: posts,
+        path: called(posts),
         bytes: &posted,
     };
     run_sources(rt, detail, program, posted, options)
@@ -77,9 +76,9 @@ pub fn run<R: Files + Print + Eprint + AllocGlobal>(
 #[cfg(test)]
 mod tests {
     use super::{run, run_sources};
-    use crate::command_line::RunOptions;
     use crate::message::{Detail, Source, Text};
     use crate::report::Status;
+    use chr_command_line::reading::RunOptions;
     use chr_run_text::output::Show;
     use std::test::*;
 

@@ -1,9 +1,15 @@
-//! The command line of `chr`.
+//! What the words of a command line ask for.
 use chr_run_text::output::Show;
 use clap::error::ErrorKind;
 use clap::{Arg, ArgAction, ArgMatches, Command, Error, value_parser};
 use std::alloc::{AllocError, Global};
 use std::convert::AsStr;
+
+/// The version of the program.
+pub const VERSION: &str = "0.1.0";
+
+/// The path that stands for standard input.
+pub const STANDARD_INPUT: &str = "-";
 
 /// The range of the number of calls and of the greatest label, as errors and the help name it.
 const RANGE: &str = "0..4294967295";
@@ -22,7 +28,7 @@ pub struct RunOptions {
     pub show: Show,
 }
 
-/// What the command line asks for.
+/// What the command line asks for. At most one of the paths of a request is [`STANDARD_INPUT`].
 #[derive(Clone, Copy, Debug, PartialEq, Eq)]
 pub enum Request<'a> {
     /// `chr run FILE POSTS [--steps K] [--labels N] [--show all|store|log|strict]`
@@ -36,6 +42,11 @@ pub enum Request<'a> {
         file: &'a str,
         log: &'a str,
         store: &'a str,
+    },
+    /// `chr session [--labels N]`
+    Session {
+        /// The greatest label that may be given.
+        labels: u32,
     },
 }
 
@@ -59,19 +70,29 @@ fn number<'a>(alloc: Global, name: &'a str, default: &'a str, help: &'a str) -> 
         .help(help)
 }
 
+/// Returns the option `--labels`.
+fn labels<'a>(alloc: Global) -> Arg<'a> {
+    number(
+        alloc,
+        "labels",
+        "4294967295",
+        "The greatest label that may be given",
+    )
+}
+
 /// Returns the command `run` with its arguments.
 fn run_command<'a>(alloc: Global) -> Result<Command<'a>, AllocError> {
     Command::new(alloc, "run")
         .about("Runs rules on posted constraints, and prints the store and the log")
-        .arg(required(alloc, "FILE", "The rules"))?
-        .arg(required(alloc, "POSTS", "The constraints to post"))?
-        .arg(number(alloc, "steps", "1000000", "How many calls are made at most"))?
-        .arg(number(
+        .after_help("Example:\n  chr run examples/gcd/gcd.chr examples/gcd/posts.txt --show store")
+        .arg(required(alloc, "FILE", "The rules; `-` is standard input"))?
+        .arg(required(
             alloc,
-            "labels",
-            "4294967295",
-            "The greatest label that may be given",
+            "POSTS",
+            "The constraints to post; `-` is standard input",
         ))?
+        .arg(number(alloc, "steps", "1000000", "How many calls are made at most"))?
+        .arg(labels(alloc))?
         .arg(
             Arg::new(alloc, "show")
                 .long("show")
@@ -86,6 +107,18 @@ fn run_command<'a>(alloc: Global) -> Result<Command<'a>, AllocError> {
         )
 }
 
+/// Returns the command `session` with its arguments.
+fn session_command<'a>(alloc: Global) -> Result<Command<'a>, AllocError> {
+    Command::new(alloc, "session")
+        .about(
+            "Reads commands from standard input, and writes each reply to standard output before it reads the next",
+        )
+        .after_help(
+            "Lines of input:\n  load N      The rules are the N bytes after this line\n  post TEXT   Posts the constraints of the text\n  wait K      Makes at most K calls, and tells whether a goal is open\n  store       Shows the store\n  log F       Shows the log from entry F on\n  quit        Ends the session\n\nExample:\n  printf 'load 9\\na <=> b.\\npost a.\\nwait 1000\\nstore\\nquit\\n' | chr session",
+        )
+        .arg(labels(alloc))
+}
+
 /// Returns the commands of the program with their arguments.
 fn command<'a>(alloc: Global) -> Result<Command<'a>, AllocError> {
     let run = run_command(alloc)?;
@@ -93,20 +126,30 @@ fn command<'a>(alloc: Global) -> Result<Command<'a>, AllocError> {
         .about(
             "Checks whether a log is that of a run of rules, and whether the run ends in a store",
         )
-        .arg(required(alloc, "FILE", "The rules"))?
+        .after_help(
+            "Example:\n  chr check examples/gcd/gcd.chr examples/gcd/log.txt examples/gcd/store.txt",
+        )
+        .arg(required(alloc, "FILE", "The rules; `-` is standard input"))?
         .arg(required(
             alloc,
             "LOG",
-            "The log, which begins with `chr-log 1` or `chr-log 2`",
+            "The log, which begins with `chr-log 1` or `chr-log 2`; `-` is standard input",
         ))?
-        .arg(required(alloc, "STORE", "The store, without the line that counts"))?;
+        .arg(required(
+            alloc,
+            "STORE",
+            "The store, without the line that counts; `-` is standard input",
+        ))?;
     Command::new(alloc, "chr")
+        .version(VERSION)
+        .after_help("Example:\n  chr run examples/gcd/gcd.chr examples/gcd/posts.txt")
         .about(
             "Runs Constraint Handling Rules, logs each activation, firing and drop, and checks logs",
         )
         .subcommand_required(true)
         .subcommand(run)?
-        .subcommand(check)
+        .subcommand(check)?
+        .subcommand(session_command(alloc)?)
 }
 
 /// What a value of `--show` asks for.
@@ -129,9 +172,30 @@ fn run_options(run: &ArgMatches) -> Option<RunOptions> {
     })
 }
 
+/// Whether more than one of the paths is standard input.
+fn shares_input(paths: &[&str]) -> bool {
+    let inputs = paths.iter().filter(|path| **path == STANDARD_INPUT);
+    1 < inputs.count()
+}
+
+/// Returns what a command line asks for. An `Err` is the error of a line on which more than one file is standard input.
+fn taken<'a>(
+    command: &mut Command<'a>,
+    paths: &[&str],
+    request: Request<'a>,
+) -> Result<Request<'a>, Error> {
+    if shares_input(paths) {
+        return Err(command.error(
+            ErrorKind::ArgumentConflict,
+            "`-`, standard input, can stand for one file only",
+        )?);
+    }
+    Ok(request)
+}
+
 /// Reads the words of a command line, the program's own name first.
 ///
-/// Help that is asked for is an `Err` too, with exit code 0; it is printed to standard output.
+/// Help and the version are an `Err` too where they are asked for, with exit code 0; they are printed to standard output.
 pub fn read<'a, S: AsStr>(alloc: Global, words: &'a [S]) -> Result<Request<'a>, Error> {
     let mut command = command(alloc)?;
     let matches = command.try_get_matches_from_mut(words)?;
@@ -141,11 +205,12 @@ pub fn read<'a, S: AsStr>(alloc: Global, words: &'a [S]) -> Result<Request<'a>, 
             run.get_str("POSTS"),
             run_options(run),
         ) {
-            return Ok(Request::Run {
+            let request = Request::Run {
                 file,
                 posts,
                 options,
-            });
+            };
+            return taken(&mut command, &[file, posts], request);
         }
     }
     if let Some(("check", check)) = matches.subcommand() {
@@ -154,7 +219,13 @@ pub fn read<'a, S: AsStr>(alloc: Global, words: &'a [S]) -> Result<Request<'a>, 
             check.get_str("LOG"),
             check.get_str("STORE"),
         ) {
-            return Ok(Request::Check { file, log, store });
+            let request = Request::Check { file, log, store };
+            return taken(&mut command, &[file, log, store], request);
+        }
+    }
+    if let Some(("session", session)) = matches.subcommand() {
+        if let Some(labels) = session.get_one("labels") {
+            return Ok(Request::Session { labels });
         }
     }
     Err(command.error(ErrorKind::MissingSubcommand, "a command is missing")?)
@@ -273,9 +344,110 @@ mod tests {
     }
 
     #[test]
+    fn sessions(rt: HostRuntime) {
+        let rows: [(&[&str], u32); 3] = [
+            (&["chr", "session"], 4_294_967_295),
+            (&["chr", "session", "--labels", "0"], 0),
+            (&["chr", "session", "--labels=7"], 7),
+        ];
+        for (i, (words, labels)) in rows.iter().enumerate() {
+            match read(rt.alloc(), words) {
+                Ok(request) => {
+                    assert!(rt; request == Request::Session { labels: *labels }, "words {i}");
+                }
+                Err(_) => assert!(rt; false, "words {i}"),
+            }
+        }
+    }
+
+    #[test]
+    fn standard_input(rt: HostRuntime) {
+        let rows: [(&[&str], Request); 3] = [
+            (
+                &["chr", "run", "-", "posts"],
+                Request::Run {
+                    file: "-",
+                    posts: "posts",
+                    options: DEFAULTS,
+                },
+            ),
+            (
+                &["chr", "run", "rules", "-"],
+                Request::Run {
+                    file: "rules",
+                    posts: "-",
+                    options: DEFAULTS,
+                },
+            ),
+            (
+                &["chr", "check", "rules", "-", "store"],
+                Request::Check {
+                    file: "rules",
+                    log: "-",
+                    store: "store",
+                },
+            ),
+        ];
+        for (i, (words, wanted)) in rows.iter().enumerate() {
+            match read(rt.alloc(), words) {
+                Ok(request) => assert!(rt; request == *wanted, "words {i}"),
+                Err(_) => assert!(rt; false, "words {i}"),
+            }
+        }
+    }
+
+    /// Words that ask for help or the version, and how the text that is printed begins and ends.
+    const PRINTED: [(&[&str], &str, &str); 5] = [
+        (&["chr", "--version"], "chr 0.1.0\n", "chr 0.1.0\n"),
+        (
+            &["chr", "--help"],
+            "Runs Constraint Handling Rules, ",
+            "\n\nExample:\n  chr run examples/gcd/gcd.chr examples/gcd/posts.txt\n",
+        ),
+        (
+            &["chr", "run", "--help"],
+            "Runs rules on posted constraints, ",
+            "\n\nExample:\n  chr run examples/gcd/gcd.chr examples/gcd/posts.txt --show store\n",
+        ),
+        (
+            &["chr", "check", "--help"],
+            "Checks whether a log is that of a run of rules, ",
+            "\n\nExample:\n  chr check examples/gcd/gcd.chr examples/gcd/log.txt examples/gcd/store.txt\n",
+        ),
+        (
+            &["chr", "session", "--help"],
+            "Reads commands from standard input, ",
+            "\n\nExample:\n  printf 'load 9\\na <=> b.\\npost a.\\nwait 1000\\nstore\\nquit\\n' | chr session\n",
+        ),
+    ];
+
+    #[test]
+    fn printed_texts(rt: HostRuntime) -> Result<(), Fail> {
+        for (i, (words, begin, end)) in PRINTED.iter().enumerate() {
+            match read(rt.alloc(), words) {
+                Ok(_) => assert!(rt; false, "words {i}"),
+                Err(error) => {
+                    let text = format!(in rt.alloc(); "{error}")?;
+                    assert!(rt; text.as_str().starts_with(begin), "begin of {i}");
+                    assert!(rt; text.as_str().ends_with(end), "end of {i}");
+                }
+            }
+        }
+        Ok(())
+    }
+
+    #[test]
     fn other_words(rt: HostRuntime) {
-        let table: [(&[&str], ErrorKind, i32); 10] = [
+        let table: [(&[&str], ErrorKind, i32); 17] = [
             (&["chr"], ErrorKind::MissingSubcommand, 2),
+            (&["chr", "--version"], ErrorKind::DisplayVersion, 0),
+            (&["chr", "-V"], ErrorKind::DisplayVersion, 0),
+            (&["chr", "run", "-", "-"], ErrorKind::ArgumentConflict, 2),
+            (
+                &["chr", "check", "-", "log", "-"],
+                ErrorKind::ArgumentConflict,
+                2,
+            ),
             (&["chr", "run"], ErrorKind::MissingRequiredArgument, 2),
             (
                 &["chr", "run", "rules"],
@@ -305,6 +477,13 @@ mod tests {
             (&["chr", "--help"], ErrorKind::DisplayHelp, 0),
             (&["chr", "run", "--help"], ErrorKind::DisplayHelp, 0),
             (&["chr", "check", "--help"], ErrorKind::DisplayHelp, 0),
+            (&["chr", "session", "rules"], ErrorKind::UnknownArgument, 2),
+            (
+                &["chr", "session", "--steps", "1"],
+                ErrorKind::UnknownArgument,
+                2,
+            ),
+            (&["chr", "session", "--help"], ErrorKind::DisplayHelp, 0),
         ];
         for (words, kind, code) in &table {
             match read(rt.alloc(), words) {
@@ -317,8 +496,8 @@ mod tests {
         }
     }
 
-    /// Words of a run whose options are refused, and how the text of the error begins.
-    const REFUSED: [(&[&str], ErrorKind, &str); 10] = [
+    /// Words of a run or a session whose options are refused, and how the text of the error begins.
+    const REFUSED: [(&[&str], ErrorKind, &str); 12] = [
         (
             &["chr", "run", "rules", "posts", "--steps", "4294967296"],
             ErrorKind::ValueValidation,
@@ -387,6 +566,16 @@ mod tests {
             &["chr", "run", "rules", "posts", "--steps"],
             ErrorKind::InvalidValue,
             "error: a value is required for '--steps <0..4294967295>' but none was supplied\n",
+        ),
+        (
+            &["chr", "session", "--labels", "4294967296"],
+            ErrorKind::ValueValidation,
+            "error: invalid value '4294967296' for '--labels <0..4294967295>': 4294967296 is not in 0..=4294967295\n",
+        ),
+        (
+            &["chr", "session", "--labels", "1", "--labels", "2"],
+            ErrorKind::ArgumentConflict,
+            "error: the argument '--labels <0..4294967295>' cannot be used multiple times\n",
         ),
     ];
 

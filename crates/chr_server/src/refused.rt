@@ -1,0 +1,245 @@
+//! What the entries before a refused one tell of its ticket and its labels.
+//!
+//! A check names the first fault of a log by its line and kind. The entries before that line are steps of a run, so they
+//! tell which ticket and which label come next, and where a goal ended or a constraint was removed.
+use chr_check::fault::{CheckFault, Kind, Place};
+use chr_log::events::{Event, Label};
+use chr_rule::expression::BodyItem;
+use chr_rule::program::Program;
+use std::alloc::{AllocError, Allocator};
+
+/// The entries before a refused one, with the rules whose log they are.
+#[derive(Drop)]
+struct History<'l, A: Allocator> {
+    program: &'l Program<A>,
+    entries: &'l [Event<A>],
+}
+
+/// The line of an entry by its place in the log, from 0: the header of a log is line 1.
+fn line_at(place: usize) -> u64 {
+    (place as u64).saturating_add(2)
+}
+
+impl<'l, A: Allocator + Copy> History<'l, A> {
+    /// How many goals an entry adds.
+    fn added(&self, entry: &Event<A>) -> u64 {
+        match entry {
+            Event::Post { .. } => 1,
+            Event::Fire { rule, .. } => match self.program.rule(*rule as usize) {
+                Some(rule) => {
+                    let items = rule.body().iter();
+                    items
+                        .filter(|item| matches!(item, BodyItem::Add(_)))
+                        .count() as u64
+                }
+                None => 0,
+            },
+            _ => 0,
+        }
+    }
+
+    /// The next ticket.
+    fn next_ticket(&self) -> u64 {
+        let mut next = 1u64;
+        for entry in self.entries {
+            next = next.saturating_add(self.added(entry));
+        }
+        next
+    }
+
+    /// The next label.
+    fn next_label(&self) -> u64 {
+        let activations = self
+            .entries
+            .iter()
+            .filter(|entry| matches!(entry, Event::Activate { .. }));
+        (activations.count() as u64).saturating_add(1)
+    }
+
+    /// The place of the entry that activated a goal, and the goal's label.
+    fn activation(&self, of: u64) -> Option<(usize, Label)> {
+        for (place, entry) in self.entries.iter().enumerate() {
+            if let Event::Activate { ticket, label } = entry {
+                if *ticket == of {
+                    return Some((place, *label));
+                }
+            }
+        }
+        None
+    }
+
+    /// The place of the entry that dropped a goal.
+    fn drop_of(&self, of: u64) -> Option<usize> {
+        self.entries.iter().position(|entry| match entry {
+            Event::Drop { ticket } => *ticket == of,
+            _ => false,
+        })
+    }
+
+    /// The place of the entry whose firing removed a label.
+    fn removal(&self, label: Label) -> Option<usize> {
+        self.entries.iter().position(|entry| match entry {
+            Event::Fire { removed, .. } => removed.as_slice().contains(&label),
+            _ => false,
+        })
+    }
+
+    /// The first of these labels that is not in the store.
+    fn absent(&self, labels: &[Label]) -> Option<Label> {
+        let next = self.next_label();
+        for label in labels {
+            if next <= *label || self.removal(*label).is_some() {
+                return Some(*label);
+            }
+        }
+        None
+    }
+}
+
+/// What is wrong with the ticket of an entry.
+fn ticket_told<A: Allocator + Copy, B: Allocator + Copy>(
+    alloc: B,
+    history: &History<'_, A>,
+    entry: &Event<A>,
+) -> Result<String<B>, AllocError> {
+    let next = history.next_ticket();
+    let (ticket, activates) = match entry {
+        Event::Post { .. } => return format!(in alloc; "The next one is {next}."),
+        Event::Activate { ticket, .. } => (*ticket, true),
+        Event::Fire { ticket, .. } | Event::Drop { ticket } => (*ticket, false),
+    };
+    if next <= ticket {
+        return format!(in alloc; "Ticket {ticket} has not been given: the next one is {next}.");
+    }
+    let Some((place, label)) = history.activation(ticket) else {
+        return format!(in alloc; "Goal {ticket} has not been activated.");
+    };
+    if activates {
+        return format!(in alloc; "Goal {ticket} was activated in line {}.", line_at(place));
+    }
+    if let Some(place) = history.drop_of(ticket) {
+        return format!(in alloc; "Goal {ticket} was dropped in line {}.", line_at(place));
+    }
+    match history.removal(label) {
+        Some(place) => format!(in alloc; "Goal {ticket} ended in line {}.", line_at(place)),
+        None => format!(in alloc; "Goal {ticket} has ended."),
+    }
+}
+
+/// What is wrong with the label of an activation, or with the first label of a firing that is not in the store.
+fn label_told<A: Allocator + Copy, B: Allocator + Copy>(
+    alloc: B,
+    history: &History<'_, A>,
+    entry: &Event<A>,
+) -> Result<Option<String<B>>, AllocError> {
+    let next = history.next_label();
+    let Event::Fire { kept, removed, .. } = entry else {
+        return Ok(Some(format!(in alloc; "The next one is {next}.")?));
+    };
+    let absent = history.absent(kept.as_slice());
+    let Some(label) = absent.or(history.absent(removed.as_slice())) else {
+        return Ok(None);
+    };
+    let told = match history.removal(label) {
+        Some(place) => {
+            format!(in alloc; "Label {label} was removed in line {}.", line_at(place))?
+        }
+        None => { format!(in alloc; "Label {label} has not been given: the next one is {next}.")? }
+    };
+    Ok(Some(told))
+}
+
+/// How often a label stands among labels.
+fn times(labels: &[Label], label: Label) -> usize {
+    labels.iter().filter(|other| **other == label).count()
+}
+
+/// Whether one label stands at two heads.
+fn is_repeated(kept: &[Label], removed: &[Label]) -> bool {
+    kept.iter()
+        .any(|label| 1 < times(kept, *label) || removed.contains(label))
+        || removed.iter().any(|label| 1 < times(removed, *label))
+}
+
+/// Why the labels of a firing by the goal of the label `own` are no instance.
+fn firing_told<A: Allocator + Copy, B: Allocator + Copy>(
+    alloc: B,
+    program: &Program<A>,
+    own: Label,
+    number: u16,
+    kept: &[Label],
+    removed: &[Label],
+) -> Result<String<B>, AllocError> {
+    let Some(rule) = program.rule(number as usize) else {
+        return format!(in alloc; "The last rule of the program is rule {}.", program.len());
+    };
+    let (k, r) = (rule.kept().len(), rule.removed().len());
+    if k != kept.len() || r != removed.len() {
+        return format!(in alloc; "Rule {number} keeps {k} and removes {r}.");
+    }
+    if !kept.contains(&own) && !removed.contains(&own) {
+        return format!(in alloc; "The goal's own label is {own}.");
+    }
+    if is_repeated(kept, removed) {
+        return format!(in alloc; "One label stands at two heads.");
+    }
+    format!(in alloc;
+        "The constraints don't match the heads of rule {number}, or its guard doesn't hold, or its body has no value."
+    )
+}
+
+/// What is wrong with an entry, by its kind of fault.
+fn entry_told<A: Allocator + Copy, B: Allocator + Copy>(
+    alloc: B,
+    history: &History<'_, A>,
+    kind: Kind,
+    entry: &Event<A>,
+) -> Result<Option<String<B>>, AllocError> {
+    match (kind, entry) {
+        (Kind::BadTicket, _) => Ok(Some(ticket_told(alloc, history, entry)?)),
+        (Kind::BadLabel, _) => label_told(alloc, history, entry),
+        (
+            Kind::NoInstance,
+            Event::Fire {
+                ticket,
+                rule,
+                kept,
+                removed,
+            },
+        ) => {
+            let Some((_, own)) = history.activation(*ticket) else {
+                return Ok(None);
+            };
+            let (kept, removed) = (kept.as_slice(), removed.as_slice());
+            let told = firing_told(alloc, history.program, own, *rule, kept, removed)?;
+            Ok(Some(told))
+        }
+        (Kind::StillApplies, Event::Drop { ticket }) => match history.activation(*ticket) {
+            Some((_, own)) => Ok(Some(format!(in alloc; "It stands under label {own}.")?)),
+            None => Ok(None),
+        },
+        _ => Ok(None),
+    }
+}
+
+/// Returns which ticket or label of a refused entry is wrong, and what would be right or why, as a sentence. None where
+/// the fault is in the store, or the entries before the refused one tell no more than its kind.
+pub fn told<A: Allocator + Copy, B: Allocator + Copy>(
+    alloc: B,
+    program: &Program<A>,
+    events: &[Event<A>],
+    fault: CheckFault,
+) -> Result<Option<String<B>>, AllocError> {
+    if fault.place == Place::Store || fault.line < 2 {
+        return Ok(None);
+    }
+    let place = (fault.line - 2) as usize;
+    let Some(entry) = events.get(place) else {
+        return Ok(None);
+    };
+    let history = History {
+        program,
+        entries: &events[..place],
+    };
+    entry_told(alloc, &history, fault.kind, entry)
+}

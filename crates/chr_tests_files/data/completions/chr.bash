@@ -1,0 +1,24 @@
+# Completion of chr for bash: source this file, or put it as `chr` into a folder that bash-completion reads.
+_chr() {
+  local word=${COMP_WORDS[COMP_CWORD]} before=${COMP_WORDS[COMP_CWORD-1]}
+  COMPREPLY=()
+  if [ "$COMP_CWORD" -eq 1 ]; then
+    COMPREPLY=($(compgen -W "run check session help --help --version" -- "$word"))
+    return
+  fi
+  case $before in
+    --show)
+      COMPREPLY=($(compgen -W "all store log strict" -- "$word"))
+      return
+      ;;
+    --steps | --labels) return ;;
+  esac
+  case ${COMP_WORDS[1]}:$word in
+    run:-*) COMPREPLY=($(compgen -W "--steps --labels --show --help" -- "$word")) ;;
+    check:-*) COMPREPLY=($(compgen -W "--help" -- "$word")) ;;
+    session:*) COMPREPLY=($(compgen -W "--labels --help" -- "$word")) ;;
+    run:* | check:*) compopt -o filenames 2>/dev/null; COMPREPLY=($(compgen -f -- "$word")) ;;
+    help:*) COMPREPLY=($(compgen -W "run check session" -- "$word")) ;;
+  esac
+}
+complete -F _chr chr
