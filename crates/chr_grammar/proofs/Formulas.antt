@@ -1,6 +1,7 @@
 -- What is read as an expression is spelled so.
 use Rattle.std.proofs.Common.{◌≡◌, ◌≤◌, ◌<◌, ℕ, zero, suc, Bool, true, false, List, [], ◌∷◌, ◌++◌, refl, sym, ap, subst, ◌∙◌, arith, append_assoc, Option, Some, None, Ok, Err, ◌&&◌}
 use Rattle.std.proofs.lemmas.Bool.{cond_both}
+use Rattle.chr_value.proofs.Chosen.{both}
 use Rattle.chr_lex.specs.declared.fault.Kind.TheVariants.{Syntax}
 use Rattle.chr_lex.specs.declared.mark.Mark.TheVariants as mark
 use Rattle.chr_lex.specs.declared.mark.Mark.TheVariants.{Open, Close}
@@ -118,18 +119,13 @@ sum_found (suc n) ts =
 
 -- ---- depth
 
-both_true : (a b : Bool) → a && b ≡ true → (a ≡ true) × (b ≡ true)
-both_true true true h = (refl, refl)
-both_true true false h = absurd cc
-both_true false b h = absurd cc
-
 pub fits_depth : (n : ℕ) (f : ParsedExpression) → fits n f ≡ true → depth f ≤ n
 fits_depth zero f h = absurd cc
 fits_depth (suc n) (Number negative digits) h = omega arith
 fits_depth (suc n) (Variable x) h = omega arith
 fits_depth (suc n) (Group f) h = let d = fits_depth n f h in omega arith
 fits_depth (suc n) (Operation o f g) h =
-    let b = both_true (fits n f) (fits n g) h in
+    let b = both (fits n f) (fits n g) h in
     let d = fits_depth n f b.0 in
     let e = fits_depth n g b.1 in
     omega arith

@@ -76,9 +76,9 @@ pub split_some : {A : Type 0} (f : List Lexeme → List Lexeme → A) (p : Lexem
     → f (before p (map lexeme ts)) (from_first p (map lexeme ts)) ≡ f (map lexeme (take n ts)) (lexeme (get_or ts n d) ∷ map lexeme (take (length ts - (n + 1)) (drop (n + 1) ts)))
 split_some f p ts n d is lt = both f _ _ _ _ (cut_front p ts n is) (cut_back p ts n d is lt)
 
-pub behind_heads : (rule_name : Option (List ℕ)) (ts : List Token) (n : ℕ) (d : Token) (hs : List ParsedAtom × List ParsedAtom) → n ≡ count_before is_arrow ts → n < length ts → heads_by_arrow (lexeme (get_or ts n d)) (map lexeme (take n ts)) ≡ Ok hs
+pub after_heads : (rule_name : Option (List ℕ)) (ts : List Token) (n : ℕ) (d : Token) (hs : List ParsedAtom × List ParsedAtom) → n ≡ count_before is_arrow ts → n < length ts → heads_by_arrow (lexeme (get_or ts n d)) (map lexeme (take n ts)) ≡ Ok hs
     → named_rule_of rule_name (map lexeme ts) ≡ (consequence_of (map lexeme (take (length ts - (n + 1)) (drop (n + 1) ts))) >>= λ c. Ok (record { rule_name = rule_name; kept = hs.0; removed = hs.1; guard = c.0; body = c.1 }))
-behind_heads rule_name ts n d hs is lt read =
+after_heads rule_name ts n d hs is lt read =
     let split = split_some (rule_by rule_name) is_arrow ts n d is lt in
     rw (split, read) refl
 

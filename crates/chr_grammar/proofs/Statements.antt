@@ -6,6 +6,7 @@ use Rattle.std.specs.Str.{bytes_eq}
 use Rattle.std.proofs.lemmas.Bool.{cond_both}
 use Rattle.std.proofs.lemmas.List.{append-nil}
 use Rattle.std.proofs.lemmas.Slice.Eq.{bytes_eq-Decides}
+use Rattle.chr_value.proofs.Chosen.{both}
 use Rattle.chr_lex.specs.declared.fault.Kind.{Kind}
 use Rattle.chr_lex.specs.declared.fault.Kind.TheVariants.{Syntax}
 use Rattle.chr_lex.specs.declared.mark.Mark.TheVariants as mark
@@ -210,11 +211,6 @@ said_rule ts (Err k) h = h
 a_rule_found : (ts : List Lexeme) → StatementRead ts (a_rule ts)
 a_rule_found ts = said_rule ts (rule_of ts) (rule_found ts)
 
-both_true : (a b : Bool) → a && b ≡ true → (a ≡ true) × (b ≡ true)
-both_true true true h = (refl, refl)
-both_true true false h = absurd cc
-both_true false b h = absurd cc
-
 named_so : (s : Lexeme) (w : List ℕ) → is_named w (named s) ≡ true → s ≡ a_name w
 named_so (OfWord (word.Name v)) w h = ap a_name ((bytes_eq-Decides v w).0 h)
 named_so (OfWord (word.Variable v)) w h = absurd cc
@@ -225,10 +221,10 @@ two_same : (s n t m : Lexeme) (ts : List Lexeme) → s ≡ t → n ≡ m → s �
 two_same s n t m ts h k = ap (λ (s : Lexeme). s ∷ n ∷ ts) h ∙ ap (λ (n : Lexeme). t ∷ n ∷ ts) k
 
 opened_is : (w : List ℕ) (s n : Lexeme) (ts : List Lexeme) → is_opened w s n ≡ true → s ∷ n ∷ ts ≡ OfMark mark.Open ∷ a_name w ∷ ts
-opened_is w s n ts h = let b = both_true (is_open s) (is_named w (named n)) h in two_same s n _ _ ts (open_is s b.0) (named_so n w b.1)
+opened_is w s n ts h = let b = both (is_open s) (is_named w (named n)) h in two_same s n _ _ ts (open_is s b.0) (named_so n w b.1)
 
 closed_is : (s n : Lexeme) (ts : List Lexeme) → are_closed s n ≡ true → s ∷ n ∷ ts ≡ OfMark mark.Close ∷ OfMark mark.Close ∷ ts
-closed_is s n ts h = let b = both_true (is_close s) (is_close n) h in two_same s n _ _ ts (close_is s b.0) (close_is n b.1)
+closed_is s n ts h = let b = both (is_close s) (is_close n) h in two_same s n _ _ ts (close_is s b.0) (close_is n b.1)
 
 module_is : (ts : List Lexeme) → is_module ts ≡ true → ts ≡ OfMark mark.Open ∷ a_name (codes "chr") ∷ OfMark mark.Close ∷ OfMark mark.Close ∷ []
 module_is [] h = absurd cc
@@ -236,7 +232,7 @@ module_is (a ∷ []) h = absurd cc
 module_is (a ∷ b ∷ []) h = absurd cc
 module_is (a ∷ b ∷ c ∷ []) h = absurd cc
 module_is (a ∷ b ∷ c ∷ d ∷ []) h =
-    let t = both_true (is_opened (codes "chr") a b) (are_closed c d) h in
+    let t = both (is_opened (codes "chr") a b) (are_closed c d) h in
     opened_is (codes "chr") a b (c ∷ d ∷ []) t.0 ∙ ap (λ (x : List Lexeme). OfMark mark.Open ∷ a_name (codes "chr") ∷ x) (closed_is c d [] t.1)
 module_is (a ∷ b ∷ c ∷ d ∷ e ∷ ts) h = absurd cc
 
@@ -244,7 +240,7 @@ library_is : (ts : List Lexeme) → is_library ts ≡ true → ts ≡ OfMark mar
 library_is [] h = absurd cc
 library_is (a ∷ []) h = absurd cc
 library_is (a ∷ b ∷ ts) h =
-    let t = both_true (is_opened (codes "library") a b) (is_module ts) h in
+    let t = both (is_opened (codes "library") a b) (is_module ts) h in
     opened_is (codes "library") a b ts t.0 ∙ ap (λ (x : List Lexeme). OfMark mark.Open ∷ a_name (codes "library") ∷ x) (module_is ts t.1)
 
 said_declared : (ts : List Lexeme) (read : Result (List Declared) Kind) → ListRead AnyDeclared declared_spelled ts read → StatementRead (OfMark mark.Declares ∷ a_name (codes "chr_constraint") ∷ ts) (read >>= λ ds. Ok (Declaration ds))
@@ -253,7 +249,7 @@ said_declared ts (Err k) h = h
 
 import_is : (name : List ℕ) (ts : List Lexeme) → bytes_eq name (codes "use_module") && is_library ts ≡ true → OfMark mark.Declares ∷ a_name name ∷ ts ≡ statement_spelled Import
 import_is name ts h =
-    let t = both_true (bytes_eq name (codes "use_module")) (is_library ts) h in
+    let t = both (bytes_eq name (codes "use_module")) (is_library ts) h in
     ap (λ (w : List ℕ). OfMark mark.Declares ∷ a_name w ∷ ts) ((bytes_eq-Decides name (codes "use_module")).0 t.0) ∙ ap (λ (x : List Lexeme). OfMark mark.Declares ∷ a_name (codes "use_module") ∷ x) (library_is ts t.1)
 
 directive_found : (name : List ℕ) (ts : List Lexeme) → StatementRead (OfMark mark.Declares ∷ a_name name ∷ ts) (directive_of name ts)

@@ -5,7 +5,7 @@ use Rattle.std.proofs.lemmas.List.{drop_more, drop_all, take_all}
 use Rattle.std.proofs.lemmas.Bool.{cases_lt, cases_eq}
 use Rattle.chr_value.specs.Atoms.{Value, Int}
 use Rattle.chr_rule.specs.Rules.{Expression, BodyItem, Is, Add, RuleAtom, Simpagation}
-use Rattle.chr_rule.specs.Scope.{known_behind_heads, known_behind_body, IsRule}
+use Rattle.chr_rule.specs.Scope.{known_after_heads, known_after_body, IsRule}
 use Rattle.chr_guard.specs.Values.{Valuation, value_of}
 use Rattle.chr_guard.specs.Bindings.{bound_at, Extends, Narrows, NoneUnder}
 use Rattle.chr_guard.specs.Instances.{IsRight}
@@ -19,10 +19,10 @@ use Rattle.chr_guard.proofs.Steps.{all_more, all_at}
 -- the binding once the first i members are done
 pub record Completing (rule : Simpagation ℕ) (i : ℕ) (old new : List (Option (Value ℕ))) : Type 0 where
   pub first : ℕ
-  pub of_heads : known_behind_heads 0 (rule.kept ++ rule.removed) ≡ Some first
+  pub of_heads : known_after_heads 0 (rule.kept ++ rule.removed) ≡ Some first
   pub known : ℕ
   pub later : first ≤ known
-  pub rest : known_behind_body known (drop i rule.body) ≡ Some rule.variables
+  pub rest : known_after_body known (drop i rule.body) ≡ Some rule.variables
   pub bound : (x : ℕ) → first ≤ x → x < known → IsSome (bound_at new x)
   pub heads : (x : ℕ) → x < first → bound_at new x ≡ bound_at old x
   pub places : rule.variables ≤ length new
@@ -47,8 +47,8 @@ module _ (rule : Simpagation ℕ) (i x : ℕ) (e : Expression) (old mid : List (
   next : drop i rule.body ≡ Is x e ∷ drop (i + 1) rule.body
   next = drop_more rule.body i (Is x e) within ∙ ap (λ m. m ∷ drop (i + 1) rule.body) (sym there)
 
-  turn : known_behind_body done.known (Is x e ∷ drop (i + 1) rule.body) ≡ Some rule.variables
-  turn = subst (λ ms. known_behind_body done.known ms ≡ Some rule.variables) next done.rest
+  turn : known_after_body done.known (Is x e ∷ drop (i + 1) rule.body) ≡ Some rule.variables
+  turn = subst (λ ms. known_after_body done.known ms ≡ Some rule.variables) next done.rest
 
   pub is_place : x < length mid
   is_place = is_known done.known rule.variables x e (drop (i + 1) rule.body) turn (λ same _ later. let le : suc done.known ≤ rule.variables = body_below (suc done.known) rule.variables (drop (i + 1) rule.body) later in let len : rule.variables ≤ length mid = done.places in omega arith)
@@ -118,7 +118,7 @@ module _ (rule : Simpagation ℕ) (i x : ℕ) (e : Expression) (old mid : List (
 pub add_more : (rule : Simpagation ℕ) (i : ℕ) (s : RuleAtom ℕ) (old mid : List (Option (Value ℕ))) → i < length rule.body → Add s ≡ get_or rule.body i (Add s) → Completing rule i old mid → Completing rule (i + 1) old mid
 add_more rule i s old mid within there done =
     let next : drop i rule.body ≡ Add s ∷ drop (i + 1) rule.body = drop_more rule.body i (Add s) within ∙ ap (λ m. m ∷ drop (i + 1) rule.body) (sym there) in
-    add_known done.known rule.variables s (drop (i + 1) rule.body) (subst (λ ms. known_behind_body done.known ms ≡ Some rule.variables) next done.rest) (λ _ later. record {
+    add_known done.known rule.variables s (drop (i + 1) rule.body) (subst (λ ms. known_after_body done.known ms ≡ Some rule.variables) next done.rest) (λ _ later. record {
       first = done.first;
       of_heads = done.of_heads;
       known = done.known;
@@ -144,7 +144,7 @@ completing_end rule i old new past done = record {
 }
   where
     all_known : done.known ≡ rule.variables
-    all_known = some_same done.known rule.variables (sym (ap (known_behind_body done.known) (drop_all i rule.body past)) ∙ done.rest)
+    all_known = some_same done.known rule.variables (sym (ap (known_after_body done.known) (drop_all i rule.body past)) ∙ done.rest)
 
     by_place : (x : ℕ) → x < rule.variables → (x < done.first) ⊎ (done.first ≤ x) → IsOfHeads rule x ⊎ IsSome (bound_at new x)
     by_place x h (inl below) = inl (done.first, done.of_heads, below)

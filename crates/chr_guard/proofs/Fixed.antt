@@ -6,7 +6,7 @@ use Rattle.std.proofs.lemmas.Bool.{and_parts}
 use Rattle.std.proofs.lemmas.Bool.Decides.{nat_tests}
 use Rattle.chr_value.specs.Atoms.{Value, Int, Atom}
 use Rattle.chr_rule.specs.Rules.{Term, Var, Given, RuleAtom, Expression, Number, Variable, Operation, Comparison, Compared, Same, Differ, BodyItem, Is, Add, Simpagation}
-use Rattle.chr_rule.specs.Scope.{known_behind_args, known_behind_heads, known_behind_body, argument_known, expression_known, test_known, IsRule}
+use Rattle.chr_rule.specs.Scope.{known_after_args, known_after_heads, known_after_body, argument_known, expression_known, test_known, IsRule}
 use Rattle.chr_guard.specs.Values.{Valuation, value_of, number_in, computed, compares, both, term_under, WhereBoth, Holds}
 use Rattle.chr_guard.specs.Instances.{values_under, atom_under, AreUnder, IsRight, added, Instance}
 use Rattle.chr_guard.proofs.Scoped.{var_known, head_known, is_known, add_known, scoped, body_below, args_later}
@@ -26,7 +26,7 @@ agree_more v w n a e x h =
 agree_next : (v w : Valuation) (n x : ℕ) → Agree v w n → x ≡ n → v x ≡ w x → Agree v w (suc n)
 agree_next v w n x a e s = agree_more v w n a (subst (λ z. v z ≡ w z) e s)
 
-args_agree : (v w : Valuation) (n m : ℕ) (args : List (Term ℕ)) (vs : List (Value ℕ)) → known_behind_args n args ≡ Some m → map (term_under v) args ≡ map (λ t. Some t) vs → map (term_under w) args ≡ map (λ t. Some t) vs → Agree v w n → Agree v w m
+args_agree : (v w : Valuation) (n m : ℕ) (args : List (Term ℕ)) (vs : List (Value ℕ)) → known_after_args n args ≡ Some m → map (term_under v) args ≡ map (λ t. Some t) vs → map (term_under w) args ≡ map (λ t. Some t) vs → Agree v w n → Agree v w m
 args_agree v w n m [] vs k e f a = let s : n ≡ m = cc in subst (Agree v w) s a
 args_agree v w n m (t ∷ args) [] k e f a = absurd (cc)
 args_agree v w n m (Given t ∷ args) (x ∷ vs) k e f a = args_agree v w n m args vs k (cc) (cc) a
@@ -40,7 +40,7 @@ args_agree v w n m (Var x ∷ args) (t ∷ vs) k e f a =
     (λ s j. args_agree v w (suc n) m args vs j rest more (agree_next v w n x a s (one ∙ sym other)))
 
 -- valuations that give the same atoms agree on the heads' variables
-pub heads_agree : (v w : Valuation) (n m : ℕ) (hs : List (RuleAtom ℕ)) (atoms : List (Atom ℕ)) → known_behind_heads n hs ≡ Some m → AreUnder v hs atoms → AreUnder w hs atoms → Agree v w n → Agree v w m
+pub heads_agree : (v w : Valuation) (n m : ℕ) (hs : List (RuleAtom ℕ)) (atoms : List (Atom ℕ)) → known_after_heads n hs ≡ Some m → AreUnder v hs atoms → AreUnder w hs atoms → Agree v w n → Agree v w m
 heads_agree v w n m [] atoms k e f a = let s : n ≡ m = cc in subst (Agree v w) s a
 heads_agree v w n m (h ∷ hs) [] k e f a = absurd (cc)
 heads_agree v w n m (h ∷ hs) (x ∷ atoms) k e f a =
@@ -88,7 +88,7 @@ guard_agrees v w n (t ∷ ts) a k h =
     (test_agrees v w n t a two.0 h.0, guard_agrees v w n ts a two.1 h.1)
 
 -- valuations under which each `is` is right agree on the body's variables
-body_agrees : (v w : Valuation) (n m : ℕ) (ms : List (BodyItem ℕ)) → known_behind_body n ms ≡ Some m → Agree v w n → AllByRecursion (IsRight v) ms → AllByRecursion (IsRight w) ms → Agree v w m
+body_agrees : (v w : Valuation) (n m : ℕ) (ms : List (BodyItem ℕ)) → known_after_body n ms ≡ Some m → Agree v w n → AllByRecursion (IsRight v) ms → AllByRecursion (IsRight w) ms → Agree v w m
 body_agrees v w n m [] k a p q = let s : n ≡ m = cc in subst (Agree v w) s a
 body_agrees v w n m (Is x e ∷ ms) k a p q =
     is_known n m x e ms k (λ s known j.
@@ -98,7 +98,7 @@ body_agrees v w n m (Is x e ∷ ms) k a p q =
 body_agrees v w n m (Add s ∷ ms) k a p q = add_known n m s ms k (λ _ j. body_agrees v w n m ms j a p.1 q.1)
 
 -- the same constraints are added where all variables agree
-pub added_agrees : (v w : Valuation) (n m : ℕ) (ms : List (BodyItem ℕ)) → known_behind_body n ms ≡ Some m → Agree v w m → map (atom_under v) (added ms) ≡ map (atom_under w) (added ms)
+pub added_agrees : (v w : Valuation) (n m : ℕ) (ms : List (BodyItem ℕ)) → known_after_body n ms ≡ Some m → Agree v w m → map (atom_under v) (added ms) ≡ map (atom_under w) (added ms)
 added_agrees v w n m [] k a = refl
 added_agrees v w n m (Is x e ∷ ms) k a = is_known n m x e ms k (λ _ _ j. added_agrees v w (suc n) m ms j a)
 added_agrees v w n m (Add s ∷ ms) k a =

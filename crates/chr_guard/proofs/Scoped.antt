@@ -4,7 +4,7 @@ use Rattle.std.specs.List.{AllByRecursion, list_all}
 use Rattle.std.proofs.lemmas.Bool.{and_parts}
 use Rattle.std.proofs.lemmas.Bool.Decides.{nat_tests}
 use Rattle.chr_rule.specs.Rules.{Term, Var, Given, RuleAtom, Expression, BodyItem, Is, Add, Simpagation}
-use Rattle.chr_rule.specs.Scope.{known_behind_args, known_behind_heads, known_behind_body, known_then, argument_known, expression_known, test_known, IsRule}
+use Rattle.chr_rule.specs.Scope.{known_after_args, known_after_heads, known_after_body, known_then, argument_known, expression_known, test_known, IsRule}
 
 pub some_same : {A : Type 0} (x y : A) → Some x ≡ Some y → x ≡ y
 some_same x y e = cc
@@ -21,34 +21,34 @@ then_known (Some k) f m e g = g k refl e
 then_known None f m e g = let z : None ≡ Some m = e in absurd (cc)
 
 -- a variable in a head is known already, or it is the next one
-pub var_known : {P : Type 0} (n m x : ℕ) (args : List (Term ℕ)) → known_behind_args n (Var x ∷ args) ≡ Some m → (x < n → known_behind_args n args ≡ Some m → P) → (x ≡ n → known_behind_args (suc n) args ≡ Some m → P) → P
+pub var_known : {P : Type 0} (n m x : ℕ) (args : List (Term ℕ)) → known_after_args n (Var x ∷ args) ≡ Some m → (x < n → known_after_args n args ≡ Some m → P) → (x ≡ n → known_after_args (suc n) args ≡ Some m → P) → P
 var_known {P} n m x args k old new =
-    elim (nat_lt x n) as (λ b. (nat_lt x n ≡ b) → (if b then known_behind_args n args else (if x == n then known_behind_args (suc n) args else None)) ≡ Some m → P) [
+    elim (nat_lt x n) as (λ b. (nat_lt x n ≡ b) → (if b then known_after_args n args else (if x == n then known_after_args (suc n) args else None)) ≡ Some m → P) [
       | true ↦ λ t j. old (grind (arith, nat_tests)) j
-      | false ↦ λ _ j. if_known (x == n) (known_behind_args (suc n) args) m j (λ t i. new (true-eqb x n (sym t)) i)
+      | false ↦ λ _ j. if_known (x == n) (known_after_args (suc n) args) m j (λ t i. new (true-eqb x n (sym t)) i)
     ] refl k
 
-pub head_known : {P : Type 0} (n m : ℕ) (h : RuleAtom ℕ) (hs : List (RuleAtom ℕ)) → known_behind_heads n (h ∷ hs) ≡ Some m → ((k : ℕ) → known_behind_args n h.args ≡ Some k → known_behind_heads k hs ≡ Some m → P) → P
-head_known n m h hs k f = then_known (known_behind_args n h.args) (λ z. known_behind_heads z hs) m k f
+pub head_known : {P : Type 0} (n m : ℕ) (h : RuleAtom ℕ) (hs : List (RuleAtom ℕ)) → known_after_heads n (h ∷ hs) ≡ Some m → ((k : ℕ) → known_after_args n h.args ≡ Some k → known_after_heads k hs ≡ Some m → P) → P
+head_known n m h hs k f = then_known (known_after_args n h.args) (λ z. known_after_heads z hs) m k f
 
-pub is_known : {P : Type 0} (n m x : ℕ) (e : Expression) (ms : List (BodyItem ℕ)) → known_behind_body n (Is x e ∷ ms) ≡ Some m → (x ≡ n → expression_known n e ≡ true → known_behind_body (suc n) ms ≡ Some m → P) → P
+pub is_known : {P : Type 0} (n m x : ℕ) (e : Expression) (ms : List (BodyItem ℕ)) → known_after_body n (Is x e ∷ ms) ≡ Some m → (x ≡ n → expression_known n e ≡ true → known_after_body (suc n) ms ≡ Some m → P) → P
 is_known n m x e ms k f =
-    if_known ((x == n) && expression_known n e) (known_behind_body (suc n) ms) m k (λ t j. let two = and_parts (x == n) (expression_known n e) t in f (true-eqb x n (sym two.0)) two.1 j)
+    if_known ((x == n) && expression_known n e) (known_after_body (suc n) ms) m k (λ t j. let two = and_parts (x == n) (expression_known n e) t in f (true-eqb x n (sym two.0)) two.1 j)
 
-pub add_known : {P : Type 0} (n m : ℕ) (s : RuleAtom ℕ) (ms : List (BodyItem ℕ)) → known_behind_body n (Add s ∷ ms) ≡ Some m → (list_all (argument_known n) s.args ≡ true → known_behind_body n ms ≡ Some m → P) → P
-add_known n m s ms k f = if_known (list_all (argument_known n) s.args) (known_behind_body n ms) m k f
+pub add_known : {P : Type 0} (n m : ℕ) (s : RuleAtom ℕ) (ms : List (BodyItem ℕ)) → known_after_body n (Add s ∷ ms) ≡ Some m → (list_all (argument_known n) s.args ≡ true → known_after_body n ms ≡ Some m → P) → P
+add_known n m s ms k f = if_known (list_all (argument_known n) s.args) (known_after_body n ms) m k f
 
 -- how many variables the heads of a rule have, and what the guard and the body use of them
 pub record Scoped (rule : Simpagation ℕ) : Type 0 where
   pub count : ℕ
-  pub heads : known_behind_heads 0 (rule.kept ++ rule.removed) ≡ Some count
+  pub heads : known_after_heads 0 (rule.kept ++ rule.removed) ≡ Some count
   pub guard : list_all (test_known count) rule.guard ≡ true
-  pub body : known_behind_body count rule.body ≡ Some rule.variables
+  pub body : known_after_body count rule.body ≡ Some rule.variables
 
 pub scoped : (rule : Simpagation ℕ) → IsRule rule → Scoped rule
 scoped rule r =
-    then_known (known_behind_heads 0 (rule.kept ++ rule.removed)) (λ n. if list_all (test_known n) rule.guard then known_behind_body n rule.body else None) rule.variables r.scoped
-    (λ n k j. if_known (list_all (test_known n) rule.guard) (known_behind_body n rule.body) rule.variables j (λ g b. record { count = n; heads = k; guard = g; body = b }))
+    then_known (known_after_heads 0 (rule.kept ++ rule.removed)) (λ n. if list_all (test_known n) rule.guard then known_after_body n rule.body else None) rule.variables r.scoped
+    (λ n k j. if_known (list_all (test_known n) rule.guard) (known_after_body n rule.body) rule.variables j (λ g b. record { count = n; heads = k; guard = g; body = b }))
 
 -- what is known stays known
 pub argument_later : (n m : ℕ) (a : Term ℕ) → n ≤ m → argument_known n a ≡ true → argument_known m a ≡ true
@@ -62,7 +62,7 @@ args_later n m (a ∷ args) h k =
     all_true (argument_known m a) (list_all (argument_known m) args) (argument_later n m a h two.0) (args_later n m args h two.1)
 
 -- the arguments of a head are known after it
-pub args_below : (n m : ℕ) (args : List (Term ℕ)) → known_behind_args n args ≡ Some m → (n ≤ m) × (list_all (argument_known m) args ≡ true)
+pub args_below : (n m : ℕ) (args : List (Term ℕ)) → known_after_args n args ≡ Some m → (n ≤ m) × (list_all (argument_known m) args ≡ true)
 args_below n m [] k = let e : n ≡ m = cc in (omega arith, refl)
 args_below n m (Given t ∷ args) k = args_below n m args k
 args_below n m (Var x ∷ args) k =
@@ -74,7 +74,7 @@ args_below n m (Var x ∷ args) k =
 abbrev pub IsPlaced : ℕ → RuleAtom ℕ → Type 0
 IsPlaced n h = list_all (argument_known n) h.args ≡ true
 
-pub heads_below : (n m : ℕ) (hs : List (RuleAtom ℕ)) → known_behind_heads n hs ≡ Some m → (n ≤ m) × AllByRecursion (IsPlaced m) hs
+pub heads_below : (n m : ℕ) (hs : List (RuleAtom ℕ)) → known_after_heads n hs ≡ Some m → (n ≤ m) × AllByRecursion (IsPlaced m) hs
 heads_below n m [] k = let e : n ≡ m = cc in (omega arith, tt)
 heads_below n m (h ∷ hs) k =
     head_known n m h hs k (λ z i j.
@@ -84,7 +84,7 @@ heads_below n m (h ∷ hs) k =
     let there : z ≤ m = rest.0 in
     (omega arith, (args_later z m h.args there one.1, rest.1)))
 
-pub body_below : (n m : ℕ) (ms : List (BodyItem ℕ)) → known_behind_body n ms ≡ Some m → n ≤ m
+pub body_below : (n m : ℕ) (ms : List (BodyItem ℕ)) → known_after_body n ms ≡ Some m → n ≤ m
 body_below n m [] k = let e : n ≡ m = cc in omega arith
 body_below n m (Is x e ∷ ms) k = is_known n m x e ms k (λ _ _ j. let le : suc n ≤ m = body_below (suc n) m ms j in omega arith)
 body_below n m (Add s ∷ ms) k = add_known n m s ms k (λ _ j. body_below n m ms j)

@@ -7,7 +7,7 @@ use Rattle.std.proofs.lemmas.Bool.Decides.{nat_tests}
 use Rattle.std.proofs.lemmas.List.{map-append, map_more, drop_more, take-append-drop, length-map}
 use Rattle.chr_value.specs.Atoms.{Value, Int, Sym, Atom}
 use Rattle.chr_rule.specs.Rules.{Term, Var, Given, RuleAtom, Expression, Number, Variable, Operation, BodyItem, Is, Add}
-use Rattle.chr_rule.specs.Scope.{known_behind_args, known_behind_heads, known_behind_body, argument_known}
+use Rattle.chr_rule.specs.Scope.{known_after_args, known_after_heads, known_after_body, argument_known}
 use Rattle.chr_guard.specs.Values.{Valuation, value_of, number_in, computed, both, term_under}
 use Rattle.chr_guard.specs.Instances.{values_under, atom_under, AreUnder, added}
 use Rattle.chr_guard.proofs.Scoped.{some_same, var_known, head_known, is_known, add_known, body_below, args_later}
@@ -120,7 +120,7 @@ value_grows v w g (Operation o a b) n h =
     ap₂ (both (computed o)) (value_grows v w g a p.0 p.2) (value_grows v w g b p.1 p.3) ∙ p.4
 
 -- the variables of heads that are atoms have values
-args_bound : (v : Valuation) (n m : ℕ) (args : List (Term ℕ)) (vs : List (Value ℕ)) → known_behind_args n args ≡ Some m → map (term_under v) args ≡ map (λ t. Some t) vs → ((x : ℕ) → x < n → IsSome (v x)) → (x : ℕ) → x < m → IsSome (v x)
+args_bound : (v : Valuation) (n m : ℕ) (args : List (Term ℕ)) (vs : List (Value ℕ)) → known_after_args n args ≡ Some m → map (term_under v) args ≡ map (λ t. Some t) vs → ((x : ℕ) → x < n → IsSome (v x)) → (x : ℕ) → x < m → IsSome (v x)
 args_bound v n m [] vs k e b x h = let s : n ≡ m = cc in b x (omega arith)
 args_bound v n m (t ∷ args) [] k e b x h = absurd (cc)
 args_bound v n m (Given t ∷ args) (y ∷ vs) k e b x h = args_bound v n m args vs k (cc) b x h
@@ -138,7 +138,7 @@ args_bound v n m (Var y ∷ args) (t ∷ vs) k e b x h =
           | false ↦ λ e. b z (grind (arith, nat_tests))
         ] refl
 
-pub heads_bound : (v : Valuation) (n m : ℕ) (hs : List (RuleAtom ℕ)) (atoms : List (Atom ℕ)) → known_behind_heads n hs ≡ Some m → AreUnder v hs atoms → ((x : ℕ) → x < n → IsSome (v x)) → (x : ℕ) → x < m → IsSome (v x)
+pub heads_bound : (v : Valuation) (n m : ℕ) (hs : List (RuleAtom ℕ)) (atoms : List (Atom ℕ)) → known_after_heads n hs ≡ Some m → AreUnder v hs atoms → ((x : ℕ) → x < n → IsSome (v x)) → (x : ℕ) → x < m → IsSome (v x)
 heads_bound v n m [] atoms k e b x h = let s : n ≡ m = cc in b x (omega arith)
 heads_bound v n m (s ∷ hs) [] k e b x h = absurd (cc)
 heads_bound v n m (s ∷ hs) (a ∷ atoms) k e b x h =
@@ -163,7 +163,7 @@ args_made v n (t ∷ args) k b =
     term_made (Var x) k = some_made (v x) (b x (grind (arith, nat_tests)))
     term_made (Given t) k = (t, refl)
 
-pub body_made : (v : Valuation) (n m : ℕ) (ms : List (BodyItem ℕ)) → known_behind_body n ms ≡ Some m → ((x : ℕ) → x < m → IsSome (v x)) → (body : List (Atom ℕ)) × AreUnder v (added ms) body
+pub body_made : (v : Valuation) (n m : ℕ) (ms : List (BodyItem ℕ)) → known_after_body n ms ≡ Some m → ((x : ℕ) → x < m → IsSome (v x)) → (body : List (Atom ℕ)) × AreUnder v (added ms) body
 body_made v n m [] k b = ([], refl)
 body_made v n m (Is x e ∷ ms) k b = is_known n m x e ms k (λ _ _ j. body_made v (suc n) m ms j b)
 body_made v n m (Add s ∷ ms) k b =

@@ -4,7 +4,7 @@ use Rattle.std.specs.List.{AllByRecursion}
 use Rattle.std.specs.Option.{option_map}
 use Rattle.chr_value.specs.Atoms.{Value, Atom}
 use Rattle.chr_rule.specs.Rules.{Simpagation, head_at}
-use Rattle.chr_rule.specs.Scope.{known_behind_heads}
+use Rattle.chr_rule.specs.Scope.{known_after_heads}
 use Rattle.chr_guard.specs.Values.{Valuation}
 use Rattle.chr_guard.specs.Bindings.{bound_at, Extends, Narrows}
 use Rattle.chr_guard.specs.Instances.{atom_under, AreUnder, IsRight, added, IsInstance}
@@ -28,7 +28,7 @@ pub record IsFit (rule : Simpagation ℕ) (P : Valuation → Type 0) (binding : 
 
 -- the variable occurs in a head
 abbrev pub IsOfHeads : Simpagation ℕ → ℕ → Type 0
-IsOfHeads rule x = (n : ℕ) × (known_behind_heads 0 (rule.kept ++ rule.removed) ≡ Some n) × (x < n)
+IsOfHeads rule x = (n : ℕ) × (known_after_heads 0 (rule.kept ++ rule.removed) ≡ Some n) × (x < n)
 
 -- The valuation completes a binding of the heads' variables: each `is` is right, and a variable of the heads has the value
 -- that it is bound to, or none.

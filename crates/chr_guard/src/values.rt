@@ -45,7 +45,7 @@ pub fn holds<A: Allocator>(test: &Comparison<A>, binding: &Binding) -> bool
 /// Whether each comparison of a rule's guard holds.
 pub fn guard_holds<A: Allocator>(rule: &Rule<A>, binding: &Binding) -> bool
     ensures holds { IsTrue result ↔ AllByRecursion (Holds (bound_at binding.now)) rule.now.guard }
-    ensures whole { IsRule rule.now }
+    ensures valid { IsRule rule.now }
 {
     for test in rule.guard() {
         if !holds(test, binding) {

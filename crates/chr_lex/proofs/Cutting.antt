@@ -28,7 +28,7 @@ has_past [] rest none = refl
 has_past (b ∷ bs) rest none = rw (no_end_here b bs rest none) (has_past bs rest (no_end_behind b bs rest none))
 
 ended_read : (line : ℕ) (inner rest : List ℕ) (es : List Item) → BeginsItem (inner ++ 46 ∷ rest) → NoEnd inner (46 ∷ rest) → begins_with_layout rest ≡ true
-    → items zero (lines_after inner line) rest ≡ es → items zero line (inner ++ 46 ∷ rest) ≡ record { line = line; bytes = inner; whole = true } ∷ es
+    → items zero (lines_after inner line) rest ≡ es → items zero line (inner ++ 46 ∷ rest) ≡ record { line = line; bytes = inner; ended = true } ∷ es
 ended_read line inner rest es begins none layout more =
     let t = inner ++ 46 ∷ rest in
     let long : 0 < length t = omega (arith, length-append inner (46 ∷ rest)) in
@@ -40,7 +40,7 @@ ended_read line inner rest es begins none layout more =
     let back : drop 1 (drop (length inner) t) ≡ rest = ap (drop 1) (drop-append_seam inner (46 ∷ rest)) in
     item_first line (length inner) t long begins within (front ∙ sym before) ∙ rw (front, whole, back, more) refl
 
-cut_read : (line b : ℕ) (bs : List ℕ) → is_gap b ≡ false → NoEnd (b ∷ bs) [] → items zero line (b ∷ bs) ≡ record { line = line; bytes = b ∷ bs; whole = false } ∷ []
+cut_read : (line b : ℕ) (bs : List ℕ) → is_gap b ≡ false → NoEnd (b ∷ bs) [] → items zero line (b ∷ bs) ≡ record { line = line; bytes = b ∷ bs; ended = false } ∷ []
 cut_read line b bs begins none =
     let t = b ∷ bs in
     let nil : t ++ [] ≡ t = append-nil t in
@@ -124,15 +124,15 @@ none_past (b ∷ bs) (suc k) line h = none_past bs k (line_after b line) (omega 
 
 at_item : (line b : ℕ) (bs : List ℕ) (es : List Item) → is_gap b ≡ false → es ≡ items (length (before_end (b ∷ bs))) line bs
     → Items (lines_after (take (length (before_end (b ∷ bs))) bs) line) (drop (length (before_end (b ∷ bs))) bs) es
-    → Items line (b ∷ bs) (record { line = line; bytes = before_end (b ∷ bs); whole = has_end (b ∷ bs) } ∷ es)
+    → Items line (b ∷ bs) (record { line = line; bytes = before_end (b ∷ bs); ended = has_end (b ∷ bs) } ∷ es)
 at_item line b bs es h is more =
     let t = b ∷ bs in
-    (elim (has_end t) as (λ v. has_end t ≡ v → Items line t (record { line = line; bytes = before_end t; whole = v } ∷ es)) [
+    (elim (has_end t) as (λ v. has_end t ≡ v → Items line t (record { line = line; bytes = before_end t; ended = v } ∷ es)) [
       | true ↦ λ e.
           let split = ended_split t e in
           let begins : BeginsItem (before_end t ++ 46 ∷ behind_end t) = subst BeginsItem split.0 h in
           let rest : Items (lines_after (before_end t) line) (behind_end t) es = subst (λ (l : ℕ). Items l (behind_end t) es) (same_lines b bs line h) more in
-          subst (λ (r : List ℕ). Items line r (record { line = line; bytes = before_end t; whole = true } ∷ es)) (sym split.0)
+          subst (λ (r : List ℕ). Items line r (record { line = line; bytes = before_end t; ended = true } ∷ es)) (sym split.0)
           (ended line (before_end t) (behind_end t) es begins (no_end_before t (46 ∷ behind_end t) split.0) split.1 rest)
       | false ↦ λ e.
           let all : before_end t ≡ t = open_whole t e in

@@ -37,18 +37,18 @@ items-behind_first b bs line gap =
 
 -- an item, and what is read after it
 pub item_first : (line n : ℕ) (t : List ℕ) → 0 < length t → BeginsItem t → n ≤ length t → take n t ≡ before_end t
-    → items zero line t ≡ record { line = line; bytes = take n t; whole = has_end t } ∷ items zero (lines_after (take n t) line) (drop 1 (drop n t))
+    → items zero line t ≡ record { line = line; bytes = take n t; ended = has_end t } ∷ items zero (lines_after (take n t) line) (drop 1 (drop n t))
 item_first line n [] long begins within is = absurd (omega arith)
 item_first line n (b ∷ bs) long begins within is =
     let count : length (before_end (b ∷ bs)) ≡ n = ap length (sym is) ∙ (let e : length (take n (b ∷ bs)) ≡ n = omega (arith, length-take n (b ∷ bs)) in e) in
-    let split : items zero line (b ∷ bs) ≡ record { line = line; bytes = before_end (b ∷ bs); whole = has_end (b ∷ bs) } ∷ items (length (before_end (b ∷ bs))) line bs = rw begins refl in
+    let split : items zero line (b ∷ bs) ≡ record { line = line; bytes = before_end (b ∷ bs); ended = has_end (b ∷ bs) } ∷ items (length (before_end (b ∷ bs))) line bs = rw begins refl in
     let behind = items-behind_first b bs line begins in
     let e : n + 1 ≡ suc n = omega arith in
     let far : drop 1 (drop n (b ∷ bs)) ≡ drop n bs = drop-drop 1 n (b ∷ bs) ∙ ap (λ (k : ℕ). drop k (b ∷ bs)) e in
     let near : drop (length (before_end (b ∷ bs))) bs ≡ drop 1 (drop n (b ∷ bs)) = ap (λ (k : ℕ). drop k bs) count ∙ sym far in
     let next : items (length (before_end (b ∷ bs))) line bs ≡ items zero (lines_after (before_end (b ∷ bs)) line) (drop 1 (drop n (b ∷ bs))) = behind ∙ ap (items zero (lines_after (before_end (b ∷ bs)) line)) near in
-    let all : items zero line (b ∷ bs) ≡ record { line = line; bytes = before_end (b ∷ bs); whole = has_end (b ∷ bs) } ∷ items zero (lines_after (before_end (b ∷ bs)) line) (drop 1 (drop n (b ∷ bs))) = split ∙ ap (λ (r : List Item). record { line = line; bytes = before_end (b ∷ bs); whole = has_end (b ∷ bs) } ∷ r) next in
-    subst (λ (taken : List ℕ). items zero line (b ∷ bs) ≡ record { line = line; bytes = taken; whole = has_end (b ∷ bs) } ∷ items zero (lines_after taken line) (drop 1 (drop n (b ∷ bs)))) (sym is) all
+    let all : items zero line (b ∷ bs) ≡ record { line = line; bytes = before_end (b ∷ bs); ended = has_end (b ∷ bs) } ∷ items zero (lines_after (before_end (b ∷ bs)) line) (drop 1 (drop n (b ∷ bs))) = split ∙ ap (λ (r : List Item). record { line = line; bytes = before_end (b ∷ bs); ended = has_end (b ∷ bs) } ∷ r) next in
+    subst (λ (taken : List ℕ). items zero line (b ∷ bs) ≡ record { line = line; bytes = taken; ended = has_end (b ∷ bs) } ∷ items zero (lines_after taken line) (drop 1 (drop n (b ∷ bs)))) (sym is) all
 
 take_rest : (k : ℕ) (xs : List ℕ) → length xs ≤ k → take k xs ≡ xs
 take_rest k xs h = grind (arith, common_steps)
@@ -56,7 +56,7 @@ take_rest k xs h = grind (arith, common_steps)
 -- the item at the end of the text
 pub item_last : (line n : ℕ) (t text after : List ℕ) → 0 < length t → BeginsItem t → n ≤ length t → take n t ≡ before_end t → (has_end t ≡ true → n < length t)
     → text ≡ take n t → after ≡ drop n t → length after < 1
-    → items zero line t ≡ record { line = line; bytes = text; whole = false } ∷ items zero (lines_after text line) after
+    → items zero line t ≡ record { line = line; bytes = text; ended = false } ∷ items zero (lines_after text line) after
 item_last line n t text after long begins within is ends text-is after-is none =
     let end : n ≡ length t = omega (arith, length-drop n t, ap length after-is) in
     let open_ : has_end t ≡ false = false_from_ne_true (has_end t) (λ h. absurd (omega (arith, ends h))) in
@@ -67,7 +67,7 @@ item_last line n t text after long begins within is ends text-is after-is none =
 -- the item before a point
 pub item_inner : (line n k : ℕ) (t text after : List ℕ) → 0 < length t → BeginsItem t → n ≤ length t → take n t ≡ before_end t → (n < length t → has_end t ≡ true)
     → text ≡ take n t → after ≡ drop n t → 1 ≤ length after → length after ≤ k + 1
-    → items zero line t ≡ record { line = line; bytes = text; whole = true } ∷ items zero (lines_after text line) (take k (drop 1 after))
+    → items zero line t ≡ record { line = line; bytes = text; ended = true } ∷ items zero (lines_after text line) (take k (drop 1 after))
 item_inner line n k t text after long begins within is ends text-is after-is some fits =
     let ended : has_end t ≡ true = ends (omega (arith, length-drop n t, ap length after-is)) in
     let all : take k (drop 1 after) ≡ drop 1 after = take_rest k (drop 1 after) (omega (arith, length-drop 1 after)) in

@@ -13,8 +13,8 @@ pub data Items : ℕ → List ℕ → List Item → Type 0 where
   no_more : (line : ℕ) → Items line [] []
   gap : (line b : ℕ) (bs : List ℕ) (es : List Item) → is_gap b ≡ true → Items (line_after b line) bs es → Items line (b ∷ bs) es
   ended : (line : ℕ) (inner rest : List ℕ) (es : List Item) → BeginsItem (inner ++ 46 ∷ rest) → NoEnd inner (46 ∷ rest) → begins_with_layout rest ≡ true → Items (lines_after inner line) rest es
-      → Items line (inner ++ 46 ∷ rest) (record { line = line; bytes = inner; whole = true } ∷ es)
-  cut : (line b : ℕ) (bs : List ℕ) → is_gap b ≡ false → NoEnd (b ∷ bs) [] → Items line (b ∷ bs) (record { line = line; bytes = b ∷ bs; whole = false } ∷ [])
+      → Items line (inner ++ 46 ∷ rest) (record { line = line; bytes = inner; ended = true } ∷ es)
+  cut : (line b : ℕ) (bs : List ℕ) → is_gap b ≡ false → NoEnd (b ∷ bs) [] → Items line (b ∷ bs) (record { line = line; bytes = b ∷ bs; ended = false } ∷ [])
 
 -- The text, comments and all, has these items. Its first line is line 1.
 pub record HasItems (bs : List ℕ) (es : List Item) : Type 0 where

@@ -8,7 +8,7 @@ use Rattle.chr_lex.specs.Plain.{is_layout, plain_of}
 pub record Item : Type 0 where
   pub line : ℕ
   pub bytes : List ℕ
-  pub whole : Bool
+  pub ended : Bool
 
 abbrev pub is_gap : ℕ → Bool
 is_gap b = is_layout b || (b == COMMENT)
@@ -38,7 +38,7 @@ items skip line [] = []
 items (suc skip) line (b ∷ bs) = items skip (line_after b line) bs
 items zero line (b ∷ bs) =
     if is_gap b then items zero (line_after b line) bs
-    else record { line = line; bytes = before_end (b ∷ bs); whole = has_end (b ∷ bs) } ∷ items (length (before_end (b ∷ bs))) line bs
+    else record { line = line; bytes = before_end (b ∷ bs); ended = has_end (b ∷ bs) } ∷ items (length (before_end (b ∷ bs))) line bs
 
 -- nothing, or the first byte of an item
 abbrev pub BeginsItem : List ℕ → Type 0
@@ -51,7 +51,7 @@ lines_after [] line = line
 lines_after (b ∷ bs) line = lines_after bs (line_after b line)
 
 abbrev pub entry : CodeItem → Item
-entry i = record { line = i.line; bytes = i.text.now; whole = i.whole }
+entry i = record { line = i.line; bytes = i.text.now; ended = i.ended }
 
 -- the items of a text, comments and all
 abbrev pub items_of : List ℕ → List Item

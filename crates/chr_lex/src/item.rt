@@ -1,7 +1,7 @@
 //! The items of a text without comments.
 //!
 //! An item begins at the first byte that is neither layout nor a comment, and ends with the first end point: a point
-//! before layout or at the end of the text. Where a text ends inside an item, that item is not whole.
+//! before layout or at the end of the text. Where a text ends inside an item, that item has not ended.
 
 ghost use Rattle.std.specs.Prelude.{◌≡◌, ◌≤◌, ◌<◌, ◌+◌, ◌^◌, zero, [], ◌∷◌, length, take, true, false, ◌↔◌, IsTrue, MatchOption, IfSome};
 ghost use Rattle.chr_lex.specs.Items.{Item, is_gap, is_end, before_end, has_end, line_after, items, BeginsItem, lines_after, entry};
@@ -16,7 +16,7 @@ pub struct Item<'a> {
     /// Its bytes, with comments replaced.
     pub text: &'a [u8],
     /// Whether it has an end point.
-    pub whole: bool,
+    pub ended: bool,
 }
 
 /// Whether a byte is layout or stands for a comment.
@@ -40,7 +40,7 @@ fn is_end(b: u8, after: &[u8]) -> bool
 fn item_len(text: &[u8]) -> usize
     ensures within { result ≤ length text.now }
     ensures taken { take result text.now ≡ before_end text.now }
-    ensures whole { IsTrue (has_end text.now) ↔ (result < length text.now) }
+    ensures ended { IsTrue (has_end text.now) ↔ (result < length text.now) }
 {
     let mut len = 0;
     while len < text.len() && !is_end(text[len], &text[len + 1..]) {
@@ -103,7 +103,7 @@ fn item_at(line: u32, text: &[u8]) -> (Item, u32, &[u8])
             Item {
                 line,
                 text,
-                whole: false,
+                ended: false,
             },
             next_line,
             after,
@@ -112,7 +112,7 @@ fn item_at(line: u32, text: &[u8]) -> (Item, u32, &[u8])
             Item {
                 line,
                 text,
-                whole: true,
+                ended: true,
             },
             next_line,
             after,

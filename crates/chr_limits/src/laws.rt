@@ -8,12 +8,12 @@ ghost use Rattle.chr_limits.specs.Variables.{is_blank, seen};
 ghost use Rattle.chr_limits.specs.Standing.{IsAllowedRule, AreAllowedDeclarations, AreAllowedPosts};
 
 /// Exactly the rules that may stand are judged without a fault, where the program is not full.
-pub fn rules_that_may_stand()
+pub fn rules_within_limits()
     ensures { (full : Bool) (r : ParsedRule) → (rule_judged full r ≡ Ok tt) ↔ ((full ≡ false) × IsAllowedRule r) }
 {}
 
 /// Exactly the declarations that may stand are judged without a fault.
-pub fn declarations_that_may_stand()
+pub fn declarations_within_limits()
     ensures { (all : List Declared) → (declaration_judged all ≡ Ok tt) ↔ AreAllowedDeclarations all }
 {}
 

@@ -47,7 +47,7 @@ pub fn given_in_order()
 
 /// The store after a lawful log has each label at most once, and only labels that the log has given, which are those from
 /// 1 to before the next one.
-pub fn labels_stand_once()
+pub fn stores_have_given_labels()
     ensures once { (v : Version) (rules : List (Simpagation ℕ)) (log : List (Event ℕ)) (last : State)
         → Lawful v (Instances rules) log last → (l : ℕ) → times l (labels last.store) ≤ 1 }
     ensures given { (v : Version) (rules : List (Simpagation ℕ)) (log : List (Event ℕ)) (last : State)
@@ -76,7 +76,7 @@ pub fn one_event_more()
 
 /// The same logs are lawful where all posted atoms are plain goals from the start, and their firings are an abstract run
 /// from these atoms.
-pub fn posts_may_stand_first()
+pub fn posts_may_come_first()
     ensures front { (v : Version) (rules : List (Simpagation ℕ)) (log : List (Event ℕ)) (last : State)
         → Lawful v (Instances rules) log last → LawfulPostsFirst v (Instances rules) log last }
     ensures places { (v : Version) (rules : List (Simpagation ℕ)) (log : List (Event ℕ)) (last : State)
@@ -120,7 +120,7 @@ pub fn some_label_is_a_goal()
 {}
 
 /// A run neither adds nor revives an instance of labels that were given before it.
-pub fn older_instances_stood_before()
+pub fn older_instances_were_there()
     ensures { (v : Version) (rules : List (Simpagation ℕ)) (events : List (Event ℕ)) (s new : State)
         → Run v (Instances rules) s events new
         → (r : ℕ) (kept removed : List ℕ) (body : List (Atom ℕ)) → AllBelow s.next (kept ++ removed)

@@ -24,15 +24,15 @@
 //! | [`firings_are_a_run`](laws::firings_are_a_run) | with labels forgotten, the firings are an abstract run |
 //! | [`removed_at_most_once`](laws::removed_at_most_once) | no label is removed twice |
 //! | [`given_in_order`](laws::given_in_order) | the labels given are 1, 2, .. in order |
-//! | [`labels_stand_once`](laws::labels_stand_once) | the store has each label once, and only labels that were given |
+//! | [`stores_have_given_labels`](laws::stores_have_given_labels) | the store has each label once, and only labels that were given |
 //! | [`last_is_fixed`](laws::last_is_fixed) | a lawful log has one last state |
 //! | [`one_event_more`](laws::one_event_more) | a lawful log and a step after it are a lawful log |
-//! | [`posts_may_stand_first`](laws::posts_may_stand_first) | the same with all posted atoms as plain goals from the start |
+//! | [`posts_may_come_first`](laws::posts_may_come_first) | the same with all posted atoms as plain goals from the start |
 //! | [`log_is_a_goal_run`](laws::log_is_a_goal_run) | a lawful log is a goal-based run from all that it posts |
 //! | [`step_beside`](laws::step_beside) | a step beside further atoms |
 //! | [`firing_is_one_of_two`](laws::firing_is_one_of_two) | a firing doesn't both simplify and propagate |
 //! | [`some_label_is_a_goal`](laws::some_label_is_a_goal) | each labelled instance has a label that is a numbered goal |
-//! | [`older_instances_stood_before`](laws::older_instances_stood_before) | a run adds and revives no instance of labels given before |
+//! | [`older_instances_were_there`](laws::older_instances_were_there) | a run adds and revives no instance of labels given before |
 //! | [`search_allows_a_drop`](laws::search_allows_a_drop) | what a search must have found none of, for version one |
 //! | [`older_search_allows_a_drop`](laws::older_search_allows_a_drop) | and for version two |
 //! | [`strict_is_lawful`](laws::strict_is_lawful) | drops after the other events are drops of version one, if all is quiet |

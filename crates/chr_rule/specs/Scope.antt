@@ -5,18 +5,18 @@ use Rattle.chr_rule.specs.Rules.{Term, Var, Given, RuleAtom, Expression, Number,
 
 -- The variables below n are known; a new variable takes the number n. How many are known after the arguments, or
 -- nothing where a variable comes out of turn.
-abbrev pub known_behind_args : {N : Type 0} → ℕ → List (Term N) → Option ℕ
-known_behind_args n [] = Some n
-known_behind_args n (Given t ∷ as') = known_behind_args n as'
-known_behind_args n (Var x ∷ as') = if nat_lt x n then known_behind_args n as' else (if x == n then known_behind_args (suc n) as' else None)
+abbrev pub known_after_args : {N : Type 0} → ℕ → List (Term N) → Option ℕ
+known_after_args n [] = Some n
+known_after_args n (Given t ∷ as') = known_after_args n as'
+known_after_args n (Var x ∷ as') = if nat_lt x n then known_after_args n as' else (if x == n then known_after_args (suc n) as' else None)
 
 abbrev pub known_then : {A : Type 0} → Option ℕ → (ℕ → Option A) → Option A
 known_then (Some n) f = f n
 known_then None f = None
 
-abbrev pub known_behind_heads : {N : Type 0} → ℕ → List (RuleAtom N) → Option ℕ
-known_behind_heads n [] = Some n
-known_behind_heads n (h ∷ hs) = known_then (known_behind_args n h.args) (λ m. known_behind_heads m hs)
+abbrev pub known_after_heads : {N : Type 0} → ℕ → List (RuleAtom N) → Option ℕ
+known_after_heads n [] = Some n
+known_after_heads n (h ∷ hs) = known_then (known_after_args n h.args) (λ m. known_after_heads m hs)
 
 -- each variable is known
 abbrev pub argument_known : {N : Type 0} → ℕ → Term N → Bool
@@ -34,15 +34,15 @@ test_known n (Same s t) = argument_known n s && argument_known n t
 test_known n (Differ s t) = argument_known n s && argument_known n t
 
 -- an `is` gives a value to the next variable, for the members after it
-abbrev pub known_behind_body : {N : Type 0} → ℕ → List (BodyItem N) → Option ℕ
-known_behind_body n [] = Some n
-known_behind_body n (Is x e ∷ ms) = if (x == n) && expression_known n e then known_behind_body (suc n) ms else None
-known_behind_body n (Add s ∷ ms) = if list_all (argument_known n) s.args then known_behind_body n ms else None
+abbrev pub known_after_body : {N : Type 0} → ℕ → List (BodyItem N) → Option ℕ
+known_after_body n [] = Some n
+known_after_body n (Is x e ∷ ms) = if (x == n) && expression_known n e then known_after_body (suc n) ms else None
+known_after_body n (Add s ∷ ms) = if list_all (argument_known n) s.args then known_after_body n ms else None
 
 -- how many variables a rule of these parts has, or nothing where one is used that has no value by then
 abbrev pub variable_count : {N : Type 0} → List (RuleAtom N) → List (Comparison N) → List (BodyItem N) → Option ℕ
 variable_count heads guard body =
-    known_then (known_behind_heads 0 heads) (λ n. if list_all (test_known n) guard then known_behind_body n body else None)
+    known_then (known_after_heads 0 heads) (λ n. if list_all (test_known n) guard then known_after_body n body else None)
 
 -- Within the limits: at most 24 variables, 6 heads of which one is removed, 16 comparisons and 16 members of the body. How
 -- deep an expression nests is a limit of the text alone.

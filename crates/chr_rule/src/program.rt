@@ -60,7 +60,7 @@ impl<A: Allocator + Copy> Program<A> {
     pub fn rules(&self) -> &[Arc<Rule<A>, A>]
         ensures rules { map arc_value result.now ≡ self.now }
         ensures few { length result.now ≤ 256 }
-        ensures whole { AllByRecursion IsRule self.now }
+        ensures valid { AllByRecursion IsRule self.now }
     {
         &self.rules
     }
@@ -68,7 +68,7 @@ impl<A: Allocator + Copy> Program<A> {
     /// The rule of a number, from 1.
     pub fn rule(&self, number: usize) -> Option<&Arc<Rule<A>, A>>
         ensures rule { option_map (λ rule. arc_value rule.now) result ≡ rule_at self.now number }
-        ensures whole { AllByRecursion IsRule self.now }
+        ensures valid { AllByRecursion IsRule self.now }
     {
         let rules = self.rules();
         if number == 0 || rules.len() < number {

@@ -60,7 +60,7 @@ impl<A: Allocator> Rule<A> {
         body: Vec<BodyItem<A>, A>,
     ) -> Option<Rule<A>>
         ensures rule { IfSome result (λ rule. rule ≡ of_parts rule.variables (map shape kept.items) (map shape removed.items) (map comparison guard.items) (map member body.items)) }
-        ensures whole { IfSome result IsRule }
+        ensures valid { IfSome result IsRule }
         ensures exact { IsSome result ↔ ((n : ℕ) × IsRule (of_parts n (map shape kept.items) (map shape removed.items) (map comparison guard.items) (map member body.items))) }
     {
         if removed.is_empty()
@@ -99,7 +99,7 @@ impl<A: Allocator> Rule<A> {
     /// How many variables the rule has, at most 24.
     pub fn variables(&self) -> usize
         ensures count { result ≡ self.now.variables }
-        ensures whole { IsRule self.now }
+        ensures valid { IsRule self.now }
     {
         self.variables as usize
     }
@@ -107,7 +107,7 @@ impl<A: Allocator> Rule<A> {
     /// The kept heads in text order. They have the numbers from 1 on.
     pub fn kept(&self) -> &[RuleAtom]
         ensures heads { map shape result.now ≡ self.now.kept }
-        ensures whole { IsRule self.now }
+        ensures valid { IsRule self.now }
     {
         &self.kept
     }
@@ -115,7 +115,7 @@ impl<A: Allocator> Rule<A> {
     /// The removed heads in text order, at least one. They are numbered after the kept ones.
     pub fn removed(&self) -> &[RuleAtom]
         ensures heads { map shape result.now ≡ self.now.removed }
-        ensures whole { IsRule self.now }
+        ensures valid { IsRule self.now }
     {
         &self.removed
     }
@@ -124,7 +124,7 @@ impl<A: Allocator> Rule<A> {
     pub fn heads(&self) -> usize
         ensures count { result ≡ length self.now.kept + length self.now.removed }
         ensures few { result ≤ 6 }
-        ensures whole { IsRule self.now }
+        ensures valid { IsRule self.now }
     {
         self.kept.len() + self.removed.len()
     }
@@ -132,7 +132,7 @@ impl<A: Allocator> Rule<A> {
     /// The head of a number, from 1: kept heads first.
     pub fn head(&self, number: usize) -> Option<&RuleAtom>
         ensures head { option_map (λ head. shape head.now) result ≡ head_at self.now number }
-        ensures whole { IsRule self.now }
+        ensures valid { IsRule self.now }
     {
         let kept = self.kept();
         let removed = self.removed();
@@ -149,7 +149,7 @@ impl<A: Allocator> Rule<A> {
     /// The comparisons of the guard.
     pub fn guard(&self) -> &[Comparison<A>]
         ensures tests { map comparison result.now ≡ self.now.guard }
-        ensures whole { IsRule self.now }
+        ensures valid { IsRule self.now }
     {
         &self.guard
     }
@@ -157,7 +157,7 @@ impl<A: Allocator> Rule<A> {
     /// The members of the body, in written order.
     pub fn body(&self) -> &[BodyItem<A>]
         ensures members { map member result.now ≡ self.now.body }
-        ensures whole { IsRule self.now }
+        ensures valid { IsRule self.now }
     {
         &self.body
     }

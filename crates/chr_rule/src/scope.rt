@@ -2,7 +2,7 @@
 ghost use Rattle.std.specs.Prelude.{◌≡◌, ◌≤◌, ◌++◌, map, IfSome};
 ghost use Rattle.std.specs.List.{list_all};
 ghost use Rattle.chr_rule.specs.Parts.{argument, shape, comparison, member};
-ghost use Rattle.chr_rule.specs.Scope.{known_behind_args, known_behind_heads, known_behind_body, argument_known, test_known, variable_count};
+ghost use Rattle.chr_rule.specs.Scope.{known_after_args, known_after_heads, known_after_body, argument_known, test_known, variable_count};
 
 use crate::expression::{BodyItem, Comparison};
 use crate::rule_atom::{RuleAtom, Term};
@@ -11,7 +11,7 @@ use std::alloc::Allocator;
 /// How many variables are known after the arguments of a head, or None where a variable comes out of turn.
 pub fn count_terms(mut known: usize, terms: &[Term]) -> Option<usize>
     requires { known ≤ 256 }
-    ensures count { result ≡ known_behind_args known (map argument terms.now) }
+    ensures count { result ≡ known_after_args known (map argument terms.now) }
     ensures few { IfSome result (λ n. n ≤ 256) }
 {
     for term in terms {
@@ -31,7 +31,7 @@ pub fn count_terms(mut known: usize, terms: &[Term]) -> Option<usize>
 /// How many variables are known after heads.
 pub fn count_heads(mut known: usize, heads: &[RuleAtom]) -> Option<usize>
     requires { known ≤ 256 }
-    ensures count { result ≡ known_behind_heads known (map shape heads.now) }
+    ensures count { result ≡ known_after_heads known (map shape heads.now) }
     ensures few { IfSome result (λ n. n ≤ 256) }
 {
     for head in heads {
@@ -67,7 +67,7 @@ pub fn is_guard_known<A: Allocator>(known: usize, guard: &[Comparison<A>]) -> bo
 /// How many variables are known after a body, or None where one is used that has no value by then.
 pub fn count_body<A: Allocator>(mut known: usize, body: &[BodyItem<A>]) -> Option<usize>
     requires { known ≤ 256 }
-    ensures count { result ≡ known_behind_body known (map member body.now) }
+    ensures count { result ≡ known_after_body known (map member body.now) }
     ensures few { IfSome result (λ n. n ≤ 256) }
 {
     for item in body {

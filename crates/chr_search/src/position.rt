@@ -4,7 +4,7 @@ ghost use Rattle.chr_search.specs.Positions.{beginning, just_after, past, front}
 ghost use Rattle.chr_search.specs.Verdicts.{position, IsFormed, IsPart};
 
 use crate::trial::Trial;
-use chr_log::events::Labels;
+use chr_log::events::{Labels, copy_labels};
 use std::alloc::Allocator;
 use std::marker::Model;
 
@@ -36,6 +36,17 @@ impl Position {
             rule: 1,
             head: 1,
             labels: Labels::new(),
+        }
+    }
+
+    /// A copy of the position.
+    pub(crate) fn copy(&self) -> Position
+        ensures { result ≡ self.now }
+    {
+        Position {
+            rule: self.rule,
+            head: self.head,
+            labels: copy_labels(&self.labels),
         }
     }
 

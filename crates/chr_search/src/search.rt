@@ -52,6 +52,16 @@ impl Search {
         }
     }
 
+    /// A copy of the search. It takes no memory.
+    pub fn copy(&self) -> Search
+        ensures { result ≡ self.now }
+    {
+        Search {
+            label: self.label,
+            position: self.position.copy(),
+        }
+    }
+
     /// The active label.
     pub fn label(&self) -> Label
         ensures { result ≡ self.now.label }

@@ -84,7 +84,7 @@ fn has_items(alloc: Global, text: &[u8], expected: &[ItemRow]) -> Result<bool, F
         let Some((item, next_line, after)) = next_item(line, rest) else {
             return Ok(false);
         };
-        if (item.line, item.text, item.whole, has_bad_byte(item.text)) != *row {
+        if (item.line, item.text, item.ended, has_bad_byte(item.text)) != *row {
             return Ok(false);
         }
         line = next_line;

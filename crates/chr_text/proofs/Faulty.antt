@@ -75,11 +75,11 @@ syntax_first Says Has e clean Binding lt h = absurd (omega (arith, lt))
 syntax_first Says Has e clean NamesFull lt h = absurd (omega (arith, lt))
 
 -- the fault of an item that has no tokens
-lexemes_fault : {S : Type 0} (Says : List Lexeme → S → Type 0) (Has : S → Kind → Type 0) (e : Item) (b w : Bool) (t : Result (List Lexeme) Kind) (k : Kind) → has_bad e.bytes ≡ b → e.whole ≡ w → tokens_of e.bytes ≡ t
+lexemes_fault : {S : Type 0} (Says : List Lexeme → S → Type 0) (Has : S → Kind → Type 0) (e : Item) (b w : Bool) (t : Result (List Lexeme) Kind) (k : Kind) → has_bad e.bytes ≡ b → e.ended ≡ w → tokens_of e.bytes ≡ t
     → cond b (Err BadByte) (cond w t (Err Syntax)) ≡ Err k → IsFirst (ItemHas Says Has e) k
 lexemes_fault Says Has e true w t k hb hw ht h = subst (IsFirst (ItemHas Says Has e)) (err_is BadByte k h) (record { has = hb; first = bad_byte_first Says Has e })
 lexemes_fault Says Has e false false t k hb hw ht h =
-    subst (IsFirst (ItemHas Says Has e)) (err_is Syntax k h) (record { has = λ ts s is says. let w = is.whole in absurd cc; first = syntax_first Says Has e hb })
+    subst (IsFirst (ItemHas Says Has e)) (err_is Syntax k h) (record { has = λ ts s is says. let w = is.ended in absurd cc; first = syntax_first Says Has e hb })
 lexemes_fault Says Has e false true (Ok ts) k hb hw ht h = absurd cc
 lexemes_fault Says Has e false true (Err j) k hb hw ht h =
     let none = lexing.refused false e.bytes j ht in
@@ -140,7 +140,7 @@ item_fault : {A S : Type 0} (read : List Lexeme → Result S Kind) (judge : A �
     → (x : A) (e : Item) (r : Result (List Lexeme) Kind) (k : Kind) → item_lexemes e ≡ r → (r >>= read >>= judge x) ≡ Err k → IsFirst (ItemHas Says (Has x) e) k
 item_fault read judge Says Has reader x e (Ok ts) k h bad = judged_fault read judge Says Has reader x e ts (read ts) k h refl bad
 item_fault {A} {S} read judge Says Has reader x e (Err j) k h bad =
-    subst (IsFirst (ItemHas Says (Has x) e)) (err_is j k bad) (lexemes_fault Says (Has x) e (has_bad e.bytes) e.whole (tokens_of e.bytes) j refl refl refl h)
+    subst (IsFirst (ItemHas Says (Has x) e)) (err_is j k bad) (lexemes_fault Says (Has x) e (has_bad e.bytes) e.ended (tokens_of e.bytes) j refl refl refl h)
 
 pub faulty_item : {A S : Type 0} (read : List Lexeme → Result S Kind) (judge : A → S → Result A Kind) (Says : List Lexeme → S → Type 0) (Has : A → S → Kind → Type 0) → IsReader read judge Says Has
     → (x : A) (e : Item) (k : Kind) → (item_lexemes e >>= read >>= judge x) ≡ Err k → IsFirst (ItemHas Says (Has x) e) k

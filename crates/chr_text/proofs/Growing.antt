@@ -6,8 +6,8 @@ use Rattle.chr_lex.specs.Tokens.{Word}
 use Rattle.chr_lex.specs.Tokens as words
 use Rattle.chr_grammar.specs.Parsed as parsed
 use Rattle.chr_limits.specs.Variables.{is_seen}
-use Rattle.chr_text.specs.Translation.{argument, rule_atom, expression, test, member, behind_kept, behind_heads, behind_guard, behind_body}
-use Rattle.chr_text.specs.Fitting.{FormulaFits, FormulaStands}
+use Rattle.chr_text.specs.Translation.{argument, rule_atom, expression, test, member, after_kept, after_heads, after_guard, after_body}
+use Rattle.chr_text.specs.Fitting.{FormulaFits, ExpressionFits}
 use Rattle.chr_text.specs.Variables.{Seen, number_variable, in_turn}
 
 variable_step : (seen : Seen) (x : List ℕ) (b : Bool) (n : ℕ) → length seen ≤ length (let p : ℕ × Seen = cond b (n, seen) (length seen, seen ++ x ∷ []) in p.1)
@@ -46,23 +46,23 @@ member_grows seen parsed.Nothing = omega arith
 member_grows seen (parsed.Is x e) = omega (arith, variable_grows seen x, expression_grows (number_variable seen x).1 e)
 member_grows seen (parsed.Add p) = shape_grows seen p
 
-pub formula_stands : (seen : Seen) (e : parsed.ParsedExpression) → FormulaFits e → length (expression seen e).1 ≤ 24 → FormulaStands seen e
-formula_stands seen (parsed.Number negative ds) fits room = fits
-formula_stands seen (parsed.Variable x) fits room = room
-formula_stands seen (parsed.Group e) fits room = formula_stands seen e fits room
-formula_stands seen (parsed.Operation o a b) fits room =
-    (formula_stands seen a fits.0 (omega (arith, expression_grows (expression seen a).1 b)), formula_stands (expression seen a).1 b fits.1 room)
+pub expression_fits : (seen : Seen) (e : parsed.ParsedExpression) → FormulaFits e → length (expression seen e).1 ≤ 24 → ExpressionFits seen e
+expression_fits seen (parsed.Number negative ds) fits room = fits
+expression_fits seen (parsed.Variable x) fits room = room
+expression_fits seen (parsed.Group e) fits room = expression_fits seen e fits room
+expression_fits seen (parsed.Operation o a b) fits room =
+    (expression_fits seen a fits.0 (omega (arith, expression_grows (expression seen a).1 b)), expression_fits (expression seen a).1 b fits.1 room)
 
 -- room for `x is e` is room for x
 pub is_room : (seen : Seen) (x : List ℕ) (e : parsed.ParsedExpression) → length (expression (number_variable seen x).1 e).1 ≤ 24 → length (number_variable seen x).1 ≤ 24
 is_room seen x e h = omega (arith, expression_grows (number_variable seen x).1 e)
 
 -- a rule has no more variables in a part than in the whole
-pub kept_room : (r : parsed.ParsedRule) → length (behind_body r) ≤ 24 → length (behind_kept r) ≤ 24
-kept_room r h = omega (arith, in_turn_grows rule_atom shape_grows (behind_kept r) r.removed, in_turn_grows test test_grows (behind_heads r) r.guard, in_turn_grows member member_grows (behind_guard r) r.body)
+pub kept_room : (r : parsed.ParsedRule) → length (after_body r) ≤ 24 → length (after_kept r) ≤ 24
+kept_room r h = omega (arith, in_turn_grows rule_atom shape_grows (after_kept r) r.removed, in_turn_grows test test_grows (after_heads r) r.guard, in_turn_grows member member_grows (after_guard r) r.body)
 
-pub heads_room : (r : parsed.ParsedRule) → length (behind_body r) ≤ 24 → length (behind_heads r) ≤ 24
-heads_room r h = omega (arith, in_turn_grows test test_grows (behind_heads r) r.guard, in_turn_grows member member_grows (behind_guard r) r.body)
+pub heads_room : (r : parsed.ParsedRule) → length (after_body r) ≤ 24 → length (after_heads r) ≤ 24
+heads_room r h = omega (arith, in_turn_grows test test_grows (after_heads r) r.guard, in_turn_grows member member_grows (after_guard r) r.body)
 
-pub guard_room : (r : parsed.ParsedRule) → length (behind_body r) ≤ 24 → length (behind_guard r) ≤ 24
-guard_room r h = omega (arith, in_turn_grows member member_grows (behind_guard r) r.body)
+pub guard_room : (r : parsed.ParsedRule) → length (after_body r) ≤ 24 → length (after_guard r) ≤ 24
+guard_room r h = omega (arith, in_turn_grows member member_grows (after_guard r) r.body)

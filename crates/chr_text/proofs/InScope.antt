@@ -6,11 +6,11 @@ use Rattle.std.proofs.lemmas.Bool.{ltb-true, eqb-true}
 use Rattle.chr_lex.specs.Tokens.{Word}
 use Rattle.chr_lex.specs.Tokens as words
 use Rattle.chr_grammar.specs.Parsed as parsed
-use Rattle.chr_rule.specs.Scope.{known_behind_body, argument_known, expression_known, test_known, variable_count}
+use Rattle.chr_rule.specs.Scope.{known_after_body, argument_known, expression_known, test_known, variable_count}
 use Rattle.chr_value.proofs.Chosen.{both}
 use Rattle.chr_limits.specs.Variables.{is_blank, is_seen, word_variables, formula_variables, test_variables}
 use Rattle.chr_limits.specs.Scope.{are_seen, body_in_scope, is_in_scope}
-use Rattle.chr_text.specs.Translation.{argument, expression, test, member, somes, behind_heads, rule}
+use Rattle.chr_text.specs.Translation.{argument, expression, test, member, somes, after_heads, rule}
 use Rattle.chr_text.specs.Variables.{Seen, number_variable, in_turn}
 use Rattle.chr_text.proofs.Valued.{Holds, holds_same, holds_more, found, old_argument, old_arguments, old_expression, old_tests, all_heads_known, heads_meet, rule_known}
 
@@ -137,20 +137,20 @@ next_is_new m x true hb h =
 is_back : (m : Seen) (x : List ℕ) (e : parsed.ParsedExpression) → is_seen m x ≡ false → expression_known (length m) (expression (number_variable m x).1 e).0 ≡ true → are_seen m (formula_variables e) ≡ true
 is_back m x e new h = expression_back m (m ++ x ∷ []) e (holds_more m x) (back_append m (x ∷ [])) (rw new at h)
 
-body_back : (m : Seen) (ms : List parsed.BodyMember) (n : ℕ) → known_behind_body (length m) (somes (in_turn member m ms).0) ≡ Some n → body_in_scope m ms ≡ true
+body_back : (m : Seen) (ms : List parsed.BodyMember) (n : ℕ) → known_after_body (length m) (somes (in_turn member m ms).0) ≡ Some n → body_in_scope m ms ≡ true
 body_back m [] n h = refl
 body_back m (parsed.Nothing ∷ ms) n h = body_back m ms n h
 body_back m (parsed.Is x e ∷ ms) n h =
-    let p = test_passed _ (known_behind_body (suc (length m)) (somes (in_turn member (member m (parsed.Is x e)).1 ms).0)) n h in
+    let p = test_passed _ (known_after_body (suc (length m)) (somes (in_turn member (member m (parsed.Is x e)).1 ms).0)) n h in
     let q = both (eqb (number_variable m x).0 (length m)) (expression_known (length m) (expression (number_variable m x).1 e).0) p.0 in
     let new = next_is_new m x (is_seen m x) refl q.0 in
     let a = is_back m x e new q.1 in
     let s = (old_expression m (m ++ x ∷ []) e (holds_more m x) a).1 in
     let len : length (m ++ x ∷ []) ≡ suc (length m) = omega (arith, length-append m (x ∷ [])) in
-    let rest : known_behind_body (length (m ++ x ∷ [])) (somes (in_turn member (m ++ x ∷ []) ms).0) ≡ Some n = rw len (rw (new, s) at p.1) in
+    let rest : known_after_body (length (m ++ x ∷ [])) (somes (in_turn member (m ++ x ∷ []) ms).0) ≡ Some n = rw len (rw (new, s) at p.1) in
     rw (new, a) (body_back (m ++ x ∷ []) ms n rest)
 body_back m (parsed.Add s ∷ ms) n h =
-    let p = test_passed _ (known_behind_body (length m) (somes (in_turn member (member m (parsed.Add s)).1 ms).0)) n h in
+    let p = test_passed _ (known_after_body (length m) (somes (in_turn member (member m (parsed.Add s)).1 ms).0)) n h in
     let a = arguments_back m m s.args (holds_same m) (back_same m) p.0 in
     let e = (old_arguments m m s.args (holds_same m) a).1 in
     rw a (body_back m ms n (rw e at p.1))
@@ -159,9 +159,9 @@ body_back m (parsed.Add s ∷ ms) n h =
 
 rule_back : (r : parsed.ParsedRule) (n : ℕ) → variable_count ((rule r).kept ++ (rule r).removed) (rule r).guard (rule r).body ≡ Some n → is_in_scope r ≡ true
 rule_back r n h =
-    let m = behind_heads r in
+    let m = after_heads r in
     let known = all_heads_known r in
-    let p = test_passed _ (known_behind_body (length m) (rule r).body) n (rw known at h) in
+    let p = test_passed _ (known_after_body (length m) (rule r).body) n (rw known at h) in
     let guard = tests_back m r.guard p.0 in
     let same = (old_tests m r.guard guard).1 in
     let body = body_back m r.body n (rw same at p.1) in

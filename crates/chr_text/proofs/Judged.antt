@@ -12,7 +12,7 @@ use Rattle.chr_limits.specs.Judging.{post_judged, rule_judged}
 use Rattle.chr_limits.specs.Standing.{IsAllowedRule}
 use Rattle.chr_limits.proofs.Standing.{neither, posted, stands}
 use Rattle.chr_text.specs.Fitting.{WordPlain, PhrasePlain, TestPlain, MemberPlain, RulePlain, NamePlain, WordFits, TermFits, PostFits, FormulaFits, ShapeFits, TestFits, MemberFits, RuleFits}
-use Rattle.chr_text.specs.Translation.{rule_atom, test, member, somes, behind_kept, behind_heads, behind_guard, rule}
+use Rattle.chr_text.specs.Translation.{rule_atom, test, member, somes, after_kept, after_heads, after_guard, rule}
 use Rattle.chr_text.specs.Variables.{Seen, in_turn}
 use Rattle.chr_text.proofs.Valued.{rule_known, all_seen}
 
@@ -134,15 +134,15 @@ turns_count : {A B : Type 0} (g : Seen → A → B × Seen) (seen : Seen) (as' :
 turns_count g seen [] = refl
 turns_count g seen (a ∷ as') = ap suc (turns_count g (g seen a).1 as')
 
-whole_rule : (r : ParsedRule) → IsAllowedRule r → IsRule (rule r)
-whole_rule r may = record {
+valid_rule : (r : ParsedRule) → IsAllowedRule r → IsRule (rule r)
+valid_rule r may = record {
   scoped = rule_known r may.scoped;
   limits = record {
     variables = omega (arith, may.variables, ap length (all_seen r));
-    removed = omega (arith, may.removes, turns_count rule_atom (behind_kept r) r.removed);
-    heads = omega (arith, may.heads, turns_count rule_atom [] r.kept, turns_count rule_atom (behind_kept r) r.removed);
-    guard = omega (arith, may.comparisons, tests_count (behind_heads r) r.guard);
-    body = omega (arith, may.items, members_count (behind_guard r) r.body);
+    removed = omega (arith, may.removes, turns_count rule_atom (after_kept r) r.removed);
+    heads = omega (arith, may.heads, turns_count rule_atom [] r.kept, turns_count rule_atom (after_kept r) r.removed);
+    guard = omega (arith, may.comparisons, tests_count (after_heads r) r.guard);
+    body = omega (arith, may.items, members_count (after_guard r) r.body);
   };
 }
 
@@ -165,7 +165,7 @@ rule_fits full r u h p =
       guard = tests_fit r.guard n2.1 l2.1 p.guard;
       body = members_fit r.body n3.1 l3.1 a1.1 p.body;
       room = omega (arith, may.variables, ap length (all_seen r));
-      whole = whole_rule r may;
+      valid = valid_rule r may;
     }
 
 pub not_full : (full : Bool) (r : ParsedRule) (u : Unit {0}) → rule_judged full r ≡ Ok u → full ≡ false

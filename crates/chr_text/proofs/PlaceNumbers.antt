@@ -11,7 +11,7 @@ use Rattle.chr_grammar.specs.Parsed as parsed
 use Rattle.chr_value.proofs.Chosen.{both}
 use Rattle.chr_limits.proofs.Standing.{neither}
 use Rattle.chr_limits.specs.Variables.{is_blank, is_seen, word_variables, formula_variables, phrase_variables, test_variables, member_variables, variables_of}
-use Rattle.chr_text.specs.Translation.{argument, rule_atom, expression, test, member, somes, behind_kept, behind_heads, behind_guard, rule}
+use Rattle.chr_text.specs.Translation.{argument, rule_atom, expression, test, member, somes, after_kept, after_heads, after_guard, rule}
 use Rattle.chr_text.specs.Variables.{Seen, number_variable, numbers, in_turn}
 use Rattle.chr_text.proofs.Valued.{found_first}
 use Rattle.chr_text.specs.Places.{term_places, atom_places, expression_places, comparison_places, item_places, places}
@@ -107,20 +107,20 @@ member_numbered m (parsed.Is x e) =
 member_numbered m (parsed.Add p) = atom_numbered m p
 
 rule_numbered : (r : parsed.ParsedRule) → Numbers [] (variables_of r)
-    (flat_map atom_places (rule r).kept ++ flat_map atom_places (rule r).removed ++ flat_map (if_some comparison_places) (in_turn test (behind_heads r) r.guard).0 ++ flat_map (if_some item_places) (in_turn member (behind_guard r) r.body).0)
-    (in_turn member (behind_guard r) r.body).1
+    (flat_map atom_places (rule r).kept ++ flat_map atom_places (rule r).removed ++ flat_map (if_some comparison_places) (in_turn test (after_heads r) r.guard).0 ++ flat_map (if_some item_places) (in_turn member (after_guard r) r.body).0)
+    (in_turn member (after_guard r) r.body).1
 rule_numbered r =
     let kept = each_numbered rule_atom phrase_variables atom_places atom_numbered [] r.kept in
-    let removed = each_numbered rule_atom phrase_variables atom_places atom_numbered (behind_kept r) r.removed in
-    let guard = each_numbered test test_variables (if_some comparison_places) test_numbered (behind_heads r) r.guard in
-    let body = each_numbered member member_variables (if_some item_places) member_numbered (behind_guard r) r.body in
-    two [] (behind_guard r) _ _ _ _ _ (two [] (behind_heads r) (behind_guard r) _ _ _ _ (two [] (behind_kept r) (behind_heads r) _ _ _ _ kept removed) guard) body
+    let removed = each_numbered rule_atom phrase_variables atom_places atom_numbered (after_kept r) r.removed in
+    let guard = each_numbered test test_variables (if_some comparison_places) test_numbered (after_heads r) r.guard in
+    let body = each_numbered member member_variables (if_some item_places) member_numbered (after_guard r) r.body in
+    two [] (after_guard r) _ _ _ _ _ (two [] (after_heads r) (after_guard r) _ _ _ _ (two [] (after_kept r) (after_heads r) _ _ _ _ kept removed) guard) body
 
 pub rule_places : (r : parsed.ParsedRule) → places (rule r) ≡ numbers (variables_of r)
 unfolding numbers_from
 rule_places r =
-    let guard = somes_places comparison_places (in_turn test (behind_heads r) r.guard).0 in
-    let body = somes_places item_places (in_turn member (behind_guard r) r.body).0 in
+    let guard = somes_places comparison_places (in_turn test (after_heads r) r.guard).0 in
+    let body = somes_places item_places (in_turn member (after_guard r) r.body).0 in
     rw (← guard, ← body) (rule_numbered r).given
 
 -- ---- a number and its name

@@ -19,7 +19,7 @@ use Rattle.chr_grammar.proofs.Statements_again.{by_texts as statement_read}
 use Rattle.chr_limits.proofs.Standing as standing
 use Rattle.chr_text.specs.Fitting.{WordFits, ShapeFits, MemberFits}
 use Rattle.chr_text.specs.Variables.{Seen, in_turn}
-use Rattle.chr_text.specs.Translation.{argument, rule_atom, member, somes, behind_guard, rule}
+use Rattle.chr_text.specs.Translation.{argument, rule_atom, member, somes, after_guard, rule}
 use Rattle.chr_text.specs.Numbering.{each, numbered_term, numbered_rule_atom, number_test, number_member, number_rule}
 use Rattle.chr_text.specs.Reading.{Program, program_of}
 use Rattle.chr_text.specs.Forms.{InOrder, no_more, item, Adds, AddsStatement}
@@ -253,7 +253,7 @@ statement_held before e after a (parsed.Rule r) is adds written all =
     let read = statement_read a.tokens a.statement a.says in
     let names = rules_are_plain a.tokens r plain (read ∙ ap (λ (s : Statement). Ok s) is) in
     let fits = rule_fits false r tt (standing.passes false r (refl, adds.stands)) names in
-    let new = rule_numbered before.1 adds.table (rule r) adds.new (items_fit (behind_guard r) r.body fits.body written.body) adds.numbered in
+    let new = rule_numbered before.1 adds.table (rule r) adds.new (items_fit (after_guard r) r.body fits.body written.body) adds.numbered in
     subst (λ (p : Program). BodiesHeld p.1 p.0) (sym adds.added) (all_append (λ r. AllByRecursion (ItemHeld adds.table) r.body) before.0 (adds.new ∷ []) (bodies_kept before.1 adds.table before.0 new.1 all) (new.0, tt))
 
 items_held : (x : Program) (es : List Item) (y : Program) → InOrder AddsStatement x es y → BodiesHeld x.1 x.0 → BodiesHeld y.1 y.0

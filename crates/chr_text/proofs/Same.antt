@@ -4,7 +4,7 @@ use Rattle.std.specs.List.{list_all}
 use Rattle.chr_value.specs.Naming.{Table, number_name, numbered_value}
 use Rattle.chr_value.proofs.Chosen.{bind_some, some_is}
 use Rattle.chr_rule.specs.Rules.{Term, Var, Given, RuleAtom, Comparison, Compared, Same, Differ, BodyItem, Is, Add, Simpagation, of_parts}
-use Rattle.chr_rule.specs.Scope.{known_behind_args, known_behind_heads, known_behind_body, known_then, argument_known, test_known, variable_count, IsRule}
+use Rattle.chr_rule.specs.Scope.{known_after_args, known_after_heads, known_after_body, known_then, argument_known, test_known, variable_count, IsRule}
 use Rattle.chr_text.specs.Numbering.{each, numbered_term, numbered_rule_atom, number_test, number_member}
 
 -- the lists are equally long, and each two elements at one place are so
@@ -99,7 +99,7 @@ member_same table new (Add s) t h =
 
 -- ---- what is known
 
-args_known : (n : ℕ) (as' : List (Term (List ℕ))) (bs : List (Term ℕ)) → Paired SameArgument as' bs → known_behind_args n as' ≡ known_behind_args n bs
+args_known : (n : ℕ) (as' : List (Term (List ℕ))) (bs : List (Term ℕ)) → Paired SameArgument as' bs → known_after_args n as' ≡ known_after_args n bs
 args_known n [] [] s = refl
 args_known n [] (b ∷ bs) s = absurd s
 args_known n (a ∷ as') [] s = absurd s
@@ -112,14 +112,14 @@ then_same : {A : Type 0} (o : Option ℕ) (f h : ℕ → Option A) → ((n : ℕ
 then_same None f h e = refl
 then_same (Some n) f h e = e n
 
-heads_known : (n : ℕ) (ss : List (RuleAtom (List ℕ))) (ts : List (RuleAtom ℕ)) → Paired SameShape ss ts → known_behind_heads n ss ≡ known_behind_heads n ts
+heads_known : (n : ℕ) (ss : List (RuleAtom (List ℕ))) (ts : List (RuleAtom ℕ)) → Paired SameShape ss ts → known_after_heads n ss ≡ known_after_heads n ts
 heads_known n [] [] s = refl
 heads_known n [] (b ∷ bs) s = absurd s
 heads_known n (a ∷ as') [] s = absurd s
 heads_known n (a ∷ as') (b ∷ bs) s =
-    ap (λ o. known_then o (λ m. known_behind_heads m as')) (args_known n a.args b.args s.0) ∙ then_same (known_behind_args n b.args) (λ m. known_behind_heads m as') (λ m. known_behind_heads m bs) (λ m. heads_known m as' bs s.1)
+    ap (λ o. known_then o (λ m. known_after_heads m as')) (args_known n a.args b.args s.0) ∙ then_same (known_after_args n b.args) (λ m. known_after_heads m as') (λ m. known_after_heads m bs) (λ m. heads_known m as' bs s.1)
 
-body_known : (n : ℕ) (ss : List (BodyItem (List ℕ))) (ts : List (BodyItem ℕ)) → Paired SameMember ss ts → known_behind_body n ss ≡ known_behind_body n ts
+body_known : (n : ℕ) (ss : List (BodyItem (List ℕ))) (ts : List (BodyItem ℕ)) → Paired SameMember ss ts → known_after_body n ss ≡ known_after_body n ts
 body_known n [] [] s = refl
 body_known n [] (b ∷ bs) s = absurd s
 body_known n (a ∷ as') [] s = absurd s
@@ -137,9 +137,9 @@ rule_same r table t1 t2 t3 t4 kept removed guard body e1 e2 e3 e4 whole =
     let m = each_paired SameShape numbered_rule_atom shape_same t1 t2 r.removed removed e2 in
     let g = each_paired SameTest number_test test_same t2 t3 r.guard guard e3 in
     let b = each_paired SameMember number_member member_same t3 t4 r.body body e4 in
-    let heads : known_behind_heads 0 (r.kept ++ r.removed) ≡ known_behind_heads 0 (kept ++ removed) = heads_known 0 (r.kept ++ r.removed) (kept ++ removed) (paired_append SameShape r.kept r.removed kept removed k m) in
-    let rest : (n : ℕ) → (cond (list_all (test_known n) r.guard) (known_behind_body n r.body) None) ≡ (cond (list_all (test_known n) guard) (known_behind_body n body) None) = λ n. rw (paired_all SameTest (test_known n) (test_known n) (λ s t h. h n) r.guard guard g, body_known n r.body body b) refl in
-    let counts : variable_count (kept ++ removed) guard body ≡ variable_count (r.kept ++ r.removed) r.guard r.body = sym (ap (λ o. known_then o (λ n. cond (list_all (test_known n) r.guard) (known_behind_body n r.body) None)) heads ∙ then_same (known_behind_heads 0 (kept ++ removed)) _ _ rest) in
+    let heads : known_after_heads 0 (r.kept ++ r.removed) ≡ known_after_heads 0 (kept ++ removed) = heads_known 0 (r.kept ++ r.removed) (kept ++ removed) (paired_append SameShape r.kept r.removed kept removed k m) in
+    let rest : (n : ℕ) → (cond (list_all (test_known n) r.guard) (known_after_body n r.body) None) ≡ (cond (list_all (test_known n) guard) (known_after_body n body) None) = λ n. rw (paired_all SameTest (test_known n) (test_known n) (λ s t h. h n) r.guard guard g, body_known n r.body body b) refl in
+    let counts : variable_count (kept ++ removed) guard body ≡ variable_count (r.kept ++ r.removed) r.guard r.body = sym (ap (λ o. known_then o (λ n. cond (list_all (test_known n) r.guard) (known_after_body n r.body) None)) heads ∙ then_same (known_after_heads 0 (kept ++ removed)) _ _ rest) in
     record {
       scoped = counts ∙ whole.scoped;
       limits = record {

@@ -37,11 +37,11 @@ held false e rest y h = absurd cc
 pub is_item : (e : Item) (ts : List Lexeme) → item_lexemes e ≡ Ok ts → IsItem e ts
 is_item e ts h =
     let first = passed (has_bad e.bytes) _ _ ts h in
-    let second = held e.whole _ (tokens_of e.bytes) ts first.1 in
-    record { whole = second.0; no_bad_byte = first.0; tokens = lexing.are_tokens false e.bytes ts second.1 }
+    let second = held e.ended _ (tokens_of e.bytes) ts first.1 in
+    record { ended = second.0; no_bad_byte = first.0; tokens = lexing.are_tokens false e.bytes ts second.1 }
 
 pub item_read : (e : Item) (ts : List Lexeme) → IsItem e ts → item_lexemes e ≡ Ok ts
-item_read e ts is = rw (is.no_bad_byte, is.whole) (lexing.are_read false e.bytes ts is.tokens)
+item_read e ts is = rw (is.no_bad_byte, is.ended) (lexing.are_read false e.bytes ts is.tokens)
 
 -- ---- items
 

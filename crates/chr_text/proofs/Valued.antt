@@ -7,13 +7,13 @@ use Rattle.chr_lex.specs.Tokens.{Word}
 use Rattle.chr_lex.specs.Tokens as words
 use Rattle.chr_grammar.specs.Parsed as parsed
 use Rattle.chr_rule.specs.Rules.{RuleAtom}
-use Rattle.chr_rule.specs.Scope.{known_behind_args, known_behind_heads, known_behind_body, known_then, argument_known, expression_known, test_known, variable_count}
+use Rattle.chr_rule.specs.Scope.{known_after_args, known_after_heads, known_after_body, known_then, argument_known, expression_known, test_known, variable_count}
 use Rattle.chr_value.proofs.Chosen.{both}
 use Rattle.chr_limits.specs.Variables.{is_blank, is_seen, seen_from, seen, word_variables, formula_variables, phrase_variables, test_variables, member_variables, head_variables, variables_of}
 use Rattle.chr_limits.specs.Scope.{are_seen, body_in_scope, is_in_scope}
 use Rattle.chr_limits.proofs.Meeting.{met_from_append}
 use Rattle.chr_limits.proofs.Scoped.{still_all_seen}
-use Rattle.chr_text.specs.Translation.{argument, rule_atom, expression, test, member, somes, behind_kept, behind_heads, behind_guard, behind_body, rule}
+use Rattle.chr_text.specs.Translation.{argument, rule_atom, expression, test, member, somes, after_kept, after_heads, after_guard, after_body, rule}
 use Rattle.chr_text.specs.Variables.{Seen, number_variable, in_turn}
 
 -- ---- places
@@ -133,29 +133,29 @@ variable_known m x false next f =
     rw (not_below (length m), itself (length m), len) refl
 
 -- each argument in turn is known, or a new variable with the next number
-args_known : (m : Seen) (ws : List Word) → known_behind_args (length m) (in_turn argument m ws).0 ≡ Some (length (in_turn argument m ws).1)
+args_known : (m : Seen) (ws : List Word) → known_after_args (length m) (in_turn argument m ws).0 ≡ Some (length (in_turn argument m ws).1)
 args_known m [] = refl
 args_known m (words.Name t ∷ ws) = args_known m ws
 args_known m (words.Number negative ds ∷ ws) = args_known m ws
 args_known m (words.Variable x ∷ ws) =
-    variable_known m x (is_seen m x) (λ n. known_behind_args n (in_turn argument (number_variable m x).1 ws).0) (λ h. found (bytes_eq x) m (both (not (is_blank x)) (list_any (bytes_eq x) m) h).1)
+    variable_known m x (is_seen m x) (λ n. known_after_args n (in_turn argument (number_variable m x).1 ws).0) (λ h. found (bytes_eq x) m (both (not (is_blank x)) (list_any (bytes_eq x) m) h).1)
     ∙ args_known (number_variable m x).1 ws
 
-heads_known : (m : Seen) (ps : List parsed.ParsedAtom) → known_behind_heads (length m) (in_turn rule_atom m ps).0 ≡ Some (length (in_turn rule_atom m ps).1)
+heads_known : (m : Seen) (ps : List parsed.ParsedAtom) → known_after_heads (length m) (in_turn rule_atom m ps).0 ≡ Some (length (in_turn rule_atom m ps).1)
 heads_known m [] = refl
 heads_known m (p ∷ ps) = rw (args_known m p.args) (heads_known (rule_atom m p).1 ps)
 
-heads_append-step : {N : Type 0} (o : Option ℕ) (hs gs : List (RuleAtom N)) → ((m : ℕ) → known_behind_heads m (hs ++ gs) ≡ known_then (known_behind_heads m hs) (λ k. known_behind_heads k gs))
-    → known_then o (λ m. known_behind_heads m (hs ++ gs)) ≡ known_then (known_then o (λ m. known_behind_heads m hs)) (λ k. known_behind_heads k gs)
+heads_append-step : {N : Type 0} (o : Option ℕ) (hs gs : List (RuleAtom N)) → ((m : ℕ) → known_after_heads m (hs ++ gs) ≡ known_then (known_after_heads m hs) (λ k. known_after_heads k gs))
+    → known_then o (λ m. known_after_heads m (hs ++ gs)) ≡ known_then (known_then o (λ m. known_after_heads m hs)) (λ k. known_after_heads k gs)
 heads_append-step None hs gs f = refl
 heads_append-step (Some m) hs gs f = f m
 
-heads_append : {N : Type 0} (n : ℕ) (hs gs : List (RuleAtom N)) → known_behind_heads n (hs ++ gs) ≡ known_then (known_behind_heads n hs) (λ m. known_behind_heads m gs)
+heads_append : {N : Type 0} (n : ℕ) (hs gs : List (RuleAtom N)) → known_after_heads n (hs ++ gs) ≡ known_then (known_after_heads n hs) (λ m. known_after_heads m gs)
 heads_append n [] gs = refl
-heads_append n (h ∷ hs) gs = heads_append-step (known_behind_args n h.args) hs gs (λ m. heads_append m hs gs)
+heads_append n (h ∷ hs) gs = heads_append-step (known_after_args n h.args) hs gs (λ m. heads_append m hs gs)
 
-pub all_heads_known : (r : parsed.ParsedRule) → known_behind_heads 0 ((rule r).kept ++ (rule r).removed) ≡ Some (length (behind_heads r))
-all_heads_known r = heads_append 0 (rule r).kept (rule r).removed ∙ ap (λ o. known_then o (λ m. known_behind_heads m (rule r).removed)) (heads_known [] r.kept) ∙ heads_known (behind_kept r) r.removed
+pub all_heads_known : (r : parsed.ParsedRule) → known_after_heads 0 ((rule r).kept ++ (rule r).removed) ≡ Some (length (after_heads r))
+all_heads_known r = heads_append 0 (rule r).kept (rule r).removed ∙ ap (λ o. known_then o (λ m. known_after_heads m (rule r).removed)) (heads_known [] r.kept) ∙ heads_known (after_kept r) r.removed
 
 -- ---- what is seen
 
@@ -197,15 +197,15 @@ member_meets m (parsed.Is x e) =
     expression_meets (number_variable m x).1 e ∙ ap (λ l. seen_from l (formula_variables e)) (variable_meets m x (is_seen m x) ∙ sym (meets_one m x (is_seen m x))) ∙ sym (met_from_append m (x ∷ []) (formula_variables e))
 member_meets m (parsed.Add p) = shape_meets m p
 
-pub heads_meet : (r : parsed.ParsedRule) → behind_heads r ≡ seen (head_variables r)
+pub heads_meet : (r : parsed.ParsedRule) → after_heads r ≡ seen (head_variables r)
 heads_meet r =
-    turn_meets rule_atom phrase_variables shape_meets (behind_kept r) r.removed ∙ ap (λ l. seen_from l (flat_map phrase_variables r.removed)) (turn_meets rule_atom phrase_variables shape_meets [] r.kept)
+    turn_meets rule_atom phrase_variables shape_meets (after_kept r) r.removed ∙ ap (λ l. seen_from l (flat_map phrase_variables r.removed)) (turn_meets rule_atom phrase_variables shape_meets [] r.kept)
     ∙ sym (met_from_append [] (flat_map phrase_variables r.kept) (flat_map phrase_variables r.removed))
 
-pub all_seen : (r : parsed.ParsedRule) → behind_body r ≡ seen (variables_of r)
+pub all_seen : (r : parsed.ParsedRule) → after_body r ≡ seen (variables_of r)
 all_seen r =
-    let g = turn_meets test test_variables test_meets (behind_heads r) r.guard in
-    let b = turn_meets member member_variables member_meets (behind_guard r) r.body in
+    let g = turn_meets test test_variables test_meets (after_heads r) r.guard in
+    let b = turn_meets member member_variables member_meets (after_guard r) r.body in
     b ∙ ap (λ l. seen_from l (flat_map member_variables r.body)) (g ∙ ap (λ l. seen_from l (flat_map test_variables r.guard)) (heads_meet r))
     ∙ sym (met_from_append [] (head_variables r ++ flat_map test_variables r.guard) (flat_map member_variables r.body) ∙ ap (λ l. seen_from l (flat_map member_variables r.body)) (met_from_append [] (head_variables r) (flat_map test_variables r.guard)))
 
@@ -215,7 +215,7 @@ not_so : (b : Bool) → not b ≡ true → b ≡ false
 not_so true h = absurd cc
 not_so false h = refl
 
-body_known : (m : Seen) (ms : List parsed.BodyMember) → body_in_scope m ms ≡ true → known_behind_body (length m) (somes (in_turn member m ms).0) ≡ Some (length (in_turn member m ms).1)
+body_known : (m : Seen) (ms : List parsed.BodyMember) → body_in_scope m ms ≡ true → known_after_body (length m) (somes (in_turn member m ms).0) ≡ Some (length (in_turn member m ms).1)
 body_known m [] h = refl
 body_known m (parsed.Nothing ∷ ms) h = body_known m ms h
 body_known m (parsed.Is x e ∷ ms) h =
@@ -235,7 +235,7 @@ body_known m (parsed.Add s ∷ ms) h =
 pub rule_known : (r : parsed.ParsedRule) → is_in_scope r ≡ true → variable_count ((rule r).kept ++ (rule r).removed) (rule r).guard (rule r).body ≡ Some (rule r).variables
 rule_known r h =
     let p = both (are_seen (seen (head_variables r)) (flat_map test_variables r.guard)) (body_in_scope (seen (head_variables r)) r.body) h in
-    let m = behind_heads r in
+    let m = after_heads r in
     let g = old_tests m r.guard (rw (heads_meet r) p.0) in
     let b = body_known m r.body (rw (heads_meet r) p.1) in
     rw (all_heads_known r, g.0, g.1) (b ∙ ap (λ l. Some (length (in_turn member l r.body).1)) (sym g.1))

@@ -7,7 +7,7 @@ use Rattle.chr_grammar.specs.Parsed as parsed
 use Rattle.chr_grammar.specs.Parsed.{ParsedAtom, GuardMember, BodyMember, ParsedRule}
 use Rattle.chr_rule.specs.Scope.{IsRule}
 use Rattle.chr_limits.specs.Numbers.{whole_number}
-use Rattle.chr_text.specs.Translation.{expression, behind_body, rule}
+use Rattle.chr_text.specs.Translation.{expression, after_body, rule}
 use Rattle.chr_text.specs.Variables.{Seen, number_variable}
 
 abbrev pub WordFits : Word → Type 0
@@ -34,11 +34,11 @@ FormulaFits (parsed.Group e) = FormulaFits e
 FormulaFits (parsed.Operation o a b) = FormulaFits a × FormulaFits b
 
 -- the same with room for its variables after those seen before it
-abbrev pub FormulaStands : Seen → parsed.ParsedExpression → Type 0
-FormulaStands seen (parsed.Number negative ds) = is_none (whole_number negative ds) ≡ false
-FormulaStands seen (parsed.Variable x) = length (number_variable seen x).1 ≤ 24
-FormulaStands seen (parsed.Group e) = FormulaStands seen e
-FormulaStands seen (parsed.Operation o a b) = FormulaStands seen a × FormulaStands (expression seen a).1 b
+abbrev pub ExpressionFits : Seen → parsed.ParsedExpression → Type 0
+ExpressionFits seen (parsed.Number negative ds) = is_none (whole_number negative ds) ≡ false
+ExpressionFits seen (parsed.Variable x) = length (number_variable seen x).1 ≤ 24
+ExpressionFits seen (parsed.Group e) = ExpressionFits seen e
+ExpressionFits seen (parsed.Operation o a b) = ExpressionFits seen a × ExpressionFits (expression seen a).1 b
 
 -- an atom of a rule
 pub record ShapeFits (p : ParsedAtom) : Type 0 where
@@ -63,8 +63,8 @@ pub record RuleFits (r : ParsedRule) : Type 0 where
   pub removed : AllByRecursion ShapeFits r.removed
   pub guard : AllByRecursion TestFits r.guard
   pub body : AllByRecursion MemberFits r.body
-  pub room : length (behind_body r) ≤ 24
-  pub whole : IsRule (rule r)
+  pub room : length (after_body r) ≤ 24
+  pub valid : IsRule (rule r)
 
 -- ---- names as tokens have them, however long
 

@@ -19,7 +19,7 @@ use Rattle.chr_text.specs.Reading.{Program, Posts}
 
 -- an item with its end point and without a bad byte, whose tokens are these
 pub record IsItem (e : Item) (ts : List Lexeme) : Type 0 where
-  pub whole : e.whole ≡ true
+  pub ended : e.ended ≡ true
   pub no_bad_byte : has_bad e.bytes ≡ false
   pub tokens : Tokens false e.bytes ts
 

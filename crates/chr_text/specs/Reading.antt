@@ -18,7 +18,7 @@ use Rattle.chr_text.specs.Numbering.{or_full, each, more, number_rule}
 
 -- the tokens of an item that has its end point and no bad byte
 abbrev pub item_lexemes : Item → Result (List Lexeme) Kind
-item_lexemes e = if has_bad e.bytes then Err BadByte else (if e.whole then tokens_of e.bytes else Err Syntax)
+item_lexemes e = if has_bad e.bytes then Err BadByte else (if e.ended then tokens_of e.bytes else Err Syntax)
 
 -- the items one after another, each over what the ones before it gave; a fault has the line of its item
 abbrev pub over_items : {A : Type 0} → (A → Item → Result A Kind) → A → List Item → Result A ReadFault

@@ -58,18 +58,18 @@ somes (None ∷ xs) = somes xs
 somes (Some x ∷ xs) = x ∷ somes xs
 
 -- what is seen after the kept heads, after all heads, after the guard and after the body
-abbrev pub behind_kept : parsed.ParsedRule → Seen
-behind_kept r = (in_turn rule_atom [] r.kept).1
+abbrev pub after_kept : parsed.ParsedRule → Seen
+after_kept r = (in_turn rule_atom [] r.kept).1
 
-abbrev pub behind_heads : parsed.ParsedRule → Seen
-behind_heads r = (in_turn rule_atom (behind_kept r) r.removed).1
+abbrev pub after_heads : parsed.ParsedRule → Seen
+after_heads r = (in_turn rule_atom (after_kept r) r.removed).1
 
-abbrev pub behind_guard : parsed.ParsedRule → Seen
-behind_guard r = (in_turn test (behind_heads r) r.guard).1
+abbrev pub after_guard : parsed.ParsedRule → Seen
+after_guard r = (in_turn test (after_heads r) r.guard).1
 
-abbrev pub behind_body : parsed.ParsedRule → Seen
-behind_body r = (in_turn member (behind_guard r) r.body).1
+abbrev pub after_body : parsed.ParsedRule → Seen
+after_body r = (in_turn member (after_guard r) r.body).1
 
 -- the rule: its variables are numbered in the order of its text
 abbrev pub rule : parsed.ParsedRule → Simpagation (List ℕ)
-rule r = of_parts (length (behind_body r)) (in_turn rule_atom [] r.kept).0 (in_turn rule_atom (behind_kept r) r.removed).0 (somes (in_turn test (behind_heads r) r.guard).0) (somes (in_turn member (behind_guard r) r.body).0)
+rule r = of_parts (length (after_body r)) (in_turn rule_atom [] r.kept).0 (in_turn rule_atom (after_kept r) r.removed).0 (somes (in_turn test (after_heads r) r.guard).0) (somes (in_turn member (after_guard r) r.body).0)

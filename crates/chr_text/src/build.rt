@@ -9,7 +9,7 @@ ghost use Rattle.chr_grammar.specs.Views as by_texts;
 ghost use Rattle.chr_limits.specs.Views.{names as texts};
 ghost use Rattle.chr_rule.specs.Parts.{argument, shape, expression, comparison, member as item_of};
 ghost use Rattle.chr_rule.specs.Rules.{Operation};
-ghost use Rattle.chr_text.specs.Fitting.{WordFits, ShapeFits, FormulaStands, TestFits, MemberFits, RuleFits};
+ghost use Rattle.chr_text.specs.Fitting.{WordFits, ShapeFits, ExpressionFits, TestFits, MemberFits, RuleFits};
 ghost use Rattle.chr_text.specs.Numbering as numbering;
 ghost use Rattle.chr_text.specs.Numbering.{or_full, each, maybe, put};
 ghost use Rattle.chr_text.specs.Translation as raw;
@@ -165,7 +165,7 @@ fn number_tree<'a, A: Allocator + Copy>(
     seen: &mut Seen<'a>,
     tree: &ParsedExpression<'a, A>,
 ) -> Result<Expr<A>, AllocError>
-    requires { FormulaStands (texts seen.old.items) (by_texts.formula tree.now) }
+    requires { ExpressionFits (texts seen.old.items) (by_texts.formula tree.now) }
     ensures gives { IfOk result (λ e. expression e ≡ (raw.expression (texts seen.old.items) (by_texts.formula tree.now)).0) }
     ensures seen { OnOk result (texts seen.new.items ≡ (raw.expression (texts seen.old.items) (by_texts.formula tree.now)).1) }
 {
@@ -185,7 +185,7 @@ fn number_tree<'a, A: Allocator + Copy>(
 }
 
 /// A comparison; nothing for `true`.
-#[tactic(auto, using(crate::proofs::Growing::expression_grows, crate::proofs::Growing::argument_grows, crate::proofs::Growing::formula_stands))]
+#[tactic(auto, using(crate::proofs::Growing::expression_grows, crate::proofs::Growing::argument_grows, crate::proofs::Growing::expression_fits))]
 fn number_test<'a, A: Allocator + Copy>(
     alloc: A,
     names: &mut Names<A>,
@@ -239,7 +239,7 @@ fn number_tests<'a, A: Allocator + Copy>(
 }
 
 /// A member of the body; nothing for `true`.
-#[tactic(auto, using(crate::proofs::Growing::formula_stands))]
+#[tactic(auto, using(crate::proofs::Growing::expression_fits))]
 fn number_member<'a, A: Allocator + Copy>(
     alloc: A,
     names: &mut Names<A>,

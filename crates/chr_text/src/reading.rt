@@ -39,7 +39,7 @@ fn item_tokens<'a, A: Allocator + Copy>(
     if has_bad_byte(item.text) {
         return Err(ItemError::Fault(Kind::BadByte));
     }
-    if !item.whole {
+    if !item.ended {
         return Err(ItemError::Fault(Kind::Syntax));
     }
     tokens(alloc, item.text)

@@ -13,7 +13,7 @@ use Rattle.chr_grammar.proofs.Statements_again.{by_texts as statement_read}
 use Rattle.chr_limits.proofs.Standing as standing
 use Rattle.chr_text.specs.Fitting.{FormulaFits, MemberFits}
 use Rattle.chr_text.specs.Variables.{Seen, number_variable, in_turn}
-use Rattle.chr_text.specs.Translation.{expression, member, somes, behind_guard, rule}
+use Rattle.chr_text.specs.Translation.{expression, member, somes, after_guard, rule}
 use Rattle.chr_text.specs.Numbering.{each, numbered_rule_atom, number_test, number_member, number_rule}
 use Rattle.chr_text.specs.Reading.{Program, program_of}
 use Rattle.chr_text.specs.Forms.{InOrder, no_more, item, Adds, AddsStatement}
@@ -87,7 +87,7 @@ statement_sound before e after a (parsed.Rule r) is adds sound =
     let read = statement_read a.tokens a.statement a.says in
     let names = rules_are_plain a.tokens r plain (read ∙ ap (λ (s : Statement). Ok s) is) in
     let fits = rule_fits false r tt (standing.passes false r (refl, adds.stands)) names in
-    let new = rule_numbered before.1 adds.table (rule r) adds.new fits.whole (members_fit (behind_guard r) r.body fits.body) adds.numbered in
+    let new = rule_numbered before.1 adds.table (rule r) adds.new fits.valid (members_fit (after_guard r) r.body fits.body) adds.numbered in
     let few : length (before.0 ++ adds.new ∷ []) ≤ 256 = (let le = adds.room in omega (arith, le, length-append before.0 (adds.new ∷ []))) in
     subst AreSound (sym adds.added) (all_append IsSound before.0 (adds.new ∷ []) sound.0 (new, tt), few)
 

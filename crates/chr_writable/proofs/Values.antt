@@ -11,7 +11,7 @@ use Rattle.chr_value.proofs.Inside.{atom_inside, atom_kept}
 use Rattle.chr_rule.specs.declared.expression.Operator.{Operator}
 use Rattle.chr_rule.specs.declared.expression.Operator.TheVariants as operators
 use Rattle.chr_rule.specs.Rules.{Term, Var, Given, RuleAtom, Expression, Number, Variable, Operation, BodyItem, Is, Add, Simpagation}
-use Rattle.chr_rule.specs.Scope.{known_behind_args, known_behind_heads, known_behind_body, argument_known, expression_known, IsRule}
+use Rattle.chr_rule.specs.Scope.{known_after_args, known_after_heads, known_after_body, argument_known, expression_known, IsRule}
 use Rattle.chr_guard.specs.Values.{Valuation, in_range, is_zero, int_mod, computed, number_in, value_of, term_under}
 use Rattle.chr_guard.specs.Instances.{atom_under, AreUnder, IsRight, added, Instance}
 use Rattle.chr_guard.proofs.Scoped.{some_same, var_known, head_known, is_known, add_known, scoped}
@@ -67,7 +67,7 @@ held_next table v n x t held at is holds y u lt there =
       | false ↦ λ q. held y u (grind (arith, nat_tests)) there
     ] refl
 
-args_held : (table : Table) (v : Valuation) (n m : ℕ) (args : List (Term ℕ)) (vs : List (Value ℕ)) → known_behind_args n args ≡ Some m → map (term_under v) args ≡ map (λ t. Some t) vs → AllByRecursion FitsTerm (map (renamed (text_of table)) vs) → HeldBelow table v n → HeldBelow table v m
+args_held : (table : Table) (v : Valuation) (n m : ℕ) (args : List (Term ℕ)) (vs : List (Value ℕ)) → known_after_args n args ≡ Some m → map (term_under v) args ≡ map (λ t. Some t) vs → AllByRecursion FitsTerm (map (renamed (text_of table)) vs) → HeldBelow table v n → HeldBelow table v m
 args_held table v n m [] vs k e all held = let s : n ≡ m = cc in subst (HeldBelow table v) s held
 args_held table v n m (t ∷ args) [] k e all held = absurd (cc)
 args_held table v n m (Given t ∷ args) (x ∷ vs) k e all held = args_held table v n m args vs k (cc) all.1 held
@@ -78,7 +78,7 @@ args_held table v n m (Var x ∷ args) (t ∷ vs) k e all held =
     (λ _ j. args_held table v n m args vs j rest all.1 held)
     (λ s j. args_held table v (suc n) m args vs j rest all.1 (held_next table v n x t held s one all.0))
 
-heads_held : (table : Table) (v : Valuation) (n m : ℕ) (hs : List (RuleAtom ℕ)) (atoms : List (Atom ℕ)) → known_behind_heads n hs ≡ Some m → AreUnder v hs atoms → AreWritable table atoms → HeldBelow table v n → HeldBelow table v m
+heads_held : (table : Table) (v : Valuation) (n m : ℕ) (hs : List (RuleAtom ℕ)) (atoms : List (Atom ℕ)) → known_after_heads n hs ≡ Some m → AreUnder v hs atoms → AreWritable table atoms → HeldBelow table v n → HeldBelow table v m
 heads_held table v n m [] atoms k e all held = let s : n ≡ m = cc in subst (HeldBelow table v) s held
 heads_held table v n m (h ∷ hs) [] k e all held = absurd (cc)
 heads_held table v n m (h ∷ hs) (x ∷ atoms) k e all held =
@@ -161,7 +161,7 @@ atom_filled table v n s a fits known held h =
       plain = no_control table v (text_of table a.name) s.args a.args is.1 (subst (λ (k : ℕ). is_control (text_of table k) (map (renamed (text_of table)) (map (term_with zeros) s.args)) ≡ false) is.0 fits.plain);
     }
 
-body_fits : (table : Table) (v : Valuation) (n m : ℕ) (ms : List (BodyItem ℕ)) (atoms : List (Atom ℕ)) → known_behind_body n ms ≡ Some m → AllByRecursion (IsRight v) ms → AllByRecursion (ItemHeld table) ms → HeldBelow table v n → AreUnder v (added ms) atoms → AreWritable table atoms
+body_fits : (table : Table) (v : Valuation) (n m : ℕ) (ms : List (BodyItem ℕ)) (atoms : List (Atom ℕ)) → known_after_body n ms ≡ Some m → AllByRecursion (IsRight v) ms → AllByRecursion (ItemHeld table) ms → HeldBelow table v n → AreUnder v (added ms) atoms → AreWritable table atoms
 body_fits table v n m [] [] k right all held e = tt
 body_fits table v n m [] (a ∷ atoms) k right all held e = absurd (cc)
 body_fits table v n m (Is x f ∷ ms) atoms k right all held e =

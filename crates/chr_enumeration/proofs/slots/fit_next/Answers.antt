@@ -12,7 +12,7 @@ use Rattle.chr_enumeration.proofs.slots.fit_next.Goals as goal
 pub fit_head-requires : goal.fit_head-requires
 fit_head-requires g c =
     let len : length c.copy-next.result ≡ c.args.rule.now.variables = ap length c.copy-next.ensures ∙ c.requires in
-    subst (λ n. IsPlaced n (shape c.in_ok-head.head.now)) (sym len) (head_placed c.args.rule.now c.head.ensures.whole c.args.number (shape c.in_ok-head.head.now) (sym c.in_ok-head.ensures.head))
+    subst (λ n. IsPlaced n (shape c.in_ok-head.head.now)) (sym len) (head_placed c.args.rule.now c.head.ensures.valid c.args.number (shape c.in_ok-head.head.now) (sym c.in_ok-head.ensures.head))
 
 pub returns : goal.returns
 returns g c =

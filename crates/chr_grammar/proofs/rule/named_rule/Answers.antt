@@ -2,7 +2,7 @@ use Rattle.std.proofs.Common.{◌<◌, length, take, drop, ◌-◌, ◌+◌, map
 use Rattle.std.proofs.lemmas.Result.{err_from_is_err_and}
 use Rattle.chr_lex.specs.Tokens.{lexeme}
 use Rattle.chr_grammar.specs.Parsing.{is_arrow, rule_by, heads_by_arrow, consequence_of}
-use Rattle.chr_grammar.proofs.Rules.{fails_then, split_none, split_some, behind_heads}
+use Rattle.chr_grammar.proofs.Rules.{fails_then, split_none, split_some, after_heads}
 use Rattle.chr_grammar.proofs.rule.named_rule.Goals as goal
 
 pub returns-then-at-tokens : goal.returns-then-at-tokens
@@ -24,7 +24,7 @@ returns-in_err-consequence g c =
     let ts = c.args.tokens.now in
     let n = c.before_arrow-at.result in
     let lt : n < length ts = omega (arith, c.before_arrow-at.ensures.within, c.if-at-tokens.false) in
-    let on = behind_heads (option_map (λ name. name.now) c.args.rule_name) ts n _ _ c.before_arrow-at.ensures.same lt c.in_ok-heads.ensures in
+    let on = after_heads (option_map (λ name. name.now) c.args.rule_name) ts n _ _ c.before_arrow-at.ensures.same lt c.in_ok-heads.ensures in
     rw (p.1, p.2, on) (fails_then c.in_err-consequence.field-0.0 (consequence_of (map lexeme (take (length ts - (n + 1)) (drop (n + 1) ts)))) _ c.in_err-consequence.ensures)
 
 pub returns : goal.returns
@@ -32,5 +32,5 @@ returns g c =
     let ts = c.args.tokens.now in
     let n = c.before_arrow-at.result in
     let lt : n < length ts = omega (arith, c.before_arrow-at.ensures.within, c.if-at-tokens.false) in
-    let on = behind_heads (option_map (λ name. name.now) c.args.rule_name) ts n _ _ c.before_arrow-at.ensures.same lt c.in_ok-heads.ensures in
+    let on = after_heads (option_map (λ name. name.now) c.args.rule_name) ts n _ _ c.before_arrow-at.ensures.same lt c.in_ok-heads.ensures in
     rw (on, c.in_ok-consequence.ensures) refl

@@ -12,7 +12,7 @@ use Rattle.chr_guard.proofs.body.bind_body.Goals as goal
 use Rattle.chr_guard.proofs.body.bind_body.Goals.{in-Is+in-Some+else-not-bind_number, in-Add}
 
 pub loop-item-init : goal.loop-item-init
-loop-item-init g c = completing_start c.args.rule.now c.args.binding.now c.body-item-items.ensures.whole c.requires
+loop-item-init g c = completing_start c.args.rule.now c.args.binding.now c.body-item-items.ensures.valid c.requires
 
 pub returns-in_default : goal.returns-in_default
 returns-in_default g c =

@@ -12,7 +12,7 @@ returns g c =
     let all = c.widened-all.result in
     let new = c.bind_body.new.binding in
     carried_on c.added_atoms.result
-    (no_arguments rule binding all c.widened-all.ensures.same c.variables.ensures.whole new c.if-not-bind_body.ensures)
+    (no_arguments rule binding all c.widened-all.ensures.same c.variables.ensures.valid new c.if-not-bind_body.ensures)
     (λ made is. is_body rule binding all c.widened-all.ensures.same new made.items c.if-not-bind_body.ensures is)
     c.added_atoms.ensures
 

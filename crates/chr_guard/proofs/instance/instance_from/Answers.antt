@@ -7,11 +7,11 @@ bind_body-requires g c = let len : length c.args.binding ≡ c.args.rule.now.var
 
 pub returns : goal.returns
 returns g c facts fit =
-    is_instance_under c.args.rule.now c.guard_holds.ensures.whole facts c.args.binding c.bind_body.new.binding fit (c.if-not-guard_holds.ensures.holds.0 refl) c.if-not-bind_body.ensures
+    is_instance_under c.args.rule.now c.guard_holds.ensures.valid facts c.args.binding c.bind_body.new.binding fit (c.if-not-guard_holds.ensures.holds.0 refl) c.if-not-bind_body.ensures
 
 pub returns-then-not-bind_body : goal.returns-then-not-bind_body
 returns-then-not-bind_body g c facts fit = no_right c.args.rule.now facts c.args.binding fit c.if-not-bind_body.ensures
 
 pub returns-then-not-guard_holds : goal.returns-then-not-guard_holds
 returns-then-not-guard_holds g c facts fit =
-    no_guard c.args.rule.now c.guard_holds.ensures.whole facts c.args.binding fit (λ h. (let z : false ≡ true = c.if-not-guard_holds.ensures.holds.1 h in absurd (cc)))
+    no_guard c.args.rule.now c.guard_holds.ensures.valid facts c.args.binding fit (λ h. (let z : false ≡ true = c.if-not-guard_holds.ensures.holds.1 h in absurd (cc)))

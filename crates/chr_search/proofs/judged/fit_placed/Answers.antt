@@ -19,7 +19,7 @@ returns-in_err-head g c =
 pub fit_head-requires : goal.fit_head-requires
 fit_head-requires g c =
     let len : length c.loop-one.binding ≡ c.args.rule.now.variables = c.loop-one.invariant.places ∙ length-replicate c.args.rule.now.variables None in
-    subst (λ n. IsPlaced n (shape c.in_ok-head.head.now)) (sym len) (head_placed c.args.rule.now c.variables.ensures.whole c.from.result (shape c.in_ok-head.head.now) (sym c.in_ok-head.ensures.head))
+    subst (λ n. IsPlaced n (shape c.in_ok-head.head.now)) (sym len) (head_placed c.args.rule.now c.variables.ensures.valid c.from.result (shape c.in_ok-head.head.now) (sym c.in_ok-head.ensures.head))
 
 pub returns-then-not-fit_head : goal.returns-then-not-fit_head
 returns-then-not-fit_head g c =

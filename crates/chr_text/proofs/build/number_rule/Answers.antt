@@ -24,7 +24,7 @@ number_phrases-requires-2-clause-room g c =
     let d1 = ap (map (by_texts.phrase {Z = g.row.A.Denot})) c.deref.ensures.value in
     let d2 = ap (map (by_texts.phrase {Z = g.row.A.Denot})) c.deref-2.ensures.value in
     let m1 = met_as raw.rule_atom _ [] _ _ r.kept m0 d1 c.in_ok-kept.ensures.seen in
-    room_as raw.rule_atom _ (raw.behind_kept r) _ r.removed m1 d2 (heads_room r c.requires.room)
+    room_as raw.rule_atom _ (raw.after_kept r) _ r.removed m1 d2 (heads_room r c.requires.room)
 
 pub number_tests-requires-clause-room : goal.number_tests-requires-clause-room
 number_tests-requires-clause-room g c =
@@ -34,8 +34,8 @@ number_tests-requires-clause-room g c =
     let d2 = ap (map (by_texts.phrase {Z = g.row.A.Denot})) c.deref-2.ensures.value in
     let d3 = ap (map (by_texts.test {Z = g.row.A.Denot})) c.deref-3.ensures.value in
     let m1 = met_as raw.rule_atom _ [] _ _ r.kept m0 d1 c.in_ok-kept.ensures.seen in
-    let m2 = met_as raw.rule_atom _ (raw.behind_kept r) _ _ r.removed m1 d2 c.in_ok-removed.ensures.seen in
-    room_as raw.test _ (raw.behind_heads r) _ r.guard m2 d3 (guard_room r c.requires.room)
+    let m2 = met_as raw.rule_atom _ (raw.after_kept r) _ _ r.removed m1 d2 c.in_ok-removed.ensures.seen in
+    room_as raw.test _ (raw.after_heads r) _ r.guard m2 d3 (guard_room r c.requires.room)
 
 pub number_members-requires-clause-room : goal.number_members-requires-clause-room
 number_members-requires-clause-room g c =
@@ -46,9 +46,9 @@ number_members-requires-clause-room g c =
     let d3 = ap (map (by_texts.test {Z = g.row.A.Denot})) c.deref-3.ensures.value in
     let d4 = ap (map (by_texts.member {Z = g.row.A.Denot})) c.deref-4.ensures.value in
     let m1 = met_as raw.rule_atom _ [] _ _ r.kept m0 d1 c.in_ok-kept.ensures.seen in
-    let m2 = met_as raw.rule_atom _ (raw.behind_kept r) _ _ r.removed m1 d2 c.in_ok-removed.ensures.seen in
-    let m3 = met_as raw.test _ (raw.behind_heads r) _ _ r.guard m2 d3 c.in_ok-guard.ensures.seen in
-    room_as raw.member _ (raw.behind_guard r) _ r.body m3 d4 c.requires.room
+    let m2 = met_as raw.rule_atom _ (raw.after_kept r) _ _ r.removed m1 d2 c.in_ok-removed.ensures.seen in
+    let m3 = met_as raw.test _ (raw.after_heads r) _ _ r.guard m2 d3 c.in_ok-guard.ensures.seen in
+    room_as raw.member _ (raw.after_guard r) _ r.body m3 d4 c.requires.room
 
 pub returns-in_err-guard-clause-gives : goal.returns-in_err-guard-clause-gives
 returns-in_err-guard-clause-gives g c =
@@ -59,8 +59,8 @@ returns-in_err-guard-clause-gives g c =
     let d3 = ap (map (by_texts.test {Z = g.row.A.Denot})) c.deref-3.ensures.value in
     let e1 = got numbered_rule_atom raw.rule_atom _ [] _ r.kept c.args.names.now _ m0 d1 c.in_ok-kept.ensures.gives in
     let m1 = met_as raw.rule_atom _ [] _ _ r.kept m0 d1 c.in_ok-kept.ensures.seen in
-    let e2 = got numbered_rule_atom raw.rule_atom _ (raw.behind_kept r) _ r.removed c.number_phrases.new.names _ m1 d2 c.in_ok-removed.ensures.gives in
-    let m2 = met_as raw.rule_atom _ (raw.behind_kept r) _ _ r.removed m1 d2 c.in_ok-removed.ensures.seen in
+    let e2 = got numbered_rule_atom raw.rule_atom _ (raw.after_kept r) _ r.removed c.number_phrases.new.names _ m1 d2 c.in_ok-removed.ensures.gives in
+    let m2 = met_as raw.rule_atom _ (raw.after_kept r) _ _ r.removed m1 d2 c.in_ok-removed.ensures.seen in
     let p = err_from_is_err_and c.from_residual-in_err-guard.result c.from_residual-in_err-guard.ensures.1 in
     rw (p.1, p.2) (guard_fails c.in_err-guard.field-0.0 c.args.names.now _ _ (raw.rule r) _ _ e1 e2 (rw (← m2, ← d3) c.in_err-guard.ensures.gives))
 
@@ -74,10 +74,10 @@ returns-in_err-body-clause-gives g c =
     let d4 = ap (map (by_texts.member {Z = g.row.A.Denot})) c.deref-4.ensures.value in
     let e1 = got numbered_rule_atom raw.rule_atom _ [] _ r.kept c.args.names.now _ m0 d1 c.in_ok-kept.ensures.gives in
     let m1 = met_as raw.rule_atom _ [] _ _ r.kept m0 d1 c.in_ok-kept.ensures.seen in
-    let e2 = got numbered_rule_atom raw.rule_atom _ (raw.behind_kept r) _ r.removed c.number_phrases.new.names _ m1 d2 c.in_ok-removed.ensures.gives in
-    let m2 = met_as raw.rule_atom _ (raw.behind_kept r) _ _ r.removed m1 d2 c.in_ok-removed.ensures.seen in
-    let e3 = got_some number_test raw.test _ (raw.behind_heads r) _ r.guard c.number_phrases-2.new.names _ m2 d3 c.in_ok-guard.ensures.gives in
-    let m3 = met_as raw.test _ (raw.behind_heads r) _ _ r.guard m2 d3 c.in_ok-guard.ensures.seen in
+    let e2 = got numbered_rule_atom raw.rule_atom _ (raw.after_kept r) _ r.removed c.number_phrases.new.names _ m1 d2 c.in_ok-removed.ensures.gives in
+    let m2 = met_as raw.rule_atom _ (raw.after_kept r) _ _ r.removed m1 d2 c.in_ok-removed.ensures.seen in
+    let e3 = got_some number_test raw.test _ (raw.after_heads r) _ r.guard c.number_phrases-2.new.names _ m2 d3 c.in_ok-guard.ensures.gives in
+    let m3 = met_as raw.test _ (raw.after_heads r) _ _ r.guard m2 d3 c.in_ok-guard.ensures.seen in
     let p = err_from_is_err_and c.from_residual-in_err-body.result c.from_residual-in_err-body.ensures.1 in
     rw (p.1, p.2) (body_fails c.in_err-body.field-0.0 c.args.names.now _ _ _ (raw.rule r) _ _ _ e1 e2 e3 (rw (← m3, ← d4) c.in_err-body.ensures.gives))
 
@@ -94,11 +94,11 @@ unreachable-requires g c =
     let d4 = ap (map (by_texts.member {Z = g.row.A.Denot})) c.deref-4.ensures.value in
     let e1 = got numbered_rule_atom raw.rule_atom _ [] _ r.kept c.args.names.now _ m0 d1 c.in_ok-kept.ensures.gives in
     let m1 = met_as raw.rule_atom _ [] _ _ r.kept m0 d1 c.in_ok-kept.ensures.seen in
-    let e2 = got numbered_rule_atom raw.rule_atom _ (raw.behind_kept r) _ r.removed c.number_phrases.new.names _ m1 d2 c.in_ok-removed.ensures.gives in
-    let m2 = met_as raw.rule_atom _ (raw.behind_kept r) _ _ r.removed m1 d2 c.in_ok-removed.ensures.seen in
-    let e3 = got_some number_test raw.test _ (raw.behind_heads r) _ r.guard c.number_phrases-2.new.names _ m2 d3 c.in_ok-guard.ensures.gives in
-    let m3 = met_as raw.test _ (raw.behind_heads r) _ _ r.guard m2 d3 c.in_ok-guard.ensures.seen in
-    let e4 = got_some number_member raw.member _ (raw.behind_guard r) _ r.body c.number_tests.new.names _ m3 d4 c.in_ok-body.ensures.gives in
+    let e2 = got numbered_rule_atom raw.rule_atom _ (raw.after_kept r) _ r.removed c.number_phrases.new.names _ m1 d2 c.in_ok-removed.ensures.gives in
+    let m2 = met_as raw.rule_atom _ (raw.after_kept r) _ _ r.removed m1 d2 c.in_ok-removed.ensures.seen in
+    let e3 = got_some number_test raw.test _ (raw.after_heads r) _ r.guard c.number_phrases-2.new.names _ m2 d3 c.in_ok-guard.ensures.gives in
+    let m3 = met_as raw.test _ (raw.after_heads r) _ _ r.guard m2 d3 c.in_ok-guard.ensures.seen in
+    let e4 = got_some number_member raw.member _ (raw.after_guard r) _ r.body c.number_tests.new.names _ m3 d4 c.in_ok-body.ensures.gives in
     let whole = rule_same (raw.rule r) c.args.names.now _ _ _ _ (map shape c.in_ok-kept.kept.items) (map shape c.in_ok-removed.removed.items) (map (comparison {Z = g.row.A.Denot}) c.in_ok-guard.guard.items) (map (member {Z = g.row.A.Denot}) c.in_ok-body.body.items) e1 e2 e3 e4 c.requires.whole in
     let some = c.new.ensures.exact.1 ((raw.rule r).variables, whole) in
     let none = c.in-None.is in
@@ -114,13 +114,13 @@ returns-clause-gives g c =
     let d4 = ap (map (by_texts.member {Z = g.row.A.Denot})) c.deref-4.ensures.value in
     let e1 = got numbered_rule_atom raw.rule_atom _ [] _ r.kept c.args.names.now _ m0 d1 c.in_ok-kept.ensures.gives in
     let m1 = met_as raw.rule_atom _ [] _ _ r.kept m0 d1 c.in_ok-kept.ensures.seen in
-    let e2 = got numbered_rule_atom raw.rule_atom _ (raw.behind_kept r) _ r.removed c.number_phrases.new.names _ m1 d2 c.in_ok-removed.ensures.gives in
-    let m2 = met_as raw.rule_atom _ (raw.behind_kept r) _ _ r.removed m1 d2 c.in_ok-removed.ensures.seen in
-    let e3 = got_some number_test raw.test _ (raw.behind_heads r) _ r.guard c.number_phrases-2.new.names _ m2 d3 c.in_ok-guard.ensures.gives in
-    let m3 = met_as raw.test _ (raw.behind_heads r) _ _ r.guard m2 d3 c.in_ok-guard.ensures.seen in
-    let e4 = got_some number_member raw.member _ (raw.behind_guard r) _ r.body c.number_tests.new.names _ m3 d4 c.in_ok-body.ensures.gives in
+    let e2 = got numbered_rule_atom raw.rule_atom _ (raw.after_kept r) _ r.removed c.number_phrases.new.names _ m1 d2 c.in_ok-removed.ensures.gives in
+    let m2 = met_as raw.rule_atom _ (raw.after_kept r) _ _ r.removed m1 d2 c.in_ok-removed.ensures.seen in
+    let e3 = got_some number_test raw.test _ (raw.after_heads r) _ r.guard c.number_phrases-2.new.names _ m2 d3 c.in_ok-guard.ensures.gives in
+    let m3 = met_as raw.test _ (raw.after_heads r) _ _ r.guard m2 d3 c.in_ok-guard.ensures.seen in
+    let e4 = got_some number_member raw.member _ (raw.after_guard r) _ r.body c.number_tests.new.names _ m3 d4 c.in_ok-body.ensures.gives in
     let whole = rule_same (raw.rule r) c.args.names.now _ _ _ _ (map shape c.in_ok-kept.kept.items) (map shape c.in_ok-removed.removed.items) (map (comparison {Z = g.row.A.Denot}) c.in_ok-guard.guard.items) (map (member {Z = g.row.A.Denot}) c.in_ok-body.body.items) e1 e2 e3 e4 c.requires.whole in
-    let is = as_many c.in-Some.rule (raw.rule r).variables (map shape c.in_ok-kept.kept.items) (map shape c.in_ok-removed.removed.items) (map (comparison {Z = g.row.A.Denot}) c.in_ok-guard.guard.items) (map (member {Z = g.row.A.Denot}) c.in_ok-body.body.items) c.in-Some.ensures.rule c.in-Some.ensures.whole whole in
+    let is = as_many c.in-Some.rule (raw.rule r).variables (map shape c.in_ok-kept.kept.items) (map shape c.in_ok-removed.removed.items) (map (comparison {Z = g.row.A.Denot}) c.in_ok-guard.guard.items) (map (member {Z = g.row.A.Denot}) c.in_ok-body.body.items) c.in-Some.ensures.rule c.in-Some.ensures.valid whole in
     rw is (ap or_full (rule_done c.args.names.now _ _ _ _ (raw.rule r) (map shape c.in_ok-kept.kept.items) (map shape c.in_ok-removed.removed.items) (map (comparison {Z = g.row.A.Denot}) c.in_ok-guard.guard.items) (map (member {Z = g.row.A.Denot}) c.in_ok-body.body.items) e1 e2 e3 e4))
 
 pub returns-clause-keeps : goal.returns-clause-keeps

@@ -14,7 +14,7 @@ use Rattle.chr_search.proofs.join.Join.fit_label.Goals as goal
 pub fit_head-requires : goal.fit_head-requires
 fit_head-requires g c =
     let len : length c.copy-next.result ≡ c.args.self.now.rule.now.variables = ap length c.copy-next.ensures ∙ c.requires in
-    subst (λ n. IsPlaced n (shape c.in_ok-head.head.now)) (sym len) (head_placed c.args.self.now.rule.now c.head.ensures.whole c.from.result (shape c.in_ok-head.head.now) (sym c.in_ok-head.ensures.head))
+    subst (λ n. IsPlaced n (shape c.in_ok-head.head.now)) (sym len) (head_placed c.args.self.now.rule.now c.head.ensures.valid c.from.result (shape c.in_ok-head.head.now) (sym c.in_ok-head.ensures.head))
 
 pub returns : goal.returns
 returns g c =

@@ -18,7 +18,7 @@ find-requires g c =
       rule_is = subst (λ n. rule_at c.args.program.now n ≡ Some rule) c.from.ensures (sym c.in_ok-rule.ensures.rule ∙ ap (λ x. Some x) (sym c.deref.ensures));
       order_is = subst (λ n. plan_at c.args.plans.now n c.loop-order.head ≡ Some order) c.from-in-loop-order.ensures (sym c.in-Some.ensures);
     } in
-    subst (λ l. HasPlan (join_in (older c.args.program.now c.args.plans.now c.args.store.now.entries l) rule order)) (sym label) (plan_of s c.requires.plans c.rule.ensures.whole c.args.number c.loop-order.head rule order p)
+    subst (λ l. HasPlan (join_in (older c.args.program.now c.args.plans.now c.args.store.now.entries l) rule order)) (sym label) (plan_of s c.requires.plans c.rule.ensures.valid c.args.number c.loop-order.head rule order p)
 
 pub returns-in-Some-find : goal.returns-in-Some-find
 returns-in-Some-find g c =
@@ -43,7 +43,7 @@ overflow_add-head g c =
       rule_is = subst (λ n. rule_at c.args.program.now n ≡ Some rule) c.from.ensures (sym c.in_ok-rule.ensures.rule ∙ ap (λ x. Some x) (sym c.deref.ensures));
       order_is = subst (λ n. plan_at c.args.plans.now n c.loop-order.head ≡ Some order) c.from-in-loop-order.ensures (sym c.in-Some.ensures);
     } in
-    let small : c.loop-order.head ≤ 6 = head_small s c.requires.plans c.rule.ensures.whole c.args.number c.loop-order.head rule order p in
+    let small : c.loop-order.head ≤ 6 = head_small s c.requires.plans c.rule.ensures.valid c.args.number c.loop-order.head rule order p in
     omega arith
 
 pub loop-order-smaller : goal.loop-order-smaller
@@ -56,7 +56,7 @@ loop-order-smaller g c =
       rule_is = subst (λ n. rule_at c.args.program.now n ≡ Some rule) c.from.ensures (sym c.in_ok-rule.ensures.rule ∙ ap (λ x. Some x) (sym c.deref.ensures));
       order_is = subst (λ n. plan_at c.args.plans.now n c.loop-order.head ≡ Some order) c.from-in-loop-order.ensures (sym c.in-Some.ensures);
     } in
-    let small : c.loop-order.head ≤ 6 = head_small s c.requires.plans c.rule.ensures.whole c.args.number c.loop-order.head rule order p in
+    let small : c.loop-order.head ≤ 6 = head_small s c.requires.plans c.rule.ensures.valid c.args.number c.loop-order.head rule order p in
     omega arith
 
 pub loop-order-preserved : goal.loop-order-preserved

@@ -1,6 +1,6 @@
 use Rattle.chr_model.specs.Programs.{Instances}
 use Rattle.chr_model.proofs.PostsFirst.{posts_to_front, posts_to_places, posts_erased}
-use Rattle.chr_model.proofs.laws.posts_may_stand_first.Goals as goal
+use Rattle.chr_model.proofs.laws.posts_may_come_first.Goals as goal
 
 pub returns-clause-front : goal.returns-clause-front
 returns-clause-front c = λ v rules log last run. posts_to_front v (Instances rules) log last run

@@ -1,6 +1,6 @@
 use Rattle.chr_model.specs.Programs.{Instances}
 use Rattle.chr_model.proofs.Older.{Run-older}
-use Rattle.chr_model.proofs.laws.older_instances_stood_before.Goals as goal
+use Rattle.chr_model.proofs.laws.older_instances_were_there.Goals as goal
 
 pub returns : goal.returns
 returns c = λ v rules events s new run r kept removed body below i. Run-older v (Instances rules) events s new run r kept removed body below i

@@ -1,7 +1,7 @@
 use Rattle.chr_model.specs.Programs.{Instances}
 use Rattle.chr_model.proofs.Once.{Lawful-once}
 use Rattle.chr_model.proofs.Older.{store_once, store_below, store_given, store_from_one}
-use Rattle.chr_model.proofs.laws.labels_stand_once.Goals as goal
+use Rattle.chr_model.proofs.laws.stores_have_given_labels.Goals as goal
 
 pub returns-clause-once : goal.returns-clause-once
 returns-clause-once c = λ v rules log last run l. store_once last (Lawful-once v (Instances rules) log last run) l
