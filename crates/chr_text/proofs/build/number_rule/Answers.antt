@@ -99,7 +99,7 @@ unreachable-requires g c =
     let e3 = got_some number_test raw.test _ (raw.after_heads r) _ r.guard c.number_phrases-2.new.names _ m2 d3 c.in_ok-guard.ensures.gives in
     let m3 = met_as raw.test _ (raw.after_heads r) _ _ r.guard m2 d3 c.in_ok-guard.ensures.seen in
     let e4 = got_some number_member raw.member _ (raw.after_guard r) _ r.body c.number_tests.new.names _ m3 d4 c.in_ok-body.ensures.gives in
-    let whole = rule_same (raw.rule r) c.args.names.now _ _ _ _ (map shape c.in_ok-kept.kept.items) (map shape c.in_ok-removed.removed.items) (map (comparison {Z = g.row.A.Denot}) c.in_ok-guard.guard.items) (map (member {Z = g.row.A.Denot}) c.in_ok-body.body.items) e1 e2 e3 e4 c.requires.whole in
+    let whole = rule_same (raw.rule r) c.args.names.now _ _ _ _ (map shape c.in_ok-kept.kept.items) (map shape c.in_ok-removed.removed.items) (map (comparison {Z = g.row.A.Denot}) c.in_ok-guard.guard.items) (map (member {Z = g.row.A.Denot}) c.in_ok-body.body.items) e1 e2 e3 e4 c.requires.valid in
     let some = c.new.ensures.exact.1 ((raw.rule r).variables, whole) in
     let none = c.in-None.is in
     absurd cc
@@ -119,7 +119,7 @@ returns-clause-gives g c =
     let e3 = got_some number_test raw.test _ (raw.after_heads r) _ r.guard c.number_phrases-2.new.names _ m2 d3 c.in_ok-guard.ensures.gives in
     let m3 = met_as raw.test _ (raw.after_heads r) _ _ r.guard m2 d3 c.in_ok-guard.ensures.seen in
     let e4 = got_some number_member raw.member _ (raw.after_guard r) _ r.body c.number_tests.new.names _ m3 d4 c.in_ok-body.ensures.gives in
-    let whole = rule_same (raw.rule r) c.args.names.now _ _ _ _ (map shape c.in_ok-kept.kept.items) (map shape c.in_ok-removed.removed.items) (map (comparison {Z = g.row.A.Denot}) c.in_ok-guard.guard.items) (map (member {Z = g.row.A.Denot}) c.in_ok-body.body.items) e1 e2 e3 e4 c.requires.whole in
+    let whole = rule_same (raw.rule r) c.args.names.now _ _ _ _ (map shape c.in_ok-kept.kept.items) (map shape c.in_ok-removed.removed.items) (map (comparison {Z = g.row.A.Denot}) c.in_ok-guard.guard.items) (map (member {Z = g.row.A.Denot}) c.in_ok-body.body.items) e1 e2 e3 e4 c.requires.valid in
     let is = as_many c.in-Some.rule (raw.rule r).variables (map shape c.in_ok-kept.kept.items) (map shape c.in_ok-removed.removed.items) (map (comparison {Z = g.row.A.Denot}) c.in_ok-guard.guard.items) (map (member {Z = g.row.A.Denot}) c.in_ok-body.body.items) c.in-Some.ensures.rule c.in-Some.ensures.valid whole in
     rw is (ap or_full (rule_done c.args.names.now _ _ _ _ (raw.rule r) (map shape c.in_ok-kept.kept.items) (map shape c.in_ok-removed.removed.items) (map (comparison {Z = g.row.A.Denot}) c.in_ok-guard.guard.items) (map (member {Z = g.row.A.Denot}) c.in_ok-body.body.items) e1 e2 e3 e4))
 
