@@ -1,5 +1,5 @@
 //! The calls that make several lines of the table at once.
-ghost use Rattle.std.specs.Prelude.{◌≡◌, ◌↔◌, IsTrue, IfOk, MatchOption, Ok as IsOk};
+ghost use Rattle.std.specs.Prelude.{◌≡◌, ◌↔◌, IsTrue, IfOk, MatchOption};
 ghost use Rattle.chr_calls.specs.Turns.{turn_of, Next};
 ghost use Rattle.chr_calls.specs.Books.{space_of};
 ghost use Rattle.chr_calls.specs.Batches.{batch_of, report_of, IsNextBeside, NoneBeside, AreBeside, Ends, Batches, ReportsBatch};
@@ -13,7 +13,7 @@ use std::alloc::{AllocError, Allocator};
 
 /// Whether this is the judged trial.
 fn is_judged<A: Allocator + Copy>(next: &Result<Turn<A>, TurnFault>, judged: &Judged<A>) -> bool
-    ensures { IsTrue result ↔ (turn_of next.now ≡ IsOk (Next judged.now.trial)) }
+    ensures { IsTrue result ↔ (turn_of next.now ≡ Ok (Next judged.now.trial)) }
 {
     match next {
         Ok(Turn::Trial(trial)) => trial.same(judged.trial()),

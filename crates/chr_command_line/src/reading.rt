@@ -353,7 +353,10 @@ mod tests {
         for (i, (words, labels)) in rows.iter().enumerate() {
             match read(rt.alloc(), words) {
                 Ok(request) => {
-                    assert!(rt; request == Request::Session { labels: *labels }, "words {i}");
+                    assert!(rt;
+                        request == Request::Session { labels: *labels },
+                        "words {i}"
+                    );
                 }
                 Err(_) => assert!(rt; false, "words {i}"),
             }
