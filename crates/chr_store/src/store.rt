@@ -116,7 +116,7 @@ impl<A: Allocator + Copy> Store<A> {
     /// How many constraints there are.
     pub fn len(&self) -> usize
         ensures count { result ≡ length self.now.entries }
-        ensures whole { IsLabelled self.now }
+        ensures labelled { IsLabelled self.now }
     {
         self.atoms.len()
     }
@@ -124,7 +124,7 @@ impl<A: Allocator + Copy> Store<A> {
     /// The label that [`insert`](Store::insert) gives next. It is above the limit once all are spent.
     pub fn next_label(&self) -> Label
         ensures value { result ≡ self.now.next }
-        ensures whole { IsLabelled self.now }
+        ensures labelled { IsLabelled self.now }
     {
         self.next
     }
@@ -188,7 +188,7 @@ impl<A: Allocator + Copy> Store<A> {
         below: Label,
     ) -> Option<Label>
         ensures least { IsLeastMatch self.now.entries (record { pred = pred; key = key_of key.entry; after = after; below = below }) result }
-        ensures whole { IsLabelled self.now }
+        ensures labelled { IsLabelled self.now }
     {
         let own = Key {
             pred,
@@ -220,7 +220,7 @@ impl<A: Allocator + Copy> Store<A> {
     pub fn iter(&self) -> Iter<'_, u64, Atom<A>>
         ensures rest { result ≡ self.now.entries }
         ensures runs { ShowsInOrder (deref_pair {K = ℕ} {X = Atom ℕ}) }
-        ensures whole { IsLabelled self.now }
+        ensures labelled { IsLabelled self.now }
     {
         self.atoms.iter()
     }

@@ -21,7 +21,7 @@ returns-in_default g c =
     let is : head_at j.rule step.head ≡ Some head = subst (λ n. head_at j.rule n ≡ Some head) c.from.ensures (sym c.in_ok-head.ensures.head) in
     let key = key_none (bound_at c.args.binding.now) head step.key None (none_if step.key c.in_default.not-Some) refl in
     least_partner j c.args.labels.now c.args.binding.now c.args.from _
-    (asked j c.args.labels.now c.args.binding.now c.args.from step head c.pred_of.result None c.saturating_sub-after.result _ c.requires.some c.requires.ready at is c.pred_of.ensures.name c.pred_of.ensures.arity key c.saturating_sub-after.ensures c.next_at.ensures.whole.given)
+    (asked j c.args.labels.now c.args.binding.now c.args.from step head c.pred_of.result None c.saturating_sub-after.result _ c.requires.some c.requires.ready at is c.pred_of.ensures.name c.pred_of.ensures.arity key c.saturating_sub-after.ensures c.next_at.ensures.labelled.given)
     c.next_at.result c.next_at.ensures.least
 
 pub overflow_sub-from : goal.overflow_sub-from
@@ -80,5 +80,5 @@ returns g c =
     let given : given_at (bound_at c.args.binding.now) head c.in-Some.place ≡ Some (ground c.in_ok-value.value) = given_there (bound_at c.args.binding.now) head c.in-Some.place low ∙ ap (value_in (bound_at c.args.binding.now)) (slice_get-map argument c.in_ok-head.head.now.terms.items (c.in-Some.place - 1) ∙ ap (option_map argument) there) ∙ sym c.in_ok-value.ensures in
     let key = key_some (bound_at c.args.binding.now) head step.key (Some (c.in-Some.place, ground c.in_ok-value.value)) c.in-Some.place (ground c.in_ok-value.value) c.in-Some.is given refl in
     least_partner j c.args.labels.now c.args.binding.now c.args.from _
-    (asked j c.args.labels.now c.args.binding.now c.args.from step head c.pred_of-2.result (Some (c.in-Some.place, ground c.in_ok-value.value)) c.saturating_sub-after.result _ c.requires.some c.requires.ready at is c.pred_of-2.ensures.name c.pred_of-2.ensures.arity key c.saturating_sub-after.ensures c.next_at-2.ensures.whole.given)
+    (asked j c.args.labels.now c.args.binding.now c.args.from step head c.pred_of-2.result (Some (c.in-Some.place, ground c.in_ok-value.value)) c.saturating_sub-after.result _ c.requires.some c.requires.ready at is c.pred_of-2.ensures.name c.pred_of-2.ensures.arity key c.saturating_sub-after.ensures c.next_at-2.ensures.labelled.given)
     c.next_at-2.result c.next_at-2.ensures.least

@@ -66,7 +66,7 @@ invariant_of-result g c =
     let q = parts s c.position.inside.rule c.position.inside.head ls c.args.position.now (arc_value c.in-Some.rule.now) order view c.requires.admissible.1 ri oi in
     let t : Trial = record { rule = arc_value c.in_ok-try_clone.field-0; number = c.position.inside.rule; head = c.position.inside.head; placed = map placed_as c.loop-i.placed.items } in
     let r = read_all placed_as s t order c.loop-i.placed.items c.loop-i.i ls refl c.loop-i.invariant.heads c.loop-i.invariant.labels c.loop-i.invariant.live c.loop-i-test.false c.loop-i.auto.i-end in
-    formed s t order c.args.store.now c.requires.plans refl c.next_label-given.ensures.whole
+    formed s t order c.args.store.now c.requires.plans refl c.next_label-given.ensures.labelled
     (rule_scoped c.args.program.now c.in-Some.ensures.valid c.position.inside.rule t.rule (ri ∙ ap (λ x. Some x) (sym c.in_ok-try_clone.ensures)))
     c.position.invariant.0 c.position.invariant.1
     (parts_as s c.position.inside.rule c.position.inside.head ls (labels t) (arc_value c.in-Some.rule.now) t.rule order q r.labels_are c.in_ok-try_clone.ensures)
