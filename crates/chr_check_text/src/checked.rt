@@ -5,7 +5,7 @@ ghost use Rattle.chr_model.specs.Programs.{Instances};
 ghost use Rattle.chr_check_text.specs.CheckTexts.{IsAnswer, IsTold, IsCheckText, log_fault, store_fault};
 
 use crate::writing::written;
-use chr_check::checking::{Verdict, check};
+use chr_check::checking::{Verdict, watched_check};
 use chr_check::fault::{CheckError, CheckFault};
 use chr_lex::fault::{ReadError, ReadFault};
 use chr_log::events::{Event, Label, Version};
@@ -15,6 +15,7 @@ use chr_rule::program::Program;
 use chr_text::reading::read_program;
 use chr_value::atom::Atom;
 use chr_value::names::Names;
+use chr_watch::{Unwatched, Watch};
 use std::alloc::{AllocError, Allocator};
 
 /// What a check gives.
@@ -64,16 +65,17 @@ fn store_fault(fault: TextFault) -> CheckTextFault
 }
 
 /// What the check of a log answers. An `Err` is E01.
-fn answer_of<A: Allocator + Copy>(
+fn answer_of<A: Allocator + Copy, W: Watch>(
     alloc: A,
     program: &Program<A>,
     version: Version,
     events: &[Event<A>],
     store: &[(Label, Atom<A>)],
+    watch: &mut W,
 ) -> Result<Result<Verdict, CheckFault>, AllocError>
     ensures { IfOk result (IsAnswer version (Instances program.now) (events_of events.now) store.now) }
 {
-    match check(alloc, program, version, events, store) {
+    match watched_check(alloc, program, version, events, store, watch) {
         Ok(verdict) => Ok(Ok(verdict)),
         Err(CheckError::NotARun(fault)) => Ok(Err(fault)),
         Err(CheckError::NoMemory) => Err(AllocError),
@@ -81,16 +83,17 @@ fn answer_of<A: Allocator + Copy>(
 }
 
 /// What the check of a log answers, with its line. An `Err` is E01.
-fn told<A: Allocator + Copy>(
+fn told<A: Allocator + Copy, W: Watch>(
     alloc: A,
     program: &Program<A>,
     version: Version,
     events: &[Event<A>],
     store: &[(Label, Atom<A>)],
+    watch: &mut W,
 ) -> Result<Checked<A>, AllocError>
     ensures { IfOk result (IsTold version (Instances program.now) (events_of events.now) store.now) }
 {
-    let answer = answer_of(alloc, program, version, events, store)?;
+    let answer = answer_of(alloc, program, version, events, store, watch)?;
     let line = written(alloc, answer)?;
     Ok(Checked { line, answer })
 }
@@ -108,6 +111,19 @@ pub fn check_text<A: Allocator + Copy>(
 ) -> Result<Checked<A>, CheckTextFault>
     ensures { IsCheckText program.now log.now store.now result }
 {
+    watched_check_text(alloc, program, log, store, &mut Unwatched)
+}
+
+/// The same, and before each entry of the log `watch` is told how many have been checked.
+pub fn watched_check_text<A: Allocator + Copy, W: Watch>(
+    alloc: A,
+    program: &[u8],
+    log: &[u8],
+    store: &[u8],
+    watch: &mut W,
+) -> Result<Checked<A>, CheckTextFault>
+    ensures { IsCheckText program.now log.now store.now result }
+{
     let mut names = Names::new(alloc);
     let program = match read_program(alloc, program, &mut names) {
         Ok(program) => program,
@@ -122,7 +138,7 @@ pub fn check_text<A: Allocator + Copy>(
         Ok(store) => store,
         Err(fault) => return Err(store_fault(fault)),
     };
-    match told(alloc, &program, log.version, &log.events, &store) {
+    match told(alloc, &program, log.version, &log.events, &store, watch) {
         Ok(checked) => Ok(checked),
         Err(AllocError) => Err(CheckTextFault::Memory),
     }

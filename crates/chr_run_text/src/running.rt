@@ -5,10 +5,11 @@ ghost use Rattle.chr_run_text.specs.RunText.{IsOpenText, IsRefused, IsRunText};
 use crate::output::{Show, write_shown};
 use chr_book::book::{Book, OpenFault};
 use chr_lex::fault::{ReadError, ReadFault};
-use chr_solo::solo::{End, solo_steps};
+use chr_solo::solo::{End, watched_steps};
 use chr_store::store::Label;
 use chr_text::reading::read_program;
 use chr_value::names::Names;
+use chr_watch::{Unwatched, Watch};
 use std::alloc::Allocator;
 
 /// The seat that makes all calls.
@@ -67,6 +68,22 @@ pub fn run_text<A: Allocator + Copy>(
     requires { labels ≤ 4294967295 }
     ensures { IsRunText program.now posts.now steps labels show result }
 {
+    watched_run(alloc, program, posts, steps, labels, show, &mut Unwatched)
+}
+
+/// The same, and before each call `watch` is told how many have been made.
+pub fn watched_run<A: Allocator + Copy, W: Watch>(
+    alloc: A,
+    program: &[u8],
+    posts: &[u8],
+    steps: u64,
+    labels: Label,
+    show: Show,
+    watch: &mut W,
+) -> Result<RunOut<A>, RunFault>
+    requires { labels ≤ 4294967295 }
+    ensures { IsRunText program.now posts.now steps labels show result }
+{
     let mut book = match open(alloc, program, labels) {
         Ok(book) => book,
         Err(fault) => return Err(fault),
@@ -76,7 +93,7 @@ pub fn run_text<A: Allocator + Copy>(
         Err(ReadError::Fault(fault)) => return Err(RunFault::Posts(fault)),
         Err(ReadError::Memory) => return Err(RunFault::Memory),
     }
-    let Ok(solo) = solo_steps(&mut book, SEAT, steps) else {
+    let Ok(solo) = watched_steps(&mut book, SEAT, steps, watch) else {
         return Err(RunFault::Memory);
     };
     // For its clause: the book has the headline.

@@ -1,15 +1,16 @@
 //! `chr check`.
 use crate::files::{MOST_LOG, MOST_TEXT, called, fetch};
 use crate::message::{Detail, Fault, Source, Text, refusal_message};
+use crate::progress::Progress;
 use crate::refused;
 use crate::report::{Status, put, report_failure, report_fault, report_no_memory};
 use chr_check::fault::{CheckFault, Place};
-use chr_check_text::checked::{CheckTextFault, Checked, check_text};
+use chr_check_text::checked::{CheckTextFault, Checked, watched_check_text};
 use chr_log_text::reading::read_log;
 use chr_text::reading::read_program;
 use chr_value::names::Names;
 use std::alloc::{AllocError, Allocator, Global};
-use std::rt::Files;
+use std::rt::{Clock, Files};
 
 /// The texts of the log and of the store.
 #[derive(Clone, Copy)]
@@ -74,7 +75,7 @@ fn print<A: Allocator>(
 /// Checks whether the log of the file `log` is one of a run of the rules of the file `file` that ends in the store of
 /// the file `store`, and writes the answer to standard output. After a fault in one of the texts nothing is written
 /// there.
-pub fn check<R: Files + Input + Print + Eprint + AllocGlobal>(
+pub fn check<R: Files + Clock + Input + Print + Eprint + AllocGlobal>(
     rt: &R,
     detail: Detail,
     file: &str,
@@ -105,7 +106,8 @@ pub fn check<R: Files + Input + Print + Eprint + AllocGlobal>(
             bytes: &stored,
         },
     };
-    match check_text(rt.alloc(), &program, &logged, &stored) {
+    let mut progress = Progress::new(rt, detail, "entries checked");
+    match watched_check_text(rt.alloc(), &program, &logged, &stored, &mut progress) {
         Ok(checked) => print(rt, detail, &program, recorded, &checked),
         Err(CheckTextFault::Program(fault)) => {
             let source = Source {

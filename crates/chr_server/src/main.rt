@@ -15,6 +15,7 @@
 mod check;
 mod files;
 mod message;
+mod progress;
 mod refused;
 mod report;
 mod run;

@@ -1,11 +1,12 @@
 //! `chr run`.
 use crate::files::{MOST_TEXT, called, fetch};
 use crate::message::{Detail, Fault, Source, Text};
+use crate::progress::Progress;
 use crate::report::{Status, put, report_failure, report_fault, report_no_memory};
 use chr_command_line::reading::RunOptions;
-use chr_run_text::running::{RunFault, run_text};
+use chr_run_text::running::{RunFault, watched_run};
 use chr_solo::solo::End;
-use std::rt::Files;
+use std::rt::{Clock, Files};
 
 /// Writes what a run gives to standard output.
 fn print(rt: &(impl Print + Eprint), detail: Detail, bytes: &[u8], end: End) -> Status {
@@ -20,7 +21,7 @@ fn print(rt: &(impl Print + Eprint), detail: Detail, bytes: &[u8], end: End) -> 
 
 /// Runs the rules of one text on the constraints of the other, and writes what the options ask for to standard output.
 /// After a fault nothing is written there.
-fn run_sources<R: Print + Eprint + AllocGlobal>(
+fn run_sources<R: Clock + Print + Eprint + AllocGlobal>(
     rt: &R,
     detail: Detail,
     program: Source<'_>,
@@ -28,13 +29,15 @@ fn run_sources<R: Print + Eprint + AllocGlobal>(
     options: RunOptions,
 ) -> Status {
     let (steps, labels) = (u64::from(options.steps), u64::from(options.labels));
-    match run_text(
+    let mut progress = Progress::new(rt, detail, "calls made");
+    match watched_run(
         rt.alloc(),
         program.bytes,
         posts.bytes,
         steps,
         labels,
         options.show,
+        &mut progress,
     ) {
         Ok(made) => print(rt, detail, &made.bytes, made.end),
         Err(RunFault::Program(fault)) => report_fault(rt, detail, program, Fault::Read(fault)),
@@ -45,7 +48,7 @@ fn run_sources<R: Print + Eprint + AllocGlobal>(
 
 /// Runs the rules of the file `file` on the constraints of the file `posts`, and writes what the options ask for to
 /// standard output. After a fault nothing is written there.
-pub fn run<R: Files + Input + Print + Eprint + AllocGlobal>(
+pub fn run<R: Files + Clock + Input + Print + Eprint + AllocGlobal>(
     rt: &R,
     detail: Detail,
     file: &str,

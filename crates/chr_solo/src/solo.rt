@@ -14,6 +14,7 @@ ghost use Rattle.chr_solo.specs.declared.solo.End.TheVariants as ends;
 use chr_book::book::Book;
 use chr_calls::answers::{ClaimFault, DropFault, FireFault, TicketState, Turn, TurnFault};
 use chr_search::judged::{Judged, Verdict, judge};
+use chr_watch::{Unwatched, Watch};
 use std::alloc::{AllocError, Allocator};
 
 /// Whether a ticket is left open.
@@ -156,12 +157,27 @@ pub fn solo_steps<A: Allocator + Copy>(
     ensures end { IfOk result (λ solo. (solo.end ≡ ends.Quiet) ↔ AreQuiet book.new.tickets) }
     ensures cut_short { OnErr result (IsCutShort seat most book.old book.new) }
 {
+    watched_steps(book, seat, most, &mut Unwatched)
+}
+
+/// The same, and before each call `watch` is told how many have been made.
+pub fn watched_steps<A: Allocator + Copy, W: Watch>(
+    book: &mut Book<A>,
+    seat: u32,
+    most: u64,
+    watch: &mut W,
+) -> Result<Solo, AllocError>
+    ensures solo { IfOk result (λ solo. IsSolo seat most book.old solo.calls book.new) }
+    ensures end { IfOk result (λ solo. (solo.end ≡ ends.Quiet) ↔ AreQuiet book.new.tickets) }
+    ensures cut_short { OnErr result (IsCutShort seat most book.old book.new) }
+{
     let mut calls = 0;
     let mut known = Known::Nothing;
     while calls < most {
         let Some(ticket) = book.next_for(seat) else {
             break;
         };
+        watch.done(calls);
         calls += 1;
         let Some(next) = call_for(book, seat, ticket, known)? else {
             break;

@@ -1,5 +1,6 @@
 use chr_check::checking::Verdict;
-use chr_check_text::checked::{CheckTextFault, check_text};
+use chr_check_text::checked::{CheckTextFault, check_text, watched_check_text};
+use chr_watch::Watch;
 use std::alloc::Global;
 use std::test::*;
 
@@ -309,4 +310,36 @@ fn texts_that_are_not_read(rt: HostRuntime) -> Result<(), Fail> {
         assert_eq!(rt; text.as_str(), wanted, "log {log} store {store}");
     }
     Ok(())
+}
+
+/// How many counts it was told, and whether they were 0, 1 and so on.
+#[derive(Clone, Copy, Debug)]
+struct Counted {
+    counts: u64,
+    are_in_order: bool,
+}
+
+impl Watch for Counted {
+    fn done(&mut self, count: u64) {
+        self.are_in_order = self.are_in_order && count == self.counts;
+        self.counts = self.counts.saturating_add(1);
+    }
+}
+
+#[test]
+fn each_entry_is_told(rt: HostRuntime) {
+    for (log, told) in [
+        ("chr-log 1\n", 0),
+        ("chr-log 1\nP 1 a\nA 1 1\nD 1\n", 3),
+        ("chr-log 1\nP 1 a\nA 1 2\nD 1\n", 2),
+        ("chr-log 1\nP 1 a\nA 1 01\n", 0),
+    ] {
+        let mut counted = Counted {
+            counts: 0,
+            are_in_order: true,
+        };
+        let _ = watched_check_text(rt.alloc(), b"", log.as_bytes(), b"#1 a\n", &mut counted);
+        assert!(rt; counted.are_in_order, "{log}");
+        assert_eq!(rt; counted.counts, told, "{log}");
+    }
 }

@@ -1,8 +1,9 @@
 //! Worked runs.
 use chr_lex::fault::{Kind, ReadFault};
 use chr_run_text::output::Show;
-use chr_run_text::running::{RunFault, RunOut, run_text};
+use chr_run_text::running::{RunFault, RunOut, run_text, watched_run};
 use chr_solo::solo::End;
+use chr_watch::Watch;
 use std::alloc::Global;
 use std::test::Fail;
 
@@ -367,5 +368,42 @@ fn worked_expressions(rt: HostRuntime) {
     for (expression, values, left) in VALUES {
         let is = is_left(rt.alloc(), expression, values, left);
         assert_eq!(rt; is, Some(true), "{expression} at {values}");
+    }
+}
+
+/// How many counts it was told, and whether they were 0, 1 and so on.
+#[derive(Clone, Copy, Debug)]
+struct Counted {
+    counts: u64,
+    are_in_order: bool,
+}
+
+impl Watch for Counted {
+    fn done(&mut self, count: u64) {
+        self.are_in_order = self.are_in_order && count == self.counts;
+        self.counts = self.counts.saturating_add(1);
+    }
+}
+
+/// The whole run makes nine calls: for each `b`, with which no rule applies, a claim, a question for a trial, and a drop; for
+/// the `a` a claim, a question that gives a trial, and its firing.
+#[test]
+fn each_call_is_told(rt: HostRuntime) {
+    for (steps, told) in [(0, 0), (1, 1), (5, 5), (1_000_000, 9)] {
+        let mut counted = Counted {
+            counts: 0,
+            are_in_order: true,
+        };
+        let _ = watched_run(
+            rt.alloc(),
+            b"a <=> b.",
+            b"b, a.",
+            steps,
+            9,
+            Show::All,
+            &mut counted,
+        );
+        assert!(rt; counted.are_in_order, "{steps} calls");
+        assert_eq!(rt; counted.counts, told, "{steps} calls");
     }
 }

@@ -5,8 +5,8 @@ use Rattle.chr_calls.specs.Calls.{Claims}
 use Rattle.chr_solo.specs.Solo.{SoloCall, IsSolo, IsCutShort}
 use Rattle.chr_solo.specs.SoloCode.{known_of}
 use Rattle.chr_solo.proofs.SoloRuns.{begins, goes_on, ends_full, ends_none, ends_spent, cut_short, none_of, on_err}
-use Rattle.chr_solo.proofs.solo.solo_steps.Goals as goal
-use Rattle.chr_solo.proofs.solo.solo_steps.Goals.{else-calls-most, then-calls-most+in_default, then-calls-most+in-Some+in_ok-next+in_default-2}
+use Rattle.chr_solo.proofs.solo.watched_steps.Goals as goal
+use Rattle.chr_solo.proofs.solo.watched_steps.Goals.{else-calls-most, then-calls-most+in_default, then-calls-most+in-Some+in_ok-next+in_default-2}
 
 pub loop-calls-init : goal.loop-calls-init
 loop-calls-init g c = (begins c.args.seat c.args.book.now, omega arith)

@@ -6,7 +6,7 @@ use Rattle.chr_model.specs.Programs.{Instances}
 use Rattle.chr_text.specs.Reading.{program_of}
 use Rattle.chr_check_text.specs.CheckTexts.{IsUnread, IsTold}
 use Rattle.chr_check_text.proofs.Answered.{log_unread, store_unread, is_checked}
-use Rattle.chr_check_text.proofs.checked.check_text.Goals as goal
+use Rattle.chr_check_text.proofs.checked.watched_check_text.Goals as goal
 
 pub returns-in-Err : goal.returns-in-Err
 returns-in-Err g c =

@@ -2,7 +2,7 @@ use Rattle.std.proofs.Common.{ℕ, ◌++◌, List, Err, subst, sym, ap, ◌∙�
 use Rattle.chr_book.specs.Texts.{PostsText}
 use Rattle.chr_run_text.specs.Output.{shown}
 use Rattle.chr_run_text.proofs.Made.{is_made, posts_refused}
-use Rattle.chr_run_text.proofs.running.run_text.Goals as goal
+use Rattle.chr_run_text.proofs.running.watched_run.Goals as goal
 
 pub returns-in-Err : goal.returns-in-Err
 returns-in-Err g c = c.in-Err.ensures.err c.args.posts.now
@@ -14,6 +14,6 @@ returns-in-Err-Fault g c =
 
 pub returns-in-Ok-write_shown : goal.returns-in-Ok-write_shown
 returns-in-Ok-write_shown g c =
-    is_made c.args.program.now c.args.posts.now c.args.steps c.args.labels c.args.show _ c.in-Ok.book c.post_text.new.self c.solo_steps.new.book c.in-Ok-post_text.field-0 c.in-Ok-solo_steps.solo.calls
-    c.in-Ok.ensures.ok c.in-Ok-post_text.ensures c.in-Ok-solo_steps.ensures.solo c.quiet-quiet.ensures.headline c.in-Ok-solo_steps.ensures.end
-    (c.in-Ok-write_shown.ensures ∙ ap (λ (xs : List ℕ). xs ++ shown c.args.show c.in-Ok-solo_steps.solo.end c.solo_steps.new.book) c.new-bytes.ensures.items)
+    is_made c.args.program.now c.args.posts.now c.args.steps c.args.labels c.args.show _ c.in-Ok.book c.post_text.new.self c.watched_steps.new.book c.in-Ok-post_text.field-0 c.in-Ok-watched_steps.solo.calls
+    c.in-Ok.ensures.ok c.in-Ok-post_text.ensures c.in-Ok-watched_steps.ensures.solo c.quiet-quiet.ensures.headline c.in-Ok-watched_steps.ensures.end
+    (c.in-Ok-write_shown.ensures ∙ ap (λ (xs : List ℕ). xs ++ shown c.args.show c.in-Ok-watched_steps.solo.end c.watched_steps.new.book) c.new-bytes.ensures.items)
