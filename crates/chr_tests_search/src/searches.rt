@@ -1,0 +1,199 @@
+//! Worked searches.
+ghost use Rattle.std.specs.Prelude.{IfSome};
+ghost use Rattle.chr_plan.specs.Plans.{ArePlans};
+
+use chr_plan::plans::Plans;
+use chr_rule::program::Program;
+use chr_search::judged::{Judged, Verdict, judge};
+use chr_search::search::{Ask, Search};
+use chr_store::store::Store;
+use chr_text::reading::{read_atoms, read_program};
+use chr_value::names::Names;
+use std::alloc::Global;
+
+/// A trial that is expected: its rule, its head and its labels, with the verdict.
+type Row<'a> = (u16, u8, &'a [u64], Verdict);
+
+/// A store of these atoms, from label 1 on, of which some are removed. None where memory ran out.
+pub(crate) fn store_of(
+    alloc: Global,
+    posts: &str,
+    names: &mut Names<Global>,
+    removed: &[u64],
+) -> Option<Store<Global>> {
+    let mut store = Store::new(alloc, 100);
+    for atom in read_atoms(alloc, posts.as_bytes(), names).ok()? {
+        store.insert(atom).ok()?;
+    }
+    for label in removed {
+        let _atom = store.remove(*label);
+    }
+    Some(store)
+}
+
+/// The plans of a program. None where memory ran out.
+pub(crate) fn plans_of(alloc: Global, program: &Program<Global>) -> Option<Plans<Global>>
+    ensures { IfSome result (λ plans. ArePlans program.now plans) }
+{
+    Plans::make(alloc, program).ok()
+}
+
+/// Whether a trial with its verdict is the one expected.
+fn is_row(judged: &Judged<Global>, row: &Row) -> bool {
+    let trial = judged.trial();
+    let placed = trial.placed();
+    trial.number() == row.0
+        && trial.head() == row.1
+        && placed.len() == row.2.len()
+        && placed
+            .iter()
+            .zip(row.2)
+            .all(|(one, label)| one.label == *label)
+        && judged.verdict() == row.3
+}
+
+/// The number of the first trial of a full search that isn't as expected, 0 where all are. None where memory ran out.
+fn first_other(
+    alloc: Global,
+    program: &Program<Global>,
+    plans: &Plans<Global>,
+    store: &Store<Global>,
+    label: u64,
+    rows: &[Row],
+) -> Option<usize>
+    requires { ArePlans program.now plans.now }
+{
+    let mut search = Search::begin(label);
+    let mut number: usize = 0;
+    for row in rows {
+        number = number.wrapping_add(1);
+        let Ask::Trial(trial) = search.candidate(alloc, program, plans, store).ok()? else {
+            return Some(number);
+        };
+        let judged = judge(trial);
+        if !is_row(&judged, row) {
+            return Some(number);
+        }
+        search.advance(&judged);
+    }
+    match search.find(program, plans, store) {
+        None => Some(0),
+        Some(_) => Some(number.wrapping_add(1)),
+    }
+}
+
+/// The same of a program and a store that are read from their texts.
+fn first_wrong(
+    alloc: Global,
+    program: &str,
+    posts: &str,
+    removed: &[u64],
+    label: u64,
+    rows: &[Row],
+) -> Option<usize> {
+    let mut names = Names::new(alloc);
+    let program = read_program(alloc, program.as_bytes(), &mut names).ok()?;
+    let store = store_of(alloc, posts, &mut names, removed)?;
+    let plans = plans_of(alloc, &program)?;
+    first_other(alloc, &program, &plans, &store, label, rows)
+}
+
+const GCD: &str = "gcd(0) <=> true. gcd(N) \\ gcd(M) <=> N =< M | L is M mod N, gcd(L).";
+
+#[test]
+fn one_label_has_no_partner(rt: HostRuntime) {
+    let rows = [
+        (1, 1, &[1][..], Verdict::Misfit),
+        (2, 1, &[1][..], Verdict::Part),
+        (2, 2, &[1][..], Verdict::Part),
+    ];
+    assert_eq!(rt;
+        first_wrong(rt.alloc(), GCD, "gcd(4).", &[], 1, &rows),
+        Some(0)
+    );
+}
+
+#[test]
+fn guard_decides_which_of_two_is_kept(rt: HostRuntime) {
+    let rows = [
+        (1, 1, &[2][..], Verdict::Misfit),
+        (2, 1, &[2][..], Verdict::Part),
+        (2, 1, &[2, 1][..], Verdict::Whole),
+        (2, 2, &[2][..], Verdict::Part),
+        (2, 2, &[2, 1][..], Verdict::Misfit),
+    ];
+    assert_eq!(rt;
+        first_wrong(rt.alloc(), GCD, "gcd(9), gcd(6).", &[], 2, &rows),
+        Some(0)
+    );
+}
+
+#[test]
+fn younger_labels_are_no_partners(rt: HostRuntime) {
+    let rows = [
+        (1, 1, &[1][..], Verdict::Misfit),
+        (2, 1, &[1][..], Verdict::Part),
+        (2, 2, &[1][..], Verdict::Part),
+    ];
+    assert_eq!(rt;
+        first_wrong(rt.alloc(), GCD, "gcd(9), gcd(6).", &[], 1, &rows),
+        Some(0)
+    );
+}
+
+#[test]
+fn removed_labels_are_passed_over(rt: HostRuntime) {
+    let rows = [
+        (1, 2, &[5][..], Verdict::Part),
+        (1, 2, &[5, 1][..], Verdict::Whole),
+        (1, 2, &[5, 3][..], Verdict::Whole),
+        (1, 2, &[5, 4][..], Verdict::Whole),
+    ];
+    assert_eq!(rt;
+        first_wrong(rt.alloc(), "p, q <=> r.", "p, p, p, p, q.", &[2], 5, &rows),
+        Some(0)
+    );
+}
+
+#[test]
+fn one_label_does_not_serve_two_heads(rt: HostRuntime) {
+    let rows = [
+        (1, 1, &[2][..], Verdict::Part),
+        (1, 1, &[2, 1][..], Verdict::Part),
+        (1, 1, &[2, 1, 1][..], Verdict::Misfit),
+        (1, 2, &[2][..], Verdict::Part),
+        (1, 2, &[2, 1][..], Verdict::Part),
+        (1, 2, &[2, 1, 1][..], Verdict::Misfit),
+        (1, 3, &[2][..], Verdict::Part),
+        (1, 3, &[2, 1][..], Verdict::Part),
+        (1, 3, &[2, 1, 1][..], Verdict::Misfit),
+    ];
+    assert_eq!(rt;
+        first_wrong(rt.alloc(), "p, p, p <=> q.", "p, p.", &[], 2, &rows),
+        Some(0)
+    );
+}
+
+#[test]
+fn partners_are_found_by_the_value_that_joins_them(rt: HostRuntime) {
+    let program = "edge(X,Y), edge(Y,Z), node(Z) <=> path(X,Z).";
+    let rows = [
+        (1, 3, &[4][..], Verdict::Part),
+        (1, 3, &[4, 2][..], Verdict::Part),
+        (1, 3, &[4, 2, 1][..], Verdict::Whole),
+        (1, 3, &[4, 2, 3][..], Verdict::Whole),
+    ];
+    let posts = "edge(a,b), edge(b,c), edge(c,b), node(c).";
+    assert_eq!(rt;
+        first_wrong(rt.alloc(), program, posts, &[], 4, &rows),
+        Some(0)
+    );
+}
+
+#[test]
+fn dead_label_has_no_trials(rt: HostRuntime) {
+    assert_eq!(rt;
+        first_wrong(rt.alloc(), GCD, "gcd(9), gcd(6).", &[2], 2, &[]),
+        Some(0)
+    );
+}
