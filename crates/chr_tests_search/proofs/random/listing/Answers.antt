@@ -14,4 +14,4 @@ returns c =
     let all : made ≡ c.args.store.now.entries =
     sym (append-nil made) ∙ ap (λ (rest : Store). made ++ rest) (sym (rest_all deref_pair _ _ _ c.in-None.is c.next.ensures.steps)) ∙ c.loop-label.invariant
     in
-    subst (λ (st : Store). Distinct (labels st)) (sym all) (rising_distinct c.args.store.now.entries c.iter-label-items.ensures.whole.rising)
+    subst (λ (st : Store). Distinct (labels st)) (sym all) (rising_distinct c.args.store.now.entries c.iter-label-items.ensures.labelled.rising)
