@@ -3,8 +3,10 @@
 use Rattle.std.specs.Prelude.{◌≡◌, ℕ, ◌++◌, List, Bool, true, false, Option, Some, None, Result, Ok, Err}
 use Rattle.std.specs.List.{AllByRecursion}
 use Rattle.chr_log.specs.Events.{Entry, Event, Post, Activate, Fire, Drop}
+use Rattle.chr_model.specs.Logs.{posted_by}
 use Rattle.chr_calls.specs.Calls.{TakesStray, Marks}
-use Rattle.chr_calls.specs.Books.{BookState}
+use Rattle.chr_calls.specs.Books.{BookState, events}
+use Rattle.chr_calls.specs.Headline.{Headline}
 use Rattle.chr_calls.specs.declared.answers.MarkFault.{MarkFault}
 use Rattle.chr_calls.specs.declared.answers.MarkFault.TheVariants.{NotWaiting}
 use Rattle.chr_calls.specs.declared.answers.TicketState.TheVariants.{Unknown}
@@ -42,10 +44,11 @@ IsHold Call old seat (Err fault) new after = MakesNoCall old seat fault × (new 
 abbrev pub WasHold : {X : Type 0} → (BookState → X → BookState → Type 0) → SeatState → Result X HoldFault → SeatState → Type 0
 WasHold Call seat result after = (old new : Option BookState) × IsHold Call old seat result new after
 
--- what is said is read of the book that is there, in which the seat's counts are what it has made
+-- what is said is read of the book that is there, which has the headline, and in which the seat's counts are what it has made
 pub record Reads (Says : BookState → Type 0) (old : Option BookState) (seat : SeatState) : Type 0 where
   pub book : BookState
   pub is : old ≡ Some book
+  pub headline : Headline book (posted_by (events book))
   pub counts : seat.counts ≡ counts_in book.log seat.number
   pub says : Says book
 

@@ -1,5 +1,8 @@
 //! What is under the lock.
 ghost use Rattle.std.specs.Prelude.{◌≡◌, ◌↔◌, ◌+◌, ◌-◌, ◌^◌, ◌<◌, ◌++◌, ℕ, set, [], true, false, not, length, sum_by, vec_len, OnOk, OnErr, IfOk, IfErr, IsTrue, IsSome, Some, None, Err};
+ghost use Rattle.chr_model.specs.Logs.{posted_by};
+ghost use Rattle.chr_calls.specs.Books.{events};
+ghost use Rattle.chr_calls.specs.Headline.{Headline};
 ghost use Rattle.chr_seats.specs.Accounts.{log_of, made_upto, if_so, raised};
 ghost use Rattle.chr_seats.specs.Holds.{GoesOn, HasRightCounts, IsHold, IsReading, MarksIn, TakesStrayIn};
 ghost use Rattle.chr_seats.specs.Readings.{SaysQuiet, SaysShot, SaysStore, SaysLog};
@@ -96,6 +99,13 @@ fn raise<L1: PostLedger, L2: Ledger>(
     seat.counts.posts += more_posts;
     seat.counts.others += more_others;
     counts[(seat.number - 1) as usize] = seat.counts;
+}
+
+/// A book has the headline, as the contract of a reading call says.
+fn read_headline<A: Allocator + Copy>(book: &Book<A>)
+    ensures { Headline book.now (posted_by (events book.now)) }
+{
+    let _ = book.quiet();
 }
 
 /// The lines of a book's store. An `Err` is E01.
@@ -256,7 +266,10 @@ impl<L1: PostLedger, L2: Ledger, A: Allocator + Copy> Kept<L1, L2, A> {
             return Err(HoldFault::WrongSeat);
         }
         match &self.book {
-            Some(book) => Ok(book.shot()),
+            Some(book) => {
+                read_headline(book);
+                Ok(book.shot())
+            }
             None => Err(HoldFault::NoBook),
         }
     }
@@ -273,7 +286,10 @@ impl<L1: PostLedger, L2: Ledger, A: Allocator + Copy> Kept<L1, L2, A> {
             return Err(HoldFault::WrongSeat);
         }
         match &self.book {
-            Some(book) => Ok(store_lines(alloc, book)),
+            Some(book) => {
+                read_headline(book);
+                Ok(store_lines(alloc, book))
+            }
             None => Err(HoldFault::NoBook),
         }
     }
@@ -291,7 +307,10 @@ impl<L1: PostLedger, L2: Ledger, A: Allocator + Copy> Kept<L1, L2, A> {
             return Err(HoldFault::WrongSeat);
         }
         match &self.book {
-            Some(book) => Ok(log_lines(alloc, book, from)),
+            Some(book) => {
+                read_headline(book);
+                Ok(log_lines(alloc, book, from))
+            }
             None => Err(HoldFault::NoBook),
         }
     }

@@ -7,8 +7,9 @@
 //!
 //! What is promised: each reply, and the counts of the seat after it, are those of the step relation of this desk. A reply
 //! `posted F n` raises the seat's posts by n, in a hold in which the book answered the call of this seat with this text;
-//! no other reply raises a count. `quiet`, `open`, `store` and `log` are read off a book in which the seat's entries were
-//! exactly its counts, so all that was posted by it is in it. E24 comes only to a seat that has made nothing.
+//! no other reply raises a count. `quiet`, `open`, `store` and `log` are read off a book that has the headline of
+//! `chr_calls`, and in which the seat's entries were exactly its counts, so all that was posted by it is in it. E24 comes
+//! only to a seat that has made nothing.
 #![tactic(auto)]
 
 pub mod shared_desk;
