@@ -1,6 +1,6 @@
 #!/usr/bin/env bash
 # Times `chr run` against SWI-Prolog's library(chr) on seven programs of different shape, at three sizes each, and prints a
-# table in Markdown: both times, how many times faster `chr` is, and by how much each time grows from size to size. It
+# table in Markdown: both times, how many times as fast `chr` is, and by how much each time grows from size to size. It
 # builds nothing: run it by hand, on an idle machine, once `./chr` is built. `peers.sh SHAPE..` runs these shapes alone.
 # Both run the same rules. The peer has modes declared and is optimised (`-O`, `optimize(full)`), and its time is that of
 # the goal alone, without loading or compiling. That of `chr` is of the whole process with `--show store`, less that of one
@@ -109,13 +109,14 @@ build($1, $1)
 RULES
 }
 
-# a chain of links in order, into which numbers are put one by one; the place of each is found by going through the links
+# a chain of links in order, into which numbers are put one by one; the place of each is found by going through the links.
+# The sizes are primes, so that each number comes once.
 sorted_chain() {
   cat <<RULES
 build/3 link/2 put/1
 --
 build(0, V, N) <=> true.
-build(I, V, N) <=> 0 < I | J is I - 1, W is (V + 7919) mod N, X is W + 1, put(X), build(J, W, N).
+build(I, V, N) <=> 0 < I | J is I - 1, W is (V + N * 618 // 1000) mod N, X is W + 1, put(X), build(J, W, N).
 put(X), link(A, B) <=> A < X, X < B | link(A, X), link(X, B).
 --
 link(0, 1000000), build($1, 0, $1)
@@ -130,7 +131,7 @@ sizes() {
     three_heads) echo 500 5000 50000 ;;
     equal_keys) echo 1000 10000 100000 ;;
     from_the_middle) echo 1000 3000 10000 ;;
-    sorted_chain) echo 150 500 1500 ;;
+    sorted_chain) echo 151 503 1511 ;;
   esac
 }
 
@@ -213,8 +214,9 @@ row() {
     }' "$work/rows"
 }
 
-echo "| Program | Size | chr, ms | library(chr), ms | Times faster | Growth of chr | Growth of library(chr) | Stores |"
+echo "| Program | Size | chr, ms | library(chr), ms | Times as fast | Growth of chr | Growth of library(chr) | Stores |"
 echo "|---|---|---|---|---|---|---|---|"
+# shellcheck disable=SC2068
 for shape in ${@:-chain sieve union_find three_heads equal_keys from_the_middle sorted_chain}; do
   for size in $(sizes "$shape"); do
     row "$shape" "$size"
@@ -224,6 +226,6 @@ awk '
   $4 > 0 { sum += log($4 / $3); count++ }
   $5 != "equal" { wrong++ }
   END {
-    if (count) printf "\nGeometric mean: %.1f times faster.\n", exp(sum / count)
+    if (count) printf "\nGeometric mean: %.1f times as fast.\n", exp(sum / count)
     if (wrong) { printf "Stores that are not equal: %d.\n", wrong; exit 1 }
   }' "$work/rows"
