@@ -1,0 +1,13 @@
+use Rattle.chr_crew.proofs.Crossing.{basis, Shared-sync}
+use Rattle.chr_pool.proofs.hand.Hand.TheSendSync as hand
+use Rattle.chr_seats.proofs.seat.Seat.TheSendSync as seat
+use Rattle.chr_serve.proofs.serving.fn.with_workers.scope.Goals as goal
+
+pub spawn-requires-send-F : goal.spawn-requires-send-F
+spawn-requires-send-F g c κs within =
+    let q = c.requires in
+    let r = q.0 in
+    let s = q.1 in
+    let y = q.2 in
+    let f = q.3 in
+    search (basis, Shared-sync, hand.the_send, seat.the_send) fits 5000 depth 40

@@ -1,0 +1,61 @@
+//! A session of a place.
+ghost use Rattle.std.specs.Prelude.{◌≡◌, ℕ, List, IfOk, IsErrOf};
+ghost use Rattle.chr_pool.specs.Inlets.{inlet_id};
+ghost use Rattle.chr_session.specs.Sessions.{Served, Broken};
+ghost use Rattle.chr_serve.specs.Sessions.{SharedStep};
+
+use crate::refusal::{Refusal, refuse};
+use chr_crew::rack::Place;
+use chr_seats::seat::PostLedger;
+use chr_seats::shared::Shared;
+use chr_session::commands::Ended;
+use chr_session::devices::{Sink, Source};
+use chr_session::session::{ServeFault, serve};
+use chr_session::streams::{StreamSink, StreamSource};
+use chr_shared_desk::shared_desk::SharedDesk;
+use std::alloc::Allocator;
+use std::os::unix::net::UnixStream;
+use std::sync::Wait;
+use std::sync::ledger::Ledger;
+
+/// Serves a session by the seat and the inlet of a place, and gives them back. E25 and E01 come as in
+/// [`serve`](chr_session::session::serve).
+pub fn serve_at<S: Source, W: Sink, R: Wait, L1: PostLedger, L2: Ledger, A: Allocator + Copy>(
+    rt: &R,
+    alloc: A,
+    shared: &Shared<L1, L2, A>,
+    place: Place<L1, L2>,
+    reader: &mut S,
+    writer: &mut W,
+) -> (Place<L1, L2>, Result<Ended, ServeFault>)
+    ensures served { IfOk result.1 (λ how. (input : List ℕ) → S.left reader.old input →
+        Served SharedStep (place.seat, inlet_id place.inlet) (result.0.seat, inlet_id result.0.inlet) (W.taken writer.old) (W.taken writer.new) how input) }
+    ensures broken { IsErrOf result.1 ServeFault.Device → (input : List ℕ) → S.left reader.old input →
+        Broken SharedStep (place.seat, inlet_id place.inlet) (result.0.seat, inlet_id result.0.inlet) (W.taken writer.old) (W.taken writer.new) input }
+    ensures memory { IsErrOf result.1 ServeFault.NoMemory → (reader.new ≡ reader.old) × (writer.new ≡ writer.old)
+        × (result.0.seat ≡ place.seat) × (inlet_id result.0.inlet ≡ inlet_id place.inlet) }
+{
+    let Place { seat, inlet } = place;
+    let mut desk = SharedDesk::new(rt, alloc, shared, seat, inlet);
+    let ended = serve(alloc, reader, writer, &mut desk);
+    let (seat, inlet) = desk.end();
+    (Place { seat, inlet }, ended)
+}
+
+/// Serves a connection by a place, and gives the place back. A connection whose session has no memory is told so.
+pub(crate) fn serve_stream<R: Wait, L1: PostLedger, L2: Ledger, A: Allocator + Copy>(
+    rt: &R,
+    alloc: A,
+    shared: &Shared<L1, L2, A>,
+    place: Place<L1, L2>,
+    stream: &UnixStream,
+) -> Place<L1, L2> {
+    let mut reader = StreamSource::new(stream);
+    let mut writer = StreamSink::new(stream);
+    let (place, ended) = serve_at(rt, alloc, shared, place, &mut reader, &mut writer);
+    if ended == Err(ServeFault::NoMemory) {
+        // Its client may be gone already.
+        let _ = refuse(&mut writer.inner, Refusal::NoMemory);
+    }
+    place
+}
