@@ -1,5 +1,6 @@
 //! What the words of a command line ask for.
 use chr_run_text::output::Show;
+use clap::builder::ValueParser;
 use clap::error::ErrorKind;
 use clap::{Arg, ArgAction, ArgMatches, Command, Error, value_parser};
 use std::alloc::{AllocError, Global};
@@ -13,6 +14,12 @@ pub const STANDARD_INPUT: &str = "-";
 
 /// The range of the number of calls and of the greatest label, as errors and the help name it.
 const RANGE: &str = "0..4294967295";
+
+/// The range of the number of workers.
+const WORKERS: &str = "1..16";
+
+/// The range of the number of connections.
+const SESSIONS: &str = "1..1000000";
 
 /// What `--show` may ask for.
 const SHOWN: [&str; 4] = ["all", "store", "log", "strict"];
@@ -48,6 +55,15 @@ pub enum Request<'a> {
         /// The greatest label that may be given.
         labels: u32,
     },
+    /// `chr serve --socket PATH --workers W [--sessions M]`
+    Serve {
+        /// The path of the socket, which isn't empty.
+        socket: &'a str,
+        /// How many workers there are, from 1 to 16.
+        workers: u32,
+        /// After how many connections the server ends, from 1 to 1,000,000. None where it isn't meant to end.
+        sessions: Option<u32>,
+    },
 }
 
 /// Returns an argument that must be given.
@@ -58,16 +74,33 @@ fn required<'a>(alloc: Global, name: &'a str, help: &'a str) -> Arg<'a> {
         .help(help)
 }
 
-/// Returns an option whose value is a number of 32 bits without sign.
-fn number<'a>(alloc: Global, name: &'a str, default: &'a str, help: &'a str) -> Arg<'a> {
+/// Returns an option whose value is a number. `range` is what errors and the help call the numbers that `parser` takes.
+fn number<'a>(
+    alloc: Global,
+    name: &'a str,
+    range: &'a str,
+    parser: ValueParser<'a>,
+    help: &'a str,
+) -> Arg<'a> {
     Arg::new(alloc, name)
         .long(name)
-        .value_name(RANGE)
-        .value_parser(value_parser!(u32))
+        .value_name(range)
+        .value_parser(parser)
         .allow_negative_numbers(true)
-        .default_value(default)
         .action(ArgAction::Set)
         .help(help)
+}
+
+/// Returns the option `--steps`.
+fn steps<'a>(alloc: Global) -> Arg<'a> {
+    number(
+        alloc,
+        "steps",
+        RANGE,
+        value_parser!(u32),
+        "How many calls are made at most",
+    )
+    .default_value("1000000")
 }
 
 /// Returns the option `--labels`.
@@ -75,8 +108,44 @@ fn labels<'a>(alloc: Global) -> Arg<'a> {
     number(
         alloc,
         "labels",
-        "4294967295",
+        RANGE,
+        value_parser!(u32),
         "The greatest label that may be given",
+    )
+    .default_value("4294967295")
+}
+
+/// Returns the option `--socket`.
+fn socket<'a>(alloc: Global) -> Arg<'a> {
+    Arg::new(alloc, "socket")
+        .long("socket")
+        .value_name("PATH")
+        .value_parser(ValueParser::NonEmptyString)
+        .required(true)
+        .action(ArgAction::Set)
+        .help("Where the socket is made: a path at which there is no file")
+}
+
+/// Returns the option `--workers`.
+fn workers<'a>(alloc: Global) -> Arg<'a> {
+    number(
+        alloc,
+        "workers",
+        WORKERS,
+        value_parser!(u32).range(1..=16),
+        "How many workers run the rules",
+    )
+    .required(true)
+}
+
+/// Returns the option `--sessions`.
+fn sessions<'a>(alloc: Global) -> Arg<'a> {
+    number(
+        alloc,
+        "sessions",
+        SESSIONS,
+        value_parser!(u32).range(1..=1_000_000),
+        "After how many connections the server ends; without it, it serves until it is stopped",
     )
 }
 
@@ -91,7 +160,7 @@ fn run_command<'a>(alloc: Global) -> Result<Command<'a>, AllocError> {
             "POSTS",
             "The constraints to post; `-` is standard input",
         ))?
-        .arg(number(alloc, "steps", "1000000", "How many calls are made at most"))?
+        .arg(steps(alloc))?
         .arg(labels(alloc))?
         .arg(
             Arg::new(alloc, "show")
@@ -117,6 +186,20 @@ fn session_command<'a>(alloc: Global) -> Result<Command<'a>, AllocError> {
             "Lines of input:\n  load N      The rules are the N bytes after this line\n  post TEXT   Posts the constraints of the text\n  wait K      Makes at most K calls, and tells whether a goal is open\n  store       Shows the store\n  log F       Shows the log from entry F on\n  quit        Ends the session\n\nExample:\n  printf 'load 9\\na <=> b.\\npost a.\\nwait 1000\\nstore\\nquit\\n' | chr session",
         )
         .arg(labels(alloc))
+}
+
+/// Returns the command `serve` with its arguments.
+fn serve_command<'a>(alloc: Global) -> Result<Command<'a>, AllocError> {
+    Command::new(alloc, "serve")
+        .about(
+            "Serves up to sixteen sessions at once over a Unix socket, on one book that workers run",
+        )
+        .after_help(
+            "A client sends the commands of `chr session` and reads its replies.\n\nExample:\n  chr serve --socket chr.sock --workers 4",
+        )
+        .arg(socket(alloc))?
+        .arg(workers(alloc))?
+        .arg(sessions(alloc))
 }
 
 /// Returns the commands of the program with their arguments.
@@ -149,7 +232,8 @@ fn command<'a>(alloc: Global) -> Result<Command<'a>, AllocError> {
         .subcommand_required(true)
         .subcommand(run)?
         .subcommand(check)?
-        .subcommand(session_command(alloc)?)
+        .subcommand(session_command(alloc)?)?
+        .subcommand(serve_command(alloc)?)
 }
 
 /// What a value of `--show` asks for.
@@ -172,25 +256,44 @@ fn run_options(run: &ArgMatches) -> Option<RunOptions> {
     })
 }
 
-/// Whether more than one of the paths is standard input.
-fn shares_input(paths: &[&str]) -> bool {
-    let inputs = paths.iter().filter(|path| **path == STANDARD_INPUT);
-    1 < inputs.count()
+/// Returns what the arguments of the command of this name ask for.
+fn asked<'a>(name: &str, given: &ArgMatches<'a>) -> Option<Request<'a>> {
+    match name {
+        "run" => Some(Request::Run {
+            file: given.get_str("FILE")?,
+            posts: given.get_str("POSTS")?,
+            options: run_options(given)?,
+        }),
+        "check" => Some(Request::Check {
+            file: given.get_str("FILE")?,
+            log: given.get_str("LOG")?,
+            store: given.get_str("STORE")?,
+        }),
+        "session" => Some(Request::Session {
+            labels: given.get_one("labels")?,
+        }),
+        "serve" => Some(Request::Serve {
+            socket: given.get_str("socket")?,
+            workers: given.get_one("workers")?,
+            sessions: given.get_one("sessions"),
+        }),
+        _ => None,
+    }
 }
 
-/// Returns what a command line asks for. An `Err` is the error of a line on which more than one file is standard input.
-fn taken<'a>(
-    command: &mut Command<'a>,
-    paths: &[&str],
-    request: Request<'a>,
-) -> Result<Request<'a>, Error> {
-    if shares_input(paths) {
-        return Err(command.error(
-            ErrorKind::ArgumentConflict,
-            "`-`, standard input, can stand for one file only",
-        )?);
+/// How many of the paths are standard input.
+fn inputs(paths: &[&str]) -> usize {
+    let inputs = paths.iter().filter(|path| **path == STANDARD_INPUT);
+    inputs.count()
+}
+
+/// Whether more than one file of a request is standard input.
+fn shares_input(request: &Request<'_>) -> bool {
+    match *request {
+        Request::Run { file, posts, .. } => 1 < inputs(&[file, posts]),
+        Request::Check { file, log, store } => 1 < inputs(&[file, log, store]),
+        Request::Session { .. } | Request::Serve { .. } => false,
     }
-    Ok(request)
 }
 
 /// Reads the words of a command line, the program's own name first.
@@ -199,36 +302,19 @@ fn taken<'a>(
 pub fn read<'a, S: AsStr>(alloc: Global, words: &'a [S]) -> Result<Request<'a>, Error> {
     let mut command = command(alloc)?;
     let matches = command.try_get_matches_from_mut(words)?;
-    if let Some(("run", run)) = matches.subcommand() {
-        if let (Some(file), Some(posts), Some(options)) = (
-            run.get_str("FILE"),
-            run.get_str("POSTS"),
-            run_options(run),
-        ) {
-            let request = Request::Run {
-                file,
-                posts,
-                options,
-            };
-            return taken(&mut command, &[file, posts], request);
-        }
+    let Some((name, given)) = matches.subcommand() else {
+        return Err(command.error(ErrorKind::MissingSubcommand, "a command is missing")?);
+    };
+    let Some(request) = asked(name, given) else {
+        return Err(command.error(ErrorKind::InvalidSubcommand, "there is no such command")?);
+    };
+    if shares_input(&request) {
+        return Err(command.error(
+            ErrorKind::ArgumentConflict,
+            "`-`, standard input, can stand for one file only",
+        )?);
     }
-    if let Some(("check", check)) = matches.subcommand() {
-        if let (Some(file), Some(log), Some(store)) = (
-            check.get_str("FILE"),
-            check.get_str("LOG"),
-            check.get_str("STORE"),
-        ) {
-            let request = Request::Check { file, log, store };
-            return taken(&mut command, &[file, log, store], request);
-        }
-    }
-    if let Some(("session", session)) = matches.subcommand() {
-        if let Some(labels) = session.get_one("labels") {
-            return Ok(Request::Session { labels });
-        }
-    }
-    Err(command.error(ErrorKind::MissingSubcommand, "a command is missing")?)
+    Ok(request)
 }
 
 #[cfg(test)]
@@ -364,6 +450,54 @@ mod tests {
     }
 
     #[test]
+    fn servers(rt: HostRuntime) {
+        let rows: [(&[&str], u32, Option<u32>); 4] = [
+            (
+                &["chr", "serve", "--socket", "path", "--workers", "1"],
+                1,
+                None,
+            ),
+            (&["chr", "serve", "--workers=16", "--socket=path"], 16, None),
+            (
+                &[
+                    "chr",
+                    "serve",
+                    "--socket",
+                    "path",
+                    "--workers",
+                    "4",
+                    "--sessions",
+                    "1",
+                ],
+                4,
+                Some(1),
+            ),
+            (
+                &[
+                    "chr",
+                    "serve",
+                    "--sessions=1000000",
+                    "--workers=4",
+                    "--socket=path",
+                ],
+                4,
+                Some(1_000_000),
+            ),
+        ];
+        for (i, (words, workers, sessions)) in rows.iter().enumerate() {
+            let wanted = Request::Serve {
+                socket: "path",
+                workers: *workers,
+                sessions: *sessions,
+            };
+            match read(rt.alloc(), words) {
+                Ok(request) => assert!(rt; request == wanted, "words {i}"),
+                Err(_) => assert!(rt; false, "words {i}"),
+            }
+        }
+    }
+
+    #[test]
     fn standard_input(rt: HostRuntime) {
         let rows: [(&[&str], Request); 3] = [
             (
@@ -400,7 +534,7 @@ mod tests {
     }
 
     /// Words that ask for help or the version, and how the text that is printed begins and ends.
-    const PRINTED: [(&[&str], &str, &str); 5] = [
+    const PRINTED: [(&[&str], &str, &str); 6] = [
         (&["chr", "--version"], "chr 0.1.0\n", "chr 0.1.0\n"),
         (
             &["chr", "--help"],
@@ -422,6 +556,11 @@ mod tests {
             "Reads commands from standard input, ",
             "\n\nExample:\n  printf 'load 9\\na <=> b.\\npost a.\\nwait 1000\\nstore\\nquit\\n' | chr session\n",
         ),
+        (
+            &["chr", "serve", "--help"],
+            "Serves up to sixteen sessions at once ",
+            "\n\nExample:\n  chr serve --socket chr.sock --workers 4\n",
+        ),
     ];
 
     #[test]
@@ -441,7 +580,7 @@ mod tests {
 
     #[test]
     fn other_words(rt: HostRuntime) {
-        let table: [(&[&str], ErrorKind, i32); 17] = [
+        let table: [(&[&str], ErrorKind, i32); 22] = [
             (&["chr"], ErrorKind::MissingSubcommand, 2),
             (&["chr", "--version"], ErrorKind::DisplayVersion, 0),
             (&["chr", "-V"], ErrorKind::DisplayVersion, 0),
@@ -487,6 +626,23 @@ mod tests {
                 2,
             ),
             (&["chr", "session", "--help"], ErrorKind::DisplayHelp, 0),
+            (&["chr", "serve"], ErrorKind::MissingRequiredArgument, 2),
+            (
+                &["chr", "serve", "--socket", "path"],
+                ErrorKind::MissingRequiredArgument,
+                2,
+            ),
+            (
+                &["chr", "serve", "--workers", "4"],
+                ErrorKind::MissingRequiredArgument,
+                2,
+            ),
+            (
+                &["chr", "serve", "--socket", "path", "--workers", "4", "more"],
+                ErrorKind::UnknownArgument,
+                2,
+            ),
+            (&["chr", "serve", "--help"], ErrorKind::DisplayHelp, 0),
         ];
         for (words, kind, code) in &table {
             match read(rt.alloc(), words) {
@@ -499,8 +655,8 @@ mod tests {
         }
     }
 
-    /// Words of a run or a session whose options are refused, and how the text of the error begins.
-    const REFUSED: [(&[&str], ErrorKind, &str); 12] = [
+    /// Words whose options are refused, and how the text of the error begins.
+    const REFUSED: [(&[&str], ErrorKind, &str); 21] = [
         (
             &["chr", "run", "rules", "posts", "--steps", "4294967296"],
             ErrorKind::ValueValidation,
@@ -579,6 +735,78 @@ mod tests {
             &["chr", "session", "--labels", "1", "--labels", "2"],
             ErrorKind::ArgumentConflict,
             "error: the argument '--labels <0..4294967295>' cannot be used multiple times\n",
+        ),
+        (
+            &["chr", "serve", "--socket", "path", "--workers", "0"],
+            ErrorKind::ValueValidation,
+            "error: invalid value '0' for '--workers <1..16>': 0 is not in 1..=16\n",
+        ),
+        (
+            &["chr", "serve", "--socket", "path", "--workers", "17"],
+            ErrorKind::ValueValidation,
+            "error: invalid value '17' for '--workers <1..16>': 17 is not in 1..=16\n",
+        ),
+        (
+            &["chr", "serve", "--socket", "path", "--workers", "-1"],
+            ErrorKind::ValueValidation,
+            "error: invalid value '-1' for '--workers <1..16>': -1 is not in 1..=16\n",
+        ),
+        (
+            &["chr", "serve", "--socket", "path", "--workers", "4x"],
+            ErrorKind::ValueValidation,
+            "error: invalid value '4x' for '--workers <1..16>': invalid digit found in string\n",
+        ),
+        (
+            &[
+                "chr",
+                "serve",
+                "--socket",
+                "path",
+                "--workers",
+                "4",
+                "--sessions",
+                "0",
+            ],
+            ErrorKind::ValueValidation,
+            "error: invalid value '0' for '--sessions <1..1000000>': 0 is not in 1..=1000000\n",
+        ),
+        (
+            &[
+                "chr",
+                "serve",
+                "--socket",
+                "path",
+                "--workers",
+                "4",
+                "--sessions",
+                "1000001",
+            ],
+            ErrorKind::ValueValidation,
+            "error: invalid value '1000001' for '--sessions <1..1000000>': 1000001 is not in 1..=1000000\n",
+        ),
+        (
+            &["chr", "serve", "--socket", "", "--workers", "4"],
+            ErrorKind::InvalidValue,
+            "error: a value is required for '--socket <PATH>' but none was supplied\n",
+        ),
+        (
+            &[
+                "chr",
+                "serve",
+                "--socket",
+                "path",
+                "--workers",
+                "4",
+                "--workers",
+                "4",
+            ],
+            ErrorKind::ArgumentConflict,
+            "error: the argument '--workers <1..16>' cannot be used multiple times\n",
+        ),
+        (
+            &["chr", "serve", "--workers", "4"],
+            ErrorKind::MissingRequiredArgument,
+            "error: the following required arguments were not provided:\n  --socket <PATH>\n",
         ),
     ];
 

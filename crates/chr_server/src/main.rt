@@ -6,10 +6,11 @@
 //! `chr check FILE LOG STORE` prints whether LOG is the log of a run of the rules of FILE that ends in STORE. One of the
 //! files may be `-`, which is standard input.
 //! `chr session` reads commands from standard input, and writes each reply to standard output before it reads the next.
-//! The exit status is 0 where no goal is open at the end of the run, the log is one of a run, or the session has ended
-//! between commands, 1 for a fault in a text, a log that is refused, or a session whose input is cut, 2 for a wrong
-//! command line or a file that can't be read or written, 3 where goals are open at the end of the run, and 5 where memory
-//! is refused.
+//! `chr serve` serves such sessions over a Unix socket, up to sixteen at once, on one book that workers run.
+//! The exit status is 0 where no goal is open at the end of the run, the log is one of a run, the session has ended between
+//! commands, or the connections asked for have been served, 1 for a fault in a text, a log that is refused, or a session
+//! whose input is cut, 2 for a wrong command line or a file or socket that can't be read, written or made, 3 where goals
+//! are open at the end of the run, and 5 where memory is refused.
 #![tactic(auto)]
 
 mod check;
@@ -19,6 +20,7 @@ mod progress;
 mod refused;
 mod report;
 mod run;
+mod serve;
 mod session;
 
 use chr_command_line::reading::{Request, read};
@@ -70,6 +72,13 @@ fn main(rt: HostRuntime) -> ExitCode {
         ) => run::run(&rt, detail, file, posts, options),
         Ok(Request::Check { file, log, store }) => check::check(&rt, detail, file, log, store),
         Ok(Request::Session { labels }) => session::session(&rt, detail, labels),
+        Ok(
+            Request::Serve {
+                socket,
+                workers,
+                sessions,
+            },
+        ) => serve::serve(&rt, detail, socket, workers, sessions),
         Err(error) => print_usage(&rt, detail, &error),
     };
     status.code()

@@ -7,12 +7,12 @@ use std::process::ExitCode;
 /// How the program ends.
 #[derive(Clone, Copy, Debug, PartialEq, Eq)]
 pub enum Status {
-    /// No goal is open at the end of the run, the log is a run, the session has ended between commands, or help was asked
-    /// for.
+    /// No goal is open at the end of the run, the log is a run, the session has ended between commands, all connections
+    /// have been served, or help was asked for.
     Done,
     /// A text has a fault, the log is no run that ends in the store, or the input of the session is cut.
     Fault,
-    /// The command line is wrong, or a file, standard input or standard output failed.
+    /// The command line is wrong, or a file, a socket, standard input or standard output failed.
     Usage,
     /// Goals are open at the end of the run.
     Open,

@@ -18,7 +18,10 @@ where
 {
     let mut names = Vec::new(rt.alloc());
     for entry in fs::read_dir(rt, "examples")? {
-        names.push(String::from_str(rt.alloc(), entry?.file_name())?)?;
+        let entry = entry?;
+        if entry.file_type()?.is_dir() {
+            names.push(String::from_str(rt.alloc(), entry.file_name())?)?;
+        }
     }
     names.sort_unstable();
     Ok(names)

@@ -5,11 +5,12 @@ use std::rt::Files;
 use std::{fs, io};
 
 /// The command lines that print the help.
-const LINES: [&[&str]; 4] = [
+const LINES: [&[&str]; 5] = [
     &["chr", "--help"],
     &["chr", "run", "--help"],
     &["chr", "check", "--help"],
     &["chr", "session", "--help"],
+    &["chr", "serve", "--help"],
 ];
 
 /// All the help, text after text.

@@ -3,7 +3,7 @@ _chr() {
   local word=${COMP_WORDS[COMP_CWORD]} before=${COMP_WORDS[COMP_CWORD-1]}
   COMPREPLY=()
   if [ "$COMP_CWORD" -eq 1 ]; then
-    COMPREPLY=($(compgen -W "run check session help --help --version" -- "$word"))
+    COMPREPLY=($(compgen -W "run check session serve help --help --version" -- "$word"))
     return
   fi
   case $before in
@@ -11,14 +11,20 @@ _chr() {
       COMPREPLY=($(compgen -W "all store log strict" -- "$word"))
       return
       ;;
-    --steps | --labels) return ;;
+    --socket)
+      compopt -o filenames 2>/dev/null
+      COMPREPLY=($(compgen -f -- "$word"))
+      return
+      ;;
+    --steps | --labels | --workers | --sessions) return ;;
   esac
   case ${COMP_WORDS[1]}:$word in
     run:-*) COMPREPLY=($(compgen -W "--steps --labels --show --help" -- "$word")) ;;
     check:-*) COMPREPLY=($(compgen -W "--help" -- "$word")) ;;
     session:*) COMPREPLY=($(compgen -W "--labels --help" -- "$word")) ;;
+    serve:*) COMPREPLY=($(compgen -W "--socket --workers --sessions --help" -- "$word")) ;;
     run:* | check:*) compopt -o filenames 2>/dev/null; COMPREPLY=($(compgen -f -- "$word")) ;;
-    help:*) COMPREPLY=($(compgen -W "run check session" -- "$word")) ;;
+    help:*) COMPREPLY=($(compgen -W "run check session serve" -- "$word")) ;;
   esac
 }
 complete -F _chr chr
