@@ -15,8 +15,8 @@
 //! another, is tested.
 #![tactic(auto)]
 
+mod connections;
 pub mod listener;
-mod lobby;
 pub mod refusal;
 pub mod serving;
 pub mod session;

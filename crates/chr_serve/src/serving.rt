@@ -2,8 +2,8 @@
 ghost use Rattle.std.specs.Prelude.{◌≡◌, ◌≤◌, false};
 ghost use denote.Param.Send.{IsSend, IsSync, Frees};
 
+use crate::connections::{Connection, Connections};
 use crate::listener::Listener;
-use crate::lobby::{Caller, Lobby};
 use crate::refusal::{Refusal, refuse};
 use crate::session::serve_stream;
 use chr_crew::gate::{Open, Stop};
@@ -41,7 +41,7 @@ struct Parts<L1: PostLedger, L2: Ledger, A: Allocator> {
     shared: Shared<L1, L2, A>,
     seats: Vec<Seat<L1, L2>, A>,
     hands: Vec<Hand<u64>>,
-    lobby: Lobby<L1, L2, A>,
+    connections: Connections<L1, L2, A>,
 }
 
 /// Makes the parts of a server with so many workers. An `Err` is E01.
@@ -59,12 +59,12 @@ fn make_parts<L1: PostLedger, L2: Ledger, A: Allocator + Copy>(
 {
     let (shared, seats) = Shared::empty(alloc, posts, others)?;
     let (hands, inlets) = make(pool, workers, SESSIONS, CAPACITY)?;
-    let lobby = Lobby::new(alloc, seats.sessions, inlets)?;
+    let connections = Connections::new(alloc, seats.sessions, inlets)?;
     Ok(Parts {
         shared,
         seats: seats.workers,
         hands,
-        lobby,
+        connections,
     })
 }
 
@@ -80,20 +80,20 @@ fn work_by<L1: PostLedger, L2: Ledger, A: Allocator + Copy, R: Wait>(
     work(rt, shared, &mut hand, &mut seat, &Open, Stop::Closed);
 }
 
-/// What the thread of a session runs: it serves one connection after another until the lobby is closed.
-fn serve_callers<L1: PostLedger, L2: Ledger, A: Allocator + Copy, R: Wait>(
+/// What the thread of a session runs: it serves one connection after another until they are closed.
+fn serve_connections<L1: PostLedger, L2: Ledger, A: Allocator + Copy, R: Wait>(
     rt: &R,
     alloc: A,
     shared: &Shared<L1, L2, A>,
-    lobby: &Lobby<L1, L2, A>,
+    connections: &Connections<L1, L2, A>,
 ) {
     for _ in rt.forever() {
-        let Some((key, caller)) = lobby.next(rt) else {
+        let Some((key, connection)) = connections.next(rt) else {
             return;
         };
-        let Caller { stream, place } = caller;
+        let Connection { stream, place } = connection;
         let place = serve_stream(rt, alloc, shared, place, &stream);
-        lobby.leave(rt, key, Caller { stream, place });
+        connections.leave(rt, key, Connection { stream, place });
     }
 }
 
@@ -105,10 +105,10 @@ fn is_passing(kind: ErrorKind) -> bool {
 /// Has a connection served, or tells it that there is no seat.
 fn receive<L1: PostLedger, L2: Ledger, A: Allocator + Copy, R: Wait>(
     rt: &R,
-    lobby: &Lobby<L1, L2, A>,
+    connections: &Connections<L1, L2, A>,
     stream: UnixStream,
 ) {
-    if let Err(stream) = lobby.admit(rt, stream) {
+    if let Err(stream) = connections.admit(rt, stream) {
         // Its client may be gone already.
         let _ = refuse(&mut &stream, Refusal::NoSeat);
     }
@@ -118,7 +118,7 @@ fn receive<L1: PostLedger, L2: Ledger, A: Allocator + Copy, R: Wait>(
 /// may free what was missing.
 fn take_all<L1: PostLedger, L2: Ledger, A: Allocator + Copy, R: Wait, C: Listener>(
     rt: &R,
-    lobby: &Lobby<L1, L2, A>,
+    connections: &Connections<L1, L2, A>,
     listener: &C,
     sessions: Option<u32>,
 ) -> Result<(), ServerFault> {
@@ -130,11 +130,11 @@ fn take_all<L1: PostLedger, L2: Ledger, A: Allocator + Copy, R: Wait, C: Listene
         }
         match listener.next_connection() {
             Ok(stream) => {
-                receive(rt, lobby, stream);
+                receive(rt, connections, stream);
                 left = left.map(|left| left.saturating_sub(1));
             }
             Err(error) if is_passing(error.kind()) => {}
-            Err(error) => match lobby.wait_for_end(rt, seen) {
+            Err(error) => match connections.wait_for_end(rt, seen) {
                 Some(ended) => seen = ended,
                 None => return Err(ServerFault::Listener(error)),
             },
@@ -154,7 +154,7 @@ fn with_sessions<
     rt: &R,
     alloc: A,
     shared: &Shared<L1, L2, A>,
-    lobby: &Lobby<L1, L2, A>,
+    connections: &Connections<L1, L2, A>,
     listener: &C,
     sessions: Option<u32>,
 ) -> Result<(), ServerFault> {
@@ -167,20 +167,20 @@ fn with_sessions<
             let mut has_thread = false;
             for _ in 0..SESSIONS {
                 if scope
-                    .spawn(move || serve_callers(rt, alloc, shared, lobby))
+                    .spawn(move || serve_connections(rt, alloc, shared, connections))
                     .is_ok()
                 {
                     has_thread = true;
                 } else {
-                    lobby.withhold(rt);
+                    connections.withhold(rt);
                 }
             }
             let taken = if has_thread {
-                take_all(rt, lobby, listener, sessions)
+                take_all(rt, connections, listener, sessions)
             } else {
                 Err(ServerFault::NoMemory)
             };
-            lobby.close(rt);
+            connections.close(rt);
             taken
         },
     )
@@ -197,7 +197,7 @@ fn with_workers<
     rt: &R,
     alloc: A,
     shared: &Shared<L1, L2, A>,
-    lobby: &Lobby<L1, L2, A>,
+    connections: &Connections<L1, L2, A>,
     hands: Vec<Hand<u64>>,
     seats: Vec<Seat<L1, L2>, A>,
     listener: &C,
@@ -217,7 +217,7 @@ fn with_workers<
                 }
             }
             let taken = if has_worker {
-                with_sessions(rt, alloc, shared, lobby, listener, sessions)
+                with_sessions(rt, alloc, shared, connections, listener, sessions)
             } else {
                 Err(ServerFault::NoMemory)
             };
@@ -256,9 +256,18 @@ fn serve_by<
         shared,
         seats,
         hands,
-        lobby,
+        connections,
     } = parts;
-    with_workers(rt, alloc, &shared, &lobby, hands, seats, listener, sessions)
+    with_workers(
+        rt,
+        alloc,
+        &shared,
+        &connections,
+        hands,
+        seats,
+        listener,
+        sessions,
+    )
 }
 
 /// Serves sessions on one book, which isn't there until a session loads it. The calling thread takes the connections of
