@@ -1,0 +1,124 @@
+//! Books for crews, runs on them, and the check of what they leave.
+ghost use Rattle.std.specs.Prelude.{◌≤◌};
+
+use chr_book::book::Book;
+use chr_calls::answers::TicketState;
+use chr_check::checking::{Verdict, check};
+use chr_crew::crew::{CrewFault, Finished, run_crew};
+use chr_crew::gate::Gate;
+use chr_log::events::Version;
+use chr_text::reading::read_program;
+use chr_value::names::Names;
+use std::alloc::{AllocError, Allocator, Global};
+use std::marker::Brand;
+use std::sync::Wait;
+use std::sync::ledger::Blank;
+use std::thread::Threads;
+
+pub const GCD: &str =
+    "gcd(0) <=> true.\ngcd(N) \\ gcd(M) <=> 0 < N, N =< M | L is M mod N, gcd(L).\n";
+
+/// More turns than any run of the tests takes.
+pub const MANY: u64 = 10_000_000;
+
+/// The seat of the posts, which is no worker's.
+pub const POSTER: u32 = 17;
+
+/// The greatest label of a book whose labels aren't spent.
+pub const LABELS: u64 = 4_294_967_295;
+
+/// A book of a program, with labels up to a limit, after a text of posts. None where one of them can't be read, or where
+/// memory ran out.
+pub fn open_up_to<A: Allocator + Copy>(
+    alloc: A,
+    program: &str,
+    limit: u64,
+    posts: &str,
+) -> Option<Book<A>>
+    requires { limit ≤ 4294967295 }
+{
+    let mut names = Names::new(alloc);
+    let program = read_program(alloc, program.as_bytes(), &mut names).ok()?;
+    let mut book = Book::new(alloc, program, names, limit).ok()?;
+    book.post_text(POSTER, posts.as_bytes()).ok()?;
+    Some(book)
+}
+
+/// The same with all labels.
+pub fn open<A: Allocator + Copy>(alloc: A, program: &str, posts: &str) -> Option<Book<A>> {
+    open_up_to(alloc, program, LABELS, posts)
+}
+
+/// The posts `gcd(12)`, `gcd(24)` and so on, as many as are asked for.
+pub fn multiples(alloc: Global, count: u64) -> Result<String<Global>, AllocError> {
+    let mut text = String::new(alloc);
+    for k in 0..count {
+        let number = k.wrapping_add(1).wrapping_mul(12);
+        let post = format!(in alloc; "gcd({number}).\n")?;
+        text.push_str(post.as_str())?;
+    }
+    Ok(text)
+}
+
+/// A run of a crew.
+pub fn run<A: Allocator + Copy + Send + Sync, R: Threads + Wait + Sync, G: Gate + Sync>(
+    rt: &R,
+    alloc: A,
+    pool: Global,
+    book: Book<A>,
+    n: usize,
+    gate: &G,
+    turns: u64,
+) -> Result<Finished<A>, CrewFault<A>>
+    requires { (1 ≤ n) × (n ≤ 16) }
+{
+    run_crew::<Brand, Brand, A, R, G>(
+        rt,
+        alloc,
+        pool,
+        book,
+        n,
+        gate,
+        turns,
+        Blank::new(32),
+        Blank::new(32),
+    )
+}
+
+/// What the check answers of a book's log and store. None where it refuses them, or where memory ran out.
+pub fn verdict<A: Allocator + Copy>(alloc: A, book: &Book<A>) -> Option<Verdict> {
+    let mut events = Vec::new(alloc);
+    for entry in book.log() {
+        events.push(entry.event.copy(alloc).ok()?).ok()?;
+    }
+    let mut store = Vec::new(alloc);
+    for (label, atom) in book.store().iter() {
+        store.push((*label, atom.copy(alloc).ok()?)).ok()?;
+    }
+    check(alloc, book.program(), Version::Two, &events, &store).ok()
+}
+
+/// Whether the store has the one constraint of this text.
+pub fn has_only<A: Allocator + Copy>(alloc: A, book: &Book<A>, atom: &str) -> bool {
+    let mut bytes = Vec::new(alloc);
+    if book.store().len() != 1 || book.store_lines(&mut bytes).is_err() {
+        return false;
+    }
+    let Some(line) = bytes.strip_suffix(b"\n") else {
+        return false;
+    };
+    line.ends_with(atom.as_bytes())
+}
+
+/// How many tickets a book has given, and how many of them a seat holds.
+pub fn tickets<A: Allocator + Copy>(book: &Book<A>) -> (u64, u64) {
+    let mut held = 0u64;
+    for ticket in 1..u64::MAX {
+        match book.state(ticket) {
+            TicketState::Unknown => return (ticket.wrapping_sub(1), held),
+            TicketState::Held(_) => held = held.wrapping_add(1),
+            TicketState::Waiting | TicketState::Resting | TicketState::Ended => {}
+        }
+    }
+    (u64::MAX, held)
+}
