@@ -1,0 +1,167 @@
+//! Servers in a process of their clients.
+ghost use Rattle.std.specs.Prelude.{◌≤◌};
+
+use chr_check::checking::Verdict;
+use chr_check_text::checked::check_text;
+use chr_serve::serving::serve_on;
+use std::alloc::{AllocError, AllocGlobal, Global};
+use std::fs::Files;
+use std::io::{self, BufRead, BufReader, Write};
+use std::net::Net;
+use std::os::unix::net::{SocketAddr, UnixListener, UnixStream};
+use std::sync::Wait;
+use std::thread::Threads;
+
+/// Two rules, of 75 bytes.
+pub const GCD: &str =
+    "gcd(0) <=> true.\ngcd(N) \\ gcd(M) <=> 0 < N, N =< M | L is M mod N, gcd(L).\n";
+
+/// The command that loads them.
+pub const LOAD: &str =
+    "load 75\ngcd(0) <=> true.\ngcd(N) \\ gcd(M) <=> 0 < N, N =< M | L is M mod N, gcd(L).\n";
+
+/// A listener at an address that the system picks, and this address.
+pub fn listen<R: Files + Net>(rt: &R) -> io::Result<(UnixListener, SocketAddr)> {
+    let listener = UnixListener::bind(rt, "")?;
+    let address = listener.local_addr()?;
+    Ok((listener, address))
+}
+
+/// Whether a server takes so many connections, and ends without a fault.
+pub fn serves<R: Threads + Wait + Sync + AllocGlobal>(
+    rt: &R,
+    listener: &UnixListener,
+    workers: usize,
+    sessions: u32,
+) -> bool
+    requires { (1 ≤ workers) × (workers ≤ 16) }
+{
+    serve_on(
+        rt,
+        rt.alloc(),
+        rt.alloc(),
+        listener,
+        workers,
+        Some(sessions),
+    )
+    .is_ok()
+}
+
+/// How many lines follow the first line of a reply.
+fn lines_after(first: &str) -> usize {
+    let count = first
+        .strip_prefix("store ")
+        .or_else(|| first.strip_prefix("log "));
+    match count {
+        Some(count) => count.trim().parse::<usize>().unwrap_or(0),
+        None => 0,
+    }
+}
+
+/// Whether the replies to a post of two numbers and to `log 1` name tickets under which the log has them.
+pub fn has_posts(alloc: Global, told: &str, one: u64, other: u64) -> Result<bool, AllocError> {
+    let Some((posted, log)) = told.split_once('\n') else {
+        return Ok(false);
+    };
+    let Some(first) = posted
+        .strip_prefix("posted ")
+        .and_then(|rest| rest.strip_suffix(" 2"))
+    else {
+        return Ok(false);
+    };
+    let next = first.parse::<u64>().unwrap_or(0).wrapping_add(1);
+    let entry = format!(in alloc; "P {first} gcd({one})")?;
+    let next_entry = format!(in alloc; "P {next} gcd({other})")?;
+    Ok(
+        log.lines().any(|line| line == entry.as_str())
+            && log.lines().any(|line| line == next_entry.as_str()),
+    )
+}
+
+/// A client of a server.
+#[derive(Drop)]
+pub struct Client {
+    alloc: Global,
+    reader: BufReader<UnixStream, Global>,
+}
+
+impl Client {
+    /// A client over a connection.
+    pub fn over(alloc: Global, stream: UnixStream) -> io::Result<Client> {
+        Ok(Client {
+            alloc,
+            reader: BufReader::new(alloc, stream)?,
+        })
+    }
+
+    /// A new connection.
+    pub fn connect<R: Net>(rt: &R, alloc: Global, address: &SocketAddr) -> io::Result<Client> {
+        Client::over(alloc, UnixStream::connect_addr(rt, address)?)
+    }
+
+    /// Sends bytes.
+    pub fn tell(&mut self, told: &str) -> io::Result<()> {
+        self.reader.get_mut().write_all(told.as_bytes())
+    }
+
+    /// The next reply, or nothing at the end.
+    pub fn reply(&mut self) -> io::Result<String<Global>> {
+        let mut reply = String::new(self.alloc);
+        self.reader.read_line(&mut reply)?;
+        for _ in 0..lines_after(reply.as_str()) {
+            self.reader.read_line(&mut reply)?;
+        }
+        Ok(reply)
+    }
+
+    /// The reply to a command.
+    pub fn ask(&mut self, told: &str) -> io::Result<String<Global>> {
+        self.tell(told)?;
+        self.reply()
+    }
+
+    /// Whether the reply to a command is this.
+    pub fn replies(&mut self, told: &str, reply: &str) -> io::Result<bool> {
+        Ok(self.ask(told)?.as_str() == reply)
+    }
+
+    /// Whether no ticket is open after at most a thousand waits.
+    pub fn becomes_quiet(&mut self) -> io::Result<bool> {
+        for _ in 0..1000 {
+            if self.replies("wait 1000000\n", "quiet\n")? {
+                return Ok(true);
+            }
+        }
+        Ok(false)
+    }
+
+    /// What a reply of `store` or `log` has after its first line.
+    fn lines(&mut self, told: &str) -> io::Result<String<Global>> {
+        let mut lines = String::new(self.alloc);
+        let mut first = String::new(self.alloc);
+        self.tell(told)?;
+        self.reader.read_line(&mut first)?;
+        for _ in 0..lines_after(first.as_str()) {
+            self.reader.read_line(&mut lines)?;
+        }
+        Ok(lines)
+    }
+
+    /// The lines of the store, and what the check of the log says of it. None where it is refused.
+    pub fn checked(&mut self, program: &str) -> io::Result<(String<Global>, Option<Verdict>)> {
+        let store = self.lines("store\n")?;
+        let lines = self.lines("log 1\n")?;
+        let log = format!(in self.alloc; "chr-log 2\n{lines}")?;
+        let checked = check_text(
+            self.alloc,
+            program.as_bytes(),
+            log.as_bytes(),
+            store.as_bytes(),
+        );
+        let verdict = match checked {
+            Ok(checked) => checked.answer.ok(),
+            Err(_) => None,
+        };
+        Ok((store, verdict))
+    }
+}
