@@ -144,8 +144,8 @@ fn nothing_is_left_of_ten_thousand_connections(rt: HostRuntime) -> Result<(), Fa
     );
     let (seats, rise) = seats?;
     assert_eq!(rt; seats, 16);
-    // Both ends of sixteen connections, and one that the system has ready for the next.
-    assert!(rt; rise <= 33, "{rise}");
+    // Both ends of sixteen connections, and the few that the server is taking or refusing at that moment.
+    assert!(rt; rise <= 40, "{rise}");
     assert!(rt; served);
     drop(listener);
     assert_eq!(rt; next_descriptor(&rt)?, before);
