@@ -15,3 +15,4 @@ pub mod Labelled
 pub mod PlainTrials
 pub mod Same
 pub mod Behind
+pub mod Passed

@@ -9,3 +9,4 @@ pub mod Verdicts
 pub mod Placed
 pub mod Judged
 pub mod Answers
+pub mod Passing

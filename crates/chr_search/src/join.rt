@@ -41,7 +41,12 @@ fn pred_of(head: &RuleAtom) -> Pred
 impl<'s, A: Allocator + Copy> Join<'s, A> {
     /// The binding under which the step's head is the label's atom as well. None where there is none, or the label has
     /// left the store.
-    fn fit_label(&self, binding: &Binding<'s>, step: Step, label: Label) -> Option<Binding<'s>>
+    pub(crate) fn fit_label(
+        &self,
+        binding: &Binding<'s>,
+        step: Step,
+        label: Label,
+    ) -> Option<Binding<'s>>
         requires { length binding.now ≡ self.now.rule.now.variables }
         ensures { MatchOption result (NoneUnder (λ v. StandsAt (join_of self.now) v step label) binding.now) (Narrows (λ v. StandsAt (join_of self.now) v step label) binding.now) }
     {

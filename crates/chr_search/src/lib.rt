@@ -6,6 +6,7 @@
 //! and remove from it. [`candidate`](search::Search::candidate) makes the least admissible trial at or after the
 //! position, [`judge`](judged::judge) tells whether it misfits, is a part of an instance or is a whole one, and
 //! [`advance`](search::Search::advance) moves the search past what has been judged.
+//! [`pass_over`](search::Search::pass_over) does the same for all trials up to one that is whole, and makes none of them.
 //!
 //! In an admissible trial every label but the first is older than the active one, so an instance is found by the
 //! youngest of its labels.
@@ -14,6 +15,7 @@
 mod join;
 pub mod judged;
 pub mod laws;
+mod passing;
 pub mod position;
 pub mod search;
 pub mod trial;

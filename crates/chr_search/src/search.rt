@@ -1,11 +1,13 @@
 //! Searches.
-ghost use Rattle.std.specs.Prelude.{◌≡◌, ◌≤◌, ◌∷◌, [], MatchOption, IfOk};
+ghost use Rattle.std.specs.Prelude.{◌≡◌, ◌≤◌, ◌∷◌, [], false, MatchOption, IsTrue, IfOk};
 ghost use Rattle.chr_plan.specs.Plans.{ArePlans};
 ghost use Rattle.chr_search.specs.Positions.{beginning, just_after, past};
 ghost use Rattle.chr_search.specs.Tree.{Least, NoneBeyond};
-ghost use Rattle.chr_search.specs.Trials.{older, Child, IsNext, NoneLeft};
+ghost use Rattle.chr_search.specs.Trials.{older, Child, IsTrial, IsNext, NoneLeft};
 ghost use Rattle.chr_search.specs.Answers.{IsAnswer, IsAnswerBehind, after_judging};
-ghost use Rattle.chr_search.specs.Verdicts.{position as position_of};
+ghost use Rattle.chr_search.specs.Verdicts.{Trial as PlainTrial, position as position_of, IsFormed, IsTrialOf};
+ghost use Rattle.chr_search.specs.Judged.{IsVerdict};
+ghost use Rattle.chr_search.specs.Passing.{PassesOne, Passes};
 
 use crate::join::Join;
 use crate::judged::{Judged, Verdict};
@@ -184,5 +186,82 @@ impl Search {
             Verdict::Part => Position::just_after(judged.trial()),
             Verdict::Misfit | Verdict::Whole => Position::past(judged.trial()),
         };
+    }
+
+    /// The verdict on the admissible trial of a position. It takes no memory.
+    fn verdict_at<A: Allocator + Copy>(
+        &self,
+        program: &Program<A>,
+        plans: &Plans<A>,
+        store: &Store<A>,
+        position: &Position,
+    ) -> Verdict
+        requires plans { ArePlans program.now plans.now }
+        requires admissible { IsTrial (older program.now plans.now store.now.entries self.now.label) position.now }
+        ensures { (t : PlainTrial) × (position_of t ≡ position.now) × IsTrialOf program.now plans.now store.now.entries t × IsFormed t × IsVerdict t result }
+    {
+        let Some(rule) = program.rule(usize::from(position.rule)) else {
+            unreachable!();
+        };
+        let Some(order) = plans.plan(usize::from(position.rule), position.head) else {
+            unreachable!();
+        };
+        // For the proof: the labels of a store are at most the greatest.
+        let _given = store.next_label();
+        let join = Join {
+            rule,
+            order,
+            store,
+            active: self.label,
+        };
+        join.verdict(position.labels.as_slice())
+    }
+
+    /// Passes over the next trial, unless it is whole or there is none: then the search stays as it is.
+    fn pass_one<A: Allocator + Copy>(
+        &mut self,
+        program: &Program<A>,
+        plans: &Plans<A>,
+        store: &Store<A>,
+    ) -> bool
+        requires { ArePlans program.now plans.now }
+        ensures label { self.new.label ≡ self.old.label }
+        ensures passed { IsTrue result → PassesOne (older program.now plans.now store.now.entries self.old.label) self.old.place self.new.place }
+        ensures stays { result ≡ false → self.new ≡ self.old }
+    {
+        let Some(mut next) = self.find(program, plans, store) else {
+            return false;
+        };
+        let verdict = self.verdict_at(program, plans, store, &next);
+        if verdict == Verdict::Whole {
+            return false;
+        }
+        next.go_after(verdict);
+        self.position = next;
+        true
+    }
+
+    /// Passes over the next trials up to one that is whole, at most so many: as if each of them had been asked for, judged,
+    /// and the search advanced after it. Returns how many. It takes no memory.
+    pub fn pass_over<A: Allocator + Copy>(
+        &mut self,
+        program: &Program<A>,
+        plans: &Plans<A>,
+        store: &Store<A>,
+        most: u64,
+    ) -> u64
+        requires { ArePlans program.now plans.now }
+        ensures few { result ≤ most }
+        ensures label { self.new.label ≡ self.old.label }
+        ensures passed { Passes (older program.now plans.now store.now.entries self.old.label) result self.old.place self.new.place }
+    {
+        let mut passed = 0;
+        while passed < most {
+            if !self.pass_one(program, plans, store) {
+                return passed;
+            }
+            passed += 1;
+        }
+        passed
     }
 }

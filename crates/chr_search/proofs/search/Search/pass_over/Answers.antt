@@ -1,0 +1,15 @@
+use Rattle.std.proofs.Common.{◌<◌, ◌∙◌, subst, arith}
+use Rattle.chr_search.specs.Passing.{PassesOne}
+use Rattle.chr_search.specs.Trials.{older}
+use Rattle.chr_search.proofs.Passed.{pass_more}
+use Rattle.chr_search.proofs.search.Search.pass_over.Goals as goal
+
+pub loop-passed-preserved : goal.loop-passed-preserved
+loop-passed-preserved g c =
+    let here : c.loop-passed.passed < c.args.most = c.loop-passed-test.true in
+    record {
+      few = omega arith;
+      label = c.pass_one.ensures.label ∙ c.loop-passed.invariant.label;
+      passed = pass_more (older c.args.program.now c.args.plans.now c.args.store.now.entries c.args.self.now.label) c.loop-passed.passed c.args.self.now.place c.loop-passed.self.place c.pass_one.new.self.place c.loop-passed.invariant.passed
+          (subst (λ l. PassesOne (older c.args.program.now c.args.plans.now c.args.store.now.entries l) c.loop-passed.self.place c.pass_one.new.self.place) c.loop-passed.invariant.label (c.pass_one.ensures.passed c.if-not-pass_one.false));
+    }
