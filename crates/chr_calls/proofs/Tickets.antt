@@ -1,7 +1,7 @@
 -- Tickets of a book: reads after writes, their states, and a book of which one ticket changes but not its goal.
 use Rattle.std.proofs.Common.{◌≡◌, ◌≢◌, ℕ, zero, suc, ◌<◌, Bool, true, false, nat_lt, if◌then◌else◌, List, [], ◌∷◌, ◌++◌, map, length, slice_set, Option, Some, None, refl, sym, ◌∙◌, ap, subst, arith, get_or-set_same, get_or-set_other}
 use Rattle.std.proofs.Math.ListN.{get_or-map}
-use Rattle.std.proofs.lemmas.List.{map-set, map-append, get_or_append_left}
+use Rattle.std.proofs.lemmas.List.{length-set, map-set, map-append, get_or_append_left}
 use Rattle.std.proofs.lemmas.Bool.Decides.{nat_tests}
 use Rattle.std.specs.Option.{option_map}
 use Rattle.chr_value.specs.Atoms.{Atom}
@@ -14,6 +14,7 @@ use Rattle.chr_model.specs.Programs.{Instances}
 use Rattle.chr_model.specs.Searches.{YoungestAreGoals}
 use Rattle.chr_search.specs.Verdicts.{Trial, position}
 use Rattle.chr_search.specs.Reach.{Searching}
+use Rattle.chr_calls.specs.declared.answers.TicketState.{TicketState}
 use Rattle.chr_calls.specs.declared.answers.TicketState.TheVariants.{Unknown, Waiting, Held, Resting}
 use Rattle.chr_calls.specs.Tickets.{Ticket, ended, waiting, ticket_at, state_with, state_of}
 use Rattle.chr_calls.specs.Books.{BookState, goal_state, events, space_of, with_ticket, with_entry}
@@ -46,6 +47,26 @@ after_set (y ∷ ts) (suc t) x (suc u) = further (after_set ts t x u)
     further : AfterSet ts t x u → AfterSet (y ∷ ts) (suc t) x (suc u)
     further (is_set e within is) = is_set (ap suc e) (omega arith) is
     further (stands is) = stands is
+
+-- ---- a ticket of which neither the goal nor the holder changes
+
+-- what is told of a ticket at a place in a list so long
+abbrev told : ℕ → ℕ → Ticket → TicketState
+told t many x = if nat_lt t many then state_with x.goal x.holder else Unknown
+
+told_same : (t many : ℕ) (x y : Ticket) → x.goal ≡ y.goal → x.holder ≡ y.holder → told t many x ≡ told t many y
+told_same t many x y g h = ap (λ s. if nat_lt t many then s else Unknown) (ap (λ z. state_with z x.holder) g ∙ ap (λ o. state_with y.goal o) h)
+
+told_after : (ts : List Ticket) (t u : ℕ) (x : Ticket) → x.goal ≡ (ticket_at ts t).goal → x.holder ≡ (ticket_at ts t).holder → AfterSet ts t x u → told u (length ts) (ticket_at (slice_set ts t x) u) ≡ told u (length ts) (ticket_at ts u)
+told_after ts t u x g h (is_set e within is) = told_same u (length ts) (ticket_at (slice_set ts t x) u) (ticket_at ts u) (ap (λ (y : Ticket). y.goal) is ∙ g ∙ ap (λ v. (ticket_at ts v).goal) (sym e)) (ap (λ (y : Ticket). y.holder) is ∙ h ∙ ap (λ v. (ticket_at ts v).holder) (sym e))
+told_after ts t u x g h (stands is) = told_same u (length ts) (ticket_at (slice_set ts t x) u) (ticket_at ts u) (ap (λ (y : Ticket). y.goal) is) (ap (λ (y : Ticket). y.holder) is)
+
+-- it is in the state that it was in, and so are the others
+pub states_stand : (ts : List Ticket) (t u : ℕ) (x : Ticket) → x.goal ≡ (ticket_at ts t).goal → x.holder ≡ (ticket_at ts t).holder → state_of (slice_set ts t x) u ≡ state_of ts u
+states_stand ts t zero x g h = refl
+states_stand ts t (suc u) x g h =
+    let new : List Ticket = slice_set ts t x in
+    ap (λ many. told (suc u) many (ticket_at new (suc u))) (length-set ts t x) ∙ told_after ts t (suc u) x g h (after_set ts t x (suc u))
 
 -- ---- the goals
 
