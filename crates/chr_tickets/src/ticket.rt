@@ -1,6 +1,7 @@
 //! A ticket that is open.
 ghost use Rattle.std.specs.Prelude.{◌≡◌};
 ghost use Rattle.std.specs.Option.{option_copied};
+ghost use Rattle.chr_model.specs.Goals.{Numbered};
 ghost use Rattle.chr_search.specs.Answers.{after_judging};
 ghost use Rattle.chr_calls.specs.Tickets.{waiting, activated_by, held_by, put_down, with_candidate, going_on, atom_in, search_in};
 ghost use Rattle.chr_tickets.specs.Open.{shown_ticket, state_in, is_open_for, IsActiveGoal};
@@ -167,6 +168,22 @@ impl<A: Allocator + Copy> Ticket<A> {
         } = &mut self.goal
         {
             search.advance(judged);
+            *candidate = None;
+        }
+    }
+
+    /// Puts the search of an active ticket at the place of another one of its label, and takes its candidate away.
+    pub(crate) fn go_to(&mut self, place: Search)
+        requires { (shown_ticket self.old).goal ≡ Numbered place.label }
+        ensures { shown_ticket self.new ≡ going_on place.place (shown_ticket self.old) }
+    {
+        if let Goal::Active {
+            search,
+            candidate,
+            ..
+        } = &mut self.goal
+        {
+            *search = place;
             *candidate = None;
         }
     }

@@ -1,6 +1,7 @@
 //! The tickets of a book.
 ghost use Rattle.std.specs.Prelude.{◌≡◌, ◌↔◌, ◌≤◌, ◌++◌, ◌∷◌, [], true, length, take, slice_set, IsTrue, OnOk, OnErr, MatchOption};
 ghost use Rattle.std.specs.Option.{option_copied};
+ghost use Rattle.chr_model.specs.Goals.{Numbered};
 ghost use Rattle.chr_search.specs.Answers.{after_judging};
 ghost use Rattle.chr_calls.specs.declared.answers.TicketState.TheVariants.{Waiting, Resting};
 ghost use Rattle.chr_calls.specs.Tickets.{ended, waiting, activated_by, held_by, put_down, marked, with_candidate, going_on, ticket_at, state_of, IsClaimable, IsActive, AreQuiet, atom_in, search_in, LosesStray, IsLeastFor, NoneFor};
@@ -182,6 +183,17 @@ impl<A: Allocator + Copy> Tickets<A> {
             unreachable!();
         };
         found.advance(judged);
+    }
+
+    /// Puts the search of an active goal at the place of another one of its label, and takes its candidate away.
+    pub fn go_to(&mut self, ticket: u64, place: Search)
+        requires { (ticket_at self.old ticket).goal ≡ Numbered place.label }
+        ensures { self.new ≡ slice_set self.old ticket (going_on place.place (ticket_at self.old ticket)) }
+    {
+        let Some(found) = self.open.get_mut(&ticket) else {
+            unreachable!();
+        };
+        found.go_to(place);
     }
 
     /// Ends the goal of a ticket.
