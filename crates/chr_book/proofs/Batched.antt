@@ -1,5 +1,5 @@
 -- Trials beside one another, and the judgements of a batch.
-use Rattle.std.proofs.Common.{◌≡◌, ◌≢◌, ◌↔◌, ℕ, zero, suc, ◌+◌, ◌-◌, ◌<◌, ◌≤◌, IsTrue, Bool, List, [], ◌∷◌, ◌++◌, length, length-append, append-nil, append_assoc, Option, Some, None, MatchOption, nat_lt, if◌then◌else◌, slice_set, get_or, drop, ap₂, Result, Ok, Err, refl, sym, ◌∙◌, ap, subst, arith}
+use Rattle.std.proofs.Common.{◌≡◌, ℕ, zero, suc, ◌+◌, ◌-◌, ◌<◌, ◌≤◌, List, [], ◌∷◌, ◌++◌, length, length-append, append-nil, append_assoc, Option, Some, None, MatchOption, nat_lt, if◌then◌else◌, slice_set, get_or, drop, ap₂, Result, Ok, Err, refl, sym, ◌∙◌, ap, subst, arith}
 use Rattle.std.proofs.lemmas.List.{length-set, get_or_push}
 use Rattle.chr_model.specs.Goals.{Goal}
 use Rattle.chr_search.specs.Trials.{Space}
@@ -8,7 +8,6 @@ use Rattle.chr_search.specs.Judged.{Judgement}
 use Rattle.chr_search.specs.Answers.{IsAnswerBehind}
 use Rattle.chr_search.specs.declared.search.Ask.{Ask}
 use Rattle.chr_search.specs.declared.search.Ask.TheVariants as answers
-use Rattle.chr_search.specs.declared.judged.Verdict.TheVariants.{Whole}
 use Rattle.chr_calls.specs.declared.answers.TurnFault.{TurnFault}
 use Rattle.chr_calls.specs.declared.answers.ReportFault.{ReportFault}
 use Rattle.chr_calls.specs.declared.answers.ReportFault.TheVariants as report

@@ -5,3 +5,4 @@ pub mod Batched
 pub mod Lines
 pub mod StrictLogs
 pub mod Continued
+pub mod Passes

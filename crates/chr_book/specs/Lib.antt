@@ -2,3 +2,4 @@ pub mod Books
 pub mod Texts
 pub mod Logs
 pub mod Shots
+pub mod Passed

@@ -13,6 +13,7 @@
 //! | [`report`](book::Book::report) | the search goes on after a candidate that is no instance |
 //! | [`batch`](book::Book::batch) | so does the next trial, and those after it that differ in their last label alone come along |
 //! | [`report_batch`](book::Book::report_batch) | the judgements of a batch are reported up to the first that is an instance |
+//! | [`pass_over`](book::Book::pass_over) | trials up to one that is an instance are asked for, judged and reported |
 //! | [`fire`](book::Book::fire) | a candidate that is an instance fires, where its labels are all live |
 //! | [`drop_goal`](book::Book::drop_goal) | a goal whose search has no trial left ends |
 //! | [`put_down`](book::Book::put_down), [`mark_stray`](book::Book::mark_stray), [`take_stray`](book::Book::take_stray) | tickets that wait for another seat |

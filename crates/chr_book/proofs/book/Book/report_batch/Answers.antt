@@ -1,4 +1,4 @@
-use Rattle.std.proofs.Common.{◌≡◌, ◌+◌, ◌∷◌, List, drop, true≢false, subst, sym, ◌∙◌, arith, Result}
+use Rattle.std.proofs.Common.{◌≡◌, ◌+◌, List, drop, true≢false, subst, sym, ◌∙◌, arith, Result}
 use Rattle.std.proofs.lemmas.List.{drop_all}
 use Rattle.chr_search.specs.Judged.{Judgement}
 use Rattle.chr_calls.specs.declared.answers.ReportFault.{ReportFault}

@@ -1,0 +1,105 @@
+-- Trials that are passed over: what a search passes in one go, its ticket's calls pass one by one.
+use Rattle.std.proofs.Common.{◌≡◌, ◌≢◌, ℕ, zero, suc, List, Some, Ok, refl, sym, ◌∙◌, ap, subst, slice_set}
+use Rattle.std.proofs.lemmas.List.{set-set}
+use Rattle.chr_model.specs.Goals.{Numbered}
+use Rattle.chr_search.specs.Reach.{SearchState}
+use Rattle.chr_search.specs.Trials.{IsNext}
+use Rattle.chr_search.specs.Verdicts.{position}
+use Rattle.chr_search.specs.Answers.{after_judging}
+use Rattle.chr_search.specs.Passing.{PassesOne, Passes}
+use Rattle.chr_calls.specs.Turns.{Next}
+use Rattle.chr_calls.specs.Tickets.{Ticket, with_candidate, going_on, ticket_at}
+use Rattle.chr_calls.specs.Books.{BookState, space_of, IsLive, with_tickets, with_ticket}
+use Rattle.chr_calls.specs.Calls.{HoldsLive, HoldsCandidate, with_candidate_of, after_judgement}
+use Rattle.chr_calls.specs.Headline.{IsKept}
+use Rattle.chr_calls.proofs.Tickets.{states_stand, ticket_same, numbered_within}
+use Rattle.chr_calls.proofs.Turning.{turns_keep, reports_keep}
+use Rattle.chr_book.specs.Books.{IsHeldSearch}
+use Rattle.chr_book.specs.Passed.{GoesPast, PassesTrial, PassesTrials}
+
+-- the book where the ticket's search is at a place
+abbrev at_place : BookState → ℕ → List ℕ → BookState
+at_place b t place = with_ticket b t (going_on place (ticket_at b.tickets t))
+
+-- one trial
+passes_one : (b : BookState) (seat t l : ℕ) (place after : List ℕ) → PassesOne (space_of b l) place after → HoldsLive b seat t l → (ticket_at b.tickets t).position ≡ place → PassesTrial seat t b (at_place b t after)
+passes_one b seat t l place after one h is = record {
+  judged = one.judged;
+  right = one.right;
+  asked = with_candidate_of b t (Some one.judged.trial);
+  turns = (l, h, record { next = subst (λ p. IsNext (space_of b l) p (position one.judged.trial)) (sym is) one.next; is = one.is; formed = one.formed }, refl);
+  reports = (holds, one.other, reported);
+}
+  where
+    x : Ticket
+    x = ticket_at b.tickets t
+
+    y : Ticket
+    y = with_candidate (Some one.judged.trial) x
+
+    there : ticket_at (slice_set b.tickets t y) t ≡ y
+    there = ticket_same b.tickets t y (numbered_within b.tickets t l h.holds.goal)
+
+    holds : HoldsCandidate (with_candidate_of b t (Some one.judged.trial)) seat t one.judged.trial
+    holds = record { held = states_stand b.tickets t t y refl refl ∙ h.holds.state; candidate = ap (λ (z : Ticket). z.candidate) there }
+
+    reported : at_place b t after ≡ after_judgement (with_candidate_of b t (Some one.judged.trial)) t one.judged
+    reported = ap (λ ts. with_tickets b ts) (
+        ap (λ p. slice_set b.tickets t (going_on p x)) one.on ∙ sym (set-set b.tickets t y (going_on (after_judging one.judged) x))
+        ∙ ap (λ z. slice_set (slice_set b.tickets t y) t (going_on (after_judging one.judged) z)) (sym there)
+        )
+
+-- the ticket at a place goes on to another
+place_twice : (b : BookState) (t l : ℕ) (place after : List ℕ) → (ticket_at b.tickets t).goal ≡ Numbered l → at_place (at_place b t place) t after ≡ at_place b t after
+place_twice b t l place after g =
+    let x = ticket_at b.tickets t in
+    let y = going_on place x in
+    let there : ticket_at (slice_set b.tickets t y) t ≡ y = ticket_same b.tickets t y (numbered_within b.tickets t l g) in
+    ap (λ ts. with_tickets b ts) (ap (λ z. slice_set (slice_set b.tickets t y) t (going_on after z)) there ∙ set-set b.tickets t y (going_on after x))
+
+holds_on : (b : BookState) (seat t l : ℕ) (place : List ℕ) → HoldsLive b seat t l → HoldsLive (at_place b t place) seat t l
+holds_on b seat t l place h =
+    let y = going_on place (ticket_at b.tickets t) in
+    let there : ticket_at (slice_set b.tickets t y) t ≡ y = ticket_same b.tickets t y (numbered_within b.tickets t l h.holds.goal) in
+    record {
+      holds = record { state = states_stand b.tickets t t y refl refl ∙ h.holds.state; goal = ap (λ (z : Ticket). z.goal) there ∙ h.holds.goal };
+      live = h.live;
+    }
+
+place_is : (b : BookState) (t l : ℕ) (place : List ℕ) → (ticket_at b.tickets t).goal ≡ Numbered l → (ticket_at (at_place b t place).tickets t).position ≡ place
+place_is b t l place g = ap (λ (z : Ticket). z.position) (ticket_same b.tickets t (going_on place (ticket_at b.tickets t)) (numbered_within b.tickets t l g))
+
+-- several
+pub passes_all : (k : ℕ) (b : BookState) (seat t l : ℕ) (place after : List ℕ) → Passes (space_of b l) (suc k) place after → HoldsLive b seat t l → (ticket_at b.tickets t).position ≡ place → PassesTrials seat t (suc k) b (at_place b t after)
+passes_all zero b seat t l place after p h is = (at_place b t p.0, passes_one b seat t l place p.0 p.1 h is, ap (at_place b t) p.2)
+passes_all (suc k) b seat t l place after p h is =
+    let m = at_place b t p.0 in
+    let rest : PassesTrials seat t (suc k) m (at_place m t after) = passes_all k m seat t l p.0 after p.2 (holds_on b seat t l p.0 h) (place_is b t l p.0 h.holds.goal) in
+    (m, passes_one b seat t l place p.0 p.1 h is, subst (PassesTrials seat t (suc k) m) (place_twice b t l p.0 after h.holds.goal) rest)
+
+-- the search of a goal that goes past some
+pub goes_past : (b now : BookState) → b ≡ now → (seat t k : ℕ) (s past : SearchState) → IsHeldSearch now.tickets seat t s → IsLive b s.label → past.label ≡ s.label → Passes (space_of now s.label) k s.place past.place → k ≢ 0 → GoesPast now seat t k past
+goes_past b now e seat t k s past h live same p some = record {
+  live = subst (HoldsLive now seat t) (sym same) (record { holds = h.holds; live = subst (λ (n : BookState). IsLive n s.label) e live });
+  some = some;
+  passed = subst (λ l. Passes (space_of now l) k (ticket_at now.tickets t).position past.place) (sym same) (subst (λ place. Passes (space_of now s.label) k place past.place) h.place p);
+}
+
+-- it is a search of the ticket's goal
+pub past_goal : (b now : BookState) → b ≡ now → (seat t k : ℕ) (past : SearchState) → GoesPast now seat t k past → (ticket_at b.tickets t).goal ≡ Numbered past.label
+past_goal b now e seat t k past g = (subst (λ (n : BookState). GoesPast n seat t k past) (sym e) g).live.holds.goal
+
+-- where the tickets are those after the search has gone on
+pub passed_over : (b now : BookState) → b ≡ now → (seat t k : ℕ) (past : SearchState) (tickets : List Ticket) → GoesPast now seat t k past → tickets ≡ slice_set b.tickets t (going_on past.place (ticket_at b.tickets t)) → PassesTrials seat t k now (with_tickets b tickets)
+passed_over b now e seat t zero past tickets g ts = absurd (g.some refl)
+passed_over b now e seat t (suc k) past tickets g ts =
+    let in_book = subst (λ (n : BookState). GoesPast n seat t (suc k) past) (sym e) g in
+    subst (λ (n : BookState). PassesTrials seat t (suc k) n (with_tickets b tickets)) e
+    (subst (λ xs. PassesTrials seat t (suc k) b (with_tickets b xs)) (sym ts) (passes_all k b seat t past.label (ticket_at b.tickets t).position past.place in_book.passed in_book.live refl))
+
+-- what a book keeps
+pub passes_keep : (k : ℕ) (b n : BookState) (seat t : ℕ) → PassesTrials seat t k b n → IsKept b → IsKept n
+passes_keep zero b n seat t p kept = subst IsKept (sym p) kept
+passes_keep (suc k) b n seat t p kept =
+    let one = p.1 in
+    passes_keep k p.0 n seat t p.2 (reports_keep one.asked p.0 seat t one.judged (Ok tt) one.right one.reports (turns_keep b one.asked seat t (Ok (Next one.judged.trial)) one.turns kept))
