@@ -1,7 +1,7 @@
 //! Calls on a book, with their answers in words.
 use chr_book::book::Book;
 use chr_calls::answers::{TicketState, Turn};
-use chr_log::writing::{write_entries, write_labelled_atom};
+use chr_log::writing::write_labelled_atom;
 use chr_search::judged::{Judged, judge};
 use chr_text::reading::{read_atoms, read_program};
 use chr_value::atom::Atom;
@@ -233,7 +233,7 @@ impl<A: Allocator + Copy> Script<A> {
             b"open\n"
         };
         text.extend_from_slice(quiet)?;
-        write_entries(&mut text, self.book.names(), self.book.log())?;
+        self.book.log_lines(&mut text, 1)?;
         for (label, atom) in self.book.store().iter() {
             write_labelled_atom(&mut text, self.book.names(), *label, atom)?;
         }
