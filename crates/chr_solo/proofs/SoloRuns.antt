@@ -1,40 +1,28 @@
 -- Runs of one seat: what is judged stays the candidate of the next ticket, and a run goes on at its end.
-use Rattle.std.proofs.Common.{◌≡◌, ℕ, zero, suc, ◌+◌, ◌<◌, ◌≤◌, nat_lt, if◌then◌else◌, inl, inr, List, length, slice_set, Option, Some, None, MatchOption, Result, Ok, Err, OnErr, refl, sym, ◌∙◌, ap, subst, arith}
+use Rattle.std.proofs.Common.{◌≡◌, ℕ, zero, suc, ◌+◌, ◌*◌, ◌<◌, ◌≤◌, inl, inr, List, length, slice_set, Option, Some, None, MatchOption, Result, Ok, Err, OnErr, refl, sym, ◌∙◌, ap, subst, arith}
 use Rattle.std.proofs.Math.Numerals.{add-one}
 use Rattle.std.proofs.Math.Nat.{le_antisymm}
 use Rattle.std.proofs.lemmas.List.{length-set}
 use Rattle.chr_search.specs.Verdicts.{Trial}
 use Rattle.chr_search.specs.Judged.{Judgement}
+use Rattle.chr_search.specs.Answers.{after_judging}
 use Rattle.chr_calls.specs.declared.answers.ClaimFault.TheVariants.{LabelsSpent}
 use Rattle.chr_calls.specs.declared.answers.TicketState.{TicketState}
 use Rattle.chr_calls.specs.declared.answers.TicketState.TheVariants.{Unknown, Held}
 use Rattle.chr_calls.specs.Turns.{Next, Done, Gone}
-use Rattle.chr_calls.specs.Tickets.{Ticket, with_candidate, ticket_at, state_with, state_of, IsClaimable, waits, rests, IsOpenFor, waits_for, held_for, rests_for, IsLeastFor, NoneFor}
+use Rattle.chr_calls.specs.Tickets.{Ticket, with_candidate, going_on, ticket_at, state_of, IsClaimable, waits, rests, IsOpenFor, waits_for, held_for, rests_for, IsLeastFor, NoneFor}
 use Rattle.chr_calls.specs.Books.{BookState}
-use Rattle.chr_calls.specs.Calls.{Claims, with_candidate_of, HoldsCandidate}
-use Rattle.chr_calls.proofs.Tickets.{AfterSet, is_set, stands, after_set, ticket_same, held_is}
+use Rattle.chr_calls.specs.Calls.{Claims, with_candidate_of, after_judgement, HoldsCandidate}
+use Rattle.chr_calls.proofs.Tickets.{states_stand, ticket_same, held_is}
+use Rattle.chr_book.specs.Passed.{PassesTrials}
 use Rattle.chr_solo.specs.Solo.{Known, Nothing, Judged, NoneLeft, SoloCall, claims, asks, fires, reports, drops, SoloRun, IsSpentFor, IsSolo, IsCutShort}
 use Rattle.chr_solo.specs.SoloCode.{IsAware, SoloSoFar}
 
 -- ---- a ticket that gets a candidate
 
--- what is told of a ticket at a place in a list so long
-abbrev told : ℕ → ℕ → Ticket → TicketState
-told t many x = if nat_lt t many then state_with x.goal x.holder else Unknown
-
-told_same : (t many : ℕ) (x y : Ticket) → x.goal ≡ y.goal → x.holder ≡ y.holder → told t many x ≡ told t many y
-told_same t many x y g h = ap (λ s. if nat_lt t many then s else Unknown) (ap (λ z. state_with z x.holder) g ∙ ap (λ o. state_with y.goal o) h)
-
-told_after : (ts : List Ticket) (t u : ℕ) (c : Option Trial) → AfterSet ts t (with_candidate c (ticket_at ts t)) u → told u (length ts) (ticket_at (slice_set ts t (with_candidate c (ticket_at ts t))) u) ≡ told u (length ts) (ticket_at ts u)
-told_after ts t u c (is_set e within is) = told_same u (length ts) (ticket_at (slice_set ts t (with_candidate c (ticket_at ts t))) u) (ticket_at ts u) (ap (λ (x : Ticket). x.goal) is ∙ ap (λ v. (ticket_at ts v).goal) (sym e)) (ap (λ (x : Ticket). x.holder) is ∙ ap (λ v. (ticket_at ts v).holder) (sym e))
-told_after ts t u c (stands is) = told_same u (length ts) (ticket_at (slice_set ts t (with_candidate c (ticket_at ts t))) u) (ticket_at ts u) (ap (λ (x : Ticket). x.goal) is) (ap (λ (x : Ticket). x.holder) is)
-
 -- it is in the state that it was in, and so are the others
 pub state_stands : (ts : List Ticket) (t u : ℕ) (c : Option Trial) → state_of (slice_set ts t (with_candidate c (ticket_at ts t))) u ≡ state_of ts u
-state_stands ts t zero c = refl
-state_stands ts t (suc u) c =
-    let new : List Ticket = slice_set ts t (with_candidate c (ticket_at ts t)) in
-    ap (λ many. told (suc u) many (ticket_at new (suc u))) (length-set ts t (with_candidate c (ticket_at ts t))) ∙ told_after ts t (suc u) c (after_set ts t (with_candidate c (ticket_at ts t)) (suc u))
+state_stands ts t u c = states_stand ts t u (with_candidate c (ticket_at ts t)) refl refl
 
 -- so the same ticket is the next one
 pub least_stands : (b : BookState) (seat t u : ℕ) (c : Option Trial) → IsLeastFor b.tickets seat t → IsLeastFor (with_candidate_of b t c).tickets seat u → t ≡ u
@@ -122,6 +110,33 @@ ends_spent seat most calls t b n known m so fewer least made = record {
 -- memory was refused
 pub cut_short : (seat most calls : ℕ) (b n : BookState) (known : Known) (m : BookState) → SoloSoFar seat b calls n known → calls < most → m ≡ n → IsCutShort seat most b m
 cut_short seat most calls b n known m so fewer e = record { made = calls; known = known; run = subst (λ x. SoloRun seat calls b Nothing x known) (sym e) so.run; fewer = fewer }
+
+-- ---- trials that are passed over
+
+least_stays : (seat t : ℕ) (old new : List Ticket) → ((v : ℕ) → state_of new v ≡ state_of old v) → IsLeastFor old seat t → IsLeastFor new seat t
+least_stays seat t old new same least = record {
+  free = subst (IsOpenFor seat) (sym (same t)) least.free;
+  least = λ v free. least.least v (subst (IsOpenFor seat) (same v) free);
+}
+
+least_asked : (b : BookState) (seat t : ℕ) (c : Option Trial) → IsLeastFor b.tickets seat t → IsLeastFor (with_candidate_of b t c).tickets seat t
+least_asked b seat t c least = least_stays seat t b.tickets (with_candidate_of b t c).tickets (λ v. state_stands b.tickets t v c) least
+
+least_judged : (b : BookState) (seat t : ℕ) (j : Judgement) → IsLeastFor b.tickets seat t → IsLeastFor (after_judgement b t j).tickets seat t
+least_judged b seat t j least = least_stays seat t b.tickets (after_judgement b t j).tickets (λ v. states_stand b.tickets t v (going_on (after_judging j) (ticket_at b.tickets t)) refl refl) least
+
+-- each of them is two calls
+pub passes : (seat t calls k : ℕ) (first b n : BookState) → PassesTrials seat t k b n → IsLeastFor b.tickets seat t → SoloSoFar seat first calls b Nothing → SoloSoFar seat first (calls + 2 * k) n Nothing
+passes seat t calls zero first b n p least so =
+    subst (λ m. SoloSoFar seat first m n Nothing) (let e : calls ≡ calls + 2 * 0 = omega arith in e) (subst (λ (m : BookState). SoloSoFar seat first calls m Nothing) (sym p) so)
+passes seat t calls (suc k) first b n p least so =
+    let one = p.1 in
+    let j = one.judged in
+    let asked : IsLeastFor one.asked.tickets seat t = subst (λ (m : BookState). IsLeastFor m.tickets seat t) (sym one.turns.3) (least_asked b seat t (Some j.trial) least) in
+    let told : IsLeastFor p.0.tickets seat t = subst (λ (m : BookState). IsLeastFor m.tickets seat t) (sym one.reports.2) (least_judged one.asked seat t j asked) in
+    let turn = goes_on seat calls t first b Nothing one.asked (Judged j) so least (asks (Next j.trial) refl one.turns (j, refl, one.right, refl)) in
+    let report = goes_on seat (calls + 1) t first one.asked (Judged j) p.0 Nothing turn asked (reports j tt refl one.reports refl) in
+    subst (λ m. SoloSoFar seat first m n Nothing) (let e : calls + 1 + 1 + 2 * k ≡ calls + 2 * suc k = omega arith in e) (passes seat t (calls + 1 + 1) k first p.0 n p.2 told report)
 
 -- ---- answers of two kinds
 

@@ -1,5 +1,5 @@
 //! Runs of one seat.
-ghost use Rattle.std.specs.Prelude.{◌≡◌, ℕ, ◌↔◌, Err, OnOk, OnErr, IfOk, MatchOption};
+ghost use Rattle.std.specs.Prelude.{◌≡◌, ◌≤◌, ◌+◌, ℕ, ◌↔◌, Err, OnOk, OnErr, IfOk, MatchOption};
 ghost use Rattle.std.specs.List.{AllByRecursion};
 ghost use Rattle.chr_rule.specs.Scope.{IsRule};
 ghost use Rattle.chr_calls.specs.Books.{BookState};
@@ -8,7 +8,7 @@ ghost use Rattle.chr_calls.specs.Tickets.{AreQuiet, IsOpenFor, state_of};
 ghost use Rattle.chr_calls.specs.declared.answers.ClaimFault.TheVariants as claim;
 ghost use Rattle.chr_calls.specs.declared.answers.TicketState.TheVariants as states;
 ghost use Rattle.chr_solo.specs.Solo.{IsSolo, IsCutShort, SoloCall, SoloRun, Known as KnownState, Nothing, Judged as IsJudged};
-ghost use Rattle.chr_solo.specs.SoloCode.{known_of, IsAware};
+ghost use Rattle.chr_solo.specs.SoloCode.{known_of, IsAware, SoloSoFar};
 ghost use Rattle.chr_solo.specs.declared.solo.End.TheVariants as ends;
 
 use chr_book::book::Book;
@@ -144,6 +144,28 @@ fn call_for<A: Allocator + Copy>(
     }
 }
 
+/// Where nothing is known of the search of the next ticket, makes the calls that ask for its trials and report them, up to one
+/// that is whole, at most so many and at most 128. Returns how many.
+fn pass_over<A: Allocator + Copy>(book: &mut Book<A>, seat: u32, known: &Known<A>, most: u64) -> u64
+    ensures few { result ≤ most }
+    ensures so_far { (first : BookState) (calls : ℕ) → SoloSoFar seat first calls book.old (known_of known.now) → SoloSoFar seat first (calls + result) book.new (known_of known.now) }
+{
+    let Known::Nothing = known else {
+        return 0;
+    };
+    let Some(ticket) = book.next_for(seat) else {
+        return 0;
+    };
+    2 * book.pass_over(seat, ticket, (most / 2).min(64))
+}
+
+/// Tells a watch of the calls from one count up to another.
+fn tell<W: Watch>(watch: &mut W, from: u64, to: u64) {
+    for count in from..to {
+        watch.done(count);
+    }
+}
+
 /// Makes at most `most` calls by one seat, each for the least open ticket that no other seat holds, to that ticket's end: it
 /// claims a ticket that waits or rests, asks for its next trial, fires it where it is whole and else reports it, and drops
 /// the goal once no trial is left. It ends where no such ticket is left, or at a claim for which the labels are spent (E10),
@@ -160,7 +182,8 @@ pub fn solo_steps<A: Allocator + Copy>(
     watched_steps(book, seat, most, &mut Unwatched)
 }
 
-/// The same, and before each call `watch` is told how many have been made.
+/// The same, and for each call `watch` is told how many were made before it: of up to 128 calls at once, once they are made,
+/// where trials that aren't whole are passed over, and else before the call.
 pub fn watched_steps<A: Allocator + Copy, W: Watch>(
     book: &mut Book<A>,
     seat: u32,
@@ -183,6 +206,9 @@ pub fn watched_steps<A: Allocator + Copy, W: Watch>(
             break;
         };
         known = next;
+        let told = calls;
+        calls += pass_over(book, seat, &known, most - calls);
+        tell(watch, told, calls);
     }
     let end = if book.quiet() { End::Quiet } else { End::Open };
     Ok(Solo { calls, end })

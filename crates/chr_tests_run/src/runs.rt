@@ -385,19 +385,31 @@ impl Watch for Counted {
     }
 }
 
-/// The whole run makes nine calls: for each `b`, with which no rule applies, a claim, a question for a trial, and a drop; for
-/// the `a` a claim, a question that gives a trial, and its firing.
+/// Rules, atoms, how many calls are asked for, and of how many a watch is told. The first whole run makes nine: for each `b`,
+/// with which no rule applies, a claim, a question for a trial, and a drop; for the `a` a claim, a question that gives a trial,
+/// and its firing. The second makes five: a claim, a question that gives a trial whose guard fails, its report, a question that
+/// gives none, and a drop.
+const TOLD: [(&[u8], &[u8], u64, u64); 7] = [
+    (b"a <=> b.", b"b, a.", 0, 0),
+    (b"a <=> b.", b"b, a.", 1, 1),
+    (b"a <=> b.", b"b, a.", 5, 5),
+    (b"a <=> b.", b"b, a.", 1_000_000, 9),
+    (b"p(X) <=> X \\== 1 | q.", b"p(1).", 2, 2),
+    (b"p(X) <=> X \\== 1 | q.", b"p(1).", 3, 3),
+    (b"p(X) <=> X \\== 1 | q.", b"p(1).", 1_000_000, 5),
+];
+
 #[test]
 fn each_call_is_told(rt: HostRuntime) {
-    for (steps, told) in [(0, 0), (1, 1), (5, 5), (1_000_000, 9)] {
+    for (program, posts, steps, told) in TOLD {
         let mut counted = Counted {
             counts: 0,
             are_in_order: true,
         };
         let _ = watched_run(
             rt.alloc(),
-            b"a <=> b.",
-            b"b, a.",
+            program,
+            posts,
             steps,
             9,
             Show::All,

@@ -12,7 +12,8 @@ use std::time::Duration;
 
 /// Is told how far something is.
 pub trait Watch {
-    /// So many calls have been made, or entries checked: told before each, so 0 comes first.
+    /// So many calls have been made, or entries checked: told for each in order, so 0 comes first, and before it unless several
+    /// are made at once.
     fn done(&mut self, count: u64);
 }
 
