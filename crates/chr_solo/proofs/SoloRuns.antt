@@ -1,14 +1,13 @@
 -- Runs of one seat: what is judged stays the candidate of the next ticket, and a run goes on at its end.
-use Rattle.std.proofs.Common.{◌≡◌, ℕ, zero, suc, ◌+◌, ◌*◌, ◌<◌, ◌≤◌, inl, inr, List, length, slice_set, Option, Some, None, MatchOption, Result, Ok, Err, OnErr, refl, sym, ◌∙◌, ap, subst, arith}
+use Rattle.std.proofs.Common.{◌≡◌, ℕ, zero, suc, ◌+◌, ◌*◌, ◌<◌, ◌≤◌, inl, inr, List, slice_set, Option, Some, None, MatchOption, Result, Ok, Err, OnErr, refl, sym, ◌∙◌, ap, subst, arith}
 use Rattle.std.proofs.Math.Numerals.{add-one}
 use Rattle.std.proofs.Math.Nat.{le_antisymm}
-use Rattle.std.proofs.lemmas.List.{length-set}
 use Rattle.chr_search.specs.Verdicts.{Trial}
 use Rattle.chr_search.specs.Judged.{Judgement}
 use Rattle.chr_search.specs.Answers.{after_judging}
 use Rattle.chr_calls.specs.declared.answers.ClaimFault.TheVariants.{LabelsSpent}
 use Rattle.chr_calls.specs.declared.answers.TicketState.{TicketState}
-use Rattle.chr_calls.specs.declared.answers.TicketState.TheVariants.{Unknown, Held}
+use Rattle.chr_calls.specs.declared.answers.TicketState.TheVariants.{Held}
 use Rattle.chr_calls.specs.Turns.{Next, Done, Gone}
 use Rattle.chr_calls.specs.Tickets.{Ticket, with_candidate, going_on, ticket_at, state_of, IsClaimable, waits, rests, IsOpenFor, waits_for, held_for, rests_for, IsLeastFor, NoneFor}
 use Rattle.chr_calls.specs.Books.{BookState}
@@ -35,12 +34,6 @@ pub open_claimable : (seat : ℕ) (s : TicketState) → IsOpenFor seat s → ((h
 open_claimable seat s (waits_for o) free = waits
 open_claimable seat s (held_for o) free = absurd (free o refl)
 open_claimable seat s (rests_for o) free = rests
-
--- and one that a seat holds is held by this one
-pub open_held : (seat holder : ℕ) (s : TicketState) → IsOpenFor seat s → s ≡ Held holder → s ≡ Held seat
-open_held seat holder s (waits_for o) held = absurd (cc)
-open_held seat holder s (held_for o) held = refl
-open_held seat holder s (rests_for o) held = absurd (cc)
 
 -- ---- what is judged
 

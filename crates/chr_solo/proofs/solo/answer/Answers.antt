@@ -1,4 +1,4 @@
-use Rattle.std.proofs.Common.{Ok, refl, subst}
+use Rattle.std.proofs.Common.{refl, subst}
 use Rattle.chr_calls.specs.Calls.{Reports, FiresOrMisses}
 use Rattle.chr_solo.specs.Solo.{fires, reports}
 use Rattle.chr_solo.proofs.solo.answer.Goals as goal

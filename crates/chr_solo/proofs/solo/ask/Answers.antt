@@ -1,5 +1,4 @@
 use Rattle.std.proofs.Common.{Ok, refl, ap, ◌∙◌, subst}
-use Rattle.chr_calls.specs.declared.answers.Turn.TheVariants as turns
 use Rattle.chr_calls.specs.Turns.{Next, Done, Gone, turn_of}
 use Rattle.chr_calls.specs.Calls.{Turns}
 use Rattle.chr_solo.specs.Solo.{asks}

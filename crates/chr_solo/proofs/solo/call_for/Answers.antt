@@ -1,10 +1,8 @@
-use Rattle.std.proofs.Common.{◌≡◌, refl, sym, ◌∙◌, ap, Err, subst}
-use Rattle.chr_calls.specs.declared.answers.ClaimFault.TheVariants as claim
+use Rattle.std.proofs.Common.{refl, sym, ◌∙◌, ap, Err, subst}
 use Rattle.chr_calls.specs.Tickets.{IsClaimable, state_of}
-use Rattle.chr_calls.specs.declared.answers.TicketState.TheVariants.{Held}
 use Rattle.chr_calls.specs.Calls.{Claims}
 use Rattle.chr_solo.specs.Solo.{claims}
-use Rattle.chr_solo.proofs.SoloRuns.{open_claimable, open_held}
+use Rattle.chr_solo.proofs.SoloRuns.{open_claimable}
 use Rattle.chr_solo.proofs.solo.call_for.Goals as goal
 
 pub returns-in-Ok : goal.returns-in-Ok

@@ -1,4 +1,4 @@
-use Rattle.std.proofs.Common.{Ok, refl, sym, ap, subst}
+use Rattle.std.proofs.Common.{refl, sym, ap, subst}
 use Rattle.chr_calls.specs.Calls.{Drops}
 use Rattle.chr_solo.specs.Solo.{SoloCall, Nothing, drops}
 use Rattle.chr_solo.specs.SoloCode.{known_of}

@@ -28,7 +28,7 @@ loop-calls-preserved g c =
     let known = known_of c.loop-calls.known in
     let made = subst (λ o. MatchOption o (Claims b seat t (Err claim.LabelsSpent) n) (λ after. SoloCall seat t b known n (known_of after))) c.in-Some-2.is c.in_ok-next.ensures.ok in
     let one = goes_on seat c.loop-calls.calls t c.args.book.now b known n (known_of c.in-Some-2.next) c.loop-calls.invariant.0 c.in-Some.ensures made in
-    (c.pass_over.ensures.so_far c.args.book.now (c.loop-calls.calls + 1) one, omega (arith, c.if-calls-most.true, c.pass_over.ensures.few))
+    (c.pass_over-calls.ensures.so_far c.args.book.now (c.loop-calls.calls + 1) one, omega (arith, c.if-calls-most.true, c.pass_over-calls.ensures.few))
 
 pub returns-clause-solo : goal.returns-clause-solo
 returns-clause-solo g c =
