@@ -1,5 +1,5 @@
 -- Heads that fit, a guard that holds and a completed body are an instance, and nothing else is.
-use Rattle.std.proofs.Common.{◌≡◌, ℕ, ◌+◌, ◌<◌, List, [], ◌∷◌, ◌++◌, length, take, drop, map, get_or, Option, Some, None, IsSome, ◌⊎◌, inl, inr, refl, sym, subst, ap, ap₂, ◌∙◌, arith}
+use Rattle.std.proofs.Common.{◌≡◌, ℕ, ◌+◌, ◌<◌, Bool, true, false, List, [], ◌∷◌, ◌++◌, length, take, drop, map, get_or, Option, Some, None, IsSome, ◌⊎◌, inl, inr, refl, sym, subst, ap, ap₂, ◌∙◌, arith}
 use Rattle.std.specs.Prelude.{MatchOption}
 use Rattle.std.specs.List.{AllByRecursion}
 use Rattle.std.proofs.lemmas.List.{map_more, length-map, take-append-drop, drop_more, map-append}
@@ -9,7 +9,7 @@ use Rattle.chr_rule.specs.Scope.{IsRule}
 use Rattle.chr_guard.specs.Values.{Valuation, Holds}
 use Rattle.chr_guard.specs.Bindings.{bound_at, Extends, Narrows}
 use Rattle.chr_guard.specs.Instances.{atom_under, AreUnder, IsRight, added, IsInstance, NoInstance}
-use Rattle.chr_guard.specs.Matching.{HeadsAre, IsFit, IsOfHeads, Completes, IsBody, IsCompleted, IsInstanceUnder}
+use Rattle.chr_guard.specs.Matching.{HeadsAre, IsFit, IsOfHeads, Completes, IsBody, IsCompleted, CompletedIf, IsInstanceIf, IsInstanceUnder}
 use Rattle.chr_guard.proofs.Scoped.{scoped}
 use Rattle.chr_guard.proofs.Under.{somes, under_append, under_parts, none_under, body_made}
 use Rattle.chr_guard.proofs.Fixed.{Agree, heads_agree, guard_agrees, added_agrees}
@@ -51,7 +51,7 @@ all_bound rule facts binding new f done x h = by_place (done.others x h)
     by_place (inl head) = subst (λ o. IsSome o) (sym (done.heads x head)) (fit_binds rule facts binding f x head)
     by_place (inr some) = some
 
-pub is_instance_under : (rule : Simpagation ℕ) → IsRule rule → (facts : List (Atom ℕ)) (binding new : List (Option (Value ℕ))) → IsFit rule (HeadsAre rule facts) binding → AllByRecursion (Holds (bound_at binding)) rule.guard → IsCompleted rule binding new → IsInstanceUnder rule facts new
+is_instance_under : (rule : Simpagation ℕ) → IsRule rule → (facts : List (Atom ℕ)) (binding new : List (Option (Value ℕ))) → IsFit rule (HeadsAre rule facts) binding → AllByRecursion (Holds (bound_at binding)) rule.guard → IsCompleted rule binding new → IsInstanceUnder rule facts new
 is_instance_under rule r facts binding new f guard done =
     let made = body_made (bound_at new) (scoped rule r).count rule.variables rule.body (scoped rule r).body (all_bound rule facts binding new f done) in
     record {
@@ -75,10 +75,14 @@ no_guard rule r facts binding f none body i =
     let e = (f.exactly i.valuation).1 (heads_of rule facts body i) in
     none (guard_agrees i.valuation (bound_at binding) (scoped rule r).count rule.guard (agree_on_heads rule r facts binding f i.valuation (bound_at binding) e (extends_itself binding)) (scoped rule r).guard i.guard)
 
-pub no_right : (rule : Simpagation ℕ) (facts : List (Atom ℕ)) (binding : List (Option (Value ℕ))) → IsFit rule (HeadsAre rule facts) binding → ((v : Valuation) → Completes rule binding v → ⊥) → NoInstance rule facts
+no_right : (rule : Simpagation ℕ) (facts : List (Atom ℕ)) (binding : List (Option (Value ℕ))) → IsFit rule (HeadsAre rule facts) binding → ((v : Valuation) → Completes rule binding v → ⊥) → NoInstance rule facts
 no_right rule facts binding f none body i =
     let e = (f.exactly i.valuation).1 (heads_of rule facts body i) in
     none i.valuation (record { extends = e; heads = λ x h. bound_settled binding x i.valuation (fit_binds rule facts binding f x h) e; right = i.right })
+
+pub becomes_if : (rule : Simpagation ℕ) → IsRule rule → (facts : List (Atom ℕ)) (done : Bool) (binding new : List (Option (Value ℕ))) → IsFit rule (HeadsAre rule facts) binding → AllByRecursion (Holds (bound_at binding)) rule.guard → CompletedIf rule done binding new → IsInstanceIf rule facts done new
+becomes_if rule r facts true binding new f guard done = is_instance_under rule r facts binding new f guard done
+becomes_if rule r facts false binding new f guard none = no_right rule facts binding f none
 
 -- what the binding of an instance adds is the instance's body
 pub is_added : (rule : Simpagation ℕ) (facts made : List (Atom ℕ)) (binding : List (Option (Value ℕ))) → IsInstanceUnder rule facts binding → AreUnder (bound_at binding) (added rule.body) made → IsInstance rule facts made

@@ -7,7 +7,7 @@ use Rattle.chr_rule.specs.Rules.{Simpagation, head_at}
 use Rattle.chr_rule.specs.Scope.{known_after_heads}
 use Rattle.chr_guard.specs.Values.{Valuation}
 use Rattle.chr_guard.specs.Bindings.{bound_at, Extends, Narrows}
-use Rattle.chr_guard.specs.Instances.{atom_under, AreUnder, IsRight, added, IsInstance}
+use Rattle.chr_guard.specs.Instances.{atom_under, AreUnder, IsRight, added, IsInstance, NoInstance}
 
 -- under the valuation the head of that number is that atom
 abbrev pub IsAtHead : Simpagation ℕ → Valuation → ℕ × Atom ℕ → Type 0
@@ -60,3 +60,8 @@ pub record IsInstanceUnder (rule : Simpagation ℕ) (atoms : List (Atom ℕ)) (b
   pub body : List (Atom ℕ)
   pub instance : IsInstance rule atoms body
   pub body_is : AreUnder (bound_at binding) (added rule.body) body
+
+-- where the answer is yes this is the binding of the instance, and where it is no the atoms are none
+abbrev pub IsInstanceIf : Simpagation ℕ → List (Atom ℕ) → Bool → List (Option (Value ℕ)) → Type 0
+IsInstanceIf rule atoms true binding = IsInstanceUnder rule atoms binding
+IsInstanceIf rule atoms false binding = NoInstance rule atoms

@@ -178,6 +178,16 @@ impl<'a> Binding<'a> {
         Binding { bound: copy }
     }
 
+    /// Becomes a copy of another. Only the variables that there are get copied.
+    pub fn set_to(&mut self, other: &Binding<'a>)
+        ensures { self.new ≡ other.now }
+    {
+        self.bound.clear();
+        for bound in other.bound.as_slice() {
+            self.bound.push(*bound);
+        }
+    }
+
     /// A copy with at least this many variables, at most 24: further ones are free.
     pub(crate) fn widened(&self, variables: usize) -> Binding<'a>
         requires { variables ≤ 24 }

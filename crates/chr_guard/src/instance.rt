@@ -2,7 +2,7 @@
 ghost use Rattle.std.specs.Prelude.{List, ℕ, map, MatchOption};
 ghost use Rattle.chr_value.specs.Atoms.{Atom};
 ghost use Rattle.chr_guard.specs.Instances.{IsInstance, NoInstance};
-ghost use Rattle.chr_guard.specs.Matching.{HeadsAre, IsFit, IsInstanceUnder};
+ghost use Rattle.chr_guard.specs.Matching.{HeadsAre, IsFit, IsInstanceIf, IsInstanceUnder};
 
 use crate::binding::Binding;
 use crate::body::{Body, added_atoms, bind_body};
@@ -11,6 +11,18 @@ use crate::values::guard_holds;
 use chr_rule::rule::Rule;
 use chr_value::atom::Atom;
 use std::alloc::Allocator;
+
+/// Binds all variables of a rule's instance, where those of its heads are bound. False where the heads' atoms are no
+/// instance, whatever the body.
+pub fn becomes_instance<'a, A: Allocator + Copy>(rule: &Rule<A>, binding: &mut Binding<'a>) -> bool
+    requires { (facts : List (Atom ℕ)) × IsFit rule.now (HeadsAre rule.now facts) binding.old }
+    ensures { (facts : List (Atom ℕ)) → IsFit rule.now (HeadsAre rule.now facts) binding.old → IsInstanceIf rule.now facts result binding.new }
+{
+    if !guard_holds(rule, binding) {
+        return false;
+    }
+    bind_body(rule, binding)
+}
 
 /// The one binding of all variables of a rule's instance, from that of its heads' variables. None where the heads' atoms
 /// are no instance, whatever the body.
@@ -21,10 +33,7 @@ pub fn instance_from<'a, A: Allocator + Copy>(
     requires { (facts : List (Atom ℕ)) × IsFit rule.now (HeadsAre rule.now facts) binding }
     ensures { (facts : List (Atom ℕ)) → IsFit rule.now (HeadsAre rule.now facts) binding.entry → MatchOption result (NoInstance rule.now facts) (IsInstanceUnder rule.now facts) }
 {
-    if !guard_holds(rule, &binding) {
-        return None;
-    }
-    if !bind_body(rule, &mut binding) {
+    if !becomes_instance(rule, &mut binding) {
         return None;
     }
     Some(binding)

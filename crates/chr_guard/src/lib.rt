@@ -4,8 +4,9 @@
 //! [`Binding`](binding::Binding) of a rule's variables. [`fit`](matching::fit) finds the one binding under which some
 //! heads of a rule are some atoms, [`body`](body::body) the atoms that the rule then adds, and
 //! [`instance`](instance::instance) decides whether a full list of atoms is an instance of a rule.
-//! [`instance_under`](instance::instance_under) decides the same and gives the binding in place of the body. Each answers
-//! None only where there is none, and none of them takes memory.
+//! [`instance_under`](instance::instance_under) decides the same and gives the binding in place of the body, and
+//! [`becomes_instance`](instance::becomes_instance) completes that of the heads in place. Each answers None or false only
+//! where there is none, and none of them takes memory.
 //!
 //! Contracts speak of valuations, which give each variable a term. A binding is the list of what its variables are bound
 //! to; the valuations that extend it are those that give each bound variable its term.
