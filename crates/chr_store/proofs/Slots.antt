@@ -1,5 +1,5 @@
 -- Slots of a bucket.
-use Rattle.std.proofs.Common.{◌≡◌, ℕ, zero, suc, ◌-◌, ◌<◌, ◌≤◌, Bool, true, false, ◌==◌, if◌then◌else◌, List, [], ◌∷◌, ◌++◌, Some, None, refl, sym, ap, subst, arith, true-eqb, length, take, drop, slice_index_or, ◌∙◌, slice_set, get_or, inl, inr, length-append, max, ltb}
+use Rattle.std.proofs.Common.{◌≡◌, ℕ, zero, suc, ◌+◌, ◌-◌, ◌<◌, ◌≤◌, Bool, true, false, ◌==◌, if◌then◌else◌, List, [], ◌∷◌, ◌++◌, Some, None, refl, sym, ap, subst, arith, true-eqb, length, take, drop, slice_index_or, ◌∙◌, slice_set, get_or, inl, inr, length-append, max, ltb}
 use Rattle.std.specs.List.{AllByRecursion, slice_get}
 use Rattle.std.proofs.lemmas.List.{take-append-drop, take-append-le}
 use Rattle.std.proofs.lemmas.Bool.{cases_lt, lt-ltb, eqb-true}
@@ -236,6 +236,33 @@ all_append P (x ∷ xs) ys a b = (a.0, all_append P xs ys a.1 b)
 is_in_middle : (xs ys : List ℕ) (l : ℕ) → IsIn l (xs ++ l ∷ ys)
 is_in_middle [] ys l = inl refl
 is_in_middle (x ∷ xs) ys l = inr (is_in_middle xs ys l)
+
+-- a slot that has the label parts the slots
+
+label_over : (ss : List Slot) (i k : ℕ) (s : Slot) → AllByRecursion (λ t. k < t.label) ss → slice_get ss i ≡ Some s → k < s.label
+label_over [] i k s a h = let z : None ≡ Some s = h in absurd (cc)
+label_over (t ∷ ss) zero k s a h = let same : t ≡ s = cc in subst (λ (z : Slot). k < z.label) same a.0
+label_over (t ∷ ss) (suc i) k s a h = label_over ss i k s a.1 h
+
+front_there : (ss : List Slot) (i : ℕ) (s : Slot) → SlotsRise ss → slice_get ss i ≡ Some s → AllByRecursion (λ t. t.label ≤ s.label) (take (suc i) ss)
+front_there [] i s r h = tt
+front_there (t ∷ ss) zero s r h = let same : t ≡ s = cc in (subst (λ (z : Slot). t.label ≤ z.label) same (omega arith), tt)
+front_there (t ∷ ss) (suc i) s r h = ((let z : t.label < s.label = label_over ss i t.label s r.0 h in omega arith), front_there ss i s r.1 h)
+
+later_there : (ss : List Slot) (i : ℕ) (s : Slot) → SlotsRise ss → slice_get ss i ≡ Some s → AllByRecursion (λ t. s.label < t.label) (drop (suc i) ss)
+later_there [] i s r h = tt
+later_there (t ∷ ss) zero s r h = let same : t ≡ s = cc in subst (λ (z : Slot). AllByRecursion (λ u. z.label < u.label) ss) same r.0
+later_there (t ∷ ss) (suc i) s r h = later_there ss i s r.1 h
+
+pub front_near : (ss : List Slot) (i l : ℕ) (s : Slot) → SlotsRise ss → slice_get ss i ≡ Some s → s.label ≡ l → AllByRecursion (λ t. t.label ≤ l) (take (i + 1) ss)
+front_near ss i l s r h e =
+    let next : suc i ≡ i + 1 = omega arith in
+    subst (λ (m : ℕ). AllByRecursion (λ t. t.label ≤ m) (take (i + 1) ss)) e (subst (λ (n : ℕ). AllByRecursion (λ t. t.label ≤ s.label) (take n ss)) next (front_there ss i s r h))
+
+pub later_near : (ss : List Slot) (i l : ℕ) (s : Slot) → SlotsRise ss → slice_get ss i ≡ Some s → s.label ≡ l → AllByRecursion (λ t. l < t.label) (drop (i + 1) ss)
+later_near ss i l s r h e =
+    let next : suc i ≡ i + 1 = omega arith in
+    subst (λ (m : ℕ). AllByRecursion (λ t. m < t.label) (drop (i + 1) ss)) e (subst (λ (n : ℕ). AllByRecursion (λ t. s.label < t.label) (drop n ss)) next (later_there ss i s r h))
 
 -- what the search for the next one has found: those in front are at most `after`, and the others live from a place on
 pub record IsSought (ss : List Slot) (after r p : ℕ) : Type 0 where

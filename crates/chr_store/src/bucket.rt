@@ -1,6 +1,7 @@
 //! The labels of one key, rising.
 ghost use Rattle.std.specs.Prelude.{◌≡◌, ℕ, ◌+◌, ◌<◌, ◌≤◌, ◌++◌, ◌∷◌, ◌↔◌, [], IfOk, IfSome, OnOk, OnErr, IsTrue, length, take, drop, MatchOption, slice_get};
 ghost use Rattle.std.specs.List.{AllByRecursion};
+ghost use Rattle.std.specs.Option.{option_map};
 ghost use Rattle.chr_store.specs.Buckets.{jump_at, JumpsAreDead, AreAlike, drop_number, IsLeastBetween, live_labels, live_slots, SlotsRise, IsLiveOrNone, HasLabelAt};
 
 use std::alloc::{AllocError, Allocator};
@@ -183,21 +184,37 @@ fn is_below(slots: &[Slot], label: u64) -> bool
     }
 }
 
-/// The least live label over `after` and under `below`, where the slots before a place are dead.
-fn next_in(slots: &[Slot], first: usize, after: u64, below: u64) -> Option<u64>
+/// The place of the first slot whose label is above a label. It takes no search where the slot at `near` has that label.
+fn place_near(slots: &[Slot], near: usize, label: u64) -> usize
+    requires { SlotsRise slots.now }
+    ensures within { result ≤ length slots.now }
+    ensures front { AllByRecursion (λ s. s.label ≤ label) (take result slots.now) }
+    ensures later { AllByRecursion (λ s. label < s.label) (drop result slots.now) }
+{
+    let Some(slot) = slots.get(near) else {
+        return place_above(slots, label);
+    };
+    if slot.label != label {
+        return place_above(slots, label);
+    }
+    near + 1
+}
+
+/// The place and the label of the first live slot from a place on, under `below`, where the slots before `first` are dead.
+fn next_in(slots: &[Slot], first: usize, from: usize, below: u64) -> Option<(usize, u64)>
     requires rising { SlotsRise slots.now }
     requires within { first ≤ length slots.now }
+    requires from { from ≤ length slots.now }
     requires jumps { JumpsAreDead slots.now }
     requires front { live_labels (take first slots.now) ≡ [] }
-    ensures { IsLeastBetween (live_labels slots.now) after below result }
+    ensures { (after : ℕ) → AllByRecursion (λ s. s.label ≤ after) (take from slots.now) → AllByRecursion (λ s. after < s.label) (drop from slots.now) → IsLeastBetween (live_labels slots.now) after below (option_map (λ p. p.1) result) }
 {
-    let above = place_above(slots, after);
-    let place = first_live(slots, above.max(first));
+    let place = first_live(slots, from.max(first));
     let Some(slot) = slots.get(place) else {
         return None;
     };
     if slot.label < below {
-        Some(slot.label)
+        Some((place, slot.label))
     } else {
         None
     }
@@ -266,6 +283,18 @@ impl<A: Allocator + Copy> Bucket<A> {
     pub fn next(&self, after: u64, below: u64) -> Option<u64>
         ensures { IsLeastBetween self.now after below result }
     {
-        next_in(&self.slots, self.first, after, below)
+        let from = place_above(&self.slots, after);
+        let Some((_, label)) = next_in(&self.slots, self.first, from, below) else {
+            return None;
+        };
+        Some(label)
+    }
+
+    /// The least label over `after` and under `below`, and its place, which as `near` spares the next call a search.
+    pub fn next_near(&self, near: usize, after: u64, below: u64) -> Option<(usize, u64)>
+        ensures { IsLeastBetween self.now after below (option_map (λ p. p.1) result) }
+    {
+        let from = place_near(&self.slots, near, after);
+        next_in(&self.slots, self.first, from, below)
     }
 }

@@ -6,6 +6,7 @@
 //! A store keeps the labels of each predicate in order, and, for each place that
 //! [`indexed`](store::Store::indexed) is given, those of each predicate and value there. So `next_at` takes a hash and a
 //! binary search; with a key at another place it goes through the labels of the predicate.
+//! [`matches`](store::Store::matches) takes the hash once, and going on from the label found last takes no search.
 //! [`indexed`](store::Store::indexed), [`insert`](store::Store::insert) and [`copy`](store::Store::copy) take memory, no
 //! other call does.
 //!

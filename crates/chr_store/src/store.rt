@@ -1,15 +1,17 @@
 //! Constraints under labels.
-ghost use Rattle.std.specs.Prelude.{◌≡◌, ℕ, ◌+◌, ◌<◌, ◌≤◌, ◌++◌, ◌∷◌, ◌↔◌, [], length, Some, Err, IfOk, OnOk, IfErr, OnErr, IsTrue};
+ghost use Rattle.std.specs.Prelude.{◌≡◌, ℕ, ◌+◌, ◌<◌, ◌≤◌, ◌++◌, ◌∷◌, ◌↔◌, [], length, Option, Some, None, Err, IfOk, OnOk, IfErr, OnErr, IfSome, IsSome, IsTrue};
 ghost use Rattle.std.specs.Option.{option_copied};
 ghost use Rattle.std.specs.Map.Iter.{ShowsInOrder, deref_pair};
 ghost use Rattle.chr_value.specs.Atoms.{Atom, ground};
 ghost use Rattle.chr_value.specs.Stores.{atom_at, drop_label};
 ghost use Rattle.chr_store.specs.Labels.{IsLabelled};
+ghost use Rattle.chr_store.specs.Buckets.{IsLeastBetween};
 ghost use Rattle.chr_store.specs.Keys.{arg_at, HasPred, HasKey, key_of, IsLeastMatch};
 ghost use Rattle.chr_store.specs.Faults.{given_back};
 ghost use Rattle.chr_store.specs.Indexed.{LabelHas};
 ghost use Rattle.chr_store.specs.declared.store.StoreFault.TheVariants.{LabelsSpent};
 
+use crate::bucket::Bucket;
 use crate::keys::{Buckets, Key, enter, is_chosen, leave, next_of};
 use chr_value::atom::{Atom, Pred, Value};
 use chr_value::label::GREATEST_LABEL;
@@ -216,6 +218,37 @@ impl<A: Allocator + Copy> Store<A> {
         None
     }
 
+    /// The labels whose atoms have the predicate and, where `key` is a place and a value, that value at that place: many
+    /// calls of [`Matches::next_at`] take one hash. None only where `key` has a place that has no index.
+    pub fn matches(&self, pred: Pred, key: Option<(u8, &Value)>) -> Option<Matches<'_, A>>
+        ensures least { IfSome result (λ labels. (after below : ℕ) (found : Option ℕ) → IsLeastBetween labels after below found → IsLeastMatch self.now.entries (record { pred = pred; key = key_of key.entry; after = after; below = below }) found) }
+        ensures own { key.entry ≡ None → IsSome result }
+    {
+        let own = Key {
+            pred,
+            place: 0,
+            value: Value::Int(0),
+        };
+        let Some((place, value)) = key else {
+            return Some(Matches {
+                bucket: self.buckets.get(&own),
+                near: 0,
+            });
+        };
+        if place == 0 || !is_chosen(&self.places, pred, place) {
+            return None;
+        }
+        let key = Key {
+            pred,
+            place,
+            value: *value,
+        };
+        Some(Matches {
+            bucket: self.buckets.get(&key),
+            near: 0,
+        })
+    }
+
     /// The constraints with their labels, which rise.
     pub fn iter(&self) -> Iter<'_, u64, Atom<A>>
         ensures rest { result ≡ self.now.entries }
@@ -245,5 +278,38 @@ impl<A: Allocator + Copy> Store<A> {
             next: self.next,
             limit: self.limit,
         })
+    }
+}
+
+/// The labels of a key, to go through. Contracts see the list of them.
+#[derive(Drop)]
+pub struct Matches<'s, A: Allocator> {
+    bucket: Option<&'s Bucket<A>>,
+    near: usize,
+}
+
+impl<'s, A: Allocator> Model for Matches<'s, A> {
+    ghost use Rattle.std.specs.Prelude.{ℕ, List, []};
+    ghost use Rattle.std.specs.Option.{option_copied, unwrap_or};
+
+    ghost Value = { List ℕ };
+
+    ghost view = { λ m. unwrap_or (option_copied m.bucket) [] };
+}
+
+impl<'s, A: Allocator + Copy> Matches<'s, A> {
+    /// The least label over `after` and under `below`. It takes no search where `after` is the one found last.
+    pub fn next_at(&mut self, after: Label, below: Label) -> Option<Label>
+        ensures least { IsLeastBetween self.old after below result }
+        ensures same { self.new ≡ self.old }
+    {
+        let Some(bucket) = self.bucket else {
+            return None;
+        };
+        let Some((place, label)) = bucket.next_near(self.near, after, below) else {
+            return None;
+        };
+        self.near = place;
+        Some(label)
     }
 }
