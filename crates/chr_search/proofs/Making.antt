@@ -44,7 +44,7 @@ all_push P xs new x a e p = subst (AllByRecursion P) (sym e) (on xs a)
     on (y ∷ ys) b = (b.0, on ys b.1)
 
 -- the labels of a trial
-grows_count : (j : Join) (before more : List ℕ) → Grows (MayFollow j) before more → length before ≤ length j.order → length (before ++ more) ≤ length j.order
+pub grows_count : (j : Join) (before more : List ℕ) → Grows (MayFollow j) before more → length before ≤ length j.order → length (before ++ more) ≤ length j.order
 grows_count j before [] g h = subst (λ (n : List ℕ). length n ≤ length j.order) (sym (append_nil before)) h
   where
     append_nil : (xs : List ℕ) → xs ++ [] ≡ xs
@@ -54,7 +54,7 @@ grows_count j before (x ∷ more) g h =
     let less : length before < length j.order = slice_get_within j.order (length before) g.0.step g.0.step_is in
     subst (λ (n : List ℕ). length n ≤ length j.order) (Rattle.chr_search.proofs.Tree.append_one before more x) (grows_count j (before ++ x ∷ []) more g.1 (omega (arith, length-append before (x ∷ []))))
 
-grows_live : (j : Join) (before more : List ℕ) → Grows (MayFollow j) before more → (i x : ℕ) → slice_get more i ≡ Some x → (a : Atom ℕ) × (atom_at j.store x ≡ Some a)
+pub grows_live : (j : Join) (before more : List ℕ) → Grows (MayFollow j) before more → (i x : ℕ) → slice_get more i ≡ Some x → (a : Atom ℕ) × (atom_at j.store x ≡ Some a)
 grows_live j before [] g i x e = absurd (let z : None ≡ Some x = e in cc)
 grows_live j before (y ∷ more) g zero x e = let same : y ≡ x = (let z : Some y ≡ Some x = e in cc) in (g.0.atom, subst (λ l. atom_at j.store l ≡ Some g.0.atom) same g.0.live)
 grows_live j before (y ∷ more) g (suc i) x e = grows_live j (before ++ y ∷ []) more g.1 i x e

@@ -26,7 +26,7 @@ fit_less j v [] (k ∷ before) l f = absurd f
 fit_less j v (x ∷ steps) [] l f = (x, refl, tt, f.0)
 fit_less j v (x ∷ steps) (k ∷ before) l f = let r = fit_less j v steps before l f.1 in (r.0, r.1, (f.0, r.2), r.3)
 
-distinct_less : (xs : List ℕ) (x : ℕ) → Distinct (xs ++ x ∷ []) → among xs x ≡ false
+pub distinct_less : (xs : List ℕ) (x : ℕ) → Distinct (xs ++ x ∷ []) → among xs x ≡ false
 distinct_less [] x d = refl
 distinct_less (y ∷ xs) x d = let e : among (xs ++ x ∷ []) y ≡ false = d.0 in let p = among_push xs x y in let r = distinct_less xs x d.1 in grind (arith, nat_tests, p, e, r)
 

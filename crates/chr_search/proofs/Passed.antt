@@ -1,12 +1,12 @@
 -- Verdicts on trials in the store, and searches that pass over them.
-use Rattle.std.proofs.Common.{◌≡◌, ◌↔◌, ℕ, zero, suc, ◌+◌, ◌<◌, ◌≤◌, Bool, true, false, not, IsTrue, ◌==◌, List, [], ◌∷◌, map, take, length, Option, Some, None, slice_get, refl, sym, ◌∙◌, ap, subst, arith, true≢false}
-use Rattle.std.specs.List.{AllByRecursion, list_any}
+use Rattle.std.proofs.Common.{◌≡◌, ◌≢◌, ◌↔◌, ℕ, zero, suc, ◌+◌, ◌<◌, ◌≤◌, true, List, [], ◌∷◌, ◌++◌, map, take, length, length-append, Option, Some, None, slice_get, refl, sym, ◌∙◌, ap, subst, arith, true≢false}
+use Rattle.std.specs.List.{AllByRecursion}
 use Rattle.std.proofs.lemmas.List.{length-map}
 use Rattle.chr_value.specs.Atoms.{Value, Atom}
 use Rattle.chr_rule.specs.Rules.{Simpagation, rule_at}
 use Rattle.chr_rule.specs.Scope.{IsRule}
 use Rattle.chr_guard.specs.Values.{Valuation}
-use Rattle.chr_guard.specs.Bindings.{Narrows, NoneUnder}
+use Rattle.chr_guard.specs.Bindings.{bound_at, Narrows, NoneUnder}
 use Rattle.chr_guard.specs.Instances.{NoInstance}
 use Rattle.chr_guard.specs.Matching.{IsAtHead, AreAtHeads, HeadsAre, IsFit, IsInstanceUnder}
 use Rattle.chr_model.specs.Stores.{Store, atom_at, among, Distinct}
@@ -14,25 +14,24 @@ use Rattle.chr_plan.specs.Orders.{heads_of}
 use Rattle.chr_plan.specs.Plans.{plan_at, ArePlans}
 use Rattle.chr_plan.specs.declared.order.Step.{Step}
 use Rattle.chr_store.specs.Labels.{LabelledStore, IsLabelled}
-use Rattle.chr_search.specs.Trials.{Join, StandsAt, Fit, Space, join_in}
+use Rattle.chr_search.specs.declared.judged.Verdict.{Verdict}
+use Rattle.chr_search.specs.declared.judged.Verdict.TheVariants.{Misfit, Part, Whole}
+use Rattle.chr_search.specs.Positions.{past}
+use Rattle.chr_search.specs.Tree.{Grows, LeastFrom}
+use Rattle.chr_search.specs.Trials.{Join, StandsAt, Fit, MayFollow, Space, join_in, IsPlanned, Child, IsNext}
+use Rattle.chr_search.specs.Partners.{HasPlan, IsReady}
 use Rattle.chr_search.specs.Verdicts.{Placed, Trial, heads, labels, position, at_heads, IsPart, IsWhole, IsTrialOf}
-use Rattle.chr_search.specs.Passing.{IsTrialIn, PassesOne, Passes}
+use Rattle.chr_search.specs.Answers.{after_verdict}
+use Rattle.chr_search.specs.Passing.{IsTrialIn, HasTrials, AreJudged, AreMisfits, FollowedBy, PassesFrom, PassesOne, Passes}
+use Rattle.chr_search.proofs.Positions.{past_last}
+use Rattle.chr_search.proofs.Tree.{grows_more, least_beside}
 use Rattle.chr_search.proofs.Plans.{heads_in}
-use Rattle.chr_search.proofs.Partners.{fit_push, fit_less}
-use Rattle.chr_search.proofs.Asking.{some_is, any_among}
-use Rattle.chr_search.proofs.Making.{take_next, Parts, parts_as, formed}
+use Rattle.chr_search.proofs.Partners.{fit_push, fit_less, distinct_less}
+use Rattle.chr_search.proofs.Descents.{child_is, grows_in, grows_out, rule_scoped, plan_of}
+use Rattle.chr_search.proofs.Asking.{some_is}
+use Rattle.chr_search.proofs.Judging.{few_heads, last_small}
+use Rattle.chr_search.proofs.Making.{take_next, grows_count, grows_live, Parts, parts_as, formed, next_trial}
 use Rattle.chr_search.proofs.Wholes.{places, in_head_order, full_fit, is_whole, no_instance}
-
--- labels that differ
-pub differ_first : (all xs : List ℕ) (x : ℕ) (there told : Bool) → all ≡ x ∷ xs → there ≡ list_any (λ y. y == x) xs → there ≡ false → IsTrue told ↔ Distinct xs → IsTrue told ↔ Distinct all
-differ_first all xs x there told e h n d =
-    let away : among xs x ≡ false = sym (any_among xs x) ∙ sym h ∙ n in
-    (λ t. subst Distinct (sym e) (away, d.0 t), λ y. d.1 (subst Distinct e y).1)
-
-pub same_first : (all xs : List ℕ) (x : ℕ) (there : Bool) → all ≡ x ∷ xs → there ≡ list_any (λ y. y == x) xs → there ≡ true → IsTrue (not there) ↔ Distinct all
-same_first all xs x there e h n =
-    let here : among xs x ≡ true = sym (any_among xs x) ∙ sym h ∙ n in
-    (λ t. absurd (true≢false (sym t ∙ ap not n)), λ y. absurd (true≢false (sym here ∙ (subst Distinct e y).0)))
 
 -- fitting label by label
 take_length : (ls : List ℕ) (i x : ℕ) → slice_get ls i ≡ Some x → length (take i ls) ≡ i
@@ -104,13 +103,10 @@ fits_at_heads j ls t i v =
     )
 
 -- the verdicts
-pub equal_labels : (j : Join) (ls : List ℕ) (t : Trial) → IsTrialIn j ls t → (Distinct ls → ⊥) → (IsWhole t → ⊥) × (IsPart t → ⊥)
-equal_labels j ls t i n = (λ w. n (subst Distinct i.labels_are w.distinct), λ p. n (subst Distinct i.labels_are p.distinct))
-
-pub no_fit : (j : Join) (ls : List ℕ) (t : Trial) → IsTrialIn j ls t → ((v : Valuation) → Fit j v j.order ls → ⊥) → (IsWhole t → ⊥) × (IsPart t → ⊥)
+no_fit : (j : Join) (ls : List ℕ) (t : Trial) → IsTrialIn j ls t → ((v : Valuation) → Fit j v j.order ls → ⊥) → (IsWhole t → ⊥) × (IsPart t → ⊥)
 no_fit j ls t i n = (λ w. n w.valuation ((fits_at_heads j ls t i w.valuation).1 w.fits), λ p. n p.valuation ((fits_at_heads j ls t i p.valuation).1 p.fits))
 
-pub fit_of_trial : (j : Join) (ls : List ℕ) (t : Trial) → IsTrialIn j ls t → (binding : List (Option (Value ℕ))) → IsFit j.rule (λ v. Fit j v j.order ls) binding → IsFit t.rule (AreAtHeads t.rule (at_heads t)) binding
+fit_of_trial : (j : Join) (ls : List ℕ) (t : Trial) → IsTrialIn j ls t → (binding : List (Option (Value ℕ))) → IsFit j.rule (λ v. Fit j v j.order ls) binding → IsFit t.rule (AreAtHeads t.rule (at_heads t)) binding
 fit_of_trial j ls t i binding b = record {
   places = b.places ∙ ap (λ (r : Simpagation ℕ). r.variables) (sym i.rule_is);
   exactly = λ v. (λ e. (fits_at_heads j ls t i v).0 ((b.exactly v).0 e), λ a. (b.exactly v).1 ((fits_at_heads j ls t i v).1 a));
@@ -133,6 +129,58 @@ misfit_here j ls t i full n = (
   no_instance t i.formed full (subst (λ r. NoInstance r (in_head_order t)) (sym i.rule_is) n),
   λ p. absurd (let left : length t.placed < length (heads_of t.rule) = p.left in omega arith),
 )
+
+-- one label more
+pub repeats : (j : Join) (ls : List ℕ) (l : ℕ) → among ls l ≡ true → AreJudged j (ls ++ l ∷ []) Misfit
+repeats j ls l there t i =
+    let n : Distinct (ls ++ l ∷ []) → ⊥ = λ d. true≢false (sym there ∙ distinct_less ls l d) in
+    (λ w. n (subst Distinct i.labels_are w.distinct), λ p. n (subst Distinct i.labels_are p.distinct))
+
+pub has_no_step : (j : Join) (ls : List ℕ) (l : ℕ) → slice_get j.order (length ls) ≡ None → AreJudged j (ls ++ l ∷ []) Misfit
+has_no_step j ls l at t i = no_fit j (ls ++ l ∷ []) t i (λ v f. let m = fit_less j v j.order ls l f in let z : None ≡ Some m.0 = sym at ∙ m.1 in absurd (cc))
+
+pub stands_nowhere : (j : Join) (ls : List ℕ) (binding : List (Option (Value ℕ))) (step : Step) (l : ℕ) → IsReady j ls binding → slice_get j.order (length ls) ≡ Some step → NoneUnder (λ v. StandsAt j v step l) binding → AreJudged j (ls ++ l ∷ []) Misfit
+stands_nowhere j ls binding step l r at n t i = no_fit j (ls ++ l ∷ []) t i (λ v f.
+    let m = fit_less j v j.order ls l f in
+    let z : Some m.0 ≡ Some step = sym m.1 ∙ at in
+    let same : m.0 ≡ step = cc in
+    n v ((r.fit.exactly v).1 m.2) (subst (λ y. StandsAt j v y l) same m.3))
+
+heads_of_trial : (j : Join) (ls : List ℕ) (t : Trial) → IsTrialIn j ls t → length (heads_of t.rule) ≡ length j.rule.kept + length j.rule.removed
+heads_of_trial j ls t i = ap (λ r. length (heads_of r)) i.rule_is ∙ length-append j.rule.kept j.rule.removed
+
+pub is_part : (j : Join) (ls : List ℕ) (binding : List (Option (Value ℕ))) → IsReady j ls binding → length ls < length j.rule.kept + length j.rule.removed → AreJudged j ls Part
+is_part j ls binding r less t i = record {
+  left = (let count : length t.placed ≡ length ls = count_of_trial j ls t i in let all : length (heads_of t.rule) ≡ length j.rule.kept + length j.rule.removed = heads_of_trial j ls t i in omega arith);
+  distinct = subst Distinct (sym i.labels_are) r.distinct;
+  valuation = bound_at binding;
+  fits = ((fit_of_trial j ls t i binding r.fit).exactly (bound_at binding)).0 (λ x v e. e);
+}
+
+pub is_full : (j : Join) (ls : List ℕ) (t : Trial) → IsTrialIn j ls t → length j.rule.kept + length j.rule.removed ≤ length ls → length t.placed ≡ length (heads_of t.rule)
+is_full j ls t i many =
+    let count : length t.placed ≡ length ls = count_of_trial j ls t i in
+    let all : length (heads_of t.rule) ≡ length j.rule.kept + length j.rule.removed = heads_of_trial j ls t i in
+    let few : length t.placed ≤ length (heads_of t.rule) = i.formed.few in
+    omega arith
+
+pub room_below : (j : Join) (ls : List ℕ) (t : Trial) → IsTrialIn j ls t → IsPart t → length ls < 6
+room_below j ls t i p =
+    let count : length t.placed ≡ length ls = count_of_trial j ls t i in
+    let left : length t.placed < length (heads_of t.rule) = p.left in
+    let few : length (heads_of t.rule) ≤ 6 = few_heads t.rule i.formed.scoped in
+    omega arith
+
+pub label_small : (j : Join) (ls : List ℕ) (l : ℕ) (t : Trial) → IsTrialIn j (ls ++ l ∷ []) t → l ≤ 4294967295
+label_small j ls l t i = last_small t i.formed ls l (sym i.labels_are)
+
+-- labels that may be followed by another are distinct and fit
+pub ready_before : (j : Join) (ls : List ℕ) (binding : List (Option (Value ℕ))) (l : ℕ) → MayFollow j ls l → IsFit j.rule (λ v. Fit j v j.order ls) binding → IsReady j ls binding
+ready_before j ls binding l m f = record { distinct = m.distinct; fit = f }
+
+-- one misfit more
+pub misfits_more : (j : Join) (ls : List ℕ) (n from middle x : ℕ) → AreMisfits j ls n from middle → LeastFrom (MayFollow j ls) middle x → AreJudged j (ls ++ x ∷ []) Misfit → AreMisfits j ls (n + 1) from (x + 1)
+misfits_more j ls n from middle x m l a = subst (λ k. AreMisfits j ls k from (x + 1)) (let e : suc n ≡ n + 1 = omega arith in e) (middle, x, m, l, a, refl)
 
 -- the trial of an admissible position
 abbrev Lives : Store → List ℕ → Type 0
@@ -196,10 +244,127 @@ trial_of_made s rule order r h ls m ri oi = record {
   live = m.is.live;
 }
 
--- one trial more
+-- a misfit or a part, and the misfits that follow it
+from_one : (j : Join) (n : ℕ) (old new : List ℕ) → FollowedBy j n old new → PassesFrom j (n + 1) old new
+from_one j n old new f = subst (λ k. PassesFrom j k old new) (let e : suc n ≡ n + 1 = omega arith in e) f
+
+pub misfit_followed : (j : Join) (old new front : List ℕ) (label n next : ℕ) → old ≡ front ++ label ∷ [] → Grows (MayFollow j) [] front → AreJudged j (front ++ label ∷ []) Misfit → AreMisfits j front n (label + 1) next → new ≡ front ++ next ∷ [] → PassesFrom j (n + 1) old new
+misfit_followed j old new front label n next e g a m is = from_one j n old new (record {
+  verdict = Misfit;
+  right = subst (λ ls. AreJudged j ls Misfit) (sym e) a;
+  other = λ e. absurd (cc);
+  front = front;
+  grows = g;
+  from = label + 1;
+  on = ap past e ∙ past_last front label;
+  next = next;
+  misfits = m;
+  is = is;
+})
+
+pub part_followed : (j : Join) (old new : List ℕ) (n next : ℕ) → Grows (MayFollow j) [] old → AreJudged j old Part → AreMisfits j old n 0 next → new ≡ old ++ next ∷ [] → PassesFrom j (n + 1) old new
+part_followed j old new n next g a m is = from_one j n old new (record {
+  verdict = Part;
+  right = a;
+  other = λ e. absurd (cc);
+  front = old;
+  grows = g;
+  from = 0;
+  on = refl;
+  next = next;
+  misfits = m;
+  is = is;
+})
+
+-- what makes trials of the labels of a rule's plan
+pub record Makes (s : Space) (rule : Simpagation ℕ) (order : List Step) (r h : ℕ) : Type 0 where
+  pub planned : IsPlanned s r h rule order
+  pub plans : ArePlans s.rules s.plans
+  pub store : LabelledStore
+  pub entries : store.entries ≡ s.store
+  pub labelled : IsLabelled store
+  pub scoped : IsRule rule
+  pub number : 1 ≤ r
+  pub head : 1 ≤ h
+
+made_of : (s : Space) (rule : Simpagation ℕ) (order : List Step) (r h : ℕ) → Makes s rule order r h → (ls : List ℕ) → 1 ≤ length ls → Grows (MayFollow (join_in s rule order)) [] ls → Made s rule order r h ls
+made_of s rule order r h m ls some g =
+    trial_made s rule order r h ls m.store (record { planned = m.planned; some = some; count = grows_count (join_in s rule order) [] ls g (omega arith); live = grows_live (join_in s rule order) [] ls g }) m.plans m.entries m.labelled m.scoped m.number m.head
+
+pub has_trials : (s : Space) (rule : Simpagation ℕ) (order : List Step) (r h : ℕ) → Makes s rule order r h → HasTrials (join_in s rule order)
+has_trials s rule order r h m ls some g = let t = made_of s rule order r h m ls some g in (t.trial, t.is)
+
+-- the next trial of a search, in its rule's plan
+pub record Found (s : Space) (rule : Simpagation ℕ) (order : List Step) (r h : ℕ) (place ls : List ℕ) : Type 0 where
+  pub makes : Makes s rule order r h
+  pub plan : HasPlan (join_in s rule order)
+  pub next : IsNext s place (r ∷ h ∷ ls)
+  pub some : 1 ≤ length ls
+  pub grows : Grows (MayFollow (join_in s rule order)) [] ls
+
+pub found : (s : Space) (rule : Simpagation ℕ) (order : List Step) (r h : ℕ) (place ls next : List ℕ) (store : LabelledStore) → IsNext s place next → r ∷ h ∷ ls ≡ next → rule_at s.rules r ≡ Some rule → plan_at s.plans r h ≡ Some order → ArePlans s.rules s.plans → AllByRecursion IsRule s.rules → store.entries ≡ s.store → IsLabelled store → 1 ≤ r → 1 ≤ h → Found s rule order r h place ls
+found s rule order r h place ls next store n e ri oi ps all st w number head =
+    let p : IsPlanned s r h rule order = record { rule_is = ri; order_is = oi } in
+    let here : IsNext s place (r ∷ h ∷ ls) = subst (IsNext s place) (sym e) n in
+    let t = next_trial s place (r ∷ h ∷ ls) here in
+    record {
+      makes = record { planned = p; plans = ps; store = store; entries = st; labelled = w; scoped = rule_scoped s.rules all r rule ri; number = number; head = head };
+      plan = plan_of s ps all r h rule order p;
+      next = here;
+      some = (let deep : 3 ≤ length (r ∷ h ∷ ls) = t.deep in omega arith);
+      grows = grows_in s r h rule order p [] ls t.grows.1.1;
+    }
+
+one_passed : (s : Space) (rule : Simpagation ℕ) (order : List Step) (r h : ℕ) → Makes s rule order r h → (place ls : List ℕ) → IsNext s place (r ∷ h ∷ ls) → 1 ≤ length ls → Grows (MayFollow (join_in s rule order)) [] ls → (verdict : Verdict) → AreJudged (join_in s rule order) ls verdict → verdict ≢ Whole → PassesOne s place (after_verdict verdict (r ∷ h ∷ ls))
+one_passed s rule order r h m place ls n some g verdict a ne =
+    let t = made_of s rule order r h m ls some g in
+    let is : position t.trial ≡ r ∷ h ∷ ls = position_made s rule order r h ls t in
+    record {
+      judged = record { trial = t.trial; verdict = verdict };
+      next = subst (IsNext s place) (sym is) n;
+      is = trial_of_made s rule order r h ls t m.planned.rule_is m.planned.order_is;
+      formed = t.is.formed;
+      right = a t.trial t.is;
+      other = ne;
+      on = ap (after_verdict verdict) (sym is);
+    }
+
+-- a trial beside others
+beside : (s : Space) (rule : Simpagation ℕ) (order : List Step) (r h : ℕ) → IsPlanned s r h rule order → (ls : List ℕ) (from x : ℕ) → Grows (MayFollow (join_in s rule order)) [] ls → LeastFrom (MayFollow (join_in s rule order) ls) from x → IsNext s (r ∷ h ∷ (ls ++ from ∷ [])) (r ∷ h ∷ (ls ++ x ∷ []))
+beside s rule order r h p ls from x g l =
+    least_beside (Child s) 3 [] (r ∷ h ∷ ls) from x ((rule, p.rule_is), ((rule, order, p), grows_out s r h rule order p [] ls g))
+    (record { holds = (rule, order, p, l.holds); there = l.there; least = λ y c low. l.least y (child_is s r h rule order p ls y c) low })
+    (omega (arith, length-append ls (x ∷ [])))
+
+-- so many of them, one after another
 pass_last : (s : Space) (n : ℕ) (place middle after : List ℕ) → Passes s n place middle → PassesOne s middle after → Passes s (suc n) place after
 pass_last s zero place middle after p one = (after, subst (λ z. PassesOne s z after) p one, refl)
 pass_last s (suc n) place middle after p one = (p.0, p.1, pass_last s n p.0 middle after p.2 one)
 
-pub pass_more : (s : Space) (n : ℕ) (place middle after : List ℕ) → Passes s n place middle → PassesOne s middle after → Passes s (n + 1) place after
-pass_more s n place middle after p one = subst (λ k. Passes s k place after) (let e : suc n ≡ n + 1 = omega arith in e) (pass_last s n place middle after p one)
+misfits_passed : (s : Space) (rule : Simpagation ℕ) (order : List Step) (r h : ℕ) → Makes s rule order r h → (ls : List ℕ) → Grows (MayFollow (join_in s rule order)) [] ls → (n from next : ℕ) → AreMisfits (join_in s rule order) ls n from next → Passes s n (r ∷ h ∷ (ls ++ from ∷ [])) (r ∷ h ∷ (ls ++ next ∷ []))
+misfits_passed s rule order r h m ls g zero from next e = ap (λ x. r ∷ h ∷ (ls ++ x ∷ [])) e
+misfits_passed s rule order r h m ls g (suc n) from next (middle, x, before, least, misfit, e) =
+    let on : past (r ∷ h ∷ (ls ++ x ∷ [])) ≡ r ∷ h ∷ (ls ++ next ∷ []) = past_last (r ∷ h ∷ ls) x ∙ ap (λ y. r ∷ h ∷ (ls ++ y ∷ [])) (sym e) in
+    let ne : Misfit ≢ Whole = λ e. absurd (cc) in
+    pass_last s n (r ∷ h ∷ (ls ++ from ∷ [])) (r ∷ h ∷ (ls ++ middle ∷ [])) (r ∷ h ∷ (ls ++ next ∷ [])) (misfits_passed s rule order r h m ls g n from middle before)
+    (subst (PassesOne s (r ∷ h ∷ (ls ++ middle ∷ []))) on
+    (one_passed s rule order r h m (r ∷ h ∷ (ls ++ middle ∷ [])) (ls ++ x ∷ []) (beside s rule order r h m.planned ls middle x g least) (omega (arith, length-append ls (x ∷ []))) (grows_more (MayFollow (join_in s rule order)) [] ls x g least.holds) Misfit misfit ne))
+
+after_labels : (verdict : Verdict) (r h : ℕ) (ls : List ℕ) → 1 ≤ length ls → after_verdict verdict (r ∷ h ∷ ls) ≡ r ∷ h ∷ after_verdict verdict ls
+after_labels verdict r h [] some = absurd (omega arith)
+after_labels Part r h (l ∷ ls) some = refl
+after_labels Whole r h (l ∷ ls) some = refl
+after_labels Misfit r h (l ∷ ls) some = refl
+
+pub passes_from : (s : Space) (rule : Simpagation ℕ) (order : List Step) (r h : ℕ) (place old new : List ℕ) (n : ℕ) → Found s rule order r h place old → PassesFrom (join_in s rule order) n old new → 1 ≤ n → Passes s n place (r ∷ h ∷ new)
+passes_from s rule order r h place old new zero f p low = absurd (omega arith)
+passes_from s rule order r h place old new (suc n) f p low =
+    let on : after_verdict p.verdict (r ∷ h ∷ old) ≡ r ∷ h ∷ (p.front ++ p.from ∷ []) = after_labels p.verdict r h old f.some ∙ ap (λ (ls : List ℕ). r ∷ h ∷ ls) p.on in (
+      r ∷ h ∷ (p.front ++ p.from ∷ []),
+      subst (PassesOne s place) on (one_passed s rule order r h f.makes place old f.next f.some f.grows p.verdict p.right p.other),
+      subst (λ (ls : List ℕ). Passes s n (r ∷ h ∷ (p.front ++ p.from ∷ [])) (r ∷ h ∷ ls)) (sym p.is) (misfits_passed s rule order r h f.makes p.front p.grows n p.from p.next p.misfits),
+    )
+
+pub pass_more : (s : Space) (n more : ℕ) (place middle after : List ℕ) → Passes s n place middle → Passes s more middle after → Passes s (n + more) place after
+pass_more s zero more place middle after p q = subst (λ k. Passes s k place after) (let e : more ≡ 0 + more = omega arith in e) (subst (λ z. Passes s more z after) p q)
+pass_more s (suc n) more place middle after p q = subst (λ k. Passes s k place after) (let e : suc (n + more) ≡ suc n + more = omega arith in e) (p.0, p.1, pass_more s n more p.0 middle after p.2 q)

@@ -72,7 +72,12 @@ impl<'s, A: Allocator + Copy> Join<'s, A> {
     }
 
     /// The least label from one on that may be tried after these labels.
-    fn next_partner(&self, labels: &[Label], binding: &Binding<'s>, from: Label) -> Option<Label>
+    pub(crate) fn next_partner(
+        &self,
+        labels: &[Label],
+        binding: &Binding<'s>,
+        from: Label,
+    ) -> Option<Label>
         requires some { 1 ≤ length labels.now }
         requires plan { HasPlan (join_of self.now) }
         requires ready { IsReady (join_of self.now) labels.now binding.now }

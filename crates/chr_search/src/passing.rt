@@ -1,28 +1,36 @@
-//! Verdicts on trials in the store, without copies.
-ghost use Rattle.std.specs.Prelude.{◌↔◌, IsTrue, MatchOption};
+//! Trials in the store that are judged without being made.
+ghost use Rattle.std.specs.Prelude.{◌≡◌, ◌≤◌, ◌∷◌, ◌++◌, [], false, length, MatchOption};
 ghost use Rattle.chr_guard.specs.Matching.{IsFit};
-ghost use Rattle.chr_model.specs.Stores.{Distinct};
 ghost use Rattle.chr_search.specs.Joined.{join_of};
-ghost use Rattle.chr_search.specs.Judged.{IsVerdict};
-ghost use Rattle.chr_search.specs.Passing.{IsTrialIn};
-ghost use Rattle.chr_search.specs.Trials.{Fit};
+ghost use Rattle.chr_search.specs.Partners.{HasPlan, IsReady};
+ghost use Rattle.chr_search.specs.Passing.{IsTrialIn, HasTrials, IsBeside, AreMisfits, PassesFrom};
+ghost use Rattle.chr_search.specs.Tree.{Grows};
+ghost use Rattle.chr_search.specs.Trials.{Fit, MayFollow};
 ghost use Rattle.chr_search.specs.Verdicts.{Trial};
 
 use crate::join::Join;
-use crate::judged::Verdict;
 use chr_guard::binding::Binding;
 use chr_guard::instance::instance_from;
+use chr_log::events::Labels;
 use chr_store::store::Label;
 use std::alloc::Allocator;
 
-/// Whether no label stands twice.
-fn differ(labels: &[Label]) -> bool
-    ensures { IsTrue result ↔ Distinct labels.now }
-{
-    match labels.split_first() {
-        None => true,
-        Some((first, rest)) => !rest.contains(first) && differ(rest),
-    }
+/// How a trial is judged, and a part's binding.
+#[derive(Drop)]
+enum Beside<'s> {
+    Misfit,
+    Part(Binding<'s>),
+    Whole,
+}
+
+/// Misfits that were passed over.
+#[derive(Drop)]
+struct Misfits {
+    count: u64,
+    /// The label from which the next one is looked for.
+    next: Label,
+    /// Whether the next one was found to be whole.
+    is_whole: bool,
 }
 
 impl<'s, A: Allocator + Copy> Join<'s, A> {
@@ -38,23 +46,101 @@ impl<'s, A: Allocator + Copy> Join<'s, A> {
         Some(binding)
     }
 
-    /// The verdict on the trial of these labels, whose atoms the store has.
-    pub(crate) fn verdict(&self, labels: &[Label]) -> Verdict
-        requires { (t : Trial) × IsTrialIn (join_of self.now) labels.now t }
-        ensures { (t : Trial) → IsTrialIn (join_of self.now) labels.now t → IsVerdict t result }
+    /// How the trial of these labels and one more is judged, whose atoms the store has.
+    fn fit_beside(&self, labels: &[Label], binding: &Binding<'s>, label: Label) -> Beside<'s>
+        requires ready { IsReady (join_of self.now) labels.now binding.now }
+        requires trial { (t : Trial) × IsTrialIn (join_of self.now) (labels.now ++ label ∷ []) t }
+        ensures { IsBeside (join_of self.now) (labels.now ++ label ∷ []) result }
     {
-        if !differ(labels) {
-            return Verdict::Misfit;
+        if labels.contains(&label) {
+            return Beside::Misfit;
         }
-        let Some(binding) = self.fit_labels(labels) else {
-            return Verdict::Misfit;
+        let Some(step) = self.order.get(labels.len()) else {
+            return Beside::Misfit;
         };
-        if labels.len() < self.rule.heads() {
-            return Verdict::Part;
+        let Some(narrowed) = self.fit_label(binding, *step, label) else {
+            return Beside::Misfit;
+        };
+        if labels.len() + 1 < self.rule.heads() {
+            return Beside::Part(narrowed);
         }
-        match instance_from(self.rule, binding) {
-            None => Verdict::Misfit,
-            Some(_) => Verdict::Whole,
+        match instance_from(self.rule, narrowed) {
+            None => Beside::Misfit,
+            Some(_) => Beside::Whole,
         }
+    }
+
+    /// Passes over the trials of these labels and one more from one on, up to one that is no misfit, at most so many.
+    fn pass_misfits(
+        &self,
+        labels: &[Label],
+        binding: &Binding<'s>,
+        from: Label,
+        most: u64,
+    ) -> Misfits
+        requires plan { HasPlan (join_of self.now) }
+        requires ready { IsReady (join_of self.now) labels.now binding.now }
+        requires grows { Grows (MayFollow (join_of self.now)) [] labels.now }
+        requires trials { HasTrials (join_of self.now) }
+        ensures few { result.count ≤ most }
+        ensures misfits { AreMisfits (join_of self.now) labels.now result.count from result.next }
+    {
+        let mut count = 0;
+        let mut next = from;
+        while count < most && !labels.is_empty() {
+            let Some(label) = self.next_partner(labels, binding, next) else {
+                break;
+            };
+            match self.fit_beside(labels, binding, label) {
+                Beside::Misfit => {}
+                Beside::Part(_) => break,
+                Beside::Whole => {
+                    return Misfits {
+                        count,
+                        next,
+                        is_whole: true,
+                    };
+                }
+            }
+            next = label + 1;
+            count += 1;
+        }
+        Misfits {
+            count,
+            next,
+            is_whole: false,
+        }
+    }
+
+    /// Passes over the trial of these labels, unless it is whole, and then over misfits beside or below it, at most so
+    /// many in all. The labels become those at which the search goes on. How many, and whether to stop.
+    pub(crate) fn pass_from(&self, labels: &mut Labels, most: u64) -> (u64, bool)
+        requires most { 1 ≤ most }
+        requires plan { HasPlan (join_of self.now) }
+        requires some { 1 ≤ length labels.old.items }
+        requires grows { Grows (MayFollow (join_of self.now)) [] labels.old.items }
+        requires trials { HasTrials (join_of self.now) }
+        ensures few { result.0 ≤ most }
+        ensures ends { result.1 ≡ false → 1 ≤ result.0 }
+        ensures passed { PassesFrom (join_of self.now) result.0 labels.old.items labels.new.items }
+    {
+        let Some(label) = labels.pop() else {
+            unreachable!();
+        };
+        let Some(binding) = self.fit_labels(labels.as_slice()) else {
+            unreachable!();
+        };
+        let misfits = match self.fit_beside(labels.as_slice(), &binding, label) {
+            Beside::Whole => return (0, true),
+            Beside::Misfit => {
+                self.pass_misfits(labels.as_slice(), &binding, label + 1, most - 1)
+            }
+            Beside::Part(narrowed) => {
+                labels.push(label);
+                self.pass_misfits(labels.as_slice(), &narrowed, 0, most - 1)
+            }
+        };
+        labels.push(misfits.next);
+        (misfits.count + 1, misfits.is_whole)
     }
 }

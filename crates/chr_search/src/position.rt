@@ -1,11 +1,8 @@
 //! Positions in the order of trials.
 ghost use Rattle.std.specs.Prelude.{◌≡◌, ◌↔◌, ◌∷◌, ◌<◌, ◌≤◌, length, IsTrue};
 ghost use Rattle.chr_search.specs.Positions.{beginning, just_after, past, front};
-ghost use Rattle.chr_search.specs.Verdicts.{Trial as PlainTrial, position, IsFormed, IsPart};
-ghost use Rattle.chr_search.specs.Judged.{IsVerdict};
-ghost use Rattle.chr_search.specs.Answers.{after_verdict};
+ghost use Rattle.chr_search.specs.Verdicts.{position, IsFormed, IsPart};
 
-use crate::judged::Verdict;
 use crate::trial::Trial;
 use chr_log::events::{Labels, copy_labels};
 use std::alloc::Allocator;
@@ -80,34 +77,15 @@ impl Position {
         after
     }
 
-    /// Moves from a trial's position past it and all that it begins.
-    fn go_past(&mut self)
-        requires { (t : PlainTrial) × (position t ≡ self.old) × IsFormed t }
-        ensures { self.new ≡ past self.old }
-    {
-        if let Some(last) = self.labels.pop() {
-            self.labels.push(last + 1);
-        }
-    }
-
     /// The first position after a trial and all that it begins.
     pub(crate) fn past<A: Allocator + Copy>(trial: &Trial<A>) -> Position
         ensures { result ≡ past (position trial.now) }
     {
         let mut after = Position::of(trial);
-        after.go_past();
-        after
-    }
-
-    /// Moves from a trial's position to where its search goes on after the verdict.
-    pub(crate) fn go_after(&mut self, verdict: Verdict)
-        requires { (t : PlainTrial) × (position t ≡ self.old) × IsFormed t × IsVerdict t verdict }
-        ensures { self.new ≡ after_verdict verdict self.old }
-    {
-        match verdict {
-            Verdict::Part => self.labels.push(0),
-            Verdict::Misfit | Verdict::Whole => self.go_past(),
+        if let Some(last) = after.labels.pop() {
+            after.labels.push(last + 1);
         }
+        after
     }
 
     /// Whether this is a trial's position but for the last label.

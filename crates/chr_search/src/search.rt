@@ -1,13 +1,12 @@
 //! Searches.
-ghost use Rattle.std.specs.Prelude.{◌≡◌, ◌≤◌, ◌∷◌, [], false, MatchOption, IsTrue, IfOk};
+ghost use Rattle.std.specs.Prelude.{◌≡◌, ◌≤◌, ◌∷◌, [], false, MatchOption, IfOk};
 ghost use Rattle.chr_plan.specs.Plans.{ArePlans};
 ghost use Rattle.chr_search.specs.Positions.{beginning, just_after, past};
 ghost use Rattle.chr_search.specs.Tree.{Least, NoneBeyond};
-ghost use Rattle.chr_search.specs.Trials.{older, Child, IsTrial, IsNext, NoneLeft};
+ghost use Rattle.chr_search.specs.Trials.{older, Child, IsNext, NoneLeft};
 ghost use Rattle.chr_search.specs.Answers.{IsAnswer, IsAnswerBehind, after_judging};
-ghost use Rattle.chr_search.specs.Verdicts.{Trial as PlainTrial, position as position_of, IsFormed, IsTrialOf};
-ghost use Rattle.chr_search.specs.Judged.{IsVerdict};
-ghost use Rattle.chr_search.specs.Passing.{PassesOne, Passes};
+ghost use Rattle.chr_search.specs.Verdicts.{position as position_of};
+ghost use Rattle.chr_search.specs.Passing.{Passes};
 
 use crate::join::Join;
 use crate::judged::{Judged, Verdict};
@@ -188,22 +187,29 @@ impl Search {
         };
     }
 
-    /// The verdict on the admissible trial of a position. It takes no memory.
-    fn verdict_at<A: Allocator + Copy>(
-        &self,
+    /// Passes over the next trial, unless it is whole, and then over misfits beside or below it, at most so many in all.
+    /// How many, and whether to stop.
+    fn pass_next<A: Allocator + Copy>(
+        &mut self,
         program: &Program<A>,
         plans: &Plans<A>,
         store: &Store<A>,
-        position: &Position,
-    ) -> Verdict
+        most: u64,
+    ) -> (u64, bool)
         requires plans { ArePlans program.now plans.now }
-        requires admissible { IsTrial (older program.now plans.now store.now.entries self.now.label) position.now }
-        ensures { (t : PlainTrial) × (position_of t ≡ position.now) × IsTrialOf program.now plans.now store.now.entries t × IsFormed t × IsVerdict t result }
+        requires most { 1 ≤ most }
+        ensures few { result.0 ≤ most }
+        ensures ends { result.1 ≡ false → 1 ≤ result.0 }
+        ensures label { self.new.label ≡ self.old.label }
+        ensures passed { Passes (older program.now plans.now store.now.entries self.old.label) result.0 self.old.place self.new.place }
     {
-        let Some(rule) = program.rule(usize::from(position.rule)) else {
+        let Some(mut next) = self.find(program, plans, store) else {
+            return (0, true);
+        };
+        let Some(rule) = program.rule(usize::from(next.rule)) else {
             unreachable!();
         };
-        let Some(order) = plans.plan(usize::from(position.rule), position.head) else {
+        let Some(order) = plans.plan(usize::from(next.rule), next.head) else {
             unreachable!();
         };
         // For the proof: the labels of a store are at most the greatest.
@@ -214,31 +220,11 @@ impl Search {
             store,
             active: self.label,
         };
-        join.verdict(position.labels.as_slice())
-    }
-
-    /// Passes over the next trial, unless it is whole or there is none: then the search stays as it is.
-    fn pass_one<A: Allocator + Copy>(
-        &mut self,
-        program: &Program<A>,
-        plans: &Plans<A>,
-        store: &Store<A>,
-    ) -> bool
-        requires { ArePlans program.now plans.now }
-        ensures label { self.new.label ≡ self.old.label }
-        ensures passed { IsTrue result → PassesOne (older program.now plans.now store.now.entries self.old.label) self.old.place self.new.place }
-        ensures stays { result ≡ false → self.new ≡ self.old }
-    {
-        let Some(mut next) = self.find(program, plans, store) else {
-            return false;
-        };
-        let verdict = self.verdict_at(program, plans, store, &next);
-        if verdict == Verdict::Whole {
-            return false;
+        let (passed, ends) = join.pass_from(&mut next.labels, most);
+        if passed > 0 {
+            self.position = next;
         }
-        next.go_after(verdict);
-        self.position = next;
-        true
+        (passed, ends)
     }
 
     /// Passes over the next trials up to one that is whole, at most so many: as if each of them had been asked for, judged,
@@ -257,10 +243,11 @@ impl Search {
     {
         let mut passed = 0;
         while passed < most {
-            if !self.pass_one(program, plans, store) {
-                return passed;
+            let (more, ends) = self.pass_next(program, plans, store, most - passed);
+            passed += more;
+            if ends {
+                break;
             }
-            passed += 1;
         }
         passed
     }
