@@ -7,8 +7,9 @@ ghost use Rattle.chr_grammar.specs.Views.{member};
 ghost use Rattle.chr_grammar.specs.Parsing.{added_at, is_member_at, last_member_at, member_at, body_of};
 
 use crate::expression::{ParsedExpression, parse_expression};
+use crate::list::{Member, parse_list};
 use crate::phrase::{ParsedAtom, parse_phrase};
-use crate::sign::{is_comma, is_is, is_open, is_true};
+use crate::sign::{is_is, is_open, is_true};
 use chr_lex::fault::{ItemError, Kind};
 use chr_lex::token::{Token, Word};
 use std::alloc::Allocator;
@@ -20,6 +21,16 @@ pub enum BodyMember<'a, A: Allocator> {
     /// A variable `is` an expression.
     Is(&'a [u8], ParsedExpression<'a, A>),
     Add(ParsedAtom<'a, A>),
+}
+
+impl<'a, A: Allocator> Member for BodyMember<'a, A> {
+    ghost use Rattle.chr_grammar.specs.Parsed as parsed;
+
+    ghost Said = { parsed.BodyMember };
+
+    ghost said = { member };
+
+    ghost front = { member_at };
 }
 
 /// `first is` and an expression.
@@ -109,18 +120,5 @@ pub(crate) fn parse_members<'a, A: Allocator + Copy>(
 ) -> Result<Vec<BodyMember<'a, A>, A>, ItemError>
     ensures { Gives (λ v. map member v.items) result (body_of (map lexeme tokens.now)) }
 {
-    let mut members = Vec::new(alloc);
-    let mut from = 0;
-    for _ in 0..tokens.len() {
-        let (member, next) = member_from(alloc, tokens, from)?;
-        members.push(member)?;
-        if next == tokens.len() {
-            return Ok(members);
-        }
-        if !is_comma(tokens[next]) {
-            return Err(ItemError::Fault(Kind::Syntax));
-        }
-        from = next + 1;
-    }
-    Err(ItemError::Fault(Kind::Syntax))
+    parse_list(alloc, tokens, |from| member_from(alloc, tokens, from))
 }

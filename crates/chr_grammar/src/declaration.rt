@@ -6,7 +6,8 @@ ghost use Rattle.chr_lex.specs.Tokens.{lexeme};
 ghost use Rattle.chr_grammar.specs.Views.{declared};
 ghost use Rattle.chr_grammar.specs.Parsing.{named, is_named, is_opened, are_closed, is_module, is_library, declared_of, declared_at, declarations_of};
 
-use crate::sign::{is_close, is_comma, is_open, is_slash, named};
+use crate::list::{Member, parse_list};
+use crate::sign::{is_close, is_open, is_slash, named};
 use chr_lex::fault::{ItemError, Kind};
 use chr_lex::token::{Token, Word};
 use std::alloc::Allocator;
@@ -16,6 +17,16 @@ use std::alloc::Allocator;
 pub struct Declared<'a> {
     pub name: &'a [u8],
     pub digits: &'a [u8],
+}
+
+impl<'a> Member for Declared<'a> {
+    ghost use Rattle.chr_grammar.specs.Parsed as parsed;
+
+    ghost Said = { parsed.Declared };
+
+    ghost said = { declared };
+
+    ghost front = { declared_at };
 }
 
 fn is_named(token: Token, word: &[u8]) -> bool
@@ -122,18 +133,5 @@ pub(crate) fn parse_declarations<'a, A: Allocator + Copy>(
 ) -> Result<Vec<Declared<'a>, A>, ItemError>
     ensures { Gives (λ v. map declared v.items) result (declarations_of (map lexeme tokens.now)) }
 {
-    let mut all = Vec::new(alloc);
-    let mut from = 0;
-    for _ in 0..tokens.len() {
-        let (declared, next) = declared_from(tokens, from)?;
-        all.push(declared)?;
-        if next == tokens.len() {
-            return Ok(all);
-        }
-        if !is_comma(tokens[next]) {
-            return Err(ItemError::Fault(Kind::Syntax));
-        }
-        from = next + 1;
-    }
-    Err(ItemError::Fault(Kind::Syntax))
+    parse_list(alloc, tokens, |from| declared_from(tokens, from))
 }

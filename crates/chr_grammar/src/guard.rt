@@ -7,7 +7,8 @@ ghost use Rattle.chr_grammar.specs.Views.{test};
 ghost use Rattle.chr_grammar.specs.Parsing.{relation, equality, equal, other_side_at, plain_test_at, compared_at, test_at, tests_of};
 
 use crate::expression::{ParsedExpression, parse_expression};
-use crate::sign::{is_comma, is_true};
+use crate::list::{Member, parse_list};
+use crate::sign::is_true;
 use chr_lex::fault::{ItemError, Kind};
 use chr_lex::mark::Mark;
 use chr_lex::token::{Token, Word};
@@ -23,6 +24,16 @@ pub enum GuardMember<'a, A: Allocator> {
     Same(Word<'a>, Word<'a>),
     /// `\==`
     Differ(Word<'a>, Word<'a>),
+}
+
+impl<'a, A: Allocator> Member for GuardMember<'a, A> {
+    ghost use Rattle.chr_grammar.specs.Parsed as parsed;
+
+    ghost Said = { parsed.GuardMember };
+
+    ghost said = { test };
+
+    ghost front = { test_at };
 }
 
 /// A comparison of numbers.
@@ -155,18 +166,5 @@ pub(crate) fn parse_tests<'a, A: Allocator + Copy>(
 ) -> Result<Vec<GuardMember<'a, A>, A>, ItemError>
     ensures { Gives (λ v. map test v.items) result (tests_of (map lexeme tokens.now)) }
 {
-    let mut tests = Vec::new(alloc);
-    let mut from = 0;
-    for _ in 0..tokens.len() {
-        let (test, next) = test_from(alloc, tokens, from)?;
-        tests.push(test)?;
-        if next == tokens.len() {
-            return Ok(tests);
-        }
-        if !is_comma(tokens[next]) {
-            return Err(ItemError::Fault(Kind::Syntax));
-        }
-        from = next + 1;
-    }
-    Err(ItemError::Fault(Kind::Syntax))
+    parse_list(alloc, tokens, |from| test_from(alloc, tokens, from))
 }

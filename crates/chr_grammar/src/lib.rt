@@ -18,6 +18,7 @@ pub mod declaration;
 pub mod expression;
 pub mod guard;
 pub mod laws;
+mod list;
 pub mod phrase;
 pub mod rule;
 mod sign;

@@ -7,6 +7,7 @@ ghost use Rattle.chr_lex.specs.Tokens.{word, lexeme};
 ghost use Rattle.chr_grammar.specs.Views.{phrase};
 ghost use Rattle.chr_grammar.specs.Parsing.{terms_at, args_at, phrase_at, phrases_of};
 
+use crate::list::{Member, parse_list};
 use crate::sign::{is_close, is_comma, is_open};
 use chr_lex::fault::{ItemError, Kind};
 use chr_lex::token::{Token, Word};
@@ -17,6 +18,16 @@ use std::alloc::Allocator;
 pub struct ParsedAtom<'a, A: Allocator> {
     pub name: &'a [u8],
     pub args: Vec<Word<'a>, A>,
+}
+
+impl<'a, A: Allocator> Member for ParsedAtom<'a, A> {
+    ghost use Rattle.chr_grammar.specs.Parsed as parsed;
+
+    ghost Said = { parsed.ParsedAtom };
+
+    ghost said = { phrase };
+
+    ghost front = { phrase_at };
 }
 
 /// These words are no atoms.
@@ -114,18 +125,5 @@ pub fn parse_phrases<'a, A: Allocator + Copy>(
 ) -> Result<Vec<ParsedAtom<'a, A>, A>, ItemError>
     ensures { Gives (λ v. map phrase v.items) result (phrases_of (map lexeme tokens.now)) }
 {
-    let mut phrases = Vec::new(alloc);
-    let mut from = 0;
-    for _ in 0..tokens.len() {
-        let (phrase, next) = phrase_from(alloc, tokens, from)?;
-        phrases.push(phrase)?;
-        if next == tokens.len() {
-            return Ok(phrases);
-        }
-        if !is_comma(tokens[next]) {
-            return Err(ItemError::Fault(Kind::Syntax));
-        }
-        from = next + 1;
-    }
-    Err(ItemError::Fault(Kind::Syntax))
+    parse_list(alloc, tokens, |from| phrase_from(alloc, tokens, from))
 }
