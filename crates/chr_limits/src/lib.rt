@@ -8,9 +8,10 @@
 //! `declaration_judged`, `post_judged`), and no call takes memory, so none fails for want of it. The laws
 //! ([`laws`]) say limit by limit what was judged without a fault.
 //!
-//! [`int`](number::int) is the whole number that a sign and digits spell. [`is_seen`](variables::is_seen) tells a
-//! variable that was seen before from a new one: a rule's variables are counted, and later numbered, in the order in
-//! which they are first seen, and each `_` is a new one.
+//! [`int`](number::int) is the whole number that a sign and digits spell, and
+//! [`int_in_range`](number::int_in_range) is it where it was judged. [`is_seen`](variables::is_seen) tells a variable
+//! that was seen before from a new one: a rule's variables are counted, and later numbered, in the order in which they
+//! are first seen, and each `_` is a new one.
 //!
 //! Each call goes over its item a fixed number of times, and looks each variable up among the 24 at most that were seen
 //! before. So it takes time in proportion to the item's length.

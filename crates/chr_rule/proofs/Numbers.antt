@@ -1,5 +1,5 @@
 -- The rule or head of a number, read through what holds it.
-use Rattle.std.proofs.Common.{◌+◌, ◌++◌, ap₂, length-append, ◌≡◌, ◌≢◌, ℕ, zero, suc, ◌-◌, ◌<◌, ◌≤◌, List, length, get_or, map, Some, refl, sym, ap, ◌∙◌, arith}
+use Rattle.std.proofs.Common.{◌+◌, ◌++◌, ap₂, length-append, ◌≡◌, ◌≢◌, ℕ, zero, suc, ◌-◌, ◌≤◌, List, length, get_or, map, Some, refl, sym, ap, ◌∙◌, arith}
 use Rattle.std.proofs.lemmas.Option.{slice_get-map, slice_get_read}
 use Rattle.std.proofs.lemmas.List.{map-append, get_or-append-add}
 use Rattle.std.specs.Prelude.{slice_get}

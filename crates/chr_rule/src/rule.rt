@@ -85,6 +85,26 @@ impl<A: Allocator> Rule<A> {
         })
     }
 
+    /// The rule of these parts, of which the caller knows that they are those of a rule with so many variables.
+    pub fn from_parts(
+        variables: usize,
+        kept: Vec<RuleAtom, A>,
+        removed: Vec<RuleAtom, A>,
+        guard: Vec<Comparison<A>, A>,
+        body: Vec<BodyItem<A>, A>,
+    ) -> Rule<A>
+        requires { IsRule (of_parts variables (map shape kept.items) (map shape removed.items) (map comparison guard.items) (map member body.items)) }
+        ensures { result ≡ of_parts variables (map shape kept.items) (map shape removed.items) (map comparison guard.items) (map member body.items) }
+    {
+        Rule {
+            variables: variables as u8,
+            kept,
+            removed,
+            guard,
+            body,
+        }
+    }
+
     /// Whether two rules are equal: the same heads, guard and body, wherever these lie in memory.
     pub fn same(&self, other: &Rule<A>) -> bool
         ensures { IsTrue result ↔ (self.now ≡ other.now) }

@@ -1,11 +1,12 @@
 -- The parts of a rule, one after another.
-use Rattle.std.proofs.Common.{◌≡◌, ◌≤◌, ℕ, List, ◌++◌, length, Option, Some, Ok, refl, sym, ap, ◌∙◌}
+use Rattle.std.proofs.Common.{◌≡◌, ◌≤◌, ℕ, List, length, Option, Some, Ok, refl, sym, ap, ◌∙◌}
+use Rattle.std.proofs.lemmas.List.{length-map}
+use Rattle.std.specs.Borrow.{Bor}
 use Rattle.chr_lex.specs.declared.fault.ItemError.{ItemError}
 use Rattle.chr_lex.specs.Reading.{Fails}
+use Rattle.chr_limits.specs.Views.{names as texts}
 use Rattle.chr_value.specs.Naming.{◌>>=◌, Table}
-use Rattle.chr_value.proofs.Chosen.{some_is}
 use Rattle.chr_rule.specs.Rules.{RuleAtom, Comparison, BodyItem, Simpagation, of_parts}
-use Rattle.chr_rule.specs.Scope.{variable_count, IsRule}
 use Rattle.chr_text.specs.Numbering.{or_full, each, numbered_rule_atom, number_test, number_member, number_rule}
 use Rattle.chr_text.specs.Translation.{somes}
 use Rattle.chr_text.specs.Variables.{Seen, in_turn}
@@ -40,8 +41,6 @@ pub rule_done : (table t1 t2 t3 t4 : Table) (r : Simpagation (List ℕ)) (kept r
     → number_rule table r ≡ Some (of_parts r.variables kept removed guard body, t4)
 rule_done table t1 t2 t3 t4 r kept removed guard body e1 e2 e3 e4 = rw (e1, e2, e3, e4) refl
 
--- The variables of a rule are as many as its parts have.
-pub as_many : (made : Simpagation ℕ) (n : ℕ) (kept removed : List (RuleAtom ℕ)) (guard : List (Comparison ℕ)) (body : List (BodyItem ℕ)) → made ≡ of_parts made.variables kept removed guard body → IsRule made → IsRule (of_parts n kept removed guard body) → made ≡ of_parts n kept removed guard body
-as_many made n kept removed guard body is whole other =
-    let same : variable_count (kept ++ removed) guard body ≡ Some made.variables = ap (λ (s : Simpagation ℕ). variable_count (s.kept ++ s.removed) s.guard s.body) (sym is) ∙ whole.scoped in
-    is ∙ ap (λ (k : ℕ). of_parts k kept removed guard body) (some_is made.variables n (sym same ∙ other.scoped))
+-- the variables that were seen are so many
+pub as_many : (n : ℕ) (seen : List (Bor (List ℕ))) (after : Seen) → n ≡ length seen → texts seen ≡ after → n ≡ length after
+as_many n seen after many is = many ∙ sym (length-map seen (λ name. name.now)) ∙ ap length is

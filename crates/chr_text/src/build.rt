@@ -26,7 +26,7 @@ use chr_grammar::phrase::ParsedAtom;
 use chr_grammar::rule::ParsedRule;
 use chr_lex::fault::ItemError;
 use chr_lex::token::Word;
-use chr_limits::number::int;
+use chr_limits::number::int_in_range;
 use chr_limits::variables::{Seen, is_seen};
 use chr_rule::expression::{BodyItem, Comparison, Expr, Operator};
 use chr_rule::rule::Rule;
@@ -85,10 +85,9 @@ fn number_term<'a, A: Allocator + Copy>(
     match term {
         Word::Variable(name) => Ok(Term::Var(number_variable(seen, name))),
         Word::Name(name) => Ok(Term::Value(Value::Sym(number_name(names, name)?))),
-        Word::Number { negative, digits } => match int(negative, digits) {
-            Some(number) => Ok(Term::Value(Value::Int(number))),
-            None => unreachable!(),
-        },
+        Word::Number { negative, digits } => {
+            Ok(Term::Value(Value::Int(int_in_range(negative, digits))))
+        }
     }
 }
 
@@ -170,10 +169,9 @@ fn number_tree<'a, A: Allocator + Copy>(
     ensures seen { OnOk result (texts seen.new.items ≡ (raw.expression (texts seen.old.items) (by_texts.formula tree.now)).1) }
 {
     match tree {
-        ParsedExpression::Number { negative, digits } => match int(*negative, digits) {
-            Some(number) => Ok(Expr::Number(number)),
-            None => unreachable!(),
-        },
+        ParsedExpression::Number { negative, digits } => {
+            Ok(Expr::Number(int_in_range(*negative, digits)))
+        }
         ParsedExpression::Variable(name) => Ok(Expr::Var(number_variable(seen, *name))),
         ParsedExpression::Group(inner) => number_tree(alloc, seen, inner),
         ParsedExpression::Operation(operator, left, right) => {
@@ -301,8 +299,5 @@ pub fn number_rule<A: Allocator + Copy>(
     let removed = number_phrases(alloc, names, &mut seen, &rule.heads.removed)?;
     let guard = number_tests(alloc, names, &mut seen, &rule.consequence.guard)?;
     let body = number_members(alloc, names, &mut seen, &rule.consequence.body)?;
-    match Rule::new(kept, removed, guard, body) {
-        Some(rule) => Ok(rule),
-        None => unreachable!(),
-    }
+    Ok(Rule::from_parts(seen.len(), kept, removed, guard, body))
 }

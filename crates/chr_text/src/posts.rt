@@ -15,7 +15,7 @@ use crate::naming::number_name;
 use chr_grammar::phrase::ParsedAtom;
 use chr_lex::fault::ItemError;
 use chr_lex::token::Word;
-use chr_limits::number::int;
+use chr_limits::number::int_in_range;
 use chr_value::atom::{Atom, Value};
 use chr_value::names::Names;
 use std::alloc::Allocator;
@@ -29,10 +29,7 @@ fn number_term<A: Allocator + Copy>(names: &mut Names<A>, term: Word) -> Result<
     match term {
         Word::Variable(_) => unreachable!(),
         Word::Name(name) => Ok(Value::Sym(number_name(names, name)?)),
-        Word::Number { negative, digits } => match int(negative, digits) {
-            Some(number) => Ok(Value::Int(number)),
-            None => unreachable!(),
-        },
+        Word::Number { negative, digits } => Ok(Value::Int(int_in_range(negative, digits))),
     }
 }
 

@@ -84,8 +84,8 @@ returns-in_err-body-clause-gives g c =
 pub returns-in_err-body-clause-keeps : goal.returns-in_err-body-clause-keeps
 returns-in_err-body-clause-keeps g c = λ t h. c.in_err-body.ensures.keeps t (c.in_ok-guard.ensures.keeps t (c.in_ok-removed.ensures.keeps t (c.in_ok-kept.ensures.keeps t h)))
 
-pub unreachable-requires : goal.unreachable-requires
-unreachable-requires g c =
+pub from_parts-requires : goal.from_parts-requires
+from_parts-requires g c =
     let r = by_texts.raw_rule {Z = g.row.A.Denot} c.args.rule.now in
     let m0 = ap texts c.new-seen.ensures in
     let d1 = ap (map (by_texts.phrase {Z = g.row.A.Denot})) c.deref.ensures.value in
@@ -100,9 +100,9 @@ unreachable-requires g c =
     let m3 = met_as raw.test _ (raw.after_heads r) _ _ r.guard m2 d3 c.in_ok-guard.ensures.seen in
     let e4 = got_some number_member raw.member _ (raw.after_guard r) _ r.body c.number_tests.new.names _ m3 d4 c.in_ok-body.ensures.gives in
     let whole = rule_same (raw.rule r) c.args.names.now _ _ _ _ (map shape c.in_ok-kept.kept.items) (map shape c.in_ok-removed.removed.items) (map (comparison {Z = g.row.A.Denot}) c.in_ok-guard.guard.items) (map (member {Z = g.row.A.Denot}) c.in_ok-body.body.items) e1 e2 e3 e4 c.requires.valid in
-    let some = c.new.ensures.exact.1 ((raw.rule r).variables, whole) in
-    let none = c.in-None.is in
-    absurd cc
+    let m4 = met_as raw.member _ (raw.after_guard r) _ _ r.body m3 d4 c.in_ok-body.ensures.seen in
+    let many = as_many _ c.number_members.new.seen.items (raw.after_body r) c.len.ensures.value m4 in
+    rw many whole
 
 pub returns-clause-gives : goal.returns-clause-gives
 returns-clause-gives g c =
@@ -119,9 +119,9 @@ returns-clause-gives g c =
     let e3 = got_some number_test raw.test _ (raw.after_heads r) _ r.guard c.number_phrases-2.new.names _ m2 d3 c.in_ok-guard.ensures.gives in
     let m3 = met_as raw.test _ (raw.after_heads r) _ _ r.guard m2 d3 c.in_ok-guard.ensures.seen in
     let e4 = got_some number_member raw.member _ (raw.after_guard r) _ r.body c.number_tests.new.names _ m3 d4 c.in_ok-body.ensures.gives in
-    let whole = rule_same (raw.rule r) c.args.names.now _ _ _ _ (map shape c.in_ok-kept.kept.items) (map shape c.in_ok-removed.removed.items) (map (comparison {Z = g.row.A.Denot}) c.in_ok-guard.guard.items) (map (member {Z = g.row.A.Denot}) c.in_ok-body.body.items) e1 e2 e3 e4 c.requires.valid in
-    let is = as_many c.in-Some.rule (raw.rule r).variables (map shape c.in_ok-kept.kept.items) (map shape c.in_ok-removed.removed.items) (map (comparison {Z = g.row.A.Denot}) c.in_ok-guard.guard.items) (map (member {Z = g.row.A.Denot}) c.in_ok-body.body.items) c.in-Some.ensures.rule c.in-Some.ensures.valid whole in
-    rw is (ap or_full (rule_done c.args.names.now _ _ _ _ (raw.rule r) (map shape c.in_ok-kept.kept.items) (map shape c.in_ok-removed.removed.items) (map (comparison {Z = g.row.A.Denot}) c.in_ok-guard.guard.items) (map (member {Z = g.row.A.Denot}) c.in_ok-body.body.items) e1 e2 e3 e4))
+    let m4 = met_as raw.member _ (raw.after_guard r) _ _ r.body m3 d4 c.in_ok-body.ensures.seen in
+    let many = as_many _ c.number_members.new.seen.items (raw.after_body r) c.len.ensures.value m4 in
+    rw (c.from_parts.ensures, many) (ap or_full (rule_done c.args.names.now _ _ _ _ (raw.rule r) (map shape c.in_ok-kept.kept.items) (map shape c.in_ok-removed.removed.items) (map (comparison {Z = g.row.A.Denot}) c.in_ok-guard.guard.items) (map (member {Z = g.row.A.Denot}) c.in_ok-body.body.items) e1 e2 e3 e4))
 
 pub returns-clause-keeps : goal.returns-clause-keeps
 returns-clause-keeps g c = λ t h. c.in_ok-body.ensures.keeps t (c.in_ok-guard.ensures.keeps t (c.in_ok-removed.ensures.keeps t (c.in_ok-kept.ensures.keeps t h)))
