@@ -15,6 +15,10 @@ use Rattle.chr_seats.specs.declared.answers.HoldFault.{HoldFault}
 use Rattle.chr_seats.specs.declared.answers.HoldFault.TheVariants.{WrongSeat, NoBook}
 use Rattle.chr_seats.specs.Accounts.{SeatState, log_of, counts_in}
 
+-- the book has the headline, for what its log says was posted
+abbrev pub HasHeadline : BookState → Type 0
+HasHeadline b = Headline b (posted_by (events b))
+
 -- the seat's counts are what it has made
 abbrev pub HasRightCounts : Option BookState → SeatState → Type 0
 HasRightCounts book seat = seat.counts ≡ counts_in (log_of book) seat.number
@@ -24,13 +28,16 @@ abbrev pub MakesNoCall : Option BookState → SeatState → HoldFault → Type 0
 MakesNoCall book seat WrongSeat = HasRightCounts book seat → ⊥
 MakesNoCall book seat NoBook = (book ≡ None) × (seat.counts ≡ record { posts = 0; others = 0 })
 
--- The book that is there answers a call and is another then. The seat's counts are what it has made, before and after.
+-- The book that is there answers a call and is another then. Before and after, it has the headline, and the seat's counts are
+-- what it has made.
 pub record Makes (Call : BookState → BookState → Type 0) (old : Option BookState) (seat : SeatState) (new : Option BookState) (after : SeatState) : Type 0 where
   pub book : BookState
   pub is : old ≡ Some book
   pub next : BookState
   pub is_next : new ≡ Some next
   pub call : Call book next
+  pub headline_before : HasHeadline book
+  pub headline_now : HasHeadline next
   pub number : after.number ≡ seat.number
   pub before : seat.counts ≡ counts_in book.log seat.number
   pub now : after.counts ≡ counts_in next.log seat.number
@@ -48,7 +55,7 @@ WasHold Call seat result after = (old new : Option BookState) × IsHold Call old
 pub record Reads (Says : BookState → Type 0) (old : Option BookState) (seat : SeatState) : Type 0 where
   pub book : BookState
   pub is : old ≡ Some book
-  pub headline : Headline book (posted_by (events book))
+  pub headline : HasHeadline book
   pub counts : seat.counts ≡ counts_in book.log seat.number
   pub says : Says book
 
@@ -82,11 +89,12 @@ pub record GoesOn (posts : Bool) (seat : ℕ) (b n : BookState) : Type 0 where
   pub log : n.log ≡ b.log ++ more
   pub are : AllByRecursion (IsEntryOf posts seat) more
 
--- marking a ticket stray, and taking one, where there is a book; without one every ticket is unknown and none is stray
+-- marking a ticket stray, and taking one, where there is a book, which has the headline before and after; without one every
+-- ticket is unknown and none is stray
 abbrev pub MarksIn : Option BookState → ℕ → Result (Unit {0}) MarkFault → Option BookState → Type 0
 MarksIn None t answer new = (answer ≡ Err (NotWaiting Unknown)) × (new ≡ None)
-MarksIn (Some b) t answer new = (n : BookState) × Marks b t answer n × (new ≡ Some n)
+MarksIn (Some b) t answer new = (n : BookState) × Marks b t answer n × (new ≡ Some n) × HasHeadline b × HasHeadline n
 
 abbrev pub TakesStrayIn : Option BookState → Option ℕ → Option BookState → Type 0
 TakesStrayIn None answer new = (answer ≡ None) × (new ≡ None)
-TakesStrayIn (Some b) answer new = (n : BookState) × TakesStray b answer n × (new ≡ Some n)
+TakesStrayIn (Some b) answer new = (n : BookState) × TakesStray b answer n × (new ≡ Some n) × HasHeadline b × HasHeadline n

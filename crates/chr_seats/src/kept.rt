@@ -1,10 +1,7 @@
 //! What is under the lock.
 ghost use Rattle.std.specs.Prelude.{◌≡◌, ◌↔◌, ◌+◌, ◌-◌, ◌^◌, ◌<◌, ◌++◌, ℕ, set, [], true, false, not, length, sum_by, vec_len, OnOk, OnErr, IfOk, IfErr, IsTrue, IsSome, Some, None, Err};
-ghost use Rattle.chr_model.specs.Logs.{posted_by};
-ghost use Rattle.chr_calls.specs.Books.{events};
-ghost use Rattle.chr_calls.specs.Headline.{Headline};
 ghost use Rattle.chr_seats.specs.Accounts.{log_of, made_upto, if_so, raised};
-ghost use Rattle.chr_seats.specs.Holds.{GoesOn, HasRightCounts, IsHold, IsReading, MarksIn, TakesStrayIn};
+ghost use Rattle.chr_seats.specs.Holds.{GoesOn, HasHeadline, HasRightCounts, IsHold, IsReading, MarksIn, TakesStrayIn};
 ghost use Rattle.chr_seats.specs.Readings.{SaysQuiet, SaysShot, SaysStore, SaysLog};
 
 use crate::answers::{HoldFault, Lines};
@@ -65,12 +62,16 @@ fn make<A: Allocator + Copy, X, C: Call<A, X> + Drop>(
     call: C,
 ) -> (X, u64)
     ensures line { C.line call seat book.old result.0 book.new }
+    ensures headline_before { HasHeadline book.old }
+    ensures headline_now { HasHeadline book.new }
     ensures goes_on { GoesOn C.posts seat book.old book.new }
     ensures count { length book.new.log ≡ length book.old.log + result.1 }
     ensures room { length book.new.log < 2 ^ 64 }
 {
+    read_headline(book);
     let before = book.log().len();
     let answer = call.make(book, seat);
+    read_headline(book);
     let more = book.log().len() - before;
     (answer, more as u64)
 }
@@ -103,7 +104,7 @@ fn raise<L1: PostLedger, L2: Ledger>(
 
 /// A book has the headline, as the contract of a reading call says.
 fn read_headline<A: Allocator + Copy>(book: &Book<A>)
-    ensures { Headline book.now (posted_by (events book.now)) }
+    ensures { HasHeadline book.now }
 {
     let _ = book.quiet();
 }
@@ -232,17 +233,23 @@ impl<L1: PostLedger, L2: Ledger, A: Allocator + Copy> Kept<L1, L2, A> {
         let Some(book) = &mut self.book else {
             return Err(MarkFault::NotWaiting(TicketState::Unknown));
         };
-        book.mark_stray(ticket)
+        read_headline(book);
+        let answer = book.mark_stray(ticket);
+        read_headline(book);
+        answer
     }
 
     /// Takes the least ticket that is marked stray.
     pub(crate) fn take_stray(&mut self) -> Option<u64>
         ensures { TakesStrayIn self.old result self.new }
     {
-        match &mut self.book {
-            Some(book) => book.take_stray(),
-            None => None,
-        }
+        let Some(book) = &mut self.book else {
+            return None;
+        };
+        read_headline(book);
+        let taken = book.take_stray();
+        read_headline(book);
+        taken
     }
 
     /// Whether no ticket is open.

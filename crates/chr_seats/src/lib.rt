@@ -6,10 +6,10 @@
 //!
 //! A *hold* is what is done between taking the lock and giving it back. Each hold makes one call of the book, by the number
 //! of the seat that it is given, and its contract is the line of that call in `chr_calls`, for the book that was there at
-//! that moment: there was such a book, with the headline of `chr_calls` as every book has it, and it answered the call.
-//! Before the call the seat's counts are what it has made in the log, and after it again. What a hold only reads it reads of
-//! a book that has the headline, as its contract says. Nothing is judged in a hold, and no guard of the lock leaves this
-//! crate.
+//! that moment: there was such a book, and it answered the call. Before the call the book has the headline of `chr_calls`, and
+//! the seat's counts are what it has made in the log, and after it again. What a hold only reads it reads of a book that has
+//! the headline. So whenever a call takes the lock, it holds no book, or one that has the headline. Nothing is judged in a
+//! hold, and no guard of the lock leaves this crate.
 //!
 //! The lock keeps for each seat what it has made, and a hold whose seat has other counts makes no call (E26). By two
 //! ledgers of which each seat has a share, no count rises without its entry: who has all 32 seats knows that their counts
