@@ -10,8 +10,6 @@
 mod opening;
 #[cfg(test)]
 mod rows;
-#[cfg(test)]
-mod schedules;
 pub mod script;
 #[cfg(test)]
 mod stale;

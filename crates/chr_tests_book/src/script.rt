@@ -1,7 +1,6 @@
 //! Calls on a book, with their answers in words.
 use chr_book::book::Book;
 use chr_calls::answers::{TicketState, Turn};
-use chr_log::writing::write_labelled_atom;
 use chr_search::judged::{Judged, judge};
 use chr_text::reading::{read_atoms, read_program};
 use chr_value::atom::Atom;
@@ -64,8 +63,32 @@ pub struct Script<A: Allocator> {
     texts: Global,
 }
 
+/// Opens a book. None where a text can't be read, or where memory ran out.
+pub fn open<A: Allocator + Copy>(alloc: A, opening: Opening) -> Option<Book<A>> {
+    if opening.limit > 4_294_967_295 {
+        return None;
+    }
+    let mut names = Names::new(alloc);
+    let program = read_program(alloc, opening.program.as_bytes(), &mut names).ok()?;
+    let _posts = read_atoms(alloc, opening.names.as_bytes(), &mut names).ok()?;
+    Book::new(alloc, program, names, opening.limit).ok()
+}
+
+/// Whether a book is quiet, the entries of its log, and the constraints of its store, a line for each.
+pub fn lines<A: Allocator + Copy>(
+    texts: Global,
+    book: &Book<A>,
+) -> Result<Vec<u8, Global>, AllocError> {
+    let mut text = Vec::new(texts);
+    let quiet: &[u8] = if book.quiet() { b"quiet\n" } else { b"open\n" };
+    text.extend_from_slice(quiet)?;
+    book.log_lines(&mut text, 1)?;
+    book.store_lines(&mut text)?;
+    Ok(text)
+}
+
 /// A judgement in words: the rule, the head, the labels and the verdict.
-fn trial_text<A: Allocator + Copy>(
+pub fn trial_text<A: Allocator + Copy>(
     texts: Global,
     judged: &Judged<A>,
 ) -> Result<String<Global>, AllocError> {
@@ -81,13 +104,7 @@ fn trial_text<A: Allocator + Copy>(
 impl<A: Allocator + Copy> Script<A> {
     /// Opens a book. None where a text can't be read, or where memory ran out.
     pub fn open(alloc: A, texts: Global, opening: Opening) -> Option<Script<A>> {
-        if opening.limit > 4_294_967_295 {
-            return None;
-        }
-        let mut names = Names::new(alloc);
-        let program = read_program(alloc, opening.program.as_bytes(), &mut names).ok()?;
-        let _posts = read_atoms(alloc, opening.names.as_bytes(), &mut names).ok()?;
-        let book = Book::new(alloc, program, names, opening.limit).ok()?;
+        let book = open(alloc, opening)?;
         Some(Script {
             book,
             told: Vec::new(texts),
@@ -226,17 +243,6 @@ impl<A: Allocator + Copy> Script<A> {
 
     /// Whether it is quiet, the entries of the log, and the constraints of the store, a line for each.
     pub fn lines(&self) -> Result<Vec<u8, Global>, AllocError> {
-        let mut text = Vec::new(self.texts);
-        let quiet: &[u8] = if self.book.quiet() {
-            b"quiet\n"
-        } else {
-            b"open\n"
-        };
-        text.extend_from_slice(quiet)?;
-        self.book.log_lines(&mut text, 1)?;
-        for (label, atom) in self.book.store().iter() {
-            write_labelled_atom(&mut text, self.book.names(), *label, atom)?;
-        }
-        Ok(text)
+        lines(self.texts, &self.book)
     }
 }

@@ -1,4 +1,5 @@
 //! A judgement that was made of another program's rule.
+use crate::rows::rows_right;
 use crate::script::{Call, Opening, Row, Script};
 use std::alloc::Global;
 use std::test::Fail;
@@ -17,17 +18,35 @@ fn judged(alloc: Global, program: &str) -> Option<Script<Global>> {
         limit: 10,
     };
     let mut script = Script::open(alloc, alloc, opening)?;
-    for (seat, call, answer, _) in &ROWS {
-        let atoms = script.posted(*call)?;
-        if script.make(*seat, *call, &atoms).ok()?.as_str() != *answer {
-            return None;
-        }
+    if rows_right(&mut script, &ROWS) < ROWS.len() {
+        return None;
     }
     Some(script)
 }
 
-/// What a book of the first program answers to a judgement of the second one's rule, whether that leaves its lines as they
-/// were, and what it answers to its own judgement.
+/// What a book answers to the judgement of another, and whether that leaves its lines as they were.
+fn answer_to(
+    script: &mut Script<Global>,
+    other: &Script<Global>,
+) -> Option<(String<Global>, bool)> {
+    let before = script.lines().ok()?;
+    let answer = script.fire_judged(1, 1, other.judged(1)?).ok()?;
+    let after = script.lines().ok()?;
+    Some((answer, after.as_slice() == before.as_slice()))
+}
+
+/// What a book answers to the judgement of another, whether that leaves its lines as they were, and what it answers to its
+/// own judgement.
+fn both_answers(
+    script: &mut Script<Global>,
+    other: &Script<Global>,
+) -> Option<(String<Global>, bool, String<Global>)> {
+    let (stale, is_unchanged) = answer_to(script, other)?;
+    let own = script.make(1, Call::Fire(1), &[]).ok()?;
+    Some((stale, is_unchanged, own))
+}
+
+/// The same for a book of the first program, and the judgement of a book of the second.
 fn answers(
     alloc: Global,
     first: &str,
@@ -35,11 +54,7 @@ fn answers(
 ) -> Option<(String<Global>, bool, String<Global>)> {
     let mut script = judged(alloc, first)?;
     let other = judged(alloc, second)?;
-    let before = script.lines().ok()?;
-    let stale = script.fire_judged(1, 1, other.judged(1)?).ok()?;
-    let is_unchanged = script.lines().ok()?.as_slice() == before.as_slice();
-    let own = script.make(1, Call::Fire(1), &[]).ok()?;
-    Some((stale, is_unchanged, own))
+    both_answers(&mut script, &other)
 }
 
 /// Two programs, and the answer to the first one's own judgement.
