@@ -1,5 +1,5 @@
 -- What is asked of a store for the next partner, and what its answer says.
-use Rattle.std.proofs.Common.{◌≡◌, ◌↔◌, ℕ, zero, suc, ◌+◌, ◌-◌, ◌<◌, ◌≤◌, Bool, true, false, IsTrue, ltb, ◌&&◌, ◌||◌, ◌==◌, take, List, [], ◌∷◌, ◌++◌, length, replicate, Option, Some, None, MatchOption, slice_get, slice_index_or, refl, sym, ◌∙◌, ap, subst, arith, length-append}
+use Rattle.std.proofs.Common.{◌≡◌, ◌↔◌, ℕ, zero, suc, ◌+◌, ◌-◌, ◌<◌, ◌≤◌, Bool, true, false, IsTrue, ltb, ◌&&◌, ◌||◌, ◌==◌, take, List, [], ◌∷◌, ◌++◌, length, replicate, Option, Some, None, MatchOption, IfSome, slice_get, slice_index_or, refl, sym, ◌∙◌, ap, subst, arith, length-append}
 use Rattle.std.specs.List.{list_any}
 use Rattle.std.specs.Option.{option_map}
 use Rattle.std.proofs.lemmas.Bool.Decides.{nat_tests}
@@ -19,7 +19,8 @@ use Rattle.chr_plan.specs.Orders.{heads_of}
 use Rattle.chr_plan.specs.declared.order.Step.{Step}
 use Rattle.chr_store.specs.Labels.{GivenBefore}
 use Rattle.chr_search.specs.Trials.{Join, StandsAt, Fit, value_in, given_at, HasHeadPred, MayFollow}
-use Rattle.chr_search.specs.Partners.{HasPlan, IsReady, KeyIs}
+use Rattle.chr_search.specs.declared.join.Asked.{Asked}
+use Rattle.chr_search.specs.Partners.{HasPlan, IsReady, KeyIs, key_in, IsAskedFor}
 use Rattle.chr_search.proofs.Plans.{order_of_plan, step_key_given}
 use Rattle.chr_search.proofs.Partners.{IsAsked, ready_more, no_fit}
 
@@ -110,22 +111,25 @@ key_none v head place key e f = subst (λ p. KeyIs v head p key) (sym e) f
 pub key_some : (v : Valuation) (head : RuleAtom ℕ) (place : Option ℕ) (key : Option (ℕ × Value ℕ)) (p : ℕ) (x : Value ℕ) → place ≡ Some p → given_at v head p ≡ Some x → key ≡ Some (p, x) → KeyIs v head place key
 key_some v head place key p x e g f = subst (λ q. KeyIs v head q key) (sym e) (x, g, f)
 
-pub asked : (j : Join) (labels : List ℕ) (binding : List (Option (Value ℕ))) (from : ℕ) (step : Step) (head : RuleAtom ℕ) (pred : Pred) (key : Option (ℕ × Value ℕ)) (after next : ℕ) → 1 ≤ length labels → IsReady j labels binding → slice_get j.order (length labels) ≡ Some step → head_at j.rule step.head ≡ Some head
-    → pred.name.number ≡ head.name → pred.arity ≡ length head.args → KeyIs (bound_at binding) head step.key key → after ≡ from - 1 → GivenBefore next j.store → IsAsked j labels binding from (record { pred = pred; key = key; after = after; below = j.bound })
-asked j labels binding from step head pred key after next some r at is name arity k e g = record {
+pub asked : (j : Join) (labels : List ℕ) (binding : List (Option (Value ℕ))) (from : ℕ) (a : Asked) (key : Option (ℕ × Value ℕ)) (after next : ℕ) → 1 ≤ length labels → IsReady j labels binding → IsAskedFor j labels binding a → key ≡ key_in a → after ≡ from - 1 → GivenBefore next j.store → IsAsked j labels binding from (record { pred = a.pred; key = key; after = after; below = j.bound })
+asked j labels binding from a key after next some r f k e g = record {
   some = some;
   ready = r;
-  step = step;
-  step_is = at;
-  head = head;
-  head_is = is;
-  name = name;
-  arity = arity;
-  key = k;
+  step = f.step;
+  step_is = f.step_is;
+  head = f.head;
+  head_is = f.head_is;
+  name = f.name;
+  arity = f.arity;
+  key = subst (KeyIs (bound_at binding) f.head f.step.key) (sym k) f.key;
   over = λ l low. (λ le. omega arith, λ lt. omega arith);
   under = refl;
   labelled = λ l a there. label_low next j.store g l a there;
 }
+
+pub where_some : {A : Type 0} {P Q : A → Type 0} (o : Option A) → IfSome o P → ((x : A) → P x → Q x) → IfSome o Q
+where_some None p f = tt
+where_some (Some x) p f = f x p
 
 -- the active label may begin
 pub begins_if : (j : Join) → HasPlan j → (step : Step) (head : RuleAtom ℕ) (atom : Atom ℕ) → slice_get j.order 0 ≡ Some step → head_at j.rule step.head ≡ Some head → atom_at j.store j.active ≡ Some atom → HasHeadPred head atom → MayFollow j [] j.active

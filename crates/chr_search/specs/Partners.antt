@@ -1,13 +1,18 @@
 -- What the search for partners answers.
-use Rattle.std.specs.Prelude.{◌≡◌, ℕ, ◌≤◌, Bool, true, false, List, length, Option, Some, None}
-use Rattle.chr_value.specs.Atoms.{Value}
-use Rattle.chr_rule.specs.Rules.{RuleAtom}
+use Rattle.std.specs.Prelude.{◌≡◌, ℕ, ◌-◌, ◌≤◌, Bool, true, false, List, length, Option, Some, None, slice_get}
+use Rattle.std.specs.Option.{MatchOption, option_map}
+use Rattle.chr_value.specs.Atoms.{Value, ground}
+use Rattle.chr_rule.specs.Rules.{RuleAtom, head_at}
 use Rattle.chr_rule.specs.Scope.{IsRule}
 use Rattle.chr_guard.specs.Values.{Valuation}
+use Rattle.chr_guard.specs.Bindings.{bound_at}
 use Rattle.chr_guard.specs.Matching.{IsFit}
 use Rattle.chr_plan.specs.Orders.{heads_of, IsPlan}
+use Rattle.chr_plan.specs.declared.order.Step.{Step}
 use Rattle.chr_model.specs.Stores.{Distinct}
-use Rattle.chr_search.specs.Tree.{Least, NoneBeyond}
+use Rattle.chr_store.specs.Buckets.{IsLeastBetween}
+use Rattle.chr_search.specs.declared.join.Asked.{Asked}
+use Rattle.chr_search.specs.Tree.{Least, NoneBeyond, LeastFrom, NoneFrom}
 use Rattle.chr_search.specs.Trials.{Join, Fit, MayFollow, given_at}
 
 -- the order is the plan of one of the rule's heads
@@ -27,6 +32,27 @@ pub record IsReady (j : Join) (labels : List ℕ) (binding : List (Option (Value
 abbrev pub KeyIs : Valuation → RuleAtom ℕ → Option ℕ → Option (ℕ × Value ℕ) → Type 0
 KeyIs v head None key = key ≡ None
 KeyIs v head (Some place) key = (value : Value ℕ) × (given_at v head place ≡ Some value) × (key ≡ Some (place, value))
+
+abbrev pub key_in : Asked → Option (ℕ × Value ℕ)
+key_in asked = option_map (λ k. (k.0, ground k.1)) asked.key
+
+-- what is asked for the label after these: the predicate of the next head, and its value at the plan's place
+pub record IsAskedFor (j : Join) (labels : List ℕ) (binding : List (Option (Value ℕ))) (asked : Asked) : Type 0 where
+  pub step : Step
+  pub step_is : slice_get j.order (length labels) ≡ Some step
+  pub head : RuleAtom ℕ
+  pub head_is : head_at j.rule step.head ≡ Some head
+  pub name : asked.pred.name.number ≡ head.name
+  pub arity : asked.pred.arity ≡ length head.args
+  pub key : KeyIs (bound_at binding) head step.key (key_in asked)
+
+-- the least label from one on that may be tried after these, or none
+abbrev pub IsPartnerFrom : Join → List ℕ → ℕ → Option ℕ → Type 0
+IsPartnerFrom j labels from found = MatchOption found (NoneFrom (MayFollow j labels) from) (LeastFrom (MayFollow j labels) from)
+
+-- the least of these numbers that lies below the bound, from one on, is the label that may be tried after these labels
+abbrev pub GivePartners : Join → List ℕ → List ℕ → Type 0
+GivePartners j labels among = (from : ℕ) (found : Option ℕ) → IsLeastBetween among (from - 1) j.bound found → IsPartnerFrom j labels from found
 
 -- where the answer is yes the labels are lengthened to the least at or after a place, and where it is no there are none
 abbrev pub LengthenedIf : Join → List ℕ → Bool → List ℕ → List ℕ → Type 0

@@ -1,11 +1,11 @@
 //! The partners of an active label at the heads of a plan.
-ghost use Rattle.std.specs.Prelude.{◌≡◌, ◌↔◌, ℕ, ◌∷◌, ◌++◌, ◌≤◌, [], length, MatchOption, IsTrue};
+ghost use Rattle.std.specs.Prelude.{◌≡◌, ◌↔◌, ℕ, ◌∷◌, ◌++◌, ◌≤◌, [], length, MatchOption, IfSome, IsTrue};
 ghost use Rattle.chr_guard.specs.Bindings.{Narrows, NoneUnder};
 ghost use Rattle.chr_rule.specs.Parts.{shape};
-ghost use Rattle.chr_store.specs.Keys.{HasPred};
-ghost use Rattle.chr_search.specs.Tree.{Least, NoneBeyond, LeastFrom, NoneFrom};
+ghost use Rattle.chr_store.specs.Keys.{HasPred, key_of};
+ghost use Rattle.chr_search.specs.Tree.{Least, NoneBeyond};
 ghost use Rattle.chr_search.specs.Trials.{MayFollow, StandsAt};
-ghost use Rattle.chr_search.specs.Partners.{HasPlan, IsReady, LengthenedIf};
+ghost use Rattle.chr_search.specs.Partners.{HasPlan, IsReady, LengthenedIf, key_in, IsAskedFor, IsPartnerFrom, GivePartners};
 ghost use Rattle.chr_search.specs.Joined.{join_of};
 
 use chr_guard::binding::Binding;
@@ -14,8 +14,8 @@ use chr_log::events::Labels;
 use chr_plan::order::Step;
 use chr_rule::rule::Rule;
 use chr_rule::rule_atom::RuleAtom;
-use chr_store::store::{Label, Store};
-use chr_value::atom::Pred;
+use chr_store::store::{Label, Matches, Store};
+use chr_value::atom::{Pred, Value};
 use std::alloc::Allocator;
 
 /// A rule and a plan of it, and the store in which partners older than an active label are looked for.
@@ -35,6 +35,22 @@ fn pred_of(head: &RuleAtom) -> Pred
     Pred {
         name: head.name,
         arity: head.terms.len() as u8,
+    }
+}
+
+/// What is asked of a store for partners: a predicate, and perhaps a place and the value there.
+#[derive(Drop)]
+struct Asked {
+    pred: Pred,
+    key: Option<(u8, Value)>,
+}
+
+impl Asked {
+    fn key(&self) -> Option<(u8, &Value)>
+        ensures { key_of result ≡ key_in self.now }
+    {
+        let (place, value) = self.key.as_ref()?;
+        Some((*place, value))
     }
 }
 
@@ -71,28 +87,54 @@ impl<'s, A: Allocator + Copy> Join<'s, A> {
         self.fit_label(binding, *step, label)
     }
 
-    /// The least label from one on that may be tried after these labels.
-    pub(crate) fn next_partner(
-        &self,
-        labels: &[Label],
-        binding: &Binding<'s>,
-        from: Label,
-    ) -> Option<Label>
+    /// What is asked of the store for the next label. None where none may be tried after these.
+    fn asked(&self, labels: &[Label], binding: &Binding<'s>) -> Option<Asked>
         requires some { 1 ≤ length labels.now }
         requires plan { HasPlan (join_of self.now) }
         requires ready { IsReady (join_of self.now) labels.now binding.now }
-        ensures { MatchOption result (NoneFrom (MayFollow (join_of self.now) labels.now) from) (LeastFrom (MayFollow (join_of self.now) labels.now) from) }
+        ensures { MatchOption result ((x : ℕ) → MayFollow (join_of self.now) labels.now x → ⊥) (IsAskedFor (join_of self.now) labels.now binding.now) }
     {
         let step = self.order.get(labels.len())?;
         let head = self.rule.head(usize::from(step.head))?;
-        let after = from.saturating_sub(1);
+        let pred = pred_of(head);
         let Some(place) = step.key else {
-            return self.store.next_at(pred_of(head), None, after, self.active);
+            return Some(Asked { pred, key: None });
         };
         let term = head.terms.as_slice().get(usize::from(place) - 1)?;
         let value = binding.value(term)?;
+        Some(Asked {
+            pred,
+            key: Some((place, value)),
+        })
+    }
+
+    /// The least label from one on that may be tried after these labels.
+    fn next_partner(&self, labels: &[Label], binding: &Binding<'s>, from: Label) -> Option<Label>
+        requires some { 1 ≤ length labels.now }
+        requires plan { HasPlan (join_of self.now) }
+        requires ready { IsReady (join_of self.now) labels.now binding.now }
+        ensures { IsPartnerFrom (join_of self.now) labels.now from result }
+    {
+        let asked = self.asked(labels, binding)?;
+        let after = from.saturating_sub(1);
         self.store
-            .next_at(pred_of(head), Some((place, &value)), after, self.active)
+            .next_at(asked.pred, asked.key(), after, self.active)
+    }
+
+    /// The labels among which are those that may be tried after these, to go through. None where there are none, or where
+    /// the store keeps no index for them.
+    pub(crate) fn partners(&self, labels: &[Label], binding: &Binding<'s>) -> Option<Matches<'s, A>>
+        requires plan { HasPlan (join_of self.now) }
+        requires ready { IsReady (join_of self.now) labels.now binding.now }
+        ensures { IfSome result (GivePartners (join_of self.now) labels.now) }
+    {
+        if labels.is_empty() {
+            return None;
+        }
+        let asked = self.asked(labels, binding)?;
+        // For the proof: the labels of a store are numbered from 1.
+        let _given = self.store.next_label();
+        self.store.matches(asked.pred, asked.key())
     }
 
     /// Adds the least partner from one on. False where there is none.

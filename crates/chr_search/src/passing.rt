@@ -85,31 +85,31 @@ impl<'s, A: Allocator + Copy> Join<'s, A> {
         ensures few { result.count ≤ most }
         ensures misfits { AreMisfits (join_of self.now) labels.now result.count from result.next }
     {
-        let mut count = 0;
-        let mut next = from;
-        while count < most && !labels.is_empty() {
-            let Some(label) = self.next_partner(labels, binding, next) else {
+        let mut misfits = Misfits {
+            count: 0,
+            next: from,
+            is_whole: false,
+        };
+        let Some(mut partners) = self.partners(labels, binding) else {
+            return misfits;
+        };
+        while misfits.count < most {
+            let after = misfits.next.saturating_sub(1);
+            let Some(label) = partners.next_at(after, self.active) else {
                 break;
             };
             match self.fit_beside(labels, binding, label) {
                 Beside::Misfit => {}
                 Beside::Part(_) => break,
                 Beside::Whole => {
-                    return Misfits {
-                        count,
-                        next,
-                        is_whole: true,
-                    };
+                    misfits.is_whole = true;
+                    break;
                 }
             }
-            next = label + 1;
-            count += 1;
+            misfits.next = label + 1;
+            misfits.count += 1;
         }
-        Misfits {
-            count,
-            next,
-            is_whole: false,
-        }
+        misfits
     }
 
     /// Passes over the trial of these labels, unless it is whole, and then over misfits beside or below it, at most so

@@ -1,84 +1,16 @@
-use Rattle.std.proofs.Common.{◌≡◌, ◌-◌, ◌≤◌, List, length, Some, None, slice_get, refl, sym, ap, subst, ◌∙◌, arith}
-use Rattle.std.specs.Option.{option_map}
-use Rattle.std.proofs.lemmas.Option.{slice_get-map}
-use Rattle.chr_value.specs.Atoms.{ground}
-use Rattle.chr_rule.specs.Parts.{argument, shape}
-use Rattle.chr_rule.specs.Rules.{head_at}
-use Rattle.chr_rule.specs.declared.rule_atom.Term.{Term as CodeTerm}
-use Rattle.chr_guard.specs.Bindings.{bound_at}
-use Rattle.chr_search.specs.Trials.{value_in, given_at}
+use Rattle.std.proofs.Common.{sym, subst}
 use Rattle.chr_search.specs.Joined.{join_of}
+use Rattle.chr_search.specs.Partners.{IsPartnerFrom}
 use Rattle.chr_search.proofs.Partners.{least_partner}
-use Rattle.chr_search.proofs.Asking.{get_there, none_if, past_get, known_key, place_low, given_there, key_none, key_some, asked}
+use Rattle.chr_search.proofs.Asking.{asked}
 use Rattle.chr_search.proofs.join.Join.next_partner.Goals as goal
 
-pub returns-in_default : goal.returns-in_default
-returns-in_default g c =
-    let j = join_of c.args.self.now in
-    let step = c.in_ok-step.step.now in
-    let head = shape c.in_ok-head.head.now in
-    let at : slice_get j.order (length c.args.labels.now) ≡ Some step = get_there c.args.self.now.order.now (length c.args.labels.now) step c.in_ok-step.ensures.lookup.0 c.in_ok-step.ensures.lookup.1 in
-    let is : head_at j.rule step.head ≡ Some head = subst (λ n. head_at j.rule n ≡ Some head) c.from.ensures (sym c.in_ok-head.ensures.head) in
-    let key = key_none (bound_at c.args.binding.now) head step.key None (none_if step.key c.in_default.not-Some) refl in
-    least_partner j c.args.labels.now c.args.binding.now c.args.from _
-    (asked j c.args.labels.now c.args.binding.now c.args.from step head c.pred_of.result None c.saturating_sub-after.result _ c.requires.some c.requires.ready at is c.pred_of.ensures.name c.pred_of.ensures.arity key c.saturating_sub-after.ensures c.next_at.ensures.labelled.given)
-    c.next_at.result c.next_at.ensures.least
-
-pub overflow_sub-from : goal.overflow_sub-from
-overflow_sub-from g c =
-    let j = join_of c.args.self.now in
-    let step = c.in_ok-step.step.now in
-    let head = shape c.in_ok-head.head.now in
-    let at : slice_get j.order (length c.args.labels.now) ≡ Some step = get_there c.args.self.now.order.now (length c.args.labels.now) step c.in_ok-step.ensures.lookup.0 c.in_ok-step.ensures.lookup.1 in
-    let is : head_at j.rule step.head ≡ Some head = subst (λ n. head_at j.rule n ≡ Some head) c.from.ensures (sym c.in_ok-head.ensures.head) in
-    let known = known_key j c.requires.plan c.args.labels.now c.args.binding.now c.requires.some c.requires.ready step at head is c.in-Some.place c.in-Some.is in
-    let low : 1 ≤ c.in-Some.place = place_low (bound_at c.args.binding.now) head c.in-Some.place known.0 known.1 in
-    let e : c.from-2.result ≡ c.in-Some.place = c.from-2.ensures in
-    omega arith
-
-pub returns-in_err-term : goal.returns-in_err-term
-returns-in_err-term g c =
-    let j = join_of c.args.self.now in
-    let step = c.in_ok-step.step.now in
-    let head = shape c.in_ok-head.head.now in
-    let at : slice_get j.order (length c.args.labels.now) ≡ Some step = get_there c.args.self.now.order.now (length c.args.labels.now) step c.in_ok-step.ensures.lookup.0 c.in_ok-step.ensures.lookup.1 in
-    let is : head_at j.rule step.head ≡ Some head = subst (λ n. head_at j.rule n ≡ Some head) c.from.ensures (sym c.in_ok-head.ensures.head) in
-    let known = known_key j c.requires.plan c.args.labels.now c.args.binding.now c.requires.some c.requires.ready step at head is c.in-Some.place c.in-Some.is in
-    let low : 1 ≤ c.in-Some.place = place_low (bound_at c.args.binding.now) head c.in-Some.place known.0 known.1 in
-    let index : c.from-2.result - 1 ≡ c.in-Some.place - 1 = ap (λ n. n - 1) c.from-2.ensures in
-    let none : slice_get c.in_ok-head.head.now.terms.items (c.in-Some.place - 1) ≡ None = subst (λ n. slice_get c.in_ok-head.head.now.terms.items n ≡ None) index (subst (λ (xs : List CodeTerm). slice_get xs (c.from-2.result - 1) ≡ None) c.as_slice.ensures.value (past_get c.as_slice.result.now (c.from-2.result - 1) c.in_err-term.ensures.lookup.0)) in
-    let gone : value_in (bound_at c.args.binding.now) (slice_get head.args (c.in-Some.place - 1)) ≡ None = ap (value_in (bound_at c.args.binding.now)) (slice_get-map argument c.in_ok-head.head.now.terms.items (c.in-Some.place - 1) ∙ ap (option_map argument) none) in
-    let z : None ≡ Some known.0 = sym gone ∙ sym (given_there (bound_at c.args.binding.now) head c.in-Some.place low) ∙ known.1 in
-    absurd (cc)
-
-pub returns-in_err-value : goal.returns-in_err-value
-returns-in_err-value g c =
-    let j = join_of c.args.self.now in
-    let step = c.in_ok-step.step.now in
-    let head = shape c.in_ok-head.head.now in
-    let at : slice_get j.order (length c.args.labels.now) ≡ Some step = get_there c.args.self.now.order.now (length c.args.labels.now) step c.in_ok-step.ensures.lookup.0 c.in_ok-step.ensures.lookup.1 in
-    let is : head_at j.rule step.head ≡ Some head = subst (λ n. head_at j.rule n ≡ Some head) c.from.ensures (sym c.in_ok-head.ensures.head) in
-    let known = known_key j c.requires.plan c.args.labels.now c.args.binding.now c.requires.some c.requires.ready step at head is c.in-Some.place c.in-Some.is in
-    let low : 1 ≤ c.in-Some.place = place_low (bound_at c.args.binding.now) head c.in-Some.place known.0 known.1 in
-    let index : c.from-2.result - 1 ≡ c.in-Some.place - 1 = ap (λ n. n - 1) c.from-2.ensures in
-    let there : slice_get c.in_ok-head.head.now.terms.items (c.in-Some.place - 1) ≡ Some c.in_ok-term.term.now = subst (λ n. slice_get c.in_ok-head.head.now.terms.items n ≡ Some c.in_ok-term.term.now) index (subst (λ (xs : List CodeTerm). slice_get xs (c.from-2.result - 1) ≡ Some c.in_ok-term.term.now) c.as_slice.ensures.value (get_there c.as_slice.result.now (c.from-2.result - 1) c.in_ok-term.term.now c.in_ok-term.ensures.lookup.0 c.in_ok-term.ensures.lookup.1)) in
-    let given : given_at (bound_at c.args.binding.now) head c.in-Some.place ≡ None = given_there (bound_at c.args.binding.now) head c.in-Some.place low ∙ ap (value_in (bound_at c.args.binding.now)) (slice_get-map argument c.in_ok-head.head.now.terms.items (c.in-Some.place - 1) ∙ ap (option_map argument) there) ∙ sym c.in_err-value.ensures in
-    let z : None ≡ Some known.0 = sym given ∙ known.1 in
-    absurd (cc)
+pub returns-in_err-asked : goal.returns-in_err-asked
+returns-in_err-asked g c = subst (IsPartnerFrom (join_of c.args.self.now) c.args.labels.now c.args.from) (sym c.from_residual.ensures) (λ x m low. c.in_err-asked.ensures x m)
 
 pub returns : goal.returns
 returns g c =
     let j = join_of c.args.self.now in
-    let step = c.in_ok-step.step.now in
-    let head = shape c.in_ok-head.head.now in
-    let at : slice_get j.order (length c.args.labels.now) ≡ Some step = get_there c.args.self.now.order.now (length c.args.labels.now) step c.in_ok-step.ensures.lookup.0 c.in_ok-step.ensures.lookup.1 in
-    let is : head_at j.rule step.head ≡ Some head = subst (λ n. head_at j.rule n ≡ Some head) c.from.ensures (sym c.in_ok-head.ensures.head) in
-    let known = known_key j c.requires.plan c.args.labels.now c.args.binding.now c.requires.some c.requires.ready step at head is c.in-Some.place c.in-Some.is in
-    let low : 1 ≤ c.in-Some.place = place_low (bound_at c.args.binding.now) head c.in-Some.place known.0 known.1 in
-    let index : c.from-2.result - 1 ≡ c.in-Some.place - 1 = ap (λ n. n - 1) c.from-2.ensures in
-    let there : slice_get c.in_ok-head.head.now.terms.items (c.in-Some.place - 1) ≡ Some c.in_ok-term.term.now = subst (λ n. slice_get c.in_ok-head.head.now.terms.items n ≡ Some c.in_ok-term.term.now) index (subst (λ (xs : List CodeTerm). slice_get xs (c.from-2.result - 1) ≡ Some c.in_ok-term.term.now) c.as_slice.ensures.value (get_there c.as_slice.result.now (c.from-2.result - 1) c.in_ok-term.term.now c.in_ok-term.ensures.lookup.0 c.in_ok-term.ensures.lookup.1)) in
-    let given : given_at (bound_at c.args.binding.now) head c.in-Some.place ≡ Some (ground c.in_ok-value.value) = given_there (bound_at c.args.binding.now) head c.in-Some.place low ∙ ap (value_in (bound_at c.args.binding.now)) (slice_get-map argument c.in_ok-head.head.now.terms.items (c.in-Some.place - 1) ∙ ap (option_map argument) there) ∙ sym c.in_ok-value.ensures in
-    let key = key_some (bound_at c.args.binding.now) head step.key (Some (c.in-Some.place, ground c.in_ok-value.value)) c.in-Some.place (ground c.in_ok-value.value) c.in-Some.is given refl in
     least_partner j c.args.labels.now c.args.binding.now c.args.from _
-    (asked j c.args.labels.now c.args.binding.now c.args.from step head c.pred_of-2.result (Some (c.in-Some.place, ground c.in_ok-value.value)) c.saturating_sub-after.result _ c.requires.some c.requires.ready at is c.pred_of-2.ensures.name c.pred_of-2.ensures.arity key c.saturating_sub-after.ensures c.next_at-2.ensures.labelled.given)
-    c.next_at-2.result c.next_at-2.ensures.least
+    (asked j c.args.labels.now c.args.binding.now c.args.from c.in_ok-asked.asked _ c.saturating_sub-after.result _ c.requires.some c.requires.ready c.in_ok-asked.ensures c.key.ensures c.saturating_sub-after.ensures c.next_at.ensures.labelled.given)
+    c.next_at.result c.next_at.ensures.least

@@ -1,13 +1,15 @@
 use Rattle.std.proofs.Common.{◌-◌, ◌≤◌}
 use Rattle.chr_search.specs.Joined.{join_of}
+use Rattle.chr_search.specs.Partners.{GivePartners}
 use Rattle.chr_search.specs.Passing.{AreMisfits}
 use Rattle.chr_search.proofs.join.Join.pass_misfits.Given as goal
 
-abbrev pub invariant-loop-count : goal.invariant-loop-count
-invariant-loop-count g l = record {
-  few : l.count ≤ l.most;
-  misfits : AreMisfits (join_of l.self) l.labels l.count l.from l.next;
+abbrev pub invariant-loop-misfits : goal.invariant-loop-misfits
+invariant-loop-misfits g l = record {
+  few : l.misfits.count ≤ l.most;
+  misfits : AreMisfits (join_of l.self) l.labels l.misfits.count l.from l.misfits.next;
+  partners : GivePartners (join_of l.self) l.labels l.partners;
 }
 
-abbrev pub decreases-loop-count : goal.decreases-loop-count
-decreases-loop-count g l = l.most - l.count
+abbrev pub decreases-loop-misfits : goal.decreases-loop-misfits
+decreases-loop-misfits g l = l.most - l.misfits.count
