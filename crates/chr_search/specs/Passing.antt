@@ -1,11 +1,10 @@
 -- Searches that pass over trials.
-use Rattle.std.specs.Prelude.{◌≡◌, ◌≢◌, ℕ, zero, suc, ◌+◌, ◌≤◌, List, [], ◌∷◌, ◌++◌, map, length, take, Some}
+use Rattle.std.specs.Prelude.{◌≡◌, ◌≢◌, ℕ, zero, suc, ◌+◌, ◌≤◌, List, [], ◌∷◌, ◌++◌, map, length, take, Option, Some}
 use Rattle.std.specs.List.{AllByRecursion}
+use Rattle.chr_value.specs.Atoms.{Value}
 use Rattle.chr_value.specs.Stores.{atom_at}
 use Rattle.chr_search.specs.declared.judged.Verdict.{Verdict}
 use Rattle.chr_search.specs.declared.judged.Verdict.TheVariants.{Misfit, Part, Whole}
-use Rattle.chr_search.specs.declared.passing.Beside.{Beside}
-use Rattle.chr_search.specs.declared.passing.Beside.TheVariants as besides
 use Rattle.chr_search.specs.Tree.{Grows, LeastFrom}
 use Rattle.chr_search.specs.Trials.{Join, MayFollow, Space, IsNext}
 use Rattle.chr_search.specs.Partners.{IsReady}
@@ -30,10 +29,10 @@ abbrev pub AreJudged : Join → List ℕ → Verdict → Type 0
 AreJudged j ls verdict = (t : Trial) → IsTrialIn j ls t → IsVerdict t verdict
 
 -- the same, with the binding of a part
-abbrev pub IsBeside : Join → List ℕ → Beside → Type 0
-IsBeside j ls besides.Misfit = AreJudged j ls Misfit
-IsBeside j ls (besides.Part binding) = AreJudged j ls Part × IsReady j ls binding
-IsBeside j ls besides.Whole = AreJudged j ls Whole
+abbrev pub IsBeside : Join → List ℕ → Verdict → List (Option (Value ℕ)) → Type 0
+IsBeside j ls Misfit binding = AreJudged j ls Misfit
+IsBeside j ls Part binding = AreJudged j ls Part × IsReady j ls binding
+IsBeside j ls Whole binding = AreJudged j ls Whole
 
 -- So many trials of these labels and one more, that one from a label on, one after another: misfits. The next one is looked
 -- for from another label on.

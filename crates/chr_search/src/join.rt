@@ -1,6 +1,6 @@
 //! The partners of an active label at the heads of a plan.
 ghost use Rattle.std.specs.Prelude.{◌≡◌, ◌↔◌, ℕ, ◌∷◌, ◌++◌, ◌≤◌, [], length, MatchOption, IfSome, IsTrue};
-ghost use Rattle.chr_guard.specs.Bindings.{Narrows, NoneUnder};
+ghost use Rattle.chr_guard.specs.Bindings.{Narrows, NoneUnder, NarrowsIf};
 ghost use Rattle.chr_rule.specs.Parts.{shape};
 ghost use Rattle.chr_store.specs.Keys.{HasPred, key_of};
 ghost use Rattle.chr_search.specs.Tree.{Least, NoneBeyond};
@@ -55,6 +55,21 @@ impl Asked {
 }
 
 impl<'s, A: Allocator + Copy> Join<'s, A> {
+    /// Extends a binding so that the step's head is the label's atom. False only where no valuation that extends it makes
+    /// them equal, or the label has left the store.
+    pub(crate) fn fit_at(&self, binding: &mut Binding<'s>, step: Step, label: Label) -> bool
+        requires { length binding.old ≡ self.now.rule.now.variables }
+        ensures { NarrowsIf (λ v. StandsAt (join_of self.now) v step label) result binding.old binding.new }
+    {
+        let Some(head) = self.rule.head(usize::from(step.head)) else {
+            return false;
+        };
+        let Some(atom) = self.store.get(label) else {
+            return false;
+        };
+        fit_head(binding, head, atom)
+    }
+
     /// The binding under which the step's head is the label's atom as well. None where there is none, or the label has
     /// left the store.
     pub(crate) fn fit_label(
@@ -66,10 +81,8 @@ impl<'s, A: Allocator + Copy> Join<'s, A> {
         requires { length binding.now ≡ self.now.rule.now.variables }
         ensures { MatchOption result (NoneUnder (λ v. StandsAt (join_of self.now) v step label) binding.now) (Narrows (λ v. StandsAt (join_of self.now) v step label) binding.now) }
     {
-        let head = self.rule.head(usize::from(step.head))?;
-        let atom = self.store.get(label)?;
         let mut next = binding.copy();
-        if !fit_head(&mut next, head, atom) {
+        if !self.fit_at(&mut next, step, label) {
             return None;
         }
         Some(next)

@@ -9,19 +9,12 @@ ghost use Rattle.chr_search.specs.Trials.{Fit, MayFollow};
 ghost use Rattle.chr_search.specs.Verdicts.{Trial};
 
 use crate::join::Join;
+use crate::judged::Verdict;
 use chr_guard::binding::Binding;
-use chr_guard::instance::instance_from;
+use chr_guard::instance::becomes_instance;
 use chr_log::events::Labels;
 use chr_store::store::Label;
 use std::alloc::Allocator;
-
-/// How a trial is judged, and a part's binding.
-#[derive(Drop)]
-enum Beside<'s> {
-    Misfit,
-    Part(Binding<'s>),
-    Whole,
-}
 
 /// Misfits that were passed over.
 #[derive(Drop)]
@@ -46,28 +39,36 @@ impl<'s, A: Allocator + Copy> Join<'s, A> {
         Some(binding)
     }
 
-    /// How the trial of these labels and one more is judged, whose atoms the store has.
-    fn fit_beside(&self, labels: &[Label], binding: &Binding<'s>, label: Label) -> Beside<'s>
+    /// How the trial of these labels and one more is judged, whose atoms the store has. For a part the last binding becomes
+    /// its own.
+    fn fit_beside(
+        &self,
+        labels: &[Label],
+        binding: &Binding<'s>,
+        label: Label,
+        narrowed: &mut Binding<'s>,
+    ) -> Verdict
         requires ready { IsReady (join_of self.now) labels.now binding.now }
         requires trial { (t : Trial) × IsTrialIn (join_of self.now) (labels.now ++ label ∷ []) t }
-        ensures { IsBeside (join_of self.now) (labels.now ++ label ∷ []) result }
+        ensures { IsBeside (join_of self.now) (labels.now ++ label ∷ []) result narrowed.new }
     {
         if labels.contains(&label) {
-            return Beside::Misfit;
+            return Verdict::Misfit;
         }
         let Some(step) = self.order.get(labels.len()) else {
-            return Beside::Misfit;
+            return Verdict::Misfit;
         };
-        let Some(narrowed) = self.fit_label(binding, *step, label) else {
-            return Beside::Misfit;
-        };
+        narrowed.set_to(binding);
+        if !self.fit_at(narrowed, *step, label) {
+            return Verdict::Misfit;
+        }
         if labels.len() + 1 < self.rule.heads() {
-            return Beside::Part(narrowed);
+            return Verdict::Part;
         }
-        match instance_from(self.rule, narrowed) {
-            None => Beside::Misfit,
-            Some(_) => Beside::Whole,
+        if becomes_instance(self.rule, narrowed) {
+            return Verdict::Whole;
         }
+        Verdict::Misfit
     }
 
     /// Passes over the trials of these labels and one more from one on, up to one that is no misfit, at most so many.
@@ -93,15 +94,16 @@ impl<'s, A: Allocator + Copy> Join<'s, A> {
         let Some(mut partners) = self.partners(labels, binding) else {
             return misfits;
         };
+        let mut narrowed = binding.copy();
         while misfits.count < most {
             let after = misfits.next.saturating_sub(1);
             let Some(label) = partners.next_at(after, self.active) else {
                 break;
             };
-            match self.fit_beside(labels, binding, label) {
-                Beside::Misfit => {}
-                Beside::Part(_) => break,
-                Beside::Whole => {
+            match self.fit_beside(labels, binding, label, &mut narrowed) {
+                Verdict::Misfit => {}
+                Verdict::Part => break,
+                Verdict::Whole => {
                     misfits.is_whole = true;
                     break;
                 }
@@ -130,12 +132,13 @@ impl<'s, A: Allocator + Copy> Join<'s, A> {
         let Some(binding) = self.fit_labels(labels.as_slice()) else {
             unreachable!();
         };
-        let misfits = match self.fit_beside(labels.as_slice(), &binding, label) {
-            Beside::Whole => return (0, true),
-            Beside::Misfit => {
+        let mut narrowed = binding.copy();
+        let misfits = match self.fit_beside(labels.as_slice(), &binding, label, &mut narrowed) {
+            Verdict::Whole => return (0, true),
+            Verdict::Misfit => {
                 self.pass_misfits(labels.as_slice(), &binding, label + 1, most - 1)
             }
-            Beside::Part(narrowed) => {
+            Verdict::Part => {
                 labels.push(label);
                 self.pass_misfits(labels.as_slice(), &narrowed, 0, most - 1)
             }

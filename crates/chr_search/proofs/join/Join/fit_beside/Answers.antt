@@ -1,6 +1,8 @@
-use Rattle.std.proofs.Common.{◌≡◌, ◌+◌, ◌<◌, ◌≤◌, true, false, [], ◌∷◌, ◌++◌, length, length-append, sym, ◌∙◌, arith}
+use Rattle.std.proofs.Common.{◌≡◌, ◌+◌, ◌<◌, ◌≤◌, true, false, [], ◌∷◌, ◌++◌, length, length-append, sym, ◌∙◌, ap, subst, arith}
 use Rattle.chr_model.specs.Stores.{among}
+use Rattle.chr_guard.specs.Bindings.{Narrows, NoneUnder}
 use Rattle.chr_search.specs.Partners.{IsReady}
+use Rattle.chr_search.specs.Trials.{StandsAt}
 use Rattle.chr_search.specs.Joined.{join_of}
 use Rattle.chr_search.proofs.Partners.{ready_more}
 use Rattle.chr_search.proofs.Asking.{get_there, past_get, any_among}
@@ -16,55 +18,74 @@ returns-then-contains g c =
 pub returns-in_default : goal.returns-in_default
 returns-in_default g c = has_no_step (join_of c.args.self.now) c.args.labels.now c.args.label (past_get c.args.self.now.order.now (length c.args.labels.now) c.in_default.ensures.lookup.0)
 
-pub returns-in_default-fit_label : goal.returns-in_default-fit_label
-returns-in_default-fit_label g c =
-    stands_nowhere (join_of c.args.self.now) c.args.labels.now c.args.binding.now c.in-Some.step.now c.args.label c.requires.ready
-    (get_there c.args.self.now.order.now (length c.args.labels.now) c.in-Some.step.now c.in-Some.ensures.lookup.0 c.in-Some.ensures.lookup.1) c.in_default-fit_label.ensures
+pub fit_at-requires : goal.fit_at-requires
+fit_at-requires g c = ap length c.set_to.ensures ∙ c.requires.ready.fit.places
+
+pub returns-then-not-fit_at : goal.returns-then-not-fit_at
+returns-then-not-fit_at g c =
+    let j = join_of c.args.self.now in
+    let labels = c.args.labels.now in
+    let step = c.in-Some.step.now in
+    stands_nowhere j labels c.args.binding.now step c.args.label c.requires.ready
+    (get_there c.args.self.now.order.now (length labels) c.in-Some.step.now c.in-Some.ensures.lookup.0 c.in-Some.ensures.lookup.1)
+    (subst (NoneUnder (λ v. StandsAt j v step c.args.label)) c.set_to.ensures c.if-not-fit_at.ensures)
 
 pub returns-then-labels-heads : goal.returns-then-labels-heads
 returns-then-labels-heads g c =
     let j = join_of c.args.self.now in
     let labels = c.args.labels.now in
-    let away : among labels c.args.label ≡ false = sym (any_among labels c.args.label) ∙ sym c.contains.ensures.value ∙ c.if-contains.false in
-    let ready : IsReady j (labels ++ c.args.label ∷ []) c.in-Some-fit_label.narrowed = ready_more j labels c.args.binding.now c.in-Some-fit_label.narrowed c.in-Some.step.now c.args.label c.requires.ready
-    (get_there c.args.self.now.order.now (length labels) c.in-Some.step.now c.in-Some.ensures.lookup.0 c.in-Some.ensures.lookup.1) away c.in-Some-fit_label.ensures in
+    let step = c.in-Some.step.now in
+    let label = c.args.label in
+    let away : among labels label ≡ false = sym (any_among labels label) ∙ sym c.contains.ensures.value ∙ c.if-contains.false in
+    let narrows : Narrows (λ v. StandsAt j v step label) c.args.binding.now c.fit_at.new.binding = subst (λ old. Narrows (λ v. StandsAt j v step label) old c.fit_at.new.binding) c.set_to.ensures c.if-not-fit_at.ensures in
+    let ready : IsReady j (labels ++ label ∷ []) c.fit_at.new.binding = ready_more j labels c.args.binding.now c.fit_at.new.binding step label c.requires.ready
+    (get_there c.args.self.now.order.now (length labels) c.in-Some.step.now c.in-Some.ensures.lookup.0 c.in-Some.ensures.lookup.1) away narrows in
     let less : length labels + 1 < c.heads.result = c.if-labels-heads.true in
     let heads : c.heads.result ≡ length j.rule.kept + length j.rule.removed = c.heads.ensures.count in
-    (is_part j (labels ++ c.args.label ∷ []) c.in-Some-fit_label.narrowed ready (omega (arith, length-append labels (c.args.label ∷ []))), ready)
+    (is_part j (labels ++ label ∷ []) c.fit_at.new.binding ready (omega (arith, length-append labels (label ∷ []))), ready)
 
-pub instance_from-requires : goal.instance_from-requires
-instance_from-requires g c =
+pub becomes_instance-requires : goal.becomes_instance-requires
+becomes_instance-requires g c =
     let j = join_of c.args.self.now in
     let labels = c.args.labels.now in
-    let away : among labels c.args.label ≡ false = sym (any_among labels c.args.label) ∙ sym c.contains.ensures.value ∙ c.if-contains.false in
-    let ready : IsReady j (labels ++ c.args.label ∷ []) c.in-Some-fit_label.narrowed = ready_more j labels c.args.binding.now c.in-Some-fit_label.narrowed c.in-Some.step.now c.args.label c.requires.ready
-    (get_there c.args.self.now.order.now (length labels) c.in-Some.step.now c.in-Some.ensures.lookup.0 c.in-Some.ensures.lookup.1) away c.in-Some-fit_label.ensures in
+    let step = c.in-Some.step.now in
+    let label = c.args.label in
+    let away : among labels label ≡ false = sym (any_among labels label) ∙ sym c.contains.ensures.value ∙ c.if-contains.false in
+    let narrows : Narrows (λ v. StandsAt j v step label) c.args.binding.now c.fit_at.new.binding = subst (λ old. Narrows (λ v. StandsAt j v step label) old c.fit_at.new.binding) c.set_to.ensures c.if-not-fit_at.ensures in
+    let ready : IsReady j (labels ++ label ∷ []) c.fit_at.new.binding = ready_more j labels c.args.binding.now c.fit_at.new.binding step label c.requires.ready
+    (get_there c.args.self.now.order.now (length labels) c.in-Some.step.now c.in-Some.ensures.lookup.0 c.in-Some.ensures.lookup.1) away narrows in
     let many : c.heads.result ≤ length labels + 1 = c.if-labels-heads.false in
     let heads : c.heads.result ≡ length j.rule.kept + length j.rule.removed = c.heads.ensures.count in
     let t = c.requires.trial.0 in
     let i = c.requires.trial.1 in
-    (in_head_order t, heads_fit j (labels ++ c.args.label ∷ []) t i (is_full j (labels ++ c.args.label ∷ []) t i (omega (arith, length-append labels (c.args.label ∷ [])))) c.in-Some-fit_label.narrowed ready.fit)
+    (in_head_order t, heads_fit j (labels ++ label ∷ []) t i (is_full j (labels ++ label ∷ []) t i (omega (arith, length-append labels (label ∷ [])))) c.fit_at.new.binding ready.fit)
 
-pub returns-in-None : goal.returns-in-None
-returns-in-None g c = λ t i.
+pub returns-then-becomes_instance : goal.returns-then-becomes_instance
+returns-then-becomes_instance g c = λ t i.
     let j = join_of c.args.self.now in
     let labels = c.args.labels.now in
-    let away : among labels c.args.label ≡ false = sym (any_among labels c.args.label) ∙ sym c.contains.ensures.value ∙ c.if-contains.false in
-    let ready : IsReady j (labels ++ c.args.label ∷ []) c.in-Some-fit_label.narrowed = ready_more j labels c.args.binding.now c.in-Some-fit_label.narrowed c.in-Some.step.now c.args.label c.requires.ready
-    (get_there c.args.self.now.order.now (length labels) c.in-Some.step.now c.in-Some.ensures.lookup.0 c.in-Some.ensures.lookup.1) away c.in-Some-fit_label.ensures in
+    let step = c.in-Some.step.now in
+    let label = c.args.label in
+    let away : among labels label ≡ false = sym (any_among labels label) ∙ sym c.contains.ensures.value ∙ c.if-contains.false in
+    let narrows : Narrows (λ v. StandsAt j v step label) c.args.binding.now c.fit_at.new.binding = subst (λ old. Narrows (λ v. StandsAt j v step label) old c.fit_at.new.binding) c.set_to.ensures c.if-not-fit_at.ensures in
+    let ready : IsReady j (labels ++ label ∷ []) c.fit_at.new.binding = ready_more j labels c.args.binding.now c.fit_at.new.binding step label c.requires.ready
+    (get_there c.args.self.now.order.now (length labels) c.in-Some.step.now c.in-Some.ensures.lookup.0 c.in-Some.ensures.lookup.1) away narrows in
     let many : c.heads.result ≤ length labels + 1 = c.if-labels-heads.false in
     let heads : c.heads.result ≡ length j.rule.kept + length j.rule.removed = c.heads.ensures.count in
-    let full = is_full j (labels ++ c.args.label ∷ []) t i (omega (arith, length-append labels (c.args.label ∷ []))) in
-    misfit_here j (labels ++ c.args.label ∷ []) t i full (c.in-None.ensures (in_head_order t) (heads_fit j (labels ++ c.args.label ∷ []) t i full c.in-Some-fit_label.narrowed ready.fit))
+    let full = is_full j (labels ++ label ∷ []) t i (omega (arith, length-append labels (label ∷ []))) in
+    whole_here j (labels ++ label ∷ []) t i full ready.distinct c.becomes_instance.new.binding (c.if-becomes_instance.ensures (in_head_order t) (heads_fit j (labels ++ label ∷ []) t i full c.fit_at.new.binding ready.fit))
 
-pub returns-in-Some-instance_from : goal.returns-in-Some-instance_from
-returns-in-Some-instance_from g c = λ t i.
+pub returns : goal.returns
+returns g c = λ t i.
     let j = join_of c.args.self.now in
     let labels = c.args.labels.now in
-    let away : among labels c.args.label ≡ false = sym (any_among labels c.args.label) ∙ sym c.contains.ensures.value ∙ c.if-contains.false in
-    let ready : IsReady j (labels ++ c.args.label ∷ []) c.in-Some-fit_label.narrowed = ready_more j labels c.args.binding.now c.in-Some-fit_label.narrowed c.in-Some.step.now c.args.label c.requires.ready
-    (get_there c.args.self.now.order.now (length labels) c.in-Some.step.now c.in-Some.ensures.lookup.0 c.in-Some.ensures.lookup.1) away c.in-Some-fit_label.ensures in
+    let step = c.in-Some.step.now in
+    let label = c.args.label in
+    let away : among labels label ≡ false = sym (any_among labels label) ∙ sym c.contains.ensures.value ∙ c.if-contains.false in
+    let narrows : Narrows (λ v. StandsAt j v step label) c.args.binding.now c.fit_at.new.binding = subst (λ old. Narrows (λ v. StandsAt j v step label) old c.fit_at.new.binding) c.set_to.ensures c.if-not-fit_at.ensures in
+    let ready : IsReady j (labels ++ label ∷ []) c.fit_at.new.binding = ready_more j labels c.args.binding.now c.fit_at.new.binding step label c.requires.ready
+    (get_there c.args.self.now.order.now (length labels) c.in-Some.step.now c.in-Some.ensures.lookup.0 c.in-Some.ensures.lookup.1) away narrows in
     let many : c.heads.result ≤ length labels + 1 = c.if-labels-heads.false in
     let heads : c.heads.result ≡ length j.rule.kept + length j.rule.removed = c.heads.ensures.count in
-    let full = is_full j (labels ++ c.args.label ∷ []) t i (omega (arith, length-append labels (c.args.label ∷ []))) in
-    whole_here j (labels ++ c.args.label ∷ []) t i full ready.distinct c.in-Some-instance_from.field-0 (c.in-Some-instance_from.ensures (in_head_order t) (heads_fit j (labels ++ c.args.label ∷ []) t i full c.in-Some-fit_label.narrowed ready.fit))
+    let full = is_full j (labels ++ label ∷ []) t i (omega (arith, length-append labels (label ∷ []))) in
+    misfit_here j (labels ++ label ∷ []) t i full (c.if-becomes_instance.ensures (in_head_order t) (heads_fit j (labels ++ label ∷ []) t i full c.fit_at.new.binding ready.fit))
