@@ -9,4 +9,6 @@
 #[cfg(test)]
 mod calls;
 #[cfg(test)]
+mod lists;
+#[cfg(test)]
 mod opening;
