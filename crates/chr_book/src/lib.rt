@@ -2,8 +2,8 @@
 //!
 //! Several seats work on one [`Book`](book::Book), one call at a time: whoever shares a book among threads holds a lock
 //! around each call. A seat posts atoms, claims a ticket, asks for the next trial of its goal, judges it elsewhere and
-//! reports the judgement or fires, until the goal has ended or is dropped. The book judges nothing: it looks at what a
-//! judged trial carries, and at the store.
+//! reports the judgement or fires, until the goal has ended or is dropped. But for [`pass_over`](book::Book::pass_over), which
+//! is for a seat that works alone, the book judges nothing: it looks at what a judged trial carries, and at the store.
 //!
 //! | Call | What it does |
 //! |---|---|

@@ -4,6 +4,9 @@
 //! that ticket's end. A ticket that waits or rests is claimed; then its trials are asked for and judged one by one; a whole
 //! one fires, another is reported, and where none is left the goal is dropped. So with one seat a book's log is fixed by its
 //! rules, its label limit, the atoms posted and the number of calls.
+//!
+//! No trial is made for the calls that ask for a trial which isn't whole and report it: they are made together, by
+//! [`Book::pass_over`](chr_book::book::Book::pass_over), and counted.
 #![tactic(auto)]
 
 pub mod solo;
