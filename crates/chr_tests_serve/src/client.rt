@@ -78,6 +78,24 @@ pub fn has_posts(alloc: Global, told: &str, one: u64, other: u64) -> Result<bool
     )
 }
 
+/// What the check says of the replies to `store` and to `log 1`. None where it refuses them.
+fn verdict(
+    alloc: Global,
+    program: &str,
+    store: &str,
+    log: &str,
+) -> Result<Option<Verdict>, AllocError> {
+    let (Some((_, store)), Some((_, lines))) = (store.split_once('\n'), log.split_once('\n')) else {
+        return Ok(None);
+    };
+    let log = format!(in alloc; "chr-log 2\n{lines}")?;
+    let checked = check_text(alloc, program.as_bytes(), log.as_bytes(), store.as_bytes());
+    Ok(match checked {
+        Ok(checked) => checked.answer.ok(),
+        Err(_) => None,
+    })
+}
+
 /// A client of a server.
 #[derive(Drop)]
 pub struct Client {
@@ -135,33 +153,11 @@ impl Client {
         Ok(false)
     }
 
-    /// What a reply of `store` or `log` has after its first line.
-    fn lines(&mut self, told: &str) -> io::Result<String<Global>> {
-        let mut lines = String::new(self.alloc);
-        let mut first = String::new(self.alloc);
-        self.tell(told)?;
-        self.reader.read_line(&mut first)?;
-        for _ in 0..lines_after(first.as_str()) {
-            self.reader.read_line(&mut lines)?;
-        }
-        Ok(lines)
-    }
-
-    /// The lines of the store, and what the check of the log says of it. None where it is refused.
+    /// The store's reply, and what the check says of it and of the whole log. None where it is refused.
     pub fn checked(&mut self, program: &str) -> io::Result<(String<Global>, Option<Verdict>)> {
-        let store = self.lines("store\n")?;
-        let lines = self.lines("log 1\n")?;
-        let log = format!(in self.alloc; "chr-log 2\n{lines}")?;
-        let checked = check_text(
-            self.alloc,
-            program.as_bytes(),
-            log.as_bytes(),
-            store.as_bytes(),
-        );
-        let verdict = match checked {
-            Ok(checked) => checked.answer.ok(),
-            Err(_) => None,
-        };
+        let store = self.ask("store\n")?;
+        let log = self.ask("log 1\n")?;
+        let verdict = verdict(self.alloc, program, store.as_str(), log.as_str())?;
         Ok((store, verdict))
     }
 }

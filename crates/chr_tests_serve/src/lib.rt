@@ -7,5 +7,6 @@
 
 mod client;
 mod failing;
+mod memory;
 mod sessions;
 mod vanishing;

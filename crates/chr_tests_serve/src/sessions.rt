@@ -10,9 +10,9 @@ use std::test::*;
 use std::thread::Threads;
 use std::{io, thread};
 
-/// Whether a store has one constraint, and this one.
+/// Whether a store's reply has one constraint, and this one.
 fn is_only(store: &str, atom: &str) -> bool {
-    store.ends_with(atom) && store.lines().count() == 1
+    store.starts_with("store 1\n#") && store.ends_with(atom)
 }
 
 /// What one client does: it loads and posts, and reads the store and the log of a quiet book.

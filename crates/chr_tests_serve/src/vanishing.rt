@@ -84,18 +84,20 @@ fn open_and_cut<R: Net>(rt: &R, address: &SocketAddr, count: u32) -> io::Result<
     Ok(())
 }
 
-/// A client with a seat, after at most so many connections that found none, and how many connections were made.
+/// A client with a seat, whose `wait 0` has this reply, after at most so many connections that found none, and how many
+/// connections were made.
 fn seated<R: Net>(
     rt: &R,
     alloc: Global,
     address: &SocketAddr,
     most: u32,
+    reply: &str,
 ) -> io::Result<(Option<Client>, u32)> {
     for k in 0..most {
         let mut client = Client::connect(rt, alloc, address)?;
         if client
             .ask("wait 0\n")
-            .is_ok_and(|reply| reply.as_str() == "quiet\n")
+            .is_ok_and(|told| told.as_str() == reply)
         {
             return Ok((Some(client), k.wrapping_add(1)));
         }
@@ -120,7 +122,7 @@ fn seats_after<R: Net>(rt: &R, alloc: Global, address: &SocketAddr) -> io::Resul
     let mut left = ALL.wrapping_sub(CUT).wrapping_sub(1);
     let mut clients = Vec::new(alloc);
     for _ in 0..16 {
-        let (client, made) = seated(rt, alloc, address, left)?;
+        let (client, made) = seated(rt, alloc, address, left, "quiet\n")?;
         left = left.saturating_sub(made);
         if let Some(client) = client {
             clients.push(client)?;
@@ -149,5 +151,40 @@ fn nothing_is_left_of_ten_thousand_connections(rt: HostRuntime) -> Result<(), Fa
     assert!(rt; served);
     drop(listener);
     assert_eq!(rt; next_descriptor(&rt)?, before);
+    Ok(())
+}
+
+/// How many connections are made beside a run that doesn't end.
+const BESIDE: u32 = 2000;
+
+/// Whether the seat comes back, while fifteen others are out, of a client that went away as it waited for a run without an
+/// end.
+fn seat_after_wait<R: Net>(rt: &R, alloc: Global, address: &SocketAddr) -> io::Result<bool> {
+    let others = idle(rt, alloc, address, 15)?;
+    let mut waiting = Client::connect(rt, alloc, address)?;
+    waiting.ask("load 9\na <=> a.\n")?;
+    waiting.ask("post a.\n")?;
+    waiting.tell("wait 20\n")?;
+    drop(waiting);
+    let most = BESIDE.wrapping_sub(16);
+    let (client, made) = seated(rt, alloc, address, most, "open\n")?;
+    let found = client.is_some();
+    drop(client);
+    drop(others);
+    open_and_cut(rt, address, most.saturating_sub(made))?;
+    Ok(found)
+}
+
+#[test]
+fn a_seat_comes_back_after_a_wait(rt: HostRuntime) -> Result<(), Fail> {
+    let (listener, address) = listen(&rt)?;
+    let (served, found) = thread::join(
+        &rt,
+        || serves(&rt, &listener, 2, BESIDE),
+        || seat_after_wait(&rt, rt.alloc(), &address),
+    );
+    assert!(rt; found?);
+    // The server ends, though the run doesn't.
+    assert!(rt; served);
     Ok(())
 }
