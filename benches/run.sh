@@ -57,7 +57,7 @@ row() {
 "$top/chr" --help >/dev/null
 echo "| Program | Size | Firings | Entries | Firings a second | Bytes an entry |"
 echo "|---|---|---|---|---|---|"
-for made in "chain 20000" "chain 200000" "primes 100" "primes 1000" "union_find 200" "union_find 2000"; do
+for made in "chain 20000" "chain 200000" "primes 400" "primes 4000" "union_find 200" "union_find 2000"; do
   # shellcheck disable=SC2086
   row $made
 done | awk '{
