@@ -104,11 +104,22 @@ impl<'a> Binding<'a> {
         requires { variables ≤ 24 }
         ensures { result ≡ replicate variables None }
     {
-        let mut bound = ArrayVec::new();
+        let mut binding = Binding {
+            bound: ArrayVec::new(),
+        };
+        binding.reset(variables);
+        binding
+    }
+
+    /// Becomes one of this many variables, at most 24, which are all free.
+    pub fn reset(&mut self, variables: usize)
+        requires { variables ≤ 24 }
+        ensures { self.new ≡ replicate variables None }
+    {
+        self.bound.clear();
         for _ in 0..variables {
-            bound.push(Bound::Free);
+            self.bound.push(Bound::Free);
         }
-        Binding { bound }
     }
 
     /// What a variable is bound to.
@@ -178,13 +189,15 @@ impl<'a> Binding<'a> {
         Binding { bound: copy }
     }
 
-    /// Becomes a copy of another. Only the variables that there are get copied.
+    /// Becomes a copy of another. Between bindings of as many variables, only these get copied.
     pub fn set_to(&mut self, other: &Binding<'a>)
         ensures { self.new ≡ other.now }
     {
-        self.bound.clear();
-        for bound in other.bound.as_slice() {
-            self.bound.push(*bound);
+        if self.bound.len() != other.bound.len() {
+            self.reset(other.bound.len());
+        }
+        for (i, bound) in other.bound.as_slice().iter().enumerate() {
+            self.bound[i] = *bound;
         }
     }
 
