@@ -5,4 +5,5 @@
 //! holds it against the manual, read `--help`.
 #![tactic(auto)]
 
+mod commands;
 pub mod reading;
