@@ -90,7 +90,7 @@ fn is_made_again(memory: &Refusing<Global>, n: u64, call: Call) -> Option<bool> 
 fn each_request_is_refused_in_turn(rt: HostRuntime) {
     for call in CALLS {
         let mut refusals = 0u64;
-        for n in 1..100u64 {
+        for n in 1..200u64 {
             let memory = Refusing::new(rt.alloc(), 0);
             let made = is_made_again(&memory, n, call);
             assert!(rt; made.is_some(), "{call:?}, request {n}");
@@ -99,6 +99,6 @@ fn each_request_is_refused_in_turn(rt: HostRuntime) {
             }
             refusals = n;
         }
-        assert!(rt; 0 < refusals && refusals < 99, "{call:?}");
+        assert!(rt; 0 < refusals && refusals < 199, "{call:?}");
     }
 }

@@ -1,4 +1,5 @@
 pub mod Entries
+pub mod Table
 pub mod Walks
 pub mod Slots
 pub mod Keep

@@ -323,3 +323,11 @@ pub get_none : (ss : List Slot) (p : ℕ) → false ≡ ltb p (length ss) → sl
 get_none [] p h = refl
 get_none (s ∷ ss) zero h = absurd (let z : 0 < length (s ∷ ss) = omega arith in let y : ltb 0 (length (s ∷ ss)) ≡ true = lt-ltb _ _ z in cc)
 get_none (s ∷ ss) (suc p) h = get_none ss p (grind (arith, nat_tests))
+
+-- where the first is above, all are
+pub later_first : (ss : List Slot) (l : ℕ) (s : Slot) → SlotsRise ss → slice_get ss 0 ≡ Some s → l < s.label → AllByRecursion (λ t. l < t.label) ss
+later_first [] l s r at h = absurd (cc)
+later_first (t ∷ ss) l s r at h =
+    let same : t ≡ s = cc in
+    let first : l < t.label = subst (λ z. l < z.label) (sym same) h in
+    (first, all_map (λ u. t.label < u.label) (λ u. l < u.label) ss (λ u lt. omega arith) r.0)

@@ -111,10 +111,6 @@ kept_drop places l a es old new r at h t = λ k. t k ∙ ap (λ (b : Bool). if b
   | false ↦ refl
 ])
 
-pub drop_none : (l : ℕ) (es : Store) → atom_at es l ≡ None → drop_label l es ≡ es
-drop_none l [] h = refl
-drop_none l (e ∷ es) h = elim (e.0 == l) as (λ b. (if b then Some e.1 else atom_at es l) ≡ None → (if b then drop_label l es else e ∷ drop_label l es) ≡ e ∷ es) [ true ↦ λ k. absurd (cc) | false ↦ λ k. ap (λ (z : Store). e ∷ z) (drop_none l es k) ] h
-
 pub kept_below : {S : Type 0} (places : Places) (n : ℕ) (es : Store) (m : HashMap Key (List ℕ) S) → GivenBefore n es → IsIndexOf places es m → (k : Key) → AllByRecursion (λ l. l < n) (labels_in m k)
 kept_below places n es m g h k = subst (AllByRecursion (λ l. l < n)) (sym (h k)) (elim (chosen places k.pred k.place) as (λ b. AllByRecursion (λ l. l < n) (if b then labels_of k es else [])) [ true ↦ labels_below n k es g | false ↦ tt ])
 

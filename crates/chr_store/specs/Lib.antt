@@ -1,4 +1,5 @@
 pub mod Labels
+pub mod Table
 pub mod Keys
 pub mod Faults
 pub mod Buckets

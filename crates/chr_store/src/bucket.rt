@@ -184,7 +184,8 @@ fn is_below(slots: &[Slot], label: u64) -> bool
     }
 }
 
-/// The place of the first slot whose label is above a label. It takes no search where the slot at `near` has that label.
+/// The place of the first slot whose label is above a label. It takes no search where the slot at `near` has that label,
+/// or is the first and above it.
 fn place_near(slots: &[Slot], near: usize, label: u64) -> usize
     requires { SlotsRise slots.now }
     ensures within { result ≤ length slots.now }
@@ -194,10 +195,13 @@ fn place_near(slots: &[Slot], near: usize, label: u64) -> usize
     let Some(slot) = slots.get(near) else {
         return place_above(slots, label);
     };
-    if slot.label != label {
-        return place_above(slots, label);
+    if slot.label == label {
+        return near + 1;
     }
-    near + 1
+    if near == 0 && label < slot.label {
+        return 0;
+    }
+    place_above(slots, label)
 }
 
 /// The place and the label of the first live slot from a place on, under `below`, where the slots before `first` are dead.

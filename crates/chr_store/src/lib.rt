@@ -3,7 +3,9 @@
 //! A [`Store`](store::Store) is a map from labels to atoms. Labels are given from 1 on, each once, up to a limit, so
 //! two equal constraints have two labels and a removed label never comes back. [`next_at`](store::Store::next_at)
 //! finds the least label in a range whose atom has a predicate and, where one is asked for, a value at a place.
-//! A store keeps the labels of each predicate in order, and, for each place that
+//! A store keeps each atom in a slot of its label, so looking one up takes no search. The atom's memory goes when it is
+//! removed, and 8 bytes for its label stay.
+//! It also keeps the labels of each predicate in order, and, for each place that
 //! [`indexed`](store::Store::indexed) is given, those of each predicate and value there. So `next_at` takes a hash and a
 //! binary search; with a key at another place it goes through the labels of the predicate.
 //! [`matches`](store::Store::matches) takes the hash once, and going on from the label found last takes no search.
@@ -13,6 +15,7 @@
 //! Contracts see a store as the list of its labels with their atoms, which rises, with the next label and the limit.
 #![tactic(auto)]
 
+pub mod atoms;
 pub mod bucket;
 pub mod keys;
 pub mod store;

@@ -1,7 +1,8 @@
 //! Constraints under labels.
 ghost use Rattle.std.specs.Prelude.{◌≡◌, ℕ, ◌+◌, ◌<◌, ◌≤◌, ◌++◌, ◌∷◌, ◌↔◌, [], length, Option, Some, None, Err, IfOk, OnOk, IfErr, OnErr, IfSome, IsSome, IsTrue};
 ghost use Rattle.std.specs.Option.{option_copied};
-ghost use Rattle.std.specs.Map.Iter.{ShowsInOrder, deref_pair};
+ghost use Rattle.std.specs.Iterator.{AlwaysYields};
+ghost use Rattle.std.specs.Map.Iter.{TakesFirst};
 ghost use Rattle.chr_value.specs.Atoms.{Atom, ground};
 ghost use Rattle.chr_value.specs.Stores.{atom_at, drop_label};
 ghost use Rattle.chr_store.specs.Labels.{IsLabelled};
@@ -9,16 +10,17 @@ ghost use Rattle.chr_store.specs.Buckets.{IsLeastBetween};
 ghost use Rattle.chr_store.specs.Keys.{arg_at, HasPred, HasKey, key_of, IsLeastMatch};
 ghost use Rattle.chr_store.specs.Faults.{given_back};
 ghost use Rattle.chr_store.specs.Indexed.{LabelHas};
+ghost use Rattle.chr_store.specs.Table.{shown};
 ghost use Rattle.chr_store.specs.declared.store.StoreFault.TheVariants.{LabelsSpent};
 
+use crate::atoms::{Atoms, Constraints};
 use crate::bucket::Bucket;
 use crate::keys::{Buckets, Key, enter, is_chosen, leave, next_of};
 use chr_value::atom::{Atom, Pred, Value};
 use chr_value::label::GREATEST_LABEL;
 pub use chr_value::label::Label;
 use std::alloc::{AllocError, Allocator};
-use std::collections::btree_map::Iter;
-use std::collections::{BTreeMap, HashMap};
+use std::collections::HashMap;
 use std::marker::Model;
 
 /// The greatest limit that a store may have for its labels.
@@ -36,11 +38,10 @@ pub enum StoreFault<A: Allocator> {
 /// A map from labels to atoms. Contracts see the list of labels and atoms, rising, with the next label and the limit.
 #[derive(Drop)]
 pub struct Store<A: Allocator> {
-    atoms: BTreeMap<u64, Atom<A>, A>,
+    atoms: Atoms<A>,
     buckets: Buckets<A>,
     places: Vec<(Pred, u8), A>,
     alloc: A,
-    next: u64,
     limit: u64,
 }
 
@@ -50,9 +51,9 @@ impl<A: Allocator> Model for Store<A> {
 
     ghost Value = { LabelledStore };
 
-    ghost view = { λ s. record { entries = s.atoms.entries; next = s.next; limit = s.limit } };
+    ghost view = { λ s. record { entries = s.atoms.entries; next = s.atoms.next; limit = s.limit } };
 
-    ghost invariant = { λ s. IsIndexed (record { entries = s.atoms.entries; next = s.next; limit = s.limit }) s.places.items s.buckets };
+    ghost invariant = { λ s. IsIndexed (record { entries = s.atoms.entries; next = s.atoms.next; limit = s.limit }) s.places.items s.buckets };
 }
 
 /// Whether an atom has a value at a place. Places are numbered from 1.
@@ -69,15 +70,10 @@ fn has_at<A: Allocator + Copy>(atom: &Atom<A>, place: u8, value: &Value) -> bool
 }
 
 /// Whether the atom under a label has a value at a place.
-fn label_has<A: Allocator + Copy>(
-    atoms: &BTreeMap<u64, Atom<A>, A>,
-    label: Label,
-    place: u8,
-    value: &Value,
-) -> bool
+fn label_has<A: Allocator + Copy>(atoms: &Atoms<A>, label: Label, place: u8, value: &Value) -> bool
     ensures { IsTrue result ↔ LabelHas atoms.now.entries label place (ground value.now) }
 {
-    match atoms.get(&label) {
+    match atoms.get(label) {
         None => false,
         Some(atom) => has_at(atom, place, value),
     }
@@ -90,11 +86,10 @@ impl<A: Allocator + Copy> Store<A> {
         ensures { result ≡ record { entries = []; next = 1; limit = limit } }
     {
         Store {
-            atoms: BTreeMap::new(alloc),
+            atoms: Atoms::new(alloc),
             buckets: HashMap::new(alloc),
             places: Vec::new(alloc),
             alloc,
-            next: 1,
             limit,
         }
     }
@@ -106,11 +101,10 @@ impl<A: Allocator + Copy> Store<A> {
         ensures { IfOk result (λ made. made ≡ record { entries = []; next = 1; limit = limit }) }
     {
         Ok(Store {
-            atoms: BTreeMap::new(alloc),
+            atoms: Atoms::new(alloc),
             buckets: HashMap::new(alloc),
             places: Vec::from_slice(alloc, places)?,
             alloc,
-            next: 1,
             limit,
         })
     }
@@ -128,7 +122,7 @@ impl<A: Allocator + Copy> Store<A> {
         ensures value { result ≡ self.now.next }
         ensures labelled { IsLabelled self.now }
     {
-        self.next
+        self.atoms.next_label()
     }
 
     /// Enters an atom under the next label. Where the labels are spent (E10) or the store could not grow (E01), the
@@ -140,21 +134,17 @@ impl<A: Allocator + Copy> Store<A> {
         ensures back { IfErr result (λ fault. given_back fault ≡ atom) }
         ensures unchanged { OnErr result (self.new ≡ self.old) }
     {
-        if self.next > self.limit {
+        let label = self.atoms.next_label();
+        if label > self.limit {
             return Err(StoreFault::LabelsSpent(atom));
         }
-        let label = self.next;
         let Ok(()) = enter(&mut self.buckets, self.alloc, &self.places, &atom, label) else {
             leave(&mut self.buckets, &self.places, &atom, label);
             return Err(StoreFault::NoMemory(atom));
         };
-        match self.atoms.insert(label, atom) {
-            Ok(_) => {
-                self.next = label + 1;
-                Ok(label)
-            }
-            Err(refused) => {
-                let atom = refused.value.1;
+        match self.atoms.push(atom) {
+            Ok(()) => Ok(label),
+            Err(atom) => {
                 leave(&mut self.buckets, &self.places, &atom, label);
                 Err(StoreFault::NoMemory(atom))
             }
@@ -165,7 +155,7 @@ impl<A: Allocator + Copy> Store<A> {
     pub fn get(&self, label: Label) -> Option<&Atom<A>>
         ensures { option_copied result ≡ atom_at self.now.entries label }
     {
-        self.atoms.get(&label)
+        self.atoms.get(label)
     }
 
     /// Takes a constraint out of the store.
@@ -173,7 +163,7 @@ impl<A: Allocator + Copy> Store<A> {
         ensures value { result ≡ atom_at self.old.entries label }
         ensures rest { self.new ≡ record { entries = drop_label label self.old.entries; next = self.old.next; limit = self.old.limit } }
     {
-        let Some(atom) = self.atoms.remove(&label) else {
+        let Some(atom) = self.atoms.remove(label) else {
             return None;
         };
         leave(&mut self.buckets, &self.places, &atom, label);
@@ -250,9 +240,10 @@ impl<A: Allocator + Copy> Store<A> {
     }
 
     /// The constraints with their labels, which rise.
-    pub fn iter(&self) -> Iter<'_, u64, Atom<A>>
+    pub fn iter(&self) -> Constraints<'_, A>
         ensures rest { result ≡ self.now.entries }
-        ensures runs { ShowsInOrder (deref_pair {K = ℕ} {X = Atom ℕ}) }
+        ensures fits { length result ≤ 4294967295 }
+        ensures shows { AlwaysYields (TakesFirst shown) shown result self.now.entries }
         ensures labelled { IsLabelled self.now }
     {
         self.atoms.iter()
@@ -262,20 +253,15 @@ impl<A: Allocator + Copy> Store<A> {
     pub fn copy(&self, alloc: A) -> Result<Store<A>, AllocError>
         ensures { IfOk result (λ made. made ≡ self.now) }
     {
-        let mut atoms = BTreeMap::new(alloc);
         let mut buckets = HashMap::new(alloc);
-        for (label, atom) in &self.atoms {
-            enter(&mut buckets, alloc, &self.places, atom, *label)?;
-            let Ok(_) = atoms.insert(*label, atom.copy(alloc)?) else {
-                return Err(AllocError);
-            };
+        for (label, atom) in self.atoms.iter() {
+            enter(&mut buckets, alloc, &self.places, atom, label)?;
         }
         Ok(Store {
-            atoms,
+            atoms: self.atoms.copy(alloc)?,
             buckets,
             places: Vec::from_slice(alloc, &self.places)?,
             alloc,
-            next: self.next,
             limit: self.limit,
         })
     }

@@ -228,7 +228,7 @@ fn store_of(
 ) -> Result<Vec<(u64, Atom<Global>), Global>, AllocError> {
     let mut store = Vec::new(alloc);
     for (label, atom) in book.store().iter() {
-        store.push((*label, atom.copy(alloc)?))?;
+        store.push((label, atom.copy(alloc)?))?;
     }
     Ok(store)
 }

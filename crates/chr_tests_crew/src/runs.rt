@@ -93,7 +93,7 @@ pub fn verdict<A: Allocator + Copy>(alloc: A, book: &Book<A>) -> Option<Verdict>
     }
     let mut store = Vec::new(alloc);
     for (label, atom) in book.store().iter() {
-        store.push((*label, atom.copy(alloc).ok()?)).ok()?;
+        store.push((label, atom.copy(alloc).ok()?)).ok()?;
     }
     check(alloc, book.program(), Version::Two, &events, &store).ok()
 }

@@ -336,7 +336,7 @@ fn listing(alloc: Global, store: &Store<Global>) -> Result<Vec<(u64, &Atom<Globa
 {
     let mut list = Vec::new(alloc);
     for (label, atom) in store.iter() {
-        list.push((*label, atom))?;
+        list.push((label, atom))?;
     }
     Ok(list)
 }

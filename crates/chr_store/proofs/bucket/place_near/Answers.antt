@@ -1,14 +1,20 @@
-use Rattle.std.proofs.Common.{◌≡◌, Some, slice_get}
-use Rattle.chr_store.proofs.Slots.{front_near, later_near}
+use Rattle.std.proofs.Common.{◌≡◌, ◌∙◌, Some, slice_get, sym, ap}
+use Rattle.chr_store.proofs.Slots.{front_near, later_near, later_first}
 use Rattle.chr_store.proofs.Walks.{get_there}
 use Rattle.chr_store.proofs.bucket.place_near.Goals as goal
 
-pub returns-clause-front : goal.returns-clause-front
-returns-clause-front c =
+pub returns-then-slot-label-clause-front : goal.returns-then-slot-label-clause-front
+returns-then-slot-label-clause-front c =
     let at : slice_get c.args.slots.now c.args.near ≡ Some c.in-Some.slot.now = get_there c.args.slots.now c.args.near c.in-Some.slot.now c.in-Some.ensures.lookup.0 c.in-Some.ensures.lookup.1 in
-    front_near c.args.slots.now c.args.near c.args.label c.in-Some.slot.now c.requires at c.if-slot-label.false
+    front_near c.args.slots.now c.args.near c.args.label c.in-Some.slot.now c.requires at c.if-slot-label.true
 
-pub returns-clause-later : goal.returns-clause-later
-returns-clause-later c =
+pub returns-then-slot-label-clause-later : goal.returns-then-slot-label-clause-later
+returns-then-slot-label-clause-later c =
     let at : slice_get c.args.slots.now c.args.near ≡ Some c.in-Some.slot.now = get_there c.args.slots.now c.args.near c.in-Some.slot.now c.in-Some.ensures.lookup.0 c.in-Some.ensures.lookup.1 in
-    later_near c.args.slots.now c.args.near c.args.label c.in-Some.slot.now c.requires at c.if-slot-label.false
+    later_near c.args.slots.now c.args.near c.args.label c.in-Some.slot.now c.requires at c.if-slot-label.true
+
+pub returns-then-label-slot-clause-later : goal.returns-then-label-slot-clause-later
+returns-then-label-slot-clause-later c =
+    let at : slice_get c.args.slots.now c.args.near ≡ Some c.in-Some.slot.now = get_there c.args.slots.now c.args.near c.in-Some.slot.now c.in-Some.ensures.lookup.0 c.in-Some.ensures.lookup.1 in
+    let first : slice_get c.args.slots.now 0 ≡ Some c.in-Some.slot.now = ap (slice_get c.args.slots.now) (sym c.if-near-eq0.true) ∙ at in
+    later_first c.args.slots.now c.args.label c.in-Some.slot.now c.requires first c.if-label-slot.true

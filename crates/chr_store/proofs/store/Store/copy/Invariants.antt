@@ -1,9 +1,11 @@
-use Rattle.std.proofs.Common.{◌≡◌, ◌++◌}
+use Rattle.std.proofs.Common.{◌≡◌, ◌++◌, map}
+use Rattle.chr_store.specs.Table.{shown}
 use Rattle.chr_store.specs.Index.{IsIndexOf}
 use Rattle.chr_store.proofs.store.Store.copy.Given as goal
 
+-- the atoms so far are in the index, and come before those that are left
 abbrev pub invariant-loop-label : goal.invariant-loop-label
 invariant-loop-label g l = record {
-  whole : l.atoms.entries ++ l.label-iterator ≡ l.self.entries;
-  index : IsIndexOf l.self-inside.places.items l.atoms.entries l.buckets;
+  whole : map shown l.yielded ++ l.label-iterator ≡ l.self-inside.atoms.entries;
+  index : IsIndexOf l.self-inside.places.items (map shown l.yielded) l.buckets;
 }
