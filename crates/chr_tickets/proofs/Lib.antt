@@ -1,3 +1,5 @@
 pub mod Listed
+pub mod Changes
+pub mod Ends
 pub mod States
-pub mod Firsts
+pub mod Walks

@@ -1,89 +1,100 @@
--- The list of all tickets, and the map of the open ones.
-use Rattle.std.proofs.Common.{◌≡◌, ℕ, ◌+◌, ◌<◌, ◌≤◌, cond, List, [], ◌∷◌, ◌++◌, Option, Some, None, length, take, refl, sym, ap, subst, ◌∙◌, ⊎_elim, arith, nat_cmp, set}
-use Rattle.std.specs.Option.{IsSome}
+-- The list of all tickets, and the queue of those that may be open.
+use Rattle.std.proofs.Common.{◌≡◌, ℕ, zero, suc, ◌+◌, ◌-◌, ◌^◌, ◌%◌, ◌<◌, ◌≤◌, false, List, [], ◌∷◌, ◌++◌, map, Some, length, set, get_or, replicate, Box, refl, sym, ap, subst, ◌∙◌, ⊎_elim, arith}
 use Rattle.std.proofs.lemmas.Bool.{cases_lt, cases_eq}
-use Rattle.std.proofs.lemmas.Bool.Decides.{nat_tests}
-use Rattle.std.proofs.lemmas.List.FromFn.{length-map-range_with_len, get_or-map-range_with_len, take-map-range_with_len, map-range_with_len_more, fill_by_all}
-use Rattle.std.proofs.lemmas.List.{get_or-set_same, get_or-set_other, get_or_past}
+use Rattle.std.proofs.lemmas.List.{get_or-set_same, get_or-set_other, get_or_past, get_or_append_left, get_or-append_right, get_or-map, get_or-replicate, set-append_right, length-append, length-map, length-replicate, map-set}
 use Rattle.std.proofs.Math.ListN.{length-set}
-use Rattle.std.specs.BTreeMap.{is_at}
 use Rattle.chr_calls.specs.Tickets.{Ticket, ended, ticket_at}
 use Rattle.chr_tickets.specs.declared.ticket.Ticket.{Ticket as CodeTicket}
-use Rattle.chr_tickets.specs.Open.{shown_ticket}
-use Rattle.chr_tickets.specs.Listed.{open_at, shown_or_ended, listed, AreGiven}
+use Rattle.chr_tickets.specs.Listed.{Slot, shown_or_ended, listed, StartsOpen, AreUnmarked, AreQueued}
 
-pub length_listed : {Z : Type 0} (es : List (ℕ × CodeTicket Z)) (n : ℕ) → length (listed es n) ≡ n
+pub length_listed : {Z : Type 0} (first : ℕ) (slots : List (Slot Z)) → length (listed first slots) ≡ first + length slots
 unfolding listed
-length_listed es n = length-map-range_with_len (λ t. shown_or_ended (open_at es t)) 0 n
+length_listed first slots = length-append (replicate first ended) (map shown_or_ended slots) ∙ (let a = length-replicate first ended in let b = length-map slots shown_or_ended in omega arith)
 
-read_listed : {Z : Type 0} (es : List (ℕ × CodeTicket Z)) (n t : ℕ) → t < n → ticket_at (listed es n) t ≡ shown_or_ended (open_at es t)
+-- ---- what it has at a number
+
+pub read_before : {Z : Type 0} (first : ℕ) (slots : List (Slot Z)) (t : ℕ) → t < first → ticket_at (listed first slots) t ≡ ended
 unfolding listed
-read_listed es n t h = get_or-map-range_with_len (λ u. shown_or_ended (open_at es u)) 0 n t t ended h (omega arith)
+read_before first slots t l = get_or_append_left (replicate first ended) (map shown_or_ended slots) ended t (let a = length-replicate first ended in omega arith) ∙ get_or-replicate first t ended ended l
 
-not_some : {X : Type 0} (o : Option X) → (IsSome o → ⊥) → o ≡ None
-not_some None h = refl
-not_some (Some x) h = absurd (h refl)
-
-pub not_open : {Z : Type 0} (es : List (ℕ × CodeTicket Z)) (n t : ℕ) → AreGiven es n → n ≤ t → open_at es t ≡ None
-not_open es n t g h = not_some (open_at es t) (λ s. let l : t < n = g.given t s in omega arith)
-
--- what the list has at a number
-pub at_listed : {Z : Type 0} (es : List (ℕ × CodeTicket Z)) (n t : ℕ) → AreGiven es n → ticket_at (listed es n) t ≡ shown_or_ended (open_at es t)
-at_listed es n t g = ⊎_elim (λ h. read_listed es n t h) (λ h. get_or_past (listed es n) t ended (let l = length_listed es n in omega arith) ∙ ap shown_or_ended (sym (not_open es n t g h))) (cases_lt t n)
-
--- ---- a change at one number
-
--- fs has w at k, and at each other number what es has
-abbrev pub IsChanged : {Z : Type 0} → List (ℕ × CodeTicket Z) → List (ℕ × CodeTicket Z) → ℕ → Option (CodeTicket Z) → Type 0
-IsChanged es fs k w = (q : ℕ) → open_at fs q ≡ cond (is_at (nat_cmp k) q) w (open_at es q)
-
-same_number : {X : Type 0} (k q : ℕ) (x y : X) → q ≡ k → cond (is_at (nat_cmp k) q) x y ≡ x
-same_number k q x y e = grind (arith, nat_tests)
-
-other_number : {X : Type 0} (k q : ℕ) (x y : X) → (q ≡ k → ⊥) → cond (is_at (nat_cmp k) q) x y ≡ y
-other_number k q x y n = grind (arith, nat_tests)
-
-listed_same : {Z : Type 0} (es fs : List (ℕ × CodeTicket Z)) (n : ℕ) → ((t : ℕ) → t < n → open_at fs t ≡ open_at es t) → listed fs n ≡ listed es n
+pub read_at : {Z : Type 0} (first : ℕ) (slots : List (Slot Z)) (k : ℕ) (slot : Slot Z) → k < length slots → slot ≡ get_or slots k slot → ticket_at (listed first slots) (first + k) ≡ shown_or_ended slot
 unfolding listed
-listed_same es fs n h = sym (fill_by_all (λ t. shown_or_ended (open_at fs t)) (listed es n) n ended (length_listed es n) (λ t l. read_listed es n t l ∙ ap shown_or_ended (sym (h t l))))
+read_at first slots k slot l is =
+    get_or-append_right (replicate first ended) (map shown_or_ended slots) first (first + k) ended (length-replicate first ended) (omega arith)
+    ∙ ap (λ j. ticket_at (map shown_or_ended slots) j) (let e : first + k - first ≡ k = omega arith in e)
+    ∙ get_or-map shown_or_ended slots k slot ended l
+    ∙ ap shown_or_ended (sym is)
 
-pub listed_set : {Z : Type 0} (es fs : List (ℕ × CodeTicket Z)) (n k : ℕ) (w : Option (CodeTicket Z)) → IsChanged es fs k w → listed fs n ≡ set (listed es n) k (shown_or_ended w)
+pub read_past : {Z : Type 0} (first : ℕ) (slots : List (Slot Z)) (t : ℕ) → first + length slots ≤ t → ticket_at (listed first slots) t ≡ ended
+read_past first slots t l = get_or_past (listed first slots) t ended (let a = length_listed first slots in omega arith)
+
+-- ---- where a ticket stands in the queue
+
+pub record Stands {Z : Type 0} (first : ℕ) (slots : List (Slot Z)) (t k : ℕ) : Type 0 where
+  pub at : first + k ≡ t
+  pub within : k < length slots
+
+-- k is what `place_of` gives, within the queue
+pub placed : {Z : Type 0} {first m : ℕ} {slots : List (Slot Z)} (t k : ℕ) → AreQueued first slots m → (first + k) % 2 ^ 64 ≡ t → k < length slots → Stands first slots t k
+placed t k g is within = record { at = (let fits = g.fits in omega arith); within = within }
+
+-- or beyond it
+pub missing : {Z : Type 0} {first m : ℕ} {slots : List (Slot Z)} {L : List Ticket} (t k : ℕ) → AreQueued first slots m → listed first slots ≡ L → (first + k) % 2 ^ 64 ≡ t → k < 2 ^ 64 → length slots ≤ k → ticket_at L t ≡ ended
+missing {Z} {first} {m} {slots} {L} t k g e is small past =
+    ap (λ xs. ticket_at xs t) (sym e)
+    ∙ ⊎_elim
+    (λ l. read_before first slots t l)
+    (λ l. read_past first slots t (let fits = g.fits in omega arith))
+    (cases_lt t first)
+
+pub stands : {Z : Type 0} {first m : ℕ} {slots : List (Slot Z)} {L : List Ticket} (t k : ℕ) → AreQueued first slots m → listed first slots ≡ L → (first + k) % 2 ^ 64 ≡ t → k < 2 ^ 64 → (ticket_at L t ≡ ended → ⊥) → Stands first slots t k
+stands {Z} {first} {m} {slots} {L} t k g e is small live =
+    ⊎_elim
+    (λ l. placed t k g is l)
+    (λ past. absurd (live (missing t k g e is small past)))
+    (cases_lt k (length slots))
+
+-- what the list has there
+pub here : {Z : Type 0} {first t k : ℕ} {slots : List (Slot Z)} {L : List Ticket} {slot : Slot Z} → Stands first slots t k → listed first slots ≡ L → slot ≡ get_or slots k slot → ticket_at L t ≡ shown_or_ended slot
+here {Z} {first} {t} {k} {slots} {L} {slot} s e is = ap (λ xs. ticket_at xs t) (sym e) ∙ ap (λ u. ticket_at (listed first slots) u) (sym s.at) ∙ read_at first slots k slot s.within is
+
+-- ---- after a change of one slot
+
+listed_set : {Z : Type 0} (first : ℕ) (slots : List (Slot Z)) (k : ℕ) (slot : Slot Z) → listed first (set slots k slot) ≡ set (listed first slots) (first + k) (shown_or_ended slot)
 unfolding listed
-listed_set es fs n k w h = sym (fill_by_all (λ t. shown_or_ended (open_at fs t)) (set (listed es n) k (shown_or_ended w)) n ended (length-set (listed es n) k (shown_or_ended w) ∙ length_listed es n) one)
-  where
-    one : (t : ℕ) → t < n → ticket_at (set (listed es n) k (shown_or_ended w)) t ≡ shown_or_ended (open_at fs t)
-    one t l =
-        ⊎_elim
-        (λ e. subst (λ z. ticket_at (set (listed es n) k (shown_or_ended w)) z ≡ shown_or_ended w) (sym e) (get_or-set_same (listed es n) k (shown_or_ended w) ended (let m = length_listed es n in omega arith)) ∙ ap shown_or_ended (sym (h t ∙ same_number k t w (open_at es t) e)))
-        (λ ne. get_or-set_other (listed es n) k t (shown_or_ended w) ended ne ∙ read_listed es n t l ∙ ap shown_or_ended (sym (h t ∙ other_number k t w (open_at es t) ne)))
-        (cases_eq t k)
+listed_set first slots k slot =
+    ap (λ xs. replicate first ended ++ xs) (map-set shown_or_ended slots k slot ∙ ap (λ j. set (map shown_or_ended slots) j (shown_or_ended slot)) (let e : k ≡ first + k - first = omega arith in e))
+    ∙ sym (set-append_right (replicate first ended) (map shown_or_ended slots) first (first + k) (shown_or_ended slot) (length-replicate first ended) (omega arith))
 
-pub listed_push : {Z : Type 0} (es fs : List (ℕ × CodeTicket Z)) (n : ℕ) (x : CodeTicket Z) → IsChanged es fs n (Some x) → listed fs (n + 1) ≡ listed es n ++ shown_ticket x ∷ []
-unfolding listed
-listed_push es fs n x h =
-    map-range_with_len_more (λ t. shown_or_ended (open_at fs t)) 0 n n (omega arith)
-    ∙ ap (λ z. z ++ shown_or_ended (open_at fs n) ∷ []) (listed_same es fs n (λ t l. h t ∙ other_number n t (Some x) (open_at es t) (λ e. omega arith)))
-    ∙ ap (λ z. listed es n ++ shown_or_ended z ∷ []) (h n ∙ same_number n n (Some x) (open_at es n) refl)
+pub put : {Z : Type 0} {first t k : ℕ} {slots : List (Slot Z)} {L : List Ticket} (slot : Slot Z) → Stands first slots t k → listed first slots ≡ L → listed first (set slots k slot) ≡ set L t (shown_or_ended slot)
+put {Z} {first} {t} {k} {slots} {L} slot s e = listed_set first slots k slot ∙ ap (λ u. set (listed first slots) u (shown_or_ended slot)) s.at ∙ ap (λ xs. set xs t (shown_or_ended slot)) e
 
--- the first tickets
-pub listed_take : {Z : Type 0} (es : List (ℕ × CodeTicket Z)) (n m : ℕ) → m ≤ n → take m (listed es n) ≡ listed es m
-unfolding listed
-listed_take es n m l = take-map-range_with_len (λ t. shown_or_ended (open_at es t)) 0 n m l
+starts_set : {Z : Type 0} (slots : List (Slot Z)) (k : ℕ) (x : Box (CodeTicket Z) Z) → StartsOpen slots → StartsOpen (set slots k (Some x))
+starts_set [] k x h = h
+starts_set (slot ∷ slots) zero x h = refl
+starts_set (slot ∷ slots) (suc k) x h = h
 
--- no ticket is open
-pub listed_none : (Z : Type 0) → listed {Z = Z} [] 1 ≡ ended ∷ []
-unfolding listed
-listed_none Z = refl
+-- ---- marks
 
--- ---- where the list L shows the open tickets es
+pub unmarked_set : (L : List Ticket) (m n t : ℕ) (x : Ticket) → AreUnmarked L m → n ≤ m → (t < n → x.stray ≡ false) → AreUnmarked (set L t x) n
+unmarked_set L m n t x u le h q l =
+    ⊎_elim
+    (λ same. ⊎_elim
+    (λ within. ap (λ (y : Ticket). y.stray) (ap (λ z. ticket_at (set L t x) z) same ∙ get_or-set_same L t x ended within) ∙ h (omega arith))
+    (λ past. ap (λ (y : Ticket). y.stray) (get_or_past (set L t x) q ended (let e = length-set L t x in omega arith)))
+    (cases_lt t (length L)))
+    (λ other. ap (λ (y : Ticket). y.stray) (get_or-set_other L t q x ended other) ∙ u q (omega arith))
+    (cases_eq q t)
 
--- what it has at a number
-pub at_number : {Z : Type 0} (es : List (ℕ × CodeTicket Z)) (n t : ℕ) (L : List Ticket) (o : Option (CodeTicket Z)) → AreGiven es n → listed es n ≡ L → o ≡ open_at es t → ticket_at L t ≡ shown_or_ended o
-at_number es n t L o g e there = ap (λ xs. ticket_at xs t) (sym e) ∙ at_listed es n t g ∙ ap shown_or_ended (sym there)
+-- the queue after a change of an open slot, which makes x of its ticket
+pub kept : {Z : Type 0} {first t k m : ℕ} {slots : List (Slot Z)} {L : List Ticket} (n : ℕ) (x : Ticket) (y : Box (CodeTicket Z) Z) → Stands first slots t k → AreQueued first slots m → listed first slots ≡ L → listed first (set slots k (Some y)) ≡ set L t x → n ≤ m → (t < n → x.stray ≡ false) → AreQueued first (set slots k (Some y)) n
+kept {Z} {first} {t} {k} {m} {slots} {L} n x y s g e after le h = record {
+  some = g.some;
+  fits = (let l = length-set slots k (Some y) in let fits = g.fits in omega arith);
+  starts = starts_set slots k y g.starts;
+  marks = subst (λ xs. AreUnmarked xs n) (sym after) (unmarked_set L m n t x (subst (λ xs. AreUnmarked xs m) e g.marks) le h);
+}
 
--- and after a change of an open ticket
-pub changed : {Z : Type 0} (f : Ticket → Ticket) (es fs : List (ℕ × CodeTicket Z)) (n t : ℕ) (L : List Ticket) (x w : CodeTicket Z) → AreGiven es n → listed es n ≡ L → Some x ≡ open_at es t → IsChanged es fs t (Some w) → shown_ticket w ≡ f (shown_ticket x) → listed fs n ≡ set L t (f (ticket_at L t))
-changed f es fs n t L x w g e there h s =
-    listed_set es fs n t (Some w) h
-    ∙ ap (λ z. set (listed es n) t z) (s ∙ ap f (sym (at_number es n t L (Some x) g e there)))
-    ∙ ap (λ xs. set xs t (f (ticket_at L t))) e
+-- of a ticket that keeps its mark
+pub same_mark : {Z : Type 0} {first m : ℕ} {slots : List (Slot Z)} {L : List Ticket} (t : ℕ) → AreQueued first slots m → listed first slots ≡ L → t < m → (ticket_at L t).stray ≡ false
+same_mark t g e l = ap (λ xs. (ticket_at xs t).stray) (sym e) ∙ g.marks t l

@@ -1,28 +1,34 @@
--- The open tickets by their numbers, and the list of all tickets.
-use Rattle.std.specs.Prelude.{ℕ, ◌<◌, ◌≤◌, List, Option, Some, None, IsSome, map}
-use Rattle.std.specs.Ordering.{nat_cmp}
-use Rattle.std.specs.Map.{lookup}
-use Rattle.std.specs.BTreeMap.{is_at}
-use Rattle.std.specs.List.{range_with_len}
-use Rattle.chr_calls.specs.Tickets.{Ticket, ended}
+-- The queue of tickets, and the list of all tickets.
+use Rattle.std.specs.Prelude.{◌≡◌, ℕ, ◌+◌, ◌^◌, ◌<◌, ◌≤◌, false, List, [], ◌∷◌, ◌++◌, length, map, replicate, Option, Some, None, IsSome}
+use Rattle.std.specs.declared.boxed.Box.{Box}
+use Rattle.chr_calls.specs.Tickets.{Ticket, ended, ticket_at}
 use Rattle.chr_tickets.specs.declared.ticket.Ticket.{Ticket as CodeTicket}
 use Rattle.chr_tickets.specs.Open.{shown_ticket}
 
--- the open ticket of a number
-abbrev pub open_at : {Z : Type 0} → List (ℕ × CodeTicket Z) → ℕ → Option (CodeTicket Z)
-open_at es t = lookup (is_at (nat_cmp t)) es
+-- a slot of the queue, which has a ticket while it is open
+abbrev pub Slot : Type 0 → Type 0
+Slot Z = Option (Box (CodeTicket Z) Z)
 
--- what is not open has ended
-abbrev pub shown_or_ended : {Z : Type 0} → Option (CodeTicket Z) → Ticket
+abbrev pub shown_or_ended : {Z : Type 0} → Slot Z → Ticket
 shown_or_ended None = ended
-shown_or_ended (Some x) = shown_ticket x
+shown_or_ended (Some x) = shown_ticket x.value
 
--- the tickets below a number
-unfoldable pub listed : {Z : Type 0} → List (ℕ × CodeTicket Z) → ℕ → List Ticket
-listed es next = map (λ t. shown_or_ended (open_at es t)) (range_with_len 0 next)
+-- all tickets: those before the queue's first have ended
+unfoldable pub listed : {Z : Type 0} → ℕ → List (Slot Z) → List Ticket
+listed first slots = replicate first ended ++ map shown_or_ended slots
 
--- the open tickets are numbered from 1, below the next number
-pub record AreGiven {Z : Type 0} (es : List (ℕ × CodeTicket Z)) (next : ℕ) : Type 0 where
-  pub some : 1 ≤ next
-  pub first : (t : ℕ) → IsSome (open_at es t) → 1 ≤ t
-  pub given : (t : ℕ) → IsSome (open_at es t) → t < next
+-- the first slot of the queue is open, or the queue is empty
+abbrev pub StartsOpen : {Z : Type 0} → List (Slot Z) → Type 0
+StartsOpen [] = Unit
+StartsOpen (slot ∷ slots) = IsSome slot
+
+-- no ticket below a number is marked
+abbrev pub AreUnmarked : List Ticket → ℕ → Type 0
+AreUnmarked tickets number = (t : ℕ) → t < number → (ticket_at tickets t).stray ≡ false
+
+-- A queue from its first number: tickets are numbered from 1, within 64 bits, and none below `unmarked` is marked.
+pub record AreQueued {Z : Type 0} (first : ℕ) (slots : List (Slot Z)) (unmarked : ℕ) : Type 0 where
+  pub some : 1 ≤ first
+  pub fits : first + length slots < 2 ^ 64
+  pub starts : StartsOpen slots
+  pub marks : AreUnmarked (listed first slots) unmarked

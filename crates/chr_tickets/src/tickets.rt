@@ -1,12 +1,14 @@
 //! The tickets of a book.
-ghost use Rattle.std.specs.Prelude.{◌≡◌, ◌↔◌, ◌≤◌, ◌++◌, ◌∷◌, [], true, length, take, slice_set, IsTrue, OnOk, OnErr, MatchOption};
+ghost use Rattle.std.specs.Prelude.{◌≡◌, ◌↔◌, ◌≤◌, ◌++◌, ◌∷◌, [], true, length, take, slice_set, IsSome, IsTrue, OnOk, OnErr, MatchOption};
 ghost use Rattle.std.specs.Option.{option_copied};
 ghost use Rattle.chr_model.specs.Goals.{Numbered};
 ghost use Rattle.chr_search.specs.Answers.{after_judging};
 ghost use Rattle.chr_calls.specs.declared.answers.TicketState.TheVariants.{Waiting, Resting};
 ghost use Rattle.chr_calls.specs.Tickets.{ended, waiting, activated_by, held_by, put_down, marked, with_candidate, going_on, ticket_at, state_of, IsClaimable, IsActive, AreQuiet, atom_in, search_in, LosesStray, IsLeastFor, NoneFor};
+ghost use Rattle.chr_tickets.specs.Open.{shown_ticket};
 ghost use Rattle.chr_tickets.specs.Stray.{IsFirstStray, NoneStray};
 
+use crate::slots::{Slots, place_of, pop_ended};
 use crate::ticket::Ticket;
 use chr_calls::answers::TicketState;
 use chr_search::judged::Judged;
@@ -15,14 +17,20 @@ use chr_search::trial::Trial;
 use chr_store::store::Label;
 use chr_value::atom::Atom;
 use std::alloc::{AllocError, Allocator};
-use std::collections::BTreeMap;
+use std::collections::VecDeque;
 use std::marker::Model;
 
 /// Tickets, numbered from 1. Contracts see the list of them, ended ones too, from place 1 on.
+///
+/// Tickets end nearly in the order in which they were given, so a queue from the first open one stays short.
 #[derive(Drop)]
 pub struct Tickets<A: Allocator> {
-    open: BTreeMap<u64, Ticket<A>, A>,
-    next: u64,
+    /// The first slot, if any, has an open ticket.
+    slots: Slots<A>,
+    /// The number of the first slot, or of the next ticket where there is no slot.
+    first: u64,
+    /// No ticket below this number is marked: a walk for the least mark begins here.
+    unmarked: u64,
 }
 
 impl<A: Allocator> Model for Tickets<A> {
@@ -30,15 +38,15 @@ impl<A: Allocator> Model for Tickets<A> {
     ghost use Rattle.std.specs.Coded.{codes};
     ghost use Rattle.chr_rule.specs.Code.{expression_code};
     ghost use Rattle.chr_calls.specs.Tickets.{Ticket};
-    ghost use Rattle.chr_tickets.specs.Listed.{listed, AreGiven};
+    ghost use Rattle.chr_tickets.specs.Listed.{listed, AreQueued};
 
     ghost Value = { List Ticket };
 
     ghost coded = { Prim.hlevel (codes, expression_code) };
 
-    ghost view = { λ s. listed s.open.entries s.next };
+    ghost view = { λ s. listed s.first s.slots.items };
 
-    ghost invariant = { λ s. AreGiven s.open.entries s.next };
+    ghost invariant = { λ s. AreQueued s.first s.slots.items s.unmarked };
 }
 
 impl<A: Allocator + Copy> Tickets<A> {
@@ -47,8 +55,9 @@ impl<A: Allocator + Copy> Tickets<A> {
         ensures { result ≡ ended ∷ [] }
     {
         Tickets {
-            open: BTreeMap::new(alloc),
-            next: 1,
+            slots: VecDeque::new(alloc),
+            first: 1,
+            unmarked: u64::MAX,
         }
     }
 
@@ -57,19 +66,28 @@ impl<A: Allocator + Copy> Tickets<A> {
         ensures value { result ≡ length self.now }
         ensures some { 1 ≤ length self.now }
     {
-        self.next
+        self.first + self.slots.len() as u64
+    }
+
+    /// An open ticket.
+    fn found(&self, ticket: u64) -> Option<&Ticket<A>>
+        ensures ticket { MatchOption result (ticket_at self.now ticket ≡ ended) (λ x. shown_ticket x.now ≡ ticket_at self.now ticket) }
+        ensures given { IsSome result → 1 ≤ ticket }
+    {
+        match self.slots.get(place_of(self.first, ticket))? {
+            Some(found) => Some(found),
+            None => None,
+        }
     }
 
     /// What a seat is told of a ticket.
     pub fn state(&self, ticket: u64) -> TicketState
         ensures { result ≡ state_of self.now ticket }
     {
-        if ticket == 0 || ticket >= self.next {
-            return TicketState::Unknown;
-        }
-        match self.open.get(&ticket) {
-            None => TicketState::Ended,
+        match self.found(ticket) {
             Some(found) => found.state(),
+            None if ticket == 0 || ticket >= self.next() => TicketState::Unknown,
+            None => TicketState::Ended,
         }
     }
 
@@ -77,28 +95,28 @@ impl<A: Allocator + Copy> Tickets<A> {
     pub fn is_quiet(&self) -> bool
         ensures { IsTrue result ↔ AreQuiet self.now }
     {
-        self.open.is_empty()
+        self.slots.is_empty()
     }
 
     /// The atom of a ticket that waits.
     pub fn atom(&self, ticket: u64) -> Option<&Atom<A>>
         ensures { option_copied result ≡ atom_in (ticket_at self.now ticket).goal }
     {
-        self.open.get(&ticket)?.atom()
+        self.found(ticket)?.atom()
     }
 
     /// The search of an active goal.
     pub fn search(&self, ticket: u64) -> Option<&Search>
         ensures { option_copied result ≡ search_in (ticket_at self.now ticket) }
     {
-        self.open.get(&ticket)?.search()
+        self.found(ticket)?.search()
     }
 
     /// The candidate of an active goal, where it has one.
     pub fn candidate(&self, ticket: u64) -> Option<&Trial<A>>
         ensures { option_copied result ≡ (ticket_at self.now ticket).candidate }
     {
-        self.open.get(&ticket)?.candidate()
+        self.found(ticket)?.candidate()
     }
 
     /// Gives an atom the next ticket, which waits. E01 where memory ran out, or where the next ticket is the greatest
@@ -107,14 +125,11 @@ impl<A: Allocator + Copy> Tickets<A> {
         ensures ok { OnOk result (self.new ≡ self.old ++ waiting atom ∷ []) }
         ensures err { OnErr result (self.new ≡ self.old) }
     {
-        let ticket = self.next;
-        if ticket == u64::MAX {
+        if self.next() == u64::MAX {
             return Err(AllocError);
         }
-        let Ok(_) = self.open.insert(ticket, Ticket::waiting(atom)) else {
-            return Err(AllocError);
-        };
-        self.next = ticket + 1;
+        let ticket = Box::new(*self.slots.allocator(), Ticket::waiting(atom))?;
+        self.slots.push_back(Some(ticket))?;
         Ok(())
     }
 
@@ -123,11 +138,9 @@ impl<A: Allocator + Copy> Tickets<A> {
         requires { 1 ≤ next }
         ensures { self.new ≡ take next self.old }
     {
-        while self.next > next {
-            let last = self.next - 1;
-            self.end(last);
-            self.next = last;
-        }
+        let kept = next.saturating_sub(self.first) as usize;
+        self.slots.truncate(kept);
+        self.first = self.first.min(next);
     }
 
     /// Makes a waiting ticket active under a label, held by a seat. Its search begins.
@@ -135,7 +148,7 @@ impl<A: Allocator + Copy> Tickets<A> {
         requires { state_of self.old ticket ≡ Waiting }
         ensures { self.new ≡ slice_set self.old ticket (activated_by seat label) }
     {
-        let Some(found) = self.open.get_mut(&ticket) else {
+        let Some(found) = &mut self.slots[place_of(self.first, ticket)] else {
             unreachable!();
         };
         found.activate(seat, label);
@@ -146,7 +159,7 @@ impl<A: Allocator + Copy> Tickets<A> {
         requires { state_of self.old ticket ≡ Resting }
         ensures { self.new ≡ slice_set self.old ticket (held_by seat (ticket_at self.old ticket)) }
     {
-        let Some(found) = self.open.get_mut(&ticket) else {
+        let Some(found) = &mut self.slots[place_of(self.first, ticket)] else {
             unreachable!();
         };
         found.hold(seat);
@@ -157,10 +170,11 @@ impl<A: Allocator + Copy> Tickets<A> {
         requires { IsActive self.old ticket }
         ensures { self.new ≡ slice_set self.old ticket (put_down (ticket_at self.old ticket)) }
     {
-        let Some(found) = self.open.get_mut(&ticket) else {
+        let Some(found) = &mut self.slots[place_of(self.first, ticket)] else {
             unreachable!();
         };
         found.put_down();
+        self.unmarked = self.unmarked.min(ticket);
     }
 
     /// Makes a trial the candidate of an active goal, or takes it away.
@@ -168,7 +182,7 @@ impl<A: Allocator + Copy> Tickets<A> {
         requires { IsActive self.old ticket }
         ensures { self.new ≡ slice_set self.old ticket (with_candidate candidate (ticket_at self.old ticket)) }
     {
-        let Some(found) = self.open.get_mut(&ticket) else {
+        let Some(found) = &mut self.slots[place_of(self.first, ticket)] else {
             unreachable!();
         };
         found.set_candidate(candidate);
@@ -179,7 +193,7 @@ impl<A: Allocator + Copy> Tickets<A> {
         requires { IsActive self.old ticket }
         ensures { self.new ≡ slice_set self.old ticket (going_on (after_judging judged.now) (ticket_at self.old ticket)) }
     {
-        let Some(found) = self.open.get_mut(&ticket) else {
+        let Some(found) = &mut self.slots[place_of(self.first, ticket)] else {
             unreachable!();
         };
         found.advance(judged);
@@ -190,7 +204,7 @@ impl<A: Allocator + Copy> Tickets<A> {
         requires { (ticket_at self.old ticket).goal ≡ Numbered place.label }
         ensures { self.new ≡ slice_set self.old ticket (going_on place.place (ticket_at self.old ticket)) }
     {
-        let Some(found) = self.open.get_mut(&ticket) else {
+        let Some(found) = &mut self.slots[place_of(self.first, ticket)] else {
             unreachable!();
         };
         found.go_to(place);
@@ -200,7 +214,11 @@ impl<A: Allocator + Copy> Tickets<A> {
     pub fn end(&mut self, ticket: u64)
         ensures { self.new ≡ slice_set self.old ticket ended }
     {
-        self.open.remove(&ticket);
+        let at = place_of(self.first, ticket);
+        if at < self.slots.len() {
+            self.slots[at] = None;
+            self.first = pop_ended(&mut self.slots, self.first);
+        }
     }
 
     /// Marks a ticket that waits or rests.
@@ -208,19 +226,25 @@ impl<A: Allocator + Copy> Tickets<A> {
         requires { IsClaimable (state_of self.old ticket) }
         ensures { self.new ≡ slice_set self.old ticket (marked true (ticket_at self.old ticket)) }
     {
-        let Some(found) = self.open.get_mut(&ticket) else {
+        let Some(found) = &mut self.slots[place_of(self.first, ticket)] else {
             unreachable!();
         };
         found.stray = true;
+        self.unmarked = self.unmarked.min(ticket);
     }
 
     /// The least ticket that is marked.
     fn first_stray(&self) -> Option<u64>
         ensures { MatchOption result (NoneStray self.now) (IsFirstStray self.now) }
     {
-        for (ticket, found) in self.open.iter() {
-            if found.stray {
-                return Some(*ticket);
+        let first = self.first;
+        let slots = &self.slots;
+        let start = self.unmarked.saturating_sub(first) as usize;
+        for at in start..slots.len() {
+            if let Some(found) = &slots[at] {
+                if found.stray {
+                    return Some(first + at as u64);
+                }
             }
         }
         None
@@ -230,11 +254,15 @@ impl<A: Allocator + Copy> Tickets<A> {
     pub fn take_stray(&mut self) -> Option<u64>
         ensures { LosesStray self.old result self.new }
     {
-        let ticket = self.first_stray()?;
-        let Some(found) = self.open.get_mut(&ticket) else {
+        let Some(ticket) = self.first_stray() else {
+            self.unmarked = u64::MAX;
+            return None;
+        };
+        let Some(found) = &mut self.slots[place_of(self.first, ticket)] else {
             unreachable!();
         };
         found.stray = false;
+        self.unmarked = ticket;
         Some(ticket)
     }
 
@@ -242,9 +270,13 @@ impl<A: Allocator + Copy> Tickets<A> {
     pub fn next_for(&self, seat: u32) -> Option<u64>
         ensures { MatchOption result (NoneFor self.now seat) (IsLeastFor self.now seat) }
     {
-        for (ticket, found) in self.open.iter() {
-            if found.is_free_for(seat) {
-                return Some(*ticket);
+        let first = self.first;
+        let slots = &self.slots;
+        for at in 0..slots.len() {
+            if let Some(found) = &slots[at] {
+                if found.is_free_for(seat) {
+                    return Some(first + at as u64);
+                }
             }
         }
         None

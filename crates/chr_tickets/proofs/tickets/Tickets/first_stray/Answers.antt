@@ -1,26 +1,34 @@
-use Rattle.std.proofs.Common.{◌∙◌, refl, sym, subst}
-use Rattle.std.specs.Map.Iter.{deref_pair}
-use Rattle.std.proofs.lemmas.Map.Iter.{rest_more, rest_all}
+use Rattle.std.proofs.Common.{◌+◌, ◌<◌, length, refl, sym, ap, ◌∙◌, arith}
 use Rattle.chr_calls.specs.Tickets.{Ticket}
-use Rattle.chr_tickets.proofs.Firsts.{first_by, IsFirst, first_start, first_found, first_passed, first_end}
+use Rattle.chr_tickets.specs.Listed.{shown_or_ended}
 use Rattle.chr_tickets.proofs.States.{shown_stray}
+use Rattle.chr_tickets.proofs.Walks.{below_start, at_place, next_place, least, none_left}
 use Rattle.chr_tickets.proofs.tickets.Tickets.first_stray.Goals as goal
+use Rattle.chr_tickets.proofs.tickets.Tickets.first_stray.Goals.{in-Some+else-deref, in_default}
 
-pub loop-ticket-init : goal.loop-ticket-init
-loop-ticket-init g c =
-    subst (λ es. IsFirst (λ (x : Ticket). x.stray) c.args.self.now (first_by (λ (x : Ticket). x.stray) es)) (sym (c.into_iter-ticket-iterator.ensures.into_iter_gives ∙ c.iter-ticket-items.ensures.rest))
-    (first_start (λ (x : Ticket). x.stray) c.self.inside.open.entries c.self.inside.next c.args.self.now refl c.self.invariant c.self.view_is c.iter-ticket-items.ensures.ordered)
+pub loop-at-init : goal.loop-at-init
+loop-at-init g c = below_start c.self.inside.first c.self.inside.unmarked c.saturating_sub-start.result c.self.inside.slots.items c.args.self.now c.self.view_is c.self.invariant.marks c.saturating_sub-start.ensures
 
-pub returns-then-found : goal.returns-then-found
-returns-then-found g c =
-    let found = first_found (λ (x : Ticket). x.stray) c.loop-ticket.ticket-iterator c.next.new.self c.args.self.now c.in-Some.ticket.now c.in-Some.found.now c.in-Some.found.now.stray c.loop-ticket.invariant
-    (rest_more deref_pair _ _ _ (c.in-Some.ticket, c.in-Some.found) c.in-Some.is c.next.ensures.steps) (sym (shown_stray c.in-Some.found.now.goal c.in-Some.found.now.stray)) c.if-found.true in
-    record { stray = found.0; least = found.1 }
+pub loop-at-preserved : goal.loop-at-preserved
+loop-at-preserved g c =
+    let ok = c.self.inside.slots.ok in
+    let within : c.loop-at.at < length c.self.inside.slots.items = omega arith in
+    next_place (λ (x : Ticket). x.stray) c.self.inside.first c.loop-at.at c.self.inside.slots.items c.args.self.now c.index.result.now c.self.view_is within c.index.ensures c.loop-at.invariant
+    (elim c.match-index.branch [
+      | in-Some+else-deref w ↦ ap (λ x. (shown_or_ended x).stray) w.in-Some.is ∙ shown_stray w.in-Some.found.value.goal w.in-Some.found.value.stray ∙ ap (λ x. x.stray) (sym w.deref.ensures) ∙ w.if-deref.false
+      | in_default w ↦ ap (λ x. (shown_or_ended x).stray) w.in_default.is
+    ])
 
-pub loop-ticket-preserved : goal.loop-ticket-preserved
-loop-ticket-preserved g c =
-    first_passed (λ (x : Ticket). x.stray) c.loop-ticket.ticket-iterator c.next.new.self c.args.self.now c.in-Some.ticket.now c.in-Some.found.now c.in-Some.found.now.stray c.loop-ticket.invariant
-    (rest_more deref_pair _ _ _ (c.in-Some.ticket, c.in-Some.found) c.in-Some.is c.next.ensures.steps) (sym (shown_stray c.in-Some.found.now.goal c.in-Some.found.now.stray)) c.if-found.false
+pub returns-then-deref : goal.returns-then-deref
+returns-then-deref g c =
+    let ok = c.self.inside.slots.ok in
+    let within : c.loop-at.at < length c.self.inside.slots.items = omega arith in
+    record {
+      stray = ap (λ (x : Ticket). x.stray) (at_place c.self.inside.first c.loop-at.at c.self.inside.slots.items c.args.self.now c.index.result.now c.self.view_is within c.index.ensures ∙ ap shown_or_ended c.in-Some.is) ∙ shown_stray c.in-Some.found.value.goal c.in-Some.found.value.stray ∙ ap (λ x. x.stray) (sym c.deref.ensures) ∙ c.if-deref.true;
+      least = λ u h. least (λ (x : Ticket). x.stray) c.args.self.now (c.self.inside.first + c.loop-at.at) u c.loop-at.invariant h;
+    }
 
 pub returns : goal.returns
-returns g c = first_end (λ (x : Ticket). x.stray) c.loop-ticket.ticket-iterator c.args.self.now c.loop-ticket.invariant (rest_all deref_pair _ _ _ c.in-None.is c.next.ensures.steps)
+returns g c =
+    let ok = c.self.inside.slots.ok in
+    none_left (λ (x : Ticket). x.stray) c.self.inside.first (c.self.inside.first + c.loop-at.at) c.self.inside.slots.items c.args.self.now refl c.self.view_is c.loop-at.invariant (omega arith)

@@ -1,6 +1,7 @@
+use Rattle.std.proofs.Common.{◌+◌}
 use Rattle.chr_calls.specs.Tickets.{Ticket}
-use Rattle.chr_tickets.proofs.Firsts.{first_by, IsFirst}
+use Rattle.chr_tickets.proofs.Walks.{NonePassBelow}
 use Rattle.chr_tickets.proofs.tickets.Tickets.first_stray.Given as goal
 
-abbrev pub invariant-loop-ticket : goal.invariant-loop-ticket
-invariant-loop-ticket g l = IsFirst (λ (x : Ticket). x.stray) l.self (first_by (λ (x : Ticket). x.stray) l.ticket-iterator)
+abbrev pub invariant-loop-at : goal.invariant-loop-at
+invariant-loop-at g l = NonePassBelow (λ (x : Ticket). x.stray) l.self (l.first + l.at)

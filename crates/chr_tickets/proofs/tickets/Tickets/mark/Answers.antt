@@ -1,15 +1,22 @@
-use Rattle.std.proofs.Common.{refl, subst}
-use Rattle.std.specs.Option.{IsSome}
-use Rattle.std.proofs.Common.{true}
+use Rattle.std.proofs.Common.{true, arith}
 use Rattle.chr_calls.specs.Tickets.{marked}
-use Rattle.chr_tickets.proofs.Listed.{changed}
+use Rattle.chr_tickets.proofs.Changes.{Opened, opened, not_empty, changed, still_queued}
 use Rattle.chr_tickets.proofs.States.{claimable_open, shown_marked}
+use Rattle.chr_tickets.proofs.tickets.Tickets.mark.Given.{Over}
 use Rattle.chr_tickets.proofs.tickets.Tickets.mark.Goals as goal
+use Rattle.chr_tickets.proofs.tickets.Tickets.mark.Goals.{After-place_of}
+
+claimable : (g : Over) (c : After-place_of g) → Opened c.self.inside.first c.self.inside.unmarked c.self.inside.slots.items c.args.self.now c.args.ticket c.place_of.result
+claimable g c = opened c.self.invariant c.self.view_is c.place_of.ensures c.place_of.type_inv (claimable_open c.args.self.now c.args.ticket c.requires)
+
+pub index_mut-requires : goal.index_mut-requires
+index_mut-requires g c = let within = (claimable g c).stands.within in omega arith
 
 pub unreachable-requires : goal.unreachable-requires
-unreachable-requires g c = claimable_open c.self.inside.open.entries c.self.inside.next c.args.ticket c.args.self.now c.self.invariant c.self.view_is c.in_default.ensures.value c.requires
+unreachable-requires g c = not_empty (claimable g (goal.at.unreachable-requires g c).After-place_of) c.index_mut.ensures.value c.in_default.is
+
+pub invariant_of-self : goal.invariant_of-self
+invariant_of-self g c = still_queued _ (marked true) _ (claimable g (goal.at.invariant_of-self g c).After-place_of) c.index_mut.ensures.value c.in-Some.is c.deref_mut.ensures.value (shown_marked c.deref_mut.result.now.goal true c.deref_mut.result.now.stray) (omega arith) (λ l. absurd (omega arith))
 
 pub returns : goal.returns
-returns g c =
-    changed (marked true) c.self.inside.open.entries (c.get_mut.follows.lender (record c.in-Some.found.now { stray = true })).entries c.self.inside.next c.args.ticket c.args.self.now c.in-Some.found.now (record c.in-Some.found.now { stray = true }) c.self.invariant c.self.view_is c.in-Some.ensures.value
-    ((c.get_mut.follows.holds (record c.in-Some.found.now { stray = true })).3 (subst IsSome c.in-Some.ensures.value refl)).0 (shown_marked c.in-Some.found.now.goal true c.in-Some.found.now.stray)
+returns g c = changed (marked true) _ (claimable g (goal.at.returns g c).After-place_of) c.index_mut.ensures.value c.in-Some.is c.deref_mut.ensures.value (shown_marked c.deref_mut.result.now.goal true c.deref_mut.result.now.stray)

@@ -1,31 +1,34 @@
-use Rattle.std.proofs.Common.{◌∙◌, refl, sym, subst, Bool}
-use Rattle.std.specs.Map.Iter.{deref_pair}
-use Rattle.std.proofs.lemmas.Map.Iter.{rest_more, rest_all}
-use Rattle.chr_calls.specs.Tickets.{Ticket}
-use Rattle.chr_tickets.specs.Open.{is_open_for, state_in}
-use Rattle.chr_tickets.proofs.Firsts.{first_by, IsFirst, first_start, first_found, first_passed, first_end, least_for, none_for}
+use Rattle.std.proofs.Common.{◌≡◌, ◌+◌, ◌<◌, length, refl, sym, ap, ◌∙◌, arith}
+use Rattle.chr_tickets.specs.Open.{shown_ticket}
+use Rattle.chr_tickets.specs.Listed.{shown_or_ended}
+use Rattle.chr_tickets.proofs.Listed.{length_listed}
+use Rattle.chr_tickets.proofs.Walks.{free, below_first, at_place, next_place, least_for, none_left, none_for}
 use Rattle.chr_tickets.proofs.tickets.Tickets.next_for.Goals as goal
+use Rattle.chr_tickets.proofs.tickets.Tickets.next_for.Goals.{in-Some+else-is_free_for, in_default}
 
-pub loop-ticket-init : goal.loop-ticket-init
-loop-ticket-init g c =
-    let p : Ticket → Bool = λ x. is_open_for c.args.seat (state_in x) in
-    subst (λ es. IsFirst p c.args.self.now (first_by p es)) (sym (c.into_iter-ticket-iterator.ensures.into_iter_gives ∙ c.iter-ticket-items.ensures.rest))
-    (first_start p c.self.inside.open.entries c.self.inside.next c.args.self.now refl c.self.invariant c.self.view_is c.iter-ticket-items.ensures.ordered)
+pub loop-at-init : goal.loop-at-init
+loop-at-init g c = λ t l. below_first (free c.args.seat) c.self.inside.first c.self.inside.slots.items c.args.self.now refl c.self.view_is t (omega arith)
+
+pub loop-at-preserved : goal.loop-at-preserved
+loop-at-preserved g c =
+    let ok = c.self.inside.slots.ok in
+    let within : c.loop-at.at < length c.self.inside.slots.items = omega arith in
+    next_place (free c.args.seat) c.self.inside.first c.loop-at.at c.self.inside.slots.items c.args.self.now c.index.result.now c.self.view_is within c.index.ensures c.loop-at.invariant
+    (elim c.match-index.branch [
+      | in-Some+else-is_free_for w ↦ ap (λ x. free c.args.seat (shown_or_ended x)) w.in-Some.is ∙ ap (λ x. free c.args.seat (shown_ticket x)) (sym w.deref.ensures) ∙ sym w.is_free_for.ensures ∙ w.if-is_free_for.false
+      | in_default w ↦ ap (λ x. free c.args.seat (shown_or_ended x)) w.in_default.is
+    ])
 
 pub returns-then-is_free_for : goal.returns-then-is_free_for
 returns-then-is_free_for g c =
-    let p : Ticket → Bool = λ x. is_open_for c.args.seat (state_in x) in
-    least_for c.args.seat c.self.inside.open.entries c.self.inside.next c.args.self.now c.in-Some.ticket.now c.self.invariant c.self.view_is
-    (first_found p c.loop-ticket.ticket-iterator c.next.new.self c.args.self.now c.in-Some.ticket.now c.in-Some.found.now c.is_free_for.result c.loop-ticket.invariant
-    (rest_more deref_pair _ _ _ (c.in-Some.ticket, c.in-Some.found) c.in-Some.is c.next.ensures.steps) c.is_free_for.ensures c.if-is_free_for.true)
-
-pub loop-ticket-preserved : goal.loop-ticket-preserved
-loop-ticket-preserved g c =
-    let p : Ticket → Bool = λ x. is_open_for c.args.seat (state_in x) in
-    first_passed p c.loop-ticket.ticket-iterator c.next.new.self c.args.self.now c.in-Some.ticket.now c.in-Some.found.now c.is_free_for.result c.loop-ticket.invariant
-    (rest_more deref_pair _ _ _ (c.in-Some.ticket, c.in-Some.found) c.in-Some.is c.next.ensures.steps) c.is_free_for.ensures c.if-is_free_for.false
+    let ok = c.self.inside.slots.ok in
+    let some = c.self.invariant.some in
+    let within : c.loop-at.at < length c.self.inside.slots.items = omega arith in
+    let long : length c.args.self.now ≡ c.self.inside.first + length c.self.inside.slots.items = ap length (sym c.self.view_is) ∙ length_listed c.self.inside.first c.self.inside.slots.items in
+    least_for c.args.seat c.args.self.now (c.self.inside.first + c.loop-at.at) c.loop-at.invariant (omega arith) (omega arith)
+    (ap (free c.args.seat) (at_place c.self.inside.first c.loop-at.at c.self.inside.slots.items c.args.self.now c.index.result.now c.self.view_is within c.index.ensures ∙ ap shown_or_ended c.in-Some.is ∙ ap shown_ticket (sym c.deref.ensures)) ∙ sym c.is_free_for.ensures ∙ c.if-is_free_for.true)
 
 pub returns : goal.returns
 returns g c =
-    let p : Ticket → Bool = λ x. is_open_for c.args.seat (state_in x) in
-    none_for c.args.seat c.args.self.now (first_end p c.loop-ticket.ticket-iterator c.args.self.now c.loop-ticket.invariant (rest_all deref_pair _ _ _ c.in-None.is c.next.ensures.steps))
+    let ok = c.self.inside.slots.ok in
+    none_for c.args.seat c.args.self.now (none_left (free c.args.seat) c.self.inside.first (c.self.inside.first + c.loop-at.at) c.self.inside.slots.items c.args.self.now refl c.self.view_is c.loop-at.invariant (omega arith))

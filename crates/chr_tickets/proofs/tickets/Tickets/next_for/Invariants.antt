@@ -1,7 +1,6 @@
-use Rattle.chr_calls.specs.Tickets.{Ticket}
-use Rattle.chr_tickets.specs.Open.{is_open_for, state_in}
-use Rattle.chr_tickets.proofs.Firsts.{first_by, IsFirst}
+use Rattle.std.proofs.Common.{◌+◌}
+use Rattle.chr_tickets.proofs.Walks.{NonePassBelow, free}
 use Rattle.chr_tickets.proofs.tickets.Tickets.next_for.Given as goal
 
-abbrev pub invariant-loop-ticket : goal.invariant-loop-ticket
-invariant-loop-ticket g l = IsFirst (λ (x : Ticket). is_open_for l.seat (state_in x)) l.self (first_by (λ (x : Ticket). is_open_for l.seat (state_in x)) l.ticket-iterator)
+abbrev pub invariant-loop-at : goal.invariant-loop-at
+invariant-loop-at g l = NonePassBelow (free l.seat) l.self (l.first + l.at)

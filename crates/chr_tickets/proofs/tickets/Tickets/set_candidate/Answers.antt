@@ -1,17 +1,26 @@
-use Rattle.std.proofs.Common.{Some, refl, subst}
-use Rattle.std.specs.Option.{IsSome}
+use Rattle.std.proofs.Common.{arith}
 use Rattle.chr_calls.specs.Tickets.{with_candidate}
-use Rattle.chr_tickets.proofs.Listed.{changed}
+use Rattle.chr_tickets.proofs.Changes.{Opened, opened, not_empty, seen, changed, still_queued}
+use Rattle.chr_tickets.proofs.Listed.{same_mark}
 use Rattle.chr_tickets.proofs.States.{active_open, active_here}
+use Rattle.chr_tickets.proofs.tickets.Tickets.set_candidate.Given.{Over}
 use Rattle.chr_tickets.proofs.tickets.Tickets.set_candidate.Goals as goal
+use Rattle.chr_tickets.proofs.tickets.Tickets.set_candidate.Goals.{After-place_of}
+
+active : (g : Over) (c : After-place_of g) → Opened c.self.inside.first c.self.inside.unmarked c.self.inside.slots.items c.args.self.now c.args.ticket c.place_of.result
+active g c = opened c.self.invariant c.self.view_is c.place_of.ensures c.place_of.type_inv (active_open c.args.self.now c.args.ticket c.requires)
+
+pub index_mut-requires : goal.index_mut-requires
+index_mut-requires g c = let within = (active g c).stands.within in omega arith
 
 pub unreachable-requires : goal.unreachable-requires
-unreachable-requires g c = active_open c.self.inside.open.entries c.self.inside.next c.args.ticket c.args.self.now c.self.invariant c.self.view_is c.in_default.ensures.value c.requires
+unreachable-requires g c = not_empty (active g (goal.at.unreachable-requires g c).After-place_of) c.index_mut.ensures.value c.in_default.is
 
 pub set_candidate-requires : goal.set_candidate-requires
-set_candidate-requires g c = active_here c.self.inside.open.entries c.self.inside.next c.args.ticket c.args.self.now (Some c.in-Some.found.now) c.self.invariant c.self.view_is c.in-Some.ensures.value c.requires
+set_candidate-requires g c = active_here c.args.self.now c.args.ticket _ (seen (active g (goal.at.set_candidate-requires g c).After-place_of) c.index_mut.ensures.value c.in-Some.is c.deref_mut.ensures.value) c.requires
+
+pub invariant_of-self : goal.invariant_of-self
+invariant_of-self g c = still_queued _ (with_candidate c.args.candidate) _ (active g (goal.at.invariant_of-self g c).After-place_of) c.index_mut.ensures.value c.in-Some.is c.deref_mut.ensures.value c.set_candidate.ensures (omega arith) (same_mark c.args.ticket c.self.invariant c.self.view_is)
 
 pub returns : goal.returns
-returns g c =
-    changed (with_candidate c.args.candidate) c.self.inside.open.entries (c.get_mut.follows.lender c.set_candidate.new.self).entries c.self.inside.next c.args.ticket c.args.self.now c.in-Some.found.now c.set_candidate.new.self c.self.invariant c.self.view_is c.in-Some.ensures.value
-    ((c.get_mut.follows.holds c.set_candidate.new.self).3 (subst IsSome c.in-Some.ensures.value refl)).0 c.set_candidate.ensures
+returns g c = changed (with_candidate c.args.candidate) _ (active g (goal.at.returns g c).After-place_of) c.index_mut.ensures.value c.in-Some.is c.deref_mut.ensures.value c.set_candidate.ensures

@@ -1,0 +1,32 @@
+//! The slots of the tickets that may be open.
+ghost use Rattle.std.specs.Prelude.{◌≡◌, ◌+◌, ◌%◌, ◌^◌, ◌<◌, ◌≤◌, length};
+ghost use Rattle.chr_tickets.specs.Listed.{listed, StartsOpen};
+
+use crate::ticket::Ticket;
+use std::alloc::Allocator;
+use std::collections::VecDeque;
+
+/// A queue of tickets by their numbers. The slot of a ticket that has ended is empty.
+pub(crate) type Slots<A> = VecDeque<Option<Box<Ticket<A>, A>>, A>;
+
+/// The place of a ticket in a queue, by the number of the queue's first slot. A ticket before that has a place beyond the
+/// queue's end.
+pub(crate) fn place_of(first: u64, ticket: u64) -> usize
+    ensures { (first + result) % 2 ^ 64 ≡ ticket }
+{
+    ticket.wrapping_sub(first) as usize
+}
+
+/// Pops the empty slots at the front, and gives the number of the first one that is left.
+pub(crate) fn pop_ended<A: Allocator + Copy>(slots: &mut Slots<A>, mut first: u64) -> u64
+    requires { first + length slots.old.items < 2 ^ 64 }
+    ensures listed { listed result slots.new.items ≡ listed first slots.old.items }
+    ensures first { (first ≤ result) × (result + length slots.new.items ≡ first + length slots.old.items) }
+    ensures open { StartsOpen slots.new.items }
+{
+    while let Some(None) = slots.front() {
+        slots.pop_front();
+        first += 1;
+    }
+    first
+}
