@@ -6,3 +6,4 @@ pub mod Lines
 pub mod StrictLogs
 pub mod Continued
 pub mod Passes
+pub mod GoingOn

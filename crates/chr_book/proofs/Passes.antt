@@ -9,13 +9,12 @@ use Rattle.chr_search.specs.Answers.{after_judging}
 use Rattle.chr_search.specs.Passing.{PassesOne, Passes}
 use Rattle.chr_calls.specs.Turns.{Next}
 use Rattle.chr_calls.specs.Tickets.{Ticket, with_candidate, going_on, ticket_at}
-use Rattle.chr_calls.specs.Books.{BookState, space_of, IsLive, with_tickets, with_ticket}
+use Rattle.chr_calls.specs.Books.{BookState, space_of, with_tickets, with_ticket}
 use Rattle.chr_calls.specs.Calls.{HoldsLive, HoldsCandidate, with_candidate_of, after_judgement}
 use Rattle.chr_calls.specs.Headline.{IsKept}
 use Rattle.chr_calls.proofs.Tickets.{states_stand, ticket_same, numbered_within}
 use Rattle.chr_calls.proofs.Turning.{turns_keep, reports_keep}
-use Rattle.chr_book.specs.Books.{IsHeldSearch}
-use Rattle.chr_book.specs.Passed.{GoesPast, PassesTrial, PassesTrials}
+use Rattle.chr_book.specs.Passed.{IsHeldLive, PassesTrial, PassesTrials}
 
 -- the book where the ticket's search is at a place
 abbrev at_place : BookState → ℕ → List ℕ → BookState
@@ -77,25 +76,31 @@ passes_all (suc k) b seat t l place after p h is =
     let rest : PassesTrials seat t (suc k) m (at_place m t after) = passes_all k m seat t l p.0 after p.2 (holds_on b seat t l p.0 h) (place_is b t l p.0 h.holds.goal) in
     (m, passes_one b seat t l place p.0 p.1 h is, subst (PassesTrials seat t (suc k) m) (place_twice b t l p.0 after h.holds.goal) rest)
 
--- the search of a goal that goes past some
-pub goes_past : (b now : BookState) → b ≡ now → (seat t k : ℕ) (s past : SearchState) → IsHeldSearch now.tickets seat t s → IsLive b s.label → past.label ≡ s.label → Passes (space_of now s.label) k s.place past.place → k ≢ 0 → GoesPast now seat t k past
-goes_past b now e seat t k s past h live same p some = record {
-  live = subst (HoldsLive now seat t) (sym same) (record { holds = h.holds; live = subst (λ (n : BookState). IsLive n s.label) e live });
-  some = some;
-  passed = subst (λ l. Passes (space_of now l) k (ticket_at now.tickets t).position past.place) (sym same) (subst (λ place. Passes (space_of now s.label) k place past.place) h.place p);
-}
+-- so many trials of a held live goal are passed over where the tickets are these: its search is at a place
+pub record IsPast (b : BookState) (seat t k l : ℕ) (place : List ℕ) (tickets : List Ticket) : Type 0 where
+  pub passes : PassesTrials seat t k b (with_tickets b tickets)
+  pub live : HoldsLive (with_tickets b tickets) seat t l
+  pub at : (ticket_at tickets t).position ≡ place
+
+pub is_past : (k : ℕ) (b : BookState) (seat t l : ℕ) (place after : List ℕ) (tickets : List Ticket) → HoldsLive b seat t l → (ticket_at b.tickets t).position ≡ place → Passes (space_of b l) k place after
+    → (k ≡ 0 → tickets ≡ b.tickets) → (k ≢ 0 → tickets ≡ slice_set b.tickets t (going_on after (ticket_at b.tickets t))) → IsPast b seat t k l after tickets
+is_past zero b seat t l place after tickets h is p none some = subst (IsPast b seat t 0 l after) (sym (none refl)) (record { passes = refl; live = h; at = is ∙ sym p })
+is_past (suc k) b seat t l place after tickets h is p none some = subst (IsPast b seat t (suc k) l after) (sym (some (λ e. absurd (cc)))) (record {
+  passes = passes_all k b seat t l place after p h is;
+  live = holds_on b seat t l after h;
+  at = place_is b t l after h.holds.goal;
+})
 
 -- it is a search of the ticket's goal
-pub past_goal : (b now : BookState) → b ≡ now → (seat t k : ℕ) (past : SearchState) → GoesPast now seat t k past → (ticket_at b.tickets t).goal ≡ Numbered past.label
-past_goal b now e seat t k past g = (subst (λ (n : BookState). GoesPast n seat t k past) (sym e) g).live.holds.goal
+pub goal_of : (b now : BookState) → b ≡ now → (seat t : ℕ) (s past : SearchState) → IsHeldLive now seat t s → past.label ≡ s.label → (ticket_at b.tickets t).goal ≡ Numbered past.label
+goal_of b now e seat t s past h same = subst (λ (n : BookState). (ticket_at n.tickets t).goal ≡ Numbered past.label) (sym e) (h.live.holds.goal ∙ ap Numbered (sym same))
 
--- where the tickets are those after the search has gone on
-pub passed_over : (b now : BookState) → b ≡ now → (seat t k : ℕ) (past : SearchState) (tickets : List Ticket) → GoesPast now seat t k past → tickets ≡ slice_set b.tickets t (going_on past.place (ticket_at b.tickets t)) → PassesTrials seat t k now (with_tickets b tickets)
-passed_over b now e seat t zero past tickets g ts = absurd (g.some refl)
-passed_over b now e seat t (suc k) past tickets g ts =
-    let in_book = subst (λ (n : BookState). GoesPast n seat t (suc k) past) (sym e) g in
-    subst (λ (n : BookState). PassesTrials seat t (suc k) n (with_tickets b tickets)) e
-    (subst (λ xs. PassesTrials seat t (suc k) b (with_tickets b xs)) (sym ts) (passes_all k b seat t past.label (ticket_at b.tickets t).position past.place in_book.passed in_book.live refl))
+-- the ticket's search has gone past them
+pub gone_past : (b now : BookState) → b ≡ now → (seat t k : ℕ) (s past : SearchState) (tickets : List Ticket) → IsHeldLive now seat t s → past.label ≡ s.label → Passes (space_of b s.label) k s.place past.place
+    → (k ≡ 0 → tickets ≡ b.tickets) → (k ≢ 0 → tickets ≡ slice_set b.tickets t (going_on past.place (ticket_at b.tickets t))) → IsPast b seat t k s.label past.place tickets
+gone_past b now e seat t k s past tickets h same p none some =
+    let held = subst (λ (n : BookState). IsHeldLive n seat t s) (sym e) h in
+    is_past k b seat t s.label s.place past.place tickets held.live (sym held.place) p none some
 
 -- what a book keeps
 pub passes_keep : (k : ℕ) (b n : BookState) (seat t : ℕ) → PassesTrials seat t k b n → IsKept b → IsKept n

@@ -1,4 +1,5 @@
 pub mod Books
+pub mod Firings
 pub mod Texts
 pub mod Logs
 pub mod Shots

@@ -1,12 +1,17 @@
 -- Trials that are passed over.
-use Rattle.std.specs.Prelude.{◌≡◌, ◌≢◌, ℕ, zero, suc, Ok}
+use Rattle.std.specs.Prelude.{◌≡◌, ℕ, zero, suc, ◌+◌, ◌<◌, Ok}
 use Rattle.chr_search.specs.Reach.{SearchState}
-use Rattle.chr_search.specs.Passing.{Passes}
 use Rattle.chr_search.specs.Judged.{Judgement, IsVerdict}
-use Rattle.chr_calls.specs.Turns.{Next}
+use Rattle.chr_calls.specs.declared.answers.Fired.{Fired}
+use Rattle.chr_calls.specs.declared.answers.Firing.TheVariants as firing
+use Rattle.chr_calls.specs.declared.answers.Dropping.TheVariants as dropping
+use Rattle.chr_calls.specs.Turns.{Next, Done}
 use Rattle.chr_calls.specs.Tickets.{ticket_at}
-use Rattle.chr_calls.specs.Books.{BookState, space_of}
-use Rattle.chr_calls.specs.Calls.{HoldsLive, Turns, Reports}
+use Rattle.chr_calls.specs.Books.{BookState}
+use Rattle.chr_calls.specs.Calls.{HoldsLive, Turns, Reports, FiresOrMisses, Drops}
+use Rattle.chr_book.specs.declared.rounds.Last.{Last}
+use Rattle.chr_book.specs.declared.rounds.Last.TheVariants as lasts
+use Rattle.chr_book.specs.declared.rounds.Rounds.{Rounds}
 
 -- the ticket's next trial is asked for, judged, and reported
 pub record PassesTrial (seat t : ℕ) (b n : BookState) : Type 0 where
@@ -21,8 +26,49 @@ abbrev pub PassesTrials : ℕ → ℕ → ℕ → BookState → BookState → Ty
 PassesTrials seat t zero b n = n ≡ b
 PassesTrials seat t (suc k) b n = (middle : BookState) × PassesTrial seat t b middle × PassesTrials seat t k middle n
 
--- the seat holds the ticket of a live goal, and its search after so many trials, at least one, is this
-pub record GoesPast (b : BookState) (seat t k : ℕ) (past : SearchState) : Type 0 where
-  pub live : HoldsLive b seat t past.label
-  pub some : k ≢ 0
-  pub passed : Passes (space_of b past.label) k (ticket_at b.tickets t).position past.place
+-- the seat holds the ticket of a live goal, and this is its search
+pub record IsHeldLive (b : BookState) (seat t : ℕ) (search : SearchState) : Type 0 where
+  pub live : HoldsLive b seat t search.label
+  pub place : search.place ≡ (ticket_at b.tickets t).position
+
+-- the ticket's next trial is asked for, judged, and fired
+pub record FiresTrial (seat t : ℕ) (b n : BookState) : Type 0 where
+  pub judged : Judgement
+  pub right : IsVerdict judged.trial judged.verdict
+  pub asked : BookState
+  pub turns : Turns b seat t (Ok (Next judged.trial)) asked
+  pub fired : Fired
+  pub fires : FiresOrMisses asked seat t judged (Ok (firing.Fired fired)) n
+
+-- its next trial is asked for, there is none, and the goal is dropped
+pub record DropsGoal (seat t : ℕ) (b n : BookState) : Type 0 where
+  pub asked : BookState
+  pub turns : Turns b seat t (Ok Done) asked
+  pub drops : Drops asked seat t (Ok dropping.Dropped) n
+
+-- the last round fires or drops, or there is none but those that pass over trials
+abbrev pub IsLast : ℕ → ℕ → Last → BookState → BookState → Type 0
+IsLast seat t lasts.Fired b n = FiresTrial seat t b n
+IsLast seat t lasts.Dropped b n = DropsGoal seat t b n
+IsLast seat t lasts.Passed b n = n ≡ b
+
+-- how many rounds are made
+abbrev pub rounds_in : Rounds → ℕ
+rounds_in r = last_in r.last + r.passed
+  where
+    last_in : Last → ℕ
+    last_in lasts.Fired = 1
+    last_in lasts.Dropped = 1
+    last_in lasts.Passed = 0
+
+-- these rounds
+pub record MakesRounds (seat t : ℕ) (r : Rounds) (b n : BookState) : Type 0 where
+  pub middle : BookState
+  pub passes : PassesTrials seat t r.passed b middle
+  pub last : IsLast seat t r.last middle n
+
+-- some of at most so many rounds, and none of them the last of so many
+pub record MakesFewer (seat t most : ℕ) (b n : BookState) : Type 0 where
+  pub passed : ℕ
+  pub fewer : passed < most
+  pub passes : PassesTrials seat t passed b n

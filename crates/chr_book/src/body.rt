@@ -43,6 +43,7 @@ pub fn push_body<A: Allocator + Copy>(
 ) -> Result<(), AllocError>
     ensures ok { OnOk result ((body : List (PlainAtom ℕ)) → AreUnder (bound_at binding.now) (added rule.now.body) body → tickets.new ≡ tickets.old ++ map waiting body) }
     ensures err { OnErr result (tickets.new ≡ tickets.old) }
+    ensures rest { (more : List Ticket) × (tickets.new ≡ tickets.old ++ more) }
 {
     let first = tickets.next();
     for item in rule.body() {

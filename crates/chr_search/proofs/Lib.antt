@@ -16,3 +16,6 @@ pub mod PlainTrials
 pub mod Same
 pub mod Behind
 pub mod Passed
+pub mod Levels
+pub mod Below
+pub mod PlanByPlan

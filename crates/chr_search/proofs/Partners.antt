@@ -144,10 +144,6 @@ least_partner j labels binding from q a (Some l) n = record {
   least = λ m f low. n.1 m (asked_for j labels binding from q a m low f);
 }
 
--- no head is left
-pub no_head : (j : Join) (labels : List ℕ) (x : ℕ) → slice_get j.order (length labels) ≡ None → MayFollow j labels x → ⊥
-no_head j labels x e m = let z : None ≡ Some m.step = sym e ∙ m.step_is in absurd (cc)
-
 -- what a search at a place below a list comes to
 come_least : (C : Children) (d : ℕ) (path place : List ℕ) (from : ℕ) (below found : List ℕ) → Come C d path place from below → Least C d path (from ∷ below) found → Least C d path place found
 come_least C d path place from below found c l = record {
@@ -183,12 +179,6 @@ lengthened j labels first below l f (inr e) =
 pub lengthened_none : (j : Join) (labels : List ℕ) (first : ℕ) (below : List ℕ) → NoneFrom (MayFollow j labels) first → NoneBeyond (MayFollow j) 1 labels (first ∷ below)
 lengthened_none j labels first below n = come_to_end (MayFollow j) 1 labels (first ∷ below) first below (come_at (MayFollow j) 1 labels first below) n
 
--- below the least label
-pub lengthened_below : (j : Join) (labels : List ℕ) (first : ℕ) (below found : List ℕ) → LeastFrom (MayFollow j labels) first first → Least (MayFollow j) 1 (labels ++ first ∷ []) below found → Least (MayFollow j) 1 labels (first ∷ below) found
-lengthened_below j labels first below found f l =
-    come_found (MayFollow j) 1 labels (first ∷ below) first below first found (come_at (MayFollow j) 1 labels first below) f
-    (subst (λ b. Least (MayFollow j) 1 (labels ++ first ∷ []) b found) (under_same first below first refl) l)
-
 -- and past it, where there is none below it
 pub lengthened_past : (j : Join) (labels : List ℕ) (first : ℕ) (below : List ℕ) → LeastFrom (MayFollow j labels) first first → NoneBeyond (MayFollow j) 1 (labels ++ first ∷ []) below
     → (told : Bool) (new : List ℕ) → LengthenedIf j ((first + 1) ∷ []) told labels new → LengthenedIf j (first ∷ below) told labels new
@@ -208,11 +198,6 @@ on_past j labels mid first label next below rest f e b none m told new l =
     (subst (λ z. NoneBeyond (MayFollow j) 1 (labels ++ first ∷ []) z) (sym b) (subst (λ x. NoneBeyond (MayFollow j) 1 (labels ++ x ∷ []) (next ∷ rest)) e none))
     told new (subst (λ z. LengthenedIf j ((first + 1) ∷ []) told z new) m l)
 
-pub on_below : (j : Join) (labels pushed : List ℕ) (first label next : ℕ) (below rest found : List ℕ) → LeastFrom (MayFollow j labels) first label → label ≡ first → below ≡ next ∷ rest → pushed ≡ labels ++ label ∷ [] → Least (MayFollow j) 1 pushed (next ∷ rest) found → Least (MayFollow j) 1 labels (first ∷ below) found
-on_below j labels pushed first label next below rest found f e b p l =
-    lengthened_below j labels first below found (subst (λ x. LeastFrom (MayFollow j labels) first x) e f)
-    (subst (λ z. Least (MayFollow j) 1 (labels ++ first ∷ []) z found) (sym b) (subst (λ x. Least (MayFollow j) 1 (labels ++ x ∷ []) (next ∷ rest) found) e (subst (λ z. Least (MayFollow j) 1 z (next ∷ rest) found) p l)))
-
 -- below a label that doesn't fit
 pub none_below : (j : Join) (labels : List ℕ) (l : ℕ) (next : ℕ) (rest : List ℕ) → ((x : ℕ) → MayFollow j (labels ++ l ∷ []) x → ⊥) → NoneBeyond (MayFollow j) 1 (labels ++ l ∷ []) (next ∷ rest)
 none_below j labels l next rest n [] b = let z : false ≡ true = b.there in absurd (cc)
@@ -228,25 +213,6 @@ active_least j from m low = record { holds = m; there = low; least = λ y f k. l
 
 pub active_past : (j : Join) (from : ℕ) → j.active < from → NoneFrom (MayFollow j []) from
 active_past j from h y m low = let e : y ≡ j.active = m.turn in absurd (omega arith)
-
-pub active_first : (j : Join) → MayFollow j [] j.active → Least (MayFollow j) 1 [] [] (j.active ∷ [])
-active_first j m = come_found (MayFollow j) 1 [] [] 0 [] j.active (j.active ∷ []) (come_first (MayFollow j) 1 [] (omega arith)) (active_least j 0 m (omega arith))
-    (subst (λ b. Least (MayFollow j) 1 (j.active ∷ []) b (j.active ∷ [])) (sym (pick (Rattle.std.specs.Prelude.◌==◌ j.active 0))) (here (MayFollow j) 1 (j.active ∷ []) (omega arith)))
-  where
-    pick : (b : Bool) → Rattle.std.specs.Prelude.if◌then◌else◌ {A = List ℕ} b [] [] ≡ []
-    pick true = refl
-    pick false = refl
-
--- at the active label alone
-pub active_alone : (j : Join) (first : ℕ) (below : List ℕ) → MayFollow j [] j.active → first ≤ j.active → (j.active ≢ first) ⊎ (below ≡ []) → Least (MayFollow j) 1 [] (first ∷ below) (j.active ∷ [])
-active_alone j first below m low e = lengthened j [] first below j.active (active_least j first m low) e
-
-pub active_none : (j : Join) (first : ℕ) (below : List ℕ) → j.active < first → NoneBeyond (MayFollow j) 1 [] (first ∷ below)
-active_none j first below h = lengthened_none j [] first below (active_past j first h)
-
--- and below it
-pub active_below : (j : Join) (first next : ℕ) (below rest found : List ℕ) → MayFollow j [] j.active → first ≡ j.active → below ≡ next ∷ rest → Least (MayFollow j) 1 (j.active ∷ []) (next ∷ rest) found → Least (MayFollow j) 1 [] (first ∷ below) found
-active_below j first next below rest found m e b l = on_below j [] (j.active ∷ []) first j.active next below rest found (active_least j first m (omega arith)) (sym e) b refl l
 
 pub active_none_below : (j : Join) (first next : ℕ) (below rest : List ℕ) → MayFollow j [] j.active → first ≡ j.active → below ≡ next ∷ rest → NoneBeyond (MayFollow j) 1 (j.active ∷ []) (next ∷ rest) → NoneBeyond (MayFollow j) 1 [] (first ∷ below)
 active_none_below j first next below rest m e b none =

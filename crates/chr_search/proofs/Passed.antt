@@ -1,14 +1,14 @@
 -- Verdicts on trials in the store, and searches that pass over them.
-use Rattle.std.proofs.Common.{◌≡◌, ◌≢◌, ◌↔◌, ℕ, zero, suc, ◌+◌, ◌<◌, ◌≤◌, true, List, [], ◌∷◌, ◌++◌, map, take, length, length-append, Option, Some, None, slice_get, refl, sym, ◌∙◌, ap, subst, arith, true≢false}
+use Rattle.std.proofs.Common.{◌≡◌, ◌≢◌, ◌↔◌, ℕ, zero, suc, ◌+◌, ◌<◌, ◌≤◌, true, List, [], ◌∷◌, ◌++◌, map, take, length, length-append, Option, Some, slice_get, refl, sym, ◌∙◌, ap, subst, arith, true≢false}
 use Rattle.std.specs.List.{AllByRecursion}
 use Rattle.std.proofs.lemmas.List.{length-map}
 use Rattle.chr_value.specs.Atoms.{Value, Atom}
 use Rattle.chr_rule.specs.Rules.{Simpagation, rule_at}
 use Rattle.chr_rule.specs.Scope.{IsRule}
 use Rattle.chr_guard.specs.Values.{Valuation}
-use Rattle.chr_guard.specs.Bindings.{bound_at, Narrows, NoneUnder}
+use Rattle.chr_guard.specs.Bindings.{bound_at, NoneUnder}
 use Rattle.chr_guard.specs.Instances.{NoInstance}
-use Rattle.chr_guard.specs.Matching.{IsAtHead, AreAtHeads, HeadsAre, IsFit, IsInstanceUnder}
+use Rattle.chr_guard.specs.Matching.{IsAtHead, AreAtHeads, HeadsAre, IsFit}
 use Rattle.chr_model.specs.Stores.{Store, atom_at, among, Distinct}
 use Rattle.chr_plan.specs.Orders.{heads_of}
 use Rattle.chr_plan.specs.Plans.{plan_at, ArePlans}
@@ -16,69 +16,18 @@ use Rattle.chr_plan.specs.declared.order.Step.{Step}
 use Rattle.chr_store.specs.Labels.{LabelledStore, IsLabelled}
 use Rattle.chr_search.specs.declared.judged.Verdict.{Verdict}
 use Rattle.chr_search.specs.declared.judged.Verdict.TheVariants.{Misfit, Part, Whole}
-use Rattle.chr_search.specs.Positions.{past}
-use Rattle.chr_search.specs.Tree.{Grows, LeastFrom}
-use Rattle.chr_search.specs.Trials.{Join, StandsAt, Fit, MayFollow, Space, join_in, IsPlanned, Child, IsNext}
-use Rattle.chr_search.specs.Partners.{HasPlan, IsReady}
+use Rattle.chr_search.specs.Tree.{Grows}
+use Rattle.chr_search.specs.Trials.{Join, StandsAt, Fit, MayFollow, Space, join_in, IsPlanned, IsNext}
+use Rattle.chr_search.specs.Partners.{IsReady}
 use Rattle.chr_search.specs.Verdicts.{Placed, Trial, heads, labels, position, at_heads, IsPart, IsWhole, IsTrialOf}
 use Rattle.chr_search.specs.Answers.{after_verdict}
-use Rattle.chr_search.specs.Passing.{IsTrialIn, HasTrials, AreJudged, AreMisfits, FollowedBy, PassesFrom, PassesOne, Passes}
-use Rattle.chr_search.proofs.Positions.{past_last}
-use Rattle.chr_search.proofs.Tree.{grows_more, least_beside}
+use Rattle.chr_search.specs.Passing.{IsTrialIn, HasTrials, AreJudged, PassesOne, Passes}
 use Rattle.chr_search.proofs.Plans.{heads_in}
-use Rattle.chr_search.proofs.Partners.{fit_push, fit_less, distinct_less}
-use Rattle.chr_search.proofs.Descents.{child_is, grows_in, grows_out, rule_scoped, plan_of}
+use Rattle.chr_search.proofs.Partners.{fit_less, distinct_less}
 use Rattle.chr_search.proofs.Asking.{some_is}
 use Rattle.chr_search.proofs.Judging.{few_heads, last_small}
-use Rattle.chr_search.proofs.Making.{take_next, grows_count, grows_live, Parts, parts_as, formed, next_trial}
-use Rattle.chr_search.proofs.Wholes.{places, in_head_order, full_fit, is_whole, no_instance}
-
--- fitting label by label
-take_length : (ls : List ℕ) (i x : ℕ) → slice_get ls i ≡ Some x → length (take i ls) ≡ i
-take_length [] i x e = absurd (let z : None ≡ Some x = e in cc)
-take_length (y ∷ ls) zero x e = refl
-take_length (y ∷ ls) (suc i) x e = let r = take_length ls i x e in omega arith
-
-pub fit_next : (j : Join) (ls : List ℕ) (i x : ℕ) (step : Step) (binding next : List (Option (Value ℕ))) → slice_get ls i ≡ Some x → slice_get j.order i ≡ Some step → IsFit j.rule (λ v. Fit j v j.order (take i ls)) binding → Narrows (λ v. StandsAt j v step x) binding next → IsFit j.rule (λ v. Fit j v j.order (take (i + 1) ls)) next
-fit_next j ls i x step binding next at is r n =
-    let long : slice_get j.order (length (take i ls)) ≡ Some step = subst (λ k. slice_get j.order k ≡ Some step) (sym (take_length ls i x at)) is in
-    subst (λ zs. IsFit j.rule (λ v. Fit j v j.order zs) next) (sym (take_next ls i x at)) (record {
-      places = n.places ∙ r.places;
-      exactly = λ v. (
-        λ e. let m = (n.exactly v).0 e in fit_push j v j.order (take i ls) step x long ((r.exactly v).0 m.0) m.1,
-        λ f. let m = fit_less j v j.order (take i ls) x f in
-            let z : Some m.0 ≡ Some step = sym m.1 ∙ long in
-            let same : m.0 ≡ step = cc in
-            (n.exactly v).1 ((r.exactly v).1 m.2, subst (λ y. StandsAt j v y x) same m.3),
-      );
-    })
-
-fit_take : (j : Join) (v : Valuation) (steps : List Step) (ls : List ℕ) (i : ℕ) → Fit j v steps ls → Fit j v steps (take i ls)
-fit_take j v steps ls zero f = tt
-fit_take j v steps [] (suc i) f = tt
-fit_take j v [] (l ∷ ls) (suc i) f = absurd f
-fit_take j v (s ∷ steps) (l ∷ ls) (suc i) f = (f.0, fit_take j v steps ls i f.1)
-
-fit_nth : (j : Join) (v : Valuation) (steps : List Step) (ls : List ℕ) (i x : ℕ) (step : Step) → Fit j v steps ls → slice_get ls i ≡ Some x → slice_get steps i ≡ Some step → StandsAt j v step x
-fit_nth j v steps [] i x step f e g = absurd (let z : None ≡ Some x = e in cc)
-fit_nth j v [] (l ∷ ls) i x step f e g = absurd f
-fit_nth j v (s ∷ steps) (l ∷ ls) zero x step f e g =
-    let label : l ≡ x = (let z : Some l ≡ Some x = e in cc) in
-    let same : s ≡ step = some_is s step g in
-    subst (λ y. StandsAt j v y x) same (subst (λ y. StandsAt j v s y) label f.0)
-fit_nth j v (s ∷ steps) (l ∷ ls) (suc i) x step f e g = fit_nth j v steps ls i x step f.1 e g
-
-pub fits_nowhere : (j : Join) (ls : List ℕ) (i x : ℕ) (step : Step) (binding : List (Option (Value ℕ))) → slice_get ls i ≡ Some x → slice_get j.order i ≡ Some step → IsFit j.rule (λ v. Fit j v j.order (take i ls)) binding → NoneUnder (λ v. StandsAt j v step x) binding → (v : Valuation) → Fit j v j.order ls → ⊥
-fits_nowhere j ls i x step binding at is r n v f = n v ((r.exactly v).1 (fit_take j v j.order ls i f)) (fit_nth j v j.order ls i x step f at is)
-
-too_long : (j : Join) (v : Valuation) (steps : List Step) (ls : List ℕ) (i x : ℕ) → slice_get ls i ≡ Some x → slice_get steps i ≡ None → Fit j v steps ls → ⊥
-too_long j v steps [] i x e g f = let z : None ≡ Some x = e in cc
-too_long j v [] (l ∷ ls) i x e g f = f
-too_long j v (s ∷ steps) (l ∷ ls) zero x e g f = let z : Some s ≡ None = g in cc
-too_long j v (s ∷ steps) (l ∷ ls) (suc i) x e g f = too_long j v steps ls i x e g f.1
-
-pub fits_no_step : (j : Join) (ls : List ℕ) (i x : ℕ) → slice_get ls i ≡ Some x → slice_get j.order i ≡ None → (v : Valuation) → Fit j v j.order ls → ⊥
-fits_no_step j ls i x at none v f = too_long j v j.order ls i x at none f
+use Rattle.chr_search.proofs.Making.{grows_count, grows_live, Parts, parts_as, formed}
+use Rattle.chr_search.proofs.Wholes.{places, in_head_order, full_fit, no_instance}
 
 -- the labels fit a plan where their atoms are at its heads
 fit_heads : (j : Join) (v : Valuation) (steps : List Step) (ps : List Placed) → map (λ (p : Placed). p.head) ps ≡ take (length ps) (heads_in steps) → AllByRecursion (λ p. atom_at j.store p.label ≡ Some p.atom) ps → Fit j v steps (map (λ (p : Placed). p.label) ps) ↔ AreAtHeads j.rule (places ps) v
@@ -120,10 +69,6 @@ pub heads_fit : (j : Join) (ls : List ℕ) (t : Trial) → IsTrialIn j ls t → 
 heads_fit j ls t i full binding b =
     subst (λ r. IsFit r (HeadsAre r (in_head_order t)) binding) i.rule_is (full_fit t i.formed full binding (fit_of_trial j ls t i binding b))
 
-pub whole_here : (j : Join) (ls : List ℕ) (t : Trial) → IsTrialIn j ls t → length t.placed ≡ length (heads_of t.rule) → Distinct ls → (binding : List (Option (Value ℕ))) → IsInstanceUnder j.rule (in_head_order t) binding → IsWhole t
-whole_here j ls t i full d binding u =
-    is_whole t i.formed full (subst Distinct (sym i.labels_are) d) binding (subst (λ r. IsInstanceUnder r (in_head_order t) binding) (sym i.rule_is) u)
-
 pub misfit_here : (j : Join) (ls : List ℕ) (t : Trial) → IsTrialIn j ls t → length t.placed ≡ length (heads_of t.rule) → NoInstance j.rule (in_head_order t) → (IsWhole t → ⊥) × (IsPart t → ⊥)
 misfit_here j ls t i full n = (
   no_instance t i.formed full (subst (λ r. NoInstance r (in_head_order t)) (sym i.rule_is) n),
@@ -135,9 +80,6 @@ pub repeats : (j : Join) (ls : List ℕ) (l : ℕ) → among ls l ≡ true → A
 repeats j ls l there t i =
     let n : Distinct (ls ++ l ∷ []) → ⊥ = λ d. true≢false (sym there ∙ distinct_less ls l d) in
     (λ w. n (subst Distinct i.labels_are w.distinct), λ p. n (subst Distinct i.labels_are p.distinct))
-
-pub has_no_step : (j : Join) (ls : List ℕ) (l : ℕ) → slice_get j.order (length ls) ≡ None → AreJudged j (ls ++ l ∷ []) Misfit
-has_no_step j ls l at t i = no_fit j (ls ++ l ∷ []) t i (λ v f. let m = fit_less j v j.order ls l f in let z : None ≡ Some m.0 = sym at ∙ m.1 in absurd (cc))
 
 pub stands_nowhere : (j : Join) (ls : List ℕ) (binding : List (Option (Value ℕ))) (step : Step) (l : ℕ) → IsReady j ls binding → slice_get j.order (length ls) ≡ Some step → NoneUnder (λ v. StandsAt j v step l) binding → AreJudged j (ls ++ l ∷ []) Misfit
 stands_nowhere j ls binding step l r at n t i = no_fit j (ls ++ l ∷ []) t i (λ v f.
@@ -173,14 +115,6 @@ room_below j ls t i p =
 
 pub label_small : (j : Join) (ls : List ℕ) (l : ℕ) (t : Trial) → IsTrialIn j (ls ++ l ∷ []) t → l ≤ 4294967295
 label_small j ls l t i = last_small t i.formed ls l (sym i.labels_are)
-
--- labels that may be followed by another are distinct and fit
-pub ready_before : (j : Join) (ls : List ℕ) (binding : List (Option (Value ℕ))) (l : ℕ) → MayFollow j ls l → IsFit j.rule (λ v. Fit j v j.order ls) binding → IsReady j ls binding
-ready_before j ls binding l m f = record { distinct = m.distinct; fit = f }
-
--- one misfit more
-pub misfits_more : (j : Join) (ls : List ℕ) (n from middle x : ℕ) → AreMisfits j ls n from middle → LeastFrom (MayFollow j ls) middle x → AreJudged j (ls ++ x ∷ []) Misfit → AreMisfits j ls (n + 1) from (x + 1)
-misfits_more j ls n from middle x m l a = subst (λ k. AreMisfits j ls k from (x + 1)) (let e : suc n ≡ n + 1 = omega arith in e) (middle, x, m, l, a, refl)
 
 -- the trial of an admissible position
 abbrev Lives : Store → List ℕ → Type 0
@@ -244,38 +178,6 @@ trial_of_made s rule order r h ls m ri oi = record {
   live = m.is.live;
 }
 
--- a misfit or a part, and the misfits that follow it
-from_one : (j : Join) (n : ℕ) (old new : List ℕ) → FollowedBy j n old new → PassesFrom j (n + 1) old new
-from_one j n old new f = subst (λ k. PassesFrom j k old new) (let e : suc n ≡ n + 1 = omega arith in e) f
-
-pub misfit_followed : (j : Join) (old new front : List ℕ) (label n next : ℕ) → old ≡ front ++ label ∷ [] → Grows (MayFollow j) [] front → AreJudged j (front ++ label ∷ []) Misfit → AreMisfits j front n (label + 1) next → new ≡ front ++ next ∷ [] → PassesFrom j (n + 1) old new
-misfit_followed j old new front label n next e g a m is = from_one j n old new (record {
-  verdict = Misfit;
-  right = subst (λ ls. AreJudged j ls Misfit) (sym e) a;
-  other = λ e. absurd (cc);
-  front = front;
-  grows = g;
-  from = label + 1;
-  on = ap past e ∙ past_last front label;
-  next = next;
-  misfits = m;
-  is = is;
-})
-
-pub part_followed : (j : Join) (old new : List ℕ) (n next : ℕ) → Grows (MayFollow j) [] old → AreJudged j old Part → AreMisfits j old n 0 next → new ≡ old ++ next ∷ [] → PassesFrom j (n + 1) old new
-part_followed j old new n next g a m is = from_one j n old new (record {
-  verdict = Part;
-  right = a;
-  other = λ e. absurd (cc);
-  front = old;
-  grows = g;
-  from = 0;
-  on = refl;
-  next = next;
-  misfits = m;
-  is = is;
-})
-
 -- what makes trials of the labels of a rule's plan
 pub record Makes (s : Space) (rule : Simpagation ℕ) (order : List Step) (r h : ℕ) : Type 0 where
   pub planned : IsPlanned s r h rule order
@@ -287,35 +189,14 @@ pub record Makes (s : Space) (rule : Simpagation ℕ) (order : List Step) (r h :
   pub number : 1 ≤ r
   pub head : 1 ≤ h
 
-made_of : (s : Space) (rule : Simpagation ℕ) (order : List Step) (r h : ℕ) → Makes s rule order r h → (ls : List ℕ) → 1 ≤ length ls → Grows (MayFollow (join_in s rule order)) [] ls → Made s rule order r h ls
+pub made_of : (s : Space) (rule : Simpagation ℕ) (order : List Step) (r h : ℕ) → Makes s rule order r h → (ls : List ℕ) → 1 ≤ length ls → Grows (MayFollow (join_in s rule order)) [] ls → Made s rule order r h ls
 made_of s rule order r h m ls some g =
     trial_made s rule order r h ls m.store (record { planned = m.planned; some = some; count = grows_count (join_in s rule order) [] ls g (omega arith); live = grows_live (join_in s rule order) [] ls g }) m.plans m.entries m.labelled m.scoped m.number m.head
 
 pub has_trials : (s : Space) (rule : Simpagation ℕ) (order : List Step) (r h : ℕ) → Makes s rule order r h → HasTrials (join_in s rule order)
 has_trials s rule order r h m ls some g = let t = made_of s rule order r h m ls some g in (t.trial, t.is)
 
--- the next trial of a search, in its rule's plan
-pub record Found (s : Space) (rule : Simpagation ℕ) (order : List Step) (r h : ℕ) (place ls : List ℕ) : Type 0 where
-  pub makes : Makes s rule order r h
-  pub plan : HasPlan (join_in s rule order)
-  pub next : IsNext s place (r ∷ h ∷ ls)
-  pub some : 1 ≤ length ls
-  pub grows : Grows (MayFollow (join_in s rule order)) [] ls
-
-pub found : (s : Space) (rule : Simpagation ℕ) (order : List Step) (r h : ℕ) (place ls next : List ℕ) (store : LabelledStore) → IsNext s place next → r ∷ h ∷ ls ≡ next → rule_at s.rules r ≡ Some rule → plan_at s.plans r h ≡ Some order → ArePlans s.rules s.plans → AllByRecursion IsRule s.rules → store.entries ≡ s.store → IsLabelled store → 1 ≤ r → 1 ≤ h → Found s rule order r h place ls
-found s rule order r h place ls next store n e ri oi ps all st w number head =
-    let p : IsPlanned s r h rule order = record { rule_is = ri; order_is = oi } in
-    let here : IsNext s place (r ∷ h ∷ ls) = subst (IsNext s place) (sym e) n in
-    let t = next_trial s place (r ∷ h ∷ ls) here in
-    record {
-      makes = record { planned = p; plans = ps; store = store; entries = st; labelled = w; scoped = rule_scoped s.rules all r rule ri; number = number; head = head };
-      plan = plan_of s ps all r h rule order p;
-      next = here;
-      some = (let deep : 3 ≤ length (r ∷ h ∷ ls) = t.deep in omega arith);
-      grows = grows_in s r h rule order p [] ls t.grows.1.1;
-    }
-
-one_passed : (s : Space) (rule : Simpagation ℕ) (order : List Step) (r h : ℕ) → Makes s rule order r h → (place ls : List ℕ) → IsNext s place (r ∷ h ∷ ls) → 1 ≤ length ls → Grows (MayFollow (join_in s rule order)) [] ls → (verdict : Verdict) → AreJudged (join_in s rule order) ls verdict → verdict ≢ Whole → PassesOne s place (after_verdict verdict (r ∷ h ∷ ls))
+pub one_passed : (s : Space) (rule : Simpagation ℕ) (order : List Step) (r h : ℕ) → Makes s rule order r h → (place ls : List ℕ) → IsNext s place (r ∷ h ∷ ls) → 1 ≤ length ls → Grows (MayFollow (join_in s rule order)) [] ls → (verdict : Verdict) → AreJudged (join_in s rule order) ls verdict → verdict ≢ Whole → PassesOne s place (after_verdict verdict (r ∷ h ∷ ls))
 one_passed s rule order r h m place ls n some g verdict a ne =
     let t = made_of s rule order r h m ls some g in
     let is : position t.trial ≡ r ∷ h ∷ ls = position_made s rule order r h ls t in
@@ -329,41 +210,11 @@ one_passed s rule order r h m place ls n some g verdict a ne =
       on = ap (after_verdict verdict) (sym is);
     }
 
--- a trial beside others
-beside : (s : Space) (rule : Simpagation ℕ) (order : List Step) (r h : ℕ) → IsPlanned s r h rule order → (ls : List ℕ) (from x : ℕ) → Grows (MayFollow (join_in s rule order)) [] ls → LeastFrom (MayFollow (join_in s rule order) ls) from x → IsNext s (r ∷ h ∷ (ls ++ from ∷ [])) (r ∷ h ∷ (ls ++ x ∷ []))
-beside s rule order r h p ls from x g l =
-    least_beside (Child s) 3 [] (r ∷ h ∷ ls) from x ((rule, p.rule_is), ((rule, order, p), grows_out s r h rule order p [] ls g))
-    (record { holds = (rule, order, p, l.holds); there = l.there; least = λ y c low. l.least y (child_is s r h rule order p ls y c) low })
-    (omega (arith, length-append ls (x ∷ [])))
-
--- so many of them, one after another
-pass_last : (s : Space) (n : ℕ) (place middle after : List ℕ) → Passes s n place middle → PassesOne s middle after → Passes s (suc n) place after
-pass_last s zero place middle after p one = (after, subst (λ z. PassesOne s z after) p one, refl)
-pass_last s (suc n) place middle after p one = (p.0, p.1, pass_last s n p.0 middle after p.2 one)
-
-misfits_passed : (s : Space) (rule : Simpagation ℕ) (order : List Step) (r h : ℕ) → Makes s rule order r h → (ls : List ℕ) → Grows (MayFollow (join_in s rule order)) [] ls → (n from next : ℕ) → AreMisfits (join_in s rule order) ls n from next → Passes s n (r ∷ h ∷ (ls ++ from ∷ [])) (r ∷ h ∷ (ls ++ next ∷ []))
-misfits_passed s rule order r h m ls g zero from next e = ap (λ x. r ∷ h ∷ (ls ++ x ∷ [])) e
-misfits_passed s rule order r h m ls g (suc n) from next (middle, x, before, least, misfit, e) =
-    let on : past (r ∷ h ∷ (ls ++ x ∷ [])) ≡ r ∷ h ∷ (ls ++ next ∷ []) = past_last (r ∷ h ∷ ls) x ∙ ap (λ y. r ∷ h ∷ (ls ++ y ∷ [])) (sym e) in
-    let ne : Misfit ≢ Whole = λ e. absurd (cc) in
-    pass_last s n (r ∷ h ∷ (ls ++ from ∷ [])) (r ∷ h ∷ (ls ++ middle ∷ [])) (r ∷ h ∷ (ls ++ next ∷ [])) (misfits_passed s rule order r h m ls g n from middle before)
-    (subst (PassesOne s (r ∷ h ∷ (ls ++ middle ∷ []))) on
-    (one_passed s rule order r h m (r ∷ h ∷ (ls ++ middle ∷ [])) (ls ++ x ∷ []) (beside s rule order r h m.planned ls middle x g least) (omega (arith, length-append ls (x ∷ []))) (grows_more (MayFollow (join_in s rule order)) [] ls x g least.holds) Misfit misfit ne))
-
-after_labels : (verdict : Verdict) (r h : ℕ) (ls : List ℕ) → 1 ≤ length ls → after_verdict verdict (r ∷ h ∷ ls) ≡ r ∷ h ∷ after_verdict verdict ls
+pub after_labels : (verdict : Verdict) (r h : ℕ) (ls : List ℕ) → 1 ≤ length ls → after_verdict verdict (r ∷ h ∷ ls) ≡ r ∷ h ∷ after_verdict verdict ls
 after_labels verdict r h [] some = absurd (omega arith)
 after_labels Part r h (l ∷ ls) some = refl
 after_labels Whole r h (l ∷ ls) some = refl
 after_labels Misfit r h (l ∷ ls) some = refl
-
-pub passes_from : (s : Space) (rule : Simpagation ℕ) (order : List Step) (r h : ℕ) (place old new : List ℕ) (n : ℕ) → Found s rule order r h place old → PassesFrom (join_in s rule order) n old new → 1 ≤ n → Passes s n place (r ∷ h ∷ new)
-passes_from s rule order r h place old new zero f p low = absurd (omega arith)
-passes_from s rule order r h place old new (suc n) f p low =
-    let on : after_verdict p.verdict (r ∷ h ∷ old) ≡ r ∷ h ∷ (p.front ++ p.from ∷ []) = after_labels p.verdict r h old f.some ∙ ap (λ (ls : List ℕ). r ∷ h ∷ ls) p.on in (
-      r ∷ h ∷ (p.front ++ p.from ∷ []),
-      subst (PassesOne s place) on (one_passed s rule order r h f.makes place old f.next f.some f.grows p.verdict p.right p.other),
-      subst (λ (ls : List ℕ). Passes s n (r ∷ h ∷ (p.front ++ p.from ∷ [])) (r ∷ h ∷ ls)) (sym p.is) (misfits_passed s rule order r h f.makes p.front p.grows n p.from p.next p.misfits),
-    )
 
 pub pass_more : (s : Space) (n more : ℕ) (place middle after : List ℕ) → Passes s n place middle → Passes s more middle after → Passes s (n + more) place after
 pass_more s zero more place middle after p q = subst (λ k. Passes s k place after) (let e : more ≡ 0 + more = omega arith in e) (subst (λ z. Passes s more z after) p q)

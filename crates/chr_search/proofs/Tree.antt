@@ -108,11 +108,6 @@ under_same from below x e = grind (arith, nat_tests)
 pub under_other : (from : ℕ) (below : List ℕ) (x : ℕ) → x ≢ from → [] ≡ under from below x
 under_other from below x ne = grind (arith, nat_tests)
 
--- a list that grows by one number more
-pub grows_less : (C : Children) (path xs : List ℕ) (x : ℕ) → Grows C path (xs ++ x ∷ []) → Grows C path xs × C (path ++ xs) x
-grows_less C path [] x g = (tt, subst (λ p. C p x) (sym (append_nil path)) g.0)
-grows_less C path (y ∷ xs) x g = let r = grows_less C (path ++ y ∷ []) xs x g.1 in ((g.0, r.0), subst (λ p. C p x) (append_one path xs y) r.1)
-
 pub grows_more : (C : Children) (path xs : List ℕ) (x : ℕ) → Grows C path xs → C (path ++ xs) x → Grows C path (xs ++ x ∷ [])
 grows_more C path [] x g c = (subst (λ p. C p x) (append_nil path) c, tt)
 grows_more C path (y ∷ xs) x g c = (g.0, grows_more C (path ++ y ∷ []) xs x g.1 (subst (λ p. C p x) (sym (append_one path xs y)) c))

@@ -10,3 +10,4 @@ pub mod Placed
 pub mod Judged
 pub mod Answers
 pub mod Passing
+pub mod PlanByPlan

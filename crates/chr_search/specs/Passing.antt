@@ -1,14 +1,28 @@
 -- Searches that pass over trials.
-use Rattle.std.specs.Prelude.{◌≡◌, ◌≢◌, ℕ, zero, suc, ◌+◌, ◌≤◌, List, [], ◌∷◌, ◌++◌, map, length, take, Option, Some}
+use Rattle.std.specs.Prelude.{◌≡◌, ◌≢◌, ℕ, zero, suc, ◌+◌, ◌<◌, ◌≤◌, ◌↔◌, IsTrue, Bool, true, false, List, [], ◌∷◌, ◌++◌, map, length, take, Option, Some, IfSome, slice_get}
 use Rattle.std.specs.List.{AllByRecursion}
 use Rattle.chr_value.specs.Atoms.{Value}
 use Rattle.chr_value.specs.Stores.{atom_at}
+use Rattle.chr_rule.specs.Parts.{shape}
+use Rattle.chr_rule.specs.Rules.{head_at}
+use Rattle.chr_plan.specs.declared.order.Step.{Step}
 use Rattle.chr_search.specs.declared.judged.Verdict.{Verdict}
 use Rattle.chr_search.specs.declared.judged.Verdict.TheVariants.{Misfit, Part, Whole}
-use Rattle.chr_search.specs.Tree.{Grows, LeastFrom}
-use Rattle.chr_search.specs.Trials.{Join, MayFollow, Space, IsNext}
-use Rattle.chr_search.specs.Partners.{IsReady}
-use Rattle.chr_search.specs.Verdicts.{Trial, labels, heads, position, IsFormed, IsTrialOf}
+use Rattle.chr_search.specs.declared.passing.End.{End}
+use Rattle.chr_search.specs.declared.passing.End.TheVariants as ends
+use Rattle.chr_search.specs.declared.passing.Level.{Level as CodeLevel}
+use Rattle.chr_search.specs.declared.passing.Next.{Next}
+use Rattle.chr_search.specs.declared.passing.Next.TheVariants as nexts
+use Rattle.chr_search.specs.declared.passing.Stop.{Stop}
+use Rattle.chr_search.specs.declared.passing.Stop.TheVariants as stops
+use Rattle.chr_search.specs.declared.search.Whole.{Whole as CodeWhole}
+use Rattle.chr_search.specs.declared.search.Then.{Then as CodeThen}
+use Rattle.chr_search.specs.declared.search.Then.TheVariants as thens
+use Rattle.chr_search.specs.Positions.{at_or_after, past}
+use Rattle.chr_search.specs.Tree.{Grows, Beyond, Least, NoneBeyond, LeastFrom, NoneFrom}
+use Rattle.chr_search.specs.Trials.{Join, MayFollow, Space, IsNext, NoneLeft}
+use Rattle.chr_search.specs.Partners.{IsReady, GivePartners}
+use Rattle.chr_search.specs.Verdicts.{Trial, labels, heads, position, kept_labels, removed_labels, IsFormed, IsTrialOf, IsWholeUnder}
 use Rattle.chr_search.specs.Judged.{Judgement, IsVerdict}
 use Rattle.chr_search.specs.Answers.{after_verdict, after_judging}
 
@@ -28,35 +42,11 @@ HasTrials j = (ls : List ℕ) → 1 ≤ length ls → Grows (MayFollow j) [] ls 
 abbrev pub AreJudged : Join → List ℕ → Verdict → Type 0
 AreJudged j ls verdict = (t : Trial) → IsTrialIn j ls t → IsVerdict t verdict
 
--- the same, with the binding of a part
-abbrev pub IsBeside : Join → List ℕ → Verdict → List (Option (Value ℕ)) → Type 0
-IsBeside j ls Misfit binding = AreJudged j ls Misfit
-IsBeside j ls Part binding = AreJudged j ls Part × IsReady j ls binding
-IsBeside j ls Whole binding = AreJudged j ls Whole
-
 -- So many trials of these labels and one more, that one from a label on, one after another: misfits. The next one is looked
 -- for from another label on.
 abbrev pub AreMisfits : Join → List ℕ → ℕ → ℕ → ℕ → Type 0
 AreMisfits j ls zero from next = next ≡ from
 AreMisfits j ls (suc n) from next = (middle x : ℕ) × AreMisfits j ls n from middle × LeastFrom (MayFollow j ls) middle x × AreJudged j (ls ++ x ∷ []) Misfit × (next ≡ x + 1)
-
--- a trial of labels that isn't whole, and then so many misfits beside or below it
-pub record FollowedBy (j : Join) (n : ℕ) (old new : List ℕ) : Type 0 where
-  pub verdict : Verdict
-  pub right : AreJudged j old verdict
-  pub other : verdict ≢ Whole
-  pub front : List ℕ
-  pub grows : Grows (MayFollow j) [] front
-  pub from : ℕ
-  pub on : after_verdict verdict old ≡ front ++ from ∷ []
-  pub next : ℕ
-  pub misfits : AreMisfits j front n from next
-  pub is : new ≡ front ++ next ∷ []
-
--- so many trials from the labels' own on, where it is any
-abbrev pub PassesFrom : Join → ℕ → List ℕ → List ℕ → Type 0
-PassesFrom j zero old new = Unit {0}
-PassesFrom j (suc n) old new = FollowedBy j n old new
 
 -- The trial that comes next at a place is judged and isn't whole, and the search goes on after it.
 pub record PassesOne (s : Space) (place after : List ℕ) : Type 0 where
@@ -72,3 +62,108 @@ pub record PassesOne (s : Space) (place after : List ℕ) : Type 0 where
 abbrev pub Passes : Space → ℕ → List ℕ → List ℕ → Type 0
 Passes s zero place after = after ≡ place
 Passes s (suc n) place after = (middle : List ℕ) × PassesOne s place middle × Passes s n middle after
+
+-- Of a join: the least trial at or after these labels is judged and isn't whole, and the others come after it.
+pub record PassesOneIn (j : Join) (place after : List ℕ) : Type 0 where
+  pub trial : List ℕ
+  pub least : Least (MayFollow j) 1 [] place trial
+  pub verdict : Verdict
+  pub right : AreJudged j trial verdict
+  pub other : verdict ≢ Whole
+  pub on : after ≡ after_verdict verdict trial
+
+-- so many of them, one after another
+abbrev pub PassesIn : Join → ℕ → List ℕ → List ℕ → Type 0
+PassesIn j zero place after = after ≡ place
+PassesIn j (suc n) place after = (middle : List ℕ) × PassesOneIn j place middle × PassesIn j n middle after
+
+-- the trial of these labels is whole, under this binding
+abbrev pub AreWhole : Join → List ℕ → List (Option (Value ℕ)) → Type 0
+AreWhole j ls binding = (t : Trial) → IsTrialIn j ls t → IsWholeUnder t binding
+
+-- why no more trials of a join are passed over at a place: the least one is whole, with these labels and this binding; none is
+-- left; or as many were passed over as were asked for
+abbrev pub EndsIn : Join → List ℕ → End → List ℕ → List (Option (Value ℕ)) → Type 0
+EndsIn j place ends.Whole ls binding = Least (MayFollow j) 1 [] place ls × AreWhole j ls binding
+EndsIn j place ends.NoneLeft ls binding = NoneBeyond (MayFollow j) 1 [] place
+EndsIn j place ends.Enough ls binding = Unit {0}
+
+-- what the trials of these labels and one more have in common: the binding of the labels, the next head, whether it is the
+-- rule's last, and perhaps the labels among which the next one is
+pub record IsLevel {Z : Type 0} (j : Join) (ls : List ℕ) (level : CodeLevel Z) : Type 0 where
+  pub ready : IsReady j ls level.binding.now
+  pub step : Step
+  pub step_is : slice_get j.order (length ls) ≡ Some step
+  pub head_is : head_at j.rule step.head ≡ Some (shape level.head.now)
+  pub last : IsTrue level.is_last ↔ (length j.rule.kept + length j.rule.removed ≤ length ls + 1)
+  pub partners : IfSome level.partners (GivePartners j ls)
+
+-- where the answer is yes the label may be tried after these and this binds them all, and where it is no it may not, or none
+-- may be tried after it
+abbrev pub IsNarrowedIf : Join → List ℕ → ℕ → Bool → List (Option (Value ℕ)) → Type 0
+IsNarrowedIf j ls l true binding = MayFollow j ls l × IsReady j (ls ++ l ∷ []) binding
+IsNarrowedIf j ls l false binding = MayFollow j ls l → (x : ℕ) → MayFollow j (ls ++ l ∷ []) x → ⊥
+
+-- the trial of these labels has this verdict, with the binding of a part, or that under which it is whole
+abbrev pub IsTried : Join → List ℕ → Verdict → List (Option (Value ℕ)) → Type 0
+IsTried j ls Misfit binding = AreJudged j ls Misfit
+IsTried j ls Part binding = AreJudged j ls Part × IsReady j ls binding
+IsTried j ls Whole binding = AreWhole j ls binding
+
+-- what comes after n misfits, where from one label on the next is looked for: a part or a whole trial, while they are fewer
+-- than were asked for; none; or perhaps more
+abbrev pub ComesNext : Join → List ℕ → ℕ → ℕ → ℕ → Next → List (Option (Value ℕ)) → Type 0
+ComesNext j ls n most from (nexts.Part x) binding = (n < most) × LeastFrom (MayFollow j ls) from x × IsTried j (ls ++ x ∷ []) Part binding
+ComesNext j ls n most from (nexts.Whole x) binding = (n < most) × LeastFrom (MayFollow j ls) from x × IsTried j (ls ++ x ∷ []) Whole binding
+ComesNext j ls n most from nexts.NoneLeft binding = NoneFrom (MayFollow j ls) from
+ComesNext j ls n most from nexts.Enough binding = Unit {0}
+
+-- where a search goes on after n misfits of these labels and one more
+abbrev pub settled : ℕ → List ℕ → ℕ → List ℕ → List ℕ
+settled zero ls next place = place
+settled (suc n) ls next place = ls ++ next ∷ []
+
+-- A place below labels: these and a rest. What comes there below them goes on with a number from one on.
+pub record IsBelow (j : Join) (ls place : List ℕ) (from : ℕ) : Type 0 where
+  pub grows : Grows (MayFollow j) [] ls
+  pub rest : List ℕ
+  pub is : place ≡ ls ++ rest
+  pub into : (other : List ℕ) → Beyond (MayFollow j) 1 ls rest other → at_or_after (from ∷ []) other ≡ true
+  pub back : (other : List ℕ) → at_or_after (from ∷ []) other ≡ true → at_or_after rest other ≡ true
+
+-- a place below labels where none is left below them
+pub record IsDone (j : Join) (ls place : List ℕ) : Type 0 where
+  pub rest : List ℕ
+  pub is : place ≡ ls ++ rest
+  pub none : NoneBeyond (MayFollow j) 1 ls rest
+
+-- why no more trials are passed over at a place below labels: as in EndsIn, but perhaps none is left only below these
+abbrev pub EndsBelow : Join → List ℕ → List ℕ → End → List ℕ → List (Option (Value ℕ)) → Type 0
+EndsBelow j path place ends.Whole ls binding = Least (MayFollow j) 1 [] place ls × AreWhole j ls binding
+EndsBelow j path place ends.NoneLeft ls binding = (ls ≡ path) × IsDone j path place
+EndsBelow j path place ends.Enough ls binding = Unit {0}
+
+-- the same, or else the last one is a part, with a label from one on, and the place is just after it
+abbrev pub StopsAt : Join → List ℕ → ℕ → Stop → List ℕ → List ℕ → List (Option (Value ℕ)) → Type 0
+StopsAt j path from (stops.Part x) place ls binding =
+    (ls ≡ path ++ x ∷ []) × (place ≡ ls ++ 0 ∷ []) × (from ≤ x) × MayFollow j path x × IsReady j (path ++ x ∷ []) binding
+StopsAt j path from (stops.End end) place ls binding = EndsBelow j path place end ls binding
+
+-- what was found is the next trial at a place, and it is whole
+pub record IsWholeNext {Z : Type 0} (s : Space) (place : List ℕ) (w : CodeWhole Z) : Type 0 where
+  pub trial : Trial
+  pub next : IsNext s place (position trial)
+  pub is : IsTrialOf s.rules s.plans s.store trial
+  pub formed : IsFormed trial
+  pub under : IsWholeUnder trial w.binding
+  pub rule_is : w.rule.now ≡ trial.rule
+  pub number_is : w.number ≡ trial.number
+  pub kept_are : w.kept.items ≡ kept_labels trial
+  pub removed_are : w.removed.items ≡ removed_labels trial
+  pub past_is : w.past ≡ record { label = s.active; place = past (position trial) }
+
+-- what comes at a place once trials were passed over: one that is whole; none; or perhaps more
+abbrev pub IsThen : {Z : Type 0} → Space → List ℕ → CodeThen Z → Type 0
+IsThen s place (thens.Whole w) = IsWholeNext s place w
+IsThen s place thens.Done = NoneLeft s place
+IsThen s place thens.More = Unit {0}

@@ -122,7 +122,12 @@ impl<'s, A: Allocator + Copy> Join<'s, A> {
     }
 
     /// The least label from one on that may be tried after these labels.
-    fn next_partner(&self, labels: &[Label], binding: &Binding<'s>, from: Label) -> Option<Label>
+    pub(crate) fn next_partner(
+        &self,
+        labels: &[Label],
+        binding: &Binding<'s>,
+        from: Label,
+    ) -> Option<Label>
         requires some { 1 ≤ length labels.now }
         requires plan { HasPlan (join_of self.now) }
         requires ready { IsReady (join_of self.now) labels.now binding.now }
@@ -198,7 +203,7 @@ impl<'s, A: Allocator + Copy> Join<'s, A> {
     }
 
     /// Whether the active label is live and its atom has the predicate of the plan's first head.
-    fn begins(&self) -> bool
+    pub(crate) fn begins(&self) -> bool
         requires { HasPlan (join_of self.now) }
         ensures { IsTrue result ↔ MayFollow (join_of self.now) [] self.now.active }
     {

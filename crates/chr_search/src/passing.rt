@@ -1,68 +1,239 @@
 //! Trials in the store that are judged without being made.
-ghost use Rattle.std.specs.Prelude.{◌≡◌, ◌≤◌, ◌∷◌, ◌++◌, [], false, length, MatchOption};
+ghost use Rattle.std.specs.Prelude.{◌≡◌, ◌↔◌, ◌==◌, ◌≤◌, ◌<◌, ◌∷◌, ◌++◌, [], ℕ, false, length, take, MatchOption, IsTrue};
+ghost use Rattle.std.specs.List.{list_any};
 ghost use Rattle.chr_guard.specs.Matching.{IsFit};
 ghost use Rattle.chr_search.specs.Joined.{join_of};
-ghost use Rattle.chr_search.specs.Partners.{HasPlan, IsReady};
-ghost use Rattle.chr_search.specs.Passing.{IsTrialIn, HasTrials, IsBeside, AreMisfits, PassesFrom};
+ghost use Rattle.chr_search.specs.Partners.{HasPlan, IsReady, IsPartnerFrom};
+ghost use Rattle.chr_search.specs.Passing.{IsTrialIn, HasTrials, AreMisfits, PassesIn, EndsIn, IsLevel, IsNarrowedIf, IsTried, ComesNext, settled, IsBelow, EndsBelow, StopsAt};
 ghost use Rattle.chr_search.specs.Tree.{Grows};
-ghost use Rattle.chr_search.specs.Trials.{Fit, MayFollow};
+ghost use Rattle.chr_search.specs.Trials.{Fit, IsInTurn, MayFollow};
 ghost use Rattle.chr_search.specs.Verdicts.{Trial};
 
 use crate::join::Join;
 use crate::judged::Verdict;
 use chr_guard::binding::Binding;
 use chr_guard::instance::becomes_instance;
-use chr_log::events::Labels;
-use chr_store::store::Label;
+use chr_guard::matching::fit_head;
+use chr_log::events::{Labels, copy_labels};
+use chr_rule::rule_atom::RuleAtom;
+use chr_store::store::{Label, Matches};
 use std::alloc::Allocator;
 
-/// Misfits that were passed over.
+/// Why no more trials of a plan are passed over.
+#[derive(Clone, Copy, Debug, PartialEq, Eq)]
+pub(crate) enum End {
+    /// The next one is whole.
+    Whole,
+    /// None is left.
+    NoneLeft,
+    /// They are as many as were asked for.
+    Enough,
+}
+
+/// How many trials of a plan were passed over, and why no more.
+#[derive(Clone, Copy, Debug)]
+pub(crate) struct Passed {
+    pub(crate) count: u64,
+    pub(crate) end: End,
+}
+
+/// The labels of a trial that is whole, and what its variables are bound to. While trials are gone over, its labels are
+/// those before the last.
 #[derive(Drop)]
-struct Misfits {
+pub(crate) struct Instance<'s> {
+    pub(crate) labels: Labels,
+    pub(crate) binding: Binding<'s>,
+}
+
+/// Bindings for a search's own use: one costs more to make than to set.
+#[derive(Drop)]
+pub(crate) struct Spare<'s> {
+    pub(crate) free: Binding<'s>,
+    pub(crate) narrowed: Binding<'s>,
+}
+
+/// Where the labels of trials are looked for that have the same labels but the last.
+#[derive(Drop)]
+struct Level<'l, 's, A: Allocator> {
+    /// What the labels before the last bind.
+    binding: &'l Binding<'s>,
+    /// The head of the last label.
+    head: &'s RuleAtom,
+    /// Whether no head is left then.
+    is_last: bool,
+    /// The labels among which it is. None where the store has no index for them, or it is the active one.
+    partners: Option<Matches<'s, A>>,
+}
+
+/// What comes after misfits.
+#[derive(Drop)]
+enum Next {
+    /// A part, with this last label.
+    Part(Label),
+    /// A whole trial, with this last label.
+    Whole(Label),
+    /// No trial.
+    NoneLeft,
+    /// Perhaps more: they are as many as were asked for.
+    Enough,
+}
+
+/// Misfits that were passed over, and what comes then.
+#[derive(Drop)]
+struct Run {
     count: u64,
     /// The label from which the next one is looked for.
     next: Label,
-    /// Whether the next one was found to be whole.
-    is_whole: bool,
+    then: Next,
+}
+
+/// What a run of trials ends with.
+#[derive(Drop)]
+enum Stop {
+    /// A part, with this last label.
+    Part(Label),
+    /// Anything else.
+    End(End),
+}
+
+/// Misfits that were passed over, and a part after them.
+#[derive(Drop)]
+struct Stopped {
+    count: u64,
+    stop: Stop,
+}
+
+/// Whether a label is one of these. They are few, so that a plain loop is the fastest.
+#[inline]
+fn is_among(labels: &[Label], label: Label) -> bool
+    ensures { result ≡ list_any (λ other. other == label) labels.now }
+{
+    labels.iter().any(|other| *other == label)
+}
+
+/// Puts a label at a depth of a place, as its last.
+fn put_at(place: &mut Labels, depth: usize, label: Label)
+    requires { depth < 6 }
+    ensures { place.new.items ≡ take depth place.old.items ++ label ∷ [] }
+{
+    if place.len() == depth + 1 {
+        place[depth] = label;
+        return;
+    }
+    place.truncate(depth);
+    place.push(label);
+}
+
+/// Moves a place behind misfits, where there were any.
+fn settle(place: &mut Labels, depth: usize, count: u64, next: Label)
+    requires { 1 ≤ count → depth < 6 }
+    ensures { place.new.items ≡ settled count (take depth place.old.items) next place.old.items }
+{
+    if count > 0 {
+        put_at(place, depth, next);
+    }
 }
 
 impl<'s, A: Allocator + Copy> Join<'s, A> {
-    /// The one binding under which the heads of the plan's steps are the labels' atoms. None where there is none.
-    fn fit_labels(&self, labels: &[Label]) -> Option<Binding<'s>>
-        ensures { let j = join_of self.now in MatchOption result ((v : _) → Fit j v j.order labels.now → ⊥) (IsFit j.rule (λ v. Fit j v j.order labels.now)) }
+    /// The least label from one on that may be tried after these labels.
+    fn next_child(&self, labels: &[Label], binding: &Binding<'s>, from: Label) -> Option<Label>
+        requires begins { MayFollow (join_of self.now) [] self.now.active }
+        requires plan { HasPlan (join_of self.now) }
+        requires ready { IsReady (join_of self.now) labels.now binding.now }
+        ensures { IsPartnerFrom (join_of self.now) labels.now from result }
     {
-        let mut binding = Binding::free(self.rule.variables());
-        for (i, label) in labels.iter().enumerate() {
-            let step = self.order.get(i)?;
-            binding = self.fit_label(&binding, *step, *label)?;
+        if !labels.is_empty() {
+            return self.next_partner(labels, binding, from);
         }
-        Some(binding)
+        if self.active < from {
+            return None;
+        }
+        Some(self.active)
     }
 
-    /// How the trial of these labels and one more is judged, whose atoms the store has. For a part the last binding becomes
-    /// its own.
-    fn fit_beside(
+    /// Whether a label may come after these as to its age: the active one first, and then those that are older.
+    fn is_in_turn(&self, labels: &[Label], label: Label) -> bool
+        ensures { IsTrue result ↔ IsInTurn (join_of self.now) labels.now label }
+    {
+        if labels.is_empty() {
+            label == self.active
+        } else {
+            label < self.active
+        }
+    }
+
+    /// Extends the binding of these labels by one more. False where that may not be tried after them, or none after it.
+    fn narrow_by(&self, labels: &[Label], narrowed: &mut Binding<'s>, label: Label) -> bool
+        requires plan { HasPlan (join_of self.now) }
+        requires ready { IsReady (join_of self.now) labels.now narrowed.old }
+        ensures { IsNarrowedIf (join_of self.now) labels.now label result narrowed.new }
+    {
+        if !self.is_in_turn(labels, label) {
+            return false;
+        }
+        if is_among(labels, label) {
+            return false;
+        }
+        let Some(step) = self.order.get(labels.len()) else {
+            return false;
+        };
+        self.fit_at(narrowed, *step, label)
+    }
+
+    /// What the trials of these labels and one more have in common. None where no label may be tried after these.
+    fn level<'l>(&self, labels: &[Label], binding: &'l Binding<'s>) -> Option<Level<'l, 's, A>>
+        requires plan { HasPlan (join_of self.now) }
+        requires ready { IsReady (join_of self.now) labels.now binding.now }
+        ensures { MatchOption result ((x : ℕ) → MayFollow (join_of self.now) labels.now x → ⊥) (IsLevel (join_of self.now) labels.now) }
+    {
+        let step = self.order.get(labels.len())?;
+        let head = self.rule.head(usize::from(step.head))?;
+        Some(Level {
+            binding,
+            head,
+            is_last: self.rule.heads() <= labels.len() + 1,
+            partners: self.partners(labels, binding),
+        })
+    }
+
+    /// The least label from one on at a level.
+    fn next_at(&self, level: &mut Level<'_, 's, A>, labels: &[Label], from: Label) -> Option<Label>
+        requires begins { MayFollow (join_of self.now) [] self.now.active }
+        requires plan { HasPlan (join_of self.now) }
+        requires level { IsLevel (join_of self.now) labels.now level.old }
+        ensures least { IsPartnerFrom (join_of self.now) labels.now from result }
+        ensures same { level.new ≡ level.old }
+    {
+        match &mut level.partners {
+            Some(partners) => partners.next_at(from.saturating_sub(1), self.active),
+            None => self.next_child(labels, level.binding, from),
+        }
+    }
+
+    /// How the trial of these labels and one more is judged. For a part `narrowed` becomes its own binding, and for a
+    /// whole trial that of all variables.
+    fn judge_at(
         &self,
+        level: &Level<'_, 's, A>,
         labels: &[Label],
-        binding: &Binding<'s>,
         label: Label,
         narrowed: &mut Binding<'s>,
     ) -> Verdict
-        requires ready { IsReady (join_of self.now) labels.now binding.now }
+        requires level { IsLevel (join_of self.now) labels.now level.now }
         requires trial { (t : Trial) × IsTrialIn (join_of self.now) (labels.now ++ label ∷ []) t }
-        ensures { IsBeside (join_of self.now) (labels.now ++ label ∷ []) result narrowed.new }
+        ensures { IsTried (join_of self.now) (labels.now ++ label ∷ []) result narrowed.new }
     {
-        if labels.contains(&label) {
+        if is_among(labels, label) {
             return Verdict::Misfit;
         }
-        let Some(step) = self.order.get(labels.len()) else {
+        let Some(atom) = self.store.get(label) else {
             return Verdict::Misfit;
         };
-        narrowed.set_to(binding);
-        if !self.fit_at(narrowed, *step, label) {
+        narrowed.set_to(level.binding);
+        if !fit_head(narrowed, level.head, atom) {
             return Verdict::Misfit;
         }
-        if labels.len() + 1 < self.rule.heads() {
+        if !level.is_last {
             return Verdict::Part;
         }
         if becomes_instance(self.rule, narrowed) {
@@ -71,79 +242,293 @@ impl<'s, A: Allocator + Copy> Join<'s, A> {
         Verdict::Misfit
     }
 
-    /// Passes over the trials of these labels and one more from one on, up to one that is no misfit, at most so many.
-    fn pass_misfits(
+    /// Passes over the misfits of a level from a label on, at most so many. The binding of the instance becomes that of the
+    /// part or the whole trial that comes next.
+    fn pass_run(
         &self,
-        labels: &[Label],
+        level: &mut Level<'_, 's, A>,
+        from: Label,
+        most: u64,
+        instance: &mut Instance<'s>,
+    ) -> Run
+        requires begins { MayFollow (join_of self.now) [] self.now.active }
+        requires plan { HasPlan (join_of self.now) }
+        requires trials { HasTrials (join_of self.now) }
+        requires grows { Grows (MayFollow (join_of self.now)) [] instance.old.labels.items }
+        requires level { IsLevel (join_of self.now) instance.old.labels.items level.old }
+        ensures few { result.count ≤ most }
+        ensures misfits { AreMisfits (join_of self.now) instance.old.labels.items result.count from result.next }
+        ensures then { ComesNext (join_of self.now) instance.old.labels.items result.count most result.next result.then instance.new.binding }
+        ensures labels { instance.new.labels ≡ instance.old.labels }
+        ensures same { level.new ≡ level.old }
+    {
+        let labels = instance.labels.as_slice();
+        let mut count = 0;
+        let mut next = from;
+        while count < most {
+            let Some(label) = self.next_at(level, labels, next) else {
+                let then = Next::NoneLeft;
+                return Run { count, next, then };
+            };
+            match self.judge_at(level, labels, label, &mut instance.binding) {
+                Verdict::Misfit => {}
+                Verdict::Part => {
+                    let then = Next::Part(label);
+                    return Run { count, next, then };
+                }
+                Verdict::Whole => {
+                    let then = Next::Whole(label);
+                    return Run { count, next, then };
+                }
+            }
+            next = label + 1;
+            count += 1;
+        }
+        let then = Next::Enough;
+        Run { count, next, then }
+    }
+
+    /// Passes over the misfits of a level from a label on, and over a part after them, at most so many in all. The labels
+    /// of the instance become those of the part.
+    fn pass_level(
+        &self,
+        level: &mut Level<'_, 's, A>,
+        from: Label,
+        most: u64,
+        place: &mut Labels,
+        instance: &mut Instance<'s>,
+    ) -> Stopped
+        requires begins { MayFollow (join_of self.now) [] self.now.active }
+        requires plan { HasPlan (join_of self.now) }
+        requires trials { HasTrials (join_of self.now) }
+        requires level { IsLevel (join_of self.now) instance.old.labels.items level.old }
+        requires below { IsBelow (join_of self.now) instance.old.labels.items place.old.items from }
+        ensures few { result.count ≤ most }
+        ensures passes { PassesIn (join_of self.now) result.count place.old.items place.new.items }
+        ensures stops { StopsAt (join_of self.now) instance.old.labels.items from result.stop place.new.items instance.new.labels.items instance.new.binding }
+        ensures same { level.new ≡ level.old }
+    {
+        let run = self.pass_run(level, from, most, instance);
+        let depth = instance.labels.len();
+        settle(place, depth, run.count, run.next);
+        let (count, stop) = match run.then {
+            Next::Part(label) => {
+                instance.labels.push(label);
+                put_at(place, depth, label);
+                place.push(0);
+                (run.count + 1, Stop::Part(label))
+            }
+            Next::Whole(label) => {
+                instance.labels.push(label);
+                (run.count, Stop::End(End::Whole))
+            }
+            Next::NoneLeft => (run.count, Stop::End(End::NoneLeft)),
+            Next::Enough => (run.count, Stop::End(End::Enough)),
+        };
+        Stopped { count, stop }
+    }
+
+    /// Passes over the trials of the instance's labels and a last one, at most so many.
+    fn pass_last(
+        &self,
+        binding: &Binding<'s>,
+        most: u64,
+        place: &mut Labels,
+        instance: &mut Instance<'s>,
+    ) -> Passed
+        requires begins { MayFollow (join_of self.now) [] self.now.active }
+        requires plan { HasPlan (join_of self.now) }
+        requires trials { HasTrials (join_of self.now) }
+        requires ready { IsReady (join_of self.now) instance.old.labels.items binding.now }
+        requires below { IsBelow (join_of self.now) instance.old.labels.items place.old.items 0 }
+        ensures few { result.count ≤ most }
+        ensures passes { PassesIn (join_of self.now) result.count place.old.items place.new.items }
+        ensures ends { EndsBelow (join_of self.now) instance.old.labels.items place.new.items result.end instance.new.labels.items instance.new.binding }
+    {
+        let Some(mut level) = self.level(instance.labels.as_slice(), binding) else {
+            return Passed {
+                count: 0,
+                end: End::NoneLeft,
+            };
+        };
+        let passed = self.pass_level(&mut level, 0, most, place, instance);
+        match passed.stop {
+            // (never: where no head is left, no trial is a part)
+            Stop::Part(_) => Passed {
+                count: passed.count,
+                end: End::Enough,
+            },
+            Stop::End(end) => Passed {
+                count: passed.count,
+                end,
+            },
+        }
+    }
+
+    /// Passes over the trials of the instance's labels and more from one on, at most so many. `narrowed` is for its own use.
+    #[cycle(below)]
+    fn pass_below(
+        &self,
         binding: &Binding<'s>,
         from: Label,
         most: u64,
-    ) -> Misfits
+        narrowed: &mut Binding<'s>,
+        place: &mut Labels,
+        instance: &mut Instance<'s>,
+    ) -> Passed
+        requires begins { MayFollow (join_of self.now) [] self.now.active }
         requires plan { HasPlan (join_of self.now) }
-        requires ready { IsReady (join_of self.now) labels.now binding.now }
-        requires grows { Grows (MayFollow (join_of self.now)) [] labels.now }
         requires trials { HasTrials (join_of self.now) }
+        requires ready { IsReady (join_of self.now) instance.old.labels.items binding.now }
+        requires below { IsBelow (join_of self.now) instance.old.labels.items place.old.items from }
         ensures few { result.count ≤ most }
-        ensures misfits { AreMisfits (join_of self.now) labels.now result.count from result.next }
+        ensures passes { PassesIn (join_of self.now) result.count place.old.items place.new.items }
+        ensures ends { EndsBelow (join_of self.now) instance.old.labels.items place.new.items result.end instance.new.labels.items instance.new.binding }
     {
-        let mut misfits = Misfits {
-            count: 0,
-            next: from,
-            is_whole: false,
-        };
-        let Some(mut partners) = self.partners(labels, binding) else {
-            return misfits;
-        };
-        let mut narrowed = binding.copy();
-        while misfits.count < most {
-            let after = misfits.next.saturating_sub(1);
-            let Some(label) = partners.next_at(after, self.active) else {
-                break;
+        let Some(mut level) = self.level(instance.labels.as_slice(), binding) else {
+            return Passed {
+                count: 0,
+                end: End::NoneLeft,
             };
-            match self.fit_beside(labels, binding, label, &mut narrowed) {
-                Verdict::Misfit => {}
-                Verdict::Part => break,
-                Verdict::Whole => {
-                    misfits.is_whole = true;
-                    break;
-                }
+        };
+        let first = self.pass_level(&mut level, from, most, place, instance);
+        let mut count = first.count;
+        let mut label = match first.stop {
+            Stop::Part(label) => label,
+            Stop::End(end) => return Passed { count, end },
+        };
+        loop {
+            narrowed.set_to(&instance.binding);
+            let below = self.pass_deeper(narrowed, most - count, place, instance);
+            count += below.count;
+            if below.end != End::NoneLeft {
+                return Passed {
+                    count,
+                    end: below.end,
+                };
             }
-            misfits.next = label + 1;
-            misfits.count += 1;
+            instance.labels.pop();
+            let beside = self.pass_level(&mut level, label + 1, most - count, place, instance);
+            count += beside.count;
+            label = match beside.stop {
+                Stop::Part(label) => label,
+                Stop::End(end) => return Passed { count, end },
+            };
         }
-        misfits
     }
 
-    /// Passes over the trial of these labels, unless it is whole, and then over misfits beside or below it, at most so
-    /// many in all. The labels become those at which the search goes on. How many, and whether to stop.
-    pub(crate) fn pass_from(&self, labels: &mut Labels, most: u64) -> (u64, bool)
-        requires most { 1 ≤ most }
+    /// Passes over the trials of the instance's labels and more, at most so many, with a binding of its own for those that
+    /// are parts.
+    #[cycle(below)]
+    fn pass_deeper(
+        &self,
+        binding: &Binding<'s>,
+        most: u64,
+        place: &mut Labels,
+        instance: &mut Instance<'s>,
+    ) -> Passed
+        requires begins { MayFollow (join_of self.now) [] self.now.active }
         requires plan { HasPlan (join_of self.now) }
-        requires some { 1 ≤ length labels.old.items }
-        requires grows { Grows (MayFollow (join_of self.now)) [] labels.old.items }
         requires trials { HasTrials (join_of self.now) }
-        ensures few { result.0 ≤ most }
-        ensures ends { result.1 ≡ false → 1 ≤ result.0 }
-        ensures passed { PassesFrom (join_of self.now) result.0 labels.old.items labels.new.items }
+        requires ready { IsReady (join_of self.now) instance.old.labels.items binding.now }
+        requires below { IsBelow (join_of self.now) instance.old.labels.items place.old.items 0 }
+        ensures few { result.count ≤ most }
+        ensures passes { PassesIn (join_of self.now) result.count place.old.items place.new.items }
+        ensures ends { EndsBelow (join_of self.now) instance.old.labels.items place.new.items result.end instance.new.labels.items instance.new.binding }
     {
-        let Some(label) = labels.pop() else {
-            unreachable!();
+        if self.rule.heads() <= instance.labels.len() + 1 {
+            return self.pass_last(binding, most, place, instance);
+        }
+        let mut narrowed = Binding::free(0);
+        self.pass_below(binding, 0, most, &mut narrowed, place, instance)
+    }
+
+    /// Passes over the trials of the instance's labels and more at or after a place, at most so many. `narrowed` is for its
+    /// own use.
+    fn pass_on(
+        &self,
+        binding: &Binding<'s>,
+        rest: &[Label],
+        most: u64,
+        narrowed: &mut Binding<'s>,
+        place: &mut Labels,
+        instance: &mut Instance<'s>,
+    ) -> Passed
+        requires begins { MayFollow (join_of self.now) [] self.now.active }
+        requires plan { HasPlan (join_of self.now) }
+        requires trials { HasTrials (join_of self.now) }
+        requires ready { IsReady (join_of self.now) instance.old.labels.items binding.now }
+        requires grows { Grows (MayFollow (join_of self.now)) [] instance.old.labels.items }
+        requires first { rest.now ≡ [] → instance.old.labels.items ≡ [] }
+        requires place { place.old.items ≡ instance.old.labels.items ++ rest.now }
+        ensures few { result.count ≤ most }
+        ensures passes { PassesIn (join_of self.now) result.count place.old.items place.new.items }
+        ensures ends { EndsBelow (join_of self.now) instance.old.labels.items place.new.items result.end instance.new.labels.items instance.new.binding }
+    {
+        let Some((first, below)) = rest.split_first() else {
+            return self.pass_below(binding, 0, most, narrowed, place, instance);
         };
-        let Some(binding) = self.fit_labels(labels.as_slice()) else {
-            unreachable!();
-        };
-        let mut narrowed = binding.copy();
-        let misfits = match self.fit_beside(labels.as_slice(), &binding, label, &mut narrowed) {
-            Verdict::Whole => return (0, true),
-            Verdict::Misfit => {
-                self.pass_misfits(labels.as_slice(), &binding, label + 1, most - 1)
-            }
-            Verdict::Part => {
-                labels.push(label);
-                self.pass_misfits(labels.as_slice(), &narrowed, 0, most - 1)
-            }
-        };
-        labels.push(misfits.next);
-        (misfits.count + 1, misfits.is_whole)
+        if below.is_empty() {
+            return self.pass_below(binding, *first, most, narrowed, place, instance);
+        }
+        if *first > self.active {
+            return Passed {
+                count: 0,
+                end: End::NoneLeft,
+            };
+        }
+        let from = *first + 1;
+        let mut next = binding.copy();
+        if !self.narrow_by(instance.labels.as_slice(), &mut next, *first) {
+            return self.pass_below(binding, from, most, narrowed, place, instance);
+        }
+        instance.labels.push(*first);
+        let passed = self.pass_on(&next, below, most, narrowed, place, instance);
+        if passed.end != End::NoneLeft {
+            return passed;
+        }
+        instance.labels.pop();
+        let more = self.pass_below(
+            binding,
+            from,
+            most - passed.count,
+            narrowed,
+            place,
+            instance,
+        );
+        Passed {
+            count: passed.count + more.count,
+            end: more.end,
+        }
+    }
+
+    /// Passes over the trials at or after a place up to one that is whole, at most so many. The place becomes that at which
+    /// the search goes on; where it ends before a trial that is whole, `instance` becomes that one. `spare` is for its own
+    /// use.
+    pub(crate) fn pass(
+        &self,
+        place: &mut Labels,
+        most: u64,
+        spare: &mut Spare<'s>,
+        instance: &mut Instance<'s>,
+    ) -> Passed
+        requires begins { MayFollow (join_of self.now) [] self.now.active }
+        requires plan { HasPlan (join_of self.now) }
+        requires trials { HasTrials (join_of self.now) }
+        ensures few { result.count ≤ most }
+        ensures passes { PassesIn (join_of self.now) result.count place.old.items place.new.items }
+        ensures ends { EndsIn (join_of self.now) place.new.items result.end instance.new.labels.items instance.new.binding }
+    {
+        spare.free.reset(self.rule.variables());
+        let rest = copy_labels(place);
+        instance.labels.clear();
+        self.pass_on(
+            &spare.free,
+            rest.as_slice(),
+            most,
+            &mut spare.narrowed,
+            place,
+            instance,
+        )
     }
 }

@@ -1,20 +1,33 @@
 //! Searches.
-ghost use Rattle.std.specs.Prelude.{◌≡◌, ◌≤◌, ◌∷◌, [], false, MatchOption, IfOk};
+ghost use Rattle.std.specs.Prelude.{◌≡◌, ◌↔◌, suc, ◌≤◌, ◌∷◌, [], length, Some, MatchOption, IfOk, IsTrue};
+ghost use Rattle.chr_value.specs.Stores.{atom_at};
+ghost use Rattle.chr_rule.specs.Parts.{shape};
 ghost use Rattle.chr_plan.specs.Plans.{ArePlans};
 ghost use Rattle.chr_search.specs.Positions.{beginning, just_after, past};
 ghost use Rattle.chr_search.specs.Tree.{Least, NoneBeyond};
-ghost use Rattle.chr_search.specs.Trials.{older, Child, IsNext, NoneLeft};
+ghost use Rattle.chr_search.specs.Trials.{older, Child, HasHeadPred, IsNext, MayFollow, NoneLeft};
 ghost use Rattle.chr_search.specs.Answers.{IsAnswer, IsAnswerBehind, after_judging};
-ghost use Rattle.chr_search.specs.Verdicts.{position as position_of};
-ghost use Rattle.chr_search.specs.Passing.{Passes};
+ghost use Rattle.chr_search.specs.Verdicts.{Trial as TrialView, position as position_of};
+ghost use Rattle.chr_search.specs.Joined.{join_of};
+ghost use Rattle.chr_search.specs.Partners.{HasPlan};
+ghost use Rattle.chr_search.specs.Passing.{IsTrialIn, HasTrials, Passes, IsThen};
+ghost use Rattle.chr_search.specs.PlanByPlan.{label_at_head, labels_at_heads, HasNoPlan, IsJoinAt, PassesPlan, HasComeTo};
 
 use crate::join::Join;
 use crate::judged::{Judged, Verdict};
+use crate::passing;
+use crate::passing::{End, Instance, Spare};
 use crate::position::Position;
 use crate::trial::Trial;
+use chr_guard::binding::Binding;
+use chr_log::events::Labels;
+use chr_plan::order::Step;
 use chr_plan::plans::Plans;
 use chr_rule::program::Program;
+use chr_rule::rule::Rule;
+use chr_rule::rule_atom::RuleAtom;
 use chr_store::store::{Label, Store};
+use chr_value::atom::Atom;
 use std::alloc::{AllocError, Allocator};
 use std::marker::Model;
 
@@ -25,6 +38,117 @@ pub enum Ask<A: Allocator> {
     Trial(Trial<A>),
     /// No trial is left.
     Done,
+}
+
+/// A trial that a search has found to be whole.
+#[derive(Drop)]
+pub struct Whole<'s, A: Allocator> {
+    pub rule: &'s Rule<A>,
+    /// The rule's number in its program.
+    pub number: u16,
+    /// The labels at the kept heads, in head order.
+    pub kept: Labels,
+    /// The labels at the removed heads, in head order.
+    pub removed: Labels,
+    /// What all variables of the instance are bound to.
+    pub binding: Binding<'s>,
+    /// The search past the trial.
+    pub past: Search,
+}
+
+/// Whether a head has an atom's predicate.
+fn has_pred<A: Allocator + Copy>(head: &RuleAtom, atom: &Atom<A>) -> bool
+    ensures { IsTrue result ↔ HasHeadPred (shape head.now) atom.now }
+{
+    let pred = atom.pred();
+    head.name == pred.name && head.terms.len() as u8 == pred.arity
+}
+
+/// The label at a head, of labels in the order of a plan. 0 where there is none.
+fn label_at_head(order: &[Step], labels: &[Label], head: usize) -> Label
+    ensures { result ≡ label_at_head order.now labels.now head }
+{
+    for (i, label) in labels.iter().enumerate() {
+        let Some(step) = order.get(i) else {
+            return 0;
+        };
+        if usize::from(step.head) == head {
+            return *label;
+        }
+    }
+    0
+}
+
+/// The labels at the next heads from one on, at most six, of labels in the order of a plan.
+fn labels_at_heads(order: &[Step], labels: &[Label], first: usize, count: usize) -> Labels
+    requires first { first ≤ 7 }
+    requires count { count ≤ 6 }
+    ensures { result.items ≡ labels_at_heads order.now labels.now first count }
+{
+    let mut found = Labels::new();
+    for i in 0..count {
+        found.push(label_at_head(order, labels, first + i));
+    }
+    found
+}
+
+impl<'s, A: Allocator + Copy> Whole<'s, A> {
+    /// The trial of an instance, by a rule's number and a head.
+    fn of(join: &Join<'s, A>, number: u16, head: u8, instance: Instance<'s>) -> Whole<'s, A>
+        requires number { 1 ≤ number }
+        requires head { 1 ≤ head }
+        requires trial { (t : TrialView) × IsTrialIn (join_of join.now) instance.labels.items t }
+        ensures rule { result.rule.now ≡ join.now.rule.now }
+        ensures number { result.number ≡ number }
+        ensures kept { result.kept.items ≡ labels_at_heads join.now.order.now instance.entry.labels.items 1 (length join.now.rule.now.kept) }
+        ensures removed { result.removed.items ≡ labels_at_heads join.now.order.now instance.entry.labels.items (suc (length join.now.rule.now.kept)) (length join.now.rule.now.removed) }
+        ensures binding { result.binding ≡ instance.entry.binding }
+        ensures past { result.past ≡ record { label = join.now.active; place = past (number ∷ head ∷ instance.entry.labels.items) } }
+    {
+        let order = join.order;
+        let kept = join.rule.kept().len();
+        let removed = join.rule.removed().len();
+        let labels = instance.labels.as_slice();
+        let at_kept = labels_at_heads(order, labels, 1, kept);
+        let at_removed = labels_at_heads(order, labels, kept + 1, removed);
+        let mut past = instance.labels;
+        if let Some(last) = past.pop() {
+            past.push(last + 1);
+        }
+        Whole {
+            rule: join.rule,
+            number,
+            kept: at_kept,
+            removed: at_removed,
+            binding: instance.binding,
+            past: Search {
+                label: join.active,
+                position: Position {
+                    rule: number,
+                    head,
+                    labels: past,
+                },
+            },
+        }
+    }
+}
+
+/// What comes once a search has passed over trials.
+#[derive(Drop)]
+pub enum Then<'s, A: Allocator> {
+    /// A trial that is whole.
+    Whole(Whole<'s, A>),
+    /// No trial is left.
+    Done,
+    /// Perhaps more trials: as many were passed over as were asked for.
+    More,
+}
+
+/// Trials that a search has passed over, and what comes then.
+#[derive(Drop)]
+pub struct Passed<'s, A: Allocator> {
+    pub count: u64,
+    pub then: Then<'s, A>,
 }
 
 /// An active label, and how far its trials are ruled out.
@@ -187,68 +311,160 @@ impl Search {
         };
     }
 
-    /// Passes over the next trial, unless it is whole, and then over misfits beside or below it, at most so many in all.
-    /// How many, and whether to stop.
-    fn pass_next<A: Allocator + Copy>(
-        &mut self,
-        program: &Program<A>,
-        plans: &Plans<A>,
-        store: &Store<A>,
-        most: u64,
-    ) -> (u64, bool)
+    /// The plan of a rule's next head with the active atom's predicate, from a head on. `head` becomes that head. None where
+    /// there is none.
+    fn next_join<'s, A: Allocator + Copy>(
+        &self,
+        program: &'s Program<A>,
+        plans: &'s Plans<A>,
+        store: &'s Store<A>,
+        atom: &Atom<A>,
+        number: u16,
+        head: &mut u8,
+    ) -> Option<Join<'s, A>>
         requires plans { ArePlans program.now plans.now }
-        requires most { 1 ≤ most }
-        ensures few { result.0 ≤ most }
-        ensures ends { result.1 ≡ false → 1 ≤ result.0 }
-        ensures label { self.new.label ≡ self.old.label }
-        ensures passed { Passes (older program.now plans.now store.now.entries self.old.label) result.0 self.old.place self.new.place }
+        requires atom { atom_at store.now.entries self.now.label ≡ Some atom.now }
+        requires head { 1 ≤ head.old }
+        ensures on { head.old ≤ head.new }
+        ensures come { HasComeTo (older program.now plans.now store.now.entries self.now.label) (number ∷ head.old ∷ []) number head.new }
+        ensures join { let s = older program.now plans.now store.now.entries self.now.label in MatchOption result (HasNoPlan s number head.new) (λ join. IsJoinAt s number head.new (join_of join)) }
     {
-        let Some(mut next) = self.find(program, plans, store) else {
-            return (0, true);
-        };
-        let Some(rule) = program.rule(usize::from(next.rule)) else {
-            unreachable!();
-        };
-        let Some(order) = plans.plan(usize::from(next.rule), next.head) else {
-            unreachable!();
-        };
+        let rule = program.rule(usize::from(number))?;
+        while let Some(pattern) = rule.head(usize::from(*head)) {
+            if has_pred(pattern, atom) {
+                let order = plans.plan(usize::from(number), *head)?;
+                return Some(Join {
+                    rule,
+                    order,
+                    store,
+                    active: self.label,
+                });
+            }
+            *head += 1;
+        }
+        None
+    }
+
+    /// Passes over the trials of a plan at or after the position, at most so many. The position becomes that after the last
+    /// of them.
+    fn pass_in_plan<'s, A: Allocator + Copy>(
+        &mut self,
+        join: &Join<'s, A>,
+        number: u16,
+        head: u8,
+        most: u64,
+        spare: &mut Spare<'s>,
+        instance: &mut Instance<'s>,
+    ) -> passing::Passed
+        requires number { 1 ≤ number }
+        requires head { 1 ≤ head }
+        requires begins { MayFollow (join_of join.now) [] join.now.active }
+        requires plan { HasPlan (join_of join.now) }
+        requires trials { HasTrials (join_of join.now) }
+        ensures few { result.count ≤ most }
+        ensures label { self.new.label ≡ self.old.label }
+        ensures passed { PassesPlan (join_of join.now) number head self.old.place result.count self.new.place result.end instance.new.labels.items instance.new.binding }
+    {
+        if self.position.rule == number && self.position.head == head {
+            return join.pass(&mut self.position.labels, most, spare, instance);
+        }
+        let mut labels = Labels::new();
+        let passed = join.pass(&mut labels, most, spare, instance);
+        if passed.count > 0 {
+            self.position.rule = number;
+            self.position.head = head;
+            self.position.labels = labels;
+        }
+        passed
+    }
+
+    /// Passes over trials as [`pass_over`](Search::pass_over) does, where the active label has this atom.
+    fn pass_by<'s, A: Allocator + Copy>(
+        &mut self,
+        program: &'s Program<A>,
+        plans: &'s Plans<A>,
+        store: &'s Store<A>,
+        atom: &Atom<A>,
+        most: u64,
+    ) -> Passed<'s, A>
+        requires plans { ArePlans program.now plans.now }
+        requires atom { atom_at store.now.entries self.old.label ≡ Some atom.now }
+        ensures few { result.count ≤ most }
+        ensures label { self.new.label ≡ self.old.label }
+        ensures passed { Passes (older program.now plans.now store.now.entries self.old.label) result.count self.old.place self.new.place }
+        ensures then { IsThen (older program.now plans.now store.now.entries self.old.label) self.new.place result.then }
+    {
         // For the proof: the labels of a store are at most the greatest.
         let _given = store.next_label();
-        let join = Join {
-            rule,
-            order,
-            store,
-            active: self.label,
+        let mut instance = Instance {
+            labels: Labels::new(),
+            binding: Binding::free(0),
         };
-        let (passed, ends) = join.pass_from(&mut next.labels, most);
-        if passed > 0 {
-            self.position = next;
+        let mut spare = Spare {
+            free: Binding::free(0),
+            narrowed: Binding::free(0),
+        };
+        let mut number = self.position.rule;
+        let mut head = self.position.head;
+        let mut count = 0;
+        while usize::from(number) <= program.len() {
+            let Some(join) = self.next_join(program, plans, store, atom, number, &mut head) else {
+                number += 1;
+                head = 1;
+                continue;
+            };
+            let passed = self.pass_in_plan(
+                &join,
+                number,
+                head,
+                most - count,
+                &mut spare,
+                &mut instance,
+            );
+            count += passed.count;
+            match passed.end {
+                End::NoneLeft => head += 1,
+                End::Enough => {
+                    return Passed {
+                        count,
+                        then: Then::More,
+                    };
+                }
+                End::Whole => {
+                    return Passed {
+                        count,
+                        then: Then::Whole(Whole::of(&join, number, head, instance)),
+                    };
+                }
+            }
         }
-        (passed, ends)
+        Passed {
+            count,
+            then: Then::Done,
+        }
     }
 
     /// Passes over the next trials up to one that is whole, at most so many: as if each of them had been asked for, judged,
-    /// and the search advanced after it. Returns how many. It takes no memory.
-    pub fn pass_over<A: Allocator + Copy>(
+    /// and the search advanced after it. Returns how many, and what comes then. It takes no memory.
+    pub fn pass_over<'s, A: Allocator + Copy>(
         &mut self,
-        program: &Program<A>,
-        plans: &Plans<A>,
-        store: &Store<A>,
+        program: &'s Program<A>,
+        plans: &'s Plans<A>,
+        store: &'s Store<A>,
         most: u64,
-    ) -> u64
+    ) -> Passed<'s, A>
         requires { ArePlans program.now plans.now }
-        ensures few { result ≤ most }
+        ensures few { result.count ≤ most }
         ensures label { self.new.label ≡ self.old.label }
-        ensures passed { Passes (older program.now plans.now store.now.entries self.old.label) result self.old.place self.new.place }
+        ensures passed { Passes (older program.now plans.now store.now.entries self.old.label) result.count self.old.place self.new.place }
+        ensures then { IsThen (older program.now plans.now store.now.entries self.old.label) self.new.place result.then }
     {
-        let mut passed = 0;
-        while passed < most {
-            let (more, ends) = self.pass_next(program, plans, store, most - passed);
-            passed += more;
-            if ends {
-                break;
-            }
-        }
-        passed
+        let Some(atom) = store.get(self.label) else {
+            return Passed {
+                count: 0,
+                then: Then::Done,
+            };
+        };
+        self.pass_by(program, plans, store, atom, most)
     }
 }

@@ -6,6 +6,8 @@ use Rattle.chr_search.specs.Verdicts.{Trial}
 use Rattle.chr_search.specs.Judged.{Judgement}
 use Rattle.chr_search.specs.Answers.{after_judging}
 use Rattle.chr_calls.specs.declared.answers.ClaimFault.TheVariants.{LabelsSpent}
+use Rattle.chr_calls.specs.declared.answers.Firing.TheVariants as firing
+use Rattle.chr_calls.specs.declared.answers.Dropping.TheVariants as dropping
 use Rattle.chr_calls.specs.declared.answers.TicketState.{TicketState}
 use Rattle.chr_calls.specs.declared.answers.TicketState.TheVariants.{Held}
 use Rattle.chr_calls.specs.Turns.{Next, Done, Gone}
@@ -13,7 +15,10 @@ use Rattle.chr_calls.specs.Tickets.{Ticket, with_candidate, going_on, ticket_at,
 use Rattle.chr_calls.specs.Books.{BookState}
 use Rattle.chr_calls.specs.Calls.{Claims, with_candidate_of, after_judgement, HoldsCandidate}
 use Rattle.chr_calls.proofs.Tickets.{states_stand, ticket_same, held_is}
-use Rattle.chr_book.specs.Passed.{PassesTrials}
+use Rattle.chr_book.specs.declared.rounds.Last.{Last}
+use Rattle.chr_book.specs.declared.rounds.Last.TheVariants as lasts
+use Rattle.chr_book.specs.declared.rounds.Rounds.{Rounds}
+use Rattle.chr_book.specs.Passed.{PassesTrials, IsLast, rounds_in, MakesRounds, MakesFewer}
 use Rattle.chr_solo.specs.Solo.{Known, Nothing, Judged, NoneLeft, SoloCall, claims, asks, fires, reports, drops, SoloRun, IsSpentFor, IsSolo, IsCutShort}
 use Rattle.chr_solo.specs.SoloCode.{IsAware, SoloSoFar}
 
@@ -130,6 +135,54 @@ passes seat t calls (suc k) first b n p least so =
     let turn = goes_on seat calls t first b Nothing one.asked (Judged j) so least (asks (Next j.trial) refl one.turns (j, refl, one.right, refl)) in
     let report = goes_on seat (calls + 1) t first one.asked (Judged j) p.0 Nothing turn asked (reports j tt refl one.reports refl) in
     subst (λ m. SoloSoFar seat first m n Nothing) (let e : calls + 1 + 1 + 2 * k ≡ calls + 2 * suc k = omega arith in e) (passes seat t (calls + 1 + 1) k first p.0 n p.2 told report)
+
+-- ---- rounds of calls
+
+least_passed : (seat t k : ℕ) (b n : BookState) → PassesTrials seat t k b n → IsLeastFor b.tickets seat t → IsLeastFor n.tickets seat t
+least_passed seat t zero b n p least = subst (λ (m : BookState). IsLeastFor m.tickets seat t) (sym p) least
+least_passed seat t (suc k) b n p least =
+    let one = p.1 in
+    let asked : IsLeastFor one.asked.tickets seat t = subst (λ (m : BookState). IsLeastFor m.tickets seat t) (sym one.turns.3) (least_asked b seat t (Some one.judged.trial) least) in
+    least_passed seat t k p.0 n p.2 (subst (λ (m : BookState). IsLeastFor m.tickets seat t) (sym one.reports.2) (least_judged one.asked seat t one.judged asked))
+
+-- the last one
+last_two : (last : Last) (seat t calls k : ℕ) (first b n : BookState) → IsLast seat t last b n → IsLeastFor b.tickets seat t → SoloSoFar seat first (calls + 2 * k) b Nothing → SoloSoFar seat first (calls + 2 * rounds_in (record { passed = k; last = last })) n Nothing
+last_two lasts.Fired seat t calls k first b n h least so =
+    let j = h.judged in
+    let asked : IsLeastFor h.asked.tickets seat t = subst (λ (m : BookState). IsLeastFor m.tickets seat t) (sym h.turns.3) (least_asked b seat t (Some j.trial) least) in
+    let turn = goes_on seat (calls + 2 * k) t first b Nothing h.asked (Judged j) so least (asks (Next j.trial) refl h.turns (j, refl, h.right, refl)) in
+    let fired = goes_on seat (calls + 2 * k + 1) t first h.asked (Judged j) n Nothing turn asked (fires j (firing.Fired h.fired) refl h.fires refl) in
+    subst (λ m. SoloSoFar seat first m n Nothing) (let e : calls + 2 * k + 1 + 1 ≡ calls + 2 * (1 + k) = omega arith in e) fired
+last_two lasts.Dropped seat t calls k first b n h least so =
+    let asked : IsLeastFor h.asked.tickets seat t = subst (λ (m : BookState). IsLeastFor m.tickets seat t) (sym h.turns.3) (least_asked b seat t None least) in
+    let turn = goes_on seat (calls + 2 * k) t first b Nothing h.asked NoneLeft so least (asks Done refl h.turns refl) in
+    let ended = goes_on seat (calls + 2 * k + 1) t first h.asked NoneLeft n Nothing turn asked (drops dropping.Dropped refl h.drops refl) in
+    subst (λ m. SoloSoFar seat first m n Nothing) (let e : calls + 2 * k + 1 + 1 ≡ calls + 2 * (1 + k) = omega arith in e) ended
+last_two lasts.Passed seat t calls k first b n h least so =
+    subst (λ (m : BookState). SoloSoFar seat first (calls + 2 * (0 + k)) m Nothing) (sym h) (subst (λ m. SoloSoFar seat first m b Nothing) (let e : calls + 2 * k ≡ calls + 2 * (0 + k) = omega arith in e) so)
+
+-- each of them is two calls
+pub rounds_two : (seat t calls : ℕ) (r : Rounds) (first b n : BookState) → MakesRounds seat t r b n → IsLeastFor b.tickets seat t → SoloSoFar seat first calls b Nothing → SoloSoFar seat first (calls + 2 * rounds_in r) n Nothing
+rounds_two seat t calls r first b n h least so = last_two r.last seat t calls r.passed first h.middle n h.last (least_passed seat t r.passed b h.middle h.passes least) (passes seat t calls r.passed first b h.middle h.passes least so)
+
+-- where there is none, the book is as it was
+none_made : (last : Last) (k seat t : ℕ) (b middle n : BookState) → PassesTrials seat t k b middle → IsLast seat t last middle n → 2 * rounds_in (record { passed = k; last = last }) ≡ 0 → n ≡ b
+none_made lasts.Fired k seat t b middle n p h e = absurd (let z : 2 * (1 + k) ≡ 0 = e in omega arith)
+none_made lasts.Dropped k seat t b middle n p h e = absurd (let z : 2 * (1 + k) ≡ 0 = e in omega arith)
+none_made lasts.Passed zero seat t b middle n p h e = h ∙ p
+none_made lasts.Passed (suc k) seat t b middle n p h e = absurd (let z : 2 * (0 + suc k) ≡ 0 = e in omega arith)
+
+pub no_rounds : (seat t : ℕ) (r : Rounds) (b n : BookState) → MakesRounds seat t r b n → 2 * rounds_in r ≡ 0 → n ≡ b
+no_rounds seat t r b n h e = none_made r.last r.passed seat t b h.middle n h.passes h.last e
+
+-- memory was refused in one
+pub cut_rounds : (seat t most calls half : ℕ) (first b n : BookState) (known : Known) → SoloSoFar seat first calls b known → known ≡ Nothing → IsLeastFor b.tickets seat t → MakesFewer seat t half b n → calls + 2 * half ≤ most → IsCutShort seat most first n
+cut_rounds seat t most calls half first b n known so none least h room = record {
+  made = calls + 2 * h.passed;
+  known = Nothing;
+  run = (passes seat t calls h.passed first b n h.passes least (subst (SoloSoFar seat first calls b) none so)).run;
+  fewer = omega (arith, h.fewer);
+}
 
 -- ---- answers of two kinds
 

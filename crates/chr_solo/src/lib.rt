@@ -5,8 +5,8 @@
 //! one fires, another is reported, and where none is left the goal is dropped. So with one seat a book's log is fixed by its
 //! rules, its label limit, the atoms posted and the number of calls.
 //!
-//! No trial is made for the calls that ask for a trial which isn't whole and report it: they are made together, by
-//! [`Book::pass_over`](chr_book::book::Book::pass_over), and counted.
+//! No trial is made for most of these calls: [`Book::go_on`](chr_book::book::Book::go_on) makes rounds of two of them, which
+//! pass over trials, fire one or drop the goal, and they are counted.
 #![tactic(auto)]
 
 pub mod solo;

@@ -1,10 +1,11 @@
 //! Runs of one seat.
-ghost use Rattle.std.specs.Prelude.{◌≡◌, ◌≤◌, ◌+◌, ℕ, ◌↔◌, Err, OnOk, OnErr, IfOk, MatchOption};
+ghost use Rattle.std.specs.Prelude.{◌≡◌, ◌≤◌, ◌+◌, ◌/◌, ℕ, ◌↔◌, Err, OnOk, OnErr, IfOk, MatchOption};
 ghost use Rattle.std.specs.List.{AllByRecursion};
 ghost use Rattle.chr_rule.specs.Scope.{IsRule};
 ghost use Rattle.chr_calls.specs.Books.{BookState};
 ghost use Rattle.chr_calls.specs.Calls.{Claims, HoldsCandidate};
-ghost use Rattle.chr_calls.specs.Tickets.{AreQuiet, IsOpenFor, state_of};
+ghost use Rattle.chr_book.specs.Passed.{MakesFewer};
+ghost use Rattle.chr_calls.specs.Tickets.{AreQuiet, IsOpenFor, IsLeastFor, state_of};
 ghost use Rattle.chr_calls.specs.declared.answers.ClaimFault.TheVariants as claim;
 ghost use Rattle.chr_calls.specs.declared.answers.TicketState.TheVariants as states;
 ghost use Rattle.chr_solo.specs.Solo.{IsSolo, IsCutShort, SoloCall, SoloRun, Known as KnownState, Nothing, Judged as IsJudged};
@@ -144,19 +145,26 @@ fn call_for<A: Allocator + Copy>(
     }
 }
 
-/// Where nothing is known of the search of the next ticket, makes the calls that ask for its trials and report them, up to one
-/// that is whole, at most so many and at most 128. Returns how many.
-fn pass_over<A: Allocator + Copy>(book: &mut Book<A>, seat: u32, known: &Known<A>, most: u64) -> u64
-    ensures few { result ≤ most }
-    ensures so_far { (first : BookState) (calls : ℕ) → SoloSoFar seat first calls book.old (known_of known.now) → SoloSoFar seat first (calls + result) book.new (known_of known.now) }
+/// Where nothing is known of the search of the next ticket, and the seat holds it, makes rounds of two calls for it, at most so
+/// many calls and at most 2,048. Returns how many calls. An `Err` is E01: the calls before the last round were made.
+fn make_rounds<A: Allocator + Copy>(
+    book: &mut Book<A>,
+    seat: u32,
+    ticket: u64,
+    known: &Known<A>,
+    most: u64,
+) -> Result<u64, AllocError>
+    requires { IsLeastFor book.old.tickets seat ticket }
+    ensures few { IfOk result (λ made. made ≤ most) }
+    ensures none { IfOk result (λ made. made ≡ 0 → book.new ≡ book.old) }
+    ensures so_far { IfOk result (λ made. (first : BookState) (calls : ℕ) → SoloSoFar seat first calls book.old (known_of known.now) → SoloSoFar seat first (calls + made) book.new (known_of known.now)) }
+    ensures err { OnErr result ((known_of known.now ≡ Nothing) × MakesFewer seat ticket (most / 2) book.old book.new) }
 {
     let Known::Nothing = known else {
-        return 0;
+        return Ok(0);
     };
-    let Some(ticket) = book.next_for(seat) else {
-        return 0;
-    };
-    2 * book.pass_over(seat, ticket, (most / 2).min(64))
+    let rounds = book.go_on(seat, ticket, (most / 2).min(1024))?;
+    Ok(2 * rounds.count())
 }
 
 /// Tells a watch of the calls from one count up to another.
@@ -182,8 +190,8 @@ pub fn solo_steps<A: Allocator + Copy>(
     watched_steps(book, seat, most, &mut Unwatched)
 }
 
-/// The same, and for each call `watch` is told how many were made before it: of up to 128 calls at once, once they are made,
-/// where trials that aren't whole are passed over, and else before the call.
+/// The same, and for each call `watch` is told how many were made before it: of up to 2,048 calls at once, once they are made,
+/// where [`Book::go_on`] makes them, and else before the call.
 pub fn watched_steps<A: Allocator + Copy, W: Watch>(
     book: &mut Book<A>,
     seat: u32,
@@ -200,15 +208,18 @@ pub fn watched_steps<A: Allocator + Copy, W: Watch>(
         let Some(ticket) = book.next_for(seat) else {
             break;
         };
+        let made = make_rounds(book, seat, ticket, &known, most - calls)?;
+        if made > 0 {
+            tell(watch, calls, calls + made);
+            calls += made;
+            continue;
+        }
         watch.done(calls);
         calls += 1;
         let Some(next) = call_for(book, seat, ticket, known)? else {
             break;
         };
         known = next;
-        let told = calls;
-        calls += pass_over(book, seat, &known, most - calls);
-        tell(watch, told, calls);
     }
     let end = if book.quiet() { End::Quiet } else { End::Open };
     Ok(Solo { calls, end })

@@ -9,6 +9,8 @@
 #[cfg(test)]
 mod opening;
 #[cfg(test)]
+mod rounds;
+#[cfg(test)]
 mod rows;
 pub mod script;
 #[cfg(test)]

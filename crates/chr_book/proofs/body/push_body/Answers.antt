@@ -32,3 +32,15 @@ returns-clause-ok g c body all =
     let past : length c.body-item-items.result.now ≤ c.loop-item.item-index = c.loop-item-test.false in
     c.loop-item.invariant.made body
     (subst (λ (ms : List (BodyItem ℕ)). AreUnder (bound_at c.args.binding.now) (added ms) body) (sym (ap (map (member {Z = g.row.A.Denot})) (take_all c.loop-item.item-index c.body-item-items.result.now past) ∙ c.body-item-items.ensures.members)) all)
+
+pub returns-clause-rest : goal.returns-clause-rest
+returns-clause-rest g c = c.loop-item.invariant.rest
+
+pub returns-then-is_err-clause-rest : goal.returns-then-is_err-clause-rest
+returns-then-is_err-clause-rest g c = (
+  [],
+  rest_back c.args.tickets.now c.push_member.new.tickets c.truncate.new.self c.next-first.result
+      (rest_more c.args.tickets.now c.loop-item.tickets c.push_member.new.tickets c.loop-item.invariant.rest c.push_member.ensures.rest)
+      c.truncate.ensures c.next-first.ensures.value
+      ∙ sym (append-nil c.args.tickets.now),
+)

@@ -1,34 +1,55 @@
-use Rattle.std.proofs.Common.{◌+◌, sym, subst, arith, MatchOption, Err}
+use Rattle.std.proofs.Common.{◌≡◌, ◌∙◌, ◌+◌, ◌-◌, ◌/◌, sym, subst, arith, MatchOption, Err}
 use Rattle.chr_calls.specs.declared.answers.ClaimFault.TheVariants as claim
-use Rattle.chr_calls.specs.Tickets.{NoneFor, IsLeastFor}
+use Rattle.chr_calls.specs.Tickets.{NoneFor, IsLeastFor, IsOpenFor, state_of}
+use Rattle.chr_calls.specs.Books.{BookState}
 use Rattle.chr_calls.specs.Calls.{Claims}
 use Rattle.chr_solo.specs.Solo.{SoloCall, IsSolo, IsCutShort}
-use Rattle.chr_solo.specs.SoloCode.{known_of}
-use Rattle.chr_solo.proofs.SoloRuns.{begins, goes_on, ends_full, ends_none, ends_spent, cut_short, none_of, on_err}
+use Rattle.chr_solo.specs.SoloCode.{known_of, IsAware, SoloSoFar}
+use Rattle.chr_solo.proofs.SoloRuns.{begins, goes_on, ends_full, ends_none, ends_spent, cut_short, cut_rounds, none_of, on_err}
 use Rattle.chr_solo.proofs.solo.watched_steps.Goals as goal
-use Rattle.chr_solo.proofs.solo.watched_steps.Goals.{else-calls-most, then-calls-most+in_default, then-calls-most+in-Some+in_ok-next+in_default-2}
+use Rattle.chr_solo.proofs.solo.watched_steps.Goals.{else-calls-most, then-calls-most+in_default, then-calls-most+in-Some+in_ok-made+else-made-gt0+in_ok-next+in_default-2}
 
 pub loop-calls-init : goal.loop-calls-init
 loop-calls-init g c = (begins c.args.seat c.args.book.now, omega arith)
 
+pub returns-in_err-made-clause-cut_short : goal.returns-in_err-made-clause-cut_short
+returns-in_err-made-clause-cut_short g c =
+    let most = c.args.most in
+    let calls = c.loop-calls.calls in
+    let half = (most - calls) / 2 in
+    let fewer = c.in_err-made.ensures.err in
+    on_err (IsCutShort c.args.seat most c.args.book.now c.make_rounds.new.book) c.from_residual.result
+    (cut_rounds c.args.seat c.in-Some.ticket most calls half c.args.book.now c.loop-calls.book c.make_rounds.new.book (known_of c.loop-calls.known) c.loop-calls.invariant.0 fewer.0 c.in-Some.ensures fewer.1 (omega (arith, c.if-calls-most.true)))
+
+pub call_for-requires-clause-free : goal.call_for-requires-clause-free
+call_for-requires-clause-free g c =
+    let same : c.make_rounds.new.book ≡ c.loop-calls.book = c.in_ok-made.ensures.none (omega (arith, c.if-made-gt0.false)) in
+    subst (λ (m : BookState). IsOpenFor c.args.seat (state_of m.tickets c.in-Some.ticket)) (sym same) c.in-Some.ensures.free
+
 pub call_for-requires-clause-aware : goal.call_for-requires-clause-aware
-call_for-requires-clause-aware g c = c.loop-calls.invariant.0.aware c.in-Some.ticket c.in-Some.ensures
+call_for-requires-clause-aware g c =
+    let same : c.make_rounds.new.book ≡ c.loop-calls.book = c.in_ok-made.ensures.none (omega (arith, c.if-made-gt0.false)) in
+    subst (λ (m : BookState). IsAware m c.args.seat c.in-Some.ticket (known_of c.loop-calls.known)) (sym same) (c.loop-calls.invariant.0.aware c.in-Some.ticket c.in-Some.ensures)
 
 pub returns-in_err-next-clause-cut_short : goal.returns-in_err-next-clause-cut_short
 returns-in_err-next-clause-cut_short g c =
-    on_err (IsCutShort c.args.seat c.args.most c.args.book.now c.call_for.new.book) c.from_residual.result
-    (cut_short c.args.seat c.args.most c.loop-calls.calls c.args.book.now c.loop-calls.book (known_of c.loop-calls.known) c.call_for.new.book c.loop-calls.invariant.0 c.if-calls-most.true c.in_err-next.ensures.err)
+    let same : c.make_rounds.new.book ≡ c.loop-calls.book = c.in_ok-made.ensures.none (omega (arith, c.if-made-gt0.false)) in
+    on_err (IsCutShort c.args.seat c.args.most c.args.book.now c.call_for.new.book) c.from_residual-in_err-next.result
+    (cut_short c.args.seat c.args.most c.loop-calls.calls c.args.book.now c.loop-calls.book (known_of c.loop-calls.known) c.call_for.new.book c.loop-calls.invariant.0 c.if-calls-most.true (c.in_err-next.ensures.err ∙ same))
 
 pub loop-calls-preserved : goal.loop-calls-preserved
 loop-calls-preserved g c =
     let seat = c.args.seat in
     let t = c.in-Some.ticket in
-    let b = c.loop-calls.book in
+    let first = c.args.book.now in
+    let b = c.make_rounds.new.book in
     let n = c.call_for.new.book in
     let known = known_of c.loop-calls.known in
+    let same : b ≡ c.loop-calls.book = c.in_ok-made.ensures.none (omega (arith, c.if-made-gt0.false)) in
+    let so = subst (λ (m : BookState). SoloSoFar seat first c.loop-calls.calls m known) (sym same) c.loop-calls.invariant.0 in
+    let least = subst (λ (m : BookState). IsLeastFor m.tickets seat t) (sym same) c.in-Some.ensures in
     let made = subst (λ o. MatchOption o (Claims b seat t (Err claim.LabelsSpent) n) (λ after. SoloCall seat t b known n (known_of after))) c.in-Some-2.is c.in_ok-next.ensures.ok in
-    let one = goes_on seat c.loop-calls.calls t c.args.book.now b known n (known_of c.in-Some-2.next) c.loop-calls.invariant.0 c.in-Some.ensures made in
-    (c.pass_over-calls.ensures.so_far c.args.book.now (c.loop-calls.calls + 1) one, omega (arith, c.if-calls-most.true, c.pass_over-calls.ensures.few))
+    (goes_on seat c.loop-calls.calls t first b known n (known_of c.in-Some-2.next) so least made, omega (arith, c.if-calls-most.true))
 
 pub returns-clause-solo : goal.returns-clause-solo
 returns-clause-solo g c =
@@ -43,7 +64,11 @@ returns-clause-solo g c =
       | else-calls-most w ↦ subst (λ k. IsSolo seat most first k c.if-calls-most.book) (sym w.calls-is) (subst (IsSolo seat most first calls) (sym w.book-is) (ends_full seat most calls first b known so c.loop-calls.invariant.1 (omega (arith, w.if-calls-most.false))))
       | then-calls-most+in_default w ↦ subst (λ k. IsSolo seat most first k c.if-calls-most.book) (sym w.calls-is) (subst (IsSolo seat most first calls) (sym w.book-is) (ends_none seat most calls first b known so c.loop-calls.invariant.1
           (none_of (NoneFor b.tickets seat) (IsLeastFor b.tickets seat) w.next_for.result w.next_for.ensures w.in_default.not-Some)))
-      | then-calls-most+in-Some+in_ok-next+in_default-2 w ↦ subst (λ k. IsSolo seat most first k c.if-calls-most.book) (sym w.calls-is) (subst (IsSolo seat most first (calls + 1)) (sym w.book-is)
-          (ends_spent seat most calls w.in-Some.ticket first b known w.call_for.new.book so w.if-calls-most.true w.in-Some.ensures
-          (none_of (Claims b seat w.in-Some.ticket (Err claim.LabelsSpent) w.call_for.new.book) (λ after. SoloCall seat w.in-Some.ticket b known w.call_for.new.book (known_of after)) w.in_ok-next.field-0 w.in_ok-next.ensures.ok w.in_default-2.not-Some)))
+      | then-calls-most+in-Some+in_ok-made+else-made-gt0+in_ok-next+in_default-2 w ↦
+          let now = w.make_rounds.new.book in
+          let n = w.call_for.new.book in
+          let same : now ≡ b = w.in_ok-made.ensures.none (omega (arith, w.if-made-gt0.false)) in
+          subst (λ k. IsSolo seat most first k c.if-calls-most.book) (sym w.calls-is) (subst (IsSolo seat most first (calls + 1)) (sym w.book-is)
+          (ends_spent seat most calls w.in-Some.ticket first now known n (subst (λ (m : BookState). SoloSoFar seat first calls m known) (sym same) so) w.if-calls-most.true (subst (λ (m : BookState). IsLeastFor m.tickets seat w.in-Some.ticket) (sym same) w.in-Some.ensures)
+          (none_of (Claims now seat w.in-Some.ticket (Err claim.LabelsSpent) n) (λ after. SoloCall seat w.in-Some.ticket now known n (known_of after)) w.in_ok-next.field-0 w.in_ok-next.ensures.ok w.in_default-2.not-Some)))
     ]

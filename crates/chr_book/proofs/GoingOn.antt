@@ -1,0 +1,188 @@
+-- Rounds of calls: the last one fires what was found whole or drops the goal, and a book keeps what it has.
+use Rattle.std.proofs.Common.{◌≡◌, ℕ, ◌<◌, Bool, true, false, List, [], ◌∷◌, ◌++◌, map, Option, Some, None, Result, Ok, Err, OnErr, refl, sym, ◌∙◌, ap, ap₂, subst, slice_set}
+use Rattle.std.specs.List.{AllByRecursion}
+use Rattle.std.proofs.lemmas.List.{set-set, length-set}
+use Rattle.chr_log.specs.Events.{Entry, Drop}
+use Rattle.chr_rule.specs.Rules.{Simpagation}
+use Rattle.chr_plan.specs.Plans.{PlanList}
+use Rattle.chr_store.specs.Labels.{LabelledStore}
+use Rattle.chr_model.specs.Stores.{atom_at, without}
+use Rattle.chr_model.specs.Goals.{Numbered}
+use Rattle.chr_search.specs.Trials.{IsNext, NoneLeft}
+use Rattle.chr_search.specs.Verdicts.{Placed, Trial, position}
+use Rattle.chr_search.specs.Judged.{Judgement}
+use Rattle.chr_search.specs.Passing.{IsWholeNext}
+use Rattle.chr_search.specs.declared.judged.Verdict.TheVariants as verdicts
+use Rattle.chr_search.specs.declared.search.Whole.{Whole}
+use Rattle.chr_calls.specs.declared.answers.Fired.{Fired}
+use Rattle.chr_calls.specs.declared.answers.Firing.TheVariants as firing
+use Rattle.chr_calls.specs.declared.answers.Dropping.TheVariants as dropping
+use Rattle.chr_calls.specs.Turns.{Next, Done}
+use Rattle.chr_calls.specs.Tickets.{Ticket, ended, waiting, with_candidate, ticket_at, Holds}
+use Rattle.chr_calls.specs.Books.{BookState, space_of, IsLive, with_tickets, with_entry}
+use Rattle.chr_calls.specs.Calls.{HoldsLive, HoldsWhole, AreLive, Turns, dropped, with_candidate_of}
+use Rattle.chr_calls.specs.Headline.{IsKept}
+use Rattle.chr_calls.proofs.Tickets.{states_stand, ticket_same, numbered_within}
+use Rattle.chr_calls.proofs.Turning.{turns_keep}
+use Rattle.chr_calls.proofs.Firing.{fires_keep}
+use Rattle.chr_calls.proofs.Dropping.{drops_keep}
+use Rattle.chr_book.specs.declared.rounds.Last.{Last}
+use Rattle.chr_book.specs.declared.rounds.Last.TheVariants as lasts
+use Rattle.chr_book.specs.declared.rounds.Rounds.{Rounds}
+use Rattle.chr_book.specs.Books.{book_of}
+use Rattle.chr_book.specs.Firings.{gone_on, FiresWhole}
+use Rattle.chr_book.specs.Passed.{PassesTrials, FiresTrial, DropsGoal, IsLast, MakesRounds, MakesFewer}
+use Rattle.chr_book.proofs.Passes.{IsPast, passes_keep}
+use Rattle.chr_book.proofs.Fired.{IsWholeOf, with_fired, fires_there}
+
+-- ---- the ticket with a candidate
+
+there : (b : BookState) (t l : ℕ) (c : Option Trial) → (ticket_at b.tickets t).goal ≡ Numbered l → ticket_at (with_candidate_of b t c).tickets t ≡ with_candidate c (ticket_at b.tickets t)
+there b t l c at = ticket_same b.tickets t (with_candidate c (ticket_at b.tickets t)) (numbered_within b.tickets t l at)
+
+holds_asked : (b : BookState) (seat t l : ℕ) (c : Option Trial) → Holds b.tickets seat t l → Holds (with_candidate_of b t c).tickets seat t l
+holds_asked b seat t l c h = record {
+  state = states_stand b.tickets t t (with_candidate c (ticket_at b.tickets t)) refl refl ∙ h.state;
+  goal = ap (λ (x : Ticket). x.goal) (there b t l c h.goal) ∙ h.goal;
+}
+
+-- ---- a drop
+
+abbrev pub with_dropped : BookState → List (Entry ℕ) → List Ticket → BookState
+with_dropped b log tickets = record { rules = b.rules; plans = b.plans; names = b.names; limit = b.limit; log = log; store = b.store; next = b.next; tickets = tickets }
+
+drops_last : (b : BookState) (seat t l : ℕ) → HoldsLive b seat t l → NoneLeft (space_of b l) (ticket_at b.tickets t).position → DropsGoal seat t b (dropped b seat t)
+drops_last b seat t l h none = record {
+  asked = with_candidate_of b t None;
+  turns = (l, h, none, refl);
+  drops = (
+    l,
+    holds_asked b seat t l None h.holds,
+    λ live. subst (NoneLeft (space_of b l)) (sym (ap (λ (x : Ticket). x.position) (there b t l None h.holds.goal))) none,
+    ap (λ ts. with_tickets (with_entry b seat (Drop t)) ts) (sym (set-set b.tickets t (with_candidate None (ticket_at b.tickets t)) ended)),
+  );
+}
+
+pub dropped_rounds : (b : BookState) (seat t k l : ℕ) (place : List ℕ) (now tickets : List Ticket) (log : List (Entry ℕ)) → IsPast b seat t k l place now → NoneLeft (space_of b l) place → tickets ≡ slice_set now t ended → log ≡ b.log ++ record { event = Drop t; seat = seat } ∷ []
+    → MakesRounds seat t (record { passed = k; last = lasts.Dropped }) b (with_dropped b log tickets)
+dropped_rounds b seat t k l place now tickets log past none ts es = record {
+  middle = with_tickets b now;
+  passes = past.passes;
+  last = subst (DropsGoal seat t (with_tickets b now)) (ap₂ (λ (xs : List (Entry ℕ)) (ys : List Ticket). with_dropped b xs ys) (sym es) (sym ts))
+      (drops_last (with_tickets b now) seat t l past.live (subst (NoneLeft (space_of b l)) (sym past.at) none));
+}
+
+-- ---- a firing
+
+are_live : (b : BookState) (ps : List Placed) → AllByRecursion (λ p. atom_at b.store p.label ≡ Some p.atom) ps → AllByRecursion (λ p. IsLive b p.label) ps
+are_live b [] h = tt
+are_live b (p ∷ ps) h = ((p.atom, h.0), are_live b ps h.1)
+
+forgets : (lives : Bool) (place : List ℕ) (c : Option Trial) (x : Ticket) → gone_on lives place x ≡ gone_on lives place (with_candidate c x)
+forgets true place c x = refl
+forgets false place c x = refl
+
+-- what is whole fires where it is the candidate
+fires_asked : {Z : Type 0} (b : BookState) (seat t l : ℕ) (c : Option Trial) (w : Whole Z) (f : Fired) (log : List (Entry ℕ)) (tickets : List Ticket) → (ticket_at b.tickets t).goal ≡ Numbered l → FiresWhole seat t w f b.tickets b.log tickets log → FiresWhole seat t w f (with_candidate_of b t c).tickets b.log tickets log
+fires_asked b seat t l c w f log tickets at h = record {
+  first = h.first ∙ sym (length-set b.tickets t y);
+  lives = h.lives;
+  logged = h.logged;
+  tickets = λ body under. ((h.tickets body under).0, (h.tickets body under).1 ∙ ap (λ ts. ts ++ map waiting body) same);
+}
+  where
+    x : Ticket
+    x = ticket_at b.tickets t
+
+    y : Ticket
+    y = with_candidate c x
+
+    gone : Ticket → Ticket
+    gone z = gone_on f.active_lives w.past.place z
+
+    same : slice_set b.tickets t (gone x) ≡ slice_set (slice_set b.tickets t y) t (gone (ticket_at (slice_set b.tickets t y) t))
+    same = sym (set-set b.tickets t y (gone x)) ∙ ap (slice_set (slice_set b.tickets t y) t) (forgets f.active_lives w.past.place c x ∙ ap gone (sym (there b t l c at)))
+
+fires_last : {Z : Type 0} (b : BookState) (seat t l : ℕ) (place : List ℕ) (w : Whole Z) (f : Fired) (log : List (Entry ℕ)) (tickets : List Ticket) → IsKept b → HoldsLive b seat t l → (ticket_at b.tickets t).position ≡ place → IsWholeNext (space_of b l) place w → FiresWhole seat t w f b.tickets b.log tickets log
+    → FiresTrial seat t b (with_fired b log w.removed.items tickets)
+fires_last b seat t l place w f log tickets k h is next fw = record {
+  judged = j;
+  right = next.under.whole;
+  asked = asked;
+  turns = turns;
+  fired = f;
+  fires = (holds, live, fires_there asked seat t l j w f log tickets (turns_keep b asked seat t (Ok (Next j.trial)) turns k) holds live held.goal whole (fires_asked b seat t l (Some j.trial) w f log tickets h.holds.goal fw));
+}
+  where
+    j : Judgement
+    j = record { trial = next.trial; verdict = verdicts.Whole }
+
+    asked : BookState
+    asked = with_candidate_of b t (Some next.trial)
+
+    turns : Turns b seat t (Ok (Next next.trial)) asked
+    turns = (l, h, record { next = subst (λ p. IsNext (space_of b l) p (position next.trial)) (sym is) next.next; is = next.is; formed = next.formed }, refl)
+
+    held : Holds asked.tickets seat t l
+    held = holds_asked b seat t l (Some next.trial) h.holds
+
+    holds : HoldsWhole asked seat t j
+    holds = record { holds = record { held = held.state; candidate = ap (λ (x : Ticket). x.candidate) (there b t l (Some next.trial) h.holds.goal) }; whole = refl }
+
+    live : AreLive asked next.trial
+    live = are_live asked next.trial.placed next.is.live
+
+    whole : IsWholeOf next.trial l w
+    whole = record { under = next.under; rule = next.rule_is; number = next.number_is; kept = next.kept_are; removed = next.removed_are; past = next.past_is }
+
+pub fired_rounds : {Z : Type 0} (b : BookState) (seat t k l : ℕ) (place : List ℕ) (w : Whole Z) (f : Fired) (now tickets : List Ticket) (log : List (Entry ℕ)) → IsKept b → IsPast b seat t k l place now → IsWholeNext (space_of b l) place w → FiresWhole seat t w f now b.log tickets log
+    → MakesRounds seat t (record { passed = k; last = lasts.Fired }) b (with_fired b log w.removed.items tickets)
+fired_rounds b seat t k l place w f now tickets log kept past next fw =
+    let middle : BookState = with_tickets b now in
+    record { middle = middle; passes = past.passes; last = fires_last middle seat t l place w f log tickets (passes_keep k b middle seat t past.passes kept) past.live past.at next fw }
+
+-- the same of the parts of a book
+pub fired_book : {Z : Type 0} (rules : List (Simpagation ℕ)) (plans : PlanList) (names : List (List ℕ)) (log entries : List (Entry ℕ)) (st left : LabelledStore) (ts : List Ticket) (seat t k l : ℕ) (place : List ℕ) (w : Whole Z) (f : Fired) (now tickets : List Ticket)
+    → IsKept (book_of rules plans names log st ts) → IsPast (book_of rules plans names log st ts) seat t k l place now → IsWholeNext (space_of (book_of rules plans names log st ts) l) place w → FiresWhole seat t w f now log tickets entries
+    → left ≡ record { entries = without w.removed.items st.entries; next = st.next; limit = st.limit } → MakesRounds seat t (record { passed = k; last = lasts.Fired }) (book_of rules plans names log st ts) (book_of rules plans names entries left tickets)
+fired_book rules plans names log entries st left ts seat t k l place w f now tickets kept past next fw e =
+    let b : BookState = book_of rules plans names log st ts in
+    subst (λ (z : LabelledStore). MakesRounds seat t (record { passed = k; last = lasts.Fired }) b (book_of rules plans names entries z tickets)) (sym e) (fired_rounds b seat t k l place w f now tickets entries kept past next fw)
+
+-- ---- none of these
+
+pub passed_rounds : (b : BookState) (seat t k l : ℕ) (place : List ℕ) (now : List Ticket) → IsPast b seat t k l place now → MakesRounds seat t (record { passed = k; last = lasts.Passed }) b (with_tickets b now)
+passed_rounds b seat t k l place now past = record { middle = with_tickets b now; passes = past.passes; last = refl }
+
+-- memory was refused
+pub fewer_rounds : (b : BookState) (seat t k l most : ℕ) (place : List ℕ) (now tickets : List Ticket) (log : List (Entry ℕ)) → IsPast b seat t k l place now → tickets ≡ now → log ≡ b.log → k < most → MakesFewer seat t most b (with_dropped b log tickets)
+fewer_rounds b seat t k l most place now tickets log past ts es less = record {
+  passed = k;
+  fewer = less;
+  passes = subst (PassesTrials seat t k b) (ap₂ (λ (xs : List (Entry ℕ)) (ys : List Ticket). with_dropped b xs ys) (sym es) (sym ts)) past.passes;
+}
+
+on_err : {X E : Type 0} (P : Type 0) (r : Result X E) → P → OnErr r P
+on_err P (Ok x) h = tt
+on_err P (Err e) h = h
+
+-- ---- of what the book showed before
+
+pub rounds_of : {seat t : ℕ} {r : Rounds} {b now n : BookState} → b ≡ now → MakesRounds seat t r b n → MakesRounds seat t r now n
+rounds_of {seat} {t} {r} {b} {now} {n} e h = subst (λ (m : BookState). MakesRounds seat t r m n) e h
+
+pub fewer_of : {X E : Type 0} {seat t most : ℕ} {b now n : BookState} (r : Result X E) → b ≡ now → MakesFewer seat t most b n → OnErr r (MakesFewer seat t most now n)
+fewer_of {X} {E} {seat} {t} {most} {b} {now} {n} r e h = on_err (MakesFewer seat t most now n) r (subst (λ (m : BookState). MakesFewer seat t most m n) e h)
+
+-- ---- what a book keeps
+
+last_keeps : (last : Last) (b n : BookState) (seat t : ℕ) → IsLast seat t last b n → IsKept b → IsKept n
+last_keeps lasts.Fired b n seat t h kept = fires_keep h.asked n seat t h.judged (Ok (firing.Fired h.fired)) h.right h.fires (turns_keep b h.asked seat t (Ok (Next h.judged.trial)) h.turns kept)
+last_keeps lasts.Dropped b n seat t h kept = drops_keep h.asked n seat t (Ok dropping.Dropped) h.drops (turns_keep b h.asked seat t (Ok Done) h.turns kept)
+last_keeps lasts.Passed b n seat t h kept = subst IsKept (sym h) kept
+
+pub rounds_keep : (seat t : ℕ) (r : Rounds) (b n : BookState) → MakesRounds seat t r b n → IsKept b → IsKept n
+rounds_keep seat t r b n h kept = last_keeps r.last h.middle n seat t h.last (passes_keep r.passed b h.middle seat t h.passes kept)
+
+pub fewer_keep : (seat t most : ℕ) (b n : BookState) → MakesFewer seat t most b n → IsKept b → IsKept n
+fewer_keep seat t most b n h kept = passes_keep h.passed b n seat t h.passes kept

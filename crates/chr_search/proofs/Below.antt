@@ -1,0 +1,183 @@
+-- Going over the trials below labels.
+use Rattle.std.proofs.Common.{◌≡◌, ℕ, zero, suc, ◌+◌, ◌<◌, ◌≤◌, Bool, true, false, ◌==◌, if◌then◌else◌, List, [], ◌∷◌, ◌++◌, length, take, refl, sym, ◌∙◌, ap, subst, arith, ⊎_elim, length-append}
+use Rattle.std.proofs.Math.Seq.{take-append_seam}
+use Rattle.std.proofs.lemmas.Bool.Decides.{nat_tests}
+use mathlib.Core.Bool.{not}
+use denote.Enum.Bare.{sameb}
+use Rattle.chr_search.specs.contracts.passing.End.{the_type}
+use Rattle.chr_search.specs.declared.passing.End.{End}
+use Rattle.chr_search.specs.declared.passing.End.TheVariants as ends
+use Rattle.chr_search.specs.declared.judged.Verdict.TheVariants.{Misfit, Part}
+use Rattle.chr_search.specs.Positions.{at_or_after}
+use Rattle.chr_search.specs.Tree.{Children, Grows, Beyond, Least, NoneBeyond, LeastFrom, NoneFrom}
+use Rattle.chr_search.specs.Trials.{Join, MayFollow, IsInTurn}
+use Rattle.chr_search.specs.Partners.{HasPlan}
+use Rattle.chr_search.specs.Passing.{AreJudged, AreMisfits, PassesOneIn, PassesIn, IsBelow, IsDone, settled}
+use Rattle.chr_search.proofs.Positions.{after_first, after_cases, past_last}
+use Rattle.chr_search.proofs.Partners.{none_below as none_fits}
+use Rattle.chr_search.proofs.Asking.{room}
+use Rattle.chr_search.proofs.Tree.{append_one, Come, come_first, come_at, come_to_end, come_found, here, under_same}
+
+append_nil : (xs : List ℕ) → xs ++ [] ≡ xs
+append_nil [] = refl
+append_nil (x ∷ xs) = ap (λ ys. x ∷ ys) (append_nil xs)
+
+-- where a list grows, the least below it at or after a place is the least at or after the list and the place
+pub least_deep : (C : Children) (d : ℕ) (path front rest found : List ℕ) → Grows C path front → Least C d (path ++ front) rest found → Least C d path (front ++ rest) found
+least_deep C d path [] rest found g l = subst (λ p. Least C d p rest found) (append_nil path) l
+least_deep C d path (y ∷ ys) rest found g l =
+    come_found C d path (y ∷ (ys ++ rest)) y (ys ++ rest) y found (come_at C d path y (ys ++ rest)) (record { holds = g.0; there = omega arith; least = λ z c low. low })
+    (subst (λ b. Least C d (path ++ y ∷ []) b found) (under_same y (ys ++ rest) y refl)
+    (least_deep C d (path ++ y ∷ []) ys rest found g.1 (subst (λ p. Least C d p rest found) (sym (append_one path ys y)) l)))
+
+-- past a number below which there is nothing
+come_past : (C : Children) (d : ℕ) (path place : List ℕ) (from : ℕ) (below : List ℕ) → Come C d path place from below → (C path from → NoneBeyond C d (path ++ from ∷ []) below) → Come C d path place (from + 1) []
+come_past C d path place from below c none = record { into = to; back = back }
+  where
+    to : (other : List ℕ) → Beyond C d path place other → at_or_after ((from + 1) ∷ []) other ≡ true
+    to [] b = let e : false ≡ true = c.into [] b in absurd (cc)
+    to (y ∷ ys) b =
+        ⊎_elim (λ less. by_order (y == from + 1) refl less)
+        (λ same.
+        let e : from ≡ y = same.0 in
+        absurd (none (subst (C path) (sym e) b.grows.0) ys (record {
+          grows = subst (λ z. Grows C (path ++ z ∷ []) ys) (sym e) b.grows.1;
+          deep = subst (λ (p : List ℕ). d ≤ length p) (sym (append_one path ys from)) (subst (λ z. d ≤ length (path ++ z ∷ ys)) (sym e) b.deep);
+          there = same.1;
+        })))
+        (after_cases from y below ys (c.into (y ∷ ys) b))
+      where
+        by_order : (t : Bool) → (y == from + 1) ≡ t → from < y → at_or_after ((from + 1) ∷ []) (y ∷ ys) ≡ true
+        by_order t e less = grind (arith, nat_tests)
+
+    back : (other : List ℕ) → at_or_after ((from + 1) ∷ []) other ≡ true → at_or_after place other ≡ true
+    back [] h = absurd (cc)
+    back (y ∷ ys) h = c.back (y ∷ ys) (after_first from y below ys (grind (arith, nat_tests)))
+
+-- a place below labels
+come_of : (j : Join) (ls place : List ℕ) (from : ℕ) → (b : IsBelow j ls place from) → Come (MayFollow j) 1 ls b.rest from []
+come_of j ls place from b = record { into = b.into; back = b.back }
+
+below_of : (j : Join) (ls place rest : List ℕ) (from : ℕ) → Grows (MayFollow j) [] ls → place ≡ ls ++ rest → Come (MayFollow j) 1 ls rest from [] → IsBelow j ls place from
+below_of j ls place rest from g is c = record { grows = g; rest = rest; is = is; into = c.into; back = c.back }
+
+pub below_at : (j : Join) (ls place : List ℕ) (from : ℕ) → Grows (MayFollow j) [] ls → place ≡ ls ++ from ∷ [] → IsBelow j ls place from
+below_at j ls place from g is = below_of j ls place (from ∷ []) from g is (come_at (MayFollow j) 1 ls from [])
+
+pub below_first : (j : Join) (place : List ℕ) → place ≡ [] → IsBelow j [] place 0
+below_first j place is = below_of j [] place [] 0 tt is (come_first (MayFollow j) 1 [] (omega arith))
+
+-- the least one there
+none_under : (t : Bool) → ◌≡◌ {A = List ℕ} [] (if t then [] else [])
+none_under true = refl
+none_under false = refl
+
+pub below_least : (j : Join) (ls place : List ℕ) (from x : ℕ) → IsBelow j ls place from → LeastFrom (MayFollow j ls) from x → Least (MayFollow j) 1 [] place (ls ++ x ∷ [])
+below_least j ls place from x b l =
+    subst (λ z. Least (MayFollow j) 1 [] z (ls ++ x ∷ [])) (sym b.is)
+    (least_deep (MayFollow j) 1 [] ls b.rest (ls ++ x ∷ []) b.grows
+    (come_found (MayFollow j) 1 ls b.rest from [] x (ls ++ x ∷ []) (come_of j ls place from b) l
+    (subst (λ z. Least (MayFollow j) 1 (ls ++ x ∷ []) z (ls ++ x ∷ [])) (none_under (x == from)) (here (MayFollow j) 1 (ls ++ x ∷ []) (omega (arith, length-append ls (x ∷ [])))))))
+
+-- none there
+pub below_done : (j : Join) (ls place : List ℕ) (from : ℕ) → IsBelow j ls place from → NoneFrom (MayFollow j ls) from → IsDone j ls place
+below_done j ls place from b n = record { rest = b.rest; is = b.is; none = come_to_end (MayFollow j) 1 ls b.rest from [] (come_of j ls place from b) n }
+
+-- after one below which none is left
+pub done_below : (j : Join) (ls place : List ℕ) (x : ℕ) → Grows (MayFollow j) [] ls → IsDone j (ls ++ x ∷ []) place → IsBelow j ls place (x + 1)
+done_below j ls place x g e =
+    below_of j ls place (x ∷ e.rest) (x + 1) g (e.is ∙ append_one ls e.rest x)
+    (come_past (MayFollow j) 1 ls (x ∷ e.rest) x e.rest (come_at (MayFollow j) 1 ls x e.rest) (λ m. e.none))
+
+-- after one below which there is none
+pub none_below : (j : Join) (ls place : List ℕ) (x : ℕ) (below : List ℕ) → Grows (MayFollow j) [] ls → place ≡ ls ++ x ∷ below → (MayFollow j ls x → NoneBeyond (MayFollow j) 1 (ls ++ x ∷ []) below) → IsBelow j ls place (x + 1)
+none_below j ls place x below g is n =
+    below_of j ls place (x ∷ below) (x + 1) g is (come_past (MayFollow j) 1 ls (x ∷ below) x below (come_at (MayFollow j) 1 ls x below) n)
+
+-- no label is above the active one
+pub above_done : (j : Join) (ls place : List ℕ) (x : ℕ) (below : List ℕ) → j.bound ≡ j.active → place ≡ ls ++ x ∷ below → j.active < x → IsDone j ls place
+above_done j ls place x below same is high = record {
+  rest = x ∷ below;
+  is = is;
+  none = come_to_end (MayFollow j) 1 ls (x ∷ below) x below (come_at (MayFollow j) 1 ls x below) (λ y m low. high_turn ls y m.turn low);
+}
+  where
+    high_turn : (ls : List ℕ) (y : ℕ) → IsInTurn j ls y → x ≤ y → ⊥
+    high_turn [] y t low = let e : y ≡ j.active = t in omega arith
+    high_turn (l ∷ ls) y t low = let e : y < j.bound = t in omega arith
+
+-- passing over one more
+pub passes_last : (j : Join) (n : ℕ) (place middle after : List ℕ) → PassesIn j n place middle → PassesOneIn j middle after → PassesIn j (suc n) place after
+passes_last j zero place middle after p one = (after, subst (λ z. PassesOneIn j z after) p one, refl)
+passes_last j (suc n) place middle after p one = (p.0, p.1, passes_last j n p.0 middle after p.2 one)
+
+pub passes_more : (j : Join) (n more : ℕ) (place middle after : List ℕ) → PassesIn j n place middle → PassesIn j more middle after → PassesIn j (n + more) place after
+passes_more j zero more place middle after p q = subst (λ k. PassesIn j k place after) (let e : more ≡ 0 + more = omega arith in e) (subst (λ z. PassesIn j more z after) p q)
+passes_more j (suc n) more place middle after p q = subst (λ k. PassesIn j k place after) (let e : suc (n + more) ≡ suc n + more = omega arith in e) (p.0, p.1, passes_more j n more p.0 middle after p.2 q)
+
+-- over misfits
+pub misfits_settled : (j : Join) (ls place : List ℕ) (n from next : ℕ) → IsBelow j ls place from → AreMisfits j ls n from next → PassesIn j n place (settled n ls next place) × IsBelow j ls (settled n ls next place) next
+misfits_settled j ls place zero from next b e = (refl, subst (IsBelow j ls place) (sym e) b)
+misfits_settled j ls place (suc n) from next b (middle, x, before, least, misfit, e) =
+    let r = misfits_settled j ls place n from middle b before in
+    let one : PassesOneIn j (settled n ls middle place) (ls ++ next ∷ []) = record {
+      trial = ls ++ x ∷ [];
+      least = below_least j ls (settled n ls middle place) middle x r.1 least;
+      verdict = Misfit;
+      right = misfit;
+      other = λ z. absurd (cc);
+      on = ap (λ y. ls ++ y ∷ []) e ∙ sym (past_last ls x);
+    } in
+    (passes_last j n place (settled n ls middle place) (ls ++ next ∷ []) r.0 one, below_at j ls (ls ++ next ∷ []) next b.grows refl)
+
+-- over a part
+pub part_passed : (j : Join) (ls place : List ℕ) (n : ℕ) (middle : List ℕ) (from x : ℕ) → PassesIn j n place middle → IsBelow j ls middle from → LeastFrom (MayFollow j ls) from x → AreJudged j (ls ++ x ∷ []) Part → PassesIn j (n + 1) place ((ls ++ x ∷ []) ++ 0 ∷ [])
+part_passed j ls place n middle from x p b l a =
+    subst (λ k. PassesIn j k place ((ls ++ x ∷ []) ++ 0 ∷ [])) (let e : suc n ≡ n + 1 = omega arith in e)
+    (passes_last j n place middle ((ls ++ x ∷ []) ++ 0 ∷ []) p (record {
+      trial = ls ++ x ∷ [];
+      least = below_least j ls middle from x b l;
+      verdict = Part;
+      right = a;
+      other = λ z. absurd (cc);
+      on = refl;
+    }))
+
+-- a run of misfits, and what comes then
+front_of : (ls rest place : List ℕ) (depth : ℕ) → place ≡ ls ++ rest → depth ≡ length ls → take depth place ≡ ls
+front_of ls rest place depth is e = subst (λ n. take n place ≡ ls) (sym e) (subst (λ z. take (length ls) z ≡ ls) (sym is) (take-append_seam ls rest))
+
+pub misfits_rise : (j : Join) (ls : List ℕ) (n from next : ℕ) → AreMisfits j ls n from next → from ≤ next
+misfits_rise j ls zero from next e = omega arith
+misfits_rise j ls (suc n) from next (middle, x, before, least, misfit, e) =
+    let low : from ≤ middle = misfits_rise j ls n from middle before in
+    let there : middle ≤ x = least.there in
+    omega arith
+
+pub misfits_room : (j : Join) → HasPlan j → (ls : List ℕ) (n from next : ℕ) → AreMisfits j ls n from next → 1 ≤ n → length ls < 6
+misfits_room j p ls zero from next m some = absurd (omega arith)
+misfits_room j p ls (suc n) from next m some = room j p ls m.1 m.3.holds
+
+pub record HasRun (j : Join) (ls place after : List ℕ) (depth n next : ℕ) : Type 0 where
+  pub passes : PassesIn j n place after
+  pub below : IsBelow j ls after next
+  pub front : take depth after ≡ ls
+  pub deep : depth ≡ length ls
+
+pub has_run : (j : Join) (ls place after : List ℕ) (depth n from next : ℕ) → IsBelow j ls place from → AreMisfits j ls n from next → depth ≡ length ls → after ≡ settled n (take depth place) next place → HasRun j ls place after depth n next
+has_run j ls place after depth n from next b m e is =
+    let r = misfits_settled j ls place n from next b m in
+    let same : settled n ls next place ≡ after = ap (λ xs. settled n xs next place) (sym (front_of ls b.rest place depth b.is e)) ∙ sym is in
+    let below : IsBelow j ls after next = subst (λ z. IsBelow j ls z next) same r.1 in
+    record { passes = subst (PassesIn j n place) same r.0; below = below; front = front_of ls below.rest after depth below.is e; deep = e }
+
+-- nothing comes at or after a place below labels where no label may follow
+pub none_after : (j : Join) (ls : List ℕ) (x : ℕ) (below : List ℕ) → 1 ≤ length below → ((y : ℕ) → MayFollow j (ls ++ x ∷ []) y → ⊥) → NoneBeyond (MayFollow j) 1 (ls ++ x ∷ []) below
+none_after j ls x [] some n = absurd (omega arith)
+none_after j ls x (z ∷ zs) some n = none_fits j ls x z zs n
+
+-- none is left
+pub none_left : (e : End) → false ≡ not (sameb the_type e ends.NoneLeft) → e ≡ ends.NoneLeft
+none_left ends.Whole h = absurd (cc)
+none_left ends.NoneLeft h = refl
+none_left ends.Enough h = absurd (cc)

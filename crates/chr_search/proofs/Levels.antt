@@ -1,0 +1,111 @@
+-- Trials that have the same labels but the last.
+use Rattle.std.proofs.Common.{◌≡◌, ℕ, ◌+◌, ◌≤◌, Bool, true, false, List, [], ◌∷◌, ◌++◌, length, length-append, Option, Some, None, slice_get, refl, sym, ◌∙◌, ap, subst, arith}
+use Rattle.std.specs.Option.{option_map}
+use Rattle.chr_value.specs.Atoms.{Value, Atom}
+use Rattle.chr_rule.specs.Parts.{shape}
+use Rattle.chr_rule.specs.Rules.{RuleAtom, head_at}
+use Rattle.chr_rule.specs.Scope.{IsRule}
+use Rattle.chr_guard.specs.Values.{Valuation}
+use Rattle.chr_guard.specs.Bindings.{bound_at, NarrowsIf}
+use Rattle.chr_guard.specs.Instances.{atom_under, NoInstance}
+use Rattle.chr_guard.specs.Matching.{IsFit, HeadsAre, IsInstanceUnder}
+use Rattle.chr_guard.proofs.Scoped.{IsPlaced}
+use Rattle.chr_guard.proofs.Matched.{head_placed, told_as}
+use Rattle.chr_model.specs.Stores.{atom_at, among, Distinct}
+use Rattle.chr_plan.specs.Orders.{heads_of}
+use Rattle.chr_plan.specs.declared.order.Step.{Step}
+use Rattle.chr_search.specs.declared.judged.Verdict.TheVariants.{Misfit, Part}
+use Rattle.chr_search.specs.declared.passing.Level.{Level as CodeLevel}
+use Rattle.chr_search.specs.Trials.{Join, StandsAt, Fit, IsInTurn, MayFollow, given_at}
+use Rattle.chr_search.specs.Partners.{HasPlan, IsReady}
+use Rattle.chr_search.specs.Verdicts.{Trial, IsWhole, IsPart, IsWholeUnder}
+use Rattle.chr_search.specs.Passing.{IsTrialIn, AreJudged, IsLevel, IsNarrowedIf}
+use Rattle.chr_search.proofs.Plans.{step_key_given}
+use Rattle.chr_search.proofs.Partners.{ready_more, fit_less, no_fit}
+use Rattle.chr_search.proofs.Reaches.{has_pred, has_key}
+use Rattle.chr_search.proofs.Asking.{some_is, stands_is}
+use Rattle.chr_search.proofs.Wholes.{in_head_order, completed}
+use Rattle.chr_search.proofs.Passed.{stands_nowhere, is_part, is_full, heads_fit, misfit_here}
+
+module _ {Z : Type 0} (j : Join) (ls : List ℕ) (level : CodeLevel Z) (l : ℕ) (here : IsLevel j ls level) where
+  -- the head has the binding's variables
+  pub level_placed : (t : Trial) → IsTrialIn j (ls ++ l ∷ []) t → (binding : List (Option (Value ℕ))) → binding ≡ level.binding.now → IsPlaced (length binding) (shape level.head.now)
+  level_placed t i binding e =
+      let rule = subst (λ r. IsRule r) i.rule_is i.formed.scoped in
+      subst (λ b. IsPlaced (length b) (shape level.head.now)) (sym e)
+      (subst (λ n. IsPlaced n (shape level.head.now)) (sym here.ready.fit.places) (head_placed j.rule rule here.step.head (shape level.head.now) here.head_is))
+
+  level_fits : (a : Atom ℕ) → atom_at j.store l ≡ Some a → (told : Bool) (old new : List (Option (Value ℕ))) → old ≡ level.binding.now → NarrowsIf (λ v. atom_under v (shape level.head.now) ≡ Some a) told old new → NarrowsIf (λ v. StandsAt j v here.step l) told level.binding.now new
+  level_fits a at told old new e n =
+      subst (λ b. NarrowsIf (λ v. StandsAt j v here.step l) told b new) e
+      (told_as (λ v. atom_under v (shape level.head.now) ≡ Some a) (λ v. StandsAt j v here.step l) told old new (stands_is j here.step l (shape level.head.now) a here.head_is at) n)
+
+  -- the label has left the store
+  pub level_gone : atom_at j.store l ≡ None → AreJudged j (ls ++ l ∷ []) Misfit
+  level_gone gone = stands_nowhere j ls level.binding.now here.step l here.ready here.step_is (λ v x s. let z : None ≡ Some s.atom = sym gone ∙ s.live in absurd (cc))
+
+  -- its atom doesn't fit
+  pub level_misfit : (a : Atom ℕ) → atom_at j.store l ≡ Some a → (old new : List (Option (Value ℕ))) → old ≡ level.binding.now → NarrowsIf (λ v. atom_under v (shape level.head.now) ≡ Some a) false old new → AreJudged j (ls ++ l ∷ []) Misfit
+  level_misfit a at old new e n = stands_nowhere j ls level.binding.now here.step l here.ready here.step_is (level_fits a at false old new e n)
+
+  -- it fits
+  pub level_ready : (a : Atom ℕ) → atom_at j.store l ≡ Some a → among ls l ≡ false → (old new : List (Option (Value ℕ))) → old ≡ level.binding.now → NarrowsIf (λ v. atom_under v (shape level.head.now) ≡ Some a) true old new → IsReady j (ls ++ l ∷ []) new
+  level_ready a at away old new e n = ready_more j ls level.binding.now new here.step l here.ready here.step_is away (level_fits a at true old new e n)
+
+  -- heads are left
+  pub level_part : (binding : List (Option (Value ℕ))) → IsReady j (ls ++ l ∷ []) binding → level.is_last ≡ false → AreJudged j (ls ++ l ∷ []) Part
+  level_part binding r more =
+      let few : (length j.rule.kept + length j.rule.removed ≤ length ls + 1) → ⊥ = λ many. (let z : false ≡ true = sym more ∙ here.last.1 many in cc) in
+      is_part j (ls ++ l ∷ []) binding r (omega (arith, few, length-append ls (l ∷ [])))
+
+  -- none is left
+  level_full : (t : Trial) → IsTrialIn j (ls ++ l ∷ []) t → level.is_last ≡ true → length t.placed ≡ length (heads_of t.rule)
+  level_full t i last = let many = here.last.0 last in is_full j (ls ++ l ∷ []) t i (omega (arith, many, length-append ls (l ∷ [])))
+
+  pub level_heads : (t : Trial) → IsTrialIn j (ls ++ l ∷ []) t → level.is_last ≡ true → (binding : List (Option (Value ℕ))) → IsReady j (ls ++ l ∷ []) binding → IsFit j.rule (HeadsAre j.rule (in_head_order t)) binding
+  level_heads t i last binding r = heads_fit j (ls ++ l ∷ []) t i (level_full t i last) binding r.fit
+
+  pub level_whole : (t : Trial) → IsTrialIn j (ls ++ l ∷ []) t → level.is_last ≡ true → (old new : List (Option (Value ℕ))) → IsReady j (ls ++ l ∷ []) old → IsInstanceUnder j.rule (in_head_order t) new → IsWholeUnder t new
+  level_whole t i last old new r u =
+      completed t i.formed (level_full t i last) (subst (λ xs. Distinct xs) (sym i.labels_are) r.distinct) (Some new)
+      (subst (λ x. IsInstanceUnder x (in_head_order t) new) (sym i.rule_is) u)
+
+  pub level_none : (t : Trial) → IsTrialIn j (ls ++ l ∷ []) t → level.is_last ≡ true → NoInstance j.rule (in_head_order t) → (IsWhole t → ⊥) × (IsPart t → ⊥)
+  level_none t i last n = misfit_here j (ls ++ l ∷ []) t i (level_full t i last) n
+
+-- a label that fits may follow
+follows_at : (j : Join) → HasPlan j → (v : Valuation) (ls : List ℕ) (l : ℕ) → IsInTurn j ls l → Distinct ls → (step : Step) → slice_get j.order (length ls) ≡ Some step → Fit j v j.order ls → StandsAt j v step l → (o : Option (RuleAtom ℕ)) → head_at j.rule step.head ≡ o → MayFollow j ls l
+follows_at j p v ls l turn d step at f s None is = absurd (let z : None ≡ Some (Some s.atom) = sym (ap (option_map (atom_under v)) is) ∙ s.fits in cc)
+follows_at j p v ls l turn d step at f s (Some head) is =
+    let under : atom_under v head ≡ Some s.atom = some_is (atom_under v head) (Some s.atom) (sym (ap (option_map (atom_under v)) is) ∙ s.fits) in
+    record {
+      turn = turn;
+      distinct = d;
+      valuation = v;
+      fits = f;
+      step = step;
+      step_is = at;
+      head = head;
+      head_is = is;
+      atom = s.atom;
+      live = s.live;
+      pred = has_pred v head s.atom under;
+      key = has_key v head s.atom under step.key (known ls f at);
+    }
+  where
+    known : (before : List ℕ) → Fit j v j.order before → slice_get j.order (length before) ≡ Some step → (place : ℕ) → step.key ≡ Some place → (value : Value ℕ) × (given_at v head place ≡ Some value)
+    known [] g at place k =
+        let first : step ≡ record { head = p.head; key = None } = some_is step (record { head = p.head; key = None }) (sym at ∙ ap (λ (z : List Step). slice_get z 0) p.plan.first) in
+        let n : None ≡ Some place = sym (ap (λ (y : Step). y.key) first) ∙ k in
+        absurd (cc)
+    known (y ∷ before) g at place k = step_key_given j p.head v (y ∷ before) step head place p.plan (omega arith) g at is k
+
+pub follows_fit : (j : Join) → HasPlan j → (ls : List ℕ) (l : ℕ) (binding : List (Option (Value ℕ))) → IsInTurn j ls l → Distinct ls → IsReady j (ls ++ l ∷ []) binding → MayFollow j ls l
+follows_fit j p ls l binding turn d r =
+    let f = fit_less j (bound_at binding) j.order ls l ((r.fit.exactly (bound_at binding)).0 (λ x t e. e)) in
+    follows_at j p (bound_at binding) ls l turn d f.0 f.1 f.2 f.3 (head_at j.rule f.0.head) refl
+
+-- one label more
+pub narrowed_by : (j : Join) → HasPlan j → (ls : List ℕ) (old new : List (Option (Value ℕ))) (step : Step) (l : ℕ) → IsReady j ls old → slice_get j.order (length ls) ≡ Some step → among ls l ≡ false → IsInTurn j ls l → (told : Bool) → NarrowsIf (λ v. StandsAt j v step l) told old new → IsNarrowedIf j ls l told new
+narrowed_by j p ls old new step l r at away turn true n = let more = ready_more j ls old new step l r at away n in (follows_fit j p ls l new turn r.distinct more, more)
+narrowed_by j p ls old new step l r at away turn false n = λ m x f. no_fit j ls old step l x r at n f

@@ -1,0 +1,24 @@
+use Rattle.std.proofs.Common.{◌≡◌, true, false, true≢false, length, sym, ◌∙◌}
+use Rattle.chr_model.specs.Stores.{among}
+use Rattle.chr_search.specs.Joined.{join_of}
+use Rattle.chr_search.proofs.Partners.{repeated, no_step}
+use Rattle.chr_search.proofs.Asking.{any_among, get_there, past_get}
+use Rattle.chr_search.proofs.Levels.{narrowed_by}
+use Rattle.chr_search.proofs.join.Join.narrow_by.Goals as goal
+
+pub returns-then-not-is_in_turn : goal.returns-then-not-is_in_turn
+returns-then-not-is_in_turn g c = λ m x f. true≢false (sym (c.is_in_turn.ensures.1 m.turn) ∙ c.if-not-is_in_turn.true)
+
+pub returns-then-is_among : goal.returns-then-is_among
+returns-then-is_among g c =
+    let there : among c.args.labels.now c.args.label ≡ true = sym (any_among c.args.labels.now c.args.label) ∙ sym c.is_among.ensures ∙ c.if-is_among.true in
+    λ m x f. repeated (join_of c.args.self.now) c.args.labels.now c.args.label x there f
+
+pub returns-in_default : goal.returns-in_default
+returns-in_default g c = λ m x f. no_step (join_of c.args.self.now) c.args.labels.now c.args.label x (past_get c.args.self.now.order.now (length c.args.labels.now) c.in_default.ensures.lookup.0) f
+
+pub returns : goal.returns
+returns g c =
+    let away : among c.args.labels.now c.args.label ≡ false = sym (any_among c.args.labels.now c.args.label) ∙ sym c.is_among.ensures ∙ c.if-is_among.false in
+    narrowed_by (join_of c.args.self.now) c.requires.plan c.args.labels.now c.args.narrowed.now c.fit_at.new.binding c.in-Some.step.now c.args.label c.requires.ready
+    (get_there c.args.self.now.order.now (length c.args.labels.now) c.in-Some.step.now c.in-Some.ensures.lookup.0 c.in-Some.ensures.lookup.1) away (c.is_in_turn.ensures.0 c.if-not-is_in_turn.false) c.fit_at.result c.fit_at.ensures

@@ -1,0 +1,11 @@
+use Rattle.std.proofs.Common.{IfSome, subst}
+use Rattle.chr_store.specs.Buckets.{IsLeastBetween}
+use Rattle.chr_search.specs.Joined.{join_of}
+use Rattle.chr_search.specs.Partners.{GivePartners}
+use Rattle.chr_search.proofs.join.Join.next_at.Goals as goal
+
+pub returns-in-Some-clause-least : goal.returns-in-Some-clause-least
+returns-in-Some-clause-least g c =
+    let j = join_of c.args.self.now in
+    let give : GivePartners j c.args.labels.now c.in-Some.partners = subst (λ o. IfSome o (GivePartners j c.args.labels.now)) c.in-Some.is c.requires.level.partners in
+    give c.args.from c.next_at.result (subst (λ a. IsLeastBetween c.in-Some.partners a c.args.self.now.active c.next_at.result) c.saturating_sub.ensures c.next_at.ensures.least)

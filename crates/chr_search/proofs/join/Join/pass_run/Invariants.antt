@@ -1,0 +1,14 @@
+use Rattle.std.proofs.Common.{◌≡◌, ◌-◌, ◌≤◌}
+use Rattle.chr_search.specs.Joined.{join_of}
+use Rattle.chr_search.specs.Passing.{AreMisfits}
+use Rattle.chr_search.proofs.join.Join.pass_run.Given as goal
+
+abbrev pub invariant-loop-count : goal.invariant-loop-count
+invariant-loop-count g l = record {
+  few : l.count ≤ l.most;
+  misfits : AreMisfits (join_of l.self) l.labels l.count l.from l.next;
+  same : l.level ≡ l.fn.level;
+}
+
+abbrev pub decreases-loop-count : goal.decreases-loop-count
+decreases-loop-count g l = l.most - l.count

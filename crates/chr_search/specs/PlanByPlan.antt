@@ -1,0 +1,50 @@
+-- Searches that pass over trials plan by plan.
+use Rattle.std.specs.Prelude.{◌≡◌, ℕ, zero, suc, ◌≤◌, ◌==◌, true, ◌&&◌, if◌then◌else◌, List, [], ◌∷◌, take, Option}
+use Rattle.chr_value.specs.Atoms.{Value}
+use Rattle.chr_rule.specs.Rules.{Simpagation}
+use Rattle.chr_plan.specs.declared.order.Step.{Step}
+use Rattle.chr_search.specs.declared.passing.End.{End}
+use Rattle.chr_search.specs.Positions.{at_or_after}
+use Rattle.chr_search.specs.Trials.{Join, MayFollow, Space, join_in, IsPlanned, IsTrial}
+use Rattle.chr_search.specs.Partners.{HasPlan}
+use Rattle.chr_search.specs.Passing.{PassesIn, EndsIn}
+
+-- the label at a head, of labels in a plan's order, 0 where there is none; and the labels at the next n heads
+abbrev pub label_at_head : List Step → List ℕ → ℕ → ℕ
+label_at_head order [] h = 0
+label_at_head [] (l ∷ ls) h = 0
+label_at_head (step ∷ order) (l ∷ ls) h = if step.head == h then l else label_at_head order ls h
+
+abbrev pub labels_at_heads : List Step → List ℕ → ℕ → ℕ → List ℕ
+labels_at_heads order ls h zero = []
+labels_at_heads order ls h (suc n) = label_at_head order ls h ∷ labels_at_heads order ls (suc h) n
+
+-- the program has no such head, or what a join of its plan is where the active atom has that head's predicate
+abbrev pub HasNoPlan : Space → ℕ → ℕ → Type 0
+HasNoPlan s r h = (rule : Simpagation ℕ) (order : List Step) → IsPlanned s r h rule order → ⊥
+
+pub record IsJoinAt (s : Space) (r h : ℕ) (j : Join) : Type 0 where
+  pub planned : IsPlanned s r h j.rule j.order
+  pub is : j ≡ join_in s j.rule j.order
+  pub plan : HasPlan j
+  pub begins : MayFollow j [] j.active
+
+-- where a place stands in the plan of a rule and a head: its labels, none where it is a place of another plan
+abbrev pub labels_in : List ℕ → ℕ → ℕ → List ℕ
+labels_in [] r h = []
+labels_in (x ∷ []) r h = []
+labels_in (x ∷ y ∷ ls) r h = if (x == r) && (y == h) then ls else []
+
+-- So many trials of a plan are passed over from a place on, and how that ends. Where there are any, the place moves.
+pub record PassesPlan (j : Join) (r h : ℕ) (place : List ℕ) (n : ℕ) (after : List ℕ) (end : End) (ls : List ℕ) (binding : List (Option (Value ℕ))) : Type 0 where
+  pub labels : List ℕ
+  pub passes : PassesIn j n (labels_in place r h) labels
+  pub ends : EndsIn j labels end ls binding
+  pub stays : n ≡ 0 → after ≡ place
+  pub moves : 1 ≤ n → after ≡ r ∷ h ∷ labels
+
+-- A search with this place has come to the plan of a rule and a head: it is at its place or a later one, and no admissible
+-- trial from the place on lies before it.
+pub record HasComeTo (s : Space) (place : List ℕ) (r h : ℕ) : Type 0 where
+  pub later : at_or_after (take 2 place) (r ∷ h ∷ []) ≡ true
+  pub none : (t : List ℕ) → IsTrial s t → at_or_after place t ≡ true → at_or_after (r ∷ h ∷ []) t ≡ true
