@@ -1,5 +1,6 @@
 pub mod Scoped
 pub mod Under
+mod Weights
 pub mod Fixed
 pub mod Bindings
 pub mod Steps

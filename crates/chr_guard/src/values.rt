@@ -14,6 +14,7 @@ use std::alloc::Allocator;
 
 /// The value of an expression over exact whole numbers. It has none where a variable stands for a symbol or is free,
 /// where a part is out of the range of 64 bits with sign, or where a divisor is 0.
+#[cycle(value)]
 pub fn value<A: Allocator>(expr: &Expr<A>, binding: &Binding) -> Option<i64>
     ensures { result ≡ value_of (bound_at binding.now) (expression expr.now) }
 {
@@ -21,10 +22,23 @@ pub fn value<A: Allocator>(expr: &Expr<A>, binding: &Binding) -> Option<i64>
         Expr::Number(n) => Some(*n),
         Expr::Var(x) => binding.number(*x),
         Expr::Operation(operator, a, b) => {
-            let left = value(a, binding)?;
-            let right = value(b, binding)?;
+            let left = side(a, binding)?;
+            let right = side(b, binding)?;
             compute(*operator, left, right)
         }
+    }
+}
+
+/// The value of a side of an operator or a comparison. Most sides are numbers or variables, for which it takes no call.
+#[cycle(value)]
+#[inline]
+fn side<A: Allocator>(expr: &Expr<A>, binding: &Binding) -> Option<i64>
+    ensures { result ≡ value_of (bound_at binding.now) (expression expr.now) }
+{
+    match expr {
+        Expr::Number(n) => Some(*n),
+        Expr::Var(x) => binding.number(*x),
+        Expr::Operation(_, _, _) => value(expr, binding),
     }
 }
 
@@ -33,7 +47,7 @@ pub fn holds<A: Allocator>(test: &Comparison<A>, binding: &Binding) -> bool
     ensures { IsTrue result ↔ Holds (bound_at binding.now) (comparison test.now) }
 {
     match test {
-        Comparison::Numbers(relation, a, b) => match (value(a, binding), value(b, binding)) {
+        Comparison::Numbers(relation, a, b) => match (side(a, binding), side(b, binding)) {
             (Some(left), Some(right)) => compare(*relation, left, right),
             _ => false,
         },
