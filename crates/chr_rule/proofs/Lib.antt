@@ -1,3 +1,4 @@
 pub mod Lists
 pub mod Heads
 pub mod Numbers
+pub mod Index

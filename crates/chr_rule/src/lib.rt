@@ -5,13 +5,15 @@
 //! is the test that the parts keep this order and the limits, and [`Rule::from_parts`](rule::Rule::from_parts) makes a
 //! rule of parts that were judged before. So a [`Rule`](rule::Rule) always keeps them: every variable that is used has a
 //! value by then. How deep an expression nests is no limit of a rule: the reader of rule text keeps to 16 levels. A
-//! [`Program`](program::Program) is a list of shared rules, numbered from 1.
+//! [`Program`](program::Program) is a list of shared rules, numbered from 1, with an index that tells where the heads of a
+//! predicate are.
 //!
 //! Contracts see a rule as a `Simpagation ℕ` (Frühwirth's general form of a rule) over the numbers of names, without
 //! where its parts lie in memory, so two rules are equal exactly where their content is.
 #![tactic(auto)]
 
 pub mod expression;
+mod occurrences;
 pub mod program;
 pub mod rule;
 pub mod rule_atom;

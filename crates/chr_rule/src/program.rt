@@ -1,12 +1,15 @@
 //! Programs.
-ghost use Rattle.std.specs.Prelude.{◌≡◌, ◌<◌, ◌≤◌, ◌++◌, ◌∷◌, [], length, map, OnOk, OnErr, IfOk};
+ghost use Rattle.std.specs.Prelude.{◌≡◌, ◌<◌, ◌≤◌, ◌++◌, ◌∷◌, [], length, map, OnOk, OnErr, IfOk, MatchOption};
 ghost use Rattle.std.specs.Option.{option_map};
 ghost use Rattle.std.specs.Arc.{arc_value};
 ghost use Rattle.std.specs.List.{AllByRecursion};
 ghost use Rattle.chr_rule.specs.Rules.{rule_at};
 ghost use Rattle.chr_rule.specs.Scope.{IsRule};
+ghost use Rattle.chr_rule.specs.Occurrences.{IsNextOccurrence, NoneFrom};
 
-use crate::rule::Rule;
+use crate::occurrences::{Occurrence, Occurrences};
+use crate::rule::{MOST_HEADS, Rule};
+use chr_value::atom::Pred;
 use std::alloc::{AllocError, Allocator};
 use std::marker::Model;
 use std::sync::Arc;
@@ -14,10 +17,12 @@ use std::sync::Arc;
 /// How many rules a program may have.
 pub const MOST_RULES: usize = 256;
 
-/// Rules in text order, numbered from 1, which several holders share. Contracts see the list of the rules.
+/// Rules in text order, numbered from 1, which several holders share, and where their heads are. Contracts see the list of
+/// the rules.
 #[derive(Drop)]
 pub struct Program<A: Allocator> {
     rules: Vec<Arc<Rule<A>, A>, A>,
+    occurrences: Occurrences<A>,
 }
 
 impl<A: Allocator> Model for Program<A> {
@@ -26,6 +31,7 @@ impl<A: Allocator> Model for Program<A> {
     ghost use Rattle.std.specs.List.{AllByRecursion};
     ghost use Rattle.chr_rule.specs.Rules.{Simpagation};
     ghost use Rattle.chr_rule.specs.Scope.{IsRule};
+    ghost use Rattle.chr_rule.specs.Index.{IsIndexOf};
     ghost use Rattle.chr_rule.specs.Code.{expression_code};
     ghost use Rattle.std.specs.Coded.{codes};
 
@@ -35,7 +41,7 @@ impl<A: Allocator> Model for Program<A> {
 
     ghost view = { λ p. map arc_value p.rules.items };
 
-    ghost invariant = { λ p. (length p.rules.items ≤ 256) × AllByRecursion IsRule (map arc_value p.rules.items) };
+    ghost invariant = { λ p. (length p.rules.items ≤ 256) × AllByRecursion IsRule (map arc_value p.rules.items) × IsIndexOf (map arc_value p.rules.items) p.occurrences.items };
 }
 
 impl<A: Allocator + Copy> Program<A> {
@@ -45,6 +51,7 @@ impl<A: Allocator + Copy> Program<A> {
     {
         Program {
             rules: Vec::new(alloc),
+            occurrences: Occurrences::new(alloc),
         }
     }
 
@@ -77,15 +84,40 @@ impl<A: Allocator + Copy> Program<A> {
         Some(&rules[number - 1])
     }
 
+    /// The least rule and head at or after these whose head has this predicate, all numbered from 1. None where there is
+    /// none. `near` is 0 at first; with what a call leaves there, the next one for this predicate takes no search where it
+    /// goes on just after the rule and head found.
+    pub fn next_occurrence(
+        &self,
+        pred: Pred,
+        rule: u16,
+        head: u8,
+        near: &mut usize,
+    ) -> Option<(u16, u8)>
+        ensures { MatchOption result (NoneFrom self.now pred rule head) (IsNextOccurrence self.now pred rule head) }
+    {
+        let Some(found) = self.occurrences.next(Occurrence { pred, rule, head }, near) else {
+            return None;
+        };
+        if found.pred != pred {
+            return None;
+        }
+        Some((found.rule, found.head))
+    }
+
     /// Adds a rule after the others.
     pub fn push(&mut self, rule: Arc<Rule<A>, A>) -> Result<(), AllocError>
         requires { length self.old < 256 }
         ensures ok { OnOk result (self.new ≡ self.old ++ arc_value rule ∷ []) }
         ensures err { OnErr result (self.new ≡ self.old) }
     {
+        self.rules.reserve(1)?;
+        self.occurrences.reserve(MOST_HEADS)?;
+        let number = self.rules.len() as u16 + 1;
+        self.occurrences.add_rule(number, &rule);
         // for its clause: the rule is in scope
         let _variables = rule.variables();
-        self.rules.push(rule)?;
+        self.rules.push_reserved(rule);
         Ok(())
     }
 

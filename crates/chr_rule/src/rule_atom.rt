@@ -2,9 +2,10 @@
 ghost use Rattle.std.specs.Prelude.{◌≡◌, ◌↔◌, IsTrue, map};
 ghost use Rattle.chr_rule.specs.Parts.{argument, shape};
 ghost use Rattle.chr_rule.specs.Scope.{argument_known};
+ghost use Rattle.chr_rule.specs.Occurrences.{HasPred};
 
 use arrayvec::ArrayVec;
-use chr_value::atom::Value;
+use chr_value::atom::{Pred, Value};
 use chr_value::names::Name;
 
 /// A variable by its number in the rule, or a value as it is written.
@@ -51,6 +52,16 @@ pub struct RuleAtom {
 }
 
 impl RuleAtom {
+    /// The predicate: the name, and how many terms there are.
+    pub fn pred(&self) -> Pred
+        ensures { HasPred (shape self.now) result }
+    {
+        Pred {
+            name: self.name,
+            arity: self.terms.len() as u8,
+        }
+    }
+
     /// Whether two constraints are equal.
     pub fn same(&self, other: &RuleAtom) -> bool
         ensures { IsTrue result ↔ (shape self.now ≡ shape other.now) }
