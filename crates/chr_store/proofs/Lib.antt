@@ -5,3 +5,4 @@ pub mod Slots
 pub mod Keep
 pub mod Stored
 pub mod Jumps
+pub mod Marks

@@ -199,6 +199,72 @@ pushed_bucket l old ss f h = record {
 pub pushed_living : (l : ℕ) (old : List ℕ) (ss : List Slot) (f : ℕ) → IsReady l old ss f → live_labels (ss ++ (record { label = l; jump = 0; back = 0 }) ∷ []) ≡ old ++ l ∷ []
 pushed_living l old ss f h = living_append ss ((record { label = l; jump = 0; back = 0 }) ∷ []) ∙ ap (λ (z : List ℕ). z ++ l ∷ []) h.same
 
+-- ---- the last slot, where it is live
+
+pub pushed_back : (l : ℕ) (ms : List ℕ) → AllByRecursion (λ m. m < l) ms → drop_number l (ms ++ l ∷ []) ≡ ms
+pushed_back l [] h = grind (arith, nat_tests)
+pushed_back l (m ∷ ms) h = let u : m < l = h.0 in grind (arith, nat_tests, pushed_back l ms h.1)
+
+-- the last one is not among dead ones
+among_dead : (xs : List Slot) (t : Slot) (j : ℕ) → is_live t ≡ true → j ≤ length (xs ++ t ∷ []) → live_labels (take j (xs ++ t ∷ [])) ≡ [] → j ≤ length xs
+among_dead xs t zero live u h = omega arith
+among_dead [] t (suc j) live u h = absurd (let z : t.label ∷ live_labels (take j []) ≡ [] = sym (ap (λ (b : Bool). if b then t.label ∷ live_labels (take j []) else live_labels (take j [])) live) ∙ h in cc)
+among_dead (x ∷ xs) t (suc j) live u h =
+    let rest : live_labels (take j (xs ++ t ∷ [])) ≡ [] = elim (is_live x) as (λ b. (if b then x.label ∷ live_labels (take j (xs ++ t ∷ [])) else live_labels (take j (xs ++ t ∷ []))) ≡ [] → live_labels (take j (xs ++ t ∷ [])) ≡ []) [ true ↦ λ e. absurd (cc) | false ↦ λ e. e ] h in
+    let z : j ≤ length xs = among_dead xs t j live (omega arith) rest in
+    omega arith
+
+dead_front : (xs : List Slot) (t : Slot) (j : ℕ) → j ≤ length xs → live_labels (take j (xs ++ t ∷ [])) ≡ [] → live_labels (take j xs) ≡ []
+dead_front xs t j u h = sym (ap live_labels (take-append-le j xs (t ∷ []) u)) ∙ h
+
+jumps_pop : (xs : List Slot) (t : Slot) → is_live t ≡ true → JumpsAreDead (xs ++ t ∷ []) → JumpsAreDead xs
+jumps_pop [] t live h = tt
+jumps_pop (x ∷ xs) t live h =
+    let u : x.jump ≤ length (x ∷ xs) = among_dead (x ∷ xs) t x.jump live h.0 h.1 in
+    (u, dead_front (x ∷ xs) t x.jump u h.1, jumps_pop xs t live h.2)
+
+above_pop : (k : ℕ) (xs : List Slot) (t : Slot) → AllByRecursion (λ s. k < s.label) (xs ++ t ∷ []) → AllByRecursion (λ s. k < s.label) xs × (k < t.label)
+above_pop k [] t h = (tt, h.0)
+above_pop k (x ∷ xs) t h = let rest = above_pop k xs t h.1 in ((h.0, rest.0), rest.1)
+
+rise_pop : (xs : List Slot) (t : Slot) → SlotsRise (xs ++ t ∷ []) → SlotsRise xs × AllByRecursion (λ s. s.label < t.label) xs
+rise_pop [] t h = (tt, tt)
+rise_pop (x ∷ xs) t h =
+    let up = above_pop x.label xs t h.0 in
+    let rest = rise_pop xs t h.1 in
+    ((up.0, rest.0), (up.1, rest.1))
+
+last_apart : (ss : List Slot) (t : Slot) → slice_get ss (length ss - 1) ≡ Some t → ss ≡ take (length ss - 1) ss ++ t ∷ []
+last_apart [] t h = let z : None ≡ Some t = h in absurd (cc)
+last_apart (s ∷ []) t h = let same : s ≡ t = cc in ap (λ (z : Slot). z ∷ []) same
+last_apart (s ∷ v ∷ ss) t h =
+    let less : suc (length ss) ≡ suc (suc (length ss)) - 1 = omega arith in
+    let rest = last_apart (v ∷ ss) t (subst (λ (n : ℕ). slice_get (v ∷ ss) n ≡ Some t) (let z : length ss ≡ suc (length ss) - 1 = omega arith in z) (subst (λ (n : ℕ). slice_get (s ∷ v ∷ ss) n ≡ Some t) (sym less) h)) in
+    ap (λ (z : List Slot). s ∷ z) rest ∙ ap (λ (n : ℕ). take (suc n) (s ∷ v ∷ ss) ++ t ∷ []) (let z : suc (length ss) - 1 ≡ length ss = omega arith in z) ∙ ap (λ (n : ℕ). take n (s ∷ v ∷ ss) ++ t ∷ []) less
+
+-- the slots without the last one, which lives
+module _ (ss : List Slot) (t : Slot) (at : slice_get ss (length ss - 1) ≡ Some t) (live : is_live t ≡ true) where
+  abbrev others : List Slot
+  others = take (length ss - 1) ss
+
+  pub popped_bucket : (f : ℕ) → IsBucket ss f → IsBucket (take (length ss - 1) ss) f
+  popped_bucket f h =
+      let whole : IsBucket (others ++ t ∷ []) f = subst (λ (z : List Slot). IsBucket z f) (last_apart ss t at) h in
+      let within : f ≤ length others = among_dead others t f live whole.within whole.front in
+      record {
+        rising = (rise_pop others t whole.rising).0;
+        jumps = jumps_pop others t live whole.jumps;
+        within = within;
+        front = dead_front others t f within whole.front;
+      }
+
+  pub popped_living : SlotsRise ss → live_labels (take (length ss - 1) ss) ≡ drop_number t.label (live_labels ss)
+  popped_living r =
+      let apart : ss ≡ others ++ t ∷ [] = last_apart ss t at in
+      let below : AllByRecursion (λ s. s.label < t.label) others = (rise_pop others t (subst SlotsRise apart r)).1 in
+      let last : live_labels (t ∷ []) ≡ t.label ∷ [] = ap (λ (b : Bool). if b then t.label ∷ [] else []) live in
+      sym (ap (drop_number t.label) (ap live_labels apart ∙ living_append others (t ∷ []) ∙ ap (λ (z : List ℕ). live_labels others ++ z) last) ∙ pushed_back t.label (live_labels others) (living_all (λ m. m < t.label) others below))
+
 -- ---- the next
 
 pub skip_front : (ss : List Slot) (r f : ℕ) → r ≤ f → live_labels (take f ss) ≡ [] → live_labels (drop r ss) ≡ live_labels (drop f ss)

@@ -1,7 +1,9 @@
 -- A store with the labels of its keys.
 use Rattle.std.proofs.Common.{◌≡◌, ℕ, zero, suc, ◌+◌, ◌<◌, ◌≤◌, ◌==◌, ◌&&◌, if◌then◌else◌, Bool, true, false, List, [], ◌∷◌, ◌++◌, Option, Some, None, refl, sym, ap, subst, arith, length, ◌∙◌, slice_get, nat_lt, inl, inr, pos, true-eqb}
 use Rattle.std.specs.List.{AllByRecursion}
-use Rattle.std.specs.HashMap.{HashMap}
+use Rattle.std.specs.HashMap.{HashMap, IsEmpty}
+use Rattle.std.specs.Map.{lookup}
+use Rattle.std.specs.Option.{unwrap_or}
 use Rattle.std.proofs.lemmas.Bool.{eq-eqb, lt-ltb, cases_eq}
 use Rattle.std.proofs.lemmas.Bool.Decides.{nat_tests}
 use Rattle.chr_value.specs.Atoms.{Value, Atom, ground}
@@ -12,11 +14,11 @@ use Rattle.chr_value.specs.declared.atom.Value.TheVariants as values
 use Rattle.chr_store.specs.declared.keys.Key.{Key}
 use Rattle.chr_store.specs.Labels.{Rising, GivenBefore}
 use Rattle.chr_store.specs.Keys.{arg_at, HasPred, HasKey, Query, Matches, IsLeastMatch}
-use Rattle.chr_store.specs.Indexed.{LabelHas}
+use Rattle.chr_store.specs.Indexed.{IsIndexed, LabelHas}
 use Rattle.chr_store.specs.Buckets.{drop_number, IsIn, IsLeastBetween}
-use Rattle.chr_store.specs.Index.{Places, chosen, value_at, fits, labels_in, labels_of, reached, IsChanged, IsIndexOf}
+use Rattle.chr_store.specs.Index.{Places, chosen, same_key, value_at, fits, labels_in, labels_of, reached, IsChanged, IsIndexOf}
 use Rattle.chr_store.proofs.Entries.{drop_absent}
-use Rattle.chr_store.proofs.Slots.{drop_absent as number_absent, all_map}
+use Rattle.chr_store.proofs.Slots.{drop_absent as number_absent, pushed_back, all_map}
 use Rattle.chr_store.proofs.Walks.{above}
 use Rattle.chr_store.proofs.Keep.{Fitting, fitting, fits_from, some_one}
 
@@ -74,6 +76,19 @@ labels_drop k l a (e ∷ es) r h =
           | false ↦ refl
         ]
 
+-- ---- the index of no atoms
+
+pub kept_none : {S : Type 0} (places : Places) (m : HashMap Key (List ℕ) S) → IsEmpty m → IsIndexOf places [] m
+kept_none places m empty = λ k.
+    let none : labels_in m k ≡ [] = ap (λ es. unwrap_or (lookup (same_key k) es) []) empty in
+    elim (chosen places k.pred k.place) as (λ b. labels_in m k ≡ (if b then [] else [])) [ true ↦ none | false ↦ none ]
+
+pub indexed_none : {S : Type 0} (limit : ℕ) (places : Places) (m : HashMap Key (List ℕ) S) → limit ≤ 4294967295 → IsEmpty m → IsIndexed (record { entries = []; next = 1; limit = limit }) places m
+indexed_none limit places m fits empty = record {
+  labelled = record { rising = tt; given = tt; first = omega arith; within = omega arith; limit = fits };
+  index = kept_none places m empty;
+}
+
 -- ---- the index, one atom more or fewer
 
 place_within : (k : Key) (a : Atom ℕ) → fits k a ≡ true → k.place < length a.args + 1
@@ -113,10 +128,6 @@ kept_drop places l a es old new r at h t = λ k. t k ∙ ap (λ (b : Bool). if b
 
 pub kept_below : {S : Type 0} (places : Places) (n : ℕ) (es : Store) (m : HashMap Key (List ℕ) S) → GivenBefore n es → IsIndexOf places es m → (k : Key) → AllByRecursion (λ l. l < n) (labels_in m k)
 kept_below places n es m g h k = subst (AllByRecursion (λ l. l < n)) (sym (h k)) (elim (chosen places k.pred k.place) as (λ b. AllByRecursion (λ l. l < n) (if b then labels_of k es else [])) [ true ↦ labels_below n k es g | false ↦ tt ])
-
-pushed_back : (l : ℕ) (ms : List ℕ) → AllByRecursion (λ m. m < l) ms → drop_number l (ms ++ l ∷ []) ≡ ms
-pushed_back l [] h = grind (arith, nat_tests)
-pushed_back l (m ∷ ms) h = let u : m < l = h.0 in grind (arith, nat_tests, pushed_back l ms h.1)
 
 -- what was entered, in part or whole, and left again is as before
 pub kept_undone : {S : Type 0} (places : Places) (n l : ℕ) (a : Atom ℕ) (es : Store) (old mid new : HashMap Key (List ℕ) S) → GivenBefore l es → IsIndexOf places es old → IsChanged (λ ms. ms ++ l ∷ []) places a n old mid → IsChanged (drop_number l) places a (length a.args + 1) mid new → IsIndexOf places es new

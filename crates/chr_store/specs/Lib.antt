@@ -3,6 +3,8 @@ pub mod Table
 pub mod Keys
 pub mod Faults
 pub mod Buckets
+pub mod Kept
 pub mod Index
+pub mod Marks
 pub mod KeyLaws
 pub mod Indexed

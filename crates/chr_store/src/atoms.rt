@@ -1,5 +1,5 @@
 //! Atoms under labels that are given in order.
-ghost use Rattle.std.specs.Prelude.{◌≡◌, ◌+◌, ◌≤◌, ◌++◌, ◌∷◌, [], length, IfOk, OnOk, IfErr, OnErr};
+ghost use Rattle.std.specs.Prelude.{◌≡◌, ◌+◌, ◌≤◌, ◌++◌, ◌∷◌, [], length, IfOk, OnOk, OnErr};
 ghost use Rattle.std.specs.Option.{option_copied};
 ghost use Rattle.std.specs.Iterator.{item_count};
 ghost use Rattle.std.specs.Map.Iter.{TakesFirst};
@@ -69,33 +69,27 @@ impl<A: Allocator + Copy> Atoms<A> {
         self.live
     }
 
-    /// The label that [`push`](Atoms::push) gives next.
+    /// The label that [`push_copy`](Atoms::push_copy) gives next.
     pub fn next_label(&self) -> Label
         ensures { result ≡ self.now.next }
     {
         self.slots.len() as u64 + 1
     }
 
-    /// Puts an atom under the next label. Where there is no memory (E01) it comes back, and nothing has changed.
-    pub fn push(&mut self, atom: Atom<A>) -> Result<(), Atom<A>>
+    /// Puts a copy of an atom under the next label. E01 where there is no memory, and then nothing has changed.
+    pub fn push_copy(&mut self, atom: &Atom<A>) -> Result<(), AllocError>
         requires { self.old.next ≤ 4294967295 }
-        ensures ok { OnOk result (self.new ≡ record { entries = self.old.entries ++ (self.old.next, atom) ∷ []; next = self.old.next + 1 }) }
-        ensures back { IfErr result (λ refused. refused ≡ atom) }
+        ensures ok { OnOk result (self.new ≡ record { entries = self.old.entries ++ (self.old.next, atom.now) ∷ []; next = self.old.next + 1 }) }
         ensures unchanged { OnErr result (self.new ≡ self.old) }
     {
-        let Ok(()) = self.slots.reserve(1) else {
-            return Err(atom);
+        let alloc = *self.slots.allocator();
+        let copied = Box::new(alloc, atom.copy(alloc)?)?;
+        self.slots.reserve(1)?;
+        let Ok(()) = self.slots.push(Some(copied)) else {
+            unreachable!();
         };
-        match Box::new(*self.slots.allocator(), atom) {
-            Ok(atom) => {
-                let Ok(()) = self.slots.push(Some(atom)) else {
-                    unreachable!();
-                };
-                self.live += 1;
-                Ok(())
-            }
-            Err(refused) => Err(refused.value),
-        }
+        self.live += 1;
+        Ok(())
     }
 
     /// The atom under a label.

@@ -1,5 +1,5 @@
 //! The labels of one key, rising.
-ghost use Rattle.std.specs.Prelude.{◌≡◌, ℕ, ◌+◌, ◌<◌, ◌≤◌, ◌++◌, ◌∷◌, ◌↔◌, [], IfOk, IfSome, OnOk, OnErr, IsTrue, length, take, drop, MatchOption, slice_get};
+ghost use Rattle.std.specs.Prelude.{◌≡◌, ℕ, false, ◌+◌, ◌<◌, ◌≤◌, ◌++◌, ◌∷◌, ◌↔◌, [], IfOk, IfSome, OnOk, OnErr, IsTrue, length, take, drop, MatchOption, slice_get};
 ghost use Rattle.std.specs.List.{AllByRecursion};
 ghost use Rattle.std.specs.Option.{option_map};
 ghost use Rattle.chr_store.specs.Buckets.{jump_at, JumpsAreDead, AreAlike, drop_number, IsLeastBetween, live_labels, live_slots, SlotsRise, IsLiveOrNone, HasLabelAt};
@@ -48,12 +48,32 @@ fn place_above(slots: &[Slot], label: u64) -> usize
     slots.partition_point(|slot| slot.label <= label)
 }
 
-/// The place of a label's slot.
-fn find(slots: &[Slot], label: u64) -> Option<usize>
+/// The place of the first slot whose label is above a label. It takes no search where the slot at `near` has that label,
+/// or is the first and above it.
+fn place_near(slots: &[Slot], near: usize, label: u64) -> usize
+    requires { SlotsRise slots.now }
+    ensures within { result ≤ length slots.now }
+    ensures front { AllByRecursion (λ s. s.label ≤ label) (take result slots.now) }
+    ensures later { AllByRecursion (λ s. label < s.label) (drop result slots.now) }
+{
+    let Some(slot) = slots.get(near) else {
+        return place_above(slots, label);
+    };
+    if slot.label == label {
+        return near + 1;
+    }
+    if near == 0 && label < slot.label {
+        return 0;
+    }
+    place_above(slots, label)
+}
+
+/// The place of a label's slot. It takes no search where that is at `near`.
+fn find(slots: &[Slot], near: usize, label: u64) -> Option<usize>
     requires { SlotsRise slots.now }
     ensures { MatchOption result (AllByRecursion (λ s. s.label ≡ label → ⊥) slots.now) (λ i. HasLabelAt slots.now i label) }
 {
-    let above = place_above(slots, label);
+    let above = place_near(slots, near, label);
     if above == 0 {
         return None;
     }
@@ -184,26 +204,6 @@ fn is_below(slots: &[Slot], label: u64) -> bool
     }
 }
 
-/// The place of the first slot whose label is above a label. It takes no search where the slot at `near` has that label,
-/// or is the first and above it.
-fn place_near(slots: &[Slot], near: usize, label: u64) -> usize
-    requires { SlotsRise slots.now }
-    ensures within { result ≤ length slots.now }
-    ensures front { AllByRecursion (λ s. s.label ≤ label) (take result slots.now) }
-    ensures later { AllByRecursion (λ s. label < s.label) (drop result slots.now) }
-{
-    let Some(slot) = slots.get(near) else {
-        return place_above(slots, label);
-    };
-    if slot.label == label {
-        return near + 1;
-    }
-    if near == 0 && label < slot.label {
-        return 0;
-    }
-    place_above(slots, label)
-}
-
 /// The place and the label of the first live slot from a place on, under `below`, where the slots before `first` are dead.
 fn next_in(slots: &[Slot], first: usize, from: usize, below: u64) -> Option<(usize, u64)>
     requires rising { SlotsRise slots.now }
@@ -265,15 +265,36 @@ impl<A: Allocator + Copy> Bucket<A> {
         Ok(())
     }
 
-    /// Takes a label out, where it is there. Takes no memory.
-    pub fn remove(&mut self, label: u64)
+    /// Takes the last slot out, where it is live and has a label. Tells whether it was so.
+    fn pop(&mut self, label: u64) -> bool
+        ensures gone { IsTrue result → self.new ≡ drop_number label self.old }
+        ensures kept { result ≡ false → self.new ≡ self.old }
+    {
+        let Some(last) = self.slots.last() else {
+            return false;
+        };
+        if last.label != label || last.jump != 0 {
+            return false;
+        }
+        let _ = self.slots.pop();
+        true
+    }
+
+    /// Marks the slot of a label as dead, where there is one.
+    fn strike(&mut self, label: u64)
         ensures { self.new ≡ drop_number label self.old }
     {
-        let Some(place) = find(&self.slots, label) else {
+        let Some(place) = find(&self.slots, self.first, label) else {
             return;
         };
         mark_dead(&mut self.slots, place, label);
         self.dead = self.dead.saturating_add(1);
+    }
+
+    /// Takes the dead slots out once they are more than half, and else goes on to the first that lives.
+    fn tidy(&mut self)
+        ensures { self.new ≡ self.old }
+    {
         if self.slots.len() / 2 < self.dead {
             compact(&mut self.slots);
             self.first = 0;
@@ -281,6 +302,16 @@ impl<A: Allocator + Copy> Bucket<A> {
         } else {
             self.first = first_live(&self.slots, self.first);
         }
+    }
+
+    /// Takes a label out, where it is there. Takes no memory, and no search where it is the last or the first.
+    pub fn remove(&mut self, label: u64)
+        ensures { self.new ≡ drop_number label self.old }
+    {
+        if !self.pop(label) {
+            self.strike(label);
+        }
+        self.tidy();
     }
 
     /// The least label over `after` and under `below`.

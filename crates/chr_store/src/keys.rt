@@ -3,9 +3,10 @@ ghost use Rattle.std.specs.Prelude.{◌≡◌, ℕ, ◌+◌, ◌<◌, ◌≤◌,
 ghost use Rattle.std.specs.List.{AllByRecursion};
 ghost use Rattle.chr_store.specs.declared.keys.Key.{Key};
 ghost use Rattle.chr_store.specs.Buckets.{drop_number, IsLeastBetween};
-ghost use Rattle.chr_store.specs.Index.{chosen, IsKeyAt, labels_in, same_key, IsChanged};
+ghost use Rattle.chr_store.specs.Index.{IsKeyAt, labels_in, same_key, IsChanged};
 
-use crate::bucket::Bucket;
+use crate::chosen::Chosen;
+use crate::labels::Labels;
 use chr_value::atom::{Atom, Pred, Value};
 use std::alloc::{AllocError, Allocator};
 use std::collections::HashMap;
@@ -63,22 +64,7 @@ impl Hash for Key {
     }
 }
 
-pub type Buckets<A> = HashMap<Key, Bucket<A>, BuildHasherDefault<FoldHasher>, A>;
-
-/// Whether a place of a predicate is one of these. The place 0, which is the predicate alone, always counts as one.
-pub fn is_chosen(places: &[(Pred, u8)], pred: Pred, place: u8) -> bool
-    ensures { result ≡ chosen places.now pred place }
-{
-    if place == 0 {
-        return true;
-    }
-    for (p, n) in places {
-        if *p == pred && *n == place {
-            return true;
-        }
-    }
-    false
-}
+pub type Buckets<A> = HashMap<Key, Labels<A>, BuildHasherDefault<FoldHasher>, A>;
 
 /// The key of an atom at a place.
 pub fn key_at<A: Allocator + Copy>(atom: &Atom<A>, place: u8) -> Key
@@ -110,12 +96,12 @@ pub fn put<A: Allocator + Copy>(
     ensures ok { OnOk result ((k : Key) → labels_in buckets.new k ≡ (if same_key key k then labels_in buckets.old key ++ label ∷ [] else labels_in buckets.old k)) }
     ensures unchanged { OnErr result ((k : Key) → labels_in buckets.new k ≡ labels_in buckets.old k) }
 {
-    if let Some(bucket) = buckets.get_mut(&key) {
-        return bucket.push(label);
+    if let Some(labels) = buckets.get_mut(&key) {
+        return labels.push(alloc, label);
     }
-    let mut bucket = Bucket::new(alloc);
-    bucket.push(label)?;
-    match buckets.insert(key, bucket) {
+    let mut labels = Labels::new();
+    labels.push(alloc, label)?;
+    match buckets.insert(key, labels) {
         Ok(_) => Ok(()),
         Err(_) => Err(AllocError),
     }
@@ -127,9 +113,9 @@ pub fn take<A: Allocator + Copy>(buckets: &mut Buckets<A>, key: Key, label: u64)
 {
     let bare = match buckets.get_mut(&key) {
         None => false,
-        Some(bucket) => {
-            bucket.remove(label);
-            bucket.has_no_slots()
+        Some(labels) => {
+            labels.remove(label);
+            labels.is_bare()
         }
     };
     if bare {
@@ -142,7 +128,7 @@ pub fn take<A: Allocator + Copy>(buckets: &mut Buckets<A>, key: Key, label: u64)
 pub fn enter<A: Allocator + Copy>(
     buckets: &mut Buckets<A>,
     alloc: A,
-    places: &[(Pred, u8)],
+    places: &Chosen<A>,
     atom: &Atom<A>,
     label: u64,
 ) -> Result<(), AllocError>
@@ -153,7 +139,7 @@ pub fn enter<A: Allocator + Copy>(
     let pred = atom.pred();
     let end = atom.args().len() as u8 + 1;
     for place in 0..end {
-        if is_chosen(places, pred, place) {
+        if places.has(pred, place) {
             put(buckets, alloc, key_at(atom, place), label)?;
         }
     }
@@ -163,7 +149,7 @@ pub fn enter<A: Allocator + Copy>(
 /// Takes a label from those of each key of an atom at a chosen place. Takes no memory.
 pub fn leave<A: Allocator + Copy>(
     buckets: &mut Buckets<A>,
-    places: &[(Pred, u8)],
+    places: &Chosen<A>,
     atom: &Atom<A>,
     label: u64,
 )
@@ -172,7 +158,7 @@ pub fn leave<A: Allocator + Copy>(
     let pred = atom.pred();
     let end = atom.args().len() as u8 + 1;
     for place in 0..end {
-        if is_chosen(places, pred, place) {
+        if places.has(pred, place) {
             take(buckets, key_at(atom, place), label);
         }
     }
@@ -189,6 +175,6 @@ pub fn next_of<A: Allocator + Copy>(
 {
     match buckets.get(&key) {
         None => None,
-        Some(bucket) => bucket.next(after, below),
+        Some(labels) => labels.next(after, below),
     }
 }

@@ -9,13 +9,15 @@
 //! [`indexed`](store::Store::indexed) is given, those of each predicate and value there. So `next_at` takes a hash and a
 //! binary search; with a key at another place it goes through the labels of the predicate.
 //! [`matches`](store::Store::matches) takes the hash once, and going on from the label found last takes no search.
-//! [`indexed`](store::Store::indexed), [`insert`](store::Store::insert) and [`copy`](store::Store::copy) take memory, no
-//! other call does.
+//! [`indexed`](store::Store::indexed), [`insert`](store::Store::insert), [`insert_copy`](store::Store::insert_copy) and
+//! [`copy`](store::Store::copy) take memory, no other call does.
 //!
 //! Contracts see a store as the list of its labels with their atoms, which rises, with the next label and the limit.
 #![tactic(auto)]
 
 pub mod atoms;
 pub mod bucket;
+pub mod chosen;
 pub mod keys;
+pub mod labels;
 pub mod store;

@@ -12,10 +12,12 @@ ghost use Rattle.chr_store.specs.Faults.{given_back};
 ghost use Rattle.chr_store.specs.Indexed.{LabelHas};
 ghost use Rattle.chr_store.specs.Table.{shown};
 ghost use Rattle.chr_store.specs.declared.store.StoreFault.TheVariants.{LabelsSpent};
+ghost use Rattle.chr_store.specs.declared.store.CopyFault.TheVariants as copying;
 
 use crate::atoms::{Atoms, Constraints};
-use crate::bucket::Bucket;
-use crate::keys::{Buckets, Key, enter, is_chosen, leave, next_of};
+use crate::chosen::Chosen;
+use crate::keys::{Buckets, Key, enter, leave, next_of};
+use crate::labels::Labels;
 use chr_value::atom::{Atom, Pred, Value};
 use chr_value::label::GREATEST_LABEL;
 pub use chr_value::label::Label;
@@ -35,12 +37,21 @@ pub enum StoreFault<A: Allocator> {
     LabelsSpent(Atom<A>),
 }
 
+/// Why no copy of an atom was entered.
+#[derive(Clone, Copy, Debug, PartialEq, Eq)]
+pub enum CopyFault {
+    /// E01: the store could not grow.
+    NoMemory,
+    /// E10: the next label is above the limit.
+    LabelsSpent,
+}
+
 /// A map from labels to atoms. Contracts see the list of labels and atoms, rising, with the next label and the limit.
 #[derive(Drop)]
 pub struct Store<A: Allocator> {
     atoms: Atoms<A>,
     buckets: Buckets<A>,
-    places: Vec<(Pred, u8), A>,
+    places: Chosen<A>,
     alloc: A,
     limit: u64,
 }
@@ -53,7 +64,7 @@ impl<A: Allocator> Model for Store<A> {
 
     ghost view = { λ s. record { entries = s.atoms.entries; next = s.atoms.next; limit = s.limit } };
 
-    ghost invariant = { λ s. IsIndexed (record { entries = s.atoms.entries; next = s.atoms.next; limit = s.limit }) s.places.items s.buckets };
+    ghost invariant = { λ s. IsIndexed (record { entries = s.atoms.entries; next = s.atoms.next; limit = s.limit }) s.places s.buckets };
 }
 
 /// Whether an atom has a value at a place. Places are numbered from 1.
@@ -88,7 +99,7 @@ impl<A: Allocator + Copy> Store<A> {
         Store {
             atoms: Atoms::new(alloc),
             buckets: HashMap::new(alloc),
-            places: Vec::new(alloc),
+            places: Chosen::new(alloc),
             alloc,
             limit,
         }
@@ -103,7 +114,7 @@ impl<A: Allocator + Copy> Store<A> {
         Ok(Store {
             atoms: Atoms::new(alloc),
             buckets: HashMap::new(alloc),
-            places: Vec::from_slice(alloc, places)?,
+            places: Chosen::of(alloc, places)?,
             alloc,
             limit,
         })
@@ -134,21 +145,34 @@ impl<A: Allocator + Copy> Store<A> {
         ensures back { IfErr result (λ fault. given_back fault ≡ atom) }
         ensures unchanged { OnErr result (self.new ≡ self.old) }
     {
+        match self.insert_copy(&atom) {
+            Ok(label) => Ok(label),
+            Err(CopyFault::NoMemory) => Err(StoreFault::NoMemory(atom)),
+            Err(CopyFault::LabelsSpent) => Err(StoreFault::LabelsSpent(atom)),
+        }
+    }
+
+    /// Enters a copy of an atom under the next label. Where the labels are spent (E10) or the store could not grow
+    /// (E01), it is unchanged.
+    pub fn insert_copy(&mut self, atom: &Atom<A>) -> Result<Label, CopyFault>
+        ensures label { IfOk result (λ label. label ≡ self.old.next) }
+        ensures ok { OnOk result (self.new ≡ record { entries = self.old.entries ++ (self.old.next, atom.now) ∷ []; next = self.old.next + 1; limit = self.old.limit }) }
+        ensures spent { (self.old.limit < self.old.next) ↔ (result ≡ Err copying.LabelsSpent) }
+        ensures unchanged { OnErr result (self.new ≡ self.old) }
+    {
         let label = self.atoms.next_label();
         if label > self.limit {
-            return Err(StoreFault::LabelsSpent(atom));
+            return Err(CopyFault::LabelsSpent);
         }
-        let Ok(()) = enter(&mut self.buckets, self.alloc, &self.places, &atom, label) else {
-            leave(&mut self.buckets, &self.places, &atom, label);
-            return Err(StoreFault::NoMemory(atom));
+        let Ok(()) = enter(&mut self.buckets, self.alloc, &self.places, atom, label) else {
+            leave(&mut self.buckets, &self.places, atom, label);
+            return Err(CopyFault::NoMemory);
         };
-        match self.atoms.push(atom) {
-            Ok(()) => Ok(label),
-            Err(atom) => {
-                leave(&mut self.buckets, &self.places, &atom, label);
-                Err(StoreFault::NoMemory(atom))
-            }
-        }
+        let Ok(()) = self.atoms.push_copy(atom) else {
+            leave(&mut self.buckets, &self.places, atom, label);
+            return Err(CopyFault::NoMemory);
+        };
+        Ok(label)
     }
 
     /// The atom under a label.
@@ -190,7 +214,7 @@ impl<A: Allocator + Copy> Store<A> {
         let Some((place, value)) = key else {
             return next_of(&self.buckets, own, after, below);
         };
-        if place != 0 && is_chosen(&self.places, pred, place) {
+        if place != 0 && self.places.has(pred, place) {
             let key = Key {
                 pred,
                 place,
@@ -221,11 +245,11 @@ impl<A: Allocator + Copy> Store<A> {
         };
         let Some((place, value)) = key else {
             return Some(Matches {
-                bucket: self.buckets.get(&own),
+                labels: self.buckets.get(&own),
                 near: 0,
             });
         };
-        if place == 0 || !is_chosen(&self.places, pred, place) {
+        if place == 0 || !self.places.has(pred, place) {
             return None;
         }
         let key = Key {
@@ -234,7 +258,7 @@ impl<A: Allocator + Copy> Store<A> {
             value: *value,
         };
         Some(Matches {
-            bucket: self.buckets.get(&key),
+            labels: self.buckets.get(&key),
             near: 0,
         })
     }
@@ -260,7 +284,7 @@ impl<A: Allocator + Copy> Store<A> {
         Ok(Store {
             atoms: self.atoms.copy(alloc)?,
             buckets,
-            places: Vec::from_slice(alloc, &self.places)?,
+            places: self.places.copy(alloc)?,
             alloc,
             limit: self.limit,
         })
@@ -270,7 +294,7 @@ impl<A: Allocator + Copy> Store<A> {
 /// The labels of a key, to go through. Contracts see the list of them.
 #[derive(Drop)]
 pub struct Matches<'s, A: Allocator> {
-    bucket: Option<&'s Bucket<A>>,
+    labels: Option<&'s Labels<A>>,
     near: usize,
 }
 
@@ -280,7 +304,7 @@ impl<'s, A: Allocator> Model for Matches<'s, A> {
 
     ghost Value = { List ℕ };
 
-    ghost view = { λ m. unwrap_or (option_copied m.bucket) [] };
+    ghost view = { λ m. unwrap_or (option_copied m.labels) [] };
 }
 
 impl<'s, A: Allocator + Copy> Matches<'s, A> {
@@ -289,10 +313,10 @@ impl<'s, A: Allocator + Copy> Matches<'s, A> {
         ensures least { IsLeastBetween self.old after below result }
         ensures same { self.new ≡ self.old }
     {
-        let Some(bucket) = self.bucket else {
+        let Some(labels) = self.labels else {
             return None;
         };
-        let Some((place, label)) = bucket.next_near(self.near, after, below) else {
+        let Some((place, label)) = labels.next_near(self.near, after, below) else {
             return None;
         };
         self.near = place;

@@ -1,22 +1,18 @@
-use Rattle.std.proofs.Common.{◌≡◌, ℕ, ◌+◌, ◌++◌, ◌∷◌, [], true, false, if◌then◌else◌, map, subst, sym, ap, ◌∙◌, append_assoc, length}
-use Rattle.std.specs.Option.{unwrap_or}
-use Rattle.std.specs.Map.{lookup}
+use Rattle.std.proofs.Common.{◌≡◌, ℕ, ◌+◌, ◌++◌, ◌∷◌, [], map, subst, sym, ap, ◌∙◌, append_assoc, length}
 use Rattle.std.proofs.lemmas.List.{map_push}
 use Rattle.std.proofs.lemmas.Map.Iter.{rest_more, rest_all}
 use Rattle.chr_value.specs.Stores.{Store}
 use Rattle.chr_store.specs.Labels.{GivenAtoms, Rising}
 use Rattle.chr_store.specs.Table.{shown}
-use Rattle.chr_store.specs.Index.{Places, chosen, same_key, labels_in, IsChanged, IsIndexOf}
+use Rattle.chr_store.specs.Index.{Places, IsChanged, IsIndexOf}
 use Rattle.chr_store.specs.Indexed.{IsIndexed}
-use Rattle.chr_store.proofs.Stored.{kept_under, kept_push, before_all, append_none}
+use Rattle.chr_store.proofs.Stored.{kept_none, kept_under, kept_push, before_all, append_none}
 use Rattle.chr_store.proofs.store.Store.copy.Goals as goal
 
 pub loop-label-init : goal.loop-label-init
 loop-label-init g c = record {
   whole = c.into_iter-label-iterator.ensures.into_iter_gives ∙ c.iter-label-items.ensures.rest;
-  index = λ k.
-      let none : labels_in c.new-buckets.result k ≡ [] = ap (λ es. unwrap_or (lookup (same_key k) es) []) c.new-buckets.ensures.empty in
-      elim (chosen c.self.inside.places.items k.pred k.place) as (λ b. labels_in c.new-buckets.result k ≡ (if b then [] else [])) [ true ↦ none | false ↦ none ];
+  index = kept_none c.self.inside.places c.new-buckets.result c.new-buckets.ensures.empty;
 }
 
 pub loop-label-preserved : goal.loop-label-preserved
@@ -28,10 +24,9 @@ loop-label-preserved g c =
     let more = rest_more shown _ _ _ (l, c.in-Some.atom) c.in-Some.is c.next.ensures.steps in
     let whole : es ++ (l, a) ∷ c.next.new.self ≡ i.atoms.entries = ap (λ (z : Store). es ++ z) (sym more) ∙ c.loop-label.invariant.whole in
     let put : map shown (c.loop-label.yielded ++ (l, c.in-Some.atom) ∷ []) ≡ es ++ (l, a) ∷ [] = map_push shown c.loop-label.yielded (l, c.in-Some.atom) in
-    let t = subst (λ (z : Places). IsChanged (λ ms. ms ++ l ∷ []) z a (length a.args + 1) c.loop-label.buckets c.enter.new.buckets) c.deref.ensures.value c.in_ok-enter.ensures.ok in
     record {
       whole = ap (λ (z : Store). z ++ c.next.new.self) put ∙ append_assoc es ((l, a) ∷ []) c.next.new.self ∙ whole;
-      index = subst (λ (z : Store). IsIndexOf i.places.items z c.enter.new.buckets) (sym put) (kept_push i.places.items l a es c.loop-label.buckets c.enter.new.buckets c.loop-label.invariant.index t);
+      index = subst (λ (z : Store). IsIndexOf i.places z c.enter.new.buckets) (sym put) (kept_push i.places l a es c.loop-label.buckets c.enter.new.buckets c.loop-label.invariant.index c.in_ok-enter.ensures.ok);
     }
 
 pub enter-requires : goal.enter-requires
@@ -42,7 +37,7 @@ enter-requires g c =
     let a = c.in-Some.atom.now in
     let more = rest_more shown _ _ _ (l, c.in-Some.atom) c.in-Some.is c.next.ensures.steps in
     let whole : es ++ (l, a) ∷ c.next.new.self ≡ i.atoms.entries = ap (λ (z : Store). es ++ z) (sym more) ∙ c.loop-label.invariant.whole in
-    kept_under i.places.items l es c.loop-label.buckets (before_all l a es c.next.new.self (subst Rising (sym whole) c.self.invariant.labelled.rising)) c.loop-label.invariant.index
+    kept_under i.places l es c.loop-label.buckets (before_all l a es c.next.new.self (subst Rising (sym whole) c.self.invariant.labelled.rising)) c.loop-label.invariant.index
 
 pub invariant_of-result : goal.invariant_of-result
 invariant_of-result g c =
@@ -50,9 +45,8 @@ invariant_of-result g c =
     let es : Store = map shown c.loop-label.yielded in
     let none = rest_all shown _ _ _ c.in-None.is c.next.ensures.steps in
     let whole : es ≡ i.atoms.entries = sym (append_none es) ∙ ap (λ (z : Store). es ++ z) (sym none) ∙ c.loop-label.invariant.whole in
-    let places = sym (c.in_ok-from_slice.ensures.items ∙ c.deref-2.ensures.value) in
-    subst (λ (z : GivenAtoms). IsIndexed (record { entries = z.entries; next = z.next; limit = i.limit }) c.in_ok-from_slice.field-0.items c.loop-label.buckets) (sym c.in_ok-copy.ensures)
+    subst (λ (z : GivenAtoms). IsIndexed (record { entries = z.entries; next = z.next; limit = i.limit }) c.in_ok-copy-2.field-0 c.loop-label.buckets) (sym c.in_ok-copy.ensures)
     (record {
       labelled = c.self.invariant.labelled;
-      index = subst (λ (z : Places). IsIndexOf z i.atoms.entries c.loop-label.buckets) places (subst (λ (z : Store). IsIndexOf i.places.items z c.loop-label.buckets) whole c.loop-label.invariant.index);
+      index = subst (λ (z : Places). IsIndexOf z i.atoms.entries c.loop-label.buckets) (sym c.in_ok-copy-2.ensures) (subst (λ (z : Store). IsIndexOf i.places z c.loop-label.buckets) whole c.loop-label.invariant.index);
     })

@@ -8,7 +8,7 @@ use Rattle.chr_value.specs.declared.atom.Value.{Value as CodeValue}
 use Rattle.chr_store.specs.Labels.{LabelledStore}
 use Rattle.chr_store.specs.Keys.{key_of, IsLeastMatch}
 use Rattle.chr_store.specs.Buckets.{IsLeastBetween}
-use Rattle.chr_store.specs.Index.{Places, chosen, labels_of, labels_in}
+use Rattle.chr_store.specs.Index.{chosen, labels_of, labels_in}
 use Rattle.chr_store.proofs.Stored.{own_key, asked, asks_own, asks_at, least_meets}
 use Rattle.chr_store.proofs.store.Store.matches.Goals as goal
 
@@ -33,8 +33,7 @@ returns-clause-least g c = λ after below found least.
     let at : ℕ = c.in-Some.place in
     let v : CodeValue = c.in-Some.value.now in
     let k : Key = record { pred = pred; place = at; value = v } in
-    let listed : chosen c.deref.result.now pred at ≡ true = sym c.if-not-is_chosen.ensures in
-    let there : chosen i.places.items pred at ≡ true = sym (ap (λ (z : Places). chosen z pred at) c.deref.ensures.value) ∙ listed in
+    let there : chosen i.places pred at ≡ true = sym c.if-not-has.ensures in
     let kept : labels_in i.buckets k ≡ labels_of k es = c.self.invariant.index k ∙ ap (λ (b : Bool). if b then labels_of k es else []) there in
     let labels : unwrap_or (option_copied c.get-2.result) [] ≡ labels_of k es = ap (λ (o : Option (List ℕ)). unwrap_or o []) c.get-2.ensures.value ∙ kept in
     subst (λ (z : Store). IsLeastMatch z (asked pred (key_of c.args.key) after below) found) e

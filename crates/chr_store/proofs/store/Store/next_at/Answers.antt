@@ -8,7 +8,7 @@ use Rattle.chr_value.specs.declared.atom.Value.{Value as CodeValue}
 use Rattle.chr_store.specs.Labels.{LabelledStore}
 use Rattle.chr_store.specs.Keys.{key_of, IsLeastMatch}
 use Rattle.chr_store.specs.Buckets.{IsLeastBetween, IsIn}
-use Rattle.chr_store.specs.Index.{Places, chosen, labels_of, labels_in}
+use Rattle.chr_store.specs.Index.{chosen, labels_of, labels_in}
 use Rattle.chr_store.proofs.Stored.{IsWalked, own_key, asked, asks_own, asks_at, least_meets, walk_on, walk_found, walk_end}
 use Rattle.chr_store.proofs.store.Store.next_at.Goals as goal
 
@@ -25,20 +25,20 @@ returns-in_default-clause-least g c =
     (subst (λ (k : Option (ℕ × Bor CodeValue)). IsLeastMatch es (asked pred (key_of k) c.args.after c.args.below) r) (sym c.in_default.is)
     (least_meets es (asked pred None c.args.after c.args.below) (own_key pred) r c.self.invariant.labelled.rising (asks_own pred c.args.after c.args.below) least))
 
-pub returns-then-is_chosen-clause-least : goal.returns-then-is_chosen-clause-least
-returns-then-is_chosen-clause-least g c =
+pub returns-then-has-clause-least : goal.returns-then-has-clause-least
+returns-then-has-clause-least g c =
     let i = c.self.inside in
     let es : Store = i.atoms.entries in
     let pred = c.args.pred in
     let e : es ≡ c.args.self.now.entries = ap (λ (s : LabelledStore). s.entries) c.self.view_is in
     let own : labels_in i.buckets (own_key pred) ≡ labels_of (own_key pred) es = c.self.invariant.index (own_key pred) in
-    let r = c.next_of-then-is_chosen.result in
+    let r = c.next_of-then-has.result in
     let at : ℕ = c.in-Some.place in
     let v : CodeValue = c.in-Some.value.now in
     let k : Key = record { pred = pred; place = at; value = v } in
-    let there : chosen i.places.items pred at ≡ true = sym (ap (λ (z : Places). chosen z pred at) c.deref.ensures.value) ∙ sym c.is_chosen.ensures ∙ c.if-is_chosen.true in
+    let there : chosen i.places pred at ≡ true = sym c.has.ensures ∙ c.if-has.true in
     let kept : labels_in i.buckets k ≡ labels_of k es = c.self.invariant.index k ∙ ap (λ (b : Bool). if b then labels_of k es else []) there in
-    let least = subst (λ (ms : List ℕ). IsLeastBetween ms c.args.after c.args.below r) kept c.next_of-then-is_chosen.ensures in
+    let least = subst (λ (ms : List ℕ). IsLeastBetween ms c.args.after c.args.below r) kept c.next_of-then-has.ensures in
     subst (λ (z : Store). IsLeastMatch z (asked pred (key_of c.args.key) c.args.after c.args.below) r) e
     (subst (λ (o : Option (ℕ × Bor CodeValue)). IsLeastMatch es (asked pred (key_of o) c.args.after c.args.below) r) (sym c.in-Some.is)
     (least_meets es (asked pred (Some (at, ground v)) c.args.after c.args.below) k r c.self.invariant.labelled.rising (asks_at pred at v c.args.after c.args.below (omega arith)) least))

@@ -1,0 +1,129 @@
+-- Marks of places.
+use Rattle.std.proofs.Common.{◌≡◌, ℕ, zero, suc, ◌+◌, ◌-◌, ◌<◌, ◌≤◌, ◌&&◌, ◌||◌, Bool, true, false, List, [], ◌∷◌, ◌++◌, refl, sym, ap, subst, arith, length, take, ◌∙◌, nat_eq, replicate, slice_set, slice_get}
+use Rattle.std.specs.List.{list_any}
+use Rattle.std.specs.Option.{unwrap_or}
+use Rattle.std.proofs.lemmas.Bool.{and_parts, and_from, eq-eqb, eqb-true, false≢true}
+use Rattle.chr_value.specs.declared.atom.Pred.{Pred}
+use Rattle.chr_store.specs.Index.{Places, is_pred, chosen}
+use Rattle.chr_store.specs.Marks.{IsMarkOf, mark_at, listed, AreMarks}
+
+pub marks_none : AreMarks [] []
+marks_none = λ pred place i h. refl
+
+-- ---- more marks
+
+pub mark_filled : (ms : List Bool) (n i : ℕ) → mark_at (ms ++ replicate n false) i ≡ mark_at ms i
+mark_filled [] zero i = refl
+mark_filled [] (suc n) zero = refl
+mark_filled [] (suc n) (suc i) = mark_filled [] n i
+mark_filled (m ∷ ms) n zero = refl
+mark_filled (m ∷ ms) n (suc i) = mark_filled ms n i
+
+apart : (i j : ℕ) → (i ≡ j → ⊥) → nat_eq i j ≡ false
+apart i j h = elim (nat_eq i j) as (λ b. (nat_eq i j ≡ b) → b ≡ false) [ true ↦ λ t. absurd (h (eqb-true i j t)) | false ↦ λ t. refl ] refl
+
+eq_suc : (i j : ℕ) → nat_eq (suc i) (suc j) ≡ nat_eq i j
+eq_suc i j = elim (nat_eq i j) as (λ b. (nat_eq i j ≡ b) → nat_eq (suc i) (suc j) ≡ b) [
+  | true ↦ λ t. eq-eqb (suc i) (suc j) (ap (λ (n : ℕ). suc n) (eqb-true i j t))
+  | false ↦ λ t. apart (suc i) (suc j) (λ e. false≢true (sym t ∙ eq-eqb i j (omega arith)))
+] refl
+
+pub mark_set : (ms : List Bool) (j i : ℕ) → j < length ms → mark_at (slice_set ms j true) i ≡ (nat_eq i j || mark_at ms i)
+mark_set [] j i u = absurd (omega arith)
+mark_set (m ∷ ms) zero zero u = refl
+mark_set (m ∷ ms) zero (suc i) u = sym (ap (λ (b : Bool). b || mark_at ms i) (apart (suc i) 0 (λ e. absurd (omega arith))))
+mark_set (m ∷ ms) (suc j) zero u = sym (ap (λ (b : Bool). b || m) (apart 0 (suc j) (λ e. absurd (omega arith))))
+mark_set (m ∷ ms) (suc j) (suc i) u = mark_set ms j i (omega arith) ∙ sym (ap (λ (b : Bool). b || mark_at ms i) (eq_suc i j))
+
+-- ---- more places
+
+abbrev is_place : Pred × ℕ → Pred → ℕ → Bool
+is_place p pred place = is_pred p.0 pred && nat_eq p.1 place
+
+listed_push : (ps : Places) (p : Pred × ℕ) (pred : Pred) (place : ℕ) → listed (ps ++ p ∷ []) pred place ≡ (is_place p pred place || listed ps pred place)
+listed_push [] p pred place = refl
+listed_push (q ∷ ps) p pred place = ap (λ (b : Bool). is_place q pred place || b) (listed_push ps p pred place) ∙ swap (is_place q pred place) (is_place p pred place) (listed ps pred place)
+  where
+    swap : (a b c : Bool) → (a || (b || c)) ≡ (b || (a || c))
+    swap true true c = refl
+    swap true false c = refl
+    swap false true c = refl
+    swap false false c = refl
+
+-- a mark has one place
+same_place : (p q : Pred) (m n i : ℕ) → IsMarkOf p m i → IsMarkOf q n i → (is_pred p q && nat_eq m n) ≡ true
+same_place p q m n i h k =
+    let name : p.name.number ≡ q.name.number = omega (arith, h.index, k.index, h.few, k.few, h.within, k.within) in
+    let arity : p.arity ≡ q.arity = omega (arith, name, h.index, k.index, h.within, k.within) in
+    let place : m ≡ n = omega (arith, name, arity, h.index, k.index) in
+    and_from _ _ (and_from _ _ (eq-eqb _ _ name) (eq-eqb _ _ arity)) (eq-eqb _ _ place)
+
+-- a place that is another's has its marks
+moved : (p q : Pred) (m n i : ℕ) → (is_pred p q && nat_eq m n) ≡ true → IsMarkOf q n i → IsMarkOf p m i
+moved p q m n i t k =
+    let both = and_parts _ _ t in
+    let pred = and_parts _ _ both.0 in
+    let name : p.name.number ≡ q.name.number = eqb-true _ _ pred.0 in
+    let arity : p.arity ≡ q.arity = eqb-true _ _ pred.1 in
+    let place : m ≡ n = eqb-true _ _ both.1 in
+    record { low = omega (arith, name, k.low); few = omega (arith, arity, k.few); within = omega (arith, place, k.within); index = omega (arith, name, arity, place, k.index) }
+
+pub marks_more : (ps : Places) (p : Pred × ℕ) (i : ℕ) (old new : List Bool) → IsMarkOf p.0 p.1 i → AreMarks old ps → ((j : ℕ) → mark_at new j ≡ (nat_eq j i || mark_at old j)) → AreMarks new (ps ++ p ∷ [])
+marks_more ps p i old new own h set = λ pred place j k.
+    set j ∙ ap (λ (b : Bool). nat_eq j i || b) (h pred place j k) ∙ ap (λ (b : Bool). b || listed ps pred place) (same pred place j k) ∙ sym (listed_push ps p pred place)
+  where
+    same : (pred : Pred) (place j : ℕ) → IsMarkOf pred place j → nat_eq j i ≡ is_place p pred place
+    same pred place j k = elim (nat_eq j i) as (λ b. (nat_eq j i ≡ b) → b ≡ is_place p pred place) [
+      | true ↦ λ t. let e : j ≡ i = eqb-true j i t in sym (same_place p.0 pred p.1 place i own (subst (IsMarkOf pred place) e k))
+      | false ↦ λ t. elim (is_place p pred place) as (λ b. (is_place p pred place ≡ b) → false ≡ b) [
+        | true ↦ λ u.
+            let m : IsMarkOf p.0 p.1 j = moved p.0 pred p.1 place j u k in
+            sym t ∙ eq-eqb j i (m.index ∙ sym own.index)
+        | false ↦ λ u. refl
+      ] refl
+    ] refl
+
+pub marks_same : (ps : Places) (p : Pred × ℕ) (marks : List Bool) → ((i : ℕ) → IsMarkOf p.0 p.1 i → ⊥) → AreMarks marks ps → AreMarks marks (ps ++ p ∷ [])
+marks_same ps p marks none h = λ pred place j k.
+    h pred place j k ∙ ap (λ (b : Bool). b || listed ps pred place) (not pred place j k) ∙ sym (listed_push ps p pred place)
+  where
+    not : (pred : Pred) (place j : ℕ) → IsMarkOf pred place j → false ≡ is_place p pred place
+    not pred place j k = elim (is_place p pred place) as (λ b. (is_place p pred place ≡ b) → false ≡ b) [
+      | true ↦ λ u. absurd (none j (moved p.0 pred p.1 place j u k))
+      | false ↦ λ u. refl
+    ] refl
+
+pub chosen_listed : (ps : Places) (pred : Pred) (place : ℕ) → 0 < place → listed ps pred place ≡ chosen ps pred place
+chosen_listed ps pred zero u = absurd (omega arith)
+chosen_listed ps pred (suc n) u = refl
+
+-- ---- a table that may have been made longer
+
+pub take_whole : {X : Type 0} (xs : List X) (n : ℕ) → length xs ≤ n → take n xs ≡ xs
+take_whole [] zero u = refl
+take_whole [] (suc n) u = refl
+take_whole (x ∷ xs) zero u = absurd (omega arith)
+take_whole {X} (x ∷ xs) (suc n) u = ap (λ (z : List X). x ∷ z) (take_whole xs n (omega arith))
+
+filled_length : (ms : List Bool) (n : ℕ) → length (ms ++ replicate n false) ≡ length ms + n
+filled_length [] zero = refl
+filled_length [] (suc n) = let z : length (replicate n false) ≡ 0 + n = filled_length [] n in omega arith
+filled_length (m ∷ ms) n = let z : length (ms ++ replicate n false) ≡ length ms + n = filled_length ms n in omega arith
+
+-- the marks are as before, and an index is among them
+pub record IsRoomy (old new : List Bool) (index : ℕ) : Type 0 where
+  pub within : index < length new
+  pub same : (i : ℕ) → mark_at new i ≡ mark_at old i
+
+pub roomy_filled : (old : List Bool) (index len : ℕ) → len ≡ length old → len ≤ index → IsRoomy old (take (index + 1) old ++ replicate (index + 1 - len) false) index
+roomy_filled old index len e u =
+    let whole : take (index + 1) old ≡ old = take_whole old (index + 1) (omega arith) in
+    subst (λ (z : List Bool). IsRoomy old (z ++ replicate (index + 1 - len) false) index) (sym whole) (record {
+      within = omega (arith, filled_length old (index + 1 - len));
+      same = λ i. mark_filled old (index + 1 - len) i;
+    })
+
+pub mark_got : (ms : List Bool) (i : ℕ) → mark_at ms i ≡ unwrap_or (slice_get ms i) false
+mark_got [] i = refl
+mark_got (m ∷ ms) zero = refl
+mark_got (m ∷ ms) (suc i) = mark_got ms i
