@@ -1,20 +1,22 @@
 -- Trials that are passed over: what a search passes in one go, its ticket's calls pass one by one.
-use Rattle.std.proofs.Common.{◌≡◌, ◌≢◌, ℕ, zero, suc, List, Some, Ok, refl, sym, ◌∙◌, ap, subst, slice_set}
-use Rattle.std.proofs.lemmas.List.{set-set}
+use Rattle.std.proofs.Common.{◌≡◌, ℕ, zero, suc, List, Option, Some, Ok, refl, sym, ◌∙◌, ap, subst, slice_set}
+use Rattle.std.proofs.lemmas.List.{set-set, set-get_or}
+use Rattle.chr_value.specs.Atoms.{Value}
 use Rattle.chr_model.specs.Goals.{Numbered}
-use Rattle.chr_search.specs.Reach.{SearchState}
 use Rattle.chr_search.specs.Trials.{IsNext}
 use Rattle.chr_search.specs.Verdicts.{position}
 use Rattle.chr_search.specs.Answers.{after_judging}
 use Rattle.chr_search.specs.Passing.{PassesOne, Passes}
+use Rattle.chr_search.specs.declared.search.Passed.{Passed}
 use Rattle.chr_calls.specs.Turns.{Next}
-use Rattle.chr_calls.specs.Tickets.{Ticket, with_candidate, going_on, ticket_at}
+use Rattle.chr_calls.specs.Tickets.{Ticket, ended, with_candidate, going_on, ticket_at}
 use Rattle.chr_calls.specs.Books.{BookState, space_of, with_tickets, with_ticket}
 use Rattle.chr_calls.specs.Calls.{HoldsLive, HoldsCandidate, with_candidate_of, after_judgement}
 use Rattle.chr_calls.specs.Headline.{IsKept}
 use Rattle.chr_calls.proofs.Tickets.{states_stand, ticket_same, numbered_within}
 use Rattle.chr_calls.proofs.Turning.{turns_keep, reports_keep}
-use Rattle.chr_book.specs.Passed.{IsHeldLive, PassesTrial, PassesTrials}
+use Rattle.chr_tickets.specs.Passed.{gone_over, PassesOver}
+use Rattle.chr_book.specs.Passed.{PassesTrial, PassesTrials}
 
 -- the book where the ticket's search is at a place
 abbrev at_place : BookState → ℕ → List ℕ → BookState
@@ -82,25 +84,17 @@ pub record IsPast (b : BookState) (seat t k l : ℕ) (place : List ℕ) (tickets
   pub live : HoldsLive (with_tickets b tickets) seat t l
   pub at : (ticket_at tickets t).position ≡ place
 
-pub is_past : (k : ℕ) (b : BookState) (seat t l : ℕ) (place after : List ℕ) (tickets : List Ticket) → HoldsLive b seat t l → (ticket_at b.tickets t).position ≡ place → Passes (space_of b l) k place after
-    → (k ≡ 0 → tickets ≡ b.tickets) → (k ≢ 0 → tickets ≡ slice_set b.tickets t (going_on after (ticket_at b.tickets t))) → IsPast b seat t k l after tickets
-is_past zero b seat t l place after tickets h is p none some = subst (IsPast b seat t 0 l after) (sym (none refl)) (record { passes = refl; live = h; at = is ∙ sym p })
-is_past (suc k) b seat t l place after tickets h is p none some = subst (IsPast b seat t (suc k) l after) (sym (some (λ e. absurd (cc)))) (record {
-  passes = passes_all k b seat t l place after p h is;
-  live = holds_on b seat t l after h;
-  at = place_is b t l after h.holds.goal;
+is_past : (k : ℕ) (b : BookState) (seat t l : ℕ) (place : List ℕ) (tickets : List Ticket) → HoldsLive b seat t l → Passes (space_of b l) k (ticket_at b.tickets t).position place → tickets ≡ slice_set b.tickets t (gone_over k place (ticket_at b.tickets t)) → IsPast b seat t k l place tickets
+is_past zero b seat t l place tickets h p e = subst (IsPast b seat t 0 l place) (sym (e ∙ set-get_or b.tickets t ended)) (record { passes = refl; live = h; at = sym p })
+is_past (suc k) b seat t l place tickets h p e = subst (IsPast b seat t (suc k) l place) (sym e) (record {
+  passes = passes_all k b seat t l (ticket_at b.tickets t).position place p h refl;
+  live = holds_on b seat t l place h;
+  at = place_is b t l place h.holds.goal;
 })
 
--- it is a search of the ticket's goal
-pub goal_of : (b now : BookState) → b ≡ now → (seat t : ℕ) (s past : SearchState) → IsHeldLive now seat t s → past.label ≡ s.label → (ticket_at b.tickets t).goal ≡ Numbered past.label
-goal_of b now e seat t s past h same = subst (λ (n : BookState). (ticket_at n.tickets t).goal ≡ Numbered past.label) (sym e) (h.live.holds.goal ∙ ap Numbered (sym same))
-
--- the ticket's search has gone past them
-pub gone_past : (b now : BookState) → b ≡ now → (seat t k : ℕ) (s past : SearchState) (tickets : List Ticket) → IsHeldLive now seat t s → past.label ≡ s.label → Passes (space_of b s.label) k s.place past.place
-    → (k ≡ 0 → tickets ≡ b.tickets) → (k ≢ 0 → tickets ≡ slice_set b.tickets t (going_on past.place (ticket_at b.tickets t))) → IsPast b seat t k s.label past.place tickets
-gone_past b now e seat t k s past tickets h same p none some =
-    let held = subst (λ (n : BookState). IsHeldLive n seat t s) (sym e) h in
-    is_past k b seat t s.label s.place past.place tickets held.live (sym held.place) p none some
+-- the ticket's search has passed over them
+pub gone_past : {Z : Type 0} (b : BookState) (seat t l : ℕ) (passed : Passed Z) (binding : List (Option (Value ℕ))) (tickets : List Ticket) → HoldsLive b seat t l → (over : PassesOver (space_of b l) passed binding (ticket_at b.tickets t) (ticket_at tickets t)) → tickets ≡ slice_set b.tickets t (ticket_at tickets t) → IsPast b seat t passed.count l over.place tickets
+gone_past b seat t l passed binding tickets h over e = is_past passed.count b seat t l over.place tickets h over.passes (e ∙ ap (slice_set b.tickets t) over.after_is)
 
 -- what a book keeps
 pub passes_keep : (k : ℕ) (b n : BookState) (seat t : ℕ) → PassesTrials seat t k b n → IsKept b → IsKept n

@@ -4,6 +4,7 @@ use Rattle.std.specs.Option.{option_copied}
 use Rattle.chr_value.specs.Atoms.{Atom}
 use Rattle.chr_log.specs.Events.{Entry, Drop}
 use Rattle.chr_model.specs.Stores.{Store, atom_at}
+use Rattle.chr_model.specs.Goals.{Numbered}
 use Rattle.chr_search.specs.Trials.{IsNext, NoneLeft}
 use Rattle.chr_search.specs.Reach.{SearchState}
 use Rattle.chr_search.specs.Verdicts.{Trial, position, IsFormed, IsTrialOf}
@@ -23,6 +24,7 @@ use Rattle.chr_calls.specs.Headline.{IsKept}
 use Rattle.chr_calls.proofs.Dropping.{drops_keep}
 use Rattle.chr_calls.proofs.Turning.{reports_keep}
 use Rattle.chr_book.specs.Books.{IsHeldSearch, HasTrialLeft}
+use Rattle.chr_book.specs.Passed.{IsHeldLive}
 
 -- ---- what can be claimed
 
@@ -108,6 +110,19 @@ reported_keeps b now e seat t j found trial tickets some h candidate same right 
 
 pub holds_live : (b now : BookState) → b ≡ now → (seat t : ℕ) (s : SearchState) → IsHeldSearch now.tickets seat t s → IsLive b s.label → HoldsLive now seat t s.label
 holds_live b now e seat t s h live = subst (λ (n : BookState). HoldsLive n seat t s.label) e (record { holds = (held_in b now e seat t s h).holds; live = live })
+
+-- the seat holds a ticket whose goal is live where an atom is found under its label
+pub found_live : (b now : BookState) → b ≡ now → (seat t given : ℕ) (s : SearchState) (found : Option (Bor (Atom ℕ))) → IsHeldSearch now.tickets seat t s → option_copied found ≡ atom_at b.store given → given ≡ s.label → IsTrue (is_some found) ↔ IsHeldLive now seat t
+found_live b now e seat t given s found h is same =
+    (λ some. (s.label, holds_live b now e seat t s h (live_label b.store given s.label found some is same)), λ live. there found is live)
+  where
+    there : (o : Option (Bor (Atom ℕ))) → option_copied o ≡ atom_at b.store given → IsHeldLive now seat t → is_some o ≡ true
+    there (Some a) shows live = refl
+    there None shows live =
+        let goals : Numbered s.label ≡ Numbered live.0 = sym h.holds.goal ∙ live.1.holds.goal in
+        let label : given ≡ live.0 = cc in
+        let z : None ≡ Some live.1.live.0 = shows ∙ ap₂ (λ (n : BookState) (l : ℕ). atom_at n.store l) e label ∙ live.1.live.1 in
+        absurd (cc)
 
 -- the answer of a search in a ticket's turn
 pub next_turn : {Z : Type 0} (b now : BookState) → b ≡ now → (seat t : ℕ) (s : SearchState) (ask : Ask Z) (trial candidate : Trial) (tickets : List Ticket) → IsHeldSearch now.tickets seat t s → IsLive b s.label → IsAnswer (space_of b s.label) s.place ask → ask ≡ answers.Trial trial → IsFormed trial → candidate ≡ trial → tickets ≡ slice_set b.tickets t (with_candidate (Some candidate) (ticket_at b.tickets t)) → Turns b seat t (Ok (turn.Next trial)) (with_tickets b tickets)

@@ -1,12 +1,10 @@
 -- Trials that are passed over.
 use Rattle.std.specs.Prelude.{◌≡◌, ℕ, zero, suc, ◌+◌, ◌<◌, Ok}
-use Rattle.chr_search.specs.Reach.{SearchState}
 use Rattle.chr_search.specs.Judged.{Judgement, IsVerdict}
 use Rattle.chr_calls.specs.declared.answers.Fired.{Fired}
 use Rattle.chr_calls.specs.declared.answers.Firing.TheVariants as firing
 use Rattle.chr_calls.specs.declared.answers.Dropping.TheVariants as dropping
 use Rattle.chr_calls.specs.Turns.{Next, Done}
-use Rattle.chr_calls.specs.Tickets.{ticket_at}
 use Rattle.chr_calls.specs.Books.{BookState}
 use Rattle.chr_calls.specs.Calls.{HoldsLive, Turns, Reports, FiresOrMisses, Drops}
 use Rattle.chr_book.specs.declared.rounds.Last.{Last}
@@ -26,10 +24,9 @@ abbrev pub PassesTrials : ℕ → ℕ → ℕ → BookState → BookState → Ty
 PassesTrials seat t zero b n = n ≡ b
 PassesTrials seat t (suc k) b n = (middle : BookState) × PassesTrial seat t b middle × PassesTrials seat t k middle n
 
--- the seat holds the ticket of a live goal, and this is its search
-pub record IsHeldLive (b : BookState) (seat t : ℕ) (search : SearchState) : Type 0 where
-  pub live : HoldsLive b seat t search.label
-  pub place : search.place ≡ (ticket_at b.tickets t).position
+-- the seat holds the ticket, whose goal is live
+abbrev pub IsHeldLive : BookState → ℕ → ℕ → Type 0
+IsHeldLive b seat t = (l : ℕ) × HoldsLive b seat t l
 
 -- the ticket's next trial is asked for, judged, and fired
 pub record FiresTrial (seat t : ℕ) (b n : BookState) : Type 0 where

@@ -1,14 +1,11 @@
 //! Rounds of calls for a ticket: one that asks for its next trial, and one that answers.
-ghost use Rattle.std.specs.Prelude.{◌≡◌, ◌≢◌, ◌≤◌, IfOk, IfSome, OnErr, slice_set};
-ghost use Rattle.chr_model.specs.Goals.{Numbered};
-ghost use Rattle.chr_calls.specs.Tickets.{ticket_at, going_on};
+ghost use Rattle.std.specs.Prelude.{◌↔◌, ◌≤◌, ◌≡◌, IsTrue, IfOk, OnErr};
 ghost use Rattle.chr_book.specs.Passed.{IsHeldLive, rounds_in, MakesRounds, MakesFewer};
 
 use crate::book::Book;
 use crate::firing::{end_goal, fire_whole, remove_all};
 use chr_log::events::copy_labels;
-use chr_search::search::{Search, Then};
-use chr_tickets::tickets::Tickets;
+use chr_search::search::{Instance, Then};
 use std::alloc::{AllocError, Allocator};
 
 /// What the last of several rounds was.
@@ -48,48 +45,34 @@ const NO_ROUNDS: Rounds = Rounds {
     last: Last::Passed,
 };
 
-/// Where a search has passed over trials, its ticket's search goes on at its place.
-fn go_past<A: Allocator + Copy>(tickets: &mut Tickets<A>, ticket: u64, search: Search, passed: u64)
-    requires { (ticket_at tickets.old ticket).goal ≡ Numbered search.label }
-    ensures none { passed ≡ 0 → tickets.new ≡ tickets.old }
-    ensures some { passed ≢ 0 → tickets.new ≡ slice_set tickets.old ticket (going_on search.place (ticket_at tickets.old ticket)) }
-{
-    if passed > 0 {
-        tickets.go_to(ticket, search);
-    }
-}
-
 impl<A: Allocator + Copy> Book<A> {
-    /// A copy of the search of a ticket that the seat holds, where the goal's label is live.
-    fn held_live(&self, seat: u32, ticket: u64) -> Option<Search>
-        ensures { IfSome result (IsHeldLive self.now seat ticket) }
+    /// Whether the seat holds a ticket whose goal's label is live.
+    fn is_held_live(&self, seat: u32, ticket: u64) -> bool
+        ensures { IsTrue result ↔ IsHeldLive self.now seat ticket }
     {
-        let search = self.held(seat, ticket)?;
-        if self.store.get(search.label()).is_none() {
-            return None;
+        match self.held(seat, ticket) {
+            None => false,
+            Some(search) => self.store.get(search.label()).is_some(),
         }
-        Some(search.copy())
     }
 
-    /// Makes rounds of calls for a ticket that the seat holds, at most so many. In each, [`trial`](Book::trial) gives the next
-    /// trial, and with the right verdict [`report`](Book::report) passes over it, up to one that is whole: that one
-    /// [`fire`](Book::fire) fires, which is the last round; where no trial is left, [`drop_goal`](Book::drop_goal) drops the
-    /// goal in the last round. No round where the seat doesn't hold the ticket or the goal's label has left the store. An
-    /// `Err` is E01: the rounds before the last were made.
-    pub fn go_on(&mut self, seat: u32, ticket: u64, most: u64) -> Result<Rounds, AllocError>
+    /// The rounds of [`go_on`](Book::go_on), where there is one.
+    fn make_rounds(&mut self, seat: u32, ticket: u64, most: u64) -> Result<Rounds, AllocError>
+        requires held { IsHeldLive self.old seat ticket }
+        requires some { 1 ≤ most }
         ensures few { IfOk result (λ rounds. rounds_in rounds ≤ most) }
         ensures ok { IfOk result (λ rounds. MakesRounds seat ticket rounds self.old self.new) }
         ensures err { OnErr result (MakesFewer seat ticket most self.old self.new) }
     {
-        if most == 0 {
-            return Ok(NO_ROUNDS);
-        }
-        let Some(mut search) = self.held_live(seat, ticket) else {
-            return Ok(NO_ROUNDS);
-        };
-        let come = search.pass_over(&self.program, &self.plans, &self.store, most - 1);
+        // Lent before the instance is made, since it borrows from them.
+        let program = &self.program;
+        let plans = &self.plans;
+        let store = &self.store;
+        let mut instance = Instance::new();
+        let come = self
+            .tickets
+            .pass_over(ticket, program, plans, store, most - 1, &mut instance);
         let passed = come.count;
-        go_past(&mut self.tickets, ticket, search, passed);
         let last = match &come.then {
             Then::More => Last::Passed,
             Then::Done => {
@@ -105,11 +88,31 @@ impl<A: Allocator + Copy> Book<A> {
                     seat,
                     ticket,
                     whole,
+                    instance.binding(),
                 )?;
                 remove_all(&mut self.store, removed.as_slice());
                 Last::Fired
             }
         };
         Ok(Rounds { passed, last })
+    }
+
+    /// Makes rounds of calls for a ticket that the seat holds, at most so many. In each, [`trial`](Book::trial) gives the next
+    /// trial, and with the right verdict [`report`](Book::report) passes over it, up to one that is whole: that one
+    /// [`fire`](Book::fire) fires, which is the last round; where no trial is left, [`drop_goal`](Book::drop_goal) drops the
+    /// goal in the last round. No round where the seat doesn't hold the ticket or the goal's label has left the store. An
+    /// `Err` is E01: the rounds before the last were made.
+    pub fn go_on(&mut self, seat: u32, ticket: u64, most: u64) -> Result<Rounds, AllocError>
+        ensures few { IfOk result (λ rounds. rounds_in rounds ≤ most) }
+        ensures ok { IfOk result (λ rounds. MakesRounds seat ticket rounds self.old self.new) }
+        ensures err { OnErr result (MakesFewer seat ticket most self.old self.new) }
+    {
+        if most == 0 {
+            return Ok(NO_ROUNDS);
+        }
+        if !self.is_held_live(seat, ticket) {
+            return Ok(NO_ROUNDS);
+        }
+        self.make_rounds(seat, ticket, most)
     }
 }

@@ -64,8 +64,9 @@ below_of j ls place rest from g is c = record { grows = g; rest = rest; is = is;
 pub below_at : (j : Join) (ls place : List ℕ) (from : ℕ) → Grows (MayFollow j) [] ls → place ≡ ls ++ from ∷ [] → IsBelow j ls place from
 below_at j ls place from g is = below_of j ls place (from ∷ []) from g is (come_at (MayFollow j) 1 ls from [])
 
-pub below_first : (j : Join) (place : List ℕ) → place ≡ [] → IsBelow j [] place 0
-below_first j place is = below_of j [] place [] 0 tt is (come_first (MayFollow j) 1 [] (omega arith))
+pub below_first : (j : Join) (place : List ℕ) → length place ≡ 0 → IsBelow j [] place 0
+below_first j [] e = below_of j [] [] [] 0 tt refl (come_first (MayFollow j) 1 [] (omega arith))
+below_first j (x ∷ xs) e = absurd (omega arith)
 
 -- the least one there
 none_under : (t : Bool) → ◌≡◌ {A = List ℕ} [] (if t then [] else [])
@@ -88,6 +89,12 @@ pub done_below : (j : Join) (ls place : List ℕ) (x : ℕ) → Grows (MayFollow
 done_below j ls place x g e =
     below_of j ls place (x ∷ e.rest) (x + 1) g (e.is ∙ append_one ls e.rest x)
     (come_past (MayFollow j) 1 ls (x ∷ e.rest) x e.rest (come_at (MayFollow j) 1 ls x e.rest) (λ m. e.none))
+
+-- after the active label none comes first
+pub only_first : (j : Join) (ls place : List ℕ) (x : ℕ) → length ls ≡ 0 → MayFollow j ls x → IsDone j (ls ++ x ∷ []) place → IsDone j ls place
+only_first j [] place x e m done =
+    below_done j [] place (x + 1) (done_below j [] place x tt done) (λ y n low. let a : x ≡ j.active = m.turn in let b : y ≡ j.active = n.turn in omega arith)
+only_first j (l ∷ ls) place x e m done = absurd (omega arith)
 
 -- after one below which there is none
 pub none_below : (j : Join) (ls place : List ℕ) (x : ℕ) (below : List ℕ) → Grows (MayFollow j) [] ls → place ≡ ls ++ x ∷ below → (MayFollow j ls x → NoneBeyond (MayFollow j) 1 (ls ++ x ∷ []) below) → IsBelow j ls place (x + 1)

@@ -19,3 +19,5 @@ pub mod Passed
 pub mod Levels
 pub mod Below
 pub mod PlanByPlan
+pub mod Occurring
+pub mod First

@@ -2,7 +2,7 @@
 use Rattle.std.proofs.Common.{◌≡◌, ◌≢◌, ℕ, zero, suc, ◌+◌, ◌<◌, ◌≤◌, true, false, ◌==◌, ◌&&◌, if◌then◌else◌, List, [], ◌∷◌, ◌++◌, map, take, drop, length, get_or, Option, Some, None, slice_get, refl, sym, ◌∙◌, ap, subst, arith, ⊎_elim}
 use Rattle.std.proofs.lemmas.Bool.Decides.{nat_tests}
 use Rattle.std.specs.List.{AllByRecursion}
-use Rattle.std.proofs.lemmas.Option.{slice_get_within, slice_get-get_or}
+use Rattle.std.proofs.lemmas.Option.{slice_get_within}
 use Rattle.chr_value.specs.Atoms.{Value, Atom}
 use Rattle.chr_rule.specs.Rules.{RuleAtom, Simpagation, head_at, rule_at}
 use Rattle.chr_rule.specs.Scope.{IsRule}
@@ -16,17 +16,16 @@ use Rattle.chr_search.specs.declared.search.Whole.{Whole as CodeWhole}
 use Rattle.chr_search.specs.Positions.{at_or_after, past}
 use Rattle.chr_search.specs.Tree.{Grows, Beyond, Least, NoneBeyond}
 use Rattle.chr_search.specs.Trials.{Join, HasHeadPred, MayFollow, Space, join_in, IsPlanned, Child, IsTrial, IsNext, NoneLeft}
-use Rattle.chr_search.specs.Verdicts.{Placed, Trial, label_at, labels_from, kept_labels, removed_labels, position, IsWholeUnder}
+use Rattle.chr_search.specs.Verdicts.{Placed, Trial, label_at, labels_from, kept_labels, removed_labels, position}
 use Rattle.chr_search.specs.Partners.{HasPlan}
 use Rattle.chr_search.specs.Answers.{after_verdict}
 use Rattle.chr_search.specs.Passing.{IsTrialIn, HasTrials, AreWhole, PassesOneIn, PassesIn, PassesOne, Passes, IsWholeNext}
-use Rattle.chr_search.specs.PlanByPlan.{label_at_head, labels_at_heads, labels_in, HasNoPlan, IsJoinAt, PassesPlan, HasComeTo}
+use Rattle.chr_search.specs.PlanByPlan.{label_at_head, labels_at_heads, labels_in, IsJoinAt, PassesPlan, HasComeTo, IsNextJoin}
 use Rattle.chr_search.proofs.Positions.{after_itself, after_first, after_under, after_cases, after_by}
-use Rattle.chr_search.proofs.Plans.{heads_in, planned, has_plan}
-use Rattle.chr_search.proofs.Partners.{none_at_all}
-use Rattle.chr_search.proofs.Asking.{begins_if, begins_pred}
+use Rattle.chr_search.proofs.Plans.{heads_in, planned}
+use Rattle.chr_search.proofs.Asking.{begins_if}
 use Rattle.chr_search.proofs.Judging.{few_heads}
-use Rattle.chr_search.proofs.Descents.{at_first_head, found_at_head, none_at_head, no_more_heads, at_first_rule, found_at_rule, none_at_rule, no_more_rules, rule_scoped, rule_there, rules_end}
+use Rattle.chr_search.proofs.Descents.{at_first_head, found_at_head, none_at_head, at_first_rule, found_at_rule, rule_scoped}
 use Rattle.chr_search.proofs.Passed.{Makes, made_of, has_trials, position_made, trial_of_made, one_passed, after_labels}
 
 -- labels at heads
@@ -158,7 +157,7 @@ onward s r below above f (y ∷ ys) i e =
       there = same.1;
     })))) (after_cases r y below ys e)
 
--- on to the next head, to the next rule, and to the end
+-- on to the next head, and to the end
 pub come_to_next_head : (s : Space) (place : List ℕ) (r h : ℕ) (labels : List ℕ) (rule : Simpagation ℕ) (order : List Step) → HasComeTo s place r h → AreAlike s place (r ∷ h ∷ labels) → IsPlanned s r h rule order → NoneBeyond (MayFollow (join_in s rule order)) 1 [] labels → HasComeTo s place r (h + 1)
 come_to_next_head s place r h labels rule order c a p n =
     let come = none_at_head s r h labels h labels rule order (at_first_head s r h labels) p n in
@@ -168,25 +167,8 @@ come_to_next_head s place r h labels rule order c a p n =
       none = λ t i e. onward s r (h ∷ labels) ((h + 1) ∷ []) (λ ys b. come.into ys b) t i (a.into t i e);
     }
 
-pub come_to_next_rule : (s : Space) (place : List ℕ) (r h : ℕ) → HasComeTo s place r h → HasNoPlan s r h → 1 ≤ r → 1 ≤ h → r ≤ length s.rules → HasComeTo s place (r + 1) 1
-come_to_next_rule s place r h c n low first high =
-    let q = rule_there s.rules r low high in
-    let gone : plan_at s.plans r h ≡ None = no_order (plan_at s.plans r h) refl q.0 q.1 in
-    let come = none_at_rule s (r ∷ h ∷ []) r h [] q.0 (at_first_rule s r h []) q.1 (no_more_heads s r h [] h [] (at_first_head s r h []) first gone) in
-    let up : at_or_after (r ∷ h ∷ []) ((r + 1) ∷ 1 ∷ []) ≡ true = after_first r (r + 1) (h ∷ []) (1 ∷ []) (omega arith) in
-    record {
-      later = after_by (take 2 place) (r ∷ h ∷ []) ((r + 1) ∷ 1 ∷ []) c.later up;
-      none = λ t i e. come.into t (record { grows = i.grows; deep = i.deep; there = c.none t i e });
-    }
-  where
-    no_order : (o : Option (List Step)) → plan_at s.plans r h ≡ o → (rule : Simpagation ℕ) → rule_at s.rules r ≡ Some rule → o ≡ None
-    no_order None e rule ri = refl
-    no_order (Some order) e rule ri = absurd (n rule order (record { rule_is = ri; order_is = e }))
-
-pub come_to_end : (s : Space) (place : List ℕ) (r h : ℕ) → HasComeTo s place r h → 1 ≤ r → length s.rules < r → NoneLeft s place
-come_to_end s place r h c low past t b =
-    no_more_rules s (r ∷ h ∷ []) r h [] (at_first_rule s r h []) low (rules_end s.rules r low past) t
-    (record { grows = b.grows; deep = b.deep; there = c.none t (record { grows = b.grows; deep = b.deep }) b.there })
+pub come_to_end : (s : Space) (place : List ℕ) (r h : ℕ) → HasComeTo s place r h → NoneLeft s (r ∷ h ∷ []) → NoneLeft s place
+come_to_end s place r h c n t b = n t (record { grows = b.grows; deep = b.deep; there = c.none t (record { grows = b.grows; deep = b.deep }) b.there })
 
 -- what a plan's trials are to the search
 pub grown : (j : Join) (place ls : List ℕ) → Least (MayFollow j) 1 [] place ls → (1 ≤ length ls) × Grows (MayFollow j) [] ls
@@ -245,8 +227,8 @@ has_gone s rule order r h m place (suc n) after labels c p stays moves =
 
 -- the trial that is whole
 pub whole_next : {Z : Type 0} (s : Space) (rule : Simpagation ℕ) (order : List Step) (r h : ℕ) → Makes s rule order r h → (after labels ls : List ℕ) (binding : List (Option (Value ℕ))) → AreAlike s after (r ∷ h ∷ labels) → Least (MayFollow (join_in s rule order)) 1 [] labels ls → AreWhole (join_in s rule order) ls binding → (w : CodeWhole Z) → w.rule.now ≡ rule → w.number ≡ r → w.kept.items ≡ labels_at_heads order ls 1 (length rule.kept)
-    → w.removed.items ≡ labels_at_heads order ls (suc (length rule.kept)) (length rule.removed) → w.binding ≡ binding → w.past ≡ record { label = s.active; place = past (r ∷ h ∷ ls) } → IsWholeNext s after w
-whole_next s rule order r h m after labels ls binding a l whole w rule_is number_is kept_is removed_is binding_is past_is =
+    → w.removed.items ≡ labels_at_heads order ls (suc (length rule.kept)) (length rule.removed) → w.past ≡ record { label = s.active; place = past (r ∷ h ∷ ls) } → IsWholeNext s after w binding
+whole_next s rule order r h m after labels ls binding a l whole w rule_is number_is kept_is removed_is past_is =
     let j = join_in s rule order in
     let g = grown j labels ls l in
     let t = made_of s rule order r h m ls g.0 g.1 in
@@ -256,7 +238,7 @@ whole_next s rule order r h m after labels ls binding a l whole w rule_is number
       next = subst (IsNext s after) (sym is) (next_in_plan s after r h labels rule order a m.planned ls l);
       is = trial_of_made s rule order r h ls t m.planned.rule_is m.planned.order_is;
       formed = t.is.formed;
-      under = subst (IsWholeUnder t.trial) (sym binding_is) (whole t.trial t.is);
+      under = whole t.trial t.is;
       rule_is = rule_is ∙ sym t.is.rule_is;
       number_is = number_is ∙ sym t.number;
       kept_are = kept_is ∙ kept_at_heads j ls t.trial t.is;
@@ -265,8 +247,21 @@ whole_next s rule order r h m after labels ls binding a l whole w rule_is number
     }
 
 -- the join of a plan, and what comes of passing over its trials
-pub makes_at : (s : Space) (r h : ℕ) (j : Join) → IsJoinAt s r h j → ArePlans s.rules s.plans → (store : LabelledStore) → store.entries ≡ s.store → IsLabelled store → 1 ≤ r → 1 ≤ h → Makes s j.rule j.order r h
-makes_at s r h j k ps store e w number head = record { planned = k.planned; plans = ps; store = store; entries = e; labelled = w; scoped = k.plan.scoped; number = number; head = head }
+pub makes_at : (s : Space) (r h : ℕ) (j : Join) → IsJoinAt s r h j → ArePlans s.rules s.plans → (store : LabelledStore) → store.entries ≡ s.store → IsLabelled store → Makes s j.rule j.order r h
+makes_at s r h j k ps store e w =
+    let q = planned s.rules s.plans ps r h j.rule j.order k.planned.rule_is k.planned.order_is in
+    record { planned = k.planned; plans = ps; store = store; entries = e; labelled = w; scoped = k.plan.scoped; number = rule_from s.rules r j.rule k.planned.rule_is; head = q.from }
+  where
+    rule_from : (rules : List (Simpagation ℕ)) (r : ℕ) (rule : Simpagation ℕ) → rule_at rules r ≡ Some rule → 1 ≤ r
+    rule_from rules zero rule e = absurd (let z : None ≡ Some rule = e in cc)
+    rule_from rules (suc i) rule e = omega arith
+
+pub rule_at_most : (s : Space) (r h : ℕ) (rule : Simpagation ℕ) (order : List Step) → Makes s rule order r h → r ≤ length s.rules
+rule_at_most s r h rule order m = within r m.planned.rule_is
+  where
+    within : (r : ℕ) → rule_at s.rules r ≡ Some rule → r ≤ length s.rules
+    within zero e = absurd (let z : None ≡ Some rule = e in cc)
+    within (suc i) e = let less : i < length s.rules = slice_get_within s.rules i rule e in omega arith
 
 pub head_at_most : (s : Space) (r h : ℕ) (rule : Simpagation ℕ) (order : List Step) → Makes s rule order r h → h ≤ 6
 head_at_most s r h rule order m =
@@ -285,44 +280,19 @@ pub on_at : (s : Space) (r h : ℕ) (j : Join) → IsJoinAt s r h j → (place :
 on_at s r h j k place n after labels g none = come_to_next_head s after r h labels j.rule j.order g.come g.alike k.planned (subst (λ (x : Join). NoneBeyond (MayFollow x) 1 [] labels) k.is none)
 
 pub whole_at : {Z : Type 0} (s : Space) (r h : ℕ) (j : Join) → IsJoinAt s r h j → Makes s j.rule j.order r h → (place : List ℕ) (n : ℕ) (after labels ls : List ℕ) (binding : List (Option (Value ℕ))) → HasGone s place r h n after labels → Least (MayFollow j) 1 [] labels ls → AreWhole j ls binding → (w : CodeWhole Z) → w.rule.now ≡ j.rule → w.number ≡ r
-    → w.kept.items ≡ labels_at_heads j.order ls 1 (length j.rule.kept) → w.removed.items ≡ labels_at_heads j.order ls (suc (length j.rule.kept)) (length j.rule.removed) → w.binding ≡ binding → w.past ≡ record { label = j.active; place = past (r ∷ h ∷ ls) } → IsWholeNext s after w
-whole_at s r h j k m place n after labels ls binding g l whole w rule_is number_is kept_is removed_is binding_is past_is =
-    whole_next s j.rule j.order r h m after labels ls binding g.alike (subst (λ (x : Join). Least (MayFollow x) 1 [] labels ls) k.is l) (subst (λ (x : Join). AreWhole x ls binding) k.is whole) w rule_is number_is kept_is removed_is binding_is
+    → w.kept.items ≡ labels_at_heads j.order ls 1 (length j.rule.kept) → w.removed.items ≡ labels_at_heads j.order ls (suc (length j.rule.kept)) (length j.rule.removed) → w.past ≡ record { label = j.active; place = past (r ∷ h ∷ ls) } → IsWholeNext s after w binding
+whole_at s r h j k m place n after labels ls binding g l whole w rule_is number_is kept_is removed_is past_is =
+    whole_next s j.rule j.order r h m after labels ls binding g.alike (subst (λ (x : Join). Least (MayFollow x) 1 [] labels ls) k.is l) (subst (λ (x : Join). AreWhole x ls binding) k.is whole) w rule_is number_is kept_is removed_is
     (past_is ∙ ap (λ (x : Join). record { label = x.active; place = past (r ∷ h ∷ ls) }) k.is)
 
--- heads of other predicates
-head_within : (rule : Simpagation ℕ) (h : ℕ) (head : RuleAtom ℕ) → head_at rule h ≡ Some head → h ≤ length (heads_of rule)
+-- the plan of a head with the active atom's predicate
+pub head_from : (rule : Simpagation ℕ) (h : ℕ) (head : RuleAtom ℕ) → head_at rule h ≡ Some head → 1 ≤ h
+head_from rule zero head e = absurd (let z : None ≡ Some head = e in cc)
+head_from rule (suc k) head e = omega arith
+
+pub head_within : (rule : Simpagation ℕ) (h : ℕ) (head : RuleAtom ℕ) → head_at rule h ≡ Some head → h ≤ length (heads_of rule)
 head_within rule zero head e = absurd (let z : None ≡ Some head = e in cc)
 head_within rule (suc k) head e = let less : k < length (heads_of rule) = slice_get_within (heads_of rule) k head e in omega arith
-
-pub head_few : (rule : Simpagation ℕ) (h : ℕ) (head : RuleAtom ℕ) → IsRule rule → head_at rule h ≡ Some head → h ≤ 6
-head_few rule h head scoped e =
-    let to : h ≤ length (heads_of rule) = head_within rule h head e in
-    let few : length (heads_of rule) ≤ 6 = few_heads rule scoped in
-    omega arith
-
-pub no_such_head : (s : Space) (r h : ℕ) (rule : Simpagation ℕ) → ArePlans s.rules s.plans → rule_at s.rules r ≡ Some rule → head_at rule h ≡ None → HasNoPlan s r h
-no_such_head s r h rule ps ri none other order p =
-    let z : Some other ≡ Some rule = sym p.rule_is ∙ ri in
-    let same : other ≡ rule = cc in
-    let q = planned s.rules s.plans ps r h other order p.rule_is p.order_is in
-    there h (subst (λ (x : Simpagation ℕ). h ≤ length (heads_of x)) same q.to) q.from none
-  where
-    there : (k : ℕ) → k ≤ length (heads_of rule) → 1 ≤ k → head_at rule k ≡ None → ⊥
-    there zero to from e = absurd (omega arith)
-    there (suc k) to from e =
-        let d : RuleAtom ℕ = record { name = 0; args = [] } in
-        let less : k < length (heads_of rule) = omega arith in
-        let z : None ≡ Some (get_or (heads_of rule) k d) = sym e ∙ slice_get-get_or (heads_of rule) k d less in
-        cc
-
-pub other_pred : (s : Space) (place : List ℕ) (r h : ℕ) (rule : Simpagation ℕ) (head : RuleAtom ℕ) (atom : Atom ℕ) → ArePlans s.rules s.plans → rule_at s.rules r ≡ Some rule → 1 ≤ h → head_at rule h ≡ Some head → atom_at s.store s.active ≡ Some atom → (HasHeadPred head atom → ⊥) → HasComeTo s place r h → HasComeTo s place r (h + 1)
-other_pred s place r h rule head atom ps ri low is live other c =
-    let o = has_plan s.rules s.plans ps r h rule ri low (head_within rule h head is) in
-    let j = join_in s rule o.0 in
-    let q = planned s.rules s.plans ps r h rule o.0 ri o.1 in
-    let none : NoneBeyond (MayFollow j) 1 [] (labels_in place r h) = none_at_all j (labels_in place r h) (λ x m. other (begins_pred j (record { head = h; key = None }) head atom (ap (λ (z : List Step). slice_get z 0) q.plan.first) is live (subst (MayFollow j []) m.turn m))) in
-    come_to_next_head s place r h (labels_in place r h) rule o.0 c (alike_in s place r h c) (record { rule_is = ri; order_is = o.1 }) none
 
 pub joins_at : (s : Space) (r h : ℕ) (rule : Simpagation ℕ) (order : List Step) (head : RuleAtom ℕ) (atom : Atom ℕ) → ArePlans s.rules s.plans → AllByRecursion IsRule s.rules → rule_at s.rules r ≡ Some rule → plan_at s.plans r h ≡ Some order → head_at rule h ≡ Some head → atom_at s.store s.active ≡ Some atom → HasHeadPred head atom → IsJoinAt s r h (join_in s rule order)
 joins_at s r h rule order head atom ps all ri oi is live pred =
@@ -335,23 +305,20 @@ joins_at s r h rule order head atom ps all ri oi is live pred =
       begins = begins_if (join_in s rule order) plan (record { head = h; key = None }) head atom (ap (λ (z : List Step). slice_get z 0) q.plan.first) is live pred;
     }
 
-pub come_further : (s : Space) (place : List ℕ) (r h k : ℕ) → HasComeTo s place r h → HasComeTo s (r ∷ h ∷ []) r k → HasComeTo s place r k
-come_further s place r h k c d = record { later = after_by (take 2 place) (r ∷ h ∷ []) (r ∷ k ∷ []) c.later d.later; none = λ t i e. d.none t i (c.none t i e) }
-
--- as far as another search has come, which begins where this one stands
-pub come_on : (s t : Space) → t ≡ s → (place : List ℕ) (r h k : ℕ) → HasComeTo s place r h → HasComeTo t (r ∷ h ∷ []) r k → HasComeTo s place r k
-come_on s t e place r h k c d = come_further s place r h k c (subst (λ (x : Space). HasComeTo x (r ∷ h ∷ []) r k) e d)
-
 -- a search that has come to a join
 pub record HasJoin (s : Space) (place : List ℕ) (r h : ℕ) (j : Join) : Type 0 where
   pub come : HasComeTo s place r h
   pub join : IsJoinAt s r h j
   pub makes : Makes s j.rule j.order r h
 
-pub has_join : (s t : Space) → t ≡ s → (place : List ℕ) (r before h : ℕ) (j : Join) → HasComeTo s place r before → HasComeTo t (r ∷ before ∷ []) r h → IsJoinAt t r h j → ArePlans s.rules s.plans → (store : LabelledStore) → store.entries ≡ s.store → IsLabelled store → 1 ≤ r → 1 ≤ before → before ≤ h → HasJoin s place r h j
-has_join s t e place r before h j c d k ps store entries labelled number head on =
-    let join = subst (λ (x : Space). IsJoinAt x r h j) e k in
-    record { come = come_on s t e place r before h c d; join = join; makes = makes_at s r h j join ps store entries labelled number (omega arith) }
+come_further : (s : Space) (place : List ℕ) (r h x y : ℕ) → HasComeTo s place r h → HasComeTo s (r ∷ h ∷ []) x y → HasComeTo s place x y
+come_further s place r h x y c d = record { later = after_by (take 2 place) (r ∷ h ∷ []) (x ∷ y ∷ []) c.later d.later; none = λ t i e. d.none t i (c.none t i e) }
+
+-- as far as another search has come, which begins where this one stands
+pub has_join : (s t : Space) → t ≡ s → (place : List ℕ) (r h x y : ℕ) (j : Join) → HasComeTo s place r h → IsNextJoin t r h x y j → ArePlans s.rules s.plans → (store : LabelledStore) → store.entries ≡ s.store → IsLabelled store → HasJoin s place x y j
+has_join s t e place r h x y j c n ps store entries labelled =
+    let next = subst (λ (z : Space). IsNextJoin z r h x y j) e n in
+    record { come = come_further s place r h x y c next.come; join = next.join; makes = makes_at s x y j next.join ps store entries labelled }
 
 -- where the active label has left the store
 pub gone_none : (s : Space) (place : List ℕ) → atom_at s.store s.active ≡ None → NoneLeft s place

@@ -149,21 +149,21 @@ StopsAt j path from (stops.Part x) place ls binding =
     (ls ≡ path ++ x ∷ []) × (place ≡ ls ++ 0 ∷ []) × (from ≤ x) × MayFollow j path x × IsReady j (path ++ x ∷ []) binding
 StopsAt j path from (stops.End end) place ls binding = EndsBelow j path place end ls binding
 
--- what was found is the next trial at a place, and it is whole
-pub record IsWholeNext {Z : Type 0} (s : Space) (place : List ℕ) (w : CodeWhole Z) : Type 0 where
+-- what was found is the next trial at a place, and it is whole under this binding
+pub record IsWholeNext {Z : Type 0} (s : Space) (place : List ℕ) (w : CodeWhole Z) (binding : List (Option (Value ℕ))) : Type 0 where
   pub trial : Trial
   pub next : IsNext s place (position trial)
   pub is : IsTrialOf s.rules s.plans s.store trial
   pub formed : IsFormed trial
-  pub under : IsWholeUnder trial w.binding
+  pub under : IsWholeUnder trial binding
   pub rule_is : w.rule.now ≡ trial.rule
   pub number_is : w.number ≡ trial.number
   pub kept_are : w.kept.items ≡ kept_labels trial
   pub removed_are : w.removed.items ≡ removed_labels trial
   pub past_is : w.past ≡ record { label = s.active; place = past (position trial) }
 
--- what comes at a place once trials were passed over: one that is whole; none; or perhaps more
-abbrev pub IsThen : {Z : Type 0} → Space → List ℕ → CodeThen Z → Type 0
-IsThen s place (thens.Whole w) = IsWholeNext s place w
-IsThen s place thens.Done = NoneLeft s place
-IsThen s place thens.More = Unit {0}
+-- what comes at a place once trials were passed over: one that is whole, under this binding; none; or perhaps more
+abbrev pub IsThen : {Z : Type 0} → Space → List ℕ → CodeThen Z → List (Option (Value ℕ)) → Type 0
+IsThen s place (thens.Whole w) binding = IsWholeNext s place w binding
+IsThen s place thens.Done binding = NoneLeft s place
+IsThen s place thens.More binding = Unit {0}

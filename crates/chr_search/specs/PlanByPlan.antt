@@ -1,7 +1,6 @@
 -- Searches that pass over trials plan by plan.
 use Rattle.std.specs.Prelude.{◌≡◌, ℕ, zero, suc, ◌≤◌, ◌==◌, true, ◌&&◌, if◌then◌else◌, List, [], ◌∷◌, take, Option}
 use Rattle.chr_value.specs.Atoms.{Value}
-use Rattle.chr_rule.specs.Rules.{Simpagation}
 use Rattle.chr_plan.specs.declared.order.Step.{Step}
 use Rattle.chr_search.specs.declared.passing.End.{End}
 use Rattle.chr_search.specs.Positions.{at_or_after}
@@ -19,10 +18,7 @@ abbrev pub labels_at_heads : List Step → List ℕ → ℕ → ℕ → List ℕ
 labels_at_heads order ls h zero = []
 labels_at_heads order ls h (suc n) = label_at_head order ls h ∷ labels_at_heads order ls (suc h) n
 
--- the program has no such head, or what a join of its plan is where the active atom has that head's predicate
-abbrev pub HasNoPlan : Space → ℕ → ℕ → Type 0
-HasNoPlan s r h = (rule : Simpagation ℕ) (order : List Step) → IsPlanned s r h rule order → ⊥
-
+-- what the join of a plan is where the active atom has that head's predicate
 pub record IsJoinAt (s : Space) (r h : ℕ) (j : Join) : Type 0 where
   pub planned : IsPlanned s r h j.rule j.order
   pub is : j ≡ join_in s j.rule j.order
@@ -48,3 +44,8 @@ pub record PassesPlan (j : Join) (r h : ℕ) (place : List ℕ) (n : ℕ) (after
 pub record HasComeTo (s : Space) (place : List ℕ) (r h : ℕ) : Type 0 where
   pub later : at_or_after (take 2 place) (r ∷ h ∷ []) ≡ true
   pub none : (t : List ℕ) → IsTrial s t → at_or_after place t ≡ true → at_or_after (r ∷ h ∷ []) t ≡ true
+
+-- from one rule and head on, the join of the next plan whose head has the active atom's predicate
+pub record IsNextJoin (s : Space) (r h x y : ℕ) (j : Join) : Type 0 where
+  pub come : HasComeTo s (r ∷ h ∷ []) x y
+  pub join : IsJoinAt s x y j

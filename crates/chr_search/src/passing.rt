@@ -11,6 +11,7 @@ ghost use Rattle.chr_search.specs.Verdicts.{Trial};
 
 use crate::join::Join;
 use crate::judged::Verdict;
+use crate::search::Instance;
 use chr_guard::binding::Binding;
 use chr_guard::instance::becomes_instance;
 use chr_guard::matching::fit_head;
@@ -35,14 +36,6 @@ pub(crate) enum End {
 pub(crate) struct Passed {
     pub(crate) count: u64,
     pub(crate) end: End,
-}
-
-/// The labels of a trial that is whole, and what its variables are bound to. While trials are gone over, its labels are
-/// those before the last.
-#[derive(Drop)]
-pub(crate) struct Instance<'s> {
-    pub(crate) labels: Labels,
-    pub(crate) binding: Binding<'s>,
 }
 
 /// Bindings for a search's own use: one costs more to make than to set.
@@ -212,6 +205,7 @@ impl<'s, A: Allocator + Copy> Join<'s, A> {
 
     /// How the trial of these labels and one more is judged. For a part `narrowed` becomes its own binding, and for a
     /// whole trial that of all variables.
+    #[inline(always)]
     fn judge_at(
         &self,
         level: &Level<'_, 's, A>,
@@ -408,6 +402,13 @@ impl<'s, A: Allocator + Copy> Join<'s, A> {
                 };
             }
             instance.labels.pop();
+            if instance.labels.is_empty() {
+                // Only the active label may come first.
+                return Passed {
+                    count,
+                    end: End::NoneLeft,
+                };
+            }
             let beside = self.pass_level(&mut level, label + 1, most - count, place, instance);
             count += beside.count;
             label = match beside.stop {
@@ -417,8 +418,7 @@ impl<'s, A: Allocator + Copy> Join<'s, A> {
         }
     }
 
-    /// Passes over the trials of the instance's labels and more, at most so many, with a binding of its own for those that
-    /// are parts.
+    /// Passes over the trials of the instance's labels and more, at most so many.
     #[cycle(below)]
     fn pass_deeper(
         &self,
@@ -439,6 +439,28 @@ impl<'s, A: Allocator + Copy> Join<'s, A> {
         if self.rule.heads() <= instance.labels.len() + 1 {
             return self.pass_last(binding, most, place, instance);
         }
+        self.pass_lower(binding, most, place, instance)
+    }
+
+    /// Passes over the trials of the instance's labels and more, at most so many, with a binding of its own for those that
+    /// are parts.
+    #[cycle(below)]
+    fn pass_lower(
+        &self,
+        binding: &Binding<'s>,
+        most: u64,
+        place: &mut Labels,
+        instance: &mut Instance<'s>,
+    ) -> Passed
+        requires begins { MayFollow (join_of self.now) [] self.now.active }
+        requires plan { HasPlan (join_of self.now) }
+        requires trials { HasTrials (join_of self.now) }
+        requires ready { IsReady (join_of self.now) instance.old.labels.items binding.now }
+        requires below { IsBelow (join_of self.now) instance.old.labels.items place.old.items 0 }
+        ensures few { result.count ≤ most }
+        ensures passes { PassesIn (join_of self.now) result.count place.old.items place.new.items }
+        ensures ends { EndsBelow (join_of self.now) instance.old.labels.items place.new.items result.end instance.new.labels.items instance.new.binding }
+    {
         let mut narrowed = Binding::free(0);
         self.pass_below(binding, 0, most, &mut narrowed, place, instance)
     }
@@ -502,6 +524,65 @@ impl<'s, A: Allocator + Copy> Join<'s, A> {
         }
     }
 
+    /// Passes over the trials as [`pass`](Join::pass) does, from no place on. All of them begin with the active label.
+    fn pass_first(
+        &self,
+        most: u64,
+        spare: &mut Spare<'s>,
+        place: &mut Labels,
+        instance: &mut Instance<'s>,
+    ) -> Passed
+        requires begins { MayFollow (join_of self.now) [] self.now.active }
+        requires plan { HasPlan (join_of self.now) }
+        requires trials { HasTrials (join_of self.now) }
+        requires ready { IsReady (join_of self.now) [] spare.old.free }
+        requires labels { instance.old.labels.items ≡ [] }
+        requires place { place.old.items ≡ [] }
+        ensures few { result.count ≤ most }
+        ensures passes { PassesIn (join_of self.now) result.count place.old.items place.new.items }
+        ensures ends { EndsIn (join_of self.now) place.new.items result.end instance.new.labels.items instance.new.binding }
+    {
+        let Some(level) = self.level(&[], &spare.free) else {
+            return Passed {
+                count: 0,
+                end: End::NoneLeft,
+            };
+        };
+        if most == 0 {
+            return Passed {
+                count: 0,
+                end: End::Enough,
+            };
+        }
+        match self.judge_at(&level, &[], self.active, &mut spare.narrowed) {
+            Verdict::Misfit => {
+                place.push(self.active + 1);
+                Passed {
+                    count: 1,
+                    end: End::NoneLeft,
+                }
+            }
+            Verdict::Whole => {
+                instance.labels.push(self.active);
+                instance.binding.set_to(&spare.narrowed);
+                Passed {
+                    count: 0,
+                    end: End::Whole,
+                }
+            }
+            Verdict::Part => {
+                instance.labels.push(self.active);
+                place.push(self.active);
+                place.push(0);
+                let below = self.pass_deeper(&spare.narrowed, most - 1, place, instance);
+                Passed {
+                    count: 1 + below.count,
+                    end: below.end,
+                }
+            }
+        }
+    }
+
     /// Passes over the trials at or after a place up to one that is whole, at most so many. The place becomes that at which
     /// the search goes on; where it ends before a trial that is whole, `instance` becomes that one. `spare` is for its own
     /// use.
@@ -520,8 +601,11 @@ impl<'s, A: Allocator + Copy> Join<'s, A> {
         ensures ends { EndsIn (join_of self.now) place.new.items result.end instance.new.labels.items instance.new.binding }
     {
         spare.free.reset(self.rule.variables());
-        let rest = copy_labels(place);
         instance.labels.clear();
+        if place.is_empty() {
+            return self.pass_first(most, spare, place, instance);
+        }
+        let rest = copy_labels(place);
         self.pass_on(
             &spare.free,
             rest.as_slice(),

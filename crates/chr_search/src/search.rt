@@ -1,31 +1,29 @@
 //! Searches.
 ghost use Rattle.std.specs.Prelude.{◌≡◌, ◌↔◌, suc, ◌≤◌, ◌∷◌, [], length, Some, MatchOption, IfOk, IsTrue};
 ghost use Rattle.chr_value.specs.Stores.{atom_at};
-ghost use Rattle.chr_rule.specs.Parts.{shape};
 ghost use Rattle.chr_plan.specs.Plans.{ArePlans};
 ghost use Rattle.chr_search.specs.Positions.{beginning, just_after, past};
 ghost use Rattle.chr_search.specs.Tree.{Least, NoneBeyond};
-ghost use Rattle.chr_search.specs.Trials.{older, Child, HasHeadPred, IsNext, MayFollow, NoneLeft};
+ghost use Rattle.chr_search.specs.Trials.{older, Child, IsNext, MayFollow, NoneLeft};
 ghost use Rattle.chr_search.specs.Answers.{IsAnswer, IsAnswerBehind, after_judging};
 ghost use Rattle.chr_search.specs.Verdicts.{Trial as TrialView, position as position_of};
 ghost use Rattle.chr_search.specs.Joined.{join_of};
 ghost use Rattle.chr_search.specs.Partners.{HasPlan};
 ghost use Rattle.chr_search.specs.Passing.{IsTrialIn, HasTrials, Passes, IsThen};
-ghost use Rattle.chr_search.specs.PlanByPlan.{label_at_head, labels_at_heads, HasNoPlan, IsJoinAt, PassesPlan, HasComeTo};
+ghost use Rattle.chr_search.specs.PlanByPlan.{label_at_head, labels_at_heads, PassesPlan, IsNextJoin};
 
 use crate::join::Join;
 use crate::judged::{Judged, Verdict};
 use crate::passing;
-use crate::passing::{End, Instance, Spare};
+use crate::passing::{End, Spare};
 use crate::position::Position;
 use crate::trial::Trial;
 use chr_guard::binding::Binding;
-use chr_log::events::Labels;
+use chr_log::events::{Labels, copy_labels};
 use chr_plan::order::Step;
 use chr_plan::plans::Plans;
 use chr_rule::program::Program;
 use chr_rule::rule::Rule;
-use chr_rule::rule_atom::RuleAtom;
 use chr_store::store::{Label, Store};
 use chr_value::atom::Atom;
 use std::alloc::{AllocError, Allocator};
@@ -50,18 +48,33 @@ pub struct Whole<'s, A: Allocator> {
     pub kept: Labels,
     /// The labels at the removed heads, in head order.
     pub removed: Labels,
-    /// What all variables of the instance are bound to.
-    pub binding: Binding<'s>,
     /// The search past the trial.
     pub past: Search,
 }
 
-/// Whether a head has an atom's predicate.
-fn has_pred<A: Allocator + Copy>(head: &RuleAtom, atom: &Atom<A>) -> bool
-    ensures { IsTrue result ↔ HasHeadPred (shape head.now) atom.now }
-{
-    let pred = atom.pred();
-    head.name == pred.name && head.terms.len() as u8 == pred.arity
+/// The labels of a trial that is whole, and what its variables are bound to. A search that passes over trials is lent one
+/// and sets it, since one costs more to make than to set; while it goes over them, the labels are those before the last.
+#[derive(Drop)]
+pub struct Instance<'s> {
+    pub(crate) labels: Labels,
+    pub(crate) binding: Binding<'s>,
+}
+
+impl<'s> Instance<'s> {
+    /// One of no labels and no variables. It takes no memory.
+    pub fn new() -> Instance<'s> {
+        Instance {
+            labels: Labels::new(),
+            binding: Binding::free(0),
+        }
+    }
+
+    /// What all variables are bound to.
+    pub fn binding(&self) -> &Binding<'s>
+        ensures { result.now ≡ self.now.binding }
+    {
+        &self.binding
+    }
 }
 
 /// The label at a head, of labels in the order of a plan. 0 where there is none.
@@ -94,16 +107,15 @@ fn labels_at_heads(order: &[Step], labels: &[Label], first: usize, count: usize)
 
 impl<'s, A: Allocator + Copy> Whole<'s, A> {
     /// The trial of an instance, by a rule's number and a head.
-    fn of(join: &Join<'s, A>, number: u16, head: u8, instance: Instance<'s>) -> Whole<'s, A>
+    fn of(join: &Join<'s, A>, number: u16, head: u8, instance: &Instance<'s>) -> Whole<'s, A>
         requires number { 1 ≤ number }
         requires head { 1 ≤ head }
-        requires trial { (t : TrialView) × IsTrialIn (join_of join.now) instance.labels.items t }
+        requires trial { (t : TrialView) × IsTrialIn (join_of join.now) instance.now.labels.items t }
         ensures rule { result.rule.now ≡ join.now.rule.now }
         ensures number { result.number ≡ number }
-        ensures kept { result.kept.items ≡ labels_at_heads join.now.order.now instance.entry.labels.items 1 (length join.now.rule.now.kept) }
-        ensures removed { result.removed.items ≡ labels_at_heads join.now.order.now instance.entry.labels.items (suc (length join.now.rule.now.kept)) (length join.now.rule.now.removed) }
-        ensures binding { result.binding ≡ instance.entry.binding }
-        ensures past { result.past ≡ record { label = join.now.active; place = past (number ∷ head ∷ instance.entry.labels.items) } }
+        ensures kept { result.kept.items ≡ labels_at_heads join.now.order.now instance.now.labels.items 1 (length join.now.rule.now.kept) }
+        ensures removed { result.removed.items ≡ labels_at_heads join.now.order.now instance.now.labels.items (suc (length join.now.rule.now.kept)) (length join.now.rule.now.removed) }
+        ensures past { result.past ≡ record { label = join.now.active; place = past (number ∷ head ∷ instance.now.labels.items) } }
     {
         let order = join.order;
         let kept = join.rule.kept().len();
@@ -111,7 +123,7 @@ impl<'s, A: Allocator + Copy> Whole<'s, A> {
         let labels = instance.labels.as_slice();
         let at_kept = labels_at_heads(order, labels, 1, kept);
         let at_removed = labels_at_heads(order, labels, kept + 1, removed);
-        let mut past = instance.labels;
+        let mut past = copy_labels(&instance.labels);
         if let Some(last) = past.pop() {
             past.push(last + 1);
         }
@@ -120,7 +132,6 @@ impl<'s, A: Allocator + Copy> Whole<'s, A> {
             number,
             kept: at_kept,
             removed: at_removed,
-            binding: instance.binding,
             past: Search {
                 label: join.active,
                 position: Position {
@@ -311,38 +322,37 @@ impl Search {
         };
     }
 
-    /// The plan of a rule's next head with the active atom's predicate, from a head on. `head` becomes that head. None where
-    /// there is none.
+    /// The plan of the next head with the active atom's predicate, from a rule and a head on. `number` and `head` become
+    /// those of that head, and `near` where the program has it. None where there is none.
     fn next_join<'s, A: Allocator + Copy>(
         &self,
         program: &'s Program<A>,
         plans: &'s Plans<A>,
         store: &'s Store<A>,
         atom: &Atom<A>,
-        number: u16,
+        number: &mut u16,
         head: &mut u8,
+        near: &mut usize,
     ) -> Option<Join<'s, A>>
         requires plans { ArePlans program.now plans.now }
         requires atom { atom_at store.now.entries self.now.label ≡ Some atom.now }
-        requires head { 1 ≤ head.old }
-        ensures on { head.old ≤ head.new }
-        ensures come { HasComeTo (older program.now plans.now store.now.entries self.now.label) (number ∷ head.old ∷ []) number head.new }
-        ensures join { let s = older program.now plans.now store.now.entries self.now.label in MatchOption result (HasNoPlan s number head.new) (λ join. IsJoinAt s number head.new (join_of join)) }
+        ensures { let s = older program.now plans.now store.now.entries self.now.label in MatchOption result (NoneLeft s (number.old ∷ head.old ∷ [])) (λ join. IsNextJoin s number.old head.old number.new head.new (join_of join)) }
     {
-        let rule = program.rule(usize::from(number))?;
-        while let Some(pattern) = rule.head(usize::from(*head)) {
-            if has_pred(pattern, atom) {
-                let order = plans.plan(usize::from(number), *head)?;
-                return Some(Join {
-                    rule,
-                    order,
-                    store,
-                    active: self.label,
-                });
-            }
-            *head += 1;
-        }
-        None
+        let Some(found) = program.next_occurrence(atom.pred(), *number, *head, near) else {
+            return None;
+        };
+        *number = found.0;
+        *head = found.1;
+        let rule = program.rule(usize::from(found.0))?;
+        let Some(order) = plans.plan(usize::from(found.0), found.1) else {
+            return None;
+        };
+        Some(Join {
+            rule,
+            order,
+            store,
+            active: self.label,
+        })
     }
 
     /// Passes over the trials of a plan at or after the position, at most so many. The position becomes that after the last
@@ -386,41 +396,35 @@ impl Search {
         store: &'s Store<A>,
         atom: &Atom<A>,
         most: u64,
+        instance: &mut Instance<'s>,
     ) -> Passed<'s, A>
         requires plans { ArePlans program.now plans.now }
         requires atom { atom_at store.now.entries self.old.label ≡ Some atom.now }
         ensures few { result.count ≤ most }
         ensures label { self.new.label ≡ self.old.label }
         ensures passed { Passes (older program.now plans.now store.now.entries self.old.label) result.count self.old.place self.new.place }
-        ensures then { IsThen (older program.now plans.now store.now.entries self.old.label) self.new.place result.then }
+        ensures then { IsThen (older program.now plans.now store.now.entries self.old.label) self.new.place result.then instance.new.binding }
     {
         // For the proof: the labels of a store are at most the greatest.
         let _given = store.next_label();
-        let mut instance = Instance {
-            labels: Labels::new(),
-            binding: Binding::free(0),
-        };
         let mut spare = Spare {
             free: Binding::free(0),
             narrowed: Binding::free(0),
         };
         let mut number = self.position.rule;
         let mut head = self.position.head;
+        let mut near = 0;
         let mut count = 0;
-        while usize::from(number) <= program.len() {
-            let Some(join) = self.next_join(program, plans, store, atom, number, &mut head) else {
-                number += 1;
-                head = 1;
-                continue;
-            };
-            let passed = self.pass_in_plan(
-                &join,
-                number,
-                head,
-                most - count,
-                &mut spare,
-                &mut instance,
-            );
+        while let Some(join) = self.next_join(
+            program,
+            plans,
+            store,
+            atom,
+            &mut number,
+            &mut head,
+            &mut near,
+        ) {
+            let passed = self.pass_in_plan(&join, number, head, most - count, &mut spare, instance);
             count += passed.count;
             match passed.end {
                 End::NoneLeft => head += 1,
@@ -445,19 +449,21 @@ impl Search {
     }
 
     /// Passes over the next trials up to one that is whole, at most so many: as if each of them had been asked for, judged,
-    /// and the search advanced after it. Returns how many, and what comes then. It takes no memory.
+    /// and the search advanced after it. Returns how many, and what comes then: where that is a whole trial, `instance`
+    /// becomes its instance. It takes no memory.
     pub fn pass_over<'s, A: Allocator + Copy>(
         &mut self,
         program: &'s Program<A>,
         plans: &'s Plans<A>,
         store: &'s Store<A>,
         most: u64,
+        instance: &mut Instance<'s>,
     ) -> Passed<'s, A>
         requires { ArePlans program.now plans.now }
         ensures few { result.count ≤ most }
         ensures label { self.new.label ≡ self.old.label }
         ensures passed { Passes (older program.now plans.now store.now.entries self.old.label) result.count self.old.place self.new.place }
-        ensures then { IsThen (older program.now plans.now store.now.entries self.old.label) self.new.place result.then }
+        ensures then { IsThen (older program.now plans.now store.now.entries self.old.label) self.new.place result.then instance.new.binding }
     {
         let Some(atom) = store.get(self.label) else {
             return Passed {
@@ -465,6 +471,6 @@ impl Search {
                 then: Then::Done,
             };
         };
-        self.pass_by(program, plans, store, atom, most)
+        self.pass_by(program, plans, store, atom, most, instance)
     }
 }

@@ -3,3 +3,4 @@ pub mod Changes
 pub mod Ends
 pub mod States
 pub mod Walks
+pub mod Passed

@@ -1,3 +1,4 @@
 pub mod Open
 pub mod Listed
 pub mod Stray
+pub mod Passed

@@ -1,16 +1,21 @@
 //! A ticket that is open.
-ghost use Rattle.std.specs.Prelude.{◌≡◌};
+ghost use Rattle.std.specs.Prelude.{◌≡◌, ℕ, ◌≤◌};
 ghost use Rattle.std.specs.Option.{option_copied};
 ghost use Rattle.chr_model.specs.Goals.{Numbered};
+ghost use Rattle.chr_plan.specs.Plans.{ArePlans};
 ghost use Rattle.chr_search.specs.Answers.{after_judging};
+ghost use Rattle.chr_search.specs.Trials.{older};
 ghost use Rattle.chr_calls.specs.Tickets.{waiting, activated_by, held_by, put_down, with_candidate, going_on, atom_in, search_in};
 ghost use Rattle.chr_tickets.specs.Open.{shown_ticket, state_in, is_open_for, IsActiveGoal};
+ghost use Rattle.chr_tickets.specs.Passed.{PassesOver};
 
 use chr_calls::answers::TicketState;
+use chr_plan::plans::Plans;
+use chr_rule::program::Program;
 use chr_search::judged::Judged;
-use chr_search::search::Search;
+use chr_search::search::{Instance, Passed, Search};
 use chr_search::trial::Trial;
-use chr_store::store::Label;
+use chr_store::store::{Label, Store};
 use chr_value::atom::Atom;
 use std::alloc::Allocator;
 
@@ -170,6 +175,36 @@ impl<A: Allocator + Copy> Ticket<A> {
             search.advance(judged);
             *candidate = None;
         }
+    }
+
+    /// Lets the search of an active ticket pass over trials, as [`Search::pass_over`] does. Where there were any, the
+    /// candidate is taken away.
+    pub(crate) fn pass_over<'s>(
+        &mut self,
+        program: &'s Program<A>,
+        plans: &'s Plans<A>,
+        store: &'s Store<A>,
+        most: u64,
+        instance: &mut Instance<'s>,
+    ) -> Passed<'s, A>
+        requires active { IsActiveGoal (shown_ticket self.old).goal }
+        requires plans { ArePlans program.now plans.now }
+        ensures few { result.count ≤ most }
+        ensures passed { (l : ℕ) → (shown_ticket self.old).goal ≡ Numbered l → PassesOver (older program.now plans.now store.now.entries l) result instance.new.binding (shown_ticket self.old) (shown_ticket self.new) }
+    {
+        let Goal::Active {
+            search,
+            candidate,
+            ..
+        } = &mut self.goal
+        else {
+            unreachable!();
+        };
+        let passed = search.pass_over(program, plans, store, most, instance);
+        if passed.count > 0 {
+            *candidate = None;
+        }
+        passed
     }
 
     /// Puts the search of an active ticket at the place of another one of its label, and takes its candidate away.

@@ -1,20 +1,25 @@
 //! The tickets of a book.
-ghost use Rattle.std.specs.Prelude.{◌≡◌, ◌↔◌, ◌≤◌, ◌++◌, ◌∷◌, [], true, length, take, slice_set, IsSome, IsTrue, OnOk, OnErr, MatchOption};
+ghost use Rattle.std.specs.Prelude.{◌≡◌, ◌↔◌, ℕ, ◌≤◌, ◌++◌, ◌∷◌, [], true, length, take, slice_set, IsSome, IsTrue, OnOk, OnErr, MatchOption};
 ghost use Rattle.std.specs.Option.{option_copied};
 ghost use Rattle.chr_model.specs.Goals.{Numbered};
+ghost use Rattle.chr_plan.specs.Plans.{ArePlans};
 ghost use Rattle.chr_search.specs.Answers.{after_judging};
+ghost use Rattle.chr_search.specs.Trials.{older};
 ghost use Rattle.chr_calls.specs.declared.answers.TicketState.TheVariants.{Waiting, Resting};
 ghost use Rattle.chr_calls.specs.Tickets.{ended, waiting, activated_by, held_by, put_down, marked, with_candidate, going_on, ticket_at, state_of, IsClaimable, IsActive, AreQuiet, atom_in, search_in, LosesStray, IsLeastFor, NoneFor};
 ghost use Rattle.chr_tickets.specs.Open.{shown_ticket};
+ghost use Rattle.chr_tickets.specs.Passed.{PassesOver};
 ghost use Rattle.chr_tickets.specs.Stray.{IsFirstStray, NoneStray};
 
 use crate::slots::{Slots, place_of, pop_ended};
 use crate::ticket::Ticket;
 use chr_calls::answers::TicketState;
+use chr_plan::plans::Plans;
+use chr_rule::program::Program;
 use chr_search::judged::Judged;
-use chr_search::search::Search;
+use chr_search::search::{Instance, Passed, Search};
 use chr_search::trial::Trial;
-use chr_store::store::Label;
+use chr_store::store::{Label, Store};
 use chr_value::atom::Atom;
 use std::alloc::{AllocError, Allocator};
 use std::collections::VecDeque;
@@ -197,6 +202,29 @@ impl<A: Allocator + Copy> Tickets<A> {
             unreachable!();
         };
         found.advance(judged);
+    }
+
+    /// Lets the search of an active goal pass over trials, as [`Search::pass_over`] does, and gives its answer. Where there
+    /// were any, the candidate is taken away. It takes no memory.
+    pub fn pass_over<'s>(
+        &mut self,
+        ticket: u64,
+        program: &'s Program<A>,
+        plans: &'s Plans<A>,
+        store: &'s Store<A>,
+        most: u64,
+        instance: &mut Instance<'s>,
+    ) -> Passed<'s, A>
+        requires active { IsActive self.old ticket }
+        requires plans { ArePlans program.now plans.now }
+        ensures few { result.count ≤ most }
+        ensures passed { (l : ℕ) → (ticket_at self.old ticket).goal ≡ Numbered l → PassesOver (older program.now plans.now store.now.entries l) result instance.new.binding (ticket_at self.old ticket) (ticket_at self.new ticket) }
+        ensures others { self.new ≡ slice_set self.old ticket (ticket_at self.new ticket) }
+    {
+        let Some(found) = &mut self.slots[place_of(self.first, ticket)] else {
+            unreachable!();
+        };
+        found.pass_over(program, plans, store, most, instance)
     }
 
     /// Puts the search of an active goal at the place of another one of its label, and takes its candidate away.

@@ -1,4 +1,5 @@
 use Rattle.std.proofs.Common.{◌≡◌, ◌+◌, ◌-◌, ◌*◌, ◌<◌, ◌≤◌, [], ◌∷◌, ◌++◌, length, length-append, sym, ap, subst, ◌∙◌, arith}
+use Rattle.std.proofs.lemmas.Bool.Decides.{nat_tests}
 use Rattle.chr_search.specs.Tree.{Grows}
 use Rattle.chr_search.specs.Trials.{MayFollow}
 use Rattle.chr_search.specs.Joined.{join_of}
@@ -7,7 +8,7 @@ use Rattle.chr_search.specs.Passing.{PassesIn, IsLevel, IsBelow, IsDone, EndsBel
 use Rattle.chr_search.proofs.Tree.{grows_more}
 use Rattle.chr_search.proofs.Asking.{room, front}
 use Rattle.chr_search.proofs.Passed.{label_small}
-use Rattle.chr_search.proofs.Below.{none_left, below_at, done_below, passes_more}
+use Rattle.chr_search.proofs.Below.{none_left, only_first, below_at, done_below, passes_more}
 use Rattle.chr_search.proofs.join.Join.+below.Goals.{pass_below-After-pass_deeper-below, pass_below-After-pop, pass_below-After-pass_level-beside}
 use Rattle.chr_search.proofs.join.Join.+below.Goals as goal
 
@@ -37,8 +38,8 @@ pass_below-pass_deeper-below-requires g t c κs within =
     let grown = grows_more (MayFollow j) [] path label c.requires.below.grows inv.follows in
     let free : length path < 6 = room j c.requires.plan path label inv.follows in
     let longer : length c.loop-level.instance.labels.items ≡ length path + 1 = ap length inv.labels ∙ length-append path (label ∷ []) in
-    let less : 2 * (6 - length c.loop-level.instance.labels.items) + 1 < 2 * (6 - length path) = omega arith in (
-      subst (λ n. 2 * (6 - length c.loop-level.instance.labels.items) + 1 < n) c.decreases less,
+    let less : 3 * (6 - length c.loop-level.instance.labels.items) + 2 < 3 * (6 - length path) = omega arith in (
+      subst (λ n. 3 * (6 - length c.loop-level.instance.labels.items) + 2 < n) c.decreases less,
       (within, (c.requires.begins, (c.requires.plan, (c.requires.trials, (subst (IsReady j c.loop-level.instance.labels.items) (sym c.set_to.ensures) (subst (λ ls. IsReady j ls c.loop-level.instance.binding) (sym inv.labels) inv.ready), below_at j c.loop-level.instance.labels.items c.loop-level.place.items 0 (subst (Grows (MayFollow j) []) (sym inv.labels) grown) inv.place))))),
     )
 
@@ -53,6 +54,17 @@ pass_below-overflow_add-label g t c =
     let t = c.requires.trials ls (omega (arith, length-append path (label ∷ []))) (grows_more _ [] path label c.requires.below.grows c.loop-level.invariant.follows) in
     let low : label ≤ 4294967295 = label_small _ path label t.0 t.1 in
     omega arith
+
+pub pass_below-returns-then-is_empty-clause-passes : goal.pass_below-returns-then-is_empty-clause-passes
+pass_below-returns-then-is_empty-clause-passes g t c = deeper g t (goal.at.pass_below-returns-then-is_empty-clause-passes g t c).After-pass_deeper-below
+
+pub pass_below-returns-then-is_empty-clause-ends : goal.pass_below-returns-then-is_empty-clause-ends
+pass_below-returns-then-is_empty-clause-ends g t c =
+    let j = join_of c.args.self.now in
+    let path = c.args.instance.now.labels.items in
+    let left = left g t (goal.at.pass_below-returns-then-is_empty-clause-ends g t c).After-pop in
+    let empty : length c.pop.new.self.items ≡ 0 = grind (arith, nat_tests, c.is_empty.ensures, c.if-is_empty.true) in
+    (left.0, only_first j path c.pass_deeper-below.new.place.items c.loop-level.label (ap length (sym left.0) ∙ empty) c.loop-level.invariant.follows left.1)
 
 pub pass_below-pass_level-beside-requires-clause-level : goal.pass_below-pass_level-beside-requires-clause-level
 pass_below-pass_level-beside-requires-clause-level g t c =

@@ -20,7 +20,10 @@ abbrev pub decreases-pass_below-loop-level : goal.decreases-pass_below-loop-leve
 decreases-pass_below-loop-level g l = l.self.active + 1 - l.label
 
 abbrev pub decreases-pass_below : goal.decreases-pass_below
-decreases-pass_below g l = 2 * (6 - length l.instance.now.labels.items)
+decreases-pass_below g l = 3 * (6 - length l.instance.now.labels.items)
 
 abbrev pub decreases-pass_deeper : goal.decreases-pass_deeper
-decreases-pass_deeper g l = 2 * (6 - length l.instance.now.labels.items) + 1
+decreases-pass_deeper g l = 3 * (6 - length l.instance.now.labels.items) + 2
+
+abbrev pub decreases-pass_lower : goal.decreases-pass_lower
+decreases-pass_lower g l = 3 * (6 - length l.instance.now.labels.items) + 1

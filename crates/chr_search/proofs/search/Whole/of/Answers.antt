@@ -12,7 +12,7 @@ pub overflow_add-last : goal.overflow_add-last
 overflow_add-last g c =
     let j = join_of c.args.join.now in
     let t = c.requires.trial.0 in
-    let small : c.in-Some.last ≤ 4294967295 = label_small j c.pop.new.self.items c.in-Some.last t (subst (λ ls. IsTrialIn j ls t) c.in-Some.ensures.items c.requires.trial.1) in
+    let small : c.in-Some.last ≤ 4294967295 = label_small j c.pop.new.self.items c.in-Some.last t (subst (λ ls. IsTrialIn j ls t) (sym c.copy_labels-past.ensures ∙ c.in-Some.ensures.items) c.requires.trial.1) in
     omega arith
 
 pub returns-clause-past : goal.returns-clause-past
@@ -21,12 +21,12 @@ returns-clause-past g c =
     let r = c.args.number in
     let h = c.args.head in
     let before = c.pop.new.self.items in
-    let labels_are : r ∷ h ∷ c.match-pop.past.items ≡ past (r ∷ h ∷ c.args.instance.labels.items) = elim c.match-pop.branch [
+    let labels_are : r ∷ h ∷ c.match-pop.past.items ≡ past (r ∷ h ∷ c.args.instance.now.labels.items) = elim c.match-pop.branch [
       | in-Some w ↦
-          ap (λ (v : ArrayVec ℕ). r ∷ h ∷ v.items) w.past-is ∙ ap (λ (ls : List ℕ). r ∷ h ∷ ls) w.push.ensures.items ∙ sym (past_last (r ∷ h ∷ before) w.in-Some.last) ∙ ap (λ (ls : List ℕ). past (r ∷ h ∷ ls)) (sym w.in-Some.ensures.items)
+          ap (λ (v : ArrayVec ℕ). r ∷ h ∷ v.items) w.past-is ∙ ap (λ (ls : List ℕ). r ∷ h ∷ ls) w.push.ensures.items ∙ sym (past_last (r ∷ h ∷ before) w.in-Some.last) ∙ ap (λ (ls : List ℕ). past (r ∷ h ∷ ls)) (sym w.in-Some.ensures.items ∙ c.copy_labels-past.ensures)
       | in_default w ↦
           let t = c.requires.trial.0 in
-          let count : length t.placed ≡ length c.args.instance.labels.items = count_of_trial j c.args.instance.labels.items t c.requires.trial.1 in
+          let count : length t.placed ≡ length c.copy_labels-past.result.items = count_of_trial j c.args.instance.now.labels.items t c.requires.trial.1 ∙ ap length (sym c.copy_labels-past.ensures) in
           let some : 1 ≤ length t.placed = c.requires.trial.1.formed.some in
           absurd (let z = w.in_default.ensures.variant.1 (omega arith) in cc)
     ] in

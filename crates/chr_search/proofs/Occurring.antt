@@ -1,0 +1,87 @@
+-- Trials where a program has heads of the active atom's predicate.
+use Rattle.std.proofs.Common.{◌≡◌, ℕ, ◌<◌, ◌≤◌, true, List, [], ◌∷◌, length, Some, None, slice_get, sym, ◌∙◌, ap, subst, arith, inl, inr, ⊎_elim}
+use Rattle.std.proofs.lemmas.Bool.Decides.{nat_tests}
+use Rattle.std.specs.List.{AllByRecursion}
+use Rattle.chr_value.specs.Atoms.{Atom}
+use Rattle.chr_value.specs.declared.atom.Pred.{Pred}
+use Rattle.chr_rule.specs.Rules.{Simpagation, head_at, rule_at}
+use Rattle.chr_rule.specs.Scope.{IsRule}
+use Rattle.chr_rule.specs.Occurrences.{IsOccurrence, AtOrAfter, NoneFrom, IsNextOccurrence}
+use Rattle.chr_model.specs.Stores.{atom_at}
+use Rattle.chr_plan.specs.Plans.{plan_at, ArePlans}
+use Rattle.chr_plan.specs.declared.order.Step.{Step}
+use Rattle.chr_search.specs.Positions.{at_or_after}
+use Rattle.chr_search.specs.Trials.{HasHeadPred, Space, join_in, IsTrial, NoneLeft}
+use Rattle.chr_search.specs.PlanByPlan.{IsJoinAt, HasComeTo}
+use Rattle.chr_search.proofs.Positions.{after_first, after_under, after_cases}
+use Rattle.chr_search.proofs.Plans.{planned, has_plan}
+use Rattle.chr_search.proofs.Asking.{some_is}
+use Rattle.chr_search.proofs.PlanByPlan.{head_from, head_within, joins_at}
+
+-- rules and heads in the order of trials
+pub in_order : (r h x y : ℕ) (ls : List ℕ) → at_or_after (r ∷ h ∷ []) (x ∷ y ∷ ls) ≡ true → AtOrAfter r h x y
+in_order r h x y ls e =
+    ⊎_elim (λ less. inl less)
+    (λ same. inr (same.0, ⊎_elim (λ less. let low : h < y = less in omega arith) (λ twice. let is : h ≡ y = twice.0 in omega arith) (after_cases h y [] ls same.1)))
+    (after_cases r x (h ∷ []) (y ∷ ls) e)
+
+pub order_in : (r h x y : ℕ) (ls : List ℕ) → AtOrAfter r h x y → at_or_after (r ∷ h ∷ []) (x ∷ y ∷ ls) ≡ true
+order_in r h x y ls a =
+    ⊎_elim (λ less. after_first r x (h ∷ []) (y ∷ ls) less)
+    (λ same. subst (λ z. at_or_after (r ∷ h ∷ []) (z ∷ y ∷ ls) ≡ true) same.0 (after_under r (h ∷ []) (y ∷ ls) (from h y ls same.1))) a
+  where
+    from : (h y : ℕ) (ls : List ℕ) → h ≤ y → at_or_after (h ∷ []) (y ∷ ls) ≡ true
+    from h y ls low = grind (arith, nat_tests)
+
+-- the predicate of the active atom
+pub record IsActive (s : Space) (p : Pred) : Type 0 where
+  pub atom : Atom ℕ
+  pub live : atom_at s.store s.active ≡ Some atom
+  pub name : p.name.number ≡ atom.name
+  pub arity : p.arity ≡ length atom.args
+
+-- each trial has it at its head
+trial_occurs : (s : Space) (p : Pred) → IsActive s p → ArePlans s.rules s.plans → (r h : ℕ) (ls : List ℕ) → IsTrial s (r ∷ h ∷ ls) → IsOccurrence s.rules p r h
+trial_occurs s p a ps r h [] i = absurd (let d : 3 ≤ length (r ∷ h ∷ []) = i.deep in omega arith)
+trial_occurs s p a ps r h (l ∷ ls) i =
+    let c = i.grows.1.1.0 in
+    let rule = c.0 in
+    let m = c.3 in
+    let q = planned s.rules s.plans ps r h rule c.1 c.2.rule_is c.2.order_is in
+    let first : Step = record { head = h; key = None } in
+    let step : m.step ≡ first = some_is m.step first (sym m.step_is ∙ ap (λ (z : List Step). slice_get z 0) q.plan.first) in
+    let live : atom_at s.store s.active ≡ Some m.atom = subst (λ x. atom_at s.store x ≡ Some m.atom) m.turn m.live in
+    let pred : HasHeadPred m.head a.atom = subst (HasHeadPred m.head) (some_is m.atom a.atom (sym live ∙ a.live)) m.pred in
+    record {
+      rule = rule;
+      rule_is = c.2.rule_is;
+      at = record {
+        head = m.head;
+        head_is = subst (λ (x : Step). head_at rule x.head ≡ Some m.head) step m.head_is;
+        pred = record { name = sym pred.0 ∙ sym a.name; arity = sym pred.1 ∙ sym a.arity };
+      };
+    }
+
+-- on to the next occurrence, and to the end
+pub come_to_occurrence : (s : Space) (p : Pred) → IsActive s p → ArePlans s.rules s.plans → (r h x y : ℕ) → IsNextOccurrence s.rules p r h (x, y) → HasComeTo s (r ∷ h ∷ []) x y
+come_to_occurrence s p a ps r h x y o = record { later = order_in r h x y [] o.after; none = none }
+  where
+    none : (t : List ℕ) → IsTrial s t → at_or_after (r ∷ h ∷ []) t ≡ true → at_or_after (x ∷ y ∷ []) t ≡ true
+    none [] i e = absurd (let d : 3 ≤ length {A = ℕ} [] = i.deep in omega arith)
+    none (b ∷ []) i e = absurd (let d : 3 ≤ length (b ∷ []) = i.deep in omega arith)
+    none (b ∷ c ∷ ls) i e = order_in x y b c ls (o.least b c (in_order r h b c ls e) (trial_occurs s p a ps b c ls i))
+
+pub come_to_last : (s : Space) (p : Pred) → IsActive s p → ArePlans s.rules s.plans → (r h : ℕ) → NoneFrom s.rules p r h → NoneLeft s (r ∷ h ∷ [])
+come_to_last s p a ps r h n [] b = let d : 3 ≤ length {A = ℕ} [] = b.deep in absurd (omega arith)
+come_to_last s p a ps r h n (x ∷ []) b = let d : 3 ≤ length (x ∷ []) = b.deep in absurd (omega arith)
+come_to_last s p a ps r h n (x ∷ y ∷ ls) b = n x y (in_order r h x y ls b.there) (trial_occurs s p a ps x y ls (record { grows = b.grows; deep = b.deep }))
+
+-- an occurrence has a plan, and that makes a join
+pub plan_there : (s : Space) (p : Pred) → ArePlans s.rules s.plans → (r h : ℕ) → IsOccurrence s.rules p r h → (order : List Step) × (plan_at s.plans r h ≡ Some order)
+plan_there s p ps r h o = has_plan s.rules s.plans ps r h o.rule o.rule_is (head_from o.rule h o.at.head o.at.head_is) (head_within o.rule h o.at.head o.at.head_is)
+
+pub join_there : (s : Space) (p : Pred) → IsActive s p → ArePlans s.rules s.plans → AllByRecursion IsRule s.rules → (r h : ℕ) (rule : Simpagation ℕ) (order : List Step) → IsOccurrence s.rules p r h → rule_at s.rules r ≡ Some rule → plan_at s.plans r h ≡ Some order → IsJoinAt s r h (join_in s rule order)
+join_there s p a ps all r h rule order o ri oi =
+    let same : o.rule ≡ rule = some_is o.rule rule (sym o.rule_is ∙ ri) in
+    let pred : HasHeadPred o.at.head a.atom = (sym a.name ∙ sym o.at.pred.name, sym a.arity ∙ sym o.at.pred.arity) in
+    joins_at s r h rule order o.at.head a.atom ps all ri oi (subst (λ (x : Simpagation ℕ). head_at x h ≡ Some o.at.head) same o.at.head_is) a.live pred
