@@ -71,7 +71,7 @@ pub fn run_text<A: Allocator + Copy>(
     watched_run(alloc, program, posts, steps, labels, show, &mut Unwatched)
 }
 
-/// The same, and `watch` is told of each call, as [`watched_steps`] tells it.
+/// The same, and `watch` is told of the calls, as [`watched_steps`] tells it.
 pub fn watched_run<A: Allocator + Copy, W: Watch>(
     alloc: A,
     program: &[u8],

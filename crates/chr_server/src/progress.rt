@@ -3,7 +3,7 @@ use crate::message::Detail;
 use chr_watch::{Pace, Watch};
 use std::rt::Clock;
 
-/// How many calls or entries lie between two looks at the clock.
+/// How many calls or entries lie at least between two looks at the clock.
 const BETWEEN_LOOKS: u64 = 16;
 
 /// Writes to standard error how far a run or a check is, a line a second, where that is a terminal.
@@ -14,6 +14,8 @@ pub struct Progress<'r, R> {
     what: &'static str,
     /// None where nothing is written: standard error is no terminal, or the clock can't be read.
     pace: Option<Pace>,
+    /// The least count at which the clock is looked at again.
+    look: u64,
 }
 
 impl<'r, R: Clock> Progress<'r, R> {
@@ -26,7 +28,12 @@ impl<'r, R: Clock> Progress<'r, R> {
                 Err(_) => None,
             },
         };
-        Progress { rt, what, pace }
+        Progress {
+            rt,
+            what,
+            pace,
+            look: 0,
+        }
     }
 }
 
@@ -35,9 +42,10 @@ impl<'r, R: Clock + Eprint> Watch for Progress<'r, R> {
         let Some(pace) = &mut self.pace else {
             return;
         };
-        if count % BETWEEN_LOOKS != 0 {
+        if count < self.look {
             return;
         }
+        self.look = count.saturating_add(BETWEEN_LOOKS);
         let Ok(now) = self.rt.monotonic() else {
             return;
         };

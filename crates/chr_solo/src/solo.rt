@@ -167,13 +167,6 @@ fn make_rounds<A: Allocator + Copy>(
     Ok(2 * rounds.count())
 }
 
-/// Tells a watch of the calls from one count up to another.
-fn tell<W: Watch>(watch: &mut W, from: u64, to: u64) {
-    for count in from..to {
-        watch.done(count);
-    }
-}
-
 /// Makes at most `most` calls by one seat, each for the least open ticket that no other seat holds, to that ticket's end: it
 /// claims a ticket that waits or rests, asks for its next trial, fires it where it is whole and else reports it, and drops
 /// the goal once no trial is left. It ends where no such ticket is left, or at a claim for which the labels are spent (E10),
@@ -190,8 +183,8 @@ pub fn solo_steps<A: Allocator + Copy>(
     watched_steps(book, seat, most, &mut Unwatched)
 }
 
-/// The same, and for each call `watch` is told how many were made before it: of up to 2,048 calls at once, once they are made,
-/// where [`Book::go_on`] makes them, and else before the call.
+/// The same, and `watch` is told before each call how many were made before it. Of up to 2,048 calls that [`Book::go_on`] makes
+/// at once it is told after them, and only how many were made before the last one.
 pub fn watched_steps<A: Allocator + Copy, W: Watch>(
     book: &mut Book<A>,
     seat: u32,
@@ -210,8 +203,8 @@ pub fn watched_steps<A: Allocator + Copy, W: Watch>(
         };
         let made = make_rounds(book, seat, ticket, &known, most - calls)?;
         if made > 0 {
-            tell(watch, calls, calls + made);
             calls += made;
+            watch.done(calls - 1);
             continue;
         }
         watch.done(calls);

@@ -371,24 +371,26 @@ fn worked_expressions(rt: HostRuntime) {
     }
 }
 
-/// How many counts it was told, and whether they were 0, 1 and so on.
+/// How many calls it has been told of, with those before them, and whether each count was greater than the one before, by at
+/// most 2,048.
 #[derive(Clone, Copy, Debug)]
 struct Counted {
-    counts: u64,
-    are_in_order: bool,
+    calls: u64,
+    counts_rise: bool,
 }
 
 impl Watch for Counted {
     fn done(&mut self, count: u64) {
-        self.are_in_order = self.are_in_order && count == self.counts;
-        self.counts = self.counts.saturating_add(1);
+        let passed_over = count.checked_sub(self.calls);
+        self.counts_rise = self.counts_rise && passed_over.is_some_and(|calls| calls < 2_048);
+        self.calls = count.saturating_add(1);
     }
 }
 
-/// Rules, atoms, how many calls are asked for, and of how many a watch is told. The first whole run makes nine: for each `b`,
-/// with which no rule applies, a claim, a question for a trial, and a drop; for the `a` a claim, a question that gives a trial,
-/// and its firing. The second makes five: a claim, a question that gives a trial whose guard fails, its report, a question that
-/// gives none, and a drop.
+/// Rules, atoms, how many calls are asked for, and how many a watch is told of with those before them: all that are made. The
+/// first whole run makes nine: for each `b`, with which no rule applies, a claim, a question for a trial, and a drop; for the
+/// `a` a claim, a question that gives a trial, and its firing. The second makes five: a claim, a question that gives a trial
+/// whose guard fails, its report, a question that gives none, and a drop.
 const TOLD: [(&[u8], &[u8], u64, u64); 7] = [
     (b"a <=> b.", b"b, a.", 0, 0),
     (b"a <=> b.", b"b, a.", 1, 1),
@@ -400,11 +402,11 @@ const TOLD: [(&[u8], &[u8], u64, u64); 7] = [
 ];
 
 #[test]
-fn each_call_is_told(rt: HostRuntime) {
+fn calls_are_told(rt: HostRuntime) {
     for (program, posts, steps, told) in TOLD {
         let mut counted = Counted {
-            counts: 0,
-            are_in_order: true,
+            calls: 0,
+            counts_rise: true,
         };
         let _ = watched_run(
             rt.alloc(),
@@ -415,7 +417,7 @@ fn each_call_is_told(rt: HostRuntime) {
             Show::All,
             &mut counted,
         );
-        assert!(rt; counted.are_in_order, "{steps} calls");
-        assert_eq!(rt; counted.counts, told, "{steps} calls");
+        assert!(rt; counted.counts_rise, "{steps} calls");
+        assert_eq!(rt; counted.calls, told, "{steps} calls");
     }
 }

@@ -12,8 +12,9 @@ use std::time::Duration;
 
 /// Is told how far something is.
 pub trait Watch {
-    /// So many calls have been made, or entries checked: told for each in order, so 0 comes first, and before it unless several
-    /// are made at once.
+    /// So many calls have been made, or entries checked. Each count is told, from 0 on, before the next call or entry; but of
+    /// several calls that are made at once only how many came before the last of them, once they are made. The counts rise, and
+    /// of 2,048 in a row at least one is told.
     fn done(&mut self, count: u64);
 }
 
