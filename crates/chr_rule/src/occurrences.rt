@@ -32,10 +32,53 @@ impl Occurrence {
     }
 }
 
+/// An occurrence, and its rank, by which it is in order: a search reads the ranks of many. Contracts see the occurrence.
+#[derive(Drop)]
+struct Ranked {
+    one: Occurrence,
+    order: u64,
+}
+
+impl Model for Ranked {
+    ghost use Rattle.std.specs.Prelude.{◌≡◌};
+    ghost use Rattle.chr_rule.specs.declared.occurrences.Occurrence.{Occurrence};
+    ghost use Rattle.chr_rule.specs.Index.{rank};
+
+    ghost Value = { Occurrence };
+
+    ghost view = { λ r. r.one };
+
+    ghost invariant = { λ r. r.order ≡ rank r.one };
+}
+
+impl Ranked {
+    fn of(one: Occurrence) -> Ranked
+        ensures one { result ≡ one }
+        ensures fits { FitsRank one }
+    {
+        Ranked {
+            one,
+            order: one.rank(),
+        }
+    }
+
+    fn occurrence(&self) -> Occurrence
+        ensures { result ≡ self.now }
+    {
+        self.one
+    }
+
+    fn rank(&self) -> u64
+        ensures { result ≡ rank self.now }
+    {
+        self.order
+    }
+}
+
 /// Occurrences in order. Contracts see the list, and how many more there is room for.
 #[derive(Drop)]
 pub struct Occurrences<A: Allocator> {
-    list: Vec<Occurrence, A>,
+    list: Vec<Ranked, A>,
 }
 
 impl<A: Allocator> Model for Occurrences<A> {
@@ -50,7 +93,7 @@ impl<A: Allocator> Model for Occurrences<A> {
 }
 
 /// The place of the first occurrence that is not before one.
-fn place_from(list: &[Occurrence], from: &Occurrence) -> usize
+fn place_from(list: &[Ranked], from: &Occurrence) -> usize
     requires { IsNonDecreasingBy rank list.now }
     ensures fits { FitsRank from.now }
     ensures within { result ≤ length list.now }
@@ -62,7 +105,7 @@ fn place_from(list: &[Occurrence], from: &Occurrence) -> usize
 }
 
 /// The same. It takes no search where it is `near`.
-fn place_near(list: &[Occurrence], near: usize, from: &Occurrence) -> usize
+fn place_near(list: &[Ranked], near: usize, from: &Occurrence) -> usize
     requires { IsNonDecreasingBy rank list.now }
     ensures fits { FitsRank from.now }
     ensures within { result ≤ length list.now }
@@ -104,7 +147,7 @@ impl<A: Allocator + Copy> Occurrences<A> {
         ensures room { self.new.room + 1 ≡ self.old.room }
     {
         let place = place_from(&self.list, &one);
-        let _ = self.list.insert(place, one);
+        let _ = self.list.insert(place, Ranked::of(one));
     }
 
     /// Adds the heads of a rule of a number, for which there is room.
@@ -135,7 +178,7 @@ impl<A: Allocator + Copy> Occurrences<A> {
             None => None,
             Some(found) => {
                 *near = place + 1;
-                Some(*found)
+                Some(found.occurrence())
             }
         }
     }

@@ -2,7 +2,7 @@ use Rattle.std.proofs.Common.{◌≡◌, List, length, Some, slice_get, refl, sy
 use Rattle.std.proofs.lemmas.Bool.{ltb-true}
 use Rattle.std.proofs.lemmas.Option.{slice_get_read}
 use Rattle.chr_rule.specs.declared.occurrences.Occurrence.{Occurrence}
-use Rattle.chr_rule.specs.Index.{Index, IsLeastFrom, IsInOrder}
+use Rattle.chr_rule.specs.Index.{Index, FitsRank, IsLeastFrom, IsInOrder}
 use Rattle.chr_rule.proofs.Index.{least_found}
 use Rattle.chr_rule.proofs.occurrences.Occurrences.next.Goals as goal
 
@@ -22,6 +22,6 @@ returns-in-Some g c =
     let same : list ≡ c.args.self.now.items = ap (λ (i : Index). i.items) c.self.view_is in
     record {
       fits = there.fits;
-      found_fits = c.self.invariant.fit found least.listed;
-      next = subst (λ (xs : List Occurrence). IsLeastFrom xs from found) same least;
+      found_fits = subst FitsRank (sym c.occurrence.ensures) (c.self.invariant.fit found least.listed);
+      next = subst (IsLeastFrom c.args.self.now.items from) (sym c.occurrence.ensures) (subst (λ (xs : List Occurrence). IsLeastFrom xs from found) same least);
     }
