@@ -5,6 +5,7 @@ ghost use Rattle.chr_guard.specs.Values.{computed, compares};
 use chr_rule::expression::{Operator, Relation};
 
 /// An operator's result, where it has one.
+#[inline(always)]
 pub fn compute(operator: Operator, a: i64, b: i64) -> Option<i64>
     ensures { result ≡ computed operator a b }
 {
@@ -21,7 +22,9 @@ pub fn compute(operator: Operator, a: i64, b: i64) -> Option<i64>
             }
         }
         Operator::Mod => {
-            if b == 0 {
+            if 0 <= a && 0 < b {
+                Some(a.wrapping_rem(b))
+            } else if b == 0 {
                 None
             } else {
                 let r = a.wrapping_rem(b);
@@ -36,6 +39,7 @@ pub fn compute(operator: Operator, a: i64, b: i64) -> Option<i64>
 }
 
 /// Whether the relation holds between two numbers.
+#[inline(always)]
 pub fn compare(relation: Relation, a: i64, b: i64) -> bool
     ensures { result ≡ compares relation a b }
 {

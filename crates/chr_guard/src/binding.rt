@@ -27,6 +27,17 @@ impl<'a> Default for Bound<'a> {
 }
 
 impl<'a> Bound<'a> {
+    /// What stands for a value that an atom holds. A number is copied, so that reading it follows no reference.
+    #[inline(always)]
+    fn of(value: &'a Value) -> Bound<'a>
+        ensures { bound_term result ≡ Some (ground value.now) }
+    {
+        match value {
+            Value::Int(n) => Bound::Number(*n),
+            Value::Sym(_) => Bound::Held(value),
+        }
+    }
+
     /// Whether it stands for no value.
     pub fn is_free(&self) -> bool
         ensures { IsTrue result ↔ (bound_term self.now ≡ None) }
@@ -112,6 +123,7 @@ impl<'a> Binding<'a> {
     }
 
     /// Becomes one of this many variables, at most 24, which are all free.
+    #[inline(always)]
     pub fn reset(&mut self, variables: usize)
         requires { variables ≤ 24 }
         ensures { self.new ≡ replicate variables None }
@@ -123,6 +135,7 @@ impl<'a> Binding<'a> {
     }
 
     /// What a variable is bound to.
+    #[inline(always)]
     pub fn at(&self, variable: u8) -> Bound<'a>
         ensures { bound_term result ≡ bound_at self.now variable }
     {
@@ -133,6 +146,7 @@ impl<'a> Binding<'a> {
     }
 
     /// The number that a variable stands for, if it stands for one.
+    #[inline(always)]
     pub(crate) fn number(&self, variable: u8) -> Option<i64>
         ensures { result ≡ number_in (bound_at self.now variable) }
     {
@@ -151,13 +165,14 @@ impl<'a> Binding<'a> {
     }
 
     /// Binds a variable to a value. Where it is bound already, answers whether it is bound to this one.
+    #[inline(always)]
     pub(crate) fn hold(&mut self, variable: u8, value: &'a Value) -> bool
         requires { variable < length self.old }
         ensures { NarrowsIf (λ v. v variable ≡ Some (ground value.now)) result self.old self.new }
     {
         match self.at(variable) {
             Bound::Free => {
-                self.put(variable, Bound::Held(value));
+                self.put(variable, Bound::of(value));
                 true
             }
             bound => bound.is(value),
@@ -190,6 +205,7 @@ impl<'a> Binding<'a> {
     }
 
     /// Becomes a copy of another. Between bindings of as many variables, only these get copied.
+    #[inline(always)]
     pub fn set_to(&mut self, other: &Binding<'a>)
         ensures { self.new ≡ other.now }
     {

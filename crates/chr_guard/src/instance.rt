@@ -14,6 +14,7 @@ use std::alloc::Allocator;
 
 /// Binds all variables of a rule's instance, where those of its heads are bound. False where the heads' atoms are no
 /// instance, whatever the body.
+#[inline(always)]
 pub fn becomes_instance<'a, A: Allocator + Copy>(rule: &Rule<A>, binding: &mut Binding<'a>) -> bool
     requires { (facts : List (Atom ℕ)) × IsFit rule.now (HeadsAre rule.now facts) binding.old }
     ensures { (facts : List (Atom ℕ)) → IsFit rule.now (HeadsAre rule.now facts) binding.old → IsInstanceIf rule.now facts result binding.new }

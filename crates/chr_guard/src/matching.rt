@@ -16,6 +16,7 @@ use chr_value::atom::{Atom, Value};
 use std::alloc::Allocator;
 
 /// Extends a binding so that a term equals a value. False only where no valuation that extends it makes them equal.
+#[inline(always)]
 pub(crate) fn fit_term<'a>(binding: &mut Binding<'a>, term: &Term, value: &'a Value) -> bool
     requires { argument_known (length binding.old) (argument term.now) ≡ true }
     ensures { NarrowsIf (λ v. term_under v (argument term.now) ≡ Some (ground value.now)) result binding.old binding.new }
@@ -27,6 +28,7 @@ pub(crate) fn fit_term<'a>(binding: &mut Binding<'a>, term: &Term, value: &'a Va
 }
 
 /// The same for several terms.
+#[inline(always)]
 pub(crate) fn fit_terms<'a>(binding: &mut Binding<'a>, terms: &[Term], values: &'a [Value]) -> bool
     requires { list_all (argument_known (length binding.old)) (map argument terms.now) ≡ true }
     ensures { NarrowsIf (λ v. map (term_under v) (map argument terms.now) ≡ map (λ t. Some (ground t)) values.now) result binding.old binding.new }
@@ -43,6 +45,7 @@ pub(crate) fn fit_terms<'a>(binding: &mut Binding<'a>, terms: &[Term], values: &
 }
 
 /// Extends a binding so that a head equals an atom. False only where no valuation that extends it makes them equal.
+#[inline(always)]
 pub fn fit_head<'a, A: Allocator + Copy>(
     binding: &mut Binding<'a>,
     head: &RuleAtom,

@@ -1,20 +1,20 @@
 //! The value of an expression, and when a guard holds.
-ghost use Rattle.std.specs.Prelude.{◌≡◌, ◌↔◌, IsTrue};
+ghost use Rattle.std.specs.Prelude.{◌≡◌, ◌↔◌, IsTrue, Some};
 ghost use Rattle.std.specs.List.{AllByRecursion};
 ghost use Rattle.chr_rule.specs.Parts.{expression, comparison};
 ghost use Rattle.chr_rule.specs.Scope.{IsRule};
-ghost use Rattle.chr_guard.specs.Values.{value_of, Holds};
+ghost use Rattle.chr_guard.specs.Values.{both, compares, computed, value_of, Holds};
 ghost use Rattle.chr_guard.specs.Bindings.{bound_at};
 
 use crate::arithmetic::{compare, compute};
 use crate::binding::Binding;
-use chr_rule::expression::{Comparison, Expr};
+use chr_rule::expression::{Comparison, Expr, Operator, Relation};
 use chr_rule::rule::Rule;
 use std::alloc::Allocator;
 
 /// The value of an expression over exact whole numbers. It has none where a variable stands for a symbol or is free,
 /// where a part is out of the range of 64 bits with sign, or where a divisor is 0.
-#[cycle(value)]
+#[inline(always)]
 pub fn value<A: Allocator>(expr: &Expr<A>, binding: &Binding) -> Option<i64>
     ensures { result ≡ value_of (bound_at binding.now) (expression expr.now) }
 {
@@ -22,34 +22,65 @@ pub fn value<A: Allocator>(expr: &Expr<A>, binding: &Binding) -> Option<i64>
         Expr::Number(n) => Some(*n),
         Expr::Var(x) => binding.number(*x),
         Expr::Operation(operator, a, b) => {
-            let left = side(a, binding)?;
-            let right = side(b, binding)?;
+            let left = operand(a, binding)?;
+            let right = operand(b, binding)?;
             compute(*operator, left, right)
         }
     }
 }
 
-/// The value of a side of an operator or a comparison. Most sides are numbers or variables, for which it takes no call.
-#[cycle(value)]
-#[inline]
-fn side<A: Allocator>(expr: &Expr<A>, binding: &Binding) -> Option<i64>
+/// The value of an operand. Most operands are numbers or variables, for which it takes no call.
+#[cycle(operand)]
+#[inline(always)]
+fn operand<A: Allocator>(expr: &Expr<A>, binding: &Binding) -> Option<i64>
     ensures { result ≡ value_of (bound_at binding.now) (expression expr.now) }
 {
     match expr {
         Expr::Number(n) => Some(*n),
         Expr::Var(x) => binding.number(*x),
-        Expr::Operation(_, _, _) => value(expr, binding),
+        Expr::Operation(operator, a, b) => nested(*operator, a, b, binding),
     }
 }
 
+/// The value of an operation within another, to any depth.
+#[cycle(operand)]
+fn nested<A: Allocator>(
+    operator: Operator,
+    a: &Expr<A>,
+    b: &Expr<A>,
+    binding: &Binding,
+) -> Option<i64>
+    ensures { result ≡ both (computed operator) (value_of (bound_at binding.now) (expression a.now)) (value_of (bound_at binding.now) (expression b.now)) }
+{
+    let left = operand(a, binding)?;
+    let right = operand(b, binding)?;
+    compute(operator, left, right)
+}
+
+/// Whether the relation holds between the values of two expressions, where both have one.
+#[inline(always)]
+fn compared<A: Allocator>(
+    relation: Relation,
+    a: &Expr<A>,
+    b: &Expr<A>,
+    binding: &Binding,
+) -> Option<bool>
+    ensures { result ≡ both (λ m n. Some (compares relation m n)) (value_of (bound_at binding.now) (expression a.now)) (value_of (bound_at binding.now) (expression b.now)) }
+{
+    let left = value(a, binding)?;
+    let right = value(b, binding)?;
+    Some(compare(relation, left, right))
+}
+
 /// Whether a comparison holds. None does where a side has no value; a number never equals a symbol.
+#[inline(always)]
 pub fn holds<A: Allocator>(test: &Comparison<A>, binding: &Binding) -> bool
     ensures { IsTrue result ↔ Holds (bound_at binding.now) (comparison test.now) }
 {
     match test {
-        Comparison::Numbers(relation, a, b) => match (side(a, binding), side(b, binding)) {
-            (Some(left), Some(right)) => compare(*relation, left, right),
-            _ => false,
+        Comparison::Numbers(relation, a, b) => match compared(*relation, a, b, binding) {
+            Some(so) => so,
+            None => false,
         },
         Comparison::Same(s, t) => binding.term(s).same(&binding.term(t)),
         Comparison::Differ(s, t) => binding.term(s).differs(&binding.term(t)),
@@ -57,6 +88,7 @@ pub fn holds<A: Allocator>(test: &Comparison<A>, binding: &Binding) -> bool
 }
 
 /// Whether each comparison of a rule's guard holds.
+#[inline(always)]
 pub fn guard_holds<A: Allocator>(rule: &Rule<A>, binding: &Binding) -> bool
     ensures holds { IsTrue result ↔ AllByRecursion (Holds (bound_at binding.now)) rule.now.guard }
     ensures valid { IsRule rule.now }

@@ -1,4 +1,4 @@
-use Rattle.std.proofs.Common.{◌≡◌, Some, None, true, sym, ap, ◌∙◌, subst}
+use Rattle.std.proofs.Common.{◌≡◌, Some, None, true, slice_set, sym, ap, ◌∙◌, subst}
 use Rattle.chr_value.specs.Atoms.{ground}
 use Rattle.chr_guard.specs.Bindings.{bound_term, bound_at, NarrowsIf}
 use Rattle.chr_guard.proofs.Bindings.{told_new}
@@ -7,4 +7,5 @@ use Rattle.chr_guard.proofs.binding.Binding.hold.Goals as goal
 pub returns-in-Free : goal.returns-in-Free
 returns-in-Free c =
     let free : bound_at c.args.self.now c.args.variable ≡ None = sym c.at.ensures ∙ ap bound_term c.in-Free.is in
-    subst (NarrowsIf (λ v. v c.args.variable ≡ Some (ground c.args.value.now)) true c.args.self.now) (sym c.put.ensures) (told_new c.args.self.now c.args.variable (ground c.args.value.now) c.requires free)
+    let after : c.put.new.self ≡ slice_set c.args.self.now c.args.variable (Some (ground c.args.value.now)) = c.put.ensures ∙ ap (λ o. slice_set c.args.self.now c.args.variable o) c.of.ensures in
+    subst (NarrowsIf (λ v. v c.args.variable ≡ Some (ground c.args.value.now)) true c.args.self.now) (sym after) (told_new c.args.self.now c.args.variable (ground c.args.value.now) c.requires free)
