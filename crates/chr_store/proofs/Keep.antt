@@ -1,12 +1,12 @@
-use Rattle.std.proofs.Common.{◌≡◌, ℕ, zero, suc, ◌+◌, ◌<◌, ◌≤◌, ◌&&◌, if◌then◌else◌, Bool, true, false, List, [], ◌∷◌, Option, Some, None, refl, sym, ap, subst, arith, length, ◌∙◌, slice_get, get_or, nat_lt, inl, inr, pos}
-use Rattle.std.specs.HashMap.{HashMap}
+use Rattle.std.proofs.Common.{◌≡◌, ℕ, zero, suc, ◌+◌, ◌<◌, ◌≤◌, ◌&&◌, if◌then◌else◌, Bool, true, false, List, [], ◌∷◌, Option, Some, None, refl, sym, ap, subst, arith, length, ◌∙◌, slice_get, get_or, nat_lt, inl, inr}
 use Rattle.std.proofs.lemmas.Bool.{and_parts, and_from, eq-eqb, eqb-true, lt-ltb, le-ltb, cases_lt, cases_eq, false≢true}
 use Rattle.chr_value.specs.Atoms.{Value, Atom, ground}
 use Rattle.chr_value.specs.declared.atom.Pred.{Pred}
-use Rattle.chr_value.specs.declared.atom.Value.TheVariants as values
 use Rattle.chr_store.specs.declared.keys.Key.{Key}
+use Rattle.chr_store.specs.declared.buckets.Buckets.{Buckets}
 use Rattle.chr_store.specs.Keys.{arg_at}
-use Rattle.chr_store.specs.Index.{Places, chosen, value_at, IsKeyAt, is_term, same_key, fits, labels_in, reached, IsChanged}
+use Rattle.chr_store.specs.Index.{Places, own_key, chosen, value_at, IsKeyAt, is_term, same_key, fits}
+use Rattle.chr_store.specs.KeyLabels.{labels_in, reached, IsChanged}
 use Rattle.chr_store.specs.KeyLaws.{same_key_true, same_key_refl, same_term_true, same_term_refl, ground_one, same_parts}
 
 -- ---- an atom's own keys
@@ -66,10 +66,10 @@ and_lt_not false p n h = refl
 pub unreached : (places : Places) (a : Atom ℕ) (n : ℕ) (k : Key) → n ≤ k.place → reached places a n k ≡ false
 unreached places a n k h = and_lt_not _ k.place n h
 
-pub touched_none : {S : Type 0} (f : List ℕ → List ℕ) (places : Places) (a : Atom ℕ) (m : HashMap Key (List ℕ) S) → IsChanged f places a 0 m m
+pub touched_none : {A : Type 0} (f : List ℕ → List ℕ) (places : Places) (a : Atom ℕ) (m : Buckets A) → IsChanged f places a 0 m m
 touched_none f places a m = λ k. sym (ap (λ (b : Bool). if b then f (labels_in m k) else labels_in m k) (unreached places a 0 k (omega arith)))
 
-pub own_unreached : {S : Type 0} (f : List ℕ → List ℕ) (places : Places) (a : Atom ℕ) (n : ℕ) (kk : Key) (old cur : HashMap Key (List ℕ) S) → IsKeyAt a n kk → IsChanged f places a n old cur → labels_in cur kk ≡ labels_in old kk
+pub own_unreached : {A : Type 0} (f : List ℕ → List ℕ) (places : Places) (a : Atom ℕ) (n : ℕ) (kk : Key) (old cur : Buckets A) → IsKeyAt a n kk → IsChanged f places a n old cur → labels_in cur kk ≡ labels_in old kk
 own_unreached f places a n kk old cur h t = t kk ∙ ap (λ (b : Bool). if b then f (labels_in old kk) else labels_in old kk) (unreached places a n kk (let e : kk.place ≡ n = h.place in omega arith))
 
 abbrev pred_from : ℕ → ℕ → Pred
@@ -79,7 +79,7 @@ pred_from n m = record { name = record { number = n }; arity = m }
 pred_one : (p q : Pred) → p.name.number ≡ q.name.number → p.arity ≡ q.arity → p ≡ q
 pred_one p q e f = ap (λ (z : ℕ). pred_from z p.arity) e ∙ ap (λ (z : ℕ). pred_from q.name.number z) f
 
-pub touched_same : {S : Type 0} (f : List ℕ → List ℕ) (places : Places) (a : Atom ℕ) (n : ℕ) (pred : Pred) (old cur : HashMap Key (List ℕ) S) → pred.name.number ≡ a.name → pred.arity ≡ length a.args → chosen places pred n ≡ false → IsChanged f places a n old cur → IsChanged f places a (n + 1) old cur
+pub touched_same : {A : Type 0} (f : List ℕ → List ℕ) (places : Places) (a : Atom ℕ) (n : ℕ) (pred : Pred) (old cur : Buckets A) → pred.name.number ≡ a.name → pred.arity ≡ length a.args → chosen places pred n ≡ false → IsChanged f places a n old cur → IsChanged f places a (n + 1) old cur
 touched_same f places a n pred old cur name arity not t = λ k. t k ∙ ap (λ (b : Bool). if b then f (labels_in old k) else labels_in old k) (sym (and_lt_more (chosen places k.pred k.place && fits k a) k.place n (λ e both.
     let p = and_parts _ _ both in
     let g : Fitting k a = fitting k a p.1 in
@@ -87,7 +87,7 @@ touched_same f places a n pred old cur name arity not t = λ k. t k ∙ ap (λ (
     let c : chosen places pred n ≡ true = subst (λ (z : Pred). chosen places z n ≡ true) one (subst (λ (z : ℕ). chosen places k.pred z ≡ true) e p.0) in
     false≢true (sym not ∙ c))))
 
-pub touched_more : {S : Type 0} (f : List ℕ → List ℕ) (places : Places) (a : Atom ℕ) (n : ℕ) (pred : Pred) (kk : Key) (old cur new : HashMap Key (List ℕ) S) → pred.name.number ≡ a.name → pred.arity ≡ length a.args → chosen places pred n ≡ true → IsKeyAt a n kk → IsChanged f places a n old cur → ((k : Key) → labels_in new k ≡ (if same_key kk k then f (labels_in cur kk) else labels_in cur k)) → IsChanged f places a (n + 1) old new
+pub touched_more : {A : Type 0} (f : List ℕ → List ℕ) (places : Places) (a : Atom ℕ) (n : ℕ) (pred : Pred) (kk : Key) (old cur new : Buckets A) → pred.name.number ≡ a.name → pred.arity ≡ length a.args → chosen places pred n ≡ true → IsKeyAt a n kk → IsChanged f places a n old cur → ((k : Key) → labels_in new k ≡ (if same_key kk k then f (labels_in cur kk) else labels_in cur k)) → IsChanged f places a (n + 1) old new
 touched_more f places a n pred kk old cur new name arity there h t s = λ k. s k ∙ elim (same_key kk k) as (λ b. (same_key kk k ≡ b) → (if b then f (labels_in cur kk) else labels_in cur k) ≡ (if reached places a (n + 1) k then f (labels_in old k) else labels_in old k)) [
   | true ↦ λ u.
       let e : kk ≡ k = same_key_true kk k u in
@@ -102,15 +102,27 @@ touched_more f places a n pred kk old cur new name arity there h t s = λ k. s k
       false≢true (sym u ∙ fits_own a n kk k h p.1 e))))
 ] refl
 
+-- labels that stayed are changed under no place
+pub touched_stayed : {A : Type 0} (f : List ℕ → List ℕ) (places : Places) (a : Atom ℕ) (old new : Buckets A) → ((k : Key) → labels_in new k ≡ labels_in old k) → IsChanged f places a 0 old new
+touched_stayed f places a old new s = λ k. s k ∙ touched_none f places a old k
+
+-- the key of the predicate alone was changed
+pub touched_own : {A : Type 0} (f : List ℕ → List ℕ) (places : Places) (a : Atom ℕ) (pred : Pred) (kk : Key) (old new : Buckets A) → pred.name.number ≡ a.name → pred.arity ≡ length a.args → kk ≡ own_key pred → ((k : Key) → labels_in new k ≡ (if same_key kk k then f (labels_in old kk) else labels_in old k)) → IsChanged f places a 1 old new
+touched_own f places a pred kk old new name arity own s =
+    touched_more f places a 0 pred kk old old new name arity refl (subst (IsKeyAt a 0) (sym own) (record { name = name; arity = arity; place = refl; value = refl })) (touched_none f places a old) s
+
+-- where no place of the predicate is chosen, that is all
+pub touched_rest : {A : Type 0} (f : List ℕ → List ℕ) (places : Places) (a : Atom ℕ) (pred : Pred) (old new : Buckets A) → pred.name.number ≡ a.name → pred.arity ≡ length a.args → ((n : ℕ) → 0 < n → chosen places pred n ≡ false) → (n m : ℕ) → m ≡ n + 1 → IsChanged f places a 1 old new → IsChanged f places a m old new
+touched_rest f places a pred old new name arity none zero m e h = subst (λ (z : ℕ). IsChanged f places a z old new) (omega arith) h
+touched_rest f places a pred old new name arity none (suc n) m e h =
+    subst (λ (z : ℕ). IsChanged f places a z old new) (omega arith)
+    (touched_same f places a (suc n) pred old new name arity (none (suc n) (omega arith)) (touched_rest f places a pred old new name arity none n (suc n) (omega arith) h))
+
 -- ---- the key at a place
 
 pub value_here : (a : Atom ℕ) (n : ℕ) (o : Option (Value ℕ)) → 0 < n → arg_at a n ≡ o → value_at a n ≡ o
 value_here a zero o u h = absurd (omega arith)
 value_here a (suc i) o u h = h
-
-pub value_none : (a : Atom ℕ) (n : ℕ) → n ≡ 0 → value_at a n ≡ Some (ground (values.Int (pos 0)))
-value_none a zero h = refl
-value_none a (suc i) h = absurd (omega arith)
 
 pub get_here : {X : Type 0} (xs : List X) (i : ℕ) (d : X) → i < length xs → slice_get xs i ≡ Some (get_or xs i d)
 get_here [] i d u = absurd (omega arith)

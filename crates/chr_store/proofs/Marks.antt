@@ -1,14 +1,18 @@
 -- Marks of places.
 use Rattle.std.proofs.Common.{◌≡◌, ℕ, zero, suc, ◌+◌, ◌-◌, ◌<◌, ◌≤◌, ◌&&◌, ◌||◌, Bool, true, false, List, [], ◌∷◌, ◌++◌, refl, sym, ap, subst, arith, length, take, ◌∙◌, nat_eq, replicate, slice_set, slice_get}
-use Rattle.std.specs.List.{list_any}
 use Rattle.std.specs.Option.{unwrap_or}
+use Rattle.std.specs.Prelude.{Result, Ok, Err, OnOk}
 use Rattle.std.proofs.lemmas.Bool.{and_parts, and_from, eq-eqb, eqb-true, false≢true}
 use Rattle.chr_value.specs.declared.atom.Pred.{Pred}
 use Rattle.chr_store.specs.Index.{Places, is_pred, chosen}
-use Rattle.chr_store.specs.Marks.{IsMarkOf, mark_at, listed, AreMarks}
+use Rattle.chr_store.specs.Marks.{IsMarkOf, IsMarked, mark_at, listed, AreMarks}
 
 pub marks_none : AreMarks [] []
-marks_none = λ pred place i h. refl
+marks_none = λ pred place i h. none pred place
+  where
+    none : (pred : Pred) (place : ℕ) → false ≡ listed [] pred place
+    none pred zero = refl
+    none pred (suc n) = refl
 
 -- ---- more marks
 
@@ -38,17 +42,20 @@ mark_set (m ∷ ms) (suc j) (suc i) u = mark_set ms j i (omega arith) ∙ sym (a
 -- ---- more places
 
 abbrev is_place : Pred × ℕ → Pred → ℕ → Bool
-is_place p pred place = is_pred p.0 pred && nat_eq p.1 place
+is_place p pred zero = is_pred p.0 pred
+is_place p pred (suc i) = is_pred p.0 pred && nat_eq p.1 (suc i)
+
+swap : (a b c : Bool) → (a || (b || c)) ≡ (b || (a || c))
+swap true true c = refl
+swap true false c = refl
+swap false true c = refl
+swap false false c = refl
 
 listed_push : (ps : Places) (p : Pred × ℕ) (pred : Pred) (place : ℕ) → listed (ps ++ p ∷ []) pred place ≡ (is_place p pred place || listed ps pred place)
-listed_push [] p pred place = refl
-listed_push (q ∷ ps) p pred place = ap (λ (b : Bool). is_place q pred place || b) (listed_push ps p pred place) ∙ swap (is_place q pred place) (is_place p pred place) (listed ps pred place)
-  where
-    swap : (a b c : Bool) → (a || (b || c)) ≡ (b || (a || c))
-    swap true true c = refl
-    swap true false c = refl
-    swap false true c = refl
-    swap false false c = refl
+listed_push [] p pred zero = refl
+listed_push [] p pred (suc i) = refl
+listed_push (q ∷ ps) p pred zero = ap (λ (b : Bool). is_place q pred zero || b) (listed_push ps p pred zero) ∙ swap (is_place q pred zero) (is_place p pred zero) (listed ps pred zero)
+listed_push (q ∷ ps) p pred (suc i) = ap (λ (b : Bool). is_place q pred (suc i) || b) (listed_push ps p pred (suc i)) ∙ swap (is_place q pred (suc i)) (is_place p pred (suc i)) (listed ps pred (suc i))
 
 -- a mark has one place
 same_place : (p q : Pred) (m n i : ℕ) → IsMarkOf p m i → IsMarkOf q n i → (is_pred p q && nat_eq m n) ≡ true
@@ -68,34 +75,70 @@ moved p q m n i t k =
     let place : m ≡ n = eqb-true _ _ both.1 in
     record { low = omega (arith, name, k.low); few = omega (arith, arity, k.few); within = omega (arith, place, k.within); index = omega (arith, name, arity, place, k.index) }
 
-pub marks_more : (ps : Places) (p : Pred × ℕ) (i : ℕ) (old new : List Bool) → IsMarkOf p.0 p.1 i → AreMarks old ps → ((j : ℕ) → mark_at new j ≡ (nat_eq j i || mark_at old j)) → AreMarks new (ps ++ p ∷ [])
-marks_more ps p i old new own h set = λ pred place j k.
-    set j ∙ ap (λ (b : Bool). nat_eq j i || b) (h pred place j k) ∙ ap (λ (b : Bool). b || listed ps pred place) (same pred place j k) ∙ sym (listed_push ps p pred place)
+-- a place's mark is set
+pub marked : (p : Pred) (m i : ℕ) (old new : List Bool) → IsMarkOf p m i → ((j : ℕ) → mark_at new j ≡ (nat_eq j i || mark_at old j)) → IsMarked p m old new
+marked p m i old new own set = λ pred place j k. set j ∙ ap (λ (b : Bool). b || mark_at old j) (same pred place j k)
   where
-    same : (pred : Pred) (place j : ℕ) → IsMarkOf pred place j → nat_eq j i ≡ is_place p pred place
-    same pred place j k = elim (nat_eq j i) as (λ b. (nat_eq j i ≡ b) → b ≡ is_place p pred place) [
-      | true ↦ λ t. let e : j ≡ i = eqb-true j i t in sym (same_place p.0 pred p.1 place i own (subst (IsMarkOf pred place) e k))
-      | false ↦ λ t. elim (is_place p pred place) as (λ b. (is_place p pred place ≡ b) → false ≡ b) [
+    same : (pred : Pred) (place j : ℕ) → IsMarkOf pred place j → nat_eq j i ≡ (is_pred p pred && nat_eq m place)
+    same pred place j k = elim (nat_eq j i) as (λ b. (nat_eq j i ≡ b) → b ≡ (is_pred p pred && nat_eq m place)) [
+      | true ↦ λ t. let e : j ≡ i = eqb-true j i t in sym (same_place p pred m place i own (subst (IsMarkOf pred place) e k))
+      | false ↦ λ t. elim (is_pred p pred && nat_eq m place) as (λ b. ((is_pred p pred && nat_eq m place) ≡ b) → false ≡ b) [
         | true ↦ λ u.
-            let m : IsMarkOf p.0 p.1 j = moved p.0 pred p.1 place j u k in
-            sym t ∙ eq-eqb j i (m.index ∙ sym own.index)
+            let h : IsMarkOf p m j = moved p pred m place j u k in
+            sym t ∙ eq-eqb j i (h.index ∙ sym own.index)
         | false ↦ λ u. refl
       ] refl
     ] refl
 
-pub marks_same : (ps : Places) (p : Pred × ℕ) (marks : List Bool) → ((i : ℕ) → IsMarkOf p.0 p.1 i → ⊥) → AreMarks marks ps → AreMarks marks (ps ++ p ∷ [])
-marks_same ps p marks none h = λ pred place j k.
-    h pred place j k ∙ ap (λ (b : Bool). b || listed ps pred place) (not pred place j k) ∙ sym (listed_push ps p pred place)
+-- where it has none, they stay
+pub unmarked : (p : Pred) (m : ℕ) (marks : List Bool) → ((i : ℕ) → IsMarkOf p m i → ⊥) → IsMarked p m marks marks
+unmarked p m marks none = λ pred place j k. ap (λ (b : Bool). b || mark_at marks j) (not pred place j k)
   where
-    not : (pred : Pred) (place j : ℕ) → IsMarkOf pred place j → false ≡ is_place p pred place
-    not pred place j k = elim (is_place p pred place) as (λ b. (is_place p pred place ≡ b) → false ≡ b) [
-      | true ↦ λ u. absurd (none j (moved p.0 pred p.1 place j u k))
+    not : (pred : Pred) (place j : ℕ) → IsMarkOf pred place j → false ≡ (is_pred p pred && nat_eq m place)
+    not pred place j k = elim (is_pred p pred && nat_eq m place) as (λ b. ((is_pred p pred && nat_eq m place) ≡ b) → false ≡ b) [
+      | true ↦ λ u. absurd (none j (moved p pred m place j u k))
       | false ↦ λ u. refl
     ] refl
+
+-- both marks of a place are set
+pub marks_more : (ps : Places) (p : Pred × ℕ) (old mid new : List Bool) → AreMarks old ps → IsMarked p.0 0 old mid → IsMarked p.0 p.1 mid new → AreMarks new (ps ++ p ∷ [])
+marks_more ps p old mid new h first second = λ pred place i k.
+    second pred place i k ∙ ap (λ (b : Bool). (is_pred p.0 pred && nat_eq p.1 place) || b) (first pred place i k ∙ ap (λ (b : Bool). (is_pred p.0 pred && nat_eq 0 place) || b) (h pred place i k))
+    ∙ both pred place (listed ps pred place) ∙ sym (listed_push ps p pred place)
+  where
+    joined : (a b c l : Bool) → c ≡ true → ((a && b) || ((a && c) || l)) ≡ (a || l)
+    joined true true true l e = refl
+    joined true false true l e = refl
+    joined false b true l e = refl
+    joined a b false l e = absurd (false≢true e)
+
+    apart_only : (a b c l : Bool) → c ≡ false → ((a && b) || ((a && c) || l)) ≡ ((a && b) || l)
+    apart_only true b false l e = refl
+    apart_only false b false l e = refl
+    apart_only a b true l e = absurd (false≢true (sym e))
+
+    both : (pred : Pred) (place : ℕ) (l : Bool) → ((is_pred p.0 pred && nat_eq p.1 place) || ((is_pred p.0 pred && nat_eq 0 place) || l)) ≡ (is_place p pred place || l)
+    both pred zero l = joined (is_pred p.0 pred) (nat_eq p.1 0) (nat_eq 0 0) l (eq-eqb 0 0 refl)
+    both pred (suc n) l = apart_only (is_pred p.0 pred) (nat_eq p.1 (suc n)) (nat_eq 0 (suc n)) l (apart 0 (suc n) (λ e. absurd (omega arith)))
 
 pub chosen_listed : (ps : Places) (pred : Pred) (place : ℕ) → 0 < place → listed ps pred place ≡ chosen ps pred place
 chosen_listed ps pred zero u = absurd (omega arith)
 chosen_listed ps pred (suc n) u = refl
+
+-- a predicate that is not marked at 0 has no place
+pub none_chosen : (ps : Places) (pred : Pred) → listed ps pred 0 ≡ false → (place : ℕ) → 0 < place → chosen ps pred place ≡ false
+none_chosen ps pred h zero u = absurd (omega arith)
+none_chosen [] pred h (suc n) u = refl
+none_chosen (p ∷ ps) pred h (suc n) u =
+    elim (is_pred p.0 pred) as (λ b. (b || listed ps pred 0) ≡ false → ((b && nat_eq p.1 (suc n)) || chosen ps pred (suc n)) ≡ false) [
+      | true ↦ λ t. absurd (false≢true (sym t))
+      | false ↦ λ t. none_chosen ps pred t (suc n) u
+    ] h
+
+-- what follows on success
+pub on_ok : {X E P Q : Type 0} (r : Result X E) → (P → Q) → OnOk r P → OnOk r Q
+on_ok (Ok x) f h = f h
+on_ok (Err e) f h = tt
 
 -- ---- a table that may have been made longer
 

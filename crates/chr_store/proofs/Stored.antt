@@ -1,22 +1,21 @@
 -- A store with the labels of its keys.
-use Rattle.std.proofs.Common.{◌≡◌, ℕ, zero, suc, ◌+◌, ◌<◌, ◌≤◌, ◌==◌, ◌&&◌, if◌then◌else◌, Bool, true, false, List, [], ◌∷◌, ◌++◌, Option, Some, None, refl, sym, ap, subst, arith, length, ◌∙◌, slice_get, nat_lt, inl, inr, pos, true-eqb}
+use Rattle.std.proofs.Common.{◌≡◌, ℕ, zero, suc, ◌+◌, ◌<◌, ◌≤◌, ◌==◌, ◌&&◌, if◌then◌else◌, Bool, true, false, List, [], ◌∷◌, ◌++◌, Option, Some, None, refl, sym, ap, subst, arith, length, ◌∙◌, slice_get, nat_lt, inl, inr, true-eqb}
 use Rattle.std.specs.List.{AllByRecursion}
-use Rattle.std.specs.HashMap.{HashMap, IsEmpty}
-use Rattle.std.specs.Map.{lookup}
-use Rattle.std.specs.Option.{unwrap_or}
+use Rattle.std.specs.Borrow.{Bor}
 use Rattle.std.proofs.lemmas.Bool.{eq-eqb, lt-ltb, cases_eq}
 use Rattle.std.proofs.lemmas.Bool.Decides.{nat_tests}
 use Rattle.chr_value.specs.Atoms.{Value, Atom, ground}
 use Rattle.chr_value.specs.Stores.{Store, atom_at, drop_label}
 use Rattle.chr_value.specs.declared.atom.Pred.{Pred}
 use Rattle.chr_value.specs.declared.atom.Value.{Value as CodeValue}
-use Rattle.chr_value.specs.declared.atom.Value.TheVariants as values
 use Rattle.chr_store.specs.declared.keys.Key.{Key}
-use Rattle.chr_store.specs.Labels.{Rising, GivenBefore}
-use Rattle.chr_store.specs.Keys.{arg_at, HasPred, HasKey, Query, Matches, IsLeastMatch}
+use Rattle.chr_store.specs.declared.buckets.Buckets.{Buckets}
+use Rattle.chr_store.specs.Labels.{LabelledStore, GivenAtoms, Rising, GivenBefore}
+use Rattle.chr_store.specs.Keys.{arg_at, HasPred, HasKey, Query, Matches, key_of, IsLeastMatch}
 use Rattle.chr_store.specs.Indexed.{IsIndexed, LabelHas}
 use Rattle.chr_store.specs.Buckets.{drop_number, IsIn, IsLeastBetween}
-use Rattle.chr_store.specs.Index.{Places, chosen, same_key, value_at, fits, labels_in, labels_of, reached, IsChanged, IsIndexOf}
+use Rattle.chr_store.specs.Index.{own_key, Places, chosen, value_at, fits}
+use Rattle.chr_store.specs.KeyLabels.{labels_in, labels_of, reached, IsChanged, IsIndexOf}
 use Rattle.chr_store.proofs.Entries.{drop_absent}
 use Rattle.chr_store.proofs.Slots.{drop_absent as number_absent, pushed_back, all_map}
 use Rattle.chr_store.proofs.Walks.{above}
@@ -78,12 +77,10 @@ labels_drop k l a (e ∷ es) r h =
 
 -- ---- the index of no atoms
 
-pub kept_none : {S : Type 0} (places : Places) (m : HashMap Key (List ℕ) S) → IsEmpty m → IsIndexOf places [] m
-kept_none places m empty = λ k.
-    let none : labels_in m k ≡ [] = ap (λ es. unwrap_or (lookup (same_key k) es) []) empty in
-    elim (chosen places k.pred k.place) as (λ b. labels_in m k ≡ (if b then [] else [])) [ true ↦ none | false ↦ none ]
+pub kept_none : {A : Type 0} (places : Places) (m : Buckets A) → ((k : Key) → labels_in m k ≡ []) → IsIndexOf places [] m
+kept_none places m empty = λ k. elim (chosen places k.pred k.place) as (λ b. labels_in m k ≡ (if b then [] else [])) [ true ↦ empty k | false ↦ empty k ]
 
-pub indexed_none : {S : Type 0} (limit : ℕ) (places : Places) (m : HashMap Key (List ℕ) S) → limit ≤ 4294967295 → IsEmpty m → IsIndexed (record { entries = []; next = 1; limit = limit }) places m
+pub indexed_none : {A : Type 0} (limit : ℕ) (places : Places) (m : Buckets A) → limit ≤ 4294967295 → ((k : Key) → labels_in m k ≡ []) → IsIndexed (record { entries = []; next = 1; limit = limit }) places m
 indexed_none limit places m fits empty = record {
   labelled = record { rising = tt; given = tt; first = omega arith; within = omega arith; limit = fits };
   index = kept_none places m empty;
@@ -114,23 +111,23 @@ all_reached places a k = elim (chosen places k.pred k.place) as (λ b. ((b && fi
 part_reached : (places : Places) (a : Atom ℕ) (n : ℕ) (k : Key) → (chosen places k.pred k.place && fits k a) ≡ false → reached places a n k ≡ false
 part_reached places a n k h = ap (λ (b : Bool). b && nat_lt k.place n) h
 
-pub kept_push : {S : Type 0} (places : Places) (n : ℕ) (a : Atom ℕ) (es : Store) (old new : HashMap Key (List ℕ) S) → IsIndexOf places es old → IsChanged (λ ms. ms ++ n ∷ []) places a (length a.args + 1) old new → IsIndexOf places (es ++ (n, a) ∷ []) new
+pub kept_push : {A : Type 0} (places : Places) (n : ℕ) (a : Atom ℕ) (es : Store) (old new : Buckets A) → IsIndexOf places es old → IsChanged (λ ms. ms ++ n ∷ []) places a (length a.args + 1) old new → IsIndexOf places (es ++ (n, a) ∷ []) new
 kept_push places n a es old new h t = λ k. t k ∙ ap (λ (b : Bool). if b then labels_in old k ++ n ∷ [] else labels_in old k) (all_reached places a k) ∙ subst (λ (z : List ℕ). (if chosen places k.pred k.place && fits k a then z ++ n ∷ [] else z) ≡ (if chosen places k.pred k.place then labels_of k (es ++ (n, a) ∷ []) else [])) (sym (h k)) (elim (chosen places k.pred k.place) as (λ b. (if b && fits k a then (if b then labels_of k es else []) ++ n ∷ [] else (if b then labels_of k es else [])) ≡ (if b then labels_of k (es ++ (n, a) ∷ []) else [])) [
   | true ↦ sym (labels_push k n a es)
   | false ↦ refl
 ])
 
-pub kept_drop : {S : Type 0} (places : Places) (l : ℕ) (a : Atom ℕ) (es : Store) (old new : HashMap Key (List ℕ) S) → Rising es → atom_at es l ≡ Some a → IsIndexOf places es old → IsChanged (drop_number l) places a (length a.args + 1) old new → IsIndexOf places (drop_label l es) new
+pub kept_drop : {A : Type 0} (places : Places) (l : ℕ) (a : Atom ℕ) (es : Store) (old new : Buckets A) → Rising es → atom_at es l ≡ Some a → IsIndexOf places es old → IsChanged (drop_number l) places a (length a.args + 1) old new → IsIndexOf places (drop_label l es) new
 kept_drop places l a es old new r at h t = λ k. t k ∙ ap (λ (b : Bool). if b then drop_number l (labels_in old k) else labels_in old k) (all_reached places a k) ∙ subst (λ (z : List ℕ). (if chosen places k.pred k.place && fits k a then drop_number l z else z) ≡ (if chosen places k.pred k.place then labels_of k (drop_label l es) else [])) (sym (h k)) (elim (chosen places k.pred k.place) as (λ b. (if b && fits k a then drop_number l (if b then labels_of k es else []) else (if b then labels_of k es else [])) ≡ (if b then labels_of k (drop_label l es) else [])) [
   | true ↦ sym (labels_drop k l a es r at)
   | false ↦ refl
 ])
 
-pub kept_below : {S : Type 0} (places : Places) (n : ℕ) (es : Store) (m : HashMap Key (List ℕ) S) → GivenBefore n es → IsIndexOf places es m → (k : Key) → AllByRecursion (λ l. l < n) (labels_in m k)
+pub kept_below : {A : Type 0} (places : Places) (n : ℕ) (es : Store) (m : Buckets A) → GivenBefore n es → IsIndexOf places es m → (k : Key) → AllByRecursion (λ l. l < n) (labels_in m k)
 kept_below places n es m g h k = subst (AllByRecursion (λ l. l < n)) (sym (h k)) (elim (chosen places k.pred k.place) as (λ b. AllByRecursion (λ l. l < n) (if b then labels_of k es else [])) [ true ↦ labels_below n k es g | false ↦ tt ])
 
 -- what was entered, in part or whole, and left again is as before
-pub kept_undone : {S : Type 0} (places : Places) (n l : ℕ) (a : Atom ℕ) (es : Store) (old mid new : HashMap Key (List ℕ) S) → GivenBefore l es → IsIndexOf places es old → IsChanged (λ ms. ms ++ l ∷ []) places a n old mid → IsChanged (drop_number l) places a (length a.args + 1) mid new → IsIndexOf places es new
+pub kept_undone : {A : Type 0} (places : Places) (n l : ℕ) (a : Atom ℕ) (es : Store) (old mid new : Buckets A) → GivenBefore l es → IsIndexOf places es old → IsChanged (λ ms. ms ++ l ∷ []) places a n old mid → IsChanged (drop_number l) places a (length a.args + 1) mid new → IsIndexOf places es new
 kept_undone places n l a es old mid new g h t s = λ k. s k ∙ ap (λ (b : Bool). if b then drop_number l (labels_in mid k) else labels_in mid k) (all_reached places a k) ∙ back k ∙ h k
   where
     below : (k : Key) → AllByRecursion (λ m. m < l) (labels_in old k)
@@ -191,9 +188,6 @@ least_meets es q k (Some l) r asks h =
 
 -- ---- a walk over the labels of a predicate, for one whose atom has a term at a place
 
-abbrev pub own_key : Pred → Key
-own_key pred = record { pred = pred; place = 0; value = values.Int (pos 0) }
-
 abbrev pub asked : Pred → Option (ℕ × Value ℕ) → ℕ → ℕ → Query
 asked pred key after below = record { pred = pred; key = key; after = after; below = below }
 
@@ -215,6 +209,30 @@ asks_at pred n v after below u = record {
   met = λ a f. (let g : Fitting (record { pred = pred; place = n; value = v }) a = fitting (record { pred = pred; place = n; value = v }) a f in ((sym g.name, sym g.arity), arg_value a n u ∙ g.value));
   fit = λ a h k. fits_from (record { pred = pred; place = n; value = v }) a (record { name = sym h.0; arity = sym h.1; value = sym (arg_value a n u) ∙ k });
 }
+
+-- what contracts see of atoms with a limit
+abbrev pub seen : GivenAtoms → ℕ → LabelledStore
+seen atoms limit = record { entries = atoms.entries; next = atoms.next; limit = limit }
+
+-- what a query asks of a store that its caller sees, under what it gave for a key
+pub same_asked : (s t : LabelledStore) (pred : Pred) (key given : Option (ℕ × Bor CodeValue)) (after below : ℕ) (found : Option ℕ) → s ≡ t → given ≡ key → IsLeastMatch s.entries (asked pred (key_of key) after below) found → IsLeastMatch t.entries (asked pred (key_of given) after below) found
+same_asked s t pred key given after below found e f h =
+    subst (λ (z : LabelledStore). IsLeastMatch z.entries (asked pred (key_of given) after below) found) e
+    (subst (λ (z : Option (ℕ × Bor CodeValue)). IsLeastMatch s.entries (asked pred (key_of z) after below) found) (sym f) h)
+
+module _ {A : Type 0} (s : LabelledStore) (places : Places) (b : Buckets A) (h : IsIndexed s places b) (pred : Pred) (after below : ℕ) (found : Option ℕ) where
+  -- a look-up of the predicate alone
+  pub found_own : (k : Key) → k ≡ own_key pred → IsLeastBetween (labels_in b k) after below found → IsLeastMatch s.entries (asked pred None after below) found
+  found_own k own least =
+      least_meets s.entries (asked pred None after below) (own_key pred) found h.labelled.rising (asks_own pred after below)
+      (subst (λ (ms : List ℕ). IsLeastBetween ms after below found) (ap (labels_in b) own ∙ h.index (own_key pred)) least)
+
+  -- a look-up of a value at a chosen place
+  pub found_at : (n : ℕ) (v : CodeValue) → 0 < n → chosen places pred n ≡ true → IsLeastBetween (labels_in b (record { pred = pred; place = n; value = v })) after below found → IsLeastMatch s.entries (asked pred (Some (n, ground v)) after below) found
+  found_at n v over there least =
+      let k : Key = record { pred = pred; place = n; value = v } in
+      least_meets s.entries (asked pred (Some (n, ground v)) after below) k found h.labelled.rising (asks_at pred n v after below over)
+      (subst (λ (ms : List ℕ). IsLeastBetween ms after below found) (h.index k ∙ ap (λ (z : Bool). if z then labels_of k s.entries else []) there) least)
 
 -- the walk has left what lies up to a label
 pub record IsWalked (es : Store) (q : Query) (from : ℕ) : Type 0 where
@@ -249,7 +267,7 @@ walk_end es pred n t after below from h none = λ m w. none m (is_in_under (own_
 
 -- ---- a copy
 
-pub kept_under : {S : Type 0} (places : Places) (n : ℕ) (es : Store) (m : HashMap Key (List ℕ) S) → AllByRecursion (λ e. e.0 < n) es → IsIndexOf places es m → (k : Key) → AllByRecursion (λ l. l < n) (labels_in m k)
+pub kept_under : {A : Type 0} (places : Places) (n : ℕ) (es : Store) (m : Buckets A) → AllByRecursion (λ e. e.0 < n) es → IsIndexOf places es m → (k : Key) → AllByRecursion (λ l. l < n) (labels_in m k)
 kept_under places n es m g h k = subst (AllByRecursion (λ l. l < n)) (sym (h k)) (elim (chosen places k.pred k.place) as (λ b. AllByRecursion (λ l. l < n) (if b then labels_of k es else [])) [ true ↦ labels_all (λ l. l < n) k es g | false ↦ tt ])
 
 pub before_all : (l : ℕ) (a : Atom ℕ) (es rest : Store) → Rising (es ++ (l, a) ∷ rest) → AllByRecursion (λ e. e.0 < l) es

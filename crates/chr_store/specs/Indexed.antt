@@ -1,16 +1,16 @@
 -- A labelled store with an index.
-use Rattle.std.specs.Prelude.{◌≡◌, ℕ, List, Some}
-use Rattle.std.specs.HashMap.{HashMap}
-use Rattle.chr_store.specs.declared.keys.Key.{Key}
+use Rattle.std.specs.Prelude.{◌≡◌, ℕ, Some}
+use Rattle.chr_store.specs.declared.buckets.Buckets.{Buckets}
 use Rattle.chr_store.specs.Labels.{LabelledStore, IsLabelled}
 use Rattle.chr_value.specs.Atoms.{Value, Atom}
 use Rattle.chr_value.specs.Stores.{Store, atom_at}
 use Rattle.chr_store.specs.Keys.{arg_at}
-use Rattle.chr_store.specs.Index.{Places, IsIndexOf}
+use Rattle.chr_store.specs.Index.{Places}
+use Rattle.chr_store.specs.KeyLabels.{IsIndexOf}
 
 -- the labels rise, were given, and keep the limit, and each key of a chosen place has exactly the labels of its atoms,
 -- once each and rising
-pub record IsIndexed {S : Type 0} (s : LabelledStore) (places : Places) (buckets : HashMap Key (List ℕ) S) : Type 0 where
+pub record IsIndexed {A : Type 0} (s : LabelledStore) (places : Places) (buckets : Buckets A) : Type 0 where
   pub labelled : IsLabelled s
   pub index : IsIndexOf places s.entries buckets
 

@@ -5,6 +5,8 @@ pub mod Faults
 pub mod Buckets
 pub mod Kept
 pub mod Index
+pub mod Rows
+pub mod KeyLabels
 pub mod Marks
 pub mod KeyLaws
 pub mod Indexed

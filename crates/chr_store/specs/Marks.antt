@@ -1,5 +1,5 @@
 -- A table of marks, which tells the places of predicates.
-use Rattle.std.specs.Prelude.{◌≡◌, ℕ, zero, suc, ◌+◌, ◌*◌, ◌<◌, ◌&&◌, Bool, false, List, [], ◌∷◌, nat_eq}
+use Rattle.std.specs.Prelude.{◌≡◌, ℕ, zero, suc, ◌+◌, ◌*◌, ◌<◌, ◌&&◌, ◌||◌, Bool, false, List, [], ◌∷◌, nat_eq}
 use Rattle.std.specs.List.{list_any}
 use Rattle.chr_value.specs.declared.atom.Pred.{Pred}
 use Rattle.chr_store.specs.Index.{Places, is_pred}
@@ -17,9 +17,14 @@ mark_at [] i = false
 mark_at (m ∷ ms) zero = m
 mark_at (m ∷ ms) (suc i) = mark_at ms i
 
--- the place of the predicate is one of these
+-- marks are as before, but for that of the place, which is set
+abbrev pub IsMarked : Pred → ℕ → List Bool → List Bool → Type 0
+IsMarked pred place old new = (p : Pred) (n i : ℕ) → IsMarkOf p n i → mark_at new i ≡ ((is_pred pred p && nat_eq place n) || mark_at old i)
+
+-- the place of the predicate is one of these; the place 0 stands for each of the predicate's
 abbrev pub listed : Places → Pred → ℕ → Bool
-listed places pred place = list_any (λ p. is_pred p.0 pred && nat_eq p.1 place) places
+listed places pred zero = list_any (λ p. is_pred p.0 pred) places
+listed places pred (suc i) = list_any (λ p. is_pred p.0 pred && nat_eq p.1 (suc i)) places
 
 -- marks tell which places are listed
 abbrev pub AreMarks : List Bool → Places → Type 0

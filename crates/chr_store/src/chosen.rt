@@ -1,11 +1,15 @@
 //! The places of predicates that an index is kept for.
-ghost use Rattle.std.specs.Prelude.{◌≡◌, ◌<◌, ◌||◌, ℕ, [], IfOk, OnOk, MatchOption, nat_eq};
+ghost use Rattle.std.specs.Prelude.{◌≡◌, ◌<◌, ◌||◌, ℕ, false, [], IfOk, OnOk, MatchOption, nat_eq};
 ghost use Rattle.chr_store.specs.Index.{chosen};
-ghost use Rattle.chr_store.specs.Marks.{IsMarkOf, mark_at};
+ghost use Rattle.chr_store.specs.Marks.{IsMarkOf, IsMarked, mark_at};
 
+use crate::rows::row_of;
 use chr_value::atom::Pred;
 use std::alloc::{AllocError, Allocator};
 use std::marker::Model;
+
+/// How many marks a predicate has: one for each place, and at 0 one that tells whether it has any.
+const PLACES: usize = 9;
 
 /// Places of predicates. A table of marks tells in one step whether a place is among them, where the predicate's name
 /// has a low number. Contracts see the list of the places.
@@ -45,11 +49,24 @@ fn is_chosen(places: &[(Pred, u8)], pred: Pred, place: u8) -> bool
 fn mark_of(pred: Pred, place: u8) -> Option<usize>
     ensures { MatchOption result ((i : ℕ) → IsMarkOf pred place i → ⊥) (λ i. IsMarkOf pred place i) }
 {
-    let number = pred.name.number as usize;
-    if number >= 1024 || pred.arity > 8 || place > 8 {
+    let Some(row) = row_of(pred) else {
+        return None;
+    };
+    let place = place as usize;
+    if place >= PLACES {
         return None;
     }
-    Some(number * 81 + pred.arity as usize * 9 + place as usize)
+    Some(row * PLACES + place)
+}
+
+/// The mark at an index, past the end none.
+fn mark_at(marks: &[bool], index: usize) -> bool
+    ensures { result ≡ mark_at marks.now index }
+{
+    match marks.get(index) {
+        None => false,
+        Some(mark) => *mark,
+    }
 }
 
 /// Sets the mark at an index, up to which marks are made. E01 where that could not be.
@@ -62,6 +79,20 @@ fn set_mark<A: Allocator + Copy>(marks: &mut Vec<bool, A>, index: usize) -> Resu
     }
     marks[index] = true;
     Ok(())
+}
+
+/// Sets the mark of a place of a predicate, where the table has one for it. E01 where it could not be made.
+fn mark_place<A: Allocator + Copy>(
+    marks: &mut Vec<bool, A>,
+    pred: Pred,
+    place: u8,
+) -> Result<(), AllocError>
+    ensures { OnOk result (IsMarked pred place marks.old.items marks.new.items) }
+{
+    match mark_of(pred, place) {
+        None => Ok(()),
+        Some(index) => set_mark(marks, index),
+    }
 }
 
 impl<A: Allocator + Copy> Chosen<A> {
@@ -81,9 +112,8 @@ impl<A: Allocator + Copy> Chosen<A> {
     {
         let mut marks = Vec::new(alloc);
         for (pred, place) in places {
-            if let Some(index) = mark_of(*pred, *place) {
-                set_mark(&mut marks, index)?;
-            }
+            mark_place(&mut marks, *pred, 0)?;
+            mark_place(&mut marks, *pred, *place)?;
         }
         Ok(Chosen {
             places: Vec::from_slice(alloc, places)?,
@@ -98,12 +128,19 @@ impl<A: Allocator + Copy> Chosen<A> {
         if place == 0 {
             return true;
         }
-        let Some(index) = mark_of(pred, place) else {
-            return is_chosen(&self.places, pred, place);
-        };
-        match self.marks.get(index) {
-            None => false,
-            Some(mark) => *mark,
+        match mark_of(pred, place) {
+            None => is_chosen(&self.places, pred, place),
+            Some(index) => mark_at(&self.marks, index),
+        }
+    }
+
+    /// Whether a place of a predicate may be one of these. Where the answer is false, none is, beside the place 0.
+    pub fn may_have(&self, pred: Pred) -> bool
+        ensures { result ≡ false → (place : ℕ) → 0 < place → chosen self.now pred place ≡ false }
+    {
+        match mark_of(pred, 0) {
+            None => true,
+            Some(index) => mark_at(&self.marks, index),
         }
     }
 

@@ -1,16 +1,10 @@
-//! The keys of atoms, and the bucket of each.
-ghost use Rattle.std.specs.Prelude.{◌≡◌, ℕ, ◌+◌, ◌<◌, ◌≤◌, ◌++◌, ◌∷◌, ◌↔◌, [], IfOk, OnOk, OnErr, IsTrue, length, if◌then◌else◌};
-ghost use Rattle.std.specs.List.{AllByRecursion};
-ghost use Rattle.chr_store.specs.declared.keys.Key.{Key};
-ghost use Rattle.chr_store.specs.Buckets.{drop_number, IsLeastBetween};
-ghost use Rattle.chr_store.specs.Index.{IsKeyAt, labels_in, same_key, IsChanged};
+//! The keys of atoms.
+ghost use Rattle.std.specs.Prelude.{◌≡◌, ◌<◌, ◌≤◌, length};
+ghost use Rattle.chr_store.specs.Index.{IsKeyAt, own_key};
 
-use crate::chosen::Chosen;
-use crate::labels::Labels;
 use chr_value::atom::{Atom, Pred, Value};
-use std::alloc::{AllocError, Allocator};
-use std::collections::HashMap;
-use std::hash::{BuildHasherDefault, FoldHasher, Hash, Hasher};
+use std::alloc::Allocator;
+use std::hash::{Hash, Hasher};
 
 /// What atoms are found by: a predicate, and a value at a place. At the place 0 the value is the number 0.
 #[derive(Clone, Copy, Drop)]
@@ -64,117 +58,27 @@ impl Hash for Key {
     }
 }
 
-pub type Buckets<A> = HashMap<Key, Labels<A>, BuildHasherDefault<FoldHasher>, A>;
+/// The key of a predicate alone.
+#[inline(always)]
+pub fn own_key(pred: Pred) -> Key
+    ensures { result ≡ own_key pred }
+{
+    Key {
+        pred,
+        place: 0,
+        value: Value::Int(0),
+    }
+}
 
 /// The key of an atom at a place.
 pub fn key_at<A: Allocator + Copy>(atom: &Atom<A>, place: u8) -> Key
-    requires { place ≤ length atom.now.args }
+    requires above { 0 < place }
+    requires within { place ≤ length atom.now.args }
     ensures { IsKeyAt atom.now place result }
 {
-    if place == 0 {
-        return Key {
-            pred: atom.pred(),
-            place,
-            value: Value::Int(0),
-        };
-    }
     Key {
         pred: atom.pred(),
         place,
         value: atom.args()[place as usize - 1],
-    }
-}
-
-/// Puts a label after those of a key. E01 where the bucket or the map could not grow: the labels are as before.
-pub fn put<A: Allocator + Copy>(
-    buckets: &mut Buckets<A>,
-    alloc: A,
-    key: Key,
-    label: u64,
-) -> Result<(), AllocError>
-    requires { AllByRecursion (λ m. m < label) (labels_in buckets.old key) }
-    ensures ok { OnOk result ((k : Key) → labels_in buckets.new k ≡ (if same_key key k then labels_in buckets.old key ++ label ∷ [] else labels_in buckets.old k)) }
-    ensures unchanged { OnErr result ((k : Key) → labels_in buckets.new k ≡ labels_in buckets.old k) }
-{
-    if let Some(labels) = buckets.get_mut(&key) {
-        return labels.push(alloc, label);
-    }
-    let mut labels = Labels::new();
-    labels.push(alloc, label)?;
-    match buckets.insert(key, labels) {
-        Ok(_) => Ok(()),
-        Err(_) => Err(AllocError),
-    }
-}
-
-/// Takes a label from those of a key.
-pub fn take<A: Allocator + Copy>(buckets: &mut Buckets<A>, key: Key, label: u64)
-    ensures { (k : Key) → labels_in buckets.new k ≡ (if same_key key k then drop_number label (labels_in buckets.old key) else labels_in buckets.old k) }
-{
-    let bare = match buckets.get_mut(&key) {
-        None => false,
-        Some(labels) => {
-            labels.remove(label);
-            labels.is_bare()
-        }
-    };
-    if bare {
-        let _ = buckets.remove(&key);
-    }
-}
-
-/// Puts a label after those of each key of an atom at a chosen place. Where that could not grow, the keys of the places
-/// below some place have it.
-pub fn enter<A: Allocator + Copy>(
-    buckets: &mut Buckets<A>,
-    alloc: A,
-    places: &Chosen<A>,
-    atom: &Atom<A>,
-    label: u64,
-) -> Result<(), AllocError>
-    requires { (k : Key) → AllByRecursion (λ m. m < label) (labels_in buckets.old k) }
-    ensures ok { OnOk result (IsChanged (λ ms. ms ++ label ∷ []) places.now atom.now (length atom.now.args + 1) buckets.old buckets.new) }
-    ensures part { OnErr result ((n : ℕ) × IsChanged (λ ms. ms ++ label ∷ []) places.now atom.now n buckets.old buckets.new) }
-{
-    let pred = atom.pred();
-    let end = atom.args().len() as u8 + 1;
-    for place in 0..end {
-        if places.has(pred, place) {
-            put(buckets, alloc, key_at(atom, place), label)?;
-        }
-    }
-    Ok(())
-}
-
-/// Takes a label from those of each key of an atom at a chosen place. Takes no memory.
-pub fn leave<A: Allocator + Copy>(
-    buckets: &mut Buckets<A>,
-    places: &Chosen<A>,
-    atom: &Atom<A>,
-    label: u64,
-)
-    ensures { IsChanged (drop_number label) places.now atom.now (length atom.now.args + 1) buckets.old buckets.new }
-{
-    let pred = atom.pred();
-    let end = atom.args().len() as u8 + 1;
-    for place in 0..end {
-        if places.has(pred, place) {
-            take(buckets, key_at(atom, place), label);
-        }
-    }
-}
-
-/// The least label of a key over `after` and under `below`.
-pub fn next_of<A: Allocator + Copy>(
-    buckets: &Buckets<A>,
-    key: Key,
-    after: u64,
-    below: u64,
-) -> Option<u64>
-    ensures { IsLeastBetween (labels_in buckets.now key) after below result }
-{
-    match buckets.get(&key) {
-        None => None,
-        Some(labels) => labels.next(after, below),
     }
 }

@@ -105,6 +105,7 @@ impl<A: Allocator + Copy> Labels<A> {
     }
 
     /// The least label over `after` and under `below`, and its place, which as `near` spares the next call a search.
+    #[inline(always)]
     pub fn next_near(&self, near: usize, after: u64, below: u64) -> Option<(usize, u64)>
         ensures { IsLeastBetween self.now after below (option_map (λ p. p.1) result) }
     {

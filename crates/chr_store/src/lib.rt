@@ -6,9 +6,10 @@
 //! A store keeps each atom in a slot of its label, so looking one up takes no search. The atom's memory goes when it is
 //! removed, and 8 bytes for its label stay.
 //! It also keeps the labels of each predicate in order, and, for each place that
-//! [`indexed`](store::Store::indexed) is given, those of each predicate and value there. So `next_at` takes a hash and a
-//! binary search; with a key at another place it goes through the labels of the predicate.
-//! [`matches`](store::Store::matches) takes the hash once, and going on from the label found last takes no search.
+//! [`indexed`](store::Store::indexed) is given, those of each predicate and value there. So `next_at` takes a hash, or
+//! for a predicate alone a look-up in a table, and a binary search; with a key at another place it goes through the labels
+//! of the predicate. [`matches`](store::Store::matches) looks the key up once, and going on from the label found last
+//! takes no search.
 //! [`indexed`](store::Store::indexed), [`insert`](store::Store::insert), [`insert_copy`](store::Store::insert_copy) and
 //! [`copy`](store::Store::copy) take memory, no other call does.
 //!
@@ -17,7 +18,9 @@
 
 pub mod atoms;
 pub mod bucket;
+pub mod buckets;
 pub mod chosen;
 pub mod keys;
 pub mod labels;
+pub mod rows;
 pub mod store;

@@ -15,14 +15,14 @@ ghost use Rattle.chr_store.specs.declared.store.StoreFault.TheVariants.{LabelsSp
 ghost use Rattle.chr_store.specs.declared.store.CopyFault.TheVariants as copying;
 
 use crate::atoms::{Atoms, Constraints};
+use crate::buckets::{Buckets, enter, leave, next_of};
 use crate::chosen::Chosen;
-use crate::keys::{Buckets, Key, enter, leave, next_of};
+use crate::keys::{Key, own_key};
 use crate::labels::Labels;
 use chr_value::atom::{Atom, Pred, Value};
 use chr_value::label::GREATEST_LABEL;
 pub use chr_value::label::Label;
 use std::alloc::{AllocError, Allocator};
-use std::collections::HashMap;
 use std::marker::Model;
 
 /// The greatest limit that a store may have for its labels.
@@ -98,7 +98,7 @@ impl<A: Allocator + Copy> Store<A> {
     {
         Store {
             atoms: Atoms::new(alloc),
-            buckets: HashMap::new(alloc),
+            buckets: Buckets::new(alloc),
             places: Chosen::new(alloc),
             alloc,
             limit,
@@ -113,7 +113,7 @@ impl<A: Allocator + Copy> Store<A> {
     {
         Ok(Store {
             atoms: Atoms::new(alloc),
-            buckets: HashMap::new(alloc),
+            buckets: Buckets::new(alloc),
             places: Chosen::of(alloc, places)?,
             alloc,
             limit,
@@ -187,11 +187,11 @@ impl<A: Allocator + Copy> Store<A> {
         ensures value { result ≡ atom_at self.old.entries label }
         ensures rest { self.new ≡ record { entries = drop_label label self.old.entries; next = self.old.next; limit = self.old.limit } }
     {
-        let Some(atom) = self.atoms.remove(label) else {
+        let Some(atom) = self.atoms.get(label) else {
             return None;
         };
-        leave(&mut self.buckets, &self.places, &atom, label);
-        Some(atom)
+        leave(&mut self.buckets, &self.places, atom, label);
+        self.atoms.remove(label)
     }
 
     /// The least label over `after` and under `below` whose atom has the predicate and, where `key` is a place and a
@@ -206,11 +206,7 @@ impl<A: Allocator + Copy> Store<A> {
         ensures least { IsLeastMatch self.now.entries (record { pred = pred; key = key_of key.entry; after = after; below = below }) result }
         ensures labelled { IsLabelled self.now }
     {
-        let own = Key {
-            pred,
-            place: 0,
-            value: Value::Int(0),
-        };
+        let own = own_key(pred);
         let Some((place, value)) = key else {
             return next_of(&self.buckets, own, after, below);
         };
@@ -233,19 +229,14 @@ impl<A: Allocator + Copy> Store<A> {
     }
 
     /// The labels whose atoms have the predicate and, where `key` is a place and a value, that value at that place: many
-    /// calls of [`Matches::next_at`] take one hash. None only where `key` has a place that has no index.
+    /// calls of [`Matches::next_at`] take one look-up. None only where `key` has a place that has no index.
     pub fn matches(&self, pred: Pred, key: Option<(u8, &Value)>) -> Option<Matches<'_, A>>
         ensures least { IfSome result (λ labels. (after below : ℕ) (found : Option ℕ) → IsLeastBetween labels after below found → IsLeastMatch self.now.entries (record { pred = pred; key = key_of key.entry; after = after; below = below }) found) }
         ensures own { key.entry ≡ None → IsSome result }
     {
-        let own = Key {
-            pred,
-            place: 0,
-            value: Value::Int(0),
-        };
         let Some((place, value)) = key else {
             return Some(Matches {
-                labels: self.buckets.get(&own),
+                labels: self.buckets.get(&own_key(pred)),
                 near: 0,
             });
         };
@@ -277,7 +268,7 @@ impl<A: Allocator + Copy> Store<A> {
     pub fn copy(&self, alloc: A) -> Result<Store<A>, AllocError>
         ensures { IfOk result (λ made. made ≡ self.now) }
     {
-        let mut buckets = HashMap::new(alloc);
+        let mut buckets = Buckets::new(alloc);
         for (label, atom) in self.atoms.iter() {
             enter(&mut buckets, alloc, &self.places, atom, label)?;
         }
@@ -309,6 +300,7 @@ impl<'s, A: Allocator> Model for Matches<'s, A> {
 
 impl<'s, A: Allocator + Copy> Matches<'s, A> {
     /// The least label over `after` and under `below`. It takes no search where `after` is the one found last.
+    #[inline(always)]
     pub fn next_at(&mut self, after: Label, below: Label) -> Option<Label>
         ensures least { IsLeastBetween self.old after below result }
         ensures same { self.new ≡ self.old }

@@ -1,4 +1,4 @@
-use Rattle.std.proofs.Common.{◌||◌, Bool, true, nat_eq, ap, ◌∙◌, refl, arith}
+use Rattle.std.proofs.Common.{◌||◌, Bool, nat_eq, ap, ◌∙◌, refl, arith}
 use Rattle.chr_store.proofs.Marks.{IsRoomy, mark_set, roomy_filled}
 use Rattle.chr_store.proofs.chosen.set_mark.Goals as goal
 use Rattle.chr_store.proofs.chosen.set_mark.Goals.{then-len-index+in_ok-resize, else-len-index}

@@ -3,9 +3,8 @@ use Rattle.std.proofs.lemmas.List.{take_more}
 use Rattle.chr_value.specs.declared.atom.Pred.{Pred}
 use Rattle.chr_store.specs.Index.{Places}
 use Rattle.chr_store.specs.Marks.{AreMarks}
-use Rattle.chr_store.proofs.Marks.{marks_none, marks_more, marks_same, take_whole}
+use Rattle.chr_store.proofs.Marks.{marks_none, marks_more, take_whole}
 use Rattle.chr_store.proofs.chosen.Chosen.of.Goals as goal
-use Rattle.chr_store.proofs.chosen.Chosen.of.Goals.{in-Some+in_ok-set_mark, in_default}
 
 pub loop-pred-init : goal.loop-pred-init
 loop-pred-init g c = subst (λ (z : List Bool). AreMarks z []) (sym c.new-marks.ensures.items) marks_none
@@ -16,10 +15,7 @@ loop-pred-preserved g c =
     let k : ℕ = c.loop-pred.pred-index in
     let d : Pred × ℕ = (record { name = record { number = 0 }; arity = 0 }, 0) in
     let more = take_more ps k d c.loop-pred-test.true in
-    elim c.match-mark_of.branch [
-      | in-Some+in_ok-set_mark w ↦ rw w.marks-is (subst (AreMarks w.set_mark.new.marks.items) (sym more) (marks_more (take k ps) (get_or ps k d) w.in-Some.index c.loop-pred.marks.items w.set_mark.new.marks.items w.in-Some.ensures c.loop-pred.invariant w.in_ok-set_mark.ensures))
-      | in_default w ↦ rw w.marks-is (subst (AreMarks c.loop-pred.marks.items) (sym more) (marks_same (take k ps) (get_or ps k d) c.loop-pred.marks.items w.in_default.ensures c.loop-pred.invariant))
-    ]
+    subst (AreMarks c.mark_place-in-loop-pred.new.marks.items) (sym more) (marks_more (take k ps) (get_or ps k d) c.loop-pred.marks.items c.mark_place.new.marks.items c.mark_place-in-loop-pred.new.marks.items c.loop-pred.invariant c.in_ok-mark_place.ensures c.in_ok-mark_place-2.ensures)
 
 pub invariant_of-result : goal.invariant_of-result
 invariant_of-result g c = subst (AreMarks c.loop-pred.marks.items) (take_whole c.args.places.now c.loop-pred.pred-index (omega arith) ∙ sym c.in_ok-from_slice.ensures.items) c.loop-pred.invariant

@@ -1,18 +1,19 @@
-use Rattle.std.proofs.Common.{◌≡◌, ℕ, ◌+◌, ◌++◌, ◌∷◌, [], map, subst, sym, ap, ◌∙◌, append_assoc, length}
+use Rattle.std.proofs.Common.{◌≡◌, ℕ, ◌++◌, ◌∷◌, [], map, subst, sym, ap, ◌∙◌, append_assoc}
 use Rattle.std.proofs.lemmas.List.{map_push}
 use Rattle.std.proofs.lemmas.Map.Iter.{rest_more, rest_all}
 use Rattle.chr_value.specs.Stores.{Store}
 use Rattle.chr_store.specs.Labels.{GivenAtoms, Rising}
 use Rattle.chr_store.specs.Table.{shown}
-use Rattle.chr_store.specs.Index.{Places, IsChanged, IsIndexOf}
+use Rattle.chr_store.specs.Index.{Places}
+use Rattle.chr_store.specs.KeyLabels.{IsIndexOf}
 use Rattle.chr_store.specs.Indexed.{IsIndexed}
-use Rattle.chr_store.proofs.Stored.{kept_none, kept_under, kept_push, before_all, append_none}
+use Rattle.chr_store.proofs.Stored.{seen, kept_none, kept_under, kept_push, before_all, append_none}
 use Rattle.chr_store.proofs.store.Store.copy.Goals as goal
 
 pub loop-label-init : goal.loop-label-init
 loop-label-init g c = record {
   whole = c.into_iter-label-iterator.ensures.into_iter_gives ∙ c.iter-label-items.ensures.rest;
-  index = kept_none c.self.inside.places c.new-buckets.result c.new-buckets.ensures.empty;
+  index = kept_none c.self.inside.places c.new-buckets.result c.new-buckets.ensures;
 }
 
 pub loop-label-preserved : goal.loop-label-preserved
@@ -50,3 +51,7 @@ invariant_of-result g c =
       labelled = c.self.invariant.labelled;
       index = subst (λ (z : Places). IsIndexOf z i.atoms.entries c.loop-label.buckets) (sym c.in_ok-copy-2.ensures) (subst (λ (z : Store). IsIndexOf i.places z c.loop-label.buckets) whole c.loop-label.invariant.index);
     })
+
+pub returns : goal.returns
+returns g c =
+    ap (λ (z : GivenAtoms). seen z c.self.inside.limit) c.in_ok-copy.ensures ∙ c.self.view_is

@@ -1,6 +1,6 @@
 use Rattle.std.proofs.Common.{◌≡◌, ◌++◌, map}
 use Rattle.chr_store.specs.Table.{shown}
-use Rattle.chr_store.specs.Index.{IsIndexOf}
+use Rattle.chr_store.specs.KeyLabels.{IsIndexOf}
 use Rattle.chr_store.proofs.store.Store.copy.Given as goal
 
 -- the atoms so far are in the index, and come before those that are left

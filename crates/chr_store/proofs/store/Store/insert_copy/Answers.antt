@@ -1,8 +1,7 @@
-use Rattle.std.proofs.Common.{◌≡◌, ℕ, ◌≤◌, ◌+◌, ◌++◌, ◌∷◌, [], subst, sym, arith, length}
+use Rattle.std.proofs.Common.{ℕ, ◌≤◌, ◌+◌, ◌++◌, ◌∷◌, [], subst, sym, arith, length}
 use Rattle.chr_store.specs.Labels.{GivenAtoms, GivenBefore}
-use Rattle.chr_store.specs.Buckets.{drop_number}
 use Rattle.chr_store.specs.Indexed.{IsIndexed}
-use Rattle.chr_store.specs.Index.{IsChanged}
+use Rattle.chr_store.specs.KeyLabels.{IsChanged}
 use Rattle.chr_store.proofs.Entries.{labelled_push}
 use Rattle.chr_store.proofs.Stored.{kept_below, kept_push, kept_undone}
 use Rattle.chr_store.proofs.store.Store.insert_copy.Goals as goal

@@ -1,25 +1,25 @@
-use Rattle.std.proofs.Common.{◌≡◌, subst, sym, ap, ◌∙◌, Some, None, length, ◌+◌}
-use Rattle.chr_value.specs.Stores.{atom_at}
-use Rattle.chr_store.specs.Labels.{GivenAtoms}
-use Rattle.chr_store.specs.Buckets.{drop_number}
+use Rattle.std.proofs.Common.{◌≡◌, subst, sym, ap, ◌∙◌, Some, None}
+use Rattle.std.specs.Option.{option_copied}
+use Rattle.chr_value.specs.Stores.{Store, atom_at, drop_label}
+use Rattle.chr_store.specs.Labels.{GivenAtoms, LabelledStore}
 use Rattle.chr_store.specs.Indexed.{IsIndexed}
-use Rattle.chr_store.specs.Index.{IsChanged}
 use Rattle.chr_store.proofs.Entries.{labelled_drop, drop_none}
 use Rattle.chr_store.proofs.Table.{given}
-use Rattle.chr_store.proofs.Stored.{kept_drop}
+use Rattle.chr_store.proofs.Stored.{seen, kept_drop}
 use Rattle.chr_store.proofs.store.Store.remove.Goals as goal
+
+pub returns-in_default-clause-rest : goal.returns-in_default-clause-rest
+returns-in_default-clause-rest g c =
+    let i = c.self.inside in
+    let es : Store = i.atoms.entries in
+    let none : atom_at es c.args.label ≡ None = sym c.get.ensures ∙ ap option_copied c.in_default.is in
+    subst (λ (s : LabelledStore). s ≡ record { entries = drop_label c.args.label s.entries; next = s.next; limit = s.limit }) c.self.view_is
+    (sym (ap (λ (z : Store). seen (given z i.atoms.next) i.limit) (drop_none c.args.label es none)))
 
 pub invariant_of-self : goal.invariant_of-self
 invariant_of-self g c =
     let i = c.self.inside in
-    let none : atom_at i.atoms.entries c.args.label ≡ None = sym c.remove.ensures.value ∙ c.in_default.is in
-    let same = c.remove.ensures.rest ∙ ap (λ es. given es i.atoms.next) (drop_none c.args.label i.atoms.entries none) in
-    subst (λ (z : GivenAtoms). IsIndexed (record { entries = z.entries; next = z.next; limit = i.limit }) i.places i.buckets) (sym same) c.self.invariant
-
-pub invariant_of-self-2 : goal.invariant_of-self-2
-invariant_of-self-2 g c =
-    let i = c.self.inside in
     let es = i.atoms.entries in
-    let there : atom_at es c.args.label ≡ Some c.in-Some.atom = sym c.remove.ensures.value ∙ c.in-Some.is in
-    subst (λ (z : GivenAtoms). IsIndexed (record { entries = z.entries; next = z.next; limit = i.limit }) i.places c.leave.new.buckets) (sym c.remove.ensures.rest)
-    (record { labelled = labelled_drop c.args.label i.atoms.next i.limit es c.self.invariant.labelled; index = kept_drop i.places c.args.label c.in-Some.atom es i.buckets c.leave.new.buckets c.self.invariant.labelled.rising there c.self.invariant.index c.leave.ensures })
+    let there : atom_at es c.args.label ≡ Some c.in-Some.atom.now = sym c.in-Some.ensures in
+    subst (λ (z : GivenAtoms). IsIndexed (seen z i.limit) i.places c.leave.new.buckets) (sym c.remove.ensures.rest)
+    (record { labelled = labelled_drop c.args.label i.atoms.next i.limit es c.self.invariant.labelled; index = kept_drop i.places c.args.label c.in-Some.atom.now es i.buckets c.leave.new.buckets c.self.invariant.labelled.rising there c.self.invariant.index c.leave.ensures })

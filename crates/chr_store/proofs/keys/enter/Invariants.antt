@@ -1,6 +1,0 @@
-use Rattle.std.proofs.Common.{◌++◌, ◌∷◌, []}
-use Rattle.chr_store.specs.Index.{IsChanged}
-use Rattle.chr_store.proofs.keys.enter.Given as goal
-
-abbrev pub invariant-loop-place : goal.invariant-loop-place
-invariant-loop-place g l = IsChanged (λ ms. ms ++ l.label ∷ []) l.places l.atom l.place l.initial.buckets l.buckets

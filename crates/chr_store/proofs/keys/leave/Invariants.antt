@@ -1,6 +1,0 @@
-use Rattle.chr_store.specs.Buckets.{drop_number}
-use Rattle.chr_store.specs.Index.{IsChanged}
-use Rattle.chr_store.proofs.keys.leave.Given as goal
-
-abbrev pub invariant-loop-place : goal.invariant-loop-place
-invariant-loop-place g l = IsChanged (drop_number l.label) l.places l.atom l.place l.initial.buckets l.buckets
