@@ -84,8 +84,8 @@ forgets true place c x = refl
 forgets false place c x = refl
 
 -- what is whole fires where it is the candidate
-fires_asked : {Z : Type 0} (b : BookState) (seat t l : ℕ) (c : Option Trial) (w : Whole Z) (binding : List (Option (Value ℕ))) (f : Fired) (log : List (Entry ℕ)) (tickets : List Ticket) → (ticket_at b.tickets t).goal ≡ Numbered l → FiresWhole seat t w binding f b.tickets b.log tickets log → FiresWhole seat t w binding f (with_candidate_of b t c).tickets b.log tickets log
-fires_asked b seat t l c w binding f log tickets at h = record {
+fires_asked : (b : BookState) (seat t l : ℕ) (c : Option Trial) (rule : Simpagation ℕ) (w : Whole) (binding : List (Option (Value ℕ))) (f : Fired) (log : List (Entry ℕ)) (tickets : List Ticket) → (ticket_at b.tickets t).goal ≡ Numbered l → FiresWhole seat t rule w binding f b.tickets b.log tickets log → FiresWhole seat t rule w binding f (with_candidate_of b t c).tickets b.log tickets log
+fires_asked b seat t l c rule w binding f log tickets at h = record {
   first = h.first ∙ sym (length-set b.tickets t y);
   lives = h.lives;
   logged = h.logged;
@@ -104,15 +104,15 @@ fires_asked b seat t l c w binding f log tickets at h = record {
     same : slice_set b.tickets t (gone x) ≡ slice_set (slice_set b.tickets t y) t (gone (ticket_at (slice_set b.tickets t y) t))
     same = sym (set-set b.tickets t y (gone x)) ∙ ap (slice_set (slice_set b.tickets t y) t) (forgets f.active_lives w.past.place c x ∙ ap gone (sym (there b t l c at)))
 
-fires_last : {Z : Type 0} (b : BookState) (seat t l : ℕ) (place : List ℕ) (w : Whole Z) (binding : List (Option (Value ℕ))) (f : Fired) (log : List (Entry ℕ)) (tickets : List Ticket) → IsKept b → HoldsLive b seat t l → (ticket_at b.tickets t).position ≡ place → IsWholeNext (space_of b l) place w binding → FiresWhole seat t w binding f b.tickets b.log tickets log
+fires_last : (b : BookState) (seat t l : ℕ) (place : List ℕ) (rule : Simpagation ℕ) (w : Whole) (binding : List (Option (Value ℕ))) (f : Fired) (log : List (Entry ℕ)) (tickets : List Ticket) → IsKept b → HoldsLive b seat t l → (ticket_at b.tickets t).position ≡ place → IsWholeNext (space_of b l) place rule w binding → FiresWhole seat t rule w binding f b.tickets b.log tickets log
     → FiresTrial seat t b (with_fired b log w.removed.items tickets)
-fires_last b seat t l place w binding f log tickets k h is next fw = record {
+fires_last b seat t l place rule w binding f log tickets k h is next fw = record {
   judged = j;
   right = next.under.whole;
   asked = asked;
   turns = turns;
   fired = f;
-  fires = (holds, live, fires_there asked seat t l j w binding f log tickets (turns_keep b asked seat t (Ok (Next j.trial)) turns k) holds live held.goal whole (fires_asked b seat t l (Some j.trial) w binding f log tickets h.holds.goal fw));
+  fires = (holds, live, fires_there asked seat t l j rule w binding f log tickets (turns_keep b asked seat t (Ok (Next j.trial)) turns k) holds live held.goal whole (fires_asked b seat t l (Some j.trial) rule w binding f log tickets h.holds.goal fw));
 }
   where
     j : Judgement
@@ -133,22 +133,22 @@ fires_last b seat t l place w binding f log tickets k h is next fw = record {
     live : AreLive asked next.trial
     live = are_live asked next.trial.placed next.is.live
 
-    whole : IsWholeOf next.trial l w binding
-    whole = record { under = next.under; rule = next.rule_is; number = next.number_is; kept = next.kept_are; removed = next.removed_are; past = next.past_is }
+    whole : IsWholeOf next.trial l rule w binding
+    whole = record { under = next.under; rule_is = next.rule_is; number = next.number_is; kept = next.kept_are; removed = next.removed_are; past = next.past_is }
 
-pub fired_rounds : {Z : Type 0} (b : BookState) (seat t k l : ℕ) (place : List ℕ) (w : Whole Z) (binding : List (Option (Value ℕ))) (f : Fired) (now tickets : List Ticket) (log : List (Entry ℕ)) → IsKept b → IsPast b seat t k l place now → IsWholeNext (space_of b l) place w binding → FiresWhole seat t w binding f now b.log tickets log
+pub fired_rounds : (b : BookState) (seat t k l : ℕ) (place : List ℕ) (rule : Simpagation ℕ) (w : Whole) (binding : List (Option (Value ℕ))) (f : Fired) (now tickets : List Ticket) (log : List (Entry ℕ)) → IsKept b → IsPast b seat t k l place now → IsWholeNext (space_of b l) place rule w binding → FiresWhole seat t rule w binding f now b.log tickets log
     → MakesRounds seat t (record { passed = k; last = lasts.Fired }) b (with_fired b log w.removed.items tickets)
-fired_rounds b seat t k l place w binding f now tickets log kept past next fw =
+fired_rounds b seat t k l place rule w binding f now tickets log kept past next fw =
     let middle : BookState = with_tickets b now in
-    record { middle = middle; passes = past.passes; last = fires_last middle seat t l place w binding f log tickets (passes_keep k b middle seat t past.passes kept) past.live past.at next fw }
+    record { middle = middle; passes = past.passes; last = fires_last middle seat t l place rule w binding f log tickets (passes_keep k b middle seat t past.passes kept) past.live past.at next fw }
 
 -- the same of the parts of a book
-pub fired_book : {Z : Type 0} (rules : List (Simpagation ℕ)) (plans : PlanList) (names : List (List ℕ)) (log entries : List (Entry ℕ)) (st left : LabelledStore) (ts : List Ticket) (seat t k l : ℕ) (place : List ℕ) (w : Whole Z) (binding : List (Option (Value ℕ))) (f : Fired) (now tickets : List Ticket)
-    → IsKept (book_of rules plans names log st ts) → IsPast (book_of rules plans names log st ts) seat t k l place now → IsWholeNext (space_of (book_of rules plans names log st ts) l) place w binding → FiresWhole seat t w binding f now log tickets entries
+pub fired_book : (rules : List (Simpagation ℕ)) (plans : PlanList) (names : List (List ℕ)) (log entries : List (Entry ℕ)) (st left : LabelledStore) (ts : List Ticket) (seat t k l : ℕ) (place : List ℕ) (rule : Simpagation ℕ) (w : Whole) (binding : List (Option (Value ℕ))) (f : Fired) (now tickets : List Ticket)
+    → IsKept (book_of rules plans names log st ts) → IsPast (book_of rules plans names log st ts) seat t k l place now → IsWholeNext (space_of (book_of rules plans names log st ts) l) place rule w binding → FiresWhole seat t rule w binding f now log tickets entries
     → left ≡ record { entries = without w.removed.items st.entries; next = st.next; limit = st.limit } → MakesRounds seat t (record { passed = k; last = lasts.Fired }) (book_of rules plans names log st ts) (book_of rules plans names entries left tickets)
-fired_book rules plans names log entries st left ts seat t k l place w binding f now tickets kept past next fw e =
+fired_book rules plans names log entries st left ts seat t k l place rule w binding f now tickets kept past next fw e =
     let b : BookState = book_of rules plans names log st ts in
-    subst (λ (z : LabelledStore). MakesRounds seat t (record { passed = k; last = lasts.Fired }) b (book_of rules plans names entries z tickets)) (sym e) (fired_rounds b seat t k l place w binding f now tickets entries kept past next fw)
+    subst (λ (z : LabelledStore). MakesRounds seat t (record { passed = k; last = lasts.Fired }) b (book_of rules plans names entries z tickets)) (sym e) (fired_rounds b seat t k l place rule w binding f now tickets entries kept past next fw)
 
 -- ---- none of these
 

@@ -1,12 +1,12 @@
 -- Trials that are passed over: what a search passes in one go, its ticket's calls pass one by one.
-use Rattle.std.proofs.Common.{◌≡◌, ℕ, zero, suc, List, Option, Some, Ok, refl, sym, ◌∙◌, ap, subst, slice_set}
+use Rattle.std.proofs.Common.{◌≡◌, ℕ, zero, suc, List, Some, Ok, refl, sym, ◌∙◌, ap, subst, slice_set}
 use Rattle.std.proofs.lemmas.List.{set-set, set-get_or}
-use Rattle.chr_value.specs.Atoms.{Value}
 use Rattle.chr_model.specs.Goals.{Numbered}
 use Rattle.chr_search.specs.Trials.{IsNext}
 use Rattle.chr_search.specs.Verdicts.{position}
 use Rattle.chr_search.specs.Answers.{after_judging}
 use Rattle.chr_search.specs.Passing.{PassesOne, Passes}
+use Rattle.chr_search.specs.declared.search.Instance.{Instance}
 use Rattle.chr_search.specs.declared.search.Passed.{Passed}
 use Rattle.chr_calls.specs.Turns.{Next}
 use Rattle.chr_calls.specs.Tickets.{Ticket, ended, with_candidate, going_on, ticket_at}
@@ -93,8 +93,8 @@ is_past (suc k) b seat t l place tickets h p e = subst (IsPast b seat t (suc k) 
 })
 
 -- the ticket's search has passed over them
-pub gone_past : {Z : Type 0} (b : BookState) (seat t l : ℕ) (passed : Passed Z) (binding : List (Option (Value ℕ))) (tickets : List Ticket) → HoldsLive b seat t l → (over : PassesOver (space_of b l) passed binding (ticket_at b.tickets t) (ticket_at tickets t)) → tickets ≡ slice_set b.tickets t (ticket_at tickets t) → IsPast b seat t passed.count l over.place tickets
-gone_past b seat t l passed binding tickets h over e = is_past passed.count b seat t l over.place tickets h over.passes (e ∙ ap (slice_set b.tickets t) over.after_is)
+pub gone_past : {Z : Type 0} (b : BookState) (seat t l : ℕ) (passed : Passed Z) (instance : Instance) (tickets : List Ticket) → HoldsLive b seat t l → (over : PassesOver (space_of b l) passed instance (ticket_at b.tickets t) (ticket_at tickets t)) → tickets ≡ slice_set b.tickets t (ticket_at tickets t) → IsPast b seat t passed.count l over.place tickets
+gone_past b seat t l passed instance tickets h over e = is_past passed.count b seat t l over.place tickets h over.passes (e ∙ ap (slice_set b.tickets t) over.after_is)
 
 -- what a book keeps
 pub passes_keep : (k : ℕ) (b n : BookState) (seat t : ℕ) → PassesTrials seat t k b n → IsKept b → IsKept n

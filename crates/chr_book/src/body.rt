@@ -16,7 +16,6 @@ use std::alloc::{AllocError, Allocator};
 /// Gives what a member of a body adds under a binding the next ticket. An `Err` is E01, and nothing has changed.
 fn push_member<A: Allocator + Copy>(
     tickets: &mut Tickets<A>,
-    alloc: A,
     item: &BodyItem<A>,
     binding: &Binding,
 ) -> Result<(), AllocError>
@@ -27,7 +26,7 @@ fn push_member<A: Allocator + Copy>(
     let BodyItem::Add(pattern) = item else {
         return Ok(());
     };
-    let Some(atom) = make_atom(alloc, pattern, binding) else {
+    let Some(atom) = make_atom(tickets.allocator(), pattern, binding) else {
         return Ok(());
     };
     tickets.push(atom)
@@ -37,7 +36,6 @@ fn push_member<A: Allocator + Copy>(
 /// `Err` is E01, and nothing has changed.
 pub fn push_body<A: Allocator + Copy>(
     tickets: &mut Tickets<A>,
-    alloc: A,
     rule: &Rule<A>,
     binding: &Binding,
 ) -> Result<(), AllocError>
@@ -47,7 +45,7 @@ pub fn push_body<A: Allocator + Copy>(
 {
     let first = tickets.next();
     for item in rule.body() {
-        if push_member(tickets, alloc, item, binding).is_err() {
+        if push_member(tickets, item, binding).is_err() {
             tickets.truncate(first);
             return Err(AllocError);
         }

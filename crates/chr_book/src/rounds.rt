@@ -73,20 +73,21 @@ impl<A: Allocator + Copy> Book<A> {
             .tickets
             .pass_over(ticket, program, plans, store, most - 1, &mut instance);
         let passed = come.count;
-        let last = match &come.then {
+        let last = match come.then {
             Then::More => Last::Passed,
             Then::Done => {
                 end_goal(&mut self.tickets, &mut self.log, seat, ticket)?;
                 Last::Dropped
             }
-            Then::Whole(whole) => {
+            Then::Whole(rule) => {
+                let whole = instance.whole();
                 let removed = copy_labels(&whole.removed);
                 fire_whole(
                     &mut self.tickets,
                     &mut self.log,
-                    self.alloc,
                     seat,
                     ticket,
+                    rule,
                     whole,
                     instance.binding(),
                 )?;

@@ -24,10 +24,9 @@ first_misfit j m a [] after e is =
     (subst (PassesIn j 1 []) (sym is) r.0, subst (NoneBeyond (MayFollow j) 1 []) (sym is) none)
 
 -- it is whole
-pub first_whole : (j : Join) → MayFollow j [] j.active → (binding : List (Option (Value ℕ))) → AreWhole j (j.active ∷ []) binding → (place before ls : List ℕ) (own : List (Option (Value ℕ))) → place ≡ [] → before ≡ [] → ls ≡ before ++ j.active ∷ [] → own ≡ binding → EndsIn j place ends.Whole ls own
-first_whole j m binding w (x ∷ xs) before ls own e f is same = absurd (cc)
-first_whole j m binding w [] (x ∷ xs) ls own e f is same = absurd (cc)
-first_whole j m binding w [] [] ls own e f is same = (
+pub first_whole : (j : Join) → MayFollow j [] j.active → (binding : List (Option (Value ℕ))) → AreWhole j (j.active ∷ []) binding → (place ls : List ℕ) (own : List (Option (Value ℕ))) → place ≡ [] → ls ≡ j.active ∷ [] → own ≡ binding → EndsIn j place ends.Whole ls own
+first_whole j m binding w (x ∷ xs) ls own e is same = absurd (cc)
+first_whole j m binding w [] ls own e is same = (
   subst (Least (MayFollow j) 1 [] []) (sym is) (below_least j [] [] 0 j.active (below_first j [] refl) (first_least j m)),
   subst (AreWhole j ls) (sym same) (subst (λ (z : List ℕ). AreWhole j z binding) (sym is) w),
 )
@@ -37,13 +36,11 @@ pub first_part : (j : Join) → MayFollow j [] j.active → AreJudged j (j.activ
 first_part j m a (x ∷ xs) one middle e p q = absurd (cc)
 first_part j m a [] one middle e p q = subst (PassesIn j 1 []) (sym (q ∙ ap (λ (z : List ℕ). z ++ 0 ∷ []) p)) (part_passed j [] [] 0 [] 0 j.active refl (below_first j [] refl) (first_least j m) a)
 
-pub first_below : (j : Join) → MayFollow j [] j.active → (place before ls one middle : List ℕ) → place ≡ [] → before ≡ [] → ls ≡ before ++ j.active ∷ [] → one ≡ place ++ j.active ∷ [] → middle ≡ one ++ 0 ∷ [] → IsBelow j ls middle 0
-first_below j m (x ∷ xs) before ls one middle e f is p q = absurd (cc)
-first_below j m [] (x ∷ xs) ls one middle e f is p q = absurd (cc)
-first_below j m [] [] ls one middle e f is p q = below_at j ls middle 0 (subst (Grows (MayFollow j) []) (sym is) (m, tt)) (q ∙ ap (λ (z : List ℕ). z ++ 0 ∷ []) (p ∙ sym is))
+pub first_below : (j : Join) → MayFollow j [] j.active → (place ls one middle : List ℕ) → place ≡ [] → ls ≡ j.active ∷ [] → one ≡ place ++ j.active ∷ [] → middle ≡ one ++ 0 ∷ [] → IsBelow j ls middle 0
+first_below j m (x ∷ xs) ls one middle e is p q = absurd (cc)
+first_below j m [] ls one middle e is p q = below_at j ls middle 0 (subst (Grows (MayFollow j) []) (sym is) (m, tt)) (q ∙ ap (λ (z : List ℕ). z ++ 0 ∷ []) (p ∙ sym is))
 
-pub first_ends : (j : Join) → MayFollow j [] j.active → (before path : List ℕ) → before ≡ [] → path ≡ before ++ j.active ∷ [] → (place : List ℕ) (end : End) (ls : List ℕ) (binding : List (Option (Value ℕ))) → EndsBelow j path place end ls binding → EndsIn j place end ls binding
-first_ends j m before path f is place ends.Whole ls binding e = e
-first_ends j m (x ∷ xs) path f is place ends.NoneLeft ls binding e = absurd (cc)
-first_ends j m [] path f is place ends.NoneLeft ls binding e = none_left j place (only_first j [] place j.active refl m (subst (λ (z : List ℕ). IsDone j z place) is e.1))
-first_ends j m before path f is place ends.Enough ls binding e = tt
+pub first_ends : (j : Join) → MayFollow j [] j.active → (path : List ℕ) → path ≡ j.active ∷ [] → (place : List ℕ) (end : End) (ls : List ℕ) (binding : List (Option (Value ℕ))) → EndsBelow j path place end ls binding → EndsIn j place end ls binding
+first_ends j m path is place ends.Whole ls binding e = e
+first_ends j m path is place ends.NoneLeft ls binding e = none_left j place (only_first j [] place j.active refl m (subst (λ (z : List ℕ). IsDone j z place) is e.1))
+first_ends j m path is place ends.Enough ls binding e = tt

@@ -15,11 +15,11 @@ use Rattle.chr_model.specs.Stores.{atom_at, among, Distinct}
 use Rattle.chr_plan.specs.Orders.{heads_of}
 use Rattle.chr_plan.specs.declared.order.Step.{Step}
 use Rattle.chr_search.specs.declared.judged.Verdict.TheVariants.{Misfit, Part}
-use Rattle.chr_search.specs.declared.passing.Level.{Level as CodeLevel}
+use Rattle.chr_search.specs.declared.passing.LastHead.{LastHead}
 use Rattle.chr_search.specs.Trials.{Join, StandsAt, Fit, IsInTurn, MayFollow, given_at}
 use Rattle.chr_search.specs.Partners.{HasPlan, IsReady}
 use Rattle.chr_search.specs.Verdicts.{Trial, IsWhole, IsPart, IsWholeUnder}
-use Rattle.chr_search.specs.Passing.{IsTrialIn, AreJudged, IsLevel, IsNarrowedIf}
+use Rattle.chr_search.specs.Passing.{IsTrialIn, AreJudged, IsLastHead, IsNarrowedIf}
 use Rattle.chr_search.proofs.Plans.{step_key_given}
 use Rattle.chr_search.proofs.Partners.{ready_more, fit_less, no_fit}
 use Rattle.chr_search.proofs.Reaches.{has_pred, has_key}
@@ -27,51 +27,48 @@ use Rattle.chr_search.proofs.Asking.{some_is, stands_is}
 use Rattle.chr_search.proofs.Wholes.{in_head_order, completed}
 use Rattle.chr_search.proofs.Passed.{stands_nowhere, is_part, is_full, heads_fit, misfit_here}
 
-module _ {Z : Type 0} (j : Join) (ls : List ℕ) (level : CodeLevel Z) (l : ℕ) (here : IsLevel j ls level) where
+module _ (j : Join) (ls : List ℕ) (at : LastHead) (l : ℕ) (here : IsLastHead j ls at) where
   -- the head has the binding's variables
-  pub level_placed : (t : Trial) → IsTrialIn j (ls ++ l ∷ []) t → (binding : List (Option (Value ℕ))) → binding ≡ level.binding.now → IsPlaced (length binding) (shape level.head.now)
-  level_placed t i binding e =
+  pub last_placed : (t : Trial) → IsTrialIn j (ls ++ l ∷ []) t → (binding : List (Option (Value ℕ))) → IsReady j ls binding → IsPlaced (length binding) (shape at.head.now)
+  last_placed t i binding r =
       let rule = subst (λ r. IsRule r) i.rule_is i.formed.scoped in
-      subst (λ b. IsPlaced (length b) (shape level.head.now)) (sym e)
-      (subst (λ n. IsPlaced n (shape level.head.now)) (sym here.ready.fit.places) (head_placed j.rule rule here.step.head (shape level.head.now) here.head_is))
+      subst (λ n. IsPlaced n (shape at.head.now)) (sym r.fit.places) (head_placed j.rule rule here.step.head (shape at.head.now) here.head_is)
 
-  level_fits : (a : Atom ℕ) → atom_at j.store l ≡ Some a → (told : Bool) (old new : List (Option (Value ℕ))) → old ≡ level.binding.now → NarrowsIf (λ v. atom_under v (shape level.head.now) ≡ Some a) told old new → NarrowsIf (λ v. StandsAt j v here.step l) told level.binding.now new
-  level_fits a at told old new e n =
-      subst (λ b. NarrowsIf (λ v. StandsAt j v here.step l) told b new) e
-      (told_as (λ v. atom_under v (shape level.head.now) ≡ Some a) (λ v. StandsAt j v here.step l) told old new (stands_is j here.step l (shape level.head.now) a here.head_is at) n)
+  last_fits : (a : Atom ℕ) → atom_at j.store l ≡ Some a → (told : Bool) (old new : List (Option (Value ℕ))) → NarrowsIf (λ v. atom_under v (shape at.head.now) ≡ Some a) told old new → NarrowsIf (λ v. StandsAt j v here.step l) told old new
+  last_fits a live told old new n = told_as (λ v. atom_under v (shape at.head.now) ≡ Some a) (λ v. StandsAt j v here.step l) told old new (stands_is j here.step l (shape at.head.now) a here.head_is live) n
 
   -- the label has left the store
-  pub level_gone : atom_at j.store l ≡ None → AreJudged j (ls ++ l ∷ []) Misfit
-  level_gone gone = stands_nowhere j ls level.binding.now here.step l here.ready here.step_is (λ v x s. let z : None ≡ Some s.atom = sym gone ∙ s.live in absurd (cc))
+  pub last_gone : (binding : List (Option (Value ℕ))) → IsReady j ls binding → atom_at j.store l ≡ None → AreJudged j (ls ++ l ∷ []) Misfit
+  last_gone binding r gone = stands_nowhere j ls binding here.step l r here.step_is (λ v x s. let z : None ≡ Some s.atom = sym gone ∙ s.live in absurd (cc))
 
   -- its atom doesn't fit
-  pub level_misfit : (a : Atom ℕ) → atom_at j.store l ≡ Some a → (old new : List (Option (Value ℕ))) → old ≡ level.binding.now → NarrowsIf (λ v. atom_under v (shape level.head.now) ≡ Some a) false old new → AreJudged j (ls ++ l ∷ []) Misfit
-  level_misfit a at old new e n = stands_nowhere j ls level.binding.now here.step l here.ready here.step_is (level_fits a at false old new e n)
+  pub last_misfit : (a : Atom ℕ) → atom_at j.store l ≡ Some a → (old new : List (Option (Value ℕ))) → IsReady j ls old → NarrowsIf (λ v. atom_under v (shape at.head.now) ≡ Some a) false old new → AreJudged j (ls ++ l ∷ []) Misfit
+  last_misfit a live old new r n = stands_nowhere j ls old here.step l r here.step_is (last_fits a live false old new n)
 
   -- it fits
-  pub level_ready : (a : Atom ℕ) → atom_at j.store l ≡ Some a → among ls l ≡ false → (old new : List (Option (Value ℕ))) → old ≡ level.binding.now → NarrowsIf (λ v. atom_under v (shape level.head.now) ≡ Some a) true old new → IsReady j (ls ++ l ∷ []) new
-  level_ready a at away old new e n = ready_more j ls level.binding.now new here.step l here.ready here.step_is away (level_fits a at true old new e n)
+  pub last_ready : (a : Atom ℕ) → atom_at j.store l ≡ Some a → among ls l ≡ false → (old new : List (Option (Value ℕ))) → IsReady j ls old → NarrowsIf (λ v. atom_under v (shape at.head.now) ≡ Some a) true old new → IsReady j (ls ++ l ∷ []) new
+  last_ready a live away old new r n = ready_more j ls old new here.step l r here.step_is away (last_fits a live true old new n)
 
   -- heads are left
-  pub level_part : (binding : List (Option (Value ℕ))) → IsReady j (ls ++ l ∷ []) binding → level.is_last ≡ false → AreJudged j (ls ++ l ∷ []) Part
-  level_part binding r more =
+  pub last_part : (binding : List (Option (Value ℕ))) → IsReady j (ls ++ l ∷ []) binding → at.is_last ≡ false → AreJudged j (ls ++ l ∷ []) Part
+  last_part binding r more =
       let few : (length j.rule.kept + length j.rule.removed ≤ length ls + 1) → ⊥ = λ many. (let z : false ≡ true = sym more ∙ here.last.1 many in cc) in
       is_part j (ls ++ l ∷ []) binding r (omega (arith, few, length-append ls (l ∷ [])))
 
   -- none is left
-  level_full : (t : Trial) → IsTrialIn j (ls ++ l ∷ []) t → level.is_last ≡ true → length t.placed ≡ length (heads_of t.rule)
-  level_full t i last = let many = here.last.0 last in is_full j (ls ++ l ∷ []) t i (omega (arith, many, length-append ls (l ∷ [])))
+  last_full : (t : Trial) → IsTrialIn j (ls ++ l ∷ []) t → at.is_last ≡ true → length t.placed ≡ length (heads_of t.rule)
+  last_full t i last = let many = here.last.0 last in is_full j (ls ++ l ∷ []) t i (omega (arith, many, length-append ls (l ∷ [])))
 
-  pub level_heads : (t : Trial) → IsTrialIn j (ls ++ l ∷ []) t → level.is_last ≡ true → (binding : List (Option (Value ℕ))) → IsReady j (ls ++ l ∷ []) binding → IsFit j.rule (HeadsAre j.rule (in_head_order t)) binding
-  level_heads t i last binding r = heads_fit j (ls ++ l ∷ []) t i (level_full t i last) binding r.fit
+  pub last_heads : (t : Trial) → IsTrialIn j (ls ++ l ∷ []) t → at.is_last ≡ true → (binding : List (Option (Value ℕ))) → IsReady j (ls ++ l ∷ []) binding → IsFit j.rule (HeadsAre j.rule (in_head_order t)) binding
+  last_heads t i last binding r = heads_fit j (ls ++ l ∷ []) t i (last_full t i last) binding r.fit
 
-  pub level_whole : (t : Trial) → IsTrialIn j (ls ++ l ∷ []) t → level.is_last ≡ true → (old new : List (Option (Value ℕ))) → IsReady j (ls ++ l ∷ []) old → IsInstanceUnder j.rule (in_head_order t) new → IsWholeUnder t new
-  level_whole t i last old new r u =
-      completed t i.formed (level_full t i last) (subst (λ xs. Distinct xs) (sym i.labels_are) r.distinct) (Some new)
+  pub last_whole : (t : Trial) → IsTrialIn j (ls ++ l ∷ []) t → at.is_last ≡ true → (old new : List (Option (Value ℕ))) → IsReady j (ls ++ l ∷ []) old → IsInstanceUnder j.rule (in_head_order t) new → IsWholeUnder t new
+  last_whole t i last old new r u =
+      completed t i.formed (last_full t i last) (subst (λ xs. Distinct xs) (sym i.labels_are) r.distinct) (Some new)
       (subst (λ x. IsInstanceUnder x (in_head_order t) new) (sym i.rule_is) u)
 
-  pub level_none : (t : Trial) → IsTrialIn j (ls ++ l ∷ []) t → level.is_last ≡ true → NoInstance j.rule (in_head_order t) → (IsWhole t → ⊥) × (IsPart t → ⊥)
-  level_none t i last n = misfit_here j (ls ++ l ∷ []) t i (level_full t i last) n
+  pub last_none : (t : Trial) → IsTrialIn j (ls ++ l ∷ []) t → at.is_last ≡ true → NoInstance j.rule (in_head_order t) → (IsWhole t → ⊥) × (IsPart t → ⊥)
+  last_none t i last n = misfit_here j (ls ++ l ∷ []) t i (last_full t i last) n
 
 -- a label that fits may follow
 follows_at : (j : Join) → HasPlan j → (v : Valuation) (ls : List ℕ) (l : ℕ) → IsInTurn j ls l → Distinct ls → (step : Step) → slice_get j.order (length ls) ≡ Some step → Fit j v j.order ls → StandsAt j v step l → (o : Option (RuleAtom ℕ)) → head_at j.rule step.head ≡ o → MayFollow j ls l

@@ -4,18 +4,20 @@ use Rattle.std.specs.List.{AllByRecursion}
 use Rattle.chr_value.specs.Atoms.{Value}
 use Rattle.chr_value.specs.Stores.{atom_at}
 use Rattle.chr_rule.specs.Parts.{shape}
-use Rattle.chr_rule.specs.Rules.{head_at}
+use Rattle.chr_rule.specs.Rules.{Simpagation, head_at}
 use Rattle.chr_plan.specs.declared.order.Step.{Step}
 use Rattle.chr_search.specs.declared.judged.Verdict.{Verdict}
 use Rattle.chr_search.specs.declared.judged.Verdict.TheVariants.{Misfit, Part, Whole}
 use Rattle.chr_search.specs.declared.passing.End.{End}
 use Rattle.chr_search.specs.declared.passing.End.TheVariants as ends
+use Rattle.chr_search.specs.declared.passing.LastHead.{LastHead}
 use Rattle.chr_search.specs.declared.passing.Level.{Level as CodeLevel}
 use Rattle.chr_search.specs.declared.passing.Next.{Next}
 use Rattle.chr_search.specs.declared.passing.Next.TheVariants as nexts
 use Rattle.chr_search.specs.declared.passing.Stop.{Stop}
 use Rattle.chr_search.specs.declared.passing.Stop.TheVariants as stops
 use Rattle.chr_search.specs.declared.search.Whole.{Whole as CodeWhole}
+use Rattle.chr_search.specs.declared.search.Instance.{Instance}
 use Rattle.chr_search.specs.declared.search.Then.{Then as CodeThen}
 use Rattle.chr_search.specs.declared.search.Then.TheVariants as thens
 use Rattle.chr_search.specs.Positions.{at_or_after, past}
@@ -88,14 +90,18 @@ EndsIn j place ends.Whole ls binding = Least (MayFollow j) 1 [] place ls × AreW
 EndsIn j place ends.NoneLeft ls binding = NoneBeyond (MayFollow j) 1 [] place
 EndsIn j place ends.Enough ls binding = Unit {0}
 
--- what the trials of these labels and one more have in common: the binding of the labels, the next head, whether it is the
--- rule's last, and perhaps the labels among which the next one is
-pub record IsLevel {Z : Type 0} (j : Join) (ls : List ℕ) (level : CodeLevel Z) : Type 0 where
-  pub ready : IsReady j ls level.binding.now
+-- where a label stands that comes after these: the next head, and whether it is the rule's last
+pub record IsLastHead (j : Join) (ls : List ℕ) (at : LastHead) : Type 0 where
   pub step : Step
   pub step_is : slice_get j.order (length ls) ≡ Some step
-  pub head_is : head_at j.rule step.head ≡ Some (shape level.head.now)
-  pub last : IsTrue level.is_last ↔ (length j.rule.kept + length j.rule.removed ≤ length ls + 1)
+  pub head_is : head_at j.rule step.head ≡ Some (shape at.head.now)
+  pub last : IsTrue at.is_last ↔ (length j.rule.kept + length j.rule.removed ≤ length ls + 1)
+
+-- what the trials of these labels and one more have in common: the binding of the labels, where the last one stands, and
+-- perhaps the labels among which it is
+pub record IsLevel {Z : Type 0} (j : Join) (ls : List ℕ) (level : CodeLevel Z) : Type 0 where
+  pub ready : IsReady j ls level.binding.now
+  pub at : IsLastHead j ls level.at
   pub partners : IfSome level.partners (GivePartners j ls)
 
 -- where the answer is yes the label may be tried after these and this binds them all, and where it is no it may not, or none
@@ -143,27 +149,32 @@ EndsBelow j path place ends.Whole ls binding = Least (MayFollow j) 1 [] place ls
 EndsBelow j path place ends.NoneLeft ls binding = (ls ≡ path) × IsDone j path place
 EndsBelow j path place ends.Enough ls binding = Unit {0}
 
--- the same, or else the last one is a part, with a label from one on, and the place is just after it
+-- a place just after a part of these labels and one more, which has this binding
+pub record IsAfterPart (j : Join) (path : List ℕ) (x : ℕ) (place : List ℕ) (binding : List (Option (Value ℕ))) : Type 0 where
+  pub follows : MayFollow j path x
+  pub ready : IsReady j (path ++ x ∷ []) binding
+  pub place_is : place ≡ (path ++ x ∷ []) ++ 0 ∷ []
+
+-- the same, or else the last one is a part of these labels and one from a label on
 abbrev pub StopsAt : Join → List ℕ → ℕ → Stop → List ℕ → List ℕ → List (Option (Value ℕ)) → Type 0
-StopsAt j path from (stops.Part x) place ls binding =
-    (ls ≡ path ++ x ∷ []) × (place ≡ ls ++ 0 ∷ []) × (from ≤ x) × MayFollow j path x × IsReady j (path ++ x ∷ []) binding
+StopsAt j path from (stops.Part x) place ls binding = (ls ≡ path) × (from ≤ x) × IsAfterPart j path x place binding
 StopsAt j path from (stops.End end) place ls binding = EndsBelow j path place end ls binding
 
--- what was found is the next trial at a place, and it is whole under this binding
-pub record IsWholeNext {Z : Type 0} (s : Space) (place : List ℕ) (w : CodeWhole Z) (binding : List (Option (Value ℕ))) : Type 0 where
+-- what was found is the next trial at a place, which is of this rule, and it is whole under this binding
+pub record IsWholeNext (s : Space) (place : List ℕ) (rule : Simpagation ℕ) (w : CodeWhole) (binding : List (Option (Value ℕ))) : Type 0 where
   pub trial : Trial
   pub next : IsNext s place (position trial)
   pub is : IsTrialOf s.rules s.plans s.store trial
   pub formed : IsFormed trial
   pub under : IsWholeUnder trial binding
-  pub rule_is : w.rule.now ≡ trial.rule
+  pub rule_is : rule ≡ trial.rule
   pub number_is : w.number ≡ trial.number
   pub kept_are : w.kept.items ≡ kept_labels trial
   pub removed_are : w.removed.items ≡ removed_labels trial
   pub past_is : w.past ≡ record { label = s.active; place = past (position trial) }
 
--- what comes at a place once trials were passed over: one that is whole, under this binding; none; or perhaps more
-abbrev pub IsThen : {Z : Type 0} → Space → List ℕ → CodeThen Z → List (Option (Value ℕ)) → Type 0
-IsThen s place (thens.Whole w) binding = IsWholeNext s place w binding
-IsThen s place thens.Done binding = NoneLeft s place
-IsThen s place thens.More binding = Unit {0}
+-- what comes at a place once trials were passed over: one that is whole, which is this instance; none; or perhaps more
+abbrev pub IsThen : {Z : Type 0} → Space → List ℕ → CodeThen Z → Instance → Type 0
+IsThen s place (thens.Whole rule) i = IsWholeNext s place rule.now i.whole i.binding
+IsThen s place thens.Done i = NoneLeft s place
+IsThen s place thens.More i = Unit {0}

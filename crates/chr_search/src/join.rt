@@ -101,6 +101,7 @@ impl<'s, A: Allocator + Copy> Join<'s, A> {
     }
 
     /// What is asked of the store for the next label. None where none may be tried after these.
+    #[inline(always)]
     fn asked(&self, labels: &[Label], binding: &Binding<'s>) -> Option<Asked>
         requires some { 1 ≤ length labels.now }
         requires plan { HasPlan (join_of self.now) }
@@ -141,6 +142,7 @@ impl<'s, A: Allocator + Copy> Join<'s, A> {
 
     /// The labels among which are those that may be tried after these, to go through. None where there are none, or where
     /// the store keeps no index for them.
+    #[inline(always)]
     pub(crate) fn partners(&self, labels: &[Label], binding: &Binding<'s>) -> Option<Matches<'s, A>>
         requires plan { HasPlan (join_of self.now) }
         requires ready { IsReady (join_of self.now) labels.now binding.now }

@@ -4,7 +4,7 @@ ghost use Rattle.std.specs.List.{list_any};
 ghost use Rattle.chr_guard.specs.Matching.{IsFit};
 ghost use Rattle.chr_search.specs.Joined.{join_of};
 ghost use Rattle.chr_search.specs.Partners.{HasPlan, IsReady, IsPartnerFrom};
-ghost use Rattle.chr_search.specs.Passing.{IsTrialIn, HasTrials, AreMisfits, PassesIn, EndsIn, IsLevel, IsNarrowedIf, IsTried, ComesNext, settled, IsBelow, EndsBelow, StopsAt};
+ghost use Rattle.chr_search.specs.Passing.{IsTrialIn, HasTrials, AreMisfits, PassesIn, EndsIn, IsLastHead, IsLevel, IsAfterPart, IsNarrowedIf, IsTried, ComesNext, settled, IsBelow, EndsBelow, StopsAt};
 ghost use Rattle.chr_search.specs.Tree.{Grows};
 ghost use Rattle.chr_search.specs.Trials.{Fit, IsInTurn, MayFollow};
 ghost use Rattle.chr_search.specs.Verdicts.{Trial};
@@ -38,11 +38,12 @@ pub(crate) struct Passed {
     pub(crate) end: End,
 }
 
-/// Bindings for a search's own use: one costs more to make than to set.
-#[derive(Drop)]
-pub(crate) struct Spare<'s> {
-    pub(crate) free: Binding<'s>,
-    pub(crate) narrowed: Binding<'s>,
+/// Where the last labels of trials stand.
+#[derive(Clone, Copy)]
+struct LastHead<'s> {
+    head: &'s RuleAtom,
+    /// Whether no head is left then.
+    is_last: bool,
 }
 
 /// Where the labels of trials are looked for that have the same labels but the last.
@@ -50,10 +51,7 @@ pub(crate) struct Spare<'s> {
 struct Level<'l, 's, A: Allocator> {
     /// What the labels before the last bind.
     binding: &'l Binding<'s>,
-    /// The head of the last label.
-    head: &'s RuleAtom,
-    /// Whether no head is left then.
-    is_last: bool,
+    at: LastHead<'s>,
     /// The labels among which it is. None where the store has no index for them, or it is the active one.
     partners: Option<Matches<'s, A>>,
 }
@@ -104,17 +102,17 @@ fn is_among(labels: &[Label], label: Label) -> bool
     labels.iter().any(|other| *other == label)
 }
 
-/// Puts a label at a depth of a place, as its last.
-fn put_at(place: &mut Labels, depth: usize, label: Label)
+/// Keeps the first labels, as many as `depth`, and puts one after them.
+fn put_at(labels: &mut Labels, depth: usize, label: Label)
     requires { depth < 6 }
-    ensures { place.new.items ≡ take depth place.old.items ++ label ∷ [] }
+    ensures { labels.new.items ≡ take depth labels.old.items ++ label ∷ [] }
 {
-    if place.len() == depth + 1 {
-        place[depth] = label;
+    if labels.len() == depth + 1 {
+        labels[depth] = label;
         return;
     }
-    place.truncate(depth);
-    place.push(label);
+    labels.truncate(depth);
+    labels.push(label);
 }
 
 /// Moves a place behind misfits, where there were any.
@@ -173,23 +171,35 @@ impl<'s, A: Allocator + Copy> Join<'s, A> {
         self.fit_at(narrowed, *step, label)
     }
 
+    /// Where a label stands that comes after these. None where no label may be tried after these.
+    #[inline(always)]
+    fn last_head(&self, labels: &[Label]) -> Option<LastHead<'s>>
+        ensures { MatchOption result ((x : ℕ) → MayFollow (join_of self.now) labels.now x → ⊥) (IsLastHead (join_of self.now) labels.now) }
+    {
+        let step = self.order.get(labels.len())?;
+        let head = self.rule.head(usize::from(step.head))?;
+        Some(LastHead {
+            head,
+            is_last: self.rule.heads() <= labels.len() + 1,
+        })
+    }
+
     /// What the trials of these labels and one more have in common. None where no label may be tried after these.
+    #[inline(always)]
     fn level<'l>(&self, labels: &[Label], binding: &'l Binding<'s>) -> Option<Level<'l, 's, A>>
         requires plan { HasPlan (join_of self.now) }
         requires ready { IsReady (join_of self.now) labels.now binding.now }
         ensures { MatchOption result ((x : ℕ) → MayFollow (join_of self.now) labels.now x → ⊥) (IsLevel (join_of self.now) labels.now) }
     {
-        let step = self.order.get(labels.len())?;
-        let head = self.rule.head(usize::from(step.head))?;
         Some(Level {
             binding,
-            head,
-            is_last: self.rule.heads() <= labels.len() + 1,
+            at: self.last_head(labels)?,
             partners: self.partners(labels, binding),
         })
     }
 
     /// The least label from one on at a level.
+    #[inline(always)]
     fn next_at(&self, level: &mut Level<'_, 's, A>, labels: &[Label], from: Label) -> Option<Label>
         requires begins { MayFollow (join_of self.now) [] self.now.active }
         requires plan { HasPlan (join_of self.now) }
@@ -203,17 +213,18 @@ impl<'s, A: Allocator + Copy> Join<'s, A> {
         }
     }
 
-    /// How the trial of these labels and one more is judged. For a part `narrowed` becomes its own binding, and for a
-    /// whole trial that of all variables.
+    /// How the trial of these labels and one more is judged, where `narrowed` is the binding of these labels. For a part it
+    /// becomes its own binding, and for a whole trial that of all variables.
     #[inline(always)]
     fn judge_at(
         &self,
-        level: &Level<'_, 's, A>,
+        at: LastHead<'s>,
         labels: &[Label],
         label: Label,
         narrowed: &mut Binding<'s>,
     ) -> Verdict
-        requires level { IsLevel (join_of self.now) labels.now level.now }
+        requires at { IsLastHead (join_of self.now) labels.now at }
+        requires ready { IsReady (join_of self.now) labels.now narrowed.old }
         requires trial { (t : Trial) × IsTrialIn (join_of self.now) (labels.now ++ label ∷ []) t }
         ensures { IsTried (join_of self.now) (labels.now ++ label ∷ []) result narrowed.new }
     {
@@ -223,11 +234,10 @@ impl<'s, A: Allocator + Copy> Join<'s, A> {
         let Some(atom) = self.store.get(label) else {
             return Verdict::Misfit;
         };
-        narrowed.set_to(level.binding);
-        if !fit_head(narrowed, level.head, atom) {
+        if !fit_head(narrowed, at.head, atom) {
             return Verdict::Misfit;
         }
-        if !level.is_last {
+        if !at.is_last {
             return Verdict::Part;
         }
         if becomes_instance(self.rule, narrowed) {
@@ -238,6 +248,7 @@ impl<'s, A: Allocator + Copy> Join<'s, A> {
 
     /// Passes over the misfits of a level from a label on, at most so many. The binding of the instance becomes that of the
     /// part or the whole trial that comes next.
+    #[inline(always)]
     fn pass_run(
         &self,
         level: &mut Level<'_, 's, A>,
@@ -264,7 +275,8 @@ impl<'s, A: Allocator + Copy> Join<'s, A> {
                 let then = Next::NoneLeft;
                 return Run { count, next, then };
             };
-            match self.judge_at(level, labels, label, &mut instance.binding) {
+            instance.binding.set_to(level.binding);
+            match self.judge_at(level.at, labels, label, &mut instance.binding) {
                 Verdict::Misfit => {}
                 Verdict::Part => {
                     let then = Next::Part(label);
@@ -282,8 +294,8 @@ impl<'s, A: Allocator + Copy> Join<'s, A> {
         Run { count, next, then }
     }
 
-    /// Passes over the misfits of a level from a label on, and over a part after them, at most so many in all. The labels
-    /// of the instance become those of the part.
+    /// Passes over the misfits of a level from a label on, and over a part after them, at most so many in all.
+    #[inline(always)]
     fn pass_level(
         &self,
         level: &mut Level<'_, 's, A>,
@@ -307,7 +319,6 @@ impl<'s, A: Allocator + Copy> Join<'s, A> {
         settle(place, depth, run.count, run.next);
         let (count, stop) = match run.then {
             Next::Part(label) => {
-                instance.labels.push(label);
                 put_at(place, depth, label);
                 place.push(0);
                 (run.count + 1, Stop::Part(label))
@@ -322,51 +333,13 @@ impl<'s, A: Allocator + Copy> Join<'s, A> {
         Stopped { count, stop }
     }
 
-    /// Passes over the trials of the instance's labels and a last one, at most so many.
-    fn pass_last(
-        &self,
-        binding: &Binding<'s>,
-        most: u64,
-        place: &mut Labels,
-        instance: &mut Instance<'s>,
-    ) -> Passed
-        requires begins { MayFollow (join_of self.now) [] self.now.active }
-        requires plan { HasPlan (join_of self.now) }
-        requires trials { HasTrials (join_of self.now) }
-        requires ready { IsReady (join_of self.now) instance.old.labels.items binding.now }
-        requires below { IsBelow (join_of self.now) instance.old.labels.items place.old.items 0 }
-        ensures few { result.count ≤ most }
-        ensures passes { PassesIn (join_of self.now) result.count place.old.items place.new.items }
-        ensures ends { EndsBelow (join_of self.now) instance.old.labels.items place.new.items result.end instance.new.labels.items instance.new.binding }
-    {
-        let Some(mut level) = self.level(instance.labels.as_slice(), binding) else {
-            return Passed {
-                count: 0,
-                end: End::NoneLeft,
-            };
-        };
-        let passed = self.pass_level(&mut level, 0, most, place, instance);
-        match passed.stop {
-            // (never: where no head is left, no trial is a part)
-            Stop::Part(_) => Passed {
-                count: passed.count,
-                end: End::Enough,
-            },
-            Stop::End(end) => Passed {
-                count: passed.count,
-                end,
-            },
-        }
-    }
-
-    /// Passes over the trials of the instance's labels and more from one on, at most so many. `narrowed` is for its own use.
+    /// Passes over the trials of the instance's labels and more from one on, at most so many.
     #[cycle(below)]
     fn pass_below(
         &self,
         binding: &Binding<'s>,
         from: Label,
         most: u64,
-        narrowed: &mut Binding<'s>,
         place: &mut Labels,
         instance: &mut Instance<'s>,
     ) -> Passed
@@ -385,15 +358,46 @@ impl<'s, A: Allocator + Copy> Join<'s, A> {
                 end: End::NoneLeft,
             };
         };
-        let first = self.pass_level(&mut level, from, most, place, instance);
-        let mut count = first.count;
-        let mut label = match first.stop {
-            Stop::Part(label) => label,
-            Stop::End(end) => return Passed { count, end },
-        };
+        let Stopped { count, stop } = self.pass_level(&mut level, from, most, place, instance);
+        match stop {
+            Stop::Part(label) => {
+                let more = self.pass_parts(level, label, most - count, place, instance);
+                Passed {
+                    count: count + more.count,
+                    end: more.end,
+                }
+            }
+            Stop::End(end) => Passed { count, end },
+        }
+    }
+
+    /// Passes over the trials that begin with a part of a level, and those of the level after it, at most so many.
+    #[cycle(below)]
+    fn pass_parts(
+        &self,
+        mut level: Level<'_, 's, A>,
+        part: Label,
+        most: u64,
+        place: &mut Labels,
+        instance: &mut Instance<'s>,
+    ) -> Passed
+        requires begins { MayFollow (join_of self.now) [] self.now.active }
+        requires plan { HasPlan (join_of self.now) }
+        requires trials { HasTrials (join_of self.now) }
+        requires grows { Grows (MayFollow (join_of self.now)) [] instance.old.labels.items }
+        requires level { IsLevel (join_of self.now) instance.old.labels.items level }
+        requires part { IsAfterPart (join_of self.now) instance.old.labels.items part place.old.items instance.old.binding }
+        ensures few { result.count ≤ most }
+        ensures passes { PassesIn (join_of self.now) result.count place.old.items place.new.items }
+        ensures ends { EndsBelow (join_of self.now) instance.old.labels.items place.new.items result.end instance.new.labels.items instance.new.binding }
+    {
+        let mut narrowed = Binding::free(0);
+        let mut label = part;
+        let mut count = 0;
         loop {
             narrowed.set_to(&instance.binding);
-            let below = self.pass_deeper(narrowed, most - count, place, instance);
+            instance.labels.push(label);
+            let below = self.pass_below(&narrowed, 0, most - count, place, instance);
             count += below.count;
             if below.end != End::NoneLeft {
                 return Passed {
@@ -402,13 +406,6 @@ impl<'s, A: Allocator + Copy> Join<'s, A> {
                 };
             }
             instance.labels.pop();
-            if instance.labels.is_empty() {
-                // Only the active label may come first.
-                return Passed {
-                    count,
-                    end: End::NoneLeft,
-                };
-            }
             let beside = self.pass_level(&mut level, label + 1, most - count, place, instance);
             count += beside.count;
             label = match beside.stop {
@@ -418,61 +415,12 @@ impl<'s, A: Allocator + Copy> Join<'s, A> {
         }
     }
 
-    /// Passes over the trials of the instance's labels and more, at most so many.
-    #[cycle(below)]
-    fn pass_deeper(
-        &self,
-        binding: &Binding<'s>,
-        most: u64,
-        place: &mut Labels,
-        instance: &mut Instance<'s>,
-    ) -> Passed
-        requires begins { MayFollow (join_of self.now) [] self.now.active }
-        requires plan { HasPlan (join_of self.now) }
-        requires trials { HasTrials (join_of self.now) }
-        requires ready { IsReady (join_of self.now) instance.old.labels.items binding.now }
-        requires below { IsBelow (join_of self.now) instance.old.labels.items place.old.items 0 }
-        ensures few { result.count ≤ most }
-        ensures passes { PassesIn (join_of self.now) result.count place.old.items place.new.items }
-        ensures ends { EndsBelow (join_of self.now) instance.old.labels.items place.new.items result.end instance.new.labels.items instance.new.binding }
-    {
-        if self.rule.heads() <= instance.labels.len() + 1 {
-            return self.pass_last(binding, most, place, instance);
-        }
-        self.pass_lower(binding, most, place, instance)
-    }
-
-    /// Passes over the trials of the instance's labels and more, at most so many, with a binding of its own for those that
-    /// are parts.
-    #[cycle(below)]
-    fn pass_lower(
-        &self,
-        binding: &Binding<'s>,
-        most: u64,
-        place: &mut Labels,
-        instance: &mut Instance<'s>,
-    ) -> Passed
-        requires begins { MayFollow (join_of self.now) [] self.now.active }
-        requires plan { HasPlan (join_of self.now) }
-        requires trials { HasTrials (join_of self.now) }
-        requires ready { IsReady (join_of self.now) instance.old.labels.items binding.now }
-        requires below { IsBelow (join_of self.now) instance.old.labels.items place.old.items 0 }
-        ensures few { result.count ≤ most }
-        ensures passes { PassesIn (join_of self.now) result.count place.old.items place.new.items }
-        ensures ends { EndsBelow (join_of self.now) instance.old.labels.items place.new.items result.end instance.new.labels.items instance.new.binding }
-    {
-        let mut narrowed = Binding::free(0);
-        self.pass_below(binding, 0, most, &mut narrowed, place, instance)
-    }
-
-    /// Passes over the trials of the instance's labels and more at or after a place, at most so many. `narrowed` is for its
-    /// own use.
+    /// Passes over the trials of the instance's labels and more at or after a place, at most so many.
     fn pass_on(
         &self,
         binding: &Binding<'s>,
         rest: &[Label],
         most: u64,
-        narrowed: &mut Binding<'s>,
         place: &mut Labels,
         instance: &mut Instance<'s>,
     ) -> Passed
@@ -488,10 +436,10 @@ impl<'s, A: Allocator + Copy> Join<'s, A> {
         ensures ends { EndsBelow (join_of self.now) instance.old.labels.items place.new.items result.end instance.new.labels.items instance.new.binding }
     {
         let Some((first, below)) = rest.split_first() else {
-            return self.pass_below(binding, 0, most, narrowed, place, instance);
+            return self.pass_below(binding, 0, most, place, instance);
         };
         if below.is_empty() {
-            return self.pass_below(binding, *first, most, narrowed, place, instance);
+            return self.pass_below(binding, *first, most, place, instance);
         }
         if *first > self.active {
             return Passed {
@@ -502,22 +450,15 @@ impl<'s, A: Allocator + Copy> Join<'s, A> {
         let from = *first + 1;
         let mut next = binding.copy();
         if !self.narrow_by(instance.labels.as_slice(), &mut next, *first) {
-            return self.pass_below(binding, from, most, narrowed, place, instance);
+            return self.pass_below(binding, from, most, place, instance);
         }
         instance.labels.push(*first);
-        let passed = self.pass_on(&next, below, most, narrowed, place, instance);
+        let passed = self.pass_on(&next, below, most, place, instance);
         if passed.end != End::NoneLeft {
             return passed;
         }
         instance.labels.pop();
-        let more = self.pass_below(
-            binding,
-            from,
-            most - passed.count,
-            narrowed,
-            place,
-            instance,
-        );
+        let more = self.pass_below(binding, from, most - passed.count, place, instance);
         Passed {
             count: passed.count + more.count,
             end: more.end,
@@ -528,21 +469,19 @@ impl<'s, A: Allocator + Copy> Join<'s, A> {
     fn pass_first(
         &self,
         most: u64,
-        spare: &mut Spare<'s>,
+        spare: &mut Binding<'s>,
         place: &mut Labels,
         instance: &mut Instance<'s>,
     ) -> Passed
         requires begins { MayFollow (join_of self.now) [] self.now.active }
         requires plan { HasPlan (join_of self.now) }
         requires trials { HasTrials (join_of self.now) }
-        requires ready { IsReady (join_of self.now) [] spare.old.free }
-        requires labels { instance.old.labels.items ≡ [] }
         requires place { place.old.items ≡ [] }
         ensures few { result.count ≤ most }
         ensures passes { PassesIn (join_of self.now) result.count place.old.items place.new.items }
         ensures ends { EndsIn (join_of self.now) place.new.items result.end instance.new.labels.items instance.new.binding }
     {
-        let Some(level) = self.level(&[], &spare.free) else {
+        let Some(at) = self.last_head(&[]) else {
             return Passed {
                 count: 0,
                 end: End::NoneLeft,
@@ -554,7 +493,8 @@ impl<'s, A: Allocator + Copy> Join<'s, A> {
                 end: End::Enough,
             };
         }
-        match self.judge_at(&level, &[], self.active, &mut spare.narrowed) {
+        spare.reset(self.rule.variables());
+        match self.judge_at(at, &[], self.active, spare) {
             Verdict::Misfit => {
                 place.push(self.active + 1);
                 Passed {
@@ -563,18 +503,18 @@ impl<'s, A: Allocator + Copy> Join<'s, A> {
                 }
             }
             Verdict::Whole => {
-                instance.labels.push(self.active);
-                instance.binding.set_to(&spare.narrowed);
+                put_at(&mut instance.labels, 0, self.active);
+                instance.binding.set_to(spare);
                 Passed {
                     count: 0,
                     end: End::Whole,
                 }
             }
             Verdict::Part => {
-                instance.labels.push(self.active);
+                put_at(&mut instance.labels, 0, self.active);
                 place.push(self.active);
                 place.push(0);
-                let below = self.pass_deeper(&spare.narrowed, most - 1, place, instance);
+                let below = self.pass_below(spare, 0, most - 1, place, instance);
                 Passed {
                     count: 1 + below.count,
                     end: below.end,
@@ -583,14 +523,29 @@ impl<'s, A: Allocator + Copy> Join<'s, A> {
         }
     }
 
+    /// Passes over the trials as [`pass`](Join::pass) does, from a place on.
+    fn pass_from(&self, most: u64, place: &mut Labels, instance: &mut Instance<'s>) -> Passed
+        requires begins { MayFollow (join_of self.now) [] self.now.active }
+        requires plan { HasPlan (join_of self.now) }
+        requires trials { HasTrials (join_of self.now) }
+        ensures few { result.count ≤ most }
+        ensures passes { PassesIn (join_of self.now) result.count place.old.items place.new.items }
+        ensures ends { EndsIn (join_of self.now) place.new.items result.end instance.new.labels.items instance.new.binding }
+    {
+        instance.labels.clear();
+        let free = Binding::free(self.rule.variables());
+        let rest = copy_labels(place);
+        self.pass_on(&free, rest.as_slice(), most, place, instance)
+    }
+
     /// Passes over the trials at or after a place up to one that is whole, at most so many. The place becomes that at which
     /// the search goes on; where it ends before a trial that is whole, `instance` becomes that one. `spare` is for its own
-    /// use.
+    /// use: a binding costs more to make than to set.
     pub(crate) fn pass(
         &self,
         place: &mut Labels,
         most: u64,
-        spare: &mut Spare<'s>,
+        spare: &mut Binding<'s>,
         instance: &mut Instance<'s>,
     ) -> Passed
         requires begins { MayFollow (join_of self.now) [] self.now.active }
@@ -600,19 +555,9 @@ impl<'s, A: Allocator + Copy> Join<'s, A> {
         ensures passes { PassesIn (join_of self.now) result.count place.old.items place.new.items }
         ensures ends { EndsIn (join_of self.now) place.new.items result.end instance.new.labels.items instance.new.binding }
     {
-        spare.free.reset(self.rule.variables());
-        instance.labels.clear();
         if place.is_empty() {
             return self.pass_first(most, spare, place, instance);
         }
-        let rest = copy_labels(place);
-        self.pass_on(
-            &spare.free,
-            rest.as_slice(),
-            most,
-            &mut spare.narrowed,
-            place,
-            instance,
-        )
+        self.pass_from(most, place, instance)
     }
 }

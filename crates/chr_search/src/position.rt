@@ -1,10 +1,11 @@
 //! Positions in the order of trials.
 ghost use Rattle.std.specs.Prelude.{◌≡◌, ◌↔◌, ◌∷◌, ◌<◌, ◌≤◌, length, IsTrue};
 ghost use Rattle.chr_search.specs.Positions.{beginning, just_after, past, front};
-ghost use Rattle.chr_search.specs.Verdicts.{position, IsFormed, IsPart};
+ghost use Rattle.chr_search.specs.Verdicts.{Trial as TrialView, labels as labels_of, position, IsFormed, IsPart};
 
 use crate::trial::Trial;
 use chr_log::events::{Labels, copy_labels};
+use chr_store::store::Label;
 use std::alloc::Allocator;
 use std::marker::Model;
 
@@ -25,6 +26,21 @@ impl Model for Position {
     ghost view = { λ p. p.rule ∷ p.head ∷ p.labels.items };
 
     ghost invariant = { λ p. (1 ≤ p.rule) × (1 ≤ p.head) };
+}
+
+/// Makes labels the first ones after those of a trial and all that they begin.
+fn set_past(after: &mut Labels, labels: &[Label])
+    requires { (t : TrialView) × IsFormed t × (labels_of t ≡ labels.now) }
+    ensures { after.new.items ≡ past labels.now }
+{
+    after.clear();
+    let Some((last, before)) = labels.split_last() else {
+        return;
+    };
+    for label in before {
+        after.push(*label);
+    }
+    after.push(*last + 1);
 }
 
 impl Position {
@@ -86,6 +102,18 @@ impl Position {
             after.labels.push(last + 1);
         }
         after
+    }
+
+    /// Becomes the first position after a trial of these labels and all that it begins.
+    pub(crate) fn set_past(&mut self, rule: u16, head: u8, labels: &[Label])
+        requires rule { 1 ≤ rule }
+        requires head { 1 ≤ head }
+        requires trial { (t : TrialView) × IsFormed t × (labels_of t ≡ labels.now) }
+        ensures { self.new ≡ past (rule ∷ head ∷ labels.now) }
+    {
+        self.rule = rule;
+        self.head = head;
+        set_past(&mut self.labels, labels);
     }
 
     /// Whether this is a trial's position but for the last label.

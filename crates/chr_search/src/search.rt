@@ -6,7 +6,7 @@ ghost use Rattle.chr_search.specs.Positions.{beginning, just_after, past};
 ghost use Rattle.chr_search.specs.Tree.{Least, NoneBeyond};
 ghost use Rattle.chr_search.specs.Trials.{older, Child, IsNext, MayFollow, NoneLeft};
 ghost use Rattle.chr_search.specs.Answers.{IsAnswer, IsAnswerBehind, after_judging};
-ghost use Rattle.chr_search.specs.Verdicts.{Trial as TrialView, position as position_of};
+ghost use Rattle.chr_search.specs.Verdicts.{Trial as TrialView, labels as labels_of, position as position_of, IsFormed};
 ghost use Rattle.chr_search.specs.Joined.{join_of};
 ghost use Rattle.chr_search.specs.Partners.{HasPlan};
 ghost use Rattle.chr_search.specs.Passing.{IsTrialIn, HasTrials, Passes, IsThen};
@@ -15,11 +15,11 @@ ghost use Rattle.chr_search.specs.PlanByPlan.{label_at_head, labels_at_heads, Pa
 use crate::join::Join;
 use crate::judged::{Judged, Verdict};
 use crate::passing;
-use crate::passing::{End, Spare};
+use crate::passing::End;
 use crate::position::Position;
 use crate::trial::Trial;
 use chr_guard::binding::Binding;
-use chr_log::events::{Labels, copy_labels};
+use chr_log::events::Labels;
 use chr_plan::order::Step;
 use chr_plan::plans::Plans;
 use chr_rule::program::Program;
@@ -40,9 +40,8 @@ pub enum Ask<A: Allocator> {
 
 /// A trial that a search has found to be whole.
 #[derive(Drop)]
-pub struct Whole<'s, A: Allocator> {
-    pub rule: &'s Rule<A>,
-    /// The rule's number in its program.
+pub struct Whole {
+    /// The number of its rule in the program.
     pub number: u16,
     /// The labels at the kept heads, in head order.
     pub kept: Labels,
@@ -52,29 +51,14 @@ pub struct Whole<'s, A: Allocator> {
     pub past: Search,
 }
 
-/// The labels of a trial that is whole, and what its variables are bound to. A search that passes over trials is lent one
-/// and sets it, since one costs more to make than to set; while it goes over them, the labels are those before the last.
+/// The labels of a trial that is whole, what its variables are bound to, and the trial itself. A search that passes over
+/// trials is lent one and sets it, since one costs more to make than to set; while it goes over them, the labels are those
+/// before the last.
 #[derive(Drop)]
 pub struct Instance<'s> {
     pub(crate) labels: Labels,
     pub(crate) binding: Binding<'s>,
-}
-
-impl<'s> Instance<'s> {
-    /// One of no labels and no variables. It takes no memory.
-    pub fn new() -> Instance<'s> {
-        Instance {
-            labels: Labels::new(),
-            binding: Binding::free(0),
-        }
-    }
-
-    /// What all variables are bound to.
-    pub fn binding(&self) -> &Binding<'s>
-        ensures { result.now ≡ self.now.binding }
-    {
-        &self.binding
-    }
+    whole: Whole,
 }
 
 /// The label at a head, of labels in the order of a plan. 0 where there is none.
@@ -92,74 +76,100 @@ fn label_at_head(order: &[Step], labels: &[Label], head: usize) -> Label
     0
 }
 
-/// The labels at the next heads from one on, at most six, of labels in the order of a plan.
-fn labels_at_heads(order: &[Step], labels: &[Label], first: usize, count: usize) -> Labels
+/// Makes labels those at the next heads from one on, at most six, of labels in the order of a plan.
+fn set_labels_at_heads(
+    found: &mut Labels,
+    order: &[Step],
+    labels: &[Label],
+    first: usize,
+    count: usize,
+)
     requires first { first ≤ 7 }
     requires count { count ≤ 6 }
-    ensures { result.items ≡ labels_at_heads order.now labels.now first count }
+    ensures { found.new.items ≡ labels_at_heads order.now labels.now first count }
 {
-    let mut found = Labels::new();
+    found.clear();
     for i in 0..count {
         found.push(label_at_head(order, labels, first + i));
     }
-    found
 }
 
-impl<'s, A: Allocator + Copy> Whole<'s, A> {
-    /// The trial of an instance, by a rule's number and a head.
-    fn of(join: &Join<'s, A>, number: u16, head: u8, instance: &Instance<'s>) -> Whole<'s, A>
-        requires number { 1 ≤ number }
-        requires head { 1 ≤ head }
-        requires trial { (t : TrialView) × IsTrialIn (join_of join.now) instance.now.labels.items t }
-        ensures rule { result.rule.now ≡ join.now.rule.now }
-        ensures number { result.number ≡ number }
-        ensures kept { result.kept.items ≡ labels_at_heads join.now.order.now instance.now.labels.items 1 (length join.now.rule.now.kept) }
-        ensures removed { result.removed.items ≡ labels_at_heads join.now.order.now instance.now.labels.items (suc (length join.now.rule.now.kept)) (length join.now.rule.now.removed) }
-        ensures past { result.past ≡ record { label = join.now.active; place = past (number ∷ head ∷ instance.now.labels.items) } }
-    {
-        let order = join.order;
-        let kept = join.rule.kept().len();
-        let removed = join.rule.removed().len();
-        let labels = instance.labels.as_slice();
-        let at_kept = labels_at_heads(order, labels, 1, kept);
-        let at_removed = labels_at_heads(order, labels, kept + 1, removed);
-        let mut past = copy_labels(&instance.labels);
-        if let Some(last) = past.pop() {
-            past.push(last + 1);
-        }
-        Whole {
-            rule: join.rule,
-            number,
-            kept: at_kept,
-            removed: at_removed,
-            past: Search {
-                label: join.active,
-                position: Position {
-                    rule: number,
-                    head,
-                    labels: past,
-                },
+impl<'s> Instance<'s> {
+    /// One of no labels and no variables. It takes no memory.
+    pub fn new() -> Instance<'s> {
+        Instance {
+            labels: Labels::new(),
+            binding: Binding::free(0),
+            whole: Whole {
+                number: 1,
+                kept: Labels::new(),
+                removed: Labels::new(),
+                past: Search::begin(0),
             },
         }
+    }
+
+    /// What all variables are bound to.
+    pub fn binding(&self) -> &Binding<'s>
+        ensures { result.now ≡ self.now.binding }
+    {
+        &self.binding
+    }
+
+    /// The trial.
+    pub fn whole(&self) -> &Whole
+        ensures { result.now ≡ self.now.whole }
+    {
+        &self.whole
+    }
+
+    /// Sets the trial to that of the labels, by the rule and the head at which a walk stands.
+    fn set_whole<A: Allocator + Copy>(&mut self, join: &Join<'s, A>, walk: &Walk)
+        requires rule { 1 ≤ walk.now.rule }
+        requires head { 1 ≤ walk.now.head }
+        requires trial { (t : TrialView) × IsTrialIn (join_of join.now) self.old.labels.items t }
+        ensures number { self.new.whole.number ≡ walk.now.rule }
+        ensures kept { self.new.whole.kept.items ≡ labels_at_heads join.now.order.now self.old.labels.items 1 (length join.now.rule.now.kept) }
+        ensures removed { self.new.whole.removed.items ≡ labels_at_heads join.now.order.now self.old.labels.items (suc (length join.now.rule.now.kept)) (length join.now.rule.now.removed) }
+        ensures past { self.new.whole.past ≡ record { label = join.now.active; place = past (walk.now.rule ∷ walk.now.head ∷ self.old.labels.items) } }
+        ensures binding { self.new.binding ≡ self.old.binding }
+    {
+        let labels = self.labels.as_slice();
+        let whole = &mut self.whole;
+        let kept = join.rule.kept().len();
+        let removed = join.rule.removed().len();
+        whole.number = walk.rule;
+        set_labels_at_heads(&mut whole.kept, join.order, labels, 1, kept);
+        set_labels_at_heads(&mut whole.removed, join.order, labels, kept + 1, removed);
+        whole.past.set_past(join.active, walk, labels);
     }
 }
 
 /// What comes once a search has passed over trials.
 #[derive(Drop)]
 pub enum Then<'s, A: Allocator> {
-    /// A trial that is whole.
-    Whole(Whole<'s, A>),
+    /// A trial of this rule that is whole.
+    Whole(&'s Rule<A>),
     /// No trial is left.
     Done,
     /// Perhaps more trials: as many were passed over as were asked for.
     More,
 }
 
-/// Trials that a search has passed over, and what comes then.
+/// How many trials a search has passed over, and what comes then.
 #[derive(Drop)]
 pub struct Passed<'s, A: Allocator> {
     pub count: u64,
     pub then: Then<'s, A>,
+}
+
+/// Where a walk through the heads of a predicate stands, by a rule and a head of it.
+#[derive(Drop)]
+struct Walk {
+    rule: u16,
+    head: u8,
+    /// Where the program has the head after it.
+    near: usize,
 }
 
 /// An active label, and how far its trials are ruled out.
@@ -203,6 +213,17 @@ impl Search {
         ensures { result ≡ self.now.label }
     {
         self.label
+    }
+
+    /// Becomes the search of a label past a trial of these labels, by the rule and the head at which a walk stands.
+    fn set_past(&mut self, label: Label, walk: &Walk, labels: &[Label])
+        requires rule { 1 ≤ walk.now.rule }
+        requires head { 1 ≤ walk.now.head }
+        requires trial { (t : TrialView) × IsFormed t × (labels_of t ≡ labels.now) }
+        ensures { self.new ≡ record { label = label; place = past (walk.now.rule ∷ walk.now.head ∷ labels.now) } }
+    {
+        self.label = label;
+        self.position.set_past(walk.rule, walk.head, labels);
     }
 
     /// The least trial of a rule at or after a head, from 1, and labels.
@@ -322,27 +343,26 @@ impl Search {
         };
     }
 
-    /// The plan of the next head with the active atom's predicate, from a rule and a head on. `number` and `head` become
-    /// those of that head, and `near` where the program has it. None where there is none.
+    /// The plan of the next head with the active atom's predicate, from where the walk stands on, and the walk goes there.
+    /// None where there is none.
     fn next_join<'s, A: Allocator + Copy>(
         &self,
         program: &'s Program<A>,
         plans: &'s Plans<A>,
         store: &'s Store<A>,
         atom: &Atom<A>,
-        number: &mut u16,
-        head: &mut u8,
-        near: &mut usize,
+        walk: &mut Walk,
     ) -> Option<Join<'s, A>>
         requires plans { ArePlans program.now plans.now }
         requires atom { atom_at store.now.entries self.now.label ≡ Some atom.now }
-        ensures { let s = older program.now plans.now store.now.entries self.now.label in MatchOption result (NoneLeft s (number.old ∷ head.old ∷ [])) (λ join. IsNextJoin s number.old head.old number.new head.new (join_of join)) }
+        ensures { let s = older program.now plans.now store.now.entries self.now.label in MatchOption result (NoneLeft s (walk.old.rule ∷ walk.old.head ∷ [])) (λ join. IsNextJoin s walk.old.rule walk.old.head walk.new.rule walk.new.head (join_of join)) }
     {
-        let Some(found) = program.next_occurrence(atom.pred(), *number, *head, near) else {
+        let Some(found) = program.next_occurrence(atom.pred(), walk.rule, walk.head, &mut walk.near)
+        else {
             return None;
         };
-        *number = found.0;
-        *head = found.1;
+        walk.rule = found.0;
+        walk.head = found.1;
         let rule = program.rule(usize::from(found.0))?;
         let Some(order) = plans.plan(usize::from(found.0), found.1) else {
             return None;
@@ -360,29 +380,28 @@ impl Search {
     fn pass_in_plan<'s, A: Allocator + Copy>(
         &mut self,
         join: &Join<'s, A>,
-        number: u16,
-        head: u8,
+        walk: &Walk,
         most: u64,
-        spare: &mut Spare<'s>,
+        spare: &mut Binding<'s>,
         instance: &mut Instance<'s>,
     ) -> passing::Passed
-        requires number { 1 ≤ number }
-        requires head { 1 ≤ head }
+        requires rule { 1 ≤ walk.now.rule }
+        requires head { 1 ≤ walk.now.head }
         requires begins { MayFollow (join_of join.now) [] join.now.active }
         requires plan { HasPlan (join_of join.now) }
         requires trials { HasTrials (join_of join.now) }
         ensures few { result.count ≤ most }
         ensures label { self.new.label ≡ self.old.label }
-        ensures passed { PassesPlan (join_of join.now) number head self.old.place result.count self.new.place result.end instance.new.labels.items instance.new.binding }
+        ensures passed { PassesPlan (join_of join.now) walk.now.rule walk.now.head self.old.place result.count self.new.place result.end instance.new.labels.items instance.new.binding }
     {
-        if self.position.rule == number && self.position.head == head {
+        if self.position.rule == walk.rule && self.position.head == walk.head {
             return join.pass(&mut self.position.labels, most, spare, instance);
         }
         let mut labels = Labels::new();
         let passed = join.pass(&mut labels, most, spare, instance);
         if passed.count > 0 {
-            self.position.rule = number;
-            self.position.head = head;
+            self.position.rule = walk.rule;
+            self.position.head = walk.head;
             self.position.labels = labels;
         }
         passed
@@ -403,31 +422,22 @@ impl Search {
         ensures few { result.count ≤ most }
         ensures label { self.new.label ≡ self.old.label }
         ensures passed { Passes (older program.now plans.now store.now.entries self.old.label) result.count self.old.place self.new.place }
-        ensures then { IsThen (older program.now plans.now store.now.entries self.old.label) self.new.place result.then instance.new.binding }
+        ensures then { IsThen (older program.now plans.now store.now.entries self.old.label) self.new.place result.then instance.new }
     {
         // For the proof: the labels of a store are at most the greatest.
         let _given = store.next_label();
-        let mut spare = Spare {
-            free: Binding::free(0),
-            narrowed: Binding::free(0),
+        let mut spare = Binding::free(0);
+        let mut walk = Walk {
+            rule: self.position.rule,
+            head: self.position.head,
+            near: 0,
         };
-        let mut number = self.position.rule;
-        let mut head = self.position.head;
-        let mut near = 0;
         let mut count = 0;
-        while let Some(join) = self.next_join(
-            program,
-            plans,
-            store,
-            atom,
-            &mut number,
-            &mut head,
-            &mut near,
-        ) {
-            let passed = self.pass_in_plan(&join, number, head, most - count, &mut spare, instance);
+        while let Some(join) = self.next_join(program, plans, store, atom, &mut walk) {
+            let passed = self.pass_in_plan(&join, &walk, most - count, &mut spare, instance);
             count += passed.count;
             match passed.end {
-                End::NoneLeft => head += 1,
+                End::NoneLeft => walk.head += 1,
                 End::Enough => {
                     return Passed {
                         count,
@@ -435,9 +445,10 @@ impl Search {
                     };
                 }
                 End::Whole => {
+                    instance.set_whole(&join, &walk);
                     return Passed {
                         count,
-                        then: Then::Whole(Whole::of(&join, number, head, instance)),
+                        then: Then::Whole(join.rule),
                     };
                 }
             }
@@ -463,7 +474,7 @@ impl Search {
         ensures few { result.count ≤ most }
         ensures label { self.new.label ≡ self.old.label }
         ensures passed { Passes (older program.now plans.now store.now.entries self.old.label) result.count self.old.place self.new.place }
-        ensures then { IsThen (older program.now plans.now store.now.entries self.old.label) self.new.place result.then instance.new.binding }
+        ensures then { IsThen (older program.now plans.now store.now.entries self.old.label) self.new.place result.then instance.new }
     {
         let Some(atom) = store.get(self.label) else {
             return Passed {

@@ -1,6 +1,5 @@
 -- Changes of an open ticket in its place.
-use Rattle.std.proofs.Common.{◌≡◌, ℕ, ◌+◌, ◌^◌, ◌%◌, ◌<◌, ◌≤◌, false, List, None, Some, set, get_or, Box, sym, ap, ◌∙◌}
-use Rattle.std.specs.Box.{with_value}
+use Rattle.std.proofs.Common.{◌≡◌, ℕ, ◌+◌, ◌^◌, ◌%◌, ◌<◌, ◌≤◌, false, List, None, Some, set, get_or, sym, ap, ◌∙◌}
 use Rattle.chr_calls.specs.Tickets.{Ticket, ended, ticket_at}
 use Rattle.chr_tickets.specs.declared.ticket.Ticket.{Ticket as CodeTicket}
 use Rattle.chr_tickets.specs.Open.{shown_ticket}
@@ -22,17 +21,17 @@ pub not_empty : {Z : Type 0} {first m t k : ℕ} {slots : List (Slot Z)} {L : Li
 not_empty o is none = o.live (here o.stands o.shows is ∙ ap shown_or_ended none)
 
 -- what its slot has
-pub seen : {Z : Type 0} {first m t k : ℕ} {slots : List (Slot Z)} {L : List Ticket} {slot : Slot Z} {x : Box (CodeTicket Z) Z} {v : CodeTicket Z} → Opened first m slots L t k → slot ≡ get_or slots k slot → slot ≡ Some x → v ≡ x.value → ticket_at L t ≡ shown_ticket v
-seen o is there value = here o.stands o.shows is ∙ ap shown_or_ended there ∙ ap shown_ticket (sym value)
+pub seen : {Z : Type 0} {first m t k : ℕ} {slots : List (Slot Z)} {L : List Ticket} {slot : Slot Z} {x : CodeTicket Z} → Opened first m slots L t k → slot ≡ get_or slots k slot → slot ≡ Some x → ticket_at L t ≡ shown_ticket x
+seen o is there = here o.stands o.shows is ∙ ap shown_or_ended there
 
 -- ---- once it has changed
 
-pub changed : {Z : Type 0} {first m t k : ℕ} {slots : List (Slot Z)} {L : List Ticket} {slot : Slot Z} {x : Box (CodeTicket Z) Z} {v : CodeTicket Z} (f : Ticket → Ticket) (w : CodeTicket Z) → Opened first m slots L t k → slot ≡ get_or slots k slot → slot ≡ Some x → v ≡ x.value → shown_ticket w ≡ f (shown_ticket v) → listed first (set slots k (Some (with_value x w))) ≡ set L t (f (ticket_at L t))
-changed {Z} {first} {m} {t} {k} {slots} {L} {slot} {x} {v} f w o is there value becomes =
-    put (Some (with_value x w)) o.stands o.shows
-    ∙ ap (set L t) (becomes ∙ ap f (sym (seen o is there value)))
+pub changed : {Z : Type 0} {first m t k : ℕ} {slots : List (Slot Z)} {L : List Ticket} {slot : Slot Z} {x : CodeTicket Z} (f : Ticket → Ticket) (w : CodeTicket Z) → Opened first m slots L t k → slot ≡ get_or slots k slot → slot ≡ Some x → shown_ticket w ≡ f (shown_ticket x) → listed first (set slots k (Some w)) ≡ set L t (f (ticket_at L t))
+changed {Z} {first} {m} {t} {k} {slots} {L} {slot} {x} f w o is there becomes =
+    put (Some w) o.stands o.shows
+    ∙ ap (set L t) (becomes ∙ ap f (sym (seen o is there)))
 
 -- where no ticket below n is marked then
-pub still_queued : {Z : Type 0} {first m t k : ℕ} {slots : List (Slot Z)} {L : List Ticket} {slot : Slot Z} {x : Box (CodeTicket Z) Z} {v : CodeTicket Z} (n : ℕ) (f : Ticket → Ticket) (w : CodeTicket Z) → Opened first m slots L t k → slot ≡ get_or slots k slot → slot ≡ Some x → v ≡ x.value → shown_ticket w ≡ f (shown_ticket v) → n ≤ m → (t < n → (f (ticket_at L t)).stray ≡ false) → AreQueued first (set slots k (Some (with_value x w))) n
-still_queued {Z} {first} {m} {t} {k} {slots} {L} {slot} {x} {v} n f w o is there value becomes le unmarked =
-    kept n (f (ticket_at L t)) (with_value x w) o.stands o.queued o.shows (changed f w o is there value becomes) le unmarked
+pub still_queued : {Z : Type 0} {first m t k : ℕ} {slots : List (Slot Z)} {L : List Ticket} {slot : Slot Z} {x : CodeTicket Z} (n : ℕ) (f : Ticket → Ticket) (w : CodeTicket Z) → Opened first m slots L t k → slot ≡ get_or slots k slot → slot ≡ Some x → shown_ticket w ≡ f (shown_ticket x) → n ≤ m → (t < n → (f (ticket_at L t)).stray ≡ false) → AreQueued first (set slots k (Some w)) n
+still_queued {Z} {first} {m} {t} {k} {slots} {L} {slot} {x} n f w o is there becomes le unmarked =
+    kept n (f (ticket_at L t)) w o.stands o.queued o.shows (changed f w o is there becomes) le unmarked

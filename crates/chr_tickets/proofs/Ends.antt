@@ -1,15 +1,16 @@
 -- Tickets that come and go at the ends of the queue.
-use Rattle.std.proofs.Common.{◌≡◌, ℕ, zero, suc, ◌+◌, ◌-◌, ◌^◌, ◌<◌, ◌≤◌, min, false, List, [], ◌∷◌, ◌++◌, map, Some, None, length, take, drop, get_or, replicate, Box, refl, sym, ap, subst, ◌∙◌, ⊎_elim, arith, append-nil, append_assoc}
+use Rattle.std.proofs.Common.{◌≡◌, ℕ, zero, suc, ◌+◌, ◌-◌, ◌^◌, ◌%◌, ◌<◌, ◌≤◌, min, false, List, [], ◌∷◌, ◌++◌, map, Some, None, length, take, drop, get_or, set, replicate, refl, sym, ap, subst, ◌∙◌, ⊎_elim, arith, append-nil, append_assoc}
 use Rattle.std.specs.Option.{IsSome}
 use Rattle.std.proofs.lemmas.Bool.{cases_lt}
 use Rattle.std.proofs.lemmas.List.{get_or_past, get_or_append_left, get_or-append_right, get_or-take, length-append, length-take, length-replicate, map-append, take-append-le, take-map, take-replicate, replicate-append-replicate}
+use Rattle.std.proofs.Math.ListN.{length-set}
 use Rattle.std.proofs.Math.Seq.{take-append-add}
 use Rattle.chr_model.specs.Goals.{Ended}
 use Rattle.chr_calls.specs.Tickets.{Ticket, ended, ticket_at, AreQuiet}
 use Rattle.chr_tickets.specs.declared.ticket.Ticket.{Ticket as CodeTicket}
 use Rattle.chr_tickets.specs.Open.{shown_ticket}
 use Rattle.chr_tickets.specs.Listed.{Slot, shown_or_ended, listed, StartsOpen, AreUnmarked, AreQueued}
-use Rattle.chr_tickets.proofs.Listed.{read_before, read_at, read_past}
+use Rattle.chr_tickets.proofs.Listed.{placed, put, read_before, read_at, read_past, unmarked_set}
 use Rattle.chr_tickets.proofs.States.{shown_open}
 
 -- ---- the first slot goes
@@ -23,13 +24,40 @@ popped {Z} first (slot ∷ slots) rest front some none is e =
     ∙ append_assoc (replicate first ended) (ended ∷ []) (map shown_or_ended slots)
     ∙ ap (λ (x : Slot Z). replicate first ended ++ shown_or_ended x ∷ map shown_or_ended slots) (sym none ∙ is)
 
+-- the ticket of the first slot ends
+pub ended_first : {Z : Type 0} {first m : ℕ} {L : List Ticket} (t k : ℕ) (slots rest : List (Slot Z)) → AreQueued first slots m → listed first slots ≡ L → (first + k) % 2 ^ 64 ≡ t → k ≡ 0 → 0 < length slots → rest ≡ drop 1 slots → listed (first + 1) rest ≡ set L t ended
+ended_first t k [] rest g e at none some is = absurd (omega arith)
+ended_first {Z} {first} t k (slot ∷ slots) rest g e at none some is = popped first (None ∷ slots) rest None (omega arith) refl refl is ∙ put None (placed t 0 g (omega arith) some) e
+
+-- ---- a slot behind the first is emptied
+
+starts_behind : {Z : Type 0} (slots : List (Slot Z)) (k : ℕ) → 0 < k → StartsOpen slots → StartsOpen (set slots k None)
+starts_behind [] k behind h = h
+starts_behind (slot ∷ slots) zero behind h = absurd (omega arith)
+starts_behind (slot ∷ slots) (suc k) behind h = h
+
+-- no mark comes where a ticket ends
+pub unmarked_end : {Z : Type 0} {first m : ℕ} {slots : List (Slot Z)} {L M : List Ticket} (t : ℕ) → AreQueued first slots m → listed first slots ≡ L → M ≡ set L t ended → AreUnmarked M m
+unmarked_end {Z} {first} {m} {slots} {L} t g e after = subst (λ xs. AreUnmarked xs m) (sym after) (unmarked_set L m m t ended (subst (λ xs. AreUnmarked xs m) e g.marks) (omega arith) (λ l. refl))
+
+pub ended_behind : {Z : Type 0} {first m : ℕ} {slots : List (Slot Z)} {L : List Ticket} (t k : ℕ) → AreQueued first slots m → listed first slots ≡ L → (first + k) % 2 ^ 64 ≡ t → k < length slots → listed first (set slots k None) ≡ set L t ended
+ended_behind t k g e at within = put None (placed t k g at within) e
+
+pub queued_behind : {Z : Type 0} {first m : ℕ} {slots : List (Slot Z)} {L : List Ticket} (t k : ℕ) → AreQueued first slots m → listed first slots ≡ L → (first + k) % 2 ^ 64 ≡ t → k < length slots → 0 < k → AreQueued first (set slots k None) m
+queued_behind {Z} {first} {m} {slots} t k g e at within behind = record {
+  some = g.some;
+  fits = (let l = length-set slots k None in let fits = g.fits in omega arith);
+  starts = starts_behind slots k behind g.starts;
+  marks = unmarked_end t g e (ended_behind t k g e at within);
+}
+
 -- ---- a slot comes last
 
-pub listed_push : {Z : Type 0} (first : ℕ) (slots : List (Slot Z)) (x : Box (CodeTicket Z) Z) → listed first (slots ++ Some x ∷ []) ≡ listed first slots ++ shown_ticket x.value ∷ []
+pub listed_push : {Z : Type 0} (first : ℕ) (slots : List (Slot Z)) (x : CodeTicket Z) → listed first (slots ++ Some x ∷ []) ≡ listed first slots ++ shown_ticket x ∷ []
 unfolding listed
-listed_push first slots x = ap (λ xs. replicate first ended ++ xs) (map-append shown_or_ended slots (Some x ∷ [])) ∙ sym (append_assoc (replicate first ended) (map shown_or_ended slots) (shown_ticket x.value ∷ []))
+listed_push first slots x = ap (λ xs. replicate first ended ++ xs) (map-append shown_or_ended slots (Some x ∷ [])) ∙ sym (append_assoc (replicate first ended) (map shown_or_ended slots) (shown_ticket x ∷ []))
 
-starts_push : {Z : Type 0} (slots : List (Slot Z)) (x : Box (CodeTicket Z) Z) → StartsOpen slots → StartsOpen (slots ++ Some x ∷ [])
+starts_push : {Z : Type 0} (slots : List (Slot Z)) (x : CodeTicket Z) → StartsOpen slots → StartsOpen (slots ++ Some x ∷ [])
 starts_push [] x h = refl
 starts_push (slot ∷ slots) x h = h
 
@@ -44,12 +72,12 @@ unmarked_push L m x u h t l =
     only zero = h
     only (suc k) = refl
 
-pub queued_push : {Z : Type 0} (first m : ℕ) (slots : List (Slot Z)) (x : Box (CodeTicket Z) Z) → AreQueued first slots m → first + length slots + 1 < 2 ^ 64 → (shown_ticket x.value).stray ≡ false → AreQueued first (slots ++ Some x ∷ []) m
+pub queued_push : {Z : Type 0} (first m : ℕ) (slots : List (Slot Z)) (x : CodeTicket Z) → AreQueued first slots m → first + length slots + 1 < 2 ^ 64 → (shown_ticket x).stray ≡ false → AreQueued first (slots ++ Some x ∷ []) m
 queued_push first m slots x g l h = record {
   some = g.some;
   fits = (let e = length-append slots (Some x ∷ []) in omega arith);
   starts = starts_push slots x g.starts;
-  marks = subst (λ xs. AreUnmarked xs m) (sym (listed_push first slots x)) (unmarked_push (listed first slots) m (shown_ticket x.value) g.marks h);
+  marks = subst (λ xs. AreUnmarked xs m) (sym (listed_push first slots x)) (unmarked_push (listed first slots) m (shown_ticket x) g.marks h);
 }
 
 -- ---- the last slots go
@@ -121,7 +149,7 @@ quiet first slots L e none t =
 first_open : {Z : Type 0} (first : ℕ) (slot : Slot Z) (slots : List (Slot Z)) → IsSome slot → (ticket_at (listed first (slot ∷ slots)) first).goal ≡ Ended → ⊥
 first_open first None slots some e = absurd (cc)
 first_open first (Some x) slots some e =
-    shown_open x.value.goal x.value.stray
+    shown_open x.goal x.stray
     (sym (ap (λ (y : Ticket). y.goal) (ap (λ n. ticket_at (listed first (Some x ∷ slots)) n) (let z : first ≡ first + 0 = omega arith in z) ∙ read_at first (Some x ∷ slots) 0 (Some x) (omega arith) refl)) ∙ e)
 
 pub not_quiet : {Z : Type 0} (first : ℕ) (slots : List (Slot Z)) (L : List Ticket) → StartsOpen slots → listed first slots ≡ L → AreQuiet L → length slots ≡ 0

@@ -1,5 +1,5 @@
 -- The list of all tickets, and the queue of those that may be open.
-use Rattle.std.proofs.Common.{◌≡◌, ℕ, zero, suc, ◌+◌, ◌-◌, ◌^◌, ◌%◌, ◌<◌, ◌≤◌, false, List, [], ◌∷◌, ◌++◌, map, Some, length, set, get_or, replicate, Box, refl, sym, ap, subst, ◌∙◌, ⊎_elim, arith}
+use Rattle.std.proofs.Common.{◌≡◌, ℕ, zero, suc, ◌+◌, ◌-◌, ◌^◌, ◌%◌, ◌<◌, ◌≤◌, false, List, [], ◌∷◌, ◌++◌, map, Some, length, set, get_or, replicate, refl, sym, ap, subst, ◌∙◌, ⊎_elim, arith}
 use Rattle.std.proofs.lemmas.Bool.{cases_lt, cases_eq}
 use Rattle.std.proofs.lemmas.List.{get_or-set_same, get_or-set_other, get_or_past, get_or_append_left, get_or-append_right, get_or-map, get_or-replicate, set-append_right, length-append, length-map, length-replicate, map-set}
 use Rattle.std.proofs.Math.ListN.{length-set}
@@ -69,7 +69,7 @@ listed_set first slots k slot =
 pub put : {Z : Type 0} {first t k : ℕ} {slots : List (Slot Z)} {L : List Ticket} (slot : Slot Z) → Stands first slots t k → listed first slots ≡ L → listed first (set slots k slot) ≡ set L t (shown_or_ended slot)
 put {Z} {first} {t} {k} {slots} {L} slot s e = listed_set first slots k slot ∙ ap (λ u. set (listed first slots) u (shown_or_ended slot)) s.at ∙ ap (λ xs. set xs t (shown_or_ended slot)) e
 
-starts_set : {Z : Type 0} (slots : List (Slot Z)) (k : ℕ) (x : Box (CodeTicket Z) Z) → StartsOpen slots → StartsOpen (set slots k (Some x))
+starts_set : {Z : Type 0} (slots : List (Slot Z)) (k : ℕ) (x : CodeTicket Z) → StartsOpen slots → StartsOpen (set slots k (Some x))
 starts_set [] k x h = h
 starts_set (slot ∷ slots) zero x h = refl
 starts_set (slot ∷ slots) (suc k) x h = h
@@ -87,7 +87,7 @@ unmarked_set L m n t x u le h q l =
     (cases_eq q t)
 
 -- the queue after a change of an open slot, which makes x of its ticket
-pub kept : {Z : Type 0} {first t k m : ℕ} {slots : List (Slot Z)} {L : List Ticket} (n : ℕ) (x : Ticket) (y : Box (CodeTicket Z) Z) → Stands first slots t k → AreQueued first slots m → listed first slots ≡ L → listed first (set slots k (Some y)) ≡ set L t x → n ≤ m → (t < n → x.stray ≡ false) → AreQueued first (set slots k (Some y)) n
+pub kept : {Z : Type 0} {first t k m : ℕ} {slots : List (Slot Z)} {L : List Ticket} (n : ℕ) (x : Ticket) (y : CodeTicket Z) → Stands first slots t k → AreQueued first slots m → listed first slots ≡ L → listed first (set slots k (Some y)) ≡ set L t x → n ≤ m → (t < n → x.stray ≡ false) → AreQueued first (set slots k (Some y)) n
 kept {Z} {first} {t} {k} {m} {slots} {L} n x y s g e after le h = record {
   some = g.some;
   fits = (let l = length-set slots k (Some y) in let fits = g.fits in omega arith);

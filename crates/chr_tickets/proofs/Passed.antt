@@ -1,9 +1,8 @@
 -- A ticket whose search passes over trials, in its place.
-use Rattle.std.proofs.Common.{◌≡◌, ℕ, zero, suc, ◌+◌, false, List, Option, Some, length, set, get_or, Box, refl, sym, ap, ◌∙◌, arith}
-use Rattle.std.specs.Box.{with_value}
+use Rattle.std.proofs.Common.{◌≡◌, ℕ, zero, suc, ◌+◌, false, List, Some, length, set, get_or, refl, sym, ap, ◌∙◌, arith}
 use Rattle.std.proofs.lemmas.List.{get_or-set_same}
-use Rattle.chr_value.specs.Atoms.{Value}
 use Rattle.chr_search.specs.Trials.{Space}
+use Rattle.chr_search.specs.declared.search.Instance.{Instance}
 use Rattle.chr_search.specs.declared.search.Passed.{Passed}
 use Rattle.chr_calls.specs.Tickets.{Ticket, ended, ticket_at}
 use Rattle.chr_tickets.specs.declared.ticket.Ticket.{Ticket as CodeTicket}
@@ -18,12 +17,12 @@ same_mark : (n : ℕ) (place : List ℕ) (x : Ticket) → (gone_over n place x).
 same_mark zero place x = refl
 same_mark (suc n) place x = refl
 
-pub still_unmarked : {Z : Type 0} {s : Space} {passed : Passed Z} {binding : List (Option (Value ℕ))} {x after : Ticket} → PassesOver s passed binding x after → x.stray ≡ false → after.stray ≡ false
-still_unmarked {Z} {s} {passed} {binding} {x} {after} over unmarked = ap (λ (y : Ticket). y.stray) over.after_is ∙ same_mark passed.count over.place x ∙ unmarked
+pub still_unmarked : {Z : Type 0} {s : Space} {passed : Passed Z} {instance : Instance} {x after : Ticket} → PassesOver s passed instance x after → x.stray ≡ false → after.stray ≡ false
+still_unmarked {Z} {s} {passed} {instance} {x} {after} over unmarked = ap (λ (y : Ticket). y.stray) over.after_is ∙ same_mark passed.count over.place x ∙ unmarked
 
 -- the tickets then, and what they have there
-pub tickets_are : {Z : Type 0} {first m t k : ℕ} {slots : List (Slot Z)} {L : List Ticket} {slot : Slot Z} {x : Box (CodeTicket Z) Z} {v : CodeTicket Z} (w : CodeTicket Z) → Opened first m slots L t k → slot ≡ get_or slots k slot → slot ≡ Some x → v ≡ x.value → listed first (set slots k (Some (with_value x w))) ≡ set L t (shown_ticket w)
-tickets_are w o is there value = changed (λ y. shown_ticket w) w o is there value refl
+pub tickets_are : {Z : Type 0} {first m t k : ℕ} {slots : List (Slot Z)} {L : List Ticket} {slot : Slot Z} {x : CodeTicket Z} (w : CodeTicket Z) → Opened first m slots L t k → slot ≡ get_or slots k slot → slot ≡ Some x → listed first (set slots k (Some w)) ≡ set L t (shown_ticket w)
+tickets_are w o is there = changed (λ y. shown_ticket w) w o is there refl
 
 pub ticket_is : {Z : Type 0} {first m t k : ℕ} {slots : List (Slot Z)} {L : List Ticket} (x : Ticket) → Opened first m slots L t k → ticket_at (set L t x) t ≡ x
 ticket_is {Z} {first} {m} {t} {k} {slots} {L} x o =

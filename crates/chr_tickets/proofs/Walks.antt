@@ -4,9 +4,8 @@ use Rattle.std.proofs.lemmas.Bool.{cases_lt, false≢true}
 use Rattle.std.proofs.lemmas.Bool.Decides.{nat_tests}
 use Rattle.chr_calls.specs.declared.answers.TicketState.{TicketState}
 use Rattle.chr_calls.specs.declared.answers.TicketState.TheVariants as states
-use Rattle.chr_calls.specs.Tickets.{Ticket, ended, ticket_at, state_of, IsOpenFor, waits_for, held_for, rests_for, IsLeastFor, NoneFor}
+use Rattle.chr_calls.specs.Tickets.{Ticket, ended, ticket_at, state_of, IsStray, IsOpenFor, waits_for, held_for, rests_for, IsLeastFor, NoneFor}
 use Rattle.chr_tickets.specs.Open.{state_in, is_open_for}
-use Rattle.chr_tickets.specs.Stray.{IsFirstStray}
 use Rattle.chr_tickets.specs.Listed.{Slot, shown_or_ended, listed, AreUnmarked, AreQueued}
 use Rattle.chr_tickets.proofs.Listed.{read_before, read_at, read_past}
 use Rattle.chr_tickets.proofs.States.{state_found, state_known}
@@ -47,16 +46,16 @@ below_start first m start slots L e u is t l =
     (λ after. ap (λ xs. (ticket_at xs t).stray) (sym e) ∙ u t (omega arith))
     (cases_lt t first)
 
-stray_least : (L : List Ticket) (n : ℕ) → IsFirstStray L n → AreUnmarked L n
-stray_least L n h t l = off (ticket_at L t).stray (λ e. let le : n ≤ t = h.least t e in omega arith)
+unmarked_below : (L : List Ticket) (n : ℕ) → ((u : ℕ) → IsStray L u → n ≤ u) → AreUnmarked L n
+unmarked_below L n h t l = off (ticket_at L t).stray (λ e. let le : n ≤ t = h t e in omega arith)
   where
     off : (b : Bool) → (b ≡ true → ⊥) → b ≡ false
     off true k = absurd (k refl)
     off false k = refl
 
--- what the walk has found
-pub queued_least : {Z : Type 0} {first m : ℕ} {slots : List (Slot Z)} {L : List Ticket} (n : ℕ) → AreQueued first slots m → listed first slots ≡ L → IsFirstStray L n → AreQueued first slots n
-queued_least {Z} {first} {m} {slots} {L} n g e h = record { some = g.some; fits = g.fits; starts = g.starts; marks = subst (λ xs. AreUnmarked xs n) (sym e) (stray_least L n h) }
+-- what the walk has found: marks from a number on
+pub queued_least : {Z : Type 0} {first m : ℕ} {slots : List (Slot Z)} {L : List Ticket} (n : ℕ) → AreQueued first slots m → listed first slots ≡ L → ((u : ℕ) → IsStray L u → n ≤ u) → AreQueued first slots n
+queued_least {Z} {first} {m} {slots} {L} n g e h = record { some = g.some; fits = g.fits; starts = g.starts; marks = subst (λ xs. AreUnmarked xs n) (sym e) (unmarked_below L n h) }
 
 -- ---- a ticket that no other seat holds
 

@@ -1,17 +1,16 @@
 -- The queue of tickets, and the list of all tickets.
 use Rattle.std.specs.Prelude.{◌≡◌, ℕ, ◌+◌, ◌^◌, ◌<◌, ◌≤◌, false, List, [], ◌∷◌, ◌++◌, length, map, replicate, Option, Some, None, IsSome}
-use Rattle.std.specs.declared.boxed.Box.{Box}
 use Rattle.chr_calls.specs.Tickets.{Ticket, ended, ticket_at}
 use Rattle.chr_tickets.specs.declared.ticket.Ticket.{Ticket as CodeTicket}
 use Rattle.chr_tickets.specs.Open.{shown_ticket}
 
 -- a slot of the queue, which has a ticket while it is open
 abbrev pub Slot : Type 0 → Type 0
-Slot Z = Option (Box (CodeTicket Z) Z)
+Slot Z = Option (CodeTicket Z)
 
 abbrev pub shown_or_ended : {Z : Type 0} → Slot Z → Ticket
 shown_or_ended None = ended
-shown_or_ended (Some x) = shown_ticket x.value
+shown_or_ended (Some x) = shown_ticket x
 
 -- all tickets: those before the queue's first have ended
 unfoldable pub listed : {Z : Type 0} → ℕ → List (Slot Z) → List Ticket

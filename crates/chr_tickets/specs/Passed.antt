@@ -1,8 +1,8 @@
 -- Tickets whose searches pass over trials.
-use Rattle.std.specs.Prelude.{◌≡◌, ℕ, zero, suc, List, Option}
-use Rattle.chr_value.specs.Atoms.{Value}
+use Rattle.std.specs.Prelude.{◌≡◌, ℕ, zero, suc, List}
 use Rattle.chr_search.specs.Trials.{Space}
 use Rattle.chr_search.specs.Passing.{Passes, IsThen}
+use Rattle.chr_search.specs.declared.search.Instance.{Instance}
 use Rattle.chr_search.specs.declared.search.Passed.{Passed}
 use Rattle.chr_calls.specs.Tickets.{Ticket, going_on}
 
@@ -12,8 +12,8 @@ gone_over zero place x = x
 gone_over (suc n) place x = going_on place x
 
 -- the ticket's search passes over trials, and comes to a place, where this is next
-pub record PassesOver {Z : Type 0} (s : Space) (passed : Passed Z) (binding : List (Option (Value ℕ))) (x after : Ticket) : Type 0 where
+pub record PassesOver {Z : Type 0} (s : Space) (passed : Passed Z) (instance : Instance) (x after : Ticket) : Type 0 where
   pub place : List ℕ
   pub passes : Passes s passed.count x.position place
-  pub next : IsThen s place passed.then binding
+  pub next : IsThen s place passed.then instance
   pub after_is : after ≡ gone_over passed.count place x

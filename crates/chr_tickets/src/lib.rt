@@ -1,9 +1,9 @@
 //! The tickets of a book: each posted or added atom gets the next one, and keeps it until its goal has ended.
 //!
 //! An open ticket has an atom that waits, or the search of an active goal with the seat that holds it and its candidate;
-//! and it may be marked stray, for whoever looks for work. The tickets stand in a queue by their numbers. One that has
-//! ended gives its memory back at once, but for 8 bytes until those before it have ended too. Only
-//! [`push`](tickets::Tickets::push) takes memory: it makes room for all that a ticket becomes later.
+//! and it may be marked stray, for whoever looks for work. The tickets stand in a queue by their numbers, each in a slot with
+//! room for all that it becomes later. The slot of one that has ended is empty, and goes once those before it have ended too.
+//! Only [`push`](tickets::Tickets::push) takes memory, where the queue has to grow.
 #![tactic(auto)]
 
 mod slots;

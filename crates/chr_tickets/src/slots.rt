@@ -7,7 +7,7 @@ use std::alloc::Allocator;
 use std::collections::VecDeque;
 
 /// A queue of tickets by their numbers. The slot of a ticket that has ended is empty.
-pub(crate) type Slots<A> = VecDeque<Option<Box<Ticket<A>, A>>, A>;
+pub(crate) type Slots<A> = VecDeque<Option<Ticket<A>>, A>;
 
 /// The place of a ticket in a queue, by the number of the queue's first slot. A ticket before that has a place beyond the
 /// queue's end.

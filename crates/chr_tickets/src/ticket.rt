@@ -1,10 +1,11 @@
 //! A ticket that is open.
-ghost use Rattle.std.specs.Prelude.{◌≡◌, ℕ, ◌≤◌};
+ghost use Rattle.std.specs.Prelude.{◌≡◌, ℕ, ◌≤◌, MatchOption};
 ghost use Rattle.std.specs.Option.{option_copied};
 ghost use Rattle.chr_model.specs.Goals.{Numbered};
 ghost use Rattle.chr_plan.specs.Plans.{ArePlans};
 ghost use Rattle.chr_search.specs.Answers.{after_judging};
 ghost use Rattle.chr_search.specs.Trials.{older};
+ghost use Rattle.chr_calls.specs.declared.answers.TicketState.TheVariants.{Held};
 ghost use Rattle.chr_calls.specs.Tickets.{waiting, activated_by, held_by, put_down, with_candidate, going_on, atom_in, search_in};
 ghost use Rattle.chr_tickets.specs.Open.{shown_ticket, state_in, is_open_for, IsActiveGoal};
 ghost use Rattle.chr_tickets.specs.Passed.{PassesOver};
@@ -92,6 +93,26 @@ impl<A: Allocator + Copy> Ticket<A> {
         match &self.goal {
             Goal::Waiting(_) => None,
             Goal::Active { search, .. } => Some(search),
+        }
+    }
+
+    /// The search, where this seat holds the ticket.
+    pub(crate) fn held(&self, seat: u32) -> Option<&Search>
+        ensures { MatchOption result (state_in (shown_ticket self.now) ≡ Held seat → ⊥) (λ search. (state_in (shown_ticket self.now) ≡ Held seat) × (Some search.now ≡ search_in (shown_ticket self.now))) }
+    {
+        match &self.goal {
+            Goal::Active {
+                search,
+                holder: Some(holder),
+                ..
+            } => {
+                if *holder != seat {
+                    return None;
+                }
+                Some(search)
+            }
+            Goal::Active { holder: None, .. } => None,
+            Goal::Waiting(_) => None,
         }
     }
 
@@ -190,7 +211,7 @@ impl<A: Allocator + Copy> Ticket<A> {
         requires active { IsActiveGoal (shown_ticket self.old).goal }
         requires plans { ArePlans program.now plans.now }
         ensures few { result.count ≤ most }
-        ensures passed { (l : ℕ) → (shown_ticket self.old).goal ≡ Numbered l → PassesOver (older program.now plans.now store.now.entries l) result instance.new.binding (shown_ticket self.old) (shown_ticket self.new) }
+        ensures passed { (l : ℕ) → (shown_ticket self.old).goal ≡ Numbered l → PassesOver (older program.now plans.now store.now.entries l) result instance.new (shown_ticket self.old) (shown_ticket self.new) }
     {
         let Goal::Active {
             search,

@@ -6,7 +6,7 @@ ghost use Rattle.chr_plan.specs.Plans.{ArePlans};
 ghost use Rattle.chr_search.specs.Answers.{after_judging};
 ghost use Rattle.chr_search.specs.Trials.{older};
 ghost use Rattle.chr_calls.specs.declared.answers.TicketState.TheVariants.{Waiting, Resting};
-ghost use Rattle.chr_calls.specs.Tickets.{ended, waiting, activated_by, held_by, put_down, marked, with_candidate, going_on, ticket_at, state_of, IsClaimable, IsActive, AreQuiet, atom_in, search_in, LosesStray, IsLeastFor, NoneFor};
+ghost use Rattle.chr_calls.specs.Tickets.{ended, waiting, activated_by, held_by, put_down, marked, with_candidate, going_on, ticket_at, state_of, IsClaimable, IsActive, Holds, IsNotHeld, AreQuiet, atom_in, search_in, LosesStray, IsLeastFor, NoneFor};
 ghost use Rattle.chr_tickets.specs.Open.{shown_ticket};
 ghost use Rattle.chr_tickets.specs.Passed.{PassesOver};
 ghost use Rattle.chr_tickets.specs.Stray.{IsFirstStray, NoneStray};
@@ -74,6 +74,11 @@ impl<A: Allocator + Copy> Tickets<A> {
         self.first + self.slots.len() as u64
     }
 
+    /// The allocator that tickets are given memory by.
+    pub fn allocator(&self) -> A {
+        *self.slots.allocator()
+    }
+
     /// An open ticket.
     fn found(&self, ticket: u64) -> Option<&Ticket<A>>
         ensures ticket { MatchOption result (ticket_at self.now ticket ≡ ended) (λ x. shown_ticket x.now ≡ ticket_at self.now ticket) }
@@ -117,6 +122,13 @@ impl<A: Allocator + Copy> Tickets<A> {
         self.found(ticket)?.search()
     }
 
+    /// The search of an active goal that the seat holds.
+    pub fn held(&self, seat: u32, ticket: u64) -> Option<&Search>
+        ensures { MatchOption result (IsNotHeld self.now seat ticket) (λ search. Holds self.now seat ticket search.now.label × (search.now.place ≡ (ticket_at self.now ticket).position)) }
+    {
+        self.found(ticket)?.held(seat)
+    }
+
     /// The candidate of an active goal, where it has one.
     pub fn candidate(&self, ticket: u64) -> Option<&Trial<A>>
         ensures { option_copied result ≡ (ticket_at self.now ticket).candidate }
@@ -126,6 +138,7 @@ impl<A: Allocator + Copy> Tickets<A> {
 
     /// Gives an atom the next ticket, which waits. E01 where memory ran out, or where the next ticket is the greatest
     /// number; nothing has changed then.
+    #[inline(always)]
     pub fn push(&mut self, atom: Atom<A>) -> Result<(), AllocError>
         ensures ok { OnOk result (self.new ≡ self.old ++ waiting atom ∷ []) }
         ensures err { OnErr result (self.new ≡ self.old) }
@@ -133,8 +146,8 @@ impl<A: Allocator + Copy> Tickets<A> {
         if self.next() == u64::MAX {
             return Err(AllocError);
         }
-        let ticket = Box::new(*self.slots.allocator(), Ticket::waiting(atom))?;
-        self.slots.push_back(Some(ticket))?;
+        self.slots.reserve(1)?;
+        self.slots.push_back_reserved(Some(Ticket::waiting(atom)));
         Ok(())
     }
 
@@ -218,7 +231,7 @@ impl<A: Allocator + Copy> Tickets<A> {
         requires active { IsActive self.old ticket }
         requires plans { ArePlans program.now plans.now }
         ensures few { result.count ≤ most }
-        ensures passed { (l : ℕ) → (ticket_at self.old ticket).goal ≡ Numbered l → PassesOver (older program.now plans.now store.now.entries l) result instance.new.binding (ticket_at self.old ticket) (ticket_at self.new ticket) }
+        ensures passed { (l : ℕ) → (ticket_at self.old ticket).goal ≡ Numbered l → PassesOver (older program.now plans.now store.now.entries l) result instance.new (ticket_at self.old ticket) (ticket_at self.new ticket) }
         ensures others { self.new ≡ slice_set self.old ticket (ticket_at self.new ticket) }
     {
         let Some(found) = &mut self.slots[place_of(self.first, ticket)] else {
@@ -243,10 +256,16 @@ impl<A: Allocator + Copy> Tickets<A> {
         ensures { self.new ≡ slice_set self.old ticket ended }
     {
         let at = place_of(self.first, ticket);
-        if at < self.slots.len() {
-            self.slots[at] = None;
-            self.first = pop_ended(&mut self.slots, self.first);
+        if at >= self.slots.len() {
+            return;
         }
+        if at > 0 {
+            // The first ticket is still open, and no slot goes before its own.
+            self.slots[at] = None;
+            return;
+        }
+        self.slots.pop_front();
+        self.first = pop_ended(&mut self.slots, self.first + 1);
     }
 
     /// Marks a ticket that waits or rests.

@@ -4,6 +4,7 @@ use Rattle.chr_model.specs.Stores.{without}
 use Rattle.chr_model.specs.Goals.{Numbered}
 use Rattle.chr_search.specs.Reach.{SearchState}
 use Rattle.chr_search.specs.Passing.{IsThen}
+use Rattle.chr_search.specs.declared.search.Whole.{Whole}
 use Rattle.chr_calls.specs.Tickets.{ticket_at}
 use Rattle.chr_calls.specs.Books.{BookState, space_of, with_tickets}
 use Rattle.chr_calls.specs.Calls.{HoldsLive}
@@ -29,14 +30,14 @@ label g c = c.requires.held.0
 live : (g : Over) (c : After-pass_over-come g) → HoldsLive (book g c) c.args.seat c.args.ticket (label g c)
 live g c = subst (λ (b : BookState). HoldsLive b c.args.seat c.args.ticket (label g c)) (sym c.self.view_is) c.requires.held.1
 
-over : (g : Over) (c : After-pass_over-come g) → PassesOver (space_of (book g c) (label g c)) c.pass_over-come.result c.pass_over-come.new.instance.binding (ticket_at c.self.inside.tickets c.args.ticket) (ticket_at c.pass_over-come.new.self c.args.ticket)
+over : (g : Over) (c : After-pass_over-come g) → PassesOver (space_of (book g c) (label g c)) c.pass_over-come.result c.pass_over-come.new.instance (ticket_at c.self.inside.tickets c.args.ticket) (ticket_at c.pass_over-come.new.self c.args.ticket)
 over g c = c.pass_over-come.ensures.passed (label g c) (live g c).holds.goal
 
 abbrev place : (g : Over) → After-pass_over-come g → List ℕ
 place g c = (over g c).place
 
 past : (g : Over) (c : After-pass_over-come g) → IsPast (book g c) c.args.seat c.args.ticket c.pass_over-come.result.count (label g c) (place g c) c.pass_over-come.new.self
-past g c = gone_past (book g c) c.args.seat c.args.ticket (label g c) c.pass_over-come.result c.pass_over-come.new.instance.binding c.pass_over-come.new.self (live g c) (over g c) c.pass_over-come.ensures.others
+past g c = gone_past (book g c) c.args.seat c.args.ticket (label g c) c.pass_over-come.result c.pass_over-come.new.instance c.pass_over-come.new.self (live g c) (over g c) c.pass_over-come.ensures.others
 
 -- ---- what has been made of it
 
@@ -50,17 +51,18 @@ dropped : (g : Over) (c : In_ok-end_goal-in-Done g) → Makes g (goal.at.invaria
 dropped g c =
     let o = (goal.at.invariant_of-self-in-Done g c).After-pass_over-come in
     dropped_rounds (book g o) c.args.seat c.args.ticket c.pass_over-come.result.count (label g o) (place g o) c.pass_over-come.new.self c.end_goal.new.tickets c.end_goal.new.log (past g o)
-    (subst (λ next. IsThen (space_of (book g o) (label g o)) (place g o) next c.pass_over-come.new.instance.binding) c.in-Done.is (over g o).next)
+    (subst (λ next. IsThen (space_of (book g o) (label g o)) (place g o) next c.pass_over-come.new.instance) c.in-Done.is (over g o).next)
     c.in_ok-end_goal-in-Done.ensures.tickets c.in_ok-end_goal-in-Done.ensures.log
 
 fired : (g : Over) (c : After-remove_all g) → Makes g (goal.at.invariant_of-self-in-Whole g c).After-pass_over-come lasts.Fired (book_of c.self.inside.program c.self.inside.plans c.self.inside.names c.fire_whole.new.log c.remove_all.new.store c.fire_whole.new.tickets)
 fired g c =
     let o = (goal.at.invariant_of-self-in-Whole g c).After-pass_over-come in
     let x = c.self.inside in
-    fired_book x.program x.plans x.names x.log c.fire_whole.new.log x.store c.remove_all.new.store x.tickets c.args.seat c.args.ticket c.pass_over-come.result.count (label g o) (place g o) c.in-Whole.whole c.pass_over-come.new.instance.binding c.in_ok-fire_whole-in-Whole.field-0 c.pass_over-come.new.self c.fire_whole.new.tickets
-    c.self.invariant.0 (past g o) (subst (λ next. IsThen (space_of (book g o) (label g o)) (place g o) next c.pass_over-come.new.instance.binding) c.in-Whole.is (over g o).next)
-    (subst (λ binding. FiresWhole c.args.seat c.args.ticket c.in-Whole.whole binding c.in_ok-fire_whole-in-Whole.field-0 c.pass_over-come.new.self x.log c.fire_whole.new.tickets c.fire_whole.new.log) c.binding.ensures c.in_ok-fire_whole-in-Whole.ensures.ok)
-    (c.remove_all.ensures ∙ ap (λ ls. record { entries = without ls x.store.entries; next = x.store.next; limit = x.store.limit }) (c.as_slice.ensures.value ∙ c.copy_labels-removed.ensures))
+    fired_book x.program x.plans x.names x.log c.fire_whole.new.log x.store c.remove_all.new.store x.tickets c.args.seat c.args.ticket c.pass_over-come.result.count (label g o) (place g o) c.in-Whole.rule.now c.pass_over-come.new.instance.whole c.pass_over-come.new.instance.binding c.in_ok-fire_whole-in-Whole.field-0 c.pass_over-come.new.self c.fire_whole.new.tickets
+    c.self.invariant.0 (past g o) (subst (λ next. IsThen (space_of (book g o) (label g o)) (place g o) next c.pass_over-come.new.instance) c.in-Whole.is (over g o).next)
+    (subst (λ (w : Whole). FiresWhole c.args.seat c.args.ticket c.in-Whole.rule.now w c.pass_over-come.new.instance.binding c.in_ok-fire_whole-in-Whole.field-0 c.pass_over-come.new.self x.log c.fire_whole.new.tickets c.fire_whole.new.log) c.whole-whole.ensures
+    (subst (λ binding. FiresWhole c.args.seat c.args.ticket c.in-Whole.rule.now c.whole-whole.result.now binding c.in_ok-fire_whole-in-Whole.field-0 c.pass_over-come.new.self x.log c.fire_whole.new.tickets c.fire_whole.new.log) c.binding.ensures c.in_ok-fire_whole-in-Whole.ensures.ok))
+    (c.remove_all.ensures ∙ ap (λ ls. record { entries = without ls x.store.entries; next = x.store.next; limit = x.store.limit }) (c.as_slice.ensures.value ∙ c.copy_labels-removed.ensures ∙ ap (λ (w : Whole). w.removed.items) c.whole-whole.ensures))
 
 -- ---- what has been made where memory ran out
 
@@ -82,7 +84,7 @@ not_fired g c =
 pub fire_whole-requires : goal.fire_whole-requires
 fire_whole-requires g c =
     let o = (goal.at.fire_whole-requires g c).After-pass_over-come in
-    (past g o).live.holds.goal ∙ ap (λ (z : SearchState). Numbered z.label) (sym (subst (λ next. IsThen (space_of (book g o) (label g o)) (place g o) next c.pass_over-come.new.instance.binding) c.in-Whole.is (over g o).next).past_is)
+    (past g o).live.holds.goal ∙ ap (λ (z : SearchState). Numbered z.label) (sym (subst (λ next. IsThen (space_of (book g o) (label g o)) (place g o) next c.pass_over-come.new.instance) c.in-Whole.is (over g o).next).past_is) ∙ ap (λ (w : Whole). Numbered w.past.label) (sym c.whole-whole.ensures)
 
 pub invariant_of-self : goal.invariant_of-self
 invariant_of-self g c = (rounds_keep _ _ _ _ _ (passed g (goal.at.invariant_of-self g c).After-pass_over-come) c.self.invariant.0, c.self.invariant.1)

@@ -24,7 +24,7 @@ whole : (g : _) (c : In-Whole g) → ComesNext (join_of c.args.self.now) c.args.
 whole g c = subst (λ t. ComesNext (join_of c.args.self.now) c.args.instance.now.labels.items c.pass_run-run.result.count c.args.most c.pass_run-run.result.next t c.pass_run-run.new.instance.binding) c.in-Whole.is c.pass_run-run.ensures.then
 
 placed : (g : _) (c : After-put_at g) → HasRun (join_of c.args.self.now) c.args.instance.now.labels.items c.args.place.now.items c.settle.new.place.items c.len-depth.result c.pass_run-run.result.count c.pass_run-run.result.next
-    → c.put_at.new.place.items ≡ c.args.instance.now.labels.items ++ c.in-Part.label ∷ []
+    → c.put_at.new.labels.items ≡ c.args.instance.now.labels.items ++ c.in-Part.label ∷ []
 placed g c run = c.put_at.ensures ∙ ap (λ xs. xs ++ c.in-Part.label ∷ []) run.front
 
 pub settle-requires : goal.settle-requires
@@ -33,11 +33,6 @@ settle-requires g c = λ some.
     let r : length c.args.instance.now.labels.items < 6 = misfits_room _ c.requires.plan _ _ c.args.from _ c.pass_run-run.ensures.misfits some in
     omega arith
 
-pub push-requires : goal.push-requires
-push-requires g c =
-    let r = room _ c.requires.plan _ c.in-Part.label (part g (goal.at.push-requires g c).In-Part).1.holds in
-    (omega arith, subst (λ (v : ArrayVec ℕ). length v.items < 6) (sym c.pass_run-run.ensures.labels) r)
-
 pub put_at-requires : goal.put_at-requires
 put_at-requires g c =
     let at = goal.at.put_at-requires g c in
@@ -45,9 +40,9 @@ put_at-requires g c =
     let r : length c.args.instance.now.labels.items < 6 = room _ c.requires.plan _ c.in-Part.label (part g at.In-Part).1.holds in
     omega arith
 
-pub push-requires-in-Part : goal.push-requires-in-Part
-push-requires-in-Part g c =
-    let at = goal.at.push-requires-in-Part g c in
+pub push-requires : goal.push-requires
+push-requires g c =
+    let at = goal.at.push-requires g c in
     let then = part g at.In-Part in
     let ls = c.args.instance.now.labels.items ++ c.in-Part.label ∷ [] in
     let t = c.requires.trials ls (omega (arith, length-append c.args.instance.now.labels.items (c.in-Part.label ∷ []))) (grows_more _ [] _ c.in-Part.label c.requires.below.grows then.1.holds) in
@@ -64,17 +59,19 @@ returns-in-Part-clause-passes g c =
     let at = goal.at.returns-in-Part-clause-passes g c in
     let run = run g at.After-settle in
     let then = part g at.In-Part in
-    subst (PassesIn (join_of c.args.self.now) (c.pass_run-run.result.count + 1) c.args.place.now.items) (sym (c.push-in-Part.ensures.items ∙ ap (λ xs. xs ++ 0 ∷ []) (placed g at.After-put_at run)))
+    subst (PassesIn (join_of c.args.self.now) (c.pass_run-run.result.count + 1) c.args.place.now.items) (sym (c.push.ensures.items ∙ ap (λ xs. xs ++ 0 ∷ []) (placed g at.After-put_at run)))
     (part_passed _ _ _ _ _ _ c.in-Part.label run.passes run.below then.1 then.2.0)
 
 pub returns-in-Part-clause-stops : goal.returns-in-Part-clause-stops
 returns-in-Part-clause-stops g c =
     let at = goal.at.returns-in-Part-clause-stops g c in
     let then = part g at.In-Part in
-    let pushed : c.push.new.self.items ≡ c.args.instance.now.labels.items ++ c.in-Part.label ∷ [] = c.push.ensures.items ∙ ap (λ (v : ArrayVec ℕ). v.items ++ c.in-Part.label ∷ []) c.pass_run-run.ensures.labels in
     let low : c.args.from ≤ c.pass_run-run.result.next = misfits_rise _ _ _ c.args.from _ c.pass_run-run.ensures.misfits in
-    let there : c.pass_run-run.result.next ≤ c.in-Part.label = then.1.there in
-    (pushed, c.push-in-Part.ensures.items ∙ ap (λ xs. xs ++ 0 ∷ []) (placed g at.After-put_at (run g at.After-settle) ∙ sym pushed), omega arith, then.1.holds, then.2.1)
+    let there : c.pass_run-run.result.next ≤ c.in-Part.label = then.1.there in (
+      ap (λ (v : ArrayVec ℕ). v.items) c.pass_run-run.ensures.labels,
+      omega arith,
+      record { follows = then.1.holds; ready = then.2.1; place_is = c.push.ensures.items ∙ ap (λ xs. xs ++ 0 ∷ []) (placed g at.After-put_at (run g at.After-settle)) },
+    )
 
 pub returns-in-Whole-clause-passes : goal.returns-in-Whole-clause-passes
 returns-in-Whole-clause-passes g c = (run g (goal.at.returns-in-Whole-clause-passes g c).After-settle).passes

@@ -14,7 +14,7 @@ active g c = record { atom = c.args.atom.now; live = c.requires.atom; name = c.p
 pub returns-in_default : goal.returns-in_default
 returns-in_default g c =
     let s : Space = older c.args.program.now c.args.plans.now c.args.store.now.entries c.args.self.now.label in
-    come_to_last s c.pred.result (active g (goal.at.returns-in_default g c).After-pred) c.requires.plans c.args.number.now c.args.head.now c.in_default.ensures
+    come_to_last s c.pred.result (active g (goal.at.returns-in_default g c).After-pred) c.requires.plans c.args.walk.now.rule c.args.walk.now.head c.in_default.ensures
 
 -- the rule and the plan of the occurrence
 rule_here : (g : _) (c : After-deref g) → rule_at c.args.program.now c.in-Some.found.0 ≡ Some c.deref.result.now
@@ -40,6 +40,6 @@ returns g c =
     let oi : plan_at c.args.plans.now x y ≡ Some order = subst (λ n. plan_at c.args.plans.now n y ≡ Some order) c.from-2.ensures (sym c.in-Some-plan.ensures) in
     let j = join_there s c.pred.result active c.requires.plans c.rule.ensures.valid x y c.deref.result.now order c.in-Some.ensures.occurs (rule_here g at.After-deref) oi in
     record {
-      come = come_to_occurrence s c.pred.result active c.requires.plans c.args.number.now c.args.head.now x y c.in-Some.ensures;
+      come = come_to_occurrence s c.pred.result active c.requires.plans c.args.walk.now.rule c.args.walk.now.head x y c.in-Some.ensures;
       join = subst (λ l. IsJoinAt s x y (join_in (older c.args.program.now c.args.plans.now c.args.store.now.entries l) c.deref.result.now order)) (sym label) j;
     }

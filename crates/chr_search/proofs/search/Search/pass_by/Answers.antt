@@ -3,7 +3,7 @@ use Rattle.chr_value.specs.Stores.{atom_at}
 use Rattle.chr_search.specs.declared.passing.End.{End}
 use Rattle.chr_search.specs.Trials.{Space, older, NoneLeft}
 use Rattle.chr_search.specs.Joined.{join_of}
-use Rattle.chr_search.specs.Passing.{EndsIn}
+use Rattle.chr_search.specs.Passing.{AreWhole, EndsIn}
 use Rattle.chr_search.proofs.Passed.{pass_more}
 use Rattle.chr_search.proofs.PlanByPlan.{HasGone, HasJoin, grown, come_to_end, has_join, rule_at_most, head_at_most, trials_at, gone_at, on_at, whole_at}
 use Rattle.chr_search.proofs.Occurring.{in_order}
@@ -11,19 +11,19 @@ use Rattle.chr_search.proofs.search.Search.pass_by.Goals.{In-Some, After-pass_in
 use Rattle.chr_search.proofs.search.Search.pass_by.Goals as goal
 
 -- the join that the search has come to
-here : (g : _) (c : In-Some g) → HasJoin (older c.args.program.now c.args.plans.now c.args.store.now.entries c.args.self.now.label) c.loop-join.self.place c.next_join.new.number c.next_join.new.head (join_of c.in-Some.join)
+here : (g : _) (c : In-Some g) → HasJoin (older c.args.program.now c.args.plans.now c.args.store.now.entries c.args.self.now.label) c.loop-join.self.place c.next_join.new.walk.rule c.next_join.new.walk.head (join_of c.in-Some.join)
 here g c =
     let i = c.loop-join.invariant in
-    has_join _ _ (ap (older c.args.program.now c.args.plans.now c.args.store.now.entries) i.label) c.loop-join.self.place c.loop-join.number c.loop-join.head c.next_join.new.number c.next_join.new.head (join_of c.in-Some.join) i.come c.in-Some.ensures
+    has_join _ _ (ap (older c.args.program.now c.args.plans.now c.args.store.now.entries) i.label) c.loop-join.self.place c.loop-join.walk.rule c.loop-join.walk.head c.next_join.new.walk.rule c.next_join.new.walk.head (join_of c.in-Some.join) i.come c.in-Some.ensures
     c.requires.plans c.args.store.now refl c.next_label-given.ensures.labelled
 
 -- and its trials that are passed over
-gone : (g : _) (c : After-pass_in_plan-passed g) → HasJoin (older c.args.program.now c.args.plans.now c.args.store.now.entries c.args.self.now.label) c.loop-join.self.place c.next_join.new.number c.next_join.new.head (join_of c.in-Some.join)
-    → HasGone (older c.args.program.now c.args.plans.now c.args.store.now.entries c.args.self.now.label) c.loop-join.self.place c.next_join.new.number c.next_join.new.head c.pass_in_plan-passed.result.count c.pass_in_plan-passed.new.self.place c.pass_in_plan-passed.ensures.passed.labels
+gone : (g : _) (c : After-pass_in_plan-passed g) → HasJoin (older c.args.program.now c.args.plans.now c.args.store.now.entries c.args.self.now.label) c.loop-join.self.place c.next_join.new.walk.rule c.next_join.new.walk.head (join_of c.in-Some.join)
+    → HasGone (older c.args.program.now c.args.plans.now c.args.store.now.entries c.args.self.now.label) c.loop-join.self.place c.next_join.new.walk.rule c.next_join.new.walk.head c.pass_in_plan-passed.result.count c.pass_in_plan-passed.new.self.place c.pass_in_plan-passed.ensures.passed.labels
 gone g c h = gone_at _ _ _ _ h.join h.makes _ _ _ _ _ _ h.come c.pass_in_plan-passed.ensures.passed
 
-pub pass_in_plan-passed-requires-clause-number : goal.pass_in_plan-passed-requires-clause-number
-pass_in_plan-passed-requires-clause-number g c = (here g (goal.at.pass_in_plan-passed-requires-clause-number g c).In-Some).makes.number
+pub pass_in_plan-passed-requires-clause-rule : goal.pass_in_plan-passed-requires-clause-rule
+pass_in_plan-passed-requires-clause-rule g c = (here g (goal.at.pass_in_plan-passed-requires-clause-rule g c).In-Some).makes.number
 
 pub pass_in_plan-passed-requires-clause-head : goal.pass_in_plan-passed-requires-clause-head
 pass_in_plan-passed-requires-clause-head g c = (here g (goal.at.pass_in_plan-passed-requires-clause-head g c).In-Some).makes.head
@@ -33,18 +33,18 @@ pass_in_plan-passed-requires-clause-trials g c =
     let h = here g (goal.at.pass_in_plan-passed-requires-clause-trials g c).In-Some in
     trials_at _ _ _ _ h.join h.makes
 
-pub overflow_add-head : goal.overflow_add-head
-overflow_add-head g c =
-    let small : c.next_join.new.head ≤ 6 = head_at_most _ _ _ _ _ (here g (goal.at.overflow_add-head g c).In-Some).makes in
+pub overflow_add-walk : goal.overflow_add-walk
+overflow_add-walk g c =
+    let small : c.next_join.new.walk.head ≤ 6 = head_at_most _ _ _ _ _ (here g (goal.at.overflow_add-walk g c).In-Some).makes in
     omega arith
 
 pub loop-join-smaller : goal.loop-join-smaller
 loop-join-smaller g c =
     let h = here g (goal.at.loop-join-smaller g c).In-Some in
-    let small : c.next_join.new.head ≤ 6 = head_at_most _ _ _ _ _ h.makes in
-    let on = in_order c.loop-join.number c.loop-join.head c.next_join.new.number c.next_join.new.head [] c.in-Some.ensures.come.later in
-    let within : c.next_join.new.number ≤ length c.args.program.now = rule_at_most _ _ _ _ _ h.makes in
-    ⊎_elim (λ less. let low : c.loop-join.number < c.next_join.new.number = less in omega arith) (λ same. let is : c.loop-join.number ≡ c.next_join.new.number = same.0 in let low : c.loop-join.head ≤ c.next_join.new.head = same.1 in omega arith) on
+    let small : c.next_join.new.walk.head ≤ 6 = head_at_most _ _ _ _ _ h.makes in
+    let on = in_order c.loop-join.walk.rule c.loop-join.walk.head c.next_join.new.walk.rule c.next_join.new.walk.head [] c.in-Some.ensures.come.later in
+    let within : c.next_join.new.walk.rule ≤ length c.args.program.now = rule_at_most _ _ _ _ _ h.makes in
+    ⊎_elim (λ less. let low : c.loop-join.walk.rule < c.next_join.new.walk.rule = less in omega arith) (λ same. let is : c.loop-join.walk.rule ≡ c.next_join.new.walk.rule = same.0 in let low : c.loop-join.walk.head ≤ c.next_join.new.walk.head = same.1 in omega arith) on
 
 pub loop-join-preserved : goal.loop-join-preserved
 loop-join-preserved g c =
@@ -66,9 +66,9 @@ returns-in-Enough-clause-passed g c =
     let at = goal.at.returns-in-Enough-clause-passed g c in
     pass_more _ _ _ _ _ _ c.loop-join.invariant.passed (gone g at.After-pass_in_plan-passed (here g at.In-Some)).passed
 
-pub of-requires-clause-trial : goal.of-requires-clause-trial
-of-requires-clause-trial g c =
-    let h = here g (goal.at.of-requires-clause-trial g c).In-Some in
+pub set_whole-requires-clause-trial : goal.set_whole-requires-clause-trial
+set_whole-requires-clause-trial g c =
+    let h = here g (goal.at.set_whole-requires-clause-trial g c).In-Some in
     let p = c.pass_in_plan-passed.ensures.passed in
     let ls = c.pass_in_plan-passed.new.instance.labels.items in
     let e = subst (λ (end : End). EndsIn (join_of c.in-Some.join) p.labels end ls c.pass_in_plan-passed.new.instance.binding) c.in-Whole.is p.ends in
@@ -88,14 +88,14 @@ returns-in-Whole-clause-then g c =
     let p = c.pass_in_plan-passed.ensures.passed in
     let ls = c.pass_in_plan-passed.new.instance.labels.items in
     let e = subst (λ (end : End). EndsIn (join_of c.in-Some.join) p.labels end ls c.pass_in_plan-passed.new.instance.binding) c.in-Whole.is p.ends in
-    whole_at _ _ _ _ h.join h.makes _ _ _ p.labels ls _ gone e.0 e.1 c.of.result c.of.ensures.rule c.of.ensures.number c.of.ensures.kept c.of.ensures.removed c.of.ensures.past
+    whole_at _ _ _ _ h.join h.makes _ _ _ p.labels ls _ gone e.0 (subst (AreWhole (join_of c.in-Some.join) ls) (sym c.set_whole.ensures.binding) e.1) c.set_whole.new.self.whole c.set_whole.ensures.number c.set_whole.ensures.kept c.set_whole.ensures.removed c.set_whole.ensures.past
 
 pub returns-clause-then : goal.returns-clause-then
 returns-clause-then g c =
     let s : Space = older c.args.program.now c.args.plans.now c.args.store.now.entries c.args.self.now.label in
-    let r = c.loop-join.number in
+    let r = c.loop-join.walk.rule in
     let i = c.loop-join.invariant in
-    let h = c.loop-join.head in
+    let h = c.loop-join.walk.head in
     come_to_end s c.loop-join.self.place r h i.come (subst (λ l. NoneLeft (older c.args.program.now c.args.plans.now c.args.store.now.entries l) (r ∷ h ∷ [])) i.label c.in_default.ensures)
 
 pub next_join-requires-clause-atom : goal.next_join-requires-clause-atom

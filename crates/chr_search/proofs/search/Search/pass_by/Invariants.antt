@@ -9,8 +9,8 @@ invariant-loop-join g l = record {
   few : l.count ≤ l.fn.most;
   label : l.self.label ≡ l.fn.self.label;
   passed : Passes (older l.fn.program l.fn.plans l.fn.store.entries l.fn.self.label) l.count l.fn.self.place l.self.place;
-  come : HasComeTo (older l.fn.program l.fn.plans l.fn.store.entries l.fn.self.label) l.self.place l.number l.head;
+  come : HasComeTo (older l.fn.program l.fn.plans l.fn.store.entries l.fn.self.label) l.self.place l.walk.rule l.walk.head;
 }
 
 abbrev pub decreases-loop-join : goal.decreases-loop-join
-decreases-loop-join g l = (length l.fn.program + 1 - l.number) * 8 + (8 - l.head)
+decreases-loop-join g l = (length l.fn.program + 1 - l.walk.rule) * 8 + (8 - l.walk.head)

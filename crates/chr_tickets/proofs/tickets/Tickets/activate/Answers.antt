@@ -16,7 +16,7 @@ pub unreachable-requires : goal.unreachable-requires
 unreachable-requires g c = not_empty (waiting g (goal.at.unreachable-requires g c).After-place_of) c.index_mut.ensures.value c.in_default.is
 
 pub invariant_of-self : goal.invariant_of-self
-invariant_of-self g c = still_queued c.self.inside.unmarked (λ (_ : Ticket). activated_by c.args.seat c.args.label) _ (waiting g (goal.at.invariant_of-self g c).After-place_of) c.index_mut.ensures.value c.in-Some.is c.deref_mut.ensures.value c.activate.ensures (omega arith) (λ l. refl)
+invariant_of-self g c = still_queued c.self.inside.unmarked (λ (_ : Ticket). activated_by c.args.seat c.args.label) _ (waiting g (goal.at.invariant_of-self g c).After-place_of) c.index_mut.ensures.value c.in-Some.is c.activate.ensures (omega arith) (λ l. refl)
 
 pub returns : goal.returns
-returns g c = changed (λ (_ : Ticket). activated_by c.args.seat c.args.label) _ (waiting g (goal.at.returns g c).After-place_of) c.index_mut.ensures.value c.in-Some.is c.deref_mut.ensures.value c.activate.ensures
+returns g c = changed (λ (_ : Ticket). activated_by c.args.seat c.args.label) _ (waiting g (goal.at.returns g c).After-place_of) c.index_mut.ensures.value c.in-Some.is c.activate.ensures

@@ -18,10 +18,10 @@ pub unreachable-requires : goal.unreachable-requires
 unreachable-requires g c = not_empty (active g (goal.at.unreachable-requires g c).After-place_of) c.index_mut.ensures.value c.in_default.is
 
 pub advance-requires : goal.advance-requires
-advance-requires g c = active_here c.args.self.now c.args.ticket _ (seen (active g (goal.at.advance-requires g c).After-place_of) c.index_mut.ensures.value c.in-Some.is c.deref_mut.ensures.value) c.requires
+advance-requires g c = active_here c.args.self.now c.args.ticket _ (seen (active g (goal.at.advance-requires g c).After-place_of) c.index_mut.ensures.value c.in-Some.is) c.requires
 
 pub invariant_of-self : goal.invariant_of-self
-invariant_of-self g c = still_queued _ (going_on (after_judging c.args.judged.now)) _ (active g (goal.at.invariant_of-self g c).After-place_of) c.index_mut.ensures.value c.in-Some.is c.deref_mut.ensures.value c.advance.ensures (omega arith) (same_mark c.args.ticket c.self.invariant c.self.view_is)
+invariant_of-self g c = still_queued _ (going_on (after_judging c.args.judged.now)) _ (active g (goal.at.invariant_of-self g c).After-place_of) c.index_mut.ensures.value c.in-Some.is c.advance.ensures (omega arith) (same_mark c.args.ticket c.self.invariant c.self.view_is)
 
 pub returns : goal.returns
-returns g c = changed (going_on (after_judging c.args.judged.now)) _ (active g (goal.at.returns g c).After-place_of) c.index_mut.ensures.value c.in-Some.is c.deref_mut.ensures.value c.advance.ensures
+returns g c = changed (going_on (after_judging c.args.judged.now)) _ (active g (goal.at.returns g c).After-place_of) c.index_mut.ensures.value c.in-Some.is c.advance.ensures

@@ -1,10 +1,10 @@
-use Rattle.std.proofs.Common.{◌+◌, ◌<◌, length, refl, sym, ap, ◌∙◌, arith}
+use Rattle.std.proofs.Common.{◌+◌, ◌<◌, length, refl, ap, ◌∙◌, arith}
 use Rattle.chr_calls.specs.Tickets.{Ticket}
 use Rattle.chr_tickets.specs.Listed.{shown_or_ended}
 use Rattle.chr_tickets.proofs.States.{shown_stray}
 use Rattle.chr_tickets.proofs.Walks.{below_start, at_place, next_place, least, none_left}
 use Rattle.chr_tickets.proofs.tickets.Tickets.first_stray.Goals as goal
-use Rattle.chr_tickets.proofs.tickets.Tickets.first_stray.Goals.{in-Some+else-deref, in_default}
+use Rattle.chr_tickets.proofs.tickets.Tickets.first_stray.Goals.{in-Some+else-found, in_default}
 
 pub loop-at-init : goal.loop-at-init
 loop-at-init g c = below_start c.self.inside.first c.self.inside.unmarked c.saturating_sub-start.result c.self.inside.slots.items c.args.self.now c.self.view_is c.self.invariant.marks c.saturating_sub-start.ensures
@@ -15,16 +15,16 @@ loop-at-preserved g c =
     let within : c.loop-at.at < length c.self.inside.slots.items = omega arith in
     next_place (λ (x : Ticket). x.stray) c.self.inside.first c.loop-at.at c.self.inside.slots.items c.args.self.now c.index.result.now c.self.view_is within c.index.ensures c.loop-at.invariant
     (elim c.match-index.branch [
-      | in-Some+else-deref w ↦ ap (λ x. (shown_or_ended x).stray) w.in-Some.is ∙ shown_stray w.in-Some.found.value.goal w.in-Some.found.value.stray ∙ ap (λ x. x.stray) (sym w.deref.ensures) ∙ w.if-deref.false
+      | in-Some+else-found w ↦ ap (λ x. (shown_or_ended x).stray) w.in-Some.is ∙ shown_stray w.in-Some.found.goal w.in-Some.found.stray ∙ w.if-found.false
       | in_default w ↦ ap (λ x. (shown_or_ended x).stray) w.in_default.is
     ])
 
-pub returns-then-deref : goal.returns-then-deref
-returns-then-deref g c =
+pub returns-then-found : goal.returns-then-found
+returns-then-found g c =
     let ok = c.self.inside.slots.ok in
     let within : c.loop-at.at < length c.self.inside.slots.items = omega arith in
     record {
-      stray = ap (λ (x : Ticket). x.stray) (at_place c.self.inside.first c.loop-at.at c.self.inside.slots.items c.args.self.now c.index.result.now c.self.view_is within c.index.ensures ∙ ap shown_or_ended c.in-Some.is) ∙ shown_stray c.in-Some.found.value.goal c.in-Some.found.value.stray ∙ ap (λ x. x.stray) (sym c.deref.ensures) ∙ c.if-deref.true;
+      stray = ap (λ (x : Ticket). x.stray) (at_place c.self.inside.first c.loop-at.at c.self.inside.slots.items c.args.self.now c.index.result.now c.self.view_is within c.index.ensures ∙ ap shown_or_ended c.in-Some.is) ∙ shown_stray c.in-Some.found.goal c.in-Some.found.stray ∙ c.if-found.true;
       least = λ u h. least (λ (x : Ticket). x.stray) c.args.self.now (c.self.inside.first + c.loop-at.at) u c.loop-at.invariant h;
     }
 

@@ -17,7 +17,7 @@ pub returns-in-Some-clause-ticket : goal.returns-in-Some-clause-ticket
 returns-in-Some-clause-ticket g c =
     let ok = c.self.inside.slots.ok in
     let within : c.place_of.result < length c.self.inside.slots.items = (let s = c.in_ok-found.ensures.variant.0 refl in omega arith) in
-    ap shown_ticket c.deref.ensures ∙ ap shown_or_ended (sym c.in-Some.is) ∙ sym (here (placed c.args.ticket c.place_of.result c.self.invariant c.place_of.ensures within) c.self.view_is c.in_ok-found.ensures.lookup)
+    ap shown_or_ended (sym c.in-Some.is) ∙ sym (here (placed c.args.ticket c.place_of.result c.self.invariant c.place_of.ensures within) c.self.view_is c.in_ok-found.ensures.lookup)
 
 pub returns-in-None-clause-ticket : goal.returns-in-None-clause-ticket
 returns-in-None-clause-ticket g c =

@@ -17,10 +17,10 @@ pub unreachable-requires : goal.unreachable-requires
 unreachable-requires g c = not_empty (active g (goal.at.unreachable-requires g c).After-place_of) c.index_mut.ensures.value c.in_default.is
 
 pub go_to-requires : goal.go_to-requires
-go_to-requires g c = ap (λ (x : Ticket). x.goal) (sym (seen (active g (goal.at.go_to-requires g c).After-place_of) c.index_mut.ensures.value c.in-Some.is c.deref_mut.ensures.value)) ∙ c.requires
+go_to-requires g c = ap (λ (x : Ticket). x.goal) (sym (seen (active g (goal.at.go_to-requires g c).After-place_of) c.index_mut.ensures.value c.in-Some.is)) ∙ c.requires
 
 pub invariant_of-self : goal.invariant_of-self
-invariant_of-self g c = still_queued _ (going_on c.args.place.place) _ (active g (goal.at.invariant_of-self g c).After-place_of) c.index_mut.ensures.value c.in-Some.is c.deref_mut.ensures.value c.go_to.ensures (omega arith) (same_mark c.args.ticket c.self.invariant c.self.view_is)
+invariant_of-self g c = still_queued _ (going_on c.args.place.place) _ (active g (goal.at.invariant_of-self g c).After-place_of) c.index_mut.ensures.value c.in-Some.is c.go_to.ensures (omega arith) (same_mark c.args.ticket c.self.invariant c.self.view_is)
 
 pub returns : goal.returns
-returns g c = changed (going_on c.args.place.place) _ (active g (goal.at.returns g c).After-place_of) c.index_mut.ensures.value c.in-Some.is c.deref_mut.ensures.value c.go_to.ensures
+returns g c = changed (going_on c.args.place.place) _ (active g (goal.at.returns g c).After-place_of) c.index_mut.ensures.value c.in-Some.is c.go_to.ensures

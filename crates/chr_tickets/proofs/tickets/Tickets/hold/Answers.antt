@@ -16,10 +16,10 @@ pub unreachable-requires : goal.unreachable-requires
 unreachable-requires g c = not_empty (resting g (goal.at.unreachable-requires g c).After-place_of) c.index_mut.ensures.value c.in_default.is
 
 pub hold-requires : goal.hold-requires
-hold-requires g c = resting_active c.args.self.now c.args.ticket _ (seen (resting g (goal.at.hold-requires g c).After-place_of) c.index_mut.ensures.value c.in-Some.is c.deref_mut.ensures.value) c.requires
+hold-requires g c = resting_active c.args.self.now c.args.ticket _ (seen (resting g (goal.at.hold-requires g c).After-place_of) c.index_mut.ensures.value c.in-Some.is) c.requires
 
 pub invariant_of-self : goal.invariant_of-self
-invariant_of-self g c = still_queued _ (held_by c.args.seat) _ (resting g (goal.at.invariant_of-self g c).After-place_of) c.index_mut.ensures.value c.in-Some.is c.deref_mut.ensures.value c.hold.ensures (omega arith) (λ l. refl)
+invariant_of-self g c = still_queued _ (held_by c.args.seat) _ (resting g (goal.at.invariant_of-self g c).After-place_of) c.index_mut.ensures.value c.in-Some.is c.hold.ensures (omega arith) (λ l. refl)
 
 pub returns : goal.returns
-returns g c = changed (held_by c.args.seat) _ (resting g (goal.at.returns g c).After-place_of) c.index_mut.ensures.value c.in-Some.is c.deref_mut.ensures.value c.hold.ensures
+returns g c = changed (held_by c.args.seat) _ (resting g (goal.at.returns g c).After-place_of) c.index_mut.ensures.value c.in-Some.is c.hold.ensures

@@ -16,7 +16,7 @@ pub unreachable-requires : goal.unreachable-requires
 unreachable-requires g c = not_empty (claimable g (goal.at.unreachable-requires g c).After-place_of) c.index_mut.ensures.value c.in_default.is
 
 pub invariant_of-self : goal.invariant_of-self
-invariant_of-self g c = still_queued _ (marked true) _ (claimable g (goal.at.invariant_of-self g c).After-place_of) c.index_mut.ensures.value c.in-Some.is c.deref_mut.ensures.value (shown_marked c.deref_mut.result.now.goal true c.deref_mut.result.now.stray) (omega arith) (λ l. absurd (omega arith))
+invariant_of-self g c = still_queued _ (marked true) _ (claimable g (goal.at.invariant_of-self g c).After-place_of) c.index_mut.ensures.value c.in-Some.is (shown_marked c.in-Some.found.goal true c.in-Some.found.stray) (omega arith) (λ l. absurd (omega arith))
 
 pub returns : goal.returns
-returns g c = changed (marked true) _ (claimable g (goal.at.returns g c).After-place_of) c.index_mut.ensures.value c.in-Some.is c.deref_mut.ensures.value (shown_marked c.deref_mut.result.now.goal true c.deref_mut.result.now.stray)
+returns g c = changed (marked true) _ (claimable g (goal.at.returns g c).After-place_of) c.index_mut.ensures.value c.in-Some.is (shown_marked c.in-Some.found.goal true c.in-Some.found.stray)

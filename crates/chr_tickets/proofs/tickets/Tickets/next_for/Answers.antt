@@ -1,5 +1,4 @@
 use Rattle.std.proofs.Common.{◌≡◌, ◌+◌, ◌<◌, length, refl, sym, ap, ◌∙◌, arith}
-use Rattle.chr_tickets.specs.Open.{shown_ticket}
 use Rattle.chr_tickets.specs.Listed.{shown_or_ended}
 use Rattle.chr_tickets.proofs.Listed.{length_listed}
 use Rattle.chr_tickets.proofs.Walks.{free, below_first, at_place, next_place, least_for, none_left, none_for}
@@ -15,7 +14,7 @@ loop-at-preserved g c =
     let within : c.loop-at.at < length c.self.inside.slots.items = omega arith in
     next_place (free c.args.seat) c.self.inside.first c.loop-at.at c.self.inside.slots.items c.args.self.now c.index.result.now c.self.view_is within c.index.ensures c.loop-at.invariant
     (elim c.match-index.branch [
-      | in-Some+else-is_free_for w ↦ ap (λ x. free c.args.seat (shown_or_ended x)) w.in-Some.is ∙ ap (λ x. free c.args.seat (shown_ticket x)) (sym w.deref.ensures) ∙ sym w.is_free_for.ensures ∙ w.if-is_free_for.false
+      | in-Some+else-is_free_for w ↦ ap (λ x. free c.args.seat (shown_or_ended x)) w.in-Some.is ∙ sym w.is_free_for.ensures ∙ w.if-is_free_for.false
       | in_default w ↦ ap (λ x. free c.args.seat (shown_or_ended x)) w.in_default.is
     ])
 
@@ -26,7 +25,7 @@ returns-then-is_free_for g c =
     let within : c.loop-at.at < length c.self.inside.slots.items = omega arith in
     let long : length c.args.self.now ≡ c.self.inside.first + length c.self.inside.slots.items = ap length (sym c.self.view_is) ∙ length_listed c.self.inside.first c.self.inside.slots.items in
     least_for c.args.seat c.args.self.now (c.self.inside.first + c.loop-at.at) c.loop-at.invariant (omega arith) (omega arith)
-    (ap (free c.args.seat) (at_place c.self.inside.first c.loop-at.at c.self.inside.slots.items c.args.self.now c.index.result.now c.self.view_is within c.index.ensures ∙ ap shown_or_ended c.in-Some.is ∙ ap shown_ticket (sym c.deref.ensures)) ∙ sym c.is_free_for.ensures ∙ c.if-is_free_for.true)
+    (ap (free c.args.seat) (at_place c.self.inside.first c.loop-at.at c.self.inside.slots.items c.args.self.now c.index.result.now c.self.view_is within c.index.ensures ∙ ap shown_or_ended c.in-Some.is) ∙ sym c.is_free_for.ensures ∙ c.if-is_free_for.true)
 
 pub returns : goal.returns
 returns g c =

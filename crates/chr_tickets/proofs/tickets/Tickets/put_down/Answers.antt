@@ -16,10 +16,10 @@ pub unreachable-requires : goal.unreachable-requires
 unreachable-requires g c = not_empty (active g (goal.at.unreachable-requires g c).After-place_of) c.index_mut.ensures.value c.in_default.is
 
 pub put_down-requires : goal.put_down-requires
-put_down-requires g c = active_here c.args.self.now c.args.ticket _ (seen (active g (goal.at.put_down-requires g c).After-place_of) c.index_mut.ensures.value c.in-Some.is c.deref_mut.ensures.value) c.requires
+put_down-requires g c = active_here c.args.self.now c.args.ticket _ (seen (active g (goal.at.put_down-requires g c).After-place_of) c.index_mut.ensures.value c.in-Some.is) c.requires
 
 pub invariant_of-self : goal.invariant_of-self
-invariant_of-self g c = still_queued _ put_down _ (active g (goal.at.invariant_of-self g c).After-place_of) c.index_mut.ensures.value c.in-Some.is c.deref_mut.ensures.value c.put_down.ensures (omega arith) (λ l. absurd (omega arith))
+invariant_of-self g c = still_queued _ put_down _ (active g (goal.at.invariant_of-self g c).After-place_of) c.index_mut.ensures.value c.in-Some.is c.put_down.ensures (omega arith) (λ l. absurd (omega arith))
 
 pub returns : goal.returns
-returns g c = changed put_down _ (active g (goal.at.returns g c).After-place_of) c.index_mut.ensures.value c.in-Some.is c.deref_mut.ensures.value c.put_down.ensures
+returns g c = changed put_down _ (active g (goal.at.returns g c).After-place_of) c.index_mut.ensures.value c.in-Some.is c.put_down.ensures

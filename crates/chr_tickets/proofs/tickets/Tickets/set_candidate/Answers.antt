@@ -17,10 +17,10 @@ pub unreachable-requires : goal.unreachable-requires
 unreachable-requires g c = not_empty (active g (goal.at.unreachable-requires g c).After-place_of) c.index_mut.ensures.value c.in_default.is
 
 pub set_candidate-requires : goal.set_candidate-requires
-set_candidate-requires g c = active_here c.args.self.now c.args.ticket _ (seen (active g (goal.at.set_candidate-requires g c).After-place_of) c.index_mut.ensures.value c.in-Some.is c.deref_mut.ensures.value) c.requires
+set_candidate-requires g c = active_here c.args.self.now c.args.ticket _ (seen (active g (goal.at.set_candidate-requires g c).After-place_of) c.index_mut.ensures.value c.in-Some.is) c.requires
 
 pub invariant_of-self : goal.invariant_of-self
-invariant_of-self g c = still_queued _ (with_candidate c.args.candidate) _ (active g (goal.at.invariant_of-self g c).After-place_of) c.index_mut.ensures.value c.in-Some.is c.deref_mut.ensures.value c.set_candidate.ensures (omega arith) (same_mark c.args.ticket c.self.invariant c.self.view_is)
+invariant_of-self g c = still_queued _ (with_candidate c.args.candidate) _ (active g (goal.at.invariant_of-self g c).After-place_of) c.index_mut.ensures.value c.in-Some.is c.set_candidate.ensures (omega arith) (same_mark c.args.ticket c.self.invariant c.self.view_is)
 
 pub returns : goal.returns
-returns g c = changed (with_candidate c.args.candidate) _ (active g (goal.at.returns g c).After-place_of) c.index_mut.ensures.value c.in-Some.is c.deref_mut.ensures.value c.set_candidate.ensures
+returns g c = changed (with_candidate c.args.candidate) _ (active g (goal.at.returns g c).After-place_of) c.index_mut.ensures.value c.in-Some.is c.set_candidate.ensures

@@ -1,6 +1,6 @@
 use Rattle.std.proofs.Common.{◌≡◌, ◌<◌, ◌≤◌, length, ap, ◌∙◌, arith}
 use Rattle.chr_search.proofs.PlanByPlan.{labels_count, labels_push}
-use Rattle.chr_search.proofs.search.labels_at_heads.Goals as goal
+use Rattle.chr_search.proofs.search.set_labels_at_heads.Goals as goal
 
 pub push-requires : goal.push-requires
 push-requires c =
