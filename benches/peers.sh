@@ -1,5 +1,5 @@
 #!/usr/bin/env bash
-# Times `chr run` against SWI-Prolog's library(chr) on seven programs of different shape, at three sizes each, and prints a
+# Times `chr run` against SWI-Prolog's library(chr) on eight programs of different shape, at three sizes each, and prints a
 # table in Markdown: both times, how many times as fast `chr` is, and by how much each time grows from size to size. It
 # builds nothing: run it by hand, on an idle machine, once `./chr` is built. `peers.sh SHAPE..` runs these shapes alone.
 # Both run the same rules. The peer has modes declared and is optimised (`-O`, `optimize(full)`), and its time is that of
@@ -32,6 +32,18 @@ gcd(0) <=> true.
 gcd(N) \\ gcd(M) <=> 0 < N, N =< M | L is M - N, gcd(L).
 --
 gcd(1), gcd($1)
+RULES
+}
+
+# one head: a loop, which the peer compiles to a clause that calls itself, with no store
+loop() {
+  cat <<RULES
+fib/3
+--
+fib(0, A, B) <=> true.
+fib(N, A, B) <=> 0 < N | M is N - 1, C is (A + B) mod 1000007, fib(M, B, C).
+--
+fib($1, 0, 1)
 RULES
 }
 
@@ -125,7 +137,7 @@ RULES
 
 sizes() {
   case $1 in
-    chain) echo 2000 20000 200000 ;;
+    chain | loop) echo 2000 20000 200000 ;;
     sieve) echo 400 1200 4000 ;;
     union_find) echo 1000 10000 100000 ;;
     three_heads) echo 500 5000 50000 ;;
@@ -217,7 +229,7 @@ row() {
 echo "| Program | Size | chr, ms | library(chr), ms | Times as fast | Growth of chr | Growth of library(chr) | Stores |"
 echo "|---|---|---|---|---|---|---|---|"
 # shellcheck disable=SC2068
-for shape in ${@:-chain sieve union_find three_heads equal_keys from_the_middle sorted_chain}; do
+for shape in ${@:-chain loop sieve union_find three_heads equal_keys from_the_middle sorted_chain}; do
   for size in $(sizes "$shape"); do
     row "$shape" "$size"
   done

@@ -4,6 +4,8 @@
 # number, and a union-find of so many elements. Run it by hand, on an idle machine.
 # The time is the best of five runs with `--show store`, less the best of five that make no calls; the memory is the most
 # that such a run had at once, less that of one that makes no calls. So store and tickets count as bytes of the entries.
+# Then it prints how many bytes a live constraint takes, with its labels in the indexes: the memory of a run that keeps its
+# constraints, less that of one that takes each out at once, for constraints with no key, with one, and with two.
 set -eu
 top=$(cd "$(dirname "${BASH_SOURCE[0]}")/.." && pwd)
 work=$(mktemp -d)
@@ -32,6 +34,17 @@ union_find() {
   echo 'root(A) \ root(B), union(A,B) <=> up(B,A).'
   seq -f 'make(%.0f).' "$1" >&3
   seq "$(($1 - 1))" | awk '{ print "union(" $1 "," $1 + 1 ")." }' >&3
+}
+
+# So many constraints that stay, where `$2` is 0, or else are taken out at once. The rules with two heads, for which the values
+# at a place are looked up, never fire.
+items() {
+  echo 'build(0) <=> true.'
+  echo 'build(I) <=> 0 < I | J is I - 1, item(I, I), build(J).'
+  [ "$2" = 0 ] || echo 'item(I, J) <=> true.'
+  [ "$3" -lt 1 ] || echo 'item(I, J), first(I) <=> true.'
+  [ "$3" -lt 2 ] || echo 'item(I, J), second(J) <=> true.'
+  echo "build($1)." >&3
 }
 
 # Prints the nanoseconds of the fastest of five runs of at most so many calls, and the kilobytes of the last.
@@ -66,3 +79,21 @@ done | awk '{
   printf "| %s | %d | %d | %d | %s | %.0f |\n", $1, $2, $3, $4, rate, ($8 - $6) * 1024 / $4
   fflush()
 }'
+
+# Prints the kilobytes of a run of so many constraints that stay or don't, under so many keys each.
+kilobytes() {
+  items "$@" >"$work/rules" 3>"$work/posts"
+  set -- $(cost $most)
+  echo "$2"
+}
+
+echo
+echo "| Keys of a constraint | Constraints | Bytes a live constraint |"
+echo "|---|---|---|"
+for keys in 0 1 2; do
+  for size in 20000 200000; do
+    kept=$(kilobytes $size 0 $keys)
+    gone=$(kilobytes $size 1 $keys)
+    echo "| $keys | $size | $(((kept - gone) * 1024 / size)) |"
+  done
+done
