@@ -83,8 +83,8 @@ done | awk '{
 # Prints the kilobytes of a run of so many constraints that stay or don't, under so many keys each.
 kilobytes() {
   items "$@" >"$work/rules" 3>"$work/posts"
-  set -- $(cost $most)
-  echo "$2"
+  made=$(cost $most)
+  echo "${made#* }"
 }
 
 echo
