@@ -2,13 +2,13 @@
 use Rattle.std.proofs.Common.{◌≡◌, ℕ, zero, suc, ◌<◌, true, false, List, [], ◌∷◌, ◌++◌, length, take, drop, Some, None, refl, sym, ◌∙◌, ap, ap₂, subst, get_or}
 use Rattle.std.specs.Prelude.{slice_get}
 use Rattle.std.specs.List.{AllByRecursion}
-use Rattle.std.proofs.lemmas.List.{take_at, drop_at, take-append-drop, length-map}
+use Rattle.std.proofs.lemmas.List.{take_at, drop_at, take-append-drop}
 use Rattle.std.proofs.lemmas.Option.{slice_get_read}
 use Rattle.chr_value.specs.Atoms.{Atom}
 use Rattle.chr_rule.specs.Rules.{Simpagation, rule_at}
 use Rattle.chr_guard.specs.Bindings.{bound_at}
 use Rattle.chr_guard.specs.Instances.{AreUnder, IsRight, added, Instance, IsInstance}
-use Rattle.chr_guard.specs.Matching.{HeadsAre, IsFit, IsInstanceUnder}
+use Rattle.chr_guard.specs.Matching.{HeadsAre, IsFit}
 use Rattle.chr_guard.proofs.Scoped.{some_same}
 use Rattle.chr_guard.proofs.Under.{under_length}
 use Rattle.chr_model.specs.Stores.{Store, labels, atoms, among, atom_at, Distinct, Carry, Labelled, NoneWith}

@@ -17,10 +17,10 @@ use std::alloc::Allocator;
 /// A labelled instance of a rule: the labels of its kept and of its removed heads, in head order, and the binding of the
 /// rule's variables.
 #[derive(Drop)]
-pub struct Match<'s> {
+pub struct Match {
     pub kept: Labels,
     pub removed: Labels,
-    pub binding: Binding<'s>,
+    pub binding: Binding,
 }
 
 /// Whether a label is picked for some head.
@@ -78,12 +78,12 @@ fn next_head<A: Allocator>(
 }
 
 /// The binding under which the head of a number, from 1, is an atom as well. None where there is none.
-pub fn fit_next<'s, A: Allocator + Copy>(
+pub fn fit_next<A: Allocator + Copy>(
     rule: &Rule<A>,
-    binding: &Binding<'s>,
+    binding: &Binding,
     number: usize,
-    atom: &'s Atom<A>,
-) -> Option<Binding<'s>>
+    atom: &Atom<A>,
+) -> Option<Binding>
     requires { length binding.now ≡ rule.now.variables }
     ensures { MatchOption result (NoneUnder (HeadIs rule.now number atom.now) binding.now) (Narrows (HeadIs rule.now number atom.now) binding.now) }
 {
@@ -113,12 +113,12 @@ fn labels_of<A: Allocator>(slots: &[Option<(Label, &Atom<A>)>]) -> Labels
 }
 
 /// The instance that the entries make which are picked for all heads, if they make one.
-fn whole<'s, A: Allocator + Copy>(
+fn whole<A: Allocator + Copy>(
     rule: &Rule<A>,
-    store: &[(Label, &'s Atom<A>)],
-    slots: &[Option<(Label, &'s Atom<A>)>],
-    binding: Binding<'s>,
-) -> Option<Match<'s>>
+    store: &[(Label, &Atom<A>)],
+    slots: &[Option<(Label, &Atom<A>)>],
+    binding: Binding,
+) -> Option<Match>
     requires partial { IsPartial rule.now (listed store.now) (picks slots.now) binding }
     requires all { AllPicked (picks slots.now) }
     ensures { MatchOption result (NoMatch rule.now (listed store.now) (Fills (picks slots.now))) (IsMatch rule.now (listed store.now) (Fills (picks slots.now))) }
@@ -138,8 +138,8 @@ pub fn find_match<'s, A: Allocator + Copy>(
     rule: &Rule<A>,
     store: &[(Label, &'s Atom<A>)],
     slots: &mut [Option<(Label, &'s Atom<A>)>],
-    binding: Binding<'s>,
-) -> Option<Match<'s>>
+    binding: Binding,
+) -> Option<Match>
     requires distinct { Distinct (labels (listed store.now)) }
     requires partial { IsPartial rule.now (listed store.now) (picks slots.old) binding }
     ensures { let ps = picks slots.old in MatchOption result ((picks slots.new ≡ ps) × NoMatch rule.now (listed store.now) (Fills ps)) (IsMatch rule.now (listed store.now) (Fills ps)) }

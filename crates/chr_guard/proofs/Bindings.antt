@@ -1,16 +1,55 @@
 -- Bindings and the valuations that extend them.
-use Rattle.std.proofs.Common.{◌≡◌, ◌≢◌, ◌↔◌, ℕ, zero, suc, ◌<◌, Bool, true, false, IsTrue, ◌==◌, if◌then◌else◌, List, [], ◌∷◌, ◌++◌, length, map, replicate, Option, Some, None, IsSome, refl, sym, subst, ap, ◌∙◌, arith, true-eqb, slice_index_or, slice_set, get_or-set_same, get_or-set_other, length-set}
+use Rattle.std.proofs.Common.{◌≡◌, ◌≢◌, ◌↔◌, ℕ, zero, suc, ◌<◌, ◌≤◌, Bool, true, false, IsTrue, ◌==◌, if◌then◌else◌, List, [], ◌∷◌, length, map, take, replicate, Option, Some, None, IsSome, refl, sym, subst, ap, ap₂, ◌∙◌, arith, true-eqb, slice_index_or, slice_set, get_or-set_same, get_or-set_other, length-set}
 use Rattle.std.specs.List.{refill}
-use Rattle.std.proofs.lemmas.List.{take_at, map-set}
+use Rattle.std.proofs.Math.Seq.{take-set-lt}
+use Rattle.std.proofs.lemmas.List.{length-map, length-take-le, take_at, map-set}
 use Rattle.std.proofs.lemmas.Bool.Decides.{nat_tests}
 use Rattle.chr_value.specs.Atoms.{Value}
 use Rattle.chr_guard.specs.declared.binding.Bound.{Bound}
+use Rattle.chr_guard.specs.declared.binding.Bound.TheVariants as bounds
 use Rattle.chr_guard.specs.Values.{Valuation}
-use Rattle.chr_guard.specs.Bindings.{bound_term, bound_at, Extends, Narrows, NoneUnder, NarrowsIf}
+use Rattle.chr_guard.specs.Bindings.{bound_term, bound_at, AreFreeBehind, Extends, Narrows, NoneUnder, NarrowsIf}
+
+-- the places of the variables say what each is bound to
+pub at_taken : (n : ℕ) (places : List Bound) → ((x : ℕ) → n ≤ x → slice_index_or places x bounds.Free ≡ bounds.Free) → (x : ℕ) → bound_at (take n (map bound_term places)) x ≡ bound_term (slice_index_or places x bounds.Free)
+at_taken zero places free x = ap bound_term (sym (free x (omega arith)))
+at_taken (suc n) [] free x = refl
+at_taken (suc n) (b ∷ places) free zero = refl
+at_taken (suc n) (b ∷ places) free (suc x) = at_taken n places (λ y le. free (suc y) (omega (arith, le))) x
+
+-- how many variables a binding has
+pub length_binding : (n : ℕ) (places : List Bound) (binding : List (Option (Value ℕ))) → AreFreeBehind n places → take n (map bound_term places) ≡ binding → length binding ≡ n
+length_binding n places binding behind same = sym (ap length same) ∙ length-take-le n (map bound_term places) (omega (arith, behind.full, behind.within, length-map places bound_term))
+
+pub is_place : (n : ℕ) (places : List Bound) (binding : List (Option (Value ℕ))) (x : ℕ) → AreFreeBehind n places → take n (map bound_term places) ≡ binding → x < length binding → x < n
+is_place n places binding x behind same lt = omega (arith, lt, length_binding n places binding behind same)
+
+-- where all places are free
+pub taken_free : (n : ℕ) (places : List Bound) → n ≤ length places → ((x : ℕ) → slice_index_or places x bounds.Free ≡ bounds.Free) → take n (map bound_term places) ≡ replicate n None
+taken_free zero places le free = refl
+taken_free (suc n) [] le free = absurd (omega (arith, le))
+taken_free (suc n) (b ∷ places) le free = ap₂ (λ o os. o ∷ os) (ap bound_term (free zero)) (taken_free n places (omega (arith, le)) (λ x. free (suc x)))
+
+pub all_free : (n : ℕ) (places : List Bound) → ((x : ℕ) → x < n → slice_index_or places x bounds.Free ≡ bounds.Free) → ((x : ℕ) → n ≤ x → slice_index_or places x bounds.Free ≡ bounds.Free) → (x : ℕ) → slice_index_or places x bounds.Free ≡ bounds.Free
+all_free zero places before behind x = behind x (omega arith)
+all_free (suc n) [] before behind x = refl
+all_free (suc n) (b ∷ places) before behind zero = before zero (omega arith)
+all_free (suc n) (b ∷ places) before behind (suc x) = all_free n places (λ y lt. before (suc y) (omega (arith, lt))) (λ y le. behind (suc y) (omega (arith, le))) x
+
+-- a write at a variable's place
+pub behind_write : (n : ℕ) (places : List Bound) (x : ℕ) (b : Bound) → AreFreeBehind n places → x < n → AreFreeBehind n (slice_set places x b)
+behind_write n places x b behind lt = record {
+  full = length-set places x b ∙ behind.full;
+  within = behind.within;
+  free = λ y le. get_or-set_other places x y b bounds.Free (λ e. omega (arith, e, le, lt)) ∙ behind.free y le;
+}
 
 -- the list after a write through the slice
-pub after_write : (bs : List Bound) (x : ℕ) (b : Bound) → map bound_term (refill (length bs) bs (slice_set bs x b)) ≡ slice_set (map bound_term bs) x (bound_term b)
-after_write bs x b = ap (map bound_term) (take_at (slice_set bs x b) _ (length bs) (length-set bs x b)) ∙ map-set bound_term bs x b
+pub after_write : (bs slice : List Bound) (x at : ℕ) (b : Bound) → slice ≡ bs → at ≡ x → refill (length bs) bs (slice_set slice at b) ≡ slice_set bs x b
+after_write bs slice x at b same there = ap₂ (λ s y. refill (length bs) bs (slice_set s y b)) same there ∙ take_at (slice_set bs x b) _ (length bs) (length-set bs x b)
+
+pub taken_write : (n : ℕ) (places : List Bound) (x : ℕ) (b : Bound) → x < n → take n (map bound_term (slice_set places x b)) ≡ slice_set (take n (map bound_term places)) x (bound_term b)
+taken_write n places x b lt = ap (take n) (map-set bound_term places x b) ∙ take-set-lt n (map bound_term places) x (bound_term b) lt
 
 -- a binding is the least valuation that extends it
 pub extends_itself : (binding : List (Option (Value ℕ))) → Extends (bound_at binding) binding
@@ -74,13 +113,6 @@ free_at (suc n) (suc x) = free_at n x
 
 pub free_extends : (v : Valuation) (n : ℕ) → Extends v (replicate n None)
 free_extends v n x t at = let c : None ≡ Some t = sym (free_at n x) ∙ at in absurd (cc)
-
--- a variable more that is free
-pub free_more : (binding : List (Option (Value ℕ))) (x : ℕ) → bound_at (binding ++ None ∷ []) x ≡ bound_at binding x
-free_more [] zero = refl
-free_more [] (suc x) = refl
-free_more (o ∷ binding) zero = refl
-free_more (o ∷ binding) (suc x) = free_more binding x
 
 -- a valuation but for one variable
 changed : Valuation → ℕ → Option (Value ℕ) → Valuation

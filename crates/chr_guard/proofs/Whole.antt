@@ -1,5 +1,5 @@
 -- Heads that fit, a guard that holds and a completed body are an instance, and nothing else is.
-use Rattle.std.proofs.Common.{◌≡◌, ℕ, ◌+◌, ◌<◌, Bool, true, false, List, [], ◌∷◌, ◌++◌, length, take, drop, map, get_or, Option, Some, None, IsSome, ◌⊎◌, inl, inr, refl, sym, subst, ap, ap₂, ◌∙◌, arith}
+use Rattle.std.proofs.Common.{◌≡◌, ℕ, ◌+◌, ◌<◌, Bool, true, false, List, [], ◌∷◌, ◌++◌, length, take, drop, map, get_or, Option, Some, None, IsSome, ◌⊎◌, inl, inr, refl, sym, subst, ap, ◌∙◌, arith}
 use Rattle.std.specs.Prelude.{MatchOption}
 use Rattle.std.specs.List.{AllByRecursion}
 use Rattle.std.proofs.lemmas.List.{map_more, length-map, take-append-drop, drop_more, map-append}
@@ -7,8 +7,8 @@ use Rattle.chr_value.specs.Atoms.{Value, Atom}
 use Rattle.chr_rule.specs.Rules.{RuleAtom, BodyItem, Is, Add, Simpagation}
 use Rattle.chr_rule.specs.Scope.{IsRule}
 use Rattle.chr_guard.specs.Values.{Valuation, Holds}
-use Rattle.chr_guard.specs.Bindings.{bound_at, Extends, Narrows}
-use Rattle.chr_guard.specs.Instances.{atom_under, AreUnder, IsRight, added, IsInstance, NoInstance}
+use Rattle.chr_guard.specs.Bindings.{bound_at, Extends}
+use Rattle.chr_guard.specs.Instances.{atom_under, AreUnder, added, IsInstance, NoInstance}
 use Rattle.chr_guard.specs.Matching.{HeadsAre, IsFit, IsOfHeads, Completes, IsBody, IsCompleted, CompletedIf, IsInstanceIf, IsInstanceUnder}
 use Rattle.chr_guard.proofs.Scoped.{scoped}
 use Rattle.chr_guard.proofs.Under.{somes, under_append, under_parts, none_under, body_made}

@@ -7,34 +7,35 @@ ghost use Rattle.chr_guard.specs.Values.{number_in, term_under, WhereBoth};
 ghost use Rattle.chr_guard.specs.Bindings.{bound_term, bound_at, NarrowsIf};
 
 use arrayvec::ArrayVec;
+use chr_rule::rule::MOST_VARIABLES;
 use chr_rule::rule_atom::Term;
 use chr_value::atom::Value;
 use chr_value::names::Name;
 use std::marker::Model;
 
-/// What one variable is bound to: nothing, a value that an atom holds, or a number.
+/// What one variable is bound to: nothing, a number, or a symbol.
 #[derive(Clone, Copy, Debug)]
-pub enum Bound<'a> {
+pub enum Bound {
     Free,
-    Held(&'a Value),
     Number(i64),
+    Symbol(Name),
 }
 
-impl<'a> Default for Bound<'a> {
+impl Default for Bound {
     fn default() -> Self {
         Bound::Free
     }
 }
 
-impl<'a> Bound<'a> {
-    /// What stands for a value that an atom holds. A number is copied, so that reading it follows no reference.
+impl Bound {
+    /// What stands for a value.
     #[inline(always)]
-    fn of(value: &'a Value) -> Bound<'a>
+    fn of(value: &Value) -> Bound
         ensures { bound_term result ≡ Some (ground value.now) }
     {
         match value {
             Value::Int(n) => Bound::Number(*n),
-            Value::Sym(_) => Bound::Held(value),
+            Value::Sym(name) => Bound::Symbol(*name),
         }
     }
 
@@ -54,8 +55,8 @@ impl<'a> Bound<'a> {
     {
         match self {
             Bound::Free => false,
-            Bound::Held(held) => held.same(value),
             Bound::Number(n) => value.same(&Value::Int(*n)),
+            Bound::Symbol(name) => value.same(&Value::Sym(*name)),
         }
     }
 
@@ -65,8 +66,8 @@ impl<'a> Bound<'a> {
     {
         match other {
             Bound::Free => false,
-            Bound::Held(held) => self.is(held),
             Bound::Number(n) => self.is(&Value::Int(*n)),
+            Bound::Symbol(name) => self.is(&Value::Sym(*name)),
         }
     }
 
@@ -86,40 +87,42 @@ impl<'a> Bound<'a> {
     {
         match self {
             Bound::Free => None,
-            Bound::Held(held) => Some(held.duplicate()),
             Bound::Number(n) => Some(Value::Int(*n)),
+            Bound::Symbol(name) => Some(Value::Sym(*name)),
         }
     }
 }
 
-/// What the variables of a rule are bound to, at most 24. It borrows the values from the atoms that hold them, and
-/// takes no memory.
+/// What the variables of a rule are bound to, at most 24. It has the values themselves, and takes no memory.
 #[derive(Drop)]
-pub struct Binding<'a> {
-    bound: ArrayVec<Bound<'a>, 24>,
+pub struct Binding {
+    /// Always full: behind the variables all are free.
+    bound: ArrayVec<Bound, MOST_VARIABLES>,
+    variables: usize,
 }
 
-impl<'a> Model for Binding<'a> {
-    ghost use Rattle.std.specs.Prelude.{ℕ, List, Option, map};
+impl Model for Binding {
+    ghost use Rattle.std.specs.Prelude.{ℕ, List, Option, map, take};
     ghost use Rattle.chr_value.specs.Atoms.{Value as PlainValue};
-    ghost use Rattle.chr_guard.specs.Bindings.{bound_term};
+    ghost use Rattle.chr_guard.specs.Bindings.{bound_term, AreFreeBehind};
 
     ghost Value = { List (Option (PlainValue ℕ)) };
 
-    ghost view = { λ b. map bound_term b.bound.items };
+    ghost view = { λ b. take b.variables (map bound_term b.bound.items) };
+
+    ghost invariant = { λ b. AreFreeBehind b.variables b.bound.items };
 }
 
-impl<'a> Binding<'a> {
+impl Binding {
     /// This many variables, at most 24, which are all free.
-    pub fn free(variables: usize) -> Binding<'a>
+    pub fn free(variables: usize) -> Binding
         requires { variables ≤ 24 }
         ensures { result ≡ replicate variables None }
     {
-        let mut binding = Binding {
-            bound: ArrayVec::new(),
-        };
-        binding.reset(variables);
-        binding
+        Binding {
+            bound: ArrayVec::from_array_in((), [Bound::Free; MOST_VARIABLES]),
+            variables,
+        }
     }
 
     /// Becomes one of this many variables, at most 24, which are all free.
@@ -128,15 +131,15 @@ impl<'a> Binding<'a> {
         requires { variables ≤ 24 }
         ensures { self.new ≡ replicate variables None }
     {
-        self.bound.clear();
-        for _ in 0..variables {
-            self.bound.push(Bound::Free);
+        for variable in 0..self.variables {
+            self.bound[variable] = Bound::Free;
         }
+        self.variables = variables;
     }
 
     /// What a variable is bound to.
     #[inline(always)]
-    pub fn at(&self, variable: u8) -> Bound<'a>
+    pub fn at(&self, variable: u8) -> Bound
         ensures { bound_term result ≡ bound_at self.now variable }
     {
         match self.bound.as_slice().get(usize::from(variable)) {
@@ -151,22 +154,21 @@ impl<'a> Binding<'a> {
         ensures { result ≡ number_in (bound_at self.now variable) }
     {
         match self.at(variable) {
-            Bound::Held(Value::Int(n)) => Some(*n),
             Bound::Number(n) => Some(n),
             _ => None,
         }
     }
 
-    fn put(&mut self, variable: u8, bound: Bound<'a>)
+    fn put(&mut self, variable: u8, bound: Bound)
         requires { variable < length self.old }
-        ensures { self.new ≡ slice_set self.old variable (bound_term bound.entry) }
+        ensures { self.new ≡ slice_set self.old variable (bound_term bound) }
     {
         self.bound[usize::from(variable)] = bound;
     }
 
     /// Binds a variable to a value. Where it is bound already, answers whether it is bound to this one.
     #[inline(always)]
-    pub(crate) fn hold(&mut self, variable: u8, value: &'a Value) -> bool
+    pub(crate) fn hold(&mut self, variable: u8, value: &Value) -> bool
         requires { variable < length self.old }
         ensures { NarrowsIf (λ v. v variable ≡ Some (ground value.now)) result self.old self.new }
     {
@@ -194,39 +196,35 @@ impl<'a> Binding<'a> {
     }
 
     /// A copy.
-    pub fn copy(&self) -> Binding<'a>
+    pub fn copy(&self) -> Binding
         ensures { result ≡ self.now }
     {
-        let mut copy = ArrayVec::new();
-        for bound in self.bound.as_slice() {
-            copy.push(*bound);
-        }
-        Binding { bound: copy }
+        let mut copy = Binding::free(0);
+        copy.set_to(self);
+        copy
     }
 
     /// Becomes a copy of another. Between bindings of as many variables, only these get copied.
     #[inline(always)]
-    pub fn set_to(&mut self, other: &Binding<'a>)
+    pub fn set_to(&mut self, other: &Binding)
         ensures { self.new ≡ other.now }
     {
-        if self.bound.len() != other.bound.len() {
-            self.reset(other.bound.len());
+        if self.variables != other.variables {
+            self.reset(other.variables);
         }
-        for (i, bound) in other.bound.as_slice().iter().enumerate() {
-            self.bound[i] = *bound;
+        for variable in 0..other.variables {
+            self.bound[variable] = other.bound[variable];
         }
     }
 
     /// A copy with at least this many variables, at most 24: further ones are free.
-    pub(crate) fn widened(&self, variables: usize) -> Binding<'a>
+    pub(crate) fn widened(&self, variables: usize) -> Binding
         requires { variables ≤ 24 }
         ensures places { variables ≤ length result }
         ensures same { (x : ℕ) → bound_at result x ≡ bound_at self.now x }
     {
         let mut copy = self.copy();
-        for _ in copy.bound.len()..variables {
-            copy.bound.push(Bound::Free);
-        }
+        copy.variables = copy.variables.max(variables);
         copy
     }
 
@@ -238,12 +236,12 @@ impl<'a> Binding<'a> {
     }
 
     /// What an argument of a rule stands for.
-    pub fn term<'b>(&'b self, term: &'b Term) -> Bound<'b>
+    pub fn term(&self, term: &Term) -> Bound
         ensures { bound_term result ≡ term_under (bound_at self.now) (argument term.now) }
     {
         match term {
             Term::Var(x) => self.at(*x),
-            Term::Value(value) => Bound::Held(value),
+            Term::Value(value) => Bound::of(value),
         }
     }
 }

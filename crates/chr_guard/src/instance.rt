@@ -15,7 +15,7 @@ use std::alloc::Allocator;
 /// Binds all variables of a rule's instance, where those of its heads are bound. False where the heads' atoms are no
 /// instance, whatever the body.
 #[inline(always)]
-pub fn becomes_instance<'a, A: Allocator + Copy>(rule: &Rule<A>, binding: &mut Binding<'a>) -> bool
+pub fn becomes_instance<A: Allocator + Copy>(rule: &Rule<A>, binding: &mut Binding) -> bool
     requires { (facts : List (Atom ℕ)) × IsFit rule.now (HeadsAre rule.now facts) binding.old }
     ensures { (facts : List (Atom ℕ)) → IsFit rule.now (HeadsAre rule.now facts) binding.old → IsInstanceIf rule.now facts result binding.new }
 {
@@ -27,12 +27,9 @@ pub fn becomes_instance<'a, A: Allocator + Copy>(rule: &Rule<A>, binding: &mut B
 
 /// The one binding of all variables of a rule's instance, from that of its heads' variables. None where the heads' atoms
 /// are no instance, whatever the body.
-pub fn instance_from<'a, A: Allocator + Copy>(
-    rule: &Rule<A>,
-    mut binding: Binding<'a>,
-) -> Option<Binding<'a>>
+pub fn instance_from<A: Allocator + Copy>(rule: &Rule<A>, mut binding: Binding) -> Option<Binding>
     requires { (facts : List (Atom ℕ)) × IsFit rule.now (HeadsAre rule.now facts) binding }
-    ensures { (facts : List (Atom ℕ)) → IsFit rule.now (HeadsAre rule.now facts) binding.entry → MatchOption result (NoInstance rule.now facts) (IsInstanceUnder rule.now facts) }
+    ensures { (facts : List (Atom ℕ)) → IsFit rule.now (HeadsAre rule.now facts) binding → MatchOption result (NoInstance rule.now facts) (IsInstanceUnder rule.now facts) }
 {
     if !becomes_instance(rule, &mut binding) {
         return None;
@@ -42,10 +39,7 @@ pub fn instance_from<'a, A: Allocator + Copy>(
 
 /// The one binding of all variables of the instance of a rule whose heads are these atoms, in head order: kept heads first.
 /// None where they are no instance, whatever the body. [`added_atoms`] makes the body.
-pub fn instance_under<'a, A: Allocator + Copy>(
-    rule: &Rule<A>,
-    atoms: &[&'a Atom<A>],
-) -> Option<Binding<'a>>
+pub fn instance_under<A: Allocator + Copy>(rule: &Rule<A>, atoms: &[&Atom<A>]) -> Option<Binding>
     ensures { let facts = map (λ a. a.now) atoms.now in MatchOption result (NoInstance rule.now facts) (IsInstanceUnder rule.now facts) }
 {
     let binding = fit_all(rule, atoms)?;

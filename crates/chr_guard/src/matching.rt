@@ -17,7 +17,7 @@ use std::alloc::Allocator;
 
 /// Extends a binding so that a term equals a value. False only where no valuation that extends it makes them equal.
 #[inline(always)]
-pub(crate) fn fit_term<'a>(binding: &mut Binding<'a>, term: &Term, value: &'a Value) -> bool
+pub(crate) fn fit_term(binding: &mut Binding, term: &Term, value: &Value) -> bool
     requires { argument_known (length binding.old) (argument term.now) ≡ true }
     ensures { NarrowsIf (λ v. term_under v (argument term.now) ≡ Some (ground value.now)) result binding.old binding.new }
 {
@@ -29,7 +29,7 @@ pub(crate) fn fit_term<'a>(binding: &mut Binding<'a>, term: &Term, value: &'a Va
 
 /// The same for several terms.
 #[inline(always)]
-pub(crate) fn fit_terms<'a>(binding: &mut Binding<'a>, terms: &[Term], values: &'a [Value]) -> bool
+pub(crate) fn fit_terms(binding: &mut Binding, terms: &[Term], values: &[Value]) -> bool
     requires { list_all (argument_known (length binding.old)) (map argument terms.now) ≡ true }
     ensures { NarrowsIf (λ v. map (term_under v) (map argument terms.now) ≡ map (λ t. Some (ground t)) values.now) result binding.old binding.new }
 {
@@ -46,11 +46,7 @@ pub(crate) fn fit_terms<'a>(binding: &mut Binding<'a>, terms: &[Term], values: &
 
 /// Extends a binding so that a head equals an atom. False only where no valuation that extends it makes them equal.
 #[inline(always)]
-pub fn fit_head<'a, A: Allocator + Copy>(
-    binding: &mut Binding<'a>,
-    head: &RuleAtom,
-    atom: &'a Atom<A>,
-) -> bool
+pub fn fit_head<A: Allocator + Copy>(binding: &mut Binding, head: &RuleAtom, atom: &Atom<A>) -> bool
     requires { list_all (argument_known (length binding.old)) (shape head.now).args ≡ true }
     ensures { NarrowsIf (λ v. atom_under v (shape head.now) ≡ Some atom.now) result binding.old binding.new }
 {
@@ -62,10 +58,10 @@ pub fn fit_head<'a, A: Allocator + Copy>(
 }
 
 /// The same for several heads.
-pub(crate) fn fit_heads<'a, A: Allocator + Copy>(
-    binding: &mut Binding<'a>,
+pub(crate) fn fit_heads<A: Allocator + Copy>(
+    binding: &mut Binding,
     heads: &[RuleAtom],
-    atoms: &[&'a Atom<A>],
+    atoms: &[&Atom<A>],
 ) -> bool
     requires { AllByRecursion (λ h. list_all (argument_known (length binding.old)) h.args ≡ true) (map shape heads.now) }
     ensures { NarrowsIf (λ v. map (atom_under v) (map shape heads.now) ≡ map (λ a. Some a.now) atoms.now) result binding.old binding.new }
@@ -83,10 +79,7 @@ pub(crate) fn fit_heads<'a, A: Allocator + Copy>(
 
 /// The one binding of the listed heads' variables under which these heads are the listed atoms, or none where there is
 /// none. Heads are numbered from 1, kept heads first; a number that no head has fits no atom. For no heads all is free.
-pub fn fit<'a, A: Allocator + Copy>(
-    rule: &Rule<A>,
-    placed: &[(usize, &'a Atom<A>)],
-) -> Option<Binding<'a>>
+pub fn fit<A: Allocator + Copy>(rule: &Rule<A>, placed: &[(usize, &Atom<A>)]) -> Option<Binding>
     ensures { let places = map (λ p. (p.0, p.1.now)) placed.now in MatchOption result ((v : _) → AreAtHeads rule.now places v → ⊥) (λ binding. IsFit rule.now (AreAtHeads rule.now places) binding) }
 {
     let mut binding = Binding::free(rule.variables());
@@ -100,10 +93,7 @@ pub fn fit<'a, A: Allocator + Copy>(
 }
 
 /// The one binding under which the rule's heads are these atoms, in head order, or none where there is none.
-pub(crate) fn fit_all<'a, A: Allocator + Copy>(
-    rule: &Rule<A>,
-    atoms: &[&'a Atom<A>],
-) -> Option<Binding<'a>>
+pub(crate) fn fit_all<A: Allocator + Copy>(rule: &Rule<A>, atoms: &[&Atom<A>]) -> Option<Binding>
     ensures { let facts = map (λ a. a.now) atoms.now in MatchOption result ((v : _) → HeadsAre rule.now facts v → ⊥) (λ binding. IsFit rule.now (HeadsAre rule.now facts) binding) }
 {
     let kept = rule.kept();

@@ -1,9 +1,6 @@
-use Rattle.std.proofs.Common.{◌≡◌, ◌≤◌, ◌+◌, ◌++◌, ◌∷◌, [], length, map, take, Some, sym, ap, ◌∙◌, subst, subst₂, arith}
+use Rattle.std.proofs.Common.{◌≡◌, ◌≤◌, ◌+◌, ◌++◌, ◌∷◌, [], length, map, take, sym, ap, ◌∙◌, subst, arith}
 use Rattle.std.proofs.lemmas.List.{append-nil, length_push}
-use Rattle.chr_value.specs.Atoms.{Atom}
-use Rattle.std.specs.Prelude.{ℕ, List}
-use Rattle.chr_rule.specs.Rules.{Is, Add}
-use Rattle.chr_rule.specs.Parts.{shape, member, expression}
+use Rattle.chr_rule.specs.Parts.{shape, member}
 use Rattle.chr_guard.specs.Bindings.{bound_at}
 use Rattle.chr_guard.specs.Instances.{atom_under, AreUnder, added}
 use Rattle.chr_guard.proofs.Whole.{added_more, not_made}

@@ -1,7 +1,3 @@
-use Rattle.std.proofs.Common.{◌≤◌, length, map, arith}
-use Rattle.chr_guard.specs.Bindings.{bound_at}
-use Rattle.chr_guard.specs.Instances.{AreUnder, added}
-use Rattle.chr_guard.specs.Matching.{IsBody}
 use Rattle.chr_guard.proofs.Whole.{is_body, no_body, no_arguments, carried_on}
 use Rattle.chr_guard.proofs.body.body.Goals as goal
 

@@ -1,4 +1,4 @@
-use Rattle.std.proofs.Common.{◌≡◌, List, map, Some, sym, subst, subst₂, ◌∙◌}
+use Rattle.std.proofs.Common.{◌≡◌, List, map, Some, sym, subst₂, ◌∙◌}
 use Rattle.std.proofs.lemmas.Simd.{map-map}
 use Rattle.chr_rule.specs.declared.rule_atom.Term.{Term as RuleTerm}
 use Rattle.chr_value.specs.Atoms.{Value, ground, grounds}

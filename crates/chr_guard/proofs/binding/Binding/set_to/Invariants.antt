@@ -1,5 +1,10 @@
-use Rattle.std.proofs.Common.{◌≡◌, length, take}
+use Rattle.std.proofs.Common.{◌≡◌, take}
+use Rattle.chr_guard.specs.Bindings.{AreFreeBehind}
 use Rattle.chr_guard.proofs.binding.Binding.set_to.Given as goal
 
-abbrev pub invariant-loop-i : goal.invariant-loop-i
-invariant-loop-i l = record { items : take l.i l.self-inside.bound.items ≡ take l.i l.bound-items; len : length l.self-inside.bound.items ≡ length l.bound-items }
+abbrev pub invariant-loop-variable : goal.invariant-loop-variable
+invariant-loop-variable l = record {
+  variables : l.self-inside.variables ≡ l.variable-end;
+  behind : AreFreeBehind l.self-inside.variables l.self-inside.bound.items;
+  items : take l.variable l.self-inside.bound.items ≡ take l.variable l.other-inside.bound.items;
+}
