@@ -6,3 +6,4 @@ pub mod Keep
 pub mod Stored
 pub mod Jumps
 pub mod Marks
+pub mod Views

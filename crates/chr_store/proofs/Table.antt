@@ -25,6 +25,10 @@ without_label l s = record { entries = drop_label l s.entries; next = s.next }
 abbrev pub with_atom : Atom ℕ → GivenAtoms → GivenAtoms
 with_atom a s = record { entries = s.entries ++ (s.next, a) ∷ []; next = s.next + 1 }
 
+-- and with a label spent
+abbrev pub without_atom : GivenAtoms → GivenAtoms
+without_atom s = record { entries = s.entries; next = s.next + 1 }
+
 abbrev pub given : Store → ℕ → GivenAtoms
 given es n = record { entries = es; next = n }
 
@@ -80,6 +84,11 @@ pushed_at : (first l : ℕ) (a : Atom ℕ) (xs : Slots) → l ≡ length xs + fi
 pushed_at first l a [] e = ap (λ n. (n, a) ∷ []) (omega arith)
 pushed_at first l a (None ∷ xs) e = pushed_at (first + 1) l a xs (omega arith)
 pushed_at first l a (Some b ∷ xs) e = ap (λ (es : Store). (first, b) ∷ es) (pushed_at (first + 1) l a xs (omega arith))
+
+skipped_at : (first : ℕ) (xs : Slots) → entries_from first (xs ++ None ∷ []) ≡ entries_from first xs
+skipped_at first [] = refl
+skipped_at first (None ∷ xs) = skipped_at (first + 1) xs
+skipped_at first (Some b ∷ xs) = ap (λ (es : Store). (first, b) ∷ es) (skipped_at (first + 1) xs)
 
 pub at_most : (first : ℕ) (xs : Slots) → length (entries_from first xs) ≤ length xs
 at_most first [] = omega arith
@@ -137,4 +146,14 @@ module _ {A : Type 0} (slots : List (Option (Box (Atom ℕ) A))) (live : ℕ) (t
   filled_table x a is h = record {
     counted = (let more = ap (λ (s : GivenAtoms). length s.entries) (filled x a is) in let was : live ≡ length (entries_from 1 (held slots)) = t.counted in omega (arith, length-append (entries_from 1 (held slots)) ((length slots + 1, a) ∷ [])));
     within = omega (arith, length-map (slots ++ x ∷ []) atom_of, length-append slots (x ∷ []));
+  }
+
+  -- a slot that stays without an atom
+  pub skipped : table_of (slots ++ None ∷ []) ≡ without_atom (table_of slots)
+  skipped = both _ _ _ _ (ap (entries_from 1) (map_push atom_of slots None) ∙ skipped_at 1 (held slots)) (omega (arith, length-append slots (None ∷ [])))
+
+  pub skipped_table : length slots + 1 ≤ 4294967295 → IsTable (held (slots ++ None ∷ [])) live
+  skipped_table h = record {
+    counted = t.counted ∙ sym (ap (λ (s : GivenAtoms). length s.entries) skipped);
+    within = omega (arith, length-map (slots ++ None ∷ []) atom_of, length-append slots (None ∷ []));
   }

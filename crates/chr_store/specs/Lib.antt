@@ -10,3 +10,4 @@ pub mod KeyLabels
 pub mod Marks
 pub mod KeyLaws
 pub mod Indexed
+pub mod Views

@@ -92,6 +92,19 @@ impl<A: Allocator + Copy> Atoms<A> {
         Ok(())
     }
 
+    /// Gives the next label to no atom. E01 where there is no memory, and then nothing has changed.
+    pub fn skip(&mut self) -> Result<(), AllocError>
+        requires { self.old.next ≤ 4294967295 }
+        ensures ok { OnOk result (self.new ≡ record { entries = self.old.entries; next = self.old.next + 1 }) }
+        ensures unchanged { OnErr result (self.new ≡ self.old) }
+    {
+        self.slots.reserve(1)?;
+        let Ok(()) = self.slots.push(None) else {
+            unreachable!();
+        };
+        Ok(())
+    }
+
     /// The atom under a label.
     pub fn get(&self, label: Label) -> Option<&Atom<A>>
         ensures { option_copied result ≡ atom_at self.now.entries label }

@@ -4,16 +4,21 @@
 //! two equal constraints have two labels and a removed label never comes back. [`next_at`](store::Store::next_at)
 //! finds the least label in a range whose atom has a predicate and, where one is asked for, a value at a place.
 //! A store keeps each atom in a slot of its label, so looking one up takes no search. The atom's memory goes when it is
-//! removed, and 8 bytes for its label stay.
+//! removed, and 16 bytes for its label stay.
 //! It also keeps the labels of each predicate in order, and, for each place that
 //! [`indexed`](store::Store::indexed) is given, those of each predicate and value there. So `next_at` takes a hash, or
 //! for a predicate alone a look-up in a table, and a binary search; with a key at another place it goes through the labels
 //! of the predicate. [`matches`](store::Store::matches) looks the key up once, and going on from the label found last
 //! takes no search.
-//! [`indexed`](store::Store::indexed), [`insert`](store::Store::insert), [`insert_copy`](store::Store::insert_copy) and
-//! [`copy`](store::Store::copy) take memory, no other call does.
+//! [`spend_label`](store::Store::spend_label) gives a label to no atom, as where one is entered and removed at once.
+//! [`indexed`](store::Store::indexed), [`insert`](store::Store::insert), [`insert_copy`](store::Store::insert_copy),
+//! [`spend_label`](store::Store::spend_label) and [`copy`](store::Store::copy) take memory, no other call does.
 //!
-//! Contracts see a store as the list of its labels with their atoms, which rises, with the next label and the limit.
+//! A [`View`](view::View) is a store in which labels are looked for that are older than an active one. It can show an atom
+//! under the next label before that atom is entered, so a search for its partners needs no copy of it in the store.
+//!
+//! Contracts see a store as the list of its labels with their atoms, which rises, with the next label and the limit. They see
+//! a view as such a store, with the atom that it shows, and the active label.
 #![tactic(auto)]
 
 pub mod atoms;
@@ -24,3 +29,4 @@ pub mod keys;
 pub mod labels;
 pub mod rows;
 pub mod store;
+pub mod view;

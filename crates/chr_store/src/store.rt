@@ -5,7 +5,7 @@ ghost use Rattle.std.specs.Iterator.{AlwaysYields};
 ghost use Rattle.std.specs.Map.Iter.{TakesFirst};
 ghost use Rattle.chr_value.specs.Atoms.{Atom, ground};
 ghost use Rattle.chr_value.specs.Stores.{atom_at, drop_label};
-ghost use Rattle.chr_store.specs.Labels.{IsLabelled};
+ghost use Rattle.chr_store.specs.Labels.{IsLabelled, spent};
 ghost use Rattle.chr_store.specs.Buckets.{IsLeastBetween};
 ghost use Rattle.chr_store.specs.Keys.{arg_at, HasPred, HasKey, key_of, IsLeastMatch};
 ghost use Rattle.chr_store.specs.Faults.{given_back};
@@ -170,6 +170,24 @@ impl<A: Allocator + Copy> Store<A> {
         };
         let Ok(()) = self.atoms.push_copy(atom) else {
             leave(&mut self.buckets, &self.places, atom, label);
+            return Err(CopyFault::NoMemory);
+        };
+        Ok(label)
+    }
+
+    /// Spends the next label, as entering an atom under it and taking that out does. Where the labels are spent (E10) or the
+    /// store could not grow (E01), it is unchanged.
+    pub fn spend_label(&mut self) -> Result<Label, CopyFault>
+        ensures label { IfOk result (λ label. label ≡ self.old.next) }
+        ensures ok { OnOk result (self.new ≡ spent self.old) }
+        ensures spent { (self.old.limit < self.old.next) ↔ (result ≡ Err copying.LabelsSpent) }
+        ensures unchanged { OnErr result (self.new ≡ self.old) }
+    {
+        let label = self.atoms.next_label();
+        if self.limit < label {
+            return Err(CopyFault::LabelsSpent);
+        }
+        let Ok(()) = self.atoms.skip() else {
             return Err(CopyFault::NoMemory);
         };
         Ok(label)
