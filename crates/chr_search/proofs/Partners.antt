@@ -208,13 +208,13 @@ pub none_at_all : (j : Join) (place : List ℕ) → ((x : ℕ) → MayFollow j [
 none_at_all j [] n = come_to_end (MayFollow j) 1 [] [] 0 [] (come_first (MayFollow j) 1 [] (omega arith)) (λ y m low. n y m)
 none_at_all j (first ∷ below) n = lengthened_none j [] first below (λ y m low. n y m)
 
-pub active_least : (j : Join) (from : ℕ) → MayFollow j [] j.active → from ≤ j.active → LeastFrom (MayFollow j []) from j.active
-active_least j from m low = record { holds = m; there = low; least = λ y f k. let e : y ≡ j.active = f.turn in omega arith }
+pub active_least : (j : Join) (x from : ℕ) → MayFollow j [] x → from ≤ x → LeastFrom (MayFollow j []) from x
+active_least j x from m low = record { holds = m; there = low; least = λ y f k. let d : x ≡ j.active = m.turn in let e : y ≡ j.active = f.turn in omega arith }
 
-pub active_past : (j : Join) (from : ℕ) → j.active < from → NoneFrom (MayFollow j []) from
-active_past j from h y m low = let e : y ≡ j.active = m.turn in absurd (omega arith)
+pub active_past : (j : Join) (x from : ℕ) → MayFollow j [] x → x < from → NoneFrom (MayFollow j []) from
+active_past j x from f h y m low = let d : x ≡ j.active = f.turn in let e : y ≡ j.active = m.turn in absurd (omega arith)
 
-pub active_none_below : (j : Join) (first next : ℕ) (below rest : List ℕ) → MayFollow j [] j.active → first ≡ j.active → below ≡ next ∷ rest → NoneBeyond (MayFollow j) 1 (j.active ∷ []) (next ∷ rest) → NoneBeyond (MayFollow j) 1 [] (first ∷ below)
-active_none_below j first next below rest m e b none =
-    (on_past j [] [] first j.active next below rest (active_least j first m (omega arith)) (sym e) b none refl false []
-    (lengthened_none j [] (first + 1) [] (active_past j (first + 1) (omega arith)), refl)).0
+pub active_none_below : (j : Join) (x first next : ℕ) (below rest : List ℕ) → MayFollow j [] x → first ≡ x → below ≡ next ∷ rest → NoneBeyond (MayFollow j) 1 (x ∷ []) (next ∷ rest) → NoneBeyond (MayFollow j) 1 [] (first ∷ below)
+active_none_below j x first next below rest m e b none =
+    (on_past j [] [] first x next below rest (active_least j x first m (omega arith)) (sym e) b none refl false []
+    (lengthened_none j [] (first + 1) [] (active_past j x (first + 1) m (omega arith)), refl)).0

@@ -91,9 +91,15 @@ stands_nowhere j ls binding step l r at n t i = no_fit j (ls ++ l ∷ []) t i (�
 heads_of_trial : (j : Join) (ls : List ℕ) (t : Trial) → IsTrialIn j ls t → length (heads_of t.rule) ≡ length j.rule.kept + length j.rule.removed
 heads_of_trial j ls t i = ap (λ r. length (heads_of r)) i.rule_is ∙ length-append j.rule.kept j.rule.removed
 
+pub few_placed : (j : Join) (ls : List ℕ) (t : Trial) → IsTrialIn j ls t → length ls < length j.rule.kept + length j.rule.removed → length t.placed < length (heads_of t.rule)
+few_placed j ls t i less =
+    let count : length t.placed ≡ length ls = count_of_trial j ls t i in
+    let all : length (heads_of t.rule) ≡ length j.rule.kept + length j.rule.removed = heads_of_trial j ls t i in
+    omega arith
+
 pub is_part : (j : Join) (ls : List ℕ) (binding : List (Option (Value ℕ))) → IsReady j ls binding → length ls < length j.rule.kept + length j.rule.removed → AreJudged j ls Part
 is_part j ls binding r less t i = record {
-  left = (let count : length t.placed ≡ length ls = count_of_trial j ls t i in let all : length (heads_of t.rule) ≡ length j.rule.kept + length j.rule.removed = heads_of_trial j ls t i in omega arith);
+  left = few_placed j ls t i less;
   distinct = subst Distinct (sym i.labels_are) r.distinct;
   valuation = bound_at binding;
   fits = ((fit_of_trial j ls t i binding r.fit).exactly (bound_at binding)).0 (λ x v e. e);

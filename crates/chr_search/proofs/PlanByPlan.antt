@@ -227,7 +227,7 @@ has_gone s rule order r h m place (suc n) after labels c p stays moves =
 
 -- the trial that is whole
 pub whole_next : (s : Space) (rule : Simpagation ℕ) (order : List Step) (r h : ℕ) → Makes s rule order r h → (after labels ls : List ℕ) (binding : List (Option (Value ℕ))) → AreAlike s after (r ∷ h ∷ labels) → Least (MayFollow (join_in s rule order)) 1 [] labels ls → AreWhole (join_in s rule order) ls binding → (w : CodeWhole) → w.number ≡ r → w.kept.items ≡ labels_at_heads order ls 1 (length rule.kept)
-    → w.removed.items ≡ labels_at_heads order ls (suc (length rule.kept)) (length rule.removed) → w.past ≡ record { label = s.active; place = past (r ∷ h ∷ ls) } → IsWholeNext s after rule w binding
+    → w.removed.items ≡ labels_at_heads order ls (suc (length rule.kept)) (length rule.removed) → w.past ≡ record { label = s.active; place = past (r ∷ h ∷ ls) } → IsWholeNext s after w binding
 whole_next s rule order r h m after labels ls binding a l whole w number_is kept_is removed_is past_is =
     let j = join_in s rule order in
     let g = grown j labels ls l in
@@ -239,7 +239,6 @@ whole_next s rule order r h m after labels ls binding a l whole w number_is kept
       is = trial_of_made s rule order r h ls t m.planned.rule_is m.planned.order_is;
       formed = t.is.formed;
       under = whole t.trial t.is;
-      rule_is = sym t.is.rule_is;
       number_is = number_is ∙ sym t.number;
       kept_are = kept_is ∙ kept_at_heads j ls t.trial t.is;
       removed_are = removed_is ∙ removed_at_heads j ls t.trial t.is;
@@ -280,7 +279,7 @@ pub on_at : (s : Space) (r h : ℕ) (j : Join) → IsJoinAt s r h j → (place :
 on_at s r h j k place n after labels g none = come_to_next_head s after r h labels j.rule j.order g.come g.alike k.planned (subst (λ (x : Join). NoneBeyond (MayFollow x) 1 [] labels) k.is none)
 
 pub whole_at : (s : Space) (r h : ℕ) (j : Join) → IsJoinAt s r h j → Makes s j.rule j.order r h → (place : List ℕ) (n : ℕ) (after labels ls : List ℕ) (binding : List (Option (Value ℕ))) → HasGone s place r h n after labels → Least (MayFollow j) 1 [] labels ls → AreWhole j ls binding → (w : CodeWhole) → w.number ≡ r
-    → w.kept.items ≡ labels_at_heads j.order ls 1 (length j.rule.kept) → w.removed.items ≡ labels_at_heads j.order ls (suc (length j.rule.kept)) (length j.rule.removed) → w.past ≡ record { label = j.active; place = past (r ∷ h ∷ ls) } → IsWholeNext s after j.rule w binding
+    → w.kept.items ≡ labels_at_heads j.order ls 1 (length j.rule.kept) → w.removed.items ≡ labels_at_heads j.order ls (suc (length j.rule.kept)) (length j.rule.removed) → w.past ≡ record { label = j.active; place = past (r ∷ h ∷ ls) } → IsWholeNext s after w binding
 whole_at s r h j k m place n after labels ls binding g l whole w number_is kept_is removed_is past_is =
     whole_next s j.rule j.order r h m after labels ls binding g.alike (subst (λ (x : Join). Least (MayFollow x) 1 [] labels ls) k.is l) (subst (λ (x : Join). AreWhole x ls binding) k.is whole) w number_is kept_is removed_is
     (past_is ∙ ap (λ (x : Join). record { label = x.active; place = past (r ∷ h ∷ ls) }) k.is)

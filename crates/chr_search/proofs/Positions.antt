@@ -1,5 +1,5 @@
 -- Laws of positions.
-use Rattle.std.proofs.Common.{◌≡◌, ◌≢◌, ℕ, zero, suc, ◌+◌, ◌<◌, true, false, ltb, List, [], ◌∷◌, ◌++◌, refl, ◌∙◌, ap, subst, arith, ◌⊎◌, inl, inr, ⊎_elim}
+use Rattle.std.proofs.Common.{◌≡◌, ◌≢◌, ℕ, zero, suc, ◌+◌, ◌<◌, ◌≤◌, length, take, true, false, ltb, List, [], ◌∷◌, ◌++◌, refl, ◌∙◌, ap, subst, arith, ◌⊎◌, inl, inr, ⊎_elim}
 use Rattle.std.proofs.lemmas.Bool.Decides.{nat_tests}
 use Rattle.chr_search.specs.Positions.{at_or_after, begins, just_after, past}
 
@@ -78,3 +78,9 @@ pub past_last : (xs : List ℕ) (x : ℕ) → past (xs ++ x ∷ []) ≡ xs ++ (x
 past_last [] x = refl
 past_last (y ∷ []) x = refl
 past_last (y ∷ z ∷ ys) x = ap (λ w. y ∷ w) (past_last (z ∷ ys) x)
+
+-- as many numbers as are taken are there
+pub taken_there : (n : ℕ) (xs : List ℕ) → length (take n xs) ≡ n → n ≤ length xs
+taken_there zero xs e = omega arith
+taken_there (suc n) [] e = absurd (let z : 0 ≡ suc n = e in omega arith)
+taken_there (suc n) (x ∷ xs) e = let there : n ≤ length xs = taken_there n xs (let z : suc (length (take n xs)) ≡ suc n = e in omega arith) in omega arith

@@ -4,7 +4,7 @@ use Rattle.std.specs.List.{AllByRecursion}
 use Rattle.chr_value.specs.Atoms.{Value}
 use Rattle.chr_value.specs.Stores.{atom_at}
 use Rattle.chr_rule.specs.Parts.{shape}
-use Rattle.chr_rule.specs.Rules.{Simpagation, head_at}
+use Rattle.chr_rule.specs.Rules.{head_at}
 use Rattle.chr_plan.specs.declared.order.Step.{Step}
 use Rattle.chr_search.specs.declared.judged.Verdict.{Verdict}
 use Rattle.chr_search.specs.declared.judged.Verdict.TheVariants.{Misfit, Part, Whole}
@@ -160,21 +160,20 @@ abbrev pub StopsAt : Join → List ℕ → ℕ → Stop → List ℕ → List �
 StopsAt j path from (stops.Part x) place ls binding = (ls ≡ path) × (from ≤ x) × IsAfterPart j path x place binding
 StopsAt j path from (stops.End end) place ls binding = EndsBelow j path place end ls binding
 
--- what was found is the next trial at a place, which is of this rule, and it is whole under this binding
-pub record IsWholeNext (s : Space) (place : List ℕ) (rule : Simpagation ℕ) (w : CodeWhole) (binding : List (Option (Value ℕ))) : Type 0 where
+-- what was found is the next trial at a place, and it is whole under this binding
+pub record IsWholeNext (s : Space) (place : List ℕ) (w : CodeWhole) (binding : List (Option (Value ℕ))) : Type 0 where
   pub trial : Trial
   pub next : IsNext s place (position trial)
   pub is : IsTrialOf s.rules s.plans s.store trial
   pub formed : IsFormed trial
   pub under : IsWholeUnder trial binding
-  pub rule_is : rule ≡ trial.rule
   pub number_is : w.number ≡ trial.number
   pub kept_are : w.kept.items ≡ kept_labels trial
   pub removed_are : w.removed.items ≡ removed_labels trial
   pub past_is : w.past ≡ record { label = s.active; place = past (position trial) }
 
 -- what comes at a place once trials were passed over: one that is whole, which is this instance; none; or perhaps more
-abbrev pub IsThen : {Z : Type 0} → Space → List ℕ → CodeThen Z → Instance → Type 0
-IsThen s place (thens.Whole rule) i = IsWholeNext s place rule.now i.whole i.binding
+abbrev pub IsThen : Space → List ℕ → CodeThen → Instance → Type 0
+IsThen s place thens.Whole i = IsWholeNext s place i.whole i.binding
 IsThen s place thens.Done i = NoneLeft s place
 IsThen s place thens.More i = Unit {0}

@@ -14,17 +14,17 @@ use chr_log::events::Labels;
 use chr_plan::order::Step;
 use chr_rule::rule::Rule;
 use chr_rule::rule_atom::RuleAtom;
-use chr_store::store::{Label, Matches, Store};
+use chr_store::store::{Label, Matches};
+use chr_store::view::View;
 use chr_value::atom::{Pred, Value};
 use std::alloc::Allocator;
 
-/// A rule and a plan of it, and the store in which partners older than an active label are looked for.
+/// A rule and a plan of it, and the view in which partners older than the active label are looked for.
 #[derive(Drop)]
 pub(crate) struct Join<'s, A: Allocator> {
     pub(crate) rule: &'s Rule<A>,
     pub(crate) order: &'s [Step],
-    pub(crate) store: &'s Store<A>,
-    pub(crate) active: Label,
+    pub(crate) view: View<'s, A>,
 }
 
 /// The predicate of a head.
@@ -57,14 +57,14 @@ impl Asked {
 impl<'s, A: Allocator + Copy> Join<'s, A> {
     /// Extends a binding so that the step's head is the label's atom. False only where no valuation that extends it makes
     /// them equal, or the label has left the store.
-    pub(crate) fn fit_at(&self, binding: &mut Binding<'s>, step: Step, label: Label) -> bool
+    pub(crate) fn fit_at(&self, binding: &mut Binding, step: Step, label: Label) -> bool
         requires { length binding.old ≡ self.now.rule.now.variables }
         ensures { NarrowsIf (λ v. StandsAt (join_of self.now) v step label) result binding.old binding.new }
     {
         let Some(head) = self.rule.head(usize::from(step.head)) else {
             return false;
         };
-        let Some(atom) = self.store.get(label) else {
+        let Some(atom) = self.view.get(label) else {
             return false;
         };
         fit_head(binding, head, atom)
@@ -72,12 +72,7 @@ impl<'s, A: Allocator + Copy> Join<'s, A> {
 
     /// The binding under which the step's head is the label's atom as well. None where there is none, or the label has
     /// left the store.
-    pub(crate) fn fit_label(
-        &self,
-        binding: &Binding<'s>,
-        step: Step,
-        label: Label,
-    ) -> Option<Binding<'s>>
+    pub(crate) fn fit_label(&self, binding: &Binding, step: Step, label: Label) -> Option<Binding>
         requires { length binding.now ≡ self.now.rule.now.variables }
         ensures { MatchOption result (NoneUnder (λ v. StandsAt (join_of self.now) v step label) binding.now) (Narrows (λ v. StandsAt (join_of self.now) v step label) binding.now) }
     {
@@ -89,7 +84,7 @@ impl<'s, A: Allocator + Copy> Join<'s, A> {
     }
 
     /// The binding with one label more. None where the labels are then not distinct, or don't fit.
-    fn narrow(&self, labels: &[Label], binding: &Binding<'s>, label: Label) -> Option<Binding<'s>>
+    fn narrow(&self, labels: &[Label], binding: &Binding, label: Label) -> Option<Binding>
         requires { IsReady (join_of self.now) labels.now binding.now }
         ensures { MatchOption result ((x : ℕ) → MayFollow (join_of self.now) (labels.now ++ label ∷ []) x → ⊥) (IsReady (join_of self.now) (labels.now ++ label ∷ [])) }
     {
@@ -102,7 +97,7 @@ impl<'s, A: Allocator + Copy> Join<'s, A> {
 
     /// What is asked of the store for the next label. None where none may be tried after these.
     #[inline(always)]
-    fn asked(&self, labels: &[Label], binding: &Binding<'s>) -> Option<Asked>
+    fn asked(&self, labels: &[Label], binding: &Binding) -> Option<Asked>
         requires some { 1 ≤ length labels.now }
         requires plan { HasPlan (join_of self.now) }
         requires ready { IsReady (join_of self.now) labels.now binding.now }
@@ -126,7 +121,7 @@ impl<'s, A: Allocator + Copy> Join<'s, A> {
     pub(crate) fn next_partner(
         &self,
         labels: &[Label],
-        binding: &Binding<'s>,
+        binding: &Binding,
         from: Label,
     ) -> Option<Label>
         requires some { 1 ≤ length labels.now }
@@ -136,14 +131,13 @@ impl<'s, A: Allocator + Copy> Join<'s, A> {
     {
         let asked = self.asked(labels, binding)?;
         let after = from.saturating_sub(1);
-        self.store
-            .next_at(asked.pred, asked.key(), after, self.active)
+        self.view.next_at(asked.pred, asked.key(), after)
     }
 
     /// The labels among which are those that may be tried after these, to go through. None where there are none, or where
     /// the store keeps no index for them.
     #[inline(always)]
-    pub(crate) fn partners(&self, labels: &[Label], binding: &Binding<'s>) -> Option<Matches<'s, A>>
+    pub(crate) fn partners(&self, labels: &[Label], binding: &Binding) -> Option<Matches<'s, A>>
         requires plan { HasPlan (join_of self.now) }
         requires ready { IsReady (join_of self.now) labels.now binding.now }
         ensures { IfSome result (GivePartners (join_of self.now) labels.now) }
@@ -153,12 +147,12 @@ impl<'s, A: Allocator + Copy> Join<'s, A> {
         }
         let asked = self.asked(labels, binding)?;
         // For the proof: the labels of a store are numbered from 1.
-        let _given = self.store.next_label();
-        self.store.matches(asked.pred, asked.key())
+        let _given = self.view.active();
+        self.view.matches(asked.pred, asked.key())
     }
 
     /// Adds the least partner from one on. False where there is none.
-    fn push_next(&self, labels: &mut Labels, binding: &Binding<'s>, from: Label) -> bool
+    fn push_next(&self, labels: &mut Labels, binding: &Binding, from: Label) -> bool
         requires some { 1 ≤ length labels.old.items }
         requires plan { HasPlan (join_of self.now) }
         requires ready { IsReady (join_of self.now) labels.old.items binding.now }
@@ -175,7 +169,7 @@ impl<'s, A: Allocator + Copy> Join<'s, A> {
     fn lengthen(
         &self,
         labels: &mut Labels,
-        binding: &Binding<'s>,
+        binding: &Binding,
         first: Label,
         below: &[Label],
     ) -> bool
@@ -201,13 +195,15 @@ impl<'s, A: Allocator + Copy> Join<'s, A> {
             }
             labels.pop();
         }
+        // For the proof: a partner is older than the active label.
+        let _active = self.view.active();
         self.push_next(labels, binding, first + 1)
     }
 
     /// Whether the active label is live and its atom has the predicate of the plan's first head.
     pub(crate) fn begins(&self) -> bool
         requires { HasPlan (join_of self.now) }
-        ensures { IsTrue result ↔ MayFollow (join_of self.now) [] self.now.active }
+        ensures { IsTrue result ↔ MayFollow (join_of self.now) [] self.now.view.active }
     {
         let Some(step) = self.order.first() else {
             return false;
@@ -215,7 +211,7 @@ impl<'s, A: Allocator + Copy> Join<'s, A> {
         let Some(head) = self.rule.head(usize::from(step.head)) else {
             return false;
         };
-        match self.store.get(self.active) {
+        match self.view.get(self.view.active()) {
             None => false,
             Some(atom) => atom.pred() == pred_of(head),
         }
@@ -230,25 +226,26 @@ impl<'s, A: Allocator + Copy> Join<'s, A> {
         if !self.begins() {
             return None;
         }
+        let active = self.view.active();
         let mut labels = Labels::new();
         let Some((first, below)) = place.split_first() else {
-            labels.push(self.active);
+            labels.push(active);
             return Some(labels);
         };
-        if *first > self.active {
+        if *first > active {
             return None;
         }
         let Some((next, rest)) = below.split_first() else {
-            labels.push(self.active);
+            labels.push(active);
             return Some(labels);
         };
-        if *first < self.active {
-            labels.push(self.active);
+        if *first < active {
+            labels.push(active);
             return Some(labels);
         }
         let free = Binding::free(self.rule.variables());
-        let narrowed = self.narrow(&[], &free, self.active)?;
-        labels.push(self.active);
+        let narrowed = self.narrow(&[], &free, active)?;
+        labels.push(active);
         if self.lengthen(&mut labels, &narrowed, *next, rest) {
             return Some(labels);
         }

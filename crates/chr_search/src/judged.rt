@@ -68,7 +68,7 @@ impl<A: Allocator + Copy> Judged<A> {
 
     /// The one binding of all variables of the instance that a whole trial is. None unless the verdict is
     /// [`Verdict::Whole`]. It takes no memory.
-    pub fn binding(&self) -> Option<Binding<'_>>
+    pub fn binding(&self) -> Option<Binding>
         ensures { MatchOption result (IsWhole self.now.trial → ⊥) (IsWholeUnder self.now.trial) }
     {
         match self.verdict {
@@ -96,10 +96,7 @@ fn are_distinct<A: Allocator>(placed: &[Placed<A>]) -> bool
 }
 
 /// The one binding under which the heads are the atoms. None where there is none.
-fn fit_placed<'a, A: Allocator + Copy>(
-    rule: &Rule<A>,
-    placed: &'a [Placed<A>],
-) -> Option<Binding<'a>>
+fn fit_placed<A: Allocator + Copy>(rule: &Rule<A>, placed: &[Placed<A>]) -> Option<Binding>
     ensures { let places = map (λ p. (p.head, p.atom)) placed.now in MatchOption result ((v : _) → AreAtHeads rule.now places v → ⊥) (λ binding. IsFit rule.now (AreAtHeads rule.now places) binding) }
 {
     let mut binding = Binding::free(rule.variables());
@@ -113,7 +110,7 @@ fn fit_placed<'a, A: Allocator + Copy>(
 }
 
 /// The one binding under which the heads of a trial are its atoms. None where there is none.
-fn fit<A: Allocator + Copy>(trial: &Trial<A>) -> Option<Binding<'_>>
+fn fit<A: Allocator + Copy>(trial: &Trial<A>) -> Option<Binding>
     ensures { MatchOption result ((v : _) → AreAtHeads trial.now.rule (at_heads trial.now) v → ⊥) (IsFit trial.now.rule (AreAtHeads trial.now.rule (at_heads trial.now))) }
 {
     fit_placed(trial.rule(), trial.placed())
@@ -121,7 +118,7 @@ fn fit<A: Allocator + Copy>(trial: &Trial<A>) -> Option<Binding<'_>>
 
 /// The one binding of all variables of the instance that a trial without heads left is, from that of its heads' variables.
 /// None where it is none.
-fn complete<'a, A: Allocator + Copy>(trial: &Trial<A>, binding: Binding<'a>) -> Option<Binding<'a>>
+fn complete<A: Allocator + Copy>(trial: &Trial<A>, binding: Binding) -> Option<Binding>
     requires full { length trial.now.placed ≡ length (heads_of trial.now.rule) }
     requires distinct { Distinct (labels trial.now) }
     requires fit { IsFit trial.now.rule (AreAtHeads trial.now.rule (at_heads trial.now)) binding }

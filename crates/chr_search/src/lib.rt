@@ -7,6 +7,8 @@
 //! position, [`judge`](judged::judge) tells whether it misfits, is a part of an instance or is a whole one, and
 //! [`advance`](search::Search::advance) moves the search past what has been judged.
 //! [`pass_over`](search::Search::pass_over) does the same for all trials up to one that is whole, and makes none of them.
+//! [`pass_over_before`](search::Search::pass_over_before) does it before the active atom is entered, as if it were: where
+//! the whole trial removes that atom, its firing spares the store both the entering and the removal.
 //!
 //! In an admissible trial every label but the first is older than the active one, so an instance is found by the
 //! youngest of its labels.

@@ -11,6 +11,7 @@ ghost use Rattle.chr_search.specs.Verdicts.{Trial};
 
 use crate::join::Join;
 use crate::judged::Verdict;
+use crate::position::put_at;
 use crate::search::Instance;
 use chr_guard::binding::Binding;
 use chr_guard::instance::becomes_instance;
@@ -50,7 +51,7 @@ struct LastHead<'s> {
 #[derive(Drop)]
 struct Level<'l, 's, A: Allocator> {
     /// What the labels before the last bind.
-    binding: &'l Binding<'s>,
+    binding: &'l Binding,
     at: LastHead<'s>,
     /// The labels among which it is. None where the store has no index for them, or it is the active one.
     partners: Option<Matches<'s, A>>,
@@ -102,19 +103,6 @@ fn is_among(labels: &[Label], label: Label) -> bool
     labels.iter().any(|other| *other == label)
 }
 
-/// Keeps the first labels, as many as `depth`, and puts one after them.
-fn put_at(labels: &mut Labels, depth: usize, label: Label)
-    requires { depth < 6 }
-    ensures { labels.new.items ≡ take depth labels.old.items ++ label ∷ [] }
-{
-    if labels.len() == depth + 1 {
-        labels[depth] = label;
-        return;
-    }
-    labels.truncate(depth);
-    labels.push(label);
-}
-
 /// Moves a place behind misfits, where there were any.
 fn settle(place: &mut Labels, depth: usize, count: u64, next: Label)
     requires { 1 ≤ count → depth < 6 }
@@ -127,8 +115,8 @@ fn settle(place: &mut Labels, depth: usize, count: u64, next: Label)
 
 impl<'s, A: Allocator + Copy> Join<'s, A> {
     /// The least label from one on that may be tried after these labels.
-    fn next_child(&self, labels: &[Label], binding: &Binding<'s>, from: Label) -> Option<Label>
-        requires begins { MayFollow (join_of self.now) [] self.now.active }
+    fn next_child(&self, labels: &[Label], binding: &Binding, from: Label) -> Option<Label>
+        requires begins { MayFollow (join_of self.now) [] self.now.view.active }
         requires plan { HasPlan (join_of self.now) }
         requires ready { IsReady (join_of self.now) labels.now binding.now }
         ensures { IsPartnerFrom (join_of self.now) labels.now from result }
@@ -136,10 +124,11 @@ impl<'s, A: Allocator + Copy> Join<'s, A> {
         if !labels.is_empty() {
             return self.next_partner(labels, binding, from);
         }
-        if self.active < from {
+        let active = self.view.active();
+        if active < from {
             return None;
         }
-        Some(self.active)
+        Some(active)
     }
 
     /// Whether a label may come after these as to its age: the active one first, and then those that are older.
@@ -147,14 +136,14 @@ impl<'s, A: Allocator + Copy> Join<'s, A> {
         ensures { IsTrue result ↔ IsInTurn (join_of self.now) labels.now label }
     {
         if labels.is_empty() {
-            label == self.active
+            label == self.view.active()
         } else {
-            label < self.active
+            label < self.view.active()
         }
     }
 
     /// Extends the binding of these labels by one more. False where that may not be tried after them, or none after it.
-    fn narrow_by(&self, labels: &[Label], narrowed: &mut Binding<'s>, label: Label) -> bool
+    fn narrow_by(&self, labels: &[Label], narrowed: &mut Binding, label: Label) -> bool
         requires plan { HasPlan (join_of self.now) }
         requires ready { IsReady (join_of self.now) labels.now narrowed.old }
         ensures { IsNarrowedIf (join_of self.now) labels.now label result narrowed.new }
@@ -186,7 +175,7 @@ impl<'s, A: Allocator + Copy> Join<'s, A> {
 
     /// What the trials of these labels and one more have in common. None where no label may be tried after these.
     #[inline(always)]
-    fn level<'l>(&self, labels: &[Label], binding: &'l Binding<'s>) -> Option<Level<'l, 's, A>>
+    fn level<'l>(&self, labels: &[Label], binding: &'l Binding) -> Option<Level<'l, 's, A>>
         requires plan { HasPlan (join_of self.now) }
         requires ready { IsReady (join_of self.now) labels.now binding.now }
         ensures { MatchOption result ((x : ℕ) → MayFollow (join_of self.now) labels.now x → ⊥) (IsLevel (join_of self.now) labels.now) }
@@ -201,14 +190,14 @@ impl<'s, A: Allocator + Copy> Join<'s, A> {
     /// The least label from one on at a level.
     #[inline(always)]
     fn next_at(&self, level: &mut Level<'_, 's, A>, labels: &[Label], from: Label) -> Option<Label>
-        requires begins { MayFollow (join_of self.now) [] self.now.active }
+        requires begins { MayFollow (join_of self.now) [] self.now.view.active }
         requires plan { HasPlan (join_of self.now) }
         requires level { IsLevel (join_of self.now) labels.now level.old }
         ensures least { IsPartnerFrom (join_of self.now) labels.now from result }
         ensures same { level.new ≡ level.old }
     {
         match &mut level.partners {
-            Some(partners) => partners.next_at(from.saturating_sub(1), self.active),
+            Some(partners) => partners.next_at(from.saturating_sub(1), self.view.active()),
             None => self.next_child(labels, level.binding, from),
         }
     }
@@ -221,7 +210,7 @@ impl<'s, A: Allocator + Copy> Join<'s, A> {
         at: LastHead<'s>,
         labels: &[Label],
         label: Label,
-        narrowed: &mut Binding<'s>,
+        narrowed: &mut Binding,
     ) -> Verdict
         requires at { IsLastHead (join_of self.now) labels.now at }
         requires ready { IsReady (join_of self.now) labels.now narrowed.old }
@@ -231,7 +220,7 @@ impl<'s, A: Allocator + Copy> Join<'s, A> {
         if is_among(labels, label) {
             return Verdict::Misfit;
         }
-        let Some(atom) = self.store.get(label) else {
+        let Some(atom) = self.view.get(label) else {
             return Verdict::Misfit;
         };
         if !fit_head(narrowed, at.head, atom) {
@@ -254,9 +243,9 @@ impl<'s, A: Allocator + Copy> Join<'s, A> {
         level: &mut Level<'_, 's, A>,
         from: Label,
         most: u64,
-        instance: &mut Instance<'s>,
+        instance: &mut Instance,
     ) -> Run
-        requires begins { MayFollow (join_of self.now) [] self.now.active }
+        requires begins { MayFollow (join_of self.now) [] self.now.view.active }
         requires plan { HasPlan (join_of self.now) }
         requires trials { HasTrials (join_of self.now) }
         requires grows { Grows (MayFollow (join_of self.now)) [] instance.old.labels.items }
@@ -302,9 +291,9 @@ impl<'s, A: Allocator + Copy> Join<'s, A> {
         from: Label,
         most: u64,
         place: &mut Labels,
-        instance: &mut Instance<'s>,
+        instance: &mut Instance,
     ) -> Stopped
-        requires begins { MayFollow (join_of self.now) [] self.now.active }
+        requires begins { MayFollow (join_of self.now) [] self.now.view.active }
         requires plan { HasPlan (join_of self.now) }
         requires trials { HasTrials (join_of self.now) }
         requires level { IsLevel (join_of self.now) instance.old.labels.items level.old }
@@ -337,13 +326,13 @@ impl<'s, A: Allocator + Copy> Join<'s, A> {
     #[cycle(below)]
     fn pass_below(
         &self,
-        binding: &Binding<'s>,
+        binding: &Binding,
         from: Label,
         most: u64,
         place: &mut Labels,
-        instance: &mut Instance<'s>,
+        instance: &mut Instance,
     ) -> Passed
-        requires begins { MayFollow (join_of self.now) [] self.now.active }
+        requires begins { MayFollow (join_of self.now) [] self.now.view.active }
         requires plan { HasPlan (join_of self.now) }
         requires trials { HasTrials (join_of self.now) }
         requires ready { IsReady (join_of self.now) instance.old.labels.items binding.now }
@@ -379,9 +368,9 @@ impl<'s, A: Allocator + Copy> Join<'s, A> {
         part: Label,
         most: u64,
         place: &mut Labels,
-        instance: &mut Instance<'s>,
+        instance: &mut Instance,
     ) -> Passed
-        requires begins { MayFollow (join_of self.now) [] self.now.active }
+        requires begins { MayFollow (join_of self.now) [] self.now.view.active }
         requires plan { HasPlan (join_of self.now) }
         requires trials { HasTrials (join_of self.now) }
         requires grows { Grows (MayFollow (join_of self.now)) [] instance.old.labels.items }
@@ -418,13 +407,13 @@ impl<'s, A: Allocator + Copy> Join<'s, A> {
     /// Passes over the trials of the instance's labels and more at or after a place, at most so many.
     fn pass_on(
         &self,
-        binding: &Binding<'s>,
+        binding: &Binding,
         rest: &[Label],
         most: u64,
         place: &mut Labels,
-        instance: &mut Instance<'s>,
+        instance: &mut Instance,
     ) -> Passed
-        requires begins { MayFollow (join_of self.now) [] self.now.active }
+        requires begins { MayFollow (join_of self.now) [] self.now.view.active }
         requires plan { HasPlan (join_of self.now) }
         requires trials { HasTrials (join_of self.now) }
         requires ready { IsReady (join_of self.now) instance.old.labels.items binding.now }
@@ -441,7 +430,7 @@ impl<'s, A: Allocator + Copy> Join<'s, A> {
         if below.is_empty() {
             return self.pass_below(binding, *first, most, place, instance);
         }
-        if *first > self.active {
+        if *first > self.view.active() {
             return Passed {
                 count: 0,
                 end: End::NoneLeft,
@@ -465,15 +454,47 @@ impl<'s, A: Allocator + Copy> Join<'s, A> {
         }
     }
 
+    /// Passes over the one trial of a rule of one head, where it isn't whole.
+    fn pass_only(&self, at: LastHead<'s>, place: &mut Labels, instance: &mut Instance) -> Passed
+        requires begins { MayFollow (join_of self.now) [] self.now.view.active }
+        requires trials { HasTrials (join_of self.now) }
+        requires at { IsLastHead (join_of self.now) [] at }
+        requires only { IsTrue at.is_last }
+        requires place { place.old.items ≡ [] }
+        ensures few { result.count ≤ 1 }
+        ensures passes { PassesIn (join_of self.now) result.count place.old.items place.new.items }
+        ensures ends { EndsIn (join_of self.now) place.new.items result.end instance.new.labels.items instance.new.binding }
+    {
+        let active = self.view.active();
+        instance.binding.reset(self.rule.variables());
+        match self.judge_at(at, &[], active, &mut instance.binding) {
+            Verdict::Misfit => {
+                place.push(active + 1);
+                Passed {
+                    count: 1,
+                    end: End::NoneLeft,
+                }
+            }
+            Verdict::Whole => {
+                put_at(&mut instance.labels, 0, active);
+                Passed {
+                    count: 0,
+                    end: End::Whole,
+                }
+            }
+            Verdict::Part => unreachable!(),
+        }
+    }
+
     /// Passes over the trials as [`pass`](Join::pass) does, from no place on. All of them begin with the active label.
     fn pass_first(
         &self,
         most: u64,
-        spare: &mut Binding<'s>,
+        spare: &mut Binding,
         place: &mut Labels,
-        instance: &mut Instance<'s>,
+        instance: &mut Instance,
     ) -> Passed
-        requires begins { MayFollow (join_of self.now) [] self.now.active }
+        requires begins { MayFollow (join_of self.now) [] self.now.view.active }
         requires plan { HasPlan (join_of self.now) }
         requires trials { HasTrials (join_of self.now) }
         requires place { place.old.items ≡ [] }
@@ -493,26 +514,23 @@ impl<'s, A: Allocator + Copy> Join<'s, A> {
                 end: End::Enough,
             };
         }
+        if at.is_last {
+            return self.pass_only(at, place, instance);
+        }
+        let active = self.view.active();
         spare.reset(self.rule.variables());
-        match self.judge_at(at, &[], self.active, spare) {
+        match self.judge_at(at, &[], active, spare) {
             Verdict::Misfit => {
-                place.push(self.active + 1);
+                place.push(active + 1);
                 Passed {
                     count: 1,
                     end: End::NoneLeft,
                 }
             }
-            Verdict::Whole => {
-                put_at(&mut instance.labels, 0, self.active);
-                instance.binding.set_to(spare);
-                Passed {
-                    count: 0,
-                    end: End::Whole,
-                }
-            }
+            Verdict::Whole => unreachable!(),
             Verdict::Part => {
-                put_at(&mut instance.labels, 0, self.active);
-                place.push(self.active);
+                put_at(&mut instance.labels, 0, active);
+                place.push(active);
                 place.push(0);
                 let below = self.pass_below(spare, 0, most - 1, place, instance);
                 Passed {
@@ -524,8 +542,8 @@ impl<'s, A: Allocator + Copy> Join<'s, A> {
     }
 
     /// Passes over the trials as [`pass`](Join::pass) does, from a place on.
-    fn pass_from(&self, most: u64, place: &mut Labels, instance: &mut Instance<'s>) -> Passed
-        requires begins { MayFollow (join_of self.now) [] self.now.active }
+    fn pass_from(&self, most: u64, place: &mut Labels, instance: &mut Instance) -> Passed
+        requires begins { MayFollow (join_of self.now) [] self.now.view.active }
         requires plan { HasPlan (join_of self.now) }
         requires trials { HasTrials (join_of self.now) }
         ensures few { result.count ≤ most }
@@ -545,10 +563,10 @@ impl<'s, A: Allocator + Copy> Join<'s, A> {
         &self,
         place: &mut Labels,
         most: u64,
-        spare: &mut Binding<'s>,
-        instance: &mut Instance<'s>,
+        spare: &mut Binding,
+        instance: &mut Instance,
     ) -> Passed
-        requires begins { MayFollow (join_of self.now) [] self.now.active }
+        requires begins { MayFollow (join_of self.now) [] self.now.view.active }
         requires plan { HasPlan (join_of self.now) }
         requires trials { HasTrials (join_of self.now) }
         ensures few { result.count ≤ most }

@@ -1,5 +1,5 @@
 //! Positions in the order of trials.
-ghost use Rattle.std.specs.Prelude.{◌≡◌, ◌↔◌, ◌∷◌, ◌<◌, ◌≤◌, length, IsTrue};
+ghost use Rattle.std.specs.Prelude.{◌≡◌, ◌↔◌, ◌+◌, ◌∷◌, ◌++◌, ◌<◌, ◌≤◌, [], length, take, IsTrue};
 ghost use Rattle.chr_search.specs.Positions.{beginning, just_after, past, front};
 ghost use Rattle.chr_search.specs.Verdicts.{Trial as TrialView, labels as labels_of, position, IsFormed, IsPart};
 
@@ -28,19 +28,45 @@ impl Model for Position {
     ghost invariant = { λ p. (1 ≤ p.rule) × (1 ≤ p.head) };
 }
 
+/// Keeps the first labels, as many as `depth`, and puts one after them.
+pub(crate) fn put_at(labels: &mut Labels, depth: usize, label: Label)
+    requires { depth < 6 }
+    ensures { labels.new.items ≡ take depth labels.old.items ++ label ∷ [] }
+{
+    if labels.len() == depth + 1 {
+        labels[depth] = label;
+        return;
+    }
+    labels.truncate(depth);
+    labels.push(label);
+}
+
+/// Sets the label after the first ones, which are as many as `depth` and stay.
+pub(crate) fn set_at(labels: &mut Labels, depth: usize, label: Label)
+    requires within { depth ≤ length labels.old.items }
+    requires room { depth < 6 }
+    ensures { take (depth + 1) labels.new.items ≡ take depth labels.old.items ++ label ∷ [] }
+{
+    if depth < labels.len() {
+        labels[depth] = label;
+        return;
+    }
+    labels.push(label);
+}
+
 /// Makes labels the first ones after those of a trial and all that they begin.
 fn set_past(after: &mut Labels, labels: &[Label])
     requires { (t : TrialView) × IsFormed t × (labels_of t ≡ labels.now) }
     ensures { after.new.items ≡ past labels.now }
 {
-    after.clear();
     let Some((last, before)) = labels.split_last() else {
+        after.clear();
         return;
     };
-    for label in before {
-        after.push(*label);
+    for (i, label) in before.iter().enumerate() {
+        set_at(after, i, *label);
     }
-    after.push(*last + 1);
+    put_at(after, before.len(), *last + 1);
 }
 
 impl Position {

@@ -2,6 +2,7 @@
 ghost use Rattle.std.specs.Prelude.{◌≡◌, ◌↔◌, suc, ◌≤◌, ◌∷◌, [], length, Some, MatchOption, IfOk, IsTrue};
 ghost use Rattle.chr_value.specs.Stores.{atom_at};
 ghost use Rattle.chr_plan.specs.Plans.{ArePlans};
+ghost use Rattle.chr_store.specs.Labels.{entered};
 ghost use Rattle.chr_search.specs.Positions.{beginning, just_after, past};
 ghost use Rattle.chr_search.specs.Tree.{Least, NoneBeyond};
 ghost use Rattle.chr_search.specs.Trials.{older, Child, IsNext, MayFollow, NoneLeft};
@@ -16,7 +17,7 @@ use crate::join::Join;
 use crate::judged::{Judged, Verdict};
 use crate::passing;
 use crate::passing::End;
-use crate::position::Position;
+use crate::position::{Position, set_at};
 use crate::trial::Trial;
 use chr_guard::binding::Binding;
 use chr_log::events::Labels;
@@ -25,6 +26,7 @@ use chr_plan::plans::Plans;
 use chr_rule::program::Program;
 use chr_rule::rule::Rule;
 use chr_store::store::{Label, Store};
+use chr_store::view::View;
 use chr_value::atom::Atom;
 use std::alloc::{AllocError, Allocator};
 use std::marker::Model;
@@ -55,9 +57,9 @@ pub struct Whole {
 /// trials is lent one and sets it, since one costs more to make than to set; while it goes over them, the labels are those
 /// before the last.
 #[derive(Drop)]
-pub struct Instance<'s> {
+pub struct Instance {
     pub(crate) labels: Labels,
-    pub(crate) binding: Binding<'s>,
+    pub(crate) binding: Binding,
     whole: Whole,
 }
 
@@ -88,15 +90,15 @@ fn set_labels_at_heads(
     requires count { count ≤ 6 }
     ensures { found.new.items ≡ labels_at_heads order.now labels.now first count }
 {
-    found.clear();
     for i in 0..count {
-        found.push(label_at_head(order, labels, first + i));
+        set_at(found, i, label_at_head(order, labels, first + i));
     }
+    found.truncate(count);
 }
 
-impl<'s> Instance<'s> {
+impl Instance {
     /// One of no labels and no variables. It takes no memory.
-    pub fn new() -> Instance<'s> {
+    pub fn new() -> Instance {
         Instance {
             labels: Labels::new(),
             binding: Binding::free(0),
@@ -110,7 +112,7 @@ impl<'s> Instance<'s> {
     }
 
     /// What all variables are bound to.
-    pub fn binding(&self) -> &Binding<'s>
+    pub fn binding(&self) -> &Binding
         ensures { result.now ≡ self.now.binding }
     {
         &self.binding
@@ -124,14 +126,14 @@ impl<'s> Instance<'s> {
     }
 
     /// Sets the trial to that of the labels, by the rule and the head at which a walk stands.
-    fn set_whole<A: Allocator + Copy>(&mut self, join: &Join<'s, A>, walk: &Walk)
+    fn set_whole<A: Allocator + Copy>(&mut self, join: &Join<'_, A>, walk: &Walk)
         requires rule { 1 ≤ walk.now.rule }
         requires head { 1 ≤ walk.now.head }
         requires trial { (t : TrialView) × IsTrialIn (join_of join.now) self.old.labels.items t }
         ensures number { self.new.whole.number ≡ walk.now.rule }
         ensures kept { self.new.whole.kept.items ≡ labels_at_heads join.now.order.now self.old.labels.items 1 (length join.now.rule.now.kept) }
         ensures removed { self.new.whole.removed.items ≡ labels_at_heads join.now.order.now self.old.labels.items (suc (length join.now.rule.now.kept)) (length join.now.rule.now.removed) }
-        ensures past { self.new.whole.past ≡ record { label = join.now.active; place = past (walk.now.rule ∷ walk.now.head ∷ self.old.labels.items) } }
+        ensures past { self.new.whole.past ≡ record { label = join.now.view.active; place = past (walk.now.rule ∷ walk.now.head ∷ self.old.labels.items) } }
         ensures binding { self.new.binding ≡ self.old.binding }
     {
         let labels = self.labels.as_slice();
@@ -141,15 +143,15 @@ impl<'s> Instance<'s> {
         whole.number = walk.rule;
         set_labels_at_heads(&mut whole.kept, join.order, labels, 1, kept);
         set_labels_at_heads(&mut whole.removed, join.order, labels, kept + 1, removed);
-        whole.past.set_past(join.active, walk, labels);
+        whole.past.set_past(join.view.active(), walk, labels);
     }
 }
 
 /// What comes once a search has passed over trials.
-#[derive(Drop)]
-pub enum Then<'s, A: Allocator> {
-    /// A trial of this rule that is whole.
-    Whole(&'s Rule<A>),
+#[derive(Clone, Copy, Debug, PartialEq, Eq)]
+pub enum Then {
+    /// A trial that is whole.
+    Whole,
     /// No trial is left.
     Done,
     /// Perhaps more trials: as many were passed over as were asked for.
@@ -157,10 +159,10 @@ pub enum Then<'s, A: Allocator> {
 }
 
 /// How many trials a search has passed over, and what comes then.
-#[derive(Drop)]
-pub struct Passed<'s, A: Allocator> {
+#[derive(Clone, Copy, Debug, PartialEq, Eq)]
+pub struct Passed {
     pub count: u64,
-    pub then: Then<'s, A>,
+    pub then: Then,
 }
 
 /// Where a walk through the heads of a predicate stands, by a rule and a head of it.
@@ -248,8 +250,7 @@ impl Search {
             let join = Join {
                 rule,
                 order,
-                store,
-                active: self.label,
+                view: View::of(store, self.label),
             };
             if let Some(labels) = join.find(place) {
                 return Some(Position {
@@ -346,16 +347,15 @@ impl Search {
     /// The plan of the next head with the active atom's predicate, from where the walk stands on, and the walk goes there.
     /// None where there is none.
     fn next_join<'s, A: Allocator + Copy>(
-        &self,
         program: &'s Program<A>,
         plans: &'s Plans<A>,
-        store: &'s Store<A>,
+        view: &View<'s, A>,
         atom: &Atom<A>,
         walk: &mut Walk,
     ) -> Option<Join<'s, A>>
         requires plans { ArePlans program.now plans.now }
-        requires atom { atom_at store.now.entries self.now.label ≡ Some atom.now }
-        ensures { let s = older program.now plans.now store.now.entries self.now.label in MatchOption result (NoneLeft s (walk.old.rule ∷ walk.old.head ∷ [])) (λ join. IsNextJoin s walk.old.rule walk.old.head walk.new.rule walk.new.head (join_of join)) }
+        requires atom { atom_at view.now.store.entries view.now.active ≡ Some atom.now }
+        ensures { let s = older program.now plans.now view.now.store.entries view.now.active in MatchOption result (NoneLeft s (walk.old.rule ∷ walk.old.head ∷ [])) (λ join. IsNextJoin s walk.old.rule walk.old.head walk.new.rule walk.new.head (join_of join)) }
     {
         let Some(found) = program.next_occurrence(atom.pred(), walk.rule, walk.head, &mut walk.near)
         else {
@@ -370,8 +370,7 @@ impl Search {
         Some(Join {
             rule,
             order,
-            store,
-            active: self.label,
+            view: view.copy(),
         })
     }
 
@@ -382,12 +381,12 @@ impl Search {
         join: &Join<'s, A>,
         walk: &Walk,
         most: u64,
-        spare: &mut Binding<'s>,
-        instance: &mut Instance<'s>,
+        spare: &mut Binding,
+        instance: &mut Instance,
     ) -> passing::Passed
         requires rule { 1 ≤ walk.now.rule }
         requires head { 1 ≤ walk.now.head }
-        requires begins { MayFollow (join_of join.now) [] join.now.active }
+        requires begins { MayFollow (join_of join.now) [] join.now.view.active }
         requires plan { HasPlan (join_of join.now) }
         requires trials { HasTrials (join_of join.now) }
         ensures few { result.count ≤ most }
@@ -407,25 +406,26 @@ impl Search {
         passed
     }
 
-    /// Passes over trials as [`pass_over`](Search::pass_over) does, where the active label has this atom.
-    fn pass_by<'s, A: Allocator + Copy>(
+    /// Passes over trials as [`pass_over`](Search::pass_over) does, in a view for its label, which has this atom.
+    fn pass_in<'s, A: Allocator + Copy>(
         &mut self,
         program: &'s Program<A>,
         plans: &'s Plans<A>,
-        store: &'s Store<A>,
+        view: &View<'s, A>,
         atom: &Atom<A>,
         most: u64,
-        instance: &mut Instance<'s>,
-    ) -> Passed<'s, A>
+        instance: &mut Instance,
+    ) -> Passed
         requires plans { ArePlans program.now plans.now }
-        requires atom { atom_at store.now.entries self.old.label ≡ Some atom.now }
+        requires active { view.now.active ≡ self.old.label }
+        requires atom { atom_at view.now.store.entries self.old.label ≡ Some atom.now }
         ensures few { result.count ≤ most }
         ensures label { self.new.label ≡ self.old.label }
-        ensures passed { Passes (older program.now plans.now store.now.entries self.old.label) result.count self.old.place self.new.place }
-        ensures then { IsThen (older program.now plans.now store.now.entries self.old.label) self.new.place result.then instance.new }
+        ensures passed { Passes (older program.now plans.now view.now.store.entries self.old.label) result.count self.old.place self.new.place }
+        ensures then { IsThen (older program.now plans.now view.now.store.entries self.old.label) self.new.place result.then instance.new }
     {
         // For the proof: the labels of a store are at most the greatest.
-        let _given = store.next_label();
+        let _given = view.active();
         let mut spare = Binding::free(0);
         let mut walk = Walk {
             rule: self.position.rule,
@@ -433,7 +433,7 @@ impl Search {
             near: 0,
         };
         let mut count = 0;
-        while let Some(join) = self.next_join(program, plans, store, atom, &mut walk) {
+        while let Some(join) = Search::next_join(program, plans, view, atom, &mut walk) {
             let passed = self.pass_in_plan(&join, &walk, most - count, &mut spare, instance);
             count += passed.count;
             match passed.end {
@@ -448,7 +448,7 @@ impl Search {
                     instance.set_whole(&join, &walk);
                     return Passed {
                         count,
-                        then: Then::Whole(join.rule),
+                        then: Then::Whole,
                     };
                 }
             }
@@ -462,14 +462,14 @@ impl Search {
     /// Passes over the next trials up to one that is whole, at most so many: as if each of them had been asked for, judged,
     /// and the search advanced after it. Returns how many, and what comes then: where that is a whole trial, `instance`
     /// becomes its instance. It takes no memory.
-    pub fn pass_over<'s, A: Allocator + Copy>(
+    pub fn pass_over<A: Allocator + Copy>(
         &mut self,
-        program: &'s Program<A>,
-        plans: &'s Plans<A>,
-        store: &'s Store<A>,
+        program: &Program<A>,
+        plans: &Plans<A>,
+        store: &Store<A>,
         most: u64,
-        instance: &mut Instance<'s>,
-    ) -> Passed<'s, A>
+        instance: &mut Instance,
+    ) -> Passed
         requires { ArePlans program.now plans.now }
         ensures few { result.count ≤ most }
         ensures label { self.new.label ≡ self.old.label }
@@ -482,6 +482,32 @@ impl Search {
                 then: Then::Done,
             };
         };
-        self.pass_by(program, plans, store, atom, most, instance)
+        let view = View::of(store, self.label);
+        self.pass_in(program, plans, &view, atom, most, instance)
+    }
+
+    /// Passes over trials as [`pass_over`](Search::pass_over) does, in the store as it is once this atom is entered. That is
+    /// done before the atom is, since a firing that removes it needs no entering.
+    pub fn pass_over_before<A: Allocator + Copy>(
+        &mut self,
+        program: &Program<A>,
+        plans: &Plans<A>,
+        store: &Store<A>,
+        atom: &Atom<A>,
+        most: u64,
+        instance: &mut Instance,
+    ) -> Passed
+        requires plans { ArePlans program.now plans.now }
+        requires label { self.old.label ≡ store.now.next }
+        requires room { store.now.next ≤ store.now.limit }
+        ensures few { result.count ≤ most }
+        ensures label { self.new.label ≡ self.old.label }
+        ensures passed { Passes (older program.now plans.now (entered store.now atom.now).entries self.old.label) result.count self.old.place self.new.place }
+        ensures then { IsThen (older program.now plans.now (entered store.now atom.now).entries self.old.label) self.new.place result.then instance.new }
+    {
+        // For the proof: the labels of a store are below its next one.
+        let _next = store.next_label();
+        let view = View::with(store, atom);
+        self.pass_in(program, plans, &view, atom, most, instance)
     }
 }

@@ -5,7 +5,7 @@ ghost use Rattle.chr_plan.specs.Plans.{ArePlans};
 use chr_plan::plans::Plans;
 use chr_rule::program::Program;
 use chr_search::judged::{Judged, Verdict, judge};
-use chr_search::search::{Ask, Search};
+use chr_search::search::{Ask, Instance, Passed, Search, Then};
 use chr_store::store::Store;
 use chr_text::reading::{read_atoms, read_program};
 use chr_value::names::Names;
@@ -96,6 +96,44 @@ fn first_wrong(
     let store = store_of(alloc, posts, &mut names, removed)?;
     let plans = plans_of(alloc, &program)?;
     first_other(alloc, &program, &plans, &store, label, rows)
+}
+
+/// Whether so many trials were passed over and then an instance found, with these kept and removed labels.
+fn is_found(passed: Passed, instance: &Instance, expected: (u64, &[u64], &[u64])) -> bool {
+    let whole = instance.whole();
+    passed.then == Then::Whole
+        && passed.count == expected.0
+        && whole.kept.as_slice() == expected.1
+        && whole.removed.as_slice() == expected.2
+}
+
+/// Whether the search for the first of some atoms finds that instance, before the atom is entered after the posts and once it
+/// is. None where memory ran out.
+fn is_found_twice(
+    alloc: Global,
+    program: &str,
+    posts: &str,
+    next: &str,
+    expected: (u64, &[u64], &[u64]),
+) -> Option<bool> {
+    let mut names = Names::new(alloc);
+    let program = read_program(alloc, program.as_bytes(), &mut names).ok()?;
+    let store = store_of(alloc, posts, &mut names, &[])?;
+    let plans = plans_of(alloc, &program)?;
+    let atoms = read_atoms(alloc, next.as_bytes(), &mut names).ok()?;
+    let atom = atoms.first()?;
+    let mut entered = store.copy(alloc).ok()?;
+    let Ok(label) = entered.insert_copy(atom) else {
+        return None;
+    };
+    let mut search = Search::begin(label);
+    let mut instance = Instance::new();
+    let passed = search.pass_over_before(&program, &plans, &store, atom, 100, &mut instance);
+    let before = is_found(passed, &instance, expected);
+    let mut search = Search::begin(label);
+    let mut instance = Instance::new();
+    let passed = search.pass_over(&program, &plans, &entered, 100, &mut instance);
+    Some(before && is_found(passed, &instance, expected))
 }
 
 const GCD: &str = "gcd(0) <=> true. gcd(N) \\ gcd(M) <=> N =< M | L is M mod N, gcd(L).";
@@ -195,5 +233,13 @@ fn dead_label_has_no_trials(rt: HostRuntime) {
     assert_eq!(rt;
         first_wrong(rt.alloc(), GCD, "gcd(9), gcd(6).", &[2], 2, &[]),
         Some(0)
+    );
+}
+
+#[test]
+fn instance_is_found_before_its_atom_is_entered(rt: HostRuntime) {
+    assert_eq!(rt;
+        is_found_twice(rt.alloc(), GCD, "gcd(9).", "gcd(6).", (2, &[2], &[1])),
+        Some(true)
     );
 }

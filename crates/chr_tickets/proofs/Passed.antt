@@ -17,8 +17,8 @@ same_mark : (n : ℕ) (place : List ℕ) (x : Ticket) → (gone_over n place x).
 same_mark zero place x = refl
 same_mark (suc n) place x = refl
 
-pub still_unmarked : {Z : Type 0} {s : Space} {passed : Passed Z} {instance : Instance} {x after : Ticket} → PassesOver s passed instance x after → x.stray ≡ false → after.stray ≡ false
-still_unmarked {Z} {s} {passed} {instance} {x} {after} over unmarked = ap (λ (y : Ticket). y.stray) over.after_is ∙ same_mark passed.count over.place x ∙ unmarked
+pub still_unmarked : {s : Space} {passed : Passed} {instance : Instance} {x after : Ticket} → PassesOver s passed instance x after → x.stray ≡ false → after.stray ≡ false
+still_unmarked {s} {passed} {instance} {x} {after} over unmarked = ap (λ (y : Ticket). y.stray) over.after_is ∙ same_mark passed.count over.place x ∙ unmarked
 
 -- the tickets then, and what they have there
 pub tickets_are : {Z : Type 0} {first m t k : ℕ} {slots : List (Slot Z)} {L : List Ticket} {slot : Slot Z} {x : CodeTicket Z} (w : CodeTicket Z) → Opened first m slots L t k → slot ≡ get_or slots k slot → slot ≡ Some x → listed first (set slots k (Some w)) ≡ set L t (shown_ticket w)

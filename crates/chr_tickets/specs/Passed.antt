@@ -12,7 +12,7 @@ gone_over zero place x = x
 gone_over (suc n) place x = going_on place x
 
 -- the ticket's search passes over trials, and comes to a place, where this is next
-pub record PassesOver {Z : Type 0} (s : Space) (passed : Passed Z) (instance : Instance) (x after : Ticket) : Type 0 where
+pub record PassesOver (s : Space) (passed : Passed) (instance : Instance) (x after : Ticket) : Type 0 where
   pub place : List ℕ
   pub passes : Passes s passed.count x.position place
   pub next : IsThen s place passed.then instance

@@ -200,14 +200,14 @@ impl<A: Allocator + Copy> Ticket<A> {
 
     /// Lets the search of an active ticket pass over trials, as [`Search::pass_over`] does. Where there were any, the
     /// candidate is taken away.
-    pub(crate) fn pass_over<'s>(
+    pub(crate) fn pass_over(
         &mut self,
-        program: &'s Program<A>,
-        plans: &'s Plans<A>,
-        store: &'s Store<A>,
+        program: &Program<A>,
+        plans: &Plans<A>,
+        store: &Store<A>,
         most: u64,
-        instance: &mut Instance<'s>,
-    ) -> Passed<'s, A>
+        instance: &mut Instance,
+    ) -> Passed
         requires active { IsActiveGoal (shown_ticket self.old).goal }
         requires plans { ArePlans program.now plans.now }
         ensures few { result.count ≤ most }

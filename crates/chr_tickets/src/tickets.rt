@@ -219,15 +219,15 @@ impl<A: Allocator + Copy> Tickets<A> {
 
     /// Lets the search of an active goal pass over trials, as [`Search::pass_over`] does, and gives its answer. Where there
     /// were any, the candidate is taken away. It takes no memory.
-    pub fn pass_over<'s>(
+    pub fn pass_over(
         &mut self,
         ticket: u64,
-        program: &'s Program<A>,
-        plans: &'s Plans<A>,
-        store: &'s Store<A>,
+        program: &Program<A>,
+        plans: &Plans<A>,
+        store: &Store<A>,
         most: u64,
-        instance: &mut Instance<'s>,
-    ) -> Passed<'s, A>
+        instance: &mut Instance,
+    ) -> Passed
         requires active { IsActive self.old ticket }
         requires plans { ArePlans program.now plans.now }
         ensures few { result.count ≤ most }

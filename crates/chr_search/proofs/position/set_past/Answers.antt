@@ -1,5 +1,6 @@
-use Rattle.std.proofs.Common.{◌≤◌, ◌+◌, ◌∷◌, ◌++◌, [], ℕ, List, length, sym, ap, ◌∙◌, arith}
-use Rattle.std.proofs.lemmas.List.{take_all}
+use Rattle.std.proofs.Common.{◌≤◌, ◌+◌, ◌∷◌, ◌++◌, [], ℕ, List, length, take, sym, ap, ◌∙◌, arith}
+use Rattle.std.proofs.Math.Seq.{take-length}
+use Rattle.std.proofs.lemmas.List.{take-take}
 use Rattle.chr_search.specs.Positions.{past}
 use Rattle.chr_search.proofs.Positions.{past_last}
 use Rattle.chr_search.proofs.Judging.{last_small}
@@ -12,7 +13,9 @@ overflow_add-last c =
 
 pub returns : goal.returns
 returns c =
-    let all : length c.in-Some.before.now ≤ c.loop-label.label-index = c.loop-label-test.false in
-    c.push-2.ensures.items
-    ∙ ap (λ (ls : List ℕ). ls ++ (c.in-Some.last.now + 1) ∷ []) (c.loop-label.invariant ∙ take_all c.loop-label.label-index c.in-Some.before.now all)
-    ∙ sym (past_last c.in-Some.before.now c.in-Some.last.now) ∙ ap past (sym c.in-Some.ensures.cases.0)
+    let before = c.in-Some.before.now in
+    let n = length before in
+    let all : n ≤ c.loop-i.i = c.loop-i-test.false in
+    c.put_at.ensures
+    ∙ ap (λ (ls : List ℕ). ls ++ (c.in-Some.last.now + 1) ∷ []) (sym (take-take n c.loop-i.i c.loop-i.after.items all) ∙ ap (take n) c.loop-i.invariant ∙ take-take n c.loop-i.i before all ∙ take-length before)
+    ∙ sym (past_last before c.in-Some.last.now) ∙ ap past (sym c.in-Some.ensures.cases.0)

@@ -13,7 +13,7 @@ invariant-pass_parts-loop-level g l = record {
 }
 
 abbrev pub decreases-pass_parts-loop-level : goal.decreases-pass_parts-loop-level
-decreases-pass_parts-loop-level g l = l.self.active + 1 - l.label
+decreases-pass_parts-loop-level g l = l.self.view.active + 1 - l.label
 
 abbrev pub decreases-pass_below : goal.decreases-pass_below
 decreases-pass_below g l = 2 * (6 - length l.instance.now.labels.items) + 1

@@ -19,7 +19,8 @@ overflow_add-from g t c =
     let below = c.in-Some.below.now in
     let t = c.requires.trials (j.active ∷ []) (omega arith) (c.requires.begins, tt) in
     let low : j.active ≤ 4294967295 = label_small j [] j.active t.0 t.1 in
-    let under : first ≤ c.args.self.now.active = c.if-first-self.false in
+    let is : c.active.result ≡ j.active = c.active.ensures.value in
+    let under : first ≤ c.active.result = c.if-first-active.false in
     omega arith
 
 pub pass_below-requires-then-not-narrow_by-clause-below : goal.pass_below-requires-then-not-narrow_by-clause-below

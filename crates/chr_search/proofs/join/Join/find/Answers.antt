@@ -12,9 +12,10 @@ returns-then-not-begins g c =
 pub returns-in_err-narrowed : goal.returns-in_err-narrowed
 returns-in_err-narrowed g c =
     let j = join_of c.args.self.now in
-    let m : MayFollow j [] j.active = c.begins.ensures.0 c.if-not-begins.false in
-    let same : c.in-Some.first.now ≡ c.args.self.now.active = omega arith in
+    let x = c.active-active.result in
+    let m : MayFollow j [] x = subst (MayFollow j []) (sym c.active-active.ensures.value) (c.begins.ensures.0 c.if-not-begins.false) in
+    let same : c.in-Some.first.now ≡ x = omega arith in
     subst (λ o. MatchOption o (NoneBeyond (MayFollow j) 1 [] c.args.place.now) (λ labels. Least (MayFollow j) 1 [] c.args.place.now labels.items)) (sym c.from_residual.ensures)
     (subst (λ z. NoneBeyond (MayFollow j) 1 [] z) (sym c.in-Some.ensures.cases.0)
-    (active_none_below j c.in-Some.first.now c.in-Some-split_first.next.now c.in-Some.below.now c.in-Some-split_first.rest.now m same c.in-Some-split_first.ensures.cases.0
-    (none_below j [] c.args.self.now.active c.in-Some-split_first.next.now c.in-Some-split_first.rest.now c.in_err-narrowed.ensures)))
+    (active_none_below j x c.in-Some.first.now c.in-Some-split_first.next.now c.in-Some.below.now c.in-Some-split_first.rest.now m same c.in-Some-split_first.ensures.cases.0
+    (none_below j [] x c.in-Some-split_first.next.now c.in-Some-split_first.rest.now c.in_err-narrowed.ensures)))

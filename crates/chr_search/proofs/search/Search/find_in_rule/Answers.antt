@@ -1,6 +1,7 @@
 use Rattle.std.proofs.Common.{◌≡◌, ◌≤◌, [], Some, None, sym, ap, subst, ◌∙◌, arith}
 use Rattle.chr_rule.specs.Rules.{rule_at}
 use Rattle.chr_plan.specs.Plans.{plan_at}
+use Rattle.chr_store.specs.Views.{Seen}
 use Rattle.chr_search.specs.Tree.{Least, NoneBeyond}
 use Rattle.chr_search.specs.Trials.{Space, older, join_in, IsPlanned, MayFollow}
 use Rattle.chr_search.specs.Partners.{HasPlan}
@@ -10,7 +11,7 @@ use Rattle.chr_search.proofs.search.Search.find_in_rule.Goals as goal
 
 pub find-requires : goal.find-requires
 find-requires g c =
-    let label : c.self.inside.label ≡ c.args.self.now.label = ap (λ (s : SearchState). s.label) c.self.view_is in
+    let seen : c.of.result ≡ record { store = c.args.store.now; active = c.args.self.now.label } = c.of.ensures ∙ ap (λ (x : SearchState). record { store = c.args.store.now; active = x.label }) c.self.view_is in
     let s : Space = older c.args.program.now c.args.plans.now c.args.store.now.entries c.args.self.now.label in
     let rule = c.deref.result.now in
     let order = c.in-Some.order.now in
@@ -18,11 +19,11 @@ find-requires g c =
       rule_is = subst (λ n. rule_at c.args.program.now n ≡ Some rule) c.from.ensures (sym c.in_ok-rule.ensures.rule ∙ ap (λ x. Some x) (sym c.deref.ensures));
       order_is = subst (λ n. plan_at c.args.plans.now n c.loop-order.head ≡ Some order) c.from-in-loop-order.ensures (sym c.in-Some.ensures);
     } in
-    subst (λ l. HasPlan (join_in (older c.args.program.now c.args.plans.now c.args.store.now.entries l) rule order)) (sym label) (plan_of s c.requires.plans c.rule.ensures.valid c.args.number c.loop-order.head rule order p)
+    subst (λ (v : Seen). HasPlan (join_in (older c.args.program.now c.args.plans.now v.store.entries v.active) rule order)) (sym seen) (plan_of s c.requires.plans c.rule.ensures.valid c.args.number c.loop-order.head rule order p)
 
 pub returns-in-Some-find : goal.returns-in-Some-find
 returns-in-Some-find g c =
-    let label : c.self.inside.label ≡ c.args.self.now.label = ap (λ (s : SearchState). s.label) c.self.view_is in
+    let seen : c.of.result ≡ record { store = c.args.store.now; active = c.args.self.now.label } = c.of.ensures ∙ ap (λ (x : SearchState). record { store = c.args.store.now; active = x.label }) c.self.view_is in
     let s : Space = older c.args.program.now c.args.plans.now c.args.store.now.entries c.args.self.now.label in
     let rule = c.deref.result.now in
     let order = c.in-Some.order.now in
@@ -31,11 +32,10 @@ returns-in-Some-find g c =
       order_is = subst (λ n. plan_at c.args.plans.now n c.loop-order.head ≡ Some order) c.from-in-loop-order.ensures (sym c.in-Some.ensures);
     } in
     found_at_head s c.args.number c.args.from c.args.labels.now c.loop-order.head c.loop-order.place.now rule order c.loop-order.invariant.come p c.in-Some-find.labels.items
-    (subst (λ l. Least (MayFollow (join_in (older c.args.program.now c.args.plans.now c.args.store.now.entries l) rule order)) 1 [] c.loop-order.place.now c.in-Some-find.labels.items) label c.in-Some-find.ensures)
+    (subst (λ (v : Seen). Least (MayFollow (join_in (older c.args.program.now c.args.plans.now v.store.entries v.active) rule order)) 1 [] c.loop-order.place.now c.in-Some-find.labels.items) seen c.in-Some-find.ensures)
 
 pub overflow_add-head : goal.overflow_add-head
 overflow_add-head g c =
-    let label : c.self.inside.label ≡ c.args.self.now.label = ap (λ (s : SearchState). s.label) c.self.view_is in
     let s : Space = older c.args.program.now c.args.plans.now c.args.store.now.entries c.args.self.now.label in
     let rule = c.deref.result.now in
     let order = c.in-Some.order.now in
@@ -48,7 +48,6 @@ overflow_add-head g c =
 
 pub loop-order-smaller : goal.loop-order-smaller
 loop-order-smaller g c =
-    let label : c.self.inside.label ≡ c.args.self.now.label = ap (λ (s : SearchState). s.label) c.self.view_is in
     let s : Space = older c.args.program.now c.args.plans.now c.args.store.now.entries c.args.self.now.label in
     let rule = c.deref.result.now in
     let order = c.in-Some.order.now in
@@ -61,7 +60,7 @@ loop-order-smaller g c =
 
 pub loop-order-preserved : goal.loop-order-preserved
 loop-order-preserved g c =
-    let label : c.self.inside.label ≡ c.args.self.now.label = ap (λ (s : SearchState). s.label) c.self.view_is in
+    let seen : c.of.result ≡ record { store = c.args.store.now; active = c.args.self.now.label } = c.of.ensures ∙ ap (λ (x : SearchState). record { store = c.args.store.now; active = x.label }) c.self.view_is in
     let s : Space = older c.args.program.now c.args.plans.now c.args.store.now.entries c.args.self.now.label in
     let rule = c.deref.result.now in
     let order = c.in-Some.order.now in
@@ -72,7 +71,7 @@ loop-order-preserved g c =
     record {
       low = omega arith;
       come = none_at_head s c.args.number c.args.from c.args.labels.now c.loop-order.head c.loop-order.place.now rule order c.loop-order.invariant.come p
-          (subst (λ l. NoneBeyond (MayFollow (join_in (older c.args.program.now c.args.plans.now c.args.store.now.entries l) rule order)) 1 [] c.loop-order.place.now) label c.in_default-find.ensures);
+          (subst (λ (v : Seen). NoneBeyond (MayFollow (join_in (older c.args.program.now c.args.plans.now v.store.entries v.active) rule order)) 1 [] c.loop-order.place.now) seen c.in_default-find.ensures);
     }
 
 pub returns : goal.returns

@@ -7,19 +7,19 @@ use Rattle.chr_search.specs.Passing.{AreWhole, EndsIn}
 use Rattle.chr_search.proofs.Passed.{pass_more}
 use Rattle.chr_search.proofs.PlanByPlan.{HasGone, HasJoin, grown, come_to_end, has_join, rule_at_most, head_at_most, trials_at, gone_at, on_at, whole_at}
 use Rattle.chr_search.proofs.Occurring.{in_order}
-use Rattle.chr_search.proofs.search.Search.pass_by.Goals.{In-Some, After-pass_in_plan-passed}
-use Rattle.chr_search.proofs.search.Search.pass_by.Goals as goal
+use Rattle.chr_search.proofs.search.Search.pass_in.Goals.{In-Some, After-pass_in_plan-passed}
+use Rattle.chr_search.proofs.search.Search.pass_in.Goals as goal
 
 -- the join that the search has come to
-here : (g : _) (c : In-Some g) → HasJoin (older c.args.program.now c.args.plans.now c.args.store.now.entries c.args.self.now.label) c.loop-join.self.place c.next_join.new.walk.rule c.next_join.new.walk.head (join_of c.in-Some.join)
+here : (g : _) (c : In-Some g) → HasJoin (older c.args.program.now c.args.plans.now c.args.view.now.store.entries c.args.self.now.label) c.loop-join.self.place c.next_join.new.walk.rule c.next_join.new.walk.head (join_of c.in-Some.join)
 here g c =
     let i = c.loop-join.invariant in
-    has_join _ _ (ap (older c.args.program.now c.args.plans.now c.args.store.now.entries) i.label) c.loop-join.self.place c.loop-join.walk.rule c.loop-join.walk.head c.next_join.new.walk.rule c.next_join.new.walk.head (join_of c.in-Some.join) i.come c.in-Some.ensures
-    c.requires.plans c.args.store.now refl c.next_label-given.ensures.labelled
+    has_join _ _ (ap (older c.args.program.now c.args.plans.now c.args.view.now.store.entries) c.requires.active) c.loop-join.self.place c.loop-join.walk.rule c.loop-join.walk.head c.next_join.new.walk.rule c.next_join.new.walk.head (join_of c.in-Some.join) i.come c.in-Some.ensures
+    c.requires.plans c.args.view.now.store refl c.active-given.ensures.labelled
 
 -- and its trials that are passed over
-gone : (g : _) (c : After-pass_in_plan-passed g) → HasJoin (older c.args.program.now c.args.plans.now c.args.store.now.entries c.args.self.now.label) c.loop-join.self.place c.next_join.new.walk.rule c.next_join.new.walk.head (join_of c.in-Some.join)
-    → HasGone (older c.args.program.now c.args.plans.now c.args.store.now.entries c.args.self.now.label) c.loop-join.self.place c.next_join.new.walk.rule c.next_join.new.walk.head c.pass_in_plan-passed.result.count c.pass_in_plan-passed.new.self.place c.pass_in_plan-passed.ensures.passed.labels
+gone : (g : _) (c : After-pass_in_plan-passed g) → HasJoin (older c.args.program.now c.args.plans.now c.args.view.now.store.entries c.args.self.now.label) c.loop-join.self.place c.next_join.new.walk.rule c.next_join.new.walk.head (join_of c.in-Some.join)
+    → HasGone (older c.args.program.now c.args.plans.now c.args.view.now.store.entries c.args.self.now.label) c.loop-join.self.place c.next_join.new.walk.rule c.next_join.new.walk.head c.pass_in_plan-passed.result.count c.pass_in_plan-passed.new.self.place c.pass_in_plan-passed.ensures.passed.labels
 gone g c h = gone_at _ _ _ _ h.join h.makes _ _ _ _ _ _ h.come c.pass_in_plan-passed.ensures.passed
 
 pub pass_in_plan-passed-requires-clause-rule : goal.pass_in_plan-passed-requires-clause-rule
@@ -92,12 +92,12 @@ returns-in-Whole-clause-then g c =
 
 pub returns-clause-then : goal.returns-clause-then
 returns-clause-then g c =
-    let s : Space = older c.args.program.now c.args.plans.now c.args.store.now.entries c.args.self.now.label in
+    let s : Space = older c.args.program.now c.args.plans.now c.args.view.now.store.entries c.args.self.now.label in
     let r = c.loop-join.walk.rule in
     let i = c.loop-join.invariant in
     let h = c.loop-join.walk.head in
-    come_to_end s c.loop-join.self.place r h i.come (subst (λ l. NoneLeft (older c.args.program.now c.args.plans.now c.args.store.now.entries l) (r ∷ h ∷ [])) i.label c.in_default.ensures)
+    come_to_end s c.loop-join.self.place r h i.come (subst (λ l. NoneLeft (older c.args.program.now c.args.plans.now c.args.view.now.store.entries l) (r ∷ h ∷ [])) c.requires.active c.in_default.ensures)
 
 pub next_join-requires-clause-atom : goal.next_join-requires-clause-atom
 next_join-requires-clause-atom g c =
-    subst (λ l. atom_at c.args.store.now.entries l ≡ Some c.args.atom.now) (sym c.loop-join.invariant.label) c.requires.atom
+    subst (λ l. atom_at c.args.view.now.store.entries l ≡ Some c.args.atom.now) (sym c.requires.active) c.requires.atom

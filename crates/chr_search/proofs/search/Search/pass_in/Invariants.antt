@@ -2,14 +2,14 @@ use Rattle.std.proofs.Common.{◌≡◌, ◌+◌, ◌-◌, ◌*◌, ◌≤◌, l
 use Rattle.chr_search.specs.Trials.{older}
 use Rattle.chr_search.specs.Passing.{Passes}
 use Rattle.chr_search.specs.PlanByPlan.{HasComeTo}
-use Rattle.chr_search.proofs.search.Search.pass_by.Given as goal
+use Rattle.chr_search.proofs.search.Search.pass_in.Given as goal
 
 abbrev pub invariant-loop-join : goal.invariant-loop-join
 invariant-loop-join g l = record {
   few : l.count ≤ l.fn.most;
   label : l.self.label ≡ l.fn.self.label;
-  passed : Passes (older l.fn.program l.fn.plans l.fn.store.entries l.fn.self.label) l.count l.fn.self.place l.self.place;
-  come : HasComeTo (older l.fn.program l.fn.plans l.fn.store.entries l.fn.self.label) l.self.place l.walk.rule l.walk.head;
+  passed : Passes (older l.fn.program l.fn.plans l.fn.view.store.entries l.fn.self.label) l.count l.fn.self.place l.self.place;
+  come : HasComeTo (older l.fn.program l.fn.plans l.fn.view.store.entries l.fn.self.label) l.self.place l.walk.rule l.walk.head;
 }
 
 abbrev pub decreases-loop-join : goal.decreases-loop-join
