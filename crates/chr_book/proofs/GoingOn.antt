@@ -4,17 +4,21 @@ use Rattle.std.specs.List.{AllByRecursion}
 use Rattle.std.proofs.lemmas.List.{set-set, length-set}
 use Rattle.chr_value.specs.Atoms.{Value}
 use Rattle.chr_log.specs.Events.{Entry, Drop}
-use Rattle.chr_rule.specs.Rules.{Simpagation}
+use Rattle.chr_rule.specs.Rules.{Simpagation, rule_at}
+use Rattle.chr_guard.proofs.Scoped.{some_same}
 use Rattle.chr_plan.specs.Plans.{PlanList}
 use Rattle.chr_store.specs.Labels.{LabelledStore}
-use Rattle.chr_model.specs.Stores.{atom_at, without}
+use Rattle.chr_model.specs.Stores.{atom_at}
 use Rattle.chr_model.specs.Goals.{Numbered}
 use Rattle.chr_search.specs.Trials.{IsNext, NoneLeft}
 use Rattle.chr_search.specs.Verdicts.{Placed, Trial, position}
 use Rattle.chr_search.specs.Judged.{Judgement}
-use Rattle.chr_search.specs.Passing.{IsWholeNext}
+use Rattle.chr_search.specs.Passing.{IsWholeNext, IsThen}
 use Rattle.chr_search.specs.declared.judged.Verdict.TheVariants as verdicts
 use Rattle.chr_search.specs.declared.search.Whole.{Whole}
+use Rattle.chr_search.specs.declared.search.Instance.{Instance}
+use Rattle.chr_search.specs.declared.search.Then.{Then}
+use Rattle.chr_search.specs.declared.search.Then.TheVariants as thens
 use Rattle.chr_calls.specs.declared.answers.Fired.{Fired}
 use Rattle.chr_calls.specs.declared.answers.Firing.TheVariants as firing
 use Rattle.chr_calls.specs.declared.answers.Dropping.TheVariants as dropping
@@ -31,7 +35,7 @@ use Rattle.chr_book.specs.declared.rounds.Last.{Last}
 use Rattle.chr_book.specs.declared.rounds.Last.TheVariants as lasts
 use Rattle.chr_book.specs.declared.rounds.Rounds.{Rounds}
 use Rattle.chr_book.specs.Books.{book_of}
-use Rattle.chr_book.specs.Firings.{gone_on, FiresWhole}
+use Rattle.chr_book.specs.Firings.{gone_on, FiresWhole, EndsRounds}
 use Rattle.chr_book.specs.Passed.{PassesTrials, FiresTrial, DropsGoal, IsLast, MakesRounds, MakesFewer}
 use Rattle.chr_book.proofs.Passes.{IsPast, passes_keep}
 use Rattle.chr_book.proofs.Fired.{IsWholeOf, with_fired, fires_there}
@@ -104,9 +108,9 @@ fires_asked b seat t l c rule w binding f log tickets at h = record {
     same : slice_set b.tickets t (gone x) ≡ slice_set (slice_set b.tickets t y) t (gone (ticket_at (slice_set b.tickets t y) t))
     same = sym (set-set b.tickets t y (gone x)) ∙ ap (slice_set (slice_set b.tickets t y) t) (forgets f.active_lives w.past.place c x ∙ ap gone (sym (there b t l c at)))
 
-fires_last : (b : BookState) (seat t l : ℕ) (place : List ℕ) (rule : Simpagation ℕ) (w : Whole) (binding : List (Option (Value ℕ))) (f : Fired) (log : List (Entry ℕ)) (tickets : List Ticket) → IsKept b → HoldsLive b seat t l → (ticket_at b.tickets t).position ≡ place → IsWholeNext (space_of b l) place rule w binding → FiresWhole seat t rule w binding f b.tickets b.log tickets log
+fires_last : (b : BookState) (seat t l : ℕ) (place : List ℕ) (rule : Simpagation ℕ) (w : Whole) (binding : List (Option (Value ℕ))) (f : Fired) (log : List (Entry ℕ)) (tickets : List Ticket) → IsKept b → HoldsLive b seat t l → (ticket_at b.tickets t).position ≡ place → IsWholeNext (space_of b l) place w binding → rule_at b.rules w.number ≡ Some rule → FiresWhole seat t rule w binding f b.tickets b.log tickets log
     → FiresTrial seat t b (with_fired b log w.removed.items tickets)
-fires_last b seat t l place rule w binding f log tickets k h is next fw = record {
+fires_last b seat t l place rule w binding f log tickets k h is next of fw = record {
   judged = j;
   right = next.under.whole;
   asked = asked;
@@ -134,36 +138,48 @@ fires_last b seat t l place rule w binding f log tickets k h is next fw = record
     live = are_live asked next.trial.placed next.is.live
 
     whole : IsWholeOf next.trial l rule w binding
-    whole = record { under = next.under; rule_is = next.rule_is; number = next.number_is; kept = next.kept_are; removed = next.removed_are; past = next.past_is }
+    whole = record { under = next.under; rule_is = some_same rule next.trial.rule (sym of ∙ ap (rule_at b.rules) next.number_is ∙ next.is.rule_is); number = next.number_is; kept = next.kept_are; removed = next.removed_are; past = next.past_is }
 
-pub fired_rounds : (b : BookState) (seat t k l : ℕ) (place : List ℕ) (rule : Simpagation ℕ) (w : Whole) (binding : List (Option (Value ℕ))) (f : Fired) (now tickets : List Ticket) (log : List (Entry ℕ)) → IsKept b → IsPast b seat t k l place now → IsWholeNext (space_of b l) place rule w binding → FiresWhole seat t rule w binding f now b.log tickets log
+pub fired_rounds : (b : BookState) (seat t k l : ℕ) (place : List ℕ) (rule : Simpagation ℕ) (w : Whole) (binding : List (Option (Value ℕ))) (f : Fired) (now tickets : List Ticket) (log : List (Entry ℕ)) → IsKept b → IsPast b seat t k l place now → IsWholeNext (space_of b l) place w binding → rule_at b.rules w.number ≡ Some rule → FiresWhole seat t rule w binding f now b.log tickets log
     → MakesRounds seat t (record { passed = k; last = lasts.Fired }) b (with_fired b log w.removed.items tickets)
-fired_rounds b seat t k l place rule w binding f now tickets log kept past next fw =
+fired_rounds b seat t k l place rule w binding f now tickets log kept past next of fw =
     let middle : BookState = with_tickets b now in
-    record { middle = middle; passes = past.passes; last = fires_last middle seat t l place rule w binding f log tickets (passes_keep k b middle seat t past.passes kept) past.live past.at next fw }
-
--- the same of the parts of a book
-pub fired_book : (rules : List (Simpagation ℕ)) (plans : PlanList) (names : List (List ℕ)) (log entries : List (Entry ℕ)) (st left : LabelledStore) (ts : List Ticket) (seat t k l : ℕ) (place : List ℕ) (rule : Simpagation ℕ) (w : Whole) (binding : List (Option (Value ℕ))) (f : Fired) (now tickets : List Ticket)
-    → IsKept (book_of rules plans names log st ts) → IsPast (book_of rules plans names log st ts) seat t k l place now → IsWholeNext (space_of (book_of rules plans names log st ts) l) place rule w binding → FiresWhole seat t rule w binding f now log tickets entries
-    → left ≡ record { entries = without w.removed.items st.entries; next = st.next; limit = st.limit } → MakesRounds seat t (record { passed = k; last = lasts.Fired }) (book_of rules plans names log st ts) (book_of rules plans names entries left tickets)
-fired_book rules plans names log entries st left ts seat t k l place rule w binding f now tickets kept past next fw e =
-    let b : BookState = book_of rules plans names log st ts in
-    subst (λ (z : LabelledStore). MakesRounds seat t (record { passed = k; last = lasts.Fired }) b (book_of rules plans names entries z tickets)) (sym e) (fired_rounds b seat t k l place rule w binding f now tickets entries kept past next fw)
+    record { middle = middle; passes = past.passes; last = fires_last middle seat t l place rule w binding f log tickets (passes_keep k b middle seat t past.passes kept) past.live past.at next of fw }
 
 -- ---- none of these
 
 pub passed_rounds : (b : BookState) (seat t k l : ℕ) (place : List ℕ) (now : List Ticket) → IsPast b seat t k l place now → MakesRounds seat t (record { passed = k; last = lasts.Passed }) b (with_tickets b now)
 passed_rounds b seat t k l place now past = record { middle = with_tickets b now; passes = past.passes; last = refl }
 
+-- ---- the last of some rounds, by what came after the trials that were passed over
+
+abbrev pub book_same : (rules : List (Simpagation ℕ)) (plans : PlanList) (names : List (List ℕ)) {es log : List (Entry ℕ)} {left st : LabelledStore} {xs ts : List Ticket} → es ≡ log → left ≡ st → xs ≡ ts → book_of rules plans names es left xs ≡ book_of rules plans names log st ts
+book_same rules plans names {es} {log} {left} {st} {xs} {ts} e l t = ap₂ (λ (z : List (Entry ℕ)) (y : List Ticket). book_of rules plans names z left y) e t ∙ ap (λ (z : LabelledStore). book_of rules plans names log z ts) l
+
+pub makes_same : {seat t k : ℕ} {last other : Last} {b n m : BookState} → last ≡ other → n ≡ m → MakesRounds seat t (record { passed = k; last = other }) b m → MakesRounds seat t (record { passed = k; last = last }) b n
+makes_same {seat} {t} {k} {last} {other} {b} {n} {m} l e h =
+    subst (λ (z : Last). MakesRounds seat t (record { passed = k; last = z }) b n) (sym l) (subst (MakesRounds seat t (record { passed = k; last = other }) b) (sym e) h)
+
+pub ended_rounds : (rules : List (Simpagation ℕ)) (plans : PlanList) (names : List (List ℕ)) (log entries : List (Entry ℕ)) (st left : LabelledStore) (ts now tickets : List Ticket) (seat t k l : ℕ) (place : List ℕ) (then : Then) (i : Instance) (last : Last)
+    → IsKept (book_of rules plans names log st ts) → IsPast (book_of rules plans names log st ts) seat t k l place now → IsThen (space_of (book_of rules plans names log st ts) l) place then i → EndsRounds seat t rules then i last now log st tickets entries left
+    → MakesRounds seat t (record { passed = k; last = last }) (book_of rules plans names log st ts) (book_of rules plans names entries left tickets)
+ended_rounds rules plans names log entries st left ts now tickets seat t k l place thens.More i last kept past next h =
+    makes_same h.0 (book_same rules plans names h.2 h.3 h.1) (passed_rounds (book_of rules plans names log st ts) seat t k l place now past)
+ended_rounds rules plans names log entries st left ts now tickets seat t k l place thens.Done i last kept past next h =
+    makes_same h.0 (book_same rules plans names refl h.3 refl) (dropped_rounds (book_of rules plans names log st ts) seat t k l place now tickets entries past next h.1 h.2)
+ended_rounds rules plans names log entries st left ts now tickets seat t k l place thens.Whole i last kept past next h =
+    let f = h.1 in
+    makes_same h.0 (book_same rules plans names refl f.store refl) (fired_rounds (book_of rules plans names log st ts) seat t k l place f.rule i.whole i.binding f.fired now tickets entries kept past next f.rule_is f.fires)
+
 -- memory was refused
-pub fewer_rounds : (b : BookState) (seat t k l most : ℕ) (place : List ℕ) (now tickets : List Ticket) (log : List (Entry ℕ)) → IsPast b seat t k l place now → tickets ≡ now → log ≡ b.log → k < most → MakesFewer seat t most b (with_dropped b log tickets)
-fewer_rounds b seat t k l most place now tickets log past ts es less = record {
+pub fewer_rounds : (rules : List (Simpagation ℕ)) (plans : PlanList) (names : List (List ℕ)) (log entries : List (Entry ℕ)) (st left : LabelledStore) (ts now tickets : List Ticket) (seat t k l most : ℕ) (place : List ℕ) → IsPast (book_of rules plans names log st ts) seat t k l place now → tickets ≡ now → entries ≡ log → left ≡ st → k < most → MakesFewer seat t most (book_of rules plans names log st ts) (book_of rules plans names entries left tickets)
+fewer_rounds rules plans names log entries st left ts now tickets seat t k l most place past x e s less = record {
   passed = k;
   fewer = less;
-  passes = subst (PassesTrials seat t k b) (ap₂ (λ (xs : List (Entry ℕ)) (ys : List Ticket). with_dropped b xs ys) (sym es) (sym ts)) past.passes;
+  passes = subst (PassesTrials seat t k (book_of rules plans names log st ts)) (sym (book_same rules plans names e s x)) past.passes;
 }
 
-on_err : {X E : Type 0} (P : Type 0) (r : Result X E) → P → OnErr r P
+pub on_err : {X E : Type 0} (P : Type 0) (r : Result X E) → P → OnErr r P
 on_err P (Ok x) h = tt
 on_err P (Err e) h = h
 

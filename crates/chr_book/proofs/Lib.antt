@@ -7,3 +7,4 @@ pub mod StrictLogs
 pub mod Continued
 pub mod Passes
 pub mod GoingOn
+pub mod Starting

@@ -84,7 +84,7 @@ pub record IsPast (b : BookState) (seat t k l : ℕ) (place : List ℕ) (tickets
   pub live : HoldsLive (with_tickets b tickets) seat t l
   pub at : (ticket_at tickets t).position ≡ place
 
-is_past : (k : ℕ) (b : BookState) (seat t l : ℕ) (place : List ℕ) (tickets : List Ticket) → HoldsLive b seat t l → Passes (space_of b l) k (ticket_at b.tickets t).position place → tickets ≡ slice_set b.tickets t (gone_over k place (ticket_at b.tickets t)) → IsPast b seat t k l place tickets
+pub is_past : (k : ℕ) (b : BookState) (seat t l : ℕ) (place : List ℕ) (tickets : List Ticket) → HoldsLive b seat t l → Passes (space_of b l) k (ticket_at b.tickets t).position place → tickets ≡ slice_set b.tickets t (gone_over k place (ticket_at b.tickets t)) → IsPast b seat t k l place tickets
 is_past zero b seat t l place tickets h p e = subst (IsPast b seat t 0 l place) (sym (e ∙ set-get_or b.tickets t ended)) (record { passes = refl; live = h; at = sym p })
 is_past (suc k) b seat t l place tickets h p e = subst (IsPast b seat t (suc k) l place) (sym e) (record {
   passes = passes_all k b seat t l (ticket_at b.tickets t).position place p h refl;
@@ -93,7 +93,7 @@ is_past (suc k) b seat t l place tickets h p e = subst (IsPast b seat t (suc k) 
 })
 
 -- the ticket's search has passed over them
-pub gone_past : {Z : Type 0} (b : BookState) (seat t l : ℕ) (passed : Passed Z) (instance : Instance) (tickets : List Ticket) → HoldsLive b seat t l → (over : PassesOver (space_of b l) passed instance (ticket_at b.tickets t) (ticket_at tickets t)) → tickets ≡ slice_set b.tickets t (ticket_at tickets t) → IsPast b seat t passed.count l over.place tickets
+pub gone_past : (b : BookState) (seat t l : ℕ) (passed : Passed) (instance : Instance) (tickets : List Ticket) → HoldsLive b seat t l → (over : PassesOver (space_of b l) passed instance (ticket_at b.tickets t) (ticket_at tickets t)) → tickets ≡ slice_set b.tickets t (ticket_at tickets t) → IsPast b seat t passed.count l over.place tickets
 gone_past b seat t l passed instance tickets h over e = is_past passed.count b seat t l over.place tickets h over.passes (e ∙ ap (slice_set b.tickets t) over.after_is)
 
 -- what a book keeps

@@ -1,12 +1,12 @@
 -- Trials that are passed over.
-use Rattle.std.specs.Prelude.{◌≡◌, ℕ, zero, suc, ◌+◌, ◌<◌, Ok}
+use Rattle.std.specs.Prelude.{◌≡◌, ℕ, zero, suc, ◌+◌, ◌<◌, ◌⊎◌, Ok}
 use Rattle.chr_search.specs.Judged.{Judgement, IsVerdict}
 use Rattle.chr_calls.specs.declared.answers.Fired.{Fired}
 use Rattle.chr_calls.specs.declared.answers.Firing.TheVariants as firing
 use Rattle.chr_calls.specs.declared.answers.Dropping.TheVariants as dropping
 use Rattle.chr_calls.specs.Turns.{Next, Done}
 use Rattle.chr_calls.specs.Books.{BookState}
-use Rattle.chr_calls.specs.Calls.{HoldsLive, Turns, Reports, FiresOrMisses, Drops}
+use Rattle.chr_calls.specs.Calls.{HoldsLive, Claims, Turns, Reports, FiresOrMisses, Drops}
 use Rattle.chr_book.specs.declared.rounds.Last.{Last}
 use Rattle.chr_book.specs.declared.rounds.Last.TheVariants as lasts
 use Rattle.chr_book.specs.declared.rounds.Rounds.{Rounds}
@@ -69,3 +69,21 @@ pub record MakesFewer (seat t most : ℕ) (b n : BookState) : Type 0 where
   pub passed : ℕ
   pub fewer : passed < most
   pub passes : PassesTrials seat t passed b n
+
+-- the ticket is claimed, and these rounds are made for it
+pub record StartsRounds (seat t : ℕ) (r : Rounds) (b n : BookState) : Type 0 where
+  pub label : ℕ
+  pub claimed : BookState
+  pub claims : Claims b seat t (Ok label) claimed
+  pub makes : MakesRounds seat t r claimed n
+
+-- the ticket is claimed, and some of at most so many rounds are made
+pub record StartsSome (seat t most : ℕ) (b n : BookState) : Type 0 where
+  pub label : ℕ
+  pub claimed : BookState
+  pub claims : Claims b seat t (Ok label) claimed
+  pub makes : MakesFewer seat t most claimed n
+
+-- nothing is made, or these
+abbrev pub StartsFewer : ℕ → ℕ → ℕ → BookState → BookState → Type 0
+StartsFewer seat t most b n = (n ≡ b) ⊎ StartsSome seat t most b n

@@ -2,8 +2,9 @@
 //!
 //! Several seats work on one [`Book`](book::Book), one call at a time: whoever shares a book among threads holds a lock
 //! around each call. A seat posts atoms, claims a ticket, asks for the next trial of its goal, judges it elsewhere and
-//! reports the judgement or fires, until the goal has ended or is dropped. But for [`go_on`](book::Book::go_on), which is
-//! for a seat that works alone, the book judges nothing: it looks at what a judged trial carries, and at the store.
+//! reports the judgement or fires, until the goal has ended or is dropped. But for [`go_on`](book::Book::go_on) and
+//! [`start`](book::Book::start), which are for a seat that works alone, the book judges nothing: it looks at what a judged
+//! trial carries, and at the store.
 //!
 //! | Call | What it does |
 //! |---|---|
@@ -16,6 +17,7 @@
 //! | [`fire`](book::Book::fire) | a candidate that is an instance fires, where its labels are all live |
 //! | [`drop_goal`](book::Book::drop_goal) | a goal whose search has no trial left ends |
 //! | [`go_on`](book::Book::go_on) | trials are asked for, judged and reported, up to one that fires, or to the drop of the goal |
+//! | [`start`](book::Book::start) | a waiting ticket is claimed, and goes on so |
 //! | [`put_down`](book::Book::put_down), [`mark_stray`](book::Book::mark_stray), [`take_stray`](book::Book::take_stray) | tickets that wait for another seat |
 //!
 //! [`post_text`](book::Book::post_text) posts the atoms of a text, by the book's own names;

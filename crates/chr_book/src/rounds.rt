@@ -1,11 +1,13 @@
 //! Rounds of calls for a ticket: one that asks for its next trial, and one that answers.
-ghost use Rattle.std.specs.Prelude.{◌↔◌, ◌≤◌, ◌≡◌, IsTrue, IfOk, OnErr};
-ghost use Rattle.chr_book.specs.Passed.{IsHeldLive, rounds_in, MakesRounds, MakesFewer};
+ghost use Rattle.std.specs.Prelude.{◌↔◌, ◌≤◌, ◌≡◌, IsTrue, IfOk, IfSome, MatchOption, OnErr};
+ghost use Rattle.chr_calls.specs.declared.answers.TicketState.TheVariants as states;
+ghost use Rattle.chr_calls.specs.Tickets.{state_of};
+ghost use Rattle.chr_book.specs.Passed.{IsHeldLive, rounds_in, MakesRounds, MakesFewer, StartsRounds, StartsFewer};
 
 use crate::book::Book;
-use crate::firing::{end_goal, fire_whole, remove_all};
-use chr_log::events::copy_labels;
-use chr_search::search::{Instance, Then};
+use crate::firing::{end_rounds, end_start};
+use chr_calls::answers::TicketState;
+use chr_search::search::Search;
 use std::alloc::{AllocError, Allocator};
 
 /// What the last of several rounds was.
@@ -64,38 +66,28 @@ impl<A: Allocator + Copy> Book<A> {
         ensures ok { IfOk result (λ rounds. MakesRounds seat ticket rounds self.old self.new) }
         ensures err { OnErr result (MakesFewer seat ticket most self.old self.new) }
     {
-        // Lent before the instance is made, since it borrows from them.
-        let program = &self.program;
-        let plans = &self.plans;
-        let store = &self.store;
-        let mut instance = Instance::new();
-        let come = self
-            .tickets
-            .pass_over(ticket, program, plans, store, most - 1, &mut instance);
-        let passed = come.count;
-        let last = match come.then {
-            Then::More => Last::Passed,
-            Then::Done => {
-                end_goal(&mut self.tickets, &mut self.log, seat, ticket)?;
-                Last::Dropped
-            }
-            Then::Whole(rule) => {
-                let whole = instance.whole();
-                let removed = copy_labels(&whole.removed);
-                fire_whole(
-                    &mut self.tickets,
-                    &mut self.log,
-                    seat,
-                    ticket,
-                    rule,
-                    whole,
-                    instance.binding(),
-                )?;
-                remove_all(&mut self.store, removed.as_slice());
-                Last::Fired
-            }
-        };
-        Ok(Rounds { passed, last })
+        let come = self.tickets.pass_over(
+            ticket,
+            &self.program,
+            &self.plans,
+            &self.store,
+            most - 1,
+            &mut self.instance,
+        );
+        let last = end_rounds(
+            &mut self.tickets,
+            &mut self.log,
+            &mut self.store,
+            &self.program,
+            seat,
+            ticket,
+            come.then,
+            &self.instance,
+        )?;
+        Ok(Rounds {
+            passed: come.count,
+            last,
+        })
     }
 
     /// Makes rounds of calls for a ticket that the seat holds, at most so many. In each, [`trial`](Book::trial) gives the next
@@ -115,5 +107,60 @@ impl<A: Allocator + Copy> Book<A> {
             return Ok(NO_ROUNDS);
         }
         self.make_rounds(seat, ticket, most)
+    }
+
+    /// The claim and the rounds of [`start`](Book::start), where there are any.
+    fn start_rounds(&mut self, seat: u32, ticket: u64, most: u64) -> Result<Rounds, AllocError>
+        requires waiting { state_of self.old.tickets ticket ≡ states.Waiting }
+        requires room { self.old.next ≤ self.old.limit }
+        requires some { 1 ≤ most }
+        ensures few { IfOk result (λ rounds. rounds_in rounds ≤ most) }
+        ensures ok { IfOk result (λ rounds. StartsRounds seat ticket rounds self.old self.new) }
+        ensures err { OnErr result (StartsFewer seat ticket most self.old self.new) }
+    {
+        let Some(atom) = self.tickets.atom(ticket) else {
+            unreachable!();
+        };
+        let mut search = Search::begin(self.store.next_label());
+        let come = search.pass_over_before(
+            &self.program,
+            &self.plans,
+            &self.store,
+            atom,
+            most - 1,
+            &mut self.instance,
+        );
+        let last = end_start(
+            &mut self.tickets,
+            &mut self.log,
+            &mut self.store,
+            &self.program,
+            seat,
+            ticket,
+            search,
+            come.then,
+            &self.instance,
+        )?;
+        Ok(Rounds {
+            passed: come.count,
+            last,
+        })
+    }
+
+    /// Claims a ticket that waits, and makes rounds for it as [`go_on`](Book::go_on) does, at most so many. None where it
+    /// doesn't wait, the labels are spent, or no round was asked for: then nothing has changed. An `Err` is E01: nothing has
+    /// changed, or the ticket was claimed and the rounds before the last were made.
+    pub fn start(&mut self, seat: u32, ticket: u64, most: u64) -> Result<Option<Rounds>, AllocError>
+        ensures few { IfOk result (λ started. IfSome started (λ rounds. rounds_in rounds ≤ most)) }
+        ensures ok { IfOk result (λ started. MatchOption started (self.new ≡ self.old) (λ rounds. StartsRounds seat ticket rounds self.old self.new)) }
+        ensures err { OnErr result (StartsFewer seat ticket most self.old self.new) }
+    {
+        if most == 0 || self.limit < self.store.next_label() {
+            return Ok(None);
+        }
+        if self.tickets.state(ticket) != TicketState::Waiting {
+            return Ok(None);
+        }
+        Ok(Some(self.start_rounds(seat, ticket, most)?))
     }
 }

@@ -19,11 +19,11 @@ use Rattle.chr_rule.proofs.rule_atom.Term.TheSendSync as term
 use Rattle.chr_rule.proofs.rule_atom.RuleAtom.TheSendSync as atom
 use Rattle.chr_search.proofs.trial.Placed.TheSendSync as placed
 use Rattle.chr_search.proofs.search.Search.TheSendSync as searched
+use Rattle.chr_search.proofs.search.Instance.TheSendSync as instance
 use Rattle.chr_value.proofs.atom.Atom.TheSendSync as constraint
 use Rattle.chr_value.proofs.names.Names.TheSendSync as names
 use Rattle.chr_plan.proofs.plans.Plans.TheSendSync as plans
 use Rattle.chr_store.proofs.store.Store.TheSendSync as store
-use Rattle.chr_log.proofs.events.Entry.TheSendSync as entry
 use Rattle.chr_tickets.specs.contracts.ticket.Ticket as Ticket
 use Rattle.chr_tickets.specs.contracts.tickets.Tickets as Tickets
 use Rattle.chr_book.specs.contracts.book.Book as Book
@@ -71,7 +71,7 @@ module _ (A : RattleType) (g : Ghosts A.Denot) where
   Tickets-send s y f = search (basis, maps.crosses, Ticket-send) fits 5000 depth 40
 
   pub Book-send : IsSend A → IsSync A → Frees g g.dealloc_token → IsSend (Book.the_row A g)
-  Book-send s y f = search (basis, Program-send, plans.the_send, names.the_send, store.the_send, entry.the_send, Tickets-send) fits 5000 depth 40
+  Book-send s y f = search (basis, Program-send, plans.the_send, names.the_send, store.the_send, instance.the_field_send, Tickets-send) fits 5000 depth 40
 
 module _ (L1 L2 A : RattleType) (p : posts.Ghosts L1.Denot) (l : ledger.Ghosts L1.Denot) (m : ledger.Ghosts L2.Denot) (g : Ghosts A.Denot) where
   Inside-send : IsSend A → IsSync A → Frees g g.dealloc_token → IsSend (Inside.the_row L1 L2 A p l m g)

@@ -1,10 +1,10 @@
 -- Books that a crew has worked on.
-use Rattle.std.proofs.Common.{◌≡◌, ℕ, List, [], ◌++◌, sym, ◌∙◌, ap, refl}
+use Rattle.std.proofs.Common.{ℕ, [], ◌++◌, sym, ◌∙◌, ap, refl}
 use Rattle.std.specs.Prelude.{Result, Ok, Err, IfOk, IfErr}
 use Rattle.std.proofs.lemmas.List.{append-nil}
 use Rattle.chr_calls.specs.Books.{BookState}
 use Rattle.chr_book.specs.declared.shot.Shot.{Shot}
-use Rattle.chr_book.specs.Shots.{IsShotOf, Continues, shot_entries}
+use Rattle.chr_book.specs.Shots.{IsShotOf, Continues}
 use Rattle.chr_crew.specs.Runs.{IsWorkedOn}
 
 -- a book that goes on from a shot goes on from the book that the shot is of

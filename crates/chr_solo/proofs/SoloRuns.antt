@@ -1,5 +1,5 @@
 -- Runs of one seat: what is judged stays the candidate of the next ticket, and a run goes on at its end.
-use Rattle.std.proofs.Common.{◌≡◌, ℕ, zero, suc, ◌+◌, ◌*◌, ◌<◌, ◌≤◌, inl, inr, List, slice_set, Option, Some, None, MatchOption, Result, Ok, Err, OnErr, refl, sym, ◌∙◌, ap, subst, arith}
+use Rattle.std.proofs.Common.{◌≡◌, ℕ, zero, suc, ◌+◌, ◌*◌, ◌<◌, ◌≤◌, ◌≢◌, ◌⊎◌, inl, inr, List, length, slice_set, Option, Some, None, MatchOption, Result, Ok, Err, OnErr, refl, sym, ◌∙◌, ap, subst, arith}
 use Rattle.std.proofs.Math.Numerals.{add-one}
 use Rattle.std.proofs.Math.Nat.{le_antisymm}
 use Rattle.chr_search.specs.Verdicts.{Trial}
@@ -9,16 +9,17 @@ use Rattle.chr_calls.specs.declared.answers.ClaimFault.TheVariants.{LabelsSpent}
 use Rattle.chr_calls.specs.declared.answers.Firing.TheVariants as firing
 use Rattle.chr_calls.specs.declared.answers.Dropping.TheVariants as dropping
 use Rattle.chr_calls.specs.declared.answers.TicketState.{TicketState}
-use Rattle.chr_calls.specs.declared.answers.TicketState.TheVariants.{Held}
+use Rattle.chr_calls.specs.declared.answers.TicketState.TheVariants.{Unknown, Waiting, Held, Resting}
 use Rattle.chr_calls.specs.Turns.{Next, Done, Gone}
-use Rattle.chr_calls.specs.Tickets.{Ticket, with_candidate, going_on, ticket_at, state_of, IsClaimable, waits, rests, IsOpenFor, waits_for, held_for, rests_for, IsLeastFor, NoneFor}
+use Rattle.chr_calls.specs.Tickets.{Ticket, activated_by, held_by, with_candidate, going_on, ticket_at, state_of, state_with, IsClaimable, waits, rests, IsOpenFor, waits_for, held_for, rests_for, IsLeastFor, NoneFor}
 use Rattle.chr_calls.specs.Books.{BookState}
 use Rattle.chr_calls.specs.Calls.{Claims, with_candidate_of, after_judgement, HoldsCandidate}
-use Rattle.chr_calls.proofs.Tickets.{states_stand, ticket_same, held_is}
+use Rattle.chr_calls.proofs.Tickets.{AfterSet, is_set, stands, after_set, states_stand, ticket_same, plain_within, numbered_within, held_is}
 use Rattle.chr_book.specs.declared.rounds.Last.{Last}
 use Rattle.chr_book.specs.declared.rounds.Last.TheVariants as lasts
 use Rattle.chr_book.specs.declared.rounds.Rounds.{Rounds}
-use Rattle.chr_book.specs.Passed.{PassesTrials, IsLast, rounds_in, MakesRounds, MakesFewer}
+use Rattle.chr_book.specs.Passed.{PassesTrials, IsLast, rounds_in, MakesRounds, MakesFewer, StartsRounds, StartsFewer}
+use Rattle.chr_book.proofs.Starting.{state_there, state_elsewhere}
 use Rattle.chr_solo.specs.Solo.{Known, Nothing, Judged, NoneLeft, SoloCall, claims, asks, fires, reports, drops, SoloRun, IsSpentFor, IsSolo, IsCutShort}
 use Rattle.chr_solo.specs.SoloCode.{IsAware, SoloSoFar}
 
@@ -165,16 +166,6 @@ last_two lasts.Passed seat t calls k first b n h least so =
 pub rounds_two : (seat t calls : ℕ) (r : Rounds) (first b n : BookState) → MakesRounds seat t r b n → IsLeastFor b.tickets seat t → SoloSoFar seat first calls b Nothing → SoloSoFar seat first (calls + 2 * rounds_in r) n Nothing
 rounds_two seat t calls r first b n h least so = last_two r.last seat t calls r.passed first h.middle n h.last (least_passed seat t r.passed b h.middle h.passes least) (passes seat t calls r.passed first b h.middle h.passes least so)
 
--- where there is none, the book is as it was
-none_made : (last : Last) (k seat t : ℕ) (b middle n : BookState) → PassesTrials seat t k b middle → IsLast seat t last middle n → 2 * rounds_in (record { passed = k; last = last }) ≡ 0 → n ≡ b
-none_made lasts.Fired k seat t b middle n p h e = absurd (let z : 2 * (1 + k) ≡ 0 = e in omega arith)
-none_made lasts.Dropped k seat t b middle n p h e = absurd (let z : 2 * (1 + k) ≡ 0 = e in omega arith)
-none_made lasts.Passed zero seat t b middle n p h e = h ∙ p
-none_made lasts.Passed (suc k) seat t b middle n p h e = absurd (let z : 2 * (0 + suc k) ≡ 0 = e in omega arith)
-
-pub no_rounds : (seat t : ℕ) (r : Rounds) (b n : BookState) → MakesRounds seat t r b n → 2 * rounds_in r ≡ 0 → n ≡ b
-no_rounds seat t r b n h e = none_made r.last r.passed seat t b h.middle n h.passes h.last e
-
 -- memory was refused in one
 pub cut_rounds : (seat t most calls half : ℕ) (first b n : BookState) (known : Known) → SoloSoFar seat first calls b known → known ≡ Nothing → IsLeastFor b.tickets seat t → MakesFewer seat t half b n → calls + 2 * half ≤ most → IsCutShort seat most first n
 cut_rounds seat t most calls half first b n known so none least h room = record {
@@ -183,6 +174,42 @@ cut_rounds seat t most calls half first b n known so none least h room = record 
   run = (passes seat t calls h.passed first b n h.passes least (subst (SoloSoFar seat first calls b) none so)).run;
   fewer = omega (arith, h.fewer);
 }
+
+-- ---- a ticket that is claimed, and rounds of calls for it
+
+-- it comes next for the seat that holds it
+least_set : (seat t : ℕ) (ts : List Ticket) (x : Ticket) → state_of ts t ≢ Unknown → t < length ts → state_with x.goal x.holder ≡ Held seat → IsLeastFor ts seat t → IsLeastFor (slice_set ts t x) seat t
+least_set seat t ts x known within holds least = record {
+  free = subst (IsOpenFor seat) (sym (state_there ts t x known within ∙ holds)) (held_for seat);
+  least = λ u free. from u free (after_set ts t x u);
+}
+  where
+    from : (u : ℕ) → IsOpenFor seat (state_of (slice_set ts t x) u) → AfterSet ts t x u → t ≤ u
+    from u free (is_set e within is) = omega (arith, e)
+    from u free (stands is) = least.least u (subst (IsOpenFor seat) (state_elsewhere ts t u x is) free)
+
+least_claimed : (b : BookState) (seat t l : ℕ) (n : BookState) → Claims b seat t (Ok l) n → IsLeastFor b.tickets seat t → IsLeastFor n.tickets seat t
+least_claimed b seat t l n (inl h) least =
+    let known : state_of b.tickets t ≢ Unknown = λ e. absurd (let z : Waiting ≡ Unknown = sym h.can.waits ∙ e in cc) in
+    subst (λ (m : BookState). IsLeastFor m.tickets seat t) (sym h.after) (least_set seat t b.tickets (activated_by seat b.next) known (plain_within b.tickets t h.atom h.goal) refl least)
+least_claimed b seat t l n (inr h) least =
+    let known : state_of b.tickets t ≢ Unknown = λ e. absurd (let z : Resting ≡ Unknown = sym h.rests ∙ e in cc) in
+    subst (λ (m : BookState). IsLeastFor m.tickets seat t) (sym h.after) (least_set seat t b.tickets (held_by seat (ticket_at b.tickets t)) known (numbered_within b.tickets t l h.goal) (ap (λ g. state_with g (Some seat)) h.goal) least)
+
+-- the claim is one call, and each round is two
+pub start_two : (seat t calls : ℕ) (r : Rounds) (first b n : BookState) → StartsRounds seat t r b n → IsLeastFor b.tickets seat t → SoloSoFar seat first calls b Nothing → SoloSoFar seat first (calls + (1 + 2 * rounds_in r)) n Nothing
+start_two seat t calls r first b n h least so =
+    let claimed = goes_on seat calls t first b Nothing h.claimed Nothing so least (claims h.label h.claims refl) in
+    subst (λ k. SoloSoFar seat first k n Nothing) (let e : calls + 1 + 2 * rounds_in r ≡ calls + (1 + 2 * rounds_in r) = omega arith in e)
+    (rounds_two seat t (calls + 1) r first h.claimed n h.makes (least_claimed b seat t h.label h.claimed h.claims least) claimed)
+
+-- memory was refused in one
+pub cut_start : (seat t most calls half whole : ℕ) (first b n : BookState) (known : Known) → SoloSoFar seat first calls b known → known ≡ Nothing → IsLeastFor b.tickets seat t → StartsFewer seat t half b n ⊎ MakesFewer seat t whole b n → calls < most → calls + 1 + 2 * half ≤ most → calls + 2 * whole ≤ most → IsCutShort seat most first n
+cut_start seat t most calls half whole first b n known so none least (inl (inl e)) some room rounds = cut_short seat most calls first b known n so some e
+cut_start seat t most calls half whole first b n known so none least (inl (inr h)) some room rounds =
+    let claimed = goes_on seat calls t first b Nothing h.claimed Nothing (subst (SoloSoFar seat first calls b) none so) least (claims h.label h.claims refl) in
+    cut_rounds seat t most (calls + 1) half first h.claimed n Nothing claimed refl (least_claimed b seat t h.label h.claimed h.claims least) h.makes room
+cut_start seat t most calls half whole first b n known so none least (inr h) some room rounds = cut_rounds seat t most calls whole first b n known so none least h rounds
 
 -- ---- answers of two kinds
 

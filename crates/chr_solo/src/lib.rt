@@ -6,7 +6,8 @@
 //! rules, its label limit, the atoms posted and the number of calls.
 //!
 //! No trial is made for most of these calls: [`Book::go_on`](chr_book::book::Book::go_on) makes rounds of two of them, which
-//! pass over trials, fire one or drop the goal, and they are counted.
+//! pass over trials, fire one or drop the goal, [`Book::start`](chr_book::book::Book::start) claims a ticket and makes such
+//! rounds, and they are counted.
 #![tactic(auto)]
 
 pub mod solo;

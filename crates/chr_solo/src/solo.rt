@@ -1,10 +1,10 @@
 //! Runs of one seat.
-ghost use Rattle.std.specs.Prelude.{◌≡◌, ◌≤◌, ◌+◌, ◌/◌, ℕ, ◌↔◌, Err, OnOk, OnErr, IfOk, MatchOption};
+ghost use Rattle.std.specs.Prelude.{◌≡◌, ◌≤◌, ◌+◌, ◌-◌, ◌/◌, ◌⊎◌, ℕ, ◌↔◌, Err, OnOk, OnErr, IfOk, MatchOption};
 ghost use Rattle.std.specs.List.{AllByRecursion};
 ghost use Rattle.chr_rule.specs.Scope.{IsRule};
 ghost use Rattle.chr_calls.specs.Books.{BookState};
 ghost use Rattle.chr_calls.specs.Calls.{Claims, HoldsCandidate};
-ghost use Rattle.chr_book.specs.Passed.{MakesFewer};
+ghost use Rattle.chr_book.specs.Passed.{MakesFewer, StartsFewer};
 ghost use Rattle.chr_calls.specs.Tickets.{AreQuiet, IsOpenFor, IsLeastFor, state_of};
 ghost use Rattle.chr_calls.specs.declared.answers.ClaimFault.TheVariants as claim;
 ghost use Rattle.chr_calls.specs.declared.answers.TicketState.TheVariants as states;
@@ -145,8 +145,9 @@ fn call_for<A: Allocator + Copy>(
     }
 }
 
-/// Where nothing is known of the search of the next ticket, and the seat holds it, makes rounds of two calls for it, at most so
-/// many calls and at most 2,048. Returns how many calls. An `Err` is E01: the calls before the last round were made.
+/// Where nothing is known of the search of the next ticket, claims it if it waits, and makes rounds of two calls for it, at
+/// most so many calls and at most 2,049. Returns how many calls; none are made where the ticket rests, or waits and the labels
+/// are spent. An `Err` is E01: nothing has changed, or the calls before the last round were made.
 fn make_rounds<A: Allocator + Copy>(
     book: &mut Book<A>,
     seat: u32,
@@ -154,15 +155,20 @@ fn make_rounds<A: Allocator + Copy>(
     known: &Known<A>,
     most: u64,
 ) -> Result<u64, AllocError>
-    requires { IsLeastFor book.old.tickets seat ticket }
+    requires least { IsLeastFor book.old.tickets seat ticket }
+    requires some { 1 ≤ most }
     ensures few { IfOk result (λ made. made ≤ most) }
     ensures none { IfOk result (λ made. made ≡ 0 → book.new ≡ book.old) }
     ensures so_far { IfOk result (λ made. (first : BookState) (calls : ℕ) → SoloSoFar seat first calls book.old (known_of known.now) → SoloSoFar seat first (calls + made) book.new (known_of known.now)) }
-    ensures err { OnErr result ((known_of known.now ≡ Nothing) × MakesFewer seat ticket (most / 2) book.old book.new) }
+    ensures nothing { OnErr result (known_of known.now ≡ Nothing) }
+    ensures err { OnErr result (StartsFewer seat ticket ((most - 1) / 2) book.old book.new ⊎ MakesFewer seat ticket (most / 2) book.old book.new) }
 {
     let Known::Nothing = known else {
         return Ok(0);
     };
+    if let Some(rounds) = book.start(seat, ticket, ((most - 1) / 2).min(1024))? {
+        return Ok(1 + 2 * rounds.count());
+    }
     let rounds = book.go_on(seat, ticket, (most / 2).min(1024))?;
     Ok(2 * rounds.count())
 }
@@ -183,8 +189,8 @@ pub fn solo_steps<A: Allocator + Copy>(
     watched_steps(book, seat, most, &mut Unwatched)
 }
 
-/// The same, and `watch` is told before each call how many were made before it. Of up to 2,048 calls that [`Book::go_on`] makes
-/// at once it is told after them, and only how many were made before the last one.
+/// The same, and `watch` is told before each call how many were made before it. Of up to 2,049 calls that [`Book::start`] or
+/// [`Book::go_on`] makes at once it is told after them, and only how many were made before the last one.
 pub fn watched_steps<A: Allocator + Copy, W: Watch>(
     book: &mut Book<A>,
     seat: u32,

@@ -49,3 +49,55 @@ fn rounds_of_one_seat(rt: HostRuntime) -> Result<(), Fail> {
     assert!(rt; script.lines()?.as_slice() == LINES.as_bytes());
     Ok(())
 }
+
+const WAITING: [Row; 1] = [(0, Call::Post("t, n(1), t."), "Ok(1)", "WWW")];
+
+const STARTS: [Rounds; 8] = [
+    (1, 1, 0, "Ok(None)", "WWW"),
+    (
+        1,
+        1,
+        9,
+        "Ok(Some(Rounds { passed: 1, last: Dropped }))",
+        "EWW",
+    ),
+    (
+        1,
+        2,
+        9,
+        "Ok(Some(Rounds { passed: 1, last: Fired }))",
+        "EEWW",
+    ),
+    (1, 2, 9, "Ok(None)", "EEWW"),
+    (
+        1,
+        3,
+        1,
+        "Ok(Some(Rounds { passed: 0, last: Passed }))",
+        "EE1W",
+    ),
+    (1, 3, 9, "Ok(None)", "EE1W"),
+    (1, 4, 9, "Ok(None)", "EE1W"),
+    (1, 5, 9, "Ok(None)", "EE1W"),
+];
+
+const STARTED: &str =
+    "open\nP 1 t\nP 2 n(1)\nP 3 t\nA 1 1\nD 1\nA 2 2\nF 2 1 1\\2\nA 3 3\n#1 t\n#3 t\n";
+
+#[test]
+fn tickets_that_wait_are_started(rt: HostRuntime) -> Result<(), Fail> {
+    let opening = Opening {
+        program: "t \\ n(X) <=> r(X).",
+        names: "",
+        limit: 3,
+    };
+    let mut script = Script::open(rt.alloc(), rt.alloc(), opening).ok_or("not opened")?;
+    assert_eq!(rt; rows_right(&mut script, &WAITING), 1);
+    for (i, (seat, ticket, most, wanted, states)) in STARTS.iter().enumerate() {
+        let answer = script.start(*seat, *ticket, *most)?;
+        assert_eq!(rt; answer.as_str(), *wanted, "start {i}");
+        assert_eq!(rt; script.states()?.as_str(), *states, "start {i}");
+    }
+    assert!(rt; script.lines()?.as_slice() == STARTED.as_bytes());
+    Ok(())
+}

@@ -214,6 +214,17 @@ impl<A: Allocator + Copy> Script<A> {
         format!(in texts; "{:?}", self.book.go_on(seat, ticket, most))
     }
 
+    /// Claims a ticket that waits, makes rounds of calls for it, at most so many, and tells the answer.
+    pub fn start(
+        &mut self,
+        seat: u32,
+        ticket: u64,
+        most: u64,
+    ) -> Result<String<Global>, AllocError> {
+        let texts = self.texts;
+        format!(in texts; "{:?}", self.book.start(seat, ticket, most))
+    }
+
     /// Makes a call, which posts these atoms where it is a post, and tells its answer.
     pub fn make(
         &mut self,

@@ -1,4 +1,4 @@
-use Rattle.std.proofs.Common.{ap, ◌∙◌, ◌%◌, length, arith}
+use Rattle.std.proofs.Common.{ap, ◌∙◌, ◌%◌, arith}
 use Rattle.std.proofs.Math.Seq.{map-set_same}
 use Rattle.std.proofs.lemmas.List.{length-set}
 use Rattle.chr_pool.specs.Hands.{hand_id}

@@ -1,4 +1,4 @@
-use Rattle.std.proofs.Common.{◌≡◌, ◌≤◌, ◌<◌, ◌+◌, ℕ, List, length, map, get_or, vec_len, ap, ◌∙◌, sym, subst, arith}
+use Rattle.std.proofs.Common.{◌≡◌, ◌≤◌, ◌<◌, ◌+◌, ℕ, List, length, map, get_or, ap, ◌∙◌, sym, subst, arith}
 use Rattle.std.specs.Prelude.{IfSome}
 use Rattle.chr_calls.specs.Books.{BookState}
 use Rattle.chr_pool.specs.Hands.{HandId, hand_id}

@@ -1,4 +1,4 @@
-use Rattle.std.proofs.Common.{◌≡◌, ◌<◌, ◌+◌, ℕ, length, get_or, sym, ◌∙◌, subst, arith}
+use Rattle.std.proofs.Common.{◌≡◌, ◌<◌, ◌+◌, ℕ, length, get_or, sym, ◌∙◌, subst}
 use Rattle.std.specs.Prelude.{Option, Some, IfSome, vec_len}
 use Rattle.chr_calls.specs.Books.{BookState}
 use Rattle.chr_pool.specs.Hands.{hand_id}

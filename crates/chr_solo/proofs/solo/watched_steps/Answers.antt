@@ -5,7 +5,7 @@ use Rattle.chr_calls.specs.Books.{BookState}
 use Rattle.chr_calls.specs.Calls.{Claims}
 use Rattle.chr_solo.specs.Solo.{SoloCall, IsSolo, IsCutShort}
 use Rattle.chr_solo.specs.SoloCode.{known_of, IsAware, SoloSoFar}
-use Rattle.chr_solo.proofs.SoloRuns.{begins, goes_on, ends_full, ends_none, ends_spent, cut_short, cut_rounds, none_of, on_err}
+use Rattle.chr_solo.proofs.SoloRuns.{begins, goes_on, ends_full, ends_none, ends_spent, cut_short, cut_start, none_of, on_err}
 use Rattle.chr_solo.proofs.solo.watched_steps.Goals as goal
 use Rattle.chr_solo.proofs.solo.watched_steps.Goals.{else-calls-most, then-calls-most+in_default, then-calls-most+in-Some+in_ok-made+else-made-gt0+in_ok-next+in_default-2}
 
@@ -16,10 +16,9 @@ pub returns-in_err-made-clause-cut_short : goal.returns-in_err-made-clause-cut_s
 returns-in_err-made-clause-cut_short g c =
     let most = c.args.most in
     let calls = c.loop-calls.calls in
-    let half = (most - calls) / 2 in
-    let fewer = c.in_err-made.ensures.err in
+    let left = most - calls in
     on_err (IsCutShort c.args.seat most c.args.book.now c.make_rounds.new.book) c.from_residual.result
-    (cut_rounds c.args.seat c.in-Some.ticket most calls half c.args.book.now c.loop-calls.book c.make_rounds.new.book (known_of c.loop-calls.known) c.loop-calls.invariant.0 fewer.0 c.in-Some.ensures fewer.1 (omega (arith, c.if-calls-most.true)))
+    (cut_start c.args.seat c.in-Some.ticket most calls ((left - 1) / 2) (left / 2) c.args.book.now c.loop-calls.book c.make_rounds.new.book (known_of c.loop-calls.known) c.loop-calls.invariant.0 c.in_err-made.ensures.nothing c.in-Some.ensures c.in_err-made.ensures.err c.if-calls-most.true (omega (arith, c.if-calls-most.true)) (omega (arith, c.if-calls-most.true)))
 
 pub call_for-requires-clause-free : goal.call_for-requires-clause-free
 call_for-requires-clause-free g c =
