@@ -1,5 +1,5 @@
 -- A ticket whose search passes over trials, in its place.
-use Rattle.std.proofs.Common.{◌≡◌, ℕ, zero, suc, ◌+◌, false, List, Some, length, set, get_or, refl, sym, ap, ◌∙◌, arith}
+use Rattle.std.proofs.Common.{◌≡◌, ℕ, zero, suc, ◌+◌, ◌-◌, false, List, Some, length, set, get_or, refl, sym, ap, ◌∙◌, arith}
 use Rattle.std.proofs.lemmas.List.{get_or-set_same}
 use Rattle.chr_search.specs.Trials.{Space}
 use Rattle.chr_search.specs.declared.search.Instance.{Instance}
@@ -8,8 +8,8 @@ use Rattle.chr_calls.specs.Tickets.{Ticket, ended, ticket_at}
 use Rattle.chr_tickets.specs.declared.ticket.Ticket.{Ticket as CodeTicket}
 use Rattle.chr_tickets.specs.Open.{shown_ticket}
 use Rattle.chr_tickets.specs.Passed.{gone_over, PassesOver}
-use Rattle.chr_tickets.specs.Listed.{Slot, listed}
-use Rattle.chr_tickets.proofs.Changes.{Opened, changed}
+use Rattle.chr_tickets.specs.Listed.{Slot, listed, IsOpenAt}
+use Rattle.chr_tickets.proofs.Changes.{open_at, changed}
 use Rattle.chr_tickets.proofs.Listed.{length_listed}
 
 -- it keeps its mark
@@ -21,11 +21,11 @@ pub still_unmarked : {s : Space} {passed : Passed} {instance : Instance} {x afte
 still_unmarked {s} {passed} {instance} {x} {after} over unmarked = ap (λ (y : Ticket). y.stray) over.after_is ∙ same_mark passed.count over.place x ∙ unmarked
 
 -- the tickets then, and what they have there
-pub tickets_are : {Z : Type 0} {first m t k : ℕ} {slots : List (Slot Z)} {L : List Ticket} {slot : Slot Z} {x : CodeTicket Z} (w : CodeTicket Z) → Opened first m slots L t k → slot ≡ get_or slots k slot → slot ≡ Some x → listed first (set slots k (Some w)) ≡ set L t (shown_ticket w)
-tickets_are w o is there = changed (λ y. shown_ticket w) w o is there refl
+pub tickets_are : {Z : Type 0} {L : List Ticket} {x : CodeTicket Z} (first : ℕ) (slots : List (Slot Z)) (t : ℕ) (w : CodeTicket Z) → listed first slots ≡ L → (ticket_at L t ≡ ended → ⊥) → Some x ≡ get_or slots (t - first) (Some x) → listed first (set slots (t - first) (Some w)) ≡ set L t (shown_ticket w)
+tickets_are first slots t w shows live is = changed first slots t (λ y. shown_ticket w) w shows live is (λ e. refl)
 
-pub ticket_is : {Z : Type 0} {first m t k : ℕ} {slots : List (Slot Z)} {L : List Ticket} (x : Ticket) → Opened first m slots L t k → ticket_at (set L t x) t ≡ x
-ticket_is {Z} {first} {m} {t} {k} {slots} {L} x o =
-    let s = o.stands in
-    let all : length L ≡ first + length slots = ap length (sym o.shows) ∙ length_listed first slots in
-    get_or-set_same L t x ended (let at = s.at in let within = s.within in omega arith)
+pub ticket_is : {Z : Type 0} {L : List Ticket} (first : ℕ) (slots : List (Slot Z)) (t : ℕ) (x : Ticket) → listed first slots ≡ L → (ticket_at L t ≡ ended → ⊥) → ticket_at (set L t x) t ≡ x
+ticket_is {Z} {L} first slots t x shows live =
+    let o : IsOpenAt first slots t = open_at shows live in
+    let all : length L ≡ first + length slots = ap length (sym shows) ∙ length_listed first slots in
+    get_or-set_same L t x ended (let given = o.given in let within = o.within in omega arith)

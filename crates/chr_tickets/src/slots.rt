@@ -1,6 +1,8 @@
 //! The slots of the tickets that may be open.
-ghost use Rattle.std.specs.Prelude.{◌≡◌, ◌+◌, ◌%◌, ◌^◌, ◌<◌, ◌≤◌, length};
-ghost use Rattle.chr_tickets.specs.Listed.{listed, StartsOpen};
+ghost use Rattle.std.specs.Prelude.{◌≡◌, ◌+◌, ◌%◌, ◌^◌, ◌<◌, ◌≤◌, length, IsSome, slice_index_or, ◌-◌};
+ghost use Rattle.std.specs.Borrow.{sem};
+ghost use Rattle.chr_tickets.specs.Lending.{lends_slot, lends_open};
+ghost use Rattle.chr_tickets.specs.Listed.{listed, StartsOpen, IsOpenAt};
 
 use crate::ticket::Ticket;
 use std::alloc::Allocator;
@@ -29,4 +31,25 @@ pub(crate) fn pop_ended<A: Allocator + Copy>(slots: &mut Slots<A>, mut first: u6
         first += 1;
     }
     first
+}
+
+/// The ticket in a slot.
+fn open_in<A: Allocator>(slot: &mut Option<Ticket<A>>) -> &mut Ticket<A>
+    requires { IsSome slot.old }
+    ensures* lends { sem 𝓛 (lends_slot A.row A.Allocator slot.entry result) }
+    ensures value { slot.old ≡ Some result.now }
+{
+    match slot {
+        Some(ticket) => ticket,
+        None => unreachable!(),
+    }
+}
+
+/// The open ticket of a number, in a queue from a first one.
+pub(crate) fn open_at<A: Allocator>(slots: &mut Slots<A>, first: u64, ticket: u64) -> &mut Ticket<A>
+    requires { IsOpenAt first slots.old.items ticket }
+    ensures* lends { sem 𝓛 (lends_open A.row A.Allocator slots.entry first ticket result) }
+    ensures value { Some result.now ≡ slice_index_or slots.old.items (ticket - first) (Some result.now) }
+{
+    open_in(&mut slots[place_of(first, ticket)])
 }

@@ -140,8 +140,7 @@ impl<A: Allocator + Copy> Ticket<A> {
 
     /// Gives an active ticket to a seat, without its candidate, and takes its mark off.
     pub(crate) fn hold(&mut self, seat: u32)
-        requires { IsActiveGoal (shown_ticket self.old).goal }
-        ensures { shown_ticket self.new ≡ held_by seat (shown_ticket self.old) }
+        ensures { IsActiveGoal (shown_ticket self.old).goal → shown_ticket self.new ≡ held_by seat (shown_ticket self.old) }
     {
         if let Goal::Active {
             candidate,
@@ -157,8 +156,7 @@ impl<A: Allocator + Copy> Ticket<A> {
 
     /// Takes an active ticket from its seat, without its candidate, and marks it.
     pub(crate) fn put_down(&mut self)
-        requires { IsActiveGoal (shown_ticket self.old).goal }
-        ensures { shown_ticket self.new ≡ put_down (shown_ticket self.old) }
+        ensures { IsActiveGoal (shown_ticket self.old).goal → shown_ticket self.new ≡ put_down (shown_ticket self.old) }
     {
         if let Goal::Active {
             candidate,
@@ -174,8 +172,7 @@ impl<A: Allocator + Copy> Ticket<A> {
 
     /// Replaces the candidate of an active ticket.
     pub(crate) fn set_candidate(&mut self, new: Option<Trial<A>>)
-        requires { IsActiveGoal (shown_ticket self.old).goal }
-        ensures { shown_ticket self.new ≡ with_candidate new (shown_ticket self.old) }
+        ensures { IsActiveGoal (shown_ticket self.old).goal → shown_ticket self.new ≡ with_candidate new (shown_ticket self.old) }
     {
         if let Goal::Active { candidate, .. } = &mut self.goal {
             *candidate = new;
@@ -184,8 +181,7 @@ impl<A: Allocator + Copy> Ticket<A> {
 
     /// Moves the search of an active ticket on after a judged trial, and takes its candidate away.
     pub(crate) fn advance(&mut self, judged: &Judged<A>)
-        requires { IsActiveGoal (shown_ticket self.old).goal }
-        ensures { shown_ticket self.new ≡ going_on (after_judging judged.now) (shown_ticket self.old) }
+        ensures { IsActiveGoal (shown_ticket self.old).goal → shown_ticket self.new ≡ going_on (after_judging judged.now) (shown_ticket self.old) }
     {
         if let Goal::Active {
             search,
@@ -230,8 +226,7 @@ impl<A: Allocator + Copy> Ticket<A> {
 
     /// Puts the search of an active ticket at the place of another one of its label, and takes its candidate away.
     pub(crate) fn go_to(&mut self, place: Search)
-        requires { (shown_ticket self.old).goal ≡ Numbered place.label }
-        ensures { shown_ticket self.new ≡ going_on place.place (shown_ticket self.old) }
+        ensures { (shown_ticket self.old).goal ≡ Numbered place.label → shown_ticket self.new ≡ going_on place.place (shown_ticket self.old) }
     {
         if let Goal::Active {
             search,

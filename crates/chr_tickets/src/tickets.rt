@@ -11,7 +11,7 @@ ghost use Rattle.chr_tickets.specs.Open.{shown_ticket};
 ghost use Rattle.chr_tickets.specs.Passed.{PassesOver};
 ghost use Rattle.chr_tickets.specs.Stray.{IsFirstStray, NoneStray};
 
-use crate::slots::{Slots, place_of, pop_ended};
+use crate::slots::{Slots, open_at, place_of, pop_ended};
 use crate::ticket::Ticket;
 use chr_calls::answers::TicketState;
 use chr_plan::plans::Plans;
@@ -166,9 +166,7 @@ impl<A: Allocator + Copy> Tickets<A> {
         requires { state_of self.old ticket ≡ Waiting }
         ensures { self.new ≡ slice_set self.old ticket (activated_by seat label) }
     {
-        let Some(found) = &mut self.slots[place_of(self.first, ticket)] else {
-            unreachable!();
-        };
+        let found = open_at(&mut self.slots, self.first, ticket);
         found.activate(seat, label);
     }
 
@@ -177,9 +175,7 @@ impl<A: Allocator + Copy> Tickets<A> {
         requires { state_of self.old ticket ≡ Resting }
         ensures { self.new ≡ slice_set self.old ticket (held_by seat (ticket_at self.old ticket)) }
     {
-        let Some(found) = &mut self.slots[place_of(self.first, ticket)] else {
-            unreachable!();
-        };
+        let found = open_at(&mut self.slots, self.first, ticket);
         found.hold(seat);
     }
 
@@ -188,9 +184,7 @@ impl<A: Allocator + Copy> Tickets<A> {
         requires { IsActive self.old ticket }
         ensures { self.new ≡ slice_set self.old ticket (put_down (ticket_at self.old ticket)) }
     {
-        let Some(found) = &mut self.slots[place_of(self.first, ticket)] else {
-            unreachable!();
-        };
+        let found = open_at(&mut self.slots, self.first, ticket);
         found.put_down();
         self.unmarked = self.unmarked.min(ticket);
     }
@@ -200,9 +194,7 @@ impl<A: Allocator + Copy> Tickets<A> {
         requires { IsActive self.old ticket }
         ensures { self.new ≡ slice_set self.old ticket (with_candidate candidate (ticket_at self.old ticket)) }
     {
-        let Some(found) = &mut self.slots[place_of(self.first, ticket)] else {
-            unreachable!();
-        };
+        let found = open_at(&mut self.slots, self.first, ticket);
         found.set_candidate(candidate);
     }
 
@@ -211,9 +203,7 @@ impl<A: Allocator + Copy> Tickets<A> {
         requires { IsActive self.old ticket }
         ensures { self.new ≡ slice_set self.old ticket (going_on (after_judging judged.now) (ticket_at self.old ticket)) }
     {
-        let Some(found) = &mut self.slots[place_of(self.first, ticket)] else {
-            unreachable!();
-        };
+        let found = open_at(&mut self.slots, self.first, ticket);
         found.advance(judged);
     }
 
@@ -234,9 +224,7 @@ impl<A: Allocator + Copy> Tickets<A> {
         ensures passed { (l : ℕ) → (ticket_at self.old ticket).goal ≡ Numbered l → PassesOver (older program.now plans.now store.now.entries l) result instance.new (ticket_at self.old ticket) (ticket_at self.new ticket) }
         ensures others { self.new ≡ slice_set self.old ticket (ticket_at self.new ticket) }
     {
-        let Some(found) = &mut self.slots[place_of(self.first, ticket)] else {
-            unreachable!();
-        };
+        let found = open_at(&mut self.slots, self.first, ticket);
         found.pass_over(program, plans, store, most, instance)
     }
 
@@ -245,9 +233,7 @@ impl<A: Allocator + Copy> Tickets<A> {
         requires { (ticket_at self.old ticket).goal ≡ Numbered place.label }
         ensures { self.new ≡ slice_set self.old ticket (going_on place.place (ticket_at self.old ticket)) }
     {
-        let Some(found) = &mut self.slots[place_of(self.first, ticket)] else {
-            unreachable!();
-        };
+        let found = open_at(&mut self.slots, self.first, ticket);
         found.go_to(place);
     }
 
@@ -273,9 +259,7 @@ impl<A: Allocator + Copy> Tickets<A> {
         requires { IsClaimable (state_of self.old ticket) }
         ensures { self.new ≡ slice_set self.old ticket (marked true (ticket_at self.old ticket)) }
     {
-        let Some(found) = &mut self.slots[place_of(self.first, ticket)] else {
-            unreachable!();
-        };
+        let found = open_at(&mut self.slots, self.first, ticket);
         found.stray = true;
         self.unmarked = self.unmarked.min(ticket);
     }
@@ -305,9 +289,7 @@ impl<A: Allocator + Copy> Tickets<A> {
             self.unmarked = u64::MAX;
             return None;
         };
-        let Some(found) = &mut self.slots[place_of(self.first, ticket)] else {
-            unreachable!();
-        };
+        let found = open_at(&mut self.slots, self.first, ticket);
         found.stray = false;
         self.unmarked = ticket;
         Some(ticket)

@@ -1,25 +1,14 @@
 use Rattle.std.proofs.Common.{arith}
 use Rattle.chr_calls.specs.Tickets.{put_down}
-use Rattle.chr_tickets.proofs.Changes.{Opened, opened, not_empty, seen, changed, still_queued}
+use Rattle.chr_tickets.proofs.Changes.{open_at, changed, still_queued}
 use Rattle.chr_tickets.proofs.States.{active_open, active_here}
-use Rattle.chr_tickets.proofs.tickets.Tickets.put_down.Given.{Over}
 use Rattle.chr_tickets.proofs.tickets.Tickets.put_down.Goals as goal
-use Rattle.chr_tickets.proofs.tickets.Tickets.put_down.Goals.{After-place_of}
 
-active : (g : Over) (c : After-place_of g) → Opened c.self.inside.first c.self.inside.unmarked c.self.inside.slots.items c.args.self.now c.args.ticket c.place_of.result
-active g c = opened c.self.invariant c.self.view_is c.place_of.ensures c.place_of.type_inv (active_open c.args.self.now c.args.ticket c.requires)
-
-pub index_mut-requires : goal.index_mut-requires
-index_mut-requires g c = let within = (active g c).stands.within in omega arith
-
-pub unreachable-requires : goal.unreachable-requires
-unreachable-requires g c = not_empty (active g (goal.at.unreachable-requires g c).After-place_of) c.index_mut.ensures.value c.in_default.is
-
-pub put_down-requires : goal.put_down-requires
-put_down-requires g c = active_here c.args.self.now c.args.ticket _ (seen (active g (goal.at.put_down-requires g c).After-place_of) c.index_mut.ensures.value c.in-Some.is) c.requires
+pub open_at-found-requires : goal.open_at-found-requires
+open_at-found-requires g c = open_at c.self.view_is (active_open c.args.self.now c.args.ticket c.requires)
 
 pub invariant_of-self : goal.invariant_of-self
-invariant_of-self g c = still_queued _ put_down _ (active g (goal.at.invariant_of-self g c).After-place_of) c.index_mut.ensures.value c.in-Some.is c.put_down.ensures (omega arith) (λ l. absurd (omega arith))
+invariant_of-self g c = still_queued _ _ _ _ (put_down) _ c.self.invariant c.self.view_is (active_open c.args.self.now c.args.ticket c.requires) c.open_at-found.ensures.value (λ there. c.put_down.ensures (active_here c.args.self.now c.args.ticket _ there c.requires)) (omega arith) (λ l. absurd (omega arith))
 
 pub returns : goal.returns
-returns g c = changed put_down _ (active g (goal.at.returns g c).After-place_of) c.index_mut.ensures.value c.in-Some.is c.put_down.ensures
+returns g c = changed _ _ _ (put_down) _ c.self.view_is (active_open c.args.self.now c.args.ticket c.requires) c.open_at-found.ensures.value (λ there. c.put_down.ensures (active_here c.args.self.now c.args.ticket _ there c.requires))
