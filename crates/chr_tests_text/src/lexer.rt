@@ -10,7 +10,7 @@ use std::test::Fail;
 type ItemRow<'r> = (u32, &'r [u8], bool, bool);
 
 /// Texts with their items.
-const ITEMS: [(&[u8], &[ItemRow]); 20] = [
+static ITEMS: [(&[u8], &[ItemRow]); 20] = [
     (b"", &[]),
     (b" \t\r\n% nothing\n/* at\nall */", &[]),
     (b"p.", &[(1, b"p", true, false)]),
@@ -102,7 +102,7 @@ fn comments_and_items(rt: HostRuntime) -> Result<(), Fail> {
 }
 
 /// Items with their tokens: the kind and the bytes.
-const TOKENS: [(&[u8], &[(&str, &[u8])]); 18] = [
+static TOKENS: [(&[u8], &[(&str, &[u8])]); 18] = [
     (b" \r\n", &[]),
     (
         b"aB_1 X_y _ _z",
@@ -195,7 +195,7 @@ const TOKENS: [(&[u8], &[(&str, &[u8])]); 18] = [
 ];
 
 /// Items that are no tokens.
-const NO_TOKENS: [&[u8]; 9] = [
+static NO_TOKENS: [&[u8]; 9] = [
     b"=", b"\"", b"'", b"[", b"a.b", b"<= ", b"a ! b", b"\x02", b"=>",
 ];
 

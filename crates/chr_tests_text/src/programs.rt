@@ -181,7 +181,7 @@ ok 2: n0(n65535), n1.
 ",
 ];
 
-/// The number that the digits in front of the first blank spell.
+/// The number that the digits at the front spell.
 fn times(piece: &[u8]) -> usize {
     let mut number: usize = 0;
     for b in piece {
@@ -202,10 +202,16 @@ fn put(out: &mut Vec<u8>, text: &[u8]) -> Result<(), AllocError> {
     Ok(())
 }
 
+/// What stands before the first byte of this value, and what stands after it.
+fn split_once(text: &[u8], byte: u8) -> Option<(&[u8], &[u8])> {
+    let at = text.iter().position(|b| *b == byte)?;
+    Some((&text[..at], &text[at + 1..]))
+}
+
 fn put_repeated(out: &mut Vec<u8>, piece: &[u8]) -> Result<(), AllocError> {
-    if let Some(blank) = piece.iter().position(|b| *b == b' ') {
-        for _ in 0..times(piece) {
-            put(out, &piece[blank + 1..])?;
+    if let Some((count, text)) = split_once(piece, b' ') {
+        for _ in 0..times(count) {
+            put(out, text)?;
         }
     }
     Ok(())
@@ -215,11 +221,11 @@ fn put_repeated(out: &mut Vec<u8>, piece: &[u8]) -> Result<(), AllocError> {
 fn text_of(alloc: Global, row: &[u8]) -> Result<Vec<u8>, AllocError> {
     let mut out = Vec::new(alloc);
     for piece in row.split(|b| *b == b'}') {
-        match piece.iter().position(|b| *b == b'{') {
+        match split_once(piece, b'{') {
             None => put(&mut out, piece)?,
-            Some(at) => {
-                put(&mut out, &piece[..at])?;
-                put_repeated(&mut out, &piece[at + 1..])?;
+            Some((before, repeated)) => {
+                put(&mut out, before)?;
+                put_repeated(&mut out, repeated)?;
             }
         }
     }
@@ -260,12 +266,12 @@ fn is_given(
     are_posts: bool,
     row: &[u8],
 ) -> Result<bool, AllocError> {
-    let Some(colon) = row.iter().position(|b| *b == b':') else {
+    let Some((wanted, text)) = split_once(row, b':') else {
         return Ok(true);
     };
-    let text = text_of(alloc, &row[colon + 1..])?;
+    let text = text_of(alloc, text)?;
     let given = answer(alloc, names, are_posts, &text)?;
-    Ok(given.as_bytes() == &row[..colon])
+    Ok(given.as_bytes() == wanted)
 }
 
 #[test]
