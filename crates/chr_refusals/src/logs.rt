@@ -49,10 +49,7 @@ pub fn reserve(memory: &Refusing<Global>, n: u64) -> Option<bool> {
     let before = memory.requests();
     log.push_reserved(entry_of(1));
     log.push_reserved(entry_of(2));
-    if memory.requests() != before {
-        return None;
-    }
-    Some(refused)
+    (memory.requests() == before).then_some(refused)
 }
 
 /// A log of three firings.
@@ -68,10 +65,7 @@ pub fn copy(memory: &Refusing<Global>, n: u64) -> Option<bool> {
     let log = log_of(memory)?;
     memory.refuse(n);
     let refused = is_refused(memory, log.copy(memory).is_err())?;
-    if log.copy(memory).ok()?.len() != 3 {
-        return None;
-    }
-    Some(refused)
+    (log.copy(memory).ok()?.len() == 3).then_some(refused)
 }
 
 pub fn write_events_of_a_log(memory: &Refusing<Global>, n: u64) -> Option<bool> {
@@ -86,10 +80,7 @@ pub fn write_events_of_a_log(memory: &Refusing<Global>, n: u64) -> Option<bool> 
     let refused = is_refused(memory, answer.is_err())?;
     out.clear();
     write_log(&mut out, &names, Version::One, &events).ok()?;
-    if out.as_slice() != TEXT.as_bytes() {
-        return None;
-    }
-    Some(refused)
+    (out.as_slice() == TEXT.as_bytes()).then_some(refused)
 }
 
 pub fn write_line_of_a_store(memory: &Refusing<Global>, n: u64) -> Option<bool> {
@@ -102,8 +93,5 @@ pub fn write_line_of_a_store(memory: &Refusing<Global>, n: u64) -> Option<bool> 
     let refused = is_refused(memory, write_store(&mut out, &names, &lines).is_err())?;
     out.clear();
     write_store(&mut out, &names, &lines).ok()?;
-    if out.as_slice() != b"#4294967295 gcd(1000000000)\n".as_slice() {
-        return None;
-    }
-    Some(refused)
+    (out.as_slice() == b"#4294967295 gcd(1000000000)\n".as_slice()).then_some(refused)
 }

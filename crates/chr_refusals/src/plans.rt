@@ -68,20 +68,14 @@ pub fn copy(memory: &Refusing<Global>, n: u64) -> Option<bool> {
     let program = program_of(memory)?;
     memory.refuse(n);
     let refused = is_refused(memory, program.copy(memory).is_err())?;
-    if program.copy(memory).ok()?.len() != 1 {
-        return None;
-    }
-    Some(refused)
+    (program.copy(memory).ok()?.len() == 1).then_some(refused)
 }
 
 pub fn make(memory: &Refusing<Global>, n: u64) -> Option<bool> {
     let program = program_of(memory)?;
     memory.refuse(n);
     let refused = is_refused(memory, Plans::make(memory, &program).is_err())?;
-    if Plans::make(memory, &program).is_err() {
-        return None;
-    }
-    Some(refused)
+    Plans::make(memory, &program).is_ok().then_some(refused)
 }
 
 pub fn places(memory: &Refusing<Global>, n: u64) -> Option<bool> {
@@ -90,8 +84,5 @@ pub fn places(memory: &Refusing<Global>, n: u64) -> Option<bool> {
     let plans = Plans::make(memory, &program).ok()?;
     memory.refuse(n);
     let refused = is_refused(memory, plans.places(memory, &program).is_err())?;
-    if plans.places(memory, &program).ok()?.len() != 1 {
-        return None;
-    }
-    Some(refused)
+    (plans.places(memory, &program).ok()?.len() == 1).then_some(refused)
 }

@@ -36,10 +36,8 @@ const PRED: Pred = Pred {
 pub fn open(memory: &Refusing<Global>, n: u64) -> Option<bool> {
     memory.refuse(n);
     let refused = is_refused(memory, Store::indexed(memory, 40, &[(PRED, 1)]).is_err())?;
-    if Store::indexed(memory, 40, &[(PRED, 1)]).is_err() {
-        return None;
-    }
-    Some(refused)
+    let again = Store::indexed(memory, 40, &[(PRED, 1)]);
+    again.is_ok().then_some(refused)
 }
 
 /// An atom with one argument, which takes no memory.
@@ -100,8 +98,5 @@ pub fn copy(memory: &Refusing<Global>, n: u64) -> Option<bool> {
     let store = store_of(memory)?;
     memory.refuse(n);
     let refused = is_refused(memory, store.copy(memory).is_err())?;
-    if store.copy(memory).ok()?.len() != 40 {
-        return None;
-    }
-    Some(refused)
+    (store.copy(memory).ok()?.len() == 40).then_some(refused)
 }

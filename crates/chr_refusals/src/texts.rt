@@ -22,15 +22,8 @@ pub fn read_entries(memory: &Refusing<Global>, n: u64) -> Option<bool> {
     memory.refuse(n);
     let fault = read_log(memory, LOG.as_bytes(), &mut names).err();
     let refused = is_refused(memory, fault == Some(TextFault::NoMemory))?;
-    if read_log(memory, LOG.as_bytes(), &mut names)
-        .ok()?
-        .events
-        .len()
-        != 7
-    {
-        return None;
-    }
-    Some(refused)
+    let log = read_log(memory, LOG.as_bytes(), &mut names).ok()?;
+    (log.events.len() == 7).then_some(refused)
 }
 
 pub fn read_lines(memory: &Refusing<Global>, n: u64) -> Option<bool> {
@@ -38,10 +31,8 @@ pub fn read_lines(memory: &Refusing<Global>, n: u64) -> Option<bool> {
     memory.refuse(n);
     let fault = read_store(memory, STORE.as_bytes(), &mut names).err();
     let refused = is_refused(memory, fault == Some(TextFault::NoMemory))?;
-    if read_store(memory, STORE.as_bytes(), &mut names).ok()?.len() != 5 {
-        return None;
-    }
-    Some(refused)
+    let lines = read_store(memory, STORE.as_bytes(), &mut names).ok()?;
+    (lines.len() == 5).then_some(refused)
 }
 
 pub fn read_rules(memory: &Refusing<Global>, n: u64) -> Option<bool> {
@@ -49,14 +40,8 @@ pub fn read_rules(memory: &Refusing<Global>, n: u64) -> Option<bool> {
     memory.refuse(n);
     let answer = read_program(memory, PROGRAM.as_bytes(), &mut names);
     let refused = is_refused(memory, matches!(answer, Err(ReadError::Memory)))?;
-    if read_program(memory, PROGRAM.as_bytes(), &mut names)
-        .ok()?
-        .len()
-        != 2
-    {
-        return None;
-    }
-    Some(refused)
+    let rules = read_program(memory, PROGRAM.as_bytes(), &mut names).ok()?;
+    (rules.len() == 2).then_some(refused)
 }
 
 pub fn read_posts(memory: &Refusing<Global>, n: u64) -> Option<bool> {
@@ -64,8 +49,6 @@ pub fn read_posts(memory: &Refusing<Global>, n: u64) -> Option<bool> {
     memory.refuse(n);
     let answer = read_atoms(memory, POSTS.as_bytes(), &mut names);
     let refused = is_refused(memory, matches!(answer, Err(ReadError::Memory)))?;
-    if read_atoms(memory, POSTS.as_bytes(), &mut names).ok()?.len() != 3 {
-        return None;
-    }
-    Some(refused)
+    let atoms = read_atoms(memory, POSTS.as_bytes(), &mut names).ok()?;
+    (atoms.len() == 3).then_some(refused)
 }
