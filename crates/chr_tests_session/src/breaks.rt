@@ -1,5 +1,5 @@
 //! A session whose input is cut off, or whose reader or writer fails, at each of its bytes.
-use crate::serving::{end, texts};
+use crate::serving::{end, texts, written};
 use crate::talks::{GREATEST, RUN};
 use chr_session::commands::Ended;
 use chr_session::failing::{FailingSink, FailingSource};
@@ -34,14 +34,8 @@ fn input_cut_off(rt: HostRuntime) -> Result<(), Fail> {
             replies.extend_from_slice(b"fault E23 Cut\n")?;
         }
         let mut source = MemorySource::new(&input[..cut], 65_536);
-        let mut sink = MemorySink::new(rt.alloc(), 65_536);
-        let (ended, _) = end(rt.alloc(), GREATEST, &mut source, &mut sink);
-        assert_eq!(rt; ended, Ok(wanted), "cut off at {cut}");
-        assert_eq!(rt;
-            sink.bytes.as_slice(),
-            replies.as_slice(),
-            "cut off at {cut}"
-        );
+        let given = written(rt.alloc(), rt.alloc(), &mut source, 65_536);
+        assert_eq!(rt; given, (Ok(wanted), replies), "cut off at {cut}");
     }
     Ok(())
 }
@@ -49,16 +43,14 @@ fn input_cut_off(rt: HostRuntime) -> Result<(), Fail> {
 #[test]
 fn reader_fails(rt: HostRuntime) -> Result<(), Fail> {
     let (input, _) = texts(rt.alloc(), RUN.commands)?;
-    for given in 0..input.len() {
-        let (replies, _) = replies_within(rt.alloc(), given)?;
-        let mut source = FailingSource::new(MemorySource::new(&input, 1), given as u64);
-        let mut sink = MemorySink::new(rt.alloc(), 1);
-        let (ended, _) = end(rt.alloc(), GREATEST, &mut source, &mut sink);
-        assert_eq!(rt; ended, Err(ServeFault::Device), "after {given} bytes");
+    for read in 0..input.len() {
+        let (replies, _) = replies_within(rt.alloc(), read)?;
+        let mut source = FailingSource::new(MemorySource::new(&input, 1), read as u64);
+        let given = written(rt.alloc(), rt.alloc(), &mut source, 1);
         assert_eq!(rt;
-            sink.bytes.as_slice(),
-            replies.as_slice(),
-            "after {given} bytes"
+            given,
+            (Err(ServeFault::Device), replies),
+            "after {read} bytes"
         );
     }
     Ok(())
@@ -71,10 +63,10 @@ fn writer_fails(rt: HostRuntime) -> Result<(), Fail> {
         let mut source = MemorySource::new(&input, 1);
         let mut sink = FailingSink::new(MemorySink::new(rt.alloc(), 1), taken as u64);
         let (ended, _) = end(rt.alloc(), GREATEST, &mut source, &mut sink);
-        assert_eq!(rt; ended, Err(ServeFault::Device), "after {taken} bytes");
+        let given = (ended, sink.inner.bytes.as_slice());
         assert_eq!(rt;
-            sink.inner.bytes.as_slice(),
-            &replies[..taken],
+            given,
+            (Err(ServeFault::Device), &replies[..taken]),
             "after {taken} bytes"
         );
     }

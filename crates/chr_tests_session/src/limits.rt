@@ -1,8 +1,7 @@
 //! Lines and loads up to their limits, and past them.
-use crate::serving::end;
-use crate::talks::GREATEST;
+use crate::serving::written;
 use chr_session::commands::Ended;
-use chr_session::memory::{MemorySink, MemorySource};
+use chr_session::memory::MemorySource;
 use chr_session::streams::StreamSource;
 use std::alloc::{AllocError, Global};
 use std::io::Read;
@@ -11,7 +10,7 @@ use std::test::Fail;
 /// A text, a byte that follows it so many times, and what follows these; the replies, and how the session ends.
 type Row<'r> = (&'r [u8], u8, usize, &'r [u8], &'r [u8], Ended);
 
-const ROWS: [Row; 20] = [
+static ROWS: [Row; 20] = [
     (
         b"",
         b'x',
@@ -165,9 +164,8 @@ fn is_served(alloc: Global, row: &Row, input: &[u8], cut: usize) -> bool {
         return true;
     };
     let mut source = StreamSource::new(front.chain(back));
-    let mut sink = MemorySink::new(alloc, 65_536);
-    let (ended, _) = end(alloc, GREATEST, &mut source, &mut sink);
-    ended == Ok(wanted) && sink.bytes.as_slice() == replies
+    let (ended, given) = written(alloc, alloc, &mut source, 65_536);
+    ended == Ok(wanted) && given.as_slice() == replies
 }
 
 #[test]
@@ -177,12 +175,11 @@ fn lines_and_loads(rt: HostRuntime) -> Result<(), Fail> {
         let input = input(rt.alloc(), row)?;
         for piece in [1, 65_536] {
             let mut source = MemorySource::new(&input, piece);
-            let mut sink = MemorySink::new(rt.alloc(), piece);
-            let (ended, _) = end(rt.alloc(), GREATEST, &mut source, &mut sink);
-            assert_eq!(rt; ended, Ok(wanted), "row {i} in pieces of {piece}");
+            let (ended, given) = written(rt.alloc(), rt.alloc(), &mut source, piece);
+            let given = (ended, given.as_slice());
             assert_eq!(rt;
-                sink.bytes.as_slice(),
-                replies,
+                given,
+                (Ok(wanted), replies),
                 "row {i} in pieces of {piece}"
             );
         }

@@ -43,7 +43,7 @@ fn worked_sessions(rt: HostRuntime) -> Result<(), Fail> {
 }
 
 /// Inputs that end inside a command.
-const CUTS: [&[u8]; 16] = [
+static CUTS: [&[u8]; 16] = [
     b"q",
     b"quit",
     b"quit\r",

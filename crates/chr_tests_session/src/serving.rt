@@ -1,6 +1,8 @@
 //! Sessions over memory.
+use crate::talks::GREATEST;
 use chr_session::commands::Ended;
 use chr_session::devices::{Sink, Source};
+use chr_session::memory::MemorySink;
 use chr_session::session::{ServeFault, serve};
 use chr_solo_desk::solo_desk::SoloDesk;
 use std::alloc::{AllocError, Allocator, Global};
@@ -29,4 +31,16 @@ pub fn end<A: Allocator + Copy, S: Source, W: Sink>(
     let mut desk = SoloDesk::new(alloc, u64::from(limit));
     let ended = serve(alloc, source, sink, &mut desk);
     (ended, desk.book().is_some())
+}
+
+/// Serves a session without a limit, whose replies are taken in pieces of this size. How it ended, and its replies.
+pub fn written<A: Allocator + Copy, S: Source>(
+    alloc: A,
+    texts: Global,
+    source: &mut S,
+    piece: usize,
+) -> (Result<Ended, ServeFault>, Vec<u8, Global>) {
+    let mut sink = MemorySink::new(texts, piece);
+    let (ended, _) = end(alloc, GREATEST, source, &mut sink);
+    (ended, sink.bytes)
 }

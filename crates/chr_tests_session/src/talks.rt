@@ -4,6 +4,17 @@ use chr_session::commands::Ended;
 /// The greatest label limit.
 pub const GREATEST: u32 = 4_294_967_295;
 
+/// The command that loads two rules.
+pub const LOAD: &[u8] =
+    b"load 75\ngcd(0) <=> true.\ngcd(N) \\ gcd(M) <=> 0 < N, N =< M | L is M mod N, gcd(L).\n";
+
+/// The replies to what is no command, to what needs a program, and to a load where one stands.
+const UNKNOWN: &[u8] = b"fault E21 UnknownCommand\n";
+
+const NO_PROGRAM: &[u8] = b"fault E24 NoProgram\n";
+
+const LOADED: &[u8] = b"fault E20 AlreadyLoaded\n";
+
 /// A session.
 #[derive(Clone, Copy, Debug)]
 pub struct Talk<'t> {
@@ -19,15 +30,20 @@ pub struct Talk<'t> {
     pub stands: bool,
 }
 
+/// A session without a limit, whose input ends while a program stands.
+const OPEN: Talk = Talk {
+    name: "",
+    limit: GREATEST,
+    commands: &[],
+    ended: Ended::End,
+    stands: true,
+};
+
 /// A run to its end.
 pub const RUN: Talk = Talk {
     name: "a run",
-    limit: GREATEST,
     commands: &[
-        (
-            b"load 75\ngcd(0) <=> true.\ngcd(N) \\ gcd(M) <=> 0 < N, N =< M | L is M mod N, gcd(L).\n",
-            b"loaded 2\n",
-        ),
+        (LOAD, b"loaded 2\n"),
         (b"post gcd(9), gcd(6).\r\n", b"posted 1 2\n"),
         (b"wait 1000\n", b"quiet\n"),
         (b"store\r\n", b"store 1\n#3 gcd(3)\n"),
@@ -35,14 +51,13 @@ pub const RUN: Talk = Talk {
         (b"quit\n", b"bye\n"),
     ],
     ended: Ended::Quit,
-    stands: true,
+    ..OPEN
 };
 
 pub const TALKS: [Talk; 12] = [
     RUN,
     Talk {
         name: "a load with a fault, and a run in parts",
-        limit: GREATEST,
         commands: &[
             (b"load 9\na ==> b.\n", b"fault E05 Propagation 1\n"),
             (b"load 9\na <=> b.\n", b"loaded 1\n"),
@@ -53,51 +68,42 @@ pub const TALKS: [Talk; 12] = [
             (b"store\n", b"store 1\n#2 b\n"),
             (b"log 3\n", b"log 3\nF 1 1 \\1\nA 2 2\nD 2\n"),
         ],
-        ended: Ended::End,
-        stands: true,
+        ..OPEN
     },
     Talk {
         name: "no program stands",
-        limit: GREATEST,
         commands: &[
-            (b"post a.\n", b"fault E24 NoProgram\n"),
-            (b"post p(X).\n", b"fault E24 NoProgram\n"),
-            (b"post\n", b"fault E24 NoProgram\n"),
-            (b"wait 1\n", b"fault E24 NoProgram\n"),
-            (b"store\n", b"fault E24 NoProgram\n"),
-            (b"log 1\n", b"fault E24 NoProgram\n"),
-            (b"wait\n", b"fault E21 UnknownCommand\n"),
-            (b"store a\n", b"fault E21 UnknownCommand\n"),
-            (b"log 0\n", b"fault E21 UnknownCommand\n"),
-            (b"wait 99999999999\n", b"fault E21 UnknownCommand\n"),
-            (b"load 4294967296\n", b"fault E21 UnknownCommand\n"),
+            (b"post a.\n", NO_PROGRAM),
+            (b"post p(X).\n", NO_PROGRAM),
+            (b"post\n", NO_PROGRAM),
+            (b"wait 1\n", NO_PROGRAM),
+            (b"store\n", NO_PROGRAM),
+            (b"log 1\n", NO_PROGRAM),
+            (b"wait\n", UNKNOWN),
+            (b"store a\n", UNKNOWN),
+            (b"log 0\n", UNKNOWN),
+            (b"wait 99999999999\n", UNKNOWN),
+            (b"load 4294967296\n", UNKNOWN),
             (b"\n", b""),
             (b"load 9\na ==> b.\n", b"fault E05 Propagation 1\n"),
-            (b"store\n", b"fault E24 NoProgram\n"),
+            (b"store\n", NO_PROGRAM),
         ],
-        ended: Ended::End,
         stands: false,
+        ..OPEN
     },
     Talk {
         name: "a program stands",
-        limit: GREATEST,
         commands: &[
-            (
-                b"load 75\ngcd(0) <=> true.\ngcd(N) \\ gcd(M) <=> 0 < N, N =< M | L is M mod N, gcd(L).\n",
-                b"loaded 2\n",
-            ),
-            (
-                b"load 75\ngcd(0) <=> true.\ngcd(N) \\ gcd(M) <=> 0 < N, N =< M | L is M mod N, gcd(L).\n",
-                b"fault E20 AlreadyLoaded\n",
-            ),
-            (b"load 9\na ==> b.\n", b"fault E20 AlreadyLoaded\n"),
-            (b"load 0\n", b"fault E20 AlreadyLoaded\n"),
-            (b"load\n", b"fault E21 UnknownCommand\n"),
-            (b"load 2 2\n", b"fault E21 UnknownCommand\n"),
-            (b"load a\n", b"fault E21 UnknownCommand\n"),
-            (b"load 4294967296\n", b"fault E21 UnknownCommand\n"),
-            (b"log 0\n", b"fault E21 UnknownCommand\n"),
-            (b"wait 99999999999\n", b"fault E21 UnknownCommand\n"),
+            (LOAD, b"loaded 2\n"),
+            (LOAD, LOADED),
+            (b"load 9\na ==> b.\n", LOADED),
+            (b"load 0\n", LOADED),
+            (b"load\n", UNKNOWN),
+            (b"load 2 2\n", UNKNOWN),
+            (b"load a\n", UNKNOWN),
+            (b"load 4294967296\n", UNKNOWN),
+            (b"log 0\n", UNKNOWN),
+            (b"wait 99999999999\n", UNKNOWN),
             (b"post p(X).\n", b"fault E08 Binding 1\n"),
             (b"wait 0\n", b"quiet\n"),
             (b"post gcd(4).\n", b"posted 1 1\n"),
@@ -108,12 +114,10 @@ pub const TALKS: [Talk; 12] = [
             (b"wait 2\n", b"quiet\n"),
             (b"log 3\n", b"log 1\nD 1\n"),
         ],
-        ended: Ended::End,
-        stands: true,
+        ..OPEN
     },
     Talk {
         name: "programs with faults",
-        limit: GREATEST,
         commands: &[
             (b"load 14\np <=> true.\n\xff\n", b"fault E03 BadByte 2\n"),
             (b"load 13\np(X) <=> q(X)", b"fault E04 Syntax 1\n"),
@@ -129,12 +133,10 @@ pub const TALKS: [Talk; 12] = [
             ),
             (b"load 0\n", b"loaded 0\n"),
         ],
-        ended: Ended::End,
-        stands: true,
+        ..OPEN
     },
     Talk {
         name: "posts, with faults and without",
-        limit: GREATEST,
         commands: &[
             (b"load 0\n", b"loaded 0\n"),
             (b"post \xff\n", b"fault E03 BadByte 1\n"),
@@ -162,8 +164,7 @@ pub const TALKS: [Talk; 12] = [
             (b"store\n", b"store 4\n#1 a\n#2 b(2)\n#3 c\n#4 d(-1,e)\n"),
             (b"log 9\n", b"log 4\nA 3 3\nD 3\nA 4 4\nD 4\n"),
         ],
-        ended: Ended::End,
-        stands: true,
+        ..OPEN
     },
     Talk {
         name: "the least label limit",
@@ -175,8 +176,7 @@ pub const TALKS: [Talk; 12] = [
             (b"wait 7\n", b"open\n"),
             (b"log 1\n", b"log 1\nP 1 a\n"),
         ],
-        ended: Ended::End,
-        stands: true,
+        ..OPEN
     },
     Talk {
         name: "labels are spent",
@@ -189,12 +189,10 @@ pub const TALKS: [Talk; 12] = [
             (b"log 10\n", b"log 1\nD 3\n"),
             (b"wait 1000000\n", b"open\n"),
         ],
-        ended: Ended::End,
-        stands: true,
+        ..OPEN
     },
     Talk {
         name: "blanks, tabs and line ends",
-        limit: GREATEST,
         commands: &[
             (b"\n\r\n \n\t\r\n \t \t\r\n", b""),
             (b"\t load \t 9 \t\r\na <=> b.\n", b"loaded 1\n"),
@@ -211,66 +209,64 @@ pub const TALKS: [Talk; 12] = [
                 b" \tstore\t \r\n",
                 b"store 6\n#4 b\n#6 b\n#7 b\n#8 b\n#9 b\n#10 b\n",
             ),
-            (b"\r\r\n", b"fault E21 UnknownCommand\n"),
-            (b"\rwait 0\n", b"fault E21 UnknownCommand\n"),
-            (b"wa\rit 0\n", b"fault E21 UnknownCommand\n"),
-            (b"wait\r0\n", b"fault E21 UnknownCommand\n"),
-            (b"wait 0\r\r\n", b"fault E21 UnknownCommand\n"),
-            (b"wait 0\r \n", b"fault E21 UnknownCommand\n"),
+            (b"\r\r\n", UNKNOWN),
+            (b"\rwait 0\n", UNKNOWN),
+            (b"wa\rit 0\n", UNKNOWN),
+            (b"wait\r0\n", UNKNOWN),
+            (b"wait 0\r\r\n", UNKNOWN),
+            (b"wait 0\r \n", UNKNOWN),
             (b"\t quit \t\r\nstore\n", b"bye\n"),
         ],
         ended: Ended::Quit,
-        stands: true,
+        ..OPEN
     },
     Talk {
         name: "words and numbers",
-        limit: GREATEST,
         commands: &[
             (b"load 0000000000\n", b"loaded 0\n"),
-            (b"hello\n", b"fault E21 UnknownCommand\n"),
-            (b"Store\n", b"fault E21 UnknownCommand\n"),
-            (b"stores\n", b"fault E21 UnknownCommand\n"),
-            (b"stor\n", b"fault E21 UnknownCommand\n"),
-            (b"store 1\n", b"fault E21 UnknownCommand\n"),
-            (b"postp.\n", b"fault E21 UnknownCommand\n"),
-            (b"wait\n", b"fault E21 UnknownCommand\n"),
-            (b"wait0\n", b"fault E21 UnknownCommand\n"),
-            (b"wait 0 0\n", b"fault E21 UnknownCommand\n"),
-            (b"wait +1\n", b"fault E21 UnknownCommand\n"),
-            (b"wait -1\n", b"fault E21 UnknownCommand\n"),
-            (b"wait 1.\n", b"fault E21 UnknownCommand\n"),
-            (b"wait a\n", b"fault E21 UnknownCommand\n"),
-            (b"wait 00000000001\n", b"fault E21 UnknownCommand\n"),
-            (b"wait 4294967296\n", b"fault E21 UnknownCommand\n"),
-            (b"wait 9999999999\n", b"fault E21 UnknownCommand\n"),
+            (b"hello\n", UNKNOWN),
+            (b"Store\n", UNKNOWN),
+            (b"stores\n", UNKNOWN),
+            (b"stor\n", UNKNOWN),
+            (b"store 1\n", UNKNOWN),
+            (b"postp.\n", UNKNOWN),
+            (b"wait\n", UNKNOWN),
+            (b"wait0\n", UNKNOWN),
+            (b"wait 0 0\n", UNKNOWN),
+            (b"wait +1\n", UNKNOWN),
+            (b"wait -1\n", UNKNOWN),
+            (b"wait 1.\n", UNKNOWN),
+            (b"wait a\n", UNKNOWN),
+            (b"wait 00000000001\n", UNKNOWN),
+            (b"wait 4294967296\n", UNKNOWN),
+            (b"wait 9999999999\n", UNKNOWN),
             (b"wait 4294967295\n", b"quiet\n"),
             (b"wait 0000000001\n", b"quiet\n"),
-            (b"log\n", b"fault E21 UnknownCommand\n"),
-            (b"log 0000000000\n", b"fault E21 UnknownCommand\n"),
-            (b"log 1 2\n", b"fault E21 UnknownCommand\n"),
-            (b"log 4294967296\n", b"fault E21 UnknownCommand\n"),
+            (b"log\n", UNKNOWN),
+            (b"log 0000000000\n", UNKNOWN),
+            (b"log 1 2\n", UNKNOWN),
+            (b"log 4294967296\n", UNKNOWN),
             (b"log 0000000001\n", b"log 0\n"),
-            (b"quit now\n", b"fault E21 UnknownCommand\n"),
+            (b"quit now\n", UNKNOWN),
             (b"quit\n", b"bye\n"),
         ],
         ended: Ended::Quit,
-        stands: true,
+        ..OPEN
     },
     Talk {
         name: "a load that is cut",
-        limit: GREATEST,
         commands: &[(b"load 40\n0123456789", b"fault E23 Cut\n")],
         ended: Ended::Cut,
         stands: false,
+        ..OPEN
     },
     Talk {
         name: "a second load that is cut",
-        limit: GREATEST,
         commands: &[
             (b"load 0\n", b"loaded 0\n"),
             (b"load 65537\na", b"fault E23 Cut\n"),
         ],
         ended: Ended::Cut,
-        stands: true,
+        ..OPEN
     },
 ];
