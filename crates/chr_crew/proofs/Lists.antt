@@ -1,7 +1,7 @@
 -- Lists, place by place.
-use Rattle.std.proofs.Common.{◌≡◌, ℕ, ◌<◌, ◌≤◌, ◌+◌, List, [], ◌∷◌, ◌++◌, suc, length, get_or, map, arith, ap, ◌∙◌, sym, refl, subst, below_more}
+use Rattle.std.proofs.Common.{◌≡◌, ℕ, ◌<◌, ◌≤◌, ◌+◌, List, [], ◌∷◌, ◌++◌, suc, length, get_or, map, arith, ap, ◌∙◌, sym, refl, subst}
 use Rattle.std.proofs.Math.ListN.{get_or-append, get_or-map}
-use Rattle.std.proofs.Math.Seq.{get_or-append_seam, take-append_seam}
+use Rattle.std.proofs.Math.Seq.{take-append_seam}
 use Rattle.std.specs.Prelude.{take}
 use Rattle.std.proofs.lemmas.List.{length-map}
 use Rattle.chr_log.specs.Events.{Entry}
@@ -16,13 +16,6 @@ same_map f (x ∷ xs) (y ∷ ys) len each =
     let first : f y ≡ f x = each 0 x (omega arith) in
     let rest : map f ys ≡ map f xs = same_map f xs ys (omega (arith, len)) (λ k d below. each (suc k) d (omega (arith, below))) in
     λ i. first i ∷ rest i
-
--- what holds of the elements so far, and of one that is pushed, holds of all
-pub pushed : {X : Type 0} (P : ℕ → X → Type 0) (xs ys : List X) (x d : X) (n : ℕ) → length xs ≡ n → ys ≡ xs ++ x ∷ [] → P n x → ((k : ℕ) → k < n → P k (get_or xs k d)) → (k : ℕ) → k < n + 1 → P k (get_or ys k d)
-pushed P xs ys x d n len is last each k below =
-    let old : (j : ℕ) → j < n → P j (get_or ys j d) = λ j low. subst (λ zs. P j (get_or zs j d)) (sym is) (subst (P j) (sym (get_or-append xs (x ∷ []) d j (omega (arith, len, low)))) (each j low)) in
-    let new : P n (get_or ys n d) = subst (λ zs. P n (get_or zs n d)) (sym is) (subst (λ m. P n (get_or (xs ++ x ∷ []) m d)) len (subst (P n) (sym (get_or-append_seam xs x [] d)) last)) in
-    below_more (λ j. P j (get_or ys j d)) n old new k below
 
 -- those that have the first of sixteen seats have the numbers from 1 on
 pub numbers_of : {X : Type 0} (f : X → SeatState) (log : List (Entry ℕ)) (xs : List X) (left seats : List SeatState) → map f xs ++ left ≡ seats → AreSeats log 0 seats → length xs ≤ 16 → (k : ℕ) (d : X) → k < length xs → (f (get_or xs k d)).number ≡ k + 1

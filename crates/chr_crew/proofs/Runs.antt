@@ -1,7 +1,6 @@
 -- Books that a crew has worked on.
-use Rattle.std.proofs.Common.{ℕ, [], ◌++◌, sym, ◌∙◌, ap, refl}
+use Rattle.std.proofs.Common.{ℕ, ◌++◌, ◌∙◌, ap}
 use Rattle.std.specs.Prelude.{Result, Ok, Err, IfOk, IfErr}
-use Rattle.std.proofs.lemmas.List.{append-nil}
 use Rattle.chr_calls.specs.Books.{BookState}
 use Rattle.chr_book.specs.declared.shot.Shot.{Shot}
 use Rattle.chr_book.specs.Shots.{IsShotOf, Continues}
@@ -15,10 +14,6 @@ worked_on b n shot workers is continues = record {
   log = continues.log ∙ ap (λ es. es ++ continues.more) is.log;
   work = continues.work;
 }
-
--- and a book is one that nobody has worked on
-pub not_worked_on : (b : BookState) (workers : ℕ) → IsWorkedOn workers b b
-not_worked_on b workers = record { rules = refl; more = []; log = sym (append-nil b.log); work = tt }
 
 -- what follows from what is said of an answer
 pub ok_then : {X E : Type 0} (P Q : X → Type 0) (r : Result X E) → IfOk r P → ((x : X) → P x → Q x) → IfOk r Q

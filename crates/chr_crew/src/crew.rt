@@ -74,10 +74,16 @@ pub struct CrewFault<A: Allocator> {
 /// All that a run takes of memory before its workers start, besides the seats.
 #[derive(Drop)]
 struct Room<L1: PostLedger, L2: Ledger, A: Allocator> {
+    lists: Lists<L1, L2, A>,
     before: Shot<A>,
     tickets: Vec<u64, A>,
     hands: Vec<Hand<u64>>,
     inlets: Vec<Inlet<u64>>,
+}
+
+/// Room for what workers are joined of, and for what is left of them.
+#[derive(Drop)]
+struct Lists<L1: PostLedger, L2: Ledger, A: Allocator> {
     workers: Vec<Worker<L1, L2>, A>,
     counts: Vec<Counts, A>,
     back: Vec<Hand<u64>>,
@@ -96,6 +102,23 @@ fn free_tickets<A: Allocator + Copy>(alloc: A, book: &Book<A>) -> Result<Vec<u64
     Ok(tickets)
 }
 
+/// Empty lists with room for `n` workers. An `Err` is E01.
+fn make_lists<L1: PostLedger, L2: Ledger, A: Allocator + Copy>(
+    alloc: A,
+    pool: Global,
+    n: usize,
+) -> Result<Lists<L1, L2, A>, AllocError>
+    ensures workers { IfOk result (λ r. (vec_len r.workers ≡ 0) × (n ≤ vec_capacity r.workers)) }
+    ensures counts { IfOk result (λ r. (vec_len r.counts ≡ 0) × (n ≤ vec_capacity r.counts)) }
+    ensures back { IfOk result (λ r. (vec_len r.back ≡ 0) × (n ≤ vec_capacity r.back)) }
+{
+    Ok(Lists {
+        workers: Vec::with_capacity(alloc, n)?,
+        counts: Vec::with_capacity(alloc, n)?,
+        back: Vec::with_capacity(pool, n)?,
+    })
+}
+
 /// Makes room for a run of `n` workers. An `Err` is E01.
 fn make_room<L1: PostLedger, L2: Ledger, A: Allocator + Copy>(
     alloc: A,
@@ -107,21 +130,20 @@ fn make_room<L1: PostLedger, L2: Ledger, A: Allocator + Copy>(
     ensures shot { IfOk result (λ r. IsShotOf book.now r.before) }
     ensures pool { IfOk result (λ r. OfOneMake (map hand_id r.hands.items) (map inlet_id r.inlets.items)) }
     ensures hands { IfOk result (λ r. length r.hands.items ≡ n) }
-    ensures workers { IfOk result (λ r. (vec_len r.workers ≡ 0) × (n ≤ vec_capacity r.workers)) }
-    ensures counts { IfOk result (λ r. (vec_len r.counts ≡ 0) × (n ≤ vec_capacity r.counts)) }
-    ensures back { IfOk result (λ r. (vec_len r.back ≡ 0) × (n ≤ vec_capacity r.back)) }
+    ensures workers { IfOk result (λ r. (vec_len r.lists.workers ≡ 0) × (n ≤ vec_capacity r.lists.workers)) }
+    ensures counts { IfOk result (λ r. (vec_len r.lists.counts ≡ 0) × (n ≤ vec_capacity r.lists.counts)) }
+    ensures back { IfOk result (λ r. (vec_len r.lists.back ≡ 0) × (n ≤ vec_capacity r.lists.back)) }
 {
+    let lists = make_lists(alloc, pool, n)?;
     let before = book.shot()?;
     let tickets = free_tickets(alloc, book)?;
     let (hands, inlets) = make(pool, n, 1, CAPACITY)?;
     Ok(Room {
+        lists,
         before,
         tickets,
         hands,
         inlets,
-        workers: Vec::with_capacity(alloc, n)?,
-        counts: Vec::with_capacity(alloc, n)?,
-        back: Vec::with_capacity(pool, n)?,
     })
 }
 
@@ -130,7 +152,7 @@ fn deal<L1: PostLedger, L2: Ledger, A: Allocator + Copy, R: Wait>(
     rt: &R,
     shared: &Shared<L1, L2, A>,
     hands: &mut Vec<Hand<u64>>,
-    tickets: &[u64],
+    tickets: Vec<u64, A>,
 )
     requires { 0 < length hands.old.items }
     ensures same { map hand_id hands.new.items ≡ map hand_id hands.old.items }
@@ -167,24 +189,11 @@ fn counted<L1: PostLedger, L2: Ledger, A: Allocator + Copy>(
     Some(counts)
 }
 
-fn no_memory<A: Allocator>(book: Book<A>) -> CrewFault<A>
-    ensures cause { result.cause ≡ Cause.NoMemory }
+fn given_up<A: Allocator>(cause: Cause, book: Book<A>) -> CrewFault<A>
+    ensures cause { result.cause ≡ cause }
     ensures book { result.book ≡ book }
 {
-    CrewFault {
-        cause: Cause::NoMemory,
-        book,
-    }
-}
-
-fn wrong_seat<A: Allocator>(book: Book<A>) -> CrewFault<A>
-    ensures cause { result.cause ≡ Cause.WrongSeat }
-    ensures book { result.book ≡ book }
-{
-    CrewFault {
-        cause: Cause::WrongSeat,
-        book,
-    }
+    CrewFault { cause, book }
 }
 
 /// Has the workers work. Returns the book, and the counts of their seats, if they are those under the lock.
@@ -250,7 +259,7 @@ fn finish<A: Allocator + Copy, R: Wait>(
     ensures back { IfErr result (λ e. (e.cause ≡ NoMemory) × (e.book ≡ book)) }
 {
     let Ok(tally) = gather(rt, pool, hands, inlets) else {
-        return Err(no_memory(book));
+        return Err(given_up(Cause::NoMemory, book));
     };
     let end = end_of(&book);
     Ok(Finished {
@@ -298,29 +307,34 @@ pub fn run_crew<
     ensures memory { IfErr result (λ e. e.cause ≡ NoMemory → IsWorkedOn n book e.book) }
 {
     let Ok(room) = make_room(alloc, pool, &book, n) else {
-        return Err(no_memory(book));
+        return Err(given_up(Cause::NoMemory, book));
+    };
+    let (shared, seats) = match Shared::<L1, L2, A>::with(alloc, book, posts, others) {
+        Ok(made) => made,
+        Err(book) => return Err(given_up(Cause::NoMemory, book)),
     };
     let Room {
+        lists,
         before,
         tickets,
         mut hands,
         inlets,
-        workers,
-        counts,
-        back,
     } = room;
-    let (shared, seats) = match Shared::<L1, L2, A>::with(alloc, book, posts, others) {
-        Ok(made) => made,
-        Err(book) => return Err(no_memory(book)),
-    };
-    deal(rt, &shared, &mut hands, tickets.as_slice());
-    let mut workers = join_all(hands, seats.workers, workers);
-    let (book, counts) = worked(rt, shared, workers.as_mut_slice(), gate, turns, counts);
-    let hands = hands_of(workers, back);
+    deal(rt, &shared, &mut hands, tickets);
+    let mut workers = join_all(hands, seats.workers, lists.workers);
+    let (book, counts) = worked(
+        rt,
+        shared,
+        workers.as_mut_slice(),
+        gate,
+        turns,
+        lists.counts,
+    );
+    let hands = hands_of(workers, lists.back);
     match counts {
         Some(counts) if book.continues(&before, n as u32) => {
             finish(rt, pool, book, counts, hands, inlets)
         }
-        _ => Err(wrong_seat(book)),
+        _ => Err(given_up(Cause::WrongSeat, book)),
     }
 }

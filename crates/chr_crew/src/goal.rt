@@ -17,7 +17,7 @@ use std::sync::Wait;
 use std::sync::ledger::Ledger;
 
 /// How a worker left a ticket.
-#[derive(Clone, Copy, Debug, PartialEq, Eq)]
+#[derive(Clone, Copy, PartialEq, Eq)]
 pub enum Left {
     /// Its goal has ended, or another seat has it: the worker is free to take another.
     Free,
@@ -32,9 +32,11 @@ pub enum Left {
 /// Judgements of the trials of a batch, in order.
 type Judgements<A> = Vec<Judged<A>, A>;
 
-/// A call that comes next for a goal that the seat holds.
+/// A call that comes next for a ticket.
 #[derive(Drop)]
 enum Call<A: Allocator> {
+    /// Claims the ticket.
+    Claim,
     /// Asks for the next trials.
     Batch,
     /// Reports judgements of these.
@@ -92,14 +94,67 @@ fn fire_or_report<A: Allocator + Copy>(judgements: Judgements<A>) -> Call<A> {
     }
 }
 
-/// Fires the last judgement where it is whole and its trial comes next; else asks for the next trials.
-fn fire_or_ask<A: Allocator + Copy>(next: &Trial<A>, judgements: Judgements<A>) -> Call<A> {
-    let mut judgements = judgements;
-    match judgements.pop() {
-        Some(judged) if judged.verdict() == Verdict::Whole && judged.trial().same(next) => {
-            Call::Fire(judged)
+/// Whether two trials have the same rule and head, and the same labels but the last.
+fn are_beside<A: Allocator + Copy>(trial: &Trial<A>, other: &Trial<A>) -> bool {
+    if trial.number() != other.number() || trial.head() != other.head() {
+        return false;
+    }
+    let (placed, others) = (trial.placed(), other.placed());
+    if placed.len() != others.len() {
+        return false;
+    }
+    for i in 1..placed.len() {
+        if placed[i - 1].label != others[i - 1].label {
+            return false;
         }
-        _ => Call::Batch,
+    }
+    true
+}
+
+/// Fires the last judgement where it is whole and its trial comes next. Where the next trial is beside the last one, more
+/// may be beside it, so it asks for them; else it judges that trial alone.
+fn go_on<A: Allocator + Copy, G: Gate>(
+    gate: &G,
+    ticket: u64,
+    next: Trial<A>,
+    judgements: Judgements<A>,
+) -> Result<Call<A>, Left> {
+    let mut judgements = judgements;
+    let Some(last) = judgements.pop() else {
+        return Ok(Call::Batch);
+    };
+    if last.verdict() == Verdict::Whole && last.trial().same(&next) {
+        return Ok(Call::Fire(last));
+    }
+    if are_beside(&next, last.trial()) {
+        return Ok(Call::Batch);
+    }
+    gate.before_judging(ticket);
+    judgements.clear();
+    let Ok(()) = judgements.push(judge(next)) else {
+        return Err(Left::Want);
+    };
+    Ok(fire_or_report(judgements))
+}
+
+/// Claims the ticket. Where memory or labels run out, it is marked stray.
+fn claim<L1: PostLedger, L2: Ledger, A: Allocator + Copy, R: Wait>(
+    rt: &R,
+    shared: &Shared<L1, L2, A>,
+    seat: &mut Seat<L1, L2>,
+    ticket: u64,
+) -> Result<Call<A>, Left>
+    ensures number { seat.new.number ≡ seat.old.number }
+    ensures posts { seat.new.counts.posts ≡ seat.old.counts.posts }
+{
+    match shared.claim(rt, seat, ticket) {
+        Ok(Ok(_)) => Ok(Call::Batch),
+        Ok(Err(ClaimFault::NotWaiting(_))) => Err(Left::Free),
+        Ok(Err(ClaimFault::LabelsSpent | ClaimFault::NoMemory)) => {
+            let _ = shared.mark_stray(rt, ticket);
+            Err(Left::Want)
+        }
+        Err(fault) => Err(left_by(fault)),
     }
 }
 
@@ -125,11 +180,12 @@ fn ask<L1: PostLedger, L2: Ledger, A: Allocator + Copy, R: Wait, G: Gate>(
     }
 }
 
-/// Reports judgements.
-fn report<L1: PostLedger, L2: Ledger, A: Allocator + Copy, R: Wait>(
+/// Reports judgements, and judges the trial that comes next when the lock is given back.
+fn report<L1: PostLedger, L2: Ledger, A: Allocator + Copy, R: Wait, G: Gate>(
     rt: &R,
     shared: &Shared<L1, L2, A>,
     seat: &mut Seat<L1, L2>,
+    gate: &G,
     ticket: u64,
     judgements: Judgements<A>,
 ) -> Result<Call<A>, Left>
@@ -146,7 +202,7 @@ fn report<L1: PostLedger, L2: Ledger, A: Allocator + Copy, R: Wait>(
         Err(fault) => return Err(left_by(fault)),
     };
     match next {
-        Ok(Turn::Trial(next)) => Ok(fire_or_ask(&next, judgements)),
+        Ok(Turn::Trial(next)) => go_on(gate, ticket, next, judgements),
         Ok(Turn::Done | Turn::Gone) => Ok(Call::Drop),
         Err(fault) => Err(left_without_turn(fault)),
     }
@@ -167,7 +223,9 @@ fn push_new<L1: PostLedger, L2: Ledger, A: Allocator + Copy, R: Wait>(
             let _ = shared.mark_stray(rt, ticket);
         }
     }
-    if fired.count > 0 {
+    // Where its own goal has ended, the worker takes the next of these itself.
+    let taken = usize::from(!fired.active_lives);
+    if fired.count > taken {
         shared.announce(rt);
     }
 }
@@ -235,8 +293,9 @@ fn make<L1: PostLedger, L2: Ledger, A: Allocator + Copy, R: Wait, G: Gate>(
     ensures posts { seat.new.counts.posts ≡ seat.old.counts.posts }
 {
     match call {
+        Call::Claim => claim(rt, shared, seat, ticket),
         Call::Batch => ask(rt, shared, seat, gate, ticket),
-        Call::Report(judgements) => report(rt, shared, seat, ticket, judgements),
+        Call::Report(judgements) => report(rt, shared, seat, gate, ticket, judgements),
         Call::Fire(judged) => fire(rt, shared, hand, seat, ticket, &judged),
         Call::Drop => drop_goal(rt, shared, seat, ticket),
     }
@@ -271,34 +330,6 @@ fn spend(stop: &mut Stop) -> bool {
     }
 }
 
-/// Works on the goal of a ticket that the seat holds.
-fn work_on_goal<L1: PostLedger, L2: Ledger, A: Allocator + Copy, R: Wait, G: Gate>(
-    rt: &R,
-    shared: &Shared<L1, L2, A>,
-    hand: &mut Hand<u64>,
-    seat: &mut Seat<L1, L2>,
-    gate: &G,
-    stop: &mut Stop,
-    ticket: u64,
-) -> Left
-    ensures hand { hand_id hand.new ≡ hand_id hand.old }
-    ensures number { seat.new.number ≡ seat.old.number }
-    ensures posts { seat.new.counts.posts ≡ seat.old.counts.posts }
-{
-    let mut call = Call::Batch;
-    for _ in rt.forever() {
-        if !spend(stop) {
-            return put_down(rt, shared, seat, ticket, Left::Spent);
-        }
-        match make(rt, shared, hand, seat, gate, ticket, call) {
-            Ok(next) => call = next,
-            Err(Left::Want) => return put_down(rt, shared, seat, ticket, Left::Want),
-            Err(left) => return left,
-        }
-    }
-    unreachable!()
-}
-
 /// Claims a ticket and works on its goal until it ends, or no turn is left, or memory or labels run out: then it is put
 /// down or marked stray. A ticket that another seat has, or that has ended, is left alone.
 pub fn work_on_ticket<L1: PostLedger, L2: Ledger, A: Allocator + Copy, R: Wait, G: Gate>(
@@ -314,14 +345,16 @@ pub fn work_on_ticket<L1: PostLedger, L2: Ledger, A: Allocator + Copy, R: Wait, 
     ensures number { seat.new.number ≡ seat.old.number }
     ensures posts { seat.new.counts.posts ≡ seat.old.counts.posts }
 {
-    spend(stop);
-    match shared.claim(rt, seat, ticket) {
-        Ok(Ok(_)) => work_on_goal(rt, shared, hand, seat, gate, stop, ticket),
-        Ok(Err(ClaimFault::NotWaiting(_))) => Left::Free,
-        Ok(Err(ClaimFault::LabelsSpent | ClaimFault::NoMemory)) => {
-            let _ = shared.mark_stray(rt, ticket);
-            Left::Want
+    let mut call = Call::Claim;
+    for _ in rt.forever() {
+        if !spend(stop) {
+            return put_down(rt, shared, seat, ticket, Left::Spent);
         }
-        Err(fault) => left_by(fault),
+        match make(rt, shared, hand, seat, gate, ticket, call) {
+            Ok(next) => call = next,
+            Err(Left::Want) => return put_down(rt, shared, seat, ticket, Left::Want),
+            Err(left) => return left,
+        }
     }
+    unreachable!()
 }

@@ -24,10 +24,6 @@ pub trait Call<A: Allocator + Copy, X> {
     /// Whether it adds posts.
     ghost posts: { Bool };
 
-    /// Whether it adds posts.
-    fn posts(&self) -> bool
-        ensures { result ≡ posts };
-
     /// Makes the call.
     fn make(self, book: &mut Book<A>, seat: u32) -> X
         ensures line { line self seat book.old result book.new }
@@ -45,10 +41,6 @@ impl<A: Allocator + Copy> Call<A, Result<Label, ClaimFault>> for Claim {
 
     ghost posts = { false };
 
-    fn posts(&self) -> bool {
-        false
-    }
-
     fn make(self, book: &mut Book<A>, seat: u32) -> Result<Label, ClaimFault> {
         book.claim(seat, self.ticket)
     }
@@ -64,10 +56,6 @@ impl<A: Allocator + Copy> Call<A, Result<Batch<A>, TurnFault>> for AskBatch {
     ghost line = { λ c seat b answer n. Batches b seat c.ticket (batch_of answer) n };
 
     ghost posts = { false };
-
-    fn posts(&self) -> bool {
-        false
-    }
 
     fn make(self, book: &mut Book<A>, seat: u32) -> Result<Batch<A>, TurnFault> {
         book.batch(seat, self.ticket)
@@ -86,10 +74,6 @@ impl<'a, A: Allocator + Copy> Call<A, BatchReport<A>> for ReportBatch<'a, A> {
 
     ghost posts = { false };
 
-    fn posts(&self) -> bool {
-        false
-    }
-
     fn make(self, book: &mut Book<A>, seat: u32) -> BatchReport<A> {
         book.report_batch(seat, self.ticket, self.judgements)
     }
@@ -107,10 +91,6 @@ impl<'a, A: Allocator + Copy> Call<A, Result<Firing, FireFault>> for Fire<'a, A>
 
     ghost posts = { false };
 
-    fn posts(&self) -> bool {
-        false
-    }
-
     fn make(self, book: &mut Book<A>, seat: u32) -> Result<Firing, FireFault> {
         book.fire(seat, self.ticket, self.judged)
     }
@@ -126,10 +106,6 @@ impl<A: Allocator + Copy> Call<A, Result<Dropping, DropFault>> for DropGoal {
     ghost line = { λ c seat b answer n. Drops b seat c.ticket answer n };
 
     ghost posts = { false };
-
-    fn posts(&self) -> bool {
-        false
-    }
 
     fn make(self, book: &mut Book<A>, seat: u32) -> Result<Dropping, DropFault> {
         book.drop_goal(seat, self.ticket)
@@ -147,10 +123,6 @@ impl<A: Allocator + Copy> Call<A, Result<(), PutDownFault>> for PutDown {
 
     ghost posts = { false };
 
-    fn posts(&self) -> bool {
-        false
-    }
-
     fn make(self, book: &mut Book<A>, seat: u32) -> Result<(), PutDownFault> {
         book.put_down(seat, self.ticket)
     }
@@ -166,10 +138,6 @@ impl<'a, A: Allocator + Copy> Call<A, Result<Posted, ReadError>> for PostText<'a
     ghost line = { λ c seat b answer n. PostsText b seat c.bytes.now answer n };
 
     ghost posts = { true };
-
-    fn posts(&self) -> bool {
-        true
-    }
 
     fn make(self, book: &mut Book<A>, seat: u32) -> Result<Posted, ReadError> {
         book.post_text(seat, self.bytes)

@@ -2,17 +2,15 @@
 ghost use Rattle.std.specs.Prelude.{◌≡◌, ◌↔◌, ◌+◌, ◌-◌, ◌^◌, ◌<◌, ◌++◌, ℕ, set, [], true, false, not, length, sum_by, vec_len, OnOk, OnErr, IfOk, IfErr, IsTrue, IsSome, Some, None, Err};
 ghost use Rattle.chr_seats.specs.Accounts.{log_of, made_upto, if_so, raised};
 ghost use Rattle.chr_seats.specs.Holds.{GoesOn, HasHeadline, HasRightCounts, IsHold, IsReading, MarksIn, TakesStrayIn};
-ghost use Rattle.chr_seats.specs.Readings.{SaysQuiet, SaysShot, SaysStore, SaysLog};
 
-use crate::answers::{HoldFault, Lines};
+use crate::answers::HoldFault;
 use crate::calls::Call;
 use crate::counts::Counts;
 use crate::seat::{PostLedger, Seat};
 use crate::seating::{merge_all, merged};
 use chr_book::book::Book;
-use chr_book::shot::Shot;
 use chr_calls::answers::{MarkFault, TicketState};
-use std::alloc::{AllocError, Allocator};
+use std::alloc::Allocator;
 use std::marker::Model;
 use std::sync::ledger;
 use std::sync::ledger::Ledger;
@@ -30,6 +28,10 @@ pub struct Kept<L1: PostLedger, L2: Ledger, A: Allocator> {
     pub(crate) news: u64,
     /// How many workers work, and don't sleep.
     pub(crate) awake: u32,
+    /// How many workers sleep.
+    pub(crate) resting: u32,
+    /// How many claims there were, modulo 2^64.
+    pub(crate) claims: u64,
 }
 
 impl<L1: PostLedger, L2: Ledger, A: Allocator> Model for Kept<L1, L2, A> {
@@ -46,13 +48,6 @@ impl<L1: PostLedger, L2: Ledger, A: Allocator> Model for Kept<L1, L2, A> {
     ghost view = { λ k. k.book };
 
     ghost invariant = { λ k. IsCounted (log_of k.book) k.counts k.posts.total k.others.total × (L1.loaded ≡ true → IsSome k.book) };
-}
-
-/// Whether two counts are equal.
-fn same(counts: &Counts, others: &Counts) -> bool
-    ensures { IsTrue result ↔ (counts.now ≡ others.now) }
-{
-    counts.posts == others.posts && counts.others == others.others
 }
 
 /// Makes a call by a seat, and counts the entries that it adds.
@@ -109,42 +104,13 @@ fn read_headline<A: Allocator + Copy>(book: &Book<A>)
     let _ = book.quiet();
 }
 
-/// The lines of a book's store. An `Err` is E01.
-fn store_lines<A: Allocator + Copy>(alloc: A, book: &Book<A>) -> Result<Lines<A>, AllocError>
-    ensures { SaysStore book.now result }
-{
-    let mut bytes = Vec::new(alloc);
-    book.store_lines(&mut bytes)?;
-    Ok(Lines {
-        count: book.store().len(),
-        bytes,
-    })
-}
-
-/// The lines of a book's log from an entry on. An `Err` is E01.
-fn log_lines<A: Allocator + Copy>(
-    alloc: A,
-    book: &Book<A>,
-    from: u64,
-) -> Result<Lines<A>, AllocError>
-    ensures { SaysLog from book.now result }
-{
-    let before = from.saturating_sub(1) as usize;
-    let mut bytes = Vec::new(alloc);
-    book.log_lines(&mut bytes, from)?;
-    Ok(Lines {
-        count: book.log().len().saturating_sub(before),
-        bytes,
-    })
-}
-
 impl<L1: PostLedger, L2: Ledger, A: Allocator + Copy> Kept<L1, L2, A> {
     /// Whether a seat's counts are those that are kept for its number, which are what it has made.
     pub fn knows(&self, seat: &Seat<L1, L2>) -> bool
         ensures { IsTrue result ↔ HasRightCounts self.now seat.now }
     {
-        let at = (seat.number - 1) as usize;
-        same(&self.counts[at], &seat.counts)
+        let counts = self.counts[(seat.number - 1) as usize];
+        counts.posts == seat.counts.posts && counts.others == seat.counts.others
     }
 
     /// The book, if one is there.
@@ -160,6 +126,8 @@ impl<L1: PostLedger, L2: Ledger, A: Allocator + Copy> Kept<L1, L2, A> {
             closed: _,
             news: _,
             awake: _,
+            resting: _,
+            claims: _,
         } = self;
         book
     }
@@ -196,12 +164,14 @@ impl<L1: PostLedger, L2: Ledger, A: Allocator + Copy> Kept<L1, L2, A> {
         Ok(())
     }
 
-    /// Makes a call by a seat. E26, and E24: then no call is made.
+    /// Makes a call by a seat, which adds posts or other entries. E26, and E24: then no call is made.
     pub(crate) fn hold<X, C: Call<A, X> + Drop>(
         &mut self,
         seat: &mut Seat<L1, L2>,
         call: C,
+        are_posts: bool,
     ) -> Result<X, HoldFault>
+        requires { are_posts ≡ C.posts }
         ensures hold { IsHold (λ b answer n. C.line call seat.old.number b answer n) self.old seat.old result self.new seat.new }
         ensures posts { C.posts ≡ false → seat.new.counts.posts ≡ seat.old.counts.posts }
         ensures others { C.posts ≡ true → seat.new.counts.others ≡ seat.old.counts.others }
@@ -213,7 +183,6 @@ impl<L1: PostLedger, L2: Ledger, A: Allocator + Copy> Kept<L1, L2, A> {
         let Some(book) = &mut self.book else {
             return Err(HoldFault::NoBook);
         };
-        let are_posts = call.posts();
         let (answer, more) = make(book, number, call);
         raise(
             &mut self.counts,
@@ -252,101 +221,40 @@ impl<L1: PostLedger, L2: Ledger, A: Allocator + Copy> Kept<L1, L2, A> {
         taken
     }
 
-    /// Whether no ticket is open.
-    pub(crate) fn quiet(&self, seat: &Seat<L1, L2>) -> Result<bool, HoldFault>
-        ensures { IsReading SaysQuiet self.now seat.now result }
+    /// The book, for a seat with the counts of what it has made. E26, and E24.
+    pub(crate) fn book_for(&self, seat: &Seat<L1, L2>) -> Result<&Book<A>, HoldFault>
+        ensures { IsReading (λ b book. book.now ≡ b) self.now seat.now result }
     {
         if !self.knows(seat) {
             return Err(HoldFault::WrongSeat);
         }
-        match &self.book {
-            Some(book) => Ok(book.quiet()),
-            None => Err(HoldFault::NoBook),
-        }
+        let Some(book) = &self.book else {
+            return Err(HoldFault::NoBook);
+        };
+        read_headline(book);
+        Ok(book)
     }
 
-    /// A shot of the book.
-    pub(crate) fn shot(&self, seat: &Seat<L1, L2>) -> Result<Result<Shot<A>, AllocError>, HoldFault>
-        ensures { IsReading SaysShot self.now seat.now result }
-    {
-        if !self.knows(seat) {
-            return Err(HoldFault::WrongSeat);
-        }
-        match &self.book {
-            Some(book) => {
-                read_headline(book);
-                Ok(book.shot())
-            }
-            None => Err(HoldFault::NoBook),
-        }
-    }
-
-    /// The lines of the store.
-    pub(crate) fn store_lines(
-        &self,
-        alloc: A,
-        seat: &Seat<L1, L2>,
-    ) -> Result<Result<Lines<A>, AllocError>, HoldFault>
-        ensures { IsReading SaysStore self.now seat.now result }
-    {
-        if !self.knows(seat) {
-            return Err(HoldFault::WrongSeat);
-        }
-        match &self.book {
-            Some(book) => {
-                read_headline(book);
-                Ok(store_lines(alloc, book))
-            }
-            None => Err(HoldFault::NoBook),
-        }
-    }
-
-    /// The lines of the log's entries from one on, counted from 1.
-    pub(crate) fn log_lines(
-        &self,
-        alloc: A,
-        seat: &Seat<L1, L2>,
-        from: u64,
-    ) -> Result<Result<Lines<A>, AllocError>, HoldFault>
-        ensures { IsReading (SaysLog from) self.now seat.now result }
-    {
-        if !self.knows(seat) {
-            return Err(HoldFault::WrongSeat);
-        }
-        match &self.book {
-            Some(book) => {
-                read_headline(book);
-                Ok(log_lines(alloc, book, from))
-            }
-            None => Err(HoldFault::NoBook),
-        }
-    }
-
-    /// A worker begins to work.
-    pub(crate) fn begin(&mut self)
-        ensures { self.new ≡ self.old }
-    {
-        self.awake = self.awake.saturating_add(1);
-    }
-
-    /// A worker that works sleeps, or ends.
+    /// A worker that works ends.
     pub(crate) fn end(&mut self)
         ensures { self.new ≡ self.old }
     {
         self.awake = self.awake.saturating_sub(1);
     }
 
-    /// There is something new to take.
-    pub(crate) fn announce(&mut self)
+    /// A worker that works sleeps.
+    pub(crate) fn rest(&mut self)
         ensures { self.new ≡ self.old }
     {
-        self.news = self.news.wrapping_add(1);
+        self.awake = self.awake.saturating_sub(1);
+        self.resting = self.resting.saturating_add(1);
     }
 
-    /// Workers that wait for this shall end.
-    pub(crate) fn close(&mut self)
+    /// A worker that sleeps wakes up.
+    pub(crate) fn wake(&mut self)
         ensures { self.new ≡ self.old }
     {
-        self.closed = true;
+        self.awake = self.awake.saturating_add(1);
+        self.resting = self.resting.saturating_sub(1);
     }
 }

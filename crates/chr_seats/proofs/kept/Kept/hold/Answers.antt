@@ -10,16 +10,16 @@ raise-requires-clause-others g c = (fits c.args.self.now c.in-Some.book c.make-a
 
 pub invariant_of-self-2 : goal.invariant_of-self-2
 invariant_of-self-2 g c = (
-  (left c.posts-are_posts.result _ c.self.inside.book c.args.self.now c.in-Some.book c.make-answer.new.book c.number-number.result c.args.seat.now.number c.make-answer.result.1 c.args.seat.now.counts c.raise.new.seat.counts c.self.inside.counts c.raise.new.counts _ _ _ _
-      c.self.view_is c.in-Some.is (search rules) c.number-number.ensures.same c.number-number.ensures.range.0 c.number-number.ensures.range.1 c.posts-are_posts.ensures c.make-answer.ensures.goes_on c.make-answer.ensures.count
+  (left c.args.are_posts _ c.self.inside.book c.args.self.now c.in-Some.book c.make-answer.new.book c.number-number.result c.args.seat.now.number c.make-answer.result.1 c.args.seat.now.counts c.raise.new.seat.counts c.self.inside.counts c.raise.new.counts _ _ _ _
+      c.self.view_is c.in-Some.is (search rules) c.number-number.ensures.same c.number-number.ensures.range.0 c.number-number.ensures.range.1 c.requires c.make-answer.ensures.goes_on c.make-answer.ensures.count
       c.self.invariant.0 (c.knows.ensures.0 c.if-not-knows.false) c.raise.ensures.seat c.raise.ensures.counts c.raise.ensures.post_total c.raise.ensures.other_total).0,
   λ loaded. search rules,
 )
 
 pub returns-clause-hold : goal.returns-clause-hold
 returns-clause-hold g c =
-    let at = left c.posts-are_posts.result _ c.self.inside.book c.args.self.now c.in-Some.book c.make-answer.new.book c.number-number.result c.args.seat.now.number c.make-answer.result.1 c.args.seat.now.counts c.raise.new.seat.counts c.self.inside.counts c.raise.new.counts _ _ _ _
-    c.self.view_is c.in-Some.is (search rules) c.number-number.ensures.same c.number-number.ensures.range.0 c.number-number.ensures.range.1 c.posts-are_posts.ensures c.make-answer.ensures.goes_on c.make-answer.ensures.count
+    let at = left c.args.are_posts _ c.self.inside.book c.args.self.now c.in-Some.book c.make-answer.new.book c.number-number.result c.args.seat.now.number c.make-answer.result.1 c.args.seat.now.counts c.raise.new.seat.counts c.self.inside.counts c.raise.new.counts _ _ _ _
+    c.self.view_is c.in-Some.is (search rules) c.number-number.ensures.same c.number-number.ensures.range.0 c.number-number.ensures.range.1 c.requires c.make-answer.ensures.goes_on c.make-answer.ensures.count
     c.self.invariant.0 (c.knows.ensures.0 c.if-not-knows.false) c.raise.ensures.seat c.raise.ensures.counts c.raise.ensures.post_total c.raise.ensures.other_total in
     record {
       book = c.in-Some.book;
