@@ -3,7 +3,8 @@
 # takes, for three programs at two sizes each, ten times apart: a chain of firings over two constraints, the primes up to a
 # number, and a union-find of so many elements. Run it by hand, on an idle machine.
 # The time is the best of five runs with `--show store`, less the best of five that make no calls; the memory is the most
-# that such a run had at once, less that of one that makes no calls. So store and tickets count as bytes of the entries.
+# that such a run had at once, less that of one that makes no calls. So store and tickets count as bytes of the entries; next
+# to it stands what the entries take by themselves.
 # Then it prints how many bytes a live constraint takes, with its labels in the indexes: the memory of a run that keeps its
 # constraints, less that of one that takes each out at once, for constraints with no key, with one, and with two.
 set -eu
@@ -60,23 +61,38 @@ cost() {
   echo "$best $(cat "$work/memory")"
 }
 
+# Prints how many bytes the entries of a log take: 12 for a drop, 16 for an activation, 16 and 4 a label for a firing, 20 and
+# 8 an argument for a post, and 8 more for each argument that isn't from 0 to 4,294,967,294.
+entry_bytes() {
+  awk '
+    $1 == "D" { bytes += 12 }
+    $1 == "A" { bytes += 16 }
+    $1 == "F" { bytes += 16 + 4 * gsub(/[0-9]+/, "&", $4) }
+    $1 == "P" {
+      count = split($0, parts, /[(),]/)
+      bytes += 20
+      for (i = 2; i < count; i++) bytes += 8 + (parts[i] + 0 < 0 || parts[i] + 0 > 4294967294 ? 8 : 0)
+    }
+    END { print bytes + 0 }' "$work/log"
+}
+
 # Prints the row of a program at a size.
 row() {
   "$1" "$2" >"$work/rules" 3>"$work/posts"
   "$program" run "$work/rules" "$work/posts" --steps $most --show log >"$work/log"
-  echo "$1 $2 $(grep -c '^F ' "$work/log") $(grep -c '^[PAFD] ' "$work/log") $(cost 0) $(cost $most)"
+  echo "$1 $2 $(grep -c '^F ' "$work/log") $(grep -c '^[PAFD] ' "$work/log") $(cost 0) $(cost $most) $(entry_bytes)"
 }
 
 "$top/chr" --help >/dev/null
-echo "| Program | Size | Firings | Entries | Firings a second | Bytes an entry |"
-echo "|---|---|---|---|---|---|"
+echo "| Program | Size | Firings | Entries | Firings a second | Bytes an entry | By itself |"
+echo "|---|---|---|---|---|---|---|"
 for made in "chain 20000" "chain 200000" "primes 400" "primes 4000" "union_find 200" "union_find 2000"; do
   # shellcheck disable=SC2086
   row $made
 done | awk '{
   spent = $7 - $5
   rate = spent > 0 ? sprintf("%.0f", $3 * 1e9 / spent) : "too fast to tell"
-  printf "| %s | %d | %d | %d | %s | %.0f |\n", $1, $2, $3, $4, rate, ($8 - $6) * 1024 / $4
+  printf "| %s | %d | %d | %d | %s | %.0f | %.1f |\n", $1, $2, $3, $4, rate, ($8 - $6) * 1024 / $4, $9 / $4
   fflush()
 }'
 
