@@ -6,7 +6,7 @@ set -eu
 top=$(cd "$(dirname "${BASH_SOURCE[0]}")/.." && pwd)
 work=$(mktemp -d)
 trap 'rm -rf "$work"' EXIT
-program=$top/crates/chr_server/out/chr_server
+program=$top/out/chr
 
 # Writes the rules, the log and the store of a chain of so many firings beside so many constraints, which are posted and
 # dropped first.

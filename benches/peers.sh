@@ -7,7 +7,7 @@
 # that makes no calls. Each is the best of REPEAT runs, three unless it is set. The final stores are compared without labels.
 set -eu
 top=$(cd "$(dirname "${BASH_SOURCE[0]}")/.." && pwd)
-program=$top/crates/chr_server/out/chr_server
+program=$top/out/chr
 repeat=${REPEAT:-3}
 most=4294967295
 

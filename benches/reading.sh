@@ -20,7 +20,7 @@ runs=100
 for text in rules none; do
   start=$(date +%s%N)
   for _ in $(seq $runs); do
-    "$top/crates/chr_server/out/chr_server" run "$work/$text.chr" "$work/posts.txt" >/dev/null
+    "$top/out/chr" run "$work/$text.chr" "$work/posts.txt" >/dev/null
   done
   end=$(date +%s%N)
   echo "$text: $(stat -c %s "$work/$text.chr") bytes, $(((end - start) / runs / 1000)) microseconds"

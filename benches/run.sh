@@ -11,7 +11,7 @@ set -eu
 top=$(cd "$(dirname "${BASH_SOURCE[0]}")/.." && pwd)
 work=$(mktemp -d)
 trap 'rm -rf "$work"' EXIT
-program=$top/crates/chr_server/out/chr_server
+program=$top/out/chr
 most=4294967295
 
 chain() {

@@ -5,7 +5,7 @@
 # servers. It builds nothing: run it by hand, on an idle machine with four processors, once `./chr` is built.
 set -eu
 top=$(cd "$(dirname "${BASH_SOURCE[0]}")/.." && pwd)
-program=$top/crates/chr_server/out/chr_server
+program=$top/out/chr
 if [ ! -x "$program" ]; then
   echo "serve.sh: $program isn't there; ./chr --help builds it" >&2
   exit 2
