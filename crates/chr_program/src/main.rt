@@ -13,23 +13,19 @@
 //! are open at the end of the run, and 5 where memory is refused.
 #![tactic(auto)]
 
-mod check;
-mod files;
-mod message;
-mod progress;
-mod refused;
-mod report;
-mod run;
-mod serve;
-mod session;
-
 use chr_command_line::reading::{Request, read};
-use clap::error::ErrorKind;
-use message::Detail;
-use report::Status;
+use chr_commands::check::check;
+use chr_commands::run::run;
+use chr_commands::session::session;
+use chr_commands::{Detail, Status, print_usage, report_failure};
+use chr_socket::serve::serve;
 use std::env;
 use std::io::{self, IsTerminal};
+use std::net::Net;
 use std::process::ExitCode;
+use std::rt::{Clock, Files};
+use std::sync::Wait;
+use std::thread::Threads;
 
 /// Returns the words of the command line, the program's own name first.
 fn words(rt: &HostRuntime) -> io::Result<Vec<String>> {
@@ -40,15 +36,29 @@ fn words(rt: &HostRuntime) -> io::Result<Vec<String>> {
     Ok(words)
 }
 
-/// Prints the help that was asked for, or what is wrong with the command line.
-fn print_usage(rt: &HostRuntime, detail: Detail, error: &clap::Error) -> Status {
-    if error.kind() == ErrorKind::OutOfMemory {
-        return report::report_no_memory(rt, detail);
-    }
-    match error.print(rt) {
-        Err(failure) if !report::is_closed(&failure) => Status::Usage,
-        _ if error.exit_code() == 0 => Status::Done,
-        _ => Status::Usage,
+/// Does what the words of the command line ask for.
+fn obey<R>(rt: &R, detail: Detail, words: &[String]) -> Status
+where
+    R: Files + Net + Threads + Wait + Sync + Clock + Input + Print + Eprint + AllocGlobal,
+{
+    match read(rt.alloc(), words) {
+        Ok(
+            Request::Run {
+                file,
+                posts,
+                options,
+            },
+        ) => run(rt, detail, file, posts, options),
+        Ok(Request::Check { file, log, store }) => check(rt, detail, file, log, store),
+        Ok(Request::Session { labels }) => session(rt, detail, labels),
+        Ok(
+            Request::Serve {
+                socket,
+                workers,
+                sessions,
+            },
+        ) => serve(rt, detail, socket, workers, sessions),
+        Err(error) => print_usage(rt, detail, &error),
     }
 }
 
@@ -58,28 +68,9 @@ fn main(rt: HostRuntime) -> ExitCode {
     } else {
         Detail::Line
     };
-    let words = match words(&rt) {
-        Ok(words) => words,
-        Err(error) => return report::report_failure(&rt, detail, "the command line", &error).code(),
-    };
-    let status = match read(rt.alloc(), words.as_slice()) {
-        Ok(
-            Request::Run {
-                file,
-                posts,
-                options,
-            },
-        ) => run::run(&rt, detail, file, posts, options),
-        Ok(Request::Check { file, log, store }) => check::check(&rt, detail, file, log, store),
-        Ok(Request::Session { labels }) => session::session(&rt, detail, labels),
-        Ok(
-            Request::Serve {
-                socket,
-                workers,
-                sessions,
-            },
-        ) => serve::serve(&rt, detail, socket, workers, sessions),
-        Err(error) => print_usage(&rt, detail, &error),
+    let status = match words(&rt) {
+        Ok(words) => obey(&rt, detail, words.as_slice()),
+        Err(error) => report_failure(&rt, detail, "the command line", &error),
     };
     status.code()
 }

@@ -4,9 +4,11 @@ ghost use Rattle.std.specs.Prelude.{◌≡◌, None};
 use crate::message::Detail;
 use crate::report::{Status, report_failure, report_no_memory};
 use chr_session::commands::Ended;
+use chr_session::devices::{Sink, Source};
 use chr_session::session::{ServeFault, serve};
 use chr_session::streams::{StreamSink, StreamSource};
 use chr_solo_desk::solo_desk::SoloDesk;
+use std::alloc::Allocator;
 use std::io::{self, Read, Write};
 
 /// A reader or a writer that keeps the error of its last failure.
@@ -64,18 +66,26 @@ impl<W: Write> Write for Remembering<W> {
     }
 }
 
-/// Serves a session with a desk of its own, and writes to standard error why it could not be served to its end.
-fn serve_streams<E: Eprint + AllocGlobal, R: Read + Drop, W: Write + Drop>(
-    rt: &E,
-    detail: Detail,
+/// Serves a session with a desk of its own.
+fn serve_alone<S: Source, W: Sink, A: Allocator + Copy>(
+    alloc: A,
     labels: u32,
-    reader: R,
-    writer: W,
+    source: &mut S,
+    sink: &mut W,
+) -> Result<Ended, ServeFault> {
+    let mut desk = SoloDesk::new(alloc, u64::from(labels));
+    serve(alloc, source, sink, &mut desk)
+}
+
+/// Writes to standard error why a session could not be served to its end.
+fn report_end<R: Read, W: Write>(
+    rt: &impl Eprint,
+    detail: Detail,
+    source: &StreamSource<Remembering<R>>,
+    sink: &StreamSink<Remembering<W>>,
+    ended: Result<Ended, ServeFault>,
 ) -> Status {
-    let mut source = StreamSource::new(Remembering::new(reader));
-    let mut sink = StreamSink::new(Remembering::new(writer));
-    let mut desk = SoloDesk::new(rt.alloc(), u64::from(labels));
-    match serve(rt.alloc(), &mut source, &mut sink, &mut desk) {
+    match ended {
         Ok(Ended::Quit | Ended::End) => Status::Done,
         Ok(Ended::Cut) => Status::Fault,
         Err(ServeFault::NoMemory) => report_no_memory(rt, detail),
@@ -88,6 +98,22 @@ fn serve_streams<E: Eprint + AllocGlobal, R: Read + Drop, W: Write + Drop>(
     }
 }
 
+/// Serves a session over a reader and a writer, with a desk of its own, which gives no label above `labels`. Writes to
+/// standard error why it could not be served to its end, where the reader stands for standard input and the writer for
+/// standard output.
+pub fn serve_streams<E: Eprint + AllocGlobal, R: Read + Drop, W: Write + Drop>(
+    rt: &E,
+    detail: Detail,
+    labels: u32,
+    reader: R,
+    writer: W,
+) -> Status {
+    let mut source = StreamSource::new(Remembering::new(reader));
+    let mut sink = StreamSink::new(Remembering::new(writer));
+    let ended = serve_alone(rt.alloc(), labels, &mut source, &mut sink);
+    report_end(rt, detail, &source, &sink, ended)
+}
+
 /// Serves a session over standard input and standard output, which gives no label above `labels`. Neither has a buffer: a
 /// reply is out before the next line is read.
 pub fn session<R: Input + Print + Eprint + AllocGlobal>(
@@ -96,61 +122,4 @@ pub fn session<R: Input + Print + Eprint + AllocGlobal>(
     labels: u32,
 ) -> Status {
     serve_streams(rt, detail, labels, rt.reader(), io::writer(rt))
-}
-
-#[cfg(test)]
-mod tests {
-    use super::serve_streams;
-    use crate::message::Detail;
-    use crate::report::Status;
-    use std::io::{self, Read};
-    use std::test::*;
-
-    /// A reader that fails.
-    #[derive(Drop)]
-    struct Failing;
-
-    impl Read for Failing {
-        fn read(&mut self, _buf: &mut [u8]) -> io::Result<usize> {
-            Err(io::ErrorKind::Other.into())
-        }
-    }
-
-    #[test]
-    fn ends(rt: HostRuntime) -> Result<(), Fail> {
-        for (input, labels, status, replies) in [
-            ("", 0, Status::Done, ""),
-            ("quit\nstore", 0, Status::Done, "bye\n"),
-            ("load 0\n", 0, Status::Done, "loaded 0\n"),
-            ("load 2\n", 0, Status::Fault, "fault E23 Cut\n"),
-            ("hello\n", 0, Status::Done, "fault E21 UnknownCommand\n"),
-            (
-                "load 0\npost a, b.\nwait 9\nstore\n",
-                1,
-                Status::Done,
-                "loaded 0\nposted 1 2\nopen\nstore 1\n#1 a\n",
-            ),
-        ] {
-            let mut written = Vec::new(rt.alloc());
-            let given = serve_streams(&rt, Detail::Line, labels, input.as_bytes(), &mut written);
-            assert!(rt; given == status, "{input}");
-            assert_eq!(rt; written.as_slice(), replies.as_bytes(), "{input}");
-        }
-        Ok(())
-    }
-
-    #[test]
-    fn failures(rt: HostRuntime) -> Result<(), Fail> {
-        let mut written = Vec::new(rt.alloc());
-        let reader = b"load 0\nsto".as_slice().chain(Failing);
-        let status = serve_streams(&rt, Detail::Line, 0, reader, &mut written);
-        assert!(rt; status == Status::Usage);
-        assert_eq!(rt; written.as_slice(), b"loaded 0\n".as_slice());
-        let mut room = [0; 12];
-        let input = b"load 0\nstore\nquit\n".as_slice();
-        let status = serve_streams(&rt, Detail::Line, 0, input, room.as_mut_slice());
-        assert!(rt; status == Status::Usage);
-        assert_eq!(rt; room.as_slice(), b"loaded 0\nsto".as_slice());
-        Ok(())
-    }
 }

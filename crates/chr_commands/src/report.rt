@@ -1,5 +1,6 @@
 //! How the program ends, and what it says of a failure.
 use crate::message::{Detail, Fault, Source, message, no_memory_message};
+use clap::error::ErrorKind;
 use std::alloc::AllocError;
 use std::io::{self, Write};
 use std::process::ExitCode;
@@ -34,7 +35,7 @@ impl Status {
 }
 
 /// Whether a write failed as its reader has gone away, which is no failure of the program.
-pub fn is_closed(error: &io::Error) -> bool {
+fn is_closed(error: &io::Error) -> bool {
     error.kind() == io::ErrorKind::BrokenPipe
 }
 
@@ -74,5 +75,17 @@ pub fn report_fault<R: Eprint + AllocGlobal>(
             Status::Fault
         }
         Err(AllocError) => report_no_memory(rt, detail),
+    }
+}
+
+/// Prints the help that was asked for, or what is wrong with the command line.
+pub fn print_usage(rt: &(impl Print + Eprint), detail: Detail, error: &clap::Error) -> Status {
+    if error.kind() == ErrorKind::OutOfMemory {
+        return report_no_memory(rt, detail);
+    }
+    match error.print(rt) {
+        Err(failure) if !is_closed(&failure) => Status::Usage,
+        _ if error.exit_code() == 0 => Status::Done,
+        _ => Status::Usage,
     }
 }

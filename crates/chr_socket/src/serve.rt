@@ -1,6 +1,5 @@
 //! `chr serve`.
-use crate::message::Detail;
-use crate::report::{Status, report_failure, report_no_memory};
+use chr_commands::{Detail, Status, report_failure, report_no_memory};
 use chr_serve::serving::{ServerFault, serve_on};
 use std::fmt::{Display, Formatter};
 use std::net::Net;
@@ -40,10 +39,10 @@ fn remove(rt: &impl Files, path: &str, made: Option<Node>) -> io::Result<()> {
 
 /// What is told of a path that is taken.
 #[derive(Clone, Copy)]
-struct Taken<'p> {
-    path: &'p str,
+pub struct Taken<'p> {
+    pub path: &'p str,
     /// Whether a socket is there.
-    by_socket: bool,
+    pub by_socket: bool,
 }
 
 impl Display for Taken<'_> {
@@ -65,9 +64,9 @@ impl Display for Taken<'_> {
 
 /// What is told once clients can connect.
 #[derive(Clone, Copy)]
-struct Listening<'p> {
-    path: &'p str,
-    workers: usize,
+pub struct Listening<'p> {
+    pub path: &'p str,
+    pub workers: usize,
 }
 
 impl Display for Listening<'_> {
@@ -123,8 +122,7 @@ pub fn serve<R: Files + Net + Threads + Wait + Sync + Eprint + AllocGlobal>(
 #[cfg(test)]
 mod tests {
     use super::{Listening, Taken, serve};
-    use crate::message::Detail;
-    use crate::report::Status;
+    use chr_commands::{Detail, Status};
     use std::fs::Files;
     use std::io::{self, Read, Write};
     use std::net::Net;

@@ -21,7 +21,7 @@ fn print(rt: &(impl Print + Eprint), detail: Detail, bytes: &[u8], end: End) -> 
 
 /// Runs the rules of one text on the constraints of the other, and writes what the options ask for to standard output.
 /// After a fault nothing is written there.
-fn run_sources<R: Clock + Print + Eprint + AllocGlobal>(
+pub fn run_sources<R: Clock + Print + Eprint + AllocGlobal>(
     rt: &R,
     detail: Detail,
     program: Source<'_>,
@@ -74,63 +74,4 @@ pub fn run<R: Files + Clock + Input + Print + Eprint + AllocGlobal>(
         bytes: &posted,
     };
     run_sources(rt, detail, program, posted, options)
-}
-
-#[cfg(test)]
-mod tests {
-    use super::{run, run_sources};
-    use crate::message::{Detail, Source, Text};
-    use crate::report::Status;
-    use chr_command_line::reading::RunOptions;
-    use chr_run_text::output::Show;
-    use std::test::*;
-
-    #[test]
-    fn a_file_that_is_not_there(rt: HostRuntime) {
-        let options = RunOptions {
-            steps: 0,
-            labels: 0,
-            show: Show::All,
-        };
-        let status = run(
-            &rt,
-            Detail::Line,
-            "there-is-no-such-file.chr",
-            "nor-this.txt",
-            options,
-        );
-        assert!(rt; status == Status::Usage);
-    }
-
-    #[test]
-    fn statuses(rt: HostRuntime) {
-        for (program, posts, steps, labels, show, wanted) in [
-            ("a <=> b.", "a.", 1_000_000, 4, Show::All, Status::Done),
-            ("a <=> b.", "a.", 1_000_000, 4, Show::Strict, Status::Done),
-            ("a <=> b.", "", 0, 0, Show::Store, Status::Done),
-            ("a <=> b.", "a.", 1, 4, Show::All, Status::Open),
-            ("a <=> b.", "a.", 1, 4, Show::Strict, Status::Open),
-            ("a <=> b.", "a.", 1_000_000, 1, Show::Log, Status::Open),
-            ("a ==> b.", "a.", 1_000_000, 4, Show::All, Status::Fault),
-            ("a <=> b.", "a", 1_000_000, 4, Show::All, Status::Fault),
-        ] {
-            let program = Source {
-                text: Text::Program,
-                path: "rules",
-                bytes: program.as_bytes(),
-            };
-            let posts = Source {
-                text: Text::Posts,
-                path: "posts",
-                bytes: posts.as_bytes(),
-            };
-            let options = RunOptions {
-                steps,
-                labels,
-                show,
-            };
-            let status = run_sources(&rt, Detail::Line, program, posts, options);
-            assert!(rt; status == wanted);
-        }
-    }
 }
