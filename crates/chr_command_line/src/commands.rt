@@ -1,181 +1,213 @@
 //! The commands of the program, with their arguments and help.
 use crate::reading::VERSION;
 use clap::builder::ValueParser;
-use clap::{Arg, ArgAction, Command, value_parser};
+use clap::{Arg, ArgAction, Command};
 use std::alloc::{AllocError, Global};
 
 /// The range of the number of calls and of the greatest label, as errors and the help name it.
 const RANGE: &str = "0..4294967295";
 
-/// The range of the number of workers.
-const WORKERS: &str = "1..16";
+/// What each number of that range passes.
+const NUMBER: ValueParser = ValueParser::Signed(0, 4_294_967_295);
 
-/// The range of the number of connections.
-const SESSIONS: &str = "1..1000000";
+/// Whether an argument has to be given.
+#[derive(Clone, Copy)]
+enum Presence {
+    Required,
+    Optional,
+    /// It has this value where it isn't given.
+    Default(&'static str),
+}
 
-/// What `--show` may ask for.
-const SHOWN: [&str; 4] = ["all", "store", "log", "strict"];
+/// What an option has behind its name.
+#[derive(Clone, Copy)]
+struct OptionValue {
+    /// What errors and the help call it.
+    name: &'static str,
+    /// What it may be.
+    parser: ValueParser<'static>,
+}
 
-/// Returns an argument that must be given.
-fn required<'a>(alloc: Global, name: &'a str, help: &'a str) -> Arg<'a> {
-    Arg::new(alloc, name)
-        .required(true)
+/// An argument of a command.
+#[derive(Clone, Copy)]
+struct Argument {
+    /// Its name, for an option the one behind `--`.
+    name: &'static str,
+    help: &'static str,
+    presence: Presence,
+    /// None for a word that is told by its place.
+    value: Option<OptionValue>,
+}
+
+/// A command with its arguments.
+#[derive(Clone, Copy)]
+struct CommandRow {
+    name: &'static str,
+    about: &'static str,
+    after_help: &'static str,
+    arguments: &'static [Argument],
+}
+
+const LABELS: Argument = Argument {
+    name: "labels",
+    help: "The greatest label that may be given",
+    presence: Presence::Default("4294967295"),
+    value: Some(OptionValue {
+        name: RANGE,
+        parser: NUMBER,
+    }),
+};
+
+static COMMANDS: [CommandRow; 4] = [
+    CommandRow {
+        name: "run",
+        about: "Runs rules on posted constraints, and prints the store and the log",
+        after_help: "Example:\n  chr run examples/gcd/gcd.chr examples/gcd/posts.txt --show store",
+        arguments: &[
+            Argument {
+                name: "FILE",
+                help: "The rules; `-` is standard input",
+                presence: Presence::Required,
+                value: None,
+            },
+            Argument {
+                name: "POSTS",
+                help: "The constraints to post; `-` is standard input",
+                presence: Presence::Required,
+                value: None,
+            },
+            Argument {
+                name: "steps",
+                help: "How many calls are made at most",
+                presence: Presence::Default("1000000"),
+                value: Some(OptionValue {
+                    name: RANGE,
+                    parser: NUMBER,
+                }),
+            },
+            LABELS,
+            Argument {
+                name: "show",
+                help: "What is printed: all of the end, the store and the log, or one part; `strict` is the log with its drops after its other entries, and nothing where the run ends open",
+                presence: Presence::Default("all"),
+                value: Some(OptionValue {
+                    name: "all|store|log|strict",
+                    parser: ValueParser::Names(&["all", "store", "log", "strict"]),
+                }),
+            },
+        ],
+    },
+    CommandRow {
+        name: "check",
+        about: "Checks whether a log is that of a run of rules, and whether the run ends in a store",
+        after_help: "Example:\n  chr check examples/gcd/gcd.chr examples/gcd/log.txt examples/gcd/store.txt",
+        arguments: &[
+            Argument {
+                name: "FILE",
+                help: "The rules; `-` is standard input",
+                presence: Presence::Required,
+                value: None,
+            },
+            Argument {
+                name: "LOG",
+                help: "The log, which begins with `chr-log 1` or `chr-log 2`; `-` is standard input",
+                presence: Presence::Required,
+                value: None,
+            },
+            Argument {
+                name: "STORE",
+                help: "The store, without the line that counts; `-` is standard input",
+                presence: Presence::Required,
+                value: None,
+            },
+        ],
+    },
+    CommandRow {
+        name: "session",
+        about: "Reads commands from standard input, and writes each reply to standard output before it reads the next",
+        after_help: "Lines of input:\n  load N      The rules are the N bytes after this line\n  post TEXT   Posts the constraints of the text\n  wait K      Makes at most K calls, and tells whether a goal is open\n  store       Shows the store\n  log F       Shows the log from entry F on\n  quit        Ends the session\n\nExample:\n  printf 'load 9\\na <=> b.\\npost a.\\nwait 1000\\nstore\\nquit\\n' | chr session",
+        arguments: &[LABELS],
+    },
+    CommandRow {
+        name: "serve",
+        about: "Serves up to sixteen sessions at once over a Unix socket, on one book that workers run",
+        after_help: "A client sends the commands of `chr session` and reads its replies.\n\nExample:\n  chr serve --socket chr.sock --workers 4",
+        arguments: &[
+            Argument {
+                name: "socket",
+                help: "Where the socket is made: a path at which there is no file",
+                presence: Presence::Required,
+                value: Some(OptionValue {
+                    name: "PATH",
+                    parser: ValueParser::NonEmptyString,
+                }),
+            },
+            Argument {
+                name: "workers",
+                help: "How many workers run the rules",
+                presence: Presence::Required,
+                value: Some(OptionValue {
+                    name: "1..16",
+                    parser: ValueParser::Signed(1, 16),
+                }),
+            },
+            Argument {
+                name: "sessions",
+                help: "After how many connections the server ends; without it, it serves until it is stopped",
+                presence: Presence::Optional,
+                value: Some(OptionValue {
+                    name: "1..1000000",
+                    parser: ValueParser::Signed(1, 1_000_000),
+                }),
+            },
+        ],
+    },
+];
+
+/// Returns an option with the value that is behind it.
+fn with_value<'a>(arg: Arg<'a>, name: &'static str, value: OptionValue) -> Arg<'a> {
+    let is_number = matches!(value.parser, ValueParser::Signed(..));
+    arg.long(name)
+        .value_name(value.name)
+        .value_parser(value.parser)
+        .hide_possible_values(true)
+        .allow_negative_numbers(is_number)
+}
+
+/// Returns an argument.
+fn make_argument<'a>(alloc: Global, row: &Argument) -> Arg<'a> {
+    let arg = Arg::new(alloc, row.name)
         .action(ArgAction::Set)
-        .help(help)
+        .help(row.help);
+    let arg = match row.value {
+        Some(value) => with_value(arg, row.name, value),
+        None => arg,
+    };
+    match row.presence {
+        Presence::Required => arg.required(true),
+        Presence::Optional => arg,
+        Presence::Default(value) => arg.default_value(value),
+    }
 }
 
-/// Returns an option whose value is a number. `range` is what errors and the help call the numbers that `parser` takes.
-fn number<'a>(
-    alloc: Global,
-    name: &'a str,
-    range: &'a str,
-    parser: ValueParser<'a>,
-    help: &'a str,
-) -> Arg<'a> {
-    Arg::new(alloc, name)
-        .long(name)
-        .value_name(range)
-        .value_parser(parser)
-        .allow_negative_numbers(true)
-        .action(ArgAction::Set)
-        .help(help)
-}
-
-/// Returns the option `--steps`.
-fn steps<'a>(alloc: Global) -> Arg<'a> {
-    number(
-        alloc,
-        "steps",
-        RANGE,
-        value_parser!(u32),
-        "How many calls are made at most",
-    )
-    .default_value("1000000")
-}
-
-/// Returns the option `--labels`.
-fn labels<'a>(alloc: Global) -> Arg<'a> {
-    number(
-        alloc,
-        "labels",
-        RANGE,
-        value_parser!(u32),
-        "The greatest label that may be given",
-    )
-    .default_value("4294967295")
-}
-
-/// Returns the option `--socket`.
-fn socket<'a>(alloc: Global) -> Arg<'a> {
-    Arg::new(alloc, "socket")
-        .long("socket")
-        .value_name("PATH")
-        .value_parser(ValueParser::NonEmptyString)
-        .required(true)
-        .action(ArgAction::Set)
-        .help("Where the socket is made: a path at which there is no file")
-}
-
-/// Returns the option `--workers`.
-fn workers<'a>(alloc: Global) -> Arg<'a> {
-    number(
-        alloc,
-        "workers",
-        WORKERS,
-        value_parser!(u32).range(1..=16),
-        "How many workers run the rules",
-    )
-    .required(true)
-}
-
-/// Returns the option `--sessions`.
-fn sessions<'a>(alloc: Global) -> Arg<'a> {
-    number(
-        alloc,
-        "sessions",
-        SESSIONS,
-        value_parser!(u32).range(1..=1_000_000),
-        "After how many connections the server ends; without it, it serves until it is stopped",
-    )
-}
-
-/// Returns the command `run` with its arguments.
-fn run_command<'a>(alloc: Global) -> Result<Command<'a>, AllocError> {
-    Command::new(alloc, "run")
-        .about("Runs rules on posted constraints, and prints the store and the log")
-        .after_help("Example:\n  chr run examples/gcd/gcd.chr examples/gcd/posts.txt --show store")
-        .arg(required(alloc, "FILE", "The rules; `-` is standard input"))?
-        .arg(required(
-            alloc,
-            "POSTS",
-            "The constraints to post; `-` is standard input",
-        ))?
-        .arg(steps(alloc))?
-        .arg(labels(alloc))?
-        .arg(
-            Arg::new(alloc, "show")
-                .long("show")
-                .value_name("all|store|log|strict")
-                .value_parser(SHOWN.as_slice())
-                .hide_possible_values(true)
-                .default_value("all")
-                .action(ArgAction::Set)
-                .help(
-                    "What is printed: all of the end, the store and the log, or one part; `strict` is the log with its drops after its other entries, and nothing where the run ends open",
-                ),
-        )
-}
-
-/// Returns the command `check` with its arguments.
-fn check_command<'a>(alloc: Global) -> Result<Command<'a>, AllocError> {
-    Command::new(alloc, "check")
-        .about(
-            "Checks whether a log is that of a run of rules, and whether the run ends in a store",
-        )
-        .after_help(
-            "Example:\n  chr check examples/gcd/gcd.chr examples/gcd/log.txt examples/gcd/store.txt",
-        )
-        .arg(required(alloc, "FILE", "The rules; `-` is standard input"))?
-        .arg(required(
-            alloc,
-            "LOG",
-            "The log, which begins with `chr-log 1` or `chr-log 2`; `-` is standard input",
-        ))?
-        .arg(required(
-            alloc,
-            "STORE",
-            "The store, without the line that counts; `-` is standard input",
-        ))
-}
-
-/// Returns the command `session` with its arguments.
-fn session_command<'a>(alloc: Global) -> Result<Command<'a>, AllocError> {
-    Command::new(alloc, "session")
-        .about(
-            "Reads commands from standard input, and writes each reply to standard output before it reads the next",
-        )
-        .after_help(
-            "Lines of input:\n  load N      The rules are the N bytes after this line\n  post TEXT   Posts the constraints of the text\n  wait K      Makes at most K calls, and tells whether a goal is open\n  store       Shows the store\n  log F       Shows the log from entry F on\n  quit        Ends the session\n\nExample:\n  printf 'load 9\\na <=> b.\\npost a.\\nwait 1000\\nstore\\nquit\\n' | chr session",
-        )
-        .arg(labels(alloc))
-}
-
-/// Returns the command `serve` with its arguments.
-fn serve_command<'a>(alloc: Global) -> Result<Command<'a>, AllocError> {
-    Command::new(alloc, "serve")
-        .about(
-            "Serves up to sixteen sessions at once over a Unix socket, on one book that workers run",
-        )
-        .after_help(
-            "A client sends the commands of `chr session` and reads its replies.\n\nExample:\n  chr serve --socket chr.sock --workers 4",
-        )
-        .arg(socket(alloc))?
-        .arg(workers(alloc))?
-        .arg(sessions(alloc))
+/// Returns a command with its arguments.
+fn subcommand<'a>(alloc: Global, row: &CommandRow) -> Result<Command<'a>, AllocError> {
+    let mut arguments = Vec::new(alloc);
+    for row in row.arguments {
+        arguments.push(make_argument(alloc, row))?;
+    }
+    Command::new(alloc, row.name)
+        .about(row.about)
+        .after_help(row.after_help)
+        .args(arguments)
 }
 
 /// Returns the commands of the program with their arguments.
 pub(crate) fn command<'a>(alloc: Global) -> Result<Command<'a>, AllocError> {
+    let mut commands = Vec::new(alloc);
+    for row in &COMMANDS {
+        commands.push(subcommand(alloc, row)?)?;
+    }
     Command::new(alloc, "chr")
         .version(VERSION)
         .after_help("Example:\n  chr run examples/gcd/gcd.chr examples/gcd/posts.txt")
@@ -183,8 +215,5 @@ pub(crate) fn command<'a>(alloc: Global) -> Result<Command<'a>, AllocError> {
             "Runs Constraint Handling Rules, logs each activation, firing and drop, and checks logs",
         )
         .subcommand_required(true)
-        .subcommand(run_command(alloc)?)?
-        .subcommand(check_command(alloc)?)?
-        .subcommand(session_command(alloc)?)?
-        .subcommand(serve_command(alloc)?)
+        .subcommands(commands)
 }

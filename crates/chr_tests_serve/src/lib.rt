@@ -9,4 +9,6 @@ mod client;
 mod failing;
 mod memory;
 mod sessions;
+#[cfg(test)]
+mod socket;
 mod vanishing;
