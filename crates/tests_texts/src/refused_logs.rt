@@ -1,5 +1,5 @@
 //! A log, and the writers of a log and of a store.
-use crate::calls::is_refused;
+use crate::refusals::is_refused;
 use chr_log::events::{Entry, Event, Labels, Version};
 use chr_log::log::Log;
 use chr_log::writing::{write_log, write_store};

@@ -1,18 +1,11 @@
 //! Each call, with each of its requests refused in turn.
-use crate::{logs, names, plans, store, texts};
+use crate::{refused_plans, refused_store};
 use refusing::Refusing;
 use std::alloc::Global;
 
 /// The calls that may take memory.
 #[derive(Clone, Copy, Debug)]
 enum Call {
-    Intern,
-    CopyNames,
-    PushEntry,
-    Reserve,
-    CopyLog,
-    WriteLog,
-    WriteStore,
     PushRule,
     CopyProgram,
     MakePlans,
@@ -21,20 +14,9 @@ enum Call {
     Insert,
     InsertIndexed,
     CopyStore,
-    ReadLog,
-    ReadStore,
-    ReadProgram,
-    ReadPosts,
 }
 
-const CALLS: [Call; 19] = [
-    Call::Intern,
-    Call::CopyNames,
-    Call::PushEntry,
-    Call::Reserve,
-    Call::CopyLog,
-    Call::WriteLog,
-    Call::WriteStore,
+const CALLS: [Call; 8] = [
     Call::PushRule,
     Call::CopyProgram,
     Call::MakePlans,
@@ -43,10 +25,6 @@ const CALLS: [Call; 19] = [
     Call::Insert,
     Call::InsertIndexed,
     Call::CopyStore,
-    Call::ReadLog,
-    Call::ReadStore,
-    Call::ReadProgram,
-    Call::ReadPosts,
 ];
 
 /// Whether a request was refused, where the call fails exactly then, and otherwise None. From now on none is refused.
@@ -64,25 +42,14 @@ pub fn is_refused(memory: &Refusing<Global>, fails: bool) -> Option<bool> {
 /// the call does not fail exactly then, or does not give what it should when it is made again.
 fn is_made_again(memory: &Refusing<Global>, n: u64, call: Call) -> Option<bool> {
     match call {
-        Call::Intern => names::intern(memory, n),
-        Call::CopyNames => names::copy(memory, n),
-        Call::PushEntry => logs::push(memory, n),
-        Call::Reserve => logs::reserve(memory, n),
-        Call::CopyLog => logs::copy(memory, n),
-        Call::WriteLog => logs::write_events_of_a_log(memory, n),
-        Call::WriteStore => logs::write_line_of_a_store(memory, n),
-        Call::PushRule => plans::push(memory, n),
-        Call::CopyProgram => plans::copy(memory, n),
-        Call::MakePlans => plans::make(memory, n),
-        Call::Places => plans::places(memory, n),
-        Call::OpenIndexed => store::open(memory, n),
-        Call::Insert => store::insert(memory, n),
-        Call::InsertIndexed => store::insert_indexed(memory, n),
-        Call::CopyStore => store::copy(memory, n),
-        Call::ReadLog => texts::read_entries(memory, n),
-        Call::ReadStore => texts::read_lines(memory, n),
-        Call::ReadProgram => texts::read_rules(memory, n),
-        Call::ReadPosts => texts::read_posts(memory, n),
+        Call::PushRule => refused_plans::push(memory, n),
+        Call::CopyProgram => refused_plans::copy(memory, n),
+        Call::MakePlans => refused_plans::make(memory, n),
+        Call::Places => refused_plans::places(memory, n),
+        Call::OpenIndexed => refused_store::open(memory, n),
+        Call::Insert => refused_store::insert(memory, n),
+        Call::InsertIndexed => refused_store::insert_indexed(memory, n),
+        Call::CopyStore => refused_store::copy(memory, n),
     }
 }
 

@@ -1,5 +1,5 @@
 //! A table of names.
-use crate::calls::is_refused;
+use crate::refusals::is_refused;
 use chr_value::names::Names;
 use refusing::Refusing;
 use std::alloc::Global;

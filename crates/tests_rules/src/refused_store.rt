@@ -1,5 +1,5 @@
 //! A store.
-use crate::calls::is_refused;
+use crate::refusals::is_refused;
 use chr_store::store::{Store, StoreFault};
 use chr_value::atom::{Atom, Pred, Value};
 use chr_value::names::Name;

@@ -1,5 +1,5 @@
 //! A program and its plans.
-use crate::calls::is_refused;
+use crate::refusals::is_refused;
 use arrayvec::ArrayVec;
 use chr_plan::plans::Plans;
 use chr_rule::program::Program;

@@ -1,4 +1,4 @@
-use Rattle.chr_tests_search.proofs.searches.first_wrong.Goals as goal
+use Rattle.tests_rules.proofs.searches.first_wrong.Goals as goal
 
 pub first_other-requires : goal.first_other-requires
 first_other-requires c = c.in_ok-plans.ensures

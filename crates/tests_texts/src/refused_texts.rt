@@ -1,5 +1,5 @@
 //! The readers of a log, of a store, of rules and of posts.
-use crate::calls::is_refused;
+use crate::refusals::is_refused;
 use chr_lex::fault::ReadError;
 use chr_log_text::fault::TextFault;
 use chr_log_text::reading::{read_log, read_store};
