@@ -1,4 +1,5 @@
 //! Opening a book.
+use crate::tables::GCD;
 use chr_book::book::{Book, OpenFault};
 use chr_calls::answers::TicketState;
 use chr_text::reading::read_program;
@@ -6,13 +7,11 @@ use chr_value::names::Names;
 use refusing::Refusing;
 use std::alloc::Global;
 
-const GCD: &str = "gcd(0) <=> true. gcd(N) \\ gcd(M) <=> 0 < N, N =< M | L is M mod N, gcd(L).";
-
 /// Opens a book with request number `n` refused. Whether there was such a request, and None where the book isn't opened
 /// exactly where there was none.
 fn is_refused(memory: &Refusing<Global>, n: u64) -> Option<bool> {
     let mut names = Names::new(memory);
-    let program = read_program(memory, GCD.as_bytes(), &mut names).ok()?;
+    let program = read_program(memory, GCD.program.as_bytes(), &mut names).ok()?;
     memory.refuse(n);
     let answer = Book::new(memory, program, names, 10);
     let refused = memory.was_refused();

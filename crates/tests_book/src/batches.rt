@@ -1,11 +1,11 @@
 //! A worked run: batches, their judgements, and a firing.
 use crate::lists::{Does, answers_text, call_of, judged_copy, post_text};
+use crate::script::{Opening, open};
 use chr_book::book::Book;
 use chr_calls::answers::Batch;
 use chr_run_calls::calls::{Answer, Call, SeatCall, Words};
 use chr_run_calls::run::run_calls;
 use chr_search::judged::Judged;
-use chr_tests_book::script::{Opening, open};
 use std::alloc::{AllocError, Global};
 
 const TOKEN: Opening = Opening {

@@ -1,6 +1,6 @@
 //! Tables of calls, with a request of each call refused.
-use chr_tests_book::script::{Call, Opening, Row, Script};
-use chr_tests_book::tables::{
+use crate::script::{Call, Opening, Row, Script};
+use crate::tables::{
     ANOTHER_SEAT_GOES_ON, EACH_ANSWER, LABELS_ARE_SPENT, OLDER_GOAL_IS_DROPPED, ONE_OF_TWO_FIRES,
     Table,
 };
@@ -83,25 +83,32 @@ fn is_refused(script: &mut Script<Memory>, memory: Memory, n: u64, row: &Row) ->
 
 /// Makes the calls of a table with request number `n` of each refused. How many were, and the number of the first row that
 /// isn't as expected, which is that of the rows where all are and the table ends as it should.
-fn play(memory: Memory, texts: Global, n: u64, table: &Table) -> Option<(usize, usize)> {
-    let (_, opening, rows, lines) = *table;
-    let mut script = Script::open(memory, texts, opening)?;
+fn play_on(
+    script: &mut Script<Memory>,
+    memory: Memory,
+    n: u64,
+    table: &Table,
+) -> Option<(usize, usize)> {
+    let (_, _, rows, lines) = *table;
     let mut refusals = 0usize;
     for (i, row) in rows.iter().enumerate() {
-        let Some(refused) = is_refused(&mut script, memory, n, row) else {
+        let Some(refused) = is_refused(script, memory, n, row) else {
             return Some((refusals, i));
         };
         if refused {
             refusals = refusals.wrapping_add(1);
         }
     }
-    if script.lines().ok()?.as_slice() != lines.as_bytes() {
-        return None;
-    }
-    Some((refusals, rows.len()))
+    script.has_lines(lines).then_some((refusals, rows.len()))
 }
 
-const TABLES: [Table; 6] = [
+/// The same on a book of its own.
+fn play(memory: Memory, texts: Global, n: u64, table: &Table) -> Option<(usize, usize)> {
+    let mut script = Script::open(memory, texts, table.1)?;
+    play_on(&mut script, memory, n, table)
+}
+
+static TABLES: [Table; 6] = [
     ONE_OF_TWO_FIRES,
     OLDER_GOAL_IS_DROPPED,
     ANOTHER_SEAT_GOES_ON,
