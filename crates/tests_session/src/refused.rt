@@ -2,8 +2,8 @@
 use chr_session::commands::Ended;
 use chr_session::memory::{MemorySink, MemorySource};
 use chr_session::session::ServeFault;
-use chr_tests_session::serving::{end, texts};
-use chr_tests_session::talks::{GREATEST, RUN};
+use crate::serving::{end, texts};
+use crate::talks::{GREATEST, RUN};
 use refusing::Refusing;
 use std::alloc::Global;
 use std::test::Fail;

@@ -30,7 +30,7 @@ const STRICT: Options = (STEPS, GREATEST, Show::Strict);
 /// A program, posts, options, the end, and what is shown.
 type Row<'r> = (&'r [u8], &'r [u8], Options, End, &'r [u8]);
 
-const ROWS: [Row; 33] = [
+static ROWS: [Row; 33] = [
     (
         GCD,
         b"gcd(9), gcd(6).",
@@ -268,65 +268,113 @@ fn worked_runs(rt: HostRuntime) {
     }
 }
 
-/// The fault of a text of rules.
-fn of_program(kind: Kind, line: u32) -> RunFault {
-    RunFault::Program(ReadFault { kind, line })
-}
+/// Rules, posts, and the fault of the one or the other.
+static FAULTS: [(&[u8], &[u8], RunFault); 8] = [
+    (
+        b"a ==> b.",
+        b"",
+        RunFault::Program(ReadFault {
+            kind: Kind::Propagation,
+            line: 1,
+        }),
+    ),
+    (
+        b"p(99999999999999999999) ==> q(Y).",
+        b"",
+        RunFault::Program(ReadFault {
+            kind: Kind::Propagation,
+            line: 1,
+        }),
+    ),
+    (
+        b"% one\n% two\n% three\np(X) <=> q(Y).",
+        b"",
+        RunFault::Program(ReadFault {
+            kind: Kind::Binding,
+            line: 4,
+        }),
+    ),
+    (
+        b"p(9223372036854775808) <=> true.",
+        b"",
+        RunFault::Program(ReadFault {
+            kind: Kind::NumberRange,
+            line: 1,
+        }),
+    ),
+    (
+        b"p(X) <=> q(X)",
+        b"",
+        RunFault::Program(ReadFault {
+            kind: Kind::Syntax,
+            line: 1,
+        }),
+    ),
+    (
+        b"a ==> b.",
+        b"p(X).",
+        RunFault::Program(ReadFault {
+            kind: Kind::Propagation,
+            line: 1,
+        }),
+    ),
+    (
+        b"a <=> b.",
+        b"\np(X).",
+        RunFault::Posts(ReadFault {
+            kind: Kind::Binding,
+            line: 2,
+        }),
+    ),
+    (
+        b"a <=> b.",
+        b"a",
+        RunFault::Posts(ReadFault {
+            kind: Kind::Syntax,
+            line: 1,
+        }),
+    ),
+];
 
-/// The fault of a text of posts.
-fn of_posts(kind: Kind, line: u32) -> RunFault {
-    RunFault::Posts(ReadFault { kind, line })
+/// The fault of a text that is too long.
+const TOO_LONG: ReadFault = ReadFault {
+    kind: Kind::TooLong,
+    line: 0,
+};
+
+/// Whether a run ends in this fault.
+fn is_at_fault(alloc: Global, program: &[u8], posts: &[u8], wanted: RunFault) -> bool {
+    match run(alloc, program, posts, ALL) {
+        Ok(_) => false,
+        Err(fault) => fault == wanted,
+    }
 }
 
 #[test]
 fn texts_at_fault(rt: HostRuntime) {
-    let table: [(&[u8], &[u8], RunFault); 8] = [
-        (b"a ==> b.", b"", of_program(Kind::Propagation, 1)),
-        (
-            b"p(99999999999999999999) ==> q(Y).",
-            b"",
-            of_program(Kind::Propagation, 1),
-        ),
-        (
-            b"% one\n% two\n% three\np(X) <=> q(Y).",
-            b"",
-            of_program(Kind::Binding, 4),
-        ),
-        (
-            b"p(9223372036854775808) <=> true.",
-            b"",
-            of_program(Kind::NumberRange, 1),
-        ),
-        (b"p(X) <=> q(X)", b"", of_program(Kind::Syntax, 1)),
-        (b"a ==> b.", b"p(X).", of_program(Kind::Propagation, 1)),
-        (b"a <=> b.", b"\np(X).", of_posts(Kind::Binding, 2)),
-        (b"a <=> b.", b"a", of_posts(Kind::Syntax, 1)),
-    ];
-    for (i, (program, posts, wanted)) in table.iter().enumerate() {
-        match run(rt.alloc(), program, posts, ALL) {
-            Ok(_) => assert!(rt; false, "texts {i}"),
-            Err(fault) => assert_eq!(rt; fault, *wanted, "texts {i}"),
-        }
+    for (i, (program, posts, wanted)) in FAULTS.iter().enumerate() {
+        assert!(rt;
+            is_at_fault(rt.alloc(), program, posts, *wanted),
+            "texts {i}"
+        );
     }
 }
 
 #[test]
 fn texts_up_to_their_limit(rt: HostRuntime) -> Result<(), Fail> {
-    let mut blanks = Vec::new(rt.alloc());
-    blanks.resize(65_536, b' ')?;
-    let made = run(rt.alloc(), &blanks, b"a.", ALL).ok();
+    let long = " ".repeat(rt.alloc(), 65_537)?;
+    let long = long.as_bytes();
+    let made = run(rt.alloc(), &long[..65_536], b"a.", ALL).ok();
     assert!(rt; made.is_some_and(|made| made.end == End::Quiet));
-    blanks.push(b' ')?;
-    let long = blanks.as_slice();
-    let fault = run(rt.alloc(), long, b"", ALL).err();
-    assert_eq!(rt; fault, Some(of_program(Kind::TooLong, 0)));
-    let fault = run(rt.alloc(), b"", long, ALL).err();
-    assert_eq!(rt; fault, Some(of_posts(Kind::TooLong, 0)));
+    let fault = RunFault::Program(TOO_LONG);
+    assert!(rt; is_at_fault(rt.alloc(), long, b"", fault));
+    let fault = RunFault::Posts(TOO_LONG);
+    assert!(rt; is_at_fault(rt.alloc(), b"", long, fault));
     Ok(())
 }
 
 /// An expression in `A` and `B`, the values of both, and the one atom that is left when `t(A,B)` may become `r(C)`.
-const VALUES: [(&str, &str, &str); 14] = [
+static VALUES: [(&str, &str, &str); 14] = [
     ("A // B", "-7,2", "#2 r(-3)"),
     ("A rem B", "-7,2", "#2 r(-1)"),
     ("A mod B", "-7,2", "#2 r(1)"),
@@ -365,7 +413,7 @@ fn is_left(alloc: Global, expression: &str, values: &str, left: &str) -> Option<
 
 #[test]
 fn worked_expressions(rt: HostRuntime) {
-    for (expression, values, left) in VALUES {
+    for (expression, values, left) in &VALUES {
         let is = is_left(rt.alloc(), expression, values, left);
         assert_eq!(rt; is, Some(true), "{expression} at {values}");
     }
@@ -391,7 +439,7 @@ impl Watch for Counted {
 /// first whole run makes nine: for each `b`, with which no rule applies, a claim, a question for a trial, and a drop; for the
 /// `a` a claim, a question that gives a trial, and its firing. The second makes five: a claim, a question that gives a trial
 /// whose guard fails, its report, a question that gives none, and a drop.
-const TOLD: [(&[u8], &[u8], u64, u64); 7] = [
+static TOLD: [(&[u8], &[u8], u64, u64); 7] = [
     (b"a <=> b.", b"b, a.", 0, 0),
     (b"a <=> b.", b"b, a.", 1, 1),
     (b"a <=> b.", b"b, a.", 5, 5),
@@ -401,23 +449,20 @@ const TOLD: [(&[u8], &[u8], u64, u64); 7] = [
     (b"p(X) <=> X \\== 1 | q.", b"p(1).", 1_000_000, 5),
 ];
 
+/// Whether a watch is told of so many calls of a run that makes at most so many steps.
+fn is_told(alloc: Global, program: &[u8], posts: &[u8], steps: u64, told: u64) -> bool {
+    let mut counted = Counted {
+        calls: 0,
+        counts_rise: true,
+    };
+    let _ = watched_run(alloc, program, posts, steps, 9, Show::All, &mut counted);
+    counted.counts_rise && counted.calls == told
+}
+
 #[test]
 fn calls_are_told(rt: HostRuntime) {
-    for (program, posts, steps, told) in TOLD {
-        let mut counted = Counted {
-            calls: 0,
-            counts_rise: true,
-        };
-        let _ = watched_run(
-            rt.alloc(),
-            program,
-            posts,
-            steps,
-            9,
-            Show::All,
-            &mut counted,
-        );
-        assert!(rt; counted.counts_rise, "{steps} calls");
-        assert_eq!(rt; counted.calls, told, "{steps} calls");
+    for (program, posts, steps, told) in &TOLD {
+        let is = is_told(rt.alloc(), program, posts, *steps, *told);
+        assert!(rt; is, "{steps} calls");
     }
 }

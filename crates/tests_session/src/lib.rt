@@ -5,7 +5,13 @@
 //! each fault; the order in which a line is tested; how a command may be spelled; and the limits. They also show what no
 //! clause says: that a session with memory goes on to the end of its input, and what is written before a device fails.
 //!
-//! [`Talk`](talks::Talk) is a row of the tables.
+//! A worked session is served again and again, over an allocator that refuses the first request, then the second, and so
+//! on, until a run meets no refusal. A refused request ends the session before its first command, or one command is
+//! answered E01 in place of its reply and the session goes on: each later reply is that of a run over the commands that
+//! were carried out. That a desk's replies are those of such a run is proved; that a session goes on after a refusal, and
+//! answers E01 only there, no clause says.
+//!
+//! A `Talk` is a row of the tables.
 #![tactic(auto)]
 
 #[cfg(test)]
@@ -14,5 +20,9 @@ mod breaks;
 mod limits;
 #[cfg(test)]
 mod pieces;
-pub mod serving;
-pub mod talks;
+#[cfg(test)]
+mod refused;
+#[cfg(test)]
+mod serving;
+#[cfg(test)]
+mod talks;
