@@ -20,15 +20,18 @@ fn term_of(letter: char) -> Term {
     }
 }
 
-/// A program of one rule, whose removed heads have these arguments.
-fn program_of(alloc: Global, heads: &[&str]) -> Option<Program<Global>> {
+/// A head: the number of its name, and its arguments.
+type Head = (u32, &'static str);
+
+/// A program of one rule, which removes these heads.
+fn program_of(alloc: Global, heads: &[Head]) -> Option<Program<Global>> {
     let mut removed = Vec::new(alloc);
-    for letters in heads {
+    for (number, letters) in heads {
         let mut terms = ArrayVec::new();
         for letter in letters.chars() {
             let _room = terms.try_push(term_of(letter));
         }
-        let name = Name { number: 0 };
+        let name = Name { number: *number };
         removed.push(RuleAtom { name, terms }).ok()?;
     }
     let rule = Rule::new(Vec::new(alloc), removed, Vec::new(alloc), Vec::new(alloc))?;
@@ -47,7 +50,8 @@ fn has_steps(plans: &Plans<Global>, head: u8, steps: &[(u8, u8)]) -> bool {
             && step.key.unwrap_or(0) == *place)
 }
 
-const THREE: [&str; 3] = ["XY", "YZ", "Z"];
+/// `edge(X,Y)`, `edge(Y,Z)` and `node(Z)`.
+const THREE: [Head; 3] = [(0, "XY"), (0, "YZ"), (1, "Z")];
 
 const THREE_PLANS: [&[(u8, u8)]; 3] = [
     &[(1, 0), (2, 1), (3, 1)],
@@ -55,7 +59,7 @@ const THREE_PLANS: [&[(u8, u8)]; 3] = [
     &[(3, 0), (2, 2), (1, 2)],
 ];
 
-const SIX: [&str; 6] = ["X", "Y", "XY", "1", "Z", "Za"];
+const SIX: [Head; 6] = [(0, "X"), (0, "Y"), (0, "XY"), (0, "1"), (0, "Z"), (0, "Za")];
 
 const SIX_PLANS: [&[(u8, u8)]; 6] = [
     &[(1, 0), (3, 1), (2, 1), (4, 1), (6, 2), (5, 1)],
@@ -67,7 +71,7 @@ const SIX_PLANS: [&[(u8, u8)]; 6] = [
 ];
 
 /// The first head whose plan is another one, or 0. None if memory ran out.
-fn first_wrong(alloc: Global, heads: &[&str], wanted: &[&[(u8, u8)]]) -> Option<u8> {
+fn first_wrong(alloc: Global, heads: &[Head], wanted: &[&[(u8, u8)]]) -> Option<u8> {
     let program = program_of(alloc, heads)?;
     let plans = Plans::make(alloc, &program).ok()?;
     let mut head: u8 = 0;
@@ -80,22 +84,25 @@ fn first_wrong(alloc: Global, heads: &[&str], wanted: &[&[(u8, u8)]]) -> Option<
     Some(0)
 }
 
-/// Heads, and the places that their plans look up: pairs of an arity and a place.
-const PLACES: [(&[&str], &[(u8, u8)]); 3] = [
-    (&THREE, &[(2, 1), (1, 1), (2, 2)]),
-    (&SIX, &[(2, 1), (1, 1), (2, 2)]),
-    (&["X"], &[]),
+/// Heads, and the places that their plans look up: the number of a name, an arity and a place.
+const PLACES: [(&[Head], &[(u32, u8, u8)]); 3] = [
+    (&THREE, &[(0, 2, 1), (1, 1, 1), (0, 2, 2)]),
+    (&SIX, &[(0, 2, 1), (0, 1, 1), (0, 2, 2)]),
+    (&[(0, "X")], &[]),
 ];
 
 /// Whether the plans of these heads look up these places. None if memory ran out.
-fn has_places(alloc: Global, heads: &[&str], wanted: &[(u8, u8)]) -> Option<bool> {
+fn has_places(alloc: Global, heads: &[Head], wanted: &[(u32, u8, u8)]) -> Option<bool> {
     let program = program_of(alloc, heads)?;
     let plans = Plans::make(alloc, &program).ok()?;
     let places = plans.places(alloc, &program).ok()?;
     Some(
         places.len() == wanted.len()
-            && places.iter().zip(wanted).all(|((pred, place), (arity, at))| pred.arity == *arity
-                && *place == *at),
+            && places.iter().zip(wanted).all(|((pred, place), wanted)| (
+                pred.name.number,
+                pred.arity,
+                *place,
+            ) == *wanted),
     )
 }
 

@@ -20,9 +20,11 @@ fn empty(alloc: Global, indexed: bool, limit: u64) -> Option<Store<Global>>
     Some(Store::new(alloc, limit))
 }
 
-/// A store with the limit 3 of `p(1)`, `p(2)` and `p(1)`, under 1, 2 and 3.
-fn store_of(alloc: Global, indexed: bool) -> Option<Store<Global>> {
-    let mut store = empty(alloc, indexed, 3)?;
+/// A store with a limit of at least 3 of `p(1)`, `p(2)` and `p(1)`, under 1, 2 and 3.
+fn store_of(alloc: Global, indexed: bool, limit: u64) -> Option<Store<Global>>
+    requires { limit ≤ 4294967295 }
+{
+    let mut store = empty(alloc, indexed, limit)?;
     for n in [1, 2, 1] {
         let mut atom = Atom::new(alloc, P);
         atom.push(Value::Int(n));
@@ -64,7 +66,7 @@ const ROWS_WITHOUT_3: [(bool, u64, u64, Option<u64>); 3] = [
 #[test]
 fn finds_the_next_label_and_keeps_its_limit(rt: HostRuntime) {
     for indexed in [false, true] {
-        let mut store = store_of(rt.alloc(), indexed).expect(&rt, "memory");
+        let mut store = store_of(rt.alloc(), indexed, 3).expect(&rt, "memory");
         assert_eq!(rt; first_wrong(&store, &ROWS), None, "{indexed}");
         assert!(rt; is_full(rt.alloc(), &mut store));
         assert_eq!(rt; (store.len(), store.next_label()), (3, 4));
@@ -74,5 +76,23 @@ fn finds_the_next_label_and_keeps_its_limit(rt: HostRuntime) {
         assert_eq!(rt; first_wrong(&store, &ROWS_WITHOUT_3), None, "{indexed}");
         assert!(rt; store.get(2).is_some() && is_full(rt.alloc(), &mut store));
         assert_eq!(rt; store.iter().count(), 2);
+    }
+}
+
+/// The label that is given after the greatest one of all has left the store. None if memory ran out.
+fn label_after_the_last_has_left(alloc: Global, indexed: bool) -> Option<u64> {
+    let mut store = store_of(alloc, indexed, 10)?;
+    store.remove(3)?;
+    if first_wrong(&store, &ROWS_WITHOUT_3).is_some() {
+        return None;
+    }
+    store.insert(Atom::new(alloc, P)).ok()
+}
+
+#[test]
+fn gives_no_label_again(rt: HostRuntime) {
+    for indexed in [false, true] {
+        let label = label_after_the_last_has_left(rt.alloc(), indexed);
+        assert_eq!(rt; label, Some(4), "{indexed}");
     }
 }
