@@ -10,7 +10,6 @@ use Rattle.chr_calls.specs.Headline.{Headline}
 use Rattle.chr_calls.specs.declared.answers.MarkFault.{MarkFault}
 use Rattle.chr_calls.specs.declared.answers.MarkFault.TheVariants.{NotWaiting}
 use Rattle.chr_calls.specs.declared.answers.TicketState.TheVariants.{Unknown}
-use Rattle.chr_seats.specs.declared.counts.Counts.{Counts}
 use Rattle.chr_seats.specs.declared.answers.HoldFault.{HoldFault}
 use Rattle.chr_seats.specs.declared.answers.HoldFault.TheVariants.{WrongSeat, NoBook}
 use Rattle.chr_seats.specs.Accounts.{SeatState, log_of, counts_in}

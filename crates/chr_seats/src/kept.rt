@@ -1,5 +1,5 @@
 //! What is under the lock.
-ghost use Rattle.std.specs.Prelude.{◌≡◌, ◌↔◌, ◌+◌, ◌-◌, ◌^◌, ◌<◌, ◌++◌, ℕ, set, [], true, false, not, length, sum_by, vec_len, OnOk, OnErr, IfOk, IfErr, IsTrue, IsSome, Some, None, Err};
+ghost use Rattle.std.specs.Prelude.{◌≡◌, ◌↔◌, ◌+◌, ◌-◌, ◌^◌, ◌<◌, ◌++◌, ℕ, set, [], true, false, not, length, sum_by, vec_len, IfSome, IsTrue, IsSome, None};
 ghost use Rattle.chr_seats.specs.Accounts.{log_of, made_upto, if_so, raised};
 ghost use Rattle.chr_seats.specs.Holds.{GoesOn, HasHeadline, HasRightCounts, IsHold, IsReading, MarksIn, TakesStrayIn};
 
@@ -12,6 +12,7 @@ use chr_book::book::Book;
 use chr_calls::answers::{MarkFault, TicketState};
 use std::alloc::Allocator;
 use std::marker::Model;
+use std::mem;
 use std::sync::ledger;
 use std::sync::ledger::Ledger;
 
@@ -151,17 +152,15 @@ impl<L1: PostLedger, L2: Ledger, A: Allocator + Copy> Kept<L1, L2, A> {
         self.others.audit(&mut others);
     }
 
-    /// Brings a book with an empty log. It comes back where one is there already.
-    pub(crate) fn install(&mut self, book: Book<A>) -> Result<(), Book<A>>
-        requires { book.log ≡ [] }
-        ensures there { OnOk result ((self.old ≡ None) × (self.new ≡ Some book)) }
-        ensures back { IfErr result (λ b. (b ≡ book) × IsSome self.old × (self.new ≡ self.old)) }
+    /// Brings a book with an empty log. It is left where one is there already.
+    pub(crate) fn install(&mut self, book: &mut Option<Book<A>>)
+        requires { IfSome book.old (λ b. b.log ≡ []) }
+        ensures there { self.old ≡ None → (self.new ≡ book.old) × (book.new ≡ None) }
+        ensures back { IsSome self.old → (self.new ≡ self.old) × (book.new ≡ book.old) }
     {
-        if self.book.is_some() {
-            return Err(book);
+        if self.book.is_none() {
+            mem::swap(&mut self.book, book);
         }
-        self.book = Some(book);
-        Ok(())
     }
 
     /// Makes a call by a seat, which adds posts or other entries. E26, and E24: then no call is made.

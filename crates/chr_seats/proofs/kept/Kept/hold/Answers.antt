@@ -1,4 +1,4 @@
-use Rattle.std.proofs.Common.{rules, ◌≡◌, ◌∙◌, sym, refl}
+use Rattle.std.proofs.Common.{rules, ◌∙◌, sym, refl}
 use Rattle.chr_seats.proofs.Left.{left, fits}
 use Rattle.chr_seats.proofs.kept.Kept.hold.Goals as goal
 
