@@ -1,7 +1,10 @@
 //! From the bytes of three texts to the line of an answer.
-ghost use Rattle.std.specs.Prelude.{◌≡◌, IfOk};
+ghost use Rattle.std.specs.Prelude.{◌≡◌, ℕ, List, [], Ok, IfOk};
+ghost use Rattle.chr_value.specs.Naming.{Table};
 ghost use Rattle.chr_log.specs.Events.{events_of};
+ghost use Rattle.chr_log_text.specs.Texts.{IsLogText};
 ghost use Rattle.chr_model.specs.Programs.{Instances};
+ghost use Rattle.chr_text.specs.Reading.{program_of};
 ghost use Rattle.chr_check_text.specs.CheckTexts.{IsAnswer, IsTold, IsCheckText, log_fault, store_fault};
 
 use crate::writing::written;
@@ -10,7 +13,7 @@ use chr_check::fault::{CheckError, CheckFault};
 use chr_lex::fault::{ReadError, ReadFault};
 use chr_log::events::{Event, Label, Version};
 use chr_log_text::fault::TextFault;
-use chr_log_text::reading::{read_log, read_store};
+use chr_log_text::reading::{LogText, read_log, read_store};
 use chr_rule::program::Program;
 use chr_text::reading::read_program;
 use chr_value::atom::Atom;
@@ -98,6 +101,43 @@ fn told<A: Allocator + Copy, W: Watch>(
     Ok(Checked { line, answer })
 }
 
+/// Reads a text of a store by the table of names so far, and tells what the check of a log and this store answers.
+fn check_store<A: Allocator + Copy, W: Watch>(
+    alloc: A,
+    program: &Program<A>,
+    names: &mut Names<A>,
+    log: &LogText<A>,
+    store: &[u8],
+    watch: &mut W,
+) -> Result<Checked<A>, CheckTextFault>
+    ensures { (rules logged : List ℕ) (table : Table) → program_of [] rules ≡ Ok (program.now, table) → IsLogText table logged log.now.version (events_of log.now.events.items) names.old → IsCheckText rules logged store.now result }
+{
+    match read_store(alloc, store, names) {
+        Ok(store) => match told(alloc, program, log.version, &log.events, &store, watch) {
+            Ok(checked) => Ok(checked),
+            Err(_) => Err(CheckTextFault::Memory),
+        },
+        Err(fault) => Err(store_fault(fault)),
+    }
+}
+
+/// Reads a text of a log and a text of a store by the table of names of the rules, and tells what the check answers.
+fn check_log<A: Allocator + Copy, W: Watch>(
+    alloc: A,
+    program: &Program<A>,
+    names: &mut Names<A>,
+    log: &[u8],
+    store: &[u8],
+    watch: &mut W,
+) -> Result<Checked<A>, CheckTextFault>
+    ensures { (rules : List ℕ) → program_of [] rules ≡ Ok (program.now, names.old) → IsCheckText rules log.now store.now result }
+{
+    match read_log(alloc, log, names) {
+        Ok(read) => check_store(alloc, program, names, &read, store, watch),
+        Err(fault) => Err(log_fault(fault)),
+    }
+}
+
 /// Reads a text of rules, a text of a log and a text of a store, in this order and with one table of names, and checks
 /// by the version of the log's header whether the log is a run of the rules that ends in the store.
 ///
@@ -125,21 +165,9 @@ pub fn watched_check_text<A: Allocator + Copy, W: Watch>(
     ensures { IsCheckText program.now log.now store.now result }
 {
     let mut names = Names::new(alloc);
-    let program = match read_program(alloc, program, &mut names) {
-        Ok(program) => program,
-        Err(ReadError::Fault(fault)) => return Err(CheckTextFault::Program(fault)),
-        Err(ReadError::Memory) => return Err(CheckTextFault::Memory),
-    };
-    let log = match read_log(alloc, log, &mut names) {
-        Ok(log) => log,
-        Err(fault) => return Err(log_fault(fault)),
-    };
-    let store = match read_store(alloc, store, &mut names) {
-        Ok(store) => store,
-        Err(fault) => return Err(store_fault(fault)),
-    };
-    match told(alloc, &program, log.version, &log.events, &store, watch) {
-        Ok(checked) => Ok(checked),
-        Err(AllocError) => Err(CheckTextFault::Memory),
+    match read_program(alloc, program, &mut names) {
+        Ok(rules) => check_log(alloc, &rules, &mut names, log, store, watch),
+        Err(ReadError::Fault(fault)) => Err(CheckTextFault::Program(fault)),
+        Err(ReadError::Memory) => Err(CheckTextFault::Memory),
     }
 }
