@@ -234,17 +234,24 @@ fn has_tokens(alloc: Global, text: &[u8], expected: &[(&str, &[u8])]) -> Result<
     Ok(rest.is_empty())
 }
 
+/// The first item whose tokens are others.
+fn first_with_others(alloc: Global) -> Option<usize> {
+    TOKENS.iter().position(|(text, expected)| !matches!(
+        has_tokens(alloc, text, expected),
+        Ok(true)
+    ))
+}
+
+/// The first item that is read as tokens, though it has none.
+fn first_with_tokens(alloc: Global) -> Option<usize> {
+    NO_TOKENS.iter().position(|text| !matches!(
+        has_tokens(alloc, text, &[]),
+        Err(ItemError::Fault(Kind::Syntax))
+    ))
+}
+
 #[test]
 fn tokens_of_an_item(rt: HostRuntime) {
-    for (i, (text, expected)) in TOKENS.iter().enumerate() {
-        let has = has_tokens(rt.alloc(), text, expected);
-        assert!(rt; matches!(has, Ok(true)), "row {i}");
-    }
-    for (i, text) in NO_TOKENS.iter().enumerate() {
-        let has = has_tokens(rt.alloc(), text, &[]);
-        assert!(rt;
-            matches!(has, Err(ItemError::Fault(Kind::Syntax))),
-            "row {i}"
-        );
-    }
+    assert_eq!(rt; first_with_others(rt.alloc()), None);
+    assert_eq!(rt; first_with_tokens(rt.alloc()), None);
 }

@@ -4,7 +4,7 @@ use chr_log::events::{Entry, Event, Labels, Version};
 use chr_log::log::Log;
 use chr_log::writing::{write_log, write_store};
 use chr_value::atom::{Atom, Value};
-use chr_value::names::Names;
+use chr_value::names::{Name, Names};
 use refusing::Refusing;
 use std::alloc::Global;
 
@@ -68,30 +68,85 @@ pub fn copy(memory: &Refusing<Global>, n: u64) -> Option<bool> {
     (log.copy(memory).ok()?.len() == 3).then_some(refused)
 }
 
-pub fn write_events_of_a_log(memory: &Refusing<Global>, n: u64) -> Option<bool> {
-    let names = Names::new(memory);
+/// Three firings.
+fn events_of(
+    memory: &Refusing<Global>,
+) -> Option<Vec<Event<&Refusing<Global>>, &Refusing<Global>>> {
     let mut events = Vec::new(memory);
     for ticket in 1..4u64 {
         events.push(entry_of(ticket).event).ok()?;
     }
-    let mut out = Vec::new(memory);
-    memory.refuse(n);
-    let answer = write_log(&mut out, &names, Version::One, &events);
-    let refused = is_refused(memory, answer.is_err())?;
-    out.clear();
-    write_log(&mut out, &names, Version::One, &events).ok()?;
-    (out.as_slice() == TEXT.as_bytes()).then_some(refused)
+    Some(events)
 }
 
-pub fn write_line_of_a_store(memory: &Refusing<Global>, n: u64) -> Option<bool> {
-    let mut names = Names::new(memory);
-    let mut atom = Atom::new(memory, names.intern("gcd").ok()?);
+/// Whether the events are written as their text into an emptied buffer. None where memory is refused.
+fn is_log_written(
+    names: &Names<&Refusing<Global>>,
+    events: &[Event<&Refusing<Global>>],
+    out: &mut Vec<u8, &Refusing<Global>>,
+) -> Option<bool> {
+    out.clear();
+    match write_log(out, names, Version::One, events) {
+        Ok(()) => Some(out.as_slice() == TEXT.as_bytes()),
+        Err(_) => None,
+    }
+}
+
+/// Writes the events, and once more into the same buffer.
+fn write_events(
+    memory: &Refusing<Global>,
+    n: u64,
+    events: &[Event<&Refusing<Global>>],
+) -> Option<bool> {
+    let names = Names::new(memory);
+    let mut out = Vec::new(memory);
+    memory.refuse(n);
+    let fails = is_log_written(&names, events, &mut out).is_none();
+    let refused = is_refused(memory, fails);
+    let again = is_log_written(&names, events, &mut out);
+    if again == Some(true) { refused } else { None }
+}
+
+pub fn write_events_of_a_log(memory: &Refusing<Global>, n: u64) -> Option<bool> {
+    let events = events_of(memory)?;
+    write_events(memory, n, &events)
+}
+
+/// Whether a store is written as its text into an emptied buffer. None where memory is refused.
+fn is_store_written(
+    names: &Names<&Refusing<Global>>,
+    lines: &[(u64, Atom<&Refusing<Global>>)],
+    out: &mut Vec<u8, &Refusing<Global>>,
+) -> Option<bool> {
+    out.clear();
+    match write_store(out, names, lines) {
+        Ok(()) => Some(out.as_slice() == b"#4294967295 gcd(1000000000)\n".as_slice()),
+        Err(_) => None,
+    }
+}
+
+/// Writes a store of one atom, whose name has its number in the table, and once more into the same buffer.
+fn write_one(
+    memory: &Refusing<Global>,
+    n: u64,
+    names: &Names<&Refusing<Global>>,
+    name: Name,
+) -> Option<bool> {
+    let mut atom = Atom::new(memory, name);
     atom.push(Value::Int(1_000_000_000));
     let lines = [(4_294_967_295, atom)];
     let mut out = Vec::new(memory);
     memory.refuse(n);
-    let refused = is_refused(memory, write_store(&mut out, &names, &lines).is_err())?;
-    out.clear();
-    write_store(&mut out, &names, &lines).ok()?;
-    (out.as_slice() == b"#4294967295 gcd(1000000000)\n".as_slice()).then_some(refused)
+    let fails = is_store_written(names, &lines, &mut out).is_none();
+    let refused = is_refused(memory, fails);
+    let again = is_store_written(names, &lines, &mut out);
+    if again == Some(true) { refused } else { None }
+}
+
+pub fn write_line_of_a_store(memory: &Refusing<Global>, n: u64) -> Option<bool> {
+    let mut names = Names::new(memory);
+    match names.intern("gcd") {
+        Ok(name) => write_one(memory, n, &names, name),
+        Err(_) => None,
+    }
 }

@@ -1,14 +1,17 @@
 //! A table of names.
 use crate::refusals::is_refused;
-use chr_value::names::Names;
+use chr_value::names::{Name, Names};
 use refusing::Refusing;
 use std::alloc::Global;
 
 static TEXTS: [&str; 12] = ["a", "b", "c", "d", "e", "f", "g", "h", "i", "j", "k", "l"];
 
 /// Numbers each text, again where that fails.
-pub fn intern(memory: &Refusing<Global>, n: u64) -> Option<bool> {
-    let mut names = Names::new(memory);
+fn intern_all(
+    memory: &Refusing<Global>,
+    n: u64,
+    names: &mut Names<&Refusing<Global>>,
+) -> Option<bool> {
     let mut fails = false;
     memory.refuse(n);
     for text in &TEXTS {
@@ -23,10 +26,37 @@ pub fn intern(memory: &Refusing<Global>, n: u64) -> Option<bool> {
     is_refused(memory, fails)
 }
 
-pub fn copy(memory: &Refusing<Global>, n: u64) -> Option<bool> {
+pub fn intern(memory: &Refusing<Global>, n: u64) -> Option<bool> {
     let mut names = Names::new(memory);
+    intern_all(memory, n, &mut names)
+}
+
+/// Whether a copy of a table has the number of a text. None where memory is refused.
+fn is_copied(
+    memory: &Refusing<Global>,
+    names: &Names<&Refusing<Global>>,
+    name: Name,
+) -> Option<bool> {
+    match names.copy(memory) {
+        Ok(copy) => Some(copy.find("gcd") == Some(name)),
+        Err(_) => None,
+    }
+}
+
+/// Copies a table after a text has its number.
+fn copy_of(
+    memory: &Refusing<Global>,
+    n: u64,
+    names: &mut Names<&Refusing<Global>>,
+) -> Option<bool> {
     let name = names.intern("gcd").ok()?;
     memory.refuse(n);
-    let refused = is_refused(memory, names.copy(memory).is_err())?;
-    (names.copy(memory).ok()?.find("gcd") == Some(name)).then_some(refused)
+    let fails = is_copied(memory, names, name).is_none();
+    let refused = is_refused(memory, fails)?;
+    is_copied(memory, names, name)?.then_some(refused)
+}
+
+pub fn copy(memory: &Refusing<Global>, n: u64) -> Option<bool> {
+    let mut names = Names::new(memory);
+    copy_of(memory, n, &mut names)
 }
