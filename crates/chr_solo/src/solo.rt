@@ -2,8 +2,10 @@
 ghost use Rattle.std.specs.Prelude.{◌≡◌, ◌≤◌, ◌+◌, ◌-◌, ◌/◌, ◌⊎◌, ℕ, ◌↔◌, Err, OnOk, OnErr, IfOk, MatchOption};
 ghost use Rattle.std.specs.List.{AllByRecursion};
 ghost use Rattle.chr_rule.specs.Scope.{IsRule};
-ghost use Rattle.chr_calls.specs.Books.{BookState};
+ghost use Rattle.chr_model.specs.Logs.{posted_by};
+ghost use Rattle.chr_calls.specs.Books.{BookState, events};
 ghost use Rattle.chr_calls.specs.Calls.{Claims, HoldsCandidate};
+ghost use Rattle.chr_calls.specs.Headline.{Headline};
 ghost use Rattle.chr_book.specs.Passed.{MakesFewer, StartsFewer};
 ghost use Rattle.chr_calls.specs.Tickets.{AreQuiet, IsOpenFor, IsLeastFor, state_of};
 ghost use Rattle.chr_calls.specs.declared.answers.ClaimFault.TheVariants as claim;
@@ -173,32 +175,14 @@ fn make_rounds<A: Allocator + Copy>(
     Ok(2 * rounds.count())
 }
 
-/// Makes at most `most` calls by one seat, each for the least open ticket that no other seat holds, to that ticket's end: it
-/// claims a ticket that waits or rests, asks for its next trial, fires it where it is whole and else reports it, and drops
-/// the goal once no trial is left. It ends where no such ticket is left, or at a claim for which the labels are spent (E10),
-/// which counts as a call. An `Err` is E01: the book is that of the calls made so far.
-pub fn solo_steps<A: Allocator + Copy>(
-    book: &mut Book<A>,
-    seat: u32,
-    most: u64,
-) -> Result<Solo, AllocError>
-    ensures solo { IfOk result (λ solo. IsSolo seat most book.old solo.calls book.new) }
-    ensures end { IfOk result (λ solo. (solo.end ≡ ends.Quiet) ↔ AreQuiet book.new.tickets) }
-    ensures cut_short { OnErr result (IsCutShort seat most book.old book.new) }
-{
-    watched_steps(book, seat, most, &mut Unwatched)
-}
-
-/// The same, and `watch` is told before each call how many were made before it. Of up to 2,049 calls that [`Book::start`] or
-/// [`Book::go_on`] makes at once it is told after them, and only how many were made before the last one.
-pub fn watched_steps<A: Allocator + Copy, W: Watch>(
+/// The calls of [`watched_steps`], whose number is returned.
+fn make_calls<A: Allocator + Copy, W: Watch>(
     book: &mut Book<A>,
     seat: u32,
     most: u64,
     watch: &mut W,
-) -> Result<Solo, AllocError>
-    ensures solo { IfOk result (λ solo. IsSolo seat most book.old solo.calls book.new) }
-    ensures end { IfOk result (λ solo. (solo.end ≡ ends.Quiet) ↔ AreQuiet book.new.tickets) }
+) -> Result<u64, AllocError>
+    ensures solo { IfOk result (λ calls. IsSolo seat most book.old calls book.new) }
     ensures cut_short { OnErr result (IsCutShort seat most book.old book.new) }
 {
     let mut calls = 0;
@@ -220,8 +204,43 @@ pub fn watched_steps<A: Allocator + Copy, W: Watch>(
         };
         known = next;
     }
+    Ok(calls)
+}
+
+/// Makes at most `most` calls by one seat, each for the least open ticket that no other seat holds, to that ticket's end: it
+/// claims a ticket that waits or rests, asks for its next trial, fires it where it is whole and else reports it, and drops
+/// the goal once no trial is left. It ends where no such ticket is left, or at a claim for which the labels are spent (E10),
+/// which counts as a call. An `Err` is E01: the book is that of the calls made so far. However it ends, the book has the
+/// headline of `chr_calls`.
+pub fn solo_steps<A: Allocator + Copy>(
+    book: &mut Book<A>,
+    seat: u32,
+    most: u64,
+) -> Result<Solo, AllocError>
+    ensures solo { IfOk result (λ solo. IsSolo seat most book.old solo.calls book.new) }
+    ensures end { IfOk result (λ solo. (solo.end ≡ ends.Quiet) ↔ AreQuiet book.new.tickets) }
+    ensures cut_short { OnErr result (IsCutShort seat most book.old book.new) }
+    ensures headline { Headline book.new (posted_by (events book.new)) }
+{
+    watched_steps(book, seat, most, &mut Unwatched)
+}
+
+/// The same, and `watch` is told before each call how many were made before it. Of up to 2,049 calls that [`Book::start`] or
+/// [`Book::go_on`] makes at once it is told after them, and only how many were made before the last one.
+pub fn watched_steps<A: Allocator + Copy, W: Watch>(
+    book: &mut Book<A>,
+    seat: u32,
+    most: u64,
+    watch: &mut W,
+) -> Result<Solo, AllocError>
+    ensures solo { IfOk result (λ solo. IsSolo seat most book.old solo.calls book.new) }
+    ensures end { IfOk result (λ solo. (solo.end ≡ ends.Quiet) ↔ AreQuiet book.new.tickets) }
+    ensures cut_short { OnErr result (IsCutShort seat most book.old book.new) }
+    ensures headline { Headline book.new (posted_by (events book.new)) }
+{
+    let made = make_calls(book, seat, most, watch);
     let end = if book.quiet() { End::Quiet } else { End::Open };
-    Ok(Solo { calls, end })
+    Ok(Solo { calls: made?, end })
 }
 
 /// Where each rule is in scope, as many calls of one seat, from one book, lead to one book and one judgement; a run of at most

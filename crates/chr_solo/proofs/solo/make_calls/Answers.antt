@@ -1,13 +1,12 @@
-use Rattle.std.proofs.Common.{◌≡◌, ◌∙◌, ◌+◌, ◌-◌, ◌/◌, sym, subst, arith, MatchOption, Err}
+use Rattle.std.proofs.Common.{◌≡◌, ◌∙◌, ◌-◌, ◌/◌, sym, subst, arith, MatchOption, Err}
 use Rattle.chr_calls.specs.declared.answers.ClaimFault.TheVariants as claim
 use Rattle.chr_calls.specs.Tickets.{NoneFor, IsLeastFor, IsOpenFor, state_of}
 use Rattle.chr_calls.specs.Books.{BookState}
 use Rattle.chr_calls.specs.Calls.{Claims}
-use Rattle.chr_solo.specs.Solo.{SoloCall, IsSolo, IsCutShort}
+use Rattle.chr_solo.specs.Solo.{SoloCall, IsCutShort}
 use Rattle.chr_solo.specs.SoloCode.{known_of, IsAware, SoloSoFar}
 use Rattle.chr_solo.proofs.SoloRuns.{begins, goes_on, ends_full, ends_none, ends_spent, cut_short, cut_start, none_of, on_err}
-use Rattle.chr_solo.proofs.solo.watched_steps.Goals as goal
-use Rattle.chr_solo.proofs.solo.watched_steps.Goals.{else-calls-most, then-calls-most+in_default, then-calls-most+in-Some+in_ok-made+else-made-gt0+in_ok-next+in_default-2}
+use Rattle.chr_solo.proofs.solo.make_calls.Goals as goal
 
 pub loop-calls-init : goal.loop-calls-init
 loop-calls-init g c = (begins c.args.seat c.args.book.now, omega arith)
@@ -50,24 +49,23 @@ loop-calls-preserved g c =
     let made = subst (λ o. MatchOption o (Claims b seat t (Err claim.LabelsSpent) n) (λ after. SoloCall seat t b known n (known_of after))) c.in-Some-2.is c.in_ok-next.ensures.ok in
     (goes_on seat c.loop-calls.calls t first b known n (known_of c.in-Some-2.next) so least made, omega (arith, c.if-calls-most.true))
 
-pub returns-clause-solo : goal.returns-clause-solo
-returns-clause-solo g c =
+pub returns-else-calls-most-clause-solo : goal.returns-else-calls-most-clause-solo
+returns-else-calls-most-clause-solo g c =
+    ends_full c.args.seat c.args.most c.loop-calls.calls c.args.book.now c.loop-calls.book (known_of c.loop-calls.known) c.loop-calls.invariant.0 c.loop-calls.invariant.1 (omega (arith, c.if-calls-most.false))
+
+pub returns-in_default-clause-solo : goal.returns-in_default-clause-solo
+returns-in_default-clause-solo g c =
+    ends_none c.args.seat c.args.most c.loop-calls.calls c.args.book.now c.loop-calls.book (known_of c.loop-calls.known) c.loop-calls.invariant.0 c.loop-calls.invariant.1
+    (none_of (NoneFor c.loop-calls.book.tickets c.args.seat) (IsLeastFor c.loop-calls.book.tickets c.args.seat) c.next_for.result c.next_for.ensures c.in_default.not-Some)
+
+pub returns-in_default-2-clause-solo : goal.returns-in_default-2-clause-solo
+returns-in_default-2-clause-solo g c =
     let seat = c.args.seat in
-    let most = c.args.most in
-    let calls = c.loop-calls.calls in
+    let t = c.in-Some.ticket in
     let first = c.args.book.now in
-    let b = c.loop-calls.book in
+    let now = c.make_rounds.new.book in
+    let n = c.call_for.new.book in
     let known = known_of c.loop-calls.known in
-    let so = c.loop-calls.invariant.0 in
-    elim c.if-calls-most.branch [
-      | else-calls-most w ↦ subst (λ k. IsSolo seat most first k c.if-calls-most.book) (sym w.calls-is) (subst (IsSolo seat most first calls) (sym w.book-is) (ends_full seat most calls first b known so c.loop-calls.invariant.1 (omega (arith, w.if-calls-most.false))))
-      | then-calls-most+in_default w ↦ subst (λ k. IsSolo seat most first k c.if-calls-most.book) (sym w.calls-is) (subst (IsSolo seat most first calls) (sym w.book-is) (ends_none seat most calls first b known so c.loop-calls.invariant.1
-          (none_of (NoneFor b.tickets seat) (IsLeastFor b.tickets seat) w.next_for.result w.next_for.ensures w.in_default.not-Some)))
-      | then-calls-most+in-Some+in_ok-made+else-made-gt0+in_ok-next+in_default-2 w ↦
-          let now = w.make_rounds.new.book in
-          let n = w.call_for.new.book in
-          let same : now ≡ b = w.in_ok-made.ensures.none (omega (arith, w.if-made-gt0.false)) in
-          subst (λ k. IsSolo seat most first k c.if-calls-most.book) (sym w.calls-is) (subst (IsSolo seat most first (calls + 1)) (sym w.book-is)
-          (ends_spent seat most calls w.in-Some.ticket first now known n (subst (λ (m : BookState). SoloSoFar seat first calls m known) (sym same) so) w.if-calls-most.true (subst (λ (m : BookState). IsLeastFor m.tickets seat w.in-Some.ticket) (sym same) w.in-Some.ensures)
-          (none_of (Claims now seat w.in-Some.ticket (Err claim.LabelsSpent) n) (λ after. SoloCall seat w.in-Some.ticket now known n (known_of after)) w.in_ok-next.field-0 w.in_ok-next.ensures.ok w.in_default-2.not-Some)))
-    ]
+    let same : now ≡ c.loop-calls.book = c.in_ok-made.ensures.none (omega (arith, c.if-made-gt0.false)) in
+    ends_spent seat c.args.most c.loop-calls.calls t first now known n (subst (λ (m : BookState). SoloSoFar seat first c.loop-calls.calls m known) (sym same) c.loop-calls.invariant.0) c.if-calls-most.true (subst (λ (m : BookState). IsLeastFor m.tickets seat t) (sym same) c.in-Some.ensures)
+    (none_of (Claims now seat t (Err claim.LabelsSpent) n) (λ after. SoloCall seat t now known n (known_of after)) c.in_ok-next.field-0 c.in_ok-next.ensures.ok c.in_default-2.not-Some)
