@@ -190,24 +190,36 @@ fn make_argument<'a>(alloc: Global, row: &Argument) -> Arg<'a> {
     }
 }
 
-/// Returns a command with its arguments.
-fn subcommand<'a>(alloc: Global, row: &CommandRow) -> Result<Command<'a>, AllocError> {
+/// Returns the arguments of a command.
+fn arguments<'a>(alloc: Global, rows: &[Argument]) -> Result<Vec<Arg<'a>>, AllocError> {
     let mut arguments = Vec::new(alloc);
-    for row in row.arguments {
+    for row in rows {
         arguments.push(make_argument(alloc, row))?;
     }
+    Ok(arguments)
+}
+
+/// Returns a command with its arguments.
+fn subcommand<'a>(alloc: Global, row: &CommandRow) -> Result<Command<'a>, AllocError> {
+    let arguments = arguments(alloc, row.arguments)?;
     Command::new(alloc, row.name)
         .about(row.about)
         .after_help(row.after_help)
         .args(arguments)
 }
 
-/// Returns the commands of the program with their arguments.
-pub(crate) fn command<'a>(alloc: Global) -> Result<Command<'a>, AllocError> {
+/// Returns the commands of the program below its own.
+fn subcommands<'a>(alloc: Global) -> Result<Vec<Command<'a>>, AllocError> {
     let mut commands = Vec::new(alloc);
     for row in &COMMANDS {
         commands.push(subcommand(alloc, row)?)?;
     }
+    Ok(commands)
+}
+
+/// Returns the commands of the program with their arguments.
+pub(crate) fn command<'a>(alloc: Global) -> Result<Command<'a>, AllocError> {
+    let subcommands = subcommands(alloc)?;
     Command::new(alloc, "chr")
         .version(VERSION)
         .after_help("Example:\n  chr run examples/gcd/gcd.chr examples/gcd/posts.txt")
@@ -215,5 +227,5 @@ pub(crate) fn command<'a>(alloc: Global) -> Result<Command<'a>, AllocError> {
             "Runs Constraint Handling Rules, logs each activation, firing and drop, and checks logs",
         )
         .subcommand_required(true)
-        .subcommands(commands)
+        .subcommands(subcommands)
 }
