@@ -84,6 +84,49 @@ fn leave<L1: PostLedger, L2: Ledger, A: Allocator + Copy, R: Wait>(
     shared.end(rt);
 }
 
+/// Whether a worker that has left a ticket so goes on.
+fn goes_on<L1: PostLedger, L2: Ledger, A: Allocator + Copy, R: Wait>(
+    rt: &R,
+    shared: &Shared<L1, L2, A>,
+    left: Left,
+    stop: Stop,
+) -> bool {
+    match (left, stop) {
+        (Left::Free, _) => true,
+        (Left::Want, Stop::Closed) => shared.rest(rt, shared.news(rt)) == Rest::News,
+        _ => {
+            leave(rt, shared);
+            false
+        }
+    }
+}
+
+/// Works on one ticket. Whether the worker goes on; else it has ended.
+fn work_on_one<L1: PostLedger, L2: Ledger, A: Allocator + Copy, R: Wait, G: Gate>(
+    rt: &R,
+    shared: &Shared<L1, L2, A>,
+    hand: &mut Hand<u64>,
+    seat: &mut Seat<L1, L2>,
+    gate: &G,
+    stop: &mut Stop,
+) -> bool
+    ensures hand { hand_id hand.new ≡ hand_id hand.old }
+    ensures number { seat.new.number ≡ seat.old.number }
+    ensures posts { seat.new.counts.posts ≡ seat.old.counts.posts }
+{
+    if is_over(rt, shared, *stop) {
+        leave(rt, shared);
+        return false;
+    }
+    match next_ticket(rt, shared, hand, *stop) {
+        Some(ticket) => {
+            let left = work_on_ticket(rt, shared, hand, seat, gate, stop, ticket);
+            goes_on(rt, shared, left, *stop)
+        }
+        None => false,
+    }
+}
+
 /// Works by a seat: takes a ticket of the pool, or else a stray one, claims it, and goes through its trials until its goal
 /// has ended; then it takes another. Trials are judged while the lock is free, the gate before each. The tickets of a
 /// firing are pushed on the hand, and one that the hand refuses is marked stray.
@@ -107,20 +150,7 @@ pub fn work<L1: PostLedger, L2: Ledger, A: Allocator + Copy, R: Wait, G: Gate>(
     let mut stop = stop;
     shared.begin(rt);
     for _ in rt.forever() {
-        if is_over(rt, shared, stop) {
-            leave(rt, shared);
-            return;
-        }
-        let Some(ticket) = next_ticket(rt, shared, hand, stop) else {
-            return;
-        };
-        let left = work_on_ticket(rt, shared, hand, seat, gate, &mut stop, ticket);
-        if left == Left::Want && stop == Stop::Closed {
-            if shared.rest(rt, shared.news(rt)) == Rest::Over {
-                return;
-            }
-        } else if left != Left::Free {
-            leave(rt, shared);
+        if !work_on_one(rt, shared, hand, seat, gate, &mut stop) {
             return;
         }
     }

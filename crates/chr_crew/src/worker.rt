@@ -1,6 +1,5 @@
 //! Workers: a hand and a seat each.
-ghost use Rattle.std.specs.Prelude.{◌≡◌, ◌≤◌, ◌<◌, ◌++◌, ℕ, List, map, length, get_or, vec_len, vec_capacity};
-ghost use Rattle.chr_seats.specs.Accounts.{SeatState};
+ghost use Rattle.std.specs.Prelude.{◌≡◌, ◌≤◌, ◌<◌, ◌+◌, ◌++◌, ℕ, map, length, get_or, vec_len, vec_capacity};
 ghost use Rattle.chr_pool.specs.Hands.{hand_id};
 
 use crate::gate::{Gate, Stop};
@@ -24,40 +23,42 @@ pub struct Worker<L1: PostLedger, L2: Ledger> {
 /// Gives each hand a seat, in order.
 pub fn join_all<L1: PostLedger, L2: Ledger, A: Allocator>(
     hands: Vec<Hand<u64>>,
-    seats: Vec<Seat<L1, L2>, A>,
+    seats: &mut Vec<Seat<L1, L2>, A>,
     room: Vec<Worker<L1, L2>, A>,
 ) -> Vec<Worker<L1, L2>, A>
-    requires enough { length hands.items ≤ length seats.items }
+    requires enough { length hands.items ≤ vec_len seats.old }
     requires empty { vec_len room ≡ 0 }
     requires room { length hands.items ≤ vec_capacity room }
     ensures hands { map (λ w. hand_id w.hand) result.items ≡ map hand_id hands.items }
     ensures count { length result.items ≡ length hands.items }
-    ensures seats { (left : List SeatState) × (map (λ w. w.seat) result.items ++ left ≡ seats.items) }
+    ensures seats { map (λ w. w.seat) result.items ++ seats.new.items ≡ seats.old.items }
+    ensures back { vec_capacity seats.new ≡ vec_capacity seats.old }
 {
     let mut workers = room;
-    let mut seats = seats.into_iter();
     for hand in hands {
-        let Some(seat) = seats.next() else {
-            unreachable!();
-        };
+        let seat = seats.remove(0);
         workers.push_reserved(Worker { hand, seat });
     }
     workers
 }
 
-/// Takes the hands from workers that have ended, in order.
-pub fn hands_of<L1: PostLedger, L2: Ledger, A: Allocator>(
+/// Takes the hands from workers that have ended, in order, and puts their seats back to the others.
+pub fn part_all<L1: PostLedger, L2: Ledger, A: Allocator>(
     workers: Vec<Worker<L1, L2>, A>,
+    seats: &mut Vec<Seat<L1, L2>, A>,
     room: Vec<Hand<u64>>,
 ) -> Vec<Hand<u64>>
     requires empty { vec_len room ≡ 0 }
     requires room { vec_len workers ≤ vec_capacity room }
-    ensures { map hand_id result.items ≡ map (λ w. hand_id w.hand) workers.items }
+    requires back { vec_len seats.old + vec_len workers ≤ vec_capacity seats.old }
+    ensures hands { map hand_id result.items ≡ map (λ w. hand_id w.hand) workers.items }
+    ensures seats { seats.new.items ≡ seats.old.items ++ map (λ w. w.seat) workers.items }
 {
     let mut hands = room;
     for worker in workers {
-        let Worker { hand, seat: _ } = worker;
+        let Worker { hand, seat } = worker;
         hands.push_reserved(hand);
+        seats.push_reserved(seat);
     }
     hands
 }

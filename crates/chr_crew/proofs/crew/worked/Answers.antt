@@ -1,6 +1,5 @@
-use Rattle.std.proofs.Common.{◌≡◌, ◌<◌, ◌+◌, ℕ, length, get_or, sym, ◌∙◌, subst}
-use Rattle.std.specs.Prelude.{Option, Some, IfSome, vec_len}
-use Rattle.chr_calls.specs.Books.{BookState}
+use Rattle.std.proofs.Common.{◌≡◌, ◌<◌, ◌+◌, ℕ, length, get_or, subst}
+use Rattle.std.specs.Prelude.{IfSome, vec_len}
 use Rattle.chr_pool.specs.Hands.{hand_id}
 use Rattle.chr_seats.specs.Accounts.{log_of, counts_in}
 use Rattle.chr_crew.proofs.Lists.{same_map}
@@ -13,9 +12,7 @@ returns-clause-hands g c =
 pub returns-clause-each : goal.returns-clause-each
 returns-clause-each g c =
     let len : length c.work_all.new.workers ≡ length c.args.workers.now = search in
-    let is : c.into_kept-kept.result ≡ Some c.in-Some.book = sym c.into_book.ensures.same ∙ c.in-Some.is in
-    subst (λ n. IfSome c.counted-counts.result (λ v. (k : ℕ) (d : _) → k < n → get_or v.items k d ≡ counts_in c.in-Some.book.log (k + 1))) len
-    (subst (λ (kept : Option BookState). IfSome c.counted-counts.result (λ v. (k : ℕ) (d : _) → k < length c.work_all.new.workers → get_or v.items k d ≡ counts_in (log_of kept) (k + 1))) is c.counted-counts.ensures.each)
+    subst (λ n. IfSome c.counted-counts.result (λ v. (k : ℕ) (d : _) → k < n → get_or v.items k d ≡ counts_in (log_of c.into_kept-kept.result) (k + 1))) len c.counted-counts.ensures.each
 
 pub returns-clause-all : goal.returns-clause-all
 returns-clause-all g c =
