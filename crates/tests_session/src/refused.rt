@@ -1,16 +1,16 @@
 //! A worked session with each request refused.
+use crate::serving::{end, texts};
+use crate::talks::{GREATEST, RUN};
 use chr_session::commands::Ended;
 use chr_session::memory::{MemorySink, MemorySource};
 use chr_session::session::ServeFault;
-use crate::serving::{end, texts};
-use crate::talks::{GREATEST, RUN};
 use refusing::Refusing;
 use std::alloc::Global;
 use std::test::Fail;
 
 /// What is written where a command of the run is refused memory, with a word for the command. A wait makes its calls up to
 /// the one that is refused, so the store and the log after it are those after any entry but the last.
-const REFUSED: [(&str, &str); 12] = [
+static REFUSED: [(&str, &str); 12] = [
     (
         "load",
         "fault E01 NoMemory\nfault E24 NoProgram\nfault E24 NoProgram\nfault E24 NoProgram\nfault E24 NoProgram\nbye\n",
@@ -61,24 +61,31 @@ const REFUSED: [(&str, &str); 12] = [
     ),
 ];
 
-/// Serves the run with request number `n` refused. The command that was answered E01, "" where none was, and "serve" where
-/// the session ended before the first; and whether a request was refused. None for any other session.
+/// The command that was answered E01, "" where none was, and "serve" where the session ended before the first. None for any
+/// other session.
+fn command_refused(ended: Result<Ended, ServeFault>, written: &[u8]) -> Option<&'static str> {
+    if ended == Err(ServeFault::NoMemory) && written.is_empty() {
+        return Some("serve");
+    }
+    for (command, replies) in &REFUSED {
+        if ended == Ok(Ended::Quit) && written == replies.as_bytes() {
+            return Some(*command);
+        }
+    }
+    None
+}
+
+/// Serves the run with request number `n` refused. The command that was refused, by the words above, and whether a request
+/// was refused.
 fn refused(alloc: Global, input: &[u8], n: u64) -> Option<(&'static str, bool)> {
     let memory = Refusing::new(alloc, n);
     let mut source = MemorySource::new(input, 65_536);
     let mut sink = MemorySink::new(alloc, 65_536);
     let (ended, _) = end(&memory, GREATEST, &mut source, &mut sink);
-    let was_refused = memory.was_refused();
-    let written = sink.bytes.as_slice();
-    if ended == Err(ServeFault::NoMemory) && written.is_empty() {
-        return Some(("serve", was_refused));
+    match command_refused(ended, &sink.bytes) {
+        None => None,
+        Some(command) => Some((command, memory.was_refused())),
     }
-    for (command, replies) in REFUSED {
-        if ended == Ok(Ended::Quit) && written == replies.as_bytes() {
-            return Some((command, was_refused));
-        }
-    }
-    None
 }
 
 #[test]
