@@ -147,3 +147,39 @@ fn judges_outside<R: Threads + Wait + Sync>(rt: &R, alloc: Global) -> Option<boo
 fn judging_under_the_lock(rt: HostRuntime) {
     assert_eq!(rt; judges_outside(&rt, rt.alloc()), Some(true));
 }
+
+/// A gate that counts the judgements, and those for ticket 5.
+#[derive(Drop)]
+struct Counting {
+    all: AtomicU64,
+    of_fifth: AtomicU64,
+}
+
+impl Gate for Counting {
+    fn before_judging(&self, ticket: u64) {
+        self.all.fetch_add(1, Ordering::SeqCst);
+        if ticket == 5 {
+            self.of_fifth.fetch_add(1, Ordering::SeqCst);
+        }
+    }
+}
+
+/// How many judgements a run by one worker makes, and how many for ticket 5: one for each of the first four goals, which
+/// have no partner, and for the fifth those of its own label alone and with each of the four partners, of which the last
+/// fires. None where memory ran out.
+fn judgements<R: Threads + Wait + Sync>(rt: &R, alloc: Global) -> Option<(u64, u64)> {
+    let gate = Counting {
+        all: AtomicU64::new(0),
+        of_fifth: AtomicU64::new(0),
+    };
+    let posts = "n(1), n(2), n(3), n(21), t.";
+    let book = open(alloc, "t \\ n(X) <=> X > 20 | r(X).", posts)?;
+    run(rt, alloc, alloc, book, 1, &gate, MANY).ok()?;
+    let all = gate.all.load(Ordering::SeqCst);
+    Some((all, gate.of_fifth.load(Ordering::SeqCst)))
+}
+
+#[test]
+fn each_judgement_of_a_batch_passes_the_gate(rt: HostRuntime) {
+    assert_eq!(rt; judgements(&rt, rt.alloc()), Some((9, 5)));
+}

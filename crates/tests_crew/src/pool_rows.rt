@@ -76,13 +76,13 @@ fn all_answer<R: Wait>(
     true
 }
 
-// A pool of two hands, with room for four tasks each, and an inlet.
+// A pool of three hands, with room for four tasks each, and an inlet.
 fn pool(alloc: Global) -> Result<(Vec<Hand<u64>>, Vec<Inlet<u64>>), AllocError>
     ensures { IfOk result (λ r. OfOneMake (map hand_id r.0.items) (map inlet_id r.1.items)) }
 {
-    match make::<u64>(alloc, 2, 1, 4) {
+    match make::<u64>(alloc, 3, 1, 4) {
         Ok(made) => Ok(made),
-        Err(_) => make::<u64>(alloc, 2, 1, 4),
+        Err(_) => make::<u64>(alloc, 3, 1, 4),
     }
 }
 
@@ -104,7 +104,7 @@ fn end<R: Wait>(
     }
 }
 
-// Whether a pool of two hands and an inlet answers these calls, and what `gather` then counts and leaves.
+// Whether a pool of three hands and an inlet answers these calls, and what `gather` then counts and leaves.
 fn holds<R: Wait>(
     rt: &R,
     alloc: Global,
@@ -158,6 +158,47 @@ fn the_queue_comes_before_the_deques_of_others(rt: HostRuntime) -> Result<(), Fa
         },
     ];
     assert!(rt; holds(&rt, rt.alloc(), &calls, (2, 2), &[])?);
+    Ok(())
+}
+
+#[test]
+fn the_hands_own_deque_comes_before_the_queue(rt: HostRuntime) -> Result<(), Fail> {
+    let calls = [
+        Call::Feed { inlet: 0, task: 9 },
+        Call::Push { hand: 0, task: 5 },
+        Call::Take {
+            hand: 0,
+            task: Some(5),
+        },
+        Call::Take {
+            hand: 0,
+            task: Some(9),
+        },
+    ];
+    assert!(rt; holds(&rt, rt.alloc(), &calls, (2, 2), &[])?);
+    Ok(())
+}
+
+#[test]
+fn the_deques_of_others_come_by_rising_number(rt: HostRuntime) -> Result<(), Fail> {
+    let calls = [
+        Call::Push { hand: 2, task: 7 },
+        Call::Push { hand: 0, task: 5 },
+        Call::Push { hand: 0, task: 6 },
+        Call::Take {
+            hand: 1,
+            task: Some(5),
+        },
+        Call::Take {
+            hand: 1,
+            task: Some(6),
+        },
+        Call::Take {
+            hand: 1,
+            task: Some(7),
+        },
+    ];
+    assert!(rt; holds(&rt, rt.alloc(), &calls, (3, 3), &[])?);
     Ok(())
 }
 
