@@ -1,8 +1,8 @@
 //! The desk, and the replies to each command.
-ghost use Rattle.std.specs.Prelude.{◌≡◌, ◌+◌, ℕ};
+ghost use Rattle.std.specs.Prelude.{◌≡◌, ◌+◌, ℕ, [], IfOk, IfErr};
 ghost use Rattle.chr_pool.specs.Inlets.{inlet_id};
-ghost use Rattle.chr_session.specs.Commands.{reply_of, command_of};
-ghost use Rattle.chr_shared_desk.specs.SharedReplies.{BringReplies, LoadReplies, PostReplies, WaitReplies, StoreReplies, LogReplies, SharedReplies, posted_by};
+ghost use Rattle.chr_session.specs.Commands.{Refused, reply_of, command_of};
+ghost use Rattle.chr_shared_desk.specs.SharedReplies.{IsLoaded, BringReplies, LoadReplies, PostReplies, WaitReplies, StoreReplies, LogReplies, SharedReplies, posted_by};
 
 use chr_book::book::{Book, OpenFault};
 use chr_lex::fault::ReadError;
@@ -21,6 +21,45 @@ use std::sync::ledger::Ledger;
 /// The greatest label of a book that a desk opens.
 const LIMIT: u64 = 4_294_967_295;
 
+/// A book of the rules of a text, and how many these are. E02 to E09 with their line for a text that has a fault, and E01.
+fn read_book<A: Allocator + Copy>(alloc: A, text: &[u8]) -> Result<(Book<A>, usize), Fault>
+    ensures empty { IfOk result (λ r. r.0.log ≡ []) }
+    ensures loaded { IfOk result (λ r. IsLoaded text.now r.1) }
+    ensures fault { IfErr result (λ fault. BringReplies text.now (Refused fault)) }
+{
+    let mut names = Names::new(alloc);
+    match read_program(alloc, text, &mut names) {
+        Ok(program) => {
+            let count = program.len();
+            match Book::new(alloc, program, names, LIMIT) {
+                Ok(book) => Ok((book, count)),
+                Err(OpenFault::NoMemory) => Err(Fault::NoMemory),
+                // The table has the names of the text that was read with it.
+                Err(OpenFault::UnknownName) => unreachable!(),
+            }
+        }
+        Err(ReadError::Memory) => Err(Fault::NoMemory),
+        Err(ReadError::Fault(fault)) => Err(Fault::Reading(fault)),
+    }
+}
+
+/// Whether a book with an empty log is brought. Where one is there already, it is let go.
+fn is_brought<R: Wait, L1: PostLedger, L2: Ledger, A: Allocator + Copy>(
+    rt: &R,
+    shared: &Shared<L1, L2, A>,
+    book: Book<A>,
+) -> bool
+    requires { book.log ≡ [] }
+{
+    match shared.install(rt, book) {
+        Ok(()) => true,
+        Err(book) => {
+            drop(book);
+            false
+        }
+    }
+}
+
 /// Brings a book of the rules of a text. E20 where one is there already; else E02 to E09 with their line for a text that
 /// has a fault, and E01.
 fn bring<R: Wait, L1: PostLedger, L2: Ledger, A: Allocator + Copy>(
@@ -31,23 +70,14 @@ fn bring<R: Wait, L1: PostLedger, L2: Ledger, A: Allocator + Copy>(
 ) -> Reply<A>
     ensures { BringReplies text.now (reply_of result) }
 {
-    let mut names = Names::new(alloc);
-    let program = match read_program(alloc, text, &mut names) {
-        Ok(program) => program,
-        Err(ReadError::Memory) => return Reply::Fault(Fault::NoMemory),
-        Err(ReadError::Fault(fault)) => return Reply::Fault(Fault::Reading(fault)),
+    let (book, count) = match read_book(alloc, text) {
+        Ok(read) => read,
+        Err(fault) => return Reply::Fault(fault),
     };
-    let count = program.len();
-    let book = match Book::new(alloc, program, names, LIMIT) {
-        Ok(book) => book,
-        Err(OpenFault::NoMemory) => return Reply::Fault(Fault::NoMemory),
-        // The table has the names of the text that was read with it.
-        Err(OpenFault::UnknownName) => unreachable!(),
-    };
-    if shared.install(rt, book).is_err() {
-        return Reply::Fault(Fault::AlreadyLoaded);
+    if is_brought(rt, shared, book) {
+        return Reply::Loaded(count);
     }
-    Reply::Loaded(count)
+    Reply::Fault(Fault::AlreadyLoaded)
 }
 
 /// Brings a book of the rules of a text where none is there. E26; E20; then the faults of a text and E01.

@@ -1,6 +1,6 @@
 use Rattle.std.proofs.Common.{Err, ap, ◌∙◌}
 use Rattle.chr_named.proofs.Entered.{program_named}
-use Rattle.chr_shared_desk.proofs.shared_desk.bring.Goals as goal
+use Rattle.chr_shared_desk.proofs.shared_desk.read_book.Goals as goal
 
 pub unreachable-requires : goal.unreachable-requires
 unreachable-requires g c =
