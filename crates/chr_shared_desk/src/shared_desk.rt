@@ -12,14 +12,12 @@ use chr_seats::seat::{PostLedger, Seat};
 use chr_seats::shared::Shared;
 use chr_session::desk::{Command, Desk, Fault, Reply};
 use chr_text::reading::read_program;
+use chr_value::label::GREATEST_LABEL;
 use chr_value::names::Names;
 use std::alloc::Allocator;
 use std::marker::Model;
 use std::sync::Wait;
 use std::sync::ledger::Ledger;
-
-/// The greatest label of a book that a desk opens.
-const LIMIT: u64 = 4_294_967_295;
 
 /// A book of the rules of a text, and how many these are. E02 to E09 with their line for a text that has a fault, and E01.
 fn read_book<A: Allocator + Copy>(alloc: A, text: &[u8]) -> Result<(Book<A>, usize), Fault>
@@ -31,7 +29,7 @@ fn read_book<A: Allocator + Copy>(alloc: A, text: &[u8]) -> Result<(Book<A>, usi
     match read_program(alloc, text, &mut names) {
         Ok(program) => {
             let count = program.len();
-            match Book::new(alloc, program, names, LIMIT) {
+            match Book::new(alloc, program, names, GREATEST_LABEL) {
                 Ok(book) => Ok((book, count)),
                 Err(OpenFault::NoMemory) => Err(Fault::NoMemory),
                 // The table has the names of the text that was read with it.
