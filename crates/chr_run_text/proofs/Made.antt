@@ -1,15 +1,16 @@
 -- What was read, posted and run is a run of two texts.
-use Rattle.std.proofs.Common.{◌≡◌, ℕ, ◌↔◌, List, Ok, Err, ap, subst, ◌∙◌}
+use Rattle.std.proofs.Common.{◌≡◌, ℕ, ◌↔◌, List, [], Result, Ok, Err, IfOk, IfErr, ap, subst, sym, ◌∙◌}
 use Rattle.chr_rule.specs.Rules.{Simpagation}
 use Rattle.chr_lex.specs.declared.fault.ReadFault.{ReadFault}
 use Rattle.chr_model.specs.Logs.{posted_by}
 use Rattle.chr_model.specs.Programs.{Instances}
 use Rattle.chr_model.specs.Stores.{Final}
-use Rattle.chr_text.specs.Reading.{posts_of}
+use Rattle.chr_text.specs.Reading.{program_of, posts_of}
 use Rattle.chr_calls.specs.Tickets.{AreQuiet}
 use Rattle.chr_calls.specs.Books.{BookState, opened, events}
 use Rattle.chr_calls.specs.Calls.{all_posted}
 use Rattle.chr_calls.specs.Headline.{Headline}
+use Rattle.chr_book.specs.Books.{IsOpened}
 use Rattle.chr_book.specs.Texts.{PostsAtoms}
 use Rattle.chr_book.specs.declared.texts.Posted.{Posted}
 use Rattle.chr_solo.specs.Solo.{Nothing, IsSolo}
@@ -18,8 +19,18 @@ use Rattle.chr_run_text.specs.Output.{shown}
 use Rattle.chr_run_text.specs.RunText.{seat, posted_book, IsRunOf, IsMade, IsOpenText, IsRefused}
 use Rattle.chr_run_text.specs.declared.output.Show.{Show}
 use Rattle.chr_run_text.specs.declared.running.RunOut.{RunOut}
+use Rattle.chr_run_text.specs.declared.running.RunFault.{RunFault}
 use Rattle.chr_run_text.specs.declared.running.RunFault.TheVariants as faults
 use Rattle.chr_run_text.proofs.SoloPosts.{solo_posts, all_posts, solo_rules, posted_rules}
+
+-- a book that was opened with the rules of a text, and why there is none
+pub opens_text : (program : List ℕ) (limit : ℕ) (rules : List (Simpagation ℕ)) (table : List (List ℕ)) → program_of [] program ≡ Ok (rules, table) → (opened : Result BookState RunFault) → IfOk opened (IsOpened rules table limit) → IfOk opened (IsOpenText program limit)
+opens_text program limit rules table reads (Ok b) is = record { read = record { rules = rules; table = table; reads = reads }; is = is }
+opens_text program limit rules table reads (Err fault) is = tt
+
+pub refuses_text : (program : List ℕ) (opened : Result BookState RunFault) → IfErr opened (λ fault. fault ≡ faults.Memory) → IfErr opened (λ fault. (posts : List ℕ) → IsRefused program posts fault)
+refuses_text program (Ok b) is = tt
+refuses_text program (Err fault) is = λ posts. subst (IsRefused program posts) (sym is) tt
 
 -- the posts of a text that was posted to an open book
 posted_text : (program posts : List ℕ) (limit : ℕ) (o b : BookState) → (open_text : IsOpenText program limit o) → (p : Posted) → (h : PostsAtoms o seat posts p b) → (posts_of open_text.read.table posts ≡ Ok (h.atoms, h.table)) × (b ≡ posted_book open_text.read.rules open_text.is.plans h.atoms h.table limit)

@@ -1,16 +1,23 @@
 //! From the bytes of two texts to the bytes shown.
-ghost use Rattle.std.specs.Prelude.{◌≤◌, ℕ, List, IfOk, IfErr};
-ghost use Rattle.chr_run_text.specs.RunText.{IsOpenText, IsRefused, IsRunText};
+ghost use Rattle.std.specs.Prelude.{◌≡◌, ◌≤◌, ℕ, List, IfOk, IfErr};
+ghost use Rattle.chr_calls.specs.Tickets.{AreQuiet};
+ghost use Rattle.chr_named.specs.Named.{RulesAreNamed};
+ghost use Rattle.chr_book.specs.Books.{IsOpened};
+ghost use Rattle.chr_solo.specs.declared.solo.End.TheVariants.{Quiet};
+ghost use Rattle.chr_run_text.specs.Output.{shown};
+ghost use Rattle.chr_run_text.specs.declared.running.RunFault.TheVariants as faults;
+ghost use Rattle.chr_run_text.specs.RunText.{IsOpenText, IsRefused, IsRunText, IsShownRun};
 
 use crate::output::{Show, write_shown};
 use chr_book::book::{Book, OpenFault};
 use chr_lex::fault::{ReadError, ReadFault};
+use chr_rule::program::Program;
 use chr_solo::solo::{End, watched_steps};
 use chr_store::store::Label;
 use chr_text::reading::read_program;
 use chr_value::names::Names;
 use chr_watch::{Unwatched, Watch};
-use std::alloc::Allocator;
+use std::alloc::{AllocError, Allocator};
 
 /// The seat that makes all calls.
 const SEAT: u32 = 0;
@@ -33,6 +40,25 @@ pub enum RunFault {
     Memory,
 }
 
+/// A book of these rules, which have their names in the table. An `Err` is E01.
+fn open_with<A: Allocator + Copy>(
+    alloc: A,
+    program: Program<A>,
+    names: Names<A>,
+    labels: Label,
+) -> Result<Book<A>, RunFault>
+    requires limit { labels ≤ 4294967295 }
+    requires named { RulesAreNamed names program }
+    ensures ok { IfOk result (IsOpened program names labels) }
+    ensures err { IfErr result (λ fault. fault ≡ faults.Memory) }
+{
+    match Book::new(alloc, program, names, labels) {
+        Ok(book) => Ok(book),
+        Err(OpenFault::NoMemory) => Err(RunFault::Memory),
+        Err(OpenFault::UnknownName) => unreachable!(),
+    }
+}
+
 /// A book of the rules of a text.
 fn open<A: Allocator + Copy>(alloc: A, program: &[u8], labels: Label) -> Result<Book<A>, RunFault>
     requires { labels ≤ 4294967295 }
@@ -40,16 +66,64 @@ fn open<A: Allocator + Copy>(alloc: A, program: &[u8], labels: Label) -> Result<
     ensures err { IfErr result (λ fault. (posts : List ℕ) → IsRefused program.now posts fault) }
 {
     let mut names = Names::new(alloc);
-    let program = match read_program(alloc, program, &mut names) {
-        Ok(program) => program,
-        Err(ReadError::Fault(fault)) => return Err(RunFault::Program(fault)),
-        Err(ReadError::Memory) => return Err(RunFault::Memory),
-    };
-    match Book::new(alloc, program, names, labels) {
-        Ok(book) => Ok(book),
-        Err(OpenFault::NoMemory) => Err(RunFault::Memory),
-        // The table has the names of the text that was read with it.
-        Err(OpenFault::UnknownName) => unreachable!(),
+    match read_program(alloc, program, &mut names) {
+        Ok(rules) => open_with(alloc, rules, names, labels),
+        Err(ReadError::Fault(fault)) => Err(RunFault::Program(fault)),
+        Err(ReadError::Memory) => Err(RunFault::Memory),
+    }
+}
+
+/// What is shown of a book whose end is known.
+fn shown_bytes<A: Allocator + Copy>(
+    alloc: A,
+    book: &Book<A>,
+    end: End,
+    show: Show,
+) -> Result<Vec<u8, A>, AllocError>
+    requires { end ≡ Quiet → AreQuiet book.now.tickets }
+    ensures { IfOk result (λ bytes. bytes.items ≡ shown show end book.now) }
+{
+    let mut bytes = Vec::new(alloc);
+    write_shown(&mut bytes, book, end, show)?;
+    Ok(bytes)
+}
+
+/// Makes at most `steps` calls on a book, and gives what is shown of it then.
+fn run_posted<A: Allocator + Copy, W: Watch>(
+    book: &mut Book<A>,
+    alloc: A,
+    steps: u64,
+    show: Show,
+    watch: &mut W,
+) -> Result<RunOut<A>, AllocError>
+    ensures { IfOk result (λ made. IsShownRun steps show made book.old book.new) }
+{
+    let solo = watched_steps(book, SEAT, steps, watch)?;
+    let bytes = shown_bytes(alloc, book, solo.end, show)?;
+    Ok(RunOut {
+        bytes,
+        end: solo.end,
+    })
+}
+
+/// Posts a text to a book as it is opened, makes at most `steps` calls, and gives what is shown of it then.
+fn run_on<A: Allocator + Copy, W: Watch>(
+    book: &mut Book<A>,
+    alloc: A,
+    posts: &[u8],
+    steps: u64,
+    show: Show,
+    watch: &mut W,
+) -> Result<RunOut<A>, RunFault>
+    ensures { (program : List ℕ) (labels : ℕ) → IsOpenText program labels book.old → IsRunText program posts.now steps labels show result }
+{
+    match book.post_text(SEAT, posts) {
+        Ok(_) => match run_posted(book, alloc, steps, show, watch) {
+            Ok(made) => Ok(made),
+            Err(_) => Err(RunFault::Memory),
+        },
+        Err(ReadError::Fault(fault)) => Err(RunFault::Posts(fault)),
+        Err(ReadError::Memory) => Err(RunFault::Memory),
     }
 }
 
@@ -88,22 +162,5 @@ pub fn watched_run<A: Allocator + Copy, W: Watch>(
         Ok(book) => book,
         Err(fault) => return Err(fault),
     };
-    match book.post_text(SEAT, posts) {
-        Ok(_) => {}
-        Err(ReadError::Fault(fault)) => return Err(RunFault::Posts(fault)),
-        Err(ReadError::Memory) => return Err(RunFault::Memory),
-    }
-    let Ok(solo) = watched_steps(&mut book, SEAT, steps, watch) else {
-        return Err(RunFault::Memory);
-    };
-    // For its clause: the book has the headline.
-    let _quiet = book.quiet();
-    let mut bytes = Vec::new(alloc);
-    match write_shown(&mut bytes, &book, solo.end, show) {
-        Ok(()) => Ok(RunOut {
-            bytes,
-            end: solo.end,
-        }),
-        Err(_) => Err(RunFault::Memory),
-    }
+    run_on(&mut book, alloc, posts, steps, show, watch)
 }
