@@ -4,12 +4,17 @@ use Rattle.chr_rule.specs.Rules.{Simpagation}
 use Rattle.chr_lex.specs.declared.fault.ReadError.TheVariants as errors
 use Rattle.chr_log.specs.Events.{Event, event_by_texts, labelled_by_texts, labelled_atoms}
 use Rattle.chr_log.specs.LogText.{entries_text, store_text}
+use Rattle.chr_model.specs.Logs.{posted_by}
+use Rattle.chr_model.specs.Programs.{Instances}
+use Rattle.chr_model.specs.Stores.{Final}
 use Rattle.chr_text.specs.Reading.{program_of}
 use Rattle.chr_calls.specs.Tickets.{AreQuiet}
 use Rattle.chr_calls.specs.Books.{BookState, events}
+use Rattle.chr_calls.specs.Headline.{Headline}
 use Rattle.chr_book.specs.Books.{IsOpened}
 use Rattle.chr_book.specs.Texts.{PostsText}
 use Rattle.chr_solo.specs.Solo.{IsSolo, IsCutShort}
+use Rattle.chr_session.specs.declared.desk.Fault.{Fault}
 use Rattle.chr_session.specs.declared.desk.Fault.TheVariants as faults
 use Rattle.chr_session.specs.Commands.{Command, Load, Post, Wait, Store, Log, Reply, Loaded, Posted, Quiet, Open, Stored, Logged, Refused}
 
@@ -27,6 +32,18 @@ pub record IsLoaded (limit : ℕ) (text : List ℕ) (count : ℕ) (new : Option 
   pub opens : IsOpened rules table limit book
   pub after : new ≡ Some book
 
+-- a book opened with the rules of a text, and why there is none
+pub record OpensText (limit : ℕ) (text : List ℕ) (b : BookState) : Type 0 where
+  pub rules : List (Simpagation ℕ)
+  pub table : List (List ℕ)
+  pub reads : program_of [] text ≡ Ok (rules, table)
+  pub opens : IsOpened rules table limit b
+
+abbrev pub RefusesText : List ℕ → Fault → Type 0
+RefusesText text (faults.Reading fault) = program_of [] text ≡ Err fault
+RefusesText text faults.NoMemory = Unit {0}
+RefusesText text other = ⊥
+
 -- a text is loaded, or it has a fault, or memory ran out: then there is no program as before
 abbrev pub LoadsText : ℕ → List ℕ → Reply → Option BookState → Type 0
 LoadsText limit text (Loaded count) new = IsLoaded limit text count new
@@ -41,16 +58,18 @@ PostReplies b text (Refused (faults.Reading fault)) n = PostsText b seat text (E
 PostReplies b text (Refused faults.NoMemory) n = PostsText b seat text (Err errors.Memory) n
 PostReplies b text other n = ⊥
 
--- a whole solo run of at most so many calls
+-- a whole solo run of at most so many calls, to a book that has the headline
 pub record Waited (most : ℕ) (b n : BookState) : Type 0 where
   pub calls : ℕ
   pub solo : IsSolo seat most b calls n
+  pub headline : Headline n (posted_by (events n))
 
--- A solo run ends quiet, exactly where no ticket is open, or open. Where memory ran out the book is that of the calls made.
+-- A solo run ends quiet, exactly where no ticket is open, and then no rule applies to the store; or it ends open. Where memory
+-- ran out the book is that of the calls made, and has the headline.
 abbrev pub WaitReplies : BookState → ℕ → Reply → BookState → Type 0
-WaitReplies b most Quiet n = Waited most b n × AreQuiet n.tickets
+WaitReplies b most Quiet n = Waited most b n × AreQuiet n.tickets × Final (Instances n.rules) n.store
 WaitReplies b most Open n = Waited most b n × (AreQuiet n.tickets → ⊥)
-WaitReplies b most (Refused faults.NoMemory) n = IsCutShort seat most b n
+WaitReplies b most (Refused faults.NoMemory) n = IsCutShort seat most b n × Headline n (posted_by (events n))
 WaitReplies b most other n = ⊥
 
 -- how many constraints the store has, and a line for each; the book is as before

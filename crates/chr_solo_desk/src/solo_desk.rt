@@ -1,11 +1,15 @@
 //! The desk, and the replies to each command.
-ghost use Rattle.std.specs.Prelude.{◌≡◌, ◌≤◌, ℕ, None, Some, vec_len};
+ghost use Rattle.std.specs.Prelude.{◌≡◌, ◌≤◌, ℕ, None, Some, IfOk, IfErr, vec_len};
 ghost use Rattle.chr_calls.specs.Books.{BookState};
+ghost use Rattle.chr_named.specs.Named.{RulesAreNamed};
+ghost use Rattle.chr_book.specs.Books.{IsOpened};
+ghost use Rattle.chr_session.specs.declared.desk.Fault.TheVariants as faults;
 ghost use Rattle.chr_session.specs.Commands.{reply_of, command_of};
-ghost use Rattle.chr_solo_desk.specs.SoloSteps.{LoadsText, PostReplies, WaitReplies, StoreReplies, LogReplies, BookReplies, SoloReplies};
+ghost use Rattle.chr_solo_desk.specs.SoloSteps.{OpensText, RefusesText, LoadsText, PostReplies, WaitReplies, StoreReplies, LogReplies, BookReplies, SoloReplies};
 
 use chr_book::book::{Book, OpenFault};
 use chr_lex::fault::ReadError;
+use chr_rule::program::Program;
 use chr_session::desk::{Command, Desk, Fault, Reply};
 use chr_solo::solo::{End, solo_steps};
 use chr_store::store::Label;
@@ -26,8 +30,40 @@ pub struct SoloDesk<A: Allocator> {
     book: Option<Book<A>>,
 }
 
-/// Opens a book of the rules of a text. E02 to E09 with their line for a text that has a fault, and E01: then there is no
-/// book.
+/// A book of these rules, which have their names in the table. An `Err` is E01.
+fn open_with<A: Allocator + Copy>(
+    alloc: A,
+    limit: Label,
+    program: Program<A>,
+    names: Names<A>,
+) -> Result<Book<A>, Fault>
+    requires limit { limit ≤ 4294967295 }
+    requires named { RulesAreNamed names program }
+    ensures ok { IfOk result (IsOpened program names limit) }
+    ensures err { IfErr result (λ fault. fault ≡ faults.NoMemory) }
+{
+    match Book::new(alloc, program, names, limit) {
+        Ok(book) => Ok(book),
+        Err(OpenFault::NoMemory) => Err(Fault::NoMemory),
+        Err(OpenFault::UnknownName) => unreachable!(),
+    }
+}
+
+/// A book of the rules of a text. E02 to E09 with their line for a text that has a fault, and E01.
+fn open<A: Allocator + Copy>(alloc: A, limit: Label, text: &[u8]) -> Result<Book<A>, Fault>
+    requires { limit ≤ 4294967295 }
+    ensures ok { IfOk result (OpensText limit text.now) }
+    ensures err { IfErr result (RefusesText text.now) }
+{
+    let mut names = Names::new(alloc);
+    match read_program(alloc, text, &mut names) {
+        Ok(program) => open_with(alloc, limit, program, names),
+        Err(ReadError::Memory) => Err(Fault::NoMemory),
+        Err(ReadError::Fault(fault)) => Err(Fault::Reading(fault)),
+    }
+}
+
+/// Opens a book of the rules of a text, where there is none. After a refusal there is none still.
 fn load<A: Allocator + Copy>(
     alloc: A,
     limit: Label,
@@ -38,21 +74,13 @@ fn load<A: Allocator + Copy>(
     requires limit { limit ≤ 4294967295 }
     ensures { LoadsText limit text.now (reply_of result) book.new }
 {
-    let mut names = Names::new(alloc);
-    let program = match read_program(alloc, text, &mut names) {
-        Ok(program) => program,
-        Err(ReadError::Memory) => return Reply::Fault(Fault::NoMemory),
-        Err(ReadError::Fault(fault)) => return Reply::Fault(Fault::Reading(fault)),
-    };
-    let count = program.len();
-    match Book::new(alloc, program, names, limit) {
+    match open(alloc, limit, text) {
         Ok(made) => {
+            let count = made.program().len();
             *book = Some(made);
             Reply::Loaded(count)
         }
-        Err(OpenFault::NoMemory) => Reply::Fault(Fault::NoMemory),
-        // The table has the names of the text that was read with it.
-        Err(OpenFault::UnknownName) => unreachable!(),
+        Err(fault) => Reply::Fault(fault),
     }
 }
 
