@@ -1,4 +1,4 @@
-//! The first labelled instance of a program's rules over a store that has a label, by plain enumeration of the store.
+//! A labelled instance of a program's rules over a store that has a label, by plain enumeration of the store.
 //!
 //! [`find_with_label`](search::find_with_label) is exact both ways: what it finds is a labelled instance that has the label, and
 //! it finds none only where there is none. It takes no memory, and knows a store only as a list of labels with their

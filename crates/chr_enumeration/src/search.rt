@@ -65,9 +65,8 @@ fn find_with_entry<'s, A: Allocator + Copy>(
     None
 }
 
-/// The first labelled instance of a program's rules over a store that has a label, in the order of trials: by rule, by
-/// the head that the label is for, and by the entries of the other heads in the store's order. None only where the
-/// label is in no labelled instance over the store. The store has no label twice.
+/// A labelled instance of a program's rules over a store that has a label. None only where the label is in no labelled
+/// instance over the store. The store has no label twice.
 pub fn find_with_label<A: Allocator + Copy>(
     program: &Program<A>,
     store: &[(Label, &Atom<A>)],
