@@ -1,6 +1,9 @@
 //! Lists of calls.
 ghost use Rattle.std.specs.Prelude.{◌≡◌, ◌≤◌, length, map, if◌then◌else◌, IfOk, OnErr};
+ghost use Rattle.chr_model.specs.Logs.{posted_by};
 ghost use Rattle.chr_calls.specs.Batches.{AreRight};
+ghost use Rattle.chr_calls.specs.Books.{events};
+ghost use Rattle.chr_calls.specs.Headline.{Headline};
 ghost use Rattle.chr_run_calls.specs.Lists.{Own};
 ghost use Rattle.chr_run_calls.specs.CallLists.{IsNoneTold, not_held, stale, Acts, ActsByWord, ReportsByWords, Answers, AnswersAre};
 ghost use Rattle.chr_run_calls.specs.Code.{word_of, words_of, call_of, seat_call_of, answer_of, said_by};
@@ -178,14 +181,8 @@ fn make_call<A: Allocator + Copy>(
     }
 }
 
-/// Makes these calls on a book, one after another, and returns the answer to each, in order. A call that is refused changes
-/// nothing, and the calls after it are made all the same. Where a report or a firing goes by the seat's own judgement and
-/// the seat was told no trial for the ticket, it is E13 unless the seat holds the ticket, and else E14. An `Err` is E01,
-/// for the room of the answers: then no call was made.
-///
-/// Looking for the seat's own judgement goes back over the answers to the one that told the trial, and takes memory for a
-/// copy of it; the other calls take what the book's own take.
-pub fn run_calls<A: Allocator + Copy>(
+/// The calls of [`run_calls`]. An `Err` is E01, for the room of the answers: then no call was made.
+fn make_calls<A: Allocator + Copy>(
     alloc: A,
     book: &mut Book<A>,
     calls: &[SeatCall<A>],
@@ -199,4 +196,26 @@ pub fn run_calls<A: Allocator + Copy>(
         answers.push_reserved(answer);
     }
     Ok(answers)
+}
+
+/// Makes these calls on a book, one after another, and returns the answer to each, in order. A call that is refused changes
+/// nothing, and the calls after it are made all the same. Where a report or a firing goes by the seat's own judgement and
+/// the seat was told no trial for the ticket, it is E13 unless the seat holds the ticket, and else E14. An `Err` is E01,
+/// for the room of the answers: then no call was made. However it ends, the book has the headline of `chr_calls`.
+///
+/// Looking for the seat's own judgement goes back over the answers to the one that told the trial, and takes memory for a
+/// copy of it; the other calls take what the book's own take.
+pub fn run_calls<A: Allocator + Copy>(
+    alloc: A,
+    book: &mut Book<A>,
+    calls: &[SeatCall<A>],
+) -> Result<Vec<Answer<A>, A>, AllocError>
+    ensures ok { IfOk result (λ answers. AnswersAre book.old (map seat_call_of calls.now) (map answer_of answers.items) book.new) }
+    ensures err { OnErr result (book.new ≡ book.old) }
+    ensures headline { Headline book.new (posted_by (events book.new)) }
+{
+    let made = make_calls(alloc, book, calls);
+    // For its clause: the book has the headline.
+    let _quiet = book.quiet();
+    made
 }

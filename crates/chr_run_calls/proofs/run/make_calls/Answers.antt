@@ -5,7 +5,7 @@ use Rattle.chr_run_calls.specs.declared.calls.Answer.{Answer}
 use Rattle.chr_run_calls.specs.CallLists.{Answers, AnswersAre}
 use Rattle.chr_run_calls.specs.Code.{call_of, seat_call_of, answer_of, said_by}
 use Rattle.chr_run_calls.proofs.Said.{next_answered}
-use Rattle.chr_run_calls.proofs.run.run_calls.Goals as goal
+use Rattle.chr_run_calls.proofs.run.make_calls.Goals as goal
 
 pub loop-by-preserved : goal.loop-by-preserved
 loop-by-preserved g c =

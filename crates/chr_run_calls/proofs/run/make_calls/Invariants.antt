@@ -1,7 +1,7 @@
 use Rattle.std.proofs.Common.{◌≡◌, ◌≤◌, length, take, map, vec_capacity}
 use Rattle.chr_run_calls.specs.CallLists.{AnswersAre}
 use Rattle.chr_run_calls.specs.Code.{seat_call_of, answer_of}
-use Rattle.chr_run_calls.proofs.run.run_calls.Given as goal
+use Rattle.chr_run_calls.proofs.run.make_calls.Given as goal
 
 abbrev pub invariant-loop-by : goal.invariant-loop-by
 invariant-loop-by g l = record {
