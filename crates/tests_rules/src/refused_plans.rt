@@ -40,13 +40,16 @@ fn rule_of(memory: &Refusing<Global>) -> Option<SharedRule<'_>> {
 }
 
 /// Adds a rule 20 times, each again where that fails.
-pub fn push(memory: &Refusing<Global>, n: u64) -> Option<bool> {
-    let rule = rule_of(memory)?;
-    let mut program = Program::new(memory);
+fn push_all<'m>(
+    memory: &'m Refusing<Global>,
+    n: u64,
+    rule: &SharedRule<'m>,
+    program: &mut Program<&'m Refusing<Global>>,
+) -> Option<bool> {
     let mut fails = false;
     memory.refuse(n);
     for _ in 0..40u8 {
-        if program.len() < 20 && program.push(Arc::try_clone(&rule).ok()?).is_err() {
+        if program.len() < 20 && program.push(Arc::try_clone(rule).ok()?).is_err() {
             fails = true;
         }
     }
@@ -54,6 +57,12 @@ pub fn push(memory: &Refusing<Global>, n: u64) -> Option<bool> {
         return None;
     }
     is_refused(memory, fails)
+}
+
+pub fn push(memory: &Refusing<Global>, n: u64) -> Option<bool> {
+    let rule = rule_of(memory)?;
+    let mut program = Program::new(memory);
+    push_all(memory, n, &rule, &mut program)
 }
 
 /// A program of one rule.
@@ -64,11 +73,24 @@ fn program_of(memory: &Refusing<Global>) -> Option<Program<&Refusing<Global>>> {
     Some(program)
 }
 
+/// How many rules a copy of a program has. None where memory is refused.
+fn copied<'m>(
+    memory: &'m Refusing<Global>,
+    program: &Program<&'m Refusing<Global>>,
+) -> Option<usize> {
+    match program.copy(memory) {
+        Ok(copy) => Some(copy.len()),
+        Err(_) => None,
+    }
+}
+
 pub fn copy(memory: &Refusing<Global>, n: u64) -> Option<bool> {
     let program = program_of(memory)?;
     memory.refuse(n);
-    let refused = is_refused(memory, program.copy(memory).is_err())?;
-    (program.copy(memory).ok()?.len() == 1).then_some(refused)
+    let fails = copied(memory, &program).is_none();
+    let refused = is_refused(memory, fails);
+    let again = copied(memory, &program);
+    if again == Some(1) { refused } else { None }
 }
 
 pub fn make(memory: &Refusing<Global>, n: u64) -> Option<bool> {

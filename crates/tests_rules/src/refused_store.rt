@@ -12,8 +12,11 @@ fn atom_of(memory: &Refusing<Global>, number: u32) -> Atom<&Refusing<Global>> {
 }
 
 /// Inserts 40 atoms, each again where that fails.
-pub fn insert(memory: &Refusing<Global>, n: u64) -> Option<bool> {
-    let mut store = Store::new(memory, 40);
+fn insert_all<'m>(
+    memory: &'m Refusing<Global>,
+    n: u64,
+    store: &mut Store<&'m Refusing<Global>>,
+) -> Option<bool> {
     let mut fails = false;
     memory.refuse(n);
     for number in 0..40u32 {
@@ -26,6 +29,11 @@ pub fn insert(memory: &Refusing<Global>, n: u64) -> Option<bool> {
         return None;
     }
     is_refused(memory, fails)
+}
+
+pub fn insert(memory: &Refusing<Global>, n: u64) -> Option<bool> {
+    let mut store = Store::new(memory, 40);
+    insert_all(memory, n, &mut store)
 }
 
 const PRED: Pred = Pred {
@@ -63,8 +71,11 @@ fn count(store: &Store<&Refusing<Global>>, argument: i64) -> usize {
 
 /// Inserts 20 atoms of each of two values into a store with an index, each again where that fails, and the store has
 /// none of it in between.
-pub fn insert_indexed(memory: &Refusing<Global>, n: u64) -> Option<bool> {
-    let mut store = Store::indexed(memory, 40, &[(PRED, 1)]).ok()?;
+fn insert_all_indexed<'m>(
+    memory: &'m Refusing<Global>,
+    n: u64,
+    store: &mut Store<&'m Refusing<Global>>,
+) -> Option<bool> {
     let mut fails = false;
     memory.refuse(n);
     for number in 0..40i64 {
@@ -79,10 +90,15 @@ pub fn insert_indexed(memory: &Refusing<Global>, n: u64) -> Option<bool> {
             store.insert(atom).ok()?;
         }
     }
-    if count(&store, 0) != 20 || count(&store, 1) != 20 {
+    if count(store, 0) != 20 || count(store, 1) != 20 {
         return None;
     }
     is_refused(memory, fails)
+}
+
+pub fn insert_indexed(memory: &Refusing<Global>, n: u64) -> Option<bool> {
+    let mut store = Store::indexed(memory, 40, &[(PRED, 1)]).ok()?;
+    insert_all_indexed(memory, n, &mut store)
 }
 
 /// A store of 40 atoms.
@@ -94,9 +110,19 @@ fn store_of(memory: &Refusing<Global>) -> Option<Store<&Refusing<Global>>> {
     Some(store)
 }
 
+/// How many atoms a copy of a store has. None where memory is refused.
+fn copied<'m>(memory: &'m Refusing<Global>, store: &Store<&'m Refusing<Global>>) -> Option<usize> {
+    match store.copy(memory) {
+        Ok(copy) => Some(copy.len()),
+        Err(_) => None,
+    }
+}
+
 pub fn copy(memory: &Refusing<Global>, n: u64) -> Option<bool> {
     let store = store_of(memory)?;
     memory.refuse(n);
-    let refused = is_refused(memory, store.copy(memory).is_err())?;
-    (store.copy(memory).ok()?.len() == 40).then_some(refused)
+    let fails = copied(memory, &store).is_none();
+    let refused = is_refused(memory, fails);
+    let again = copied(memory, &store);
+    if again == Some(40) { refused } else { None }
 }

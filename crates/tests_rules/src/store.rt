@@ -63,19 +63,40 @@ const ROWS_WITHOUT_3: [(bool, u64, u64, Option<u64>); 3] = [
     (false, 1, 4, Some(2)),
 ];
 
+/// Whether a store of three atoms answers its table, and takes no fourth one.
+fn is_right_with_3(alloc: Global, store: &mut Store<Global>) -> bool {
+    first_wrong(store, &ROWS).is_none()
+        && is_full(alloc, store)
+        && (store.len(), store.next_label()) == (3, 4)
+}
+
+/// Whether it answers its table once label 3 is gone, and takes none in its place.
+fn is_right_without_3(alloc: Global, store: &mut Store<Global>) -> bool {
+    store.remove(3).is_some()
+        && store.get(3).is_none()
+        && first_wrong(store, &ROWS_WITHOUT_3).is_none()
+        && store.get(2).is_some()
+        && is_full(alloc, store)
+        && store.iter().count() == 2
+}
+
+/// Whether both hold of a store, plain or with an index. None where memory ran out.
+fn is_right(alloc: Global, indexed: bool) -> Option<bool> {
+    let mut store = store_of(alloc, indexed, 3)?;
+    Some(is_right_with_3(alloc, &mut store) && is_right_without_3(alloc, &mut store))
+}
+
+/// Whether a store whose limit is 0 takes no atom. None where memory ran out.
+fn takes_none(alloc: Global, indexed: bool) -> Option<bool> {
+    let mut none = empty(alloc, indexed, 0)?;
+    Some(is_full(alloc, &mut none))
+}
+
 #[test]
 fn finds_the_next_label_and_keeps_its_limit(rt: HostRuntime) {
     for indexed in [false, true] {
-        let mut store = store_of(rt.alloc(), indexed, 3).expect(&rt, "memory");
-        assert_eq!(rt; first_wrong(&store, &ROWS), None, "{indexed}");
-        assert!(rt; is_full(rt.alloc(), &mut store));
-        assert_eq!(rt; (store.len(), store.next_label()), (3, 4));
-        let mut none = empty(rt.alloc(), indexed, 0).expect(&rt, "memory");
-        assert!(rt; is_full(rt.alloc(), &mut none));
-        assert!(rt; store.remove(3).is_some() && store.get(3).is_none());
-        assert_eq!(rt; first_wrong(&store, &ROWS_WITHOUT_3), None, "{indexed}");
-        assert!(rt; store.get(2).is_some() && is_full(rt.alloc(), &mut store));
-        assert_eq!(rt; store.iter().count(), 2);
+        assert_eq!(rt; is_right(rt.alloc(), indexed), Some(true), "{indexed}");
+        assert_eq!(rt; takes_none(rt.alloc(), indexed), Some(true), "{indexed}");
     }
 }
 

@@ -80,10 +80,10 @@ fn events_of(
 }
 
 /// Whether the events are written as their text into an emptied buffer. None where memory is refused.
-fn is_log_written(
-    names: &Names<&Refusing<Global>>,
-    events: &[Event<&Refusing<Global>>],
-    out: &mut Vec<u8, &Refusing<Global>>,
+fn is_log_written<'m>(
+    names: &Names<&'m Refusing<Global>>,
+    events: &[Event<&'m Refusing<Global>>],
+    out: &mut Vec<u8, &'m Refusing<Global>>,
 ) -> Option<bool> {
     out.clear();
     match write_log(out, names, Version::One, events) {
@@ -93,10 +93,10 @@ fn is_log_written(
 }
 
 /// Writes the events, and once more into the same buffer.
-fn write_events(
-    memory: &Refusing<Global>,
+fn write_events<'m>(
+    memory: &'m Refusing<Global>,
     n: u64,
-    events: &[Event<&Refusing<Global>>],
+    events: &[Event<&'m Refusing<Global>>],
 ) -> Option<bool> {
     let names = Names::new(memory);
     let mut out = Vec::new(memory);
@@ -113,10 +113,10 @@ pub fn write_events_of_a_log(memory: &Refusing<Global>, n: u64) -> Option<bool> 
 }
 
 /// Whether a store is written as its text into an emptied buffer. None where memory is refused.
-fn is_store_written(
-    names: &Names<&Refusing<Global>>,
-    lines: &[(u64, Atom<&Refusing<Global>>)],
-    out: &mut Vec<u8, &Refusing<Global>>,
+fn is_store_written<'m>(
+    names: &Names<&'m Refusing<Global>>,
+    lines: &[(u64, Atom<&'m Refusing<Global>>)],
+    out: &mut Vec<u8, &'m Refusing<Global>>,
 ) -> Option<bool> {
     out.clear();
     match write_store(out, names, lines) {
@@ -126,10 +126,10 @@ fn is_store_written(
 }
 
 /// Writes a store of one atom, whose name has its number in the table, and once more into the same buffer.
-fn write_one(
-    memory: &Refusing<Global>,
+fn write_one<'m>(
+    memory: &'m Refusing<Global>,
     n: u64,
-    names: &Names<&Refusing<Global>>,
+    names: &Names<&'m Refusing<Global>>,
     name: Name,
 ) -> Option<bool> {
     let mut atom = Atom::new(memory, name);

@@ -7,10 +7,10 @@ use std::alloc::Global;
 static TEXTS: [&str; 12] = ["a", "b", "c", "d", "e", "f", "g", "h", "i", "j", "k", "l"];
 
 /// Numbers each text, again where that fails.
-fn intern_all(
-    memory: &Refusing<Global>,
+fn intern_all<'m>(
+    memory: &'m Refusing<Global>,
     n: u64,
-    names: &mut Names<&Refusing<Global>>,
+    names: &mut Names<&'m Refusing<Global>>,
 ) -> Option<bool> {
     let mut fails = false;
     memory.refuse(n);
@@ -32,9 +32,9 @@ pub fn intern(memory: &Refusing<Global>, n: u64) -> Option<bool> {
 }
 
 /// Whether a copy of a table has the number of a text. None where memory is refused.
-fn is_copied(
-    memory: &Refusing<Global>,
-    names: &Names<&Refusing<Global>>,
+fn is_copied<'m>(
+    memory: &'m Refusing<Global>,
+    names: &Names<&'m Refusing<Global>>,
     name: Name,
 ) -> Option<bool> {
     match names.copy(memory) {
@@ -44,10 +44,10 @@ fn is_copied(
 }
 
 /// Copies a table after a text has its number.
-fn copy_of(
-    memory: &Refusing<Global>,
+fn copy_of<'m>(
+    memory: &'m Refusing<Global>,
     n: u64,
-    names: &mut Names<&Refusing<Global>>,
+    names: &mut Names<&'m Refusing<Global>>,
 ) -> Option<bool> {
     let name = names.intern("gcd").ok()?;
     memory.refuse(n);
