@@ -6,8 +6,8 @@
 //! says: that a run gets to its end, that two workers judge at once and the lock is free meanwhile, that sleepers wake, what
 //! becomes of tickets where turns, labels or memory run out, and that a session beside workers finds what it posted; that a
 //! desk's posts are the atoms that its client named, that another desk finds them at once, which tickets the workers' pool
-//! gets, that of sixteen loads at once just one is told `loaded`, and that a wait ends where no worker is awake; which task a hand takes first, that it answers `None` only where the
-//! deques and the queue are empty, and that the calls return.
+//! gets, that of sixteen loads at once just one is told `loaded`, and that a wait ends where no worker is awake; which task
+//! a hand takes first, that it answers `None` only where the deques and the queue are empty, and that the calls return.
 //!
 //! Three tests have the names of wrong bodies that they refuse and no proof can: `gives_up_at_once`,
 //! `judging_under_the_lock` and `desk_posts_other_atoms`.
