@@ -1,5 +1,5 @@
 -- Batches and reports of batches keep what a book keeps.
-use Rattle.std.proofs.Common.{ℕ, List, [], ◌∷◌, Result, Ok, Err}
+use Rattle.std.proofs.Common.{ℕ, List, Result, Ok, Err}
 use Rattle.chr_search.specs.Judged.{Judgement}
 use Rattle.chr_calls.specs.declared.answers.TurnFault.{TurnFault}
 use Rattle.chr_calls.specs.Turns.{Turn, Next}

@@ -32,8 +32,8 @@ use Rattle.chr_calls.specs.declared.answers.FireFault.TheVariants as fire
 use Rattle.chr_calls.specs.Tickets.{Ticket, ended, waiting, going_on, ticket_at}
 use Rattle.chr_calls.specs.Books.{BookState, goal_state, events, space_of, with_ticket}
 use Rattle.chr_calls.specs.Calls.{AreLive, FiresOrMisses, fired_ticket, fired}
-use Rattle.chr_calls.specs.Headline.{IsCandidate, IsKept}
-use Rattle.chr_calls.proofs.Tickets.{AfterSet, is_set, stands, after_set, goal_there, goals_set, goals_stay, goals_waiting, goals_appended, numbered_before, kept_as_is, kept_with, events_more}
+use Rattle.chr_calls.specs.Headline.{IsCandidate, IsAhead, IsKept}
+use Rattle.chr_calls.proofs.Tickets.{AfterSet, is_set, stands, after_set, goal_there, goals_set, goals_stay, goals_waiting, goals_appended, numbered_before, none_ahead, set_ahead, waiting_ahead, kept_as_is, kept_with, events_more}
 
 -- ---- a trial of which a label has left the store
 
@@ -61,7 +61,7 @@ missed_kept b t trial c dead k =
     let gone = one_gone b.store trial.placed dead in
     kept_with b t (going_on (past (position trial)) (ticket_at b.tickets t)) refl
     (λ l at. past_gone b t l gone.0 trial at c gone.1 b.store (λ m a seen h. h) gone.2 k)
-    (λ l other at is. absurd (let z : None ≡ Some other = is in cc)) k
+    (λ l other at is. absurd (let z : None ≡ Some other = is in cc)) (none_ahead (going_on (past (position trial)) (ticket_at b.tickets t)) refl) k
 
 -- ---- the labels of a whole trial
 
@@ -228,9 +228,14 @@ fired_kept b seat t l trial body lives at c w i e k =
       given = λ u m h. given u m (after_firing b.tickets t trial body lives u m h) h;
       searching = λ u m h. searching one.0 one.1 dead u m (after_firing b.tickets t trial body lives u m h) h;
       candidates = λ u m other h is. candidate u m other (after_firing b.tickets t trial body lives u m h) h is;
+      ahead = waiting_ahead (slice_set b.tickets t (fired_ticket (ticket_at b.tickets t) trial lives)) body (set_ahead b.tickets t (fired_ticket (ticket_at b.tickets t) trial lives) k.ahead (fired_ahead lives));
       youngest = o.youngest;
     }
   where
+    fired_ahead : (stays : Bool) → IsAhead (fired_ticket (ticket_at b.tickets t) trial stays)
+    fired_ahead true = none_ahead (going_on (past (position trial)) (ticket_at b.tickets t)) refl
+    fired_ahead false = none_ahead ended refl
+
     given : (u m : ℕ) → AfterFiring b.tickets t trial body lives u → (ticket_at (tickets_fired b.tickets t trial body lives) u).goal ≡ Numbered m → m < b.next
     given u m (goes_on is) h = k.given t m (ap (λ (y : Ticket). y.goal) (sym is) ∙ h)
     given u m (is_other is) h = k.given u m (ap (λ (y : Ticket). y.goal) (sym is) ∙ h)

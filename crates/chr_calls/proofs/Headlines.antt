@@ -43,8 +43,8 @@ use Rattle.chr_calls.specs.Calls.{posted, all_posted, Posts, Claims, Turns, Repo
 use Rattle.chr_calls.specs.Batches.{Batch, Trials, Done, Gone, BatchReport, Batches, ReportsAll, asks, ends, reports, passes, ReportsBatch, AreRight}
 use Rattle.chr_calls.specs.Runs.{Call, Run, posts_of, all_posts}
 use Rattle.chr_calls.specs.Runs as calls
-use Rattle.chr_calls.specs.Headline.{Headline, IsKept}
-use Rattle.chr_calls.proofs.Tickets.{goal_there, events_more}
+use Rattle.chr_calls.specs.Headline.{Headline, IsAhead, IsKept}
+use Rattle.chr_calls.proofs.Tickets.{goal_there, none_ahead, events_more}
 use Rattle.chr_calls.proofs.Posting.{renamed_keeps, posts_keep}
 use Rattle.chr_calls.proofs.Claiming.{claims_keep}
 use Rattle.chr_calls.proofs.Marking.{put_downs_keep, marks_keep, strays_keep}
@@ -56,6 +56,10 @@ none_numbered : (t l : ℕ) → (ticket_at (ended ∷ []) t).goal ≡ Numbered l
 none_numbered zero l h = cc
 none_numbered (suc t) l h = cc
 
+opened_ahead : (t : ℕ) → IsAhead (ticket_at (ended ∷ []) t)
+opened_ahead zero = none_ahead ended refl
+opened_ahead (suc t) = none_ahead ended refl
+
 pub opened_kept : (rules : List (Simpagation ℕ)) (plans : PlanList) (names : List (List ℕ)) (limit : ℕ) → ArePlans rules plans → IsKept (opened rules plans names limit)
 opened_kept rules plans names limit ps = record {
   plans = ps;
@@ -63,6 +67,7 @@ opened_kept rules plans names limit ps = record {
   given = λ t l at. absurd (none_numbered t l at);
   searching = λ t l at. absurd (none_numbered t l at);
   candidates = λ t l trial at is. absurd (none_numbered t l at);
+  ahead = opened_ahead;
   youngest = λ r kept removed body i y h. absurd (let there = Labelled-there (Instances rules) [] r kept removed body y h.there i in let z : None ≡ Some there.0 = there.1 in cc);
 }
 

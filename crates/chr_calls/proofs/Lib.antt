@@ -7,3 +7,4 @@ pub mod Batching
 pub mod Firing
 pub mod Dropping
 pub mod Headlines
+pub mod Moving

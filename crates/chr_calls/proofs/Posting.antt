@@ -21,7 +21,7 @@ use Rattle.chr_calls.specs.Tickets.{Ticket, waiting, ticket_at}
 use Rattle.chr_calls.specs.Books.{BookState, goal_state, events, space_of, with_names}
 use Rattle.chr_calls.specs.Calls.{posted, all_posted, Posts}
 use Rattle.chr_calls.specs.Headline.{IsCandidate, IsKept}
-use Rattle.chr_calls.proofs.Tickets.{goals_appended, numbered_before, kept_as_is, events_more}
+use Rattle.chr_calls.proofs.Tickets.{goals_appended, numbered_before, waiting_ahead, kept_as_is, events_more}
 
 -- what is kept says nothing of names
 pub renamed_keeps : (b : BookState) (table : Table) → IsKept b → IsKept (with_names b table)
@@ -31,6 +31,7 @@ renamed_keeps b table k = record {
   given = k.given;
   searching = k.searching;
   candidates = λ t l trial at is. (let c = k.candidates t l trial at is in record { formed = c.formed; was = c.was; active = c.active; given = c.given });
+  ahead = k.ahead;
   youngest = k.youngest;
 }
 
@@ -45,6 +46,7 @@ posted_keeps b seat a k = record {
   given = λ t l at. k.given t l (ap (λ (x : Ticket). x.goal) (sym (old t l at)) ∙ at);
   searching = λ t l at. subst (λ (x : Ticket). Searching (space_of b l) x.position (option_map position x.candidate)) (sym (old t l at)) (k.searching t l (ap (λ (x : Ticket). x.goal) (sym (old t l at)) ∙ at));
   candidates = λ t l trial at is. moved l trial (k.candidates t l trial (ap (λ (x : Ticket). x.goal) (sym (old t l at)) ∙ at) (ap (λ (x : Ticket). x.candidate) (sym (old t l at)) ∙ is));
+  ahead = waiting_ahead b.tickets (a ∷ []) k.ahead;
   youngest = subst (YoungestAreGoals (Instances b.rules)) (sym (posted_state b seat a)) (young_posted (Instances b.rules) (goal_state b) a k.youngest);
 }
   where

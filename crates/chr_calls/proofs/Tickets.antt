@@ -18,7 +18,7 @@ use Rattle.chr_calls.specs.declared.answers.TicketState.{TicketState}
 use Rattle.chr_calls.specs.declared.answers.TicketState.TheVariants.{Unknown, Waiting, Held, Resting}
 use Rattle.chr_calls.specs.Tickets.{Ticket, ended, waiting, ticket_at, state_with, state_of}
 use Rattle.chr_calls.specs.Books.{BookState, goal_state, events, space_of, with_ticket, with_entry}
-use Rattle.chr_calls.specs.Headline.{IsCandidate, IsKept}
+use Rattle.chr_calls.specs.Headline.{IsCandidate, IsAhead, IsKept}
 
 -- ---- reads after writes
 
@@ -194,6 +194,25 @@ held_label ts t k l h i = same_number k l (sym h ∙ i)
 
 -- ---- what a book keeps
 
+-- a ticket without a candidate
+pub none_ahead : (x : Ticket) → x.candidate ≡ None → IsAhead x
+none_ahead x none trial is = absurd (let z : None ≡ Some trial = sym none ∙ is in cc)
+
+-- tickets of which one is set, and to which some that wait are appended
+pub set_ahead : (ts : List Ticket) (t : ℕ) (x : Ticket) → ((u : ℕ) → IsAhead (ticket_at ts u)) → IsAhead x → (u : ℕ) → IsAhead (ticket_at (slice_set ts t x) u)
+set_ahead ts t x all one u = of_set (after_set ts t x u)
+  where
+    of_set : AfterSet ts t x u → IsAhead (ticket_at (slice_set ts t x) u)
+    of_set (is_set e within is) = subst IsAhead (sym is) one
+    of_set (stands is) = subst IsAhead (sym is) (all u)
+
+pub waiting_ahead : (ts : List Ticket) (as' : List (Atom ℕ)) → ((u : ℕ) → IsAhead (ticket_at ts u)) → (u : ℕ) → IsAhead (ticket_at (ts ++ map waiting as') u)
+waiting_ahead [] [] all u = none_ahead ended refl
+waiting_ahead [] (a ∷ as') all zero = none_ahead (waiting a) refl
+waiting_ahead [] (a ∷ as') all (suc u) = waiting_ahead [] as' all u
+waiting_ahead (x ∷ ts) as' all zero = all 0
+waiting_ahead (x ∷ ts) as' all (suc u) = waiting_ahead ts as' (λ v. all (suc v)) u
+
 -- an answer that changes nothing
 pub kept_as_is : (b n : BookState) → n ≡ b → IsKept b → IsKept n
 kept_as_is b n e k = subst IsKept (sym e) k
@@ -202,13 +221,14 @@ kept_as_is b n e k = subst IsKept (sym e) k
 pub kept_with : (b : BookState) (t : ℕ) (x : Ticket) → x.goal ≡ (ticket_at b.tickets t).goal
     → ((l : ℕ) → x.goal ≡ Numbered l → Searching (space_of b l) x.position (option_map position x.candidate))
     → ((l : ℕ) (trial : Trial) → x.goal ≡ Numbered l → x.candidate ≡ Some trial → IsCandidate b l trial)
-    → IsKept b → IsKept (with_ticket b t x)
-kept_with b t x same searching candidates k = record {
+    → IsAhead x → IsKept b → IsKept (with_ticket b t x)
+kept_with b t x same searching candidates ahead k = record {
   plans = k.plans;
   lawful = subst (Lawful Two (Instances b.rules) (events b)) (sym (state_stays b t x same)) k.lawful;
   given = λ u l at. given u l (after_set b.tickets t x u) at;
   searching = λ u l at. searched u l (after_set b.tickets t x u) at;
   candidates = λ u l trial at is. candidate u l trial (after_set b.tickets t x u) at is;
+  ahead = set_ahead b.tickets t x k.ahead ahead;
   youngest = subst (YoungestAreGoals (Instances b.rules)) (sym (state_stays b t x same)) k.youngest;
 }
   where
@@ -233,7 +253,7 @@ kept_forgotten b t x same place none k = kept_with b t x same
     (λ l at. subst (λ c. Searching (space_of b l) x.position (option_map position c)) (sym none)
     (subst (λ p. Searching (space_of b l) p None) (sym place)
     (Rattle.chr_search.proofs.Searching.forgotten (space_of b l) (ticket_at b.tickets t).position (option_map position (ticket_at b.tickets t).candidate) (k.searching t l (sym same ∙ at)))))
-    (λ l trial at is. absurd (let z : None ≡ Some trial = sym none ∙ is in cc)) k
+    (λ l trial at is. absurd (let z : None ≡ Some trial = sym none ∙ is in cc)) (none_ahead x none) k
 
 -- the log with an entry more
 pub events_more : (b : BookState) (seat : ℕ) (e : Event ℕ) → events (with_entry b seat e) ≡ events b ++ e ∷ []

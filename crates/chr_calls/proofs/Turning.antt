@@ -12,6 +12,7 @@ use Rattle.chr_model.specs.Programs.{Instances}
 use Rattle.chr_model.proofs.Stores.{among-itself}
 use Rattle.chr_model.proofs.Once.{Lawful-once}
 use Rattle.chr_model.proofs.Older.{store_below}
+use Rattle.chr_search.specs.Positions.{at_or_after}
 use Rattle.chr_search.specs.Tree.{Grows}
 use Rattle.chr_search.specs.Trials.{Join, MayFollow, Space, join_in, IsTrial, IsNext}
 use Rattle.chr_search.specs.Reach.{Searching}
@@ -31,8 +32,8 @@ use Rattle.chr_calls.specs.Turns.{Turn, Next, Done, Gone}
 use Rattle.chr_calls.specs.Tickets.{with_candidate, going_on, ticket_at}
 use Rattle.chr_calls.specs.Books.{BookState, goal_state, events, space_of, with_ticket}
 use Rattle.chr_calls.specs.Calls.{IsNextTrial, with_candidate_of, Turns, after_judgement, Reports}
-use Rattle.chr_calls.specs.Headline.{IsCandidate, IsKept}
-use Rattle.chr_calls.proofs.Tickets.{held_label, kept_as_is, kept_with, kept_forgotten}
+use Rattle.chr_calls.specs.Headline.{IsCandidate, IsAhead, IsKept}
+use Rattle.chr_calls.proofs.Tickets.{held_label, none_ahead, kept_as_is, kept_with, kept_forgotten}
 
 -- ---- trial
 
@@ -63,6 +64,12 @@ trial_given : (b : BookState) (trial : Trial) → Lawful Two (Instances b.rules)
 trial_given b trial lawful i =
     given_before b.store b.next (λ l a h. store_below (goal_state b) (Lawful-once Two (Instances b.rules) (events b) (goal_state b) lawful) l a h) trial.placed i.live
 
+-- and at or after the position
+next_ahead : (s : Space) (place found : List ℕ) → IsNext s place found → at_or_after place found ≡ true
+next_ahead s place found n =
+    let is : found ≡ n.more = n.is in
+    subst (λ z. at_or_after place z ≡ true) (sym is) n.beyond.there
+
 next_candidate : (b : BookState) (t l : ℕ) (trial : Trial) → Lawful Two (Instances b.rules) (events b) (goal_state b) → IsNextTrial b t l trial → IsCandidate b l trial
 next_candidate b t l trial lawful n = record {
   formed = n.formed;
@@ -72,7 +79,7 @@ next_candidate b t l trial lawful n = record {
 }
 
 next_keeps : (b : BookState) (t l : ℕ) (trial : Trial) → (ticket_at b.tickets t).goal ≡ Numbered l → IsNextTrial b t l trial → IsKept b → IsKept (with_candidate_of b t (Some trial))
-next_keeps b t l trial g n k = kept_with b t (with_candidate (Some trial) (ticket_at b.tickets t)) refl searching candidate k
+next_keeps b t l trial g n k = kept_with b t (with_candidate (Some trial) (ticket_at b.tickets t)) refl searching candidate ahead k
   where
     searching : (m : ℕ) → (ticket_at b.tickets t).goal ≡ Numbered m → Searching (space_of b m) (ticket_at b.tickets t).position (Some (position trial))
     searching m e =
@@ -83,6 +90,11 @@ next_keeps b t l trial g n k = kept_with b t (with_candidate (Some trial) (ticke
     candidate m other e c =
         let same : trial ≡ other = cc in
         subst (IsCandidate b m) same (subst (λ z. IsCandidate b z trial) (held_label b.tickets t l m g e) (next_candidate b t l trial k.lawful n))
+
+    ahead : IsAhead (with_candidate (Some trial) (ticket_at b.tickets t))
+    ahead other c =
+        let same : trial ≡ other = cc in
+        subst (λ z. at_or_after (ticket_at b.tickets t).position (position z) ≡ true) same (next_ahead (space_of b l) (ticket_at b.tickets t).position (position trial) n.next)
 
 none_keeps : (b : BookState) (t : ℕ) → IsKept b → IsKept (with_candidate_of b t None)
 none_keeps b t k = kept_forgotten b t (with_candidate None (ticket_at b.tickets t)) refl refl refl k
@@ -98,7 +110,7 @@ turns_keep b n seat t (Ok Done) h k = subst IsKept (sym h.3) (none_keeps b t k)
 
 -- the ticket's search goes on at a position, without a candidate
 moved_keeps : (b : BookState) (t : ℕ) (place : List ℕ) → ((l : ℕ) → (ticket_at b.tickets t).goal ≡ Numbered l → Searching (space_of b l) place None) → IsKept b → IsKept (with_ticket b t (going_on place (ticket_at b.tickets t)))
-moved_keeps b t place s k = kept_with b t (going_on place (ticket_at b.tickets t)) refl s (λ l trial e c. absurd (let z : Some trial ≡ None = sym c in cc)) k
+moved_keeps b t place s k = kept_with b t (going_on place (ticket_at b.tickets t)) refl s (λ l trial e c. absurd (let z : Some trial ≡ None = sym c in cc)) (none_ahead (going_on place (ticket_at b.tickets t)) refl) k
 
 -- the search of a ticket that has this candidate
 searching_of : (b : BookState) (t : ℕ) (trial : Trial) → IsKept b → (ticket_at b.tickets t).candidate ≡ Some trial → (l : ℕ) → (ticket_at b.tickets t).goal ≡ Numbered l → Searching (space_of b l) (ticket_at b.tickets t).position (Some (position trial))

@@ -11,9 +11,10 @@ use Rattle.chr_model.specs.Logs.{Lawful, firings, posted_by, removed_by, times}
 use Rattle.chr_model.specs.Abstract.{AbstractRun}
 use Rattle.chr_model.specs.Goals.{start, erase, Numbered}
 use Rattle.chr_model.specs.Searches.{YoungestAreGoals}
+use Rattle.chr_search.specs.Positions.{at_or_after}
 use Rattle.chr_search.specs.Verdicts.{Trial, position, labels, IsFormed, WasTrialOf}
 use Rattle.chr_search.specs.Reach.{Searching}
-use Rattle.chr_calls.specs.Tickets.{ticket_at, AreQuiet}
+use Rattle.chr_calls.specs.Tickets.{Ticket, ticket_at, AreQuiet}
 use Rattle.chr_calls.specs.Books.{BookState, goal_state, events, space_of}
 
 -- Where these atoms were posted: the log is lawful, and store, next label and goals are those of the state after it; with
@@ -34,13 +35,18 @@ pub record IsCandidate (b : BookState) (l : ℕ) (trial : Trial) : Type 0 where
   pub active : among (labels trial) l ≡ true
   pub given : AllByRecursion (λ p. p.label < b.next) trial.placed
 
+-- the candidate of a ticket is at or after the position of its search
+abbrev pub IsAhead : Ticket → Type 0
+IsAhead x = (trial : Trial) → x.candidate ≡ Some trial → at_or_after x.position (position trial) ≡ true
+
 -- What a book keeps, so that its drops are lawful: no trial of the reach of a numbered goal lies before the position of its
--- search, whose candidate is before every other admissible trial from there on; and the youngest label of each labelled
--- instance over the store is a numbered goal.
+-- search, whose candidate is at or after it and before every other admissible trial from there on; and the youngest label
+-- of each labelled instance over the store is a numbered goal.
 pub record IsKept (b : BookState) : Type 0 where
   pub plans : ArePlans b.rules b.plans
   pub lawful : Lawful Two (Instances b.rules) (events b) (goal_state b)
   pub given : (t l : ℕ) → (ticket_at b.tickets t).goal ≡ Numbered l → l < b.next
   pub searching : (t l : ℕ) → (ticket_at b.tickets t).goal ≡ Numbered l → Searching (space_of b l) (ticket_at b.tickets t).position (option_map position (ticket_at b.tickets t).candidate)
   pub candidates : (t l : ℕ) (trial : Trial) → (ticket_at b.tickets t).goal ≡ Numbered l → (ticket_at b.tickets t).candidate ≡ Some trial → IsCandidate b l trial
+  pub ahead : (t : ℕ) → IsAhead (ticket_at b.tickets t)
   pub youngest : YoungestAreGoals (Instances b.rules) (goal_state b)

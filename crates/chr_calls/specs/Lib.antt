@@ -5,3 +5,4 @@ pub mod Calls
 pub mod Batches
 pub mod Runs
 pub mod Headline
+pub mod Moves

@@ -1,5 +1,5 @@
 //! The laws of calls. Each is the contract of a function that does nothing.
-ghost use Rattle.std.specs.Prelude.{◌≡◌, ℕ, List, Option, Result};
+ghost use Rattle.std.specs.Prelude.{◌≡◌, ℕ, ◌≤◌, true, List, Option, Result, Ok};
 ghost use Rattle.chr_value.specs.Atoms.{Atom};
 ghost use Rattle.chr_rule.specs.Rules.{Simpagation};
 ghost use Rattle.chr_model.specs.Logs.{posted_by};
@@ -10,6 +10,8 @@ ghost use Rattle.chr_calls.specs.declared.answers.ClaimFault.{ClaimFault};
 ghost use Rattle.chr_calls.specs.declared.answers.TurnFault.{TurnFault};
 ghost use Rattle.chr_calls.specs.declared.answers.ReportFault.{ReportFault};
 ghost use Rattle.chr_calls.specs.declared.answers.Firing.{Firing};
+ghost use Rattle.chr_calls.specs.declared.answers.Firing.TheVariants as firing;
+ghost use Rattle.chr_calls.specs.declared.answers.Fired.{Fired};
 ghost use Rattle.chr_calls.specs.declared.answers.FireFault.{FireFault};
 ghost use Rattle.chr_calls.specs.declared.answers.Dropping.{Dropping};
 ghost use Rattle.chr_calls.specs.declared.answers.DropFault.{DropFault};
@@ -21,6 +23,7 @@ ghost use Rattle.chr_calls.specs.Calls.{Posts, Claims, Turns, Reports, FiresOrMi
 ghost use Rattle.chr_calls.specs.Batches.{Batch, BatchReport, Batches, ReportsBatch, AreRight};
 ghost use Rattle.chr_calls.specs.Runs.{Call, Run, posts_of, all_posts};
 ghost use Rattle.chr_calls.specs.Headline.{Headline, IsKept};
+ghost use Rattle.chr_calls.specs.Moves.{NoneMovesBack, MovesOn};
 
 /// A book as it is opened is kept.
 pub fn opened_books_are_kept()
@@ -52,6 +55,21 @@ pub fn marks_keep()
     ensures put_downs { (b n : BookState) (seat t : ℕ) (answer : Result (Unit {0}) PutDownFault) → PutsDown b seat t answer n → IsKept b → IsKept n }
     ensures marks { (b n : BookState) (t : ℕ) (answer : Result (Unit {0}) MarkFault) → Marks b t answer n → IsKept b → IsKept n }
     ensures strays { (b n : BookState) (answer : Option ℕ) → TakesStray b answer n → IsKept b → IsKept n }
+{}
+
+/// No call moves a search back, and no run does: a goal that stays numbered is searched from where it was or from further on.
+pub fn no_search_moves_back()
+    ensures calls { (b n : BookState) (seat : ℕ) → Call b seat n → IsKept b → NoneMovesBack b n }
+    ensures runs { (b n : BookState) (posts : List (List (Atom ℕ))) → Run b posts n → IsKept b → NoneMovesBack b n }
+{}
+
+/// A report that is taken moves the search on, alone or in a batch; so does a trial that is missed, and one that fires
+/// where its goal lives on.
+pub fn searches_move_on()
+    ensures reports { (b n : BookState) (seat t : ℕ) (j : Judgement) (done : Unit {0}) → Reports b seat t j (Ok done) n → IsKept b → MovesOn b t n }
+    ensures batches { (b n : BookState) (seat t : ℕ) (js : List Judgement) (answer : BatchReport) → AreRight js → ReportsBatch b seat t js answer n → 1 ≤ answer.reported → IsKept b → MovesOn b t n }
+    ensures missed { (b n : BookState) (seat t : ℕ) (j : Judgement) → FiresOrMisses b seat t j (Ok firing.Missed) n → IsKept b → MovesOn b t n }
+    ensures fired { (b n : BookState) (seat t : ℕ) (j : Judgement) (f : Fired) → FiresOrMisses b seat t j (Ok (firing.Fired f)) n → f.active_lives ≡ true → IsKept b → MovesOn b t n }
 {}
 
 /// What a book keeps gives the headline, for what its log posts.

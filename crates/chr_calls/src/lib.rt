@@ -12,11 +12,15 @@
 //! - `Batches`: the calls that make several lines of the table at once.
 //! - `Runs`: calls by any seats, one after another.
 //! - `Headline`: what holds of a book after any run, and what each call keeps so that it does.
+//! - `Moves`: where searches stand after a call.
 //!
 //! The law that all others serve is [`runs_have_the_headline`](laws::runs_have_the_headline): after any calls by any seats
 //! on a book as it is opened, the log is lawful and leads to the book's store and goals; with labels erased its firings are
 //! an abstract run from the atoms posted; no label is removed twice; and where no goal is open, no rule applies to the
 //! store. It has no premise but that the book was opened with the plans of its rules.
+//!
+//! No call moves a search back ([`no_search_moves_back`](laws::no_search_moves_back)), and each report that is taken moves
+//! its own on ([`searches_move_on`](laws::searches_move_on)).
 #![tactic(auto)]
 
 pub mod answers;
