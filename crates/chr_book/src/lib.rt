@@ -31,8 +31,9 @@
 //! store and goals; with labels erased its firings are an abstract run from the atoms posted; no label is removed twice;
 //! and where no goal is open, no rule applies to the store.
 //!
-//! After E01 nothing has changed, but that the judgements which [`report_batch`](book::Book::report_batch) has reported
-//! before it stand.
+//! After E01 nothing has changed, but for what three calls have made before it, which stands: the judgements that
+//! [`report_batch`](book::Book::report_batch) has reported, the rounds of [`go_on`](book::Book::go_on), and the claim and the
+//! rounds of [`start`](book::Book::start).
 #![tactic(auto)]
 
 mod batches;
