@@ -25,7 +25,7 @@ use Rattle.chr_calls.specs.Tickets.{Ticket, activated_by, held_by, ticket_at}
 use Rattle.chr_calls.specs.Books.{BookState, goal_state, events, space_of}
 use Rattle.chr_calls.specs.Calls.{activated, Claims}
 use Rattle.chr_calls.specs.Headline.{IsCandidate, IsKept}
-use Rattle.chr_calls.proofs.Tickets.{goal_there, goals_set, AfterSet, is_set, stands, after_set, same_number, none_ahead, set_ahead, kept_as_is, kept_forgotten, events_more}
+use Rattle.chr_calls.proofs.Tickets.{goal_there, goals_set, AfterSet, is_set, stands, after_set, same_number, none_ahead, set_ahead, kept_as_is, kept_forgotten, events_more, still_named}
 
 -- the goal state where an atom has entered the store
 activated_state : (b : BookState) (seat t : ℕ) (a : Atom ℕ) → goal_state (activated b seat t a) ≡ steps.activated (goal_state b) t a
@@ -52,6 +52,7 @@ activated_keeps b seat t a plain k = record {
   searching = λ u l at. searching u l (after_set b.tickets t new u) at;
   candidates = λ u l trial at is. candidates u l trial (after_set b.tickets t new u) at is;
   ahead = set_ahead b.tickets t new k.ahead (none_ahead new refl);
+  named = still_named b seat event refl k.named;
   youngest = subst (YoungestAreGoals (Instances b.rules)) (sym (activated_state b seat t a)) (young_activated (Instances b.rules) (goal_state b) t a (Lawful-once Two (Instances b.rules) (events b) (goal_state b) k.lawful) (goal_there b t ∙ plain) k.youngest);
 }
   where

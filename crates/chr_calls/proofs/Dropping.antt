@@ -24,7 +24,7 @@ use Rattle.chr_calls.specs.Tickets.{Ticket, ended, ticket_at}
 use Rattle.chr_calls.specs.Books.{BookState, goal_state, events, space_of}
 use Rattle.chr_calls.specs.Calls.{MayBeDropped, Drops, dropped}
 use Rattle.chr_calls.specs.Headline.{IsKept}
-use Rattle.chr_calls.proofs.Tickets.{AfterSet, is_set, stands, after_set, goal_there, goals_set, none_ahead, set_ahead, kept_as_is, events_more}
+use Rattle.chr_calls.proofs.Tickets.{AfterSet, is_set, stands, after_set, goal_there, goals_set, none_ahead, set_ahead, kept_as_is, events_more, still_named}
 
 -- where one goal ends, a goal that is numbered is of another ticket, which stands as before
 numbered_else : (tickets : List Ticket) (t u l : ℕ) → (ticket_at (slice_set tickets t ended) u).goal ≡ Numbered l → ticket_at (slice_set tickets t ended) u ≡ ticket_at tickets u
@@ -64,6 +64,7 @@ dropped_kept b seat t l at may k =
           let i = k.candidates u m trial (ap (λ (x : Ticket). x.goal) (sym same) ∙ h) (ap (λ (x : Ticket). x.candidate) (sym same) ∙ is) in
           record { formed = i.formed; was = i.was; active = i.active; given = i.given };
       ahead = set_ahead b.tickets t ended k.ahead (none_ahead ended refl);
+      named = still_named b seat (Drop t) refl k.named;
       youngest = subst (YoungestAreGoals (Instances b.rules)) (sym after) (young_dropped (Instances b.rules) (goal_state b) t l at_goal none k.youngest);
     }
 

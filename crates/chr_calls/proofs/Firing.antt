@@ -33,7 +33,7 @@ use Rattle.chr_calls.specs.Tickets.{Ticket, ended, waiting, going_on, ticket_at}
 use Rattle.chr_calls.specs.Books.{BookState, goal_state, events, space_of, with_ticket}
 use Rattle.chr_calls.specs.Calls.{AreLive, FiresOrMisses, fired_ticket, fired}
 use Rattle.chr_calls.specs.Headline.{IsCandidate, IsAhead, IsKept}
-use Rattle.chr_calls.proofs.Tickets.{AfterSet, is_set, stands, after_set, goal_there, goals_set, goals_stay, goals_waiting, goals_appended, numbered_before, none_ahead, set_ahead, waiting_ahead, kept_as_is, kept_with, events_more}
+use Rattle.chr_calls.proofs.Tickets.{AfterSet, is_set, stands, after_set, goal_there, goals_set, goals_stay, goals_waiting, goals_appended, numbered_before, none_ahead, set_ahead, waiting_ahead, kept_as_is, kept_with, events_more, still_named}
 
 -- ---- a trial of which a label has left the store
 
@@ -229,6 +229,7 @@ fired_kept b seat t l trial body lives at c w i e k =
       searching = λ u m h. searching one.0 one.1 dead u m (after_firing b.tickets t trial body lives u m h) h;
       candidates = λ u m other h is. candidate u m other (after_firing b.tickets t trial body lives u m h) h is;
       ahead = waiting_ahead (slice_set b.tickets t (fired_ticket (ticket_at b.tickets t) trial lives)) body (set_ahead b.tickets t (fired_ticket (ticket_at b.tickets t) trial lives) k.ahead (fired_ahead lives));
+      named = still_named b seat (Fire t trial.number (kept_labels trial) gone) refl k.named;
       youngest = o.youngest;
     }
   where

@@ -44,7 +44,7 @@ use Rattle.chr_calls.specs.Batches.{Batch, Trials, Done, Gone, BatchReport, Batc
 use Rattle.chr_calls.specs.Runs.{Call, Run, posts_of, all_posts}
 use Rattle.chr_calls.specs.Runs as calls
 use Rattle.chr_calls.specs.Headline.{Headline, IsAhead, IsKept}
-use Rattle.chr_calls.proofs.Tickets.{goal_there, none_ahead, events_more}
+use Rattle.chr_calls.proofs.Tickets.{goal_there, none_ahead, posts_appended, events_more}
 use Rattle.chr_calls.proofs.Posting.{renamed_keeps, posts_keep}
 use Rattle.chr_calls.proofs.Claiming.{claims_keep}
 use Rattle.chr_calls.proofs.Marking.{put_downs_keep, marks_keep, strays_keep}
@@ -68,6 +68,7 @@ opened_kept rules plans names limit ps = record {
   searching = λ t l at. absurd (none_numbered t l at);
   candidates = λ t l trial at is. absurd (none_numbered t l at);
   ahead = opened_ahead;
+  named = tt;
   youngest = λ r kept removed body i y h. absurd (let there = Labelled-there (Instances rules) [] r kept removed body y h.there i in let z : None ≡ Some there.0 = there.1 in cc);
 }
 
@@ -83,13 +84,6 @@ kept_headline b k = record {
 }
 
 -- ---- what a call posts
-
-posts_appended : (xs ys : List (Event ℕ)) → posted_by (xs ++ ys) ≡ posted_by xs ++ posted_by ys
-posts_appended [] ys = refl
-posts_appended (Post t a ∷ es) ys = ap (λ x. a ∷ x) (posts_appended es ys)
-posts_appended (Activate t l ∷ es) ys = posts_appended es ys
-posts_appended (Fire t r kept removed ∷ es) ys = posts_appended es ys
-posts_appended (Drop t ∷ es) ys = posts_appended es ys
 
 -- the book after a call has posted these more
 abbrev HasPosted : BookState → BookState → List (Atom ℕ) → Type 0
@@ -180,7 +174,7 @@ posts_of_reports seat t b n js r next (passes b1 asked n1 trial j more reported 
 
 pub call_posts : (b n : BookState) (seat : ℕ) (call : Call b seat n) → HasPosted b n (posts_of call)
 call_posts b n seat (calls.Post atoms answer made) = posts_of_post b n seat atoms answer made
-call_posts b n seat (calls.PostText table atoms first made) = posts_of_post (with_names b table) n seat atoms (Ok first) made
+call_posts b n seat (calls.PostText table atoms first keeps made) = posts_of_post (with_names b table) n seat atoms (Ok first) made
 call_posts b n seat (calls.Claim t answer made) = posts_of_claim b n seat t answer made
 call_posts b n seat (calls.Trial t answer made) = posts_of_turn b n seat t answer made
 call_posts b n seat (calls.Report t j answer right made) = posts_of_report b n seat t j answer made
@@ -205,7 +199,7 @@ pub record SearchesKeep : Type 0 where
 
 pub call_keeps : SearchesKeep → (b n : BookState) (seat : ℕ) → Call b seat n → IsKept b → IsKept n
 call_keeps s b n seat (calls.Post atoms answer made) k = posts_keep b n seat atoms answer made k
-call_keeps s b n seat (calls.PostText table atoms first made) k = posts_keep (with_names b table) n seat atoms (Ok first) made (renamed_keeps b table k)
+call_keeps s b n seat (calls.PostText table atoms first keeps made) k = posts_keep (with_names b table) n seat atoms (Ok first) made (renamed_keeps b table keeps k)
 call_keeps s b n seat (calls.Claim t answer made) k = claims_keep b n seat t answer made k
 call_keeps s b n seat (calls.Trial t answer made) k = s.turns b n seat t answer made k
 call_keeps s b n seat (calls.Report t j answer right made) k = s.reports b n seat t j answer right made k

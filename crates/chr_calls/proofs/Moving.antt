@@ -295,7 +295,7 @@ batches_search b n seat t (Ok (Trials trials)) h = turns_search b n seat t (Ok (
 
 call_follows : (b n : BookState) (seat : ℕ) → Call b seat n → IsKept b → Follow b.tickets n.tickets
 call_follows b n seat (calls.Post atoms answer made) k = posts_follow b n seat atoms answer made
-call_follows b n seat (calls.PostText table atoms first made) k = posts_follow (with_names b table) n seat atoms (Ok first) made
+call_follows b n seat (calls.PostText table atoms first keeps made) k = posts_follow (with_names b table) n seat atoms (Ok first) made
 call_follows b n seat (calls.Claim t answer made) k = claims_follow b n seat t answer made
 call_follows b n seat (calls.Trial t answer made) k = searches_follow b n (turns_search b n seat t answer made)
 call_follows b n seat (calls.Report t j answer right made) k = searches_follow b n (reports_search b n seat t j answer made k)

@@ -1,15 +1,15 @@
 -- Tickets of a book: reads after writes, their states, and a book of which one ticket changes but not its goal.
 use Rattle.std.proofs.Common.{◌≡◌, ◌≢◌, ℕ, zero, suc, ◌<◌, Bool, true, false, nat_lt, if◌then◌else◌, List, [], ◌∷◌, ◌++◌, map, length, slice_set, Option, Some, None, refl, sym, ◌∙◌, ap, subst, arith, get_or-set_same, get_or-set_other}
 use Rattle.std.proofs.Math.ListN.{get_or-map}
-use Rattle.std.proofs.lemmas.List.{length-set, map-set, map-append, get_or_append_left}
+use Rattle.std.proofs.lemmas.List.{length-set, map-set, map-append, append-nil, get_or_append_left}
 use Rattle.std.proofs.lemmas.Bool.Decides.{nat_tests}
 use Rattle.std.specs.Option.{option_map}
-use Rattle.chr_value.specs.Atoms.{Atom}
-use Rattle.chr_log.specs.Events.{Event}
+use Rattle.chr_value.specs.Atoms.{Atom, AtomIsNamed}
+use Rattle.chr_log.specs.Events.{Event, Post, Activate, Fire, Drop}
 use Rattle.chr_log.specs.declared.events.Version.TheVariants.{Two}
 use Rattle.chr_model.specs.Goals.{Goal, Plain, Numbered, State, goal_at}
 use Rattle.chr_model.specs.Goals as goals
-use Rattle.chr_model.specs.Logs.{Lawful}
+use Rattle.chr_model.specs.Logs.{Lawful, posted_by, others, drops, strict}
 use Rattle.chr_model.specs.Programs.{Instances}
 use Rattle.chr_model.specs.Searches.{YoungestAreGoals}
 use Rattle.chr_search.specs.Verdicts.{Trial, position}
@@ -18,6 +18,7 @@ use Rattle.chr_calls.specs.declared.answers.TicketState.{TicketState}
 use Rattle.chr_calls.specs.declared.answers.TicketState.TheVariants.{Unknown, Waiting, Held, Resting}
 use Rattle.chr_calls.specs.Tickets.{Ticket, ended, waiting, ticket_at, state_with, state_of}
 use Rattle.chr_calls.specs.Books.{BookState, goal_state, events, space_of, with_ticket, with_entry}
+use Rattle.chr_calls.specs.Calls.{AreNamed}
 use Rattle.chr_calls.specs.Headline.{IsCandidate, IsAhead, IsKept}
 
 -- ---- reads after writes
@@ -194,6 +195,55 @@ held_label ts t k l h i = same_number k l (sym h ∙ i)
 
 -- ---- what a book keeps
 
+-- ---- the names of a log
+
+pub posts_appended : (xs ys : List (Event ℕ)) → posted_by (xs ++ ys) ≡ posted_by xs ++ posted_by ys
+posts_appended [] ys = refl
+posts_appended (Post t a ∷ es) ys = ap (λ x. a ∷ x) (posts_appended es ys)
+posts_appended (Activate t l ∷ es) ys = posts_appended es ys
+posts_appended (Fire t r kept removed ∷ es) ys = posts_appended es ys
+posts_appended (Drop t ∷ es) ys = posts_appended es ys
+
+-- a strict log posts the same
+posted_others : (es : List (Event ℕ)) → posted_by (others es) ≡ posted_by es
+posted_others [] = refl
+posted_others (Post t a ∷ es) = ap (λ (xs : List (Atom ℕ)). a ∷ xs) (posted_others es)
+posted_others (Activate t l ∷ es) = posted_others es
+posted_others (Fire t r kept removed ∷ es) = posted_others es
+posted_others (Drop t ∷ es) = posted_others es
+
+posted_drops : (es : List (Event ℕ)) → posted_by (drops es) ≡ []
+posted_drops [] = refl
+posted_drops (Post t a ∷ es) = posted_drops es
+posted_drops (Activate t l ∷ es) = posted_drops es
+posted_drops (Fire t r kept removed ∷ es) = posted_drops es
+posted_drops (Drop t ∷ es) = posted_drops es
+
+pub posted_strict : (es : List (Event ℕ)) → posted_by (strict es) ≡ posted_by es
+posted_strict es = posts_appended (others es) (drops es) ∙ ap (λ (xs : List (Atom ℕ)). posted_by (others es) ++ xs) (posted_drops es) ∙ append-nil (posted_by (others es)) ∙ posted_others es
+
+-- the log with an entry more
+pub events_more : (b : BookState) (seat : ℕ) (e : Event ℕ) → events (with_entry b seat e) ≡ events b ++ e ∷ []
+events_more b seat e = map-append (λ x. x.event) b.log (record { event = e; seat = seat } ∷ [])
+
+-- that posts nothing
+pub still_named : (b : BookState) (seat : ℕ) (e : Event ℕ) → posted_by (e ∷ []) ≡ [] → AreNamed b (posted_by (events b)) → AreNamed b (posted_by (events (with_entry b seat e)))
+still_named b seat e none named =
+    subst (AreNamed b)
+    (sym (ap posted_by (events_more b seat e) ∙ posts_appended (events b) (e ∷ []) ∙ ap (λ (xs : List (Atom ℕ)). posted_by (events b) ++ xs) none ∙ append-nil (posted_by (events b))))
+    named
+
+-- and one that posts an atom
+pub one_named : (b : BookState) (seat t : ℕ) (a : Atom ℕ) → AtomIsNamed (length b.names) a → AreNamed b (posted_by (events b)) → AreNamed b (posted_by (events (with_entry b seat (Post t a))))
+one_named b seat t a one named =
+    subst (AreNamed b) (sym (ap posted_by (events_more b seat (Post t a)) ∙ posts_appended (events b) (Post t a ∷ []))) (both (posted_by (events b)) named)
+  where
+    both : (xs : List (Atom ℕ)) → AreNamed b xs → AreNamed b (xs ++ a ∷ [])
+    both [] all = (one, tt)
+    both (x ∷ xs) all = (all.0, both xs all.1)
+
+-- ---- candidates
+
 -- a ticket without a candidate
 pub none_ahead : (x : Ticket) → x.candidate ≡ None → IsAhead x
 none_ahead x none trial is = absurd (let z : None ≡ Some trial = sym none ∙ is in cc)
@@ -213,6 +263,8 @@ waiting_ahead [] (a ∷ as') all (suc u) = waiting_ahead [] as' all u
 waiting_ahead (x ∷ ts) as' all zero = all 0
 waiting_ahead (x ∷ ts) as' all (suc u) = waiting_ahead ts as' (λ v. all (suc v)) u
 
+-- ---- one ticket changes
+
 -- an answer that changes nothing
 pub kept_as_is : (b n : BookState) → n ≡ b → IsKept b → IsKept n
 kept_as_is b n e k = subst IsKept (sym e) k
@@ -229,6 +281,7 @@ kept_with b t x same searching candidates ahead k = record {
   searching = λ u l at. searched u l (after_set b.tickets t x u) at;
   candidates = λ u l trial at is. candidate u l trial (after_set b.tickets t x u) at is;
   ahead = set_ahead b.tickets t x k.ahead ahead;
+  named = k.named;
   youngest = subst (YoungestAreGoals (Instances b.rules)) (sym (state_stays b t x same)) k.youngest;
 }
   where
@@ -254,7 +307,3 @@ kept_forgotten b t x same place none k = kept_with b t x same
     (subst (λ p. Searching (space_of b l) p None) (sym place)
     (Rattle.chr_search.proofs.Searching.forgotten (space_of b l) (ticket_at b.tickets t).position (option_map position (ticket_at b.tickets t).candidate) (k.searching t l (sym same ∙ at)))))
     (λ l trial at is. absurd (let z : None ≡ Some trial = sym none ∙ is in cc)) (none_ahead x none) k
-
--- the log with an entry more
-pub events_more : (b : BookState) (seat : ℕ) (e : Event ℕ) → events (with_entry b seat e) ≡ events b ++ e ∷ []
-events_more b seat e = map-append (λ x. x.event) b.log (record { event = e; seat = seat } ∷ [])

@@ -16,6 +16,7 @@ use Rattle.chr_search.specs.Verdicts.{Trial, position, labels, IsFormed, WasTria
 use Rattle.chr_search.specs.Reach.{Searching}
 use Rattle.chr_calls.specs.Tickets.{Ticket, ticket_at, AreQuiet}
 use Rattle.chr_calls.specs.Books.{BookState, goal_state, events, space_of}
+use Rattle.chr_calls.specs.Calls.{AreNamed}
 
 -- Where these atoms were posted: the log is lawful, and store, next label and goals are those of the state after it; with
 -- labels erased its firings are an abstract run from the atoms posted; no label is removed twice; and where no goal is
@@ -41,7 +42,8 @@ IsAhead x = (trial : Trial) → x.candidate ≡ Some trial → at_or_after x.pos
 
 -- What a book keeps, so that its drops are lawful: no trial of the reach of a numbered goal lies before the position of its
 -- search, whose candidate is at or after it and before every other admissible trial from there on; and the youngest label
--- of each labelled instance over the store is a numbered goal.
+-- of each labelled instance over the store is a numbered goal. And the table has all names of the log: those of the atoms
+-- posted.
 pub record IsKept (b : BookState) : Type 0 where
   pub plans : ArePlans b.rules b.plans
   pub lawful : Lawful Two (Instances b.rules) (events b) (goal_state b)
@@ -50,3 +52,4 @@ pub record IsKept (b : BookState) : Type 0 where
   pub candidates : (t l : ℕ) (trial : Trial) → (ticket_at b.tickets t).goal ≡ Numbered l → (ticket_at b.tickets t).candidate ≡ Some trial → IsCandidate b l trial
   pub ahead : (t : ℕ) → IsAhead (ticket_at b.tickets t)
   pub youngest : YoungestAreGoals (Instances b.rules) (goal_state b)
+  pub named : AreNamed b (posted_by (events b))

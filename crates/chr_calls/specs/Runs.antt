@@ -1,5 +1,5 @@
 -- Runs of a book: calls by any seats, one after another.
-use Rattle.std.specs.Prelude.{◌≡◌, ℕ, List, [], ◌∷◌, ◌++◌, Option, Result, Ok, Err}
+use Rattle.std.specs.Prelude.{◌≡◌, ℕ, List, [], ◌∷◌, ◌++◌, length, take, Option, Result, Ok, Err}
 use Rattle.chr_value.specs.Atoms.{Atom}
 use Rattle.chr_value.specs.Naming.{Table}
 use Rattle.chr_search.specs.Judged.{Judgement, IsVerdict}
@@ -20,10 +20,10 @@ use Rattle.chr_calls.specs.Batches.{BatchReport, Batches, ReportsBatch, AreRight
 use Rattle.chr_calls.specs.Batches as batches
 
 -- A call by a seat, with its answer: it leads from one book to another. A judgement is the right one for its trial. A post
--- may enter the names of its atoms into the table first.
+-- may enter the names of its atoms into the table first, after those that are there.
 pub data Call (b : BookState) (seat : ℕ) (n : BookState) : Type 0 where
   Post : (atoms : List (Atom ℕ)) (answer : Result ℕ PostFault) → Posts b seat atoms answer n → Call b seat n
-  PostText : (table : Table) (atoms : List (Atom ℕ)) (first : ℕ) → Posts (with_names b table) seat atoms (Ok first) n → Call b seat n
+  PostText : (table : Table) (atoms : List (Atom ℕ)) (first : ℕ) → take (length b.names) table ≡ b.names → Posts (with_names b table) seat atoms (Ok first) n → Call b seat n
   Claim : (t : ℕ) (answer : Result ℕ ClaimFault) → Claims b seat t answer n → Call b seat n
   Trial : (t : ℕ) (answer : Result Turn TurnFault) → Turns b seat t answer n → Call b seat n
   Report : (t : ℕ) (j : Judgement) (answer : Result (Unit {0}) ReportFault) → IsVerdict j.trial j.verdict → Reports b seat t j answer n → Call b seat n
@@ -39,7 +39,7 @@ pub data Call (b : BookState) (seat : ℕ) (n : BookState) : Type 0 where
 abbrev pub posts_of : {b n : BookState} {seat : ℕ} → Call b seat n → List (Atom ℕ)
 posts_of (Post atoms (Ok first) made) = atoms
 posts_of (Post atoms (Err fault) made) = []
-posts_of (PostText table atoms first made) = atoms
+posts_of (PostText table atoms first keeps made) = atoms
 posts_of (Claim t answer made) = []
 posts_of (Trial t answer made) = []
 posts_of (Report t j answer right made) = []

@@ -5,7 +5,7 @@ use Rattle.chr_rule.specs.Rules.{Simpagation}
 use Rattle.chr_plan.specs.Plans.{PlanList, ArePlans}
 use Rattle.chr_lex.specs.declared.fault.ReadError.{ReadError}
 use Rattle.chr_lex.specs.declared.fault.ReadError.TheVariants as errors
-use Rattle.chr_named.proofs.Entered.{posts_named}
+use Rattle.chr_named.proofs.Entered.{posts_named, posts_kept}
 use Rattle.chr_search.specs.Verdicts.{Trial}
 use Rattle.chr_search.specs.Judged.{Judgement, IsVerdict}
 use Rattle.chr_calls.specs.declared.answers.PostFault.{PostFault}
@@ -64,7 +64,7 @@ run_of_post b n seat atoms (Err fault) made = one_made b n seat (calls.Post atom
 
 run_of_text : (b n : BookState) (seat : ℕ) (bytes : List ℕ) (told : Result PostedText ReadError) (made : PostsText b seat bytes told n) → RunOf b n (atoms_of_text b n seat bytes told made)
 run_of_text b n seat bytes (Ok posted) made =
-    one_made b n seat (calls.PostText made.table made.atoms posted.first (posts_named b.names bytes (made.atoms, made.table) made.reads, made.first, made.after)) made.atoms refl
+    one_made b n seat (calls.PostText made.table made.atoms posted.first (posts_kept b.names bytes (made.atoms, made.table) made.reads) (posts_named b.names bytes (made.atoms, made.table) made.reads, made.first, made.after)) made.atoms refl
 run_of_text b n seat bytes (Err (errors.Fault fault)) made = none_made b n made.1
 run_of_text b n seat bytes (Err errors.Memory) made = none_made b n made
 
