@@ -18,6 +18,7 @@ use Rattle.chr_model.specs.Programs.{Instances}
 use Rattle.chr_model.specs.Stores.{Store}
 use Rattle.chr_text.specs.Reading.{Program, program_of}
 use Rattle.chr_calls.specs.Books.{BookState, goal_state, events}
+use Rattle.chr_calls.proofs.Tickets.{posted_strict}
 use Rattle.chr_solo.specs.declared.solo.End.{End}
 use Rattle.chr_solo.specs.declared.solo.End.TheVariants.{Quiet}
 use Rattle.chr_check.specs.declared.checking.Verdict.{Verdict}
@@ -33,7 +34,6 @@ use Rattle.chr_check_text.specs.declared.checked.CheckTextFault.TheVariants as f
 use Rattle.chr_writable.proofs.Rules.{program_held, rules_whole}
 use Rattle.chr_accepts.specs.Accepted.{IsTextRun, verdict_of, IsAnswered}
 use Rattle.chr_accepts.proofs.Kept.{run_kept}
-use Rattle.chr_accepts.proofs.Posted.{posted_strict}
 use Rattle.chr_accepts.proofs.ReadBack.{log_read, store_read, log_no_fault, store_no_fault}
 use Rattle.chr_accepts.proofs.Runs.{lawful_is, strict_is, whole_answer, strict_answer}
 

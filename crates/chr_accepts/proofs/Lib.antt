@@ -5,3 +5,4 @@ pub mod Kept
 pub mod ReadBack
 pub mod Checked
 pub mod Fixed
+pub mod Seats

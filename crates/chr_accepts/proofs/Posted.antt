@@ -13,7 +13,7 @@ use Rattle.chr_value.proofs.Said.{name_says, terms_say, fact_says}
 use Rattle.chr_log.specs.Events.{Event, Post, Activate, Fire, Drop, event_by_texts}
 use Rattle.chr_log_text.specs.Lines.{with_first, number_all}
 use Rattle.chr_log_text.specs.Texts.{numbered_event, numbered_events}
-use Rattle.chr_model.specs.Logs.{posted_by, others, drops, strict}
+use Rattle.chr_model.specs.Logs.{posted_by}
 use Rattle.chr_text.specs.Numbering.{each}
 use Rattle.chr_text.specs.Reading.{Posts, posts_of}
 use Rattle.chr_text.specs.Forms.{InOrder, no_more, item, AddsAtoms}
@@ -59,7 +59,7 @@ atom_named table new a f h =
 
 -- ---- lists of atoms
 
-texts_kept : (old new : Table) (as' : List (Atom ℕ)) → take (length old) new ≡ old → AllByRecursion (AtomIsNamed (length old)) as' → map (by_texts new) as' ≡ map (by_texts old) as'
+pub texts_kept : (old new : Table) (as' : List (Atom ℕ)) → take (length old) new ≡ old → AllByRecursion (AtomIsNamed (length old)) as' → map (by_texts new) as' ≡ map (by_texts old) as'
 texts_kept old new [] keeps named = refl
 texts_kept old new (a ∷ as') keeps named = ap (λ (x : Atom (List ℕ)). x ∷ map (by_texts new) as') (atom_kept old new a keeps named.0) ∙ ap (λ (xs : List (Atom (List ℕ))). by_texts old a ∷ xs) (texts_kept old new as' keeps named.1)
 
@@ -70,12 +70,12 @@ atom_later n m a le named = record { name = (let lt = named.name in omega (arith
     all_later [] all = tt
     all_later (v ∷ vs) all = (term_later n m v le all.0, all_later vs all.1)
 
-record Said (table new : Table) (texts : List (Atom (List ℕ))) (atoms : List (Atom ℕ)) : Type 0 where
-  texts_are : map (by_texts new) atoms ≡ texts
-  named : AllByRecursion (AtomIsNamed (length new)) atoms
-  keeps : take (length table) new ≡ table
+pub record Said (table new : Table) (texts : List (Atom (List ℕ))) (atoms : List (Atom ℕ)) : Type 0 where
+  pub texts_are : map (by_texts new) atoms ≡ texts
+  pub named : AllByRecursion (AtomIsNamed (length new)) atoms
+  pub keeps : take (length table) new ≡ table
 
-each_says : (table new : Table) (texts : List (Atom (List ℕ))) (atoms : List (Atom ℕ)) → each numbered_atom table texts ≡ Some (atoms, new) → Said table new texts atoms
+pub each_says : (table new : Table) (texts : List (Atom (List ℕ))) (atoms : List (Atom ℕ)) → each numbered_atom table texts ≡ Some (atoms, new) → Said table new texts atoms
 each_says table new [] atoms h =
     let none : Said table table [] [] = record { texts_are = refl; named = tt; keeps = take-length table } in
     subst (λ (z : List (Atom ℕ) × Table). Said table z.1 [] z.0) (some_is {A = List (Atom ℕ) × Table} ([], table) (atoms, new) h) none
@@ -134,6 +134,16 @@ posts_again table names bytes atoms h =
     let a = items_again ([], table) are.entries (atoms, names) are.in_order in
     (subst (λ (xs : List (Atom ℕ)). each numbered_atom table (map (by_texts names) xs) ≡ Some (xs, names)) (sym a.is) a.numbered, a.keeps)
 
+-- atoms after those that were posted before
+pub posts_more : (table old new : Table) (posts atoms : List (Atom ℕ)) → each numbered_atom table (map (by_texts old) posts) ≡ Some (posts, old) → each numbered_atom old (map (by_texts new) atoms) ≡ Some (atoms, new)
+    → each numbered_atom table (map (by_texts new) (posts ++ atoms)) ≡ Some (posts ++ atoms, new)
+posts_more table old new posts atoms h k =
+    let before = each_says table old (map (by_texts old) posts) posts h in
+    let then = each_says old new (map (by_texts new) atoms) atoms k in
+    let texts : map (by_texts new) (posts ++ atoms) ≡ map (by_texts old) posts ++ map (by_texts new) atoms
+    = map-append (by_texts new) posts atoms ∙ ap (λ (ts : List (Atom (List ℕ))). ts ++ map (by_texts new) atoms) (texts_kept old new posts then.keeps before.named) in
+    ap (each numbered_atom table) texts ∙ each_append table old new (map (by_texts old) posts) (map (by_texts new) atoms) posts atoms h k
+
 -- ---- lines of a log
 
 same_pair : (xs ys : List (Atom ℕ)) (s t : Table) → xs ≡ ys → s ≡ t → (let p : List (Atom ℕ) × Table = (xs, s) in p) ≡ (ys, t)
@@ -158,29 +168,3 @@ events_numbered names table new (Post t a ∷ es) h =
 events_numbered names table new (Activate t l ∷ es) h = ap (with_first (Activate t l)) (events_numbered names table new es h)
 events_numbered names table new (Fire t r kept removed ∷ es) h = ap (with_first (Fire t r kept removed)) (events_numbered names table new es h)
 events_numbered names table new (Drop t ∷ es) h = ap (with_first (Drop t)) (events_numbered names table new es h)
-
--- ---- a strict log posts the same
-
-posted_others : (es : List (Event ℕ)) → posted_by (others es) ≡ posted_by es
-posted_others [] = refl
-posted_others (Post t a ∷ es) = ap (λ (xs : List (Atom ℕ)). a ∷ xs) (posted_others es)
-posted_others (Activate t l ∷ es) = posted_others es
-posted_others (Fire t r kept removed ∷ es) = posted_others es
-posted_others (Drop t ∷ es) = posted_others es
-
-posted_drops : (es : List (Event ℕ)) → posted_by (drops es) ≡ []
-posted_drops [] = refl
-posted_drops (Post t a ∷ es) = posted_drops es
-posted_drops (Activate t l ∷ es) = posted_drops es
-posted_drops (Fire t r kept removed ∷ es) = posted_drops es
-posted_drops (Drop t ∷ es) = posted_drops es
-
-posted_append : (xs ys : List (Event ℕ)) → posted_by (xs ++ ys) ≡ posted_by xs ++ posted_by ys
-posted_append [] ys = refl
-posted_append (Post t a ∷ es) ys = ap (λ (xs : List (Atom ℕ)). a ∷ xs) (posted_append es ys)
-posted_append (Activate t l ∷ es) ys = posted_append es ys
-posted_append (Fire t r kept removed ∷ es) ys = posted_append es ys
-posted_append (Drop t ∷ es) ys = posted_append es ys
-
-pub posted_strict : (es : List (Event ℕ)) → posted_by (strict es) ≡ posted_by es
-posted_strict es = posted_append (others es) (drops es) ∙ ap (λ (xs : List (Atom ℕ)). posted_by (others es) ++ xs) (posted_drops es) ∙ append-nil (posted_by (others es)) ∙ posted_others es

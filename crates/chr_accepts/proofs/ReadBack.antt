@@ -1,5 +1,5 @@
 -- The texts of a run are read back, and have no fault.
-use Rattle.std.proofs.Common.{◌≡◌, ℕ, ◌≤◌, inl, inr, List, [], length, map, Some, Ok, refl, sym, ap, subst, arith}
+use Rattle.std.proofs.Common.{◌≡◌, ℕ, ◌≤◌, inl, inr, List, [], length, map, take, Some, Ok, refl, sym, ap, subst, arith}
 use Rattle.chr_value.specs.Atoms.{Atom, by_texts}
 use Rattle.chr_value.specs.Naming.{Table, numbered_atom}
 use Rattle.chr_rule.specs.Rules.{Simpagation}
@@ -25,6 +25,16 @@ use Rattle.chr_accepts.proofs.Posted.{posts_again, events_numbered}
 
 -- ---- what is written is read with the names of the program alone
 
+pub log_back : (program : List ℕ) (rules : List (Simpagation ℕ)) (table names : Table) (v w : Version) (log : List (Event ℕ)) (last : State)
+    → program_of [] program ≡ Ok (rules, table) → each numbered_atom table (map (by_texts names) (posted_by log)) ≡ Some (posted_by log, names) → take (length table) names ≡ table → AreWritable names (posted_by log)
+    → Lawful v (Instances rules) log last → last.next ≤ 4294967296
+    → length (log_text w (map (event_by_texts names) log)) ≤ most_bytes → IsLogText table (log_text w (map (event_by_texts names) log)) w log names
+log_back program rules table names v w log last p numbered keeps all lawful next short = record {
+  writable = log_writable [] table names program rules v w log last p keeps all lawful next short;
+  spelled = refl;
+  numbered = events_numbered names table names log numbered;
+}
+
 pub log_read : (program posts : List ℕ) (rules : List (Simpagation ℕ)) (table names : Table) (atoms : List (Atom ℕ)) (v w : Version) (log : List (Event ℕ)) (last : State)
     → program_of [] program ≡ Ok (rules, table) → posts_of table posts ≡ Ok (atoms, names) → posted_by log ≡ atoms → Lawful v (Instances rules) log last → last.next ≤ 4294967296
     → length (log_text w (map (event_by_texts names) log)) ≤ most_bytes → IsLogText table (log_text w (map (event_by_texts names) log)) w log names
@@ -32,11 +42,7 @@ log_read program posts rules table names atoms v w log last p q is lawful next s
     let again = posts_again table names posts atoms q in
     let all : AreWritable names (posted_by log) = subst (AreWritable names) (sym is) (posts_writable table posts (atoms, names) q) in
     let numbered = subst (λ (xs : List (Atom ℕ)). each numbered_atom table (map (by_texts names) xs) ≡ Some (xs, names)) (sym is) again.0 in
-    record {
-      writable = log_writable [] table names program rules v w log last p again.1 all lawful next short;
-      spelled = refl;
-      numbered = events_numbered names table names log numbered;
-    }
+    log_back program rules table names v w log last p numbered again.1 all lawful next short
 
 pub store_read : (program posts : List ℕ) (rules : List (Simpagation ℕ)) (table names : Table) (atoms : List (Atom ℕ)) (v : Version) (log : List (Event ℕ)) (last : State)
     → program_of [] program ≡ Ok (rules, table) → posts_of table posts ≡ Ok (atoms, names) → posted_by log ≡ atoms → Lawful v (Instances rules) log last → last.next ≤ 4294967296

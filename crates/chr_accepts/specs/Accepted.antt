@@ -1,13 +1,16 @@
 -- What the checker answers of a run.
-use Rattle.std.specs.Prelude.{◌≡◌, ℕ, ◌↔◌, List, Result, Ok, Err}
+use Rattle.std.specs.Prelude.{◌≡◌, ℕ, ◌↔◌, List, [], Result, Ok, Err}
 use Rattle.chr_calls.specs.Tickets.{AreQuiet}
 use Rattle.chr_calls.specs.Books.{BookState}
+use Rattle.chr_calls.specs.Runs.{Call, posts_of}
+use Rattle.chr_book.specs.Texts.{PostsText}
+use Rattle.chr_book.specs.declared.texts.Posted.{Posted}
 use Rattle.chr_solo.specs.declared.solo.End.{End}
 use Rattle.chr_solo.specs.declared.solo.End.TheVariants.{Quiet, Open}
 use Rattle.chr_check.specs.declared.checking.Verdict.{Verdict}
 use Rattle.chr_check.specs.declared.checking.Verdict.TheVariants.{Run, RunAndFinal}
 use Rattle.chr_run_text.specs.Texts.{RulesOf, PostsOf}
-use Rattle.chr_run_text.specs.RunText.{IsRunOf}
+use Rattle.chr_run_text.specs.RunText.{IsRunOf, IsOpenText}
 use Rattle.chr_check_text.specs.Output.{answer_line}
 use Rattle.chr_check_text.specs.declared.checked.Checked.{Checked}
 use Rattle.chr_check_text.specs.declared.checked.CheckTextFault.{CheckTextFault}
@@ -20,6 +23,14 @@ pub record IsTextRun (program posts : List ℕ) (steps limit : ℕ) (end : End) 
   pub posted : PostsOf read.table posts
   pub run : IsRunOf read.rules posted.atoms posted.names steps limit b
   pub quiet : (end ≡ Quiet) ↔ AreQuiet b.tickets
+
+-- A book that seats have made of texts: one that was opened with the rules of a text; one to which a seat has then posted a
+-- text, read with the book's names; and one of which a seat has then made another call, which posts nothing and leaves the
+-- names.
+pub data IsOfTexts (program : List ℕ) (limit : ℕ) : BookState → Type 0 where
+  opens : (b : BookState) → IsOpenText program limit b → IsOfTexts program limit b
+  posts : (b n : BookState) (seat : ℕ) (bytes : List ℕ) (posted : Posted) → IsOfTexts program limit b → PostsText b seat bytes (Ok posted) n → IsOfTexts program limit n
+  goes_on : (b n : BookState) (seat : ℕ) (call : Call b seat n) → IsOfTexts program limit b → posts_of call ≡ [] → n.names ≡ b.names → IsOfTexts program limit n
 
 -- what is answered of a run that ends so
 abbrev pub verdict_of : End → Verdict

@@ -22,7 +22,7 @@ ghost use Rattle.chr_run_text.specs.Output.{shown};
 ghost use Rattle.chr_run_text.specs.RunText.{IsRunText};
 ghost use Rattle.chr_run_text.specs.declared.output.Show.TheVariants as show;
 ghost use Rattle.chr_check_text.specs.CheckTexts.{IsAnswer, IsCheckText};
-ghost use Rattle.chr_accepts.specs.Accepted.{IsTextRun, verdict_of, IsAnswered};
+ghost use Rattle.chr_accepts.specs.Accepted.{IsTextRun, IsOfTexts, verdict_of, IsAnswered};
 
 use chr_check_text::checked::{CheckTextFault, Checked};
 use chr_run_text::running::RunOut;
@@ -63,6 +63,20 @@ pub fn texts_of_runs_are_read_back()
     ensures store { (program posts : List ℕ) (steps limit : ℕ) (end : End) (b : BookState)
         → limit ≤ 4294967295 → (run : IsTextRun program posts steps limit end b) → length (shown show.Store end b) ≤ most_bytes
         → IsStoreText b.names (shown show.Store end b) (labelled_atoms b.store) b.names }
+{}
+
+/// So of a book to which any seats have posted texts, one after another, with any calls between: the texts of its log and of
+/// its store are read back with the names of the program alone, and the check answers `run final` where no ticket is open, else
+/// `run`; of its strict log, `run final`. Only want of memory can come between.
+pub fn what_seats_write_is_accepted<A: Allocator>(answer: &Result<Checked<A>, CheckTextFault>)
+    ensures whole_log { (program : List ℕ) (limit : ℕ) (end : End) (b : BookState)
+        → limit ≤ 4294967295 → IsOfTexts program limit b → ((end ≡ Quiet) ↔ AreQuiet b.tickets)
+        → length (shown show.Log end b) ≤ most_bytes → length (shown show.Store end b) ≤ most_bytes
+        → IsCheckText program (shown show.Log end b) (shown show.Store end b) answer.now → IsAnswered (verdict_of end) answer.now }
+    ensures strict_log { (program : List ℕ) (limit : ℕ) (b : BookState)
+        → limit ≤ 4294967295 → IsOfTexts program limit b → AreQuiet b.tickets
+        → length (shown show.Strict Quiet b) ≤ most_bytes → length (shown show.Store Quiet b) ≤ most_bytes
+        → IsCheckText program (shown show.Strict Quiet b) (shown show.Store Quiet b) answer.now → IsAnswered RunAndFinal answer.now }
 {}
 
 /// What a run writes, the checker accepts. Where two calls of one run, of the same texts, steps and label limit, give the text
