@@ -10,6 +10,7 @@ use Rattle.chr_rule.specs.Scope.{IsRule}
 use Rattle.chr_grammar.specs.Parsed as parsed
 use Rattle.chr_grammar.specs.Parsed.{Statement}
 use Rattle.chr_grammar.proofs.Statements_again.{by_texts as statement_read}
+use Rattle.chr_grammar.proofs.Members_again.{all_append}
 use Rattle.chr_limits.proofs.Standing as standing
 use Rattle.chr_text.specs.Fitting.{FormulaFits, MemberFits}
 use Rattle.chr_text.specs.Variables.{Seen, number_variable, in_turn}
@@ -27,7 +28,7 @@ use Rattle.chr_text.proofs.ProgramTexts.{is_program}
 use Rattle.chr_text.proofs.Writable.{spelled_fits}
 use Rattle.chr_text.proofs.RuleWritable.{program_writable}
 use Rattle.chr_value.specs.Spelling.{FitsTerm}
-use Rattle.chr_writable.proofs.Values.{NumbersFit, zeros, ItemHeld, items_kept, all_append}
+use Rattle.chr_writable.proofs.Values.{NumbersFit, zeros, ItemHeld, items_kept}
 
 -- ---- the numbers of a rule
 

@@ -4,13 +4,13 @@ use Rattle.std.specs.List.{AllByRecursion}
 use Rattle.chr_value.specs.Atoms.{Atom, by_texts}
 use Rattle.chr_value.specs.Naming.{Table}
 use Rattle.chr_value.specs.Spelling.{FitsAtom}
+use Rattle.chr_grammar.proofs.Members_again.{all_append}
 use Rattle.chr_log.specs.Events.{labelled_atoms, labelled_by_texts}
 use Rattle.chr_log_text.specs.Writable.{UpTo, Rises}
 use Rattle.chr_model.specs.Stores.{Store, atom_at, drop_label, without, Carry}
 use Rattle.chr_model.specs.Goals.{Goal, Plain, Numbered, Ended, State, goal_at}
 use Rattle.chr_model.specs.Steps.{posted, activated, ended, replaced}
 use Rattle.chr_text.specs.Writable.{AreWritable}
-use Rattle.chr_writable.proofs.Values.{all_append}
 
 -- ---- stores: labels rise between two bounds, which are none of them
 

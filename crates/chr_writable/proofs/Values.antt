@@ -12,6 +12,7 @@ use Rattle.chr_rule.specs.declared.expression.Operator.{Operator}
 use Rattle.chr_rule.specs.declared.expression.Operator.TheVariants as operators
 use Rattle.chr_rule.specs.Rules.{Term, Var, Given, RuleAtom, Expression, Number, Variable, Operation, BodyItem, Is, Add, Simpagation}
 use Rattle.chr_rule.specs.Scope.{known_after_args, known_after_heads, known_after_body, argument_known, expression_known, IsRule}
+use Rattle.chr_grammar.proofs.Members_again.{all_append}
 use Rattle.chr_guard.specs.Values.{Valuation, in_range, is_zero, int_mod, computed, number_in, value_of, term_under}
 use Rattle.chr_guard.specs.Instances.{atom_under, AreUnder, IsRight, added, Instance}
 use Rattle.chr_guard.proofs.Scoped.{some_same, var_known, head_known, is_known, add_known, scoped}
@@ -173,10 +174,6 @@ body_fits table v n m (Add s ∷ ms) (a ∷ atoms) k right all held e =
     let one : atom_under v s ≡ Some a = cc in
     let rest : AreUnder v (added ms) atoms = cc in
     add_known n m s ms k (λ known j. (atom_filled table v n s a all.0 known held one, body_fits table v n m ms atoms j right.1 all.1 held rest))
-
-pub all_append : {A : Type 0} (P : A → Type 0) (xs ys : List A) → AllByRecursion P xs → AllByRecursion P ys → AllByRecursion P (xs ++ ys)
-all_append P [] ys p q = q
-all_append P (x ∷ xs) ys p q = (p.0, all_append P xs ys p.1 q)
 
 pub instance_fits : (table : Table) (rule : Simpagation ℕ) (kept removed body : List (Atom ℕ)) → IsRule rule → AllByRecursion (ItemHeld table) rule.body → Instance rule kept removed body → AreWritable table kept → AreWritable table removed → AreWritable table body
 instance_fits table rule kept removed body whole all i k r =
