@@ -1,0 +1,5 @@
+use Rattle.chr_causes.proofs.Leaves.{leaf_posted}
+use Rattle.chr_causes.proofs.laws.leaves_were_posted.Goals as goal
+
+pub returns : goal.returns
+returns c = leaf_posted

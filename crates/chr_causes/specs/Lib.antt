@@ -1,0 +1,4 @@
+pub mod Origins
+pub mod Causes
+pub mod Marks
+pub mod Makers
