@@ -4,7 +4,6 @@ use Rattle.chr_rule.specs.Rules.{Simpagation}
 use Rattle.chr_log.specs.Events.{Event, labelled_atoms}
 use Rattle.chr_log.specs.declared.events.Version.{Version}
 use Rattle.chr_log_text.specs.Texts.{IsLogText, IsStoreText, HasLogFault, HasStoreFault}
-use Rattle.chr_log_text.specs.declared.fault.TextFault.{TextFault}
 use Rattle.chr_log_text.specs.declared.fault.TextFault.TheVariants.{NoMemory}
 use Rattle.chr_model.specs.Abstract.{Rules}
 use Rattle.chr_model.specs.Stores.{Store}
@@ -50,15 +49,6 @@ pub record StoreOf (table : List (List ℕ)) (text : List ℕ) : Type 0 where
   pub entries : Store
   pub names : List (List ℕ)
   pub reads : IsStoreText table text (labelled_atoms entries) names
-
--- the fault of a text of a log, and of a store, which is never want of memory
-abbrev pub log_fault : TextFault → CheckTextFault
-log_fault NoMemory = faults.Memory
-log_fault fault = faults.Log fault
-
-abbrev pub store_fault : TextFault → CheckTextFault
-store_fault NoMemory = faults.Memory
-store_fault fault = faults.Store fault
 
 -- all three texts are read, and this is what the log and the store are by the rules
 pub record IsChecked {Z : Type 0} (program log store : List ℕ) (made : Checked Z) : Type 0 where

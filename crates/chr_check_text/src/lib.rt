@@ -10,6 +10,9 @@
 //! | `run` | the log is a run that ends in the store, and a goal is open |
 //! | `refused E16 log 14 BadTicket` | it is no such run; the first fault stands in this line of this text, the log or the store |
 //!
+//! [`check_parts`](checked::check_parts) takes the log in parts, each with the limit on length of one text, and checks the
+//! one log that they make.
+//!
 //! Where a text can't be read nothing is checked, and the fault of the first such text is told. The contract says of
 //! each answer exactly where it comes, by the definitions of the readers and of the check, and each byte of the line.
 //! It says nothing where memory ran out (E01).
