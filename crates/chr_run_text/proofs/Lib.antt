@@ -1,3 +1,4 @@
 pub mod Listed
 pub mod SoloPosts
+pub mod Texts
 pub mod Made

@@ -1,3 +1,4 @@
 pub mod Texts
 pub mod Output
 pub mod RunText
+pub mod RunTexts

@@ -5,10 +5,9 @@ use Rattle.chr_rule.specs.Rules.{Simpagation}
 use Rattle.chr_plan.specs.Plans.{PlanList, ArePlans}
 use Rattle.chr_model.specs.Programs.{Instances}
 use Rattle.chr_model.specs.Stores.{Final}
-use Rattle.chr_model.specs.Logs.{posted_by}
 use Rattle.chr_text.specs.Reading.{program_of, posts_of}
 use Rattle.chr_calls.specs.Tickets.{AreQuiet}
-use Rattle.chr_calls.specs.Books.{BookState, opened, events}
+use Rattle.chr_calls.specs.Books.{BookState, opened}
 use Rattle.chr_calls.specs.Calls.{all_posted}
 use Rattle.chr_calls.specs.Headline.{Headline}
 use Rattle.chr_book.specs.Books.{IsOpened}
@@ -63,11 +62,3 @@ IsRunText program posts steps limit show (Err fault) = IsRefused program posts f
 pub record IsOpenText (program : List ℕ) (limit : ℕ) (b : BookState) : Type 0 where
   pub read : RulesOf program
   pub is : IsOpened read.rules read.table limit b
-
--- a solo run of at most so many calls from one book to another, which has the headline, and this is shown of that
-pub record IsShownRun {Z : Type 0} (steps : ℕ) (show : Show) (made : RunOut Z) (b n : BookState) : Type 0 where
-  pub calls : ℕ
-  pub solo : IsSolo seat steps b calls n
-  pub headline : Headline n (posted_by (events n))
-  pub quiet : (made.end ≡ ends.Quiet) ↔ AreQuiet n.tickets
-  pub bytes : made.bytes.items ≡ shown show made.end n

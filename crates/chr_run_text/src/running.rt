@@ -1,14 +1,15 @@
-//! From the bytes of two texts to the bytes shown.
-ghost use Rattle.std.specs.Prelude.{◌≡◌, ◌≤◌, ℕ, List, IfOk, IfErr};
+//! From the bytes of texts to a run, and to the bytes shown.
+ghost use Rattle.std.specs.Prelude.{◌≡◌, ◌≤◌, ℕ, List, map, IfOk, IfErr};
 ghost use Rattle.chr_calls.specs.Tickets.{AreQuiet};
 ghost use Rattle.chr_named.specs.Named.{RulesAreNamed};
 ghost use Rattle.chr_book.specs.Books.{IsOpened};
 ghost use Rattle.chr_solo.specs.declared.solo.End.TheVariants.{Quiet};
-ghost use Rattle.chr_run_text.specs.Output.{shown};
-ghost use Rattle.chr_run_text.specs.declared.running.RunFault.TheVariants as faults;
-ghost use Rattle.chr_run_text.specs.RunText.{IsOpenText, IsRefused, IsRunText, IsShownRun};
+ghost use Rattle.chr_run_text.specs.declared.running.RunTextsFault.TheVariants as faults;
+ghost use Rattle.chr_run_text.specs.RunText.{IsOpenText, IsRunText};
+ghost use Rattle.chr_run_text.specs.RunTexts.{IsMadeRun, ArePosted, posts_fault, whole_fault, AreRefused, IsRunOn, IsRunTexts, IsShown};
 
-use crate::output::{Show, write_shown};
+use crate::output::Show;
+use crate::ran::Ran;
 use chr_book::book::{Book, OpenFault};
 use chr_lex::fault::{ReadError, ReadFault};
 use chr_rule::program::Program;
@@ -40,13 +41,45 @@ pub enum RunFault {
     Memory,
 }
 
+/// Why there is no run of texts of posts.
+#[derive(Clone, Copy, Debug, PartialEq, Eq)]
+pub enum RunTextsFault {
+    /// A fault in the text of rules.
+    Program(ReadFault),
+    /// A fault in the text of posts of this place, from 0.
+    Posts { place: usize, fault: ReadFault },
+    /// E01: a growth was refused.
+    Memory,
+}
+
+/// Why a text of posts of this place was not posted.
+fn posts_fault(place: usize, error: ReadError) -> RunTextsFault
+    ensures { result ≡ posts_fault place error }
+{
+    match error {
+        ReadError::Fault(fault) => RunTextsFault::Posts { place, fault },
+        ReadError::Memory => RunTextsFault::Memory,
+    }
+}
+
+/// The same fault where there is one text of posts.
+fn whole_fault(fault: RunTextsFault) -> RunFault
+    ensures { result ≡ whole_fault fault }
+{
+    match fault {
+        RunTextsFault::Program(fault) => RunFault::Program(fault),
+        RunTextsFault::Posts { fault, .. } => RunFault::Posts(fault),
+        RunTextsFault::Memory => RunFault::Memory,
+    }
+}
+
 /// A book of these rules, which have their names in the table. An `Err` is E01.
 fn open_with<A: Allocator + Copy>(
     alloc: A,
     program: Program<A>,
     names: Names<A>,
     labels: Label,
-) -> Result<Book<A>, RunFault>
+) -> Result<Book<A>, RunTextsFault>
     requires limit { labels ≤ 4294967295 }
     requires named { RulesAreNamed names program }
     ensures ok { IfOk result (IsOpened program names labels) }
@@ -54,76 +87,120 @@ fn open_with<A: Allocator + Copy>(
 {
     match Book::new(alloc, program, names, labels) {
         Ok(book) => Ok(book),
-        Err(OpenFault::NoMemory) => Err(RunFault::Memory),
+        Err(OpenFault::NoMemory) => Err(RunTextsFault::Memory),
         Err(OpenFault::UnknownName) => unreachable!(),
     }
 }
 
 /// A book of the rules of a text.
-fn open<A: Allocator + Copy>(alloc: A, program: &[u8], labels: Label) -> Result<Book<A>, RunFault>
+fn open<A: Allocator + Copy>(
+    alloc: A,
+    program: &[u8],
+    labels: Label,
+) -> Result<Book<A>, RunTextsFault>
     requires { labels ≤ 4294967295 }
     ensures ok { IfOk result (IsOpenText program.now labels) }
-    ensures err { IfErr result (λ fault. (posts : List ℕ) → IsRefused program.now posts fault) }
+    ensures err { IfErr result (λ fault. (posts : List (List ℕ)) → AreRefused program.now posts fault) }
 {
     let mut names = Names::new(alloc);
     match read_program(alloc, program, &mut names) {
         Ok(rules) => open_with(alloc, rules, names, labels),
-        Err(ReadError::Fault(fault)) => Err(RunFault::Program(fault)),
-        Err(ReadError::Memory) => Err(RunFault::Memory),
+        Err(ReadError::Fault(fault)) => Err(RunTextsFault::Program(fault)),
+        Err(ReadError::Memory) => Err(RunTextsFault::Memory),
     }
 }
 
-/// What is shown of a book whose end is known.
-fn shown_bytes<A: Allocator + Copy>(
-    alloc: A,
-    book: &Book<A>,
-    end: End,
-    show: Show,
-) -> Result<Vec<u8, A>, AllocError>
-    requires { end ≡ Quiet → AreQuiet book.now.tickets }
-    ensures { IfOk result (λ bytes. bytes.items ≡ shown show end book.now) }
+/// Posts the atoms of texts, one text after another. After an `Err` those of the texts before the faulty one are posted.
+fn post_all<A: Allocator + Copy>(book: &mut Book<A>, posts: &[&[u8]]) -> Result<(), RunTextsFault>
+    ensures { ArePosted book.old (map (λ text. text.now) posts.now) result book.new }
 {
-    let mut bytes = Vec::new(alloc);
-    write_shown(&mut bytes, book, end, show)?;
-    Ok(bytes)
+    for (place, text) in posts.iter().enumerate() {
+        if let Err(error) = book.post_text(SEAT, text) {
+            return Err(posts_fault(place, error));
+        }
+    }
+    Ok(())
 }
 
-/// Makes at most `steps` calls on a book, and gives what is shown of it then.
+/// Makes at most `steps` calls on a book.
 fn run_posted<A: Allocator + Copy, W: Watch>(
     book: &mut Book<A>,
-    alloc: A,
     steps: u64,
-    show: Show,
     watch: &mut W,
-) -> Result<RunOut<A>, AllocError>
-    ensures { IfOk result (λ made. IsShownRun steps show made book.old book.new) }
+) -> Result<End, AllocError>
+    ensures { IfOk result (λ end. IsMadeRun steps end book.old book.new) }
 {
     let solo = watched_steps(book, SEAT, steps, watch)?;
-    let bytes = shown_bytes(alloc, book, solo.end, show)?;
-    Ok(RunOut {
-        bytes,
-        end: solo.end,
-    })
+    Ok(solo.end)
 }
 
-/// Posts a text to a book as it is opened, makes at most `steps` calls, and gives what is shown of it then.
+/// Posts texts to a book as it is opened, and makes at most `steps` calls.
 fn run_on<A: Allocator + Copy, W: Watch>(
     book: &mut Book<A>,
-    alloc: A,
-    posts: &[u8],
+    posts: &[&[u8]],
     steps: u64,
-    show: Show,
     watch: &mut W,
-) -> Result<RunOut<A>, RunFault>
-    ensures { (program : List ℕ) (labels : ℕ) → IsOpenText program labels book.old → IsRunText program posts.now steps labels show result }
+) -> Result<End, RunTextsFault>
+    ensures run { (program : List ℕ) (labels : ℕ) → IsOpenText program labels book.old → IsRunOn program (map (λ text. text.now) posts.now) steps labels result book.new }
+    ensures quiet { IfOk result (λ end. end ≡ Quiet → AreQuiet book.new.tickets) }
 {
-    match book.post_text(SEAT, posts) {
-        Ok(_) => match run_posted(book, alloc, steps, show, watch) {
-            Ok(made) => Ok(made),
-            Err(_) => Err(RunFault::Memory),
+    match post_all(book, posts) {
+        Ok(()) => match run_posted(book, steps, watch) {
+            Ok(end) => Ok(end),
+            Err(_) => Err(RunTextsFault::Memory),
         },
-        Err(ReadError::Fault(fault)) => Err(RunFault::Posts(fault)),
-        Err(ReadError::Memory) => Err(RunFault::Memory),
+        Err(fault) => Err(fault),
+    }
+}
+
+/// What is shown of a run, with its end.
+fn run_out<A: Allocator + Copy>(alloc: A, ran: &Ran<A>, show: Show) -> Result<RunOut<A>, RunFault>
+    ensures { IsShown show ran.now.end ran.now.book result }
+{
+    match ran.shown(alloc, show) {
+        Ok(bytes) => Ok(RunOut {
+            bytes,
+            end: ran.end,
+        }),
+        Err(_) => Err(RunFault::Memory),
+    }
+}
+
+/// Reads rules and texts of posts with one table of names, posts all atoms of all texts in order, and makes at most `steps`
+/// calls by one seat, as [`run_text`] does. Each text keeps the limit on length by itself, and lines are counted from 1 in
+/// each.
+pub fn run_texts<A: Allocator + Copy>(
+    alloc: A,
+    program: &[u8],
+    posts: &[&[u8]],
+    steps: u64,
+    labels: Label,
+) -> Result<Ran<A>, RunTextsFault>
+    requires { labels ≤ 4294967295 }
+    ensures { IsRunTexts program.now (map (λ text. text.now) posts.now) steps labels result }
+{
+    watched_run_texts(alloc, program, posts, steps, labels, &mut Unwatched)
+}
+
+/// The same, and `watch` is told of the calls, as [`watched_steps`] tells it.
+pub fn watched_run_texts<A: Allocator + Copy, W: Watch>(
+    alloc: A,
+    program: &[u8],
+    posts: &[&[u8]],
+    steps: u64,
+    labels: Label,
+    watch: &mut W,
+) -> Result<Ran<A>, RunTextsFault>
+    requires { labels ≤ 4294967295 }
+    ensures { IsRunTexts program.now (map (λ text. text.now) posts.now) steps labels result }
+{
+    let mut book = match open(alloc, program, labels) {
+        Ok(book) => book,
+        Err(fault) => return Err(fault),
+    };
+    match run_on(&mut book, posts, steps, watch) {
+        Ok(end) => Ok(Ran { book, end }),
+        Err(fault) => Err(fault),
     }
 }
 
@@ -158,9 +235,8 @@ pub fn watched_run<A: Allocator + Copy, W: Watch>(
     requires { labels ≤ 4294967295 }
     ensures { IsRunText program.now posts.now steps labels show result }
 {
-    let mut book = match open(alloc, program, labels) {
-        Ok(book) => book,
-        Err(fault) => return Err(fault),
-    };
-    run_on(&mut book, alloc, posts, steps, show, watch)
+    match watched_run_texts(alloc, program, &[posts], steps, labels, watch) {
+        Ok(ran) => run_out(alloc, &ran, show),
+        Err(fault) => Err(whole_fault(fault)),
+    }
 }

@@ -6,5 +6,4 @@ returns g c = record {
   solo = c.in_ok-solo.ensures.solo;
   headline = c.in_ok-solo.ensures.headline;
   quiet = c.in_ok-solo.ensures.end;
-  bytes = c.in_ok-bytes.ensures;
 }

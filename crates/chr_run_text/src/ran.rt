@@ -1,0 +1,30 @@
+//! A run that was made, and what is shown of it.
+ghost use Rattle.std.specs.Prelude.{◌≡◌, IfOk};
+ghost use Rattle.chr_calls.specs.Tickets.{AreQuiet};
+ghost use Rattle.chr_solo.specs.declared.solo.End.TheVariants.{Quiet};
+ghost use Rattle.chr_run_text.specs.Output.{shown};
+
+use crate::output::{Show, write_shown};
+use chr_book::book::Book;
+use chr_solo::solo::End;
+use std::alloc::{AllocError, Allocator};
+
+/// The book after a run, and the run's end.
+#[derive(Drop)]
+pub struct Ran<A: Allocator> {
+    pub book: Book<A>,
+    pub end: End,
+    // Where the run is called quiet no ticket is open.
+    ghost quiet: { end ≡ Quiet → AreQuiet book.tickets },
+}
+
+impl<A: Allocator + Copy> Ran<A> {
+    /// The bytes that show the run. An `Err` is E01.
+    pub fn shown(&self, alloc: A, show: Show) -> Result<Vec<u8, A>, AllocError>
+        ensures { IfOk result (λ bytes. bytes.items ≡ shown show self.now.end self.now.book) }
+    {
+        let mut bytes = Vec::new(alloc);
+        write_shown(&mut bytes, &self.book, self.end, show)?;
+        Ok(bytes)
+    }
+}
