@@ -1,5 +1,4 @@
 //! A program and its plans.
-use crate::refusals::is_refused;
 use arrayvec::ArrayVec;
 use chr_plan::plans::Plans;
 use chr_rule::program::Program;
@@ -56,7 +55,7 @@ fn push_all<'m>(
     if program.len() != 20 {
         return None;
     }
-    is_refused(memory, fails)
+    memory.is_refused(fails)
 }
 
 pub fn push(memory: &Refusing<Global>, n: u64) -> Option<bool> {
@@ -88,7 +87,7 @@ pub fn copy(memory: &Refusing<Global>, n: u64) -> Option<bool> {
     let program = program_of(memory)?;
     memory.refuse(n);
     let fails = copied(memory, &program).is_none();
-    let refused = is_refused(memory, fails);
+    let refused = memory.is_refused(fails);
     let again = copied(memory, &program);
     if again == Some(1) { refused } else { None }
 }
@@ -96,7 +95,7 @@ pub fn copy(memory: &Refusing<Global>, n: u64) -> Option<bool> {
 pub fn make(memory: &Refusing<Global>, n: u64) -> Option<bool> {
     let program = program_of(memory)?;
     memory.refuse(n);
-    let refused = is_refused(memory, Plans::make(memory, &program).is_err())?;
+    let refused = memory.is_refused(Plans::make(memory, &program).is_err())?;
     Plans::make(memory, &program).is_ok().then_some(refused)
 }
 
@@ -105,6 +104,6 @@ pub fn places(memory: &Refusing<Global>, n: u64) -> Option<bool> {
     program.push(rule_with(memory, true)?).ok()?;
     let plans = Plans::make(memory, &program).ok()?;
     memory.refuse(n);
-    let refused = is_refused(memory, plans.places(memory, &program).is_err())?;
+    let refused = memory.is_refused(plans.places(memory, &program).is_err())?;
     (plans.places(memory, &program).ok()?.len() == 1).then_some(refused)
 }

@@ -1,5 +1,4 @@
 //! A store.
-use crate::refusals::is_refused;
 use chr_store::store::{Store, StoreFault};
 use chr_value::atom::{Atom, Pred, Value};
 use chr_value::names::Name;
@@ -28,7 +27,7 @@ fn insert_all<'m>(
     if store.len() != 40 {
         return None;
     }
-    is_refused(memory, fails)
+    memory.is_refused(fails)
 }
 
 pub fn insert(memory: &Refusing<Global>, n: u64) -> Option<bool> {
@@ -43,7 +42,7 @@ const PRED: Pred = Pred {
 
 pub fn open(memory: &Refusing<Global>, n: u64) -> Option<bool> {
     memory.refuse(n);
-    let refused = is_refused(memory, Store::indexed(memory, 40, &[(PRED, 1)]).is_err())?;
+    let refused = memory.is_refused(Store::indexed(memory, 40, &[(PRED, 1)]).is_err())?;
     let again = Store::indexed(memory, 40, &[(PRED, 1)]);
     again.is_ok().then_some(refused)
 }
@@ -93,7 +92,7 @@ fn insert_all_indexed<'m>(
     if count(store, 0) != 20 || count(store, 1) != 20 {
         return None;
     }
-    is_refused(memory, fails)
+    memory.is_refused(fails)
 }
 
 pub fn insert_indexed(memory: &Refusing<Global>, n: u64) -> Option<bool> {
@@ -122,7 +121,7 @@ pub fn copy(memory: &Refusing<Global>, n: u64) -> Option<bool> {
     let store = store_of(memory)?;
     memory.refuse(n);
     let fails = copied(memory, &store).is_none();
-    let refused = is_refused(memory, fails);
+    let refused = memory.is_refused(fails);
     let again = copied(memory, &store);
     if again == Some(40) { refused } else { None }
 }

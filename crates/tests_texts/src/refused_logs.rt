@@ -1,5 +1,4 @@
 //! A log, and the writers of a log and of a store.
-use crate::refusals::is_refused;
 use chr_log::events::{Entry, Event, Labels, Version};
 use chr_log::log::Log;
 use chr_log::writing::{write_log, write_store};
@@ -37,14 +36,14 @@ pub fn push(memory: &Refusing<Global>, n: u64) -> Option<bool> {
     if log.len() != 40 {
         return None;
     }
-    is_refused(memory, fails)
+    memory.is_refused(fails)
 }
 
 /// Makes room for two entries, which then take no memory.
 pub fn reserve(memory: &Refusing<Global>, n: u64) -> Option<bool> {
     let mut log = Log::new(memory);
     memory.refuse(n);
-    let refused = is_refused(memory, log.reserve(2).is_err())?;
+    let refused = memory.is_refused(log.reserve(2).is_err())?;
     log.reserve(2).ok()?;
     let before = memory.requests();
     log.push_reserved(entry_of(1));
@@ -64,7 +63,7 @@ fn log_of(memory: &Refusing<Global>) -> Option<Log<&Refusing<Global>>> {
 pub fn copy(memory: &Refusing<Global>, n: u64) -> Option<bool> {
     let log = log_of(memory)?;
     memory.refuse(n);
-    let refused = is_refused(memory, log.copy(memory).is_err())?;
+    let refused = memory.is_refused(log.copy(memory).is_err())?;
     (log.copy(memory).ok()?.len() == 3).then_some(refused)
 }
 
@@ -102,7 +101,7 @@ fn write_events<'m>(
     let mut out = Vec::new(memory);
     memory.refuse(n);
     let fails = is_log_written(&names, events, &mut out).is_none();
-    let refused = is_refused(memory, fails);
+    let refused = memory.is_refused(fails);
     let again = is_log_written(&names, events, &mut out);
     if again == Some(true) { refused } else { None }
 }
@@ -138,7 +137,7 @@ fn write_one<'m>(
     let mut out = Vec::new(memory);
     memory.refuse(n);
     let fails = is_store_written(names, &lines, &mut out).is_none();
-    let refused = is_refused(memory, fails);
+    let refused = memory.is_refused(fails);
     let again = is_store_written(names, &lines, &mut out);
     if again == Some(true) { refused } else { None }
 }

@@ -1,5 +1,4 @@
 //! A table of names.
-use crate::refusals::is_refused;
 use chr_value::names::{Name, Names};
 use refusing::Refusing;
 use std::alloc::Global;
@@ -23,7 +22,7 @@ fn intern_all<'m>(
     if names.len() != 12 {
         return None;
     }
-    is_refused(memory, fails)
+    memory.is_refused(fails)
 }
 
 pub fn intern(memory: &Refusing<Global>, n: u64) -> Option<bool> {
@@ -52,7 +51,7 @@ fn copy_of<'m>(
     let name = names.intern("gcd").ok()?;
     memory.refuse(n);
     let fails = is_copied(memory, names, name).is_none();
-    let refused = is_refused(memory, fails)?;
+    let refused = memory.is_refused(fails)?;
     is_copied(memory, names, name)?.then_some(refused)
 }
 

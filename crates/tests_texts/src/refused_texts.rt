@@ -1,5 +1,4 @@
 //! The readers of a log, of a store, of rules and of posts.
-use crate::refusals::is_refused;
 use chr_lex::fault::ReadError;
 use chr_log_text::fault::TextFault;
 use chr_log_text::reading::{read_log, read_store};
@@ -21,7 +20,7 @@ pub fn read_entries(memory: &Refusing<Global>, n: u64) -> Option<bool> {
     let mut names = Names::new(memory);
     memory.refuse(n);
     let fault = read_log(memory, LOG.as_bytes(), &mut names).err();
-    let refused = is_refused(memory, fault == Some(TextFault::NoMemory))?;
+    let refused = memory.is_refused(fault == Some(TextFault::NoMemory))?;
     let log = read_log(memory, LOG.as_bytes(), &mut names).ok()?;
     (log.events.len() == 7).then_some(refused)
 }
@@ -30,7 +29,7 @@ pub fn read_lines(memory: &Refusing<Global>, n: u64) -> Option<bool> {
     let mut names = Names::new(memory);
     memory.refuse(n);
     let fault = read_store(memory, STORE.as_bytes(), &mut names).err();
-    let refused = is_refused(memory, fault == Some(TextFault::NoMemory))?;
+    let refused = memory.is_refused(fault == Some(TextFault::NoMemory))?;
     let lines = read_store(memory, STORE.as_bytes(), &mut names).ok()?;
     (lines.len() == 5).then_some(refused)
 }
@@ -39,7 +38,7 @@ pub fn read_rules(memory: &Refusing<Global>, n: u64) -> Option<bool> {
     let mut names = Names::new(memory);
     memory.refuse(n);
     let answer = read_program(memory, PROGRAM.as_bytes(), &mut names);
-    let refused = is_refused(memory, matches!(answer, Err(ReadError::Memory)))?;
+    let refused = memory.is_refused(matches!(answer, Err(ReadError::Memory)))?;
     let rules = read_program(memory, PROGRAM.as_bytes(), &mut names).ok()?;
     (rules.len() == 2).then_some(refused)
 }
@@ -48,7 +47,7 @@ pub fn read_posts(memory: &Refusing<Global>, n: u64) -> Option<bool> {
     let mut names = Names::new(memory);
     memory.refuse(n);
     let answer = read_atoms(memory, POSTS.as_bytes(), &mut names);
-    let refused = is_refused(memory, matches!(answer, Err(ReadError::Memory)))?;
+    let refused = memory.is_refused(matches!(answer, Err(ReadError::Memory)))?;
     let atoms = read_atoms(memory, POSTS.as_bytes(), &mut names).ok()?;
     (atoms.len() == 3).then_some(refused)
 }
