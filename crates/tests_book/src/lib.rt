@@ -22,6 +22,8 @@ mod lists;
 #[cfg(test)]
 mod opening;
 #[cfg(test)]
+mod refused_batches;
+#[cfg(test)]
 mod refused_calls;
 #[cfg(test)]
 mod refused_lists;

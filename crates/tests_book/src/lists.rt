@@ -102,7 +102,7 @@ fn debug_text<T: Debug>(texts: Global, value: &T) -> Result<String<Global>, Allo
 }
 
 /// What comes next, in words: a trial with its verdict.
-fn turn_text<A: Allocator + Copy>(
+pub fn turn_text<A: Allocator + Copy>(
     alloc: A,
     texts: Global,
     turn: &Result<Turn<A>, TurnFault>,
@@ -116,7 +116,7 @@ fn turn_text<A: Allocator + Copy>(
 }
 
 /// Adds a text to those before it, after a mark that parts them.
-fn add_text(text: &mut String<Global>, mark: &str, one: &str) -> Result<(), AllocError> {
+pub fn add_text(text: &mut String<Global>, mark: &str, one: &str) -> Result<(), AllocError> {
     if !text.is_empty() {
         text.push_str(mark)?;
     }
