@@ -30,6 +30,8 @@ mod rack;
 #[cfg(test)]
 mod refused;
 #[cfg(test)]
+mod refused_desks;
+#[cfg(test)]
 mod runs;
 #[cfg(test)]
 mod sessions;

@@ -40,6 +40,16 @@ fn rules_of(alloc: Global, number: usize) -> Result<String<Global>, AllocError> 
     Ok(text)
 }
 
+/// What a desk is told that loads these rules. It is told E20 only where it then finds a book.
+fn told_of<D: Desk<Global>>(desk: &mut D, text: &[u8]) -> Told {
+    match desk.ask(Command::Load(text)) {
+        Reply::Loaded(count) if count == FILLERS + 1 => Told::Loaded,
+        Reply::Fault(Fault::AlreadyLoaded)
+            if matches!(desk.ask(Command::Store), Reply::Store(0, _)) => { Told::AlreadyLoaded }
+        _ => Told::Another,
+    }
+}
+
 /// What a session that loads its rules is told.
 fn load<L1: PostLedger, L2: Ledger, R: Wait>(
     rt: &R,
@@ -52,14 +62,10 @@ fn load<L1: PostLedger, L2: Ledger, R: Wait>(
         return Told::Another;
     };
     let mut desk = SharedDesk::new(rt, alloc, shared, seat, inlet);
-    let reply = desk.ask(Command::Load(text.as_bytes()));
+    let told = told_of(&mut desk, text.as_bytes());
     let (seat, inlet) = desk.end();
     rack.give_back(rt, Place { seat, inlet });
-    match reply {
-        Reply::Loaded(count) if count == FILLERS + 1 => Told::Loaded,
-        Reply::Fault(Fault::AlreadyLoaded) => Told::AlreadyLoaded,
-        _ => Told::Another,
-    }
+    told
 }
 
 /// The number of the one session that was told `loaded`, where all others were told E20.

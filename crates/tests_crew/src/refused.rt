@@ -56,18 +56,20 @@ fn after_end<'m>(
     workers: usize,
     refused: bool,
 ) -> After<'m> {
-    let expected = match finished.end {
-        End::Quiet => Verdict::RunAndFinal,
-        End::Stopped => Verdict::Run,
+    // A worker whose call is refused ends, and leaves its ticket marked. Where there is another worker, that one takes it.
+    let marked = refused && workers == 1;
+    let expected = if marked {
+        (End::Stopped, Some(Verdict::Run))
+    } else {
+        (End::Quiet, Some(Verdict::RunAndFinal))
     };
     let mut book = finished.book;
-    let accepted = verdict(memory, &book) == Some(expected);
+    let ended = (finished.end, verdict(memory, &book));
     let (_, held) = tickets(&book);
-    // One worker ends where its call is refused, and leaves its ticket marked.
-    let marked = workers != 1 || book.take_stray().is_some() == refused;
+    let is_marked = book.take_stray().is_some();
     After {
         refused,
-        right: accepted && held == 0 && marked,
+        right: ended == expected && held == 0 && is_marked == marked,
         book,
     }
 }
