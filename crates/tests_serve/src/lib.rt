@@ -2,7 +2,8 @@
 //!
 //! A server may wait, and no clause says that it gets on. So these tests show that each client has its replies whatever the
 //! others do, that the seats are sixteen, that a client which vanishes or doesn't read costs its own session and nothing
-//! else, and that nothing is left of ten thousand of them.
+//! else, that nothing is left of ten thousand of them, that a session without memory is told so, and what becomes of the
+//! socket's file.
 #![tactic(auto)]
 
 #[cfg(test)]
@@ -11,6 +12,8 @@ mod client;
 mod failing;
 #[cfg(test)]
 mod memory;
+#[cfg(test)]
+mod refused;
 #[cfg(test)]
 mod sessions;
 #[cfg(test)]

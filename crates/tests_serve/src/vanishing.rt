@@ -6,8 +6,10 @@ use std::io::{self, Write};
 use std::net::Net;
 use std::os::fd::AsRawFd;
 use std::os::unix::net::{SocketAddr, UnixStream};
+use std::rt::Clock;
 use std::test::*;
 use std::thread;
+use std::time::Duration;
 
 /// The number that the system gives the next descriptor: the least that is free.
 fn next_descriptor<R: Net>(rt: &R) -> io::Result<i32> {
@@ -84,9 +86,12 @@ fn open_and_cut<R: Net>(rt: &R, address: &SocketAddr, count: u32) -> io::Result<
     Ok(())
 }
 
+/// How many milliseconds pass after a connection that found no seat.
+const PAUSE: u64 = 2;
+
 /// A client with a seat, whose `wait 0` has this reply, after at most so many connections that found none, and how many
 /// connections were made.
-fn seated<R: Net>(
+fn seated<R: Net + Clock>(
     rt: &R,
     alloc: Global,
     address: &SocketAddr,
@@ -101,6 +106,7 @@ fn seated<R: Net>(
         {
             return Ok((Some(client), k.wrapping_add(1)));
         }
+        thread::sleep(rt, Duration::from_millis(PAUSE));
     }
     Ok((None, most))
 }
@@ -113,7 +119,11 @@ const CUT: u32 = 10_000;
 
 /// How many of sixteen clients find a seat after ten thousand were cut, and by how much the next descriptor's number has
 /// risen while they have it.
-fn seats_after<R: Net>(rt: &R, alloc: Global, address: &SocketAddr) -> io::Result<(usize, i32)> {
+fn seats_after<R: Net + Clock>(
+    rt: &R,
+    alloc: Global,
+    address: &SocketAddr,
+) -> io::Result<(usize, i32)> {
     let mut first = Client::connect(rt, alloc, address)?;
     first.ask(LOAD)?;
     drop(first);
@@ -159,7 +169,11 @@ const BESIDE: u32 = 2000;
 
 /// Whether the seat comes back, while fifteen others are out, of a client that went away as it waited for a run without an
 /// end.
-fn seat_after_wait<R: Net>(rt: &R, alloc: Global, address: &SocketAddr) -> io::Result<bool> {
+fn seat_after_wait<R: Net + Clock>(
+    rt: &R,
+    alloc: Global,
+    address: &SocketAddr,
+) -> io::Result<bool> {
     let others = idle(rt, alloc, address, 15)?;
     let mut waiting = Client::connect(rt, alloc, address)?;
     waiting.ask("load 9\na <=> a.\n")?;
