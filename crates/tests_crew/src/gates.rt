@@ -9,12 +9,11 @@ use chr_crew::work::work;
 use chr_pool::make;
 use chr_seats::seat::{PostLedger, Seat};
 use chr_seats::shared::Shared;
-use std::alloc::{AllocError, Global};
+use std::alloc::Global;
 use std::marker::Brand;
 use std::sync::Wait;
 use std::sync::atomic::{AtomicU64, Ordering};
 use std::sync::ledger::{Blank, Ledger};
-use std::test::*;
 use std::thread;
 use std::thread::Threads;
 
@@ -50,23 +49,27 @@ impl Gate for Both {
     }
 }
 
-#[test]
-fn two_hands_judge_at_once(rt: HostRuntime) -> Result<(), Fail> {
-    let alloc = rt.alloc();
+/// Whether two workers come to the end of a run, after each has stood before a judgement while the other did. None where
+/// memory ran out.
+fn both_come<R: Threads + Wait + Sync>(rt: &R, alloc: Global) -> Option<bool> {
     let gate = Both {
         first: AtomicU64::new(0),
         second: AtomicU64::new(0),
         alone: AtomicU64::new(0),
     };
-    let book = open(alloc, GCD, "gcd(9), gcd(6).").ok_or(AllocError)?;
-    let finished = run(&rt, alloc, alloc, book, 2, &gate, MANY)
-        .ok()
-        .ok_or(AllocError)?;
-    assert_eq!(rt; finished.end, End::Quiet);
-    assert!(rt; gate.first.load(Ordering::SeqCst) != 0);
-    assert!(rt; gate.second.load(Ordering::SeqCst) != 0);
-    assert_eq!(rt; gate.alone.load(Ordering::SeqCst), 0);
-    Ok(())
+    let book = open(alloc, GCD, "gcd(9), gcd(6).")?;
+    let end = run(rt, alloc, alloc, book, 2, &gate, MANY).ok()?.end;
+    Some(
+        end == End::Quiet
+            && gate.first.load(Ordering::SeqCst) != 0
+            && gate.second.load(Ordering::SeqCst) != 0
+            && gate.alone.load(Ordering::SeqCst) == 0,
+    )
+}
+
+#[test]
+fn two_hands_judge_at_once(rt: HostRuntime) {
+    assert_eq!(rt; both_come(&rt, rt.alloc()), Some(true));
 }
 
 /// A gate that holds the first judgement until another thread has had the lock.

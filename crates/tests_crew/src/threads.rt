@@ -1,12 +1,11 @@
 //! Runs in threads.
 use crate::runs::{GCD, MANY, has_only, multiples, open, run, tickets, verdict};
 use chr_check::checking::Verdict;
-use chr_crew::crew::End;
+use chr_crew::crew::{End, Finished};
 use chr_crew::gate::Open;
 use chr_seats::counts::Counts;
-use std::alloc::{AllocError, Global};
+use std::alloc::Global;
 use std::sync::Wait;
-use std::test::*;
 use std::thread::Threads;
 
 /// A program and its posts, which have an end in any order.
@@ -62,57 +61,65 @@ fn each_run_is_accepted(rt: HostRuntime) {
     }
 }
 
-#[test]
-fn four_workers_end_two_hundred_goals(rt: HostRuntime) -> Result<(), Fail> {
-    let alloc = rt.alloc();
-    let posts = multiples(alloc, 200)?;
-    let book = open(alloc, GCD, posts.as_str()).ok_or(AllocError)?;
-    let finished = run(&rt, alloc, alloc, book, 4, &Open, MANY)
-        .ok()
-        .ok_or(AllocError)?;
-    assert_eq!(rt; finished.end, End::Quiet);
-    assert_eq!(rt; verdict(alloc, &finished.book), Some(Verdict::RunAndFinal));
-    assert!(rt; has_only(alloc, &finished.book, " gcd(12)"));
-    // Each ticket was pushed, and taken, once.
+/// Whether a run is final, with one constraint, and each ticket was pushed and taken once.
+fn is_whole(alloc: Global, finished: &Finished<Global>) -> bool {
     let (given, _) = tickets(&finished.book);
-    assert_eq!(rt;
-        (finished.tally.pushed, finished.tally.taken),
-        (given, given)
-    );
-    assert!(rt; finished.tally.left.is_empty());
-    Ok(())
+    finished.end == End::Quiet
+        && verdict(alloc, &finished.book) == Some(Verdict::RunAndFinal)
+        && has_only(alloc, &finished.book, " gcd(12)")
+        && finished.tally.pushed == given
+        && finished.tally.taken == given
+        && finished.tally.left.is_empty()
 }
 
-/// The log of one worker on `gcd(9), gcd(6)` after its first turn, and that of the whole run, in which it takes the tickets
-/// in the order in which they were pushed.
-const ONE_TURN: &[u8] = b"P 1 gcd(9)\nP 2 gcd(6)\nA 1 1\n";
-
-const ALL_TURNS: &[u8] =
-    b"P 1 gcd(9)\nP 2 gcd(6)\nA 1 1\nD 1\nA 2 2\nF 2 2 2\\1\nD 2\nA 3 3\nF 3 2 3\\2\nD 3\nA 4 4\nF 4 1 \\4\n";
+/// Whether four workers bring two hundred goals to such an end. None where memory ran out.
+fn is_two_hundred_whole<R: Threads + Wait + Sync>(rt: &R, alloc: Global) -> Option<bool> {
+    let posts = multiples(alloc, 200).ok()?;
+    let book = open(alloc, GCD, posts.as_str())?;
+    let finished = run(rt, alloc, alloc, book, 4, &Open, MANY).ok()?;
+    Some(is_whole(alloc, &finished))
+}
 
 #[test]
-fn gives_up_at_once(rt: HostRuntime) -> Result<(), Fail> {
-    let alloc = rt.alloc();
-    for (turns, end, entries, expected) in [
-        (1, End::Stopped, 1, ONE_TURN),
-        (MANY, End::Quiet, 10, ALL_TURNS),
-    ] {
-        let book = open(alloc, GCD, "gcd(9), gcd(6).").ok_or(AllocError)?;
-        let finished = run(&rt, alloc, alloc, book, 1, &Open, turns)
-            .ok()
-            .ok_or(AllocError)?;
-        let mut log = Vec::new(alloc);
-        finished.book.log_lines(&mut log, 1)?;
-        assert_eq!(rt; finished.end, end, "{turns} turns");
-        assert_eq!(rt; log.as_slice(), expected, "{turns} turns");
-        assert_eq!(rt;
-            finished.counts.first().copied(),
-            Some(Counts {
-                posts: 0,
-                others: entries
-            }),
-            "{turns} turns"
-        );
+fn four_workers_end_two_hundred_goals(rt: HostRuntime) {
+    assert_eq!(rt; is_two_hundred_whole(&rt, rt.alloc()), Some(true));
+}
+
+/// How many turns are made at most, how the run ends, how many entries the worker makes, and the log.
+type Turns<'t> = (u64, End, u64, &'t [u8]);
+
+/// One worker on `gcd(9), gcd(6)`: after its first turn, and to the end, where it takes the tickets in the order in which they
+/// were pushed.
+static TURNS: [Turns; 2] = [
+    (1, End::Stopped, 1, b"P 1 gcd(9)\nP 2 gcd(6)\nA 1 1\n"),
+    (
+        MANY,
+        End::Quiet,
+        10,
+        b"P 1 gcd(9)\nP 2 gcd(6)\nA 1 1\nD 1\nA 2 2\nF 2 2 2\\1\nD 2\nA 3 3\nF 3 2 3\\2\nD 3\nA 4 4\nF 4 1 \\4\n",
+    ),
+];
+
+/// Whether a run has the end, the entries and the log of a row.
+fn is_left(alloc: Global, finished: &Finished<Global>, row: &Turns) -> bool {
+    let (_, end, others, expected) = *row;
+    let mut log = Vec::new(alloc);
+    finished.book.log_lines(&mut log, 1).is_ok()
+        && finished.end == end
+        && finished.counts.first().copied() == Some(Counts { posts: 0, others })
+        && log.as_slice() == expected
+}
+
+/// Whether one worker leaves what a row has. None where memory ran out.
+fn leaves<R: Threads + Wait + Sync>(rt: &R, alloc: Global, row: &Turns) -> Option<bool> {
+    let book = open(alloc, GCD, "gcd(9), gcd(6).")?;
+    let finished = run(rt, alloc, alloc, book, 1, &Open, row.0).ok()?;
+    Some(is_left(alloc, &finished, row))
+}
+
+#[test]
+fn gives_up_at_once(rt: HostRuntime) {
+    for row in &TURNS {
+        assert_eq!(rt; leaves(&rt, rt.alloc(), row), Some(true), "{} turns", row.0);
     }
-    Ok(())
 }
