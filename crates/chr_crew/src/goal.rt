@@ -4,7 +4,8 @@ ghost use Rattle.chr_pool.specs.Hands.{hand_id};
 
 use crate::gate::{Gate, Stop};
 use chr_calls::answers::{
-    Batch, BatchReport, ClaimFault, DropFault, Dropping, FireFault, Fired, Firing, Turn, TurnFault,
+    Batch, BatchReport, ClaimFault, DropFault, Dropping, FireFault, Fired, Firing, PutDownFault, Turn,
+    TurnFault,
 };
 use chr_pool::Hand;
 use chr_search::judged::{Judged, Verdict, judge};
@@ -21,7 +22,7 @@ use std::sync::ledger::Ledger;
 pub enum Left {
     /// Its goal has ended, or another seat has it: the worker is free to take another.
     Free,
-    /// No turn was left.
+    /// No turn was left, or the crew is closed.
     Spent,
     /// E01 or E10.
     Want,
@@ -208,7 +209,8 @@ fn report<L1: PostLedger, L2: Ledger, A: Allocator + Copy, R: Wait, G: Gate>(
     }
 }
 
-/// Pushes the tickets of a firing on the hand, and tells those that sleep. A ticket that the hand refuses is marked stray.
+/// Pushes the tickets of a firing on the hand, and tells as many of those that rest as it leaves tickets for others. A ticket
+/// that the hand refuses is marked stray.
 fn push_new<L1: PostLedger, L2: Ledger, A: Allocator + Copy, R: Wait>(
     rt: &R,
     shared: &Shared<L1, L2, A>,
@@ -226,7 +228,7 @@ fn push_new<L1: PostLedger, L2: Ledger, A: Allocator + Copy, R: Wait>(
     // Where its own goal has ended, the worker takes the next of these itself.
     let taken = usize::from(!fired.active_lives);
     if fired.count > taken {
-        shared.announce(rt);
+        shared.announce_some(rt, fired.count - taken);
     }
 }
 
@@ -301,7 +303,7 @@ fn make<L1: PostLedger, L2: Ledger, A: Allocator + Copy, R: Wait, G: Gate>(
     }
 }
 
-/// Puts a ticket down. It is marked stray then.
+/// Puts a ticket down, or marks one that isn't claimed. It is stray then.
 fn put_down<L1: PostLedger, L2: Ledger, A: Allocator + Copy, R: Wait>(
     rt: &R,
     shared: &Shared<L1, L2, A>,
@@ -314,24 +316,31 @@ fn put_down<L1: PostLedger, L2: Ledger, A: Allocator + Copy, R: Wait>(
 {
     match shared.put_down(rt, seat, ticket) {
         Err(HoldFault::WrongSeat) => Left::WrongSeat,
+        Ok(Err(PutDownFault::NotHeld)) => {
+            let _ = shared.mark_stray(rt, ticket);
+            left
+        }
         _ => left,
     }
 }
 
-/// Takes a turn, where one is left.
-fn spend(stop: &mut Stop) -> bool {
+/// Takes a turn, where one is left and the crew isn't closed.
+fn spend<L1: PostLedger, L2: Ledger, A: Allocator + Copy>(
+    shared: &Shared<L1, L2, A>,
+    stop: &mut Stop,
+) -> bool {
     match stop {
         Stop::Turns(0) => false,
         Stop::Turns(turns) => {
             *turns -= 1;
             true
         }
-        Stop::Closed => true,
+        Stop::Closed => !shared.is_closed(),
     }
 }
 
-/// Claims a ticket and works on its goal until it ends, or no turn is left, or memory or labels run out: then it is put
-/// down or marked stray. A ticket that another seat has, or that has ended, is left alone.
+/// Claims a ticket and works on its goal until it ends, or no turn is left, or the crew is closed, or memory or labels run
+/// out: then it is put down or marked stray. A ticket that another seat has, or that has ended, is left alone.
 pub fn work_on_ticket<L1: PostLedger, L2: Ledger, A: Allocator + Copy, R: Wait, G: Gate>(
     rt: &R,
     shared: &Shared<L1, L2, A>,
@@ -347,7 +356,7 @@ pub fn work_on_ticket<L1: PostLedger, L2: Ledger, A: Allocator + Copy, R: Wait, 
 {
     let mut call = Call::Claim;
     for _ in rt.forever() {
-        if !spend(stop) {
+        if !spend(shared, stop) {
             return put_down(rt, shared, seat, ticket, Left::Spent);
         }
         match make(rt, shared, hand, seat, gate, ticket, call) {

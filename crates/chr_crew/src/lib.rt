@@ -6,9 +6,11 @@
 //! [`Gate`](gate::Gate) is called before each judgement. New tickets go on the worker's hand, where other workers may steal
 //! them.
 //!
-//! A worker sleeps where it finds nothing to take. It is woken by each post, by the tickets of each firing, by tickets that
-//! another worker leaves, and by the close of the crew. A ticket whose call met want of memory (E01) or of labels (E10) is
-//! marked stray, and wakes nobody, since the next worker would mostly meet the same want.
+//! A worker sleeps where it finds nothing to take. It is woken for the tickets of a post or a firing, of which each wakes one
+//! worker that rests; by tickets that another worker leaves; and by the close of the crew. A ticket whose call met want of
+//! memory (E01) or of labels (E10) is marked stray, and wakes nobody, since the next worker would mostly meet the same want:
+//! the worker that met it looks again after the next announcement, if only one that came while it worked. Once the crew is
+//! closed, a worker puts its goal down before its next call.
 //!
 //! [`run_crew`](crew::run_crew) runs up to sixteen workers on a book, each in a thread of its own, until they have made so
 //! many calls or find nothing to take. Its contract says of the book that comes back that it has the headline of `chr_calls`

@@ -38,23 +38,21 @@ fn rest<L1: PostLedger, L2: Ledger, A: Allocator + Copy, R: Wait>(
     }
 }
 
-/// Waits for a ticket to take. None where there is none any more: then the worker has ended.
+/// Waits for a ticket to take. Returns it with the number of the news before it was looked for. None where there is none any
+/// more: then the worker has ended.
 fn next_ticket<L1: PostLedger, L2: Ledger, A: Allocator + Copy, R: Wait>(
     rt: &R,
     shared: &Shared<L1, L2, A>,
     hand: &mut Hand<u64>,
     stop: Stop,
-) -> Option<u64>
+) -> Option<(u64, u64)>
     ensures { hand_id hand.new ≡ hand_id hand.old }
 {
     for _ in rt.forever() {
-        if let Some(ticket) = find(rt, shared, hand) {
-            return Some(ticket);
-        }
-        let seen = shared.news(rt);
         // What was announced before this is found now, and what is announced later ends the rest.
+        let seen = shared.news();
         if let Some(ticket) = find(rt, shared, hand) {
-            return Some(ticket);
+            return Some((ticket, seen));
         }
         if rest(rt, shared, stop, seen) == Rest::Over {
             return None;
@@ -64,14 +62,13 @@ fn next_ticket<L1: PostLedger, L2: Ledger, A: Allocator + Copy, R: Wait>(
 }
 
 /// Whether a worker takes no ticket any more.
-fn is_over<L1: PostLedger, L2: Ledger, A: Allocator + Copy, R: Wait>(
-    rt: &R,
+fn is_over<L1: PostLedger, L2: Ledger, A: Allocator + Copy>(
     shared: &Shared<L1, L2, A>,
     stop: Stop,
 ) -> bool {
     match stop {
         Stop::Turns(turns) => turns == 0,
-        Stop::Closed => shared.is_closed(rt),
+        Stop::Closed => shared.is_closed(),
     }
 }
 
@@ -84,16 +81,18 @@ fn leave<L1: PostLedger, L2: Ledger, A: Allocator + Copy, R: Wait>(
     shared.end(rt);
 }
 
-/// Whether a worker that has left a ticket so goes on.
+/// Whether a worker goes on that has left a ticket so, which it looked for after so much news. What came since may be the
+/// memory that it wants.
 fn goes_on<L1: PostLedger, L2: Ledger, A: Allocator + Copy, R: Wait>(
     rt: &R,
     shared: &Shared<L1, L2, A>,
     left: Left,
     stop: Stop,
+    seen: u64,
 ) -> bool {
     match (left, stop) {
         (Left::Free, _) => true,
-        (Left::Want, Stop::Closed) => shared.rest(rt, shared.news(rt)) == Rest::News,
+        (Left::Want, Stop::Closed) => shared.rest(rt, seen) == Rest::News,
         _ => {
             leave(rt, shared);
             false
@@ -114,14 +113,14 @@ fn work_on_one<L1: PostLedger, L2: Ledger, A: Allocator + Copy, R: Wait, G: Gate
     ensures number { seat.new.number ≡ seat.old.number }
     ensures posts { seat.new.counts.posts ≡ seat.old.counts.posts }
 {
-    if is_over(rt, shared, *stop) {
+    if is_over(shared, *stop) {
         leave(rt, shared);
         return false;
     }
     match next_ticket(rt, shared, hand, *stop) {
-        Some(ticket) => {
+        Some((ticket, seen)) => {
             let left = work_on_ticket(rt, shared, hand, seat, gate, stop, ticket);
-            goes_on(rt, shared, left, *stop)
+            goes_on(rt, shared, left, *stop, seen)
         }
         None => false,
     }
@@ -132,7 +131,8 @@ fn work_on_one<L1: PostLedger, L2: Ledger, A: Allocator + Copy, R: Wait, G: Gate
 /// firing are pushed on the hand, and one that the hand refuses is marked stray.
 ///
 /// A ticket that another seat has meanwhile, or that has ended, is left alone. Where memory (E01) or labels (E10) run out,
-/// and where no turn is left, the ticket is put down or marked stray. It ends as `stop` says, and on E26.
+/// and where no turn is left or the crew is closed, the ticket is put down or marked stray. Whether the crew is closed is
+/// looked at before each call. It ends as `stop` says, and on E26.
 ///
 /// By its contract the seat's entries are no posts, and the hand is still of the same pool.
 pub fn work<L1: PostLedger, L2: Ledger, A: Allocator + Copy, R: Wait, G: Gate>(

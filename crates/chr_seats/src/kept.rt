@@ -16,6 +16,9 @@ use std::mem;
 use std::sync::ledger;
 use std::sync::ledger::Ledger;
 
+/// Through how many holds a session that waits sleeps at least, while a worker is awake.
+pub(crate) const HOLDS_A_LOOK: u64 = 64;
+
 /// What is under the lock: perhaps a book, what each seat has made of it, and who sleeps. Contracts see the book.
 #[derive(Drop)]
 pub struct Kept<L1: PostLedger, L2: Ledger, A: Allocator> {
@@ -23,16 +26,20 @@ pub struct Kept<L1: PostLedger, L2: Ledger, A: Allocator> {
     pub(crate) counts: [Counts; 32],
     pub(crate) posts: ledger::Book<L1>,
     pub(crate) others: ledger::Book<L2>,
-    /// Whether workers that wait for the end shall end.
-    pub(crate) closed: bool,
-    /// How often there was something new to take, modulo 2^64.
-    pub(crate) news: u64,
-    /// How many workers work, and don't sleep.
+    /// How many holds there were by seats, modulo 2^64.
+    pub(crate) holds: u64,
+    /// Whether a worker has begun to work.
+    pub(crate) begun: bool,
+    /// How many workers work, those among them that were told to and still sleep.
     pub(crate) awake: u32,
-    /// How many workers sleep.
+    /// How many workers sleep and were not told to work.
     pub(crate) resting: u32,
-    /// How many claims there were, modulo 2^64.
-    pub(crate) claims: u64,
+    /// How many workers were told to work and still sleep.
+    pub(crate) told: u32,
+    /// How many of those that sleep end where no worker is awake.
+    pub(crate) together: u32,
+    /// How many sessions sleep.
+    pub(crate) watching: u32,
 }
 
 impl<L1: PostLedger, L2: Ledger, A: Allocator> Model for Kept<L1, L2, A> {
@@ -124,11 +131,13 @@ impl<L1: PostLedger, L2: Ledger, A: Allocator + Copy> Kept<L1, L2, A> {
             counts: _,
             posts: _,
             others: _,
-            closed: _,
-            news: _,
+            holds: _,
+            begun: _,
             awake: _,
             resting: _,
-            claims: _,
+            told: _,
+            together: _,
+            watching: _,
         } = self;
         book
     }
@@ -234,11 +243,38 @@ impl<L1: PostLedger, L2: Ledger, A: Allocator + Copy> Kept<L1, L2, A> {
         Ok(book)
     }
 
+    /// Counts a hold. Whether sessions that sleep are to look.
+    pub(crate) fn count_hold(&mut self) -> bool
+        ensures { self.new ≡ self.old }
+    {
+        self.holds = self.holds.wrapping_add(1);
+        self.watching > 0 && self.holds % HOLDS_A_LOOK == 0
+    }
+
+    /// A worker begins to work.
+    pub(crate) fn begin(&mut self)
+        ensures { self.new ≡ self.old }
+    {
+        self.begun = true;
+        self.awake = self.awake.saturating_add(1);
+    }
+
     /// A worker that works ends.
     pub(crate) fn end(&mut self)
         ensures { self.new ≡ self.old }
     {
         self.awake = self.awake.saturating_sub(1);
+    }
+
+    /// As many of the workers that rest are told, or all of them, and awake from now on. Returns how many.
+    pub(crate) fn tell(&mut self, most: usize) -> u32
+        ensures { self.new ≡ self.old }
+    {
+        let told = u32::try_from(most).unwrap_or(u32::MAX).min(self.resting);
+        self.resting = self.resting.saturating_sub(told);
+        self.awake = self.awake.saturating_add(told);
+        self.told = self.told.saturating_add(told);
+        told
     }
 
     /// A worker that works sleeps.
@@ -249,11 +285,16 @@ impl<L1: PostLedger, L2: Ledger, A: Allocator + Copy> Kept<L1, L2, A> {
         self.resting = self.resting.saturating_add(1);
     }
 
-    /// A worker that sleeps wakes up.
-    pub(crate) fn wake(&mut self)
+    /// A worker that sleeps wakes up. Whether one was told to.
+    pub(crate) fn wake(&mut self) -> bool
         ensures { self.new ≡ self.old }
     {
-        self.awake = self.awake.saturating_add(1);
+        if self.told > 0 {
+            self.told -= 1;
+            return true;
+        }
         self.resting = self.resting.saturating_sub(1);
+        self.awake = self.awake.saturating_add(1);
+        false
     }
 }

@@ -15,7 +15,9 @@
 //! ledgers of which each seat has a share, no count rises without its entry: who has all 32 seats knows that their counts
 //! add up to the entries of the log ([`audit`](kept::Kept::audit)).
 //!
-//! [`rest`](shared::Shared::rest) and its kin sleep where there is nothing to do. No contract says that a sleeper wakes.
+//! Workers [`rest`](shared::Shared::rest) where there is nothing to take, until they are told of something new; a worker that
+//! is told is awake from then on. Sessions [`watch`](shared::Shared::watch) the workers. No contract says that a sleeper
+//! wakes.
 #![tactic(auto)]
 
 pub mod answers;

@@ -1,6 +1,7 @@
 -- What a desk over a shared book replies, and its seat before and after. What the book was at that moment is not known but
 -- by the reply: others work on it.
 use Rattle.std.specs.Prelude.{◌≡◌, ◌+◌, ◌-◌, ℕ, List, [], true, false, map, length, drop, Option, Some, None, Result, Ok, Err}
+use Rattle.chr_value.specs.declared.label.TheConstants.{GREATEST_LABEL}
 use Rattle.chr_rule.specs.Rules.{Simpagation}
 use Rattle.chr_lex.specs.declared.fault.ReadError.{ReadError}
 use Rattle.chr_lex.specs.declared.fault.ReadError.TheVariants as errors
@@ -20,10 +21,6 @@ use Rattle.chr_session.specs.declared.desk.Fault.{Fault as FaultKind}
 use Rattle.chr_session.specs.declared.desk.Fault.TheVariants as faults
 use Rattle.chr_session.specs.Commands.{Command, Load, Post, Wait, Store, Log, Reply, Loaded, Posted, Quiet, Open, Stored, Logged, Refused}
 
--- the greatest label of a book that a desk opens
-abbrev pub greatest_label : ℕ
-greatest_label = 4294967295
-
 -- a hold made no call: the seat's counts were not what it has made, or no book was there, and the seat has made nothing
 abbrev pub WasRefused : SeatState → FaultKind → Type 0
 WasRefused seat faults.WrongSeat = (book : Option BookState) × MakesNoCall book seat WrongSeat
@@ -37,7 +34,7 @@ pub record IsLoaded (text : List ℕ) (count : ℕ) : Type 0 where
   pub reads : program_of [] text ≡ Ok (rules, table)
   pub count_is : count ≡ length rules
   pub book : BookState
-  pub opens : IsOpened rules table greatest_label book
+  pub opens : IsOpened rules table GREATEST_LABEL book
 
 -- a text is loaded, or it has a fault, or memory ran out, or a program stands already
 abbrev pub BringReplies : List ℕ → Reply → Type 0

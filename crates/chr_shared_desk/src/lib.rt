@@ -2,7 +2,8 @@
 //!
 //! [`SharedDesk`](shared_desk::SharedDesk) makes its entries by a seat of a [`Shared`](chr_seats::shared::Shared) book, and
 //! pushes the tickets of its posts on an inlet of the workers' pool. A load brings a book where none is there yet (E20).
-//! `wait` looks at the book until it is quiet, so often at most, and sleeps between two looks while a worker is awake.
+//! `wait` looks at the book until it is quiet, so often at most, and sleeps between two looks while a worker is awake,
+//! through fewer than 128 holds of the lock. Where none is awake it tells the workers once to look again, and then it ends.
 //! `store` and `log` are read in one hold of the lock.
 //!
 //! What is promised: each reply, and the counts of the seat after it, are those of the step relation of this desk. A reply

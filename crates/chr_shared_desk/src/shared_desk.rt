@@ -9,7 +9,7 @@ use chr_lex::fault::ReadError;
 use chr_pool::Inlet;
 use chr_seats::answers::HoldFault;
 use chr_seats::seat::{PostLedger, Seat};
-use chr_seats::shared::Shared;
+use chr_seats::shared::{Shared, Watched};
 use chr_session::desk::{Command, Desk, Fault, Reply};
 use chr_text::reading::read_program;
 use chr_value::label::GREATEST_LABEL;
@@ -96,7 +96,7 @@ fn load<R: Wait, L1: PostLedger, L2: Ledger, A: Allocator + Copy>(
 }
 
 /// Pushes so many tickets on the inlet, from `first` on. One that the inlet refuses is marked stray, so that a worker finds
-/// it all the same. Then those that rest are told.
+/// it all the same. Then as many of the workers that rest are told.
 fn hand_out<R: Wait, L1: PostLedger, L2: Ledger, A: Allocator + Copy>(
     rt: &R,
     shared: &Shared<L1, L2, A>,
@@ -111,7 +111,7 @@ fn hand_out<R: Wait, L1: PostLedger, L2: Ledger, A: Allocator + Copy>(
             let _ = shared.mark_stray(rt, ticket);
         }
     }
-    shared.announce(rt);
+    shared.announce_some(rt, count);
 }
 
 /// Posts the atoms of a text.
@@ -156,21 +156,46 @@ fn look<R: Wait, L1: PostLedger, L2: Ledger, A: Allocator + Copy>(
     }
 }
 
-/// Looks at most `most + 1` times whether a ticket is open, until none is. Between two looks it sleeps until there is
-/// something new, only while a worker is awake.
-fn wait<R: Wait, L1: PostLedger, L2: Ledger, A: Allocator + Copy>(
+/// Sleeps until there may be something new to see since there were so many holds. Where no worker is awake they are told
+/// once to look again, since a goal may be left that a worker had no memory for. False where that is done, and no worker is
+/// awake.
+fn watch<R: Wait, L1: PostLedger, L2: Ledger, A: Allocator + Copy>(
+    rt: &R,
+    shared: &Shared<L1, L2, A>,
+    seen: u64,
+    told: &mut bool,
+) -> bool {
+    if shared.watch(rt, seen) == Watched::News {
+        return true;
+    }
+    if *told {
+        return false;
+    }
+    *told = true;
+    shared.announce(rt);
+    shared.watch(rt, seen) == Watched::News
+}
+
+/// Looks at most `most + 1` times whether a ticket is open, until none is, or no worker is awake, or the patience ends.
+/// Between two looks it sleeps while a worker is awake, through fewer than 128 holds of the lock.
+fn wait<R: Wait, L1: PostLedger, L2: Ledger, A: Allocator + Copy, P: Patience>(
     rt: &R,
     shared: &Shared<L1, L2, A>,
     seat: &Seat<L1, L2>,
     most: u32,
+    patience: &mut P,
 ) -> Reply<A>
     ensures { WaitReplies seat.now (reply_of result) }
 {
+    let mut told = false;
     for _ in 0..most {
-        let seen = shared.news(rt);
-        match look(rt, shared, seat) {
-            Reply::Open => shared.watch(rt, seen),
-            reply => return reply,
+        let seen = shared.holds(rt);
+        let reply = look(rt, shared, seat);
+        if !matches!(reply, Reply::Open) || !patience.goes_on() {
+            return reply;
+        }
+        if !watch(rt, shared, seen, &mut told) {
+            break;
         }
     }
     look(rt, shared, seat)
@@ -208,6 +233,22 @@ fn log<R: Wait, L1: PostLedger, L2: Ledger, A: Allocator + Copy>(
         Ok(Err(_)) => Reply::Fault(Fault::NoMemory),
         Err(HoldFault::WrongSeat) => Reply::Fault(Fault::WrongSeat),
         Err(HoldFault::NoBook) => Reply::Fault(Fault::NoProgram),
+    }
+}
+
+/// What a session that waits asks between two looks.
+pub trait Patience {
+    /// Whether it goes on.
+    fn goes_on(&mut self) -> bool;
+}
+
+/// A patience without end.
+#[derive(Clone, Copy, Debug)]
+struct Endless;
+
+impl Patience for Endless {
+    fn goes_on(&mut self) -> bool {
+        true
     }
 }
 
@@ -253,6 +294,15 @@ impl<'a, R: Wait, L1: PostLedger, L2: Ledger, A: Allocator + Copy> SharedDesk<'a
         }
     }
 
+    /// Carries out `wait`, and asks after each look that finds a ticket open whether to go on; if not, the reply is that of
+    /// the look. Between two looks it sleeps while a worker is awake, through fewer than 128 holds of the lock, in
+    /// each of which up to sixteen trials are given out or reported.
+    pub fn wait<P: Patience>(&self, most: u32, patience: &mut P) -> Reply<A>
+        ensures { WaitReplies self.now.0 (reply_of result) }
+    {
+        wait(self.rt, self.shared, &self.seat, most, patience)
+    }
+
     /// Gives back the seat and the inlet.
     pub fn end(self) -> (Seat<L1, L2>, Inlet<u64>)
         ensures seat { result.0 ≡ self.entry.0 }
@@ -276,7 +326,7 @@ impl<'a, R: Wait, L1: PostLedger, L2: Ledger, A: Allocator + Copy> Desk<A>
                 &mut self.inlet,
                 text,
             ),
-            Command::Wait(most) => wait(self.rt, self.shared, &self.seat, most),
+            Command::Wait(most) => self.wait(most, &mut Endless),
             Command::Store => store(self.rt, self.alloc, self.shared, &self.seat),
             Command::Log(from) => log(self.rt, self.alloc, self.shared, &self.seat, from),
         }

@@ -23,10 +23,12 @@ fn becomes_quiet<L1: PostLedger, L2: Ledger, R: Wait>(
     seat: &Seat<L1, L2>,
 ) -> bool {
     for _ in 0..MANY {
-        let seen = shared.news(rt);
+        let seen = shared.holds(rt);
         match shared.quiet(rt, seat) {
             Ok(true) => return true,
-            Ok(false) => shared.watch(rt, seen),
+            Ok(false) => {
+                let _ = shared.watch(rt, seen);
+            }
             Err(_) => return false,
         }
         thread::yield_now();
