@@ -34,6 +34,8 @@ mod refused_desks;
 #[cfg(test)]
 mod runs;
 #[cfg(test)]
+mod scenes;
+#[cfg(test)]
 mod sessions;
 #[cfg(test)]
 mod sharing;
@@ -41,3 +43,7 @@ mod sharing;
 mod stops;
 #[cfg(test)]
 mod threads;
+#[cfg(test)]
+mod waiting;
+#[cfg(test)]
+mod waking;
