@@ -20,3 +20,4 @@ pub mod listener;
 pub mod refusal;
 pub mod serving;
 pub mod session;
+mod unread;

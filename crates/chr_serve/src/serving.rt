@@ -6,6 +6,7 @@ use crate::connections::{Connection, Connections};
 use crate::listener::Listener;
 use crate::refusal::{Refusal, refuse};
 use crate::session::serve_stream;
+use crate::unread::discard_unread;
 use chr_crew::gate::{Open, Stop};
 use chr_crew::work::work;
 use chr_pool::{Hand, make};
@@ -111,6 +112,7 @@ fn receive<L1: PostLedger, L2: Ledger, A: Allocator + Copy, R: Wait>(
     if let Err(stream) = connections.admit(rt, stream) {
         // Its client may be gone already.
         let _ = refuse(&mut &stream, Refusal::NoSeat);
+        discard_unread(&stream);
     }
 }
 

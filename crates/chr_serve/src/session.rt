@@ -5,6 +5,7 @@ ghost use Rattle.chr_session.specs.Sessions.{Served, Broken};
 ghost use Rattle.chr_serve.specs.Sessions.{SharedStep};
 
 use crate::refusal::{Refusal, refuse};
+use crate::unread::discard_unread;
 use chr_crew::rack::Place;
 use chr_seats::seat::PostLedger;
 use chr_seats::shared::Shared;
@@ -42,7 +43,8 @@ pub fn serve_at<S: Source, W: Sink, R: Wait, L1: PostLedger, L2: Ledger, A: Allo
     (Place { seat, inlet }, ended)
 }
 
-/// Serves a connection by a place, and gives the place back. A connection whose session has no memory is told so.
+/// Serves a connection by a place, and gives the place back. A connection whose session has no memory is told so. What a
+/// client has sent behind the end of its session is read away.
 pub(crate) fn serve_stream<R: Wait, L1: PostLedger, L2: Ledger, A: Allocator + Copy>(
     rt: &R,
     alloc: A,
@@ -57,5 +59,6 @@ pub(crate) fn serve_stream<R: Wait, L1: PostLedger, L2: Ledger, A: Allocator + C
         // Its client may be gone already.
         let _ = refuse(&mut writer.inner, Refusal::NoMemory);
     }
+    discard_unread(stream);
     place
 }

@@ -19,4 +19,6 @@ mod sessions;
 #[cfg(test)]
 mod socket;
 #[cfg(test)]
+mod unread;
+#[cfg(test)]
 mod vanishing;
