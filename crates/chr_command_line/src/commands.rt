@@ -15,6 +15,8 @@ const NUMBER: ValueParser = ValueParser::Signed(0, 4_294_967_295);
 enum Presence {
     Required,
     Optional,
+    /// It may be given any number of times.
+    Repeated,
     /// It has this value where it isn't given.
     Default(&'static str),
 }
@@ -58,6 +60,18 @@ const LABELS: Argument = Argument {
     }),
 };
 
+/// A path of a file, of which there may be several.
+const MORE: OptionValue = OptionValue {
+    name: "MORE",
+    parser: ValueParser::NonEmptyString,
+};
+
+/// A path of a file.
+const PATH: OptionValue = OptionValue {
+    name: "PATH",
+    parser: ValueParser::NonEmptyString,
+};
+
 static COMMANDS: [CommandRow; 4] = [
     CommandRow {
         name: "run",
@@ -77,6 +91,12 @@ static COMMANDS: [CommandRow; 4] = [
                 value: None,
             },
             Argument {
+                name: "posts",
+                help: "Further constraints, posted after those of POSTS; as often as wanted, in order",
+                presence: Presence::Repeated,
+                value: Some(MORE),
+            },
+            Argument {
                 name: "steps",
                 help: "How many calls are made at most",
                 presence: Presence::Default("1000000"),
@@ -94,6 +114,18 @@ static COMMANDS: [CommandRow; 4] = [
                     name: "all|store|log|strict",
                     parser: ValueParser::Names(&["all", "store", "log", "strict"]),
                 }),
+            },
+            Argument {
+                name: "log",
+                help: "A file to write: the log of the run, besides what is printed",
+                presence: Presence::Optional,
+                value: Some(PATH),
+            },
+            Argument {
+                name: "store",
+                help: "A file to write: the store of the run, besides what is printed",
+                presence: Presence::Optional,
+                value: Some(PATH),
             },
         ],
     },
@@ -120,6 +152,12 @@ static COMMANDS: [CommandRow; 4] = [
                 presence: Presence::Required,
                 value: None,
             },
+            Argument {
+                name: "log",
+                help: "A file to read: a further part of the log, of entries alone; as often as wanted, in order",
+                presence: Presence::Repeated,
+                value: Some(MORE),
+            },
         ],
     },
     CommandRow {
@@ -137,10 +175,7 @@ static COMMANDS: [CommandRow; 4] = [
                 name: "socket",
                 help: "Where the socket is made: a path at which there is no file",
                 presence: Presence::Required,
-                value: Some(OptionValue {
-                    name: "PATH",
-                    parser: ValueParser::NonEmptyString,
-                }),
+                value: Some(PATH),
             },
             Argument {
                 name: "workers",
@@ -186,6 +221,7 @@ fn make_argument<'a>(alloc: Global, row: &Argument) -> Arg<'a> {
     match row.presence {
         Presence::Required => arg.required(true),
         Presence::Optional => arg,
+        Presence::Repeated => arg.action(ArgAction::Append),
         Presence::Default(value) => arg.default_value(value),
     }
 }

@@ -3,7 +3,7 @@ use crate::commands::command;
 use chr_run_text::output::Show;
 use clap::error::ErrorKind;
 use clap::{ArgMatches, Command, Error};
-use std::alloc::Global;
+use std::alloc::{AllocError, Global};
 use std::convert::AsStr;
 
 /// The version of the program.
@@ -14,25 +14,30 @@ pub const STANDARD_INPUT: &str = "-";
 
 /// The options of a run.
 #[derive(Clone, Copy, Debug, PartialEq, Eq)]
-pub struct RunOptions {
+pub struct RunOptions<'a> {
     /// How many calls are made at most.
     pub steps: u32,
     /// The greatest label that may be given.
     pub labels: u32,
     /// What is shown of the run.
     pub show: Show,
+    /// The file that the log is written to.
+    pub log: Option<&'a str>,
+    /// The file that the store is written to, another one.
+    pub store: Option<&'a str>,
 }
 
-/// What the command line asks for. At most one of the paths of a request is [`STANDARD_INPUT`].
+/// What the command line asks for. At most one of the paths to read is [`STANDARD_INPUT`], and none to write.
 #[derive(Clone, Copy, Debug, PartialEq, Eq)]
 pub enum Request<'a> {
-    /// `chr run FILE POSTS [--steps K] [--labels N] [--show all|store|log|strict]`
+    /// `chr run FILE POSTS [--posts MORE].. [--steps K] [--labels N] [--show all|store|log|strict] [--log PATH] [--store
+    /// PATH]`
     Run {
         file: &'a str,
         posts: &'a str,
-        options: RunOptions,
+        options: RunOptions<'a>,
     },
-    /// `chr check FILE LOG STORE`
+    /// `chr check FILE LOG STORE [--log MORE]..`
     Check {
         file: &'a str,
         log: &'a str,
@@ -54,6 +59,14 @@ pub enum Request<'a> {
     },
 }
 
+/// A request, with the paths that an option names which may be given again.
+#[derive(Debug, Drop)]
+pub struct Asked<'a> {
+    pub request: Request<'a>,
+    /// For `run` the further texts of posts, for `check` the further parts of the log, in order; none for the others.
+    pub more: Vec<&'a str>,
+}
+
 /// What a value of `--show` asks for.
 fn show_of(word: &str) -> Option<Show> {
     match word {
@@ -66,11 +79,13 @@ fn show_of(word: &str) -> Option<Show> {
 }
 
 /// Returns the options of a run.
-fn run_options(run: &ArgMatches) -> Option<RunOptions> {
+fn run_options<'a>(run: &ArgMatches<'a>) -> Option<RunOptions<'a>> {
     Some(RunOptions {
         steps: run.get_one("steps")?,
         labels: run.get_one("labels")?,
         show: show_of(run.get_str("show")?)?,
+        log: run.get_str("log"),
+        store: run.get_str("store"),
     })
 }
 
@@ -102,7 +117,7 @@ fn serve_asked<'a>(given: &ArgMatches<'a>) -> Option<Request<'a>> {
 }
 
 /// Returns what the arguments of the command of this name ask for.
-fn asked<'a>(name: &str, given: &ArgMatches<'a>) -> Option<Request<'a>> {
+fn request_of<'a>(name: &str, given: &ArgMatches<'a>) -> Option<Request<'a>> {
     match name {
         "run" => run_asked(given),
         "check" => check_asked(given),
@@ -114,44 +129,84 @@ fn asked<'a>(name: &str, given: &ArgMatches<'a>) -> Option<Request<'a>> {
     }
 }
 
+/// Returns the paths of the option of a command that may be given again.
+fn more_asked<'a>(
+    alloc: Global,
+    name: &str,
+    given: &ArgMatches<'a>,
+) -> Result<Vec<&'a str>, AllocError> {
+    let option = match name {
+        "run" => "posts",
+        "check" => "log",
+        _ => return Ok(Vec::new(alloc)),
+    };
+    let mut more = Vec::new(alloc);
+    if let Some(paths) = given.get_strs(option) {
+        more.extend_from_slice(paths)?;
+    }
+    Ok(more)
+}
+
 /// How many of the paths are standard input.
 fn inputs(paths: &[&str]) -> usize {
     let inputs = paths.iter().filter(|path| **path == STANDARD_INPUT);
     inputs.count()
 }
 
-/// Whether more than one file of a request is standard input.
-fn shares_input(request: &Request<'_>) -> bool {
-    match *request {
-        Request::Run { file, posts, .. } => 1 < inputs(&[file, posts]),
-        Request::Check { file, log, store } => 1 < inputs(&[file, log, store]),
-        Request::Session { .. } | Request::Serve { .. } => false,
+/// Whether more than one file to read is standard input.
+fn shares_input(request: &Request<'_>, more: &[&str]) -> bool {
+    let first = match *request {
+        Request::Run { file, posts, .. } => inputs(&[file, posts]),
+        Request::Check { file, log, store } => inputs(&[file, log, store]),
+        Request::Session { .. } | Request::Serve { .. } => 0,
+    };
+    1 < first.saturating_add(inputs(more))
+}
+
+/// Whether a file to write is standard input, or two are one file.
+fn shares_output(request: &Request<'_>) -> bool {
+    let Request::Run { options, .. } = request else {
+        return false;
+    };
+    match (options.log, options.store) {
+        (Some(log), Some(store)) => log == store || inputs(&[log, store]) != 0,
+        (Some(path), None) | (None, Some(path)) => path == STANDARD_INPUT,
+        (None, None) => false,
     }
 }
 
 /// What is wrong with words that are arguments of a command: the kind of the error, and its text.
 type Wrong = (ErrorKind, &'static str);
 
-/// Returns what a command with its arguments asks for.
-fn requested<'a>(matches: &ArgMatches<'a>) -> Result<Request<'a>, Wrong> {
-    let Some((name, given)) = matches.subcommand() else {
-        return Err((ErrorKind::MissingSubcommand, "a command is missing"));
-    };
-    match asked(name, given) {
+/// Returns what the command of this name asks for with its arguments.
+fn requested<'a>(name: &str, given: &ArgMatches<'a>, more: &[&str]) -> Result<Request<'a>, Wrong> {
+    match request_of(name, given) {
         None => Err((ErrorKind::InvalidSubcommand, "there is no such command")),
-        Some(request) if shares_input(&request) => Err((
+        Some(request) if shares_input(&request, more) => Err((
             ErrorKind::ArgumentConflict,
             "`-`, standard input, can stand for one file only",
+        )),
+        Some(request) if shares_output(&request) => Err((
+            ErrorKind::ArgumentConflict,
+            "`--log` and `--store` need two files, neither of them `-`",
         )),
         Some(request) => Ok(request),
     }
 }
 
 /// Reads the words of a command line by the commands that there are.
-fn read_by<'a, S: AsStr>(command: &mut Command<'a>, words: &'a [S]) -> Result<Request<'a>, Error> {
+fn read_by<'a, S: AsStr>(
+    alloc: Global,
+    command: &mut Command<'a>,
+    words: &'a [S],
+) -> Result<Asked<'a>, Error> {
     let matches = command.try_get_matches_from_mut(words)?;
-    match requested(&matches) {
-        Ok(request) => Ok(request),
+    let Some((name, given)) = matches.subcommand() else {
+        return Err(command.error(ErrorKind::MissingSubcommand, "a command is missing")?);
+    };
+    let more = more_asked(alloc, name, given)?;
+    match requested(name, given, more.as_slice()) {
+        Ok(request) => Ok(Asked { request, more }),
         Err((kind, text)) => Err(command.error(kind, text)?),
     }
 }
@@ -159,7 +214,7 @@ fn read_by<'a, S: AsStr>(command: &mut Command<'a>, words: &'a [S]) -> Result<Re
 /// Reads the words of a command line, the program's own name first.
 ///
 /// Help and the version are an `Err` too where they are asked for, with exit code 0; they are printed to standard output.
-pub fn read<'a, S: AsStr>(alloc: Global, words: &'a [S]) -> Result<Request<'a>, Error> {
+pub fn read<'a, S: AsStr>(alloc: Global, words: &'a [S]) -> Result<Asked<'a>, Error> {
     let mut command = command(alloc)?;
-    read_by(&mut command, words)
+    read_by(alloc, &mut command, words)
 }

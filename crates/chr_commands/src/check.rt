@@ -1,32 +1,46 @@
 //! `chr check`.
-use crate::files::{MOST_LOG, MOST_TEXT, called, fetch};
-use crate::message::{Detail, Fault, Source, Text, refusal_message};
+use crate::files::{MOST_LOG, MOST_TEXT, all_paths, called, fetch, fetch_all, sources, texts};
+use crate::message::{Detail, Fault, Source, Text, part_message, refusal_message};
 use crate::progress::Progress;
 use crate::refused;
 use crate::report::{Status, put, report_failure, report_fault, report_no_memory};
 use chr_check::fault::{CheckFault, Place};
-use chr_check_text::checked::{CheckTextFault, Checked, watched_check_text};
-use chr_log_text::reading::read_log;
+use chr_check_text::checked::{CheckPartsFault, Checked, watched_check_parts};
+use chr_log_text::parts::read_log_in_parts;
 use chr_text::reading::read_program;
 use chr_value::names::Names;
 use std::alloc::{AllocError, Allocator, Global};
 use std::rt::{Clock, Files};
 
-/// The texts of the log and of the store.
+/// The texts of the log, which may come in parts, and of the store.
 #[derive(Clone, Copy)]
 struct Recorded<'a> {
-    log: Source<'a>,
+    log: &'a [Source<'a>],
     store: Source<'a>,
 }
 
-/// Returns what the entries before a refused one tell of it, read from the texts of the rules and of the log. None where
-/// they tell nothing more, one of the texts can't be read, or memory is refused.
-pub fn told(alloc: Global, program: &[u8], log: &[u8], fault: CheckFault) -> Option<String> {
+/// Returns the part of a log that has the entry of this line.
+fn part_with<'a>(log: &[Source<'a>], line: u64) -> Option<Source<'a>> {
+    let mut found = None;
+    for source in log {
+        if found.is_none() || source.part.unwrap_or(0) < line {
+            found = Some(*source);
+        }
+    }
+    found
+}
+
+/// Returns what the entries before a refused one tell of it, read from the texts of the rules and of the parts of the log.
+/// None where they tell nothing more, one of the texts can't be read, or memory is refused.
+pub fn told(alloc: Global, program: &[u8], log: &[&[u8]], fault: CheckFault) -> Option<String> {
+    let [first, more @ ..] = log else {
+        return None;
+    };
     let mut names = Names::new(alloc);
     let Ok(program) = read_program(alloc, program, &mut names) else {
         return None;
     };
-    let Ok(log) = read_log(alloc, log, &mut names) else {
+    let Ok(log) = read_log_in_parts(alloc, first, more, &mut names) else {
         return None;
     };
     match refused::told(alloc, &program, &log.events, fault) {
@@ -35,25 +49,48 @@ pub fn told(alloc: Global, program: &[u8], log: &[u8], fault: CheckFault) -> Opt
     }
 }
 
-/// Writes to standard error what a refusal means, as far as there is memory for it.
+/// Returns what standard error says of a refusal: with [`Detail::Explained`] what it means, and else the file of the entry
+/// where the log comes in parts.
+fn refusal_text(
+    alloc: Global,
+    detail: Detail,
+    program: &[u8],
+    log: &[&[u8]],
+    source: Source<'_>,
+    fault: CheckFault,
+) -> Result<Option<String>, AllocError> {
+    if detail == Detail::Explained {
+        let told = told(alloc, program, log, fault);
+        return Ok(Some(refusal_message(alloc, source, fault, told.as_deref())?));
+    }
+    match source.part {
+        Some(_) => Ok(Some(part_message(alloc, source, fault)?)),
+        None => Ok(None),
+    }
+}
+
+/// Writes to standard error what is to be said of a refusal, as far as there is memory for it.
 fn explain(
     rt: &(impl Eprint + AllocGlobal),
+    detail: Detail,
     program: &[u8],
     recorded: Recorded<'_>,
     fault: CheckFault,
 ) {
     let alloc = rt.alloc();
-    let told = told(alloc, program, recorded.log.bytes, fault);
     let source = match fault.place {
-        Place::Log => recorded.log,
-        Place::Store => recorded.store,
+        Place::Log => part_with(recorded.log, fault.line),
+        Place::Store => Some(recorded.store),
     };
-    if let Ok(message) = refusal_message(alloc, source, fault, told.as_deref()) {
-        let _ = eprint!(rt; "{message}");
+    let (Some(source), Ok(log)) = (source, texts(alloc, recorded.log)) else {
+        return;
+    };
+    if let Ok(Some(text)) = refusal_text(alloc, detail, program, &log, source, fault) {
+        let _ = eprint!(rt; "{text}");
     }
 }
 
-/// Writes the line of a check to standard output, and with [`Detail::Explained`] to standard error what a refusal means.
+/// Writes the line of a check to standard output, and to standard error what is to be said of a refusal.
 fn print<A: Allocator>(
     rt: &(impl Print + Eprint + AllocGlobal),
     detail: Detail,
@@ -67,63 +104,96 @@ fn print<A: Allocator>(
     let Err(fault) = checked.answer else {
         return Status::Done;
     };
-    if detail == Detail::Explained {
-        explain(rt, program, recorded, fault);
-    }
+    explain(rt, detail, program, recorded, fault);
     Status::Fault
 }
 
-/// Checks whether the log of the file `log` is one of a run of the rules of the file `file` that ends in the store of
-/// the file `store`, and writes the answer to standard output. After a fault in one of the texts nothing is written
-/// there.
+/// Checks the log of some texts, and writes the answer to standard output. After a fault in one of the texts nothing is
+/// written there.
+fn check_sources<R: Clock + Print + Eprint + AllocGlobal>(
+    rt: &R,
+    detail: Detail,
+    program: Source<'_>,
+    recorded: Recorded<'_>,
+) -> Status {
+    let Ok(log) = texts(rt.alloc(), recorded.log) else {
+        return report_no_memory(rt, detail);
+    };
+    let [first, more @ ..] = log.as_slice() else {
+        return Status::Usage;
+    };
+    let store = recorded.store.bytes;
+    let mut progress = Progress::new(rt, detail, "entries checked");
+    match watched_check_parts(rt.alloc(), program.bytes, first, more, store, &mut progress) {
+        Ok(checked) => print(rt, detail, program.bytes, recorded, &checked),
+        Err(CheckPartsFault::Program(fault)) => {
+            report_fault(rt, detail, program, Fault::Read(fault))
+        }
+        Err(CheckPartsFault::Log(fault)) => match recorded.log.get(fault.part) {
+            Some(source) => report_fault(rt, detail, *source, Fault::Text(fault.fault)),
+            None => Status::Fault,
+        },
+        Err(CheckPartsFault::Store(fault)) => {
+            report_fault(rt, detail, recorded.store, Fault::Text(fault))
+        }
+        Err(CheckPartsFault::Memory) => report_no_memory(rt, detail),
+    }
+}
+
+/// Checks the log of the files that were read.
+fn check_files<R: Clock + Print + Eprint + AllocGlobal>(
+    rt: &R,
+    detail: Detail,
+    program: Source<'_>,
+    paths: &[&str],
+    files: &[Vec<u8>],
+    store: Source<'_>,
+) -> Status {
+    match sources(rt.alloc(), Text::Log, paths, files) {
+        Ok(log) => {
+            let recorded = Recorded { log: &log, store };
+            check_sources(rt, detail, program, recorded)
+        }
+        Err(AllocError) => report_no_memory(rt, detail),
+    }
+}
+
+/// Checks whether the log of the file `log`, which goes on in the files of `more`, is one of a run of the rules of the file
+/// `file` that ends in the store of the file `store`, and writes the answer to standard output. All files are read first.
+/// After a fault in one of the texts nothing is written there.
 pub fn check<R: Files + Clock + Input + Print + Eprint + AllocGlobal>(
     rt: &R,
     detail: Detail,
     file: &str,
     log: &str,
+    more: &[&str],
     store: &str,
 ) -> Status {
     let program = match fetch(rt, file, MOST_TEXT) {
         Ok(bytes) => bytes,
         Err(error) => return report_failure(rt, detail, called(file), &error),
     };
-    let logged = match fetch(rt, log, MOST_LOG) {
-        Ok(bytes) => bytes,
-        Err(error) => return report_failure(rt, detail, called(log), &error),
-    };
     let stored = match fetch(rt, store, MOST_LOG) {
         Ok(bytes) => bytes,
         Err(error) => return report_failure(rt, detail, called(store), &error),
     };
-    let recorded = Recorded {
-        log: Source {
-            text: Text::Log,
-            path: called(log),
-            bytes: &logged,
-        },
-        store: Source {
-            text: Text::Store,
-            path: called(store),
-            bytes: &stored,
-        },
+    let Ok(paths) = all_paths(rt.alloc(), log, more) else {
+        return report_no_memory(rt, detail);
     };
-    let mut progress = Progress::new(rt, detail, "entries checked");
-    match watched_check_text(rt.alloc(), &program, &logged, &stored, &mut progress) {
-        Ok(checked) => print(rt, detail, &program, recorded, &checked),
-        Err(CheckTextFault::Program(fault)) => {
-            let source = Source {
-                text: Text::Program,
-                path: called(file),
-                bytes: &program,
-            };
-            report_fault(rt, detail, source, Fault::Read(fault))
-        }
-        Err(CheckTextFault::Log(fault)) => {
-            report_fault(rt, detail, recorded.log, Fault::Text(fault))
-        }
-        Err(CheckTextFault::Store(fault)) => {
-            report_fault(rt, detail, recorded.store, Fault::Text(fault))
-        }
-        Err(CheckTextFault::Memory) => report_no_memory(rt, detail),
+    let program = Source {
+        text: Text::Program,
+        path: called(file),
+        bytes: &program,
+        part: None,
+    };
+    let store = Source {
+        text: Text::Store,
+        path: called(store),
+        bytes: &stored,
+        part: None,
+    };
+    match fetch_all(rt, &paths, MOST_LOG) {
+        Ok(files) => check_files(rt, detail, program, &paths, &files, store),
+        Err(unread) => report_failure(rt, detail, called(unread.path), &unread.error),
     }
 }

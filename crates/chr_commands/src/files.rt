@@ -1,6 +1,7 @@
 //! Reading files and standard input.
+use crate::message::{Source, Text};
 use chr_command_line::reading::STANDARD_INPUT;
-use std::alloc::Allocator;
+use std::alloc::{AllocError, Allocator, Global};
 use std::fs::File;
 use std::io::{self, Read};
 use std::rt::Files;
@@ -31,4 +32,81 @@ pub fn fetch<R: Files + Input + Alloc>(rt: &R, path: &str, most: u64) -> io::Res
         File::open(rt, path)?.take(taken).read_to_end(&mut bytes)?;
     }
     Ok(bytes)
+}
+
+/// A file that can't be read, and why.
+#[derive(Drop)]
+pub struct Unread<'p> {
+    pub path: &'p str,
+    pub error: io::Error,
+}
+
+/// Returns the bytes of each file, as [`fetch`] does.
+pub fn fetch_all<'p, R: Files + Input + AllocGlobal>(
+    rt: &R,
+    paths: &[&'p str],
+    most: u64,
+) -> Result<Vec<Vec<u8>>, Unread<'p>> {
+    let mut files = Vec::new(rt.alloc());
+    for path in paths {
+        let added = match fetch(rt, path, most) {
+            Ok(bytes) => files.push(bytes).map_err(io::Error::from),
+            Err(error) => Err(error),
+        };
+        if let Err(error) = added {
+            return Err(Unread { path, error });
+        }
+    }
+    Ok(files)
+}
+
+/// A path and those after it.
+pub fn all_paths<'p>(
+    alloc: Global,
+    first: &'p str,
+    more: &[&'p str],
+) -> Result<Vec<&'p str>, AllocError> {
+    let mut paths = Vec::new(alloc);
+    paths.push(first)?;
+    paths.extend_from_slice(more)?;
+    Ok(paths)
+}
+
+/// How many lines end in these bytes.
+fn line_ends(bytes: &[u8]) -> u64 {
+    bytes.iter().filter(|b| **b == b'\n').count() as u64
+}
+
+/// Returns the sources of one kind of text with the paths of their files. Where there are several, each is a part, for a
+/// log by the number of lines before it.
+pub fn sources<'a>(
+    alloc: Global,
+    text: Text,
+    paths: &[&'a str],
+    files: &'a [Vec<u8>],
+) -> Result<Vec<Source<'a>>, AllocError> {
+    let mut sources = Vec::new(alloc);
+    let mut before = 0u64;
+    for (path, bytes) in paths.iter().zip(files) {
+        let part = if 1 < files.len() { Some(before) } else { None };
+        sources.push(Source {
+            text,
+            path: called(path),
+            bytes,
+            part,
+        })?;
+        if text == Text::Log {
+            before = before.saturating_add(line_ends(bytes));
+        }
+    }
+    Ok(sources)
+}
+
+/// Returns the bytes of sources.
+pub fn texts<'a>(alloc: Global, sources: &[Source<'a>]) -> Result<Vec<&'a [u8]>, AllocError> {
+    let mut texts = Vec::new(alloc);
+    for source in sources {
+        texts.push(source.bytes)?;
+    }
+    Ok(texts)
 }

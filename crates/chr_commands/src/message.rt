@@ -44,6 +44,16 @@ pub struct Source<'a> {
     pub text: Text,
     pub path: &'a str,
     pub bytes: &'a [u8],
+    /// Where several files are read as texts of this kind: how many lines are counted before those of this one, as in the
+    /// parts of a log before it.
+    pub part: Option<u64>,
+}
+
+impl Source<'_> {
+    /// The line of the file that is counted as `line`.
+    fn own_line(&self, line: u64) -> u64 {
+        line.saturating_sub(self.part.unwrap_or(0))
+    }
 }
 
 /// Why a text is not read.
@@ -208,8 +218,8 @@ fn shown(b: u8) -> char {
     }
 }
 
-/// Adds where a text has a line at fault: the file and the line, and the text of that line up to 160 bytes. Line 0 is
-/// the whole text.
+/// Adds where a text has a line at fault: the file and its own line there, and the text of that line up to 160 bytes,
+/// after the number that it is counted by. Line 0 is the whole text.
 fn push_place<A: Allocator>(
     message: &mut String<A>,
     source: Source<'_>,
@@ -219,8 +229,9 @@ fn push_place<A: Allocator>(
     if line == 0 {
         return message.push('\n');
     }
-    let excerpt = line_of(source.bytes, line);
-    write!(message, ":{line}\n{line} | ")?;
+    let own = source.own_line(line);
+    let excerpt = line_of(source.bytes, own);
+    write!(message, ":{own}\n{line} | ")?;
     for b in excerpt.iter().take(MOST_SHOWN) {
         message.push(shown(*b))?;
     }
@@ -231,8 +242,21 @@ fn push_place<A: Allocator>(
     })
 }
 
-/// Returns what standard error says of a fault: its line, as `chr: program 4: E08 Binding`, and with
-/// [`Detail::Explained`] what it means and its place.
+/// Adds which line of which text has a fault: the text by its word, and the file where it is one of several.
+fn push_line<A: Allocator>(
+    message: &mut String<A>,
+    source: Source<'_>,
+    line: u64,
+) -> Result<(), AllocError> {
+    write!(message, "chr: {} {line}", source.text.word())?;
+    match source.part {
+        Some(_) => write!(message, " in {}", source.path),
+        None => Ok(()),
+    }
+}
+
+/// Returns what standard error says of a fault: its line, as `chr: program 4: E08 Binding`, or where the file is one of
+/// several `chr: posts 4 in more.txt: E08 Binding`, and with [`Detail::Explained`] what it means and its place.
 pub fn message<A: Allocator + Copy>(
     alloc: A,
     detail: Detail,
@@ -240,7 +264,9 @@ pub fn message<A: Allocator + Copy>(
     fault: Fault,
 ) -> Result<String<A>, AllocError> {
     let line = fault.line();
-    let mut message = format!(in alloc; "chr: {} {line}: {fault}\n", source.text.word())?;
+    let mut message = String::new(alloc);
+    push_line(&mut message, source, line)?;
+    write!(message, ": {fault}\n")?;
     if detail == Detail::Explained {
         message.push_str(fault.meaning(source.text))?;
         push_place(&mut message, source, line)?;
@@ -256,12 +282,25 @@ pub fn refusal_message<A: Allocator + Copy>(
     fault: CheckFault,
     told: Option<&str>,
 ) -> Result<String<A>, AllocError> {
-    let entry = line_of(source.bytes, fault.line);
+    let entry = line_of(source.bytes, source.own_line(fault.line));
     let mut message = format!(in alloc; "{}", refusal_meaning(fault.kind, entry))?;
     if let Some(told) = told {
         message.push(' ')?;
         message.push_str(told)?;
     }
     push_place(&mut message, source, fault.line)?;
+    Ok(message)
+}
+
+/// Returns the line that names the file of a refused entry, where that is one of several, as `chr: log 14 in more.txt: E16
+/// BadTicket`.
+pub fn part_message<A: Allocator + Copy>(
+    alloc: A,
+    source: Source<'_>,
+    fault: CheckFault,
+) -> Result<String<A>, AllocError> {
+    let mut message = String::new(alloc);
+    push_line(&mut message, source, fault.line)?;
+    write!(message, ": E16 {}\n", fault.kind)?;
     Ok(message)
 }

@@ -2,9 +2,10 @@
 //! sessions.
 //!
 //! `chr run FILE POSTS` posts the constraints of POSTS, runs the rules of FILE on them, and prints the store and the log,
-//! or one of them; options limit the calls that are made and the labels that are given.
-//! `chr check FILE LOG STORE` prints whether LOG is the log of a run of the rules of FILE that ends in STORE. One of the
-//! files may be `-`, which is standard input.
+//! or one of them; options name further texts of posts, limit the calls that are made and the labels that are given, and
+//! write the log and the store to files.
+//! `chr check FILE LOG STORE` prints whether LOG is the log of a run of the rules of FILE that ends in STORE; an option
+//! names further parts of the log. One of the files may be `-`, which is standard input.
 //! `chr session` reads commands from standard input, and writes each reply to standard output before it reads the next.
 //! `chr serve` serves such sessions over a Unix socket, up to sixteen at once, on one book that workers run.
 //! The exit status is 0 where no goal is open at the end of the run, the log is one of a run, the session has ended between
@@ -41,24 +42,24 @@ fn obey<R>(rt: &R, detail: Detail, words: &[String]) -> Status
 where
     R: Files + Net + Threads + Wait + Sync + Clock + Input + Print + Eprint + AllocGlobal,
 {
-    match read(rt.alloc(), words) {
-        Ok(
-            Request::Run {
-                file,
-                posts,
-                options,
-            },
-        ) => run(rt, detail, file, posts, options),
-        Ok(Request::Check { file, log, store }) => check(rt, detail, file, log, store),
-        Ok(Request::Session { labels }) => session(rt, detail, labels),
-        Ok(
-            Request::Serve {
-                socket,
-                workers,
-                sessions,
-            },
-        ) => serve(rt, detail, socket, workers, sessions),
-        Err(error) => print_usage(rt, detail, &error),
+    let asked = match read(rt.alloc(), words) {
+        Ok(asked) => asked,
+        Err(error) => return print_usage(rt, detail, &error),
+    };
+    let more = asked.more.as_slice();
+    match asked.request {
+        Request::Run {
+            file,
+            posts,
+            options,
+        } => run(rt, detail, file, posts, more, options),
+        Request::Check { file, log, store } => check(rt, detail, file, log, more, store),
+        Request::Session { labels } => session(rt, detail, labels),
+        Request::Serve {
+            socket,
+            workers,
+            sessions,
+        } => serve(rt, detail, socket, workers, sessions),
     }
 }
 

@@ -12,6 +12,8 @@ const DEFAULTS: RunOptions = RunOptions {
     steps: 1_000_000,
     labels: 4_294_967_295,
     show: Show::All,
+    log: None,
+    store: None,
 };
 
 /// Words with what they ask for.
@@ -33,6 +35,8 @@ static REQUESTS: [(Words, Request<'static>); 21] = [
                 steps: 0,
                 labels: 4_294_967_295,
                 show: Show::All,
+                log: None,
+                store: None,
             },
         },
     ),
@@ -45,6 +49,8 @@ static REQUESTS: [(Words, Request<'static>); 21] = [
                 steps: 4_294_967_295,
                 labels: 4_294_967_295,
                 show: Show::All,
+                log: None,
+                store: None,
             },
         },
     ),
@@ -57,6 +63,8 @@ static REQUESTS: [(Words, Request<'static>); 21] = [
                 steps: 1_000_000,
                 labels: 0,
                 show: Show::All,
+                log: None,
+                store: None,
             },
         },
     ),
@@ -85,6 +93,8 @@ static REQUESTS: [(Words, Request<'static>); 21] = [
                 steps: 1_000_000,
                 labels: 4_294_967_295,
                 show: Show::Store,
+                log: None,
+                store: None,
             },
         },
     ),
@@ -97,6 +107,8 @@ static REQUESTS: [(Words, Request<'static>); 21] = [
                 steps: 1_000_000,
                 labels: 4_294_967_295,
                 show: Show::Log,
+                log: None,
+                store: None,
             },
         },
     ),
@@ -111,6 +123,8 @@ static REQUESTS: [(Words, Request<'static>); 21] = [
                 steps: 5,
                 labels: 7,
                 show: Show::Strict,
+                log: None,
+                store: None,
             },
         },
     ),
@@ -125,6 +139,8 @@ static REQUESTS: [(Words, Request<'static>); 21] = [
                 steps: 5,
                 labels: 7,
                 show: Show::Strict,
+                log: None,
+                store: None,
             },
         },
     ),
@@ -223,15 +239,146 @@ static REQUESTS: [(Words, Request<'static>); 21] = [
     ),
 ];
 
-/// Whether a command line asks for this.
-fn asks(alloc: Global, words: Words, wanted: &Request) -> bool {
-    read(alloc, words).is_ok_and(|request| request == *wanted)
+/// Words that name files to write, or further files to read, with what they ask for and these.
+static FILES: [(Words, Request<'static>, Words); 9] = [
+    (
+        &["chr", "run", "rules", "posts", "--posts", "two"],
+        Request::Run {
+            file: "rules",
+            posts: "posts",
+            options: DEFAULTS,
+        },
+        &["two"],
+    ),
+    (
+        &[
+            "chr",
+            "run",
+            "--posts=two",
+            "rules",
+            "--posts",
+            "three",
+            "posts",
+            "--posts",
+            "two",
+        ],
+        Request::Run {
+            file: "rules",
+            posts: "posts",
+            options: DEFAULTS,
+        },
+        &["two", "three", "two"],
+    ),
+    (
+        &["chr", "run", "rules", "posts", "--posts", "-"],
+        Request::Run {
+            file: "rules",
+            posts: "posts",
+            options: DEFAULTS,
+        },
+        &["-"],
+    ),
+    (
+        &["chr", "run", "rules", "posts", "--log", "log"],
+        Request::Run {
+            file: "rules",
+            posts: "posts",
+            options: RunOptions {
+                steps: 1_000_000,
+                labels: 4_294_967_295,
+                show: Show::All,
+                log: Some("log"),
+                store: None,
+            },
+        },
+        &[],
+    ),
+    (
+        &["chr", "run", "--store=store", "rules", "posts"],
+        Request::Run {
+            file: "rules",
+            posts: "posts",
+            options: RunOptions {
+                steps: 1_000_000,
+                labels: 4_294_967_295,
+                show: Show::All,
+                log: None,
+                store: Some("store"),
+            },
+        },
+        &[],
+    ),
+    (
+        &[
+            "chr", "run", "rules", "posts", "--store", "s", "--posts", "two", "--log", "l",
+            "--show", "store",
+        ],
+        Request::Run {
+            file: "rules",
+            posts: "posts",
+            options: RunOptions {
+                steps: 1_000_000,
+                labels: 4_294_967_295,
+                show: Show::Store,
+                log: Some("l"),
+                store: Some("s"),
+            },
+        },
+        &["two"],
+    ),
+    (
+        &["chr", "check", "rules", "log", "store", "--log", "two"],
+        Request::Check {
+            file: "rules",
+            log: "log",
+            store: "store",
+        },
+        &["two"],
+    ),
+    (
+        &[
+            "chr",
+            "check",
+            "--log=two",
+            "rules",
+            "--log=three",
+            "log",
+            "store",
+        ],
+        Request::Check {
+            file: "rules",
+            log: "log",
+            store: "store",
+        },
+        &["two", "three"],
+    ),
+    (
+        &["chr", "check", "rules", "log", "store", "--log", "-"],
+        Request::Check {
+            file: "rules",
+            log: "log",
+            store: "store",
+        },
+        &["-"],
+    ),
+];
+
+/// Whether a command line asks for this, with these further files.
+fn asks(alloc: Global, words: Words, wanted: &Request, more: Words) -> bool {
+    read(alloc, words).is_ok_and(|asked| asked.request == *wanted && asked.more.as_slice() == more)
 }
 
 #[test]
 fn requests(rt: HostRuntime) {
     for (i, (words, wanted)) in REQUESTS.iter().enumerate() {
-        assert!(rt; asks(rt.alloc(), words, wanted), "row {i}");
+        assert!(rt; asks(rt.alloc(), words, wanted, &[]), "row {i}");
+    }
+}
+
+#[test]
+fn files_of_requests(rt: HostRuntime) {
+    for (i, (words, wanted, more)) in FILES.iter().enumerate() {
+        assert!(rt; asks(rt.alloc(), words, wanted, more), "row {i}");
     }
 }
 
@@ -285,7 +432,7 @@ fn printed_texts(rt: HostRuntime) -> Result<(), Fail> {
 }
 
 /// Words that ask for no command, with the kind of error and its exit code.
-static OTHERS: [(Words, ErrorKind, i32); 22] = [
+static OTHERS: [(Words, ErrorKind, i32); 28] = [
     (&["chr"], ErrorKind::MissingSubcommand, 2),
     (&["chr", "--version"], ErrorKind::DisplayVersion, 0),
     (&["chr", "-V"], ErrorKind::DisplayVersion, 0),
@@ -293,6 +440,38 @@ static OTHERS: [(Words, ErrorKind, i32); 22] = [
     (
         &["chr", "check", "-", "log", "-"],
         ErrorKind::ArgumentConflict,
+        2,
+    ),
+    (
+        &["chr", "run", "rules", "-", "--posts", "-"],
+        ErrorKind::ArgumentConflict,
+        2,
+    ),
+    (
+        &[
+            "chr", "run", "rules", "posts", "--posts", "-", "--posts", "-",
+        ],
+        ErrorKind::ArgumentConflict,
+        2,
+    ),
+    (
+        &["chr", "check", "rules", "log", "-", "--log", "-"],
+        ErrorKind::ArgumentConflict,
+        2,
+    ),
+    (
+        &["chr", "run", "rules", "posts", "--log", "-"],
+        ErrorKind::ArgumentConflict,
+        2,
+    ),
+    (
+        &["chr", "run", "rules", "posts", "--log", "l", "--store", "l"],
+        ErrorKind::ArgumentConflict,
+        2,
+    ),
+    (
+        &["chr", "check", "rules", "log", "store", "--posts", "two"],
+        ErrorKind::UnknownArgument,
         2,
     ),
     (&["chr", "run"], ErrorKind::MissingRequiredArgument, 2),
@@ -366,7 +545,27 @@ fn other_words(rt: HostRuntime) {
 }
 
 /// Words whose options are refused, and how the text of the error begins.
-static REFUSED: [(Words, ErrorKind, &str); 21] = [
+static REFUSED: [(Words, ErrorKind, &str); 25] = [
+    (
+        &["chr", "run", "rules", "posts", "--log", "a", "--log", "b"],
+        ErrorKind::ArgumentConflict,
+        "error: the argument '--log <PATH>' cannot be used multiple times\n",
+    ),
+    (
+        &["chr", "run", "rules", "posts", "--store", "-"],
+        ErrorKind::ArgumentConflict,
+        "error: `--log` and `--store` need two files, neither of them `-`\n",
+    ),
+    (
+        &["chr", "run", "rules", "posts", "--posts", ""],
+        ErrorKind::InvalidValue,
+        "error: a value is required for '--posts <MORE>' but none was supplied\n",
+    ),
+    (
+        &["chr", "check", "rules", "log", "store", "--log"],
+        ErrorKind::InvalidValue,
+        "error: a value is required for '--log <MORE>' but none was supplied\n",
+    ),
     (
         &["chr", "run", "rules", "posts", "--steps", "4294967296"],
         ErrorKind::ValueValidation,

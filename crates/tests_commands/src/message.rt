@@ -1,7 +1,7 @@
 //! What standard error says of faults.
 use chr_check::fault::{CheckFault, Kind as CheckKind, Place};
 use chr_commands::message::{
-    Detail, Fault, Source, Text, message, no_memory_message, refusal_message,
+    Detail, Fault, Source, Text, message, no_memory_message, part_message, refusal_message,
 };
 use chr_lex::fault::{Kind, ReadFault};
 use chr_log_text::fault::TextFault;
@@ -76,6 +76,7 @@ fn says(alloc: Global, row: &Sentence) -> Result<bool, AllocError> {
         text,
         path: "f",
         bytes: b"",
+        part: None,
     };
     let fault = Fault::Read(ReadFault { kind, line: 0 });
     let full = message(alloc, Detail::Explained, source, fault)?;
@@ -113,6 +114,7 @@ fn is_shown(alloc: Global, line: u32, place: &str) -> Result<bool, AllocError> {
         text: Text::Posts,
         path: "f",
         bytes: b"a <=> b.\r\n\n\tp(X) <=> q(Y). % \xff\nlast",
+        part: None,
     };
     let fault = Fault::Read(ReadFault {
         kind: Kind::NumberRange,
@@ -173,6 +175,7 @@ fn says_of_log(alloc: Global, row: &LogSentence) -> Result<bool, AllocError> {
         text,
         path: "f",
         bytes: b"first\nsecond",
+        part: None,
     };
     let full = message(alloc, Detail::Explained, source, Fault::Text(fault))?;
     Ok(full.as_str() == wanted)
@@ -278,6 +281,7 @@ fn says_of_refusal(alloc: Global, row: &Refusal) -> Result<bool, AllocError> {
         text: Text::Log,
         path: "f",
         bytes,
+        part: None,
     };
     let fault = CheckFault {
         place: Place::Log,
@@ -293,5 +297,89 @@ fn sentences_of_refusals(rt: HostRuntime) -> Result<(), Fail> {
     for (i, row) in REFUSALS.iter().enumerate() {
         assert!(rt; says_of_refusal(rt.alloc(), row)?, "row {i}");
     }
+    Ok(())
+}
+
+/// What is said of a fault in a file that is one of several: the text, the lines before the file, the line of a fault, and
+/// what is said of it shortly and at length.
+type PartRow = (Text, u64, Fault, &'static str, &'static str);
+
+static PARTS: [PartRow; 4] = [
+    (
+        Text::Posts,
+        0,
+        Fault::Read(ReadFault {
+            kind: Kind::Syntax,
+            line: 2,
+        }),
+        "chr: posts 2 in more: E04 Syntax\n",
+        " --> more:2\n2 | second\n",
+    ),
+    (
+        Text::Log,
+        12,
+        Fault::Text(TextFault::BadEntry { line: 14 }),
+        "chr: log 14 in more: E11 BadEntry\n",
+        " --> more:2\n14 | second\n",
+    ),
+    (
+        Text::Log,
+        0,
+        Fault::Text(TextFault::NamesFull { line: 1 }),
+        "chr: log 1 in more: E02 NamesFull\n",
+        " --> more:1\n1 | first\n",
+    ),
+    (
+        Text::Log,
+        12,
+        Fault::Text(TextFault::TooLong),
+        "chr: log 0 in more: E09 TooLong\n",
+        " --> more\n",
+    ),
+];
+
+/// Whether this is said of a fault in one of several files.
+fn says_of_part(alloc: Global, row: &PartRow) -> Result<bool, AllocError> {
+    let (text, before, fault, line, place) = *row;
+    let source = Source {
+        text,
+        path: "more",
+        bytes: b"first\nsecond\n",
+        part: Some(before),
+    };
+    let short = message(alloc, Detail::Line, source, fault)?;
+    let full = message(alloc, Detail::Explained, source, fault)?;
+    Ok(short.as_str() == line && full.as_str().starts_with(line) && full.as_str().ends_with(place))
+}
+
+#[test]
+fn faults_in_one_of_several_files(rt: HostRuntime) -> Result<(), Fail> {
+    for (i, row) in PARTS.iter().enumerate() {
+        assert!(rt; says_of_part(rt.alloc(), row)?, "row {i}");
+    }
+    Ok(())
+}
+
+#[test]
+fn a_refused_entry_of_a_part(rt: HostRuntime) -> Result<(), Fail> {
+    let source = Source {
+        text: Text::Log,
+        path: "more",
+        bytes: b"A 1 1\nP 7 a\n",
+        part: Some(12),
+    };
+    let fault = CheckFault {
+        place: Place::Log,
+        line: 14,
+        kind: CheckKind::BadTicket,
+    };
+    let short = part_message(rt.alloc(), source, fault)?;
+    assert!(rt; short.as_str() == "chr: log 14 in more: E16 BadTicket\n");
+    let full = refusal_message(rt.alloc(), source, fault, None)?;
+    assert!(rt;
+        full.as_str()
+            .starts_with("A post must take the next ticket")
+    );
+    assert!(rt; full.as_str().ends_with(" --> more:2\n14 | P 7 a\n"));
     Ok(())
 }

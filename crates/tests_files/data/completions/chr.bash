@@ -11,7 +11,7 @@ _chr() {
       COMPREPLY=($(compgen -W "all store log strict" -- "$word"))
       return
       ;;
-    --socket)
+    --posts | --log | --store | --socket)
       compopt -o filenames 2>/dev/null
       COMPREPLY=($(compgen -f -- "$word"))
       return
@@ -19,8 +19,8 @@ _chr() {
     --steps | --labels | --workers | --sessions) return ;;
   esac
   case ${COMP_WORDS[1]}:$word in
-    run:-*) COMPREPLY=($(compgen -W "--steps --labels --show --help" -- "$word")) ;;
-    check:-*) COMPREPLY=($(compgen -W "--help" -- "$word")) ;;
+    run:-*) COMPREPLY=($(compgen -W "--posts --steps --labels --show --log --store --help" -- "$word")) ;;
+    check:-*) COMPREPLY=($(compgen -W "--log --help" -- "$word")) ;;
     session:*) COMPREPLY=($(compgen -W "--labels --help" -- "$word")) ;;
     serve:*) COMPREPLY=($(compgen -W "--socket --workers --sessions --help" -- "$word")) ;;
     run:* | check:*) compopt -o filenames 2>/dev/null; COMPREPLY=($(compgen -f -- "$word")) ;;
