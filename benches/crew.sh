@@ -15,8 +15,8 @@ trap 'exit 130' INT TERM HUP
 tar -C "$top" -c --exclude=out/incremental HANDLES crates | tar -C "$work" -x
 mkdir -p "$work/crates/bench_crew/src"
 cp "$top/benches/crew/main.rt.txt" "$work/crates/bench_crew/src/main.rt"
-cp "$top/crates/tests_crew/src/runs.rt" "$work/crates/bench_crew/src/runs.rt"
-(cat "$top/crates.txt" && sed -n 's/^tests_crew:/bench_crew:/p' "$top/crates.txt") >"$work/crates.txt"
+cp "$top/crates/chr_tests_crew/src/runs.rt" "$work/crates/bench_crew/src/runs.rt"
+(cat "$top/crates.txt" && sed -n 's/^chr_tests_crew:/bench_crew:/p' "$top/crates.txt") >"$work/crates.txt"
 cd "$work/crates/bench_crew"
 rt run >"$work/table" 2>"$work/log" || { tail -n 20 "$work/log" >&2; exit 1; }
 cat "$work/table"

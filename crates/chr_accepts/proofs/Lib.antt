@@ -5,4 +5,4 @@ pub mod Kept
 pub mod ReadBack
 pub mod Checked
 pub mod Fixed
-pub mod RunTexts
+pub mod Seats

@@ -93,7 +93,7 @@ each_says table new (a ∷ as') atoms h =
     } in
     subst (λ (z : List (Atom ℕ) × Table). Said table z.1 (a ∷ as') z.0) (some_is {A = List (Atom ℕ) × Table} (x.0.0 ∷ y.0.0, y.0.1) (atoms, new) y.2) all
 
-pub each_append : (table t u : Table) (as' bs : List (Atom (List ℕ))) (xs ys : List (Atom ℕ)) → each numbered_atom table as' ≡ Some (xs, t) → each numbered_atom t bs ≡ Some (ys, u) → each numbered_atom table (as' ++ bs) ≡ Some (xs ++ ys, u)
+each_append : (table t u : Table) (as' bs : List (Atom (List ℕ))) (xs ys : List (Atom ℕ)) → each numbered_atom table as' ≡ Some (xs, t) → each numbered_atom t bs ≡ Some (ys, u) → each numbered_atom table (as' ++ bs) ≡ Some (xs ++ ys, u)
 each_append table t u [] bs xs ys h k =
     subst (λ (z : List (Atom ℕ) × Table). each numbered_atom z.1 bs ≡ Some (ys, u) → each numbered_atom table bs ≡ Some (z.0 ++ ys, u)) (some_is {A = List (Atom ℕ) × Table} ([], table) (xs, t) h) (λ i. i) k
 each_append table t u (a ∷ as') bs xs ys h k =

@@ -20,13 +20,11 @@ ghost use Rattle.chr_check.specs.declared.fault.CheckFault.{CheckFault};
 ghost use Rattle.chr_check.specs.Faults.{IsRun, IsFinalRun};
 ghost use Rattle.chr_run_text.specs.Output.{shown};
 ghost use Rattle.chr_run_text.specs.RunText.{IsRunText};
-ghost use Rattle.chr_run_text.specs.RunTexts.{IsRunTexts};
 ghost use Rattle.chr_run_text.specs.declared.output.Show.TheVariants as show;
 ghost use Rattle.chr_check_text.specs.CheckTexts.{IsAnswer, IsCheckText};
 ghost use Rattle.chr_accepts.specs.Accepted.{IsTextRun, IsOfTexts, verdict_of, IsAnswered};
 
 use chr_check_text::checked::{CheckTextFault, Checked};
-use chr_run_text::ran::Ran;
 use chr_run_text::running::RunOut;
 use std::alloc::Allocator;
 
@@ -100,21 +98,4 @@ pub fn what_a_run_writes_is_accepted<A: Allocator>(
         → IsRunText program posts steps limit show.Strict (Ok log.now) → IsRunText program posts steps limit show.Store (Ok store.now)
         → log.now.end ≡ Quiet → length log.now.bytes.items ≤ most_bytes → length store.now.bytes.items ≤ most_bytes
         → IsCheckText program log.now.bytes.items store.now.bytes.items answer.now → IsAnswered RunAndFinal answer.now }
-{}
-
-/// The same of a run of several texts of posts, whose log and store are shown of one run.
-pub fn what_a_run_of_texts_writes_is_accepted<A: Allocator>(
-    ran: &Ran<A>,
-    answer: &Result<Checked<A>, CheckTextFault>,
-)
-    ensures whole_log { (program : List ℕ) (posts : List (List ℕ)) (steps limit : ℕ)
-        → limit ≤ 4294967295 → IsRunTexts program posts steps limit (Ok ran.now)
-        → length (shown show.Log ran.now.end ran.now.book) ≤ most_bytes → length (shown show.Store ran.now.end ran.now.book) ≤ most_bytes
-        → IsCheckText program (shown show.Log ran.now.end ran.now.book) (shown show.Store ran.now.end ran.now.book) answer.now
-        → IsAnswered (verdict_of ran.now.end) answer.now }
-    ensures strict_log { (program : List ℕ) (posts : List (List ℕ)) (steps limit : ℕ)
-        → limit ≤ 4294967295 → IsRunTexts program posts steps limit (Ok ran.now) → ran.now.end ≡ Quiet
-        → length (shown show.Strict ran.now.end ran.now.book) ≤ most_bytes → length (shown show.Store ran.now.end ran.now.book) ≤ most_bytes
-        → IsCheckText program (shown show.Strict ran.now.end ran.now.book) (shown show.Store ran.now.end ran.now.book) answer.now
-        → IsAnswered RunAndFinal answer.now }
 {}

@@ -84,7 +84,7 @@ module _ (L1 L2 A : RattleType) (p : posts.Ghosts L1.Denot) (l : ledger.Ghosts L
           search (sendable, counts.the_send) fits 5000 depth 40,
           (
             search (sendable, ledgers.the_send) fits 5000 depth 40,
-            (search (sendable, ledgers.the_send) fits 5000 depth 40, (search sendable, (search sendable, (search sendable, (search sendable, (search sendable, tt)))))),
+            (search (sendable, ledgers.the_send) fits 5000 depth 40, (search sendable, (search sendable, (search sendable, (search sendable, (search sendable, (search sendable, (search sendable, tt)))))))),
           ),
         ),
       ) in

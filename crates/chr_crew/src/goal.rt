@@ -4,8 +4,8 @@ ghost use Rattle.chr_pool.specs.Hands.{hand_id};
 
 use crate::gate::{Gate, Stop};
 use chr_calls::answers::{
-    Batch, BatchReport, ClaimFault, DropFault, Dropping, FireFault, Fired, Firing, PutDownFault, Turn,
-    TurnFault,
+    Batch, BatchReport, ClaimFault, DropFault, Dropping, FireFault, Fired, Firing, PutDownFault,
+    Turn, TurnFault,
 };
 use chr_pool::Hand;
 use chr_search::judged::{Judged, Verdict, judge};

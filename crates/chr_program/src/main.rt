@@ -46,8 +46,9 @@ where
         Ok(asked) => asked,
         Err(error) => return print_usage(rt, detail, &error),
     };
+    let request = asked.request;
     let more = asked.more.as_slice();
-    match asked.request {
+    match request {
         Request::Run {
             file,
             posts,

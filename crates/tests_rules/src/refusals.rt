@@ -1,6 +1,6 @@
 //! Each call, with each of its requests refused in turn.
 use crate::{refused_plans, refused_store};
-use refusing::{Refusable, Refusing, refuse_each};
+use refusing::Refusing;
 use std::alloc::Global;
 
 /// The calls that may take memory.
@@ -27,25 +27,45 @@ const CALLS: [Call; 8] = [
     Call::CopyStore,
 ];
 
-impl Refusable for Call {
-    fn is_made_again(&self, memory: &Refusing<Global>, n: u64) -> Option<bool> {
-        match self {
-            Call::PushRule => refused_plans::push(memory, n),
-            Call::CopyProgram => refused_plans::copy(memory, n),
-            Call::MakePlans => refused_plans::make(memory, n),
-            Call::Places => refused_plans::places(memory, n),
-            Call::OpenIndexed => refused_store::open(memory, n),
-            Call::Insert => refused_store::insert(memory, n),
-            Call::InsertIndexed => refused_store::insert_indexed(memory, n),
-            Call::CopyStore => refused_store::copy(memory, n),
-        }
+/// Whether a request was refused, where the call fails exactly then, and otherwise None. From now on none is refused.
+pub fn is_refused(memory: &Refusing<Global>, fails: bool) -> Option<bool> {
+    let refused = memory.was_refused();
+    memory.refuse(0);
+    if refused == fails {
+        Some(refused)
+    } else {
+        None
+    }
+}
+
+/// Makes a call with its request number `n` refused, and makes it again. Whether there was such a request, or None if
+/// the call does not fail exactly then, or does not give what it should when it is made again.
+fn is_made_again(memory: &Refusing<Global>, n: u64, call: Call) -> Option<bool> {
+    match call {
+        Call::PushRule => refused_plans::push(memory, n),
+        Call::CopyProgram => refused_plans::copy(memory, n),
+        Call::MakePlans => refused_plans::make(memory, n),
+        Call::Places => refused_plans::places(memory, n),
+        Call::OpenIndexed => refused_store::open(memory, n),
+        Call::Insert => refused_store::insert(memory, n),
+        Call::InsertIndexed => refused_store::insert_indexed(memory, n),
+        Call::CopyStore => refused_store::copy(memory, n),
     }
 }
 
 #[test]
 fn each_request_is_refused_in_turn(rt: HostRuntime) {
-    for call in &CALLS {
-        let refused = refuse_each(rt.alloc(), call);
-        assert!(rt; matches!(refused, Ok(1..)), "{call:?}: {refused:?}");
+    for call in CALLS {
+        let mut refusals = 0u64;
+        for n in 1..200u64 {
+            let memory = Refusing::new(rt.alloc(), 0);
+            let made = is_made_again(&memory, n, call);
+            assert!(rt; made.is_some(), "{call:?}, request {n}");
+            if made == Some(false) {
+                break;
+            }
+            refusals = n;
+        }
+        assert!(rt; 0 < refusals && refusals < 199, "{call:?}");
     }
 }

@@ -1,4 +1,5 @@
 //! A program and its plans.
+use crate::refusals::is_refused;
 use arrayvec::ArrayVec;
 use chr_plan::plans::Plans;
 use chr_rule::program::Program;
@@ -55,7 +56,7 @@ fn push_all<'m>(
     if program.len() != 20 {
         return None;
     }
-    memory.is_refused(fails)
+    is_refused(memory, fails)
 }
 
 pub fn push(memory: &Refusing<Global>, n: u64) -> Option<bool> {
@@ -87,7 +88,7 @@ pub fn copy(memory: &Refusing<Global>, n: u64) -> Option<bool> {
     let program = program_of(memory)?;
     memory.refuse(n);
     let fails = copied(memory, &program).is_none();
-    let refused = memory.is_refused(fails);
+    let refused = is_refused(memory, fails);
     let again = copied(memory, &program);
     if again == Some(1) { refused } else { None }
 }
@@ -95,7 +96,7 @@ pub fn copy(memory: &Refusing<Global>, n: u64) -> Option<bool> {
 pub fn make(memory: &Refusing<Global>, n: u64) -> Option<bool> {
     let program = program_of(memory)?;
     memory.refuse(n);
-    let refused = memory.is_refused(Plans::make(memory, &program).is_err())?;
+    let refused = is_refused(memory, Plans::make(memory, &program).is_err())?;
     Plans::make(memory, &program).is_ok().then_some(refused)
 }
 
@@ -104,6 +105,6 @@ pub fn places(memory: &Refusing<Global>, n: u64) -> Option<bool> {
     program.push(rule_with(memory, true)?).ok()?;
     let plans = Plans::make(memory, &program).ok()?;
     memory.refuse(n);
-    let refused = memory.is_refused(plans.places(memory, &program).is_err())?;
+    let refused = is_refused(memory, plans.places(memory, &program).is_err())?;
     (plans.places(memory, &program).ok()?.len() == 1).then_some(refused)
 }

@@ -1,4 +1,5 @@
 //! A store.
+use crate::refusals::is_refused;
 use chr_store::store::{Store, StoreFault};
 use chr_value::atom::{Atom, Pred, Value};
 use chr_value::names::Name;
@@ -27,7 +28,7 @@ fn insert_all<'m>(
     if store.len() != 40 {
         return None;
     }
-    memory.is_refused(fails)
+    is_refused(memory, fails)
 }
 
 pub fn insert(memory: &Refusing<Global>, n: u64) -> Option<bool> {
@@ -42,7 +43,7 @@ const PRED: Pred = Pred {
 
 pub fn open(memory: &Refusing<Global>, n: u64) -> Option<bool> {
     memory.refuse(n);
-    let refused = memory.is_refused(Store::indexed(memory, 40, &[(PRED, 1)]).is_err())?;
+    let refused = is_refused(memory, Store::indexed(memory, 40, &[(PRED, 1)]).is_err())?;
     let again = Store::indexed(memory, 40, &[(PRED, 1)]);
     again.is_ok().then_some(refused)
 }
@@ -92,7 +93,7 @@ fn insert_all_indexed<'m>(
     if count(store, 0) != 20 || count(store, 1) != 20 {
         return None;
     }
-    memory.is_refused(fails)
+    is_refused(memory, fails)
 }
 
 pub fn insert_indexed(memory: &Refusing<Global>, n: u64) -> Option<bool> {
@@ -121,7 +122,7 @@ pub fn copy(memory: &Refusing<Global>, n: u64) -> Option<bool> {
     let store = store_of(memory)?;
     memory.refuse(n);
     let fails = copied(memory, &store).is_none();
-    let refused = memory.is_refused(fails);
+    let refused = is_refused(memory, fails);
     let again = copied(memory, &store);
     if again == Some(40) { refused } else { None }
 }

@@ -5,7 +5,7 @@ use chr_session::commands::Ended;
 use chr_session::devices::Source;
 use chr_session::memory::{MemorySink, MemorySource};
 use chr_session::streams::StreamSource;
-use std::alloc::Global;
+use std::alloc::{AllocError, Global};
 use std::io::Read;
 use std::test::Fail;
 
@@ -22,22 +22,35 @@ fn is_served<S: Source>(
     ended == (Ok(talk.ended), talk.stands) && sink.bytes.as_slice() == replies
 }
 
+/// Whether a session is served so in two pieces, wherever it is cut.
+fn is_served_in_two(alloc: Global, talk: &Talk, input: &[u8], replies: &[u8]) -> bool {
+    for cut in 0..=input.len() {
+        let (front, back) = input.split_at(cut);
+        let mut halves = StreamSource::new(front.chain(back));
+        if !is_served(alloc, talk, replies, &mut halves, 65_536) {
+            return false;
+        }
+    }
+    true
+}
+
+/// Whether a session is served so in one piece, in single bytes, and in two pieces.
+fn is_served_in_pieces(alloc: Global, talk: &Talk) -> Result<bool, AllocError> {
+    let (input, replies) = texts(alloc, talk.commands)?;
+    let mut whole = MemorySource::new(&input, 65_536);
+    let mut bytes = MemorySource::new(&input, 1);
+    Ok(
+        is_served(alloc, talk, &replies, &mut whole, 65_536)
+            && is_served(alloc, talk, &replies, &mut bytes, 1)
+            && is_served_in_two(alloc, talk, &input, &replies),
+    )
+}
+
 #[test]
 fn worked_sessions(rt: HostRuntime) -> Result<(), Fail> {
     for talk in &TALKS {
-        let (input, replies) = texts(rt.alloc(), talk.commands)?;
-        let mut whole = MemorySource::new(&input, 65_536);
-        let is = is_served(rt.alloc(), talk, &replies, &mut whole, 65_536);
-        assert!(rt; is, "{} in one piece", talk.name);
-        let mut bytes = MemorySource::new(&input, 1);
-        let is = is_served(rt.alloc(), talk, &replies, &mut bytes, 1);
-        assert!(rt; is, "{} in single bytes", talk.name);
-        for cut in 0..=input.len() {
-            let (front, back) = input.split_at(cut);
-            let mut halves = StreamSource::new(front.chain(back));
-            let is = is_served(rt.alloc(), talk, &replies, &mut halves, 65_536);
-            assert!(rt; is, "{} cut at {cut}", talk.name);
-        }
+        let is = is_served_in_pieces(rt.alloc(), talk)?;
+        assert!(rt; is, "{}", talk.name);
     }
     Ok(())
 }

@@ -54,7 +54,7 @@ pub const RUN: Talk = Talk {
     ..OPEN
 };
 
-pub static TALKS: [Talk; 12] = [
+pub const TALKS: [Talk; 12] = [
     RUN,
     Talk {
         name: "a load with a fault, and a run in parts",

@@ -1,6 +1,0 @@
-use Rattle.std.proofs.Common.{◌≡◌}
-use Rattle.chr_pool.specs.Hands.{hand_id}
-use Rattle.tests_crew.proofs.pool_threads.push_tasks.Given as goal
-
-abbrev pub invariant-loop-k : goal.invariant-loop-k
-invariant-loop-k l = hand_id l.hand ≡ hand_id l.initial.hand
