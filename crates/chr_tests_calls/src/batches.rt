@@ -1,15 +1,14 @@
 //! A worked run: batches, their judgements, and a firing.
 use crate::lists::{Does, answers_text, call_of, judged_copy, post_text};
-use crate::script::{Opening, open};
 use chr_book::book::Book;
 use chr_calls::answers::Batch;
 use chr_run_calls::calls::{Answer, Call, SeatCall, Words};
 use chr_run_calls::run::run_calls;
 use chr_search::judged::Judged;
-use std::alloc::{AllocError, Allocator, Global};
+use chr_tests_book::script::{Opening, open};
+use std::alloc::{AllocError, Global};
 
-/// A token turns each `n` above 20 into an `r`.
-pub const OPENING: Opening = Opening {
+const TOKEN: Opening = Opening {
     program: "t \\ n(X) <=> X > 20 | r(X).",
     names: "",
     limit: 100,
@@ -42,8 +41,8 @@ const SECOND_ANSWERS: &str =
     "0, 1.1 [5, 1] Misfit; 0, 1.1 [5, 1] Misfit; 1.1 [5, 1] Misfit, 1.1 [5, 2] Misfit, 1.1 [5, 3] Misfit, 1.1 [5, 4] Whole; 3, 1.1 [5, 4] Whole; Ok(Fired(Fired { first: 6, count: 1, active_lives: true })); 0, Done";
 
 /// Adds calls by seat 1.
-fn add_calls<A: Allocator>(
-    calls: &mut Vec<SeatCall<A>, A>,
+fn add_calls(
+    calls: &mut Vec<SeatCall<Global>, Global>,
     list: &[(Does, u64)],
 ) -> Result<(), AllocError> {
     for (does, ticket) in list {
@@ -56,7 +55,7 @@ fn add_calls<A: Allocator>(
 }
 
 /// The calls that post five atoms, and take the first four goals to their end.
-fn first_goals<A: Allocator + Copy>(alloc: A) -> Result<Vec<SeatCall<A>, A>, AllocError> {
+fn first_goals(alloc: Global) -> Result<Vec<SeatCall<Global>, Global>, AllocError> {
     let mut calls = Vec::new(alloc);
     let call = post_text(alloc, "n(1), n(2), n(3), n(21), t.")?;
     calls.push(SeatCall { seat: 1, call })?;
@@ -73,10 +72,7 @@ fn first_goals<A: Allocator + Copy>(alloc: A) -> Result<Vec<SeatCall<A>, A>, All
 }
 
 /// Makes these calls.
-pub fn take_first_goals<A: Allocator + Copy>(
-    alloc: A,
-    book: &mut Book<A>,
-) -> Result<(), AllocError> {
+fn take_first_goals(alloc: Global, book: &mut Book<Global>) -> Result<(), AllocError> {
     let calls = first_goals(alloc)?;
     let _answers = run_calls(alloc, book, &calls)?;
     Ok(())
@@ -130,7 +126,7 @@ fn texts_on(alloc: Global, book: &mut Book<Global>) -> Option<(String<Global>, S
 
 /// The answers to both lists in words. None where memory ran out.
 fn texts(alloc: Global) -> Option<(String<Global>, String<Global>)> {
-    let mut book = open(alloc, OPENING)?;
+    let mut book = open(alloc, TOKEN)?;
     texts_on(alloc, &mut book)
 }
 

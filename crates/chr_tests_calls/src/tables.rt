@@ -1,17 +1,24 @@
 //! Tables of calls, each as one list.
 use crate::lists::{answer_text, list_of};
-use crate::script::{Call, Row, Script, lines, open};
-use crate::tables::{GCD, OLDER_GOAL_IS_DROPPED, TABLES, TOKEN, Table};
 use chr_book::book::Book;
 use chr_log::writing::write_entries;
 use chr_run_calls::calls::{Answer, SeatCall};
 use chr_run_calls::run::run_calls;
+use chr_tests_book::script::{Call, Opening, Row, Script, lines, open};
+use chr_tests_book::tables::{
+    ANOTHER_SEAT_GOES_ON, EACH_ANSWER, KEPT_HEAD_IS_GONE, LABELS_ARE_SPENT, OLDER_GOAL_IS_DROPPED,
+    ONE_OF_TWO_FIRES, ONE_SEAT, REFUSED_CALLS, Table,
+};
 use std::alloc::Global;
 
 /// The search of a goal without partners.
 const ALONE: Table = (
     "alone",
-    GCD,
+    Opening {
+        program: "gcd(0) <=> true. gcd(N) \\ gcd(M) <=> 0 < N, N =< M | L is M mod N, gcd(L).",
+        names: "",
+        limit: 4_294_967_295,
+    },
     &[
         (0, Call::Post("gcd(4)."), "Ok(1)", "W"),
         (1, Call::Claim(1), "Ok(1)", "1"),
@@ -30,7 +37,11 @@ const ALONE: Table = (
 /// Words of a seat that was told no trial for the ticket, or whose last trial was of another ticket or told to another seat.
 const OWN_WORDS: Table = (
     "own words",
-    TOKEN,
+    Opening {
+        program: "t \\ n(X) <=> r(X).",
+        names: "",
+        limit: 4_294_967_295,
+    },
     &[
         (0, Call::Post("n(1), t."), "Ok(1)", "WW"),
         (1, Call::Report(1), "Err(NotHeld)", "WW"),
@@ -58,24 +69,21 @@ const OWN_WORDS: Table = (
     "open\nP 1 n(1)\nP 2 t\nA 1 1\nA 2 2\nF 2 1 2\\1\n#2 t\n",
 );
 
-/// Makes all calls of rows. The same calls as one list, with the judgements that the script has made of them.
-fn listed(
-    alloc: Global,
-    script: &mut Script<Global>,
-    rows: &[Row],
-) -> Option<Vec<SeatCall<Global>, Global>> {
+/// Makes all calls of rows.
+fn make_all(script: &mut Script<Global>, rows: &[Row]) -> Option<()> {
     for (seat, call, _, _) in rows {
         let atoms = script.posted(*call)?;
         let _answer = script.make(*seat, *call, &atoms).ok()?;
     }
-    list_of(alloc, script, rows)
+    Some(())
 }
 
-/// The calls of a table as one list.
+/// The calls of a table as one list, with the judgements that a script has made of them.
 fn calls_of(alloc: Global, table: &Table) -> Option<Vec<SeatCall<Global>, Global>> {
     let (_, opening, rows, _) = *table;
     let mut script = Script::open(alloc, alloc, opening)?;
-    listed(alloc, &mut script, rows)
+    make_all(&mut script, rows)?;
+    list_of(alloc, &script, rows)
 }
 
 /// Whether an answer is the one that its row has.
@@ -103,15 +111,18 @@ fn run(alloc: Global, book: &mut Book<Global>, table: &Table) -> Option<usize> {
     Some(rows_right(alloc, table.2, &answers))
 }
 
-/// The same, and whether the list ends in the table's lines.
-fn run_to_lines(alloc: Global, book: &mut Book<Global>, table: &Table) -> Option<(usize, bool)> {
+/// The same, and what the list ends in, line by line.
+fn run_to_lines(
+    alloc: Global,
+    book: &mut Book<Global>,
+    table: &Table,
+) -> Option<(usize, Vec<u8, Global>)> {
     let right = run(alloc, book, table)?;
-    let text = lines(alloc, book).ok()?;
-    Some((right, text.as_slice() == table.3.as_bytes()))
+    Some((right, lines(alloc, book).ok()?))
 }
 
-/// How many calls of a table's list are answered as expected, and whether it ends in the table's lines.
-fn end(alloc: Global, table: &Table) -> Option<(usize, bool)> {
+/// How many calls of a table's list are answered as expected, and what it ends in, line by line.
+fn end(alloc: Global, table: &Table) -> Option<(usize, Vec<u8, Global>)> {
     let mut book = open(alloc, table.1)?;
     run_to_lines(alloc, &mut book, table)
 }
@@ -133,16 +144,26 @@ fn strict_end(alloc: Global, table: &Table) -> Option<Vec<u8, Global>> {
     }
 }
 
-/// Tables that are played as lists alone.
-static LISTED: [Table; 2] = [ALONE, OWN_WORDS];
+const TABLES: [Table; 10] = [
+    KEPT_HEAD_IS_GONE,
+    ONE_OF_TWO_FIRES,
+    OLDER_GOAL_IS_DROPPED,
+    ANOTHER_SEAT_GOES_ON,
+    LABELS_ARE_SPENT,
+    REFUSED_CALLS,
+    ONE_SEAT,
+    EACH_ANSWER,
+    ALONE,
+    OWN_WORDS,
+];
 
 #[test]
 fn tables_as_lists(rt: HostRuntime) {
-    for tables in [&TABLES[..], &LISTED[..]] {
-        for table in tables {
-            let (name, _, rows, _) = *table;
-            assert_eq!(rt; end(rt.alloc(), table), Some((rows.len(), true)), "{name}");
-        }
+    for table in &TABLES {
+        let (name, _, rows, lines) = *table;
+        let (right, text) = end(rt.alloc(), table).unwrap_or((0, Vec::new(rt.alloc())));
+        assert_eq!(rt; right, rows.len(), "{name}");
+        assert!(rt; text.as_slice() == lines.as_bytes(), "{name}");
     }
 }
 

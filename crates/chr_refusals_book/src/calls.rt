@@ -1,6 +1,6 @@
 //! Tables of calls, with a request of each call refused.
-use crate::script::{Call, Opening, Row, Script};
-use crate::tables::{
+use chr_tests_book::script::{Call, Opening, Row, Script};
+use chr_tests_book::tables::{
     ANOTHER_SEAT_GOES_ON, EACH_ANSWER, LABELS_ARE_SPENT, OLDER_GOAL_IS_DROPPED, ONE_OF_TWO_FIRES,
     Table,
 };
@@ -83,32 +83,25 @@ fn is_refused(script: &mut Script<Memory>, memory: Memory, n: u64, row: &Row) ->
 
 /// Makes the calls of a table with request number `n` of each refused. How many were, and the number of the first row that
 /// isn't as expected, which is that of the rows where all are and the table ends as it should.
-fn play_on(
-    script: &mut Script<Memory>,
-    memory: Memory,
-    n: u64,
-    table: &Table,
-) -> Option<(usize, usize)> {
-    let (_, _, rows, lines) = *table;
+fn play(memory: Memory, texts: Global, n: u64, table: &Table) -> Option<(usize, usize)> {
+    let (_, opening, rows, lines) = *table;
+    let mut script = Script::open(memory, texts, opening)?;
     let mut refusals = 0usize;
     for (i, row) in rows.iter().enumerate() {
-        let Some(refused) = is_refused(script, memory, n, row) else {
+        let Some(refused) = is_refused(&mut script, memory, n, row) else {
             return Some((refusals, i));
         };
         if refused {
             refusals = refusals.wrapping_add(1);
         }
     }
-    script.has_lines(lines).then_some((refusals, rows.len()))
+    if script.lines().ok()?.as_slice() != lines.as_bytes() {
+        return None;
+    }
+    Some((refusals, rows.len()))
 }
 
-/// The same on a book of its own.
-fn play(memory: Memory, texts: Global, n: u64, table: &Table) -> Option<(usize, usize)> {
-    let mut script = Script::open(memory, texts, table.1)?;
-    play_on(&mut script, memory, n, table)
-}
-
-static TABLES: [Table; 6] = [
+const TABLES: [Table; 6] = [
     ONE_OF_TWO_FIRES,
     OLDER_GOAL_IS_DROPPED,
     ANOTHER_SEAT_GOES_ON,

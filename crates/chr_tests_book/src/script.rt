@@ -113,6 +113,11 @@ impl<A: Allocator + Copy> Script<A> {
         })
     }
 
+    /// The book.
+    pub fn book(&self) -> &Book<A> {
+        &self.book
+    }
+
     /// The atoms that a call posts. None where their text can't be read, or where memory ran out.
     pub fn posted(&self, call: Call) -> Option<Vec<Atom<A>, A>> {
         let mut names = self.book.names().copy(self.alloc).ok()?;
@@ -198,20 +203,26 @@ impl<A: Allocator + Copy> Script<A> {
         format!(in texts; "{:?}", self.book.fire(seat, ticket, judged))
     }
 
-    /// Makes rounds of calls for a ticket, at most so many, and tells the answer. Where `starts`, the call that makes them
-    /// claims the ticket, which waits.
-    pub fn make_rounds(
+    /// Makes rounds of calls for a ticket, at most so many, and tells the answer.
+    pub fn go_on(
         &mut self,
-        starts: bool,
         seat: u32,
         ticket: u64,
         most: u64,
     ) -> Result<String<Global>, AllocError> {
         let texts = self.texts;
-        if starts {
-            return format!(in texts; "{:?}", self.book.start(seat, ticket, most));
-        }
         format!(in texts; "{:?}", self.book.go_on(seat, ticket, most))
+    }
+
+    /// Claims a ticket that waits, makes rounds of calls for it, at most so many, and tells the answer.
+    pub fn start(
+        &mut self,
+        seat: u32,
+        ticket: u64,
+        most: u64,
+    ) -> Result<String<Global>, AllocError> {
+        let texts = self.texts;
+        format!(in texts; "{:?}", self.book.start(seat, ticket, most))
     }
 
     /// Makes a call, which posts these atoms where it is a post, and tells its answer.
@@ -255,13 +266,5 @@ impl<A: Allocator + Copy> Script<A> {
     /// Whether it is quiet, the entries of the log, and the constraints of the store, a line for each.
     pub fn lines(&self) -> Result<Vec<u8, Global>, AllocError> {
         lines(self.texts, &self.book)
-    }
-
-    /// Whether these are its lines.
-    pub fn has_lines(&self, expected: &str) -> bool {
-        match self.lines() {
-            Ok(text) => text.as_slice() == expected.as_bytes(),
-            Err(_) => false,
-        }
     }
 }

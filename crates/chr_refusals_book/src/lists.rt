@@ -1,15 +1,20 @@
 //! Lists of calls, with a request refused as a seat's own judgement is made.
-use crate::lists::{Does, answers_text, call_of, post_text};
-use crate::script::{Opening, lines, open};
-use crate::tables::TOKEN;
 use chr_book::book::Book;
 use chr_calls::answers::TicketState;
 use chr_run_calls::calls::{Answer, SeatCall};
 use chr_run_calls::run::run_calls;
+use chr_tests_book::script::{Opening, lines, open};
+use chr_tests_calls::lists::{Does, answers_text, call_of, post_text};
 use refusing::Refusing;
 use std::alloc::{AllocError, Global};
 
 type Memory<'m> = &'m Refusing<Global>;
+
+const TOKEN: Opening = Opening {
+    program: "t \\ n(X) <=> r(X).",
+    names: "",
+    limit: 10,
+};
 
 /// A list of what seat 1 does with ticket 1.
 type List = [Does; 3];
@@ -100,7 +105,7 @@ fn outcome_on<'m>(
 
 /// The same on a book of its own.
 fn outcome(memory: Memory, texts: Global, n: u64, list: &List) -> Option<(bool, String<Global>)> {
-    let mut book = open(memory, Opening { limit: 10, ..TOKEN })?;
+    let mut book = open(memory, TOKEN)?;
     outcome_on(memory, texts, &mut book, n, list)
 }
 

@@ -24,17 +24,26 @@ fn judged(alloc: Global, program: &str) -> Option<Script<Global>> {
     Some(script)
 }
 
+/// What a book answers to the judgement of another, and whether that leaves its lines as they were.
+fn answer_to(
+    script: &mut Script<Global>,
+    other: &Script<Global>,
+) -> Option<(String<Global>, bool)> {
+    let before = script.lines().ok()?;
+    let answer = script.fire_judged(1, 1, other.judged(1)?).ok()?;
+    let after = script.lines().ok()?;
+    Some((answer, after.as_slice() == before.as_slice()))
+}
+
 /// What a book answers to the judgement of another, whether that leaves its lines as they were, and what it answers to its
 /// own judgement.
 fn both_answers(
     script: &mut Script<Global>,
     other: &Script<Global>,
 ) -> Option<(String<Global>, bool, String<Global>)> {
-    let before = script.lines().ok()?;
-    let stale = script.fire_judged(1, 1, other.judged(1)?).ok()?;
-    let after = script.lines().ok()?;
+    let (stale, is_unchanged) = answer_to(script, other)?;
     let own = script.make(1, Call::Fire(1), &[]).ok()?;
-    Some((stale, after.as_slice() == before.as_slice(), own))
+    Some((stale, is_unchanged, own))
 }
 
 /// The same for a book of the first program, and the judgement of a book of the second.

@@ -1,9 +1,9 @@
 //! Books, lists of calls for them, and answers in words.
-use crate::script::{Call as ScriptCall, Row, Script, trial_text};
 use chr_calls::answers::{Batch, BatchReport, Turn, TurnFault};
 use chr_run_calls::calls::{Answer, Call, SeatCall, Word, Words};
 use chr_search::judged::{Judged, judge};
 use chr_search::trial::Trial;
+use chr_tests_book::script::{Call as ScriptCall, Row, Script, trial_text};
 use std::alloc::{AllocError, Allocator, Global};
 use std::fmt::Debug;
 
@@ -102,7 +102,7 @@ fn debug_text<T: Debug>(texts: Global, value: &T) -> Result<String<Global>, Allo
 }
 
 /// What comes next, in words: a trial with its verdict.
-pub fn turn_text<A: Allocator + Copy>(
+fn turn_text<A: Allocator + Copy>(
     alloc: A,
     texts: Global,
     turn: &Result<Turn<A>, TurnFault>,
@@ -116,7 +116,7 @@ pub fn turn_text<A: Allocator + Copy>(
 }
 
 /// Adds a text to those before it, after a mark that parts them.
-pub fn add_text(text: &mut String<Global>, mark: &str, one: &str) -> Result<(), AllocError> {
+fn add_text(text: &mut String<Global>, mark: &str, one: &str) -> Result<(), AllocError> {
     if !text.is_empty() {
         text.push_str(mark)?;
     }

@@ -4,15 +4,8 @@ use crate::script::{Call, Opening, Row};
 /// A table of calls, with its name, what its book is opened with, and the lines that it ends in.
 pub type Table<'t> = (&'t str, Opening<'t>, &'t [Row<'t>], &'t str);
 
-/// A token turns each `n` into an `r`.
-pub const TOKEN: Opening = Opening {
+const TOKEN: Opening = Opening {
     program: "t \\ n(X) <=> r(X).",
-    names: "",
-    limit: 4_294_967_295,
-};
-
-pub const GCD: Opening = Opening {
-    program: "gcd(0) <=> true. gcd(N) \\ gcd(M) <=> 0 < N, N =< M | L is M mod N, gcd(L).",
     names: "",
     limit: 4_294_967_295,
 };
@@ -196,7 +189,11 @@ pub const REFUSED_CALLS: Table = (
 /// One seat takes each ticket to its end.
 pub const ONE_SEAT: Table = (
     "one seat",
-    GCD,
+    Opening {
+        program: "gcd(0) <=> true. gcd(N) \\ gcd(M) <=> 0 < N, N =< M | L is M mod N, gcd(L).",
+        names: "",
+        limit: 4_294_967_295,
+    },
     &[
         (0, Call::Post("gcd(9), gcd(6)."), "Ok(1)", "WW"),
         (1, Call::Claim(1), "Ok(1)", "1W"),
@@ -367,14 +364,3 @@ pub const EACH_ANSWER: Table = (
     ],
     "open\nP 1 n(1)\nP 2 t\nA 1 1\nA 2 2\nF 2 1 2\\1\nD 1\nD 2\nP 4 n(0)\nP 5 t\nP 6 t\nP 7 n(3)\nA 4 3\nA 5 4\nA 6 5\nF 5 1 4\\3\nD 6\nD 4\nD 5\nA 7 6\nF 7 1 2\\6\nA 3 7\nD 3\n#2 t\n#4 t\n#5 t\n#7 r(1)\n",
 );
-
-pub static TABLES: [Table; 8] = [
-    KEPT_HEAD_IS_GONE,
-    ONE_OF_TWO_FIRES,
-    OLDER_GOAL_IS_DROPPED,
-    ANOTHER_SEAT_GOES_ON,
-    LABELS_ARE_SPENT,
-    REFUSED_CALLS,
-    ONE_SEAT,
-    EACH_ANSWER,
-];

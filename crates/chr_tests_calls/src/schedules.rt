@@ -1,7 +1,5 @@
 //! Many lists of calls by three seats, whose logs the check of a log accepts.
 use crate::lists::{Does, call_of, post_text};
-use crate::script::open;
-use crate::tables::GCD;
 use chr_book::book::Book;
 use chr_calls::answers::TicketState;
 use chr_check::checking::{Verdict, check};
@@ -10,8 +8,15 @@ use chr_log::events::{Event, Version};
 use chr_log::log::Log;
 use chr_run_calls::calls::SeatCall;
 use chr_run_calls::run::run_calls;
+use chr_tests_book::script::{Opening, open};
 use chr_value::atom::Atom;
 use std::alloc::{AllocError, Global};
+
+const GCD: Opening = Opening {
+    program: "gcd(0) <=> true. gcd(N) \\ gcd(M) <=> 0 < N, N =< M | L is M mod N, gcd(L).",
+    names: "",
+    limit: 4_294_967_295,
+};
 
 const POSTS: [&str; 8] = [
     "gcd(12).", "gcd(24).", "gcd(36).", "gcd(48).", "gcd(60).", "gcd(72).", "gcd(84).", "gcd(96).",
