@@ -1,5 +1,6 @@
 -- The definition of a plan leaves no choice.
 use Rattle.std.proofs.Common.{◌≡◌, ℕ, ◌≤◌, Bool, true, false, List, [], ◌∷◌, ◌++◌, length, Option, Some, None, is_some, refl, sym, ap, ap₂, subst, ◌∙◌, arith, append_assoc, zero, suc, take, slice_get}
+use Rattle.std.proofs.lemmas.List.{append-nil}
 use Rattle.chr_rule.specs.Rules.{RuleAtom}
 use Rattle.chr_plan.specs.Orders.{key_of, is_named, IsOpen, IsNext, EachNext, IsPlan}
 use Rattle.chr_plan.specs.declared.order.Step.{Step}
@@ -22,10 +23,6 @@ next_same heads before s t m n =
     (m.least t.head n.open_head (sym (ap is_some n.key) ∙ sym kind)) (n.least s.head m.open_head (sym (ap is_some m.key) ∙ kind)) in
     let key : s.key ≡ t.key = m.key ∙ ap (key_of heads before) head ∙ sym n.key in
     ap₂ (λ (h : ℕ) (k : Option ℕ). let z : Step = record { head = h; key = k } in z) head key
-
-append-nil : (xs : List Step) → xs ++ [] ≡ xs
-append-nil [] = refl
-append-nil (x ∷ xs) = ap (λ (z : List Step). x ∷ z) (append-nil xs)
 
 each_same : (heads : List (RuleAtom ℕ)) (before xs ys : List Step) → EachNext heads before xs → EachNext heads before ys → ((j : ℕ) → IsOpen heads (before ++ xs) j → ⊥) → ((j : ℕ) → IsOpen heads (before ++ ys) j → ⊥) → xs ≡ ys
 each_same heads before [] [] m n a b = refl

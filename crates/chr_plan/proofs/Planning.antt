@@ -2,6 +2,7 @@
 use Rattle.std.proofs.Common.{◌≡◌, ℕ, zero, suc, ◌+◌, ◌<◌, ◌≤◌, Bool, true, false, ◌==◌, ◌||◌, if◌then◌else◌, List, [], ◌∷◌, ◌++◌, length, None, refl, sym, ap, subst, ◌∙◌, arith, append_assoc, length-append, true-eqb}
 use Rattle.std.specs.List.{list_any}
 use Rattle.std.proofs.lemmas.Bool.Decides.{nat_tests}
+use Rattle.std.proofs.lemmas.List.{append-nil}
 use Rattle.std.proofs.lemmas.List.Folds.{list_any-append}
 use Rattle.chr_rule.specs.Rules.{RuleAtom}
 use Rattle.chr_plan.specs.Orders.{head_in, binds, is_bound, is_named, IsOpen, IsNext, EachNext, IsPlan}
@@ -74,10 +75,6 @@ pub record Planning (heads : List (RuleAtom ℕ)) (h : ℕ) (bound : ℕ → Boo
 
 each_push : (heads : List (RuleAtom ℕ)) (before steps : List Step) (s : Step) → EachNext heads before steps → IsNext heads (before ++ steps) s → EachNext heads before (steps ++ s ∷ [])
 each_push heads before [] s e n = (subst (λ (b : List Step). IsNext heads b s) (append-nil before) n, tt)
-  where
-    append-nil : (xs : List Step) → xs ++ [] ≡ xs
-    append-nil [] = refl
-    append-nil (x ∷ xs) = ap (λ (z : List Step). x ∷ z) (append-nil xs)
 each_push heads before (t ∷ steps) s e n = (e.0, each_push heads (before ++ t ∷ []) steps s e.1 (subst (λ (b : List Step). IsNext heads b s) (sym (append_assoc before (t ∷ []) steps)) n))
 
 pub planning_start : (heads : List (RuleAtom ℕ)) (h : ℕ) (bound : ℕ → Bool) → 1 ≤ h → h ≤ length heads → ((x : ℕ) → bound x ≡ (binds (head_in heads h) x || false)) → Planning heads h bound (start h ∷ [])

@@ -3,6 +3,7 @@ use Rattle.std.proofs.Common.{◌≡◌, ◌↔◌, ◌≤◌, ◌+◌, ℕ, suc
 use Rattle.std.specs.List.{list_any, list_all, position_or_len}
 use Rattle.std.specs.Str.{bytes_eq}
 use Rattle.std.proofs.lemmas.Bool.{ltb-true, eqb-true}
+use Rattle.std.proofs.lemmas.List.{append-nil}
 use Rattle.chr_lex.specs.Tokens.{Word}
 use Rattle.chr_lex.specs.Tokens as words
 use Rattle.chr_grammar.specs.Parsed as parsed
@@ -45,12 +46,8 @@ back_case m k x true false hb ha h =
 back_append : (m k : Seen) → Back m (m ++ k)
 back_append m k x h = back_case m k x (is_seen (m ++ k) x) (is_seen m x) refl refl h
 
-nil_behind : (m : Seen) → m ++ [] ≡ m
-nil_behind [] = refl
-nil_behind (x ∷ m) = ap (λ (n : Seen). x ∷ n) (nil_behind m)
-
 back_same : (m : Seen) → Back m m
-back_same m x h = let e = nil_behind m in back_append m [] x (rw e h)
+back_same m x h = let e = append-nil m in back_append m [] x (rw e h)
 
 seen_both : (m xs ys : List (List ℕ)) → are_seen m xs ≡ true → are_seen m ys ≡ true → are_seen m (xs ++ ys) ≡ true
 seen_both m [] ys h k = k

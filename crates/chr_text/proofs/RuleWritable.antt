@@ -2,6 +2,7 @@
 use Rattle.std.proofs.Common.{◌≡◌, ◌≤◌, ℕ, suc, pos, false, List, [], ◌∷◌, ◌++◌, length, take, map, Option, Some, Ok, refl, sym, ap, subst, ◌∙◌, arith, lit<}
 use Rattle.std.specs.List.{AllByRecursion}
 use Rattle.std.proofs.Math.Seq.{take-length}
+use Rattle.chr_grammar.proofs.Members_again.{all_append}
 use Rattle.chr_lex.specs.Items.{Item}
 use Rattle.chr_lex.specs.Tokens.{Word, Name, Variable, Number}
 use Rattle.chr_value.specs.Atoms.{Value, Int, Atom, renamed, text_of, by_texts}
@@ -240,10 +241,6 @@ BodiesHeld table rules = AllByRecursion (λ r. AllByRecursion (ItemHeld table) r
 bodies_kept : (old new : Table) (rules : List (Simpagation ℕ)) → take (length old) new ≡ old → BodiesHeld old rules → BodiesHeld new rules
 bodies_kept old new [] keeps all = tt
 bodies_kept old new (r ∷ rs) keeps all = (items_kept old new r.body keeps all.0, bodies_kept old new rs keeps all.1)
-
-all_append : {A : Type 0} (P : A → Type 0) (xs ys : List A) → AllByRecursion P xs → AllByRecursion P ys → AllByRecursion P (xs ++ ys)
-all_append P [] ys p q = q
-all_append P (x ∷ xs) ys p q = (p.0, all_append P xs ys p.1 q)
 
 statement_held : (before : Program) (e : Item) (after : Program) (a : AddsStatement before e after) (s : Statement) → a.statement ≡ s → Adds before s after → IsStatement s → BodiesHeld before.1 before.0 → BodiesHeld after.1 after.0
 statement_held before e after a parsed.Import is adds written all = subst (λ (p : Program). BodiesHeld p.1 p.0) (sym adds) all

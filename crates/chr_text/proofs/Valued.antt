@@ -3,6 +3,7 @@ use Rattle.std.proofs.Common.{◌≡◌, ◌<◌, ◌+◌, ℕ, suc, Bool, true,
 use Rattle.std.specs.List.{list_any, list_all, position_or_len}
 use Rattle.std.specs.Str.{bytes_eq}
 use Rattle.std.proofs.lemmas.Bool.{lt-ltb}
+use Rattle.chr_rule.proofs.Heads.{heads_append}
 use Rattle.chr_lex.specs.Tokens.{Word}
 use Rattle.chr_lex.specs.Tokens as words
 use Rattle.chr_grammar.specs.Parsed as parsed
@@ -144,15 +145,6 @@ args_known m (words.Variable x ∷ ws) =
 heads_known : (m : Seen) (ps : List parsed.ParsedAtom) → known_after_heads (length m) (in_turn rule_atom m ps).0 ≡ Some (length (in_turn rule_atom m ps).1)
 heads_known m [] = refl
 heads_known m (p ∷ ps) = rw (args_known m p.args) (heads_known (rule_atom m p).1 ps)
-
-heads_append-step : {N : Type 0} (o : Option ℕ) (hs gs : List (RuleAtom N)) → ((m : ℕ) → known_after_heads m (hs ++ gs) ≡ known_then (known_after_heads m hs) (λ k. known_after_heads k gs))
-    → known_then o (λ m. known_after_heads m (hs ++ gs)) ≡ known_then (known_then o (λ m. known_after_heads m hs)) (λ k. known_after_heads k gs)
-heads_append-step None hs gs f = refl
-heads_append-step (Some m) hs gs f = f m
-
-heads_append : {N : Type 0} (n : ℕ) (hs gs : List (RuleAtom N)) → known_after_heads n (hs ++ gs) ≡ known_then (known_after_heads n hs) (λ m. known_after_heads m gs)
-heads_append n [] gs = refl
-heads_append n (h ∷ hs) gs = heads_append-step (known_after_args n h.args) hs gs (λ m. heads_append m hs gs)
 
 pub all_heads_known : (r : parsed.ParsedRule) → known_after_heads 0 ((rule r).kept ++ (rule r).removed) ≡ Some (length (after_heads r))
 all_heads_known r = heads_append 0 (rule r).kept (rule r).removed ∙ ap (λ o. known_then o (λ m. known_after_heads m (rule r).removed)) (heads_known [] r.kept) ∙ heads_known (after_kept r) r.removed

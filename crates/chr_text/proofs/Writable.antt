@@ -3,6 +3,7 @@ use Rattle.std.proofs.Common.{◌≡◌, ◌≤◌, ◌^◌, ℕ, zero, suc, ℤ
 use Rattle.std.specs.List.{AllByRecursion}
 use Rattle.std.proofs.lemmas.Bool.{ltb-true}
 use Rattle.std.proofs.Math.Seq.{take-length}
+use Rattle.chr_grammar.proofs.Members_again.{all_append}
 use Rattle.chr_lex.specs.Items.{Item}
 use Rattle.chr_lex.specs.Tokens.{Word, Name, Variable, Number}
 use Rattle.chr_value.specs.Atoms.{Int, Atom, by_texts}
@@ -91,10 +92,6 @@ numbered_writable table new (a ∷ as') bs all h =
     let first = still_writable x.0.1 y.0.1 (x.0.0 ∷ []) rest.1 (one, tt) in
     subst (λ (z : List (Atom ℕ) × Table). AreWritable z.1 z.0 × (take (length table) z.1 ≡ table)) (some_is {A = List (Atom ℕ) × Table} (x.0.0 ∷ y.0.0, y.0.1) (bs, new) y.2)
     ((first.0, rest.0), keeps-then table x.0.1 y.0.1 says.1 rest.1)
-
-all_append : {A : Type 0} (P : A → Type 0) (xs ys : List A) → AllByRecursion P xs → AllByRecursion P ys → AllByRecursion P (xs ++ ys)
-all_append P [] ys p q = q
-all_append P (x ∷ xs) ys p q = (p.0, all_append P xs ys p.1 q)
 
 -- ---- a text of posts
 
