@@ -1,0 +1,145 @@
+//! Lists of calls, with a request refused as a seat's own judgement is made.
+use crate::lists::{Does, answers_text, call_of, post_text};
+use crate::script::{Opening, lines, open};
+use crate::tables::TOKEN;
+use chr_book::book::Book;
+use chr_calls::answers::TicketState;
+use chr_run_calls::calls::{Answer, SeatCall};
+use chr_run_calls::run::run_calls;
+use refusing::Refusing;
+use std::alloc::{AllocError, Global};
+
+type Memory<'m> = &'m Refusing<Global>;
+
+/// A list of what seat 1 does with ticket 1.
+type List = [Does; 3];
+
+/// The lists, and what each answers with its first request refused, with its second, and so on, as far as the answers
+/// differ. The ticket is put down before the call by the seat's own judgement, whose E01 comes before its E13.
+const OUTCOMES: [(List, &str); 3] = [
+    (
+        [Does::Trial, Does::PutDown, Does::Report],
+        "no room\nErr(NoMemory); Ok(()); Err(NotHeld)\n1.2 [1] Part; Ok(()); NoMemory\n1.2 [1] Part; Ok(()); Err(NotHeld)\n",
+    ),
+    (
+        [Does::Trial, Does::PutDown, Does::Fire],
+        "no room\nErr(NoMemory); Ok(()); Err(NotHeld)\n1.2 [1] Part; Ok(()); NoMemory\n1.2 [1] Part; Ok(()); Err(NotHeld)\n",
+    ),
+    (
+        [Does::Batch, Does::PutDown, Does::ReportBatch],
+        "no room\nErr(NoMemory); Ok(()); 0, Err(NotHeld)\n1.2 [1] Part; Ok(()); NoMemory\n1.2 [1] Part; Ok(()); 0, Err(NotHeld)\n",
+    ),
+];
+
+/// Posts two atoms, and has seat 1 claim ticket 1.
+fn begin<'m>(memory: Memory<'m>, book: &mut Book<Memory<'m>>) -> Result<(), AllocError> {
+    let mut calls = Vec::new(memory);
+    let call = post_text(memory, "n(1), t.")?;
+    calls.push(SeatCall { seat: 0, call })?;
+    let call = call_of(Does::Claim, 1);
+    calls.push(SeatCall { seat: 1, call })?;
+    let _answers = run_calls(memory, book, &calls)?;
+    Ok(())
+}
+
+/// The calls of a list.
+fn calls_of<'m>(memory: Memory<'m>, list: &List) -> Option<Vec<SeatCall<Memory<'m>>, Memory<'m>>> {
+    let mut calls = Vec::new(memory);
+    for does in list {
+        let call = call_of(*does, 1);
+        calls.push(SeatCall { seat: 1, call }).ok()?;
+    }
+    Some(calls)
+}
+
+/// What a list was answered, in words. None where memory ran out, where the ticket isn't put down, or where there was no
+/// room for the answers and the book has changed.
+fn told<'m>(
+    memory: Memory<'m>,
+    texts: Global,
+    book: &Book<Memory<'m>>,
+    before: &[u8],
+    answers: Result<Vec<Answer<Memory<'m>>, Memory<'m>>, AllocError>,
+) -> Option<String<Global>> {
+    match answers {
+        Err(_) => {
+            let after = lines(texts, book).ok()?;
+            if before != after.as_slice() || book.state(1) != TicketState::Held(1) {
+                return None;
+            }
+            "no room".to_string(texts).ok()
+        }
+        Ok(answers) => {
+            if book.state(1) != TicketState::Resting {
+                return None;
+            }
+            answers_text(memory, texts, &answers).ok()
+        }
+    }
+}
+
+/// Whether request number `n` of a list was refused, and what the list was then answered, in words, on a book as it is
+/// opened.
+fn outcome_on<'m>(
+    memory: Memory<'m>,
+    texts: Global,
+    book: &mut Book<Memory<'m>>,
+    n: u64,
+    list: &List,
+) -> Option<(bool, String<Global>)> {
+    begin(memory, book).ok()?;
+    let calls = calls_of(memory, list)?;
+    let before = lines(texts, book).ok()?;
+    memory.refuse(n);
+    let answers = run_calls(memory, book, &calls);
+    let refused = memory.was_refused();
+    memory.refuse(0);
+    let text = told(memory, texts, book, before.as_slice(), answers)?;
+    Some((refused, text))
+}
+
+/// The same on a book of its own.
+fn outcome(memory: Memory, texts: Global, n: u64, list: &List) -> Option<(bool, String<Global>)> {
+    let mut book = open(memory, Opening { limit: 10, ..TOKEN })?;
+    outcome_on(memory, texts, &mut book, n, list)
+}
+
+/// Adds what the list answers with request number `n` refused, where that isn't what it answered last. Whether a request was
+/// refused.
+fn add_outcome(
+    texts: Global,
+    n: u64,
+    list: &List,
+    all: &mut String<Global>,
+    last: &mut String<Global>,
+) -> Option<bool> {
+    let memory = Refusing::new(texts, 0);
+    let (refused, text) = outcome(&memory, texts, n, list)?;
+    if text.as_str() != last.as_str() {
+        all.push_str(text.as_str()).ok()?;
+        all.push('\n').ok()?;
+    }
+    *last = text;
+    Some(refused)
+}
+
+/// What the list answers with its first request refused, then with its second, and so on, a line for each that differs from
+/// the one before. The last one is without a refusal.
+fn outcomes(texts: Global, list: &List) -> Option<String<Global>> {
+    let mut all = String::new(texts);
+    let mut last = String::new(texts);
+    for n in 1..100u64 {
+        if !add_outcome(texts, n, list, &mut all, &mut last)? {
+            return Some(all);
+        }
+    }
+    None
+}
+
+#[test]
+fn own_judgements_are_refused(rt: HostRuntime) {
+    for (list, expected) in &OUTCOMES {
+        let text = outcomes(rt.alloc(), list).unwrap_or(String::new(rt.alloc()));
+        assert_eq!(rt; text.as_str(), *expected, "{list:?}");
+    }
+}

@@ -1,0 +1,37 @@
+//! Opening a book.
+use crate::tables::GCD;
+use chr_book::book::{Book, OpenFault};
+use chr_calls::answers::TicketState;
+use chr_text::reading::read_program;
+use chr_value::names::Names;
+use refusing::{Refusable, Refusing, refuse_each};
+use std::alloc::Global;
+
+/// Opens a book with request number `n` refused. The fault, where there is one. None where a text can't be read, where the
+/// name of the program isn't in the table, or where a new book has a ticket.
+fn opened(memory: &Refusing<Global>, n: u64) -> Option<Result<(), OpenFault>> {
+    let mut names = Names::new(memory);
+    let program = read_program(memory, GCD.program.as_bytes(), &mut names).ok()?;
+    memory.refuse(n);
+    match Book::new(memory, program, names, 10) {
+        Ok(book) => (book.quiet() && book.state(1) == TicketState::Unknown).then_some(Ok(())),
+        Err(fault) => Some(Err(fault)),
+    }
+}
+
+#[derive(Drop)]
+struct Opening;
+
+impl Refusable for Opening {
+    fn is_made_again(&self, memory: &Refusing<Global>, n: u64) -> Option<bool> {
+        let fails = opened(memory, n)? == Err(OpenFault::NoMemory);
+        let refused = memory.is_refused(fails)?;
+        (opened(memory, 0)? == Ok(())).then_some(refused)
+    }
+}
+
+#[test]
+fn opening_is_refused(rt: HostRuntime) {
+    let refused = refuse_each(rt.alloc(), &Opening);
+    assert!(rt; matches!(refused, Ok(1..)), "{refused:?}");
+}

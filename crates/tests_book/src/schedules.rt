@@ -1,0 +1,290 @@
+//! Many lists of calls by three seats, whose logs the check of a log accepts.
+use crate::lists::{Does, call_of, post_text};
+use crate::script::open;
+use crate::tables::GCD;
+use chr_book::book::Book;
+use chr_calls::answers::TicketState;
+use chr_check::checking::{Verdict, check};
+use chr_entries::entries::Entries;
+use chr_log::events::{Event, Version};
+use chr_log::log::Log;
+use chr_run_calls::calls::SeatCall;
+use chr_run_calls::run::run_calls;
+use chr_value::atom::Atom;
+use std::alloc::{AllocError, Global};
+
+const POSTS: [&str; 8] = [
+    "gcd(12).", "gcd(24).", "gcd(36).", "gcd(48).", "gcd(60).", "gcd(72).", "gcd(84).", "gcd(96).",
+];
+
+/// How many tickets are looked at.
+const TICKETS: u64 = 64;
+
+/// How many rounds a list has, each of sixteen calls.
+const ROUNDS: usize = 25;
+
+/// The calls for one goal in a round.
+#[derive(Clone, Copy, Debug)]
+struct Course {
+    seat: u32,
+    ticket: u64,
+    kinds: [Does; 8],
+}
+
+/// Calls that take a goal further trial by trial.
+const SINGLY: [Does; 8] = [
+    Does::Claim,
+    Does::Trial,
+    Does::Report,
+    Does::Trial,
+    Does::Report,
+    Does::Trial,
+    Does::Fire,
+    Does::DropGoal,
+];
+
+/// Calls that take a goal further by batches.
+const BY_BATCHES: [Does; 8] = [
+    Does::Claim,
+    Does::Batch,
+    Does::ReportBatch,
+    Does::Batch,
+    Does::ReportBatch,
+    Does::Batch,
+    Does::Fire,
+    Does::DropGoal,
+];
+
+/// What may stand for a call of a round.
+const ANY: [Does; 10] = [
+    Does::Claim,
+    Does::Trial,
+    Does::Report,
+    Does::Fire,
+    Does::DropGoal,
+    Does::Batch,
+    Does::ReportBatch,
+    Does::PutDown,
+    Does::MarkStray,
+    Does::TakeStray,
+];
+
+/// The next number that is drawn, below 2^31 - 1.
+fn next_draw(draw: u64) -> u64 {
+    draw.wrapping_mul(48_271) % 2_147_483_647
+}
+
+/// The first open ticket from a number on, around to it; that number where none is open.
+fn open_from(book: &Book<Global>, start: u64) -> u64 {
+    for i in 0..TICKETS {
+        let ticket = start.wrapping_add(i) % TICKETS;
+        match book.state(ticket) {
+            TicketState::Unknown | TicketState::Ended => (),
+            TicketState::Waiting | TicketState::Held(_) | TicketState::Resting => return ticket,
+        }
+    }
+    start
+}
+
+/// How the goal of a ticket is taken further: the first open ticket from a drawn number on, by the seat that holds it, or
+/// else by a drawn one.
+fn drawn_course(book: &Book<Global>, draw: u64) -> Course {
+    let ticket = open_from(book, draw % TICKETS);
+    let number = draw / TICKETS;
+    let seat = match book.state(ticket) {
+        TicketState::Held(holder) => holder,
+        _ => (number % 3) as u32 + 1,
+    };
+    let kinds = if number / 3 % 2 == 0 {
+        SINGLY
+    } else {
+        BY_BATCHES
+    };
+    Course {
+        seat,
+        ticket,
+        kinds,
+    }
+}
+
+/// A call of a course, for which any call by any seat stands so many times in thirty-two.
+fn drawn_call(course: &Course, does: Does, any: u64, draw: u64) -> SeatCall<Global> {
+    if any <= draw % 32 {
+        return SeatCall {
+            seat: course.seat,
+            call: call_of(does, course.ticket),
+        };
+    }
+    let number = draw / 32;
+    let other = ANY.get((number / 3 % 10) as usize).copied();
+    SeatCall {
+        seat: (number % 3) as u32 + 1,
+        call: call_of(other.unwrap_or(does), course.ticket),
+    }
+}
+
+/// What is posted in a round, if anything: the posts rise for some seeds, and fall for others.
+fn post_in(seed: u64, number: usize) -> Option<&'static str> {
+    let rises = seed / 8 % 2 == 0;
+    let place = if rises {
+        number
+    } else {
+        7usize.wrapping_sub(number)
+    };
+    POSTS.get(place).copied()
+}
+
+/// The calls of a round: two goals are taken further by turns, after a post in the first rounds.
+fn round(
+    alloc: Global,
+    book: &Book<Global>,
+    seed: u64,
+    number: usize,
+    first: u64,
+) -> Result<Vec<SeatCall<Global>, Global>, AllocError> {
+    let mut calls = Vec::new(alloc);
+    if let Some(text) = post_in(seed, number) {
+        let call = post_text(alloc, text)?;
+        calls.push(SeatCall { seat: 1, call })?;
+    }
+    let mut draw = next_draw(first);
+    let (one, other) = (drawn_course(book, first), drawn_course(book, draw));
+    for (does, next) in one.kinds.iter().zip(other.kinds.iter()) {
+        draw = next_draw(draw);
+        calls.push(drawn_call(&one, *does, seed % 8, draw))?;
+        draw = next_draw(draw);
+        calls.push(drawn_call(&other, *next, seed % 8, draw))?;
+    }
+    calls.truncate(16);
+    Ok(calls)
+}
+
+/// Makes the calls of a round, and adds them to a list.
+fn add_round(
+    alloc: Global,
+    book: &mut Book<Global>,
+    list: &mut Vec<SeatCall<Global>, Global>,
+    mut calls: Vec<SeatCall<Global>, Global>,
+) -> Result<(), AllocError> {
+    let _answers = run_calls(alloc, book, &calls)?;
+    list.append(&mut calls)
+}
+
+/// The calls of a seed, drawn round by round as the book stands after those before.
+fn rounds(
+    alloc: Global,
+    book: &mut Book<Global>,
+    seed: u64,
+) -> Result<Vec<SeatCall<Global>, Global>, AllocError> {
+    let mut list = Vec::new(alloc);
+    let mut draw = seed;
+    for number in 0..ROUNDS {
+        draw = next_draw(next_draw(draw));
+        let calls = round(alloc, book, seed, number, draw)?;
+        add_round(alloc, book, &mut list, calls)?;
+    }
+    Ok(list)
+}
+
+/// The same on a book of their own.
+fn list_of(alloc: Global, seed: u64) -> Option<Vec<SeatCall<Global>, Global>> {
+    let mut book = open(alloc, GCD)?;
+    rounds(alloc, &mut book, seed).ok()
+}
+
+/// The events of a book's log.
+fn events_of(
+    alloc: Global,
+    log: &Entries<Global>,
+) -> Result<Vec<Event<Global>, Global>, AllocError> {
+    let mut events = Vec::new(alloc);
+    for index in 0..log.len() {
+        events.push(log.get(index).event)?;
+    }
+    Ok(events)
+}
+
+/// The events of a strict log.
+fn strict_events(
+    alloc: Global,
+    log: &Log<Global>,
+) -> Result<Vec<Event<Global>, Global>, AllocError> {
+    let mut events = Vec::new(alloc);
+    for entry in log.entries() {
+        events.push(entry.event.copy(alloc)?)?;
+    }
+    Ok(events)
+}
+
+/// The constraints of a book's store.
+fn store_of(
+    alloc: Global,
+    book: &Book<Global>,
+) -> Result<Vec<(u64, Atom<Global>), Global>, AllocError> {
+    let mut store = Vec::new(alloc);
+    for (label, atom) in book.store().iter() {
+        store.push((label, atom.copy(alloc)?))?;
+    }
+    Ok(store)
+}
+
+/// What the check of a book's strict log answers, where it has one. None where it is refused or memory ran out.
+fn strict_verdict(
+    alloc: Global,
+    book: &Book<Global>,
+    store: &[(u64, Atom<Global>)],
+) -> Option<Option<Verdict>> {
+    let Some(log) = book.strict_log().ok()? else {
+        return Some(None);
+    };
+    let events = strict_events(alloc, &log).ok()?;
+    let verdict = check(alloc, book.program(), Version::One, &events, store).ok()?;
+    Some(Some(verdict))
+}
+
+/// What the checks of a book's log and of its strict log answer. None where one is refused, or where memory ran out.
+fn verdicts(alloc: Global, book: &Book<Global>) -> Option<(Verdict, Option<Verdict>)> {
+    let store = store_of(alloc, book).ok()?;
+    let events = events_of(alloc, book.log()).ok()?;
+    let verdict = check(alloc, book.program(), Version::Two, &events, &store).ok()?;
+    Some((verdict, strict_verdict(alloc, book, &store)?))
+}
+
+/// Makes a list of calls. Whether the book is then quiet, and what the checks of its logs answer.
+fn run_checked(
+    alloc: Global,
+    book: &mut Book<Global>,
+    list: &[SeatCall<Global>],
+) -> Option<(bool, (Verdict, Option<Verdict>))> {
+    let _answers = run_calls(alloc, book, list).ok()?;
+    Some((book.quiet(), verdicts(alloc, book)?))
+}
+
+/// The same for the calls of a seed.
+fn checked(alloc: Global, seed: u64) -> Option<(bool, (Verdict, Option<Verdict>))> {
+    let list = list_of(alloc, seed)?;
+    let mut book = open(alloc, GCD)?;
+    run_checked(alloc, &mut book, &list)
+}
+
+/// What is answered where the book is quiet, and where it isn't.
+const QUIET: (bool, (Verdict, Option<Verdict>)) = (
+    true,
+    (Verdict::RunAndFinal, Some(Verdict::RunAndFinal)),
+);
+
+const OPEN: (bool, (Verdict, Option<Verdict>)) = (false, (Verdict::Run, None));
+
+#[test]
+fn each_schedule_is_a_run(rt: HostRuntime) {
+    let mut quiet = 0u64;
+    for seed in 1..201u64 {
+        let answer = checked(rt.alloc(), seed);
+        if answer == Some(QUIET) {
+            quiet = quiet.wrapping_add(1);
+        } else {
+            assert!(rt; answer == Some(OPEN), "seed {seed}");
+        }
+    }
+    assert!(rt; 20 < quiet && quiet < 180, "{quiet} of 200 are quiet");
+}

@@ -1,0 +1,33 @@
+//! Tests of crews: runs by several workers whose logs the check of a log accepts.
+//!
+//! What a run leaves of a book is proved. The tests show what no clause says: that a run gets to its end, that two workers
+//! judge at once and the lock is free meanwhile, that sleepers wake, what becomes of tickets where turns, labels or memory
+//! run out, that a session beside workers finds what it posted, and that its waits end: where no worker is awake, soon where
+//! a short wait was asked for beside one long goal, and quiet where a goal had wanted memory.
+//!
+//! Three tests have the names of wrong bodies that they refuse and no proof can: `gives_up_at_once`,
+//! `judging_under_the_lock` and `desk_posts_other_atoms`.
+#![tactic(auto)]
+
+#[cfg(test)]
+mod closing;
+#[cfg(test)]
+mod gates;
+#[cfg(test)]
+mod rack;
+#[cfg(test)]
+mod refused;
+#[cfg(test)]
+mod runs;
+#[cfg(test)]
+mod scenes;
+#[cfg(test)]
+mod sessions;
+#[cfg(test)]
+mod stops;
+#[cfg(test)]
+mod threads;
+#[cfg(test)]
+mod waiting;
+#[cfg(test)]
+mod waking;

@@ -1,0 +1,125 @@
+//! Runs in threads.
+use crate::runs::{GCD, MANY, has_only, multiples, open, run, tickets, verdict};
+use chr_check::checking::Verdict;
+use chr_crew::crew::{End, Finished};
+use chr_crew::gate::Open;
+use chr_seats::counts::Counts;
+use std::alloc::Global;
+use std::sync::Wait;
+use std::thread::Threads;
+
+/// A program and its posts, which have an end in any order.
+type Task<'t> = (&'t str, &'t str);
+
+const TASKS: [Task<'static>; 3] = [
+    (
+        GCD,
+        "gcd(12), gcd(24), gcd(36), gcd(48), gcd(60), gcd(72), gcd(84), gcd(96), gcd(18), gcd(30).",
+    ),
+    (
+        "min(N) \\ min(M) <=> N =< M | true.",
+        "min(3), min(1), min(2), min(1), min(7), min(5), min(4), min(1), min(9), min(8), min(6).",
+    ),
+    (
+        "edge(X,Y), edge(Y,Z), node(Z) <=> path(X,Z). path(X,Y) \\ path(X,Y) <=> true.",
+        "edge(a,b), edge(b,c), node(c), edge(a,b), edge(b,c), node(c), edge(c,d), edge(d,e), node(e), edge(e,f), node(f).",
+    ),
+];
+
+/// What a run of a task by so many workers ends as, and what the check answers of it.
+fn ended<R: Threads + Wait + Sync>(
+    rt: &R,
+    alloc: Global,
+    task: Task,
+    workers: usize,
+) -> Option<(End, Verdict)> {
+    if workers < 1 || 16 < workers {
+        return None;
+    }
+    let (program, posts) = task;
+    let book = open(alloc, program, posts)?;
+    let finished = run(rt, alloc, alloc, book, workers, &Open, MANY).ok()?;
+    let verdict = verdict(alloc, &finished.book)?;
+    Some((finished.end, verdict))
+}
+
+/// The first number of workers whose run of a task isn't quiet, or isn't accepted as final.
+fn first_wrong<R: Threads + Wait + Sync>(rt: &R, alloc: Global, task: Task) -> Option<usize> {
+    for workers in [1, 2, 4, 16] {
+        if ended(rt, alloc, task, workers) != Some((End::Quiet, Verdict::RunAndFinal)) {
+            return Some(workers);
+        }
+    }
+    None
+}
+
+#[test]
+fn each_run_is_accepted(rt: HostRuntime) {
+    for round in 0..27usize {
+        let wrong = first_wrong(&rt, rt.alloc(), TASKS[round % 3]);
+        assert_eq!(rt; wrong, None, "round {round}");
+    }
+}
+
+/// Whether a run is final, with one constraint, and each ticket was pushed and taken once.
+fn is_whole(alloc: Global, finished: &Finished<Global>) -> bool {
+    let (given, _) = tickets(&finished.book);
+    finished.end == End::Quiet
+        && verdict(alloc, &finished.book) == Some(Verdict::RunAndFinal)
+        && has_only(alloc, &finished.book, " gcd(12)")
+        && finished.tally.pushed == given
+        && finished.tally.taken == given
+        && finished.tally.left.is_empty()
+}
+
+/// Whether four workers bring two hundred goals to such an end. None where memory ran out.
+fn is_two_hundred_whole<R: Threads + Wait + Sync>(rt: &R, alloc: Global) -> Option<bool> {
+    let posts = multiples(alloc, 200).ok()?;
+    let book = open(alloc, GCD, posts.as_str())?;
+    let finished = run(rt, alloc, alloc, book, 4, &Open, MANY).ok()?;
+    Some(is_whole(alloc, &finished))
+}
+
+#[test]
+fn four_workers_end_two_hundred_goals(rt: HostRuntime) {
+    assert_eq!(rt; is_two_hundred_whole(&rt, rt.alloc()), Some(true));
+}
+
+/// How many turns are made at most, how the run ends, how many entries the worker makes, and the log.
+type Turns<'t> = (u64, End, u64, &'t [u8]);
+
+/// One worker on `gcd(9), gcd(6)`: after its first turn, and to the end, where it takes the tickets in the order in which they
+/// were pushed.
+static TURNS: [Turns; 2] = [
+    (1, End::Stopped, 1, b"P 1 gcd(9)\nP 2 gcd(6)\nA 1 1\n"),
+    (
+        MANY,
+        End::Quiet,
+        10,
+        b"P 1 gcd(9)\nP 2 gcd(6)\nA 1 1\nD 1\nA 2 2\nF 2 2 2\\1\nD 2\nA 3 3\nF 3 2 3\\2\nD 3\nA 4 4\nF 4 1 \\4\n",
+    ),
+];
+
+/// Whether a run has the end, the entries and the log of a row.
+fn is_left(alloc: Global, finished: &Finished<Global>, row: &Turns) -> bool {
+    let (_, end, others, expected) = *row;
+    let mut log = Vec::new(alloc);
+    finished.book.log_lines(&mut log, 1).is_ok()
+        && finished.end == end
+        && finished.counts.first().copied() == Some(Counts { posts: 0, others })
+        && log.as_slice() == expected
+}
+
+/// Whether one worker leaves what a row has. None where memory ran out.
+fn leaves<R: Threads + Wait + Sync>(rt: &R, alloc: Global, row: &Turns) -> Option<bool> {
+    let book = open(alloc, GCD, "gcd(9), gcd(6).")?;
+    let finished = run(rt, alloc, alloc, book, 1, &Open, row.0).ok()?;
+    Some(is_left(alloc, &finished, row))
+}
+
+#[test]
+fn gives_up_at_once(rt: HostRuntime) {
+    for row in &TURNS {
+        assert_eq!(rt; leaves(&rt, rt.alloc(), row), Some(true), "{} turns", row.0);
+    }
+}

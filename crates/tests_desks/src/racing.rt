@@ -1,0 +1,152 @@
+//! Sixteen sessions that load at once.
+ghost use Rattle.std.specs.Prelude.{◌≡◌, false};
+
+use chr_crew::gate::{Open, Stop};
+use chr_crew::rack::{Place, Rack};
+use chr_crew::work::work;
+use chr_pool::{Hand, make};
+use chr_seats::seat::{PostLedger, Seat};
+use chr_seats::shared::Shared;
+use chr_session::desk::{Command, Desk, Fault, Reply};
+use chr_shared_desk::shared_desk::SharedDesk;
+use std::alloc::{AllocError, Global};
+use std::marker::Brand;
+use std::sync::Wait;
+use std::sync::ledger::{Blank, Ledger};
+use std::test::*;
+use std::thread;
+use std::thread::Threads;
+
+/// How many sessions load at once.
+const RACERS: usize = 16;
+
+/// Rules that nothing is posted for, so many that a load takes long enough for others to come between.
+const FILLERS: usize = 30;
+
+/// What a session is told of its load.
+#[derive(Clone, Copy, Debug, PartialEq, Eq)]
+enum Told {
+    Loaded,
+    AlreadyLoaded,
+    Another,
+}
+
+/// The rules of the session with this number, by which `go` becomes that number.
+fn rules_of(alloc: Global, number: usize) -> Result<String<Global>, AllocError> {
+    let mut text = format!(in alloc; "go <=> won({number}).\n")?;
+    for _ in 0..FILLERS {
+        text.push_str("filler(X) <=> X < 0 | true.\n")?;
+    }
+    Ok(text)
+}
+
+/// What a desk is told that loads these rules. It is told E20 only where it then finds a book.
+fn told_of<D: Desk<Global>>(desk: &mut D, text: &[u8]) -> Told {
+    match desk.ask(Command::Load(text)) {
+        Reply::Loaded(count) if count == FILLERS + 1 => Told::Loaded,
+        Reply::Fault(Fault::AlreadyLoaded)
+            if matches!(desk.ask(Command::Store), Reply::Store(0, _)) => { Told::AlreadyLoaded }
+        _ => Told::Another,
+    }
+}
+
+/// What a session that loads its rules is told.
+fn load<L1: PostLedger, L2: Ledger, R: Wait>(
+    rt: &R,
+    alloc: Global,
+    shared: &Shared<L1, L2, Global>,
+    rack: &Rack<L1, L2, Global>,
+    number: usize,
+) -> Told {
+    let (Ok(Place { seat, inlet }), Ok(text)) = (rack.take(rt), rules_of(alloc, number)) else {
+        return Told::Another;
+    };
+    let mut desk = SharedDesk::new(rt, alloc, shared, seat, inlet);
+    let told = told_of(&mut desk, text.as_bytes());
+    let (seat, inlet) = desk.end();
+    rack.give_back(rt, Place { seat, inlet });
+    told
+}
+
+/// The number of the one session that was told `loaded`, where all others were told E20.
+fn winner(told: &[Told]) -> Option<usize> {
+    let mut winner = None;
+    for number in 0..told.len() {
+        match told[number] {
+            Told::Loaded if winner.is_none() => winner = Some(number),
+            Told::AlreadyLoaded => {}
+            Told::Loaded | Told::Another => return None,
+        }
+    }
+    winner
+}
+
+/// Whether a post runs under the rules of the session with this number.
+fn runs_by_rules_of<D: Desk<Global>, L1: PostLedger, L2: Ledger, R: Wait>(
+    rt: &R,
+    alloc: Global,
+    shared: &Shared<L1, L2, Global>,
+    desk: &mut D,
+    worker: (Hand<u64>, Seat<L1, L2>),
+    number: usize,
+) -> bool {
+    if !matches!(desk.ask(Command::Post(b"go.")), Reply::Posted(1, 1)) {
+        return false;
+    }
+    let (mut hand, mut seat) = worker;
+    work(rt, shared, &mut hand, &mut seat, &Open, Stop::Turns(1000));
+    match (
+        desk.ask(Command::Store),
+        format!(in alloc; "#2 won({number})\n"),
+    ) {
+        (Reply::Store(1, lines), Ok(line)) => lines.as_slice() == line.as_bytes(),
+        _ => false,
+    }
+}
+
+/// Whether just one of the sessions is told `loaded`, and a post runs under its rules. None where memory ran out.
+fn race<L1: PostLedger + Send + Sync, L2: Ledger + Send + Sync, R: Threads + Wait + Sync>(
+    rt: &R,
+    alloc: Global,
+    posts: Blank,
+    others: Blank,
+) -> Option<bool>
+    requires posts { (posts.name ≡ L1.name) × (posts.parts ≡ L1.parts) × (posts.parts ≡ 32) }
+    requires others { (others.name ≡ L2.name) × (others.parts ≡ L2.parts) × (others.parts ≡ 32) }
+    requires none { L1.loaded ≡ false }
+{
+    let (shared, seats) = Shared::<L1, L2, Global>::empty(alloc, posts, others).ok()?;
+    let (mut hands, inlets) = make::<u64>(alloc, 1, 16, 16).ok()?;
+    let rack = Rack::new(alloc, seats.sessions, inlets).ok()?;
+    let mut workers = seats.workers;
+    let worker = (hands.pop()?, workers.pop()?);
+    let told = thread::map_indices(
+        rt,
+        alloc,
+        RACERS,
+        &|number| load(rt, alloc, &shared, &rack, number),
+    )
+    .ok()?;
+    let Some(number) = winner(&told) else {
+        return Some(false);
+    };
+    let Place { seat, inlet } = rack.take(rt).ok()?;
+    let mut desk = SharedDesk::new(rt, alloc, &shared, seat, inlet);
+    Some(runs_by_rules_of(rt, alloc, &shared, &mut desk, worker, number))
+}
+
+/// The same on a lock of its own.
+fn one_load_stands<R: Threads + Wait + Sync>(rt: &R, alloc: Global) -> Option<bool> {
+    race::<Brand, Brand, R>(rt, alloc, Blank::new(32), Blank::new(32))
+}
+
+#[test]
+fn one_of_sixteen_loads_stands(rt: HostRuntime) {
+    for round in 0..5u64 {
+        assert_eq!(rt;
+            one_load_stands(&rt, rt.alloc()),
+            Some(true),
+            "round {round}"
+        );
+    }
+}

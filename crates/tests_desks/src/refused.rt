@@ -1,0 +1,244 @@
+//! Locks, racks and desks with a request for memory refused.
+//!
+//! The memory is that of the lock, the rack and the desk. That of the pool isn't refused, since it is always of `Global`.
+ghost use Rattle.std.specs.Prelude.{◌≡◌, false};
+
+use chr_crew::gate::{Open, Stop};
+use chr_crew::rack::Rack;
+use chr_crew::work::work;
+use chr_pool::{Hand, make};
+use chr_seats::seat::{PostLedger, Seat};
+use chr_seats::shared::Shared;
+use chr_session::desk::{Command, Desk, Fault, Reply};
+use chr_shared_desk::shared_desk::SharedDesk;
+use refusing::{Refusable, Refusing, refuse_each};
+use std::alloc::Global;
+use std::marker::Brand;
+use std::sync::Wait;
+use std::sync::ledger::{Blank, Ledger};
+
+type Memory<'m> = &'m Refusing<Global>;
+
+/// What is opened over no book.
+#[derive(Clone, Copy, Debug)]
+enum Opens {
+    Lock,
+    Rack,
+}
+
+/// Opens a lock, or a rack over the sessions of one, with request number `n` refused. Whether it is opened. None where memory
+/// ran out before.
+fn is_opened_on<L1: PostLedger, L2: Ledger>(
+    memory: Memory,
+    pool: Global,
+    n: u64,
+    opens: Opens,
+    posts: Blank,
+    others: Blank,
+) -> Option<bool>
+    requires posts { (posts.name ≡ L1.name) × (posts.parts ≡ L1.parts) × (posts.parts ≡ 32) }
+    requires others { (others.name ≡ L2.name) × (others.parts ≡ L2.parts) × (others.parts ≡ 32) }
+    requires none { L1.loaded ≡ false }
+{
+    if matches!(opens, Opens::Lock) {
+        memory.refuse(n);
+        return Some(Shared::<L1, L2, Memory>::empty(memory, posts, others).is_ok());
+    }
+    let (_shared, seats) = Shared::<L1, L2, Memory>::empty(memory, posts, others).ok()?;
+    let (_hands, inlets) = make::<u64>(pool, 1, 16, 0).ok()?;
+    memory.refuse(n);
+    Some(Rack::new(memory, seats.sessions, inlets).is_ok())
+}
+
+/// The same on seats of its own.
+fn is_opened(memory: Memory, pool: Global, n: u64, opens: Opens) -> Option<bool> {
+    is_opened_on::<Brand, Brand>(memory, pool, n, opens, Blank::new(32), Blank::new(32))
+}
+
+#[derive(Drop)]
+struct Opened {
+    opens: Opens,
+    pool: Global,
+}
+
+impl Refusable for Opened {
+    fn is_made_again(&self, memory: &Refusing<Global>, n: u64) -> Option<bool> {
+        let fails = !is_opened(memory, self.pool, n, self.opens)?;
+        let refused = memory.is_refused(fails)?;
+        is_opened(memory, self.pool, 0, self.opens)?.then_some(refused)
+    }
+}
+
+#[test]
+fn locks_and_racks_are_refused(rt: HostRuntime) {
+    for opens in [Opens::Lock, Opens::Rack] {
+        let opened = Opened {
+            opens,
+            pool: rt.alloc(),
+        };
+        let refused = refuse_each(rt.alloc(), &opened);
+        assert!(rt; matches!(refused, Ok(1..)), "{opens:?}: {refused:?}");
+    }
+}
+
+/// A command.
+enum Asks<'t> {
+    Load(&'t [u8]),
+    Post(&'t [u8]),
+    Wait,
+    Store,
+    Log(u32),
+}
+
+/// A desk's reply, but for what no command of the tests is told.
+enum Told<'t> {
+    Loaded(usize),
+    Posted(u64, usize),
+    Quiet,
+    Open,
+    Store(usize, &'t str),
+    Log(usize, &'t str),
+}
+
+/// A command and its reply.
+type Row<'t> = (Asks<'t>, Told<'t>);
+
+/// What a desk is told before a worker works.
+static BEFORE: [Row; 6] = [
+    (Asks::Load(b"a <=> b.\n"), Told::Loaded(1)),
+    (Asks::Wait, Told::Quiet),
+    (Asks::Post(b"c, a."), Told::Posted(1, 2)),
+    (Asks::Wait, Told::Open),
+    (Asks::Store, Told::Store(0, "")),
+    (Asks::Log(1), Told::Log(2, "P 1 c\nP 2 a\n")),
+];
+
+/// What it is told after that.
+static AFTER: [Row; 4] = [
+    (Asks::Wait, Told::Quiet),
+    (Asks::Store, Told::Store(2, "#1 c\n#3 b\n")),
+    (Asks::Log(7), Told::Log(2, "A 3 3\nD 3\n")),
+    (Asks::Post(b""), Told::Posted(4, 0)),
+];
+
+/// The command to a desk.
+fn command<'t>(asks: &Asks<'t>) -> Command<'t> {
+    match asks {
+        Asks::Load(text) => Command::Load(text),
+        Asks::Post(text) => Command::Post(text),
+        Asks::Wait => Command::Wait(0),
+        Asks::Store => Command::Store,
+        Asks::Log(first) => Command::Log(*first),
+    }
+}
+
+/// Whether a desk replied this.
+fn is_told(reply: &Reply<Memory>, told: &Told) -> bool {
+    match (reply, told) {
+        (Reply::Loaded(count), Told::Loaded(wanted)) => count == wanted,
+        (Reply::Posted(first, count), Told::Posted(ticket, wanted)) => {
+            first == ticket && count == wanted
+        }
+        (Reply::Quiet, Told::Quiet) | (Reply::Open, Told::Open) => true,
+        (Reply::Store(count, lines), Told::Store(wanted, text))
+        | (Reply::Log(count, lines), Told::Log(wanted, text)) => {
+            count == wanted && lines.as_slice() == text.as_bytes()
+        }
+        _ => false,
+    }
+}
+
+/// Asks a desk with request number `n` of the command refused, and again where it was. Whether it was. None where the reply
+/// isn't E01 exactly then, or isn't the expected one else.
+fn is_refused<'m, D: Desk<Memory<'m>>>(
+    desk: &mut D,
+    memory: Memory<'m>,
+    n: u64,
+    row: &Row,
+) -> Option<bool> {
+    memory.refuse(n);
+    let mut reply = desk.ask(command(&row.0));
+    let refused = memory.is_refused(matches!(reply, Reply::Fault(Fault::NoMemory)))?;
+    if refused {
+        reply = desk.ask(command(&row.0));
+    }
+    is_told(&reply, &row.1).then_some(refused)
+}
+
+/// The same of all commands of some rows. How many were refused.
+fn refusals<'m, D: Desk<Memory<'m>>>(
+    desk: &mut D,
+    memory: Memory<'m>,
+    n: u64,
+    rows: &[Row],
+) -> Option<u64> {
+    let mut all = 0u64;
+    for row in rows {
+        all = all.wrapping_add(u64::from(is_refused(desk, memory, n, row)?));
+    }
+    Some(all)
+}
+
+/// The same of all rows, with a worker between them.
+fn play_on<'m, D: Desk<Memory<'m>>, L1: PostLedger, L2: Ledger, R: Wait>(
+    rt: &R,
+    shared: &Shared<L1, L2, Memory<'m>>,
+    worker: (Hand<u64>, Seat<L1, L2>),
+    desk: &mut D,
+    memory: Memory<'m>,
+    n: u64,
+) -> Option<u64> {
+    let before = refusals(desk, memory, n, &BEFORE)?;
+    let (mut hand, mut seat) = worker;
+    work(rt, shared, &mut hand, &mut seat, &Open, Stop::Turns(1000));
+    let after = refusals(desk, memory, n, &AFTER)?;
+    Some(before.wrapping_add(after))
+}
+
+/// The same by a desk of a new lock.
+fn play_over<L1: PostLedger, L2: Ledger, R: Wait>(
+    rt: &R,
+    memory: Memory,
+    pool: Global,
+    n: u64,
+    posts: Blank,
+    others: Blank,
+) -> Option<u64>
+    requires posts { (posts.name ≡ L1.name) × (posts.parts ≡ L1.parts) × (posts.parts ≡ 32) }
+    requires others { (others.name ≡ L2.name) × (others.parts ≡ L2.parts) × (others.parts ≡ 32) }
+    requires none { L1.loaded ≡ false }
+{
+    let (shared, seats) = Shared::<L1, L2, Memory>::empty(memory, posts, others).ok()?;
+    let (mut hands, mut inlets) = make::<u64>(pool, 1, 1, 16).ok()?;
+    let (mut workers, mut sessions) = (seats.workers, seats.sessions);
+    let worker = (hands.pop()?, workers.pop()?);
+    let (seat, inlet) = (sessions.pop()?, inlets.pop()?);
+    let mut desk = SharedDesk::new(rt, memory, &shared, seat, inlet);
+    play_on(rt, &shared, worker, &mut desk, memory, n)
+}
+
+/// The same on seats of its own.
+fn play<R: Wait>(rt: &R, memory: Memory, pool: Global, n: u64) -> Option<u64> {
+    play_over::<Brand, Brand, R>(rt, memory, pool, n, Blank::new(32), Blank::new(32))
+}
+
+/// Plays with the first request of each command refused, then with the second, and so on. The first of these numbers with
+/// which none was refused or a reply wasn't as expected, and what was played then.
+fn last_play<R: Wait>(rt: &R, pool: Global) -> (u64, Option<u64>) {
+    for n in 1..200u64 {
+        let memory = Refusing::new(pool, 0);
+        let played = play(rt, &memory, pool, n);
+        match played {
+            Some(refusals) if 0 < refusals => (),
+            _ => return (n, played),
+        }
+    }
+    (200, None)
+}
+
+#[test]
+fn each_request_of_a_desk_is_refused(rt: HostRuntime) {
+    let (n, played) = last_play(&rt, rt.alloc());
+    assert_eq!(rt; played, Some(0), "request {n}");
+    assert!(rt; 1 < n);
+}

@@ -1,0 +1,177 @@
+//! Two sessions on one book, without workers.
+ghost use Rattle.std.specs.Prelude.{◌≡◌, false};
+
+use chr_pool::{Hand, Inlet, make};
+use chr_seats::seat::{PostLedger, Seat};
+use chr_seats::shared::Shared;
+use chr_session::commands::Ended;
+use chr_session::desk::Desk;
+use chr_session::memory::{MemorySink, MemorySource};
+use chr_session::session::serve;
+use chr_shared_desk::shared_desk::SharedDesk;
+use std::alloc::Global;
+use std::marker::Brand;
+use std::sync::Wait;
+use std::sync::ledger::{Blank, Ledger};
+use std::test::*;
+
+/// What the first session is told, or the second, and what it replies.
+#[derive(Clone, Copy, Debug)]
+enum Line<'t> {
+    First(&'t [u8], &'t [u8]),
+    Second(&'t [u8], &'t [u8]),
+}
+
+/// Lines in order, and the tickets that the pool has in the end.
+#[derive(Clone, Copy, Debug)]
+struct Talk<'t> {
+    pub name: &'t str,
+    pub lines: &'t [Line<'t>],
+    pub tickets: &'t [u64],
+}
+
+/// Posts of one session, as both find them.
+const POSTS: Talk = Talk {
+    name: "posts",
+    lines: &[
+        Line::First(
+            b"load 75\ngcd(0) <=> true.\ngcd(N) \\ gcd(M) <=> 0 < N, N =< M | L is M mod N, gcd(L).\n",
+            b"loaded 2\n",
+        ),
+        Line::Second(b"wait 3\n", b"quiet\n"),
+        Line::First(
+            b"post gcd(9), gcd(6).\nlog 1\n",
+            b"posted 1 2\nlog 2\nP 1 gcd(9)\nP 2 gcd(6)\n",
+        ),
+        Line::Second(b"log 2\n", b"log 1\nP 2 gcd(6)\n"),
+        Line::Second(b"wait 0\n", b"open\n"),
+        Line::First(b"wait 3\n", b"open\n"),
+        Line::Second(b"post gcd(4).\n", b"posted 3 1\n"),
+        Line::Second(b"post\n", b"posted 4 0\n"),
+        Line::First(b"post gcd(X).\n", b"fault E08 Binding 1\n"),
+        Line::First(b"log 3\n", b"log 1\nP 3 gcd(4)\n"),
+        Line::First(b"log 4\n", b"log 0\n"),
+        Line::Second(b"store\n", b"store 0\n"),
+    ],
+    tickets: &[1, 2, 3],
+};
+
+/// A load where no program stands, where one can't be read, and where one stands.
+const LOADS: Talk = Talk {
+    name: "loads",
+    lines: &[
+        Line::First(b"post a.\n", b"fault E24 NoProgram\n"),
+        Line::First(b"wait 3\n", b"fault E24 NoProgram\n"),
+        Line::First(b"store\n", b"fault E24 NoProgram\n"),
+        Line::First(b"log 1\n", b"fault E24 NoProgram\n"),
+        Line::First(b"load 9\na ==> b.\n", b"fault E05 Propagation 1\n"),
+        Line::Second(b"wait 0\n", b"fault E24 NoProgram\n"),
+        Line::Second(b"load 9\na <=> b.\n", b"loaded 1\n"),
+        Line::First(b"load 9\na <=> b.\n", b"fault E20 AlreadyLoaded\n"),
+        Line::Second(b"load 9\na ==> b.\n", b"fault E20 AlreadyLoaded\n"),
+        Line::First(b"wait 0\n", b"quiet\n"),
+        Line::First(b"post a.\nlog 1\n", b"posted 1 1\nlog 1\nP 1 a\n"),
+    ],
+    tickets: &[1],
+};
+
+/// Whether a desk that is told this replies so.
+fn replies<D: Desk<Global>>(alloc: Global, desk: &mut D, told: &[u8], reply: &[u8]) -> bool {
+    let mut source = MemorySource::new(told, 7);
+    let mut sink = MemorySink::new(alloc, 5);
+    let ended = serve(alloc, &mut source, &mut sink, desk);
+    matches!(ended, Ok(Ended::End)) && sink.bytes.as_slice() == reply
+}
+
+/// The first line whose reply is another.
+fn wrong_reply<D: Desk<Global>>(
+    alloc: Global,
+    first: &mut D,
+    second: &mut D,
+    lines: &[Line<'_>],
+) -> Option<usize> {
+    for at in 0..lines.len() {
+        let right = match lines[at] {
+            Line::First(told, reply) => replies(alloc, first, told, reply),
+            Line::Second(told, reply) => replies(alloc, second, told, reply),
+        };
+        if !right {
+            return Some(at);
+        }
+    }
+    None
+}
+
+/// The same of desks with these seats and inlets.
+fn first_wrong<L1: PostLedger, L2: Ledger, R: Wait>(
+    rt: &R,
+    alloc: Global,
+    shared: &Shared<L1, L2, Global>,
+    seats: (Seat<L1, L2>, Seat<L1, L2>),
+    inlets: (Inlet<u64>, Inlet<u64>),
+    lines: &[Line<'_>],
+) -> Option<usize> {
+    let mut first = SharedDesk::new(rt, alloc, shared, seats.0, inlets.0);
+    let mut second = SharedDesk::new(rt, alloc, shared, seats.1, inlets.1);
+    wrong_reply(alloc, &mut first, &mut second, lines)
+}
+
+/// Whether the pool has these tickets, and no other.
+fn has_tickets<R: Wait>(rt: &R, hand: &mut Hand<u64>, tickets: &[u64]) -> bool {
+    for ticket in tickets {
+        if hand.take(rt) != Some(*ticket) {
+            return false;
+        }
+    }
+    hand.take(rt).is_none()
+}
+
+/// The number of the first line whose reply is another, or how many there are where the tickets are others. An `Err` where
+/// memory ran out.
+fn first_fault<L1: PostLedger, L2: Ledger, R: Wait>(
+    rt: &R,
+    alloc: Global,
+    talk: &Talk<'_>,
+    posts: Blank,
+    others: Blank,
+) -> Result<Option<usize>, ()>
+    requires posts { (posts.name ≡ L1.name) × (posts.parts ≡ L1.parts) × (posts.parts ≡ 32) }
+    requires others { (others.name ≡ L2.name) × (others.parts ≡ L2.parts) × (others.parts ≡ 32) }
+    requires none { L1.loaded ≡ false }
+{
+    let (Ok((shared, seats)), Ok((mut hands, mut inlets))) = (
+        Shared::<L1, L2, Global>::empty(alloc, posts, others),
+        make::<u64>(alloc, 1, 2, 16),
+    ) else {
+        return Err(());
+    };
+    let mut sessions = seats.sessions;
+    let (Some(hand), Some(seat), Some(inlet), Some(other_seat), Some(other_inlet)) = (
+        hands.first_mut(),
+        sessions.pop(),
+        inlets.pop(),
+        sessions.pop(),
+        inlets.pop(),
+    ) else {
+        return Err(());
+    };
+    let seats = (seat, other_seat);
+    let inlets = (inlet, other_inlet);
+    let wrong = first_wrong(rt, alloc, &shared, seats, inlets, talk.lines);
+    if wrong.is_none() && !has_tickets(rt, hand, talk.tickets) {
+        return Ok(Some(talk.lines.len()));
+    }
+    Ok(wrong)
+}
+
+/// The same on a lock of its own.
+fn fault_of<R: Wait>(rt: &R, alloc: Global, talk: &Talk<'_>) -> Result<Option<usize>, ()> {
+    first_fault::<Brand, Brand, R>(rt, alloc, talk, Blank::new(32), Blank::new(32))
+}
+
+#[test]
+fn replies_are_those_of_the_tables(rt: HostRuntime) {
+    for talk in [POSTS, LOADS] {
+        assert_eq!(rt; fault_of(&rt, rt.alloc(), &talk), Ok(None), "{}", talk.name);
+    }
+}
