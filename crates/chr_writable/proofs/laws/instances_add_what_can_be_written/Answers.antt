@@ -1,5 +1,0 @@
-use Rattle.chr_writable.proofs.Instances.{added_writable}
-use Rattle.chr_writable.proofs.laws.instances_add_what_can_be_written.Goals as goal
-
-pub returns : goal.returns
-returns c = added_writable

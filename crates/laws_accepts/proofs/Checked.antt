@@ -1,0 +1,155 @@
+-- What the check of the texts of a run answers.
+use Rattle.std.proofs.Common.{◌≡◌, ℕ, ◌≤◌, List, [], ◌∷◌, length, map, Result, Ok, Err, refl, sym, ap, ap₂, subst, ◌∙◌, arith}
+use Rattle.std.specs.List.{AllByRecursion}
+use Rattle.chr_lex.specs.declared.fault.ReadFault.{ReadFault}
+use Rattle.chr_value.specs.Atoms.{Atom}
+use Rattle.chr_value.specs.Naming.{Table}
+use Rattle.chr_rule.specs.Rules.{Simpagation}
+use Rattle.chr_rule.specs.Scope.{IsRule}
+use Rattle.chr_log.specs.Events.{Event, LabelledAtom, labelled_atom, labelled_atoms, event_by_texts, labelled_by_texts}
+use Rattle.chr_log.specs.LogText.{log_text, store_text}
+use Rattle.chr_log.specs.declared.events.Version.{Version}
+use Rattle.chr_log.specs.declared.events.Version.TheVariants.{One, Two}
+use Rattle.chr_log_text.specs.Writable.{most_bytes}
+use Rattle.chr_log_text.specs.Texts.{IsLogText, IsStoreText}
+use Rattle.chr_log_text.proofs.Whole.{log_once, store_once}
+use Rattle.chr_model.specs.Logs.{Lawful, posted_by, strict}
+use Rattle.chr_model.specs.Programs.{Instances}
+use Rattle.chr_model.specs.Stores.{Store}
+use Rattle.chr_text.specs.Reading.{Program, program_of}
+use Rattle.chr_calls.specs.Books.{BookState, goal_state, events}
+use Rattle.chr_calls.proofs.Tickets.{posted_strict}
+use Rattle.chr_solo.specs.declared.solo.End.{End}
+use Rattle.chr_solo.specs.declared.solo.End.TheVariants.{Quiet}
+use Rattle.chr_check.specs.declared.checking.Verdict.{Verdict}
+use Rattle.chr_check.specs.declared.checking.Verdict.TheVariants.{RunAndFinal}
+use Rattle.chr_check.specs.declared.fault.CheckFault.{CheckFault}
+use Rattle.chr_run_text.specs.Output.{shown}
+use Rattle.chr_run_text.specs.declared.output.Show.TheVariants as show
+use Rattle.chr_check_text.specs.Output.{answer_line}
+use Rattle.chr_check_text.specs.CheckTexts.{IsAnswer, IsCheckText}
+use Rattle.chr_check_text.specs.declared.checked.Checked.{Checked}
+use Rattle.chr_check_text.specs.declared.checked.CheckTextFault.{CheckTextFault}
+use Rattle.chr_check_text.specs.declared.checked.CheckTextFault.TheVariants as faults
+use Rattle.laws_writable.proofs.Rules.{program_held, rules_whole}
+use Rattle.laws_accepts.specs.Accepted.{IsTextRun, verdict_of, IsAnswered}
+use Rattle.laws_accepts.proofs.Kept.{run_kept}
+use Rattle.laws_accepts.proofs.ReadBack.{log_read, store_read, log_no_fault, store_no_fault}
+use Rattle.laws_accepts.proofs.Runs.{lawful_is, strict_is, whole_answer, strict_answer}
+
+-- ---- the check of texts that are read
+
+same_entry : (x y : ℕ × Atom ℕ) → labelled_atom x ≡ labelled_atom y → x ≡ y
+same_entry x y e = ap (λ (z : LabelledAtom ℕ). (z.label, z.atom)) e
+
+same_entries : (xs ys : Store) → labelled_atoms xs ≡ labelled_atoms ys → xs ≡ ys
+same_entries [] [] e = refl
+same_entries [] (y ∷ ys) e = absurd cc
+same_entries (x ∷ xs) [] e = absurd cc
+same_entries (x ∷ xs) (y ∷ ys) e =
+    let one : labelled_atom x ≡ labelled_atom y = cc in
+    let rest : labelled_atoms xs ≡ labelled_atoms ys = cc in
+    ap₂ (λ (z : ℕ × Atom ℕ) (zs : Store). z ∷ zs) (same_entry x y one) (same_entries xs ys rest)
+
+pub same_ok : {A : Type 0} (p q : A) (r : Result A ReadFault) → r ≡ Ok p → r ≡ Ok q → p ≡ q
+same_ok {A} p q r e f = let both : (let o : Result A ReadFault = Ok p in o) ≡ Ok q = sym e ∙ f in cc
+
+pub texts_answered : {Z : Type 0} (program log store : List ℕ) (rules : List (Simpagation ℕ)) (table names : Table) (v : Version) (es : List (Event ℕ)) (st : Store) (verdict : Verdict) (result : Result (Checked Z) CheckTextFault)
+    → program_of [] program ≡ Ok (rules, table) → IsLogText table log v es names → IsStoreText names store (labelled_atoms st) names
+    → ((answer : Result Verdict CheckFault) → IsAnswer v (Instances rules) es st answer → answer ≡ Ok verdict)
+    → IsCheckText program log store result → IsAnswered verdict result
+texts_answered program log store rules table names v es st verdict (Ok made) p l s answers is =
+    let same = same_ok {A = Program} (is.read.rules, is.read.table) (rules, table) (program_of [] program) is.read.reads p in
+    let rules_same : is.read.rules ≡ rules = ap (λ (q : Program). q.0) same in
+    let table_same : is.read.table ≡ table = ap (λ (q : Program). q.1) same in
+    let logged = subst (λ (t : Table). IsLogText t log is.logged.version is.logged.events is.logged.names) table_same is.logged.reads in
+    let one = log_once table log is.logged.version v is.logged.events es is.logged.names names logged l in
+    let stored = subst (λ (t : Table). IsStoreText t store (labelled_atoms is.stored.entries) is.stored.names) one.2 is.stored.reads in
+    let two = store_once names store (labelled_atoms is.stored.entries) (labelled_atoms st) is.stored.names names stored s in
+    let entries : is.stored.entries ≡ st = same_entries is.stored.entries st two.0 in
+    let a = subst (λ (x : Version). IsAnswer x (Instances is.read.rules) is.logged.events is.stored.entries made.answer) one.0 is.told.answer in
+    let b = subst (λ (x : List (Simpagation ℕ)). IsAnswer v (Instances x) is.logged.events is.stored.entries made.answer) rules_same a in
+    let c = subst (λ (x : List (Event ℕ)). IsAnswer v (Instances rules) x is.stored.entries made.answer) one.1 b in
+    let d = subst (λ (x : Store). IsAnswer v (Instances rules) es x made.answer) entries c in
+    let answer = answers made.answer d in
+    (answer, is.told.line ∙ ap answer_line answer)
+texts_answered program log store rules table names v es st verdict (Err (faults.Program fault)) p l s answers is = (let clash : (let o : Result Program ReadFault = Err fault in o) ≡ Ok (rules, table) = sym is ∙ p in absurd cc)
+texts_answered program log store rules table names v es st verdict (Err (faults.Log fault)) p l s answers (not, read, has) =
+    let same = same_ok {A = Program} (read.rules, read.table) (rules, table) (program_of [] program) read.reads p in
+    let table_same : table ≡ read.table = sym (ap (λ (q : Program). q.1) same) in
+    absurd (not (log_no_fault read.table log v es names fault (subst (λ (t : Table). IsLogText t log v es names) table_same l) has))
+texts_answered program log store rules table names v es st verdict (Err (faults.Store fault)) p l s answers (not, read, logged, has) =
+    let same = same_ok {A = Program} (read.rules, read.table) (rules, table) (program_of [] program) read.reads p in
+    let table_same : read.table ≡ table = ap (λ (q : Program). q.1) same in
+    let other = subst (λ (t : Table). IsLogText t log logged.version logged.events logged.names) table_same logged.reads in
+    let one = log_once table log logged.version v logged.events es logged.names names other l in
+    absurd (not (store_no_fault logged.names store (labelled_atoms st) names fault (subst (λ (t : Table). IsStoreText t store (labelled_atoms st) names) (sym one.2) s) has))
+texts_answered program log store rules table names v es st verdict (Err faults.Memory) p l s answers is = refl
+
+-- ---- the texts of a run
+
+run_rules : (program posts : List ℕ) (steps limit : ℕ) (end : End) (b : BookState) (run : IsTextRun program posts steps limit end b) → AllByRecursion IsRule run.read.rules
+run_rules program posts steps limit end b run = rules_whole run.read.table run.read.rules (program_held [] program (run.read.rules, run.read.table) run.read.reads).0
+
+run_lawful : (program posts : List ℕ) (steps limit : ℕ) (end : End) (b : BookState) (run : IsTextRun program posts steps limit end b) → Lawful Two (Instances run.read.rules) (events b) (goal_state b)
+run_lawful program posts steps limit end b run = lawful_is run.read.rules run.posted.atoms run.posted.names steps limit b run.run
+
+-- the texts by the names of the posts
+abbrev log_of : Version → Table → List (Event ℕ) → List ℕ
+log_of w names es = log_text w (map (event_by_texts names) es)
+
+abbrev store_of : Table → Store → List ℕ
+store_of names st = store_text (map (labelled_by_texts names) (labelled_atoms st))
+
+run_log : (program posts : List ℕ) (steps limit : ℕ) (end : End) (b : BookState) (v w : Version) (es : List (Event ℕ)) → limit ≤ 4294967295 → (run : IsTextRun program posts steps limit end b) → posted_by es ≡ run.posted.atoms → Lawful v (Instances run.read.rules) es (goal_state b)
+    → length (log_of w b.names es) ≤ most_bytes → IsLogText run.read.table (log_of w b.names es) w es b.names
+run_log program posts steps limit end b v w es le run is lawful short =
+    let kept = run_kept run.read.rules run.posted.atoms run.posted.names steps limit b run.run in
+    let next = kept.1 in
+    let room : b.next ≤ 4294967296 = omega (arith, next, le) in
+    let brief = subst (λ (t : Table). length (log_of w t es) ≤ most_bytes) kept.0 short in
+    subst (λ (t : Table). IsLogText run.read.table (log_of w t es) w es t) (sym kept.0)
+    (log_read program posts run.read.rules run.read.table run.posted.names run.posted.atoms v w es (goal_state b) run.read.reads run.posted.reads is lawful room brief)
+
+run_store : (program posts : List ℕ) (steps limit : ℕ) (end : End) (b : BookState) → limit ≤ 4294967295 → (run : IsTextRun program posts steps limit end b) → length (store_of b.names b.store) ≤ most_bytes → IsStoreText b.names (store_of b.names b.store) (labelled_atoms b.store) b.names
+run_store program posts steps limit end b le run short =
+    let kept = run_kept run.read.rules run.posted.atoms run.posted.names steps limit b run.run in
+    let next = kept.1 in
+    let room : b.next ≤ 4294967296 = omega (arith, next, le) in
+    let brief = subst (λ (t : Table). length (store_of t b.store) ≤ most_bytes) kept.0 short in
+    let lawful = run_lawful program posts steps limit end b run in
+    subst (λ (t : Table). IsStoreText t (store_of t b.store) (labelled_atoms b.store) t) (sym kept.0)
+    (store_read program posts run.read.rules run.read.table run.posted.names run.posted.atoms Two (events b) (goal_state b) run.read.reads run.posted.reads run.run.headline.posts_are lawful room brief)
+
+pub run_log_read : (program posts : List ℕ) (steps limit : ℕ) (end : End) (b : BookState) → limit ≤ 4294967295 → (run : IsTextRun program posts steps limit end b) → length (shown show.Log end b) ≤ most_bytes → IsLogText run.read.table (shown show.Log end b) Two (events b) b.names
+run_log_read program posts steps limit end b le run short =
+    run_log program posts steps limit end b Two Two (events b) le run run.run.headline.posts_are (run_lawful program posts steps limit end b run) short
+
+pub run_store_read : (program posts : List ℕ) (steps limit : ℕ) (end : End) (b : BookState) → limit ≤ 4294967295 → (run : IsTextRun program posts steps limit end b) → length (shown show.Store end b) ≤ most_bytes → IsStoreText b.names (shown show.Store end b) (labelled_atoms b.store) b.names
+run_store_read program posts steps limit end b le run short = run_store program posts steps limit end b le run short
+
+pub strict_log_read : (program posts : List ℕ) (steps limit : ℕ) (b : BookState) → limit ≤ 4294967295 → (run : IsTextRun program posts steps limit Quiet b) → length (shown show.Strict Quiet b) ≤ most_bytes → IsLogText run.read.table (shown show.Strict Quiet b) One (strict (events b)) b.names
+strict_log_read program posts steps limit b le run short =
+    run_log program posts steps limit Quiet b One One (strict (events b)) le run (posted_strict (events b) ∙ run.run.headline.posts_are)
+    (strict_is run.read.rules b (run_lawful program posts steps limit Quiet b run) (run.quiet.0 refl)) short
+
+pub run_answer : (program posts : List ℕ) (steps limit : ℕ) (end : End) (b : BookState) (answer : Result Verdict CheckFault) → (run : IsTextRun program posts steps limit end b) → IsAnswer Two (Instances run.read.rules) (events b) b.store answer → answer ≡ Ok (verdict_of end)
+run_answer program posts steps limit end b answer run is =
+    whole_answer run.read.rules b end answer (run_rules program posts steps limit end b run) (run_lawful program posts steps limit end b run) run.quiet is
+
+pub strict_run_answer : (program posts : List ℕ) (steps limit : ℕ) (b : BookState) (answer : Result Verdict CheckFault) → (run : IsTextRun program posts steps limit Quiet b) → IsAnswer One (Instances run.read.rules) (strict (events b)) b.store answer → answer ≡ Ok RunAndFinal
+strict_run_answer program posts steps limit b answer run is = strict_answer run.read.rules b answer (run_lawful program posts steps limit Quiet b run) (run.quiet.0 refl) is
+
+pub run_accepted : {Z : Type 0} (program posts : List ℕ) (steps limit : ℕ) (end : End) (b : BookState) (result : Result (Checked Z) CheckTextFault) → limit ≤ 4294967295 → IsTextRun program posts steps limit end b
+    → length (shown show.Log end b) ≤ most_bytes → length (shown show.Store end b) ≤ most_bytes → IsCheckText program (shown show.Log end b) (shown show.Store end b) result → IsAnswered (verdict_of end) result
+run_accepted program posts steps limit end b result le run log_short store_short is =
+    texts_answered program (shown show.Log end b) (shown show.Store end b) run.read.rules run.read.table b.names Two (events b) b.store (verdict_of end) result run.read.reads
+    (run_log_read program posts steps limit end b le run log_short) (run_store_read program posts steps limit end b le run store_short)
+    (λ answer. run_answer program posts steps limit end b answer run) is
+
+pub strict_accepted : {Z : Type 0} (program posts : List ℕ) (steps limit : ℕ) (b : BookState) (result : Result (Checked Z) CheckTextFault) → limit ≤ 4294967295 → IsTextRun program posts steps limit Quiet b
+    → length (shown show.Strict Quiet b) ≤ most_bytes → length (shown show.Store Quiet b) ≤ most_bytes → IsCheckText program (shown show.Strict Quiet b) (shown show.Store Quiet b) result → IsAnswered RunAndFinal result
+strict_accepted program posts steps limit b result le run log_short store_short is =
+    texts_answered program (shown show.Strict Quiet b) (shown show.Store Quiet b) run.read.rules run.read.table b.names One (strict (events b)) b.store RunAndFinal result run.read.reads
+    (strict_log_read program posts steps limit b le run log_short) (run_store_read program posts steps limit Quiet b le run store_short)
+    (λ answer. strict_run_answer program posts steps limit b answer run) is

@@ -1,0 +1,5 @@
+use Rattle.laws_writable.proofs.Instances.{added_writable}
+use Rattle.laws_writable.proofs.laws.instances_add_what_can_be_written.Goals as goal
+
+pub returns : goal.returns
+returns c = added_writable
