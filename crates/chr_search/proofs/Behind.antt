@@ -1,11 +1,12 @@
 -- The trial behind another, which differs in the last label.
-use Rattle.std.proofs.Common.{◌≡◌, ◌≢◌, ◌↔◌, Decides, ℕ, ◌+◌, ◌≤◌, Bool, true, false, IsTrue, List, [], ◌∷◌, ◌++◌, length, Some, refl, sym, ◌∙◌, ap, ap₂, subst, arith, ⊎_elim, length-append}
+use Rattle.std.proofs.Common.{◌≡◌, ◌≢◌, ◌↔◌, Decides, ℕ, ◌+◌, ◌≤◌, Bool, true, false, IsTrue, List, [], ◌∷◌, ◌++◌, length, refl, sym, ◌∙◌, ap, ap₂, subst, arith, ⊎_elim, length-append}
 use Rattle.std.proofs.lemmas.Bool.Decides.{nat_tests}
-use Rattle.chr_rule.specs.Rules.{Simpagation, rule_at}
 use Rattle.chr_search.specs.Positions.{at_or_after, begins, past, front}
 use Rattle.chr_search.specs.Tree.{Children, Grows, Least, NoneBeyond}
-use Rattle.chr_search.specs.Trials.{Space, Child, IsTrial, IsNext}
-use Rattle.chr_search.proofs.Descents.{at_first_rule, found_at_rule}
+use Rattle.chr_search.specs.Trials.{Join, MayFollow, Space, Child, IsTrial, IsNext}
+use Rattle.chr_search.specs.PlanByPlan.{IsJoinOf, IsUnplanned}
+use Rattle.chr_search.proofs.Descents.{grows_in}
+use Rattle.chr_search.proofs.PlanByPlan.{itself, next_in_plan}
 use Rattle.chr_search.proofs.Positions.{after_under, after_cases, past_last}
 
 pub front_last : (xs : List ℕ) (x : ℕ) → front (xs ++ x ∷ []) ≡ xs
@@ -80,29 +81,52 @@ none_behind s p u deep n away t i there b =
     let end : r.1 ≡ [] = no_longer f r.0 r.1 (subst (λ q. at_or_after q short ≡ true) r.2 least) in
     away (ap front (r.2 ∙ ap (λ zs. f ++ r.0 ∷ zs) end) ∙ front_last f r.0)
 
--- only the trial's own rule is looked through
-pub none_in_rule : (s : Space) (p : List ℕ) (r h : ℕ) (ls : List ℕ) → 2 ≤ length p → r ∷ h ∷ ls ≡ past p → NoneBeyond (Child s) 3 (r ∷ []) (h ∷ ls) → (t : List ℕ) → IsTrial s t → at_or_after (past p) t ≡ true → begins (front p) t ≡ true → ⊥
-none_in_rule s [] r h ls deep e none t i there b = absurd (omega arith)
-none_in_rule s (q ∷ []) r h ls deep e none t i there b = absurd (omega arith)
-none_in_rule s (q ∷ k ∷ ks) r h ls deep e none [] i there b = absurd (cc)
-none_in_rule s (q ∷ k ∷ ks) r h ls deep e none (a ∷ more) i there b =
-    let same : r ≡ q = (let z : r ∷ h ∷ ls ≡ q ∷ past (k ∷ ks) = e in cc) in
-    let first : q ≡ a = grind (arith, nat_tests) in
-    let on : at_or_after (r ∷ h ∷ ls) (a ∷ more) ≡ true = subst (λ z. at_or_after z (a ∷ more) ≡ true) (sym e) there in
-    none more (record {
-      grows = subst (λ z. Grows (Child s) (z ∷ []) more) (sym (same ∙ first)) i.grows.1;
-      deep = i.deep;
-      there = ⊎_elim (λ l. absurd (omega arith)) (λ l. l.1) (after_cases r a (h ∷ ls) more on);
+-- and it is of the same rule and head
+alike : (x y : ℕ) (xs ys : List ℕ) → begins (x ∷ xs) (y ∷ ys) ≡ true → (x ≡ y) × (begins xs ys ≡ true)
+alike x y xs ys b =
+    let same : x ≡ y = grind (arith, nat_tests) in
+    let rest : begins xs ys ≡ true = grind (arith, nat_tests) in
+    (same, rest)
+
+under_head : (p : List ℕ) (r h : ℕ) (ls t : List ℕ) → 3 ≤ length p → r ∷ h ∷ ls ≡ past p → at_or_after (past p) t ≡ true → begins (front p) t ≡ true → (more : List ℕ) × (t ≡ r ∷ h ∷ more) × (at_or_after ls more ≡ true)
+under_head [] r h ls t deep e there b = absurd (omega arith)
+under_head (q ∷ []) r h ls t deep e there b = absurd (omega arith)
+under_head (q ∷ k ∷ []) r h ls t deep e there b = absurd (omega arith)
+under_head (q ∷ k ∷ x ∷ ks) r h ls [] deep e there b = absurd (cc)
+under_head (q ∷ k ∷ x ∷ ks) r h ls (a ∷ []) deep e there b = absurd (let z : false ≡ true = (alike q a (k ∷ front (x ∷ ks)) [] b).1 in cc)
+under_head (q ∷ k ∷ x ∷ ks) r h ls (a ∷ c ∷ more) deep e there b =
+    let first = alike q a (k ∷ front (x ∷ ks)) (c ∷ more) b in
+    let second = alike k c (front (x ∷ ks)) more first.1 in
+    let view : r ∷ h ∷ ls ≡ q ∷ k ∷ past (x ∷ ks) = e in
+    let rule : r ≡ a = (let z : r ≡ q = cc in z ∙ first.0) in
+    let head : h ≡ c = (let z : h ≡ k = cc in z ∙ second.0) in
+    let on : at_or_after (r ∷ h ∷ ls) (a ∷ c ∷ more) ≡ true = subst (λ z. at_or_after z (a ∷ c ∷ more) ≡ true) (sym e) there in
+    let below : at_or_after (h ∷ ls) (c ∷ more) ≡ true = ⊎_elim (λ l. absurd (omega arith)) (λ l. l.1) (after_cases r a (h ∷ ls) (c ∷ more) on) in
+    let last : at_or_after ls more ≡ true = ⊎_elim (λ l. absurd (omega arith)) (λ l. l.1) (after_cases h c ls more below) in
+    (more, ap₂ (λ y z. y ∷ z ∷ more) (sym rule) (sym head), last)
+
+-- so no other plan is looked through
+pub none_unplanned : (s : Space) (p : List ℕ) (r h : ℕ) (ls : List ℕ) → IsUnplanned s r h → 3 ≤ length p → r ∷ h ∷ ls ≡ past p → (t : List ℕ) → IsTrial s t → at_or_after (past p) t ≡ true → begins (front p) t ≡ true → ⊥
+none_unplanned s p r h ls none deep e t i there b =
+    let u = under_head p r h ls t deep e there b in
+    let g : Grows (Child s) [] (r ∷ h ∷ u.0) = subst (Grows (Child s) []) u.1 i.grows in
+    none g.1.0.0 g.1.0.1 g.1.0.2
+
+pub none_in_plan : (s : Space) (p : List ℕ) (r h : ℕ) (ls : List ℕ) (j : Join) → IsJoinOf s r h j → NoneBeyond (MayFollow j) 1 [] ls → 3 ≤ length p → r ∷ h ∷ ls ≡ past p → (t : List ℕ) → IsTrial s t → at_or_after (past p) t ≡ true → begins (front p) t ≡ true → ⊥
+none_in_plan s p r h ls j k none deep e t i there b =
+    let u = under_head p r h ls t deep e there b in
+    let g : Grows (Child s) [] (r ∷ h ∷ u.0) = subst (Grows (Child s) []) u.1 i.grows in
+    let long : 3 ≤ length (r ∷ h ∷ u.0) = subst (λ (z : List ℕ). 3 ≤ length z) u.1 i.deep in
+    none u.0 (record {
+      grows = subst (λ (x : Join). Grows (MayFollow x) [] u.0) (sym k.is) (grows_in s r h j.rule j.order k.planned [] u.0 g.1.1);
+      deep = omega arith;
+      there = u.2;
     })
 
-next_rule : (s : Space) (r : ℕ) (more : List ℕ) → 3 ≤ length (r ∷ more) → Grows (Child s) (r ∷ []) more → (rule : Simpagation ℕ) × (rule_at s.rules r ≡ Some rule)
-next_rule s r [] deep g = absurd (omega arith)
-next_rule s r (h ∷ more) deep g = (g.0.0, g.0.2.rule_is)
-
-pub next_in_rule : (s : Space) (p u : List ℕ) (r h : ℕ) (ls : List ℕ) → r ∷ h ∷ ls ≡ p → Least (Child s) 3 (r ∷ []) (h ∷ ls) u → IsNext s p u
-next_in_rule s p u r h ls e l =
-    let found = next_rule s r l.more l.beyond.deep l.beyond.grows in
-    subst (λ q. IsNext s q u) e (found_at_rule s (r ∷ h ∷ ls) r h ls found.0 (at_first_rule s r h ls) found.1 u l)
+pub next_in_join : (s : Space) (p : List ℕ) (r h : ℕ) (ls : List ℕ) (j : Join) → IsJoinOf s r h j → r ∷ h ∷ ls ≡ p → (found : List ℕ) → Least (MayFollow j) 1 [] ls found → IsNext s p (r ∷ h ∷ found)
+next_in_join s p r h ls j k e found l =
+    subst (λ q. IsNext s q (r ∷ h ∷ found)) e
+    (next_in_plan s (r ∷ h ∷ ls) r h ls j.rule j.order (itself s (r ∷ h ∷ ls)) k.planned found (subst (λ (x : Join). Least (MayFollow x) 1 [] ls found) k.is l))
 
 -- positions that are compared
 pub other_rule : (r q : ℕ) (xs ys : List ℕ) → 1 ≤ length xs → 1 ≤ length ys → r ≢ q → IsTrue false ↔ (front (r ∷ xs) ≡ front (q ∷ ys))

@@ -1,19 +1,15 @@
 -- From labels to heads and rules.
-use Rattle.std.proofs.Common.{◌≡◌, ℕ, zero, suc, ◌+◌, ◌<◌, ◌≤◌, true, false, List, [], ◌∷◌, ◌++◌, length, Option, Some, None, is_some, MatchOption, slice_get, refl, sym, ◌∙◌, ap, subst, arith, ⊎_elim, length-append}
-use Rattle.std.proofs.lemmas.Bool.Decides.{nat_tests}
+use Rattle.std.proofs.Common.{◌≡◌, ℕ, zero, suc, ◌+◌, ◌≤◌, List, [], ◌∷◌, ◌++◌, length, Option, Some, None, slice_get, refl, sym, ◌∙◌, ap, subst, arith}
 use Rattle.std.specs.List.{AllByRecursion}
 use Rattle.chr_rule.specs.Rules.{Simpagation, rule_at}
 use Rattle.chr_rule.specs.Scope.{IsRule}
-use Rattle.chr_plan.specs.Orders.{heads_of}
 use Rattle.chr_plan.specs.Plans.{PlanList, order_in, orders_at, plan_at, ArePlans}
 use Rattle.chr_plan.specs.declared.order.Step.{Step}
-use Rattle.chr_search.specs.Positions.{at_or_after}
 use Rattle.chr_search.specs.Tree.{Grows, Beyond, Least, NoneBeyond, LeastFrom}
-use Rattle.chr_search.specs.Trials.{MayFollow, Space, join_in, IsPlanned, Child, IsNext, NoneLeft}
+use Rattle.chr_search.specs.Trials.{MayFollow, Space, join_in, IsPlanned, Child}
 use Rattle.chr_search.specs.Partners.{HasPlan}
 use Rattle.chr_search.proofs.Plans.{planned}
-use Rattle.chr_search.proofs.Positions.{after_cases, after_first, after_under}
-use Rattle.chr_search.proofs.Tree.{Come, under_same, come_at, come_to_end, come_found, come_on}
+use Rattle.chr_search.proofs.Tree.{Come, under_same, come_at, come_found, come_on}
 
 pub child_is : (s : Space) (r h : ℕ) (rule : Simpagation ℕ) (order : List Step) → IsPlanned s r h rule order → (path : List ℕ) (l : ℕ) → Child s (r ∷ h ∷ path) l → MayFollow (join_in s rule order) path l
 child_is s r h rule order p path l c =
@@ -68,22 +64,6 @@ none_at_head s r from labels h below rule order c p n =
     come_on (Child s) 3 (r ∷ []) (from ∷ labels) h below h c (this_head s r h rule order p)
     (subst (λ b. NoneBeyond (Child s) 3 (r ∷ h ∷ []) b) (under_same h below h refl) (none_out s r h rule order p below n))
 
-no_later_plan : (orders : Option (List (List Step))) (h y : ℕ) (order : List Step) → 1 ≤ h → h ≤ y → order_in orders h ≡ None → order_in orders y ≡ Some order → ⊥
-no_later_plan None h y order low le e f = let z : None ≡ Some order = f in absurd (cc)
-no_later_plan (Some os) zero y order low le e f = absurd (omega arith)
-no_later_plan (Some os) (suc i) zero order low le e f = absurd (omega arith)
-no_later_plan (Some os) (suc i) (suc k) order low le e f = past os i k (omega arith) e f
-  where
-    past : (xs : List (List Step)) (a b : ℕ) → a ≤ b → slice_get xs a ≡ None → slice_get xs b ≡ Some order → ⊥
-    past [] a b h n t = let z : None ≡ Some order = t in absurd (cc)
-    past (x ∷ xs) zero b h n t = let z : Some x ≡ None = n in absurd (cc)
-    past (x ∷ xs) (suc a) zero h n t = absurd (omega arith)
-    past (x ∷ xs) (suc a) (suc b) h n t = past xs a b (omega arith) n t
-
-pub no_more_heads : (s : Space) (r from : ℕ) (labels : List ℕ) (h : ℕ) (below : List ℕ) → AtHead s r from labels h below → 1 ≤ h → plan_at s.plans r h ≡ None → NoneBeyond (Child s) 3 (r ∷ []) (from ∷ labels)
-no_more_heads s r from labels h below c low e =
-    come_to_end (Child s) 3 (r ∷ []) (from ∷ labels) h below c (λ y f le. no_later_plan (orders_at s.plans r) h y f.1 low le e f.2.order_is)
-
 -- The search has come to a rule, and there to a head and labels.
 abbrev pub AtRule : Space → List ℕ → ℕ → ℕ → List ℕ → Type 0
 AtRule s place r h below = Come (Child s) 3 [] place r (h ∷ below)
@@ -108,46 +88,6 @@ head_low plans r zero order e = absurd (let z : None ≡ Some order = sym (no_ze
     no_zero (Some os) = refl
 head_low plans r (suc h) order e = omega arith
 
-from_one : (s : Space) (place : List ℕ) (r : ℕ) → Come (Child s) 3 [] place r [] → AtRule s place r 1 []
-from_one s place r c = record { into = to; back = back }
-  where
-    to : (other : List ℕ) → Beyond (Child s) 3 [] place other → at_or_after (r ∷ 1 ∷ []) other ≡ true
-    to [] b = let d : 3 ≤ length {A = ℕ} [] = b.deep in absurd (omega arith)
-    to (y ∷ []) b = let d : 3 ≤ length (y ∷ []) = b.deep in absurd (omega arith)
-    to (y ∷ h ∷ ys) b =
-        let low : 1 ≤ h = head_low s.plans y h b.grows.1.0.1 b.grows.1.0.2.order_is in
-        ⊎_elim (λ less. after_first r y (1 ∷ []) (h ∷ ys) less)
-        (λ same. subst (λ z. at_or_after (r ∷ 1 ∷ []) (z ∷ h ∷ ys) ≡ true) same.0 (after_under r (1 ∷ []) (h ∷ ys) (ones h ys low)))
-        (after_cases r y [] (h ∷ ys) (c.into (y ∷ h ∷ ys) b))
-      where
-        ones : (k : ℕ) (zs : List ℕ) → 1 ≤ k → at_or_after (1 ∷ []) (k ∷ zs) ≡ true
-        ones k zs low = grind (arith, nat_tests)
-
-    back : (other : List ℕ) → at_or_after (r ∷ 1 ∷ []) other ≡ true → at_or_after place other ≡ true
-    back [] h = absurd (cc)
-    back (y ∷ ys) h =
-        c.back (y ∷ ys) (⊎_elim (λ less. after_first r y [] ys less)
-        (λ same. subst (λ z. at_or_after (r ∷ []) (z ∷ ys) ≡ true) same.0 (after_under r [] ys refl)) (after_cases r y (1 ∷ []) ys h))
-
-pub none_at_rule : (s : Space) (place : List ℕ) (r h : ℕ) (below : List ℕ) (rule : Simpagation ℕ) → AtRule s place r h below → rule_at s.rules r ≡ Some rule → NoneBeyond (Child s) 3 (r ∷ []) (h ∷ below) → AtRule s place (r + 1) 1 []
-none_at_rule s place r h below rule c e n =
-    from_one s place (r + 1) (come_on (Child s) 3 [] place r (h ∷ below) r c (this_rule s r rule e)
-    (subst (λ b. NoneBeyond (Child s) 3 (r ∷ []) b) (under_same r (h ∷ below) r refl) n))
-
-no_later_rule : (rules : List (Simpagation ℕ)) (r y : ℕ) (rule : Simpagation ℕ) → 1 ≤ r → r ≤ y → rule_at rules r ≡ None → rule_at rules y ≡ Some rule → ⊥
-no_later_rule rules zero y rule low le e f = absurd (omega arith)
-no_later_rule rules (suc i) zero rule low le e f = absurd (omega arith)
-no_later_rule rules (suc i) (suc k) rule low le e f = past rules i k (omega arith) e f
-  where
-    past : (xs : List (Simpagation ℕ)) (a b : ℕ) → a ≤ b → slice_get xs a ≡ None → slice_get xs b ≡ Some rule → ⊥
-    past [] a b h n t = let z : None ≡ Some rule = t in absurd (cc)
-    past (x ∷ xs) zero b h n t = let z : Some x ≡ None = n in absurd (cc)
-    past (x ∷ xs) (suc a) zero h n t = absurd (omega arith)
-    past (x ∷ xs) (suc a) (suc b) h n t = past xs a b (omega arith) n t
-
-pub no_more_rules : (s : Space) (place : List ℕ) (r h : ℕ) (below : List ℕ) → AtRule s place r h below → 1 ≤ r → rule_at s.rules r ≡ None → NoneBeyond (Child s) 3 [] place
-no_more_rules s place r h below c low e = come_to_end (Child s) 3 [] place r (h ∷ below) c (λ y f le. no_later_rule s.rules r y f.0 low le e f.1)
-
 -- the plans of a program are plans
 scoped_at : (rules : List (Simpagation ℕ)) → AllByRecursion IsRule rules → (k : ℕ) (rule : Simpagation ℕ) → slice_get rules k ≡ Some rule → IsRule rule
 scoped_at [] all k rule e = absurd (let z : None ≡ Some rule = e in cc)
@@ -162,39 +102,6 @@ pub plan_of : (s : Space) → ArePlans s.rules s.plans → AllByRecursion IsRule
 plan_of s ps all r h rule order p =
     let q = planned s.rules s.plans ps r h rule order p.rule_is p.order_is in
     record { head = h; from = q.from; to = q.to; plan = q.plan; scoped = rule_scoped s.rules all r rule p.rule_is }
-
-pub head_small : (s : Space) → ArePlans s.rules s.plans → AllByRecursion IsRule s.rules → (r h : ℕ) (rule : Simpagation ℕ) (order : List Step) → IsPlanned s r h rule order → h ≤ 6
-head_small s ps all r h rule order p =
-    let q = planned s.rules s.plans ps r h rule order p.rule_is p.order_is in
-    let to : h ≤ length (heads_of rule) = q.to in
-    let few : length rule.kept + length rule.removed ≤ 6 = (rule_scoped s.rules all r rule p.rule_is).limits.heads in
-    omega (arith, length-append rule.kept rule.removed)
-
-pub rule_there : (rules : List (Simpagation ℕ)) (r : ℕ) → 1 ≤ r → r ≤ length rules → (rule : Simpagation ℕ) × (rule_at rules r ≡ Some rule)
-rule_there rules zero low high = absurd (omega arith)
-rule_there rules (suc i) low high = got rules i (omega arith)
-  where
-    got : (xs : List (Simpagation ℕ)) (k : ℕ) → k < length xs → (rule : Simpagation ℕ) × (slice_get xs k ≡ Some rule)
-    got [] k h = absurd (omega arith)
-    got (x ∷ xs) zero h = (x, refl)
-    got (x ∷ xs) (suc k) h = got xs k (omega arith)
-
-pub rules_end : (rules : List (Simpagation ℕ)) (r : ℕ) → 1 ≤ r → length rules < r → rule_at rules r ≡ None
-rules_end rules zero low high = absurd (omega arith)
-rules_end rules (suc i) low high = past rules i (omega arith)
-  where
-    past : (xs : List (Simpagation ℕ)) (k : ℕ) → length xs ≤ k → slice_get xs k ≡ None
-    past [] k h = refl
-    past (x ∷ xs) zero h = absurd (omega arith)
-    past (x ∷ xs) (suc k) h = past xs k (omega arith)
-
-pub found_if_some : (s : Space) (place : List ℕ) (r h : ℕ) (below : List ℕ) → AtRule s place r h below → 1 ≤ r → r ≤ length s.rules → (found : Option (List ℕ)) → is_some found ≡ true → MatchOption found (NoneBeyond (Child s) 3 (r ∷ []) (h ∷ below)) (Least (Child s) 3 (r ∷ []) (h ∷ below)) → MatchOption found (NoneLeft s place) (IsNext s place)
-found_if_some s place r h below c low high None e m = absurd (let z : false ≡ true = e in cc)
-found_if_some s place r h below c low high (Some t) e m = let q = rule_there s.rules r low high in found_at_rule s place r h below q.0 c q.1 t m
-
-pub on_if_none : (s : Space) (place : List ℕ) (r h : ℕ) (below : List ℕ) → AtRule s place r h below → 1 ≤ r → r ≤ length s.rules → (found : Option (List ℕ)) → is_some found ≡ false → MatchOption found (NoneBeyond (Child s) 3 (r ∷ []) (h ∷ below)) (Least (Child s) 3 (r ∷ []) (h ∷ below)) → AtRule s place (r + 1) 1 []
-on_if_none s place r h below c low high (Some t) e m = absurd (let z : true ≡ false = e in cc)
-on_if_none s place r h below c low high None e m = let q = rule_there s.rules r low high in none_at_rule s place r h below q.0 c q.1 m
 
 pub rule_low : (rules : List (Simpagation ℕ)) (r : ℕ) (rule : Simpagation ℕ) → rule_at rules r ≡ Some rule → 1 ≤ r
 rule_low rules zero rule e = absurd (let z : None ≡ Some rule = e in cc)

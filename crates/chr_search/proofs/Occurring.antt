@@ -1,18 +1,16 @@
 -- Trials where a program has heads of the active atom's predicate.
-use Rattle.std.proofs.Common.{◌≡◌, ℕ, ◌<◌, ◌≤◌, true, List, [], ◌∷◌, length, Some, None, slice_get, sym, ◌∙◌, ap, subst, arith, inl, inr, ⊎_elim}
+use Rattle.std.proofs.Common.{◌≡◌, ℕ, ◌<◌, ◌≤◌, true, List, [], ◌∷◌, length, Option, Some, None, MatchOption, slice_get, sym, ◌∙◌, ap, subst, arith, inl, inr, ⊎_elim}
 use Rattle.std.proofs.lemmas.Bool.Decides.{nat_tests}
-use Rattle.std.specs.List.{AllByRecursion}
 use Rattle.chr_value.specs.Atoms.{Atom}
 use Rattle.chr_value.specs.declared.atom.Pred.{Pred}
-use Rattle.chr_rule.specs.Rules.{Simpagation, head_at, rule_at}
-use Rattle.chr_rule.specs.Scope.{IsRule}
+use Rattle.chr_rule.specs.Rules.{Simpagation, head_at}
 use Rattle.chr_rule.specs.Occurrences.{IsOccurrence, AtOrAfter, NoneFrom, IsNextOccurrence}
 use Rattle.chr_model.specs.Stores.{atom_at}
 use Rattle.chr_plan.specs.Plans.{plan_at, ArePlans}
 use Rattle.chr_plan.specs.declared.order.Step.{Step}
 use Rattle.chr_search.specs.Positions.{at_or_after}
-use Rattle.chr_search.specs.Trials.{HasHeadPred, Space, join_in, IsTrial, NoneLeft}
-use Rattle.chr_search.specs.PlanByPlan.{IsJoinAt, HasComeTo}
+use Rattle.chr_search.specs.Trials.{HasHeadPred, Join, Space, IsTrial, NoneLeft}
+use Rattle.chr_search.specs.PlanByPlan.{IsJoinOf, IsUnplanned, IsJoinAt, HasComeTo, IsNextJoin}
 use Rattle.chr_search.proofs.Positions.{after_first, after_under, after_cases}
 use Rattle.chr_search.proofs.Plans.{planned, has_plan}
 use Rattle.chr_search.proofs.Asking.{some_is}
@@ -63,7 +61,7 @@ trial_occurs s p a ps r h (l ∷ ls) i =
     }
 
 -- on to the next occurrence, and to the end
-pub come_to_occurrence : (s : Space) (p : Pred) → IsActive s p → ArePlans s.rules s.plans → (r h x y : ℕ) → IsNextOccurrence s.rules p r h (x, y) → HasComeTo s (r ∷ h ∷ []) x y
+come_to_occurrence : (s : Space) (p : Pred) → IsActive s p → ArePlans s.rules s.plans → (r h x y : ℕ) → IsNextOccurrence s.rules p r h (x, y) → HasComeTo s (r ∷ h ∷ []) x y
 come_to_occurrence s p a ps r h x y o = record { later = order_in r h x y [] o.after; none = none }
   where
     none : (t : List ℕ) → IsTrial s t → at_or_after (r ∷ h ∷ []) t ≡ true → at_or_after (x ∷ y ∷ []) t ≡ true
@@ -77,11 +75,21 @@ come_to_last s p a ps r h n (x ∷ []) b = let d : 3 ≤ length (x ∷ []) = b.d
 come_to_last s p a ps r h n (x ∷ y ∷ ls) b = n x y (in_order r h x y ls b.there) (trial_occurs s p a ps x y ls (record { grows = b.grows; deep = b.deep }))
 
 -- an occurrence has a plan, and that makes a join
-pub plan_there : (s : Space) (p : Pred) → ArePlans s.rules s.plans → (r h : ℕ) → IsOccurrence s.rules p r h → (order : List Step) × (plan_at s.plans r h ≡ Some order)
+plan_there : (s : Space) (p : Pred) → ArePlans s.rules s.plans → (r h : ℕ) → IsOccurrence s.rules p r h → (order : List Step) × (plan_at s.plans r h ≡ Some order)
 plan_there s p ps r h o = has_plan s.rules s.plans ps r h o.rule o.rule_is (head_from o.rule h o.at.head o.at.head_is) (head_within o.rule h o.at.head o.at.head_is)
 
-pub join_there : (s : Space) (p : Pred) → IsActive s p → ArePlans s.rules s.plans → AllByRecursion IsRule s.rules → (r h : ℕ) (rule : Simpagation ℕ) (order : List Step) → IsOccurrence s.rules p r h → rule_at s.rules r ≡ Some rule → plan_at s.plans r h ≡ Some order → IsJoinAt s r h (join_in s rule order)
-join_there s p a ps all r h rule order o ri oi =
-    let same : o.rule ≡ rule = some_is o.rule rule (sym o.rule_is ∙ ri) in
+join_there : (s : Space) (p : Pred) → IsActive s p → ArePlans s.rules s.plans → (r h : ℕ) (j : Join) → IsOccurrence s.rules p r h → IsJoinOf s r h j → IsJoinAt s r h j
+join_there s p a ps r h j o k =
+    let same : o.rule ≡ j.rule = some_is o.rule j.rule (sym o.rule_is ∙ k.planned.rule_is) in
     let pred : HasHeadPred o.at.head a.atom = (sym a.name ∙ sym o.at.pred.name, sym a.arity ∙ sym o.at.pred.arity) in
-    joins_at s r h rule order o.at.head a.atom ps all ri oi (subst (λ (x : Simpagation ℕ). head_at x h ≡ Some o.at.head) same o.at.head_is) a.live pred
+    joins_at s r h j o.at.head a.atom ps k (subst (λ (x : Simpagation ℕ). head_at x h ≡ Some o.at.head) same o.at.head_is) a.live pred
+
+-- the answer where there is one
+pub join_at_occurrence : {J : Type 0} (s : Space) (p : Pred) → IsActive s p → ArePlans s.rules s.plans → (r h x y : ℕ) → IsNextOccurrence s.rules p r h (x, y) → (as_join : J → Join) (found : Option J) → MatchOption found (IsUnplanned s x y) (λ j. IsJoinOf s x y (as_join j)) → MatchOption found (NoneLeft s (r ∷ h ∷ [])) (λ j. IsNextJoin s r h x y (as_join j))
+join_at_occurrence s p a ps r h x y o as_join None none =
+    let there = plan_there s p ps x y o.occurs in
+    absurd (none o.occurs.rule there.0 (record { rule_is = o.occurs.rule_is; order_is = there.1 }))
+join_at_occurrence s p a ps r h x y o as_join (Some j) k = record {
+  come = come_to_occurrence s p a ps r h x y o;
+  join = join_there s p a ps x y (as_join j) o.occurs k;
+}

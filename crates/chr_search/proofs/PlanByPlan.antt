@@ -1,14 +1,12 @@
 -- Searches that pass over trials plan by plan.
 use Rattle.std.proofs.Common.{◌≡◌, ◌≢◌, ℕ, zero, suc, ◌+◌, ◌<◌, ◌≤◌, true, false, ◌==◌, ◌&&◌, if◌then◌else◌, List, [], ◌∷◌, ◌++◌, map, take, drop, length, get_or, Option, Some, None, slice_get, refl, sym, ◌∙◌, ap, subst, arith, ⊎_elim}
 use Rattle.std.proofs.lemmas.Bool.Decides.{nat_tests}
-use Rattle.std.specs.List.{AllByRecursion}
 use Rattle.std.proofs.lemmas.Option.{slice_get_within}
 use Rattle.chr_value.specs.Atoms.{Value, Atom}
 use Rattle.chr_rule.specs.Rules.{RuleAtom, Simpagation, head_at, rule_at}
-use Rattle.chr_rule.specs.Scope.{IsRule}
 use Rattle.chr_model.specs.Stores.{atom_at}
 use Rattle.chr_plan.specs.Orders.{heads_of}
-use Rattle.chr_plan.specs.Plans.{plan_at, ArePlans}
+use Rattle.chr_plan.specs.Plans.{ArePlans}
 use Rattle.chr_plan.specs.declared.order.Step.{Step}
 use Rattle.chr_store.specs.Labels.{LabelledStore, IsLabelled}
 use Rattle.chr_search.specs.declared.passing.End.{End}
@@ -20,12 +18,12 @@ use Rattle.chr_search.specs.Verdicts.{Placed, Trial, label_at, labels_from, kept
 use Rattle.chr_search.specs.Partners.{HasPlan}
 use Rattle.chr_search.specs.Answers.{after_verdict}
 use Rattle.chr_search.specs.Passing.{IsTrialIn, HasTrials, AreWhole, PassesOneIn, PassesIn, PassesOne, Passes, IsWholeNext}
-use Rattle.chr_search.specs.PlanByPlan.{label_at_head, labels_at_heads, labels_in, IsJoinAt, PassesPlan, HasComeTo, IsNextJoin}
+use Rattle.chr_search.specs.PlanByPlan.{label_at_head, labels_at_heads, labels_in, IsJoinOf, IsJoinAt, PassesPlan, HasComeTo, IsNextJoin}
 use Rattle.chr_search.proofs.Positions.{after_itself, after_first, after_under, after_cases, after_by}
 use Rattle.chr_search.proofs.Plans.{heads_in, planned}
 use Rattle.chr_search.proofs.Asking.{begins_if}
 use Rattle.chr_search.proofs.Judging.{few_heads}
-use Rattle.chr_search.proofs.Descents.{at_first_head, found_at_head, none_at_head, at_first_rule, found_at_rule, rule_scoped}
+use Rattle.chr_search.proofs.Descents.{at_first_head, found_at_head, none_at_head, at_first_rule, found_at_rule}
 use Rattle.chr_search.proofs.Passed.{Makes, made_of, has_trials, position_made, trial_of_made, one_passed, after_labels}
 
 -- labels at heads
@@ -182,7 +180,7 @@ next_in_plan s place r h labels rule order a p ls l =
     alike_next s place (r ∷ h ∷ labels) (r ∷ h ∷ ls) a
     (found_at_rule s (r ∷ h ∷ labels) r h labels rule (at_first_rule s r h labels) p.rule_is (r ∷ h ∷ ls) (found_at_head s r h labels h labels rule order (at_first_head s r h labels) p ls l))
 
-itself : (s : Space) (p : List ℕ) → AreAlike s p p
+pub itself : (s : Space) (p : List ℕ) → AreAlike s p p
 itself s p = record { into = λ t i e. e; back = λ t i e. e }
 
 -- a plan's trials that are passed over, from a place that is alike
@@ -293,15 +291,15 @@ pub head_within : (rule : Simpagation ℕ) (h : ℕ) (head : RuleAtom ℕ) → h
 head_within rule zero head e = absurd (let z : None ≡ Some head = e in cc)
 head_within rule (suc k) head e = let less : k < length (heads_of rule) = slice_get_within (heads_of rule) k head e in omega arith
 
-pub joins_at : (s : Space) (r h : ℕ) (rule : Simpagation ℕ) (order : List Step) (head : RuleAtom ℕ) (atom : Atom ℕ) → ArePlans s.rules s.plans → AllByRecursion IsRule s.rules → rule_at s.rules r ≡ Some rule → plan_at s.plans r h ≡ Some order → head_at rule h ≡ Some head → atom_at s.store s.active ≡ Some atom → HasHeadPred head atom → IsJoinAt s r h (join_in s rule order)
-joins_at s r h rule order head atom ps all ri oi is live pred =
-    let q = planned s.rules s.plans ps r h rule order ri oi in
-    let plan : HasPlan (join_in s rule order) = record { head = h; from = q.from; to = q.to; plan = q.plan; scoped = rule_scoped s.rules all r rule ri } in
+pub joins_at : (s : Space) (r h : ℕ) (j : Join) (head : RuleAtom ℕ) (atom : Atom ℕ) → ArePlans s.rules s.plans → IsJoinOf s r h j → head_at j.rule h ≡ Some head → atom_at s.store s.active ≡ Some atom → HasHeadPred head atom → IsJoinAt s r h j
+joins_at s r h j head atom ps k is live pred =
+    let q = planned s.rules s.plans ps r h j.rule j.order k.planned.rule_is k.planned.order_is in
+    let plan : HasPlan (join_in s j.rule j.order) = subst HasPlan k.is k.plan in
     record {
-      planned = record { rule_is = ri; order_is = oi };
-      is = refl;
-      plan = plan;
-      begins = begins_if (join_in s rule order) plan (record { head = h; key = None }) head atom (ap (λ (z : List Step). slice_get z 0) q.plan.first) is live pred;
+      planned = k.planned;
+      is = k.is;
+      plan = k.plan;
+      begins = subst (λ (x : Join). MayFollow x [] x.active) (sym k.is) (begins_if (join_in s j.rule j.order) plan (record { head = h; key = None }) head atom (ap (λ (z : List Step). slice_get z 0) q.plan.first) is live pred);
     }
 
 -- a search that has come to a join
@@ -318,6 +316,15 @@ pub has_join : (s t : Space) → t ≡ s → (place : List ℕ) (r h x y : ℕ) 
 has_join s t e place r h x y j c n ps store entries labelled =
     let next = subst (λ (z : Space). IsNextJoin z r h x y j) e n in
     record { come = come_further s place r h x y c next.come; join = next.join; makes = makes_at s x y j next.join ps store entries labelled }
+
+-- the least trial of a plan to which a search has come, and on where it has none
+pub found_at_join : (s : Space) (place : List ℕ) (r h : ℕ) (j : Join) → HasJoin s place r h j → (ls : List ℕ) → Least (MayFollow j) 1 [] (labels_in place r h) ls → IsNext s place (r ∷ h ∷ ls)
+found_at_join s place r h j k ls l =
+    next_in_plan s place r h (labels_in place r h) j.rule j.order (alike_in s place r h k.come) k.join.planned ls (subst (λ (x : Join). Least (MayFollow x) 1 [] (labels_in place r h) ls) k.join.is l)
+
+pub on_from_join : (s : Space) (place : List ℕ) (r h : ℕ) (j : Join) → HasJoin s place r h j → NoneBeyond (MayFollow j) 1 [] (labels_in place r h) → HasComeTo s place r (h + 1)
+on_from_join s place r h j k none =
+    come_to_next_head s place r h (labels_in place r h) j.rule j.order k.come (alike_in s place r h k.come) k.join.planned (subst (λ (x : Join). NoneBeyond (MayFollow x) 1 [] (labels_in place r h)) k.join.is none)
 
 -- where the active label has left the store
 pub gone_none : (s : Space) (place : List ℕ) → atom_at s.store s.active ≡ None → NoneLeft s place

@@ -117,12 +117,12 @@ IsTried j ls Part binding = AreJudged j ls Part × IsReady j ls binding
 IsTried j ls Whole binding = AreWhole j ls binding
 
 -- what comes after n misfits, where from one label on the next is looked for: a part or a whole trial, while they are fewer
--- than were asked for; none; or perhaps more
+-- than were asked for; none; or perhaps more, where they are as many
 abbrev pub ComesNext : Join → List ℕ → ℕ → ℕ → ℕ → Next → List (Option (Value ℕ)) → Type 0
 ComesNext j ls n most from (nexts.Part x) binding = (n < most) × LeastFrom (MayFollow j ls) from x × IsTried j (ls ++ x ∷ []) Part binding
 ComesNext j ls n most from (nexts.Whole x) binding = (n < most) × LeastFrom (MayFollow j ls) from x × IsTried j (ls ++ x ∷ []) Whole binding
 ComesNext j ls n most from nexts.NoneLeft binding = NoneFrom (MayFollow j ls) from
-ComesNext j ls n most from nexts.Enough binding = Unit {0}
+ComesNext j ls n most from nexts.Enough binding = n ≡ most
 
 -- where a search goes on after n misfits of these labels and one more
 abbrev pub settled : ℕ → List ℕ → ℕ → List ℕ → List ℕ

@@ -1,6 +1,7 @@
 -- Searches that pass over trials plan by plan.
 use Rattle.std.specs.Prelude.{◌≡◌, ℕ, zero, suc, ◌≤◌, ◌==◌, true, ◌&&◌, if◌then◌else◌, List, [], ◌∷◌, take, Option}
 use Rattle.chr_value.specs.Atoms.{Value}
+use Rattle.chr_rule.specs.Rules.{Simpagation}
 use Rattle.chr_plan.specs.declared.order.Step.{Step}
 use Rattle.chr_search.specs.declared.passing.End.{End}
 use Rattle.chr_search.specs.Positions.{at_or_after}
@@ -18,7 +19,16 @@ abbrev pub labels_at_heads : List Step → List ℕ → ℕ → ℕ → List ℕ
 labels_at_heads order ls h zero = []
 labels_at_heads order ls h (suc n) = label_at_head order ls h ∷ labels_at_heads order ls (suc h) n
 
--- what the join of a plan is where the active atom has that head's predicate
+-- what the join of a plan is, and that there is no plan
+pub record IsJoinOf (s : Space) (r h : ℕ) (j : Join) : Type 0 where
+  pub planned : IsPlanned s r h j.rule j.order
+  pub is : j ≡ join_in s j.rule j.order
+  pub plan : HasPlan j
+
+abbrev pub IsUnplanned : Space → ℕ → ℕ → Type 0
+IsUnplanned s r h = (rule : Simpagation ℕ) (order : List Step) → IsPlanned s r h rule order → ⊥
+
+-- what it is where the active atom has that head's predicate
 pub record IsJoinAt (s : Space) (r h : ℕ) (j : Join) : Type 0 where
   pub planned : IsPlanned s r h j.rule j.order
   pub is : j ≡ join_in s j.rule j.order

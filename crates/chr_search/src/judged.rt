@@ -34,12 +34,16 @@ pub enum Verdict {
 pub struct Judged<A: Allocator> {
     trial: Trial<A>,
     verdict: Verdict,
+    /// That of the instance, where the trial is whole.
+    binding: Option<Binding>,
 }
 
 impl<A: Allocator> Model for Judged<A> {
+    ghost use Rattle.std.specs.Prelude.{MatchOption};
     ghost use Rattle.std.specs.Coded.{codes};
     ghost use Rattle.chr_rule.specs.Code.{expression_code};
     ghost use Rattle.chr_search.specs.Judged.{Judgement, IsVerdict};
+    ghost use Rattle.chr_search.specs.Verdicts.{IsWhole, IsWholeUnder};
 
     ghost Value = { Judgement };
 
@@ -47,7 +51,7 @@ impl<A: Allocator> Model for Judged<A> {
 
     ghost view = { λ j. record { trial = j.trial; verdict = j.verdict } };
 
-    ghost invariant = { λ j. IsVerdict j.trial j.verdict };
+    ghost invariant = { λ j. IsVerdict j.trial j.verdict × MatchOption j.binding (IsWhole j.trial → ⊥) (IsWholeUnder j.trial) };
 }
 
 impl<A: Allocator + Copy> Judged<A> {
@@ -71,9 +75,9 @@ impl<A: Allocator + Copy> Judged<A> {
     pub fn binding(&self) -> Option<Binding>
         ensures { MatchOption result (IsWhole self.now.trial → ⊥) (IsWholeUnder self.now.trial) }
     {
-        match self.verdict {
-            Verdict::Whole => complete(&self.trial, fit(&self.trial)?),
-            Verdict::Part | Verdict::Misfit => None,
+        match &self.binding {
+            None => None,
+            Some(binding) => Some(binding.copy()),
         }
     }
 }
@@ -127,23 +131,24 @@ fn complete<A: Allocator + Copy>(trial: &Trial<A>, binding: Binding) -> Option<B
     instance_from(trial.rule(), binding)
 }
 
-/// The verdict on a trial.
-fn verdict_on<A: Allocator + Copy>(trial: &Trial<A>) -> Verdict
-    ensures { IsVerdict trial.now result }
+/// The verdict on a trial, and the binding of all variables where it is whole.
+fn verdict_on<A: Allocator + Copy>(trial: &Trial<A>) -> (Verdict, Option<Binding>)
+    ensures verdict { IsVerdict trial.now result.0 }
+    ensures binding { MatchOption result.1 (IsWhole trial.now → ⊥) (IsWholeUnder trial.now) }
 {
     let placed = trial.placed();
     if !are_distinct(placed) {
-        return Verdict::Misfit;
+        return (Verdict::Misfit, None);
     }
     let Some(binding) = fit(trial) else {
-        return Verdict::Misfit;
+        return (Verdict::Misfit, None);
     };
     if placed.len() < trial.rule().heads() {
-        return Verdict::Part;
+        return (Verdict::Part, None);
     }
     match complete(trial, binding) {
-        None => Verdict::Misfit,
-        Some(_) => Verdict::Whole,
+        None => (Verdict::Misfit, None),
+        Some(whole) => (Verdict::Whole, Some(whole)),
     }
 }
 
@@ -151,6 +156,10 @@ fn verdict_on<A: Allocator + Copy>(trial: &Trial<A>) -> Verdict
 pub fn judge<A: Allocator + Copy>(trial: Trial<A>) -> Judged<A>
     ensures { result.trial ≡ trial }
 {
-    let verdict = verdict_on(&trial);
-    Judged { trial, verdict }
+    let (verdict, binding) = verdict_on(&trial);
+    Judged {
+        trial,
+        verdict,
+        binding,
+    }
 }

@@ -1,7 +1,9 @@
 //! Trials in the store that are judged without being made.
-ghost use Rattle.std.specs.Prelude.{◌≡◌, ◌↔◌, ◌==◌, ◌≤◌, ◌<◌, ◌∷◌, ◌++◌, [], ℕ, false, length, take, MatchOption, IsTrue};
+ghost use Rattle.std.specs.Prelude.{◌≡◌, ◌≢◌, ◌↔◌, ◌==◌, ◌≤◌, ◌<◌, ◌∷◌, ◌++◌, [], ℕ, false, length, take, MatchOption, IsTrue};
 ghost use Rattle.std.specs.List.{list_any};
 ghost use Rattle.chr_guard.specs.Matching.{IsFit};
+ghost use Rattle.chr_search.specs.declared.passing.End.TheVariants as ends;
+ghost use Rattle.chr_search.specs.declared.passing.Stop.TheVariants as stops;
 ghost use Rattle.chr_search.specs.Joined.{join_of};
 ghost use Rattle.chr_search.specs.Partners.{HasPlan, IsReady, IsPartnerFrom};
 ghost use Rattle.chr_search.specs.Passing.{IsTrialIn, HasTrials, AreMisfits, PassesIn, EndsIn, IsLastHead, IsLevel, IsAfterPart, IsNarrowedIf, IsTried, ComesNext, settled, IsBelow, EndsBelow, StopsAt};
@@ -22,7 +24,7 @@ use chr_store::store::{Label, Matches};
 use std::alloc::Allocator;
 
 /// Why no more trials of a plan are passed over.
-#[derive(Clone, Copy, Debug, PartialEq, Eq)]
+#[derive(Clone, Copy, PartialEq, Eq)]
 pub(crate) enum End {
     /// The next one is whole.
     Whole,
@@ -33,7 +35,7 @@ pub(crate) enum End {
 }
 
 /// How many trials of a plan were passed over, and why no more.
-#[derive(Clone, Copy, Debug)]
+#[derive(Drop)]
 pub(crate) struct Passed {
     pub(crate) count: u64,
     pub(crate) end: End,
@@ -299,6 +301,7 @@ impl<'s, A: Allocator + Copy> Join<'s, A> {
         requires level { IsLevel (join_of self.now) instance.old.labels.items level.old }
         requires below { IsBelow (join_of self.now) instance.old.labels.items place.old.items from }
         ensures few { result.count ≤ most }
+        ensures enough { result.stop ≡ stops.End ends.Enough → result.count ≡ most }
         ensures passes { PassesIn (join_of self.now) result.count place.old.items place.new.items }
         ensures stops { StopsAt (join_of self.now) instance.old.labels.items from result.stop place.new.items instance.new.labels.items instance.new.binding }
         ensures same { level.new ≡ level.old }
@@ -338,6 +341,7 @@ impl<'s, A: Allocator + Copy> Join<'s, A> {
         requires ready { IsReady (join_of self.now) instance.old.labels.items binding.now }
         requires below { IsBelow (join_of self.now) instance.old.labels.items place.old.items from }
         ensures few { result.count ≤ most }
+        ensures enough { result.end ≡ ends.Enough → result.count ≡ most }
         ensures passes { PassesIn (join_of self.now) result.count place.old.items place.new.items }
         ensures ends { EndsBelow (join_of self.now) instance.old.labels.items place.new.items result.end instance.new.labels.items instance.new.binding }
     {
@@ -377,6 +381,7 @@ impl<'s, A: Allocator + Copy> Join<'s, A> {
         requires level { IsLevel (join_of self.now) instance.old.labels.items level }
         requires part { IsAfterPart (join_of self.now) instance.old.labels.items part place.old.items instance.old.binding }
         ensures few { result.count ≤ most }
+        ensures enough { result.end ≡ ends.Enough → result.count ≡ most }
         ensures passes { PassesIn (join_of self.now) result.count place.old.items place.new.items }
         ensures ends { EndsBelow (join_of self.now) instance.old.labels.items place.new.items result.end instance.new.labels.items instance.new.binding }
     {
@@ -421,6 +426,7 @@ impl<'s, A: Allocator + Copy> Join<'s, A> {
         requires first { rest.now ≡ [] → instance.old.labels.items ≡ [] }
         requires place { place.old.items ≡ instance.old.labels.items ++ rest.now }
         ensures few { result.count ≤ most }
+        ensures enough { result.end ≡ ends.Enough → result.count ≡ most }
         ensures passes { PassesIn (join_of self.now) result.count place.old.items place.new.items }
         ensures ends { EndsBelow (join_of self.now) instance.old.labels.items place.new.items result.end instance.new.labels.items instance.new.binding }
     {
@@ -462,6 +468,7 @@ impl<'s, A: Allocator + Copy> Join<'s, A> {
         requires only { IsTrue at.is_last }
         requires place { place.old.items ≡ [] }
         ensures few { result.count ≤ 1 }
+        ensures over { result.end ≢ ends.Enough }
         ensures passes { PassesIn (join_of self.now) result.count place.old.items place.new.items }
         ensures ends { EndsIn (join_of self.now) place.new.items result.end instance.new.labels.items instance.new.binding }
     {
@@ -499,6 +506,7 @@ impl<'s, A: Allocator + Copy> Join<'s, A> {
         requires trials { HasTrials (join_of self.now) }
         requires place { place.old.items ≡ [] }
         ensures few { result.count ≤ most }
+        ensures enough { result.end ≡ ends.Enough → result.count ≡ most }
         ensures passes { PassesIn (join_of self.now) result.count place.old.items place.new.items }
         ensures ends { EndsIn (join_of self.now) place.new.items result.end instance.new.labels.items instance.new.binding }
     {
@@ -547,6 +555,7 @@ impl<'s, A: Allocator + Copy> Join<'s, A> {
         requires plan { HasPlan (join_of self.now) }
         requires trials { HasTrials (join_of self.now) }
         ensures few { result.count ≤ most }
+        ensures enough { result.end ≡ ends.Enough → result.count ≡ most }
         ensures passes { PassesIn (join_of self.now) result.count place.old.items place.new.items }
         ensures ends { EndsIn (join_of self.now) place.new.items result.end instance.new.labels.items instance.new.binding }
     {
@@ -570,6 +579,7 @@ impl<'s, A: Allocator + Copy> Join<'s, A> {
         requires plan { HasPlan (join_of self.now) }
         requires trials { HasTrials (join_of self.now) }
         ensures few { result.count ≤ most }
+        ensures enough { result.end ≡ ends.Enough → result.count ≡ most }
         ensures passes { PassesIn (join_of self.now) result.count place.old.items place.new.items }
         ensures ends { EndsIn (join_of self.now) place.new.items result.end instance.new.labels.items instance.new.binding }
     {

@@ -1,17 +1,18 @@
 //! Searches.
-ghost use Rattle.std.specs.Prelude.{◌≡◌, ◌↔◌, suc, ◌≤◌, ◌∷◌, [], length, Some, MatchOption, IfOk, IsTrue};
+ghost use Rattle.std.specs.Prelude.{◌≡◌, suc, ◌≤◌, ◌∷◌, [], length, Some, MatchOption, IfOk};
 ghost use Rattle.chr_value.specs.Stores.{atom_at};
 ghost use Rattle.chr_plan.specs.Plans.{ArePlans};
 ghost use Rattle.chr_store.specs.Labels.{entered};
+ghost use Rattle.chr_search.specs.declared.passing.End.TheVariants as ends;
+ghost use Rattle.chr_search.specs.declared.search.Then.TheVariants as thens;
 ghost use Rattle.chr_search.specs.Positions.{beginning, just_after, past};
-ghost use Rattle.chr_search.specs.Tree.{Least, NoneBeyond};
-ghost use Rattle.chr_search.specs.Trials.{older, Child, IsNext, MayFollow, NoneLeft};
+ghost use Rattle.chr_search.specs.Trials.{older, IsNext, MayFollow, NoneLeft};
 ghost use Rattle.chr_search.specs.Answers.{IsAnswer, IsAnswerBehind, after_judging};
-ghost use Rattle.chr_search.specs.Verdicts.{Trial as TrialView, labels as labels_of, position as position_of, IsFormed};
+ghost use Rattle.chr_search.specs.Verdicts.{Trial as TrialView, position as position_of};
 ghost use Rattle.chr_search.specs.Joined.{join_of};
 ghost use Rattle.chr_search.specs.Partners.{HasPlan};
 ghost use Rattle.chr_search.specs.Passing.{IsTrialIn, HasTrials, Passes, IsThen};
-ghost use Rattle.chr_search.specs.PlanByPlan.{label_at_head, labels_at_heads, PassesPlan, IsNextJoin};
+ghost use Rattle.chr_search.specs.PlanByPlan.{label_at_head, labels_at_heads, IsUnplanned, IsJoinOf, labels_in, PassesPlan, IsNextJoin};
 
 use crate::join::Join;
 use crate::judged::{Judged, Verdict};
@@ -143,7 +144,8 @@ impl Instance {
         whole.number = walk.rule;
         set_labels_at_heads(&mut whole.kept, join.order, labels, 1, kept);
         set_labels_at_heads(&mut whole.removed, join.order, labels, kept + 1, removed);
-        whole.past.set_past(join.view.active(), walk, labels);
+        whole.past.label = join.view.active();
+        whole.past.position.set_past(walk.rule, walk.head, labels);
     }
 }
 
@@ -217,50 +219,94 @@ impl Search {
         self.label
     }
 
-    /// Becomes the search of a label past a trial of these labels, by the rule and the head at which a walk stands.
-    fn set_past(&mut self, label: Label, walk: &Walk, labels: &[Label])
-        requires rule { 1 ≤ walk.now.rule }
-        requires head { 1 ≤ walk.now.head }
-        requires trial { (t : TrialView) × IsFormed t × (labels_of t ≡ labels.now) }
-        ensures { self.new ≡ record { label = label; place = past (walk.now.rule ∷ walk.now.head ∷ labels.now) } }
+    /// The plan of a head of a rule. None where there is none.
+    fn join_at<'s, A: Allocator + Copy>(
+        program: &'s Program<A>,
+        plans: &'s Plans<A>,
+        view: &View<'s, A>,
+        rule: u16,
+        head: u8,
+    ) -> Option<Join<'s, A>>
+        requires { ArePlans program.now plans.now }
+        ensures { let s = older program.now plans.now view.now.store.entries view.now.active in MatchOption result (IsUnplanned s rule head) (λ join. IsJoinOf s rule head (join_of join)) }
     {
-        self.label = label;
-        self.position.set_past(walk.rule, walk.head, labels);
+        let Some(order) = plans.plan(usize::from(rule), head) else {
+            return None;
+        };
+        let Some(found) = program.rule(usize::from(rule)) else {
+            return None;
+        };
+        Some(Join {
+            rule: found,
+            order,
+            view: view.copy(),
+        })
     }
 
-    /// The least trial of a rule at or after a head, from 1, and labels.
-    fn find_in_rule<A: Allocator + Copy>(
+    /// The plan of the next head with the active atom's predicate, from where the walk stands on, and the walk goes there.
+    /// None where there is none.
+    fn next_join<'s, A: Allocator + Copy>(
+        program: &'s Program<A>,
+        plans: &'s Plans<A>,
+        view: &View<'s, A>,
+        atom: &Atom<A>,
+        walk: &mut Walk,
+    ) -> Option<Join<'s, A>>
+        requires plans { ArePlans program.now plans.now }
+        requires atom { atom_at view.now.store.entries view.now.active ≡ Some atom.now }
+        ensures { let s = older program.now plans.now view.now.store.entries view.now.active in MatchOption result (NoneLeft s (walk.old.rule ∷ walk.old.head ∷ [])) (λ join. IsNextJoin s walk.old.rule walk.old.head walk.new.rule walk.new.head (join_of join)) }
+    {
+        let Some(found) = program.next_occurrence(atom.pred(), walk.rule, walk.head, &mut walk.near)
+        else {
+            return None;
+        };
+        walk.rule = found.0;
+        walk.head = found.1;
+        Search::join_at(program, plans, view, found.0, found.1)
+    }
+
+    /// The labels from which the trials of the plan are looked for at which a walk stands: those of the position, where
+    /// that is one of the same plan, and else none.
+    fn labels_in(&self, walk: &Walk) -> &[Label]
+        ensures { result.now ≡ labels_in self.now.place walk.now.rule walk.now.head }
+    {
+        let position = &self.position;
+        if position.rule == walk.rule && position.head == walk.head {
+            position.labels.as_slice()
+        } else {
+            &[]
+        }
+    }
+
+    /// The position of the least trial at or after the search's own, in a view for its label, which has this atom.
+    fn find_in<'s, A: Allocator + Copy>(
         &self,
-        program: &Program<A>,
-        plans: &Plans<A>,
-        store: &Store<A>,
-        number: u16,
-        from: u8,
-        labels: &[Label],
+        program: &'s Program<A>,
+        plans: &'s Plans<A>,
+        view: &View<'s, A>,
+        atom: &Atom<A>,
     ) -> Option<Position>
         requires plans { ArePlans program.now plans.now }
-        requires number { 1 ≤ number }
-        requires from { 1 ≤ from }
-        ensures { let s = older program.now plans.now store.now.entries self.now.label in MatchOption result (NoneBeyond (Child s) 3 (number ∷ []) (from ∷ labels.now)) (Least (Child s) 3 (number ∷ []) (from ∷ labels.now)) }
+        requires active { view.now.active ≡ self.now.label }
+        requires atom { atom_at view.now.store.entries self.now.label ≡ Some atom.now }
+        ensures { let s = older program.now plans.now view.now.store.entries self.now.label in MatchOption result (NoneLeft s self.now.place) (IsNext s self.now.place) }
     {
-        let rule = program.rule(usize::from(number))?;
-        let mut head = from;
-        let mut place = labels;
-        while let Some(order) = plans.plan(usize::from(number), head) {
-            let join = Join {
-                rule,
-                order,
-                view: View::of(store, self.label),
-            };
-            if let Some(labels) = join.find(place) {
+        // For the proof: the labels of a store are at most the greatest.
+        let _given = view.active();
+        let mut walk = Walk {
+            rule: self.position.rule,
+            head: self.position.head,
+            near: 0,
+        };
+        while let Some(join) = Search::next_join(program, plans, view, atom, &mut walk) {
+            if let Some(labels) = join.find(self.labels_in(&walk)) {
                 return Some(Position {
-                    rule: number,
-                    head,
+                    rule: walk.rule,
+                    head: walk.head,
                     labels,
                 });
             }
-            head += 1;
-            place = &[];
+            walk.head += 1;
         }
         None
     }
@@ -275,20 +321,11 @@ impl Search {
         requires { ArePlans program.now plans.now }
         ensures { let s = older program.now plans.now store.now.entries self.now.label in MatchOption result (NoneLeft s self.now.place) (IsNext s self.now.place) }
     {
-        let position = &self.position;
-        let mut number = position.rule;
-        let mut head = position.head;
-        let mut labels = position.labels.as_slice();
-        while usize::from(number) <= program.len() {
-            let found = self.find_in_rule(program, plans, store, number, head, labels);
-            if found.is_some() {
-                return found;
-            }
-            number += 1;
-            head = 1;
-            labels = &[];
-        }
-        None
+        let Some(atom) = store.get(self.label) else {
+            return None;
+        };
+        let view = View::of(store, self.label);
+        self.find_in(program, plans, &view, atom)
     }
 
     /// The least admissible trial at or after the position. Done where there is none. E01 where memory ran out. The search
@@ -323,10 +360,19 @@ impl Search {
         ensures { IfOk result (IsAnswerBehind (older program.now plans.now store.now.entries self.now.label) (position_of trial.now)) }
     {
         let past = Position::past(trial);
-        let labels = past.labels.as_slice();
-        let found = self.find_in_rule(program, plans, store, past.rule, past.head, labels);
-        let Some(next) = found else {
+        // For the proof: a trial has a label.
+        let _placed = trial.placed();
+        let view = View::of(store, self.label);
+        let Some(join) = Search::join_at(program, plans, &view, past.rule, past.head) else {
             return Ok(Ask::Done);
+        };
+        let Some(labels) = join.find(past.labels.as_slice()) else {
+            return Ok(Ask::Done);
+        };
+        let next = Position {
+            rule: past.rule,
+            head: past.head,
+            labels,
         };
         if !next.is_beside(trial) {
             return Ok(Ask::Done);
@@ -342,36 +388,6 @@ impl Search {
             Verdict::Part => Position::just_after(judged.trial()),
             Verdict::Misfit | Verdict::Whole => Position::past(judged.trial()),
         };
-    }
-
-    /// The plan of the next head with the active atom's predicate, from where the walk stands on, and the walk goes there.
-    /// None where there is none.
-    fn next_join<'s, A: Allocator + Copy>(
-        program: &'s Program<A>,
-        plans: &'s Plans<A>,
-        view: &View<'s, A>,
-        atom: &Atom<A>,
-        walk: &mut Walk,
-    ) -> Option<Join<'s, A>>
-        requires plans { ArePlans program.now plans.now }
-        requires atom { atom_at view.now.store.entries view.now.active ≡ Some atom.now }
-        ensures { let s = older program.now plans.now view.now.store.entries view.now.active in MatchOption result (NoneLeft s (walk.old.rule ∷ walk.old.head ∷ [])) (λ join. IsNextJoin s walk.old.rule walk.old.head walk.new.rule walk.new.head (join_of join)) }
-    {
-        let Some(found) = program.next_occurrence(atom.pred(), walk.rule, walk.head, &mut walk.near)
-        else {
-            return None;
-        };
-        walk.rule = found.0;
-        walk.head = found.1;
-        let rule = program.rule(usize::from(found.0))?;
-        let Some(order) = plans.plan(usize::from(found.0), found.1) else {
-            return None;
-        };
-        Some(Join {
-            rule,
-            order,
-            view: view.copy(),
-        })
     }
 
     /// Passes over the trials of a plan at or after the position, at most so many. The position becomes that after the last
@@ -390,6 +406,7 @@ impl Search {
         requires plan { HasPlan (join_of join.now) }
         requires trials { HasTrials (join_of join.now) }
         ensures few { result.count ≤ most }
+        ensures enough { result.end ≡ ends.Enough → result.count ≡ most }
         ensures label { self.new.label ≡ self.old.label }
         ensures passed { PassesPlan (join_of join.now) walk.now.rule walk.now.head self.old.place result.count self.new.place result.end instance.new.labels.items instance.new.binding }
     {
@@ -420,6 +437,7 @@ impl Search {
         requires active { view.now.active ≡ self.old.label }
         requires atom { atom_at view.now.store.entries self.old.label ≡ Some atom.now }
         ensures few { result.count ≤ most }
+        ensures more { result.then ≡ thens.More → result.count ≡ most }
         ensures label { self.new.label ≡ self.old.label }
         ensures passed { Passes (older program.now plans.now view.now.store.entries self.old.label) result.count self.old.place self.new.place }
         ensures then { IsThen (older program.now plans.now view.now.store.entries self.old.label) self.new.place result.then instance.new }
@@ -472,6 +490,7 @@ impl Search {
     ) -> Passed
         requires { ArePlans program.now plans.now }
         ensures few { result.count ≤ most }
+        ensures more { result.then ≡ thens.More → result.count ≡ most }
         ensures label { self.new.label ≡ self.old.label }
         ensures passed { Passes (older program.now plans.now store.now.entries self.old.label) result.count self.old.place self.new.place }
         ensures then { IsThen (older program.now plans.now store.now.entries self.old.label) self.new.place result.then instance.new }
@@ -501,6 +520,7 @@ impl Search {
         requires label { self.old.label ≡ store.now.next }
         requires room { store.now.next ≤ store.now.limit }
         ensures few { result.count ≤ most }
+        ensures more { result.then ≡ thens.More → result.count ≡ most }
         ensures label { self.new.label ≡ self.old.label }
         ensures passed { Passes (older program.now plans.now (entered store.now atom.now).entries self.old.label) result.count self.old.place self.new.place }
         ensures then { IsThen (older program.now plans.now (entered store.now atom.now).entries self.old.label) self.new.place result.then instance.new }

@@ -2,6 +2,7 @@
 ghost use Rattle.std.specs.Prelude.{◌≡◌, ◌↔◌, ◌≤◌, ℕ, length, map, IfOk, IsTrue};
 ghost use Rattle.std.specs.Arc.{arc_value};
 ghost use Rattle.chr_plan.specs.Plans.{ArePlans};
+ghost use Rattle.chr_search.specs.Positions.{front};
 ghost use Rattle.chr_search.specs.Trials.{older, IsTrial};
 ghost use Rattle.chr_search.specs.Verdicts.{IsFormed, position as position_of, IsTrialOf, label_at, labels_from, kept_labels, removed_labels};
 ghost use Rattle.chr_search.specs.Placed.{placed_as};
@@ -198,6 +199,13 @@ impl<A: Allocator + Copy> Trial<A> {
             && self.head == other.head
             && same_placed(&self.placed, &other.placed)
             && self.rule.same(&other.rule)
+    }
+
+    /// Whether another has the same rule number and head, and the same labels but the last.
+    pub fn is_beside(&self, other: &Trial<A>) -> bool
+        ensures { IsTrue result ↔ (front (position_of self.now) ≡ front (position_of other.now)) }
+    {
+        Position::of(self).is_beside(other)
     }
 
     /// The admissible trial of a position, with copies of its atoms. E01 where memory ran out.

@@ -1,4 +1,4 @@
-use Rattle.std.proofs.Common.{◌≡◌, ◌≤◌, ◌<◌, [], ◌∷◌, length, Some, refl, sym, ap, subst, ◌∙◌, arith, ⊎_elim}
+use Rattle.std.proofs.Common.{◌≡◌, ◌-◌, ◌≤◌, ◌<◌, [], ◌∷◌, length, Some, refl, sym, ap, subst, ◌∙◌, arith, ⊎_elim}
 use Rattle.chr_value.specs.Stores.{atom_at}
 use Rattle.chr_search.specs.declared.passing.End.{End}
 use Rattle.chr_search.specs.Trials.{Space, older, NoneLeft}
@@ -65,6 +65,11 @@ pub returns-in-Enough-clause-passed : goal.returns-in-Enough-clause-passed
 returns-in-Enough-clause-passed g c =
     let at = goal.at.returns-in-Enough-clause-passed g c in
     pass_more _ _ _ _ _ _ c.loop-join.invariant.passed (gone g at.After-pass_in_plan-passed (here g at.In-Some)).passed
+
+pub returns-in-Enough-clause-more : goal.returns-in-Enough-clause-more
+returns-in-Enough-clause-more g c = λ more.
+    let all : c.pass_in_plan-passed.result.count ≡ c.args.most - c.loop-join.count = c.pass_in_plan-passed.ensures.enough c.in-Enough.is in
+    omega (arith, c.loop-join.invariant.few)
 
 pub set_whole-requires-clause-trial : goal.set_whole-requires-clause-trial
 set_whole-requires-clause-trial g c =

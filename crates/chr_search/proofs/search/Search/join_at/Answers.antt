@@ -1,0 +1,32 @@
+use Rattle.std.proofs.Common.{◌≡◌, Some, None, refl, sym, ap, subst, ◌∙◌}
+use Rattle.chr_rule.specs.Rules.{rule_at}
+use Rattle.chr_plan.specs.Plans.{plan_at}
+use Rattle.chr_store.specs.Views.{Seen}
+use Rattle.chr_search.specs.Trials.{Space, older, join_in, IsPlanned}
+use Rattle.chr_search.specs.PlanByPlan.{IsJoinOf}
+use Rattle.chr_search.proofs.Descents.{plan_of}
+use Rattle.chr_search.proofs.search.Search.join_at.Goals as goal
+
+pub returns-in_default : goal.returns-in_default
+returns-in_default g c = λ rule order planned.
+    let gone : None ≡ plan_at c.args.plans.now c.args.rule c.args.head = subst (λ n. None ≡ plan_at c.args.plans.now n c.args.head) c.from.ensures c.in_default.ensures in
+    let z : None ≡ Some order = gone ∙ planned.order_is in
+    absurd (cc)
+
+pub returns-in_default-rule : goal.returns-in_default-rule
+returns-in_default-rule g c = λ rule order planned.
+    let gone : None ≡ rule_at c.args.program.now c.args.rule = subst (λ n. None ≡ rule_at c.args.program.now n) c.from-2.ensures c.in_default-rule.ensures.rule in
+    let z : None ≡ Some rule = gone ∙ planned.rule_is in
+    absurd (cc)
+
+pub returns : goal.returns
+returns g c =
+    let s : Space = older c.args.program.now c.args.plans.now c.args.view.now.store.entries c.args.view.now.active in
+    let rule = c.deref.result.now in
+    let order = c.in-Some.order.now in
+    let p : IsPlanned s c.args.rule c.args.head rule order = record {
+      rule_is = subst (λ n. rule_at c.args.program.now n ≡ Some rule) c.from-2.ensures (sym c.in-Some-rule.ensures.rule ∙ ap (λ x. Some x) (sym c.deref.ensures));
+      order_is = subst (λ n. plan_at c.args.plans.now n c.args.head ≡ Some order) c.from.ensures (sym c.in-Some.ensures);
+    } in
+    subst (λ (v : Seen). IsJoinOf s c.args.rule c.args.head (join_in (older c.args.program.now c.args.plans.now v.store.entries v.active) rule order)) (sym c.copy.ensures)
+    (record { planned = p; is = refl; plan = plan_of s c.requires c.rule.ensures.valid c.args.rule c.args.head rule order p })
