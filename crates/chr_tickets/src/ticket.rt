@@ -5,6 +5,7 @@ ghost use Rattle.chr_model.specs.Goals.{Numbered};
 ghost use Rattle.chr_plan.specs.Plans.{ArePlans};
 ghost use Rattle.chr_search.specs.Answers.{after_judging};
 ghost use Rattle.chr_search.specs.Trials.{older};
+ghost use Rattle.chr_search.specs.declared.search.Then.TheVariants as thens;
 ghost use Rattle.chr_calls.specs.declared.answers.TicketState.TheVariants.{Held};
 ghost use Rattle.chr_calls.specs.Tickets.{waiting, activated_by, held_by, put_down, with_candidate, going_on, atom_in, search_in};
 ghost use Rattle.chr_tickets.specs.Open.{shown_ticket, state_in, is_open_for, IsActiveGoal};
@@ -207,6 +208,7 @@ impl<A: Allocator + Copy> Ticket<A> {
         requires active { IsActiveGoal (shown_ticket self.old).goal }
         requires plans { ArePlans program.now plans.now }
         ensures few { result.count ≤ most }
+        ensures more { result.then ≡ thens.More → result.count ≡ most }
         ensures passed { (l : ℕ) → (shown_ticket self.old).goal ≡ Numbered l → PassesOver (older program.now plans.now store.now.entries l) result instance.new (shown_ticket self.old) (shown_ticket self.new) }
     {
         let Goal::Active {

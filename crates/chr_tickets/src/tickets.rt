@@ -5,6 +5,7 @@ ghost use Rattle.chr_model.specs.Goals.{Numbered};
 ghost use Rattle.chr_plan.specs.Plans.{ArePlans};
 ghost use Rattle.chr_search.specs.Answers.{after_judging};
 ghost use Rattle.chr_search.specs.Trials.{older};
+ghost use Rattle.chr_search.specs.declared.search.Then.TheVariants as thens;
 ghost use Rattle.chr_calls.specs.declared.answers.TicketState.TheVariants.{Waiting, Resting};
 ghost use Rattle.chr_calls.specs.Tickets.{ended, waiting, activated_by, held_by, put_down, marked, with_candidate, going_on, ticket_at, state_of, IsClaimable, IsActive, Holds, IsNotHeld, AreQuiet, atom_in, search_in, LosesStray, IsLeastFor, NoneFor};
 ghost use Rattle.chr_tickets.specs.Open.{shown_ticket};
@@ -221,6 +222,7 @@ impl<A: Allocator + Copy> Tickets<A> {
         requires active { IsActive self.old ticket }
         requires plans { ArePlans program.now plans.now }
         ensures few { result.count ≤ most }
+        ensures more { result.then ≡ thens.More → result.count ≡ most }
         ensures passed { (l : ℕ) → (ticket_at self.old ticket).goal ≡ Numbered l → PassesOver (older program.now plans.now store.now.entries l) result instance.new (ticket_at self.old ticket) (ticket_at self.new ticket) }
         ensures others { self.new ≡ slice_set self.old ticket (ticket_at self.new ticket) }
     {
