@@ -1,16 +1,15 @@
 -- Trials beside one another, and the judgements of a batch.
-use Rattle.std.proofs.Common.{◌≡◌, ℕ, zero, suc, ◌+◌, ◌-◌, ◌<◌, ◌≤◌, List, [], ◌∷◌, ◌++◌, length, length-append, append-nil, append_assoc, Option, Some, None, MatchOption, nat_lt, if◌then◌else◌, slice_set, get_or, drop, ap₂, Result, Ok, Err, refl, sym, ◌∙◌, ap, subst, arith}
+use Rattle.std.proofs.Common.{◌≡◌, ◌≢◌, ℕ, zero, suc, ◌+◌, ◌-◌, ◌<◌, ◌≤◌, List, [], ◌∷◌, ◌++◌, length, length-append, append-nil, append_assoc, Option, Some, None, MatchOption, nat_lt, if◌then◌else◌, slice_set, get_or, drop, ap₂, Result, Ok, Err, refl, sym, ◌∙◌, ap, subst, arith}
 use Rattle.std.proofs.lemmas.List.{length-set, get_or_push}
 use Rattle.chr_model.specs.Goals.{Goal}
 use Rattle.chr_search.specs.Trials.{Space}
 use Rattle.chr_search.specs.Verdicts.{Trial, position}
 use Rattle.chr_search.specs.Judged.{Judgement}
+use Rattle.chr_search.specs.declared.judged.Verdict.TheVariants.{Whole}
 use Rattle.chr_search.specs.Answers.{IsAnswerBehind}
 use Rattle.chr_search.specs.declared.search.Ask.{Ask}
 use Rattle.chr_search.specs.declared.search.Ask.TheVariants as answers
 use Rattle.chr_calls.specs.declared.answers.TurnFault.{TurnFault}
-use Rattle.chr_calls.specs.declared.answers.ReportFault.{ReportFault}
-use Rattle.chr_calls.specs.declared.answers.ReportFault.TheVariants as report
 use Rattle.chr_calls.specs.declared.answers.TicketState.{TicketState}
 use Rattle.chr_calls.specs.declared.answers.TicketState.TheVariants.{Unknown}
 use Rattle.chr_calls.specs.declared.answers.TicketState.TheVariants as states
@@ -18,7 +17,7 @@ use Rattle.chr_calls.specs.Turns.{Turn, Next}
 use Rattle.chr_calls.specs.Turns as turn
 use Rattle.chr_calls.specs.Tickets.{Ticket, ticket_at, with_candidate, state_of, state_with}
 use Rattle.chr_calls.specs.Books.{BookState, space_of}
-use Rattle.chr_calls.specs.Calls.{HoldsLive, Turns, Reports}
+use Rattle.chr_calls.specs.Calls.{HoldsLive, HoldsCandidate, Turns, Reports}
 use Rattle.chr_calls.specs.Batches.{IsNextBeside, NoneBeside, AreNextBeside, AreBeside, BatchesTrials, Ends, ReportsAll, asks, ends, reports, passes}
 use Rattle.chr_calls.proofs.Tickets.{ticket_same, numbered_within}
 
@@ -135,7 +134,7 @@ one_passed seat t b now asked js rest j told reported inv turned on other more n
     let trial = goes_on j told on in
     inv more next n (passes now asked n trial.0 j rest more next (λ e. other (trial.1 ∙ ap (λ x. Ok (Next x)) e)) (subst (λ r. Turns now seat t r asked) trial.1 turned) h)
 
--- a seat that was told the judged trial, which isn't whole, reports the judgement
+-- a seat that was told the judged trial holds it as the candidate, and it isn't whole where that doesn't end the batch
 still_held : (ts : List Ticket) (t seat : ℕ) (x : Ticket) → x.goal ≡ (ticket_at ts t).goal → x.holder ≡ (ticket_at ts t).holder → t < length ts → state_of ts t ≡ states.Held seat → state_of (slice_set ts t x) t ≡ states.Held seat
 still_held ts zero seat x goal holder within h = absurd (cc)
 still_held ts (suc t) seat x goal holder within h = same (length-set ts (suc t) x) (ticket_same ts (suc t) x within)
@@ -146,16 +145,18 @@ still_held ts (suc t) seat x goal holder within h = same (length-set ts (suc t) 
     same : length (slice_set ts (suc t) x) ≡ length ts → ticket_at (slice_set ts (suc t) x) (suc t) ≡ x → state_of (slice_set ts (suc t) x) (suc t) ≡ states.Held seat
     same n e = ap₂ shown n e ∙ ap₂ (λ (g : Goal) (o : Option ℕ). if nat_lt (suc t) (length ts) then state_with g o else Unknown) goal holder ∙ h
 
-pub is_reported : (seat t : ℕ) (b asked n : BookState) (j : Judgement) (told : Result Turn TurnFault) (fault : ReportFault) → Turns b seat t told asked → told ≡ Ok (Next j.trial) → (Ends j told → ⊥) → Reports asked seat t j (Err fault) n → ⊥
-is_reported seat t b asked n j told fault turned is on h = of_fault fault h
-  where
-    given : Turns b seat t (Ok (Next j.trial)) asked
-    given = subst (λ r. Turns b seat t r asked) is turned
+pub now_candidate : (seat t : ℕ) (b asked : BookState) (j : Judgement) (told : Result Turn TurnFault) → Turns b seat t told asked → told ≡ Ok (Next j.trial) → HoldsCandidate asked seat t j.trial
+now_candidate seat t b asked j told turned is =
+    let given : Turns b seat t (Ok (Next j.trial)) asked = subst (λ r. Turns b seat t r asked) is turned in
+    let within = numbered_within b.tickets t given.0 given.1.holds.goal in
+    let x : Ticket = with_candidate (Some j.trial) (ticket_at b.tickets t) in
+    record {
+      held = subst (λ (m : BookState). state_of m.tickets t ≡ states.Held seat) (sym given.3) (still_held b.tickets t seat x refl refl within given.1.holds.state);
+      candidate = subst (λ (m : BookState). (ticket_at m.tickets t).candidate ≡ Some j.trial) (sym given.3) (ap (λ (y : Ticket). y.candidate) (ticket_same b.tickets t x within));
+    }
 
-    of_fault : (f : ReportFault) → Reports asked seat t j (Err f) n → ⊥
-    of_fault report.NotHeld r = r.0 (subst (λ (m : BookState). state_of m.tickets t ≡ states.Held seat) (sym given.3) (still_held b.tickets t seat (with_candidate (Some j.trial) (ticket_at b.tickets t)) refl refl (numbered_within b.tickets t given.0 given.1.holds.goal) given.1.holds.state))
-    of_fault report.Stale r = r.0.other (subst (λ (m : BookState). (ticket_at m.tickets t).candidate ≡ Some j.trial) (sym given.3) (ap (λ (x : Ticket). x.candidate) (ticket_same b.tickets t (with_candidate (Some j.trial) (ticket_at b.tickets t)) (numbered_within b.tickets t given.0 given.1.holds.goal))))
-    of_fault report.IsWhole r = on (subst (Ends j) (sym is) (refl, r.1))
+pub not_whole : (j : Judgement) (told : Result Turn TurnFault) → told ≡ Ok (Next j.trial) → (Ends j told → ⊥) → j.verdict ≢ Whole
+not_whole j told is on w = on (subst (Ends j) (sym is) (refl, w))
 
 -- ---- a batch
 

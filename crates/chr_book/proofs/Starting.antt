@@ -324,6 +324,16 @@ pub starts_limit : (seat t : ℕ) (rules : List (Simpagation ℕ)) (place : List
 starts_limit seat t rules place come i last ts log st new entries after (fires is own fired f) = ap (λ (z : LabelledStore). z.limit) f.store
 starts_limit seat t rules place come i last ts log st new entries after (enters now es store g ends) = ends_limit seat t rules come i last now es store new entries after ends ∙ ap (λ (z : LabelledStore). z.limit) g.store
 
+-- where the last of the rounds passed over a trial, there are perhaps more
+pub ends_more : (seat t : ℕ) (rules : List (Simpagation ℕ)) (come : Then) (i : Instance) (last : Last) (ts : List Ticket) (log : List (Entry ℕ)) (st : LabelledStore) (new : List Ticket) (entries : List (Entry ℕ)) (after : LabelledStore) → EndsRounds seat t rules come i last ts log st new entries after → last ≡ lasts.Passed → come ≡ thens.More
+ends_more seat t rules thens.More i last ts log st new entries after h e = refl
+ends_more seat t rules thens.Done i last ts log st new entries after h e = let d : last ≡ lasts.Dropped = h.0 in absurd (cc)
+ends_more seat t rules thens.Whole i last ts log st new entries after h e = let f : last ≡ lasts.Fired = h.0 in absurd (cc)
+
+pub starts_more : (seat t : ℕ) (rules : List (Simpagation ℕ)) (place : List ℕ) (come : Then) (i : Instance) (last : Last) (ts : List Ticket) (log : List (Entry ℕ)) (st : LabelledStore) (new : List Ticket) (entries : List (Entry ℕ)) (after : LabelledStore) → EndsStart seat t rules place come i last ts log st new entries after → last ≡ lasts.Passed → come ≡ thens.More
+starts_more seat t rules place come i last ts log st new entries after (fires is own fired f) e = absurd (cc)
+starts_more seat t rules place come i last ts log st new entries after (enters now es store g ends) e = ends_more seat t rules come i last now es store new entries after ends e
+
 pub stays_limit : (seat t : ℕ) (place : List ℕ) (ts : List Ticket) (log : List (Entry ℕ)) (st : LabelledStore) (new : List Ticket) (entries : List (Entry ℕ)) (after : LabelledStore) → EntersOrStays seat t place ts log st new entries after → after.limit ≡ st.limit
 stays_limit seat t place ts log st new entries after (inl same) = ap (λ (z : LabelledStore). z.limit) same.2
 stays_limit seat t place ts log st new entries after (inr g) = ap (λ (z : LabelledStore). z.limit) g.store

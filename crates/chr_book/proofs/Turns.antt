@@ -19,8 +19,9 @@ use Rattle.chr_calls.specs.declared.answers.Dropping.TheVariants as dropping
 use Rattle.chr_calls.specs.Turns as turn
 use Rattle.chr_calls.specs.Tickets.{Ticket, ended, marked, with_candidate, going_on, ticket_at, state_of, IsClaimable, waits, rests, IsActive, IsNotHeld}
 use Rattle.chr_calls.specs.Books.{BookState, space_of, IsLive, with_tickets, with_ticket}
-use Rattle.chr_calls.specs.Calls.{HoldsLive, MayBeDropped, Turns, Marks}
+use Rattle.chr_calls.specs.Calls.{HoldsLive, HoldsCandidate, MayBeDropped, Turns, Marks}
 use Rattle.chr_calls.specs.Headline.{IsKept}
+use Rattle.chr_calls.proofs.Tickets.{held_is}
 use Rattle.chr_calls.proofs.Dropping.{drops_keep}
 use Rattle.chr_calls.proofs.Turning.{reports_keep}
 use Rattle.chr_book.specs.Books.{IsHeldSearch, HasTrialLeft}
@@ -94,17 +95,18 @@ dropped_keeps b now e seat t s entries tickets h not_left log ts k =
     n : BookState
     n = with_both entries tickets
 
--- where the search moves on after a judgement that isn't whole
-pub reported_keeps : (b now : BookState) → b ≡ now → (seat t : ℕ) (j : Judgement) (found : Option (Bor SearchState)) (trial : Trial) (tickets : List Ticket) → is_some found ≡ true → MatchOption found (IsNotHeld now.tickets seat t) (λ s. IsHeldSearch now.tickets seat t s.now) → (ticket_at now.tickets t).candidate ≡ Some trial → trial ≡ j.trial → IsVerdict j.trial j.verdict → j.verdict ≢ Whole → tickets ≡ slice_set b.tickets t (going_on (after_judging j) (ticket_at b.tickets t)) → IsKept b → IsKept (with_tickets b tickets)
-reported_keeps b now e seat t j found trial tickets some h candidate same right ne ts k =
-    reports_keep b (with_tickets b tickets) seat t j (Ok tt) right (
-      record {
-        held = (held_search b now e seat t found some h).1.holds.state;
-        candidate = subst (λ (n : BookState). (ticket_at n.tickets t).candidate ≡ Some j.trial) (sym e) (candidate ∙ ap Some same);
-      },
-      ne,
-      ap (with_tickets b) ts,
-    ) k
+-- where the search moves on after its candidate, which isn't whole
+pub moved_keeps : (b now : BookState) → b ≡ now → (t : ℕ) (j : Judgement) (tickets : List Ticket) → (seat : ℕ) × HoldsCandidate now seat t j.trial → IsVerdict j.trial j.verdict → j.verdict ≢ Whole → tickets ≡ slice_set b.tickets t (going_on (after_judging j) (ticket_at b.tickets t)) → IsKept b → IsKept (with_tickets b tickets)
+moved_keeps b now e t j tickets (seat, h) right ne ts k =
+    reports_keep b (with_tickets b tickets) seat t j (Ok tt) right (subst (λ (n : BookState). HoldsCandidate n seat t j.trial) (sym e) h, ne, ap (with_tickets b) ts) k
+
+-- the ticket of a candidate is active
+pub candidate_active : (b now : BookState) → b ≡ now → (t : ℕ) (trial : Trial) → (seat : ℕ) × HoldsCandidate now seat t trial → IsActive b.tickets t
+candidate_active b now e t trial (seat, h) = subst (λ (n : BookState). IsActive n.tickets t) (sym e) (let i = held_is now.tickets t seat h.held in (i.label, i.goal))
+
+-- the judged trial is the candidate of a ticket that is held
+pub holds_candidate : (now : BookState) (seat t : ℕ) (j : Judgement) (found : Option (Bor SearchState)) (trial : Trial) → is_some found ≡ true → MatchOption found (IsNotHeld now.tickets seat t) (λ s. IsHeldSearch now.tickets seat t s.now) → (ticket_at now.tickets t).candidate ≡ Some trial → trial ≡ j.trial → HoldsCandidate now seat t j.trial
+holds_candidate now seat t j found trial some h candidate same = record { held = (held_search now now refl seat t found some h).1.holds.state; candidate = candidate ∙ ap Some same }
 
 -- ---- turns
 

@@ -1,7 +1,8 @@
 //! Rounds of calls for a ticket: one that asks for its next trial, and one that answers.
-ghost use Rattle.std.specs.Prelude.{◌↔◌, ◌≤◌, ◌≡◌, IsTrue, IfOk, IfSome, MatchOption, OnErr};
+ghost use Rattle.std.specs.Prelude.{◌↔◌, ◌+◌, ◌≤◌, ◌≡◌, IsTrue, IfOk, IfSome, IsSome, MatchOption, OnErr};
 ghost use Rattle.chr_calls.specs.declared.answers.TicketState.TheVariants as states;
 ghost use Rattle.chr_calls.specs.Tickets.{state_of};
+ghost use Rattle.chr_book.specs.declared.rounds.Last.TheVariants as lasts;
 ghost use Rattle.chr_book.specs.Passed.{IsHeldLive, rounds_in, MakesRounds, MakesFewer, StartsRounds, StartsFewer};
 
 use crate::book::Book;
@@ -63,6 +64,7 @@ impl<A: Allocator + Copy> Book<A> {
         requires held { IsHeldLive self.old seat ticket }
         requires some { 1 ≤ most }
         ensures few { IfOk result (λ rounds. rounds_in rounds ≤ most) }
+        ensures all { IfOk result (λ rounds. rounds.last ≡ lasts.Passed → most ≤ rounds.passed + 1) }
         ensures ok { IfOk result (λ rounds. MakesRounds seat ticket rounds self.old self.new) }
         ensures err { OnErr result (MakesFewer seat ticket most self.old self.new) }
     {
@@ -93,10 +95,11 @@ impl<A: Allocator + Copy> Book<A> {
     /// Makes rounds of calls for a ticket that the seat holds, at most so many. In each, [`trial`](Book::trial) gives the next
     /// trial, and with the right verdict [`report`](Book::report) passes over it, up to one that is whole: that one
     /// [`fire`](Book::fire) fires, which is the last round; where no trial is left, [`drop_goal`](Book::drop_goal) drops the
-    /// goal in the last round. No round where the seat doesn't hold the ticket or the goal's label has left the store. An
-    /// `Err` is E01: the rounds before the last were made.
+    /// goal in the last round. Where none fires or drops, they are one fewer than asked for. No round where the seat doesn't
+    /// hold the ticket or the goal's label has left the store. An `Err` is E01: the rounds before the last were made.
     pub fn go_on(&mut self, seat: u32, ticket: u64, most: u64) -> Result<Rounds, AllocError>
         ensures few { IfOk result (λ rounds. rounds_in rounds ≤ most) }
+        ensures all { IsHeldLive self.old seat ticket → IfOk result (λ rounds. rounds.last ≡ lasts.Passed → most ≤ rounds.passed + 1) }
         ensures ok { IfOk result (λ rounds. MakesRounds seat ticket rounds self.old self.new) }
         ensures err { OnErr result (MakesFewer seat ticket most self.old self.new) }
     {
@@ -115,6 +118,7 @@ impl<A: Allocator + Copy> Book<A> {
         requires room { self.old.next ≤ self.old.limit }
         requires some { 1 ≤ most }
         ensures few { IfOk result (λ rounds. rounds_in rounds ≤ most) }
+        ensures all { IfOk result (λ rounds. rounds.last ≡ lasts.Passed → most ≤ rounds.passed + 1) }
         ensures ok { IfOk result (λ rounds. StartsRounds seat ticket rounds self.old self.new) }
         ensures err { OnErr result (StartsFewer seat ticket most self.old self.new) }
     {
@@ -147,11 +151,13 @@ impl<A: Allocator + Copy> Book<A> {
         })
     }
 
-    /// Claims a ticket that waits, and makes rounds for it as [`go_on`](Book::go_on) does, at most so many. None where it
-    /// doesn't wait, the labels are spent, or no round was asked for: then nothing has changed. An `Err` is E01: nothing has
-    /// changed, or the ticket was claimed and the rounds before the last were made.
+    /// Claims a ticket that waits, and makes rounds for it as [`go_on`](Book::go_on) does, at most so many. None only where
+    /// it doesn't wait, the labels are spent, or no round was asked for: then nothing has changed. An `Err` is E01: nothing
+    /// has changed, or the ticket was claimed and the rounds before the last were made.
     pub fn start(&mut self, seat: u32, ticket: u64, most: u64) -> Result<Option<Rounds>, AllocError>
         ensures few { IfOk result (λ started. IfSome started (λ rounds. rounds_in rounds ≤ most)) }
+        ensures all { IfOk result (λ started. IfSome started (λ rounds. rounds.last ≡ lasts.Passed → most ≤ rounds.passed + 1)) }
+        ensures some { state_of self.old.tickets ticket ≡ states.Waiting → self.old.next ≤ self.old.limit → 1 ≤ most → IfOk result (λ started. IsSome started) }
         ensures ok { IfOk result (λ started. MatchOption started (self.new ≡ self.old) (λ rounds. StartsRounds seat ticket rounds self.old self.new)) }
         ensures err { OnErr result (StartsFewer seat ticket most self.old self.new) }
     {

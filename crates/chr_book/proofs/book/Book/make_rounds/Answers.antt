@@ -1,4 +1,4 @@
-use Rattle.std.proofs.Common.{ℕ, sym, ap, ◌∙◌, subst, arith}
+use Rattle.std.proofs.Common.{◌≡◌, ◌-◌, ℕ, sym, ap, ◌∙◌, subst, arith}
 use Rattle.chr_store.specs.Labels.{LabelledStore}
 use Rattle.chr_calls.specs.Tickets.{ticket_at}
 use Rattle.chr_calls.specs.Books.{BookState, space_of}
@@ -8,7 +8,7 @@ use Rattle.chr_book.specs.Passed.{MakesRounds, MakesFewer}
 use Rattle.chr_tickets.specs.Passed.{PassesOver}
 use Rattle.chr_book.proofs.Passes.{IsPast, gone_past}
 use Rattle.chr_book.proofs.GoingOn.{ended_rounds, fewer_rounds, rounds_of, fewer_of, rounds_keep, fewer_keep}
-use Rattle.chr_book.proofs.Starting.{finds_whole, ends_limit}
+use Rattle.chr_book.proofs.Starting.{finds_whole, ends_limit, ends_more}
 use Rattle.chr_book.proofs.book.Book.make_rounds.Given.{Over}
 use Rattle.chr_book.proofs.book.Book.make_rounds.Goals as goal
 use Rattle.chr_book.proofs.book.Book.make_rounds.Goals.{After-pass_over-come, In_ok-last, After-from_residual}
@@ -64,3 +64,8 @@ invariant_of-self-2 g c = (rounds_keep _ _ _ _ _ (made g c) c.self.invariant.0, 
 
 pub returns-clause-ok : goal.returns-clause-ok
 returns-clause-ok g c = rounds_of c.self.view_is (made g c)
+
+pub returns-clause-all : goal.returns-clause-all
+returns-clause-all g c = λ passed.
+    let all : c.pass_over-come.result.count ≡ c.args.most - 1 = c.pass_over-come.ensures.more (ends_more c.args.seat c.args.ticket c.self.inside.program c.pass_over-come.result.then c.pass_over-come.new.instance c.in_ok-last.last c.pass_over-come.new.self c.self.inside.log c.self.inside.store c.end_rounds.new.tickets c.end_rounds.new.log c.end_rounds.new.store c.in_ok-last.ensures.ok passed) in
+    omega arith

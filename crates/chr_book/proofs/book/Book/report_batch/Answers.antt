@@ -1,11 +1,9 @@
-use Rattle.std.proofs.Common.{◌≡◌, ◌+◌, List, drop, true≢false, subst, sym, ◌∙◌, arith, Result}
+use Rattle.std.proofs.Common.{◌≡◌, ◌+◌, List, drop, true≢false, subst, sym, ◌∙◌, arith}
 use Rattle.std.proofs.lemmas.List.{drop_all}
 use Rattle.chr_search.specs.Judged.{Judgement}
-use Rattle.chr_calls.specs.declared.answers.ReportFault.{ReportFault}
 use Rattle.chr_calls.specs.Turns.{turn_of}
-use Rattle.chr_calls.specs.Calls.{Reports}
-use Rattle.chr_book.proofs.Batched.{Completes, completes_as, left_is, stopped, asked_last, one_reported, one_passed, is_reported}
-use Rattle.chr_book.proofs.book.Book.report_batch.Goals.{then-is_judged+in-Ok, else-is_judged}
+use Rattle.chr_book.proofs.Batched.{Completes, completes_as, left_is, stopped, asked_last, one_reported, one_passed, now_candidate, not_whole}
+use Rattle.chr_book.proofs.book.Book.report_batch.Goals.{then-is_judged, else-is_judged}
 use Rattle.chr_book.proofs.book.Book.report_batch.Goals as goal
 
 pub returns-then-ends : goal.returns-then-ends
@@ -18,13 +16,13 @@ returns-then-ends g c =
     (subst (λ (xs : List Judgement). Completes c.args.seat c.args.ticket c.args.self.now js c.loop-judged.self xs c.loop-judged.reported) left c.loop-judged.invariant.completes)
     c.trial-next.ensures (c.ends.ensures.0 c.if-ends.true)
 
-pub unreachable-requires : goal.unreachable-requires
-unreachable-requires g c =
-    let j = c.judged-item.result in
-    let told = turn_of {Z = g.row.A.Denot} c.trial-next.result in
-    is_reported c.args.seat c.args.ticket c.loop-judged.self c.trial-next.new.self c.report.new.self j told c.in_default.field-0 c.trial-next.ensures (c.is_judged.ensures.0 c.if-is_judged.true)
-    (λ e. true≢false (sym (c.ends.ensures.1 e) ∙ c.if-ends.false))
-    (subst (λ (r : Result (Unit {0}) ReportFault). Reports c.trial-next.new.self c.args.seat c.args.ticket j r c.report.new.self) c.in_default.is c.report.ensures)
+pub move_on-requires-clause-candidate : goal.move_on-requires-clause-candidate
+move_on-requires-clause-candidate g c =
+    (c.args.seat, now_candidate c.args.seat c.args.ticket c.loop-judged.self c.trial-next.new.self c.judged-item.result (turn_of {Z = g.row.A.Denot} c.trial-next.result) c.trial-next.ensures (c.is_judged.ensures.0 c.if-is_judged.true))
+
+pub move_on-requires-clause-other : goal.move_on-requires-clause-other
+move_on-requires-clause-other g c =
+    not_whole c.judged-item.result (turn_of {Z = g.row.A.Denot} c.trial-next.result) (c.is_judged.ensures.0 c.if-is_judged.true) (λ e. true≢false (sym (c.ends.ensures.1 e) ∙ c.if-ends.false))
 
 pub loop-judged-preserved : goal.loop-judged-preserved
 loop-judged-preserved g c =
@@ -39,11 +37,11 @@ loop-judged-preserved g c =
     let told = turn_of {Z = g.row.A.Denot} c.trial-next.result in
     let inv = subst (λ (xs : List Judgement). Completes c.args.seat c.args.ticket c.args.self.now js now xs n) (left_is js i j c.loop-judged-test.true c.judged-item.is) c.loop-judged.invariant.completes in
     elim c.if-is_judged.branch [
-      | then-is_judged+in-Ok w ↦ record {
+      | then-is_judged w ↦ record {
         few = (let more : c.if-is_judged.reported ≡ n + 1 = w.reported-is in omega arith);
-        completes = completes_as c.args.seat c.args.ticket c.args.self.now c.if-is_judged.self w.report.new.self js rest (n + 1) c.if-is_judged.reported w.self-is w.reported-is
-            (one_reported c.args.seat c.args.ticket c.args.self.now now asked w.report.new.self js rest j told n inv c.trial-next.ensures (c.is_judged.ensures.0 w.if-is_judged.true)
-            (subst (λ (r : Result (Unit {0}) ReportFault). Reports asked c.args.seat c.args.ticket j r w.report.new.self) w.in-Ok.is w.report.ensures));
+        completes = completes_as c.args.seat c.args.ticket c.args.self.now c.if-is_judged.self w.move_on.new.self js rest (n + 1) c.if-is_judged.reported w.self-is w.reported-is
+            (one_reported c.args.seat c.args.ticket c.args.self.now now asked w.move_on.new.self js rest j told n inv c.trial-next.ensures (c.is_judged.ensures.0 w.if-is_judged.true)
+            (now_candidate c.args.seat c.args.ticket now asked j told c.trial-next.ensures (c.is_judged.ensures.0 w.if-is_judged.true), not_whole j told (c.is_judged.ensures.0 w.if-is_judged.true) (λ e. true≢false (sym (c.ends.ensures.1 e) ∙ c.if-ends.false)), w.move_on.ensures));
       }
       | else-is_judged w ↦ record {
         few = (let same : c.if-is_judged.reported ≡ n = w.reported-is in omega arith);

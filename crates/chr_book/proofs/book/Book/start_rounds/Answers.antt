@@ -1,4 +1,4 @@
-use Rattle.std.proofs.Common.{◌≡◌, ◌≤◌, ◌++◌, ◌∷◌, [], ℕ, sym, ap, subst, ◌∙◌, arith}
+use Rattle.std.proofs.Common.{◌≡◌, ◌-◌, ◌≤◌, ◌++◌, ◌∷◌, [], ℕ, sym, ap, subst, ◌∙◌, arith}
 use Rattle.chr_search.specs.Positions.{beginning}
 use Rattle.chr_search.specs.Reach.{SearchState}
 use Rattle.chr_search.specs.Trials.{Space, older}
@@ -8,7 +8,7 @@ use Rattle.chr_calls.specs.Tickets.{state_of}
 use Rattle.chr_calls.specs.Books.{BookState}
 use Rattle.chr_book.specs.Books.{book_of}
 use Rattle.chr_book.specs.Passed.{StartsRounds, StartsFewer}
-use Rattle.chr_book.proofs.Starting.{IsReady, starts, starts_fewer, starts_keep, starts_fewer_keep, started_of, started_fewer_of, starts_limit, stays_limit}
+use Rattle.chr_book.proofs.Starting.{IsReady, starts, starts_fewer, starts_keep, starts_fewer_keep, started_of, started_fewer_of, starts_limit, starts_more, stays_limit}
 use Rattle.chr_book.proofs.book.Book.start_rounds.Given.{Over}
 use Rattle.chr_book.proofs.book.Book.start_rounds.Goals as goal
 use Rattle.chr_book.proofs.book.Book.start_rounds.Goals.{After-pass_over_before-come, In_ok-last, After-from_residual}
@@ -68,3 +68,8 @@ invariant_of-self-2 g c = (starts_keep _ _ _ _ _ (started g c) c.self.invariant.
 
 pub returns-clause-ok : goal.returns-clause-ok
 returns-clause-ok g c = started_of c.self.view_is (started g c)
+
+pub returns-clause-all : goal.returns-clause-all
+returns-clause-all g c = λ passed.
+    let all : c.pass_over_before-come.result.count ≡ c.args.most - 1 = c.pass_over_before-come.ensures.more (starts_more c.args.seat c.args.ticket c.self.inside.program c.pass_over_before-come.new.self.place c.pass_over_before-come.result.then c.pass_over_before-come.new.instance c.in_ok-last.last c.self.inside.tickets c.self.inside.log c.self.inside.store c.end_start.new.tickets c.end_start.new.log c.end_start.new.store c.in_ok-last.ensures.ok passed) in
+    omega arith
