@@ -3,8 +3,7 @@ use Rattle.std.proofs.Common.{◌≡◌, ◌↔◌, ℕ, zero, suc, ◌+◌, ◌
 use Rattle.std.specs.List.{list_any}
 use Rattle.std.specs.Option.{option_map}
 use Rattle.std.proofs.lemmas.Bool.Decides.{nat_tests}
-use Rattle.std.proofs.lemmas.Bool.{ltb-true}
-use Rattle.std.proofs.lemmas.Option.{slice_get_within, slice_get_past, slice_get_read}
+use Rattle.std.proofs.lemmas.Option.{slice_get_within, slice_get_past}
 use Rattle.std.proofs.Math.Seq.{take-append_seam}
 use Rattle.chr_value.specs.Atoms.{Value, Atom}
 use Rattle.chr_value.specs.Stores.{Store}
@@ -34,9 +33,6 @@ none_if (Some x) f = absurd (f x refl)
 pub any_among : (ls : List ℕ) (l : ℕ) → list_any (λ y. y == l) ls ≡ among ls l
 any_among [] l = refl
 any_among (x ∷ ls) l = ap (λ b. (x == l) || b) (any_among ls l)
-
-pub get_there : {A : Type 0} (xs : List A) (i : ℕ) (x : A) → true ≡ ltb i (length xs) → x ≡ slice_index_or xs i x → slice_get xs i ≡ Some x
-get_there xs i x t e = slice_get_read xs (length xs) i x refl (ltb-true i (length xs) (sym t)) e
 
 pub past_get : {A : Type 0} (xs : List A) (i : ℕ) → false ≡ ltb i (length xs) → slice_get xs i ≡ None
 past_get xs i t = slice_get_past xs i (let h : length xs ≤ i = grind (arith, nat_tests) in h)

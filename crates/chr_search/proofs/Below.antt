@@ -2,6 +2,7 @@
 use Rattle.std.proofs.Common.{◌≡◌, ℕ, zero, suc, ◌+◌, ◌<◌, ◌≤◌, Bool, true, false, ◌==◌, if◌then◌else◌, List, [], ◌∷◌, ◌++◌, length, take, refl, sym, ◌∙◌, ap, subst, arith, ⊎_elim, length-append}
 use Rattle.std.proofs.Math.Seq.{take-append_seam}
 use Rattle.std.proofs.lemmas.Bool.Decides.{nat_tests}
+use Rattle.std.proofs.lemmas.List.{append-nil}
 use mathlib.Core.Bool.{not}
 use denote.Enum.Bare.{sameb}
 use Rattle.chr_search.specs.contracts.passing.End.{the_type}
@@ -18,13 +19,9 @@ use Rattle.chr_search.proofs.Partners.{none_below as none_fits}
 use Rattle.chr_search.proofs.Asking.{room}
 use Rattle.chr_search.proofs.Tree.{append_one, Come, come_first, come_at, come_to_end, come_found, here, under_same}
 
-append_nil : (xs : List ℕ) → xs ++ [] ≡ xs
-append_nil [] = refl
-append_nil (x ∷ xs) = ap (λ ys. x ∷ ys) (append_nil xs)
-
 -- where a list grows, the least below it at or after a place is the least at or after the list and the place
 pub least_deep : (C : Children) (d : ℕ) (path front rest found : List ℕ) → Grows C path front → Least C d (path ++ front) rest found → Least C d path (front ++ rest) found
-least_deep C d path [] rest found g l = subst (λ p. Least C d p rest found) (append_nil path) l
+least_deep C d path [] rest found g l = subst (λ p. Least C d p rest found) (append-nil path) l
 least_deep C d path (y ∷ ys) rest found g l =
     come_found C d path (y ∷ (ys ++ rest)) y (ys ++ rest) y found (come_at C d path y (ys ++ rest)) (record { holds = g.0; there = omega arith; least = λ z c low. low })
     (subst (λ b. Least C d (path ++ y ∷ []) b found) (under_same y (ys ++ rest) y refl)

@@ -2,7 +2,7 @@
 use Rattle.std.proofs.Common.{◌≡◌, ℕ, zero, suc, ◌+◌, ◌<◌, ◌≤◌, true, false, ◌==◌, List, [], ◌∷◌, ◌++◌, map, take, drop, length, Some, None, get_or, slice_get, refl, sym, ◌∙◌, ap, ap₂, subst, arith, length-append}
 use Rattle.std.specs.List.{AllByRecursion}
 use Rattle.std.proofs.lemmas.Bool.Decides.{nat_tests}
-use Rattle.std.proofs.lemmas.List.{length-map, take-append-drop, take_all}
+use Rattle.std.proofs.lemmas.List.{length-map, take-append-drop, take_all, append-nil}
 use Rattle.std.proofs.lemmas.Option.{slice_get_within, slice_get-get_or}
 use Rattle.chr_value.specs.Atoms.{Atom}
 use Rattle.chr_rule.specs.Rules.{Simpagation, rule_at}
@@ -45,11 +45,7 @@ all_push P xs new x a e p = subst (AllByRecursion P) (sym e) (on xs a)
 
 -- the labels of a trial
 pub grows_count : (j : Join) (before more : List ℕ) → Grows (MayFollow j) before more → length before ≤ length j.order → length (before ++ more) ≤ length j.order
-grows_count j before [] g h = subst (λ (n : List ℕ). length n ≤ length j.order) (sym (append_nil before)) h
-  where
-    append_nil : (xs : List ℕ) → xs ++ [] ≡ xs
-    append_nil [] = refl
-    append_nil (x ∷ xs) = ap (λ ys. x ∷ ys) (append_nil xs)
+grows_count j before [] g h = subst (λ (n : List ℕ). length n ≤ length j.order) (sym (append-nil before)) h
 grows_count j before (x ∷ more) g h =
     let less : length before < length j.order = slice_get_within j.order (length before) g.0.step g.0.step_is in
     subst (λ (n : List ℕ). length n ≤ length j.order) (Rattle.chr_search.proofs.Tree.append_one before more x) (grows_count j (before ++ x ∷ []) more g.1 (omega (arith, length-append before (x ∷ []))))

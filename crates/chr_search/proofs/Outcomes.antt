@@ -19,7 +19,7 @@ use Rattle.chr_search.specs.Trials.{Join, MayFollow, Space, join_in}
 use Rattle.chr_search.specs.Reach.{label_of, labels_in, Reach}
 use Rattle.chr_search.specs.Verdicts.{Placed, Trial, heads, labels, position, at_heads, IsFormed, IsPart, IsWhole, IsTrialOf, WasTrialOf}
 use Rattle.chr_search.proofs.Plans.{heads_in, IsWithin}
-use Rattle.chr_search.proofs.Reaches.{Stands, distinct_front, length_map}
+use Rattle.chr_search.proofs.Reaches.{Stands, distinct_front}
 use Rattle.chr_search.proofs.Shrinking.{branch, reached}
 use Rattle.chr_search.proofs.Wholes.{places}
 
@@ -79,7 +79,7 @@ common s t ps w u k b =
     let f = begun_front (λ (x : Step). label_of (k.kept ++ k.removed) x.head) (labels t) k.order lss in
     let n : ℕ = length (heads_of r.rule) in
     let within = subst (AllByRecursion (IsWithin n)) f.2 r.order.within in
-    let many : length t.placed ≡ length f.0 = sym (length-map t.placed (λ (p : Placed). p.label)) ∙ ap length f.3 ∙ length_map (λ (x : Step). label_of (k.kept ++ k.removed) x.head) f.0 in
+    let many : length t.placed ≡ length f.0 = sym (length-map t.placed (λ (p : Placed). p.label)) ∙ ap length f.3 ∙ length-map f.0 (λ (x : Step). label_of (k.kept ++ k.removed) x.head) in
     let front : heads t ≡ heads_in f.0 = w.heads_are ∙ ap₂ (λ m (o : List Step). take m (heads_in o)) many (sym order_same ∙ f.2) ∙ take_front f.0 f.1 in
     record {
       same_rule = rs;
@@ -115,7 +115,7 @@ part_none s t ps w p k =
     let r = reached s ps (position t) k in
     let ri : Some r.rule ≡ Some t.rule = sym r.planned.rule_is ∙ ap (rule_at s.rules) rs ∙ w.rule_is in
     let rule_same : r.rule ≡ t.rule = cc in
-    let many : length t.placed ≡ length k.order = sym (length-map t.placed (λ (x : Placed). x.label)) ∙ ap length lss ∙ length_map (λ (x : Step). label_of (k.kept ++ k.removed) x.head) k.order in
+    let many : length t.placed ≡ length k.order = sym (length-map t.placed (λ (x : Placed). x.label)) ∙ ap length lss ∙ length-map k.order (λ (x : Step). label_of (k.kept ++ k.removed) x.head) in
     let count : length k.order ≡ length (heads_of t.rule) = r.order.count ∙ ap (λ (x : Simpagation ℕ). length (heads_of x)) rule_same in
     let left : length t.placed < length (heads_of t.rule) = p.left in
     omega arith

@@ -2,6 +2,7 @@
 use Rattle.std.proofs.Common.{◌≡◌, ℕ, ◌<◌, ◌≤◌, true, false, ◌==◌, List, [], ◌∷◌, ◌++◌, length, append_assoc, Some, None, slice_get, refl, sym, ◌∙◌, ap, subst, arith, true-eqb}
 use Rattle.std.specs.Option.{option_map}
 use Rattle.std.proofs.lemmas.Bool.Decides.{nat_tests}
+use Rattle.std.proofs.lemmas.List.{append-nil}
 use Rattle.chr_value.specs.Atoms.{Value, Atom}
 use Rattle.chr_rule.specs.Rules.{RuleAtom, head_at}
 use Rattle.chr_guard.specs.Values.{Valuation}
@@ -59,7 +60,7 @@ key_of_fit j h p v front x rest f step at head is atom live =
 
 plain_grows : (j : Join) (h : ℕ) → IsPlanOf j.rule h j.order → (labels : List ℕ) → (a : AreAdmissible j labels) → (front rest : List ℕ) → a.before ≡ front ++ rest → Grows (MayFollow j) front (rest ++ a.last ∷ [])
 plain_grows j h p labels a front [] e =
-    let is : a.before ≡ front = e ∙ append_nil front in
+    let is : a.before ≡ front = e ∙ append-nil front in
     subst (λ z. Grows (MayFollow j) z (a.last ∷ [])) is ((
       record {
         turn = turn_of j a.before a.last [] a.partners (sym a.ends ∙ a.first) a.below;
@@ -78,10 +79,6 @@ plain_grows j h p labels a front [] e =
       tt,
     ))
   where
-    append_nil : (xs : List ℕ) → xs ++ [] ≡ xs
-    append_nil [] = refl
-    append_nil (x ∷ xs) = ap (λ ys. x ∷ ys) (append_nil xs)
-
     last_pred : Rattle.chr_search.specs.Trials.HasHeadPred a.head a.atom
     last_pred =
         let l = live_at j j.order a.before a.last [] (subst (AreLiveFor j j.order) a.ends a.live) in
@@ -128,11 +125,7 @@ live_push j (s ∷ steps) [] x a step e l = (subst (λ z. IsLiveFor j z x) (sym 
 live_push j (s ∷ steps) (y ∷ before) x a step e l = (a.0, live_push j steps before x a.1 step e l)
 
 grows_live : (j : Join) (before more : List ℕ) → AreLiveFor j j.order before → Grows (MayFollow j) before more → AreLiveFor j j.order (before ++ more)
-grows_live j before [] a g = subst (AreLiveFor j j.order) (sym (append_nil before)) a
-  where
-    append_nil : (xs : List ℕ) → xs ++ [] ≡ xs
-    append_nil [] = refl
-    append_nil (x ∷ xs) = ap (λ ys. x ∷ ys) (append_nil xs)
+grows_live j before [] a g = subst (AreLiveFor j j.order) (sym (append-nil before)) a
 grows_live j before (x ∷ more) a g =
     subst (AreLiveFor j j.order) (append_assoc before (x ∷ []) more)
     (grows_live j (before ++ x ∷ []) more (live_push j j.order before x a g.0.step g.0.step_is (record { head = g.0.head; head_is = g.0.head_is; atom = g.0.atom; live = g.0.live; pred = g.0.pred })) g.1)

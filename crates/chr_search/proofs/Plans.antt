@@ -5,6 +5,7 @@ use Rattle.std.specs.Option.{option_map}
 use Rattle.std.proofs.lemmas.Bool.Decides.{nat_tests}
 use Rattle.std.proofs.lemmas.List.Quantifiers.{position-Some}
 use Rattle.std.proofs.lemmas.Option.{slice_get-get_or, slice_get_within}
+use Rattle.std.proofs.lemmas.List.{append-nil, map-append}
 use Rattle.chr_value.specs.Atoms.{Value, Atom}
 use Rattle.chr_rule.specs.Rules.{Term, Var, Given, RuleAtom, Simpagation, rule_at}
 use Rattle.chr_rule.specs.Rules as rules
@@ -50,10 +51,6 @@ distinct_push (y ∷ xs) x d n =
     apart : (a b : Bool) → a ≡ false → b ≡ false → (a || b) ≡ false
     apart a b e f = cc
 
-pub map_append : {A B : Type 0} (f : A → B) (xs ys : List A) → map f (xs ++ ys) ≡ map f xs ++ map f ys
-map_append f [] ys = refl
-map_append f (x ∷ xs) ys = ap (λ zs. f x ∷ zs) (map_append f xs ys)
-
 all_push : {A : Type 0} (P : A → Type 0) (xs : List A) (x : A) → AllByRecursion P xs → P x → AllByRecursion P (xs ++ x ∷ [])
 all_push P [] x a p = (p, tt)
 all_push P (y ∷ xs) x a p = (a.0, all_push P xs x a.1 p)
@@ -70,16 +67,12 @@ record IsGrowing (heads : List (RuleAtom ℕ)) (h : ℕ) (order : List Step) : T
 grown : (heads : List (RuleAtom ℕ)) (h : ℕ) (order : List Step) (s : Step) → IsGrowing heads h order → IsNext heads order s → IsGrowing heads h (order ++ s ∷ [])
 grown heads h order s g n = record {
   within = all_push (IsWithin (length heads)) order s g.within (n.open_head.from, n.open_head.to);
-  distinct = subst Distinct (sym (map_append (λ (step : Step). step.head) order (s ∷ []))) (distinct_push (heads_in order) s.head g.distinct (sym (named_among order s.head) ∙ n.open_head.unnamed));
+  distinct = subst Distinct (sym (map-append (λ (step : Step). step.head) order (s ∷ []))) (distinct_push (heads_in order) s.head g.distinct (sym (named_among order s.head) ∙ n.open_head.unnamed));
   planning = planning_push heads h (is_bound heads order) (is_bound heads (order ++ s ∷ [])) order s g.planning n (λ x. any_push (λ t. binds (head_in heads t.head) x) order s);
 }
 
 grown_all : (heads : List (RuleAtom ℕ)) (h : ℕ) (order steps : List Step) → IsGrowing heads h order → EachNext heads order steps → IsGrowing heads h (order ++ steps)
-grown_all heads h order [] g e = subst (IsGrowing heads h) (sym (append_nil order)) g
-  where
-    append_nil : (xs : List Step) → xs ++ [] ≡ xs
-    append_nil [] = refl
-    append_nil (x ∷ xs) = ap (λ ys. x ∷ ys) (append_nil xs)
+grown_all heads h order [] g e = subst (IsGrowing heads h) (sym (append-nil order)) g
 grown_all heads h order (s ∷ steps) g e =
     subst (IsGrowing heads h) (append_assoc order (s ∷ []) steps) (grown_all heads h (order ++ s ∷ []) steps (grown heads h order s g e.0) e.1)
 

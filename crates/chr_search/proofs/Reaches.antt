@@ -3,6 +3,7 @@ use Rattle.std.proofs.Common.{◌≡◌, ◌≢◌, ℕ, zero, suc, ◌<◌, ◌
 use Rattle.std.specs.List.{AllByRecursion}
 use Rattle.std.specs.Option.{option_map}
 use Rattle.std.proofs.lemmas.Bool.Decides.{nat_tests}
+use Rattle.std.proofs.lemmas.List.{length-map, map-append}
 use Rattle.chr_value.specs.Atoms.{Atom}
 use Rattle.chr_rule.specs.Rules.{RuleAtom, Simpagation, rule_at}
 use Rattle.chr_rule.specs.Rules as rules
@@ -18,16 +19,12 @@ use Rattle.chr_plan.specs.declared.order.Step.{Step}
 use Rattle.chr_search.specs.Tree.{Grows}
 use Rattle.chr_search.specs.Trials.{Join, StandsAt, Fit, HasHeadPred, HasKeyValue, IsInTurn, MayFollow, Space, join_in, IsPlanned, Child, IsTrial}
 use Rattle.chr_search.specs.Reach.{label_of, labels_in, Reach}
-use Rattle.chr_search.proofs.Plans.{heads_in, IsWithin, IsOrder, IsPlanOf, planned, planned_order, given_is, step_key_given, map_append}
+use Rattle.chr_search.proofs.Plans.{heads_in, IsWithin, IsOrder, IsPlanOf, planned, planned_order, given_is, step_key_given}
 use Rattle.chr_search.proofs.Descents.{grows_out}
 
 pub get_after : {A : Type 0} (xs : List A) (x : A) (ys : List A) → slice_get (xs ++ x ∷ ys) (length xs) ≡ Some x
 get_after [] x ys = refl
 get_after (z ∷ xs) x ys = get_after xs x ys
-
-pub length_map : {A B : Type 0} (f : A → B) (xs : List A) → length (map f xs) ≡ length xs
-length_map f [] = refl
-length_map f (x ∷ xs) = let e = length_map f xs in omega arith
 
 -- labels by their heads
 pub among_index : (ls : List ℕ) (i : ℕ) → i < length ls → among ls (slice_index_or ls i 0) ≡ true
@@ -140,7 +137,7 @@ distinct_before (y ∷ front) x rest d =
     elim (y.head == x.head) as (λ t. (y.head == x.head ≡ t) → (t || among (heads_in front) x.head) ≡ false) [
       | true ↦ λ t.
           let same : x.head ≡ y.head = sym (true-eqb y.head x.head (sym t)) in
-          let here : among (heads_in (front ++ x ∷ rest)) x.head ≡ true = ap (λ (z : List ℕ). among z x.head) (map_append (λ (step : Step). step.head) front (x ∷ rest)) ∙ among_mid (heads_in front) (heads_in rest) in
+          let here : among (heads_in (front ++ x ∷ rest)) x.head ≡ true = ap (λ (z : List ℕ). among z x.head) (map-append (λ (step : Step). step.head) front (x ∷ rest)) ∙ among_mid (heads_in front) (heads_in rest) in
           absurd (true≢false (sym here ∙ ap (among (heads_in (front ++ x ∷ rest))) same ∙ d.0))
       | false ↦ λ t. distinct_before front x rest d.1
     ] refl
@@ -152,7 +149,7 @@ distinct_before (y ∷ front) x rest d =
 pub distinct_front : (n : ℕ) (ls : List ℕ) → Distinct ls → length ls ≡ n → (front rest : List Step) → AllByRecursion (IsWithin n) (front ++ rest) → Distinct (heads_in (front ++ rest)) → Distinct (labels_in ls front)
 distinct_front n ls d e [] rest w h = tt
 distinct_front n ls d e (x ∷ front) rest w h =
-    (not_among n ls d e x.head w.0.0 w.0.1 front rest w.1 (among_front (heads_in front) (heads_in rest) x.head (ap (λ (z : List ℕ). among z x.head) (sym (map_append (λ (step : Step). step.head) front rest)) ∙ h.0)), distinct_front n ls d e front rest w.1 h.1)
+    (not_among n ls d e x.head w.0.0 w.0.1 front rest w.1 (among_front (heads_in front) (heads_in rest) x.head (ap (λ (z : List ℕ). among z x.head) (sym (map-append (λ (step : Step). step.head) front rest)) ∙ h.0)), distinct_front n ls d e front rest w.1 h.1)
 
 within_at : (n : ℕ) (front : List Step) (x : Step) (rest : List Step) → AllByRecursion (IsWithin n) (front ++ x ∷ rest) → IsWithin n x
 within_at n [] x rest w = w.0
@@ -189,7 +186,7 @@ grow j h v ls p o s b front (x ∷ rest) q =
     let at = s.at x.head in_x.0 in_x.1 in
     let fits : Fit j v j.order (labels_in ls front) = subst (λ z. Fit j v z (labels_in ls front)) (sym q) (fit_front j v ls s front (x ∷ rest) w) in
     let step : slice_get j.order (length (labels_in ls front)) ≡ Some x =
-    subst (λ k. slice_get j.order k ≡ Some x) (sym (length_map (λ (y : Step). label_of ls y.head) front)) (ap (λ z. slice_get z (length front)) q ∙ get_after front x rest) in (
+    subst (λ k. slice_get j.order k ≡ Some x) (sym (length-map front (λ (y : Step). label_of ls y.head))) (ap (λ z. slice_get z (length front)) q ∙ get_after front x rest) in (
       record {
         turn = turn front q w d;
         distinct = distinct_front n ls s.distinct s.count front (x ∷ rest) w d;
@@ -204,7 +201,7 @@ grow j h v ls p o s b front (x ∷ rest) q =
         pred = has_pred v at.0 at.2.atom at.2.under;
         key = has_key v at.0 at.2.atom at.2.under x.key (λ place k. known front q fits step at.0 at.1 place k);
       },
-      subst (λ z. Grows (MayFollow j) z (labels_in ls rest)) (map_append (λ (y : Step). label_of ls y.head) front (x ∷ []))
+      subst (λ z. Grows (MayFollow j) z (labels_in ls rest)) (map-append (λ (y : Step). label_of ls y.head) front (x ∷ []))
           (grow j h v ls p o s b (front ++ x ∷ []) rest (q ∙ sym (append_assoc front (x ∷ []) rest))),
     )
   where

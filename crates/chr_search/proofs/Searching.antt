@@ -16,7 +16,7 @@ use Rattle.chr_search.specs.Reach.{label_of, labels_in, Reach, HasNoMore, over, 
 use Rattle.chr_search.proofs.Positions.{after, passed}
 use Rattle.chr_search.proofs.Plans.{has_plan, planned}
 use Rattle.chr_search.proofs.Descents.{head_low, rule_low}
-use Rattle.chr_search.proofs.Reaches.{IsReached, in_reach, head_of, head_fixed, Stands, fit_front, distinct_front, length_map}
+use Rattle.chr_search.proofs.Reaches.{IsReached, in_reach, head_of, head_fixed, Stands, fit_front, distinct_front}
 use Rattle.chr_search.proofs.Shrinking.{branch, reached, reach_shrunk, trial_shrunk}
 
 -- a trial at or after a position

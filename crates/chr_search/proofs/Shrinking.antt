@@ -4,6 +4,7 @@ use Rattle.std.proofs.lemmas.Bool.Decides.{nat_tests}
 use Rattle.chr_value.specs.Atoms.{Atom}
 use Rattle.chr_rule.specs.Rules.{Simpagation}
 use Rattle.std.specs.List.{AllByRecursion}
+use Rattle.std.proofs.lemmas.List.{append-nil}
 use Rattle.chr_guard.specs.Values.{Valuation, Holds}
 use Rattle.chr_guard.specs.Instances.{AreUnder, IsRight, added}
 use Rattle.chr_model.specs.Stores.{Store, atom_at, drop_label, among}
@@ -39,11 +40,7 @@ seen_push j before x a s l i =
     among_old (y ∷ xs) e h = let r = among_old xs e in grind (arith, nat_tests, r)
 
 pub grows_seen : (j : Join) (before more : List ℕ) → AllSeen j before → Grows (MayFollow j) before more → AllSeen j (before ++ more)
-grows_seen j before [] a g = subst (AllSeen j) (sym (append_nil before)) a
-  where
-    append_nil : (xs : List ℕ) → xs ++ [] ≡ xs
-    append_nil [] = refl
-    append_nil (x ∷ xs) = ap (λ ys. x ∷ ys) (append_nil xs)
+grows_seen j before [] a g = subst (AllSeen j) (sym (append-nil before)) a
 grows_seen j before (x ∷ more) a g =
     subst (AllSeen j) (append_assoc before (x ∷ []) more) (grows_seen j (before ++ x ∷ []) more (seen_push j before x a (turn_seen j before x g.0.turn)) g.1)
 

@@ -1,6 +1,7 @@
 -- The least path, child by child.
 use Rattle.std.proofs.Common.{◌≡◌, ◌≢◌, ℕ, ◌+◌, ◌<◌, ◌≤◌, Bool, true, false, ◌==◌, if◌then◌else◌, List, [], ◌∷◌, ◌++◌, length, append_assoc, refl, sym, ◌∙◌, ap, subst, arith, ⊎_elim, true-eqb, length-append}
 use Rattle.std.proofs.lemmas.Bool.Decides.{nat_tests}
+use Rattle.std.proofs.lemmas.List.{append-nil}
 use Rattle.chr_search.specs.Positions.{at_or_after}
 use Rattle.chr_search.specs.Tree.{Children, Grows, Beyond, Least, NoneBeyond, LeastFrom, NoneFrom}
 use Rattle.chr_search.proofs.Positions.{after_first, after_under, after_cases}
@@ -10,10 +11,6 @@ pub append_one : (path more : List ℕ) (x : ℕ) → (path ++ x ∷ []) ++ more
 append_one path more x = append_assoc path (x ∷ []) more
 
 -- a path with nothing added
-append_nil : (path : List ℕ) → path ++ [] ≡ path
-append_nil [] = refl
-append_nil (x ∷ xs) = ap (λ ys. x ∷ ys) (append_nil xs)
-
 -- The search for the least path beyond `place` has come to the children from `from` on, and below that one to `below`.
 pub record Come (C : Children) (d : ℕ) (path place : List ℕ) (from : ℕ) (below : List ℕ) : Type 0 where
   pub into : (other : List ℕ) → Beyond C d path place other → at_or_after (from ∷ below) other ≡ true
@@ -23,8 +20,8 @@ pub record Come (C : Children) (d : ℕ) (path place : List ℕ) (from : ℕ) (b
 pub here : (C : Children) (d : ℕ) (path : List ℕ) → d ≤ length path → Least C d path [] path
 here C d path long = record {
   more = [];
-  is = sym (append_nil path);
-  beyond = record { grows = tt; deep = subst (λ (p : List ℕ). d ≤ length p) (sym (append_nil path)) long; there = refl };
+  is = sym (append-nil path);
+  beyond = record { grows = tt; deep = subst (λ (p : List ℕ). d ≤ length p) (sym (append-nil path)) long; there = refl };
   least = λ other b. refl;
 }
 
@@ -109,13 +106,13 @@ pub under_other : (from : ℕ) (below : List ℕ) (x : ℕ) → x ≢ from → [
 under_other from below x ne = grind (arith, nat_tests)
 
 pub grows_more : (C : Children) (path xs : List ℕ) (x : ℕ) → Grows C path xs → C (path ++ xs) x → Grows C path (xs ++ x ∷ [])
-grows_more C path [] x g c = (subst (λ p. C p x) (append_nil path) c, tt)
+grows_more C path [] x g c = (subst (λ p. C p x) (append-nil path) c, tt)
 grows_more C path (y ∷ xs) x g c = (g.0, grows_more C (path ++ y ∷ []) xs x g.1 (subst (λ p. C p x) (sym (append_one path xs y)) c))
 
 -- where the front grows, the least at or after it and a last number is the front and the least last number from that one on
 pub least_beside : (C : Children) (d : ℕ) (path front : List ℕ) (from x : ℕ) → Grows C path front → LeastFrom (C (path ++ front)) from x → d ≤ length (path ++ (front ++ x ∷ [])) → Least C d path (front ++ from ∷ []) (path ++ (front ++ x ∷ []))
 least_beside C d path [] from x g l long =
-    come_found C d path (from ∷ []) from [] x (path ++ x ∷ []) (come_at C d path from []) (subst (λ p. LeastFrom (C p) from x) (append_nil path) l)
+    come_found C d path (from ∷ []) from [] x (path ++ x ∷ []) (come_at C d path from []) (subst (λ p. LeastFrom (C p) from x) (append-nil path) l)
     (subst (λ b. Least C d (path ++ x ∷ []) b (path ++ x ∷ [])) (none_under (x == from) []) (here C d (path ++ x ∷ []) long))
   where
     none_under : (t : Bool) (below : List ℕ) → below ≡ (if t then below else below)

@@ -25,6 +25,7 @@ use Rattle.chr_text.specs.Writable.{AreWritable}
 use Rattle.chr_text.proofs.Writable.{posts_writable}
 use Rattle.chr_calls.specs.Tickets.{AreQuiet}
 use Rattle.chr_calls.specs.Books.{BookState, goal_state, events}
+use Rattle.chr_calls.proofs.Tickets.{posted_strict}
 use Rattle.chr_solo.specs.declared.solo.End.{End}
 use Rattle.chr_solo.specs.declared.solo.End.TheVariants.{Quiet}
 use Rattle.chr_check.specs.declared.checking.Verdict.TheVariants.{RunAndFinal}
@@ -42,7 +43,7 @@ use Rattle.laws_accepts.specs.Accepted.{verdict_of, IsAnswered}
 use Rattle.laws_accepts.proofs.Checked.{texts_answered}
 use Rattle.laws_accepts.proofs.Distinct.{program_distinct, posts_distinct}
 use Rattle.laws_accepts.proofs.Kept.{run_kept}
-use Rattle.laws_accepts.proofs.Posted.{each_says, each_append, texts_kept, posts_again, events_numbered, posted_strict}
+use Rattle.laws_accepts.proofs.Posted.{each_says, each_append, texts_kept, posts_again, events_numbered}
 use Rattle.laws_accepts.proofs.Runs.{lawful_is, strict_is, whole_answer, strict_answer}
 
 -- ---- the names of the posts of texts

@@ -1,5 +1,6 @@
 use Rattle.std.proofs.Common.{◌<◌, ◌≢◌, length, sym, ◌∙◌}
-use Rattle.chr_search.proofs.Asking.{get_there, past_get}
+use Rattle.chr_store.proofs.Walks.{get_there}
+use Rattle.chr_search.proofs.Asking.{past_get}
 use Rattle.chr_search.proofs.PlanByPlan.{label_next, label_here, label_past, label_end}
 use Rattle.chr_search.proofs.search.label_at_head.Goals as goal
 

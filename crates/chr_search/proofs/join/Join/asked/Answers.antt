@@ -1,6 +1,7 @@
 use Rattle.std.proofs.Common.{◌≡◌, ◌-◌, ◌≤◌, List, length, Some, None, slice_get, refl, sym, ap, subst, ◌∙◌, arith}
 use Rattle.std.specs.Option.{option_map}
 use Rattle.std.proofs.lemmas.Option.{slice_get-map}
+use Rattle.chr_store.proofs.Walks.{get_there}
 use Rattle.chr_value.specs.Atoms.{ground}
 use Rattle.chr_rule.specs.Parts.{argument, shape}
 use Rattle.chr_rule.specs.Rules.{head_at}
@@ -8,7 +9,7 @@ use Rattle.chr_rule.specs.declared.rule_atom.Term.{Term as CodeTerm}
 use Rattle.chr_guard.specs.Bindings.{bound_at}
 use Rattle.chr_search.specs.Trials.{value_in, given_at}
 use Rattle.chr_search.specs.Joined.{join_of}
-use Rattle.chr_search.proofs.Asking.{get_there, past_get, known_key, place_low, given_there, key_some}
+use Rattle.chr_search.proofs.Asking.{past_get, known_key, place_low, given_there, key_some}
 use Rattle.chr_search.proofs.join.Join.asked.Goals as goal
 
 pub overflow_sub-from : goal.overflow_sub-from

@@ -1,10 +1,11 @@
 use Rattle.std.proofs.Common.{◌≡◌, true, false, [], ◌∷◌, ◌++◌, ℕ, length, MatchOption, sym, subst, ◌∙◌}
+use Rattle.chr_store.proofs.Walks.{get_there}
 use Rattle.chr_model.specs.Stores.{among}
 use Rattle.chr_search.specs.Trials.{MayFollow}
 use Rattle.chr_search.specs.Partners.{IsReady}
 use Rattle.chr_search.specs.Joined.{join_of}
 use Rattle.chr_search.proofs.Partners.{repeated, no_step}
-use Rattle.chr_search.proofs.Asking.{get_there, any_among, past_get, narrowed}
+use Rattle.chr_search.proofs.Asking.{any_among, past_get, narrowed}
 use Rattle.chr_search.proofs.join.Join.narrow.Goals as goal
 
 pub returns-then-contains : goal.returns-then-contains

@@ -1,8 +1,9 @@
 use Rattle.std.proofs.Common.{◌≡◌, true, false, true≢false, length, sym, ◌∙◌}
+use Rattle.chr_store.proofs.Walks.{get_there}
 use Rattle.chr_model.specs.Stores.{among}
 use Rattle.chr_search.specs.Joined.{join_of}
 use Rattle.chr_search.proofs.Partners.{repeated, no_step}
-use Rattle.chr_search.proofs.Asking.{any_among, get_there, past_get}
+use Rattle.chr_search.proofs.Asking.{any_among, past_get}
 use Rattle.chr_search.proofs.Levels.{narrowed_by}
 use Rattle.chr_search.proofs.join.Join.narrow_by.Goals as goal
 
