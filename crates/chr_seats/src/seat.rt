@@ -6,6 +6,12 @@ use std::alloc::Allocator;
 use std::marker::{Brand, Model};
 use std::sync::ledger::{Ledger, Share};
 
+/// How many seats workers have, from the number 1 on.
+pub const WORKER_SEATS: usize = 16;
+
+/// How many seats sessions have, from the number 17 on.
+pub const SESSION_SEATS: usize = 16;
+
 /// The ledger of the posts, which says besides whether a book is there from the start.
 pub trait PostLedger: Ledger {
     ghost loaded: { Bool };

@@ -4,7 +4,7 @@ ghost use Rattle.chr_log.specs.Events.{Entry as PlainEntry};
 ghost use Rattle.chr_seats.specs.Accounts.{AreCounts, AreSeats, IsCounted, made_upto};
 
 use crate::counts::Counts;
-use crate::seat::{PostLedger, Seat};
+use crate::seat::{PostLedger, Seat, WORKER_SEATS};
 use std::alloc::Allocator;
 use std::sync::ledger::{Blank, Book, Ledger, Share};
 
@@ -60,7 +60,7 @@ fn push_seats<L1: PostLedger, L2: Ledger, A: Allocator>(
     ensures posts { (log : List (PlainEntry ℕ)) → AreCounts log counts.now → posts.old.book.total ≡ (made_upto from log).posts → posts.new.book.total ≡ (made_upto (from + 16) log).posts }
     ensures others { (log : List (PlainEntry ℕ)) → AreCounts log counts.now → others.old.book.total ≡ (made_upto from log).others → others.new.book.total ≡ (made_upto (from + 16) log).others }
 {
-    for k in 0..16usize {
+    for k in 0..WORKER_SEATS {
         let count = counts[from + k];
         let post_part = part_with(posts, count.posts);
         let other_part = part_with(others, count.others);
@@ -92,7 +92,7 @@ pub fn seat_all<L1: PostLedger, L2: Ledger, A: Allocator>(
     let mut posts = open::<L1>(posts);
     let mut others = open::<L2>(others);
     push_seats(counts, 0, &mut posts, &mut others, workers);
-    push_seats(counts, 16, &mut posts, &mut others, sessions);
+    push_seats(counts, WORKER_SEATS, &mut posts, &mut others, sessions);
     let Opened {
         book: post_book,
         rest: _,
