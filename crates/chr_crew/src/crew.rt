@@ -22,7 +22,7 @@ use chr_calls::answers::TicketState;
 use chr_pool::{Hand, Inlet, Tally, gather, make};
 use chr_seats::counts::Counts;
 use chr_seats::kept::Kept;
-use chr_seats::seat::{PostLedger, Seats};
+use chr_seats::seat::{PostLedger, Seats, WORKER_SEATS};
 use chr_seats::shared::Shared;
 use std::alloc::{AllocError, Allocator, Global};
 use std::sync::Wait;
@@ -31,9 +31,6 @@ use std::thread::Threads;
 
 /// How many tickets each hand takes before it takes memory.
 const CAPACITY: u64 = 64;
-
-/// How many workers a run has at most.
-const MOST_WORKERS: usize = 16;
 
 /// How a run ended.
 #[derive(Clone, Copy, Debug, PartialEq, Eq)]
@@ -122,9 +119,9 @@ fn make_lists<L1: PostLedger, L2: Ledger, A: Allocator + Copy>(
     pool: Global,
 ) -> Result<Lists<L1, L2, A>, AllocError> {
     match (
-        Vec::with_capacity(alloc, MOST_WORKERS),
-        Vec::with_capacity(alloc, MOST_WORKERS),
-        Vec::with_capacity(pool, MOST_WORKERS),
+        Vec::with_capacity(alloc, WORKER_SEATS),
+        Vec::with_capacity(alloc, WORKER_SEATS),
+        Vec::with_capacity(pool, WORKER_SEATS),
     ) {
         (Ok(workers), Ok(counts), Ok(back)) => Ok(Lists {
             workers,

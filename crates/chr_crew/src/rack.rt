@@ -2,7 +2,7 @@
 ghost use Rattle.std.specs.Prelude.{◌≡◌, ◌≤◌, ◌<◌, ◌+◌, vec_len, vec_capacity, OnErr, OnOk};
 
 use chr_pool::Inlet;
-use chr_seats::seat::{PostLedger, Seat};
+use chr_seats::seat::{PostLedger, SESSION_SEATS, Seat};
 use std::alloc::{AllocError, Allocator};
 use std::sync::ledger::Ledger;
 use std::sync::{Mutex, Wait};
@@ -42,7 +42,7 @@ impl<L1: PostLedger, L2: Ledger, A: Allocator> Free<L1, L2, A> {
     fn give_back(&mut self, place: Place<L1, L2>)
         ensures { vec_len self.old.places < 16 → vec_len self.new.places ≡ vec_len self.old.places + 1 }
     {
-        if self.places.len() < 16 {
+        if self.places.len() < SESSION_SEATS {
             self.places.push_reserved(place);
         }
     }
@@ -64,7 +64,7 @@ impl<L1: PostLedger, L2: Ledger, A: Allocator> Rack<L1, L2, A> {
         requires sessions { vec_len sessions ≡ 16 }
         requires inlets { vec_len inlets ≡ 16 }
     {
-        let mut places = Vec::with_capacity(alloc, 16)?;
+        let mut places = Vec::with_capacity(alloc, SESSION_SEATS)?;
         let mut inlets = inlets.into_iter();
         for seat in sessions {
             let Some(inlet) = inlets.next() else {

@@ -12,6 +12,9 @@ pub const WORKER_SEATS: usize = 16;
 /// How many seats sessions have, from the number 17 on.
 pub const SESSION_SEATS: usize = 16;
 
+/// How many seats there are.
+pub const SEATS: usize = WORKER_SEATS + SESSION_SEATS;
+
 /// The ledger of the posts, which says besides whether a book is there from the start.
 pub trait PostLedger: Ledger {
     ghost loaded: { Bool };

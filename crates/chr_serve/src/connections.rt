@@ -3,96 +3,92 @@ ghost use Rattle.std.specs.Prelude.{◌≡◌, ◌≤◌, ◌+◌, Some, None, v
 ghost use Rattle.slab.specs.Slab.{get, slab_len};
 ghost use Rattle.chr_serve.specs.declared.connections.Slot.TheVariants.{Waiting, Served};
 
-use chr_crew::rack::{Place, Rack};
-use chr_pool::Inlet;
-use chr_seats::seat::{PostLedger, Seat};
+use chr_seats::seat::SESSION_SEATS;
 use slab::Slab;
 use std::alloc::{AllocError, Allocator};
 use std::os::unix::net::UnixStream;
-use std::sync::ledger::Ledger;
 use std::sync::{Condvar, Mutex, Wait};
-
-/// A connection, and the place by which its session is served.
-#[derive(Drop)]
-pub struct Connection<L1: PostLedger, L2: Ledger> {
-    pub stream: UnixStream,
-    pub place: Place<L1, L2>,
-}
 
 /// A live connection, and whether a thread has it.
 #[derive(Drop)]
-enum Slot<L1: PostLedger, L2: Ledger> {
+enum Slot {
     /// It waits for a thread.
-    Waiting(Connection<L1, L2>),
+    Waiting(UnixStream),
     /// A thread has it.
     Served,
 }
 
 /// The live connections, at most sixteen.
 #[derive(Drop)]
-struct Live<L1: PostLedger, L2: Ledger, A: Allocator> {
-    slots: Slab<Slot<L1, L2>, A>,
+struct Live<A: Allocator> {
+    slots: Slab<Slot, A>,
+    /// How many there may be: one for each thread that serves.
+    most: usize,
     /// How many have been closed.
     ended: u64,
     /// No connection comes any more.
     closed: bool,
+    ghost seats: { most ≤ 16 },
     ghost few: { slab_len slots ≤ 16 },
     ghost room: { 16 ≤ slots.capacity },
 }
 
-impl<L1: PostLedger, L2: Ledger, A: Allocator> Live<L1, L2, A> {
+impl<A: Allocator> Live<A> {
     /// No connection. An `Err` is E01.
-    fn new(alloc: A) -> Result<Live<L1, L2, A>, AllocError>
-        ensures { IfOk result (λ live. slab_len live.slots ≡ 0) }
+    fn new(alloc: A) -> Result<Live<A>, AllocError>
+        ensures none { IfOk result (λ live. slab_len live.slots ≡ 0) }
+        ensures most { IfOk result (λ live. live.most ≡ 16) }
     {
         Ok(Live {
-            slots: Slab::with_capacity(alloc, 16)?,
+            slots: Slab::with_capacity(alloc, SESSION_SEATS)?,
+            most: SESSION_SEATS,
             ended: 0,
             closed: false,
         })
     }
 
-    /// Adds a connection that waits. A seventeenth comes back.
-    fn add(&mut self, connection: Connection<L1, L2>) -> Result<(), Connection<L1, L2>>
+    /// Adds a connection that waits. It comes back where there are as many as may be.
+    fn add(&mut self, stream: UnixStream) -> Result<(), UnixStream>
         ensures added { OnOk result (slab_len self.new.slots ≡ slab_len self.old.slots + 1) }
-        ensures full { OnErr result ((slab_len self.old.slots ≡ 16) × (self.new ≡ self.old)) }
-        ensures back { IfErr result (λ c. c ≡ connection) }
+        ensures most { OnOk result (slab_len self.new.slots ≤ self.old.most) }
+        ensures full { OnErr result ((self.old.most ≤ slab_len self.old.slots) × (self.new ≡ self.old)) }
+        ensures back { IfErr result (λ s. s ≡ stream) }
     {
-        if self.slots.len() >= 16 {
-            return Err(connection);
+        if self.slots.len() >= self.most {
+            return Err(stream);
         }
-        self.slots.insert_reserved(Slot::Waiting(connection));
+        self.slots.insert_reserved(Slot::Waiting(stream));
         Ok(())
     }
 
     /// Hands out a connection that waits, with its key.
-    fn take_waiting(&mut self) -> Option<(usize, Connection<L1, L2>)>
+    fn take_waiting(&mut self) -> Option<(usize, UnixStream)>
         ensures live { slab_len self.new.slots ≡ slab_len self.old.slots }
         ensures waited { IfSome result (λ r. get self.old.slots r.0 ≡ Some (Waiting r.1)) }
     {
         for key in 0..self.slots.capacity() {
-            if let Some(connection) = self.call(key) {
-                return Some((key, connection));
+            if let Some(stream) = self.call(key) {
+                return Some((key, stream));
             }
         }
         None
     }
 
     /// Hands out the connection of a key, if it waits.
-    fn call(&mut self, key: usize) -> Option<Connection<L1, L2>>
+    fn call(&mut self, key: usize) -> Option<UnixStream>
         ensures live { slab_len self.new.slots ≡ slab_len self.old.slots }
-        ensures waited { IfSome result (λ connection. get self.old.slots key ≡ Some (Waiting connection)) }
+        ensures waited { IfSome result (λ stream. get self.old.slots key ≡ Some (Waiting stream)) }
         ensures served { OnSome result (get self.new.slots key ≡ Some Served) }
         ensures none { IfNone result (self.new ≡ self.old) }
     {
         if !matches!(self.slots.get(key), Some(Slot::Waiting(_))) {
             return None;
         }
-        let Some(Slot::Waiting(connection)) = self.slots.try_remove(key) else {
+        let Some(Slot::Waiting(stream)) = self.slots.try_remove(key) else {
             unreachable!();
         };
         self.slots.insert_reserved(Slot::Served);
-        Some(connection)
+        Some(stream)
     }
 
     /// Takes a connection out that was closed.
@@ -106,59 +102,39 @@ impl<L1: PostLedger, L2: Ledger, A: Allocator> Live<L1, L2, A> {
     }
 }
 
-/// The live connections under a lock, and the places that are free.
+/// The live connections under a lock.
 #[derive(Drop)]
-pub struct Connections<L1: PostLedger, L2: Ledger, A: Allocator> {
-    rack: Rack<L1, L2, A>,
-    live: Mutex<Live<L1, L2, A>>,
+pub struct Connections<A: Allocator> {
+    live: Mutex<Live<A>>,
     came: Condvar,
     left: Condvar,
 }
 
-impl<L1: PostLedger, L2: Ledger, A: Allocator + Copy> Connections<L1, L2, A> {
-    /// No connection yet, and sixteen places, of these seats and inlets. An `Err` is E01.
-    pub fn new(
-        alloc: A,
-        seats: Vec<Seat<L1, L2>, A>,
-        inlets: Vec<Inlet<u64>>,
-    ) -> Result<Connections<L1, L2, A>, AllocError>
-        requires seats { vec_len seats ≡ 16 }
-        requires inlets { vec_len inlets ≡ 16 }
-    {
+impl<A: Allocator> Connections<A> {
+    /// No connection yet, and as many as there are seats for sessions may come. An `Err` is E01.
+    pub fn new(alloc: A) -> Result<Connections<A>, AllocError> {
         Ok(Connections {
-            rack: Rack::new(alloc, seats, inlets)?,
             live: Mutex::new(Live::new(alloc)?),
             came: Condvar::new(),
             left: Condvar::new(),
         })
     }
 
-    /// Keeps a place from all connections, since no thread is there to serve by it.
+    /// One connection less may come, since no thread is there to serve it.
     pub fn withhold<R: Wait>(&self, rt: &R) {
-        let _ = self.rack.take(rt);
+        let mut live = self.live.lock(rt);
+        live.most = live.most.saturating_sub(1);
     }
 
-    /// Adds a connection that waits, with a place. It comes back where no place is free.
+    /// Adds a connection that waits. It comes back where no seat is free.
     pub fn admit<R: Wait>(&self, rt: &R, stream: UnixStream) -> Result<(), UnixStream> {
-        let mut live = self.live.lock(rt);
-        let Ok(place) = self.rack.take(rt) else {
-            return Err(stream);
-        };
-        match live.add(Connection { stream, place }) {
-            Ok(()) => {
-                self.came.notify_one();
-                Ok(())
-            }
-            Err(connection) => {
-                let Connection { stream, place } = connection;
-                self.rack.give_back(rt, place);
-                Err(stream)
-            }
-        }
+        self.live.lock(rt).add(stream)?;
+        self.came.notify_one();
+        Ok(())
     }
 
     /// Waits for a connection that waits, and hands it out with its key. None once they are closed and none waits.
-    pub fn next<R: Wait>(&self, rt: &R) -> Option<(usize, Connection<L1, L2>)> {
+    pub fn next<R: Wait>(&self, rt: &R) -> Option<(usize, UnixStream)> {
         let mut live = self.live.lock(rt);
         for _ in rt.forever() {
             if let Some(called) = live.take_waiting() {
@@ -172,12 +148,9 @@ impl<L1: PostLedger, L2: Ledger, A: Allocator + Copy> Connections<L1, L2, A> {
         unreachable!()
     }
 
-    /// Closes a connection whose session has ended. Its place is free before its client can see the end.
-    pub fn leave<R: Wait>(&self, rt: &R, key: usize, connection: Connection<L1, L2>) {
-        let Connection { stream, place } = connection;
-        let mut live = self.live.lock(rt);
-        self.rack.give_back(rt, place);
-        live.remove(key);
+    /// Closes a connection whose session has ended. Its seat is free before its client can see the end.
+    pub fn leave<R: Wait>(&self, rt: &R, key: usize, stream: UnixStream) {
+        self.live.lock(rt).remove(key);
         drop(stream);
         self.left.notify_all();
     }
@@ -192,9 +165,11 @@ impl<L1: PostLedger, L2: Ledger, A: Allocator + Copy> Connections<L1, L2, A> {
         (ended != seen).then_some(ended)
     }
 
-    /// No connection comes any more: threads that wait for one end.
+    /// No connection comes any more: threads that wait for one end. Sleeps until none lives.
     pub fn close<R: Wait>(&self, rt: &R) {
-        self.live.lock(rt).closed = true;
+        let mut live = self.live.lock(rt);
+        live.closed = true;
         self.came.notify_all();
+        let _ = self.left.wait_while(rt, live, |live| !live.slots.is_empty());
     }
 }

@@ -17,6 +17,8 @@
 
 mod connections;
 pub mod listener;
+mod members;
+mod patient;
 pub mod refusal;
 pub mod serving;
 pub mod session;

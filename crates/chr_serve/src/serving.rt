@@ -1,16 +1,17 @@
 //! The threads of a server.
-ghost use Rattle.std.specs.Prelude.{◌≡◌, ◌≤◌, false};
+ghost use Rattle.std.specs.Prelude.{◌≡◌, ◌≤◌, ◌<◌, ◌+◌, false, length, vec_len, vec_capacity, IfOk};
 ghost use denote.Param.Send.{IsSend, IsSync, Frees};
 
-use crate::connections::{Connection, Connections};
+use crate::connections::Connections;
 use crate::listener::Listener;
+use crate::members::{Member, Part, dismiss, muster};
 use crate::refusal::{Refusal, refuse};
 use crate::session::serve_stream;
 use crate::unread::discard_unread;
 use chr_crew::gate::{Open, Stop};
 use chr_crew::work::work;
-use chr_pool::{Hand, make};
-use chr_seats::seat::{PostLedger, Seat};
+use chr_pool::{Inlet, make};
+use chr_seats::seat::{PostLedger, SEATS, SESSION_SEATS, Seat};
 use chr_seats::shared::Shared;
 use std::alloc::{AllocError, Allocator, Global};
 use std::io::{self, ErrorKind};
@@ -24,9 +25,6 @@ use std::thread::Threads;
 /// How many tickets each hand takes before it takes memory.
 const CAPACITY: u64 = 64;
 
-/// So many sessions are served at once.
-const SESSIONS: usize = 16;
-
 /// Why a server ended before it had taken all its connections.
 #[derive(Debug, Drop)]
 pub enum ServerFault {
@@ -36,13 +34,15 @@ pub enum ServerFault {
     Listener(io::Error),
 }
 
-/// All that a server takes of memory before its threads start.
-#[derive(Drop)]
+/// What a server starts with. It is no value that is let go: the lock is ended with its seats.
 struct Parts<L1: PostLedger, L2: Ledger, A: Allocator> {
     shared: Shared<L1, L2, A>,
-    seats: Vec<Seat<L1, L2>, A>,
-    hands: Vec<Hand<u64>>,
-    connections: Connections<L1, L2, A>,
+    members: Vec<Member<L1, L2>, A>,
+    /// The workers' seats that no thread has.
+    spare: Vec<Seat<L1, L2>, A>,
+    /// Room for the seats of the members.
+    room: Vec<Seat<L1, L2>, A>,
+    connections: Connections<A>,
 }
 
 /// Makes the parts of a server with so many workers. An `Err` is E01.
@@ -57,28 +57,24 @@ fn make_parts<L1: PostLedger, L2: Ledger, A: Allocator + Copy>(
     requires posts { (posts.name ≡ L1.name) × (posts.parts ≡ L1.parts) × (posts.parts ≡ 32) }
     requires others { (others.name ≡ L2.name) × (others.parts ≡ L2.parts) × (others.parts ≡ 32) }
     requires none { L1.loaded ≡ false }
+    ensures all { IfOk result (λ p. vec_len p.members + vec_len p.spare ≡ 32) }
+    ensures some { IfOk result (λ p. 0 < vec_len p.members) }
+    ensures room { IfOk result (λ p. (vec_len p.room ≡ 0) × (vec_len p.members ≤ vec_capacity p.room)) }
 {
+    let connections = Connections::new(alloc)?;
+    let members = Vec::with_capacity(alloc, SEATS)?;
+    let room = Vec::with_capacity(alloc, SEATS)?;
+    let (hands, inlets) = make(pool, workers, SESSION_SEATS, CAPACITY)?;
     let (shared, seats) = Shared::empty(alloc, posts, others)?;
-    let (hands, inlets) = make(pool, workers, SESSIONS, CAPACITY)?;
-    let connections = Connections::new(alloc, seats.sessions, inlets)?;
+    let mut spare = seats.workers;
+    let members = muster(hands, inlets, &mut spare, seats.sessions, members);
     Ok(Parts {
         shared,
-        seats: seats.workers,
-        hands,
+        members,
+        spare,
+        room,
         connections,
     })
-}
-
-/// What the thread of a worker runs.
-fn work_by<L1: PostLedger, L2: Ledger, A: Allocator + Copy, R: Wait>(
-    rt: &R,
-    shared: &Shared<L1, L2, A>,
-    hand: Hand<u64>,
-    seat: Seat<L1, L2>,
-) {
-    let mut hand = hand;
-    let mut seat = seat;
-    work(rt, shared, &mut hand, &mut seat, &Open, Stop::Closed);
 }
 
 /// What the thread of a session runs: it serves one connection after another until they are closed.
@@ -86,15 +82,33 @@ fn serve_connections<L1: PostLedger, L2: Ledger, A: Allocator + Copy, R: Wait>(
     rt: &R,
     alloc: A,
     shared: &Shared<L1, L2, A>,
-    connections: &Connections<L1, L2, A>,
+    connections: &Connections<A>,
+    seat: &mut Seat<L1, L2>,
+    inlet: &mut Inlet<u64>,
 ) {
     for _ in rt.forever() {
-        let Some((key, connection)) = connections.next(rt) else {
+        let Some((key, stream)) = connections.next(rt) else {
             return;
         };
-        let Connection { stream, place } = connection;
-        let place = serve_stream(rt, alloc, shared, place, &stream);
-        connections.leave(rt, key, Connection { stream, place });
+        serve_stream(rt, alloc, shared, seat, inlet, &stream);
+        connections.leave(rt, key, stream);
+    }
+}
+
+/// What the thread of a member runs.
+fn run_by<L1: PostLedger, L2: Ledger, A: Allocator + Copy, R: Wait>(
+    rt: &R,
+    alloc: A,
+    shared: &Shared<L1, L2, A>,
+    connections: &Connections<A>,
+    member: &mut Member<L1, L2>,
+) {
+    let Member { seat, part } = member;
+    match part {
+        Part::Work(hand) => {
+            work(rt, shared, hand, seat, &Open, Stop::Closed);
+        }
+        Part::Serve(inlet) => serve_connections(rt, alloc, shared, connections, seat, inlet),
     }
 }
 
@@ -104,9 +118,9 @@ fn is_passing(kind: ErrorKind) -> bool {
 }
 
 /// Has a connection served, or tells it that there is no seat.
-fn receive<L1: PostLedger, L2: Ledger, A: Allocator + Copy, R: Wait>(
+fn receive<A: Allocator, R: Wait>(
     rt: &R,
-    connections: &Connections<L1, L2, A>,
+    connections: &Connections<A>,
     stream: UnixStream,
 ) {
     if let Err(stream) = connections.admit(rt, stream) {
@@ -118,9 +132,9 @@ fn receive<L1: PostLedger, L2: Ledger, A: Allocator + Copy, R: Wait>(
 
 /// Takes so many connections, or goes on without end. Where the listener fails, it waits until a session has ended, which
 /// may free what was missing.
-fn take_all<L1: PostLedger, L2: Ledger, A: Allocator + Copy, R: Wait, C: Listener>(
+fn take_all<A: Allocator, R: Wait, C: Listener>(
     rt: &R,
-    connections: &Connections<L1, L2, A>,
+    connections: &Connections<A>,
     listener: &C,
     sessions: Option<u32>,
 ) -> Result<(), ServerFault> {
@@ -145,8 +159,8 @@ fn take_all<L1: PostLedger, L2: Ledger, A: Allocator + Copy, R: Wait, C: Listene
     unreachable!()
 }
 
-/// Starts the threads of the sessions, takes the connections, and waits for the end of all sessions.
-fn with_sessions<
+/// Starts the threads of the members, takes the connections, waits for the end of all sessions, and closes the crew.
+fn with_threads<
     L1: PostLedger + Send + Sync,
     L2: Ledger + Send + Sync,
     A: Allocator + Copy + Send + Sync,
@@ -156,80 +170,45 @@ fn with_sessions<
     rt: &R,
     alloc: A,
     shared: &Shared<L1, L2, A>,
-    connections: &Connections<L1, L2, A>,
+    connections: &Connections<A>,
+    members: &mut [Member<L1, L2>],
     listener: &C,
     sessions: Option<u32>,
-) -> Result<(), ServerFault> {
-    thread::scope(
-        thread::scope_env(),
-        rt,
-        move |scope| -> Result<(), ServerFault>
-            requires { IsSync R.row × IsSend A.row × IsSync A.row × Frees A.Allocator A.dealloc_token }
-        {
-            let mut has_thread = false;
-            for _ in 0..SESSIONS {
-                if scope
-                    .spawn(move || serve_connections(rt, alloc, shared, connections))
-                    .is_ok()
-                {
-                    has_thread = true;
-                } else {
-                    connections.withhold(rt);
-                }
-            }
-            let taken = if has_thread {
-                take_all(rt, connections, listener, sessions)
-            } else {
-                Err(ServerFault::NoMemory)
-            };
-            connections.close(rt);
-            taken
-        },
-    )
-}
-
-/// Starts the workers, and closes the crew once all sessions have ended.
-fn with_workers<
-    L1: PostLedger + Send + Sync,
-    L2: Ledger + Send + Sync,
-    A: Allocator + Copy + Send + Sync,
-    R: Threads + Wait + Sync,
-    C: Listener,
->(
-    rt: &R,
-    alloc: A,
-    shared: &Shared<L1, L2, A>,
-    connections: &Connections<L1, L2, A>,
-    hands: Vec<Hand<u64>>,
-    seats: Vec<Seat<L1, L2>, A>,
-    listener: &C,
-    sessions: Option<u32>,
-) -> Result<(), ServerFault> {
+) -> Result<(), ServerFault>
+    ensures { length members.new ≡ length members.old }
+{
     thread::scope(
         thread::scope_env(),
         rt,
         move |scope| -> Result<(), ServerFault>
             requires { IsSync R.row × IsSend A.row × IsSync A.row × Frees A.Allocator A.dealloc_token × IsSend L1.row × IsSync L1.row × IsSend L2.row × IsSync L2.row }
         {
-            let mut has_worker = false;
-            let mut seats = seats.into_iter();
-            for hand in hands {
-                if let Some(seat) = seats.next() {
-                    has_worker |= scope.spawn(move || work_by(rt, shared, hand, seat)).is_ok();
+            let mut works = false;
+            let mut serves = false;
+            for member in members.iter_mut() {
+                let is_worker = member.works();
+                let starts = scope
+                    .spawn(move || run_by(rt, alloc, shared, connections, member))
+                    .is_ok();
+                works |= starts && is_worker;
+                serves |= starts && !is_worker;
+                if !starts && !is_worker {
+                    connections.withhold(rt);
                 }
             }
-            let taken = if has_worker {
-                with_sessions(rt, alloc, shared, connections, listener, sessions)
+            let taken = if works && serves {
+                take_all(rt, connections, listener, sessions)
             } else {
                 Err(ServerFault::NoMemory)
             };
+            connections.close(rt);
             shared.close(rt);
             taken
         },
     )
 }
 
-/// The same as `serve_on`, with the ledgers of a book that isn't there yet.
+/// The same as `serve_on`, with the ledgers of a book that isn't there yet. All 32 seats are audited before they are let go.
 fn serve_by<
     L1: PostLedger + Send + Sync,
     L2: Ledger + Send + Sync,
@@ -251,25 +230,29 @@ fn serve_by<
     requires others { (others.name ≡ L2.name) × (others.parts ≡ L2.parts) × (others.parts ≡ 32) }
     requires none { L1.loaded ≡ false }
 {
-    let Ok(parts) = make_parts::<L1, L2, A>(alloc, pool, workers, posts, others) else {
-        return Err(ServerFault::NoMemory);
-    };
-    let Parts {
-        shared,
-        seats,
-        hands,
-        connections,
-    } = parts;
-    with_workers(
-        rt,
-        alloc,
-        &shared,
-        &connections,
-        hands,
-        seats,
-        listener,
-        sessions,
-    )
+    match make_parts::<L1, L2, A>(alloc, pool, workers, posts, others) {
+        Ok(parts) => {
+            let Parts {
+                shared,
+                mut members,
+                spare,
+                room,
+                connections,
+            } = parts;
+            let ended = with_threads(
+                rt,
+                alloc,
+                &shared,
+                &connections,
+                members.as_mut_slice(),
+                listener,
+                sessions,
+            );
+            shared.audit(dismiss(members, room), spare);
+            ended
+        }
+        Err(_) => Err(ServerFault::NoMemory),
+    }
 }
 
 /// Serves sessions on one book, which isn't there until a session loads it. The calling thread takes the connections of

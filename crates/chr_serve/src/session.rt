@@ -4,16 +4,18 @@ ghost use Rattle.chr_pool.specs.Inlets.{inlet_id};
 ghost use Rattle.chr_session.specs.Sessions.{Served, Broken};
 ghost use Rattle.chr_serve.specs.Sessions.{SharedStep};
 
+use crate::patient::WhileConnected;
 use crate::refusal::{Refusal, refuse};
 use crate::unread::discard_unread;
 use chr_crew::rack::Place;
-use chr_seats::seat::PostLedger;
+use chr_pool::Inlet;
+use chr_seats::seat::{PostLedger, Seat};
 use chr_seats::shared::Shared;
 use chr_session::commands::Ended;
 use chr_session::devices::{Sink, Source};
 use chr_session::session::{ServeFault, serve};
 use chr_session::streams::{StreamSink, StreamSource};
-use chr_shared_desk::shared_desk::SharedDesk;
+use chr_shared_desk::shared_desk::{LentDesk, Patience, SharedDesk};
 use std::alloc::Allocator;
 use std::os::unix::net::UnixStream;
 use std::sync::Wait;
@@ -43,22 +45,54 @@ pub fn serve_at<S: Source, W: Sink, R: Wait, L1: PostLedger, L2: Ledger, A: Allo
     (Place { seat, inlet }, ended)
 }
 
-/// Serves a connection by a place, and gives the place back. A connection whose session has no memory is told so. What a
-/// client has sent behind the end of its session is read away.
+/// Serves a session by a desk whose seat and inlet are lent to it. E25 and E01 come as in
+/// [`serve`](chr_session::session::serve).
+pub fn serve_lent<
+    S: Source,
+    W: Sink,
+    R: Wait,
+    L1: PostLedger,
+    L2: Ledger,
+    A: Allocator + Copy,
+    P: Patience + Drop,
+>(
+    alloc: A,
+    desk: &mut LentDesk<'_, R, L1, L2, A, P>,
+    reader: &mut S,
+    writer: &mut W,
+) -> Result<Ended, ServeFault>
+    ensures served { IfOk result (λ how. (input : List ℕ) → S.left reader.old input →
+        Served SharedStep (desk.old.seat.now, inlet_id desk.old.inlet.now) (desk.new.seat.now, inlet_id desk.new.inlet.now) (W.taken writer.old) (W.taken writer.new) how input) }
+    ensures broken { IsErrOf result ServeFault.Device → (input : List ℕ) → S.left reader.old input →
+        Broken SharedStep (desk.old.seat.now, inlet_id desk.old.inlet.now) (desk.new.seat.now, inlet_id desk.new.inlet.now) (W.taken writer.old) (W.taken writer.new) input }
+{
+    serve(alloc, reader, writer, desk)
+}
+
+/// Serves a connection by a seat and an inlet. A `wait` ends soon after its client has gone. A connection whose session has
+/// no memory is told so. What a client has sent behind the end of its session is read away.
 pub(crate) fn serve_stream<R: Wait, L1: PostLedger, L2: Ledger, A: Allocator + Copy>(
     rt: &R,
     alloc: A,
     shared: &Shared<L1, L2, A>,
-    place: Place<L1, L2>,
+    seat: &mut Seat<L1, L2>,
+    inlet: &mut Inlet<u64>,
     stream: &UnixStream,
-) -> Place<L1, L2> {
+) {
     let mut reader = StreamSource::new(stream);
     let mut writer = StreamSink::new(stream);
-    let (place, ended) = serve_at(rt, alloc, shared, place, &mut reader, &mut writer);
+    let mut desk = LentDesk {
+        rt,
+        alloc,
+        shared,
+        seat,
+        inlet,
+        patience: WhileConnected { stream },
+    };
+    let ended = serve_lent(alloc, &mut desk, &mut reader, &mut writer);
     if ended == Err(ServeFault::NoMemory) {
         // Its client may be gone already.
         let _ = refuse(&mut writer.inner, Refusal::NoMemory);
     }
     discard_unread(stream);
-    place
 }

@@ -252,6 +252,28 @@ impl Patience for Endless {
     }
 }
 
+/// Carries out a command by a seat and an inlet.
+fn carry_out<R: Wait, L1: PostLedger, L2: Ledger, A: Allocator + Copy, P: Patience>(
+    rt: &R,
+    alloc: A,
+    shared: &Shared<L1, L2, A>,
+    seat: &mut Seat<L1, L2>,
+    inlet: &mut Inlet<u64>,
+    patience: &mut P,
+    command: Command<'_>,
+) -> Reply<A>
+    ensures replies { SharedReplies seat.old (command_of command.entry) (reply_of result) seat.new }
+    ensures inlet { inlet_id inlet.new ≡ inlet_id inlet.old }
+{
+    match command {
+        Command::Load(text) => load(rt, alloc, shared, seat, text),
+        Command::Post(text) => post(rt, shared, seat, inlet, text),
+        Command::Wait(most) => wait(rt, shared, seat, most, patience),
+        Command::Store => store(rt, alloc, shared, seat),
+        Command::Log(from) => log(rt, alloc, shared, seat, from),
+    }
+}
+
 /// A session's desk on a shared book. Contracts see its seat, and which queue its inlet feeds.
 #[derive(Drop)]
 pub struct SharedDesk<'a, R: Wait, L1: PostLedger, L2: Ledger, A: Allocator> {
@@ -317,18 +339,43 @@ impl<'a, R: Wait, L1: PostLedger, L2: Ledger, A: Allocator + Copy> Desk<A>
     ghost step = { λ old command reply new. SharedReplies old.0 command reply new.0 × (new.1 ≡ old.1) };
 
     fn ask(&mut self, command: Command<'_>) -> Reply<A> {
-        match command {
-            Command::Load(text) => load(self.rt, self.alloc, self.shared, &self.seat, text),
-            Command::Post(text) => post(
-                self.rt,
-                self.shared,
-                &mut self.seat,
-                &mut self.inlet,
-                text,
-            ),
-            Command::Wait(most) => self.wait(most, &mut Endless),
-            Command::Store => store(self.rt, self.alloc, self.shared, &self.seat),
-            Command::Log(from) => log(self.rt, self.alloc, self.shared, &self.seat, from),
-        }
+        carry_out(
+            self.rt,
+            self.alloc,
+            self.shared,
+            &mut self.seat,
+            &mut self.inlet,
+            &mut Endless,
+            command,
+        )
+    }
+}
+
+/// A desk on a shared book by a seat and an inlet that are lent to it. A `wait` goes on while the patience does. Contracts
+/// see what the seat is, and which queue the inlet feeds.
+#[derive(Drop)]
+pub struct LentDesk<'a, R: Wait, L1: PostLedger, L2: Ledger, A: Allocator, P: Patience + Drop> {
+    pub rt: &'a R,
+    pub alloc: A,
+    pub shared: &'a Shared<L1, L2, A>,
+    pub seat: &'a mut Seat<L1, L2>,
+    pub inlet: &'a mut Inlet<u64>,
+    pub patience: P,
+}
+
+impl<'a, R: Wait, L1: PostLedger, L2: Ledger, A: Allocator + Copy, P: Patience + Drop> Desk<A>
+    for LentDesk<'a, R, L1, L2, A, P> {
+    ghost step = { λ old command reply new. SharedReplies old.seat.now command reply new.seat.now × (inlet_id new.inlet.now ≡ inlet_id old.inlet.now) };
+
+    fn ask(&mut self, command: Command<'_>) -> Reply<A> {
+        carry_out(
+            self.rt,
+            self.alloc,
+            self.shared,
+            self.seat,
+            self.inlet,
+            &mut self.patience,
+            command,
+        )
     }
 }
