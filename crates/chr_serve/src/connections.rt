@@ -170,6 +170,8 @@ impl<A: Allocator> Connections<A> {
         let mut live = self.live.lock(rt);
         live.closed = true;
         self.came.notify_all();
-        let _ = self.left.wait_while(rt, live, |live| !live.slots.is_empty());
+        let _ = self
+            .left
+            .wait_while(rt, live, |live| !live.slots.is_empty());
     }
 }

@@ -118,11 +118,7 @@ fn is_passing(kind: ErrorKind) -> bool {
 }
 
 /// Has a connection served, or tells it that there is no seat.
-fn receive<A: Allocator, R: Wait>(
-    rt: &R,
-    connections: &Connections<A>,
-    stream: UnixStream,
-) {
+fn receive<A: Allocator, R: Wait>(rt: &R, connections: &Connections<A>, stream: UnixStream) {
     if let Err(stream) = connections.admit(rt, stream) {
         // Its client may be gone already.
         let _ = refuse(&mut &stream, Refusal::NoSeat);

@@ -9,7 +9,7 @@ use chr_lex::fault::ReadError;
 use chr_pool::Inlet;
 use chr_seats::answers::HoldFault;
 use chr_seats::seat::{PostLedger, Seat};
-use chr_seats::shared::{Shared, Watched};
+use chr_seats::shared::Shared;
 use chr_session::desk::{Command, Desk, Fault, Reply};
 use chr_text::reading::read_program;
 use chr_value::label::GREATEST_LABEL;
@@ -165,7 +165,7 @@ fn watch<R: Wait, L1: PostLedger, L2: Ledger, A: Allocator + Copy>(
     seen: u64,
     told: &mut bool,
 ) -> bool {
-    if shared.watch(rt, seen) == Watched::News {
+    if shared.watch(rt, seen) {
         return true;
     }
     if *told {
@@ -173,7 +173,7 @@ fn watch<R: Wait, L1: PostLedger, L2: Ledger, A: Allocator + Copy>(
     }
     *told = true;
     shared.announce(rt);
-    shared.watch(rt, seen) == Watched::News
+    shared.watch(rt, seen)
 }
 
 /// Looks at most `most + 1` times whether a ticket is open, until none is, or no worker is awake, or the patience ends.
