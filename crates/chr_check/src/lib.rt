@@ -25,5 +25,7 @@ pub mod fault;
 mod firing;
 mod goal;
 pub mod laws;
-mod replay;
+pub mod replay;
 mod storing;
+
+pub use firing::has_label;

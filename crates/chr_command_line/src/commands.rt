@@ -72,7 +72,13 @@ const PATH: OptionValue = OptionValue {
     parser: ValueParser::NonEmptyString,
 };
 
-static COMMANDS: [CommandRow; 4] = [
+/// The range of the number of an entry.
+const ENTRY_RANGE: &str = "1..4294967295";
+
+/// What each number of that range passes.
+const ENTRY: ValueParser = ValueParser::Signed(1, 4_294_967_295);
+
+static COMMANDS: [CommandRow; 5] = [
     CommandRow {
         name: "run",
         about: "Runs rules on posted constraints, and prints the store and the log",
@@ -157,6 +163,43 @@ static COMMANDS: [CommandRow; 4] = [
                 help: "A file to read: a further part of the log, of entries alone; as often as wanted, in order",
                 presence: Presence::Repeated,
                 value: Some(MORE),
+            },
+        ],
+    },
+    CommandRow {
+        name: "picture",
+        about: "Draws a log as an SVG: a row for each constraint, and the firings that join them",
+        after_help: "At most 2,000 entries are drawn; the caption tells which, of how many.\n\nExample:\n  chr picture examples/gcd/gcd.chr examples/gcd/log.txt > gcd.svg",
+        arguments: &[
+            Argument {
+                name: "FILE",
+                help: "The rules; `-` is standard input",
+                presence: Presence::Required,
+                value: None,
+            },
+            Argument {
+                name: "LOG",
+                help: "The log, which begins with `chr-log 1` or `chr-log 2`; `-` is standard input",
+                presence: Presence::Required,
+                value: None,
+            },
+            Argument {
+                name: "from",
+                help: "The number of the first entry that is drawn",
+                presence: Presence::Default("1"),
+                value: Some(OptionValue {
+                    name: ENTRY_RANGE,
+                    parser: ENTRY,
+                }),
+            },
+            Argument {
+                name: "to",
+                help: "The number of the last entry that is drawn, if the log has it and it is no further than the 2,000th from the first",
+                presence: Presence::Default("4294967295"),
+                value: Some(OptionValue {
+                    name: ENTRY_RANGE,
+                    parser: ENTRY,
+                }),
             },
         ],
     },

@@ -43,6 +43,14 @@ pub enum Request<'a> {
         log: &'a str,
         store: &'a str,
     },
+    /// `chr picture FILE LOG [--from N] [--to N]`
+    Picture {
+        file: &'a str,
+        log: &'a str,
+        /// The numbers of the first and of the last entry that is drawn, from 1.
+        from: u32,
+        to: u32,
+    },
     /// `chr session [--labels N]`
     Session {
         /// The greatest label that may be given.
@@ -107,6 +115,16 @@ fn check_asked<'a>(given: &ArgMatches<'a>) -> Option<Request<'a>> {
     })
 }
 
+/// Returns what the arguments of `chr picture` ask for.
+fn picture_asked<'a>(given: &ArgMatches<'a>) -> Option<Request<'a>> {
+    Some(Request::Picture {
+        file: given.get_str("FILE")?,
+        log: given.get_str("LOG")?,
+        from: given.get_one("from")?,
+        to: given.get_one("to")?,
+    })
+}
+
 /// Returns what the arguments of `chr serve` ask for.
 fn serve_asked<'a>(given: &ArgMatches<'a>) -> Option<Request<'a>> {
     Some(Request::Serve {
@@ -121,6 +139,7 @@ fn request_of<'a>(name: &str, given: &ArgMatches<'a>) -> Option<Request<'a>> {
     match name {
         "run" => run_asked(given),
         "check" => check_asked(given),
+        "picture" => picture_asked(given),
         "session" => Some(Request::Session {
             labels: given.get_one("labels")?,
         }),
@@ -158,6 +177,7 @@ fn shares_input(request: &Request<'_>, more: &[&str]) -> bool {
     let first = match *request {
         Request::Run { file, posts, .. } => inputs(&[file, posts]),
         Request::Check { file, log, store } => inputs(&[file, log, store]),
+        Request::Picture { file, log, .. } => inputs(&[file, log]),
         Request::Session { .. } | Request::Serve { .. } => 0,
     };
     1 < first.saturating_add(inputs(more))

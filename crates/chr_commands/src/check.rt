@@ -51,7 +51,7 @@ pub fn told(alloc: Global, program: &[u8], log: &[&[u8]], fault: CheckFault) -> 
 
 /// Returns what standard error says of a refusal: with [`Detail::Explained`] what it means, and else the file of the entry
 /// where the log comes in parts.
-fn refusal_text(
+pub fn refusal_text(
     alloc: Global,
     detail: Detail,
     program: &[u8],

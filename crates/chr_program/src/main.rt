@@ -6,6 +6,7 @@
 //! write the log and the store to files.
 //! `chr check FILE LOG STORE` prints whether LOG is the log of a run of the rules of FILE that ends in STORE; an option
 //! names further parts of the log. One of the files may be `-`, which is standard input.
+//! `chr picture FILE LOG` prints a picture of the log as an SVG, or of a part of its entries.
 //! `chr session` reads commands from standard input, and writes each reply to standard output before it reads the next.
 //! `chr serve` serves such sessions over a Unix socket, up to sixteen at once, on one book that workers run.
 //! The exit status is 0 where no goal is open at the end of the run, the log is one of a run, the session has ended between
@@ -16,9 +17,11 @@
 
 use chr_command_line::reading::{Request, read};
 use chr_commands::check::check;
+use chr_commands::picture::picture;
 use chr_commands::run::run;
 use chr_commands::session::session;
 use chr_commands::{Detail, Status, print_usage, report_failure};
+use chr_picture_text::text::Range;
 use chr_socket::serve::serve;
 use std::env;
 use std::io::{self, IsTerminal};
@@ -55,6 +58,12 @@ where
             options,
         } => run(rt, detail, file, posts, more, options),
         Request::Check { file, log, store } => check(rt, detail, file, log, more, store),
+        Request::Picture {
+            file,
+            log,
+            from,
+            to,
+        } => picture(rt, detail, file, log, Range { from, to }),
         Request::Session { labels } => session(rt, detail, labels),
         Request::Serve {
             socket,

@@ -17,7 +17,7 @@ const DEFAULTS: RunOptions = RunOptions {
 };
 
 /// Words with what they ask for.
-static REQUESTS: [(Words, Request<'static>); 21] = [
+static REQUESTS: [(Words, Request<'static>); 24] = [
     (
         &["chr", "run", "rules", "posts"],
         Request::Run {
@@ -150,6 +150,40 @@ static REQUESTS: [(Words, Request<'static>); 21] = [
             file: "rules",
             log: "log",
             store: "store",
+        },
+    ),
+    (
+        &["chr", "picture", "rules", "log"],
+        Request::Picture {
+            file: "rules",
+            log: "log",
+            from: 1,
+            to: 4_294_967_295,
+        },
+    ),
+    (
+        &["chr", "picture", "rules", "--from", "7", "-", "--to=9"],
+        Request::Picture {
+            file: "rules",
+            log: "-",
+            from: 7,
+            to: 9,
+        },
+    ),
+    (
+        &[
+            "chr",
+            "picture",
+            "rules",
+            "log",
+            "--from=4294967295",
+            "--to=1",
+        ],
+        Request::Picture {
+            file: "rules",
+            log: "log",
+            from: 4_294_967_295,
+            to: 1,
         },
     ),
     (
@@ -383,7 +417,7 @@ fn files_of_requests(rt: HostRuntime) {
 }
 
 /// Words that ask for help or the version, and how the text that is printed begins and ends.
-static PRINTED: [(Words, &str, &str); 6] = [
+static PRINTED: [(Words, &str, &str); 7] = [
     (&["chr", "--version"], "chr 0.1.0\n", "chr 0.1.0\n"),
     (
         &["chr", "--help"],
@@ -399,6 +433,11 @@ static PRINTED: [(Words, &str, &str); 6] = [
         &["chr", "check", "--help"],
         "Checks whether a log is that of a run of rules, ",
         "\n\nExample:\n  chr check examples/gcd/gcd.chr examples/gcd/log.txt examples/gcd/store.txt\n",
+    ),
+    (
+        &["chr", "picture", "--help"],
+        "Draws a log as an SVG: ",
+        "\n\nExample:\n  chr picture examples/gcd/gcd.chr examples/gcd/log.txt > gcd.svg\n",
     ),
     (
         &["chr", "session", "--help"],

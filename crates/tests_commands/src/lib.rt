@@ -3,7 +3,7 @@
 //! No clause says what a command prints, which status it ends with, or how the words of a command line are understood. The
 //! tables show it row by row: command lines with what they ask for, or with the error, the beginning of its text and its
 //! exit code; the sentences on standard error, with the place of a fault; what is told of refused entries; the lines of
-//! progress, by a clock that is set; and the status of each end of a run and of a session, also with a reader and a writer
+//! progress, by a clock that is set; and the status of each end of a run, a picture and a session, also with a reader and a writer
 //! that fail.
 #![tactic(auto)]
 
@@ -13,6 +13,8 @@ mod check;
 mod command_line;
 #[cfg(test)]
 mod message;
+#[cfg(test)]
+mod picture;
 #[cfg(test)]
 mod progress;
 #[cfg(test)]

@@ -1,4 +1,5 @@
-//! Tests of whole runs, from the bytes of two texts to the bytes printed, and of the check of a log, from those of three.
+//! Tests of whole runs, from the bytes of two texts to the bytes printed, of the check of a log, from those of three, and of
+//! pictures of parts of a log.
 //!
 //! The contract of a whole run fixes its bytes by relations. The tests show them: worked programs with their output, byte
 //! by byte, by each way to show a run and up to each limit that its options give; the values of worked expressions; and
@@ -12,5 +13,7 @@
 
 #[cfg(test)]
 mod checks;
+#[cfg(test)]
+mod pictures;
 #[cfg(test)]
 mod runs;

@@ -3,7 +3,7 @@ _chr() {
   local word=${COMP_WORDS[COMP_CWORD]} before=${COMP_WORDS[COMP_CWORD-1]}
   COMPREPLY=()
   if [ "$COMP_CWORD" -eq 1 ]; then
-    COMPREPLY=($(compgen -W "run check session serve help --help --version" -- "$word"))
+    COMPREPLY=($(compgen -W "run check picture session serve help --help --version" -- "$word"))
     return
   fi
   case $before in
@@ -16,15 +16,16 @@ _chr() {
       COMPREPLY=($(compgen -f -- "$word"))
       return
       ;;
-    --steps | --labels | --workers | --sessions) return ;;
+    --steps | --labels | --from | --to | --workers | --sessions) return ;;
   esac
   case ${COMP_WORDS[1]}:$word in
     run:-*) COMPREPLY=($(compgen -W "--posts --steps --labels --show --log --store --help" -- "$word")) ;;
     check:-*) COMPREPLY=($(compgen -W "--log --help" -- "$word")) ;;
+    picture:-*) COMPREPLY=($(compgen -W "--from --to --help" -- "$word")) ;;
     session:*) COMPREPLY=($(compgen -W "--labels --help" -- "$word")) ;;
     serve:*) COMPREPLY=($(compgen -W "--socket --workers --sessions --help" -- "$word")) ;;
-    run:* | check:*) compopt -o filenames 2>/dev/null; COMPREPLY=($(compgen -f -- "$word")) ;;
-    help:*) COMPREPLY=($(compgen -W "run check session serve" -- "$word")) ;;
+    run:* | check:* | picture:*) compopt -o filenames 2>/dev/null; COMPREPLY=($(compgen -f -- "$word")) ;;
+    help:*) COMPREPLY=($(compgen -W "run check picture session serve" -- "$word")) ;;
   esac
 }
 complete -F _chr chr

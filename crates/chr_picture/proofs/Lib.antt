@@ -1,0 +1,3 @@
+pub mod Grouped
+pub mod Texts
+pub mod Ticks

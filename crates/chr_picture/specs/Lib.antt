@@ -1,0 +1,4 @@
+pub mod Words
+pub mod Pictures
+pub mod Layouts
+pub mod Svg

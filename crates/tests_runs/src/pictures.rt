@@ -1,0 +1,93 @@
+//! Pictures of parts of a log.
+use chr_picture_text::text::{PictureFault, Range, draw_text};
+use std::alloc::Global;
+use std::test::*;
+
+const GCD: &[u8] =
+    b"gcd(0) <=> true.\ngcd(N) \\ gcd(M) <=> 0 < N, N =< M | L is M mod N, gcd(L).\n";
+
+/// The log of a run of `GCD`.
+const LOG: &[u8] =
+    b"chr-log 1\nP 1 gcd(9)\nP 2 gcd(6)\nA 1 1\nD 1\nA 2 2\nF 2 2 2\\1\nD 2\nA 3 3\nF 3 2 3\\2\nD 3\nA 4 4\nF 4 1 \\4\n";
+
+/// How often a text has this part.
+fn count(text: &[u8], part: &[u8]) -> usize {
+    let parts = text.windows(part.len().max(1)).filter(|one| *one == part);
+    parts.count()
+}
+
+/// The first and the last entry that is drawn, and the titles of what is drawn of them, worked by hand.
+static PARTS: [(u32, u32, &[&str]); 5] = [
+    (
+        1,
+        5,
+        &[
+            "#1 gcd(9), activated by entry 3",
+            "#2 gcd(6), activated by entry 5",
+        ],
+    ),
+    (
+        6,
+        6,
+        &[
+            "#1 gcd(9), in the store before entry 6, removed by entry 6",
+            "#2 gcd(6), in the store before entry 6",
+            "entry 6: rule 2, kept: #2, removed: #1",
+        ],
+    ),
+    (7, 7, &[]),
+    (
+        7,
+        10,
+        &[
+            "#2 gcd(6), in the store before entry 7, removed by entry 9",
+            "#3 gcd(3), activated by entry 8",
+            "entry 9: rule 2, kept: #3, removed: #2",
+        ],
+    ),
+    (
+        11,
+        4_294_967_295,
+        &[
+            "#4 gcd(0), activated by entry 11, removed by entry 12",
+            "entry 12: rule 1, kept:, removed: #4",
+        ],
+    ),
+];
+
+/// Whether these titles and no others are in the picture of a range.
+fn has_titles(alloc: Global, range: Range, titles: &[&str]) -> Result<bool, Fail> {
+    let Ok(drawn) = draw_text(alloc, GCD, LOG, range) else {
+        return Ok(false);
+    };
+    for title in titles {
+        let title = format!(in alloc; "<title>{title}</title>")?;
+        if count(&drawn, title.as_bytes()) != 1 {
+            return Ok(false);
+        }
+    }
+    Ok(count(&drawn, b"<title>") == titles.len())
+}
+
+#[test]
+fn parts_of_a_log(rt: HostRuntime) -> Result<(), Fail> {
+    for (i, (from, to, titles)) in PARTS.iter().enumerate() {
+        let range = Range {
+            from: *from,
+            to: *to,
+        };
+        assert!(rt; has_titles(rt.alloc(), range, titles)?, "row {i}");
+    }
+    Ok(())
+}
+
+#[test]
+fn entries_that_there_are_not(rt: HostRuntime) {
+    for (from, to) in [(13, 20), (2, 1), (1, 0)] {
+        let drawn = draw_text(rt.alloc(), GCD, LOG, Range { from, to });
+        assert!(rt;
+            matches!(drawn, Err(PictureFault::NoEntry(12))),
+            "from {from} to {to}"
+        );
+    }
+}
