@@ -10,24 +10,20 @@ answers_seen : {D E : Type 0} (S : Steps D) (T : Steps E) (see : D → E) → ((
     → (spelled : List Spelled) (replies : List Reply) (a b : D) → Answers S a spelled replies b → Answers T (see a) spelled replies (see b)
 answers_seen S T see goes [] replies a b run = (run.0, ap see run.1)
 answers_seen S T see goes (Blank ∷ more) replies a b run =
-    let next = run.3 in
-    (run.0, see run.1, run.2, (next.0.0, ap see next.0.1), next.1, answers_seen S T see goes more run.2 run.1 b next.2)
+    (run.0, see run.1, run.2, (run.3.0, ap see run.3.1), run.4, answers_seen S T see goes more run.2 run.1 b run.5)
 answers_seen S T see goes (Faulty fault ∷ more) replies a b run =
-    let next = run.3 in
-    (run.0, see run.1, run.2, (next.0.0, ap see next.0.1), next.1, answers_seen S T see goes more run.2 run.1 b next.2)
+    (run.0, see run.1, run.2, (run.3.0, ap see run.3.1), run.4, answers_seen S T see goes more run.2 run.1 b run.5)
 answers_seen S T see goes (Right command ∷ more) replies a b run =
-    let next = run.3 in
-    let told = next.0 in
-    (run.0, see run.1, run.2, (told.0, told.1, goes a command told.0 run.1 told.2), next.1, answers_seen S T see goes more run.2 run.1 b next.2)
+    (run.0, see run.1, run.2, (run.3.0, run.3.1, goes a command run.3.0 run.1 run.3.2), run.4, answers_seen S T see goes more run.2 run.1 b run.5)
 
-pub served_seen : {D E : Type 0} (S : Steps D) (T : Steps E) (see : D → E) → ((a : D) (command : Command) (reply : Reply) (b : D) → S a command reply b → T (see a) command reply (see b))
-    → (a b : D) (before after : List ℕ → Type 0) (how : Ended) (input : List ℕ) → Served S a b before after how input → Served T (see a) (see b) before after how input
-served_seen S T see goes a b before after how input s =
+pub served_seen : {D E : Type 0} (a b : D) (S : Steps D) (T : Steps E) (see : D → E) → ((a : D) (command : Command) (reply : Reply) (b : D) → S a command reply b → T (see a) command reply (see b))
+    → (before after : List ℕ → Type 0) (how : Ended) (input : List ℕ) → Served S a b before after how input → Served T (see a) (see b) before after how input
+served_seen a b S T see goes before after how input s =
     record { spelled = s.spelled; replies = s.replies; spells = s.spells; answers = answers_seen S T see goes s.spelled s.replies a b s.answers; written = s.written }
 
-pub broken_seen : {D E : Type 0} (S : Steps D) (T : Steps E) (see : D → E) → ((a : D) (command : Command) (reply : Reply) (b : D) → S a command reply b → T (see a) command reply (see b))
-    → (a b : D) (before after : List ℕ → Type 0) (input : List ℕ) → Broken S a b before after input → Broken T (see a) (see b) before after input
-broken_seen S T see goes a b before after input s =
+pub broken_seen : {D E : Type 0} (a b : D) (S : Steps D) (T : Steps E) (see : D → E) → ((a : D) (command : Command) (reply : Reply) (b : D) → S a command reply b → T (see a) command reply (see b))
+    → (before after : List ℕ → Type 0) (input : List ℕ) → Broken S a b before after input → Broken T (see a) (see b) before after input
+broken_seen a b S T see goes before after input s =
     record { spelled = s.spelled; replies = s.replies; rest = s.rest; last = s.last; reads = s.reads; answers = answers_seen S T see goes s.spelled s.replies a b s.answers; last_is = s.last_is; written = s.written }
 
 -- under an answer
