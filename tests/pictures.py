@@ -1,5 +1,5 @@
 #!/usr/bin/env python3
-"""Tests the pictures of docs/pictures by a parser of XML. Each test is a line `test NAME ... ok` or
+"""Tests the pictures of docs/pictures.md by a parser of XML. Each test is a line `test NAME ... ok` or
 `test NAME ... FAILED`. That the pictures are those of the examples' runs is tested in crates/tests_files."""
 import os
 import sys
@@ -22,7 +22,7 @@ GCD = [
 
 
 def picture(name):
-    return xml.parse(f"{TOP}/docs/pictures/{name}.svg").getroot()
+    return xml.parse(f"{TOP}/crates/tests_files/data/pictures/{name}.svg").getroot()
 
 
 def titles(root):
