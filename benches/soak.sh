@@ -1,10 +1,10 @@
 #!/usr/bin/env bash
 # Runs a server of sixteen workers for so many seconds, under thirteen sessions that post at a steady rate and, in the other
 # seats and without one, clients that send garbage, break off, don't read or go away in a `wait`: soak.sh SECONDS.
-# It checks each reply as it comes (the tickets of a session rise, and none is given twice), ends with `chr check` of the
-# whole log, and prints as tables in Markdown: at each tenth of the time how many entries there are, the memory and the
-# descriptors of the server, and at the end how long posts took, beside the longest pause of a process that only sleeps,
-# since such machines pause too. It builds nothing: run it by hand, once `./chr` is built.
+# It checks each reply as it comes (the tickets of a session rise, and none is given twice), fetches the log by parts, ends
+# with `chr check` of them as one log, and prints as tables in Markdown: at each tenth of the time how many entries there
+# are, the memory and the descriptors of the server, and at the end how long posts took, beside the longest pause of a
+# process that only sleeps, since such machines pause too. It builds nothing: run it by hand, once `./chr` is built.
 set -eu
 top=$(cd "$(dirname "${BASH_SOURCE[0]}")/.." && pwd)
 program=$top/out/chr
@@ -17,8 +17,8 @@ import multiprocessing, os, random, socket, subprocess, sys, tempfile, time
 
 RULES = b"n(I, 0) <=> true.\nn(I, K) <=> 0 < K | L is K - 1, n(I, L).\n"
 SESSIONS, HOSTILE = 13, 6
-# A post of `n(I, 4)` makes eleven entries. The whole log is to keep the limit on the length of a text.
-ENTRIES, MOST_POSTS = 11, 400_000
+# A post of `n(I, 4)` makes eleven entries. Each tenth of the log is to keep the limit on the length of a text.
+MOST_POSTS = 400_000
 PROGRAM, SECONDS = sys.argv[1], float(sys.argv[2])
 RATE = min(2000.0, MOST_POSTS / SECONDS)
 
@@ -101,29 +101,47 @@ def held(server):
     return 1024 * memory, len(os.listdir(f"/proc/{server.pid}/fd"))
 
 
-def watch(server, observer, begin, end):
-    """Prints a row at each tenth of the time."""
+class Log:
+    """The log in parts, as a client keeps it that fetches it while the run goes on."""
+
+    def __init__(self, observer, room):
+        self.observer, self.room, self.entries, self.paths = observer, room, 0, []
+
+    def fetch(self):
+        lines = self.observer.lines(b"log %d\n" % (self.entries + 1))
+        path = os.path.join(self.room, f"part.{len(self.paths)}")
+        with open(path, "wb") as file:
+            file.writelines(lines if self.paths else [b"chr-log 2\n", *lines])
+        self.entries += len(lines)
+        self.paths.append(path)
+
+
+def watch(server, log, begin, end):
+    """Fetches a part of the log and prints a row at each tenth of the time."""
     print("| Seconds | Entries | Memory, bytes | Bytes an entry | Descriptors |\n|---|---|---|---|---|")
-    entries, first = 0, held(server)[0]
+    first = held(server)[0]
     for tenth in range(1, 11):
         time.sleep(max(0.0, begin + (end - begin) * tenth / 10 - time.monotonic()))
-        entries += len(observer.lines(b"log %d\n" % (entries + 1)))
+        log.fetch()
+        entries = log.entries
         memory, descriptors = held(server)
         each = (memory - first) / max(entries, 1)
         print(f"| {time.monotonic() - begin:.0f} | {entries:,} | {memory:,} | {each:.0f} | {descriptors} |", flush=True)
 
 
-def check(observer, room):
-    """Returns what the check of the whole log says, once all workers rest."""
+def check(observer, log, room):
+    """Returns what the check of the whole log says, in the parts that were fetched, once all workers rest."""
     while observer.ask(b"wait 1000000\n") != ["quiet"]:
         pass
-    texts = {"rules": RULES, "log": b"chr-log 2\n" + b"".join(observer.lines(b"log 1\n"))}
-    texts["store"] = b"".join(observer.lines(b"store\n"))
-    paths = [os.path.join(room, it) for it in texts]
-    for path, text in zip(paths, texts.values()):
+    log.fetch()
+    rules, store = os.path.join(room, "rules"), os.path.join(room, "store")
+    for path, text in ((rules, RULES), (store, b"".join(observer.lines(b"store\n")))):
         with open(path, "wb") as file:
             file.write(text)
-    return subprocess.run([PROGRAM, "check", *paths], capture_output=True, text=True, check=False)
+    words = [PROGRAM, "check", rules, log.paths[0], store]
+    for path in log.paths[1:]:
+        words += ["--log", path]
+    return subprocess.run(words, capture_output=True, text=True, check=False)
 
 
 def main(room):
@@ -143,7 +161,8 @@ def main(room):
         if at == SESSIONS:
             time.sleep(0.5)
         it.start()
-    watch(server, observer, begin, end)
+    log = Log(observer, room)
+    watch(server, log, begin, end)
     answers, longest = [told.get() for _ in range(SESSIONS)], pause.get()
     for it in started:
         it.join()
@@ -151,7 +170,7 @@ def main(room):
     faults = [it[1] for it in answers if it[1]]
     if len({*tickets}) < len(tickets):
         faults.append("a ticket was given twice")
-    answer = check(observer, room)
+    answer = check(observer, log, room)
     if answer.stdout != "run final\n":
         faults.append(f"chr check: {answer.stdout}{answer.stderr}")
     observer.ask(b"quit\n")
