@@ -2,17 +2,18 @@
 //!
 //! [`serve_on`](serving::serve_on) takes connections from a [`Listener`](listener::Listener), which is a Unix socket or a
 //! stand-in for one. Each connection has a session of `chr_session`, with a desk of `chr_shared_desk` by a seat and an inlet
-//! of its own, which a rack of `chr_crew` lends. A connection that finds no seat is told `fault E18 NoSeat`, and closed.
+//! that are lent to its thread. A connection that finds no seat is told `fault E18 NoSeat`, and closed. At the end all 32
+//! seats are with their owner, and are audited before they are let go.
 //!
 //! The calling thread takes the connections. Sixteen threads for sessions and one for each worker are started before the
-//! first of them, and the book, the pool, the rack and the slab of live connections are made then: later only a session
+//! first of them, and the lock, the pool and the slab of live connections are made then: later only a session
 //! takes memory, for its own line and text, and what its commands ask for. A reply is written while no lock is held, so a
 //! client that doesn't read holds up its own session and nothing else.
 //!
 //! What is promised: over a source and a sink that tell their bytes, a session is a run of the step relation of a desk on a
-//! shared book ([`serve_at`](session::serve_at)); a refusal is its line ([`refuse`](refusal::refuse)); and never more than
-//! sixteen connections are live. That seats come back, that descriptors are closed, and that one client doesn't hold up
-//! another, is tested.
+//! shared book ([`serve_lent`](session::serve_lent), [`serve_at`](session::serve_at)); a refusal is its line
+//! ([`refuse`](refusal::refuse)); and never more than sixteen connections are live. That descriptors are closed, and that one
+//! client doesn't hold up another, is tested.
 #![tactic(auto)]
 
 mod connections;
