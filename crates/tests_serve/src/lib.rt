@@ -22,3 +22,5 @@ mod socket;
 mod unread;
 #[cfg(test)]
 mod vanishing;
+#[cfg(test)]
+mod workers;

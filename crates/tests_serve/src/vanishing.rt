@@ -167,7 +167,7 @@ fn nothing_is_left_of_ten_thousand_connections(rt: HostRuntime) -> Result<(), Fa
 /// How many connections are made beside a run that doesn't end.
 const BESIDE: u32 = 2000;
 
-/// Whether the seat comes back, while fifteen others are out, of a client that went away as it waited for a run without an
+/// Whether the seat comes back, while fifteen others are out, of a client that went away in a long `wait` for a run without an
 /// end.
 fn seat_after_wait<R: Net + Clock>(
     rt: &R,
@@ -178,7 +178,7 @@ fn seat_after_wait<R: Net + Clock>(
     let mut waiting = Client::connect(rt, alloc, address)?;
     waiting.ask("load 9\na <=> a.\n")?;
     waiting.ask("post a.\n")?;
-    waiting.tell("wait 20\n")?;
+    waiting.tell("wait 4294967295\n")?;
     drop(waiting);
     let most = BESIDE.wrapping_sub(16);
     let (client, made) = seated(rt, alloc, address, most, "open\n")?;
