@@ -26,9 +26,10 @@ enum Opens {
     Rack,
 }
 
-/// Opens a lock, or a rack over the sessions of one, with request number `n` refused. Whether it is opened. None where memory
-/// ran out before.
-fn is_opened_on<L1: PostLedger, L2: Ledger>(
+/// Opens a lock, or a rack over the sessions of one, with request number `n` refused. Whether it is opened, and may be used.
+/// None where memory ran out before.
+fn is_opened_on<L1: PostLedger, L2: Ledger, R: Wait>(
+    rt: &R,
     memory: Memory,
     pool: Global,
     n: u64,
@@ -42,30 +43,39 @@ fn is_opened_on<L1: PostLedger, L2: Ledger>(
 {
     if matches!(opens, Opens::Lock) {
         memory.refuse(n);
-        return Some(Shared::<L1, L2, Memory>::empty(memory, posts, others).is_ok());
+        return Some(
+            match Shared::<L1, L2, Memory>::empty(memory, posts, others) {
+                Ok((shared, _seats)) => shared.resting(rt) == 0,
+                Err(_) => false,
+            },
+        );
     }
     let (_shared, seats) = Shared::<L1, L2, Memory>::empty(memory, posts, others).ok()?;
     let (_hands, inlets) = make::<u64>(pool, 1, 16, 0).ok()?;
     memory.refuse(n);
-    Some(Rack::new(memory, seats.sessions, inlets).is_ok())
+    Some(match Rack::new(memory, seats.sessions, inlets) {
+        Ok(rack) => rack.take(rt).is_ok(),
+        Err(_) => false,
+    })
 }
 
 /// The same on seats of its own.
-fn is_opened(memory: Memory, pool: Global, n: u64, opens: Opens) -> Option<bool> {
-    is_opened_on::<Brand, Brand>(memory, pool, n, opens, Blank::new(32), Blank::new(32))
+fn is_opened<R: Wait>(rt: &R, memory: Memory, pool: Global, n: u64, opens: Opens) -> Option<bool> {
+    is_opened_on::<Brand, Brand, R>(rt, memory, pool, n, opens, Blank::new(32), Blank::new(32))
 }
 
 #[derive(Drop)]
-struct Opened {
+struct Opened<'r, R: Wait> {
+    rt: &'r R,
     opens: Opens,
     pool: Global,
 }
 
-impl Refusable for Opened {
+impl<R: Wait> Refusable for Opened<'_, R> {
     fn is_made_again(&self, memory: &Refusing<Global>, n: u64) -> Option<bool> {
-        let fails = !is_opened(memory, self.pool, n, self.opens)?;
+        let fails = !is_opened(self.rt, memory, self.pool, n, self.opens)?;
         let refused = memory.is_refused(fails)?;
-        is_opened(memory, self.pool, 0, self.opens)?.then_some(refused)
+        is_opened(self.rt, memory, self.pool, 0, self.opens)?.then_some(refused)
     }
 }
 
@@ -73,6 +83,7 @@ impl Refusable for Opened {
 fn locks_and_racks_are_refused(rt: HostRuntime) {
     for opens in [Opens::Lock, Opens::Rack] {
         let opened = Opened {
+            rt: &rt,
             opens,
             pool: rt.alloc(),
         };
