@@ -19,6 +19,8 @@ enum Presence {
     Repeated,
     /// It has this value where it isn't given.
     Default(&'static str),
+    /// An option without a value.
+    Flag,
 }
 
 /// What an option has behind its name.
@@ -37,7 +39,8 @@ struct Argument {
     name: &'static str,
     help: &'static str,
     presence: Presence,
-    /// None for a word that is told by its place.
+    /// None for a word that is told by its place, or a flag. A word that is told by its place may have a value of its own
+    /// name.
     value: Option<OptionValue>,
 }
 
@@ -78,7 +81,7 @@ const ENTRY_RANGE: &str = "1..4294967295";
 /// What each number of that range passes.
 const ENTRY: ValueParser = ValueParser::Signed(1, 4_294_967_295);
 
-static COMMANDS: [CommandRow; 5] = [
+static COMMANDS: [CommandRow; 6] = [
     CommandRow {
         name: "run",
         about: "Runs rules on posted constraints, and prints the store and the log",
@@ -163,6 +166,49 @@ static COMMANDS: [CommandRow; 5] = [
                 help: "A file to read: a further part of the log, of entries alone; as often as wanted, in order",
                 presence: Presence::Repeated,
                 value: Some(MORE),
+            },
+        ],
+    },
+    CommandRow {
+        name: "explain",
+        about: "Shows from which posts and by which firings a constraint of a log was derived",
+        after_help: "Example:\n  chr explain examples/gcd/gcd.chr examples/gcd/log.txt 3 --gone",
+        arguments: &[
+            Argument {
+                name: "FILE",
+                help: "The rules; `-` is standard input",
+                presence: Presence::Required,
+                value: None,
+            },
+            Argument {
+                name: "LOG",
+                help: "The log, which begins with `chr-log 1` or `chr-log 2`; `-` is standard input",
+                presence: Presence::Required,
+                value: None,
+            },
+            Argument {
+                name: "LABEL",
+                help: "The label of the constraint, without `#`: 1..4294967295",
+                presence: Presence::Required,
+                value: Some(OptionValue {
+                    name: "LABEL",
+                    parser: ValueParser::Signed(1, 4_294_967_295),
+                }),
+            },
+            Argument {
+                name: "gone",
+                help: "Tells also which firing removed each constraint",
+                presence: Presence::Flag,
+                value: None,
+            },
+            Argument {
+                name: "as",
+                help: "How it is written: as lines, or as a graph in the language of Graphviz",
+                presence: Presence::Default("text"),
+                value: Some(OptionValue {
+                    name: "text|dot",
+                    parser: ValueParser::Names(&["text", "dot"]),
+                }),
             },
         ],
     },
@@ -258,6 +304,7 @@ fn make_argument<'a>(alloc: Global, row: &Argument) -> Arg<'a> {
         .action(ArgAction::Set)
         .help(row.help);
     let arg = match row.value {
+        Some(value) if value.name == row.name => arg.value_parser(value.parser),
         Some(value) => with_value(arg, row.name, value),
         None => arg,
     };
@@ -266,6 +313,7 @@ fn make_argument<'a>(alloc: Global, row: &Argument) -> Arg<'a> {
         Presence::Optional => arg,
         Presence::Repeated => arg.action(ArgAction::Append),
         Presence::Default(value) => arg.default_value(value),
+        Presence::Flag => arg.long(row.name).action(ArgAction::SetTrue),
     }
 }
 

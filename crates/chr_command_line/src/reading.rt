@@ -1,5 +1,6 @@
 //! What the words of a command line ask for.
 use crate::commands::command;
+use chr_explain::explanation::{Form, Question};
 use chr_run_text::output::Show;
 use clap::error::ErrorKind;
 use clap::{ArgMatches, Command, Error};
@@ -42,6 +43,12 @@ pub enum Request<'a> {
         file: &'a str,
         log: &'a str,
         store: &'a str,
+    },
+    /// `chr explain FILE LOG LABEL [--gone] [--as text|dot]`
+    Explain {
+        file: &'a str,
+        log: &'a str,
+        question: Question,
     },
     /// `chr picture FILE LOG [--from N] [--to N]`
     Picture {
@@ -115,6 +122,28 @@ fn check_asked<'a>(given: &ArgMatches<'a>) -> Option<Request<'a>> {
     })
 }
 
+/// What a value of `--as` asks for.
+fn form_of(word: &str) -> Option<Form> {
+    match word {
+        "text" => Some(Form::Text),
+        "dot" => Some(Form::Dot),
+        _ => None,
+    }
+}
+
+/// Returns what the arguments of `chr explain` ask for.
+fn explain_asked<'a>(given: &ArgMatches<'a>) -> Option<Request<'a>> {
+    Some(Request::Explain {
+        file: given.get_str("FILE")?,
+        log: given.get_str("LOG")?,
+        question: Question {
+            label: given.get_one("LABEL")?,
+            gone: given.get_flag("gone"),
+            form: form_of(given.get_str("as")?)?,
+        },
+    })
+}
+
 /// Returns what the arguments of `chr picture` ask for.
 fn picture_asked<'a>(given: &ArgMatches<'a>) -> Option<Request<'a>> {
     Some(Request::Picture {
@@ -139,6 +168,7 @@ fn request_of<'a>(name: &str, given: &ArgMatches<'a>) -> Option<Request<'a>> {
     match name {
         "run" => run_asked(given),
         "check" => check_asked(given),
+        "explain" => explain_asked(given),
         "picture" => picture_asked(given),
         "session" => Some(Request::Session {
             labels: given.get_one("labels")?,
@@ -177,7 +207,9 @@ fn shares_input(request: &Request<'_>, more: &[&str]) -> bool {
     let first = match *request {
         Request::Run { file, posts, .. } => inputs(&[file, posts]),
         Request::Check { file, log, store } => inputs(&[file, log, store]),
-        Request::Picture { file, log, .. } => inputs(&[file, log]),
+        Request::Explain { file, log, .. } | Request::Picture { file, log, .. } => {
+            inputs(&[file, log])
+        }
         Request::Session { .. } | Request::Serve { .. } => 0,
     };
     1 < first.saturating_add(inputs(more))

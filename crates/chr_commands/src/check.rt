@@ -14,9 +14,9 @@ use std::rt::{Clock, Files};
 
 /// The texts of the log, which may come in parts, and of the store.
 #[derive(Clone, Copy)]
-struct Recorded<'a> {
-    log: &'a [Source<'a>],
-    store: Source<'a>,
+pub(crate) struct Recorded<'a> {
+    pub(crate) log: &'a [Source<'a>],
+    pub(crate) store: Source<'a>,
 }
 
 /// Returns the part of a log that has the entry of this line.
@@ -70,7 +70,7 @@ pub fn refusal_text(
 }
 
 /// Writes to standard error what is to be said of a refusal, as far as there is memory for it.
-fn explain(
+pub(crate) fn tell_refusal(
     rt: &(impl Eprint + AllocGlobal),
     detail: Detail,
     program: &[u8],
@@ -104,7 +104,7 @@ fn print<A: Allocator>(
     let Err(fault) = checked.answer else {
         return Status::Done;
     };
-    explain(rt, detail, program, recorded, fault);
+    tell_refusal(rt, detail, program, recorded, fault);
     Status::Fault
 }
 

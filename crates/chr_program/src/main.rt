@@ -6,17 +6,19 @@
 //! write the log and the store to files.
 //! `chr check FILE LOG STORE` prints whether LOG is the log of a run of the rules of FILE that ends in STORE; an option
 //! names further parts of the log. One of the files may be `-`, which is standard input.
+//! `chr explain FILE LOG LABEL` prints how the constraint of a label in the log came to be.
 //! `chr picture FILE LOG` prints a picture of the log as an SVG, or of a part of its entries.
 //! `chr session` reads commands from standard input, and writes each reply to standard output before it reads the next.
 //! `chr serve` serves such sessions over a Unix socket, up to sixteen at once, on one book that workers run.
-//! The exit status is 0 where no goal is open at the end of the run, the log is one of a run, the session has ended between
-//! commands, or the connections asked for have been served, 1 for a fault in a text, a log that is refused, or a session
-//! whose input is cut, 2 for a wrong command line or a file or socket that can't be read, written or made, 3 where goals
+//! The exit status is 0 where no goal is open at the end of the run, the log is one of a run, the explanation was printed,
+//! the session has ended between commands, or the connections asked for have been served, 1 for a fault in a text, a log
+//! that is refused or doesn't give the label, or a session whose input is cut, 2 for a wrong command line or a file or socket that can't be read, written or made, 3 where goals
 //! are open at the end of the run, and 5 where memory is refused.
 #![tactic(auto)]
 
 use chr_command_line::reading::{Request, read};
 use chr_commands::check::check;
+use chr_commands::explain::explain;
 use chr_commands::picture::picture;
 use chr_commands::run::run;
 use chr_commands::session::session;
@@ -58,6 +60,11 @@ where
             options,
         } => run(rt, detail, file, posts, more, options),
         Request::Check { file, log, store } => check(rt, detail, file, log, more, store),
+        Request::Explain {
+            file,
+            log,
+            question,
+        } => explain(rt, detail, file, log, question),
         Request::Picture {
             file,
             log,

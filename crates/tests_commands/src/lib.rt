@@ -12,6 +12,8 @@ mod check;
 #[cfg(test)]
 mod command_line;
 #[cfg(test)]
+mod explain;
+#[cfg(test)]
 mod message;
 #[cfg(test)]
 mod picture;

@@ -5,10 +5,11 @@ use std::rt::Files;
 use std::{fs, io};
 
 /// The command lines that print the help.
-const LINES: [&[&str]; 6] = [
+const LINES: [&[&str]; 7] = [
     &["chr", "--help"],
     &["chr", "run", "--help"],
     &["chr", "check", "--help"],
+    &["chr", "explain", "--help"],
     &["chr", "picture", "--help"],
     &["chr", "session", "--help"],
     &["chr", "serve", "--help"],

@@ -1,0 +1,8 @@
+use Rattle.std.proofs.Common.{◌≡◌, ◌++◌, ◌∷◌, [], take}
+use Rattle.std.specs.List.{flat_map}
+use Rattle.chr_explain.specs.Reasons.{reason_of}
+use Rattle.chr_explain.specs.Lines.{recorded_view, cause_line}
+use Rattle.chr_explain.proofs.explanation.put_lines.Given as goal
+
+abbrev pub invariant-loop-reason : goal.invariant-loop-reason
+invariant-loop-reason g l = l.out.items ≡ l.fn.out.items ++ flat_map (λ r. cause_line (recorded_view l.recorded) (reason_of r) ++ 10 ∷ []) (take l.reason-index l.reasons)
