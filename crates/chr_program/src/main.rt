@@ -12,8 +12,8 @@
 //! `chr serve` serves such sessions over a Unix socket, up to sixteen at once, on one book that workers run.
 //! The exit status is 0 where no goal is open at the end of the run, the log is one of a run, the explanation was printed,
 //! the session has ended between commands, or the connections asked for have been served, 1 for a fault in a text, a log
-//! that is refused or doesn't give the label, or a session whose input is cut, 2 for a wrong command line or a file or socket that can't be read, written or made, 3 where goals
-//! are open at the end of the run, and 5 where memory is refused.
+//! that is refused or doesn't give the label, or a session whose input is cut, 2 for a wrong command line or a file or
+//! socket that can't be read, written or made, 3 where goals are open at the end of the run, and 5 where memory is refused.
 #![tactic(auto)]
 
 use chr_command_line::reading::{Request, read};

@@ -2,8 +2,7 @@
 //!
 //! What a run leaves of a book is proved. The tests show what no clause says: that a run gets to its end, that two workers
 //! judge at once and the lock is free meanwhile, that sleepers wake, what becomes of tickets where turns, labels or memory
-//! run out, that a session beside workers finds what it posted, and that its waits end: where no worker is awake, soon where
-//! a short wait was asked for beside one long goal, and quiet where a goal had wanted memory.
+//! run out, and that a session beside workers finds what it posted.
 //!
 //! Three tests have the names of wrong bodies that they refuse and no proof can: `gives_up_at_once`,
 //! `judging_under_the_lock` and `desk_posts_other_atoms`.
@@ -20,14 +19,8 @@ mod refused;
 #[cfg(test)]
 mod runs;
 #[cfg(test)]
-mod scenes;
-#[cfg(test)]
 mod sessions;
 #[cfg(test)]
 mod stops;
 #[cfg(test)]
 mod threads;
-#[cfg(test)]
-mod waiting;
-#[cfg(test)]
-mod waking;
