@@ -3,9 +3,9 @@ use Rattle.std.proofs.Common.{◌≡◌, ℕ, ◌<◌, Bool, true, false, List, 
 use Rattle.std.specs.List.{AllByRecursion}
 use Rattle.std.proofs.lemmas.List.{set-set, length-set}
 use Rattle.chr_value.specs.Atoms.{Value}
+use Rattle.chr_value.proofs.Chosen.{some_is}
 use Rattle.chr_log.specs.Events.{Entry, Drop}
 use Rattle.chr_rule.specs.Rules.{Simpagation, rule_at}
-use Rattle.chr_guard.proofs.Scoped.{some_same}
 use Rattle.chr_plan.specs.Plans.{PlanList}
 use Rattle.chr_store.specs.Labels.{LabelledStore}
 use Rattle.chr_model.specs.Stores.{atom_at}
@@ -138,7 +138,7 @@ fires_last b seat t l place rule w binding f log tickets k h is next of fw = rec
     live = are_live asked next.trial.placed next.is.live
 
     whole : IsWholeOf next.trial l rule w binding
-    whole = record { under = next.under; rule_is = some_same rule next.trial.rule (sym of ∙ ap (rule_at b.rules) next.number_is ∙ next.is.rule_is); number = next.number_is; kept = next.kept_are; removed = next.removed_are; past = next.past_is }
+    whole = record { under = next.under; rule_is = some_is rule next.trial.rule (sym of ∙ ap (rule_at b.rules) next.number_is ∙ next.is.rule_is); number = next.number_is; kept = next.kept_are; removed = next.removed_are; past = next.past_is }
 
 pub fired_rounds : (b : BookState) (seat t k l : ℕ) (place : List ℕ) (rule : Simpagation ℕ) (w : Whole) (binding : List (Option (Value ℕ))) (f : Fired) (now tickets : List Ticket) (log : List (Entry ℕ)) → IsKept b → IsPast b seat t k l place now → IsWholeNext (space_of b l) place w binding → rule_at b.rules w.number ≡ Some rule → FiresWhole seat t rule w binding f now b.log tickets log
     → MakesRounds seat t (record { passed = k; last = lasts.Fired }) b (with_fired b log w.removed.items tickets)

@@ -3,11 +3,11 @@
 use Rattle.std.proofs.Common.{◌≡◌, ◌≢◌, ◌==◌, ◌||◌, ℕ, zero, suc, ◌+◌, ◌<◌, ◌≤◌, Bool, true, false, nat_lt, not, if◌then◌else◌, inl, inr, List, [], ◌∷◌, ◌++◌, map, length, Some, Result, Ok, Err, IfOk, OnErr, slice_set, refl, sym, ◌∙◌, ap, ap₂, subst, arith, true-eqb}
 use Rattle.std.proofs.lemmas.List.{length-set, set-set, set-append_left, length-map, append_assoc}
 use Rattle.chr_value.specs.Atoms.{Atom}
+use Rattle.chr_value.proofs.Chosen.{some_is}
 use Rattle.chr_rule.specs.Rules.{RuleAtom, Simpagation, rule_at}
 use Rattle.chr_guard.specs.Values.{Valuation}
 use Rattle.chr_guard.specs.Bindings.{bound_at}
 use Rattle.chr_guard.specs.Instances.{AreUnder, atom_under, added}
-use Rattle.chr_guard.proofs.Scoped.{some_same}
 use Rattle.chr_log.specs.Events.{Entry, Activate, Fire}
 use Rattle.chr_log.specs.declared.events.Version.TheVariants.{Two}
 use Rattle.chr_plan.specs.Plans.{PlanList}
@@ -183,7 +183,7 @@ enters_rounds : (rules : List (Simpagation ℕ)) (plans : PlanList) (names : Lis
     → MakesRounds seat t (record { passed = k; last = last }) (entered_book rules plans names log st ts seat t a) (book_of rules plans names entries after new)
 enters_rounds rules plans names log es entries st store after ts now new seat t k a place come i last h p next g ends =
     ended_rounds rules plans names claim_log entries claim_store after (slice_set ts t (activated_by seat st.next)) now new seat t k st.next place come i last (claimed_kept b seat t a h) (claimed_past b seat t k a place now h p g.tickets) next
-    (subst (λ (z : LabelledStore). EndsRounds seat t rules come i last now claim_log z new entries after) (g.store ∙ ap (λ (x : Atom ℕ). record { entries = st.entries ++ (st.next, x) ∷ []; next = st.next + 1; limit = st.limit }) (some_same g.atom a (g.waits ∙ sym h.atom)))
+    (subst (λ (z : LabelledStore). EndsRounds seat t rules come i last now claim_log z new entries after) (g.store ∙ ap (λ (x : Atom ℕ). record { entries = st.entries ++ (st.next, x) ∷ []; next = st.next + 1; limit = st.limit }) (some_is g.atom a (g.waits ∙ sym h.atom)))
     (subst (λ (z : List (Entry ℕ)). EndsRounds seat t rules come i last now z store new entries after) g.logged ends))
   where
     b : BookState
@@ -294,7 +294,7 @@ starts_fewer rules plans names log entries st after ts new seat t k most a place
     claim = entered_book rules plans names log st ts seat t a
 
     entered : after ≡ record { entries = st.entries ++ (st.next, a) ∷ []; next = st.next + 1; limit = st.limit }
-    entered = g.store ∙ ap (λ (x : Atom ℕ). record { entries = st.entries ++ (st.next, x) ∷ []; next = st.next + 1; limit = st.limit }) (some_same g.atom a (g.waits ∙ sym h.atom))
+    entered = g.store ∙ ap (λ (x : Atom ℕ). record { entries = st.entries ++ (st.next, x) ∷ []; next = st.next + 1; limit = st.limit }) (some_is g.atom a (g.waits ∙ sym h.atom))
 
 -- ---- what a book keeps
 

@@ -4,7 +4,7 @@ use Rattle.std.specs.Prelude.{slice_get}
 use Rattle.std.specs.List.{AllByRecursion}
 use Rattle.std.proofs.lemmas.Bool.Decides.{nat_tests}
 use Rattle.chr_value.specs.Atoms.{Atom}
-use Rattle.chr_guard.proofs.Scoped.{some_same}
+use Rattle.chr_value.proofs.Chosen.{some_is}
 use Rattle.chr_model.specs.Stores.{Store, atom_at, labels, atoms, among, Distinct, Carry}
 
 -- what holds of each entry holds of the one under a label
@@ -14,13 +14,13 @@ all_there P (x ∷ xs) l a all at =
     elim (x.0 == l) as (λ b. (x.0 == l ≡ b) → P (l, a)) [
       | true ↦ λ t.
           let here : Some x.1 ≡ Some a = grind (arith, nat_tests) in
-          subst₂ (λ m b. P (m, b)) (true-eqb x.0 l (sym t)) (some_same x.1 a here) all.0
+          subst₂ (λ m b. P (m, b)) (true-eqb x.0 l (sym t)) (some_is x.1 a here) all.0
       | false ↦ λ t. all_there P xs l a all.1 (grind (arith, nat_tests))
     ] refl
 
 pub among_at : (entries : Store) (i : ℕ) (e : ℕ × Atom ℕ) → slice_get entries i ≡ Some e → among (labels entries) e.0 ≡ true
 among_at [] i e at = let z : None ≡ Some e = at in absurd (cc)
-among_at (x ∷ xs) zero e at = let same : x ≡ e = some_same x e at in subst (λ y. among (labels (x ∷ xs)) y.0 ≡ true) same (grind (arith, nat_tests))
+among_at (x ∷ xs) zero e at = let same : x ≡ e = some_is x e at in subst (λ y. among (labels (x ∷ xs)) y.0 ≡ true) same (grind (arith, nat_tests))
 among_at (x ∷ xs) (suc i) e at = grind (arith, nat_tests, among_at xs i e at)
 
 -- the place of a label
@@ -35,7 +35,7 @@ entry_at (x ∷ xs) l h =
 -- an entry of a store whose labels are distinct is the one under its label
 pub stored_at : (store : Store) (i : ℕ) (e : ℕ × Atom ℕ) → Distinct (labels store) → slice_get store i ≡ Some e → atom_at store e.0 ≡ Some e.1
 stored_at [] i e d at = let z : None ≡ Some e = at in absurd (cc)
-stored_at (x ∷ xs) zero e d at = let same : x ≡ e = some_same x e at in subst (λ y. atom_at (x ∷ xs) y.0 ≡ Some y.1) same (grind (arith, nat_tests))
+stored_at (x ∷ xs) zero e d at = let same : x ≡ e = some_is x e at in subst (λ y. atom_at (x ∷ xs) y.0 ≡ Some y.1) same (grind (arith, nat_tests))
 stored_at (x ∷ xs) (suc i) e d at =
     let there : among (labels xs) e.0 ≡ true = among_at xs i e at in
     let rest : atom_at xs e.0 ≡ Some e.1 = stored_at xs i e d.1 at in
@@ -49,7 +49,7 @@ stored_at (x ∷ xs) (suc i) e d at =
 
 pub carry_at : (store entries : Store) (i : ℕ) (e : ℕ × Atom ℕ) → Carry store (labels entries) (atoms entries) → slice_get entries i ≡ Some e → atom_at store e.0 ≡ Some e.1
 carry_at store [] i e c at = let z : None ≡ Some e = at in absurd (cc)
-carry_at store (x ∷ xs) zero e c at = let same : x ≡ e = some_same x e at in subst (λ y. atom_at store y.0 ≡ Some y.1) same c.0
+carry_at store (x ∷ xs) zero e c at = let same : x ≡ e = some_is x e at in subst (λ y. atom_at store y.0 ≡ Some y.1) same c.0
 carry_at store (x ∷ xs) (suc i) e c at = carry_at store xs i e c.1 at
 
 -- labels with the atoms that they carry, as entries

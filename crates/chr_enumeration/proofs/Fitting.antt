@@ -7,12 +7,12 @@ use denote.Ref.{Bor}
 use Rattle.std.proofs.lemmas.List.{length-append, length-map, length-replicate, take-replicate, take-map, drop-map, map-set, set-set, set-get_or}
 use Rattle.std.proofs.lemmas.Option.{slice_get-map, slice_get-get_or, slice_get_read, slice_get_within}
 use Rattle.chr_value.specs.Atoms.{Value, Atom}
+use Rattle.chr_value.proofs.Chosen.{some_is}
 use Rattle.chr_rule.specs.Rules.{RuleAtom, Simpagation, head_at}
 use Rattle.chr_guard.specs.Values.{Valuation}
 use Rattle.chr_guard.specs.Bindings.{Narrows, NoneUnder}
 use Rattle.chr_guard.specs.Instances.{atom_under, AreUnder, IsInstance, NoInstance}
 use Rattle.chr_guard.specs.Matching.{HeadsAre, IsFit, IsInstanceUnder}
-use Rattle.chr_guard.proofs.Scoped.{some_same}
 use Rattle.chr_guard.proofs.Bindings.{free_extends}
 use Rattle.chr_guard.proofs.Steps.{all_more, map_read}
 use Rattle.chr_guard.proofs.Under.{under_length}
@@ -27,7 +27,7 @@ use Rattle.chr_enumeration.proofs.Picking.{distinct_set, carry_set, elsewhere, s
 pub head_is : (rule : Simpagation ℕ) (n : ℕ) (s : RuleAtom ℕ) (a : Atom ℕ) → head_at rule n ≡ Some s → (v : Valuation) → (atom_under v s ≡ Some a) ↔ HeadIs rule n a v
 head_is rule n s a at v =
     let this : option_map (atom_under v) (head_at rule n) ≡ Some (atom_under v s) = ap (option_map (atom_under v)) at in
-    (λ h. this ∙ ap Some h, λ h. some_same (atom_under v s) (Some a) (sym this ∙ h))
+    (λ h. this ∙ ap Some h, λ h. some_is (atom_under v s) (Some a) (sym this ∙ h))
 
 -- all heads are picked
 fit_by_heads : (hs : List (RuleAtom ℕ)) (ps : Picks) (v : Valuation) → length ps ≡ length hs → AllPicked ps → ((i : ℕ) (e : ℕ × Atom ℕ) → picked_at ps i ≡ Some e → option_map (atom_under v) (slice_get hs i) ≡ Some (Some e.1)) → AreUnder v hs (atoms (picked ps))
@@ -35,7 +35,7 @@ fit_by_heads [] [] v len all f = refl
 fit_by_heads [] (p ∷ ps) v len all f = absurd (omega arith)
 fit_by_heads (h ∷ hs) [] v len all f = absurd (omega arith)
 fit_by_heads (h ∷ hs) (None ∷ ps) v len all f = let z = all.0 in absurd (cc)
-fit_by_heads (h ∷ hs) (Some p ∷ ps) v len all f = ap₂ (λ x xs. x ∷ xs) (some_same (atom_under v h) (Some p.1) (f 0 p refl)) (fit_by_heads hs ps v (omega arith) all.1 (λ i e at. f (suc i) e at))
+fit_by_heads (h ∷ hs) (Some p ∷ ps) v len all f = ap₂ (λ x xs. x ∷ xs) (some_is (atom_under v h) (Some p.1) (f 0 p refl)) (fit_by_heads hs ps v (omega arith) all.1 (λ i e at. f (suc i) e at))
 
 -- entries that are an instance's, and the picks among them
 pub all_fit : (rule : Simpagation ℕ) (ps : Picks) (entries : Store) (v : Valuation) → HeadsAre rule (atoms entries) v → Fills ps entries → AllFit rule ps v
@@ -213,7 +213,7 @@ no_has rule store n label a len there none entries body w has =
     let inside : i < length entries = slice_get_within entries i e found.2 in
     let within : i < n = omega arith in
     let atom : Some e.1 ≡ Some a = sym (carry_at store entries i e w.there found.2) ∙ ap (atom_at store) found.3 ∙ there in
-    let same : e ≡ (label, a) = ap₂ (λ l b. (l, b)) found.3 (some_same e.1 a atom) in
+    let same : e ≡ (label, a) = ap₂ (λ l b. (l, b)) found.3 (some_is e.1 a atom) in
     let here : slice_get entries i ≡ Some (label, a) = found.2 ∙ ap Some same in
     let o = none_open n i within in
     none i within entries body w

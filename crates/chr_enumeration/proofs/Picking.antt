@@ -3,7 +3,7 @@ use Rattle.std.proofs.Common.{◌≡◌, ◌≢◌, ◌↔◌, ℕ, zero, suc, �
 use Rattle.std.specs.Prelude.{slice_get}
 use Rattle.std.proofs.lemmas.Bool.Decides.{nat_tests}
 use Rattle.chr_value.specs.Atoms.{Atom}
-use Rattle.chr_guard.proofs.Scoped.{some_same}
+use Rattle.chr_value.proofs.Chosen.{some_is}
 use Rattle.chr_model.specs.Stores.{Store, atom_at, labels, atoms, among, Distinct, Carry}
 use Rattle.chr_enumeration.specs.Picks.{Picks, picked_at, picked, AllPicked, Fills}
 
@@ -63,7 +63,7 @@ set_cases ps i j e x P within at here there =
       | true ↦ λ t.
           let same : j ≡ i = true-eqb j i (sym t) in
           let both : Some e ≡ Some x = sym (get_or-set_same ps i (Some e) None within) ∙ ap (picked_at (slice_set ps i (Some e))) (sym same) ∙ at in
-          subst (λ y. P j y) (some_same e x both) (subst (λ k. P k e) (sym same) here)
+          subst (λ y. P j y) (some_is e x both) (subst (λ k. P k e) (sym same) here)
       | false ↦ λ t. there (sym (get_or-set_other ps i j (Some e) None (grind (arith, nat_tests))) ∙ at)
     ] refl
 
@@ -82,7 +82,7 @@ filled [] [] all len f = refl
 filled [] (x ∷ xs) all len f = absurd (omega arith)
 filled (p ∷ ps) [] all len f = absurd (omega arith)
 filled (None ∷ ps) (x ∷ xs) all len f = let z = all.0 in absurd (cc)
-filled (Some p ∷ ps) (x ∷ xs) all len f = ap₂ (λ y ys. y ∷ ys) (some_same x p (f 0 p refl)) (filled ps xs all.1 (omega arith) (λ i e at. f (suc i) e at))
+filled (Some p ∷ ps) (x ∷ xs) all len f = ap₂ (λ y ys. y ∷ ys) (some_is x p (f 0 p refl)) (filled ps xs all.1 (omega arith) (λ i e at. f (suc i) e at))
 
 pub picked_take : (k : ℕ) (ps : Picks) → AllPicked ps → picked (take k ps) ≡ take k (picked ps)
 picked_take zero ps all = refl
@@ -103,7 +103,7 @@ fills_among (None ∷ ps) [] f l h = fills_among ps [] (λ i e at. f (suc i) e a
 fills_among (None ∷ ps) (x ∷ xs) f l h = let rest = fills_among ps xs (λ i e at. f (suc i) e at) l h in grind (arith, nat_tests)
 fills_among (Some p ∷ ps) [] f l h = let z : None ≡ Some p = f 0 p refl in absurd (cc)
 fills_among (Some p ∷ ps) (x ∷ xs) f l h =
-    let same : x.0 ≡ p.0 = ap (λ y. y.0) (some_same x p (f 0 p refl)) in
+    let same : x.0 ≡ p.0 = ap (λ y. y.0) (some_is x p (f 0 p refl)) in
     grind (arith, nat_tests, fills_among ps xs (λ i e at. f (suc i) e at) l)
 
 pub fills_distinct : (ps : Picks) (entries : Store) → Fills ps entries → Distinct (labels entries) → Distinct (labels (picked ps))
@@ -112,7 +112,7 @@ fills_distinct (None ∷ ps) [] f d = fills_distinct ps [] (λ i e at. f (suc i)
 fills_distinct (None ∷ ps) (x ∷ xs) f d = fills_distinct ps xs (λ i e at. f (suc i) e at) d.1
 fills_distinct (Some p ∷ ps) [] f d = let z : None ≡ Some p = f 0 p refl in absurd (cc)
 fills_distinct (Some p ∷ ps) (x ∷ xs) f d =
-    let same : x.0 ≡ p.0 = ap (λ y. y.0) (some_same x p (f 0 p refl)) in
+    let same : x.0 ≡ p.0 = ap (λ y. y.0) (some_is x p (f 0 p refl)) in
     let apart : among (labels xs) p.0 ≡ false = subst (λ l. among (labels xs) l ≡ false) same d.0 in
     (grind (arith, nat_tests, fills_among ps xs (λ i e at. f (suc i) e at) p.0), fills_distinct ps xs (λ i e at. f (suc i) e at) d.1)
 

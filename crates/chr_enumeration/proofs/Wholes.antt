@@ -5,11 +5,11 @@ use Rattle.std.specs.List.{AllByRecursion}
 use Rattle.std.proofs.lemmas.List.{take_at, drop_at, take-append-drop}
 use Rattle.std.proofs.lemmas.Option.{slice_get_read}
 use Rattle.chr_value.specs.Atoms.{Atom}
+use Rattle.chr_value.proofs.Chosen.{some_is}
 use Rattle.chr_rule.specs.Rules.{Simpagation, rule_at}
 use Rattle.chr_guard.specs.Bindings.{bound_at}
 use Rattle.chr_guard.specs.Instances.{AreUnder, IsRight, added, Instance, IsInstance}
 use Rattle.chr_guard.specs.Matching.{HeadsAre, IsFit}
-use Rattle.chr_guard.proofs.Scoped.{some_same}
 use Rattle.chr_guard.proofs.Under.{under_length}
 use Rattle.chr_model.specs.Stores.{Store, labels, atoms, among, atom_at, Distinct, Carry, Labelled, NoneWith}
 use Rattle.chr_model.specs.Programs.{Instances}
@@ -69,7 +69,7 @@ all_numbered P rules (suc k) rule all at = by_place rules k all at
   where
     by_place : (rs : List (Simpagation ℕ)) (k : ℕ) → AllByRecursion P rs → slice_get rs k ≡ Some rule → P rule
     by_place [] k a e = let z : None ≡ Some rule = e in absurd (cc)
-    by_place (x ∷ xs) zero a e = subst P (some_same x rule e) a.0
+    by_place (x ∷ xs) zero a e = subst P (some_is x rule e) a.0
     by_place (x ∷ xs) (suc k) a e = by_place xs k a.1 e
 
 pub none_found : (rules : List (Simpagation ℕ)) (store : Store) (label : ℕ) → AllByRecursion (λ (rule : Simpagation ℕ). NoMatch rule store (Has label)) rules → NoneWith (Instances rules) store label

@@ -4,13 +4,14 @@ use Rattle.std.specs.List.{AllByRecursion}
 use Rattle.std.proofs.lemmas.List.{drop_more, drop_all, take_all}
 use Rattle.std.proofs.lemmas.Bool.{cases_lt, cases_eq}
 use Rattle.chr_value.specs.Atoms.{Value, Int}
+use Rattle.chr_value.proofs.Chosen.{some_is}
 use Rattle.chr_rule.specs.Rules.{Expression, Is, Add, RuleAtom, Simpagation}
 use Rattle.chr_rule.specs.Scope.{known_after_heads, known_after_body, IsRule}
 use Rattle.chr_guard.specs.Values.{Valuation, value_of}
 use Rattle.chr_guard.specs.Bindings.{bound_at, Extends, Narrows, NoneUnder}
 use Rattle.chr_guard.specs.Instances.{IsRight}
 use Rattle.chr_guard.specs.Matching.{IsOfHeads, Completes, IsCompleted}
-use Rattle.chr_guard.proofs.Scoped.{some_same, scoped, is_known, add_known, body_below}
+use Rattle.chr_guard.proofs.Scoped.{scoped, is_known, add_known, body_below}
 use Rattle.chr_guard.proofs.Under.{value_grows}
 use Rattle.chr_guard.proofs.Fixed.{Agree, value_agrees}
 use Rattle.chr_guard.proofs.Bindings.{narrows_nothing, extends_itself, others_stay, bound_settled, stays_bound}
@@ -72,7 +73,7 @@ module _ (rule : Simpagation ℕ) (i x : ℕ) (e : Expression) (old mid : List (
   pub is_otherwise : (n : ℤ) → value_of (bound_at mid) e ≡ Some n → NoneUnder (λ v. v x ≡ Some (Int n)) mid → (v : Valuation) → Completes rule old v → ⊥
   is_otherwise n val none v c =
       let p = parts v c in
-      let same : n ≡ p.1.0 = some_same n p.1.0 (sym (value_grows (bound_at mid) v p.0 e n val) ∙ p.1.1) in
+      let same : n ≡ p.1.0 = some_is n p.1.0 (sym (value_grows (bound_at mid) v p.0 e n val) ∙ p.1.1) in
       none v p.0 (p.1.2 ∙ ap (λ z. Some (Int z)) (sym same))
 
   bound_more : (n : ℤ) (new : List (Option (Value ℕ))) → Narrows (λ v. v x ≡ Some (Int n)) mid new → x ≡ done.known → (y : ℕ) → done.first ≤ y → y < suc done.known → IsSome (bound_at new y)
@@ -106,7 +107,7 @@ module _ (rule : Simpagation ℕ) (i x : ℕ) (e : Expression) (old mid : List (
             λ h.
                 let two = (all_more (IsRight v) rule.body i (Is x e) within there).0 h.1 in
                 let p = (done.narrows.exactly v).1 (h.0, two.0) in
-                let number : n ≡ two.1.0 = some_same n two.1.0 (sym (value_grows (bound_at mid) v p e n val) ∙ two.1.1) in
+                let number : n ≡ two.1.0 = some_is n two.1.0 (sym (value_grows (bound_at mid) v p e n val) ∙ two.1.1) in
                 (m.exactly v).1 (p, two.1.2 ∙ ap (λ z. Some (Int z)) (sym number)),
           );
         };
@@ -139,12 +140,12 @@ add_more rule i s old mid within there done =
 pub completing_end : (rule : Simpagation ℕ) (i : ℕ) (old new : List (Option (Value ℕ))) → length rule.body ≤ i → Completing rule i old new → IsCompleted rule old new
 completing_end rule i old new past done = record {
   narrows = subst (λ ms. Narrows (λ v. AllByRecursion (IsRight v) ms) old new) (take_all i rule.body past) done.narrows;
-  heads = λ x h. done.heads x (subst (λ n. x < n) (some_same h.0 done.first (sym h.1 ∙ done.of_heads)) h.2);
+  heads = λ x h. done.heads x (subst (λ n. x < n) (some_is h.0 done.first (sym h.1 ∙ done.of_heads)) h.2);
   others = λ x h. by_place x h (cases_lt x done.first);
 }
   where
     all_known : done.known ≡ rule.variables
-    all_known = some_same done.known rule.variables (sym (ap (known_after_body done.known) (drop_all i rule.body past)) ∙ done.rest)
+    all_known = some_is done.known rule.variables (sym (ap (known_after_body done.known) (drop_all i rule.body past)) ∙ done.rest)
 
     by_place : (x : ℕ) → x < rule.variables → (x < done.first) ⊎ (done.first ≤ x) → IsOfHeads rule x ⊎ IsSome (bound_at new x)
     by_place x h (inl below) = inl (done.first, done.of_heads, below)

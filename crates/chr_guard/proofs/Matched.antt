@@ -6,13 +6,14 @@ use Rattle.std.specs.Option.{option_map}
 use Rattle.std.proofs.lemmas.List.{length-replicate, length-append, map-append, length-map, take_at, drop_at}
 use Rattle.std.proofs.lemmas.Simd.{map-map}
 use Rattle.chr_value.specs.Atoms.{Value, Atom}
+use Rattle.chr_value.proofs.Chosen.{some_is}
 use Rattle.chr_rule.specs.Rules.{RuleAtom, Simpagation, head_at}
 use Rattle.chr_rule.specs.Scope.{argument_known, IsRule}
 use Rattle.chr_guard.specs.Values.{Valuation, term_under}
 use Rattle.chr_guard.specs.Bindings.{bound_at, Extends, Narrows, NoneUnder, NarrowsIf}
 use Rattle.chr_guard.specs.Instances.{atom_under}
 use Rattle.chr_guard.specs.Matching.{IsAtHead, AreAtHeads, HeadsAre, IsFit, IsOfHeads}
-use Rattle.chr_guard.proofs.Scoped.{some_same, scoped, IsPlaced, heads_below, body_below, args_later}
+use Rattle.chr_guard.proofs.Scoped.{scoped, IsPlaced, heads_below, body_below, args_later}
 use Rattle.chr_guard.proofs.Under.{atom_is, heads_bound}
 use Rattle.chr_guard.proofs.Bindings.{narrows_both, narrows_as, none_after, narrows_nothing, free_extends, extends_itself}
 use Rattle.chr_guard.proofs.Steps.{all_more, all_at, halves}
@@ -23,7 +24,7 @@ told_as P Q false old new e n = λ v h q. n v h ((e v).1 q)
 
 pub told_given : (told : Bool) (old : List (Option (Value ℕ))) (a t : Value ℕ) → IsTrue told ↔ (a ≡ t) → NarrowsIf (λ v. Some a ≡ Some t) told old old
 told_given true old a t means = narrows_nothing (λ v. Some a ≡ Some t) old (λ v. ap (λ x. Some x) (means.0 refl))
-told_given false old a t means = λ v h e. let c : false ≡ true = means.1 (some_same a t e) in absurd (cc)
+told_given false old a t means = λ v h e. let c : false ≡ true = means.1 (some_is a t e) in absurd (cc)
 
 -- the arguments of a head and of an atom of that name
 pub told_head : (told : Bool) (s : RuleAtom ℕ) (a : Atom ℕ) (vs : List (Value ℕ)) (old new : List (Option (Value ℕ))) → s.name ≡ a.name → vs ≡ a.args → NarrowsIf (λ v. map (term_under v) s.args ≡ map (λ t. Some t) vs) told old new → NarrowsIf (λ v. atom_under v s ≡ Some a) told old new
@@ -36,7 +37,7 @@ other_name s a old ne v h e = ne ((atom_is v s a).0 e).0
 
 placed_in : (hs : List (RuleAtom ℕ)) (n j : ℕ) (s : RuleAtom ℕ) → AllByRecursion (IsPlaced n) hs → slice_get hs j ≡ Some s → list_all (argument_known n) s.args ≡ true
 placed_in [] n j s a e = let z : None ≡ Some s = e in absurd (cc)
-placed_in (h ∷ hs) n zero s a e = let same : h ≡ s = some_same h s e in subst (IsPlaced n) same a.0
+placed_in (h ∷ hs) n zero s a e = let same : h ≡ s = some_is h s e in subst (IsPlaced n) same a.0
 placed_in (h ∷ hs) n (suc j) s a e = placed_in hs n j s a.1 e
 
 all_later : (n m : ℕ) (hs : List (RuleAtom ℕ)) → n ≤ m → AllByRecursion (IsPlaced n) hs → AllByRecursion (IsPlaced m) hs
@@ -77,7 +78,7 @@ stands_from : (rule : Simpagation ℕ) (v : Valuation) (p : ℕ × Atom ℕ) (s 
 stands_from rule v p s at e = ap (option_map (atom_under v)) at ∙ ap (λ a. Some a) e
 
 stands_to : (rule : Simpagation ℕ) (v : Valuation) (p : ℕ × Atom ℕ) (s : RuleAtom ℕ) → head_at rule p.0 ≡ Some s → IsAtHead rule v p → atom_under v s ≡ Some p.1
-stands_to rule v p s at e = some_same (atom_under v s) (Some p.1) (sym (ap (option_map (atom_under v)) at) ∙ e)
+stands_to rule v p s at e = some_is (atom_under v s) (Some p.1) (sym (ap (option_map (atom_under v)) at) ∙ e)
 
 -- one head more of a list of heads with their atoms
 pub stands_more : (rule : Simpagation ℕ) (places : List (ℕ × Atom ℕ)) (i : ℕ) (p : ℕ × Atom ℕ) (s : RuleAtom ℕ) (old mid new : List (Option (Value ℕ))) → i < length places → p ≡ get_or places i p → head_at rule p.0 ≡ Some s

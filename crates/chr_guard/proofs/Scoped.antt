@@ -3,11 +3,9 @@ use Rattle.std.proofs.Common.{◌≡◌, ℕ, suc, ◌<◌, ◌≤◌, Bool, tru
 use Rattle.std.specs.List.{AllByRecursion, list_all}
 use Rattle.std.proofs.lemmas.Bool.{and_parts}
 use Rattle.std.proofs.lemmas.Bool.Decides.{nat_tests}
+use Rattle.chr_value.proofs.Chosen.{some_is}
 use Rattle.chr_rule.specs.Rules.{Term, Var, Given, RuleAtom, Expression, BodyItem, Is, Add, Simpagation}
 use Rattle.chr_rule.specs.Scope.{known_after_args, known_after_heads, known_after_body, known_then, argument_known, expression_known, test_known, IsRule}
-
-pub some_same : {A : Type 0} (x y : A) → Some x ≡ Some y → x ≡ y
-some_same x y e = cc
 
 pub all_true : (a b : Bool) → a ≡ true → b ≡ true → a && b ≡ true
 all_true a b e f = cc

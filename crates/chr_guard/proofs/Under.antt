@@ -6,11 +6,12 @@ use Rattle.std.proofs.lemmas.Bool.{and_parts}
 use Rattle.std.proofs.lemmas.Bool.Decides.{nat_tests}
 use Rattle.std.proofs.lemmas.List.{map-append, map_more, drop_more, take-append-drop, length-map}
 use Rattle.chr_value.specs.Atoms.{Value, Int, Sym, Atom}
+use Rattle.chr_value.proofs.Chosen.{some_is}
 use Rattle.chr_rule.specs.Rules.{Term, Var, Given, RuleAtom, Expression, Number, Variable, Operation, BodyItem, Is, Add}
 use Rattle.chr_rule.specs.Scope.{known_after_args, known_after_heads, known_after_body, argument_known}
 use Rattle.chr_guard.specs.Values.{Valuation, value_of, number_in, computed, both, term_under}
 use Rattle.chr_guard.specs.Instances.{values_under, atom_under, AreUnder, added}
-use Rattle.chr_guard.proofs.Scoped.{some_same, var_known, head_known, is_known, add_known, body_below, args_later}
+use Rattle.chr_guard.proofs.Scoped.{var_known, head_known, is_known, add_known, body_below, args_later}
 
 -- lists of values are equal where they are equal as answers
 pub somes : {A : Type 0} (xs ys : List A) → map (λ x. Some x) xs ≡ map (λ x. Some x) ys → xs ≡ ys
@@ -26,10 +27,10 @@ both_parts f (Some a) None c e = absurd (cc)
 both_parts f None p c e = absurd (cc)
 
 values_to : (v : Valuation) (args : List (Term ℕ)) (vs : List (Value ℕ)) → values_under v args ≡ Some vs → map (term_under v) args ≡ map (λ t. Some t) vs
-values_to v [] vs e = let s : [] ≡ vs = some_same [] vs e in ap (map (λ t. Some t)) s
+values_to v [] vs e = let s : [] ≡ vs = some_is [] vs e in ap (map (λ t. Some t)) s
 values_to v (t ∷ ts) vs e =
     let p = both_parts (λ x xs. Some (x ∷ xs)) (term_under v t) (values_under v ts) vs e in
-    let s : p.0 ∷ p.1 ≡ vs = some_same (p.0 ∷ p.1) vs p.4 in
+    let s : p.0 ∷ p.1 ≡ vs = some_is (p.0 ∷ p.1) vs p.4 in
     ap₂ (λ y ys. y ∷ ys) p.2 (values_to v ts p.1 p.3) ∙ ap (map (λ t. Some t)) s
 
 values_from : (v : Valuation) (args : List (Term ℕ)) (vs : List (Value ℕ)) → map (term_under v) args ≡ map (λ t. Some t) vs → values_under v args ≡ Some vs
@@ -71,7 +72,7 @@ atom_is v s a = (λ e. to (values_under v s.args) refl e, λ h. from h.0 h.1)
     to : (o : Option (List (Value ℕ))) → values_under v s.args ≡ o → option_map (λ values. record { name = s.name; args = values }) o ≡ Some a → (s.name ≡ a.name) × (map (term_under v) s.args ≡ map (λ t. Some t) a.args)
     to None e h = let z : None ≡ Some a = h in absurd (cc)
     to (Some vs) e h =
-        let same : record { name = s.name; args = vs } ≡ a = some_same (record { name = s.name; args = vs }) a h in
+        let same : record { name = s.name; args = vs } ≡ a = some_is (record { name = s.name; args = vs }) a h in
         (ap (λ x. x.name) same, values_to v s.args vs e ∙ ap (λ x. map (λ t. Some t) x.args) same)
 
     from : s.name ≡ a.name → map (term_under v) s.args ≡ map (λ t. Some t) a.args → atom_under v s ≡ Some a

@@ -8,6 +8,7 @@ use Rattle.std.proofs.Math.Seq.{take-append_seam}
 use Rattle.chr_value.specs.Atoms.{Value, Atom}
 use Rattle.chr_value.specs.Stores.{Store}
 use Rattle.chr_value.specs.declared.atom.Pred.{Pred}
+use Rattle.chr_value.proofs.Chosen.{some_is}
 use Rattle.chr_rule.specs.Rules.{RuleAtom, head_at}
 use Rattle.chr_guard.specs.Values.{Valuation}
 use Rattle.chr_guard.specs.Bindings.{bound_at, Extends, Narrows, NoneUnder}
@@ -22,9 +23,6 @@ use Rattle.chr_search.specs.declared.join.Asked.{Asked}
 use Rattle.chr_search.specs.Partners.{HasPlan, IsReady, KeyIs, key_in, IsAskedFor}
 use Rattle.chr_search.proofs.Plans.{order_of_plan, step_key_given}
 use Rattle.chr_search.proofs.Partners.{IsAsked, ready_more, no_fit}
-
-pub some_is : {A : Type 0} (x y : A) → Some x ≡ Some y → x ≡ y
-some_is x y e = cc
 
 pub none_if : {A : Type 0} (o : Option A) → ((x : A) → o ≡ Some x → ⊥) → o ≡ None
 none_if None f = refl

@@ -2,6 +2,7 @@
 use Rattle.std.proofs.Common.{◌≡◌, ℕ, ◌+◌, ◌≤◌, Bool, true, false, List, [], ◌∷◌, ◌++◌, length, length-append, Option, Some, None, slice_get, refl, sym, ◌∙◌, ap, subst, arith}
 use Rattle.std.specs.Option.{option_map}
 use Rattle.chr_value.specs.Atoms.{Value, Atom}
+use Rattle.chr_value.proofs.Chosen.{some_is}
 use Rattle.chr_rule.specs.Parts.{shape}
 use Rattle.chr_rule.specs.Rules.{RuleAtom, head_at}
 use Rattle.chr_rule.specs.Scope.{IsRule}
@@ -23,7 +24,7 @@ use Rattle.chr_search.specs.Passing.{IsTrialIn, AreJudged, IsLastHead, IsNarrowe
 use Rattle.chr_search.proofs.Plans.{step_key_given}
 use Rattle.chr_search.proofs.Partners.{ready_more, fit_less, no_fit}
 use Rattle.chr_search.proofs.Reaches.{has_pred, has_key}
-use Rattle.chr_search.proofs.Asking.{some_is, stands_is}
+use Rattle.chr_search.proofs.Asking.{stands_is}
 use Rattle.chr_search.proofs.Wholes.{in_head_order, completed}
 use Rattle.chr_search.proofs.Passed.{stands_nowhere, is_part, is_full, heads_fit, few_placed, misfit_here}
 

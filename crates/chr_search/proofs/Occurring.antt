@@ -3,6 +3,7 @@ use Rattle.std.proofs.Common.{◌≡◌, ℕ, ◌<◌, ◌≤◌, true, List, []
 use Rattle.std.proofs.lemmas.Bool.Decides.{nat_tests}
 use Rattle.chr_value.specs.Atoms.{Atom}
 use Rattle.chr_value.specs.declared.atom.Pred.{Pred}
+use Rattle.chr_value.proofs.Chosen.{some_is}
 use Rattle.chr_rule.specs.Rules.{Simpagation, head_at}
 use Rattle.chr_rule.specs.Occurrences.{IsOccurrence, AtOrAfter, NoneFrom, IsNextOccurrence}
 use Rattle.chr_model.specs.Stores.{atom_at}
@@ -13,7 +14,6 @@ use Rattle.chr_search.specs.Trials.{HasHeadPred, Join, Space, IsTrial, NoneLeft}
 use Rattle.chr_search.specs.PlanByPlan.{IsJoinOf, IsUnplanned, IsJoinAt, HasComeTo, IsNextJoin}
 use Rattle.chr_search.proofs.Positions.{after_first, after_under, after_cases}
 use Rattle.chr_search.proofs.Plans.{planned, has_plan}
-use Rattle.chr_search.proofs.Asking.{some_is}
 use Rattle.chr_search.proofs.PlanByPlan.{head_from, head_within, joins_at}
 
 -- rules and heads in the order of trials

@@ -3,6 +3,7 @@ use Rattle.std.proofs.Common.{◌≡◌, ◌≢◌, ◌↔◌, ℕ, zero, suc, �
 use Rattle.std.specs.List.{AllByRecursion}
 use Rattle.std.proofs.lemmas.List.{length-map}
 use Rattle.chr_value.specs.Atoms.{Value, Atom}
+use Rattle.chr_value.proofs.Chosen.{some_is}
 use Rattle.chr_rule.specs.Rules.{Simpagation, rule_at}
 use Rattle.chr_rule.specs.Scope.{IsRule}
 use Rattle.chr_guard.specs.Values.{Valuation}
@@ -24,7 +25,6 @@ use Rattle.chr_search.specs.Answers.{after_verdict}
 use Rattle.chr_search.specs.Passing.{IsTrialIn, HasTrials, AreJudged, PassesOne, Passes}
 use Rattle.chr_search.proofs.Plans.{heads_in}
 use Rattle.chr_search.proofs.Partners.{fit_less, distinct_less}
-use Rattle.chr_search.proofs.Asking.{some_is}
 use Rattle.chr_search.proofs.Judging.{few_heads, last_small}
 use Rattle.chr_search.proofs.Making.{grows_count, grows_live, Parts, parts_as, formed}
 use Rattle.chr_search.proofs.Wholes.{places, in_head_order, full_fit, no_instance}

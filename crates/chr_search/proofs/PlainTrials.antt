@@ -4,6 +4,7 @@ use Rattle.std.specs.Option.{option_map}
 use Rattle.std.proofs.lemmas.Bool.Decides.{nat_tests}
 use Rattle.std.proofs.lemmas.List.{append-nil}
 use Rattle.chr_value.specs.Atoms.{Value, Atom}
+use Rattle.chr_value.proofs.Chosen.{some_is}
 use Rattle.chr_rule.specs.Rules.{RuleAtom, head_at}
 use Rattle.chr_guard.specs.Values.{Valuation}
 use Rattle.chr_guard.specs.Instances.{atom_under}
@@ -19,7 +20,6 @@ use Rattle.chr_search.proofs.Plans.{IsPlanOf, planned, step_key_given}
 use Rattle.chr_search.proofs.Reaches.{has_key}
 use Rattle.chr_search.proofs.Descents.{grows_in}
 use Rattle.chr_search.proofs.Shrinking.{trial_of}
-use Rattle.chr_search.proofs.Asking.{some_is}
 
 -- the parts of a fit
 fit_front : (j : Join) (v : Valuation) (steps : List Step) (front rest : List ℕ) → Fit j v steps (front ++ rest) → Fit j v steps front

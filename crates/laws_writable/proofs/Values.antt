@@ -6,7 +6,7 @@ use Rattle.std.proofs.lemmas.Bool.Decides.{nat_tests}
 use Rattle.chr_value.specs.Atoms.{Value, Int, Sym, Atom, renamed, text_of, by_texts}
 use Rattle.chr_value.specs.Naming.{Table}
 use Rattle.chr_value.specs.Spelling.{is_control, IsName, FitsTerm, FitsAtom}
-use Rattle.chr_value.proofs.Chosen.{chosen}
+use Rattle.chr_value.proofs.Chosen.{chosen, some_is}
 use Rattle.chr_value.proofs.Inside.{atom_inside, atom_kept}
 use Rattle.chr_rule.specs.declared.expression.Operator.{Operator}
 use Rattle.chr_rule.specs.declared.expression.Operator.TheVariants as operators
@@ -15,7 +15,7 @@ use Rattle.chr_rule.specs.Scope.{known_after_args, known_after_heads, known_afte
 use Rattle.chr_grammar.proofs.Members_again.{all_append}
 use Rattle.chr_guard.specs.Values.{Valuation, in_range, is_zero, int_mod, computed, number_in, value_of, term_under}
 use Rattle.chr_guard.specs.Instances.{atom_under, AreUnder, IsRight, added, Instance}
-use Rattle.chr_guard.proofs.Scoped.{some_same, var_known, head_known, is_known, add_known, scoped}
+use Rattle.chr_guard.proofs.Scoped.{var_known, head_known, is_known, add_known, scoped}
 use Rattle.chr_guard.proofs.Under.{both_parts, atom_is, under_append}
 use Rattle.chr_text.specs.Writable.{AreWritable, CanHold, term_with, atom_with}
 
@@ -36,7 +36,7 @@ in_range_fits n z h =
     elim (chosen _ (Some n) None (Some z) h) [
       | inl p ↦
           let two = and_parts (int_le (negsuc 9223372036854775807) n) (int_le n (pos 9223372036854775807)) p.0 in
-          subst (λ (k : ℤ). FitsTerm (Int k)) (some_same n z p.1) (bounds_fit n two.0 two.1)
+          subst (λ (k : ℤ). FitsTerm (Int k)) (some_is n z p.1) (bounds_fit n two.0 two.1)
       | inr p ↦ absurd (let k = p.1 in cc)
     ]
 
@@ -64,7 +64,7 @@ held_next table v n x t held at is holds y u lt there =
       | true ↦ λ q.
           let place : y ≡ x = true-eqb y n (sym q) ∙ sym at in
           let same : Some t ≡ Some u = sym is ∙ ap v (sym place) ∙ there in
-          subst (CanHold table) (some_same t u same) holds
+          subst (CanHold table) (some_is t u same) holds
       | false ↦ λ q. held y u (grind (arith, nat_tests)) there
     ] refl
 
@@ -88,7 +88,7 @@ heads_held table v n m (h ∷ hs) (x ∷ atoms) k e all held =
     head_known n m h hs k (λ z i j. heads_held table v z m hs atoms j rest all.1 (args_held table v n z h.args x.args i ((atom_is v h x).0 one).1 all.0.args held))
 
 number_is : (o : Option (Value ℕ)) (z : ℤ) → number_in o ≡ Some z → o ≡ Some (Int z)
-number_is (Some (Int n)) z h = ap (λ (k : ℤ). Some (Int k)) (some_same n z h)
+number_is (Some (Int n)) z h = ap (λ (k : ℤ). Some (Int k)) (some_is n z h)
 number_is (Some (Sym s)) z h = absurd cc
 number_is None z h = absurd cc
 
@@ -96,7 +96,7 @@ below : (x n : ℕ) → argument_known {N = ℕ} n (Var x) ≡ true → x < n
 below x n k = grind (arith, nat_tests)
 
 value_fits : (table : Table) (v : Valuation) (n : ℕ) (e : Expression) (z : ℤ) → HeldBelow table v n → expression_known n e ≡ true → NumbersFit e → value_of v e ≡ Some z → FitsTerm (Int z)
-value_fits table v n (Number k) z held known fits h = subst (λ (i : ℤ). FitsTerm (Int i)) (some_same k z h) fits
+value_fits table v n (Number k) z held known fits h = subst (λ (i : ℤ). FitsTerm (Int i)) (some_is k z h) fits
 value_fits table v n (Variable x) z held known fits h = held x (Int z) (below x n known) (number_is (v x) z h)
 value_fits table v n (Operation o a b) z held known fits h =
     let p = both_parts (computed o) (value_of v a) (value_of v b) z h in
@@ -136,7 +136,7 @@ args_filled table v n (Var x ∷ args) (t ∷ vs) e k held all =
 args_filled table v n (Given u ∷ args) (t ∷ vs) e k held all =
     let one : Some u ≡ Some t = cc in
     let rest : map (term_under v) args ≡ map (λ t. Some t) vs = cc in
-    (subst (CanHold table) (some_same u t one) all.0, args_filled table v n args vs rest k held all.1)
+    (subst (CanHold table) (some_is u t one) all.0, args_filled table v n args vs rest k held all.1)
 
 as_many : (table : Table) (v : Valuation) (args : List (Term ℕ)) (vs : List (Value ℕ)) → map (term_under v) args ≡ map (λ t. Some t) vs → length (map (renamed (text_of table)) vs) ≡ length (map (renamed (text_of table)) (map (term_with zeros) args))
 as_many table v [] [] e = refl
