@@ -29,8 +29,8 @@ use Rattle.chr_calls.specs.Calls.{HoldsLive, HoldsWhole, AreLive, Turns, dropped
 use Rattle.chr_calls.specs.Headline.{IsKept}
 use Rattle.chr_calls.proofs.Tickets.{states_stand, ticket_same, numbered_within}
 use Rattle.chr_calls.proofs.Turning.{turns_keep}
-use Rattle.chr_calls.proofs.Firing.{fires_keep}
-use Rattle.chr_calls.proofs.Dropping.{drops_keep}
+use Rattle.chr_calls.proofs.Fires.{fires_keep}
+use Rattle.chr_calls.proofs.Drops.{drops_keep}
 use Rattle.chr_book.specs.declared.rounds.Last.{Last}
 use Rattle.chr_book.specs.declared.rounds.Last.TheVariants as lasts
 use Rattle.chr_book.specs.declared.rounds.Rounds.{Rounds}

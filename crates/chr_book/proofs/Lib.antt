@@ -1,5 +1,5 @@
 pub mod Fired
-pub mod Posted
+pub mod PostedBooks
 pub mod Turns
 pub mod Batched
 pub mod Lines

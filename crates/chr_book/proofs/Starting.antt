@@ -39,7 +39,7 @@ use Rattle.chr_book.specs.declared.rounds.Rounds.{Rounds}
 use Rattle.chr_book.specs.Books.{book_of}
 use Rattle.chr_book.specs.Firings.{store_without, FiresWhole, EntersGoal, FindsWhole, FiresWaiting, EndsRounds, EndsStart, fires, enters, EntersOrStays}
 use Rattle.chr_book.specs.Passed.{PassesTrials, MakesRounds, StartsRounds, StartsFewer}
-use Rattle.chr_book.proofs.Posted.{plain_is}
+use Rattle.chr_book.proofs.PostedBooks.{plain_is}
 use Rattle.chr_book.proofs.Passes.{IsPast, is_past}
 use Rattle.chr_book.proofs.GoingOn.{book_same, makes_same, fired_rounds, ended_rounds, on_err, rounds_keep, fewer_keep}
 

@@ -22,7 +22,7 @@ use Rattle.chr_calls.specs.Books.{BookState, space_of, IsLive, with_tickets, wit
 use Rattle.chr_calls.specs.Calls.{HoldsLive, HoldsCandidate, MayBeDropped, Turns, Marks}
 use Rattle.chr_calls.specs.Headline.{IsKept}
 use Rattle.chr_calls.proofs.Tickets.{held_is}
-use Rattle.chr_calls.proofs.Dropping.{drops_keep}
+use Rattle.chr_calls.proofs.Drops.{drops_keep}
 use Rattle.chr_calls.proofs.Turning.{reports_keep}
 use Rattle.chr_book.specs.Books.{IsHeldSearch, HasTrialLeft}
 use Rattle.chr_book.specs.Passed.{IsHeldLive}

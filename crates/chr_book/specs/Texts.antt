@@ -1,13 +1,24 @@
--- Texts that are posted.
-use Rattle.std.specs.Prelude.{◌≡◌, ℕ, List, length, Result, Ok, Err}
+-- Books of the rules of a text, and texts that are posted.
+use Rattle.std.specs.Prelude.{◌≡◌, ℕ, List, [], length, Result, Ok, Err}
 use Rattle.chr_value.specs.Atoms.{Atom}
 use Rattle.chr_value.specs.Naming.{Table}
 use Rattle.chr_lex.specs.declared.fault.ReadError.{ReadError}
 use Rattle.chr_lex.specs.declared.fault.ReadError.TheVariants as errors
-use Rattle.chr_text.specs.Reading.{posts_of}
+use Rattle.chr_text.specs.Reading.{program_of, RulesOf, posts_of}
 use Rattle.chr_calls.specs.Books.{BookState, with_names}
 use Rattle.chr_calls.specs.Calls.{all_posted}
+use Rattle.chr_book.specs.Books.{IsOpened}
 use Rattle.chr_book.specs.declared.texts.Posted.{Posted}
+
+-- a book of the rules of a text, as it is opened
+pub record IsOpenText (text : List ℕ) (limit : ℕ) (b : BookState) : Type 0 where
+  pub read : RulesOf text
+  pub is : IsOpened read.rules read.table limit b
+
+-- why there is none: the fault of the text, or memory ran out
+abbrev pub RefusesText : List ℕ → ReadError → Type 0
+RefusesText text (errors.Fault fault) = program_of [] text ≡ Err fault
+RefusesText text errors.Memory = Unit {0}
 
 -- the text's atoms have taken the next tickets, and its names are in the table
 pub record PostsAtoms (b : BookState) (seat : ℕ) (bytes : List ℕ) (posted : Posted) (n : BookState) : Type 0 where

@@ -5,10 +5,8 @@ ghost use Rattle.chr_calls.specs.Books.{space_of};
 ghost use Rattle.chr_calls.specs.Batches.{batch_of, report_of, IsNextBeside, NoneBeside, AreBeside, Ends, Batches, ReportsBatch};
 
 use crate::book::Book;
-use chr_calls::answers::{Batch, BatchReport, Turn, TurnFault};
-use chr_search::judged::{Judged, Verdict};
-use chr_search::search::{Ask, Search};
-use chr_search::trial::Trial;
+use chr_calls::{Batch, BatchReport, Turn, TurnFault};
+use chr_search::{Ask, Judged, Search, Trial, Verdict};
 use std::alloc::{AllocError, Allocator};
 
 /// Whether this is the judged trial.

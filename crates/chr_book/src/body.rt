@@ -6,11 +6,10 @@ ghost use Rattle.chr_guard.specs.Bindings.{bound_at};
 ghost use Rattle.chr_guard.specs.Instances.{AreUnder, added};
 ghost use Rattle.chr_calls.specs.Tickets.{Ticket, waiting};
 
-use chr_guard::binding::Binding;
+use chr_guard::Binding;
 use chr_guard::body::make_atom;
-use chr_rule::expression::BodyItem;
-use chr_rule::rule::Rule;
-use chr_tickets::tickets::Tickets;
+use chr_rule::{BodyItem, Rule};
+use chr_tickets::Tickets;
 use std::alloc::{AllocError, Allocator};
 
 /// Gives what a member of a body adds under a binding the next ticket. An `Err` is E01, and nothing has changed.

@@ -1,29 +1,29 @@
 //! A book: a program with a store, its goals by their tickets, and the log of what happened.
 //!
-//! Several seats work on one [`Book`](book::Book), one call at a time: whoever shares a book among threads holds a lock
+//! Several seats work on one [`Book`], one call at a time: whoever shares a book among threads holds a lock
 //! around each call. A seat posts atoms, claims a ticket, asks for the next trial of its goal, judges it elsewhere and
-//! reports the judgement or fires, until the goal has ended or is dropped. But for [`go_on`](book::Book::go_on) and
-//! [`start`](book::Book::start), which are for a seat that works alone, the book judges nothing: it looks at what a judged
+//! reports the judgement or fires, until the goal has ended or is dropped. But for [`go_on`](Book::go_on) and
+//! [`start`](Book::start), which are for a seat that works alone, the book judges nothing: it looks at what a judged
 //! trial carries, and at the store.
 //!
 //! | Call | What it does |
 //! |---|---|
-//! | [`post`](book::Book::post) | atoms take the next tickets and wait |
-//! | [`claim`](book::Book::claim) | a waiting ticket's atom enters the store under the next label, or a resting one goes on |
-//! | [`trial`](book::Book::trial) | the next trial of a goal becomes its candidate |
-//! | [`report`](book::Book::report) | the search goes on after a candidate that is no instance |
-//! | [`batch`](book::Book::batch) | so does the next trial, and those after it that differ in their last label alone come along |
-//! | [`report_batch`](book::Book::report_batch) | the judgements of a batch are reported up to the first that is an instance |
-//! | [`fire`](book::Book::fire) | a candidate that is an instance fires, where its labels are all live |
-//! | [`drop_goal`](book::Book::drop_goal) | a goal whose search has no trial left ends |
-//! | [`go_on`](book::Book::go_on) | trials are asked for, judged and reported, up to one that fires, or to the drop of the goal |
-//! | [`start`](book::Book::start) | a waiting ticket is claimed, and goes on so |
-//! | [`put_down`](book::Book::put_down), [`mark_stray`](book::Book::mark_stray), [`take_stray`](book::Book::take_stray) | tickets that wait for another seat |
+//! | [`post`](Book::post) | atoms take the next tickets and wait |
+//! | [`claim`](Book::claim) | a waiting ticket's atom enters the store under the next label, or a resting one goes on |
+//! | [`trial`](Book::trial) | the next trial of a goal becomes its candidate |
+//! | [`report`](Book::report) | the search goes on after a candidate that is no instance |
+//! | [`batch`](Book::batch) | so does the next trial, and those after it that differ in their last label alone come along |
+//! | [`report_batch`](Book::report_batch) | the judgements of a batch are reported up to the first that is an instance |
+//! | [`fire`](Book::fire) | a candidate that is an instance fires, where its labels are all live |
+//! | [`drop_goal`](Book::drop_goal) | a goal whose search has no trial left ends |
+//! | [`go_on`](Book::go_on) | trials are asked for, judged and reported, up to one that fires, or to the drop of the goal |
+//! | [`start`](Book::start) | a waiting ticket is claimed, and goes on so |
+//! | [`put_down`](Book::put_down), [`mark_stray`](Book::mark_stray), [`take_stray`](Book::take_stray) | tickets that wait for another seat |
 //!
-//! [`post_text`](book::Book::post_text) posts the atoms of a text, by the book's own names;
-//! [`store_lines`](book::Book::store_lines) and [`log_lines`](book::Book::log_lines) write the lines of the store and of the
-//! log; [`strict_log`](book::Book::strict_log) is the log with its drops after the other entries, where no ticket is open.
-//! [`shot`](book::Book::shot) is a copy of program, store and log, and [`continues`](book::Book::continues) tells whether a
+//! [`of_text`](Book::of_text) opens a book of the rules of a text; [`post_text`](Book::post_text) posts the atoms of a text, by the book's own names;
+//! [`store_lines`](Book::store_lines) and [`log_lines`](Book::log_lines) write the lines of the store and of the
+//! log; [`strict_log`](Book::strict_log) is the log with its drops after the other entries, where no ticket is open.
+//! [`shot`](Book::shot) is a copy of program, store and log, and [`continues`](Book::continues) tells whether a
 //! book goes on from one by the work of its seats alone.
 //!
 //! The contract of each call is its line of the table in `chr_calls`. The type keeps what makes every drop lawful, so at
@@ -32,16 +32,20 @@
 //! and where no goal is open, no rule applies to the store.
 //!
 //! After E01 nothing has changed, but for what three calls have made before it, which stands: the judgements that
-//! [`report_batch`](book::Book::report_batch) has reported, the rounds of [`go_on`](book::Book::go_on), and the claim and the
-//! rounds of [`start`](book::Book::start).
+//! [`report_batch`](Book::report_batch) has reported, the rounds of [`go_on`](Book::go_on), and the claim and the
+//! rounds of [`start`](Book::start).
 #![tactic(auto)]
 
 mod batches;
 mod body;
-pub mod book;
+mod book;
 mod calls;
 mod firing;
-pub mod rounds;
-pub mod shot;
-pub mod strict;
-pub mod texts;
+mod rounds;
+mod shot;
+mod strict;
+mod texts;
+
+pub use book::{Book, OpenFault};
+pub use shot::Shot;
+pub use texts::Posted;

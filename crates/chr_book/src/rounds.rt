@@ -7,8 +7,8 @@ ghost use Rattle.chr_book.specs.Passed.{IsHeldLive, rounds_in, MakesRounds, Make
 
 use crate::book::Book;
 use crate::firing::{end_rounds, end_start};
-use chr_calls::answers::TicketState;
-use chr_search::search::Search;
+use chr_calls::TicketState;
+use chr_search::Search;
 use std::alloc::{AllocError, Allocator};
 
 /// What the last of several rounds was.

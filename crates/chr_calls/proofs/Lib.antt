@@ -4,7 +4,7 @@ pub mod Claiming
 pub mod Marking
 pub mod Turning
 pub mod Batching
-pub mod Firing
-pub mod Dropping
+pub mod Fires
+pub mod Drops
 pub mod Headlines
 pub mod Moving

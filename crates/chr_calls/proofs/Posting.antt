@@ -3,8 +3,9 @@ use Rattle.std.proofs.Common.{◌≡◌, ℕ, List, [], ◌∷◌, ◌++◌, len
 use Rattle.std.proofs.lemmas.List.{length-map}
 use Rattle.std.specs.Option.{option_map}
 use Rattle.std.specs.List.{AllByRecursion}
-use Rattle.chr_value.specs.Atoms.{Value, Int, Sym, Atom, TermIsNamed, AtomIsNamed}
+use Rattle.chr_value.specs.Atoms.{Value, Atom, TermIsNamed, AtomIsNamed}
 use Rattle.chr_value.specs.Naming.{Table}
+use Rattle.chr_value.proofs.Said.{term_later}
 use Rattle.chr_log.specs.Events as log
 use Rattle.chr_log.specs.declared.events.Version.TheVariants.{Two}
 use Rattle.chr_model.specs.Goals.{Numbered}
@@ -25,13 +26,9 @@ use Rattle.chr_calls.specs.Headline.{IsCandidate, IsKept}
 use Rattle.chr_calls.proofs.Tickets.{goals_appended, numbered_before, waiting_ahead, kept_as_is, events_more, one_named}
 
 -- a longer table has the names that a shorter one has
-value_later : (m n : ℕ) (v : Value ℕ) → m ≤ n → TermIsNamed m v → TermIsNamed n v
-value_later m n (Int z) le h = tt
-value_later m n (Sym s) le h = omega (arith, h, le)
-
 values_later : (m n : ℕ) (vs : List (Value ℕ)) → m ≤ n → AllByRecursion (TermIsNamed m) vs → AllByRecursion (TermIsNamed n) vs
 values_later m n [] le all = tt
-values_later m n (v ∷ vs) le all = (value_later m n v le all.0, values_later m n vs le all.1)
+values_later m n (v ∷ vs) le all = (term_later m n v le all.0, values_later m n vs le all.1)
 
 atoms_later : (m n : ℕ) (as' : List (Atom ℕ)) → m ≤ n → AllByRecursion (AtomIsNamed m) as' → AllByRecursion (AtomIsNamed n) as'
 atoms_later m n [] le all = tt

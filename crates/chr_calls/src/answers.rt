@@ -1,5 +1,5 @@
 //! What the calls of a book answer.
-use chr_search::trial::Trial;
+use chr_search::Trial;
 use std::alloc::Allocator;
 
 /// What a seat is told of a ticket.

@@ -23,5 +23,10 @@
 //! its own on ([`searches_move_on`](laws::searches_move_on)).
 #![tactic(auto)]
 
-pub mod answers;
+mod answers;
 pub mod laws;
+
+pub use answers::{
+    Batch, BatchReport, ClaimFault, DropFault, Dropping, FireFault, Fired, Firing, MarkFault,
+    PostFault, PutDownFault, ReportFault, TicketState, Turn, TurnFault,
+};

@@ -7,8 +7,8 @@ ghost use Rattle.chr_causes.specs.Causes.{heads_of, IsCause, AreCauses};
 ghost use Rattle.chr_causes.specs.Marks.{AreWithin, Adds, AreMarks};
 
 use crate::origins::{Origin, origins};
-use chr_log::events::{Event, Label};
-use chr_rule::program::Program;
+use chr_log::{Event, Label};
+use chr_rule::Program;
 use std::alloc::{AllocError, Allocator};
 
 /// One of the constraints from which another was derived.

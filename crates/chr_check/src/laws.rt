@@ -7,7 +7,7 @@ ghost use Rattle.chr_model.specs.Programs.{Instances};
 ghost use Rattle.chr_check.specs.declared.fault.CheckFault.{CheckFault};
 ghost use Rattle.chr_check.specs.Faults.{IsRun, IsFirstFault};
 
-use chr_rule::program::Program;
+use chr_rule::Program;
 use std::alloc::Allocator;
 
 /// A log has a first fault or is a run: never both, and never neither. It has one first fault at most.

@@ -1,6 +1,6 @@
 //! The replay of a log: whether its events are a run of a program that ends in a store.
 //!
-//! [`check`](checking::check) replays the events one by one against the definitions of a run (in the manner of Lam and
+//! [`check`] replays the events one by one against the definitions of a run (in the manner of Lam and
 //! Sulzmann, by this project's own rules), for either version of the condition under which a goal may be dropped. It
 //! answers that they are a run that ends in the given store, and whether that run is also quiet and final, or else it
 //! gives the first fault: E16 with its place, line and kind.
@@ -20,12 +20,14 @@
 //! binary search and a ticket by its place; only a Drop looks at each entry of the store.
 #![tactic(auto)]
 
-pub mod checking;
+mod checking;
 pub mod fault;
 mod firing;
 mod goal;
 pub mod laws;
-pub mod replay;
+mod replay;
 mod storing;
 
+pub use checking::{Verdict, check, refused, watched_check};
 pub use firing::has_label;
+pub use replay::{Refusal, Replay};

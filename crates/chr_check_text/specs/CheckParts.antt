@@ -8,8 +8,8 @@ use Rattle.chr_log_text.specs.declared.fault.PartFault.{PartFault}
 use Rattle.chr_log_text.specs.declared.fault.TextFault.{TextFault}
 use Rattle.chr_log_text.specs.declared.fault.TextFault.TheVariants.{NoMemory}
 use Rattle.chr_model.specs.Programs.{Instances}
-use Rattle.chr_text.specs.Reading.{program_of}
-use Rattle.chr_check_text.specs.CheckTexts.{RulesOf, StoreOf, IsTold}
+use Rattle.chr_text.specs.Reading.{program_of, RulesOf}
+use Rattle.chr_check_text.specs.CheckTexts.{StoreOf, IsTold}
 use Rattle.chr_check_text.specs.declared.checked.Checked.{Checked}
 use Rattle.chr_check_text.specs.declared.checked.CheckPartsFault.{CheckPartsFault}
 use Rattle.chr_check_text.specs.declared.checked.CheckPartsFault.TheVariants as faults

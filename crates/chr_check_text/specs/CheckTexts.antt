@@ -1,14 +1,13 @@
 -- From the bytes of three texts to the line of an answer.
 use Rattle.std.specs.Prelude.{◌≡◌, ◌≢◌, ℕ, ◌↔◌, List, [], Result, Ok, Err, IsOk}
-use Rattle.chr_rule.specs.Rules.{Simpagation}
 use Rattle.chr_log.specs.Events.{Event, labelled_atoms}
 use Rattle.chr_log.specs.declared.events.Version.{Version}
-use Rattle.chr_log_text.specs.Texts.{IsLogText, IsStoreText, HasLogFault, HasStoreFault}
+use Rattle.chr_log_text.specs.Texts.{IsStoreText, HasLogFault, HasStoreFault, LogOf}
 use Rattle.chr_log_text.specs.declared.fault.TextFault.TheVariants.{NoMemory}
 use Rattle.chr_model.specs.Abstract.{Rules}
 use Rattle.chr_model.specs.Stores.{Store}
 use Rattle.chr_model.specs.Programs.{Instances}
-use Rattle.chr_text.specs.Reading.{program_of}
+use Rattle.chr_text.specs.Reading.{program_of, RulesOf}
 use Rattle.chr_check.specs.declared.checking.Verdict.{Verdict}
 use Rattle.chr_check.specs.declared.checking.Verdict.TheVariants.{RunAndFinal}
 use Rattle.chr_check.specs.declared.fault.CheckFault.{CheckFault}
@@ -29,20 +28,6 @@ pub record IsAnswer (v : Version) (I : Rules) (log : List (Event ℕ)) (store : 
 pub record IsTold {Z : Type 0} (v : Version) (I : Rules) (log : List (Event ℕ)) (store : Store) (made : Checked Z) : Type 0 where
   pub answer : IsAnswer v I log store made.answer
   pub line : made.line.items ≡ answer_line made.answer
-
--- a text of rules: the rules, and the table of their names
-pub record RulesOf (text : List ℕ) : Type 0 where
-  pub rules : List (Simpagation ℕ)
-  pub table : List (List ℕ)
-  pub reads : program_of [] text ≡ Ok (rules, table)
-
--- a text of a log, whose names are entered into that table: the version of its header, the events, and the table of the
--- names so far
-pub record LogOf (table : List (List ℕ)) (text : List ℕ) : Type 0 where
-  pub version : Version
-  pub events : List (Event ℕ)
-  pub names : List (List ℕ)
-  pub reads : IsLogText table text version events names
 
 -- a text of a store, whose names are entered into that table: the labels with their atoms, and the table of all names
 pub record StoreOf (table : List (List ℕ)) (text : List ℕ) : Type 0 where

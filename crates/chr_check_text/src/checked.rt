@@ -9,17 +9,15 @@ ghost use Rattle.chr_check_text.specs.CheckTexts.{IsAnswer, IsTold, IsCheckText}
 ghost use Rattle.chr_check_text.specs.CheckParts.{IsCheckParts, log_fault, store_fault, whole_fault};
 
 use crate::writing::written;
-use chr_check::checking::{Verdict, watched_check};
 use chr_check::fault::{CheckError, CheckFault};
+use chr_check::{Verdict, watched_check};
 use chr_lex::fault::{ReadError, ReadFault};
-use chr_log::events::{Event, Label, Version};
+use chr_log::{Event, Label, Version};
 use chr_log_text::fault::{PartFault, TextFault};
-use chr_log_text::parts::read_log_in_parts;
-use chr_log_text::reading::{LogText, read_store};
-use chr_rule::program::Program;
-use chr_text::reading::read_program;
-use chr_value::atom::Atom;
-use chr_value::names::Names;
+use chr_log_text::{LogText, read_log_in_parts, read_store};
+use chr_rule::Program;
+use chr_text::read_program;
+use chr_value::{Atom, Names};
 use chr_watch::{Unwatched, Watch};
 use std::alloc::{AllocError, Allocator};
 

@@ -2,9 +2,9 @@
 ghost use Rattle.std.specs.Prelude.{◌≡◌, ◌++◌, OnOk, IfOk};
 ghost use Rattle.chr_check_text.specs.Output.{place_word, kind_word, fault_line, answer_line};
 
-use chr_check::checking::Verdict;
+use chr_check::Verdict;
 use chr_check::fault::{CheckFault, Kind, Place};
-use chr_value::writing::put_number;
+use chr_value::put_number;
 use std::alloc::{AllocError, Allocator};
 
 /// The word for a text.

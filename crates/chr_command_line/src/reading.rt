@@ -1,7 +1,7 @@
 //! What the words of a command line ask for.
 use crate::commands::command;
 use chr_explain::explanation::{Form, Question};
-use chr_run_text::output::Show;
+use chr_run_text::Show;
 use clap::error::ErrorKind;
 use clap::{ArgMatches, Command, Error};
 use std::alloc::{AllocError, Global};

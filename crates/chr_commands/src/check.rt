@@ -5,10 +5,10 @@ use crate::progress::Progress;
 use crate::refused;
 use crate::report::{Status, put, report_failure, report_fault, report_no_memory};
 use chr_check::fault::{CheckFault, Place};
-use chr_check_text::checked::{CheckPartsFault, Checked, watched_check_parts};
-use chr_log_text::parts::read_log_in_parts;
-use chr_text::reading::read_program;
-use chr_value::names::Names;
+use chr_check_text::{CheckPartsFault, Checked, watched_check_parts};
+use chr_log_text::read_log_in_parts;
+use chr_text::read_program;
+use chr_value::Names;
 use std::alloc::{AllocError, Allocator, Global};
 use std::rt::{Clock, Files};
 

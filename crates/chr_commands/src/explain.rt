@@ -5,8 +5,8 @@ use crate::message::{Detail, Fault, Source, Text};
 use crate::progress::Progress;
 use crate::report::{Status, put, report_failure, report_fault, report_no_memory};
 use chr_check::fault::CheckFault;
-use chr_explain_text::explain::{ExplainFault, Question, watched_explain_text};
-use chr_log::events::Label;
+use chr_explain_text::{ExplainFault, Question, watched_explain_text};
+use chr_log::Label;
 use std::rt::{Clock, Files};
 
 /// Writes the line of a refused log to standard output, as `chr check` does, and to standard error what is to be said of

@@ -1,6 +1,6 @@
 //! Reading files and standard input.
 use crate::message::{Source, Text};
-use chr_command_line::reading::STANDARD_INPUT;
+use chr_command_line::STANDARD_INPUT;
 use std::alloc::{AllocError, Allocator, Global};
 use std::fs::File;
 use std::io::{self, Read};

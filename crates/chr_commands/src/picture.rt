@@ -5,7 +5,7 @@ use crate::message::{Detail, Fault, Source, Text};
 use crate::progress::Progress;
 use crate::report::{Status, put, report_failure, report_fault, report_no_memory};
 use chr_check::fault::CheckFault;
-use chr_picture_text::text::{PictureFault, Range, watched_draw_text};
+use chr_picture_text::{PictureFault, Range, watched_draw_text};
 use std::rt::{Clock, Files};
 
 /// Writes to standard error that nothing is drawn, and why.

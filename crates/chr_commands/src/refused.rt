@@ -3,9 +3,8 @@
 //! A check names the first fault of a log by its line and kind. The entries before that line are steps of a run, so they
 //! tell which ticket and which label come next, and where a goal ended or a constraint was removed.
 use chr_check::fault::{CheckFault, Kind, Place};
-use chr_log::events::{Event, Label};
-use chr_rule::expression::BodyItem;
-use chr_rule::program::Program;
+use chr_log::{Event, Label};
+use chr_rule::{BodyItem, Program};
 use std::alloc::{AllocError, Allocator};
 
 /// The entries before a refused one, with the rules whose log they are.

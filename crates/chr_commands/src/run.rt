@@ -3,11 +3,9 @@ use crate::files::{MOST_TEXT, all_paths, called, fetch, fetch_all, sources, text
 use crate::message::{Detail, Fault, Source, Text};
 use crate::progress::Progress;
 use crate::report::{Status, put, report_failure, report_fault, report_no_memory};
-use chr_command_line::reading::RunOptions;
-use chr_run_text::output::Show;
-use chr_run_text::ran::Ran;
-use chr_run_text::running::{RunTextsFault, watched_run_texts};
-use chr_solo::solo::End;
+use chr_command_line::RunOptions;
+use chr_run_text::{Ran, RunTextsFault, Show, watched_run_texts};
+use chr_solo::End;
 use std::alloc::{AllocError, Global};
 use std::rt::{Clock, Files};
 use std::{fs, io};

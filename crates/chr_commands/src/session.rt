@@ -3,11 +3,8 @@ ghost use Rattle.std.specs.Prelude.{◌≡◌, None};
 
 use crate::message::Detail;
 use crate::report::{Status, report_failure, report_no_memory};
-use chr_session::commands::Ended;
-use chr_session::devices::{Sink, Source};
-use chr_session::session::{ServeFault, serve};
-use chr_session::streams::{StreamSink, StreamSource};
-use chr_solo_desk::solo_desk::SoloDesk;
+use chr_session::{Ended, ServeFault, Sink, Source, StreamSink, StreamSource, serve};
+use chr_solo_desk::SoloDesk;
 use std::alloc::Allocator;
 use std::io::{self, Read, Write};
 

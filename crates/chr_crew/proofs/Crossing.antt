@@ -33,7 +33,9 @@ use Rattle.chr_seats.specs.declared.seat.PostLedger as posts
 use Rattle.std.proofs.sync.ledger.Book.TheSendSync as ledgers
 use Rattle.chr_seats.specs.contracts.kept.Kept as Kept
 use Rattle.chr_seats.specs.contracts.kept.Kept.TheInside as Inside
-use Rattle.chr_seats.specs.contracts.shared.Shared as Shared
+use Rattle.chr_shared.proofs.sleepers.Sleepers.TheSendSync as sleepers
+use Rattle.chr_shared.specs.contracts.shared.Locked as Locked
+use Rattle.chr_shared.specs.contracts.shared.Shared as Shared
 
 pub ruleset basis = (sendable, heap.crosses, over.crosses)
 
@@ -80,13 +82,7 @@ module _ (L1 L2 A : RattleType) (p : posts.Ghosts L1.Denot) (l : ledger.Ghosts L
       let T : Declared = Inside.the_type L1 L2 A p l m g in
       let all : AllSend (shape T).fields = (
         search (basis, b) fits 5000 depth 40,
-        (
-          search (sendable, counts.the_send) fits 5000 depth 40,
-          (
-            search (sendable, ledgers.the_send) fits 5000 depth 40,
-            (search (sendable, ledgers.the_send) fits 5000 depth 40, (search sendable, (search sendable, (search sendable, (search sendable, (search sendable, (search sendable, (search sendable, tt)))))))),
-          ),
-        ),
+        (search (sendable, counts.the_send) fits 5000 depth 40, (search (sendable, ledgers.the_send) fits 5000 depth 40, (search (sendable, ledgers.the_send) fits 5000 depth 40, tt))),
       ) in
       recorded_send (Struct (shape T)) T.D T.to T.to_one (struct_send (shape T) all)
 
@@ -95,7 +91,14 @@ module _ (L1 L2 A : RattleType) (p : posts.Ghosts L1.Denot) (l : ledger.Ghosts L
       let i = Inside-send s y f in
       search (basis, i) fits 5000 depth 40
 
+  Locked-send : IsSend A → IsSync A → Frees g g.dealloc_token → IsSend (Locked.the_row L1 L2 A p l m g)
+  Locked-send s y f =
+      let k = Kept-send s y f in
+      let T : Declared = Locked.the_type L1 L2 A p l m g in
+      let all : AllSend (shape T).fields = (search (basis, k) fits 5000 depth 40, (search (sendable, sleepers.the_send) fits 5000 depth 40, tt)) in
+      recorded_send (Struct (shape T)) T.D T.to T.to_one (struct_send (shape T) all)
+
   pub Shared-sync : IsSend A → IsSync A → Frees g g.dealloc_token → IsSync (Shared.the_row L1 L2 A p l m g)
   Shared-sync s y f =
-      let k = Kept-send s y f in
+      let k = Locked-send s y f in
       search (basis, k) fits 5000 depth 40

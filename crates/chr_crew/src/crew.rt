@@ -16,14 +16,11 @@ ghost use Rattle.chr_crew.specs.declared.crew.Cause.TheVariants.{NoMemory};
 
 use crate::gate::Gate;
 use crate::worker::{Worker, join_all, part_all, work_all};
-use chr_book::book::Book;
-use chr_book::shot::Shot;
-use chr_calls::answers::TicketState;
+use chr_book::{Book, Shot};
+use chr_calls::TicketState;
 use chr_pool::{Hand, Inlet, Tally, gather, make};
-use chr_seats::counts::Counts;
-use chr_seats::kept::Kept;
-use chr_seats::seat::{PostLedger, Seats, WORKER_SEATS};
-use chr_seats::shared::Shared;
+use chr_seats::{Counts, Kept, PostLedger, Seats, WORKER_SEATS};
+use chr_shared::Shared;
 use std::alloc::{AllocError, Allocator, Global};
 use std::sync::Wait;
 use std::sync::ledger::{Blank, Ledger};

@@ -3,16 +3,14 @@ ghost use Rattle.std.specs.Prelude.{◌≡◌};
 ghost use Rattle.chr_pool.specs.Hands.{hand_id};
 
 use crate::gate::{Gate, Stop};
-use chr_calls::answers::{
+use chr_calls::{
     Batch, BatchReport, ClaimFault, DropFault, Dropping, FireFault, Fired, Firing, PutDownFault,
     Turn, TurnFault,
 };
 use chr_pool::Hand;
-use chr_search::judged::{Judged, Verdict, judge};
-use chr_search::trial::Trial;
-use chr_seats::answers::HoldFault;
-use chr_seats::seat::{PostLedger, Seat};
-use chr_seats::shared::Shared;
+use chr_search::{Judged, Trial, Verdict, judge};
+use chr_seats::{HoldFault, PostLedger, Seat};
+use chr_shared::Shared;
 use std::alloc::{AllocError, Allocator};
 use std::sync::Wait;
 use std::sync::ledger::Ledger;

@@ -3,7 +3,7 @@
 //! [`work`](work::work) is what one worker does: it takes a ticket from the pool of `chr_pool`, by its hand, or else a stray
 //! one of the book, claims it by its seat, and goes through the trials of its goal until that ends. Each call of the book is
 //! made in a hold of the lock of `chr_seats`, up to sixteen trials at once; they are judged while the lock is free, and a
-//! [`Gate`](gate::Gate) is called before each judgement. New tickets go on the worker's hand, where other workers may steal
+//! [`Gate`] is called before each judgement. New tickets go on the worker's hand, where other workers may steal
 //! them.
 //!
 //! A worker sleeps where it finds nothing to take. It is woken for the tickets of a post or a firing, of which each wakes one
@@ -12,20 +12,24 @@
 //! the worker that met it looks again after the next announcement, if only one that came while it worked. Once the crew is
 //! closed, a worker puts its goal down before its next call.
 //!
-//! [`run_crew`](crew::run_crew) runs up to sixteen workers on a book, each in a thread of its own, until they have made so
+//! [`run_crew`] runs up to sixteen workers on a book, each in a thread of its own, until they have made so
 //! many calls or find nothing to take. Its contract says of the book that comes back that it has the headline of `chr_calls`
 //! and goes on from the one handed in by the work of these seats alone, none of it a post; that the counts are what each
 //! worker's seat has made; and that the run is quiet exactly where no ticket is open. It compares the book with a shot made
 //! before, so it says so of any schedule.
 //!
-//! A [`Rack`](rack::Rack) lends the seats and inlets of sessions.
+//! A [`Rack`] lends the seats and inlets of sessions.
 //!
 //! No contract says that a worker gets on, that two workers judge at once, or that a sleeper wakes.
 #![tactic(auto)]
 
-pub mod crew;
-pub mod gate;
+mod crew;
+mod gate;
 mod goal;
-pub mod rack;
+mod rack;
 pub mod work;
 mod worker;
+
+pub use crew::{Cause, CrewFault, End, Finished, run_crew};
+pub use gate::{Gate, Open, Stop};
+pub use rack::{NoSeat, Place, Rack};

@@ -2,7 +2,7 @@
 ghost use Rattle.std.specs.Prelude.{◌≡◌, ◌≤◌, ◌<◌, ◌+◌, vec_len, vec_capacity, OnErr, OnOk};
 
 use chr_pool::Inlet;
-use chr_seats::seat::{PostLedger, SESSION_SEATS, Seat};
+use chr_seats::{PostLedger, SESSION_SEATS, Seat};
 use std::alloc::{AllocError, Allocator};
 use std::sync::ledger::Ledger;
 use std::sync::{Mutex, Wait};

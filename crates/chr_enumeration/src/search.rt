@@ -7,11 +7,10 @@ ghost use Rattle.chr_enumeration.specs.Found.{listed, IsFound};
 ghost use Rattle.chr_enumeration.specs.Picks.{Has, IsMatch, NoMatch};
 
 use crate::slots::{Match, find_match, fit_next};
-use chr_guard::binding::Binding;
-use chr_log::events::{Label, Labels};
-use chr_rule::program::Program;
-use chr_rule::rule::{MOST_HEADS, Rule};
-use chr_value::atom::Atom;
+use chr_guard::Binding;
+use chr_log::{Label, Labels};
+use chr_rule::{MOST_HEADS, Program, Rule};
+use chr_value::Atom;
 use std::alloc::Allocator;
 
 /// A labelled instance: its rule's number from 1, the labels of its kept and of its removed heads, in head order, and

@@ -5,13 +5,11 @@ ghost use Rattle.chr_model.specs.Stores.{among, labels, Distinct};
 ghost use Rattle.chr_enumeration.specs.Found.{listed};
 ghost use Rattle.chr_enumeration.specs.Picks.{picks, picked, IsOpen, AllPicked, Fills, HeadIs, IsPartial, IsMatch, NoMatch};
 
-use chr_guard::binding::{Binding, Bound};
 use chr_guard::instance::instance_from;
-use chr_guard::matching::fit_head;
-use chr_log::events::{Label, Labels};
-use chr_rule::rule::Rule;
-use chr_rule::rule_atom::{RuleAtom, Term};
-use chr_value::atom::Atom;
+use chr_guard::{Binding, Bound, fit_head};
+use chr_log::{Label, Labels};
+use chr_rule::{Rule, RuleAtom, Term};
+use chr_value::Atom;
 use std::alloc::Allocator;
 
 /// A labelled instance of a rule: the labels of its kept and of its removed heads, in head order, and the binding of the

@@ -8,8 +8,8 @@ ghost use Rattle.chr_explain.specs.Graphs.{escaped, quoted, arrow, firing_arrows
 
 use crate::reasons::Reason;
 use crate::writing::{Recorded, event_at, put_cause};
-use chr_log::events::{Event, Label};
-use chr_value::writing::put_number;
+use chr_log::{Event, Label};
+use chr_value::put_number;
 use std::alloc::{AllocError, Allocator};
 
 /// A byte, with a backslash before it where it is a quote or a backslash.

@@ -17,11 +17,10 @@ use crate::reasons::{Reason, reasons};
 use crate::removals::removals;
 use crate::writing::{Recorded, put_cause};
 use chr_causes::causes::{Cause, causes};
-use chr_lex::plain::plain_text;
-use chr_log::events::{Event, Label};
-use chr_rule::program::Program;
-use chr_value::atom::Atom;
-use chr_value::names::Names;
+use chr_lex::plain_text;
+use chr_log::{Event, Label};
+use chr_rule::Program;
+use chr_value::{Atom, Names};
 use std::alloc::{AllocError, Allocator};
 
 /// How an explanation is written.

@@ -6,11 +6,10 @@ ghost use Rattle.chr_limits.specs.Variables.{seen};
 ghost use Rattle.chr_limits.specs.Views.{names, Sees};
 ghost use Rattle.chr_explain.specs.Headings.{heading_view, lexeme_variables, variables_of, with_variables, item_heading, made_heading};
 
-use chr_grammar::statement::{Statement, parse_statement};
+use chr_grammar::{Statement, parse_statement};
 use chr_lex::fault::ItemError;
-use chr_lex::item::{Item, next_item};
-use chr_lex::token::{Token, Word, tokens};
-use chr_limits::variables::{Seen, is_seen};
+use chr_lex::{Item, Token, Word, next_item, tokens};
+use chr_limits::{Seen, is_seen};
 use std::alloc::{AllocError, Allocator};
 
 /// The line of a rule's first byte, and its variables at the places of their numbers.

@@ -24,4 +24,4 @@ pub mod explanation;
 pub mod headings;
 pub mod reasons;
 pub mod removals;
-pub mod writing;
+mod writing;

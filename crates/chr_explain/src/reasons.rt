@@ -9,11 +9,11 @@ ghost use Rattle.chr_explain.specs.Reasons.{reason_of, AreRuleValues, AreValues,
 
 use crate::atoms::head_atoms;
 use chr_causes::causes::Cause;
-use chr_guard::binding::Binding;
+use chr_guard::Binding;
 use chr_guard::instance::instance_under;
-use chr_log::events::{Event, Labels};
-use chr_rule::program::Program;
-use chr_value::atom::Atom;
+use chr_log::{Event, Labels};
+use chr_rule::Program;
+use chr_value::Atom;
 use std::alloc::{AllocError, Allocator};
 
 /// What is told of a cause.

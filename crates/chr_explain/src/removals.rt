@@ -3,7 +3,7 @@ ghost use Rattle.std.specs.Prelude.{IfOk};
 ghost use Rattle.chr_log.specs.Events.{event_of, events_of};
 ghost use Rattle.chr_explain.specs.Reasons.{removed_of, AreRemovals, Marks};
 
-use chr_log::events::{Event, Label};
+use chr_log::{Event, Label};
 use std::alloc::{AllocError, Allocator};
 
 /// Marks labels, from label 1 on, as removed at a place.

@@ -15,11 +15,9 @@ ghost use Rattle.chr_explain.specs.Lines.{recorded_view, entry_words, head_words
 
 use crate::headings::Heading;
 use crate::reasons::Reason;
-use chr_guard::binding::{Binding, Bound};
-use chr_log::events::{Event, Label};
-use chr_value::atom::Value;
-use chr_value::names::{Name, Names};
-use chr_value::writing::{put_number, write_atom};
+use chr_guard::{Binding, Bound};
+use chr_log::{Event, Label};
+use chr_value::{Name, Names, Value, put_number, write_atom};
 use itoa::Buffer;
 use std::alloc::{AllocError, Allocator};
 

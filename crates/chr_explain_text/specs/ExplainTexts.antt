@@ -3,19 +3,18 @@ use Rattle.std.specs.Prelude.{◌≡◌, ◌≢◌, ℕ, List, [], Result, Ok, E
 use Rattle.chr_rule.specs.Rules.{Simpagation}
 use Rattle.chr_log.specs.Events.{Event}
 use Rattle.chr_log.specs.declared.events.Version.{Version}
-use Rattle.chr_log_text.specs.Texts.{HasLogFault}
+use Rattle.chr_log_text.specs.Texts.{HasLogFault, LogOf}
 use Rattle.chr_log_text.specs.declared.fault.TextFault.{TextFault}
 use Rattle.chr_log_text.specs.declared.fault.TextFault.TheVariants.{NoMemory}
 use Rattle.chr_model.specs.Abstract.{Rules}
 use Rattle.chr_model.specs.Goals.{State}
 use Rattle.chr_model.specs.Logs.{Lawful}
 use Rattle.chr_model.specs.Programs.{Instances}
-use Rattle.chr_text.specs.Reading.{program_of}
+use Rattle.chr_text.specs.Reading.{program_of, RulesOf}
 use Rattle.chr_check.specs.declared.fault.Place.{Place}
 use Rattle.chr_check.specs.declared.fault.Place.TheVariants.{Log, Store}
 use Rattle.chr_check.specs.declared.fault.CheckFault.{CheckFault}
 use Rattle.chr_check.specs.Faults.{IsLogFault}
-use Rattle.chr_check_text.specs.CheckTexts.{RulesOf, LogOf}
 use Rattle.chr_causes.specs.Origins.{Gives}
 use Rattle.chr_explain.specs.declared.explanation.Question.{Question}
 use Rattle.chr_explain.specs.Headings.{headings_of}

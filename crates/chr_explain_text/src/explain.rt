@@ -9,17 +9,17 @@ ghost use Rattle.chr_model.specs.Programs.{Instances};
 ghost use Rattle.chr_text.specs.Reading.{program_of};
 ghost use Rattle.chr_explain_text.specs.ExplainTexts.{IsLogAnswer, fault_of_log, log_fault, IsAnswer, IsExplainText, bytes_of};
 
-use chr_check::checking::watched_check;
 use chr_check::fault::{CheckError, CheckFault, Place};
+use chr_check::watched_check;
 use chr_explain::explanation::explanation;
 pub use chr_explain::explanation::{Form, Question};
 use chr_lex::fault::{ReadError, ReadFault};
-use chr_log::events::{Event, Version};
+use chr_log::{Event, Version};
 use chr_log_text::fault::TextFault;
-use chr_log_text::reading::read_log;
-use chr_rule::program::Program;
-use chr_text::reading::read_program;
-use chr_value::names::Names;
+use chr_log_text::read_log;
+use chr_rule::Program;
+use chr_text::read_program;
+use chr_value::Names;
 use chr_watch::{Unwatched, Watch};
 use std::alloc::{AllocError, Allocator};
 

@@ -11,7 +11,7 @@ use crate::list::{Member, parse_list};
 use crate::phrase::{ParsedAtom, parse_phrase};
 use crate::sign::{is_is, is_open, is_true};
 use chr_lex::fault::{ItemError, Kind};
-use chr_lex::token::{Token, Word};
+use chr_lex::{Token, Word};
 use std::alloc::Allocator;
 
 /// A member of a body as it is written.

@@ -9,7 +9,7 @@ ghost use Rattle.chr_grammar.specs.Parsing.{named, is_named, is_opened, are_clos
 use crate::list::{Member, parse_list};
 use crate::sign::{is_close, is_open, is_slash, named};
 use chr_lex::fault::{ItemError, Kind};
-use chr_lex::token::{Token, Word};
+use chr_lex::{Token, Word};
 use std::alloc::Allocator;
 
 /// A name and how many arguments it takes, as they are declared.

@@ -9,9 +9,8 @@ ghost use Rattle.chr_grammar.specs.Parsing.{sum_operator, product_operator, clos
 
 use crate::sign::{is_close, is_open};
 use chr_lex::fault::{ItemError, Kind};
-use chr_lex::mark::Mark;
-use chr_lex::token::{Token, Word};
-use chr_rule::expression::Operator;
+use chr_lex::{Mark, Token, Word};
+use chr_rule::Operator;
 use std::alloc::Allocator;
 
 /// How deep an expression may be. A number or a variable has depth 1; an operation is one deeper than its deeper

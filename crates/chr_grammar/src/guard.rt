@@ -10,9 +10,8 @@ use crate::expression::{ParsedExpression, parse_expression};
 use crate::list::{Member, parse_list};
 use crate::sign::is_true;
 use chr_lex::fault::{ItemError, Kind};
-use chr_lex::mark::Mark;
-use chr_lex::token::{Token, Word};
-use chr_rule::expression::Relation;
+use chr_lex::{Mark, Token, Word};
+use chr_rule::Relation;
 use std::alloc::Allocator;
 
 /// A member of a guard as it is written.

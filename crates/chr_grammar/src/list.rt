@@ -6,8 +6,8 @@ ghost use Rattle.chr_lex.specs.Tokens.{Lexeme, lexeme};
 ghost use Rattle.chr_grammar.specs.Parsing.{Front, each_by_commas};
 
 use crate::sign::is_comma;
+use chr_lex::Token;
 use chr_lex::fault::{ItemError, Kind};
-use chr_lex::token::Token;
 use std::alloc::Allocator;
 
 /// What can stand in a list by commas.

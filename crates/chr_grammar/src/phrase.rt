@@ -10,7 +10,7 @@ ghost use Rattle.chr_grammar.specs.Parsing.{terms_at, args_at, phrase_at, phrase
 use crate::list::{Member, parse_list};
 use crate::sign::{is_close, is_comma, is_open};
 use chr_lex::fault::{ItemError, Kind};
-use chr_lex::token::{Token, Word};
+use chr_lex::{Token, Word};
 use std::alloc::Allocator;
 
 /// An atom as it is written.

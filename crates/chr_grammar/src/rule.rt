@@ -11,8 +11,8 @@ use crate::body::{BodyMember, parse_members};
 use crate::guard::{GuardMember, parse_tests};
 use crate::phrase::{ParsedAtom, parse_phrases};
 use crate::sign::{is_arrow, is_at, is_backslash, is_bar, is_propagate, named};
+use chr_lex::Token;
 use chr_lex::fault::{ItemError, Kind};
-use chr_lex::token::Token;
 use std::alloc::Allocator;
 
 /// The heads of a rule as they are written.

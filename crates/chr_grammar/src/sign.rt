@@ -4,8 +4,7 @@ ghost use Rattle.std.specs.Prelude.{◌≡◌, option_map};
 ghost use Rattle.chr_lex.specs.Tokens.{lexeme};
 ghost use Rattle.chr_grammar.specs.Parsing.{is_open, is_close, is_comma, is_slash, is_declares, is_at, is_backslash, is_bar, is_is, is_propagate, is_arrow, named, is_true};
 
-use chr_lex::mark::Mark;
-use chr_lex::token::{Token, Word};
+use chr_lex::{Mark, Token, Word};
 
 pub fn is_open(token: Token) -> bool
     ensures { result ≡ is_open (lexeme token.entry) }

@@ -9,8 +9,8 @@ ghost use Rattle.chr_grammar.specs.Parsing.{directive_of, a_rule, statement_of};
 use crate::declaration::{Declared, is_library, parse_declarations};
 use crate::rule::{ParsedRule, parse_rule};
 use crate::sign::{is_declares, named};
+use chr_lex::Token;
 use chr_lex::fault::{ItemError, Kind};
-use chr_lex::token::Token;
 use std::alloc::Allocator;
 
 /// An item of a program as it is written.

@@ -5,7 +5,7 @@ use Rattle.std.specs.Option.{option_map}
 use Rattle.std.proofs.lemmas.Bool.{and_parts}
 use Rattle.std.proofs.lemmas.Bool.Decides.{nat_tests}
 use Rattle.std.proofs.lemmas.List.{map-append, map_more, drop_more, take-append-drop, length-map}
-use Rattle.chr_value.specs.Atoms.{Value, Int, Sym, Atom}
+use Rattle.chr_value.specs.Atoms.{Value, Int, Sym, Comp, Atom}
 use Rattle.chr_value.proofs.Chosen.{some_is}
 use Rattle.chr_rule.specs.Rules.{Term, Var, Given, RuleAtom, Expression, Number, Variable, Operation, BodyItem, Is, Add}
 use Rattle.chr_rule.specs.Scope.{known_after_args, known_after_heads, known_after_body, argument_known}
@@ -115,6 +115,7 @@ value_grows v w g (Variable x) n h = by_case (v x) refl h
     by_case : (o : Option (Value ℕ)) → v x ≡ o → number_in o ≡ Some n → number_in (w x) ≡ Some n
     by_case (Some (Int m)) e k = ap number_in (g x (Int m) e) ∙ k
     by_case (Some (Sym s)) e k = let z : None ≡ Some n = k in absurd (cc)
+    by_case (Some (Comp s vs)) e k = let z : None ≡ Some n = k in absurd (cc)
     by_case None e k = let z : None ≡ Some n = k in absurd (cc)
 value_grows v w g (Operation o a b) n h =
     let p = both_parts (computed o) (value_of v a) (value_of v b) n h in

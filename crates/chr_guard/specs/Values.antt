@@ -36,10 +36,11 @@ computed Quot a b = if is_zero b then None else in_range (int_div a b)
 computed Rem a b = if is_zero b then None else in_range (int_rem a b)
 computed Mod a b = if is_zero b then None else in_range (int_mod a b)
 
--- the number that a variable stands for, which has none if it stands for a symbol or for nothing
+-- the number that a variable stands for, which has none if it stands for another value or for nothing
 abbrev pub number_in : Option (Value ℕ) → Option ℤ
 number_in (Some (terms.Int n)) = Some n
 number_in (Some (terms.Sym s)) = None
+number_in (Some (terms.Comp s vs)) = None
 number_in None = None
 
 abbrev pub both : {A B C : Type 0} → (A → B → Option C) → Option A → Option B → Option C

@@ -2,7 +2,7 @@
 ghost use Rattle.std.specs.Prelude.{◌≡◌};
 ghost use Rattle.chr_guard.specs.Values.{computed, compares};
 
-use chr_rule::expression::{Operator, Relation};
+use chr_rule::{Operator, Relation};
 
 /// An operator's result, where it has one.
 #[inline(always)]

@@ -7,10 +7,8 @@ ghost use Rattle.chr_guard.specs.Values.{number_in, term_under, WhereBoth};
 ghost use Rattle.chr_guard.specs.Bindings.{bound_term, bound_at, NarrowsIf};
 
 use arrayvec::ArrayVec;
-use chr_rule::rule::MOST_VARIABLES;
-use chr_rule::rule_atom::Term;
-use chr_value::atom::Value;
-use chr_value::names::Name;
+use chr_rule::{MOST_VARIABLES, Term};
+use chr_value::{Name, Value};
 use std::marker::Model;
 
 /// What one variable is bound to: nothing, a number, or a symbol.
@@ -103,10 +101,14 @@ pub struct Binding {
 
 impl Model for Binding {
     ghost use Rattle.std.specs.Prelude.{ℕ, List, Option, map, take};
+    ghost use Rattle.std.specs.Coded.{codes};
     ghost use Rattle.chr_value.specs.Atoms.{Value as PlainValue};
+    ghost use Rattle.chr_value.specs.Code.{value_code};
     ghost use Rattle.chr_guard.specs.Bindings.{bound_term, AreFreeBehind};
 
     ghost Value = { List (Option (PlainValue ℕ)) };
+
+    ghost coded = { Prim.hlevel (codes, value_code) };
 
     ghost view = { λ b. take b.variables (map bound_term b.bound.items) };
 

@@ -9,10 +9,8 @@ ghost use Rattle.chr_guard.specs.Matching.{CompletedIf, IsBody};
 use crate::binding::Binding;
 use crate::values::value;
 use arrayvec::ArrayVec;
-use chr_rule::expression::BodyItem;
-use chr_rule::rule::Rule;
-use chr_rule::rule_atom::RuleAtom;
-use chr_value::atom::Atom;
+use chr_rule::{BodyItem, Rule, RuleAtom};
+use chr_value::Atom;
 use std::alloc::Allocator;
 
 /// The atoms of a body, at most 16.

@@ -8,8 +8,8 @@ use crate::binding::Binding;
 use crate::body::{Body, added_atoms, bind_body};
 use crate::matching::fit_all;
 use crate::values::guard_holds;
-use chr_rule::rule::Rule;
-use chr_value::atom::Atom;
+use chr_rule::Rule;
+use chr_value::Atom;
 use std::alloc::Allocator;
 
 /// Binds all variables of a rule's instance, where those of its heads are bound. False where the heads' atoms are no

@@ -1,7 +1,7 @@
 //! What rules mean: the value of an expression, when a guard holds, and which atoms are an instance of a rule.
 //!
-//! [`value`](values::value), [`holds`](values::holds) and [`guard_holds`](values::guard_holds) answer under a
-//! [`Binding`](binding::Binding) of a rule's variables. [`fit`](matching::fit) finds the one binding under which some
+//! [`value`], [`holds`] and [`guard_holds`] answer under a
+//! [`Binding`] of a rule's variables. [`fit`] finds the one binding under which some
 //! heads of a rule are some atoms, [`body`](body::body) the atoms that the rule then adds, and
 //! [`instance`](instance::instance) decides whether a full list of atoms is an instance of a rule.
 //! [`instance_under`](instance::instance_under) decides the same and gives the binding in place of the body, and
@@ -13,9 +13,13 @@
 #![tactic(auto)]
 
 mod arithmetic;
-pub mod binding;
+mod binding;
 pub mod body;
 pub mod instance;
 pub mod laws;
-pub mod matching;
-pub mod values;
+mod matching;
+mod values;
+
+pub use binding::{Binding, Bound};
+pub use matching::{fit, fit_head};
+pub use values::{guard_holds, holds, value};

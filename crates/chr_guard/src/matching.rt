@@ -10,9 +10,8 @@ ghost use Rattle.chr_guard.specs.Instances.{atom_under};
 ghost use Rattle.chr_guard.specs.Matching.{AreAtHeads, HeadsAre, IsFit};
 
 use crate::binding::Binding;
-use chr_rule::rule::Rule;
-use chr_rule::rule_atom::{RuleAtom, Term};
-use chr_value::atom::{Atom, Value};
+use chr_rule::{Rule, RuleAtom, Term};
+use chr_value::{Atom, Value};
 use std::alloc::Allocator;
 
 /// Extends a binding so that a term equals a value. False only where no valuation that extends it makes them equal.

@@ -8,8 +8,7 @@ ghost use Rattle.chr_guard.specs.Bindings.{bound_at};
 
 use crate::arithmetic::{compare, compute};
 use crate::binding::Binding;
-use chr_rule::expression::{Comparison, Expr, Operator, Relation};
-use chr_rule::rule::Rule;
+use chr_rule::{Comparison, Expr, Operator, Relation, Rule};
 use std::alloc::Allocator;
 
 /// The value of an expression over exact whole numbers. It has none where a variable stands for a symbol or is free,

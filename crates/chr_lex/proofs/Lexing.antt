@@ -12,7 +12,7 @@ use Rattle.chr_lex.specs.Items.{is_gap}
 use Rattle.chr_lex.specs.Tokens.{Lexeme, is_operand, token_at, token_or_fault, tokens_from}
 use Rattle.chr_lex.specs.Lexing.{Tokens, no_more, blank, token}
 use Rattle.chr_lex.proofs.Longest.{read_longest, longest_read}
-use Rattle.chr_lex.proofs.Tokens.{tokens-skip, token_fits}
+use Rattle.chr_lex.proofs.TokenLaws.{tokens-skip, token_fits}
 
 -- ---- what is in the relation is read
 

@@ -1,6 +1,6 @@
 pub mod Comments
 pub mod Items
-pub mod Tokens
+pub mod TokenLaws
 pub mod Longest
 pub mod Lexing
 pub mod Cutting

@@ -16,7 +16,7 @@ use Rattle.chr_lex.specs.declared.mark.Mark.TheVariants as mark
 use Rattle.chr_lex.specs.Marks.{spelling, marks}
 use Rattle.chr_lex.specs.Tokens.{Lexeme, OfWord, OfMark, Name, Variable, Number, begins_with_digit, named, lower_word, signed, signed_at, token_at}
 use Rattle.chr_lex.specs.Lexing.{Spells, a_name, a_variable, a_number, below_zero, a_mark, Longest}
-use Rattle.chr_lex.proofs.Tokens.{take_all_passing, find_passes, token_fits}
+use Rattle.chr_lex.proofs.TokenLaws.{take_all_passing, find_passes, token_fits}
 
 -- ---- bytes that pass
 

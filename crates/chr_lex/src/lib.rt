@@ -1,8 +1,8 @@
 //! The lower half of reading rule text: comments, items and tokens.
 //!
-//! A text is read in phases. [`plain_text`](plain::plain_text) replaces its comments, by `%` to the end of the line and
-//! by `/*` to the next `*/`, and marks the bytes that no text may have. [`next_item`](item::next_item) gives the items
-//! one by one, each with the line of its first byte and whether it has its end point. [`tokens`](token::tokens) gives
+//! A text is read in phases. [`plain_text`] replaces its comments, by `%` to the end of the line and
+//! by `/*` to the next `*/`, and marks the bytes that no text may have. [`next_item`] gives the items
+//! one by one, each with the line of its first byte and whether it has its end point. [`tokens`] gives
 //! the names, variables, numbers and marks of an item. The grammar above defines what they mean; the kinds of faults that
 //! it finds are those of [`fault`], in the order in which they are tested.
 //!
@@ -17,8 +17,13 @@
 #![tactic(auto)]
 
 pub mod fault;
-pub mod item;
+mod item;
 pub mod laws;
-pub mod mark;
-pub mod plain;
-pub mod token;
+mod mark;
+mod plain;
+mod token;
+
+pub use item::{Item, next_item};
+pub use mark::Mark;
+pub use plain::{has_bad_byte, plain_text};
+pub use token::{Token, Word, tokens};

@@ -16,12 +16,10 @@ use crate::limits::{
 use crate::number::int;
 use crate::scope::is_in_scope;
 use crate::variables::has_many_variables;
-use chr_grammar::declaration::Declared;
-use chr_grammar::phrase::ParsedAtom;
-use chr_grammar::rule::ParsedRule;
+use chr_grammar::{Declared, ParsedAtom, ParsedRule};
 use chr_lex::fault::{ItemError, Kind};
-use chr_rule::rule::{MOST_COMPARISONS, MOST_ITEMS};
-use chr_value::names::MOST_NAME_BYTES;
+use chr_rule::{MOST_COMPARISONS, MOST_ITEMS};
+use chr_value::MOST_NAME_BYTES;
 use std::alloc::Allocator;
 
 fn any_out_of_range(all: &[Declared]) -> bool

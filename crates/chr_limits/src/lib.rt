@@ -1,15 +1,15 @@
 //! What may not stand in an item of rule text, though the grammar has it.
 //!
 //! An item is judged between the grammar and the numbering: names and variables are bytes still, and numbers digits.
-//! [`judge_rule`](judging::judge_rule), [`judge_declaration`](judging::judge_declaration) and
-//! [`judge_post`](judging::judge_post) answer with the first fault in this order: a rule that removes nothing (E05), a
+//! [`judge_rule`], [`judge_declaration`] and
+//! [`judge_post`] answer with the first fault in this order: a rule that removes nothing (E05), a
 //! number outside the range of 64 bits with sign (E06), something too long or too many (E07), a variable that is used
 //! where it has no value or gets a second one (E08). Each answer is exactly the one of its definition (`rule_judged`,
 //! `declaration_judged`, `post_judged`), and no call takes memory, so none fails for want of it. The laws
 //! ([`laws`]) say limit by limit what was judged without a fault.
 //!
-//! [`int`](number::int) is the whole number that a sign and digits spell, and
-//! [`int_in_range`](number::int_in_range) is it where it was judged. [`is_seen`](variables::is_seen) tells a variable
+//! [`int`] is the whole number that a sign and digits spell, and
+//! [`int_in_range`] is it where it was judged. [`is_seen`] tells a variable
 //! that was seen before from a new one: a rule's variables are counted, and later numbered, in the order in which they
 //! are first seen, and each `_` is a new one.
 //!
@@ -17,9 +17,13 @@
 //! before. So it takes time in proportion to the item's length.
 #![tactic(auto)]
 
-pub mod judging;
+mod judging;
 pub mod laws;
 mod limits;
-pub mod number;
+mod number;
 mod scope;
-pub mod variables;
+mod variables;
+
+pub use judging::{judge_declaration, judge_post, judge_rule};
+pub use number::{int, int_in_range};
+pub use variables::{Seen, is_seen};

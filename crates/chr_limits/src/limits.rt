@@ -8,15 +8,10 @@ ghost use Rattle.chr_limits.specs.Words.{is_unfit, formula_has, phrase_has, test
 ghost use Rattle.chr_limits.specs.Limits.{has_many_args, adds_many_args, is_comparison, is_item, has_wide_atom};
 
 use crate::number::int;
-use chr_grammar::body::BodyMember;
-use chr_grammar::expression::ParsedExpression;
-use chr_grammar::guard::GuardMember;
-use chr_grammar::phrase::ParsedAtom;
-use chr_grammar::rule::ParsedRule;
-use chr_lex::token::Word;
-use chr_rule::rule::MOST_HEADS;
-use chr_value::atom::MOST_ARGS;
-use chr_value::names::MOST_NAME_BYTES;
+use chr_grammar::{BodyMember, GuardMember, ParsedAtom, ParsedExpression, ParsedRule};
+use chr_lex::Word;
+use chr_rule::MOST_HEADS;
+use chr_value::{MOST_ARGS, MOST_NAME_BYTES};
 use std::alloc::Allocator;
 
 /// What a name, a variable or a number may not be.

@@ -7,11 +7,8 @@ ghost use Rattle.chr_limits.specs.Scope.{are_seen, body_in_scope, is_in_scope};
 ghost use Rattle.chr_limits.specs.Views.{names};
 
 use crate::variables::{Seen, head_variables, is_seen};
-use chr_grammar::body::BodyMember;
-use chr_grammar::expression::ParsedExpression;
-use chr_grammar::guard::GuardMember;
-use chr_grammar::rule::ParsedRule;
-use chr_lex::token::Word;
+use chr_grammar::{BodyMember, GuardMember, ParsedExpression, ParsedRule};
+use chr_lex::Word;
 use std::alloc::Allocator;
 
 fn is_term_seen(seen: &[&[u8]], term: Word) -> bool

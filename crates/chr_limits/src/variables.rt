@@ -6,13 +6,9 @@ ghost use Rattle.chr_limits.specs.Variables.{word_variables, formula_variables, 
 ghost use Rattle.chr_limits.specs.Views.{names, Sees};
 
 use arrayvec::ArrayVec;
-use chr_grammar::body::BodyMember;
-use chr_grammar::expression::ParsedExpression;
-use chr_grammar::guard::GuardMember;
-use chr_grammar::phrase::ParsedAtom;
-use chr_grammar::rule::ParsedRule;
-use chr_lex::token::Word;
-use chr_rule::rule::MOST_VARIABLES;
+use chr_grammar::{BodyMember, GuardMember, ParsedAtom, ParsedExpression, ParsedRule};
+use chr_lex::Word;
+use chr_rule::MOST_VARIABLES;
 use std::alloc::Allocator;
 
 /// The variables seen so far, each once, and each `_` apart.

@@ -4,10 +4,9 @@ ghost use Rattle.chr_value.specs.Stores.{Store as PlainStore};
 ghost use Rattle.chr_lines.specs.Readings.{AreStoreLines, GivesStore};
 
 use crate::lines::Lines;
-use chr_log::writing::write_store;
-use chr_store::store::{Label, Store};
-use chr_value::atom::Atom;
-use chr_value::names::Names;
+use chr_log::write_store;
+use chr_store::{Label, Store};
+use chr_value::{Atom, Names};
 use std::alloc::{AllocError, Allocator};
 
 /// Names, and constraints with their labels, in memory of their own.

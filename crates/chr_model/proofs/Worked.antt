@@ -1,6 +1,6 @@
 -- Worked runs, and logs that are no runs.
 use Rattle.std.proofs.Common.{◌≡◌, ◌≢◌, ℕ, zero, suc, ◌+◌, ◌≤◌, List, [], ◌∷◌, ◌++◌, map, length, Option, Some, None, ℤ, pos, negsuc, drop, ◌⊎◌, refl, sym, ◌∙◌, ap, subst, arith, inl, inr, slice_index_or, Bool, true, false, true≢false}
-use Rattle.chr_value.specs.Atoms.{Value, Atom, Int, Sym}
+use Rattle.chr_value.specs.Atoms.{Value, Atom, Int, Sym, Comp}
 use Rattle.chr_rule.specs.declared.expression.Relation.TheVariants.{LessEqual}
 use Rattle.chr_rule.specs.Rules.{Variable, Compared}
 use Rattle.chr_guard.specs.Values.{Valuation, Holds}
@@ -31,6 +31,7 @@ first_number [] = 0
 first_number (Int (pos n) ∷ ts) = n
 first_number (Int (negsuc n) ∷ ts) = 0
 first_number (Sym s ∷ ts) = 0
+first_number (Comp s vs ∷ ts) = 0
 
 other_number : (m n : ℕ) → m ≢ n → gcd m ≢ gcd n
 other_number m n ne e = ne (ap (λ x. first_number x.args) e)

@@ -16,7 +16,7 @@ ghost use Rattle.chr_model.specs.Programs.{Instances};
 ghost use Rattle.chr_model.specs.Searches.{AllBelow, NoneBelow, NoneYoungest, YoungestAreGoals};
 ghost use Rattle.chr_model.specs.Seats.{made};
 
-use chr_rule::program::Program;
+use chr_rule::Program;
 use std::alloc::Allocator;
 
 /// Where a lawful log leaves no goal open, no rule applies to the store.

@@ -42,5 +42,5 @@
 //! Nothing is said of termination, confluence or fairness.
 #![tactic(auto)]
 
-pub mod examples;
+mod examples;
 pub mod laws;

@@ -3,11 +3,11 @@ use Rattle.std.proofs.Common.{◌≡◌, ℕ, ◌≤◌, ◌<◌, List, [], ◌�
 use Rattle.std.specs.List.{AllByRecursion}
 use Rattle.std.proofs.Math.Seq.{take-length}
 use Rattle.chr_lex.specs.Items.{Item}
-use Rattle.chr_value.specs.Atoms.{Value, Int, Sym, Atom, TermIsNamed, AtomIsNamed}
+use Rattle.chr_value.specs.Atoms.{Value, Atom, TermIsNamed, AtomIsNamed}
 use Rattle.chr_value.specs.Naming.{◌>>=◌, Table, number_name, numbered_value, numbered_atom}
 use Rattle.chr_value.proofs.Chosen.{bind_some, some_is}
 use Rattle.chr_value.proofs.NameLaws.{keeps-then}
-use Rattle.chr_value.proofs.Said.{name_says, fact_says}
+use Rattle.chr_value.proofs.Said.{as_long, term_later, name_says, term_says, fact_says}
 use Rattle.chr_value.proofs.Inside.{atom_inside}
 use Rattle.chr_rule.specs.Rules.{Term, Var, Given, RuleAtom, Comparison, Compared, Same, Differ, BodyItem, Is, Add, Simpagation, of_parts}
 use Rattle.chr_grammar.specs.Parsed as parsed
@@ -23,20 +23,11 @@ use Rattle.chr_text.proofs.ProgramTexts.{is_program}
 use Rattle.chr_text.proofs.Writable.{posts_writable}
 use Rattle.chr_named.specs.Named.{ArgumentIsNamed, RuleAtomIsNamed, ComparisonIsNamed, BodyItemIsNamed, RuleIsNamed, RulesAreNamed}
 
-longer : (a b : Table) → take (length a) b ≡ a → length a ≤ length b
-longer [] b h = omega arith
-longer (x ∷ xs) [] h = absurd cc
-longer (x ∷ xs) (y ∷ ys) h = let t : take (length xs) ys ≡ xs = cc in omega (arith, longer xs ys t)
-
 -- ---- what a table has, a longer one has
-
-value_still : (m n : ℕ) (v : Value ℕ) → m ≤ n → TermIsNamed m v → TermIsNamed n v
-value_still m n (Int z) le h = tt
-value_still m n (Sym s) le h = omega (arith, h, le)
 
 argument_still : (m n : ℕ) (t : Term ℕ) → m ≤ n → ArgumentIsNamed m t → ArgumentIsNamed n t
 argument_still m n (Var x) le h = tt
-argument_still m n (Given v) le h = value_still m n v le h
+argument_still m n (Given v) le h = term_later m n v le h
 
 -- ---- lists
 
@@ -62,11 +53,7 @@ each_numbers {B = B} f P still one table new (a ∷ as') bs h =
 -- ---- the parts of a rule
 
 value_numbered : (table new : Table) (t : Value (List ℕ)) (v : Value ℕ) → numbered_value table t ≡ Some (v, new) → TermIsNamed (length new) v × (length table ≤ length new)
-value_numbered table new (Int z) v h = subst (λ (x : Value ℕ × Table). TermIsNamed (length x.1) x.0 × (length table ≤ length x.1)) (some_is {A = Value ℕ × Table} (Int z, table) (v, new) h) (tt, omega arith)
-value_numbered table new (Sym t) v h =
-    let a = bind_some (number_name table t) (λ n. Some (Sym n.0, n.1)) (v, new) h in
-    let s = name_says table t a.0.0 a.0.1 a.1 in
-    subst (λ (x : Value ℕ × Table). TermIsNamed (length x.1) x.0 × (length table ≤ length x.1)) (some_is {A = Value ℕ × Table} (Sym a.0.0, a.0.1) (v, new) a.2) (s.1, longer table a.0.1 s.2)
+value_numbered table new t v h = let s = term_says table t v new h in (s.1, as_long table new s.2)
 
 term_numbered : (table new : Table) (a : Term (List ℕ)) (b : Term ℕ) → numbered_term table a ≡ Some (b, new) → ArgumentIsNamed (length new) b × (length table ≤ length new)
 term_numbered table new (Var x) b h = subst (λ (z : Term ℕ × Table). ArgumentIsNamed (length z.1) z.0 × (length table ≤ length z.1)) (some_is {A = Term ℕ × Table} (Var x, table) (b, new) h) (tt, omega arith)
@@ -84,7 +71,7 @@ atom_numbered table new s r h =
     let says = name_says table s.name n.0.0 n.0.1 n.1 in
     let args = each_numbers numbered_term ArgumentIsNamed argument_still term_numbered n.0.1 x.0.1 s.args x.0.0 x.1 in
     let name : n.0.0 < length x.0.1 = (let k = says.1 in let l = args.1 in omega (arith, k, l)) in
-    let grown = longer table n.0.1 says.2 in
+    let grown = as_long table n.0.1 says.2 in
     let made : RuleAtom ℕ = record { name = n.0.0; args = x.0.0 } in
     let named : RuleAtomIsNamed (length x.0.1) made = record { name = name; args = args.0 } in
     subst (λ (z : RuleAtom ℕ × Table). RuleAtomIsNamed (length z.1) z.0 × (length table ≤ length z.1)) (some_is {A = RuleAtom ℕ × Table} (made, x.0.1) (r, new) x.2) (named, (let l = args.1 in omega (arith, grown, l)))

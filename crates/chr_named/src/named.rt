@@ -4,10 +4,7 @@ ghost use Rattle.std.specs.List.{AllByRecursion};
 ghost use Rattle.chr_rule.specs.Parts.{argument, shape, comparison, member};
 ghost use Rattle.chr_named.specs.Named.{ArgumentIsNamed, RuleAtomIsNamed, ComparisonIsNamed, BodyItemIsNamed, RuleIsNamed};
 
-use chr_rule::expression::{BodyItem, Comparison};
-use chr_rule::program::Program;
-use chr_rule::rule::Rule;
-use chr_rule::rule_atom::{RuleAtom, Term};
+use chr_rule::{BodyItem, Comparison, Program, Rule, RuleAtom, Term};
 use std::alloc::Allocator;
 
 /// Whether a table of `count` names has the name of an argument.

@@ -10,8 +10,7 @@ use crate::svg::{
     put_words,
 };
 use crate::words::Words;
-use chr_value::atom::Pred;
-use chr_value::names::Names;
+use chr_value::{Names, Pred};
 use std::alloc::{AllocError, Allocator};
 
 /// How far to the left of where the columns begin so many letters before a bar go, by the column that gives its

@@ -3,7 +3,7 @@ ghost use Rattle.std.specs.Prelude.{◌≡◌, ◌+◌, ◌≤◌};
 ghost use Rattle.chr_picture.specs.Layouts.{step_of, every_of, x_of, y_of, begin_of, end_of, entry_at, pair_of, pairs_of, index_of, colour};
 
 use crate::words::Words;
-use chr_value::atom::Pred;
+use chr_value::Pred;
 use std::alloc::Allocator;
 
 /// The height of a row.

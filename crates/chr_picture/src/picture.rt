@@ -3,8 +3,8 @@ ghost use Rattle.std.specs.Prelude.{◌≡◌, ◌≤◌, length};
 ghost use Rattle.chr_picture.specs.Pictures.{is_head, place_of, removal};
 
 use chr_check::has_label;
-use chr_log::events::{Label, Labels};
-use chr_value::atom::Atom;
+use chr_log::{Label, Labels};
+use chr_value::Atom;
 use std::alloc::Allocator;
 
 /// A constraint. The entries that are drawn are columns, counted from 0.

@@ -10,10 +10,8 @@ ghost use Rattle.chr_picture.specs.Words.{words};
 use crate::layout::{Layout, colour, index_of, y_of};
 use crate::picture::{Firing, Row, place_of, removal};
 use crate::words::Words;
-use chr_log::events::Label;
-use chr_value::atom::Pred;
-use chr_value::names::{Name, Names};
-use chr_value::writing::{put_number, write_atom};
+use chr_log::Label;
+use chr_value::{Name, Names, Pred, put_number, write_atom};
 use std::alloc::{AllocError, Allocator};
 
 /// A piece that is always the same.

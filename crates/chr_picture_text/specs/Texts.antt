@@ -1,16 +1,15 @@
 -- From the bytes of two texts to the bytes of a picture.
 use Rattle.std.specs.Prelude.{◌≡◌, ◌≢◌, ℕ, ◌-◌, ◌<◌, min, List, [], length, Result, Ok, Err, Vec}
-use Rattle.chr_rule.specs.Rules.{Simpagation}
 use Rattle.chr_log.specs.Events.{Event}
 use Rattle.chr_log.specs.declared.events.Version.{Version}
-use Rattle.chr_log_text.specs.Texts.{IsLogText, HasLogFault}
+use Rattle.chr_log_text.specs.Texts.{HasLogFault, LogOf}
 use Rattle.chr_log_text.specs.declared.fault.TextFault.{TextFault}
 use Rattle.chr_log_text.specs.declared.fault.TextFault.TheVariants.{NoMemory}
 use Rattle.chr_model.specs.Abstract.{Rules}
 use Rattle.chr_model.specs.Goals.{State}
 use Rattle.chr_model.specs.Logs.{Lawful}
 use Rattle.chr_model.specs.Programs.{Instances}
-use Rattle.chr_text.specs.Reading.{program_of}
+use Rattle.chr_text.specs.Reading.{program_of, RulesOf}
 use Rattle.chr_check.specs.Faults.{IsLogFault}
 use Rattle.chr_check.specs.declared.fault.Place.TheVariants.{Log as InLog}
 use Rattle.chr_picture.specs.declared.picture.Picture.{Picture}
@@ -42,19 +41,6 @@ IsDrawn v I log table range (Err (faults.NoEntry n)) = (n ≡ length log) × (dr
 IsDrawn {Z} v I log table range (Err faults.TooManyRows) = (picture : Picture Z) × IsOfRange v I log range picture × (most_rows < length picture.rows.items)
 IsDrawn v I log table range (Err faults.Memory) = Unit {0}
 IsDrawn v I log table range (Err other) = ⊥
-
--- a text of rules: the rules, and the table of their names
-pub record RulesOf (text : List ℕ) : Type 0 where
-  pub rules : List (Simpagation ℕ)
-  pub table : List (List ℕ)
-  pub reads : program_of [] text ≡ Ok (rules, table)
-
--- a text of a log, whose names are entered into that table
-pub record LogOf (table : List (List ℕ)) (text : List ℕ) : Type 0 where
-  pub version : Version
-  pub events : List (Event ℕ)
-  pub names : List (List ℕ)
-  pub reads : IsLogText table text version events names
 
 -- What is drawn of two texts, which are read with one table of names, or why nothing is: the fault of the first that can't
 -- be read, or that of the log by the rules.

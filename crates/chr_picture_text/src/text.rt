@@ -9,12 +9,11 @@ use crate::gathering::{MOST_COLUMNS, gather};
 use chr_check::fault::{CheckError, CheckFault};
 use chr_lex::fault::{ReadError, ReadFault};
 use chr_log_text::fault::TextFault;
-use chr_log_text::reading::{LogText, read_log};
-use chr_picture::drawing::write_picture;
-use chr_picture::layout::MOST_ROWS;
-use chr_rule::program::Program;
-use chr_text::reading::read_program;
-use chr_value::names::Names;
+use chr_log_text::{LogText, read_log};
+use chr_picture::{MOST_ROWS, write_picture};
+use chr_rule::Program;
+use chr_text::read_program;
+use chr_value::Names;
 use chr_watch::{Unwatched, Watch};
 use std::alloc::{AllocError, Allocator};
 

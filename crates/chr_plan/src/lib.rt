@@ -6,13 +6,16 @@
 //! open head, without a key. Known are numbers, symbols, and the variables of the heads before. So a partner with a
 //! key can be looked up by a predicate and one value.
 //!
-//! [`places`](plans::Plans::places) lists what the plans look up, so that a store can keep an index for each.
+//! [`places`](Plans::places) lists what the plans look up, so that a store can keep an index for each.
 //!
 //! Contracts see the plans as a list of orders for each rule, and say of each order that it is that of the definition.
 //! [`laws`] has what follows: a head has one plan, it names every head, and each key is bound by the steps before.
 #![tactic(auto)]
 
 pub mod laws;
-pub mod order;
+mod order;
 mod places;
-pub mod plans;
+mod plans;
+
+pub use order::{Order, Step};
+pub use plans::Plans;

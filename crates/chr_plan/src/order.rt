@@ -5,8 +5,7 @@ ghost use Rattle.chr_rule.specs.Parts.{argument};
 ghost use Rattle.chr_plan.specs.Orders.{is_variable, has_variable, binds, is_bound, is_known, key_in, is_named, IsOpen, IsNext, IsPlan};
 
 use arrayvec::ArrayVec;
-use chr_rule::rule::Rule;
-use chr_rule::rule_atom::Term;
+use chr_rule::{Rule, Term};
 use std::alloc::Allocator;
 
 /// A head by its number, and the place of its first argument whose value is known by then. Places are numbered from 1.

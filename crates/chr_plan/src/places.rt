@@ -5,8 +5,8 @@ ghost use Rattle.chr_rule.specs.Rules.{heads_of, head_in};
 ghost use Rattle.chr_plan.specs.Places.{Place, same_place, key_place, order_places, for_each, once};
 
 use crate::order::{Order, Step};
-use chr_rule::rule::Rule;
-use chr_value::atom::Pred;
+use chr_rule::Rule;
+use chr_value::Pred;
 use std::alloc::{AllocError, Allocator};
 
 /// Whether a list has a place.

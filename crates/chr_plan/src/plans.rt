@@ -6,9 +6,8 @@ ghost use Rattle.chr_plan.specs.Places.{places_of};
 
 use crate::order::{Order, Step, plan_of};
 use crate::places::add_orders;
-use chr_rule::program::Program;
-use chr_rule::rule::Rule;
-use chr_value::atom::Pred;
+use chr_rule::{Program, Rule};
+use chr_value::Pred;
 use std::alloc::{AllocError, Allocator};
 use std::marker::Model;
 

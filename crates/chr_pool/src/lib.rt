@@ -14,7 +14,7 @@
 //! using the queue. No contract says that a call which may wait returns, nor that a task is ever taken.
 #![tactic(auto)]
 
-pub mod account;
+mod account;
 mod deque_handle;
 mod hand;
 mod inlet;
@@ -25,6 +25,7 @@ mod pool;
 mod queue_handle;
 mod settling;
 
+pub use account::Numbered;
 pub use hand::Hand;
 pub use inlet::Inlet;
 pub use making::make;

@@ -16,14 +16,14 @@
 //! socket that can't be read, written or made, 3 where goals are open at the end of the run, and 5 where memory is refused.
 #![tactic(auto)]
 
-use chr_command_line::reading::{Request, read};
+use chr_command_line::{Request, read};
 use chr_commands::check::check;
 use chr_commands::explain::explain;
 use chr_commands::picture::picture;
 use chr_commands::run::run;
 use chr_commands::session::session;
 use chr_commands::{Detail, Status, print_usage, report_failure};
-use chr_picture_text::text::Range;
+use chr_picture_text::Range;
 use chr_socket::serve::serve;
 use std::env;
 use std::io::{self, IsTerminal};

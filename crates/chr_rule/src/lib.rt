@@ -1,20 +1,25 @@
 //! The parts of a rule.
 //!
 //! A rule has kept heads, removed heads, a guard and a body. Its variables are numbered from 0 in the order in which
-//! they first occur: kept heads, removed heads, then the left sides of `is` in the body. [`Rule::new`](rule::Rule::new)
-//! is the test that the parts keep this order and the limits, and [`Rule::from_parts`](rule::Rule::from_parts) makes a
-//! rule of parts that were judged before. So a [`Rule`](rule::Rule) always keeps them: every variable that is used has a
+//! they first occur: kept heads, removed heads, then the left sides of `is` in the body. [`Rule::new`](Rule::new)
+//! is the test that the parts keep this order and the limits, and [`Rule::from_parts`](Rule::from_parts) makes a
+//! rule of parts that were judged before. So a [`Rule`] always keeps them: every variable that is used has a
 //! value by then. How deep an expression nests is no limit of a rule: the reader of rule text keeps to 16 levels. A
-//! [`Program`](program::Program) is a list of shared rules, numbered from 1, with an index that tells where the heads of a
+//! [`Program`] is a list of shared rules, numbered from 1, with an index that tells where the heads of a
 //! predicate are.
 //!
 //! Contracts see a rule as a `Simpagation ℕ` (Frühwirth's general form of a rule) over the numbers of names, without
 //! where its parts lie in memory, so two rules are equal exactly where their content is.
 #![tactic(auto)]
 
-pub mod expression;
+mod expression;
 mod occurrences;
-pub mod program;
-pub mod rule;
-pub mod rule_atom;
+mod program;
+mod rule;
+mod rule_atom;
 mod scope;
+
+pub use expression::{BodyItem, Comparison, Expr, Operator, Relation};
+pub use program::{MOST_RULES, Program};
+pub use rule::{MOST_COMPARISONS, MOST_HEADS, MOST_ITEMS, MOST_VARIABLES, Rule};
+pub use rule_atom::{RuleAtom, Term};

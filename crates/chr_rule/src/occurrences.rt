@@ -6,7 +6,7 @@ ghost use Rattle.chr_rule.specs.declared.occurrences.Occurrence.{Occurrence as O
 ghost use Rattle.chr_rule.specs.Index.{rank, FitsRank, HasNoneFrom, IsLeastFrom, HasInserted, HasHeadsOf};
 
 use crate::rule::Rule;
-use chr_value::atom::Pred;
+use chr_value::Pred;
 use std::alloc::{AllocError, Allocator};
 use std::marker::Model;
 

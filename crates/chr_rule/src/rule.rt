@@ -38,12 +38,13 @@ impl<A: Allocator> Model for Rule<A> {
     ghost use Rattle.chr_rule.specs.Rules.{Simpagation};
     ghost use Rattle.chr_rule.specs.Parts.{shape, comparison, member};
     ghost use Rattle.chr_rule.specs.Scope.{IsRule};
+    ghost use Rattle.chr_value.specs.Code.{value_code};
     ghost use Rattle.chr_rule.specs.Code.{expression_code};
     ghost use Rattle.std.specs.Coded.{codes};
 
     ghost Value = { Simpagation ℕ };
 
-    ghost coded = { Prim.hlevel (codes, expression_code) };
+    ghost coded = { Prim.hlevel (codes, expression_code, value_code) };
 
     ghost view = { λ r. record { variables = r.variables; kept = map shape r.kept.items; removed = map shape r.removed.items; guard = map comparison r.guard.items; body = map member r.body.items } };
 

@@ -5,8 +5,7 @@ ghost use Rattle.chr_rule.specs.Scope.{argument_known};
 ghost use Rattle.chr_rule.specs.Occurrences.{HasPred};
 
 use arrayvec::ArrayVec;
-use chr_value::atom::{Pred, Value};
-use chr_value::names::Name;
+use chr_value::{Name, Pred, Value};
 
 /// A variable by its number in the rule, or a value as it is written.
 #[derive(Debug, Drop)]

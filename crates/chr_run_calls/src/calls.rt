@@ -1,13 +1,13 @@
 //! Calls with their seats, and their answers.
-use chr_book::texts::Posted;
-use chr_calls::answers::{
+use chr_book::Posted;
+use chr_calls::{
     Batch, BatchReport, ClaimFault, DropFault, Dropping, FireFault, Firing, MarkFault, PostFault,
     PutDownFault, ReportFault, Turn, TurnFault,
 };
 use chr_lex::fault::ReadError;
-use chr_search::judged::Judged;
-use chr_store::store::Label;
-use chr_value::atom::Atom;
+use chr_search::Judged;
+use chr_store::Label;
+use chr_value::Atom;
 use std::alloc::Allocator;
 
 /// The judgement that a call goes by.

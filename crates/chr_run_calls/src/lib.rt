@@ -1,12 +1,12 @@
 //! Lists of calls of a book.
 //!
-//! [`run_calls`](run::run_calls) makes any list of calls by any seats on one book, one after another, and answers each as
+//! [`run_calls`] makes any list of calls by any seats on one book, one after another, and answers each as
 //! the table of `chr_calls` has it. So a list of calls is one order in which several seats come to a book that they share.
 //! Calls that only read a book, as `quiet`, `state` and `shot`, change nothing, and have no place in a list.
 //!
-//! A [`SeatCall`](calls::SeatCall) is a call with the number of its seat. A report or a firing names the judgement that it
-//! goes by, a [`Word`](calls::Word): one that is given, or the seat's own, which is that of the last trial that the seat
-//! was told for the ticket in this list. In the same way the report of a batch goes by [`Words`](calls::Words).
+//! A [`SeatCall`] is a call with the number of its seat. A report or a firing names the judgement that it
+//! goes by, a [`Word`]: one that is given, or the seat's own, which is that of the last trial that the seat
+//! was told for the ticket in this list. In the same way the report of a batch goes by [`Words`].
 //!
 //! `AnswersAre` says of a book, calls, their answers and the book afterwards that each answer is the one of its call's line
 //! in the table, in order. [`laws`] are contracts of functions that do nothing: answers to a list of calls are a run of the
@@ -14,7 +14,10 @@
 //! posted.
 #![tactic(auto)]
 
-pub mod calls;
+mod calls;
 pub mod laws;
 mod own;
-pub mod run;
+mod run;
+
+pub use calls::{Answer, Call, SeatCall, Word, Words};
+pub use run::run_calls;

@@ -7,9 +7,8 @@ ghost use Rattle.chr_run_calls.specs.Told.{trials_of_turn, trials_in, asks_for a
 ghost use Rattle.chr_run_calls.specs.Code.{call_of, seat_call_of, answer_of, said_by};
 
 use crate::calls::{Answer, Call, SeatCall};
-use chr_calls::answers::{Batch, Turn, TurnFault};
-use chr_search::judged::{Judged, judge};
-use chr_search::trial::Trial;
+use chr_calls::{Batch, Turn, TurnFault};
+use chr_search::{Judged, Trial, judge};
 use std::alloc::{AllocError, Allocator};
 
 /// The next trial, where there is one.

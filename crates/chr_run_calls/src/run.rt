@@ -10,9 +10,9 @@ ghost use Rattle.chr_run_calls.specs.Code.{word_of, words_of, call_of, seat_call
 
 use crate::calls::{Answer, Call, SeatCall, Word, Words};
 use crate::own::{own_judgement, own_judgements};
-use chr_book::book::Book;
-use chr_calls::answers::{FireFault, ReportFault, TicketState};
-use chr_search::judged::Judged;
+use chr_book::Book;
+use chr_calls::{FireFault, ReportFault, TicketState};
+use chr_search::Judged;
 use std::alloc::{AllocError, Allocator};
 
 /// What is done by a judgement.

@@ -13,9 +13,10 @@ use Rattle.chr_book.specs.Books.{IsOpened}
 use Rattle.chr_solo.specs.Solo.{Nothing, IsSolo}
 use Rattle.chr_solo.specs.declared.solo.End.TheVariants as ends
 use Rattle.chr_solo.specs.declared.solo.End.{End}
+use Rattle.chr_book.specs.Texts.{IsOpenText}
 use Rattle.chr_run_text.specs.Output.{shown}
 use Rattle.chr_run_text.specs.Texts.{PostsOf, with_posts, HasPostsFault}
-use Rattle.chr_run_text.specs.RunText.{seat, posted_book, IsRunOf, IsMade, IsOpenText, IsRefused, IsRunText}
+use Rattle.chr_run_text.specs.RunText.{seat, posted_book, IsRunOf, IsMade, IsRefused, IsRunText}
 use Rattle.chr_run_text.specs.RunTexts.{IsRunOfTexts, AreRefused, PostsTexts, TextsFault, IsMadeRun, whole_fault, IsShown}
 use Rattle.chr_run_text.specs.declared.output.Show.{Show}
 use Rattle.chr_run_text.specs.declared.running.RunOut.{RunOut}
@@ -24,15 +25,6 @@ use Rattle.chr_run_text.specs.declared.running.RunTextsFault.{RunTextsFault}
 use Rattle.chr_run_text.specs.declared.running.RunTextsFault.TheVariants as faults
 use Rattle.chr_run_text.proofs.Texts.{one_text, one_fault}
 use Rattle.chr_run_text.proofs.SoloPosts.{solo_posts, all_posts, solo_rules, posted_rules}
-
--- a book that was opened with the rules of a text, and why there is none
-pub opens_text : (program : List ℕ) (limit : ℕ) (rules : List (Simpagation ℕ)) (table : List (List ℕ)) → program_of [] program ≡ Ok (rules, table) → (opened : Result BookState RunTextsFault) → IfOk opened (IsOpened rules table limit) → IfOk opened (IsOpenText program limit)
-opens_text program limit rules table reads (Ok b) is = record { read = record { rules = rules; table = table; reads = reads }; is = is }
-opens_text program limit rules table reads (Err fault) is = tt
-
-pub refuses_text : (program : List ℕ) (opened : Result BookState RunTextsFault) → IfErr opened (λ fault. fault ≡ faults.Memory) → IfErr opened (λ fault. (posts : List (List ℕ)) → AreRefused program posts fault)
-refuses_text program (Ok b) is = tt
-refuses_text program (Err fault) is = λ posts. subst (AreRefused program posts) (sym is) tt
 
 -- the posts of texts that were posted to an open book
 posted_texts : (program : List ℕ) (posts : List (List ℕ)) (limit : ℕ) (o b : BookState) → (open_text : IsOpenText program limit o) → (h : PostsTexts o posts b)

@@ -5,7 +5,7 @@ use Rattle.chr_rule.specs.Rules.{Simpagation}
 use Rattle.chr_plan.specs.Plans.{PlanList, ArePlans}
 use Rattle.chr_model.specs.Programs.{Instances}
 use Rattle.chr_model.specs.Stores.{Final}
-use Rattle.chr_text.specs.Reading.{program_of, posts_of}
+use Rattle.chr_text.specs.Reading.{program_of, posts_of, RulesOf}
 use Rattle.chr_calls.specs.Tickets.{AreQuiet}
 use Rattle.chr_calls.specs.Books.{BookState, opened}
 use Rattle.chr_calls.specs.Calls.{all_posted}
@@ -13,7 +13,7 @@ use Rattle.chr_calls.specs.Headline.{Headline}
 use Rattle.chr_book.specs.Books.{IsOpened}
 use Rattle.chr_solo.specs.Solo.{IsSolo}
 use Rattle.chr_solo.specs.declared.solo.End.TheVariants as ends
-use Rattle.chr_run_text.specs.Texts.{RulesOf, PostsOf}
+use Rattle.chr_run_text.specs.Texts.{PostsOf}
 use Rattle.chr_run_text.specs.Output.{shown}
 use Rattle.chr_run_text.specs.declared.output.Show.{Show}
 use Rattle.chr_run_text.specs.declared.running.RunOut.{RunOut}
@@ -57,8 +57,3 @@ IsRefused program posts faults.Memory = Unit {0}
 abbrev pub IsRunText : {Z : Type 0} → List ℕ → List ℕ → ℕ → ℕ → Show → Result (RunOut Z) RunFault → Type 0
 IsRunText program posts steps limit show (Ok made) = IsMade program posts steps limit show made
 IsRunText program posts steps limit show (Err fault) = IsRefused program posts fault
-
--- a book of the rules of a text
-pub record IsOpenText (program : List ℕ) (limit : ℕ) (b : BookState) : Type 0 where
-  pub read : RulesOf program
-  pub is : IsOpened read.rules read.table limit b

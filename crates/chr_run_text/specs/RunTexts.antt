@@ -6,7 +6,7 @@ use Rattle.chr_lex.specs.declared.fault.ReadError.TheVariants as errors
 use Rattle.chr_model.specs.Programs.{Instances}
 use Rattle.chr_model.specs.Stores.{Final}
 use Rattle.chr_model.specs.Logs.{posted_by}
-use Rattle.chr_text.specs.Reading.{program_of}
+use Rattle.chr_text.specs.Reading.{program_of, RulesOf}
 use Rattle.chr_calls.specs.Tickets.{AreQuiet}
 use Rattle.chr_calls.specs.Books.{BookState, events, with_names}
 use Rattle.chr_calls.specs.Calls.{all_posted}
@@ -14,7 +14,7 @@ use Rattle.chr_calls.specs.Headline.{Headline}
 use Rattle.chr_solo.specs.Solo.{IsSolo}
 use Rattle.chr_solo.specs.declared.solo.End.{End}
 use Rattle.chr_solo.specs.declared.solo.End.TheVariants as ends
-use Rattle.chr_run_text.specs.Texts.{RulesOf, with_posts, AllPostsOf, HasPostsFault}
+use Rattle.chr_run_text.specs.Texts.{with_posts, AllPostsOf, HasPostsFault}
 use Rattle.chr_run_text.specs.Output.{shown}
 use Rattle.chr_run_text.specs.RunText.{seat, IsRunOf}
 use Rattle.chr_run_text.specs.declared.output.Show.{Show}

@@ -2,16 +2,9 @@
 use Rattle.std.specs.Prelude.{◌≡◌, ℕ, List, [], ◌∷◌, ◌++◌, take, Some, Result, Ok, Err}
 use Rattle.std.specs.List.{slice_get}
 use Rattle.chr_value.specs.Atoms.{Atom}
-use Rattle.chr_rule.specs.Rules.{Simpagation}
 use Rattle.chr_lex.specs.Reading.{◌>>=◌}
 use Rattle.chr_lex.specs.declared.fault.ReadFault.{ReadFault}
-use Rattle.chr_text.specs.Reading.{Posts, program_of, posts_of}
-
--- a text of rules: the rules, and the table of their names
-pub record RulesOf (text : List ℕ) : Type 0 where
-  pub rules : List (Simpagation ℕ)
-  pub table : List (List ℕ)
-  pub reads : program_of [] text ≡ Ok (rules, table)
+use Rattle.chr_text.specs.Reading.{Posts, posts_of}
 
 -- a text of posts, whose names are entered into that table: the atoms, and the table of all names
 pub record PostsOf (table : List (List ℕ)) (text : List ℕ) : Type 0 where

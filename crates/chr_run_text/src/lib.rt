@@ -1,7 +1,7 @@
 //! A whole run: from the texts of a program and of posts to the text of what became of them.
 //!
-//! [`run_texts`](running::run_texts) posts the atoms of any number of texts, one text after another, and gives the run, which
-//! is then [shown](ran::Ran::shown) in as many ways as are wanted. [`run_text`](running::run_text) is that of one text of
+//! [`run_texts`] posts the atoms of any number of texts, one text after another, and gives the run, which
+//! is then [shown](Ran::shown) in as many ways as are wanted. [`run_text`] is that of one text of
 //! posts, shown in one way.
 //!
 //! A run reads all texts with one table of names, opens a book, posts all atoms in order, and lets one seat make calls until
@@ -14,6 +14,12 @@
 //! store, the log, or the strict log. It promises nothing where memory ran out (E01).
 #![tactic(auto)]
 
-pub mod output;
-pub mod ran;
-pub mod running;
+mod output;
+mod ran;
+mod running;
+
+pub use output::Show;
+pub use ran::Ran;
+pub use running::{
+    RunFault, RunOut, RunTextsFault, run_text, run_texts, watched_run, watched_run_texts,
+};

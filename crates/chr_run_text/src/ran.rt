@@ -1,12 +1,14 @@
 //! A run that was made, and what is shown of it.
 ghost use Rattle.std.specs.Prelude.{◌≡◌, IfOk};
+ghost use Rattle.std.specs.Coded.{codes};
+ghost use Rattle.chr_value.specs.Code.{value_code};
 ghost use Rattle.chr_calls.specs.Tickets.{AreQuiet};
 ghost use Rattle.chr_solo.specs.declared.solo.End.TheVariants.{Quiet};
 ghost use Rattle.chr_run_text.specs.Output.{shown};
 
 use crate::output::{Show, write_shown};
-use chr_book::book::Book;
-use chr_solo::solo::End;
+use chr_book::Book;
+use chr_solo::End;
 use std::alloc::{AllocError, Allocator};
 
 /// The book after a run, and the run's end.
@@ -15,7 +17,7 @@ pub struct Ran<A: Allocator> {
     pub book: Book<A>,
     pub end: End,
     // Where the run is called quiet no ticket is open.
-    ghost quiet: { end ≡ Quiet → AreQuiet book.tickets },
+    ghost quiet: { end ≡ Quiet → AreQuiet book.tickets } by { Prim.hlevel (codes, value_code) },
 }
 
 impl<A: Allocator + Copy> Ran<A> {

@@ -1,22 +1,17 @@
 //! From the bytes of texts to a run, and to the bytes shown.
 ghost use Rattle.std.specs.Prelude.{◌≡◌, ◌≤◌, ℕ, List, map, IfOk, IfErr};
 ghost use Rattle.chr_calls.specs.Tickets.{AreQuiet};
-ghost use Rattle.chr_named.specs.Named.{RulesAreNamed};
-ghost use Rattle.chr_book.specs.Books.{IsOpened};
+ghost use Rattle.chr_book.specs.Texts.{IsOpenText};
 ghost use Rattle.chr_solo.specs.declared.solo.End.TheVariants.{Quiet};
-ghost use Rattle.chr_run_text.specs.declared.running.RunTextsFault.TheVariants as faults;
-ghost use Rattle.chr_run_text.specs.RunText.{IsOpenText, IsRunText};
+ghost use Rattle.chr_run_text.specs.RunText.{IsRunText};
 ghost use Rattle.chr_run_text.specs.RunTexts.{IsMadeRun, ArePosted, posts_fault, whole_fault, AreRefused, IsRunOn, IsRunTexts, IsShown};
 
 use crate::output::Show;
 use crate::ran::Ran;
-use chr_book::book::{Book, OpenFault};
+use chr_book::Book;
 use chr_lex::fault::{ReadError, ReadFault};
-use chr_rule::program::Program;
-use chr_solo::solo::{End, watched_steps};
-use chr_store::store::Label;
-use chr_text::reading::read_program;
-use chr_value::names::Names;
+use chr_solo::{End, watched_steps};
+use chr_store::Label;
 use chr_watch::{Unwatched, Watch};
 use std::alloc::{AllocError, Allocator};
 
@@ -73,25 +68,6 @@ fn whole_fault(fault: RunTextsFault) -> RunFault
     }
 }
 
-/// A book of these rules, which have their names in the table. An `Err` is E01.
-fn open_with<A: Allocator + Copy>(
-    alloc: A,
-    program: Program<A>,
-    names: Names<A>,
-    labels: Label,
-) -> Result<Book<A>, RunTextsFault>
-    requires limit { labels ≤ 4294967295 }
-    requires named { RulesAreNamed names program }
-    ensures ok { IfOk result (IsOpened program names labels) }
-    ensures err { IfErr result (λ fault. fault ≡ faults.Memory) }
-{
-    match Book::new(alloc, program, names, labels) {
-        Ok(book) => Ok(book),
-        Err(OpenFault::NoMemory) => Err(RunTextsFault::Memory),
-        Err(OpenFault::UnknownName) => unreachable!(),
-    }
-}
-
 /// A book of the rules of a text.
 fn open<A: Allocator + Copy>(
     alloc: A,
@@ -102,9 +78,8 @@ fn open<A: Allocator + Copy>(
     ensures ok { IfOk result (IsOpenText program.now labels) }
     ensures err { IfErr result (λ fault. (posts : List (List ℕ)) → AreRefused program.now posts fault) }
 {
-    let mut names = Names::new(alloc);
-    match read_program(alloc, program, &mut names) {
-        Ok(rules) => open_with(alloc, rules, names, labels),
+    match Book::of_text(alloc, program, labels) {
+        Ok(book) => Ok(book),
         Err(ReadError::Fault(fault)) => Err(RunTextsFault::Program(fault)),
         Err(ReadError::Memory) => Err(RunTextsFault::Memory),
     }

@@ -26,7 +26,7 @@ use Rattle.chr_search.proofs.Partners.{ready_more, fit_less, no_fit}
 use Rattle.chr_search.proofs.Reaches.{has_pred, has_key}
 use Rattle.chr_search.proofs.Asking.{stands_is}
 use Rattle.chr_search.proofs.Wholes.{in_head_order, completed}
-use Rattle.chr_search.proofs.Passed.{stands_nowhere, is_part, is_full, heads_fit, few_placed, misfit_here}
+use Rattle.chr_search.proofs.PassingOver.{stands_nowhere, is_part, is_full, heads_fit, few_placed, misfit_here}
 
 module _ (j : Join) (ls : List ℕ) (at : LastHead) (l : ℕ) (here : IsLastHead j ls at) where
   -- the head has the binding's variables

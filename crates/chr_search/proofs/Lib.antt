@@ -15,7 +15,7 @@ pub mod Labelled
 pub mod PlainTrials
 pub mod Same
 pub mod Behind
-pub mod Passed
+pub mod PassingOver
 pub mod Levels
 pub mod Below
 pub mod PlanByPlan

@@ -24,7 +24,7 @@ use Rattle.chr_search.proofs.Plans.{heads_in, planned}
 use Rattle.chr_search.proofs.Asking.{begins_if}
 use Rattle.chr_search.proofs.Judging.{few_heads}
 use Rattle.chr_search.proofs.Descents.{at_first_head, found_at_head, none_at_head, at_first_rule, found_at_rule}
-use Rattle.chr_search.proofs.Passed.{Makes, made_of, has_trials, position_made, trial_of_made, one_passed, after_labels}
+use Rattle.chr_search.proofs.PassingOver.{Makes, made_of, has_trials, position_made, trial_of_made, one_passed, after_labels}
 
 -- labels at heads
 pub label_next : (order : List Step) (ls : List ℕ) (i h : ℕ) (step : Step) → slice_get order i ≡ Some step → i < length ls → step.head ≢ h → label_at_head (drop i order) (drop i ls) h ≡ label_at_head (drop (i + 1) order) (drop (i + 1) ls) h

@@ -8,15 +8,12 @@ ghost use Rattle.chr_search.specs.Trials.{MayFollow, StandsAt};
 ghost use Rattle.chr_search.specs.Partners.{HasPlan, IsReady, LengthenedIf, key_in, IsAskedFor, IsPartnerFrom, GivePartners};
 ghost use Rattle.chr_search.specs.Joined.{join_of};
 
-use chr_guard::binding::Binding;
-use chr_guard::matching::fit_head;
-use chr_log::events::Labels;
-use chr_plan::order::Step;
-use chr_rule::rule::Rule;
-use chr_rule::rule_atom::RuleAtom;
-use chr_store::store::{Label, Matches};
-use chr_store::view::View;
-use chr_value::atom::{Pred, Value};
+use chr_guard::{Binding, fit_head};
+use chr_log::Labels;
+use chr_plan::Step;
+use chr_rule::{Rule, RuleAtom};
+use chr_store::{Label, Matches, View};
+use chr_value::{Pred, Value};
 use std::alloc::Allocator;
 
 /// A rule and a plan of it, and the view in which partners older than the active label are looked for.

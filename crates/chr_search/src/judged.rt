@@ -9,11 +9,10 @@ ghost use Rattle.chr_search.specs.Placed.{placed_as};
 ghost use Rattle.chr_search.specs.Verdicts.{IsWhole, IsWholeUnder, labels, at_heads};
 
 use crate::trial::{Placed, Trial};
-use chr_guard::binding::Binding;
 use chr_guard::instance::instance_from;
-use chr_guard::matching::fit_head;
-use chr_rule::rule::Rule;
-use chr_store::store::Label;
+use chr_guard::{Binding, fit_head};
+use chr_rule::Rule;
+use chr_store::Label;
 use std::alloc::Allocator;
 use std::marker::Model;
 
@@ -41,13 +40,14 @@ pub struct Judged<A: Allocator> {
 impl<A: Allocator> Model for Judged<A> {
     ghost use Rattle.std.specs.Prelude.{MatchOption};
     ghost use Rattle.std.specs.Coded.{codes};
+    ghost use Rattle.chr_value.specs.Code.{value_code};
     ghost use Rattle.chr_rule.specs.Code.{expression_code};
     ghost use Rattle.chr_search.specs.Judged.{Judgement, IsVerdict};
     ghost use Rattle.chr_search.specs.Verdicts.{IsWhole, IsWholeUnder};
 
     ghost Value = { Judgement };
 
-    ghost coded = { Prim.hlevel (codes, expression_code) };
+    ghost coded = { Prim.hlevel (codes, expression_code, value_code) };
 
     ghost view = { λ j. record { trial = j.trial; verdict = j.verdict } };
 

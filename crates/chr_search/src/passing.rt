@@ -15,12 +15,11 @@ use crate::join::Join;
 use crate::judged::Verdict;
 use crate::position::put_at;
 use crate::search::Instance;
-use chr_guard::binding::Binding;
 use chr_guard::instance::becomes_instance;
-use chr_guard::matching::fit_head;
-use chr_log::events::{Labels, copy_labels};
-use chr_rule::rule_atom::RuleAtom;
-use chr_store::store::{Label, Matches};
+use chr_guard::{Binding, fit_head};
+use chr_log::{Labels, copy_labels};
+use chr_rule::RuleAtom;
+use chr_store::{Label, Matches};
 use std::alloc::Allocator;
 
 /// Why no more trials of a plan are passed over.

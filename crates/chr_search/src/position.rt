@@ -4,8 +4,8 @@ ghost use Rattle.chr_search.specs.Positions.{beginning, just_after, past, front}
 ghost use Rattle.chr_search.specs.Verdicts.{Trial as TrialView, labels as labels_of, position, IsFormed, IsPart};
 
 use crate::trial::Trial;
-use chr_log::events::{Labels, copy_labels};
-use chr_store::store::Label;
+use chr_log::{Labels, copy_labels};
+use chr_store::Label;
 use std::alloc::Allocator;
 use std::marker::Model;
 

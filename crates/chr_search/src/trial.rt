@@ -8,12 +8,11 @@ ghost use Rattle.chr_search.specs.Verdicts.{IsFormed, position as position_of, I
 ghost use Rattle.chr_search.specs.Placed.{placed_as};
 
 use crate::position::Position;
-use chr_log::events::Labels;
-use chr_plan::plans::Plans;
-use chr_rule::program::Program;
-use chr_rule::rule::Rule;
-use chr_store::store::{Label, Store};
-use chr_value::atom::Atom;
+use chr_log::Labels;
+use chr_plan::Plans;
+use chr_rule::{Program, Rule};
+use chr_store::{Label, Store};
+use chr_value::Atom;
 use std::alloc::{AllocError, Allocator};
 use std::marker::Model;
 use std::sync::Arc;
@@ -40,13 +39,14 @@ impl<A: Allocator> Model for Trial<A> {
     ghost use Rattle.std.specs.Prelude.{map};
     ghost use Rattle.std.specs.Arc.{arc_value};
     ghost use Rattle.std.specs.Coded.{codes};
+    ghost use Rattle.chr_value.specs.Code.{value_code};
     ghost use Rattle.chr_rule.specs.Code.{expression_code};
     ghost use Rattle.chr_search.specs.Verdicts.{Trial, IsFormed};
     ghost use Rattle.chr_search.specs.Placed.{placed_as};
 
     ghost Value = { Trial };
 
-    ghost coded = { Prim.hlevel (codes, expression_code) };
+    ghost coded = { Prim.hlevel (codes, expression_code, value_code) };
 
     ghost view = { λ t. record { rule = arc_value t.rule; number = t.number; head = t.head; placed = map placed_as t.placed.items } };
 

@@ -1,3 +1,2 @@
 pub mod Accounts
 pub mod Holds
-pub mod Readings

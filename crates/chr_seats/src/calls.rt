@@ -6,14 +6,13 @@ ghost use Rattle.chr_calls.specs.Calls.{Claims, FiresOrMisses, Drops, PutsDown};
 ghost use Rattle.chr_book.specs.Texts.{PostsText};
 ghost use Rattle.chr_seats.specs.Holds.{GoesOn};
 
-use chr_book::book::Book;
-use chr_book::texts::Posted;
-use chr_calls::answers::{
+use chr_book::{Book, Posted};
+use chr_calls::{
     Batch, BatchReport, ClaimFault, DropFault, Dropping, FireFault, Firing, PutDownFault, TurnFault,
 };
 use chr_lex::fault::ReadError;
-use chr_search::judged::Judged;
-use chr_store::store::Label;
+use chr_search::Judged;
+use chr_store::Label;
 use std::alloc::Allocator;
 
 /// A call of a book by a seat, which adds posts alone to the log, or other entries alone.

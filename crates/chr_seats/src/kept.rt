@@ -1,57 +1,42 @@
-//! What is under the lock.
-ghost use Rattle.std.specs.Prelude.{◌≡◌, ◌↔◌, ◌+◌, ◌-◌, ◌^◌, ◌<◌, ◌++◌, ℕ, set, [], true, false, not, length, sum_by, vec_len, IfSome, IsTrue, IsSome, None};
-ghost use Rattle.chr_seats.specs.Accounts.{log_of, made_upto, if_so, raised};
+//! A book, beside what each seat has made of it.
+ghost use Rattle.std.specs.Prelude.{◌≡◌, ◌↔◌, ◌+◌, ◌-◌, ◌^◌, ◌<◌, ◌++◌, ℕ, set, [], true, false, not, length, sum_by, vec_len, IfOk, IfErr, IfSome, IsTrue, IsSome, Some, None};
+ghost use Rattle.chr_seats.specs.Accounts.{AreSeats, log_of, made_upto, if_so, raised};
 ghost use Rattle.chr_seats.specs.Holds.{GoesOn, HasHeadline, HasRightCounts, IsHold, IsReading, MarksIn, TakesStrayIn};
 
 use crate::answers::HoldFault;
 use crate::calls::Call;
 use crate::counts::Counts;
-use crate::seat::{PostLedger, Seat};
-use crate::seating::{merge_all, merged};
-use chr_book::book::Book;
-use chr_calls::answers::{MarkFault, TicketState};
-use std::alloc::Allocator;
+use crate::seat::{PostLedger, SESSION_SEATS, Seat, Seats, WORKER_SEATS};
+use crate::seating::{merge_all, merged, seat_all};
+use crate::tally::{none_yet, tally};
+use chr_book::Book;
+use chr_calls::{MarkFault, TicketState};
+use std::alloc::{AllocError, Allocator};
 use std::marker::Model;
 use std::mem;
 use std::sync::ledger;
-use std::sync::ledger::Ledger;
+use std::sync::ledger::{Blank, Ledger};
 
-/// Through how many holds a session that waits sleeps at least, while a worker is awake.
-pub(crate) const HOLDS_A_LOOK: u64 = 64;
-
-/// What is under the lock: perhaps a book, what each seat has made of it, and who sleeps. Contracts see the book.
+/// Perhaps a book, and what each seat has made of it. Contracts see the book.
 #[derive(Drop)]
 pub struct Kept<L1: PostLedger, L2: Ledger, A: Allocator> {
-    pub(crate) book: Option<Book<A>>,
-    pub(crate) counts: [Counts; 32],
-    pub(crate) posts: ledger::Book<L1>,
-    pub(crate) others: ledger::Book<L2>,
-    /// How many holds there were by seats, modulo 2^64.
-    pub(crate) holds: u64,
-    /// Whether a worker has begun to work.
-    pub(crate) begun: bool,
-    /// How many workers work, those among them that were told to and still sleep.
-    pub(crate) awake: u32,
-    /// How many workers sleep and were not told to work.
-    pub(crate) resting: u32,
-    /// How many workers were told to work and still sleep.
-    pub(crate) told: u32,
-    /// How many of those that sleep end where no worker is awake.
-    pub(crate) together: u32,
-    /// How many sessions sleep.
-    pub(crate) watching: u32,
+    book: Option<Book<A>>,
+    counts: [Counts; 32],
+    posts: ledger::Book<L1>,
+    others: ledger::Book<L2>,
 }
 
 impl<L1: PostLedger, L2: Ledger, A: Allocator> Model for Kept<L1, L2, A> {
     ghost use Rattle.std.specs.Prelude.{◌≡◌, true, Option, IsSome};
     ghost use Rattle.std.specs.Coded.{codes};
+    ghost use Rattle.chr_value.specs.Code.{value_code};
     ghost use Rattle.chr_rule.specs.Code.{expression_code};
     ghost use Rattle.chr_calls.specs.Books.{BookState};
-    ghost use Rattle.chr_seats.specs.Accounts.{log_of, IsCounted};
+    ghost use Rattle.chr_seats.specs.Accounts.{AreSeats, log_of, IsCounted};
 
     ghost Value = { Option BookState };
 
-    ghost coded = { Prim.hlevel (codes, expression_code) };
+    ghost coded = { Prim.hlevel (codes, expression_code, value_code) };
 
     ghost view = { λ k. k.book };
 
@@ -113,6 +98,63 @@ fn read_headline<A: Allocator + Copy>(book: &Book<A>)
 }
 
 impl<L1: PostLedger, L2: Ledger, A: Allocator + Copy> Kept<L1, L2, A> {
+    /// A book, and all seats, each with the counts of what it has made in the book's log. On E01 the book comes back.
+    pub fn with(
+        alloc: A,
+        book: Book<A>,
+        posts: Blank,
+        others: Blank,
+    ) -> Result<(Kept<L1, L2, A>, Seats<L1, L2, A>), Book<A>>
+        requires posts { (posts.name ≡ L1.name) × (posts.parts ≡ L1.parts) × (posts.parts ≡ 32) }
+        requires others { (others.name ≡ L2.name) × (others.parts ≡ L2.parts) × (others.parts ≡ 32) }
+        ensures book { IfOk result (λ r. r.0 ≡ Some book) }
+        ensures workers { IfOk result (λ r. AreSeats book.log 0 r.1.workers.items) }
+        ensures sessions { IfOk result (λ r. AreSeats book.log 16 r.1.sessions.items) }
+        ensures back { IfErr result (λ b. b ≡ book) }
+    {
+        let (Ok(mut workers), Ok(mut sessions)) = (
+            Vec::with_capacity(alloc, WORKER_SEATS),
+            Vec::with_capacity(alloc, SESSION_SEATS),
+        ) else {
+            return Err(book);
+        };
+        let counts = tally(book.log());
+        let (posts, others) = seat_all(&counts, posts, others, &mut workers, &mut sessions);
+        let kept = Kept {
+            book: Some(book),
+            counts,
+            posts,
+            others,
+        };
+        Ok((kept, Seats { workers, sessions }))
+    }
+
+    /// No book yet, and all seats, which have made nothing. An `Err` is E01.
+    pub fn empty(
+        alloc: A,
+        posts: Blank,
+        others: Blank,
+    ) -> Result<(Kept<L1, L2, A>, Seats<L1, L2, A>), AllocError>
+        requires posts { (posts.name ≡ L1.name) × (posts.parts ≡ L1.parts) × (posts.parts ≡ 32) }
+        requires others { (others.name ≡ L2.name) × (others.parts ≡ L2.parts) × (others.parts ≡ 32) }
+        requires none { L1.loaded ≡ false }
+        ensures book { IfOk result (λ r. r.0 ≡ None) }
+        ensures workers { IfOk result (λ r. AreSeats [] 0 r.1.workers.items) }
+        ensures sessions { IfOk result (λ r. AreSeats [] 16 r.1.sessions.items) }
+    {
+        let mut workers = Vec::with_capacity(alloc, WORKER_SEATS)?;
+        let mut sessions = Vec::with_capacity(alloc, SESSION_SEATS)?;
+        let counts = none_yet();
+        let (posts, others) = seat_all(&counts, posts, others, &mut workers, &mut sessions);
+        let kept = Kept {
+            book: None,
+            counts,
+            posts,
+            others,
+        };
+        Ok((kept, Seats { workers, sessions }))
+    }
+
     /// Whether a seat's counts are those that are kept for its number, which are what it has made.
     pub fn knows(&self, seat: &Seat<L1, L2>) -> bool
         ensures { IsTrue result ↔ HasRightCounts self.now seat.now }
@@ -131,13 +173,6 @@ impl<L1: PostLedger, L2: Ledger, A: Allocator + Copy> Kept<L1, L2, A> {
             counts: _,
             posts: _,
             others: _,
-            holds: _,
-            begun: _,
-            awake: _,
-            resting: _,
-            told: _,
-            together: _,
-            watching: _,
         } = self;
         book
     }
@@ -162,7 +197,7 @@ impl<L1: PostLedger, L2: Ledger, A: Allocator + Copy> Kept<L1, L2, A> {
     }
 
     /// Brings a book with an empty log. It is left where one is there already.
-    pub(crate) fn install(&mut self, book: &mut Option<Book<A>>)
+    pub fn install(&mut self, book: &mut Option<Book<A>>)
         requires { IfSome book.old (λ b. b.log ≡ []) }
         ensures there { self.old ≡ None → (self.new ≡ book.old) × (book.new ≡ None) }
         ensures back { IsSome self.old → (self.new ≡ self.old) × (book.new ≡ book.old) }
@@ -173,7 +208,7 @@ impl<L1: PostLedger, L2: Ledger, A: Allocator + Copy> Kept<L1, L2, A> {
     }
 
     /// Makes a call by a seat, which adds posts or other entries. E26, and E24: then no call is made.
-    pub(crate) fn hold<X, C: Call<A, X> + Drop>(
+    pub fn hold<X, C: Call<A, X> + Drop>(
         &mut self,
         seat: &mut Seat<L1, L2>,
         call: C,
@@ -204,7 +239,7 @@ impl<L1: PostLedger, L2: Ledger, A: Allocator + Copy> Kept<L1, L2, A> {
     }
 
     /// Marks a ticket stray.
-    pub(crate) fn mark_stray(&mut self, ticket: u64) -> Result<(), MarkFault>
+    pub fn mark_stray(&mut self, ticket: u64) -> Result<(), MarkFault>
         ensures { MarksIn self.old ticket result self.new }
     {
         let Some(book) = &mut self.book else {
@@ -217,7 +252,7 @@ impl<L1: PostLedger, L2: Ledger, A: Allocator + Copy> Kept<L1, L2, A> {
     }
 
     /// Takes the least ticket that is marked stray.
-    pub(crate) fn take_stray(&mut self) -> Option<u64>
+    pub fn take_stray(&mut self) -> Option<u64>
         ensures { TakesStrayIn self.old result self.new }
     {
         let Some(book) = &mut self.book else {
@@ -230,7 +265,7 @@ impl<L1: PostLedger, L2: Ledger, A: Allocator + Copy> Kept<L1, L2, A> {
     }
 
     /// The book, for a seat with the counts of what it has made. E26, and E24.
-    pub(crate) fn book_for(&self, seat: &Seat<L1, L2>) -> Result<&Book<A>, HoldFault>
+    pub fn book_for(&self, seat: &Seat<L1, L2>) -> Result<&Book<A>, HoldFault>
         ensures { IsReading (λ b book. book.now ≡ b) self.now seat.now result }
     {
         if !self.knows(seat) {
@@ -241,60 +276,5 @@ impl<L1: PostLedger, L2: Ledger, A: Allocator + Copy> Kept<L1, L2, A> {
         };
         read_headline(book);
         Ok(book)
-    }
-
-    /// Counts a hold. Whether sessions that sleep are to look.
-    pub(crate) fn count_hold(&mut self) -> bool
-        ensures { self.new ≡ self.old }
-    {
-        self.holds = self.holds.wrapping_add(1);
-        self.watching > 0 && self.holds % HOLDS_A_LOOK == 0
-    }
-
-    /// A worker begins to work.
-    pub(crate) fn begin(&mut self)
-        ensures { self.new ≡ self.old }
-    {
-        self.begun = true;
-        self.awake = self.awake.saturating_add(1);
-    }
-
-    /// A worker that works ends.
-    pub(crate) fn end(&mut self)
-        ensures { self.new ≡ self.old }
-    {
-        self.awake = self.awake.saturating_sub(1);
-    }
-
-    /// As many of the workers that rest are told, or all of them, and awake from now on. Returns how many.
-    pub(crate) fn tell(&mut self, most: usize) -> u32
-        ensures { self.new ≡ self.old }
-    {
-        let told = u32::try_from(most).unwrap_or(u32::MAX).min(self.resting);
-        self.resting = self.resting.saturating_sub(told);
-        self.awake = self.awake.saturating_add(told);
-        self.told = self.told.saturating_add(told);
-        told
-    }
-
-    /// A worker that works sleeps.
-    pub(crate) fn rest(&mut self)
-        ensures { self.new ≡ self.old }
-    {
-        self.awake = self.awake.saturating_sub(1);
-        self.resting = self.resting.saturating_add(1);
-    }
-
-    /// A worker that sleeps wakes up. Whether one was told to.
-    pub(crate) fn wake(&mut self) -> bool
-        ensures { self.new ≡ self.old }
-    {
-        if self.told > 0 {
-            self.told -= 1;
-            return true;
-        }
-        self.resting = self.resting.saturating_sub(1);
-        self.awake = self.awake.saturating_add(1);
-        false
     }
 }

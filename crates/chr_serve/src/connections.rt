@@ -3,7 +3,7 @@ ghost use Rattle.std.specs.Prelude.{◌≡◌, ◌≤◌, ◌+◌, Some, None, v
 ghost use Rattle.slab.specs.Slab.{get, slab_len};
 ghost use Rattle.chr_serve.specs.declared.connections.Slot.TheVariants.{Waiting, Served};
 
-use chr_seats::seat::SESSION_SEATS;
+use chr_seats::SESSION_SEATS;
 use slab::Slab;
 use std::alloc::{AllocError, Allocator};
 use std::os::unix::net::UnixStream;

@@ -1,6 +1,6 @@
 //! A server of sessions: up to sixteen at once, on one book that a crew of workers works on.
 //!
-//! [`serve_on`](serving::serve_on) takes connections from a [`Listener`](listener::Listener), which is a Unix socket or a
+//! [`serve_on`] takes connections from a [`Listener`], which is a Unix socket or a
 //! stand-in for one. Each connection has a session of `chr_session`, with a desk of `chr_shared_desk` by a seat and an inlet
 //! that are lent to its thread. A connection that finds no seat is told `fault E18 NoSeat`, and closed. At the end all 32
 //! seats are with their owner, and are audited before they are let go.
@@ -11,16 +11,21 @@
 //! client that doesn't read holds up its own session and nothing else.
 //!
 //! What is promised: over a source and a sink that tell their bytes, a session is a run of the step relation of a desk on a
-//! shared book ([`serve_lent`](session::serve_lent), [`serve_at`](session::serve_at)); a refusal is its line
-//! ([`refuse`](refusal::refuse)); and never more than sixteen connections are live. That descriptors are closed, and that one
+//! shared book ([`serve_lent`], [`serve_at`]); a refusal is its line
+//! ([`refuse`]); and never more than sixteen connections are live. That descriptors are closed, and that one
 //! client doesn't hold up another, is tested.
 #![tactic(auto)]
 
 mod connections;
-pub mod listener;
+mod listener;
 mod members;
 mod patient;
-pub mod refusal;
-pub mod serving;
-pub mod session;
+mod refusal;
+mod serving;
+mod session;
 mod unread;
+
+pub use listener::Listener;
+pub use refusal::{Refusal, refuse};
+pub use serving::{ServerFault, serve_on};
+pub use session::{serve_at, serve_lent};

@@ -2,7 +2,7 @@
 ghost use Rattle.std.specs.Prelude.{◌≡◌, ◌≤◌, ◌+◌, length, vec_len, vec_capacity};
 
 use chr_pool::{Hand, Inlet};
-use chr_seats::seat::{PostLedger, Seat};
+use chr_seats::{PostLedger, Seat};
 use std::alloc::Allocator;
 use std::sync::ledger::Ledger;
 

@@ -1,6 +1,6 @@
 //! How long a client is waited for.
 
-use chr_shared_desk::shared_desk::Patience;
+use chr_shared_desk::Patience;
 use std::io::Write;
 use std::os::unix::net::UnixStream;
 

@@ -7,22 +7,19 @@ ghost use Rattle.chr_serve.specs.Sessions.{SharedStep};
 use crate::patient::WhileConnected;
 use crate::refusal::{Refusal, refuse};
 use crate::unread::discard_unread;
-use chr_crew::rack::Place;
+use chr_crew::Place;
 use chr_pool::Inlet;
-use chr_seats::seat::{PostLedger, Seat};
-use chr_seats::shared::Shared;
-use chr_session::commands::Ended;
-use chr_session::devices::{Sink, Source};
-use chr_session::session::{ServeFault, serve};
-use chr_session::streams::{StreamSink, StreamSource};
-use chr_shared_desk::shared_desk::{LentDesk, Patience, SharedDesk};
+use chr_seats::{PostLedger, Seat};
+use chr_session::{Ended, ServeFault, Sink, Source, StreamSink, StreamSource, serve};
+use chr_shared::Shared;
+use chr_shared_desk::{LentDesk, Patience, SharedDesk};
 use std::alloc::Allocator;
 use std::os::unix::net::UnixStream;
 use std::sync::Wait;
 use std::sync::ledger::Ledger;
 
 /// Serves a session by the seat and the inlet of a place, and gives them back. E25 and E01 come as in
-/// [`serve`](chr_session::session::serve).
+/// [`serve`](chr_session::serve).
 pub fn serve_at<S: Source, W: Sink, R: Wait, L1: PostLedger, L2: Ledger, A: Allocator + Copy>(
     rt: &R,
     alloc: A,
@@ -46,7 +43,7 @@ pub fn serve_at<S: Source, W: Sink, R: Wait, L1: PostLedger, L2: Ledger, A: Allo
 }
 
 /// Serves a session by a desk whose seat and inlet are lent to it. E25 and E01 come as in
-/// [`serve`](chr_session::session::serve).
+/// [`serve`](chr_session::serve).
 pub fn serve_lent<
     S: Source,
     W: Sink,

@@ -1,7 +1,7 @@
 //! Sessions: commands that are read from any source, and replies that are written to any sink.
 //!
-//! [`serve`](session::serve) reads commands until `quit` or the end of the input, has each right one carried out by a
-//! [`Desk`](desk::Desk), and writes each reply before it reads the next command.
+//! [`serve`] reads commands until `quit` or the end of the input, has each right one carried out by a
+//! [`Desk`], and writes each reply before it reads the next command.
 //!
 //! | Command | Reply |
 //! |---|---|
@@ -21,15 +21,23 @@
 //! A session takes memory once, before its first command: its rooms don't grow with the length of the input.
 #![tactic(auto)]
 
-pub mod buffer;
-pub mod commands;
-pub mod desk;
-pub mod devices;
-pub mod failing;
+mod buffer;
+mod commands;
+mod desk;
+mod devices;
+mod failing;
 pub mod laws;
-pub mod lines;
-pub mod memory;
-pub mod parsing;
-pub mod session;
-pub mod streams;
-pub mod writing;
+mod lines;
+mod memory;
+mod parsing;
+mod session;
+mod streams;
+mod writing;
+
+pub use commands::Ended;
+pub use desk::{Command, Desk, Fault, Reply};
+pub use devices::{Sink, Source};
+pub use failing::{FailingSink, FailingSource};
+pub use memory::{MemorySink, MemorySource};
+pub use session::{ServeFault, serve};
+pub use streams::{StreamSink, StreamSource};

@@ -2,19 +2,17 @@
 -- by the reply: others work on it.
 use Rattle.std.specs.Prelude.{◌≡◌, ◌+◌, ◌-◌, ℕ, List, [], true, false, map, length, drop, Option, Some, None, Result, Ok, Err}
 use Rattle.chr_value.specs.declared.label.TheConstants.{GREATEST_LABEL}
-use Rattle.chr_rule.specs.Rules.{Simpagation}
 use Rattle.chr_lex.specs.declared.fault.ReadError.{ReadError}
 use Rattle.chr_lex.specs.declared.fault.ReadError.TheVariants as errors
 use Rattle.chr_log.specs.Events.{event_by_texts, labelled_by_texts, labelled_atoms}
 use Rattle.chr_log.specs.LogText.{entries_text, store_text}
 use Rattle.chr_text.specs.Reading.{program_of}
 use Rattle.chr_calls.specs.Books.{BookState, events}
-use Rattle.chr_book.specs.Books.{IsOpened}
-use Rattle.chr_book.specs.Texts.{PostsText}
+use Rattle.chr_book.specs.Texts.{IsOpenText, PostsText}
 use Rattle.chr_book.specs.declared.texts.Posted.{Posted as PostedTickets}
 use Rattle.chr_seats.specs.Accounts.{SeatState}
 use Rattle.chr_seats.specs.Holds.{MakesNoCall, Reads, WasHold, WasReading}
-use Rattle.chr_seats.specs.Readings.{SaysQuiet}
+use Rattle.chr_shared.specs.Readings.{SaysQuiet}
 use Rattle.chr_seats.specs.declared.answers.HoldFault.{HoldFault}
 use Rattle.chr_seats.specs.declared.answers.HoldFault.TheVariants.{WrongSeat, NoBook}
 use Rattle.chr_session.specs.declared.desk.Fault.{Fault as FaultKind}
@@ -27,14 +25,11 @@ WasRefused seat faults.WrongSeat = (book : Option BookState) × MakesNoCall book
 WasRefused seat faults.NoProgram = (book : Option BookState) × MakesNoCall book seat NoBook
 WasRefused seat other = ⊥
 
--- the rules of a text, and the book that is opened with them and is under the lock from then on
+-- a book of the rules of a text, which are so many, is under the lock from then on
 pub record IsLoaded (text : List ℕ) (count : ℕ) : Type 0 where
-  pub rules : List (Simpagation ℕ)
-  pub table : List (List ℕ)
-  pub reads : program_of [] text ≡ Ok (rules, table)
-  pub count_is : count ≡ length rules
   pub book : BookState
-  pub opens : IsOpened rules table GREATEST_LABEL book
+  pub opens : IsOpenText text GREATEST_LABEL book
+  pub count_is : count ≡ length opens.read.rules
 
 -- a text is loaded, or it has a fault, or memory ran out, or a program stands already
 abbrev pub BringReplies : List ℕ → Reply → Type 0

@@ -1,10 +1,11 @@
 //! The desk of a session on a book that others share.
 //!
-//! [`SharedDesk`](shared_desk::SharedDesk) makes its entries by a seat of a [`Shared`](chr_seats::shared::Shared) book, and
-//! pushes the tickets of its posts on an inlet of the workers' pool. A load brings a book where none is there yet (E20).
-//! `wait` looks at the book until it is quiet, so often at most, and sleeps between two looks while a worker is awake,
-//! through fewer than 128 holds of the lock. Where none is awake it tells the workers once to look again, and then it ends.
-//! `store` and `log` are read in one hold of the lock.
+//! [`SharedDesk`] makes its entries by a seat of a [`Shared`](chr_shared::Shared) book, and
+//! pushes the tickets of its posts on an inlet of the workers' pool. [`LentDesk`] does so by a seat
+//! and an inlet that are lent to it, and waits as long as its [`Patience`] lasts. A load brings a
+//! book where none is there yet (E20). `wait` looks at the book until it is quiet, so often at most, and sleeps between two
+//! looks while a worker is awake, through fewer than 128 holds of the lock. Where none is awake it tells the workers once to
+//! look again, and then it ends. `store` and `log` are read in one hold of the lock.
 //!
 //! What is promised: each reply, and the counts of the seat after it, are those of the step relation of this desk. A reply
 //! `posted F n` raises the seat's posts by n, in a hold in which the book answered the call of this seat with this text;
@@ -13,4 +14,6 @@
 //! only to a seat that has made nothing.
 #![tactic(auto)]
 
-pub mod shared_desk;
+mod shared_desk;
+
+pub use shared_desk::{LentDesk, Patience, SharedDesk};

@@ -4,16 +4,13 @@ ghost use Rattle.chr_pool.specs.Inlets.{inlet_id};
 ghost use Rattle.chr_session.specs.Commands.{Refused, reply_of, command_of};
 ghost use Rattle.chr_shared_desk.specs.SharedReplies.{IsLoaded, BringReplies, LoadReplies, PostReplies, WaitReplies, StoreReplies, LogReplies, SharedReplies, posted_by};
 
-use chr_book::book::{Book, OpenFault};
+use chr_book::Book;
 use chr_lex::fault::ReadError;
 use chr_pool::Inlet;
-use chr_seats::answers::HoldFault;
-use chr_seats::seat::{PostLedger, Seat};
-use chr_seats::shared::Shared;
-use chr_session::desk::{Command, Desk, Fault, Reply};
-use chr_text::reading::read_program;
-use chr_value::label::GREATEST_LABEL;
-use chr_value::names::Names;
+use chr_seats::{HoldFault, PostLedger, Seat};
+use chr_session::{Command, Desk, Fault, Reply};
+use chr_shared::Shared;
+use chr_value::GREATEST_LABEL;
 use std::alloc::Allocator;
 use std::marker::Model;
 use std::sync::Wait;
@@ -25,16 +22,10 @@ fn read_book<A: Allocator + Copy>(alloc: A, text: &[u8]) -> Result<(Book<A>, usi
     ensures loaded { IfOk result (λ r. IsLoaded text.now r.1) }
     ensures fault { IfErr result (λ fault. BringReplies text.now (Refused fault)) }
 {
-    let mut names = Names::new(alloc);
-    match read_program(alloc, text, &mut names) {
-        Ok(program) => {
-            let count = program.len();
-            match Book::new(alloc, program, names, GREATEST_LABEL) {
-                Ok(book) => Ok((book, count)),
-                Err(OpenFault::NoMemory) => Err(Fault::NoMemory),
-                // The table has the names of the text that was read with it.
-                Err(OpenFault::UnknownName) => unreachable!(),
-            }
+    match Book::of_text(alloc, text, GREATEST_LABEL) {
+        Ok(book) => {
+            let count = book.program().len();
+            Ok((book, count))
         }
         Err(ReadError::Memory) => Err(Fault::NoMemory),
         Err(ReadError::Fault(fault)) => Err(Fault::Reading(fault)),

@@ -1,6 +1,6 @@
 //! `chr serve`.
 use chr_commands::{Detail, Status, report_failure, report_no_memory};
-use chr_serve::serving::{ServerFault, serve_on};
+use chr_serve::{ServerFault, serve_on};
 use std::fmt::{Display, Formatter};
 use std::net::Net;
 use std::os::unix::fs::{FileTypeExt, MetadataExt};

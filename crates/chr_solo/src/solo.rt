@@ -14,9 +14,9 @@ ghost use Rattle.chr_solo.specs.Solo.{IsSolo, IsCutShort, SoloCall, SoloRun, Kno
 ghost use Rattle.chr_solo.specs.SoloCode.{known_of, IsAware, SoloSoFar};
 ghost use Rattle.chr_solo.specs.declared.solo.End.TheVariants as ends;
 
-use chr_book::book::Book;
-use chr_calls::answers::{ClaimFault, DropFault, FireFault, TicketState, Turn, TurnFault};
-use chr_search::judged::{Judged, Verdict, judge};
+use chr_book::Book;
+use chr_calls::{ClaimFault, DropFault, FireFault, TicketState, Turn, TurnFault};
+use chr_search::{Judged, Verdict, judge};
 use chr_watch::{Unwatched, Watch};
 use std::alloc::{AllocError, Allocator};
 

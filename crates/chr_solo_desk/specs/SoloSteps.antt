@@ -1,6 +1,5 @@
 -- What a desk of one seat replies, and the book that it has then.
 use Rattle.std.specs.Prelude.{◌≡◌, ◌-◌, ℕ, List, [], map, length, drop, Option, Some, None, Ok, Err}
-use Rattle.chr_rule.specs.Rules.{Simpagation}
 use Rattle.chr_lex.specs.declared.fault.ReadError.TheVariants as errors
 use Rattle.chr_log.specs.Events.{Event, event_by_texts, labelled_by_texts, labelled_atoms}
 use Rattle.chr_log.specs.LogText.{entries_text, store_text}
@@ -11,10 +10,8 @@ use Rattle.chr_text.specs.Reading.{program_of}
 use Rattle.chr_calls.specs.Tickets.{AreQuiet}
 use Rattle.chr_calls.specs.Books.{BookState, events}
 use Rattle.chr_calls.specs.Headline.{Headline}
-use Rattle.chr_book.specs.Books.{IsOpened}
-use Rattle.chr_book.specs.Texts.{PostsText}
+use Rattle.chr_book.specs.Texts.{IsOpenText, PostsText}
 use Rattle.chr_solo.specs.Solo.{IsSolo, IsCutShort}
-use Rattle.chr_session.specs.declared.desk.Fault.{Fault}
 use Rattle.chr_session.specs.declared.desk.Fault.TheVariants as faults
 use Rattle.chr_session.specs.Commands.{Command, Load, Post, Wait, Store, Log, Reply, Loaded, Posted, Quiet, Open, Stored, Logged, Refused}
 
@@ -22,27 +19,12 @@ use Rattle.chr_session.specs.Commands.{Command, Load, Post, Wait, Store, Log, Re
 abbrev pub seat : ℕ
 seat = 0
 
--- the rules of a text, and the book that is opened with them
+-- there is a book of the rules of a text, which are so many
 pub record IsLoaded (limit : ℕ) (text : List ℕ) (count : ℕ) (new : Option BookState) : Type 0 where
-  pub rules : List (Simpagation ℕ)
-  pub table : List (List ℕ)
-  pub reads : program_of [] text ≡ Ok (rules, table)
-  pub count_is : count ≡ length rules
   pub book : BookState
-  pub opens : IsOpened rules table limit book
+  pub opens : IsOpenText text limit book
+  pub count_is : count ≡ length opens.read.rules
   pub after : new ≡ Some book
-
--- a book opened with the rules of a text, and why there is none
-pub record OpensText (limit : ℕ) (text : List ℕ) (b : BookState) : Type 0 where
-  pub rules : List (Simpagation ℕ)
-  pub table : List (List ℕ)
-  pub reads : program_of [] text ≡ Ok (rules, table)
-  pub opens : IsOpened rules table limit b
-
-abbrev pub RefusesText : List ℕ → Fault → Type 0
-RefusesText text (faults.Reading fault) = program_of [] text ≡ Err fault
-RefusesText text faults.NoMemory = Unit {0}
-RefusesText text other = ⊥
 
 -- a text is loaded, or it has a fault, or memory ran out: then there is no program as before
 abbrev pub LoadsText : ℕ → List ℕ → Reply → Option BookState → Type 0

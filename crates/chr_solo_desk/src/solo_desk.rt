@@ -1,20 +1,14 @@
 //! The desk, and the replies to each command.
-ghost use Rattle.std.specs.Prelude.{◌≡◌, ◌≤◌, ℕ, None, Some, IfOk, IfErr, vec_len};
+ghost use Rattle.std.specs.Prelude.{◌≡◌, ◌≤◌, ℕ, None, Some, vec_len};
 ghost use Rattle.chr_calls.specs.Books.{BookState};
-ghost use Rattle.chr_named.specs.Named.{RulesAreNamed};
-ghost use Rattle.chr_book.specs.Books.{IsOpened};
-ghost use Rattle.chr_session.specs.declared.desk.Fault.TheVariants as faults;
 ghost use Rattle.chr_session.specs.Commands.{reply_of, command_of};
-ghost use Rattle.chr_solo_desk.specs.SoloSteps.{OpensText, RefusesText, LoadsText, PostReplies, WaitReplies, StoreReplies, LogReplies, BookReplies, SoloReplies};
+ghost use Rattle.chr_solo_desk.specs.SoloSteps.{LoadsText, PostReplies, WaitReplies, StoreReplies, LogReplies, BookReplies, SoloReplies};
 
-use chr_book::book::{Book, OpenFault};
+use chr_book::Book;
 use chr_lex::fault::ReadError;
-use chr_rule::program::Program;
-use chr_session::desk::{Command, Desk, Fault, Reply};
-use chr_solo::solo::{End, solo_steps};
-use chr_store::store::Label;
-use chr_text::reading::read_program;
-use chr_value::names::Names;
+use chr_session::{Command, Desk, Fault, Reply};
+use chr_solo::{End, solo_steps};
+use chr_store::Label;
 use std::alloc::Allocator;
 use std::marker::Model;
 
@@ -30,40 +24,8 @@ pub struct SoloDesk<A: Allocator> {
     book: Option<Book<A>>,
 }
 
-/// A book of these rules, which have their names in the table. An `Err` is E01.
-fn open_with<A: Allocator + Copy>(
-    alloc: A,
-    limit: Label,
-    program: Program<A>,
-    names: Names<A>,
-) -> Result<Book<A>, Fault>
-    requires limit { limit ≤ 4294967295 }
-    requires named { RulesAreNamed names program }
-    ensures ok { IfOk result (IsOpened program names limit) }
-    ensures err { IfErr result (λ fault. fault ≡ faults.NoMemory) }
-{
-    match Book::new(alloc, program, names, limit) {
-        Ok(book) => Ok(book),
-        Err(OpenFault::NoMemory) => Err(Fault::NoMemory),
-        Err(OpenFault::UnknownName) => unreachable!(),
-    }
-}
-
-/// A book of the rules of a text. E02 to E09 with their line for a text that has a fault, and E01.
-fn open<A: Allocator + Copy>(alloc: A, limit: Label, text: &[u8]) -> Result<Book<A>, Fault>
-    requires { limit ≤ 4294967295 }
-    ensures ok { IfOk result (OpensText limit text.now) }
-    ensures err { IfErr result (RefusesText text.now) }
-{
-    let mut names = Names::new(alloc);
-    match read_program(alloc, text, &mut names) {
-        Ok(program) => open_with(alloc, limit, program, names),
-        Err(ReadError::Memory) => Err(Fault::NoMemory),
-        Err(ReadError::Fault(fault)) => Err(Fault::Reading(fault)),
-    }
-}
-
-/// Opens a book of the rules of a text, where there is none. After a refusal there is none still.
+/// Opens a book of the rules of a text, where there is none. E02 to E09 with their line for a text that has a fault, and E01:
+/// then there is none still.
 fn load<A: Allocator + Copy>(
     alloc: A,
     limit: Label,
@@ -74,13 +36,14 @@ fn load<A: Allocator + Copy>(
     requires limit { limit ≤ 4294967295 }
     ensures { LoadsText limit text.now (reply_of result) book.new }
 {
-    match open(alloc, limit, text) {
-        Ok(made) => {
-            let count = made.program().len();
-            *book = Some(made);
+    match Book::of_text(alloc, text, limit) {
+        Ok(opened) => {
+            let count = opened.program().len();
+            *book = Some(opened);
             Reply::Loaded(count)
         }
-        Err(fault) => Reply::Fault(fault),
+        Err(ReadError::Memory) => Reply::Fault(Fault::NoMemory),
+        Err(ReadError::Fault(fault)) => Reply::Fault(Fault::Reading(fault)),
     }
 }
 
@@ -148,12 +111,13 @@ fn ask_book<A: Allocator + Copy>(alloc: A, book: &mut Book<A>, command: Command<
 impl<A: Allocator> Model for SoloDesk<A> {
     ghost use Rattle.std.specs.Prelude.{◌≤◌, ℕ, Option};
     ghost use Rattle.std.specs.Coded.{codes};
+    ghost use Rattle.chr_value.specs.Code.{value_code};
     ghost use Rattle.chr_rule.specs.Code.{expression_code};
     ghost use Rattle.chr_calls.specs.Books.{BookState};
 
     ghost Value = { ℕ × Option BookState };
 
-    ghost coded = { Prim.hlevel (codes, expression_code) };
+    ghost coded = { Prim.hlevel (codes, expression_code, value_code) };
 
     ghost view = { λ d. (d.limit, d.book) };
 

@@ -4,7 +4,7 @@ use Rattle.std.specs.Ordering.{int_eq}
 use Rattle.std.specs.List.{list_any}
 use Rattle.std.specs.Hash as fed
 use Rattle.chr_value.specs.declared.atom.Value.TheVariants as values
-use Rattle.chr_value.specs.Atoms.{Value, Int, Sym, Atom, ground}
+use Rattle.chr_value.specs.Atoms.{Value, Int, Sym, Comp, Args, Nil, Cons, Atom, ground}
 use Rattle.chr_value.specs.declared.atom.Pred.{Pred}
 use Rattle.chr_value.specs.declared.atom.Value.{Value as CodeValue}
 use Rattle.chr_store.specs.declared.keys.Key.{Key}
@@ -37,11 +37,24 @@ pub record IsKeyAt (a : Atom ℕ) (n : ℕ) (k : Key) : Type 0 where
   pub place : k.place ≡ n
   pub value : value_at a n ≡ Some (ground k.value)
 
-abbrev pub same_term : Value ℕ → Value ℕ → Bool
-same_term (Int y) (Int z) = int_eq y z
-same_term (Int y) (Sym s) = false
-same_term (Sym r) (Int z) = false
-same_term (Sym r) (Sym s) = nat_eq r s
+-- whether two terms are equal
+abbrev mutual
+  pub same_term : Value ℕ → Value ℕ → Bool
+  same_term (Int y) (Int z) = int_eq y z
+  same_term (Int y) (Sym s) = false
+  same_term (Int y) (Comp s vs) = false
+  same_term (Sym r) (Int z) = false
+  same_term (Sym r) (Sym s) = nat_eq r s
+  same_term (Sym r) (Comp s vs) = false
+  same_term (Comp r us) (Int z) = false
+  same_term (Comp r us) (Sym s) = false
+  same_term (Comp r us) (Comp s vs) = nat_eq r s && same_args us vs
+
+  pub same_args : Args ℕ → Args ℕ → Bool
+  same_args Nil Nil = true
+  same_args Nil (Cons v vs) = false
+  same_args (Cons u us) Nil = false
+  same_args (Cons u us) (Cons v vs) = same_term u v && same_args us vs
 
 -- whether two keys are equal
 abbrev pub same_key : Key → Key → Bool

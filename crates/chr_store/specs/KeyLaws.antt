@@ -1,24 +1,46 @@
 -- Equality of keys.
 use Rattle.std.specs.Prelude.{◌≡◌, ℕ, ℤ, ◌++◌, true, false, IsTrue}
-use Rattle.std.proofs.Common.{refl, sym, ap, subst, ◌∙◌}
+use Rattle.std.proofs.Common.{refl, sym, ap, ap₂, subst, ◌∙◌}
 use Rattle.std.proofs.lemmas.Bool.{and_parts, eq-eqb, eqb-true}
 use Rattle.std.specs.Cmp.{IsEquivalence, signed_Decides}
 use Rattle.std.specs.Hash as fed
-use Rattle.chr_value.specs.Atoms.{Value, Int, Sym, ground}
+use Rattle.chr_value.specs.Atoms.{Value, Int, Sym, Comp, Args, Nil, Cons, ground}
 use Rattle.chr_value.specs.declared.atom.Value.{Value as CodeValue}
 use Rattle.chr_value.specs.declared.atom.Value.TheVariants as values
 use Rattle.chr_store.specs.declared.keys.Key.{Key}
-use Rattle.chr_store.specs.Index.{same_key, same_term, key_word, value_input}
+use Rattle.chr_store.specs.Index.{same_key, same_term, same_args, key_word, value_input}
 
-pub same_term_refl : (t : Value ℕ) → same_term t t ≡ true
-same_term_refl (Int z) = (signed_Decides z z).1 refl
-same_term_refl (Sym s) = eq-eqb s s refl
+mutual
+  pub same_term_refl : (t : Value ℕ) → same_term t t ≡ true
+  same_term_refl (Int z) = (signed_Decides z z).1 refl
+  same_term_refl (Sym s) = eq-eqb s s refl
+  same_term_refl (Comp s vs) = rw (eq-eqb s s refl) (same_args_refl vs)
 
-pub same_term_true : (t u : Value ℕ) → same_term t u ≡ true → t ≡ u
-same_term_true (Int y) (Int z) h = let e : y ≡ z = (signed_Decides y z).0 h in ap (λ (w : ℤ). Int w) e
-same_term_true (Int y) (Sym s) h = cc
-same_term_true (Sym r) (Int z) h = cc
-same_term_true (Sym r) (Sym s) h = ap (λ (n : ℕ). Sym n) (eqb-true r s h)
+  same_args_refl : (vs : Args ℕ) → same_args vs vs ≡ true
+  same_args_refl Nil = refl
+  same_args_refl (Cons v vs) = rw (same_term_refl v) (same_args_refl vs)
+
+mutual
+  pub same_term_true : (t u : Value ℕ) → same_term t u ≡ true → t ≡ u
+  same_term_true (Int y) (Int z) h = let e : y ≡ z = (signed_Decides y z).0 h in ap (λ (w : ℤ). Int w) e
+  same_term_true (Int y) (Sym s) h = cc
+  same_term_true (Int y) (Comp s vs) h = cc
+  same_term_true (Sym r) (Int z) h = cc
+  same_term_true (Sym r) (Sym s) h = ap (λ (n : ℕ). Sym n) (eqb-true r s h)
+  same_term_true (Sym r) (Comp s vs) h = cc
+  same_term_true (Comp r us) (Int z) h = cc
+  same_term_true (Comp r us) (Sym s) h = cc
+  same_term_true (Comp r us) (Comp s vs) h =
+      let p = and_parts _ _ h in
+      ap₂ (λ (n : ℕ) (ws : Args ℕ). Comp n ws) (eqb-true r s p.0) (same_args_true us vs p.1)
+
+  same_args_true : (us vs : Args ℕ) → same_args us vs ≡ true → us ≡ vs
+  same_args_true Nil Nil h = refl
+  same_args_true Nil (Cons v vs) h = cc
+  same_args_true (Cons u us) Nil h = cc
+  same_args_true (Cons u us) (Cons v vs) h =
+      let p = and_parts _ _ h in
+      ap₂ (λ (w : Value ℕ) (ws : Args ℕ). Cons w ws) (same_term_true u v p.0) (same_args_true us vs p.1)
 
 pub ground_one : (v w : CodeValue) → ground v ≡ ground w → v ≡ w
 ground_one (values.Int y) (values.Int z) h = let e : y ≡ z = cc in ap (λ (w : ℤ). values.Int w) e

@@ -6,8 +6,7 @@ ghost use Rattle.std.specs.Map.Iter.{TakesFirst};
 ghost use Rattle.chr_value.specs.Stores.{atom_at, drop_label};
 ghost use Rattle.chr_store.specs.Table.{IsSlotOf, atom_of, shown};
 
-use chr_value::atom::Atom;
-use chr_value::label::Label;
+use chr_value::{Atom, Label};
 use std::alloc::{AllocError, Allocator};
 use std::marker::Model;
 
@@ -24,10 +23,14 @@ pub struct Atoms<A: Allocator> {
 
 impl<A: Allocator> Model for Atoms<A> {
     ghost use Rattle.std.specs.Prelude.{◌+◌, length};
+    ghost use Rattle.std.specs.Coded.{codes};
+    ghost use Rattle.chr_value.specs.Code.{value_code};
     ghost use Rattle.chr_store.specs.Labels.{GivenAtoms};
     ghost use Rattle.chr_store.specs.Table.{entries_from, held, IsTable};
 
     ghost Value = { GivenAtoms };
+
+    ghost coded = { Prim.hlevel (codes, value_code) };
 
     ghost view = { λ a. record { entries = entries_from 1 (held a.slots.items); next = length a.slots.items + 1 } };
 
@@ -169,10 +172,14 @@ pub struct Constraints<'s, A: Allocator> {
 
 impl<'s, A: Allocator> Model for Constraints<'s, A> {
     ghost use Rattle.std.specs.Prelude.{◌+◌, ◌≤◌, length};
+    ghost use Rattle.std.specs.Coded.{codes};
     ghost use Rattle.chr_value.specs.Stores.{Store};
+    ghost use Rattle.chr_value.specs.Code.{value_code};
     ghost use Rattle.chr_store.specs.Table.{entries_from, held};
 
     ghost Value = { Store };
+
+    ghost coded = { Prim.hlevel (codes, value_code) };
 
     ghost view = { λ c. entries_from c.label (held c.slots.now) };
 

@@ -11,7 +11,7 @@ use crate::chosen::Chosen;
 use crate::keys::{Key, key_at, own_key};
 use crate::labels::Labels;
 use crate::rows::row_of_key;
-use chr_value::atom::Atom;
+use chr_value::Atom;
 use std::alloc::{AllocError, Allocator};
 use std::collections::HashMap;
 use std::hash::{BuildHasherDefault, FoldHasher};

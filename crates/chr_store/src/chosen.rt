@@ -4,7 +4,7 @@ ghost use Rattle.chr_store.specs.Index.{chosen};
 ghost use Rattle.chr_store.specs.Marks.{IsMarkOf, IsMarked, mark_at};
 
 use crate::rows::row_of;
-use chr_value::atom::Pred;
+use chr_value::Pred;
 use std::alloc::{AllocError, Allocator};
 use std::marker::Model;
 

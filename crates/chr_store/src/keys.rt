@@ -2,7 +2,7 @@
 ghost use Rattle.std.specs.Prelude.{◌≡◌, ◌<◌, ◌≤◌, length};
 ghost use Rattle.chr_store.specs.Index.{IsKeyAt, own_key};
 
-use chr_value::atom::{Atom, Pred, Value};
+use chr_value::{Atom, Pred, Value};
 use std::alloc::Allocator;
 use std::hash::{Hash, Hasher};
 

@@ -1,32 +1,35 @@
 //! The store: constraints under labels.
 //!
-//! A [`Store`](store::Store) is a map from labels to atoms. Labels are given from 1 on, each once, up to a limit, so
-//! two equal constraints have two labels and a removed label never comes back. [`next_at`](store::Store::next_at)
+//! A [`Store`] is a map from labels to atoms. Labels are given from 1 on, each once, up to a limit, so
+//! two equal constraints have two labels and a removed label never comes back. [`next_at`](Store::next_at)
 //! finds the least label in a range whose atom has a predicate and, where one is asked for, a value at a place.
 //! A store keeps each atom in a slot of its label, so looking one up takes no search. The atom's memory goes when it is
 //! removed, and 16 bytes for its label stay.
 //! It also keeps the labels of each predicate in order, and, for each place that
-//! [`indexed`](store::Store::indexed) is given, those of each predicate and value there. So `next_at` takes a hash, or
+//! [`indexed`](Store::indexed) is given, those of each predicate and value there. So `next_at` takes a hash, or
 //! for a predicate alone a look-up in a table, and a binary search; with a key at another place it goes through the labels
-//! of the predicate. [`matches`](store::Store::matches) looks the key up once, and going on from the label found last
+//! of the predicate. [`matches`](Store::matches) looks the key up once, and going on from the label found last
 //! takes no search.
-//! [`spend_label`](store::Store::spend_label) gives a label to no atom, as where one is entered and removed at once.
-//! [`indexed`](store::Store::indexed), [`insert`](store::Store::insert), [`insert_copy`](store::Store::insert_copy),
-//! [`spend_label`](store::Store::spend_label) and [`copy`](store::Store::copy) take memory, no other call does.
+//! [`spend_label`](Store::spend_label) gives a label to no atom, as where one is entered and removed at once.
+//! [`indexed`](Store::indexed), [`insert`](Store::insert), [`insert_copy`](Store::insert_copy),
+//! [`spend_label`](Store::spend_label) and [`copy`](Store::copy) take memory, no other call does.
 //!
-//! A [`View`](view::View) is a store in which labels are looked for that are older than an active one. It can show an atom
+//! A [`View`] is a store in which labels are looked for that are older than an active one. It can show an atom
 //! under the next label before that atom is entered, so a search for its partners needs no copy of it in the store.
 //!
 //! Contracts see a store as the list of its labels with their atoms, which rises, with the next label and the limit. They see
 //! a view as such a store, with the atom that it shows, and the active label.
 #![tactic(auto)]
 
-pub mod atoms;
-pub mod bucket;
-pub mod buckets;
-pub mod chosen;
-pub mod keys;
-pub mod labels;
-pub mod rows;
-pub mod store;
-pub mod view;
+mod atoms;
+mod bucket;
+mod buckets;
+mod chosen;
+mod keys;
+mod labels;
+mod rows;
+mod store;
+mod view;
+
+pub use store::{Label, Matches, Store, StoreFault};
+pub use view::View;

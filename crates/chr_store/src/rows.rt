@@ -3,7 +3,7 @@ ghost use Rattle.std.specs.Prelude.{◌≡◌};
 ghost use Rattle.chr_store.specs.Rows.{row_of, row_of_key};
 
 use crate::keys::Key;
-use chr_value::atom::{Pred, Value};
+use chr_value::{Pred, Value};
 
 /// How many names have rows: those with the lowest numbers. A table has no more than this many times [`ARITIES`].
 const NAMES: u32 = 1024;

@@ -19,9 +19,8 @@ use crate::buckets::{Buckets, enter, leave, next_of};
 use crate::chosen::Chosen;
 use crate::keys::{Key, own_key};
 use crate::labels::Labels;
-use chr_value::atom::{Atom, Pred, Value};
-use chr_value::label::GREATEST_LABEL;
-pub use chr_value::label::Label;
+pub use chr_value::Label;
+use chr_value::{Atom, GREATEST_LABEL, Pred, Value};
 use std::alloc::{AllocError, Allocator};
 use std::marker::Model;
 
@@ -57,10 +56,14 @@ pub struct Store<A: Allocator> {
 }
 
 impl<A: Allocator> Model for Store<A> {
+    ghost use Rattle.std.specs.Coded.{codes};
+    ghost use Rattle.chr_value.specs.Code.{value_code};
     ghost use Rattle.chr_store.specs.Labels.{LabelledStore};
     ghost use Rattle.chr_store.specs.Indexed.{IsIndexed};
 
     ghost Value = { LabelledStore };
+
+    ghost coded = { Prim.hlevel (codes, value_code) };
 
     ghost view = { λ s. record { entries = s.atoms.entries; next = s.atoms.next; limit = s.limit } };
 

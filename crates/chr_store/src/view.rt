@@ -7,8 +7,7 @@ ghost use Rattle.chr_store.specs.Keys.{key_of, IsLeastMatch};
 ghost use Rattle.chr_store.specs.Labels.{IsLabelled, entered};
 
 use crate::store::{Matches, Store};
-use chr_value::atom::{Atom, Pred, Value};
-use chr_value::label::Label;
+use chr_value::{Atom, Label, Pred, Value};
 use std::alloc::Allocator;
 use std::marker::Model;
 
@@ -23,9 +22,13 @@ pub struct View<'s, A: Allocator> {
 
 impl<'s, A: Allocator> Model for View<'s, A> {
     ghost use Rattle.std.specs.Option.{option_copied};
+    ghost use Rattle.std.specs.Coded.{codes};
+    ghost use Rattle.chr_value.specs.Code.{value_code};
     ghost use Rattle.chr_store.specs.Views.{Seen, seen_with, IsSeen};
 
     ghost Value = { Seen };
+
+    ghost coded = { Prim.hlevel (codes, value_code) };
 
     ghost view = { λ v. record { store = seen_with v.store.now (option_copied v.fresh); active = v.active } };
 

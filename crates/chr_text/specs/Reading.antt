@@ -1,5 +1,5 @@
 -- What a text of rules and a text of posts say, or the first fault.
-use Rattle.std.specs.Prelude.{ℕ, List, [], ◌∷◌, ◌++◌, map, length, nat_lt, nat_le, if◌then◌else◌, Result, Ok, Err}
+use Rattle.std.specs.Prelude.{◌≡◌, ℕ, List, [], ◌∷◌, ◌++◌, map, length, nat_lt, nat_le, if◌then◌else◌, Result, Ok, Err}
 use Rattle.chr_lex.specs.declared.fault.Kind.{Kind}
 use Rattle.chr_lex.specs.declared.fault.Kind.TheVariants.{TooLong, BadByte, Syntax}
 use Rattle.chr_lex.specs.declared.fault.ReadFault.{ReadFault}
@@ -50,6 +50,12 @@ with_item so_far e = item_lexemes e >>= statement_of >>= with_statement so_far
 -- The rules of a text, over a table of names.
 abbrev pub program_of : Table → List ℕ → Result Program ReadFault
 program_of table bytes = of_text with_item ([], table) bytes
+
+-- what a text of rules gives: the rules, and the table of their names
+pub record RulesOf (text : List ℕ) : Type 0 where
+  pub rules : List (Simpagation ℕ)
+  pub table : List (List ℕ)
+  pub reads : program_of [] text ≡ Ok (rules, table)
 
 -- ---- posts
 

@@ -19,20 +19,12 @@ ghost use Rattle.chr_text.specs.Tables.{Table, Keeps};
 
 use crate::naming::number_name;
 use arrayvec::ArrayVec;
-use chr_grammar::body::BodyMember;
-use chr_grammar::expression::ParsedExpression;
-use chr_grammar::guard::GuardMember;
-use chr_grammar::phrase::ParsedAtom;
-use chr_grammar::rule::ParsedRule;
+use chr_grammar::{BodyMember, GuardMember, ParsedAtom, ParsedExpression, ParsedRule};
+use chr_lex::Word;
 use chr_lex::fault::ItemError;
-use chr_lex::token::Word;
-use chr_limits::number::int_in_range;
-use chr_limits::variables::{Seen, is_seen};
-use chr_rule::expression::{BodyItem, Comparison, Expr, Operator};
-use chr_rule::rule::Rule;
-use chr_rule::rule_atom::{RuleAtom, Term};
-use chr_value::atom::Value;
-use chr_value::names::Names;
+use chr_limits::{Seen, int_in_range, is_seen};
+use chr_rule::{BodyItem, Comparison, Expr, Operator, Rule, RuleAtom, Term};
+use chr_value::{Names, Value};
 use std::alloc::{AllocError, Allocator};
 
 /// The place of a variable among those that were seen.

@@ -1,6 +1,6 @@
 //! The readers of rule text and of posts.
 //!
-//! [`read_program`](reading::read_program) gives the rules of a text, [`read_atoms`](reading::read_atoms) the atoms of
+//! [`read_program`] gives the rules of a text, [`read_atoms`] the atoms of
 //! posts. A text is read in phases: comments are taken out, items and tokens found, and each item is parsed by the
 //! grammar; then the limits and the scope of its variables are tested, and last its names are numbered. A
 //! fault is that of the first faulty item: its kind and the line of the item's first byte. After any refusal, want of memory
@@ -16,4 +16,6 @@ mod build;
 pub mod laws;
 mod naming;
 mod posts;
-pub mod reading;
+mod reading;
+
+pub use reading::{MOST_BYTES, read_atoms, read_program};

@@ -10,8 +10,7 @@ ghost use Rattle.chr_text.specs.Numbering.{or_full};
 ghost use Rattle.chr_text.specs.Tables.{Table, Keeps};
 
 use chr_lex::fault::{ItemError, Kind};
-use chr_value::names::{Name, Names, NamesFault};
-use chr_value::naming::name_number;
+use chr_value::{Name, Names, NamesFault, name_number};
 use std::alloc::Allocator;
 use std::str;
 

@@ -12,12 +12,11 @@ ghost use Rattle.chr_text.specs.Translation.{term as term_of, atom_by_texts};
 ghost use Rattle.chr_text.specs.Tables.{Table, Keeps};
 
 use crate::naming::number_name;
-use chr_grammar::phrase::ParsedAtom;
+use chr_grammar::ParsedAtom;
+use chr_lex::Word;
 use chr_lex::fault::ItemError;
-use chr_lex::token::Word;
-use chr_limits::number::int_in_range;
-use chr_value::atom::{Atom, Value};
-use chr_value::names::Names;
+use chr_limits::int_in_range;
+use chr_value::{Atom, Names, Value};
 use std::alloc::Allocator;
 
 /// A name's number or a number.

@@ -12,17 +12,12 @@ ghost use Rattle.chr_text.specs.Tables.{Table, Keeps};
 
 use crate::build::number_rule;
 use crate::posts::number_posts;
-use chr_grammar::phrase::parse_phrases;
-use chr_grammar::rule::ParsedRule;
-use chr_grammar::statement::{Statement, parse_statement};
+use chr_grammar::{ParsedRule, Statement, parse_phrases, parse_statement};
 use chr_lex::fault::{ItemError, Kind, ReadError, ReadFault};
-use chr_lex::item::{Item, next_item};
-use chr_lex::plain::{has_bad_byte, plain_text};
-use chr_lex::token::{Token, tokens};
-use chr_limits::judging::{judge_declaration, judge_post, judge_rule};
-use chr_rule::program::{MOST_RULES, Program};
-use chr_value::atom::Atom;
-use chr_value::names::Names;
+use chr_lex::{Item, Token, has_bad_byte, next_item, plain_text, tokens};
+use chr_limits::{judge_declaration, judge_post, judge_rule};
+use chr_rule::{MOST_RULES, Program};
+use chr_value::{Atom, Names};
 use std::alloc::Allocator;
 use std::sync::Arc;
 

@@ -3,9 +3,11 @@
 //! An open ticket has an atom that waits, or the search of an active goal with the seat that holds it and its candidate;
 //! and it may be marked stray, for whoever looks for work. The tickets stand in a queue by their numbers, each in a slot with
 //! room for all that it becomes later. The slot of one that has ended is empty, and goes once those before it have ended too.
-//! Only [`push`](tickets::Tickets::push) takes memory, where the queue has to grow.
+//! Only [`push`](Tickets::push) takes memory, where the queue has to grow.
 #![tactic(auto)]
 
 mod slots;
-pub mod ticket;
-pub mod tickets;
+mod ticket;
+mod tickets;
+
+pub use tickets::Tickets;

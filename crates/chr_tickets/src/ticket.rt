@@ -11,14 +11,12 @@ ghost use Rattle.chr_calls.specs.Tickets.{waiting, activated_by, held_by, put_do
 ghost use Rattle.chr_tickets.specs.Open.{shown_ticket, state_in, is_open_for, IsActiveGoal};
 ghost use Rattle.chr_tickets.specs.Passed.{PassesOver};
 
-use chr_calls::answers::TicketState;
-use chr_plan::plans::Plans;
-use chr_rule::program::Program;
-use chr_search::judged::Judged;
-use chr_search::search::{Instance, Passed, Search};
-use chr_search::trial::Trial;
-use chr_store::store::{Label, Store};
-use chr_value::atom::Atom;
+use chr_calls::TicketState;
+use chr_plan::Plans;
+use chr_rule::Program;
+use chr_search::{Instance, Judged, Passed, Search, Trial};
+use chr_store::{Label, Store};
+use chr_value::Atom;
 use std::alloc::Allocator;
 
 /// What an open ticket stands for.

@@ -14,14 +14,12 @@ ghost use Rattle.chr_tickets.specs.Stray.{IsFirstStray, NoneStray};
 
 use crate::slots::{Slots, open_at, place_of, pop_ended};
 use crate::ticket::Ticket;
-use chr_calls::answers::TicketState;
-use chr_plan::plans::Plans;
-use chr_rule::program::Program;
-use chr_search::judged::Judged;
-use chr_search::search::{Instance, Passed, Search};
-use chr_search::trial::Trial;
-use chr_store::store::{Label, Store};
-use chr_value::atom::Atom;
+use chr_calls::TicketState;
+use chr_plan::Plans;
+use chr_rule::Program;
+use chr_search::{Instance, Judged, Passed, Search, Trial};
+use chr_store::{Label, Store};
+use chr_value::Atom;
 use std::alloc::{AllocError, Allocator};
 use std::collections::VecDeque;
 use std::marker::Model;
@@ -42,13 +40,14 @@ pub struct Tickets<A: Allocator> {
 impl<A: Allocator> Model for Tickets<A> {
     ghost use Rattle.std.specs.Prelude.{List};
     ghost use Rattle.std.specs.Coded.{codes};
+    ghost use Rattle.chr_value.specs.Code.{value_code};
     ghost use Rattle.chr_rule.specs.Code.{expression_code};
     ghost use Rattle.chr_calls.specs.Tickets.{Ticket};
     ghost use Rattle.chr_tickets.specs.Listed.{listed, AreQueued};
 
     ghost Value = { List Ticket };
 
-    ghost coded = { Prim.hlevel (codes, expression_code) };
+    ghost coded = { Prim.hlevel (codes, expression_code, value_code) };
 
     ghost view = { λ s. listed s.first s.slots.items };
 

@@ -3,10 +3,10 @@ use Rattle.std.proofs.Common.{◌≡◌, ◌<◌, ◌+◌, ℕ, zero, suc, Bool,
 use Rattle.std.specs.List.{AllByRecursion}
 use Rattle.std.proofs.lemmas.Cmp.{nat_list_eq_equiv}
 use Rattle.chr_value.specs.Names.{is_text, has_text, number_of, HasDistinctTexts}
-use Rattle.chr_value.specs.Atoms.{Value, Int, Sym, Atom, TermIsNamed, AtomIsNamed, renamed, text_of, by_texts}
+use Rattle.chr_value.specs.Atoms.{Value, Int, Sym, Comp, Args, Nil, Cons, Atom, TermIsNamed, ArgsAreNamed, AtomIsNamed, renamed, args_renamed, text_of, by_texts}
 use Rattle.chr_value.specs.declared.names.NamesFault.{NamesFault}
 use Rattle.chr_value.proofs.Texts.{neither}
-use Rattle.chr_value.specs.Naming.{Table, Named, number_name, numbered_value, number_terms, numbered_atom}
+use Rattle.chr_value.specs.Naming.{Table, Named, number_name, numbered_value, numbered_args, number_terms, numbered_atom}
 
 or-true : (a : Bool) → (a || true) ≡ true
 or-true true = refl
@@ -33,9 +33,15 @@ number-own (t ∷ ts) (suc n) apart lt =
 pub name_again : (table : Table) (n : ℕ) → HasDistinctTexts table → n < length table → number_name table (text_of table n) ≡ Some (n, table)
 name_again table n apart lt = rw (has-own table n lt, number-own table n apart lt) refl
 
-pub term_again : (table : Table) (v : Value ℕ) → HasDistinctTexts table → TermIsNamed (length table) v → numbered_value table (renamed (text_of table) v) ≡ Some (v, table)
-term_again table (Int z) apart named = refl
-term_again table (Sym n) apart named = rw (name_again table n apart named) refl
+mutual
+  pub term_again : (table : Table) (v : Value ℕ) → HasDistinctTexts table → TermIsNamed (length table) v → numbered_value table (renamed (text_of table) v) ≡ Some (v, table)
+  term_again table (Int z) apart named = refl
+  term_again table (Sym n) apart named = rw (name_again table n apart named) refl
+  term_again table (Comp n vs) apart named = rw (name_again table n apart named.0, args_again table vs apart named.1) refl
+
+  args_again : (table : Table) (vs : Args ℕ) → HasDistinctTexts table → ArgsAreNamed (length table) vs → numbered_args table (args_renamed (text_of table) vs) ≡ Some (vs, table)
+  args_again table Nil apart named = refl
+  args_again table (Cons v vs) apart named = rw (term_again table v apart named.0, args_again table vs apart named.1) refl
 
 pub terms_again : (table : Table) (vs : List (Value ℕ)) → HasDistinctTexts table → AllByRecursion (TermIsNamed (length table)) vs → number_terms table (map (renamed (text_of table)) vs) ≡ Some (vs, table)
 unfolding number_terms

@@ -1,9 +1,9 @@
 -- What is numbered says the same by the table after it.
-use Rattle.std.proofs.Common.{◌≡◌, ℕ, suc, ◌+◌, ◌<◌, Bool, true, false, cond, ltb, ◌||◌, not, List, [], ◌∷◌, ◌++◌, length, take, map, Some, None, refl, sym, ap, subst, ◌∙◌, arith, inl, inr, get_or-take}
+use Rattle.std.proofs.Common.{◌≡◌, ℕ, suc, ◌+◌, ◌<◌, ◌≤◌, length-take, Bool, true, false, cond, ltb, ◌||◌, not, List, [], ◌∷◌, ◌++◌, length, take, map, Some, None, refl, sym, ap, ap₂, subst, ◌∙◌, arith, inl, inr, get_or-take}
 use Rattle.std.proofs.lemmas.Slice.Eq.{bytes_eq-Decides}
 use Rattle.chr_value.specs.Names.{has_text, number_of, with_text, is_text}
-use Rattle.chr_value.specs.Atoms.{Value, Int, Sym, Atom, TermIsNamed, renamed, text_of, by_texts}
-use Rattle.chr_value.specs.Naming.{◌>>=◌, Table, number_name, numbered_value, number_terms, number_more, numbered_atom}
+use Rattle.chr_value.specs.Atoms.{Value, Int, Sym, Comp, Args, Nil, Cons, Atom, TermIsNamed, ArgsAreNamed, renamed, args_renamed, text_of, by_texts}
+use Rattle.chr_value.specs.Naming.{◌>>=◌, Table, number_name, numbered_value, numbered_args, number_terms, number_more, numbered_atom}
 use Rattle.chr_value.proofs.Chosen.{bind_some, some_is, chosen}
 use Rattle.chr_value.proofs.NameLaws.{keeps-then, grown}
 
@@ -38,18 +38,64 @@ name_says table t n new e =
       | inr p ↦ absurd (let k = p.1 in cc)
     ]
 
-term_says : (table : Table) (t : Value (List ℕ)) (v : Value ℕ) (new : Table) → numbered_value table t ≡ Some (v, new) → (renamed (text_of new) v ≡ t) × TermIsNamed (length new) v × (take (length table) new ≡ table)
-term_says table (Int z) v new e =
-    let h = some_is (Int z, table) (v, new) e in
-    subst (λ (x : Value ℕ × Table). (renamed (text_of x.1) x.0 ≡ Int z) × TermIsNamed (length x.1) x.0 × (take (length table) x.1 ≡ table)) h (refl, tt, grown table [] true)
-term_says table (Sym t) v new e =
-    let a = bind_some (number_name table t) (λ n. Some (Sym n.0, n.1)) (v, new) e in
-    let s = name_says table t a.0.0 a.0.1 a.1 in
-    subst (λ (x : Value ℕ × Table). (renamed (text_of x.1) x.0 ≡ Sym t) × TermIsNamed (length x.1) x.0 × (take (length table) x.1 ≡ table)) (some_is (Sym a.0.0, a.0.1) (v, new) a.2) (ap (λ (w : List ℕ). Sym w) s.0, s.1, s.2)
+-- a table that begins a longer one has no more names
+pub as_long : (a b : Table) → take (length a) b ≡ a → length a ≤ length b
+as_long a b h = omega (arith, ap length h, length-take (length a) b)
 
-pub term_kept : (a b : Table) (v : Value ℕ) → take (length a) b ≡ a → TermIsNamed (length a) v → renamed (text_of b) v ≡ renamed (text_of a) v
-term_kept a b (Int z) h i = refl
-term_kept a b (Sym n) h i = ap (λ (w : List ℕ). Sym w) (text_kept a b n h i)
+-- a longer table has the names that a shorter one has
+mutual
+  pub term_later : (m n : ℕ) (v : Value ℕ) → m ≤ n → TermIsNamed m v → TermIsNamed n v
+  term_later m n (Int z) le h = tt
+  term_later m n (Sym s) le h = omega (arith, h, le)
+  term_later m n (Comp s vs) le h = (omega (arith, h.0, le), args_later m n vs le h.1)
+
+  args_later : (m n : ℕ) (vs : Args ℕ) → m ≤ n → ArgsAreNamed m vs → ArgsAreNamed n vs
+  args_later m n Nil le h = tt
+  args_later m n (Cons v vs) le h = (term_later m n v le h.0, args_later m n vs le h.1)
+
+-- a term keeps its text
+mutual
+  pub term_kept : (a b : Table) (v : Value ℕ) → take (length a) b ≡ a → TermIsNamed (length a) v → renamed (text_of b) v ≡ renamed (text_of a) v
+  term_kept a b (Int z) h i = refl
+  term_kept a b (Sym n) h i = ap (λ (w : List ℕ). Sym w) (text_kept a b n h i)
+  term_kept a b (Comp n vs) h i = ap₂ (λ (w : List ℕ) (ws : Args (List ℕ)). Comp w ws) (text_kept a b n h i.0) (args_kept a b vs h i.1)
+
+  args_kept : (a b : Table) (vs : Args ℕ) → take (length a) b ≡ a → ArgsAreNamed (length a) vs → args_renamed (text_of b) vs ≡ args_renamed (text_of a) vs
+  args_kept a b Nil h i = refl
+  args_kept a b (Cons v vs) h i = ap₂ (λ (w : Value (List ℕ)) (ws : Args (List ℕ)). Cons w ws) (term_kept a b v h i.0) (args_kept a b vs h i.1)
+
+mutual
+  pub term_says : (table : Table) (t : Value (List ℕ)) (v : Value ℕ) (new : Table) → numbered_value table t ≡ Some (v, new) → (renamed (text_of new) v ≡ t) × TermIsNamed (length new) v × (take (length table) new ≡ table)
+  term_says table (Int z) v new e =
+      let h = some_is (Int z, table) (v, new) e in
+      subst (λ (x : Value ℕ × Table). (renamed (text_of x.1) x.0 ≡ Int z) × TermIsNamed (length x.1) x.0 × (take (length table) x.1 ≡ table)) h (refl, tt, grown table [] true)
+  term_says table (Sym t) v new e =
+      let a = bind_some (number_name table t) (λ n. Some (Sym n.0, n.1)) (v, new) e in
+      let s = name_says table t a.0.0 a.0.1 a.1 in
+      subst (λ (x : Value ℕ × Table). (renamed (text_of x.1) x.0 ≡ Sym t) × TermIsNamed (length x.1) x.0 × (take (length table) x.1 ≡ table)) (some_is (Sym a.0.0, a.0.1) (v, new) a.2) (ap (λ (w : List ℕ). Sym w) s.0, s.1, s.2)
+  term_says table (Comp t ts) v new e =
+      let a = bind_some (number_name table t) (λ n. numbered_args n.1 ts >>= λ xs. Some (Comp n.0 xs.0, xs.1)) (v, new) e in
+      let b = bind_some (numbered_args a.0.1 ts) (λ xs. Some (Comp a.0.0 xs.0, xs.1)) (v, new) a.2 in
+      let s = name_says table t a.0.0 a.0.1 a.1 in
+      let r = args_say a.0.1 ts b.0.0 b.0.1 b.1 in
+      let name : text_of b.0.1 a.0.0 ≡ t = text_kept a.0.1 b.0.1 a.0.0 r.2 s.1 ∙ s.0 in
+      let within : a.0.0 < length b.0.1 = omega (arith, s.1, as_long a.0.1 b.0.1 r.2) in
+      subst (λ (x : Value ℕ × Table). (renamed (text_of x.1) x.0 ≡ Comp t ts) × TermIsNamed (length x.1) x.0 × (take (length table) x.1 ≡ table)) (some_is (Comp a.0.0 b.0.0, b.0.1) (v, new) b.2)
+      (ap₂ (λ (w : List ℕ) (ws : Args (List ℕ)). Comp w ws) name r.0, (within, r.1), keeps-then table a.0.1 b.0.1 s.2 r.2)
+
+  pub args_say : (table : Table) (ts : Args (List ℕ)) (vs : Args ℕ) (new : Table) → numbered_args table ts ≡ Some (vs, new) → (args_renamed (text_of new) vs ≡ ts) × ArgsAreNamed (length new) vs × (take (length table) new ≡ table)
+  args_say table Nil vs new e =
+      let h = some_is (Nil, table) (vs, new) e in
+      subst (λ (x : Args ℕ × Table). (args_renamed (text_of x.1) x.0 ≡ Nil) × ArgsAreNamed (length x.1) x.0 × (take (length table) x.1 ≡ table)) h (refl, tt, grown table [] true)
+  args_say table (Cons t ts) vs new e =
+      let a = bind_some (numbered_value table t) (λ x. numbered_args x.1 ts >>= λ xs. Some (Cons x.0 xs.0, xs.1)) (vs, new) e in
+      let b = bind_some (numbered_args a.0.1 ts) (λ xs. Some (Cons a.0.0 xs.0, xs.1)) (vs, new) a.2 in
+      let s = term_says table t a.0.0 a.0.1 a.1 in
+      let r = args_say a.0.1 ts b.0.0 b.0.1 b.1 in
+      let head : renamed (text_of b.0.1) a.0.0 ≡ t = term_kept a.0.1 b.0.1 a.0.0 r.2 s.1 ∙ s.0 in
+      let named : TermIsNamed (length b.0.1) a.0.0 = term_later (length a.0.1) (length b.0.1) a.0.0 (as_long a.0.1 b.0.1 r.2) s.1 in
+      subst (λ (x : Args ℕ × Table). (args_renamed (text_of x.1) x.0 ≡ Cons t ts) × ArgsAreNamed (length x.1) x.0 × (take (length table) x.1 ≡ table)) (some_is (Cons a.0.0 b.0.0, b.0.1) (vs, new) b.2)
+      (ap₂ (λ (w : Value (List ℕ)) (ws : Args (List ℕ)). Cons w ws) head r.0, (named, r.1), keeps-then table a.0.1 b.0.1 s.2 r.2)
 
 pub terms_say : (table : Table) (ts : List (Value (List ℕ))) (vs : List (Value ℕ)) (new : Table) → number_terms table ts ≡ Some (vs, new) → (map (renamed (text_of new)) vs ≡ ts) × (take (length table) new ≡ table)
 unfolding number_terms

@@ -2,7 +2,7 @@
 use Rattle.std.specs.Prelude.{◌≡◌, ℕ, ◌||◌, true, List, [], ◌∷◌, ◌++◌, length, nat_lt, Option, Some, None, Result, Ok, Err, if◌then◌else◌}
 use Rattle.std.specs.List.{AllByRecursion}
 use Rattle.chr_value.specs.Names.{has_text, number_of, with_text}
-use Rattle.chr_value.specs.Atoms.{Value, Int, Sym, Atom}
+use Rattle.chr_value.specs.Atoms.{Value, Int, Sym, Comp, Args, Nil, Cons, Atom}
 use Rattle.chr_value.specs.declared.names.NamesFault.{NamesFault}
 use Rattle.chr_value.specs.declared.names.NamesFault.TheVariants as faults
 
@@ -20,20 +20,32 @@ Table = List (List ℕ)
 abbrev pub number_name : Table → List ℕ → Option (ℕ × Table)
 number_name table t = if has_text table t || nat_lt (length table) 65536 then Some (number_of table t, with_text table t) else None
 
--- the table has the term's name
-abbrev pub TermIsKnown : Table → Value (List ℕ) → Type 0
-TermIsKnown table (Int z) = Unit {0}
-TermIsKnown table (Sym t) = has_text table t ≡ true
+-- the table has the term's names
+abbrev mutual
+  pub TermIsKnown : Table → Value (List ℕ) → Type 0
+  TermIsKnown table (Int z) = Unit {0}
+  TermIsKnown table (Sym t) = has_text table t ≡ true
+  TermIsKnown table (Comp t vs) = (has_text table t ≡ true) × ArgsAreKnown table vs
 
--- the table has the atom's name and its symbols
+  pub ArgsAreKnown : Table → Args (List ℕ) → Type 0
+  ArgsAreKnown table Nil = Unit {0}
+  ArgsAreKnown table (Cons v vs) = TermIsKnown table v × ArgsAreKnown table vs
+
+-- the table has the atom's name and the names of its arguments
 pub record AtomIsKnown (table : Table) (a : Atom (List ℕ)) : Type 0 where
   pub name : has_text table a.name ≡ true
   pub args : AllByRecursion (TermIsKnown table) a.args
 
--- a term by numbers, and the table that has its names
-abbrev pub numbered_value : Table → Value (List ℕ) → Option (Value ℕ × Table)
-numbered_value table (Int z) = Some (Int z, table)
-numbered_value table (Sym t) = number_name table t >>= λ n. Some (Sym n.0, n.1)
+-- a term by numbers, and the table that has its names: a functor's name comes before those of its arguments
+abbrev mutual
+  pub numbered_value : Table → Value (List ℕ) → Option (Value ℕ × Table)
+  numbered_value table (Int z) = Some (Int z, table)
+  numbered_value table (Sym t) = number_name table t >>= λ n. Some (Sym n.0, n.1)
+  numbered_value table (Comp t vs) = number_name table t >>= λ n. numbered_args n.1 vs >>= λ xs. Some (Comp n.0 xs.0, xs.1)
+
+  pub numbered_args : Table → Args (List ℕ) → Option (Args ℕ × Table)
+  numbered_args table Nil = Some (Nil, table)
+  numbered_args table (Cons v vs) = numbered_value table v >>= λ x. numbered_args x.1 vs >>= λ xs. Some (Cons x.0 xs.0, xs.1)
 
 -- terms from left to right, each over the table that the one before it left
 unfoldable pub number_terms : Table → List (Value (List ℕ)) → Option (List (Value ℕ) × Table)

@@ -72,9 +72,13 @@ pub struct Atom<A: Allocator> {
 
 impl<A: Allocator> Model for Atom<A> {
     ghost use Rattle.std.specs.Prelude.{ℕ, ◌≤◌, length};
+    ghost use Rattle.std.specs.Coded.{codes};
     ghost use Rattle.chr_value.specs.Atoms.{Atom, grounds};
+    ghost use Rattle.chr_value.specs.Code.{value_code};
 
     ghost Value = { Atom ℕ };
+
+    ghost coded = { Prim.hlevel (codes, value_code) };
 
     ghost view = { λ a. record { name = a.name.number; args = grounds a.args.items } };
 

@@ -1,14 +1,14 @@
 //! Names, values and atoms: what constraints are made of.
 //!
-//! - A [`Names`](names::Names) table numbers texts from 0 without gaps, at most 65,536 of at most 64 bytes. A name keeps
+//! - A [`Names`] table numbers texts from 0 without gaps, at most 65,536 of at most 64 bytes. A name keeps
 //!   its number. After a refusal the table is as before, and `truncate` takes back the names from a number on.
-//! - A [`Value`](atom::Value) is a whole number of 64 bits or a symbol, which is a name.
-//! - An [`Atom`](atom::Atom) is a predicate's name with at most eight values: a constraint without variables. Two atoms
+//! - A [`Value`] is a whole number of 64 bits or a symbol, which is a name.
+//! - An [`Atom`] is a predicate's name with at most eight values: a constraint without variables. Two atoms
 //!   are the same where predicate and arguments are.
-//! - A [`Label`](label::Label) is the number of an atom in a store.
-//! - [`write_atom`](writing::write_atom) gives an atom's text: its name, then its arguments by commas in brackets.
-//! - A [`TextAtom`](text_atom::TextAtom) is an atom as a text has it, whose names are borrowed from that text, and
-//!   [`number_atom`](naming::number_atom) makes an atom of it.
+//! - A [`Label`] is the number of an atom in a store.
+//! - [`write_atom`] gives an atom's text: its name, then its arguments by commas in brackets.
+//! - A [`TextAtom`] is an atom as a text has it, whose names are borrowed from that text, and
+//!   [`number_atom`] makes an atom of it.
 //!
 //! Contracts see a table as the list of its texts, a value as a `Value ℕ` and an atom as an `Atom ℕ`, both over the
 //! numbers of names, and values and atoms of a text as the same over texts. So a clause of another crate needs no more
@@ -30,9 +30,16 @@
 //! memory. Whether a call that may take memory gets it, no contract says.
 #![tactic(auto)]
 
-pub mod atom;
-pub mod label;
-pub mod names;
-pub mod naming;
-pub mod text_atom;
-pub mod writing;
+mod atom;
+mod label;
+mod names;
+mod naming;
+mod text_atom;
+mod writing;
+
+pub use atom::{Atom, MOST_ARGS, Pred, Value};
+pub use label::{GREATEST_LABEL, Label};
+pub use names::{MOST_NAME_BYTES, MOST_NAMES, Name, Names, NamesFault};
+pub use naming::{name_number, number_atom};
+pub use text_atom::{TextAtom, TextValue};
+pub use writing::{put_number, write_atom};

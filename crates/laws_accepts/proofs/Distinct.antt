@@ -3,8 +3,8 @@ use Rattle.std.proofs.Common.{◌≡◌, ℕ, Bool, true, false, cond, ltb, ◌|
 use Rattle.std.proofs.lemmas.Cmp.{nat_list_eq_equiv}
 use Rattle.chr_lex.specs.Items.{Item}
 use Rattle.chr_value.specs.Names.{is_text, has_text, number_of, with_text, HasDistinctTexts}
-use Rattle.chr_value.specs.Atoms.{Value, Int, Sym, Atom}
-use Rattle.chr_value.specs.Naming.{◌>>=◌, Table, number_name, numbered_value, number_terms, number_more, numbered_atom}
+use Rattle.chr_value.specs.Atoms.{Value, Int, Sym, Comp, Args, Nil, Cons, Atom}
+use Rattle.chr_value.specs.Naming.{◌>>=◌, Table, number_name, numbered_value, numbered_args, number_terms, number_more, numbered_atom}
 use Rattle.chr_value.proofs.Chosen.{chosen, bind_some, some_is}
 use Rattle.chr_value.proofs.Texts.{neither}
 use Rattle.chr_rule.specs.Rules.{Term, Var, Given, RuleAtom, Comparison, Compared, Same, Differ, BodyItem, Is, Add, Simpagation, of_parts}
@@ -45,11 +45,23 @@ name_distinct table t n new e d =
       | inr p ↦ absurd (let k = p.1 in cc)
     ]
 
-value_distinct : (table new : Table) (t : Value (List ℕ)) (v : Value ℕ) → numbered_value table t ≡ Some (v, new) → HasDistinctTexts table → HasDistinctTexts new
-value_distinct table new (Int z) v e d = moved {A = Value ℕ} (Int z) v table new e d
-value_distinct table new (Sym t) v e d =
-    let n = bind_some (number_name table t) (λ n. Some (Sym n.0, n.1)) (v, new) e in
-    moved {A = Value ℕ} (Sym n.0.0) v n.0.1 new n.2 (name_distinct table t n.0.0 n.0.1 n.1 d)
+mutual
+  value_distinct : (table new : Table) (t : Value (List ℕ)) (v : Value ℕ) → numbered_value table t ≡ Some (v, new) → HasDistinctTexts table → HasDistinctTexts new
+  value_distinct table new (Int z) v e d = moved {A = Value ℕ} (Int z) v table new e d
+  value_distinct table new (Sym t) v e d =
+      let n = bind_some (number_name table t) (λ n. Some (Sym n.0, n.1)) (v, new) e in
+      moved {A = Value ℕ} (Sym n.0.0) v n.0.1 new n.2 (name_distinct table t n.0.0 n.0.1 n.1 d)
+  value_distinct table new (Comp t ts) v e d =
+      let n = bind_some (number_name table t) (λ n. numbered_args n.1 ts >>= λ xs. Some (Comp n.0 xs.0, xs.1)) (v, new) e in
+      let x = bind_some (numbered_args n.0.1 ts) (λ xs. Some (Comp n.0.0 xs.0, xs.1)) (v, new) n.2 in
+      moved {A = Value ℕ} (Comp n.0.0 x.0.0) v x.0.1 new x.2 (args_distinct n.0.1 x.0.1 ts x.0.0 x.1 (name_distinct table t n.0.0 n.0.1 n.1 d))
+
+  args_distinct : (table new : Table) (ts : Args (List ℕ)) (vs : Args ℕ) → numbered_args table ts ≡ Some (vs, new) → HasDistinctTexts table → HasDistinctTexts new
+  args_distinct table new Nil vs e d = moved {A = Args ℕ} Nil vs table new e d
+  args_distinct table new (Cons t ts) vs e d =
+      let x = bind_some (numbered_value table t) (λ x. numbered_args x.1 ts >>= λ xs. Some (Cons x.0 xs.0, xs.1)) (vs, new) e in
+      let y = bind_some (numbered_args x.0.1 ts) (λ xs. Some (Cons x.0.0 xs.0, xs.1)) (vs, new) x.2 in
+      moved {A = Args ℕ} (Cons x.0.0 y.0.0) vs y.0.1 new y.2 (args_distinct x.0.1 y.0.1 ts y.0.0 y.1 (value_distinct table x.0.1 t x.0.0 x.1 d))
 
 terms_distinct : (table new : Table) (ts : List (Value (List ℕ))) (vs : List (Value ℕ)) → number_terms table ts ≡ Some (vs, new) → HasDistinctTexts table → HasDistinctTexts new
 unfolding number_terms

@@ -10,7 +10,7 @@ use Rattle.chr_plan.specs.Orders.{heads_of, IsPlan}
 use Rattle.chr_plan.specs.Plans.{PlanList, AreOrders, ArePlans}
 use Rattle.chr_plan.specs.declared.order.Step.{Step}
 use Rattle.chr_plan.proofs.OnePlan.{one_plan_fact}
-use Rattle.chr_text.specs.Reading.{Program, Posts, program_of, posts_of}
+use Rattle.chr_text.specs.Reading.{Program, Posts, program_of, posts_of, RulesOf}
 use Rattle.chr_calls.specs.Books.{BookState, opened}
 use Rattle.chr_solo.specs.Solo.{IsSolo}
 use Rattle.chr_solo.specs.declared.solo.End.{End}
@@ -18,7 +18,7 @@ use Rattle.chr_solo.specs.declared.solo.End.TheVariants.{Quiet}
 use Rattle.chr_solo.proofs.SoloFixed.{solo_same}
 use Rattle.chr_check.specs.declared.checking.Verdict.TheVariants.{RunAndFinal}
 use Rattle.chr_run_text.specs.Output.{shown}
-use Rattle.chr_run_text.specs.Texts.{RulesOf, PostsOf}
+use Rattle.chr_run_text.specs.Texts.{PostsOf}
 use Rattle.chr_run_text.specs.RunText.{seat, posted_book, IsRunOf, IsMade}
 use Rattle.chr_run_text.specs.declared.output.Show.{Show}
 use Rattle.chr_run_text.specs.declared.output.Show.TheVariants as show

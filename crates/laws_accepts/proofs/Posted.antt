@@ -4,12 +4,12 @@ use Rattle.std.specs.List.{AllByRecursion}
 use Rattle.std.proofs.Math.Seq.{take-length}
 use Rattle.std.proofs.lemmas.List.{map-append, append-nil}
 use Rattle.chr_lex.specs.Items.{Item}
-use Rattle.chr_value.specs.Atoms.{Value, Int, Sym, Atom, TermIsNamed, AtomIsNamed, by_texts}
+use Rattle.chr_value.specs.Atoms.{Value, Atom, TermIsNamed, AtomIsNamed, by_texts}
 use Rattle.chr_value.specs.Naming.{◌>>=◌, Table, number_name, numbered_value, number_terms, number_more, numbered_atom}
 use Rattle.chr_value.proofs.Chosen.{bind_some, some_is}
 use Rattle.chr_value.proofs.Inside.{atom_kept}
 use Rattle.chr_value.proofs.NameLaws.{keeps-then}
-use Rattle.chr_value.proofs.Said.{name_says, terms_say, fact_says}
+use Rattle.chr_value.proofs.Said.{as_long, term_later, name_says, term_says, terms_say, fact_says}
 use Rattle.chr_log.specs.Events.{Event, Post, Activate, Fire, Drop, event_by_texts}
 use Rattle.chr_log_text.specs.Lines.{with_first, number_all}
 use Rattle.chr_log_text.specs.Texts.{numbered_event, numbered_events}
@@ -21,28 +21,13 @@ use Rattle.chr_text.proofs.PostTexts.{are_posts}
 
 -- ---- what is numbered is in the table
 
-term_later : (n m : ℕ) (v : Value ℕ) → n ≤ m → TermIsNamed n v → TermIsNamed m v
-term_later n m (Int z) le named = tt
-term_later n m (Sym s) le named = omega (arith, le, named)
-
-longer : (a b : Table) → take (length a) b ≡ a → length a ≤ length b
-longer a b h = omega (arith, ap length h, length-take (length a) b)
-
-value_named : (table new : Table) (t : Value (List ℕ)) (v : Value ℕ) → numbered_value table t ≡ Some (v, new) → TermIsNamed (length new) v × (take (length table) new ≡ table)
-value_named table new (Int z) v h =
-    subst (λ (x : Value ℕ × Table). TermIsNamed (length x.1) x.0 × (take (length table) x.1 ≡ table)) (some_is {A = Value ℕ × Table} (Int z, table) (v, new) h) (tt, take-length table)
-value_named table new (Sym t) v h =
-    let a = bind_some (number_name table t) (λ n. Some (Sym n.0, n.1)) (v, new) h in
-    let s = name_says table t a.0.0 a.0.1 a.1 in
-    subst (λ (x : Value ℕ × Table). TermIsNamed (length x.1) x.0 × (take (length table) x.1 ≡ table)) (some_is {A = Value ℕ × Table} (Sym a.0.0, a.0.1) (v, new) a.2) (s.1, s.2)
-
 terms_named : (table new : Table) (ts : List (Value (List ℕ))) (vs : List (Value ℕ)) → number_terms table ts ≡ Some (vs, new) → AllByRecursion (TermIsNamed (length new)) vs
 unfolding number_terms
 terms_named table new [] vs h = subst (λ (x : List (Value ℕ) × Table). AllByRecursion (TermIsNamed (length x.1)) x.0) (some_is {A = List (Value ℕ) × Table} ([], table) (vs, new) h) tt
 terms_named table new (t ∷ ts) vs h =
     let x = bind_some (numbered_value table t) (λ x. number_terms x.1 ts >>= λ xs. Some (x.0 ∷ xs.0, xs.1)) (vs, new) h in
     let y = bind_some (number_terms x.0.1 ts) (λ xs. Some (x.0.0 ∷ xs.0, xs.1)) (vs, new) x.2 in
-    let one = term_later (length x.0.1) (length y.0.1) x.0.0 (longer x.0.1 y.0.1 (terms_say x.0.1 ts y.0.0 y.0.1 y.1).1) (value_named table x.0.1 t x.0.0 x.1).0 in
+    let one = term_later (length x.0.1) (length y.0.1) x.0.0 (as_long x.0.1 y.0.1 (terms_say x.0.1 ts y.0.0 y.0.1 y.1).1) (term_says table t x.0.0 x.0.1 x.1).1 in
     subst (λ (z : List (Value ℕ) × Table). AllByRecursion (TermIsNamed (length z.1)) z.0) (some_is {A = List (Value ℕ) × Table} (x.0.0 ∷ y.0.0, y.0.1) (vs, new) y.2) (one, terms_named x.0.1 y.0.1 ts y.0.0 y.1)
 
 atom_named : (table new : Table) (a : Atom (List ℕ)) (f : Atom ℕ) → numbered_atom table a ≡ Some (f, new) → AtomIsNamed (length new) f
@@ -51,7 +36,7 @@ atom_named table new a f h =
     let n = bind_some (number_name table a.name) (λ n. number_more n.0 [] (number_terms n.1 a.args)) (f, new) h in
     let x = bind_some (number_terms n.0.1 a.args) (λ x. Some (record { name = n.0.0; args = [] ++ x.0 }, x.1)) (f, new) n.2 in
     let s = name_says table a.name n.0.0 n.0.1 n.1 in
-    let le = longer n.0.1 x.0.1 (terms_say n.0.1 a.args x.0.0 x.0.1 x.1).1 in
+    let le = as_long n.0.1 x.0.1 (terms_say n.0.1 a.args x.0.0 x.0.1 x.1).1 in
     let below = s.1 in
     let made : Atom ℕ = record { name = n.0.0; args = x.0.0 } in
     let named : AtomIsNamed (length x.0.1) made = record { name = omega (arith, le, below); args = terms_named n.0.1 x.0.1 a.args x.0.0 x.1 } in
@@ -88,7 +73,7 @@ each_says table new (a ∷ as') atoms h =
     let first : by_texts y.0.1 x.0.0 ≡ a = atom_kept x.0.1 y.0.1 x.0.0 rest.keeps named ∙ one.0 in
     let all : Said table y.0.1 (a ∷ as') (x.0.0 ∷ y.0.0) = record {
       texts_are = ap (λ (t : Atom (List ℕ)). t ∷ map (by_texts y.0.1) y.0.0) first ∙ ap (λ (ts : List (Atom (List ℕ))). a ∷ ts) rest.texts_are;
-      named = (atom_later (length x.0.1) (length y.0.1) x.0.0 (longer x.0.1 y.0.1 rest.keeps) named, rest.named);
+      named = (atom_later (length x.0.1) (length y.0.1) x.0.0 (as_long x.0.1 y.0.1 rest.keeps) named, rest.named);
       keeps = keeps-then table x.0.1 y.0.1 one.1 rest.keeps;
     } in
     subst (λ (z : List (Atom ℕ) × Table). Said table z.1 (a ∷ as') z.0) (some_is {A = List (Atom ℕ) × Table} (x.0.0 ∷ y.0.0, y.0.1) (atoms, new) y.2) all

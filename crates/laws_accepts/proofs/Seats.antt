@@ -2,6 +2,7 @@
 use Rattle.std.proofs.Common.{◌≡◌, ℕ, ◌↔◌, ◌+◌, ◌≤◌, inl, inr, List, [], ◌∷◌, ◌++◌, length, take, map, Some, Result, Ok, Err, refl, sym, ap, subst, ◌∙◌, arith}
 use Rattle.std.specs.List.{AllByRecursion}
 use Rattle.std.proofs.lemmas.List.{append-nil}
+use Rattle.chr_text.specs.Reading.{RulesOf}
 use Rattle.chr_value.specs.Names.{HasDistinctTexts}
 use Rattle.chr_value.specs.Spelling.{FitsAtom}
 use Rattle.chr_value.specs.Atoms.{Atom, AtomIsNamed, by_texts}
@@ -55,8 +56,8 @@ use Rattle.chr_calls.specs.Runs as calls
 use Rattle.chr_calls.specs.Headline.{IsKept}
 use Rattle.chr_calls.proofs.Tickets.{posted_strict}
 use Rattle.chr_calls.proofs.Turning.{turns_keep, reports_keep}
-use Rattle.chr_calls.proofs.Firing.{fires_keep}
-use Rattle.chr_calls.proofs.Dropping.{drops_keep}
+use Rattle.chr_calls.proofs.Fires.{fires_keep}
+use Rattle.chr_calls.proofs.Drops.{drops_keep}
 use Rattle.chr_calls.proofs.Batching.{batches_keep, batch_reports_keep}
 use Rattle.chr_calls.proofs.Headlines.{opened_kept, call_posts, call_keeps}
 use Rattle.chr_book.specs.Texts.{PostsAtoms}
@@ -64,7 +65,6 @@ use Rattle.chr_book.specs.declared.texts.Posted.{Posted}
 use Rattle.chr_solo.specs.declared.solo.End.{End}
 use Rattle.chr_solo.specs.declared.solo.End.TheVariants.{Quiet}
 use Rattle.chr_check.specs.declared.checking.Verdict.TheVariants.{RunAndFinal}
-use Rattle.chr_run_text.specs.Texts.{RulesOf}
 use Rattle.chr_run_text.specs.Output.{shown}
 use Rattle.chr_run_text.specs.declared.output.Show.TheVariants as show
 use Rattle.chr_check_text.specs.CheckTexts.{IsCheckText}

@@ -1,16 +1,17 @@
 -- What the checker answers of a run.
 use Rattle.std.specs.Prelude.{◌≡◌, ℕ, ◌↔◌, List, [], Result, Ok, Err}
+use Rattle.chr_text.specs.Reading.{RulesOf}
 use Rattle.chr_calls.specs.Tickets.{AreQuiet}
 use Rattle.chr_calls.specs.Books.{BookState}
 use Rattle.chr_calls.specs.Runs.{Call, posts_of}
-use Rattle.chr_book.specs.Texts.{PostsText}
+use Rattle.chr_book.specs.Texts.{IsOpenText, PostsText}
 use Rattle.chr_book.specs.declared.texts.Posted.{Posted}
 use Rattle.chr_solo.specs.declared.solo.End.{End}
 use Rattle.chr_solo.specs.declared.solo.End.TheVariants.{Quiet, Open}
 use Rattle.chr_check.specs.declared.checking.Verdict.{Verdict}
 use Rattle.chr_check.specs.declared.checking.Verdict.TheVariants.{Run, RunAndFinal}
-use Rattle.chr_run_text.specs.Texts.{RulesOf, PostsOf}
-use Rattle.chr_run_text.specs.RunText.{IsRunOf, IsOpenText}
+use Rattle.chr_run_text.specs.Texts.{PostsOf}
+use Rattle.chr_run_text.specs.RunText.{IsRunOf}
 use Rattle.chr_check_text.specs.Output.{answer_line}
 use Rattle.chr_check_text.specs.declared.checked.Checked.{Checked}
 use Rattle.chr_check_text.specs.declared.checked.CheckTextFault.{CheckTextFault}

@@ -25,9 +25,8 @@ ghost use Rattle.chr_run_text.specs.declared.output.Show.TheVariants as show;
 ghost use Rattle.chr_check_text.specs.CheckTexts.{IsAnswer, IsCheckText};
 ghost use Rattle.laws_accepts.specs.Accepted.{IsTextRun, IsOfTexts, verdict_of, IsAnswered};
 
-use chr_check_text::checked::{CheckTextFault, Checked};
-use chr_run_text::ran::Ran;
-use chr_run_text::running::RunOut;
+use chr_check_text::{CheckTextFault, Checked};
+use chr_run_text::{Ran, RunOut};
 use std::alloc::Allocator;
 
 /// Whatever seats have called, the events of a book and its store are a run for the checker, by version two, which is final

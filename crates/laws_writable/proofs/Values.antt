@@ -3,7 +3,7 @@ use Rattle.std.proofs.Common.{◌≡◌, ℕ, suc, ◌+◌, ◌<◌, ◌≤◌, 
 use Rattle.std.specs.List.{AllByRecursion, list_all}
 use Rattle.std.proofs.lemmas.Bool.{and_parts, leb-true}
 use Rattle.std.proofs.lemmas.Bool.Decides.{nat_tests}
-use Rattle.chr_value.specs.Atoms.{Value, Int, Sym, Atom, renamed, text_of, by_texts}
+use Rattle.chr_value.specs.Atoms.{Value, Int, Sym, Comp, Atom, renamed, text_of, by_texts}
 use Rattle.chr_value.specs.Naming.{Table}
 use Rattle.chr_value.specs.Spelling.{is_control, IsName, FitsTerm, FitsAtom}
 use Rattle.chr_value.proofs.Chosen.{chosen, some_is}
@@ -90,6 +90,7 @@ heads_held table v n m (h ∷ hs) (x ∷ atoms) k e all held =
 number_is : (o : Option (Value ℕ)) (z : ℤ) → number_in o ≡ Some z → o ≡ Some (Int z)
 number_is (Some (Int n)) z h = ap (λ (k : ℤ). Some (Int k)) (some_is n z h)
 number_is (Some (Sym s)) z h = absurd cc
+number_is (Some (Comp s vs)) z h = absurd cc
 number_is None z h = absurd cc
 
 below : (x n : ℕ) → argument_known {N = ℕ} n (Var x) ≡ true → x < n

@@ -1,11 +1,10 @@
 //! A worked run: batches, their judgements, and a firing.
 use crate::lists::{Does, answers_text, call_of, judged_copy, post_text};
 use crate::script::{Opening, open};
-use chr_book::book::Book;
-use chr_calls::answers::Batch;
-use chr_run_calls::calls::{Answer, Call, SeatCall, Words};
-use chr_run_calls::run::run_calls;
-use chr_search::judged::Judged;
+use chr_book::Book;
+use chr_calls::Batch;
+use chr_run_calls::{Answer, Call, SeatCall, Words, run_calls};
+use chr_search::Judged;
 use std::alloc::{AllocError, Allocator, Global};
 
 /// A token turns each `n` above 20 into an `r`.

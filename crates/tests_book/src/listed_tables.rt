@@ -2,10 +2,9 @@
 use crate::lists::{answer_text, list_of};
 use crate::script::{Call, Row, Script, lines, open};
 use crate::tables::{GCD, OLDER_GOAL_IS_DROPPED, TOKEN, Table, tables};
-use chr_book::book::Book;
-use chr_log::writing::write_entries;
-use chr_run_calls::calls::{Answer, SeatCall};
-use chr_run_calls::run::run_calls;
+use chr_book::Book;
+use chr_log::write_entries;
+use chr_run_calls::{Answer, SeatCall, run_calls};
 use std::alloc::Global;
 
 /// The search of a goal without partners.

@@ -1,9 +1,8 @@
 //! Books, lists of calls for them, and answers in words.
 use crate::script::{Call as ScriptCall, Row, Script, trial_text};
-use chr_calls::answers::{Batch, BatchReport, Turn, TurnFault};
-use chr_run_calls::calls::{Answer, Call, SeatCall, Word, Words};
-use chr_search::judged::{Judged, judge};
-use chr_search::trial::Trial;
+use chr_calls::{Batch, BatchReport, Turn, TurnFault};
+use chr_run_calls::{Answer, Call, SeatCall, Word, Words};
+use chr_search::{Judged, Trial, judge};
 use std::alloc::{AllocError, Allocator, Global};
 use std::fmt::Debug;
 

@@ -1,7 +1,7 @@
 //! Books of programs whose names aren't all in the table.
-use chr_book::book::{Book, OpenFault};
-use chr_text::reading::{read_atoms, read_program};
-use chr_value::names::Names;
+use chr_book::{Book, OpenFault};
+use chr_text::{read_atoms, read_program};
+use chr_value::Names;
 use std::alloc::Global;
 
 /// What a book is answered to a program and the table of other posts, None where a text isn't read.

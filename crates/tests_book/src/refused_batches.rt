@@ -2,9 +2,9 @@
 use crate::batches::{OPENING, take_first_goals};
 use crate::lists::{add_text, turn_text};
 use crate::script::{open, trial_text};
-use chr_book::book::Book;
-use chr_calls::answers::{Batch, TurnFault};
-use chr_search::judged::{Judged, judge};
+use chr_book::Book;
+use chr_calls::{Batch, TurnFault};
+use chr_search::{Judged, judge};
 use refusing::Refusing;
 use std::alloc::Global;
 

@@ -2,10 +2,9 @@
 use crate::lists::{Does, answers_text, call_of, post_text};
 use crate::script::{Opening, lines, open};
 use crate::tables::TOKEN;
-use chr_book::book::Book;
-use chr_calls::answers::TicketState;
-use chr_run_calls::calls::{Answer, SeatCall};
-use chr_run_calls::run::run_calls;
+use chr_book::Book;
+use chr_calls::TicketState;
+use chr_run_calls::{Answer, SeatCall, run_calls};
 use refusing::Refusing;
 use std::alloc::{AllocError, Global};
 

@@ -1,9 +1,9 @@
 //! Opening a book.
 use crate::tables::GCD;
-use chr_book::book::{Book, OpenFault};
-use chr_calls::answers::TicketState;
-use chr_text::reading::read_program;
-use chr_value::names::Names;
+use chr_book::{Book, OpenFault};
+use chr_calls::TicketState;
+use chr_text::read_program;
+use chr_value::Names;
 use refusing::{Refusable, Refusing, refuse_each};
 use std::alloc::Global;
 

@@ -2,15 +2,13 @@
 use crate::lists::{Does, call_of, post_text};
 use crate::script::open;
 use crate::tables::GCD;
-use chr_book::book::Book;
-use chr_calls::answers::TicketState;
-use chr_check::checking::{Verdict, check};
-use chr_entries::entries::Entries;
-use chr_log::events::{Event, Version};
-use chr_log::log::Log;
-use chr_run_calls::calls::SeatCall;
-use chr_run_calls::run::run_calls;
-use chr_value::atom::Atom;
+use chr_book::Book;
+use chr_calls::TicketState;
+use chr_check::{Verdict, check};
+use chr_entries::Entries;
+use chr_log::{Event, Log, Version};
+use chr_run_calls::{SeatCall, run_calls};
+use chr_value::Atom;
 use std::alloc::{AllocError, Global};
 
 const POSTS: [&str; 8] = [

@@ -1,10 +1,9 @@
 //! Calls on a book, with their answers in words.
-use chr_book::book::Book;
-use chr_calls::answers::{TicketState, Turn};
-use chr_search::judged::{Judged, judge};
-use chr_text::reading::{read_atoms, read_program};
-use chr_value::atom::Atom;
-use chr_value::names::Names;
+use chr_book::Book;
+use chr_calls::{TicketState, Turn};
+use chr_search::{Judged, judge};
+use chr_text::{read_atoms, read_program};
+use chr_value::{Atom, Names};
 use std::alloc::{AllocError, Allocator, Global};
 
 /// A call of a book. The judgements of a script are numbered from 1, in the order in which their trials were answered.

@@ -1,5 +1,5 @@
 //! What is told of refused entries.
-use chr_check_text::checked::{check_parts, check_text};
+use chr_check_text::{check_parts, check_text};
 use chr_commands::check::{check, told};
 use chr_commands::{Detail, Status};
 use std::alloc::{AllocError, Global};

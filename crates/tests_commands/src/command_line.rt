@@ -1,6 +1,6 @@
 //! Command lines with what they ask for, and with the errors of those that are wrong.
-use chr_command_line::reading::{Request, RunOptions, read};
-use chr_run_text::output::Show;
+use chr_command_line::{Request, RunOptions, read};
+use chr_run_text::Show;
 use clap::error::ErrorKind;
 use std::alloc::{AllocError, Global};
 use std::test::*;

@@ -1,5 +1,5 @@
 //! Explanations: what their command lines ask for, and how they end.
-use chr_command_line::reading::{Request, read};
+use chr_command_line::{Request, read};
 use chr_commands::Status;
 use chr_commands::explain::{explain, explain_sources};
 use chr_commands::message::{Detail, Source, Text};

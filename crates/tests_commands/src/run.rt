@@ -1,10 +1,10 @@
 //! The ends of runs.
-use chr_command_line::reading::RunOptions;
+use chr_command_line::RunOptions;
 use chr_commands::Status;
 use chr_commands::check::check;
 use chr_commands::message::{Detail, Source, Text};
 use chr_commands::run::{run, run_sources};
-use chr_run_text::output::Show;
+use chr_run_text::Show;
 use std::test::*;
 use std::{fs, io};
 

@@ -2,12 +2,12 @@
 ghost use Rattle.std.specs.Prelude.{◌≡◌};
 
 use crate::runs::{GCD, MANY, open};
-use chr_book::book::Book;
-use chr_crew::gate::{Open, Stop};
+use chr_book::Book;
 use chr_crew::work::work;
+use chr_crew::{Open, Stop};
 use chr_pool::{Inlet, make};
-use chr_seats::seat::{PostLedger, Seat};
-use chr_seats::shared::Shared;
+use chr_seats::{PostLedger, Seat};
+use chr_shared::Shared;
 use std::alloc::Global;
 use std::marker::Brand;
 use std::sync::Wait;

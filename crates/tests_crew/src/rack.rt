@@ -2,11 +2,11 @@
 ghost use Rattle.std.specs.Prelude.{◌≡◌, true};
 
 use crate::runs::{GCD, open};
-use chr_book::book::Book;
-use chr_crew::rack::Rack;
+use chr_book::Book;
+use chr_crew::Rack;
 use chr_pool::make;
-use chr_seats::seat::PostLedger;
-use chr_seats::shared::Shared;
+use chr_seats::PostLedger;
+use chr_shared::Shared;
 use std::alloc::Global;
 use std::marker::Brand;
 use std::sync::Wait;

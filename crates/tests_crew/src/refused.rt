@@ -2,11 +2,10 @@
 //!
 //! The memory is that of the book and of the run. That of the pool isn't refused, since it is always of `Global`.
 use crate::runs::{GCD, MANY, has_only, multiples, open, run, tickets, verdict};
-use chr_book::book::Book;
-use chr_calls::answers::TicketState;
-use chr_check::checking::Verdict;
-use chr_crew::crew::{Cause, End, Finished};
-use chr_crew::gate::Open;
+use chr_book::Book;
+use chr_calls::TicketState;
+use chr_check::Verdict;
+use chr_crew::{Cause, End, Finished, Open};
 use refusing::Refusing;
 use std::alloc::Global;
 use std::sync::Wait;

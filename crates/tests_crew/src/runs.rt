@@ -1,14 +1,12 @@
 //! Books for crews, runs on them, and the check of what they leave.
 ghost use Rattle.std.specs.Prelude.{◌≤◌};
 
-use chr_book::book::Book;
-use chr_calls::answers::TicketState;
-use chr_check::checking::{Verdict, check};
-use chr_crew::crew::{CrewFault, Finished, run_crew};
-use chr_crew::gate::Gate;
-use chr_log::events::Version;
-use chr_text::reading::read_program;
-use chr_value::names::Names;
+use chr_book::Book;
+use chr_calls::TicketState;
+use chr_check::{Verdict, check};
+use chr_crew::{CrewFault, Finished, Gate, run_crew};
+use chr_log::Version;
+use chr_value::GREATEST_LABEL;
 use std::alloc::{AllocError, Allocator, Global};
 use std::marker::Brand;
 use std::sync::Wait;
@@ -24,9 +22,6 @@ pub const MANY: u64 = 10_000_000;
 /// The seat of the posts, which is no worker's.
 pub const POSTER: u32 = 17;
 
-/// The greatest label of a book whose labels aren't spent.
-pub const LABELS: u64 = 4_294_967_295;
-
 /// A book of a program, with labels up to a limit, after a text of posts. None where one of them can't be read, or where
 /// memory ran out.
 pub fn open_up_to<A: Allocator + Copy>(
@@ -37,16 +32,14 @@ pub fn open_up_to<A: Allocator + Copy>(
 ) -> Option<Book<A>>
     requires { limit ≤ 4294967295 }
 {
-    let mut names = Names::new(alloc);
-    let program = read_program(alloc, program.as_bytes(), &mut names).ok()?;
-    let mut book = Book::new(alloc, program, names, limit).ok()?;
+    let mut book = Book::of_text(alloc, program.as_bytes(), limit).ok()?;
     book.post_text(POSTER, posts.as_bytes()).ok()?;
     Some(book)
 }
 
 /// The same with all labels.
 pub fn open<A: Allocator + Copy>(alloc: A, program: &str, posts: &str) -> Option<Book<A>> {
-    open_up_to(alloc, program, LABELS, posts)
+    open_up_to(alloc, program, GREATEST_LABEL, posts)
 }
 
 /// The posts `gcd(12)`, `gcd(24)` and so on, as many as are asked for.

@@ -2,15 +2,14 @@
 ghost use Rattle.std.specs.Prelude.{◌≡◌, false};
 
 use crate::runs::{GCD, verdict};
-use chr_check::checking::Verdict;
-use chr_crew::gate::{Open, Stop};
-use chr_crew::rack::{Place, Rack};
+use chr_check::Verdict;
 use chr_crew::work::work;
+use chr_crew::{Open, Place, Rack, Stop};
 use chr_pool::{Hand, make};
-use chr_seats::seat::{PostLedger, Seat};
-use chr_seats::shared::Shared;
-use chr_session::desk::{Command, Desk, Reply};
-use chr_shared_desk::shared_desk::SharedDesk;
+use chr_seats::{PostLedger, Seat};
+use chr_session::{Command, Desk, Reply};
+use chr_shared::Shared;
+use chr_shared_desk::SharedDesk;
 use std::alloc::Global;
 use std::marker::Brand;
 use std::sync::Wait;

@@ -1,10 +1,9 @@
 //! Workers that are stopped, and a second crew that goes on.
 use crate::runs::{GCD, MANY, has_only, multiples, open, open_up_to, run, tickets, verdict};
-use chr_book::book::Book;
-use chr_calls::answers::TicketState;
-use chr_check::checking::Verdict;
-use chr_crew::crew::{End, Finished};
-use chr_crew::gate::Open;
+use chr_book::Book;
+use chr_calls::TicketState;
+use chr_check::Verdict;
+use chr_crew::{End, Finished, Open};
 use std::alloc::Global;
 use std::sync::Wait;
 use std::thread::Threads;

@@ -1,9 +1,8 @@
 //! Runs in threads.
 use crate::runs::{GCD, MANY, has_only, multiples, open, run, tickets, verdict};
-use chr_check::checking::Verdict;
-use chr_crew::crew::{End, Finished};
-use chr_crew::gate::Open;
-use chr_seats::counts::Counts;
+use chr_check::Verdict;
+use chr_crew::{End, Finished, Open};
+use chr_seats::Counts;
 use std::alloc::Global;
 use std::sync::Wait;
 use std::thread::Threads;

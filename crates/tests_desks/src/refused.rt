@@ -3,14 +3,13 @@
 //! The memory is that of the lock, the rack and the desk. That of the pool isn't refused, since it is always of `Global`.
 ghost use Rattle.std.specs.Prelude.{◌≡◌, false};
 
-use chr_crew::gate::{Open, Stop};
-use chr_crew::rack::Rack;
 use chr_crew::work::work;
+use chr_crew::{Open, Rack, Stop};
 use chr_pool::{Hand, make};
-use chr_seats::seat::{PostLedger, Seat};
-use chr_seats::shared::Shared;
-use chr_session::desk::{Command, Desk, Fault, Reply};
-use chr_shared_desk::shared_desk::SharedDesk;
+use chr_seats::{PostLedger, Seat};
+use chr_session::{Command, Desk, Fault, Reply};
+use chr_shared::Shared;
+use chr_shared_desk::SharedDesk;
 use refusing::{Refusable, Refusing, refuse_each};
 use std::alloc::Global;
 use std::marker::Brand;

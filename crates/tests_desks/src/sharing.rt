@@ -2,13 +2,10 @@
 ghost use Rattle.std.specs.Prelude.{◌≡◌, false};
 
 use chr_pool::{Hand, Inlet, make};
-use chr_seats::seat::{PostLedger, Seat};
-use chr_seats::shared::Shared;
-use chr_session::commands::Ended;
-use chr_session::desk::Desk;
-use chr_session::memory::{MemorySink, MemorySource};
-use chr_session::session::serve;
-use chr_shared_desk::shared_desk::SharedDesk;
+use chr_seats::{PostLedger, Seat};
+use chr_session::{Desk, Ended, MemorySink, MemorySource, serve};
+use chr_shared::Shared;
+use chr_shared_desk::SharedDesk;
 use std::alloc::Global;
 use std::marker::Brand;
 use std::sync::Wait;

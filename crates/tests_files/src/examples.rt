@@ -1,6 +1,5 @@
 //! The examples against their runs.
-use chr_run_text::output::Show;
-use chr_run_text::running::run_text;
+use chr_run_text::{Show, run_text};
 use std::alloc::Allocator;
 use std::rt::Files;
 use std::{fs, io};

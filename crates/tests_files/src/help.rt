@@ -1,5 +1,5 @@
 //! The manual page and the completions against the help.
-use chr_command_line::reading::{VERSION, read};
+use chr_command_line::{VERSION, read};
 use std::alloc::{AllocError, Global};
 use std::rt::Files;
 use std::{fs, io};

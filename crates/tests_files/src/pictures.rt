@@ -1,7 +1,6 @@
 //! The pictures of examples against their runs.
-use chr_picture_text::text::{Range, draw_text};
-use chr_run_text::output::Show;
-use chr_run_text::running::run_text;
+use chr_picture_text::{Range, draw_text};
+use chr_run_text::{Show, run_text};
 use std::alloc::Allocator;
 use std::rt::Files;
 use std::{fs, io};

@@ -1,6 +1,5 @@
 //! A pool with more room than there is memory.
-use chr_pool::account::Numbered;
-use chr_pool::make;
+use chr_pool::{Numbered, make};
 use std::test::*;
 
 /// A task of 64 KiB: 2^32 of them are more than an address can reach.

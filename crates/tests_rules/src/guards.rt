@@ -1,14 +1,9 @@
 //! The binding under which heads fit atoms, the body that follows, and comparisons of free variables.
 use arrayvec::ArrayVec;
-use chr_guard::binding::{Binding, Bound};
 use chr_guard::body::body;
-use chr_guard::matching::fit;
-use chr_guard::values::holds;
-use chr_rule::expression::{BodyItem, Comparison, Expr, Relation};
-use chr_rule::rule::Rule;
-use chr_rule::rule_atom::{RuleAtom, Term};
-use chr_value::atom::{Atom, Value};
-use chr_value::names::Name;
+use chr_guard::{Binding, Bound, fit, holds};
+use chr_rule::{BodyItem, Comparison, Expr, Relation, Rule, RuleAtom, Term};
+use chr_value::{Atom, Name, Value};
 use std::alloc::{AllocError, Global};
 use std::test::Fail;
 

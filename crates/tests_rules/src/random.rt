@@ -5,18 +5,14 @@ ghost use Rattle.chr_model.specs.Stores.{labels, Distinct};
 ghost use Rattle.chr_plan.specs.Plans.{ArePlans};
 
 use crate::searches::{plans_of, store_of};
-use chr_enumeration::search::find_with_label;
+use chr_enumeration::find_with_label;
 use chr_guard::instance::instance_under;
-use chr_plan::plans::Plans;
-use chr_rule::program::Program;
-use chr_rule::rule::Rule;
-use chr_search::judged::{Judged, Verdict, judge};
-use chr_search::search::{Ask, Search};
-use chr_search::trial::Trial;
-use chr_store::store::Store;
-use chr_text::reading::read_program;
-use chr_value::atom::Atom;
-use chr_value::names::Names;
+use chr_plan::Plans;
+use chr_rule::{Program, Rule};
+use chr_search::{Ask, Judged, Search, Trial, Verdict, judge};
+use chr_store::Store;
+use chr_text::read_program;
+use chr_value::{Atom, Names};
 use std::alloc::{AllocError, Global};
 
 /// How many atoms a store has at most.

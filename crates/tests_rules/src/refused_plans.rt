@@ -1,11 +1,9 @@
 //! A program and its plans.
 use crate::refusals::is_refused;
 use arrayvec::ArrayVec;
-use chr_plan::plans::Plans;
-use chr_rule::program::Program;
-use chr_rule::rule::Rule;
-use chr_rule::rule_atom::{RuleAtom, Term};
-use chr_value::names::Name;
+use chr_plan::Plans;
+use chr_rule::{Program, Rule, RuleAtom, Term};
+use chr_value::Name;
 use refusing::Refusing;
 use std::alloc::Global;
 use std::sync::Arc;

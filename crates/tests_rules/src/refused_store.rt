@@ -1,8 +1,7 @@
 //! A store.
 use crate::refusals::is_refused;
-use chr_store::store::{Store, StoreFault};
-use chr_value::atom::{Atom, Pred, Value};
-use chr_value::names::Name;
+use chr_store::{Store, StoreFault};
+use chr_value::{Atom, Name, Pred, Value};
 use refusing::Refusing;
 use std::alloc::Global;
 

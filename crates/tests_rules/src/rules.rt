@@ -1,9 +1,7 @@
 //! What is a rule, from both sides of each limit.
 use arrayvec::ArrayVec;
-use chr_rule::expression::{BodyItem, Comparison, Expr};
-use chr_rule::rule::Rule;
-use chr_rule::rule_atom::{RuleAtom, Term};
-use chr_value::names::Name;
+use chr_rule::{BodyItem, Comparison, Expr, Rule, RuleAtom, Term};
+use chr_value::Name;
 use std::alloc::Global;
 
 /// An atom of `count` variables, from `first` on.

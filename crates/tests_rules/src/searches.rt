@@ -2,13 +2,12 @@
 ghost use Rattle.std.specs.Prelude.{IfSome};
 ghost use Rattle.chr_plan.specs.Plans.{ArePlans};
 
-use chr_plan::plans::Plans;
-use chr_rule::program::Program;
-use chr_search::judged::{Judged, Verdict, judge};
-use chr_search::search::{Ask, Instance, Passed, Search, Then};
-use chr_store::store::Store;
-use chr_text::reading::{read_atoms, read_program};
-use chr_value::names::Names;
+use chr_plan::Plans;
+use chr_rule::Program;
+use chr_search::{Ask, Instance, Judged, Passed, Search, Then, Verdict, judge};
+use chr_store::Store;
+use chr_text::{read_atoms, read_program};
+use chr_value::Names;
 use std::alloc::Global;
 
 /// A trial that is expected: its rule, its head and its labels, with the verdict.

@@ -1,9 +1,8 @@
 //! The store, up to its limit.
 ghost use Rattle.std.specs.Prelude.{◌≤◌};
 
-use chr_store::store::{Store, StoreFault};
-use chr_value::atom::{Atom, Pred, Value};
-use chr_value::names::Name;
+use chr_store::{Store, StoreFault};
+use chr_value::{Atom, Name, Pred, Value};
 use std::alloc::Global;
 
 const P: Name = Name { number: 0 };

@@ -1,6 +1,6 @@
 //! Checks of logs.
-use chr_check::checking::Verdict;
-use chr_check_text::checked::{CheckTextFault, check_text, watched_check_text};
+use chr_check::Verdict;
+use chr_check_text::{CheckTextFault, check_text, watched_check_text};
 use chr_watch::Watch;
 use std::alloc::Global;
 use std::test::*;

@@ -1,8 +1,7 @@
 //! Worked runs.
 use chr_lex::fault::{Kind, ReadFault};
-use chr_run_text::output::Show;
-use chr_run_text::running::{RunFault, RunOut, run_text, watched_run};
-use chr_solo::solo::End;
+use chr_run_text::{RunFault, RunOut, Show, run_text, watched_run};
+use chr_solo::End;
 use chr_watch::Watch;
 use std::alloc::Global;
 use std::test::Fail;

@@ -1,9 +1,9 @@
 //! Servers in a process of their clients.
 ghost use Rattle.std.specs.Prelude.{◌≤◌};
 
-use chr_check::checking::Verdict;
-use chr_check_text::checked::check_text;
-use chr_serve::serving::serve_on;
+use chr_check::Verdict;
+use chr_check_text::check_text;
+use chr_serve::serve_on;
 use std::alloc::{AllocError, AllocGlobal, Global};
 use std::fs::Files;
 use std::io::{self, BufRead, BufReader, Write};

@@ -1,7 +1,6 @@
 //! Listeners that fail.
 use crate::client::Client;
-use chr_serve::listener::Listener;
-use chr_serve::serving::{ServerFault, serve_on};
+use chr_serve::{Listener, ServerFault, serve_on};
 use std::alloc::{AllocGlobal, Global};
 use std::cell::Cell;
 use std::io::{self, ErrorKind};

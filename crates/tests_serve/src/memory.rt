@@ -2,15 +2,13 @@
 ghost use Rattle.std.specs.Prelude.{◌≡◌, false};
 
 use crate::client::{LOAD, has_posts};
-use chr_crew::gate::{Open, Stop};
-use chr_crew::rack::{Place, Rack};
 use chr_crew::work::work;
+use chr_crew::{Open, Place, Rack, Stop};
 use chr_pool::{Hand, make};
-use chr_seats::seat::{PostLedger, Seat};
-use chr_seats::shared::Shared;
-use chr_serve::session::serve_at;
-use chr_session::commands::Ended;
-use chr_session::memory::{MemorySink, MemorySource};
+use chr_seats::{PostLedger, Seat};
+use chr_serve::serve_at;
+use chr_session::{Ended, MemorySink, MemorySource};
+use chr_shared::Shared;
 use std::alloc::Global;
 use std::marker::Brand;
 use std::sync::Wait;

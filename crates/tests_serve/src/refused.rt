@@ -2,15 +2,12 @@
 ghost use Rattle.std.specs.Prelude.{◌≡◌, false};
 
 use crate::client::{Client, LOAD, listen};
-use chr_crew::rack::Place;
+use chr_crew::Place;
 use chr_pool::make;
-use chr_seats::seat::PostLedger;
-use chr_seats::shared::Shared;
-use chr_serve::serving::serve_on;
-use chr_serve::session::serve_at;
-use chr_session::commands::Ended;
-use chr_session::memory::{MemorySink, MemorySource};
-use chr_session::session::ServeFault;
+use chr_seats::PostLedger;
+use chr_serve::{serve_at, serve_on};
+use chr_session::{Ended, MemorySink, MemorySource, ServeFault};
+use chr_shared::Shared;
 use refusing::Refusing;
 use std::alloc::Global;
 use std::marker::Brand;

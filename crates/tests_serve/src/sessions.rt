@@ -1,6 +1,6 @@
 //! Sessions of clients that read what they are told.
 use crate::client::{Client, GCD, LOAD, has_posts, listen, serves};
-use chr_check::checking::Verdict;
+use chr_check::Verdict;
 use std::alloc::{AllocGlobal, Global};
 use std::fs::Files;
 use std::net::Net;

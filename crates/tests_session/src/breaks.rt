@@ -1,10 +1,7 @@
 //! A session whose input is cut off, or whose reader or writer fails, at each of its bytes.
 use crate::serving::{end, texts, written};
 use crate::talks::{GREATEST, RUN};
-use chr_session::commands::Ended;
-use chr_session::failing::{FailingSink, FailingSource};
-use chr_session::memory::{MemorySink, MemorySource};
-use chr_session::session::ServeFault;
+use chr_session::{Ended, FailingSink, FailingSource, MemorySink, MemorySource, ServeFault};
 use std::alloc::{AllocError, Global};
 use std::test::Fail;
 

@@ -1,8 +1,6 @@
 //! Lines and loads up to their limits, and past them.
 use crate::serving::written;
-use chr_session::commands::Ended;
-use chr_session::memory::MemorySource;
-use chr_session::streams::StreamSource;
+use chr_session::{Ended, MemorySource, StreamSource};
 use std::alloc::{AllocError, Global};
 use std::io::Read;
 use std::test::Fail;

@@ -1,10 +1,7 @@
 //! Sessions whose input comes in one piece, in single bytes, and in two pieces.
 use crate::serving::{end, texts};
 use crate::talks::{GREATEST, TALKS, Talk};
-use chr_session::commands::Ended;
-use chr_session::devices::Source;
-use chr_session::memory::{MemorySink, MemorySource};
-use chr_session::streams::StreamSource;
+use chr_session::{Ended, MemorySink, MemorySource, Source, StreamSource};
 use std::alloc::{AllocError, Global};
 use std::io::Read;
 use std::test::Fail;

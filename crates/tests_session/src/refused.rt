@@ -1,9 +1,7 @@
 //! A worked session with each request refused.
 use crate::serving::{end, texts};
 use crate::talks::{GREATEST, RUN};
-use chr_session::commands::Ended;
-use chr_session::memory::{MemorySink, MemorySource};
-use chr_session::session::ServeFault;
+use chr_session::{Ended, MemorySink, MemorySource, ServeFault};
 use refusing::Refusing;
 use std::alloc::Global;
 use std::test::Fail;

@@ -1,10 +1,7 @@
 //! Sessions over memory.
 use crate::talks::GREATEST;
-use chr_session::commands::Ended;
-use chr_session::devices::{Sink, Source};
-use chr_session::memory::MemorySink;
-use chr_session::session::{ServeFault, serve};
-use chr_solo_desk::solo_desk::SoloDesk;
+use chr_session::{Ended, MemorySink, ServeFault, Sink, Source, serve};
+use chr_solo_desk::SoloDesk;
 use std::alloc::{AllocError, Allocator, Global};
 
 /// The bytes of all commands, and those of all replies.

@@ -1,5 +1,5 @@
 //! Worked sessions.
-use chr_session::commands::Ended;
+use chr_session::Ended;
 
 /// The greatest label limit.
 pub const GREATEST: u32 = 4_294_967_295;

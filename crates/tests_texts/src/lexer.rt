@@ -1,8 +1,6 @@
 //! Items and tokens, at places that are easily misread.
 use chr_lex::fault::{ItemError, Kind};
-use chr_lex::item::next_item;
-use chr_lex::plain::{has_bad_byte, plain_text};
-use chr_lex::token::{Token, Word, tokens};
+use chr_lex::{Token, Word, has_bad_byte, next_item, plain_text, tokens};
 use std::alloc::Global;
 use std::test::Fail;
 

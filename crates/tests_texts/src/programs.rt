@@ -1,8 +1,8 @@
 //! Texts of programs and of posts, each with what the reader gives.
 use crate::logs::full_table;
 use chr_lex::fault::ReadError;
-use chr_text::reading::{read_atoms, read_program};
-use chr_value::names::Names;
+use chr_text::{read_atoms, read_program};
+use chr_value::Names;
 use std::alloc::{AllocError, Global};
 use std::test::Fail;
 

@@ -1,9 +1,6 @@
 //! A log, and the writers of a log and of a store.
-use chr_log::events::{Entry, Event, Labels, Version};
-use chr_log::log::Log;
-use chr_log::writing::{write_log, write_store};
-use chr_value::atom::{Atom, Value};
-use chr_value::names::{Name, Names};
+use chr_log::{Entry, Event, Labels, Log, Version, write_log, write_store};
+use chr_value::{Atom, Name, Names, Value};
 use refusing::Refusing;
 use std::alloc::Global;
 

@@ -1,5 +1,5 @@
 //! A table of names.
-use chr_value::names::{Name, Names};
+use chr_value::{Name, Names};
 use refusing::Refusing;
 use std::alloc::Global;
 

@@ -1,9 +1,9 @@
 //! The readers of a log, of a store, of rules and of posts.
 use chr_lex::fault::ReadError;
 use chr_log_text::fault::TextFault;
-use chr_log_text::reading::{read_log, read_store};
-use chr_text::reading::{read_atoms, read_program};
-use chr_value::names::Names;
+use chr_log_text::{read_log, read_store};
+use chr_text::{read_atoms, read_program};
+use chr_value::Names;
 use refusing::Refusing;
 use std::alloc::Global;
 

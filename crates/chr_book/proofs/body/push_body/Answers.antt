@@ -5,7 +5,7 @@ use Rattle.chr_rule.specs.Rules.{BodyItem}
 use Rattle.chr_rule.specs.Parts.{member}
 use Rattle.chr_guard.specs.Bindings.{bound_at}
 use Rattle.chr_guard.specs.Instances.{AreUnder, added}
-use Rattle.chr_book.proofs.Posted.{none_made, none_more, rest_more, rest_back, waiting_more, on_ok}
+use Rattle.chr_book.proofs.PostedBooks.{none_made, none_more, rest_more, rest_back, waiting_more, on_ok}
 use Rattle.chr_book.proofs.body.push_body.Goals as goal
 
 pub loop-item-init : goal.loop-item-init

@@ -7,7 +7,7 @@ use Rattle.chr_rule.specs.Parts.{shape, member}
 use Rattle.chr_guard.specs.Bindings.{bound_at}
 use Rattle.chr_guard.specs.Instances.{AreUnder, added}
 use Rattle.chr_calls.specs.Tickets.{waiting}
-use Rattle.chr_book.proofs.Posted.{one_made, not_made, no_atom, none_more, pushed_rest, on_ok_weaker}
+use Rattle.chr_book.proofs.PostedBooks.{one_made, not_made, no_atom, none_more, pushed_rest, on_ok_weaker}
 use Rattle.chr_book.proofs.body.push_member.Goals as goal
 
 pub returns-in_default-clause-ok : goal.returns-in_default-clause-ok

@@ -1,6 +1,6 @@
 use Rattle.chr_calls.proofs.Turning.{turns_keep, reports_keep}
-use Rattle.chr_calls.proofs.Firing.{fires_keep}
-use Rattle.chr_calls.proofs.Dropping.{drops_keep}
+use Rattle.chr_calls.proofs.Fires.{fires_keep}
+use Rattle.chr_calls.proofs.Drops.{drops_keep}
 use Rattle.chr_calls.proofs.Batching.{batches_keep, batch_reports_keep}
 use Rattle.chr_calls.proofs.Moving.{call_moves, run_moves}
 use Rattle.chr_calls.proofs.laws.no_search_moves_back.Goals as goal

@@ -1,6 +1,6 @@
 use Rattle.chr_calls.proofs.Turning.{turns_keep, reports_keep}
-use Rattle.chr_calls.proofs.Firing.{fires_keep}
-use Rattle.chr_calls.proofs.Dropping.{drops_keep}
+use Rattle.chr_calls.proofs.Fires.{fires_keep}
+use Rattle.chr_calls.proofs.Drops.{drops_keep}
 use Rattle.chr_calls.proofs.Batching.{batches_keep, batch_reports_keep}
 use Rattle.chr_calls.proofs.Headlines.{run_headline}
 use Rattle.chr_calls.proofs.laws.runs_have_the_headline.Goals as goal

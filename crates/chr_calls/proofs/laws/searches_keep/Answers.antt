@@ -1,6 +1,6 @@
 use Rattle.chr_calls.proofs.Turning.{turns_keep, reports_keep}
-use Rattle.chr_calls.proofs.Firing.{fires_keep}
-use Rattle.chr_calls.proofs.Dropping.{drops_keep}
+use Rattle.chr_calls.proofs.Fires.{fires_keep}
+use Rattle.chr_calls.proofs.Drops.{drops_keep}
 use Rattle.chr_calls.proofs.laws.searches_keep.Goals as goal
 
 pub returns-clause-turns : goal.returns-clause-turns

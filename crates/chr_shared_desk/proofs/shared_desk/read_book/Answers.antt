@@ -1,8 +1,16 @@
-use Rattle.std.proofs.Common.{Err, ap, ◌∙◌}
-use Rattle.chr_named.proofs.Entered.{program_named}
+use Rattle.std.proofs.Common.{ℕ, List, length, ap, ◌∙◌}
+use Rattle.chr_rule.specs.Rules.{Simpagation}
+use Rattle.chr_calls.specs.Books.{BookState}
 use Rattle.chr_shared_desk.proofs.shared_desk.read_book.Goals as goal
 
-pub unreachable-requires : goal.unreachable-requires
-unreachable-requires g c =
-    c.new.ensures.unknown.0 (c.in-Err-UnknownName.is ∙ ap Err c.in-Err-UnknownName.field-0-is)
-    (program_named c.new-names.result c.args.text.now (c.in-Ok.program, c.read_program.new.names) c.in-Ok.ensures.reads)
+pub returns-in-Ok-clause-empty : goal.returns-in-Ok-clause-empty
+returns-in-Ok-clause-empty g c = ap (λ (b : BookState). b.log) c.in-Ok.ensures.opened.is.is
+
+pub returns-in-Ok-clause-loaded : goal.returns-in-Ok-clause-loaded
+returns-in-Ok-clause-loaded g c =
+    let opens = c.in-Ok.ensures.opened in
+    record {
+      book = c.in-Ok.book;
+      opens = opens;
+      count_is = c.len-count.ensures.count ∙ ap (λ (rs : List (Simpagation ℕ)). length rs) (c.program.ensures ∙ ap (λ (b : BookState). b.rules) opens.is.is);
+    }

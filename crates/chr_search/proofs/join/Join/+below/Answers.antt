@@ -6,7 +6,7 @@ use Rattle.chr_search.specs.Partners.{IsReady}
 use Rattle.chr_search.specs.Passing.{PassesIn, IsLevel, IsBelow, IsDone, IsAfterPart, EndsBelow, StopsAt}
 use Rattle.chr_search.proofs.Tree.{grows_more}
 use Rattle.chr_search.proofs.Asking.{room, front}
-use Rattle.chr_search.proofs.Passed.{label_small}
+use Rattle.chr_search.proofs.PassingOver.{label_small}
 use Rattle.chr_search.proofs.Below.{none_left, below_at, done_below, passes_more}
 use Rattle.chr_search.proofs.join.Join.+below.Goals.{pass_parts-After-push, pass_parts-After-pass_below-below, pass_parts-After-pop, pass_parts-After-pass_level-beside}
 use Rattle.chr_search.proofs.join.Join.+below.Goals as goal

@@ -7,7 +7,7 @@ use Rattle.chr_search.specs.Partners.{IsReady}
 use Rattle.chr_search.specs.Passing.{IsBelow, IsDone, EndsBelow}
 use Rattle.chr_search.proofs.Tree.{append_one, grows_more}
 use Rattle.chr_search.proofs.Asking.{room, front}
-use Rattle.chr_search.proofs.Passed.{label_small}
+use Rattle.chr_search.proofs.PassingOver.{label_small}
 use Rattle.chr_search.proofs.Below.{none_left, none_after, none_below, done_below, passes_more}
 use Rattle.chr_search.proofs.join.Join.+pass_on.Goals as goal
 

@@ -3,7 +3,7 @@ use Rattle.chr_model.specs.Stores.{among}
 use Rattle.chr_search.specs.Joined.{join_of}
 use Rattle.chr_search.proofs.Asking.{any_among}
 use Rattle.chr_search.proofs.Wholes.{in_head_order}
-use Rattle.chr_search.proofs.Passed.{repeats}
+use Rattle.chr_search.proofs.PassingOver.{repeats}
 use Rattle.chr_search.proofs.Levels.{last_placed, last_gone, last_misfit, last_ready, last_part, last_heads, last_whole, last_none}
 use Rattle.chr_search.proofs.join.Join.judge_at.Goals as goal
 

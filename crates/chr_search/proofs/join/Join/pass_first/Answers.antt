@@ -1,7 +1,7 @@
 use Rattle.std.proofs.Common.{◌≡◌, ◌≤◌, [], ◌∷◌, sym, subst, arith}
 use Rattle.chr_search.specs.Trials.{MayFollow}
 use Rattle.chr_search.specs.Joined.{join_of}
-use Rattle.chr_search.proofs.Passed.{label_small}
+use Rattle.chr_search.proofs.PassingOver.{label_small}
 use Rattle.chr_search.proofs.Levels.{last_no_whole}
 use Rattle.chr_search.proofs.Below.{passes_more}
 use Rattle.chr_search.proofs.First.{first_misfit, first_part, first_below, first_ends}

@@ -7,7 +7,7 @@ use Rattle.chr_search.specs.Joined.{join_of}
 use Rattle.chr_search.specs.Passing.{AreWhole, ComesNext, PassesIn}
 use Rattle.chr_search.proofs.Tree.{grows_more}
 use Rattle.chr_search.proofs.Asking.{room}
-use Rattle.chr_search.proofs.Passed.{room_below}
+use Rattle.chr_search.proofs.PassingOver.{room_below}
 use Rattle.chr_search.proofs.Below.{HasRun, has_run, misfits_rise, misfits_room, below_least, below_done, part_passed}
 use Rattle.chr_search.proofs.join.Join.pass_level.Goals.{After-settle, In-Part, In-Whole, After-put_at}
 use Rattle.chr_search.proofs.join.Join.pass_level.Goals as goal

@@ -4,7 +4,7 @@ use Rattle.chr_search.specs.Passing.{AreWhole}
 use Rattle.chr_search.specs.Tree.{Grows, LeastFrom}
 use Rattle.chr_search.specs.Trials.{MayFollow}
 use Rattle.chr_search.proofs.Tree.{grows_more}
-use Rattle.chr_search.proofs.Passed.{label_small}
+use Rattle.chr_search.proofs.PassingOver.{label_small}
 use Rattle.chr_search.proofs.join.Join.pass_run.Goals as goal
 
 pub judge_at-requires-clause-trial : goal.judge_at-requires-clause-trial

@@ -4,7 +4,7 @@ use Rattle.chr_search.specs.declared.passing.End.{End}
 use Rattle.chr_search.specs.Trials.{Space, older, NoneLeft}
 use Rattle.chr_search.specs.Joined.{join_of}
 use Rattle.chr_search.specs.Passing.{AreWhole, EndsIn}
-use Rattle.chr_search.proofs.Passed.{pass_more}
+use Rattle.chr_search.proofs.PassingOver.{pass_more}
 use Rattle.chr_search.proofs.PlanByPlan.{HasGone, HasJoin, grown, come_to_end, has_join, rule_at_most, head_at_most, trials_at, gone_at, on_at, whole_at}
 use Rattle.chr_search.proofs.Occurring.{in_order}
 use Rattle.chr_search.proofs.search.Search.pass_in.Goals.{In-Some, After-pass_in_plan-passed}

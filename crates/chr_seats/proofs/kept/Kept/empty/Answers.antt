@@ -1,8 +1,8 @@
-use Rattle.std.proofs.Common.{[]}
-use Rattle.chr_seats.proofs.shared.Shared.empty.Goals as goal
+use Rattle.std.proofs.Common.{[], sym, ◌∙◌}
+use Rattle.chr_seats.proofs.kept.Kept.empty.Goals as goal
 
-pub over-shared-requires-clause-counted : goal.over-shared-requires-clause-counted
-over-shared-requires-clause-counted g c = c.seat_all-posts.ensures.counted [] c.none_yet-counts.ensures
+pub invariant_of-kept : goal.invariant_of-kept
+invariant_of-kept g c = (c.seat_all-posts.ensures.counted [] c.none_yet-counts.ensures, λ h. sym c.requires.none ∙ h)
 
 pub returns-clause-workers : goal.returns-clause-workers
 returns-clause-workers g c = c.seat_all-posts.ensures.workers [] c.none_yet-counts.ensures
