@@ -19,8 +19,12 @@ mod refused;
 #[cfg(test)]
 mod runs;
 #[cfg(test)]
+mod scenes;
+#[cfg(test)]
 mod sessions;
 #[cfg(test)]
 mod stops;
 #[cfg(test)]
 mod threads;
+#[cfg(test)]
+mod waiting;
