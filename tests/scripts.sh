@@ -1,6 +1,6 @@
 #!/usr/bin/env bash
-# Tests ./chr and release/ in small repositories of their own, whose ./build is a stand-in that says so, and the pictures
-# of docs. Each test is a line `test NAME ... ok` or `test NAME ... FAILED`; the last line is 'N passed, M failed'.
+# Tests ./chr and release/ in small repositories of their own, whose ./build is a stand-in that says so, the pictures of
+# docs, and what the examples are to print against a plain reference. Each test is a line `test NAME ... ok` or `test NAME ... FAILED`; the last line is 'N passed, M failed'.
 set -u
 top=$(cd "$(dirname "${BASH_SOURCE[0]}")/.." && pwd)
 work=$(mktemp -d)
@@ -185,10 +185,12 @@ for name in $(declare -F | sed 's/^declare -f //'); do
   fi
 done
 
-shown=$("$top/tests/pictures.py")
-status=$?
-echo "$shown"
-passed=$((passed + $(grep -c ' \.\.\. ok$' <<<"$shown")))
-failed=$((failed + (status != 0)))
+for script in pictures reference; do
+  shown=$("$top/tests/$script.py")
+  status=$?
+  grep '^test ' <<<"$shown"
+  passed=$((passed + $(grep -c ' \.\.\. ok$' <<<"$shown")))
+  failed=$((failed + (status != 0)))
+done
 echo "$passed passed, $failed failed"
 [ "$failed" = 0 ]
