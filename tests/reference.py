@@ -1,5 +1,5 @@
 #!/usr/bin/env python3
-"""A plain reference of `chr run`, written from docs/language.md and docs/semantics.md, which shares nothing with the crates.
+"""A plain reference of `chr run`, by the definitions of docs/language.md and docs/semantics.md. It shares no code with the crates.
 
   tests/reference.py RULES POSTS   prints what `chr run RULES POSTS` is to print; both texts must be right, and the run end
   tests/reference.py               compares it with expected.txt of each example
