@@ -32,8 +32,14 @@ fn copy_constraints<A: Allocator + Copy>(
 ) -> Result<Vec<(Label, Atom<A>), A>, AllocError>
     ensures { IfOk result (λ constraints. constraints.items ≡ store.now.entries) }
 {
-    let mut constraints = Vec::with_capacity(alloc, store.len())?;
-    for (label, atom) in store.iter() {
+    let count = store.len();
+    let mut constraints = Vec::with_capacity(alloc, count)?;
+    let mut left = store.iter();
+    // Behind the last constraint are only labels whose atoms have gone, perhaps many.
+    while constraints.len() < count {
+        let Some((label, atom)) = left.next() else {
+            unreachable!();
+        };
         constraints.push((label, atom.copy(alloc)?))?;
     }
     Ok(constraints)

@@ -1,5 +1,6 @@
 pub mod Entries
 pub mod Table
+pub mod Blocks
 pub mod Walks
 pub mod Slots
 pub mod Keep

@@ -1,5 +1,6 @@
 pub mod Labels
 pub mod Table
+pub mod Blocks
 pub mod Keys
 pub mod Faults
 pub mod Buckets

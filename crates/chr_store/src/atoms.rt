@@ -1,10 +1,11 @@
 //! Atoms under labels that are given in order.
-ghost use Rattle.std.specs.Prelude.{◌≡◌, ◌+◌, ◌≤◌, ◌++◌, ◌∷◌, [], length, IfOk, OnOk, OnErr};
+ghost use Rattle.std.specs.Prelude.{◌≡◌, ◌+◌, ◌*◌, ◌<◌, ◌≤◌, ◌++◌, ◌∷◌, [], ℕ, length, slice_index, vec_len, vec_capacity, IfOk, OnOk, OnErr};
 ghost use Rattle.std.specs.Option.{option_copied};
 ghost use Rattle.std.specs.Iterator.{item_count};
 ghost use Rattle.std.specs.Map.Iter.{TakesFirst};
 ghost use Rattle.chr_value.specs.Stores.{atom_at, drop_label};
-ghost use Rattle.chr_store.specs.Table.{IsSlotOf, atom_of, shown};
+ghost use Rattle.chr_store.specs.Table.{IsSlotOf, atom_of, held, entries_from, shown};
+ghost use Rattle.chr_store.specs.Blocks.{AreCounts, AreEmptyAtNone};
 
 use chr_value::{Atom, Label};
 use std::alloc::{AllocError, Allocator};
@@ -13,11 +14,16 @@ use std::marker::Model;
 /// The atom of a label, until it is taken out.
 pub type Held<A> = Option<Box<Atom<A>, A>>;
 
+/// How many labels, one after another, are counted together.
+const BLOCK: usize = 64;
+
 /// Atoms under labels, which are given from 1 on, each once. The slot of a label stays where its atom is taken out.
 /// Contracts see the list of the labels with their atoms, which rises, and the label that comes next.
 #[derive(Drop)]
 pub struct Atoms<A: Allocator> {
     slots: Vec<Held<A>, A>,
+    /// How many atoms each block of labels has.
+    counts: Vec<u32, A>,
     live: usize,
 }
 
@@ -27,6 +33,7 @@ impl<A: Allocator> Model for Atoms<A> {
     ghost use Rattle.chr_value.specs.Code.{value_code};
     ghost use Rattle.chr_store.specs.Labels.{GivenAtoms};
     ghost use Rattle.chr_store.specs.Table.{entries_from, held, IsTable};
+    ghost use Rattle.chr_store.specs.Blocks.{AreCounts};
 
     ghost Value = { GivenAtoms };
 
@@ -34,7 +41,7 @@ impl<A: Allocator> Model for Atoms<A> {
 
     ghost view = { λ a. record { entries = entries_from 1 (held a.slots.items); next = length a.slots.items + 1 } };
 
-    ghost invariant = { λ a. IsTable (held a.slots.items) a.live };
+    ghost invariant = { λ a. IsTable (held a.slots.items) a.live × AreCounts (held a.slots.items) a.counts.items };
 }
 
 /// The index of a label's slot. That of 0, which is no label, is above all others.
@@ -54,6 +61,58 @@ fn copy_of<A: Allocator + Copy>(alloc: A, slot: &Held<A>) -> Result<Held<A>, All
     }
 }
 
+/// Makes room for one slot more, and a count for the block of its label. An `Err` is E01.
+fn make_room<A: Allocator>(
+    slots: &mut Vec<Held<A>, A>,
+    counts: &mut Vec<u32, A>,
+) -> Result<(), AllocError>
+    requires fits { length slots.old.items ≤ 4294967294 }
+    requires counted { AreCounts (held slots.old.items) counts.old.items }
+    ensures slots { slots.new.items ≡ slots.old.items }
+    ensures counted { AreCounts (held slots.old.items) counts.new.items }
+    ensures block { OnOk result (length slots.old.items + 1 < 64 * length counts.new.items) }
+    ensures place { OnOk result (vec_len slots.new < vec_capacity slots.new) }
+{
+    slots.reserve(1)?;
+    if (slots.len() + 1) / BLOCK == counts.len() {
+        counts.push(0)?;
+    }
+    Ok(())
+}
+
+/// The first block from one on that has an atom, or one past all that are counted.
+fn next_block(counts: &[u32], from: usize) -> usize
+    ensures later { from ≤ result }
+    ensures empty { (k : ℕ) → from ≤ k → k < result → (k < length counts.now) × (slice_index counts.now k ≡ 0) }
+{
+    let mut block = from;
+    while block < counts.len() && counts[block] == 0 {
+        block += 1;
+    }
+    block
+}
+
+/// The slots with the first one's label, but for those in front whose blocks have no atom.
+fn past_empty<'s, A: Allocator>(
+    slots: &'s [Held<A>],
+    counts: &[u32],
+    label: Label,
+) -> (&'s [Held<A>], Label)
+    requires fits { label + length slots.now ≤ 4294967296 }
+    requires empty { AreEmptyAtNone label (held slots.now) counts.now }
+    ensures fits { result.1 + length result.0.now ≤ 4294967296 }
+    ensures fewer { length result.0.now ≤ length slots.now }
+    ensures empty { AreEmptyAtNone result.1 (held result.0.now) counts.now }
+    ensures same { entries_from result.1 (held result.0.now) ≡ entries_from label (held slots.now) }
+{
+    let block = next_block(counts, label as usize / BLOCK);
+    let empty = block
+        .saturating_mul(BLOCK)
+        .saturating_sub(label as usize)
+        .min(slots.len());
+    (&slots[empty..], label + empty as u64)
+}
+
 impl<A: Allocator + Copy> Atoms<A> {
     /// No atoms. Takes no memory.
     pub fn new(alloc: A) -> Atoms<A>
@@ -61,6 +120,7 @@ impl<A: Allocator + Copy> Atoms<A> {
     {
         Atoms {
             slots: Vec::new(alloc),
+            counts: Vec::new(alloc),
             live: 0,
         }
     }
@@ -87,10 +147,9 @@ impl<A: Allocator + Copy> Atoms<A> {
     {
         let alloc = *self.slots.allocator();
         let copied = Box::new(alloc, atom.copy(alloc)?)?;
-        self.slots.reserve(1)?;
-        let Ok(()) = self.slots.push(Some(copied)) else {
-            unreachable!();
-        };
+        make_room(&mut self.slots, &mut self.counts)?;
+        self.counts[(self.slots.len() + 1) / BLOCK] += 1;
+        self.slots.push_reserved(Some(copied));
         self.live += 1;
         Ok(())
     }
@@ -101,10 +160,8 @@ impl<A: Allocator + Copy> Atoms<A> {
         ensures ok { OnOk result (self.new ≡ record { entries = self.old.entries; next = self.old.next + 1 }) }
         ensures unchanged { OnErr result (self.new ≡ self.old) }
     {
-        self.slots.reserve(1)?;
-        let Ok(()) = self.slots.push(None) else {
-            unreachable!();
-        };
+        make_room(&mut self.slots, &mut self.counts)?;
+        self.slots.push_reserved(None);
         Ok(())
     }
 
@@ -134,6 +191,7 @@ impl<A: Allocator + Copy> Atoms<A> {
             return None;
         };
         self.live -= 1;
+        self.counts[(index + 1) / BLOCK] -= 1;
         Some(Box::into_inner(atom))
     }
 
@@ -142,9 +200,11 @@ impl<A: Allocator + Copy> Atoms<A> {
         ensures rest { result ≡ self.now.entries }
         ensures fits { length result ≤ 4294967295 }
     {
+        let (slots, label) = past_empty(&self.slots, &self.counts, 1);
         Constraints {
-            slots: &self.slots,
-            label: 1,
+            slots,
+            counts: &self.counts,
+            label,
         }
     }
 
@@ -156,8 +216,10 @@ impl<A: Allocator + Copy> Atoms<A> {
         for slot in &self.slots {
             slots.push(copy_of(alloc, slot)?)?;
         }
+        let counts = Vec::from_slice(alloc, &self.counts)?;
         Ok(Atoms {
             slots,
+            counts,
             live: self.live,
         })
     }
@@ -167,6 +229,8 @@ impl<A: Allocator + Copy> Atoms<A> {
 #[derive(Drop)]
 pub struct Constraints<'s, A: Allocator> {
     slots: &'s [Held<A>],
+    /// How many atoms each block has, also of the slots that have been passed.
+    counts: &'s [u32],
     label: Label,
 }
 
@@ -176,6 +240,7 @@ impl<'s, A: Allocator> Model for Constraints<'s, A> {
     ghost use Rattle.chr_value.specs.Stores.{Store};
     ghost use Rattle.chr_value.specs.Code.{value_code};
     ghost use Rattle.chr_store.specs.Table.{entries_from, held};
+    ghost use Rattle.chr_store.specs.Blocks.{AreEmptyAtNone};
 
     ghost Value = { Store };
 
@@ -183,7 +248,7 @@ impl<'s, A: Allocator> Model for Constraints<'s, A> {
 
     ghost view = { λ c. entries_from c.label (held c.slots.now) };
 
-    ghost invariant = { λ c. c.label + length c.slots.now ≤ 4294967296 };
+    ghost invariant = { λ c. (c.label + length c.slots.now ≤ 4294967296) × AreEmptyAtNone c.label (held c.slots.now) c.counts.now };
 }
 
 impl<'s, A: Allocator> Iterator for Constraints<'s, A> {
@@ -196,8 +261,9 @@ impl<'s, A: Allocator> Iterator for Constraints<'s, A> {
     fn next(&mut self) -> Option<(Label, &'s Atom<A>)> {
         while let Some((slot, others)) = self.slots.split_first() {
             let label = self.label;
-            self.slots = others;
-            self.label += 1;
+            let (slots, next) = past_empty(others, self.counts, label + 1);
+            self.slots = slots;
+            self.label = next;
             if let Some(atom) = slot {
                 return Some((label, atom));
             }

@@ -4,7 +4,8 @@
 //! two equal constraints have two labels and a removed label never comes back. [`next_at`](Store::next_at)
 //! finds the least label in a range whose atom has a predicate and, where one is asked for, a value at a place.
 //! A store keeps each atom in a slot of its label, so looking one up takes no search. The atom's memory goes when it is
-//! removed, and 16 bytes for its label stay.
+//! removed, and 16 bytes for its label stay. It counts the atoms of each 64 labels, so that [`iter`](Store::iter) passes over
+//! blocks whose atoms have gone.
 //! It also keeps the labels of each predicate in order, and, for each place that
 //! [`indexed`](Store::indexed) is given, those of each predicate and value there. So `next_at` takes a hash, or
 //! for a predicate alone a look-up in a table, and a binary search; with a key at another place it goes through the labels

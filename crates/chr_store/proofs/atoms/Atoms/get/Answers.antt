@@ -9,20 +9,20 @@ use Rattle.chr_store.proofs.atoms.Atoms.get.Goals as goal
 pub returns-in_default : goal.returns-in_default
 returns-in_default g c =
     let i = c.self.inside in
-    let there = seen i.slots.items i.live c.self.invariant c.args.label c.index_of.result c.index_of.ensures in
+    let there = seen i.slots.items i.live c.self.invariant.0 c.args.label c.index_of.result c.index_of.ensures in
     let here = ap (λ xs. slice_get xs c.index_of.result) (sym c.deref.ensures.value) ∙ looked_at c.deref.result.now c.index_of.result c.get.result c.get.ensures.lookup in
     sym (ap (λ (s : GivenAtoms). atom_at s.entries c.args.label) (sym c.self.view_is) ∙ there ∙ ap atom_in here ∙ ap (λ r. atom_in (option_copied r)) c.in_default.is)
 
 pub returns-in-None : goal.returns-in-None
 returns-in-None g c =
     let i = c.self.inside in
-    let there = seen i.slots.items i.live c.self.invariant c.args.label c.index_of.result c.index_of.ensures in
+    let there = seen i.slots.items i.live c.self.invariant.0 c.args.label c.index_of.result c.index_of.ensures in
     let here = ap (λ xs. slice_get xs c.index_of.result) (sym c.deref.ensures.value) ∙ looked_at c.deref.result.now c.index_of.result c.get.result c.get.ensures.lookup in
     sym (ap (λ (s : GivenAtoms). atom_at s.entries c.args.label) (sym c.self.view_is) ∙ there ∙ ap atom_in here ∙ ap (λ r. atom_in (option_copied r)) c.in-Some.is ∙ ap atom_of c.in-None.is)
 
 pub returns-in-Some-slot : goal.returns-in-Some-slot
 returns-in-Some-slot g c =
     let i = c.self.inside in
-    let there = seen i.slots.items i.live c.self.invariant c.args.label c.index_of.result c.index_of.ensures in
+    let there = seen i.slots.items i.live c.self.invariant.0 c.args.label c.index_of.result c.index_of.ensures in
     let here = ap (λ xs. slice_get xs c.index_of.result) (sym c.deref.ensures.value) ∙ looked_at c.deref.result.now c.index_of.result c.get.result c.get.ensures.lookup in
     sym (ap (λ (s : GivenAtoms). atom_at s.entries c.args.label) (sym c.self.view_is) ∙ there ∙ ap atom_in here ∙ ap (λ r. atom_in (option_copied r)) c.in-Some.is ∙ ap atom_of c.in-Some-slot.is ∙ ap Some (sym c.deref-in-Some-slot.ensures))
