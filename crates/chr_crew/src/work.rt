@@ -11,14 +11,45 @@ use std::alloc::Allocator;
 use std::sync::Wait;
 use std::sync::ledger::Ledger;
 
-/// A ticket of the pool, else the least stray one.
+/// After so many tickets a worker looks elsewhere first than in its own deque, in turn for what was posted and for what is stray,
+/// so that no chain of its own keeps these waiting.
+const TICKETS_A_LOOK: u64 = 32;
+
+/// Whether a worker looks elsewhere first, after so many tickets.
+fn looks_elsewhere(worked: u64) -> bool {
+    worked % TICKETS_A_LOOK == TICKETS_A_LOOK - 1
+}
+
+/// The first ticket that was posted or the least stray one, in turn.
+fn find_elsewhere<L1: PostLedger, L2: Ledger, A: Allocator + Copy, R: Wait>(
+    rt: &R,
+    shared: &Shared<L1, L2, A>,
+    hand: &mut Hand<u64>,
+    worked: u64,
+) -> Option<u64>
+    ensures { hand_id hand.new ≡ hand_id hand.old }
+{
+    if worked / TICKETS_A_LOOK % 2 == 0 {
+        hand.take_fed(rt)
+    } else {
+        shared.take_stray(rt)
+    }
+}
+
+/// A ticket of the pool, else the least stray one, after so many tickets.
 fn find<L1: PostLedger, L2: Ledger, A: Allocator + Copy, R: Wait>(
     rt: &R,
     shared: &Shared<L1, L2, A>,
     hand: &mut Hand<u64>,
+    worked: u64,
 ) -> Option<u64>
     ensures { hand_id hand.new ≡ hand_id hand.old }
 {
+    if looks_elsewhere(worked) {
+        if let Some(ticket) = find_elsewhere(rt, shared, hand, worked) {
+            return Some(ticket);
+        }
+    }
     if let Some(ticket) = hand.take(rt) {
         return Some(ticket);
     }
@@ -45,13 +76,14 @@ fn next_ticket<L1: PostLedger, L2: Ledger, A: Allocator + Copy, R: Wait>(
     shared: &Shared<L1, L2, A>,
     hand: &mut Hand<u64>,
     stop: Stop,
+    worked: u64,
 ) -> Option<(u64, u64)>
     ensures { hand_id hand.new ≡ hand_id hand.old }
 {
     for _ in rt.forever() {
         // What was announced before this is found now, and what is announced later ends the rest.
         let seen = shared.news();
-        if let Some(ticket) = find(rt, shared, hand) {
+        if let Some(ticket) = find(rt, shared, hand, worked) {
             return Some((ticket, seen));
         }
         if rest(rt, shared, stop, seen) == Rest::Over {
@@ -100,7 +132,7 @@ fn goes_on<L1: PostLedger, L2: Ledger, A: Allocator + Copy, R: Wait>(
     }
 }
 
-/// Works on one ticket. Whether the worker goes on; else it has ended.
+/// Works on one ticket, after so many others. Whether the worker goes on; else it has ended.
 fn work_on_one<L1: PostLedger, L2: Ledger, A: Allocator + Copy, R: Wait, G: Gate>(
     rt: &R,
     shared: &Shared<L1, L2, A>,
@@ -108,6 +140,7 @@ fn work_on_one<L1: PostLedger, L2: Ledger, A: Allocator + Copy, R: Wait, G: Gate
     seat: &mut Seat<L1, L2>,
     gate: &G,
     stop: &mut Stop,
+    worked: u64,
 ) -> bool
     ensures hand { hand_id hand.new ≡ hand_id hand.old }
     ensures number { seat.new.number ≡ seat.old.number }
@@ -117,10 +150,12 @@ fn work_on_one<L1: PostLedger, L2: Ledger, A: Allocator + Copy, R: Wait, G: Gate
         leave(rt, shared);
         return false;
     }
-    match next_ticket(rt, shared, hand, *stop) {
+    match next_ticket(rt, shared, hand, *stop, worked) {
         Some((ticket, seen)) => {
             let left = work_on_ticket(rt, shared, hand, seat, gate, stop, ticket);
-            goes_on(rt, shared, left, *stop, seen)
+            // What it looked elsewhere for may want memory that its own tickets don't want.
+            (left == Left::Want && looks_elsewhere(worked))
+                || goes_on(rt, shared, left, *stop, seen)
         }
         None => false,
     }
@@ -128,7 +163,8 @@ fn work_on_one<L1: PostLedger, L2: Ledger, A: Allocator + Copy, R: Wait, G: Gate
 
 /// Works by a seat: takes a ticket of the pool, or else a stray one, claims it, and goes through its trials until its goal
 /// has ended; then it takes another. Trials are judged while the lock is free, the gate before each. The tickets of a
-/// firing are pushed on the hand, and one that the hand refuses is marked stray.
+/// firing are pushed on the hand, and one that the hand refuses is marked stray. After each 32 tickets it looks first for the
+/// first ticket of the pool's queue and for the least stray one, in turn, whatever the hand's own deque has.
 ///
 /// A ticket that another seat has meanwhile, or that has ended, is left alone. Where memory (E01) or labels (E10) run out,
 /// and where no turn is left or the crew is closed, the ticket is put down or marked stray. Whether the crew is closed is
@@ -148,10 +184,12 @@ pub fn work<L1: PostLedger, L2: Ledger, A: Allocator + Copy, R: Wait, G: Gate>(
     ensures posts { seat.new.counts.posts ≡ seat.old.counts.posts }
 {
     let mut stop = stop;
+    let mut worked: u64 = 0;
     shared.begin(rt);
     for _ in rt.forever() {
-        if !work_on_one(rt, shared, hand, seat, gate, &mut stop) {
+        if !work_on_one(rt, shared, hand, seat, gate, &mut stop, worked) {
             return;
         }
+        worked = worked.wrapping_add(1);
     }
 }

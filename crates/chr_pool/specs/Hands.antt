@@ -43,6 +43,10 @@ module _ {T : Type 0} where
   abbrev pub hand_pushed : Hand T → List ℕ
   hand_pushed h = (worker_view h.own).pushed
 
+  -- the numbers of the tasks that it took of the queue, in order
+  abbrev pub hand_fed : Hand T → List ℕ
+  hand_fed h = (queue_account h.queue_handle).taken
+
   -- the numbers of the tasks that it took: of its own deque, of the queue, and of the deque of each hand by stealing,
   -- each list in order
   abbrev pub hand_views : Hand T → List (List ℕ)

@@ -61,8 +61,8 @@ fn steal_from<T: Numbered + Drop, R: Wait>(
 }
 
 impl<T: Numbered + Drop> Hand<T> {
-    ghost use Rattle.std.specs.Prelude.{MatchResult, IfErr, ◌++◌};
-    ghost use Rattle.chr_pool.specs.Hands.{hand_id, hand_capacity, hand_pushed, hand_views};
+    ghost use Rattle.std.specs.Prelude.{MatchResult, IfErr, IfSome, ◌++◌};
+    ghost use Rattle.chr_pool.specs.Hands.{hand_id, hand_capacity, hand_pushed, hand_fed, hand_views};
 
     /// Pushes a task at the back of this hand's own deque. It waits for nobody.
     ///
@@ -104,6 +104,25 @@ impl<T: Numbered + Drop> Hand<T> {
             return Some(task);
         }
         let task = steal_from(&mut self.deque_handles, self.number, rt)?;
+        self.taken += 1;
+        Some(task)
+    }
+
+    /// Takes the first task of the queue, whatever this hand's own deque has. It may wait for a thread that is using the
+    /// queue.
+    ///
+    /// Of `hand_views` the list of the queue gets the task's number at its end. The answer is `None` where nothing was found,
+    /// or after 2^58 takings.
+    pub fn take_fed<R: Wait>(&mut self, rt: &R) -> Option<T>
+        ensures same { hand_id self.new ≡ hand_id self.old }
+        ensures pushed { hand_pushed self.new ≡ hand_pushed self.old }
+        ensures taken { MatchOption result (hand_views self.new ≡ hand_views self.old) (λ x. OneGrew (T.number x) (hand_views self.old) (hand_views self.new)) }
+        ensures fed { IfSome result (λ x. hand_fed self.new ≡ hand_fed self.old ++ T.number x ∷ []) }
+    {
+        if self.taken >= LIMIT {
+            return None;
+        }
+        let task = self.queue_handle.take(rt)?;
         self.taken += 1;
         Some(task)
     }

@@ -2,6 +2,8 @@
 //!
 //! [`make`] makes a pool of hands and inlets. Each hand has a deque of its own: it pushes new tasks there, and takes the
 //! oldest task of its own deque, else of the queue that the inlets feed, else of the deque of another hand, by stealing.
+//! By [`Hand::take_fed`] it takes the oldest task of the queue, whatever its own deque has, so that what is fed needn't wait
+//! for the end of its own tasks.
 //! Hands and inlets may be used in different threads at the same time. Once all are back in one place, [`gather`] counts
 //! what was pushed and taken, and hands out the tasks that are left.
 //!
@@ -10,8 +12,8 @@
 //! with all that were taken from it, equal to those that were pushed there, as multisets, and the tasks in it in the order
 //! of pushing (`specs/Accounts.antt`). So `gather` can say that taken and left together are the pushed tasks, each once.
 //!
-//! [`Hand::push`] waits for nobody. [`Hand::take`], [`Inlet::push`] and [`gather`] may wait for another thread that is
-//! using the queue. No contract says that a call which may wait returns, nor that a task is ever taken.
+//! [`Hand::push`] waits for nobody. [`Hand::take`], [`Hand::take_fed`], [`Inlet::push`] and [`gather`] may wait for another
+//! thread that is using the queue. No contract says that a call which may wait returns, nor that a task is ever taken.
 #![tactic(auto)]
 
 mod account;

@@ -123,9 +123,9 @@ impl<L1: PostLedger, L2: Ledger, A: Allocator + Copy> Shared<L1, L2, A> {
         self.locked.lock(rt).sleepers.holds
     }
 
-    /// A session that saw the book after `seen` holds sleeps while a worker is awake, until 64 to 127 holds have been made
-    /// since. Where no worker is awake it doesn't sleep. Whether there may be something new: not where no worker is awake,
-    /// and there was no hold since, but before any has begun.
+    /// A session that saw the book after `seen` holds sleeps while a worker is awake, until at least 64 holds have been made
+    /// since: while `n` sessions sleep, fewer than `64 * n + 64`. Where no worker is awake it doesn't sleep. Returns whether
+    /// there may be something new: false only once a worker has begun, none is awake and there was no hold since.
     pub fn watch<R: Wait>(&self, rt: &R, seen: u64) -> bool {
         let mut locked = self.locked.lock(rt);
         if locked.sleepers.awake == 0 {
@@ -149,7 +149,7 @@ impl<L1: PostLedger, L2: Ledger, A: Allocator + Copy> Shared<L1, L2, A> {
         true
     }
 
-    /// Ends the rest of all workers that wait for this.
+    /// Closes the crew: ends the rest of all its workers.
     pub fn close<R: Wait>(&self, rt: &R) {
         let locked = self.locked.lock(rt);
         self.closed.store(true, Ordering::SeqCst);

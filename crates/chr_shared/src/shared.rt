@@ -43,7 +43,7 @@ pub struct Shared<L1: PostLedger, L2: Ledger, A: Allocator> {
     /// How often there was something new to take, modulo 2^64. This and `closed` change in a hold, so none that is about to
     /// sleep misses it, and are read without one.
     pub(crate) news: AtomicU64,
-    /// Whether workers that wait for the end shall end.
+    /// Whether workers that wait for the end are to end.
     pub(crate) closed: AtomicBool,
 }
 
@@ -124,8 +124,8 @@ impl<L1: PostLedger, L2: Ledger, A: Allocator + Copy> Shared<L1, L2, A> {
         kept.audit(workers, sessions);
     }
 
-    /// Makes a call by a seat, which adds posts or other entries. Of each 64th hold the sessions that sleep are told, so that
-    /// they see a run that goes on and on.
+    /// Makes a call by a seat, which adds posts or other entries. Now and then the sessions that sleep are told after a hold, so
+    /// that they see a run that goes on and on.
     fn in_hold<R: Wait, X, C: Call<A, X> + Drop>(
         &self,
         rt: &R,
@@ -139,10 +139,13 @@ impl<L1: PostLedger, L2: Ledger, A: Allocator + Copy> Shared<L1, L2, A> {
         ensures others { C.posts ≡ true → seat.new.counts.others ≡ seat.old.counts.others }
     {
         let mut locked = self.locked.lock(rt);
-        if locked.sleepers.count_hold() {
+        let look = locked.sleepers.count_hold();
+        let answer = locked.kept.hold(seat, call, are_posts);
+        drop(locked);
+        if look {
             self.watched.notify_all();
         }
-        locked.kept.hold(seat, call, are_posts)
+        answer
     }
 
     /// Gives a ticket to the seat, as [`Book::claim`](chr_book::Book::claim) does. E26; E24; then E12, E10 and E01.

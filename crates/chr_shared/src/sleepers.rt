@@ -1,6 +1,6 @@
 //! Who works, and who sleeps.
 
-/// Through how many holds a session that waits sleeps at least, while a worker is awake.
+/// The least number of holds through which a session that waits sleeps while a worker is awake.
 pub const HOLDS_A_LOOK: u64 = 64;
 
 /// How many work, and how many sleep for what. It is kept under the lock.
@@ -10,7 +10,7 @@ pub struct Sleepers {
     pub holds: u64,
     /// Whether a worker has begun to work.
     pub begun: bool,
-    /// How many workers work, those among them that were told to and still sleep.
+    /// How many workers work, including those that were told to and still sleep.
     pub awake: u32,
     /// How many workers sleep and were not told to work.
     pub resting: u32,
@@ -23,10 +23,12 @@ pub struct Sleepers {
 }
 
 impl Sleepers {
-    /// Counts a hold. Whether sessions that sleep are to look.
+    /// Counts a hold. Whether sessions that sleep are to look: the more there are, the more holds lie between, so that all
+    /// together look about once in 64 holds.
     pub fn count_hold(&mut self) -> bool {
         self.holds = self.holds.wrapping_add(1);
-        self.watching > 0 && self.holds % HOLDS_A_LOOK == 0
+        let watching = u64::from(self.watching);
+        watching > 0 && self.holds % (HOLDS_A_LOOK * watching) == 0
     }
 
     /// A worker begins to work.

@@ -25,7 +25,7 @@ WasRefused seat faults.WrongSeat = (book : Option BookState) × MakesNoCall book
 WasRefused seat faults.NoProgram = (book : Option BookState) × MakesNoCall book seat NoBook
 WasRefused seat other = ⊥
 
--- a book of the rules of a text, which are so many, is under the lock from then on
+-- a book of the rules of a text, which are so many, was opened; that it is under the lock from then on no clause says
 pub record IsLoaded (text : List ℕ) (count : ℕ) : Type 0 where
   pub book : BookState
   pub opens : IsOpenText text GREATEST_LABEL book

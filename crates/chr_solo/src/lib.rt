@@ -7,7 +7,9 @@
 //!
 //! No trial is made for most of these calls: [`Book::go_on`](chr_book::Book::go_on) makes rounds of two of them, which
 //! pass over trials, fire one or drop the goal, [`Book::start`](chr_book::Book::start) claims a ticket and makes such
-//! rounds, and they are counted.
+//! rounds, and they are counted. Rounds leave out the claim of a ticket that rests or for which no label is left, the goal
+//! whose label is gone, and the first call of a round for which too few calls are left. These calls are made one by one,
+//! and what the last trial was judged is kept between them.
 #![tactic(auto)]
 
 mod solo;

@@ -25,7 +25,7 @@ pub struct SoloDesk<A: Allocator> {
 }
 
 /// Opens a book of the rules of a text, where there is none. E02 to E09 with their line for a text that has a fault, and E01:
-/// then there is none still.
+/// then there is still none.
 fn load<A: Allocator + Copy>(
     alloc: A,
     limit: Label,
