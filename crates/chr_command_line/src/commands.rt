@@ -23,7 +23,7 @@ enum Presence {
     Flag,
 }
 
-/// What an option has behind its name.
+/// What an option has after its name.
 #[derive(Clone, Copy)]
 struct OptionValue {
     /// What errors and the help call it.
@@ -35,7 +35,7 @@ struct OptionValue {
 /// An argument of a command.
 #[derive(Clone, Copy)]
 struct Argument {
-    /// Its name, for an option the one behind `--`.
+    /// Its name, for an option the one after `--`.
     name: &'static str,
     help: &'static str,
     presence: Presence,
@@ -288,7 +288,7 @@ static COMMANDS: [CommandRow; 6] = [
     },
 ];
 
-/// Returns an option with the value that is behind it.
+/// Returns an option with the value that follows it.
 fn with_value<'a>(arg: Arg<'a>, name: &'static str, value: OptionValue) -> Arg<'a> {
     let is_number = matches!(value.parser, ValueParser::Signed(..));
     arg.long(name)

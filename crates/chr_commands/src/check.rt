@@ -1,5 +1,7 @@
 //! `chr check`.
-use crate::files::{MOST_LOG, MOST_TEXT, all_paths, called, fetch, fetch_all, sources, texts};
+use crate::files::{
+    MOST_LOG, MOST_TEXT, all_paths, called, fetch_all, fetch_both, sources, texts, whole,
+};
 use crate::message::{Detail, Fault, Source, Text, part_message, refusal_message};
 use crate::progress::Progress;
 use crate::refused;
@@ -169,29 +171,15 @@ pub fn check<R: Files + Clock + Input + Print + Eprint + AllocGlobal>(
     more: &[&str],
     store: &str,
 ) -> Status {
-    let program = match fetch(rt, file, MOST_TEXT) {
-        Ok(bytes) => bytes,
-        Err(error) => return report_failure(rt, detail, called(file), &error),
-    };
-    let stored = match fetch(rt, store, MOST_LOG) {
-        Ok(bytes) => bytes,
-        Err(error) => return report_failure(rt, detail, called(store), &error),
+    let (program, stored) = match fetch_both(rt, (file, MOST_TEXT), (store, MOST_LOG)) {
+        Ok(files) => files,
+        Err(unread) => return report_failure(rt, detail, called(unread.path), &unread.error),
     };
     let Ok(paths) = all_paths(rt.alloc(), log, more) else {
         return report_no_memory(rt, detail);
     };
-    let program = Source {
-        text: Text::Program,
-        path: called(file),
-        bytes: &program,
-        part: None,
-    };
-    let store = Source {
-        text: Text::Store,
-        path: called(store),
-        bytes: &stored,
-        part: None,
-    };
+    let program = whole(Text::Program, file, &program);
+    let store = whole(Text::Store, store, &stored);
     match fetch_all(rt, &paths, MOST_LOG) {
         Ok(files) => check_files(rt, detail, program, &paths, &files, store),
         Err(unread) => report_failure(rt, detail, called(unread.path), &unread.error),

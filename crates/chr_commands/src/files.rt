@@ -1,16 +1,18 @@
 //! Reading files and standard input.
 use crate::message::{Source, Text};
 use chr_command_line::STANDARD_INPUT;
+use chr_log_text::MOST_BYTES as MOST_LOG_BYTES;
+use chr_text::MOST_BYTES as MOST_TEXT_BYTES;
 use std::alloc::{AllocError, Allocator, Global};
 use std::fs::File;
 use std::io::{self, Read};
 use std::rt::Files;
 
 /// The limit on the bytes of rules and of posts.
-pub const MOST_TEXT: u64 = 65_536;
+pub const MOST_TEXT: u64 = MOST_TEXT_BYTES as u64;
 
 /// The limit on the bytes of a log and of a store.
-pub const MOST_LOG: u64 = 67_108_864;
+pub const MOST_LOG: u64 = MOST_LOG_BYTES as u64;
 
 /// What messages call the file of a path.
 pub fn called(path: &str) -> &str {
@@ -39,6 +41,28 @@ pub fn fetch<R: Files + Input + Alloc>(rt: &R, path: &str, most: u64) -> io::Res
 pub struct Unread<'p> {
     pub path: &'p str,
     pub error: io::Error,
+}
+
+/// Returns the bytes of two files, each up to a limit of its own, as [`fetch`] does. The first is read first.
+pub fn fetch_both<'p, R: Files + Input + AllocGlobal>(
+    rt: &R,
+    first: (&'p str, u64),
+    second: (&'p str, u64),
+) -> Result<(Vec<u8>, Vec<u8>), Unread<'p>> {
+    let one = match fetch(rt, first.0, first.1) {
+        Ok(bytes) => bytes,
+        Err(error) => return Err(Unread {
+            path: first.0,
+            error,
+        }),
+    };
+    match fetch(rt, second.0, second.1) {
+        Ok(other) => Ok((one, other)),
+        Err(error) => Err(Unread {
+            path: second.0,
+            error,
+        }),
+    }
 }
 
 /// Returns the bytes of each file, as [`fetch`] does.
@@ -70,6 +94,16 @@ pub fn all_paths<'p>(
     paths.push(first)?;
     paths.extend_from_slice(more)?;
     Ok(paths)
+}
+
+/// Returns the source that is the whole of a file.
+pub fn whole<'a>(text: Text, path: &'a str, bytes: &'a [u8]) -> Source<'a> {
+    Source {
+        text,
+        path: called(path),
+        bytes,
+        part: None,
+    }
 }
 
 /// How many lines end in these bytes.

@@ -1,6 +1,6 @@
 //! `chr picture`.
 use crate::check::refusal_text;
-use crate::files::{MOST_LOG, MOST_TEXT, called, fetch};
+use crate::files::{MOST_LOG, MOST_TEXT, called, fetch_both, whole};
 use crate::message::{Detail, Fault, Source, Text};
 use crate::progress::Progress;
 use crate::report::{Status, put, report_failure, report_fault, report_no_memory};
@@ -75,25 +75,11 @@ pub fn picture<R: Files + Clock + Input + Print + Eprint + AllocGlobal>(
     log: &str,
     range: Range,
 ) -> Status {
-    let program = match fetch(rt, file, MOST_TEXT) {
-        Ok(bytes) => bytes,
-        Err(error) => return report_failure(rt, detail, called(file), &error),
+    let (program, logged) = match fetch_both(rt, (file, MOST_TEXT), (log, MOST_LOG)) {
+        Ok(files) => files,
+        Err(unread) => return report_failure(rt, detail, called(unread.path), &unread.error),
     };
-    let logged = match fetch(rt, log, MOST_LOG) {
-        Ok(bytes) => bytes,
-        Err(error) => return report_failure(rt, detail, called(log), &error),
-    };
-    let program = Source {
-        text: Text::Program,
-        path: called(file),
-        bytes: &program,
-        part: None,
-    };
-    let log = Source {
-        text: Text::Log,
-        path: called(log),
-        bytes: &logged,
-        part: None,
-    };
+    let program = whole(Text::Program, file, &program);
+    let log = whole(Text::Log, log, &logged);
     draw(rt, detail, program, log, range)
 }

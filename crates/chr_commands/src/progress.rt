@@ -3,7 +3,7 @@ use crate::message::Detail;
 use chr_watch::{Pace, Watch};
 use std::rt::Clock;
 
-/// How many calls or entries lie at least between two looks at the clock.
+/// The least number of calls or entries between two looks at the clock.
 const BETWEEN_LOOKS: u64 = 16;
 
 /// Writes to standard error how far a run or a check is, a line a second, where that is a terminal.

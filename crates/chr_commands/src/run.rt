@@ -1,5 +1,5 @@
 //! `chr run`.
-use crate::files::{MOST_TEXT, all_paths, called, fetch, fetch_all, sources, texts};
+use crate::files::{MOST_TEXT, all_paths, called, fetch, fetch_all, sources, texts, whole};
 use crate::message::{Detail, Fault, Source, Text};
 use crate::progress::Progress;
 use crate::report::{Status, put, report_failure, report_fault, report_no_memory};
@@ -118,12 +118,7 @@ pub fn run<R: Files + Clock + Input + Print + Eprint + AllocGlobal>(
     let Ok(paths) = all_paths(rt.alloc(), posts, more) else {
         return report_no_memory(rt, detail);
     };
-    let program = Source {
-        text: Text::Program,
-        path: called(file),
-        bytes: &program,
-        part: None,
-    };
+    let program = whole(Text::Program, file, &program);
     match fetch_all(rt, &paths, MOST_TEXT) {
         Ok(files) => run_files(rt, detail, program, &paths, &files, options),
         Err(unread) => report_failure(rt, detail, called(unread.path), &unread.error),
