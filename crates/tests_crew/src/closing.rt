@@ -8,7 +8,7 @@ use chr_crew::{Open, Stop};
 use chr_pool::{Inlet, make};
 use chr_seats::{PostLedger, Seat};
 use chr_shared::Shared;
-use std::alloc::Global;
+use std::alloc::{Allocator, Global};
 use std::marker::Brand;
 use std::sync::Wait;
 use std::sync::ledger::{Blank, Ledger};
@@ -17,9 +17,9 @@ use std::thread;
 use std::thread::Threads;
 
 /// Whether the book becomes quiet.
-fn becomes_quiet<L1: PostLedger, L2: Ledger, R: Wait>(
+pub fn becomes_quiet<L1: PostLedger, L2: Ledger, A: Allocator + Copy, R: Wait>(
     rt: &R,
-    shared: &Shared<L1, L2, Global>,
+    shared: &Shared<L1, L2, A>,
     seat: &Seat<L1, L2>,
 ) -> bool {
     for _ in 0..MANY {

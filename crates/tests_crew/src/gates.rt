@@ -17,7 +17,7 @@ use std::thread;
 use std::thread::Threads;
 
 /// Waits until another thread has counted something. False where it waited long and there was nothing.
-fn comes(count: &AtomicU64) -> bool {
+pub fn comes(count: &AtomicU64) -> bool {
     for _ in 0..MANY {
         if count.load(Ordering::SeqCst) != 0 {
             return true;
@@ -27,20 +27,32 @@ fn comes(count: &AtomicU64) -> bool {
     false
 }
 
-/// A gate that holds the first judgement for ticket 1, and the first for ticket 2, until the other has come.
+/// A gate that holds the first judgement for a ticket, and the first for the next one, until the other has come.
 #[derive(Drop)]
-struct Both {
-    first: AtomicU64,
-    second: AtomicU64,
-    alone: AtomicU64,
+pub struct Both {
+    pub ticket: u64,
+    pub first: AtomicU64,
+    pub second: AtomicU64,
+    pub alone: AtomicU64,
+}
+
+impl Both {
+    /// Whether each has come while the other stood there.
+    pub fn have_met(&self) -> bool {
+        self.first.load(Ordering::SeqCst) != 0
+            && self.second.load(Ordering::SeqCst) != 0
+            && self.alone.load(Ordering::SeqCst) == 0
+    }
 }
 
 impl Gate for Both {
     fn before_judging(&self, ticket: u64) {
-        let (mine, other) = match ticket {
-            1 => (&self.first, &self.second),
-            2 => (&self.second, &self.first),
-            _ => return,
+        let (mine, other) = if ticket == self.ticket {
+            (&self.first, &self.second)
+        } else if ticket == self.ticket.wrapping_add(1) {
+            (&self.second, &self.first)
+        } else {
+            return;
         };
         if mine.fetch_add(1, Ordering::SeqCst) == 0 && !comes(other) {
             self.alone.fetch_add(1, Ordering::SeqCst);
@@ -52,18 +64,14 @@ impl Gate for Both {
 /// memory ran out.
 fn both_come<R: Threads + Wait + Sync>(rt: &R, alloc: Global) -> Option<bool> {
     let gate = Both {
+        ticket: 1,
         first: AtomicU64::new(0),
         second: AtomicU64::new(0),
         alone: AtomicU64::new(0),
     };
     let book = open(alloc, GCD, "gcd(9), gcd(6).")?;
     let end = run(rt, alloc, alloc, book, 2, &gate, MANY).ok()?.end;
-    Some(
-        end == End::Quiet
-            && gate.first.load(Ordering::SeqCst) != 0
-            && gate.second.load(Ordering::SeqCst) != 0
-            && gate.alone.load(Ordering::SeqCst) == 0,
-    )
+    Some(end == End::Quiet && gate.have_met())
 }
 
 #[test]

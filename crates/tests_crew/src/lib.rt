@@ -1,13 +1,15 @@
 //! Tests of crews: runs by several workers whose logs the check of a log accepts.
 //!
 //! What a run leaves of a book is proved. The tests show what no clause says: that a run gets to its end, that two workers
-//! judge at once and the lock is free meanwhile, that sleepers wake, what becomes of tickets where turns, labels or memory
-//! run out, and that a session beside workers finds what it posted.
+//! stand before a judgement at once and the lock is free there, that sleepers wake, what becomes of tickets where turns,
+//! labels or memory run out, and that a session beside workers finds what it posted.
 //!
 //! Three tests have the names of wrong bodies that they refuse and no proof can: `gives_up_at_once`,
 //! `judging_under_the_lock` and `desk_posts_other_atoms`.
 #![tactic(auto)]
 
+#[cfg(test)]
+mod beside;
 #[cfg(test)]
 mod closing;
 #[cfg(test)]
@@ -27,4 +29,8 @@ mod stops;
 #[cfg(test)]
 mod threads;
 #[cfg(test)]
+mod told;
+#[cfg(test)]
 mod waiting;
+#[cfg(test)]
+mod waking;

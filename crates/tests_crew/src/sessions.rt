@@ -4,7 +4,7 @@ ghost use Rattle.std.specs.Prelude.{◌≡◌, false};
 use crate::runs::{GCD, verdict};
 use chr_check::Verdict;
 use chr_crew::work::work;
-use chr_crew::{Open, Place, Rack, Stop};
+use chr_crew::{Gate, Open, Place, Rack, Stop};
 use chr_pool::{Hand, make};
 use chr_seats::{PostLedger, Seat};
 use chr_session::{Command, Desk, Reply};
@@ -63,23 +63,29 @@ fn ends<D: Desk<Global>>(desk: &mut D) -> bool {
 }
 
 /// Two workers until the crew is closed.
-fn work_both<L1: PostLedger + Send + Sync, L2: Ledger + Send + Sync, R: Threads + Wait + Sync>(
+pub fn work_both<
+    L1: PostLedger + Send + Sync,
+    L2: Ledger + Send + Sync,
+    R: Threads + Wait + Sync,
+    G: Gate + Sync,
+>(
     rt: &R,
     shared: &Shared<L1, L2, Global>,
     hands: (Hand<u64>, Hand<u64>),
     seats: (Seat<L1, L2>, Seat<L1, L2>),
+    gate: &G,
 ) {
     let (mut hand, mut other_hand) = hands;
     let (mut seat, mut other_seat) = seats;
     thread::join(
         rt,
-        || work(rt, shared, &mut hand, &mut seat, &Open, Stop::Closed),
+        || work(rt, shared, &mut hand, &mut seat, gate, Stop::Closed),
         || work(
             rt,
             shared,
             &mut other_hand,
             &mut other_seat,
-            &Open,
+            gate,
             Stop::Closed,
         ),
     );
@@ -140,7 +146,7 @@ fn crew_with_sessions<
     let seats = (workers.pop()?, workers.pop()?);
     let (_, right) = thread::join(
         rt,
-        || work_both(rt, &shared, hands, seats),
+        || work_both(rt, &shared, hands, seats, &Open),
         || {
             let right = talk(rt, alloc, &shared, &rack);
             shared.close(rt);

@@ -117,6 +117,10 @@ fn a_closed_crew_puts_its_goal_down(rt: HostRuntime) {
     assert_eq!(rt; right, Some(true));
 }
 
+/// Forty posts: the queue asks for memory at the 31st, the last that its first block takes.
+const FORTY_POSTS: &[u8] =
+    b"a,a,a,a,a,a,a,a,a,a,a,a,a,a,a,a,a,a,a,a,a,a,a,a,a,a,a,a,a,a,a,a,a,a,a,a,a,a,a,a.";
+
 /// A session that posts, where one request for memory may be refused, and a worker that works until it finds no ticket.
 #[derive(Drop)]
 struct PostOne;
@@ -138,14 +142,15 @@ impl Scene<Global> for PostOne {
         let mut desk = SharedDesk::new(rt, alloc, shared, session, inlet);
         let mut posted = false;
         for _ in 0..2u64 {
-            posted = posted || matches!(desk.ask(Command::Post(b"a.")), Reply::Posted(1, 1));
+            posted = posted || matches!(desk.ask(Command::Post(FORTY_POSTS)), Reply::Posted(1, 40));
             work(rt, shared, &mut hand, &mut worker, &Open, Stop::Turns(MANY));
         }
         posted && matches!(desk.ask(Command::Wait(0)), Reply::Quiet)
     }
 }
 
-/// This holds whatever request is refused: a ticket that the inlet refuses is found all the same.
+/// This holds whatever request is refused: a ticket that the inlet refuses is found all the same. A plain run refuses none;
+/// `rt try --test --fail-alloc N` with the number of the queue's request does.
 #[test]
 fn a_ticket_that_the_inlet_refuses_is_worked_on(rt: HostRuntime) {
     let mut right = None;
@@ -154,5 +159,134 @@ fn a_ticket_that_the_inlet_refuses_is_worked_on(rt: HostRuntime) {
             right = play(&rt, rt.alloc(), rt.alloc(), "a <=> true.", "", PostOne);
         }
     }
+    assert_eq!(rt; right, Some(true));
+}
+
+/// A worker with so many turns on the first ticket, and how often something new is announced meanwhile.
+#[derive(Drop)]
+struct Announced {
+    turns: u64,
+    news: u64,
+}
+
+impl Scene<Global> for Announced {
+    fn play<L1: PostLedger, L2: Ledger, R: Wait>(
+        self,
+        rt: &R,
+        _alloc: Global,
+        shared: &Shared<L1, L2, Global>,
+        cast: Cast<L1, L2>,
+    ) -> bool {
+        let mut cast = cast;
+        let dealt = deal(&mut cast.hand, 1);
+        let before = shared.news();
+        work(
+            rt,
+            shared,
+            &mut cast.hand,
+            &mut cast.worker,
+            &Open,
+            Stop::Turns(self.turns),
+        );
+        dealt && shared.news().wrapping_sub(before) == self.news
+    }
+}
+
+/// A program, turns, and how often something new is announced: a firing that gives two, one that gives one, and a worker that
+/// leaves its goal.
+static ANNOUNCED: [(&str, u64, u64); 3] = [
+    ("go <=> a, b.", MANY, 1),
+    ("go <=> a.", MANY, 0),
+    ("go <=> a, b.", 1, 1),
+];
+
+#[test]
+fn what_others_may_take_is_announced(rt: HostRuntime) {
+    for &(program, turns, news) in &ANNOUNCED {
+        let right = play(
+            &rt,
+            rt.alloc(),
+            rt.alloc(),
+            program,
+            "go.",
+            Announced { turns, news },
+        );
+        assert_eq!(rt; right, Some(true), "{program} {turns}");
+    }
+}
+
+/// A session whose post of two is announced once, when the pool has both tickets.
+#[derive(Drop)]
+struct PostedOnce;
+
+impl Scene<Global> for PostedOnce {
+    fn play<L1: PostLedger, L2: Ledger, R: Wait>(
+        self,
+        rt: &R,
+        alloc: Global,
+        shared: &Shared<L1, L2, Global>,
+        cast: Cast<L1, L2>,
+    ) -> bool {
+        let before = shared.news();
+        let mut desk = SharedDesk::new(rt, alloc, shared, cast.session, cast.inlet);
+        let posted = matches!(desk.ask(Command::Post(b"a, b.")), Reply::Posted(1, 2));
+        posted && shared.news().wrapping_sub(before) == 1
+    }
+}
+
+#[test]
+fn a_post_is_announced_once(rt: HostRuntime) {
+    let right = play(&rt, rt.alloc(), rt.alloc(), "", "", PostedOnce);
+    assert_eq!(rt; right, Some(true));
+}
+
+/// A worker whose own tickets never end, and one that a session posts.
+#[derive(Drop)]
+struct BesideAChain;
+
+impl Scene<Global> for BesideAChain {
+    fn play<L1: PostLedger, L2: Ledger, R: Wait>(
+        self,
+        rt: &R,
+        alloc: Global,
+        shared: &Shared<L1, L2, Global>,
+        cast: Cast<L1, L2>,
+    ) -> bool {
+        let Cast {
+            mut hand,
+            inlet,
+            mut worker,
+            session,
+        } = cast;
+        let dealt = deal(&mut hand, 1);
+        let mut desk = SharedDesk::new(rt, alloc, shared, session, inlet);
+        let posted = matches!(desk.ask(Command::Post(b"d.")), Reply::Posted(2, 1));
+        work(
+            rt,
+            shared,
+            &mut hand,
+            &mut worker,
+            &Open,
+            Stop::Turns(10_000),
+        );
+        match desk.ask(Command::Store) {
+            Reply::Store(_, lines) => dealt
+                && posted
+                && lines.windows(3).any(|part| part == b" e\n".as_slice()),
+            _ => false,
+        }
+    }
+}
+
+#[test]
+fn a_post_is_taken_up_beside_a_chain_without_end(rt: HostRuntime) {
+    let right = play(
+        &rt,
+        rt.alloc(),
+        rt.alloc(),
+        "a <=> a.\nd <=> e.\n",
+        "a.",
+        BesideAChain,
+    );
     assert_eq!(rt; right, Some(true));
 }

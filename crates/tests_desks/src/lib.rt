@@ -10,6 +10,8 @@
 #[cfg(test)]
 mod racing;
 #[cfg(test)]
+mod reading;
+#[cfg(test)]
 mod refused;
 #[cfg(test)]
 mod sharing;

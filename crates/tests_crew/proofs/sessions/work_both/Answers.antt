@@ -6,5 +6,6 @@ use Rattle.tests_crew.proofs.sessions.work_both.Goals as goal
 pub join-requires-send-F : goal.join-requires-send-F
 join-requires-send-F g c κs within =
     let b = c.type_bounds in
+    let h = b.sync-G in
     let r = b.sync-R in
     search (basis, Shared-sync, hand.the_send, seat.the_send) fits 5000 depth 40

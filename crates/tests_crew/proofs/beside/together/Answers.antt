@@ -1,0 +1,14 @@
+use Rattle.chr_crew.proofs.Crossing.{basis, Shared-sync}
+use Rattle.chr_pool.proofs.hand.Hand.TheSendSync as hand
+use Rattle.chr_seats.proofs.seat.Seat.TheSendSync as seat
+use Rattle.tests_crew.proofs.beside.together.Goals as goal
+
+pub join-right-requires-send-F : goal.join-right-requires-send-F
+join-right-requires-send-F g c κs within =
+    let b = c.type_bounds in
+    let s = b.send-A in
+    let y = b.sync-A in
+    let f = b.frees-A-Allocator in
+    let h = b.sync-G in
+    let r = b.sync-R in
+    search (basis, Shared-sync, hand.the_send, seat.the_send) fits 5000 depth 40

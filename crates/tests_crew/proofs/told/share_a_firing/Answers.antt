@@ -1,0 +1,10 @@
+use Rattle.chr_crew.proofs.Crossing.{basis, Shared-sync}
+use Rattle.chr_pool.proofs.hand.Hand.TheSendSync as hand
+use Rattle.chr_seats.proofs.seat.Seat.TheSendSync as seat
+use Rattle.tests_crew.proofs.told.share_a_firing.Goals as goal
+
+pub join-ends-requires-send-F : goal.join-ends-requires-send-F
+join-ends-requires-send-F g c κs within =
+    let b = c.type_bounds in
+    let r = b.sync-R in
+    search (basis, Shared-sync, hand.the_send, seat.the_send) fits 5000 depth 40
