@@ -2,8 +2,9 @@
 # Prints, as a table in Markdown, how many firings a second `chr serve` makes with 1, 2 and 4 workers, and how often its threads
 # give up a processor for each thousand of them, for two programs: a chain, in which each firing adds the one constraint that the
 # next one takes, and 64 countdowns side by side. The time is that from the first post to the answer `quiet`, the best of five
-# servers. Then, for a server with a log of a million entries, how many firings a second two workers make alone and beside a
-# client that reads that log again and again. It builds nothing: run it by hand, on an idle machine with four processors, once
+# servers. Then, for servers with a log of a million entries, how many firings a second two workers make alone, and beside a
+# client that reads again and again: the log, its last thirty-third or thirtieth, an empty store, or one of 50,000 constraints;
+# and beside fourteen clients that wait. It builds nothing: run it by hand, on an idle machine with four processors, once
 # `./chr` is built.
 set -eu
 top=$(cd "$(dirname "${BASH_SOURCE[0]}")/.." && pwd)
@@ -59,66 +60,114 @@ with tempfile.TemporaryDirectory() as room:
             print(f"| {name} | {firings} | {workers} | {firings / seconds:,.0f} | {1000 * pauses / firings:.1f} |", flush=True)
 
 
-def run_to_quiet(file, posts):
-    ask(file, b"post " + posts + b".\n")
-    while ask(file, b"wait 4294967295\n") != b"quiet\n":
-        pass
+class Client:
+    """A connection whose replies are counted, and not kept."""
+
+    def __init__(self, path):
+        self.socket = socket.socket(socket.AF_UNIX)
+        self.socket.connect(path)
+
+    def ask(self, line):
+        """Returns the first line of the reply, once all its lines are there."""
+        self.socket.sendall(line)
+        lines, most, front = 0, None, b""
+        while most is None or lines < most:
+            part = self.socket.recv(1 << 20)
+            if not part:
+                raise EOFError
+            lines += part.count(b"\n")
+            if most is None:
+                front += part
+                if b"\n" in front:
+                    front = front.split(b"\n")[0]
+                    most = 1 + (int(front.split()[1]) if front.startswith((b"log ", b"store ")) else 0)
+        return front
+
+    def run(self, posts):
+        """Posts, and waits until no goal is open."""
+        self.ask(b"post " + posts + b".\n")
+        while self.ask(b"wait 4294967295\n") != b"quiet":
+            pass
 
 
-def read_again_and_again(path, ended, read):
-    """Reads the whole log until the end, and counts how often."""
-    with socket.socket(socket.AF_UNIX) as client:
-        client.connect(path)
+def read_log(share):
+    """Returns what reads this share of the log, its end, again and again."""
+
+    def read(client, entries, ended, times):
         while not ended.is_set():
-            client.sendall(b"log 1\n")
-            lines, entries, front = 0, None, b""
-            while entries is None or lines < entries + 1:
-                part = client.recv(1 << 20)
-                lines += part.count(b"\n")
-                if entries is None:
-                    front += part
-                    if b"\n" in front:
-                        entries = int(front.split(b"\n")[0].split()[1])
-            read.append(entries)
-        client.sendall(b"quit\n")
-        client.recv(100)
+            begin = entries - int(share * entries)
+            entries = begin + int(client.ask(b"log %d\n" % (begin + 1)).split()[1])
+            times.append(1)
+
+    return read
 
 
-def timed(file):
+def read_store(client, _entries, ended, times):
+    while not ended.is_set():
+        client.ask(b"store\n")
+        times.append(1)
+
+
+def wait_again(client, _entries, ended, times):
+    while not ended.is_set():
+        if client.ask(b"wait 1000000\n") == b"quiet":
+            time.sleep(0.01)
+        times.append(1)
+
+
+def timed(client):
     """Returns the firings a second of five runs, one after another, of 64 countdowns from 1,000."""
     start = time.monotonic()
     for _ in range(5):
-        run_to_quiet(file, b", ".join(b"n(%d, 1000)" % i for i in range(64)))
+        client.run(b", ".join(b"n(%d, 1000)" % i for i in range(64)))
     return 5 * 64 * 1001 / (time.monotonic() - start)
 
 
-def beside_a_reader(path):
-    """Returns the firings a second alone and beside a reader, and how often the log was read."""
-    words = [sys.argv[1], "serve", "--socket", path, "--workers", "2", "--sessions", "2"]
+def beside(path, constraints, others, does):
+    """Returns the firings a second alone and beside so many other clients, and how often these were answered. The log has a
+    million entries, and the store so many constraints."""
+    words = [sys.argv[1], "serve", "--socket", path, "--workers", "2"]
     server = subprocess.Popen(words, stderr=subprocess.PIPE)
-    server.stderr.readline()
-    with socket.socket(socket.AF_UNIX) as client:
-        client.connect(path)
-        file = client.makefile("rwb")
-        ask(file, b"load %d\n" % len(COUNTDOWN) + COUNTDOWN)
-        run_to_quiet(file, b", ".join(b"n(%d, 5300)" % i for i in range(64)))
-        alone = timed(file)
-        ended, read = threading.Event(), []
-        reader = threading.Thread(target=read_again_and_again, args=(path, ended, read))
-        reader.start()
-        beside = timed(file)
+    try:
+        server.stderr.readline()
+        client = Client(path)
+        client.ask(b"load %d\n" % len(COUNTDOWN) + COUNTDOWN)
+        for first in range(0, constraints, 250):
+            client.run(b", ".join(b"m(%d)" % i for i in range(first, first + 250)))
+        client.run(b", ".join(b"n(%d, 5300)" % i for i in range(64)))
+        alone = timed(client)
+        entries = int(client.ask(b"log 1\n").split()[1])
+        ended, times = threading.Event(), []
+        threads = []
+        for _ in range(others):
+            threads.append(threading.Thread(target=does, args=(Client(path), entries, ended, times), daemon=True))
+            threads[-1].start()
+        together = timed(client)
         ended.set()
-        reader.join()
-        ask(file, b"quit\n")
-    server.communicate()
-    return alone, beside, len(read)
+        for it in threads:
+            it.join()
+        return alone, together, len(times)
+    finally:
+        server.kill()
+        server.wait()
+        os.remove(path)
 
+
+OTHERS = [
+    ("a client that reads the log", 0, 1, read_log(1)),
+    ("a client that reads the last 1/33 of the log", 0, 1, read_log(1 / 33)),
+    ("a client that reads the last 1/30 of the log", 0, 1, read_log(1 / 30)),
+    ("a client that reads the empty store", 0, 1, read_store),
+    ("a client that reads a store of 50,000 constraints", 50_000, 1, read_store),
+    ("fourteen clients in a `wait`", 0, 14, wait_again),
+]
 
 print()
-print("| Countdowns by two workers, after a million entries | Firings a second |")
-print("|---|---|")
+print("| Countdowns by two workers, after a million entries, beside | Replies | Firings a second alone | Beside it | Change |")
+print("|---|---|---|---|---|")
 with tempfile.TemporaryDirectory() as room:
-    alone, beside, times = beside_a_reader(os.path.join(room, "socket"))
-    print(f"| alone | {alone:,.0f} |")
-    print(f"| beside a client that reads the log ({times} times) | {beside:,.0f} |")
+    for name, constraints, others, does in OTHERS:
+        alone, together, times = beside(os.path.join(room, "socket"), constraints, others, does)
+        change = 100 * (together / alone - 1)
+        print(f"| {name} | {times:,} | {alone:,.0f} | {together:,.0f} | {change:+.0f} % |", flush=True)
 PYTHON

@@ -1,6 +1,7 @@
 #!/usr/bin/env bash
-# Tests ./chr and release/ in small repositories of their own, whose ./build is a stand-in that says so, the pictures of
-# docs, and what the examples are to print against a plain reference. Each test is a line `test NAME ... ok` or `test NAME ... FAILED`; the last line is 'N passed, M failed'.
+# Tests ./chr and release/ in small repositories of their own, whose ./build is a stand-in that says so, the commands of
+# README.md and of the tutorial, the pictures of docs, and what the examples are to print against a plain reference. Each
+# test is a line `test NAME ... ok` or `test NAME ... FAILED`; the last line is 'N passed, M failed'.
 set -u
 top=$(cd "$(dirname "${BASH_SOURCE[0]}")/.." && pwd)
 work=$(mktemp -d)
@@ -185,7 +186,7 @@ for name in $(declare -F | sed 's/^declare -f //'); do
   fi
 done
 
-for script in pictures reference; do
+for script in pages pictures reference; do
   shown=$("$top/tests/$script.py")
   status=$?
   grep '^test ' <<<"$shown"
