@@ -15,10 +15,10 @@ const EACH: u64 = 60;
 /// How often a short goal is posted behind a long one. A second worker may come too late once; one alone always does.
 const ROUNDS: u64 = 20;
 
-/// The command that posts this name with each number below `EACH`.
-fn post_numbers(alloc: Global, name: &str) -> Result<String<Global>, AllocError> {
+/// The command that posts this name with each number below `count`.
+pub fn post_numbers(alloc: Global, name: &str, count: u64) -> Result<String<Global>, AllocError> {
     let mut post = format!(in alloc; "post {name}(0)")?;
-    for k in 1..EACH {
+    for k in 1..count {
         post.push_str(format!(in alloc; ",{name}({k})")?.as_str())?;
     }
     post.push_str(".\n")?;
@@ -57,7 +57,7 @@ fn one_overtakes<R: Net>(rt: &R, alloc: Global, address: &SocketAddr) -> io::Res
         return Ok(false);
     }
     for name in ["n", "m"] {
-        client.ask(post_numbers(alloc, name)?.as_str())?;
+        client.ask(post_numbers(alloc, name, EACH)?.as_str())?;
     }
     if !client.becomes_quiet()? {
         return Ok(false);
