@@ -7,7 +7,12 @@ use chr_seats::SESSION_SEATS;
 use slab::Slab;
 use std::alloc::{AllocError, Allocator};
 use std::os::unix::net::UnixStream;
+use std::rt::Clock;
 use std::sync::{Condvar, Mutex, Wait};
+use std::time::Duration;
+
+/// The most milliseconds between a failure of a listener and the next call of it.
+const PAUSE: u64 = 100;
 
 /// A live connection, and whether a thread has it.
 #[derive(Drop)]
@@ -155,14 +160,18 @@ impl<A: Allocator> Connections<A> {
         self.left.notify_all();
     }
 
-    /// Sleeps until more than `seen` connections have been closed, and answers how many. None where none lives, and none has
-    /// been closed since.
-    pub fn wait_for_end<R: Wait>(&self, rt: &R, seen: u64) -> Option<u64> {
-        let live = self.left.wait_while(rt, self.live.lock(rt), |live| {
-            live.ended == seen && !live.slots.is_empty()
-        });
+    /// Sleeps until a connection is closed, but not for longer than a tenth of a second, and answers how many had been closed
+    /// before. None, without a sleep, where none lives, and none has been closed since there were `seen`.
+    pub fn pause<R: Wait + Clock>(&self, rt: &R, seen: u64) -> Option<u64> {
+        let live = self.live.lock(rt);
         let ended = live.ended;
-        (ended != seen).then_some(ended)
+        if ended == seen && live.slots.is_empty() {
+            return None;
+        }
+        let _ = self
+            .left
+            .wait_timeout(rt, live, Duration::from_millis(PAUSE));
+        Some(ended)
     }
 
     /// No connection comes any more: threads that wait for one end. Sleeps until none lives.

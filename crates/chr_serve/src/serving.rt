@@ -17,6 +17,7 @@ use std::alloc::{AllocError, Allocator, Global};
 use std::io::{self, ErrorKind};
 use std::marker::Brand;
 use std::os::unix::net::UnixStream;
+use std::rt::Clock;
 use std::sync::Wait;
 use std::sync::ledger::{Blank, Ledger};
 use std::thread;
@@ -126,9 +127,9 @@ fn receive<A: Allocator, R: Wait>(rt: &R, connections: &Connections<A>, stream: 
     }
 }
 
-/// Takes so many connections, or goes on without end. Where the listener fails, it waits until a session has ended, which
-/// may free what was missing.
-fn take_all<A: Allocator, R: Wait, C: Listener>(
+/// Takes so many connections, or goes on without end. Where the listener fails while a session lives, it calls it again after a
+/// pause, or once a session has ended, which may free what was missing.
+fn take_all<A: Allocator, R: Wait + Clock, C: Listener>(
     rt: &R,
     connections: &Connections<A>,
     listener: &C,
@@ -146,7 +147,7 @@ fn take_all<A: Allocator, R: Wait, C: Listener>(
                 left = left.map(|left| left.saturating_sub(1));
             }
             Err(error) if is_passing(error.kind()) => {}
-            Err(error) => match connections.wait_for_end(rt, seen) {
+            Err(error) => match connections.pause(rt, seen) {
                 Some(ended) => seen = ended,
                 None => return Err(ServerFault::Listener(error)),
             },
@@ -160,7 +161,7 @@ fn with_threads<
     L1: PostLedger + Send + Sync,
     L2: Ledger + Send + Sync,
     A: Allocator + Copy + Send + Sync,
-    R: Threads + Wait + Sync,
+    R: Threads + Wait + Clock + Sync,
     C: Listener,
 >(
     rt: &R,
@@ -209,7 +210,7 @@ fn serve_by<
     L1: PostLedger + Send + Sync,
     L2: Ledger + Send + Sync,
     A: Allocator + Copy + Send + Sync,
-    R: Threads + Wait + Sync,
+    R: Threads + Wait + Clock + Sync,
     C: Listener,
 >(
     rt: &R,
@@ -260,12 +261,12 @@ fn serve_by<
 ///
 /// Where no thread can be made for a worker or a session, it goes on with fewer of them, and sessions have fewer seats.
 /// A connection that was cut before it could be taken is passed over, and isn't counted. Where the listener fails
-/// otherwise, as when no descriptor is free, the next connection is only taken once a session has ended; where none lives,
-/// that is its fault.
+/// otherwise, as when no descriptor is free, it is called again once a session has ended, or after a tenth of a second; where
+/// no session lives, that is its fault.
 ///
 /// E01 comes only before the first connection is taken: where memory is refused, or every thread for a worker, or every
 /// thread for a session. The memory of the pool is of `pool`.
-pub fn serve_on<A: Allocator + Copy + Send + Sync, R: Threads + Wait + Sync, C: Listener>(
+pub fn serve_on<A: Allocator + Copy + Send + Sync, R: Threads + Wait + Clock + Sync, C: Listener>(
     rt: &R,
     alloc: A,
     pool: Global,

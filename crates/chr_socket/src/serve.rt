@@ -5,7 +5,7 @@ use std::fmt::{Display, Formatter};
 use std::net::Net;
 use std::os::unix::fs::{FileTypeExt, MetadataExt};
 use std::os::unix::net::UnixListener;
-use std::rt::Files;
+use std::rt::{Clock, Files};
 use std::sync::Wait;
 use std::thread::Threads;
 use std::{fmt, fs, io};
@@ -94,7 +94,7 @@ fn report_refusal<R: Files + Eprint>(
 
 /// Makes a socket at the path, serves sessions over it with 1 to 16 workers (another number is brought into this range),
 /// and removes the socket's file at the end. With `sessions` the end comes after so many connections.
-pub fn serve<R: Files + Net + Threads + Wait + Sync + Eprint + AllocGlobal>(
+pub fn serve<R: Files + Net + Threads + Wait + Sync + Clock + Eprint + AllocGlobal>(
     rt: &R,
     detail: Detail,
     path: &str,

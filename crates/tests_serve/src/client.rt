@@ -9,6 +9,7 @@ use std::fs::Files;
 use std::io::{self, BufRead, BufReader, Write};
 use std::net::Net;
 use std::os::unix::net::{SocketAddr, UnixListener, UnixStream};
+use std::rt::Clock;
 use std::sync::Wait;
 use std::thread::Threads;
 
@@ -28,7 +29,7 @@ pub fn listen<R: Files + Net>(rt: &R) -> io::Result<(UnixListener, SocketAddr)> 
 }
 
 /// Whether a server takes so many connections, and ends without a fault.
-pub fn serves<R: Threads + Wait + Sync + AllocGlobal>(
+pub fn serves<R: Threads + Wait + Clock + Sync + AllocGlobal>(
     rt: &R,
     listener: &UnixListener,
     workers: usize,

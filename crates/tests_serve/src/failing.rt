@@ -1,10 +1,12 @@
 //! Listeners that fail.
 use crate::client::Client;
 use chr_serve::{Listener, ServerFault, serve_on};
-use std::alloc::{AllocGlobal, Global};
+use std::alloc::{AllocError, AllocGlobal, Global};
 use std::cell::Cell;
 use std::io::{self, ErrorKind};
+use std::net::Net;
 use std::os::unix::net::UnixStream;
+use std::rt::Clock;
 use std::sync::Wait;
 use std::test::*;
 use std::thread;
@@ -27,7 +29,7 @@ impl Listener for Scripted {
 }
 
 /// How a server with this script ends that is to take so many connections.
-fn ended<R: Threads + Wait + Sync + AllocGlobal>(
+fn ended<R: Threads + Wait + Clock + Sync + AllocGlobal>(
     rt: &R,
     script: Vec<io::Result<UnixStream>>,
     sessions: u32,
@@ -41,30 +43,80 @@ fn ended<R: Threads + Wait + Sync + AllocGlobal>(
 }
 
 /// Whether a client that ends its session reads `bye` and the end.
-fn takes_leave(alloc: Global, stream: UnixStream) -> io::Result<bool> {
-    let mut client = Client::over(alloc, stream)?;
-    Ok(client.replies("quit\n", "bye\n")? && client.reply()?.is_empty())
+fn takes_leave(alloc: Global, stream: UnixStream) -> bool {
+    let Ok(mut client) = Client::over(alloc, stream) else {
+        return false;
+    };
+    client.replies("quit\n", "bye\n").is_ok_and(|told| told)
+        && client.reply().is_ok_and(|told| told.is_empty())
+}
+
+/// The number of the system's error where no descriptor is free.
+const TOO_MANY_OPEN_FILES: i32 = 24;
+
+/// A script of two connections, between which no descriptor is free so often.
+fn failing_between(
+    alloc: Global,
+    first: UnixStream,
+    second: UnixStream,
+    failures: u32,
+) -> Result<Vec<io::Result<UnixStream>>, AllocError> {
+    let mut script = Vec::new(alloc);
+    script.push(Ok(second))?;
+    for _ in 0..failures {
+        script.push(Err(io::Error::from_raw_os_error(TOO_MANY_OPEN_FILES)))?;
+    }
+    script.push(Err(ErrorKind::ConnectionAborted.into()))?;
+    script.push(Ok(first))?;
+    script.push(Err(ErrorKind::Interrupted.into()))?;
+    Ok(script)
+}
+
+/// Whether a server whose listener fails so often between two connections serves both: the first session ends before the
+/// second, or only after it.
+fn serves_both<R: Net + Threads + Wait + Clock + Sync + AllocGlobal>(
+    rt: &R,
+    failures: u32,
+    second_first: bool,
+) -> io::Result<bool> {
+    let (near, far) = UnixStream::pair(rt)?;
+    let (next_near, next_far) = UnixStream::pair(rt)?;
+    let script = failing_between(rt.alloc(), far, next_far, failures)?;
+    let (one, other) = if second_first {
+        (next_near, near)
+    } else {
+        (near, next_near)
+    };
+    let (left, ended) = thread::join(
+        rt,
+        || takes_leave(rt.alloc(), one) && takes_leave(rt.alloc(), other),
+        || ended(rt, script, 2),
+    );
+    Ok(left && ended == Ok(()))
 }
 
 #[test]
-fn a_failure_is_passed_over_or_waits_for_an_end(rt: HostRuntime) -> Result<(), Fail> {
-    // It fails with a descriptor missing while a session lives, so it goes on once that has ended.
+fn a_failure_beside_a_session_is_passed_over(rt: HostRuntime) -> Result<(), Fail> {
+    // After the end of the first session no further failure is passed over.
+    for (failures, second_first) in [(1, false), (3, true)] {
+        let serves = serves_both(&rt, failures, second_first)?;
+        assert!(rt; serves, "{failures} {second_first}");
+    }
+    Ok(())
+}
+
+#[test]
+fn a_failure_ends_it_once_the_last_session_has_ended(rt: HostRuntime) -> Result<(), Fail> {
     let (near, far) = UnixStream::pair(&rt)?;
-    let (next_near, next_far) = UnixStream::pair(&rt)?;
     let mut script = Vec::new(rt.alloc());
-    script.push(Ok(next_far))?;
-    script.push(Err(io::Error::from_raw_os_error(24)))?;
-    script.push(Err(ErrorKind::ConnectionAborted.into()))?;
     script.push(Ok(far))?;
-    script.push(Err(ErrorKind::Interrupted.into()))?;
     let (left, ended) = thread::join(
         &rt,
-        || takes_leave(rt.alloc(), near).is_ok_and(|left| left)
-            && takes_leave(rt.alloc(), next_near).is_ok_and(|left| left),
+        || takes_leave(rt.alloc(), near),
         || ended(&rt, script, 2),
     );
     assert!(rt; left);
-    assert_eq!(rt; ended, Ok(()));
+    assert_eq!(rt; ended, Err(Some(ErrorKind::Other)));
     Ok(())
 }
 
