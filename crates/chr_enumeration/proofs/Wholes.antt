@@ -91,7 +91,7 @@ none_there rules store label away r kept removed body i =
       | false ↦ λ _. refl
     ] refl
 
-pub is_found : (rules : List (Simpagation ℕ)) (store : Store) (label : ℕ) (rule : Simpagation ℕ) (m : Match) (f : Found) → rule_at rules f.rule ≡ Some rule → f.kept.items ≡ m.kept.items → f.removed.items ≡ m.removed.items → f.binding ≡ m.binding → IsMatch rule store (Has label) m → IsFound rules store label f
+pub is_found : {A : Type 0} (rules : List (Simpagation ℕ)) (store : Store) (label : ℕ) (rule : Simpagation ℕ) (m : Match A) (f : Found A) → rule_at rules f.rule ≡ Some rule → f.kept.items ≡ m.kept.items → f.removed.items ≡ m.removed.items → f.binding ≡ m.binding → IsMatch rule store (Has label) m → IsFound rules store label f
 is_found rules store label rule m f at kept removed binding i =
     let k : f.kept.items ≡ take (length rule.kept) (labels i.entries) = kept ∙ i.kept in
     let r : f.removed.items ≡ drop (length rule.kept) (labels i.entries) = removed ∙ i.removed in

@@ -7,18 +7,23 @@ ghost use Rattle.chr_named.specs.Named.{ArgumentIsNamed, RuleAtomIsNamed, Compar
 use chr_rule::{BodyItem, Comparison, Program, Rule, RuleAtom, Term};
 use std::alloc::Allocator;
 
-/// Whether a table of `count` names has the name of an argument.
-fn is_argument_named(term: &Term, count: usize) -> bool
+/// Whether a table of `count` names has all names of an argument.
+#[cycle(argument)]
+fn is_argument_named<A: Allocator>(term: &Term<A>, count: usize) -> bool
     ensures { IsTrue result ↔ ArgumentIsNamed count (argument term.now) }
 {
     match term {
         Term::Var(_) => true,
-        Term::Value(value) => value.is_named(count),
+        Term::Given(value) => value.as_ref().is_named(count),
+        Term::Open(open) => {
+            (open.functor.number as usize) < count && are_arguments_named(&open.args, count)
+        }
     }
 }
 
 /// Whether it has the names of all arguments.
-fn are_arguments_named(terms: &[Term], count: usize) -> bool
+#[cycle(argument)]
+fn are_arguments_named<A: Allocator>(terms: &[Term<A>], count: usize) -> bool
     ensures { IsTrue result ↔ AllByRecursion (ArgumentIsNamed count) (map argument terms.now) }
 {
     for term in terms {
@@ -30,14 +35,14 @@ fn are_arguments_named(terms: &[Term], count: usize) -> bool
 }
 
 /// Whether it has the name of a constraint of a rule, and those of its arguments.
-fn is_rule_atom_named(atom: &RuleAtom, count: usize) -> bool
+fn is_rule_atom_named<A: Allocator>(atom: &RuleAtom<A>, count: usize) -> bool
     ensures { IsTrue result ↔ RuleAtomIsNamed count (shape atom.now) }
 {
-    (atom.name.number as usize) < count && are_arguments_named(atom.terms.as_slice(), count)
+    (atom.name.number as usize) < count && are_arguments_named(&atom.terms, count)
 }
 
 /// Whether it has the names of all constraints.
-fn are_rule_atoms_named(atoms: &[RuleAtom], count: usize) -> bool
+fn are_rule_atoms_named<A: Allocator>(atoms: &[RuleAtom<A>], count: usize) -> bool
     ensures { IsTrue result ↔ AllByRecursion (RuleAtomIsNamed count) (map shape atoms.now) }
 {
     for atom in atoms {

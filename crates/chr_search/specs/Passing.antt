@@ -173,7 +173,7 @@ pub record IsWholeNext (s : Space) (place : List ℕ) (w : CodeWhole) (binding :
   pub past_is : w.past ≡ record { label = s.active; place = past (position trial) }
 
 -- what comes at a place once trials were passed over: one that is whole, which is this instance; none; or perhaps more
-abbrev pub IsThen : Space → List ℕ → CodeThen → Instance → Type 0
-IsThen s place thens.Whole i = IsWholeNext s place i.whole i.binding
-IsThen s place thens.Done i = NoneLeft s place
-IsThen s place thens.More i = Unit {0}
+abbrev pub IsThen : Space → List ℕ → CodeThen → Instance → List (Option (Value ℕ)) → Type 0
+IsThen s place thens.Whole i binding = IsWholeNext s place i.whole binding
+IsThen s place thens.Done i binding = NoneLeft s place
+IsThen s place thens.More i binding = Unit {0}
