@@ -1,7 +1,7 @@
 -- Rounds of calls: the last one fires what was found whole or drops the goal, and a book keeps what it has.
-use Rattle.std.proofs.Common.{◌≡◌, ℕ, ◌<◌, Bool, true, false, List, [], ◌∷◌, ◌++◌, map, Option, Some, None, Result, Ok, Err, OnErr, refl, sym, ◌∙◌, ap, ap₂, subst, slice_set}
+use Rattle.std.proofs.Common.{◌≡◌, ℕ, ◌-◌, ◌<◌, length, take, arith, Bool, true, false, List, [], ◌∷◌, ◌++◌, map, Option, Some, None, Result, Ok, Err, OnErr, refl, sym, ◌∙◌, ap, ap₂, subst, slice_set}
 use Rattle.std.specs.List.{AllByRecursion}
-use Rattle.std.proofs.lemmas.List.{set-set, length-set}
+use Rattle.std.proofs.lemmas.List.{set-set, length-set, append-nil}
 use Rattle.chr_value.specs.Atoms.{Value}
 use Rattle.chr_value.proofs.Chosen.{some_is}
 use Rattle.chr_log.specs.Events.{Entry, Drop}
@@ -10,11 +10,13 @@ use Rattle.chr_plan.specs.Plans.{PlanList}
 use Rattle.chr_store.specs.Labels.{LabelledStore}
 use Rattle.chr_model.specs.Stores.{atom_at}
 use Rattle.chr_model.specs.Goals.{Numbered}
-use Rattle.chr_search.specs.Trials.{IsNext, NoneLeft}
+use Rattle.chr_search.specs.Reach.{SearchState}
+use Rattle.chr_search.specs.Trials.{Space, IsNext, NoneLeft}
 use Rattle.chr_search.specs.Verdicts.{Placed, Trial, position}
 use Rattle.chr_search.specs.Judged.{Judgement}
 use Rattle.chr_search.specs.Passing.{IsWholeNext, IsThen}
 use Rattle.chr_search.specs.declared.judged.Verdict.TheVariants as verdicts
+use Rattle.chr_search.specs.declared.search.Passed.{Passed}
 use Rattle.chr_search.specs.declared.search.Whole.{Whole}
 use Rattle.chr_search.specs.declared.search.Instance.{Instance}
 use Rattle.chr_search.specs.declared.search.Then.{Then}
@@ -35,10 +37,11 @@ use Rattle.chr_book.specs.declared.rounds.Last.{Last}
 use Rattle.chr_book.specs.declared.rounds.Last.TheVariants as lasts
 use Rattle.chr_book.specs.declared.rounds.Rounds.{Rounds}
 use Rattle.chr_book.specs.Books.{book_of}
-use Rattle.chr_book.specs.Firings.{gone_on, FiresWhole, EndsRounds}
-use Rattle.chr_book.specs.Passed.{PassesTrials, FiresTrial, DropsGoal, IsLast, MakesRounds, MakesFewer}
-use Rattle.chr_book.proofs.Passes.{IsPast, passes_keep}
-use Rattle.chr_book.proofs.Fired.{IsWholeOf, with_fired, fires_there}
+use Rattle.chr_book.specs.Firings.{gone_on, MakesFound, EndsRounds}
+use Rattle.chr_book.specs.Passed.{PassesTrials, FiresTrial, DropsGoal, IsLast, MakesRounds, MakesFewer, PassesMaking, PassesSome}
+use Rattle.chr_book.proofs.PostedBooks.{rest_back}
+use Rattle.chr_book.proofs.Passes.{IsPast, gone_past, passes_keep}
+use Rattle.chr_book.proofs.Fired.{FiresWhole, goal_stays, IsWholeOf, with_fired, fires_there, fires_whole}
 
 -- ---- the ticket with a candidate
 
@@ -160,16 +163,22 @@ pub makes_same : {seat t k : ℕ} {last other : Last} {b n m : BookState} → la
 makes_same {seat} {t} {k} {last} {other} {b} {n} {m} l e h =
     subst (λ (z : Last). MakesRounds seat t (record { passed = k; last = z }) b n) (sym l) (subst (MakesRounds seat t (record { passed = k; last = other }) b) (sym e) h)
 
-pub ended_rounds : (rules : List (Simpagation ℕ)) (plans : PlanList) (names : List (List ℕ)) (log entries : List (Entry ℕ)) (st left : LabelledStore) (ts now tickets : List Ticket) (seat t k l : ℕ) (place : List ℕ) (then : Then) (i : Instance) (last : Last)
-    → IsKept (book_of rules plans names log st ts) → IsPast (book_of rules plans names log st ts) seat t k l place now → IsThen (space_of (book_of rules plans names log st ts) l) place then i → EndsRounds seat t rules then i last now log st tickets entries left
+-- nothing was found, and no ticket is new
+none_more : (now pushed more : List Ticket) → pushed ≡ now ++ more → more ≡ [] → pushed ≡ now
+none_more now pushed more e none = e ∙ ap (λ (m : List Ticket). now ++ m) none ∙ append-nil now
+
+pub ended_rounds : (rules : List (Simpagation ℕ)) (plans : PlanList) (names : List (List ℕ)) (log entries : List (Entry ℕ)) (st left : LabelledStore) (ts now more pushed tickets : List Ticket) (seat t k l : ℕ) (place : List ℕ) (then : Then) (i : Instance) (binding : List (Option (Value ℕ))) (last : Last)
+    → IsKept (book_of rules plans names log st ts) → IsPast (book_of rules plans names log st ts) seat t k l place now → IsThen (space_of (book_of rules plans names log st ts) l) place then i binding → MakesFound rules then i.whole binding more → pushed ≡ now ++ more → EndsRounds seat t then i.whole last pushed log st tickets entries left
     → MakesRounds seat t (record { passed = k; last = last }) (book_of rules plans names log st ts) (book_of rules plans names entries left tickets)
-ended_rounds rules plans names log entries st left ts now tickets seat t k l place thens.More i last kept past next h =
-    makes_same h.0 (book_same rules plans names h.2 h.3 h.1) (passed_rounds (book_of rules plans names log st ts) seat t k l place now past)
-ended_rounds rules plans names log entries st left ts now tickets seat t k l place thens.Done i last kept past next h =
-    makes_same h.0 (book_same rules plans names refl h.3 refl) (dropped_rounds (book_of rules plans names log st ts) seat t k l place now tickets entries past next h.1 h.2)
-ended_rounds rules plans names log entries st left ts now tickets seat t k l place thens.Whole i last kept past next h =
+ended_rounds rules plans names log entries st left ts now more pushed tickets seat t k l place thens.More i binding last kept past next made e h =
+    makes_same h.0 (book_same rules plans names h.2 h.3 (h.1 ∙ none_more now pushed more e made)) (passed_rounds (book_of rules plans names log st ts) seat t k l place now past)
+ended_rounds rules plans names log entries st left ts now more pushed tickets seat t k l place thens.Done i binding last kept past next made e h =
+    makes_same h.0 (book_same rules plans names refl h.3 refl) (dropped_rounds (book_of rules plans names log st ts) seat t k l place now tickets entries past next (h.1 ∙ ap (λ (xs : List Ticket). slice_set xs t ended) (none_more now pushed more e made)) h.2)
+ended_rounds rules plans names log entries st left ts now more pushed tickets seat t k l place thens.Whole i binding last kept past next made e h =
     let f = h.1 in
-    makes_same h.0 (book_same rules plans names refl f.store refl) (fired_rounds (book_of rules plans names log st ts) seat t k l place f.rule i.whole i.binding f.fired now tickets entries kept past next f.rule_is f.fires)
+    let at : (ticket_at now t).goal ≡ Numbered i.whole.past.label = past.live.holds.goal ∙ ap (λ (z : SearchState). Numbered z.label) (sym next.past_is) in
+    makes_same h.0 (book_same rules plans names refl f.store refl) (fired_rounds (book_of rules plans names log st ts) seat t k l place made.0 i.whole binding (record { first = length now; count = length pushed - length now; active_lives = f.lives }) now tickets entries kept past next made.1
+    (fires_whole seat t (length now) (length pushed) f.lives made.0 i.whole binding now more pushed tickets log entries at refl refl made.2 e f.fires))
 
 -- memory was refused
 pub fewer_rounds : (rules : List (Simpagation ℕ)) (plans : PlanList) (names : List (List ℕ)) (log entries : List (Entry ℕ)) (st left : LabelledStore) (ts now tickets : List Ticket) (seat t k l most : ℕ) (place : List ℕ) → IsPast (book_of rules plans names log st ts) seat t k l place now → tickets ≡ now → entries ≡ log → left ≡ st → k < most → MakesFewer seat t most (book_of rules plans names log st ts) (book_of rules plans names entries left tickets)
@@ -178,6 +187,40 @@ fewer_rounds rules plans names log entries st left ts now tickets seat t k l mos
   fewer = less;
   passes = subst (PassesTrials seat t k (book_of rules plans names log st ts)) (sym (book_same rules plans names e s x)) past.passes;
 }
+
+pub finds_label : (s : Space) (place : List ℕ) (come : Then) (i : Instance) (binding : List (Option (Value ℕ))) → IsThen s place come i binding → come ≡ thens.Whole → i.whole.past.label ≡ s.active
+finds_label s place thens.Whole i binding next is = ap (λ (z : SearchState). z.label) next.past_is
+finds_label s place thens.Done i binding next is = absurd (cc)
+finds_label s place thens.More i binding next is = absurd (cc)
+
+-- ---- the same by what the functions show
+
+pub whole_goal : (b : BookState) (pushed : List Ticket) (seat t l : ℕ) (come : Passed) (i : Instance) (w : Whole) → HoldsLive b seat t l → PassesMaking (space_of b l) t come i b.tickets pushed → w ≡ i.whole → come.then ≡ thens.Whole → (ticket_at pushed t).goal ≡ Numbered w.past.label
+whole_goal b pushed seat t l come i w h found same is =
+    let past = gone_past b seat t l come i found.binding found.x h found.over in
+    goal_stays (slice_set b.tickets t found.x) pushed t l (found.more, found.tickets) past.live.holds.goal
+    ∙ ap Numbered (sym (finds_label (space_of b l) found.over.place come.then i found.binding found.over.next is) ∙ ap (λ (v : Whole). v.past.label) (sym same))
+
+pub makes_rounds : (rules : List (Simpagation ℕ)) (plans : PlanList) (names : List (List ℕ)) (log entries : List (Entry ℕ)) (st left : LabelledStore) (ts pushed tickets : List Ticket) (seat t l : ℕ) (come : Passed) (i : Instance) (w : Whole) (last : Last)
+    → IsKept (book_of rules plans names log st ts) → HoldsLive (book_of rules plans names log st ts) seat t l → PassesMaking (space_of (book_of rules plans names log st ts) l) t come i ts pushed → w ≡ i.whole → EndsRounds seat t come.then w last pushed log st tickets entries left
+    → MakesRounds seat t (record { passed = come.count; last = last }) (book_of rules plans names log st ts) (book_of rules plans names entries left tickets)
+makes_rounds rules plans names log entries st left ts pushed tickets seat t l come i w last kept h found same ends =
+    ended_rounds rules plans names log entries st left ts (slice_set ts t found.x) found.more pushed tickets seat t come.count l found.over.place come.then i found.binding last kept
+    (gone_past (book_of rules plans names log st ts) seat t l come i found.binding found.x h found.over) found.over.next found.made found.tickets
+    (subst (λ (v : Whole). EndsRounds seat t come.then v last pushed log st tickets entries left) same ends)
+
+pub some_rounds : (rules : List (Simpagation ℕ)) (plans : PlanList) (names : List (List ℕ)) (log : List (Entry ℕ)) (st : LabelledStore) (ts new : List Ticket) (seat t l few most : ℕ) → HoldsLive (book_of rules plans names log st ts) seat t l → PassesSome (space_of (book_of rules plans names log st ts) l) t few ts new → few < most → MakesFewer seat t most (book_of rules plans names log st ts) (book_of rules plans names log st new)
+some_rounds rules plans names log st ts new seat t l few most h found less =
+    fewer_rounds rules plans names log log st st ts (slice_set ts t found.x) new seat t found.passed.count l most found.over.place (gone_past (book_of rules plans names log st ts) seat t l found.passed found.instance found.binding found.x h found.over) found.tickets refl refl
+    (let few_passed = found.few in omega arith)
+
+-- where the tickets of the body are taken back
+pub cut_rounds : (rules : List (Simpagation ℕ)) (plans : PlanList) (names : List (List ℕ)) (log entries : List (Entry ℕ)) (st left : LabelledStore) (ts pushed same cut : List Ticket) (seat t l first most : ℕ) (come : Passed) (i : Instance)
+    → HoldsLive (book_of rules plans names log st ts) seat t l → PassesMaking (space_of (book_of rules plans names log st ts) l) t come i ts pushed → come.count < most → same ≡ pushed → cut ≡ take first same → first ≡ length ts → entries ≡ log → left ≡ st
+    → MakesFewer seat t most (book_of rules plans names log st ts) (book_of rules plans names entries left cut)
+cut_rounds rules plans names log entries st left ts pushed same cut seat t l first most come i h found less e back f es s =
+    fewer_rounds rules plans names log entries st left ts (slice_set ts t found.x) cut seat t come.count l most found.over.place (gone_past (book_of rules plans names log st ts) seat t l come i found.binding found.x h found.over)
+    (rest_back (slice_set ts t found.x) same cut first (found.more, e ∙ found.tickets) back (f ∙ sym (length-set ts t found.x))) es s less
 
 pub on_err : {X E : Type 0} (P : Type 0) (r : Result X E) → P → OnErr r P
 on_err P (Ok x) h = tt

@@ -1,6 +1,7 @@
 -- Trials that are passed over: what a search passes in one go, its ticket's calls pass one by one.
-use Rattle.std.proofs.Common.{◌≡◌, ℕ, zero, suc, List, Some, Ok, refl, sym, ◌∙◌, ap, subst, slice_set}
+use Rattle.std.proofs.Common.{◌≡◌, ℕ, zero, suc, List, Option, Some, Ok, refl, sym, ◌∙◌, ap, subst, slice_set}
 use Rattle.std.proofs.lemmas.List.{set-set, set-get_or}
+use Rattle.chr_value.specs.Atoms.{Value}
 use Rattle.chr_model.specs.Goals.{Numbered}
 use Rattle.chr_search.specs.Trials.{IsNext}
 use Rattle.chr_search.specs.Verdicts.{position}
@@ -93,8 +94,8 @@ is_past (suc k) b seat t l place tickets h p e = subst (IsPast b seat t (suc k) 
 })
 
 -- the ticket's search has passed over them
-pub gone_past : (b : BookState) (seat t l : ℕ) (passed : Passed) (instance : Instance) (tickets : List Ticket) → HoldsLive b seat t l → (over : PassesOver (space_of b l) passed instance (ticket_at b.tickets t) (ticket_at tickets t)) → tickets ≡ slice_set b.tickets t (ticket_at tickets t) → IsPast b seat t passed.count l over.place tickets
-gone_past b seat t l passed instance tickets h over e = is_past passed.count b seat t l over.place tickets h over.passes (e ∙ ap (slice_set b.tickets t) over.after_is)
+pub gone_past : (b : BookState) (seat t l : ℕ) (passed : Passed) (instance : Instance) (binding : List (Option (Value ℕ))) (x : Ticket) → HoldsLive b seat t l → (over : PassesOver (space_of b l) passed instance binding (ticket_at b.tickets t) x) → IsPast b seat t passed.count l over.place (slice_set b.tickets t x)
+gone_past b seat t l passed instance binding x h over = is_past passed.count b seat t l over.place (slice_set b.tickets t x) h over.passes (ap (slice_set b.tickets t) over.after_is)
 
 -- what a book keeps
 pub passes_keep : (k : ℕ) (b n : BookState) (seat t : ℕ) → PassesTrials seat t k b n → IsKept b → IsKept n

@@ -1,19 +1,16 @@
 -- A ticket that waits is activated, and its rounds are made: in the store as it is once its atom is entered, which it needn't
 -- be where what fires removes it.
-use Rattle.std.proofs.Common.{◌≡◌, ◌≢◌, ◌==◌, ◌||◌, ℕ, zero, suc, ◌+◌, ◌<◌, ◌≤◌, Bool, true, false, nat_lt, not, if◌then◌else◌, inl, inr, List, [], ◌∷◌, ◌++◌, map, length, Some, Result, Ok, Err, IfOk, OnErr, slice_set, refl, sym, ◌∙◌, ap, ap₂, subst, arith, true-eqb}
-use Rattle.std.proofs.lemmas.List.{length-set, set-set, set-append_left, length-map, append_assoc}
-use Rattle.chr_value.specs.Atoms.{Atom}
-use Rattle.chr_value.proofs.Chosen.{some_is}
-use Rattle.chr_rule.specs.Rules.{RuleAtom, Simpagation, rule_at}
-use Rattle.chr_guard.specs.Values.{Valuation}
-use Rattle.chr_guard.specs.Bindings.{bound_at}
-use Rattle.chr_guard.specs.Instances.{AreUnder, atom_under, added}
+use Rattle.std.proofs.Common.{◌≡◌, ◌≢◌, ◌==◌, ◌||◌, ℕ, zero, suc, ◌+◌, ◌<◌, ◌≤◌, Bool, true, false, nat_lt, not, if◌then◌else◌, inl, inr, List, [], ◌∷◌, ◌++◌, map, length, take, Option, Some, Result, Ok, Err, IfOk, OnErr, slice_set, refl, sym, ◌∙◌, ap, ap₂, subst, arith, true-eqb}
+use Rattle.std.proofs.lemmas.Bool.Decides.{nat_tests}
+use Rattle.std.proofs.lemmas.List.{length-set, length-append, set-set, set-get_or, set-append_left, length-map, append_assoc, append-nil}
+use Rattle.chr_value.specs.Atoms.{Value, Atom}
+use Rattle.chr_rule.specs.Rules.{Simpagation, rule_at}
 use Rattle.chr_log.specs.Events.{Entry, Activate, Fire}
 use Rattle.chr_log.specs.declared.events.Version.TheVariants.{Two}
 use Rattle.chr_plan.specs.Plans.{PlanList}
 use Rattle.chr_store.specs.Labels.{LabelledStore}
 use Rattle.chr_model.specs.Stores.{Store, atom_at, drop_label, without, among}
-use Rattle.chr_model.specs.Goals.{Numbered}
+use Rattle.chr_model.specs.Goals.{Goal, Plain, Numbered}
 use Rattle.chr_model.specs.Programs.{Instances}
 use Rattle.chr_model.proofs.Once.{Lawful-once}
 use Rattle.chr_model.proofs.Older.{store_below}
@@ -22,24 +19,28 @@ use Rattle.chr_search.specs.Reach.{SearchState}
 use Rattle.chr_search.specs.Trials.{Space, older}
 use Rattle.chr_search.specs.Passing.{Passes, IsWholeNext, IsThen}
 use Rattle.chr_search.specs.declared.search.Instance.{Instance}
+use Rattle.chr_search.specs.declared.search.Passed.{Passed}
+use Rattle.chr_search.specs.declared.search.Whole.{Whole}
 use Rattle.chr_search.specs.declared.search.Then.{Then}
 use Rattle.chr_search.specs.declared.search.Then.TheVariants as thens
 use Rattle.chr_calls.specs.declared.answers.TicketState.{TicketState}
-use Rattle.chr_calls.specs.declared.answers.TicketState.TheVariants.{Unknown, Waiting}
+use Rattle.chr_calls.specs.declared.answers.TicketState.TheVariants.{Unknown, Waiting, Held}
 use Rattle.chr_calls.specs.Tickets.{Ticket, ended, waiting, activated_by, going_on, ticket_at, state_with, state_of, atom_in}
 use Rattle.chr_calls.specs.Books.{BookState, events, goal_state, space_of}
 use Rattle.chr_calls.specs.Calls.{Activates, Claims, HoldsLive, activated}
 use Rattle.chr_calls.specs.Headline.{IsKept}
-use Rattle.chr_calls.proofs.Tickets.{ticket_same, waiting_is}
+use Rattle.chr_calls.proofs.Tickets.{ticket_same, ticket_before, waiting_is}
 use Rattle.chr_calls.proofs.Claiming.{activated_keeps, claims_keep}
+use Rattle.chr_tickets.specs.Open.{with_goal, with_atom, lent_goal, lent}
 use Rattle.chr_tickets.specs.Passed.{gone_over}
 use Rattle.chr_book.specs.declared.rounds.Last.{Last}
 use Rattle.chr_book.specs.declared.rounds.Last.TheVariants as lasts
 use Rattle.chr_book.specs.declared.rounds.Rounds.{Rounds}
 use Rattle.chr_book.specs.Books.{book_of}
-use Rattle.chr_book.specs.Firings.{store_without, FiresWhole, EntersGoal, FindsWhole, FiresWaiting, EndsRounds, EndsStart, fires, enters, EntersOrStays}
-use Rattle.chr_book.specs.Passed.{PassesTrials, MakesRounds, StartsRounds, StartsFewer}
-use Rattle.chr_book.proofs.PostedBooks.{plain_is}
+use Rattle.chr_book.specs.Firings.{MakesBody, MakesFound, EntersGoal, FiresWaiting, EndsRounds, EndsStart, fires, enters, EntersOrStays}
+use Rattle.chr_book.specs.Passed.{PassesTrials, MakesRounds, StartsRounds, StartsFewer, PassesBefore}
+use Rattle.chr_book.proofs.Fired.{FiresWhole}
+use Rattle.chr_book.proofs.PostedBooks.{plain_is, rest_back}
 use Rattle.chr_book.proofs.Passes.{IsPast, is_past}
 use Rattle.chr_book.proofs.GoingOn.{book_same, makes_same, fired_rounds, ended_rounds, on_err, rounds_keep, fewer_keep}
 
@@ -69,24 +70,62 @@ state_elsewhere ts t (suc u) x is = ap₂ shown (length-set ts t x) is
 waits_within : (ts : List Ticket) (t : ℕ) → state_of ts t ≡ Waiting → t < length ts
 waits_within ts t waits = (waiting_is ts t waits).within
 
--- what was found has fired
-pub fires_waiting : (seat t : ℕ) (rules : List (Simpagation ℕ)) (i : Instance) (rule : Simpagation ℕ) (ts pushed new : List Ticket) (log entries : List (Entry ℕ)) (st spent after : LabelledStore) → state_of ts t ≡ Waiting → rule_at rules i.whole.number ≡ Some rule
-    → ((body : List (Atom ℕ)) → AreUnder (bound_at i.binding) (added rule.body) body → pushed ≡ ts ++ map waiting body) → new ≡ slice_set pushed t ended
-    → entries ≡ log ++ record { event = Activate t i.whole.past.label; seat = seat } ∷ record { event = Fire t i.whole.number i.whole.kept.items i.whole.removed.items; seat = seat } ∷ []
-    → spent ≡ record { entries = st.entries; next = st.next + 1; limit = st.limit } → after ≡ store_without i.whole.removed.items spent → FiresWaiting seat t rules i ts log st new entries after
-fires_waiting seat t rules i rule ts pushed new log entries st spent after waits of made e g s a = record {
-  rule = rule;
-  rule_is = of;
-  logged = g;
-  tickets = λ body under. e ∙ ap (λ (xs : List Ticket). slice_set xs t ended) (made body under) ∙ set-append_left ts (map waiting body) t ended (waits_within ts t waits);
-  store = a ∙ ap (store_without i.whole.removed.items) s;
-}
+-- and of one before others
+state_before : (ts more : List Ticket) (t : ℕ) → t < length ts → state_of (ts ++ more) t ≡ state_of ts t
+state_before ts more zero within = refl
+state_before ts more (suc t) within =
+    let all : length (ts ++ more) ≡ length ts + length more = length-append ts more in
+    let here : nat_lt (suc t) (length ts) ≡ true = grind (arith, nat_tests) in
+    let there : nat_lt (suc t) (length (ts ++ more)) ≡ true = grind (arith, nat_tests) in
+    ap₂ (λ (c : Bool) (x : Ticket). if c then state_with x.goal x.holder else Unknown) (there ∙ sym here) (ticket_before ts more (suc t) within)
+
+-- ---- a ticket whose atom is taken out
+
+-- it has the atom, and its tickets without that
+pub record IsLent (ts now : List Ticket) (t : ℕ) (a : Atom ℕ) : Type 0 where
+  pub waits : state_of ts t ≡ Waiting
+  pub atom : Some a ≡ atom_in (ticket_at ts t).goal
+  pub lent_is : now ≡ slice_set ts t (lent (ticket_at ts t))
+
+still_waits : (x : Ticket) (a : Atom ℕ) → x.goal ≡ Plain a → state_with (lent x).goal (lent x).holder ≡ Waiting
+still_waits x a e = ap (λ (g : Goal). state_with (lent_goal g) x.holder) e
+
+pub waits_lent : {ts now : List Ticket} {t : ℕ} {a : Atom ℕ} → IsLent ts now t a → state_of now t ≡ Waiting
+waits_lent {ts} {now} {t} {a} h =
+    ap (λ (xs : List Ticket). state_of xs t) h.lent_is
+    ∙ state_there ts t (lent (ticket_at ts t)) (λ e. absurd (let z : Waiting ≡ Unknown = sym h.waits ∙ e in cc)) (waits_within ts t h.waits)
+    ∙ still_waits (ticket_at ts t) a (plain_is (ticket_at ts t).goal a h.atom)
+
+lent_within : {ts now : List Ticket} {t : ℕ} {a : Atom ℕ} → IsLent ts now t a → t < length now
+lent_within {ts} {now} {t} h = waits_within now t (waits_lent h)
+
+-- also where other tickets come after it
+pub waits_before : {ts now : List Ticket} {t : ℕ} {a : Atom ℕ} (more pushed : List Ticket) → IsLent ts now t a → pushed ≡ now ++ more → state_of pushed t ≡ Waiting
+waits_before {ts} {now} {t} {a} more pushed h e = ap (λ (xs : List Ticket). state_of xs t) e ∙ state_before now more t (lent_within h) ∙ waits_lent h
+
+-- the ticket changes
+pub lent_set : {ts now : List Ticket} {t : ℕ} {a : Atom ℕ} (y : Ticket) → IsLent ts now t a → slice_set now t y ≡ slice_set ts t y
+lent_set {ts} {now} {t} y h = ap (λ (xs : List Ticket). slice_set xs t y) h.lent_is ∙ set-set ts t (lent (ticket_at ts t)) y
+
+pub lent_set_before : {ts now : List Ticket} {t : ℕ} {a : Atom ℕ} (more pushed : List Ticket) (y : Ticket) → IsLent ts now t a → pushed ≡ now ++ more → slice_set pushed t y ≡ slice_set ts t y ++ more
+lent_set_before {ts} {now} {t} more pushed y h e = ap (λ (xs : List Ticket). slice_set xs t y) e ∙ set-append_left now more t y (lent_within h) ∙ ap (λ (xs : List Ticket). xs ++ more) (lent_set y h)
+
+-- and where its atom is put back
+put_same : (x : Ticket) (a : Atom ℕ) → x.goal ≡ Plain a → with_atom a (lent x) ≡ x
+put_same x a e = ap (λ (g : Goal). with_goal g x) (sym e)
+
+pub put_back : {ts now : List Ticket} {t : ℕ} {a : Atom ℕ} → IsLent ts now t a → slice_set now t (with_atom a (ticket_at now t)) ≡ ts
+put_back {ts} {now} {t} {a} h =
+    let x : Ticket = ticket_at ts t in
+    let there : ticket_at now t ≡ lent x = ap (λ (xs : List Ticket). ticket_at xs t) h.lent_is ∙ ticket_same ts t (lent x) (waits_within ts t h.waits) in
+    lent_set (with_atom a (ticket_at now t)) h ∙ ap (slice_set ts t) (ap (with_atom a) there ∙ put_same x a (plain_is x.goal a h.atom)) ∙ set-get_or ts t ended
+
+pub put_back_of : {ts now left new : List Ticket} {t : ℕ} {a : Atom ℕ} → IsLent ts now t a → left ≡ now → new ≡ slice_set left t (with_atom a (ticket_at left t)) → new ≡ ts
+put_back_of {ts} {now} {left} {new} {t} {a} h same e = e ∙ ap (λ (xs : List Ticket). slice_set xs t (with_atom a (ticket_at xs t))) same ∙ put_back h
 
 -- the goal has entered, and its search goes on
-pub goes_in : (seat t : ℕ) (place : List ℕ) (ts : List Ticket) (log : List (Entry ℕ)) (st : LabelledStore) (now : List Ticket) (entries : List (Entry ℕ)) (after : LabelledStore) (new : List Ticket) → state_of ts t ≡ Waiting → EntersGoal seat t beginning ts log st now entries after → new ≡ slice_set now t (going_on place (ticket_at now t)) → EntersGoal seat t place ts log st new entries after
-goes_in seat t place ts log st now entries after new waits h e = record {
-  atom = h.atom;
-  waits = h.waits;
+pub goes_in : (seat t : ℕ) (place : List ℕ) (a : Atom ℕ) (ts : List Ticket) (log : List (Entry ℕ)) (st : LabelledStore) (now : List Ticket) (entries : List (Entry ℕ)) (after : LabelledStore) (new : List Ticket) → state_of ts t ≡ Waiting → EntersGoal seat t beginning a ts log st now entries after → new ≡ slice_set now t (going_on place (ticket_at now t)) → EntersGoal seat t place a ts log st new entries after
+goes_in seat t place a ts log st now entries after new waits h e = record {
   tickets = e ∙ ap (λ (xs : List Ticket). slice_set xs t (going_on place (ticket_at xs t))) h.tickets
       ∙ ap (λ (x : Ticket). slice_set (slice_set ts t y) t (going_on place x)) (ticket_same ts t y (waits_within ts t waits)) ∙ set-set ts t y (going_on place y);
   logged = h.logged;
@@ -103,19 +142,15 @@ if_ok_weaker (Ok x) f h = f x h
 if_ok_weaker (Err e) f h = tt
 
 -- memory was refused once it had entered
-pub entered_back : {X E : Type 0} (seat t : ℕ) (place : List ℕ) (ts now new : List Ticket) (log es entries : List (Entry ℕ)) (st store after : LabelledStore) (r : Result X E) → EntersGoal seat t place ts log st now es store → OnErr r (new ≡ now) → OnErr r (entries ≡ es) → OnErr r (after ≡ store) → OnErr r (EntersOrStays seat t place ts log st new entries after)
-entered_back seat t place ts now new log es entries st store after (Ok x) h e g s = tt
-entered_back seat t place ts now new log es entries st store after (Err x) h e g s = inr (record { atom = h.atom; waits = h.waits; tickets = e ∙ h.tickets; logged = g ∙ h.logged; store = s ∙ h.store })
+pub entered_back : {X E : Type 0} (seat t : ℕ) (place : List ℕ) (a : Atom ℕ) (ts now new : List Ticket) (log es entries : List (Entry ℕ)) (st store after : LabelledStore) (r : Result X E) → EntersGoal seat t place a ts log st now es store → OnErr r (new ≡ now) → OnErr r (entries ≡ es) → OnErr r (after ≡ store) → OnErr r (EntersOrStays seat t place a ts log st new entries after)
+entered_back seat t place a ts now new log es entries st store after (Ok x) h e g s = tt
+entered_back seat t place a ts now new log es entries st store after (Err x) h e g s = inr (record { tickets = e ∙ h.tickets; logged = g ∙ h.logged; store = s ∙ h.store })
 
--- what is found for a ticket under the label of its search
-pub finds_whole : (s : Space) (place : List ℕ) (come : Then) (i : Instance) (x : Ticket) → x.goal ≡ Numbered s.active → IsThen s place come i → come ≡ thens.Whole → FindsWhole s.rules i x
-finds_whole s place thens.Whole i x at next is = record {
-  rule = next.trial.rule;
-  rule_is = ap (rule_at s.rules) next.number_is ∙ next.is.rule_is;
-  goal = at ∙ ap (λ (z : SearchState). Numbered z.label) (sym next.past_is);
-}
-finds_whole s place thens.Done i x at next is = absurd (cc)
-finds_whole s place thens.More i x at next is = absurd (cc)
+-- what is found is of a rule
+pub finds_rule : (s : Space) (place : List ℕ) (come : Then) (i : Instance) (binding : List (Option (Value ℕ))) → IsThen s place come i binding → come ≡ thens.Whole → (rule : Simpagation ℕ) × (rule_at s.rules i.whole.number ≡ Some rule)
+finds_rule s place thens.Whole i binding next is = (next.trial.rule, ap (rule_at s.rules) next.number_is ∙ next.is.rule_is)
+finds_rule s place thens.Done i binding next is = absurd (cc)
+finds_rule s place thens.More i binding next is = absurd (cc)
 
 -- ---- the book where the ticket is claimed
 
@@ -178,16 +213,21 @@ abbrev entered_book : List (Simpagation ℕ) → PlanList → List (List ℕ) �
 entered_book rules plans names log st ts seat t a = activated (book_of rules plans names log st ts) seat t a
 
 -- they end where the goal has entered
-enters_rounds : (rules : List (Simpagation ℕ)) (plans : PlanList) (names : List (List ℕ)) (log es entries : List (Entry ℕ)) (st store after : LabelledStore) (ts now new : List Ticket) (seat t k : ℕ) (a : Atom ℕ) (place : List ℕ) (come : Then) (i : Instance) (last : Last) → IsReady (book_of rules plans names log st ts) t a
-    → Passes (space_of (entered_book rules plans names log st ts seat t a) st.next) k beginning place → IsThen (space_of (entered_book rules plans names log st ts seat t a) st.next) place come i → EntersGoal seat t place ts log st now es store → EndsRounds seat t rules come i last now es store new entries after
+enters_rounds : (rules : List (Simpagation ℕ)) (plans : PlanList) (names : List (List ℕ)) (log es entries : List (Entry ℕ)) (st store after : LabelledStore) (ts lent_ts more pushed now new : List Ticket) (seat t k : ℕ) (a : Atom ℕ) (place : List ℕ) (come : Then) (i : Instance) (binding : List (Option (Value ℕ))) (last : Last) → IsReady (book_of rules plans names log st ts) t a
+    → IsLent ts lent_ts t a → Passes (space_of (entered_book rules plans names log st ts seat t a) st.next) k beginning place → IsThen (space_of (entered_book rules plans names log st ts seat t a) st.next) place come i binding → MakesFound rules come i.whole binding more → pushed ≡ lent_ts ++ more
+    → EntersGoal seat t place a pushed log st now es store → EndsRounds seat t come i.whole last now es store new entries after
     → MakesRounds seat t (record { passed = k; last = last }) (entered_book rules plans names log st ts seat t a) (book_of rules plans names entries after new)
-enters_rounds rules plans names log es entries st store after ts now new seat t k a place come i last h p next g ends =
-    ended_rounds rules plans names claim_log entries claim_store after (slice_set ts t (activated_by seat st.next)) now new seat t k st.next place come i last (claimed_kept b seat t a h) (claimed_past b seat t k a place now h p g.tickets) next
-    (subst (λ (z : LabelledStore). EndsRounds seat t rules come i last now claim_log z new entries after) (g.store ∙ ap (λ (x : Atom ℕ). record { entries = st.entries ++ (st.next, x) ∷ []; next = st.next + 1; limit = st.limit }) (some_is g.atom a (g.waits ∙ sym h.atom)))
-    (subst (λ (z : List (Entry ℕ)). EndsRounds seat t rules come i last now z store new entries after) g.logged ends))
+enters_rounds rules plans names log es entries st store after ts lent_ts more pushed now new seat t k a place come i binding last h out p next made e g ends =
+    ended_rounds rules plans names claim_log entries claim_store after (slice_set ts t (activated_by seat st.next)) gone more now new seat t k st.next place come i binding last (claimed_kept b seat t a h) (claimed_past b seat t k a place gone h p refl) next made
+    (g.tickets ∙ lent_set_before more pushed (going_on place (activated_by seat st.next)) out e)
+    (subst (λ (z : LabelledStore). EndsRounds seat t come i.whole last now claim_log z new entries after) g.store
+    (subst (λ (z : List (Entry ℕ)). EndsRounds seat t come i.whole last now z store new entries after) g.logged ends))
   where
     b : BookState
     b = book_of rules plans names log st ts
+
+    gone : List Ticket
+    gone = slice_set ts t (going_on place (activated_by seat st.next))
 
     claim_log : List (Entry ℕ)
     claim_log = log ++ record { event = Activate t st.next; seat = seat } ∷ []
@@ -217,18 +257,18 @@ without_entered (l ∷ ls) st n a h = elim (l == n) as (λ c. (l == n ≡ c) →
       | false ↦ ap (λ (z : Store). (m, x) ∷ z) (kept es e)
     ]
 
--- the atoms of a body are as many as it adds
-as_many : (v : Valuation) (patterns : List (RuleAtom ℕ)) (atoms : List (Atom ℕ)) → AreUnder v patterns atoms → length atoms ≡ length patterns
-as_many v patterns atoms under = sym (length-map atoms (λ (x : Atom ℕ). Some x)) ∙ sym (ap length under) ∙ length-map patterns (atom_under v)
-
 -- a firing of a ticket that is gone on, under the label of its search, which is removed
-fires_gone_on : (seat t l : ℕ) (rules : List (Simpagation ℕ)) (i : Instance) (place : List ℕ) (ts : List Ticket) (log : List (Entry ℕ)) (st : LabelledStore) (new : List Ticket) (entries : List (Entry ℕ)) (after : LabelledStore) → i.whole.past.label ≡ l → among i.whole.removed.items i.whole.past.label ≡ true → (h : FiresWaiting seat t rules i ts log st new entries after)
-    → FiresWhole seat t h.rule i.whole i.binding (record { first = length ts; count = length (added h.rule.body); active_lives = false }) (slice_set ts t (going_on place (activated_by seat l))) (log ++ record { event = Activate t l; seat = seat } ∷ []) new entries
-fires_gone_on seat t l rules i place ts log st new entries after label own h = record {
+fires_gone_on : (seat t l : ℕ) (rule : Simpagation ℕ) (i : Instance) (binding : List (Option (Value ℕ))) (place : List ℕ) (a : Atom ℕ) (ts lent_ts more pushed : List Ticket) (log : List (Entry ℕ)) (st : LabelledStore) (new : List Ticket) (entries : List (Entry ℕ)) (after : LabelledStore) → i.whole.past.label ≡ l → among i.whole.removed.items i.whole.past.label ≡ true
+    → IsLent ts lent_ts t a → MakesBody rule.body binding more → pushed ≡ lent_ts ++ more → FiresWaiting seat t i.whole pushed log st new entries after
+    → FiresWhole seat t rule i.whole binding (record { first = length ts; count = length more; active_lives = false }) (slice_set ts t (going_on place (activated_by seat l))) (log ++ record { event = Activate t l; seat = seat } ∷ []) new entries
+fires_gone_on seat t l rule i binding place a ts lent_ts more pushed log st new entries after label own out makes e h = record {
   first = sym (length-set ts t x);
   lives = ap not (sym own);
   logged = h.logged ∙ ap (λ (z : ℕ). log ++ record { event = Activate t z; seat = seat } ∷ entry ∷ []) label ∙ sym (append_assoc log (record { event = Activate t l; seat = seat } ∷ []) (entry ∷ []));
-  tickets = λ body under. (sym (as_many (bound_at i.binding) (added h.rule.body) body under), h.tickets body under ∙ ap (λ (xs : List Ticket). xs ++ map waiting body) (sym (set-set ts t x ended)));
+  tickets = λ body under. (
+    ap length (makes body under) ∙ length-map body waiting,
+    h.tickets ∙ lent_set_before more pushed ended out e ∙ ap₂ (λ (xs ys : List Ticket). xs ++ ys) (sym (set-set ts t x ended)) (makes body under),
+  );
 }
   where
     x : Ticket
@@ -238,16 +278,17 @@ fires_gone_on seat t l rules i place ts log st new entries after label own h = r
     entry = record { event = Fire t i.whole.number i.whole.kept.items i.whole.removed.items; seat = seat }
 
 -- they end where what was found has fired
-fires_rounds : (rules : List (Simpagation ℕ)) (plans : PlanList) (names : List (List ℕ)) (log entries : List (Entry ℕ)) (st after : LabelledStore) (ts new : List Ticket) (seat t k : ℕ) (a : Atom ℕ) (place : List ℕ) (i : Instance) → IsReady (book_of rules plans names log st ts) t a
-    → Passes (space_of (entered_book rules plans names log st ts seat t a) st.next) k beginning place → IsWholeNext (space_of (entered_book rules plans names log st ts seat t a) st.next) place i.whole i.binding → among i.whole.removed.items i.whole.past.label ≡ true → FiresWaiting seat t rules i ts log st new entries after
+fires_rounds : (rules : List (Simpagation ℕ)) (plans : PlanList) (names : List (List ℕ)) (log entries : List (Entry ℕ)) (st after : LabelledStore) (ts lent_ts more pushed new : List Ticket) (seat t k : ℕ) (a : Atom ℕ) (place : List ℕ) (i : Instance) (binding : List (Option (Value ℕ))) → IsReady (book_of rules plans names log st ts) t a
+    → IsLent ts lent_ts t a → Passes (space_of (entered_book rules plans names log st ts seat t a) st.next) k beginning place → IsWholeNext (space_of (entered_book rules plans names log st ts seat t a) st.next) place i.whole binding → MakesFound rules thens.Whole i.whole binding more → pushed ≡ lent_ts ++ more
+    → among i.whole.removed.items i.whole.past.label ≡ true → FiresWaiting seat t i.whole pushed log st new entries after
     → MakesRounds seat t (record { passed = k; last = lasts.Fired }) (entered_book rules plans names log st ts seat t a) (book_of rules plans names entries after new)
-fires_rounds rules plans names log entries st after ts new seat t k a place i h p next own f =
+fires_rounds rules plans names log entries st after ts lent_ts more pushed new seat t k a place i binding h out p next made e own f =
     let label : i.whole.past.label ≡ st.next = ap (λ (z : SearchState). z.label) next.past_is in
     let now : List Ticket = slice_set ts t (going_on place (activated_by seat st.next)) in
     subst (λ (z : LabelledStore). MakesRounds seat t (record { passed = k; last = lasts.Fired }) claim (book_of rules plans names entries z new))
     (ap (λ (z : Store). record { entries = z; next = st.next + 1; limit = st.limit }) (without_entered i.whole.removed.items st.entries st.next a (ap (among i.whole.removed.items) (sym label) ∙ own)) ∙ sym f.store)
-    (fired_rounds claim seat t k st.next place f.rule i.whole i.binding (record { first = length ts; count = length (added f.rule.body); active_lives = false }) now new entries (claimed_kept b seat t a h) (claimed_past b seat t k a place now h p refl) next f.rule_is
-    (fires_gone_on seat t st.next rules i place ts log st new entries after label own f))
+    (fired_rounds claim seat t k st.next place made.0 i.whole binding (record { first = length ts; count = length more; active_lives = false }) now new entries (claimed_kept b seat t a h) (claimed_past b seat t k a place now h p refl) next made.1
+    (fires_gone_on seat t st.next made.0 i binding place a ts lent_ts more pushed log st new entries after label own out made.2 e f))
   where
     b : BookState
     b = book_of rules plans names log st ts
@@ -256,34 +297,43 @@ fires_rounds rules plans names log entries st after ts new seat t k a place i h 
     claim = entered_book rules plans names log st ts seat t a
 
 -- the claim and the rounds
-pub starts : (rules : List (Simpagation ℕ)) (plans : PlanList) (names : List (List ℕ)) (log entries : List (Entry ℕ)) (st after : LabelledStore) (ts new : List Ticket) (seat t k : ℕ) (a : Atom ℕ) (place : List ℕ) (come : Then) (i : Instance) (last : Last) → IsReady (book_of rules plans names log st ts) t a
-    → Passes (older rules plans (st.entries ++ (st.next, a) ∷ []) st.next) k beginning place → IsThen (older rules plans (st.entries ++ (st.next, a) ∷ []) st.next) place come i → EndsStart seat t rules place come i last ts log st new entries after
+pub starts : (rules : List (Simpagation ℕ)) (plans : PlanList) (names : List (List ℕ)) (log entries : List (Entry ℕ)) (st after : LabelledStore) (ts lent_ts more pushed new : List Ticket) (seat t k : ℕ) (a : Atom ℕ) (place : List ℕ) (come : Then) (i : Instance) (binding : List (Option (Value ℕ))) (last : Last) → IsReady (book_of rules plans names log st ts) t a
+    → IsLent ts lent_ts t a → Passes (older rules plans (st.entries ++ (st.next, a) ∷ []) st.next) k beginning place → IsThen (older rules plans (st.entries ++ (st.next, a) ∷ []) st.next) place come i binding → MakesFound rules come i.whole binding more → pushed ≡ lent_ts ++ more → EndsStart seat t place a come i.whole last pushed log st new entries after
     → StartsRounds seat t (record { passed = k; last = last }) (book_of rules plans names log st ts) (book_of rules plans names entries after new)
-starts rules plans names log entries st after ts new seat t k a place come i last h p next (fires is own fired f) = record {
+starts rules plans names log entries st after ts lent_ts more pushed new seat t k a place come i binding last h out p next made e (fires is own fired f) = record {
   label = st.next;
   claimed = entered_book rules plans names log st ts seat t a;
   claims = claimed (book_of rules plans names log st ts) seat t a h;
-  makes = makes_same fired refl (fires_rounds rules plans names log entries st after ts new seat t k a place i h p (subst (λ c. IsThen (older rules plans (st.entries ++ (st.next, a) ∷ []) st.next) place c i) is next) own f);
+  makes = makes_same fired refl (fires_rounds rules plans names log entries st after ts lent_ts more pushed new seat t k a place i binding h out p (subst (λ c. IsThen (older rules plans (st.entries ++ (st.next, a) ∷ []) st.next) place c i binding) is next) (subst (λ c. MakesFound rules c i.whole binding more) is made) e own f);
 }
-starts rules plans names log entries st after ts new seat t k a place come i last h p next (enters now es store g ends) = record {
+starts rules plans names log entries st after ts lent_ts more pushed new seat t k a place come i binding last h out p next made e (enters now es store g ends) = record {
   label = st.next;
   claimed = entered_book rules plans names log st ts seat t a;
   claims = claimed (book_of rules plans names log st ts) seat t a h;
-  makes = enters_rounds rules plans names log es entries st store after ts now new seat t k a place come i last h p next g ends;
+  makes = enters_rounds rules plans names log es entries st store after ts lent_ts more pushed now new seat t k a place come i binding last h out p next made e g ends;
 }
 
--- memory was refused
-pub starts_fewer : (rules : List (Simpagation ℕ)) (plans : PlanList) (names : List (List ℕ)) (log entries : List (Entry ℕ)) (st after : LabelledStore) (ts new : List Ticket) (seat t k most : ℕ) (a : Atom ℕ) (place : List ℕ) → IsReady (book_of rules plans names log st ts) t a → Passes (older rules plans (st.entries ++ (st.next, a) ∷ []) st.next) k beginning place → k < most
-    → EntersOrStays seat t place ts log st new entries after → StartsFewer seat t most (book_of rules plans names log st ts) (book_of rules plans names entries after new)
-starts_fewer rules plans names log entries st after ts new seat t k most a place h p less (inl same) = inl (book_same rules plans names same.1 same.2 same.0)
-starts_fewer rules plans names log entries st after ts new seat t k most a place h p less (inr g) = inr (record {
+-- a ticket that is activated doesn't wait
+held_not_waiting : (ts : List Ticket) (t seat l : ℕ) (place : List ℕ) → state_of ts t ≡ Waiting → state_of (slice_set ts t (going_on place (activated_by seat l))) t ≡ Waiting → ⊥
+held_not_waiting ts t seat l place waits is =
+    let z : Held seat ≡ Waiting = sym (state_there ts t (going_on place (activated_by seat l)) (λ e. absurd (let y : Waiting ≡ Unknown = sym waits ∙ e in cc)) (waits_within ts t waits)) ∙ is in
+    cc
+
+-- memory was refused: the tickets of the body are taken back, and the atom is put back where its ticket waits
+pub starts_fewer : (rules : List (Simpagation ℕ)) (plans : PlanList) (names : List (List ℕ)) (log entries : List (Entry ℕ)) (st after : LabelledStore) (ts lent_ts more pushed left cut new : List Ticket) (seat t k most first : ℕ) (a : Atom ℕ) (place : List ℕ) → IsReady (book_of rules plans names log st ts) t a → IsLent ts lent_ts t a → Passes (older rules plans (st.entries ++ (st.next, a) ∷ []) st.next) k beginning place → k < most
+    → pushed ≡ lent_ts ++ more → EntersOrStays seat t place a pushed log st left entries after → cut ≡ take first left → first ≡ length lent_ts → (state_of cut t ≡ Waiting → new ≡ slice_set cut t (with_atom a (ticket_at cut t))) → (state_of cut t ≢ Waiting → new ≡ cut)
+    → StartsFewer seat t most (book_of rules plans names log st ts) (book_of rules plans names entries after new)
+starts_fewer rules plans names log entries st after ts lent_ts more pushed left cut new seat t k most first a place h out p less e (inl same) back f put kept =
+    let here : cut ≡ lent_ts = rest_back lent_ts left cut first (more, same.0 ∙ e) back f in
+    inl (book_same rules plans names same.1 same.2 (put (ap (λ (xs : List Ticket). state_of xs t) here ∙ waits_lent out) ∙ ap (λ (xs : List Ticket). slice_set xs t (with_atom a (ticket_at xs t))) here ∙ put_back out))
+starts_fewer rules plans names log entries st after ts lent_ts more pushed left cut new seat t k most first a place h out p less e (inr g) back f put kept = inr (record {
   label = st.next;
   claimed = claim;
   claims = claimed b seat t a h;
   makes = record {
     passed = k;
     fewer = less;
-    passes = subst (PassesTrials seat t k claim) (sym (book_same rules plans names g.logged entered refl)) (claimed_past b seat t k a place new h p g.tickets).passes;
+    passes = subst (PassesTrials seat t k claim) (sym (book_same rules plans names g.logged g.store (kept (λ is. held_not_waiting ts t seat st.next place out.waits (ap (λ (xs : List Ticket). state_of xs t) (sym now) ∙ is)) ∙ now))) (claimed_past b seat t k a place gone h p refl).passes;
   };
 })
   where
@@ -293,8 +343,39 @@ starts_fewer rules plans names log entries st after ts new seat t k most a place
     claim : BookState
     claim = entered_book rules plans names log st ts seat t a
 
-    entered : after ≡ record { entries = st.entries ++ (st.next, a) ∷ []; next = st.next + 1; limit = st.limit }
-    entered = g.store ∙ ap (λ (x : Atom ℕ). record { entries = st.entries ++ (st.next, x) ∷ []; next = st.next + 1; limit = st.limit }) (some_is g.atom a (g.waits ∙ sym h.atom))
+    gone : List Ticket
+    gone = slice_set ts t (going_on place (activated_by seat st.next))
+
+    as_long : first ≡ length gone
+    as_long = f ∙ ap length out.lent_is ∙ length-set ts t (lent (ticket_at ts t)) ∙ sym (length-set ts t (going_on place (activated_by seat st.next)))
+
+    now : cut ≡ gone
+    now = rest_back gone left cut first (more, g.tickets ∙ lent_set_before more pushed (going_on place (activated_by seat st.next)) out e) back as_long
+
+-- ---- the same by what the functions show
+
+pub started : (rules : List (Simpagation ℕ)) (plans : PlanList) (names : List (List ℕ)) (log entries : List (Entry ℕ)) (st after : LabelledStore) (ts lent_ts pushed new : List Ticket) (seat t : ℕ) (a : Atom ℕ) (search : SearchState) (place : List ℕ) (come : Passed) (i : Instance) (w : Whole) (last : Last) → IsReady (book_of rules plans names log st ts) t a → IsLent ts lent_ts t a
+    → search ≡ record { label = st.next; place = beginning } → PassesBefore (older rules plans (st.entries ++ (st.next, a) ∷ []) search.label) come i search.place place lent_ts pushed → w ≡ i.whole → EndsStart seat t place a come.then w last pushed log st new entries after
+    → StartsRounds seat t (record { passed = come.count; last = last }) (book_of rules plans names log st ts) (book_of rules plans names entries after new)
+started rules plans names log entries st after ts lent_ts pushed new seat t a search place come i w last h out begun found same ends =
+    let p = subst (λ (z : SearchState). PassesBefore (older rules plans (st.entries ++ (st.next, a) ∷ []) z.label) come i z.place place lent_ts pushed) begun found in
+    starts rules plans names log entries st after ts lent_ts p.more pushed new seat t come.count a place come.then i p.binding last h out p.passes p.next p.made p.tickets
+    (subst (λ (v : Whole). EndsStart seat t place a come.then v last pushed log st new entries after) same ends)
+
+pub started_fewer : (rules : List (Simpagation ℕ)) (plans : PlanList) (names : List (List ℕ)) (log entries : List (Entry ℕ)) (st after : LabelledStore) (ts lent_ts pushed left new : List Ticket) (seat t most first : ℕ) (a : Atom ℕ) (search : SearchState) (place : List ℕ) (come : Passed) (i : Instance) → IsReady (book_of rules plans names log st ts) t a → IsLent ts lent_ts t a
+    → search ≡ record { label = st.next; place = beginning } → PassesBefore (older rules plans (st.entries ++ (st.next, a) ∷ []) search.label) come i search.place place lent_ts pushed → come.count < most → EntersOrStays seat t place a pushed log st left entries after → first ≡ length lent_ts
+    → (state_of (take first left) t ≡ Waiting → new ≡ slice_set (take first left) t (with_atom a (ticket_at (take first left) t))) → (state_of (take first left) t ≢ Waiting → new ≡ take first left)
+    → StartsFewer seat t most (book_of rules plans names log st ts) (book_of rules plans names entries after new)
+started_fewer rules plans names log entries st after ts lent_ts pushed left new seat t most first a search place come i h out begun found less ends f put kept =
+    let p = subst (λ (z : SearchState). PassesBefore (older rules plans (st.entries ++ (st.next, a) ∷ []) z.label) come i z.place place lent_ts pushed) begun found in
+    starts_fewer rules plans names log entries st after ts lent_ts p.more pushed left (take first left) new seat t come.count most first a place h out p.passes less p.tickets ends refl f put kept
+
+-- the body was refused
+pub stays_as_is : (rules : List (Simpagation ℕ)) (plans : PlanList) (names : List (List ℕ)) (log : List (Entry ℕ)) (st : LabelledStore) (ts lent_ts left new : List Ticket) (seat t most first : ℕ) (a : Atom ℕ) → IsLent ts lent_ts t a → left ≡ lent_ts → first ≡ length lent_ts → (state_of (take first left) t ≡ Waiting → new ≡ slice_set (take first left) t (with_atom a (ticket_at (take first left) t)))
+    → StartsFewer seat t most (book_of rules plans names log st ts) (book_of rules plans names log st new)
+stays_as_is rules plans names log st ts lent_ts left new seat t most first a out e f put =
+    let here : take first left ≡ lent_ts = rest_back lent_ts left (take first left) first ([], e ∙ sym (append-nil lent_ts)) refl f in
+    inl (book_same rules plans names refl refl (put (ap (λ (xs : List Ticket). state_of xs t) here ∙ waits_lent out) ∙ ap (λ (xs : List Ticket). slice_set xs t (with_atom a (ticket_at xs t))) here ∙ put_back out))
 
 -- ---- what a book keeps
 
@@ -315,36 +396,36 @@ started_fewer_of {X} {E} {seat} {t} {most} {b} {now} {n} r e h = on_err (StartsF
 
 -- ---- the limit of the labels
 
-pub ends_limit : (seat t : ℕ) (rules : List (Simpagation ℕ)) (come : Then) (i : Instance) (last : Last) (ts : List Ticket) (log : List (Entry ℕ)) (st : LabelledStore) (new : List Ticket) (entries : List (Entry ℕ)) (after : LabelledStore) → EndsRounds seat t rules come i last ts log st new entries after → after.limit ≡ st.limit
-ends_limit seat t rules thens.More i last ts log st new entries after h = ap (λ (z : LabelledStore). z.limit) h.3
-ends_limit seat t rules thens.Done i last ts log st new entries after h = ap (λ (z : LabelledStore). z.limit) h.3
-ends_limit seat t rules thens.Whole i last ts log st new entries after h = ap (λ (z : LabelledStore). z.limit) h.1.store
+pub ends_limit : (seat t : ℕ) (come : Then) (w : Whole) (last : Last) (ts : List Ticket) (log : List (Entry ℕ)) (st : LabelledStore) (new : List Ticket) (entries : List (Entry ℕ)) (after : LabelledStore) → EndsRounds seat t come w last ts log st new entries after → after.limit ≡ st.limit
+ends_limit seat t thens.More w last ts log st new entries after h = ap (λ (z : LabelledStore). z.limit) h.3
+ends_limit seat t thens.Done w last ts log st new entries after h = ap (λ (z : LabelledStore). z.limit) h.3
+ends_limit seat t thens.Whole w last ts log st new entries after h = ap (λ (z : LabelledStore). z.limit) h.1.store
 
-pub starts_limit : (seat t : ℕ) (rules : List (Simpagation ℕ)) (place : List ℕ) (come : Then) (i : Instance) (last : Last) (ts : List Ticket) (log : List (Entry ℕ)) (st : LabelledStore) (new : List Ticket) (entries : List (Entry ℕ)) (after : LabelledStore) → EndsStart seat t rules place come i last ts log st new entries after → after.limit ≡ st.limit
-starts_limit seat t rules place come i last ts log st new entries after (fires is own fired f) = ap (λ (z : LabelledStore). z.limit) f.store
-starts_limit seat t rules place come i last ts log st new entries after (enters now es store g ends) = ends_limit seat t rules come i last now es store new entries after ends ∙ ap (λ (z : LabelledStore). z.limit) g.store
+pub starts_limit : (seat t : ℕ) (place : List ℕ) (a : Atom ℕ) (come : Then) (w : Whole) (last : Last) (ts : List Ticket) (log : List (Entry ℕ)) (st : LabelledStore) (new : List Ticket) (entries : List (Entry ℕ)) (after : LabelledStore) → EndsStart seat t place a come w last ts log st new entries after → after.limit ≡ st.limit
+starts_limit seat t place a come w last ts log st new entries after (fires is own fired f) = ap (λ (z : LabelledStore). z.limit) f.store
+starts_limit seat t place a come w last ts log st new entries after (enters now es store g ends) = ends_limit seat t come w last now es store new entries after ends ∙ ap (λ (z : LabelledStore). z.limit) g.store
 
 -- where the last of the rounds passed over a trial, there are perhaps more
-pub ends_more : (seat t : ℕ) (rules : List (Simpagation ℕ)) (come : Then) (i : Instance) (last : Last) (ts : List Ticket) (log : List (Entry ℕ)) (st : LabelledStore) (new : List Ticket) (entries : List (Entry ℕ)) (after : LabelledStore) → EndsRounds seat t rules come i last ts log st new entries after → last ≡ lasts.Passed → come ≡ thens.More
-ends_more seat t rules thens.More i last ts log st new entries after h e = refl
-ends_more seat t rules thens.Done i last ts log st new entries after h e = let d : last ≡ lasts.Dropped = h.0 in absurd (cc)
-ends_more seat t rules thens.Whole i last ts log st new entries after h e = let f : last ≡ lasts.Fired = h.0 in absurd (cc)
+pub ends_more : (seat t : ℕ) (come : Then) (w : Whole) (last : Last) (ts : List Ticket) (log : List (Entry ℕ)) (st : LabelledStore) (new : List Ticket) (entries : List (Entry ℕ)) (after : LabelledStore) → EndsRounds seat t come w last ts log st new entries after → last ≡ lasts.Passed → come ≡ thens.More
+ends_more seat t thens.More w last ts log st new entries after h e = refl
+ends_more seat t thens.Done w last ts log st new entries after h e = let d : last ≡ lasts.Dropped = h.0 in absurd (cc)
+ends_more seat t thens.Whole w last ts log st new entries after h e = let f : last ≡ lasts.Fired = h.0 in absurd (cc)
 
-pub starts_more : (seat t : ℕ) (rules : List (Simpagation ℕ)) (place : List ℕ) (come : Then) (i : Instance) (last : Last) (ts : List Ticket) (log : List (Entry ℕ)) (st : LabelledStore) (new : List Ticket) (entries : List (Entry ℕ)) (after : LabelledStore) → EndsStart seat t rules place come i last ts log st new entries after → last ≡ lasts.Passed → come ≡ thens.More
-starts_more seat t rules place come i last ts log st new entries after (fires is own fired f) e = absurd (cc)
-starts_more seat t rules place come i last ts log st new entries after (enters now es store g ends) e = ends_more seat t rules come i last now es store new entries after ends e
+pub starts_more : (seat t : ℕ) (place : List ℕ) (a : Atom ℕ) (come : Then) (w : Whole) (last : Last) (ts : List Ticket) (log : List (Entry ℕ)) (st : LabelledStore) (new : List Ticket) (entries : List (Entry ℕ)) (after : LabelledStore) → EndsStart seat t place a come w last ts log st new entries after → last ≡ lasts.Passed → come ≡ thens.More
+starts_more seat t place a come w last ts log st new entries after (fires is own fired f) e = absurd (cc)
+starts_more seat t place a come w last ts log st new entries after (enters now es store g ends) e = ends_more seat t come w last now es store new entries after ends e
 
-pub stays_limit : (seat t : ℕ) (place : List ℕ) (ts : List Ticket) (log : List (Entry ℕ)) (st : LabelledStore) (new : List Ticket) (entries : List (Entry ℕ)) (after : LabelledStore) → EntersOrStays seat t place ts log st new entries after → after.limit ≡ st.limit
-stays_limit seat t place ts log st new entries after (inl same) = ap (λ (z : LabelledStore). z.limit) same.2
-stays_limit seat t place ts log st new entries after (inr g) = ap (λ (z : LabelledStore). z.limit) g.store
+pub stays_limit : (seat t : ℕ) (place : List ℕ) (a : Atom ℕ) (ts : List Ticket) (log : List (Entry ℕ)) (st : LabelledStore) (new : List Ticket) (entries : List (Entry ℕ)) (after : LabelledStore) → EntersOrStays seat t place a ts log st new entries after → after.limit ≡ st.limit
+stays_limit seat t place a ts log st new entries after (inl same) = ap (λ (z : LabelledStore). z.limit) same.2
+stays_limit seat t place a ts log st new entries after (inr g) = ap (λ (z : LabelledStore). z.limit) g.store
 
 -- ---- a claim
 
-pub activates : (rules : List (Simpagation ℕ)) (plans : PlanList) (names : List (List ℕ)) (log entries : List (Entry ℕ)) (st after : LabelledStore) (ts new : List Ticket) (seat t l : ℕ) → state_of ts t ≡ Waiting → st.next ≤ st.limit → l ≡ st.next → EntersGoal seat t beginning ts log st new entries after → Activates (book_of rules plans names log st ts) seat t l (book_of rules plans names entries after new)
-activates rules plans names log entries st after ts new seat t l waits room label h = record {
-  can = record { waits = waits; room = room };
-  atom = h.atom;
-  goal = plain_is (ticket_at ts t).goal h.atom h.waits;
+pub activates : (rules : List (Simpagation ℕ)) (plans : PlanList) (names : List (List ℕ)) (log entries : List (Entry ℕ)) (st after : LabelledStore) (ts now new : List Ticket) (seat t l : ℕ) (a : Atom ℕ) → IsLent ts now t a → st.next ≤ st.limit → l ≡ st.next → EntersGoal seat t beginning a now log st new entries after → Activates (book_of rules plans names log st ts) seat t l (book_of rules plans names entries after new)
+activates rules plans names log entries st after ts now new seat t l a out room label h = record {
+  can = record { waits = out.waits; room = room };
+  atom = a;
+  goal = plain_is (ticket_at ts t).goal a out.atom;
   label = label;
-  after = book_same rules plans names h.logged h.store h.tickets;
+  after = book_same rules plans names h.logged h.store (h.tickets ∙ lent_set (activated_by seat st.next) out);
 }

@@ -1,12 +1,20 @@
 -- Trials that are passed over.
-use Rattle.std.specs.Prelude.{◌≡◌, ℕ, zero, suc, ◌+◌, ◌<◌, ◌⊎◌, Ok}
+use Rattle.std.specs.Prelude.{◌≡◌, ℕ, zero, suc, ◌+◌, ◌<◌, ◌≤◌, ◌⊎◌, List, ◌++◌, Option, Ok, slice_set}
+use Rattle.chr_value.specs.Atoms.{Value}
+use Rattle.chr_search.specs.Trials.{Space}
+use Rattle.chr_search.specs.Passing.{Passes, IsThen}
 use Rattle.chr_search.specs.Judged.{Judgement, IsVerdict}
+use Rattle.chr_search.specs.declared.search.Instance.{Instance}
+use Rattle.chr_search.specs.declared.search.Passed.{Passed}
 use Rattle.chr_calls.specs.declared.answers.Fired.{Fired}
 use Rattle.chr_calls.specs.declared.answers.Firing.TheVariants as firing
 use Rattle.chr_calls.specs.declared.answers.Dropping.TheVariants as dropping
 use Rattle.chr_calls.specs.Turns.{Next, Done}
+use Rattle.chr_calls.specs.Tickets.{Ticket, ticket_at}
 use Rattle.chr_calls.specs.Books.{BookState}
 use Rattle.chr_calls.specs.Calls.{HoldsLive, Claims, Turns, Reports, FiresOrMisses, Drops}
+use Rattle.chr_tickets.specs.Passed.{PassesOver}
+use Rattle.chr_book.specs.Firings.{MakesFound}
 use Rattle.chr_book.specs.declared.rounds.Last.{Last}
 use Rattle.chr_book.specs.declared.rounds.Last.TheVariants as lasts
 use Rattle.chr_book.specs.declared.rounds.Rounds.{Rounds}
@@ -87,3 +95,31 @@ pub record StartsSome (seat t most : ℕ) (b n : BookState) : Type 0 where
 -- nothing is made, or these
 abbrev pub StartsFewer : ℕ → ℕ → ℕ → BookState → BookState → Type 0
 StartsFewer seat t most b n = (n ≡ b) ⊎ StartsSome seat t most b n
+
+-- a ticket's search passes over trials, and the tickets of the body of what is found then come after the others
+pub record PassesMaking (s : Space) (t : ℕ) (passed : Passed) (i : Instance) (old new : List Ticket) : Type 0 where
+  pub binding : List (Option (Value ℕ))
+  pub x : Ticket
+  pub over : PassesOver s passed i binding (ticket_at old t) x
+  pub more : List Ticket
+  pub made : MakesFound s.rules passed.then i.whole binding more
+  pub tickets : new ≡ slice_set old t x ++ more
+
+-- its search alone passes over some, at most so many
+pub record PassesSome (s : Space) (t most : ℕ) (old new : List Ticket) : Type 0 where
+  pub passed : Passed
+  pub few : passed.count ≤ most
+  pub instance : Instance
+  pub binding : List (Option (Value ℕ))
+  pub x : Ticket
+  pub over : PassesOver s passed instance binding (ticket_at old t) x
+  pub tickets : new ≡ slice_set old t x
+
+-- a search passes over trials from a place to another, and the tickets of the body of what is found then come after the others
+pub record PassesBefore (s : Space) (passed : Passed) (i : Instance) (place after : List ℕ) (old new : List Ticket) : Type 0 where
+  pub passes : Passes s passed.count place after
+  pub binding : List (Option (Value ℕ))
+  pub next : IsThen s after passed.then i binding
+  pub more : List Ticket
+  pub made : MakesFound s.rules passed.then i.whole binding more
+  pub tickets : new ≡ old ++ more

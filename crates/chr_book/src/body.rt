@@ -1,14 +1,15 @@
 //! The atoms of a body, which wait.
-ghost use Rattle.std.specs.Prelude.{◌≡◌, ◌++◌, ◌∷◌, [], ℕ, List, map, OnOk, OnErr};
-ghost use Rattle.chr_value.specs.Atoms.{Atom as PlainAtom};
+ghost use Rattle.std.specs.Prelude.{◌≡◌, ◌++◌, ◌∷◌, [], ℕ, List, Some, OnOk, OnErr};
 ghost use Rattle.chr_rule.specs.Parts.{member};
-ghost use Rattle.chr_guard.specs.Bindings.{bound_at};
-ghost use Rattle.chr_guard.specs.Instances.{AreUnder, added};
-ghost use Rattle.chr_calls.specs.Tickets.{Ticket, waiting};
+ghost use Rattle.chr_rule.specs.Rules.{Simpagation, rule_at};
+ghost use Rattle.chr_search.specs.declared.search.Then.TheVariants as thens;
+ghost use Rattle.chr_calls.specs.Tickets.{Ticket};
+ghost use Rattle.chr_book.specs.Firings.{MakesBody, MakesFound};
 
 use chr_guard::Binding;
 use chr_guard::body::make_atom;
-use chr_rule::{BodyItem, Rule};
+use chr_rule::{BodyItem, Program, Rule};
+use chr_search::{Then, Whole};
 use chr_tickets::Tickets;
 use std::alloc::{AllocError, Allocator};
 
@@ -16,19 +17,19 @@ use std::alloc::{AllocError, Allocator};
 fn push_member<A: Allocator + Copy>(
     tickets: &mut Tickets<A>,
     item: &BodyItem<A>,
-    binding: &Binding,
+    binding: &Binding<'_, A>,
 ) -> Result<(), AllocError>
-    ensures ok { OnOk result ((made : List (PlainAtom ℕ)) → AreUnder (bound_at binding.now) (added (member item.now ∷ [])) made → tickets.new ≡ tickets.old ++ map waiting made) }
+    ensures ok { OnOk result ((more : List Ticket) × MakesBody (member item.now ∷ []) binding.now more × (tickets.new ≡ tickets.old ++ more)) }
     ensures err { OnErr result (tickets.new ≡ tickets.old) }
-    ensures rest { (more : List Ticket) × (tickets.new ≡ tickets.old ++ more) }
 {
     let BodyItem::Add(pattern) = item else {
         return Ok(());
     };
-    let Some(atom) = make_atom(tickets.allocator(), pattern, binding) else {
-        return Ok(());
-    };
-    tickets.push(atom)
+    match make_atom(tickets.allocator(), pattern, binding) {
+        Ok(Some(atom)) => tickets.push(atom),
+        Ok(None) => Ok(()),
+        Err(_) => Err(AllocError),
+    }
 }
 
 /// Gives the atoms that a rule's body adds under a binding of all its variables the next tickets, in written order. An
@@ -36,11 +37,10 @@ fn push_member<A: Allocator + Copy>(
 pub fn push_body<A: Allocator + Copy>(
     tickets: &mut Tickets<A>,
     rule: &Rule<A>,
-    binding: &Binding,
+    binding: &Binding<'_, A>,
 ) -> Result<(), AllocError>
-    ensures ok { OnOk result ((body : List (PlainAtom ℕ)) → AreUnder (bound_at binding.now) (added rule.now.body) body → tickets.new ≡ tickets.old ++ map waiting body) }
+    ensures ok { OnOk result ((more : List Ticket) × MakesBody rule.now.body binding.now more × (tickets.new ≡ tickets.old ++ more)) }
     ensures err { OnErr result (tickets.new ≡ tickets.old) }
-    ensures rest { (more : List Ticket) × (tickets.new ≡ tickets.old ++ more) }
 {
     let first = tickets.next();
     for item in rule.body() {
@@ -50,4 +50,26 @@ pub fn push_body<A: Allocator + Copy>(
         }
     }
     Ok(())
+}
+
+/// Gives the body's atoms of a trial that a search has found, where it has, the next tickets, in written order. An `Err` is
+/// E01, and nothing has changed.
+pub fn push_found<A: Allocator + Copy>(
+    tickets: &mut Tickets<A>,
+    program: &Program<A>,
+    then: Then,
+    whole: &Whole,
+    binding: &Binding<'_, A>,
+) -> Result<(), AllocError>
+    requires { then ≡ thens.Whole → (rule : Simpagation ℕ) × (rule_at program.now whole.now.number ≡ Some rule) }
+    ensures ok { OnOk result ((more : List Ticket) × MakesFound program.now then whole.now binding.now more × (tickets.new ≡ tickets.old ++ more)) }
+    ensures err { OnErr result (tickets.new ≡ tickets.old) }
+{
+    if then != Then::Whole {
+        return Ok(());
+    }
+    let Some(rule) = program.rule(usize::from(whole.number)) else {
+        unreachable!();
+    };
+    push_body(tickets, rule, binding)
 }

@@ -3,7 +3,7 @@ use Rattle.std.proofs.Common.{◌≡◌, ℕ, ◌+◌, ◌<◌, List, [], ◌∷
 use Rattle.std.proofs.lemmas.List.{map_more}
 use Rattle.chr_rule.specs.Rules.{BodyItem}
 use Rattle.chr_guard.specs.Instances.{added}
-use Rattle.chr_guard.proofs.Whole.{added_append}
+use Rattle.chr_guard.proofs.Under.{added_append}
 
 pub count_more : {A : Type 0} (f : A → BodyItem ℕ) (xs : List A) (i : ℕ) (x : A) → i < length xs → x ≡ get_or xs i x → length (added (map f (take (i + 1) xs))) ≡ length (added (map f (take i xs))) + length (added (f x ∷ []))
 count_more f xs i x h is =

@@ -6,7 +6,7 @@ use Rattle.std.proofs.lemmas.List.Sums.{sum_by-cons}
 use Rattle.chr_value.specs.Atoms.{Atom}
 use Rattle.chr_rule.specs.Rules.{Simpagation, rule_at}
 use Rattle.chr_guard.specs.Instances.{added}
-use Rattle.chr_guard.proofs.Under.{under_length}
+use Rattle.chr_guard.proofs.Under.{made_length}
 use Rattle.chr_log.specs.Events.{Event, Post, Activate, Fire, Drop}
 use Rattle.chr_log.specs.declared.events.Version.{Version}
 use Rattle.chr_model.specs.Abstract.{Rules}
@@ -35,7 +35,7 @@ around v I (x ∷ xs) s (suc i) e n run h =
 
 -- a run makes as many tickets as its events do
 body_count : (rules : List (Simpagation ℕ)) (r : ℕ) (kept removed body : List (Atom ℕ)) → Instances rules r kept removed body → length body ≡ added_count (rule_at rules r)
-body_count rules r kept removed body i = under_length i.2.valuation (added i.0.body) body i.2.body_is ∙ sym (ap added_count i.1)
+body_count rules r kept removed body i = made_length i.2.valuation (added i.0.body) body i.2.body_is ∙ sym (ap added_count i.1)
 
 goals_more : (gs : List Goal) (body : List (Atom ℕ)) (k : ℕ) → length body ≡ k → length (gs ++ map Plain body) ≡ length gs + k
 goals_more gs body k h = length-append gs (map Plain body) ∙ ap (λ n. length gs + n) (length-map body Plain ∙ h)

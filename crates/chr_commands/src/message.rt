@@ -122,10 +122,10 @@ fn read_meaning(text: Text, kind: Kind) -> &'static str {
             "A number must be at least -9223372036854775808 and at most 9223372036854775807."
         }
         (Kind::TooMany, Text::Program) => {
-            "A limit is exceeded: 256 rules in a program; 6 heads, 16 comparisons, 16 body members and 24 variables in a rule, where each `_` counts; 8 arguments; 64 bytes in a name or variable."
+            "A limit is exceeded: 256 rules in a program; 6 heads, 16 comparisons, 16 body members and 24 variables in a rule, where each `_` counts; 8 arguments; a depth of 8 and a size of 64 in a term; 64 bytes in a name or variable."
         }
         (Kind::TooMany, _) => {
-            "A limit is exceeded: 8 arguments; 64 bytes in a name or variable."
+            "A limit is exceeded: 8 arguments; a depth of 8 and a size of 64 in a term; 64 bytes in a name or variable."
         }
         (Kind::Binding, Text::Program) => {
             "A variable is used where no head and no earlier `is` gives it a value, or an `is` gives a value to a variable that already has one."

@@ -72,7 +72,7 @@ labels_front k ps all = ap labels (picked_take k ps all) ∙ sym (take-map (λ (
 pub labels_back : (k : ℕ) (ps : Picks) → AllPicked ps → labels (picked (drop k ps)) ≡ drop k (labels (picked ps))
 labels_back k ps all = ap labels (picked_drop k ps all) ∙ sym (drop-map (λ (x : ℕ × Atom ℕ). x.0) k (picked ps))
 
-pub is_match : (rule : Simpagation ℕ) (store : Store) (ps : Picks) (binding : List (Option (Value ℕ))) (m : Match) → IsPartial rule store ps binding → AllPicked ps → IsInstanceUnder rule (atoms (picked ps)) m.binding → m.kept.items ≡ labels (picked (take (length rule.kept) ps)) → m.removed.items ≡ labels (picked (drop (length rule.kept) ps)) → IsMatch rule store (Fills ps) m
+pub is_match : {A : Type 0} (rule : Simpagation ℕ) (store : Store) (ps : Picks) (binding : List (Option (Value ℕ))) (m : Match A) → IsPartial rule store ps binding → AllPicked ps → IsInstanceUnder rule (atoms (picked ps)) m.binding → m.kept.items ≡ labels (picked (take (length rule.kept) ps)) → m.removed.items ≡ labels (picked (drop (length rule.kept) ps)) → IsMatch rule store (Fills ps) m
 is_match rule store ps binding m p all i kept removed = record {
   entries = picked ps;
   such = fills_itself ps all;
@@ -118,7 +118,7 @@ no_fit_more rule store ps i e binding p o n is none entries body w f =
     let both = (all_fit_more rule ps i e v o.within o.none).0 (all_fit rule (slice_set ps i (Some e)) entries v (whole_fits rule store entries body w) f) in
     none v ((p.fit.exactly v).1 both.0) (subst (λ k. HeadIs rule k e.1 v) (sym is) both.1)
 
-pub match_less : (rule : Simpagation ℕ) (store : Store) (ps : Picks) (i : ℕ) (e : ℕ × Atom ℕ) (m : Match) → IsOpen ps i → IsMatch rule store (Fills (slice_set ps i (Some e))) m → IsMatch rule store (Fills ps) m
+pub match_less : {A : Type 0} (rule : Simpagation ℕ) (store : Store) (ps : Picks) (i : ℕ) (e : ℕ × Atom ℕ) (m : Match A) → IsOpen ps i → IsMatch rule store (Fills (slice_set ps i (Some e))) m → IsMatch rule store (Fills ps) m
 match_less rule store ps i e m o f = record { entries = f.entries; such = fills_less ps i e f.entries o.none f.such; under = f.under; whole = f.whole; kept = f.kept; removed = f.removed }
 
 -- no entry of the store is left to try
@@ -193,7 +193,7 @@ picks_one n i x few =
     sym (take-map (option_map (λ (y : ℕ × Bor (Atom ℕ)). (y.0, y.1.now))) n (slice_set none i (Some x))) ∙ ap (take n) (picks_set none nothing i x refl)
     ∙ take_written n nothing i (Some (x.0, x.1.now)) ∙ ap (λ qs. slice_set qs i (Some (x.0, x.1.now))) rest
 
-pub match_has : (rule : Simpagation ℕ) (store : Store) (ps : Picks) (i : ℕ) (e : ℕ × Atom ℕ) (m : Match) → i < length ps → IsMatch rule store (Fills (slice_set ps i (Some e))) m → IsMatch rule store (Has e.0) m
+pub match_has : {A : Type 0} (rule : Simpagation ℕ) (store : Store) (ps : Picks) (i : ℕ) (e : ℕ × Atom ℕ) (m : Match A) → i < length ps → IsMatch rule store (Fills (slice_set ps i (Some e))) m → IsMatch rule store (Has e.0) m
 match_has rule store ps i e m within f = record {
   entries = f.entries;
   such = among_at f.entries i e (fills_at ps i e f.entries within f.such);

@@ -8,7 +8,7 @@ use Rattle.chr_value.specs.Atoms.{Atom}
 use Rattle.chr_value.proofs.Chosen.{some_is}
 use Rattle.chr_rule.specs.Rules.{Simpagation, rule_at}
 use Rattle.chr_guard.specs.Bindings.{bound_at}
-use Rattle.chr_guard.specs.Instances.{AreUnder, IsRight, added, Instance, IsInstance}
+use Rattle.chr_guard.specs.Instances.{AreMadeUnder, IsRight, added, Instance, IsInstance}
 use Rattle.chr_guard.specs.Matching.{HeadsAre, IsFit}
 use Rattle.chr_guard.proofs.Under.{under_length}
 use Rattle.chr_model.specs.Stores.{Store, labels, atoms, among, atom_at, Distinct, Carry, Labelled, NoneWith}
@@ -91,7 +91,7 @@ none_there rules store label away r kept removed body i =
       | false ↦ λ _. refl
     ] refl
 
-pub is_found : (rules : List (Simpagation ℕ)) (store : Store) (label : ℕ) (rule : Simpagation ℕ) (m : Match) (f : Found) → rule_at rules f.rule ≡ Some rule → f.kept.items ≡ m.kept.items → f.removed.items ≡ m.removed.items → f.binding ≡ m.binding → IsMatch rule store (Has label) m → IsFound rules store label f
+pub is_found : {A : Type 0} (rules : List (Simpagation ℕ)) (store : Store) (label : ℕ) (rule : Simpagation ℕ) (m : Match A) (f : Found A) → rule_at rules f.rule ≡ Some rule → f.kept.items ≡ m.kept.items → f.removed.items ≡ m.removed.items → f.binding ≡ m.binding → IsMatch rule store (Has label) m → IsFound rules store label f
 is_found rules store label rule m f at kept removed binding i =
     let k : f.kept.items ≡ take (length rule.kept) (labels i.entries) = kept ∙ i.kept in
     let r : f.removed.items ≡ drop (length rule.kept) (labels i.entries) = removed ∙ i.removed in
@@ -102,7 +102,7 @@ is_found rules store label rule m f at kept removed binding i =
       of_program = at;
       atoms = atoms i.entries;
       there = subst (λ ls. Carry store ls (atoms i.entries)) (sym all) i.whole.there;
-      under = record { fit = subst (IsFit rule (λ v. HeadsAre rule (atoms i.entries) v × AllByRecursion (IsRight v) rule.body)) (sym binding) u.fit; body = u.body; instance = u.instance; body_is = subst (λ b. AreUnder (bound_at b) (added rule.body) u.body) (sym binding) u.body_is };
+      under = record { fit = subst (IsFit rule (λ v. HeadsAre rule (atoms i.entries) v × AllByRecursion (IsRight v) rule.body)) (sym binding) u.fit; body = u.body; instance = u.instance; body_is = subst (λ b. AreMadeUnder (bound_at b) (added rule.body) u.body) (sym binding) u.body_is };
       labelled = subst (λ ls. Labelled (Instances rules) store f.rule ls f.removed.items u.body) (sym k)
           (subst (λ ls. Labelled (Instances rules) store f.rule (take (length rule.kept) (labels i.entries)) ls u.body) (sym r) (labelled rules store f.rule rule i.entries u.body at i.whole));
       has = ap (λ ls. among ls label) all ∙ i.such;

@@ -66,7 +66,7 @@ pub record IsPartial (rule : Simpagation ℕ) (store : Store) (ps : Picks) (bind
   pub there : Carry store (labels (picked ps)) (atoms (picked ps))
 
 -- entries such as these are an instance of the rule over the store, with the one binding of the rule's variables
-pub record IsMatch (rule : Simpagation ℕ) (store : Store) (Such : Store → Type 0) (m : Match) : Type 0 where
+pub record IsMatch {A : Type 0} (rule : Simpagation ℕ) (store : Store) (Such : Store → Type 0) (m : Match A) : Type 0 where
   pub entries : Store
   pub such : Such entries
   pub under : IsInstanceUnder rule (atoms entries) m.binding

@@ -16,11 +16,11 @@ use std::alloc::Allocator;
 /// A labelled instance: its rule's number from 1, the labels of its kept and of its removed heads, in head order, and
 /// the binding of its rule's variables, from which [`added_atoms`](chr_guard::body::added_atoms) makes the body.
 #[derive(Drop)]
-pub struct Found {
+pub struct Found<'s, A: Allocator> {
     pub rule: u16,
     pub kept: Labels,
     pub removed: Labels,
-    pub binding: Binding,
+    pub binding: Binding<'s, A>,
 }
 
 /// The atom of a label.
@@ -44,7 +44,7 @@ fn find_with_entry<'s, A: Allocator + Copy>(
     store: &[(Label, &'s Atom<A>)],
     label: Label,
     atom: &'s Atom<A>,
-) -> Option<Match>
+) -> Option<Match<'s, A>>
     requires distinct { Distinct (labels (listed store.now)) }
     requires there { atom_at (listed store.now) label ≡ Some atom.now }
     ensures { MatchOption result (NoMatch rule.now (listed store.now) (Has label)) (IsMatch rule.now (listed store.now) (Has label)) }
@@ -66,11 +66,11 @@ fn find_with_entry<'s, A: Allocator + Copy>(
 
 /// A labelled instance of a program's rules over a store that has a label. None only where the label is in no labelled
 /// instance over the store. The store has no label twice.
-pub fn find_with_label<A: Allocator + Copy>(
+pub fn find_with_label<'s, A: Allocator + Copy>(
     program: &Program<A>,
-    store: &[(Label, &Atom<A>)],
+    store: &[(Label, &'s Atom<A>)],
     label: Label,
-) -> Option<Found>
+) -> Option<Found<'s, A>>
     requires { Distinct (labels (listed store.now)) }
     ensures { MatchOption result (NoneWith (Instances program.now) (listed store.now) label) (IsFound program.now (listed store.now) label) }
 {

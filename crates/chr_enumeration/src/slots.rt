@@ -15,10 +15,10 @@ use std::alloc::Allocator;
 /// A labelled instance of a rule: the labels of its kept and of its removed heads, in head order, and the binding of the
 /// rule's variables.
 #[derive(Drop)]
-pub struct Match {
+pub struct Match<'s, A: Allocator> {
     pub kept: Labels,
     pub removed: Labels,
-    pub binding: Binding,
+    pub binding: Binding<'s, A>,
 }
 
 /// Whether a label is picked for some head.
@@ -36,10 +36,11 @@ fn is_picked<A: Allocator>(slots: &[Option<(Label, &Atom<A>)>], label: Label) ->
 }
 
 /// Whether a head has an argument that is known: a value, or a variable that is bound.
-fn is_joined(head: &RuleAtom, binding: &Binding) -> bool {
-    for term in head.terms.as_slice() {
+fn is_joined<A: Allocator + Copy>(head: &RuleAtom<A>, binding: &Binding<'_, A>) -> bool {
+    for term in &head.terms {
         match term {
-            Term::Value(_) => return true,
+            Term::Given(_) => return true,
+            Term::Open(_) => {}
             Term::Var(x) => match binding.at(*x) {
                 Bound::Free => {}
                 _ => return true,
@@ -51,10 +52,10 @@ fn is_joined(head: &RuleAtom, binding: &Binding) -> bool {
 
 /// The head that is tried next, of those for which nothing is picked: the first with an argument that is known, else the
 /// first.
-fn next_head<A: Allocator>(
+fn next_head<A: Allocator + Copy>(
     rule: &Rule<A>,
     slots: &[Option<(Label, &Atom<A>)>],
-    binding: &Binding,
+    binding: &Binding<'_, A>,
 ) -> Option<usize>
     ensures { MatchOption result (AllPicked (picks slots.now)) (IsOpen (picks slots.now)) }
 {
@@ -76,12 +77,12 @@ fn next_head<A: Allocator>(
 }
 
 /// The binding under which the head of a number, from 1, is an atom as well. None where there is none.
-pub fn fit_next<A: Allocator + Copy>(
+pub fn fit_next<'s, A: Allocator + Copy>(
     rule: &Rule<A>,
-    binding: &Binding,
+    binding: &Binding<'s, A>,
     number: usize,
-    atom: &Atom<A>,
-) -> Option<Binding>
+    atom: &'s Atom<A>,
+) -> Option<Binding<'s, A>>
     requires { length binding.now ≡ rule.now.variables }
     ensures { MatchOption result (NoneUnder (HeadIs rule.now number atom.now) binding.now) (Narrows (HeadIs rule.now number atom.now) binding.now) }
 {
@@ -111,12 +112,12 @@ fn labels_of<A: Allocator>(slots: &[Option<(Label, &Atom<A>)>]) -> Labels
 }
 
 /// The instance that the entries make which are picked for all heads, if they make one.
-fn whole<A: Allocator + Copy>(
+fn whole<'s, A: Allocator + Copy>(
     rule: &Rule<A>,
     store: &[(Label, &Atom<A>)],
     slots: &[Option<(Label, &Atom<A>)>],
-    binding: Binding,
-) -> Option<Match>
+    binding: Binding<'s, A>,
+) -> Option<Match<'s, A>>
     requires partial { IsPartial rule.now (listed store.now) (picks slots.now) binding }
     requires all { AllPicked (picks slots.now) }
     ensures { MatchOption result (NoMatch rule.now (listed store.now) (Fills (picks slots.now))) (IsMatch rule.now (listed store.now) (Fills (picks slots.now))) }
@@ -136,8 +137,8 @@ pub fn find_match<'s, A: Allocator + Copy>(
     rule: &Rule<A>,
     store: &[(Label, &'s Atom<A>)],
     slots: &mut [Option<(Label, &'s Atom<A>)>],
-    binding: Binding,
-) -> Option<Match>
+    binding: Binding<'s, A>,
+) -> Option<Match<'s, A>>
     requires distinct { Distinct (labels (listed store.now)) }
     requires partial { IsPartial rule.now (listed store.now) (picks slots.old) binding }
     ensures { let ps = picks slots.old in MatchOption result ((picks slots.new ≡ ps) × NoMatch rule.now (listed store.now) (Fills ps)) (IsMatch rule.now (listed store.now) (Fills ps)) }

@@ -6,7 +6,7 @@ use Rattle.chr_rule.specs.Rules.{BodyItem, Is, Add, Simpagation, rule_at}
 use Rattle.chr_rule.specs.Scope.{IsRule}
 use Rattle.chr_guard.specs.Values.{Valuation}
 use Rattle.chr_guard.specs.Bindings.{bound_at}
-use Rattle.chr_guard.specs.Instances.{atom_under, AreUnder, added, IsInstance, NoInstance}
+use Rattle.chr_guard.specs.Instances.{made_under, AreMadeUnder, added, IsInstance, NoInstance}
 use Rattle.chr_guard.specs.Matching.{IsInstanceUnder}
 use Rattle.chr_log.specs.Events.{Event, Fire}
 use Rattle.chr_model.proofs.Programs.{program_fixes}
@@ -18,15 +18,15 @@ one_made (Some b) a xs ys is rest = (let same : b ≡ a = cc in ap (λ c. c ∷ 
 one_made None a xs ys is rest = absurd (cc)
 
 -- they are those of the body of an instance
-made_is : (v : Valuation) (items : List (BodyItem ℕ)) (made : List (Atom ℕ)) → AreUnder v (added items) made → body_atoms v items ≡ made
+made_is : (v : Valuation) (items : List (BodyItem ℕ)) (made : List (Atom ℕ)) → AreMadeUnder v (added items) made → body_atoms v items ≡ made
 made_is v [] [] h = refl
 made_is v [] (a ∷ as') h = absurd (cc)
 made_is v (Is x e ∷ items) made h = made_is v items made h
 made_is v (Add s ∷ items) [] h = absurd (cc)
 made_is v (Add s ∷ items) (a ∷ as') h =
-    let first : atom_under v s ≡ Some a = cc in
-    let rest : map (atom_under v) (added items) ≡ map (λ b. Some b) as' = cc in
-    one_made (atom_under v s) a (body_atoms v items) as' first (made_is v items as' rest)
+    let first : made_under v s ≡ Some a = cc in
+    let rest : map (made_under v) (added items) ≡ map (λ b. Some b) as' = cc in
+    one_made (made_under v s) a (body_atoms v items) as' first (made_is v items as' rest)
 
 same_rule : (rules : List (Simpagation ℕ)) (r : ℕ) (one two : Simpagation ℕ) → rule_at rules r ≡ Some one → rule_at rules r ≡ Some two → one ≡ two
 same_rule rules r one two p q = (let e : Some one ≡ Some two = sym p ∙ q in cc)

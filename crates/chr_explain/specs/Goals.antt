@@ -3,14 +3,14 @@ use Rattle.std.specs.Prelude.{◌≡◌, ℕ, ◌-◌, List, [], ◌∷◌, ◌+
 use Rattle.chr_value.specs.Atoms.{Atom}
 use Rattle.chr_rule.specs.Rules.{BodyItem, Is, Add, Simpagation, rule_at}
 use Rattle.chr_guard.specs.Values.{Valuation}
-use Rattle.chr_guard.specs.Instances.{atom_under, IsInstance}
+use Rattle.chr_guard.specs.Instances.{made_under, IsInstance}
 use Rattle.chr_log.specs.Events.{Event, Post, Activate, Fire, Drop}
 use Rattle.chr_explain.specs.Atoms.{listed, atoms_of}
 
 -- the atom that an item of a body adds, and the atoms that a body adds, where they have values
 abbrev pub item_atoms : Valuation → BodyItem ℕ → List (Atom ℕ)
 item_atoms v (Is x e) = []
-item_atoms v (Add s) = listed (atom_under v s)
+item_atoms v (Add s) = listed (made_under v s)
 
 abbrev pub body_atoms : Valuation → List (BodyItem ℕ) → List (Atom ℕ)
 body_atoms v items = flat_map (item_atoms v) items

@@ -42,7 +42,7 @@ line_words None = []
 abbrev pub rule_words : List Heading → ℕ → List ℕ
 rule_words headings r = codes "rule " ++ (decimal r ++ line_words (heading_at headings r))
 
--- a number in decimal, or a symbol by its name
+-- a value as it stands in an atom
 abbrev pub value_words : List (List ℕ) → Value ℕ → List ℕ
 value_words names v = spell_term (renamed (text_of names) v)
 

@@ -22,20 +22,20 @@ pub struct Reason<'a, A: Allocator> {
     pub cause: Cause,
     pub atom: &'a Atom<A>,
     /// What a firing that gave it bound the rule's variables to.
-    pub values: Option<Binding>,
+    pub values: Option<Binding<'a, A>>,
     /// The entry that removed it, by its place in the log from 0. None where none did, and where it isn't asked.
     pub removed: Option<usize>,
 }
 
 /// The values of a rule's variables in the instance whose heads have these labels.
-fn rule_values<A: Allocator + Copy>(
+fn rule_values<'a, A: Allocator + Copy>(
     alloc: A,
     program: &Program<A>,
-    atoms: &[Atom<A>],
+    atoms: &'a [Atom<A>],
     rule: u16,
     kept: &Labels,
     removed: &Labels,
-) -> Result<Option<Binding>, AllocError>
+) -> Result<Option<Binding<'a, A>>, AllocError>
     ensures { IfOk result (AreRuleValues (rule_at program.now rule) (atoms_of atoms.now kept.now.items ++ atoms_of atoms.now removed.now.items)) }
 {
     let Some(rule) = program.rule(usize::from(rule)) else {
@@ -46,12 +46,12 @@ fn rule_values<A: Allocator + Copy>(
 }
 
 /// The values of the variables of an event that is a firing.
-fn values<A: Allocator + Copy>(
+fn values<'a, A: Allocator + Copy>(
     alloc: A,
     program: &Program<A>,
-    atoms: &[Atom<A>],
+    atoms: &'a [Atom<A>],
     event: &Event<A>,
-) -> Result<Option<Binding>, AllocError>
+) -> Result<Option<Binding<'a, A>>, AllocError>
     ensures { IfOk result (AreValues program.now atoms.now (event_of event.now)) }
 {
     match event {

@@ -3,7 +3,7 @@
 ghost use Rattle.std.specs.Prelude.{◌≡◌, ◌++◌, ◌∷◌, ◌≤◌, [], length, map, Some, OnOk, codes, slice_get};
 ghost use Rattle.std.specs.Option.{option_map};
 ghost use Rattle.std.specs.Fmt.{decimal};
-ghost use Rattle.chr_value.specs.Atoms.{ground, text_of, by_texts};
+ghost use Rattle.chr_value.specs.Atoms.{by_texts};
 ghost use Rattle.chr_value.specs.Spelling.{spell};
 ghost use Rattle.chr_limits.specs.Variables.{is_blank};
 ghost use Rattle.chr_limits.specs.Views.{names as texts};
@@ -11,14 +11,13 @@ ghost use Rattle.chr_guard.specs.Bindings.{bound_term};
 ghost use Rattle.chr_log.specs.Events.{event_of, events_of};
 ghost use Rattle.chr_explain.specs.Headings.{heading_view};
 ghost use Rattle.chr_explain.specs.Reasons.{reason_of};
-ghost use Rattle.chr_explain.specs.Lines.{recorded_view, entry_words, head_words, heads_words, heading_at, line_words, rule_words, value_words, variable_words, values_from, values_words, all_heads_words, firing_words, post_words, origin_words, by_words, removal_words, given_words, cause_line};
+ghost use Rattle.chr_explain.specs.Lines.{recorded_view, entry_words, head_words, heads_words, heading_at, line_words, rule_words, variable_words, values_from, values_words, all_heads_words, firing_words, post_words, origin_words, by_words, removal_words, given_words, cause_line};
 
 use crate::headings::Heading;
 use crate::reasons::Reason;
 use chr_guard::{Binding, Bound};
 use chr_log::{Event, Label};
-use chr_value::{Name, Names, Value, put_number, write_atom};
-use itoa::Buffer;
+use chr_value::{Names, put_number, write_atom, write_value};
 use std::alloc::{AllocError, Allocator};
 
 /// What lines are written from: the names, the rules' headings, and the log.
@@ -108,46 +107,15 @@ fn put_by<C: Allocator>(
     put_rule(out, headings, rule)
 }
 
-/// A name's text; nothing for a number outside the table.
-fn put_name<A: Allocator + Copy, C: Allocator>(
-    out: &mut Vec<u8, C>,
-    names: &Names<A>,
-    name: Name,
-) -> Result<(), AllocError>
-    ensures { OnOk result (out.new.items ≡ out.old.items ++ text_of names.now name.number) }
-{
-    if let Some(text) = names.text(name) {
-        out.extend_from_slice(text.as_bytes())?;
-    }
-    Ok(())
-}
-
-/// A number in decimal, or a symbol by its name's text.
-fn put_value<A: Allocator + Copy, C: Allocator>(
-    out: &mut Vec<u8, C>,
-    names: &Names<A>,
-    value: &Value,
-) -> Result<(), AllocError>
-    ensures { OnOk result (out.new.items ≡ out.old.items ++ value_words names.now (ground value.now)) }
-{
-    match value {
-        Value::Int(n) => {
-            let mut buffer = Buffer::new();
-            out.extend_from_slice(buffer.format(*n).as_bytes())
-        }
-        Value::Sym(name) => put_name(out, names, *name),
-    }
-}
-
 /// What a variable is bound to, by its name; nothing for `_` and for a free one.
 #[tactic(auto, using(crate::proofs::Grouped::grouping))]
 fn put_variable<A: Allocator + Copy, C: Allocator>(
     out: &mut Vec<u8, C>,
     names: &Names<A>,
     name: &[u8],
-    bound: Bound,
+    bound: Bound<'_, A>,
 ) -> Result<(), AllocError>
-    ensures { OnOk result (out.new.items ≡ out.old.items ++ variable_words names.now name.now (bound_term bound)) }
+    ensures { OnOk result (out.new.items ≡ out.old.items ++ variable_words names.now name.now (bound_term bound.entry)) }
 {
     let Some(value) = bound.value() else {
         return Ok(());
@@ -158,7 +126,7 @@ fn put_variable<A: Allocator + Copy, C: Allocator>(
     out.extend_from_slice(b", ")?;
     out.extend_from_slice(name)?;
     out.extend_from_slice(b" = ")?;
-    put_value(out, names, &value)
+    write_value(out, names, &value)
 }
 
 /// What variables are bound to, by their names. A rule has at most 24.
@@ -166,7 +134,7 @@ fn put_variables<A: Allocator + Copy, C: Allocator>(
     out: &mut Vec<u8, C>,
     names: &Names<A>,
     variables: &[&[u8]],
-    values: &Binding,
+    values: &Binding<'_, A>,
 ) -> Result<(), AllocError>
     requires { length variables.now ≤ 24 }
     ensures { OnOk result (out.new.items ≡ out.old.items ++ values_from names.now values.now 0 (texts variables.now)) }
@@ -182,7 +150,7 @@ fn put_values<A: Allocator + Copy, C: Allocator>(
     out: &mut Vec<u8, C>,
     names: &Names<A>,
     heading: Option<&Heading>,
-    values: Option<&Binding>,
+    values: Option<&Binding<'_, A>>,
 ) -> Result<(), AllocError>
     ensures { OnOk result (out.new.items ≡ out.old.items ++ values_words names.now (option_map (λ h. heading_view h.now) heading.entry) (option_map (λ v. v.now) values.entry)) }
 {
@@ -219,7 +187,7 @@ fn put_firing<A: Allocator + Copy, C: Allocator>(
     rule: u16,
     kept: &[Label],
     removed: &[Label],
-    values: Option<&Binding>,
+    values: Option<&Binding<'_, A>>,
 ) -> Result<(), AllocError>
     ensures { OnOk result (out.new.items ≡ out.old.items ++ firing_words (recorded_view recorded.now) made rule kept.now removed.now (option_map (λ v. v.now) values.entry)) }
 {
@@ -256,7 +224,7 @@ fn put_origin<A: Allocator + Copy, C: Allocator>(
     out: &mut Vec<u8, C>,
     recorded: &Recorded<A>,
     made: usize,
-    values: Option<&Binding>,
+    values: Option<&Binding<'_, A>>,
 ) -> Result<(), AllocError>
     ensures { OnOk result (out.new.items ≡ out.old.items ++ origin_words (recorded_view recorded.now) made (option_map (λ v. v.now) values.entry) (slice_get (events_of recorded.now.events.now) made)) }
 {

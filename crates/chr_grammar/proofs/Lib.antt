@@ -1,6 +1,8 @@
 pub mod Signs
 pub mod Lists
 pub mod Fronts
+pub mod Terms
+pub mod Nodes
 pub mod Phrases
 pub mod Expressions
 pub mod Formulas

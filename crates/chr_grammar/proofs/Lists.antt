@@ -8,15 +8,12 @@ use Rattle.chr_lex.specs.declared.fault.ItemError.{ItemError}
 use Rattle.chr_lex.specs.declared.fault.ItemError.TheVariants as errors
 use Rattle.chr_lex.specs.declared.token.Token.{Token}
 use Rattle.chr_lex.specs.Reading.{◌>>=◌, Fails}
-use Rattle.chr_lex.specs.Tokens.{lexeme, Word, Lexeme}
+use Rattle.chr_lex.specs.Tokens.{lexeme, Lexeme}
 use Rattle.chr_grammar.specs.Parsing.{Front, is_comma, members_at}
 
 -- the members that were read before, and what is still read
 abbrev pub list_with : {A : Type 0} → List A → Result (List A) Kind → Result (List A) Kind
 list_with front read = read >>= λ x. Ok (front ++ x)
-
-abbrev pub terms_with : List Word → Front (List Word) → Front (List Word)
-terms_with front read = read >>= λ x. Ok (front ++ x.0, x.1)
 
 regroup : {A : Type 0} (front : List A) (a : A) (read : Result (List A) Kind) → list_with front (read >>= λ x. Ok (a ∷ x)) ≡ list_with (front ++ a ∷ []) read
 regroup {A} front a (Ok x) = ap (λ (y : List A). Ok y) (sym (append_assoc front (a ∷ []) x))

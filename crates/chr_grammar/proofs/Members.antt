@@ -7,15 +7,16 @@ use Rattle.chr_lex.specs.declared.fault.Kind.TheVariants.{Syntax}
 use Rattle.chr_lex.specs.declared.mark.Mark.TheVariants as mark
 use Rattle.chr_lex.specs.Reading.{◌>>=◌}
 use Rattle.chr_lex.specs.Tokens as word
-use Rattle.chr_lex.specs.Tokens.{Word, Lexeme, OfWord, OfMark}
+use Rattle.chr_lex.specs.Tokens.{Lexeme, OfWord, OfMark}
 use Rattle.chr_rule.specs.declared.expression.Relation.{Relation}
 use Rattle.chr_rule.specs.declared.expression.Relation.TheVariants as relation
-use Rattle.chr_grammar.specs.Parsed.{ParsedExpression, ParsedAtom, GuardMember, Compared, BodyMember, Is, Add}
+use Rattle.chr_grammar.specs.Parsed.{ParsedExpression, ParsedTerm, ParsedAtom, GuardMember, Compared, BodyMember, Is, Add}
 use Rattle.chr_grammar.specs.Parsing as parsing
-use Rattle.chr_grammar.specs.Parsing.{Front, is_true, is_is, is_open, either, equality, equal, relation_at, compared_at, other_side_at, sides_at, plain_test_at, test_at, added_at, is_member_at, last_member_at, member_at, phrase_at, expression_at}
-use Rattle.chr_grammar.specs.Spelling.{formula_spelled, test_spelled, member_spelled, relation_sign, true_word, IsExpression, IsGuardMember, IsBodyMember}
+use Rattle.chr_grammar.specs.Parsing.{Front, is_true, is_is, is_open, either, equality, equal, relation_at, compared_at, other_side_at, sides_at, test_by, plain_test_at, test_at, term_at, added_at, is_member_at, last_member_at, member_at, phrase_at, expression_at}
+use Rattle.chr_grammar.specs.Spelling.{term_spelled, IsParsedTerm, formula_spelled, test_spelled, member_spelled, relation_sign, true_word, IsExpression, IsGuardMember, IsBodyMember}
 use Rattle.chr_grammar.proofs.Fronts.{FrontRead}
 use Rattle.chr_grammar.proofs.Formulas.{ExpressionRead, expression_found}
+use Rattle.chr_grammar.proofs.Terms.{TermRead, term_found}
 use Rattle.chr_grammar.proofs.Phrases.{PhraseRead, phrase_found}
 
 abbrev pub TestRead : List Lexeme → Front GuardMember → Type 0
@@ -76,21 +77,33 @@ plain_test_found [] = compared_found []
 plain_test_found (s ∷ ts) =
     cond_both (is_true s) _ _ (TestRead (s ∷ ts)) (λ h. (tt, ap (λ (s : Lexeme). s ∷ ts) (true_is s h))) (λ h. compared_found (s ∷ ts))
 
-sides_found : (same : Bool) (s : Lexeme) (ts : List Lexeme) → TestRead (s ∷ equality_sign same ∷ ts) (sides_at same s ts)
-sides_found same (OfMark m) ts = refl
-sides_found same (OfWord v) [] = refl
-sides_found same (OfWord v) (OfMark m ∷ ts) = refl
-sides_found true (OfWord v) (OfWord w ∷ ts) = (tt, refl)
-sides_found false (OfWord v) (OfWord w ∷ ts) = (tt, refl)
+equal_is : (same : Bool) (t u : ParsedTerm) → IsParsedTerm t → IsParsedTerm u → IsGuardMember (equal same t u) × (test_spelled (equal same t u) ≡ term_spelled t ++ equality_sign same ∷ term_spelled u)
+equal_is true t u left right = ((left, right), refl)
+equal_is false t u left right = ((left, right), refl)
 
-equality_found : (s e : Lexeme) (ts : List Lexeme) (o : Option Bool) → ((b : Bool) → o ≡ Some b → e ≡ equality_sign b) → TestRead (s ∷ e ∷ ts) (either o (plain_test_at (s ∷ e ∷ ts)) (λ same. sides_at same s ts))
-equality_found s e ts None is = plain_test_found (s ∷ e ∷ ts)
-equality_found s e ts (Some b) is = subst (λ (e : Lexeme). TestRead (s ∷ e ∷ ts) (sides_at b s ts)) (sym (is b refl)) (sides_found b s ts)
+other_side_found : (same : Bool) (t : ParsedTerm) (ts us : List Lexeme) (read : Front ParsedTerm) → IsParsedTerm t → ts ≡ term_spelled t ++ (equality_sign same ∷ us) → TermRead us read → TestRead ts (read >>= λ x. Ok (equal same t x.0, x.1))
+other_side_found same t ts us (Ok x) stands at h =
+    let is = equal_is same t x.0 stands h.0 in
+    let there : ts ≡ term_spelled t ++ (equality_sign same ∷ (term_spelled x.0 ++ x.1)) = at ∙ ap (λ (y : List Lexeme). term_spelled t ++ (equality_sign same ∷ y)) h.1 in
+    (is.0, there ∙ sym (append_assoc (term_spelled t) (equality_sign same ∷ term_spelled x.0) x.1) ∙ ap (λ (y : List Lexeme). y ++ x.1) (sym is.1))
+other_side_found same t ts us (Err k) stands at h = h
+
+equality_found : (t : ParsedTerm) (ts us : List Lexeme) (e : Lexeme) (o : Option Bool) → ((b : Bool) → o ≡ Some b → e ≡ equality_sign b) → IsParsedTerm t → ts ≡ term_spelled t ++ (e ∷ us)
+    → TestRead ts (either o (plain_test_at ts) (λ same. other_side_at same t us))
+equality_found t ts us e None is stands at = plain_test_found ts
+equality_found t ts us e (Some b) is stands at =
+    other_side_found b t ts us (term_at us) stands (at ∙ ap (λ (e : Lexeme). term_spelled t ++ (e ∷ us)) (is b refl)) (term_found us)
+
+sides_found : (ts : List Lexeme) (t : ParsedTerm) (us : List Lexeme) → IsParsedTerm t → ts ≡ term_spelled t ++ us → TestRead ts (sides_at ts t us)
+sides_found ts t [] stands at = plain_test_found ts
+sides_found ts t (e ∷ us) stands at = equality_found t ts us e (equality e) (equality_is e) stands at
+
+by_found : (ts : List Lexeme) (read : Front ParsedTerm) → TermRead ts read → TestRead ts (test_by ts read)
+by_found ts (Ok x) h = sides_found ts x.0 x.1 h.0 h.1
+by_found ts (Err k) h = plain_test_found ts
 
 pub test_found : (ts : List Lexeme) → TestRead ts (test_at ts)
-test_found [] = plain_test_found []
-test_found (s ∷ []) = plain_test_found (s ∷ [])
-test_found (s ∷ e ∷ ts) = equality_found s e ts (equality e) (equality_is e)
+test_found ts = by_found ts (term_at ts) (term_found ts)
 
 pub test_so : (ts r : List Lexeme) (t : GuardMember) → test_at ts ≡ Ok (t, r) → ts ≡ test_spelled t ++ r
 test_so ts r t h = (subst (TestRead ts) h (test_found ts)).1

@@ -1,17 +1,17 @@
 -- What is spelled as a rule or a declaration is read.
-use Rattle.std.proofs.Common.{◌≡◌, ◌<◌, ◌+◌, ℕ, true, false, List, [], ◌∷◌, ◌++◌, length, length-append, refl, ap, subst, ◌∙◌, arith, Option, Some, None, Ok, Err}
+use Rattle.std.proofs.Common.{◌≡◌, ◌<◌, ◌+◌, ◌-◌, ℕ, zero, suc, Bool, true, false, if◌then◌else◌, nat_lt, List, [], ◌∷◌, ◌++◌, length, length-append, refl, ap, subst, ◌∙◌, arith, Option, Some, None, Ok, Err}
 use Rattle.std.specs.List.{AllByRecursion}
 use Rattle.chr_lex.specs.declared.fault.Kind.{Kind}
 use Rattle.chr_lex.specs.declared.fault.Kind.TheVariants.{Syntax}
 use Rattle.chr_lex.specs.declared.mark.Mark.TheVariants as mark
-use Rattle.chr_lex.specs.Tokens.{Word, Lexeme, OfMark}
+use Rattle.chr_lex.specs.Tokens.{Lexeme, OfWord, OfMark}
 use Rattle.chr_rule.specs.declared.expression.Operator.{Operator}
 use Rattle.chr_rule.specs.declared.expression.Operator.TheVariants as operator
 use Rattle.chr_rule.specs.declared.expression.Relation.{Relation}
 use Rattle.chr_rule.specs.declared.expression.Relation.TheVariants as relation
-use Rattle.chr_grammar.specs.Parsed.{ParsedExpression, Number, Variable, Group, Operation, ParsedAtom, GuardMember, Always, Compared, Same, Differ, BodyMember, Nothing, Is, Add, ParsedRule, Declared, Statement, Import, Declaration, Rule}
+use Rattle.chr_grammar.specs.Parsed.{ParsedExpression, Number, Variable, Group, Operation, TermNode, ParsedTerm, ParsedAtom, GuardMember, Always, Compared, Same, Differ, BodyMember, Nothing, Is, Add, ParsedRule, Declared, Statement, Import, Declaration, Rule}
 use Rattle.chr_grammar.specs.Parsing.{is_backslash, is_bar, is_arrow, is_at, is_declares, phrases_of, tests_of, body_of, heads_by, heads_of, heads_by_arrow, consequence_by, consequence_of, rule_by, named_rule_of, rule_of, declarations_of, a_rule, statement_of}
-use Rattle.chr_grammar.specs.Spelling.{by_commas, further, arguments, operator_sign, relation_sign, formula_spelled, phrase_spelled, test_spelled, member_spelled, declared_spelled, IsParsedAtom, IsGuardMember, IsBodyMember, rule_name_spelled, heads_spelled, arrow_sign, consequence_spelled, rule_spelled, IsParsedRule, statement_spelled, IsStatement, AreStatement}
+use Rattle.chr_grammar.specs.Spelling.{by_commas, closings, between, nodes_spelled, term_spelled, further, arguments, operator_sign, relation_sign, formula_spelled, phrase_spelled, test_spelled, member_spelled, declared_spelled, IsParsedAtom, IsGuardMember, IsBodyMember, rule_name_spelled, heads_spelled, arrow_sign, consequence_spelled, rule_spelled, IsParsedRule, statement_spelled, IsStatement, AreStatement}
 use Rattle.chr_grammar.proofs.Fronts.{no_more}
 use Rattle.chr_grammar.proofs.Phrases.{phrases_read, phrase_some}
 use Rattle.chr_grammar.proofs.Declarations.{AnyDeclared}
@@ -48,13 +48,29 @@ relation_inside relation.GreaterEqual = plain
 relation_inside relation.Equal = plain
 relation_inside relation.Unequal = plain
 
-further_inside : (ws : List Word) → AllInside (further ws)
-further_inside [] = (plain, tt)
-further_inside (w ∷ ws) = (plain, (plain, further_inside ws))
+closings_inside : (n : ℕ) → AllInside (closings n)
+closings_inside zero = tt
+closings_inside (suc n) = (plain, closings_inside n)
 
-arguments_inside : (ws : List Word) → AllInside (arguments ws)
+between_case : (d e : ℕ) (b : Bool) → AllInside (if b then OfMark mark.Open ∷ [] else closings (d - e) ++ OfMark mark.Comma ∷ [])
+between_case d e true = (plain, tt)
+between_case d e false = all_append Inside (closings (d - e)) (OfMark mark.Comma ∷ []) (closings_inside (d - e)) (plain, tt)
+
+nodes_inside : (d : ℕ) (ns : List TermNode) → AllInside (nodes_spelled d ns)
+nodes_inside d [] = closings_inside d
+nodes_inside d (n ∷ ns) = all_append Inside (between d n.depth) (OfWord n.word ∷ nodes_spelled n.depth ns) (between_case d n.depth (nat_lt d n.depth)) (plain, nodes_inside n.depth ns)
+
+term_inside : (t : ParsedTerm) → AllInside (term_spelled t)
+term_inside [] = tt
+term_inside (n ∷ ns) = (plain, nodes_inside n.depth ns)
+
+further_inside : (ts : List ParsedTerm) → AllInside (further ts)
+further_inside [] = (plain, tt)
+further_inside (t ∷ ts) = (plain, all_append Inside (term_spelled t) (further ts) (term_inside t) (further_inside ts))
+
+arguments_inside : (ts : List ParsedTerm) → AllInside (arguments ts)
 arguments_inside [] = tt
-arguments_inside (w ∷ ws) = (plain, (plain, further_inside ws))
+arguments_inside (t ∷ ts) = (plain, all_append Inside (term_spelled t) (further ts) (term_inside t) (further_inside ts))
 
 phrase_inside : (p : ParsedAtom) → AllInside (phrase_spelled p)
 phrase_inside p = (plain, arguments_inside p.args)
@@ -68,8 +84,8 @@ formula_inside (Operation o f g) = all_append Inside (formula_spelled f) (operat
 test_inside : (t : GuardMember) → AllInside (test_spelled t)
 test_inside Always = (plain, tt)
 test_inside (Compared r f g) = all_append Inside (formula_spelled f) (relation_sign r ∷ formula_spelled g) (formula_inside f) (relation_inside r, formula_inside g)
-test_inside (Same v w) = (plain, (plain, (plain, tt)))
-test_inside (Differ v w) = (plain, (plain, (plain, tt)))
+test_inside (Same t u) = all_append Inside (term_spelled t) (OfMark mark.Equals ∷ term_spelled u) (term_inside t) (plain, term_inside u)
+test_inside (Differ t u) = all_append Inside (term_spelled t) (OfMark mark.Differs ∷ term_spelled u) (term_inside t) (plain, term_inside u)
 
 member_inside : (m : BodyMember) → AllInside (member_spelled m)
 member_inside Nothing = (plain, tt)

@@ -14,7 +14,7 @@ use Rattle.chr_rule.specs.declared.expression.Relation.{Relation}
 use Rattle.chr_rule.specs.declared.expression.Relation.TheVariants.{Less, LessEqual, Greater, GreaterEqual, Equal, Unequal}
 use Rattle.chr_grammar.specs.declared.expression.TheConstants.{MOST_DEPTH}
 use Rattle.chr_grammar.specs.Parsed as parsed
-use Rattle.chr_grammar.specs.Parsed.{ParsedExpression, ParsedAtom, GuardMember, BodyMember, ParsedRule, Declared, Statement}
+use Rattle.chr_grammar.specs.Parsed.{ParsedExpression, TermNode, ParsedTerm, is_name, ParsedAtom, GuardMember, BodyMember, ParsedRule, Declared, Statement}
 
 -- what is read at the front, and the tokens after it
 abbrev pub Front : Type 0 → Type 0
@@ -99,16 +99,60 @@ members_at member (suc n) ts = member ts >>= λ x. behind x.0 x.1 (members_at me
 abbrev pub each_by_commas : {A : Type 0} → (List Lexeme → Front A) → List Lexeme → Result (List A) Kind
 each_by_commas member ts = members_at member (length ts) ts
 
+-- ---- terms
+
+-- Behind an argument in so many parentheses: in how many the next argument stands, and the tokens
+-- from it on. In none the term has ended.
+abbrev pub next_at : ℕ → List Lexeme → Front ℕ
+next_at zero ts = Ok (zero, ts)
+next_at (suc d) [] = Err Syntax
+next_at (suc d) (s ∷ ts) =
+    if is_comma s then Ok (suc d, ts) else (if is_close s then next_at d ts else Err Syntax)
+
+-- a name before an opening parenthesis
+abbrev pub is_functor : Word → List Lexeme → Bool
+is_functor w [] = false
+is_functor w (s ∷ ts) = is_name w && is_open s
+
+-- the same behind a word, which may be a functor and stand before its arguments
+abbrev pub behind_word_at : Word → ℕ → List Lexeme → Front ℕ
+behind_word_at w d ts = if is_functor w ts then Ok (suc d, drop 1 ts) else next_at d ts
+
+-- a node, and the others where the term has not ended
+abbrev pub with_node : TermNode → ℕ → List Lexeme → Front ParsedTerm → Front ParsedTerm
+with_node n zero ts others = Ok (n ∷ [], ts)
+with_node n (suc d) ts others = others >>= λ x. Ok (n ∷ x.0, x.1)
+
+-- an argument in so many parentheses, and what follows it in the term: no more nodes than so many
+abbrev pub nodes_at : ℕ → ℕ → List Lexeme → Front ParsedTerm
+nodes_at zero d ts = Err Syntax
+nodes_at (suc n) d [] = Err Syntax
+nodes_at (suc n) d (OfMark m ∷ ts) = Err Syntax
+nodes_at (suc n) d (OfWord w ∷ ts) =
+    behind_word_at w d ts
+    >>= λ x. with_node (record { depth = d; word = w }) x.0 x.1 (nodes_at n x.0 x.1)
+
+-- Each node has a token of its own, so there are no more nodes than tokens.
+abbrev pub term_at : List Lexeme → Front ParsedTerm
+term_at ts = nodes_at (length ts) 0 ts
+
 -- ---- atoms
 
+-- a term, and what follows it: a comma and the others, or a closing parenthesis
+abbrev pub behind_term : ParsedTerm → List Lexeme → Front (List ParsedTerm) → Front (List ParsedTerm)
+behind_term t [] others = Err Syntax
+behind_term t (s ∷ ts) others =
+    if is_comma s then (others >>= λ x. Ok (t ∷ x.0, x.1))
+    else (if is_close s then Ok (t ∷ [], ts) else Err Syntax)
+
+-- no more terms than so many
+abbrev pub several_at : ℕ → List Lexeme → Front (List ParsedTerm)
+several_at zero ts = Err Syntax
+several_at (suc n) ts = term_at ts >>= λ x. behind_term x.0 x.1 (several_at n (drop 1 x.1))
+
 -- terms by commas, and a closing parenthesis
-abbrev pub terms_at : List Lexeme → Front (List Word)
-terms_at [] = Err Syntax
-terms_at (OfMark m ∷ ts) = Err Syntax
-terms_at (OfWord w ∷ []) = Err Syntax
-terms_at (OfWord w ∷ s ∷ ts) =
-    if is_comma s then (terms_at ts >>= λ x. Ok (w ∷ x.0, x.1))
-    else (if is_close s then Ok (w ∷ [], ts) else Err Syntax)
+abbrev pub terms_at : List Lexeme → Front (List ParsedTerm)
+terms_at ts = several_at (length ts) ts
 
 -- what follows the name of an atom
 abbrev pub args_at : List ℕ → List Lexeme → Front ParsedAtom
@@ -196,7 +240,7 @@ equality (OfMark mark.Equals) = Some true
 equality (OfMark mark.Differs) = Some false
 equality _ = None
 
-abbrev pub equal : Bool → Word → Word → GuardMember
+abbrev pub equal : Bool → ParsedTerm → ParsedTerm → GuardMember
 equal true v w = parsed.Same v w
 equal false v w = parsed.Differ v w
 
@@ -208,21 +252,24 @@ relation_at f (s ∷ ts) = either (relation s) (Err Syntax) (λ r. expression_at
 abbrev pub compared_at : List Lexeme → Front GuardMember
 compared_at ts = expression_at ts >>= λ x. relation_at x.0 x.1
 
-abbrev pub other_side_at : Bool → Word → List Lexeme → Front GuardMember
-other_side_at same v (OfWord w ∷ ts) = Ok (equal same v w, ts)
-other_side_at same v _ = Err Syntax
-
-abbrev pub sides_at : Bool → Lexeme → List Lexeme → Front GuardMember
-sides_at same (OfWord v) ts = other_side_at same v ts
-sides_at same (OfMark m) ts = Err Syntax
+abbrev pub other_side_at : Bool → ParsedTerm → List Lexeme → Front GuardMember
+other_side_at same t ts = term_at ts >>= λ x. Ok (equal same t x.0, x.1)
 
 abbrev pub plain_test_at : List Lexeme → Front GuardMember
 plain_test_at [] = compared_at []
 plain_test_at (s ∷ ts) = if is_true s then Ok (parsed.Always, ts) else compared_at (s ∷ ts)
 
+-- a term with `==` or `\==` behind it, or another member
+abbrev pub sides_at : List Lexeme → ParsedTerm → List Lexeme → Front GuardMember
+sides_at ts t [] = plain_test_at ts
+sides_at ts t (e ∷ us) = either (equality e) (plain_test_at ts) (λ same. other_side_at same t us)
+
+abbrev pub test_by : List Lexeme → Front ParsedTerm → Front GuardMember
+test_by ts (Ok x) = sides_at ts x.0 x.1
+test_by ts (Err k) = plain_test_at ts
+
 abbrev pub test_at : List Lexeme → Front GuardMember
-test_at (s ∷ e ∷ ts) = either (equality e) (plain_test_at (s ∷ e ∷ ts)) (λ same. sides_at same s ts)
-test_at ts = plain_test_at ts
+test_at ts = test_by ts (term_at ts)
 
 abbrev pub tests_of : List Lexeme → Result (List GuardMember) Kind
 tests_of = each_by_commas test_at

@@ -1,17 +1,17 @@
 -- How what an item says is written: the grammar by its forms.
-use Rattle.std.specs.Prelude.{◌≡◌, ℕ, ◌+◌, suc, ◌<◌, ◌≤◌, false, List, [], ◌∷◌, ◌++◌, length, max, Option, Some, None, codes}
+use Rattle.std.specs.Prelude.{◌≡◌, ℕ, ◌+◌, ◌-◌, zero, suc, ◌<◌, ◌≤◌, nat_lt, true, false, if◌then◌else◌, List, [], ◌∷◌, ◌++◌, length, max, Option, Some, None, codes}
 use Rattle.std.specs.List.{AllByRecursion}
 use Rattle.chr_value.specs.Spelling.{is_reserved}
 use Rattle.chr_lex.specs.declared.mark.Mark.TheVariants as mark
 use Rattle.chr_lex.specs.declared.mark.Mark.TheVariants.{Open, Close, Comma}
-use Rattle.chr_lex.specs.Tokens.{Word, Lexeme, OfWord, OfMark}
+use Rattle.chr_lex.specs.Tokens.{Lexeme, OfWord, OfMark}
 use Rattle.chr_lex.specs.Tokens as word
 use Rattle.chr_rule.specs.declared.expression.Operator.{Operator}
 use Rattle.chr_rule.specs.declared.expression.Operator.TheVariants as operator
 use Rattle.chr_rule.specs.declared.expression.Relation.{Relation}
 use Rattle.chr_rule.specs.declared.expression.Relation.TheVariants as relation
 use Rattle.chr_grammar.specs.declared.expression.TheConstants.{MOST_DEPTH}
-use Rattle.chr_grammar.specs.Parsed.{ParsedExpression, Number, Variable, Group, Operation, ParsedAtom, GuardMember, Always, Compared, Same, Differ, BodyMember, Nothing, Is, Add, ParsedRule, Declared, Statement, Import, Declaration, Rule}
+use Rattle.chr_grammar.specs.Parsed.{ParsedExpression, Number, Variable, Group, Operation, TermNode, ParsedTerm, is_name, ParsedAtom, GuardMember, Always, Compared, Same, Differ, BodyMember, Nothing, Is, Add, ParsedRule, Declared, Statement, Import, Declaration, Rule}
 
 -- ---- lists by commas
 
@@ -27,27 +27,67 @@ pub record AreByCommas {A : Type 0} (Stands : A → Type 0) (spelled : A → Lis
   pub each : AllByRecursion Stands xs
   pub written : ts ≡ by_commas spelled xs
 
+-- ---- terms
+
+-- so many closing parentheses
+abbrev pub closings : ℕ → List Lexeme
+closings zero = []
+closings (suc n) = OfMark Close ∷ closings n
+
+-- what stands between a node and the next one, by their depths
+abbrev pub between : ℕ → ℕ → List Lexeme
+between d e = if nat_lt d e then OfMark Open ∷ [] else closings (d - e) ++ OfMark Comma ∷ []
+
+-- the nodes behind one of this depth, and the parentheses that are open at the end
+abbrev pub nodes_spelled : ℕ → List TermNode → List Lexeme
+nodes_spelled d [] = closings d
+nodes_spelled d (n ∷ ns) = between d n.depth ++ OfWord n.word ∷ nodes_spelled n.depth ns
+
+abbrev pub term_spelled : ParsedTerm → List Lexeme
+term_spelled [] = []
+term_spelled (n ∷ ns) = OfWord n.word ∷ nodes_spelled n.depth ns
+
+-- A node behind another is an argument, at most one deeper, and only behind a name is it deeper.
+pub record MayFollow (n m : TermNode) : Type 0 where
+  pub inside : 0 < m.depth
+  pub stepwise : m.depth ≤ suc n.depth
+  pub functor : n.depth < m.depth → is_name n.word ≡ true
+
+abbrev pub AreNodes : TermNode → List TermNode → Type 0
+AreNodes n [] = Unit {0}
+AreNodes n (m ∷ ns) = MayFollow n m × AreNodes m ns
+
+abbrev pub IsParsedTerm : ParsedTerm → Type 0
+IsParsedTerm [] = ⊥
+IsParsedTerm (n ∷ ns) = (n.depth ≡ 0) × AreNodes n ns
+
+-- nothing, or no opening parenthesis
+abbrev pub EndsTerm : List Lexeme → Type 0
+EndsTerm [] = Unit {0}
+EndsTerm (s ∷ ts) = s ≡ OfMark Open → ⊥
+
 -- ---- atoms
 
 -- further terms by commas, and the closing parenthesis
-abbrev pub further : List Word → List Lexeme
+abbrev pub further : List ParsedTerm → List Lexeme
 further [] = OfMark Close ∷ []
-further (w ∷ ws) = OfMark Comma ∷ OfWord w ∷ further ws
+further (t ∷ ts) = OfMark Comma ∷ (term_spelled t ++ further ts)
 
-abbrev pub arguments : List Word → List Lexeme
+abbrev pub arguments : List ParsedTerm → List Lexeme
 arguments [] = []
-arguments (w ∷ ws) = OfMark Open ∷ OfWord w ∷ further ws
+arguments (t ∷ ts) = OfMark Open ∷ (term_spelled t ++ further ts)
 
 abbrev pub phrase_spelled : ParsedAtom → List Lexeme
 phrase_spelled p = OfWord (word.Name p.name) ∷ arguments p.args
 
 -- true, fail and false are no atoms without arguments
-abbrev pub IsUnreserved : List ℕ → List Word → Type 0
+abbrev pub IsUnreserved : List ℕ → List ParsedTerm → Type 0
 IsUnreserved name [] = is_reserved name ≡ false
-IsUnreserved name (w ∷ ws) = Unit {0}
+IsUnreserved name (t ∷ ts) = Unit {0}
 
-abbrev pub IsParsedAtom : ParsedAtom → Type 0
-IsParsedAtom p = IsUnreserved p.name p.args
+pub record IsParsedAtom (p : ParsedAtom) : Type 0 where
+  pub unreserved : IsUnreserved p.name p.args
+  pub terms : AllByRecursion IsParsedTerm p.args
 
 -- the tokens are these atoms by commas
 abbrev pub AreParsedAtoms : List Lexeme → List ParsedAtom → Type 0
@@ -119,12 +159,14 @@ true_word = OfWord (word.Name (codes "true"))
 abbrev pub test_spelled : GuardMember → List Lexeme
 test_spelled Always = true_word ∷ []
 test_spelled (Compared r f g) = formula_spelled f ++ relation_sign r ∷ formula_spelled g
-test_spelled (Same v w) = OfWord v ∷ OfMark mark.Equals ∷ OfWord w ∷ []
-test_spelled (Differ v w) = OfWord v ∷ OfMark mark.Differs ∷ OfWord w ∷ []
+test_spelled (Same t u) = term_spelled t ++ OfMark mark.Equals ∷ term_spelled u
+test_spelled (Differ t u) = term_spelled t ++ OfMark mark.Differs ∷ term_spelled u
 
 abbrev pub IsGuardMember : GuardMember → Type 0
+IsGuardMember Always = Unit {0}
 IsGuardMember (Compared r f g) = IsExpression f × IsExpression g
-IsGuardMember _ = Unit {0}
+IsGuardMember (Same t u) = IsParsedTerm t × IsParsedTerm u
+IsGuardMember (Differ t u) = IsParsedTerm t × IsParsedTerm u
 
 -- the tokens are these members by commas
 abbrev pub AreGuardMembers : List Lexeme → List GuardMember → Type 0

@@ -4,6 +4,8 @@ use Rattle.std.specs.Option.{option_map}
 use Rattle.chr_lex.specs.Tokens.{word}
 use Rattle.chr_grammar.specs.declared.expression.ParsedExpression.{ParsedExpression}
 use Rattle.chr_grammar.specs.declared.expression.ParsedExpression.TheVariants as trees
+use Rattle.chr_grammar.specs.declared.term.TermNode.{TermNode}
+use Rattle.chr_grammar.specs.declared.term.ParsedTerm.{ParsedTerm}
 use Rattle.chr_grammar.specs.declared.phrase.ParsedAtom.{ParsedAtom}
 use Rattle.chr_grammar.specs.declared.guard.GuardMember.{GuardMember}
 use Rattle.chr_grammar.specs.declared.guard.GuardMember.TheVariants as tests
@@ -21,14 +23,20 @@ formula (trees.Variable name) = parsed.Variable name.now
 formula (trees.Group' p inner) = parsed.Group (formula inner)
 formula (trees.Operation' o p a q b) = parsed.Operation o (formula a) (formula b)
 
+abbrev pub node : TermNode → parsed.TermNode
+node n = record { depth = n.depth; word = word n.word }
+
+abbrev pub term : {Z : Type 0} → ParsedTerm Z → parsed.ParsedTerm
+term t = map node t.nodes.items
+
 abbrev pub phrase : {Z : Type 0} → ParsedAtom Z → parsed.ParsedAtom
-phrase p = record { name = p.name.now; args = map word p.args.items }
+phrase p = record { name = p.name.now; args = map term p.args.items }
 
 abbrev pub test : {Z : Type 0} → GuardMember Z → parsed.GuardMember
 test tests.True = parsed.Always
 test (tests.Compared r a b) = parsed.Compared r (formula a) (formula b)
-test (tests.Same s t) = parsed.Same (word s) (word t)
-test (tests.Differ s t) = parsed.Differ (word s) (word t)
+test (tests.Same t u) = parsed.Same (term t) (term u)
+test (tests.Differ t u) = parsed.Differ (term t) (term u)
 
 abbrev pub member : {Z : Type 0} → BodyMember Z → parsed.BodyMember
 member members.True = parsed.Nothing

@@ -2,15 +2,16 @@
 
 ghost use Rattle.std.specs.Prelude.{◌≡◌, ◌≤◌, ◌<◌, length, drop, map, IfOk};
 ghost use Rattle.chr_lex.specs.Reading.{Gives};
-ghost use Rattle.chr_lex.specs.Tokens.{word, lexeme};
-ghost use Rattle.chr_grammar.specs.Views.{test};
+ghost use Rattle.chr_lex.specs.Tokens.{lexeme};
+ghost use Rattle.chr_grammar.specs.Views.{term, test};
 ghost use Rattle.chr_grammar.specs.Parsing.{relation, equality, equal, other_side_at, plain_test_at, compared_at, test_at, tests_of};
 
 use crate::expression::{ParsedExpression, parse_expression};
 use crate::list::{Member, parse_list};
 use crate::sign::is_true;
+use crate::term::{ParsedTerm, parse_term};
 use chr_lex::fault::{ItemError, Kind};
-use chr_lex::{Mark, Token, Word};
+use chr_lex::{Mark, Token};
 use chr_rule::Relation;
 use std::alloc::Allocator;
 
@@ -20,9 +21,9 @@ pub enum GuardMember<'a, A: Allocator> {
     True,
     Compared(Relation, ParsedExpression<'a, A>, ParsedExpression<'a, A>),
     /// `==`
-    Same(Word<'a>, Word<'a>),
+    Same(ParsedTerm<'a, A>, ParsedTerm<'a, A>),
     /// `\==`
-    Differ(Word<'a>, Word<'a>),
+    Differ(ParsedTerm<'a, A>, ParsedTerm<'a, A>),
 }
 
 impl<'a, A: Allocator> Member for GuardMember<'a, A> {
@@ -61,8 +62,12 @@ fn equality(token: Token) -> Option<bool>
     }
 }
 
-fn equal<'a, A: Allocator>(same: bool, left: Word<'a>, right: Word<'a>) -> GuardMember<'a, A>
-    ensures { test result ≡ equal same (word left.entry) (word right.entry) }
+fn equal<'a, A: Allocator>(
+    same: bool,
+    left: ParsedTerm<'a, A>,
+    right: ParsedTerm<'a, A>,
+) -> GuardMember<'a, A>
+    ensures { test result ≡ equal same (term left.entry) (term right.entry) }
 {
     if same {
         GuardMember::Same(left, right)
@@ -93,24 +98,20 @@ fn compared<'a, A: Allocator + Copy>(
 }
 
 /// What is compared with a term by `==` or `\==`.
-fn other_side<'a, A: Allocator>(
+fn other_side<'a, A: Allocator + Copy>(
+    alloc: A,
     same: bool,
-    left: Word<'a>,
+    left: ParsedTerm<'a, A>,
     tokens: &'a [Token<'a>],
 ) -> Result<(GuardMember<'a, A>, &'a [Token<'a>]), ItemError>
-    ensures same { Gives (λ x. (test x.0, map lexeme x.1.now)) result (other_side_at same (word left.entry) (map lexeme tokens.now)) }
+    ensures same { Gives (λ x. (test x.0, map lexeme x.1.now)) result (other_side_at same (term left.entry) (map lexeme tokens.now)) }
     ensures shorter { IfOk result (λ x. length x.1.now < length tokens.now) }
 {
-    match tokens {
-        [first, rest @ ..] => match *first {
-            Token::Word(right) => Ok((equal(same, left, right), rest)),
-            Token::Mark(_) => Err(ItemError::Fault(Kind::Syntax)),
-        },
-        [] => Err(ItemError::Fault(Kind::Syntax)),
-    }
+    let (right, rest) = parse_term(alloc, tokens)?;
+    Ok((equal(same, left, right), rest))
 }
 
-/// The member at the front where no `==` or `\==` stands after its first token.
+/// The member at the front where it isn't a term with `==` or `\==` behind it.
 fn plain_test<'a, A: Allocator + Copy>(
     alloc: A,
     tokens: &'a [Token<'a>],
@@ -132,15 +133,17 @@ pub(crate) fn parse_test<'a, A: Allocator + Copy>(
     ensures same { Gives (λ x. (test x.0, map lexeme x.1.now)) result (test_at (map lexeme tokens.now)) }
     ensures shorter { IfOk result (λ x. length x.1.now < length tokens.now) }
 {
-    match tokens {
-        [first, second, after @ ..] => match equality(*second) {
+    let (left, after) = match parse_term(alloc, tokens) {
+        Ok(side) => side,
+        Err(ItemError::Memory) => return Err(ItemError::Memory),
+        Err(ItemError::Fault(_)) => return plain_test(alloc, tokens),
+    };
+    match after {
+        [sign, behind @ ..] => match equality(*sign) {
             None => plain_test(alloc, tokens),
-            Some(same) => match *first {
-                Token::Word(left) => other_side(same, left, after),
-                Token::Mark(_) => Err(ItemError::Fault(Kind::Syntax)),
-            },
+            Some(same) => other_side(alloc, same, left, behind),
         },
-        _ => plain_test(alloc, tokens),
+        [] => plain_test(alloc, tokens),
     }
 }
 

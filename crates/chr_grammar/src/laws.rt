@@ -4,9 +4,17 @@ ghost use Rattle.std.specs.Prelude.{◌≡◌, ◌++◌, List, Ok, Err};
 ghost use Rattle.chr_lex.specs.declared.fault.Kind.{Kind};
 ghost use Rattle.chr_lex.specs.declared.fault.Kind.TheVariants.{Syntax};
 ghost use Rattle.chr_lex.specs.Tokens.{Lexeme};
-ghost use Rattle.chr_grammar.specs.Parsed.{ParsedExpression, ParsedAtom, GuardMember, BodyMember, Statement};
-ghost use Rattle.chr_grammar.specs.Parsing.{phrases_of, expression_at, tests_of, body_of, statement_of};
-ghost use Rattle.chr_grammar.specs.Spelling.{AreParsedAtoms, AreGuardMembers, AreBodyMembers, formula_spelled, IsExpression, EndsExpression, AreStatement};
+ghost use Rattle.chr_grammar.specs.Parsed.{ParsedTerm, ParsedExpression, ParsedAtom, GuardMember, BodyMember, Statement};
+ghost use Rattle.chr_grammar.specs.Parsing.{term_at, phrases_of, expression_at, tests_of, body_of, statement_of};
+ghost use Rattle.chr_grammar.specs.Spelling.{term_spelled, IsParsedTerm, EndsTerm, AreParsedAtoms, AreGuardMembers, AreBodyMembers, formula_spelled, IsExpression, EndsExpression, AreStatement};
+
+/// What is read as a term at the front is written there so, and what is written so before something else than `(` is read.
+/// Where nothing is written so, the fault is a fault of syntax.
+pub fn terms_by_their_forms()
+    ensures found { (ts rest : List Lexeme) (t : ParsedTerm) → term_at ts ≡ Ok (t, rest) → IsParsedTerm t × (ts ≡ term_spelled t ++ rest) }
+    ensures only { (t : ParsedTerm) (rest : List Lexeme) → IsParsedTerm t → EndsTerm rest → term_at (term_spelled t ++ rest) ≡ Ok (t, rest) }
+    ensures refused { (ts : List Lexeme) (k : Kind) → term_at ts ≡ Err k → (k ≡ Syntax) × ((t : ParsedTerm) (rest : List Lexeme) → IsParsedTerm t → EndsTerm rest → ts ≡ term_spelled t ++ rest → ⊥) }
+{}
 
 /// What is read as atoms by commas is written so, and what is written so is read. Where the tokens are none, the fault is a
 /// fault of syntax.

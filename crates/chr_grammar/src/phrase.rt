@@ -3,12 +3,13 @@
 ghost use Rattle.std.specs.Prelude.{◌≡◌, ◌≤◌, ◌<◌, length, drop, map, IfOk};
 ghost use Rattle.chr_value.specs.Spelling.{is_reserved};
 ghost use Rattle.chr_lex.specs.Reading.{Gives};
-ghost use Rattle.chr_lex.specs.Tokens.{word, lexeme};
-ghost use Rattle.chr_grammar.specs.Views.{phrase};
+ghost use Rattle.chr_lex.specs.Tokens.{lexeme};
+ghost use Rattle.chr_grammar.specs.Views.{term, phrase};
 ghost use Rattle.chr_grammar.specs.Parsing.{terms_at, args_at, phrase_at, phrases_of};
 
 use crate::list::{Member, parse_list};
 use crate::sign::{is_close, is_comma, is_open};
+use crate::term::{ParsedTerm, term_from};
 use chr_lex::fault::{ItemError, Kind};
 use chr_lex::{Token, Word};
 use std::alloc::Allocator;
@@ -17,7 +18,7 @@ use std::alloc::Allocator;
 #[derive(Drop)]
 pub struct ParsedAtom<'a, A: Allocator> {
     pub name: &'a [u8],
-    pub args: Vec<Word<'a>, A>,
+    pub args: Vec<ParsedTerm<'a, A>, A>,
 }
 
 impl<'a, A: Allocator> Member for ParsedAtom<'a, A> {
@@ -41,23 +42,24 @@ fn is_reserved(name: &[u8]) -> bool
 fn terms<'a, A: Allocator + Copy>(
     alloc: A,
     tokens: &'a [Token<'a>],
-) -> Result<(Vec<Word<'a>, A>, &'a [Token<'a>]), ItemError>
-    ensures same { Gives (λ x. (map word x.0.items, map lexeme x.1.now)) result (terms_at (map lexeme tokens.now)) }
+) -> Result<(Vec<ParsedTerm<'a, A>, A>, &'a [Token<'a>]), ItemError>
+    ensures same { Gives (λ x. (map term x.0.items, map lexeme x.1.now)) result (terms_at (map lexeme tokens.now)) }
     ensures shorter { IfOk result (λ x. length x.1.now < length tokens.now) }
 {
     let mut terms = Vec::new(alloc);
-    let mut rest = tokens;
-    while let [first, mark, after @ ..] = rest {
-        match *first {
-            Token::Word(term) => terms.push(term)?,
-            Token::Mark(_) => break,
+    let mut from = 0;
+    for _ in 0..tokens.len() {
+        let (term, next) = term_from(alloc, tokens, from)?;
+        terms.push(term)?;
+        if next == tokens.len() {
+            return Err(ItemError::Fault(Kind::Syntax));
         }
-        if is_comma(*mark) {
-            rest = after;
-        } else if is_close(*mark) {
-            return Ok((terms, after));
-        } else {
-            break;
+        from = next + 1;
+        if is_close(tokens[next]) {
+            return Ok((terms, &tokens[from..]));
+        }
+        if !is_comma(tokens[next]) {
+            return Err(ItemError::Fault(Kind::Syntax));
         }
     }
     Err(ItemError::Fault(Kind::Syntax))

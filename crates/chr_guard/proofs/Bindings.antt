@@ -4,40 +4,40 @@ use Rattle.std.specs.List.{refill}
 use Rattle.std.proofs.Math.Seq.{take-set-lt}
 use Rattle.std.proofs.lemmas.List.{length-map, length-take-le, take_at, map-set}
 use Rattle.std.proofs.lemmas.Bool.Decides.{nat_tests}
-use Rattle.chr_value.specs.Atoms.{Value}
+use Rattle.chr_value.specs.Atoms.{Value, Int, Sym, ground_comp}
 use Rattle.chr_guard.specs.declared.binding.Bound.{Bound}
 use Rattle.chr_guard.specs.declared.binding.Bound.TheVariants as bounds
 use Rattle.chr_guard.specs.Values.{Valuation}
 use Rattle.chr_guard.specs.Bindings.{bound_term, bound_at, AreFreeBehind, Extends, Narrows, NoneUnder, NarrowsIf}
 
 -- the places of the variables say what each is bound to
-pub at_taken : (n : ℕ) (places : List Bound) → ((x : ℕ) → n ≤ x → slice_index_or places x bounds.Free ≡ bounds.Free) → (x : ℕ) → bound_at (take n (map bound_term places)) x ≡ bound_term (slice_index_or places x bounds.Free)
+pub at_taken : {A : Type 0} (n : ℕ) (places : List (Bound A)) → ((x : ℕ) → n ≤ x → slice_index_or places x bounds.Free ≡ bounds.Free) → (x : ℕ) → bound_at (take n (map bound_term places)) x ≡ bound_term (slice_index_or places x bounds.Free)
 at_taken zero places free x = ap bound_term (sym (free x (omega arith)))
 at_taken (suc n) [] free x = refl
 at_taken (suc n) (b ∷ places) free zero = refl
 at_taken (suc n) (b ∷ places) free (suc x) = at_taken n places (λ y le. free (suc y) (omega (arith, le))) x
 
 -- how many variables a binding has
-pub length_binding : (n : ℕ) (places : List Bound) (binding : List (Option (Value ℕ))) → AreFreeBehind n places → take n (map bound_term places) ≡ binding → length binding ≡ n
+pub length_binding : {A : Type 0} (n : ℕ) (places : List (Bound A)) (binding : List (Option (Value ℕ))) → AreFreeBehind n places → take n (map bound_term places) ≡ binding → length binding ≡ n
 length_binding n places binding behind same = sym (ap length same) ∙ length-take-le n (map bound_term places) (omega (arith, behind.full, behind.within, length-map places bound_term))
 
-pub is_place : (n : ℕ) (places : List Bound) (binding : List (Option (Value ℕ))) (x : ℕ) → AreFreeBehind n places → take n (map bound_term places) ≡ binding → x < length binding → x < n
+pub is_place : {A : Type 0} (n : ℕ) (places : List (Bound A)) (binding : List (Option (Value ℕ))) (x : ℕ) → AreFreeBehind n places → take n (map bound_term places) ≡ binding → x < length binding → x < n
 is_place n places binding x behind same lt = omega (arith, lt, length_binding n places binding behind same)
 
 -- where all places are free
-pub taken_free : (n : ℕ) (places : List Bound) → n ≤ length places → ((x : ℕ) → slice_index_or places x bounds.Free ≡ bounds.Free) → take n (map bound_term places) ≡ replicate n None
+pub taken_free : {A : Type 0} (n : ℕ) (places : List (Bound A)) → n ≤ length places → ((x : ℕ) → slice_index_or places x bounds.Free ≡ bounds.Free) → take n (map bound_term places) ≡ replicate n None
 taken_free zero places le free = refl
 taken_free (suc n) [] le free = absurd (omega (arith, le))
 taken_free (suc n) (b ∷ places) le free = ap₂ (λ o os. o ∷ os) (ap bound_term (free zero)) (taken_free n places (omega (arith, le)) (λ x. free (suc x)))
 
-pub all_free : (n : ℕ) (places : List Bound) → ((x : ℕ) → x < n → slice_index_or places x bounds.Free ≡ bounds.Free) → ((x : ℕ) → n ≤ x → slice_index_or places x bounds.Free ≡ bounds.Free) → (x : ℕ) → slice_index_or places x bounds.Free ≡ bounds.Free
+pub all_free : {A : Type 0} (n : ℕ) (places : List (Bound A)) → ((x : ℕ) → x < n → slice_index_or places x bounds.Free ≡ bounds.Free) → ((x : ℕ) → n ≤ x → slice_index_or places x bounds.Free ≡ bounds.Free) → (x : ℕ) → slice_index_or places x bounds.Free ≡ bounds.Free
 all_free zero places before behind x = behind x (omega arith)
 all_free (suc n) [] before behind x = refl
 all_free (suc n) (b ∷ places) before behind zero = before zero (omega arith)
 all_free (suc n) (b ∷ places) before behind (suc x) = all_free n places (λ y lt. before (suc y) (omega (arith, lt))) (λ y le. behind (suc y) (omega (arith, le))) x
 
 -- a write at a variable's place
-pub behind_write : (n : ℕ) (places : List Bound) (x : ℕ) (b : Bound) → AreFreeBehind n places → x < n → AreFreeBehind n (slice_set places x b)
+pub behind_write : {A : Type 0} (n : ℕ) (places : List (Bound A)) (x : ℕ) (b : Bound A) → AreFreeBehind n places → x < n → AreFreeBehind n (slice_set places x b)
 behind_write n places x b behind lt = record {
   full = length-set places x b ∙ behind.full;
   within = behind.within;
@@ -45,10 +45,10 @@ behind_write n places x b behind lt = record {
 }
 
 -- the list after a write through the slice
-pub after_write : (bs slice : List Bound) (x at : ℕ) (b : Bound) → slice ≡ bs → at ≡ x → refill (length bs) bs (slice_set slice at b) ≡ slice_set bs x b
+pub after_write : {A : Type 0} (bs slice : List (Bound A)) (x at : ℕ) (b : Bound A) → slice ≡ bs → at ≡ x → refill (length bs) bs (slice_set slice at b) ≡ slice_set bs x b
 after_write bs slice x at b same there = ap₂ (λ s y. refill (length bs) bs (slice_set s y b)) same there ∙ take_at (slice_set bs x b) _ (length bs) (length-set bs x b)
 
-pub taken_write : (n : ℕ) (places : List Bound) (x : ℕ) (b : Bound) → x < n → take n (map bound_term (slice_set places x b)) ≡ slice_set (take n (map bound_term places)) x (bound_term b)
+pub taken_write : {A : Type 0} (n : ℕ) (places : List (Bound A)) (x : ℕ) (b : Bound A) → x < n → take n (map bound_term (slice_set places x b)) ≡ slice_set (take n (map bound_term places)) x (bound_term b)
 taken_write n places x b lt = ap (take n) (map-set bound_term places x b) ∙ take-set-lt n (map bound_term places) x (bound_term b) lt
 
 -- a binding is the least valuation that extends it
@@ -76,13 +76,12 @@ told_new old x t within free = record {
         ] refl
 
 -- a variable is bound already
-pub told_bound : (told : Bool) (old : List (Option (Value ℕ))) (x : ℕ) (t : Value ℕ) → bound_at old x ≢ None → IsTrue told ↔ (bound_at old x ≡ Some t) → NarrowsIf (λ v. v x ≡ Some t) told old old
-told_bound true old x t ne means = record { places = refl; exactly = λ v. (λ h. (h, h x t (means.0 refl)), λ h. h.0) }
-told_bound false old x t ne means = by_bound (bound_at old x) refl
-  where
-    by_bound : (o : Option (Value ℕ)) → bound_at old x ≡ o → (v : Valuation) → Extends v old → v x ≡ Some t → ⊥
-    by_bound None e v h at = ne e
-    by_bound (Some a) e v h at = let c : false ≡ true = means.1 (e ∙ sym (h x a e) ∙ at) in absurd (cc)
+pub told_bound : {A : Type 0} (told : Bool) (old : List (Option (Value ℕ))) (x : ℕ) (t : Value ℕ) (b : Bound A) → bound_term b ≡ bound_at old x → (b ≡ bounds.Free → ⊥) → IsTrue told ↔ (bound_term b ≡ Some t) → NarrowsIf (λ v. v x ≡ Some t) told old old
+told_bound true old x t b at ne means = record { places = refl; exactly = λ v. (λ h. (h, h x t (sym at ∙ means.0 refl)), λ h. h.0) }
+told_bound false old x t bounds.Free at ne means = absurd (ne refl)
+told_bound false old x t (bounds.Number n) at ne means = λ v h e. let c : false ≡ true = means.1 (sym (h x (Int n) (sym at)) ∙ e) in absurd (cc)
+told_bound false old x t (bounds.Symbol name) at ne means = λ v h e. let c : false ≡ true = means.1 (sym (h x (Sym name.number) (sym at)) ∙ e) in absurd (cc)
+told_bound false old x t (bounds.Compound c) at ne means = λ v h e. let c : false ≡ true = means.1 (sym (h x (ground_comp c.now) (sym at)) ∙ e) in absurd (cc)
 
 -- one variable, or one term, after another
 pub narrows_both : (P Q : Valuation → Type 0) (old mid new : List (Option (Value ℕ))) → Narrows P old mid → Narrows Q mid new → Narrows (λ v. P v × Q v) old new
@@ -106,7 +105,7 @@ pub none_after : (P Q R : Valuation → Type 0) (old mid : List (Option (Value �
 none_after P Q R old mid p n e v h r = let two = e v r in n v ((p.exactly v).1 (h, two.0)) two.1
 
 -- all free
-free_at : (n x : ℕ) → bound_at (replicate n None) x ≡ None
+pub free_at : (n x : ℕ) → bound_at (replicate n None) x ≡ None
 free_at zero x = refl
 free_at (suc n) zero = refl
 free_at (suc n) (suc x) = free_at n x
@@ -115,14 +114,14 @@ pub free_extends : (v : Valuation) (n : ℕ) → Extends v (replicate n None)
 free_extends v n x t at = let c : None ≡ Some t = sym (free_at n x) ∙ at in absurd (cc)
 
 -- a valuation but for one variable
-changed : Valuation → ℕ → Option (Value ℕ) → Valuation
+pub changed : Valuation → ℕ → Option (Value ℕ) → Valuation
 changed v x t y = if y == x then t else v y
 
-changed_same : (v : Valuation) (x : ℕ) (t : Option (Value ℕ)) → changed v x t x ≡ t
+pub changed_same : (v : Valuation) (x : ℕ) (t : Option (Value ℕ)) → changed v x t x ≡ t
 unfolding changed
 changed_same v x t = elim (x == x) as (λ b. (x == x ≡ b) → (if b then t else v x) ≡ t) [ true ↦ λ _. refl | false ↦ λ e. absurd (grind (arith, nat_tests)) ] refl
 
-changed_other : (v : Valuation) (x y : ℕ) (t : Option (Value ℕ)) → y ≢ x → changed v x t y ≡ v y
+pub changed_other : (v : Valuation) (x y : ℕ) (t : Option (Value ℕ)) → y ≢ x → changed v x t y ≡ v y
 unfolding changed
 changed_other v x y t ne = elim (y == x) as (λ b. (y == x ≡ b) → (if b then t else v y) ≡ v y) [ true ↦ λ e. absurd (ne (true-eqb y x (sym e))) | false ↦ λ _. refl ] refl
 

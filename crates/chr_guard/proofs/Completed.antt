@@ -1,19 +1,19 @@
 -- Left sides of `is` bound one after another.
-use Rattle.std.proofs.Common.{◌≡◌, ℕ, suc, ◌+◌, ◌<◌, ◌≤◌, ℤ, List, ◌∷◌, ◌++◌, length, take, drop, get_or, Option, Some, None, IsSome, ◌⊎◌, inl, inr, refl, sym, subst, ap, ◌∙◌, arith}
+use Rattle.std.proofs.Common.{◌≡◌, ℕ, suc, ◌+◌, ◌<◌, ◌≤◌, ℤ, List, [], ◌∷◌, ◌++◌, length, take, drop, get_or, Option, Some, None, IsSome, ◌⊎◌, inl, inr, refl, sym, subst, ap, ◌∙◌, arith}
 use Rattle.std.specs.List.{AllByRecursion}
-use Rattle.std.proofs.lemmas.List.{drop_more, drop_all, take_all}
+use Rattle.std.proofs.lemmas.List.{drop_more, drop_all, take_all, take_more, take-append-drop, append-nil}
 use Rattle.std.proofs.lemmas.Bool.{cases_lt, cases_eq}
-use Rattle.chr_value.specs.Atoms.{Value, Int}
+use Rattle.chr_value.specs.Atoms.{Value, Int, Atom}
 use Rattle.chr_value.proofs.Chosen.{some_is}
-use Rattle.chr_rule.specs.Rules.{Expression, Is, Add, RuleAtom, Simpagation}
+use Rattle.chr_rule.specs.Rules.{Expression, BodyItem, Is, Add, RuleAtom, Simpagation}
 use Rattle.chr_rule.specs.Scope.{known_after_heads, known_after_body, IsRule}
 use Rattle.chr_guard.specs.Values.{Valuation, value_of}
 use Rattle.chr_guard.specs.Bindings.{bound_at, Extends, Narrows, NoneUnder}
-use Rattle.chr_guard.specs.Instances.{IsRight}
-use Rattle.chr_guard.specs.Matching.{IsOfHeads, Completes, IsCompleted}
+use Rattle.chr_guard.specs.Instances.{made_under, AreMadeUnder, IsRight, added}
+use Rattle.chr_guard.specs.Matching.{IsOfHeads, Completes, IsBody, IsCompleted}
 use Rattle.chr_guard.proofs.Scoped.{scoped, is_known, add_known, body_below}
-use Rattle.chr_guard.proofs.Under.{value_grows}
-use Rattle.chr_guard.proofs.Fixed.{Agree, value_agrees}
+use Rattle.chr_guard.proofs.Under.{value_grows, made_grows, made_append, none_made, added_append}
+use Rattle.chr_guard.proofs.Fixed.{Agree, value_agrees, made_agrees}
 use Rattle.chr_guard.proofs.Bindings.{narrows_nothing, extends_itself, others_stay, bound_settled, stays_bound}
 use Rattle.chr_guard.proofs.Steps.{all_more, all_at}
 
@@ -28,6 +28,18 @@ pub record Completing (rule : Simpagation ℕ) (i : ℕ) (old new : List (Option
   pub heads : (x : ℕ) → x < first → bound_at new x ≡ bound_at old x
   pub places : rule.variables ≤ length new
   pub narrows : Narrows (λ v. AllByRecursion (IsRight v) (take i rule.body)) old new
+  pub made : List (Atom ℕ)
+  pub made_is : AreMadeUnder (bound_at new) (added (take i rule.body)) made
+
+-- the constraints among the first members, with one member more
+added_next : (ms : List (BodyItem ℕ)) (i : ℕ) (m : BodyItem ℕ) → i < length ms → m ≡ get_or ms i m → added (take (i + 1) ms) ≡ added (take i ms) ++ added (m ∷ [])
+added_next ms i m h is = ap added (take_more ms i m h ∙ ap (λ y. take i ms ++ y ∷ []) (sym is)) ∙ added_append (take i ms) (m ∷ [])
+
+-- a constraint of the body is among those added
+added_there : (ms : List (BodyItem ℕ)) (i : ℕ) (s : RuleAtom ℕ) → i < length ms → Add s ≡ get_or ms i (Add s) → added ms ≡ added (take i ms) ++ (s ∷ added (drop (i + 1) ms))
+added_there ms i s h is =
+    ap added (sym (take-append-drop i ms) ∙ ap (λ l. take i ms ++ l) (drop_more ms i (Add s) h ∙ ap (λ y. y ∷ drop (i + 1) ms) (sym is)))
+    ∙ added_append (take i ms) (Add s ∷ drop (i + 1) ms)
 
 pub completing_start : (rule : Simpagation ℕ) (old : List (Option (Value ℕ))) → IsRule rule → rule.variables ≤ length old → Completing rule 0 old old
 completing_start rule old r len =
@@ -42,7 +54,17 @@ completing_start rule old r len =
       heads = λ x h. refl;
       places = len;
       narrows = narrows_nothing (λ v. AllByRecursion (IsRight v) (take 0 rule.body)) old (λ v. tt);
+      made = [];
+      made_is = refl;
     }
+
+-- what completes the old binding agrees with the new one on the variables known by then
+agrees : (rule : Simpagation ℕ) (i : ℕ) (old mid : List (Option (Value ℕ))) (done : Completing rule i old mid) (v : Valuation) → Completes rule old v → Extends v mid → Agree v (bound_at mid) done.known
+agrees rule i old mid done v c h y l = by_place (cases_lt y done.first)
+  where
+    by_place : (y < done.first) ⊎ (done.first ≤ y) → v y ≡ bound_at mid y
+    by_place (inl below) = c.heads y (done.first, done.of_heads, below) ∙ sym (done.heads y below)
+    by_place (inr from) = bound_settled mid y v (done.bound y from l) h
 
 module _ (rule : Simpagation ℕ) (i x : ℕ) (e : Expression) (old mid : List (Option (Value ℕ))) (within : i < length rule.body) (there : Is x e ≡ get_or rule.body i (Is x e)) (done : Completing rule i old mid) where
   next : drop i rule.body ≡ Is x e ∷ drop (i + 1) rule.body
@@ -57,22 +79,17 @@ module _ (rule : Simpagation ℕ) (i x : ℕ) (e : Expression) (old mid : List (
   parts : (v : Valuation) → Completes rule old v → Extends v mid × IsRight v (Is x e)
   parts v c = let two = all_at (IsRight v) rule.body i (Is x e) within there c.right in ((done.narrows.exactly v).1 (c.extends, two.0), two.1)
 
-  agree : (v : Valuation) → Completes rule old v → Extends v mid → Agree v (bound_at mid) done.known
-  agree v c h y l = by_place (cases_lt y done.first)
-    where
-      by_place : (y < done.first) ⊎ (done.first ≤ y) → v y ≡ bound_at mid y
-      by_place (inl below) = c.heads y (done.first, done.of_heads, below) ∙ sym (done.heads y below)
-      by_place (inr from) = bound_settled mid y v (done.bound y from l) h
-
-  pub is_valueless : value_of (bound_at mid) e ≡ None → (v : Valuation) → Completes rule old v → ⊥
-  is_valueless none v c =
-      let p = parts v c in
+  pub is_valueless : value_of (bound_at mid) e ≡ None → (made : List (Atom ℕ)) → IsBody rule old made → ⊥
+  is_valueless none made b =
+      let v = b.valuation in
+      let p = parts v b.completes in
       is_known done.known rule.variables x e (drop (i + 1) rule.body) turn
-      (λ _ k _. let z : None ≡ Some p.1.0 = sym none ∙ sym (value_agrees v (bound_at mid) done.known e (agree v c p.0) k) ∙ p.1.1 in absurd (cc))
+      (λ _ k _. let z : None ≡ Some p.1.0 = sym none ∙ sym (value_agrees v (bound_at mid) done.known e (agrees rule i old mid done v b.completes p.0) k) ∙ p.1.1 in absurd (cc))
 
-  pub is_otherwise : (n : ℤ) → value_of (bound_at mid) e ≡ Some n → NoneUnder (λ v. v x ≡ Some (Int n)) mid → (v : Valuation) → Completes rule old v → ⊥
-  is_otherwise n val none v c =
-      let p = parts v c in
+  pub is_otherwise : (n : ℤ) → value_of (bound_at mid) e ≡ Some n → NoneUnder (λ v. v x ≡ Some (Int n)) mid → (made : List (Atom ℕ)) → IsBody rule old made → ⊥
+  is_otherwise n val none made b =
+      let v = b.valuation in
+      let p = parts v b.completes in
       let same : n ≡ p.1.0 = some_is n p.1.0 (sym (value_grows (bound_at mid) v p.0 e n val) ∙ p.1.1) in
       none v p.0 (p.1.2 ∙ ap (λ z. Some (Int z)) (sym same))
 
@@ -111,42 +128,55 @@ module _ (rule : Simpagation ℕ) (i x : ℕ) (e : Expression) (old mid : List (
                 (m.exactly v).1 (p, two.1.2 ∙ ap (λ z. Some (Int z)) (sym number)),
           );
         };
+        made = done.made;
+        made_is = subst (λ ss. AreMadeUnder (bound_at new) ss done.made) (sym (added_next rule.body i (Is x e) within there ∙ append-nil (added (take i rule.body))))
+            (made_grows (bound_at mid) (bound_at new) ((m.exactly (bound_at new)).0 (extends_itself new)).0 (added (take i rule.body)) done.made done.made_is);
       })
     where
       n' : Value ℕ
       n' = Int n
 
-pub add_more : (rule : Simpagation ℕ) (i : ℕ) (s : RuleAtom ℕ) (old mid : List (Option (Value ℕ))) → i < length rule.body → Add s ≡ get_or rule.body i (Add s) → Completing rule i old mid → Completing rule (i + 1) old mid
-add_more rule i s old mid within there done =
-    let next : drop i rule.body ≡ Add s ∷ drop (i + 1) rule.body = drop_more rule.body i (Add s) within ∙ ap (λ m. m ∷ drop (i + 1) rule.body) (sym there) in
-    add_known done.known rule.variables s (drop (i + 1) rule.body) (subst (λ ms. known_after_body done.known ms ≡ Some rule.variables) next done.rest) (λ _ later. record {
-      first = done.first;
-      of_heads = done.of_heads;
-      known = done.known;
-      later = done.later;
-      rest = later;
-      bound = done.bound;
-      heads = done.heads;
-      places = done.places;
-      narrows = record {
-        places = done.narrows.places;
-        exactly = λ v. (
-          λ h. let o = (done.narrows.exactly v).0 h in (o.0, (all_more (IsRight v) rule.body i (Add s) within there).1 (o.1, tt)),
-          λ h. (done.narrows.exactly v).1 (h.0, ((all_more (IsRight v) rule.body i (Add s) within there).0 h.1).0),
-        );
-      };
-    })
+module _ (rule : Simpagation ℕ) (i : ℕ) (s : RuleAtom ℕ) (old mid : List (Option (Value ℕ))) (within : i < length rule.body) (there : Add s ≡ get_or rule.body i (Add s)) (done : Completing rule i old mid) where
+  add_turn : known_after_body done.known (Add s ∷ drop (i + 1) rule.body) ≡ Some rule.variables
+  add_turn = subst (λ ms. known_after_body done.known ms ≡ Some rule.variables) (drop_more rule.body i (Add s) within ∙ ap (λ m. m ∷ drop (i + 1) rule.body) (sym there)) done.rest
+
+  pub add_valueless : made_under (bound_at mid) s ≡ None → (made : List (Atom ℕ)) → IsBody rule old made → ⊥
+  add_valueless none made b =
+      let v = b.valuation in
+      let right = all_at (IsRight v) rule.body i (Add s) within there b.completes.right in
+      let extends = (done.narrows.exactly v).1 (b.completes.extends, right.0) in
+      add_known done.known rule.variables s (drop (i + 1) rule.body) add_turn
+      (λ k _. none_made v (added (take i rule.body)) (added (drop (i + 1) rule.body)) s made
+      (made_agrees v (bound_at mid) done.known s (agrees rule i old mid done v b.completes extends) k ∙ none)
+      (subst (λ ss. AreMadeUnder v ss made) (added_there rule.body i s within there) b.body_is))
+
+  pub add_more : (a : Atom ℕ) → made_under (bound_at mid) s ≡ Some a → Completing rule (i + 1) old mid
+  add_more a is =
+      add_known done.known rule.variables s (drop (i + 1) rule.body) add_turn (λ _ later. record {
+        first = done.first;
+        of_heads = done.of_heads;
+        known = done.known;
+        later = done.later;
+        rest = later;
+        bound = done.bound;
+        heads = done.heads;
+        places = done.places;
+        narrows = record {
+          places = done.narrows.places;
+          exactly = λ v. (
+            λ h. let o = (done.narrows.exactly v).0 h in (o.0, (all_more (IsRight v) rule.body i (Add s) within there).1 (o.1, tt)),
+            λ h. (done.narrows.exactly v).1 (h.0, ((all_more (IsRight v) rule.body i (Add s) within there).0 h.1).0),
+          );
+        };
+        made = done.made ++ a ∷ [];
+        made_is = subst (λ ss. AreMadeUnder (bound_at mid) ss (done.made ++ a ∷ [])) (sym (added_next rule.body i (Add s) within there))
+            (made_append (bound_at mid) (added (take i rule.body)) (s ∷ []) done.made (a ∷ []) done.made_is (ap (λ o. o ∷ []) is));
+      })
 
 pub completing_end : (rule : Simpagation ℕ) (i : ℕ) (old new : List (Option (Value ℕ))) → length rule.body ≤ i → Completing rule i old new → IsCompleted rule old new
 completing_end rule i old new past done = record {
   narrows = subst (λ ms. Narrows (λ v. AllByRecursion (IsRight v) ms) old new) (take_all i rule.body past) done.narrows;
   heads = λ x h. done.heads x (subst (λ n. x < n) (some_is h.0 done.first (sym h.1 ∙ done.of_heads)) h.2);
-  others = λ x h. by_place x h (cases_lt x done.first);
+  body = done.made;
+  body_is = subst (λ ms. AreMadeUnder (bound_at new) (added ms) done.made) (take_all i rule.body past) done.made_is;
 }
-  where
-    all_known : done.known ≡ rule.variables
-    all_known = some_is done.known rule.variables (sym (ap (known_after_body done.known) (drop_all i rule.body past)) ∙ done.rest)
-
-    by_place : (x : ℕ) → x < rule.variables → (x < done.first) ⊎ (done.first ≤ x) → IsOfHeads rule x ⊎ IsSome (bound_at new x)
-    by_place x h (inl below) = inl (done.first, done.of_heads, below)
-    by_place x h (inr from) = inr (done.bound x from (subst (λ n. x < n) (sym all_known) h))

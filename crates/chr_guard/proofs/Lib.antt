@@ -1,9 +1,15 @@
 pub mod Scoped
 pub mod Under
-mod Weights
+pub mod Weights
+pub mod Opened
+pub mod Counted
+pub mod Compared
+pub mod Plains
+pub mod Made
 pub mod Fixed
 pub mod Bindings
 pub mod Steps
 pub mod Matched
 pub mod Completed
 pub mod Whole
+pub mod Again

@@ -22,15 +22,11 @@ pub told_as : (P Q : Valuation → Type 0) (told : Bool) (old new : List (Option
 told_as P Q true old new e n = narrows_as P Q old new e n
 told_as P Q false old new e n = λ v h q. n v h ((e v).1 q)
 
-pub told_given : (told : Bool) (old : List (Option (Value ℕ))) (a t : Value ℕ) → IsTrue told ↔ (a ≡ t) → NarrowsIf (λ v. Some a ≡ Some t) told old old
-told_given true old a t means = narrows_nothing (λ v. Some a ≡ Some t) old (λ v. ap (λ x. Some x) (means.0 refl))
-told_given false old a t means = λ v h e. let c : false ≡ true = means.1 (some_is a t e) in absurd (cc)
-
 -- the arguments of a head and of an atom of that name
-pub told_head : (told : Bool) (s : RuleAtom ℕ) (a : Atom ℕ) (vs : List (Value ℕ)) (old new : List (Option (Value ℕ))) → s.name ≡ a.name → vs ≡ a.args → NarrowsIf (λ v. map (term_under v) s.args ≡ map (λ t. Some t) vs) told old new → NarrowsIf (λ v. atom_under v s ≡ Some a) told old new
-told_head told s a vs old new name values n =
-    told_as (λ v. map (term_under v) s.args ≡ map (λ t. Some t) vs) (λ v. atom_under v s ≡ Some a) told old new
-    (λ v. (λ h. (atom_is v s a).1 (name, h ∙ ap (map (λ t. Some t)) values), λ h. ((atom_is v s a).0 h).1 ∙ ap (map (λ t. Some t)) (sym values))) n
+pub told_head : (told : Bool) (s : RuleAtom ℕ) (a : Atom ℕ) (old new : List (Option (Value ℕ))) → s.name ≡ a.name → NarrowsIf (λ v. map (term_under v) s.args ≡ map (λ t. Some t) a.args) told old new → NarrowsIf (λ v. atom_under v s ≡ Some a) told old new
+told_head told s a old new name n =
+    told_as (λ v. map (term_under v) s.args ≡ map (λ t. Some t) a.args) (λ v. atom_under v s ≡ Some a) told old new
+    (λ v. (λ h. (atom_is v s a).1 (name, h), λ h. ((atom_is v s a).0 h).1)) n
 
 pub other_name : (s : RuleAtom ℕ) (a : Atom ℕ) (old : List (Option (Value ℕ))) → s.name ≢ a.name → NoneUnder (λ v. atom_under v s ≡ Some a) old
 other_name s a old ne v h e = ne ((atom_is v s a).0 e).0

@@ -4,8 +4,8 @@ use Rattle.std.specs.List.{AllByRecursion, list_all}
 use Rattle.std.proofs.lemmas.Bool.{and_parts}
 use Rattle.std.proofs.lemmas.Bool.Decides.{nat_tests}
 use Rattle.chr_value.proofs.Chosen.{some_is}
-use Rattle.chr_rule.specs.Rules.{Term, Var, Given, RuleAtom, Expression, BodyItem, Is, Add, Simpagation}
-use Rattle.chr_rule.specs.Scope.{known_after_args, known_after_heads, known_after_body, known_then, argument_known, expression_known, test_known, IsRule}
+use Rattle.chr_rule.specs.Rules.{Term, Var, Given, Open, Terms, End, And, RuleAtom, Expression, BodyItem, Is, Add, Simpagation}
+use Rattle.chr_rule.specs.Scope.{known_after_variable, known_after_term, known_after_terms, known_after_args, known_after_heads, known_after_body, known_then, argument_known, arguments_known, expression_known, test_known, IsRule}
 
 pub all_true : (a b : Bool) → a ≡ true → b ≡ true → a && b ≡ true
 all_true a b e f = cc
@@ -19,12 +19,19 @@ then_known (Some k) f m e g = g k refl e
 then_known None f m e g = let z : None ≡ Some m = e in absurd (cc)
 
 -- a variable in a head is known already, or it is the next one
-pub var_known : {P : Type 0} (n m x : ℕ) (args : List (Term ℕ)) → known_after_args n (Var x ∷ args) ≡ Some m → (x < n → known_after_args n args ≡ Some m → P) → (x ≡ n → known_after_args (suc n) args ≡ Some m → P) → P
-var_known {P} n m x args k old new =
-    elim (nat_lt x n) as (λ b. (nat_lt x n ≡ b) → (if b then known_after_args n args else (if x == n then known_after_args (suc n) args else None)) ≡ Some m → P) [
-      | true ↦ λ t j. old (grind (arith, nat_tests)) j
-      | false ↦ λ _ j. if_known (x == n) (known_after_args (suc n) args) m j (λ t i. new (true-eqb x n (sym t)) i)
+pub variable_known : {P : Type 0} (n m x : ℕ) → known_after_variable n x ≡ Some m → (x < n → n ≡ m → P) → (x ≡ n → suc n ≡ m → P) → P
+variable_known {P} n m x k old new =
+    elim (nat_lt x n) as (λ b. (nat_lt x n ≡ b) → (if b then Some n else (if x == n then Some (suc n) else None)) ≡ Some m → P) [
+      | true ↦ λ t j. old (grind (arith, nat_tests)) (some_is n m j)
+      | false ↦ λ _ j. if_known (x == n) (Some (suc n)) m j (λ t i. new (true-eqb x n (sym t)) (some_is (suc n) m i))
     ] refl k
+
+-- a term before others
+pub and_known : {P : Type 0} (n m : ℕ) (t : Term ℕ) (ts : Terms ℕ) → known_after_terms n (And t ts) ≡ Some m → ((k : ℕ) → known_after_term n t ≡ Some k → known_after_terms k ts ≡ Some m → P) → P
+and_known n m t ts k f = then_known (known_after_term n t) (λ z. known_after_terms z ts) m k f
+
+pub arg_known : {P : Type 0} (n m : ℕ) (t : Term ℕ) (ts : List (Term ℕ)) → known_after_args n (t ∷ ts) ≡ Some m → ((k : ℕ) → known_after_term n t ≡ Some k → known_after_args k ts ≡ Some m → P) → P
+arg_known n m t ts k f = then_known (known_after_term n t) (λ z. known_after_args z ts) m k f
 
 pub head_known : {P : Type 0} (n m : ℕ) (h : RuleAtom ℕ) (hs : List (RuleAtom ℕ)) → known_after_heads n (h ∷ hs) ≡ Some m → ((k : ℕ) → known_after_args n h.args ≡ Some k → known_after_heads k hs ≡ Some m → P) → P
 head_known n m h hs k f = then_known (known_after_args n h.args) (λ z. known_after_heads z hs) m k f
@@ -49,9 +56,20 @@ scoped rule r =
     (λ n k j. if_known (list_all (test_known n) rule.guard) (known_after_body n rule.body) rule.variables j (λ g b. record { count = n; heads = k; guard = g; body = b }))
 
 -- what is known stays known
-pub argument_later : (n m : ℕ) (a : Term ℕ) → n ≤ m → argument_known n a ≡ true → argument_known m a ≡ true
-argument_later n m (Var x) h k = grind (arith, nat_tests)
-argument_later n m (Given t) h k = refl
+lt_later : (n m x : ℕ) → n ≤ m → nat_lt x n ≡ true → nat_lt x m ≡ true
+lt_later n m x h k = grind (arith, nat_tests)
+
+mutual
+  pub argument_later : (n m : ℕ) (t : Term ℕ) → n ≤ m → argument_known n t ≡ true → argument_known m t ≡ true
+  argument_later n m (Var x) h k = lt_later n m x h k
+  argument_later n m (Given v) h k = refl
+  argument_later n m (Open s ts) h k = arguments_later n m ts h k
+
+  arguments_later : (n m : ℕ) (ts : Terms ℕ) → n ≤ m → arguments_known n ts ≡ true → arguments_known m ts ≡ true
+  arguments_later n m End h k = refl
+  arguments_later n m (And t ts) h k =
+      let two = and_parts (argument_known n t) (arguments_known n ts) k in
+      all_true (argument_known m t) (arguments_known m ts) (argument_later n m t h two.0) (arguments_later n m ts h two.1)
 
 pub args_later : (n m : ℕ) (args : List (Term ℕ)) → n ≤ m → list_all (argument_known n) args ≡ true → list_all (argument_known m) args ≡ true
 args_later n m [] h k = refl
@@ -59,14 +77,38 @@ args_later n m (a ∷ args) h k =
     let two = and_parts (argument_known n a) (list_all (argument_known n) args) k in
     all_true (argument_known m a) (list_all (argument_known m) args) (argument_later n m a h two.0) (args_later n m args h two.1)
 
--- the arguments of a head are known after it
+-- a term of a head is known after it
+lt_old : (n m x : ℕ) → x < n → n ≡ m → (n ≤ m) × (nat_lt x m ≡ true)
+lt_old n m x h e = (omega arith, grind (arith, nat_tests))
+
+lt_new : (n m x : ℕ) → x ≡ n → suc n ≡ m → (n ≤ m) × (nat_lt x m ≡ true)
+lt_new n m x h e = (omega arith, grind (arith, nat_tests))
+
+mutual
+  term_below : (n m : ℕ) (t : Term ℕ) → known_after_term n t ≡ Some m → (n ≤ m) × (argument_known m t ≡ true)
+  term_below n m (Var x) k = variable_known n m x k (λ h e. lt_old n m x h e) (λ h e. lt_new n m x h e)
+  term_below n m (Given v) k = let e : n ≡ m = some_is n m k in (omega arith, refl)
+  term_below n m (Open s ts) k = terms_below n m ts k
+
+  terms_below : (n m : ℕ) (ts : Terms ℕ) → known_after_terms n ts ≡ Some m → (n ≤ m) × (arguments_known m ts ≡ true)
+  terms_below n m End k = let e : n ≡ m = some_is n m k in (omega arith, refl)
+  terms_below n m (And t ts) k =
+      and_known n m t ts k (λ z i j.
+      let one = term_below n z t i in
+      let rest = terms_below z m ts j in
+      let le : n ≤ z = one.0 in
+      let there : z ≤ m = rest.0 in
+      (omega arith, all_true (argument_known m t) (arguments_known m ts) (argument_later z m t there one.1) rest.1))
+
 pub args_below : (n m : ℕ) (args : List (Term ℕ)) → known_after_args n args ≡ Some m → (n ≤ m) × (list_all (argument_known m) args ≡ true)
-args_below n m [] k = let e : n ≡ m = cc in (omega arith, refl)
-args_below n m (Given t ∷ args) k = args_below n m args k
-args_below n m (Var x ∷ args) k =
-    var_known n m x args k
-    (λ h j. let rest = args_below n m args j in (rest.0, all_true (nat_lt x m) _ (let le : n ≤ m = rest.0 in grind (arith, nat_tests)) rest.1))
-    (λ e j. let rest = args_below (suc n) m args j in let le : suc n ≤ m = rest.0 in (omega arith, all_true (nat_lt x m) _ (grind (arith, nat_tests)) rest.1))
+args_below n m [] k = let e : n ≡ m = some_is n m k in (omega arith, refl)
+args_below n m (t ∷ args) k =
+    arg_known n m t args k (λ z i j.
+    let one = term_below n z t i in
+    let rest = args_below z m args j in
+    let le : n ≤ z = one.0 in
+    let there : z ≤ m = rest.0 in
+    (omega arith, all_true (argument_known m t) (list_all (argument_known m) args) (argument_later z m t there one.1) rest.1))
 
 -- the variables of each head are known after all of them
 abbrev pub IsPlaced : ℕ → RuleAtom ℕ → Type 0

@@ -86,9 +86,6 @@ same_end f xs ys i old mid h k p =
     narrows_as (SoFar f xs ys i) (Same f xs ys) old mid
     (λ v. (λ s. ap (map (f v)) (sym (take_all i xs h)) ∙ s ∙ take_all i ys k, λ s. ap (map (f v)) (take_all i xs h) ∙ s ∙ sym (take_all i ys k))) p
 
-pub same_never : {X Y : Type 0} (f : Valuation → X → Y) (xs : List X) (ys : List Y) (old : List (Option (Value ℕ))) → length xs ≢ length ys → NoneUnder (Same f xs ys) old
-same_never f xs ys old ne v h s = ne (sym (length-map xs (f v)) ∙ ap length s)
-
 -- The same with the elements as they are read: a and b are the elements at i of lists that g and h translate.
 pub map_read : {A B : Type 0} (f : A → B) (xs : List A) (i : ℕ) (x : A) → i < length xs → x ≡ get_or xs i x → f x ≡ get_or (map f xs) i (f x)
 map_read f xs i x h e = ap f e ∙ sym (get_or-map f xs i x (f x) h)
@@ -104,6 +101,20 @@ module _ {A B X Y : Type 0} (f : Valuation → X → Y) (g : A → X) (h : B →
   pub read_stop : (old mid : List (Option (Value ℕ))) → Narrows (SoFar f (map g as') (map h bs) i) old mid → NoneUnder (λ v. f v (g a) ≡ h b) mid → NoneUnder (Same f (map g as') (map h bs)) old
   read_stop old mid p n =
       same_stop f (map g as') (map h bs) i (g a) (h b) old mid (rw length-map left) (rw length-map right) (map_read g as' i a left ea) (map_read h bs i b right eb) p n
+
+  -- under one valuation
+  pub read_next : (v : Valuation) → SoFar f (map g as') (map h bs) i v → f v (g a) ≡ h b → SoFar f (map g as') (map h bs) (i + 1) v
+  read_next v p q =
+      (same_places f (map g as') (map h bs) i (g a) (h b) (rw length-map left) (rw length-map right) (map_read g as' i a left ea) (map_read h bs i b right eb) v).0 (p, q)
+
+  pub read_at : (v : Valuation) → Same f (map g as') (map h bs) v → f v (g a) ≡ h b
+  read_at v s = (same_all f (map g as') (map h bs) i (g a) (h b) (rw length-map left) (rw length-map right) (map_read g as' i a left ea) (map_read h bs i b right eb) v s).1
+
+pub read_whole : {A B X Y : Type 0} (f : Valuation → X → Y) (g : A → X) (h : B → Y) (as' : List A) (bs : List B) (i : ℕ) (v : Valuation) → length as' ≤ i → length bs ≤ i → SoFar f (map g as') (map h bs) i v → Same f (map g as') (map h bs) v
+read_whole f g h as' bs i v l r s = ap (map (f v)) (sym (take_all i (map g as') (rw length-map l))) ∙ s ∙ take_all i (map h bs) (rw length-map r)
+
+pub read_count : {A B X Y : Type 0} (f : Valuation → X → Y) (g : A → X) (h : B → Y) (as' : List A) (bs : List B) (v : Valuation) → Same f (map g as') (map h bs) v → length as' ≡ length bs
+read_count f g h as' bs v s = sym (length-map as' g) ∙ sym (length-map (map g as') (f v)) ∙ ap length s ∙ length-map bs h
 
 pub read_end : {A B X Y : Type 0} (f : Valuation → X → Y) (g : A → X) (h : B → Y) (as' : List A) (bs : List B) (i : ℕ) (old mid : List (Option (Value ℕ))) → length as' ≤ i → length bs ≤ i → Narrows (SoFar f (map g as') (map h bs) i) old mid → Narrows (Same f (map g as') (map h bs)) old mid
 read_end f g h as' bs i old mid l r p = same_end f (map g as') (map h bs) i old mid (rw length-map l) (rw length-map r) p

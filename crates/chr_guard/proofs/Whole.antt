@@ -1,6 +1,6 @@
 -- Heads that fit, a guard that holds and a completed body are an instance, and nothing else is.
 use Rattle.std.proofs.Common.{◌≡◌, ℕ, ◌+◌, ◌<◌, Bool, true, false, List, [], ◌∷◌, ◌++◌, length, take, drop, map, get_or, Option, Some, None, IsSome, ◌⊎◌, inl, inr, refl, sym, subst, ap, ◌∙◌, arith}
-use Rattle.std.specs.Prelude.{MatchOption}
+use Rattle.std.specs.Prelude.{MatchOption, Result, Ok, Err, IfOk}
 use Rattle.std.specs.List.{AllByRecursion}
 use Rattle.std.proofs.lemmas.List.{map_more, length-map, take-append-drop, drop_more, map-append}
 use Rattle.chr_value.specs.Atoms.{Value, Atom}
@@ -8,10 +8,10 @@ use Rattle.chr_rule.specs.Rules.{RuleAtom, BodyItem, Is, Add, Simpagation}
 use Rattle.chr_rule.specs.Scope.{IsRule}
 use Rattle.chr_guard.specs.Values.{Valuation, Holds}
 use Rattle.chr_guard.specs.Bindings.{bound_at, Extends}
-use Rattle.chr_guard.specs.Instances.{atom_under, AreUnder, added, IsInstance, NoInstance}
+use Rattle.chr_guard.specs.Instances.{atom_under, made_under, AreUnder, AreMadeUnder, added, IsInstance, NoInstance}
 use Rattle.chr_guard.specs.Matching.{HeadsAre, IsFit, IsOfHeads, Completes, IsBody, IsCompleted, CompletedIf, IsInstanceIf, IsInstanceUnder}
 use Rattle.chr_guard.proofs.Scoped.{scoped}
-use Rattle.chr_guard.proofs.Under.{somes, under_append, under_parts, none_under, body_made}
+use Rattle.chr_guard.proofs.Under.{somes, under_append, under_parts, made_append, none_made, added_append}
 use Rattle.chr_guard.proofs.Fixed.{Agree, heads_agree, guard_agrees, added_agrees}
 use Rattle.chr_guard.proofs.Bindings.{extends_itself, bound_settled}
 use Rattle.chr_guard.proofs.Matched.{fit_binds}
@@ -25,7 +25,7 @@ agree_on_heads rule r facts binding f v w ev ew =
     heads_agree v w 0 (scoped rule r).count (rule.kept ++ rule.removed) facts (scoped rule r).heads ((f.exactly v).0 ev) ((f.exactly w).0 ew) (λ x h. absurd (omega arith))
 
 -- the heads fit, the guard holds and the body is completed
-is_instance : (rule : Simpagation ℕ) → IsRule rule → (facts made : List (Atom ℕ)) (binding new : List (Option (Value ℕ))) → IsFit rule (HeadsAre rule facts) binding → AllByRecursion (Holds (bound_at binding)) rule.guard → IsCompleted rule binding new → AreUnder (bound_at new) (added rule.body) made → IsInstance rule facts made
+is_instance : (rule : Simpagation ℕ) → IsRule rule → (facts made : List (Atom ℕ)) (binding new : List (Option (Value ℕ))) → IsFit rule (HeadsAre rule facts) binding → AllByRecursion (Holds (bound_at binding)) rule.guard → IsCompleted rule binding new → AreMadeUnder (bound_at new) (added rule.body) made → IsInstance rule facts made
 is_instance rule r facts made binding new f guard done is =
     let v = bound_at new in
     let both = (done.narrows.exactly v).0 (extends_itself new) in
@@ -44,16 +44,8 @@ is_instance rule r facts made binding new f guard done is =
       body_is = is;
     }
 
-all_bound : (rule : Simpagation ℕ) (facts : List (Atom ℕ)) (binding new : List (Option (Value ℕ))) → IsFit rule (HeadsAre rule facts) binding → IsCompleted rule binding new → (x : ℕ) → x < rule.variables → IsSome (bound_at new x)
-all_bound rule facts binding new f done x h = by_place (done.others x h)
-  where
-    by_place : IsOfHeads rule x ⊎ IsSome (bound_at new x) → IsSome (bound_at new x)
-    by_place (inl head) = subst (λ o. IsSome o) (sym (done.heads x head)) (fit_binds rule facts binding f x head)
-    by_place (inr some) = some
-
 is_instance_under : (rule : Simpagation ℕ) → IsRule rule → (facts : List (Atom ℕ)) (binding new : List (Option (Value ℕ))) → IsFit rule (HeadsAre rule facts) binding → AllByRecursion (Holds (bound_at binding)) rule.guard → IsCompleted rule binding new → IsInstanceUnder rule facts new
 is_instance_under rule r facts binding new f guard done =
-    let made = body_made (bound_at new) (scoped rule r).count rule.variables rule.body (scoped rule r).body (all_bound rule facts binding new f done) in
     record {
       fit = record {
         places = done.narrows.places ∙ f.places;
@@ -62,9 +54,9 @@ is_instance_under rule r facts binding new f guard done =
           λ h. (done.narrows.exactly v).1 ((f.exactly v).1 h.0, h.1),
         );
       };
-      body = made.0;
-      instance = is_instance rule r facts made.0 binding new f guard done made.1;
-      body_is = made.1;
+      body = done.body;
+      instance = is_instance rule r facts done.body binding new f guard done done.body_is;
+      body_is = done.body_is;
     }
 
 pub no_fit : (rule : Simpagation ℕ) (facts : List (Atom ℕ)) → ((v : Valuation) → HeadsAre rule facts v → ⊥) → NoInstance rule facts
@@ -75,20 +67,24 @@ no_guard rule r facts binding f none body i =
     let e = (f.exactly i.valuation).1 (heads_of rule facts body i) in
     none (guard_agrees i.valuation (bound_at binding) (scoped rule r).count rule.guard (agree_on_heads rule r facts binding f i.valuation (bound_at binding) e (extends_itself binding)) (scoped rule r).guard i.guard)
 
-no_right : (rule : Simpagation ℕ) (facts : List (Atom ℕ)) (binding : List (Option (Value ℕ))) → IsFit rule (HeadsAre rule facts) binding → ((v : Valuation) → Completes rule binding v → ⊥) → NoInstance rule facts
+no_right : (rule : Simpagation ℕ) (facts : List (Atom ℕ)) (binding : List (Option (Value ℕ))) → IsFit rule (HeadsAre rule facts) binding → ((body : List (Atom ℕ)) → IsBody rule binding body → ⊥) → NoInstance rule facts
 no_right rule facts binding f none body i =
     let e = (f.exactly i.valuation).1 (heads_of rule facts body i) in
-    none i.valuation (record { extends = e; heads = λ x h. bound_settled binding x i.valuation (fit_binds rule facts binding f x h) e; right = i.right })
+    none body (record {
+      valuation = i.valuation;
+      completes = record { extends = e; heads = λ x h. bound_settled binding x i.valuation (fit_binds rule facts binding f x h) e; right = i.right };
+      body_is = i.body_is;
+    })
 
 pub becomes_if : (rule : Simpagation ℕ) → IsRule rule → (facts : List (Atom ℕ)) (done : Bool) (binding new : List (Option (Value ℕ))) → IsFit rule (HeadsAre rule facts) binding → AllByRecursion (Holds (bound_at binding)) rule.guard → CompletedIf rule done binding new → IsInstanceIf rule facts done new
 becomes_if rule r facts true binding new f guard done = is_instance_under rule r facts binding new f guard done
 becomes_if rule r facts false binding new f guard none = no_right rule facts binding f none
 
 -- what the binding of an instance adds is the instance's body
-pub is_added : (rule : Simpagation ℕ) (facts made : List (Atom ℕ)) (binding : List (Option (Value ℕ))) → IsInstanceUnder rule facts binding → AreUnder (bound_at binding) (added rule.body) made → IsInstance rule facts made
+pub is_added : (rule : Simpagation ℕ) (facts made : List (Atom ℕ)) (binding : List (Option (Value ℕ))) → IsInstanceUnder rule facts binding → AreMadeUnder (bound_at binding) (added rule.body) made → IsInstance rule facts made
 is_added rule facts made binding u is = subst (IsInstance rule facts) (somes u.body made (sym u.body_is ∙ is)) u.instance
 
-pub not_added : (rule : Simpagation ℕ) (facts : List (Atom ℕ)) (binding : List (Option (Value ℕ))) → IsInstanceUnder rule facts binding → ((made : List (Atom ℕ)) → AreUnder (bound_at binding) (added rule.body) made → ⊥) → NoInstance rule facts
+pub not_added : (rule : Simpagation ℕ) (facts : List (Atom ℕ)) (binding : List (Option (Value ℕ))) → IsInstanceUnder rule facts binding → ((made : List (Atom ℕ)) → AreMadeUnder (bound_at binding) (added rule.body) made → ⊥) → NoInstance rule facts
 not_added rule facts binding u none = absurd (none u.body u.body_is)
 
 -- the body under a binding, read through a copy that has more places
@@ -96,7 +92,7 @@ module _ (rule : Simpagation ℕ) (binding all : List (Option (Value ℕ))) (sam
   completes_copy : (v : Valuation) → Completes rule binding v → Completes rule all v
   completes_copy v c = record { extends = λ x t at. c.extends x t (sym (same x) ∙ at); heads = λ x h. c.heads x h ∙ sym (same x); right = c.right }
 
-  pub is_body : (new : List (Option (Value ℕ))) (made : List (Atom ℕ)) → IsCompleted rule all new → AreUnder (bound_at new) (added rule.body) made → IsBody rule binding made
+  pub is_body : (new : List (Option (Value ℕ))) (made : List (Atom ℕ)) → IsCompleted rule all new → AreMadeUnder (bound_at new) (added rule.body) made → IsBody rule binding made
   is_body new made done is =
       let both = (done.narrows.exactly (bound_at new)).0 (extends_itself new) in
       record {
@@ -105,44 +101,33 @@ module _ (rule : Simpagation ℕ) (binding all : List (Option (Value ℕ))) (sam
         body_is = is;
       }
 
-  pub no_body : ((v : Valuation) → Completes rule all v → ⊥) → (made : List (Atom ℕ)) → IsBody rule binding made → ⊥
-  no_body none made b = none b.valuation (completes_copy b.valuation b.completes)
+  pub no_body : ((made : List (Atom ℕ)) → IsBody rule all made → ⊥) → (made : List (Atom ℕ)) → IsBody rule binding made → ⊥
+  no_body none made b = none made (record { valuation = b.valuation; completes = completes_copy b.valuation b.completes; body_is = b.body_is })
 
-  pub no_arguments : IsRule rule → (new : List (Option (Value ℕ))) → IsCompleted rule all new → ((made : List (Atom ℕ)) → AreUnder (bound_at new) (added rule.body) made → ⊥) → (made : List (Atom ℕ)) → IsBody rule binding made → ⊥
-  no_arguments r new done none made b = none made (sym (added_agrees b.valuation (bound_at new) (scoped rule r).count rule.variables rule.body (scoped rule r).body agree) ∙ b.body_is)
-    where
-      c : Completes rule all b.valuation
-      c = completes_copy b.valuation b.completes
-
-      by_place : (x : ℕ) → IsOfHeads rule x ⊎ IsSome (bound_at new x) → b.valuation x ≡ bound_at new x
-      by_place x (inl head) = (completes_copy b.valuation b.completes).heads x head ∙ sym (done.heads x head)
-      by_place x (inr some) = bound_settled new x b.valuation some ((done.narrows.exactly b.valuation).1 ((completes_copy b.valuation b.completes).extends, b.completes.right))
-
-      agree : Agree b.valuation (bound_at new) rule.variables
-      agree x h = by_place x (done.others x h)
+  pub no_arguments : (new : List (Option (Value ℕ))) → IsCompleted rule all new → ((made : List (Atom ℕ)) → AreMadeUnder (bound_at new) (added rule.body) made → ⊥) → (made : List (Atom ℕ)) → IsBody rule binding made → ⊥
+  no_arguments new done none made b = none done.body done.body_is
 
 -- an answer's two cases, each carried on
 pub carried_on : {A P R : Type 0} {Q S : A → Type 0} (o : Option A) → (P → R) → ((a : A) → Q a → S a) → MatchOption o P Q → MatchOption o R S
 carried_on (Some a) f g h = g a h
 carried_on None f g h = f h
 
--- the constraints of a body joined
-pub added_append : (ms ns : List (BodyItem ℕ)) → added (ms ++ ns) ≡ added ms ++ added ns
-added_append [] ns = refl
-added_append (Is x e ∷ ms) ns = added_append ms ns
-added_append (Add s ∷ ms) ns = ap (λ l. s ∷ l) (added_append ms ns)
+-- the same of an answer that may be an E01
+pub if_ok_as : {T E : Type 0} {P Q : T → Type 0} (r : Result T E) → ((x : T) → P x → Q x) → IfOk r P → IfOk r Q
+if_ok_as (Ok x) f h = f x h
+if_ok_as (Err e) f h = h
 
 -- the atoms of one member more
-pub added_more : {A : Type 0} (f : A → BodyItem ℕ) (v : Valuation) (xs : List A) (i : ℕ) (x : A) (old new : List (Atom ℕ)) → i < length xs → x ≡ get_or xs i x → AreUnder v (added (map f (take i xs))) old → AreUnder v (added (f x ∷ [])) new → AreUnder v (added (map f (take (i + 1) xs))) (old ++ new)
+pub added_more : {A : Type 0} (f : A → BodyItem ℕ) (v : Valuation) (xs : List A) (i : ℕ) (x : A) (old new : List (Atom ℕ)) → i < length xs → x ≡ get_or xs i x → AreMadeUnder v (added (map f (take i xs))) old → AreMadeUnder v (added (f x ∷ [])) new → AreMadeUnder v (added (map f (take (i + 1) xs))) (old ++ new)
 added_more f v xs i x old new h is o n =
-    subst (λ ms. AreUnder v (added ms) (old ++ new)) (sym (map_more f xs i x h ∙ ap (λ y. map f (take i xs) ++ f y ∷ []) (sym is)))
-    (subst (λ ss. AreUnder v ss (old ++ new)) (sym (added_append (map f (take i xs)) (f x ∷ []))) (under_append v (added (map f (take i xs))) (added (f x ∷ [])) old new o n))
+    subst (λ ms. AreMadeUnder v (added ms) (old ++ new)) (sym (map_more f xs i x h ∙ ap (λ y. map f (take i xs) ++ f y ∷ []) (sym is)))
+    (subst (λ ss. AreMadeUnder v ss (old ++ new)) (sym (added_append (map f (take i xs)) (f x ∷ []))) (made_append v (added (map f (take i xs))) (added (f x ∷ [])) old new o n))
 
 -- a constraint of the body without a value
-pub not_made : {A : Type 0} (f : A → BodyItem ℕ) (v : Valuation) (xs : List A) (i : ℕ) (x : A) (s : RuleAtom ℕ) (made : List (Atom ℕ)) → i < length xs → x ≡ get_or xs i x → f x ≡ Add s → atom_under v s ≡ None → AreUnder v (added (map f xs)) made → ⊥
+pub not_made : {A : Type 0} (f : A → BodyItem ℕ) (v : Valuation) (xs : List A) (i : ℕ) (x : A) (s : RuleAtom ℕ) (made : List (Atom ℕ)) → i < length xs → x ≡ get_or xs i x → f x ≡ Add s → made_under v s ≡ None → AreMadeUnder v (added (map f xs)) made → ⊥
 not_made f v xs i x s made h is at none all =
     let there : drop i xs ≡ x ∷ drop (i + 1) xs = drop_more xs i x h ∙ ap (λ y. y ∷ drop (i + 1) xs) (sym is) in
     let apart : map f xs ≡ map f (take i xs) ++ (Add s ∷ map f (drop (i + 1) xs)) =
     ap (map f) (sym (take-append-drop i xs)) ∙ map-append f (take i xs) (drop i xs) ∙ ap (λ l. map f (take i xs) ++ map f l) there ∙ ap (λ m. map f (take i xs) ++ (m ∷ map f (drop (i + 1) xs))) at in
-    none_under v (added (map f (take i xs))) (added (map f (drop (i + 1) xs))) s made none
-    (subst (λ ss. AreUnder v ss made) (added_append (map f (take i xs)) (Add s ∷ map f (drop (i + 1) xs))) (subst (λ ms. AreUnder v (added ms) made) apart all))
+    none_made v (added (map f (take i xs))) (added (map f (drop (i + 1) xs))) s made none
+    (subst (λ ss. AreMadeUnder v ss made) (added_append (map f (take i xs)) (Add s ∷ map f (drop (i + 1) xs))) (subst (λ ms. AreMadeUnder v (added ms) made) apart all))

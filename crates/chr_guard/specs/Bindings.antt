@@ -1,22 +1,23 @@
 -- What the variables of a rule are bound to: a list in the order of their numbers.
 use Rattle.std.specs.Prelude.{◌≡◌, ℕ, Bool, true, false, ◌<◌, ◌≤◌, ◌↔◌, List, length, Option, Some, None, IsSome, slice_index_or}
-use Rattle.chr_value.specs.Atoms.{Value, Int, Sym}
+use Rattle.chr_value.specs.Atoms.{Value, Int, Sym, ground_comp}
 use Rattle.chr_guard.specs.declared.binding.Bound.{Bound}
 use Rattle.chr_guard.specs.declared.binding.Bound.TheVariants as bounds
 use Rattle.chr_guard.specs.Values.{Valuation}
 
 -- what one variable is bound to
-abbrev pub bound_term : Bound → Option (Value ℕ)
+abbrev pub bound_term : {A : Type 0} → Bound A → Option (Value ℕ)
 bound_term bounds.Free = None
 bound_term (bounds.Number n) = Some (Int n)
 bound_term (bounds.Symbol name) = Some (Sym name.number)
+bound_term (bounds.Compound c) = Some (ground_comp c.now)
 
 -- a binding as a valuation; a variable past the end isn't bound
 abbrev pub bound_at : List (Option (Value ℕ)) → Valuation
 bound_at binding x = slice_index_or binding x None
 
 -- there are 24 places, and those behind the places of this many variables are free
-pub record AreFreeBehind (variables : ℕ) (places : List Bound) : Type 0 where
+pub record AreFreeBehind {A : Type 0} (variables : ℕ) (places : List (Bound A)) : Type 0 where
   pub full : length places ≡ 24
   pub within : variables ≤ 24
   pub free : (x : ℕ) → variables ≤ x → slice_index_or places x bounds.Free ≡ bounds.Free

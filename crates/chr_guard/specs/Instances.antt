@@ -4,20 +4,33 @@ use Rattle.std.specs.List.{AllByRecursion}
 use Rattle.std.specs.Option.{option_map}
 use Rattle.chr_value.specs.Atoms.{Value, Atom, Int}
 use Rattle.chr_rule.specs.Rules.{Term, RuleAtom, BodyItem, Is, Add, Simpagation}
-use Rattle.chr_guard.specs.Values.{Valuation, value_of, both, term_under, Holds}
+use Rattle.chr_guard.specs.Values.{Valuation, value_of, both, term_under, value_under, Holds}
 
 -- the values of arguments, where each has one
-abbrev pub values_under : Valuation → List (Term ℕ) → Option (List (Value ℕ))
-values_under v [] = Some []
-values_under v (t ∷ ts) = both (λ x xs. Some (x ∷ xs)) (term_under v t) (values_under v ts)
+abbrev pub all_values : (Term ℕ → Option (Value ℕ)) → List (Term ℕ) → Option (List (Value ℕ))
+all_values value [] = Some []
+all_values value (t ∷ ts) = both (λ x xs. Some (x ∷ xs)) (value t) (all_values value ts)
 
--- a constraint of a rule under a valuation, where each argument has a value
+-- a constraint of a rule by the values of its arguments, where each has one
+abbrev pub atom_by : (Term ℕ → Option (Value ℕ)) → RuleAtom ℕ → Option (Atom ℕ)
+atom_by value s =
+    option_map (λ values. record { name = s.name; args = values }) (all_values value s.args)
+
+-- a head under a valuation
 abbrev pub atom_under : Valuation → RuleAtom ℕ → Option (Atom ℕ)
-atom_under v s = option_map (λ values. record { name = s.name; args = values }) (values_under v s.args)
+atom_under v s = atom_by (term_under v) s
 
--- under the valuation the constraints are these atoms
+-- a constraint of a body under a valuation, whose arguments keep the limits of values
+abbrev pub made_under : Valuation → RuleAtom ℕ → Option (Atom ℕ)
+made_under v s = atom_by (value_under v) s
+
+-- under the valuation the heads are these atoms
 abbrev pub AreUnder : Valuation → List (RuleAtom ℕ) → List (Atom ℕ) → Type 0
 AreUnder v patterns atoms = map (atom_under v) patterns ≡ map (λ a. Some a) atoms
+
+-- under the valuation the constraints of a body are these atoms
+abbrev pub AreMadeUnder : Valuation → List (RuleAtom ℕ) → List (Atom ℕ) → Type 0
+AreMadeUnder v patterns atoms = map (made_under v) patterns ≡ map (λ a. Some a) atoms
 
 -- a variable left of an `is` stands for the expression's value
 abbrev pub IsRight : Valuation → BodyItem ℕ → Type 0
@@ -31,7 +44,7 @@ added (Is x e ∷ items) = added items
 added (Add s ∷ items) = s ∷ added items
 
 -- An instance of a rule (Frühwirth): a valuation under which the guard holds, each `is` is right and all arguments have
--- values. It keeps, removes and adds these atoms, and it removes something.
+-- values, those of the body within the limits. It keeps, removes and adds these atoms, and it removes something.
 pub record Instance (rule : Simpagation ℕ) (kept removed body : List (Atom ℕ)) : Type 0 where
   pub valuation : Valuation
   pub guard : AllByRecursion (Holds valuation) rule.guard
@@ -39,7 +52,7 @@ pub record Instance (rule : Simpagation ℕ) (kept removed body : List (Atom ℕ
   pub kept_are : AreUnder valuation rule.kept kept
   pub removed_are : AreUnder valuation rule.removed removed
   pub some_removed : removed ≢ []
-  pub body_is : AreUnder valuation (added rule.body) body
+  pub body_is : AreMadeUnder valuation (added rule.body) body
 
 -- atoms in head order, the kept heads' first, are an instance that adds this body
 abbrev pub IsInstance : Simpagation ℕ → List (Atom ℕ) → List (Atom ℕ) → Type 0

@@ -7,7 +7,7 @@ use Rattle.chr_rule.specs.Rules.{Simpagation, head_at}
 use Rattle.chr_rule.specs.Scope.{known_after_heads}
 use Rattle.chr_guard.specs.Values.{Valuation}
 use Rattle.chr_guard.specs.Bindings.{bound_at, Extends, Narrows}
-use Rattle.chr_guard.specs.Instances.{atom_under, AreUnder, IsRight, added, IsInstance, NoInstance}
+use Rattle.chr_guard.specs.Instances.{atom_under, AreUnder, AreMadeUnder, IsRight, added, IsInstance, NoInstance}
 
 -- under the valuation the head of that number is that atom
 abbrev pub IsAtHead : Simpagation ℕ → Valuation → ℕ × Atom ℕ → Type 0
@@ -41,25 +41,27 @@ pub record Completes (rule : Simpagation ℕ) (binding : List (Option (Value ℕ
 pub record IsBody (rule : Simpagation ℕ) (binding : List (Option (Value ℕ))) (body : List (Atom ℕ)) : Type 0 where
   pub valuation : Valuation
   pub completes : Completes rule binding valuation
-  pub body_is : AreUnder valuation (added rule.body) body
+  pub body_is : AreMadeUnder valuation (added rule.body) body
 
--- the new binding is the old one with the values of the variables left of an `is`
+-- The new binding is the old one with the values of the variables left of an `is`, and under it
+-- the body's arguments have values.
 pub record IsCompleted (rule : Simpagation ℕ) (old new : List (Option (Value ℕ))) : Type 0 where
   pub narrows : Narrows (λ v. AllByRecursion (IsRight v) rule.body) old new
   pub heads : (x : ℕ) → IsOfHeads rule x → bound_at new x ≡ bound_at old x
-  pub others : (x : ℕ) → x < rule.variables → IsOfHeads rule x ⊎ IsSome (bound_at new x)
+  pub body : List (Atom ℕ)
+  pub body_is : AreMadeUnder (bound_at new) (added rule.body) body
 
--- where the answer is yes the binding is completed, and where it is no nothing completes it
+-- where the answer is yes the binding is completed, and where it is no there is no body under it
 abbrev pub CompletedIf : Simpagation ℕ → Bool → List (Option (Value ℕ)) → List (Option (Value ℕ)) → Type 0
 CompletedIf rule true old new = IsCompleted rule old new
-CompletedIf rule false old new = (v : Valuation) → Completes rule old v → ⊥
+CompletedIf rule false old new = (body : List (Atom ℕ)) → IsBody rule old body → ⊥
 
 -- the atoms are an instance that adds the body, and this is the one binding of the rule's variables
 pub record IsInstanceUnder (rule : Simpagation ℕ) (atoms : List (Atom ℕ)) (binding : List (Option (Value ℕ))) : Type 0 where
   pub fit : IsFit rule (λ v. HeadsAre rule atoms v × AllByRecursion (IsRight v) rule.body) binding
   pub body : List (Atom ℕ)
   pub instance : IsInstance rule atoms body
-  pub body_is : AreUnder (bound_at binding) (added rule.body) body
+  pub body_is : AreMadeUnder (bound_at binding) (added rule.body) body
 
 -- where the answer is yes this is the binding of the instance, and where it is no the atoms are none
 abbrev pub IsInstanceIf : Simpagation ℕ → List (Atom ℕ) → Bool → List (Option (Value ℕ)) → Type 0

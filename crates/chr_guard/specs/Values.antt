@@ -1,12 +1,14 @@
--- The value of an expression, and when a comparison holds.
-use Rattle.std.specs.Prelude.{◌≡◌, ◌≢◌, ℕ, Bool, true, not, ◌&&◌, ◌||◌, if◌then◌else◌, ℤ, pos, negsuc, ◌+ℤ◌, ◌-ℤ◌, ◌*ℤ◌, int_lt, int_le, int_div, int_rem, Option, Some, None}
-use Rattle.chr_value.specs.Atoms.{Value}
+-- The value of an expression and of a term, and when a comparison holds.
+use Rattle.std.specs.Prelude.{◌≡◌, ◌≢◌, ℕ, Bool, true, not, ◌&&◌, ◌||◌, if◌then◌else◌, nat_le, ℤ, pos, negsuc, ◌+ℤ◌, ◌-ℤ◌, ◌*ℤ◌, int_lt, int_le, int_div, int_rem, Option, Some, None}
+use Rattle.std.specs.Option.{option_map}
+use Rattle.chr_value.specs.Atoms.{Value, Args, Nil, Cons}
 use Rattle.chr_value.specs.Atoms as terms
+use Rattle.chr_value.specs.Limits.{depth, size}
 use Rattle.chr_rule.specs.declared.expression.Operator.{Operator}
 use Rattle.chr_rule.specs.declared.expression.Operator.TheVariants.{Add, Sub, Mul, Quot, Rem, Mod}
 use Rattle.chr_rule.specs.declared.expression.Relation.{Relation}
 use Rattle.chr_rule.specs.declared.expression.Relation.TheVariants.{Less, LessEqual, Greater, GreaterEqual, Equal, Unequal}
-use Rattle.chr_rule.specs.Rules.{Term, Var, Given, Expression, Number, Variable, Operation, Comparison, Compared, Same, Differ}
+use Rattle.chr_rule.specs.Rules.{Term, Var, Given, Open, Terms, End, And, Expression, Number, Variable, Operation, Comparison, Compared, Same, Differ}
 
 -- what each variable of a rule stands for, if it stands for a value
 abbrev pub Valuation : Type 0
@@ -62,13 +64,34 @@ compares GreaterEqual a b = int_le b a
 compares Equal a b = int_le a b && int_le b a
 compares Unequal a b = not (int_le a b && int_le b a)
 
--- what an argument stands for, if it stands for a value
-abbrev pub term_under : Valuation → Term ℕ → Option (Value ℕ)
-term_under v (Var x) = v x
-term_under v (Given t) = Some t
+-- what a term stands for, if it stands for a value
+abbrev mutual
+  pub term_under : Valuation → Term ℕ → Option (Value ℕ)
+  term_under v (Var x) = v x
+  term_under v (Given t) = Some t
+  term_under v (Open s ts) = option_map (terms.Comp s) (terms_under v ts)
+
+  pub terms_under : Valuation → Terms ℕ → Option (Args ℕ)
+  terms_under v End = Some Nil
+  terms_under v (And t ts) = both (λ x xs. Some (Cons x xs)) (term_under v t) (terms_under v ts)
+
+-- a value that is at most 8 deep and 64 large; there is none past these limits
+abbrev pub within_limits : Option (Value ℕ) → Option (Value ℕ)
+within_limits (Some a) = if nat_le (depth a) 8 && nat_le (size a) 64 then Some a else None
+within_limits None = None
+
+-- what an argument of a body stands for, and a side of `==` or `\==`, if it is within the limits
+abbrev pub value_under : Valuation → Term ℕ → Option (Value ℕ)
+value_under v t = within_limits (term_under v t)
+
+-- what a term stands for that may be a key: a variable, or a value as it is written
+abbrev pub key_under : Valuation → Term ℕ → Option (Value ℕ)
+key_under v (Var x) = v x
+key_under v (Given t) = Some t
+key_under v (Open s ts) = None
 
 -- both sides have values, and these are so
-abbrev pub WhereBoth : (Value ℕ → Value ℕ → Type 0) → Option (Value ℕ) → Option (Value ℕ) → Type 0
+abbrev pub WhereBoth : {V : Type 0} → (V → V → Type 0) → Option V → Option V → Type 0
 WhereBoth P (Some a) (Some b) = P a b
 WhereBoth P (Some a) None = ⊥
 WhereBoth P None b = ⊥
@@ -76,5 +99,5 @@ WhereBoth P None b = ⊥
 -- numbers are compared by their relation, values by whether they are equal; no comparison holds where a side has no value
 abbrev pub Holds : Valuation → Comparison ℕ → Type 0
 Holds v (Compared r a b) = both (λ m n. Some (compares r m n)) (value_of v a) (value_of v b) ≡ Some true
-Holds v (Same s t) = WhereBoth (λ a b. a ≡ b) (term_under v s) (term_under v t)
-Holds v (Differ s t) = WhereBoth (λ a b. a ≢ b) (term_under v s) (term_under v t)
+Holds v (Same s t) = WhereBoth (λ a b. a ≡ b) (value_under v s) (value_under v t)
+Holds v (Differ s t) = WhereBoth (λ a b. a ≢ b) (value_under v s) (value_under v t)

@@ -1,39 +1,41 @@
 //! What the variables of a rule are bound to.
 ghost use Rattle.std.specs.Prelude.{◌≡◌, ◌≢◌, ◌<◌, ◌≤◌, ◌↔◌, ℕ, IsTrue, Some, None, length, replicate, slice_set};
 ghost use Rattle.std.specs.Option.{option_map};
-ghost use Rattle.chr_value.specs.Atoms.{ground, Int};
-ghost use Rattle.chr_rule.specs.Parts.{argument};
-ghost use Rattle.chr_guard.specs.Values.{number_in, term_under, WhereBoth};
+ghost use Rattle.chr_value.specs.Atoms.{said, Int};
+ghost use Rattle.chr_guard.specs.Values.{number_in};
 ghost use Rattle.chr_guard.specs.Bindings.{bound_term, bound_at, NarrowsIf};
 
 use arrayvec::ArrayVec;
-use chr_rule::{MOST_VARIABLES, Term};
-use chr_value::{Name, Value};
+use chr_rule::MOST_VARIABLES;
+use chr_value::{Comp, Name, ValueRef};
+use std::alloc::Allocator;
 use std::marker::Model;
 
-/// What one variable is bound to: nothing, a number, or a symbol.
-#[derive(Clone, Copy, Debug)]
-pub enum Bound {
+/// What one variable is bound to: nothing, a number, a symbol, or a compound value that lies elsewhere.
+#[derive(Clone, Copy)]
+pub enum Bound<'v, A: Allocator> {
     Free,
     Number(i64),
     Symbol(Name),
+    Compound(&'v Comp<A>),
 }
 
-impl Default for Bound {
+impl<'v, A: Allocator> Default for Bound<'v, A> {
     fn default() -> Self {
         Bound::Free
     }
 }
 
-impl Bound {
+impl<'v, A: Allocator> Bound<'v, A> {
     /// What stands for a value.
     #[inline(always)]
-    fn of(value: &Value) -> Bound
-        ensures { bound_term result ≡ Some (ground value.now) }
+    fn of(value: ValueRef<'v, A>) -> Bound<'v, A>
+        ensures { bound_term result ≡ Some (said value.entry) }
     {
         match value {
-            Value::Int(n) => Bound::Number(*n),
-            Value::Sym(name) => Bound::Symbol(*name),
+            ValueRef::Int(n) => Bound::Number(n),
+            ValueRef::Sym(name) => Bound::Symbol(name),
+            ValueRef::Comp(comp) => Bound::Compound(comp),
         }
     }
 
@@ -48,58 +50,42 @@ impl Bound {
     }
 
     /// Whether it stands for this value.
-    pub fn is(&self, value: &Value) -> bool
-        ensures { IsTrue result ↔ (bound_term self.now ≡ Some (ground value.now)) }
+    #[inline(always)]
+    pub fn is(&self, value: &ValueRef<'_, A>) -> bool
+        ensures { IsTrue result ↔ (bound_term self.now ≡ Some (said value.now)) }
     {
         match self {
             Bound::Free => false,
-            Bound::Number(n) => value.same(&Value::Int(*n)),
-            Bound::Symbol(name) => value.same(&Value::Sym(*name)),
+            Bound::Number(n) => value.same(&ValueRef::Int(*n)),
+            Bound::Symbol(name) => value.same(&ValueRef::Sym(*name)),
+            Bound::Compound(comp) => value.same(&ValueRef::Comp(comp)),
         }
     }
 
-    /// Whether two stand for values, and for the same one.
-    pub(crate) fn same(&self, other: &Bound) -> bool
-        ensures { IsTrue result ↔ WhereBoth (λ a b. a ≡ b) (bound_term self.now) (bound_term other.now) }
-    {
-        match other {
-            Bound::Free => false,
-            Bound::Number(n) => self.is(&Value::Int(*n)),
-            Bound::Symbol(name) => self.is(&Value::Sym(*name)),
-        }
-    }
-
-    /// Whether two stand for values, and for different ones.
-    pub(crate) fn differs(&self, other: &Bound) -> bool
-        ensures { IsTrue result ↔ WhereBoth (λ a b. a ≢ b) (bound_term self.now) (bound_term other.now) }
-    {
-        if self.is_free() || other.is_free() {
-            return false;
-        }
-        !self.same(other)
-    }
-
-    /// A copy of the value that it stands for, or None where it is free.
-    pub fn value(&self) -> Option<Value>
-        ensures { option_map ground result ≡ bound_term self.now }
+    /// The value that it stands for, or None where it is free.
+    #[inline(always)]
+    pub fn value(&self) -> Option<ValueRef<'v, A>>
+        ensures { option_map said result ≡ bound_term self.now }
     {
         match self {
             Bound::Free => None,
-            Bound::Number(n) => Some(Value::Int(*n)),
-            Bound::Symbol(name) => Some(Value::Sym(*name)),
+            Bound::Number(n) => Some(ValueRef::Int(*n)),
+            Bound::Symbol(name) => Some(ValueRef::Sym(*name)),
+            Bound::Compound(comp) => Some(ValueRef::Comp(comp)),
         }
     }
 }
 
-/// What the variables of a rule are bound to, at most 24. It has the values themselves, and takes no memory.
+/// What the variables of a rule are bound to, at most 24. Numbers and symbols are its own, and compound values lie in the
+/// atoms at the rule's heads. It takes no memory.
 #[derive(Drop)]
-pub struct Binding {
+pub struct Binding<'v, A: Allocator> {
     /// Always full: behind the variables all are free.
-    bound: ArrayVec<Bound, MOST_VARIABLES>,
+    bound: ArrayVec<Bound<'v, A>, MOST_VARIABLES>,
     variables: usize,
 }
 
-impl Model for Binding {
+impl<'v, A: Allocator> Model for Binding<'v, A> {
     ghost use Rattle.std.specs.Prelude.{ℕ, List, Option, map, take};
     ghost use Rattle.std.specs.Coded.{codes};
     ghost use Rattle.chr_value.specs.Atoms.{Value as PlainValue};
@@ -115,9 +101,9 @@ impl Model for Binding {
     ghost invariant = { λ b. AreFreeBehind b.variables b.bound.items };
 }
 
-impl Binding {
+impl<'v, A: Allocator + Copy> Binding<'v, A> {
     /// This many variables, at most 24, which are all free.
-    pub fn free(variables: usize) -> Binding
+    pub fn free(variables: usize) -> Binding<'v, A>
         requires { variables ≤ 24 }
         ensures { result ≡ replicate variables None }
     {
@@ -125,6 +111,14 @@ impl Binding {
             bound: ArrayVec::from_array_in((), [Bound::Free; MOST_VARIABLES]),
             variables,
         }
+    }
+
+    /// How many variables there are, at most 24.
+    pub(crate) fn variables(&self) -> usize
+        ensures count { result ≡ length self.now }
+        ensures few { result ≤ 24 }
+    {
+        self.variables
     }
 
     /// Becomes one of this many variables, at most 24, which are all free.
@@ -141,7 +135,7 @@ impl Binding {
 
     /// What a variable is bound to.
     #[inline(always)]
-    pub fn at(&self, variable: u8) -> Bound
+    pub fn at(&self, variable: u8) -> Bound<'v, A>
         ensures { bound_term result ≡ bound_at self.now variable }
     {
         match self.bound.as_slice().get(usize::from(variable)) {
@@ -161,25 +155,26 @@ impl Binding {
         }
     }
 
-    fn put(&mut self, variable: u8, bound: Bound)
+    /// Binds a variable anew.
+    pub(crate) fn put(&mut self, variable: u8, bound: Bound<'v, A>)
         requires { variable < length self.old }
-        ensures { self.new ≡ slice_set self.old variable (bound_term bound) }
+        ensures { self.new ≡ slice_set self.old variable (bound_term bound.entry) }
     {
         self.bound[usize::from(variable)] = bound;
     }
 
     /// Binds a variable to a value. Where it is bound already, answers whether it is bound to this one.
     #[inline(always)]
-    pub(crate) fn hold(&mut self, variable: u8, value: &Value) -> bool
+    pub(crate) fn hold(&mut self, variable: u8, value: ValueRef<'v, A>) -> bool
         requires { variable < length self.old }
-        ensures { NarrowsIf (λ v. v variable ≡ Some (ground value.now)) result self.old self.new }
+        ensures { NarrowsIf (λ v. v variable ≡ Some (said value.entry)) result self.old self.new }
     {
         match self.at(variable) {
             Bound::Free => {
                 self.put(variable, Bound::of(value));
                 true
             }
-            bound => bound.is(value),
+            bound => bound.is(&value),
         }
     }
 
@@ -193,12 +188,12 @@ impl Binding {
                 self.put(variable, Bound::Number(number));
                 true
             }
-            bound => bound.is(&Value::Int(number)),
+            bound => bound.is(&ValueRef::Int(number)),
         }
     }
 
     /// A copy.
-    pub fn copy(&self) -> Binding
+    pub fn copy(&self) -> Binding<'v, A>
         ensures { result ≡ self.now }
     {
         let mut copy = Binding::free(0);
@@ -208,7 +203,7 @@ impl Binding {
 
     /// Becomes a copy of another. Between bindings of as many variables, only these get copied.
     #[inline(always)]
-    pub fn set_to(&mut self, other: &Binding)
+    pub fn set_to(&mut self, other: &Binding<'v, A>)
         ensures { self.new ≡ other.now }
     {
         if self.variables != other.variables {
@@ -220,7 +215,7 @@ impl Binding {
     }
 
     /// A copy with at least this many variables, at most 24: further ones are free.
-    pub(crate) fn widened(&self, variables: usize) -> Binding
+    pub(crate) fn widened(&self, variables: usize) -> Binding<'v, A>
         requires { variables ≤ 24 }
         ensures places { variables ≤ length result }
         ensures same { (x : ℕ) → bound_at result x ≡ bound_at self.now x }
@@ -228,22 +223,5 @@ impl Binding {
         let mut copy = self.copy();
         copy.variables = copy.variables.max(variables);
         copy
-    }
-
-    /// A copy of the value that an argument of a rule stands for, or None for a variable that is free.
-    pub fn value(&self, term: &Term) -> Option<Value>
-        ensures { option_map ground result ≡ term_under (bound_at self.now) (argument term.now) }
-    {
-        self.term(term).value()
-    }
-
-    /// What an argument of a rule stands for.
-    pub fn term(&self, term: &Term) -> Bound
-        ensures { bound_term result ≡ term_under (bound_at self.now) (argument term.now) }
-    {
-        match term {
-            Term::Var(x) => self.at(*x),
-            Term::Value(value) => Bound::of(value),
-        }
     }
 }

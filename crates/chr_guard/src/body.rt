@@ -1,39 +1,123 @@
 //! The body of a rule under a binding.
-ghost use Rattle.std.specs.Prelude.{◌≡◌, ◌≤◌, List, ℕ, map, length, MatchOption};
-ghost use Rattle.chr_value.specs.Atoms.{Atom};
-ghost use Rattle.chr_rule.specs.Parts.{shape};
+ghost use Rattle.std.specs.Prelude.{◌≡◌, ◌≤◌, List, ℕ, map, length, IfOk, MatchOption};
+ghost use Rattle.std.specs.Option.{option_map};
+ghost use Rattle.chr_value.specs.Atoms.{Atom, args_of, ground, grounds};
+ghost use Rattle.chr_rule.specs.Parts.{argument, shape};
+ghost use Rattle.chr_rule.specs.Rules.{terms_of};
+ghost use Rattle.chr_guard.specs.Values.{term_under, terms_under, value_under};
 ghost use Rattle.chr_guard.specs.Bindings.{bound_at};
-ghost use Rattle.chr_guard.specs.Instances.{atom_under, AreUnder, added};
+ghost use Rattle.chr_guard.specs.Instances.{made_under, AreMadeUnder, added};
 ghost use Rattle.chr_guard.specs.Matching.{CompletedIf, IsBody};
 
 use crate::binding::Binding;
+use crate::terms::Plain;
 use crate::values::value;
 use arrayvec::ArrayVec;
-use chr_rule::{BodyItem, Rule, RuleAtom};
-use chr_value::Atom;
-use std::alloc::Allocator;
+use chr_rule::{BodyItem, Rule, RuleAtom, Term};
+use chr_value::{Atom, Comp, Value};
+use std::alloc::{AllocError, Allocator};
 
 /// The atoms of a body, at most 16.
 pub type Body<A> = ArrayVec<Atom<A>, 16, A>;
 
-/// The atom that a constraint of a rule stands for, or None where an argument has no value.
-pub fn make_atom<A: Allocator + Copy>(
+/// The value that a term stands for, within the limits or not. None where a variable is free. An `Err` is E01.
+#[cycle(made)]
+fn made<A: Allocator + Copy>(
     alloc: A,
-    pattern: &RuleAtom,
-    binding: &Binding,
-) -> Option<Atom<A>>
-    ensures { result ≡ atom_under (bound_at binding.now) (shape pattern.now) }
+    term: &Term<A>,
+    binding: &Binding<'_, A>,
+) -> Result<Option<Value<A>>, AllocError>
+    ensures { IfOk result (λ made. option_map ground made ≡ term_under (bound_at binding.now) (argument term.now)) }
 {
-    let mut atom = Atom::new(alloc, pattern.name);
-    for term in pattern.terms.as_slice() {
-        atom.push(binding.value(term)?);
+    match term {
+        Term::Var(x) => match binding.at(*x).value() {
+            None => Ok(None),
+            Some(value) => Ok(Some(value.copy(alloc)?)),
+        },
+        Term::Given(value) => Ok(Some(value.as_ref().copy(alloc)?)),
+        Term::Open(open) => {
+            let Some(args) = all_made(alloc, &open.args, binding)? else {
+                return Ok(None);
+            };
+            let functor = open.functor;
+            Ok(Some(Value::Comp(Box::new(alloc, Comp { functor, args })?)))
+        }
     }
-    Some(atom)
 }
 
-/// Binds the variables left of `is` in a rule's body to the values. False only where some `is` has no value, or where its
-/// variable is bound to another.
-pub(crate) fn bind_body<A: Allocator>(rule: &Rule<A>, binding: &mut Binding) -> bool
+/// The values that the arguments of a functor stand for. None where one has none. An `Err` is E01.
+#[cycle(made)]
+fn all_made<A: Allocator + Copy>(
+    alloc: A,
+    terms: &[Term<A>],
+    binding: &Binding<'_, A>,
+) -> Result<Option<Vec<Value<A>, A>>, AllocError>
+    ensures { IfOk result (λ made. option_map (λ vs. args_of (grounds vs.items)) made ≡ terms_under (bound_at binding.now) (terms_of (map argument terms.now))) }
+{
+    let mut values = Vec::with_capacity(alloc, terms.len())?;
+    for term in terms {
+        let Some(value) = made(alloc, term, binding)? else {
+            return Ok(None);
+        };
+        values.push_reserved(value);
+    }
+    Ok(Some(values))
+}
+
+/// A compound value that a term stands for, which is counted before it is made. None where there is none within the
+/// limits. An `Err` is E01.
+fn counted<A: Allocator + Copy>(
+    alloc: A,
+    term: &Term<A>,
+    binding: &Binding<'_, A>,
+) -> Result<Option<Value<A>>, AllocError>
+    ensures { IfOk result (λ made. option_map ground made ≡ value_under (bound_at binding.now) (argument term.now)) }
+{
+    if !binding.is_within(term) {
+        return Ok(None);
+    }
+    made(alloc, term, binding)
+}
+
+/// The value that an argument stands for, within the limits. None where there is none. Numbers and symbols take no
+/// memory. An `Err` is E01.
+#[inline(always)]
+fn made_argument<A: Allocator + Copy>(
+    alloc: A,
+    term: &Term<A>,
+    binding: &Binding<'_, A>,
+) -> Result<Option<Value<A>>, AllocError>
+    ensures { IfOk result (λ made. option_map ground made ≡ value_under (bound_at binding.now) (argument term.now)) }
+{
+    match binding.plain(term) {
+        Some(Plain::Number(n)) => Ok(Some(Value::Int(n))),
+        Some(Plain::Symbol(name)) => Ok(Some(Value::Sym(name))),
+        None => counted(alloc, term, binding),
+    }
+}
+
+/// The atom that a constraint of a body stands for, or None where an argument has no value within the limits: each is
+/// counted before it is made. Only compound values take memory. An `Err` is E01.
+pub fn make_atom<A: Allocator + Copy>(
+    alloc: A,
+    pattern: &RuleAtom<A>,
+    binding: &Binding<'_, A>,
+) -> Result<Option<Atom<A>>, AllocError>
+    ensures { IfOk result (λ made. made ≡ made_under (bound_at binding.now) (shape pattern.now)) }
+{
+    let mut atom = Atom::new(alloc, pattern.name);
+    for term in &pattern.terms {
+        let Some(value) = made_argument(alloc, term, binding)? else {
+            return Ok(None);
+        };
+        atom.push(value)?;
+    }
+    Ok(Some(atom))
+}
+
+/// Binds the variables left of `is` in a rule's body to the values. False only where some `is` or some argument has no
+/// value, or where the variable of an `is` is bound to another.
+pub(crate) fn bind_body<A: Allocator + Copy>(rule: &Rule<A>, binding: &mut Binding<'_, A>) -> bool
     requires { rule.now.variables ≤ length binding.old }
     ensures { CompletedIf rule.now result binding.old binding.new }
 {
@@ -47,40 +131,53 @@ pub(crate) fn bind_body<A: Allocator>(rule: &Rule<A>, binding: &mut Binding) -> 
                     return false;
                 }
             }
-            BodyItem::Add(_) => {}
+            BodyItem::Add(pattern) => {
+                if !binding.has_values(pattern) {
+                    return false;
+                }
+            }
         }
     }
     true
 }
 
 /// The atoms that a rule's body adds, in written order, under a binding of the rule's variables. None only where an
-/// argument has no value. It takes no memory.
+/// argument has no value within the limits. Only compound values take memory. An `Err` is E01.
 pub fn added_atoms<A: Allocator + Copy>(
     alloc: A,
     rule: &Rule<A>,
-    binding: &Binding,
-) -> Option<Body<A>>
-    ensures { MatchOption result ((made : List (Atom ℕ)) → AreUnder (bound_at binding.now) (added rule.now.body) made → ⊥) (λ made. AreUnder (bound_at binding.now) (added rule.now.body) made.items) }
+    binding: &Binding<'_, A>,
+) -> Result<Option<Body<A>>, AllocError>
+    ensures { IfOk result (λ made. MatchOption made ((made : List (Atom ℕ)) → AreMadeUnder (bound_at binding.now) (added rule.now.body) made → ⊥) (λ made. AreMadeUnder (bound_at binding.now) (added rule.now.body) made.items)) }
 {
     let mut atoms = ArrayVec::new_in(alloc);
     for item in rule.body() {
         match item {
             BodyItem::Is(_, _) => {}
-            BodyItem::Add(pattern) => atoms.push(make_atom(alloc, pattern, binding)?),
+            BodyItem::Add(pattern) => {
+                let Some(atom) = make_atom(alloc, pattern, binding)? else {
+                    return Ok(None);
+                };
+                atoms.push(atom);
+            }
         }
     }
-    Some(atoms)
+    Ok(Some(atoms))
 }
 
 /// The atoms that a rule's body adds, in written order, under a binding of its heads' variables. None only where an
-/// argument or an `is` has no value, as with a variable that is free, or where the variable of an `is` is bound to
-/// another value. It takes no memory.
-pub fn body<A: Allocator + Copy>(alloc: A, rule: &Rule<A>, binding: &Binding) -> Option<Body<A>>
-    ensures { MatchOption result ((made : List (Atom ℕ)) → IsBody rule.now binding.now made → ⊥) (λ made. IsBody rule.now binding.now made.items) }
+/// argument or an `is` has no value, as with a variable that is free or past the limits, or where the variable of an
+/// `is` is bound to another value. Only compound values take memory. An `Err` is E01.
+pub fn body<A: Allocator + Copy>(
+    alloc: A,
+    rule: &Rule<A>,
+    binding: &Binding<'_, A>,
+) -> Result<Option<Body<A>>, AllocError>
+    ensures { IfOk result (λ made. MatchOption made ((made : List (Atom ℕ)) → IsBody rule.now binding.now made → ⊥) (λ made. IsBody rule.now binding.now made.items)) }
 {
     let mut all = binding.widened(rule.variables());
     if !bind_body(rule, &mut all) {
-        return None;
+        return Ok(None);
     }
     added_atoms(alloc, rule, &all)
 }

@@ -1,5 +1,5 @@
 //! Which atoms are an instance of a rule.
-ghost use Rattle.std.specs.Prelude.{List, ℕ, map, MatchOption};
+ghost use Rattle.std.specs.Prelude.{List, ℕ, map, IfOk, MatchOption};
 ghost use Rattle.chr_value.specs.Atoms.{Atom};
 ghost use Rattle.chr_guard.specs.Instances.{IsInstance, NoInstance};
 ghost use Rattle.chr_guard.specs.Matching.{HeadsAre, IsFit, IsInstanceIf, IsInstanceUnder};
@@ -10,12 +10,12 @@ use crate::matching::fit_all;
 use crate::values::guard_holds;
 use chr_rule::Rule;
 use chr_value::Atom;
-use std::alloc::Allocator;
+use std::alloc::{AllocError, Allocator};
 
 /// Binds all variables of a rule's instance, where those of its heads are bound. False where the heads' atoms are no
 /// instance, whatever the body.
 #[inline(always)]
-pub fn becomes_instance<A: Allocator + Copy>(rule: &Rule<A>, binding: &mut Binding) -> bool
+pub fn becomes_instance<A: Allocator + Copy>(rule: &Rule<A>, binding: &mut Binding<'_, A>) -> bool
     requires { (facts : List (Atom ℕ)) × IsFit rule.now (HeadsAre rule.now facts) binding.old }
     ensures { (facts : List (Atom ℕ)) → IsFit rule.now (HeadsAre rule.now facts) binding.old → IsInstanceIf rule.now facts result binding.new }
 {
@@ -27,9 +27,12 @@ pub fn becomes_instance<A: Allocator + Copy>(rule: &Rule<A>, binding: &mut Bindi
 
 /// The one binding of all variables of a rule's instance, from that of its heads' variables. None where the heads' atoms
 /// are no instance, whatever the body.
-pub fn instance_from<A: Allocator + Copy>(rule: &Rule<A>, mut binding: Binding) -> Option<Binding>
+pub fn instance_from<'v, A: Allocator + Copy>(
+    rule: &Rule<A>,
+    mut binding: Binding<'v, A>,
+) -> Option<Binding<'v, A>>
     requires { (facts : List (Atom ℕ)) × IsFit rule.now (HeadsAre rule.now facts) binding }
-    ensures { (facts : List (Atom ℕ)) → IsFit rule.now (HeadsAre rule.now facts) binding → MatchOption result (NoInstance rule.now facts) (IsInstanceUnder rule.now facts) }
+    ensures { (facts : List (Atom ℕ)) → IsFit rule.now (HeadsAre rule.now facts) binding.entry → MatchOption result (NoInstance rule.now facts) (IsInstanceUnder rule.now facts) }
 {
     if !becomes_instance(rule, &mut binding) {
         return None;
@@ -39,7 +42,10 @@ pub fn instance_from<A: Allocator + Copy>(rule: &Rule<A>, mut binding: Binding) 
 
 /// The one binding of all variables of the instance of a rule whose heads are these atoms, in head order: kept heads first.
 /// None where they are no instance, whatever the body. [`added_atoms`] makes the body.
-pub fn instance_under<A: Allocator + Copy>(rule: &Rule<A>, atoms: &[&Atom<A>]) -> Option<Binding>
+pub fn instance_under<'v, A: Allocator + Copy>(
+    rule: &Rule<A>,
+    atoms: &[&'v Atom<A>],
+) -> Option<Binding<'v, A>>
     ensures { let facts = map (λ a. a.now) atoms.now in MatchOption result (NoInstance rule.now facts) (IsInstanceUnder rule.now facts) }
 {
     let binding = fit_all(rule, atoms)?;
@@ -47,14 +53,16 @@ pub fn instance_under<A: Allocator + Copy>(rule: &Rule<A>, atoms: &[&Atom<A>]) -
 }
 
 /// The body of the instance of a rule whose heads are these atoms, in head order: kept heads first. None where they are
-/// no instance, whatever the body. It takes no memory.
+/// no instance, whatever the body. Only compound values take memory. An `Err` is E01.
 pub fn instance<A: Allocator + Copy>(
     alloc: A,
     rule: &Rule<A>,
     atoms: &[&Atom<A>],
-) -> Option<Body<A>>
-    ensures { let facts = map (λ a. a.now) atoms.now in MatchOption result (NoInstance rule.now facts) (λ made. IsInstance rule.now facts made.items) }
+) -> Result<Option<Body<A>>, AllocError>
+    ensures { let facts = map (λ a. a.now) atoms.now in IfOk result (λ body. MatchOption body (NoInstance rule.now facts) (λ made. IsInstance rule.now facts made.items)) }
 {
-    let binding = instance_under(rule, atoms)?;
+    let Some(binding) = instance_under(rule, atoms) else {
+        return Ok(None);
+    };
     added_atoms(alloc, rule, &binding)
 }

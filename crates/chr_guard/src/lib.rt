@@ -6,10 +6,20 @@
 //! [`instance`](instance::instance) decides whether a full list of atoms is an instance of a rule.
 //! [`instance_under`](instance::instance_under) decides the same and gives the binding in place of the body, and
 //! [`becomes_instance`](instance::becomes_instance) completes that of the heads in place. Each answers None or false only
-//! where there is none, and none of them takes memory.
+//! where there is none.
 //!
-//! Contracts speak of valuations, which give each variable a term. A binding is the list of what its variables are bound
-//! to; the valuations that extend it are those that give each bound variable its term.
+//! Heads match by structure: a variable is bound to an atom's argument or to a part of one, and a binding borrows the
+//! compound values among these from the atoms. So nothing takes memory but what makes atoms of compound values, which
+//! answers E01 where memory runs out.
+//!
+//! An argument in a body, and a side of `==` or `\==`, has no value past [`MOST_DEPTH`](chr_value::MOST_DEPTH) or
+//! [`MOST_SIZE`](chr_value::MOST_SIZE). Such values are counted, and none is made to be counted or compared.
+//!
+//! A [`Settled`] is what is kept of a binding where the atoms can't be borrowed on: numbers, symbols, and where compound
+//! values stand. With the atoms it gives the very same binding.
+//!
+//! Contracts speak of valuations, which give each variable a value. A binding is the list of what its variables are bound
+//! to; the valuations that extend it are those that give each bound variable its value.
 #![tactic(auto)]
 
 mod arithmetic;
@@ -18,8 +28,11 @@ pub mod body;
 pub mod instance;
 pub mod laws;
 mod matching;
+mod settled;
+mod terms;
 mod values;
 
 pub use binding::{Binding, Bound};
 pub use matching::{fit, fit_head};
+pub use settled::Settled;
 pub use values::{guard_holds, holds, value};

@@ -1,7 +1,7 @@
 //! Which binding makes heads of a rule equal to atoms.
 ghost use Rattle.std.specs.Prelude.{◌≡◌, true, Some, length, map, MatchOption};
 ghost use Rattle.std.specs.List.{list_all, AllByRecursion};
-ghost use Rattle.chr_value.specs.Atoms.{ground};
+ghost use Rattle.chr_value.specs.Atoms.{ground, said};
 ghost use Rattle.chr_rule.specs.Parts.{argument, shape};
 ghost use Rattle.chr_rule.specs.Scope.{argument_known};
 ghost use Rattle.chr_guard.specs.Values.{term_under};
@@ -11,24 +11,43 @@ ghost use Rattle.chr_guard.specs.Matching.{AreAtHeads, HeadsAre, IsFit};
 
 use crate::binding::Binding;
 use chr_rule::{Rule, RuleAtom, Term};
-use chr_value::{Atom, Value};
+use chr_value::{Atom, Value, ValueRef};
 use std::alloc::Allocator;
 
 /// Extends a binding so that a term equals a value. False only where no valuation that extends it makes them equal.
+/// Most terms are variables, for which it takes no call of its own.
+#[cycle(fit)]
 #[inline(always)]
-pub(crate) fn fit_term(binding: &mut Binding, term: &Term, value: &Value) -> bool
+pub(crate) fn fit_term<'v, A: Allocator + Copy>(
+    binding: &mut Binding<'v, A>,
+    term: &Term<A>,
+    value: ValueRef<'v, A>,
+) -> bool
     requires { argument_known (length binding.old) (argument term.now) ≡ true }
-    ensures { NarrowsIf (λ v. term_under v (argument term.now) ≡ Some (ground value.now)) result binding.old binding.new }
+    ensures { NarrowsIf (λ v. term_under v (argument term.now) ≡ Some (said value.entry)) result binding.old binding.new }
 {
     match term {
         Term::Var(x) => binding.hold(*x, value),
-        Term::Value(given) => given.same(value),
+        Term::Given(given) => given.as_ref().same(&value),
+        Term::Open(open) => match value {
+            ValueRef::Comp(comp) => {
+                if open.functor.number != comp.functor.number {
+                    return false;
+                }
+                fit_terms(binding, &open.args, &comp.args)
+            }
+            _ => false,
+        },
     }
 }
 
-/// The same for several terms.
-#[inline(always)]
-pub(crate) fn fit_terms(binding: &mut Binding, terms: &[Term], values: &[Value]) -> bool
+/// The same for the arguments of a functor.
+#[cycle(fit)]
+fn fit_terms<'v, A: Allocator + Copy>(
+    binding: &mut Binding<'v, A>,
+    terms: &[Term<A>],
+    values: &'v [Value<A>],
+) -> bool
     requires { list_all (argument_known (length binding.old)) (map argument terms.now) ≡ true }
     ensures { NarrowsIf (λ v. map (term_under v) (map argument terms.now) ≡ map (λ t. Some (ground t)) values.now) result binding.old binding.new }
 {
@@ -36,7 +55,31 @@ pub(crate) fn fit_terms(binding: &mut Binding, terms: &[Term], values: &[Value])
         return false;
     }
     for i in 0..terms.len() {
-        if !fit_term(binding, &terms[i], &values[i]) {
+        if !fit_term(binding, &terms[i], values[i].as_ref()) {
+            return false;
+        }
+    }
+    true
+}
+
+/// The same for the arguments of a head.
+#[inline(always)]
+fn fit_args<'v, A: Allocator + Copy>(
+    binding: &mut Binding<'v, A>,
+    terms: &[Term<A>],
+    atom: &'v Atom<A>,
+) -> bool
+    requires { list_all (argument_known (length binding.old)) (map argument terms.now) ≡ true }
+    ensures { NarrowsIf (λ v. map (term_under v) (map argument terms.now) ≡ map (λ t. Some t) atom.now.args) result binding.old binding.new }
+{
+    if terms.len() != atom.arity() {
+        return false;
+    }
+    for i in 0..terms.len() {
+        let Some(value) = atom.arg(i) else {
+            return false;
+        };
+        if !fit_term(binding, &terms[i], value) {
             return false;
         }
     }
@@ -45,7 +88,11 @@ pub(crate) fn fit_terms(binding: &mut Binding, terms: &[Term], values: &[Value])
 
 /// Extends a binding so that a head equals an atom. False only where no valuation that extends it makes them equal.
 #[inline(always)]
-pub fn fit_head<A: Allocator + Copy>(binding: &mut Binding, head: &RuleAtom, atom: &Atom<A>) -> bool
+pub fn fit_head<'v, A: Allocator + Copy>(
+    binding: &mut Binding<'v, A>,
+    head: &RuleAtom<A>,
+    atom: &'v Atom<A>,
+) -> bool
     requires { list_all (argument_known (length binding.old)) (shape head.now).args ≡ true }
     ensures { NarrowsIf (λ v. atom_under v (shape head.now) ≡ Some atom.now) result binding.old binding.new }
 {
@@ -53,14 +100,14 @@ pub fn fit_head<A: Allocator + Copy>(binding: &mut Binding, head: &RuleAtom, ato
     if head.name.number != name.number {
         return false;
     }
-    fit_terms(binding, head.terms.as_slice(), atom.args())
+    fit_args(binding, &head.terms, atom)
 }
 
 /// The same for several heads.
-pub(crate) fn fit_heads<A: Allocator + Copy>(
-    binding: &mut Binding,
-    heads: &[RuleAtom],
-    atoms: &[&Atom<A>],
+pub(crate) fn fit_heads<'v, A: Allocator + Copy>(
+    binding: &mut Binding<'v, A>,
+    heads: &[RuleAtom<A>],
+    atoms: &[&'v Atom<A>],
 ) -> bool
     requires { AllByRecursion (λ h. list_all (argument_known (length binding.old)) h.args ≡ true) (map shape heads.now) }
     ensures { NarrowsIf (λ v. map (atom_under v) (map shape heads.now) ≡ map (λ a. Some a.now) atoms.now) result binding.old binding.new }
@@ -76,23 +123,46 @@ pub(crate) fn fit_heads<A: Allocator + Copy>(
     true
 }
 
+/// The same for the heads of some numbers. A number that no head has fits no atom.
+pub(crate) fn fit_placed<'v, A: Allocator + Copy>(
+    binding: &mut Binding<'v, A>,
+    rule: &Rule<A>,
+    placed: &[(usize, &'v Atom<A>)],
+) -> bool
+    requires { length binding.old ≡ rule.now.variables }
+    ensures { NarrowsIf (AreAtHeads rule.now (map (λ p. (p.0, p.1.now)) placed.now)) result binding.old binding.new }
+{
+    for (number, atom) in placed {
+        let Some(head) = rule.head(*number) else {
+            return false;
+        };
+        if !fit_head(binding, head, atom) {
+            return false;
+        }
+    }
+    true
+}
+
 /// The one binding of the listed heads' variables under which these heads are the listed atoms, or none where there is
 /// none. Heads are numbered from 1, kept heads first; a number that no head has fits no atom. For no heads all is free.
-pub fn fit<A: Allocator + Copy>(rule: &Rule<A>, placed: &[(usize, &Atom<A>)]) -> Option<Binding>
+pub fn fit<'v, A: Allocator + Copy>(
+    rule: &Rule<A>,
+    placed: &[(usize, &'v Atom<A>)],
+) -> Option<Binding<'v, A>>
     ensures { let places = map (λ p. (p.0, p.1.now)) placed.now in MatchOption result ((v : _) → AreAtHeads rule.now places v → ⊥) (λ binding. IsFit rule.now (AreAtHeads rule.now places) binding) }
 {
     let mut binding = Binding::free(rule.variables());
-    for (number, atom) in placed {
-        let head = rule.head(*number)?;
-        if !fit_head(&mut binding, head, atom) {
-            return None;
-        }
+    if !fit_placed(&mut binding, rule, placed) {
+        return None;
     }
     Some(binding)
 }
 
 /// The one binding under which the rule's heads are these atoms, in head order, or none where there is none.
-pub(crate) fn fit_all<A: Allocator + Copy>(rule: &Rule<A>, atoms: &[&Atom<A>]) -> Option<Binding>
+pub(crate) fn fit_all<'v, A: Allocator + Copy>(
+    rule: &Rule<A>,
+    atoms: &[&'v Atom<A>],
+) -> Option<Binding<'v, A>>
     ensures { let facts = map (λ a. a.now) atoms.now in MatchOption result ((v : _) → HeadsAre rule.now facts v → ⊥) (λ binding. IsFit rule.now (HeadsAre rule.now facts) binding) }
 {
     let kept = rule.kept();

@@ -11,10 +11,10 @@ use crate::binding::Binding;
 use chr_rule::{Comparison, Expr, Operator, Relation, Rule};
 use std::alloc::Allocator;
 
-/// The value of an expression over exact whole numbers. It has none where a variable stands for a symbol or is free,
+/// The value of an expression over exact whole numbers. It has none where a variable is free or stands for another value,
 /// where a part is out of the range of 64 bits with sign, or where a divisor is 0.
 #[inline(always)]
-pub fn value<A: Allocator>(expr: &Expr<A>, binding: &Binding) -> Option<i64>
+pub fn value<A: Allocator + Copy>(expr: &Expr<A>, binding: &Binding<'_, A>) -> Option<i64>
     ensures { result ≡ value_of (bound_at binding.now) (expression expr.now) }
 {
     match expr {
@@ -31,7 +31,7 @@ pub fn value<A: Allocator>(expr: &Expr<A>, binding: &Binding) -> Option<i64>
 /// The value of an operand. Most operands are numbers or variables, for which it takes no call.
 #[cycle(operand)]
 #[inline(always)]
-fn operand<A: Allocator>(expr: &Expr<A>, binding: &Binding) -> Option<i64>
+fn operand<A: Allocator + Copy>(expr: &Expr<A>, binding: &Binding<'_, A>) -> Option<i64>
     ensures { result ≡ value_of (bound_at binding.now) (expression expr.now) }
 {
     match expr {
@@ -43,11 +43,11 @@ fn operand<A: Allocator>(expr: &Expr<A>, binding: &Binding) -> Option<i64>
 
 /// The value of an operation within another, to any depth.
 #[cycle(operand)]
-fn nested<A: Allocator>(
+fn nested<A: Allocator + Copy>(
     operator: Operator,
     a: &Expr<A>,
     b: &Expr<A>,
-    binding: &Binding,
+    binding: &Binding<'_, A>,
 ) -> Option<i64>
     ensures { result ≡ both (computed operator) (value_of (bound_at binding.now) (expression a.now)) (value_of (bound_at binding.now) (expression b.now)) }
 {
@@ -58,11 +58,11 @@ fn nested<A: Allocator>(
 
 /// Whether the relation holds between the values of two expressions, where both have one.
 #[inline(always)]
-fn compared<A: Allocator>(
+fn compared<A: Allocator + Copy>(
     relation: Relation,
     a: &Expr<A>,
     b: &Expr<A>,
-    binding: &Binding,
+    binding: &Binding<'_, A>,
 ) -> Option<bool>
     ensures { result ≡ both (λ m n. Some (compares relation m n)) (value_of (bound_at binding.now) (expression a.now)) (value_of (bound_at binding.now) (expression b.now)) }
 {
@@ -71,9 +71,10 @@ fn compared<A: Allocator>(
     Some(compare(relation, left, right))
 }
 
-/// Whether a comparison holds. None does where a side has no value; a number never equals a symbol.
+/// Whether a comparison holds. None does where a side has no value; a number never equals a symbol. A value past the
+/// limits of depth and size is none. It takes no memory.
 #[inline(always)]
-pub fn holds<A: Allocator>(test: &Comparison<A>, binding: &Binding) -> bool
+pub fn holds<A: Allocator + Copy>(test: &Comparison<A>, binding: &Binding<'_, A>) -> bool
     ensures { IsTrue result ↔ Holds (bound_at binding.now) (comparison test.now) }
 {
     match test {
@@ -81,14 +82,14 @@ pub fn holds<A: Allocator>(test: &Comparison<A>, binding: &Binding) -> bool
             Some(so) => so,
             None => false,
         },
-        Comparison::Same(s, t) => binding.term(s).same(&binding.term(t)),
-        Comparison::Differ(s, t) => binding.term(s).differs(&binding.term(t)),
+        Comparison::Same(s, t) => binding.have_same(s, t),
+        Comparison::Differ(s, t) => binding.differ(s, t),
     }
 }
 
 /// Whether each comparison of a rule's guard holds.
 #[inline(always)]
-pub fn guard_holds<A: Allocator>(rule: &Rule<A>, binding: &Binding) -> bool
+pub fn guard_holds<A: Allocator + Copy>(rule: &Rule<A>, binding: &Binding<'_, A>) -> bool
     ensures holds { IsTrue result ↔ AllByRecursion (Holds (bound_at binding.now)) rule.now.guard }
     ensures valid { IsRule rule.now }
 {

@@ -5,7 +5,7 @@ use Rattle.std.proofs.lemmas.Bool.{ltb-false, le-ltb}
 use Rattle.chr_lex.specs.declared.fault.Kind.{Kind}
 use Rattle.chr_grammar.specs.Parsed.{Declared, ParsedAtom, ParsedRule}
 use Rattle.chr_limits.specs.Words.{is_long, phrase_has, rule_has}
-use Rattle.chr_limits.specs.Limits.{has_many_args, has_wide_atom, has_many_parts, is_too_large, is_comparison, is_item}
+use Rattle.chr_limits.specs.Limits.{has_many_args, has_large_args, has_wide_atom, has_large_term, has_many_parts, is_too_large, is_comparison, is_item}
 use Rattle.chr_limits.specs.Variables.{variables_of, seen}
 use Rattle.chr_limits.specs.Judging.{removes_nothing, is_propagation, rule_judged, declaration_judged, post_judged}
 use Rattle.chr_limits.specs.Standing.{IsAllowedRule, AreAllowedDeclarations, AreAllowedPosts}
@@ -48,16 +48,17 @@ stands full r h =
     let second = passed _ _ _ tt first.1 in
     let third = passed _ _ _ tt second.1 in
     let whole = neither full (is_too_large r) third.0 in
-    let large = neither (rule_has is_long r || has_wide_atom r) (has_many_parts r) whole.1 in
-    let words = neither (rule_has is_long r) (has_wide_atom r) large.0 in
+    let large = neither (rule_has is_long r || has_wide_atom r || has_large_term r) (has_many_parts r) whole.1 in
+    let terms = neither (rule_has is_long r || has_wide_atom r) (has_large_term r) large.0 in
+    let words = neither (rule_has is_long r) (has_wide_atom r) terms.0 in
     let parts = neither (ltb 6 (length r.kept + length r.removed) || ltb 16 (length (filter is_comparison r.guard)) || ltb 16 (length (filter is_item r.body))) (ltb 24 (length (seen (variables_of r)))) large.1 in
     let items = neither (ltb 6 (length r.kept + length r.removed) || ltb 16 (length (filter is_comparison r.guard))) (ltb 16 (length (filter is_item r.body))) parts.0 in
     let heads = neither (ltb 6 (length r.kept + length r.removed)) (ltb 16 (length (filter is_comparison r.guard))) items.0 in
-    (whole.0, record { removes = removing r first.0; numbers = second.0; names = words.0; args = words.1; heads = ltb-false _ _ heads.0; comparisons = ltb-false _ _ heads.1; items = ltb-false _ _ items.1; variables = ltb-false _ _ parts.1; scoped = held _ _ _ _ third.1 })
+    (whole.0, record { removes = removing r first.0; numbers = second.0; names = words.0; args = words.1; terms = terms.1; heads = ltb-false _ _ heads.0; comparisons = ltb-false _ _ heads.1; items = ltb-false _ _ items.1; variables = ltb-false _ _ parts.1; scoped = held _ _ _ _ third.1 })
 
 small : (r : ParsedRule) → IsAllowedRule r → is_too_large r ≡ false
 small r s =
-    nor (rule_has is_long r || has_wide_atom r) (has_many_parts r) (nor _ _ s.names s.args) (nor _ _ (nor _ _ (nor _ _ (le-ltb _ _ s.heads) (le-ltb _ _ s.comparisons)) (le-ltb _ _ s.items)) (le-ltb _ _ s.variables))
+    nor (rule_has is_long r || has_wide_atom r || has_large_term r) (has_many_parts r) (nor _ _ (nor _ _ s.names s.args) s.terms) (nor _ _ (nor _ _ (nor _ _ (le-ltb _ _ s.heads) (le-ltb _ _ s.comparisons)) (le-ltb _ _ s.items)) (le-ltb _ _ s.variables))
 
 pub passes : (full : Bool) (r : ParsedRule) → (full ≡ false) × IsAllowedRule r → rule_judged full r ≡ Ok tt
 passes full r h = rw (removed r h.1.removes, h.1.numbers, nor full (is_too_large r) h.0 (small r h.1), h.1.scoped) refl
@@ -76,8 +77,9 @@ posted atoms h =
     let first = passed _ _ _ tt h in
     let second = passed _ _ _ tt first.1 in
     let third = passed _ _ _ tt second.1 in
-    let large = neither (list_any (phrase_has is_long) atoms) (list_any has_many_args atoms) second.0 in
-    record { numbers = first.0; names = large.0; args = large.1; no_variables = third.0 }
+    let large = neither (list_any (phrase_has is_long) atoms || list_any has_many_args atoms) (list_any has_large_args atoms) second.0 in
+    let words = neither (list_any (phrase_has is_long) atoms) (list_any has_many_args atoms) large.0 in
+    record { numbers = first.0; names = words.0; args = words.1; terms = large.1; no_variables = third.0 }
 
 pub posts : (atoms : List ParsedAtom) → AreAllowedPosts atoms → post_judged atoms ≡ Ok tt
-posts atoms s = rw (s.numbers, nor _ _ s.names s.args, s.no_variables) refl
+posts atoms s = rw (s.numbers, nor _ _ (nor _ _ s.names s.args) s.terms, s.no_variables) refl

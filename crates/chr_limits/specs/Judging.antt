@@ -6,7 +6,7 @@ use Rattle.chr_lex.specs.declared.fault.Kind.TheVariants.{Propagation, NumberRan
 use Rattle.chr_lex.specs.Tokens.{Name, Number}
 use Rattle.chr_grammar.specs.Parsed.{Declared, ParsedAtom, ParsedRule}
 use Rattle.chr_limits.specs.Words.{is_out_of_range, is_long, is_variable, phrase_has, rule_has}
-use Rattle.chr_limits.specs.Limits.{has_many_args, is_too_large}
+use Rattle.chr_limits.specs.Limits.{has_many_args, has_large_args, is_too_large}
 use Rattle.chr_limits.specs.Scope.{is_in_scope}
 
 -- a rule that removes nothing
@@ -38,5 +38,6 @@ declaration_judged all =
 abbrev pub post_judged : List ParsedAtom → Result (Unit {0}) Kind
 post_judged atoms =
     if list_any (phrase_has is_out_of_range) atoms then Err NumberRange
-    else (if list_any (phrase_has is_long) atoms || list_any has_many_args atoms then Err TooMany
+    else (if list_any (phrase_has is_long) atoms || list_any has_many_args atoms || list_any has_large_args atoms
+    then Err TooMany
     else (if list_any (phrase_has is_variable) atoms then Err Binding else Ok tt))

@@ -4,7 +4,7 @@ use Rattle.std.specs.List.{list_any}
 use Rattle.chr_lex.specs.Tokens.{Name, Number}
 use Rattle.chr_grammar.specs.Parsed.{Declared, ParsedAtom, ParsedRule}
 use Rattle.chr_limits.specs.Words.{is_out_of_range, is_long, is_variable, phrase_has, rule_has}
-use Rattle.chr_limits.specs.Limits.{has_many_args, has_wide_atom, is_comparison, is_item}
+use Rattle.chr_limits.specs.Limits.{has_many_args, has_wide_atom, has_large_args, has_large_term, is_comparison, is_item}
 use Rattle.chr_limits.specs.Variables.{variables_of, seen}
 use Rattle.chr_limits.specs.Scope.{is_in_scope}
 
@@ -14,6 +14,7 @@ pub record IsAllowedRule (r : ParsedRule) : Type 0 where
   pub numbers : rule_has is_out_of_range r ≡ false
   pub names : rule_has is_long r ≡ false
   pub args : has_wide_atom r ≡ false
+  pub terms : has_large_term r ≡ false
   pub heads : length r.kept + length r.removed ≤ 6
   pub comparisons : length (filter is_comparison r.guard) ≤ 16
   pub items : length (filter is_item r.body) ≤ 16
@@ -30,4 +31,5 @@ pub record AreAllowedPosts (atoms : List ParsedAtom) : Type 0 where
   pub numbers : list_any (phrase_has is_out_of_range) atoms ≡ false
   pub names : list_any (phrase_has is_long) atoms ≡ false
   pub args : list_any has_many_args atoms ≡ false
+  pub terms : list_any has_large_args atoms ≡ false
   pub no_variables : list_any (phrase_has is_variable) atoms ≡ false

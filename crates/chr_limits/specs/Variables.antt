@@ -4,7 +4,7 @@ use Rattle.std.specs.List.{list_any}
 use Rattle.std.specs.Str.{bytes_eq}
 use Rattle.chr_lex.specs.Tokens.{Word, Name, Variable, Number}
 use Rattle.chr_grammar.specs.Parsed as parsed
-use Rattle.chr_grammar.specs.Parsed.{ParsedExpression, ParsedAtom, GuardMember, BodyMember, ParsedRule}
+use Rattle.chr_grammar.specs.Parsed.{ParsedExpression, ParsedTerm, ParsedAtom, GuardMember, BodyMember, ParsedRule}
 
 -- the variables at their places, in text order
 abbrev pub word_variables : Word → List (List ℕ)
@@ -18,14 +18,17 @@ formula_variables (parsed.Variable name) = name ∷ []
 formula_variables (parsed.Group inner) = formula_variables inner
 formula_variables (parsed.Operation o a b) = formula_variables a ++ formula_variables b
 
+abbrev pub term_variables : ParsedTerm → List (List ℕ)
+term_variables t = flat_map (λ n. word_variables n.word) t
+
 abbrev pub phrase_variables : ParsedAtom → List (List ℕ)
-phrase_variables p = flat_map word_variables p.args
+phrase_variables p = flat_map term_variables p.args
 
 abbrev pub test_variables : GuardMember → List (List ℕ)
 test_variables parsed.Always = []
 test_variables (parsed.Compared r a b) = formula_variables a ++ formula_variables b
-test_variables (parsed.Same s t) = word_variables s ++ word_variables t
-test_variables (parsed.Differ s t) = word_variables s ++ word_variables t
+test_variables (parsed.Same t u) = term_variables t ++ term_variables u
+test_variables (parsed.Differ t u) = term_variables t ++ term_variables u
 
 abbrev pub member_variables : BodyMember → List (List ℕ)
 member_variables parsed.Nothing = []

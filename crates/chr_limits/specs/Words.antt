@@ -3,7 +3,7 @@ use Rattle.std.specs.Prelude.{ℕ, Bool, true, false, List, length, nat_lt, is_n
 use Rattle.std.specs.List.{list_any}
 use Rattle.chr_lex.specs.Tokens.{Word, Name, Variable, Number}
 use Rattle.chr_grammar.specs.Parsed as parsed
-use Rattle.chr_grammar.specs.Parsed.{ParsedExpression, ParsedAtom, GuardMember, BodyMember, ParsedRule}
+use Rattle.chr_grammar.specs.Parsed.{ParsedExpression, ParsedTerm, ParsedAtom, GuardMember, BodyMember, ParsedRule}
 use Rattle.chr_limits.specs.declared.limits.Unfit.{Unfit}
 use Rattle.chr_limits.specs.declared.limits.Unfit.TheVariants as unfit
 use Rattle.chr_limits.specs.Numbers.{whole_number}
@@ -37,14 +37,17 @@ formula_has test (parsed.Variable name) = test (Variable name)
 formula_has test (parsed.Group inner) = formula_has test inner
 formula_has test (parsed.Operation o a b) = formula_has test a || formula_has test b
 
+abbrev pub term_has : (Word → Bool) → ParsedTerm → Bool
+term_has test t = list_any (λ n. test n.word) t
+
 abbrev pub phrase_has : (Word → Bool) → ParsedAtom → Bool
-phrase_has test p = test (Name p.name) || list_any test p.args
+phrase_has test p = test (Name p.name) || list_any (term_has test) p.args
 
 abbrev pub test_has : (Word → Bool) → GuardMember → Bool
 test_has test parsed.Always = false
 test_has test (parsed.Compared r a b) = formula_has test a || formula_has test b
-test_has test (parsed.Same s t) = test s || test t
-test_has test (parsed.Differ s t) = test s || test t
+test_has test (parsed.Same t u) = term_has test t || term_has test u
+test_has test (parsed.Differ t u) = term_has test t || term_has test u
 
 abbrev pub member_has : (Word → Bool) → BodyMember → Bool
 member_has test parsed.Nothing = false

@@ -15,6 +15,7 @@ use crate::limits::{
 };
 use crate::number::int;
 use crate::scope::is_in_scope;
+use crate::terms::{any_large_args, has_large_term};
 use crate::variables::has_many_variables;
 use chr_grammar::{Declared, ParsedAtom, ParsedRule};
 use chr_lex::fault::{ItemError, Kind};
@@ -47,7 +48,10 @@ fn any_long(all: &[Declared]) -> bool
 fn is_too_large<A: Allocator>(rule: &ParsedRule<'_, A>) -> bool
     ensures { result ≡ is_too_large (by_texts.raw_rule rule.now) }
 {
-    if rule_has(Unfit::TooLong, rule) || has_wide_atom(rule) || has_many_heads(rule) {
+    if rule_has(Unfit::TooLong, rule) || has_wide_atom(rule) || has_large_term(rule) {
+        return true;
+    }
+    if has_many_heads(rule) {
         return true;
     }
     if count_comparisons(&rule.consequence.guard) > MOST_COMPARISONS {
@@ -102,8 +106,8 @@ pub fn judge_rule<A: Allocator>(full: bool, rule: &ParsedRule<'_, A>) -> Result<
 
 /// Judges the atoms of a post. It takes no memory.
 ///
-/// The fault is the first of these: a number outside the range of 64 bits with sign (E06), a name of more than 64 bytes
-/// or an atom with more than 8 arguments (E07), a variable (E08).
+/// The fault is the first of these: a number outside the range of 64 bits with sign (E06), a name of more than 64 bytes,
+/// an atom or a functor with more than 8 arguments, or a term that is too deep or too large (E07), a variable (E08).
 pub fn judge_post<A: Allocator>(phrases: &[ParsedAtom<'_, A>]) -> Result<(), ItemError>
     ensures judged { Gives (λ u. u) result (post_judged (map by_texts.phrase phrases.now)) }
     ensures no_memory { IfErr result (λ e. e ≢ Memory) }
@@ -111,7 +115,7 @@ pub fn judge_post<A: Allocator>(phrases: &[ParsedAtom<'_, A>]) -> Result<(), Ite
     if phrases_have(Unfit::OutOfRange, phrases) {
         return Err(ItemError::Fault(Kind::NumberRange));
     }
-    if phrases_have(Unfit::TooLong, phrases) || any_wide(phrases) {
+    if phrases_have(Unfit::TooLong, phrases) || any_wide(phrases) || any_large_args(phrases) {
         return Err(ItemError::Fault(Kind::TooMany));
     }
     if phrases_have(Unfit::Variable, phrases) {

@@ -4,11 +4,13 @@ ghost use Rattle.std.specs.List.{list_any};
 ghost use Rattle.std.specs.Option.{option_map};
 ghost use Rattle.chr_lex.specs.Tokens.{word};
 ghost use Rattle.chr_grammar.specs.Views as by_texts;
-ghost use Rattle.chr_limits.specs.Words.{is_unfit, formula_has, phrase_has, test_has, member_has, rule_name_has, rule_has};
+ghost use Rattle.chr_limits.specs.Words.{is_unfit, formula_has, term_has, phrase_has, test_has, member_has, rule_name_has, rule_has};
 ghost use Rattle.chr_limits.specs.Limits.{has_many_args, adds_many_args, is_comparison, is_item, has_wide_atom};
 
 use crate::number::int;
-use chr_grammar::{BodyMember, GuardMember, ParsedAtom, ParsedExpression, ParsedRule};
+use chr_grammar::{
+    BodyMember, GuardMember, ParsedAtom, ParsedExpression, ParsedRule, ParsedTerm, TermNode,
+};
 use chr_lex::Word;
 use chr_rule::MOST_HEADS;
 use chr_value::{MOST_ARGS, MOST_NAME_BYTES};
@@ -38,11 +40,28 @@ pub fn is_unfit(unfit: Unfit, term: Word) -> bool
     }
 }
 
-fn any_word(unfit: Unfit, terms: &[Word]) -> bool
-    ensures { result ≡ list_any (is_unfit unfit) (map word terms.now) }
+fn any_word(unfit: Unfit, nodes: &[TermNode]) -> bool
+    ensures { result ≡ term_has (is_unfit unfit) (map by_texts.node nodes.now) }
+{
+    for node in nodes {
+        if is_unfit(unfit, node.word) {
+            return true;
+        }
+    }
+    false
+}
+
+fn term_has<A: Allocator>(unfit: Unfit, term: &ParsedTerm<'_, A>) -> bool
+    ensures { result ≡ term_has (is_unfit unfit) (by_texts.term term.now) }
+{
+    any_word(unfit, &term.nodes)
+}
+
+fn any_term<A: Allocator>(unfit: Unfit, terms: &[ParsedTerm<'_, A>]) -> bool
+    ensures { result ≡ list_any (term_has (is_unfit unfit)) (map by_texts.term terms.now) }
 {
     for term in terms {
-        if is_unfit(unfit, *term) {
+        if term_has(unfit, term) {
             return true;
         }
     }
@@ -70,7 +89,7 @@ fn tree_has<A: Allocator>(unfit: Unfit, tree: &ParsedExpression<'_, A>) -> bool
 fn phrase_has<A: Allocator>(unfit: Unfit, phrase: &ParsedAtom<'_, A>) -> bool
     ensures { result ≡ phrase_has (is_unfit unfit) (by_texts.phrase phrase.now) }
 {
-    is_unfit(unfit, Word::Name(phrase.name)) || any_word(unfit, &phrase.args)
+    is_unfit(unfit, Word::Name(phrase.name)) || any_term(unfit, &phrase.args)
 }
 
 /// Whether a word of some atoms is unfit.
@@ -91,8 +110,8 @@ fn test_has<A: Allocator>(unfit: Unfit, test: &GuardMember<'_, A>) -> bool
     match test {
         GuardMember::True => false,
         GuardMember::Compared(_, left, right) => tree_has(unfit, left) || tree_has(unfit, right),
-        GuardMember::Same(left, right) => is_unfit(unfit, *left) || is_unfit(unfit, *right),
-        GuardMember::Differ(left, right) => is_unfit(unfit, *left) || is_unfit(unfit, *right),
+        GuardMember::Same(left, right) => term_has(unfit, left) || term_has(unfit, right),
+        GuardMember::Differ(left, right) => term_has(unfit, left) || term_has(unfit, right),
     }
 }
 
@@ -190,13 +209,24 @@ pub fn has_many_heads<A: Allocator>(rule: &ParsedRule<'_, A>) -> bool
     kept > MOST_HEADS || rule.heads.removed.len() > MOST_HEADS - kept
 }
 
+fn is_comparison<A: Allocator>(test: &GuardMember<'_, A>) -> bool
+    ensures { result ≡ is_comparison (by_texts.test test.now) }
+{
+    match test {
+        GuardMember::True => false,
+        GuardMember::Compared(..) => true,
+        GuardMember::Same(..) => true,
+        GuardMember::Differ(..) => true,
+    }
+}
+
 /// How many members of a guard are comparisons.
 pub fn count_comparisons<A: Allocator>(guard: &[GuardMember<'_, A>]) -> usize
     ensures { result ≡ length (filter is_comparison (map by_texts.test guard.now)) }
 {
     let mut count = 0;
     for test in guard {
-        if !matches!(test, GuardMember::True) {
+        if is_comparison(test) {
             count += 1;
         }
     }

@@ -2,30 +2,47 @@
 ghost use Rattle.std.specs.Prelude.{◌≡◌, ◌≤◌, length, map, flat_map};
 ghost use Rattle.chr_lex.specs.Tokens.{word};
 ghost use Rattle.chr_grammar.specs.Views as by_texts;
-ghost use Rattle.chr_limits.specs.Variables.{word_variables, formula_variables, test_variables, member_variables, head_variables, variables_of, seen_from, seen};
+ghost use Rattle.chr_limits.specs.Variables.{word_variables, term_variables, formula_variables, test_variables, member_variables, head_variables, variables_of, seen_from, seen};
 ghost use Rattle.chr_limits.specs.Scope.{are_seen, body_in_scope, is_in_scope};
 ghost use Rattle.chr_limits.specs.Views.{names};
 
 use crate::variables::{Seen, head_variables, is_seen};
-use chr_grammar::{BodyMember, GuardMember, ParsedExpression, ParsedRule};
+use chr_grammar::{BodyMember, GuardMember, ParsedExpression, ParsedRule, ParsedTerm, TermNode};
 use chr_lex::Word;
 use std::alloc::Allocator;
 
-fn is_term_seen(seen: &[&[u8]], term: Word) -> bool
-    ensures { result ≡ are_seen (names seen.now) (word_variables (word term.entry)) }
+fn is_word_seen(seen: &[&[u8]], part: Word) -> bool
+    ensures { result ≡ are_seen (names seen.now) (word_variables (word part.entry)) }
 {
-    match term {
+    match part {
         Word::Variable(name) => is_seen(seen, name),
         Word::Name(_) => true,
         Word::Number { .. } => true,
     }
 }
 
-fn are_terms_seen(seen: &[&[u8]], terms: &[Word]) -> bool
-    ensures { result ≡ are_seen (names seen.now) (flat_map word_variables (map word terms.now)) }
+fn are_words_seen(seen: &[&[u8]], nodes: &[TermNode]) -> bool
+    ensures { result ≡ are_seen (names seen.now) (term_variables (map by_texts.node nodes.now)) }
+{
+    for node in nodes {
+        if !is_word_seen(seen, node.word) {
+            return false;
+        }
+    }
+    true
+}
+
+fn is_term_seen<A: Allocator>(seen: &[&[u8]], term: &ParsedTerm<'_, A>) -> bool
+    ensures { result ≡ are_seen (names seen.now) (term_variables (by_texts.term term.now)) }
+{
+    are_words_seen(seen, &term.nodes)
+}
+
+fn are_terms_seen<A: Allocator>(seen: &[&[u8]], terms: &[ParsedTerm<'_, A>]) -> bool
+    ensures { result ≡ are_seen (names seen.now) (flat_map term_variables (map by_texts.term terms.now)) }
 {
     for term in terms {
-        if !is_term_seen(seen, *term) {
+        if !is_term_seen(seen, term) {
             return false;
         }
     }
@@ -51,8 +68,8 @@ fn is_test_seen<A: Allocator>(seen: &[&[u8]], test: &GuardMember<'_, A>) -> bool
         GuardMember::True => true,
         GuardMember::Compared(_, left, right) => is_tree_seen(seen, left)
             && is_tree_seen(seen, right),
-        GuardMember::Same(left, right) => is_term_seen(seen, *left) && is_term_seen(seen, *right),
-        GuardMember::Differ(left, right) => is_term_seen(seen, *left) && is_term_seen(seen, *right),
+        GuardMember::Same(left, right) => is_term_seen(seen, left) && is_term_seen(seen, right),
+        GuardMember::Differ(left, right) => is_term_seen(seen, left) && is_term_seen(seen, right),
     }
 }
 

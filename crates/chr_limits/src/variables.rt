@@ -2,11 +2,13 @@
 ghost use Rattle.std.specs.Prelude.{◌≡◌, ◌<◌, ◌∷◌, [], length, map, flat_map, nat_lt, MatchOption};
 ghost use Rattle.chr_lex.specs.Tokens.{word};
 ghost use Rattle.chr_grammar.specs.Views as by_texts;
-ghost use Rattle.chr_limits.specs.Variables.{word_variables, formula_variables, phrase_variables, test_variables, member_variables, head_variables, variables_of, is_blank, is_seen, seen_from, seen};
+ghost use Rattle.chr_limits.specs.Variables.{word_variables, term_variables, formula_variables, phrase_variables, test_variables, member_variables, head_variables, variables_of, is_blank, is_seen, seen_from, seen};
 ghost use Rattle.chr_limits.specs.Views.{names, Sees};
 
 use arrayvec::ArrayVec;
-use chr_grammar::{BodyMember, GuardMember, ParsedAtom, ParsedExpression, ParsedRule};
+use chr_grammar::{
+    BodyMember, GuardMember, ParsedAtom, ParsedExpression, ParsedRule, ParsedTerm, TermNode,
+};
 use chr_lex::Word;
 use chr_rule::MOST_VARIABLES;
 use std::alloc::Allocator;
@@ -50,21 +52,36 @@ fn meet<'a>(seen: &mut Seen<'a>, name: &'a [u8]) -> Option<()>
     Some(())
 }
 
-fn meet_term<'a>(seen: &mut Seen<'a>, term: Word<'a>) -> Option<()>
-    ensures { Sees result seen.old.items seen.new.items (word_variables (word term.entry)) }
+fn meet_word<'a>(seen: &mut Seen<'a>, part: Word<'a>) -> Option<()>
+    ensures { Sees result seen.old.items seen.new.items (word_variables (word part.entry)) }
 {
-    match term {
+    match part {
         Word::Variable(name) => meet(seen, name),
         Word::Name(_) => Some(()),
         Word::Number { .. } => Some(()),
     }
 }
 
-fn meet_terms<'a>(seen: &mut Seen<'a>, terms: &[Word<'a>]) -> Option<()>
-    ensures { Sees result seen.old.items seen.new.items (flat_map word_variables (map word terms.now)) }
+fn meet_words<'a>(seen: &mut Seen<'a>, nodes: &[TermNode<'a>]) -> Option<()>
+    ensures { Sees result seen.old.items seen.new.items (term_variables (map by_texts.node nodes.now)) }
+{
+    for node in nodes {
+        meet_word(seen, node.word)?;
+    }
+    Some(())
+}
+
+fn meet_term<'a, A: Allocator>(seen: &mut Seen<'a>, term: &ParsedTerm<'a, A>) -> Option<()>
+    ensures { Sees result seen.old.items seen.new.items (term_variables (by_texts.term term.now)) }
+{
+    meet_words(seen, &term.nodes)
+}
+
+fn meet_terms<'a, A: Allocator>(seen: &mut Seen<'a>, terms: &[ParsedTerm<'a, A>]) -> Option<()>
+    ensures { Sees result seen.old.items seen.new.items (flat_map term_variables (map by_texts.term terms.now)) }
 {
     for term in terms {
-        meet_term(seen, *term)?;
+        meet_term(seen, term)?;
     }
     Some(())
 }
@@ -104,12 +121,12 @@ fn meet_test<'a, A: Allocator>(seen: &mut Seen<'a>, test: &GuardMember<'a, A>) -
             meet_tree(seen, right)
         }
         GuardMember::Same(left, right) => {
-            meet_term(seen, *left)?;
-            meet_term(seen, *right)
+            meet_term(seen, left)?;
+            meet_term(seen, right)
         }
         GuardMember::Differ(left, right) => {
-            meet_term(seen, *left)?;
-            meet_term(seen, *right)
+            meet_term(seen, left)?;
+            meet_term(seen, right)
         }
     }
 }

@@ -9,25 +9,31 @@ use Rattle.chr_value.proofs.Chosen.{bind_some, some_is}
 use Rattle.chr_value.proofs.NameLaws.{keeps-then}
 use Rattle.chr_value.proofs.Said.{as_long, term_later, name_says, term_says, fact_says}
 use Rattle.chr_value.proofs.Inside.{atom_inside}
-use Rattle.chr_rule.specs.Rules.{Term, Var, Given, RuleAtom, Comparison, Compared, Same, Differ, BodyItem, Is, Add, Simpagation, of_parts}
+use Rattle.chr_rule.specs.Rules.{Term, Var, Given, Open, Terms, End, And, RuleAtom, Comparison, Compared, Same, Differ, BodyItem, Is, Add, Simpagation, of_parts}
 use Rattle.chr_grammar.specs.Parsed as parsed
 use Rattle.chr_grammar.specs.Parsed.{Statement}
 use Rattle.chr_grammar.proofs.Members_again.{all_append}
 use Rattle.chr_text.specs.Translation.{rule}
-use Rattle.chr_text.specs.Numbering.{each, numbered_term, numbered_rule_atom, number_test, number_member, number_rule}
+use Rattle.chr_text.specs.Numbering.{each, numbered_term, numbered_terms, numbered_rule_atom, number_test, number_member, number_rule}
 use Rattle.chr_text.specs.Reading.{Program, program_of, Posts, posts_of}
 use Rattle.chr_text.specs.Forms.{InOrder, no_more, item, Adds, AddsStatement, AddsAtoms}
 use Rattle.chr_text.specs.Writable.{AreWritable}
 use Rattle.chr_text.proofs.PostTexts.{are_posts}
 use Rattle.chr_text.proofs.ProgramTexts.{is_program}
 use Rattle.chr_text.proofs.Writable.{posts_writable}
-use Rattle.chr_named.specs.Named.{ArgumentIsNamed, RuleAtomIsNamed, ComparisonIsNamed, BodyItemIsNamed, RuleIsNamed, RulesAreNamed}
+use Rattle.chr_named.specs.Named.{ArgumentIsNamed, ArgumentsAreNamed, RuleAtomIsNamed, ComparisonIsNamed, BodyItemIsNamed, RuleIsNamed, RulesAreNamed}
 
 -- ---- what a table has, a longer one has
 
-argument_still : (m n : ℕ) (t : Term ℕ) → m ≤ n → ArgumentIsNamed m t → ArgumentIsNamed n t
-argument_still m n (Var x) le h = tt
-argument_still m n (Given v) le h = term_later m n v le h
+mutual
+  argument_still : (m n : ℕ) (t : Term ℕ) → m ≤ n → ArgumentIsNamed m t → ArgumentIsNamed n t
+  argument_still m n (Var x) le h = tt
+  argument_still m n (Given v) le h = term_later m n v le h
+  argument_still m n (Open s ts) le h = let name = h.0 in (omega (arith, name, le), arguments_still m n ts le h.1)
+
+  arguments_still : (m n : ℕ) (ts : Terms ℕ) → m ≤ n → ArgumentsAreNamed m ts → ArgumentsAreNamed n ts
+  arguments_still m n End le h = tt
+  arguments_still m n (And t ts) le h = (argument_still m n t le h.0, arguments_still m n ts le h.1)
 
 -- ---- lists
 
@@ -55,11 +61,30 @@ each_numbers {B = B} f P still one table new (a ∷ as') bs h =
 value_numbered : (table new : Table) (t : Value (List ℕ)) (v : Value ℕ) → numbered_value table t ≡ Some (v, new) → TermIsNamed (length new) v × (length table ≤ length new)
 value_numbered table new t v h = let s = term_says table t v new h in (s.1, as_long table new s.2)
 
-term_numbered : (table new : Table) (a : Term (List ℕ)) (b : Term ℕ) → numbered_term table a ≡ Some (b, new) → ArgumentIsNamed (length new) b × (length table ≤ length new)
-term_numbered table new (Var x) b h = subst (λ (z : Term ℕ × Table). ArgumentIsNamed (length z.1) z.0 × (length table ≤ length z.1)) (some_is {A = Term ℕ × Table} (Var x, table) (b, new) h) (tt, omega arith)
-term_numbered table new (Given t) b h =
-    let x = bind_some (numbered_value table t) (λ x. Some (Given x.0, x.1)) (b, new) h in
-    subst (λ (z : Term ℕ × Table). ArgumentIsNamed (length z.1) z.0 × (length table ≤ length z.1)) (some_is {A = Term ℕ × Table} (Given x.0.0, x.0.1) (b, new) x.2) (value_numbered table x.0.1 t x.0.0 x.1)
+mutual
+  term_numbered : (table new : Table) (a : Term (List ℕ)) (b : Term ℕ) → numbered_term table a ≡ Some (b, new) → ArgumentIsNamed (length new) b × (length table ≤ length new)
+  term_numbered table new (Var x) b h = subst (λ (z : Term ℕ × Table). ArgumentIsNamed (length z.1) z.0 × (length table ≤ length z.1)) (some_is {A = Term ℕ × Table} (Var x, table) (b, new) h) (tt, omega arith)
+  term_numbered table new (Given t) b h =
+      let x = bind_some (numbered_value table t) (λ x. Some (Given x.0, x.1)) (b, new) h in
+      subst (λ (z : Term ℕ × Table). ArgumentIsNamed (length z.1) z.0 × (length table ≤ length z.1)) (some_is {A = Term ℕ × Table} (Given x.0.0, x.0.1) (b, new) x.2) (value_numbered table x.0.1 t x.0.0 x.1)
+  term_numbered table new (Open t ts) b h =
+      let n = bind_some (number_name table t) (λ n. numbered_terms n.1 ts >>= λ xs. Some (Open n.0 xs.0, xs.1)) (b, new) h in
+      let x = bind_some (numbered_terms n.0.1 ts) (λ xs. Some (Open n.0.0 xs.0, xs.1)) (b, new) n.2 in
+      let says = name_says table t n.0.0 n.0.1 n.1 in
+      let args = terms_numbered n.0.1 x.0.1 ts x.0.0 x.1 in
+      let grown = as_long table n.0.1 says.2 in
+      let name : n.0.0 < length x.0.1 = (let k = says.1 in let l = args.1 in omega (arith, k, l)) in
+      subst (λ (z : Term ℕ × Table). ArgumentIsNamed (length z.1) z.0 × (length table ≤ length z.1)) (some_is {A = Term ℕ × Table} (Open n.0.0 x.0.0, x.0.1) (b, new) x.2) ((name, args.0), (let l = args.1 in omega (arith, grown, l)))
+
+  terms_numbered : (table new : Table) (as' : Terms (List ℕ)) (bs : Terms ℕ) → numbered_terms table as' ≡ Some (bs, new) → ArgumentsAreNamed (length new) bs × (length table ≤ length new)
+  terms_numbered table new End bs h = subst (λ (z : Terms ℕ × Table). ArgumentsAreNamed (length z.1) z.0 × (length table ≤ length z.1)) (some_is {A = Terms ℕ × Table} (End, table) (bs, new) h) (tt, omega arith)
+  terms_numbered table new (And t ts) bs h =
+      let x = bind_some (numbered_term table t) (λ x. numbered_terms x.1 ts >>= λ xs. Some (And x.0 xs.0, xs.1)) (bs, new) h in
+      let y = bind_some (numbered_terms x.0.1 ts) (λ xs. Some (And x.0.0 xs.0, xs.1)) (bs, new) x.2 in
+      let first = term_numbered table x.0.1 t x.0.0 x.1 in
+      let rest = terms_numbered x.0.1 y.0.1 ts y.0.0 y.1 in
+      subst (λ (z : Terms ℕ × Table). ArgumentsAreNamed (length z.1) z.0 × (length table ≤ length z.1)) (some_is {A = Terms ℕ × Table} (And x.0.0 y.0.0, y.0.1) (bs, new) y.2)
+      ((argument_still (length x.0.1) (length y.0.1) x.0.0 rest.1 first.0, rest.0), omega (arith, first.1, rest.1))
 
 atom_still : (m n : ℕ) (p : RuleAtom ℕ) → m ≤ n → RuleAtomIsNamed m p → RuleAtomIsNamed n p
 atom_still m n p le h = record { name = (let k = h.name in omega (arith, k, le)); args = all_still ArgumentIsNamed argument_still m n p.args le h.args }

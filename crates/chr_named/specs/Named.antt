@@ -2,12 +2,18 @@
 use Rattle.std.specs.Prelude.{ℕ, ◌<◌, List, length}
 use Rattle.std.specs.List.{AllByRecursion}
 use Rattle.chr_value.specs.Atoms.{TermIsNamed}
-use Rattle.chr_rule.specs.Rules.{Term, Var, Given, RuleAtom, Comparison, Compared, Same, Differ, BodyItem, Is, Add, Simpagation}
+use Rattle.chr_rule.specs.Rules.{Term, Var, Given, Open, Terms, End, And, RuleAtom, Comparison, Compared, Same, Differ, BodyItem, Is, Add, Simpagation}
 
--- a table of n names has the name of an argument, if it is a symbol
-abbrev pub ArgumentIsNamed : ℕ → Term ℕ → Type 0
-ArgumentIsNamed n (Var x) = Unit {0}
-ArgumentIsNamed n (Given value) = TermIsNamed n value
+-- a table of n names has all names of an argument
+abbrev mutual
+  pub ArgumentIsNamed : ℕ → Term ℕ → Type 0
+  ArgumentIsNamed n (Var x) = Unit {0}
+  ArgumentIsNamed n (Given value) = TermIsNamed n value
+  ArgumentIsNamed n (Open s ts) = (s < n) × ArgumentsAreNamed n ts
+
+  pub ArgumentsAreNamed : ℕ → Terms ℕ → Type 0
+  ArgumentsAreNamed n End = Unit {0}
+  ArgumentsAreNamed n (And t ts) = ArgumentIsNamed n t × ArgumentsAreNamed n ts
 
 -- the name of a constraint of a rule, and those of its arguments
 pub record RuleAtomIsNamed (n : ℕ) (p : RuleAtom ℕ) : Type 0 where

@@ -7,18 +7,23 @@ ghost use Rattle.chr_named.specs.Named.{ArgumentIsNamed, RuleAtomIsNamed, Compar
 use chr_rule::{BodyItem, Comparison, Program, Rule, RuleAtom, Term};
 use std::alloc::Allocator;
 
-/// Whether a table of `count` names has the name of an argument.
-fn is_argument_named(term: &Term, count: usize) -> bool
+/// Whether a table of `count` names has all names of an argument.
+#[cycle(argument)]
+fn is_argument_named<A: Allocator>(term: &Term<A>, count: usize) -> bool
     ensures { IsTrue result ↔ ArgumentIsNamed count (argument term.now) }
 {
     match term {
         Term::Var(_) => true,
-        Term::Value(value) => value.is_named(count),
+        Term::Given(value) => value.as_ref().is_named(count),
+        Term::Open(open) => {
+            (open.functor.number as usize) < count && are_arguments_named(&open.args, count)
+        }
     }
 }
 
 /// Whether it has the names of all arguments.
-fn are_arguments_named(terms: &[Term], count: usize) -> bool
+#[cycle(argument)]
+fn are_arguments_named<A: Allocator>(terms: &[Term<A>], count: usize) -> bool
     ensures { IsTrue result ↔ AllByRecursion (ArgumentIsNamed count) (map argument terms.now) }
 {
     for term in terms {
@@ -30,14 +35,14 @@ fn are_arguments_named(terms: &[Term], count: usize) -> bool
 }
 
 /// Whether it has the name of a constraint of a rule, and those of its arguments.
-fn is_rule_atom_named(atom: &RuleAtom, count: usize) -> bool
+fn is_rule_atom_named<A: Allocator>(atom: &RuleAtom<A>, count: usize) -> bool
     ensures { IsTrue result ↔ RuleAtomIsNamed count (shape atom.now) }
 {
-    (atom.name.number as usize) < count && are_arguments_named(atom.terms.as_slice(), count)
+    (atom.name.number as usize) < count && are_arguments_named(&atom.terms, count)
 }
 
 /// Whether it has the names of all constraints.
-fn are_rule_atoms_named(atoms: &[RuleAtom], count: usize) -> bool
+fn are_rule_atoms_named<A: Allocator>(atoms: &[RuleAtom<A>], count: usize) -> bool
     ensures { IsTrue result ↔ AllByRecursion (RuleAtomIsNamed count) (map shape atoms.now) }
 {
     for atom in atoms {
@@ -98,10 +103,16 @@ fn are_body_items_named<A: Allocator>(body: &[BodyItem<A>], count: usize) -> boo
 fn is_rule_named<A: Allocator + Copy>(rule: &Rule<A>, count: usize) -> bool
     ensures { IsTrue result ↔ RuleIsNamed count rule.now }
 {
-    are_rule_atoms_named(rule.kept(), count)
-        && are_rule_atoms_named(rule.removed(), count)
-        && are_comparisons_named(rule.guard(), count)
-        && are_body_items_named(rule.body(), count)
+    if !are_rule_atoms_named(rule.kept(), count) {
+        return false;
+    }
+    if !are_rule_atoms_named(rule.removed(), count) {
+        return false;
+    }
+    if !are_comparisons_named(rule.guard(), count) {
+        return false;
+    }
+    are_body_items_named(rule.body(), count)
 }
 
 /// Whether a table of `count` names has all names of a program.

@@ -4,3 +4,4 @@ pub mod Planning
 pub mod Made
 pub mod OnePlan
 pub mod Once
+pub mod Standing

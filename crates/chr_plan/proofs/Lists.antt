@@ -41,7 +41,7 @@ pub position-map : {A B : Type 0} (f : A → B) (p : B → Bool) (xs : List A) �
 position-map f p xs = simp (prefix_len-map f (λ y. not (p y)) xs, length-map)
 
 -- a key by the index of its place
-pub key_found : (f : ℕ → Bool) (pattern : CodeRuleAtom) (head : Option (RuleAtom ℕ)) (found : Option ℕ) → Some (shape pattern) ≡ head → found ≡ position (λ t. is_known f (argument t)) pattern.terms.items → option_map (λ i. i + 1) found ≡ key_in f head
+pub key_found : {A : Type 0} (f : ℕ → Bool) (pattern : CodeRuleAtom A) (head : Option (RuleAtom ℕ)) (found : Option ℕ) → Some (shape pattern) ≡ head → found ≡ position (λ t. is_known f (argument t)) pattern.terms.items → option_map (λ i. i + 1) found ≡ key_in f head
 key_found f pattern head found h e = ap (option_map (λ i. i + 1)) (e ∙ sym (position-map argument (is_known f) pattern.terms.items)) ∙ ap (key_in f) h
 
 -- a plan by the numbers of its rule and head

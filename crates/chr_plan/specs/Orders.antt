@@ -1,18 +1,25 @@
 -- The order in which the heads of a rule are tried, beginning with one of them.
-use Rattle.std.specs.Prelude.{◌≡◌, ℕ, ◌+◌, ◌≤◌, Bool, true, false, ◌==◌, is_some, position, List, [], ◌∷◌, ◌++◌, length, Option, Some, None, IsSome}
+use Rattle.std.specs.Prelude.{◌≡◌, ℕ, ◌+◌, ◌≤◌, Bool, true, false, ◌==◌, ◌||◌, is_some, position, List, [], ◌∷◌, ◌++◌, length, Option, Some, None, IsSome}
 use Rattle.std.specs.List.{list_any}
 use Rattle.std.specs.Option.{option_map}
-use Rattle.chr_rule.specs.Rules.{Term, Var, Given, RuleAtom}
+use Rattle.chr_rule.specs.Rules.{Term, Var, Given, Open, Terms, End, And, RuleAtom}
 pub use Rattle.chr_rule.specs.Rules.{heads_of, head_in}
 use Rattle.chr_plan.specs.declared.order.Step.{Step}
 
--- whether the variable is among the arguments
-abbrev pub is_variable : ℕ → Term ℕ → Bool
-is_variable x (Var y) = x == y
-is_variable x (Given t) = false
+-- whether the variable stands in a term
+abbrev mutual
+  pub stands_in : ℕ → Term ℕ → Bool
+  stands_in x (Var y) = x == y
+  stands_in x (Given v) = false
+  stands_in x (Open s ts) = stands_among x ts
 
+  pub stands_among : ℕ → Terms ℕ → Bool
+  stands_among x End = false
+  stands_among x (And t ts) = stands_in x t || stands_among x ts
+
+-- whether it stands in one of the arguments
 abbrev pub has_variable : ℕ → List (Term ℕ) → Bool
-has_variable x args = list_any (is_variable x) args
+has_variable x args = list_any (stands_in x) args
 
 abbrev pub binds : Option (RuleAtom ℕ) → ℕ → Bool
 binds None x = false
@@ -22,10 +29,11 @@ binds (Some head) x = has_variable x head.args
 abbrev pub is_bound : List (RuleAtom ℕ) → List Step → ℕ → Bool
 is_bound heads before x = list_any (λ s. binds (head_in heads s.head) x) before
 
--- an argument is known: a number or a symbol as it is written, or a bound variable
+-- an argument is known: a value as it is written, or a bound variable; never a functor with variables in it
 abbrev pub is_known : (ℕ → Bool) → Term ℕ → Bool
 is_known bound (Var x) = bound x
-is_known bound (Given t) = true
+is_known bound (Given v) = true
+is_known bound (Open s ts) = false
 
 abbrev pub key_in : (ℕ → Bool) → Option (RuleAtom ℕ) → Option ℕ
 key_in bound None = None

@@ -3,8 +3,8 @@
 //! The heads of a rule are numbered from 1, kept heads in text order and then removed heads. The plan of a head begins
 //! with that head. Then, until every head is named, comes the least-numbered open head that has an argument whose
 //! value is known by then, with the first place of such an argument as its key; where there is none, the least-numbered
-//! open head, without a key. Known are numbers, symbols, and the variables of the heads before. So a partner with a
-//! key can be looked up by a predicate and one value.
+//! open head, without a key. Known are terms without variables, and the variables of the heads before; a functor with a
+//! variable in it never is. So a partner with a key can be looked up by a predicate and one value.
 //!
 //! [`places`](Plans::places) lists what the plans look up, so that a store can keep an index for each.
 //!

@@ -2,7 +2,7 @@
 ghost use Rattle.std.specs.Prelude.{◌≡◌, ℕ, ◌≤◌, ◌||◌, false, length, map, position, MatchOption, slice_index_or};
 ghost use Rattle.chr_rule.specs.Rules.{heads_of, head_at};
 ghost use Rattle.chr_rule.specs.Parts.{argument};
-ghost use Rattle.chr_plan.specs.Orders.{is_variable, has_variable, binds, is_bound, is_known, key_in, is_named, IsOpen, IsNext, IsPlan};
+ghost use Rattle.chr_plan.specs.Orders.{stands_in, has_variable, binds, is_bound, is_known, key_in, is_named, IsOpen, IsNext, IsPlan};
 
 use arrayvec::ArrayVec;
 use chr_rule::{Rule, Term};
@@ -42,17 +42,18 @@ fn is_named(steps: &[Step], number: u8) -> bool
 }
 
 /// Whether a term is a value or a bound variable.
-fn is_known(term: &Term, bound: &BoundVariables) -> bool
+fn is_known<A: Allocator>(term: &Term<A>, bound: &BoundVariables) -> bool
     ensures { result ≡ is_known (λ x. slice_index_or bound.now x false) (argument term.now) }
 {
     match term {
         Term::Var(x) => bound[usize::from(*x)],
-        Term::Value(_) => true,
+        Term::Given(_) => true,
+        Term::Open(_) => false,
     }
 }
 
 /// The index of the first term that is known.
-fn first_known(terms: &[Term], bound: &BoundVariables) -> Option<usize>
+fn first_known<A: Allocator>(terms: &[Term<A>], bound: &BoundVariables) -> Option<usize>
     ensures { result ≡ position (λ t. is_known (λ x. slice_index_or bound.now x false) (argument t)) terms.now }
 {
     terms.iter().position(|term| is_known(term, bound))
@@ -63,18 +64,29 @@ fn key<A: Allocator>(rule: &Rule<A>, number: u8, bound: &BoundVariables) -> Opti
     ensures { result ≡ key_in (λ x. slice_index_or bound.now x false) (head_at rule.now number) }
 {
     let pattern = rule.head(usize::from(number))?;
-    let index = first_known(pattern.terms.as_slice(), bound)?;
+    let index = first_known(&pattern.terms, bound)?;
     Some(index as u8 + 1)
 }
 
+/// Binds the variables of a term.
+#[cycle(bind)]
+fn bind_term<A: Allocator>(term: &Term<A>, bound: &mut BoundVariables)
+    ensures { (x : ℕ) → slice_index_or bound.new x false ≡ (stands_in x (argument term.now) || slice_index_or bound.old x false) }
+{
+    match term {
+        Term::Var(x) => bound[usize::from(*x)] = true,
+        Term::Given(_) => {}
+        Term::Open(open) => bind_terms(&open.args, bound),
+    }
+}
+
 /// Binds the variables of these terms.
-fn bind_terms(terms: &[Term], bound: &mut BoundVariables)
+#[cycle(bind)]
+fn bind_terms<A: Allocator>(terms: &[Term<A>], bound: &mut BoundVariables)
     ensures { (x : ℕ) → slice_index_or bound.new x false ≡ (has_variable x (map argument terms.now) || slice_index_or bound.old x false) }
 {
     for term in terms {
-        if let Term::Var(x) = term {
-            bound[usize::from(*x)] = true;
-        }
+        bind_term(term, bound);
     }
 }
 
@@ -83,7 +95,7 @@ fn bind<A: Allocator>(rule: &Rule<A>, number: u8, bound: &mut BoundVariables)
     ensures { (x : ℕ) → slice_index_or bound.new x false ≡ (binds (head_at rule.now number) x || slice_index_or bound.old x false) }
 {
     if let Some(pattern) = rule.head(usize::from(number)) {
-        bind_terms(pattern.terms.as_slice(), bound);
+        bind_terms(&pattern.terms, bound);
     }
 }
 

@@ -1,4 +1,10 @@
 pub mod Lists
+pub mod Places
+pub mod Arguments
+pub mod Levels
+pub mod Left
 pub mod Heads
+pub mod Bodies
 pub mod Numbers
 pub mod Index
+pub mod Judged

@@ -1,8 +1,8 @@
 -- What the parts of a rule say, wherever they lie in memory.
 use Rattle.std.specs.Prelude.{ℕ, map}
 use Rattle.chr_value.specs.Atoms.{ground}
-use Rattle.chr_rule.specs.declared.rule_atom.Term.{Term as CodeTerm}
-use Rattle.chr_rule.specs.declared.rule_atom.Term.TheVariants as terms
+use Rattle.chr_rule.specs.declared.term.Term.{Term as CodeTerm, fold-Term}
+use Rattle.chr_rule.specs.declared.term.Term.TheOpen.{Term-F, Open-F}
 use Rattle.chr_rule.specs.declared.rule_atom.RuleAtom.{RuleAtom as CodeRuleAtom}
 use Rattle.chr_rule.specs.declared.expression.Expr.{Expr}
 use Rattle.chr_rule.specs.declared.expression.Expr.TheVariants as exprs
@@ -10,13 +10,21 @@ use Rattle.chr_rule.specs.declared.expression.Comparison.{Comparison as CodeComp
 use Rattle.chr_rule.specs.declared.expression.Comparison.TheVariants as comparisons
 use Rattle.chr_rule.specs.declared.expression.BodyItem.{BodyItem as CodeBodyItem}
 use Rattle.chr_rule.specs.declared.expression.BodyItem.TheVariants as items
-use Rattle.chr_rule.specs.Rules.{Term, Var, Given, RuleAtom, Expression, Number, Variable, Operation, Comparison, Compared, Same, Differ, BodyItem, Is, Add}
+use Rattle.chr_rule.specs.Rules.{Term, Var, Given, Open, terms_of, RuleAtom, Expression, Number, Variable, Operation, Comparison, Compared, Same, Differ, BodyItem, Is, Add}
 
-abbrev pub argument : CodeTerm → Term ℕ
-argument (terms.Var x) = Var x
-argument (terms.Value v) = Given (ground v)
+-- one level of a term, with the terms in it already seen as what they say
+abbrev pub argument_step : {A : Type 0} → Term-F A (Term ℕ) (Term ℕ) → Term ℕ
+argument_step (Term-F.Var x) = Var x
+argument_step (Term-F.Given v) = Given (ground v)
+argument_step (Term-F.Open o) = o.value
 
-abbrev pub shape : CodeRuleAtom → RuleAtom ℕ
+abbrev pub open_step : {A : Type 0} → Open-F A (Term ℕ) (Term ℕ) → Term ℕ
+open_step o = Open o.functor.number (terms_of o.args.items)
+
+abbrev pub argument : {A : Type 0} → CodeTerm A → Term ℕ
+argument {A} = fold-Term A (Term ℕ) (Term ℕ) argument_step open_step
+
+abbrev pub shape : {A : Type 0} → CodeRuleAtom A → RuleAtom ℕ
 shape p = record { name = p.name.number; args = map argument p.terms.items }
 
 abbrev pub expression : {Z : Type 0} → Expr Z → Expression

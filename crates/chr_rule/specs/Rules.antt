@@ -1,13 +1,25 @@
 -- What a rule says, over the numbers of names or over their texts.
-use Rattle.std.specs.Prelude.{ℕ, zero, suc, ℤ, List, ◌++◌, Option, None, slice_get}
+use Rattle.std.specs.Prelude.{ℕ, zero, suc, ℤ, List, [], ◌∷◌, ◌++◌, Option, None, slice_get}
 use Rattle.chr_value.specs.Atoms.{Value}
 use Rattle.chr_rule.specs.declared.expression.Operator.{Operator}
 use Rattle.chr_rule.specs.declared.expression.Relation.{Relation}
 
--- an argument of a constraint in a rule: a variable, or a value as it is written
-pub data Term (N : Type 0) : Type 0 where
-  Var : ℕ → Term N
-  Given : Value N → Term N
+-- a term: a variable, a value as it is written, or a functor with a variable in its arguments
+mutual
+  pub data Term (N : Type 0) : Type 0 where
+    Var : ℕ → Term N
+    Given : Value N → Term N
+    Open : N → Terms N → Term N
+
+  -- arguments of a functor, one after another
+  pub data Terms (N : Type 0) : Type 0 where
+    End : Terms N
+    And : Term N → Terms N → Terms N
+
+-- a list of terms as arguments
+abbrev pub terms_of : {N : Type 0} → List (Term N) → Terms N
+terms_of [] = End
+terms_of (t ∷ ts) = And t (terms_of ts)
 
 -- a constraint in a rule
 pub record RuleAtom (N : Type 0) : Type 0 where

@@ -1,9 +1,12 @@
 //! Expressions, comparisons and the members of a body.
 ghost use Rattle.std.specs.Prelude.{◌≡◌, ◌↔◌, IsTrue, map};
+ghost use Rattle.std.specs.List.{AllByRecursion};
 ghost use Rattle.chr_rule.specs.Parts.{expression, comparison, member};
 ghost use Rattle.chr_rule.specs.Scope.{expression_known, test_known};
+ghost use Rattle.chr_rule.specs.Terms.{IsComparison, IsBodyItem};
 
-use crate::rule_atom::{RuleAtom, Term};
+use crate::rule_atom::RuleAtom;
+use crate::term::Term;
 use std::alloc::Allocator;
 
 /// An operator of arithmetic.
@@ -81,9 +84,9 @@ pub enum Comparison<A: Allocator> {
     /// Two expressions, by their numbers.
     Numbers(Relation, Expr<A>, Expr<A>),
     /// `==`
-    Same(Term, Term),
+    Same(Term<A>, Term<A>),
     /// `\==`
-    Differ(Term, Term),
+    Differ(Term<A>, Term<A>),
 }
 
 /// A member of a body.
@@ -92,7 +95,7 @@ pub enum BodyItem<A: Allocator> {
     /// `x is e`
     Is(u8, Expr<A>),
     /// A constraint to add.
-    Add(RuleAtom),
+    Add(RuleAtom<A>),
 }
 
 impl<A: Allocator> Comparison<A> {
@@ -120,6 +123,17 @@ impl<A: Allocator> Comparison<A> {
             Comparison::Differ(s, t) => s.is_known(known) && t.is_known(known),
         }
     }
+
+    /// Whether a rule may have the terms.
+    pub(crate) fn is_valid(&self) -> bool
+        ensures { IsTrue result ↔ IsComparison (comparison self.now) }
+    {
+        match self {
+            Comparison::Numbers(_, _, _) => true,
+            Comparison::Same(s, t) => s.is_valid() && t.is_valid(),
+            Comparison::Differ(s, t) => s.is_valid() && t.is_valid(),
+        }
+    }
 }
 
 impl<A: Allocator> BodyItem<A> {
@@ -131,6 +145,16 @@ impl<A: Allocator> BodyItem<A> {
             (BodyItem::Is(x, e), BodyItem::Is(y, f)) => *x == *y && e.same(f),
             (BodyItem::Add(p), BodyItem::Add(q)) => p.same(q),
             _ => false,
+        }
+    }
+
+    /// Whether a rule may have the terms.
+    pub(crate) fn is_valid(&self) -> bool
+        ensures { IsTrue result ↔ IsBodyItem (member self.now) }
+    {
+        match self {
+            BodyItem::Is(_, _) => true,
+            BodyItem::Add(pattern) => pattern.is_valid(),
         }
     }
 }
@@ -159,6 +183,30 @@ pub(crate) fn same_bodies<A: Allocator>(body: &[BodyItem<A>], other: &[BodyItem<
     }
     for i in 0..body.len() {
         if !body[i].same(&other[i]) {
+            return false;
+        }
+    }
+    true
+}
+
+/// Whether a rule may have the terms of a guard.
+pub(crate) fn is_guard_valid<A: Allocator>(guard: &[Comparison<A>]) -> bool
+    ensures { IsTrue result ↔ AllByRecursion IsComparison (map comparison guard.now) }
+{
+    for comparison in guard {
+        if !comparison.is_valid() {
+            return false;
+        }
+    }
+    true
+}
+
+/// Whether a rule may have the terms of a body.
+pub(crate) fn is_body_valid<A: Allocator>(body: &[BodyItem<A>]) -> bool
+    ensures { IsTrue result ↔ AllByRecursion IsBodyItem (map member body.now) }
+{
+    for item in body {
+        if !item.is_valid() {
             return false;
         }
     }

@@ -1,12 +1,16 @@
 //! Rules.
-ghost use Rattle.std.specs.Prelude.{◌≡◌, ◌+◌, ◌≤◌, ℕ, length, map, IsSome, IfSome, IsTrue, ◌↔◌};
+ghost use Rattle.std.specs.Prelude.{◌≡◌, ◌+◌, ◌<◌, ◌≤◌, ℕ, length, map, IsSome, IfSome, IsTrue, ◌↔◌};
 ghost use Rattle.std.specs.Option.{option_map};
 ghost use Rattle.chr_rule.specs.Parts.{shape, comparison, member};
 ghost use Rattle.chr_rule.specs.Rules.{head_at, of_parts};
 ghost use Rattle.chr_rule.specs.Scope.{IsRule};
+ghost use Rattle.chr_rule.specs.Terms.{HasTerms};
 
-use crate::expression::{BodyItem, Comparison, same_bodies, same_guards};
-use crate::rule_atom::{RuleAtom, same_patterns};
+use crate::expression::{
+    BodyItem, Comparison, is_body_valid, is_guard_valid, same_bodies, same_guards,
+};
+use crate::patterns::{are_patterns_valid, same_patterns};
+use crate::rule_atom::RuleAtom;
 use crate::scope::count_variables;
 use std::alloc::Allocator;
 use std::marker::Model;
@@ -23,12 +27,12 @@ pub const MOST_COMPARISONS: usize = 16;
 /// How many members a body may have.
 pub const MOST_ITEMS: usize = 16;
 
-/// A rule: each variable that is used has a value by then, and the limits are kept.
+/// A rule: each variable that is used has a value by then, a term without variables is a value, and the limits are kept.
 #[derive(Drop)]
 pub struct Rule<A: Allocator> {
     variables: u8,
-    kept: Vec<RuleAtom, A>,
-    removed: Vec<RuleAtom, A>,
+    kept: Vec<RuleAtom<A>, A>,
+    removed: Vec<RuleAtom<A>, A>,
     guard: Vec<Comparison<A>, A>,
     body: Vec<BodyItem<A>, A>,
 }
@@ -38,25 +42,79 @@ impl<A: Allocator> Model for Rule<A> {
     ghost use Rattle.chr_rule.specs.Rules.{Simpagation};
     ghost use Rattle.chr_rule.specs.Parts.{shape, comparison, member};
     ghost use Rattle.chr_rule.specs.Scope.{IsRule};
-    ghost use Rattle.chr_value.specs.Code.{value_code};
     ghost use Rattle.chr_rule.specs.Code.{expression_code};
+    ghost use Rattle.chr_rule.specs.TermCode.{term_code};
     ghost use Rattle.std.specs.Coded.{codes};
 
     ghost Value = { Simpagation ℕ };
 
-    ghost coded = { Prim.hlevel (codes, expression_code, value_code) };
+    ghost coded = { Prim.hlevel (codes, expression_code, term_code) };
 
     ghost view = { λ r. record { variables = r.variables; kept = map shape r.kept.items; removed = map shape r.removed.items; guard = map comparison r.guard.items; body = map member r.body.items } };
 
     ghost invariant = { λ r. IsRule (record { variables = r.variables; kept = map shape r.kept.items; removed = map shape r.removed.items; guard = map comparison r.guard.items; body = map member r.body.items }) };
 }
 
+/// Whether a rule may have so many heads, comparisons and members of the body.
+fn are_within_limits(kept: usize, removed: usize, guard: usize, body: usize) -> bool
+    ensures { IsTrue result ↔ ((0 < removed) × (kept + removed ≤ 6) × (guard ≤ 16) × (body ≤ 16)) }
+{
+    if removed == 0 || kept > MOST_HEADS || removed > MOST_HEADS - kept {
+        return false;
+    }
+    guard <= MOST_COMPARISONS && body <= MOST_ITEMS
+}
+
+/// Whether a rule may have the terms of these parts.
+fn have_terms<A: Allocator>(
+    kept: &[RuleAtom<A>],
+    removed: &[RuleAtom<A>],
+    guard: &[Comparison<A>],
+    body: &[BodyItem<A>],
+) -> bool
+    ensures { IsTrue result ↔ HasTerms (of_parts 0 (map shape kept.now) (map shape removed.now) (map comparison guard.now) (map member body.now)) }
+{
+    if !are_patterns_valid(kept) {
+        return false;
+    }
+    if !are_patterns_valid(removed) {
+        return false;
+    }
+    if !is_guard_valid(guard) {
+        return false;
+    }
+    is_body_valid(body)
+}
+
+/// How many variables the rule of these parts has, or None where there is no such rule.
+fn variables_of<A: Allocator>(
+    kept: &[RuleAtom<A>],
+    removed: &[RuleAtom<A>],
+    guard: &[Comparison<A>],
+    body: &[BodyItem<A>],
+) -> Option<usize>
+    ensures rule { IfSome result (λ n. IsRule (of_parts n (map shape kept.now) (map shape removed.now) (map comparison guard.now) (map member body.now))) }
+    ensures exact { (n : ℕ) → IsRule (of_parts n (map shape kept.now) (map shape removed.now) (map comparison guard.now) (map member body.now)) → IsSome result }
+{
+    if !are_within_limits(kept.len(), removed.len(), guard.len(), body.len()) {
+        return None;
+    }
+    if !have_terms(kept, removed, guard, body) {
+        return None;
+    }
+    let variables = count_variables(kept, removed, guard, body)?;
+    if variables > MOST_VARIABLES {
+        return None;
+    }
+    Some(variables)
+}
+
 impl<A: Allocator> Rule<A> {
-    /// The rule of these parts, or None unless each variable has a value wherever it is used and the limits are kept.
-    /// How deep an expression nests is limited by the reader of rule text alone.
+    /// The rule of these parts, or None unless each variable has a value wherever it is used, a term without variables is a
+    /// value, and the limits are kept. How deep an expression nests is limited by the reader of rule text alone.
     pub fn new(
-        kept: Vec<RuleAtom, A>,
-        removed: Vec<RuleAtom, A>,
+        kept: Vec<RuleAtom<A>, A>,
+        removed: Vec<RuleAtom<A>, A>,
         guard: Vec<Comparison<A>, A>,
         body: Vec<BodyItem<A>, A>,
     ) -> Option<Rule<A>>
@@ -64,19 +122,7 @@ impl<A: Allocator> Rule<A> {
         ensures valid { IfSome result IsRule }
         ensures exact { IsSome result ↔ ((n : ℕ) × IsRule (of_parts n (map shape kept.items) (map shape removed.items) (map comparison guard.items) (map member body.items))) }
     {
-        if removed.is_empty()
-            || kept.len() > MOST_HEADS
-            || removed.len() > MOST_HEADS - kept.len()
-        {
-            return None;
-        }
-        if guard.len() > MOST_COMPARISONS || body.len() > MOST_ITEMS {
-            return None;
-        }
-        let variables = count_variables(&kept, &removed, &guard, &body)?;
-        if variables > MOST_VARIABLES {
-            return None;
-        }
+        let variables = variables_of(&kept, &removed, &guard, &body)?;
         Some(Rule {
             variables: variables as u8,
             kept,
@@ -89,8 +135,8 @@ impl<A: Allocator> Rule<A> {
     /// The rule of these parts, of which the caller knows that they are those of a rule with so many variables.
     pub fn from_parts(
         variables: usize,
-        kept: Vec<RuleAtom, A>,
-        removed: Vec<RuleAtom, A>,
+        kept: Vec<RuleAtom<A>, A>,
+        removed: Vec<RuleAtom<A>, A>,
         guard: Vec<Comparison<A>, A>,
         body: Vec<BodyItem<A>, A>,
     ) -> Rule<A>
@@ -126,7 +172,7 @@ impl<A: Allocator> Rule<A> {
     }
 
     /// The kept heads in text order. They have the numbers from 1 on.
-    pub fn kept(&self) -> &[RuleAtom]
+    pub fn kept(&self) -> &[RuleAtom<A>]
         ensures heads { map shape result.now ≡ self.now.kept }
         ensures valid { IsRule self.now }
     {
@@ -134,7 +180,7 @@ impl<A: Allocator> Rule<A> {
     }
 
     /// The removed heads in text order, at least one. They are numbered after the kept ones.
-    pub fn removed(&self) -> &[RuleAtom]
+    pub fn removed(&self) -> &[RuleAtom<A>]
         ensures heads { map shape result.now ≡ self.now.removed }
         ensures valid { IsRule self.now }
     {
@@ -151,7 +197,7 @@ impl<A: Allocator> Rule<A> {
     }
 
     /// The head of a number, from 1: kept heads first.
-    pub fn head(&self, number: usize) -> Option<&RuleAtom>
+    pub fn head(&self, number: usize) -> Option<&RuleAtom<A>>
         ensures head { option_map (λ head. shape head.now) result ≡ head_at self.now number }
         ensures valid { IsRule self.now }
     {

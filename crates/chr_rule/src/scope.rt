@@ -1,55 +1,59 @@
 //! How many variables a rule has, if each has a value where it is used.
-ghost use Rattle.std.specs.Prelude.{◌≡◌, ◌≤◌, ◌++◌, map, IfSome};
+ghost use Rattle.std.specs.Prelude.{◌≡◌, ◌++◌, map};
 ghost use Rattle.std.specs.List.{list_all};
 ghost use Rattle.chr_rule.specs.Parts.{argument, shape, comparison, member};
-ghost use Rattle.chr_rule.specs.Scope.{known_after_args, known_after_heads, known_after_body, argument_known, test_known, variable_count};
+ghost use Rattle.chr_rule.specs.Scope.{known_after_variable, known_after_term, known_after_args, known_after_heads, known_after_body, test_known, variable_count};
 
 use crate::expression::{BodyItem, Comparison};
-use crate::rule_atom::{RuleAtom, Term};
+use crate::rule_atom::RuleAtom;
+use crate::term::{Term, are_known};
 use std::alloc::Allocator;
 
+/// How many variables are known after a variable of a head, or None where it comes out of turn.
+fn count_variable(known: usize, variable: u8) -> Option<usize>
+    ensures { result ≡ known_after_variable known variable }
+{
+    let x = usize::from(variable);
+    if known < x {
+        return None;
+    }
+    if x == known {
+        return Some(known + 1);
+    }
+    Some(known)
+}
+
+/// How many variables are known after a term of a head, from left to right.
+#[cycle(count)]
+fn count_term<A: Allocator>(known: usize, term: &Term<A>) -> Option<usize>
+    ensures { result ≡ known_after_term known (argument term.now) }
+{
+    match term {
+        Term::Var(x) => count_variable(known, *x),
+        Term::Given(_) => Some(known),
+        Term::Open(open) => count_terms(known, &open.args),
+    }
+}
+
 /// How many variables are known after the arguments of a head, or None where a variable comes out of turn.
-pub fn count_terms(mut known: usize, terms: &[Term]) -> Option<usize>
-    requires { known ≤ 256 }
-    ensures count { result ≡ known_after_args known (map argument terms.now) }
-    ensures few { IfSome result (λ n. n ≤ 256) }
+#[cycle(count)]
+pub fn count_terms<A: Allocator>(mut known: usize, terms: &[Term<A>]) -> Option<usize>
+    ensures { result ≡ known_after_args known (map argument terms.now) }
 {
     for term in terms {
-        if let Term::Var(x) = term {
-            let x = usize::from(*x);
-            if known < x {
-                return None;
-            }
-            if x == known {
-                known += 1;
-            }
-        }
+        known = count_term(known, term)?;
     }
     Some(known)
 }
 
 /// How many variables are known after heads.
-pub fn count_heads(mut known: usize, heads: &[RuleAtom]) -> Option<usize>
-    requires { known ≤ 256 }
-    ensures count { result ≡ known_after_heads known (map shape heads.now) }
-    ensures few { IfSome result (λ n. n ≤ 256) }
+pub fn count_heads<A: Allocator>(mut known: usize, heads: &[RuleAtom<A>]) -> Option<usize>
+    ensures { result ≡ known_after_heads known (map shape heads.now) }
 {
     for head in heads {
-        known = count_terms(known, head.terms.as_slice())?;
+        known = count_terms(known, &head.terms)?;
     }
     Some(known)
-}
-
-/// Whether each variable of some terms is below `known`.
-pub fn are_known(known: usize, terms: &[Term]) -> bool
-    ensures { result ≡ list_all (argument_known known) (map argument terms.now) }
-{
-    for term in terms {
-        if !term.is_known(known) {
-            return false;
-        }
-    }
-    true
 }
 
 /// Whether each variable of a guard is below `known`.
@@ -66,9 +70,7 @@ pub fn is_guard_known<A: Allocator>(known: usize, guard: &[Comparison<A>]) -> bo
 
 /// How many variables are known after a body, or None where one is used that has no value by then.
 pub fn count_body<A: Allocator>(mut known: usize, body: &[BodyItem<A>]) -> Option<usize>
-    requires { known ≤ 256 }
-    ensures count { result ≡ known_after_body known (map member body.now) }
-    ensures few { IfSome result (λ n. n ≤ 256) }
+    ensures { result ≡ known_after_body known (map member body.now) }
 {
     for item in body {
         match item {
@@ -79,7 +81,7 @@ pub fn count_body<A: Allocator>(mut known: usize, body: &[BodyItem<A>]) -> Optio
                 known += 1;
             }
             BodyItem::Add(pattern) => {
-                if !are_known(known, pattern.terms.as_slice()) {
+                if !are_known(known, &pattern.terms) {
                     return None;
                 }
             }
@@ -90,8 +92,8 @@ pub fn count_body<A: Allocator>(mut known: usize, body: &[BodyItem<A>]) -> Optio
 
 /// How many variables a rule of these parts has, or none where one is used that has no value by then.
 pub fn count_variables<A: Allocator>(
-    kept: &[RuleAtom],
-    removed: &[RuleAtom],
+    kept: &[RuleAtom<A>],
+    removed: &[RuleAtom<A>],
     guard: &[Comparison<A>],
     body: &[BodyItem<A>],
 ) -> Option<usize>

@@ -1,5 +1,5 @@
 -- What is asked of a store for the next partner, and what its answer says.
-use Rattle.std.proofs.Common.{◌≡◌, ◌↔◌, ℕ, zero, suc, ◌+◌, ◌-◌, ◌<◌, ◌≤◌, Bool, true, false, IsTrue, ltb, ◌&&◌, ◌||◌, ◌==◌, take, List, [], ◌∷◌, ◌++◌, length, replicate, Option, Some, None, MatchOption, IfSome, slice_get, slice_index_or, refl, sym, ◌∙◌, ap, subst, arith, length-append}
+use Rattle.std.proofs.Common.{◌≡◌, ◌↔◌, ℕ, zero, suc, ◌+◌, ◌-◌, ◌<◌, ◌≤◌, Bool, true, false, IsTrue, ltb, ◌&&◌, ◌||◌, ◌==◌, take, List, [], ◌∷◌, ◌++◌, length, replicate, Option, Some, None, MatchOption, IfSome, slice_get, refl, sym, ◌∙◌, ap, subst, arith, length-append}
 use Rattle.std.specs.List.{list_any}
 use Rattle.std.specs.Option.{option_map}
 use Rattle.std.proofs.lemmas.Bool.Decides.{nat_tests}
@@ -18,10 +18,10 @@ use Rattle.chr_model.specs.Stores.{atom_at, among}
 use Rattle.chr_plan.specs.Orders.{heads_of}
 use Rattle.chr_plan.specs.declared.order.Step.{Step}
 use Rattle.chr_store.specs.Labels.{GivenBefore}
-use Rattle.chr_search.specs.Trials.{Join, StandsAt, Fit, value_in, given_at, HasHeadPred, MayFollow}
+use Rattle.chr_search.specs.Trials.{Join, StandsAt, Fit, HasHeadPred, MayFollow}
 use Rattle.chr_search.specs.declared.join.Asked.{Asked}
-use Rattle.chr_search.specs.Partners.{HasPlan, IsReady, KeyIs, key_in, IsAskedFor}
-use Rattle.chr_search.proofs.Plans.{order_of_plan, step_key_given}
+use Rattle.chr_search.specs.Partners.{HasPlan, IsReady, key_value, keyed_at, KeyIs, key_in, IsAskedFor}
+use Rattle.chr_search.proofs.Plans.{order_of_plan, step_keyed}
 use Rattle.chr_search.proofs.Partners.{IsAsked, ready_more, no_fit}
 
 pub none_if : {A : Type 0} (o : Option A) → ((x : A) → o ≡ Some x → ⊥) → o ≡ None
@@ -87,25 +87,25 @@ label_low next (x ∷ es) g l a e =
 
 -- the key of the next head has a value
 pub known_key : (j : Join) → HasPlan j → (labels : List ℕ) (binding : List (Option (Value ℕ))) → 1 ≤ length labels → IsReady j labels binding → (step : Step) → slice_get j.order (length labels) ≡ Some step → (head : RuleAtom ℕ) → head_at j.rule step.head ≡ Some head
-    → (place : ℕ) → step.key ≡ Some place → (value : Value ℕ) × (given_at (bound_at binding) head place ≡ Some value)
+    → (place : ℕ) → step.key ≡ Some place → (value : Value ℕ) × (keyed_at (bound_at binding) head place ≡ Some value)
 known_key j p labels binding some r step at head is place key =
-    step_key_given j p.head (bound_at binding) labels step head place p.plan some ((r.fit.exactly (bound_at binding)).0 (λ x t e. e)) at is key
+    step_keyed j p.head (bound_at binding) labels step head place p.plan some ((r.fit.exactly (bound_at binding)).0 (λ x t e. e)) at is key
 
-pub place_low : (v : Valuation) (head : RuleAtom ℕ) (place : ℕ) (x : Value ℕ) → given_at v head place ≡ Some x → 1 ≤ place
+pub place_low : (v : Valuation) (head : RuleAtom ℕ) (place : ℕ) (x : Value ℕ) → keyed_at v head place ≡ Some x → 1 ≤ place
 place_low v head zero x e = absurd (let z : None ≡ Some x = e in cc)
 place_low v head (suc i) x e = omega arith
 
-pub given_there : (v : Valuation) (head : RuleAtom ℕ) (place : ℕ) → 1 ≤ place → given_at v head place ≡ value_in v (slice_get head.args (place - 1))
-given_there v head zero low = absurd (omega arith)
-given_there v head (suc i) low = ap (λ n. value_in v (slice_get head.args n)) (let q : i ≡ suc i - 1 = omega arith in q)
+pub keyed_there : (v : Valuation) (head : RuleAtom ℕ) (place : ℕ) → 1 ≤ place → keyed_at v head place ≡ key_value v (slice_get head.args (place - 1))
+keyed_there v head zero low = absurd (omega arith)
+keyed_there v head (suc i) low = ap (λ n. key_value v (slice_get head.args n)) (let q : i ≡ suc i - 1 = omega arith in q)
 
 pub key_none : (v : Valuation) (head : RuleAtom ℕ) (place : Option ℕ) (key : Option (ℕ × Value ℕ)) → place ≡ None → key ≡ None → KeyIs v head place key
 key_none v head place key e f = subst (λ p. KeyIs v head p key) (sym e) f
 
-pub key_some : (v : Valuation) (head : RuleAtom ℕ) (place : Option ℕ) (key : Option (ℕ × Value ℕ)) (p : ℕ) (x : Value ℕ) → place ≡ Some p → given_at v head p ≡ Some x → key ≡ Some (p, x) → KeyIs v head place key
+pub key_some : (v : Valuation) (head : RuleAtom ℕ) (place : Option ℕ) (key : Option (ℕ × Value ℕ)) (p : ℕ) (x : Value ℕ) → place ≡ Some p → keyed_at v head p ≡ Some x → key ≡ Some (p, x) → KeyIs v head place key
 key_some v head place key p x e g f = subst (λ q. KeyIs v head q key) (sym e) (x, g, f)
 
-pub asked : (j : Join) (labels : List ℕ) (binding : List (Option (Value ℕ))) (from : ℕ) (a : Asked) (key : Option (ℕ × Value ℕ)) (after next : ℕ) → 1 ≤ length labels → IsReady j labels binding → IsAskedFor j labels binding a → key ≡ key_in a → after ≡ from - 1 → GivenBefore next j.store → IsAsked j labels binding from (record { pred = a.pred; key = key; after = after; below = j.bound })
+pub asked : {Z : Type 0} (j : Join) (labels : List ℕ) (binding : List (Option (Value ℕ))) (from : ℕ) (a : Asked Z) (key : Option (ℕ × Value ℕ)) (after next : ℕ) → 1 ≤ length labels → IsReady j labels binding → IsAskedFor j labels binding a → key ≡ key_in a → after ≡ from - 1 → GivenBefore next j.store → IsAsked j labels binding from (record { pred = a.pred; key = key; after = after; below = j.bound })
 asked j labels binding from a key after next some r f k e g = record {
   some = some;
   ready = r;

@@ -28,7 +28,7 @@ use Rattle.chr_search.proofs.Asking.{stands_is}
 use Rattle.chr_search.proofs.Wholes.{in_head_order, completed}
 use Rattle.chr_search.proofs.PassingOver.{stands_nowhere, is_part, is_full, heads_fit, few_placed, misfit_here}
 
-module _ (j : Join) (ls : List ℕ) (at : LastHead) (l : ℕ) (here : IsLastHead j ls at) where
+module _ {Z : Type 0} (j : Join) (ls : List ℕ) (at : LastHead Z) (l : ℕ) (here : IsLastHead j ls at) where
   -- the head has the binding's variables
   pub last_placed : (t : Trial) → IsTrialIn j (ls ++ l ∷ []) t → (binding : List (Option (Value ℕ))) → IsReady j ls binding → IsPlaced (length binding) (shape at.head.now)
   last_placed t i binding r =

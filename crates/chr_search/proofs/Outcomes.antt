@@ -63,7 +63,7 @@ record Common (s : Space) (t : Trial) (u : List ℕ) (k : Reach s u) : Type 0 wh
   pub fits : AreAtHeads t.rule (at_heads t) valuation
   pub guard : AllByRecursion (Rattle.chr_guard.specs.Values.Holds valuation) t.rule.guard
   pub right : AllByRecursion (Rattle.chr_guard.specs.Instances.IsRight valuation) t.rule.body
-  pub body_is : Rattle.chr_guard.specs.Instances.AreUnder valuation (Rattle.chr_guard.specs.Instances.added t.rule.body) k.body
+  pub body_is : Rattle.chr_guard.specs.Instances.AreMadeUnder valuation (Rattle.chr_guard.specs.Instances.added t.rule.body) k.body
 
 common : (s : Space) (t : Trial) → ArePlans s.rules s.plans → WasTrialOf s.rules s.plans s.store t → (u : List ℕ) (k : Reach s u) → begins (position t) u ≡ true → Common s t u k
 common s t ps w u k b =
@@ -91,7 +91,7 @@ common s t ps w u k b =
       fits = subst (λ x. AreAtHeads x (at_heads t) r.valuation) rule_same (placed_fit r.rule s.store r.valuation (k.kept ++ k.removed) r.stands t.placed f.0 front f.3 (within_front n f.0 f.1 within) w.atoms);
       guard = subst (λ (x : Simpagation ℕ). AllByRecursion (Rattle.chr_guard.specs.Values.Holds r.valuation) x.guard) rule_same r.guard;
       right = subst (λ (x : Simpagation ℕ). AllByRecursion (Rattle.chr_guard.specs.Instances.IsRight r.valuation) x.body) rule_same r.right;
-      body_is = subst (λ (x : Simpagation ℕ). Rattle.chr_guard.specs.Instances.AreUnder r.valuation (Rattle.chr_guard.specs.Instances.added x.body) k.body) rule_same r.body_is;
+      body_is = subst (λ (x : Simpagation ℕ). Rattle.chr_guard.specs.Instances.AreMadeUnder r.valuation (Rattle.chr_guard.specs.Instances.added x.body) k.body) rule_same r.body_is;
     }
 
 -- a misfit begins nothing in the reach

@@ -2,17 +2,17 @@
 use Rattle.std.proofs.Common.{◌≡◌, ◌≢◌, ◌↔◌, ℕ, zero, suc, ◌+◌, ◌<◌, ◌≤◌, Bool, true, false, List, [], ◌∷◌, ◌++◌, length, Option, Some, None, MatchOption, slice_get, refl, sym, ◌∙◌, ap, subst, arith, ◌⊎◌, inl, inr, true≢false}
 use Rattle.std.proofs.lemmas.Bool.Decides.{nat_tests}
 use Rattle.chr_value.specs.Atoms.{Value, Atom}
-use Rattle.chr_rule.specs.Rules.{Term, Var, Given, RuleAtom, head_at}
+use Rattle.chr_rule.specs.Rules.{Term, Var, Given, Open, RuleAtom, head_at}
 use Rattle.chr_guard.specs.Values.{Valuation}
 use Rattle.chr_guard.specs.Bindings.{bound_at, Extends, Narrows, NoneUnder}
 use Rattle.chr_model.specs.Stores.{atom_at, among, Distinct}
 use Rattle.chr_plan.specs.declared.order.Step.{Step}
 use Rattle.chr_store.specs.Keys.{HasKey, Query, Matches, IsLeastMatch}
 use Rattle.chr_search.specs.Tree.{Children, Least, NoneBeyond, LeastFrom, NoneFrom}
-use Rattle.chr_search.specs.Trials.{Join, StandsAt, Fit, value_in, given_at, HasKeyValue, IsInTurn, MayFollow}
-use Rattle.chr_search.specs.Partners.{IsReady, LengthenedIf, KeyIs}
+use Rattle.chr_search.specs.Trials.{Join, StandsAt, Fit, HasKeyValue, IsInTurn, MayFollow}
+use Rattle.chr_search.specs.Partners.{IsReady, LengthenedIf, key_value, keyed_at, KeyIs}
 use Rattle.chr_search.proofs.Tree.{Come, under, under_same, under_other, here, come_first, come_at, come_to_end, come_found, come_on}
-use Rattle.chr_search.proofs.Plans.{distinct_push, among_push}
+use Rattle.chr_search.proofs.Plans.{distinct_push, among_push, keyed_given}
 
 -- one label more
 pub fit_push : (j : Join) (v : Valuation) (steps : List Step) (before : List ℕ) (step : Step) (l : ℕ) → slice_get steps (length before) ≡ Some step → Fit j v steps before → StandsAt j v step l → Fit j v steps (before ++ l ∷ [])
@@ -58,15 +58,16 @@ no_fit j labels binding step l x r at n m =
 pub no_step : (j : Join) (labels : List ℕ) (l x : ℕ) → slice_get j.order (length labels) ≡ None → MayFollow j (labels ++ l ∷ []) x → ⊥
 no_step j labels l x at m = let f = fit_less j m.valuation j.order labels l m.fits in let z : None ≡ Some f.0 = sym at ∙ f.1 in absurd (cc)
 
--- the values that a binding gives are those of the valuations that extend it
-given_grows : (v : Valuation) (binding : List (Option (Value ℕ))) → Extends v binding → (head : RuleAtom ℕ) (place : ℕ) (x : Value ℕ) → given_at (bound_at binding) head place ≡ Some x → given_at v head place ≡ Some x
-given_grows v binding e head zero x g = g
-given_grows v binding e head (suc i) x g = by_term (slice_get head.args i) g
+-- the keys that a binding gives are those of the valuations that extend it
+keyed_grows : (v : Valuation) (binding : List (Option (Value ℕ))) → Extends v binding → (head : RuleAtom ℕ) (place : ℕ) (x : Value ℕ) → keyed_at (bound_at binding) head place ≡ Some x → keyed_at v head place ≡ Some x
+keyed_grows v binding e head zero x g = g
+keyed_grows v binding e head (suc i) x g = by_term (slice_get head.args i) g
   where
-    by_term : (o : Option (Term ℕ)) → value_in (bound_at binding) o ≡ Some x → value_in v o ≡ Some x
+    by_term : (o : Option (Term ℕ)) → key_value (bound_at binding) o ≡ Some x → key_value v o ≡ Some x
     by_term None h = h
     by_term (Some (Var y)) h = e y x h
     by_term (Some (Given a)) h = h
+    by_term (Some (Open s ts)) h = h
 
 -- what is asked of the store for the next partner
 pub record IsAsked (j : Join) (labels : List ℕ) (binding : List (Option (Value ℕ))) (from : ℕ) (q : Query) : Type 0 where
@@ -86,13 +87,13 @@ pub record IsAsked (j : Join) (labels : List ℕ) (binding : List (Option (Value
 has_key : (v : Valuation) (binding : List (Option (Value ℕ))) → Extends v binding → (head : RuleAtom ℕ) (place : Option ℕ) (key : Option (ℕ × Value ℕ)) (a : Atom ℕ) → KeyIs (bound_at binding) head place key → HasKeyValue v head place a → HasKey key a
 has_key v binding e head None key a k h = subst (λ o. HasKey o a) (sym k) tt
 has_key v binding e head (Some p) key a k h =
-    let z : Some h.0 ≡ Some k.0 = sym h.1 ∙ given_grows v binding e head p k.0 k.1 in
+    let z : Some h.0 ≡ Some k.0 = sym h.1 ∙ keyed_given v head p k.0 (keyed_grows v binding e head p k.0 k.1) in
     let same : h.0 ≡ k.0 = cc in
     subst (λ o. HasKey o a) (sym k.2) (h.2 ∙ ap (λ x. Some x) same)
 
 has_value : (binding : List (Option (Value ℕ))) (head : RuleAtom ℕ) (place : Option ℕ) (key : Option (ℕ × Value ℕ)) (a : Atom ℕ) → KeyIs (bound_at binding) head place key → HasKey key a → HasKeyValue (bound_at binding) head place a
 has_value binding head None key a k h = tt
-has_value binding head (Some p) key a k h = (k.0, k.1, subst (λ o. HasKey o a) k.2 h)
+has_value binding head (Some p) key a k h = (k.0, keyed_given (bound_at binding) head p k.0 k.1, subst (λ o. HasKey o a) k.2 h)
 
 in_turn : (j : Join) (labels : List ℕ) (l : ℕ) → 1 ≤ length labels → IsInTurn j labels l → l < j.bound
 in_turn j [] l some t = absurd (omega arith)

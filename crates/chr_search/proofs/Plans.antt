@@ -6,13 +6,13 @@ use Rattle.std.proofs.lemmas.Bool.Decides.{nat_tests}
 use Rattle.std.proofs.lemmas.List.Quantifiers.{position-Some}
 use Rattle.std.proofs.lemmas.Option.{slice_get-get_or, slice_get_within}
 use Rattle.std.proofs.lemmas.List.{append-nil, map-append}
-use Rattle.chr_value.specs.Atoms.{Value, Atom}
-use Rattle.chr_rule.specs.Rules.{Term, Var, Given, RuleAtom, Simpagation, rule_at}
+use Rattle.chr_value.specs.Atoms.{Value, Args, Atom}
+use Rattle.chr_rule.specs.Rules.{Term, Var, Given, Open, Terms, End, And, RuleAtom, Simpagation, rule_at}
 use Rattle.chr_rule.specs.Rules as rules
-use Rattle.chr_guard.specs.Values.{Valuation, term_under}
+use Rattle.chr_guard.specs.Values.{Valuation, term_under, terms_under, key_under}
 use Rattle.chr_guard.specs.Instances.{atom_under}
-use Rattle.chr_guard.proofs.Under.{atom_is}
-use Rattle.chr_plan.specs.Orders.{heads_of, head_in, has_variable, binds, is_bound, is_known, key_in, is_named, IsNext, EachNext, IsPlan}
+use Rattle.chr_guard.proofs.Under.{atom_is, open_parts, cons_parts}
+use Rattle.chr_plan.specs.Orders.{heads_of, head_in, stands_in, stands_among, has_variable, binds, is_bound, is_known, key_in, is_named, IsNext, EachNext, IsPlan}
 use Rattle.chr_plan.specs.Plans.{PlanList, orders_at, plan_at, AreOrders, ArePlans}
 use Rattle.chr_plan.specs.declared.order.Step.{Step}
 use Rattle.chr_plan.proofs.Planning.{opens, start, any_push, Planning, planning_start, planning_push}
@@ -20,6 +20,7 @@ use Rattle.chr_plan.proofs.OnePlan.{names_each_fact, each_next_fact}
 use Rattle.chr_store.specs.Keys.{arg_at}
 use Rattle.chr_model.specs.Stores.{among, Distinct}
 use Rattle.chr_search.specs.Trials.{Join, StandsAt, Fit, value_in, given_at}
+use Rattle.chr_search.specs.Partners.{key_value, keyed_at}
 
 abbrev pub heads_in : List Step → List ℕ
 heads_in order = map (λ step. step.head) order
@@ -161,14 +162,29 @@ pub given_is : (v : Valuation) (head : RuleAtom ℕ) (atom : Atom ℕ) → atom_
 given_is v head atom e zero = refl
 given_is v head atom e (suc i) = value_list v head.args atom.args ((atom_is v head atom).0 e).1 i
 
+-- a variable of a term that has a value has one
+mutual
+  in_term : (v : Valuation) (t : Term ℕ) (a : Value ℕ) → term_under v t ≡ Some a → (x : ℕ) → stands_in x t ≡ true → (value : Value ℕ) × (v x ≡ Some value)
+  in_term v (Var y) a e x h = (a, ap v (true-eqb x y (sym h)) ∙ e)
+  in_term v (Given b) a e x h = absurd (cc)
+  in_term v (Open s ts) a e x h = let p = open_parts s (terms_under v ts) a e in in_terms v ts p.0 p.1 x h
+
+  in_terms : (v : Valuation) (ts : Terms ℕ) (us : Args ℕ) → terms_under v ts ≡ Some us → (x : ℕ) → stands_among x ts ≡ true → (value : Value ℕ) × (v x ≡ Some value)
+  in_terms v End us e x h = absurd (cc)
+  in_terms v (And t ts) us e x h =
+      let p = cons_parts (term_under v t) (terms_under v ts) us e in
+      elim (stands_in x t) as (λ b. (stands_in x t ≡ b) → (value : Value ℕ) × (v x ≡ Some value)) [
+        | true ↦ λ b. in_term v t p.0 p.2 x b
+        | false ↦ λ b. in_terms v ts p.1 p.3 x (let g : (stands_in x t || stands_among x ts) ≡ true = h in cc)
+      ] refl
+
 variable_given : (v : Valuation) (args : List (Term ℕ)) (xs : List (Value ℕ)) → map (term_under v) args ≡ map (λ x. Some x) xs → (x : ℕ) → has_variable x args ≡ true → (value : Value ℕ) × (v x ≡ Some value)
 variable_given v [] xs e x h = absurd (cc)
 variable_given v (t ∷ args) [] e x h = absurd (cc)
-variable_given v (Given a ∷ args) (y ∷ xs) e x h = variable_given v args xs (cc) x h
-variable_given v (Var z ∷ args) (y ∷ xs) e x h =
-    elim (x == z) as (λ b. (x == z ≡ b) → (value : Value ℕ) × (v x ≡ Some value)) [
-      | true ↦ λ b. (let first : v z ≡ Some y = cc in (y, ap v (true-eqb x z (sym b)) ∙ first))
-      | false ↦ λ b. variable_given v args xs (cc) x (let g : ((x == z) || has_variable x args) ≡ true = h in cc)
+variable_given v (t ∷ args) (y ∷ xs) e x h =
+    elim (stands_in x t) as (λ b. (stands_in x t ≡ b) → (value : Value ℕ) × (v x ≡ Some value)) [
+      | true ↦ λ b. (let first : term_under v t ≡ Some y = cc in in_term v t y first x b)
+      | false ↦ λ b. variable_given v args xs (cc) x (let g : (stands_in x t || has_variable x args) ≡ true = h in cc)
     ] refl
 
 -- a variable of a head that stands at a label has a value
@@ -191,15 +207,27 @@ bound_given j v (step ∷ steps) (l ∷ ls) f x b =
       | false ↦ λ t. bound_given j v steps ls f.1 x (let g : (binds (head_in (heads_of j.rule) step.head) x || is_bound (heads_of j.rule) (take (length ls) steps) x) ≡ true = b in cc)
     ] refl
 
+-- what a head has as a key is its value
+pub keyed_given : (v : Valuation) (head : RuleAtom ℕ) (place : ℕ) (x : Value ℕ) → keyed_at v head place ≡ Some x → given_at v head place ≡ Some x
+keyed_given v head zero x e = e
+keyed_given v head (suc i) x e = by_term (slice_get head.args i) e
+  where
+    by_term : (o : Option (Term ℕ)) → key_value v o ≡ Some x → value_in v o ≡ Some x
+    by_term None k = k
+    by_term (Some (Var y)) k = k
+    by_term (Some (Given a)) k = k
+    by_term (Some (Open s ts)) k = let z : None ≡ Some x = k in absurd (cc)
+
 -- a key's place has a value where each variable that is bound by then has one
-pub key_given : (v : Valuation) (known : ℕ → Bool) → ((x : ℕ) → known x ≡ true → (value : Value ℕ) × (v x ≡ Some value)) → (head : RuleAtom ℕ) (place : ℕ) → key_in known (Some head) ≡ Some place → (value : Value ℕ) × (given_at v head place ≡ Some value)
+pub key_given : (v : Valuation) (known : ℕ → Bool) → ((x : ℕ) → known x ≡ true → (value : Value ℕ) × (v x ≡ Some value)) → (head : RuleAtom ℕ) (place : ℕ) → key_in known (Some head) ≡ Some place → (value : Value ℕ) × (keyed_at v head place ≡ Some value)
 key_given v known f head place e = by_position (position (is_known known) head.args) refl
   where
-    by_term : (t : Term ℕ) → is_known known t ≡ true → (value : Value ℕ) × (term_under v t ≡ Some value)
+    by_term : (t : Term ℕ) → is_known known t ≡ true → (value : Value ℕ) × (key_under v t ≡ Some value)
     by_term (Var x) k = f x k
     by_term (Given a) k = (a, refl)
+    by_term (Open s ts) k = absurd (cc)
 
-    by_position : (o : Option ℕ) → position (is_known known) head.args ≡ o → (value : Value ℕ) × (given_at v head place ≡ Some value)
+    by_position : (o : Option ℕ) → position (is_known known) head.args ≡ o → (value : Value ℕ) × (keyed_at v head place ≡ Some value)
     by_position None p = absurd (let z : None ≡ Some place = sym (ap (option_map (λ i. i + 1)) p) ∙ e in cc)
     by_position (Some i) p =
         let d : Term ℕ = Var 0 in
@@ -208,14 +236,20 @@ key_given v known f head place e = by_position (position (is_known known) head.a
         let z : Some (i + 1) ≡ Some place = sym (ap (option_map (λ i. i + 1)) p) ∙ e in
         let same : suc i ≡ place = (let q : i + 1 ≡ place = cc in omega arith) in
         let got = by_term (get_or head.args i d) here.1 in
-        (got.0, subst (λ n. given_at v head n ≡ Some got.0) same (ap (value_in v) at ∙ got.1))
+        (got.0, subst (λ n. keyed_at v head n ≡ Some got.0) same (ap (key_value v) at ∙ got.1))
 
 -- the key of a step has a value under a fit of the labels before it
-pub step_key_given : (j : Join) (h : ℕ) (v : Valuation) (before : List ℕ) (step : Step) (head : RuleAtom ℕ) (place : ℕ) → IsPlan (heads_of j.rule) h j.order → 1 ≤ length before → Fit j v j.order before → slice_get j.order (length before) ≡ Some step → rules.head_at j.rule step.head ≡ Some head → step.key ≡ Some place
-    → (value : Value ℕ) × (given_at v head place ≡ Some value)
-step_key_given j h v [] step head place p some f at is key = absurd (omega arith)
-step_key_given j h v (l ∷ before) step head place p some f at is key =
+pub step_keyed : (j : Join) (h : ℕ) (v : Valuation) (before : List ℕ) (step : Step) (head : RuleAtom ℕ) (place : ℕ) → IsPlan (heads_of j.rule) h j.order → 1 ≤ length before → Fit j v j.order before → slice_get j.order (length before) ≡ Some step → rules.head_at j.rule step.head ≡ Some head → step.key ≡ Some place
+    → (value : Value ℕ) × (keyed_at v head place ≡ Some value)
+step_keyed j h v [] step head place p some f at is key = absurd (omega arith)
+step_keyed j h v (l ∷ before) step head place p some f at is key =
     let next = each_next_fact (heads_of j.rule) h j.order p (length before) step at in
     let known = is_bound (heads_of j.rule) (take (length (l ∷ before)) j.order) in
     key_given v known (λ x b. bound_given j v j.order (l ∷ before) f x b) head place
     (ap (key_in known) (sym (same_head j.rule step.head ∙ is)) ∙ sym next.key ∙ key)
+
+pub step_key_given : (j : Join) (h : ℕ) (v : Valuation) (before : List ℕ) (step : Step) (head : RuleAtom ℕ) (place : ℕ) → IsPlan (heads_of j.rule) h j.order → 1 ≤ length before → Fit j v j.order before → slice_get j.order (length before) ≡ Some step → rules.head_at j.rule step.head ≡ Some head → step.key ≡ Some place
+    → (value : Value ℕ) × (given_at v head place ≡ Some value)
+step_key_given j h v before step head place p some f at is key =
+    let k = step_keyed j h v before step head place p some f at is key in
+    (k.0, keyed_given v head place k.0 k.1)

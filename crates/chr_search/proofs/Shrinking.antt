@@ -1,12 +1,12 @@
 -- A store that has no more than another gives no more trials.
-use Rattle.std.proofs.Common.{◌≡◌, ℕ, ◌<◌, ◌≤◌, true, false, ◌==◌, List, [], ◌∷◌, ◌++◌, length, append_assoc, Some, None, refl, sym, ◌∙◌, ap, subst, arith, ◌⊎◌, inl, inr, true-eqb}
+use Rattle.std.proofs.Common.{◌≡◌, ℕ, ◌<◌, ◌≤◌, true, false, ◌==◌, List, [], ◌∷◌, ◌++◌, length, append_assoc, Some, None, refl, sym, ◌∙◌, subst, arith, ◌⊎◌, inl, inr, true-eqb}
 use Rattle.std.proofs.lemmas.Bool.Decides.{nat_tests}
 use Rattle.chr_value.specs.Atoms.{Atom}
 use Rattle.chr_rule.specs.Rules.{Simpagation}
 use Rattle.std.specs.List.{AllByRecursion}
 use Rattle.std.proofs.lemmas.List.{append-nil}
 use Rattle.chr_guard.specs.Values.{Valuation, Holds}
-use Rattle.chr_guard.specs.Instances.{AreUnder, IsRight, added}
+use Rattle.chr_guard.specs.Instances.{AreMadeUnder, IsRight, added}
 use Rattle.chr_model.specs.Stores.{Store, atom_at, drop_label, among}
 use Rattle.chr_model.specs.Programs.{Instances}
 use Rattle.chr_model.proofs.Stores.{among-itself, among-more, atom_at-old, atom_at-drop, Labelled-move}
@@ -134,7 +134,7 @@ pub record Reached (s : Space) (t : List ℕ) (k : Reach s t) : Type 0 where
   pub grows : Grows (MayFollow (join_in s rule k.order)) [] (labels_in (k.kept ++ k.removed) k.order)
   pub guard : AllByRecursion (Holds valuation) rule.guard
   pub right : AllByRecursion (IsRight valuation) rule.body
-  pub body_is : AreUnder valuation (added rule.body) k.body
+  pub body_is : AreMadeUnder valuation (added rule.body) k.body
 
 pub reached : (s : Space) → ArePlans s.rules s.plans → (t : List ℕ) (k : Reach s t) → Reached s t k
 reached s ps t k =

@@ -1,19 +1,20 @@
 -- What the search for partners answers.
-use Rattle.std.specs.Prelude.{◌≡◌, ℕ, ◌-◌, ◌≤◌, Bool, true, false, List, length, Option, Some, None, slice_get}
-use Rattle.std.specs.Option.{MatchOption, option_map}
-use Rattle.chr_value.specs.Atoms.{Value, ground}
-use Rattle.chr_rule.specs.Rules.{RuleAtom, head_at}
+use Rattle.std.specs.Prelude.{◌≡◌, ℕ, zero, suc, ◌-◌, ◌≤◌, Bool, true, false, List, length, Option, Some, None, slice_get}
+use Rattle.std.specs.Option.{MatchOption}
+use Rattle.chr_value.specs.Atoms.{Value}
+use Rattle.chr_rule.specs.Rules.{Term, RuleAtom, head_at}
 use Rattle.chr_rule.specs.Scope.{IsRule}
-use Rattle.chr_guard.specs.Values.{Valuation}
+use Rattle.chr_guard.specs.Values.{Valuation, key_under}
 use Rattle.chr_guard.specs.Bindings.{bound_at}
 use Rattle.chr_guard.specs.Matching.{IsFit}
 use Rattle.chr_plan.specs.Orders.{heads_of, IsPlan}
 use Rattle.chr_plan.specs.declared.order.Step.{Step}
 use Rattle.chr_model.specs.Stores.{Distinct}
 use Rattle.chr_store.specs.Buckets.{IsLeastBetween}
+use Rattle.chr_store.specs.Keys.{key_of}
 use Rattle.chr_search.specs.declared.join.Asked.{Asked}
 use Rattle.chr_search.specs.Tree.{Least, NoneBeyond, LeastFrom, NoneFrom}
-use Rattle.chr_search.specs.Trials.{Join, Fit, MayFollow, given_at}
+use Rattle.chr_search.specs.Trials.{Join, Fit, MayFollow}
 
 -- the order is the plan of one of the rule's heads
 pub record HasPlan (j : Join) : Type 0 where
@@ -28,16 +29,27 @@ pub record IsReady (j : Join) (labels : List ℕ) (binding : List (Option (Value
   pub distinct : Distinct labels
   pub fit : IsFit j.rule (λ v. Fit j v j.order labels) binding
 
+-- what a head has at a place, places being numbered from 1, where that may be a key
+abbrev pub key_value : Valuation → Option (Term ℕ) → Option (Value ℕ)
+key_value v None = None
+key_value v (Some t) = key_under v t
+
+abbrev pub keyed_at : Valuation → RuleAtom ℕ → ℕ → Option (Value ℕ)
+keyed_at v head zero = None
+keyed_at v head (suc i) = key_value v (slice_get head.args i)
+
 -- the key that is asked for: the head's value at the plan's place, or none where the plan has none
 abbrev pub KeyIs : Valuation → RuleAtom ℕ → Option ℕ → Option (ℕ × Value ℕ) → Type 0
 KeyIs v head None key = key ≡ None
-KeyIs v head (Some place) key = (value : Value ℕ) × (given_at v head place ≡ Some value) × (key ≡ Some (place, value))
+KeyIs v head (Some place) key =
+    (value : Value ℕ) × (keyed_at v head place ≡ Some value) × (key ≡ Some (place, value))
 
-abbrev pub key_in : Asked → Option (ℕ × Value ℕ)
-key_in asked = option_map (λ k. (k.0, ground k.1)) asked.key
+abbrev pub key_in : {Z : Type 0} → Asked Z → Option (ℕ × Value ℕ)
+key_in asked = key_of asked.key
 
 -- what is asked for the label after these: the predicate of the next head, and its value at the plan's place
-pub record IsAskedFor (j : Join) (labels : List ℕ) (binding : List (Option (Value ℕ))) (asked : Asked) : Type 0 where
+pub record IsAskedFor {Z : Type 0} (j : Join) (labels : List ℕ)
+    (binding : List (Option (Value ℕ))) (asked : Asked Z) : Type 0 where
   pub step : Step
   pub step_is : slice_get j.order (length labels) ≡ Some step
   pub head : RuleAtom ℕ

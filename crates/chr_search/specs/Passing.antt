@@ -91,7 +91,7 @@ EndsIn j place ends.NoneLeft ls binding = NoneBeyond (MayFollow j) 1 [] place
 EndsIn j place ends.Enough ls binding = Unit {0}
 
 -- where a label stands that comes after these: the next head, and whether it is the rule's last
-pub record IsLastHead (j : Join) (ls : List ℕ) (at : LastHead) : Type 0 where
+pub record IsLastHead {Z : Type 0} (j : Join) (ls : List ℕ) (at : LastHead Z) : Type 0 where
   pub step : Step
   pub step_is : slice_get j.order (length ls) ≡ Some step
   pub head_is : head_at j.rule step.head ≡ Some (shape at.head.now)
@@ -173,7 +173,7 @@ pub record IsWholeNext (s : Space) (place : List ℕ) (w : CodeWhole) (binding :
   pub past_is : w.past ≡ record { label = s.active; place = past (position trial) }
 
 -- what comes at a place once trials were passed over: one that is whole, which is this instance; none; or perhaps more
-abbrev pub IsThen : Space → List ℕ → CodeThen → Instance → Type 0
-IsThen s place thens.Whole i = IsWholeNext s place i.whole i.binding
-IsThen s place thens.Done i = NoneLeft s place
-IsThen s place thens.More i = Unit {0}
+abbrev pub IsThen : Space → List ℕ → CodeThen → Instance → List (Option (Value ℕ)) → Type 0
+IsThen s place thens.Whole i binding = IsWholeNext s place i.whole binding
+IsThen s place thens.Done i binding = NoneLeft s place
+IsThen s place thens.More i binding = Unit {0}

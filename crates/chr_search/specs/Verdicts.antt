@@ -7,7 +7,7 @@ use Rattle.chr_rule.specs.Scope.{IsRule}
 use Rattle.chr_guard.specs.Values.{Valuation, Holds}
 use Rattle.chr_guard.specs.Bindings.{bound_at}
 use Rattle.chr_guard.specs.Matching.{AreAtHeads}
-use Rattle.chr_guard.specs.Instances.{AreUnder, IsRight, added}
+use Rattle.chr_guard.specs.Instances.{AreMadeUnder, IsRight, added}
 use Rattle.chr_model.specs.Stores.{Store, atom_at, among, Distinct}
 use Rattle.chr_plan.specs.Orders.{heads_of}
 use Rattle.chr_plan.specs.Plans.{PlanList, plan_at}
@@ -89,12 +89,12 @@ pub record IsWhole (t : Trial) : Type 0 where
   pub guard : AllByRecursion (Holds valuation) t.rule.guard
   pub right : AllByRecursion (IsRight valuation) t.rule.body
   pub body : List (Atom ℕ)
-  pub body_is : AreUnder valuation (added t.rule.body) body
+  pub body_is : AreMadeUnder valuation (added t.rule.body) body
 
 -- the trial is whole, and its body is the rule's under the binding
 pub record IsWholeUnder (t : Trial) (binding : List (Option (Value ℕ))) : Type 0 where
   pub whole : IsWhole t
-  pub body_is : AreUnder (bound_at binding) (added t.rule.body) whole.body
+  pub body_is : AreMadeUnder (bound_at binding) (added t.rule.body) whole.body
 
 -- the trial has the rule of its number, the heads of a plan of it, and its labels' atoms in the store
 pub record IsTrialOf (rules : List (Simpagation ℕ)) (plans : PlanList) (store : Store) (t : Trial) : Type 0 where

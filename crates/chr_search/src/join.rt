@@ -13,7 +13,7 @@ use chr_log::Labels;
 use chr_plan::Step;
 use chr_rule::{Rule, RuleAtom};
 use chr_store::{Label, Matches, View};
-use chr_value::{Pred, Value};
+use chr_value::{Pred, ValueRef};
 use std::alloc::Allocator;
 
 /// A rule and a plan of it, and the view in which partners older than the active label are looked for.
@@ -25,7 +25,7 @@ pub(crate) struct Join<'s, A: Allocator> {
 }
 
 /// The predicate of a head.
-fn pred_of(head: &RuleAtom) -> Pred
+fn pred_of<A: Allocator>(head: &RuleAtom<A>) -> Pred
     ensures name { result.name.number ≡ (shape head.now).name }
     ensures arity { result.arity ≡ length (shape head.now).args }
 {
@@ -36,25 +36,16 @@ fn pred_of(head: &RuleAtom) -> Pred
 }
 
 /// What is asked of a store for partners: a predicate, and perhaps a place and the value there.
-#[derive(Drop)]
-struct Asked {
+#[derive(Clone, Copy)]
+struct Asked<'v, A: Allocator> {
     pred: Pred,
-    key: Option<(u8, Value)>,
-}
-
-impl Asked {
-    fn key(&self) -> Option<(u8, &Value)>
-        ensures { key_of result ≡ key_in self.now }
-    {
-        let (place, value) = self.key.as_ref()?;
-        Some((*place, value))
-    }
+    key: Option<(u8, ValueRef<'v, A>)>,
 }
 
 impl<'s, A: Allocator + Copy> Join<'s, A> {
     /// Extends a binding so that the step's head is the label's atom. False only where no valuation that extends it makes
     /// them equal, or the label has left the store.
-    pub(crate) fn fit_at(&self, binding: &mut Binding, step: Step, label: Label) -> bool
+    pub(crate) fn fit_at(&self, binding: &mut Binding<'s, A>, step: Step, label: Label) -> bool
         requires { length binding.old ≡ self.now.rule.now.variables }
         ensures { NarrowsIf (λ v. StandsAt (join_of self.now) v step label) result binding.old binding.new }
     {
@@ -69,7 +60,12 @@ impl<'s, A: Allocator + Copy> Join<'s, A> {
 
     /// The binding under which the step's head is the label's atom as well. None where there is none, or the label has
     /// left the store.
-    pub(crate) fn fit_label(&self, binding: &Binding, step: Step, label: Label) -> Option<Binding>
+    pub(crate) fn fit_label(
+        &self,
+        binding: &Binding<'s, A>,
+        step: Step,
+        label: Label,
+    ) -> Option<Binding<'s, A>>
         requires { length binding.now ≡ self.now.rule.now.variables }
         ensures { MatchOption result (NoneUnder (λ v. StandsAt (join_of self.now) v step label) binding.now) (Narrows (λ v. StandsAt (join_of self.now) v step label) binding.now) }
     {
@@ -81,7 +77,12 @@ impl<'s, A: Allocator + Copy> Join<'s, A> {
     }
 
     /// The binding with one label more. None where the labels are then not distinct, or don't fit.
-    fn narrow(&self, labels: &[Label], binding: &Binding, label: Label) -> Option<Binding>
+    fn narrow(
+        &self,
+        labels: &[Label],
+        binding: &Binding<'s, A>,
+        label: Label,
+    ) -> Option<Binding<'s, A>>
         requires { IsReady (join_of self.now) labels.now binding.now }
         ensures { MatchOption result ((x : ℕ) → MayFollow (join_of self.now) (labels.now ++ label ∷ []) x → ⊥) (IsReady (join_of self.now) (labels.now ++ label ∷ [])) }
     {
@@ -94,7 +95,7 @@ impl<'s, A: Allocator + Copy> Join<'s, A> {
 
     /// What is asked of the store for the next label. None where none may be tried after these.
     #[inline(always)]
-    fn asked(&self, labels: &[Label], binding: &Binding) -> Option<Asked>
+    fn asked(&self, labels: &[Label], binding: &Binding<'s, A>) -> Option<Asked<'s, A>>
         requires some { 1 ≤ length labels.now }
         requires plan { HasPlan (join_of self.now) }
         requires ready { IsReady (join_of self.now) labels.now binding.now }
@@ -106,8 +107,8 @@ impl<'s, A: Allocator + Copy> Join<'s, A> {
         let Some(place) = step.key else {
             return Some(Asked { pred, key: None });
         };
-        let term = head.terms.as_slice().get(usize::from(place) - 1)?;
-        let value = binding.value(term)?;
+        let term = head.terms.get(usize::from(place) - 1)?;
+        let value = binding.key(term)?;
         Some(Asked {
             pred,
             key: Some((place, value)),
@@ -118,7 +119,7 @@ impl<'s, A: Allocator + Copy> Join<'s, A> {
     pub(crate) fn next_partner(
         &self,
         labels: &[Label],
-        binding: &Binding,
+        binding: &Binding<'s, A>,
         from: Label,
     ) -> Option<Label>
         requires some { 1 ≤ length labels.now }
@@ -128,13 +129,17 @@ impl<'s, A: Allocator + Copy> Join<'s, A> {
     {
         let asked = self.asked(labels, binding)?;
         let after = from.saturating_sub(1);
-        self.view.next_at(asked.pred, asked.key(), after)
+        self.view.next_at(asked.pred, asked.key, after)
     }
 
     /// The labels among which are those that may be tried after these, to go through. None where there are none, or where
     /// the store keeps no index for them.
     #[inline(always)]
-    pub(crate) fn partners(&self, labels: &[Label], binding: &Binding) -> Option<Matches<'s, A>>
+    pub(crate) fn partners(
+        &self,
+        labels: &[Label],
+        binding: &Binding<'s, A>,
+    ) -> Option<Matches<'s, A>>
         requires plan { HasPlan (join_of self.now) }
         requires ready { IsReady (join_of self.now) labels.now binding.now }
         ensures { IfSome result (GivePartners (join_of self.now) labels.now) }
@@ -145,11 +150,11 @@ impl<'s, A: Allocator + Copy> Join<'s, A> {
         let asked = self.asked(labels, binding)?;
         // For the proof: the labels of a store are numbered from 1.
         let _given = self.view.active();
-        self.view.matches(asked.pred, asked.key())
+        self.view.matches(asked.pred, asked.key)
     }
 
     /// Adds the least partner from one on. False where there is none.
-    fn push_next(&self, labels: &mut Labels, binding: &Binding, from: Label) -> bool
+    fn push_next(&self, labels: &mut Labels, binding: &Binding<'s, A>, from: Label) -> bool
         requires some { 1 ≤ length labels.old.items }
         requires plan { HasPlan (join_of self.now) }
         requires ready { IsReady (join_of self.now) labels.old.items binding.now }
@@ -166,7 +171,7 @@ impl<'s, A: Allocator + Copy> Join<'s, A> {
     fn lengthen(
         &self,
         labels: &mut Labels,
-        binding: &Binding,
+        binding: &Binding<'s, A>,
         first: Label,
         below: &[Label],
     ) -> bool

@@ -1,16 +1,17 @@
 //! Judging trials.
 ghost use Rattle.std.specs.Prelude.{◌≡◌, ◌==◌, ◌↔◌, IsTrue, length, map, MatchOption};
 ghost use Rattle.std.specs.List.{list_any};
+ghost use Rattle.chr_guard.specs.Bindings.{NarrowsIf};
 ghost use Rattle.chr_guard.specs.Matching.{AreAtHeads, IsFit};
 ghost use Rattle.chr_model.specs.Stores.{Distinct};
 ghost use Rattle.chr_plan.specs.Orders.{heads_of};
-ghost use Rattle.chr_search.specs.Judged.{IsVerdict};
+ghost use Rattle.chr_search.specs.Judged.{IsVerdict, IsSettledUnder};
 ghost use Rattle.chr_search.specs.Placed.{placed_as};
 ghost use Rattle.chr_search.specs.Verdicts.{IsWhole, IsWholeUnder, labels, at_heads};
 
 use crate::trial::{Placed, Trial};
 use chr_guard::instance::instance_from;
-use chr_guard::{Binding, fit_head};
+use chr_guard::{Binding, Settled, fit_head};
 use chr_rule::Rule;
 use chr_store::Label;
 use std::alloc::Allocator;
@@ -33,8 +34,8 @@ pub enum Verdict {
 pub struct Judged<A: Allocator> {
     trial: Trial<A>,
     verdict: Verdict,
-    /// That of the instance, where the trial is whole.
-    binding: Option<Binding>,
+    /// What is kept of the instance's binding, where the trial is whole.
+    settled: Option<Settled>,
 }
 
 impl<A: Allocator> Model for Judged<A> {
@@ -42,16 +43,17 @@ impl<A: Allocator> Model for Judged<A> {
     ghost use Rattle.std.specs.Coded.{codes};
     ghost use Rattle.chr_value.specs.Code.{value_code};
     ghost use Rattle.chr_rule.specs.Code.{expression_code};
-    ghost use Rattle.chr_search.specs.Judged.{Judgement, IsVerdict};
-    ghost use Rattle.chr_search.specs.Verdicts.{IsWhole, IsWholeUnder};
+    ghost use Rattle.chr_rule.specs.TermCode.{term_code};
+    ghost use Rattle.chr_search.specs.Judged.{Judgement, IsVerdict, IsSettledUnder};
+    ghost use Rattle.chr_search.specs.Verdicts.{IsWhole};
 
     ghost Value = { Judgement };
 
-    ghost coded = { Prim.hlevel (codes, expression_code, value_code) };
+    ghost coded = { Prim.hlevel (codes, expression_code, term_code, value_code) };
 
     ghost view = { λ j. record { trial = j.trial; verdict = j.verdict } };
 
-    ghost invariant = { λ j. IsVerdict j.trial j.verdict × MatchOption j.binding (IsWhole j.trial → ⊥) (IsWholeUnder j.trial) };
+    ghost invariant = { λ j. IsVerdict j.trial j.verdict × MatchOption j.settled (IsWhole j.trial → ⊥) (IsSettledUnder j.trial) };
 }
 
 impl<A: Allocator + Copy> Judged<A> {
@@ -71,13 +73,16 @@ impl<A: Allocator + Copy> Judged<A> {
     }
 
     /// The one binding of all variables of the instance that a whole trial is. None unless the verdict is
-    /// [`Verdict::Whole`]. It takes no memory.
-    pub fn binding(&self) -> Option<Binding>
+    /// [`Verdict::Whole`]. It takes no memory. Where a compound value stands in it, the trial is judged once more.
+    pub fn binding(&self) -> Option<Binding<'_, A>>
         ensures { MatchOption result (IsWhole self.now.trial → ⊥) (IsWholeUnder self.now.trial) }
     {
-        match &self.binding {
-            None => None,
-            Some(binding) => Some(binding.copy()),
+        let Some(settled) = &self.settled else {
+            return None;
+        };
+        match settled.plain() {
+            Some(binding) => Some(binding),
+            None => verdict_on(&self.trial).1,
         }
     }
 }
@@ -99,30 +104,44 @@ fn are_distinct<A: Allocator>(placed: &[Placed<A>]) -> bool
     }
 }
 
-/// The one binding under which the heads are the atoms. None where there is none.
-fn fit_placed<A: Allocator + Copy>(rule: &Rule<A>, placed: &[Placed<A>]) -> Option<Binding>
-    ensures { let places = map (λ p. (p.head, p.atom)) placed.now in MatchOption result ((v : _) → AreAtHeads rule.now places v → ⊥) (λ binding. IsFit rule.now (AreAtHeads rule.now places) binding) }
+/// Extends a binding so that the heads are the atoms. False only where no valuation that extends it makes them so.
+fn fit_placed<'v, A: Allocator + Copy>(
+    binding: &mut Binding<'v, A>,
+    rule: &Rule<A>,
+    placed: &'v [Placed<A>],
+) -> bool
+    requires { length binding.old ≡ rule.now.variables }
+    ensures { let places = map (λ p. (p.head, p.atom)) placed.now in NarrowsIf (AreAtHeads rule.now places) result binding.old binding.new }
 {
-    let mut binding = Binding::free(rule.variables());
     for one in placed {
-        let head = rule.head(usize::from(one.head))?;
-        if !fit_head(&mut binding, head, &one.atom) {
-            return None;
+        let Some(head) = rule.head(usize::from(one.head)) else {
+            return false;
+        };
+        if !fit_head(binding, head, &one.atom) {
+            return false;
         }
+    }
+    true
+}
+
+/// The one binding under which the heads of a trial are its atoms. None where there is none.
+fn fit<A: Allocator + Copy>(trial: &Trial<A>) -> Option<Binding<'_, A>>
+    ensures { MatchOption result ((v : _) → AreAtHeads trial.now.rule (at_heads trial.now) v → ⊥) (IsFit trial.now.rule (AreAtHeads trial.now.rule (at_heads trial.now))) }
+{
+    let rule = trial.rule();
+    let mut binding = Binding::free(rule.variables());
+    if !fit_placed(&mut binding, rule, trial.placed()) {
+        return None;
     }
     Some(binding)
 }
 
-/// The one binding under which the heads of a trial are its atoms. None where there is none.
-fn fit<A: Allocator + Copy>(trial: &Trial<A>) -> Option<Binding>
-    ensures { MatchOption result ((v : _) → AreAtHeads trial.now.rule (at_heads trial.now) v → ⊥) (IsFit trial.now.rule (AreAtHeads trial.now.rule (at_heads trial.now))) }
-{
-    fit_placed(trial.rule(), trial.placed())
-}
-
 /// The one binding of all variables of the instance that a trial without heads left is, from that of its heads' variables.
 /// None where it is none.
-fn complete<A: Allocator + Copy>(trial: &Trial<A>, binding: Binding) -> Option<Binding>
+fn complete<'v, A: Allocator + Copy>(
+    trial: &Trial<A>,
+    binding: Binding<'v, A>,
+) -> Option<Binding<'v, A>>
     requires full { length trial.now.placed ≡ length (heads_of trial.now.rule) }
     requires distinct { Distinct (labels trial.now) }
     requires fit { IsFit trial.now.rule (AreAtHeads trial.now.rule (at_heads trial.now)) binding }
@@ -132,7 +151,7 @@ fn complete<A: Allocator + Copy>(trial: &Trial<A>, binding: Binding) -> Option<B
 }
 
 /// The verdict on a trial, and the binding of all variables where it is whole.
-fn verdict_on<A: Allocator + Copy>(trial: &Trial<A>) -> (Verdict, Option<Binding>)
+fn verdict_on<A: Allocator + Copy>(trial: &Trial<A>) -> (Verdict, Option<Binding<'_, A>>)
     ensures verdict { IsVerdict trial.now result.0 }
     ensures binding { MatchOption result.1 (IsWhole trial.now → ⊥) (IsWholeUnder trial.now) }
 {
@@ -152,14 +171,26 @@ fn verdict_on<A: Allocator + Copy>(trial: &Trial<A>) -> (Verdict, Option<Binding
     }
 }
 
+/// The verdict on a trial, and what is kept of the binding of all variables where it is whole.
+fn settled_on<A: Allocator + Copy>(trial: &Trial<A>) -> (Verdict, Option<Settled>)
+    ensures verdict { IsVerdict trial.now result.0 }
+    ensures settled { MatchOption result.1 (IsWhole trial.now → ⊥) (IsSettledUnder trial.now) }
+{
+    let (verdict, binding) = verdict_on(trial);
+    match binding {
+        None => (verdict, None),
+        Some(binding) => (verdict, Some(binding.settled())),
+    }
+}
+
 /// Judges a trial. It takes no memory.
 pub fn judge<A: Allocator + Copy>(trial: Trial<A>) -> Judged<A>
     ensures { result.trial ≡ trial }
 {
-    let (verdict, binding) = verdict_on(&trial);
+    let (verdict, settled) = settled_on(&trial);
     Judged {
         trial,
         verdict,
-        binding,
+        settled,
     }
 }

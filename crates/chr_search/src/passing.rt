@@ -42,8 +42,8 @@ pub(crate) struct Passed {
 
 /// Where the last labels of trials stand.
 #[derive(Clone, Copy)]
-struct LastHead<'s> {
-    head: &'s RuleAtom,
+struct LastHead<'s, A: Allocator> {
+    head: &'s RuleAtom<A>,
     /// Whether no head is left then.
     is_last: bool,
 }
@@ -52,8 +52,8 @@ struct LastHead<'s> {
 #[derive(Drop)]
 struct Level<'l, 's, A: Allocator> {
     /// What the labels before the last bind.
-    binding: &'l Binding,
-    at: LastHead<'s>,
+    binding: &'l Binding<'s, A>,
+    at: LastHead<'s, A>,
     /// The labels among which it is. None where the store has no index for them, or it is the active one.
     partners: Option<Matches<'s, A>>,
 }
@@ -116,7 +116,7 @@ fn settle(place: &mut Labels, depth: usize, count: u64, next: Label)
 
 impl<'s, A: Allocator + Copy> Join<'s, A> {
     /// The least label from one on that may be tried after these labels.
-    fn next_child(&self, labels: &[Label], binding: &Binding, from: Label) -> Option<Label>
+    fn next_child(&self, labels: &[Label], binding: &Binding<'s, A>, from: Label) -> Option<Label>
         requires begins { MayFollow (join_of self.now) [] self.now.view.active }
         requires plan { HasPlan (join_of self.now) }
         requires ready { IsReady (join_of self.now) labels.now binding.now }
@@ -144,7 +144,7 @@ impl<'s, A: Allocator + Copy> Join<'s, A> {
     }
 
     /// Extends the binding of these labels by one more. False where that may not be tried after them, or none after it.
-    fn narrow_by(&self, labels: &[Label], narrowed: &mut Binding, label: Label) -> bool
+    fn narrow_by(&self, labels: &[Label], narrowed: &mut Binding<'s, A>, label: Label) -> bool
         requires plan { HasPlan (join_of self.now) }
         requires ready { IsReady (join_of self.now) labels.now narrowed.old }
         ensures { IsNarrowedIf (join_of self.now) labels.now label result narrowed.new }
@@ -163,7 +163,7 @@ impl<'s, A: Allocator + Copy> Join<'s, A> {
 
     /// Where a label stands that comes after these. None where no label may be tried after these.
     #[inline(always)]
-    fn last_head(&self, labels: &[Label]) -> Option<LastHead<'s>>
+    fn last_head(&self, labels: &[Label]) -> Option<LastHead<'s, A>>
         ensures { MatchOption result ((x : ℕ) → MayFollow (join_of self.now) labels.now x → ⊥) (IsLastHead (join_of self.now) labels.now) }
     {
         let step = self.order.get(labels.len())?;
@@ -176,7 +176,7 @@ impl<'s, A: Allocator + Copy> Join<'s, A> {
 
     /// What the trials of these labels and one more have in common. None where no label may be tried after these.
     #[inline(always)]
-    fn level<'l>(&self, labels: &[Label], binding: &'l Binding) -> Option<Level<'l, 's, A>>
+    fn level<'l>(&self, labels: &[Label], binding: &'l Binding<'s, A>) -> Option<Level<'l, 's, A>>
         requires plan { HasPlan (join_of self.now) }
         requires ready { IsReady (join_of self.now) labels.now binding.now }
         ensures { MatchOption result ((x : ℕ) → MayFollow (join_of self.now) labels.now x → ⊥) (IsLevel (join_of self.now) labels.now) }
@@ -208,10 +208,10 @@ impl<'s, A: Allocator + Copy> Join<'s, A> {
     #[inline(always)]
     fn judge_at(
         &self,
-        at: LastHead<'s>,
+        at: LastHead<'s, A>,
         labels: &[Label],
         label: Label,
-        narrowed: &mut Binding,
+        narrowed: &mut Binding<'s, A>,
     ) -> Verdict
         requires at { IsLastHead (join_of self.now) labels.now at }
         requires ready { IsReady (join_of self.now) labels.now narrowed.old }
@@ -245,6 +245,7 @@ impl<'s, A: Allocator + Copy> Join<'s, A> {
         from: Label,
         most: u64,
         instance: &mut Instance,
+        bound: &mut Binding<'s, A>,
     ) -> Run
         requires begins { MayFollow (join_of self.now) [] self.now.view.active }
         requires plan { HasPlan (join_of self.now) }
@@ -253,7 +254,7 @@ impl<'s, A: Allocator + Copy> Join<'s, A> {
         requires level { IsLevel (join_of self.now) instance.old.labels.items level.old }
         ensures few { result.count ≤ most }
         ensures misfits { AreMisfits (join_of self.now) instance.old.labels.items result.count from result.next }
-        ensures then { ComesNext (join_of self.now) instance.old.labels.items result.count most result.next result.then instance.new.binding }
+        ensures then { ComesNext (join_of self.now) instance.old.labels.items result.count most result.next result.then bound.new }
         ensures labels { instance.new.labels ≡ instance.old.labels }
         ensures same { level.new ≡ level.old }
     {
@@ -265,8 +266,8 @@ impl<'s, A: Allocator + Copy> Join<'s, A> {
                 let then = Next::NoneLeft;
                 return Run { count, next, then };
             };
-            instance.binding.set_to(level.binding);
-            match self.judge_at(level.at, labels, label, &mut instance.binding) {
+            bound.set_to(level.binding);
+            match self.judge_at(level.at, labels, label, bound) {
                 Verdict::Misfit => {}
                 Verdict::Part => {
                     let then = Next::Part(label);
@@ -293,6 +294,7 @@ impl<'s, A: Allocator + Copy> Join<'s, A> {
         most: u64,
         place: &mut Labels,
         instance: &mut Instance,
+        bound: &mut Binding<'s, A>,
     ) -> Stopped
         requires begins { MayFollow (join_of self.now) [] self.now.view.active }
         requires plan { HasPlan (join_of self.now) }
@@ -302,10 +304,10 @@ impl<'s, A: Allocator + Copy> Join<'s, A> {
         ensures few { result.count ≤ most }
         ensures enough { result.stop ≡ stops.End ends.Enough → result.count ≡ most }
         ensures passes { PassesIn (join_of self.now) result.count place.old.items place.new.items }
-        ensures stops { StopsAt (join_of self.now) instance.old.labels.items from result.stop place.new.items instance.new.labels.items instance.new.binding }
+        ensures stops { StopsAt (join_of self.now) instance.old.labels.items from result.stop place.new.items instance.new.labels.items bound.new }
         ensures same { level.new ≡ level.old }
     {
-        let run = self.pass_run(level, from, most, instance);
+        let run = self.pass_run(level, from, most, instance, bound);
         let depth = instance.labels.len();
         settle(place, depth, run.count, run.next);
         let (count, stop) = match run.then {
@@ -328,11 +330,12 @@ impl<'s, A: Allocator + Copy> Join<'s, A> {
     #[cycle(below)]
     fn pass_below(
         &self,
-        binding: &Binding,
+        binding: &Binding<'s, A>,
         from: Label,
         most: u64,
         place: &mut Labels,
         instance: &mut Instance,
+        bound: &mut Binding<'s, A>,
     ) -> Passed
         requires begins { MayFollow (join_of self.now) [] self.now.view.active }
         requires plan { HasPlan (join_of self.now) }
@@ -342,7 +345,7 @@ impl<'s, A: Allocator + Copy> Join<'s, A> {
         ensures few { result.count ≤ most }
         ensures enough { result.end ≡ ends.Enough → result.count ≡ most }
         ensures passes { PassesIn (join_of self.now) result.count place.old.items place.new.items }
-        ensures ends { EndsBelow (join_of self.now) instance.old.labels.items place.new.items result.end instance.new.labels.items instance.new.binding }
+        ensures ends { EndsBelow (join_of self.now) instance.old.labels.items place.new.items result.end instance.new.labels.items bound.new }
     {
         let Some(mut level) = self.level(instance.labels.as_slice(), binding) else {
             return Passed {
@@ -350,10 +353,12 @@ impl<'s, A: Allocator + Copy> Join<'s, A> {
                 end: End::NoneLeft,
             };
         };
-        let Stopped { count, stop } = self.pass_level(&mut level, from, most, place, instance);
+        let Stopped { count, stop } = self.pass_level(
+            &mut level, from, most, place, instance, bound,
+        );
         match stop {
             Stop::Part(label) => {
-                let more = self.pass_parts(level, label, most - count, place, instance);
+                let more = self.pass_parts(level, label, most - count, place, instance, bound);
                 Passed {
                     count: count + more.count,
                     end: more.end,
@@ -372,25 +377,26 @@ impl<'s, A: Allocator + Copy> Join<'s, A> {
         most: u64,
         place: &mut Labels,
         instance: &mut Instance,
+        bound: &mut Binding<'s, A>,
     ) -> Passed
         requires begins { MayFollow (join_of self.now) [] self.now.view.active }
         requires plan { HasPlan (join_of self.now) }
         requires trials { HasTrials (join_of self.now) }
         requires grows { Grows (MayFollow (join_of self.now)) [] instance.old.labels.items }
         requires level { IsLevel (join_of self.now) instance.old.labels.items level }
-        requires part { IsAfterPart (join_of self.now) instance.old.labels.items part place.old.items instance.old.binding }
+        requires part { IsAfterPart (join_of self.now) instance.old.labels.items part place.old.items bound.old }
         ensures few { result.count ≤ most }
         ensures enough { result.end ≡ ends.Enough → result.count ≡ most }
         ensures passes { PassesIn (join_of self.now) result.count place.old.items place.new.items }
-        ensures ends { EndsBelow (join_of self.now) instance.old.labels.items place.new.items result.end instance.new.labels.items instance.new.binding }
+        ensures ends { EndsBelow (join_of self.now) instance.old.labels.items place.new.items result.end instance.new.labels.items bound.new }
     {
         let mut narrowed = Binding::free(0);
         let mut label = part;
         let mut count = 0;
         loop {
-            narrowed.set_to(&instance.binding);
+            narrowed.set_to(bound);
             instance.labels.push(label);
-            let below = self.pass_below(&narrowed, 0, most - count, place, instance);
+            let below = self.pass_below(&narrowed, 0, most - count, place, instance, bound);
             count += below.count;
             if below.end != End::NoneLeft {
                 return Passed {
@@ -399,7 +405,14 @@ impl<'s, A: Allocator + Copy> Join<'s, A> {
                 };
             }
             instance.labels.pop();
-            let beside = self.pass_level(&mut level, label + 1, most - count, place, instance);
+            let beside = self.pass_level(
+                &mut level,
+                label + 1,
+                most - count,
+                place,
+                instance,
+                bound,
+            );
             count += beside.count;
             label = match beside.stop {
                 Stop::Part(label) => label,
@@ -411,11 +424,12 @@ impl<'s, A: Allocator + Copy> Join<'s, A> {
     /// Passes over the trials of the instance's labels and more at or after a place, at most so many.
     fn pass_on(
         &self,
-        binding: &Binding,
+        binding: &Binding<'s, A>,
         rest: &[Label],
         most: u64,
         place: &mut Labels,
         instance: &mut Instance,
+        bound: &mut Binding<'s, A>,
     ) -> Passed
         requires begins { MayFollow (join_of self.now) [] self.now.view.active }
         requires plan { HasPlan (join_of self.now) }
@@ -427,13 +441,13 @@ impl<'s, A: Allocator + Copy> Join<'s, A> {
         ensures few { result.count ≤ most }
         ensures enough { result.end ≡ ends.Enough → result.count ≡ most }
         ensures passes { PassesIn (join_of self.now) result.count place.old.items place.new.items }
-        ensures ends { EndsBelow (join_of self.now) instance.old.labels.items place.new.items result.end instance.new.labels.items instance.new.binding }
+        ensures ends { EndsBelow (join_of self.now) instance.old.labels.items place.new.items result.end instance.new.labels.items bound.new }
     {
         let Some((first, below)) = rest.split_first() else {
-            return self.pass_below(binding, 0, most, place, instance);
+            return self.pass_below(binding, 0, most, place, instance, bound);
         };
         if below.is_empty() {
-            return self.pass_below(binding, *first, most, place, instance);
+            return self.pass_below(binding, *first, most, place, instance, bound);
         }
         if *first > self.view.active() {
             return Passed {
@@ -444,15 +458,15 @@ impl<'s, A: Allocator + Copy> Join<'s, A> {
         let from = *first + 1;
         let mut next = binding.copy();
         if !self.narrow_by(instance.labels.as_slice(), &mut next, *first) {
-            return self.pass_below(binding, from, most, place, instance);
+            return self.pass_below(binding, from, most, place, instance, bound);
         }
         instance.labels.push(*first);
-        let passed = self.pass_on(&next, below, most, place, instance);
+        let passed = self.pass_on(&next, below, most, place, instance, bound);
         if passed.end != End::NoneLeft {
             return passed;
         }
         instance.labels.pop();
-        let more = self.pass_below(binding, from, most - passed.count, place, instance);
+        let more = self.pass_below(binding, from, most - passed.count, place, instance, bound);
         Passed {
             count: passed.count + more.count,
             end: more.end,
@@ -460,7 +474,13 @@ impl<'s, A: Allocator + Copy> Join<'s, A> {
     }
 
     /// Passes over the one trial of a rule of one head, where it isn't whole.
-    fn pass_only(&self, at: LastHead<'s>, place: &mut Labels, instance: &mut Instance) -> Passed
+    fn pass_only(
+        &self,
+        at: LastHead<'s, A>,
+        place: &mut Labels,
+        instance: &mut Instance,
+        bound: &mut Binding<'s, A>,
+    ) -> Passed
         requires begins { MayFollow (join_of self.now) [] self.now.view.active }
         requires trials { HasTrials (join_of self.now) }
         requires at { IsLastHead (join_of self.now) [] at }
@@ -469,11 +489,11 @@ impl<'s, A: Allocator + Copy> Join<'s, A> {
         ensures few { result.count ≤ 1 }
         ensures over { result.end ≢ ends.Enough }
         ensures passes { PassesIn (join_of self.now) result.count place.old.items place.new.items }
-        ensures ends { EndsIn (join_of self.now) place.new.items result.end instance.new.labels.items instance.new.binding }
+        ensures ends { EndsIn (join_of self.now) place.new.items result.end instance.new.labels.items bound.new }
     {
         let active = self.view.active();
-        instance.binding.reset(self.rule.variables());
-        match self.judge_at(at, &[], active, &mut instance.binding) {
+        bound.reset(self.rule.variables());
+        match self.judge_at(at, &[], active, bound) {
             Verdict::Misfit => {
                 place.push(active + 1);
                 Passed {
@@ -496,9 +516,10 @@ impl<'s, A: Allocator + Copy> Join<'s, A> {
     fn pass_first(
         &self,
         most: u64,
-        spare: &mut Binding,
+        spare: &mut Binding<'s, A>,
         place: &mut Labels,
         instance: &mut Instance,
+        bound: &mut Binding<'s, A>,
     ) -> Passed
         requires begins { MayFollow (join_of self.now) [] self.now.view.active }
         requires plan { HasPlan (join_of self.now) }
@@ -507,7 +528,7 @@ impl<'s, A: Allocator + Copy> Join<'s, A> {
         ensures few { result.count ≤ most }
         ensures enough { result.end ≡ ends.Enough → result.count ≡ most }
         ensures passes { PassesIn (join_of self.now) result.count place.old.items place.new.items }
-        ensures ends { EndsIn (join_of self.now) place.new.items result.end instance.new.labels.items instance.new.binding }
+        ensures ends { EndsIn (join_of self.now) place.new.items result.end instance.new.labels.items bound.new }
     {
         let Some(at) = self.last_head(&[]) else {
             return Passed {
@@ -522,7 +543,7 @@ impl<'s, A: Allocator + Copy> Join<'s, A> {
             };
         }
         if at.is_last {
-            return self.pass_only(at, place, instance);
+            return self.pass_only(at, place, instance, bound);
         }
         let active = self.view.active();
         spare.reset(self.rule.variables());
@@ -539,7 +560,7 @@ impl<'s, A: Allocator + Copy> Join<'s, A> {
                 put_at(&mut instance.labels, 0, active);
                 place.push(active);
                 place.push(0);
-                let below = self.pass_below(spare, 0, most - 1, place, instance);
+                let below = self.pass_below(spare, 0, most - 1, place, instance, bound);
                 Passed {
                     count: 1 + below.count,
                     end: below.end,
@@ -549,19 +570,25 @@ impl<'s, A: Allocator + Copy> Join<'s, A> {
     }
 
     /// Passes over the trials as [`pass`](Join::pass) does, from a place on.
-    fn pass_from(&self, most: u64, place: &mut Labels, instance: &mut Instance) -> Passed
+    fn pass_from(
+        &self,
+        most: u64,
+        place: &mut Labels,
+        instance: &mut Instance,
+        bound: &mut Binding<'s, A>,
+    ) -> Passed
         requires begins { MayFollow (join_of self.now) [] self.now.view.active }
         requires plan { HasPlan (join_of self.now) }
         requires trials { HasTrials (join_of self.now) }
         ensures few { result.count ≤ most }
         ensures enough { result.end ≡ ends.Enough → result.count ≡ most }
         ensures passes { PassesIn (join_of self.now) result.count place.old.items place.new.items }
-        ensures ends { EndsIn (join_of self.now) place.new.items result.end instance.new.labels.items instance.new.binding }
+        ensures ends { EndsIn (join_of self.now) place.new.items result.end instance.new.labels.items bound.new }
     {
         instance.labels.clear();
         let free = Binding::free(self.rule.variables());
         let rest = copy_labels(place);
-        self.pass_on(&free, rest.as_slice(), most, place, instance)
+        self.pass_on(&free, rest.as_slice(), most, place, instance, bound)
     }
 
     /// Passes over the trials at or after a place up to one that is whole, at most so many. The place becomes that at which
@@ -571,8 +598,9 @@ impl<'s, A: Allocator + Copy> Join<'s, A> {
         &self,
         place: &mut Labels,
         most: u64,
-        spare: &mut Binding,
+        spare: &mut Binding<'s, A>,
         instance: &mut Instance,
+        bound: &mut Binding<'s, A>,
     ) -> Passed
         requires begins { MayFollow (join_of self.now) [] self.now.view.active }
         requires plan { HasPlan (join_of self.now) }
@@ -580,11 +608,11 @@ impl<'s, A: Allocator + Copy> Join<'s, A> {
         ensures few { result.count ≤ most }
         ensures enough { result.end ≡ ends.Enough → result.count ≡ most }
         ensures passes { PassesIn (join_of self.now) result.count place.old.items place.new.items }
-        ensures ends { EndsIn (join_of self.now) place.new.items result.end instance.new.labels.items instance.new.binding }
+        ensures ends { EndsIn (join_of self.now) place.new.items result.end instance.new.labels.items bound.new }
     {
         if place.is_empty() {
-            return self.pass_first(most, spare, place, instance);
+            return self.pass_first(most, spare, place, instance, bound);
         }
-        self.pass_from(most, place, instance)
+        self.pass_from(most, place, instance, bound)
     }
 }

@@ -51,13 +51,11 @@ pub struct Whole {
     pub past: Search,
 }
 
-/// The labels of a trial that is whole, what its variables are bound to, and the trial itself. A search that passes over
-/// trials is lent one and sets it, since one costs more to make than to set; while it goes over them, the labels are those
-/// before the last.
+/// The labels of a trial that is whole, and the trial itself. A search that passes over trials is lent one and sets it, since
+/// one costs more to make than to set; while it goes over them, the labels are those before the last.
 #[derive(Drop)]
 pub struct Instance {
     pub(crate) labels: Labels,
-    pub(crate) binding: Binding,
     whole: Whole,
 }
 
@@ -95,11 +93,10 @@ fn set_labels_at_heads(
 }
 
 impl Instance {
-    /// One of no labels and no variables. It takes no memory.
+    /// One of no labels. It takes no memory.
     pub fn new() -> Instance {
         Instance {
             labels: Labels::new(),
-            binding: Binding::free(0),
             whole: Whole {
                 number: 1,
                 kept: Labels::new(),
@@ -107,13 +104,6 @@ impl Instance {
                 past: Search::begin(0),
             },
         }
-    }
-
-    /// What all variables are bound to.
-    pub fn binding(&self) -> &Binding
-        ensures { result.now ≡ self.now.binding }
-    {
-        &self.binding
     }
 
     /// The trial.
@@ -132,7 +122,6 @@ impl Instance {
         ensures kept { self.new.whole.kept.items ≡ labels_at_heads join.now.order.now self.old.labels.items 1 (length join.now.rule.now.kept) }
         ensures removed { self.new.whole.removed.items ≡ labels_at_heads join.now.order.now self.old.labels.items (suc (length join.now.rule.now.kept)) (length join.now.rule.now.removed) }
         ensures past { self.new.whole.past ≡ record { label = join.now.view.active; place = past (walk.now.rule ∷ walk.now.head ∷ self.old.labels.items) } }
-        ensures binding { self.new.binding ≡ self.old.binding }
     {
         let labels = self.labels.as_slice();
         let whole = &mut self.whole;
@@ -394,8 +383,9 @@ impl Search {
         join: &Join<'s, A>,
         walk: &Walk,
         most: u64,
-        spare: &mut Binding,
+        spare: &mut Binding<'s, A>,
         instance: &mut Instance,
+        bound: &mut Binding<'s, A>,
     ) -> passing::Passed
         requires rule { 1 ≤ walk.now.rule }
         requires head { 1 ≤ walk.now.head }
@@ -405,13 +395,13 @@ impl Search {
         ensures few { result.count ≤ most }
         ensures enough { result.end ≡ ends.Enough → result.count ≡ most }
         ensures label { self.new.label ≡ self.old.label }
-        ensures passed { PassesPlan (join_of join.now) walk.now.rule walk.now.head self.old.place result.count self.new.place result.end instance.new.labels.items instance.new.binding }
+        ensures passed { PassesPlan (join_of join.now) walk.now.rule walk.now.head self.old.place result.count self.new.place result.end instance.new.labels.items bound.new }
     {
         if self.position.rule == walk.rule && self.position.head == walk.head {
-            return join.pass(&mut self.position.labels, most, spare, instance);
+            return join.pass(&mut self.position.labels, most, spare, instance, bound);
         }
         let mut labels = Labels::new();
-        let passed = join.pass(&mut labels, most, spare, instance);
+        let passed = join.pass(&mut labels, most, spare, instance, bound);
         if passed.count > 0 {
             self.position.rule = walk.rule;
             self.position.head = walk.head;
@@ -429,6 +419,7 @@ impl Search {
         atom: &Atom<A>,
         most: u64,
         instance: &mut Instance,
+        bound: &mut Binding<'s, A>,
     ) -> Passed
         requires plans { ArePlans program.now plans.now }
         requires active { view.now.active ≡ self.old.label }
@@ -437,7 +428,7 @@ impl Search {
         ensures more { result.then ≡ thens.More → result.count ≡ most }
         ensures label { self.new.label ≡ self.old.label }
         ensures passed { Passes (older program.now plans.now view.now.store.entries self.old.label) result.count self.old.place self.new.place }
-        ensures then { IsThen (older program.now plans.now view.now.store.entries self.old.label) self.new.place result.then instance.new }
+        ensures then { IsThen (older program.now plans.now view.now.store.entries self.old.label) self.new.place result.then instance.new bound.new }
     {
         // For the proof: the labels of a store are at most the greatest.
         let _given = view.active();
@@ -449,7 +440,7 @@ impl Search {
         };
         let mut count = 0;
         while let Some(join) = Search::next_join(program, plans, view, atom, &mut walk) {
-            let passed = self.pass_in_plan(&join, &walk, most - count, &mut spare, instance);
+            let passed = self.pass_in_plan(&join, &walk, most - count, &mut spare, instance, bound);
             count += passed.count;
             match passed.end {
                 End::NoneLeft => walk.head += 1,
@@ -476,21 +467,22 @@ impl Search {
 
     /// Passes over the next trials up to one that is whole, at most so many: as if each of them had been asked for, judged,
     /// and the search advanced after it. Returns how many, and what comes then: where that is a whole trial, `instance`
-    /// becomes its instance. It takes no memory.
-    pub fn pass_over<A: Allocator + Copy>(
+    /// becomes its instance, and `bound` what its variables are bound to. It takes no memory.
+    pub fn pass_over<'s, A: Allocator + Copy>(
         &mut self,
-        program: &Program<A>,
-        plans: &Plans<A>,
-        store: &Store<A>,
+        program: &'s Program<A>,
+        plans: &'s Plans<A>,
+        store: &'s Store<A>,
         most: u64,
         instance: &mut Instance,
+        bound: &mut Binding<'s, A>,
     ) -> Passed
         requires { ArePlans program.now plans.now }
         ensures few { result.count ≤ most }
         ensures more { result.then ≡ thens.More → result.count ≡ most }
         ensures label { self.new.label ≡ self.old.label }
         ensures passed { Passes (older program.now plans.now store.now.entries self.old.label) result.count self.old.place self.new.place }
-        ensures then { IsThen (older program.now plans.now store.now.entries self.old.label) self.new.place result.then instance.new }
+        ensures then { IsThen (older program.now plans.now store.now.entries self.old.label) self.new.place result.then instance.new bound.new }
     {
         let Some(atom) = store.get(self.label) else {
             return Passed {
@@ -499,19 +491,20 @@ impl Search {
             };
         };
         let view = View::of(store, self.label);
-        self.pass_in(program, plans, &view, atom, most, instance)
+        self.pass_in(program, plans, &view, atom, most, instance, bound)
     }
 
     /// Passes over trials as [`pass_over`](Search::pass_over) does, in the store as it is once this atom is entered. That is
     /// done before the atom is, since a firing that removes it needs no entering.
-    pub fn pass_over_before<A: Allocator + Copy>(
+    pub fn pass_over_before<'s, A: Allocator + Copy>(
         &mut self,
-        program: &Program<A>,
-        plans: &Plans<A>,
-        store: &Store<A>,
-        atom: &Atom<A>,
+        program: &'s Program<A>,
+        plans: &'s Plans<A>,
+        store: &'s Store<A>,
+        atom: &'s Atom<A>,
         most: u64,
         instance: &mut Instance,
+        bound: &mut Binding<'s, A>,
     ) -> Passed
         requires plans { ArePlans program.now plans.now }
         requires label { self.old.label ≡ store.now.next }
@@ -520,11 +513,11 @@ impl Search {
         ensures more { result.then ≡ thens.More → result.count ≡ most }
         ensures label { self.new.label ≡ self.old.label }
         ensures passed { Passes (older program.now plans.now (entered store.now atom.now).entries self.old.label) result.count self.old.place self.new.place }
-        ensures then { IsThen (older program.now plans.now (entered store.now atom.now).entries self.old.label) self.new.place result.then instance.new }
+        ensures then { IsThen (older program.now plans.now (entered store.now atom.now).entries self.old.label) self.new.place result.then instance.new bound.new }
     {
         // For the proof: the labels of a store are below its next one.
         let _next = store.next_label();
         let view = View::with(store, atom);
-        self.pass_in(program, plans, &view, atom, most, instance)
+        self.pass_in(program, plans, &view, atom, most, instance, bound)
     }
 }

@@ -41,12 +41,13 @@ impl<A: Allocator> Model for Trial<A> {
     ghost use Rattle.std.specs.Coded.{codes};
     ghost use Rattle.chr_value.specs.Code.{value_code};
     ghost use Rattle.chr_rule.specs.Code.{expression_code};
+    ghost use Rattle.chr_rule.specs.TermCode.{term_code};
     ghost use Rattle.chr_search.specs.Verdicts.{Trial, IsFormed};
     ghost use Rattle.chr_search.specs.Placed.{placed_as};
 
     ghost Value = { Trial };
 
-    ghost coded = { Prim.hlevel (codes, expression_code, value_code) };
+    ghost coded = { Prim.hlevel (codes, expression_code, term_code, value_code) };
 
     ghost view = { λ t. record { rule = arc_value t.rule; number = t.number; head = t.head; placed = map placed_as t.placed.items } };
 

@@ -1,13 +1,15 @@
-use Rattle.std.proofs.Common.{◌≡◌, ℕ, zero, suc, ◌+◌, ◌<◌, ◌≤◌, ◌&&◌, if◌then◌else◌, Bool, true, false, List, [], ◌∷◌, Option, Some, None, refl, sym, ap, subst, arith, length, ◌∙◌, slice_get, get_or, nat_lt, inl, inr}
+use Rattle.std.proofs.Common.{◌≡◌, ℕ, zero, suc, ◌+◌, ◌<◌, ◌≤◌, ◌&&◌, if◌then◌else◌, Bool, true, false, List, Option, Some, None, refl, sym, ap, subst, arith, length, ◌∙◌, nat_lt, inl, inr}
+use Rattle.std.specs.Option.{option_map}
 use Rattle.std.proofs.lemmas.Bool.{and_parts, and_from, eq-eqb, eqb-true, lt-ltb, le-ltb, cases_lt, cases_eq, false≢true}
-use Rattle.chr_value.specs.Atoms.{Value, Atom, ground}
+use Rattle.chr_value.specs.Atoms.{Value, Atom}
 use Rattle.chr_value.specs.declared.atom.Pred.{Pred}
+use Rattle.chr_store.specs.declared.keys.KeyValue.{KeyValue}
 use Rattle.chr_store.specs.declared.keys.Key.{Key}
 use Rattle.chr_store.specs.declared.buckets.Buckets.{Buckets}
 use Rattle.chr_store.specs.Keys.{arg_at}
-use Rattle.chr_store.specs.Index.{Places, own_key, chosen, value_at, IsKeyAt, is_term, same_key, fits}
+use Rattle.chr_store.specs.Index.{Places, own_key, chosen, key_value, key_value_at, IsKeyAt, is_value, same_key, fits}
 use Rattle.chr_store.specs.KeyLabels.{labels_in, reached, IsChanged}
-use Rattle.chr_store.specs.KeyLaws.{same_key_true, same_key_refl, same_term_true, same_term_refl, ground_one, same_parts}
+use Rattle.chr_store.specs.KeyLaws.{same_key_true, same_key_refl, same_value_true, same_value_refl, same_parts}
 
 -- ---- an atom's own keys
 
@@ -15,26 +17,26 @@ use Rattle.chr_store.specs.KeyLaws.{same_key_true, same_key_refl, same_term_true
 pub record Fitting (k : Key) (a : Atom ℕ) : Type 0 where
   pub name : k.pred.name.number ≡ a.name
   pub arity : k.pred.arity ≡ length a.args
-  pub value : value_at a k.place ≡ Some (ground k.value)
+  pub value : key_value_at a k.place ≡ Some k.value
 
-is_term_some : (t : Value ℕ) (o : Option (Value ℕ)) → is_term t o ≡ true → o ≡ Some t
-is_term_some t None h = absurd (cc)
-is_term_some t (Some u) h = ap (λ z. Some z) (sym (same_term_true t u h))
+is_value_some : (v : KeyValue) (o : Option KeyValue) → is_value v o ≡ true → o ≡ Some v
+is_value_some v None h = absurd (cc)
+is_value_some v (Some w) h = ap (λ z. Some z) (sym (same_value_true v w h))
 
 pub fitting : (k : Key) (a : Atom ℕ) → fits k a ≡ true → Fitting k a
 fitting k a h =
     let p = and_parts _ _ h in
     let q = and_parts _ _ p.0 in
-    record { name = eqb-true _ _ q.0; arity = eqb-true _ _ q.1; value = is_term_some (ground k.value) (value_at a k.place) p.1 }
+    record { name = eqb-true _ _ q.0; arity = eqb-true _ _ q.1; value = is_value_some k.value (key_value_at a k.place) p.1 }
 
 pub fits_from : (k : Key) (a : Atom ℕ) → Fitting k a → fits k a ≡ true
-fits_from k a h = and_from _ _ (and_from _ _ (eq-eqb _ _ h.name) (eq-eqb _ _ h.arity)) (subst (λ (o : Option (Value ℕ)). is_term (ground k.value) o ≡ true) (sym h.value) (same_term_refl (ground k.value)))
+fits_from k a h = and_from _ _ (and_from _ _ (eq-eqb _ _ h.name) (eq-eqb _ _ h.arity)) (subst (λ (o : Option KeyValue). is_value k.value o ≡ true) (sym h.value) (same_value_refl k.value))
 
 -- an atom's key at a place is each key that fits it there
 pub own_fits : (a : Atom ℕ) (n : ℕ) (kk k : Key) → IsKeyAt a n kk → same_key kk k ≡ true → (fits k a ≡ true) × (k.place ≡ n)
 own_fits a n kk k h t =
     let e : kk ≡ k = same_key_true kk k t in
-    let own : Fitting kk a = record { name = h.name; arity = h.arity; value = subst (λ (z : ℕ). value_at a z ≡ Some (ground kk.value)) (sym h.place) h.value } in
+    let own : Fitting kk a = record { name = h.name; arity = h.arity; value = subst (λ (z : ℕ). key_value_at a z ≡ Some kk.value) (sym h.place) h.value } in
     (subst (λ (z : Key). fits z a ≡ true) e (fits_from kk a own), subst (λ (z : Key). z.place ≡ n) e h.place)
 
 pub some_one : {X : Type 0} (x y : X) → Some x ≡ Some y → x ≡ y
@@ -43,8 +45,8 @@ some_one x y h = cc
 pub fits_own : (a : Atom ℕ) (n : ℕ) (kk k : Key) → IsKeyAt a n kk → fits k a ≡ true → k.place ≡ n → same_key kk k ≡ true
 fits_own a n kk k h f e =
     let p : Fitting k a = fitting k a f in
-    let v : Some (ground kk.value) ≡ Some (ground k.value) = sym h.value ∙ ap (value_at a) (sym e) ∙ p.value in
-    let one : kk ≡ k = same_parts kk k (h.name ∙ sym p.name) (h.arity ∙ sym p.arity) (h.place ∙ sym e) (ground_one kk.value k.value (some_one _ _ v)) in
+    let v : Some kk.value ≡ Some k.value = sym h.value ∙ ap (key_value_at a) (sym e) ∙ p.value in
+    let one : kk ≡ k = same_parts kk k (h.name ∙ sym p.name) (h.arity ∙ sym p.arity) (h.place ∙ sym e) (some_one _ _ v) in
     subst (λ (z : Key). same_key kk z ≡ true) one (same_key_refl kk)
 
 -- ---- step by step
@@ -120,11 +122,7 @@ touched_rest f places a pred old new name arity none (suc n) m e h =
 
 -- ---- the key at a place
 
-pub value_here : (a : Atom ℕ) (n : ℕ) (o : Option (Value ℕ)) → 0 < n → arg_at a n ≡ o → value_at a n ≡ o
-value_here a zero o u h = absurd (omega arith)
-value_here a (suc i) o u h = h
-
-pub get_here : {X : Type 0} (xs : List X) (i : ℕ) (d : X) → i < length xs → slice_get xs i ≡ Some (get_or xs i d)
-get_here [] i d u = absurd (omega arith)
-get_here (x ∷ xs) zero d u = refl
-get_here (x ∷ xs) (suc i) d u = get_here xs i d (omega arith)
+-- what stands for an argument
+pub key_value_of : (a : Atom ℕ) (n : ℕ) (v : Value ℕ) → 0 < n → arg_at a n ≡ Some v → key_value_at a n ≡ Some (key_value v)
+key_value_of a zero v u h = absurd (omega arith)
+key_value_of a (suc i) v u h = ap (option_map key_value) h

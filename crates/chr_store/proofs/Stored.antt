@@ -1,25 +1,26 @@
 -- A store with the labels of its keys.
 use Rattle.std.proofs.Common.{◌≡◌, ℕ, zero, suc, ◌+◌, ◌<◌, ◌≤◌, ◌==◌, ◌&&◌, if◌then◌else◌, Bool, true, false, List, [], ◌∷◌, ◌++◌, Option, Some, None, refl, sym, ap, subst, arith, length, ◌∙◌, slice_get, nat_lt, inl, inr, true-eqb}
 use Rattle.std.specs.List.{AllByRecursion}
-use Rattle.std.specs.Borrow.{Bor}
+use Rattle.std.specs.Option.{option_map}
 use Rattle.std.proofs.lemmas.Bool.{eq-eqb, lt-ltb, cases_eq}
 use Rattle.std.proofs.lemmas.Bool.Decides.{nat_tests}
-use Rattle.chr_value.specs.Atoms.{Value, Atom, ground}
+use Rattle.chr_value.specs.Atoms.{Value, Int, Sym, Comp, Atom}
 use Rattle.chr_value.specs.Stores.{Store, atom_at, drop_label}
+use Rattle.chr_value.specs.declared.names.Name.{Name}
 use Rattle.chr_value.specs.declared.atom.Pred.{Pred}
-use Rattle.chr_value.specs.declared.atom.Value.{Value as CodeValue}
+use Rattle.chr_value.specs.declared.value.ValueRef.{ValueRef}
 use Rattle.chr_store.specs.declared.keys.Key.{Key}
 use Rattle.chr_store.specs.declared.buckets.Buckets.{Buckets}
 use Rattle.chr_store.specs.Labels.{LabelledStore, GivenAtoms, Rising, GivenBefore}
-use Rattle.chr_store.specs.Keys.{arg_at, HasPred, HasKey, Query, Matches, key_of, IsLeastMatch}
-use Rattle.chr_store.specs.Indexed.{IsIndexed, LabelHas}
+use Rattle.chr_store.specs.Keys.{arg_at, HasPred, HasKey, Query, key_of, IsLeastMatch}
+use Rattle.chr_store.specs.Indexed.{IsIndexed, LabelHas, IsLeastWith}
 use Rattle.chr_store.specs.Buckets.{drop_number, IsIn, IsLeastBetween}
-use Rattle.chr_store.specs.Index.{own_key, Places, chosen, value_at, fits}
+use Rattle.chr_store.specs.Index.{own_key, Places, chosen, is_constant, key_value, key_value_at, fits}
 use Rattle.chr_store.specs.KeyLabels.{labels_in, labels_of, reached, IsChanged, IsIndexOf}
 use Rattle.chr_store.proofs.Entries.{drop_absent}
 use Rattle.chr_store.proofs.Slots.{drop_absent as number_absent, pushed_back, all_map}
 use Rattle.chr_store.proofs.Walks.{above}
-use Rattle.chr_store.proofs.Keep.{Fitting, fitting, fits_from, some_one}
+use Rattle.chr_store.proofs.Keep.{Fitting, fitting, fits_from, some_one, key_value_of}
 
 -- ---- the labels of a key, one atom more or fewer
 
@@ -89,16 +90,16 @@ indexed_none limit places m fits empty = record {
 -- ---- the index, one atom more or fewer
 
 place_within : (k : Key) (a : Atom ℕ) → fits k a ≡ true → k.place < length a.args + 1
-place_within k a h = within a.args k.place (ground k.value) (λ i e. subst (λ (z : ℕ). value_at a z ≡ Some (ground k.value)) e (fitting k a h).value)
+place_within k a h = within a.args k.place (λ i e. subst (λ (z : ℕ). key_value_at a z ≡ Some k.value) e (fitting k a h).value)
   where
-    short : (ts : List (Value ℕ)) (i : ℕ) (t : Value ℕ) → slice_get ts i ≡ Some t → i < length ts
-    short [] i t h = absurd (cc)
-    short (u ∷ ts) zero t h = omega arith
-    short (u ∷ ts) (suc i) t h = let z : i < length ts = short ts i t h in omega arith
+    short : (ts : List (Value ℕ)) (i : ℕ) → option_map key_value (slice_get ts i) ≡ Some k.value → i < length ts
+    short [] i h = absurd (cc)
+    short (u ∷ ts) zero h = omega arith
+    short (u ∷ ts) (suc i) h = let z : i < length ts = short ts i h in omega arith
 
-    within : (ts : List (Value ℕ)) (p : ℕ) (t : Value ℕ) → ((i : ℕ) → p ≡ suc i → slice_get ts i ≡ Some t) → p < length ts + 1
-    within ts zero t h = omega arith
-    within ts (suc i) t h = let z : i < length ts = short ts i t (h i refl) in omega arith
+    within : (ts : List (Value ℕ)) (p : ℕ) → ((i : ℕ) → p ≡ suc i → option_map key_value (slice_get ts i) ≡ Some k.value) → p < length ts + 1
+    within ts zero h = omega arith
+    within ts (suc i) h = let z : i < length ts = short ts i (h i refl) in omega arith
 
 -- with all places reached
 all_reached : (places : Places) (a : Atom ℕ) (k : Key) → reached places a (length a.args + 1) k ≡ (chosen places k.pred k.place && fits k a)
@@ -186,28 +187,49 @@ least_meets es q k (Some l) r asks h =
     let met = asks.met u.atom u.fit in
     (record { atom = u.atom; there = u.there; pred = met.0; key = met.1; over = h.1; under = h.2 }, λ n m. h.3 n (is_in_under k es n m.atom m.there (asks.fit m.atom m.pred m.key)) m.over)
 
--- ---- a walk over the labels of a predicate, for one whose atom has a term at a place
+-- ---- what is asked of a predicate alone, or of a value at a place
 
 abbrev pub asked : Pred → Option (ℕ × Value ℕ) → ℕ → ℕ → Query
 asked pred key after below = record { pred = pred; key = key; after = after; below = below }
 
-own_met : (pred : Pred) (a : Atom ℕ) → fits (own_key pred) a ≡ true → HasPred pred a
-own_met pred a f = let g : Fitting (own_key pred) a = fitting (own_key pred) a f in (sym g.name, sym g.arity)
+-- the key of a value at a place
+abbrev pub at_place : Pred → ℕ → Value ℕ → Key
+at_place pred n v = record { pred = pred; place = n; value = key_value v }
+
+pred_met : (k : Key) (a : Atom ℕ) → fits k a ≡ true → HasPred k.pred a
+pred_met k a f = let g : Fitting k a = fitting k a f in (sym g.name, sym g.arity)
 
 own_fit : (pred : Pred) (a : Atom ℕ) → HasPred pred a → fits (own_key pred) a ≡ true
 own_fit pred a h = fits_from (own_key pred) a (record { name = sym h.0; arity = sym h.1; value = refl })
 
+at_fit : (pred : Pred) (n : ℕ) (v : Value ℕ) (a : Atom ℕ) → 0 < n → HasPred pred a → arg_at a n ≡ Some v → fits (at_place pred n v) a ≡ true
+at_fit pred n v a u h at = fits_from (at_place pred n v) a (record { name = sym h.0; arity = sym h.1; value = key_value_of a n v u at })
+
 pub asks_own : (pred : Pred) (after below : ℕ) → Asks (own_key pred) (asked pred None after below)
-asks_own pred after below = record { met = λ a f. (own_met pred a f, tt); fit = λ a h k. own_fit pred a h }
+asks_own pred after below = record { met = λ a f. (pred_met (own_key pred) a f, tt); fit = λ a h k. own_fit pred a h }
 
-arg_value : (a : Atom ℕ) (n : ℕ) → 0 < n → arg_at a n ≡ value_at a n
-arg_value a zero u = absurd (omega arith)
-arg_value a (suc i) u = refl
+-- a number or a symbol is the only value with its keys
+constant_one : (u v : Value ℕ) → is_constant v ≡ true → key_value u ≡ key_value v → u ≡ v
+constant_one (Int y) (Int z) c h = cc
+constant_one (Int y) (Sym s) c h = cc
+constant_one (Sym r) (Int z) c h = cc
+constant_one (Sym r) (Sym s) c h = let e : ◌≡◌ {A = Name} (record { number = r }) (record { number = s }) = cc in ap (λ (n : Name). Sym n.number) e
+constant_one (Comp r us) (Int z) c h = cc
+constant_one (Comp r us) (Sym s) c h = cc
+constant_one u (Comp s vs) c h = cc
 
-pub asks_at : (pred : Pred) (n : ℕ) (v : CodeValue) (after below : ℕ) → 0 < n → Asks (record { pred = pred; place = n; value = v }) (asked pred (Some (n, ground v)) after below)
-asks_at pred n v after below u = record {
-  met = λ a f. (let g : Fitting (record { pred = pred; place = n; value = v }) a = fitting (record { pred = pred; place = n; value = v }) a f in ((sym g.name, sym g.arity), arg_value a n u ∙ g.value));
-  fit = λ a h k. fits_from (record { pred = pred; place = n; value = v }) a (record { name = sym h.0; arity = sym h.1; value = sym (arg_value a n u) ∙ k });
+constant_at : (a : Atom ℕ) (n : ℕ) (v : Value ℕ) → 0 < n → is_constant v ≡ true → key_value_at a n ≡ Some (key_value v) → arg_at a n ≡ Some v
+constant_at a zero v u c h = absurd (omega arith)
+constant_at a (suc i) v u c h = by_arg (slice_get a.args i) h
+  where
+    by_arg : (o : Option (Value ℕ)) → option_map key_value o ≡ Some (key_value v) → o ≡ Some v
+    by_arg None h = cc
+    by_arg (Some w) h = ap (λ (z : Value ℕ). Some z) (constant_one w v c (some_one _ _ h))
+
+pub asks_at : (pred : Pred) (n : ℕ) (v : Value ℕ) (after below : ℕ) → 0 < n → is_constant v ≡ true → Asks (at_place pred n v) (asked pred (Some (n, v)) after below)
+asks_at pred n v after below u c = record {
+  met = λ a f. (pred_met (at_place pred n v) a f, constant_at a n v u c (fitting (at_place pred n v) a f).value);
+  fit = λ a h k. at_fit pred n v a u h k;
 }
 
 -- what contracts see of atoms with a limit
@@ -215,55 +237,85 @@ abbrev pub seen : GivenAtoms → ℕ → LabelledStore
 seen atoms limit = record { entries = atoms.entries; next = atoms.next; limit = limit }
 
 -- what a query asks of a store that its caller sees, under what it gave for a key
-pub same_asked : (s t : LabelledStore) (pred : Pred) (key given : Option (ℕ × Bor CodeValue)) (after below : ℕ) (found : Option ℕ) → s ≡ t → given ≡ key → IsLeastMatch s.entries (asked pred (key_of key) after below) found → IsLeastMatch t.entries (asked pred (key_of given) after below) found
-same_asked s t pred key given after below found e f h =
+pub same_asked : {A : Type 0} (s t : LabelledStore) (pred : Pred) (key given : Option (ℕ × ValueRef A)) (after below : ℕ) (found : Option ℕ) → s ≡ t → given ≡ key → IsLeastMatch s.entries (asked pred (key_of key) after below) found → IsLeastMatch t.entries (asked pred (key_of given) after below) found
+same_asked {A} s t pred key given after below found e f h =
     subst (λ (z : LabelledStore). IsLeastMatch z.entries (asked pred (key_of given) after below) found) e
-    (subst (λ (z : Option (ℕ × Bor CodeValue)). IsLeastMatch s.entries (asked pred (key_of z) after below) found) (sym f) h)
+    (subst (λ (z : Option (ℕ × ValueRef A)). IsLeastMatch s.entries (asked pred (key_of z) after below) found) (sym f) h)
+
+-- the labels of a key of the predicate, among which those of each atom with the value are
+least_with : (es : Store) (k : Key) (n : ℕ) (v : Value ℕ) (after below : ℕ) (found : Option ℕ) → Rising es → ((a : Atom ℕ) → HasPred k.pred a → arg_at a n ≡ Some v → fits k a ≡ true) → IsLeastWith es n v (labels_of k es) after below found → IsLeastMatch es (asked k.pred (Some (n, v)) after below) found
+least_with es k n v after below None r fit h = λ l m. h l (is_in_under k es l m.atom m.there (fit m.atom m.pred m.key)) m.over m.under (record { atom = m.atom; there = m.there; has = m.key })
+least_with es k n v after below (Some l) r fit h =
+    let u = under_is_in k es l r h.there in
+    let same : u.atom ≡ h.has.atom = some_one _ _ (sym u.there ∙ h.has.there) in (
+      record { atom = h.has.atom; there = h.has.there; pred = subst (HasPred k.pred) same (pred_met k u.atom u.fit); key = h.has.has; over = h.over; under = h.under },
+      λ i m. h.least i (is_in_under k es i m.atom m.there (fit m.atom m.pred m.key)) m.over (record { atom = m.atom; there = m.there; has = m.key }),
+    )
 
 module _ {A : Type 0} (s : LabelledStore) (places : Places) (b : Buckets A) (h : IsIndexed s places b) (pred : Pred) (after below : ℕ) (found : Option ℕ) where
+  -- the labels of the predicate alone, and of a value at a chosen place
+  own_labels : labels_in b (own_key pred) ≡ labels_of (own_key pred) s.entries
+  own_labels = h.index (own_key pred)
+
+  at_labels : (n : ℕ) (v : Value ℕ) → chosen places pred n ≡ true → labels_in b (at_place pred n v) ≡ labels_of (at_place pred n v) s.entries
+  at_labels n v there = h.index (at_place pred n v) ∙ ap (λ (z : Bool). if z then labels_of (at_place pred n v) s.entries else []) there
+
   -- a look-up of the predicate alone
   pub found_own : (k : Key) → k ≡ own_key pred → IsLeastBetween (labels_in b k) after below found → IsLeastMatch s.entries (asked pred None after below) found
   found_own k own least =
       least_meets s.entries (asked pred None after below) (own_key pred) found h.labelled.rising (asks_own pred after below)
-      (subst (λ (ms : List ℕ). IsLeastBetween ms after below found) (ap (labels_in b) own ∙ h.index (own_key pred)) least)
+      (subst (λ (ms : List ℕ). IsLeastBetween ms after below found) (ap (labels_in b) own ∙ own_labels) least)
 
-  -- a look-up of a value at a chosen place
-  pub found_at : (n : ℕ) (v : CodeValue) → 0 < n → chosen places pred n ≡ true → IsLeastBetween (labels_in b (record { pred = pred; place = n; value = v })) after below found → IsLeastMatch s.entries (asked pred (Some (n, ground v)) after below) found
-  found_at n v over there least =
-      let k : Key = record { pred = pred; place = n; value = v } in
-      least_meets s.entries (asked pred (Some (n, ground v)) after below) k found h.labelled.rising (asks_at pred n v after below over)
-      (subst (λ (ms : List ℕ). IsLeastBetween ms after below found) (h.index k ∙ ap (λ (z : Bool). if z then labels_of k s.entries else []) there) least)
+  -- a look-up of a number or a symbol at a chosen place
+  pub found_at : (k : Key) (n : ℕ) (v : Value ℕ) → k ≡ at_place pred n v → 0 < n → chosen places pred n ≡ true → is_constant v ≡ true → IsLeastBetween (labels_in b k) after below found → IsLeastMatch s.entries (asked pred (Some (n, v)) after below) found
+  found_at k n v is over there constant least =
+      least_meets s.entries (asked pred (Some (n, v)) after below) (at_place pred n v) found h.labelled.rising (asks_at pred n v after below over constant)
+      (subst (λ (ms : List ℕ). IsLeastBetween ms after below found) (ap (labels_in b) is ∙ at_labels n v there) least)
 
--- the walk has left what lies up to a label
-pub record IsWalked (es : Store) (q : Query) (from : ℕ) : Type 0 where
-  pub over : q.after ≤ from
-  pub left : (m : ℕ) → Matches es q m → from < m
+  -- a search for any value among the labels of the predicate, and among those of its digest
+  pub found_own_with : (k : Key) (n : ℕ) (v : Value ℕ) → k ≡ own_key pred → IsLeastWith s.entries n v (labels_in b k) after below found → IsLeastMatch s.entries (asked pred (Some (n, v)) after below) found
+  found_own_with k n v own least =
+      least_with s.entries (own_key pred) n v after below found h.labelled.rising (λ a p at. own_fit pred a p)
+      (subst (λ (ms : List ℕ). IsLeastWith s.entries n v ms after below found) (ap (labels_in b) own ∙ own_labels) least)
 
-pub walk_start : (es : Store) (q : Query) → IsWalked es q q.after
-walk_start es q = record { over = omega arith; left = λ m w. w.over }
+  pub found_at_with : (k : Key) (n : ℕ) (v : Value ℕ) → k ≡ at_place pred n v → 0 < n → chosen places pred n ≡ true → IsLeastWith s.entries n v (labels_in b k) after below found → IsLeastMatch s.entries (asked pred (Some (n, v)) after below) found
+  found_at_with k n v is over there least =
+      least_with s.entries (at_place pred n v) n v after below found h.labelled.rising (λ a p at. at_fit pred n v a over p at)
+      (subst (λ (ms : List ℕ). IsLeastWith s.entries n v ms after below found) (ap (labels_in b) is ∙ at_labels n v there) least)
 
-pub walk_on : (es : Store) (pred : Pred) (n : ℕ) (t : Value ℕ) (after below from l : ℕ) → IsWalked es (asked pred (Some (n, t)) after below) from → from < l → ((m : ℕ) → IsIn m (labels_of (own_key pred) es) → from < m → l ≤ m) → (LabelHas es l n t → ⊥) → IsWalked es (asked pred (Some (n, t)) after below) l
-walk_on es pred n t after below from l h u least lacks = record {
-  over = (let z : after ≤ from = h.over in omega arith);
-  left = λ m w. beyond m w (least m (is_in_under (own_key pred) es m w.atom w.there (own_fit pred w.atom w.pred)) (h.left m w));
+-- ---- a search among labels, for one whose atom has a value at a place
+
+-- the search has left what lies up to a label
+pub record IsPassed (es : Store) (n : ℕ) (v : Value ℕ) (ms : List ℕ) (after from : ℕ) : Type 0 where
+  pub over : after ≤ from
+  pub left : (m : ℕ) → IsIn m ms → after < m → LabelHas es m n v → from < m
+
+pub passed_none : (es : Store) (n : ℕ) (v : Value ℕ) (ms : List ℕ) (after : ℕ) → IsPassed es n v ms after after
+passed_none es n v ms after = record { over = omega arith; left = λ m i o h. o }
+
+pub passed_more : (es : Store) (n : ℕ) (v : Value ℕ) (ms : List ℕ) (after below from l : ℕ) → IsPassed es n v ms after from → IsLeastBetween ms from below (Some l) → (LabelHas es l n v → ⊥) → IsPassed es n v ms after l
+passed_more es n v ms after below from l p least lacks = record {
+  over = (let z : after ≤ from = p.over in let w : from < l = least.1 in omega arith);
+  left = λ m i o h. beyond m h (least.3 m i (p.left m i o h));
 }
   where
-    beyond : (m : ℕ) → Matches es (asked pred (Some (n, t)) after below) m → l ≤ m → l < m
-    beyond m w le = elim (cases_eq l m) [
-      | inl e ↦ absurd (lacks (record { atom = w.atom; there = subst (λ z. atom_at es z ≡ Some w.atom) (sym e) w.there; has = w.key }))
+    beyond : (m : ℕ) → LabelHas es m n v → l ≤ m → l < m
+    beyond m h le = elim (cases_eq l m) [
+      | inl e ↦ absurd (lacks (subst (λ (z : ℕ). LabelHas es z n v) (sym e) h))
       | inr d ↦ omega arith
     ]
 
-pub walk_found : (es : Store) (pred : Pred) (n : ℕ) (t : Value ℕ) (after below from l : ℕ) → Rising es → IsWalked es (asked pred (Some (n, t)) after below) from → IsIn l (labels_of (own_key pred) es) → from < l → l < below → ((m : ℕ) → IsIn m (labels_of (own_key pred) es) → from < m → l ≤ m) → LabelHas es l n t → IsLeastMatch es (asked pred (Some (n, t)) after below) (Some l)
-walk_found es pred n t after below from l r h st u v least has =
-    let under = under_is_in (own_key pred) es l r st in
-    let same : under.atom ≡ has.atom = some_one _ _ (sym under.there ∙ has.there) in (
-      record { atom = has.atom; there = has.there; pred = subst (HasPred pred) same (own_met pred under.atom under.fit); key = has.has; over = (let z : after ≤ from = h.over in omega arith); under = v },
-      λ m w. least m (is_in_under (own_key pred) es m w.atom w.there (own_fit pred w.atom w.pred)) (h.left m w),
-    )
+pub passed_found : (es : Store) (n : ℕ) (v : Value ℕ) (ms : List ℕ) (after below from l : ℕ) → IsPassed es n v ms after from → IsLeastBetween ms from below (Some l) → LabelHas es l n v → IsLeastWith es n v ms after below (Some l)
+passed_found es n v ms after below from l p least has = record {
+  there = least.0;
+  over = (let z : after ≤ from = p.over in let w : from < l = least.1 in omega arith);
+  under = least.2;
+  has = has;
+  least = λ m i o h. least.3 m i (p.left m i o h);
+}
 
-pub walk_end : (es : Store) (pred : Pred) (n : ℕ) (t : Value ℕ) (after below from : ℕ) → IsWalked es (asked pred (Some (n, t)) after below) from → ((m : ℕ) → IsIn m (labels_of (own_key pred) es) → from < m → m < below → ⊥) → IsLeastMatch es (asked pred (Some (n, t)) after below) None
-walk_end es pred n t after below from h none = λ m w. none m (is_in_under (own_key pred) es m w.atom w.there (own_fit pred w.atom w.pred)) (h.left m w) w.under
+pub passed_all : (es : Store) (n : ℕ) (v : Value ℕ) (ms : List ℕ) (after below from : ℕ) → IsPassed es n v ms after from → IsLeastBetween ms from below None → IsLeastWith es n v ms after below None
+passed_all es n v ms after below from p none = λ m i o u h. none m i (p.left m i o h) u
 
 -- ---- a copy
 

@@ -1,11 +1,8 @@
 -- A label in a rising store, an atom's argument at a place, and what a look-up gives.
 use Rattle.std.proofs.Common.{◌≡◌, ℕ, ◌-◌, ◌<◌, true, false, ◌==◌, if◌then◌else◌, List, [], ◌∷◌, Option, Some, None, refl, sym, ap, suc, zero, subst, arith, true-eqb, ltb, length, slice_index_or, ◌∙◌}
 use Rattle.std.specs.List.{AllByRecursion, slice_get}
-use Rattle.std.specs.Option.{option_map}
-use Rattle.std.proofs.lemmas.Option.{slice_get-map}
 use Rattle.std.proofs.lemmas.Bool.Decides.{nat_tests}
-use Rattle.chr_value.specs.declared.atom.Value.{Value as CodeValue}
-use Rattle.chr_value.specs.Atoms.{Value, Atom, ground, grounds}
+use Rattle.chr_value.specs.Atoms.{Value, Atom}
 use Rattle.chr_value.specs.Stores.{Store, atom_at}
 use Rattle.chr_store.specs.Keys.{arg_at}
 
@@ -20,9 +17,9 @@ above l (e ∷ es) m a h at =
 
 -- ---- the argument at a place
 
-pub arg_here : (xs : List CodeValue) (a : Atom ℕ) (place : ℕ) (w : CodeValue) → 0 < place → grounds xs ≡ a.args → slice_get xs (place - 1) ≡ Some w → arg_at a place ≡ Some (ground w)
-arg_here xs a zero w p e h = absurd (omega arith)
-arg_here xs a (suc i) w p e h = ap (λ (z : List (Value ℕ)). slice_get z i) (sym e) ∙ slice_get-map ground xs i ∙ ap (λ (o : Option CodeValue). option_map ground o) (ap (slice_get xs) (sym (sub_suc i)) ∙ h)
+pub arg_here : (a : Atom ℕ) (place : ℕ) (o : Option (Value ℕ)) → 0 < place → o ≡ slice_get a.args (place - 1) → arg_at a place ≡ o
+arg_here a zero o p h = absurd (omega arith)
+arg_here a (suc i) o p h = ap (slice_get a.args) (sym (sub_suc i)) ∙ sym h
   where
     sub_suc : (i : ℕ) → suc i - 1 ≡ i
     sub_suc i = omega arith

@@ -1,13 +1,15 @@
 -- Keys, by which atoms are found.
 use Rattle.std.specs.Prelude.{◌≡◌, ℕ, zero, suc, ◌+◌, ◌*◌, ◌&&◌, Bool, true, false, List, length, Option, Some, None, pos, nat_eq, slice_get}
+use Rattle.std.specs.Option.{option_map}
 use Rattle.std.specs.Ordering.{int_eq}
 use Rattle.std.specs.List.{list_any}
 use Rattle.std.specs.Hash as fed
-use Rattle.chr_value.specs.declared.atom.Value.TheVariants as values
-use Rattle.chr_value.specs.Atoms.{Value, Int, Sym, Comp, Args, Nil, Cons, Atom, ground}
+use Rattle.chr_value.specs.Atoms.{Value, Int, Sym, Comp, Atom}
 use Rattle.chr_value.specs.declared.atom.Pred.{Pred}
-use Rattle.chr_value.specs.declared.atom.Value.{Value as CodeValue}
+use Rattle.chr_store.specs.declared.keys.KeyValue.{KeyValue}
+use Rattle.chr_store.specs.declared.keys.KeyValue.TheVariants as keyed
 use Rattle.chr_store.specs.declared.keys.Key.{Key}
+use Rattle.chr_store.specs.Digests.{digest_after}
 
 -- places of predicates
 abbrev pub Places : Type 0
@@ -21,57 +23,70 @@ abbrev pub chosen : Places → Pred → ℕ → Bool
 chosen places pred zero = true
 chosen places pred (suc i) = list_any (λ p. is_pred p.0 pred && nat_eq p.1 (suc i)) places
 
+-- a number or a symbol
+abbrev pub is_constant : Value ℕ → Bool
+is_constant (Int z) = true
+is_constant (Sym s) = true
+is_constant (Comp s vs) = false
+
+-- what stands for a value in keys: for a compound one its digest, which others may have too
+abbrev pub key_value : Value ℕ → KeyValue
+key_value (Int z) = keyed.Int z
+key_value (Sym s) = keyed.Sym (record { number = s })
+key_value (Comp s vs) = keyed.Digest (digest_after 0 (Comp s vs))
+
 -- the key of a predicate alone
 abbrev pub own_key : Pred → Key
-own_key pred = record { pred = pred; place = 0; value = values.Int (pos 0) }
+own_key pred = record { pred = pred; place = 0; value = keyed.Int (pos 0) }
 
--- what an atom has at a place; at the place 0 each has the number 0
-abbrev pub value_at : Atom ℕ → ℕ → Option (Value ℕ)
-value_at a zero = Some (Int (pos 0))
-value_at a (suc i) = slice_get a.args i
+-- what stands for what an atom has at a place; at the place 0 that is the number 0
+abbrev pub key_value_at : Atom ℕ → ℕ → Option KeyValue
+key_value_at a zero = Some (keyed.Int (pos 0))
+key_value_at a (suc i) = option_map key_value (slice_get a.args i)
 
 -- the key of an atom at a place
 pub record IsKeyAt (a : Atom ℕ) (n : ℕ) (k : Key) : Type 0 where
   pub name : k.pred.name.number ≡ a.name
   pub arity : k.pred.arity ≡ length a.args
   pub place : k.place ≡ n
-  pub value : value_at a n ≡ Some (ground k.value)
+  pub value : key_value_at a n ≡ Some k.value
 
--- whether two terms are equal
-abbrev mutual
-  pub same_term : Value ℕ → Value ℕ → Bool
-  same_term (Int y) (Int z) = int_eq y z
-  same_term (Int y) (Sym s) = false
-  same_term (Int y) (Comp s vs) = false
-  same_term (Sym r) (Int z) = false
-  same_term (Sym r) (Sym s) = nat_eq r s
-  same_term (Sym r) (Comp s vs) = false
-  same_term (Comp r us) (Int z) = false
-  same_term (Comp r us) (Sym s) = false
-  same_term (Comp r us) (Comp s vs) = nat_eq r s && same_args us vs
-
-  pub same_args : Args ℕ → Args ℕ → Bool
-  same_args Nil Nil = true
-  same_args Nil (Cons v vs) = false
-  same_args (Cons u us) Nil = false
-  same_args (Cons u us) (Cons v vs) = same_term u v && same_args us vs
+-- whether the values of two keys are equal
+abbrev pub same_value : KeyValue → KeyValue → Bool
+same_value (keyed.Int y) (keyed.Int z) = int_eq y z
+same_value (keyed.Int y) (keyed.Sym s) = false
+same_value (keyed.Int y) (keyed.Digest d) = false
+same_value (keyed.Sym r) (keyed.Int z) = false
+same_value (keyed.Sym r) (keyed.Sym s) = nat_eq r.number s.number
+same_value (keyed.Sym r) (keyed.Digest d) = false
+same_value (keyed.Digest c) (keyed.Int z) = false
+same_value (keyed.Digest c) (keyed.Sym s) = false
+same_value (keyed.Digest c) (keyed.Digest d) = nat_eq c d
 
 -- whether two keys are equal
 abbrev pub same_key : Key → Key → Bool
-same_key k l = (is_pred k.pred l.pred && nat_eq k.place l.place) && same_term (ground k.value) (ground l.value)
+same_key k l = (is_pred k.pred l.pred && nat_eq k.place l.place) && same_value k.value l.value
 
-abbrev pub is_term : Value ℕ → Option (Value ℕ) → Bool
-is_term t None = false
-is_term t (Some u) = same_term t u
+-- the key is that of a predicate alone
+abbrev pub is_own : Key → Bool
+is_own k = nat_eq k.place 0 && same_value k.value (keyed.Int (pos 0))
+
+-- whether there is one, and it is this
+abbrev pub is_value : KeyValue → Option KeyValue → Bool
+is_value v None = false
+is_value v (Some w) = same_value v w
 
 -- an atom has a key
 abbrev pub fits : Key → Atom ℕ → Bool
-fits k a = (nat_eq k.pred.name.number a.name && nat_eq k.pred.arity (length a.args)) && is_term (ground k.value) (value_at a k.place)
+fits k a =
+    (nat_eq k.pred.name.number a.name && nat_eq k.pred.arity (length a.args))
+    && is_value k.value (key_value_at a k.place)
 
 -- what a key is hashed by
 abbrev pub key_word : Key → ℕ
 key_word k = k.pred.name.number * 65536 + k.pred.arity * 256 + k.place
 
-abbrev pub value_input : CodeValue → List (List ℕ)
-value_input (values.Int z) = fed.i64 z
-value_input (values.Sym s) = fed.u64 s.number
+abbrev pub value_input : KeyValue → List (List ℕ)
+value_input (keyed.Int z) = fed.i64 z
+value_input (keyed.Sym s) = fed.u64 s.number
+value_input (keyed.Digest d) = fed.u64 d

@@ -1,10 +1,9 @@
--- What is asked of an atom, and the least label that matches_query it.
+-- What is asked of an atom, and the least label that matches it.
 use Rattle.std.specs.Prelude.{◌≡◌, ℕ, zero, suc, ◌<◌, ◌≤◌, length, Option, Some, None, slice_get}
-use Rattle.std.specs.Borrow.{Bor}
 use Rattle.std.specs.Option.{MatchOption, option_map}
-use Rattle.chr_value.specs.Atoms.{Value, Atom, ground}
+use Rattle.chr_value.specs.Atoms.{Value, Atom, said}
 use Rattle.chr_value.specs.declared.atom.Pred.{Pred}
-use Rattle.chr_value.specs.declared.atom.Value.{Value as CodeValue}
+use Rattle.chr_value.specs.declared.value.ValueRef.{ValueRef}
 use Rattle.chr_value.specs.Stores.{Store, atom_at}
 
 -- the argument at a place, places being numbered from 1
@@ -21,9 +20,9 @@ abbrev pub HasKey : Option (ℕ × Value ℕ) → Atom ℕ → Type 0
 HasKey None a = Unit {0}
 HasKey (Some key) a = arg_at a key.0 ≡ Some key.1
 
--- a place and a value that is borrowed
-abbrev pub key_of : Option (ℕ × Bor CodeValue) → Option (ℕ × Value ℕ)
-key_of key = option_map (λ k. (k.0, ground k.1.now)) key
+-- a place and a value that lies elsewhere
+abbrev pub key_of : {A : Type 0} → Option (ℕ × ValueRef A) → Option (ℕ × Value ℕ)
+key_of key = option_map (λ k. (k.0, said k.1)) key
 
 -- what is asked for: a predicate, perhaps a place with a value, and the labels between which to look
 pub record Query : Type 0 where

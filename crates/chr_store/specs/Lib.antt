@@ -5,6 +5,7 @@ pub mod Keys
 pub mod Faults
 pub mod Buckets
 pub mod Kept
+pub mod Digests
 pub mod Index
 pub mod Rows
 pub mod KeyLabels

@@ -1,17 +1,12 @@
 -- The rows that predicates have in tables.
-use Rattle.std.specs.Prelude.{ℕ, ◌+◌, ◌*◌, ◌&&◌, if◌then◌else◌, Bool, Option, Some, None, pos, nat_eq, nat_lt}
-use Rattle.chr_value.specs.Atoms.{Int, ground}
+use Rattle.std.specs.Prelude.{ℕ, ◌+◌, ◌*◌, ◌&&◌, if◌then◌else◌, Option, Some, None, nat_lt}
 use Rattle.chr_value.specs.declared.atom.Pred.{Pred}
 use Rattle.chr_store.specs.declared.keys.Key.{Key}
-use Rattle.chr_store.specs.Index.{same_term}
+use Rattle.chr_store.specs.Index.{is_own}
 
 -- the row of a predicate whose name's number is low; nine rows a name, one for each number of arguments
 abbrev pub row_of : Pred → Option ℕ
 row_of pred = if nat_lt pred.name.number 1024 && nat_lt pred.arity 9 then Some (pred.name.number * 9 + pred.arity) else None
-
--- the key is that of a predicate alone
-abbrev pub is_own : Key → Bool
-is_own k = nat_eq k.place 0 && same_term (ground k.value) (Int (pos 0))
 
 -- the row of a key, which that of a predicate alone may have
 abbrev pub row_of_key : Key → Option ℕ

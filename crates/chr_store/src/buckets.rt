@@ -163,7 +163,7 @@ pub fn enter<A: Allocator + Copy>(
     if !places.may_have(pred) {
         return Ok(());
     }
-    let end = atom.args().len() as u8 + 1;
+    let end = atom.arity() as u8 + 1;
     for place in 1..end {
         if places.has(pred, place) {
             put(buckets, alloc, key_at(atom, place), label)?;
@@ -186,7 +186,7 @@ pub fn leave<A: Allocator + Copy>(
     if !places.may_have(pred) {
         return;
     }
-    let end = atom.args().len() as u8 + 1;
+    let end = atom.arity() as u8 + 1;
     for place in 1..end {
         if places.has(pred, place) {
             take(buckets, key_at(atom, place), label);

@@ -1,17 +1,100 @@
 //! The keys of atoms.
 ghost use Rattle.std.specs.Prelude.{◌≡◌, ◌<◌, ◌≤◌, length};
-ghost use Rattle.chr_store.specs.Index.{IsKeyAt, own_key};
+ghost use Rattle.chr_value.specs.Atoms.{ground, ground_comp, said};
+ghost use Rattle.chr_store.specs.Digests.{mixed, digest_after};
+ghost use Rattle.chr_store.specs.Index.{IsKeyAt, is_constant, is_own, key_value, own_key, same_value};
 
-use chr_value::{Atom, Pred, Value};
+use chr_value::{Atom, Comp, Name, Pred, Value, ValueRef};
 use std::alloc::Allocator;
 use std::hash::{Hash, Hasher};
 
-/// What atoms are found by: a predicate, and a value at a place. At the place 0 the value is the number 0.
+/// By how much a digest is multiplied before the next word is added.
+const FACTOR: u64 = 0x9e37_79b9_7f4a_7c15;
+
+/// What a key has for a value: a number or a symbol, or the digest of a compound value, which others may have too.
+#[derive(Clone, Copy)]
+enum KeyValue {
+    Int(i64),
+    Sym(Name),
+    Digest(u64),
+}
+
+/// What atoms are found by: a predicate, and what stands for a value at a place. At the place 0 that is the number 0.
 #[derive(Clone, Copy, Drop)]
 pub struct Key {
     pub pred: Pred,
-    pub place: u8,
-    pub value: Value,
+    place: u8,
+    value: KeyValue,
+}
+
+/// A digest with one word more.
+#[inline(always)]
+fn mixed(digest: u64, word: u64) -> u64
+    ensures { result ≡ mixed digest word }
+{
+    digest.wrapping_mul(FACTOR).wrapping_add(word)
+}
+
+/// A digest with a value more: a symbol goes in as a functor without arguments.
+#[cycle(digest)]
+fn with_value<A: Allocator>(digest: u64, value: &Value<A>) -> u64
+    ensures { result ≡ digest_after digest (ground value.now) }
+{
+    match value {
+        Value::Int(n) => mixed(digest, n.cast_unsigned()),
+        Value::Sym(name) => mixed(mixed(digest, u64::from(name.number)), 0),
+        Value::Comp(comp) => with_comp(digest, comp),
+    }
+}
+
+/// A digest with a compound value more: its functor, how many arguments there are, and these.
+#[cycle(digest)]
+fn with_comp<A: Allocator>(digest: u64, comp: &Comp<A>) -> u64
+    ensures { result ≡ digest_after digest (ground_comp comp.now) }
+{
+    let functor = mixed(digest, u64::from(comp.functor.number));
+    let mut all = mixed(functor, comp.args.len() as u64);
+    for value in &comp.args {
+        all = with_value(all, value);
+    }
+    all
+}
+
+impl KeyValue {
+    /// What stands for a value.
+    #[inline(always)]
+    fn of<A: Allocator>(value: &ValueRef<'_, A>) -> KeyValue
+        ensures { result ≡ key_value (said value.now) }
+    {
+        match value {
+            ValueRef::Int(n) => KeyValue::Int(*n),
+            ValueRef::Sym(name) => KeyValue::Sym(*name),
+            ValueRef::Comp(comp) => KeyValue::Digest(with_comp(0, comp)),
+        }
+    }
+
+    /// Whether two are equal.
+    #[inline(always)]
+    fn same(&self, other: &KeyValue) -> bool
+        ensures { result ≡ same_value self.now other.now }
+    {
+        match (self, other) {
+            (KeyValue::Int(m), KeyValue::Int(n)) => *m == *n,
+            (KeyValue::Sym(s), KeyValue::Sym(t)) => s.number == t.number,
+            (KeyValue::Digest(c), KeyValue::Digest(d)) => *c == *d,
+            _ => false,
+        }
+    }
+}
+
+impl Key {
+    /// Whether it is the key of a predicate alone.
+    #[inline(always)]
+    pub fn is_own(&self) -> bool
+        ensures { result ≡ is_own self.now }
+    {
+        self.place == 0 && self.value.same(&KeyValue::Int(0))
+    }
 }
 
 impl PartialEq for Key {
@@ -52,9 +135,21 @@ impl Hash for Key {
             self.pred.name.number as u64 * 65536 + self.pred.arity as u64 * 256 + self.place as u64,
         );
         match self.value {
-            Value::Int(n) => state.write_i64(n),
-            Value::Sym(name) => state.write_u64(name.number as u64),
+            KeyValue::Int(n) => state.write_i64(n),
+            KeyValue::Sym(name) => state.write_u64(name.number as u64),
+            KeyValue::Digest(digest) => state.write_u64(digest),
         }
+    }
+}
+
+/// Whether a value has keys that no other value has: whether it is a number or a symbol.
+#[inline(always)]
+pub fn is_constant<A: Allocator>(value: &ValueRef<'_, A>) -> bool
+    ensures { result ≡ is_constant (said value.now) }
+{
+    match value {
+        ValueRef::Comp(_) => false,
+        _ => true,
     }
 }
 
@@ -66,7 +161,19 @@ pub fn own_key(pred: Pred) -> Key
     Key {
         pred,
         place: 0,
-        value: Value::Int(0),
+        value: KeyValue::Int(0),
+    }
+}
+
+/// The key of a value at a place of a predicate.
+#[inline(always)]
+pub fn value_key<A: Allocator>(pred: Pred, place: u8, value: &ValueRef<'_, A>) -> Key
+    ensures { result ≡ record { pred = pred; place = place; value = key_value (said value.now) } }
+{
+    Key {
+        pred,
+        place,
+        value: KeyValue::of(value),
     }
 }
 
@@ -76,9 +183,8 @@ pub fn key_at<A: Allocator + Copy>(atom: &Atom<A>, place: u8) -> Key
     requires within { place ≤ length atom.now.args }
     ensures { IsKeyAt atom.now place result }
 {
-    Key {
-        pred: atom.pred(),
-        place,
-        value: atom.args()[place as usize - 1],
-    }
+    let Some(value) = atom.arg(place as usize - 1) else {
+        unreachable!();
+    };
+    value_key(atom.pred(), place, &value)
 }

@@ -11,6 +11,10 @@
 //! for a predicate alone a look-up in a table, and a binary search; with a key at another place it goes through the labels
 //! of the predicate. [`matches`](Store::matches) looks the key up once, and going on from the label found last
 //! takes no search.
+//! A number or a symbol has a key of its own. A compound value stands in its keys by a digest, a number of 64 bits that is
+//! computed from its functors, numbers and symbols, and which other values may have too: `next_at` goes through the labels
+//! of the digest's key and compares, and `matches` answers None. So no key holds a value, and looking one up takes no
+//! memory.
 //! [`spend_label`](Store::spend_label) gives a label to no atom, as where one is entered and removed at once.
 //! [`indexed`](Store::indexed), [`insert`](Store::insert), [`insert_copy`](Store::insert_copy),
 //! [`spend_label`](Store::spend_label) and [`copy`](Store::copy) take memory, no other call does.

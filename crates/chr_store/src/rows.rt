@@ -3,7 +3,7 @@ ghost use Rattle.std.specs.Prelude.{◌≡◌};
 ghost use Rattle.chr_store.specs.Rows.{row_of, row_of_key};
 
 use crate::keys::Key;
-use chr_value::{Pred, Value};
+use chr_value::Pred;
 
 /// How many names have rows: those with the lowest numbers. A table has no more than this many times [`ARITIES`].
 const NAMES: u32 = 1024;
@@ -29,9 +29,5 @@ pub fn row_of(pred: Pred) -> Option<usize>
 pub fn row_of_key(key: &Key) -> Option<usize>
     ensures { result ≡ row_of_key key.now }
 {
-    if key.place == 0 && key.value.same(&Value::Int(0)) {
-        row_of(key.pred)
-    } else {
-        None
-    }
+    if key.is_own() { row_of(key.pred) } else { None }
 }

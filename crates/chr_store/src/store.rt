@@ -3,13 +3,14 @@ ghost use Rattle.std.specs.Prelude.{◌≡◌, ℕ, ◌+◌, ◌<◌, ◌≤◌,
 ghost use Rattle.std.specs.Option.{option_copied};
 ghost use Rattle.std.specs.Iterator.{AlwaysYields};
 ghost use Rattle.std.specs.Map.Iter.{TakesFirst};
-ghost use Rattle.chr_value.specs.Atoms.{Atom, ground};
+ghost use Rattle.chr_value.specs.Atoms.{Atom, said};
 ghost use Rattle.chr_value.specs.Stores.{atom_at, drop_label};
 ghost use Rattle.chr_store.specs.Labels.{IsLabelled, spent};
 ghost use Rattle.chr_store.specs.Buckets.{IsLeastBetween};
-ghost use Rattle.chr_store.specs.Keys.{arg_at, HasPred, HasKey, key_of, IsLeastMatch};
+ghost use Rattle.chr_store.specs.Keys.{arg_at, key_of, IsLeastMatch};
 ghost use Rattle.chr_store.specs.Faults.{given_back};
-ghost use Rattle.chr_store.specs.Indexed.{LabelHas};
+ghost use Rattle.chr_store.specs.Indexed.{LabelHas, IsLeastWith};
+ghost use Rattle.chr_store.specs.KeyLabels.{labels_in};
 ghost use Rattle.chr_store.specs.Table.{shown};
 ghost use Rattle.chr_store.specs.declared.store.StoreFault.TheVariants.{LabelsSpent};
 ghost use Rattle.chr_store.specs.declared.store.CopyFault.TheVariants as copying;
@@ -17,10 +18,10 @@ ghost use Rattle.chr_store.specs.declared.store.CopyFault.TheVariants as copying
 use crate::atoms::{Atoms, Constraints};
 use crate::buckets::{Buckets, enter, leave, next_of};
 use crate::chosen::Chosen;
-use crate::keys::{Key, own_key};
+use crate::keys::{Key, is_constant, own_key, value_key};
 use crate::labels::Labels;
 pub use chr_value::Label;
-use chr_value::{Atom, GREATEST_LABEL, Pred, Value};
+use chr_value::{Atom, GREATEST_LABEL, Pred, ValueRef};
 use std::alloc::{AllocError, Allocator};
 use std::marker::Model;
 
@@ -71,25 +72,41 @@ impl<A: Allocator> Model for Store<A> {
 }
 
 /// Whether an atom has a value at a place. Places are numbered from 1.
-fn has_at<A: Allocator + Copy>(atom: &Atom<A>, place: u8, value: &Value) -> bool
-    ensures { IsTrue result ↔ (arg_at atom.now place ≡ Some (ground value.now)) }
+fn has_at<A: Allocator + Copy>(atom: &Atom<A>, place: u8, value: &ValueRef<'_, A>) -> bool
+    ensures { IsTrue result ↔ (arg_at atom.now place ≡ Some (said value.now)) }
 {
     if place == 0 {
         return false;
     }
-    match atom.args().get(place as usize - 1) {
+    match atom.arg(place as usize - 1) {
         None => false,
         Some(found) => found.same(value),
     }
 }
 
 /// Whether the atom under a label has a value at a place.
-fn label_has<A: Allocator + Copy>(atoms: &Atoms<A>, label: Label, place: u8, value: &Value) -> bool
-    ensures { IsTrue result ↔ LabelHas atoms.now.entries label place (ground value.now) }
+fn label_has<A: Allocator + Copy>(
+    atoms: &Atoms<A>,
+    label: Label,
+    place: u8,
+    value: &ValueRef<'_, A>,
+) -> bool
+    ensures { IsTrue result ↔ LabelHas atoms.now.entries label place (said value.now) }
 {
     match atoms.get(label) {
         None => false,
         Some(atom) => has_at(atom, place, value),
+    }
+}
+
+/// The labels of a key.
+#[inline(always)]
+fn matches_of<'s, A: Allocator + Copy>(buckets: &'s Buckets<A>, key: &Key) -> Matches<'s, A>
+    ensures { result ≡ labels_in buckets.now key.now }
+{
+    Matches {
+        labels: buckets.get(key),
+        near: 0,
     }
 }
 
@@ -109,7 +126,8 @@ impl<A: Allocator + Copy> Store<A> {
     }
 
     /// A store of no constraints as [`new`](Store::new) makes it, which keeps an index for each of these places, so that
-    /// [`next_at`](Store::next_at) with a key there takes no walk. Places are numbered from 1. E01 where memory ran out.
+    /// [`next_at`](Store::next_at) with a key there needn't go through the labels of the predicate. Places are numbered
+    /// from 1. E01 where memory ran out.
     pub fn indexed(alloc: A, limit: u64, places: &[(Pred, u8)]) -> Result<Store<A>, AllocError>
         requires { limit ≤ 4294967295 }
         ensures { IfOk result (λ made. made ≡ record { entries = []; next = 1; limit = limit }) }
@@ -220,7 +238,7 @@ impl<A: Allocator + Copy> Store<A> {
     pub fn next_at(
         &self,
         pred: Pred,
-        key: Option<(u8, &Value)>,
+        key: Option<(u8, ValueRef<'_, A>)>,
         after: Label,
         below: Label,
     ) -> Option<Label>
@@ -231,48 +249,32 @@ impl<A: Allocator + Copy> Store<A> {
         let Some((place, value)) = key else {
             return next_of(&self.buckets, own, after, below);
         };
-        if place != 0 && self.places.has(pred, place) {
-            let key = Key {
-                pred,
-                place,
-                value: *value,
-            };
+        if place == 0 || !self.places.has(pred, place) {
+            let mut labels = matches_of(&self.buckets, &own);
+            return labels.next_with(&self.atoms, place, &value, after, below);
+        }
+        let key = value_key(pred, place, &value);
+        if is_constant(&value) {
             return next_of(&self.buckets, key, after, below);
         }
-        let mut from = after;
-        while let Some(label) = next_of(&self.buckets, own, from, below) {
-            if label_has(&self.atoms, label, place, value) {
-                return Some(label);
-            }
-            from = label;
-        }
-        None
+        let mut labels = matches_of(&self.buckets, &key);
+        labels.next_with(&self.atoms, place, &value, after, below)
     }
 
     /// The labels whose atoms have the predicate and, where `key` is a place and a value, that value at that place: many
-    /// calls of [`Matches::next_at`] take one look-up. None only where `key` has a place that has no index.
-    pub fn matches(&self, pred: Pred, key: Option<(u8, &Value)>) -> Option<Matches<'_, A>>
+    /// calls of [`Matches::next_at`] take one look-up. None only where `key` has a place that has no index, or a compound
+    /// value.
+    pub fn matches(&self, pred: Pred, key: Option<(u8, ValueRef<'_, A>)>) -> Option<Matches<'_, A>>
         ensures least { IfSome result (λ labels. (after below : ℕ) (found : Option ℕ) → IsLeastBetween labels after below found → IsLeastMatch self.now.entries (record { pred = pred; key = key_of key.entry; after = after; below = below }) found) }
         ensures own { key.entry ≡ None → IsSome result }
     {
         let Some((place, value)) = key else {
-            return Some(Matches {
-                labels: self.buckets.get(&own_key(pred)),
-                near: 0,
-            });
+            return Some(matches_of(&self.buckets, &own_key(pred)));
         };
-        if place == 0 || !self.places.has(pred, place) {
+        if place == 0 || !is_constant(&value) || !self.places.has(pred, place) {
             return None;
         }
-        let key = Key {
-            pred,
-            place,
-            value: *value,
-        };
-        Some(Matches {
-            labels: self.buckets.get(&key),
-            near: 0,
-        })
+        Some(matches_of(&self.buckets, &value_key(pred, place, &value)))
     }
 
     /// The constraints with their labels, which rise.
@@ -334,5 +336,26 @@ impl<'s, A: Allocator + Copy> Matches<'s, A> {
         };
         self.near = place;
         Some(label)
+    }
+
+    /// The least label over `after` and under `below` whose atom has a value at a place.
+    fn next_with(
+        &mut self,
+        atoms: &Atoms<A>,
+        place: u8,
+        value: &ValueRef<'_, A>,
+        after: Label,
+        below: Label,
+    ) -> Option<Label>
+        ensures { IsLeastWith atoms.now.entries place (said value.now) self.old after below result }
+    {
+        let mut from = after;
+        while let Some(label) = self.next_at(from, below) {
+            if label_has(atoms, label, place, value) {
+                return Some(label);
+            }
+            from = label;
+        }
+        None
     }
 }

@@ -6,7 +6,7 @@ use Rattle.chr_lex.specs.Tokens.{Word}
 use Rattle.chr_lex.specs.Tokens as words
 use Rattle.chr_grammar.specs.Parsed as parsed
 use Rattle.chr_limits.specs.Variables.{is_seen}
-use Rattle.chr_text.specs.Translation.{argument, rule_atom, expression, test, member, after_kept, after_heads, after_guard, after_body}
+use Rattle.chr_text.specs.Translation.{word_term, placed_word, argument, rule_atom, expression, test, member, after_kept, after_heads, after_guard, after_body}
 use Rattle.chr_text.specs.Fitting.{FormulaFits, ExpressionFits}
 use Rattle.chr_text.specs.Variables.{Seen, number_variable, in_turn}
 
@@ -21,10 +21,16 @@ pub in_turn_grows : {A B : Type 0} (g : Seen → A → B × Seen) → ((seen : S
 in_turn_grows g h seen [] = omega arith
 in_turn_grows g h seen (a ∷ as') = omega (arith, h seen a, in_turn_grows g h (g seen a).1 as')
 
-pub argument_grows : (seen : Seen) (w : Word) → length seen ≤ length (argument seen w).1
-argument_grows seen (words.Name t) = omega arith
-argument_grows seen (words.Variable x) = variable_grows seen x
-argument_grows seen (words.Number negative ds) = omega arith
+pub word_grows : (seen : Seen) (w : Word) → length seen ≤ length (word_term seen w).1
+word_grows seen (words.Name t) = omega arith
+word_grows seen (words.Variable x) = variable_grows seen x
+word_grows seen (words.Number negative ds) = omega arith
+
+pub node_grows : (seen : Seen) (n : parsed.TermNode) → length seen ≤ length (placed_word seen n).1
+node_grows seen n = word_grows seen n.word
+
+pub argument_grows : (seen : Seen) (t : parsed.ParsedTerm) → length seen ≤ length (argument seen t).1
+argument_grows seen t = in_turn_grows placed_word node_grows seen t
 
 pub shape_grows : (seen : Seen) (p : parsed.ParsedAtom) → length seen ≤ length (rule_atom seen p).1
 shape_grows seen p = in_turn_grows argument argument_grows seen p.args

@@ -4,16 +4,19 @@ use Rattle.std.specs.List.{AllByRecursion, list_any}
 use Rattle.chr_value.specs.Spelling.{IsName}
 use Rattle.chr_lex.specs.Tokens.{Word, Name, Variable, Number}
 use Rattle.chr_grammar.specs.Parsed as parsed
-use Rattle.chr_grammar.specs.Parsed.{ParsedExpression, ParsedAtom, GuardMember, BodyMember, ParsedRule}
+use Rattle.chr_grammar.specs.Parsed.{ParsedExpression, TermNode, ParsedTerm, ParsedAtom, GuardMember, BodyMember, ParsedRule}
 use Rattle.chr_rule.specs.Scope.{IsRule}
-use Rattle.chr_limits.specs.Words.{is_out_of_range, is_long, is_variable, formula_has, phrase_has, test_has, member_has, rule_name_has}
-use Rattle.chr_limits.specs.Limits.{has_many_args, adds_many_args, is_comparison, is_item}
+use Rattle.chr_rule.specs.Terms.{IsTerm, IsRuleAtom, IsComparison, IsBodyItem}
+use Rattle.chr_limits.specs.Words.{is_out_of_range, is_long, is_variable, formula_has, term_has, phrase_has, test_has, member_has, rule_name_has}
+use Rattle.chr_limits.specs.Limits.{is_large_term, has_large_args, compares_large_terms, adds_large_args, has_many_args, adds_many_args, is_comparison, is_item}
 use Rattle.chr_limits.specs.Judging.{post_judged, rule_judged}
 use Rattle.chr_limits.specs.Standing.{IsAllowedRule}
 use Rattle.chr_limits.proofs.Standing.{neither, posted, stands}
-use Rattle.chr_text.specs.Fitting.{WordPlain, PhrasePlain, TestPlain, MemberPlain, RulePlain, NamePlain, WordFits, TermFits, PostFits, FormulaFits, ShapeFits, TestFits, MemberFits, RuleFits}
-use Rattle.chr_text.specs.Translation.{rule_atom, test, member, somes, after_kept, after_heads, after_guard, rule}
+use Rattle.chr_text.specs.Fitting.{WordPlain, NodePlain, TermPlain, PhrasePlain, TestPlain, MemberPlain, RulePlain, NamePlain, WordFits, NodeFits, TermFits, ValueFits, PostFits, FormulaFits, ShapeFits, TestFits, MemberFits, RuleFits}
+use Rattle.chr_text.specs.Translation.{argument, rule_atom, test, member, somes, after_kept, after_heads, after_guard, rule}
 use Rattle.chr_text.specs.Variables.{Seen, in_turn}
+use Rattle.chr_text.proofs.Nested.{RuleNests, plain_nests}
+use Rattle.chr_text.proofs.Limited.{turns_count, is_term}
 use Rattle.chr_text.proofs.Valued.{rule_known, all_seen}
 
 pub not_above : (n m : ℕ) → ltb n m ≡ false → m ≤ n
@@ -22,62 +25,68 @@ not_above n m h = grind arith
 pub name_fits : (t : List ℕ) → is_long (Name t) ≡ false → NamePlain t → IsName t
 name_fits t h p = record { first = p.first; bytes = p.bytes; short = not_above 64 (length t) h; plain = p.plain }
 
-term_fits : (w : Word) → is_out_of_range w ≡ false → is_long w ≡ false → is_variable w ≡ false → WordPlain w → TermFits w
-term_fits (Name t) range long variable p = name_fits t long p
-term_fits (Variable x) range long variable p = absurd cc
-term_fits (Number negative ds) range long variable p = range
-
-terms_fit : (ws : List Word) → list_any is_out_of_range ws ≡ false → list_any is_long ws ≡ false → list_any is_variable ws ≡ false → AllByRecursion WordPlain ws → AllByRecursion TermFits ws
-terms_fit [] range long variable p = tt
-terms_fit (w ∷ ws) range long variable p =
-    let r = neither (is_out_of_range w) (list_any is_out_of_range ws) range in
-    let l = neither (is_long w) (list_any is_long ws) long in
-    let v = neither (is_variable w) (list_any is_variable ws) variable in
-    (term_fits w r.0 l.0 v.0 p.0, terms_fit ws r.1 l.1 v.1 p.1)
-
-phrase_fits : (a : ParsedAtom) → phrase_has is_out_of_range a ≡ false → phrase_has is_long a ≡ false → has_many_args a ≡ false → phrase_has is_variable a ≡ false → PhrasePlain a → PostFits a
-phrase_fits a range long many variable p =
-    let l = neither (is_long (Name a.name)) (list_any is_long a.args) long in
-    record { name = name_fits a.name l.0 p.0; args = terms_fit a.args range l.1 variable p.1; few = not_above 8 (length a.args) many }
-
-phrases_fit : (ps : List ParsedAtom) → list_any (phrase_has is_out_of_range) ps ≡ false → list_any (phrase_has is_long) ps ≡ false → list_any has_many_args ps ≡ false → list_any (phrase_has is_variable) ps ≡ false → AllByRecursion PhrasePlain ps → AllByRecursion PostFits ps
-phrases_fit [] range long many variable p = tt
-phrases_fit (a ∷ ps) range long many variable p =
-    let r = neither (phrase_has is_out_of_range a) (list_any (phrase_has is_out_of_range) ps) range in
-    let l = neither (phrase_has is_long a) (list_any (phrase_has is_long) ps) long in
-    let m = neither (has_many_args a) (list_any has_many_args ps) many in
-    let v = neither (phrase_has is_variable a) (list_any (phrase_has is_variable) ps) variable in
-    (phrase_fits a r.0 l.0 m.0 v.0 p.0, phrases_fit ps r.1 l.1 m.1 v.1 p.1)
-
-pub posts_fit : (ps : List ParsedAtom) (u : Unit {0}) → post_judged ps ≡ Ok u → AllByRecursion PhrasePlain ps → AllByRecursion PostFits ps
-posts_fit ps u h p = let may = posted ps h in phrases_fit ps may.numbers may.names may.args may.no_variables p
-
--- ---- rules
-
 word_fits : (w : Word) → is_out_of_range w ≡ false → is_long w ≡ false → WordPlain w → WordFits w
 word_fits (Name t) range long p = name_fits t long p
 word_fits (Variable x) range long p = tt
 word_fits (Number negative ds) range long p = range
 
-words_fit : (ws : List Word) → list_any is_out_of_range ws ≡ false → list_any is_long ws ≡ false → AllByRecursion WordPlain ws → AllByRecursion WordFits ws
-words_fit [] range long p = tt
-words_fit (w ∷ ws) range long p =
-    let r = neither (is_out_of_range w) (list_any is_out_of_range ws) range in
-    let l = neither (is_long w) (list_any is_long ws) long in
-    (word_fits w r.0 l.0 p.0, words_fit ws r.1 l.1 p.1)
+nodes_fit : (ns : List TermNode) → term_has is_out_of_range ns ≡ false → term_has is_long ns ≡ false → AllByRecursion NodePlain ns → AllByRecursion NodeFits ns
+nodes_fit [] range long p = tt
+nodes_fit (n ∷ ns) range long p =
+    let r = neither (is_out_of_range n.word) (term_has is_out_of_range ns) range in
+    let l = neither (is_long n.word) (term_has is_long ns) long in
+    (word_fits n.word r.0 l.0 p.0, nodes_fit ns r.1 l.1 p.1)
 
-shape_fits : (a : ParsedAtom) → phrase_has is_out_of_range a ≡ false → phrase_has is_long a ≡ false → has_many_args a ≡ false → PhrasePlain a → ShapeFits a
-shape_fits a range long many p =
-    let l = neither (is_long (Name a.name)) (list_any is_long a.args) long in
-    record { name = name_fits a.name l.0 p.0; args = words_fit a.args range l.1 p.1; few = not_above 8 (length a.args) many }
+term_fits : (t : ParsedTerm) → term_has is_out_of_range t ≡ false → term_has is_long t ≡ false → is_large_term t ≡ false → TermPlain t → TermFits t
+term_fits t range long small p = record { words = nodes_fit t range long p.1; small = small; nested = p.0 }
 
-shapes_fit : (ps : List ParsedAtom) → list_any (phrase_has is_out_of_range) ps ≡ false → list_any (phrase_has is_long) ps ≡ false → list_any has_many_args ps ≡ false → AllByRecursion PhrasePlain ps → AllByRecursion ShapeFits ps
-shapes_fit [] range long many p = tt
-shapes_fit (a ∷ ps) range long many p =
+terms_fit : (ts : List ParsedTerm) → list_any (term_has is_out_of_range) ts ≡ false → list_any (term_has is_long) ts ≡ false → list_any is_large_term ts ≡ false → AllByRecursion TermPlain ts → AllByRecursion TermFits ts
+terms_fit [] range long small p = tt
+terms_fit (t ∷ ts) range long small p =
+    let r = neither (term_has is_out_of_range t) (list_any (term_has is_out_of_range) ts) range in
+    let l = neither (term_has is_long t) (list_any (term_has is_long) ts) long in
+    let s = neither (is_large_term t) (list_any is_large_term ts) small in
+    (term_fits t r.0 l.0 s.0 p.0, terms_fit ts r.1 l.1 s.1 p.1)
+
+values_fit : (ts : List ParsedTerm) → AllByRecursion TermFits ts → list_any (term_has is_variable) ts ≡ false → AllByRecursion ValueFits ts
+values_fit [] fits variable = tt
+values_fit (t ∷ ts) fits variable =
+    let v = neither (term_has is_variable t) (list_any (term_has is_variable) ts) variable in
+    (record { term = fits.0; given = v.0 }, values_fit ts fits.1 v.1)
+
+phrase_fits : (a : ParsedAtom) → phrase_has is_out_of_range a ≡ false → phrase_has is_long a ≡ false → has_many_args a ≡ false → has_large_args a ≡ false → phrase_has is_variable a ≡ false → PhrasePlain a → PostFits a
+phrase_fits a range long many small variable p =
+    let l = neither (is_long (Name a.name)) (list_any (term_has is_long) a.args) long in
+    record { name = name_fits a.name l.0 p.0; args = values_fit a.args (terms_fit a.args range l.1 small p.1) variable; few = not_above 8 (length a.args) many }
+
+phrases_fit : (ps : List ParsedAtom) → list_any (phrase_has is_out_of_range) ps ≡ false → list_any (phrase_has is_long) ps ≡ false → list_any has_many_args ps ≡ false → list_any has_large_args ps ≡ false → list_any (phrase_has is_variable) ps ≡ false → AllByRecursion PhrasePlain ps → AllByRecursion PostFits ps
+phrases_fit [] range long many small variable p = tt
+phrases_fit (a ∷ ps) range long many small variable p =
     let r = neither (phrase_has is_out_of_range a) (list_any (phrase_has is_out_of_range) ps) range in
     let l = neither (phrase_has is_long a) (list_any (phrase_has is_long) ps) long in
     let m = neither (has_many_args a) (list_any has_many_args ps) many in
-    (shape_fits a r.0 l.0 m.0 p.0, shapes_fit ps r.1 l.1 m.1 p.1)
+    let s = neither (has_large_args a) (list_any has_large_args ps) small in
+    let v = neither (phrase_has is_variable a) (list_any (phrase_has is_variable) ps) variable in
+    (phrase_fits a r.0 l.0 m.0 s.0 v.0 p.0, phrases_fit ps r.1 l.1 m.1 s.1 v.1 p.1)
+
+pub posts_fit : (ps : List ParsedAtom) (u : Unit {0}) → post_judged ps ≡ Ok u → AllByRecursion PhrasePlain ps → AllByRecursion PostFits ps
+posts_fit ps u h p = let may = posted ps h in phrases_fit ps may.numbers may.names may.args may.terms may.no_variables p
+
+-- ---- rules
+
+shape_fits : (a : ParsedAtom) → phrase_has is_out_of_range a ≡ false → phrase_has is_long a ≡ false → has_many_args a ≡ false → has_large_args a ≡ false → PhrasePlain a → ShapeFits a
+shape_fits a range long many small p =
+    let l = neither (is_long (Name a.name)) (list_any (term_has is_long) a.args) long in
+    record { name = name_fits a.name l.0 p.0; args = terms_fit a.args range l.1 small p.1; few = not_above 8 (length a.args) many }
+
+shapes_fit : (ps : List ParsedAtom) → list_any (phrase_has is_out_of_range) ps ≡ false → list_any (phrase_has is_long) ps ≡ false → list_any has_many_args ps ≡ false → list_any has_large_args ps ≡ false → AllByRecursion PhrasePlain ps → AllByRecursion ShapeFits ps
+shapes_fit [] range long many small p = tt
+shapes_fit (a ∷ ps) range long many small p =
+    let r = neither (phrase_has is_out_of_range a) (list_any (phrase_has is_out_of_range) ps) range in
+    let l = neither (phrase_has is_long a) (list_any (phrase_has is_long) ps) long in
+    let m = neither (has_many_args a) (list_any has_many_args ps) many in
+    let s = neither (has_large_args a) (list_any has_large_args ps) small in
+    (shape_fits a r.0 l.0 m.0 s.0 p.0, shapes_fit ps r.1 l.1 m.1 s.1 p.1)
 
 formula_fits : (e : ParsedExpression) → formula_has is_out_of_range e ≡ false → FormulaFits e
 formula_fits (parsed.Number negative ds) range = range
@@ -85,37 +94,40 @@ formula_fits (parsed.Variable x) range = tt
 formula_fits (parsed.Group e) range = formula_fits e range
 formula_fits (parsed.Operation o a b) range = let r = neither (formula_has is_out_of_range a) (formula_has is_out_of_range b) range in (formula_fits a r.0, formula_fits b r.1)
 
-test_fits : (t : GuardMember) → test_has is_out_of_range t ≡ false → test_has is_long t ≡ false → TestPlain t → TestFits t
-test_fits parsed.Always range long p = tt
-test_fits (parsed.Compared c a b) range long p = let r = neither (formula_has is_out_of_range a) (formula_has is_out_of_range b) range in (formula_fits a r.0, formula_fits b r.1)
-test_fits (parsed.Same s t) range long p =
-    let r = neither (is_out_of_range s) (is_out_of_range t) range in
-    let l = neither (is_long s) (is_long t) long in
-    (word_fits s r.0 l.0 p.0, word_fits t r.1 l.1 p.1)
-test_fits (parsed.Differ s t) range long p =
-    let r = neither (is_out_of_range s) (is_out_of_range t) range in
-    let l = neither (is_long s) (is_long t) long in
-    (word_fits s r.0 l.0 p.0, word_fits t r.1 l.1 p.1)
+sides_fit : (s t : ParsedTerm) → (term_has is_out_of_range s || term_has is_out_of_range t) ≡ false → (term_has is_long s || term_has is_long t) ≡ false → (is_large_term s || is_large_term t) ≡ false → TermPlain s × TermPlain t → TermFits s × TermFits t
+sides_fit s t range long small p =
+    let r = neither (term_has is_out_of_range s) (term_has is_out_of_range t) range in
+    let l = neither (term_has is_long s) (term_has is_long t) long in
+    let m = neither (is_large_term s) (is_large_term t) small in
+    (term_fits s r.0 l.0 m.0 p.0, term_fits t r.1 l.1 m.1 p.1)
 
-tests_fit : (ts : List GuardMember) → list_any (test_has is_out_of_range) ts ≡ false → list_any (test_has is_long) ts ≡ false → AllByRecursion TestPlain ts → AllByRecursion TestFits ts
-tests_fit [] range long p = tt
-tests_fit (t ∷ ts) range long p =
+test_fits : (t : GuardMember) → test_has is_out_of_range t ≡ false → test_has is_long t ≡ false → compares_large_terms t ≡ false → TestPlain t → TestFits t
+test_fits parsed.Always range long small p = tt
+test_fits (parsed.Compared c a b) range long small p = let r = neither (formula_has is_out_of_range a) (formula_has is_out_of_range b) range in (formula_fits a r.0, formula_fits b r.1)
+test_fits (parsed.Same s t) range long small p = sides_fit s t range long small p
+test_fits (parsed.Differ s t) range long small p = sides_fit s t range long small p
+
+tests_fit : (ts : List GuardMember) → list_any (test_has is_out_of_range) ts ≡ false → list_any (test_has is_long) ts ≡ false → list_any compares_large_terms ts ≡ false → AllByRecursion TestPlain ts → AllByRecursion TestFits ts
+tests_fit [] range long small p = tt
+tests_fit (t ∷ ts) range long small p =
     let r = neither (test_has is_out_of_range t) (list_any (test_has is_out_of_range) ts) range in
     let l = neither (test_has is_long t) (list_any (test_has is_long) ts) long in
-    (test_fits t r.0 l.0 p.0, tests_fit ts r.1 l.1 p.1)
+    let m = neither (compares_large_terms t) (list_any compares_large_terms ts) small in
+    (test_fits t r.0 l.0 m.0 p.0, tests_fit ts r.1 l.1 m.1 p.1)
 
-member_fits : (m : BodyMember) → member_has is_out_of_range m ≡ false → member_has is_long m ≡ false → adds_many_args m ≡ false → MemberPlain m → MemberFits m
-member_fits parsed.Nothing range long many p = tt
-member_fits (parsed.Is x e) range long many p = formula_fits e range
-member_fits (parsed.Add a) range long many p = shape_fits a range long many p
+member_fits : (m : BodyMember) → member_has is_out_of_range m ≡ false → member_has is_long m ≡ false → adds_many_args m ≡ false → adds_large_args m ≡ false → MemberPlain m → MemberFits m
+member_fits parsed.Nothing range long many small p = tt
+member_fits (parsed.Is x e) range long many small p = formula_fits e range
+member_fits (parsed.Add a) range long many small p = shape_fits a range long many small p
 
-members_fit : (ms : List BodyMember) → list_any (member_has is_out_of_range) ms ≡ false → list_any (member_has is_long) ms ≡ false → list_any adds_many_args ms ≡ false → AllByRecursion MemberPlain ms → AllByRecursion MemberFits ms
-members_fit [] range long many p = tt
-members_fit (a ∷ ps) range long many p =
+members_fit : (ms : List BodyMember) → list_any (member_has is_out_of_range) ms ≡ false → list_any (member_has is_long) ms ≡ false → list_any adds_many_args ms ≡ false → list_any adds_large_args ms ≡ false → AllByRecursion MemberPlain ms → AllByRecursion MemberFits ms
+members_fit [] range long many small p = tt
+members_fit (a ∷ ps) range long many small p =
     let r = neither (member_has is_out_of_range a) (list_any (member_has is_out_of_range) ps) range in
     let l = neither (member_has is_long a) (list_any (member_has is_long) ps) long in
     let m = neither (adds_many_args a) (list_any adds_many_args ps) many in
-    (member_fits a r.0 l.0 m.0 p.0, members_fit ps r.1 l.1 m.1 p.1)
+    let s = neither (adds_large_args a) (list_any adds_large_args ps) small in
+    (member_fits a r.0 l.0 m.0 s.0 p.0, members_fit ps r.1 l.1 m.1 s.1 p.1)
 
 tests_count : (seen : Seen) (ts : List GuardMember) → length (somes (in_turn test seen ts).0) ≡ length (filter is_comparison ts)
 tests_count seen [] = refl
@@ -130,19 +142,52 @@ members_count seen (parsed.Nothing ∷ ms) = members_count seen ms
 members_count seen (parsed.Is x e ∷ ms) = ap suc (members_count (member seen (parsed.Is x e)).1 ms)
 members_count seen (parsed.Add p ∷ ms) = ap suc (members_count (member seen (parsed.Add p)).1 ms)
 
-turns_count : {A B : Type 0} (g : Seen → A → B × Seen) (seen : Seen) (as' : List A) → length (in_turn g seen as').0 ≡ length as'
-turns_count g seen [] = refl
-turns_count g seen (a ∷ as') = ap suc (turns_count g (g seen a).1 as')
+-- ---- what fits is a rule
 
-valid_rule : (r : ParsedRule) → IsAllowedRule r → IsRule (rule r)
-valid_rule r may = record {
-  scoped = rule_known r may.scoped;
+terms_are : (seen : Seen) (ts : List ParsedTerm) → AllByRecursion TermFits ts → AllByRecursion IsTerm (in_turn argument seen ts).0
+terms_are seen [] fits = tt
+terms_are seen (t ∷ ts) fits = (is_term seen t fits.0.small fits.0.nested, terms_are (argument seen t).1 ts fits.1)
+
+shapes_are : (seen : Seen) (ps : List ParsedAtom) → AllByRecursion ShapeFits ps → AllByRecursion IsRuleAtom (in_turn rule_atom seen ps).0
+shapes_are seen [] fits = tt
+shapes_are seen (p ∷ ps) fits = (terms_are seen p.args fits.0.args, shapes_are (rule_atom seen p).1 ps fits.1)
+
+tests_are : (seen : Seen) (ts : List GuardMember) → AllByRecursion TestFits ts → AllByRecursion IsComparison (somes (in_turn test seen ts).0)
+tests_are seen [] fits = tt
+tests_are seen (parsed.Always ∷ ts) fits = tests_are seen ts fits.1
+tests_are seen (parsed.Compared r a b ∷ ts) fits = (tt, tests_are (test seen (parsed.Compared r a b)).1 ts fits.1)
+tests_are seen (parsed.Same s t ∷ ts) fits =
+    ((is_term seen s fits.0.0.small fits.0.0.nested, is_term (argument seen s).1 t fits.0.1.small fits.0.1.nested), tests_are (test seen (parsed.Same s t)).1 ts fits.1)
+tests_are seen (parsed.Differ s t ∷ ts) fits =
+    ((is_term seen s fits.0.0.small fits.0.0.nested, is_term (argument seen s).1 t fits.0.1.small fits.0.1.nested), tests_are (test seen (parsed.Differ s t)).1 ts fits.1)
+
+members_are : (seen : Seen) (ms : List BodyMember) → AllByRecursion MemberFits ms → AllByRecursion IsBodyItem (somes (in_turn member seen ms).0)
+members_are seen [] fits = tt
+members_are seen (parsed.Nothing ∷ ms) fits = members_are seen ms fits.1
+members_are seen (parsed.Is x e ∷ ms) fits = (tt, members_are (member seen (parsed.Is x e)).1 ms fits.1)
+members_are seen (parsed.Add p ∷ ms) fits = (terms_are seen p.args fits.0.args, members_are (member seen (parsed.Add p)).1 ms fits.1)
+
+record PartsFit (r : ParsedRule) : Type 0 where
+  kept : AllByRecursion ShapeFits r.kept
+  removed : AllByRecursion ShapeFits r.removed
+  guard : AllByRecursion TestFits r.guard
+  body : AllByRecursion MemberFits r.body
+
+valid_rule : (r : ParsedRule) → IsAllowedRule r → RuleNests r → PartsFit r → IsRule (rule r)
+valid_rule r may nested fits = record {
+  scoped = rule_known r nested may.scoped;
   limits = record {
     variables = omega (arith, may.variables, ap length (all_seen r));
     removed = omega (arith, may.removes, turns_count rule_atom (after_kept r) r.removed);
     heads = omega (arith, may.heads, turns_count rule_atom [] r.kept, turns_count rule_atom (after_kept r) r.removed);
     guard = omega (arith, may.comparisons, tests_count (after_heads r) r.guard);
     body = omega (arith, may.items, members_count (after_guard r) r.body);
+  };
+  terms = record {
+    kept = shapes_are [] r.kept fits.kept;
+    removed = shapes_are (after_kept r) r.removed fits.removed;
+    guard = tests_are (after_heads r) r.guard fits.guard;
+    body = members_are (after_guard r) r.body fits.body;
   };
 }
 
@@ -159,13 +204,22 @@ rule_fits full r u h p =
     let l0 = neither (rule_name_has is_long r.rule_name) (list_any (phrase_has is_long) r.kept) l1.0 in
     let a1 = neither (list_any has_many_args r.kept || list_any has_many_args r.removed) (list_any adds_many_args r.body) may.args in
     let a0 = neither (list_any has_many_args r.kept) (list_any has_many_args r.removed) a1.0 in
+    let s2 = neither (list_any has_large_args r.kept || list_any has_large_args r.removed || list_any compares_large_terms r.guard) (list_any adds_large_args r.body) may.terms in
+    let s1 = neither (list_any has_large_args r.kept || list_any has_large_args r.removed) (list_any compares_large_terms r.guard) s2.0 in
+    let s0 = neither (list_any has_large_args r.kept) (list_any has_large_args r.removed) s1.0 in
+    let fits : PartsFit r = record {
+      kept = shapes_fit r.kept n0.1 l0.1 a0.0 s0.0 p.kept;
+      removed = shapes_fit r.removed n1.1 l1.1 a0.1 s0.1 p.removed;
+      guard = tests_fit r.guard n2.1 l2.1 s1.1 p.guard;
+      body = members_fit r.body n3.1 l3.1 a1.1 s2.1 p.body;
+    } in
     record {
-      kept = shapes_fit r.kept n0.1 l0.1 a0.0 p.kept;
-      removed = shapes_fit r.removed n1.1 l1.1 a0.1 p.removed;
-      guard = tests_fit r.guard n2.1 l2.1 p.guard;
-      body = members_fit r.body n3.1 l3.1 a1.1 p.body;
+      kept = fits.kept;
+      removed = fits.removed;
+      guard = fits.guard;
+      body = fits.body;
       room = omega (arith, may.variables, ap length (all_seen r));
-      valid = valid_rule r may;
+      valid = valid_rule r may (plain_nests r p) fits;
     }
 
 pub not_full : (full : Bool) (r : ParsedRule) (u : Unit {0}) → rule_judged full r ≡ Ok u → full ≡ false

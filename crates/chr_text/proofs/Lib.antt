@@ -1,3 +1,11 @@
+pub mod Nested
+pub mod Numbered
+pub mod Bare
+pub mod Stacks
+pub mod Values
+pub mod Said
+pub mod Known
+pub mod Limited
 pub mod Facts
 pub mod Growing
 pub mod Judged

@@ -1,18 +1,21 @@
 -- The variables of a rule have the numbers of their names, and two places one number exactly where they have one name that is not `_`.
 use Rattle.std.proofs.Common.{◌≡◌, ◌↔◌, ◌<◌, ◌≤◌, ◌+◌, ℕ, zero, suc, Bool, true, false, not, ◌||◌, cond, inl, inr, List, [], ◌∷◌, ◌++◌, length, length-append, flat_map, append_assoc, Option, Some, None, refl, sym, ap, subst, ◌∙◌, arith}
 use Rattle.std.specs.Prelude.{slice_get}
-use Rattle.std.specs.List.{list_any, position_or_len}
+use Rattle.std.specs.List.{AllByRecursion, list_any, position_or_len}
 use Rattle.std.specs.Str.{bytes_eq}
 use Rattle.std.proofs.lemmas.Slice.Eq.{bytes_eq-Decides}
 use Rattle.std.proofs.lemmas.Bool.{cases_order}
 use Rattle.chr_lex.specs.Tokens.{Word}
 use Rattle.chr_lex.specs.Tokens as words
 use Rattle.chr_grammar.specs.Parsed as parsed
+use Rattle.chr_grammar.specs.Spelling.{IsParsedTerm, IsParsedRule}
 use Rattle.chr_value.proofs.Chosen.{both}
 use Rattle.chr_limits.proofs.Standing.{neither}
-use Rattle.chr_limits.specs.Variables.{is_blank, is_seen, word_variables, formula_variables, phrase_variables, test_variables, member_variables, variables_of}
-use Rattle.chr_text.specs.Translation.{argument, rule_atom, expression, test, member, somes, after_kept, after_heads, after_guard, rule}
+use Rattle.chr_limits.specs.Variables.{is_blank, is_seen, word_variables, term_variables, formula_variables, phrase_variables, test_variables, member_variables, variables_of}
+use Rattle.chr_text.specs.Translation.{word_term, placed_word, argument, rule_atom, expression, test, member, somes, after_kept, after_heads, after_guard, rule}
 use Rattle.chr_text.specs.Variables.{Seen, number_variable, numbers, in_turn}
+use Rattle.chr_text.proofs.Nested.{AtomNests, TestNests, MemberNests, RuleNests, rule_nests}
+use Rattle.chr_text.proofs.Known.{places_nodes}
 use Rattle.chr_text.proofs.Valued.{found_first}
 use Rattle.chr_text.specs.Places.{term_places, atom_places, expression_places, comparison_places, item_places, places}
 
@@ -57,20 +60,30 @@ one_numbered : (m : Seen) (x : List ℕ) → Numbers m (x ∷ []) ((number_varia
 unfolding numbers_from after
 one_numbered m x = record { given = refl; seen = refl }
 
-each_numbered : {A B : Type 0} (g : Seen → A → B × Seen) (v : A → List (List ℕ)) (w : B → List ℕ) → ((m : Seen) (a : A) → Numbers m (v a) (w (g m a).0) (g m a).1)
-    → (m : Seen) (as' : List A) → Numbers m (flat_map v as') (flat_map w (in_turn g m as').0) (in_turn g m as').1
-each_numbered g v w h m [] = none_numbered m
-each_numbered g v w h m (a ∷ as') = two m (g m a).1 (in_turn g (g m a).1 as').1 (v a) (flat_map v as') (w (g m a).0) (flat_map w (in_turn g (g m a).1 as').0) (h m a) (each_numbered g v w h (g m a).1 as')
+each_numbered : {A B : Type 0} (P : A → Type 0) (g : Seen → A → B × Seen) (v : A → List (List ℕ)) (w : B → List ℕ) → ((m : Seen) (a : A) → P a → Numbers m (v a) (w (g m a).0) (g m a).1)
+    → (m : Seen) (as' : List A) → AllByRecursion P as' → Numbers m (flat_map v as') (flat_map w (in_turn g m as').0) (in_turn g m as').1
+each_numbered P g v w h m [] all = none_numbered m
+each_numbered P g v w h m (a ∷ as') all =
+    two m (g m a).1 (in_turn g (g m a).1 as').1 (v a) (flat_map v as') (w (g m a).0) (flat_map w (in_turn g (g m a).1 as').0) (h m a all.0) (each_numbered P g v w h (g m a).1 as' all.1)
 
 -- ---- a rule
 
-term_numbered : (m : Seen) (w : Word) → Numbers m (word_variables w) (term_places (argument m w).0) (argument m w).1
-term_numbered m (words.Name t) = none_numbered m
-term_numbered m (words.Variable x) = one_numbered m x
-term_numbered m (words.Number negative ds) = none_numbered m
+word_numbered : (m : Seen) (w : Word) → Numbers m (word_variables w) (term_places (word_term m w).0) (word_term m w).1
+word_numbered m (words.Name t) = none_numbered m
+word_numbered m (words.Variable x) = one_numbered m x
+word_numbered m (words.Number negative ds) = none_numbered m
 
-atom_numbered : (m : Seen) (p : parsed.ParsedAtom) → Numbers m (phrase_variables p) (atom_places (rule_atom m p).0) (rule_atom m p).1
-atom_numbered m p = each_numbered argument word_variables term_places term_numbered m p.args
+any_node : (ns : List parsed.TermNode) → AllByRecursion (λ (n : parsed.TermNode). Unit {0}) ns
+any_node [] = tt
+any_node (n ∷ ns) = (tt, any_node ns)
+
+term_numbered : (m : Seen) (t : parsed.ParsedTerm) → IsParsedTerm t → Numbers m (term_variables t) (term_places (argument m t).0) (argument m t).1
+term_numbered m t nested =
+    subst (λ (l : List ℕ). Numbers m (term_variables t) l (argument m t).1) (sym (places_nodes m t nested))
+    (each_numbered (λ n. Unit {0}) placed_word (λ n. word_variables n.word) (λ w. term_places w.1) (λ m n u. word_numbered m n.word) m t (any_node t))
+
+atom_numbered : (m : Seen) (p : parsed.ParsedAtom) → AtomNests p → Numbers m (phrase_variables p) (atom_places (rule_atom m p).0) (rule_atom m p).1
+atom_numbered m p nested = each_numbered IsParsedTerm argument term_variables term_places term_numbered m p.args nested
 
 expression_numbered : (m : Seen) (e : parsed.ParsedExpression) → Numbers m (formula_variables e) (expression_places (expression m e).0) (expression m e).1
 expression_numbered m (parsed.Number negative ds) = none_numbered m
@@ -89,39 +102,39 @@ somes_places w [] = refl
 somes_places w (None ∷ os) = somes_places w os
 somes_places w (Some x ∷ os) = ap (λ (l : List ℕ). w x ++ l) (somes_places w os)
 
-test_numbered : (m : Seen) (t : parsed.GuardMember) → Numbers m (test_variables t) (if_some comparison_places (test m t).0) (test m t).1
+test_numbered : (m : Seen) (t : parsed.GuardMember) → TestNests t → Numbers m (test_variables t) (if_some comparison_places (test m t).0) (test m t).1
 unfolding if_some
-test_numbered m parsed.Always = none_numbered m
-test_numbered m (parsed.Compared r e f) =
+test_numbered m parsed.Always nested = none_numbered m
+test_numbered m (parsed.Compared r e f) nested =
     two m (expression m e).1 (expression (expression m e).1 f).1 (formula_variables e) (formula_variables f) (expression_places (expression m e).0) (expression_places (expression (expression m e).1 f).0) (expression_numbered m e) (expression_numbered (expression m e).1 f)
-test_numbered m (parsed.Same s t) =
-    two m (argument m s).1 (argument (argument m s).1 t).1 (word_variables s) (word_variables t) (term_places (argument m s).0) (term_places (argument (argument m s).1 t).0) (term_numbered m s) (term_numbered (argument m s).1 t)
-test_numbered m (parsed.Differ s t) =
-    two m (argument m s).1 (argument (argument m s).1 t).1 (word_variables s) (word_variables t) (term_places (argument m s).0) (term_places (argument (argument m s).1 t).0) (term_numbered m s) (term_numbered (argument m s).1 t)
+test_numbered m (parsed.Same s t) nested =
+    two m (argument m s).1 (argument (argument m s).1 t).1 (term_variables s) (term_variables t) (term_places (argument m s).0) (term_places (argument (argument m s).1 t).0) (term_numbered m s nested.0) (term_numbered (argument m s).1 t nested.1)
+test_numbered m (parsed.Differ s t) nested =
+    two m (argument m s).1 (argument (argument m s).1 t).1 (term_variables s) (term_variables t) (term_places (argument m s).0) (term_places (argument (argument m s).1 t).0) (term_numbered m s nested.0) (term_numbered (argument m s).1 t nested.1)
 
-member_numbered : (m : Seen) (b : parsed.BodyMember) → Numbers m (member_variables b) (if_some item_places (member m b).0) (member m b).1
+member_numbered : (m : Seen) (b : parsed.BodyMember) → MemberNests b → Numbers m (member_variables b) (if_some item_places (member m b).0) (member m b).1
 unfolding if_some
-member_numbered m parsed.Nothing = none_numbered m
-member_numbered m (parsed.Is x e) =
+member_numbered m parsed.Nothing nested = none_numbered m
+member_numbered m (parsed.Is x e) nested =
     two m (number_variable m x).1 (expression (number_variable m x).1 e).1 (x ∷ []) (formula_variables e) ((number_variable m x).0 ∷ []) (expression_places (expression (number_variable m x).1 e).0) (one_numbered m x) (expression_numbered (number_variable m x).1 e)
-member_numbered m (parsed.Add p) = atom_numbered m p
+member_numbered m (parsed.Add p) nested = atom_numbered m p nested
 
-rule_numbered : (r : parsed.ParsedRule) → Numbers [] (variables_of r)
+rule_numbered : (r : parsed.ParsedRule) → RuleNests r → Numbers [] (variables_of r)
     (flat_map atom_places (rule r).kept ++ flat_map atom_places (rule r).removed ++ flat_map (if_some comparison_places) (in_turn test (after_heads r) r.guard).0 ++ flat_map (if_some item_places) (in_turn member (after_guard r) r.body).0)
     (in_turn member (after_guard r) r.body).1
-rule_numbered r =
-    let kept = each_numbered rule_atom phrase_variables atom_places atom_numbered [] r.kept in
-    let removed = each_numbered rule_atom phrase_variables atom_places atom_numbered (after_kept r) r.removed in
-    let guard = each_numbered test test_variables (if_some comparison_places) test_numbered (after_heads r) r.guard in
-    let body = each_numbered member member_variables (if_some item_places) member_numbered (after_guard r) r.body in
+rule_numbered r nested =
+    let kept = each_numbered AtomNests rule_atom phrase_variables atom_places atom_numbered [] r.kept nested.kept in
+    let removed = each_numbered AtomNests rule_atom phrase_variables atom_places atom_numbered (after_kept r) r.removed nested.removed in
+    let guard = each_numbered TestNests test test_variables (if_some comparison_places) test_numbered (after_heads r) r.guard nested.guard in
+    let body = each_numbered MemberNests member member_variables (if_some item_places) member_numbered (after_guard r) r.body nested.body in
     two [] (after_guard r) _ _ _ _ _ (two [] (after_heads r) (after_guard r) _ _ _ _ (two [] (after_kept r) (after_heads r) _ _ _ _ kept removed) guard) body
 
-pub rule_places : (r : parsed.ParsedRule) → places (rule r) ≡ numbers (variables_of r)
+pub rule_places : (r : parsed.ParsedRule) → IsParsedRule r → places (rule r) ≡ numbers (variables_of r)
 unfolding numbers_from
-rule_places r =
+rule_places r is =
     let guard = somes_places comparison_places (in_turn test (after_heads r) r.guard).0 in
     let body = somes_places item_places (in_turn member (after_guard r) r.body).0 in
-    rw (← guard, ← body) (rule_numbered r).given
+    rw (← guard, ← body) (rule_numbered r (rule_nests r is)).given
 
 -- ---- a number and its name
 

@@ -12,7 +12,7 @@ use Rattle.chr_grammar.specs.Parsing.{phrases_of}
 use Rattle.chr_grammar.specs.Spelling.{AreParsedAtoms}
 use Rattle.chr_grammar.proofs.Phrases.{are_phrases, phrases_read, no_phrases}
 use Rattle.chr_limits.specs.Words.{is_out_of_range, is_long, is_variable, phrase_has}
-use Rattle.chr_limits.specs.Limits.{has_many_args}
+use Rattle.chr_limits.specs.Limits.{has_many_args, has_large_args}
 use Rattle.chr_limits.proofs.Standing.{neither}
 use Rattle.chr_text.specs.Translation.{atom_by_texts}
 use Rattle.chr_text.specs.Numbering.{or_full, each, more}
@@ -22,13 +22,15 @@ use Rattle.chr_text.specs.Faults.{rank, IsFirst, PostHas, ItemHas, IsPostsFault}
 use Rattle.chr_text.proofs.Faulty.{err_is, IsReader, faulty_item, refused_item, faulty_text, refused_text}
 use Rattle.chr_text.proofs.PostTexts.{adds_atoms, atoms_added}
 
-one_of : (a b : Bool) → a || b ≡ true → (a ≡ true) ⊎ (b ≡ true)
-one_of true b h = inl refl
-one_of false b h = inr h
+one_of : (a b c : Bool) → a || b || c ≡ true → (a ≡ true) ⊎ (b ≡ true) ⊎ (c ≡ true)
+one_of true b c h = inl refl
+one_of false true c h = inr (inl refl)
+one_of false false c h = inr (inr h)
 
-none_of : (a b : Bool) → a || b ≡ false → (a ≡ true) ⊎ (b ≡ true) → ⊥
-none_of a b h (inl e) = let p = (neither a b h).0 in cc
-none_of a b h (inr e) = let p = (neither a b h).1 in cc
+none_of : (a b c : Bool) → a || b || c ≡ false → (a ≡ true) ⊎ (b ≡ true) ⊎ (c ≡ true) → ⊥
+none_of a b c h (inl e) = let p = (neither a b (neither (a || b) c h).0).0 in cc
+none_of a b c h (inr (inl e)) = let p = (neither a b (neither (a || b) c h).0).1 in cc
+none_of a b c h (inr (inr e)) = let p = (neither (a || b) c h).1 in cc
 
 below : (p : Posts) (ps : List ParsedAtom) (n : ℕ) → n ≤ 7 → (4 < n → PostHas p ps NumberRange → ⊥) → (5 < n → PostHas p ps TooMany → ⊥) → (6 < n → PostHas p ps Binding → ⊥) → (j : Kind) → rank j < n → PostHas p ps j → ⊥
 below p ps n le b c d TooLong lt h = h
@@ -43,20 +45,20 @@ below p ps n le b c d NamesFull lt h = absurd (omega (arith, lt, le))
 abbrev Fault : Posts → List ParsedAtom → Kind → Type 0
 Fault p ps k = IsFirst (PostHas p ps) k × (2 < rank k)
 
-post_fault : (p : Posts) (ps : List ParsedAtom) (b c d : Bool) (o : Option (List (Atom ℕ) × Table)) (k : Kind) → list_any (phrase_has is_out_of_range) ps ≡ b → list_any (phrase_has is_long) ps || list_any has_many_args ps ≡ c → list_any (phrase_has is_variable) ps ≡ d
+post_fault : (p : Posts) (ps : List ParsedAtom) (b c d : Bool) (o : Option (List (Atom ℕ) × Table)) (k : Kind) → list_any (phrase_has is_out_of_range) ps ≡ b → list_any (phrase_has is_long) ps || list_any has_many_args ps || list_any has_large_args ps ≡ c → list_any (phrase_has is_variable) ps ≡ d
     → each numbered_atom p.1 (map atom_by_texts ps) ≡ o
     → (let judged : Result (Unit {0}) Kind = cond b (Err NumberRange) (cond c (Err TooMany) (cond d (Err Binding) (Ok tt))) in judged >>= λ u. or_full (more p.0 o)) ≡ Err k → Fault p ps k
 post_fault p ps true c d o k hb hc hd ho h =
     subst (Fault p ps) (err_is NumberRange k h) (record { has = hb; first = below p ps 4 (omega arith) (λ lt. absurd (omega (arith, lt))) (λ lt. absurd (omega (arith, lt))) (λ lt. absurd (omega (arith, lt))) }, omega arith)
 post_fault p ps false true d o k hb hc hd ho h =
-    subst (Fault p ps) (err_is TooMany k h) (record { has = one_of _ _ hc; first = below p ps 5 (omega arith) (λ lt e. absurd cc) (λ lt. absurd (omega (arith, lt))) (λ lt. absurd (omega (arith, lt))) }, omega arith)
+    subst (Fault p ps) (err_is TooMany k h) (record { has = one_of _ _ _ hc; first = below p ps 5 (omega arith) (λ lt e. absurd cc) (λ lt. absurd (omega (arith, lt))) (λ lt. absurd (omega (arith, lt))) }, omega arith)
 post_fault p ps false false true o k hb hc hd ho h =
-    subst (Fault p ps) (err_is Binding k h) (record { has = hd; first = below p ps 6 (omega arith) (λ lt e. absurd cc) (λ lt. none_of _ _ hc) (λ lt. absurd (omega (arith, lt))) }, omega arith)
+    subst (Fault p ps) (err_is Binding k h) (record { has = hd; first = below p ps 6 (omega arith) (λ lt e. absurd cc) (λ lt. none_of _ _ _ hc) (λ lt. absurd (omega (arith, lt))) }, omega arith)
 post_fault p ps false false false None k hb hc hd ho h =
-    subst (Fault p ps) (err_is NamesFull k h) (record { has = ho; first = below p ps 7 (omega arith) (λ lt e. absurd cc) (λ lt. none_of _ _ hc) (λ lt e. absurd cc) }, omega arith)
+    subst (Fault p ps) (err_is NamesFull k h) (record { has = ho; first = below p ps 7 (omega arith) (λ lt e. absurd cc) (λ lt. none_of _ _ _ hc) (λ lt e. absurd cc) }, omega arith)
 post_fault p ps false false false (Some x) k hb hc hd ho h = absurd cc
 
-post_faultless : (p : Posts) (ps : List ParsedAtom) (b c d : Bool) (o : Option (List (Atom ℕ) × Table)) (q : Posts) (k : Kind) → list_any (phrase_has is_out_of_range) ps ≡ b → list_any (phrase_has is_long) ps || list_any has_many_args ps ≡ c → list_any (phrase_has is_variable) ps ≡ d
+post_faultless : (p : Posts) (ps : List ParsedAtom) (b c d : Bool) (o : Option (List (Atom ℕ) × Table)) (q : Posts) (k : Kind) → list_any (phrase_has is_out_of_range) ps ≡ b → list_any (phrase_has is_long) ps || list_any has_many_args ps || list_any has_large_args ps ≡ c → list_any (phrase_has is_variable) ps ≡ d
     → each numbered_atom p.1 (map atom_by_texts ps) ≡ o
     → (let judged : Result (Unit {0}) Kind = cond b (Err NumberRange) (cond c (Err TooMany) (cond d (Err Binding) (Ok tt))) in judged >>= λ u. or_full (more p.0 o)) ≡ Ok q → PostHas p ps k → ⊥
 post_faultless p ps true c d o q k hb hc hd ho h has = absurd cc
@@ -68,7 +70,7 @@ post_faultless p ps false false false (Some x) q BadByte hb hc hd ho h has = has
 post_faultless p ps false false false (Some x) q Syntax hb hc hd ho h has = has
 post_faultless p ps false false false (Some x) q Propagation hb hc hd ho h has = has
 post_faultless p ps false false false (Some x) q NumberRange hb hc hd ho h has = cc
-post_faultless p ps false false false (Some x) q TooMany hb hc hd ho h has = none_of _ _ hc has
+post_faultless p ps false false false (Some x) q TooMany hb hc hd ho h has = none_of _ _ _ hc has
 post_faultless p ps false false false (Some x) q Binding hb hc hd ho h has = cc
 post_faultless p ps false false false (Some x) q NamesFull hb hc hd ho h has = cc
 

@@ -1,42 +1,41 @@
 -- A log can hold each atom that a rule adds, whatever values that a log can hold its variables stand for.
-use Rattle.std.proofs.Common.{◌≡◌, ◌≤◌, ℕ, suc, pos, false, List, [], ◌∷◌, ◌++◌, length, take, map, Option, Some, Ok, refl, sym, ap, subst, ◌∙◌, arith, lit<}
+use Rattle.std.proofs.Common.{◌≡◌, ◌≤◌, ℕ, suc, false, List, [], ◌∷◌, ◌++◌, length, take, map, Option, Some, Ok, refl, sym, ap, subst, ◌∙◌, arith}
 use Rattle.std.specs.List.{AllByRecursion}
 use Rattle.std.proofs.Math.Seq.{take-length}
 use Rattle.chr_grammar.proofs.Members_again.{all_append}
 use Rattle.chr_lex.specs.Items.{Item}
-use Rattle.chr_lex.specs.Tokens.{Word, Name, Variable, Number}
-use Rattle.chr_value.specs.Atoms.{Value, Int, Atom, renamed, text_of, by_texts}
-use Rattle.chr_value.specs.Naming.{◌>>=◌, Table, number_name, numbered_value, number_terms}
-use Rattle.chr_value.specs.Spelling.{is_reserved, is_control, IsName, FitsTerm, FitsAtom}
+use Rattle.chr_value.specs.Atoms.{Value, args_count, renamed, args_renamed, text_of, by_texts}
+use Rattle.chr_value.specs.Limits.{IsWithin}
+use Rattle.chr_value.specs.Naming.{◌>>=◌, Table}
+use Rattle.chr_value.specs.Spelling.{is_reserved, is_control, IsName, FitsTerm, ArgsFit, FitsAtom}
 use Rattle.chr_value.proofs.Chosen.{bind_some, some_is}
 use Rattle.chr_value.proofs.NameLaws.{keeps-then}
-use Rattle.chr_value.proofs.Said.{name_says, terms_say}
-use Rattle.chr_value.proofs.Inside.{atom_inside, atom_kept}
-use Rattle.chr_rule.specs.Rules.{Term, Var, Given, RuleAtom, Comparison, Compared, Same, Differ, BodyItem, Is, Add, Simpagation}
+use Rattle.chr_value.proofs.Said.{as_long}
+use Rattle.chr_value.proofs.Back.{within_same}
+use Rattle.chr_rule.specs.Rules.{Term, Var, Given, Open, Terms, End, And, RuleAtom, Comparison, Compared, Same, Differ, BodyItem, Is, Add, Simpagation}
+use Rattle.chr_rule.specs.Terms.{terms_count}
 use Rattle.chr_grammar.specs.Parsed as parsed
-use Rattle.chr_grammar.specs.Parsed.{ParsedAtom, ParsedRule, Statement}
+use Rattle.chr_grammar.specs.Parsed.{ParsedTerm, ParsedAtom, ParsedRule, Statement}
 use Rattle.chr_grammar.specs.Spelling.{IsUnreserved, IsParsedAtom, IsBodyMember, IsStatement}
 use Rattle.chr_grammar.proofs.Statements_again.{by_texts as statement_read}
 use Rattle.chr_limits.proofs.Standing as standing
-use Rattle.chr_text.specs.Fitting.{WordFits, ShapeFits, MemberFits}
+use Rattle.chr_text.specs.Fitting.{TermFits, ShapeFits, MemberFits}
 use Rattle.chr_text.specs.Variables.{Seen, in_turn}
 use Rattle.chr_text.specs.Translation.{argument, rule_atom, member, somes, after_guard, rule}
 use Rattle.chr_text.specs.Numbering.{each, numbered_term, numbered_rule_atom, number_test, number_member, number_rule}
 use Rattle.chr_text.specs.Reading.{Program, program_of}
 use Rattle.chr_text.specs.Forms.{InOrder, no_more, item, Adds, AddsStatement}
-use Rattle.chr_text.specs.Writable.{term_with, CanHold, AddsWritable, HasWritable}
+use Rattle.chr_text.specs.Writable.{term_with, terms_with, CanHold, AddsWritable, HasWritable}
 use Rattle.chr_text.proofs.Judged.{rule_fits}
+use Rattle.chr_text.proofs.Limited.{turns_count}
 use Rattle.chr_text.proofs.Plain.{lexemes_plain}
+use Rattle.chr_text.proofs.Said.{argument_renamed, arguments_renamed, rule_atom_by, AtomInside, atom_later, atom_kept, argument_keeps, atom_says}
 use Rattle.chr_text.proofs.Spoken.{rules_are_plain}
 use Rattle.chr_text.proofs.Texts.{item_read}
 use Rattle.chr_text.proofs.ProgramTexts.{is_program}
-use Rattle.chr_text.proofs.Writable.{spelled_fits}
+use Rattle.chr_text.proofs.Writable.{ArgumentFits, ArgumentsFit, argument_fits}
 
 -- ---- atoms of a rule by texts, and by numbers
-
-abbrev ArgumentFits : Term (List ℕ) → Type 0
-ArgumentFits (Var x) = Unit {0}
-ArgumentFits (Given t) = FitsTerm t
 
 abbrev Free : {A : Type 0} → List ℕ → List A → Type 0
 Free t [] = is_reserved t ≡ false
@@ -48,15 +47,10 @@ record TextFits (s : RuleAtom (List ℕ)) : Type 0 where
   few : length s.args ≤ 8
   free : Free s.name s.args
 
-abbrev ArgumentHeld : Table → Term ℕ → Type 0
-ArgumentHeld table (Var x) = Unit {0}
-ArgumentHeld table (Given t) = CanHold table t
-
+-- the table has the names, and by its texts the atom can be written
 record Held (table : Table) (s : RuleAtom ℕ) : Type 0 where
-  name : IsName (text_of table s.name)
-  args : AllByRecursion (ArgumentHeld table) s.args
-  few : length s.args ≤ 8
-  free : Free (text_of table s.name) s.args
+  inside : AtomInside (length table) s
+  fits : TextFits (rule_atom_by table s)
 
 abbrev ItemHeld : Table → BodyItem ℕ → Type 0
 ItemHeld table (Is x e) = Unit {0}
@@ -64,28 +58,11 @@ ItemHeld table (Add s) = Held table s
 
 -- ---- what a table can write, each table that begins with it can
 
-pair_kept : (old new : Table) (n : ℕ) (t : Value ℕ) → take (length old) new ≡ old → IsName (text_of old n) → CanHold old t → (text_of new n ≡ text_of old n) × (renamed (text_of new) t ≡ renamed (text_of old) t)
-pair_kept old new n t keeps name value =
-    let a : Atom ℕ = record { name = n; args = t ∷ [] } in
-    let fits : FitsAtom (by_texts old a) = record { name = name; args = (value, tt); few = omega arith; plain = refl } in
-    let same = atom_kept old new a keeps (atom_inside old a fits) in
-    let args : (renamed (text_of new) t ∷ []) ≡ (renamed (text_of old) t ∷ []) = ap (λ (b : Atom (List ℕ)). b.args) same in
-    (ap (λ (b : Atom (List ℕ)). b.name) same, cc)
-
-arguments_kept : (old new : Table) (n : ℕ) (as' : List (Term ℕ)) → take (length old) new ≡ old → IsName (text_of old n) → AllByRecursion (ArgumentHeld old) as' → AllByRecursion (ArgumentHeld new) as'
-arguments_kept old new n [] keeps name all = tt
-arguments_kept old new n (Var x ∷ as') keeps name all = (tt, arguments_kept old new n as' keeps name all.1)
-arguments_kept old new n (Given t ∷ as') keeps name all = (subst FitsTerm (sym (pair_kept old new n t keeps name all.0).1) all.0, arguments_kept old new n as' keeps name all.1)
-
-free_renamed : {A : Type 0} (t u : List ℕ) (as' : List A) → t ≡ u → Free t as' → Free u as'
-free_renamed t u [] e h = rw (← e) h
-free_renamed t u (x ∷ xs) e h = tt
-
 held_kept : (old new : Table) (s : RuleAtom ℕ) → take (length old) new ≡ old → Held old s → Held new s
-held_kept old new s keeps h =
-    let zero_held : CanHold old (Int (pos 0)) = lit< tt in
-    let same = sym (pair_kept old new s.name (Int (pos 0)) keeps h.name zero_held).0 in
-    record { name = subst IsName same h.name; args = arguments_kept old new s.name s.args keeps h.name h.args; few = h.few; free = free_renamed (text_of old s.name) (text_of new s.name) s.args same h.free }
+held_kept old new s keeps h = record {
+  inside = atom_later (length old) (length new) s (as_long old new keeps) h.inside;
+  fits = subst TextFits (sym (atom_kept old new s keeps h.inside)) h.fits;
+}
 
 items_kept : (old new : Table) (ms : List (BodyItem ℕ)) → take (length old) new ≡ old → AllByRecursion (ItemHeld old) ms → AllByRecursion (ItemHeld new) ms
 items_kept old new [] keeps all = tt
@@ -94,22 +71,6 @@ items_kept old new (Add s ∷ ms) keeps all = (held_kept old new s keeps all.0, 
 
 -- ---- numbering
 
-value_says : (table : Table) (t : Value (List ℕ)) (v : Value ℕ) (new : Table) → numbered_value table t ≡ Some (v, new) → (renamed (text_of new) v ≡ t) × (take (length table) new ≡ table)
-unfolding number_terms
-value_says table t v new h =
-    let one : number_terms table (t ∷ []) ≡ Some (v ∷ [], new) = rw h refl in
-    let says = terms_say table (t ∷ []) (v ∷ []) new one in
-    let list : (renamed (text_of new) v ∷ []) ≡ (t ∷ []) = says.0 in
-    (cc, says.1)
-
-term_numbered : (table new : Table) (a : Term (List ℕ)) (b : Term ℕ) → numbered_term table a ≡ Some (b, new) → (ArgumentFits a → ArgumentHeld new b) × (take (length table) new ≡ table)
-term_numbered table new (Var x) b h =
-    subst (λ (z : Term ℕ × Table). (Unit {0} → ArgumentHeld z.1 z.0) × (take (length table) z.1 ≡ table)) (some_is {A = Term ℕ × Table} (Var x, table) (b, new) h) (λ u. tt, take-length table)
-term_numbered table new (Given t) b h =
-    let x = bind_some (numbered_value table t) (λ x. Some (Given x.0, x.1)) (b, new) h in
-    let says = value_says table t x.0.0 x.0.1 x.1 in
-    subst (λ (z : Term ℕ × Table). (FitsTerm t → ArgumentHeld z.1 z.0) × (take (length table) z.1 ≡ table)) (some_is {A = Term ℕ × Table} (Given x.0.0, x.0.1) (b, new) x.2) (λ fits. subst FitsTerm (sym says.0) fits, says.1)
-
 each_keeps : {A B : Type 0} (f : Table → A → Option (B × Table)) → ((table new : Table) (a : A) (b : B) → f table a ≡ Some (b, new) → take (length table) new ≡ table) → (table new : Table) (as' : List A) (bs : List B) → each f table as' ≡ Some (bs, new) → take (length table) new ≡ table
 each_keeps {B = B} f keeps table new [] bs h = subst (λ (z : List B × Table). take (length table) z.1 ≡ table) (some_is {A = List B × Table} ([], table) (bs, new) h) (take-length table)
 each_keeps {B = B} f keeps table new (a ∷ as') bs h =
@@ -117,51 +78,11 @@ each_keeps {B = B} f keeps table new (a ∷ as') bs h =
     let y = bind_some (each f x.0.1 as') (λ xs. Some (x.0.0 ∷ xs.0, xs.1)) (bs, new) x.2 in
     subst (λ (z : List B × Table). take (length table) z.1 ≡ table) (some_is {A = List B × Table} (x.0.0 ∷ y.0.0, y.0.1) (bs, new) y.2) (keeps-then table x.0.1 y.0.1 (keeps table x.0.1 a x.0.0 x.1) (each_keeps f keeps x.0.1 y.0.1 as' y.0.0 y.1))
 
-terms_keep : (table new : Table) (as' : List (Term (List ℕ))) (bs : List (Term ℕ)) → each numbered_term table as' ≡ Some (bs, new) → take (length table) new ≡ table
-terms_keep table new as' bs h = each_keeps numbered_term (λ t n a b e. (term_numbered t n a b e).1) table new as' bs h
-
--- the table has a name in it, so that what it can write later tables can
-arguments_numbered : (n : ℕ) (table new : Table) (as' : List (Term (List ℕ))) (bs : List (Term ℕ)) → IsName (text_of table n) → AllByRecursion ArgumentFits as' → each numbered_term table as' ≡ Some (bs, new)
-    → AllByRecursion (ArgumentHeld new) bs × (length bs ≡ length as')
-arguments_numbered n table new [] bs name all h = subst (λ (z : List (Term ℕ) × Table). AllByRecursion (ArgumentHeld z.1) z.0 × (length z.0 ≡ 0)) (some_is {A = List (Term ℕ) × Table} ([], table) (bs, new) h) (tt, refl)
-arguments_numbered n table new (a ∷ as') bs name all h =
-    let x = bind_some (numbered_term table a) (λ x. each numbered_term x.1 as' >>= λ xs. Some (x.0 ∷ xs.0, xs.1)) (bs, new) h in
-    let y = bind_some (each numbered_term x.0.1 as') (λ xs. Some (x.0.0 ∷ xs.0, xs.1)) (bs, new) x.2 in
-    let one = term_numbered table x.0.1 a x.0.0 x.1 in
-    let zero_held : CanHold table (Int (pos 0)) = lit< tt in
-    let same = (pair_kept table x.0.1 n (Int (pos 0)) one.1 name zero_held).0 in
-    let later : IsName (text_of x.0.1 n) = subst IsName (sym same) name in
-    let rest = arguments_numbered n x.0.1 y.0.1 as' y.0.0 later all.1 y.1 in
-    let first = arguments_kept x.0.1 y.0.1 n (x.0.0 ∷ []) (terms_keep x.0.1 y.0.1 as' y.0.0 y.1) later (one.0 all.0, tt) in
-    subst (λ (z : List (Term ℕ) × Table). AllByRecursion (ArgumentHeld z.1) z.0 × (length z.0 ≡ suc (length as'))) (some_is {A = List (Term ℕ) × Table} (x.0.0 ∷ y.0.0, y.0.1) (bs, new) y.2) ((first.0, rest.0), ap suc rest.1)
-
-free_same : {A B : Type 0} (t : List ℕ) (as' : List A) (bs : List B) → length bs ≡ length as' → Free t as' → Free t bs
-free_same t [] [] e h = h
-free_same t [] (b ∷ bs) e h = absurd (omega (arith, e))
-free_same t (a ∷ as') [] e h = absurd (omega (arith, e))
-free_same t (a ∷ as') (b ∷ bs) e h = tt
-
 atom_numbered : (table new : Table) (s : RuleAtom (List ℕ)) (r : RuleAtom ℕ) → TextFits s → numbered_rule_atom table s ≡ Some (r, new) → Held new r
-atom_numbered table new s r fits h =
-    let n = bind_some (number_name table s.name) (λ n. each numbered_term n.1 s.args >>= λ xs. Some (record { name = n.0; args = xs.0 }, xs.1)) (r, new) h in
-    let x = bind_some (each numbered_term n.0.1 s.args) (λ xs. Some (record { name = n.0.0; args = xs.0 }, xs.1)) (r, new) n.2 in
-    let says = name_says table s.name n.0.0 n.0.1 n.1 in
-    let named : IsName (text_of n.0.1 n.0.0) = subst IsName (sym says.0) fits.name in
-    let args = arguments_numbered n.0.0 n.0.1 x.0.1 s.args x.0.0 named fits.args x.1 in
-    let zero_held : CanHold n.0.1 (Int (pos 0)) = lit< tt in
-    let same : text_of x.0.1 n.0.0 ≡ text_of n.0.1 n.0.0 = (pair_kept n.0.1 x.0.1 n.0.0 (Int (pos 0)) (terms_keep n.0.1 x.0.1 s.args x.0.0 x.1) named zero_held).0 in
-    let text : s.name ≡ text_of x.0.1 n.0.0 = sym (same ∙ says.0) in
-    let few : length x.0.0 ≤ 8 = (let e = args.1 in let le = fits.few in omega (arith, e, le)) in
-    let made : RuleAtom ℕ = record { name = n.0.0; args = x.0.0 } in
-    let held : Held x.0.1 made = record { name = subst IsName text fits.name; args = args.0; few = few; free = free_renamed s.name (text_of x.0.1 n.0.0) x.0.0 text (free_same s.name s.args x.0.0 args.1 fits.free) } in
-    subst (λ (z : RuleAtom ℕ × Table). Held z.1 z.0) (some_is {A = RuleAtom ℕ × Table} (made, x.0.1) (r, new) x.2) held
+atom_numbered table new s r fits h = let says = atom_says table new s r h in record { inside = says.1; fits = subst TextFits (sym says.0) fits }
 
 atom_keeps : (table new : Table) (s : RuleAtom (List ℕ)) (r : RuleAtom ℕ) → numbered_rule_atom table s ≡ Some (r, new) → take (length table) new ≡ table
-atom_keeps table new s r h =
-    let n = bind_some (number_name table s.name) (λ n. each numbered_term n.1 s.args >>= λ xs. Some (record { name = n.0; args = xs.0 }, xs.1)) (r, new) h in
-    let x = bind_some (each numbered_term n.0.1 s.args) (λ xs. Some (record { name = n.0.0; args = xs.0 }, xs.1)) (r, new) n.2 in
-    let made : RuleAtom ℕ = record { name = n.0.0; args = x.0.0 } in
-    subst (λ (z : RuleAtom ℕ × Table). take (length table) z.1 ≡ table) (some_is {A = RuleAtom ℕ × Table} (made, x.0.1) (r, new) x.2) (keeps-then table n.0.1 x.0.1 (name_says table s.name n.0.0 n.0.1 n.1).2 (terms_keep n.0.1 x.0.1 s.args x.0.0 x.1))
+atom_keeps table new s r h = (atom_says table new s r h).2
 
 abbrev sides : (Term ℕ → Term ℕ → Comparison ℕ) → Table → Term (List ℕ) → Term (List ℕ) → Option (Comparison ℕ × Table)
 sides make table s t = numbered_term table s >>= λ x. numbered_term x.1 t >>= λ y. Some (make x.0 y.0, y.1)
@@ -170,7 +91,7 @@ sides_keep : (table new : Table) (s t : Term (List ℕ)) (make : Term ℕ → Te
 sides_keep table new s t make c h =
     let x = bind_some (numbered_term table s) _ (c, new) h in
     let y = bind_some (numbered_term x.0.1 t) _ (c, new) x.2 in
-    subst (λ (z : Comparison ℕ × Table). take (length table) z.1 ≡ table) (some_is {A = Comparison ℕ × Table} (make x.0.0 y.0.0, y.0.1) (c, new) y.2) (keeps-then table x.0.1 y.0.1 (term_numbered table x.0.1 s x.0.0 x.1).1 (term_numbered x.0.1 y.0.1 t y.0.0 y.1).1)
+    subst (λ (z : Comparison ℕ × Table). take (length table) z.1 ≡ table) (some_is {A = Comparison ℕ × Table} (make x.0.0 y.0.0, y.0.1) (c, new) y.2) (keeps-then table x.0.1 y.0.1 (argument_keeps table x.0.1 s x.0.0 x.1) (argument_keeps x.0.1 y.0.1 t y.0.0 y.1))
 
 test_keeps : (table new : Table) (t : Comparison (List ℕ)) (c : Comparison ℕ) → number_test table t ≡ Some (c, new) → take (length table) new ≡ table
 test_keeps table new (Compared r a b) c h = subst (λ (z : Comparison ℕ × Table). take (length table) z.1 ≡ table) (some_is {A = Comparison ℕ × Table} (Compared r a b, table) (c, new) h) (take-length table)
@@ -198,20 +119,29 @@ items_numbered table new (m ∷ ms) bs all h =
 
 -- ---- a rule as it is written
 
-arguments_fit : (seen : Seen) (ws : List Word) → AllByRecursion WordFits ws → AllByRecursion ArgumentFits (in_turn argument seen ws).0 × (length (in_turn argument seen ws).0 ≡ length ws)
-arguments_fit seen [] all = (tt, refl)
-arguments_fit seen (Name t ∷ ws) all = let rest = arguments_fit seen ws all.1 in ((all.0, rest.0), ap suc rest.1)
-arguments_fit seen (Variable x ∷ ws) all = let rest = arguments_fit (argument seen (Variable x)).1 ws all.1 in ((tt, rest.0), ap suc rest.1)
-arguments_fit seen (Number negative ds ∷ ws) all = let rest = arguments_fit seen ws all.1 in ((spelled_fits negative ds all.0, rest.0), ap suc rest.1)
+arguments_fit : (seen : Seen) (ts : List ParsedTerm) → AllByRecursion TermFits ts → AllByRecursion ArgumentFits (in_turn argument seen ts).0
+arguments_fit seen [] all = tt
+arguments_fit seen (t ∷ ts) all = (argument_fits seen t all.0, arguments_fit (argument seen t).1 ts all.1)
 
-free_written : (name : List ℕ) (ws : List Word) → IsUnreserved name ws → Free name ws
+free_same : {A B : Type 0} (t : List ℕ) (as' : List A) (bs : List B) → length bs ≡ length as' → Free t as' → Free t bs
+free_same t [] [] e h = h
+free_same t [] (b ∷ bs) e h = absurd (omega (arith, e))
+free_same t (a ∷ as') [] e h = absurd (omega (arith, e))
+free_same t (a ∷ as') (b ∷ bs) e h = tt
+
+free_written : (name : List ℕ) (ts : List ParsedTerm) → IsUnreserved name ts → Free name ts
 free_written name [] h = h
-free_written name (w ∷ ws) h = tt
+free_written name (t ∷ ts) h = tt
 
 atom_fits : (seen : Seen) (p : ParsedAtom) → ShapeFits p → IsParsedAtom p → TextFits (rule_atom seen p).0
-atom_fits seen p fits free =
-    let args = arguments_fit seen p.args fits.args in
-    record { name = fits.name; args = args.0; few = (let e = args.1 in let le = fits.few in omega (arith, e, le)); free = free_same p.name p.args (in_turn argument seen p.args).0 args.1 (free_written p.name p.args free) }
+atom_fits seen p fits is =
+    let count = turns_count argument seen p.args in
+    record {
+      name = fits.name;
+      args = arguments_fit seen p.args fits.args;
+      few = rw count fits.few;
+      free = free_same p.name p.args (in_turn argument seen p.args).0 count (free_written p.name p.args is.unreserved);
+    }
 
 items_fit : (seen : Seen) (ms : List parsed.BodyMember) → AllByRecursion MemberFits ms → AllByRecursion IsBodyMember ms → AllByRecursion ItemFits (somes (in_turn member seen ms).0)
 items_fit seen [] fits written = tt
@@ -259,26 +189,44 @@ items_held _ _ _ (item x next y e es a more) all = items_held next es y more (st
 
 -- ---- with values in place of the variables
 
-few_terms : (v : ℕ → Value ℕ) (table : Table) (as' : List (Term ℕ)) → length (map (renamed (text_of table)) (map (term_with v) as')) ≡ length as'
+few_terms : (v : ℕ → Value ℕ) (table : Table) (as' : List (Term ℕ)) → length (map (renamed (text_of table)) (map (term_with v) as')) ≡ length (map (argument_renamed (text_of table)) as')
 few_terms v table [] = refl
 few_terms v table (a ∷ as') = ap suc (few_terms v table as')
 
-terms_held : (v : ℕ → Value ℕ) (table : Table) → ((x : ℕ) → CanHold table (v x)) → (as' : List (Term ℕ)) → AllByRecursion (ArgumentHeld table) as' → AllByRecursion FitsTerm (map (renamed (text_of table)) (map (term_with v) as'))
-terms_held v table values [] all = tt
-terms_held v table values (Var x ∷ as') all = (values x, terms_held v table values as' all.1)
-terms_held v table values (Given t ∷ as') all = (all.0, terms_held v table values as' all.1)
+count_with : (v : ℕ → Value ℕ) (table : Table) (ts : Terms ℕ) → args_count (args_renamed (text_of table) (terms_with v ts)) ≡ terms_count (arguments_renamed (text_of table) ts)
+count_with v table End = refl
+count_with v table (And t ts) = ap suc (count_with v table ts)
 
-no_control : (v : ℕ → Value ℕ) (table : Table) (t : List ℕ) (as' : List (Term ℕ)) → Free t as' → is_control t (map (renamed (text_of table)) (map (term_with v) as')) ≡ false
+mutual
+  term_held : (v : ℕ → Value ℕ) (table : Table) → ((x : ℕ) → CanHold table (v x)) → (t : Term ℕ) → ArgumentFits (argument_renamed (text_of table) t) → FitsTerm (renamed (text_of table) (term_with v t))
+  term_held v table values (Var x) fits = values x
+  term_held v table values (Given t) fits = fits
+  term_held v table values (Open s ts) fits = let n = count_with v table ts in (fits.0, rw n fits.1, rw n fits.2, args_held v table values ts fits.3)
+
+  args_held : (v : ℕ → Value ℕ) (table : Table) → ((x : ℕ) → CanHold table (v x)) → (ts : Terms ℕ) → ArgumentsFit (arguments_renamed (text_of table) ts) → ArgsFit (args_renamed (text_of table) (terms_with v ts))
+  args_held v table values End fits = tt
+  args_held v table values (And t ts) fits = (term_held v table values t fits.0, args_held v table values ts fits.1)
+
+terms_held : (v : ℕ → Value ℕ) (table : Table) → ((x : ℕ) → CanHold table (v x)) → (as' : List (Term ℕ)) → AllByRecursion ArgumentFits (map (argument_renamed (text_of table)) as') → AllByRecursion FitsTerm (map (renamed (text_of table)) (map (term_with v) as'))
+terms_held v table values [] all = tt
+terms_held v table values (a ∷ as') all = (term_held v table values a all.0, terms_held v table values as' all.1)
+
+terms_within : (table : Table) (vs : List (Value ℕ)) → AllByRecursion IsWithin vs → AllByRecursion IsWithin (map (renamed (text_of table)) vs)
+terms_within table [] all = tt
+terms_within table (v ∷ vs) all = (within_same (text_of table) v all.0, terms_within table vs all.1)
+
+no_control : (v : ℕ → Value ℕ) (table : Table) (t : List ℕ) (as' : List (Term ℕ)) → Free t (map (argument_renamed (text_of table)) as') → is_control t (map (renamed (text_of table)) (map (term_with v) as')) ≡ false
 no_control v table t [] h = h
 no_control v table t (a ∷ as') h = refl
 
 item_writable : (table : Table) (m : BodyItem ℕ) → ItemHeld table m → AddsWritable table m
 item_writable table (Is x e) held = tt
-item_writable table (Add s) held = λ v values. record {
-  name = held.name;
-  args = terms_held v table values s.args held.args;
-  few = (let e = few_terms v table s.args in let le = held.few in omega (arith, e, le));
-  plain = no_control v table (text_of table s.name) s.args held.free;
+item_writable table (Add s) held = λ v values small. record {
+  name = held.fits.name;
+  args = terms_held v table values s.args held.fits.args;
+  within = terms_within table (map (term_with v) s.args) small;
+  few = (let e = few_terms v table s.args in let le = held.fits.few in omega (arith, e, le));
+  plain = no_control v table (text_of table s.name) s.args held.fits.free;
 }
 
 items_writable : (table : Table) (ms : List (BodyItem ℕ)) → AllByRecursion (ItemHeld table) ms → AllByRecursion (AddsWritable table) ms

@@ -23,6 +23,11 @@ fails_then item_errors.Memory r f h = tt
 fails_then (item_errors.Fault k) None f h = ap (λ (j : Kind). Err j) (kind_is k h)
 fails_then (item_errors.Fault k) (Some x) f h = absurd cc
 
+pub fails_back : {A B : Type 0} (e : ItemError) (r : Option A) (f : A → B) → Fails e (or_full (r >>= λ x. Some (f x))) → Fails e (or_full r)
+fails_back item_errors.Memory r f h = tt
+fails_back (item_errors.Fault k) None f h = ap (λ (j : Kind). Err j) (kind_is k h)
+fails_back (item_errors.Fault k) (Some x) f h = absurd cc
+
 pub each_fails : {A B : Type 0} (f : Table → A → Option (B × Table)) (e : ItemError) (front : List B) (table : Table) (a : A) (as' all : List A) (total : Option (List B × Table))
     → all ≡ a ∷ as' → Fails e (or_full (f table a)) → more front (each f table all) ≡ total → Fails e (or_full total)
 each_fails f e front table a as' all total is h so_far =

@@ -1,36 +1,44 @@
 -- The atoms of posts are atoms that a log can hold.
 use Rattle.std.proofs.Common.{◌≡◌, ◌≤◌, ◌^◌, ℕ, zero, suc, ℤ, pos, Bool, true, false, cond, ltb, leb, List, [], ◌∷◌, ◌++◌, length, take, map, Option, Some, None, Ok, is_none, refl, sym, ap, subst, arith, lit<}
-use Rattle.std.specs.List.{AllByRecursion}
+use Rattle.std.specs.List.{AllByRecursion, list_any}
 use Rattle.std.proofs.lemmas.Bool.{ltb-true}
 use Rattle.std.proofs.Math.Seq.{take-length}
 use Rattle.chr_grammar.proofs.Members_again.{all_append}
 use Rattle.chr_lex.specs.Items.{Item}
 use Rattle.chr_lex.specs.Tokens.{Word, Name, Variable, Number}
-use Rattle.chr_value.specs.Atoms.{Int, Atom, by_texts}
+use Rattle.chr_value.specs.Atoms.{Value, Int, Sym, Comp, args_of, args_count, Atom, by_texts}
 use Rattle.chr_value.specs.Naming.{◌>>=◌, Table, numbered_atom}
-use Rattle.chr_value.specs.Spelling.{is_control, FitsTerm, FitsAtom}
+use Rattle.chr_value.specs.Spelling.{is_control, IsName, FitsTerm, ArgsFit, FitsAtom}
+use Rattle.chr_value.specs.Limits.{IsWithin}
+use Rattle.chr_rule.specs.Rules.{Term, Var, Given, Open, Terms, End, And, terms_of}
+use Rattle.chr_rule.specs.Terms.{terms_count, is_open, IsTerm}
 use Rattle.chr_value.proofs.Chosen.{bind_some, some_is}
 use Rattle.chr_value.proofs.NameLaws.{keeps-then}
 use Rattle.chr_value.proofs.Said.{fact_says}
 use Rattle.chr_value.proofs.Inside.{atom_inside, atom_kept}
-use Rattle.chr_grammar.specs.Parsed.{ParsedAtom}
+use Rattle.chr_grammar.specs.Parsed.{TermNode, ParsedTerm, ParsedAtom}
 use Rattle.chr_grammar.specs.Spelling.{IsUnreserved, IsParsedAtom}
 use Rattle.chr_grammar.proofs.Phrases.{phrases_read}
 use Rattle.chr_limits.specs.Numbers.{decimal_from, minus, whole_number}
 use Rattle.chr_limits.proofs.Standing as standing
-use Rattle.chr_text.specs.Fitting.{TermFits, PostFits}
-use Rattle.chr_text.specs.Translation.{spelled, term, atom_by_texts}
+use Rattle.chr_text.specs.Fitting.{WordFits, NodeFits, TermFits, ValueFits, PostFits}
+use Rattle.chr_text.specs.Translation.{spelled, word_term, placed_word, argument, value_in, value, atom_by_texts}
+use Rattle.chr_text.specs.Variables.{Seen, in_turn}
+use Rattle.chr_text.specs.Terms.{values, with_args}
 use Rattle.chr_text.specs.Numbering.{each}
 use Rattle.chr_text.specs.Reading.{Posts, posts_of}
 use Rattle.chr_text.specs.Forms.{InOrder, no_more, item, AddsAtoms}
 use Rattle.chr_text.specs.Writable.{AreWritable}
 use Rattle.chr_text.proofs.Judged.{posts_fit}
+use Rattle.chr_text.proofs.Limited.{small, count_terms, term_all, nodes_narrow, is_term}
+use Rattle.chr_text.proofs.Nested.{IsWord, can_open, nodes_words}
+use Rattle.chr_text.proofs.Values.{term_given, value_of_given, within_given}
 use Rattle.chr_text.proofs.Plain.{lexemes_plain}
 use Rattle.chr_text.proofs.Spoken.{phrases_are_plain}
 use Rattle.chr_text.proofs.Texts.{item_read}
 use Rattle.chr_text.proofs.PostTexts.{are_posts}
 
--- ---- an atom as it is written
+-- ---- numbers as they are written
 
 minus_fits : (n : ℕ) → n ≤ 2 ^ 63 → FitsTerm (Int (minus n))
 minus_fits zero le = lit< tt
@@ -48,25 +56,89 @@ pub spelled_fits : (negative : Bool) (ds : List ℕ) → is_none (whole_number n
 spelled_fits false ds h = plain_case (decimal_from 0 ds) (ltb (decimal_from 0 ds) (2 ^ 63)) refl h
 spelled_fits true ds h = minus_case (decimal_from 0 ds) (leb (decimal_from 0 ds) (2 ^ 63)) refl h
 
-term_fits : (w : Word) → TermFits w → FitsTerm (term w)
-term_fits (Name t) fits = fits
-term_fits (Variable x) fits = absurd fits
-term_fits (Number negative ds) fits = spelled_fits negative ds fits
+-- ---- a term of a rule
 
-terms_fit : (ws : List Word) → AllByRecursion TermFits ws → AllByRecursion FitsTerm (map term ws)
+-- what is written of a term with variables: names, numbers of 64 bits, and one to eight arguments
+abbrev mutual
+  pub ArgumentFits : Term (List ℕ) → Type 0
+  ArgumentFits (Var x) = Unit {0}
+  ArgumentFits (Given t) = FitsTerm t
+  ArgumentFits (Open s ts) = IsName s × (1 ≤ terms_count ts) × (terms_count ts ≤ 8) × ArgumentsFit ts
+
+  pub ArgumentsFit : Terms (List ℕ) → Type 0
+  ArgumentsFit End = Unit {0}
+  ArgumentsFit (And t ts) = ArgumentFits t × ArgumentsFit ts
+
+arguments_fit : (ts : List (Term (List ℕ))) → AllByRecursion ArgumentFits ts → ArgumentsFit (terms_of ts)
+arguments_fit [] all = tt
+arguments_fit (t ∷ ts) all = (all.0, arguments_fit ts all.1)
+
+values_fit : (ts : List (Term (List ℕ))) → list_any is_open ts ≡ false → AllByRecursion ArgumentFits ts → ArgsFit (args_of (values ts)) × (args_count (args_of (values ts)) ≡ length ts)
+values_fit [] none all = (tt, refl)
+values_fit (Var x ∷ ts) none all = absurd cc
+values_fit (Open s us ∷ ts) none all = absurd cc
+values_fit (Given v ∷ ts) none all = let rest = values_fit ts none all.1 in ((all.0, rest.0), ap suc rest.1)
+
+functor_fits : (s : List ℕ) (ts : List (Term (List ℕ))) (b : Bool) → list_any is_open ts ≡ b → IsName s → AllByRecursion ArgumentFits ts → 1 ≤ length ts → length ts ≤ 8
+    → ArgumentFits (cond b (Open s (terms_of ts)) (Given (Comp s (args_of (values ts)))))
+functor_fits s ts true is name all some few = let n = count_terms ts in (name, rw n some, rw n few, arguments_fit ts all)
+functor_fits s ts false is name all some few = let v = values_fit ts is all in let n = v.1 in (name, rw n some, rw n few, v.0)
+
+word_fits : (w : Term (List ℕ)) (ts : List (Term (List ℕ))) → IsWord w → ArgumentFits w → AllByRecursion ArgumentFits ts → length ts ≤ 8 → (can_open w ≡ false → ts ≡ []) → ArgumentFits (with_args w ts)
+word_fits (Var x) ts word q all few shut = tt
+word_fits (Given (Int z)) ts word q all few shut = q
+word_fits (Given (Sym s)) [] word q all few shut = q
+word_fits (Given (Sym s)) (t ∷ ts) word q all few shut = functor_fits s (t ∷ ts) (list_any is_open (t ∷ ts)) refl q all (omega arith) few
+word_fits (Given (Comp s vs)) ts word q all few shut = absurd word
+word_fits (Open s us) ts word q all few shut = absurd word
+
+node_fits : (seen : Seen) (w : Word) → WordFits w → ArgumentFits (word_term seen w).0
+node_fits seen (Name t) fits = fits
+node_fits seen (Variable x) fits = tt
+node_fits seen (Number negative ds) fits = spelled_fits negative ds fits
+
+nodes_fit : (seen : Seen) (ns : List TermNode) → AllByRecursion NodeFits ns → AllByRecursion (λ w. ArgumentFits w.1) (in_turn placed_word seen ns).0
+nodes_fit seen [] fits = tt
+nodes_fit seen (n ∷ ns) fits = (node_fits seen n.word fits.0, nodes_fit (placed_word seen n).1 ns fits.1)
+
+pub argument_fits : (seen : Seen) (t : ParsedTerm) → TermFits t → ArgumentFits (argument seen t).0
+argument_fits seen t fits =
+    term_all ArgumentFits ArgumentFits word_fits (in_turn placed_word seen t).0 (nodes_words seen t fits.nested) (nodes_narrow seen t (small t fits.small).narrow) (nodes_fit seen t fits.words)
+
+-- ---- an atom of a post
+
+value_fits : (t : ParsedTerm) → ValueFits t → FitsTerm (value t) × IsWithin (value t)
+value_fits t fits =
+    let made = value_of_given (argument [] t).0 (term_given t fits) in
+    let v = made.0 in
+    let is : value t ≡ v = ap value_in made.1 in
+    let fit : ArgumentFits (Given v) = subst ArgumentFits made.1 (argument_fits [] t fits.term) in
+    (subst FitsTerm (sym is) fit, subst IsWithin (sym is) (within_given v (subst IsTerm made.1 (is_term [] t fits.term.small fits.term.nested))))
+
+terms_fit : (ts : List ParsedTerm) → AllByRecursion ValueFits ts → AllByRecursion FitsTerm (map value ts)
 terms_fit [] all = tt
-terms_fit (w ∷ ws) all = (term_fits w all.0, terms_fit ws all.1)
+terms_fit (t ∷ ts) all = ((value_fits t all.0).0, terms_fit ts all.1)
 
-no_control : (name : List ℕ) (ws : List Word) → IsUnreserved name ws → is_control name (map term ws) ≡ false
+terms_within : (ts : List ParsedTerm) → AllByRecursion ValueFits ts → AllByRecursion IsWithin (map value ts)
+terms_within [] all = tt
+terms_within (t ∷ ts) all = ((value_fits t all.0).1, terms_within ts all.1)
+
+no_control : (name : List ℕ) (ts : List ParsedTerm) → IsUnreserved name ts → is_control name (map value ts) ≡ false
 no_control name [] h = h
-no_control name (w ∷ ws) h = refl
+no_control name (t ∷ ts) h = refl
 
-few_terms : (ws : List Word) → length (map term ws) ≡ length ws
+few_terms : (ts : List ParsedTerm) → length (map value ts) ≡ length ts
 few_terms [] = refl
-few_terms (w ∷ ws) = ap suc (few_terms ws)
+few_terms (t ∷ ts) = ap suc (few_terms ts)
 
 post_fits : (p : ParsedAtom) → PostFits p → IsParsedAtom p → FitsAtom (atom_by_texts p)
-post_fits p fits free = record { name = fits.name; args = terms_fit p.args fits.args; few = (let e = few_terms p.args in let le = fits.few in omega (arith, e, le)); plain = no_control p.name p.args free }
+post_fits p fits is = record {
+  name = fits.name;
+  args = terms_fit p.args fits.args;
+  within = terms_within p.args fits.args;
+  few = (let e = few_terms p.args in let le = fits.few in omega (arith, e, le));
+  plain = no_control p.name p.args is.unreserved;
+}
 
 posts_all_fit : (ps : List ParsedAtom) → AllByRecursion PostFits ps → AllByRecursion IsParsedAtom ps → AllByRecursion FitsAtom (map atom_by_texts ps)
 posts_all_fit [] all free = tt

@@ -12,7 +12,7 @@ use Rattle.chr_value.specs.Naming.{Table, numbered_atom}
 use Rattle.chr_grammar.specs.Parsed.{ParsedAtom, ParsedRule, Statement, Declaration, Rule}
 use Rattle.chr_grammar.specs.Spelling.{AreParsedAtoms, AreStatement}
 use Rattle.chr_limits.specs.Words.{is_out_of_range, is_long, is_variable, phrase_has, rule_has}
-use Rattle.chr_limits.specs.Limits.{has_many_args, is_too_large}
+use Rattle.chr_limits.specs.Limits.{has_many_args, has_large_args, is_too_large}
 use Rattle.chr_limits.specs.Scope.{is_in_scope}
 use Rattle.chr_text.specs.Translation.{atom_by_texts, rule}
 use Rattle.chr_text.specs.Numbering.{each, number_rule}
@@ -53,7 +53,9 @@ StatementHas before _ _ = ⊥
 
 abbrev pub PostHas : Posts → List ParsedAtom → Kind → Type 0
 PostHas before atoms NumberRange = list_any (phrase_has is_out_of_range) atoms ≡ true
-PostHas before atoms TooMany = (list_any (phrase_has is_long) atoms ≡ true) ⊎ (list_any has_many_args atoms ≡ true)
+PostHas before atoms TooMany =
+    (list_any (phrase_has is_long) atoms ≡ true) ⊎ (list_any has_many_args atoms ≡ true)
+    ⊎ (list_any has_large_args atoms ≡ true)
 PostHas before atoms Binding = list_any (phrase_has is_variable) atoms ≡ true
 PostHas before atoms NamesFull = each numbered_atom before.1 (map atom_by_texts atoms) ≡ None
 PostHas before atoms _ = ⊥

@@ -4,9 +4,12 @@ use Rattle.std.specs.List.{list_all, AllByRecursion}
 use Rattle.chr_value.specs.Spelling.{is_name_byte, begins_lower, is_operator, IsName}
 use Rattle.chr_lex.specs.Tokens.{Word, Name, Variable, Number}
 use Rattle.chr_grammar.specs.Parsed as parsed
-use Rattle.chr_grammar.specs.Parsed.{ParsedAtom, GuardMember, BodyMember, ParsedRule}
+use Rattle.chr_grammar.specs.Parsed.{ParsedTerm, ParsedAtom, GuardMember, BodyMember, ParsedRule}
+use Rattle.chr_grammar.specs.Spelling.{IsParsedTerm}
 use Rattle.chr_rule.specs.Scope.{IsRule}
 use Rattle.chr_limits.specs.Numbers.{whole_number}
+use Rattle.chr_limits.specs.Words.{is_variable, term_has}
+use Rattle.chr_limits.specs.Limits.{is_large_term}
 use Rattle.chr_text.specs.Translation.{expression, after_body, rule}
 use Rattle.chr_text.specs.Variables.{Seen, number_variable}
 
@@ -15,16 +18,24 @@ WordFits (Name t) = IsName t
 WordFits (Variable x) = Unit {0}
 WordFits (Number negative ds) = is_none (whole_number negative ds) ≡ false
 
--- a term of a post, which is no variable
-abbrev pub TermFits : Word → Type 0
-TermFits (Name t) = IsName t
-TermFits (Variable x) = ⊥
-TermFits (Number negative ds) = is_none (whole_number negative ds) ≡ false
+abbrev pub NodeFits : parsed.TermNode → Type 0
+NodeFits n = WordFits n.word
+
+-- a term within the limits, as the grammar has it
+pub record TermFits (t : ParsedTerm) : Type 0 where
+  pub words : AllByRecursion NodeFits t
+  pub small : is_large_term t ≡ false
+  pub nested : IsParsedTerm t
+
+-- a term of a post, in which no variable stands
+pub record ValueFits (t : ParsedTerm) : Type 0 where
+  pub term : TermFits t
+  pub given : term_has is_variable t ≡ false
 
 -- an atom of a post
 pub record PostFits (p : ParsedAtom) : Type 0 where
   pub name : IsName p.name
-  pub args : AllByRecursion TermFits p.args
+  pub args : AllByRecursion ValueFits p.args
   pub few : length p.args ≤ 8
 
 abbrev pub FormulaFits : parsed.ParsedExpression → Type 0
@@ -43,14 +54,14 @@ ExpressionFits seen (parsed.Operation o a b) = ExpressionFits seen a × Expressi
 -- an atom of a rule
 pub record ShapeFits (p : ParsedAtom) : Type 0 where
   pub name : IsName p.name
-  pub args : AllByRecursion WordFits p.args
+  pub args : AllByRecursion TermFits p.args
   pub few : length p.args ≤ 8
 
 abbrev pub TestFits : GuardMember → Type 0
 TestFits parsed.Always = Unit {0}
 TestFits (parsed.Compared r a b) = FormulaFits a × FormulaFits b
-TestFits (parsed.Same s t) = WordFits s × WordFits t
-TestFits (parsed.Differ s t) = WordFits s × WordFits t
+TestFits (parsed.Same s t) = TermFits s × TermFits t
+TestFits (parsed.Differ s t) = TermFits s × TermFits t
 
 abbrev pub MemberFits : BodyMember → Type 0
 MemberFits parsed.Nothing = Unit {0}
@@ -79,14 +90,21 @@ WordPlain (Name t) = NamePlain t
 WordPlain (Variable x) = Unit {0}
 WordPlain (Number negative ds) = Unit {0}
 
+abbrev pub NodePlain : parsed.TermNode → Type 0
+NodePlain n = WordPlain n.word
+
+-- a term as the grammar has it
+abbrev pub TermPlain : ParsedTerm → Type 0
+TermPlain t = IsParsedTerm t × AllByRecursion NodePlain t
+
 abbrev pub PhrasePlain : ParsedAtom → Type 0
-PhrasePlain p = NamePlain p.name × AllByRecursion WordPlain p.args
+PhrasePlain p = NamePlain p.name × AllByRecursion TermPlain p.args
 
 abbrev pub TestPlain : GuardMember → Type 0
 TestPlain parsed.Always = Unit {0}
 TestPlain (parsed.Compared r a b) = Unit {0}
-TestPlain (parsed.Same s t) = WordPlain s × WordPlain t
-TestPlain (parsed.Differ s t) = WordPlain s × WordPlain t
+TestPlain (parsed.Same s t) = TermPlain s × TermPlain t
+TestPlain (parsed.Differ s t) = TermPlain s × TermPlain t
 
 abbrev pub MemberPlain : BodyMember → Type 0
 MemberPlain parsed.Nothing = Unit {0}

@@ -1,5 +1,8 @@
 pub mod Tables
 pub mod Variables
+pub mod Terms
+pub mod Words
+pub mod Trees
 pub mod Translation
 pub mod Numbering
 pub mod Fitting

@@ -3,7 +3,8 @@ use Rattle.std.specs.Prelude.{ℕ, List, [], ◌∷◌, ◌++◌, Option, Some, 
 use Rattle.chr_lex.specs.declared.fault.Kind.{Kind}
 use Rattle.chr_lex.specs.declared.fault.Kind.TheVariants.{NamesFull}
 use Rattle.chr_value.specs.Naming.{◌>>=◌, Table, number_name, numbered_value}
-use Rattle.chr_rule.specs.Rules.{Term, Var, Given, RuleAtom, Comparison, Compared, Same, Differ, BodyItem, Is, Add, Simpagation, of_parts}
+use Rattle.chr_rule.specs.Rules.{Term, Var, Given, Open, Terms, End, And, RuleAtom, Comparison, Compared, Same, Differ, BodyItem, Is, Add, Simpagation, of_parts}
+use Rattle.chr_text.specs.Terms.{Placed}
 
 -- each from left to right, over the table that the one before it left
 abbrev pub each : {A B : Type 0} → (Table → A → Option (B × Table)) → Table → List A → Option (List B × Table)
@@ -23,9 +24,20 @@ abbrev pub put : {B : Type 0} → Option B → List B
 put None = []
 put (Some x) = x ∷ []
 
-abbrev pub numbered_term : Table → Term (List ℕ) → Option (Term ℕ × Table)
-numbered_term table (Var x) = Some (Var x, table)
-numbered_term table (Given t) = numbered_value table t >>= λ x. Some (Given x.0, x.1)
+-- a term: a functor's name comes before those of its arguments
+abbrev mutual
+  pub numbered_term : Table → Term (List ℕ) → Option (Term ℕ × Table)
+  numbered_term table (Var x) = Some (Var x, table)
+  numbered_term table (Given t) = numbered_value table t >>= λ x. Some (Given x.0, x.1)
+  numbered_term table (Open t ts) = number_name table t >>= λ n. numbered_terms n.1 ts >>= λ xs. Some (Open n.0 xs.0, xs.1)
+
+  pub numbered_terms : Table → Terms (List ℕ) → Option (Terms ℕ × Table)
+  numbered_terms table End = Some (End, table)
+  numbered_terms table (And t ts) = numbered_term table t >>= λ x. numbered_terms x.1 ts >>= λ xs. Some (And x.0 xs.0, xs.1)
+
+-- a word of a term where it stands
+abbrev pub numbered_word : Table → Placed (List ℕ) → Option (Placed ℕ × Table)
+numbered_word table w = numbered_term table w.1 >>= λ x. Some ((w.0, x.0), x.1)
 
 -- a constraint: its name, then its arguments
 abbrev pub numbered_rule_atom : Table → RuleAtom (List ℕ) → Option (RuleAtom ℕ × Table)

@@ -1,10 +1,16 @@
 -- The variables at the places of a rule, in the order of its text.
 use Rattle.std.specs.Prelude.{ℕ, List, [], ◌∷◌, ◌++◌, flat_map}
-use Rattle.chr_rule.specs.Rules.{Term, Var, Given, RuleAtom, Expression, Number, Variable, Operation, Comparison, Compared, Same, Differ, BodyItem, Is, Add, Simpagation}
+use Rattle.chr_rule.specs.Rules.{Term, Var, Given, Open, Terms, End, And, RuleAtom, Expression, Number, Variable, Operation, Comparison, Compared, Same, Differ, BodyItem, Is, Add, Simpagation}
 
-abbrev pub term_places : {N : Type 0} → Term N → List ℕ
-term_places (Var x) = x ∷ []
-term_places (Given t) = []
+abbrev mutual
+  pub term_places : {N : Type 0} → Term N → List ℕ
+  term_places (Var x) = x ∷ []
+  term_places (Given t) = []
+  term_places (Open s ts) = terms_places ts
+
+  pub terms_places : {N : Type 0} → Terms N → List ℕ
+  terms_places End = []
+  terms_places (And t ts) = term_places t ++ terms_places ts
 
 abbrev pub atom_places : {N : Type 0} → RuleAtom N → List ℕ
 atom_places s = flat_map term_places s.args

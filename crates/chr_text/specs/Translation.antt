@@ -1,11 +1,12 @@
 -- Rules and atoms as they are written, by the texts of their names: variables have their numbers, and `true` and parentheses are gone.
 use Rattle.std.specs.Prelude.{ℕ, ℤ, pos, Bool, true, false, List, [], ◌∷◌, map, length, Option, Some, None}
 use Rattle.chr_value.specs.Atoms.{Value, Int, Sym, Atom}
-use Rattle.chr_rule.specs.Rules.{Term, Var, Given, RuleAtom, Expression, Number, Variable, Operation, Comparison, Compared, Same, Differ, BodyItem, Is, Add, Simpagation, of_parts}
+use Rattle.chr_rule.specs.Rules.{Term, Var, Given, Open, RuleAtom, Expression, Number, Variable, Operation, Comparison, Compared, Same, Differ, BodyItem, Is, Add, Simpagation, of_parts}
 use Rattle.chr_lex.specs.Tokens.{Word}
 use Rattle.chr_lex.specs.Tokens as words
 use Rattle.chr_grammar.specs.Parsed as parsed
 use Rattle.chr_limits.specs.Numbers.{decimal_from, minus}
+use Rattle.chr_text.specs.Terms.{Placed, term_of_words}
 use Rattle.chr_text.specs.Variables.{Seen, number_variable, in_turn}
 
 -- the number that a sign and digits spell
@@ -13,23 +14,36 @@ abbrev pub spelled : Bool → List ℕ → ℤ
 spelled false ds = pos (decimal_from 0 ds)
 spelled true ds = minus (decimal_from 0 ds)
 
+-- ---- terms
+
+abbrev pub word_term : Seen → Word → Term (List ℕ) × Seen
+word_term seen (words.Name t) = (Given (Sym t), seen)
+word_term seen (words.Variable x) = (Var (number_variable seen x).0, (number_variable seen x).1)
+word_term seen (words.Number negative ds) = (Given (Int (spelled negative ds)), seen)
+
+-- in as many parentheses as before
+abbrev pub placed_word : Seen → parsed.TermNode → Placed (List ℕ) × Seen
+placed_word seen n = ((n.depth, (word_term seen n.word).0), (word_term seen n.word).1)
+
+abbrev pub argument : Seen → parsed.ParsedTerm → Term (List ℕ) × Seen
+argument seen t = (term_of_words (in_turn placed_word seen t).0, (in_turn placed_word seen t).1)
+
 -- ---- posts
 
+-- the value that a term without variables is
+abbrev pub value_in : Term (List ℕ) → Value (List ℕ)
+value_in (Given v) = v
+value_in (Var x) = Sym []
+value_in (Open s ts) = Sym []
+
 -- a term of a post, in which no variable stands
-abbrev pub term : Word → Value (List ℕ)
-term (words.Name t) = Sym t
-term (words.Variable x) = Sym x
-term (words.Number negative ds) = Int (spelled negative ds)
+abbrev pub value : parsed.ParsedTerm → Value (List ℕ)
+value t = value_in (argument [] t).0
 
 abbrev pub atom_by_texts : parsed.ParsedAtom → Atom (List ℕ)
-atom_by_texts p = record { name = p.name; args = map term p.args }
+atom_by_texts p = record { name = p.name; args = map value p.args }
 
 -- ---- rules
-
-abbrev pub argument : Seen → Word → Term (List ℕ) × Seen
-argument seen (words.Name t) = (Given (Sym t), seen)
-argument seen (words.Variable x) = (Var (number_variable seen x).0, (number_variable seen x).1)
-argument seen (words.Number negative ds) = (Given (Int (spelled negative ds)), seen)
 
 abbrev pub rule_atom : Seen → parsed.ParsedAtom → RuleAtom (List ℕ) × Seen
 rule_atom seen p = (record { name = p.name; args = (in_turn argument seen p.args).0 }, (in_turn argument seen p.args).1)

@@ -1,58 +1,29 @@
 //! Rules from what is written: names and variables get their numbers.
 ghost use Rattle.std.specs.Prelude.{◌≡◌, ◌≤◌, ◌++◌, map, length, IfOk, OnOk, IfErr};
 ghost use Rattle.std.specs.Option.{option_map};
-ghost use Rattle.std.specs.List.{AllByRecursion, position_or_len};
-ghost use Rattle.std.specs.Str.{bytes_eq};
+ghost use Rattle.std.specs.List.{AllByRecursion};
 ghost use Rattle.chr_lex.specs.Reading.{Gives};
-ghost use Rattle.chr_lex.specs.Tokens.{word};
 ghost use Rattle.chr_grammar.specs.Views as by_texts;
 ghost use Rattle.chr_limits.specs.Views.{names as texts};
-ghost use Rattle.chr_rule.specs.Parts.{argument, shape, expression, comparison, member as item_of};
+ghost use Rattle.chr_rule.specs.Parts.{shape, expression, comparison, member as item_of};
 ghost use Rattle.chr_rule.specs.Rules.{Operation};
-ghost use Rattle.chr_text.specs.Fitting.{WordFits, ShapeFits, ExpressionFits, TestFits, MemberFits, RuleFits};
+ghost use Rattle.chr_text.specs.Fitting.{ShapeFits, ExpressionFits, TestFits, MemberFits, RuleFits};
 ghost use Rattle.chr_text.specs.Numbering as numbering;
 ghost use Rattle.chr_text.specs.Numbering.{or_full, each, maybe, put};
 ghost use Rattle.chr_text.specs.Translation as raw;
 ghost use Rattle.chr_text.specs.Translation.{somes};
-ghost use Rattle.chr_text.specs.Variables.{in_turn, number_variable as number_of};
+ghost use Rattle.chr_text.specs.Variables.{in_turn};
 ghost use Rattle.chr_text.specs.Tables.{Table, Keeps};
 
 use crate::naming::number_name;
-use arrayvec::ArrayVec;
+use crate::terms::{number_term, number_terms};
+use crate::variables::number_variable;
 use chr_grammar::{BodyMember, GuardMember, ParsedAtom, ParsedExpression, ParsedRule};
-use chr_lex::Word;
 use chr_lex::fault::ItemError;
-use chr_limits::{Seen, int_in_range, is_seen};
-use chr_rule::{BodyItem, Comparison, Expr, Operator, Rule, RuleAtom, Term};
-use chr_value::{Names, Value};
+use chr_limits::{Seen, int_in_range};
+use chr_rule::{BodyItem, Comparison, Expr, Operator, Rule, RuleAtom};
+use chr_value::Names;
 use std::alloc::{AllocError, Allocator};
-
-/// The place of a variable among those that were seen.
-fn place_of(seen: &[&[u8]], name: &[u8]) -> usize
-    ensures place { result ≡ position_or_len (bytes_eq name.now) (texts seen.now) }
-    ensures within { result ≤ length seen.now }
-{
-    for (place, other) in seen.iter().enumerate() {
-        if name == *other {
-            return place;
-        }
-    }
-    seen.len()
-}
-
-/// The number of a variable, which gets the next one where it is new. `_` is new at each place.
-fn number_variable<'a>(seen: &mut Seen<'a>, name: &'a [u8]) -> u8
-    requires { length (number_of (texts seen.old.items) name.now).1 ≤ 24 }
-    ensures number { result ≡ (number_of (texts seen.old.items) name.now).0 }
-    ensures seen { texts seen.new.items ≡ (number_of (texts seen.old.items) name.now).1 }
-{
-    if is_seen(seen, name) {
-        return place_of(seen, name) as u8;
-    }
-    let number = seen.len();
-    seen.push(name);
-    number as u8
-}
 
 fn push_some<T: Drop, A: Allocator>(out: &mut Vec<T, A>, item: Option<T>) -> Result<(), AllocError>
     ensures { OnOk result (out.new.items ≡ out.old.items ++ put item) }
@@ -63,52 +34,13 @@ fn push_some<T: Drop, A: Allocator>(out: &mut Vec<T, A>, item: Option<T>) -> Res
     Ok(())
 }
 
-fn number_term<'a, A: Allocator + Copy>(
-    names: &mut Names<A>,
-    seen: &mut Seen<'a>,
-    term: Word<'a>,
-) -> Result<Term, ItemError>
-    requires fits { WordFits (word term) }
-    requires room { length (raw.argument (texts seen.old.items) (word term)).1 ≤ 24 }
-    ensures gives { Gives (λ t. (argument t, names.new)) result (or_full (numbering.numbered_term names.old (raw.argument (texts seen.old.items) (word term.entry)).0)) }
-    ensures seen { OnOk result (texts seen.new.items ≡ (raw.argument (texts seen.old.items) (word term.entry)).1) }
-    ensures keeps { (t : Table) → Keeps t names.old → Keeps t names.new }
-{
-    match term {
-        Word::Variable(name) => Ok(Term::Var(number_variable(seen, name))),
-        Word::Name(name) => Ok(Term::Value(Value::Sym(number_name(names, name)?))),
-        Word::Number { negative, digits } => {
-            Ok(Term::Value(Value::Int(int_in_range(negative, digits))))
-        }
-    }
-}
-
-fn number_terms<'a, A: Allocator + Copy>(
-    names: &mut Names<A>,
-    seen: &mut Seen<'a>,
-    terms: &[Word<'a>],
-) -> Result<ArrayVec<Term, 8>, ItemError>
-    requires fits { AllByRecursion WordFits (map word terms.now) }
-    requires few { length terms.now ≤ 8 }
-    requires room { length (in_turn raw.argument (texts seen.old.items) (map word terms.now)).1 ≤ 24 }
-    ensures gives { Gives (λ v. (map argument v.items, names.new)) result (or_full (each numbering.numbered_term names.old (in_turn raw.argument (texts seen.old.items) (map word terms.now)).0)) }
-    ensures seen { OnOk result (texts seen.new.items ≡ (in_turn raw.argument (texts seen.old.items) (map word terms.now)).1) }
-    ensures keeps { (t : Table) → Keeps t names.old → Keeps t names.new }
-{
-    let mut arguments = ArrayVec::new();
-    for term in terms {
-        let argument = number_term(names, seen, *term)?;
-        arguments.push(argument);
-    }
-    Ok(arguments)
-}
-
 /// A constraint of a rule: its name, then its arguments.
 fn number_phrase<'a, A: Allocator + Copy>(
+    alloc: A,
     names: &mut Names<A>,
     seen: &mut Seen<'a>,
     phrase: &ParsedAtom<'a, A>,
-) -> Result<RuleAtom, ItemError>
+) -> Result<RuleAtom<A>, ItemError>
     requires fits { ShapeFits (by_texts.phrase phrase.now) }
     requires room { length (raw.rule_atom (texts seen.old.items) (by_texts.phrase phrase.now)).1 ≤ 24 }
     ensures gives { Gives (λ p. (shape p, names.new)) result (or_full (numbering.numbered_rule_atom names.old (raw.rule_atom (texts seen.old.items) (by_texts.phrase phrase.now)).0)) }
@@ -116,7 +48,7 @@ fn number_phrase<'a, A: Allocator + Copy>(
     ensures keeps { (t : Table) → Keeps t names.old → Keeps t names.new }
 {
     let name = number_name(names, phrase.name)?;
-    let terms = number_terms(names, seen, &phrase.args)?;
+    let terms = number_terms(alloc, names, seen, &phrase.args)?;
     Ok(RuleAtom { name, terms })
 }
 
@@ -125,7 +57,7 @@ fn number_phrases<'a, A: Allocator + Copy>(
     names: &mut Names<A>,
     seen: &mut Seen<'a>,
     phrases: &[ParsedAtom<'a, A>],
-) -> Result<Vec<RuleAtom, A>, ItemError>
+) -> Result<Vec<RuleAtom<A>, A>, ItemError>
     requires fits { AllByRecursion ShapeFits (map by_texts.phrase phrases.now) }
     requires room { length (in_turn raw.rule_atom (texts seen.old.items) (map by_texts.phrase phrases.now)).1 ≤ 24 }
     ensures gives { Gives (λ v. (map shape v.items, names.new)) result (or_full (each numbering.numbered_rule_atom names.old (in_turn raw.rule_atom (texts seen.old.items) (map by_texts.phrase phrases.now)).0)) }
@@ -134,7 +66,7 @@ fn number_phrases<'a, A: Allocator + Copy>(
 {
     let mut patterns = Vec::new(alloc);
     for phrase in phrases {
-        let pattern = number_phrase(names, seen, phrase)?;
+        let pattern = number_phrase(alloc, names, seen, phrase)?;
         patterns.push(pattern)?;
     }
     Ok(patterns)
@@ -196,13 +128,13 @@ fn number_test<'a, A: Allocator + Copy>(
             Ok(Some(Comparison::Numbers(*relation, left, right)))
         }
         GuardMember::Same(left, right) => {
-            let left = number_term(names, seen, *left)?;
-            let right = number_term(names, seen, *right)?;
+            let left = number_term(alloc, names, seen, left)?;
+            let right = number_term(alloc, names, seen, right)?;
             Ok(Some(Comparison::Same(left, right)))
         }
         GuardMember::Differ(left, right) => {
-            let left = number_term(names, seen, *left)?;
-            let right = number_term(names, seen, *right)?;
+            let left = number_term(alloc, names, seen, left)?;
+            let right = number_term(alloc, names, seen, right)?;
             Ok(Some(Comparison::Differ(left, right)))
         }
     }
@@ -250,7 +182,7 @@ fn number_member<'a, A: Allocator + Copy>(
             Ok(Some(BodyItem::Is(variable, expression)))
         }
         BodyMember::Add(phrase) => {
-            let pattern = number_phrase(names, seen, phrase)?;
+            let pattern = number_phrase(alloc, names, seen, phrase)?;
             Ok(Some(BodyItem::Add(pattern)))
         }
     }

@@ -5,11 +5,13 @@ ghost use Rattle.std.specs.Prelude.{◌≡◌, ◌↔◌, ◌++◌, ℕ, true, f
 ghost use Rattle.chr_lex.specs.declared.fault.ReadFault.{ReadFault};
 ghost use Rattle.chr_value.specs.Naming.{Table};
 ghost use Rattle.chr_rule.specs.Scope.{variable_count};
-ghost use Rattle.chr_grammar.specs.Parsed.{ParsedRule};
+ghost use Rattle.chr_grammar.specs.Parsed.{ParsedTerm, ParsedRule};
+ghost use Rattle.chr_grammar.specs.Spelling.{IsParsedTerm, IsParsedRule};
 ghost use Rattle.chr_limits.specs.Variables.{is_blank, variables_of};
 ghost use Rattle.chr_limits.specs.Scope.{is_in_scope};
-ghost use Rattle.chr_text.specs.Variables.{numbers};
-ghost use Rattle.chr_text.specs.Translation.{rule};
+ghost use Rattle.chr_text.specs.Terms.{words_of};
+ghost use Rattle.chr_text.specs.Variables.{Seen, in_turn, numbers};
+ghost use Rattle.chr_text.specs.Translation.{placed_word, argument, rule};
 ghost use Rattle.chr_text.specs.Places.{places};
 ghost use Rattle.chr_text.specs.Reading.{Program, program_of, Posts, posts_of};
 ghost use Rattle.chr_text.specs.Forms.{IsProgramText, ArePosts};
@@ -51,18 +53,24 @@ pub fn post_faults_by_their_forms()
 /// The variables of a rule have the numbers of their names at the places of its text. Two places have one number exactly
 /// where they have one name and it is not `_`.
 pub fn variables_by_their_names()
-    ensures places { (r : ParsedRule) → places (rule r) ≡ numbers (variables_of r) }
+    ensures places { (r : ParsedRule) → IsParsedRule r → places (rule r) ≡ numbers (variables_of r) }
     ensures same { (names : List (List ℕ)) (i j : ℕ) (x y : List ℕ) (m n : ℕ) → (i ≡ j → ⊥) → slice_get names i ≡ Some x → slice_get names j ≡ Some y → slice_get (numbers names) i ≡ Some m → slice_get (numbers names) j ≡ Some n → (m ≡ n) ↔ ((x ≡ y) × (is_blank x ≡ false)) }
+{}
+
+/// The words of a term in text order, each with how many parentheses it stands in, are those of the text. So the arguments
+/// of a functor are what is written behind it in its parentheses.
+pub fn terms_by_their_words()
+    ensures { (seen : Seen) (t : ParsedTerm) → IsParsedTerm t → words_of 0 (argument seen t).0 ≡ (in_turn placed_word seen t).0 }
 {}
 
 /// A rule is judged to be in scope exactly where the rule by numbers has as many variables as it says, each with a value
 /// where it is used.
 pub fn scope_by_numbers()
-    ensures { (r : ParsedRule) → (is_in_scope r ≡ true) ↔ (variable_count ((rule r).kept ++ (rule r).removed) (rule r).guard (rule r).body ≡ Some (rule r).variables) }
+    ensures { (r : ParsedRule) → IsParsedRule r → (is_in_scope r ≡ true) ↔ (variable_count ((rule r).kept ++ (rule r).removed) (rule r).guard (rule r).body ≡ Some (rule r).variables) }
 {}
 
 /// A log can hold each atom of posts that are read, and each atom that a rule of a program that is read adds, where the
-/// values of the rule's variables are such that atoms of a log can have them.
+/// values of the rule's variables are such that atoms of a log can have them, and the arguments are within the limits.
 pub fn what_is_read_can_be_written()
     ensures posts { (table : Table) (bytes : List ℕ) (p : Posts) → posts_of table bytes ≡ Ok p → AreWritable p.1 p.0 }
     ensures rules { (table : Table) (bytes : List ℕ) (p : Program) → program_of table bytes ≡ Ok p → HasWritable p.1 p.0 }

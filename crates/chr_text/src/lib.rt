@@ -10,6 +10,10 @@
 //! table after it, or the first fault, and the calls give just that unless memory runs out. A rule is first given by
 //! the texts of its names, with its variables numbered in the order of its text (`rule`); then its names are numbered
 //! from left to right over the table (`number_rule`). What the judges let pass is always a rule.
+//!
+//! A term comes as its words in text order. All of them are numbered, a functor before its arguments, and only then is the
+//! term built, from the last word to the first: each word takes the terms that stand deeper behind it (`term_of_words`). So
+//! no call goes as deep as a text nests, and the words of the term are those of the text ([`laws`]).
 #![tactic(auto)]
 
 mod build;
@@ -17,5 +21,9 @@ pub mod laws;
 mod naming;
 mod posts;
 mod reading;
+mod terms;
+mod trees;
+mod variables;
+mod words;
 
 pub use reading::{MOST_BYTES, read_atoms, read_program};

@@ -2,33 +2,38 @@
 ghost use Rattle.std.specs.Prelude.{◌≡◌, ◌++◌, map};
 ghost use Rattle.std.specs.List.{AllByRecursion};
 ghost use Rattle.chr_lex.specs.Reading.{Gives};
-ghost use Rattle.chr_lex.specs.Tokens.{word};
 ghost use Rattle.chr_grammar.specs.Views as by_texts;
 ghost use Rattle.chr_value.specs.Atoms.{ground};
 ghost use Rattle.chr_value.specs.Naming.{numbered_value, numbered_atom};
-ghost use Rattle.chr_text.specs.Fitting.{TermFits, PostFits};
+ghost use Rattle.chr_text.specs.Fitting.{ValueFits, PostFits};
 ghost use Rattle.chr_text.specs.Numbering.{or_full, each, more};
-ghost use Rattle.chr_text.specs.Translation.{term as term_of, atom_by_texts};
+ghost use Rattle.chr_text.specs.Translation.{value as value_of, atom_by_texts};
 ghost use Rattle.chr_text.specs.Tables.{Table, Keeps};
 
 use crate::naming::number_name;
-use chr_grammar::ParsedAtom;
-use chr_lex::Word;
+use crate::terms::number_term;
+use chr_grammar::{ParsedAtom, ParsedTerm};
 use chr_lex::fault::ItemError;
-use chr_limits::int_in_range;
+use chr_limits::Seen;
+use chr_rule::Term;
 use chr_value::{Atom, Names, Value};
 use std::alloc::Allocator;
 
-/// A name's number or a number.
-fn number_term<A: Allocator + Copy>(names: &mut Names<A>, term: Word) -> Result<Value, ItemError>
-    requires { TermFits (word term) }
-    ensures gives { Gives (λ v. (ground v, names.new)) result (or_full (numbered_value names.old (term_of (word term.entry)))) }
+/// A value: a term without variables.
+fn number_value<A: Allocator + Copy>(
+    alloc: A,
+    names: &mut Names<A>,
+    term: &ParsedTerm<'_, A>,
+) -> Result<Value<A>, ItemError>
+    requires { ValueFits (by_texts.term term.now) }
+    ensures gives { Gives (λ v. (ground v, names.new)) result (or_full (numbered_value names.old (value_of (by_texts.term term.now)))) }
     ensures keeps { (t : Table) → Keeps t names.old → Keeps t names.new }
 {
-    match term {
-        Word::Variable(_) => unreachable!(),
-        Word::Name(name) => Ok(Value::Sym(number_name(names, name)?)),
-        Word::Number { negative, digits } => Ok(Value::Int(int_in_range(negative, digits))),
+    let mut seen = Seen::new();
+    match number_term(alloc, names, &mut seen, term)? {
+        Term::Given(value) => Ok(value),
+        Term::Var(_) => unreachable!(),
+        Term::Open(_) => unreachable!(),
     }
 }
 
@@ -45,7 +50,8 @@ fn number_post<A: Allocator + Copy>(
     let name = number_name(names, phrase.name)?;
     let mut atom = Atom::new(alloc, name);
     for term in &phrase.args {
-        atom.push(number_term(names, *term)?);
+        let value = number_value(alloc, names, term)?;
+        atom.push(value)?;
     }
     Ok(atom)
 }

@@ -1,6 +1,7 @@
 -- A ticket whose search passes over trials, in its place.
-use Rattle.std.proofs.Common.{◌≡◌, ℕ, zero, suc, ◌+◌, ◌-◌, false, List, Some, length, set, get_or, refl, sym, ap, ◌∙◌, arith}
+use Rattle.std.proofs.Common.{◌≡◌, ℕ, zero, suc, ◌+◌, ◌-◌, false, List, Option, Some, length, set, get_or, refl, sym, ap, ◌∙◌, arith}
 use Rattle.std.proofs.lemmas.List.{get_or-set_same}
+use Rattle.chr_value.specs.Atoms.{Value}
 use Rattle.chr_search.specs.Trials.{Space}
 use Rattle.chr_search.specs.declared.search.Instance.{Instance}
 use Rattle.chr_search.specs.declared.search.Passed.{Passed}
@@ -17,8 +18,8 @@ same_mark : (n : ℕ) (place : List ℕ) (x : Ticket) → (gone_over n place x).
 same_mark zero place x = refl
 same_mark (suc n) place x = refl
 
-pub still_unmarked : {s : Space} {passed : Passed} {instance : Instance} {x after : Ticket} → PassesOver s passed instance x after → x.stray ≡ false → after.stray ≡ false
-still_unmarked {s} {passed} {instance} {x} {after} over unmarked = ap (λ (y : Ticket). y.stray) over.after_is ∙ same_mark passed.count over.place x ∙ unmarked
+pub still_unmarked : {s : Space} {passed : Passed} {instance : Instance} {binding : List (Option (Value ℕ))} {x after : Ticket} → PassesOver s passed instance binding x after → x.stray ≡ false → after.stray ≡ false
+still_unmarked {s} {passed} {instance} {binding} {x} {after} over unmarked = ap (λ (y : Ticket). y.stray) over.after_is ∙ same_mark passed.count over.place x ∙ unmarked
 
 -- the tickets then, and what they have there
 pub tickets_are : {Z : Type 0} {L : List Ticket} {x : CodeTicket Z} (first : ℕ) (slots : List (Slot Z)) (t : ℕ) (w : CodeTicket Z) → listed first slots ≡ L → (ticket_at L t ≡ ended → ⊥) → Some x ≡ get_or slots (t - first) (Some x) → listed first (set slots (t - first) (Some w)) ≡ set L t (shown_ticket w)

@@ -66,6 +66,11 @@ active_open L t is e = let z : Ended ≡ Numbered is.0 = ap (λ (x : Ticket). x.
 pub stray_open : (L : List Ticket) (t : ℕ) → IsStray L t → ticket_at L t ≡ ended → ⊥
 stray_open L t is e = false≢true (ap (λ (x : Ticket). x.stray) (sym e) ∙ is)
 
+-- ---- it waits
+
+pub waiting_here : (L : List Ticket) (t : ℕ) (x : Ticket) → ticket_at L t ≡ x → state_of L t ≡ states.Waiting → state_in x ≡ states.Waiting
+waiting_here L t x e is = ap state_in (sym e) ∙ state_found L t states.Waiting is (λ k. cc)
+
 -- ---- it is active
 
 pub resting_active : (L : List Ticket) (t : ℕ) (x : Ticket) → ticket_at L t ≡ x → state_of L t ≡ states.Resting → IsActiveGoal x.goal

@@ -1,5 +1,6 @@
 -- Tickets whose searches pass over trials.
-use Rattle.std.specs.Prelude.{◌≡◌, ℕ, zero, suc, List}
+use Rattle.std.specs.Prelude.{◌≡◌, ℕ, zero, suc, List, Option}
+use Rattle.chr_value.specs.Atoms.{Value}
 use Rattle.chr_search.specs.Trials.{Space}
 use Rattle.chr_search.specs.Passing.{Passes, IsThen}
 use Rattle.chr_search.specs.declared.search.Instance.{Instance}
@@ -11,9 +12,9 @@ abbrev pub gone_over : ℕ → List ℕ → Ticket → Ticket
 gone_over zero place x = x
 gone_over (suc n) place x = going_on place x
 
--- the ticket's search passes over trials, and comes to a place, where this is next
-pub record PassesOver (s : Space) (passed : Passed) (instance : Instance) (x after : Ticket) : Type 0 where
+-- the ticket's search passes over trials, and comes to a place, where this is next, under this binding
+pub record PassesOver (s : Space) (passed : Passed) (instance : Instance) (binding : List (Option (Value ℕ))) (x after : Ticket) : Type 0 where
   pub place : List ℕ
   pub passes : Passes s passed.count x.position place
-  pub next : IsThen s place passed.then instance
+  pub next : IsThen s place passed.then instance binding
   pub after_is : after ≡ gone_over passed.count place x

@@ -1,23 +1,25 @@
 //! A ticket that is open.
-ghost use Rattle.std.specs.Prelude.{◌≡◌, ℕ, ◌≤◌, MatchOption};
+ghost use Rattle.std.specs.Prelude.{◌≡◌, ℕ, ◌≤◌, Some, MatchOption};
 ghost use Rattle.std.specs.Option.{option_copied};
 ghost use Rattle.chr_model.specs.Goals.{Numbered};
 ghost use Rattle.chr_plan.specs.Plans.{ArePlans};
 ghost use Rattle.chr_search.specs.Answers.{after_judging};
 ghost use Rattle.chr_search.specs.Trials.{older};
 ghost use Rattle.chr_search.specs.declared.search.Then.TheVariants as thens;
-ghost use Rattle.chr_calls.specs.declared.answers.TicketState.TheVariants.{Held};
+ghost use Rattle.chr_calls.specs.declared.answers.TicketState.TheVariants.{Held, Waiting};
 ghost use Rattle.chr_calls.specs.Tickets.{waiting, activated_by, held_by, put_down, with_candidate, going_on, atom_in, search_in};
-ghost use Rattle.chr_tickets.specs.Open.{shown_ticket, state_in, is_open_for, IsActiveGoal};
+ghost use Rattle.chr_tickets.specs.Open.{shown_ticket, state_in, is_open_for, lent, with_atom, IsActiveGoal};
 ghost use Rattle.chr_tickets.specs.Passed.{PassesOver};
 
 use chr_calls::TicketState;
+use chr_guard::Binding;
 use chr_plan::Plans;
 use chr_rule::Program;
 use chr_search::{Instance, Judged, Passed, Search, Trial};
 use chr_store::{Label, Store};
 use chr_value::Atom;
 use std::alloc::Allocator;
+use std::mem;
 
 /// What an open ticket stands for.
 #[derive(Drop)]
@@ -83,6 +85,30 @@ impl<A: Allocator + Copy> Ticket<A> {
             Goal::Waiting(atom) => Some(atom),
             Goal::Active { .. } => None,
         }
+    }
+
+    /// Takes the atom that waits out, and leaves its name alone.
+    pub(crate) fn take_atom(&mut self, alloc: A) -> Atom<A>
+        requires { state_in (shown_ticket self.old) ≡ Waiting }
+        ensures atom { Some result ≡ atom_in (shown_ticket self.old).goal }
+        ensures rest { shown_ticket self.new ≡ lent (shown_ticket self.old) }
+    {
+        let Goal::Waiting(atom) = &mut self.goal else {
+            unreachable!();
+        };
+        let bare = Atom::new(alloc, atom.name());
+        mem::replace(atom, bare)
+    }
+
+    /// Waits with an atom in place of the one that it has.
+    pub(crate) fn put_atom(&mut self, new: Atom<A>)
+        requires { state_in (shown_ticket self.old) ≡ Waiting }
+        ensures { shown_ticket self.new ≡ with_atom new (shown_ticket self.old) }
+    {
+        let Goal::Waiting(atom) = &mut self.goal else {
+            unreachable!();
+        };
+        *atom = new;
     }
 
     /// The search.
@@ -195,19 +221,20 @@ impl<A: Allocator + Copy> Ticket<A> {
 
     /// Lets the search of an active ticket pass over trials, as [`Search::pass_over`] does. Where there were any, the
     /// candidate is taken away.
-    pub(crate) fn pass_over(
+    pub(crate) fn pass_over<'s>(
         &mut self,
-        program: &Program<A>,
-        plans: &Plans<A>,
-        store: &Store<A>,
+        program: &'s Program<A>,
+        plans: &'s Plans<A>,
+        store: &'s Store<A>,
         most: u64,
         instance: &mut Instance,
+        bound: &mut Binding<'s, A>,
     ) -> Passed
         requires active { IsActiveGoal (shown_ticket self.old).goal }
         requires plans { ArePlans program.now plans.now }
         ensures few { result.count ≤ most }
         ensures more { result.then ≡ thens.More → result.count ≡ most }
-        ensures passed { (l : ℕ) → (shown_ticket self.old).goal ≡ Numbered l → PassesOver (older program.now plans.now store.now.entries l) result instance.new (shown_ticket self.old) (shown_ticket self.new) }
+        ensures passed { (l : ℕ) → (shown_ticket self.old).goal ≡ Numbered l → PassesOver (older program.now plans.now store.now.entries l) result instance.new bound.new (shown_ticket self.old) (shown_ticket self.new) }
     {
         let Goal::Active {
             search,
@@ -217,7 +244,7 @@ impl<A: Allocator + Copy> Ticket<A> {
         else {
             unreachable!();
         };
-        let passed = search.pass_over(program, plans, store, most, instance);
+        let passed = search.pass_over(program, plans, store, most, instance, bound);
         if passed.count > 0 {
             *candidate = None;
         }

@@ -1,5 +1,5 @@
 //! The tickets of a book.
-ghost use Rattle.std.specs.Prelude.{◌≡◌, ◌↔◌, ℕ, ◌≤◌, ◌++◌, ◌∷◌, [], true, length, take, slice_set, IsSome, IsTrue, OnOk, OnErr, MatchOption};
+ghost use Rattle.std.specs.Prelude.{◌≡◌, ◌↔◌, ℕ, ◌≤◌, ◌++◌, ◌∷◌, [], true, Some, length, take, slice_set, IsSome, IsTrue, OnOk, OnErr, MatchOption};
 ghost use Rattle.std.specs.Option.{option_copied};
 ghost use Rattle.chr_model.specs.Goals.{Numbered};
 ghost use Rattle.chr_plan.specs.Plans.{ArePlans};
@@ -8,13 +8,14 @@ ghost use Rattle.chr_search.specs.Trials.{older};
 ghost use Rattle.chr_search.specs.declared.search.Then.TheVariants as thens;
 ghost use Rattle.chr_calls.specs.declared.answers.TicketState.TheVariants.{Waiting, Resting};
 ghost use Rattle.chr_calls.specs.Tickets.{ended, waiting, activated_by, held_by, put_down, marked, with_candidate, going_on, ticket_at, state_of, IsClaimable, IsActive, Holds, IsNotHeld, AreQuiet, atom_in, search_in, LosesStray, IsLeastFor, NoneFor};
-ghost use Rattle.chr_tickets.specs.Open.{shown_ticket};
+ghost use Rattle.chr_tickets.specs.Open.{shown_ticket, lent, with_atom};
 ghost use Rattle.chr_tickets.specs.Passed.{PassesOver};
 ghost use Rattle.chr_tickets.specs.Stray.{IsFirstStray, NoneStray};
 
 use crate::slots::{Slots, open_at, place_of, pop_ended};
 use crate::ticket::Ticket;
 use chr_calls::TicketState;
+use chr_guard::Binding;
 use chr_plan::Plans;
 use chr_rule::Program;
 use chr_search::{Instance, Judged, Passed, Search, Trial};
@@ -42,12 +43,13 @@ impl<A: Allocator> Model for Tickets<A> {
     ghost use Rattle.std.specs.Coded.{codes};
     ghost use Rattle.chr_value.specs.Code.{value_code};
     ghost use Rattle.chr_rule.specs.Code.{expression_code};
+    ghost use Rattle.chr_rule.specs.TermCode.{term_code};
     ghost use Rattle.chr_calls.specs.Tickets.{Ticket};
     ghost use Rattle.chr_tickets.specs.Listed.{listed, AreQueued};
 
     ghost Value = { List Ticket };
 
-    ghost coded = { Prim.hlevel (codes, expression_code, value_code) };
+    ghost coded = { Prim.hlevel (codes, expression_code, term_code, value_code) };
 
     ghost view = { λ s. listed s.first s.slots.items };
 
@@ -113,6 +115,27 @@ impl<A: Allocator + Copy> Tickets<A> {
         ensures { option_copied result ≡ atom_in (ticket_at self.now ticket).goal }
     {
         self.found(ticket)?.atom()
+    }
+
+    /// Takes the atom out of a ticket that waits. Until one is [put](Tickets::put_atom) there or the goal becomes active or
+    /// ends, the ticket waits with the atom's name alone.
+    pub fn take_atom(&mut self, ticket: u64) -> Atom<A>
+        requires { state_of self.old ticket ≡ Waiting }
+        ensures atom { Some result ≡ atom_in (ticket_at self.old ticket).goal }
+        ensures rest { self.new ≡ slice_set self.old ticket (lent (ticket_at self.old ticket)) }
+    {
+        let alloc = *self.slots.allocator();
+        let found = open_at(&mut self.slots, self.first, ticket);
+        found.take_atom(alloc)
+    }
+
+    /// Puts an atom into a ticket that waits, in place of the one that it has.
+    pub fn put_atom(&mut self, ticket: u64, atom: Atom<A>)
+        requires { state_of self.old ticket ≡ Waiting }
+        ensures { self.new ≡ slice_set self.old ticket (with_atom atom (ticket_at self.old ticket)) }
+    {
+        let found = open_at(&mut self.slots, self.first, ticket);
+        found.put_atom(atom);
     }
 
     /// The search of an active goal.
@@ -209,24 +232,25 @@ impl<A: Allocator + Copy> Tickets<A> {
 
     /// Lets the search of an active goal pass over trials, as [`Search::pass_over`] does, and gives its answer. Where there
     /// were any, the candidate is taken away. It takes no memory.
-    pub fn pass_over(
+    pub fn pass_over<'s>(
         &mut self,
         ticket: u64,
-        program: &Program<A>,
-        plans: &Plans<A>,
-        store: &Store<A>,
+        program: &'s Program<A>,
+        plans: &'s Plans<A>,
+        store: &'s Store<A>,
         most: u64,
         instance: &mut Instance,
+        bound: &mut Binding<'s, A>,
     ) -> Passed
         requires active { IsActive self.old ticket }
         requires plans { ArePlans program.now plans.now }
         ensures few { result.count ≤ most }
         ensures more { result.then ≡ thens.More → result.count ≡ most }
-        ensures passed { (l : ℕ) → (ticket_at self.old ticket).goal ≡ Numbered l → PassesOver (older program.now plans.now store.now.entries l) result instance.new (ticket_at self.old ticket) (ticket_at self.new ticket) }
+        ensures passed { (l : ℕ) → (ticket_at self.old ticket).goal ≡ Numbered l → PassesOver (older program.now plans.now store.now.entries l) result instance.new bound.new (ticket_at self.old ticket) (ticket_at self.new ticket) }
         ensures others { self.new ≡ slice_set self.old ticket (ticket_at self.new ticket) }
     {
         let found = open_at(&mut self.slots, self.first, ticket);
-        found.pass_over(program, plans, store, most, instance)
+        found.pass_over(program, plans, store, most, instance, bound)
     }
 
     /// Puts the search of an active goal at the place of another one of its label, and takes its candidate away.

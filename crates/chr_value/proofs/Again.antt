@@ -23,7 +23,7 @@ has-own [] n lt = absurd (omega arith)
 has-own (t ∷ ts) zero lt = rw (nat_list_eq_equiv.refl t) refl
 has-own (t ∷ ts) (suc n) lt = rw (has-own ts n (omega arith)) (or-true (is_text (text_of ts n) t))
 
-number-own : (table : Table) (n : ℕ) → HasDistinctTexts table → n < length table → number_of table (text_of table n) ≡ n
+pub number-own : (table : Table) (n : ℕ) → HasDistinctTexts table → n < length table → number_of table (text_of table n) ≡ n
 number-own [] n apart lt = absurd (omega arith)
 number-own (t ∷ ts) zero apart lt = rw (nat_list_eq_equiv.refl t) refl
 number-own (t ∷ ts) (suc n) apart lt =

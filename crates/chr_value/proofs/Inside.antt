@@ -1,9 +1,9 @@
 -- An atom of a table that has a spelling has its names in the table, and keeps its texts in each table that begins so.
 use Rattle.std.proofs.Common.{◌≡◌, ◌<◌, ℕ, zero, suc, true, List, [], ◌∷◌, length, take, map, refl, ap, ◌∙◌, arith}
 use Rattle.std.specs.List.{AllByRecursion}
-use Rattle.chr_value.specs.Atoms.{Value, Int, Sym, Comp, Atom, TermIsNamed, AtomIsNamed, renamed, text_of, by_texts}
+use Rattle.chr_value.specs.Atoms.{Value, Int, Sym, Comp, Args, Nil, Cons, Atom, TermIsNamed, ArgsAreNamed, AtomIsNamed, renamed, args_renamed, text_of, by_texts}
 use Rattle.chr_value.specs.Naming.{Table}
-use Rattle.chr_value.specs.Spelling.{begins_lower, FitsTerm, FitsAtom}
+use Rattle.chr_value.specs.Spelling.{begins_lower, FitsTerm, ArgsFit, FitsAtom}
 use Rattle.chr_value.proofs.Said.{text_kept, term_kept}
 
 -- a name's text is not empty
@@ -12,10 +12,15 @@ text_inside [] n e = absurd cc
 text_inside (t ∷ ts) zero e = omega arith
 text_inside (t ∷ ts) (suc n) e = omega (arith, text_inside ts n e)
 
-term_inside : (table : Table) (v : Value ℕ) → FitsTerm (renamed (text_of table) v) → TermIsNamed (length table) v
-term_inside table (Int z) fits = tt
-term_inside table (Sym n) fits = text_inside table n fits.first
-term_inside table (Comp n vs) fits = absurd fits
+mutual
+  term_inside : (table : Table) (v : Value ℕ) → FitsTerm (renamed (text_of table) v) → TermIsNamed (length table) v
+  term_inside table (Int z) fits = tt
+  term_inside table (Sym n) fits = text_inside table n fits.first
+  term_inside table (Comp n vs) fits = (text_inside table n fits.0.first, args_inside table vs fits.3)
+
+  args_inside : (table : Table) (vs : Args ℕ) → ArgsFit (args_renamed (text_of table) vs) → ArgsAreNamed (length table) vs
+  args_inside table Nil fits = tt
+  args_inside table (Cons v vs) fits = (term_inside table v fits.0, args_inside table vs fits.1)
 
 terms_inside : (table : Table) (vs : List (Value ℕ)) → AllByRecursion FitsTerm (map (renamed (text_of table)) vs) → AllByRecursion (TermIsNamed (length table)) vs
 terms_inside table [] fits = tt

@@ -1,14 +1,8 @@
 -- Names that a table has, and so has every table that begins with it.
-use Rattle.std.proofs.Common.{◌≡◌, ◌<◌, ℕ, zero, suc, Bool, true, false, ◌≤◌, ◌||◌, List, [], ◌∷◌, ◌++◌, length, get_or, take, Some, Result, Err, arith, refl, sym, ap, subst, ◌∙◌}
-use Rattle.std.specs.Prelude.{◌↔◌, IsOk}
-use Rattle.std.proofs.lemmas.List.{take_all}
+use Rattle.std.proofs.Common.{◌≡◌, ℕ, zero, suc, Bool, true, false, ◌||◌, List, [], ◌∷◌, ◌++◌, length, take, Some, refl, sym, ap, subst, ◌∙◌}
 use Rattle.std.specs.List.{AllByRecursion}
 use Rattle.chr_value.specs.Names.{is_text, has_text}
 use Rattle.chr_value.specs.Atoms.{Value, Int, Sym, Comp, Args, Nil, Cons, Atom}
-use Rattle.chr_value.specs.declared.names.NamesFault.{NamesFault}
-use Rattle.chr_value.specs.declared.names.NamesFault.TheVariants as faults
-use Rattle.chr_value.specs.declared.text_atom.TextValue.{TextValue}
-use Rattle.chr_value.specs.TextAtoms.{text_value, text_values}
 use Rattle.chr_value.specs.Naming.{◌>>=◌, Table, TermIsKnown, ArgsAreKnown, AtomIsKnown, number_name, numbered_value, numbered_args, number_terms, number_more, numbered_atom}
 use Rattle.chr_value.proofs.Chosen.{bind_some, some_is}
 use Rattle.chr_value.proofs.Said.{name_says, args_say, terms_say}
@@ -35,11 +29,6 @@ mutual
   args_known-later : (a b : Table) (vs : Args (List ℕ)) → take (length a) b ≡ a → ArgsAreKnown a vs → ArgsAreKnown b vs
   args_known-later a b Nil h k = tt
   args_known-later a b (Cons v vs) h k = (known-later a b v h k.0, args_known-later a b vs h k.1)
-
-pub words_known : (table : Table) (ws : List TextValue) (i : ℕ) (d : TextValue) → AllByRecursion (TermIsKnown table) (text_values ws) → i < length ws → TermIsKnown table (text_value (get_or ws i d))
-words_known table [] i d h lt = absurd (omega arith)
-words_known table (w ∷ ws) zero d h lt = h.0
-words_known table (w ∷ ws) (suc i) d h lt = words_known table ws i d h.1 (omega arith)
 
 -- ---- what was numbered is known
 
@@ -88,25 +77,3 @@ atom_known table a f new e =
     let named : has_text x.0.1 a.name ≡ true = known-later n.0.1 x.0.1 (Sym a.name) t.1 (name_known table a.name n.0.0 n.0.1 n.1) in
     let all : AtomIsKnown x.0.1 a = record { name = named; args = terms_known n.0.1 a.args x.0.0 x.0.1 x.1 } in
     subst (λ (y : Atom ℕ × Table). AtomIsKnown y.1 a) (some_is (record { name = n.0.0; args = x.0.0 }, x.0.1) (f, new) x.2) all
-
--- what is found when known is not known where it is refused
-pub refused : {K : Type 0} → (K → let r : Bool = false in r ≡ true) → K → ⊥
-refused finds known = let no = finds known in cc
-
--- An atom is refused as full where the table that its names so far left is full and lacks the next.
-pub full_at : {X Z : Type 0} (e : NamesFault) (old new : Table) (Lacks All : Type 0) → ((let r : Result X NamesFault = Err e in r ≡ Err faults.Full) ↔ ((length old ≡ 65536) × Lacks)) → Lacks → (All → ⊥) → new ≡ old
-    → (let r : Result Z NamesFault = Err e in r ≡ Err faults.Full) ↔ ((length new ≡ 65536) × (All → ⊥))
-full_at {X} {Z} e old new Lacks All full lacks none same =
-    let X-err : NamesFault → Result X NamesFault = λ f. Err f in
-    let Z-err : NamesFault → Result Z NamesFault = λ f. Err f in (
-      λ is. let f : e ≡ faults.Full = cc in (ap length same ∙ (full.0 (ap X-err f)).0, none),
-      λ h. let r : X-err e ≡ X-err faults.Full = full.1 (sym (ap length same) ∙ h.0, lacks) in let f : e ≡ faults.Full = cc in ap Z-err f,
-    )
-
--- a full table takes no memory for names
-pub full_takes_none : {Z : Type 0} (old new : Table) (a : Atom (List ℕ)) (r : Result Z NamesFault) → (r ≡ Err faults.Full) ↔ ((length new ≡ 65536) × (AtomIsKnown new a → ⊥)) → (AtomIsKnown old a → IsOk r) → take (length old) new ≡ old → length new ≤ 65536 → length old ≡ 65536 → r ≡ Err faults.NoMemory → ⊥
-full_takes_none old new a r full finds keeps fits is none =
-    let same : new ≡ old = sym (take_all (length old) new (omega arith)) ∙ keeps in
-    let unknown : AtomIsKnown new a → ⊥ = λ k. let ok = finds (subst (λ (w : Table). AtomIsKnown w a) same k) in cc in
-    let clash = full.1 (ap length same ∙ is, unknown) in
-    cc

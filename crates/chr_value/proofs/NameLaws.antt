@@ -1,18 +1,13 @@
 -- Numbering names, one after another.
-use Rattle.std.proofs.Common.{◌≡◌, ℕ, zero, suc, ◌+◌, ◌≤◌, ◌<◌, Bool, true, false, cond, ltb, ◌||◌, List, [], ◌∷◌, ◌++◌, length, take, Option, Some, None, Result, Ok, Err, refl, sym, ap, ◌∙◌, append_assoc, arith, length-append, length-take, length-drop, drop, drop-cons, add-one, get_or}
+use Rattle.std.proofs.Common.{◌≡◌, ℕ, ◌≤◌, ◌<◌, Bool, true, false, cond, ltb, ◌||◌, List, [], ◌∷◌, ◌++◌, length, take, Option, Some, None, Result, Ok, Err, refl, sym, ap, ◌∙◌, append_assoc, arith, length-append, length-take}
 use Rattle.std.specs.Prelude.{IfOk, OnOk, OnErr}
-use Rattle.std.proofs.lemmas.Grind.{common_steps}
 use Rattle.std.proofs.lemmas.Bool.{lt-ltb}
-use Rattle.std.proofs.lemmas.List.{take_at, append-nil, nil_from_length}
+use Rattle.std.proofs.lemmas.List.{take_at, take-take, append-nil}
 use Rattle.chr_value.specs.Names.{has_text, number_of, with_text}
 use Rattle.chr_value.specs.declared.names.Name.{Name}
 use Rattle.chr_value.specs.declared.names.NamesFault.{NamesFault}
 use Rattle.chr_value.specs.declared.names.NamesFault.TheVariants as faults
 use Rattle.chr_value.specs.Atoms.{Value, Atom}
-use Rattle.std.specs.List.{AllByRecursion}
-use Rattle.chr_value.specs.declared.text_atom.TextValue.{TextValue}
-use Rattle.chr_value.specs.TextAtoms.{text_value, text_values}
-use Rattle.chr_value.specs.Spelling.{FitsTerm}
 use Rattle.chr_value.specs.Naming.{◌>>=◌, Table, Named, number_name, numbered_value, number_terms, number_more, numbered_atom}
 
 pub grown : (table : Table) (t : List ℕ) (b : Bool) → take (length table) (cond b table (table ++ t ∷ [])) ≡ table
@@ -36,16 +31,6 @@ name_keeps table new t (Err e) is same = ap (take (length table)) same ∙ grown
 
 -- ---- an atom's arguments
 
-pub err_first : {X Z : Type 0} (v : X → ℕ) (w : Z → Atom ℕ) (e : NamesFault) (table new : Table) (a : Atom (List ℕ)) → Named v (Err e) (number_name table a.name) new → Named w (Err e) (numbered_atom table a) new
-unfolding numbered_atom
-err_first v w faults.NoMemory table new a h = tt
-err_first v w faults.Full table new a h = rw h refl
-
-pub err_more : {X Z : Type 0} (v : X → Value ℕ) (w : Z → Atom ℕ) (e : NamesFault) (name : ℕ) (front : List (Value ℕ)) (table new : Table) (t : Value (List ℕ)) (ts all : List (Value (List ℕ))) (total : Option (Atom ℕ × Table)) → all ≡ t ∷ ts → Named v (Err e) (numbered_value table t) new → number_more name front (number_terms table all) ≡ total → Named w (Err e) total new
-unfolding number_terms
-err_more v w faults.NoMemory name front table new t ts all total is h so_far = tt
-err_more v w faults.Full name front table new t ts all total is h so_far = sym so_far ∙ rw (is, h) refl
-
 pub first_done : (table new : Table) (a : Atom (List ℕ)) (n : ℕ) → number_name table a.name ≡ Some (n, new) → number_more n [] (number_terms new a.args) ≡ numbered_atom table a
 unfolding numbered_atom
 first_done table new a n h = rw h refl
@@ -67,19 +52,7 @@ all_done name front table all total is so_far =
     let here : number_more name front (number_terms table all) ≡ Some (record { name = name; args = front ++ [] }, table) = rw is refl in
     sym so_far ∙ here ∙ ap (λ (w : List (Value ℕ)). Some (record { name = name; args = w }, table)) (append-nil front)
 
-pub words_from : (ws : List TextValue) (i : ℕ) (d : TextValue) → i < length ws → text_values (drop i ws) ≡ text_value (get_or ws i d) ∷ text_values (drop (i + 1) ws)
-words_from ws i d lt = let e : drop i ws ≡ get_or ws i d ∷ drop (i + 1) ws = rw (add-one, drop-cons ws i d) refl in ap text_values e
-
-pub words_end : (ws : List TextValue) (i : ℕ) → length ws ≤ i → text_values (drop i ws) ≡ []
-words_end ws i le = ap text_values (nil_from_length (drop i ws) (omega (arith, length-drop i ws)))
-
-pub words_fit : (ws : List TextValue) (i : ℕ) (d : TextValue) → AllByRecursion FitsTerm (text_values ws) → i < length ws → FitsTerm (text_value (get_or ws i d))
-words_fit [] i d fits lt = absurd (omega arith)
-words_fit (w ∷ ws) zero d fits lt = fits.0
-words_fit (w ∷ ws) (suc i) d fits lt = words_fit ws i d fits.1 (omega arith)
-
-pub keeps-then : (a b c : Table) → take (length a) b ≡ a → take (length b) c ≡ b → take (length a) c ≡ a
+pub keeps-then : {X : Type 0} (a b c : List X) → take (length a) b ≡ a → take (length b) c ≡ b → take (length a) c ≡ a
 keeps-then a b c h k =
     let le : length a ≤ length b = omega (arith, ap length h, length-take (length a) b) in
-    let both : take (length a) (take (length b) c) ≡ take (length a) c = grind (arith, common_steps) in
-    sym both ∙ ap (take (length a)) k ∙ h
+    sym (take-take (length a) (length b) c le) ∙ ap (take (length a)) k ∙ h

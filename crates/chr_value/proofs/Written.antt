@@ -1,55 +1,72 @@
 -- Texts written one after another.
-use Rattle.std.proofs.Common.{◌≡◌, ℕ, zero, suc, ◌+◌, ◌<◌, List, [], ◌∷◌, ◌++◌, length, take, map, get_or, None, refl, sym, ap, ◌∙◌, append_assoc, arith, inl, inr, ◌⊎◌, length-take}
-use Rattle.std.proofs.lemmas.List.{append-nil, take_more}
+use Rattle.std.proofs.Common.{◌≡◌, ℕ, zero, suc, List, [], ◌∷◌, ◌++◌, length, map, None, refl, sym, ap, ◌∙◌, append_assoc, arith}
+use Rattle.std.proofs.lemmas.List.{append-nil, length-map, map_push}
+use Rattle.std.proofs.lemmas.Bool.Decides.{nat_tests}
 use Rattle.std.specs.Prelude.{slice_get}
-use Rattle.chr_value.specs.Atoms.{Value, renamed, text_of, ground, grounds}
-use Rattle.chr_value.specs.declared.atom.Value.{Value as CodeValue}
-use Rattle.chr_value.specs.Spelling.{after_commas, opened, spell_term}
+use Rattle.chr_value.specs.Atoms.{Value, Comp, args_of, renamed, text_of}
+use Rattle.chr_value.specs.Spelling.{after_commas, opened, bracketed, mark_before, mark_behind, spell_term, spell_args}
+use Rattle.chr_value.proofs.Lists.{renamed-args, spell-args}
 
--- the texts of arguments
-abbrev pub arg_texts : List (List ℕ) → List (Value ℕ) → List (List ℕ)
-arg_texts table args = map spell_term (map (renamed (text_of table)) args)
+-- a value's text, and those of several
+abbrev pub text : List (List ℕ) → Value ℕ → List ℕ
+text table v = spell_term (renamed (text_of table) v)
 
-pub after_commas-push : (ts : List (List ℕ)) (t : List ℕ) → after_commas (ts ++ t ∷ []) ≡ after_commas ts ++ 44 ∷ t
+abbrev pub texts : List (List ℕ) → List (Value ℕ) → List (List ℕ)
+texts table vs = map spell_term (map (renamed (text_of table)) vs)
+
+after_commas-push : (ts : List (List ℕ)) (t : List ℕ) → after_commas (ts ++ t ∷ []) ≡ after_commas ts ++ 44 ∷ t
 after_commas-push [] t = ap (λ (r : List ℕ). 44 ∷ r) (append-nil t)
 after_commas-push (x ∷ xs) t = ap (λ (r : List ℕ). 44 ∷ (x ++ r)) (after_commas-push xs t) ∙ ap (λ (r : List ℕ). 44 ∷ r) (sym (append_assoc x (after_commas xs) (44 ∷ t)))
 
-pub opened-first : (t : List ℕ) → opened (t ∷ []) ≡ 40 ∷ t
-opened-first t = ap (λ (r : List ℕ). 40 ∷ r) (append-nil t)
+mark-more : (n : ℕ) → mark_before (suc n) ≡ 44
+mark-more n = grind (arith, nat_tests)
 
-pub opened-more : (ts : List (List ℕ)) (t : List ℕ) → 0 < length ts → opened (ts ++ t ∷ []) ≡ opened ts ++ 44 ∷ t
-opened-more [] t h = absurd (omega arith)
-opened-more (x ∷ xs) t h = ap (λ (r : List ℕ). 40 ∷ (x ++ r)) (after_commas-push xs t) ∙ ap (λ (r : List ℕ). 40 ∷ r) (sym (append_assoc x (after_commas xs) (44 ∷ t)))
+mark-some : (n : ℕ) → mark_behind (suc n) ≡ 41 ∷ []
+mark-some n = grind (arith, nat_tests)
 
--- the mark before the argument at i, and that argument
-pub opened-step : (ts : List (List ℕ)) (t : List ℕ) (i b : ℕ) → length ts ≡ i → ((i ≡ 0) × (b ≡ 40)) ⊎ ((0 < i) × (b ≡ 44)) → opened (ts ++ t ∷ []) ≡ opened ts ++ b ∷ t
-opened-step [] t i b len (inl h) = opened-first t ∙ ap (λ (m : ℕ). m ∷ t) (sym h.1)
-opened-step (x ∷ xs) t i b len (inl h) = absurd (omega arith)
-opened-step ts t i b len (inr h) = opened-more ts t (omega arith) ∙ ap (λ (m : ℕ). opened ts ++ m ∷ t) (sym h.1)
+-- the mark before an argument, and that argument
+opened-push : (ts : List (List ℕ)) (t : List ℕ) → opened (ts ++ t ∷ []) ≡ opened ts ++ mark_before (length ts) ∷ t
+opened-push [] t = ap (λ (r : List ℕ). 40 ∷ r) (append-nil t)
+opened-push (x ∷ xs) t = ap (λ (r : List ℕ). 40 ∷ (x ++ r)) (after_commas-push xs t) ∙ ap (λ (r : List ℕ). 40 ∷ r) (sym (append_assoc x (after_commas xs) (44 ∷ t))) ∙ ap (λ (m : ℕ). opened (x ∷ xs) ++ m ∷ t) (sym (mark-more (length xs)))
 
-pub arg_texts-push : (table : List (List ℕ)) (vs : List CodeValue) (v : CodeValue) → arg_texts table (grounds (vs ++ v ∷ [])) ≡ arg_texts table (grounds vs) ++ spell_term (renamed (text_of table) (ground v)) ∷ []
-arg_texts-push table [] v = refl
-arg_texts-push table (x ∷ xs) v = ap (λ (r : List (List ℕ)). spell_term (renamed (text_of table) (ground x)) ∷ r) (arg_texts-push table xs v)
+closed : (ts : List (List ℕ)) → opened ts ++ mark_behind (length ts) ≡ bracketed ts
+closed [] = refl
+closed (t ∷ ts) = ap (λ (w : List ℕ). opened (t ∷ ts) ++ w) (mark-some (length ts))
 
-pub length-arg_texts : (table : List (List ℕ)) (vs : List CodeValue) → length (arg_texts table (grounds vs)) ≡ length vs
-length-arg_texts table [] = refl
-length-arg_texts table (x ∷ xs) = ap suc (length-arg_texts table xs)
+texts-push : (table : List (List ℕ)) (vs : List (Value ℕ)) (v : Value ℕ) → texts table (vs ++ v ∷ []) ≡ texts table vs ++ text table v ∷ []
+texts-push table vs v = ap (map spell_term) (map_push (renamed (text_of table)) vs v) ∙ map_push spell_term (map (renamed (text_of table)) vs) (renamed (text_of table) v)
 
--- one more argument written
-pub step : (table : List (List ℕ)) (out name new pushed before : List ℕ) (vs : List CodeValue) (i b : ℕ) (d : CodeValue) → i < length vs
-    → ((i ≡ 0) × (b ≡ 40)) ⊎ ((0 < i) × (b ≡ 44))
-    → new ≡ pushed ++ spell_term (renamed (text_of table) (ground (get_or vs i d)))
-    → pushed ≡ before ++ b ∷ []
-    → before ≡ out ++ (name ++ opened (arg_texts table (grounds (take i vs))))
-    → new ≡ out ++ (name ++ opened (arg_texts table (grounds (take (i + 1) vs))))
-step table out name new pushed before vs i b d lt mark e1 e2 e3 =
-    let v = get_or vs i d in
-    let ts = arg_texts table (grounds (take i vs)) in
-    let t = spell_term (renamed (text_of table) (ground v)) in
-    let len : length ts ≡ i = omega (arith, length-arg_texts table (take i vs), length-take i vs) in
-    let all : opened (arg_texts table (grounds (take (i + 1) vs))) ≡ opened ts ++ b ∷ t = ap (λ (w : List CodeValue). opened (arg_texts table (grounds w))) (take_more vs i d lt) ∙ ap opened (arg_texts-push table (take i vs) v) ∙ opened-step ts t i b len mark in
-    let grouped : ((out ++ (name ++ opened ts)) ++ b ∷ []) ++ t ≡ out ++ (name ++ (opened ts ++ b ∷ t)) = simp append_assoc in
-    e1 ∙ ap (λ (w : List ℕ). w ++ t) (e2 ∙ ap (λ (w : List ℕ). w ++ b ∷ []) e3) ∙ grouped ∙ ap (λ (w : List ℕ). out ++ (name ++ w)) (sym all)
+length-texts : (table : List (List ℕ)) (vs : List (Value ℕ)) → length (texts table vs) ≡ length vs
+length-texts table vs = length-map (map (renamed (text_of table)) vs) spell_term ∙ length-map vs (renamed (text_of table))
+
+-- one more value written
+pub step : (table : List (List ℕ)) (out name new marked before : List ℕ) (front more : List (Value ℕ)) (v : Value ℕ) (i : ℕ) → more ≡ front ++ v ∷ [] → length front ≡ i
+    → new ≡ marked ++ text table v
+    → marked ≡ before ++ mark_before i ∷ []
+    → before ≡ out ++ (name ++ opened (texts table front))
+    → new ≡ out ++ (name ++ opened (texts table more))
+step table out name new marked before front more v i is len e1 e2 e3 =
+    let ts = texts table front in
+    let t = text table v in
+    let all : opened (texts table more) ≡ opened ts ++ mark_before i ∷ t =
+    ap (λ vs. opened (texts table vs)) is ∙ ap opened (texts-push table front v) ∙ opened-push ts t ∙ ap (λ (n : ℕ). opened ts ++ mark_before n ∷ t) (length-texts table front ∙ len) in
+    let grouped : ((out ++ (name ++ opened ts)) ++ mark_before i ∷ []) ++ t ≡ out ++ (name ++ (opened ts ++ mark_before i ∷ t)) = simp append_assoc in
+    e1 ∙ ap (λ (w : List ℕ). w ++ t) (e2 ∙ ap (λ (w : List ℕ). w ++ mark_before i ∷ []) e3) ∙ grouped ∙ ap (λ (w : List ℕ). out ++ (name ++ w)) (sym all)
+
+-- all are written
+pub finish : (table : List (List ℕ)) (out name before : List ℕ) (vs front : List (Value ℕ)) (n : ℕ) → front ≡ vs → n ≡ length vs
+    → before ≡ out ++ (name ++ opened (texts table front))
+    → before ++ mark_behind n ≡ out ++ (name ++ bracketed (texts table vs))
+finish table out name before vs front n is len e =
+    let ts = texts table vs in
+    let done : opened ts ++ mark_behind n ≡ bracketed ts = ap (λ (m : ℕ). opened ts ++ mark_behind m) (len ∙ sym (length-texts table vs)) ∙ closed ts in
+    let grouped : (out ++ (name ++ opened ts)) ++ mark_behind n ≡ out ++ (name ++ (opened ts ++ mark_behind n)) = simp append_assoc in
+    ap (λ (w : List ℕ). w ++ mark_behind n) (e ∙ ap (λ us. out ++ (name ++ opened (texts table us))) is) ∙ grouped ∙ ap (λ (w : List ℕ). out ++ (name ++ w)) done
+
+-- the text of a compound value
+pub text-Comp : (table : List (List ℕ)) (s : ℕ) (vs : List (Value ℕ)) → text table (Comp s (args_of vs)) ≡ text_of table s ++ bracketed (texts table vs)
+text-Comp table s vs =
+    ap (λ ts. text_of table s ++ bracketed ts) (ap spell_args (renamed-args (text_of table) vs) ∙ spell-args (map (renamed (text_of table)) vs))
 
 pub none-text : (table : List (List ℕ)) (n : ℕ) → slice_get table n ≡ None → text_of table n ≡ []
 none-text [] n e = refl

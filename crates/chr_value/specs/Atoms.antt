@@ -1,8 +1,11 @@
 -- Values and atoms as clauses see them: over the numbers of names, or over their texts.
-use Rattle.std.specs.Prelude.{ℕ, ℤ, ◌<◌, List, [], map}
+use Rattle.std.specs.Prelude.{ℕ, suc, ℤ, ◌<◌, List, [], ◌∷◌, map}
 use Rattle.std.specs.List.{slice_index_or, AllByRecursion}
-use Rattle.chr_value.specs.declared.atom.Value.{Value as CodeValue}
-use Rattle.chr_value.specs.declared.atom.Value.TheVariants as values
+use Rattle.chr_value.specs.declared.value.Value.{Value as CodeValue, fold-Value}
+use Rattle.chr_value.specs.declared.value.Value.TheOpen.{Value-F, Comp-F}
+use Rattle.chr_value.specs.declared.value.Comp.{Comp as CodeComp}
+use Rattle.chr_value.specs.declared.value.ValueRef.{ValueRef}
+use Rattle.chr_value.specs.declared.value.ValueRef.TheVariants as refs
 
 -- a number, a symbol, or a functor with its arguments
 mutual
@@ -21,13 +24,41 @@ pub record Atom (N : Type 0) : Type 0 where
   pub name : N
   pub args : List (Value N)
 
--- what a value says
-abbrev pub ground : CodeValue → Value ℕ
-ground (values.Int z) = Int z
-ground (values.Sym s) = Sym s.number
+-- a list of values as arguments
+abbrev pub args_of : {N : Type 0} → List (Value N) → Args N
+args_of [] = Nil
+args_of (v ∷ vs) = Cons v (args_of vs)
 
-abbrev pub grounds : List CodeValue → List (Value ℕ)
+-- how many arguments there are
+abbrev pub args_count : {N : Type 0} → Args N → ℕ
+args_count Nil = 0
+args_count (Cons v vs) = suc (args_count vs)
+
+-- one level of a value, with the values in it already seen as what they say
+abbrev pub ground_step : {A : Type 0} → Value-F A (Value ℕ) (Value ℕ) → Value ℕ
+ground_step (Value-F.Int z) = Int z
+ground_step (Value-F.Sym s) = Sym s.number
+ground_step (Value-F.Comp c) = c.value
+
+abbrev pub comp_step : {A : Type 0} → Comp-F A (Value ℕ) (Value ℕ) → Value ℕ
+comp_step c = Comp c.functor.number (args_of c.args.items)
+
+-- what a value says
+abbrev pub ground : {A : Type 0} → CodeValue A → Value ℕ
+ground {A} = fold-Value A (Value ℕ) (Value ℕ) ground_step comp_step
+
+abbrev pub grounds : {A : Type 0} → List (CodeValue A) → List (Value ℕ)
 grounds vs = map ground vs
+
+-- what a compound value says
+abbrev pub ground_comp : {A : Type 0} → CodeComp A → Value ℕ
+ground_comp c = Comp c.functor.number (args_of (grounds c.args.items))
+
+-- what a value that lies elsewhere says
+abbrev pub said : {A : Type 0} → ValueRef A → Value ℕ
+said (refs.Int z) = Int z
+said (refs.Sym s) = Sym s.number
+said (refs.Comp c) = ground_comp c.now
 
 -- the same over other names
 abbrev mutual

@@ -2,21 +2,17 @@
 use Rattle.std.specs.Prelude.{◌≡◌, ℕ, zero, suc, ℤ, List, [], ◌∷◌, refl}
 use Rattle.std.proofs.Common.{◌⊎◌, inl, inr, ap, ◌∙◌}
 use Rattle.std.specs.Coded.{Coded, code_by, coded⊎, coded_ℕ, coded_ℤ, coded×, coded_list}
-use Rattle.chr_value.specs.Atoms.{Value, Int, Sym, Comp, Args, Nil, Cons}
+use Rattle.chr_value.specs.Atoms.{Value, Int, Sym, Comp, Args, Nil, Cons, args_count}
 
 -- a number, a symbol, or a functor with how many arguments it has
 abbrev pub Mark : Type 0
 Mark = ℤ ⊎ (ℕ ⊎ (ℕ × ℕ))
 
-abbrev pub count : Args ℕ → ℕ
-count Nil = 0
-count (Cons v vs) = suc (count vs)
-
 abbrev mutual
   pub marks : Value ℕ → List Mark → List Mark
   marks (Int z) k = inl z ∷ k
   marks (Sym s) k = inr (inl s) ∷ k
-  marks (Comp s vs) k = inr (inr (s, count vs)) ∷ args_marks vs k
+  marks (Comp s vs) k = inr (inr (s, args_count vs)) ∷ args_marks vs k
 
   pub args_marks : Args ℕ → List Mark → List Mark
   args_marks Nil k = k
@@ -52,17 +48,17 @@ abbrev pub before : Args ℕ → List (Value ℕ) → List (Value ℕ)
 before Nil vs = vs
 before (Cons w ws) vs = w ∷ before ws vs
 
-abbrev pub front_back : (ws : Args ℕ) (vs : List (Value ℕ)) → front (count ws) (before ws vs) ≡ ws
+abbrev pub front_back : (ws : Args ℕ) (vs : List (Value ℕ)) → front (args_count ws) (before ws vs) ≡ ws
 front_back Nil vs = refl
 front_back (Cons w ws) vs = ap (λ (us : Args ℕ). Cons w us) (front_back ws vs)
 
-abbrev pub behind_back : (ws : Args ℕ) (vs : List (Value ℕ)) → behind (count ws) (before ws vs) ≡ vs
+abbrev pub behind_back : (ws : Args ℕ) (vs : List (Value ℕ)) → behind (args_count ws) (before ws vs) ≡ vs
 behind_back Nil vs = refl
 behind_back (Cons w ws) vs = behind_back ws vs
 
-abbrev pub step_back : (s : ℕ) (ws : Args ℕ) (vs us : List (Value ℕ)) → us ≡ before ws vs → step (inr (inr (s, count ws))) us ≡ Comp s ws ∷ vs
+abbrev pub step_back : (s : ℕ) (ws : Args ℕ) (vs us : List (Value ℕ)) → us ≡ before ws vs → step (inr (inr (s, args_count ws))) us ≡ Comp s ws ∷ vs
 step_back s ws vs us h =
-    ap (step (inr (inr (s, count ws)))) h ∙ ap (λ (a : Args ℕ). Comp s a ∷ behind (count ws) (before ws vs)) (front_back ws vs) ∙ ap (λ (r : List (Value ℕ)). Comp s ws ∷ r) (behind_back ws vs)
+    ap (step (inr (inr (s, args_count ws)))) h ∙ ap (λ (a : Args ℕ). Comp s a ∷ behind (args_count ws) (before ws vs)) (front_back ws vs) ∙ ap (λ (r : List (Value ℕ)). Comp s ws ∷ r) (behind_back ws vs)
 
 abbrev mutual
   pub marks_back : (v : Value ℕ) (k : List Mark) (vs : List (Value ℕ)) → spelled k ≡ vs → spelled (marks v k) ≡ v ∷ vs

@@ -1,5 +1,5 @@
 -- Numbering the names of an atom, in the order of its text.
-use Rattle.std.specs.Prelude.{◌≡◌, ℕ, ◌||◌, true, List, [], ◌∷◌, ◌++◌, length, nat_lt, Option, Some, None, Result, Ok, Err, if◌then◌else◌}
+use Rattle.std.specs.Prelude.{◌≡◌, ◌<◌, ℕ, ◌||◌, true, List, [], ◌∷◌, ◌++◌, length, nat_lt, Option, Some, None, Result, Ok, Err, if◌then◌else◌}
 use Rattle.std.specs.List.{AllByRecursion}
 use Rattle.chr_value.specs.Names.{has_text, number_of, with_text}
 use Rattle.chr_value.specs.Atoms.{Value, Int, Sym, Comp, Args, Nil, Cons, Atom}
@@ -65,3 +65,17 @@ abbrev pub Named : {X Y : Type 0} → (X → Y) → Result X NamesFault → Opti
 Named view (Ok x) read new = read ≡ Some (view x, new)
 Named view (Err faults.NoMemory) read new = Unit {0}
 Named view (Err faults.Full) read new = read ≡ None
+
+-- the table that numbering leaves
+abbrev pub table_after : {Y : Type 0} → Option (Y × Table) → Option Table
+table_after (Some x) = Some x.1
+table_after None = None
+
+-- What entering names answered, with the table after it: it is the table that numbering leaves; or
+-- memory ran out and the table isn't full; or the table is full and lacks one of the names.
+abbrev pub IsEntered : {X Y : Type 0} → (Table → Type 0) → Result X NamesFault → Option (Y × Table)
+    → Table → Type 0
+IsEntered HasThem (Ok x) read new = table_after read ≡ Some new
+IsEntered HasThem (Err faults.NoMemory) read new = length new < 65536
+IsEntered HasThem (Err faults.Full) read new =
+    (read ≡ None) × (length new ≡ 65536) × (HasThem new → ⊥)

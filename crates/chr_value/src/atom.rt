@@ -1,59 +1,19 @@
-//! Values, predicates and atoms.
-ghost use Rattle.std.specs.Prelude.{◌≡◌, ◌<◌, ◌≤◌, ◌↔◌, ◌++◌, ◌∷◌, [], length, IsTrue, IfOk};
-ghost use Rattle.std.specs.List.{AllByRecursion};
-ghost use Rattle.chr_value.specs.Atoms.{ground, grounds, TermIsNamed, AtomIsNamed};
+//! Predicates and atoms.
+ghost use Rattle.std.specs.Prelude.{◌≡◌, ◌<◌, ◌≤◌, ◌↔◌, ◌++◌, ◌∷◌, [], length, map, slice_get, IsTrue, IfSome, IfOk, OnOk, OnErr};
+ghost use Rattle.std.specs.Option.{option_map};
+ghost use Rattle.chr_value.specs.Atoms.{ground, ground_comp, said, AtomIsNamed};
+ghost use Rattle.chr_value.specs.Limits.{IsWithin};
+ghost use Rattle.chr_value.specs.Slots.{comps_of, value_in, HasPlace};
 
 use crate::names::Name;
+use crate::value::{Comp, Value, ValueRef};
 use arrayvec::ArrayVec;
 use std::alloc::{AllocError, Allocator};
 use std::default::MadeWith;
 use std::marker::Model;
 
-/// How many arguments an atom may have.
+/// How many arguments an atom may have, and a functor.
 pub const MOST_ARGS: usize = 8;
-
-/// A whole number or a symbol.
-#[derive(Clone, Copy, PartialEq, Eq, Debug, Hash)]
-pub enum Value {
-    Int(i64),
-    Sym(Name),
-}
-
-impl Default for Value {
-    fn default() -> Self {
-        Value::Int(0)
-    }
-}
-
-impl Value {
-    /// Whether two values are equal. A number never equals a symbol.
-    pub fn same(&self, other: &Value) -> bool
-        ensures { IsTrue result ↔ (ground self.now ≡ ground other.now) }
-    {
-        match (self, other) {
-            (Value::Int(m), Value::Int(n)) => *m == *n,
-            (Value::Sym(s), Value::Sym(t)) => s.number == t.number,
-            _ => false,
-        }
-    }
-
-    /// Whether a table of `count` names has the value's name. A number needs none.
-    pub fn is_named(&self, count: usize) -> bool
-        ensures { IsTrue result ↔ TermIsNamed count (ground self.now) }
-    {
-        match self {
-            Value::Int(_) => true,
-            Value::Sym(name) => (name.number as usize) < count,
-        }
-    }
-
-    /// A copy of the value.
-    pub fn duplicate(&self) -> Value
-        ensures { ground result ≡ ground self.now }
-    {
-        *self
-    }
-}
 
 /// A predicate: a name and how many arguments it takes.
 #[derive(Clone, Copy, PartialEq, Eq, Debug, Hash)]
@@ -62,27 +22,109 @@ pub struct Pred {
     pub arity: u8,
 }
 
-/// A predicate with its arguments, at most [`MOST_ARGS`]. Contracts see a name and a list of values.
+/// An argument: a number, a symbol, or the place of a compound value beside the arguments.
+#[derive(Clone, Copy, Debug)]
+enum Slot {
+    Int(i64),
+    Sym(Name),
+    Comp(u8),
+}
+
+impl Default for Slot {
+    fn default() -> Self {
+        Slot::Int(0)
+    }
+}
+
+/// Compound values. None takes no memory.
+type Comps<A> = Option<Box<Vec<Comp<A>, A>, A>>;
+
+/// How many compound values there are.
+fn count_of<A: Allocator>(comps: &Comps<A>) -> usize
+    ensures { result ≡ length (comps_of comps.now) }
+{
+    match comps {
+        None => 0,
+        Some(list) => list.len(),
+    }
+}
+
+/// Adds a compound value after the others. An `Err` is E01, and nothing has changed.
+fn push_comp<A: Allocator + Copy>(
+    comps: &mut Comps<A>,
+    alloc: A,
+    comp: Comp<A>,
+) -> Result<(), AllocError>
+    ensures ok { OnOk result (comps_of comps.new ≡ comps_of comps.old ++ comp ∷ []) }
+    ensures err { OnErr result (comps_of comps.new ≡ comps_of comps.old) }
+{
+    if let Some(list) = comps {
+        list.reserve(1)?;
+        list.push_reserved(comp);
+        return Ok(());
+    }
+    let mut list = Vec::with_capacity(alloc, 1)?;
+    list.push_reserved(comp);
+    *comps = Some(Box::new(alloc, list)?);
+    Ok(())
+}
+
+/// Copies of compound values. An `Err` is E01.
+fn copy_comps<A: Allocator + Copy>(comps: &Comps<A>, alloc: A) -> Result<Comps<A>, AllocError>
+    ensures { IfOk result (λ made. map ground_comp (comps_of made) ≡ map ground_comp (comps_of comps.now)) }
+{
+    let Some(list) = comps else {
+        return Ok(None);
+    };
+    let mut copies = Vec::with_capacity(alloc, list.len())?;
+    for comp in list.iter() {
+        copies.push_reserved(comp.copy(alloc)?);
+    }
+    Ok(Some(Box::new(alloc, copies)?))
+}
+
+/// What a slot says, beside these compound values.
+#[inline(always)]
+fn value_at<A: Allocator>(slot: Slot, comps: &Comps<A>) -> ValueRef<'_, A>
+    requires { HasPlace (comps_of comps.now) slot }
+    ensures { said result ≡ value_in (comps_of comps.now) slot }
+{
+    match slot {
+        Slot::Int(n) => ValueRef::Int(n),
+        Slot::Sym(name) => ValueRef::Sym(name),
+        Slot::Comp(place) => {
+            let Some(list) = comps else {
+                unreachable!();
+            };
+            ValueRef::Comp(&list[usize::from(place)])
+        }
+    }
+}
+
+/// A predicate with its arguments, at most [`MOST_ARGS`], each within the limits of values. Contracts see a name and a list
+/// of values.
 #[derive(Drop)]
 pub struct Atom<A: Allocator> {
     name: Name,
-    args: ArrayVec<Value, 8>,
+    slots: ArrayVec<Slot, 8>,
+    comps: Comps<A>,
     alloc: A,
 }
 
 impl<A: Allocator> Model for Atom<A> {
-    ghost use Rattle.std.specs.Prelude.{ℕ, ◌≤◌, length};
+    ghost use Rattle.std.specs.Prelude.{ℕ};
     ghost use Rattle.std.specs.Coded.{codes};
-    ghost use Rattle.chr_value.specs.Atoms.{Atom, grounds};
+    ghost use Rattle.chr_value.specs.Atoms.{Atom};
     ghost use Rattle.chr_value.specs.Code.{value_code};
+    ghost use Rattle.chr_value.specs.Slots.{comps_of, values_in, AreArguments};
 
     ghost Value = { Atom ℕ };
 
     ghost coded = { Prim.hlevel (codes, value_code) };
 
-    ghost view = { λ a. record { name = a.name.number; args = grounds a.args.items } };
+    ghost view = { λ a. record { name = a.name.number; args = values_in (comps_of a.comps) a.slots.items } };
 
-    ghost invariant = { λ a. length a.args.items ≤ 8 };
+    ghost invariant = { λ a. AreArguments (comps_of a.comps) a.slots.items };
 }
 
 impl<A: Allocator + Copy> Atom<A> {
@@ -92,7 +134,8 @@ impl<A: Allocator + Copy> Atom<A> {
     {
         Atom {
             name,
-            args: ArrayVec::new(),
+            slots: ArrayVec::new(),
+            comps: None,
             alloc,
         }
     }
@@ -111,80 +154,97 @@ impl<A: Allocator + Copy> Atom<A> {
     {
         Pred {
             name: self.name,
-            arity: self.args.len() as u8,
+            arity: self.slots.len() as u8,
         }
     }
 
-    /// The arguments.
-    pub fn args(&self) -> &[Value]
-        ensures value { grounds result.now ≡ self.now.args }
-        ensures fits { length result.now ≤ 8 }
+    /// How many arguments there are.
+    #[inline(always)]
+    pub fn arity(&self) -> usize
+        ensures count { result ≡ length self.now.args }
+        ensures fits { length self.now.args ≤ 8 }
     {
-        self.args.as_slice()
+        self.slots.len()
     }
 
-    /// Adds an argument after the others. There must be fewer than [`MOST_ARGS`].
-    pub fn push(&mut self, value: Value)
-        requires { length self.old.args < 8 }
-        ensures { self.new ≡ record { name = self.old.name; args = self.old.args ++ ground value ∷ [] } }
+    /// An argument, by its index. It is within the limits of values.
+    #[inline(always)]
+    pub fn arg(&self, index: usize) -> Option<ValueRef<'_, A>>
+        ensures value { option_map said result ≡ slice_get self.now.args index }
+        ensures within { IfSome result (λ value. IsWithin (said value)) }
     {
-        self.args.push(value);
+        let slot = self.slots.as_slice().get(index)?;
+        Some(value_at(*slot, &self.comps))
     }
 
-    /// Whether a table of `count` names has the atom's name and its symbols.
+    /// Adds an argument after the others, of which there are fewer than [`MOST_ARGS`]. Only a compound value takes memory. An
+    /// `Err` is E01, and nothing has changed.
+    #[inline(always)]
+    pub fn push(&mut self, value: Value<A>) -> Result<(), AllocError>
+        requires room { length self.old.args < 8 }
+        requires within { IsWithin (ground value) }
+        ensures ok { OnOk result (self.new ≡ record { name = self.old.name; args = self.old.args ++ ground value ∷ [] }) }
+        ensures err { OnErr result (self.new ≡ self.old) }
+    {
+        match value {
+            Value::Int(n) => self.slots.push(Slot::Int(n)),
+            Value::Sym(name) => self.slots.push(Slot::Sym(name)),
+            Value::Comp(comp) => {
+                let place = count_of(&self.comps);
+                push_comp(&mut self.comps, self.alloc, Box::into_inner(comp))?;
+                self.slots.push(Slot::Comp(place as u8));
+            }
+        }
+        Ok(())
+    }
+
+    /// Whether a table of `count` names has the atom's name and all names of its arguments.
     pub fn is_named(&self, count: usize) -> bool
         ensures { IsTrue result ↔ AtomIsNamed count self.now }
     {
-        (self.name.number as usize) < count && are_named(self.args.as_slice(), count)
+        if count <= self.name.number as usize {
+            return false;
+        }
+        for slot in self.slots.as_slice() {
+            if !value_at(*slot, &self.comps).is_named(count) {
+                return false;
+            }
+        }
+        true
     }
 
     /// Whether two atoms are equal: the same predicate and the same arguments.
     pub fn same(&self, other: &Atom<A>) -> bool
         ensures { IsTrue result ↔ (self.now ≡ other.now) }
     {
-        if self.name.number != other.name.number {
+        if self.name.number != other.name.number || self.slots.len() != other.slots.len() {
             return false;
         }
-        same_values(self.args.as_slice(), other.args.as_slice())
+        for (i, slot) in self.slots.as_slice().iter().enumerate() {
+            let value = value_at(*slot, &self.comps);
+            if !value.same(&value_at(other.slots[i], &other.comps)) {
+                return false;
+            }
+        }
+        true
     }
 
     /// A copy of the atom. An `Err` is E01.
     pub fn copy(&self, alloc: A) -> Result<Atom<A>, AllocError>
         ensures { IfOk result (λ made. made ≡ self.now) }
     {
-        let mut atom = Atom::new(alloc, self.name);
-        for value in self.args.as_slice() {
-            atom.push(value.duplicate());
+        let comps = copy_comps(&self.comps, alloc)?;
+        let mut slots = ArrayVec::new();
+        for slot in self.slots.as_slice() {
+            slots.push(*slot);
         }
-        Ok(atom)
+        Ok(Atom {
+            name: self.name,
+            slots,
+            comps,
+            alloc,
+        })
     }
-}
-
-// Whether two lists of values are equal.
-fn same_values(xs: &[Value], ys: &[Value]) -> bool
-    ensures { IsTrue result ↔ (grounds xs.now ≡ grounds ys.now) }
-{
-    if xs.len() != ys.len() {
-        return false;
-    }
-    for (i, x) in xs.iter().enumerate() {
-        if !x.same(&ys[i]) {
-            return false;
-        }
-    }
-    true
-}
-
-// Whether a table of `count` names has the names of all values.
-fn are_named(values: &[Value], count: usize) -> bool
-    ensures { IsTrue result ↔ AllByRecursion (TermIsNamed count) (grounds values.now) }
-{
-    for value in values {
-        if !value.is_named(count) {
-            return false;
-        }
-    }
-    true
 }
 
 impl<A: Allocator + Copy> MadeWith<A> for Atom<A> {

@@ -1,22 +1,26 @@
 //! Atoms as a text has them, before their names are numbered.
-use arrayvec::ArrayVec;
+use std::alloc::Allocator;
 
-/// A number or a name's text.
-#[derive(Clone, Copy)]
-pub enum TextValue<'a> {
+/// A number, a symbol by its name's text, or a compound value by the texts of its names.
+#[cycle(text)]
+#[derive(Drop)]
+pub enum TextValue<'a, A: Allocator> {
     Int(i64),
     Sym(&'a str),
+    Comp(Box<TextComp<'a, A>, A>),
 }
 
-impl<'a> Default for TextValue<'a> {
-    fn default() -> Self {
-        TextValue::Int(0)
-    }
+/// A functor's text with the arguments.
+#[cycle(text)]
+#[derive(Drop)]
+pub struct TextComp<'a, A: Allocator> {
+    pub functor: &'a str,
+    pub args: Vec<TextValue<'a, A>, A>,
 }
 
 /// An atom by the texts of its names.
 #[derive(Drop)]
-pub struct TextAtom<'a> {
+pub struct TextAtom<'a, A: Allocator> {
     pub name: &'a str,
-    pub args: ArrayVec<TextValue<'a>, 8>,
+    pub args: Vec<TextValue<'a, A>, A>,
 }

@@ -7,11 +7,11 @@ use Rattle.chr_value.specs.Atoms.{Value, Int, Sym, Comp, Args, Nil, Cons, Atom}
 use Rattle.chr_value.specs.Naming.{◌>>=◌, Table, number_name, numbered_value, numbered_args, number_terms, number_more, numbered_atom}
 use Rattle.chr_value.proofs.Chosen.{chosen, bind_some, some_is}
 use Rattle.chr_value.proofs.Texts.{neither}
-use Rattle.chr_rule.specs.Rules.{Term, Var, Given, RuleAtom, Comparison, Compared, Same, Differ, BodyItem, Is, Add, Simpagation, of_parts}
+use Rattle.chr_rule.specs.Rules.{Term, Var, Given, Open, Terms, End, And, RuleAtom, Comparison, Compared, Same, Differ, BodyItem, Is, Add, Simpagation, of_parts}
 use Rattle.chr_grammar.specs.Parsed as parsed
 use Rattle.chr_grammar.specs.Parsed.{Statement}
 use Rattle.chr_text.specs.Translation.{rule}
-use Rattle.chr_text.specs.Numbering.{each, numbered_term, numbered_rule_atom, number_test, number_member, number_rule}
+use Rattle.chr_text.specs.Numbering.{each, numbered_term, numbered_terms, numbered_rule_atom, number_test, number_member, number_rule}
 use Rattle.chr_text.specs.Reading.{Program, Posts, program_of, posts_of}
 use Rattle.chr_text.specs.Forms.{InOrder, no_more, item, Adds, AddsStatement, AddsAtoms}
 use Rattle.chr_text.proofs.ProgramTexts.{is_program}
@@ -87,11 +87,23 @@ each_distinct {B = B} f one table new (a ∷ as') bs h d =
     let y = bind_some (each f x.0.1 as') (λ xs. Some (x.0.0 ∷ xs.0, xs.1)) (bs, new) x.2 in
     moved {A = List B} (x.0.0 ∷ y.0.0) bs y.0.1 new y.2 (each_distinct f one x.0.1 y.0.1 as' y.0.0 y.1 (one table x.0.1 a x.0.0 x.1 d))
 
-term_distinct : (table new : Table) (a : Term (List ℕ)) (b : Term ℕ) → numbered_term table a ≡ Some (b, new) → HasDistinctTexts table → HasDistinctTexts new
-term_distinct table new (Var x) b h d = moved {A = Term ℕ} (Var x) b table new h d
-term_distinct table new (Given t) b h d =
-    let x = bind_some (numbered_value table t) (λ x. Some (Given x.0, x.1)) (b, new) h in
-    moved {A = Term ℕ} (Given x.0.0) b x.0.1 new x.2 (value_distinct table x.0.1 t x.0.0 x.1 d)
+mutual
+  term_distinct : (table new : Table) (a : Term (List ℕ)) (b : Term ℕ) → numbered_term table a ≡ Some (b, new) → HasDistinctTexts table → HasDistinctTexts new
+  term_distinct table new (Var x) b h d = moved {A = Term ℕ} (Var x) b table new h d
+  term_distinct table new (Given t) b h d =
+      let x = bind_some (numbered_value table t) (λ x. Some (Given x.0, x.1)) (b, new) h in
+      moved {A = Term ℕ} (Given x.0.0) b x.0.1 new x.2 (value_distinct table x.0.1 t x.0.0 x.1 d)
+  term_distinct table new (Open t ts) b h d =
+      let n = bind_some (number_name table t) (λ n. numbered_terms n.1 ts >>= λ xs. Some (Open n.0 xs.0, xs.1)) (b, new) h in
+      let x = bind_some (numbered_terms n.0.1 ts) (λ xs. Some (Open n.0.0 xs.0, xs.1)) (b, new) n.2 in
+      moved {A = Term ℕ} (Open n.0.0 x.0.0) b x.0.1 new x.2 (open_distinct n.0.1 x.0.1 ts x.0.0 x.1 (name_distinct table t n.0.0 n.0.1 n.1 d))
+
+  open_distinct : (table new : Table) (ts : Terms (List ℕ)) (us : Terms ℕ) → numbered_terms table ts ≡ Some (us, new) → HasDistinctTexts table → HasDistinctTexts new
+  open_distinct table new End us h d = moved {A = Terms ℕ} End us table new h d
+  open_distinct table new (And t ts) us h d =
+      let x = bind_some (numbered_term table t) (λ x. numbered_terms x.1 ts >>= λ xs. Some (And x.0 xs.0, xs.1)) (us, new) h in
+      let y = bind_some (numbered_terms x.0.1 ts) (λ xs. Some (And x.0.0 xs.0, xs.1)) (us, new) x.2 in
+      moved {A = Terms ℕ} (And x.0.0 y.0.0) us y.0.1 new y.2 (open_distinct x.0.1 y.0.1 ts y.0.0 y.1 (term_distinct table x.0.1 t x.0.0 x.1 d))
 
 rule_atom_distinct : (table new : Table) (s : RuleAtom (List ℕ)) (r : RuleAtom ℕ) → numbered_rule_atom table s ≡ Some (r, new) → HasDistinctTexts table → HasDistinctTexts new
 rule_atom_distinct table new s r h d =

@@ -1,5 +1,5 @@
 -- What a run of several texts of posts writes is read back and accepted.
-use Rattle.std.proofs.Common.{◌≡◌, ℕ, ◌↔◌, ◌≤◌, List, [], ◌∷◌, ◌++◌, length, take, map, Some, Result, Ok, refl, sym, ap, subst, ◌∙◌, append_assoc, arith}
+use Rattle.std.proofs.Common.{◌≡◌, ℕ, ◌≤◌, List, [], ◌∷◌, ◌++◌, length, take, map, Some, Result, Ok, refl, sym, ap, subst, ◌∙◌, append_assoc, arith}
 use Rattle.std.specs.List.{AllByRecursion}
 use Rattle.std.proofs.Math.Seq.{take-length}
 use Rattle.std.proofs.lemmas.List.{append-nil, map-append}
@@ -8,10 +8,9 @@ use Rattle.chr_value.specs.Spelling.{FitsAtom}
 use Rattle.chr_value.specs.Atoms.{Atom, by_texts}
 use Rattle.chr_value.specs.Naming.{Table, numbered_atom}
 use Rattle.chr_value.proofs.NameLaws.{keeps-then}
-use Rattle.chr_rule.specs.Rules.{Simpagation}
 use Rattle.chr_rule.specs.Scope.{IsRule}
-use Rattle.chr_log.specs.Events.{Event, labelled_atoms, event_by_texts, labelled_by_texts}
-use Rattle.chr_log.specs.LogText.{log_text, store_text}
+use Rattle.chr_log.specs.Events.{Event, labelled_atoms, event_by_texts}
+use Rattle.chr_log.specs.LogText.{log_text}
 use Rattle.chr_log.specs.declared.events.Version.{Version}
 use Rattle.chr_log.specs.declared.events.Version.TheVariants.{One, Two}
 use Rattle.chr_log_text.specs.Writable.{most_bytes}
@@ -27,7 +26,6 @@ use Rattle.chr_calls.specs.Tickets.{AreQuiet}
 use Rattle.chr_calls.specs.Books.{BookState, goal_state, events}
 use Rattle.chr_calls.proofs.Tickets.{posted_strict}
 use Rattle.chr_solo.specs.declared.solo.End.{End}
-use Rattle.chr_solo.specs.declared.solo.End.TheVariants.{Quiet}
 use Rattle.chr_check.specs.declared.checking.Verdict.TheVariants.{RunAndFinal}
 use Rattle.chr_run_text.specs.Texts.{with_posts}
 use Rattle.chr_run_text.specs.Output.{shown}

@@ -7,6 +7,7 @@ use Rattle.chr_value.specs.Naming.{◌>>=◌, Table}
 use Rattle.chr_value.proofs.Chosen.{bind_some, some_is}
 use Rattle.chr_rule.specs.Rules.{BodyItem, Is, Add, Simpagation, of_parts}
 use Rattle.chr_rule.specs.Scope.{IsRule}
+use Rattle.chr_rule.specs.Terms.{IsBodyItem}
 use Rattle.chr_grammar.specs.Parsed as parsed
 use Rattle.chr_grammar.specs.Parsed.{Statement}
 use Rattle.chr_grammar.proofs.Statements_again.{by_texts as statement_read}
@@ -28,7 +29,7 @@ use Rattle.chr_text.proofs.ProgramTexts.{is_program}
 use Rattle.chr_text.proofs.Writable.{spelled_fits}
 use Rattle.chr_text.proofs.RuleWritable.{program_writable}
 use Rattle.chr_value.specs.Spelling.{FitsTerm}
-use Rattle.laws_writable.proofs.Values.{NumbersFit, zeros, ItemHeld, items_kept}
+use Rattle.laws_writable.proofs.Values.{NumbersFit, zeros, zeros_within, ItemHeld, items_kept}
 
 -- ---- the numbers of a rule
 
@@ -108,14 +109,14 @@ RuleHeld table r = IsRule r × AllByRecursion (ItemHeld table) r.body
 zero_held : (table : Table) (x : ℕ) → FitsTerm (Int (pos 0))
 zero_held table x = lit< tt
 
-items_held : (table : Table) (ms : List (BodyItem ℕ)) → AllByRecursion ItemNumbers ms → AllByRecursion (AddsWritable table) ms → AllByRecursion (ItemHeld table) ms
-items_held table [] n w = tt
-items_held table (Is x e ∷ ms) n w = (n.0, items_held table ms n.1 w.1)
-items_held table (Add s ∷ ms) n w = (w.0 zeros (zero_held table), items_held table ms n.1 w.1)
+items_held : (table : Table) (ms : List (BodyItem ℕ)) → AllByRecursion ItemNumbers ms → AllByRecursion IsBodyItem ms → AllByRecursion (AddsWritable table) ms → AllByRecursion (ItemHeld table) ms
+items_held table [] n t w = tt
+items_held table (Is x e ∷ ms) n t w = (n.0, items_held table ms n.1 t.1 w.1)
+items_held table (Add s ∷ ms) n t w = (w.0 zeros (zero_held table) (zeros_within s.args t.0), items_held table ms n.1 t.1 w.1)
 
 rules_held : (table : Table) (rules : List (Simpagation ℕ)) → AllByRecursion IsSound rules → HasWritable table rules → AllByRecursion (RuleHeld table) rules
 rules_held table [] s w = tt
-rules_held table (r ∷ rs) s w = ((s.0.0, items_held table r.body s.0.1 w.0), rules_held table rs s.1 w.1)
+rules_held table (r ∷ rs) s w = ((s.0.0, items_held table r.body s.0.1 s.0.0.terms.body w.0), rules_held table rs s.1 w.1)
 
 pub rules_kept : (old new : Table) (rules : List (Simpagation ℕ)) → take (length old) new ≡ old → AllByRecursion (RuleHeld old) rules → AllByRecursion (RuleHeld new) rules
 rules_kept old new [] keeps all = tt

@@ -15,14 +15,14 @@ loop-head-preserved-in_default g c =
     below_more (λ i. NoMatch rule store (Fills (slice_set (replicate n None) i (Some (c.args.label, c.args.atom.now))))) c.loop-head.head c.loop-head.invariant
     (no_fit_more rule store (replicate n None) c.loop-head.head (c.args.label, c.args.atom.now) c.free-free.result start (none_open n c.loop-head.head c.loop-head-test.true) (c.loop-head.head + 1) (omega arith) c.in_default.ensures)
 
-pub find_match-requires-clause-partial : goal.find_match-requires-clause-partial
-find_match-requires-clause-partial g c =
+pub find_match-requires : goal.find_match-requires
+find_match-requires g c =
     let rule = c.args.rule.now in
     let store = listed c.args.store.now in
     let n = c.heads-heads.result in
     let start = partial_start rule store n c.variables.result c.free-free.result c.heads-heads.ensures.count c.free-free.ensures c.variables.ensures.count in
-    subst (λ qs. IsPartial rule store qs c.in-Some.binding) (sym (picks_one n c.loop-head.head (c.args.label, c.args.atom) c.heads-heads.ensures.few))
-    (partial_more rule store (replicate n None) c.loop-head.head (c.args.label, c.args.atom.now) c.free-free.result c.in-Some.binding start (none_open n c.loop-head.head c.loop-head-test.true) (none_among n c.args.label) c.requires.there (c.loop-head.head + 1) (omega arith) c.in-Some.ensures)
+    let more = partial_more rule store (replicate n None) c.loop-head.head (c.args.label, c.args.atom.now) c.free-free.result c.in-Some.binding start (none_open n c.loop-head.head c.loop-head-test.true) (none_among n c.args.label) c.requires.there (c.loop-head.head + 1) (omega arith) c.in-Some.ensures in
+    (omega arith, (omega arith, (c.requires.distinct, subst (λ qs. IsPartial rule store qs c.in-Some.binding) (sym (picks_one n c.loop-head.head (c.args.label, c.args.atom) c.heads-heads.ensures.few)) more)))
 
 pub returns-in-Some-find_match : goal.returns-in-Some-find_match
 returns-in-Some-find_match g c =

@@ -1,4 +1,4 @@
-use Rattle.std.proofs.Common.{◌≡◌, ◌<◌, ◌≤◌, ℕ, ◌+◌, true, false, length, Some, slice_set, sym, ap, subst, ◌∙◌, arith}
+use Rattle.std.proofs.Common.{◌≡◌, ◌<◌, ◌≤◌, ℕ, ◌+◌, true, false, length, Some, slice_set, sym, ap, subst, ◌∙◌, arith, lit<}
 use Rattle.std.specs.List.{AllByRecursion}
 use Rattle.std.proofs.lemmas.List.{take_all, length-map}
 use Rattle.chr_value.specs.Atoms.{Atom}
@@ -45,7 +45,7 @@ find_match-requires g t c κs within =
     let away : among (labels (picked ps)) x.0 ≡ false = ap (λ (qs : Picks). among (labels (picked qs)) x.0) (sym c.loop-entry.invariant.same) ∙ sym c.is_picked.ensures ∙ c.if-is_picked.false in
     let there : atom_at store x.0 ≡ Some x.1.now = stored_there c.args.store.now c.loop-entry.entry-index x c.requires.distinct c.loop-entry-test.true c.entry-item.is in (
       subst (λ n. left (picks (slice_set c.loop-entry.slots place (Some x))) < n) c.decreases (subst (λ qs. left qs < left ps) (sym next) (left_less ps place (x.0, x.1.now) c.in-Some.ensures.within c.in-Some.ensures.none)),
-      (within, (c.requires.distinct, subst (λ qs. IsPartial rule store qs c.in-Some-fit_next.next) (sym next) (partial_more rule store ps place (x.0, x.1.now) c.args.binding c.in-Some-fit_next.next c.requires.partial c.in-Some.ensures away there (place + 1) (omega arith) c.in-Some-fit_next.ensures))),
+      (within, (lit< tt, (lit< tt, (c.requires.distinct, subst (λ qs. IsPartial rule store qs c.in-Some-fit_next.next) (sym next) (partial_more rule store ps place (x.0, x.1.now) c.args.binding c.in-Some-fit_next.next c.requires.partial c.in-Some.ensures away there (place + 1) (omega arith) c.in-Some-fit_next.ensures))))),
     )
 
 pub returns-in-Some-find_match : goal.returns-in-Some-find_match

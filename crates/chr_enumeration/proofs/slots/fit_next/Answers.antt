@@ -1,4 +1,4 @@
-use Rattle.std.proofs.Common.{◌≡◌, Some, length, sym, ap, subst, ◌∙◌}
+use Rattle.std.proofs.Common.{◌≡◌, Some, length, sym, ap, subst, ◌∙◌, arith}
 use Rattle.chr_rule.specs.Parts.{shape}
 use Rattle.chr_guard.specs.Bindings.{Narrows}
 use Rattle.chr_guard.specs.Instances.{atom_under}
@@ -12,7 +12,7 @@ use Rattle.chr_enumeration.proofs.slots.fit_next.Goals as goal
 pub fit_head-requires : goal.fit_head-requires
 fit_head-requires g c =
     let len : length c.copy-next.result ≡ c.args.rule.now.variables = ap length c.copy-next.ensures ∙ c.requires in
-    subst (λ n. IsPlaced n (shape c.in_ok-head.head.now)) (sym len) (head_placed c.args.rule.now c.head.ensures.valid c.args.number (shape c.in_ok-head.head.now) (sym c.in_ok-head.ensures.head))
+    (omega arith, subst (λ n. IsPlaced n (shape c.in_ok-head.head.now)) (sym len) (head_placed c.args.rule.now c.head.ensures.valid c.args.number (shape c.in_ok-head.head.now) (sym c.in_ok-head.ensures.head)))
 
 pub returns : goal.returns
 returns g c =

@@ -1,4 +1,4 @@
-use Rattle.std.proofs.Common.{◌≡◌, length, sym, ap, ◌∙◌}
+use Rattle.std.proofs.Common.{◌≡◌, length, sym, ap, ◌∙◌, arith}
 use Rattle.std.proofs.lemmas.List.{length-map}
 use Rattle.chr_rule.specs.Parts.{shape}
 use Rattle.chr_model.specs.Stores.{atoms}
@@ -10,7 +10,7 @@ use Rattle.chr_enumeration.proofs.slots.whole.Goals as goal
 pub instance_from-requires : goal.instance_from-requires
 instance_from-requires g c =
     let ps = picks c.args.slots.now in
-    (atoms (picked ps), fit_whole c.args.rule.now (listed c.args.store.now) ps c.args.binding c.requires.partial c.requires.all)
+    (omega arith, (atoms (picked ps), fit_whole c.args.rule.now (listed c.args.store.now) ps c.args.binding c.requires.partial c.requires.all))
 
 pub returns-in_err-binding : goal.returns-in_err-binding
 returns-in_err-binding g c =

@@ -12,7 +12,7 @@ pub returns : goal.returns
 returns g c =
     let names = c.args.recorded.now.names.now in
     let headings = map heading_view c.args.recorded.now.headings.now in
-    let values = option_map (λ (v : Bor Binding). v.now) c.args.values in
+    let values = option_map (λ (v : Bor (Binding g.row.A.Denot)). v.now) c.args.values in
     let rule = rule_words headings c.args.rule in
     let entry = entry_words c.args.made in
     let heads = all_heads_words c.args.kept.now c.args.removed.now in

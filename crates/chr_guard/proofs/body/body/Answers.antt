@@ -1,4 +1,4 @@
-use Rattle.chr_guard.proofs.Whole.{is_body, no_body, no_arguments, carried_on}
+use Rattle.chr_guard.proofs.Whole.{is_body, no_body, no_arguments, carried_on, if_ok_as}
 use Rattle.chr_guard.proofs.body.body.Goals as goal
 
 pub returns : goal.returns
@@ -7,9 +7,10 @@ returns g c =
     let binding = c.args.binding.now in
     let all = c.widened-all.result in
     let new = c.bind_body.new.binding in
-    carried_on c.added_atoms.result
-    (no_arguments rule binding all c.widened-all.ensures.same c.variables.ensures.valid new c.if-not-bind_body.ensures)
-    (λ made is. is_body rule binding all c.widened-all.ensures.same new made.items c.if-not-bind_body.ensures is)
+    if_ok_as c.added_atoms.result
+    (λ made. carried_on made
+    (no_arguments rule binding all c.widened-all.ensures.same new c.if-not-bind_body.ensures)
+    (λ atoms is. is_body rule binding all c.widened-all.ensures.same new atoms.items c.if-not-bind_body.ensures is))
     c.added_atoms.ensures
 
 pub returns-then-not-bind_body : goal.returns-then-not-bind_body

@@ -1,30 +1,49 @@
-use Rattle.std.proofs.Common.{◌≡◌, ◌<◌, ◌≤◌, ◌+◌, ◌++◌, ◌∷◌, [], length, map, None, Some, sym, ap, ◌∙◌, arith}
+use Rattle.std.proofs.Common.{◌≡◌, ◌<◌, ◌≤◌, ◌+◌, ◌++◌, ◌∷◌, [], length, map, take, Some, None, vec_len, sym, ap, ◌∙◌, arith}
 use Rattle.std.specs.Option.{option_map}
-use Rattle.std.proofs.lemmas.List.{length_push}
+use Rattle.std.proofs.lemmas.List.{length_push, take_all}
 use Rattle.chr_value.specs.Atoms.{ground}
-use Rattle.chr_rule.specs.Parts.{argument}
+use Rattle.chr_rule.specs.Parts.{argument, shape}
+use Rattle.chr_guard.specs.Values.{term_under, value_under}
 use Rattle.chr_guard.specs.Bindings.{bound_at}
-use Rattle.chr_guard.specs.Instances.{values_under}
-use Rattle.chr_guard.proofs.Steps.{read_there}
-use Rattle.chr_guard.proofs.Under.{values_more, no_values}
+use Rattle.chr_guard.specs.Instances.{all_values}
+use Rattle.chr_guard.proofs.Under.{limited, values_more, no_values, atom_by_values}
 use Rattle.chr_guard.proofs.body.make_atom.Goals as goal
 
-pub returns-in_err-value : goal.returns-in_err-value
-returns-in_err-value g c =
-    let terms = c.as_slice-term-items.result.now in
-    let here : c.loop-term.term-index < length terms = c.loop-term-test.true in
-    let none : values_under (bound_at c.args.binding.now) (map argument terms) ≡ None = no_values argument (bound_at c.args.binding.now) terms c.loop-term.term-index _ here (read_there terms c.loop-term.term-index _ here) (sym c.in_err-value.ensures) in
-    c.from_residual.ensures ∙ ap (option_map (λ values. record { name = c.args.pattern.now.name.number; args = values })) (sym none ∙ ap (λ ts. values_under (bound_at c.args.binding.now) (map argument ts)) c.as_slice-term-items.ensures.value)
+pub returns-in_default : goal.returns-in_default
+returns-in_default g c =
+    let value = value_under (bound_at c.args.binding.now) in
+    let terms = c.deref-term-items.result.now in
+    let none : value (argument c.term-item.result) ≡ None = sym c.in_ok-value.ensures ∙ ap (option_map ground) c.in_default.is in
+    let all : all_values value (map argument terms) ≡ None = no_values argument value terms c.loop-term.term-index c.term-item.result c.loop-term-test.true c.term-item.is none in
+    ap (option_map (λ values. record { name = c.args.pattern.now.name.number; args = values })) (sym all ∙ ap (λ ts. all_values value (map argument ts)) c.deref-term-items.ensures.value)
+
+pub push-requires : goal.push-requires
+push-requires g c =
+    let some : value_under (bound_at c.args.binding.now) (argument c.term-item.result) ≡ Some (ground c.in-Some.value) = sym c.in_ok-value.ensures ∙ ap (option_map ground) c.in-Some.is in
+    let here : c.loop-term.term-index < length c.deref-term-items.result.now = c.loop-term-test.true in
+    let most : length c.deref-term-items.result.now ≡ vec_len c.args.pattern.now.terms = c.deref-term-items.ensures.len in
+    let fits : vec_len c.args.pattern.now.terms ≤ 8 = c.args.pattern.now.few in
+    let few : length c.loop-term.atom.args ≤ c.loop-term.term-index = c.loop-term.invariant.few in
+    record { room = omega arith; within = (limited (term_under (bound_at c.args.binding.now) (argument c.term-item.result)) (ground c.in-Some.value) some).1 }
 
 pub loop-term-preserved : goal.loop-term-preserved
 loop-term-preserved g c =
-    let terms = c.as_slice-term-items.result.now in
-    let here : c.loop-term.term-index < length terms = c.loop-term-test.true in
-    let more : c.push.new.self.args ≡ c.loop-term.atom.args ++ ground c.in_ok-value.field-0 ∷ [] = ap (λ a. a.args) c.push.ensures in
+    let value = value_under (bound_at c.args.binding.now) in
+    let terms = c.deref-term-items.result.now in
+    let some : value (argument c.term-item.result) ≡ Some (ground c.in-Some.value) = sym c.in_ok-value.ensures ∙ ap (option_map ground) c.in-Some.is in
+    let more : c.push.new.self.args ≡ c.loop-term.atom.args ++ ground c.in-Some.value ∷ [] = ap (λ a. a.args) c.in_ok-push.ensures.ok in
     let len : length c.push.new.self.args ≡ length c.loop-term.atom.args + 1 = ap length more ∙ length_push c.loop-term.atom.args _ in
     let few : length c.loop-term.atom.args ≤ c.loop-term.term-index = c.loop-term.invariant.few in
     record {
-      name = ap (λ a. a.name) c.push.ensures ∙ c.loop-term.invariant.name;
-      args = values_more argument (bound_at c.args.binding.now) terms c.loop-term.term-index _ c.loop-term.atom.args (ground c.in_ok-value.field-0) here (read_there terms c.loop-term.term-index _ here) c.loop-term.invariant.args (sym c.in_ok-value.ensures) ∙ ap (λ l. Some l) (sym more);
+      name = ap (λ a. a.name) c.in_ok-push.ensures.ok ∙ c.loop-term.invariant.name;
+      args = values_more argument value terms c.loop-term.term-index c.term-item.result c.loop-term.atom.args (ground c.in-Some.value) c.loop-term-test.true c.term-item.is c.loop-term.invariant.args some ∙ ap (λ l. Some l) (sym more);
       few = omega arith;
     }
+
+pub returns : goal.returns
+returns g c =
+    let value = value_under (bound_at c.args.binding.now) in
+    let terms = c.deref-term-items.result.now in
+    let all : all_values value (map argument c.args.pattern.now.terms.items) ≡ Some c.loop-term.atom.args =
+    ap (λ ts. all_values value (map argument ts)) (sym c.deref-term-items.ensures.value ∙ sym (take_all c.loop-term.term-index terms c.loop-term-test.false)) ∙ c.loop-term.invariant.args in
+    sym (atom_by_values value (shape c.args.pattern.now) c.loop-term.atom (sym c.loop-term.invariant.name) all)

@@ -1,43 +1,20 @@
-use Rattle.std.proofs.Common.{◌≡◌, ◌<◌, ◌≤◌, length, map, None, replicate, sym, subst, ◌∙◌}
-use Rattle.std.proofs.lemmas.List.{length-map, length-replicate}
-use Rattle.chr_rule.specs.Parts.{shape}
-use Rattle.chr_guard.specs.Matching.{IsAtHead, AreAtHeads}
-use Rattle.chr_guard.proofs.Scoped.{IsPlaced}
-use Rattle.chr_guard.proofs.Steps.{map_read, narrows_whole}
-use Rattle.chr_guard.proofs.Matched.{head_placed, fit_from_free, stands_more, stands_stop, stands_nowhere, none_from_free}
+use Rattle.std.proofs.Common.{◌≡◌, length, map, replicate, None, ap, sym, subst, ◌∙◌, arith}
+use Rattle.std.proofs.lemmas.List.{length-replicate}
+use Rattle.chr_guard.specs.Bindings.{Narrows, NoneUnder}
+use Rattle.chr_guard.specs.Matching.{AreAtHeads}
+use Rattle.chr_guard.proofs.Matched.{fit_from_free, none_from_free}
 use Rattle.chr_guard.proofs.matching.fit.Goals as goal
 
-pub returns-in_err-head : goal.returns-in_err-head
-returns-in_err-head g c =
-    let placed = c.args.placed.now in
-    let here : c.loop-number.number-index < length placed = c.loop-number-test.true in
-    let there : c.loop-number.number-index < length (map (λ p. (p.0, p.1.now)) placed) = rw length-map here in
-    rw c.from_residual.ensures (stands_nowhere c.args.rule.now (map (λ p. (p.0, p.1.now)) placed) c.loop-number.number-index (c.loop-number-item.result.0, c.loop-number-item.result.1.now) there (map_read (λ p. (p.0, p.1.now)) placed c.loop-number.number-index c.loop-number-item.result here c.loop-number-item.is) (sym c.in_err-head.ensures.head))
+pub fit_placed-requires : goal.fit_placed-requires
+fit_placed-requires g c = (omega arith, ap length c.free-binding.ensures ∙ length-replicate c.variables.result None ∙ c.variables.ensures.count)
 
-pub fit_head-requires : goal.fit_head-requires
-fit_head-requires g c =
-    let len : length c.loop-number.binding ≡ c.args.rule.now.variables = c.loop-number.invariant.places ∙ length-replicate c.args.rule.now.variables None in
-    subst (λ n. IsPlaced n (shape c.in_ok-head.head.now)) (sym len) (head_placed c.args.rule.now c.variables.ensures.valid c.loop-number-item.result.0 (shape c.in_ok-head.head.now) (sym c.in_ok-head.ensures.head))
-
-pub returns-then-not-fit_head : goal.returns-then-not-fit_head
-returns-then-not-fit_head g c =
-    let placed = c.args.placed.now in
-    let here : c.loop-number.number-index < length placed = c.loop-number-test.true in
-    let there : c.loop-number.number-index < length (map (λ p. (p.0, p.1.now)) placed) = rw length-map here in
-    none_from_free (AreAtHeads c.args.rule.now (map (λ p. (p.0, p.1.now)) placed)) c.args.rule.now.variables
-    (stands_stop c.args.rule.now (map (λ p. (p.0, p.1.now)) placed) c.loop-number.number-index (c.loop-number-item.result.0, c.loop-number-item.result.1.now) (shape c.in_ok-head.head.now) (replicate c.args.rule.now.variables None) c.loop-number.binding there (map_read (λ p. (p.0, p.1.now)) placed c.loop-number.number-index c.loop-number-item.result here c.loop-number-item.is) (sym c.in_ok-head.ensures.head) c.loop-number.invariant c.if-not-fit_head.ensures)
-
-pub loop-number-preserved : goal.loop-number-preserved
-loop-number-preserved g c =
-    let placed = c.args.placed.now in
-    let here : c.loop-number.number-index < length placed = c.loop-number-test.true in
-    let there : c.loop-number.number-index < length (map (λ p. (p.0, p.1.now)) placed) = rw length-map here in
-    stands_more c.args.rule.now (map (λ p. (p.0, p.1.now)) placed) c.loop-number.number-index (c.loop-number-item.result.0, c.loop-number-item.result.1.now) (shape c.in_ok-head.head.now) (replicate c.args.rule.now.variables None) c.loop-number.binding c.fit_head.new.binding there (map_read (λ p. (p.0, p.1.now)) placed c.loop-number.number-index c.loop-number-item.result here c.loop-number-item.is) (sym c.in_ok-head.ensures.head) c.loop-number.invariant c.if-not-fit_head.ensures
+pub returns-then-not-fit_placed : goal.returns-then-not-fit_placed
+returns-then-not-fit_placed g c =
+    let all = AreAtHeads c.args.rule.now (map (λ p. (p.0, p.1.now)) c.args.placed.now) in
+    none_from_free all c.variables.result (subst (NoneUnder all) c.free-binding.ensures c.if-not-fit_placed.ensures)
 
 pub returns : goal.returns
 returns g c =
-    let placed = c.args.placed.now in
-    let past : length placed ≤ c.loop-number.number-index = c.loop-number-test.false in
-    let out : length (map (λ p. (p.0, p.1.now)) placed) ≤ c.loop-number.number-index = rw length-map past in
-    fit_from_free c.args.rule.now (AreAtHeads c.args.rule.now (map (λ p. (p.0, p.1.now)) placed)) c.loop-number.binding
-    (narrows_whole (IsAtHead c.args.rule.now) (map (λ p. (p.0, p.1.now)) placed) c.loop-number.number-index (replicate c.args.rule.now.variables None) c.loop-number.binding out c.loop-number.invariant)
+    let all = AreAtHeads c.args.rule.now (map (λ p. (p.0, p.1.now)) c.args.placed.now) in
+    let start = c.free-binding.ensures ∙ ap (λ n. replicate n None) c.variables.ensures.count in
+    fit_from_free c.args.rule.now all c.fit_placed.new.binding (subst (λ old. Narrows all old c.fit_placed.new.binding) start c.if-not-fit_placed.ensures)

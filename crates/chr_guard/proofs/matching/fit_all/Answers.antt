@@ -13,13 +13,13 @@ pub fit_heads-requires : goal.fit_heads-requires
 fit_heads-requires g c =
     let rule = c.args.rule.now in
     let len : length c.free-binding.result ≡ rule.variables = ap length c.free-binding.ensures ∙ length-replicate c.variables.result None ∙ c.variables.ensures.count in
-    placed_in_binding rule (map shape c.kept-kept.result.now) (length c.free-binding.result) len (subst (AllByRecursion (IsPlaced rule.variables)) (sym c.kept-kept.ensures.heads) (kept_placed rule c.kept-kept.ensures.valid))
+    (omega arith, placed_in_binding rule (map shape c.kept-kept.result.now) (length c.free-binding.result) len (subst (AllByRecursion (IsPlaced rule.variables)) (sym c.kept-kept.ensures.heads) (kept_placed rule c.kept-kept.ensures.valid)))
 
 pub fit_heads-requires-2 : goal.fit_heads-requires-2
 fit_heads-requires-2 g c =
     let rule = c.args.rule.now in
     let len : length c.fit_heads.new.binding ≡ rule.variables = c.if-not-fit_heads.ensures.places ∙ ap length c.free-binding.ensures ∙ length-replicate c.variables.result None ∙ c.variables.ensures.count in
-    placed_in_binding rule (map shape c.removed-removed.result.now) (length c.fit_heads.new.binding) len (subst (AllByRecursion (IsPlaced rule.variables)) (sym c.removed-removed.ensures.heads) (removed_placed rule c.kept-kept.ensures.valid))
+    (omega arith, placed_in_binding rule (map shape c.removed-removed.result.now) (length c.fit_heads.new.binding) len (subst (AllByRecursion (IsPlaced rule.variables)) (sym c.removed-removed.ensures.heads) (removed_placed rule c.kept-kept.ensures.valid)))
 
 pub returns : goal.returns
 returns g c =

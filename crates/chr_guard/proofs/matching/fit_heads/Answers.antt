@@ -12,7 +12,7 @@ fit_head-requires g c =
     let here : c.loop-i.i < length heads = omega arith in
     let there : c.loop-i.i < length (map shape heads) = rw length-map here in
     let placed = (all_at (IsPlaced (length c.args.binding.now)) (map shape heads) c.loop-i.i (shape c.index-heads-i.result) there (map_read shape heads c.loop-i.i c.index-heads-i.result here c.index-heads-i.is) c.requires).1 in
-    subst (λ n. IsPlaced n (shape c.index-heads-i.result)) (sym c.loop-i.invariant.places) placed
+    (omega arith, subst (λ n. IsPlaced n (shape c.index-heads-i.result)) (sym c.loop-i.invariant.places) placed)
 
 pub returns-then-not-fit_head : goal.returns-then-not-fit_head
 returns-then-not-fit_head g c =

@@ -1,9 +1,8 @@
 use Rattle.std.proofs.Common.{◌+◌, ◌<◌, ◌∷◌, [], ap, ◌∙◌, sym, subst, map, flat_map, drop, length, arith}
 use Rattle.std.proofs.lemmas.List.{length-map, map-append}
-use Rattle.chr_lex.specs.Tokens.{word}
 use Rattle.chr_grammar.specs.Parsed as parsed
-use Rattle.chr_grammar.specs.Views.{member, formula, phrase}
-use Rattle.chr_limits.specs.Variables.{is_seen, word_variables, formula_variables}
+use Rattle.chr_grammar.specs.Views.{member, formula, term, phrase}
+use Rattle.chr_limits.specs.Variables.{is_seen, term_variables, formula_variables}
 use Rattle.chr_limits.specs.Scope.{are_seen, body_in_scope}
 use Rattle.chr_limits.specs.Views.{names}
 use Rattle.chr_limits.proofs.Scoped.{Left, turn_of, after_nothing, after_add, after_is, room_for}
@@ -39,8 +38,8 @@ loop-member-preserved g c =
           record { few = here.0; same = here.1 }
       | in-Add+else-not-are_terms_seen w ↦
           let left = turn_of member (Left all m) c.args.body.now c.loop-member.member-index c.member-item.result (parsed.Add (phrase w.in-Add.phrase)) c.loop-member-test.true c.member-item.is (ap member w.in-Add.is) (c.loop-member.invariant.few, c.loop-member.invariant.same) in
-          let slice = ap (λ l. are_seen m (flat_map word_variables (map word l))) (sym w.deref-in-Add-2.ensures.value) in
-          let known = slice ∙ ap (λ l. are_seen (names l) (flat_map word_variables (map word w.deref-in-Add-2.result.now))) (sym w.deref-in-Add.ensures.0) ∙ sym w.are_terms_seen.ensures ∙ w.if-not-are_terms_seen.false in
+          let slice = ap (λ l. are_seen m (flat_map term_variables (map term l))) (sym w.deref-in-Add-2.ensures.value) in
+          let known = slice ∙ ap (λ l. are_seen (names l) (flat_map term_variables (map term w.deref-in-Add-2.result.now))) (sym w.deref-in-Add.ensures.0) ∙ sym w.are_terms_seen.ensures ∙ w.if-not-are_terms_seen.false in
           let here = subst (λ l. Left all (names l.items) ms) (sym w.seen-is) (after_add all m (phrase w.in-Add.phrase) ms known left) in
           record { few = here.0; same = here.1 }
     ]

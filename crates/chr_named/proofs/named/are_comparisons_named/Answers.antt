@@ -1,13 +1,12 @@
-use Rattle.std.proofs.Common.{rules, IsTrue, map, subst, sym}
-use Rattle.std.specs.List.{AllByRecursion}
 use Rattle.chr_rule.specs.Parts.{comparison}
+use Rattle.chr_rule.proofs.Places.{all_more, not_all}
 use Rattle.chr_named.specs.Named.{ComparisonIsNamed}
-use Rattle.chr_named.proofs.Each.{all_at}
 use Rattle.chr_named.proofs.named.are_comparisons_named.Goals as goal
 
 pub returns-then-not-is_comparison_named : goal.returns-then-not-is_comparison_named
 returns-then-not-is_comparison_named g c =
-    let at : AllByRecursion (ComparisonIsNamed c.args.count) (map comparison c.args.guard.now) → IsTrue c.is_comparison_named.result
-    = λ h. c.is_comparison_named.ensures.1 (subst (λ x. ComparisonIsNamed c.args.count (comparison x)) (sym c.test-item.is) (all_at (ComparisonIsNamed c.args.count) comparison c.args.guard.now c.loop-test.test-index c.test-item.result h c.loop-test-test.true)) in
-    let k = c.if-not-is_comparison_named.true in
-    search rules
+    not_all comparison (ComparisonIsNamed c.args.count) c.args.guard.now c.loop-test.test-index _ _ c.loop-test-test.true c.test-item.is c.is_comparison_named.ensures c.if-not-is_comparison_named.true
+
+pub loop-test-preserved : goal.loop-test-preserved
+loop-test-preserved g c =
+    all_more comparison (ComparisonIsNamed c.args.count) c.args.guard.now c.loop-test.test-index _ c.loop-test-test.true c.test-item.is c.loop-test.invariant (c.is_comparison_named.ensures.0 c.if-not-is_comparison_named.false)

@@ -5,4 +5,4 @@ use Rattle.chr_named.specs.Named.{RuleAtomIsNamed}
 use Rattle.chr_named.proofs.named.are_rule_atoms_named.Given as goal
 
 abbrev pub invariant-loop-atom : goal.invariant-loop-atom
-invariant-loop-atom l = AllByRecursion (RuleAtomIsNamed l.count) (map shape (take l.atom-index l.atoms))
+invariant-loop-atom g l = AllByRecursion (RuleAtomIsNamed l.count) (map shape (take l.atom-index l.atoms))

@@ -1,7 +1,14 @@
-use Rattle.std.proofs.Common.{arith}
+use Rattle.std.proofs.Common.{◌<◌, length, arith}
 use Rattle.chr_rule.specs.Parts.{member}
 use Rattle.chr_rule.proofs.Lists.{differ_at}
+use Rattle.chr_rule.proofs.Places.{same_more}
 use Rattle.chr_rule.proofs.expression.same_bodies.Goals as goal
 
 pub returns-then-not-same : goal.returns-then-not-same
 returns-then-not-same g c = differ_at member c.args.body.now c.args.other.now c.loop-i.i _ _ _ (omega arith) (omega arith) c.index-body-i.is c.index-other-i.is c.same.ensures c.if-not-same.true
+
+pub loop-i-preserved : goal.loop-i-preserved
+loop-i-preserved g c =
+    let left : c.loop-i.i < length c.args.body.now = omega arith in
+    let right : c.loop-i.i < length c.args.other.now = omega arith in
+    same_more member c.args.body.now c.args.other.now c.loop-i.i _ _ left right c.index-body-i.is c.index-other-i.is (c.same.ensures.0 c.if-not-same.false) c.loop-i.invariant

@@ -1,4 +1,4 @@
-use Rattle.std.proofs.Common.{MatchOption, sym, subst}
+use Rattle.std.proofs.Common.{MatchOption, sym, subst, arith}
 use Rattle.chr_guard.specs.Instances.{NoInstance}
 use Rattle.chr_guard.specs.Matching.{HeadsAre, IsFit, IsInstanceUnder}
 use Rattle.chr_search.proofs.Wholes.{in_head_order, full_fit, completed}
@@ -7,7 +7,7 @@ use Rattle.chr_search.proofs.judged.complete.Goals as goal
 pub instance_from-requires : goal.instance_from-requires
 instance_from-requires g c =
     let t = c.args.trial.now in
-    (in_head_order t, subst (λ r. IsFit r (HeadsAre r (in_head_order t)) c.args.binding) (sym c.rule.ensures.rule) (full_fit t c.rule.ensures.formed c.requires.full c.args.binding c.requires.fit))
+    (omega arith, (in_head_order t, subst (λ r. IsFit r (HeadsAre r (in_head_order t)) c.args.binding) (sym c.rule.ensures.rule) (full_fit t c.rule.ensures.formed c.requires.full c.args.binding c.requires.fit)))
 
 pub returns : goal.returns
 returns g c =

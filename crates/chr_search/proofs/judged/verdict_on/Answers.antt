@@ -53,18 +53,14 @@ returns-then-placed-heads-clause-binding g c = λ (w : IsWhole c.args.trial.now)
     let full : length t.placed ≡ length (heads_of t.rule) = w.full in
     absurd (omega (arith, length-append t.rule.kept t.rule.removed))
 
-pub complete-requires-clause-full : goal.complete-requires-clause-full
-complete-requires-clause-full g c =
+pub complete-requires : goal.complete-requires
+complete-requires g c =
     let t = c.args.trial.now in
     let xs = c.placed-placed.result.now in
+    let lab : labels t ≡ map (λ p. p.label) xs = ap (map (λ (p : Placed). p.label)) (sym c.placed-placed.ensures.placed) ∙ map_twice placed_as (λ (p : Placed). p.label) xs in
     let count : length t.placed ≡ length xs = ap length (sym c.placed-placed.ensures.placed) ∙ length-map xs placed_as in
     let many : c.heads.result ≤ length xs = c.if-placed-heads.false in
     let heads : c.heads.result ≡ length t.rule.kept + length t.rule.removed = c.heads.ensures.count ∙ ap (λ (r : Simpagation ℕ). length r.kept + length r.removed) c.rule.ensures.rule in
     let few : length t.placed ≤ length (heads_of t.rule) = c.rule.ensures.formed.few in
-    omega (arith, length-append t.rule.kept t.rule.removed)
-
-pub complete-requires-clause-distinct : goal.complete-requires-clause-distinct
-complete-requires-clause-distinct g c =
-    let t = c.args.trial.now in
-    let lab : labels t ≡ map (λ p. p.label) c.placed-placed.result.now = ap (map (λ (p : Placed). p.label)) (sym c.placed-placed.ensures.placed) ∙ map_twice placed_as (λ (p : Placed). p.label) c.placed-placed.result.now in
-    subst Distinct (sym lab) (c.are_distinct.ensures.0 c.if-not-are_distinct.false)
+    let full : length t.placed ≡ length (heads_of t.rule) = omega (arith, length-append t.rule.kept t.rule.removed) in
+    (omega arith, (full, (subst Distinct (sym lab) (c.are_distinct.ensures.0 c.if-not-are_distinct.false), c.in-Some.ensures)))

@@ -28,3 +28,8 @@ returns-in_err-put-clause-part g c =
     let f : List ℕ → List ℕ = λ ms. ms ++ c.args.label ∷ [] in
     let p = err_from_is_err_and c.from_residual.result c.from_residual.ensures.1 in
     rw p.1 (0, touched_stayed f c.args.places.now c.args.atom.now c.args.buckets.now c.put.new.buckets c.in_err-put.ensures.unchanged)
+
+pub returns-in_err-put-2-clause-part : goal.returns-in_err-put-2-clause-part
+returns-in_err-put-2-clause-part g c =
+    let p = err_from_is_err_and c.from_residual-in_err-put-2.result c.from_residual-in_err-put-2.ensures.1 in
+    rw p.1 (c.loop-place.place, λ k. c.in_err-put-2.ensures.unchanged k ∙ c.loop-place.invariant k)

@@ -30,3 +30,6 @@ loop-phrase-preserved g c = record {
   seen = turn_seen raw.rule_atom (texts c.loop-phrase.seen.items) (texts c.number_phrase.new.seen.items) _ _ _ _ (map_from (by_texts.phrase {Z = g.row.A.Denot}) c.args.phrases.now c.loop-phrase.phrase-index c.phrase-item.result c.loop-phrase-test.true c.phrase-item.is) c.in_ok-pattern.ensures.seen c.loop-phrase.invariant.seen;
   keeps = λ t h. c.in_ok-pattern.ensures.keeps t (c.loop-phrase.invariant.keeps t h);
 }
+
+pub returns-in_err-push-clause-keeps : goal.returns-in_err-push-clause-keeps
+returns-in_err-push-clause-keeps g c = λ t h. c.in_ok-pattern.ensures.keeps t (c.loop-phrase.invariant.keeps t h)

@@ -1,4 +1,4 @@
-use Rattle.std.proofs.Common.{map}
+use Rattle.std.proofs.Common.{refl, ap, map}
 use Rattle.std.specs.Option.{option_map}
 use Rattle.std.proofs.lemmas.Result.{err_from_is_err_and}
 use Rattle.chr_grammar.specs.Views as by_texts
@@ -6,11 +6,12 @@ use Rattle.chr_limits.specs.Views.{names as texts}
 use Rattle.chr_rule.specs.Parts.{comparison}
 use Rattle.chr_text.specs.Fitting.{TestFits}
 use Rattle.chr_text.specs.Numbering as numbering
+use Rattle.chr_text.specs.Numbering.{or_full}
 use Rattle.chr_text.specs.Translation as raw
 use Rattle.chr_text.proofs.Growing.{test_grows}
-use Rattle.chr_text.proofs.Places.{map_from, all_from}
+use Rattle.chr_text.proofs.Places.{map_from, map_end, all_from}
 use Rattle.chr_text.proofs.Steps.{numbered_is}
-use Rattle.chr_text.proofs.Turns.{turn_seen, turn_room, some_turn, some_fails, map_put}
+use Rattle.chr_text.proofs.Turns.{more_nothing, turn_seen, turn_room, some_turn, some_fails, some_done, map_put}
 use Rattle.chr_text.proofs.build.number_tests.Goals as goal
 
 pub number_test-requires-clause-fits : goal.number_test-requires-clause-fits
@@ -36,3 +37,10 @@ returns-in_err-comparison-clause-keeps g c = λ t h. c.in_err-comparison.ensures
 
 pub returns-in_err-push_some-clause-keeps : goal.returns-in_err-push_some-clause-keeps
 returns-in_err-push_some-clause-keeps g c = λ t h. c.in_ok-comparison.ensures.keeps t (c.loop-test.invariant.keeps t h)
+
+pub loop-test-init : goal.loop-test-init
+loop-test-init g c = record { gives = rw c.new-comparisons.ensures.items (more_nothing _); seen = refl; keeps = λ t h. h }
+
+pub returns-clause-gives : goal.returns-clause-gives
+returns-clause-gives g c =
+    ap or_full (some_done numbering.number_test raw.test (map (comparison {Z = g.row.A.Denot}) c.loop-test.comparisons.items) c.loop-test.names (texts c.loop-test.seen.items) _ _ (map_end (by_texts.test {Z = g.row.A.Denot}) c.args.tests.now c.loop-test.test-index c.loop-test-test.false) c.loop-test.invariant.gives)

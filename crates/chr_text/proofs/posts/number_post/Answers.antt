@@ -1,16 +1,16 @@
-use Rattle.std.proofs.Common.{◌+◌, ℕ, ◌∙◌, ap, drop, map, length}
-use Rattle.std.proofs.lemmas.List.{length_push}
+use Rattle.std.proofs.Common.{◌+◌, ℕ, ◌∙◌, ap, drop, map, length, arith}
+use Rattle.std.proofs.lemmas.List.{length_push, length-map}
 use Rattle.std.proofs.lemmas.Result.{err_from_is_err_and}
-use Rattle.chr_lex.specs.Tokens.{word}
 use Rattle.chr_grammar.specs.Views as by_texts
 use Rattle.chr_value.specs.Atoms.{ground}
 use Rattle.chr_value.proofs.NameLaws.{first_done, one_more, all_done}
-use Rattle.chr_text.specs.Fitting.{TermFits}
+use Rattle.chr_text.specs.Fitting.{ValueFits}
 use Rattle.chr_text.specs.Numbering.{or_full}
-use Rattle.chr_text.specs.Translation.{term, atom_by_texts}
-use Rattle.chr_text.proofs.Places.{map_at, map_end, all_at}
+use Rattle.chr_text.specs.Translation.{value, atom_by_texts}
+use Rattle.chr_text.proofs.Places.{map_from, map_end, all_from}
 use Rattle.chr_text.proofs.Facts.{fact_fails, terms_fail}
 use Rattle.chr_text.proofs.Steps.{numbered_is}
+use Rattle.chr_text.proofs.Values.{value_within}
 use Rattle.chr_text.proofs.posts.number_post.Goals as goal
 
 pub returns-in_err-name-clause-gives : goal.returns-in_err-name-clause-gives
@@ -25,22 +25,35 @@ loop-term-init g c = record {
   keeps = c.in_ok-name.ensures.keeps;
 }
 
-pub number_term-requires : goal.number_term-requires
-number_term-requires g c = all_at TermFits word c.deref-term-items.result.now c.loop-term.term-index _ (rw c.deref-term-items.ensures.value c.requires.args) c.loop-term-test.true
+pub number_value-requires : goal.number_value-requires
+number_value-requires g c = all_from ValueFits (by_texts.term {Z = g.row.A.Denot}) c.deref-term-items.result.now c.loop-term.term-index c.term-item.result (rw c.deref-term-items.ensures.value c.requires.args) c.loop-term-test.true c.term-item.is
 
-pub returns-in_err-number_term-clause-gives : goal.returns-in_err-number_term-clause-gives
-returns-in_err-number_term-clause-gives g c =
-    let p = err_from_is_err_and c.from_residual-in_err-number_term.result c.from_residual-in_err-number_term.ensures.1 in
-    let ws = c.deref-term-items.result.now in
-    rw (p.1, p.2) (terms_fail c.in_err-number_term.field-0.0 c.loop-term.atom.name c.loop-term.atom.args c.loop-term.names _ _ (map term (map word (drop c.loop-term.term-index ws))) _ (ap (map term) (map_at word ws c.loop-term.term-index _ c.loop-term-test.true)) c.in_err-number_term.ensures.gives (rw c.deref-term-items.ensures.value c.loop-term.invariant.gives))
+pub returns-in_err-value-clause-gives : goal.returns-in_err-value-clause-gives
+returns-in_err-value-clause-gives g c =
+    let p = err_from_is_err_and c.from_residual-in_err-value.result c.from_residual-in_err-value.ensures.1 in
+    let ts = c.deref-term-items.result.now in
+    rw (p.1, p.2) (terms_fail c.in_err-value.field-0.0 c.loop-term.atom.name c.loop-term.atom.args c.loop-term.names _ _ (map value (map (by_texts.term {Z = g.row.A.Denot}) (drop c.loop-term.term-index ts))) _ (ap (map value) (map_from (by_texts.term {Z = g.row.A.Denot}) ts c.loop-term.term-index c.term-item.result c.loop-term-test.true c.term-item.is)) c.in_err-value.ensures.gives (rw c.deref-term-items.ensures.value c.loop-term.invariant.gives))
+
+pub push-requires-clause-room : goal.push-requires-clause-room
+push-requires-clause-room g c =
+    let few = c.requires.few in
+    let all = length-map c.args.phrase.now.args.items (by_texts.term {Z = g.row.A.Denot}) in
+    let same = ap length c.deref-term-items.ensures.value in
+    omega (arith, few, all, same, c.loop-term.invariant.few, c.loop-term-test.true)
+
+pub push-requires-clause-within : goal.push-requires-clause-within
+push-requires-clause-within g c =
+    let fits = all_from ValueFits (by_texts.term {Z = g.row.A.Denot}) c.deref-term-items.result.now c.loop-term.term-index c.term-item.result (rw c.deref-term-items.ensures.value c.requires.args) c.loop-term-test.true c.term-item.is in
+    value_within c.loop-term.names c.number_value.new.names (by_texts.term {Z = g.row.A.Denot} c.term-item.result) (ground c.in_ok-value.value) fits (numbered_is _ _ c.in_ok-value.ensures.gives)
 
 pub loop-term-preserved : goal.loop-term-preserved
 loop-term-preserved g c =
-    let ws = c.deref-term-items.result.now in record {
-      gives = rw (c.push.ensures, ← c.deref-term-items.ensures.value) (one_more c.loop-term.atom.name c.loop-term.atom.args c.loop-term.names c.number_term.new.names _ _ (map term (map word (drop c.loop-term.term-index ws))) (ground c.in_ok-number_term.field-0) _ (ap (map term) (map_at word ws c.loop-term.term-index _ c.loop-term-test.true)) (numbered_is _ _ c.in_ok-number_term.ensures.gives) (rw c.deref-term-items.ensures.value c.loop-term.invariant.gives));
-      few = ap (λ a. length a.args) c.push.ensures ∙ length_push c.loop-term.atom.args (ground c.in_ok-number_term.field-0) ∙ ap (λ (n : ℕ). n + 1) c.loop-term.invariant.few;
-      keeps = λ t h. c.in_ok-number_term.ensures.keeps t (c.loop-term.invariant.keeps t h);
+    let ts = c.deref-term-items.result.now in record {
+      gives = rw (c.in_ok-push.ensures.ok, ← c.deref-term-items.ensures.value) (one_more c.loop-term.atom.name c.loop-term.atom.args c.loop-term.names c.number_value.new.names _ _ (map value (map (by_texts.term {Z = g.row.A.Denot}) (drop c.loop-term.term-index ts))) (ground c.in_ok-value.value) _ (ap (map value) (map_from (by_texts.term {Z = g.row.A.Denot}) ts c.loop-term.term-index c.term-item.result c.loop-term-test.true c.term-item.is)) (numbered_is _ _ c.in_ok-value.ensures.gives) (rw c.deref-term-items.ensures.value c.loop-term.invariant.gives));
+      few = ap (λ a. length a.args) c.in_ok-push.ensures.ok ∙ length_push c.loop-term.atom.args (ground c.in_ok-value.value) ∙ ap (λ (n : ℕ). n + 1) c.loop-term.invariant.few;
+      keeps = λ t h. c.in_ok-value.ensures.keeps t (c.loop-term.invariant.keeps t h);
     }
 
 pub returns-clause-gives : goal.returns-clause-gives
-returns-clause-gives g c = ap or_full (all_done c.loop-term.atom.name c.loop-term.atom.args c.loop-term.names (map term (map word (drop c.loop-term.term-index c.deref-term-items.result.now))) _ (ap (map term) (map_end word c.deref-term-items.result.now c.loop-term.term-index c.loop-term-test.false)) (rw c.deref-term-items.ensures.value c.loop-term.invariant.gives))
+returns-clause-gives g c =
+    ap or_full (all_done c.loop-term.atom.name c.loop-term.atom.args c.loop-term.names (map value (map (by_texts.term {Z = g.row.A.Denot}) (drop c.loop-term.term-index c.deref-term-items.result.now))) _ (ap (map value) (map_end (by_texts.term {Z = g.row.A.Denot}) c.deref-term-items.result.now c.loop-term.term-index c.loop-term-test.false)) (rw c.deref-term-items.ensures.value c.loop-term.invariant.gives))

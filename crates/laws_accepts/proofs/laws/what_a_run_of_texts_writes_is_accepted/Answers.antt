@@ -1,4 +1,4 @@
-use Rattle.std.proofs.Common.{◌≡◌, ◌≤◌, List, ℕ, length, sym, subst, ap}
+use Rattle.std.proofs.Common.{◌≤◌, length, subst}
 use Rattle.chr_log_text.specs.Writable.{most_bytes}
 use Rattle.chr_run_text.specs.Output.{shown}
 use Rattle.chr_run_text.specs.declared.output.Show.TheVariants as show

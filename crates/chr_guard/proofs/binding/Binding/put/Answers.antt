@@ -4,7 +4,7 @@ use Rattle.chr_guard.proofs.Bindings.{after_write, behind_write, is_place, taken
 use Rattle.chr_guard.proofs.binding.Binding.put.Goals as goal
 
 pub invariant_of-self : goal.invariant_of-self
-invariant_of-self c =
+invariant_of-self g c =
     let n = c.self.inside.variables in
     let items = c.self.inside.bound.items in
     let place : c.args.variable < n = is_place n items c.args.self.now c.args.variable c.self.invariant c.self.view_is c.requires in
@@ -12,7 +12,7 @@ invariant_of-self c =
     subst (AreFreeBehind n) (sym written) (behind_write n items c.args.variable c.args.bound c.self.invariant place)
 
 pub returns : goal.returns
-returns c =
+returns g c =
     let n = c.self.inside.variables in
     let items = c.self.inside.bound.items in
     let place : c.args.variable < n = is_place n items c.args.self.now c.args.variable c.self.invariant c.self.view_is c.requires in

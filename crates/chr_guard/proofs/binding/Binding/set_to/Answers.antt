@@ -6,7 +6,7 @@ use Rattle.chr_guard.proofs.binding.Binding.set_to.Goals as goal
 use Rattle.chr_guard.proofs.binding.Binding.set_to.Goals.{then-self-other, else-self-other}
 
 pub loop-variable-init : goal.loop-variable-init
-loop-variable-init c =
+loop-variable-init g c =
     let now : length c.if-self-other.self ≡ c.self-2.inside.variables = length_binding c.self-2.inside.variables c.self-2.inside.bound.items c.if-self-other.self c.self-2.invariant c.self-2.view_is in
     let before : length c.args.self.now ≡ c.self.inside.variables = length_binding c.self.inside.variables c.self.inside.bound.items c.args.self.now c.self.invariant c.self.view_is in
     let as_other : length c.if-self-other.self ≡ c.other.inside.variables =
@@ -18,7 +18,7 @@ loop-variable-init c =
     record { variables = sym now ∙ as_other; behind = c.self-2.invariant; items = refl }
 
 pub returns : goal.returns
-returns c =
+returns g c =
     let loop = c.loop-variable.invariant in
     let items = c.loop-variable.self-inside.bound.items in
     let others = c.other.inside.bound.items in

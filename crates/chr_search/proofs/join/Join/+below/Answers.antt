@@ -32,7 +32,7 @@ left : (g : _) (t : _) (c : pass_parts-After-pop g t) → c.push.new.self.items 
 left g t c pushed =
     let j = join_of c.args.self.now in
     let path = c.args.instance.now.labels.items in
-    let done = subst (λ e. EndsBelow j c.push.new.self.items c.pass_below-below.new.place.items e c.pass_below-below.new.instance.labels.items c.pass_below-below.new.instance.binding) (none_left c.pass_below-below.result.end c.if-ne.ensures) c.pass_below-below.ensures.ends in
+    let done = subst (λ e. EndsBelow j c.push.new.self.items c.pass_below-below.new.place.items e c.pass_below-below.new.instance.labels.items c.pass_below-below.new.bound) (none_left c.pass_below-below.result.end c.if-ne.ensures) c.pass_below-below.ensures.ends in
     (front path c.loop-level.label c.pop.new.self.items c.pass_below-below.new.instance.labels.items (done.0 ∙ pushed) c.pop.ensures.rest, subst (λ ls. IsDone j ls c.pass_below-below.new.place.items) pushed done.1)
 
 pub pass_parts-push-requires : goal.pass_parts-push-requires
@@ -53,7 +53,7 @@ pass_parts-pass_below-below-requires g t c κs within =
     let longer : length c.push.new.self.items ≡ length path + 1 = ap length pushed ∙ length-append path (label ∷ []) in
     let less : 2 * (6 - length c.push.new.self.items) + 1 < 2 * (6 - length path) = omega arith in (
       subst (λ n. 2 * (6 - length c.push.new.self.items) + 1 < n) c.decreases less,
-      (within, (c.requires.begins, (c.requires.plan, (c.requires.trials, (subst (IsReady j c.push.new.self.items) (sym c.set_to.ensures) (subst (λ ls. IsReady j ls c.loop-level.instance.binding) (sym pushed) part.ready), below_at j c.push.new.self.items c.loop-level.place.items 0 (subst (Grows (MayFollow j) []) (sym pushed) grown) (part.place_is ∙ ap (λ ls. ls ++ 0 ∷ []) (sym pushed))))))),
+      (within, (omega arith, (c.requires.begins, (c.requires.plan, (c.requires.trials, (subst (IsReady j c.push.new.self.items) (sym c.set_to.ensures) (subst (λ ls. IsReady j ls c.loop-level.bound) (sym pushed) part.ready), below_at j c.push.new.self.items c.loop-level.place.items 0 (subst (Grows (MayFollow j) []) (sym pushed) grown) (part.place_is ∙ ap (λ ls. ls ++ 0 ∷ []) (sym pushed)))))))),
     )
 
 pub pass_parts-returns-then-ne-clause-passes : goal.pass_parts-returns-then-ne-clause-passes
@@ -68,17 +68,14 @@ pass_parts-overflow_add-label g t c =
     let low : label ≤ 4294967295 = label_small _ path label t.0 t.1 in
     omega arith
 
-pub pass_parts-pass_level-beside-requires-clause-level : goal.pass_parts-pass_level-beside-requires-clause-level
-pass_parts-pass_level-beside-requires-clause-level g t c =
-    let at = goal.at.pass_parts-pass_level-beside-requires-clause-level g t c in
+pub pass_parts-pass_level-beside-requires : goal.pass_parts-pass_level-beside-requires
+pass_parts-pass_level-beside-requires g t c =
+    let at = goal.at.pass_parts-pass_level-beside-requires g t c in
+    let j = join_of c.args.self.now in
     let left = left g t at.After-pop (pushed g t at.After-push) in
-    subst (λ ls. IsLevel (join_of c.args.self.now) ls c.loop-level.level) (sym left.0) c.loop-level.invariant.level
-
-pub pass_parts-pass_level-beside-requires-clause-below : goal.pass_parts-pass_level-beside-requires-clause-below
-pass_parts-pass_level-beside-requires-clause-below g t c =
-    let at = goal.at.pass_parts-pass_level-beside-requires-clause-below g t c in
-    let left = left g t at.After-pop (pushed g t at.After-push) in
-    subst (λ ls. IsBelow (join_of c.args.self.now) ls c.pass_below-below.new.place.items (c.loop-level.label + 1)) (sym left.0) (done_below _ _ _ c.loop-level.label c.requires.grows left.1)
+    let level = subst (λ ls. IsLevel j ls c.loop-level.level) (sym left.0) c.loop-level.invariant.level in
+    let below = subst (λ ls. IsBelow j ls c.pass_below-below.new.place.items (c.loop-level.label + 1)) (sym left.0) (done_below _ _ _ c.loop-level.label c.requires.grows left.1) in
+    (omega arith, (c.requires.begins, (c.requires.plan, (c.requires.trials, (level, below)))))
 
 pub pass_parts-returns-in-End-clause-passes : goal.pass_parts-returns-in-End-clause-passes
 pass_parts-returns-in-End-clause-passes g t c =
@@ -89,20 +86,20 @@ pub pass_parts-returns-in-End-clause-ends : goal.pass_parts-returns-in-End-claus
 pass_parts-returns-in-End-clause-ends g t c =
     let at = goal.at.pass_parts-returns-in-End-clause-ends g t c in
     let left = left g t at.After-pop (pushed g t at.After-push) in
-    let stop = subst (λ s. StopsAt (join_of c.args.self.now) c.pop.new.self.items (c.loop-level.label + 1) s c.pass_level-beside.new.place.items c.pass_level-beside.new.instance.labels.items c.pass_level-beside.new.instance.binding) c.in-End.is c.pass_level-beside.ensures.stops in
-    subst (λ ls. EndsBelow (join_of c.args.self.now) ls c.pass_level-beside.new.place.items c.in-End.end c.pass_level-beside.new.instance.labels.items c.pass_level-beside.new.instance.binding) left.0 stop
+    let stop = subst (λ s. StopsAt (join_of c.args.self.now) c.pop.new.self.items (c.loop-level.label + 1) s c.pass_level-beside.new.place.items c.pass_level-beside.new.instance.labels.items c.pass_level-beside.new.bound) c.in-End.is c.pass_level-beside.ensures.stops in
+    subst (λ ls. EndsBelow (join_of c.args.self.now) ls c.pass_level-beside.new.place.items c.in-End.end c.pass_level-beside.new.instance.labels.items c.pass_level-beside.new.bound) left.0 stop
 
 pub pass_parts-loop-level-preserved : goal.pass_parts-loop-level-preserved
 pass_parts-loop-level-preserved g t c =
     let at = goal.at.pass_parts-loop-level-preserved g t c in
     let j = join_of c.args.self.now in
     let left = left g t at.After-pop (pushed g t at.After-push) in
-    let stop = subst (λ s. StopsAt j c.pop.new.self.items (c.loop-level.label + 1) s c.pass_level-beside.new.place.items c.pass_level-beside.new.instance.labels.items c.pass_level-beside.new.instance.binding) c.in-Part.is c.pass_level-beside.ensures.stops in
+    let stop = subst (λ s. StopsAt j c.pop.new.self.items (c.loop-level.label + 1) s c.pass_level-beside.new.place.items c.pass_level-beside.new.instance.labels.items c.pass_level-beside.new.bound) c.in-Part.is c.pass_level-beside.ensures.stops in
     let x = c.in-Part.label in
     record {
       few = (let a = c.pass_below-below.ensures.few in let b = c.pass_level-beside.ensures.few in omega arith);
       passes = beside g t at.After-pass_level-beside (deeper g t at.After-pass_below-below);
       level = subst (IsLevel j c.args.instance.now.labels.items) (sym c.pass_level-beside.ensures.same) c.loop-level.invariant.level;
       labels = stop.0 ∙ left.0;
-      part = subst (λ ls. IsAfterPart j ls x c.pass_level-beside.new.place.items c.pass_level-beside.new.instance.binding) left.0 stop.2;
+      part = subst (λ ls. IsAfterPart j ls x c.pass_level-beside.new.place.items c.pass_level-beside.new.bound) left.0 stop.2;
     }

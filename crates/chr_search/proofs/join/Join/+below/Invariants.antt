@@ -9,7 +9,7 @@ invariant-pass_parts-loop-level g l = record {
   passes : PassesIn (join_of l.self) l.count l.fn.place.items l.place.items;
   level : IsLevel (join_of l.self) l.fn.instance.labels.items l.level;
   labels : l.instance.labels.items ≡ l.fn.instance.labels.items;
-  part : IsAfterPart (join_of l.self) l.fn.instance.labels.items l.label l.place.items l.instance.binding;
+  part : IsAfterPart (join_of l.self) l.fn.instance.labels.items l.label l.place.items l.bound;
 }
 
 abbrev pub decreases-pass_parts-loop-level : goal.decreases-pass_parts-loop-level

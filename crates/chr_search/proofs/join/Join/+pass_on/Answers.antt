@@ -23,16 +23,17 @@ overflow_add-from g t c =
     let under : first ≤ c.active.result = c.if-first-active.false in
     omega arith
 
-pub pass_below-requires-then-not-narrow_by-clause-below : goal.pass_below-requires-then-not-narrow_by-clause-below
-pass_below-requires-then-not-narrow_by-clause-below g t c =
+pub pass_below-requires-then-not-narrow_by : goal.pass_below-requires-then-not-narrow_by
+pass_below-requires-then-not-narrow_by g t c =
     let j = join_of c.args.self.now in
     let path = c.args.instance.now.labels.items in
     let first = c.in-Some.first.now in
     let below = c.in-Some.below.now in
     let is : c.args.place.now.items ≡ path ++ first ∷ below = c.requires.place ∙ ap (λ r. path ++ r) c.in-Some.ensures.cases.0 in
     let some : 1 ≤ length below = grind (arith, nat_tests, c.is_empty.ensures, c.if-is_empty.false) in
-    none_below j path c.args.place.now.items first below c.requires.grows is
-    (λ m. none_after j path first below some (subst (λ ls. (x : ℕ) → MayFollow j (ls ++ first ∷ []) x → ⊥) c.as_slice.ensures.value (c.if-not-narrow_by.ensures (subst (λ ls. MayFollow j ls first) (sym c.as_slice.ensures.value) m))))
+    let past = none_below j path c.args.place.now.items first below c.requires.grows is
+    (λ m. none_after j path first below some (subst (λ ls. (x : ℕ) → MayFollow j (ls ++ first ∷ []) x → ⊥) c.as_slice.ensures.value (c.if-not-narrow_by.ensures (subst (λ ls. MayFollow j ls first) (sym c.as_slice.ensures.value) m)))) in
+    (omega arith, (c.requires.begins, (c.requires.plan, (c.requires.trials, (c.requires.ready, past)))))
 
 pub push-requires : goal.push-requires
 push-requires g t c =
@@ -61,18 +62,21 @@ pass_on-passed-requires g t c κs within =
       (
         within,
         (
-          c.requires.begins,
+          omega arith,
           (
-            c.requires.plan,
+            c.requires.begins,
             (
-              c.requires.trials,
+              c.requires.plan,
               (
-                subst (λ ls. IsReady j ls c.narrow_by.new.narrowed) (sym pushed) ready,
+                c.requires.trials,
                 (
-                  subst (Grows (MayFollow j) []) (sym pushed) grown,
+                  subst (λ ls. IsReady j ls c.narrow_by.new.narrowed) (sym pushed) ready,
                   (
-                    λ e. absurd (let n : length below ≡ 0 = ap length e in omega arith),
-                    is ∙ sym (append_one path below first) ∙ ap (λ ls. ls ++ below) (sym pushed),
+                    subst (Grows (MayFollow j) []) (sym pushed) grown,
+                    (
+                      λ e. absurd (let n : length below ≡ 0 = ap length e in omega arith),
+                      is ∙ sym (append_one path below first) ∙ ap (λ ls. ls ++ below) (sym pushed),
+                    ),
                   ),
                 ),
               ),
@@ -82,17 +86,18 @@ pass_on-passed-requires g t c κs within =
       ),
     )
 
-pub pass_below-more-requires-clause-below : goal.pass_below-more-requires-clause-below
-pass_below-more-requires-clause-below g t c =
+pub pass_below-more-requires : goal.pass_below-more-requires
+pass_below-more-requires g t c =
     let j = join_of c.args.self.now in
     let path = c.args.instance.now.labels.items in
     let first = c.in-Some.first.now in
-    let below = c.in-Some.below.now in
     let pushed : c.push.new.self.items ≡ path ++ first ∷ [] = c.push.ensures.items in
-    let done = subst (λ e. EndsBelow j c.push.new.self.items c.pass_on-passed.new.place.items e c.pass_on-passed.new.instance.labels.items c.pass_on-passed.new.instance.binding) (none_left c.pass_on-passed.result.end c.if-ne.ensures) c.pass_on-passed.ensures.ends in
+    let done = subst (λ e. EndsBelow j c.push.new.self.items c.pass_on-passed.new.place.items e c.pass_on-passed.new.instance.labels.items c.pass_on-passed.new.bound) (none_left c.pass_on-passed.result.end c.if-ne.ensures) c.pass_on-passed.ensures.ends in
     let popped : c.pop.new.self.items ≡ path = front path first c.pop.new.self.items c.pass_on-passed.new.instance.labels.items (done.0 ∙ pushed) c.pop.ensures.rest in
     let none = subst (λ ls. IsDone j ls c.pass_on-passed.new.place.items) pushed done.1 in
-    subst (λ ls. IsBelow j ls c.pass_on-passed.new.place.items (first + 1)) (sym popped) (done_below j path c.pass_on-passed.new.place.items first c.requires.grows none)
+    let ready = subst (λ ls. IsReady j ls c.args.binding.now) (sym popped) c.requires.ready in
+    let past = subst (λ ls. IsBelow j ls c.pass_on-passed.new.place.items (first + 1)) (sym popped) (done_below j path c.pass_on-passed.new.place.items first c.requires.grows none) in
+    (omega arith, (c.requires.begins, (c.requires.plan, (c.requires.trials, (ready, past)))))
 
 pub returns-clause-passes : goal.returns-clause-passes
 returns-clause-passes g t c =

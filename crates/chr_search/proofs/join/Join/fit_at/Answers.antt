@@ -1,4 +1,4 @@
-use Rattle.std.proofs.Common.{◌≡◌, Some, sym, subst}
+use Rattle.std.proofs.Common.{◌≡◌, Some, sym, subst, arith}
 use Rattle.chr_rule.specs.Parts.{shape}
 use Rattle.chr_rule.specs.Rules.{head_at}
 use Rattle.chr_guard.specs.Instances.{atom_under}
@@ -11,7 +11,7 @@ use Rattle.chr_search.proofs.join.Join.fit_at.Goals as goal
 
 pub fit_head-requires : goal.fit_head-requires
 fit_head-requires g c =
-    subst (λ n. IsPlaced n (shape c.in-Some.head.now)) (sym c.requires) (head_placed c.args.self.now.rule.now c.head.ensures.valid c.from.result (shape c.in-Some.head.now) (sym c.in-Some.ensures.head))
+    (omega arith, subst (λ n. IsPlaced n (shape c.in-Some.head.now)) (sym c.requires) (head_placed c.args.self.now.rule.now c.head.ensures.valid c.from.result (shape c.in-Some.head.now) (sym c.in-Some.ensures.head)))
 
 pub returns : goal.returns
 returns g c =

@@ -1,4 +1,4 @@
-use Rattle.std.proofs.Common.{◌≡◌, true, false, sym, ◌∙◌}
+use Rattle.std.proofs.Common.{◌≡◌, true, false, sym, ◌∙◌, arith}
 use Rattle.chr_model.specs.Stores.{among}
 use Rattle.chr_search.specs.Joined.{join_of}
 use Rattle.chr_search.proofs.Asking.{any_among}
@@ -16,7 +16,7 @@ pub returns-in_default : goal.returns-in_default
 returns-in_default g c = last_gone (join_of c.args.self.now) c.args.labels.now c.args.at c.args.label c.requires.at c.args.narrowed.now c.requires.ready (sym c.in_default.ensures)
 
 pub fit_head-requires : goal.fit_head-requires
-fit_head-requires g c = last_placed (join_of c.args.self.now) c.args.labels.now c.args.at c.args.label c.requires.at c.requires.trial.0 c.requires.trial.1 c.args.narrowed.now c.requires.ready
+fit_head-requires g c = (omega arith, last_placed (join_of c.args.self.now) c.args.labels.now c.args.at c.args.label c.requires.at c.requires.trial.0 c.requires.trial.1 c.args.narrowed.now c.requires.ready)
 
 pub returns-then-not-fit_head : goal.returns-then-not-fit_head
 returns-then-not-fit_head g c =
@@ -37,7 +37,7 @@ becomes_instance-requires g c =
     let away : among labels c.args.label ≡ false = sym (any_among labels c.args.label) ∙ sym c.is_among.ensures ∙ c.if-is_among.false in
     let ready = last_ready j labels c.args.at c.args.label c.requires.at c.in-Some.atom.now (sym c.in-Some.ensures) away c.args.narrowed.now c.fit_head.new.binding c.requires.ready c.if-not-fit_head.ensures in
     let t = c.requires.trial.0 in
-    (in_head_order t, last_heads j labels c.args.at c.args.label c.requires.at t c.requires.trial.1 c.if-not-at.false c.fit_head.new.binding ready)
+    (omega arith, (in_head_order t, last_heads j labels c.args.at c.args.label c.requires.at t c.requires.trial.1 c.if-not-at.false c.fit_head.new.binding ready))
 
 pub returns-then-becomes_instance : goal.returns-then-becomes_instance
 returns-then-becomes_instance g c = λ t i.

@@ -1,4 +1,4 @@
-use Rattle.std.proofs.Common.{sym, subst}
+use Rattle.std.proofs.Common.{refl, sym, subst}
 use Rattle.chr_search.specs.Joined.{join_of}
 use Rattle.chr_search.specs.Partners.{IsPartnerFrom}
 use Rattle.chr_search.proofs.Partners.{least_partner}
@@ -12,5 +12,5 @@ pub returns : goal.returns
 returns g c =
     let j = join_of c.args.self.now in
     least_partner j c.args.labels.now c.args.binding.now c.args.from _
-    (asked j c.args.labels.now c.args.binding.now c.args.from c.in_ok-asked.asked _ c.saturating_sub-after.result _ c.requires.some c.requires.ready c.in_ok-asked.ensures c.key.ensures c.saturating_sub-after.ensures c.next_at.ensures.labelled.given)
+    (asked j c.args.labels.now c.args.binding.now c.args.from c.in_ok-asked.asked _ c.saturating_sub-after.result _ c.requires.some c.requires.ready c.in_ok-asked.ensures refl c.saturating_sub-after.ensures c.next_at.ensures.labelled.given)
     c.next_at.result c.next_at.ensures.least

@@ -12,5 +12,5 @@ returns g c =
     let some : 1 ≤ length labels = grind (arith, nat_tests, c.is_empty.ensures, c.if-is_empty.false) in
     where_some c.matches.result c.matches.ensures.least (λ among among_least from found least.
     least_partner j labels c.args.binding.now from _
-    (asked j labels c.args.binding.now from c.in_ok-asked.asked _ (from - 1) _ some c.requires.ready c.in_ok-asked.ensures c.key.ensures refl c.active-given.ensures.labelled.given)
+    (asked j labels c.args.binding.now from c.in_ok-asked.asked _ (from - 1) _ some c.requires.ready c.in_ok-asked.ensures refl refl c.active-given.ensures.labelled.given)
     found (among_least (from - 1) found least))

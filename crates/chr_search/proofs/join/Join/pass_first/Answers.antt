@@ -1,6 +1,7 @@
 use Rattle.std.proofs.Common.{◌≡◌, ◌≤◌, [], ◌∷◌, sym, subst, arith}
 use Rattle.chr_search.specs.Trials.{MayFollow}
 use Rattle.chr_search.specs.Joined.{join_of}
+use Rattle.chr_search.specs.Partners.{IsReady}
 use Rattle.chr_search.proofs.PassingOver.{label_small}
 use Rattle.chr_search.proofs.Levels.{last_no_whole}
 use Rattle.chr_search.proofs.Below.{passes_more}
@@ -31,9 +32,12 @@ unreachable-requires g c =
     let t = c.requires.trials (c.active-active.result ∷ []) (omega arith) (began g (goal.at.unreachable-requires g c).After-active-active, tt) in
     last_no_whole (join_of c.args.self.now) [] c.in-Some.at c.active-active.result c.in-Some.ensures c.if-at.false t.0 t.1 (c.in-Whole.ensures t.0 t.1).whole
 
-pub pass_below-below-requires-clause-below : goal.pass_below-below-requires-clause-below
-pass_below-below-requires-clause-below g c =
-    first_below (join_of c.args.self.now) c.active-active.result (began g (goal.at.pass_below-below-requires-clause-below g c).After-active-active) c.args.place.now.items c.put_at.new.labels.items c.push-in-Part.new.self.items c.push-in-Part-2.new.self.items c.requires.place c.put_at.ensures c.push-in-Part.ensures.items c.push-in-Part-2.ensures.items
+pub pass_below-below-requires : goal.pass_below-below-requires
+pass_below-below-requires g c =
+    let j = join_of c.args.self.now in
+    let ready = subst (λ ls. IsReady j ls c.judge_at.new.narrowed) (sym c.put_at.ensures) c.in-Part.ensures.1 in
+    let below = first_below j c.active-active.result (began g (goal.at.pass_below-below-requires g c).After-active-active) c.args.place.now.items c.put_at.new.labels.items c.push-in-Part.new.self.items c.push-in-Part-2.new.self.items c.requires.place c.put_at.ensures c.push-in-Part.ensures.items c.push-in-Part-2.ensures.items in
+    (omega arith, (c.requires.begins, (c.requires.plan, (c.requires.trials, (ready, below)))))
 
 pub returns-in-Part-clause-passes : goal.returns-in-Part-clause-passes
 returns-in-Part-clause-passes g c =
@@ -43,4 +47,4 @@ returns-in-Part-clause-passes g c =
 
 pub returns-in-Part-clause-ends : goal.returns-in-Part-clause-ends
 returns-in-Part-clause-ends g c =
-    first_ends (join_of c.args.self.now) c.active-active.result (began g (goal.at.returns-in-Part-clause-ends g c).After-active-active) c.put_at.new.labels.items c.put_at.ensures c.pass_below-below.new.place.items c.pass_below-below.result.end c.pass_below-below.new.instance.labels.items c.pass_below-below.new.instance.binding c.pass_below-below.ensures.ends
+    first_ends (join_of c.args.self.now) c.active-active.result (began g (goal.at.returns-in-Part-clause-ends g c).After-active-active) c.put_at.new.labels.items c.put_at.ensures c.pass_below-below.new.place.items c.pass_below-below.result.end c.pass_below-below.new.instance.labels.items c.pass_below-below.new.bound c.pass_below-below.ensures.ends

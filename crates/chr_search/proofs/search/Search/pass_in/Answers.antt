@@ -3,7 +3,7 @@ use Rattle.chr_value.specs.Stores.{atom_at}
 use Rattle.chr_search.specs.declared.passing.End.{End}
 use Rattle.chr_search.specs.Trials.{Space, older, NoneLeft}
 use Rattle.chr_search.specs.Joined.{join_of}
-use Rattle.chr_search.specs.Passing.{AreWhole, EndsIn}
+use Rattle.chr_search.specs.Passing.{EndsIn}
 use Rattle.chr_search.proofs.PassingOver.{pass_more}
 use Rattle.chr_search.proofs.PlanByPlan.{HasGone, HasJoin, grown, come_to_end, has_join, rule_at_most, head_at_most, trials_at, gone_at, on_at, whole_at}
 use Rattle.chr_search.proofs.Occurring.{in_order}
@@ -22,16 +22,10 @@ gone : (g : _) (c : After-pass_in_plan-passed g) → HasJoin (older c.args.progr
     → HasGone (older c.args.program.now c.args.plans.now c.args.view.now.store.entries c.args.self.now.label) c.loop-join.self.place c.next_join.new.walk.rule c.next_join.new.walk.head c.pass_in_plan-passed.result.count c.pass_in_plan-passed.new.self.place c.pass_in_plan-passed.ensures.passed.labels
 gone g c h = gone_at _ _ _ _ h.join h.makes _ _ _ _ _ _ h.come c.pass_in_plan-passed.ensures.passed
 
-pub pass_in_plan-passed-requires-clause-rule : goal.pass_in_plan-passed-requires-clause-rule
-pass_in_plan-passed-requires-clause-rule g c = (here g (goal.at.pass_in_plan-passed-requires-clause-rule g c).In-Some).makes.number
-
-pub pass_in_plan-passed-requires-clause-head : goal.pass_in_plan-passed-requires-clause-head
-pass_in_plan-passed-requires-clause-head g c = (here g (goal.at.pass_in_plan-passed-requires-clause-head g c).In-Some).makes.head
-
-pub pass_in_plan-passed-requires-clause-trials : goal.pass_in_plan-passed-requires-clause-trials
-pass_in_plan-passed-requires-clause-trials g c =
-    let h = here g (goal.at.pass_in_plan-passed-requires-clause-trials g c).In-Some in
-    trials_at _ _ _ _ h.join h.makes
+pub pass_in_plan-passed-requires : goal.pass_in_plan-passed-requires
+pass_in_plan-passed-requires g c =
+    let h = here g (goal.at.pass_in_plan-passed-requires g c).In-Some in
+    (omega arith, (h.makes.number, (h.makes.head, (h.join.begins, (h.join.plan, trials_at _ _ _ _ h.join h.makes)))))
 
 pub overflow_add-walk : goal.overflow_add-walk
 overflow_add-walk g c =
@@ -53,7 +47,7 @@ loop-join-preserved g c =
     let gone = gone g at.After-pass_in_plan-passed h in
     let i = c.loop-join.invariant in
     let p = c.pass_in_plan-passed.ensures.passed in
-    let e = subst (λ (end : End). EndsIn (join_of c.in-Some.join) p.labels end c.pass_in_plan-passed.new.instance.labels.items c.pass_in_plan-passed.new.instance.binding) c.in-NoneLeft.is p.ends in
+    let e = subst (λ (end : End). EndsIn (join_of c.in-Some.join) p.labels end c.pass_in_plan-passed.new.instance.labels.items c.pass_in_plan-passed.new.bound) c.in-NoneLeft.is p.ends in
     record {
       few = omega (arith, i.few, c.pass_in_plan-passed.ensures.few);
       label = c.pass_in_plan-passed.ensures.label ∙ i.label;
@@ -76,7 +70,7 @@ set_whole-requires-clause-trial g c =
     let h = here g (goal.at.set_whole-requires-clause-trial g c).In-Some in
     let p = c.pass_in_plan-passed.ensures.passed in
     let ls = c.pass_in_plan-passed.new.instance.labels.items in
-    let e = subst (λ (end : End). EndsIn (join_of c.in-Some.join) p.labels end ls c.pass_in_plan-passed.new.instance.binding) c.in-Whole.is p.ends in
+    let e = subst (λ (end : End). EndsIn (join_of c.in-Some.join) p.labels end ls c.pass_in_plan-passed.new.bound) c.in-Whole.is p.ends in
     let g = grown (join_of c.in-Some.join) p.labels ls e.0 in
     trials_at _ _ _ _ h.join h.makes ls g.0 g.1
 
@@ -92,8 +86,8 @@ returns-in-Whole-clause-then g c =
     let gone = gone g at.After-pass_in_plan-passed h in
     let p = c.pass_in_plan-passed.ensures.passed in
     let ls = c.pass_in_plan-passed.new.instance.labels.items in
-    let e = subst (λ (end : End). EndsIn (join_of c.in-Some.join) p.labels end ls c.pass_in_plan-passed.new.instance.binding) c.in-Whole.is p.ends in
-    whole_at _ _ _ _ h.join h.makes _ _ _ p.labels ls _ gone e.0 (subst (AreWhole (join_of c.in-Some.join) ls) (sym c.set_whole.ensures.binding) e.1) c.set_whole.new.self.whole c.set_whole.ensures.number c.set_whole.ensures.kept c.set_whole.ensures.removed c.set_whole.ensures.past
+    let e = subst (λ (end : End). EndsIn (join_of c.in-Some.join) p.labels end ls c.pass_in_plan-passed.new.bound) c.in-Whole.is p.ends in
+    whole_at _ _ _ _ h.join h.makes _ _ _ p.labels ls _ gone e.0 e.1 c.set_whole.new.self.whole c.set_whole.ensures.number c.set_whole.ensures.kept c.set_whole.ensures.removed c.set_whole.ensures.past
 
 pub returns-clause-then : goal.returns-clause-then
 returns-clause-then g c =

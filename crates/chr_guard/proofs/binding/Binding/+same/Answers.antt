@@ -1,0 +1,41 @@
+use Rattle.std.proofs.Common.{◌≡◌, ◌<◌, ◌≤◌, length, refl, arith, sym, ap, ◌∙◌}
+use Rattle.chr_rule.specs.declared.term.Open.{Open as CodeOpen}
+use Rattle.chr_guard.specs.Bindings.{bound_at}
+use Rattle.chr_guard.proofs.Compared.{SameFrom, same-next, same-stop, same-end, same-count, same-opens}
+use Rattle.chr_guard.proofs.binding.Binding.+same.Goals as goal
+
+pub same-returns-then-deref : goal.same-returns-then-deref
+same-returns-then-deref g t c =
+    let opens =
+    same-opens (bound_at c.args.self.now) c.args.s.now c.args.t.now c.in-Open.open c.in-Open-t.other c.in-Open.is c.in-Open-t.is c.deref-then-deref-2.result.now c.deref-then-deref-4.result.now
+    (c.deref-then-deref-2.ensures.value ∙ ap (λ (k : CodeOpen _). k.args.items) c.deref-then-deref.ensures) (c.deref-then-deref-4.ensures.value ∙ ap (λ (k : CodeOpen _). k.args.items) c.deref-then-deref-3.ensures)
+    (ap (λ (k : CodeOpen _). k.functor.number) (sym c.deref.ensures) ∙ c.if-deref.true ∙ ap (λ (k : CodeOpen _). k.functor.number) c.deref-in-Open-t.ensures) in
+    (λ h. opens.0 (c.all_same.ensures.0 h), λ h. c.all_same.ensures.1 (opens.1 h))
+
+pub all_same-returns-then-terms-others : goal.all_same-returns-then-terms-others
+all_same-returns-then-terms-others g t c = (λ h. absurd (cc), λ e. absurd (c.if-terms-others.true (same-count (bound_at c.args.self.now) c.args.terms.now c.args.others.now e)))
+
+pub all_same-returns-then-not-same : goal.all_same-returns-then-not-same
+all_same-returns-then-not-same g t c =
+    let v = bound_at c.args.self.now in
+    let left : c.loop-i.i < length c.args.terms.now = c.loop-i-test.true in
+    let right : c.loop-i.i < length c.args.others.now = omega arith in (
+      λ h. absurd (cc),
+      λ e. absurd (same-stop v c.args.terms.now c.args.others.now c.loop-i.i c.index-terms-i.result c.index-others-i.result left right c.index-terms-i.is c.index-others-i.is (SameFrom v c.args.terms.now c.args.others.now 0)
+          (λ s. (let z = sym c.if-not-same.true ∙ c.same.ensures.1 s in cc)) c.loop-i.invariant e),
+    )
+
+pub all_same-loop-i-preserved : goal.all_same-loop-i-preserved
+all_same-loop-i-preserved g t c =
+    let v = bound_at c.args.self.now in
+    let left : c.loop-i.i < length c.args.terms.now = c.loop-i-test.true in
+    let right : c.loop-i.i < length c.args.others.now = omega arith in
+    same-next v c.args.terms.now c.args.others.now c.loop-i.i c.index-terms-i.result c.index-others-i.result left right c.index-terms-i.is c.index-others-i.is (SameFrom v c.args.terms.now c.args.others.now 0) (c.same.ensures.0 c.if-not-same.false) c.loop-i.invariant
+
+pub all_same-returns : goal.all_same-returns
+all_same-returns g t c =
+    let v = bound_at c.args.self.now in
+    let left : length c.args.terms.now ≤ c.loop-i.i = c.loop-i-test.false in
+    let right : length c.args.others.now ≤ c.loop-i.i = omega arith in
+    let whole = c.loop-i.invariant.0 (same-end v c.args.terms.now c.args.others.now c.loop-i.i left right) in
+    (λ h. whole, λ e. refl)

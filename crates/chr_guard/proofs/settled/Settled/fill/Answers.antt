@@ -1,0 +1,54 @@
+use Rattle.std.proofs.Common.{◌≡◌, ◌<◌, ◌≤◌, ◌+◌, rules, length, map, get_or, slice_set, Some, None, sym, subst, ap, ◌∙◌, arith, slice_index_or}
+use Rattle.std.proofs.lemmas.List.{length-map}
+use Rattle.chr_value.specs.Atoms.{Int, Sym}
+use Rattle.chr_guard.specs.declared.settled.Mark.TheVariants as marks
+use Rattle.chr_guard.specs.Settled.{mark_view, IsFilled}
+use Rattle.chr_guard.proofs.Again.{Filling, filling_start, filling_put, filling_skip, filling_end, mark_there, nothing_kept}
+use Rattle.chr_guard.proofs.Steps.{read_there}
+use Rattle.chr_guard.proofs.settled.Settled.fill.Goals as goal
+use Rattle.chr_guard.proofs.settled.Settled.fill.Goals.{in-Number, in-Symbol, in_default}
+
+pub loop-variable-init : goal.loop-variable-init
+loop-variable-init g c = filling_start (map mark_view c.as_slice-mark-items.result.now) c.args.binding.now
+
+pub put-requires : goal.put-requires
+put-requires g c =
+    let here : c.loop-variable.variable < length c.as_slice-mark-items.result.now = c.loop-variable-test.true in
+    let marks : length c.args.self.now ≡ length c.as_slice-mark-items.result.now = sym (ap length c.self.view_is) ∙ length-map c.self.inside.marks.items mark_view ∙ sym (ap length c.as_slice-mark-items.ensures.value) in
+    let places : length c.loop-variable.binding ≡ length c.args.binding.now = c.loop-variable.invariant.places in
+    (omega arith, omega arith)
+
+pub put-requires-in-Symbol : goal.put-requires-in-Symbol
+put-requires-in-Symbol g c =
+    let here : c.loop-variable.variable < length c.as_slice-mark-items.result.now = c.loop-variable-test.true in
+    let marks : length c.args.self.now ≡ length c.as_slice-mark-items.result.now = sym (ap length c.self.view_is) ∙ length-map c.self.inside.marks.items mark_view ∙ sym (ap length c.as_slice-mark-items.ensures.value) in
+    let places : length c.loop-variable.binding ≡ length c.args.binding.now = c.loop-variable.invariant.places in
+    (omega arith, omega arith)
+
+pub loop-variable-preserved : goal.loop-variable-preserved
+loop-variable-preserved g c =
+    let ms = c.as_slice-mark-items.result.now in
+    let i = c.loop-variable.variable in
+    let here : c.loop-variable.variable < length c.as_slice-mark-items.result.now = c.loop-variable-test.true in
+    let count : length c.args.self.now ≡ length c.as_slice-mark-items.result.now = sym (ap length c.self.view_is) ∙ length-map c.self.inside.marks.items mark_view ∙ sym (ap length c.as_slice-mark-items.ensures.value) in
+    let places : length c.loop-variable.binding ≡ length c.args.binding.now = c.loop-variable.invariant.places in
+    let within : c.loop-variable.variable < length c.loop-variable.binding = omega arith in
+    let at = mark_there ms i (get_or ms i marks.Free) here (read_there ms i marks.Free here) in
+    elim c.match-mark.branch [
+      | in-Number w ↦
+          subst (Filling (map mark_view ms) (i + 1) c.args.binding.now) (sym w.binding-is)
+          (filling_put (map mark_view ms) i (Int w.in-Number.n) c.args.binding.now c.loop-variable.binding w.put.new.self within (at ∙ ap mark_view w.in-Number.is) (search rules) c.loop-variable.invariant)
+      | in-Symbol w ↦
+          subst (Filling (map mark_view ms) (i + 1) c.args.binding.now) (sym w.binding-is)
+          (filling_put (map mark_view ms) i (Sym w.in-Symbol.name.number) c.args.binding.now c.loop-variable.binding w.put-in-Symbol.new.self within (at ∙ ap mark_view w.in-Symbol.is) (search rules) c.loop-variable.invariant)
+      | in_default w ↦
+          subst (Filling (map mark_view ms) (i + 1) c.args.binding.now) (sym w.binding-is)
+          (filling_skip (map mark_view ms) i c.args.binding.now c.loop-variable.binding (nothing_kept (get_or ms i marks.Free) (slice_index_or (map mark_view ms) i None) at w.in_default.not-Number w.in_default.not-Symbol) c.loop-variable.invariant)
+    ]
+
+pub returns : goal.returns
+returns g c =
+    let ms = c.as_slice-mark-items.result.now in
+    let past : length (map mark_view c.as_slice-mark-items.result.now) ≤ c.loop-variable.variable = rw length-map c.loop-variable-test.false in
+    subst (λ s. IsFilled s c.args.binding.now c.loop-variable.binding) (ap (map mark_view) c.as_slice-mark-items.ensures.value ∙ c.self.view_is)
+    (filling_end (map mark_view ms) c.loop-variable.variable c.args.binding.now c.loop-variable.binding past c.loop-variable.invariant)

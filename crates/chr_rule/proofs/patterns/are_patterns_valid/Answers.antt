@@ -1,0 +1,7 @@
+use Rattle.chr_rule.specs.Parts.{shape}
+use Rattle.chr_rule.specs.Terms.{IsRuleAtom}
+use Rattle.chr_rule.proofs.Places.{not_all}
+use Rattle.chr_rule.proofs.patterns.are_patterns_valid.Goals as goal
+
+pub returns-then-not-is_valid : goal.returns-then-not-is_valid
+returns-then-not-is_valid g c = not_all shape IsRuleAtom c.args.patterns.now c.loop-pattern.pattern-index _ _ c.loop-pattern-test.true c.pattern-item.is c.is_valid.ensures c.if-not-is_valid.true

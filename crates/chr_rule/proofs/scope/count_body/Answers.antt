@@ -1,0 +1,22 @@
+use Rattle.std.proofs.Common.{map, sym, ap, ◌∙◌}
+use Rattle.std.specs.List.{list_all}
+use Rattle.chr_rule.specs.Parts.{argument}
+use Rattle.chr_rule.specs.Scope.{argument_known}
+use Rattle.chr_rule.proofs.Bodies.{known_after-Is, known_after-Add}
+use Rattle.chr_rule.proofs.scope.count_body.Goals as goal
+use Rattle.chr_rule.proofs.scope.count_body.Goals.{in-Is+else-from-known+else-not-is_known, in-Add+else-not-are_known}
+
+pub loop-item-preserved : goal.loop-item-preserved
+loop-item-preserved g c =
+    elim c.match-item.branch [
+      | in-Is+else-from-known+else-not-is_known w ↦
+          rw w.known-is
+          (sym (known_after-Is c.loop-item.known c.args.body.now c.loop-item.item-index _ c.loop-item-test.true c.item-item.is w.in-Is.x w.in-Is.expr w.in-Is.is
+          (sym w.from.ensures ∙ w.if-from-known.false) (sym w.is_known.ensures ∙ w.if-not-is_known.false))
+          ∙ c.loop-item.invariant)
+      | in-Add+else-not-are_known w ↦
+          rw w.known-is
+          (sym (known_after-Add c.loop-item.known c.args.body.now c.loop-item.item-index _ c.loop-item-test.true c.item-item.is w.in-Add.pattern w.in-Add.is
+          (ap (λ ts. list_all (argument_known c.loop-item.known) (map argument ts)) (sym w.deref.ensures.value) ∙ sym w.are_known.ensures ∙ w.if-not-are_known.false))
+          ∙ c.loop-item.invariant)
+    ]

@@ -1,0 +1,24 @@
+use Rattle.std.proofs.Common.{◌<◌, length, sym, ap, ◌∙◌, arith}
+use Rattle.chr_rule.specs.Parts.{argument}
+use Rattle.chr_rule.specs.declared.term.Open.{Open as CodeOpen}
+use Rattle.chr_rule.proofs.Levels.{same-told}
+use Rattle.chr_rule.proofs.Lists.{differ_at}
+use Rattle.chr_rule.proofs.Places.{same_more}
+use Rattle.chr_rule.proofs.term.+same.Goals as goal
+
+pub Term::same-returns-then-deref : goal.Term::same-returns-then-deref
+Term::same-returns-then-deref g t c =
+    same-told _ _ c.in-Open-Open.a c.in-Open-Open.b _ _ _ c.in-Open-Open.is-0 c.in-Open-Open.is-1
+    (ap (λ (k : CodeOpen _). k.functor.number) (sym c.deref.ensures) ∙ c.if-deref.true ∙ ap (λ (k : CodeOpen _). k.functor.number) c.deref-in-Open-Open.ensures)
+    (c.deref-then-deref-2.ensures.value ∙ ap (λ (k : CodeOpen _). k.args.items) c.deref-then-deref.ensures)
+    (c.deref-then-deref-4.ensures.value ∙ ap (λ (k : CodeOpen _). k.args.items) c.deref-then-deref-3.ensures) c.same_terms.ensures
+
+pub same_terms-returns-then-not-same : goal.same_terms-returns-then-not-same
+same_terms-returns-then-not-same g t c =
+    differ_at argument c.args.terms.now c.args.others.now c.loop-i.i _ _ _ (omega arith) (omega arith) c.index-terms-i.is c.index-others-i.is c.same.ensures c.if-not-same.true
+
+pub same_terms-loop-i-preserved : goal.same_terms-loop-i-preserved
+same_terms-loop-i-preserved g t c =
+    let lx : c.loop-i.i < length c.args.terms.now = omega arith in
+    let ly : c.loop-i.i < length c.args.others.now = omega arith in
+    same_more argument c.args.terms.now c.args.others.now c.loop-i.i _ _ lx ly c.index-terms-i.is c.index-others-i.is (c.same.ensures.0 c.if-not-same.false) c.loop-i.invariant

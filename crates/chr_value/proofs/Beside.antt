@@ -1,0 +1,97 @@
+-- Slots, and the compound values beside them.
+use Rattle.std.proofs.Common.{◌≡◌, ◌<◌, ◌≤◌, ℕ, zero, suc, pos, List, [], ◌∷◌, ◌++◌, length, map, get_or, refl, ap, ap₂, subst, sym, ◌∙◌, arith}
+use Rattle.std.specs.List.{slice_index_or, AllByRecursion}
+use Rattle.std.proofs.lemmas.List.{length-map, length-append, map_push, get_or-map}
+use Rattle.chr_value.specs.Atoms.{Value, Int, Atom, ground_comp}
+use Rattle.chr_value.specs.Limits.{IsWithin}
+use Rattle.chr_value.specs.Slots.{value_in, values_in, HasPlace, AreArguments}
+use Rattle.chr_value.specs.declared.value.Comp.{Comp as CodeComp}
+use Rattle.chr_value.specs.declared.atom.Slot.{Slot}
+use Rattle.chr_value.specs.declared.atom.Slot.TheVariants as slots
+use Rattle.chr_value.proofs.Places.{all-push}
+
+abbrev pub atom : ℕ → List (Value ℕ) → Atom ℕ
+atom name args = record { name = name; args = args }
+
+module _ {A : Type 0} where
+  at-end : (cs : List (CodeComp A)) (c : CodeComp A) (d : Value ℕ) → slice_index_or (map ground_comp (cs ++ c ∷ [])) (length cs) d ≡ ground_comp c
+  at-end [] c d = refl
+  at-end (b ∷ cs) c d = at-end cs c d
+
+  stays-at : (cs : List (CodeComp A)) (c : CodeComp A) (i : ℕ) (d : Value ℕ) → i < length cs → slice_index_or (map ground_comp (cs ++ c ∷ [])) i d ≡ slice_index_or (map ground_comp cs) i d
+  stays-at [] c i d lt = absurd (omega (arith, lt))
+  stays-at (b ∷ cs) c zero d lt = refl
+  stays-at (b ∷ cs) c (suc i) d lt = stays-at cs c i d (omega (arith, lt))
+
+  stays : (cs : List (CodeComp A)) (c : CodeComp A) (s : Slot) → HasPlace cs s → value_in (cs ++ c ∷ []) s ≡ value_in cs s
+  stays cs c (slots.Int z) h = refl
+  stays cs c (slots.Sym s) h = refl
+  stays cs c (slots.Comp i) h = stays-at cs c i (Int (pos 0)) h
+
+  -- the arguments with a compound one more
+  pub pushed-values : (cs : List (CodeComp A)) (ss : List Slot) (c : CodeComp A) → AllByRecursion (HasPlace cs) ss → values_in (cs ++ c ∷ []) (ss ++ slots.Comp (length cs) ∷ []) ≡ values_in cs ss ++ ground_comp c ∷ []
+  pushed-values cs [] c h = ap (λ (v : Value ℕ). v ∷ []) (at-end cs c (Int (pos 0)))
+  pushed-values cs (s ∷ ss) c h = ap₂ (λ (v : Value ℕ) vs. v ∷ vs) (stays cs c s h.0) (pushed-values cs ss c h.1)
+
+  place-longer : (cs ds : List (CodeComp A)) (s : Slot) → length cs ≤ length ds → HasPlace cs s → HasPlace ds s
+  place-longer cs ds (slots.Int z) le h = tt
+  place-longer cs ds (slots.Sym s) le h = tt
+  place-longer cs ds (slots.Comp i) le h = omega (arith, h, le)
+
+  places-longer : (cs ds : List (CodeComp A)) (ss : List Slot) → length cs ≤ length ds → AllByRecursion (HasPlace cs) ss → AllByRecursion (HasPlace ds) ss
+  places-longer cs ds [] le h = tt
+  places-longer cs ds (s ∷ ss) le h = (place-longer cs ds s le h.0, places-longer cs ds ss le h.1)
+
+  -- one argument more
+  pub comp-pushed : (cs cs' : List (CodeComp A)) (ss ss' : List Slot) (c : CodeComp A) (n : ℕ) → AreArguments cs ss → length ss < 8 → IsWithin (ground_comp c) → cs' ≡ cs ++ c ∷ [] → ss' ≡ ss ++ slots.Comp n ∷ [] → n ≡ length cs
+      → AreArguments cs' ss' × (values_in cs' ss' ≡ values_in cs ss ++ ground_comp c ∷ [])
+  comp-pushed cs cs' ss ss' c n h room within is-cs is-ss is-n =
+      let longer : length cs' ≡ suc (length cs) = omega (arith, ap length is-cs, length-append cs (c ∷ [])) in
+      let more : length ss' ≡ suc (length ss) = omega (arith, ap length is-ss, length-append ss (slots.Comp n ∷ [])) in
+      let values : values_in cs' ss' ≡ values_in cs ss ++ ground_comp c ∷ [] = ap₂ values_in is-cs (is-ss ∙ ap (λ (m : ℕ). ss ++ slots.Comp m ∷ []) is-n) ∙ pushed-values cs ss c h.places in (
+        record {
+          few = omega (arith, more);
+          fewer = omega (arith, h.fewer, longer, more);
+          places = subst (AllByRecursion (HasPlace cs')) (sym is-ss) (all-push (HasPlace cs') ss (slots.Comp n) (places-longer cs cs' ss (omega (arith, longer)) h.places) (omega (arith, longer, is-n)));
+          within = subst (AllByRecursion IsWithin) (sym values) (all-push IsWithin (values_in cs ss) (ground_comp c) h.within within);
+        },
+        values,
+      )
+
+  pub pushed : (cs : List (CodeComp A)) (ss : List Slot) (name : ℕ) (a : Atom ℕ) (new : List (Value ℕ)) (v w : Value ℕ) → atom name (values_in cs ss) ≡ a → new ≡ values_in cs ss ++ v ∷ [] → v ≡ w
+      → atom name new ≡ atom a.name (a.args ++ w ∷ [])
+  pushed cs ss name a new v w view more is =
+      ap (atom name) (more ∙ ap (λ u. values_in cs ss ++ u ∷ []) is) ∙ ap (λ (b : Atom ℕ). atom b.name (b.args ++ w ∷ [])) view
+
+  -- fewer arguments, fewer slots
+  pub room-left : (cs : List (CodeComp A)) (ss : List Slot) (name : ℕ) (a : Atom ℕ) → atom name (values_in cs ss) ≡ a → length a.args < 8 → length ss < 8
+  room-left cs ss name a view room = omega (arith, ap (λ (b : Atom ℕ). length b.args) view, length-map ss (value_in cs))
+
+  pub flat-pushed : (cs : List (CodeComp A)) (ss ss' : List Slot) (s : Slot) → ss' ≡ ss ++ s ∷ [] → values_in cs ss' ≡ values_in cs ss ++ value_in cs s ∷ []
+  flat-pushed cs ss ss' s is = ap (values_in cs) is ∙ map_push (value_in cs) ss s
+
+  -- the argument that a slot says
+  pub argument-at : (cs : List (CodeComp A)) (ss items : List Slot) (name : ℕ) (a : Atom ℕ) (i : ℕ) (d : Slot) (v : Value ℕ) → atom name (values_in cs ss) ≡ a → items ≡ ss → i < length items → v ≡ value_in cs (get_or items i d)
+      → (i < length a.args) × (v ≡ get_or a.args i v)
+  argument-at cs ss items name a i d v view are lt is =
+      let args : values_in cs items ≡ a.args = ap (values_in cs) are ∙ ap (λ (b : Atom ℕ). b.args) view in
+      (omega (arith, ap length args, length-map items (value_in cs)), is ∙ sym (get_or-map (value_in cs) items i d v lt) ∙ ap (λ (vs : List (Value ℕ)). get_or vs i v) args)
+
+  -- compound values that say the same serve the same slots
+  value-same : (cs ds : List (CodeComp A)) (s : Slot) → map ground_comp cs ≡ map ground_comp ds → value_in cs s ≡ value_in ds s
+  value-same cs ds (slots.Int z) e = refl
+  value-same cs ds (slots.Sym s) e = refl
+  value-same cs ds (slots.Comp i) e = ap (λ (vs : List (Value ℕ)). slice_index_or vs i (Int (pos 0))) e
+
+  pub values-same : (cs ds : List (CodeComp A)) (ss : List Slot) → map ground_comp cs ≡ map ground_comp ds → values_in cs ss ≡ values_in ds ss
+  values-same cs ds [] e = refl
+  values-same cs ds (s ∷ ss) e = ap₂ (λ (v : Value ℕ) vs. v ∷ vs) (value-same cs ds s e) (values-same cs ds ss e)
+
+  pub copied : (cs ds : List (CodeComp A)) (ss : List Slot) → map ground_comp ds ≡ map ground_comp cs → AreArguments cs ss → AreArguments ds ss
+  copied cs ds ss e h =
+      let long : length ds ≡ length cs = omega (arith, length-map ds ground_comp, length-map cs ground_comp, ap length e) in record {
+        few = h.few;
+        fewer = omega (arith, h.fewer, long);
+        places = places-longer cs ds ss (omega (arith, long)) h.places;
+        within = subst (AllByRecursion IsWithin) (sym (values-same ds cs ss e)) h.within;
+      }

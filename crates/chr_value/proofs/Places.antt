@@ -1,0 +1,75 @@
+-- Lists of which each element says something, place by place.
+use Rattle.std.proofs.Common.{◌≡◌, ◌<◌, ◌≤◌, ◌++◌, ◌+◌, ℕ, zero, suc, Some, List, [], ◌∷◌, length, map, take, drop, get_or, arith, sym, ap, ap₂, ◌∙◌, subst}
+use Rattle.std.specs.Prelude.{slice_get}
+use Rattle.std.specs.List.{AllByRecursion}
+use Rattle.std.proofs.lemmas.List.{take_more, take_all, drop_more, drop_all, map_push, length-map, length-take-le}
+
+pub all-push : {Y : Type 0} (P : Y → Type 0) (ys : List Y) (y : Y) → AllByRecursion P ys → P y → AllByRecursion P (ys ++ y ∷ [])
+all-push P [] y h p = (p, tt)
+all-push P (z ∷ zs) y h p = (h.0, all-push P zs y h.1 p)
+
+each-at : {X : Type 0} (P : X → Type 0) (xs : List X) (i : ℕ) (d : X) → AllByRecursion P xs → i < length xs → P (get_or xs i d)
+each-at P [] i d h lt = absurd (omega arith)
+each-at P (x ∷ xs) zero d h lt = h.0
+each-at P (x ∷ xs) (suc i) d h lt = each-at P xs i d h.1 (omega arith)
+
+pub each-there : {X : Type 0} (P : X → Type 0) (xs : List X) (i : ℕ) (x : X) → i < length xs → x ≡ get_or xs i x → AllByRecursion P xs → P x
+each-there P xs i x lt e h = subst P (sym e) (each-at P xs i x h lt)
+
+pub each-more : {X : Type 0} (P : X → Type 0) (xs : List X) (i : ℕ) (x : X) → i < length xs → x ≡ get_or xs i x → AllByRecursion P (take i xs) → P x → AllByRecursion P (take (i + 1) xs)
+each-more P xs i x lt e h p = subst (AllByRecursion P) (sym (take_more xs i x lt ∙ ap (λ y. take i xs ++ y ∷ []) (sym e))) (all-push P (take i xs) x h p)
+
+got-suc : {X : Type 0} (xs : List X) (i : ℕ) (x : X) → Some x ≡ slice_get xs i → take (suc i) xs ≡ take i xs ++ x ∷ []
+got-suc [] i x e = absurd cc
+got-suc (y ∷ ys) zero x e = let h : y ≡ x = cc in ap (λ z. z ∷ []) h
+got-suc (y ∷ ys) (suc i) x e = ap (λ zs. y ∷ zs) (got-suc ys i x e)
+
+pub got-more : {X : Type 0} (xs : List X) (i : ℕ) (x : X) → Some x ≡ slice_get xs i → take (i + 1) xs ≡ take i xs ++ x ∷ []
+got-more xs i x e = let n : i + 1 ≡ suc i = omega arith in ap (λ (m : ℕ). take m xs) n ∙ got-suc xs i x e
+
+module _ {X Y : Type 0} (f : X → Y) where
+  same-there : (xs ys : List X) (i : ℕ) (d e : X) → i < length xs → map f xs ≡ map f ys → f (get_or xs i d) ≡ f (get_or ys i e)
+  same-there [] ys i d e lt h = absurd (omega arith)
+  same-there (x ∷ xs) [] i d e lt h = absurd cc
+  same-there (x ∷ xs) (y ∷ ys) zero d e lt h = cc
+  same-there (x ∷ xs) (y ∷ ys) (suc i) d e lt h = let t : map f xs ≡ map f ys = cc in same-there xs ys i d e (omega arith) t
+
+  -- lists that say the same do so at each place
+  pub same-at : (xs ys : List X) (i : ℕ) (x y : X) → i < length xs → x ≡ get_or xs i x → y ≡ get_or ys i y → map f xs ≡ map f ys → f x ≡ f y
+  same-at xs ys i x y lt ex ey h = ap f ex ∙ same-there xs ys i x y lt h ∙ sym (ap f ey)
+
+  there : (P : Y → Type 0) (xs : List X) (i : ℕ) (d : X) → AllByRecursion P (map f xs) → i < length xs → P (f (get_or xs i d))
+  there P [] i d h lt = absurd (omega arith)
+  there P (x ∷ xs) zero d h lt = h.0
+  there P (x ∷ xs) (suc i) d h lt = there P xs i d h.1 (omega arith)
+
+  -- what holds of all holds at each place
+  pub all-at : (P : Y → Type 0) (xs : List X) (i : ℕ) (x : X) → i < length xs → x ≡ get_or xs i x → AllByRecursion P (map f xs) → P (f x)
+  all-at P xs i x lt ex h = subst (λ v. P (f v)) (sym ex) (there P xs i x h lt)
+
+  -- what is left, one element less
+  pub left-at : (xs : List X) (i : ℕ) (x : X) → i < length xs → x ≡ get_or xs i x → map f (drop i xs) ≡ f x ∷ map f (drop (i + 1) xs)
+  left-at xs i x lt ex = ap (map f) (drop_more xs i x lt) ∙ ap (λ y. f y ∷ map f (drop (i + 1) xs)) (sym ex)
+
+  pub left-end : (xs : List X) (i : ℕ) → length xs ≤ i → map f (drop i xs) ≡ []
+  left-end xs i le = ap (map f) (drop_all i xs le)
+
+  -- the front, one element more
+  pub front-more : (xs : List X) (i : ℕ) (x : X) → i < length xs → x ≡ get_or xs i x → map f (take (i + 1) xs) ≡ map f (take i xs) ++ f x ∷ []
+  front-more xs i x lt e = ap (map f) (take_more xs i x lt) ∙ map_push f (take i xs) (get_or xs i x) ∙ ap (λ y. map f (take i xs) ++ f y ∷ []) (sym e)
+
+  pub front-length : (xs : List X) (i : ℕ) → i ≤ length xs → length (map f (take i xs)) ≡ i
+  front-length xs i le = length-map (take i xs) f ∙ length-take-le i xs le
+
+  pub front-all : (xs : List X) (i : ℕ) → length xs ≤ i → map f (take i xs) ≡ map f xs
+  front-all xs i le = ap (map f) (take_all i xs le)
+
+  pub same-more : (xs ys : List X) (i : ℕ) (x y : X) → i < length xs → i < length ys → x ≡ get_or xs i x → y ≡ get_or ys i y → f x ≡ f y → map f (take i xs) ≡ map f (take i ys) → map f (take (i + 1) xs) ≡ map f (take (i + 1) ys)
+  same-more xs ys i x y lx ly ex ey h t = front-more xs i x lx ex ∙ ap₂ (λ us (u : Y). us ++ u ∷ []) t h ∙ sym (front-more ys i y ly ey)
+
+  pub all-more : (P : Y → Type 0) (xs : List X) (i : ℕ) (x : X) → i < length xs → x ≡ get_or xs i x → AllByRecursion P (map f (take i xs)) → P (f x) → AllByRecursion P (map f (take (i + 1) xs))
+  all-more P xs i x lt e h p = subst (AllByRecursion P) (sym (front-more xs i x lt e)) (all-push P (map f (take i xs)) (f x) h p)
+
+-- a list that is made place by place, and what it is made of
+pub map-more : {W X Y : Type 0} (f : X → Y) (g : W → Y) (made new : List W) (xs : List X) (i : ℕ) (x : X) (w : W) → i < length xs → x ≡ get_or xs i x → new ≡ made ++ w ∷ [] → g w ≡ f x → map g made ≡ map f (take i xs) → map g new ≡ map f (take (i + 1) xs)
+map-more f g made new xs i x w lt e pushed same before = ap (map g) pushed ∙ map_push g made w ∙ ap₂ (λ us u. us ++ u ∷ []) before same ∙ sym (front-more f xs i x lt e)

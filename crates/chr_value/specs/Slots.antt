@@ -1,0 +1,35 @@
+-- The slots in which an atom's arguments lie, and the compound values beside them.
+use Rattle.std.specs.Prelude.{ℕ, ◌<◌, ◌≤◌, pos, List, [], map, length, Option, Some, None, Vec, Box}
+use Rattle.std.specs.List.{slice_index_or, AllByRecursion}
+use Rattle.chr_value.specs.Atoms.{Value, Int, Sym, ground_comp}
+use Rattle.chr_value.specs.Limits.{IsWithin}
+use Rattle.chr_value.specs.declared.value.Comp.{Comp as CodeComp}
+use Rattle.chr_value.specs.declared.atom.Slot.{Slot}
+use Rattle.chr_value.specs.declared.atom.Slot.TheVariants as slots
+
+-- the compound values in the box, of which there are none without one
+abbrev pub comps_of : {A : Type 0} → Option (Box (Vec (CodeComp A) A) A) → List (CodeComp A)
+comps_of None = []
+comps_of (Some b) = b.value.items
+
+-- what a slot says, beside these compound values
+abbrev pub value_in : {A : Type 0} → List (CodeComp A) → Slot → Value ℕ
+value_in cs (slots.Int z) = Int z
+value_in cs (slots.Sym s) = Sym s.number
+value_in cs (slots.Comp i) = slice_index_or (map ground_comp cs) i (Int (pos 0))
+
+abbrev pub values_in : {A : Type 0} → List (CodeComp A) → List Slot → List (Value ℕ)
+values_in cs ss = map (value_in cs) ss
+
+-- there is a compound value at the slot's place
+abbrev pub HasPlace : {A : Type 0} → List (CodeComp A) → Slot → Type 0
+HasPlace cs (slots.Int z) = Unit {0}
+HasPlace cs (slots.Sym s) = Unit {0}
+HasPlace cs (slots.Comp i) = i < length cs
+
+-- at most 8 arguments, each within the limits, of which no more are compound
+pub record AreArguments {A : Type 0} (cs : List (CodeComp A)) (ss : List Slot) : Type 0 where
+  pub few : length ss ≤ 8
+  pub fewer : length cs ≤ length ss
+  pub places : AllByRecursion (HasPlace cs) ss
+  pub within : AllByRecursion IsWithin (values_in cs ss)
