@@ -7,12 +7,28 @@ use chr_run_calls::{Answer, Call, SeatCall, Words, run_calls};
 use chr_search::Judged;
 use std::alloc::{AllocError, Allocator, Global};
 
-/// A token turns each `n` above 20 into an `r`.
-pub const OPENING: Opening = Opening {
-    program: "t \\ n(X) <=> X > 20 | r(X).",
-    names: "",
-    limit: 100,
-};
+/// What a book is opened with, and what is posted.
+pub type Scene = (Opening<'static>, &'static str);
+
+/// A token turns each `n` above 20 into an `r`, of numbers and of compound values. The answers are the same.
+pub static SCENES: [Scene; 2] = [
+    (
+        Opening {
+            program: "t \\ n(X) <=> X > 20 | r(X).",
+            names: "",
+            limit: 100,
+        },
+        "n(1), n(2), n(3), n(21), t.",
+    ),
+    (
+        Opening {
+            program: "t \\ n(f(X,Y)) <=> X > 20 | r(g(Y,f(X,Y))).",
+            names: "",
+            limit: 100,
+        },
+        "n(f(1,g(a))), n(f(2,g(a))), n(f(3,g(a))), n(f(21,g(a))), t.",
+    ),
+];
 
 /// What seat 1 does first, with which ticket.
 const FIRST: [(Does, u64); 7] = [
@@ -55,9 +71,12 @@ fn add_calls<A: Allocator>(
 }
 
 /// The calls that post five atoms, and take the first four goals to their end.
-fn first_goals<A: Allocator + Copy>(alloc: A) -> Result<Vec<SeatCall<A>, A>, AllocError> {
+fn first_goals<A: Allocator + Copy>(
+    alloc: A,
+    posts: &str,
+) -> Result<Vec<SeatCall<A>, A>, AllocError> {
     let mut calls = Vec::new(alloc);
-    let call = post_text(alloc, "n(1), n(2), n(3), n(21), t.")?;
+    let call = post_text(alloc, posts)?;
     calls.push(SeatCall { seat: 1, call })?;
     for ticket in 1..5u64 {
         let list = [
@@ -75,8 +94,9 @@ fn first_goals<A: Allocator + Copy>(alloc: A) -> Result<Vec<SeatCall<A>, A>, All
 pub fn take_first_goals<A: Allocator + Copy>(
     alloc: A,
     book: &mut Book<A>,
+    posts: &str,
 ) -> Result<(), AllocError> {
-    let calls = first_goals(alloc)?;
+    let calls = first_goals(alloc, posts)?;
     let _answers = run_calls(alloc, book, &calls)?;
     Ok(())
 }
@@ -119,8 +139,12 @@ fn second_text(
 }
 
 /// The answers to both lists in words, on a book as it is opened.
-fn texts_on(alloc: Global, book: &mut Book<Global>) -> Option<(String<Global>, String<Global>)> {
-    take_first_goals(alloc, book).ok()?;
+fn texts_on(
+    alloc: Global,
+    book: &mut Book<Global>,
+    posts: &str,
+) -> Option<(String<Global>, String<Global>)> {
+    take_first_goals(alloc, book, posts).ok()?;
     let answers = first_answers(alloc, book)?;
     let first = answers_text(alloc, alloc, &answers).ok()?;
     let second = second_text(alloc, book, answers.get(5)?)?;
@@ -128,18 +152,20 @@ fn texts_on(alloc: Global, book: &mut Book<Global>) -> Option<(String<Global>, S
 }
 
 /// The answers to both lists in words. None where memory ran out.
-fn texts(alloc: Global) -> Option<(String<Global>, String<Global>)> {
-    let mut book = open(alloc, OPENING)?;
-    texts_on(alloc, &mut book)
+fn texts(alloc: Global, scene: &Scene) -> Option<(String<Global>, String<Global>)> {
+    let mut book = open(alloc, scene.0)?;
+    texts_on(alloc, &mut book, scene.1)
 }
 
 #[test]
 fn batches_of_a_worked_run(rt: HostRuntime) {
-    match texts(rt.alloc()) {
-        None => assert!(rt; false, "memory ran out"),
-        Some((first, second)) => {
-            assert_eq!(rt; first.as_str(), FIRST_ANSWERS);
-            assert_eq!(rt; second.as_str(), SECOND_ANSWERS);
+    for scene in &SCENES {
+        match texts(rt.alloc(), scene) {
+            None => assert!(rt; false, "memory ran out"),
+            Some((first, second)) => {
+                assert_eq!(rt; first.as_str(), FIRST_ANSWERS);
+                assert_eq!(rt; second.as_str(), SECOND_ANSWERS);
+            }
         }
     }
 }

@@ -30,6 +30,8 @@ mod refused_lists;
 #[cfg(test)]
 mod refused_opening;
 #[cfg(test)]
+mod refused_rounds;
+#[cfg(test)]
 mod rounds;
 #[cfg(test)]
 mod rows;

@@ -14,7 +14,7 @@ fn opened(alloc: Global, program: &str, posts: &str) -> Option<Result<(), OpenFa
 }
 
 /// Programs, with posts of as many names, and of one name less.
-const ROWS: [(&str, &str, &str); 12] = [
+const ROWS: [(&str, &str, &str); 18] = [
     ("a <=> true.", "a.", ""),
     ("a(b) <=> true.", "a, b.", "a."),
     ("a \\ b <=> true.", "a, b.", "a."),
@@ -27,6 +27,12 @@ const ROWS: [(&str, &str, &str); 12] = [
     ("a <=> a(b).", "a, b.", "a."),
     ("a <=> true. b <=> true.", "a, b.", "a."),
     ("a(X) <=> X =< 1 | Y is X, a(Y).", "a.", ""),
+    ("a(a(b)) <=> true.", "a, b.", "a."),
+    ("a(b(1)) <=> true.", "a, b.", "a."),
+    ("a(a(1,b(X))) <=> true.", "a, b.", "a."),
+    ("a(X) <=> X == a(1,a(b)) | true.", "a, b.", "a."),
+    ("a(X) <=> b(X) \\== a | true.", "a, b.", "a."),
+    ("a(X) <=> a(a(X,b)).", "a, b.", "a."),
 ];
 
 #[test]

@@ -1,5 +1,5 @@
 //! A worked run by batches, with a request of each call refused.
-use crate::batches::{OPENING, take_first_goals};
+use crate::batches::{SCENES, Scene, take_first_goals};
 use crate::lists::{add_text, turn_text};
 use crate::script::{open, trial_text};
 use chr_book::Book;
@@ -102,8 +102,9 @@ fn play_on<'m>(
     texts: Global,
     book: &mut Book<Memory<'m>>,
     n: u64,
+    posts: &str,
 ) -> Option<u64> {
-    take_first_goals(memory, book).ok()?;
+    take_first_goals(memory, book, posts).ok()?;
     book.claim(SEAT, TICKET).ok()?;
     let mut all = 0u64;
     for row in &ROWS {
@@ -113,17 +114,17 @@ fn play_on<'m>(
 }
 
 /// The same on a book of its own.
-fn play(memory: Memory, texts: Global, n: u64) -> Option<u64> {
-    let mut book = open(memory, OPENING)?;
-    play_on(memory, texts, &mut book, n)
+fn play(memory: Memory, texts: Global, n: u64, scene: &Scene) -> Option<u64> {
+    let mut book = open(memory, scene.0)?;
+    play_on(memory, texts, &mut book, n, scene.1)
 }
 
 /// Plays with the first request of each call refused, then with the second, and so on. The first of these numbers with which
 /// none was refused or an answer wasn't as expected, and what was played then.
-fn last_play(texts: Global) -> (u64, Option<u64>) {
+fn last_play(texts: Global, scene: &Scene) -> (u64, Option<u64>) {
     for n in 1..100u64 {
         let memory = Refusing::new(texts, 0);
-        let played = play(&memory, texts, n);
+        let played = play(&memory, texts, n, scene);
         match played {
             Some(refusals) if 0 < refusals => (),
             _ => return (n, played),
@@ -134,7 +135,9 @@ fn last_play(texts: Global) -> (u64, Option<u64>) {
 
 #[test]
 fn each_request_of_a_batch_is_refused(rt: HostRuntime) {
-    let (n, played) = last_play(rt.alloc());
-    assert_eq!(rt; played, Some(0), "request {n}");
-    assert!(rt; 1 < n);
+    for scene in &SCENES {
+        let (n, played) = last_play(rt.alloc(), scene);
+        assert_eq!(rt; played, Some(0), "request {n}");
+        assert!(rt; 1 < n);
+    }
 }

@@ -1,8 +1,8 @@
 //! Tables of calls, with a request of each call refused.
 use crate::script::{Call, Opening, Row, Script};
 use crate::tables::{
-    ANOTHER_SEAT_GOES_ON, EACH_ANSWER, LABELS_ARE_SPENT, OLDER_GOAL_IS_DROPPED, ONE_OF_TWO_FIRES,
-    Table,
+    ANOTHER_SEAT_GOES_ON, COMPOUND_VALUES, EACH_ANSWER, LABELS_ARE_SPENT, OLDER_GOAL_IS_DROPPED,
+    ONE_OF_TWO_FIRES, Table,
 };
 use refusing::Refusing;
 use std::alloc::Global;
@@ -130,6 +130,7 @@ fn each_request_of_a_call_is_refused(rt: HostRuntime) {
         &ANOTHER_SEAT_GOES_ON,
         &LABELS_ARE_SPENT,
         &EACH_ANSWER,
+        &COMPOUND_VALUES,
         &MANY_TICKETS,
     ];
     for table in tables {

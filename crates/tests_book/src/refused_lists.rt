@@ -13,6 +13,9 @@ type Memory<'m> = &'m Refusing<Global>;
 /// A list of what seat 1 does with ticket 1.
 type List = [Does; 3];
 
+/// What is posted, and a list.
+type Scene = (&'static str, List);
+
 /// The lists, and what each answers with its first request refused, with its second, and so on, as far as the answers
 /// differ. The ticket is put down before the call by the seat's own judgement, whose E01 comes before its E13.
 const OUTCOMES: [(List, &str); 3] = [
@@ -30,10 +33,17 @@ const OUTCOMES: [(List, &str); 3] = [
     ),
 ];
 
+/// What is posted: a number, or a compound value, with the same answers.
+const POSTS: [&str; 2] = ["n(1), t.", "n(f(1,g(a))), t."];
+
 /// Posts two atoms, and has seat 1 claim ticket 1.
-fn begin<'m>(memory: Memory<'m>, book: &mut Book<Memory<'m>>) -> Result<(), AllocError> {
+fn begin<'m>(
+    memory: Memory<'m>,
+    book: &mut Book<Memory<'m>>,
+    posts: &str,
+) -> Result<(), AllocError> {
     let mut calls = Vec::new(memory);
-    let call = post_text(memory, "n(1), t.")?;
+    let call = post_text(memory, posts)?;
     calls.push(SeatCall { seat: 0, call })?;
     let call = call_of(Does::Claim, 1);
     calls.push(SeatCall { seat: 1, call })?;
@@ -84,10 +94,10 @@ fn outcome_on<'m>(
     texts: Global,
     book: &mut Book<Memory<'m>>,
     n: u64,
-    list: &List,
+    scene: &Scene,
 ) -> Option<(bool, String<Global>)> {
-    begin(memory, book).ok()?;
-    let calls = calls_of(memory, list)?;
+    begin(memory, book, scene.0).ok()?;
+    let calls = calls_of(memory, &scene.1)?;
     let before = lines(texts, book).ok()?;
     memory.refuse(n);
     let answers = run_calls(memory, book, &calls);
@@ -98,9 +108,9 @@ fn outcome_on<'m>(
 }
 
 /// The same on a book of its own.
-fn outcome(memory: Memory, texts: Global, n: u64, list: &List) -> Option<(bool, String<Global>)> {
+fn outcome(memory: Memory, texts: Global, n: u64, scene: &Scene) -> Option<(bool, String<Global>)> {
     let mut book = open(memory, Opening { limit: 10, ..TOKEN })?;
-    outcome_on(memory, texts, &mut book, n, list)
+    outcome_on(memory, texts, &mut book, n, scene)
 }
 
 /// Adds what the list answers with request number `n` refused, where that isn't what it answered last. Whether a request was
@@ -108,12 +118,12 @@ fn outcome(memory: Memory, texts: Global, n: u64, list: &List) -> Option<(bool, 
 fn add_outcome(
     texts: Global,
     n: u64,
-    list: &List,
+    scene: &Scene,
     all: &mut String<Global>,
     last: &mut String<Global>,
 ) -> Option<bool> {
     let memory = Refusing::new(texts, 0);
-    let (refused, text) = outcome(&memory, texts, n, list)?;
+    let (refused, text) = outcome(&memory, texts, n, scene)?;
     if text.as_str() != last.as_str() {
         all.push_str(text.as_str()).ok()?;
         all.push('\n').ok()?;
@@ -124,11 +134,11 @@ fn add_outcome(
 
 /// What the list answers with its first request refused, then with its second, and so on, a line for each that differs from
 /// the one before. The last one is without a refusal.
-fn outcomes(texts: Global, list: &List) -> Option<String<Global>> {
+fn outcomes(texts: Global, scene: &Scene) -> Option<String<Global>> {
     let mut all = String::new(texts);
     let mut last = String::new(texts);
     for n in 1..100u64 {
-        if !add_outcome(texts, n, list, &mut all, &mut last)? {
+        if !add_outcome(texts, n, scene, &mut all, &mut last)? {
             return Some(all);
         }
     }
@@ -137,8 +147,10 @@ fn outcomes(texts: Global, list: &List) -> Option<String<Global>> {
 
 #[test]
 fn own_judgements_are_refused(rt: HostRuntime) {
-    for (list, expected) in &OUTCOMES {
-        let text = outcomes(rt.alloc(), list).unwrap_or(String::new(rt.alloc()));
-        assert_eq!(rt; text.as_str(), *expected, "{list:?}");
+    for posts in POSTS {
+        for (list, expected) in &OUTCOMES {
+            let text = outcomes(rt.alloc(), &(posts, *list)).unwrap_or(String::new(rt.alloc()));
+            assert_eq!(rt; text.as_str(), *expected, "{list:?} of {posts}");
+        }
     }
 }

@@ -1,6 +1,6 @@
 //! Many lists of calls by three seats, whose logs the check of a log accepts.
 use crate::lists::{Does, call_of, post_text};
-use crate::script::open;
+use crate::script::{Opening, open};
 use crate::tables::GCD;
 use chr_book::Book;
 use chr_calls::TicketState;
@@ -11,9 +11,35 @@ use chr_run_calls::{SeatCall, run_calls};
 use chr_value::Atom;
 use std::alloc::{AllocError, Global};
 
-const POSTS: [&str; 8] = [
-    "gcd(12).", "gcd(24).", "gcd(36).", "gcd(48).", "gcd(60).", "gcd(72).", "gcd(84).", "gcd(96).",
-];
+/// What a book is opened with, and what is posted.
+type Scene = (Opening<'static>, [&'static str; 8]);
+
+static NUMBERS: Scene = (
+    GCD,
+    [
+        "gcd(12).", "gcd(24).", "gcd(36).", "gcd(48).", "gcd(60).", "gcd(72).", "gcd(84).",
+        "gcd(96).",
+    ],
+);
+
+/// The same with compound values, of which one is a part of another.
+static COMPOUND: Scene = (
+    Opening {
+        program: "gcd(f(0,_)) <=> true. gcd(f(N,g)) \\ gcd(f(M,X)) <=> 0 < N, N =< M | L is M mod N, gcd(f(L,X)).",
+        names: "",
+        limit: 4_294_967_295,
+    },
+    [
+        "gcd(f(12,g)).",
+        "gcd(f(24,g)).",
+        "gcd(f(36,g)).",
+        "gcd(f(48,g)).",
+        "gcd(f(60,g)).",
+        "gcd(f(72,g)).",
+        "gcd(f(84,g)).",
+        "gcd(f(96,g)).",
+    ],
+);
 
 /// How many tickets are looked at.
 const TICKETS: u64 = 64;
@@ -122,26 +148,27 @@ fn drawn_call(course: &Course, does: Does, any: u64, draw: u64) -> SeatCall<Glob
 }
 
 /// What is posted in a round, if anything: the posts rise for some seeds, and fall for others.
-fn post_in(seed: u64, number: usize) -> Option<&'static str> {
+fn post_in(scene: &Scene, seed: u64, number: usize) -> Option<&'static str> {
     let rises = seed / 8 % 2 == 0;
     let place = if rises {
         number
     } else {
         7usize.wrapping_sub(number)
     };
-    POSTS.get(place).copied()
+    scene.1.get(place).copied()
 }
 
 /// The calls of a round: two goals are taken further by turns, after a post in the first rounds.
 fn round(
     alloc: Global,
+    scene: &Scene,
     book: &Book<Global>,
     seed: u64,
     number: usize,
     first: u64,
 ) -> Result<Vec<SeatCall<Global>, Global>, AllocError> {
     let mut calls = Vec::new(alloc);
-    if let Some(text) = post_in(seed, number) {
+    if let Some(text) = post_in(scene, seed, number) {
         let call = post_text(alloc, text)?;
         calls.push(SeatCall { seat: 1, call })?;
     }
@@ -171,6 +198,7 @@ fn add_round(
 /// The calls of a seed, drawn round by round as the book stands after those before.
 fn rounds(
     alloc: Global,
+    scene: &Scene,
     book: &mut Book<Global>,
     seed: u64,
 ) -> Result<Vec<SeatCall<Global>, Global>, AllocError> {
@@ -178,16 +206,16 @@ fn rounds(
     let mut draw = seed;
     for number in 0..ROUNDS {
         draw = next_draw(next_draw(draw));
-        let calls = round(alloc, book, seed, number, draw)?;
+        let calls = round(alloc, scene, book, seed, number, draw)?;
         add_round(alloc, book, &mut list, calls)?;
     }
     Ok(list)
 }
 
 /// The same on a book of their own.
-fn list_of(alloc: Global, seed: u64) -> Option<Vec<SeatCall<Global>, Global>> {
-    let mut book = open(alloc, GCD)?;
-    rounds(alloc, &mut book, seed).ok()
+fn list_of(alloc: Global, scene: &Scene, seed: u64) -> Option<Vec<SeatCall<Global>, Global>> {
+    let mut book = open(alloc, scene.0)?;
+    rounds(alloc, scene, &mut book, seed).ok()
 }
 
 /// The events of a book's log.
@@ -197,7 +225,7 @@ fn events_of(
 ) -> Result<Vec<Event<Global>, Global>, AllocError> {
     let mut events = Vec::new(alloc);
     for index in 0..log.len() {
-        events.push(log.get(index).event)?;
+        events.push(log.get(index)?.event)?;
     }
     Ok(events)
 }
@@ -259,9 +287,9 @@ fn run_checked(
 }
 
 /// The same for the calls of a seed.
-fn checked(alloc: Global, seed: u64) -> Option<(bool, (Verdict, Option<Verdict>))> {
-    let list = list_of(alloc, seed)?;
-    let mut book = open(alloc, GCD)?;
+fn checked(alloc: Global, scene: &Scene, seed: u64) -> Option<(bool, (Verdict, Option<Verdict>))> {
+    let list = list_of(alloc, scene, seed)?;
+    let mut book = open(alloc, scene.0)?;
     run_checked(alloc, &mut book, &list)
 }
 
@@ -273,16 +301,30 @@ const QUIET: (bool, (Verdict, Option<Verdict>)) = (
 
 const OPEN: (bool, (Verdict, Option<Verdict>)) = (false, (Verdict::Run, None));
 
-#[test]
-fn each_schedule_is_a_run(rt: HostRuntime) {
+/// How many books are quiet after the calls of so many seeds, and the first seed whose checks answer otherwise, or 0.
+fn quiet_books(alloc: Global, scene: &Scene, seeds: u64) -> (u64, u64) {
     let mut quiet = 0u64;
-    for seed in 1..201u64 {
-        let answer = checked(rt.alloc(), seed);
+    for seed in 1..seeds.saturating_add(1) {
+        let answer = checked(alloc, scene, seed);
         if answer == Some(QUIET) {
             quiet = quiet.wrapping_add(1);
-        } else {
-            assert!(rt; answer == Some(OPEN), "seed {seed}");
+        } else if answer != Some(OPEN) {
+            return (quiet, seed);
         }
     }
+    (quiet, 0)
+}
+
+#[test]
+fn each_schedule_is_a_run(rt: HostRuntime) {
+    let (quiet, wrong) = quiet_books(rt.alloc(), &NUMBERS, 200);
+    assert_eq!(rt; wrong, 0);
     assert!(rt; 20 < quiet && quiet < 180, "{quiet} of 200 are quiet");
+}
+
+#[test]
+fn each_schedule_with_compound_values_is_a_run(rt: HostRuntime) {
+    let (quiet, wrong) = quiet_books(rt.alloc(), &COMPOUND, 40);
+    assert_eq!(rt; wrong, 0);
+    assert!(rt; 4 < quiet && quiet < 36, "{quiet} of 40 are quiet");
 }

@@ -368,8 +368,69 @@ pub static EACH_ANSWER: Table = (
     "open\nP 1 n(1)\nP 2 t\nA 1 1\nA 2 2\nF 2 1 2\\1\nD 1\nD 2\nP 4 n(0)\nP 5 t\nP 6 t\nP 7 n(3)\nA 4 3\nA 5 4\nA 6 5\nF 5 1 4\\3\nD 6\nD 4\nD 5\nA 7 6\nF 7 1 2\\6\nA 3 7\nD 3\n#2 t\n#4 t\n#5 t\n#7 r(1)\n",
 );
 
+/// Compound values at heads, in a body and in posts, and posts with a name deep in a value that the table lacks.
+pub static COMPOUND_VALUES: Table = (
+    "compound values",
+    Opening {
+        program: "t \\ n(f(X)) <=> r(g(X,f(X))). u(X), r(g(X,Y)) <=> s(Y).",
+        names: "a(h).",
+        limit: 100,
+    },
+    &[
+        (0, Call::Post("n(f(x))."), "Err(UnknownName)", ""),
+        (0, Call::Post("t, n(f(x(1)))."), "Err(UnknownName)", ""),
+        (
+            0,
+            Call::Post("n(f(h(a))), t, n(h(a)), u(h(a))."),
+            "Ok(1)",
+            "WWWW",
+        ),
+        (1, Call::Claim(1), "Ok(1)", "1WWW"),
+        (1, Call::Trial(1), "1.2 [1] Part", "1WWW"),
+        (1, Call::Report(1), "Ok(())", "1WWW"),
+        (1, Call::Trial(1), "Done", "1WWW"),
+        (1, Call::DropGoal(1), "Ok(Dropped)", "EWWW"),
+        (2, Call::Claim(2), "Ok(2)", "E2WW"),
+        (3, Call::Claim(3), "Ok(3)", "E23W"),
+        (3, Call::Trial(3), "1.2 [3] Misfit", "E23W"),
+        (3, Call::Report(3), "Ok(())", "E23W"),
+        (3, Call::Trial(3), "Done", "E23W"),
+        (2, Call::Trial(2), "1.1 [2] Part", "E23W"),
+        (2, Call::Report(2), "Ok(())", "E23W"),
+        (2, Call::Trial(2), "1.1 [2, 1] Whole", "E23W"),
+        (
+            2,
+            Call::Fire(2),
+            "Ok(Fired(Fired { first: 5, count: 1, active_lives: true }))",
+            "E23WW",
+        ),
+        (3, Call::DropGoal(3), "Ok(Dropped)", "E2EWW"),
+        (2, Call::Trial(2), "Done", "E2EWW"),
+        (2, Call::DropGoal(2), "Ok(Dropped)", "EEEWW"),
+        (1, Call::Claim(5), "Ok(4)", "EEEW1"),
+        (1, Call::Trial(5), "2.2 [4] Part", "EEEW1"),
+        (1, Call::Report(5), "Ok(())", "EEEW1"),
+        (1, Call::Trial(5), "Done", "EEEW1"),
+        (1, Call::DropGoal(5), "Ok(Dropped)", "EEEWE"),
+        (1, Call::Claim(4), "Ok(5)", "EEE1E"),
+        (1, Call::Trial(4), "2.1 [5] Part", "EEE1E"),
+        (1, Call::Report(4), "Ok(())", "EEE1E"),
+        (1, Call::Trial(4), "2.1 [5, 4] Whole", "EEE1E"),
+        (
+            1,
+            Call::Fire(4),
+            "Ok(Fired(Fired { first: 6, count: 1, active_lives: false }))",
+            "EEEEEW",
+        ),
+        (1, Call::Claim(6), "Ok(6)", "EEEEE1"),
+        (1, Call::Trial(6), "Done", "EEEEE1"),
+        (1, Call::DropGoal(6), "Ok(Dropped)", "EEEEEE"),
+    ],
+    "quiet\nP 1 n(f(h(a)))\nP 2 t\nP 3 n(h(a))\nP 4 u(h(a))\nA 1 1\nD 1\nA 2 2\nA 3 3\nF 2 1 2\\1\nD 3\nD 2\nA 5 4\nD 5\nA 4 5\nF 4 2 \\5,4\nA 6 6\nD 6\n#2 t\n#3 n(h(a))\n#6 s(f(h(a)))\n",
+);
+
 /// All of these tables.
-pub fn tables() -> [&'static Table<'static>; 8] {
+pub fn tables() -> [&'static Table<'static>; 9] {
     [
         &KEPT_HEAD_IS_GONE,
         &ONE_OF_TWO_FIRES,
@@ -379,5 +440,6 @@ pub fn tables() -> [&'static Table<'static>; 8] {
         &REFUSED_CALLS,
         &ONE_SEAT,
         &EACH_ANSWER,
+        &COMPOUND_VALUES,
     ]
 }

@@ -45,12 +45,12 @@ static SENTENCES: [Sentence; 11] = [
     (
         Text::Program,
         Kind::TooMany,
-        "chr: program 0: E07 TooMany\nA limit is exceeded: 256 rules in a program; 6 heads, 16 comparisons, 16 body members and 24 variables in a rule, where each `_` counts; 8 arguments; 64 bytes in a name or variable.\n",
+        "chr: program 0: E07 TooMany\nA limit is exceeded: 256 rules in a program; 6 heads, 16 comparisons, 16 body members and 24 variables in a rule, where each `_` counts; 8 arguments; a depth of 8 and a size of 64 in a term; 64 bytes in a name or variable.\n",
     ),
     (
         Text::Posts,
         Kind::TooMany,
-        "chr: posts 0: E07 TooMany\nA limit is exceeded: 8 arguments; 64 bytes in a name or variable.\n",
+        "chr: posts 0: E07 TooMany\nA limit is exceeded: 8 arguments; a depth of 8 and a size of 64 in a term; 64 bytes in a name or variable.\n",
     ),
     (
         Text::Program,

@@ -1,7 +1,9 @@
 //! Runs in which one request for memory is refused.
 //!
 //! The memory is that of the book and of the run. That of the pool isn't refused, since it is always of `Global`.
-use crate::runs::{GCD, MANY, has_only, multiples, open, run, tickets, verdict};
+use crate::runs::{
+    COMPOUND, MANY, NUMBERS, Rules, has_only, multiples, open, run, tickets, verdict,
+};
 use chr_book::Book;
 use chr_calls::TicketState;
 use chr_check::Verdict;
@@ -29,6 +31,7 @@ fn is_brought_to_its_end<'m, R: Threads + Wait + Sync>(
     rt: &R,
     memory: Memory<'m>,
     pool: Global,
+    rules: Rules,
     book: Book<Memory<'m>>,
 ) -> bool {
     let Ok(finished) = run(rt, memory, pool, book, 2, &Open, MANY) else {
@@ -36,7 +39,7 @@ fn is_brought_to_its_end<'m, R: Threads + Wait + Sync>(
     };
     finished.end == End::Quiet
         && verdict(memory, &finished.book) == Some(Verdict::RunAndFinal)
-        && has_only(memory, &finished.book, " gcd(12)")
+        && has_only(memory, &finished.book, rules.last)
 }
 
 /// What a run with a request refused left.
@@ -79,6 +82,7 @@ fn refused_run<'m, R: Threads + Wait + Sync>(
     rt: &R,
     memory: Memory<'m>,
     pool: Global,
+    rules: Rules,
     posts: u64,
     workers: usize,
     n: u64,
@@ -86,8 +90,8 @@ fn refused_run<'m, R: Threads + Wait + Sync>(
     if workers < 1 || 16 < workers {
         return None;
     }
-    let text = multiples(pool, posts).ok()?;
-    let book = open(memory, GCD, text.as_str())?;
+    let text = multiples(pool, rules, posts).ok()?;
+    let book = open(memory, rules.program, text.as_str())?;
     memory.refuse(n);
     let answer = run(rt, memory, pool, book, workers, &Open, MANY);
     let refused = memory.was_refused();
@@ -109,6 +113,7 @@ fn refuse_each<R: Threads + Wait + Sync>(
     rt: &R,
     memory: Memory,
     pool: Global,
+    rules: Rules,
     posts: u64,
     workers: usize,
     apart: u64,
@@ -118,10 +123,10 @@ fn refuse_each<R: Threads + Wait + Sync>(
         n = n
             .wrapping_add(1)
             .wrapping_add(n.checked_div(apart).unwrap_or(0));
-        let Some(after) = refused_run(rt, memory, pool, posts, workers, n) else {
+        let Some(after) = refused_run(rt, memory, pool, rules, posts, workers, n) else {
             return Err(n);
         };
-        if !after.right || !is_brought_to_its_end(rt, memory, pool, after.book) {
+        if !after.right || !is_brought_to_its_end(rt, memory, pool, rules, after.book) {
             return Err(n);
         }
         if !after.refused {
@@ -134,13 +139,20 @@ fn refuse_each<R: Threads + Wait + Sync>(
 #[test]
 fn one_worker_leaves_a_stray_ticket(rt: HostRuntime) {
     let memory = Refusing::new(rt.alloc(), 0);
-    let refused = refuse_each(&rt, &memory, rt.alloc(), 4, 1, 0);
+    let refused = refuse_each(&rt, &memory, rt.alloc(), NUMBERS, 4, 1, 0);
     assert!(rt; refused.is_ok(), "at request {refused:?}");
 }
 
 #[test]
 fn two_workers_leave_a_lawful_book(rt: HostRuntime) {
     let memory = Refusing::new(rt.alloc(), 0);
-    let refused = refuse_each(&rt, &memory, rt.alloc(), 20, 2, 16);
+    let refused = refuse_each(&rt, &memory, rt.alloc(), NUMBERS, 20, 2, 16);
+    assert!(rt; refused.is_ok(), "at request {refused:?}");
+}
+
+#[test]
+fn a_worker_is_refused_compound_values(rt: HostRuntime) {
+    let memory = Refusing::new(rt.alloc(), 0);
+    let refused = refuse_each(&rt, &memory, rt.alloc(), COMPOUND, 3, 1, 0);
     assert!(rt; refused.is_ok(), "at request {refused:?}");
 }

@@ -42,12 +42,36 @@ pub fn open<A: Allocator + Copy>(alloc: A, program: &str, posts: &str) -> Option
     open_up_to(alloc, program, GREATEST_LABEL, posts)
 }
 
-/// The posts `gcd(12)`, `gcd(24)` and so on, as many as are asked for.
-pub fn multiples(alloc: Global, count: u64) -> Result<String<Global>, AllocError> {
+/// Rules over the numbers of constraints, what stands before a number and after it, and how the last one is written.
+#[derive(Clone, Copy, Debug)]
+pub struct Rules {
+    pub program: &'static str,
+    pub before: &'static str,
+    pub after: &'static str,
+    pub last: &'static str,
+}
+
+pub const NUMBERS: Rules = Rules {
+    program: GCD,
+    before: "gcd(",
+    after: ")",
+    last: " gcd(12)",
+};
+
+/// The same with compound values.
+pub const COMPOUND: Rules = Rules {
+    program: "gcd(f(0,_)) <=> true.\ngcd(f(N,g)) \\ gcd(f(M,X)) <=> 0 < N, N =< M | L is M mod N, gcd(f(L,X)).\n",
+    before: "gcd(f(",
+    after: ",g))",
+    last: " gcd(f(12,g))",
+};
+
+/// The posts of 12, 24 and so on, as many as are asked for.
+pub fn multiples(alloc: Global, rules: Rules, count: u64) -> Result<String<Global>, AllocError> {
     let mut text = String::new(alloc);
     for k in 0..count {
         let number = k.wrapping_add(1).wrapping_mul(12);
-        let post = format!(in alloc; "gcd({number}).\n")?;
+        let post = format!(in alloc; "{}{number}{}.\n", rules.before, rules.after)?;
         text.push_str(post.as_str())?;
     }
     Ok(text)
@@ -82,7 +106,7 @@ pub fn run<A: Allocator + Copy + Send + Sync, R: Threads + Wait + Sync, G: Gate 
 pub fn verdict<A: Allocator + Copy>(alloc: A, book: &Book<A>) -> Option<Verdict> {
     let mut events = Vec::new(alloc);
     for index in 0..book.log().len() {
-        events.push(book.log().get(index).event).ok()?;
+        events.push(book.log().get(index).ok()?.event).ok()?;
     }
     let mut store = Vec::new(alloc);
     for (label, atom) in book.store().iter() {

@@ -1,5 +1,7 @@
 //! Workers that are stopped, and a second crew that goes on.
-use crate::runs::{GCD, MANY, has_only, multiples, open, open_up_to, run, tickets, verdict};
+use crate::runs::{
+    GCD, MANY, NUMBERS, has_only, multiples, open, open_up_to, run, tickets, verdict,
+};
 use chr_book::Book;
 use chr_calls::TicketState;
 use chr_check::Verdict;
@@ -95,7 +97,7 @@ fn goes_on<R: Threads + Wait + Sync>(
 
 #[test]
 fn a_second_crew_goes_on(rt: HostRuntime) {
-    let posts = multiples(rt.alloc(), 8).unwrap_or(String::new(rt.alloc()));
+    let posts = multiples(rt.alloc(), NUMBERS, 8).unwrap_or(String::new(rt.alloc()));
     for turns in 0..61u64 {
         let goes_on = goes_on(&rt, rt.alloc(), posts.as_str(), turns);
         assert_eq!(rt; goes_on, Some(true), "{turns} turns");

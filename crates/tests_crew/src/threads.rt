@@ -1,5 +1,7 @@
 //! Runs in threads.
-use crate::runs::{GCD, MANY, has_only, multiples, open, run, tickets, verdict};
+use crate::runs::{
+    COMPOUND, GCD, MANY, NUMBERS, Rules, has_only, multiples, open, run, tickets, verdict,
+};
 use chr_check::Verdict;
 use chr_crew::{End, Finished, Open};
 use chr_seats::Counts;
@@ -10,7 +12,7 @@ use std::thread::Threads;
 /// A program and its posts, which have an end in any order.
 type Task<'t> = (&'t str, &'t str);
 
-const TASKS: [Task<'static>; 3] = [
+const TASKS: [Task<'static>; 4] = [
     (
         GCD,
         "gcd(12), gcd(24), gcd(36), gcd(48), gcd(60), gcd(72), gcd(84), gcd(96), gcd(18), gcd(30).",
@@ -22,6 +24,10 @@ const TASKS: [Task<'static>; 3] = [
     (
         "edge(X,Y), edge(Y,Z), node(Z) <=> path(X,Z). path(X,Y) \\ path(X,Y) <=> true.",
         "edge(a,b), edge(b,c), node(c), edge(a,b), edge(b,c), node(c), edge(c,d), edge(d,e), node(e), edge(e,f), node(f).",
+    ),
+    (
+        "way(f(X,Y)), link(Y,g(Z)) <=> way(f(X,Z)). way(f(X,Y)) \\ way(f(X,Y)) <=> true.",
+        "way(f(a,b)), link(b,g(c)), link(c,g(d(1))), link(d(1),g(e)), way(f(a,b)), way(f(d(2),b)), link(b,g(d(2))), link(d(2),g(c)), link(c,g(b)).",
     ),
 ];
 
@@ -54,34 +60,41 @@ fn first_wrong<R: Threads + Wait + Sync>(rt: &R, alloc: Global, task: Task) -> O
 
 #[test]
 fn each_run_is_accepted(rt: HostRuntime) {
-    for round in 0..27usize {
-        let wrong = first_wrong(&rt, rt.alloc(), TASKS[round % 3]);
+    for round in 0..36usize {
+        let wrong = first_wrong(&rt, rt.alloc(), TASKS[round % 4]);
         assert_eq!(rt; wrong, None, "round {round}");
     }
 }
 
 /// Whether a run is final, with one constraint, and each ticket was pushed and taken once.
-fn is_whole(alloc: Global, finished: &Finished<Global>) -> bool {
+fn is_whole(alloc: Global, rules: Rules, finished: &Finished<Global>) -> bool {
     let (given, _) = tickets(&finished.book);
     finished.end == End::Quiet
         && verdict(alloc, &finished.book) == Some(Verdict::RunAndFinal)
-        && has_only(alloc, &finished.book, " gcd(12)")
+        && has_only(alloc, &finished.book, rules.last)
         && finished.tally.pushed == given
         && finished.tally.taken == given
         && finished.tally.left.is_empty()
 }
 
 /// Whether four workers bring two hundred goals to such an end. None where memory ran out.
-fn is_two_hundred_whole<R: Threads + Wait + Sync>(rt: &R, alloc: Global) -> Option<bool> {
-    let posts = multiples(alloc, 200).ok()?;
-    let book = open(alloc, GCD, posts.as_str())?;
+fn is_two_hundred_whole<R: Threads + Wait + Sync>(
+    rt: &R,
+    alloc: Global,
+    rules: Rules,
+) -> Option<bool> {
+    let posts = multiples(alloc, rules, 200).ok()?;
+    let book = open(alloc, rules.program, posts.as_str())?;
     let finished = run(rt, alloc, alloc, book, 4, &Open, MANY).ok()?;
-    Some(is_whole(alloc, &finished))
+    Some(is_whole(alloc, rules, &finished))
 }
 
 #[test]
 fn four_workers_end_two_hundred_goals(rt: HostRuntime) {
-    assert_eq!(rt; is_two_hundred_whole(&rt, rt.alloc()), Some(true));
+    for rules in [NUMBERS, COMPOUND] {
+        let is = is_two_hundred_whole(&rt, rt.alloc(), rules);
+        assert_eq!(rt; is, Some(true), "{}", rules.program);
+    }
 }
 
 /// How many turns are made at most, how the run ends, how many entries the worker makes, and the log.

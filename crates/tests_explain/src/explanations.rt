@@ -11,7 +11,7 @@ struct Row {
     shown: &'static [u8],
 }
 
-static ROWS: [Row; 4] = [
+static ROWS: [Row; 5] = [
     Row {
         program: b"gcd(0) <=> true.\ngcd(N) \\ gcd(M) <=> 0 < N, N =< M | L is M mod N, gcd(L).\n",
         log: b"chr-log 2\nP 1 gcd(9)\nP 2 gcd(6)\nA 1 1\nD 1\nA 2 2\nF 2 2 2\\1\nD 2\nA 3 3\nF 3 2 3\\2\nD 3\nA 4 4\nF 4 1 \\4\n",
@@ -51,6 +51,16 @@ static ROWS: [Row; 4] = [
             form: Form::Text,
         },
         shown: b"#1 task(cut_top,saw,1,3) at log 19: posted at log 2\n#2 task(cut_legs,saw,2,2) at log 21: posted at log 3\n#4 task(turn_front,lathe,1,4) at log 25: posted at log 5\n#10 before(cut_legs,turn_front) at log 37: posted at log 11\n#18 planned(cut_top,saw,1,3) at log 53: rule 1 (program 10) fired at log 20 on \\ #1, A = cut_top, M = saw, P = 1, D = 3\n#19 start(cut_top,0) at log 55: rule 1 (program 10) fired at log 20 on \\ #1, A = cut_top, M = saw, P = 1, D = 3\n#20 planned(cut_legs,saw,2,2) at log 58: rule 1 (program 10) fired at log 22 on \\ #2, A = cut_legs, M = saw, P = 2, D = 2\n#21 start(cut_legs,0) at log 60: rule 1 (program 10) fired at log 22 on \\ #2, A = cut_legs, M = saw, P = 2, D = 2\n#25 start(turn_front,0) at log 68: rule 1 (program 10) fired at log 26 on \\ #4, A = turn_front, M = lathe, P = 1, D = 4\n#35 start(cut_legs,3) at log 88: rule 3 (program 13) fired at log 61 on #18 #19 #20 \\ #21, A = cut_top, M = saw, P = 1, D = 3, S = 0, B = cut_legs, Q = 2, T = 0, U = 3\n#41 start(turn_front,5) at log 102: rule 2 (program 12) fired at log 89 on #10 #20 #35 \\ #25, A = cut_legs, B = turn_front, D = 2, S = 3, T = 0, U = 5\n",
+    },
+    Row {
+        program: b"p(f(X,Y)) <=> q(f(Y,X)).\n",
+        log: b"chr-log 2\nP 1 p(f(a,g(1)))\nA 1 1\nF 1 1 \\1\nA 2 2\nD 2\n",
+        question: Question {
+            label: 2,
+            gone: false,
+            form: Form::Text,
+        },
+        shown: b"#1 p(f(a,g(1))) at log 3: posted at log 2\n#2 q(f(g(1),a)) at log 5: rule 1 (program 1) fired at log 4 on \\ #1, X = a, Y = g(1)\n",
     },
 ];
 

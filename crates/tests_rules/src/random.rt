@@ -24,11 +24,26 @@ const MOST_TRIALS: u64 = 100_000;
 /// Heads with the variables that guards and bodies use.
 const FIRST_HEADS: [&str; 2] = ["q(X,Y)", "q(Y,X)"];
 
-const OTHER_HEADS: [&str; 10] = [
-    "p(X)", "p(Y)", "p(Z)", "p(1)", "q(X,Z)", "q(Y,Z)", "q(Z,X)", "q(Z,U)", "q(Z,Z)", "q(U,a)",
+const OTHER_HEADS: [&str; 16] = [
+    "p(X)",
+    "p(Y)",
+    "p(Z)",
+    "p(1)",
+    "q(X,Z)",
+    "q(Y,Z)",
+    "q(Z,X)",
+    "q(Z,U)",
+    "q(Z,Z)",
+    "q(U,a)",
+    "p(f(X))",
+    "p(f(Z))",
+    "p(f(1))",
+    "q(f(Y),Z)",
+    "q(Z,g(U,X))",
+    "q(f(Z),Z)",
 ];
 
-const GUARDS: [&str; 7] = [
+const GUARDS: [&str; 10] = [
     "",
     "",
     "X < Y | ",
@@ -36,17 +51,37 @@ const GUARDS: [&str; 7] = [
     "X \\== Y | ",
     "Y =< X + 1 | ",
     "X == Y | ",
+    "",
+    "f(X) \\== Y | ",
+    "g(X,1) == g(Y,1) | ",
 ];
 
-const BODIES: [&str; 4] = [
+const BODIES: [&str; 6] = [
     "true",
     "p(X)",
     "W is X mod Y, p(W)",
     "V is 6 // Y, W is V - X, q(V,W)",
+    "p(f(X))",
+    "q(f(Y),g(X,f(Y)))",
 ];
 
-const ATOMS: [&str; 10] = [
-    "p(0)", "p(1)", "p(a)", "q(0,1)", "q(1,0)", "q(1,1)", "q(1,2)", "q(0,0)", "q(a,1)", "q(1,a)",
+const ATOMS: [&str; 16] = [
+    "p(0)",
+    "p(1)",
+    "p(a)",
+    "q(0,1)",
+    "q(1,0)",
+    "q(1,1)",
+    "q(1,2)",
+    "q(0,0)",
+    "q(a,1)",
+    "q(1,a)",
+    "p(f(1))",
+    "q(f(1),1)",
+    "q(1,f(1))",
+    "q(f(1),f(1))",
+    "q(f(0),g(1,1))",
+    "q(1,g(f(1),1))",
 ];
 
 /// Numbers without a plain order, the same from the same start.

@@ -13,10 +13,11 @@ enum Call {
     OpenIndexed,
     Insert,
     InsertIndexed,
+    InsertCompound,
     CopyStore,
 }
 
-const CALLS: [Call; 8] = [
+const CALLS: [Call; 9] = [
     Call::PushRule,
     Call::CopyProgram,
     Call::MakePlans,
@@ -24,6 +25,7 @@ const CALLS: [Call; 8] = [
     Call::OpenIndexed,
     Call::Insert,
     Call::InsertIndexed,
+    Call::InsertCompound,
     Call::CopyStore,
 ];
 
@@ -49,6 +51,7 @@ fn is_made_again(memory: &Refusing<Global>, n: u64, call: Call) -> Option<bool> 
         Call::OpenIndexed => refused_store::open(memory, n),
         Call::Insert => refused_store::insert(memory, n),
         Call::InsertIndexed => refused_store::insert_indexed(memory, n),
+        Call::InsertCompound => refused_store::insert_compound(memory, n),
         Call::CopyStore => refused_store::copy(memory, n),
     }
 }

@@ -1,40 +1,25 @@
 //! A program and its plans.
 use crate::refusals::is_refused;
-use arrayvec::ArrayVec;
 use chr_plan::Plans;
-use chr_rule::{Program, Rule, RuleAtom, Term};
-use chr_value::Name;
+use chr_rule::{Program, Rule};
+use chr_text::read_program;
+use chr_value::Names;
 use refusing::Refusing;
 use std::alloc::Global;
 use std::sync::Arc;
 
 type SharedRule<'m> = Arc<Rule<&'m Refusing<Global>>, &'m Refusing<Global>>;
 
-/// `p(X)`.
-fn head() -> RuleAtom {
-    let mut terms = ArrayVec::new();
-    terms.push(Term::Var(0));
-    let name = Name { number: 0 };
-    RuleAtom { name, terms }
-}
-
-/// `p(X) <=> true`, or `p(X), p(X) <=> true`.
-fn rule_with(memory: &Refusing<Global>, twice: bool) -> Option<SharedRule<'_>> {
-    let mut removed = vec![in memory; head()].ok()?;
-    if twice {
-        removed.push(head()).ok()?;
-    }
-    let rule = Rule::new(
-        Vec::new(memory),
-        removed,
-        Vec::new(memory),
-        Vec::new(memory),
-    )?;
-    Arc::new(memory, rule).ok()
+/// The first rule of a text.
+fn rule_with<'m>(memory: &'m Refusing<Global>, text: &str) -> Option<SharedRule<'m>> {
+    let mut names = Names::new(memory);
+    let program = read_program(memory, text.as_bytes(), &mut names).ok()?;
+    let rule = program.rule(1)?;
+    Arc::try_clone(rule).ok()
 }
 
 fn rule_of(memory: &Refusing<Global>) -> Option<SharedRule<'_>> {
-    rule_with(memory, false)
+    rule_with(memory, "p(X,f(X,g(1))) <=> true.")
 }
 
 /// Adds a rule 20 times, each again where that fails.
@@ -100,9 +85,10 @@ pub fn make(memory: &Refusing<Global>, n: u64) -> Option<bool> {
 
 pub fn places(memory: &Refusing<Global>, n: u64) -> Option<bool> {
     let mut program = Program::new(memory);
-    program.push(rule_with(memory, true)?).ok()?;
+    let rule = rule_with(memory, "p(X), p(X), q(f(1)) <=> true.")?;
+    program.push(rule).ok()?;
     let plans = Plans::make(memory, &program).ok()?;
     memory.refuse(n);
     let refused = is_refused(memory, plans.places(memory, &program).is_err())?;
-    (plans.places(memory, &program).ok()?.len() == 1).then_some(refused)
+    (plans.places(memory, &program).ok()?.len() == 2).then_some(refused)
 }

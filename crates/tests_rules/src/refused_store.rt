@@ -1,7 +1,8 @@
 //! A store.
 use crate::refusals::is_refused;
 use chr_store::{Store, StoreFault};
-use chr_value::{Atom, Name, Pred, Value};
+use chr_text::read_atoms;
+use chr_value::{Atom, Name, Names, Pred, Value, ValueRef};
 use refusing::Refusing;
 use std::alloc::Global;
 
@@ -47,20 +48,27 @@ pub fn open(memory: &Refusing<Global>, n: u64) -> Option<bool> {
     again.is_ok().then_some(refused)
 }
 
-/// An atom with one argument, which takes no memory.
+/// An atom with a number as its argument, which takes no memory.
 fn unary_of(memory: &Refusing<Global>, argument: i64) -> Atom<&Refusing<Global>> {
     let mut atom = Atom::new(memory, PRED.name);
-    atom.push(Value::Int(argument));
+    let _taken = atom.push(Value::Int(argument));
     atom
 }
 
-/// How many of the labels up to 40 have a value.
+/// How many of the labels up to 40 have a number.
 fn count(store: &Store<&Refusing<Global>>, argument: i64) -> usize {
-    let value = Value::Int(argument);
+    count_of(store, ValueRef::Int(argument))
+}
+
+/// How many of the labels up to 40 have a value.
+fn count_of<'m>(
+    store: &Store<&'m Refusing<Global>>,
+    value: ValueRef<'_, &'m Refusing<Global>>,
+) -> usize {
     let mut labels: usize = 0;
     let mut last = 0;
     for _ in 0..40u8 {
-        if let Some(label) = store.next_at(PRED, Some((1, &value)), last, 41) {
+        if let Some(label) = store.next_at(PRED, Some((1, value)), last, 41) {
             labels = labels.saturating_add(1);
             last = label;
         }
@@ -100,11 +108,56 @@ pub fn insert_indexed(memory: &Refusing<Global>, n: u64) -> Option<bool> {
     insert_all_indexed(memory, n, &mut store)
 }
 
-/// A store of 40 atoms.
+/// The atoms of a text, in which the name that comes first has the number 0.
+fn atoms_of<'m>(
+    memory: &'m Refusing<Global>,
+    text: &str,
+) -> Option<Vec<Atom<&'m Refusing<Global>>, &'m Refusing<Global>>> {
+    let mut names = Names::new(memory);
+    read_atoms(memory, text.as_bytes(), &mut names).ok()
+}
+
+/// Inserts copies of two atoms by turns, six of each, each again where that fails, and the store has none of it in between.
+fn insert_copies<'m>(
+    memory: &'m Refusing<Global>,
+    n: u64,
+    store: &mut Store<&'m Refusing<Global>>,
+    atoms: &[Atom<&'m Refusing<Global>>],
+) -> Option<bool> {
+    let mut fails = false;
+    memory.refuse(n);
+    for number in 0..12usize {
+        let atom = atoms.get(number % 2)?;
+        if store.insert_copy(atom).is_err() {
+            fails = true;
+            if store.len() != number {
+                return None;
+            }
+            store.insert_copy(atom).ok()?;
+        }
+    }
+    is_refused(memory, fails)
+}
+
+/// Inserts atoms whose arguments are compound into a store with an index, which then has them at their keys.
+pub fn insert_compound(memory: &Refusing<Global>, n: u64) -> Option<bool> {
+    let atoms = atoms_of(memory, "p(f(1)), p(f(2)).")?;
+    let mut store = Store::indexed(memory, 40, &[(PRED, 1)]).ok()?;
+    let refused = insert_copies(memory, n, &mut store, &atoms)?;
+    let value = atoms.last()?.arg(0)?;
+    (count_of(&store, value) == 6).then_some(refused)
+}
+
+/// A store of 30 atoms without arguments and ten with compound ones.
 fn store_of(memory: &Refusing<Global>) -> Option<Store<&Refusing<Global>>> {
     let mut store = Store::new(memory, 40);
-    for number in 0..40u32 {
+    for number in 0..30u32 {
         store.insert(atom_of(memory, number)).ok()?;
+    }
+    let text =
+        "p(f(0)), p(f(1)), p(f(2)), p(f(3)), p(f(4)), p(f(5)), p(f(6)), p(f(7)), p(f(8)), p(f(9)).";
+    for atom in atoms_of(memory, text)? {
+        store.insert(atom).ok()?;
     }
     Some(store)
 }

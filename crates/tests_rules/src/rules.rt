@@ -1,24 +1,31 @@
 //! What is a rule, from both sides of each limit.
-use arrayvec::ArrayVec;
-use chr_rule::{BodyItem, Comparison, Expr, Rule, RuleAtom, Term};
-use chr_value::Name;
+use chr_rule::{BodyItem, Comparison, Expr, Open, Rule, RuleAtom, Term};
+use chr_value::{Comp, MOST_ARGS, Name, Value};
 use std::alloc::Global;
 
-/// An atom of `count` variables, from `first` on.
-fn atom_of(first: u8, count: u8) -> RuleAtom {
-    let mut terms = ArrayVec::new();
+/// `count` variables, from `first` on.
+fn variables(alloc: Global, first: u8, count: u8) -> Option<Vec<Term<Global>>> {
+    let mut terms = Vec::new(alloc);
     for i in 0..count {
-        let _room = terms.try_push(Term::Var(first.wrapping_add(i)));
+        terms.push(Term::Var(first.wrapping_add(i))).ok()?;
+    }
+    Some(terms)
+}
+
+/// An atom of at most eight terms.
+fn atom_of(terms: Vec<Term<Global>>) -> Option<RuleAtom<Global>> {
+    if MOST_ARGS < terms.len() {
+        return None;
     }
     let name = Name { number: 3 };
-    RuleAtom { name, terms }
+    Some(RuleAtom { name, terms })
 }
 
 /// Heads, each by its first variable and the number of its variables.
-fn heads_of(alloc: Global, heads: &[(u8, u8)]) -> Option<Vec<RuleAtom>> {
+fn heads_of(alloc: Global, heads: &[(u8, u8)]) -> Option<Vec<RuleAtom<Global>>> {
     let mut made = Vec::new(alloc);
     for (first, count) in heads {
-        made.push(atom_of(*first, *count)).ok()?;
+        made.push(atom_of(variables(alloc, *first, *count)?)?).ok()?;
     }
     Some(made)
 }
@@ -48,7 +55,8 @@ fn body_of(
             .ok()?;
     }
     for variable in added {
-        body.push(BodyItem::Add(atom_of(*variable, 1))).ok()?;
+        let atom = atom_of(variables(alloc, *variable, 1)?)?;
+        body.push(BodyItem::Add(atom)).ok()?;
     }
     Some(body)
 }
@@ -120,5 +128,104 @@ const ROWS: [Row; 27] = [
 fn rules_from_both_sides_of_each_limit(rt: HostRuntime) {
     for (i, row) in ROWS.iter().enumerate() {
         assert_eq!(rt; is_as_it_says(rt.alloc(), row), Some(true), "row {i}");
+    }
+}
+
+/// A functor with one argument.
+fn functor_of(alloc: Global, term: Term<Global>) -> Option<Term<Global>> {
+    let mut args = Vec::new(alloc);
+    args.push(term).ok()?;
+    let functor = Name { number: 4 };
+    Some(Term::Open(Box::new(alloc, Open { functor, args }).ok()?))
+}
+
+/// A variable under so many functors.
+fn nested(alloc: Global, functors: u8) -> Option<Term<Global>> {
+    let mut term = Term::Var(0);
+    for _ in 0..functors {
+        term = functor_of(alloc, term)?;
+    }
+    Some(term)
+}
+
+/// A number under so many functors.
+fn nested_value(alloc: Global, functors: u8) -> Option<Term<Global>> {
+    let mut value = Value::Int(1);
+    for _ in 0..functors {
+        let mut args = Vec::new(alloc);
+        args.push(value).ok()?;
+        let functor = Name { number: 4 };
+        value = Value::Comp(Box::new(alloc, Comp { functor, args }).ok()?);
+    }
+    Some(Term::Given(value))
+}
+
+/// A functor whose arguments are functors with so many times the first variable.
+fn wide(alloc: Global, counts: &[u8]) -> Option<Term<Global>> {
+    let functor = Name { number: 4 };
+    let mut args = Vec::new(alloc);
+    for count in counts {
+        let mut same = Vec::new(alloc);
+        for _ in 0..*count {
+            same.push(Term::Var(0)).ok()?;
+        }
+        let inner = Open {
+            functor,
+            args: same,
+        };
+        args.push(Term::Open(Box::new(alloc, inner).ok()?)).ok()?;
+    }
+    Some(Term::Open(Box::new(alloc, Open { functor, args }).ok()?))
+}
+
+/// A term by what it is made of.
+#[derive(Clone, Copy, Debug)]
+enum Shape {
+    Nested(u8),
+    NestedValue(u8),
+    /// A value under a functor that has its arguments as terms, though no variable stands in it.
+    OpenValue,
+    Wide(&'static [u8]),
+}
+
+fn term_of(alloc: Global, shape: Shape) -> Option<Term<Global>> {
+    match shape {
+        Shape::Nested(functors) => nested(alloc, functors),
+        Shape::NestedValue(functors) => nested_value(alloc, functors),
+        Shape::OpenValue => functor_of(alloc, nested_value(alloc, 0)?),
+        Shape::Wide(counts) => wide(alloc, counts),
+    }
+}
+
+/// Terms, and whether a head beside the first variable may have them.
+static TERMS: [(Shape, bool); 11] = [
+    (Shape::Nested(0), true),
+    (Shape::Nested(7), true),
+    (Shape::Nested(8), false),
+    (Shape::NestedValue(7), true),
+    (Shape::NestedValue(8), false),
+    (Shape::OpenValue, false),
+    (Shape::Wide(&[8]), true),
+    (Shape::Wide(&[9]), false),
+    (Shape::Wide(&[1; 9]), false),
+    (Shape::Wide(&[7, 7, 7, 7, 7, 7, 7, 6]), true),
+    (Shape::Wide(&[7; 8]), false),
+];
+
+/// Whether a rule may remove a head of the first variable and a term.
+fn may_be_removed(alloc: Global, shape: Shape) -> Option<bool> {
+    let mut terms = variables(alloc, 0, 1)?;
+    terms.push(term_of(alloc, shape)?).ok()?;
+    let mut removed = Vec::new(alloc);
+    removed.push(atom_of(terms)?).ok()?;
+    let rule = Rule::new(Vec::new(alloc), removed, Vec::new(alloc), Vec::new(alloc));
+    Some(rule.is_some())
+}
+
+#[test]
+fn terms_from_both_sides_of_each_limit(rt: HostRuntime) {
+    for (shape, wanted) in &TERMS {
+        let may = may_be_removed(rt.alloc(), *shape);
+        assert_eq!(rt; may, Some(*wanted), "{shape:?}");
     }
 }

@@ -2,6 +2,7 @@
 ghost use Rattle.std.specs.Prelude.{IfSome};
 ghost use Rattle.chr_plan.specs.Plans.{ArePlans};
 
+use chr_guard::Binding;
 use chr_plan::Plans;
 use chr_rule::Program;
 use chr_search::{Ask, Instance, Judged, Passed, Search, Then, Verdict, judge};
@@ -127,11 +128,21 @@ fn is_found_twice(
     };
     let mut search = Search::begin(label);
     let mut instance = Instance::new();
-    let passed = search.pass_over_before(&program, &plans, &store, atom, 100, &mut instance);
+    let mut bound = Binding::free(0);
+    let passed = search.pass_over_before(
+        &program,
+        &plans,
+        &store,
+        atom,
+        100,
+        &mut instance,
+        &mut bound,
+    );
     let before = is_found(passed, &instance, expected);
     let mut search = Search::begin(label);
     let mut instance = Instance::new();
-    let passed = search.pass_over(&program, &plans, &entered, 100, &mut instance);
+    let mut bound = Binding::free(0);
+    let passed = search.pass_over(&program, &plans, &entered, 100, &mut instance, &mut bound);
     Some(before && is_found(passed, &instance, expected))
 }
 
@@ -227,6 +238,90 @@ fn partners_are_found_by_the_value_that_joins_them(rt: HostRuntime) {
     );
 }
 
+/// Searches with compound values, worked by hand: a program, posts, the active label and its trials.
+static COMPOUND: [(&str, &str, u64, &[Row<'static>]); 9] = [
+    (
+        "edge(X,Y), edge(Y,Z), node(Z) <=> path(X,Z).",
+        "edge(f(a),f(b)), edge(f(b),f(c)), edge(f(c),f(b)), node(f(c)), node(c).",
+        4,
+        &[
+            (1, 3, &[4], Verdict::Part),
+            (1, 3, &[4, 2], Verdict::Part),
+            (1, 3, &[4, 2, 1], Verdict::Whole),
+            (1, 3, &[4, 2, 3], Verdict::Whole),
+        ],
+    ),
+    (
+        "edge(X,Y), edge(Y,Z), node(Z) <=> path(X,Z).",
+        "edge(f(a),f(b)), edge(f(b),f(c)), edge(f(c),f(b)), node(f(c)), node(c).",
+        5,
+        &[(1, 3, &[5], Verdict::Part)],
+    ),
+    // A term with variables is no key, so all labels of its predicate are tried.
+    (
+        "p(X), q(f(X)) <=> r.",
+        "p(1), q(f(1)), q(f(2)), p(1).",
+        4,
+        &[
+            (1, 1, &[4], Verdict::Part),
+            (1, 1, &[4, 2], Verdict::Whole),
+            (1, 1, &[4, 3], Verdict::Misfit),
+        ],
+    ),
+    (
+        "p(X), q(f(X)) <=> r.",
+        "p(1), q(f(1)), q(f(2)), p(1).",
+        2,
+        &[(1, 2, &[2], Verdict::Part), (1, 2, &[2, 1], Verdict::Whole)],
+    ),
+    (
+        "p(X), q(f(X)) <=> r.",
+        "p(1), q(f(1)), q(f(2)), p(1).",
+        3,
+        &[(1, 2, &[3], Verdict::Part)],
+    ),
+    // One without variables is a key.
+    (
+        "t \\ p(f(1,g(a))) <=> true.",
+        "p(f(1,g(a))), p(f(1,g(b))), p(f(1,a)), p(f(1,g(a))), t.",
+        5,
+        &[
+            (1, 1, &[5], Verdict::Part),
+            (1, 1, &[5, 1], Verdict::Whole),
+            (1, 1, &[5, 4], Verdict::Whole),
+        ],
+    ),
+    (
+        "p(f(X)) <=> X > 0 | true. p(f(X,X)) <=> true.",
+        "p(f(1)), p(f(a)), p(1), p(f(1,1)).",
+        4,
+        &[(1, 1, &[4], Verdict::Misfit), (2, 1, &[4], Verdict::Whole)],
+    ),
+    (
+        "n(X) <=> n(s(X)).",
+        "n(s(s(s(s(s(s(z))))))), n(s(s(s(s(s(s(s(z)))))))).",
+        1,
+        &[(1, 1, &[1], Verdict::Whole)],
+    ),
+    (
+        "n(X) <=> n(s(X)).",
+        "n(s(s(s(s(s(s(z))))))), n(s(s(s(s(s(s(s(z)))))))).",
+        2,
+        &[(1, 1, &[2], Verdict::Misfit)],
+    ),
+];
+
+#[test]
+fn searches_with_compound_values(rt: HostRuntime) {
+    for (program, posts, label, rows) in &COMPOUND {
+        assert_eq!(rt;
+            first_wrong(rt.alloc(), program, posts, &[], *label, rows),
+            Some(0),
+            "label {label} of {posts}"
+        );
+    }
+}
+
 #[test]
 fn dead_label_has_no_trials(rt: HostRuntime) {
     assert_eq!(rt;
@@ -239,6 +334,12 @@ fn dead_label_has_no_trials(rt: HostRuntime) {
 fn instance_is_found_before_its_atom_is_entered(rt: HostRuntime) {
     assert_eq!(rt;
         is_found_twice(rt.alloc(), GCD, "gcd(9).", "gcd(6).", (2, &[2], &[1])),
+        Some(true)
+    );
+    let program = "p(f(X)) \\ q(X) <=> r(X).";
+    let expected = (1, &[2][..], &[1][..]);
+    assert_eq!(rt;
+        is_found_twice(rt.alloc(), program, "q(g(a)).", "p(f(g(a))).", expected),
         Some(true)
     );
 }

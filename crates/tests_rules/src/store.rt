@@ -2,7 +2,8 @@
 ghost use Rattle.std.specs.Prelude.{◌≤◌};
 
 use chr_store::{Store, StoreFault};
-use chr_value::{Atom, Name, Pred, Value};
+use chr_text::read_atoms;
+use chr_value::{Atom, Comp, Name, Names, Pred, Value, ValueRef};
 use std::alloc::Global;
 
 const P: Name = Name { number: 0 };
@@ -19,14 +20,32 @@ fn empty(alloc: Global, indexed: bool, limit: u64) -> Option<Store<Global>>
     Some(Store::new(alloc, limit))
 }
 
-/// A store with a limit of at least 3 of `p(1)`, `p(2)` and `p(1)`, under 1, 2 and 3.
-fn store_of(alloc: Global, indexed: bool, limit: u64) -> Option<Store<Global>>
+/// How a store is made: with an index or without one, and of numbers or of compound values.
+type Kind = (bool, bool);
+
+const KINDS: [Kind; 4] = [(false, false), (true, false), (false, true), (true, true)];
+
+/// A functor with a number.
+fn comp_of(alloc: Global, n: i64) -> Option<Comp<Global>> {
+    let mut args = Vec::new(alloc);
+    args.push(Value::Int(n)).ok()?;
+    let functor = Name { number: 1 };
+    Some(Comp { functor, args })
+}
+
+/// A store with a limit of at least 3 of `p(1)`, `p(2)` and `p(1)`, or with these numbers under a functor, under 1, 2 and 3.
+fn store_of(alloc: Global, kind: Kind, limit: u64) -> Option<Store<Global>>
     requires { limit ≤ 4294967295 }
 {
+    let (indexed, compound) = kind;
+    let text = if compound {
+        "p(f(1)), p(f(2)), p(f(1))."
+    } else {
+        "p(1), p(2), p(1)."
+    };
+    let mut names = Names::new(alloc);
     let mut store = empty(alloc, indexed, limit)?;
-    for n in [1, 2, 1] {
-        let mut atom = Atom::new(alloc, P);
-        atom.push(Value::Int(n));
+    for atom in read_atoms(alloc, text.as_bytes(), &mut names).ok()? {
         store.insert(atom).ok()?;
     }
     Some(store)
@@ -40,11 +59,14 @@ fn is_full(alloc: Global, store: &mut Store<Global>) -> bool {
     )
 }
 
-/// The first row of the table of `next_at` that a store doesn't answer as it should.
-fn first_wrong(store: &Store<Global>, rows: &[(bool, u64, u64, Option<u64>)]) -> Option<usize> {
-    let one = Value::Int(1);
+/// The first row of the table of `next_at` that a store doesn't answer as it should, by a value as the key.
+fn first_wrong(
+    store: &Store<Global>,
+    one: ValueRef<'_, Global>,
+    rows: &[(bool, u64, u64, Option<u64>)],
+) -> Option<usize> {
     rows.iter().position(|(keyed, after, below, wanted)| {
-        let key = if *keyed { Some((1, &one)) } else { None };
+        let key = if *keyed { Some((1, one)) } else { None };
         store.next_at(PRED, key, *after, *below) != *wanted
     })
 }
@@ -63,26 +85,32 @@ const ROWS_WITHOUT_3: [(bool, u64, u64, Option<u64>); 3] = [
 ];
 
 /// Whether a store of three atoms answers its table, and takes no fourth one.
-fn is_right_with_3(alloc: Global, store: &mut Store<Global>) -> bool {
-    first_wrong(store, &ROWS).is_none()
+fn is_right_with_3(alloc: Global, store: &mut Store<Global>, one: ValueRef<'_, Global>) -> bool {
+    first_wrong(store, one, &ROWS).is_none()
         && is_full(alloc, store)
         && (store.len(), store.next_label()) == (3, 4)
 }
 
 /// Whether it answers its table once label 3 is gone, and takes none in its place.
-fn is_right_without_3(alloc: Global, store: &mut Store<Global>) -> bool {
+fn is_right_without_3(alloc: Global, store: &mut Store<Global>, one: ValueRef<'_, Global>) -> bool {
     store.remove(3).is_some()
         && store.get(3).is_none()
-        && first_wrong(store, &ROWS_WITHOUT_3).is_none()
+        && first_wrong(store, one, &ROWS_WITHOUT_3).is_none()
         && store.get(2).is_some()
         && is_full(alloc, store)
         && store.iter().count() == 2
 }
 
-/// Whether both hold of a store, plain or with an index. None where memory ran out.
-fn is_right(alloc: Global, indexed: bool) -> Option<bool> {
-    let mut store = store_of(alloc, indexed, 3)?;
-    Some(is_right_with_3(alloc, &mut store) && is_right_without_3(alloc, &mut store))
+/// Whether both hold of a store. None where memory ran out.
+fn is_right(alloc: Global, kind: Kind) -> Option<bool> {
+    let mut store = store_of(alloc, kind, 3)?;
+    let one = comp_of(alloc, 1)?;
+    let one = if kind.1 {
+        ValueRef::Comp(&one)
+    } else {
+        ValueRef::Int(1)
+    };
+    Some(is_right_with_3(alloc, &mut store, one) && is_right_without_3(alloc, &mut store, one))
 }
 
 /// Whether a store whose limit is 0 takes no atom. None where memory ran out.
@@ -93,26 +121,85 @@ fn takes_none(alloc: Global, indexed: bool) -> Option<bool> {
 
 #[test]
 fn finds_the_next_label_and_keeps_its_limit(rt: HostRuntime) {
-    for indexed in [false, true] {
-        assert_eq!(rt; is_right(rt.alloc(), indexed), Some(true), "{indexed}");
-        assert_eq!(rt; takes_none(rt.alloc(), indexed), Some(true), "{indexed}");
+    for kind in KINDS {
+        assert_eq!(rt; is_right(rt.alloc(), kind), Some(true), "{kind:?}");
+        assert_eq!(rt; takes_none(rt.alloc(), kind.0), Some(true), "{kind:?}");
     }
 }
 
 /// The label that is given after the greatest one of all has left the store. None if memory ran out.
-fn label_after_the_last_has_left(alloc: Global, indexed: bool) -> Option<u64> {
-    let mut store = store_of(alloc, indexed, 10)?;
+fn label_after_the_last_has_left(alloc: Global, kind: Kind) -> Option<u64> {
+    let mut store = store_of(alloc, kind, 10)?;
     store.remove(3)?;
-    if first_wrong(&store, &ROWS_WITHOUT_3).is_some() {
-        return None;
-    }
     store.insert(Atom::new(alloc, P)).ok()
 }
 
 #[test]
 fn gives_no_label_again(rt: HostRuntime) {
+    for kind in KINDS {
+        let label = label_after_the_last_has_left(rt.alloc(), kind);
+        assert_eq!(rt; label, Some(4), "{kind:?}");
+    }
+}
+
+/// Constraints of one predicate, from label 1 on.
+const ALIKE: &str =
+    "p(1), p(f), p(f(1)), p(f(f(1))), p(f(1,1)), p(g(1)), p(f(a)), p(f(1)), p(f(g(1,f))), p(a), p(f(f(1))).";
+
+/// The argument of a constraint, and the labels that have it.
+static LABELS: [(&str, &[u64]); 12] = [
+    ("p(1).", &[1]),
+    ("p(f).", &[2]),
+    ("p(f(1)).", &[3, 8]),
+    ("p(f(f(1))).", &[4, 11]),
+    ("p(f(1,1)).", &[5]),
+    ("p(g(1)).", &[6]),
+    ("p(f(a)).", &[7]),
+    ("p(f(g(1,f))).", &[9]),
+    ("p(a).", &[10]),
+    ("p(f(2)).", &[]),
+    ("p(f(g(f,1))).", &[]),
+    ("p(h(1)).", &[]),
+];
+
+/// Whether a store gives these labels for a value, and none else.
+fn has_labels(store: &Store<Global>, value: ValueRef<'_, Global>, labels: &[u64]) -> bool {
+    let mut after = 0;
+    for label in labels {
+        if store.next_at(PRED, Some((1, value)), after, 100) != Some(*label) {
+            return false;
+        }
+        after = *label;
+    }
+    store.next_at(PRED, Some((1, value)), after, 100).is_none()
+}
+
+/// The first row of the labels that a store doesn't answer as it should, or how many rows there are. None if memory ran out.
+fn first_other(alloc: Global, store: &Store<Global>, names: &mut Names<Global>) -> Option<usize> {
+    for (i, (text, labels)) in LABELS.iter().enumerate() {
+        let atoms = read_atoms(alloc, text.as_bytes(), names).ok()?;
+        let value = atoms.first()?.arg(0)?;
+        if !has_labels(store, value, labels) {
+            return Some(i);
+        }
+    }
+    Some(LABELS.len())
+}
+
+/// The same of a store of all of them, plain or with an index.
+fn first_other_of(alloc: Global, indexed: bool) -> Option<usize> {
+    let mut names = Names::new(alloc);
+    let mut store = empty(alloc, indexed, 100)?;
+    for atom in read_atoms(alloc, ALIKE.as_bytes(), &mut names).ok()? {
+        store.insert(atom).ok()?;
+    }
+    first_other(alloc, &store, &mut names)
+}
+
+#[test]
+fn values_that_are_alike_are_told_apart(rt: HostRuntime) {
     for indexed in [false, true] {
-        let label = label_after_the_last_has_left(rt.alloc(), indexed);
-        assert_eq!(rt; label, Some(4), "{indexed}");
+        let other = first_other_of(rt.alloc(), indexed);
+        assert_eq!(rt; other, Some(LABELS.len()), "{indexed}");
     }
 }

@@ -30,6 +30,10 @@ const TWICE: &str = "p(X), p(X) <=> q(X).";
 
 const TOKEN: &str = "t \\ n(X) <=> r(X).";
 
+const SWAP: &str = "p(f(X,Y)) <=> q(f(Y,X)).";
+
+const TALLER: &str = "n(X) <=> n(s(X)).";
+
 const TOKEN_STORE: &str = "#2 t\n#3 r(1)\n";
 
 /// What is told of three texts: the line of the answer, or the fault of the first text that can't be read. A refusal's
@@ -181,7 +185,7 @@ fn a_log_with_changed_lines(rt: HostRuntime) -> Result<(), Fail> {
 }
 
 /// A program, the events of a log, a store, and what is told of them.
-static KINDS: [(&str, &str, &str, &str); 19] = [
+static KINDS: [(&str, &str, &str, &str); 26] = [
     ("", "", "", "run final\n"),
     ("", "P 1 a\n", "", "run\n"),
     ("", "P 2 a\n", "", "refused E16 log 2 BadTicket\n"),
@@ -261,6 +265,48 @@ static KINDS: [(&str, &str, &str, &str); 19] = [
         "refused E16 store 2 StoreDiffers\n",
     ),
     ("", "P 1 a\nA 1 1\nD 1\n", "#1 a\n", "run final\n"),
+    (
+        SWAP,
+        "P 1 p(f(a,1))\nA 1 1\nF 1 1 \\1\nA 2 2\nD 2\n",
+        "#2 q(f(1,a))\n",
+        "run final\n",
+    ),
+    (
+        SWAP,
+        "P 1 p(f(a,1))\nA 1 1\nF 1 1 \\1\nA 2 2\nD 2\n",
+        "#2 q(f(a,1))\n",
+        "refused E16 store 1 StoreDiffers\n",
+    ),
+    (
+        SWAP,
+        "P 1 p(f(a,1))\nA 1 1\nD 1\n",
+        "#1 p(f(a,1))\n",
+        "refused E16 log 4 StillApplies\n",
+    ),
+    (
+        SWAP,
+        "P 1 p(f(a))\nA 1 1\nF 1 1 \\1\n",
+        "",
+        "refused E16 log 4 NoInstance\n",
+    ),
+    (
+        SWAP,
+        "P 1 p(f(a))\nA 1 1\nD 1\n",
+        "#1 p(f(a))\n",
+        "run final\n",
+    ),
+    (
+        TALLER,
+        "P 1 n(s(s(s(s(s(s(z)))))))\nA 1 1\nF 1 1 \\1\nA 2 2\nD 2\n",
+        "#2 n(s(s(s(s(s(s(s(z))))))))\n",
+        "run final\n",
+    ),
+    (
+        TALLER,
+        "P 1 n(s(s(s(s(s(s(s(z))))))))\nA 1 1\nF 1 1 \\1\n",
+        "",
+        "refused E16 log 4 NoInstance\n",
+    ),
 ];
 
 #[test]
@@ -312,7 +358,7 @@ fn a_goal_may_be_dropped_by_version(rt: HostRuntime) -> Result<(), Fail> {
 const ENTERED: &str = "chr-log 1\nP 1 a\nA 1 1\nD 1\n";
 
 /// A program, a log, a store, and what is told of them.
-static TEXTS: [(&str, &str, &str, &str); 17] = [
+static TEXTS: [(&str, &str, &str, &str); 20] = [
     ("", ENTERED, "#1 a\n", "run final\n"),
     ("a ==> b.", ENTERED, "#1 a\n", "program 1: E05 Propagation"),
     (
@@ -335,6 +381,24 @@ static TEXTS: [(&str, &str, &str, &str); 17] = [
     ("a ==> b.", "", "#", "program 1: E05 Propagation"),
     ("", "chr-log 1\nP 2 a\n", "#", "store 1: E11 BadEntry"),
     ("", "chr-log 1\nP\n", "#", "log 2: E11 BadEntry"),
+    (
+        "p(s(s(s(s(s(s(s(s(z))))))))) <=> true.",
+        ENTERED,
+        "",
+        "program 1: E07 TooMany",
+    ),
+    (
+        "",
+        "chr-log 1\nP 1 p(s(s(s(s(s(s(s(s(z)))))))))\n",
+        "",
+        "log 2: E11 BadEntry",
+    ),
+    (
+        "",
+        ENTERED,
+        "#1 p(s(s(s(s(s(s(s(s(z)))))))))\n",
+        "store 1: E11 BadEntry",
+    ),
 ];
 
 #[test]

@@ -10,6 +10,11 @@ const GCD: &[u8] =
 const LOG: &[u8] =
     b"chr-log 1\nP 1 gcd(9)\nP 2 gcd(6)\nA 1 1\nD 1\nA 2 2\nF 2 2 2\\1\nD 2\nA 3 3\nF 3 2 3\\2\nD 3\nA 4 4\nF 4 1 \\4\n";
 
+const SWAP: &[u8] = b"p(f(X,Y)) <=> q(f(Y,X)).\n";
+
+/// The log of a run of `SWAP`.
+const SWAP_LOG: &[u8] = b"chr-log 1\nP 1 p(f(a,g(1)))\nA 1 1\nF 1 1 \\1\nA 2 2\nD 2\n";
+
 /// How often a text has this part.
 fn count(text: &[u8], part: &[u8]) -> usize {
     let parts = text.windows(part.len().max(1)).filter(|one| *one == part);
@@ -55,9 +60,15 @@ static PARTS: [(u32, u32, &[&str]); 5] = [
     ),
 ];
 
-/// Whether these titles and no others are in the picture of a range.
-fn has_titles(alloc: Global, range: Range, titles: &[&str]) -> Result<bool, Fail> {
-    let Ok(drawn) = draw_text(alloc, GCD, LOG, range) else {
+/// Whether these titles and no others are in the picture of a range of a log.
+fn has_titles(
+    alloc: Global,
+    program: &[u8],
+    log: &[u8],
+    range: Range,
+    titles: &[&str],
+) -> Result<bool, Fail> {
+    let Ok(drawn) = draw_text(alloc, program, log, range) else {
         return Ok(false);
     };
     for title in titles {
@@ -76,8 +87,21 @@ fn parts_of_a_log(rt: HostRuntime) -> Result<(), Fail> {
             from: *from,
             to: *to,
         };
-        assert!(rt; has_titles(rt.alloc(), range, titles)?, "row {i}");
+        let has = has_titles(rt.alloc(), GCD, LOG, range, titles)?;
+        assert!(rt; has, "row {i}");
     }
+    Ok(())
+}
+
+#[test]
+fn compound_values_of_a_log(rt: HostRuntime) -> Result<(), Fail> {
+    let titles = [
+        "#1 p(f(a,g(1))), activated by entry 2, removed by entry 3",
+        "#2 q(f(g(1),a)), activated by entry 4",
+        "entry 3: rule 1, kept:, removed: #1",
+    ];
+    let range = Range { from: 1, to: 5 };
+    assert!(rt; has_titles(rt.alloc(), SWAP, SWAP_LOG, range, &titles)?);
     Ok(())
 }
 

@@ -29,7 +29,7 @@ const STRICT: Options = (STEPS, GREATEST, Show::Strict);
 /// A program, posts, options, the end, and what is shown.
 type Row<'r> = (&'r [u8], &'r [u8], Options, End, &'r [u8]);
 
-static ROWS: [Row; 33] = [
+static ROWS: [Row; 39] = [
     (
         GCD,
         b"gcd(9), gcd(6).",
@@ -197,6 +197,48 @@ static ROWS: [Row; 33] = [
         b"quiet\nstore 2\n#2 p(1)\n#3 q\nlog 8\nP 1 p(a)\nP 2 p(1)\nA 1 1\nF 1 1 \\1\nA 2 2\nD 2\nA 3 3\nD 3\n",
     ),
     (
+        b"p(f(X,Y)) <=> q(f(Y,X)).",
+        b"p(f(a,1)).",
+        ALL,
+        End::Quiet,
+        b"quiet\nstore 1\n#2 q(f(1,a))\nlog 5\nP 1 p(f(a,1))\nA 1 1\nF 1 1 \\1\nA 2 2\nD 2\n",
+    ),
+    (
+        b"n(X) <=> n(s(X)).",
+        b"n(z).",
+        ALL,
+        End::Quiet,
+        b"quiet\nstore 1\n#8 n(s(s(s(s(s(s(s(z))))))))\nlog 17\nP 1 n(z)\nA 1 1\nF 1 1 \\1\nA 2 2\nF 2 1 \\2\nA 3 3\nF 3 1 \\3\nA 4 4\nF 4 1 \\4\nA 5 5\nF 5 1 \\5\nA 6 6\nF 6 1 \\6\nA 7 7\nF 7 1 \\7\nA 8 8\nD 8\n",
+    ),
+    (
+        b"p(X) <=> X \\== f | q.",
+        b"p(f), p(f(1)).",
+        ALL,
+        End::Quiet,
+        b"quiet\nstore 2\n#1 p(f)\n#3 q\nlog 8\nP 1 p(f)\nP 2 p(f(1))\nA 1 1\nD 1\nA 2 2\nF 2 1 \\2\nA 3 3\nD 3\n",
+    ),
+    (
+        b"p(X) <=> Y is X + 1, q(Y).",
+        b"p(f(1)).",
+        ALL,
+        End::Quiet,
+        b"quiet\nstore 1\n#1 p(f(1))\nlog 3\nP 1 p(f(1))\nA 1 1\nD 1\n",
+    ),
+    (
+        b"t(X) <=> t(g(X,X)).",
+        b"t(a).",
+        ALL,
+        End::Quiet,
+        b"quiet\nstore 1\n#6 t(g(g(g(g(g(a,a),g(a,a)),g(g(a,a),g(a,a))),g(g(g(a,a),g(a,a)),g(g(a,a),g(a,a)))),g(g(g(g(a,a),g(a,a)),g(g(a,a),g(a,a))),g(g(g(a,a),g(a,a)),g(g(a,a),g(a,a))))))\nlog 13\nP 1 t(a)\nA 1 1\nF 1 1 \\1\nA 2 2\nF 2 1 \\2\nA 3 3\nF 3 1 \\3\nA 4 4\nF 4 1 \\4\nA 5 5\nF 5 1 \\5\nA 6 6\nD 6\n",
+    ),
+    (
+        b"link(X,Y), link(Y,Z) <=> link(X,Z).",
+        b"link(f(a),g(1)), link(f(a,b),c), link(g(1),f(a,b)).",
+        ALL,
+        End::Quiet,
+        b"quiet\nstore 1\n#5 link(f(a),c)\nlog 13\nP 1 link(f(a),g(1))\nP 2 link(f(a,b),c)\nP 3 link(g(1),f(a,b))\nA 1 1\nD 1\nA 2 2\nD 2\nA 3 3\nF 3 1 \\3,2\nA 4 4\nF 4 1 \\1,4\nA 5 5\nD 5\n",
+    ),
+    (
         b"edge(X,Y), edge(Y,Z), node(Z,Z) <=> true.",
         b"edge(1,4), edge(1,2), edge(2,3), edge(4,3), node(3,3).",
         ALL,
@@ -268,7 +310,7 @@ fn worked_runs(rt: HostRuntime) {
 }
 
 /// Rules, posts, and the fault of the one or the other.
-static FAULTS: [(&[u8], &[u8], RunFault); 8] = [
+static FAULTS: [(&[u8], &[u8], RunFault); 10] = [
     (
         b"a ==> b.",
         b"",
@@ -307,6 +349,22 @@ static FAULTS: [(&[u8], &[u8], RunFault); 8] = [
         RunFault::Program(ReadFault {
             kind: Kind::Syntax,
             line: 1,
+        }),
+    ),
+    (
+        b"p(s(s(s(s(s(s(s(s(z))))))))) <=> true.",
+        b"",
+        RunFault::Program(ReadFault {
+            kind: Kind::TooMany,
+            line: 1,
+        }),
+    ),
+    (
+        b"a <=> b.",
+        b"a.\np(s(s(s(s(s(s(s(s(z))))))))).",
+        RunFault::Posts(ReadFault {
+            kind: Kind::TooMany,
+            line: 2,
         }),
     ),
     (

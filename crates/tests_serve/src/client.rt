@@ -21,6 +21,30 @@ pub const GCD: &str =
 pub const LOAD: &str =
     "load 75\ngcd(0) <=> true.\ngcd(N) \\ gcd(M) <=> 0 < N, N =< M | L is M mod N, gcd(L).\n";
 
+/// Rules over the numbers of constraints, and how these are written.
+#[derive(Clone, Copy, Debug)]
+pub struct Rules {
+    pub program: &'static str,
+    /// The command that loads them.
+    pub load: &'static str,
+    /// What stands before a number and after it.
+    pub around: (&'static str, &'static str),
+}
+
+/// The two rules.
+pub const NUMBERS: Rules = Rules {
+    program: GCD,
+    load: LOAD,
+    around: ("gcd(", ")"),
+};
+
+/// The same with compound values.
+pub const COMPOUND: Rules = Rules {
+    program: "gcd(f(0)) <=> true.\ngcd(f(N)) \\ gcd(f(M)) <=> 0 < N, N =< M | L is M mod N, gcd(f(L)).\n",
+    load: "load 87\ngcd(f(0)) <=> true.\ngcd(f(N)) \\ gcd(f(M)) <=> 0 < N, N =< M | L is M mod N, gcd(f(L)).\n",
+    around: ("gcd(f(", "))"),
+};
+
 /// A listener at an address that the system picks, and this address.
 pub fn listen<R: Files + Net>(rt: &R) -> io::Result<(UnixListener, SocketAddr)> {
     let listener = UnixListener::bind(rt, "")?;
@@ -60,7 +84,13 @@ fn lines_after(first: &str) -> usize {
 }
 
 /// Whether the replies to a post of two numbers and to `log 1` name tickets under which the log has them.
-pub fn has_posts(alloc: Global, told: &str, one: u64, other: u64) -> Result<bool, AllocError> {
+pub fn has_posts(
+    alloc: Global,
+    rules: Rules,
+    told: &str,
+    one: u64,
+    other: u64,
+) -> Result<bool, AllocError> {
     let Some((posted, log)) = told.split_once('\n') else {
         return Ok(false);
     };
@@ -71,8 +101,9 @@ pub fn has_posts(alloc: Global, told: &str, one: u64, other: u64) -> Result<bool
         return Ok(false);
     };
     let next = first.parse::<u64>().unwrap_or(0).wrapping_add(1);
-    let entry = format!(in alloc; "P {first} gcd({one})")?;
-    let next_entry = format!(in alloc; "P {next} gcd({other})")?;
+    let (before, after) = rules.around;
+    let entry = format!(in alloc; "P {first} {before}{one}{after}")?;
+    let next_entry = format!(in alloc; "P {next} {before}{other}{after}")?;
     Ok(
         log.lines().any(|line| line == entry.as_str())
             && log.lines().any(|line| line == next_entry.as_str()),

@@ -1,7 +1,7 @@
 //! Sessions over memory, beside two workers.
 ghost use Rattle.std.specs.Prelude.{◌≡◌, false};
 
-use crate::client::{LOAD, has_posts};
+use crate::client::{LOAD, NUMBERS, has_posts};
 use chr_crew::work::work;
 use chr_crew::{Open, Place, Rack, Stop};
 use chr_pool::{Hand, make};
@@ -70,7 +70,7 @@ fn finds_its_posts<L1: PostLedger, L2: Ledger, R: Wait>(
     let (_, written) = written(rt, alloc, shared, place, input.as_str(), piece);
     let written = written?;
     let told = str::from_utf8(&written).ok()?;
-    has_posts(alloc, told, one, other).ok()
+    has_posts(alloc, NUMBERS, told, one, other).ok()
 }
 
 /// Whether two sessions that post at once each find their posts, after one has loaded, and the next finds the end of the run.

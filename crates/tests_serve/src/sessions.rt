@@ -1,5 +1,5 @@
 //! Sessions of clients that read what they are told.
-use crate::client::{Client, GCD, LOAD, has_posts, listen, serves};
+use crate::client::{COMPOUND, Client, GCD, LOAD, NUMBERS, Rules, has_posts, listen, serves};
 use chr_check::Verdict;
 use std::alloc::{AllocGlobal, Global};
 use std::fs::Files;
@@ -56,15 +56,21 @@ fn both_find<R: Net>(rt: &R, alloc: Global, address: &SocketAddr) -> io::Result<
     let loads = first.replies(LOAD, "loaded 2\n")?;
     first.tell("post gcd(9), gcd(6).\nlog 1\n")?;
     second.tell("post gcd(8), gcd(4).\nlog 1\n")?;
-    let finds = finds_posts(alloc, &mut first, 9, 6)?;
-    Ok(loads && finds && finds_posts(alloc, &mut second, 8, 4)?)
+    let finds = finds_posts(alloc, NUMBERS, &mut first, 9, 6)?;
+    Ok(loads && finds && finds_posts(alloc, NUMBERS, &mut second, 8, 4)?)
 }
 
 /// Whether the replies to a post of two numbers and to `log 1` name tickets under which the log has them.
-fn finds_posts(alloc: Global, client: &mut Client, one: u64, other: u64) -> io::Result<bool> {
+fn finds_posts(
+    alloc: Global,
+    rules: Rules,
+    client: &mut Client,
+    one: u64,
+    other: u64,
+) -> io::Result<bool> {
     let mut told = client.reply()?;
     told.push_str(client.reply()?.as_str())?;
-    Ok(has_posts(alloc, told.as_str(), one, other)?)
+    Ok(has_posts(alloc, rules, told.as_str(), one, other)?)
 }
 
 #[test]
@@ -118,12 +124,14 @@ fn seventeen_connections(rt: HostRuntime) -> Result<(), Fail> {
 }
 
 /// A client that posts two numbers of its own, and finds them in the log.
-fn posts(alloc: Global, at: usize, client: &mut Client) -> io::Result<bool> {
+fn posts(alloc: Global, rules: Rules, at: usize, client: &mut Client) -> io::Result<bool> {
     let number = (at as u64).wrapping_add(1).wrapping_mul(12);
     let other = number.wrapping_mul(5);
-    let post = format!(in alloc; "post gcd({number}), gcd({other}).\nlog 1\n")?;
+    let (before, after) = rules.around;
+    let one = format!(in alloc; "{before}{number}{after}")?;
+    let post = format!(in alloc; "post {one}, {before}{other}{after}.\nlog 1\n")?;
     client.tell(post.as_str())?;
-    Ok(finds_posts(alloc, client, number, other)? && client.becomes_quiet()?)
+    Ok(finds_posts(alloc, rules, client, number, other)? && client.becomes_quiet()?)
 }
 
 /// A client and whether it found its posts.
@@ -137,6 +145,7 @@ struct Poster {
 fn sixteen_post<R: Net + Threads + Sync>(
     rt: &R,
     alloc: Global,
+    rules: Rules,
     address: &SocketAddr,
 ) -> io::Result<bool> {
     let mut posters = Vec::new(alloc);
@@ -149,7 +158,7 @@ fn sixteen_post<R: Net + Threads + Sync>(
     let Some(first) = posters.first_mut() else {
         return Ok(false);
     };
-    if !first.client.replies(LOAD, "loaded 2\n")? {
+    if !first.client.replies(rules.load, "loaded 2\n")? {
         return Ok(false);
     }
     thread::for_each_mut(
@@ -157,25 +166,28 @@ fn sixteen_post<R: Net + Threads + Sync>(
         posters.as_mut_slice(),
         16,
         &|at, poster| {
-            poster.found = matches!(posts(alloc, at, &mut poster.client), Ok(true));
+            poster.found = matches!(posts(alloc, rules, at, &mut poster.client), Ok(true));
         },
     );
     let all = posters.iter().all(|poster| poster.found);
     let Some(last) = posters.last_mut() else {
         return Ok(false);
     };
-    let (store, verdict) = last.client.checked(GCD)?;
-    Ok(all && is_only(store.as_str(), " gcd(12)\n") && verdict == Some(Verdict::RunAndFinal))
+    let (store, verdict) = last.client.checked(rules.program)?;
+    let (before, after) = rules.around;
+    let left = format!(in alloc; " {before}12{after}\n")?;
+    Ok(all && is_only(store.as_str(), left.as_str()) && verdict == Some(Verdict::RunAndFinal))
 }
 
 #[test]
 fn sixteen_sessions_post_at_once(rt: HostRuntime) -> Result<(), Fail> {
-    for _ in 0..9 {
+    for round in 0..12 {
+        let rules = if round % 4 == 3 { COMPOUND } else { NUMBERS };
         let (listener, address) = listen(&rt)?;
         let (served, found) = thread::join(
             &rt,
             || serves(&rt, &listener, 4, 16),
-            || sixteen_post(&rt, rt.alloc(), &address),
+            || sixteen_post(&rt, rt.alloc(), rules, &address),
         );
         assert!(rt; found?);
         assert!(rt; served);

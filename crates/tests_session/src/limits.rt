@@ -203,3 +203,69 @@ fn long_line_cut_anywhere(rt: HostRuntime) -> Result<(), Fail> {
     }
     Ok(())
 }
+
+/// Pieces of a text, each so many times.
+type Pieces<'r> = &'r [(&'r str, usize)];
+
+/// Sessions whose longest line has 4,096 bytes and nested values, and their replies.
+static NESTED: [(Pieces<'static>, &[u8]); 3] = [
+    (
+        &[
+            ("load 22\np(X) \\ p(X) <=> true.\npost ", 1),
+            ("p(s(s(s(s(s(s(s(z)))))))),", 156),
+            ("p(s(s(s(s(s(s(s(z)))))))).", 1),
+            (" ", 9),
+            ("\nwait 1000000\nstore\nlog 626\nquit\n", 1),
+        ],
+        b"loaded 1\nposted 1 157\nquiet\nstore 1\n#157 p(s(s(s(s(s(s(s(z))))))))\nlog 2\nF 157 1 157\\156\nD 157\nbye\n",
+    ),
+    (
+        &[
+            ("load 0\npost p(", 1),
+            ("s(", 1362),
+            ("z", 1),
+            (")", 1363),
+            (".\nquit\n", 1),
+        ],
+        b"loaded 0\nfault E07 TooMany 1\nbye\n",
+    ),
+    (
+        &[
+            ("load 0\npost p(", 1),
+            ("s(", 1363),
+            ("z", 1),
+            (")", 1361),
+            (".\nquit\n", 1),
+        ],
+        b"loaded 0\nfault E04 Syntax 1\nbye\n",
+    ),
+];
+
+/// The text of pieces.
+fn text_of(alloc: Global, pieces: Pieces) -> Result<Vec<u8, Global>, AllocError> {
+    let mut text = Vec::new(alloc);
+    for (piece, count) in pieces {
+        for _ in 0..*count {
+            text.extend_from_slice(piece.as_bytes())?;
+        }
+    }
+    Ok(text)
+}
+
+#[test]
+fn lines_of_nested_values(rt: HostRuntime) -> Result<(), Fail> {
+    for (i, (pieces, replies)) in NESTED.iter().enumerate() {
+        let input = text_of(rt.alloc(), pieces)?;
+        for piece in [1, 65_536] {
+            let mut source = MemorySource::new(&input, piece);
+            let (ended, given) = written(rt.alloc(), rt.alloc(), &mut source, piece);
+            let given = (ended, given.as_slice());
+            assert_eq!(rt;
+                given,
+                (Ok(Ended::Quit), *replies),
+                "row {i} in pieces of {piece}"
+            );
+        }
+    }
+    Ok(())
+}

@@ -54,8 +54,50 @@ pub const RUN: Talk = Talk {
     ..OPEN
 };
 
-pub const TALKS: [Talk; 12] = [
+/// A run with compound values to its end.
+pub const COMPOUND_RUN: Talk = Talk {
+    name: "a run with compound values",
+    commands: &[
+        (b"load 24\np(f(X,Y)) <=> q(f(Y,X)).", b"loaded 1\n"),
+        (b"post p(f(a,1)).\n", b"posted 1 1\n"),
+        (b"wait 1000\n", b"quiet\n"),
+        (b"store\n", b"store 1\n#2 q(f(1,a))\n"),
+        (b"log 3\n", b"log 3\nF 1 1 \\1\nA 2 2\nD 2\n"),
+        (b"quit\n", b"bye\n"),
+    ],
+    ended: Ended::Quit,
+    ..OPEN
+};
+
+pub const TALKS: [Talk; 14] = [
     RUN,
+    COMPOUND_RUN,
+    Talk {
+        name: "posts of compound values, with faults and without",
+        commands: &[
+            (b"load 0\n", b"loaded 0\n"),
+            (b"post p(f(1,g(a))), q(f).\n", b"posted 1 2\n"),
+            (b"post p(s(s(s(s(s(s(s(z)))))))).\n", b"posted 3 1\n"),
+            (
+                b"post p(s(s(s(s(s(s(s(s(z))))))))).\n",
+                b"fault E07 TooMany 1\n",
+            ),
+            (b"post p(f(1,2,3,4,5,6,7,8,9)).\n", b"fault E07 TooMany 1\n"),
+            (b"post p(f(X)).\n", b"fault E08 Binding 1\n"),
+            (b"post p(f()).\n", b"fault E04 Syntax 1\n"),
+            (
+                b"post p(f(9223372036854775808)).\n",
+                b"fault E06 NumberRange 1\n",
+            ),
+            (b"wait 3\n", b"open\n"),
+            (b"store\n", b"store 1\n#1 p(f(1,g(a)))\n"),
+            (
+                b"log 1\n",
+                b"log 5\nP 1 p(f(1,g(a)))\nP 2 q(f)\nP 3 p(s(s(s(s(s(s(s(z))))))))\nA 1 1\nD 1\n",
+            ),
+        ],
+        ..OPEN
+    },
     Talk {
         name: "a load with a fault, and a run in parts",
         commands: &[
@@ -127,6 +169,10 @@ pub const TALKS: [Talk; 12] = [
                 b"fault E06 NumberRange 1\n",
             ),
             (b"load 20\na,a,a,a,a,a,a <=> b.", b"fault E07 TooMany 1\n"),
+            (
+                b"load 38\np(s(s(s(s(s(s(s(s(z))))))))) <=> true.",
+                b"fault E07 TooMany 1\n",
+            ),
             (
                 b"load 34\n% one\n% two\n% three\np(X) <=> q(Y).",
                 b"fault E08 Binding 4\n",

@@ -141,6 +141,102 @@ ok 1: p({64 X}) <=> q.
 E07 TooMany 1: p({65 X}) <=> q.
 ";
 
+/// Texts of programs whose terms are compound, and what the reader gives.
+const TERMS: &[u8] = b"
+ok 1: p(f(X,Y)) <=> q(f(Y,X)).
+ok 1: n(X) <=> n(s(X)).
+ok 1: p(f( X ,/* a */g(1)),h(_)) \\ q(true(fail,false)) <=> r(f(X),-1).
+ok 1: p(f(_,_)) <=> q.
+ok 1: p(f(X)) <=> Y is X + 1, q(g(Y)).
+ok 1: p(X) <=> X \\== f | q.
+ok 1: p(X) <=> f(X) == g(1,a) | q.
+ok 1: p(X) <=> X == f(X,g(X)), f(1) \\== X, X > 1 | q.
+ok 1: f @ f(f(f(X))) <=> f(X).
+E04 Syntax 1: p(f()) <=> q.
+E04 Syntax 1: p(f(1,)) <=> q.
+E04 Syntax 1: p(f(,1)) <=> q.
+E04 Syntax 1: p(f(1) <=> q.
+E04 Syntax 1: p(f(1))) <=> q.
+E04 Syntax 1: p(f(1)(2)) <=> q.
+E04 Syntax 1: p(f(1)2) <=> q.
+E04 Syntax 1: p(X(1)) <=> q.
+E04 Syntax 1: p(1(2)) <=> q.
+E04 Syntax 1: p((f(1))) <=> q.
+E04 Syntax 1: p(f((1))) <=> q.
+E04 Syntax 1: p(mod(1)) <=> q.
+E04 Syntax 1: p(f(X+1)) <=> q.
+E04 Syntax 1: p(f(g(1)) <=> q.
+E04 Syntax 1: p(f(true) <=> q.
+E04 Syntax 1: p(X) <=> f(X) | q.
+E04 Syntax 1: p(X) <=> f(X) < 1 | q.
+E04 Syntax 1: p(X) <=> 1 < f(X) | q.
+E04 Syntax 1: p(X) <=> 1 < (f(X)) | q.
+E04 Syntax 1: p(X) <=> (f(X)) == X | q.
+E04 Syntax 1: p(X) <=> f(X) == X + 1 | q.
+E04 Syntax 1: p(X) <=> f(X) == X == X | q.
+E04 Syntax 1: p(X) <=> f(X) == | q.
+E04 Syntax 1: p(X) <=> f(X) == X, q | r.
+E04 Syntax 1: p(X) <=> Y is f(X), q(Y).
+E04 Syntax 1: p(X) <=> f(X) is 1, q.
+E04 Syntax 1: p(X) <=> f(X) == X.
+E04 Syntax 1: f(X) == X <=> q.
+E04 Syntax 1: :- chr_constraint p(1)/1.
+E05 Propagation 1: p({8 s(}99999999999999999999{8 )}) ==> q(Y).
+E06 NumberRange 1: p(f(9223372036854775808)) <=> true.
+E06 NumberRange 1: p(X) <=> X == {8 s(}-9223372036854775809{8 )} | q(Y).
+E08 Binding 1: p(X) <=> q(f(Y)).
+E08 Binding 1: p(X) <=> q(f(X,g(_))).
+E08 Binding 1: p(X) <=> f(X) == g(Y) | q.
+E08 Binding 1: p(X) <=> g(_) \\== X | q.
+E08 Binding 1: p(f(X)) <=> X is 1, q.
+E08 Binding 1: p <=> q(f(X)), X is 1.
+";
+
+/// The limits of compound terms, from both sides: in heads and bodies, on both sides of `==`, and past all of them.
+const TERM_LIMITS: &[u8] = b"
+ok 1: p({7 s(}z{7 )}) <=> true.
+E07 TooMany 1: p({8 s(}z{8 )}) <=> true.
+ok 1: p({7 s(}X{7 )}) <=> q({7 s(}X{7 )}).
+E07 TooMany 1: p({8 s(}X{8 )}) <=> true.
+E07 TooMany 1: p(X) <=> q({8 s(}X{8 )}).
+E07 TooMany 1: p <=> q(a,g(1,{7 s(}z{7 )})).
+E07 TooMany 1: p <=> q({7 s(}f(1,2){7 )}).
+ok 1: p(X) <=> {7 s(}X{7 )} == {7 s(}z{7 )} | q.
+E07 TooMany 1: p(X) <=> {8 s(}X{8 )} == X | q.
+E07 TooMany 1: p(X) <=> X \\== {8 s(}z{8 )} | q.
+ok 1: p(g({7 f(1,2,3,4,5,6,7),}f(1,2,3,4,5,6))) <=> true.
+E07 TooMany 1: p(g({7 f(1,2,3,4,5,6,7),}f(1,2,3,4,5,6,7))) <=> true.
+ok 1: p(X) <=> q(g({7 f(X,X,X,X,X,X,X),}f(X,X,X,X,X,X))).
+E07 TooMany 1: p(X) <=> q(g({7 f(X,X,X,X,X,X,X),}f(X,X,X,X,X,X,X))).
+ok 1: p(X) <=> X == g({7 f(X,2,3,4,5,6,7),}f(1,2,3,4,5,6)) | q.
+E07 TooMany 1: p(X) <=> X == g({7 f(X,2,3,4,5,6,7),}f(1,2,3,4,5,6,7)) | q.
+E07 TooMany 1: p(X) <=> g({7 f(X,2,3,4,5,6,7),}f(1,2,3,4,5,6,7)) \\== X | q.
+ok 1: p({7 g(1,2,3,4,5,6,f(1,2,3,4,5,6)),}0) <=> true.
+E07 TooMany 1: p({8 g(1,2,3,4,5,6,f(1,2,3,4,5,6)),}0) <=> true.
+ok 1: p(f(1{7 ,1})) <=> true.
+E07 TooMany 1: p(f(1{8 ,1})) <=> true.
+E07 TooMany 1: p(g(a,f(1{8 ,1}))) <=> true.
+ok 1: p(X) <=> f(X{7 ,X}) == X, X \\== f(1{7 ,1}) | q(f(X{7 ,X})).
+E07 TooMany 1: p(X) <=> f(X{8 ,X}) == X | q.
+E07 TooMany 1: p(X) <=> X \\== g(f(1{8 ,1})) | q.
+E07 TooMany 1: p(X) <=> q(f(X{8 ,X})).
+ok 1: p(f(_{7 ,_}),f(_{7 ,_}),f(_{7 ,_})) <=> q.
+E07 TooMany 1: p(f(_{7 ,_}),f(_{7 ,_}),f(_{7 ,_}),f(_)) <=> q.
+ok 1: p({64 f}(1)) <=> q.
+E07 TooMany 1: p({65 f}(1)) <=> q.
+E07 TooMany 1: p(X) <=> q({8 s(}Y{8 )}).
+E07 TooMany 1: p({20000 s(}z{20000 )}) <=> true.
+E04 Syntax 1: p({20000 s(}z{19999 )}) <=> true.
+E04 Syntax 1: p({20000 s(}{20000 )}) <=> true.
+E06 NumberRange 1: p({20000 s(}99999999999999999999{20000 )}) <=> true.
+E07 TooMany 1: p <=> q({20000 s(}Y{20000 )}).
+E07 TooMany 1: p(X) <=> {20000 s(}X{20000 )} == X | q.
+E04 Syntax 1: p(X) <=> {20000 s(}X{20000 )} < X | q.
+E04 Syntax 1: p(X) <=> {20000 s(}X{20000 )} | q.
+E07 TooMany 1: p(f(1{30000 ,1})) <=> true.
+E04 Syntax 1: p(f(1{30000 ,1},)) <=> true.
+";
+
 /// Texts of posts with what the reader gives: how many atoms they have, or the first fault and its line.
 const POSTS: &[u8] = b"
 ok 0:
@@ -165,20 +261,59 @@ E04 Syntax 1: true.
 E04 Syntax 1: p(3 -1).
 E04 Syntax 1: a ==> b.
 E04 Syntax 1: p().
+ok 1: p(f(1,a)).
+ok 2: p(f( g(-3) , h(true,fail)),f), q(f(f)).
+ok 1: p({7 s(}z{7 )}).
+E07 TooMany 1: p({8 s(}z{8 )}).
+E07 TooMany 2: p(f(1)).~q(a), q({8 s(}z{8 )}).
+ok 1: p(g({7 f(1,2,3,4,5,6,7),}f(1,2,3,4,5,6))).
+E07 TooMany 1: p(g({7 f(1,2,3,4,5,6,7),}f(1,2,3,4,5,6,7))).
+ok 1: p(f(1{7 ,1})).
+E07 TooMany 1: p(f(1{8 ,1})).
+E07 TooMany 1: p({65 f}(1)).
+E04 Syntax 1: p(f()).
+E04 Syntax 1: p(f(1).
+E04 Syntax 1: p(f(1)) q.
+E04 Syntax 1: p(f(1)(2)).
+E06 NumberRange 1: p(f(9223372036854775808)).
+E08 Binding 1: p(f(X)).
+E08 Binding 1: p(f(1,g(_))).
+E07 TooMany 1: p({20000 s(}z{20000 )}).
+E07 TooMany 1: p({20000 s(}X{20000 )}).
+E04 Syntax 1: p({20000 s(}z{19999 )}).
+E06 NumberRange 1: p({20000 s(}9223372036854775808{20000 )}).
 ";
 
 /// Texts over a full table, whose names are n0 to n65535: of programs, and of posts.
 const FULL: [&[u8]; 2] = [
     b"
 E02 NamesFull 2: n0 <=> n1.~n2 <=> new.
+E02 NamesFull 2: n0 <=> n1.~n2(X) <=> n3(n4(new(X))).
+E02 NamesFull 2: n0 <=> n1.~n2(X) <=> X == n3(1,new) | n4.
+E02 NamesFull 1: n0(new(X)) <=> n1.
 E08 Binding 1: n0 <=> new(Y).~n0 <=> new.
+E07 TooMany 1: n0(new(1{8 ,1})) <=> n1.
 ok 1: n0(n1) \\ n2(X) <=> X == n4 | n65535.
+ok 1: n0(n1(X,n65535(2))) <=> X == n4(n5) | n6(n7(X)).
 ",
     b"
 E02 NamesFull 2: n0, n1(n2).~n3(new).
+E02 NamesFull 2: n0, n1(n2).~n3(n4(new(1))).
+E02 NamesFull 1: n0(n1(n2,new)).
 E08 Binding 1: new(X).~new.
+E08 Binding 1: n0(new(X)).~new.
 ok 2: n0(n65535), n1.
+ok 1: n0(n65535(n1(n2))).
 ",
+];
+
+/// Each table of texts, and whether they are of posts.
+static TABLES: [(bool, &[u8]); 5] = [
+    (false, PROGRAMS),
+    (false, LIMITS),
+    (false, TERMS),
+    (false, TERM_LIMITS),
+    (true, POSTS),
 ];
 
 /// The number that the digits at the front spell.
@@ -276,12 +411,12 @@ fn is_given(
 
 #[test]
 fn texts_of_programs_and_posts(rt: HostRuntime) -> Result<(), Fail> {
-    for (are_posts, table) in [(false, PROGRAMS), (false, LIMITS), (true, POSTS)] {
+    for (number, (are_posts, table)) in TABLES.iter().enumerate() {
         for (i, row) in table.split(|b| *b == b'\n').enumerate() {
             let mut names = Names::new(rt.alloc());
             assert!(rt;
-                is_given(rt.alloc(), &mut names, are_posts, row)?,
-                "posts: {are_posts}, row {i}"
+                is_given(rt.alloc(), &mut names, *are_posts, row)?,
+                "table {number}, row {i}"
             );
         }
     }

@@ -129,7 +129,7 @@ fn write_one<'m>(
     name: Name,
 ) -> Option<bool> {
     let mut atom = Atom::new(memory, name);
-    atom.push(Value::Int(1_000_000_000));
+    atom.push(Value::Int(1_000_000_000)).ok()?;
     let lines = [(4_294_967_295, atom)];
     let mut out = Vec::new(memory);
     memory.refuse(n);

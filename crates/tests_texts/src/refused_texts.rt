@@ -8,13 +8,14 @@ use refusing::Refusing;
 use std::alloc::Global;
 
 const LOG: &str =
-    "chr-log 1\nP 1 a(b,c)\nA 1 1\nP 2 d(e,f,g)\nA 2 2\nF 2 1 1\\2\nP 3 h(i,j,k)\nD 1\n";
+    "chr-log 1\nP 1 a(b,f(c,g(1)))\nA 1 1\nP 2 d(e,f,g)\nA 2 2\nF 2 1 1\\2\nP 3 h(i,j,k)\nD 1\n";
 
-const STORE: &str = "#1 a(b,c)\n#2 d(e,f,g)\n#4 h(i,j,k)\n#5 a\n#6 d\n";
+const STORE: &str = "#1 a(b,f(c,g(1)))\n#2 d(e,f,g)\n#4 h(i,j,k)\n#5 a\n#6 d\n";
 
-const PROGRAM: &str = "a(X) \\ b(X,c) <=> X < 1, X == d | Y is X + 1, e(Y).\nf <=> g.\n";
+const PROGRAM: &str =
+    "a(X) \\ b(X,c) <=> X < 1, X == d | Y is X + 1, e(Y).\nf <=> g.\nh(f(X,g(1))) <=> X \\== k(2) | i(h(X)).\n";
 
-const POSTS: &str = "a(b,c), d.\ne(1).\n";
+const POSTS: &str = "a(b,f(c,g(1))), d.\ne(1).\n";
 
 pub fn read_entries(memory: &Refusing<Global>, n: u64) -> Option<bool> {
     let mut names = Names::new(memory);
@@ -40,7 +41,7 @@ pub fn read_rules(memory: &Refusing<Global>, n: u64) -> Option<bool> {
     let answer = read_program(memory, PROGRAM.as_bytes(), &mut names);
     let refused = memory.is_refused(matches!(answer, Err(ReadError::Memory)))?;
     let rules = read_program(memory, PROGRAM.as_bytes(), &mut names).ok()?;
-    (rules.len() == 2).then_some(refused)
+    (rules.len() == 3).then_some(refused)
 }
 
 pub fn read_posts(memory: &Refusing<Global>, n: u64) -> Option<bool> {
