@@ -1,12 +1,14 @@
 #!/usr/bin/env python3
 """A plain reference of `chr run`, by the definitions of docs/language.md and docs/semantics.md. It shares no code with the crates.
 
-  tests/reference.py RULES POSTS   prints what `chr run RULES POSTS` is to print; both texts must be right, and the run end
+  tests/reference.py RULES POSTS   prints what `chr run RULES POSTS` is to print; the run must end, and both texts must be
+                                   right, but for terms past a limit, which it refuses
   tests/reference.py               compares it with expected.txt of each example
 
 It goes through all labels of the store where the program uses indexes, so it is slow. With no arguments the last line is
 'N passed, M failed'.
 """
+import dataclasses
 import operator
 import pathlib
 import re
@@ -19,6 +21,22 @@ WORDS = ("is", "mod", "rem")
 RANGE = range(-(2**63), 2**63)
 ORDER = {"<": operator.lt, "=<": operator.le, ">": operator.gt, ">=": operator.ge, "=:=": operator.eq, "=\\=": operator.ne}
 FACTORS, SUMMANDS = ("*", "//", "mod", "rem"), ("+", "-")
+MOST_DEPTH, MOST_SIZE, MOST_TERMS = 8, 64, 8
+
+
+@dataclasses.dataclass(frozen=True)
+class Variable:
+    name: str
+
+
+@dataclasses.dataclass(frozen=True)
+class Compound:
+    functor: str
+    terms: tuple
+
+
+class TooMany(Exception):
+    """A term of a text is past a limit (E07)."""
 
 
 def tokens_of(text):
@@ -45,8 +63,35 @@ def tokens_of(text):
     return found
 
 
+def terms_in(term):
+    return term.terms if isinstance(term, Compound) else ()
+
+
+def depth(term):
+    return 1 + max(map(depth, terms_in(term)), default=0)
+
+
+def size(term):
+    return 1 + sum(map(size, terms_in(term)))
+
+
+def is_within_limits(term):
+    return depth(term) <= MOST_DEPTH and size(term) <= MOST_SIZE
+
+
+def has_few_terms(term):
+    return len(terms_in(term)) <= MOST_TERMS and all(map(has_few_terms, terms_in(term)))
+
+
+def within_limits(term):
+    """Returns the term as it is."""
+    if not (has_few_terms(term) and is_within_limits(term)):
+        raise TooMany
+    return term
+
+
 class Reader:
-    """Reads rules and atoms. A term is a number, a symbol (a str) or ('variable', name)."""
+    """Reads rules and atoms. A term is a number, a symbol (a str), a Variable or a Compound."""
 
     def __init__(self, text):
         self.tokens, self.at, self.unnamed = tokens_of(text), 0, 0
@@ -61,12 +106,17 @@ class Reader:
         return None
 
     def term(self):
+        """Returns a term of any depth and size."""
         kind, value = self.tokens[self.at]
         self.at += 1
+        if kind == "name" and self.takes("("):
+            terms = self.list_of(self.term)
+            self.takes(")")
+            return Compound(value, tuple(terms))
         if kind != "variable":
             return value
         self.unnamed += value == "_"
-        return ("variable", f"_{self.unnamed}" if value == "_" else value)
+        return Variable(f"_{self.unnamed}" if value == "_" else value)
 
     def list_of(self, member):
         members = [member()]
@@ -92,15 +142,14 @@ class Reader:
 
     def member(self):
         """Returns an atom, which is a list of its name and its arguments, or (mark, left side, right side)."""
-        if self.tokens[self.at][0] == "name" and self.tokens[self.at + 1] == ("mark", "("):
-            name = self.term()
-            self.takes("(")
-            arguments = self.list_of(self.term)
-            self.takes(")")
-            return [name, *arguments]
         left = self.expression()
-        mark = self.takes(*ORDER, "==", "\\==", "is")
-        return (mark, left, self.expression()) if mark else [left]
+        if mark := self.takes("==", "\\=="):
+            return (mark, within_limits(left), within_limits(self.term()))
+        if mark := self.takes(*ORDER, "is"):
+            return (mark, left, self.expression())
+        if len(terms_in(left)) > MOST_TERMS:
+            raise TooMany
+        return [left.functor, *map(within_limits, left.terms)] if isinstance(left, Compound) else [left]
 
     def members(self):
         return [it for it in self.list_of(self.member) if it != ["true"]]
@@ -139,26 +188,47 @@ def read_atoms(text):
     return atoms
 
 
-def is_variable(term):
-    return isinstance(term, tuple) and term[0] == "variable"
+def variables(terms):
+    """Returns the names of all variables in some terms."""
+    found = {it.name for it in terms if isinstance(it, Variable)}
+    return found.union(*(variables(terms_in(it)) for it in terms))
 
 
-def stands_for(term, binding):
-    """Returns the value of a term, None where it is a variable without one."""
-    return binding.get(term[1]) if is_variable(term) else term
+def replaced(term, binding):
+    """Returns the term with each variable replaced by its value; all of them have one."""
+    if isinstance(term, Variable):
+        return binding[term.name]
+    if isinstance(term, Compound):
+        return Compound(term.functor, tuple(replaced(it, binding) for it in term.terms))
+    return term
+
+
+def value_under(term, binding):
+    """Returns the value of a term, None where it is past the limits."""
+    value = replaced(term, binding)
+    return value if is_within_limits(value) else None
+
+
+def fits(binding, terms, values):
+    """Says whether the terms are the values, and adds the variables' values to the binding."""
+    if len(terms) != len(values):
+        return False
+    for term, value in zip(terms, values):
+        if isinstance(term, Compound):
+            same = isinstance(value, Compound) and term.functor == value.functor and fits(binding, term.terms, value.terms)
+        elif isinstance(term, Variable):
+            same = binding.setdefault(term.name, value) == value
+        else:
+            same = term == value
+        if not same:
+            return False
+    return True
 
 
 def extended(binding, head, atom):
     """Returns the binding under which the head is the atom, None where there is none."""
-    if head[0] != atom[0] or len(head) != len(atom):
-        return None
     made = dict(binding)
-    for term, value in zip(head[1:], atom[1:]):
-        if is_variable(term):
-            made.setdefault(term[1], value)
-        if stands_for(term, made) != value:
-            return None
-    return made
+    return made if head[0] == atom[0] and fits(made, head[1:], atom[1:]) else None
 
 
 def quotient(left, right):
@@ -168,8 +238,8 @@ def quotient(left, right):
 
 def value_of(expression, binding):
     """Returns the number that an expression stands for, None where it has no value."""
-    if not isinstance(expression, tuple) or is_variable(expression):
-        value = stands_for(expression, binding)
+    if not isinstance(expression, tuple):
+        value = replaced(expression, binding)
         return value if isinstance(value, int) and value in RANGE else None
     mark, left, right = expression[0], value_of(expression[1], binding), value_of(expression[2], binding)
     if left is None or right is None or (right == 0 and mark in FACTORS[1:]):
@@ -190,29 +260,31 @@ def holds(comparison, binding):
     if mark in ORDER:
         left, right = value_of(left, binding), value_of(right, binding)
         return left is not None and right is not None and ORDER[mark](left, right)
-    return (stands_for(left, binding) == stands_for(right, binding)) == (mark == "==")
+    left, right = value_under(left, binding), value_under(right, binding)
+    return left is not None and right is not None and (left == right) == (mark == "==")
 
 
 def body_of(body, binding):
-    """Returns the atoms of a body, None where an `is` has no value."""
+    """Returns the atoms of a body, None where an `is` or an argument has no value."""
     atoms, binding = [], dict(binding)
     for member in body:
         if isinstance(member, tuple):
             value = value_of(member[2], binding)
             if value is None:
                 return None
-            binding[member[1][1]] = value
+            binding[member[1].name] = value
         else:
-            atoms.append([member[0], *(stands_for(it, binding) for it in member[1:])])
-    return atoms
+            atoms.append([member[0], *(value_under(it, binding) for it in member[1:])])
+    return None if any(None in it for it in atoms) else atoms
 
 
 def plan_of(heads, first):
     """Returns the heads in the order in which they are tried, by their places."""
     order, left = [first], [it for it in range(len(heads)) if it != first]
     while left:
-        bound = {term[1] for it in order for term in heads[it][1:] if is_variable(term)}
-        has_key = lambda it: any(not is_variable(term) or term[1] in bound for term in heads[it][1:])
+        bound = variables([term for it in order for term in heads[it][1:]])
+        is_key = lambda term: term.name in bound if isinstance(term, Variable) else not variables([term])
+        has_key = lambda it: any(map(is_key, heads[it][1:]))
         order.append(next(filter(has_key, left), left[0]))
         left.remove(order[-1])
     return order
@@ -244,8 +316,12 @@ def trials(heads, order, store, label, placed, binding):
                 yield from trials(heads, order, store, label, [*placed, one], made)
 
 
+def written_value(value):
+    return written([value.functor, *value.terms]) if isinstance(value, Compound) else str(value)
+
+
 def written(atom):
-    return f"{atom[0]}({','.join(map(str, atom[1:]))})" if len(atom) > 1 else atom[0]
+    return f"{atom[0]}({','.join(map(written_value, atom[1:]))})" if len(atom) > 1 else atom[0]
 
 
 def run(rules, posts):
@@ -275,7 +351,10 @@ def run_files(rules, posts):
 
 def main(words):
     if words:
-        print(run_files(*words), end="")
+        try:
+            print(run_files(*words), end="")
+        except TooMany:
+            sys.exit("E07 TooMany")
         return 0
     folders = sorted(it.parent for it in EXAMPLES.glob("*/expected.txt"))
     failed = 0
