@@ -1,0 +1,63 @@
+#!/usr/bin/env bash
+# Prints, as a table in Markdown, what a join costs by the kind of its key: two constraints are found by one value, a number, a
+# symbol, or compound values of two sizes, among 10,000 pairs and among 50,000. Run it by hand, on an idle machine.
+# The time is the best of five runs with `--show store`, less the best of five that make no calls, and so without the reading of
+# the posts. The memory is the most that such a run had at once, less that of one that makes no calls.
+set -eu
+top=$(cd "$(dirname "${BASH_SOURCE[0]}")/.." && pwd)
+work=$(mktemp -d)
+trap 'rm -rf "$work"' EXIT
+program=$top/out/chr
+most=4294967295
+echo 'left(K, I), right(K, J) <=> found(I, J).' >"$work/rules"
+
+# How the key of a number is written, with `%d` for the number.
+number='%d'
+symbol='k%d'
+compound='f(%d)'
+deep='f(g(%d,a),h(h(b)))'
+
+# Prints the pairs, the left ones first and the right ones from the last on, a constraint a line.
+pairs() {
+  awk -v size="$1" -v key="$2" 'BEGIN {
+    for (i = 1; i <= size; i++) { printf "left("; printf key, i; print "," i ")." }
+    for (i = size; i >= 1; i--) { printf "right("; printf key, i; print "," i ")." }
+  }'
+}
+
+# Prints the nanoseconds of the fastest of five runs of at most so many calls, and the kilobytes of the last.
+cost() {
+  local best=0 start spent
+  for _ in 1 2 3 4 5; do
+    start=$(date +%s%N)
+    "$program" run "$work/rules" "${posts[@]}" --steps "$1" --show store >"$work/store" || [ $? = 3 ]
+    spent=$(($(date +%s%N) - start))
+    [ "$best" != 0 ] && [ "$best" -le "$spent" ] || best=$spent
+  done
+  /usr/bin/time -q -f %M -o "$work/memory" "$program" run "$work/rules" "${posts[@]}" --steps "$1" --show store >"$work/store" || [ $? = 3 ]
+  echo "$best $(cat "$work/memory")"
+}
+
+# Prints the row of a key at a size.
+row() {
+  local file
+  rm -f "$work"/posts.*
+  pairs "$2" "${!1}" | split -C 65536 -a 4 - "$work/posts."
+  posts=()
+  for file in "$work"/posts.*; do
+    [ ${#posts[@]} = 0 ] && posts=("$file") || posts+=(--posts "$file")
+  done
+  echo "$1 $2 $(cost 0) $(cost $most) $(wc -l <"$work/store")"
+}
+
+"$top/chr" --help >/dev/null
+echo "| Key | Pairs | Nanoseconds a pair | Bytes a pair | Firings |"
+echo "|---|---|---|---|---|"
+for key in number symbol compound deep; do
+  for size in 10000 50000; do
+    row $key $size
+  done
+done | awk '{
+  printf "| %s | %d | %.0f | %.0f | %d |\n", $1, $2, ($5 - $3) / $2, ($6 - $4) * 1024 / $2, $7
+  fflush()
+}'
