@@ -1,13 +1,13 @@
 -- Slots, and the compound values beside them.
-use Rattle.std.proofs.Common.{◌≡◌, ◌<◌, ◌≤◌, ℕ, zero, suc, pos, List, [], ◌∷◌, ◌++◌, length, map, get_or, refl, ap, ap₂, subst, sym, ◌∙◌, arith}
+use Rattle.std.proofs.Common.{◌≡◌, ◌<◌, ◌≤◌, ℕ, zero, suc, pos, List, [], ◌∷◌, ◌++◌, length, map, refl, ap, ap₂, subst, sym, ◌∙◌, arith}
 use Rattle.std.specs.List.{slice_index_or, AllByRecursion}
-use Rattle.std.proofs.lemmas.List.{length-map, length-append, map_push, get_or-map}
+use Rattle.std.proofs.lemmas.List.{length-map, length-append, map_push}
 use Rattle.chr_value.specs.Atoms.{Value, Int, Atom, ground_comp}
 use Rattle.chr_value.specs.Limits.{IsWithin}
 use Rattle.chr_value.specs.Slots.{value_in, values_in, HasPlace, AreArguments}
 use Rattle.chr_value.specs.declared.value.Comp.{Comp as CodeComp}
-use Rattle.chr_value.specs.declared.atom.Slot.{Slot}
-use Rattle.chr_value.specs.declared.atom.Slot.TheVariants as slots
+use Rattle.chr_value.specs.declared.slots.Slot.{Slot}
+use Rattle.chr_value.specs.declared.slots.Slot.TheVariants as slots
 use Rattle.chr_value.proofs.Places.{all-push}
 
 abbrev pub atom : ℕ → List (Value ℕ) → Atom ℕ
@@ -69,29 +69,3 @@ module _ {A : Type 0} where
 
   pub flat-pushed : (cs : List (CodeComp A)) (ss ss' : List Slot) (s : Slot) → ss' ≡ ss ++ s ∷ [] → values_in cs ss' ≡ values_in cs ss ++ value_in cs s ∷ []
   flat-pushed cs ss ss' s is = ap (values_in cs) is ∙ map_push (value_in cs) ss s
-
-  -- the argument that a slot says
-  pub argument-at : (cs : List (CodeComp A)) (ss items : List Slot) (name : ℕ) (a : Atom ℕ) (i : ℕ) (d : Slot) (v : Value ℕ) → atom name (values_in cs ss) ≡ a → items ≡ ss → i < length items → v ≡ value_in cs (get_or items i d)
-      → (i < length a.args) × (v ≡ get_or a.args i v)
-  argument-at cs ss items name a i d v view are lt is =
-      let args : values_in cs items ≡ a.args = ap (values_in cs) are ∙ ap (λ (b : Atom ℕ). b.args) view in
-      (omega (arith, ap length args, length-map items (value_in cs)), is ∙ sym (get_or-map (value_in cs) items i d v lt) ∙ ap (λ (vs : List (Value ℕ)). get_or vs i v) args)
-
-  -- compound values that say the same serve the same slots
-  value-same : (cs ds : List (CodeComp A)) (s : Slot) → map ground_comp cs ≡ map ground_comp ds → value_in cs s ≡ value_in ds s
-  value-same cs ds (slots.Int z) e = refl
-  value-same cs ds (slots.Sym s) e = refl
-  value-same cs ds (slots.Comp i) e = ap (λ (vs : List (Value ℕ)). slice_index_or vs i (Int (pos 0))) e
-
-  pub values-same : (cs ds : List (CodeComp A)) (ss : List Slot) → map ground_comp cs ≡ map ground_comp ds → values_in cs ss ≡ values_in ds ss
-  values-same cs ds [] e = refl
-  values-same cs ds (s ∷ ss) e = ap₂ (λ (v : Value ℕ) vs. v ∷ vs) (value-same cs ds s e) (values-same cs ds ss e)
-
-  pub copied : (cs ds : List (CodeComp A)) (ss : List Slot) → map ground_comp ds ≡ map ground_comp cs → AreArguments cs ss → AreArguments ds ss
-  copied cs ds ss e h =
-      let long : length ds ≡ length cs = omega (arith, length-map ds ground_comp, length-map cs ground_comp, ap length e) in record {
-        few = h.few;
-        fewer = omega (arith, h.fewer, long);
-        places = places-longer cs ds ss (omega (arith, long)) h.places;
-        within = subst (AllByRecursion IsWithin) (sym (values-same ds cs ss e)) h.within;
-      }

@@ -8,17 +8,6 @@ pub all-push : {Y : Type 0} (P : Y → Type 0) (ys : List Y) (y : Y) → AllByRe
 all-push P [] y h p = (p, tt)
 all-push P (z ∷ zs) y h p = (h.0, all-push P zs y h.1 p)
 
-each-at : {X : Type 0} (P : X → Type 0) (xs : List X) (i : ℕ) (d : X) → AllByRecursion P xs → i < length xs → P (get_or xs i d)
-each-at P [] i d h lt = absurd (omega arith)
-each-at P (x ∷ xs) zero d h lt = h.0
-each-at P (x ∷ xs) (suc i) d h lt = each-at P xs i d h.1 (omega arith)
-
-pub each-there : {X : Type 0} (P : X → Type 0) (xs : List X) (i : ℕ) (x : X) → i < length xs → x ≡ get_or xs i x → AllByRecursion P xs → P x
-each-there P xs i x lt e h = subst P (sym e) (each-at P xs i x h lt)
-
-pub each-more : {X : Type 0} (P : X → Type 0) (xs : List X) (i : ℕ) (x : X) → i < length xs → x ≡ get_or xs i x → AllByRecursion P (take i xs) → P x → AllByRecursion P (take (i + 1) xs)
-each-more P xs i x lt e h p = subst (AllByRecursion P) (sym (take_more xs i x lt ∙ ap (λ y. take i xs ++ y ∷ []) (sym e))) (all-push P (take i xs) x h p)
-
 got-suc : {X : Type 0} (xs : List X) (i : ℕ) (x : X) → Some x ≡ slice_get xs i → take (suc i) xs ≡ take i xs ++ x ∷ []
 got-suc [] i x e = absurd cc
 got-suc (y ∷ ys) zero x e = let h : y ≡ x = cc in ap (λ z. z ∷ []) h
@@ -28,6 +17,11 @@ pub got-more : {X : Type 0} (xs : List X) (i : ℕ) (x : X) → Some x ≡ slice
 got-more xs i x e = let n : i + 1 ≡ suc i = omega arith in ap (λ (m : ℕ). take m xs) n ∙ got-suc xs i x e
 
 module _ {X Y : Type 0} (f : X → Y) where
+  pub got-all : (P : Y → Type 0) (xs : List X) (i : ℕ) (x : X) → Some x ≡ slice_get xs i → AllByRecursion P (map f xs) → P (f x)
+  got-all P [] i x e h = absurd cc
+  got-all P (y ∷ ys) zero x e h = let same : y ≡ x = cc in subst (λ z. P (f z)) same h.0
+  got-all P (y ∷ ys) (suc i) x e h = got-all P ys i x e h.1
+
   same-there : (xs ys : List X) (i : ℕ) (d e : X) → i < length xs → map f xs ≡ map f ys → f (get_or xs i d) ≡ f (get_or ys i e)
   same-there [] ys i d e lt h = absurd (omega arith)
   same-there (x ∷ xs) [] i d e lt h = absurd cc

@@ -1,11 +1,32 @@
 -- The slots in which an atom's arguments lie, and the compound values beside them.
-use Rattle.std.specs.Prelude.{ℕ, ◌<◌, ◌≤◌, pos, List, [], map, length, Option, Some, None, Vec, Box}
+use Rattle.std.specs.Prelude.{ℕ, ◌<◌, ◌≤◌, ◌%◌, pos, List, [], ◌∷◌, map, length, Option, Some, None, Vec, Box}
+use Rattle.std.specs.Int.{cast_signed, w64}
 use Rattle.std.specs.List.{slice_index_or, AllByRecursion}
 use Rattle.chr_value.specs.Atoms.{Value, Int, Sym, ground_comp}
 use Rattle.chr_value.specs.Limits.{IsWithin}
 use Rattle.chr_value.specs.declared.value.Comp.{Comp as CodeComp}
-use Rattle.chr_value.specs.declared.atom.Slot.{Slot}
-use Rattle.chr_value.specs.declared.atom.Slot.TheVariants as slots
+use Rattle.chr_value.specs.declared.slots.Slot.{Slot}
+use Rattle.chr_value.specs.declared.slots.Slot.TheVariants as slots
+use Rattle.chr_value.specs.declared.slots.Kind.{Kind}
+use Rattle.chr_value.specs.declared.slots.Kind.TheVariants as kinds
+
+-- a slot's kind
+abbrev pub kind_of : Slot → Kind
+kind_of (slots.Int z) = kinds.Int
+kind_of (slots.Sym s) = kinds.Sym
+kind_of (slots.Comp i) = kinds.Comp
+
+-- the slot of a kind and a word
+abbrev pub slot_of : Kind → ℕ → Slot
+slot_of kinds.Int w = slots.Int (cast_signed w64 w)
+slot_of kinds.Sym w = slots.Sym (record { number = w % 4294967296 })
+slot_of kinds.Comp w = slots.Comp (w % 256)
+
+-- those of as many kinds and words
+abbrev pub slots_of : List Kind → List ℕ → List Slot
+slots_of [] ws = []
+slots_of (k ∷ ks) [] = []
+slots_of (k ∷ ks) (w ∷ ws) = slot_of k w ∷ slots_of ks ws
 
 -- the compound values in the box, of which there are none without one
 abbrev pub comps_of : {A : Type 0} → Option (Box (Vec (CodeComp A) A) A) → List (CodeComp A)

@@ -6,8 +6,8 @@ ghost use Rattle.chr_value.specs.Limits.{IsWithin};
 ghost use Rattle.chr_value.specs.Slots.{comps_of, value_in, HasPlace};
 
 use crate::names::Name;
+use crate::slots::{Slot, Slots};
 use crate::value::{Comp, Value, ValueRef};
-use arrayvec::ArrayVec;
 use std::alloc::{AllocError, Allocator};
 use std::default::MadeWith;
 use std::marker::Model;
@@ -20,20 +20,6 @@ pub const MOST_ARGS: usize = 8;
 pub struct Pred {
     pub name: Name,
     pub arity: u8,
-}
-
-/// An argument: a number, a symbol, or the place of a compound value beside the arguments.
-#[derive(Clone, Copy, Debug)]
-enum Slot {
-    Int(i64),
-    Sym(Name),
-    Comp(u8),
-}
-
-impl Default for Slot {
-    fn default() -> Self {
-        Slot::Int(0)
-    }
 }
 
 /// Compound values. None takes no memory.
@@ -106,7 +92,7 @@ fn value_at<A: Allocator>(slot: Slot, comps: &Comps<A>) -> ValueRef<'_, A>
 #[derive(Drop)]
 pub struct Atom<A: Allocator> {
     name: Name,
-    slots: ArrayVec<Slot, 8>,
+    slots: Slots,
     comps: Comps<A>,
     alloc: A,
 }
@@ -122,9 +108,9 @@ impl<A: Allocator> Model for Atom<A> {
 
     ghost coded = { Prim.hlevel (codes, value_code) };
 
-    ghost view = { λ a. record { name = a.name.number; args = values_in (comps_of a.comps) a.slots.items } };
+    ghost view = { λ a. record { name = a.name.number; args = values_in (comps_of a.comps) a.slots } };
 
-    ghost invariant = { λ a. AreArguments (comps_of a.comps) a.slots.items };
+    ghost invariant = { λ a. AreArguments (comps_of a.comps) a.slots };
 }
 
 impl<A: Allocator + Copy> Atom<A> {
@@ -134,7 +120,7 @@ impl<A: Allocator + Copy> Atom<A> {
     {
         Atom {
             name,
-            slots: ArrayVec::new(),
+            slots: Slots::new(),
             comps: None,
             alloc,
         }
@@ -169,12 +155,24 @@ impl<A: Allocator + Copy> Atom<A> {
 
     /// An argument, by its index. It is within the limits of values.
     #[inline(always)]
+    pub fn arg_at(&self, index: usize) -> ValueRef<'_, A>
+        requires { index < length self.now.args }
+        ensures value { Some (said result) ≡ slice_get self.now.args index }
+        ensures within { IsWithin (said result) }
+    {
+        value_at(self.slots.at(index), &self.comps)
+    }
+
+    /// The same, or None where there is no such argument.
+    #[inline(always)]
     pub fn arg(&self, index: usize) -> Option<ValueRef<'_, A>>
         ensures value { option_map said result ≡ slice_get self.now.args index }
         ensures within { IfSome result (λ value. IsWithin (said value)) }
     {
-        let slot = self.slots.as_slice().get(index)?;
-        Some(value_at(*slot, &self.comps))
+        if self.slots.len() <= index {
+            return None;
+        }
+        Some(self.arg_at(index))
     }
 
     /// Adds an argument after the others, of which there are fewer than [`MOST_ARGS`]. Only a compound value takes memory. An
@@ -205,8 +203,8 @@ impl<A: Allocator + Copy> Atom<A> {
         if count <= self.name.number as usize {
             return false;
         }
-        for slot in self.slots.as_slice() {
-            if !value_at(*slot, &self.comps).is_named(count) {
+        for index in 0..self.slots.len() {
+            if !self.arg_at(index).is_named(count) {
                 return false;
             }
         }
@@ -220,9 +218,8 @@ impl<A: Allocator + Copy> Atom<A> {
         if self.name.number != other.name.number || self.slots.len() != other.slots.len() {
             return false;
         }
-        for (i, slot) in self.slots.as_slice().iter().enumerate() {
-            let value = value_at(*slot, &self.comps);
-            if !value.same(&value_at(other.slots[i], &other.comps)) {
+        for index in 0..self.slots.len() {
+            if !self.arg_at(index).same(&other.arg_at(index)) {
                 return false;
             }
         }
@@ -234,13 +231,9 @@ impl<A: Allocator + Copy> Atom<A> {
         ensures { IfOk result (λ made. made ≡ self.now) }
     {
         let comps = copy_comps(&self.comps, alloc)?;
-        let mut slots = ArrayVec::new();
-        for slot in self.slots.as_slice() {
-            slots.push(*slot);
-        }
         Ok(Atom {
             name: self.name,
-            slots,
+            slots: self.slots.copy(),
             comps,
             alloc,
         })

@@ -44,6 +44,7 @@ mod atom;
 mod label;
 mod names;
 mod naming;
+mod slots;
 mod text_atom;
 mod value;
 mod writing;
