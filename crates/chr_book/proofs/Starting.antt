@@ -31,7 +31,7 @@ use Rattle.chr_calls.specs.Calls.{Activates, Claims, HoldsLive, activated}
 use Rattle.chr_calls.specs.Headline.{IsKept}
 use Rattle.chr_calls.proofs.Tickets.{ticket_same, ticket_before, waiting_is}
 use Rattle.chr_calls.proofs.Claiming.{activated_keeps, claims_keep}
-use Rattle.chr_tickets.specs.Open.{with_goal, with_atom, lent_goal, lent}
+use Rattle.chr_tickets.specs.Open.{with_goal, with_atom}
 use Rattle.chr_tickets.specs.Passed.{gone_over}
 use Rattle.chr_book.specs.declared.rounds.Last.{Last}
 use Rattle.chr_book.specs.declared.rounds.Last.TheVariants as lasts
@@ -79,22 +79,19 @@ state_before ts more (suc t) within =
     let there : nat_lt (suc t) (length (ts ++ more)) ≡ true = grind (arith, nat_tests) in
     ap₂ (λ (c : Bool) (x : Ticket). if c then state_with x.goal x.holder else Unknown) (there ∙ sym here) (ticket_before ts more (suc t) within)
 
--- ---- a ticket whose atom is taken out
+-- ---- a ticket whose atom is swapped with another
 
--- it has the atom, and its tickets without that
+-- its atom, and the tickets then
 pub record IsLent (ts now : List Ticket) (t : ℕ) (a : Atom ℕ) : Type 0 where
   pub waits : state_of ts t ≡ Waiting
   pub atom : Some a ≡ atom_in (ticket_at ts t).goal
-  pub lent_is : now ≡ slice_set ts t (lent (ticket_at ts t))
-
-still_waits : (x : Ticket) (a : Atom ℕ) → x.goal ≡ Plain a → state_with (lent x).goal (lent x).holder ≡ Waiting
-still_waits x a e = ap (λ (g : Goal). state_with (lent_goal g) x.holder) e
+  pub other : Atom ℕ
+  pub lent_is : now ≡ slice_set ts t (with_atom other (ticket_at ts t))
 
 pub waits_lent : {ts now : List Ticket} {t : ℕ} {a : Atom ℕ} → IsLent ts now t a → state_of now t ≡ Waiting
 waits_lent {ts} {now} {t} {a} h =
     ap (λ (xs : List Ticket). state_of xs t) h.lent_is
-    ∙ state_there ts t (lent (ticket_at ts t)) (λ e. absurd (let z : Waiting ≡ Unknown = sym h.waits ∙ e in cc)) (waits_within ts t h.waits)
-    ∙ still_waits (ticket_at ts t) a (plain_is (ticket_at ts t).goal a h.atom)
+    ∙ state_there ts t (with_atom h.other (ticket_at ts t)) (λ e. absurd (let z : Waiting ≡ Unknown = sym h.waits ∙ e in cc)) (waits_within ts t h.waits)
 
 lent_within : {ts now : List Ticket} {t : ℕ} {a : Atom ℕ} → IsLent ts now t a → t < length now
 lent_within {ts} {now} {t} h = waits_within now t (waits_lent h)
@@ -105,20 +102,20 @@ waits_before {ts} {now} {t} {a} more pushed h e = ap (λ (xs : List Ticket). sta
 
 -- the ticket changes
 pub lent_set : {ts now : List Ticket} {t : ℕ} {a : Atom ℕ} (y : Ticket) → IsLent ts now t a → slice_set now t y ≡ slice_set ts t y
-lent_set {ts} {now} {t} y h = ap (λ (xs : List Ticket). slice_set xs t y) h.lent_is ∙ set-set ts t (lent (ticket_at ts t)) y
+lent_set {ts} {now} {t} y h = ap (λ (xs : List Ticket). slice_set xs t y) h.lent_is ∙ set-set ts t (with_atom h.other (ticket_at ts t)) y
 
 pub lent_set_before : {ts now : List Ticket} {t : ℕ} {a : Atom ℕ} (more pushed : List Ticket) (y : Ticket) → IsLent ts now t a → pushed ≡ now ++ more → slice_set pushed t y ≡ slice_set ts t y ++ more
 lent_set_before {ts} {now} {t} more pushed y h e = ap (λ (xs : List Ticket). slice_set xs t y) e ∙ set-append_left now more t y (lent_within h) ∙ ap (λ (xs : List Ticket). xs ++ more) (lent_set y h)
 
 -- and where its atom is put back
-put_same : (x : Ticket) (a : Atom ℕ) → x.goal ≡ Plain a → with_atom a (lent x) ≡ x
-put_same x a e = ap (λ (g : Goal). with_goal g x) (sym e)
+put_same : (x : Ticket) (a b : Atom ℕ) → x.goal ≡ Plain a → with_atom a (with_atom b x) ≡ x
+put_same x a b e = ap (λ (g : Goal). with_goal g x) (sym e)
 
 pub put_back : {ts now : List Ticket} {t : ℕ} {a : Atom ℕ} → IsLent ts now t a → slice_set now t (with_atom a (ticket_at now t)) ≡ ts
 put_back {ts} {now} {t} {a} h =
     let x : Ticket = ticket_at ts t in
-    let there : ticket_at now t ≡ lent x = ap (λ (xs : List Ticket). ticket_at xs t) h.lent_is ∙ ticket_same ts t (lent x) (waits_within ts t h.waits) in
-    lent_set (with_atom a (ticket_at now t)) h ∙ ap (slice_set ts t) (ap (with_atom a) there ∙ put_same x a (plain_is x.goal a h.atom)) ∙ set-get_or ts t ended
+    let there : ticket_at now t ≡ with_atom h.other x = ap (λ (xs : List Ticket). ticket_at xs t) h.lent_is ∙ ticket_same ts t (with_atom h.other x) (waits_within ts t h.waits) in
+    lent_set (with_atom a (ticket_at now t)) h ∙ ap (slice_set ts t) (ap (with_atom a) there ∙ put_same x a h.other (plain_is x.goal a h.atom)) ∙ set-get_or ts t ended
 
 pub put_back_of : {ts now left new : List Ticket} {t : ℕ} {a : Atom ℕ} → IsLent ts now t a → left ≡ now → new ≡ slice_set left t (with_atom a (ticket_at left t)) → new ≡ ts
 put_back_of {ts} {now} {left} {new} {t} {a} h same e = e ∙ ap (λ (xs : List Ticket). slice_set xs t (with_atom a (ticket_at xs t))) same ∙ put_back h
@@ -347,7 +344,7 @@ starts_fewer rules plans names log entries st after ts lent_ts more pushed left 
     gone = slice_set ts t (going_on place (activated_by seat st.next))
 
     as_long : first ≡ length gone
-    as_long = f ∙ ap length out.lent_is ∙ length-set ts t (lent (ticket_at ts t)) ∙ sym (length-set ts t (going_on place (activated_by seat st.next)))
+    as_long = f ∙ ap length out.lent_is ∙ length-set ts t (with_atom out.other (ticket_at ts t)) ∙ sym (length-set ts t (going_on place (activated_by seat st.next)))
 
     now : cut ≡ gone
     now = rest_back gone left cut first (more, g.tickets ∙ lent_set_before more pushed (going_on place (activated_by seat st.next)) out e) back as_long

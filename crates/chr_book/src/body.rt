@@ -7,7 +7,6 @@ ghost use Rattle.chr_calls.specs.Tickets.{Ticket};
 ghost use Rattle.chr_book.specs.Firings.{MakesBody, MakesFound};
 
 use chr_guard::Binding;
-use chr_guard::body::make_atom;
 use chr_rule::{BodyItem, Program, Rule};
 use chr_search::{Then, Whole};
 use chr_tickets::Tickets;
@@ -25,11 +24,7 @@ fn push_member<A: Allocator + Copy>(
     let BodyItem::Add(pattern) = item else {
         return Ok(());
     };
-    match make_atom(tickets.allocator(), pattern, binding) {
-        Ok(Some(atom)) => tickets.push(atom),
-        Ok(None) => Ok(()),
-        Err(_) => Err(AllocError),
-    }
+    tickets.push_made(pattern, binding)
 }
 
 /// Gives the atoms that a rule's body adds under a binding of all its variables the next tickets, in written order. An

@@ -106,15 +106,20 @@ fn pass_over_before<A: Allocator + Copy>(
     Ok(come)
 }
 
-/// Takes the tickets from `first` on back, and puts an atom into a ticket that waits then.
-fn take_back<A: Allocator + Copy>(tickets: &mut Tickets<A>, first: u64, ticket: u64, atom: Atom<A>)
+/// Takes the tickets from `first` on back, and swaps the atom of a ticket that waits then with another.
+fn take_back<A: Allocator + Copy>(
+    tickets: &mut Tickets<A>,
+    first: u64,
+    ticket: u64,
+    atom: &mut Atom<A>,
+)
     requires { 1 ≤ first }
-    ensures waits { let kept = take first tickets.old in state_of kept ticket ≡ states.Waiting → tickets.new ≡ slice_set kept ticket (with_atom atom (ticket_at kept ticket)) }
+    ensures waits { let kept = take first tickets.old in state_of kept ticket ≡ states.Waiting → tickets.new ≡ slice_set kept ticket (with_atom atom.old (ticket_at kept ticket)) }
     ensures other { let kept = take first tickets.old in state_of kept ticket ≢ states.Waiting → tickets.new ≡ kept }
 {
     tickets.truncate(first);
     if tickets.state(ticket) == TicketState::Waiting {
-        tickets.put_atom(ticket, atom);
+        tickets.swap_atom(ticket, atom);
     }
 }
 
@@ -202,7 +207,7 @@ impl<A: Allocator + Copy> Book<A> {
         ensures ok { IfOk result (λ rounds. StartsRounds seat ticket rounds self.old self.new) }
         ensures err { OnErr result (StartsFewer seat ticket most self.old self.new) }
     {
-        let atom = self.tickets.take_atom(ticket);
+        self.tickets.swap_atom(ticket, &mut self.started);
         let mut search = Search::begin(self.store.next_label());
         let first = self.tickets.next();
         let Ok(come) = pass_over_before(
@@ -211,11 +216,11 @@ impl<A: Allocator + Copy> Book<A> {
             &self.program,
             &self.plans,
             &self.store,
-            &atom,
+            &self.started,
             most - 1,
             &mut self.instance,
         ) else {
-            take_back(&mut self.tickets, first, ticket, atom);
+            take_back(&mut self.tickets, first, ticket, &mut self.started);
             return Err(AllocError);
         };
         let Ok(last) = end_start(
@@ -224,12 +229,12 @@ impl<A: Allocator + Copy> Book<A> {
             &mut self.store,
             seat,
             ticket,
-            &atom,
+            &self.started,
             search,
             come.then,
             self.instance.whole(),
         ) else {
-            take_back(&mut self.tickets, first, ticket, atom);
+            take_back(&mut self.tickets, first, ticket, &mut self.started);
             return Err(AllocError);
         };
         Ok(Rounds {

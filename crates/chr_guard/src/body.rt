@@ -1,5 +1,5 @@
 //! The body of a rule under a binding.
-ghost use Rattle.std.specs.Prelude.{◌≡◌, ◌≤◌, List, ℕ, map, length, IfOk, MatchOption};
+ghost use Rattle.std.specs.Prelude.{◌≡◌, ◌≤◌, [], false, List, ℕ, Some, None, map, length, IsTrue, IfOk, MatchOption};
 ghost use Rattle.std.specs.Option.{option_map};
 ghost use Rattle.chr_value.specs.Atoms.{Atom, args_of, ground, grounds};
 ghost use Rattle.chr_rule.specs.Parts.{argument, shape};
@@ -96,8 +96,31 @@ fn made_argument<A: Allocator + Copy>(
     }
 }
 
-/// The atom that a constraint of a body stands for, or None where an argument has no value within the limits: each is
-/// counted before it is made. Only compound values take memory. An `Err` is E01.
+/// Adds the arguments of a constraint of a body to an atom of its name that has none: each is counted before it is
+/// made. False where one has no value within the limits. Then, and on an `Err`, which is E01, the atom may have some of
+/// them. Only compound values take memory.
+#[inline(always)]
+pub fn add_arguments<A: Allocator + Copy>(
+    alloc: A,
+    atom: &mut Atom<A>,
+    pattern: &RuleAtom<A>,
+    binding: &Binding<'_, A>,
+) -> Result<bool, AllocError>
+    requires { atom.old ≡ record { name = (shape pattern.now).name; args = [] } }
+    ensures made { IfOk result (λ all. IsTrue all → made_under (bound_at binding.now) (shape pattern.now) ≡ Some atom.new) }
+    ensures none { IfOk result (λ all. all ≡ false → made_under (bound_at binding.now) (shape pattern.now) ≡ None) }
+{
+    for term in &pattern.terms {
+        let Some(value) = made_argument(alloc, term, binding)? else {
+            return Ok(false);
+        };
+        atom.push(value)?;
+    }
+    Ok(true)
+}
+
+/// The atom that a constraint of a body stands for, or None where an argument has no value within the limits. Only
+/// compound values take memory. An `Err` is E01.
 pub fn make_atom<A: Allocator + Copy>(
     alloc: A,
     pattern: &RuleAtom<A>,
@@ -106,11 +129,8 @@ pub fn make_atom<A: Allocator + Copy>(
     ensures { IfOk result (λ made. made ≡ made_under (bound_at binding.now) (shape pattern.now)) }
 {
     let mut atom = Atom::new(alloc, pattern.name);
-    for term in &pattern.terms {
-        let Some(value) = made_argument(alloc, term, binding)? else {
-            return Ok(None);
-        };
-        atom.push(value)?;
+    if !add_arguments(alloc, &mut atom, pattern, binding)? {
+        return Ok(None);
     }
     Ok(Some(atom))
 }

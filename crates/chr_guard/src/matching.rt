@@ -76,10 +76,7 @@ fn fit_args<'v, A: Allocator + Copy>(
         return false;
     }
     for i in 0..terms.len() {
-        let Some(value) = atom.arg(i) else {
-            return false;
-        };
-        if !fit_term(binding, &terms[i], value) {
+        if !fit_term(binding, &terms[i], atom.arg_at(i)) {
             return false;
         }
     }

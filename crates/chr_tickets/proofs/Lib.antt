@@ -4,3 +4,4 @@ pub mod Ends
 pub mod States
 pub mod Walks
 pub mod Passed
+pub mod Made

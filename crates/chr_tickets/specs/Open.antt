@@ -1,8 +1,7 @@
 -- An open ticket, as the tickets of a book show it.
-use Rattle.std.specs.Prelude.{◌≡◌, ℕ, Bool, true, false, ◌==◌, [], None}
+use Rattle.std.specs.Prelude.{◌≡◌, ℕ, Bool, true, false, ◌==◌, None}
 use Rattle.chr_value.specs.Atoms.{Atom}
 use Rattle.chr_model.specs.Goals.{Goal, Plain, Numbered}
-use Rattle.chr_model.specs.Goals as plain
 use Rattle.chr_search.specs.Positions.{beginning}
 use Rattle.chr_calls.specs.declared.answers.TicketState.{TicketState}
 use Rattle.chr_calls.specs.declared.answers.TicketState.TheVariants.{Unknown, Waiting, Held, Resting, Ended}
@@ -23,20 +22,12 @@ shown_ticket x = shown x.goal x.stray
 abbrev pub state_in : Ticket → TicketState
 state_in x = state_with x.goal x.holder
 
--- a ticket that waits with this atom, and one whose atom is taken out: it waits with the name alone
+-- a ticket with this goal, and one that waits with this atom
 abbrev pub with_goal : Goal → Ticket → Ticket
 with_goal goal x = record { goal = goal; holder = x.holder; stray = x.stray; position = x.position; candidate = x.candidate }
 
 abbrev pub with_atom : Atom ℕ → Ticket → Ticket
 with_atom atom x = with_goal (Plain atom) x
-
-abbrev pub lent_goal : Goal → Goal
-lent_goal (Plain atom) = Plain (record { name = atom.name; args = [] })
-lent_goal (Numbered l) = Numbered l
-lent_goal plain.Ended = plain.Ended
-
-abbrev pub lent : Ticket → Ticket
-lent x = with_goal (lent_goal x.goal) x
 
 -- the goal is numbered
 abbrev pub IsActiveGoal : Goal → Type 0

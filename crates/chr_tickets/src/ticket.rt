@@ -1,6 +1,10 @@
 //! A ticket that is open.
-ghost use Rattle.std.specs.Prelude.{◌≡◌, ℕ, ◌≤◌, Some, MatchOption};
+ghost use Rattle.std.specs.Prelude.{◌≡◌, ℕ, ◌≤◌, [], false, Some, None, IsTrue, IfOk, MatchOption};
 ghost use Rattle.std.specs.Option.{option_copied};
+ghost use Rattle.chr_value.specs.Atoms.{Atom};
+ghost use Rattle.chr_rule.specs.Parts.{shape};
+ghost use Rattle.chr_guard.specs.Bindings.{bound_at};
+ghost use Rattle.chr_guard.specs.Instances.{made_under};
 ghost use Rattle.chr_model.specs.Goals.{Numbered};
 ghost use Rattle.chr_plan.specs.Plans.{ArePlans};
 ghost use Rattle.chr_search.specs.Answers.{after_judging};
@@ -8,17 +12,17 @@ ghost use Rattle.chr_search.specs.Trials.{older};
 ghost use Rattle.chr_search.specs.declared.search.Then.TheVariants as thens;
 ghost use Rattle.chr_calls.specs.declared.answers.TicketState.TheVariants.{Held, Waiting};
 ghost use Rattle.chr_calls.specs.Tickets.{waiting, activated_by, held_by, put_down, with_candidate, going_on, atom_in, search_in};
-ghost use Rattle.chr_tickets.specs.Open.{shown_ticket, state_in, is_open_for, lent, with_atom, IsActiveGoal};
+ghost use Rattle.chr_tickets.specs.Open.{shown_ticket, state_in, is_open_for, with_atom, IsActiveGoal};
 ghost use Rattle.chr_tickets.specs.Passed.{PassesOver};
 
 use chr_calls::TicketState;
-use chr_guard::Binding;
+use chr_guard::{Binding, body};
 use chr_plan::Plans;
-use chr_rule::Program;
+use chr_rule::{Program, RuleAtom};
 use chr_search::{Instance, Judged, Passed, Search, Trial};
 use chr_store::{Label, Store};
 use chr_value::Atom;
-use std::alloc::Allocator;
+use std::alloc::{AllocError, Allocator};
 use std::mem;
 
 /// What an open ticket stands for.
@@ -87,28 +91,36 @@ impl<A: Allocator + Copy> Ticket<A> {
         }
     }
 
-    /// Takes the atom that waits out, and leaves its name alone.
-    pub(crate) fn take_atom(&mut self, alloc: A) -> Atom<A>
-        requires { state_in (shown_ticket self.old) ≡ Waiting }
-        ensures atom { Some result ≡ atom_in (shown_ticket self.old).goal }
-        ensures rest { shown_ticket self.new ≡ lent (shown_ticket self.old) }
+    /// Adds the arguments of a constraint of a body to the atom that waits, as [`body::add_arguments`] does.
+    #[inline(always)]
+    pub(crate) fn add_arguments(
+        &mut self,
+        alloc: A,
+        pattern: &RuleAtom<A>,
+        binding: &Binding<'_, A>,
+    ) -> Result<bool, AllocError>
+        requires { shown_ticket self.old ≡ waiting (record { name = (shape pattern.now).name; args = [] }) }
+        ensures mark { (shown_ticket self.new).stray ≡ (shown_ticket self.old).stray }
+        ensures made { IfOk result (λ all. IsTrue all → (atom : Atom ℕ) × (made_under (bound_at binding.now) (shape pattern.now) ≡ Some atom) × (shown_ticket self.new ≡ waiting atom)) }
+        ensures none { IfOk result (λ all. all ≡ false → made_under (bound_at binding.now) (shape pattern.now) ≡ None) }
     {
         let Goal::Waiting(atom) = &mut self.goal else {
             unreachable!();
         };
-        let bare = Atom::new(alloc, atom.name());
-        mem::replace(atom, bare)
+        body::add_arguments(alloc, atom, pattern, binding)
     }
 
-    /// Waits with an atom in place of the one that it has.
-    pub(crate) fn put_atom(&mut self, new: Atom<A>)
+    /// Swaps the atom that waits with another.
+    #[inline(always)]
+    pub(crate) fn swap_atom(&mut self, other: &mut Atom<A>)
         requires { state_in (shown_ticket self.old) ≡ Waiting }
-        ensures { shown_ticket self.new ≡ with_atom new (shown_ticket self.old) }
+        ensures atom { Some other.new ≡ atom_in (shown_ticket self.old).goal }
+        ensures rest { shown_ticket self.new ≡ with_atom other.old (shown_ticket self.old) }
     {
         let Goal::Waiting(atom) = &mut self.goal else {
             unreachable!();
         };
-        *atom = new;
+        mem::swap(atom, other);
     }
 
     /// The search.

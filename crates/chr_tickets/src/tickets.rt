@@ -1,6 +1,9 @@
 //! The tickets of a book.
 ghost use Rattle.std.specs.Prelude.{◌≡◌, ◌↔◌, ℕ, ◌≤◌, ◌++◌, ◌∷◌, [], true, Some, length, take, slice_set, IsSome, IsTrue, OnOk, OnErr, MatchOption};
 ghost use Rattle.std.specs.Option.{option_copied};
+ghost use Rattle.chr_rule.specs.Parts.{shape};
+ghost use Rattle.chr_guard.specs.Bindings.{bound_at};
+ghost use Rattle.chr_guard.specs.Instances.{made_under};
 ghost use Rattle.chr_model.specs.Goals.{Numbered};
 ghost use Rattle.chr_plan.specs.Plans.{ArePlans};
 ghost use Rattle.chr_search.specs.Answers.{after_judging};
@@ -8,7 +11,7 @@ ghost use Rattle.chr_search.specs.Trials.{older};
 ghost use Rattle.chr_search.specs.declared.search.Then.TheVariants as thens;
 ghost use Rattle.chr_calls.specs.declared.answers.TicketState.TheVariants.{Waiting, Resting};
 ghost use Rattle.chr_calls.specs.Tickets.{ended, waiting, activated_by, held_by, put_down, marked, with_candidate, going_on, ticket_at, state_of, IsClaimable, IsActive, Holds, IsNotHeld, AreQuiet, atom_in, search_in, LosesStray, IsLeastFor, NoneFor};
-ghost use Rattle.chr_tickets.specs.Open.{shown_ticket, lent, with_atom};
+ghost use Rattle.chr_tickets.specs.Open.{shown_ticket, with_atom};
 ghost use Rattle.chr_tickets.specs.Passed.{PassesOver};
 ghost use Rattle.chr_tickets.specs.Stray.{IsFirstStray, NoneStray};
 
@@ -17,7 +20,7 @@ use crate::ticket::Ticket;
 use chr_calls::TicketState;
 use chr_guard::Binding;
 use chr_plan::Plans;
-use chr_rule::Program;
+use chr_rule::{Program, RuleAtom};
 use chr_search::{Instance, Judged, Passed, Search, Trial};
 use chr_store::{Label, Store};
 use chr_value::Atom;
@@ -117,25 +120,15 @@ impl<A: Allocator + Copy> Tickets<A> {
         self.found(ticket)?.atom()
     }
 
-    /// Takes the atom out of a ticket that waits. Until one is [put](Tickets::put_atom) there or the goal becomes active or
-    /// ends, the ticket waits with the atom's name alone.
-    pub fn take_atom(&mut self, ticket: u64) -> Atom<A>
+    /// Swaps the atom of a ticket that waits with another.
+    #[inline(always)]
+    pub fn swap_atom(&mut self, ticket: u64, other: &mut Atom<A>)
         requires { state_of self.old ticket ≡ Waiting }
-        ensures atom { Some result ≡ atom_in (ticket_at self.old ticket).goal }
-        ensures rest { self.new ≡ slice_set self.old ticket (lent (ticket_at self.old ticket)) }
-    {
-        let alloc = *self.slots.allocator();
-        let found = open_at(&mut self.slots, self.first, ticket);
-        found.take_atom(alloc)
-    }
-
-    /// Puts an atom into a ticket that waits, in place of the one that it has.
-    pub fn put_atom(&mut self, ticket: u64, atom: Atom<A>)
-        requires { state_of self.old ticket ≡ Waiting }
-        ensures { self.new ≡ slice_set self.old ticket (with_atom atom (ticket_at self.old ticket)) }
+        ensures atom { Some other.new ≡ atom_in (ticket_at self.old ticket).goal }
+        ensures rest { self.new ≡ slice_set self.old ticket (with_atom other.old (ticket_at self.old ticket)) }
     {
         let found = open_at(&mut self.slots, self.first, ticket);
-        found.put_atom(atom);
+        found.swap_atom(other);
     }
 
     /// The search of an active goal.
@@ -172,6 +165,36 @@ impl<A: Allocator + Copy> Tickets<A> {
         self.slots.reserve(1)?;
         self.slots.push_back_reserved(Some(Ticket::waiting(atom)));
         Ok(())
+    }
+
+    /// Gives the atom that a constraint of a body stands for under a binding the next ticket, which waits. Nothing where
+    /// an argument has no value within the limits. E01 where memory ran out, or where the next ticket is the greatest
+    /// number; nothing has changed then.
+    #[inline(always)]
+    pub fn push_made(
+        &mut self,
+        pattern: &RuleAtom<A>,
+        binding: &Binding<'_, A>,
+    ) -> Result<(), AllocError>
+        ensures ok { OnOk result (MatchOption (made_under (bound_at binding.now) (shape pattern.now)) (self.new ≡ self.old) (λ atom. self.new ≡ self.old ++ waiting atom ∷ [])) }
+        ensures err { OnErr result (self.new ≡ self.old) }
+    {
+        let alloc = self.allocator();
+        let ticket = self.next();
+        // The atom is made in its place, which spares copies.
+        self.push(Atom::new(alloc, pattern.name))?;
+        let found = open_at(&mut self.slots, self.first, ticket);
+        match found.add_arguments(alloc, pattern, binding) {
+            Ok(true) => Ok(()),
+            Ok(false) => {
+                self.truncate(ticket);
+                Ok(())
+            }
+            Err(_) => {
+                self.truncate(ticket);
+                Err(AllocError)
+            }
+        }
     }
 
     /// Takes back every ticket from the number `next` on.

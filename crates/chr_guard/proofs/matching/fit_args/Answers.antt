@@ -1,12 +1,10 @@
-use Rattle.std.proofs.Common.{◌≡◌, ◌<◌, ◌≤◌, pos, length, map, get_or, slice_get, Option, Some, None, arith, sym, ap, subst, ◌∙◌}
-use Rattle.std.specs.Option.{option_map}
+use Rattle.std.proofs.Common.{◌≡◌, ◌<◌, ◌≤◌, length, map, get_or, Some, arith, sym, ap, ◌∙◌}
 use Rattle.std.proofs.lemmas.List.{length-map}
-use Rattle.std.proofs.lemmas.Option.{slice_get-get_or, get_or_from_slice_get}
-use Rattle.chr_value.specs.Atoms.{Value, Int, said}
+use Rattle.std.proofs.lemmas.Option.{get_or_from_slice_get}
+use Rattle.chr_value.specs.Atoms.{said}
 use Rattle.chr_rule.specs.Parts.{argument}
 use Rattle.chr_rule.specs.Scope.{argument_known}
 use Rattle.chr_guard.specs.Values.{term_under}
-use Rattle.chr_guard.specs.Bindings.{Narrows, NoneUnder}
 use Rattle.chr_guard.proofs.Steps.{list_all_at, map_read, read_more, read_stop, read_end, read_count}
 use Rattle.chr_guard.proofs.matching.fit_args.Goals as goal
 
@@ -25,21 +23,13 @@ fit_term-requires g c =
     let same : argument term ≡ get_or (map argument terms) c.loop-i.i (argument term) = map_read argument terms c.loop-i.i term here c.index-terms-i.is in
     (omega arith, ap (λ m. argument_known m (argument term)) c.loop-i.invariant.places ∙ ap (argument_known n) same ∙ known)
 
-pub returns-in_default : goal.returns-in_default
-returns-in_default g c v extends same =
-    let values = c.args.atom.now.args in
-    let left : c.loop-i.i < length c.args.terms.now = c.loop-i-test.true in
-    let right : c.loop-i.i < length values = omega arith in
-    let none : None ≡ Some (get_or values c.loop-i.i (Int (pos 0))) = c.in_default.ensures.value ∙ slice_get-get_or values c.loop-i.i (Int (pos 0)) right in
-    absurd (cc)
-
 pub returns-then-not-fit_term : goal.returns-then-not-fit_term
 returns-then-not-fit_term g c =
     let values = c.args.atom.now.args in
     let left : c.loop-i.i < length c.args.terms.now = c.loop-i-test.true in
     let right : c.loop-i.i < length values = omega arith in
-    let value = said c.in-Some.value in
-    let there : value ≡ get_or values c.loop-i.i value = sym (get_or_from_slice_get values c.loop-i.i value value (sym c.arg.ensures.value ∙ ap (option_map said) c.in-Some.is)) in
+    let value = said c.arg_at.result in
+    let there : value ≡ get_or values c.loop-i.i value = sym (get_or_from_slice_get values c.loop-i.i value value (sym c.arg_at.ensures.value)) in
     read_stop term_under argument (λ t. Some t) c.args.terms.now values c.loop-i.i c.index-terms-i.result value left right c.index-terms-i.is there c.args.binding.now c.loop-i.binding c.loop-i.invariant (c.if-not-fit_term.ensures)
 
 pub loop-i-preserved : goal.loop-i-preserved
@@ -47,8 +37,8 @@ loop-i-preserved g c =
     let values = c.args.atom.now.args in
     let left : c.loop-i.i < length c.args.terms.now = c.loop-i-test.true in
     let right : c.loop-i.i < length values = omega arith in
-    let value = said c.in-Some.value in
-    let there : value ≡ get_or values c.loop-i.i value = sym (get_or_from_slice_get values c.loop-i.i value value (sym c.arg.ensures.value ∙ ap (option_map said) c.in-Some.is)) in
+    let value = said c.arg_at.result in
+    let there : value ≡ get_or values c.loop-i.i value = sym (get_or_from_slice_get values c.loop-i.i value value (sym c.arg_at.ensures.value)) in
     read_more term_under argument (λ t. Some t) c.args.terms.now values c.loop-i.i c.index-terms-i.result value left right c.index-terms-i.is there c.args.binding.now c.loop-i.binding c.fit_term.new.binding c.loop-i.invariant (c.if-not-fit_term.ensures)
 
 pub returns : goal.returns

@@ -16,20 +16,21 @@ use Rattle.chr_book.proofs.book.Book.start_rounds.Goals.{After-take_back, In-Ok-
 none : (g : Over) (c : After-take_back g) → StartsFewer c.args.seat c.args.ticket c.args.most (book_of c.self.inside.program c.self.inside.plans c.self.inside.names c.self.inside.log c.self.inside.store c.self.inside.tickets) (book_of c.self.inside.program c.self.inside.plans c.self.inside.names c.self.inside.log c.self.inside.store c.take_back.new.tickets)
 none g c =
     let x = c.self.inside in
-    let out : IsLent x.tickets c.take_atom-atom.new.self c.args.ticket c.take_atom-atom.result = record {
+    let out : IsLent x.tickets c.swap_atom.new.self c.args.ticket c.swap_atom.new.other = record {
       waits = subst (λ (b : BookState). state_of b.tickets c.args.ticket ≡ Waiting) (sym c.self.view_is) c.requires.waiting;
-      atom = c.take_atom-atom.ensures.atom;
-      lent_is = c.take_atom-atom.ensures.rest;
+      atom = c.swap_atom.ensures.atom;
+      other = x.started;
+      lent_is = c.swap_atom.ensures.rest;
     } in
-    stays_as_is x.program x.plans x.names x.log x.store x.tickets c.take_atom-atom.new.self c.pass_over_before.new.tickets c.take_back.new.tickets c.args.seat c.args.ticket c.args.most c.next-first.result c.take_atom-atom.result out c.in_default.ensures.err c.next-first.ensures.value c.take_back.ensures.waits
+    stays_as_is x.program x.plans x.names x.log x.store x.tickets c.swap_atom.new.self c.pass_over_before.new.tickets c.take_back.new.tickets c.args.seat c.args.ticket c.args.most c.next-first.result c.swap_atom.new.other out c.in_default.ensures.err c.next-first.ensures.value c.take_back.ensures.waits
 
 made : (g : Over) (c : In-Ok-end_start g) → StartsRounds c.args.seat c.args.ticket (record { passed = c.in-Ok.come.count; last = c.in-Ok-end_start.last }) (book_of c.self.inside.program c.self.inside.plans c.self.inside.names c.self.inside.log c.self.inside.store c.self.inside.tickets) (book_of c.self.inside.program c.self.inside.plans c.self.inside.names c.end_start.new.log c.end_start.new.store c.end_start.new.tickets)
 made g c =
     let x = c.self.inside in
     let waits = subst (λ (b : BookState). state_of b.tickets c.args.ticket ≡ Waiting) (sym c.self.view_is) c.requires.waiting in
-    started x.program x.plans x.names x.log c.end_start.new.log x.store c.end_start.new.store x.tickets c.take_atom-atom.new.self c.pass_over_before.new.tickets c.end_start.new.tickets c.args.seat c.args.ticket c.take_atom-atom.result c.begin-search.result c.pass_over_before.new.search.place c.in-Ok.come c.pass_over_before.new.instance c.whole.result.now c.in-Ok-end_start.last
-    (record { kept = c.self.invariant.0; waits = waits; atom = c.take_atom-atom.ensures.atom; room = subst (λ (b : BookState). b.next ≤ b.limit) (sym c.self.view_is) c.requires.room })
-    (record { waits = waits; atom = c.take_atom-atom.ensures.atom; lent_is = c.take_atom-atom.ensures.rest })
+    started x.program x.plans x.names x.log c.end_start.new.log x.store c.end_start.new.store x.tickets c.swap_atom.new.self c.pass_over_before.new.tickets c.end_start.new.tickets c.args.seat c.args.ticket c.swap_atom.new.other c.begin-search.result c.pass_over_before.new.search.place c.in-Ok.come c.pass_over_before.new.instance c.whole.result.now c.in-Ok-end_start.last
+    (record { kept = c.self.invariant.0; waits = waits; atom = c.swap_atom.ensures.atom; room = subst (λ (b : BookState). b.next ≤ b.limit) (sym c.self.view_is) c.requires.room })
+    (record { waits = waits; atom = c.swap_atom.ensures.atom; other = x.started; lent_is = c.swap_atom.ensures.rest })
     (c.begin-search.ensures ∙ ap (λ (l : ℕ). record { label = l; place = beginning }) c.next_label.ensures.value)
     c.in-Ok.ensures.ok c.whole.ensures c.in-Ok-end_start.ensures.ok
 
@@ -37,9 +38,9 @@ cut : (g : Over) (c : After-take_back-in_default-end_start g) → StartsFewer c.
 cut g c =
     let x = c.self.inside in
     let waits = subst (λ (b : BookState). state_of b.tickets c.args.ticket ≡ Waiting) (sym c.self.view_is) c.requires.waiting in
-    started_fewer x.program x.plans x.names x.log c.end_start.new.log x.store c.end_start.new.store x.tickets c.take_atom-atom.new.self c.pass_over_before.new.tickets c.end_start.new.tickets c.take_back-in_default-end_start.new.tickets c.args.seat c.args.ticket c.args.most c.next-first.result c.take_atom-atom.result c.begin-search.result c.pass_over_before.new.search.place c.in-Ok.come c.pass_over_before.new.instance
-    (record { kept = c.self.invariant.0; waits = waits; atom = c.take_atom-atom.ensures.atom; room = subst (λ (b : BookState). b.next ≤ b.limit) (sym c.self.view_is) c.requires.room })
-    (record { waits = waits; atom = c.take_atom-atom.ensures.atom; lent_is = c.take_atom-atom.ensures.rest })
+    started_fewer x.program x.plans x.names x.log c.end_start.new.log x.store c.end_start.new.store x.tickets c.swap_atom.new.self c.pass_over_before.new.tickets c.end_start.new.tickets c.take_back-in_default-end_start.new.tickets c.args.seat c.args.ticket c.args.most c.next-first.result c.swap_atom.new.other c.begin-search.result c.pass_over_before.new.search.place c.in-Ok.come c.pass_over_before.new.instance
+    (record { kept = c.self.invariant.0; waits = waits; atom = c.swap_atom.ensures.atom; room = subst (λ (b : BookState). b.next ≤ b.limit) (sym c.self.view_is) c.requires.room })
+    (record { waits = waits; atom = c.swap_atom.ensures.atom; other = x.started; lent_is = c.swap_atom.ensures.rest })
     (c.begin-search.ensures ∙ ap (λ (l : ℕ). record { label = l; place = beginning }) c.next_label.ensures.value)
     c.in-Ok.ensures.ok (omega (arith, c.in-Ok.ensures.few, c.requires.some)) c.in_default-end_start.ensures.err c.next-first.ensures.value c.take_back-in_default-end_start.ensures.waits c.take_back-in_default-end_start.ensures.other
 
@@ -56,10 +57,11 @@ returns-in_default-clause-err g c =
 pub end_start-requires-clause-waiting : goal.end_start-requires-clause-waiting
 end_start-requires-clause-waiting g c =
     let x = c.self.inside in
-    let out : IsLent x.tickets c.take_atom-atom.new.self c.args.ticket c.take_atom-atom.result = record {
+    let out : IsLent x.tickets c.swap_atom.new.self c.args.ticket c.swap_atom.new.other = record {
       waits = subst (λ (b : BookState). state_of b.tickets c.args.ticket ≡ Waiting) (sym c.self.view_is) c.requires.waiting;
-      atom = c.take_atom-atom.ensures.atom;
-      lent_is = c.take_atom-atom.ensures.rest;
+      atom = c.swap_atom.ensures.atom;
+      other = x.started;
+      lent_is = c.swap_atom.ensures.rest;
     } in
     let found = c.in-Ok.ensures.ok in
     waits_before found.more c.pass_over_before.new.tickets out found.tickets
@@ -67,13 +69,13 @@ end_start-requires-clause-waiting g c =
 pub invariant_of-self-in-Ok-end_start : goal.invariant_of-self-in-Ok-end_start
 invariant_of-self-in-Ok-end_start g c = (
   starts_keep _ _ _ _ _ (made g c) c.self.invariant.0,
-  starts_limit c.args.seat c.args.ticket c.pass_over_before.new.search.place c.take_atom-atom.result c.in-Ok.come.then c.whole.result.now c.in-Ok-end_start.last c.pass_over_before.new.tickets c.self.inside.log c.self.inside.store c.end_start.new.tickets c.end_start.new.log c.end_start.new.store c.in-Ok-end_start.ensures.ok ∙ c.self.invariant.1,
+  starts_limit c.args.seat c.args.ticket c.pass_over_before.new.search.place c.swap_atom.new.other c.in-Ok.come.then c.whole.result.now c.in-Ok-end_start.last c.pass_over_before.new.tickets c.self.inside.log c.self.inside.store c.end_start.new.tickets c.end_start.new.log c.end_start.new.store c.in-Ok-end_start.ensures.ok ∙ c.self.invariant.1,
 )
 
 pub invariant_of-self-in_default-end_start : goal.invariant_of-self-in_default-end_start
 invariant_of-self-in_default-end_start g c = (
   starts_fewer_keep _ _ _ _ _ (cut g c) c.self.invariant.0,
-  stays_limit c.args.seat c.args.ticket c.pass_over_before.new.search.place c.take_atom-atom.result c.pass_over_before.new.tickets c.self.inside.log c.self.inside.store c.end_start.new.tickets c.end_start.new.log c.end_start.new.store c.in_default-end_start.ensures.err ∙ c.self.invariant.1,
+  stays_limit c.args.seat c.args.ticket c.pass_over_before.new.search.place c.swap_atom.new.other c.pass_over_before.new.tickets c.self.inside.log c.self.inside.store c.end_start.new.tickets c.end_start.new.log c.end_start.new.store c.in_default-end_start.ensures.err ∙ c.self.invariant.1,
 )
 
 pub returns-in_default-end_start-clause-err : goal.returns-in_default-end_start-clause-err
@@ -86,5 +88,5 @@ returns-clause-ok g c = started_of c.self.view_is (made g (goal.at.returns-claus
 
 pub returns-clause-all : goal.returns-clause-all
 returns-clause-all g c = λ passed.
-    let all : c.in-Ok.come.count ≡ c.args.most - 1 = c.in-Ok.ensures.more (starts_more c.args.seat c.args.ticket c.pass_over_before.new.search.place c.take_atom-atom.result c.in-Ok.come.then c.whole.result.now c.in-Ok-end_start.last c.pass_over_before.new.tickets c.self.inside.log c.self.inside.store c.end_start.new.tickets c.end_start.new.log c.end_start.new.store c.in-Ok-end_start.ensures.ok passed) in
+    let all : c.in-Ok.come.count ≡ c.args.most - 1 = c.in-Ok.ensures.more (starts_more c.args.seat c.args.ticket c.pass_over_before.new.search.place c.swap_atom.new.other c.in-Ok.come.then c.whole.result.now c.in-Ok-end_start.last c.pass_over_before.new.tickets c.self.inside.log c.self.inside.store c.end_start.new.tickets c.end_start.new.log c.end_start.new.store c.in-Ok-end_start.ensures.ok passed) in
     omega arith

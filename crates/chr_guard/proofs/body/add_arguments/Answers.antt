@@ -1,4 +1,4 @@
-use Rattle.std.proofs.Common.{◌≡◌, ◌<◌, ◌≤◌, ◌+◌, ◌++◌, ◌∷◌, [], length, map, take, Some, None, vec_len, sym, ap, ◌∙◌, arith}
+use Rattle.std.proofs.Common.{◌≡◌, ◌<◌, ◌≤◌, ◌+◌, ◌++◌, ◌∷◌, [], length, map, Some, None, vec_len, sym, ap, ◌∙◌, arith}
 use Rattle.std.specs.Option.{option_map}
 use Rattle.std.proofs.lemmas.List.{length_push, take_all}
 use Rattle.chr_value.specs.Atoms.{ground}
@@ -7,15 +7,15 @@ use Rattle.chr_guard.specs.Values.{term_under, value_under}
 use Rattle.chr_guard.specs.Bindings.{bound_at}
 use Rattle.chr_guard.specs.Instances.{all_values}
 use Rattle.chr_guard.proofs.Under.{limited, values_more, no_values, atom_by_values}
-use Rattle.chr_guard.proofs.body.make_atom.Goals as goal
+use Rattle.chr_guard.proofs.body.add_arguments.Goals as goal
 
-pub returns-in_default : goal.returns-in_default
-returns-in_default g c =
+pub returns-in_default-clause-none : goal.returns-in_default-clause-none
+returns-in_default-clause-none g c = λ no.
     let value = value_under (bound_at c.args.binding.now) in
     let terms = c.deref-term-items.result.now in
     let none : value (argument c.term-item.result) ≡ None = sym c.in_ok-value.ensures ∙ ap (option_map ground) c.in_default.is in
     let all : all_values value (map argument terms) ≡ None = no_values argument value terms c.loop-term.term-index c.term-item.result c.loop-term-test.true c.term-item.is none in
-    ap (option_map (λ values. record { name = c.args.pattern.now.name.number; args = values })) (sym all ∙ ap (λ ts. all_values value (map argument ts)) c.deref-term-items.ensures.value)
+    ap (option_map (λ values. record { name = c.args.pattern.now.name.number; args = values })) (ap (λ ts. all_values value (map argument ts)) (sym c.deref-term-items.ensures.value) ∙ all)
 
 pub push-requires : goal.push-requires
 push-requires g c =
@@ -40,10 +40,10 @@ loop-term-preserved g c =
       few = omega arith;
     }
 
-pub returns : goal.returns
-returns g c =
+pub returns-clause-made : goal.returns-clause-made
+returns-clause-made g c = λ yes.
     let value = value_under (bound_at c.args.binding.now) in
     let terms = c.deref-term-items.result.now in
     let all : all_values value (map argument c.args.pattern.now.terms.items) ≡ Some c.loop-term.atom.args =
     ap (λ ts. all_values value (map argument ts)) (sym c.deref-term-items.ensures.value ∙ sym (take_all c.loop-term.term-index terms c.loop-term-test.false)) ∙ c.loop-term.invariant.args in
-    sym (atom_by_values value (shape c.args.pattern.now) c.loop-term.atom (sym c.loop-term.invariant.name) all)
+    atom_by_values value (shape c.args.pattern.now) c.loop-term.atom (sym c.loop-term.invariant.name) all
