@@ -20,6 +20,7 @@ pub struct Occurrence {
 
 impl Occurrence {
     /// A number by which occurrences are in order: by name, arity, rule and head.
+    #[inline(always)]
     fn rank(&self) -> u64
         ensures rank { result ≡ rank self.now }
         ensures fits { FitsRank self.now }
@@ -68,6 +69,7 @@ impl Ranked {
         self.one
     }
 
+    #[inline(always)]
     fn rank(&self) -> u64
         ensures { result ≡ rank self.now }
     {
@@ -105,6 +107,7 @@ fn place_from(list: &[Ranked], from: &Occurrence) -> usize
 }
 
 /// The same. It takes no search where it is `near`.
+#[inline(always)]
 fn place_near(list: &[Ranked], near: usize, from: &Occurrence) -> usize
     requires { IsNonDecreasingBy rank list.now }
     ensures fits { FitsRank from.now }
@@ -168,6 +171,7 @@ impl<A: Allocator + Copy> Occurrences<A> {
 
     /// The least at or after one. None where there is none. `near` becomes the place behind it: it takes no search where the
     /// least at or after the next one is there.
+    #[inline(always)]
     pub fn next(&self, from: Occurrence, near: &mut usize) -> Option<Occurrence>
         ensures fits { FitsRank from }
         ensures found_fits { IfSome result FitsRank }

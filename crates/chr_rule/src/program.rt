@@ -88,6 +88,7 @@ impl<A: Allocator + Copy> Program<A> {
     /// The least rule and head at or after these whose head has this predicate, all numbered from 1. None where there is
     /// none. `near` is 0 at first; with what a call leaves there, the next one for this predicate takes no search where it
     /// goes on just after the rule and head found.
+    #[inline(always)]
     pub fn next_occurrence(
         &self,
         pred: Pred,

@@ -474,6 +474,7 @@ impl<'s, A: Allocator + Copy> Join<'s, A> {
     }
 
     /// Passes over the one trial of a rule of one head, where it isn't whole.
+    #[inline(always)]
     fn pass_only(
         &self,
         at: LastHead<'s, A>,
@@ -513,6 +514,7 @@ impl<'s, A: Allocator + Copy> Join<'s, A> {
     }
 
     /// Passes over the trials as [`pass`](Join::pass) does, from no place on. All of them begin with the active label.
+    #[inline(always)]
     fn pass_first(
         &self,
         most: u64,
@@ -594,6 +596,7 @@ impl<'s, A: Allocator + Copy> Join<'s, A> {
     /// Passes over the trials at or after a place up to one that is whole, at most so many. The place becomes that at which
     /// the search goes on; where it ends before a trial that is whole, `instance` becomes that one. `spare` is for its own
     /// use: a binding costs more to make than to set.
+    #[inline(always)]
     pub(crate) fn pass(
         &self,
         place: &mut Labels,

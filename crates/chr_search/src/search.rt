@@ -206,6 +206,7 @@ impl Search {
     }
 
     /// The plan of a head of a rule. None where there is none.
+    #[inline(always)]
     fn join_at<'s, A: Allocator + Copy>(
         program: &'s Program<A>,
         plans: &'s Plans<A>,
@@ -231,6 +232,7 @@ impl Search {
 
     /// The plan of the next head with the active atom's predicate, from where the walk stands on, and the walk goes there.
     /// None where there is none.
+    #[inline(always)]
     fn next_join<'s, A: Allocator + Copy>(
         program: &'s Program<A>,
         plans: &'s Plans<A>,
