@@ -1,5 +1,5 @@
 //! Worked searches.
-ghost use Rattle.std.specs.Prelude.{IfSome};
+ghost use Rattle.std.specs.Prelude.{◌≤◌, IfSome};
 ghost use Rattle.chr_plan.specs.Plans.{ArePlans};
 
 use chr_guard::Binding;
@@ -8,7 +8,7 @@ use chr_rule::Program;
 use chr_search::{Ask, Instance, Judged, Passed, Search, Then, Verdict, judge};
 use chr_store::Store;
 use chr_text::{read_atoms, read_program};
-use chr_value::Names;
+use chr_value::{Atom, Names};
 use std::alloc::Global;
 
 /// A trial that is expected: its rule, its head and its labels, with the verdict.
@@ -107,6 +107,32 @@ fn is_found(passed: Passed, instance: &Instance, expected: (u64, &[u64], &[u64])
         && whole.removed.as_slice() == expected.2
 }
 
+/// Whether the search for an atom finds that instance before the atom is entered under the next label.
+fn is_found_before(
+    program: &Program<Global>,
+    plans: &Plans<Global>,
+    store: &Store<Global>,
+    atom: &Atom<Global>,
+    expected: (u64, &[u64], &[u64]),
+) -> bool
+    requires plans { ArePlans program.now plans.now }
+    requires room { store.now.next ≤ store.now.limit }
+{
+    let mut search = Search::begin(store.next_label());
+    let mut instance = Instance::new();
+    let mut bound = Binding::free(0);
+    let passed = search.pass_over_before(
+        program,
+        plans,
+        store,
+        atom,
+        100,
+        &mut instance,
+        &mut bound,
+    );
+    is_found(passed, &instance, expected)
+}
+
 /// Whether the search for the first of some atoms finds that instance, before the atom is entered after the posts and once it
 /// is. None where memory ran out.
 fn is_found_twice(
@@ -126,19 +152,7 @@ fn is_found_twice(
     let Ok(label) = entered.insert_copy(atom) else {
         return None;
     };
-    let mut search = Search::begin(label);
-    let mut instance = Instance::new();
-    let mut bound = Binding::free(0);
-    let passed = search.pass_over_before(
-        &program,
-        &plans,
-        &store,
-        atom,
-        100,
-        &mut instance,
-        &mut bound,
-    );
-    let before = is_found(passed, &instance, expected);
+    let before = is_found_before(&program, &plans, &store, atom, expected);
     let mut search = Search::begin(label);
     let mut instance = Instance::new();
     let mut bound = Binding::free(0);
