@@ -1,10 +1,9 @@
 -- A binding again from what is kept of it.
-use Rattle.std.proofs.Common.{◌≡◌, ◌≢◌, ◌↔◌, ℕ, zero, suc, ◌+◌, ◌<◌, ◌≤◌, ℤ, Bool, true, false, ◌||◌, List, [], ◌∷◌, ◌++◌, length, map, take, drop, replicate, get_or, Option, Some, None, ◌⊎◌, inl, inr, refl, sym, subst, ap, ap₂, ◌∙◌, arith, slice_index_or, slice_set, get_or-set_same, get_or-set_other, length-set}
+use Rattle.std.proofs.Common.{◌≡◌, ◌≢◌, ℕ, zero, suc, ◌+◌, ◌<◌, ◌≤◌, ℤ, Bool, true, false, ◌||◌, List, [], ◌∷◌, ◌++◌, length, map, take, drop, replicate, get_or, Option, Some, None, ◌⊎◌, inl, inr, refl, sym, ap, ap₂, ◌∙◌, arith, slice_index_or, slice_set, get_or-set_same, get_or-set_other, length-set}
 use Rattle.std.specs.List.{AllByRecursion, list_any}
 use Rattle.std.proofs.lemmas.List.{length-map, length-replicate, get_or_past, get_or_default, take_all, take_more, map_push, ext_get_or}
 use Rattle.std.proofs.lemmas.Bool.{cases_lt, cases_eq}
 use Rattle.chr_value.specs.Atoms.{Value, Int, Sym, Comp, Args, Atom}
-use Rattle.chr_value.proofs.Chosen.{some_is}
 use Rattle.chr_value.proofs.Places.{left-at}
 use Rattle.chr_rule.specs.Rules.{Expression, Number, Variable, Operation, BodyItem, Is, Add, Simpagation}
 use Rattle.chr_guard.specs.declared.settled.Mark.{Mark}
@@ -12,7 +11,7 @@ use Rattle.chr_guard.specs.declared.settled.Mark.TheVariants as marks
 use Rattle.chr_guard.specs.Values.{Valuation, value_of, number_in, computed, both}
 use Rattle.chr_guard.specs.Bindings.{bound_at, Extends, Narrows, NoneUnder}
 use Rattle.chr_guard.specs.Instances.{IsRight}
-use Rattle.chr_guard.specs.Matching.{AreAtHeads, IsFit}
+use Rattle.chr_guard.specs.Matching.{AreAtHeads}
 use Rattle.chr_guard.specs.Settled.{Marks, mark_of, mark_view, is_compound, filled, IsFilled, IsKept}
 use Rattle.chr_guard.proofs.Bindings.{changed, changed_same, changed_other, extends_itself, free_at, free_extends}
 use Rattle.chr_guard.proofs.Steps.{map_read}

@@ -1,55 +1,168 @@
 -- Bindings and the valuations that extend them.
-use Rattle.std.proofs.Common.{◌≡◌, ◌≢◌, ◌↔◌, ℕ, zero, suc, ◌<◌, ◌≤◌, Bool, true, false, IsTrue, ◌==◌, if◌then◌else◌, List, [], ◌∷◌, length, map, take, replicate, Option, Some, None, IsSome, refl, sym, subst, ap, ap₂, ◌∙◌, arith, true-eqb, slice_index_or, slice_set, get_or-set_same, get_or-set_other, length-set}
+use Rattle.std.proofs.Common.{◌≡◌, ◌≢◌, ◌↔◌, ℕ, zero, suc, ◌+◌, ◌<◌, ◌≤◌, Bool, true, false, IsTrue, ◌==◌, if◌then◌else◌, List, [], ◌∷◌, length, take, replicate, Option, Some, None, IsSome, ◌⊎◌, inl, inr, ⊎_elim, refl, sym, subst, ap, ap₂, ◌∙◌, arith, true-eqb, slice_index_or, slice_set, get_or-set_same, get_or-set_other, length-set}
 use Rattle.std.specs.List.{refill}
-use Rattle.std.proofs.Math.Seq.{take-set-lt}
-use Rattle.std.proofs.lemmas.List.{length-map, length-take-le, take_at, map-set}
+use Rattle.std.specs.Int.{bit_at}
+use Rattle.std.proofs.lemmas.List.{length-take-le, length-replicate, take_at}
+use Rattle.std.proofs.lemmas.Nat.Bits.{bit_at-zero}
+use Rattle.std.proofs.lemmas.Bool.{cases_lt}
 use Rattle.std.proofs.lemmas.Bool.Decides.{nat_tests}
 use Rattle.chr_value.specs.Atoms.{Value, Int, Sym, ground_comp}
 use Rattle.chr_guard.specs.declared.binding.Bound.{Bound}
 use Rattle.chr_guard.specs.declared.binding.Bound.TheVariants as bounds
 use Rattle.chr_guard.specs.Values.{Valuation}
-use Rattle.chr_guard.specs.Bindings.{bound_term, bound_at, AreFreeBehind, Extends, Narrows, NoneUnder, NarrowsIf}
+use Rattle.chr_guard.specs.Bindings.{bound_term, bound_at, told, told_from, AreBoundBy, Extends, Keeps, Narrows, NoneUnder, NarrowsIf}
 
--- the places of the variables say what each is bound to
-pub at_taken : {A : Type 0} (n : ℕ) (places : List (Bound A)) → ((x : ℕ) → n ≤ x → slice_index_or places x bounds.Free ≡ bounds.Free) → (x : ℕ) → bound_at (take n (map bound_term places)) x ≡ bound_term (slice_index_or places x bounds.Free)
-at_taken zero places free x = ap bound_term (sym (free x (omega arith)))
-at_taken (suc n) [] free x = refl
-at_taken (suc n) (b ∷ places) free zero = refl
-at_taken (suc n) (b ∷ places) free (suc x) = at_taken n places (λ y le. free (suc y) (omega (arith, le))) x
+-- where there is no place, whatever the bit
+told_nothing : (A : Type 0) (n : ℕ) → told {A = A} n bounds.Free ≡ None
+told_nothing A zero = refl
+told_nothing A (suc n) = refl
+
+-- the bits and the places of the variables say what each is bound to
+taken_from : {A : Type 0} (bits n from x : ℕ) (places : List (Bound A)) → ((y : ℕ) → n ≤ y → bit_at bits (from + y) ≡ 0) → bound_at (take n (told_from bits from places)) x ≡ told (bit_at bits (from + x)) (slice_index_or places x bounds.Free)
+taken_from bits zero from x places behind = ap (λ b. told b (slice_index_or places x bounds.Free)) (sym (behind x (omega arith)))
+taken_from bits (suc n) from x [] behind = sym (told_nothing _ (bit_at bits (from + x)))
+taken_from bits (suc n) from zero (b ∷ places) behind = let here : from ≡ from + 0 = omega arith in ap (λ y. told (bit_at bits y) b) here
+taken_from bits (suc n) from (suc x) (b ∷ places) behind =
+    let next : (y : ℕ) → suc from + y ≡ from + suc y = λ y. omega arith in
+    taken_from bits n (suc from) x places (λ y le. ap (bit_at bits) (next y) ∙ behind (suc y) (omega (arith, le))) ∙ ap (λ y. told (bit_at bits y) (slice_index_or places x bounds.Free)) (next x)
+
+pub at_taken : {A : Type 0} (bits n : ℕ) (places : List (Bound A)) → ((y : ℕ) → n ≤ y → bit_at bits y ≡ 0) → (x : ℕ) → bound_at (take n (told_from bits 0 places)) x ≡ told (bit_at bits x) (slice_index_or places x bounds.Free)
+at_taken bits n places behind x =
+    let plain : (y : ℕ) → 0 + y ≡ y = λ y. omega arith in
+    taken_from bits n 0 x places (λ y le. ap (bit_at bits) (plain y) ∙ behind y le) ∙ ap (λ y. told (bit_at bits y) (slice_index_or places x bounds.Free)) (plain x)
+
+pub length-told : {A : Type 0} (bits from : ℕ) (places : List (Bound A)) → length (told_from bits from places) ≡ length places
+length-told bits from [] = refl
+length-told bits from (b ∷ places) = ap suc (length-told bits (suc from) places)
 
 -- how many variables a binding has
-pub length_binding : {A : Type 0} (n : ℕ) (places : List (Bound A)) (binding : List (Option (Value ℕ))) → AreFreeBehind n places → take n (map bound_term places) ≡ binding → length binding ≡ n
-length_binding n places binding behind same = sym (ap length same) ∙ length-take-le n (map bound_term places) (omega (arith, behind.full, behind.within, length-map places bound_term))
+pub length_binding : {A : Type 0} (bits n : ℕ) (places : List (Bound A)) (binding : List (Option (Value ℕ))) → AreBoundBy bits n places → take n (told_from bits 0 places) ≡ binding → length binding ≡ n
+length_binding bits n places binding by same = sym (ap length same) ∙ length-take-le n (told_from bits 0 places) (omega (arith, by.full, by.within, length-told bits 0 places))
 
-pub is_place : {A : Type 0} (n : ℕ) (places : List (Bound A)) (binding : List (Option (Value ℕ))) (x : ℕ) → AreFreeBehind n places → take n (map bound_term places) ≡ binding → x < length binding → x < n
-is_place n places binding x behind same lt = omega (arith, lt, length_binding n places binding behind same)
+pub is_place : {A : Type 0} (bits n : ℕ) (places : List (Bound A)) (binding : List (Option (Value ℕ))) (x : ℕ) → AreBoundBy bits n places → take n (told_from bits 0 places) ≡ binding → x < length binding → x < n
+is_place bits n places binding x by same lt = omega (arith, lt, length_binding bits n places binding by same)
 
--- where all places are free
-pub taken_free : {A : Type 0} (n : ℕ) (places : List (Bound A)) → n ≤ length places → ((x : ℕ) → slice_index_or places x bounds.Free ≡ bounds.Free) → take n (map bound_term places) ≡ replicate n None
-taken_free zero places le free = refl
-taken_free (suc n) [] le free = absurd (omega (arith, le))
-taken_free (suc n) (b ∷ places) le free = ap₂ (λ o os. o ∷ os) (ap bound_term (free zero)) (taken_free n places (omega (arith, le)) (λ x. free (suc x)))
+-- lists that bind as many variables to the same are equal
+pub same_places : (binding other : List (Option (Value ℕ))) → length binding ≡ length other → ((x : ℕ) → bound_at binding x ≡ bound_at other x) → binding ≡ other
+same_places [] [] e at = refl
+same_places [] (o ∷ other) e at = absurd (omega (arith, e))
+same_places (b ∷ binding) [] e at = absurd (omega (arith, e))
+same_places (b ∷ binding) (o ∷ other) e at = ap₂ (λ y ys. y ∷ ys) (at zero) (same_places binding other (omega (arith, e)) (λ x. at (suc x)))
 
-pub all_free : {A : Type 0} (n : ℕ) (places : List (Bound A)) → ((x : ℕ) → x < n → slice_index_or places x bounds.Free ≡ bounds.Free) → ((x : ℕ) → n ≤ x → slice_index_or places x bounds.Free ≡ bounds.Free) → (x : ℕ) → slice_index_or places x bounds.Free ≡ bounds.Free
-all_free zero places before behind x = behind x (omega arith)
-all_free (suc n) [] before behind x = refl
-all_free (suc n) (b ∷ places) before behind zero = before zero (omega arith)
-all_free (suc n) (b ∷ places) before behind (suc x) = all_free n places (λ y lt. before (suc y) (omega (arith, lt))) (λ y le. behind (suc y) (omega (arith, le))) x
+pub binds_as : {A : Type 0} (bits n : ℕ) (places : List (Bound A)) (binding : List (Option (Value ℕ))) → AreBoundBy bits n places → length binding ≡ n → ((x : ℕ) → told (bit_at bits x) (slice_index_or places x bounds.Free) ≡ bound_at binding x) → take n (told_from bits 0 places) ≡ binding
+binds_as bits n places binding by len at =
+    same_places (take n (told_from bits 0 places)) binding (length_binding bits n places (take n (told_from bits 0 places)) by refl ∙ sym len) (λ x. at_taken bits n places by.behind x ∙ at x)
 
--- a write at a variable's place
-pub behind_write : {A : Type 0} (n : ℕ) (places : List (Bound A)) (x : ℕ) (b : Bound A) → AreFreeBehind n places → x < n → AreFreeBehind n (slice_set places x b)
-behind_write n places x b behind lt = record {
-  full = length-set places x b ∙ behind.full;
-  within = behind.within;
-  free = λ y le. get_or-set_other places x y b bounds.Free (λ e. omega (arith, e, le, lt)) ∙ behind.free y le;
+-- where no variable is bound
+pub free_at : (n x : ℕ) → bound_at (replicate n None) x ≡ None
+free_at zero x = refl
+free_at (suc n) zero = refl
+free_at (suc n) (suc x) = free_at n x
+
+pub none_bound : {A : Type 0} (n : ℕ) (places : List (Bound A)) → length places ≡ 24 → n ≤ 24 → AreBoundBy 0 n places
+none_bound n places full within = record {
+  full = full;
+  within = within;
+  behind = λ x le. bit_at-zero x;
+  bound = λ x one. let c : 0 ≡ 1 = sym (bit_at-zero x) ∙ one in absurd (omega (arith, c));
 }
 
--- the list after a write through the slice
+pub told_none : {A : Type 0} (n : ℕ) (places : List (Bound A)) → length places ≡ 24 → n ≤ 24 → take n (told_from 0 0 places) ≡ replicate n None
+told_none n places full within = binds_as 0 n places (replicate n None) (none_bound n places full within) (length-replicate n None) (λ x. ap (λ b. told b (slice_index_or places x bounds.Free)) (bit_at-zero x) ∙ sym (free_at n x))
+
+-- a bit is 0 or 1
+bit_cases : (bits x : ℕ) → (bit_at bits x ≡ 0) ⊎ (bit_at bits x ≡ 1)
+bit_cases bits x = by_case (bit_at bits x) refl
+  where
+    small : bit_at bits x < 2
+    small = omega arith
+
+    by_case : (b : ℕ) → bit_at bits x ≡ b → (bit_at bits x ≡ 0) ⊎ (bit_at bits x ≡ 1)
+    by_case zero e = inl e
+    by_case (suc b) e = inr (omega (arith, e, small))
+
+-- the bits are those of the variables that are bound
+pub known_bits : {A : Type 0} (bits n : ℕ) (places : List (Bound A)) (binding : List (Option (Value ℕ))) → AreBoundBy bits n places → take n (told_from bits 0 places) ≡ binding → (x : ℕ) → (bit_at bits x ≡ 1) ↔ IsSome (bound_at binding x)
+known_bits bits n places binding by same x = (
+  λ one. subst (λ o. IsSome o) (sym (ap (λ b. told b (slice_index_or places x bounds.Free)) one) ∙ here) (by.bound x one),
+  λ some. ⊎_elim (λ none. (let c : None ≡ bound_at binding x = sym (ap (λ b. told b (slice_index_or places x bounds.Free)) none) ∙ here in let s = subst (λ o. IsSome o) (sym c) some in absurd (cc))) (λ one. one) (bit_cases bits x),
+)
+  where
+    here : told (bit_at bits x) (slice_index_or places x bounds.Free) ≡ bound_at binding x
+    here = sym (at_taken bits n places by.behind x) ∙ ap (λ b. bound_at b x) same
+
+-- what a variable is bound to, by its bit
+pub told_one : {A : Type 0} (bits n x : ℕ) (places : List (Bound A)) (binding : List (Option (Value ℕ))) → AreBoundBy bits n places → take n (told_from bits 0 places) ≡ binding → bit_at bits x ≡ 1 → bound_term (slice_index_or places x bounds.Free) ≡ bound_at binding x
+told_one bits n x places binding by same one = ap (λ b. told b (slice_index_or places x bounds.Free)) (sym one) ∙ sym (at_taken bits n places by.behind x) ∙ ap (λ b. bound_at b x) same
+
+pub told_zero : {A : Type 0} (bits n x : ℕ) (places : List (Bound A)) (binding : List (Option (Value ℕ))) → AreBoundBy bits n places → take n (told_from bits 0 places) ≡ binding → (bit_at bits x ≡ 1 → ⊥) → None ≡ bound_at binding x
+told_zero bits n x places binding by same not_one =
+    ⊎_elim (λ none. ap (λ b. told b (slice_index_or places x bounds.Free)) (sym none) ∙ sym (at_taken bits n places by.behind x) ∙ ap (λ b. bound_at b x) same) (λ one. absurd (not_one one)) (bit_cases bits x)
+
+-- a place more is copied
+pub copy_more : {A : Type 0} (i : ℕ) (places copies : List (Bound A)) (b : Bound A) → i < length copies → b ≡ slice_index_or places i bounds.Free → ((x : ℕ) → x < i → slice_index_or copies x bounds.Free ≡ slice_index_or places x bounds.Free) → (x : ℕ) → x < i + 1 → slice_index_or (slice_set copies i b) x bounds.Free ≡ slice_index_or places x bounds.Free
+copy_more i places copies b within is before x below =
+    elim (x == i) as (λ t. (x == i ≡ t) → slice_index_or (slice_set copies i b) x bounds.Free ≡ slice_index_or places x bounds.Free) [
+      | true ↦ λ e. let same : x ≡ i = true-eqb x i (sym e) in ap (λ y. slice_index_or (slice_set copies i b) y bounds.Free) same ∙ get_or-set_same copies i b bounds.Free within ∙ is ∙ sym (ap (λ y. slice_index_or places y bounds.Free) same)
+      | false ↦ λ e. let other : x ≢ i = grind (arith, nat_tests) in get_or-set_other copies i x b bounds.Free other ∙ before x (omega (arith, below, other))
+    ] refl
+
+-- places that are the same as far as there are variables
+pub bound_copy : {A : Type 0} (bits n : ℕ) (places copies : List (Bound A)) (binding : List (Option (Value ℕ))) → AreBoundBy bits n places → take n (told_from bits 0 places) ≡ binding → length copies ≡ 24 → ((x : ℕ) → x < n → slice_index_or copies x bounds.Free ≡ slice_index_or places x bounds.Free) → AreBoundBy bits n copies × (take n (told_from bits 0 copies) ≡ binding)
+bound_copy bits n places copies binding by same full at = (now, binds_as bits n copies binding now (length_binding bits n places binding by same) (λ x. alike x (bit_cases bits x) ∙ sym (at_taken bits n places by.behind x) ∙ ap (λ b. bound_at b x) same))
+  where
+    within : (x : ℕ) → bit_at bits x ≡ 1 → x < n
+    within x one = ⊎_elim (λ lt. lt) (λ le. (let c : 0 ≡ 1 = sym (by.behind x le) ∙ one in absurd (omega (arith, c)))) (cases_lt x n)
+
+    now : AreBoundBy bits n copies
+    now = record {
+      full = full;
+      within = by.within;
+      behind = by.behind;
+      bound = λ x one. subst (λ b. IsSome (bound_term b)) (sym (at x (within x one))) (by.bound x one);
+    }
+
+    alike : (x : ℕ) → (bit_at bits x ≡ 0) ⊎ (bit_at bits x ≡ 1) → told (bit_at bits x) (slice_index_or copies x bounds.Free) ≡ told (bit_at bits x) (slice_index_or places x bounds.Free)
+    alike x (inl none) = ap (λ b. told b (slice_index_or copies x bounds.Free)) none ∙ sym (ap (λ b. told b (slice_index_or places x bounds.Free)) none)
+    alike x (inr one) = ap (told (bit_at bits x)) (at x (within x one))
+
+-- a write at a variable's place
 pub after_write : {A : Type 0} (bs slice : List (Bound A)) (x at : ℕ) (b : Bound A) → slice ≡ bs → at ≡ x → refill (length bs) bs (slice_set slice at b) ≡ slice_set bs x b
 after_write bs slice x at b same there = ap₂ (λ s y. refill (length bs) bs (slice_set s y b)) same there ∙ take_at (slice_set bs x b) _ (length bs) (length-set bs x b)
 
-pub taken_write : {A : Type 0} (n : ℕ) (places : List (Bound A)) (x : ℕ) (b : Bound A) → x < n → take n (map bound_term (slice_set places x b)) ≡ slice_set (take n (map bound_term places)) x (bound_term b)
-taken_write n places x b lt = ap (take n) (map-set bound_term places x b) ∙ take-set-lt n (map bound_term places) x (bound_term b) lt
+pub bound_write : {A : Type 0} (bits new n x : ℕ) (places : List (Bound A)) (b : Bound A) → AreBoundBy bits n places → x < n → IsSome (bound_term b) → bit_at new x ≡ 1 → ((y : ℕ) → y ≢ x → bit_at new y ≡ bit_at bits y) → AreBoundBy new n (slice_set places x b)
+bound_write bits new n x places b by lt some here others = record {
+  full = length-set places x b ∙ by.full;
+  within = by.within;
+  behind = λ y le. others y (λ e. omega (arith, e, le, lt)) ∙ by.behind y le;
+  bound = λ y one.
+      elim (y == x) as (λ t. (y == x ≡ t) → IsSome (bound_term (slice_index_or (slice_set places x b) y bounds.Free))) [
+        | true ↦ λ e.
+            let same : y ≡ x = true-eqb y x (sym e) in
+            let place : x < length places = omega (arith, lt, by.full, by.within) in
+            subst (λ o. IsSome (bound_term o)) (sym (ap (λ z. slice_index_or (slice_set places x b) z bounds.Free) same ∙ get_or-set_same places x b bounds.Free place)) some
+        | false ↦ λ e.
+            let other : y ≢ x = grind (arith, nat_tests) in
+            subst (λ o. IsSome (bound_term o)) (sym (get_or-set_other places x y b bounds.Free other)) (by.bound y (sym (others y other) ∙ one))
+      ] refl;
+}
+
+pub told_write : {A : Type 0} (bits new n x : ℕ) (places : List (Bound A)) (b : Bound A) (binding : List (Option (Value ℕ))) (by : AreBoundBy bits n places) (same : take n (told_from bits 0 places) ≡ binding) (lt : x < n) (some : IsSome (bound_term b)) (here : bit_at new x ≡ 1) (others : (y : ℕ) → y ≢ x → bit_at new y ≡ bit_at bits y) → take n (told_from new 0 (slice_set places x b)) ≡ slice_set binding x (bound_term b)
+told_write bits new n x places b binding by same lt some here others =
+    binds_as new n (slice_set places x b) (slice_set binding x (bound_term b)) (bound_write bits new n x places b by lt some here others) (length-set binding x (bound_term b) ∙ len) (λ y.
+    elim (y == x) as (λ t. (y == x ≡ t) → told (bit_at new y) (slice_index_or (slice_set places x b) y bounds.Free) ≡ bound_at (slice_set binding x (bound_term b)) y) [
+      | true ↦ λ e.
+          let at : y ≡ x = true-eqb y x (sym e) in
+          let place : x < length places = omega (arith, lt, by.full, by.within) in
+          let within : x < length binding = omega (arith, lt, len) in
+          ap (λ z. told (bit_at new z) (slice_index_or (slice_set places x b) z bounds.Free)) at ∙ ap₂ (λ k v. told k v) here (get_or-set_same places x b bounds.Free place) ∙ sym (ap (bound_at (slice_set binding x (bound_term b))) at ∙ get_or-set_same binding x (bound_term b) None within)
+      | false ↦ λ e.
+          let other : y ≢ x = grind (arith, nat_tests) in
+          ap₂ (λ k v. told k v) (others y other) (get_or-set_other places x y b bounds.Free other) ∙ sym (at_taken bits n places by.behind y) ∙ ap (λ c. bound_at c y) same ∙ sym (get_or-set_other binding x y (bound_term b) None other)
+    ] refl)
+  where
+    len : length binding ≡ n
+    len = length_binding bits n places binding by same
 
 -- a binding is the least valuation that extends it
 pub extends_itself : (binding : List (Option (Value ℕ))) → Extends (bound_at binding) binding
@@ -100,16 +213,52 @@ narrows_as P Q old new e n = record {
 pub narrows_nothing : (P : Valuation → Type 0) (old : List (Option (Value ℕ))) → ((v : Valuation) → P v) → Narrows P old old
 narrows_nothing P old p = record { places = refl; exactly = λ v. (λ h. (h, p v), λ h. h.0) }
 
+-- what is bound stays bound
+pub keeps_itself : (binding : List (Option (Value ℕ))) → Keeps binding binding
+keeps_itself binding = record { places = refl; extends = extends_itself binding }
+
+pub keeps_both : (old mid new : List (Option (Value ℕ))) → Keeps old mid → Keeps mid new → Keeps old new
+keeps_both old mid new k l = record { places = l.places ∙ k.places; extends = λ x t at. l.extends x t (k.extends x t at) }
+
+pub narrows_keeps : (P : Valuation → Type 0) (old new : List (Option (Value ℕ))) → Narrows P old new → Keeps old new
+narrows_keeps P old new n = record { places = n.places; extends = ((n.exactly (bound_at new)).0 (extends_itself new)).0 }
+
+-- A binding that has kept another returns to it: the variables that the other binds are bound to the same.
+pub returns_to : {A : Type 0} (bits known n : ℕ) (places : List (Bound A)) (binding before : List (Option (Value ℕ))) → AreBoundBy bits n places → take n (told_from bits 0 places) ≡ binding → ((x : ℕ) → (bit_at known x ≡ 1) ↔ IsSome (bound_at before x)) → Keeps before binding → AreBoundBy known n places × (take n (told_from known 0 places) ≡ before)
+returns_to bits known n places binding before by same are k = (now, binds_as known n places before now (sym k.places ∙ length_binding bits n places binding by same) (λ x. by_bit x (bit_cases known x)))
+  where
+    stays : (x : ℕ) → bit_at known x ≡ 1 → bit_at bits x ≡ 1
+    stays x one = by_case (bound_at before x) refl ((are x).0 one)
+      where
+        by_case : (o : Option (Value ℕ)) → bound_at before x ≡ o → IsSome o → bit_at bits x ≡ 1
+        by_case (Some t) e some = (known_bits bits n places binding by same x).1 (subst (λ o. IsSome o) (sym (k.extends x t e)) some)
+        by_case None e some = absurd (cc)
+
+    now : AreBoundBy known n places
+    now = record {
+      full = by.full;
+      within = by.within;
+      behind = λ x le. ⊎_elim (λ none. none) (λ one. (let c : 0 ≡ 1 = sym (by.behind x le) ∙ stays x one in absurd (omega (arith, c)))) (bit_cases known x);
+      bound = λ x one. by.bound x (stays x one);
+    }
+
+    by_bit : (x : ℕ) → (bit_at known x ≡ 0) ⊎ (bit_at known x ≡ 1) → told (bit_at known x) (slice_index_or places x bounds.Free) ≡ bound_at before x
+    by_bit x (inl none) = ap (λ b. told b (slice_index_or places x bounds.Free)) none ∙ by_none (bound_at before x) refl
+      where
+        by_none : (o : Option (Value ℕ)) → bound_at before x ≡ o → None ≡ o
+        by_none None e = refl
+        by_none (Some t) e = let c : 0 ≡ 1 = sym none ∙ (are x).1 (subst (λ o. IsSome o) (sym e) refl) in absurd (omega (arith, c))
+    by_bit x (inr one) = ap (λ b. told b (slice_index_or places x bounds.Free)) one ∙ told_one bits n x places binding by same (stays x one) ∙ by_some (bound_at before x) refl ((are x).0 one)
+      where
+        by_some : (o : Option (Value ℕ)) → bound_at before x ≡ o → IsSome o → bound_at binding x ≡ o
+        by_some (Some t) e some = k.extends x t e
+        by_some None e some = absurd (cc)
+
 -- where there is none for a part there is none for the whole
 pub none_after : (P Q R : Valuation → Type 0) (old mid : List (Option (Value ℕ))) → Narrows P old mid → NoneUnder Q mid → ((v : Valuation) → R v → P v × Q v) → NoneUnder R old
 none_after P Q R old mid p n e v h r = let two = e v r in n v ((p.exactly v).1 (h, two.0)) two.1
 
 -- all free
-pub free_at : (n x : ℕ) → bound_at (replicate n None) x ≡ None
-free_at zero x = refl
-free_at (suc n) zero = refl
-free_at (suc n) (suc x) = free_at n x
-
 pub free_extends : (v : Valuation) (n : ℕ) → Extends v (replicate n None)
 free_extends v n x t at = let c : None ≡ Some t = sym (free_at n x) ∙ at in absurd (cc)
 

@@ -1,17 +1,14 @@
 -- Terms compared under a valuation.
-use Rattle.std.proofs.Common.{◌≡◌, ◌≢◌, ◌↔◌, ◌<◌, ◌≤◌, ◌+◌, ℕ, zero, suc, Bool, true, false, IsTrue, if◌then◌else◌, List, [], ◌∷◌, length, drop, map, get_or, Option, Some, None, IsSome, Box, refl, sym, ap, ap₂, ◌∙◌, arith, subst, subst₂}
-use Rattle.std.specs.Prelude.{◌&&◌, nat_le}
+use Rattle.std.proofs.Common.{◌≡◌, ◌↔◌, ◌<◌, ◌≤◌, ◌+◌, ℕ, suc, List, [], ◌∷◌, length, drop, map, get_or, Option, Some, None, Box, refl, sym, ap, ap₂, ◌∙◌, subst₂}
 use Rattle.std.specs.Option.{option_map}
 use Rattle.std.proofs.lemmas.List.{drop_all, length-map}
 use Rattle.chr_value.specs.Atoms.{Value, Comp, Args, Nil, Cons}
-use Rattle.chr_value.specs.Limits.{depth, size}
-use Rattle.chr_value.proofs.Chosen.{some_is}
 use Rattle.chr_rule.specs.Parts.{argument}
 use Rattle.chr_rule.specs.Rules.{Term, terms_of}
 use Rattle.chr_rule.specs.declared.term.Term as code
 use Rattle.chr_rule.specs.declared.term.Term.{Term as CodeTerm}
 use Rattle.chr_rule.specs.declared.term.Open.{Open as CodeOpen}
-use Rattle.chr_guard.specs.Values.{Valuation, both, term_under, terms_under, within_limits, WhereBoth}
+use Rattle.chr_guard.specs.Values.{Valuation, both, term_under, terms_under, WhereBoth}
 use Rattle.chr_guard.proofs.Opened.{argument-parts}
 use Rattle.chr_guard.proofs.Counted.{terms-left}
 

@@ -1,7 +1,7 @@
 -- Left sides of `is` bound one after another.
 use Rattle.std.proofs.Common.{◌≡◌, ℕ, suc, ◌+◌, ◌<◌, ◌≤◌, ℤ, List, [], ◌∷◌, ◌++◌, length, take, drop, get_or, Option, Some, None, IsSome, ◌⊎◌, inl, inr, refl, sym, subst, ap, ◌∙◌, arith}
 use Rattle.std.specs.List.{AllByRecursion}
-use Rattle.std.proofs.lemmas.List.{drop_more, drop_all, take_all, take_more, take-append-drop, append-nil}
+use Rattle.std.proofs.lemmas.List.{drop_more, take_all, take_more, take-append-drop, append-nil}
 use Rattle.std.proofs.lemmas.Bool.{cases_lt, cases_eq}
 use Rattle.chr_value.specs.Atoms.{Value, Int, Atom}
 use Rattle.chr_value.proofs.Chosen.{some_is}
@@ -10,7 +10,7 @@ use Rattle.chr_rule.specs.Scope.{known_after_heads, known_after_body, IsRule}
 use Rattle.chr_guard.specs.Values.{Valuation, value_of}
 use Rattle.chr_guard.specs.Bindings.{bound_at, Extends, Narrows, NoneUnder}
 use Rattle.chr_guard.specs.Instances.{made_under, AreMadeUnder, IsRight, added}
-use Rattle.chr_guard.specs.Matching.{IsOfHeads, Completes, IsBody, IsCompleted}
+use Rattle.chr_guard.specs.Matching.{Completes, IsBody, IsCompleted}
 use Rattle.chr_guard.proofs.Scoped.{scoped, is_known, add_known, body_below}
 use Rattle.chr_guard.proofs.Under.{value_grows, made_grows, made_append, none_made, added_append}
 use Rattle.chr_guard.proofs.Fixed.{Agree, value_agrees, made_agrees}

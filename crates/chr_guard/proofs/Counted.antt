@@ -1,20 +1,15 @@
 -- The room that values of terms leave.
-use Rattle.std.proofs.Common.{◌≡◌, ◌<◌, ◌≤◌, ◌+◌, ◌-◌, ◌↔◌, ℕ, suc, max, Bool, true, false, IsTrue, if◌then◌else◌, List, length, drop, map, get_or, Option, Some, None, IsSome, Box, refl, sym, ap, ap₂, ◌∙◌, arith}
-use Rattle.std.specs.Prelude.{◌&&◌, nat_le}
-use Rattle.std.specs.Option.{option_map}
+use Rattle.std.proofs.Common.{◌≡◌, ◌<◌, ◌≤◌, ◌+◌, ℕ, List, length, drop, map, get_or, Option, Some, None, refl, sym, ap, ◌∙◌, arith}
 use Rattle.std.proofs.lemmas.List.{drop_more, drop_all}
 use Rattle.std.proofs.lemmas.Bool.Decides.{nat_tests}
-use Rattle.chr_value.specs.Atoms.{Value, Comp, Args, Nil, Cons}
+use Rattle.chr_value.specs.Atoms.{Value, Args, Cons}
 use Rattle.chr_value.specs.Limits.{depth, size, args_depth, args_size, left_of}
-use Rattle.chr_value.proofs.Left.{left-more, left-none, left-functor}
+use Rattle.chr_value.proofs.Left.{left-more, left-none}
 use Rattle.chr_rule.specs.Parts.{argument}
 use Rattle.chr_rule.specs.Rules.{terms_of}
-use Rattle.chr_rule.specs.declared.term.Term as code
 use Rattle.chr_rule.specs.declared.term.Term.{Term as CodeTerm}
-use Rattle.chr_rule.specs.declared.term.Open.{Open as CodeOpen}
-use Rattle.chr_guard.specs.Values.{Valuation, both, term_under, terms_under, within_limits}
+use Rattle.chr_guard.specs.Values.{Valuation, both, term_under, terms_under}
 use Rattle.chr_guard.specs.Terms.{left_under, left_under_all}
-use Rattle.chr_guard.proofs.Opened.{argument-parts}
 
 -- the terms that are left, one term less
 pub terms-left : {A : Type 0} (v : Valuation) (ts : List (CodeTerm A)) (i : ℕ) (t : CodeTerm A) → i < length ts → t ≡ get_or ts i t

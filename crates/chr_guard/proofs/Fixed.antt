@@ -4,7 +4,7 @@ use Rattle.std.specs.List.{AllByRecursion, list_all}
 use Rattle.std.specs.Option.{option_map}
 use Rattle.std.proofs.lemmas.Bool.{and_parts}
 use Rattle.std.proofs.lemmas.Bool.Decides.{nat_tests}
-use Rattle.chr_value.specs.Atoms.{Value, Int, Comp, Args, Nil, Cons, Atom}
+use Rattle.chr_value.specs.Atoms.{Value, Int, Comp, Args, Cons, Atom}
 use Rattle.chr_value.proofs.Chosen.{some_is}
 use Rattle.chr_rule.specs.Rules.{Term, Var, Given, Open, Terms, End, And, RuleAtom, Expression, Number, Variable, Operation, Comparison, Compared, Same, Differ, BodyItem, Is, Add, Simpagation}
 use Rattle.chr_rule.specs.Scope.{known_after_term, known_after_terms, known_after_args, known_after_heads, known_after_body, argument_known, arguments_known, expression_known, test_known, IsRule}

@@ -1,8 +1,8 @@
 -- Values made one after another.
-use Rattle.std.proofs.Common.{◌≡◌, ◌<◌, ◌≤◌, ℕ, ◌+◌, List, [], ◌∷◌, ◌++◌, length, map, drop, get_or, Option, Some, None, Box, refl, sym, ap, ◌∙◌}
+use Rattle.std.proofs.Common.{◌≡◌, ◌<◌, ◌≤◌, ℕ, ◌+◌, List, [], ◌∷◌, ◌++◌, length, map, drop, get_or, Option, Some, None, refl, sym, ap, ◌∙◌}
 use Rattle.std.specs.Option.{option_map}
 use Rattle.std.proofs.lemmas.List.{drop_all}
-use Rattle.chr_value.specs.Atoms.{Value, Comp, Args, Nil, Cons, args_of, ground, grounds}
+use Rattle.chr_value.specs.Atoms.{Value, Args, Nil, Cons, args_of, ground, grounds}
 use Rattle.chr_value.specs.declared.value.Value.{Value as CodeValue}
 use Rattle.chr_rule.specs.Parts.{argument}
 use Rattle.chr_rule.specs.Rules.{terms_of}

@@ -1,5 +1,5 @@
 -- Heads, atoms and the bindings that make them equal.
-use Rattle.std.proofs.Common.{◌≡◌, ◌≢◌, ◌↔◌, ℕ, zero, suc, ◌≤◌, ◌+◌, ◌<◌, Bool, true, false, IsTrue, List, [], ◌∷◌, ◌++◌, length, take, drop, map, replicate, get_or, Option, Some, None, IsSome, refl, sym, subst, ap, ap₂, ◌∙◌, arith}
+use Rattle.std.proofs.Common.{◌≡◌, ◌≢◌, ◌↔◌, ℕ, zero, suc, ◌≤◌, ◌+◌, ◌<◌, Bool, true, false, List, [], ◌∷◌, ◌++◌, length, take, drop, map, replicate, get_or, Option, Some, None, IsSome, refl, sym, subst, ap, ap₂, ◌∙◌, arith}
 use Rattle.std.specs.List.{AllByRecursion, list_all}
 use Rattle.std.specs.Prelude.{slice_get}
 use Rattle.std.specs.Option.{option_map}
@@ -15,7 +15,7 @@ use Rattle.chr_guard.specs.Instances.{atom_under}
 use Rattle.chr_guard.specs.Matching.{IsAtHead, AreAtHeads, HeadsAre, IsFit, IsOfHeads}
 use Rattle.chr_guard.proofs.Scoped.{scoped, IsPlaced, heads_below, body_below, args_later}
 use Rattle.chr_guard.proofs.Under.{atom_is, heads_bound}
-use Rattle.chr_guard.proofs.Bindings.{narrows_both, narrows_as, none_after, narrows_nothing, free_extends, extends_itself}
+use Rattle.chr_guard.proofs.Bindings.{narrows_both, narrows_as, none_after, free_extends, extends_itself}
 use Rattle.chr_guard.proofs.Steps.{all_more, all_at, halves}
 
 pub told_as : (P Q : Valuation → Type 0) (told : Bool) (old new : List (Option (Value ℕ))) → ((v : Valuation) → P v ↔ Q v) → NarrowsIf P told old new → NarrowsIf Q told old new

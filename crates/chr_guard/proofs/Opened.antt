@@ -6,7 +6,7 @@ use Rattle.chr_value.specs.Atoms.{Value, Comp, Args, Nil, Cons, args_of, ground,
 use Rattle.chr_value.specs.declared.value.Value.{Value as CodeValue}
 use Rattle.chr_value.specs.declared.value.Comp.{Comp as CodeComp}
 use Rattle.chr_rule.specs.Parts.{argument}
-use Rattle.chr_rule.specs.Rules.{Term, Var, Given, Open, terms_of}
+use Rattle.chr_rule.specs.Rules.{Term, Var, Open, terms_of}
 use Rattle.chr_rule.specs.Scope.{argument_known, arguments_known}
 use Rattle.chr_rule.specs.declared.term.Term as code
 use Rattle.chr_rule.specs.declared.term.Term.{Term as CodeTerm, the_lemmas}

@@ -1,11 +1,11 @@
 -- The atoms that constraints of a rule are under a valuation.
-use Rattle.std.proofs.Common.{◌≡◌, ◌↔◌, ℕ, ◌+◌, ◌<◌, ◌≤◌, suc, true, List, [], ◌∷◌, ◌++◌, length, take, drop, map, get_or, Bool, Option, Some, None, IsSome, ℤ, ◌==◌, false, if◌then◌else◌, true-eqb, subst, refl, sym, ap, ap₂, ◌∙◌, arith}
+use Rattle.std.proofs.Common.{◌≡◌, ◌↔◌, ℕ, ◌+◌, ◌<◌, suc, true, List, [], ◌∷◌, ◌++◌, length, take, drop, map, get_or, Bool, Option, Some, None, IsSome, ℤ, ◌==◌, false, if◌then◌else◌, true-eqb, subst, refl, sym, ap, ap₂, ◌∙◌, arith}
 use Rattle.std.specs.Prelude.{nat_le, ◌&&◌}
 use Rattle.std.specs.Option.{option_map}
 use Rattle.std.proofs.lemmas.Bool.{and_parts}
 use Rattle.std.proofs.lemmas.Bool.Decides.{nat_tests}
 use Rattle.std.proofs.lemmas.List.{map-append, map_more, drop_more, take-append-drop, length-map}
-use Rattle.chr_value.specs.Atoms.{Value, Int, Sym, Comp, Args, Nil, Cons, Atom}
+use Rattle.chr_value.specs.Atoms.{Value, Int, Sym, Comp, Args, Cons, Atom}
 use Rattle.chr_value.specs.Limits.{depth, size, IsWithin}
 use Rattle.chr_value.proofs.Chosen.{some_is}
 use Rattle.chr_rule.specs.Rules.{Term, Var, Given, Open, Terms, End, And, RuleAtom, Expression, Number, Variable, Operation, BodyItem, Is, Add}

@@ -1,18 +1,18 @@
 -- Heads that fit, a guard that holds and a completed body are an instance, and nothing else is.
-use Rattle.std.proofs.Common.{◌≡◌, ℕ, ◌+◌, ◌<◌, Bool, true, false, List, [], ◌∷◌, ◌++◌, length, take, drop, map, get_or, Option, Some, None, IsSome, ◌⊎◌, inl, inr, refl, sym, subst, ap, ◌∙◌, arith}
+use Rattle.std.proofs.Common.{◌≡◌, ℕ, ◌+◌, ◌<◌, Bool, true, false, List, [], ◌∷◌, ◌++◌, length, take, drop, map, get_or, Option, Some, None, sym, subst, ap, ◌∙◌, arith}
 use Rattle.std.specs.Prelude.{MatchOption, Result, Ok, Err, IfOk}
 use Rattle.std.specs.List.{AllByRecursion}
 use Rattle.std.proofs.lemmas.List.{map_more, length-map, take-append-drop, drop_more, map-append}
 use Rattle.chr_value.specs.Atoms.{Value, Atom}
-use Rattle.chr_rule.specs.Rules.{RuleAtom, BodyItem, Is, Add, Simpagation}
+use Rattle.chr_rule.specs.Rules.{RuleAtom, BodyItem, Add, Simpagation}
 use Rattle.chr_rule.specs.Scope.{IsRule}
 use Rattle.chr_guard.specs.Values.{Valuation, Holds}
 use Rattle.chr_guard.specs.Bindings.{bound_at, Extends}
-use Rattle.chr_guard.specs.Instances.{atom_under, made_under, AreUnder, AreMadeUnder, added, IsInstance, NoInstance}
-use Rattle.chr_guard.specs.Matching.{HeadsAre, IsFit, IsOfHeads, Completes, IsBody, IsCompleted, CompletedIf, IsInstanceIf, IsInstanceUnder}
+use Rattle.chr_guard.specs.Instances.{atom_under, made_under, AreMadeUnder, added, IsInstance, NoInstance}
+use Rattle.chr_guard.specs.Matching.{HeadsAre, IsFit, Completes, IsBody, IsCompleted, CompletedIf, IsInstanceIf, IsInstanceUnder}
 use Rattle.chr_guard.proofs.Scoped.{scoped}
 use Rattle.chr_guard.proofs.Under.{somes, under_append, under_parts, made_append, none_made, added_append}
-use Rattle.chr_guard.proofs.Fixed.{Agree, heads_agree, guard_agrees, added_agrees}
+use Rattle.chr_guard.proofs.Fixed.{Agree, heads_agree, guard_agrees}
 use Rattle.chr_guard.proofs.Bindings.{extends_itself, bound_settled}
 use Rattle.chr_guard.proofs.Matched.{fit_binds}
 

@@ -1,8 +1,10 @@
 -- What the variables of a rule are bound to: a list in the order of their numbers.
-use Rattle.std.specs.Prelude.{◌≡◌, ℕ, Bool, true, false, ◌<◌, ◌≤◌, ◌↔◌, List, length, Option, Some, None, IsSome, slice_index_or}
+use Rattle.std.specs.Prelude.{◌≡◌, ℕ, zero, suc, Bool, true, false, ◌<◌, ◌≤◌, ◌↔◌, List, [], ◌∷◌, length, Option, Some, None, IsSome, slice_index_or}
+use Rattle.std.specs.Int.{bit_at}
 use Rattle.chr_value.specs.Atoms.{Value, Int, Sym, ground_comp}
 use Rattle.chr_guard.specs.declared.binding.Bound.{Bound}
 use Rattle.chr_guard.specs.declared.binding.Bound.TheVariants as bounds
+use Rattle.chr_guard.specs.declared.binding.Known.{Known}
 use Rattle.chr_guard.specs.Values.{Valuation}
 
 -- what one variable is bound to
@@ -16,11 +18,22 @@ bound_term (bounds.Compound c) = Some (ground_comp c.now)
 abbrev pub bound_at : List (Option (Value ℕ)) → Valuation
 bound_at binding x = slice_index_or binding x None
 
--- there are 24 places, and those behind the places of this many variables are free
-pub record AreFreeBehind {A : Type 0} (variables : ℕ) (places : List (Bound A)) : Type 0 where
+-- what a variable is bound to, where its bit is 1
+abbrev pub told : {A : Type 0} → ℕ → Bound A → Option (Value ℕ)
+told zero b = None
+told (suc n) b = bound_term b
+
+-- what the variables from one on are bound to, by their bits and their places
+abbrev pub told_from : {A : Type 0} → ℕ → ℕ → List (Bound A) → List (Option (Value ℕ))
+told_from bits x [] = []
+told_from bits x (b ∷ places) = told (bit_at bits x) b ∷ told_from bits (suc x) places
+
+-- There are 24 places. The bits of this many variables say which are bound, and those behind are 0.
+pub record AreBoundBy {A : Type 0} (bits variables : ℕ) (places : List (Bound A)) : Type 0 where
   pub full : length places ≡ 24
   pub within : variables ≤ 24
-  pub free : (x : ℕ) → variables ≤ x → slice_index_or places x bounds.Free ≡ bounds.Free
+  pub behind : (x : ℕ) → variables ≤ x → bit_at bits x ≡ 0
+  pub bound : (x : ℕ) → bit_at bits x ≡ 1 → IsSome (bound_term (slice_index_or places x bounds.Free))
 
 -- the valuation gives each bound variable its value
 abbrev pub Extends : Valuation → List (Option (Value ℕ)) → Type 0
@@ -39,6 +52,15 @@ NoneUnder P old = (v : Valuation) → Extends v old → P v → ⊥
 abbrev pub NarrowsIf : (Valuation → Type 0) → Bool → List (Option (Value ℕ)) → List (Option (Value ℕ)) → Type 0
 NarrowsIf P true old new = Narrows P old new
 NarrowsIf P false old new = NoneUnder P old
+
+-- what the old binding binds is bound to the same in the new one
+pub record Keeps (old new : List (Option (Value ℕ))) : Type 0 where
+  pub places : length new ≡ length old
+  pub extends : Extends (bound_at new) old
+
+-- the variables of these bits are those that are bound
+abbrev pub AreKnown : Known → List (Option (Value ℕ)) → Type 0
+AreKnown known binding = (x : ℕ) → (bit_at known.bits x ≡ 1) ↔ IsSome (bound_at binding x)
 
 -- the first n variables are bound
 abbrev pub AreBound : ℕ → List (Option (Value ℕ)) → Type 0

@@ -1,5 +1,5 @@
 -- When a rule's heads are atoms, and which body it then adds.
-use Rattle.std.specs.Prelude.{◌≡◌, ◌↔◌, ◌<◌, ℕ, ◌++◌, ◌⊎◌, Bool, true, false, List, length, Option, Some, IsSome}
+use Rattle.std.specs.Prelude.{◌≡◌, ◌↔◌, ◌<◌, ℕ, ◌++◌, Bool, true, false, List, length, Option, Some}
 use Rattle.std.specs.List.{AllByRecursion}
 use Rattle.std.specs.Option.{option_map}
 use Rattle.chr_value.specs.Atoms.{Value, Atom}

@@ -1,9 +1,10 @@
 //! What the variables of a rule are bound to.
-ghost use Rattle.std.specs.Prelude.{◌≡◌, ◌≢◌, ◌<◌, ◌≤◌, ◌↔◌, ℕ, IsTrue, Some, None, length, replicate, slice_set};
+ghost use Rattle.std.specs.Prelude.{◌≡◌, ◌≢◌, ◌<◌, ◌≤◌, ◌↔◌, ℕ, List, Option, IsTrue, Some, None, length, replicate, slice_set};
+ghost use Rattle.std.specs.Int.{bit_at};
 ghost use Rattle.std.specs.Option.{option_map};
-ghost use Rattle.chr_value.specs.Atoms.{said, Int};
+ghost use Rattle.chr_value.specs.Atoms.{said, Int, Value};
 ghost use Rattle.chr_guard.specs.Values.{number_in};
-ghost use Rattle.chr_guard.specs.Bindings.{bound_term, bound_at, NarrowsIf};
+ghost use Rattle.chr_guard.specs.Bindings.{bound_term, bound_at, NarrowsIf, Keeps, AreKnown};
 
 use arrayvec::ArrayVec;
 use chr_rule::MOST_VARIABLES;
@@ -76,29 +77,60 @@ impl<'v, A: Allocator> Bound<'v, A> {
     }
 }
 
+/// Which variables of a binding are bound.
+#[derive(Clone, Copy)]
+pub struct Known {
+    /// Bit x is that of variable x.
+    bits: u32,
+}
+
+impl Known {
+    /// Whether a variable is among them.
+    #[inline(always)]
+    fn has(self, variable: u8) -> bool
+        requires { variable < 24 }
+        ensures { IsTrue result ↔ (bit_at self.bits variable ≡ 1) }
+    {
+        (self.bits >> variable) & 1 == 1
+    }
+
+    /// These and one variable more.
+    #[inline(always)]
+    fn with(self, variable: u8) -> Known
+        requires { variable < 24 }
+        ensures here { bit_at result.bits variable ≡ 1 }
+        ensures others { (x : ℕ) → x ≢ variable → bit_at result.bits x ≡ bit_at self.bits x }
+    {
+        Known {
+            bits: self.bits | 1 << variable,
+        }
+    }
+}
+
 /// What the variables of a rule are bound to, at most 24. Numbers and symbols are its own, and compound values lie in the
 /// atoms at the rule's heads. It takes no memory.
 #[derive(Drop)]
 pub struct Binding<'v, A: Allocator> {
-    /// Always full: behind the variables all are free.
+    /// Says nothing of a variable that isn't known.
     bound: ArrayVec<Bound<'v, A>, MOST_VARIABLES>,
+    known: Known,
     variables: usize,
 }
 
 impl<'v, A: Allocator> Model for Binding<'v, A> {
-    ghost use Rattle.std.specs.Prelude.{ℕ, List, Option, map, take};
+    ghost use Rattle.std.specs.Prelude.{ℕ, List, Option, take};
     ghost use Rattle.std.specs.Coded.{codes};
     ghost use Rattle.chr_value.specs.Atoms.{Value as PlainValue};
     ghost use Rattle.chr_value.specs.Code.{value_code};
-    ghost use Rattle.chr_guard.specs.Bindings.{bound_term, AreFreeBehind};
+    ghost use Rattle.chr_guard.specs.Bindings.{told_from, AreBoundBy};
 
     ghost Value = { List (Option (PlainValue ℕ)) };
 
     ghost coded = { Prim.hlevel (codes, value_code) };
 
-    ghost view = { λ b. take b.variables (map bound_term b.bound.items) };
+    ghost view = { λ b. take b.variables (told_from b.known.bits 0 b.bound.items) };
 
-    ghost invariant = { λ b. AreFreeBehind b.variables b.bound.items };
+    ghost invariant = { λ b. AreBoundBy b.known.bits b.variables b.bound.items };
 }
 
 impl<'v, A: Allocator + Copy> Binding<'v, A> {
@@ -109,6 +141,7 @@ impl<'v, A: Allocator + Copy> Binding<'v, A> {
     {
         Binding {
             bound: ArrayVec::from_array_in((), [Bound::Free; MOST_VARIABLES]),
+            known: Known { bits: 0 },
             variables,
         }
     }
@@ -127,10 +160,26 @@ impl<'v, A: Allocator + Copy> Binding<'v, A> {
         requires { variables ≤ 24 }
         ensures { self.new ≡ replicate variables None }
     {
-        for variable in 0..self.variables {
-            self.bound[variable] = Bound::Free;
-        }
+        self.known = Known { bits: 0 };
         self.variables = variables;
+    }
+
+    /// Which variables are bound.
+    #[inline(always)]
+    pub fn known(&self) -> Known
+        ensures { AreKnown result self.now }
+    {
+        self.known
+    }
+
+    /// Becomes again what it was when these were the variables that were bound, all of which it has kept: the others are
+    /// free again.
+    #[inline(always)]
+    pub fn return_to(&mut self, known: Known)
+        requires { (before : List (Option (Value ℕ))) × AreKnown known before × Keeps before self.old }
+        ensures { (before : List (Option (Value ℕ))) → AreKnown known before → Keeps before self.old → self.new ≡ before }
+    {
+        self.known = known;
     }
 
     /// What a variable is bound to.
@@ -138,10 +187,10 @@ impl<'v, A: Allocator + Copy> Binding<'v, A> {
     pub fn at(&self, variable: u8) -> Bound<'v, A>
         ensures { bound_term result ≡ bound_at self.now variable }
     {
-        match self.bound.as_slice().get(usize::from(variable)) {
-            Some(bound) => *bound,
-            None => Bound::Free,
+        if self.variables <= usize::from(variable) || !self.known.has(variable) {
+            return Bound::Free;
         }
+        self.bound[usize::from(variable)]
     }
 
     /// The number that a variable stands for, if it stands for one.
@@ -156,22 +205,25 @@ impl<'v, A: Allocator + Copy> Binding<'v, A> {
     }
 
     /// Binds a variable anew.
-    pub(crate) fn put(&mut self, variable: u8, bound: Bound<'v, A>)
+    #[inline(always)]
+    pub(crate) fn put(&mut self, variable: u8, value: ValueRef<'v, A>)
         requires { variable < length self.old }
-        ensures { self.new ≡ slice_set self.old variable (bound_term bound.entry) }
+        ensures { self.new ≡ slice_set self.old variable (Some (said value.entry)) }
     {
-        self.bound[usize::from(variable)] = bound;
+        self.bound[usize::from(variable)] = Bound::of(value);
+        self.known = self.known.with(variable);
     }
 
     /// Binds a variable to a value. Where it is bound already, answers whether it is bound to this one.
     #[inline(always)]
     pub(crate) fn hold(&mut self, variable: u8, value: ValueRef<'v, A>) -> bool
         requires { variable < length self.old }
-        ensures { NarrowsIf (λ v. v variable ≡ Some (said value.entry)) result self.old self.new }
+        ensures narrows { NarrowsIf (λ v. v variable ≡ Some (said value.entry)) result self.old self.new }
+        ensures keeps { Keeps self.old self.new }
     {
         match self.at(variable) {
             Bound::Free => {
-                self.put(variable, Bound::of(value));
+                self.put(variable, value);
                 true
             }
             bound => bound.is(&value),
@@ -181,11 +233,12 @@ impl<'v, A: Allocator + Copy> Binding<'v, A> {
     /// Binds a variable to a number. Where it is bound already, answers whether it is bound to this one.
     pub(crate) fn bind_number(&mut self, variable: u8, number: i64) -> bool
         requires { variable < length self.old }
-        ensures { NarrowsIf (λ v. v variable ≡ Some (Int number)) result self.old self.new }
+        ensures narrows { NarrowsIf (λ v. v variable ≡ Some (Int number)) result self.old self.new }
+        ensures keeps { Keeps self.old self.new }
     {
         match self.at(variable) {
             Bound::Free => {
-                self.put(variable, Bound::Number(number));
+                self.put(variable, ValueRef::Int(number));
                 true
             }
             bound => bound.is(&ValueRef::Int(number)),
@@ -196,22 +249,12 @@ impl<'v, A: Allocator + Copy> Binding<'v, A> {
     pub fn copy(&self) -> Binding<'v, A>
         ensures { result ≡ self.now }
     {
-        let mut copy = Binding::free(0);
-        copy.set_to(self);
+        let mut copy = Binding::free(self.variables);
+        for variable in 0..self.variables {
+            copy.bound[variable] = self.bound[variable];
+        }
+        copy.known = self.known;
         copy
-    }
-
-    /// Becomes a copy of another. Between bindings of as many variables, only these get copied.
-    #[inline(always)]
-    pub fn set_to(&mut self, other: &Binding<'v, A>)
-        ensures { self.new ≡ other.now }
-    {
-        if self.variables != other.variables {
-            self.reset(other.variables);
-        }
-        for variable in 0..other.variables {
-            self.bound[variable] = other.bound[variable];
-        }
     }
 
     /// A copy with at least this many variables, at most 24: further ones are free.

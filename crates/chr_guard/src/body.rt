@@ -5,7 +5,7 @@ ghost use Rattle.chr_value.specs.Atoms.{Atom, args_of, ground, grounds};
 ghost use Rattle.chr_rule.specs.Parts.{argument, shape};
 ghost use Rattle.chr_rule.specs.Rules.{terms_of};
 ghost use Rattle.chr_guard.specs.Values.{term_under, terms_under, value_under};
-ghost use Rattle.chr_guard.specs.Bindings.{bound_at};
+ghost use Rattle.chr_guard.specs.Bindings.{Keeps, bound_at};
 ghost use Rattle.chr_guard.specs.Instances.{made_under, AreMadeUnder, added};
 ghost use Rattle.chr_guard.specs.Matching.{CompletedIf, IsBody};
 
@@ -139,7 +139,8 @@ pub fn make_atom<A: Allocator + Copy>(
 /// value, or where the variable of an `is` is bound to another.
 pub(crate) fn bind_body<A: Allocator + Copy>(rule: &Rule<A>, binding: &mut Binding<'_, A>) -> bool
     requires { rule.now.variables ≤ length binding.old }
-    ensures { CompletedIf rule.now result binding.old binding.new }
+    ensures completed { CompletedIf rule.now result binding.old binding.new }
+    ensures keeps { Keeps binding.old binding.new }
 {
     for item in rule.body() {
         match item {

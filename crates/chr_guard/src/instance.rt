@@ -1,6 +1,7 @@
 //! Which atoms are an instance of a rule.
 ghost use Rattle.std.specs.Prelude.{List, ℕ, map, IfOk, MatchOption};
 ghost use Rattle.chr_value.specs.Atoms.{Atom};
+ghost use Rattle.chr_guard.specs.Bindings.{Keeps};
 ghost use Rattle.chr_guard.specs.Instances.{IsInstance, NoInstance};
 ghost use Rattle.chr_guard.specs.Matching.{HeadsAre, IsFit, IsInstanceIf, IsInstanceUnder};
 
@@ -17,7 +18,8 @@ use std::alloc::{AllocError, Allocator};
 #[inline(always)]
 pub fn becomes_instance<A: Allocator + Copy>(rule: &Rule<A>, binding: &mut Binding<'_, A>) -> bool
     requires { (facts : List (Atom ℕ)) × IsFit rule.now (HeadsAre rule.now facts) binding.old }
-    ensures { (facts : List (Atom ℕ)) → IsFit rule.now (HeadsAre rule.now facts) binding.old → IsInstanceIf rule.now facts result binding.new }
+    ensures instance { (facts : List (Atom ℕ)) → IsFit rule.now (HeadsAre rule.now facts) binding.old → IsInstanceIf rule.now facts result binding.new }
+    ensures keeps { Keeps binding.old binding.new }
 {
     if !guard_holds(rule, binding) {
         return false;

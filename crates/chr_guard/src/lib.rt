@@ -15,6 +15,9 @@
 //! An argument in a body, and a side of `==` or `\==`, has no value past [`MOST_DEPTH`](chr_value::MOST_DEPTH) or
 //! [`MOST_SIZE`](chr_value::MOST_SIZE). Such values are counted, and none is made to be counted or compared.
 //!
+//! Who tries one atom after another at a head has one binding for all of them: it notes which variables are [`Known`], and
+//! returns the binding to these.
+//!
 //! A [`Settled`] is what is kept of a binding where the atoms can't be borrowed on: numbers, symbols, and where compound
 //! values stand. With the atoms it gives the very same binding.
 //!
@@ -32,7 +35,7 @@ mod settled;
 mod terms;
 mod values;
 
-pub use binding::{Binding, Bound};
+pub use binding::{Binding, Bound, Known};
 pub use matching::{fit, fit_head};
 pub use settled::Settled;
 pub use values::{guard_holds, holds, value};

@@ -5,7 +5,7 @@ ghost use Rattle.chr_value.specs.Atoms.{ground, said};
 ghost use Rattle.chr_rule.specs.Parts.{argument, shape};
 ghost use Rattle.chr_rule.specs.Scope.{argument_known};
 ghost use Rattle.chr_guard.specs.Values.{term_under};
-ghost use Rattle.chr_guard.specs.Bindings.{NarrowsIf};
+ghost use Rattle.chr_guard.specs.Bindings.{Keeps, NarrowsIf};
 ghost use Rattle.chr_guard.specs.Instances.{atom_under};
 ghost use Rattle.chr_guard.specs.Matching.{AreAtHeads, HeadsAre, IsFit};
 
@@ -24,7 +24,8 @@ pub(crate) fn fit_term<'v, A: Allocator + Copy>(
     value: ValueRef<'v, A>,
 ) -> bool
     requires { argument_known (length binding.old) (argument term.now) ≡ true }
-    ensures { NarrowsIf (λ v. term_under v (argument term.now) ≡ Some (said value.entry)) result binding.old binding.new }
+    ensures narrows { NarrowsIf (λ v. term_under v (argument term.now) ≡ Some (said value.entry)) result binding.old binding.new }
+    ensures keeps { Keeps binding.old binding.new }
 {
     match term {
         Term::Var(x) => binding.hold(*x, value),
@@ -49,7 +50,8 @@ fn fit_terms<'v, A: Allocator + Copy>(
     values: &'v [Value<A>],
 ) -> bool
     requires { list_all (argument_known (length binding.old)) (map argument terms.now) ≡ true }
-    ensures { NarrowsIf (λ v. map (term_under v) (map argument terms.now) ≡ map (λ t. Some (ground t)) values.now) result binding.old binding.new }
+    ensures narrows { NarrowsIf (λ v. map (term_under v) (map argument terms.now) ≡ map (λ t. Some (ground t)) values.now) result binding.old binding.new }
+    ensures keeps { Keeps binding.old binding.new }
 {
     if terms.len() != values.len() {
         return false;
@@ -70,7 +72,8 @@ fn fit_args<'v, A: Allocator + Copy>(
     atom: &'v Atom<A>,
 ) -> bool
     requires { list_all (argument_known (length binding.old)) (map argument terms.now) ≡ true }
-    ensures { NarrowsIf (λ v. map (term_under v) (map argument terms.now) ≡ map (λ t. Some t) atom.now.args) result binding.old binding.new }
+    ensures narrows { NarrowsIf (λ v. map (term_under v) (map argument terms.now) ≡ map (λ t. Some t) atom.now.args) result binding.old binding.new }
+    ensures keeps { Keeps binding.old binding.new }
 {
     if terms.len() != atom.arity() {
         return false;
@@ -91,7 +94,8 @@ pub fn fit_head<'v, A: Allocator + Copy>(
     atom: &'v Atom<A>,
 ) -> bool
     requires { list_all (argument_known (length binding.old)) (shape head.now).args ≡ true }
-    ensures { NarrowsIf (λ v. atom_under v (shape head.now) ≡ Some atom.now) result binding.old binding.new }
+    ensures narrows { NarrowsIf (λ v. atom_under v (shape head.now) ≡ Some atom.now) result binding.old binding.new }
+    ensures keeps { Keeps binding.old binding.new }
 {
     let name = atom.name();
     if head.name.number != name.number {

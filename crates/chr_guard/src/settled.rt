@@ -8,7 +8,7 @@ use crate::binding::{Binding, Bound};
 use crate::matching::fit_placed;
 use arrayvec::ArrayVec;
 use chr_rule::{MOST_VARIABLES, Rule};
-use chr_value::{Atom, Name};
+use chr_value::{Atom, Name, ValueRef};
 use std::alloc::Allocator;
 use std::marker::Model;
 
@@ -97,8 +97,8 @@ impl Settled {
     {
         for (variable, mark) in self.marks.as_slice().iter().enumerate() {
             match mark {
-                Mark::Number(n) => binding.put(variable as u8, Bound::Number(*n)),
-                Mark::Symbol(name) => binding.put(variable as u8, Bound::Symbol(*name)),
+                Mark::Number(n) => binding.put(variable as u8, ValueRef::Int(*n)),
+                Mark::Symbol(name) => binding.put(variable as u8, ValueRef::Sym(*name)),
                 _ => {}
             }
         }

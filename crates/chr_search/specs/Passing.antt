@@ -5,6 +5,7 @@ use Rattle.chr_value.specs.Atoms.{Value}
 use Rattle.chr_value.specs.Stores.{atom_at}
 use Rattle.chr_rule.specs.Parts.{shape}
 use Rattle.chr_rule.specs.Rules.{head_at}
+use Rattle.chr_guard.specs.Bindings.{AreKnown, Keeps}
 use Rattle.chr_plan.specs.declared.order.Step.{Step}
 use Rattle.chr_search.specs.declared.judged.Verdict.{Verdict}
 use Rattle.chr_search.specs.declared.judged.Verdict.TheVariants.{Misfit, Part, Whole}
@@ -97,12 +98,19 @@ pub record IsLastHead {Z : Type 0} (j : Join) (ls : List ℕ) (at : LastHead Z) 
   pub head_is : head_at j.rule step.head ≡ Some (shape at.head.now)
   pub last : IsTrue at.is_last ↔ (length j.rule.kept + length j.rule.removed ≤ length ls + 1)
 
--- what the trials of these labels and one more have in common: the binding of the labels, where the last one stands, and
--- perhaps the labels among which it is
-pub record IsLevel {Z : Type 0} (j : Join) (ls : List ℕ) (level : CodeLevel Z) : Type 0 where
-  pub ready : IsReady j ls level.binding.now
+-- what the trials of these labels and one more have in common: which variables the labels bind, where the last
+-- one stands, and perhaps the labels among which it is
+pub record IsLevel {Z : Type 0} (j : Join) (ls : List ℕ) (binding : List (Option (Value ℕ))) (level : CodeLevel Z) : Type 0 where
+  pub known : AreKnown level.known binding
   pub at : IsLastHead j ls level.at
   pub partners : IfSome level.partners (GivePartners j ls)
+
+-- the level of these labels, whose binding this one has kept
+pub record IsLevelUnder {Z : Type 0} (j : Join) (ls : List ℕ) (binding : List (Option (Value ℕ))) (level : CodeLevel Z) : Type 0 where
+  pub before : List (Option (Value ℕ))
+  pub ready : IsReady j ls before
+  pub is : IsLevel j ls before level
+  pub keeps : Keeps before binding
 
 -- where the answer is yes the label may be tried after these and this binds them all, and where it is no it may not, or none
 -- may be tried after it

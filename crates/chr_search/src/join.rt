@@ -1,6 +1,6 @@
 //! The partners of an active label at the heads of a plan.
 ghost use Rattle.std.specs.Prelude.{◌≡◌, ◌↔◌, ℕ, ◌∷◌, ◌++◌, ◌≤◌, [], length, MatchOption, IfSome, IsTrue};
-ghost use Rattle.chr_guard.specs.Bindings.{Narrows, NoneUnder, NarrowsIf};
+ghost use Rattle.chr_guard.specs.Bindings.{Keeps, Narrows, NoneUnder, NarrowsIf};
 ghost use Rattle.chr_rule.specs.Parts.{shape};
 ghost use Rattle.chr_store.specs.Keys.{HasPred, key_of};
 ghost use Rattle.chr_search.specs.Tree.{Least, NoneBeyond};
@@ -47,7 +47,8 @@ impl<'s, A: Allocator + Copy> Join<'s, A> {
     /// them equal, or the label has left the store.
     pub(crate) fn fit_at(&self, binding: &mut Binding<'s, A>, step: Step, label: Label) -> bool
         requires { length binding.old ≡ self.now.rule.now.variables }
-        ensures { NarrowsIf (λ v. StandsAt (join_of self.now) v step label) result binding.old binding.new }
+        ensures narrows { NarrowsIf (λ v. StandsAt (join_of self.now) v step label) result binding.old binding.new }
+        ensures keeps { Keeps binding.old binding.new }
     {
         let Some(head) = self.rule.head(usize::from(step.head)) else {
             return false;

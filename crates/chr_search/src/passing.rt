@@ -1,12 +1,14 @@
 //! Trials in the store that are judged without being made.
-ghost use Rattle.std.specs.Prelude.{◌≡◌, ◌≢◌, ◌↔◌, ◌==◌, ◌≤◌, ◌<◌, ◌∷◌, ◌++◌, [], ℕ, false, length, take, MatchOption, IsTrue};
+ghost use Rattle.std.specs.Prelude.{◌≡◌, ◌≢◌, ◌↔◌, ◌==◌, ◌≤◌, ◌<◌, ◌∷◌, ◌++◌, [], ℕ, List, Option, false, length, take, MatchOption, IsTrue};
 ghost use Rattle.std.specs.List.{list_any};
+ghost use Rattle.chr_value.specs.Atoms.{Value};
+ghost use Rattle.chr_guard.specs.Bindings.{AreKnown, Keeps};
 ghost use Rattle.chr_guard.specs.Matching.{IsFit};
 ghost use Rattle.chr_search.specs.declared.passing.End.TheVariants as ends;
 ghost use Rattle.chr_search.specs.declared.passing.Stop.TheVariants as stops;
 ghost use Rattle.chr_search.specs.Joined.{join_of};
 ghost use Rattle.chr_search.specs.Partners.{HasPlan, IsReady, IsPartnerFrom};
-ghost use Rattle.chr_search.specs.Passing.{IsTrialIn, HasTrials, AreMisfits, PassesIn, EndsIn, IsLastHead, IsLevel, IsAfterPart, IsNarrowedIf, IsTried, ComesNext, settled, IsBelow, EndsBelow, StopsAt};
+ghost use Rattle.chr_search.specs.Passing.{IsTrialIn, HasTrials, AreMisfits, PassesIn, EndsIn, IsLastHead, IsLevel, IsLevelUnder, IsAfterPart, IsNarrowedIf, IsTried, ComesNext, settled, IsBelow, EndsBelow, StopsAt};
 ghost use Rattle.chr_search.specs.Tree.{Grows};
 ghost use Rattle.chr_search.specs.Trials.{Fit, IsInTurn, MayFollow};
 ghost use Rattle.chr_search.specs.Verdicts.{Trial};
@@ -16,7 +18,7 @@ use crate::judged::Verdict;
 use crate::position::put_at;
 use crate::search::Instance;
 use chr_guard::instance::becomes_instance;
-use chr_guard::{Binding, fit_head};
+use chr_guard::{Binding, Known, fit_head};
 use chr_log::{Labels, copy_labels};
 use chr_rule::RuleAtom;
 use chr_store::{Label, Matches};
@@ -50,9 +52,9 @@ struct LastHead<'s, A: Allocator> {
 
 /// Where the labels of trials are looked for that have the same labels but the last.
 #[derive(Drop)]
-struct Level<'l, 's, A: Allocator> {
-    /// What the labels before the last bind.
-    binding: &'l Binding<'s, A>,
+struct Level<'s, A: Allocator> {
+    /// The variables that the labels before the last bind.
+    known: Known,
     at: LastHead<'s, A>,
     /// The labels among which it is. None where the store has no index for them, or it is the active one.
     partners: Option<Matches<'s, A>>,
@@ -147,7 +149,8 @@ impl<'s, A: Allocator + Copy> Join<'s, A> {
     fn narrow_by(&self, labels: &[Label], narrowed: &mut Binding<'s, A>, label: Label) -> bool
         requires plan { HasPlan (join_of self.now) }
         requires ready { IsReady (join_of self.now) labels.now narrowed.old }
-        ensures { IsNarrowedIf (join_of self.now) labels.now label result narrowed.new }
+        ensures narrowed { IsNarrowedIf (join_of self.now) labels.now label result narrowed.new }
+        ensures keeps { Keeps narrowed.old narrowed.new }
     {
         if !self.is_in_turn(labels, label) {
             return false;
@@ -176,13 +179,13 @@ impl<'s, A: Allocator + Copy> Join<'s, A> {
 
     /// What the trials of these labels and one more have in common. None where no label may be tried after these.
     #[inline(always)]
-    fn level<'l>(&self, labels: &[Label], binding: &'l Binding<'s, A>) -> Option<Level<'l, 's, A>>
+    fn level(&self, labels: &[Label], binding: &Binding<'s, A>) -> Option<Level<'s, A>>
         requires plan { HasPlan (join_of self.now) }
         requires ready { IsReady (join_of self.now) labels.now binding.now }
-        ensures { MatchOption result ((x : ℕ) → MayFollow (join_of self.now) labels.now x → ⊥) (IsLevel (join_of self.now) labels.now) }
+        ensures { MatchOption result ((x : ℕ) → MayFollow (join_of self.now) labels.now x → ⊥) (IsLevel (join_of self.now) labels.now binding.now) }
     {
         Some(Level {
-            binding,
+            known: binding.known(),
             at: self.last_head(labels)?,
             partners: self.partners(labels, binding),
         })
@@ -190,16 +193,23 @@ impl<'s, A: Allocator + Copy> Join<'s, A> {
 
     /// The least label from one on at a level.
     #[inline(always)]
-    fn next_at(&self, level: &mut Level<'_, 's, A>, labels: &[Label], from: Label) -> Option<Label>
+    fn next_at(
+        &self,
+        level: &mut Level<'s, A>,
+        labels: &[Label],
+        binding: &Binding<'s, A>,
+        from: Label,
+    ) -> Option<Label>
         requires begins { MayFollow (join_of self.now) [] self.now.view.active }
         requires plan { HasPlan (join_of self.now) }
-        requires level { IsLevel (join_of self.now) labels.now level.old }
+        requires ready { IsReady (join_of self.now) labels.now binding.now }
+        requires level { IsLevel (join_of self.now) labels.now binding.now level.old }
         ensures least { IsPartnerFrom (join_of self.now) labels.now from result }
         ensures same { level.new ≡ level.old }
     {
         match &mut level.partners {
             Some(partners) => partners.next_at(from.saturating_sub(1), self.view.active()),
-            None => self.next_child(labels, level.binding, from),
+            None => self.next_child(labels, binding, from),
         }
     }
 
@@ -216,7 +226,8 @@ impl<'s, A: Allocator + Copy> Join<'s, A> {
         requires at { IsLastHead (join_of self.now) labels.now at }
         requires ready { IsReady (join_of self.now) labels.now narrowed.old }
         requires trial { (t : Trial) × IsTrialIn (join_of self.now) (labels.now ++ label ∷ []) t }
-        ensures { IsTried (join_of self.now) (labels.now ++ label ∷ []) result narrowed.new }
+        ensures tried { IsTried (join_of self.now) (labels.now ++ label ∷ []) result narrowed.new }
+        ensures keeps { Keeps narrowed.old narrowed.new }
     {
         if is_among(labels, label) {
             return Verdict::Misfit;
@@ -236,38 +247,39 @@ impl<'s, A: Allocator + Copy> Join<'s, A> {
         Verdict::Misfit
     }
 
-    /// Passes over the misfits of a level from a label on, at most so many. The binding of the instance becomes that of the
-    /// part or the whole trial that comes next.
+    /// Passes over the misfits of a level from a label on, at most so many. The binding becomes that of the part or the
+    /// whole trial that comes next.
     #[inline(always)]
     fn pass_run(
         &self,
-        level: &mut Level<'_, 's, A>,
+        level: &mut Level<'s, A>,
         from: Label,
         most: u64,
         instance: &mut Instance,
-        bound: &mut Binding<'s, A>,
+        binding: &mut Binding<'s, A>,
     ) -> Run
         requires begins { MayFollow (join_of self.now) [] self.now.view.active }
         requires plan { HasPlan (join_of self.now) }
         requires trials { HasTrials (join_of self.now) }
         requires grows { Grows (MayFollow (join_of self.now)) [] instance.old.labels.items }
-        requires level { IsLevel (join_of self.now) instance.old.labels.items level.old }
+        requires ready { IsReady (join_of self.now) instance.old.labels.items binding.old }
+        requires level { IsLevel (join_of self.now) instance.old.labels.items binding.old level.old }
         ensures few { result.count ≤ most }
         ensures misfits { AreMisfits (join_of self.now) instance.old.labels.items result.count from result.next }
-        ensures then { ComesNext (join_of self.now) instance.old.labels.items result.count most result.next result.then bound.new }
+        ensures then { ComesNext (join_of self.now) instance.old.labels.items result.count most result.next result.then binding.new }
         ensures labels { instance.new.labels ≡ instance.old.labels }
         ensures same { level.new ≡ level.old }
+        ensures keeps { Keeps binding.old binding.new }
     {
         let labels = instance.labels.as_slice();
         let mut count = 0;
         let mut next = from;
         while count < most {
-            let Some(label) = self.next_at(level, labels, next) else {
+            let Some(label) = self.next_at(level, labels, binding, next) else {
                 let then = Next::NoneLeft;
                 return Run { count, next, then };
             };
-            bound.set_to(level.binding);
-            match self.judge_at(level.at, labels, label, bound) {
+            match self.judge_at(level.at, labels, label, binding) {
                 Verdict::Misfit => {}
                 Verdict::Part => {
                     let then = Next::Part(label);
@@ -278,6 +290,7 @@ impl<'s, A: Allocator + Copy> Join<'s, A> {
                     return Run { count, next, then };
                 }
             }
+            binding.return_to(level.known);
             next = label + 1;
             count += 1;
         }
@@ -289,25 +302,27 @@ impl<'s, A: Allocator + Copy> Join<'s, A> {
     #[inline(always)]
     fn pass_level(
         &self,
-        level: &mut Level<'_, 's, A>,
+        level: &mut Level<'s, A>,
         from: Label,
         most: u64,
         place: &mut Labels,
         instance: &mut Instance,
-        bound: &mut Binding<'s, A>,
+        binding: &mut Binding<'s, A>,
     ) -> Stopped
         requires begins { MayFollow (join_of self.now) [] self.now.view.active }
         requires plan { HasPlan (join_of self.now) }
         requires trials { HasTrials (join_of self.now) }
-        requires level { IsLevel (join_of self.now) instance.old.labels.items level.old }
+        requires ready { IsReady (join_of self.now) instance.old.labels.items binding.old }
+        requires level { IsLevel (join_of self.now) instance.old.labels.items binding.old level.old }
         requires below { IsBelow (join_of self.now) instance.old.labels.items place.old.items from }
         ensures few { result.count ≤ most }
         ensures enough { result.stop ≡ stops.End ends.Enough → result.count ≡ most }
         ensures passes { PassesIn (join_of self.now) result.count place.old.items place.new.items }
-        ensures stops { StopsAt (join_of self.now) instance.old.labels.items from result.stop place.new.items instance.new.labels.items bound.new }
+        ensures stops { StopsAt (join_of self.now) instance.old.labels.items from result.stop place.new.items instance.new.labels.items binding.new }
         ensures same { level.new ≡ level.old }
+        ensures keeps { Keeps binding.old binding.new }
     {
-        let run = self.pass_run(level, from, most, instance, bound);
+        let run = self.pass_run(level, from, most, instance, binding);
         let depth = instance.labels.len();
         settle(place, depth, run.count, run.next);
         let (count, stop) = match run.then {
@@ -330,22 +345,22 @@ impl<'s, A: Allocator + Copy> Join<'s, A> {
     #[cycle(below)]
     fn pass_below(
         &self,
-        binding: &Binding<'s, A>,
         from: Label,
         most: u64,
         place: &mut Labels,
         instance: &mut Instance,
-        bound: &mut Binding<'s, A>,
+        binding: &mut Binding<'s, A>,
     ) -> Passed
         requires begins { MayFollow (join_of self.now) [] self.now.view.active }
         requires plan { HasPlan (join_of self.now) }
         requires trials { HasTrials (join_of self.now) }
-        requires ready { IsReady (join_of self.now) instance.old.labels.items binding.now }
+        requires ready { IsReady (join_of self.now) instance.old.labels.items binding.old }
         requires below { IsBelow (join_of self.now) instance.old.labels.items place.old.items from }
         ensures few { result.count ≤ most }
         ensures enough { result.end ≡ ends.Enough → result.count ≡ most }
         ensures passes { PassesIn (join_of self.now) result.count place.old.items place.new.items }
-        ensures ends { EndsBelow (join_of self.now) instance.old.labels.items place.new.items result.end instance.new.labels.items bound.new }
+        ensures ends { EndsBelow (join_of self.now) instance.old.labels.items place.new.items result.end instance.new.labels.items binding.new }
+        ensures keeps { Keeps binding.old binding.new }
     {
         let Some(mut level) = self.level(instance.labels.as_slice(), binding) else {
             return Passed {
@@ -354,11 +369,11 @@ impl<'s, A: Allocator + Copy> Join<'s, A> {
             };
         };
         let Stopped { count, stop } = self.pass_level(
-            &mut level, from, most, place, instance, bound,
+            &mut level, from, most, place, instance, binding,
         );
         match stop {
             Stop::Part(label) => {
-                let more = self.pass_parts(level, label, most - count, place, instance, bound);
+                let more = self.pass_parts(level, label, most - count, place, instance, binding);
                 Passed {
                     count: count + more.count,
                     end: more.end,
@@ -372,31 +387,30 @@ impl<'s, A: Allocator + Copy> Join<'s, A> {
     #[cycle(below)]
     fn pass_parts(
         &self,
-        mut level: Level<'_, 's, A>,
+        mut level: Level<'s, A>,
         part: Label,
         most: u64,
         place: &mut Labels,
         instance: &mut Instance,
-        bound: &mut Binding<'s, A>,
+        binding: &mut Binding<'s, A>,
     ) -> Passed
         requires begins { MayFollow (join_of self.now) [] self.now.view.active }
         requires plan { HasPlan (join_of self.now) }
         requires trials { HasTrials (join_of self.now) }
         requires grows { Grows (MayFollow (join_of self.now)) [] instance.old.labels.items }
-        requires level { IsLevel (join_of self.now) instance.old.labels.items level }
-        requires part { IsAfterPart (join_of self.now) instance.old.labels.items part place.old.items bound.old }
+        requires level { IsLevelUnder (join_of self.now) instance.old.labels.items binding.old level }
+        requires part { IsAfterPart (join_of self.now) instance.old.labels.items part place.old.items binding.old }
         ensures few { result.count ≤ most }
         ensures enough { result.end ≡ ends.Enough → result.count ≡ most }
         ensures passes { PassesIn (join_of self.now) result.count place.old.items place.new.items }
-        ensures ends { EndsBelow (join_of self.now) instance.old.labels.items place.new.items result.end instance.new.labels.items bound.new }
+        ensures ends { EndsBelow (join_of self.now) instance.old.labels.items place.new.items result.end instance.new.labels.items binding.new }
+        ensures keeps { (before : List (Option (Value ℕ))) → AreKnown level.entry.known before → Keeps before binding.old → Keeps before binding.new }
     {
-        let mut narrowed = Binding::free(0);
         let mut label = part;
         let mut count = 0;
         loop {
-            narrowed.set_to(bound);
             instance.labels.push(label);
-            let below = self.pass_below(&narrowed, 0, most - count, place, instance, bound);
+            let below = self.pass_below(0, most - count, place, instance, binding);
             count += below.count;
             if below.end != End::NoneLeft {
                 return Passed {
@@ -405,14 +419,9 @@ impl<'s, A: Allocator + Copy> Join<'s, A> {
                 };
             }
             instance.labels.pop();
-            let beside = self.pass_level(
-                &mut level,
-                label + 1,
-                most - count,
-                place,
-                instance,
-                bound,
-            );
+            binding.return_to(level.known);
+            let from = label + 1;
+            let beside = self.pass_level(&mut level, from, most - count, place, instance, binding);
             count += beside.count;
             label = match beside.stop {
                 Stop::Part(label) => label,
@@ -424,30 +433,30 @@ impl<'s, A: Allocator + Copy> Join<'s, A> {
     /// Passes over the trials of the instance's labels and more at or after a place, at most so many.
     fn pass_on(
         &self,
-        binding: &Binding<'s, A>,
         rest: &[Label],
         most: u64,
         place: &mut Labels,
         instance: &mut Instance,
-        bound: &mut Binding<'s, A>,
+        binding: &mut Binding<'s, A>,
     ) -> Passed
         requires begins { MayFollow (join_of self.now) [] self.now.view.active }
         requires plan { HasPlan (join_of self.now) }
         requires trials { HasTrials (join_of self.now) }
-        requires ready { IsReady (join_of self.now) instance.old.labels.items binding.now }
+        requires ready { IsReady (join_of self.now) instance.old.labels.items binding.old }
         requires grows { Grows (MayFollow (join_of self.now)) [] instance.old.labels.items }
         requires first { rest.now ≡ [] → instance.old.labels.items ≡ [] }
         requires place { place.old.items ≡ instance.old.labels.items ++ rest.now }
         ensures few { result.count ≤ most }
         ensures enough { result.end ≡ ends.Enough → result.count ≡ most }
         ensures passes { PassesIn (join_of self.now) result.count place.old.items place.new.items }
-        ensures ends { EndsBelow (join_of self.now) instance.old.labels.items place.new.items result.end instance.new.labels.items bound.new }
+        ensures ends { EndsBelow (join_of self.now) instance.old.labels.items place.new.items result.end instance.new.labels.items binding.new }
+        ensures keeps { Keeps binding.old binding.new }
     {
         let Some((first, below)) = rest.split_first() else {
-            return self.pass_below(binding, 0, most, place, instance, bound);
+            return self.pass_below(0, most, place, instance, binding);
         };
         if below.is_empty() {
-            return self.pass_below(binding, *first, most, place, instance, bound);
+            return self.pass_below(*first, most, place, instance, binding);
         }
         if *first > self.view.active() {
             return Passed {
@@ -456,17 +465,19 @@ impl<'s, A: Allocator + Copy> Join<'s, A> {
             };
         }
         let from = *first + 1;
-        let mut next = binding.copy();
-        if !self.narrow_by(instance.labels.as_slice(), &mut next, *first) {
-            return self.pass_below(binding, from, most, place, instance, bound);
+        let known = binding.known();
+        if !self.narrow_by(instance.labels.as_slice(), binding, *first) {
+            binding.return_to(known);
+            return self.pass_below(from, most, place, instance, binding);
         }
         instance.labels.push(*first);
-        let passed = self.pass_on(&next, below, most, place, instance, bound);
+        let passed = self.pass_on(below, most, place, instance, binding);
         if passed.end != End::NoneLeft {
             return passed;
         }
         instance.labels.pop();
-        let more = self.pass_below(binding, from, most - passed.count, place, instance, bound);
+        binding.return_to(known);
+        let more = self.pass_below(from, most - passed.count, place, instance, binding);
         Passed {
             count: passed.count + more.count,
             end: more.end,
@@ -480,7 +491,7 @@ impl<'s, A: Allocator + Copy> Join<'s, A> {
         at: LastHead<'s, A>,
         place: &mut Labels,
         instance: &mut Instance,
-        bound: &mut Binding<'s, A>,
+        binding: &mut Binding<'s, A>,
     ) -> Passed
         requires begins { MayFollow (join_of self.now) [] self.now.view.active }
         requires trials { HasTrials (join_of self.now) }
@@ -490,11 +501,11 @@ impl<'s, A: Allocator + Copy> Join<'s, A> {
         ensures few { result.count ≤ 1 }
         ensures over { result.end ≢ ends.Enough }
         ensures passes { PassesIn (join_of self.now) result.count place.old.items place.new.items }
-        ensures ends { EndsIn (join_of self.now) place.new.items result.end instance.new.labels.items bound.new }
+        ensures ends { EndsIn (join_of self.now) place.new.items result.end instance.new.labels.items binding.new }
     {
         let active = self.view.active();
-        bound.reset(self.rule.variables());
-        match self.judge_at(at, &[], active, bound) {
+        binding.reset(self.rule.variables());
+        match self.judge_at(at, &[], active, binding) {
             Verdict::Misfit => {
                 place.push(active + 1);
                 Passed {
@@ -518,10 +529,9 @@ impl<'s, A: Allocator + Copy> Join<'s, A> {
     fn pass_first(
         &self,
         most: u64,
-        spare: &mut Binding<'s, A>,
         place: &mut Labels,
         instance: &mut Instance,
-        bound: &mut Binding<'s, A>,
+        binding: &mut Binding<'s, A>,
     ) -> Passed
         requires begins { MayFollow (join_of self.now) [] self.now.view.active }
         requires plan { HasPlan (join_of self.now) }
@@ -530,7 +540,7 @@ impl<'s, A: Allocator + Copy> Join<'s, A> {
         ensures few { result.count ≤ most }
         ensures enough { result.end ≡ ends.Enough → result.count ≡ most }
         ensures passes { PassesIn (join_of self.now) result.count place.old.items place.new.items }
-        ensures ends { EndsIn (join_of self.now) place.new.items result.end instance.new.labels.items bound.new }
+        ensures ends { EndsIn (join_of self.now) place.new.items result.end instance.new.labels.items binding.new }
     {
         let Some(at) = self.last_head(&[]) else {
             return Passed {
@@ -545,11 +555,11 @@ impl<'s, A: Allocator + Copy> Join<'s, A> {
             };
         }
         if at.is_last {
-            return self.pass_only(at, place, instance, bound);
+            return self.pass_only(at, place, instance, binding);
         }
         let active = self.view.active();
-        spare.reset(self.rule.variables());
-        match self.judge_at(at, &[], active, spare) {
+        binding.reset(self.rule.variables());
+        match self.judge_at(at, &[], active, binding) {
             Verdict::Misfit => {
                 place.push(active + 1);
                 Passed {
@@ -562,7 +572,7 @@ impl<'s, A: Allocator + Copy> Join<'s, A> {
                 put_at(&mut instance.labels, 0, active);
                 place.push(active);
                 place.push(0);
-                let below = self.pass_below(spare, 0, most - 1, place, instance, bound);
+                let below = self.pass_below(0, most - 1, place, instance, binding);
                 Passed {
                     count: 1 + below.count,
                     end: below.end,
@@ -577,7 +587,7 @@ impl<'s, A: Allocator + Copy> Join<'s, A> {
         most: u64,
         place: &mut Labels,
         instance: &mut Instance,
-        bound: &mut Binding<'s, A>,
+        binding: &mut Binding<'s, A>,
     ) -> Passed
         requires begins { MayFollow (join_of self.now) [] self.now.view.active }
         requires plan { HasPlan (join_of self.now) }
@@ -585,25 +595,23 @@ impl<'s, A: Allocator + Copy> Join<'s, A> {
         ensures few { result.count ≤ most }
         ensures enough { result.end ≡ ends.Enough → result.count ≡ most }
         ensures passes { PassesIn (join_of self.now) result.count place.old.items place.new.items }
-        ensures ends { EndsIn (join_of self.now) place.new.items result.end instance.new.labels.items bound.new }
+        ensures ends { EndsIn (join_of self.now) place.new.items result.end instance.new.labels.items binding.new }
     {
         instance.labels.clear();
-        let free = Binding::free(self.rule.variables());
+        binding.reset(self.rule.variables());
         let rest = copy_labels(place);
-        self.pass_on(&free, rest.as_slice(), most, place, instance, bound)
+        self.pass_on(rest.as_slice(), most, place, instance, binding)
     }
 
     /// Passes over the trials at or after a place up to one that is whole, at most so many. The place becomes that at which
-    /// the search goes on; where it ends before a trial that is whole, `instance` becomes that one. `spare` is for its own
-    /// use: a binding costs more to make than to set.
+    /// the search goes on; where it ends before a trial that is whole, `instance` becomes that one.
     #[inline(always)]
     pub(crate) fn pass(
         &self,
         place: &mut Labels,
         most: u64,
-        spare: &mut Binding<'s, A>,
         instance: &mut Instance,
-        bound: &mut Binding<'s, A>,
+        binding: &mut Binding<'s, A>,
     ) -> Passed
         requires begins { MayFollow (join_of self.now) [] self.now.view.active }
         requires plan { HasPlan (join_of self.now) }
@@ -611,11 +619,11 @@ impl<'s, A: Allocator + Copy> Join<'s, A> {
         ensures few { result.count ≤ most }
         ensures enough { result.end ≡ ends.Enough → result.count ≡ most }
         ensures passes { PassesIn (join_of self.now) result.count place.old.items place.new.items }
-        ensures ends { EndsIn (join_of self.now) place.new.items result.end instance.new.labels.items bound.new }
+        ensures ends { EndsIn (join_of self.now) place.new.items result.end instance.new.labels.items binding.new }
     {
         if place.is_empty() {
-            return self.pass_first(most, spare, place, instance, bound);
+            return self.pass_first(most, place, instance, binding);
         }
-        self.pass_from(most, place, instance, bound)
+        self.pass_from(most, place, instance, binding)
     }
 }

@@ -385,7 +385,6 @@ impl Search {
         join: &Join<'s, A>,
         walk: &Walk,
         most: u64,
-        spare: &mut Binding<'s, A>,
         instance: &mut Instance,
         bound: &mut Binding<'s, A>,
     ) -> passing::Passed
@@ -400,10 +399,10 @@ impl Search {
         ensures passed { PassesPlan (join_of join.now) walk.now.rule walk.now.head self.old.place result.count self.new.place result.end instance.new.labels.items bound.new }
     {
         if self.position.rule == walk.rule && self.position.head == walk.head {
-            return join.pass(&mut self.position.labels, most, spare, instance, bound);
+            return join.pass(&mut self.position.labels, most, instance, bound);
         }
         let mut labels = Labels::new();
-        let passed = join.pass(&mut labels, most, spare, instance, bound);
+        let passed = join.pass(&mut labels, most, instance, bound);
         if passed.count > 0 {
             self.position.rule = walk.rule;
             self.position.head = walk.head;
@@ -434,7 +433,6 @@ impl Search {
     {
         // For the proof: the labels of a store are at most the greatest.
         let _given = view.active();
-        let mut spare = Binding::free(0);
         let mut walk = Walk {
             rule: self.position.rule,
             head: self.position.head,
@@ -442,7 +440,7 @@ impl Search {
         };
         let mut count = 0;
         while let Some(join) = Search::next_join(program, plans, view, atom, &mut walk) {
-            let passed = self.pass_in_plan(&join, &walk, most - count, &mut spare, instance, bound);
+            let passed = self.pass_in_plan(&join, &walk, most - count, instance, bound);
             count += passed.count;
             match passed.end {
                 End::NoneLeft => walk.head += 1,

@@ -1,6 +1,6 @@
 use Rattle.std.proofs.Common.{◌≡◌, Some, length, sym, ap, subst, ◌∙◌, arith}
 use Rattle.chr_rule.specs.Parts.{shape}
-use Rattle.chr_guard.specs.Bindings.{Narrows}
+use Rattle.chr_guard.specs.Bindings.{Extends, Narrows}
 use Rattle.chr_guard.specs.Instances.{atom_under}
 use Rattle.chr_guard.proofs.Scoped.{IsPlaced}
 use Rattle.chr_guard.proofs.Bindings.{narrows_as}
@@ -19,4 +19,10 @@ returns g c =
     let s = shape c.in_ok-head.head.now in
     let a = c.args.atom.now in
     subst (λ old. Narrows (HeadIs c.args.rule.now c.args.number a) old c.fit_head.new.binding) c.copy-next.ensures
-    (narrows_as (λ v. atom_under v s ≡ Some a) (HeadIs c.args.rule.now c.args.number a) c.copy-next.result c.fit_head.new.binding (head_is c.args.rule.now c.args.number s a (sym c.in_ok-head.ensures.head)) c.if-not-fit_head.ensures)
+    (narrows_as (λ v. atom_under v s ≡ Some a) (HeadIs c.args.rule.now c.args.number a) c.copy-next.result c.fit_head.new.binding (head_is c.args.rule.now c.args.number s a (sym c.in_ok-head.ensures.head)) c.if-not-fit_head.ensures.narrows)
+
+pub returns-then-not-fit_head : goal.returns-then-not-fit_head
+returns-then-not-fit_head g c v extends is =
+    let s = shape c.in_ok-head.head.now in
+    let a = c.args.atom.now in
+    c.if-not-fit_head.ensures.narrows v (subst (Extends v) (sym c.copy-next.ensures) extends) ((head_is c.args.rule.now c.args.number s a (sym c.in_ok-head.ensures.head) v).1 is)

@@ -9,9 +9,9 @@ returns g c =
     let new = c.bind_body.new.binding in
     if_ok_as c.added_atoms.result
     (λ made. carried_on made
-    (no_arguments rule binding all c.widened-all.ensures.same new c.if-not-bind_body.ensures)
-    (λ atoms is. is_body rule binding all c.widened-all.ensures.same new atoms.items c.if-not-bind_body.ensures is))
+    (no_arguments rule binding all c.widened-all.ensures.same new c.if-not-bind_body.ensures.completed)
+    (λ atoms is. is_body rule binding all c.widened-all.ensures.same new atoms.items c.if-not-bind_body.ensures.completed is))
     c.added_atoms.ensures
 
 pub returns-then-not-bind_body : goal.returns-then-not-bind_body
-returns-then-not-bind_body g c = no_body c.args.rule.now c.args.binding.now c.widened-all.result c.widened-all.ensures.same c.if-not-bind_body.ensures
+returns-then-not-bind_body g c = no_body c.args.rule.now c.args.binding.now c.widened-all.result c.widened-all.ensures.same c.if-not-bind_body.ensures.completed

@@ -5,10 +5,10 @@ use Rattle.chr_guard.proofs.instance.becomes_instance.Goals as goal
 pub bind_body-requires : goal.bind_body-requires
 bind_body-requires g c = let len : length c.args.binding.now ≡ c.args.rule.now.variables = c.requires.1.places in omega arith
 
-pub returns : goal.returns
-returns g c facts fit =
-    becomes_if c.args.rule.now c.guard_holds.ensures.valid facts c.bind_body.result c.args.binding.now c.bind_body.new.binding fit (c.if-not-guard_holds.ensures.holds.0 refl) c.bind_body.ensures
+pub returns-clause-instance : goal.returns-clause-instance
+returns-clause-instance g c facts fit =
+    becomes_if c.args.rule.now c.guard_holds.ensures.valid facts c.bind_body.result c.args.binding.now c.bind_body.new.binding fit (c.if-not-guard_holds.ensures.holds.0 refl) c.bind_body.ensures.completed
 
-pub returns-then-not-guard_holds : goal.returns-then-not-guard_holds
-returns-then-not-guard_holds g c facts fit =
+pub returns-then-not-guard_holds-clause-instance : goal.returns-then-not-guard_holds-clause-instance
+returns-then-not-guard_holds-clause-instance g c facts fit =
     no_guard c.args.rule.now c.guard_holds.ensures.valid facts c.args.binding.now fit (λ h. (let z : false ≡ true = c.if-not-guard_holds.ensures.holds.1 h in absurd (cc)))

@@ -10,11 +10,12 @@ use Rattle.chr_guard.proofs.Steps.{list_all_at, map_read, read_more, read_stop, 
 use Rattle.chr_guard.proofs.Weights.{term_weight, weights, weight-at}
 use Rattle.chr_guard.proofs.Opened.{argument-Var, known-parts, weight-parts, under-open}
 use Rattle.chr_guard.proofs.Matched.{told_as}
+use Rattle.chr_guard.proofs.Bindings.{keeps_both, narrows_keeps}
 use Rattle.chr_guard.proofs.matching.+fit.Goals as goal
 
-pub fit_term-returns-in-Var : goal.fit_term-returns-in-Var
-fit_term-returns-in-Var g t c =
-    subst (λ u. NarrowsIf (λ v. term_under v u ≡ Some (said c.args.value)) c.hold.result c.args.binding.now c.hold.new.self) (sym (ap argument c.in-Var.is ∙ argument-Var _ c.in-Var.x)) c.hold.ensures
+pub fit_term-returns-in-Var-clause-narrows : goal.fit_term-returns-in-Var-clause-narrows
+fit_term-returns-in-Var-clause-narrows g t c =
+    subst (λ u. NarrowsIf (λ v. term_under v u ≡ Some (said c.args.value)) c.hold.result c.args.binding.now c.hold.new.self) (sym (ap argument c.in-Var.is ∙ argument-Var _ c.in-Var.x)) c.hold.ensures.narrows
 
 pub fit_term-fit_terms-requires : goal.fit_term-fit_terms-requires
 fit_term-fit_terms-requires g t c κs within =
@@ -24,14 +25,14 @@ fit_term-fit_terms-requires g t c κs within =
     let less : 2 * weights (map argument ts) + 1 < 2 * term_weight (argument c.args.term.now) = omega (arith, weighs) in
     (subst (λ n. 2 * weights (map argument ts) + 1 < n) c.decreases less, (within, (omega arith, known-parts (length c.args.binding.now) _ c.in-Open.open ts c.in-Open.is are c.requires)))
 
-pub fit_term-returns-else-deref-comp : goal.fit_term-returns-else-deref-comp
-fit_term-returns-else-deref-comp g t c =
+pub fit_term-returns-else-deref-comp-clause-narrows : goal.fit_term-returns-else-deref-comp-clause-narrows
+fit_term-returns-else-deref-comp-clause-narrows g t c =
     let says : said c.args.value ≡ ground_comp c.in-Comp.comp.now = ap said c.in-Comp.is in
     let opens = λ (v : Valuation). under-open v c.args.term.now c.in-Open.open c.in-Comp.comp.now c.deref-in-Comp-2.result.now c.deref-in-Comp-3.result.now c.in-Open.is
     (ap (λ (k : CodeOpen _). k.functor.number) (sym c.deref.ensures) ∙ c.if-deref-comp.false)
     (c.deref-in-Comp-2.ensures.value ∙ ap (λ (k : CodeOpen _). k.args.items) c.deref-in-Comp.ensures) c.deref-in-Comp-3.ensures.value in
     told_as (λ v. map (term_under v) (map argument c.deref-in-Comp-2.result.now) ≡ map (λ t. Some (ground t)) c.deref-in-Comp-3.result.now) (λ v. term_under v (argument c.args.term.now) ≡ Some (said c.args.value)) c.fit_terms.result c.args.binding.now c.fit_terms.new.binding
-    (λ v. (λ h. (opens v).0 h ∙ ap (λ x. Some x) (sym says), λ h. (opens v).1 (h ∙ ap (λ x. Some x) says))) c.fit_terms.ensures
+    (λ v. (λ h. (opens v).0 h ∙ ap (λ x. Some x) (sym says), λ h. (opens v).1 (h ∙ ap (λ x. Some x) says))) c.fit_terms.ensures.narrows
 
 pub fit_terms-fit_term-requires : goal.fit_terms-fit_term-requires
 fit_terms-fit_term-requires g t c κs within =
@@ -46,22 +47,28 @@ fit_terms-fit_term-requires g t c κs within =
     let less : 2 * term_weight (argument term) < 2 * weights (map argument terms) + 1 = omega (arith, le) in
     (subst (λ m. 2 * term_weight (argument term) < m) c.decreases less, (within, (omega arith, ap (λ m. argument_known m (argument term)) c.loop-i.invariant.places ∙ ap (argument_known n) same ∙ known)))
 
-pub fit_terms-returns-then-not-fit_term : goal.fit_terms-returns-then-not-fit_term
-fit_terms-returns-then-not-fit_term g t c =
+pub fit_terms-returns-then-not-fit_term-clause-narrows : goal.fit_terms-returns-then-not-fit_term-clause-narrows
+fit_terms-returns-then-not-fit_term-clause-narrows g t c =
     let left : c.loop-i.i < length c.args.terms.now = omega arith in
     let right : c.loop-i.i < length c.args.values.now = omega arith in
     read_stop term_under argument (λ t. Some (ground t)) c.args.terms.now c.args.values.now c.loop-i.i _ _ left right c.index-terms-i.is c.index-values-i.is c.args.binding.now c.loop-i.binding c.loop-i.invariant
-    (subst (λ a. NoneUnder (λ v. term_under v (argument c.index-terms-i.result) ≡ Some a) c.loop-i.binding) c.as_ref.ensures (c.if-not-fit_term.ensures))
+    (subst (λ a. NoneUnder (λ v. term_under v (argument c.index-terms-i.result) ≡ Some a) c.loop-i.binding) c.as_ref.ensures (c.if-not-fit_term.ensures.narrows))
 
 pub fit_terms-loop-i-preserved : goal.fit_terms-loop-i-preserved
 fit_terms-loop-i-preserved g t c =
     let left : c.loop-i.i < length c.args.terms.now = omega arith in
     let right : c.loop-i.i < length c.args.values.now = omega arith in
     read_more term_under argument (λ t. Some (ground t)) c.args.terms.now c.args.values.now c.loop-i.i _ _ left right c.index-terms-i.is c.index-values-i.is c.args.binding.now c.loop-i.binding c.fit_term.new.binding c.loop-i.invariant
-    (subst (λ a. Narrows (λ v. term_under v (argument c.index-terms-i.result) ≡ Some a) c.loop-i.binding c.fit_term.new.binding) c.as_ref.ensures (c.if-not-fit_term.ensures))
+    (subst (λ a. Narrows (λ v. term_under v (argument c.index-terms-i.result) ≡ Some a) c.loop-i.binding c.fit_term.new.binding) c.as_ref.ensures (c.if-not-fit_term.ensures.narrows))
 
-pub fit_terms-returns : goal.fit_terms-returns
-fit_terms-returns g t c =
+pub fit_terms-returns-clause-narrows : goal.fit_terms-returns-clause-narrows
+fit_terms-returns-clause-narrows g t c =
     let left : length c.args.terms.now ≤ c.loop-i.i = omega arith in
     let right : length c.args.values.now ≤ c.loop-i.i = omega arith in
     read_end term_under argument (λ t. Some (ground t)) c.args.terms.now c.args.values.now c.loop-i.i c.args.binding.now c.loop-i.binding left right c.loop-i.invariant
+
+pub fit_terms-returns-then-not-fit_term-clause-keeps : goal.fit_terms-returns-then-not-fit_term-clause-keeps
+fit_terms-returns-then-not-fit_term-clause-keeps g t c = keeps_both c.args.binding.now c.loop-i.binding c.fit_term.new.binding (narrows_keeps _ c.args.binding.now c.loop-i.binding c.loop-i.invariant) c.fit_term.ensures.keeps
+
+pub fit_terms-returns-clause-keeps : goal.fit_terms-returns-clause-keeps
+fit_terms-returns-clause-keeps g t c = narrows_keeps _ c.args.binding.now c.loop-i.binding c.loop-i.invariant

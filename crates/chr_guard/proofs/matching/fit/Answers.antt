@@ -1,4 +1,4 @@
-use Rattle.std.proofs.Common.{◌≡◌, length, map, replicate, None, ap, sym, subst, ◌∙◌, arith}
+use Rattle.std.proofs.Common.{length, map, replicate, None, ap, subst, ◌∙◌, arith}
 use Rattle.std.proofs.lemmas.List.{length-replicate}
 use Rattle.chr_guard.specs.Bindings.{Narrows, NoneUnder}
 use Rattle.chr_guard.specs.Matching.{AreAtHeads}

@@ -18,13 +18,13 @@ pub returns-then-not-fit_head : goal.returns-then-not-fit_head
 returns-then-not-fit_head g c =
     let left : c.loop-i.i < length c.args.heads.now = omega arith in
     let right : c.loop-i.i < length c.args.atoms.now = omega arith in
-    read_stop atom_under shape (λ a. Some a.now) c.args.heads.now c.args.atoms.now c.loop-i.i c.index-heads-i.result c.index-atoms-i.result left right c.index-heads-i.is c.index-atoms-i.is c.args.binding.now c.loop-i.binding c.loop-i.invariant (c.if-not-fit_head.ensures)
+    read_stop atom_under shape (λ a. Some a.now) c.args.heads.now c.args.atoms.now c.loop-i.i c.index-heads-i.result c.index-atoms-i.result left right c.index-heads-i.is c.index-atoms-i.is c.args.binding.now c.loop-i.binding c.loop-i.invariant (c.if-not-fit_head.ensures.narrows)
 
 pub loop-i-preserved : goal.loop-i-preserved
 loop-i-preserved g c =
     let left : c.loop-i.i < length c.args.heads.now = omega arith in
     let right : c.loop-i.i < length c.args.atoms.now = omega arith in
-    read_more atom_under shape (λ a. Some a.now) c.args.heads.now c.args.atoms.now c.loop-i.i c.index-heads-i.result c.index-atoms-i.result left right c.index-heads-i.is c.index-atoms-i.is c.args.binding.now c.loop-i.binding c.fit_head.new.binding c.loop-i.invariant (c.if-not-fit_head.ensures)
+    read_more atom_under shape (λ a. Some a.now) c.args.heads.now c.args.atoms.now c.loop-i.i c.index-heads-i.result c.index-atoms-i.result left right c.index-heads-i.is c.index-atoms-i.is c.args.binding.now c.loop-i.binding c.fit_head.new.binding c.loop-i.invariant (c.if-not-fit_head.ensures.narrows)
 
 pub returns : goal.returns
 returns g c =

@@ -1,8 +1,7 @@
-use Rattle.std.proofs.Common.{◌≡◌, ◌<◌, ◌≤◌, ◌∙◌, ℕ, length, map, sym, subst, arith}
+use Rattle.std.proofs.Common.{◌≡◌, ◌<◌, ◌≤◌, ◌∙◌, length, map, sym, subst, arith}
 use Rattle.std.proofs.lemmas.List.{length-map}
-use Rattle.chr_value.specs.Atoms.{Atom}
 use Rattle.chr_rule.specs.Parts.{shape}
-use Rattle.chr_guard.specs.Matching.{IsAtHead, AreAtHeads}
+use Rattle.chr_guard.specs.Matching.{IsAtHead}
 use Rattle.chr_guard.proofs.Scoped.{IsPlaced}
 use Rattle.chr_guard.proofs.Steps.{map_read, narrows_whole}
 use Rattle.chr_guard.proofs.Matched.{head_placed, stands_more, stands_stop, stands_nowhere}
@@ -25,14 +24,14 @@ returns-then-not-fit_head g c =
     let placed = c.args.placed.now in
     let here : c.loop-number.number-index < length placed = c.loop-number-test.true in
     let there : c.loop-number.number-index < length (map (λ p. (p.0, p.1.now)) placed) = rw length-map here in
-    stands_stop c.args.rule.now (map (λ p. (p.0, p.1.now)) placed) c.loop-number.number-index (c.loop-number-item.result.0, c.loop-number-item.result.1.now) (shape c.in-Some.head.now) c.args.binding.now c.loop-number.binding there (map_read (λ p. (p.0, p.1.now)) placed c.loop-number.number-index c.loop-number-item.result here c.loop-number-item.is) (sym c.in-Some.ensures.head) c.loop-number.invariant c.if-not-fit_head.ensures
+    stands_stop c.args.rule.now (map (λ p. (p.0, p.1.now)) placed) c.loop-number.number-index (c.loop-number-item.result.0, c.loop-number-item.result.1.now) (shape c.in-Some.head.now) c.args.binding.now c.loop-number.binding there (map_read (λ p. (p.0, p.1.now)) placed c.loop-number.number-index c.loop-number-item.result here c.loop-number-item.is) (sym c.in-Some.ensures.head) c.loop-number.invariant c.if-not-fit_head.ensures.narrows
 
 pub loop-number-preserved : goal.loop-number-preserved
 loop-number-preserved g c =
     let placed = c.args.placed.now in
     let here : c.loop-number.number-index < length placed = c.loop-number-test.true in
     let there : c.loop-number.number-index < length (map (λ p. (p.0, p.1.now)) placed) = rw length-map here in
-    stands_more c.args.rule.now (map (λ p. (p.0, p.1.now)) placed) c.loop-number.number-index (c.loop-number-item.result.0, c.loop-number-item.result.1.now) (shape c.in-Some.head.now) c.args.binding.now c.loop-number.binding c.fit_head.new.binding there (map_read (λ p. (p.0, p.1.now)) placed c.loop-number.number-index c.loop-number-item.result here c.loop-number-item.is) (sym c.in-Some.ensures.head) c.loop-number.invariant c.if-not-fit_head.ensures
+    stands_more c.args.rule.now (map (λ p. (p.0, p.1.now)) placed) c.loop-number.number-index (c.loop-number-item.result.0, c.loop-number-item.result.1.now) (shape c.in-Some.head.now) c.args.binding.now c.loop-number.binding c.fit_head.new.binding there (map_read (λ p. (p.0, p.1.now)) placed c.loop-number.number-index c.loop-number-item.result here c.loop-number-item.is) (sym c.in-Some.ensures.head) c.loop-number.invariant c.if-not-fit_head.ensures.narrows
 
 pub returns : goal.returns
 returns g c =

@@ -25,14 +25,14 @@ returns-then-not-fit_head g c =
     let placed = c.args.placed.now in
     let here : c.loop-one.one-index < length placed = c.loop-one-test.true in
     let there : c.loop-one.one-index < length (map (λ p. (p.head, p.atom)) placed) = rw length-map here in
-    stands_stop c.args.rule.now (map (λ p. (p.head, p.atom)) placed) c.loop-one.one-index (c.one-item.result.head, c.one-item.result.atom) (shape c.in-Some.head.now) c.args.binding.now c.loop-one.binding there (map_read (λ p. (p.head, p.atom)) placed c.loop-one.one-index c.one-item.result here c.one-item.is) (subst (λ n. head_at c.args.rule.now n ≡ Some (shape c.in-Some.head.now)) c.from.ensures (sym c.in-Some.ensures.head)) c.loop-one.invariant c.if-not-fit_head.ensures
+    stands_stop c.args.rule.now (map (λ p. (p.head, p.atom)) placed) c.loop-one.one-index (c.one-item.result.head, c.one-item.result.atom) (shape c.in-Some.head.now) c.args.binding.now c.loop-one.binding there (map_read (λ p. (p.head, p.atom)) placed c.loop-one.one-index c.one-item.result here c.one-item.is) (subst (λ n. head_at c.args.rule.now n ≡ Some (shape c.in-Some.head.now)) c.from.ensures (sym c.in-Some.ensures.head)) c.loop-one.invariant c.if-not-fit_head.ensures.narrows
 
 pub loop-one-preserved : goal.loop-one-preserved
 loop-one-preserved g c =
     let placed = c.args.placed.now in
     let here : c.loop-one.one-index < length placed = c.loop-one-test.true in
     let there : c.loop-one.one-index < length (map (λ p. (p.head, p.atom)) placed) = rw length-map here in
-    stands_more c.args.rule.now (map (λ p. (p.head, p.atom)) placed) c.loop-one.one-index (c.one-item.result.head, c.one-item.result.atom) (shape c.in-Some.head.now) c.args.binding.now c.loop-one.binding c.fit_head.new.binding there (map_read (λ p. (p.head, p.atom)) placed c.loop-one.one-index c.one-item.result here c.one-item.is) (subst (λ n. head_at c.args.rule.now n ≡ Some (shape c.in-Some.head.now)) c.from.ensures (sym c.in-Some.ensures.head)) c.loop-one.invariant c.if-not-fit_head.ensures
+    stands_more c.args.rule.now (map (λ p. (p.head, p.atom)) placed) c.loop-one.one-index (c.one-item.result.head, c.one-item.result.atom) (shape c.in-Some.head.now) c.args.binding.now c.loop-one.binding c.fit_head.new.binding there (map_read (λ p. (p.head, p.atom)) placed c.loop-one.one-index c.one-item.result here c.one-item.is) (subst (λ n. head_at c.args.rule.now n ≡ Some (shape c.in-Some.head.now)) c.from.ensures (sym c.in-Some.ensures.head)) c.loop-one.invariant c.if-not-fit_head.ensures.narrows
 
 pub returns : goal.returns
 returns g c =

@@ -1,4 +1,4 @@
-use Rattle.std.proofs.Common.{◌≡◌, ◌<◌, ◌≤◌, length, refl, arith, sym, ap, ◌∙◌}
+use Rattle.std.proofs.Common.{◌<◌, ◌≤◌, length, refl, arith, sym, ap, ◌∙◌}
 use Rattle.chr_rule.specs.declared.term.Open.{Open as CodeOpen}
 use Rattle.chr_guard.specs.Bindings.{bound_at}
 use Rattle.chr_guard.proofs.Compared.{SameFrom, same-next, same-stop, same-end, same-count, same-opens}

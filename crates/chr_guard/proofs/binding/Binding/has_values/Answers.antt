@@ -1,4 +1,4 @@
-use Rattle.std.proofs.Common.{◌≡◌, map, take, None, IsSome, not, refl, sym, subst, ap, ◌∙◌}
+use Rattle.std.proofs.Common.{◌≡◌, map, None, IsSome, not, refl, sym, subst, ap, ◌∙◌}
 use Rattle.std.proofs.lemmas.List.{take_all}
 use Rattle.chr_rule.specs.Parts.{argument, shape}
 use Rattle.chr_guard.specs.Values.{term_under, value_under}

@@ -1,4 +1,4 @@
-use Rattle.std.proofs.Common.{◌<◌, length, map, drop, get_or, sym, ap, ◌∙◌}
+use Rattle.std.proofs.Common.{◌<◌, length, map, get_or, sym, ap, ◌∙◌}
 use Rattle.std.specs.List.{list_any}
 use Rattle.std.proofs.lemmas.List.{drop_all}
 use Rattle.chr_guard.specs.declared.settled.Mark.TheVariants as marks

@@ -1,15 +1,18 @@
-use Rattle.std.proofs.Common.{◌≡◌, ◌+◌, ◌-◌, ◌*◌, ◌≤◌, length}
+use Rattle.std.proofs.Common.{◌≡◌, ◌+◌, ◌-◌, ◌*◌, ◌≤◌, ℕ, List, Option, length}
+use Rattle.chr_value.specs.Atoms.{Value}
+use Rattle.chr_guard.specs.Bindings.{AreKnown, Keeps}
 use Rattle.chr_search.specs.Joined.{join_of}
-use Rattle.chr_search.specs.Passing.{PassesIn, IsLevel, IsAfterPart}
+use Rattle.chr_search.specs.Passing.{PassesIn, IsAfterPart}
 use Rattle.chr_search.proofs.join.Join.+below.Given as goal
 
 abbrev pub invariant-pass_parts-loop-level : goal.invariant-pass_parts-loop-level
 invariant-pass_parts-loop-level g l = record {
   few : l.count ≤ l.most;
   passes : PassesIn (join_of l.self) l.count l.fn.place.items l.place.items;
-  level : IsLevel (join_of l.self) l.fn.instance.labels.items l.level;
+  same : l.level ≡ l.fn.level;
   labels : l.instance.labels.items ≡ l.fn.instance.labels.items;
-  part : IsAfterPart (join_of l.self) l.fn.instance.labels.items l.label l.place.items l.bound;
+  part : IsAfterPart (join_of l.self) l.fn.instance.labels.items l.label l.place.items l.binding;
+  keeps : (before : List (Option (Value ℕ))) → AreKnown l.fn.level.known before → Keeps before l.fn.binding → Keeps before l.binding;
 }
 
 abbrev pub decreases-pass_parts-loop-level : goal.decreases-pass_parts-loop-level

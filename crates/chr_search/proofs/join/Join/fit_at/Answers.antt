@@ -13,10 +13,10 @@ pub fit_head-requires : goal.fit_head-requires
 fit_head-requires g c =
     (omega arith, subst (λ n. IsPlaced n (shape c.in-Some.head.now)) (sym c.requires) (head_placed c.args.self.now.rule.now c.head.ensures.valid c.from.result (shape c.in-Some.head.now) (sym c.in-Some.ensures.head)))
 
-pub returns : goal.returns
-returns g c =
+pub returns-clause-narrows : goal.returns-clause-narrows
+returns-clause-narrows g c =
     let j = join_of c.args.self.now in
     let s = shape c.in-Some.head.now in
     let a = c.in-Some-get.atom.now in
     let head : head_at j.rule c.args.step.head ≡ Some s = subst (λ n. head_at j.rule n ≡ Some s) c.from.ensures (sym c.in-Some.ensures.head) in
-    told_as (λ v. atom_under v s ≡ Some a) (λ v. StandsAt j v c.args.step c.args.label) c.fit_head.result c.args.binding.now c.fit_head.new.binding (stands_is j c.args.step c.args.label s a head (sym c.in-Some-get.ensures)) c.fit_head.ensures
+    told_as (λ v. atom_under v s ≡ Some a) (λ v. StandsAt j v c.args.step c.args.label) c.fit_head.result c.args.binding.now c.fit_head.new.binding (stands_is j c.args.step c.args.label s a head (sym c.in-Some-get.ensures)) c.fit_head.ensures.narrows

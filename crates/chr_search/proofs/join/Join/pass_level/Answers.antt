@@ -17,11 +17,11 @@ run : (g : _) (c : After-settle g) → HasRun (join_of c.args.self.now) c.args.i
 run g c = has_run _ _ _ _ _ _ c.args.from _ c.requires.below c.pass_run-run.ensures.misfits (c.len-depth.ensures.value ∙ ap (λ (v : ArrayVec ℕ). length v.items) c.pass_run-run.ensures.labels) c.settle.ensures
 
 -- what comes after it
-part : (g : _) (c : In-Part g) → ComesNext (join_of c.args.self.now) c.args.instance.now.labels.items c.pass_run-run.result.count c.args.most c.pass_run-run.result.next (Part c.in-Part.label) c.pass_run-run.new.bound
-part g c = subst (λ t. ComesNext (join_of c.args.self.now) c.args.instance.now.labels.items c.pass_run-run.result.count c.args.most c.pass_run-run.result.next t c.pass_run-run.new.bound) c.in-Part.is c.pass_run-run.ensures.then
+part : (g : _) (c : In-Part g) → ComesNext (join_of c.args.self.now) c.args.instance.now.labels.items c.pass_run-run.result.count c.args.most c.pass_run-run.result.next (Part c.in-Part.label) c.pass_run-run.new.binding
+part g c = subst (λ t. ComesNext (join_of c.args.self.now) c.args.instance.now.labels.items c.pass_run-run.result.count c.args.most c.pass_run-run.result.next t c.pass_run-run.new.binding) c.in-Part.is c.pass_run-run.ensures.then
 
-whole : (g : _) (c : In-Whole g) → ComesNext (join_of c.args.self.now) c.args.instance.now.labels.items c.pass_run-run.result.count c.args.most c.pass_run-run.result.next (Whole c.in-Whole.label) c.pass_run-run.new.bound
-whole g c = subst (λ t. ComesNext (join_of c.args.self.now) c.args.instance.now.labels.items c.pass_run-run.result.count c.args.most c.pass_run-run.result.next t c.pass_run-run.new.bound) c.in-Whole.is c.pass_run-run.ensures.then
+whole : (g : _) (c : In-Whole g) → ComesNext (join_of c.args.self.now) c.args.instance.now.labels.items c.pass_run-run.result.count c.args.most c.pass_run-run.result.next (Whole c.in-Whole.label) c.pass_run-run.new.binding
+whole g c = subst (λ t. ComesNext (join_of c.args.self.now) c.args.instance.now.labels.items c.pass_run-run.result.count c.args.most c.pass_run-run.result.next t c.pass_run-run.new.binding) c.in-Whole.is c.pass_run-run.ensures.then
 
 placed : (g : _) (c : After-put_at g) → HasRun (join_of c.args.self.now) c.args.instance.now.labels.items c.args.place.now.items c.settle.new.place.items c.len-depth.result c.pass_run-run.result.count c.pass_run-run.result.next
     → c.put_at.new.labels.items ≡ c.args.instance.now.labels.items ++ c.in-Part.label ∷ []
@@ -88,10 +88,10 @@ returns-in-Whole-clause-stops g c =
     let then = whole g at.In-Whole in
     let pushed : c.push-in-Whole.new.self.items ≡ c.args.instance.now.labels.items ++ c.in-Whole.label ∷ [] = c.push-in-Whole.ensures.items ∙ ap (λ (v : ArrayVec ℕ). v.items ++ c.in-Whole.label ∷ []) c.pass_run-run.ensures.labels in (
       subst (Least (MayFollow (join_of c.args.self.now)) 1 [] c.settle.new.place.items) (sym pushed) (below_least _ _ _ _ c.in-Whole.label (run g at.After-settle).below then.1),
-      subst (λ ls. AreWhole (join_of c.args.self.now) ls c.pass_run-run.new.bound) (sym pushed) then.2,
+      subst (λ ls. AreWhole (join_of c.args.self.now) ls c.pass_run-run.new.binding) (sym pushed) then.2,
     )
 
 pub returns-in-NoneLeft-clause-stops : goal.returns-in-NoneLeft-clause-stops
 returns-in-NoneLeft-clause-stops g c =
-    let then = subst (λ t. ComesNext (join_of c.args.self.now) c.args.instance.now.labels.items c.pass_run-run.result.count c.args.most c.pass_run-run.result.next t c.pass_run-run.new.bound) c.in-NoneLeft.is c.pass_run-run.ensures.then in
+    let then = subst (λ t. ComesNext (join_of c.args.self.now) c.args.instance.now.labels.items c.pass_run-run.result.count c.args.most c.pass_run-run.result.next t c.pass_run-run.new.binding) c.in-NoneLeft.is c.pass_run-run.ensures.then in
     (ap (λ (v : ArrayVec ℕ). v.items) c.pass_run-run.ensures.labels, below_done _ _ _ _ (run g (goal.at.returns-in-NoneLeft-clause-stops g c).After-settle).below then)

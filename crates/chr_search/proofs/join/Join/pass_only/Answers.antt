@@ -22,13 +22,13 @@ overflow_add-active g c =
 pub unreachable-requires : goal.unreachable-requires
 unreachable-requires g c =
     let t = c.requires.trials (c.active-active.result ∷ []) (omega arith) (began g (goal.at.unreachable-requires g c).After-active-active, tt) in
-    last_no_part (join_of c.args.self.now) [] c.args.at c.active-active.result c.requires.at c.requires.only t.0 t.1 (c.in-Part.ensures.0 t.0 t.1)
+    last_no_part (join_of c.args.self.now) [] c.args.at c.active-active.result c.requires.at c.requires.only t.0 t.1 (c.in-Part.ensures.tried.0 t.0 t.1)
 
 pub returns-in-Misfit-clause-passes : goal.returns-in-Misfit-clause-passes
-returns-in-Misfit-clause-passes g c = (first_misfit (join_of c.args.self.now) c.active-active.result (began g (goal.at.returns-in-Misfit-clause-passes g c).After-active-active) c.in-Misfit.ensures c.args.place.now.items c.push.new.self.items c.requires.place c.push.ensures.items).0
+returns-in-Misfit-clause-passes g c = (first_misfit (join_of c.args.self.now) c.active-active.result (began g (goal.at.returns-in-Misfit-clause-passes g c).After-active-active) c.in-Misfit.ensures.tried c.args.place.now.items c.push.new.self.items c.requires.place c.push.ensures.items).0
 
 pub returns-in-Misfit-clause-ends : goal.returns-in-Misfit-clause-ends
-returns-in-Misfit-clause-ends g c = (first_misfit (join_of c.args.self.now) c.active-active.result (began g (goal.at.returns-in-Misfit-clause-ends g c).After-active-active) c.in-Misfit.ensures c.args.place.now.items c.push.new.self.items c.requires.place c.push.ensures.items).1
+returns-in-Misfit-clause-ends g c = (first_misfit (join_of c.args.self.now) c.active-active.result (began g (goal.at.returns-in-Misfit-clause-ends g c).After-active-active) c.in-Misfit.ensures.tried c.args.place.now.items c.push.new.self.items c.requires.place c.push.ensures.items).1
 
 pub returns-in-Whole-clause-ends : goal.returns-in-Whole-clause-ends
-returns-in-Whole-clause-ends g c = first_whole (join_of c.args.self.now) c.active-active.result (began g (goal.at.returns-in-Whole-clause-ends g c).After-active-active) _ c.in-Whole.ensures c.args.place.now.items c.put_at.new.labels.items c.judge_at.new.narrowed c.requires.place c.put_at.ensures refl
+returns-in-Whole-clause-ends g c = first_whole (join_of c.args.self.now) c.active-active.result (began g (goal.at.returns-in-Whole-clause-ends g c).After-active-active) _ c.in-Whole.ensures.tried c.args.place.now.items c.put_at.new.labels.items c.judge_at.new.narrowed c.requires.place c.put_at.ensures refl

@@ -1,12 +1,28 @@
-use Rattle.std.proofs.Common.{◌≤◌, ℕ, List, [], ◌∷◌, ◌++◌, sym, subst, ◌∙◌, length-append, arith}
+use Rattle.std.proofs.Common.{◌≡◌, suc, ◌+◌, refl, ◌≤◌, ℕ, List, [], ◌∷◌, ◌++◌, sym, subst, ◌∙◌, length-append, arith}
+use Rattle.chr_guard.specs.Bindings.{Keeps}
 use Rattle.chr_search.specs.Joined.{join_of}
 use Rattle.chr_search.specs.Partners.{IsReady}
-use Rattle.chr_search.specs.Passing.{AreWhole, IsLevel}
+use Rattle.chr_search.specs.Passing.{AreMisfits, AreWhole, IsLevel}
 use Rattle.chr_search.specs.Tree.{Grows, LeastFrom}
 use Rattle.chr_search.specs.Trials.{MayFollow}
 use Rattle.chr_search.proofs.Tree.{grows_more}
 use Rattle.chr_search.proofs.PassingOver.{label_small}
+use Rattle.chr_search.proofs.join.Join.pass_run.Goals.{After-next_at}
 use Rattle.chr_search.proofs.join.Join.pass_run.Goals as goal
+
+-- the level, and the binding that it goes with
+level : (g : _) (c : After-next_at g) → IsLevel (join_of c.args.self.now) c.as_slice-labels.result.now c.args.binding.now c.next_at.new.level
+level g c =
+    let j = join_of c.args.self.now in
+    subst (IsLevel j c.as_slice-labels.result.now c.args.binding.now) (sym (c.next_at.ensures.same ∙ c.loop-count.invariant.same)) (subst (λ ls. IsLevel j ls c.args.binding.now c.args.level.now) (sym c.as_slice-labels.ensures.value) c.requires.level)
+
+pub next_at-requires : goal.next_at-requires
+next_at-requires g c =
+    let j = join_of c.args.self.now in
+    let seen = sym c.as_slice-labels.ensures.value in
+    let ready = subst (IsReady j c.as_slice-labels.result.now) (sym c.loop-count.invariant.binding) (subst (λ ls. IsReady j ls c.args.binding.now) seen c.requires.ready) in
+    let level = subst (IsLevel j c.as_slice-labels.result.now c.loop-count.binding) (sym c.loop-count.invariant.same) (subst (λ b. IsLevel j c.as_slice-labels.result.now b c.args.level.now) (sym c.loop-count.invariant.binding) (subst (λ ls. IsLevel j ls c.args.binding.now c.args.level.now) seen c.requires.level)) in
+    (omega arith, (c.requires.begins, (c.requires.plan, (ready, level))))
 
 pub judge_at-requires : goal.judge_at-requires
 judge_at-requires g c =
@@ -14,9 +30,23 @@ judge_at-requires g c =
     let labels = c.as_slice-labels.result.now in
     let label = c.in-Some.label in
     let seen = sym c.as_slice-labels.ensures.value in
-    let level : IsLevel j labels c.next_at.new.level = subst (IsLevel j labels) (sym (c.next_at.ensures.same ∙ c.loop-count.invariant.same)) (subst (λ ls. IsLevel j ls c.args.level.now) seen c.requires.level) in
+    let ready = subst (IsReady j labels) (sym c.loop-count.invariant.binding) (subst (λ ls. IsReady j ls c.args.binding.now) seen c.requires.ready) in
     let grown = grows_more (MayFollow j) [] labels label (subst (Grows (MayFollow j) []) seen c.requires.grows) c.in-Some.ensures.least.holds in
-    (omega arith, (level.at, (subst (IsReady j labels) (sym c.set_to.ensures) level.ready, c.requires.trials (labels ++ label ∷ []) (omega (arith, length-append labels (label ∷ []))) grown)))
+    (omega arith, ((level g (goal.at.judge_at-requires g c).After-next_at).at, (ready, c.requires.trials (labels ++ label ∷ []) (omega (arith, length-append labels (label ∷ []))) grown)))
+
+pub return_to-requires : goal.return_to-requires
+return_to-requires g c =
+    (omega arith, (c.args.binding.now, (level g (goal.at.return_to-requires g c).After-next_at).known, subst (λ b. Keeps b c.judge_at.new.narrowed) c.loop-count.invariant.binding c.judge_at.ensures.keeps))
+
+pub loop-count-preserved : goal.loop-count-preserved
+loop-count-preserved g c =
+    let more : suc c.loop-count.count ≡ c.loop-count.count + 1 = omega arith in
+    record {
+      few = omega arith;
+      misfits = subst (λ n. AreMisfits (join_of c.args.self.now) c.as_slice-labels.result.now n c.args.from (c.in-Some.label + 1)) more (c.loop-count.next, c.in-Some.label, c.loop-count.invariant.misfits, c.in-Some.ensures.least, c.in-Misfit.ensures.tried, refl);
+      same = c.next_at.ensures.same ∙ c.loop-count.invariant.same;
+      binding = c.return_to.ensures c.args.binding.now (level g (goal.at.loop-count-preserved g c).After-next_at).known (subst (λ b. Keeps b c.judge_at.new.narrowed) c.loop-count.invariant.binding c.judge_at.ensures.keeps);
+    }
 
 pub returns-in-Whole-clause-then : goal.returns-in-Whole-clause-then
 returns-in-Whole-clause-then g c =
@@ -25,7 +55,7 @@ returns-in-Whole-clause-then g c =
     let seen = c.as_slice-labels.ensures.value in (
       c.loop-count-test.true,
       subst (λ (ls : List ℕ). LeastFrom (MayFollow j ls) c.loop-count.next label) seen c.in-Some.ensures.least,
-      subst (λ ls. AreWhole j (ls ++ label ∷ []) c.judge_at.new.narrowed) seen c.in-Whole.ensures,
+      subst (λ ls. AreWhole j (ls ++ label ∷ []) c.judge_at.new.narrowed) seen c.in-Whole.ensures.tried,
     )
 
 pub overflow_add-next : goal.overflow_add-next

@@ -8,6 +8,7 @@ invariant-loop-count g l = record {
   few : l.count ≤ l.most;
   misfits : AreMisfits (join_of l.self) l.labels l.count l.from l.next;
   same : l.level ≡ l.fn.level;
+  binding : l.binding ≡ l.fn.binding;
 }
 
 abbrev pub decreases-loop-count : goal.decreases-loop-count

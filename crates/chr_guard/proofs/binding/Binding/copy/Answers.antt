@@ -1,0 +1,39 @@
+use Rattle.std.proofs.Common.{◌≡◌, ◌<◌, None, length, slice_index_or, ap, refl, sym, ◌∙◌, arith, length-set, take}
+use Rattle.std.proofs.lemmas.Grind.{common_steps}
+use Rattle.std.proofs.lemmas.List.{length-replicate}
+use Rattle.chr_guard.specs.Bindings.{told_from}
+use Rattle.chr_guard.specs.declared.binding.Bound.TheVariants as bounds
+use Rattle.chr_guard.proofs.Bindings.{after_write, bound_copy, copy_more, length_binding}
+use Rattle.chr_guard.proofs.binding.Binding.copy.Goals as goal
+
+pub loop-variable-init : goal.loop-variable-init
+loop-variable-init g c = record {
+  variables = sym (length_binding c.copy.inside.known.bits c.copy.inside.variables c.copy.inside.bound.items c.free-copy.result c.copy.invariant c.copy.view_is) ∙ ap length c.free-copy.ensures ∙ length-replicate c.self.inside.variables None;
+  full = c.copy.invariant.full;
+  items = λ x lt. absurd (omega (arith, lt));
+}
+
+pub loop-variable-preserved : goal.loop-variable-preserved
+loop-variable-preserved g c =
+    let loop = c.loop-variable.invariant in
+    let i = c.loop-variable.variable in
+    let copies = c.loop-variable.copy-inside.bound.items in
+    let places = c.self.inside.bound.items in
+    let b = c.index-deref-variable.result in
+    let found : b ≡ slice_index_or places i bounds.Free = grind (arith, common_steps) in
+    let written = after_write copies c.deref_mut.result.now i i b c.deref_mut.ensures.value refl in
+    let place : i < length copies = omega (arith, loop.full, c.self.invariant.within, c.loop-variable-test.true) in
+    record {
+      variables = loop.variables;
+      full = ap length written ∙ length-set copies i b ∙ loop.full;
+      items = λ x lt. ap (λ bs. slice_index_or bs x bounds.Free) written ∙ copy_more i places copies b place found loop.items x lt;
+    }
+
+pub returns : goal.returns
+returns g c =
+    let loop = c.loop-variable.invariant in
+    let bits = c.self.inside.known.bits in
+    let n = c.self.inside.variables in
+    let copies = c.loop-variable.copy-inside.bound.items in
+    ap (λ m. take m (told_from bits 0 copies)) loop.variables
+    ∙ (bound_copy bits n c.self.inside.bound.items copies c.args.self.now c.self.invariant c.self.view_is loop.full (λ x lt. loop.items x (omega (arith, lt, c.loop-variable-test.false)))).1
