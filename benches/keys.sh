@@ -1,14 +1,15 @@
 #!/usr/bin/env bash
 # Prints, as a table in Markdown, what a join costs by the kind of its key: two constraints are found by one value, a number, a
 # symbol, or compound values of two sizes, among 10,000 pairs and among 50,000. Run it by hand, on an idle machine.
-# The time is the best of five runs with `--show store`, less the best of five that make no calls, and so without the reading of
-# the posts. The memory is the most that such a run had at once, less that of one that makes no calls.
+# The time is the best of REPEAT runs with `--show store`, 25 unless it is set, less the best of as many that make no calls, and
+# so without the reading of the posts. The memory is the most that such a run had at once, less that of one that makes no calls.
 set -eu
 top=$(cd "$(dirname "${BASH_SOURCE[0]}")/.." && pwd)
 work=$(mktemp -d)
 trap 'rm -rf "$work"' EXIT
 program=$top/out/chr
 most=4294967295
+repeat=${REPEAT:-25}
 echo 'left(K, I), right(K, J) <=> found(I, J).' >"$work/rules"
 
 # How the key of a number is written, with `%d` for the number.
@@ -25,10 +26,10 @@ pairs() {
   }'
 }
 
-# Prints the nanoseconds of the fastest of five runs of at most so many calls, and the kilobytes of the last.
+# Prints the nanoseconds of the fastest run of at most so many calls, and the kilobytes of the last.
 cost() {
   local best=0 start spent
-  for _ in 1 2 3 4 5; do
+  for _ in $(seq "$repeat"); do
     start=$(date +%s%N)
     "$program" run "$work/rules" "${posts[@]}" --steps "$1" --show store >"$work/store" || [ $? = 3 ]
     spent=$(($(date +%s%N) - start))
