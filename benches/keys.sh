@@ -1,8 +1,8 @@
 #!/usr/bin/env bash
 # Prints, as a table in Markdown, what a join costs by the kind of its key: two constraints are found by one value, a number, a
 # symbol, or compound values of two sizes, among 10,000 pairs and among 50,000. Run it by hand, on an idle machine.
-# The time is the best of REPEAT runs with `--show store`, 25 unless it is set, less the best of as many that make no calls, and
-# so without the reading of the posts. The memory is the most that such a run had at once, less that of one that makes no calls.
+# The time is the best of REPEAT runs with `--show store`, 25 unless it is set, less the best of as many that make no calls, by
+# turns, and so without the reading of the posts. The memory is the most that such a run had at once, less that of one that makes no calls.
 set -eu
 top=$(cd "$(dirname "${BASH_SOURCE[0]}")/.." && pwd)
 work=$(mktemp -d)
@@ -26,17 +26,34 @@ pairs() {
   }'
 }
 
-# Prints the nanoseconds of the fastest run of at most so many calls, and the kilobytes of the last.
-cost() {
-  local best=0 start spent
-  for _ in $(seq "$repeat"); do
-    start=$(date +%s%N)
-    "$program" run "$work/rules" "${posts[@]}" --steps "$1" --show store >"$work/store" || [ $? = 3 ]
-    spent=$(($(date +%s%N) - start))
-    [ "$best" != 0 ] && [ "$best" -le "$spent" ] || best=$spent
-  done
+# Runs the rules on the posts for at most so many calls.
+run() {
+  "$program" run "$work/rules" "${posts[@]}" --steps "$1" --show store >"$work/store" || [ $? = 3 ]
+}
+
+# Prints the lesser of the nanoseconds given, 0 where there are none yet, and those of a run of at most so many calls.
+least() {
+  local start spent
+  start=$(date +%s%N)
+  run "$2"
+  spent=$(($(date +%s%N) - start))
+  [ "$1" != 0 ] && [ "$1" -le "$spent" ] && echo "$1" || echo "$spent"
+}
+
+# Prints the kilobytes that a run of at most so many calls had at most.
+memory() {
   /usr/bin/time -q -f %M -o "$work/memory" "$program" run "$work/rules" "${posts[@]}" --steps "$1" --show store >"$work/store" || [ $? = 3 ]
-  echo "$best $(cat "$work/memory")"
+  cat "$work/memory"
+}
+
+# Prints the nanoseconds of the fastest run without calls and of the fastest whole one, which go by turns, and their kilobytes.
+costs() {
+  local idle=0 whole=0
+  for _ in $(seq "$repeat"); do
+    idle=$(least "$idle" 0)
+    whole=$(least "$whole" $most)
+  done
+  echo "$idle $(memory 0) $whole $(memory $most)"
 }
 
 # Prints the row of a key at a size.
@@ -48,7 +65,7 @@ row() {
   for file in "$work"/posts.*; do
     [ ${#posts[@]} = 0 ] && posts=("$file") || posts+=(--posts "$file")
   done
-  echo "$1 $2 $(cost 0) $(cost $most) $(wc -l <"$work/store")"
+  echo "$1 $2 $(costs) $(wc -l <"$work/store")"
 }
 
 "$top/chr" --help >/dev/null
