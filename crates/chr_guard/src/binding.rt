@@ -4,7 +4,7 @@ ghost use Rattle.std.specs.Int.{bit_at};
 ghost use Rattle.std.specs.Option.{option_map};
 ghost use Rattle.chr_value.specs.Atoms.{said, Int, Value};
 ghost use Rattle.chr_guard.specs.Values.{number_in};
-ghost use Rattle.chr_guard.specs.Bindings.{bound_term, bound_at, NarrowsIf, Keeps, AreKnown};
+ghost use Rattle.chr_guard.specs.Bindings.{bound_term, bound_at, NarrowsIf, Keeps, AreKnown, AreBound};
 
 use arrayvec::ArrayVec;
 use chr_rule::MOST_VARIABLES;
@@ -193,12 +193,33 @@ impl<'v, A: Allocator + Copy> Binding<'v, A> {
         self.bound[usize::from(variable)]
     }
 
-    /// The number that a variable stands for, if it stands for one.
+    /// How many of the first variables are bound, without a free one among them.
     #[inline(always)]
-    pub(crate) fn number(&self, variable: u8) -> Option<i64>
+    pub(crate) fn bound_first(&self) -> u8
+        ensures { AreBound result self.now }
+    {
+        self.known.bits.trailing_ones() as u8
+    }
+
+    /// What a variable is bound to, where so many of the first ones are bound: for one of these it takes the fewest steps.
+    #[inline(always)]
+    fn among(&self, variable: u8, bound_first: u8) -> Bound<'v, A>
+        requires { AreBound bound_first self.now }
+        ensures { bound_term result ≡ bound_at self.now variable }
+    {
+        if bound_first <= variable {
+            return self.at(variable);
+        }
+        self.bound[usize::from(variable)]
+    }
+
+    /// The number that a variable stands for, if it stands for one, where so many of the first variables are bound.
+    #[inline(always)]
+    pub(crate) fn number(&self, variable: u8, bound_first: u8) -> Option<i64>
+        requires { AreBound bound_first self.now }
         ensures { result ≡ number_in (bound_at self.now variable) }
     {
-        match self.at(variable) {
+        match self.among(variable, bound_first) {
             Bound::Number(n) => Some(n),
             _ => None,
         }

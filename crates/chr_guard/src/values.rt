@@ -4,7 +4,7 @@ ghost use Rattle.std.specs.List.{AllByRecursion};
 ghost use Rattle.chr_rule.specs.Parts.{expression, comparison};
 ghost use Rattle.chr_rule.specs.Scope.{IsRule};
 ghost use Rattle.chr_guard.specs.Values.{both, compares, computed, value_of, Holds};
-ghost use Rattle.chr_guard.specs.Bindings.{bound_at};
+ghost use Rattle.chr_guard.specs.Bindings.{AreBound, bound_at};
 
 use crate::arithmetic::{compare, compute};
 use crate::binding::Binding;
@@ -17,12 +17,25 @@ use std::alloc::Allocator;
 pub fn value<A: Allocator + Copy>(expr: &Expr<A>, binding: &Binding<'_, A>) -> Option<i64>
     ensures { result ≡ value_of (bound_at binding.now) (expression expr.now) }
 {
+    outermost(expr, binding, binding.bound_first())
+}
+
+/// The value of an expression that is no operand, where so many of the first variables are bound.
+#[inline(always)]
+fn outermost<A: Allocator + Copy>(
+    expr: &Expr<A>,
+    binding: &Binding<'_, A>,
+    bound_first: u8,
+) -> Option<i64>
+    requires { AreBound bound_first binding.now }
+    ensures { result ≡ value_of (bound_at binding.now) (expression expr.now) }
+{
     match expr {
         Expr::Number(n) => Some(*n),
-        Expr::Var(x) => binding.number(*x),
+        Expr::Var(x) => binding.number(*x, bound_first),
         Expr::Operation(operator, a, b) => {
-            let left = operand(a, binding)?;
-            let right = operand(b, binding)?;
+            let left = operand(a, binding, bound_first)?;
+            let right = operand(b, binding, bound_first)?;
             compute(*operator, left, right)
         }
     }
@@ -31,13 +44,18 @@ pub fn value<A: Allocator + Copy>(expr: &Expr<A>, binding: &Binding<'_, A>) -> O
 /// The value of an operand. Most operands are numbers or variables, for which it takes no call.
 #[cycle(operand)]
 #[inline(always)]
-fn operand<A: Allocator + Copy>(expr: &Expr<A>, binding: &Binding<'_, A>) -> Option<i64>
+fn operand<A: Allocator + Copy>(
+    expr: &Expr<A>,
+    binding: &Binding<'_, A>,
+    bound_first: u8,
+) -> Option<i64>
+    requires { AreBound bound_first binding.now }
     ensures { result ≡ value_of (bound_at binding.now) (expression expr.now) }
 {
     match expr {
         Expr::Number(n) => Some(*n),
-        Expr::Var(x) => binding.number(*x),
-        Expr::Operation(operator, a, b) => nested(*operator, a, b, binding),
+        Expr::Var(x) => binding.number(*x, bound_first),
+        Expr::Operation(operator, a, b) => nested(*operator, a, b, binding, bound_first),
     }
 }
 
@@ -48,11 +66,13 @@ fn nested<A: Allocator + Copy>(
     a: &Expr<A>,
     b: &Expr<A>,
     binding: &Binding<'_, A>,
+    bound_first: u8,
 ) -> Option<i64>
+    requires { AreBound bound_first binding.now }
     ensures { result ≡ both (computed operator) (value_of (bound_at binding.now) (expression a.now)) (value_of (bound_at binding.now) (expression b.now)) }
 {
-    let left = operand(a, binding)?;
-    let right = operand(b, binding)?;
+    let left = operand(a, binding, bound_first)?;
+    let right = operand(b, binding, bound_first)?;
     compute(operator, left, right)
 }
 
@@ -63,12 +83,36 @@ fn compared<A: Allocator + Copy>(
     a: &Expr<A>,
     b: &Expr<A>,
     binding: &Binding<'_, A>,
+    bound_first: u8,
 ) -> Option<bool>
+    requires { AreBound bound_first binding.now }
     ensures { result ≡ both (λ m n. Some (compares relation m n)) (value_of (bound_at binding.now) (expression a.now)) (value_of (bound_at binding.now) (expression b.now)) }
 {
-    let left = value(a, binding)?;
-    let right = value(b, binding)?;
+    let left = outermost(a, binding, bound_first)?;
+    let right = outermost(b, binding, bound_first)?;
     Some(compare(relation, left, right))
+}
+
+/// Whether a comparison holds, where so many of the first variables are bound.
+#[inline(always)]
+fn holds_among<A: Allocator + Copy>(
+    test: &Comparison<A>,
+    binding: &Binding<'_, A>,
+    bound_first: u8,
+) -> bool
+    requires { AreBound bound_first binding.now }
+    ensures { IsTrue result ↔ Holds (bound_at binding.now) (comparison test.now) }
+{
+    match test {
+        Comparison::Numbers(relation, a, b) => {
+            match compared(*relation, a, b, binding, bound_first) {
+                Some(so) => so,
+                None => false,
+            }
+        }
+        Comparison::Same(s, t) => binding.have_same(s, t),
+        Comparison::Differ(s, t) => binding.differ(s, t),
+    }
 }
 
 /// Whether a comparison holds. None does where a side has no value; a number never equals a symbol. A value past the
@@ -77,14 +121,7 @@ fn compared<A: Allocator + Copy>(
 pub fn holds<A: Allocator + Copy>(test: &Comparison<A>, binding: &Binding<'_, A>) -> bool
     ensures { IsTrue result ↔ Holds (bound_at binding.now) (comparison test.now) }
 {
-    match test {
-        Comparison::Numbers(relation, a, b) => match compared(*relation, a, b, binding) {
-            Some(so) => so,
-            None => false,
-        },
-        Comparison::Same(s, t) => binding.have_same(s, t),
-        Comparison::Differ(s, t) => binding.differ(s, t),
-    }
+    holds_among(test, binding, binding.bound_first())
 }
 
 /// Whether each comparison of a rule's guard holds.
@@ -93,8 +130,9 @@ pub fn guard_holds<A: Allocator + Copy>(rule: &Rule<A>, binding: &Binding<'_, A>
     ensures holds { IsTrue result ↔ AllByRecursion (Holds (bound_at binding.now)) rule.now.guard }
     ensures valid { IsRule rule.now }
 {
+    let bound_first = binding.bound_first();
     for test in rule.guard() {
-        if !holds(test, binding) {
+        if !holds_among(test, binding, bound_first) {
             return false;
         }
     }

@@ -19,10 +19,19 @@ pub const MOST_RULES: usize = 256;
 
 /// Rules in text order, numbered from 1, which several holders share, and where their heads are. Contracts see the list of
 /// the rules.
-#[derive(Drop)]
 pub struct Program<A: Allocator> {
     rules: Vec<Arc<Rule<A>, A>, A>,
     occurrences: Occurrences<A>,
+}
+
+// Not derived: letting a program go is then one call, which is proved here once.
+impl<A: Allocator> Drop for Program<A> {
+    fn drop(self) {
+        let Program {
+            rules: _,
+            occurrences: _,
+        } = self;
+    }
 }
 
 impl<A: Allocator> Model for Program<A> {

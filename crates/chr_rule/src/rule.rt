@@ -28,13 +28,25 @@ pub const MOST_COMPARISONS: usize = 16;
 pub const MOST_ITEMS: usize = 16;
 
 /// A rule: each variable that is used has a value by then, a term without variables is a value, and the limits are kept.
-#[derive(Drop)]
 pub struct Rule<A: Allocator> {
     variables: u8,
     kept: Vec<RuleAtom<A>, A>,
     removed: Vec<RuleAtom<A>, A>,
     guard: Vec<Comparison<A>, A>,
     body: Vec<BodyItem<A>, A>,
+}
+
+// Not derived: letting a rule go is then one call, which is proved here once.
+impl<A: Allocator> Drop for Rule<A> {
+    fn drop(self) {
+        let Rule {
+            variables: _,
+            kept: _,
+            removed: _,
+            guard: _,
+            body: _,
+        } = self;
+    }
 }
 
 impl<A: Allocator> Model for Rule<A> {
