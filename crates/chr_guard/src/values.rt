@@ -17,31 +17,19 @@ use std::alloc::Allocator;
 pub fn value<A: Allocator + Copy>(expr: &Expr<A>, binding: &Binding<'_, A>) -> Option<i64>
     ensures { result ≡ value_of (bound_at binding.now) (expression expr.now) }
 {
-    outermost(expr, binding, binding.bound_first())
-}
-
-/// The value of an expression that is no operand, where so many of the first variables are bound.
-#[inline(always)]
-fn outermost<A: Allocator + Copy>(
-    expr: &Expr<A>,
-    binding: &Binding<'_, A>,
-    bound_first: u8,
-) -> Option<i64>
-    requires { AreBound bound_first binding.now }
-    ensures { result ≡ value_of (bound_at binding.now) (expression expr.now) }
-{
     match expr {
         Expr::Number(n) => Some(*n),
-        Expr::Var(x) => binding.number(*x, bound_first),
+        Expr::Var(x) => binding.number(*x, 0),
         Expr::Operation(operator, a, b) => {
-            let left = operand(a, binding, bound_first)?;
-            let right = operand(b, binding, bound_first)?;
+            let left = outer_operand(a, binding)?;
+            let right = outer_operand(b, binding)?;
             compute(*operator, left, right)
         }
     }
 }
 
-/// The value of an operand. Most operands are numbers or variables, for which it takes no call.
+/// The value of an operand, where so many of the first variables are bound. Most operands are numbers or variables, for
+/// which it takes no call.
 #[cycle(operand)]
 #[inline(always)]
 fn operand<A: Allocator + Copy>(
@@ -59,7 +47,7 @@ fn operand<A: Allocator + Copy>(
     }
 }
 
-/// The value of an operation within another, to any depth.
+/// The value of an operation within another, to any depth, where so many of the first variables are bound.
 #[cycle(operand)]
 fn nested<A: Allocator + Copy>(
     operator: Operator,
@@ -76,6 +64,17 @@ fn nested<A: Allocator + Copy>(
     compute(operator, left, right)
 }
 
+/// The value of an operand of an outermost operation. Which variables are bound is looked at once for all that it nests.
+#[inline(always)]
+fn outer_operand<A: Allocator + Copy>(expr: &Expr<A>, binding: &Binding<'_, A>) -> Option<i64>
+    ensures { result ≡ value_of (bound_at binding.now) (expression expr.now) }
+{
+    match expr {
+        Expr::Operation(operator, a, b) => nested(*operator, a, b, binding, binding.bound_first()),
+        _ => operand(expr, binding, 0),
+    }
+}
+
 /// Whether the relation holds between the values of two expressions, where both have one.
 #[inline(always)]
 fn compared<A: Allocator + Copy>(
@@ -83,36 +82,12 @@ fn compared<A: Allocator + Copy>(
     a: &Expr<A>,
     b: &Expr<A>,
     binding: &Binding<'_, A>,
-    bound_first: u8,
 ) -> Option<bool>
-    requires { AreBound bound_first binding.now }
     ensures { result ≡ both (λ m n. Some (compares relation m n)) (value_of (bound_at binding.now) (expression a.now)) (value_of (bound_at binding.now) (expression b.now)) }
 {
-    let left = outermost(a, binding, bound_first)?;
-    let right = outermost(b, binding, bound_first)?;
+    let left = value(a, binding)?;
+    let right = value(b, binding)?;
     Some(compare(relation, left, right))
-}
-
-/// Whether a comparison holds, where so many of the first variables are bound.
-#[inline(always)]
-fn holds_among<A: Allocator + Copy>(
-    test: &Comparison<A>,
-    binding: &Binding<'_, A>,
-    bound_first: u8,
-) -> bool
-    requires { AreBound bound_first binding.now }
-    ensures { IsTrue result ↔ Holds (bound_at binding.now) (comparison test.now) }
-{
-    match test {
-        Comparison::Numbers(relation, a, b) => {
-            match compared(*relation, a, b, binding, bound_first) {
-                Some(so) => so,
-                None => false,
-            }
-        }
-        Comparison::Same(s, t) => binding.have_same(s, t),
-        Comparison::Differ(s, t) => binding.differ(s, t),
-    }
 }
 
 /// Whether a comparison holds. None does where a side has no value; a number never equals a symbol. A value past the
@@ -121,7 +96,14 @@ fn holds_among<A: Allocator + Copy>(
 pub fn holds<A: Allocator + Copy>(test: &Comparison<A>, binding: &Binding<'_, A>) -> bool
     ensures { IsTrue result ↔ Holds (bound_at binding.now) (comparison test.now) }
 {
-    holds_among(test, binding, binding.bound_first())
+    match test {
+        Comparison::Numbers(relation, a, b) => match compared(*relation, a, b, binding) {
+            Some(so) => so,
+            None => false,
+        },
+        Comparison::Same(s, t) => binding.have_same(s, t),
+        Comparison::Differ(s, t) => binding.differ(s, t),
+    }
 }
 
 /// Whether each comparison of a rule's guard holds.
@@ -130,9 +112,8 @@ pub fn guard_holds<A: Allocator + Copy>(rule: &Rule<A>, binding: &Binding<'_, A>
     ensures holds { IsTrue result ↔ AllByRecursion (Holds (bound_at binding.now)) rule.now.guard }
     ensures valid { IsRule rule.now }
 {
-    let bound_first = binding.bound_first();
     for test in rule.guard() {
-        if !holds_among(test, binding, bound_first) {
+        if !holds(test, binding) {
             return false;
         }
     }

@@ -8,6 +8,7 @@ pub mod Shrinking
 pub mod Asking
 pub mod Judging
 pub mod Making
+pub mod Placing
 pub mod Wholes
 pub mod Searching
 pub mod Outcomes
@@ -16,6 +17,7 @@ pub mod PlainTrials
 pub mod Same
 pub mod Behind
 pub mod PassingOver
+pub mod After
 pub mod Levels
 pub mod Below
 pub mod PlanByPlan

@@ -128,7 +128,7 @@ pub record Read (s : Space) (t : Trial) (order : List Step) (ls : List ℕ) : Ty
   pub heads_are : heads t ≡ take (length t.placed) (heads_in order)
   pub live : AllByRecursion (λ p. atom_at s.store p.label ≡ Some p.atom) t.placed
 
-all_map : {X Y : Type 0} (P : Y → Type 0) (f : X → Y) (xs : List X) → AllByRecursion (λ x. P (f x)) xs → AllByRecursion P (map f xs)
+pub all_map : {X Y : Type 0} (P : Y → Type 0) (f : X → Y) (xs : List X) → AllByRecursion (λ x. P (f x)) xs → AllByRecursion P (map f xs)
 all_map P f [] a = tt
 all_map P f (x ∷ xs) a = (a.0, all_map P f xs a.1)
 

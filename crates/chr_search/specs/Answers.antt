@@ -1,18 +1,24 @@
 -- What a search answers, and where it goes on.
-use Rattle.std.specs.Prelude.{◌≡◌, true, ℕ, List}
+use Rattle.std.specs.Prelude.{◌≡◌, ◌≢◌, Bool, true, false, ℕ, List, Option, Some, None}
 use Rattle.chr_search.specs.declared.search.Ask.{Ask as CodeAsk}
 use Rattle.chr_search.specs.declared.search.Ask.TheVariants as answers
 use Rattle.chr_search.specs.declared.judged.Verdict.{Verdict}
 use Rattle.chr_search.specs.declared.judged.Verdict.TheVariants as verdicts
 use Rattle.chr_search.specs.Positions.{at_or_after, begins, just_after, past, front}
 use Rattle.chr_search.specs.Trials.{Space, IsTrial, IsNext, NoneLeft}
-use Rattle.chr_search.specs.Verdicts.{position, IsTrialOf}
+use Rattle.chr_search.specs.Verdicts.{Trial, position, IsFormed, IsTrialOf}
 use Rattle.chr_search.specs.Judged.{Judgement}
 
 -- the least admissible trial at or after a position with the store's atoms; done, where there is none
 abbrev pub IsAnswer : {Z : Type 0} → Space → List ℕ → CodeAsk Z → Type 0
 IsAnswer s place (answers.Trial t) = IsNext s place (position t) × IsTrialOf s.rules s.plans s.store t
 IsAnswer s place answers.Done = NoneLeft s place
+
+-- whether a trial is that one, and else there is another; none, where there is none
+abbrev pub IsToldNext : Space → List ℕ → Trial → Option Bool → Type 0
+IsToldNext s place t None = NoneLeft s place
+IsToldNext s place t (Some true) = IsNext s place (position t) × IsTrialOf s.rules s.plans s.store t
+IsToldNext s place t (Some false) = (other : Trial) × IsFormed other × (other ≢ t) × IsNext s place (position other) × IsTrialOf s.rules s.plans s.store other
 
 -- The least admissible trial past a position and all that it begins, which has all its numbers but the last; done, where no
 -- admissible trial past it begins with these.

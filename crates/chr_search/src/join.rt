@@ -59,41 +59,6 @@ impl<'s, A: Allocator + Copy> Join<'s, A> {
         fit_head(binding, head, atom)
     }
 
-    /// The binding under which the step's head is the label's atom as well. None where there is none, or the label has
-    /// left the store.
-    pub(crate) fn fit_label(
-        &self,
-        binding: &Binding<'s, A>,
-        step: Step,
-        label: Label,
-    ) -> Option<Binding<'s, A>>
-        requires { length binding.now ≡ self.now.rule.now.variables }
-        ensures { MatchOption result (NoneUnder (λ v. StandsAt (join_of self.now) v step label) binding.now) (Narrows (λ v. StandsAt (join_of self.now) v step label) binding.now) }
-    {
-        let mut next = binding.copy();
-        if !self.fit_at(&mut next, step, label) {
-            return None;
-        }
-        Some(next)
-    }
-
-    /// The binding with one label more. None where the labels are then not distinct, or don't fit.
-    fn narrow(
-        &self,
-        labels: &[Label],
-        binding: &Binding<'s, A>,
-        label: Label,
-    ) -> Option<Binding<'s, A>>
-        requires { IsReady (join_of self.now) labels.now binding.now }
-        ensures { MatchOption result ((x : ℕ) → MayFollow (join_of self.now) (labels.now ++ label ∷ []) x → ⊥) (IsReady (join_of self.now) (labels.now ++ label ∷ [])) }
-    {
-        if labels.contains(&label) {
-            return None;
-        }
-        let step = self.order.get(labels.len())?;
-        self.fit_label(binding, *step, label)
-    }
-
     /// What is asked of the store for the next label. None where none may be tried after these.
     #[inline(always)]
     fn asked(&self, labels: &[Label], binding: &Binding<'s, A>) -> Option<Asked<'s, A>>
@@ -168,18 +133,20 @@ impl<'s, A: Allocator + Copy> Join<'s, A> {
         true
     }
 
-    /// Adds partners up to the least labels at or after a place, which begins with a label. False where there are none.
+    /// Adds partners up to the least labels at or after a place, which begins with a label. False where there are none. The
+    /// binding becomes that of some of the labels.
     fn lengthen(
         &self,
         labels: &mut Labels,
-        binding: &Binding<'s, A>,
+        binding: &mut Binding<'s, A>,
         first: Label,
         below: &[Label],
     ) -> bool
         requires some { 1 ≤ length labels.old.items }
         requires plan { HasPlan (join_of self.now) }
-        requires ready { IsReady (join_of self.now) labels.old.items binding.now }
-        ensures { LengthenedIf (join_of self.now) (first ∷ below.now) result labels.old.items labels.new.items }
+        requires ready { IsReady (join_of self.now) labels.old.items binding.old }
+        ensures found { LengthenedIf (join_of self.now) (first ∷ below.now) result labels.old.items labels.new.items }
+        ensures keeps { Keeps binding.old binding.new }
     {
         let Some((next, rest)) = below.split_first() else {
             return self.push_next(labels, binding, first);
@@ -191,13 +158,15 @@ impl<'s, A: Allocator + Copy> Join<'s, A> {
             labels.push(label);
             return true;
         }
-        if let Some(narrowed) = self.narrow(labels.as_slice(), binding, label) {
+        let known = binding.known();
+        if self.narrow_by(labels.as_slice(), binding, label) {
             labels.push(label);
-            if self.lengthen(labels, &narrowed, *next, rest) {
+            if self.lengthen(labels, binding, *next, rest) {
                 return true;
             }
             labels.pop();
         }
+        binding.return_to(known);
         // For the proof: a partner is older than the active label.
         let _active = self.view.active();
         self.push_next(labels, binding, first + 1)
@@ -246,10 +215,12 @@ impl<'s, A: Allocator + Copy> Join<'s, A> {
             labels.push(active);
             return Some(labels);
         }
-        let free = Binding::free(self.rule.variables());
-        let narrowed = self.narrow(&[], &free, active)?;
+        let mut binding = Binding::free(self.rule.variables());
+        if !self.narrow_by(&[], &mut binding, active) {
+            return None;
+        }
         labels.push(active);
-        if self.lengthen(&mut labels, &narrowed, *next, rest) {
+        if self.lengthen(&mut labels, &mut binding, *next, rest) {
             return Some(labels);
         }
         None

@@ -146,7 +146,12 @@ impl<'s, A: Allocator + Copy> Join<'s, A> {
     }
 
     /// Extends the binding of these labels by one more. False where that may not be tried after them, or none after it.
-    fn narrow_by(&self, labels: &[Label], narrowed: &mut Binding<'s, A>, label: Label) -> bool
+    pub(crate) fn narrow_by(
+        &self,
+        labels: &[Label],
+        narrowed: &mut Binding<'s, A>,
+        label: Label,
+    ) -> bool
         requires plan { HasPlan (join_of self.now) }
         requires ready { IsReady (join_of self.now) labels.now narrowed.old }
         ensures narrowed { IsNarrowedIf (join_of self.now) labels.now label result narrowed.new }

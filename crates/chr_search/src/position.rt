@@ -1,9 +1,9 @@
 //! Positions in the order of trials.
-ghost use Rattle.std.specs.Prelude.{◌≡◌, ◌↔◌, ◌+◌, ◌∷◌, ◌++◌, ◌<◌, ◌≤◌, [], length, take, IsTrue};
+ghost use Rattle.std.specs.Prelude.{◌≡◌, ◌≢◌, ◌↔◌, ◌+◌, ◌∷◌, ◌++◌, ◌<◌, ◌≤◌, [], length, map, take, IsTrue};
 ghost use Rattle.chr_search.specs.Positions.{beginning, just_after, past, front};
 ghost use Rattle.chr_search.specs.Verdicts.{Trial as TrialView, labels as labels_of, position, IsFormed, IsPart};
 
-use crate::trial::Trial;
+use crate::trial::{Placed, Trial};
 use chr_log::{Labels, copy_labels};
 use chr_store::Label;
 use std::alloc::Allocator;
@@ -69,6 +69,21 @@ fn set_past(after: &mut Labels, labels: &[Label])
     put_at(after, before.len(), *last + 1);
 }
 
+/// Whether these are the labels.
+fn are_labels_of<A: Allocator>(labels: &[Label], placed: &[Placed<A>]) -> bool
+    ensures { IsTrue result ↔ (labels.now ≡ map (λ p. p.label) placed.now) }
+{
+    if labels.len() != placed.len() {
+        return false;
+    }
+    for i in 0..labels.len() {
+        if labels[i] != placed[i].label {
+            return false;
+        }
+    }
+    true
+}
+
 impl Position {
     /// The first position of all.
     pub(crate) fn beginning() -> Position
@@ -128,6 +143,30 @@ impl Position {
             after.labels.push(last + 1);
         }
         after
+    }
+
+    /// A position from which the trials after a trial are looked for: the first one after it. Where it has as many labels as
+    /// a trial can have, it begins no other, and the position is past it.
+    pub(crate) fn after<A: Allocator + Copy>(trial: &Trial<A>) -> Position
+        ensures most { length trial.now.placed ≡ 6 → result ≡ past (position trial.now) }
+        ensures fewer { length trial.now.placed ≢ 6 → result ≡ just_after (position trial.now) }
+    {
+        if trial.placed().len() == 6 {
+            return Position::past(trial);
+        }
+        let mut after = Position::of(trial);
+        after.labels.push(0);
+        after
+    }
+
+    /// Whether it is a trial's.
+    pub(crate) fn is_of<A: Allocator + Copy>(&self, trial: &Trial<A>) -> bool
+        ensures { IsTrue result ↔ (self.now ≡ position trial.now) }
+    {
+        if self.rule != trial.number() || self.head != trial.head() {
+            return false;
+        }
+        are_labels_of(self.labels.as_slice(), trial.placed())
     }
 
     /// Becomes the first position after a trial of these labels and all that it begins.

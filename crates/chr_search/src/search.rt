@@ -7,7 +7,7 @@ ghost use Rattle.chr_search.specs.declared.passing.End.TheVariants as ends;
 ghost use Rattle.chr_search.specs.declared.search.Then.TheVariants as thens;
 ghost use Rattle.chr_search.specs.Positions.{beginning, just_after, past};
 ghost use Rattle.chr_search.specs.Trials.{older, IsNext, MayFollow, NoneLeft};
-ghost use Rattle.chr_search.specs.Answers.{IsAnswer, IsAnswerBehind, after_judging};
+ghost use Rattle.chr_search.specs.Answers.{IsAnswer, IsAnswerBehind, IsToldNext, after_judging};
 ghost use Rattle.chr_search.specs.Verdicts.{Trial as TrialView, position as position_of};
 ghost use Rattle.chr_search.specs.Joined.{join_of};
 ghost use Rattle.chr_search.specs.Partners.{HasPlan};
@@ -332,6 +332,47 @@ impl Search {
             None => Ok(Ask::Done),
             Some(position) => Ok(Ask::Trial(Trial::at(alloc, &position, program, plans, store)?)),
         }
+    }
+
+    /// Whether a trial is the least admissible one at or after the position. None where no trial is left. It takes no memory.
+    pub fn is_next<A: Allocator + Copy>(
+        &self,
+        trial: &Trial<A>,
+        program: &Program<A>,
+        plans: &Plans<A>,
+        store: &Store<A>,
+    ) -> Option<bool>
+        requires { ArePlans program.now plans.now }
+        ensures { IsToldNext (older program.now plans.now store.now.entries self.now.label) self.now.place trial.now result }
+    {
+        // For the proof: the rules are valid, and the labels of a store are at most the greatest.
+        let _rules = program.rules();
+        let _given = store.next_label();
+        let position = self.find(program, plans, store)?;
+        Some(position.is_of(trial) && trial.stands_in(program, plans, store))
+    }
+
+    /// The least admissible trial after another, which needn't be judged: where that is a misfit, none lies between it and
+    /// those past all that it begins. Done where there is none. E01 where memory ran out. The search's own position plays no
+    /// part.
+    pub fn after<A: Allocator + Copy>(
+        &self,
+        alloc: A,
+        trial: &Trial<A>,
+        program: &Program<A>,
+        plans: &Plans<A>,
+        store: &Store<A>,
+    ) -> Result<Ask<A>, AllocError>
+        requires { ArePlans program.now plans.now }
+        ensures { IfOk result (IsAnswer (older program.now plans.now store.now.entries self.now.label) (just_after (position_of trial.now))) }
+    {
+        // For the proof: a rule has at most six heads.
+        let _rules = program.rules();
+        let next = Search {
+            label: self.label,
+            position: Position::after(trial),
+        };
+        next.candidate(alloc, program, plans, store)
     }
 
     /// The least admissible trial past another, with the same rule and head and the same labels but the last. Done where

@@ -5,11 +5,11 @@ ghost use Rattle.chr_plan.specs.Plans.{ArePlans};
 ghost use Rattle.chr_search.specs.Positions.{front};
 ghost use Rattle.chr_search.specs.Trials.{older, IsTrial};
 ghost use Rattle.chr_search.specs.Verdicts.{IsFormed, position as position_of, IsTrialOf, label_at, labels_from, kept_labels, removed_labels};
-ghost use Rattle.chr_search.specs.Placed.{placed_as};
+ghost use Rattle.chr_search.specs.Placed.{placed_as, ArePlacedIn};
 
 use crate::position::Position;
 use chr_log::Labels;
-use chr_plan::Plans;
+use chr_plan::{Plans, Step};
 use chr_rule::{Program, Rule};
 use chr_store::{Label, Store};
 use chr_value::Atom;
@@ -110,6 +110,28 @@ fn same_placed<A: Allocator + Copy>(placed: &[Placed<A>], other: &[Placed<A>]) -
     }
     for i in 0..placed.len() {
         if !placed[i].same(&other[i]) {
+            return false;
+        }
+    }
+    true
+}
+
+/// Whether these stand at the heads of a plan's first steps, and each label has its atom in the store.
+fn are_placed_in<A: Allocator + Copy>(
+    placed: &[Placed<A>],
+    order: &[Step],
+    store: &Store<A>,
+) -> bool
+    ensures { IsTrue result ↔ ArePlacedIn order.now store.now.entries (map placed_as placed.now) }
+{
+    if placed.len() > order.len() {
+        return false;
+    }
+    for (i, one) in placed.iter().enumerate() {
+        let Some(atom) = store.get(one.label) else {
+            return false;
+        };
+        if one.head != order[i].head || !one.atom.same(atom) {
             return false;
         }
     }
@@ -218,6 +240,24 @@ impl<A: Allocator + Copy> Trial<A> {
         ensures { IsTrue result ↔ (front (position_of self.now) ≡ front (position_of other.now)) }
     {
         Position::of(self).is_beside(other)
+    }
+
+    /// Whether a trial whose position is admissible is the one that a program, its plans and a store give there: its rule is
+    /// that of its number, its heads are those of the plan, and each label has its atom.
+    pub(crate) fn stands_in(&self, program: &Program<A>, plans: &Plans<A>, store: &Store<A>) -> bool
+        requires plans { ArePlans program.now plans.now }
+        ensures { IsTrue result ↔ IsTrialOf program.now plans.now store.now.entries self.now }
+    {
+        let Some(order) = plans.plan(usize::from(self.number), self.head) else {
+            return false;
+        };
+        if !are_placed_in(&self.placed, order, store) {
+            return false;
+        }
+        match program.rule(usize::from(self.number)) {
+            Some(rule) => rule.same(&self.rule),
+            None => false,
+        }
     }
 
     /// The admissible trial of a position, with copies of its atoms. E01 where memory ran out.

@@ -7,11 +7,11 @@ use Rattle.chr_guard.proofs.values.guard_holds.Goals as goal
 
 pub loop-test-preserved : goal.loop-test-preserved
 loop-test-preserved g c =
-    left_more (Holds (bound_at c.args.binding.now)) (comparison {Z = g.row.A.Denot}) (AllByRecursion (Holds (bound_at c.args.binding.now)) c.args.rule.now.guard) c.guard-test-items.result.now c.loop-test.test-index c.test-item.result c.loop-test-test.true c.test-item.is (c.holds_among.ensures.0 c.if-not-holds_among.false) c.loop-test.invariant
+    left_more (Holds (bound_at c.args.binding.now)) (comparison {Z = g.row.A.Denot}) (AllByRecursion (Holds (bound_at c.args.binding.now)) c.args.rule.now.guard) c.guard-test-items.result.now c.loop-test.test-index c.test-item.result c.loop-test-test.true c.test-item.is (c.holds.ensures.0 c.if-not-holds.false) c.loop-test.invariant
 
-pub returns-then-not-holds_among-clause-holds : goal.returns-then-not-holds_among-clause-holds
-returns-then-not-holds_among-clause-holds g c =
-    left_stop (Holds (bound_at c.args.binding.now)) (comparison {Z = g.row.A.Denot}) (AllByRecursion (Holds (bound_at c.args.binding.now)) c.args.rule.now.guard) c.guard-test-items.result.now c.loop-test.test-index c.test-item.result c.holds_among.result c.loop-test-test.true c.test-item.is c.holds_among.ensures c.if-not-holds_among.true c.loop-test.invariant
+pub returns-then-not-holds-clause-holds : goal.returns-then-not-holds-clause-holds
+returns-then-not-holds-clause-holds g c =
+    left_stop (Holds (bound_at c.args.binding.now)) (comparison {Z = g.row.A.Denot}) (AllByRecursion (Holds (bound_at c.args.binding.now)) c.args.rule.now.guard) c.guard-test-items.result.now c.loop-test.test-index c.test-item.result c.holds.result c.loop-test-test.true c.test-item.is c.holds.ensures c.if-not-holds.true c.loop-test.invariant
 
 pub returns-clause-holds : goal.returns-clause-holds
 returns-clause-holds g c =

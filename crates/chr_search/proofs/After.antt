@@ -1,0 +1,110 @@
+-- The trials after another, and whether a trial is the next one.
+use Rattle.std.proofs.Common.{◌≡◌, ◌≢◌, Decides, ℕ, ◌<◌, ◌≤◌, Bool, true, false, ◌==◌, List, [], ◌∷◌, length, Some, Result, Ok, Err, refl, sym, ◌∙◌, ap, subst, arith, ⊎_elim, true≢false}
+use Rattle.std.specs.Prelude.{IfOk}
+use Rattle.std.specs.List.{AllByRecursion}
+use Rattle.std.proofs.lemmas.Bool.Decides.{nat_tests}
+use Rattle.chr_rule.specs.Scope.{IsRule}
+use Rattle.chr_plan.specs.Orders.{heads_of}
+use Rattle.chr_plan.specs.Plans.{ArePlans}
+use Rattle.chr_store.specs.Labels.{LabelledStore, IsLabelled}
+use Rattle.chr_search.specs.declared.search.Ask.{Ask}
+use Rattle.chr_search.specs.declared.search.Ask.TheVariants as answers
+use Rattle.chr_search.specs.Positions.{at_or_after, begins, just_after, past}
+use Rattle.chr_search.specs.Tree.{Beyond}
+use Rattle.chr_search.specs.Trials.{Space, join_in, Child, IsTrial, IsNext}
+use Rattle.chr_search.specs.Verdicts.{Trial, position, IsFormed, IsTrialOf}
+use Rattle.chr_search.specs.Answers.{IsAnswer, IsToldNext}
+use Rattle.chr_search.proofs.Positions.{after, after_itself, after_cases, just_after_reaches, passed, passed_reaches}
+use Rattle.chr_search.proofs.Plans.{planned_order}
+use Rattle.chr_search.proofs.Descents.{rule_scoped, rule_low, head_low}
+use Rattle.chr_search.proofs.Judging.{few_heads, labels_length}
+use Rattle.chr_search.proofs.Making.{grows_count, next_trial}
+use Rattle.chr_search.proofs.Searching.{moves_past}
+use Rattle.chr_search.proofs.Shrinking.{branch}
+use Rattle.chr_search.proofs.PassingOver.{made_of, position_made, trial_of_made}
+
+-- what a position begins is longer, if it comes after it
+longer : (p q : List ℕ) → begins p q ≡ true → at_or_after (just_after p) q ≡ true → length p < length q
+longer [] [] b h = absurd (let z : false ≡ true = h in cc)
+longer [] (y ∷ q) b h = omega arith
+longer (x ∷ p) [] b h = absurd (let z : false ≡ true = b in cc)
+longer (x ∷ p) (y ∷ q) b h =
+    let same : x ≡ y = grind (arith, nat_tests) in
+    let rest : begins p q ≡ true = grind (arith, nat_tests) in
+    let there : at_or_after (just_after p) q ≡ true = ⊎_elim (λ l. absurd (omega arith)) (λ l. l.1) (after_cases x y (just_after p) q h) in
+    let r = longer p q rest there in
+    omega arith
+
+-- a trial has six labels at most
+few_numbers : (s : Space) → ArePlans s.rules s.plans → AllByRecursion IsRule s.rules → (t : List ℕ) → IsTrial s t → length t ≤ 8
+few_numbers s ps all t i =
+    let b = branch s t i in
+    let count : length b.labels ≤ length b.order = grows_count (join_in s b.rule b.order) [] b.labels b.grows (omega arith) in
+    let same : length b.order ≡ length (heads_of b.rule) = (planned_order s.rules s.plans ps b.r b.h b.rule b.order b.planned.rule_is b.planned.order_is).count in
+    let few : length (heads_of b.rule) ≤ 6 = few_heads b.rule (rule_scoped s.rules all b.r b.rule b.planned.rule_is) in
+    subst (λ (z : List ℕ). length z ≤ 8) (sym b.is) (omega arith)
+
+-- so the first one after a position with six is past all that it begins
+past_after : (p q : List ℕ) → p ≢ [] → at_or_after (past p) q ≡ true → at_or_after (just_after p) q ≡ true
+past_after p q ne h =
+    after p q (passed_reaches p q h) (λ e. true≢false (sym h ∙ ap (at_or_after (past p)) (sym e) ∙ (moves_past p p ne (after_itself p)).1))
+
+after_past : (s : Space) → ArePlans s.rules s.plans → AllByRecursion IsRule s.rules → (p q : List ℕ) → 8 ≤ length p → IsTrial s q → at_or_after (just_after p) q ≡ true → at_or_after (past p) q ≡ true
+after_past s ps all p q long i h = passed p q (just_after_reaches p q h) (no (begins p q) refl)
+  where
+    no : (b : Bool) → begins p q ≡ b → b ≡ false
+    no false e = refl
+    no true e = let more : length p < length q = longer p q e h in let few : length q ≤ 8 = few_numbers s ps all q i in absurd (omega arith)
+
+beyond_past : (s : Space) → ArePlans s.rules s.plans → AllByRecursion IsRule s.rules → (p t : List ℕ) → 8 ≤ length p → Beyond (Child s) 3 [] (just_after p) t → Beyond (Child s) 3 [] (past p) t
+beyond_past s ps all p t long b = record { grows = b.grows; deep = b.deep; there = after_past s ps all p t long (record { grows = b.grows; deep = b.deep }) b.there }
+
+next_after : (s : Space) → ArePlans s.rules s.plans → AllByRecursion IsRule s.rules → (p t : List ℕ) → 8 ≤ length p → IsNext s (past p) t → IsNext s (just_after p) t
+next_after s ps all p t long n = record {
+  more = n.more;
+  is = n.is;
+  beyond = record { grows = n.beyond.grows; deep = n.beyond.deep; there = past_after p n.more (λ e. let z : length p ≡ 0 = ap length e in omega arith) n.beyond.there };
+  least = λ other b. n.least other (beyond_past s ps all p other long b);
+}
+
+answer_after : {Z : Type 0} (s : Space) → ArePlans s.rules s.plans → AllByRecursion IsRule s.rules → (p : List ℕ) → 8 ≤ length p → (a : Ask Z) → IsAnswer s (past p) a → IsAnswer s (just_after p) a
+answer_after s ps all p long (answers.Trial t) n = (next_after s ps all p (position t) long n.0, n.1)
+answer_after s ps all p long answers.Done n = λ other b. n other (beyond_past s ps all p other long b)
+
+pub answered : {Z E : Type 0} (s : Space) (t : Trial) (place : List ℕ) (r : Result (Ask Z) E) → ArePlans s.rules s.plans → AllByRecursion IsRule s.rules → (length t.placed ≡ 6 → place ≡ past (position t)) → (length t.placed ≢ 6 → place ≡ just_after (position t)) → IfOk r (IsAnswer s place) → IfOk r (IsAnswer s (just_after (position t)))
+answered s t place (Ok a) ps all most fewer k =
+    elim (length t.placed == 6) as (λ b. (length t.placed == 6 ≡ b) → IsAnswer s (just_after (position t)) a) [
+      | true ↦ λ b.
+          let same : length t.placed ≡ 6 = grind (arith, nat_tests) in
+          answer_after s ps all (position t) (omega (arith, labels_length t)) a (subst (λ q. IsAnswer s q a) (most same) k)
+      | false ↦ λ b. subst (λ q. IsAnswer s q a) (fewer (grind (arith, nat_tests))) k
+    ] refl
+answered s t place (Err e) ps all most fewer k = k
+
+-- the trial of the next position
+pub record Other (s : Space) (p : List ℕ) : Type 0 where
+  pub trial : Trial
+  pub formed : IsFormed trial
+  pub is : position trial ≡ p
+  pub trial_of : IsTrialOf s.rules s.plans s.store trial
+
+next_made : (s : Space) (store : LabelledStore) → ArePlans s.rules s.plans → AllByRecursion IsRule s.rules → store.entries ≡ s.store → IsLabelled store → (p : List ℕ) → IsTrial s p → Other s p
+next_made s store ps all st w p i =
+    let b = branch s p i in
+    let m = made_of s b.rule b.order b.r b.h (record { planned = b.planned; plans = ps; store = store; entries = st; labelled = w; scoped = rule_scoped s.rules all b.r b.rule b.planned.rule_is; number = rule_low s.rules b.r b.rule b.planned.rule_is; head = head_low s.plans b.r b.h b.order b.planned.order_is }) b.labels b.some b.grows in
+    record {
+      trial = m.trial;
+      formed = m.is.formed;
+      is = position_made s b.rule b.order b.r b.h b.labels m ∙ sym b.is;
+      trial_of = trial_of_made s b.rule b.order b.r b.h b.labels m b.planned.rule_is b.planned.order_is;
+    }
+
+-- it is another than a trial with another position or other parts
+pub told_other : (s : Space) (store : LabelledStore) (place p : List ℕ) (t : Trial) → ArePlans s.rules s.plans → AllByRecursion IsRule s.rules → store.entries ≡ s.store → IsLabelled store → IsNext s place p → (p ≡ position t → IsTrialOf s.rules s.plans s.store t → ⊥) → IsToldNext s place t (Some false)
+told_other s store place p t ps all st w n isnt =
+    let o = next_made s store ps all st w p (next_trial s place p n) in
+    (o.trial, o.formed, λ e. isnt (sym o.is ∙ ap position e) (subst (IsTrialOf s.rules s.plans s.store) e o.trial_of), subst (IsNext s place) (sym o.is) n, o.trial_of)
+
+pub told_of : (s : Space) (store : LabelledStore) (place p : List ℕ) (t : Trial) (told : Bool) → ArePlans s.rules s.plans → AllByRecursion IsRule s.rules → store.entries ≡ s.store → IsLabelled store → IsNext s place p → p ≡ position t → Decides told (IsTrialOf s.rules s.plans s.store t) → IsToldNext s place t (Some told)
+told_of s store place p t true ps all st w n e d = (subst (IsNext s place) e n, d.0 refl)
+told_of s store place p t false ps all st w n e d = told_other s store place p t ps all st w n (λ z i. true≢false (sym (d.1 i)))
