@@ -1,6 +1,8 @@
 pub mod Fired
 pub mod PostedBooks
+pub mod Nexts
 pub mod Turns
+pub mod Together
 pub mod Batched
 pub mod Lines
 pub mod StrictLogs

@@ -1,6 +1,6 @@
 -- A ticket that waits is activated, and its rounds are made: in the store as it is once its atom is entered, which it needn't
 -- be where what fires removes it.
-use Rattle.std.proofs.Common.{◌≡◌, ◌≢◌, ◌==◌, ◌||◌, ℕ, zero, suc, ◌+◌, ◌<◌, ◌≤◌, Bool, true, false, nat_lt, not, if◌then◌else◌, inl, inr, List, [], ◌∷◌, ◌++◌, map, length, take, Option, Some, Result, Ok, Err, IfOk, OnErr, slice_set, refl, sym, ◌∙◌, ap, ap₂, subst, arith, true-eqb}
+use Rattle.std.proofs.Common.{◌≡◌, ◌≢◌, ◌==◌, ◌||◌, ℕ, zero, suc, ◌+◌, ◌<◌, ◌≤◌, Bool, true, false, nat_lt, not, if◌then◌else◌, inl, inr, List, [], ◌∷◌, ◌++◌, length, take, Option, Some, Result, Ok, Err, IfOk, OnErr, slice_set, refl, sym, ◌∙◌, ap, ap₂, subst, arith, true-eqb}
 use Rattle.std.proofs.lemmas.Bool.Decides.{nat_tests}
 use Rattle.std.proofs.lemmas.List.{length-set, length-append, set-set, set-get_or, set-append_left, length-map, append_assoc, append-nil}
 use Rattle.chr_value.specs.Atoms.{Value, Atom}
@@ -10,7 +10,7 @@ use Rattle.chr_log.specs.declared.events.Version.TheVariants.{Two}
 use Rattle.chr_plan.specs.Plans.{PlanList}
 use Rattle.chr_store.specs.Labels.{LabelledStore}
 use Rattle.chr_model.specs.Stores.{Store, atom_at, drop_label, without, among}
-use Rattle.chr_model.specs.Goals.{Goal, Plain, Numbered}
+use Rattle.chr_model.specs.Goals.{Goal, Plain}
 use Rattle.chr_model.specs.Programs.{Instances}
 use Rattle.chr_model.proofs.Once.{Lawful-once}
 use Rattle.chr_model.proofs.Older.{store_below}

@@ -19,13 +19,15 @@ use Rattle.chr_calls.specs.declared.answers.Dropping.TheVariants as dropping
 use Rattle.chr_calls.specs.Turns as turn
 use Rattle.chr_calls.specs.Tickets.{Ticket, ended, marked, with_candidate, going_on, ticket_at, state_of, IsClaimable, waits, rests, IsActive, IsNotHeld}
 use Rattle.chr_calls.specs.Books.{BookState, space_of, IsLive, with_tickets, with_ticket}
-use Rattle.chr_calls.specs.Calls.{HoldsLive, HoldsCandidate, MayBeDropped, Turns, Marks}
+use Rattle.chr_calls.specs.Calls.{HoldsLive, HoldsCandidate, MayBeDropped, Turns, Marks, after_judgement, with_candidate_of}
 use Rattle.chr_calls.specs.Headline.{IsKept}
 use Rattle.chr_calls.proofs.Tickets.{held_is}
 use Rattle.chr_calls.proofs.Drops.{drops_keep}
-use Rattle.chr_calls.proofs.Turning.{reports_keep}
+use Rattle.chr_calls.proofs.Turning.{turns_keep, reports_keep}
 use Rattle.chr_book.specs.Books.{IsHeldSearch, HasTrialLeft}
+use Rattle.chr_book.specs.Given.{IsToJudge}
 use Rattle.chr_book.specs.Passed.{IsHeldLive}
+use Rattle.chr_book.proofs.Nexts.{next_turned, now_candidate, moved_same}
 
 -- ---- what can be claimed
 
@@ -95,14 +97,25 @@ dropped_keeps b now e seat t s entries tickets h not_left log ts k =
     n : BookState
     n = with_both entries tickets
 
--- where the search moves on after its candidate, which isn't whole
-pub moved_keeps : (b now : BookState) → b ≡ now → (t : ℕ) (j : Judgement) (tickets : List Ticket) → (seat : ℕ) × HoldsCandidate now seat t j.trial → IsVerdict j.trial j.verdict → j.verdict ≢ Whole → tickets ≡ slice_set b.tickets t (going_on (after_judging j) (ticket_at b.tickets t)) → IsKept b → IsKept (with_tickets b tickets)
-moved_keeps b now e t j tickets (seat, h) right ne ts k =
-    reports_keep b (with_tickets b tickets) seat t j (Ok tt) right (subst (λ (n : BookState). HoldsCandidate n seat t j.trial) (sym e) h, ne, ap (with_tickets b) ts) k
+-- where the search moves on after a judged trial, which isn't whole
+judged_keeps : (b n : BookState) (seat t : ℕ) (j : Judgement) → IsToJudge b seat t j.trial → IsVerdict j.trial j.verdict → j.verdict ≢ Whole → n ≡ after_judgement b t j → IsKept b → IsKept n
+judged_keeps b n seat t j (inl h) right ne after k = reports_keep b n seat t j (Ok tt) right (h, ne, after) k
+judged_keeps b n seat t j (inr h) right ne after k =
+    let asked : BookState = with_candidate_of b t (Some j.trial) in
+    reports_keep asked n seat t j (Ok tt) right (now_candidate b seat t j.trial h, ne, after ∙ sym (moved_same b t h.label (Some j.trial) j h.holds.holds.goal))
+    (turns_keep b asked seat t (Ok (turn.Next j.trial)) (next_turned b seat t j.trial h) k)
 
--- the ticket of a candidate is active
-pub candidate_active : (b now : BookState) → b ≡ now → (t : ℕ) (trial : Trial) → (seat : ℕ) × HoldsCandidate now seat t trial → IsActive b.tickets t
-candidate_active b now e t trial (seat, h) = subst (λ (n : BookState). IsActive n.tickets t) (sym e) (let i = held_is now.tickets t seat h.held in (i.label, i.goal))
+pub moved_keeps : (b now : BookState) → b ≡ now → (t : ℕ) (j : Judgement) (tickets : List Ticket) → (seat : ℕ) × IsToJudge now seat t j.trial → IsVerdict j.trial j.verdict → j.verdict ≢ Whole → tickets ≡ slice_set b.tickets t (going_on (after_judging j) (ticket_at b.tickets t)) → IsKept b → IsKept (with_tickets b tickets)
+moved_keeps b now e t j tickets (seat, h) right ne ts k =
+    judged_keeps b (with_tickets b tickets) seat t j (subst (λ (n : BookState). IsToJudge n seat t j.trial) (sym e) h) right ne (ap (with_tickets b) ts) k
+
+-- its ticket is active
+judged_active : (b : BookState) (seat t : ℕ) (trial : Trial) → IsToJudge b seat t trial → IsActive b.tickets t
+judged_active b seat t trial (inl h) = (let i = held_is b.tickets t seat h.held in (i.label, i.goal))
+judged_active b seat t trial (inr h) = (h.label, h.holds.holds.goal)
+
+pub moved_active : (b now : BookState) → b ≡ now → (t : ℕ) (trial : Trial) → (seat : ℕ) × IsToJudge now seat t trial → IsActive b.tickets t
+moved_active b now e t trial (seat, h) = subst (λ (n : BookState). IsActive n.tickets t) (sym e) (judged_active now seat t trial h)
 
 -- the judged trial is the candidate of a ticket that is held
 pub holds_candidate : (now : BookState) (seat t : ℕ) (j : Judgement) (found : Option (Bor SearchState)) (trial : Trial) → is_some found ≡ true → MatchOption found (IsNotHeld now.tickets seat t) (λ s. IsHeldSearch now.tickets seat t s.now) → (ticket_at now.tickets t).candidate ≡ Some trial → trial ≡ j.trial → HoldsCandidate now seat t j.trial

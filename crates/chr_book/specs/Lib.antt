@@ -1,5 +1,6 @@
 pub mod Books
 pub mod Firings
+pub mod Given
 pub mod Texts
 pub mod Logs
 pub mod Shots

@@ -1,95 +1,37 @@
 //! The calls that make several lines of the table at once.
-ghost use Rattle.std.specs.Prelude.{◌≡◌, ◌↔◌, IsTrue, IfOk, MatchOption};
-ghost use Rattle.chr_calls.specs.Turns.{turn_of, Next};
-ghost use Rattle.chr_calls.specs.Books.{space_of};
-ghost use Rattle.chr_calls.specs.Batches.{batch_of, report_of, IsNextBeside, NoneBeside, AreBeside, Ends, Batches, ReportsBatch};
+ghost use Rattle.chr_calls.specs.Turns.{turn_of};
+ghost use Rattle.chr_calls.specs.Batches.{ClaimsSheet, Follows, ReportsBatch, ReportsSheet, following_of, report_of, sheet_of};
+ghost use Rattle.std.specs.Option.{option_copied};
+ghost use Rattle.chr_book.specs.Given.{IsAskedNext, IsToFire};
 
 use crate::book::Book;
-use chr_calls::{Batch, BatchReport, Turn, TurnFault};
-use chr_search::{Ask, Judged, Search, Trial, Verdict};
-use std::alloc::{AllocError, Allocator};
+use chr_calls::{Batch, BatchReport, ClaimFault, Following, SheetReport, Turn, TurnFault};
+use chr_search::{Judged, Trial, Verdict};
+use std::alloc::Allocator;
 
-/// Whether this is the judged trial.
-fn is_judged<A: Allocator + Copy>(next: &Result<Turn<A>, TurnFault>, judged: &Judged<A>) -> bool
-    ensures { IsTrue result ↔ (turn_of next.now ≡ Ok (Next judged.now.trial)) }
+/// The judgement that is to be fired where a trial comes next: the last one, where it is of that trial and whole.
+fn to_fire<'j, A: Allocator + Copy>(
+    judgements: &'j [Judged<A>],
+    next: &Trial<A>,
+) -> Option<&'j Judged<A>>
+    ensures { IsToFire judgements.now next.now (option_copied result) }
 {
-    match next {
-        Ok(Turn::Trial(trial)) => trial.same(judged.trial()),
-        _ => false,
+    let last = judgements.last()?;
+    if last.verdict() != Verdict::Whole || !last.trial().same(next) {
+        return None;
     }
-}
-
-/// Whether no trial comes next, or the judged one, which is whole.
-fn ends<A: Allocator + Copy>(next: &Result<Turn<A>, TurnFault>, judged: &Judged<A>) -> bool
-    ensures { IsTrue result ↔ Ends judged.now (turn_of next.now) }
-{
-    match next {
-        Ok(Turn::Trial(_)) => judged.verdict() == Verdict::Whole && is_judged(next, judged),
-        _ => true,
-    }
+    Some(last)
 }
 
 impl<A: Allocator + Copy> Book<A> {
-    /// The least admissible trial past another with the same rule and head and the same labels but the last. An `Err` is
-    /// E01.
-    fn next_beside(&self, search: &Search, trial: &Trial<A>) -> Result<Option<Trial<A>>, AllocError>
-        ensures { let s = space_of self.now search.now.label in IfOk result (λ next. MatchOption next (NoneBeside s trial.now) (IsNextBeside s trial.now)) }
+    /// Whether a trial is the next one of a goal that the seat holds. None where no trial comes next. It takes no memory.
+    fn is_next(&self, seat: u32, ticket: u64, trial: &Trial<A>) -> Option<bool>
+        ensures { IsAskedNext self.now seat ticket trial.now result }
     {
-        match search.behind(self.alloc, trial, &self.program, &self.plans, &self.store)? {
-            Ask::Trial(next) => Ok(Some(next)),
-            Ask::Done => Ok(None),
-        }
-    }
-
-    /// A trial of a search with those beside it, at most sixteen together. An `Err` is E01.
-    fn with_those_beside(
-        &self,
-        search: &Search,
-        first: Trial<A>,
-    ) -> Result<Vec<Trial<A>, A>, AllocError>
-        ensures { IfOk result (λ trials. AreBeside (space_of self.now search.now.label) first trials.items) }
-    {
-        let mut trials = Vec::with_capacity(self.alloc, 16)?;
-        trials.push(first)?;
-        while trials.len() < 16 {
-            let last = &trials[trials.len() - 1];
-            let Some(next) = self.next_beside(search, last)? else {
-                break;
-            };
-            trials.push(next)?;
-        }
-        Ok(trials)
-    }
-
-    /// The next trial of the ticket's goal, which is then the ticket's candidate, and those after it with the same rule and
-    /// head and the same labels but the last, at most sixteen together. Done where there is none, and Gone where the goal's
-    /// label has left the store: then it has no candidate. E13 unless the seat holds the ticket; E01 where memory ran out:
-    /// then nothing has changed.
-    pub fn batch(&mut self, seat: u32, ticket: u64) -> Result<Batch<A>, TurnFault>
-        ensures { Batches self.old seat ticket (batch_of result) self.new }
-    {
-        let Some(search) = self.held(seat, ticket) else {
-            return Err(TurnFault::NotHeld);
-        };
-        if self.store.get(search.label()).is_none() {
-            self.tickets.set_candidate(ticket, None);
-            return Ok(Batch::Gone);
-        }
-        let Ok(ask) = search.candidate(self.alloc, &self.program, &self.plans, &self.store) else {
-            return Err(TurnFault::NoMemory);
-        };
-        let Ask::Trial(first) = ask else {
-            self.tickets.set_candidate(ticket, None);
-            return Ok(Batch::Done);
-        };
-        let Ok(candidate) = first.copy(self.alloc) else {
-            return Err(TurnFault::NoMemory);
-        };
-        let Ok(trials) = self.with_those_beside(search, first) else {
-            return Err(TurnFault::NoMemory);
-        };
-        self.tickets.set_candidate(ticket, Some(candidate));
-        Ok(Batch::Trials(trials))
+        let search = self.held(seat, ticket)?;
+        // For the proof: what holds of every trial.
+        let _placed = trial.placed();
+        search.is_next(trial, &self.program, &self.plans, &self.store)
     }
 
     /// For each judgement in order, asks for the ticket's next trial, and reports the judgement where it is of that trial. A
@@ -106,11 +48,14 @@ impl<A: Allocator + Copy> Book<A> {
     {
         let mut reported = 0;
         for judged in judgements {
-            let next = self.trial(seat, ticket);
-            if ends(&next, judged) {
-                return BatchReport { reported, next };
-            }
-            if is_judged(&next, judged) {
+            // No trial is made for this: only the last one is handed out.
+            let Some(is_next) = self.is_next(seat, ticket, judged.trial()) else {
+                break;
+            };
+            if is_next {
+                if judged.verdict() == Verdict::Whole {
+                    break;
+                }
                 self.move_on(ticket, judged);
                 reported += 1;
             }
@@ -118,6 +63,59 @@ impl<A: Allocator + Copy> Book<A> {
         BatchReport {
             reported,
             next: self.trial(seat, ticket),
+        }
+    }
+
+    /// Claims a ticket as [`claim`](Book::claim) does, and gives its first trials as [`sheet`](Book::sheet) does.
+    pub fn claim_sheet(
+        &mut self,
+        seat: u32,
+        ticket: u64,
+        most: usize,
+    ) -> Result<Result<Batch<A>, TurnFault>, ClaimFault>
+        ensures { ClaimsSheet self.old seat ticket most (sheet_of result) self.new }
+    {
+        self.claim(seat, ticket)?;
+        Ok(self.sheet(seat, ticket, most))
+    }
+
+    /// The call that follows a report of these judgements, for what comes next.
+    fn follow(
+        &mut self,
+        seat: u32,
+        ticket: u64,
+        most: usize,
+        judgements: &[Judged<A>],
+        next: Result<Turn<A>, TurnFault>,
+    ) -> Following<A>
+        ensures { Follows self.old seat ticket most judgements.now (turn_of next) (following_of result) self.new }
+    {
+        match next {
+            Ok(Turn::Trial(next)) => match to_fire(judgements, &next) {
+                Some(whole) => Following::Fire(self.fire(seat, ticket, whole)),
+                None => Following::Sheet(self.sheet(seat, ticket, most)),
+            },
+            Ok(Turn::Done | Turn::Gone) => Following::Drop(self.drop_goal(seat, ticket)),
+            Err(fault) => Following::Nothing(fault),
+        }
+    }
+
+    /// Reports judgements as [`report_batch`](Book::report_batch) does, and makes the call that follows for what comes next:
+    /// the last judged trial, where it is whole, is fired; another trial is given with those after it, at most so many
+    /// together; and where none is left, or the goal's label has left the store, the goal is dropped.
+    pub fn report_sheet(
+        &mut self,
+        seat: u32,
+        ticket: u64,
+        judgements: &[Judged<A>],
+        most: usize,
+    ) -> SheetReport<A>
+        ensures { ReportsSheet self.old seat ticket most judgements.now result.reported (following_of result.following) self.new }
+    {
+        let BatchReport { reported, next } = self.report_batch(seat, ticket, judgements);
+        SheetReport {
+            reported,
+            following: self.follow(seat, ticket, most, judgements, next),
         }
     }
 }

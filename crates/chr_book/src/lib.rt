@@ -13,7 +13,10 @@
 //! | [`trial`](Book::trial) | the next trial of a goal becomes its candidate |
 //! | [`report`](Book::report) | the search goes on after a candidate that is no instance |
 //! | [`batch`](Book::batch) | so does the next trial, and those after it that differ in their last label alone come along |
-//! | [`report_batch`](Book::report_batch) | the judgements of a batch are reported up to the first that is an instance |
+//! | [`sheet`](Book::sheet) | so does the next trial, and those that come after it, whatever the verdicts, come along |
+//! | [`report_batch`](Book::report_batch) | the judgements of a batch or a sheet are reported up to the first that is an instance |
+//! | [`claim_sheet`](Book::claim_sheet) | a ticket is claimed, and its first trials are given |
+//! | [`report_sheet`](Book::report_sheet) | judgements are reported, and the last one fires, the goal is dropped, or the next trials are given |
 //! | [`fire`](Book::fire) | a candidate that is an instance fires, where its labels are all live |
 //! | [`drop_goal`](Book::drop_goal) | a goal whose search has no trial left ends |
 //! | [`go_on`](Book::go_on) | trials are asked for, judged and reported, up to one that fires, or to the drop of the goal |
@@ -31,9 +34,10 @@
 //! store and goals; with labels erased its firings are an abstract run from the atoms posted; no label is removed twice;
 //! and where no goal is open, no rule applies to the store.
 //!
-//! After E01 nothing has changed, but for what three calls have made before it, which stands: the judgements that
-//! [`report_batch`](Book::report_batch) has reported, the rounds of [`go_on`](Book::go_on), and the claim and the
-//! rounds of [`start`](Book::start).
+//! After E01 nothing has changed, but for what some calls have made before it, which stands: the judgements that
+//! [`report_batch`](Book::report_batch) and [`report_sheet`](Book::report_sheet) have reported, the claim of
+//! [`claim_sheet`](Book::claim_sheet), the rounds of [`go_on`](Book::go_on), and the claim and the rounds of
+//! [`start`](Book::start).
 #![tactic(auto)]
 
 mod batches;
@@ -41,11 +45,13 @@ mod body;
 mod book;
 mod calls;
 mod firing;
+mod given;
 mod rounds;
 mod shot;
 mod strict;
 mod texts;
 
 pub use book::{Book, OpenFault};
+pub use given::MOST_IN_BATCH;
 pub use shot::Shot;
 pub use texts::Posted;

@@ -3,6 +3,7 @@ pub mod Posting
 pub mod Claiming
 pub mod Marking
 pub mod Turning
+pub mod OneNext
 pub mod Batching
 pub mod Fires
 pub mod Drops

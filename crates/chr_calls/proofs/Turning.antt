@@ -42,7 +42,7 @@ active_among : (j : Join) (ls : List ℕ) → 1 ≤ length ls → Grows (MayFoll
 active_among j [] some g = absurd (omega arith)
 active_among j (x ∷ more) some g = subst (λ z. among (x ∷ more) z ≡ true) g.0.turn (among-itself x more)
 
-trial_active : (s : Space) (trial : Trial) → IsTrial s (position trial) → among (labels trial) s.active ≡ true
+pub trial_active : (s : Space) (trial : Trial) → IsTrial s (position trial) → among (labels trial) s.active ≡ true
 trial_active s trial i =
     let n = branch s (position trial) i in
     let e : trial.number ∷ trial.head ∷ labels trial ≡ n.r ∷ n.h ∷ n.labels = n.is in
@@ -50,7 +50,7 @@ trial_active s trial i =
     subst (λ z. among z s.active ≡ true) (sym same) (active_among (join_in s n.rule n.order) n.labels n.some n.grows)
 
 -- the next trial is admissible
-next_trial : (s : Space) (place found : List ℕ) → IsNext s place found → IsTrial s found
+pub next_trial : (s : Space) (place found : List ℕ) → IsNext s place found → IsTrial s found
 next_trial s place found n =
     let is : found ≡ n.more = n.is in
     subst (IsTrial s) (sym is) (record { grows = n.beyond.grows; deep = n.beyond.deep })

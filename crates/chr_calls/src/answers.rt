@@ -51,8 +51,7 @@ pub enum Turn<A: Allocator> {
 /// The next trials of a goal.
 #[derive(Drop)]
 pub enum Batch<A: Allocator> {
-    /// Its next trial, and those after it with the same rule and head and the same labels but the last, in order, at most
-    /// sixteen together.
+    /// Its next trial and those after it that were asked for, in order.
     Trials(Vec<Trial<A>, A>),
     /// No trial is left.
     Done,
@@ -152,4 +151,26 @@ pub enum PutDownFault {
 pub enum MarkFault {
     /// E12: the ticket is neither Waiting nor Resting.
     NotWaiting(TicketState),
+}
+
+/// The call that follows a report of judgements, with its answer.
+#[derive(Drop)]
+pub enum Following<A: Allocator> {
+    /// The last judged trial came next, and it is whole: it was to be fired.
+    Fire(Result<Firing, FireFault>),
+    /// No trial was left, or the goal's label had left the store: the goal was to be dropped.
+    Drop(Result<Dropping, DropFault>),
+    /// Another trial came next: it was to be given with those after it.
+    Sheet(Result<Batch<A>, TurnFault>),
+    /// No call, since no trial could be asked for.
+    Nothing(TurnFault),
+}
+
+/// What became of the judgements of a sheet.
+#[derive(Drop)]
+pub struct SheetReport<A: Allocator> {
+    /// How many were reported.
+    pub reported: usize,
+    /// The call that followed.
+    pub following: Following<A>,
 }

@@ -9,7 +9,7 @@
 //! - `Tickets`: a ticket's goal with its holder, its stray mark and its search; the state that a seat is told.
 //! - `Books`: the state of a book.
 //! - `Calls`: the table, a relation for each call, from the book before it and its answer to the book after it.
-//! - `Batches`: the calls that make several lines of the table at once.
+//! - `Batches`: the calls that make several lines of the table at once, for batches and for sheets.
 //! - `Runs`: calls by any seats, one after another.
 //! - `Headline`: what holds of a book after any run, and what each call keeps so that it does.
 //! - `Moves`: where searches stand after a call.
@@ -27,6 +27,6 @@ mod answers;
 pub mod laws;
 
 pub use answers::{
-    Batch, BatchReport, ClaimFault, DropFault, Dropping, FireFault, Fired, Firing, MarkFault,
-    PostFault, PutDownFault, ReportFault, TicketState, Turn, TurnFault,
+    Batch, BatchReport, ClaimFault, DropFault, Dropping, FireFault, Fired, Firing, Following,
+    MarkFault, PostFault, PutDownFault, ReportFault, SheetReport, TicketState, Turn, TurnFault,
 };

@@ -1,58 +1,62 @@
-use Rattle.std.proofs.Common.{◌≡◌, ◌+◌, List, drop, true≢false, subst, sym, ◌∙◌, arith}
+use Rattle.std.proofs.Common.{rules, ◌≡◌, ◌≢◌, ◌+◌, Some, None, true, false, drop, ap, ◌∙◌, arith}
 use Rattle.std.proofs.lemmas.List.{drop_all}
-use Rattle.chr_search.specs.Judged.{Judgement}
+use Rattle.chr_search.specs.declared.judged.Verdict.TheVariants.{Whole}
 use Rattle.chr_calls.specs.Turns.{turn_of}
-use Rattle.chr_book.proofs.Batched.{Completes, completes_as, left_is, stopped, asked_last, one_reported, one_passed, now_candidate, not_whole}
-use Rattle.chr_book.proofs.book.Book.report_batch.Goals.{then-is_judged, else-is_judged}
+use Rattle.chr_book.proofs.Batched.{completes_as, completes_here, asked_as, none_ends, whole_ends, stopped, asked_last, one_reported, one_passed}
+use Rattle.chr_book.proofs.book.Book.report_batch.Goals.{then-is_next+else-eq, else-is_next, else-loop-judged-test, then-loop-judged-test+in_default, then-loop-judged-test+in-Some+then-is_next+then-eq}
 use Rattle.chr_book.proofs.book.Book.report_batch.Goals as goal
-
-pub returns-then-ends : goal.returns-then-ends
-returns-then-ends g c =
-    let js = c.args.judgements.now in
-    let i = c.loop-judged.judged-index in
-    let j = c.judged-item.result in
-    let left = left_is js i j c.loop-judged-test.true c.judged-item.is in
-    stopped c.args.seat c.args.ticket c.args.self.now c.loop-judged.self c.trial-next.new.self js (drop (i + 1) js) j c.loop-judged.reported (turn_of {Z = g.row.A.Denot} c.trial-next.result)
-    (subst (λ (xs : List Judgement). Completes c.args.seat c.args.ticket c.args.self.now js c.loop-judged.self xs c.loop-judged.reported) left c.loop-judged.invariant.completes)
-    c.trial-next.ensures (c.ends.ensures.0 c.if-ends.true)
-
-pub move_on-requires-clause-candidate : goal.move_on-requires-clause-candidate
-move_on-requires-clause-candidate g c =
-    (c.args.seat, now_candidate c.args.seat c.args.ticket c.loop-judged.self c.trial-next.new.self c.judged-item.result (turn_of {Z = g.row.A.Denot} c.trial-next.result) c.trial-next.ensures (c.is_judged.ensures.0 c.if-is_judged.true))
-
-pub move_on-requires-clause-other : goal.move_on-requires-clause-other
-move_on-requires-clause-other g c =
-    not_whole c.judged-item.result (turn_of {Z = g.row.A.Denot} c.trial-next.result) (c.is_judged.ensures.0 c.if-is_judged.true) (λ e. true≢false (sym (c.ends.ensures.1 e) ∙ c.if-ends.false))
 
 pub loop-judged-preserved : goal.loop-judged-preserved
 loop-judged-preserved g c =
+    let b = c.args.self.now in
+    let seat = c.args.seat in
+    let t = c.args.ticket in
     let js = c.args.judgements.now in
     let i = c.loop-judged.judged-index in
     let j = c.judged-item.result in
     let rest = drop (i + 1) js in
     let now = c.loop-judged.self in
-    let asked = c.trial-next.new.self in
     let n = c.loop-judged.reported in
     let few = c.loop-judged.invariant.few in
-    let told = turn_of {Z = g.row.A.Denot} c.trial-next.result in
-    let inv = subst (λ (xs : List Judgement). Completes c.args.seat c.args.ticket c.args.self.now js now xs n) (left_is js i j c.loop-judged-test.true c.judged-item.is) c.loop-judged.invariant.completes in
-    elim c.if-is_judged.branch [
-      | then-is_judged w ↦ record {
-        few = (let more : c.if-is_judged.reported ≡ n + 1 = w.reported-is in omega arith);
-        completes = completes_as c.args.seat c.args.ticket c.args.self.now c.if-is_judged.self w.move_on.new.self js rest (n + 1) c.if-is_judged.reported w.self-is w.reported-is
-            (one_reported c.args.seat c.args.ticket c.args.self.now now asked w.move_on.new.self js rest j told n inv c.trial-next.ensures (c.is_judged.ensures.0 w.if-is_judged.true)
-            (now_candidate c.args.seat c.args.ticket now asked j told c.trial-next.ensures (c.is_judged.ensures.0 w.if-is_judged.true), not_whole j told (c.is_judged.ensures.0 w.if-is_judged.true) (λ e. true≢false (sym (c.ends.ensures.1 e) ∙ c.if-ends.false)), w.move_on.ensures));
-      }
-      | else-is_judged w ↦ record {
-        few = (let same : c.if-is_judged.reported ≡ n = w.reported-is in omega arith);
-        completes = completes_as c.args.seat c.args.ticket c.args.self.now c.if-is_judged.self asked js rest n c.if-is_judged.reported w.self-is w.reported-is
-            (one_passed c.args.seat c.args.ticket c.args.self.now now asked js rest j told n inv c.trial-next.ensures (λ e. true≢false (sym (c.ends.ensures.1 e) ∙ c.if-ends.false)) (λ e. true≢false (sym (c.is_judged.ensures.1 e) ∙ w.if-is_judged.false)));
-      }
+    let inv = completes_here seat t b now js i j n c.loop-judged-test.true c.judged-item.is c.loop-judged.invariant.completes in
+    elim c.if-is_next.branch [
+      | then-is_next+else-eq w ↦
+          let next = asked_as now seat t c.trial.result.now j.trial c.is_next.result (Some true) c.trial.ensures (c.in-Some.is ∙ ap Some w.if-is_next.true) c.is_next.ensures in
+          let other : j.verdict ≢ Whole = search rules in
+          record {
+            few = (let more : c.if-is_next.reported ≡ n + 1 = w.reported-is in omega arith);
+            completes = completes_as seat t b c.if-is_next.self w.move_on.new.self js rest (n + 1) c.if-is_next.reported w.self-is w.reported-is (one_reported seat t b now w.move_on.new.self js rest j n inv next other w.move_on.ensures);
+          }
+      | else-is_next w ↦
+          let other = asked_as now seat t c.trial.result.now j.trial c.is_next.result (Some false) c.trial.ensures (c.in-Some.is ∙ ap Some w.if-is_next.false) c.is_next.ensures in
+          record {
+            few = (let same : c.if-is_next.reported ≡ n = w.reported-is in omega arith);
+            completes = completes_as seat t b c.if-is_next.self now js rest n c.if-is_next.reported w.self-is w.reported-is (one_passed seat t b now js rest j n inv other);
+          }
     ]
 
 pub returns : goal.returns
 returns g c =
+    let b = c.args.self.now in
+    let seat = c.args.seat in
+    let t = c.args.ticket in
     let js = c.args.judgements.now in
     let i = c.loop-judged.judged-index in
-    asked_last c.args.seat c.args.ticket c.args.self.now c.loop-judged.self c.trial.new.self js (drop i js) c.loop-judged.reported (turn_of {Z = g.row.A.Denot} c.trial.result)
-    (drop_all i js c.loop-judged-test.false) c.loop-judged.invariant.completes c.trial.ensures
+    let now = c.loop-judged.self in
+    let last = c.trial-2.new.self in
+    let n = c.loop-judged.reported in
+    let told = turn_of {Z = g.row.A.Denot} c.trial-2.result in
+    elim c.loop-judged-test.branch [
+      | else-loop-judged-test w ↦ asked_last seat t b now last js (drop i js) n told (drop_all i js w.loop-judged-test.false) c.loop-judged.invariant.completes c.trial-2.ensures
+      | then-loop-judged-test+in_default w ↦
+          let j = w.judged-item.result in
+          let inv = completes_here seat t b now js i j n w.loop-judged-test.true w.judged-item.is c.loop-judged.invariant.completes in
+          let none = asked_as now seat t w.trial.result.now j.trial w.is_next.result None w.trial.ensures w.in_default.is w.is_next.ensures in
+          stopped seat t b now last js (drop (i + 1) js) j n told inv c.trial-2.ensures (none_ends now last seat t j told none c.trial-2.ensures)
+      | then-loop-judged-test+in-Some+then-is_next+then-eq w ↦
+          let j = w.judged-item.result in
+          let inv = completes_here seat t b now js i j n w.loop-judged-test.true w.judged-item.is c.loop-judged.invariant.completes in
+          let next = asked_as now seat t w.trial.result.now j.trial w.is_next.result (Some true) w.trial.ensures (w.in-Some.is ∙ ap Some w.if-is_next.true) w.is_next.ensures in
+          let whole : j.verdict ≡ Whole = search rules in
+          stopped seat t b now last js (drop (i + 1) js) j n told inv c.trial-2.ensures (whole_ends now last seat t j told next whole c.trial-2.ensures)
+    ]

@@ -1,12 +1,11 @@
 use Rattle.std.proofs.Common.{◌≡◌, ◌-◌, ◌≤◌, ℕ, sym, ap, subst, ◌∙◌, arith}
 use Rattle.chr_search.specs.Positions.{beginning}
-use Rattle.chr_search.specs.Reach.{SearchState}
 use Rattle.chr_calls.specs.declared.answers.TicketState.TheVariants.{Waiting}
 use Rattle.chr_calls.specs.Tickets.{state_of}
 use Rattle.chr_calls.specs.Books.{BookState}
 use Rattle.chr_book.specs.Books.{book_of}
 use Rattle.chr_book.specs.Passed.{StartsRounds, StartsFewer}
-use Rattle.chr_book.proofs.Starting.{IsReady, IsLent, waits_before, started, started_fewer, stays_as_is, starts_keep, starts_fewer_keep, started_of, starts_limit, starts_more, stays_limit}
+use Rattle.chr_book.proofs.Starting.{IsLent, waits_before, started, started_fewer, stays_as_is, starts_keep, starts_fewer_keep, started_of, starts_limit, starts_more, stays_limit}
 use Rattle.chr_book.proofs.book.Book.start_rounds.Given.{Over}
 use Rattle.chr_book.proofs.book.Book.start_rounds.Goals as goal
 use Rattle.chr_book.proofs.book.Book.start_rounds.Goals.{After-take_back, In-Ok-end_start, After-take_back-in_default-end_start}

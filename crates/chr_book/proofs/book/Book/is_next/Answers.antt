@@ -1,0 +1,11 @@
+use Rattle.chr_calls.specs.Books.{BookState}
+use Rattle.chr_book.specs.Books.{book_of}
+use Rattle.chr_book.proofs.Nexts.{asked_next}
+use Rattle.chr_book.proofs.book.Book.is_next.Goals as goal
+
+pub returns : goal.returns
+returns g c =
+    let x = c.self.inside in
+    let s = c.in_ok-search.search.now in
+    let b : BookState = book_of x.program x.plans x.names x.log x.store x.tickets in
+    asked_next b c.args.self.now c.self.view_is c.args.seat c.args.ticket s c.args.trial.now c.is_next.result c.in_ok-search.ensures c.placed-placed.ensures.formed c.is_next.ensures
