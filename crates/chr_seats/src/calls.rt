@@ -1,14 +1,15 @@
 //! The calls that are made in holds.
 ghost use Rattle.std.specs.Prelude.{◌≡◌, ℕ, Bool, true, false};
 ghost use Rattle.chr_calls.specs.Books.{BookState};
-ghost use Rattle.chr_calls.specs.Batches.{Batches, ReportsBatch, batch_of, report_of};
+ghost use Rattle.chr_calls.specs.Batches.{ClaimsSheet, ReportsBatch, ReportsSheet, Sheets, batch_of, following_of, report_of, sheet_of};
 ghost use Rattle.chr_calls.specs.Calls.{Claims, FiresOrMisses, Drops, PutsDown};
 ghost use Rattle.chr_book.specs.Texts.{PostsText};
 ghost use Rattle.chr_seats.specs.Holds.{GoesOn};
 
 use chr_book::{Book, Posted};
 use chr_calls::{
-    Batch, BatchReport, ClaimFault, DropFault, Dropping, FireFault, Firing, PutDownFault, TurnFault,
+    Batch, BatchReport, ClaimFault, DropFault, Dropping, FireFault, Firing, PutDownFault,
+    SheetReport, TurnFault,
 };
 use chr_lex::fault::ReadError;
 use chr_search::Judged;
@@ -45,19 +46,59 @@ impl<A: Allocator + Copy> Call<A, Result<Label, ClaimFault>> for Claim {
     }
 }
 
-/// [`batch`](Book::batch) with these arguments.
+/// [`sheet`](Book::sheet) with these arguments.
 #[derive(Drop)]
-pub struct AskBatch {
+pub struct AskSheet {
     pub ticket: u64,
+    pub most: usize,
 }
 
-impl<A: Allocator + Copy> Call<A, Result<Batch<A>, TurnFault>> for AskBatch {
-    ghost line = { λ c seat b answer n. Batches b seat c.ticket (batch_of answer) n };
+impl<A: Allocator + Copy> Call<A, Result<Batch<A>, TurnFault>> for AskSheet {
+    ghost line = { λ c seat b answer n. Sheets b seat c.ticket c.most (batch_of answer) n };
 
     ghost posts = { false };
 
     fn make(self, book: &mut Book<A>, seat: u32) -> Result<Batch<A>, TurnFault> {
-        book.batch(seat, self.ticket)
+        book.sheet(seat, self.ticket, self.most)
+    }
+}
+
+/// [`claim_sheet`](Book::claim_sheet) with these arguments.
+#[derive(Drop)]
+pub struct ClaimSheet {
+    pub ticket: u64,
+    pub most: usize,
+}
+
+impl<A: Allocator + Copy> Call<A, Result<Result<Batch<A>, TurnFault>, ClaimFault>> for ClaimSheet {
+    ghost line = { λ c seat b answer n. ClaimsSheet b seat c.ticket c.most (sheet_of answer) n };
+
+    ghost posts = { false };
+
+    fn make(
+        self,
+        book: &mut Book<A>,
+        seat: u32,
+    ) -> Result<Result<Batch<A>, TurnFault>, ClaimFault> {
+        book.claim_sheet(seat, self.ticket, self.most)
+    }
+}
+
+/// [`report_sheet`](Book::report_sheet) with these arguments.
+#[derive(Drop)]
+pub struct ReportSheet<'a, A: Allocator> {
+    pub ticket: u64,
+    pub judgements: &'a [Judged<A>],
+    pub most: usize,
+}
+
+impl<'a, A: Allocator + Copy> Call<A, SheetReport<A>> for ReportSheet<'a, A> {
+    ghost line = { λ c seat b answer n. ReportsSheet b seat c.ticket c.most c.judgements.now answer.reported (following_of answer.following) n };
+
+    ghost posts = { false };
+
+    fn make(self, book: &mut Book<A>, seat: u32) -> SheetReport<A> {
+        book.report_sheet(seat, self.ticket, self.judgements, self.most)
     }
 }
 

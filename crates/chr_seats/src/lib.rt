@@ -23,7 +23,9 @@ mod seating;
 mod tally;
 
 pub use answers::HoldFault;
-pub use calls::{AskBatch, Call, Claim, DropGoal, Fire, PostText, PutDown, ReportBatch};
+pub use calls::{
+    AskSheet, Call, Claim, ClaimSheet, DropGoal, Fire, PostText, PutDown, ReportBatch, ReportSheet,
+};
 pub use counts::Counts;
 pub use kept::Kept;
 pub use seat::{PostLedger, SEATS, SESSION_SEATS, Seat, Seats, WORKER_SEATS};

@@ -1,7 +1,7 @@
 //! The lock.
 ghost use Rattle.std.specs.Prelude.{◌≡◌, ◌+◌, ◌<◌, ℕ, [], Bool, true, false, Option, sum_by, vec_len, OnErr, IfOk, IfErr};
 ghost use Rattle.chr_calls.specs.Books.{BookState};
-ghost use Rattle.chr_calls.specs.Batches.{Batches, ReportsBatch, batch_of, report_of};
+ghost use Rattle.chr_calls.specs.Batches.{ClaimsSheet, ReportsBatch, ReportsSheet, Sheets, batch_of, following_of, report_of, sheet_of};
 ghost use Rattle.chr_calls.specs.Calls.{Claims, FiresOrMisses, Drops, PutsDown};
 ghost use Rattle.chr_book.specs.Texts.{PostsText};
 ghost use Rattle.chr_seats.specs.Accounts.{AreSeats, IsAudited};
@@ -11,13 +11,13 @@ use crate::sleepers::Sleepers;
 use chr_book::{Book, Posted};
 use chr_calls::{
     Batch, BatchReport, ClaimFault, DropFault, Dropping, FireFault, Firing, MarkFault,
-    PutDownFault, TurnFault,
+    PutDownFault, SheetReport, TurnFault,
 };
 use chr_lex::fault::ReadError;
 use chr_search::Judged;
 use chr_seats::{
-    AskBatch, Call, Claim, DropGoal, Fire, HoldFault, Kept, PostLedger, PostText, PutDown,
-    ReportBatch, Seat, Seats,
+    AskSheet, Call, Claim, ClaimSheet, DropGoal, Fire, HoldFault, Kept, PostLedger, PostText,
+    PutDown, ReportBatch, ReportSheet, Seat, Seats,
 };
 use chr_store::Label;
 use std::alloc::{AllocError, Allocator};
@@ -162,18 +162,58 @@ impl<L1: PostLedger, L2: Ledger, A: Allocator + Copy> Shared<L1, L2, A> {
         self.in_hold(rt, seat, Claim { ticket }, false)
     }
 
-    /// The next trials of a ticket that the seat holds. E26; E24; then E13 and E01.
-    pub fn batch<R: Wait>(
+    /// Gives a ticket to the seat, and then its first trials, at most so many together, as
+    /// [`Book::claim_sheet`](chr_book::Book::claim_sheet) does. E26; E24; then E12, E10 and E01; and E01 of the trials.
+    pub fn claim_sheet<R: Wait>(
         &self,
         rt: &R,
         seat: &mut Seat<L1, L2>,
         ticket: u64,
-    ) -> Result<Result<Batch<A>, TurnFault>, HoldFault>
-        ensures hold { WasHold (λ b answer n. Batches b seat.old.number ticket (batch_of answer) n) seat.old result seat.new }
+        most: usize,
+    ) -> Result<Result<Result<Batch<A>, TurnFault>, ClaimFault>, HoldFault>
+        ensures hold { WasHold (λ b answer n. ClaimsSheet b seat.old.number ticket most (sheet_of answer) n) seat.old result seat.new }
         ensures number { seat.new.number ≡ seat.old.number }
         ensures posts { seat.new.counts.posts ≡ seat.old.counts.posts }
     {
-        self.in_hold(rt, seat, AskBatch { ticket }, false)
+        self.in_hold(rt, seat, ClaimSheet { ticket, most }, false)
+    }
+
+    /// The next trials of a ticket that the seat holds, at most so many together. E26; E24; then E13 and E01.
+    pub fn sheet<R: Wait>(
+        &self,
+        rt: &R,
+        seat: &mut Seat<L1, L2>,
+        ticket: u64,
+        most: usize,
+    ) -> Result<Result<Batch<A>, TurnFault>, HoldFault>
+        ensures hold { WasHold (λ b answer n. Sheets b seat.old.number ticket most (batch_of answer) n) seat.old result seat.new }
+        ensures number { seat.new.number ≡ seat.old.number }
+        ensures posts { seat.new.counts.posts ≡ seat.old.counts.posts }
+    {
+        self.in_hold(rt, seat, AskSheet { ticket, most }, false)
+    }
+
+    /// Reports judgements of a ticket's trials, and fires the last one, drops the goal, or gives the next trials, at most so
+    /// many together, as [`Book::report_sheet`](chr_book::Book::report_sheet) does. Who deals with the tickets of a firing
+    /// announces them then. E26; E24; then E13 and E01, of the report and of the call that follows.
+    pub fn report_sheet<R: Wait>(
+        &self,
+        rt: &R,
+        seat: &mut Seat<L1, L2>,
+        ticket: u64,
+        judgements: &[Judged<A>],
+        most: usize,
+    ) -> Result<SheetReport<A>, HoldFault>
+        ensures hold { WasHold (λ b answer n. ReportsSheet b seat.old.number ticket most judgements.now answer.reported (following_of answer.following) n) seat.old result seat.new }
+        ensures number { seat.new.number ≡ seat.old.number }
+        ensures posts { seat.new.counts.posts ≡ seat.old.counts.posts }
+    {
+        let call = ReportSheet {
+            ticket,
+            judgements,
+            most,
+        };
+        self.in_hold(rt, seat, call, false)
     }
 
     /// Reports judgements of a ticket's trials, and asks for its next trial. E26; E24; then E13 and E01, as what comes next.
