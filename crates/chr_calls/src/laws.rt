@@ -21,7 +21,7 @@ ghost use Rattle.chr_calls.specs.Turns.{Turn};
 ghost use Rattle.chr_calls.specs.Books.{BookState, opened, events};
 ghost use Rattle.chr_calls.specs.Calls.{Posts, Claims, Turns, Reports, FiresOrMisses, Drops, PutsDown, Marks, TakesStray};
 ghost use Rattle.chr_calls.specs.Batches.{Batch, BatchReport, Batches, ReportsBatch, AreRight};
-ghost use Rattle.chr_calls.specs.Runs.{Call, Run, posts_of, all_posts};
+ghost use Rattle.chr_calls.specs.Runs.{Call, Run, all_posts};
 ghost use Rattle.chr_calls.specs.Headline.{Headline, IsKept};
 ghost use Rattle.chr_calls.specs.Moves.{NoneMovesBack, MovesOn};
 

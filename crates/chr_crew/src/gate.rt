@@ -17,8 +17,9 @@ impl Gate for Open {
 /// When a worker ends.
 #[derive(Clone, Copy, Debug, PartialEq, Eq)]
 pub enum Stop {
-    /// After so many calls on goals; before that where no worker finds a ticket to take, and after E01 and E10, but where it had
-    /// looked first for what was posted or stray.
+    /// After so many calls on goals, of which a claim with the first trials and a report with the call that follows are two
+    /// each; before that where no worker finds a ticket to take, and after E01 and E10, but where it had looked first for
+    /// what was posted or stray.
     Turns(u64),
     /// Once the crew is closed. After E01 and E10, with the same exception, and where there is no ticket to take, it sleeps until
     /// there may be one.

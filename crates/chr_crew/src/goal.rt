@@ -3,8 +3,9 @@ ghost use Rattle.std.specs.Prelude.{◌≡◌};
 ghost use Rattle.chr_pool.specs.Hands.{hand_id};
 
 use crate::gate::{Gate, Stop};
+use chr_book::MOST_IN_BATCH;
 use chr_calls::{
-    Batch, BatchReport, ClaimFault, DropFault, Dropping, FireFault, Fired, Firing, PutDownFault,
+    Batch, ClaimFault, DropFault, Dropping, FireFault, Fired, Firing, Following, PutDownFault,
     Turn, TurnFault,
 };
 use chr_pool::Hand;
@@ -28,22 +29,44 @@ pub enum Left {
     WrongSeat,
 }
 
-/// Judgements of the trials of a batch, in order.
+/// How many trials the first sheet of a goal has at most.
+const FIRST_SHEET: usize = MOST_IN_BATCH;
+
+/// How many trials any sheet has at most.
+const LARGEST_SHEET: usize = 256;
+
+/// Judgements of the trials of a sheet, in order.
 type Judgements<A> = Vec<Judged<A>, A>;
 
 /// A call that comes next for a ticket.
 #[derive(Drop)]
 enum Call<A: Allocator> {
-    /// Claims the ticket.
+    /// Claims the ticket, and asks for its first trials.
     Claim,
     /// Asks for the next trials.
-    Batch,
-    /// Reports judgements of these.
+    Sheet,
+    /// Reports judgements of these, and fires the last one, drops the goal, or asks for the next trials.
     Report(Judgements<A>),
     /// Fires one that is whole.
     Fire(Judged<A>),
     /// Drops a goal that has no trial left.
     Drop,
+}
+
+impl<A: Allocator> Call<A> {
+    /// How many turns it takes at most.
+    fn turns(&self) -> u64 {
+        match self {
+            Call::Claim | Call::Report(_) => 2,
+            Call::Sheet | Call::Fire(_) | Call::Drop => 1,
+        }
+    }
+}
+
+/// How many trials the sheet after so many judgements has at most: twice as many, so that a goal of many trials takes few
+/// holds.
+fn size_after(judged: usize) -> usize {
+    judged.saturating_mul(2).max(FIRST_SHEET).min(LARGEST_SHEET)
 }
 
 /// How a worker leaves a ticket where a hold made no call.
@@ -81,7 +104,7 @@ fn judge_all<A: Allocator + Copy, G: Gate>(
     Ok(judgements)
 }
 
-/// Fires the one judgement of a batch where it is whole, since its trial is the candidate then; else reports them all.
+/// Fires the one judgement of a sheet where it is whole, since its trial is the candidate then; else reports them all.
 fn fire_or_report<A: Allocator + Copy>(judgements: Judgements<A>) -> Call<A> {
     let mut judgements = judgements;
     if judgements.len() != 1 || judgements[0].verdict() != Verdict::Whole {
@@ -89,55 +112,44 @@ fn fire_or_report<A: Allocator + Copy>(judgements: Judgements<A>) -> Call<A> {
     }
     match judgements.pop() {
         Some(judged) => Call::Fire(judged),
-        None => Call::Batch,
+        None => Call::Sheet,
     }
 }
 
-/// Whether two trials have the same rule and head, and the same labels but the last.
-fn are_beside<A: Allocator + Copy>(trial: &Trial<A>, other: &Trial<A>) -> bool {
-    if trial.number() != other.number() || trial.head() != other.head() {
-        return false;
-    }
-    let (placed, others) = (trial.placed(), other.placed());
-    if placed.len() != others.len() {
-        return false;
-    }
-    for i in 1..placed.len() {
-        if placed[i - 1].label != others[i - 1].label {
-            return false;
-        }
-    }
-    true
-}
-
-/// Fires the last judgement where it is whole and its trial comes next. Where the next trial is beside the last one, more
-/// may be beside it, so it asks for them; else it judges that trial alone.
-fn go_on<A: Allocator + Copy, G: Gate>(
+/// Judges the trials that were given.
+fn judge_sheet<A: Allocator + Copy, G: Gate>(
     gate: &G,
     ticket: u64,
-    next: Trial<A>,
-    judgements: Judgements<A>,
+    given: Result<Batch<A>, TurnFault>,
 ) -> Result<Call<A>, Left> {
-    let mut judgements = judgements;
-    let Some(last) = judgements.pop() else {
-        return Ok(Call::Batch);
-    };
-    if last.verdict() == Verdict::Whole && last.trial().same(&next) {
-        return Ok(Call::Fire(last));
+    match given {
+        Err(fault) => Err(left_without_turn(fault)),
+        Ok(Batch::Trials(trials)) => match judge_all(gate, ticket, trials) {
+            Ok(judgements) => Ok(fire_or_report(judgements)),
+            Err(_) => Err(Left::Want),
+        },
+        Ok(Batch::Done | Batch::Gone) => Ok(Call::Drop),
     }
-    if are_beside(&next, last.trial()) {
-        return Ok(Call::Batch);
-    }
-    gate.before_judging(ticket);
-    judgements.clear();
-    let Ok(()) = judgements.push(judge(next)) else {
-        return Err(Left::Want);
-    };
-    Ok(fire_or_report(judgements))
 }
 
-/// Claims the ticket. Where memory or labels run out, it is marked stray.
-fn claim<L1: PostLedger, L2: Ledger, A: Allocator + Copy, R: Wait>(
+/// How a worker leaves a ticket that it couldn't claim. Where memory or labels run out, it is marked stray.
+fn left_unclaimed<L1: PostLedger, L2: Ledger, A: Allocator + Copy, R: Wait>(
+    rt: &R,
+    shared: &Shared<L1, L2, A>,
+    ticket: u64,
+    fault: ClaimFault,
+) -> Left {
+    match fault {
+        ClaimFault::NotWaiting(_) => Left::Free,
+        ClaimFault::LabelsSpent | ClaimFault::NoMemory => {
+            let _ = shared.mark_stray(rt, ticket);
+            Left::Want
+        }
+    }
+}
+
+/// Claims the ticket, without its first trials.
+fn claim_alone<L1: PostLedger, L2: Ledger, A: Allocator + Copy, R: Wait>(
     rt: &R,
     shared: &Shared<L1, L2, A>,
     seat: &mut Seat<L1, L2>,
@@ -147,12 +159,26 @@ fn claim<L1: PostLedger, L2: Ledger, A: Allocator + Copy, R: Wait>(
     ensures posts { seat.new.counts.posts ≡ seat.old.counts.posts }
 {
     match shared.claim(rt, seat, ticket) {
-        Ok(Ok(_)) => Ok(Call::Batch),
-        Ok(Err(ClaimFault::NotWaiting(_))) => Err(Left::Free),
-        Ok(Err(ClaimFault::LabelsSpent | ClaimFault::NoMemory)) => {
-            let _ = shared.mark_stray(rt, ticket);
-            Err(Left::Want)
-        }
+        Ok(Ok(_)) => Ok(Call::Sheet),
+        Ok(Err(fault)) => Err(left_unclaimed(rt, shared, ticket, fault)),
+        Err(fault) => Err(left_by(fault)),
+    }
+}
+
+/// Claims the ticket, and judges its first trials when the lock is given back.
+fn claim<L1: PostLedger, L2: Ledger, A: Allocator + Copy, R: Wait, G: Gate>(
+    rt: &R,
+    shared: &Shared<L1, L2, A>,
+    seat: &mut Seat<L1, L2>,
+    gate: &G,
+    ticket: u64,
+) -> Result<Call<A>, Left>
+    ensures number { seat.new.number ≡ seat.old.number }
+    ensures posts { seat.new.counts.posts ≡ seat.old.counts.posts }
+{
+    match shared.claim_sheet(rt, seat, ticket, FIRST_SHEET) {
+        Ok(Ok(given)) => judge_sheet(gate, ticket, given),
+        Ok(Err(fault)) => Err(left_unclaimed(rt, shared, ticket, fault)),
         Err(fault) => Err(left_by(fault)),
     }
 }
@@ -168,42 +194,30 @@ fn ask<L1: PostLedger, L2: Ledger, A: Allocator + Copy, R: Wait, G: Gate>(
     ensures number { seat.new.number ≡ seat.old.number }
     ensures posts { seat.new.counts.posts ≡ seat.old.counts.posts }
 {
-    match shared.batch(rt, seat, ticket) {
+    match shared.sheet(rt, seat, ticket, FIRST_SHEET) {
+        Ok(given) => judge_sheet(gate, ticket, given),
         Err(fault) => Err(left_by(fault)),
-        Ok(Err(fault)) => Err(left_without_turn(fault)),
-        Ok(Ok(Batch::Trials(trials))) => match judge_all(gate, ticket, trials) {
-            Ok(judgements) => Ok(fire_or_report(judgements)),
-            Err(_) => Err(Left::Want),
-        },
-        Ok(Ok(Batch::Done | Batch::Gone)) => Ok(Call::Drop),
     }
 }
 
-/// Reports judgements, and judges the trial that comes next when the lock is given back.
-fn report<L1: PostLedger, L2: Ledger, A: Allocator + Copy, R: Wait, G: Gate>(
+/// Reports judgements, and asks for the next trial, without the call that follows.
+fn report_alone<L1: PostLedger, L2: Ledger, A: Allocator + Copy, R: Wait>(
     rt: &R,
     shared: &Shared<L1, L2, A>,
     seat: &mut Seat<L1, L2>,
-    gate: &G,
     ticket: u64,
-    judgements: Judgements<A>,
+    judgements: &[Judged<A>],
 ) -> Result<Call<A>, Left>
     ensures number { seat.new.number ≡ seat.old.number }
     ensures posts { seat.new.counts.posts ≡ seat.old.counts.posts }
 {
-    let BatchReport { reported: _, next } = match shared.report_batch(
-        rt,
-        seat,
-        ticket,
-        judgements.as_slice(),
-    ) {
-        Ok(report) => report,
-        Err(fault) => return Err(left_by(fault)),
-    };
-    match next {
-        Ok(Turn::Trial(next)) => go_on(gate, ticket, next, judgements),
-        Ok(Turn::Done | Turn::Gone) => Ok(Call::Drop),
-        Err(fault) => Err(left_without_turn(fault)),
+    match shared.report_batch(rt, seat, ticket, judgements) {
+        Ok(report) => match report.next {
+            Ok(Turn::Trial(_)) => Ok(Call::Sheet),
+            Ok(Turn::Done | Turn::Gone) => Ok(Call::Drop),
+            Err(fault) => Err(left_without_turn(fault)),
+        },
+        Err(fault) => Err(left_by(fault)),
     }
 }
 
@@ -230,6 +244,66 @@ fn push_new<L1: PostLedger, L2: Ledger, A: Allocator + Copy, R: Wait>(
     }
 }
 
+/// What comes after a firing was asked for.
+fn after_firing<L1: PostLedger, L2: Ledger, A: Allocator + Copy, R: Wait>(
+    rt: &R,
+    shared: &Shared<L1, L2, A>,
+    hand: &mut Hand<u64>,
+    answer: Result<Firing, FireFault>,
+) -> Result<Call<A>, Left>
+    ensures { hand_id hand.new ≡ hand_id hand.old }
+{
+    let fired = match answer {
+        Ok(Firing::Fired(fired)) => fired,
+        Ok(Firing::Missed) | Err(FireFault::Stale | FireFault::NotWhole) => {
+            return Ok(Call::Sheet);
+        }
+        Err(FireFault::NoMemory) => return Err(Left::Want),
+        Err(FireFault::NotHeld) => return Err(Left::Free),
+    };
+    push_new(rt, shared, hand, fired);
+    if fired.active_lives {
+        Ok(Call::Sheet)
+    } else {
+        Err(Left::Free)
+    }
+}
+
+/// What comes after a goal was to be dropped.
+fn after_dropping<A: Allocator>(answer: Result<Dropping, DropFault>) -> Result<Call<A>, Left> {
+    match answer {
+        Ok(Dropping::Unfinished) => Ok(Call::Sheet),
+        Ok(Dropping::Dropped) | Err(DropFault::NotHeld) => Err(Left::Free),
+        Err(DropFault::NoMemory) => Err(Left::Want),
+    }
+}
+
+/// Reports judgements, and judges the trials that come next when the lock is given back.
+fn report<L1: PostLedger, L2: Ledger, A: Allocator + Copy, R: Wait, G: Gate>(
+    rt: &R,
+    shared: &Shared<L1, L2, A>,
+    hand: &mut Hand<u64>,
+    seat: &mut Seat<L1, L2>,
+    gate: &G,
+    ticket: u64,
+    judgements: &[Judged<A>],
+) -> Result<Call<A>, Left>
+    ensures hand { hand_id hand.new ≡ hand_id hand.old }
+    ensures number { seat.new.number ≡ seat.old.number }
+    ensures posts { seat.new.counts.posts ≡ seat.old.counts.posts }
+{
+    let most = size_after(judgements.len());
+    match shared.report_sheet(rt, seat, ticket, judgements, most) {
+        Err(fault) => Err(left_by(fault)),
+        Ok(report) => match report.following {
+            Following::Fire(answer) => after_firing(rt, shared, hand, answer),
+            Following::Drop(answer) => after_dropping(answer),
+            Following::Sheet(given) => judge_sheet(gate, ticket, given),
+            Following::Nothing(fault) => Err(left_without_turn(fault)),
+        },
+    }
+}
+
 /// Fires.
 fn fire<L1: PostLedger, L2: Ledger, A: Allocator + Copy, R: Wait>(
     rt: &R,
@@ -243,20 +317,9 @@ fn fire<L1: PostLedger, L2: Ledger, A: Allocator + Copy, R: Wait>(
     ensures number { seat.new.number ≡ seat.old.number }
     ensures posts { seat.new.counts.posts ≡ seat.old.counts.posts }
 {
-    let fired = match shared.fire(rt, seat, ticket, judged) {
-        Ok(Ok(Firing::Fired(fired))) => fired,
-        Ok(Ok(Firing::Missed) | Err(FireFault::Stale | FireFault::NotWhole)) => {
-            return Ok(Call::Batch);
-        }
-        Ok(Err(FireFault::NoMemory)) => return Err(Left::Want),
-        Ok(Err(FireFault::NotHeld)) => return Err(Left::Free),
-        Err(fault) => return Err(left_by(fault)),
-    };
-    push_new(rt, shared, hand, fired);
-    if fired.active_lives {
-        Ok(Call::Batch)
-    } else {
-        Err(Left::Free)
+    match shared.fire(rt, seat, ticket, judged) {
+        Ok(answer) => after_firing(rt, shared, hand, answer),
+        Err(fault) => Err(left_by(fault)),
     }
 }
 
@@ -271,14 +334,12 @@ fn drop_goal<L1: PostLedger, L2: Ledger, A: Allocator + Copy, R: Wait>(
     ensures posts { seat.new.counts.posts ≡ seat.old.counts.posts }
 {
     match shared.drop_goal(rt, seat, ticket) {
-        Ok(Ok(Dropping::Unfinished)) => Ok(Call::Batch),
-        Ok(Ok(Dropping::Dropped) | Err(DropFault::NotHeld)) => Err(Left::Free),
-        Ok(Err(DropFault::NoMemory)) => Err(Left::Want),
+        Ok(answer) => after_dropping(answer),
         Err(fault) => Err(left_by(fault)),
     }
 }
 
-/// Makes a call. Returns the next one, or how the worker leaves the ticket.
+/// Makes a call that may take so many turns, one at least. Returns the next one, or how the worker leaves the ticket.
 fn make<L1: PostLedger, L2: Ledger, A: Allocator + Copy, R: Wait, G: Gate>(
     rt: &R,
     shared: &Shared<L1, L2, A>,
@@ -287,15 +348,22 @@ fn make<L1: PostLedger, L2: Ledger, A: Allocator + Copy, R: Wait, G: Gate>(
     gate: &G,
     ticket: u64,
     call: Call<A>,
+    turns: u64,
 ) -> Result<Call<A>, Left>
     ensures hand { hand_id hand.new ≡ hand_id hand.old }
     ensures number { seat.new.number ≡ seat.old.number }
     ensures posts { seat.new.counts.posts ≡ seat.old.counts.posts }
 {
     match call {
-        Call::Claim => claim(rt, shared, seat, ticket),
-        Call::Batch => ask(rt, shared, seat, gate, ticket),
-        Call::Report(judgements) => report(rt, shared, seat, gate, ticket, judgements),
+        Call::Claim if turns == 1 => claim_alone(rt, shared, seat, ticket),
+        Call::Claim => claim(rt, shared, seat, gate, ticket),
+        Call::Sheet => ask(rt, shared, seat, gate, ticket),
+        Call::Report(judgements) if turns == 1 => {
+            report_alone(rt, shared, seat, ticket, judgements.as_slice())
+        }
+        Call::Report(judgements) => {
+            report(rt, shared, hand, seat, gate, ticket, judgements.as_slice())
+        }
         Call::Fire(judged) => fire(rt, shared, hand, seat, ticket, &judged),
         Call::Drop => drop_goal(rt, shared, seat, ticket),
     }
@@ -322,18 +390,20 @@ fn put_down<L1: PostLedger, L2: Ledger, A: Allocator + Copy, R: Wait>(
     }
 }
 
-/// Takes a turn, where one is left and the crew isn't closed.
+/// Takes so many turns, or fewer where no more are left; none where the crew is closed. Returns how many.
 fn spend<L1: PostLedger, L2: Ledger, A: Allocator + Copy>(
     shared: &Shared<L1, L2, A>,
     stop: &mut Stop,
-) -> bool {
+    turns: u64,
+) -> u64 {
     match stop {
-        Stop::Turns(0) => false,
-        Stop::Turns(turns) => {
-            *turns -= 1;
-            true
+        Stop::Turns(left) => {
+            let taken = turns.min(*left);
+            *left -= taken;
+            taken
         }
-        Stop::Closed => !shared.is_closed(),
+        Stop::Closed if shared.is_closed() => 0,
+        Stop::Closed => turns,
     }
 }
 
@@ -354,10 +424,11 @@ pub fn work_on_ticket<L1: PostLedger, L2: Ledger, A: Allocator + Copy, R: Wait, 
 {
     let mut call = Call::Claim;
     for _ in rt.forever() {
-        if !spend(shared, stop) {
+        let turns = spend(shared, stop, call.turns());
+        if turns == 0 {
             return put_down(rt, shared, seat, ticket, Left::Spent);
         }
-        match make(rt, shared, hand, seat, gate, ticket, call) {
+        match make(rt, shared, hand, seat, gate, ticket, call, turns) {
             Ok(next) => call = next,
             Err(Left::Want) => return put_down(rt, shared, seat, ticket, Left::Want),
             Err(left) => return left,

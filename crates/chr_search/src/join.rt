@@ -1,11 +1,10 @@
 //! The partners of an active label at the heads of a plan.
-ghost use Rattle.std.specs.Prelude.{◌≡◌, ◌↔◌, ℕ, ◌∷◌, ◌++◌, ◌≤◌, [], length, MatchOption, IfSome, IsTrue};
-ghost use Rattle.chr_guard.specs.Bindings.{Keeps, Narrows, NoneUnder, NarrowsIf};
+ghost use Rattle.std.specs.Prelude.{◌≡◌, ◌↔◌, ℕ, ◌∷◌, ◌≤◌, [], length, MatchOption, IfSome, IsTrue};
+ghost use Rattle.chr_guard.specs.Bindings.{Keeps, NarrowsIf};
 ghost use Rattle.chr_rule.specs.Parts.{shape};
-ghost use Rattle.chr_store.specs.Keys.{HasPred, key_of};
 ghost use Rattle.chr_search.specs.Tree.{Least, NoneBeyond};
 ghost use Rattle.chr_search.specs.Trials.{MayFollow, StandsAt};
-ghost use Rattle.chr_search.specs.Partners.{HasPlan, IsReady, LengthenedIf, key_in, IsAskedFor, IsPartnerFrom, GivePartners};
+ghost use Rattle.chr_search.specs.Partners.{HasPlan, IsReady, LengthenedIf, IsAskedFor, IsPartnerFrom, GivePartners};
 ghost use Rattle.chr_search.specs.Joined.{join_of};
 
 use chr_guard::{Binding, fit_head};

@@ -6,7 +6,6 @@ ghost use Rattle.chr_guard.specs.Matching.{AreAtHeads, IsFit};
 ghost use Rattle.chr_model.specs.Stores.{Distinct};
 ghost use Rattle.chr_plan.specs.Orders.{heads_of};
 ghost use Rattle.chr_search.specs.Judged.{IsVerdict, IsSettledUnder};
-ghost use Rattle.chr_search.specs.Placed.{placed_as};
 ghost use Rattle.chr_search.specs.Verdicts.{IsWhole, IsWholeUnder, labels, at_heads};
 
 use crate::trial::{Placed, Trial};

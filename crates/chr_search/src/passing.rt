@@ -1,16 +1,15 @@
 //! Trials in the store that are judged without being made.
-ghost use Rattle.std.specs.Prelude.{◌≡◌, ◌≢◌, ◌↔◌, ◌==◌, ◌≤◌, ◌<◌, ◌∷◌, ◌++◌, [], ℕ, List, Option, false, length, take, MatchOption, IsTrue};
+ghost use Rattle.std.specs.Prelude.{◌≡◌, ◌≢◌, ◌↔◌, ◌==◌, ◌≤◌, ◌<◌, ◌∷◌, ◌++◌, [], ℕ, List, Option, false, take, MatchOption, IsTrue};
 ghost use Rattle.std.specs.List.{list_any};
 ghost use Rattle.chr_value.specs.Atoms.{Value};
 ghost use Rattle.chr_guard.specs.Bindings.{AreKnown, Keeps};
-ghost use Rattle.chr_guard.specs.Matching.{IsFit};
 ghost use Rattle.chr_search.specs.declared.passing.End.TheVariants as ends;
 ghost use Rattle.chr_search.specs.declared.passing.Stop.TheVariants as stops;
 ghost use Rattle.chr_search.specs.Joined.{join_of};
 ghost use Rattle.chr_search.specs.Partners.{HasPlan, IsReady, IsPartnerFrom};
 ghost use Rattle.chr_search.specs.Passing.{IsTrialIn, HasTrials, AreMisfits, PassesIn, EndsIn, IsLastHead, IsLevel, IsLevelUnder, IsAfterPart, IsNarrowedIf, IsTried, ComesNext, settled, IsBelow, EndsBelow, StopsAt};
 ghost use Rattle.chr_search.specs.Tree.{Grows};
-ghost use Rattle.chr_search.specs.Trials.{Fit, IsInTurn, MayFollow};
+ghost use Rattle.chr_search.specs.Trials.{IsInTurn, MayFollow};
 ghost use Rattle.chr_search.specs.Verdicts.{Trial};
 
 use crate::join::Join;

@@ -1,5 +1,5 @@
 //! Trials with their atoms.
-ghost use Rattle.std.specs.Prelude.{◌≡◌, ◌↔◌, ◌≤◌, ℕ, length, map, IfOk, IsTrue};
+ghost use Rattle.std.specs.Prelude.{◌≡◌, ◌↔◌, ◌≤◌, ℕ, map, IfOk, IsTrue};
 ghost use Rattle.std.specs.Arc.{arc_value};
 ghost use Rattle.chr_plan.specs.Plans.{ArePlans};
 ghost use Rattle.chr_search.specs.Positions.{front};

@@ -1,5 +1,5 @@
 //! The calls that are made in holds.
-ghost use Rattle.std.specs.Prelude.{◌≡◌, ℕ, Bool, true, false};
+ghost use Rattle.std.specs.Prelude.{ℕ, Bool, true, false};
 ghost use Rattle.chr_calls.specs.Books.{BookState};
 ghost use Rattle.chr_calls.specs.Batches.{ClaimsSheet, ReportsBatch, ReportsSheet, Sheets, batch_of, following_of, report_of, sheet_of};
 ghost use Rattle.chr_calls.specs.Calls.{Claims, FiresOrMisses, Drops, PutsDown};

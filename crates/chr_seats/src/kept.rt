@@ -1,5 +1,5 @@
 //! A book, beside what each seat has made of it.
-ghost use Rattle.std.specs.Prelude.{◌≡◌, ◌↔◌, ◌+◌, ◌-◌, ◌^◌, ◌<◌, ◌++◌, ℕ, set, [], true, false, not, length, sum_by, vec_len, IfOk, IfErr, IfSome, IsTrue, IsSome, Some, None};
+ghost use Rattle.std.specs.Prelude.{◌≡◌, ◌↔◌, ◌+◌, ◌-◌, ◌^◌, ◌<◌, set, [], true, false, not, length, sum_by, vec_len, IfOk, IfErr, IfSome, IsTrue, IsSome, Some, None};
 ghost use Rattle.chr_seats.specs.Accounts.{AreSeats, log_of, made_upto, if_so, raised};
 ghost use Rattle.chr_seats.specs.Holds.{GoesOn, HasHeadline, HasRightCounts, IsHold, IsReading, MarksIn, TakesStrayIn};
 

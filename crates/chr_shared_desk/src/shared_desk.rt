@@ -309,7 +309,7 @@ impl<'a, R: Wait, L1: PostLedger, L2: Ledger, A: Allocator + Copy> SharedDesk<'a
 
     /// Carries out `wait`, and asks after each look that finds a ticket open whether to go on; if not, the reply is that of
     /// the look. Between two looks it sleeps while a worker is awake, through fewer than 128 holds of the lock, in
-    /// each of which up to sixteen trials are given out or reported.
+    /// each of which up to 256 trials are reported and as many given out.
     pub fn wait<P: Patience>(&self, most: u32, patience: &mut P) -> Reply<A>
         ensures { WaitReplies self.now.0 (reply_of result) }
     {

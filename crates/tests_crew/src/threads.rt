@@ -66,6 +66,39 @@ fn each_run_is_accepted(rt: HostRuntime) {
     }
 }
 
+/// Programs and posts of four kinds of work: joins of three heads that never fire, whose guard is one comparison, or three of
+/// products; joins of six heads that never fire; and pipelines, where each firing gives the next goal.
+const KINDS: [Task<'static>; 4] = [
+    (
+        "p(X), p(Y), p(Z) <=> X + Y + Z < 0 | true.",
+        "p(1), p(2), p(3), p(4), p(5), p(6), p(7), p(8), p(9), p(10), p(11), p(12).",
+    ),
+    (
+        "p(X), p(Y), p(Z) <=> 0 < X * Y, 0 < Y * Z, X * Z < 0 | true.",
+        "p(1), p(2), p(3), p(4), p(5), p(6), p(7), p(8), p(9), p(10), p(11), p(12).",
+    ),
+    (
+        "a(A), b(B), c(C), d(D), e(E), f(F) <=> A + F < 0 | true.",
+        "a(1), a(2), b(1), b(2), c(1), c(2), d(1), d(2), e(1), e(2), f(1), f(2).",
+    ),
+    (
+        "s(0, X) <=> s(1, X). s(1, X) <=> s(2, X). s(2, X) <=> s(3, X). s(3, X) <=> s(4, X). s(4, X) <=> s(5, X). s(5, X) <=> s(6, X). s(6, X) <=> s(7, X). s(7, X) <=> s(8, X). s(8, X) <=> s(9, X). s(9, X) <=> s(10, X). s(10, X) <=> s(11, X). s(11, X) <=> s(12, X).",
+        "s(0, 1), s(0, 2), s(0, 3), s(0, 4), s(0, 5), s(0, 6), s(0, 7), s(0, 8), s(0, 9), s(0, 10), s(0, 11), s(0, 12), s(0, 13), s(0, 14), s(0, 15), s(0, 16), s(0, 17), s(0, 18), s(0, 19), s(0, 20).",
+    ),
+];
+
+#[test]
+fn sixteen_workers_end_each_kind_of_work(rt: HostRuntime) {
+    for kind in 0..4usize {
+        let ended = ended(&rt, rt.alloc(), KINDS[kind], 16);
+        assert_eq!(rt;
+            ended,
+            Some((End::Quiet, Verdict::RunAndFinal)),
+            "kind {kind}"
+        );
+    }
+}
+
 /// Whether a run is final, with one constraint, and each ticket was pushed and taken once.
 fn is_whole(alloc: Global, rules: Rules, finished: &Finished<Global>) -> bool {
     let (given, _) = tickets(&finished.book);

@@ -171,13 +171,13 @@ fn news_during_a_refused_call_is_not_slept_over(rt: HostRuntime) {
 }
 
 /// How many constraints there are of each of two names, whose pairs one goal tries.
-const EACH: u64 = 60;
+const EACH: u64 = 200;
 
 /// The ticket of that goal.
-const LONG: u64 = 121;
+const LONG: u64 = 401;
 
-/// A judgement far behind the first: more than 128 holds lie between, of up to sixteen judgements each.
-const FAR: u64 = 2000;
+/// A judgement far behind the first: more than 128 holds lie between, of up to 256 judgements each.
+const FAR: u64 = 34_000;
 
 /// A gate that holds the first judgement of a long goal until a session has looked, and a late one until it was answered.
 #[derive(Drop)]
