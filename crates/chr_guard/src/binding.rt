@@ -203,7 +203,7 @@ impl<'v, A: Allocator + Copy> Binding<'v, A> {
 
     /// What a variable is bound to, where so many of the first ones are bound: for one of these it takes the fewest steps.
     #[inline(always)]
-    fn among(&self, variable: u8, bound_first: u8) -> Bound<'v, A>
+    pub(crate) fn among(&self, variable: u8, bound_first: u8) -> Bound<'v, A>
         requires { AreBound bound_first self.now }
         ensures { bound_term result ≡ bound_at self.now variable }
     {
@@ -213,13 +213,12 @@ impl<'v, A: Allocator + Copy> Binding<'v, A> {
         self.bound[usize::from(variable)]
     }
 
-    /// The number that a variable stands for, if it stands for one, where so many of the first variables are bound.
+    /// The number that a variable stands for, if it stands for one.
     #[inline(always)]
-    pub(crate) fn number(&self, variable: u8, bound_first: u8) -> Option<i64>
-        requires { AreBound bound_first self.now }
+    pub(crate) fn number(&self, variable: u8) -> Option<i64>
         ensures { result ≡ number_in (bound_at self.now variable) }
     {
-        match self.among(variable, bound_first) {
+        match self.at(variable) {
             Bound::Number(n) => Some(n),
             _ => None,
         }

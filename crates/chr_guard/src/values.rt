@@ -7,7 +7,7 @@ ghost use Rattle.chr_guard.specs.Values.{both, compares, computed, value_of, Hol
 ghost use Rattle.chr_guard.specs.Bindings.{AreBound, bound_at};
 
 use crate::arithmetic::{compare, compute};
-use crate::binding::Binding;
+use crate::binding::{Binding, Bound};
 use chr_rule::{Comparison, Expr, Operator, Relation, Rule};
 use std::alloc::Allocator;
 
@@ -19,36 +19,41 @@ pub fn value<A: Allocator + Copy>(expr: &Expr<A>, binding: &Binding<'_, A>) -> O
 {
     match expr {
         Expr::Number(n) => Some(*n),
-        Expr::Var(x) => binding.number(*x, 0),
+        Expr::Var(x) => binding.number(*x),
         Expr::Operation(operator, a, b) => {
-            let left = outer_operand(a, binding)?;
-            let right = outer_operand(b, binding)?;
+            let left = operand(a, binding)?;
+            let right = operand(b, binding)?;
             compute(*operator, left, right)
         }
     }
 }
 
-/// The value of an operand, where so many of the first variables are bound. Most operands are numbers or variables, for
-/// which it takes no call.
-#[cycle(operand)]
+/// The value of an operand. Most operands are numbers or variables, for which it takes no call.
 #[inline(always)]
-fn operand<A: Allocator + Copy>(
-    expr: &Expr<A>,
-    binding: &Binding<'_, A>,
-    bound_first: u8,
-) -> Option<i64>
-    requires { AreBound bound_first binding.now }
+fn operand<A: Allocator + Copy>(expr: &Expr<A>, binding: &Binding<'_, A>) -> Option<i64>
     ensures { result ≡ value_of (bound_at binding.now) (expression expr.now) }
 {
     match expr {
         Expr::Number(n) => Some(*n),
-        Expr::Var(x) => binding.number(*x, bound_first),
-        Expr::Operation(operator, a, b) => nested(*operator, a, b, binding, bound_first),
+        Expr::Var(x) => binding.number(*x),
+        Expr::Operation(operator, a, b) => operation(*operator, a, b, binding),
     }
 }
 
-/// The value of an operation within another, to any depth, where so many of the first variables are bound.
-#[cycle(operand)]
+/// The value of an operation within another. Which variables are bound is looked at once for all that it nests.
+fn operation<A: Allocator + Copy>(
+    operator: Operator,
+    a: &Expr<A>,
+    b: &Expr<A>,
+    binding: &Binding<'_, A>,
+) -> Option<i64>
+    ensures { result ≡ both (computed operator) (value_of (bound_at binding.now) (expression a.now)) (value_of (bound_at binding.now) (expression b.now)) }
+{
+    nested(operator, a, b, binding, binding.bound_first())
+}
+
+/// The value of an operation, to any depth, where so many of the first variables are bound. Each operand is a number by the end
+/// of its match, or the value is none: an `Option` in between would be tested once more.
 fn nested<A: Allocator + Copy>(
     operator: Operator,
     a: &Expr<A>,
@@ -59,20 +64,23 @@ fn nested<A: Allocator + Copy>(
     requires { AreBound bound_first binding.now }
     ensures { result ≡ both (computed operator) (value_of (bound_at binding.now) (expression a.now)) (value_of (bound_at binding.now) (expression b.now)) }
 {
-    let left = operand(a, binding, bound_first)?;
-    let right = operand(b, binding, bound_first)?;
+    let left = match a {
+        Expr::Number(n) => *n,
+        Expr::Var(x) => match binding.among(*x, bound_first) {
+            Bound::Number(n) => n,
+            _ => return None,
+        },
+        Expr::Operation(operator, a, b) => nested(*operator, a, b, binding, bound_first)?,
+    };
+    let right = match b {
+        Expr::Number(n) => *n,
+        Expr::Var(x) => match binding.among(*x, bound_first) {
+            Bound::Number(n) => n,
+            _ => return None,
+        },
+        Expr::Operation(operator, a, b) => nested(*operator, a, b, binding, bound_first)?,
+    };
     compute(operator, left, right)
-}
-
-/// The value of an operand of an outermost operation. Which variables are bound is looked at once for all that it nests.
-#[inline(always)]
-fn outer_operand<A: Allocator + Copy>(expr: &Expr<A>, binding: &Binding<'_, A>) -> Option<i64>
-    ensures { result ≡ value_of (bound_at binding.now) (expression expr.now) }
-{
-    match expr {
-        Expr::Operation(operator, a, b) => nested(*operator, a, b, binding, binding.bound_first()),
-        _ => operand(expr, binding, 0),
-    }
 }
 
 /// Whether the relation holds between the values of two expressions, where both have one.

@@ -1,0 +1,7 @@
+use Rattle.std.proofs.Common.{◌+◌}
+use Rattle.chr_rule.specs.Parts.{expression}
+use Rattle.chr_guard.proofs.Weights.{weight}
+use Rattle.chr_guard.proofs.values.+nested.Given as goal
+
+abbrev pub decreases-nested : goal.decreases-nested
+decreases-nested g l = weight (expression l.a.now) + weight (expression l.b.now)
