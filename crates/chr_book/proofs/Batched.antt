@@ -76,7 +76,7 @@ one_reported seat t b now moved js rest j reported inv next other is more answer
 
 -- One is passed over: what is reported of the others is reported with it too. Where no trial could be given at last, it ended
 -- here.
-passed_over : (seat t : ℕ) (now n : BookState) (j : Judgement) (rest : List Judgement) (more : ℕ) (answer : Result Turn TurnFault) (other : Trial) → other ≢ j.trial → ComesNext now seat t other → ReportsAll seat t now rest more answer n → ReportsAll seat t now (j ∷ rest) more answer n
+pub passed_over : (seat t : ℕ) (now n : BookState) (j : Judgement) (rest : List Judgement) (more : ℕ) (answer : Result Turn TurnFault) (other : Trial) → other ≢ j.trial → ComesNext now seat t other → ReportsAll seat t now rest more answer n → ReportsAll seat t now (j ∷ rest) more answer n
 passed_over seat t now n j rest more (Err fault) other ne next (asks b1 n1 answer1 turned) = ends now n j [] (Err fault) turned tt
 passed_over seat t now n j rest more (Ok told) other ne next (asks b1 n1 answer1 turned) =
     let asked : BookState = with_candidate_of now t (Some other) in

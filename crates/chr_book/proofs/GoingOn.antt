@@ -1,6 +1,5 @@
 -- Rounds of calls: the last one fires what was found whole or drops the goal, and a book keeps what it has.
-use Rattle.std.proofs.Common.{◌≡◌, ℕ, ◌-◌, ◌<◌, length, take, arith, Bool, true, false, List, [], ◌∷◌, ◌++◌, map, Option, Some, None, Result, Ok, Err, OnErr, refl, sym, ◌∙◌, ap, ap₂, subst, slice_set}
-use Rattle.std.specs.List.{AllByRecursion}
+use Rattle.std.proofs.Common.{◌≡◌, inr, ℕ, ◌-◌, ◌<◌, length, take, arith, List, [], ◌∷◌, ◌++◌, Option, Some, None, Result, Ok, Err, OnErr, refl, sym, ◌∙◌, ap, ap₂, subst, slice_set}
 use Rattle.std.proofs.lemmas.List.{set-set, length-set, append-nil}
 use Rattle.chr_value.specs.Atoms.{Value}
 use Rattle.chr_value.proofs.Chosen.{some_is}
@@ -8,11 +7,10 @@ use Rattle.chr_log.specs.Events.{Entry, Drop}
 use Rattle.chr_rule.specs.Rules.{Simpagation, rule_at}
 use Rattle.chr_plan.specs.Plans.{PlanList}
 use Rattle.chr_store.specs.Labels.{LabelledStore}
-use Rattle.chr_model.specs.Stores.{atom_at}
 use Rattle.chr_model.specs.Goals.{Numbered}
 use Rattle.chr_search.specs.Reach.{SearchState}
 use Rattle.chr_search.specs.Trials.{Space, IsNext, NoneLeft}
-use Rattle.chr_search.specs.Verdicts.{Placed, Trial, position}
+use Rattle.chr_search.specs.Verdicts.{Trial, position}
 use Rattle.chr_search.specs.Judged.{Judgement}
 use Rattle.chr_search.specs.Passing.{IsWholeNext, IsThen}
 use Rattle.chr_search.specs.declared.judged.Verdict.TheVariants as verdicts
@@ -25,9 +23,9 @@ use Rattle.chr_calls.specs.declared.answers.Fired.{Fired}
 use Rattle.chr_calls.specs.declared.answers.Firing.TheVariants as firing
 use Rattle.chr_calls.specs.declared.answers.Dropping.TheVariants as dropping
 use Rattle.chr_calls.specs.Turns.{Next, Done}
-use Rattle.chr_calls.specs.Tickets.{Ticket, ended, waiting, with_candidate, ticket_at, Holds}
-use Rattle.chr_calls.specs.Books.{BookState, space_of, IsLive, with_tickets, with_entry}
-use Rattle.chr_calls.specs.Calls.{HoldsLive, HoldsWhole, AreLive, Turns, dropped, with_candidate_of}
+use Rattle.chr_calls.specs.Tickets.{Ticket, ended, with_candidate, ticket_at, Holds}
+use Rattle.chr_calls.specs.Books.{BookState, space_of, with_tickets, with_entry}
+use Rattle.chr_calls.specs.Calls.{HoldsLive, dropped, with_candidate_of}
 use Rattle.chr_calls.specs.Headline.{IsKept}
 use Rattle.chr_calls.proofs.Tickets.{states_stand, ticket_same, numbered_within}
 use Rattle.chr_calls.proofs.Turning.{turns_keep}
@@ -37,11 +35,13 @@ use Rattle.chr_book.specs.declared.rounds.Last.{Last}
 use Rattle.chr_book.specs.declared.rounds.Last.TheVariants as lasts
 use Rattle.chr_book.specs.declared.rounds.Rounds.{Rounds}
 use Rattle.chr_book.specs.Books.{book_of}
-use Rattle.chr_book.specs.Firings.{gone_on, MakesFound, EndsRounds}
+use Rattle.chr_book.specs.Firings.{MakesFound, EndsRounds}
+use Rattle.chr_book.specs.Given.{ComesNext}
 use Rattle.chr_book.specs.Passed.{PassesTrials, FiresTrial, DropsGoal, IsLast, MakesRounds, MakesFewer, PassesMaking, PassesSome}
 use Rattle.chr_book.proofs.PostedBooks.{rest_back}
 use Rattle.chr_book.proofs.Passes.{IsPast, gone_past, passes_keep}
-use Rattle.chr_book.proofs.Fired.{FiresWhole, goal_stays, IsWholeOf, with_fired, fires_there, fires_whole}
+use Rattle.chr_book.proofs.Nexts.{next_turned}
+use Rattle.chr_book.proofs.Fired.{FiresWhole, goal_stays, IsWholeOf, next_is_live, with_fired, fires_there, fires_whole, next_fires}
 
 -- ---- the ticket with a candidate
 
@@ -82,63 +82,22 @@ dropped_rounds b seat t k l place now tickets log past none ts es = record {
 
 -- ---- a firing
 
-are_live : (b : BookState) (ps : List Placed) → AllByRecursion (λ p. atom_at b.store p.label ≡ Some p.atom) ps → AllByRecursion (λ p. IsLive b p.label) ps
-are_live b [] h = tt
-are_live b (p ∷ ps) h = ((p.atom, h.0), are_live b ps h.1)
-
-forgets : (lives : Bool) (place : List ℕ) (c : Option Trial) (x : Ticket) → gone_on lives place x ≡ gone_on lives place (with_candidate c x)
-forgets true place c x = refl
-forgets false place c x = refl
-
--- what is whole fires where it is the candidate
-fires_asked : (b : BookState) (seat t l : ℕ) (c : Option Trial) (rule : Simpagation ℕ) (w : Whole) (binding : List (Option (Value ℕ))) (f : Fired) (log : List (Entry ℕ)) (tickets : List Ticket) → (ticket_at b.tickets t).goal ≡ Numbered l → FiresWhole seat t rule w binding f b.tickets b.log tickets log → FiresWhole seat t rule w binding f (with_candidate_of b t c).tickets b.log tickets log
-fires_asked b seat t l c rule w binding f log tickets at h = record {
-  first = h.first ∙ sym (length-set b.tickets t y);
-  lives = h.lives;
-  logged = h.logged;
-  tickets = λ body under. ((h.tickets body under).0, (h.tickets body under).1 ∙ ap (λ ts. ts ++ map waiting body) same);
-}
-  where
-    x : Ticket
-    x = ticket_at b.tickets t
-
-    y : Ticket
-    y = with_candidate c x
-
-    gone : Ticket → Ticket
-    gone z = gone_on f.active_lives w.past.place z
-
-    same : slice_set b.tickets t (gone x) ≡ slice_set (slice_set b.tickets t y) t (gone (ticket_at (slice_set b.tickets t y) t))
-    same = sym (set-set b.tickets t y (gone x)) ∙ ap (slice_set (slice_set b.tickets t y) t) (forgets f.active_lives w.past.place c x ∙ ap gone (sym (there b t l c at)))
-
 fires_last : (b : BookState) (seat t l : ℕ) (place : List ℕ) (rule : Simpagation ℕ) (w : Whole) (binding : List (Option (Value ℕ))) (f : Fired) (log : List (Entry ℕ)) (tickets : List Ticket) → IsKept b → HoldsLive b seat t l → (ticket_at b.tickets t).position ≡ place → IsWholeNext (space_of b l) place w binding → rule_at b.rules w.number ≡ Some rule → FiresWhole seat t rule w binding f b.tickets b.log tickets log
     → FiresTrial seat t b (with_fired b log w.removed.items tickets)
 fires_last b seat t l place rule w binding f log tickets k h is next of fw = record {
   judged = j;
   right = next.under.whole;
-  asked = asked;
-  turns = turns;
+  asked = with_candidate_of b t (Some next.trial);
+  turns = next_turned b seat t next.trial comes;
   fired = f;
-  fires = (holds, live, fires_there asked seat t l j rule w binding f log tickets (turns_keep b asked seat t (Ok (Next j.trial)) turns k) holds live held.goal whole (fires_asked b seat t l (Some j.trial) rule w binding f log tickets h.holds.goal fw));
+  fires = next_fires b (with_fired b log w.removed.items tickets) seat t j f comes refl (fires_there b seat t l j rule w binding f log tickets k (inr comes) (next_is_live b seat t next.trial comes) h.holds.goal whole fw);
 }
   where
     j : Judgement
     j = record { trial = next.trial; verdict = verdicts.Whole }
 
-    asked : BookState
-    asked = with_candidate_of b t (Some next.trial)
-
-    turns : Turns b seat t (Ok (Next next.trial)) asked
-    turns = (l, h, record { next = subst (λ p. IsNext (space_of b l) p (position next.trial)) (sym is) next.next; is = next.is; formed = next.formed }, refl)
-
-    held : Holds asked.tickets seat t l
-    held = holds_asked b seat t l (Some next.trial) h.holds
-
-    holds : HoldsWhole asked seat t j
-    holds = record { holds = record { held = held.state; candidate = ap (λ (x : Ticket). x.candidate) (there b t l (Some next.trial) h.holds.goal) }; whole = refl }
-
-    live : AreLive asked next.trial
-    live = are_live asked next.trial.placed next.is.live
+    comes : ComesNext b seat t next.trial
+    comes = record { label = l; holds = h; is = record { next = subst (λ p. IsNext (space_of b l) p (position next.trial)) (sym is) next.next; is = next.is; formed = next.formed } }
 
     whole : IsWholeOf next.trial l rule w binding
     whole = record { under = next.under; rule_is = some_is rule next.trial.rule (sym of ∙ ap (rule_at b.rules) next.number_is ∙ next.is.rule_is); number = next.number_is; kept = next.kept_are; removed = next.removed_are; past = next.past_is }

@@ -4,6 +4,8 @@ pub mod Nexts
 pub mod Turns
 pub mod Together
 pub mod Batched
+pub mod Reported
+pub mod Following
 pub mod Lines
 pub mod StrictLogs
 pub mod Continued

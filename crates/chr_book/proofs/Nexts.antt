@@ -1,5 +1,6 @@
 -- The trial that comes next for a goal.
-use Rattle.std.proofs.Common.{◌≡◌, ℕ, zero, suc, Bool, true, false, List, [], ◌∷◌, Option, Some, None, slice_set, Ok, refl, sym, ◌∙◌, ap, subst}
+use Rattle.std.proofs.Common.{◌≡◌, ℕ, Bool, true, false, Option, Some, None, slice_set, Ok, refl, sym, ◌∙◌, ap, subst}
+use Rattle.std.proofs.lemmas.List.{set-set}
 use Rattle.chr_model.specs.Goals.{Numbered}
 use Rattle.chr_search.specs.Trials.{IsNext, NoneLeft}
 use Rattle.chr_search.specs.Reach.{SearchState}
@@ -43,11 +44,6 @@ one_next b n seat t trial other h turned =
 
 -- ---- the line of trial
 
-set_twice : (ts : List Ticket) (t : ℕ) (x y : Ticket) → slice_set (slice_set ts t x) t y ≡ slice_set ts t y
-set_twice [] t x y = refl
-set_twice (z ∷ ts) zero x y = refl
-set_twice (z ∷ ts) (suc t) x y = ap (λ us. z ∷ us) (set_twice ts t x y)
-
 pub next_turned : (b : BookState) (seat t : ℕ) (trial : Trial) → ComesNext b seat t trial → Turns b seat t (Ok (Next trial)) (with_candidate_of b t (Some trial))
 next_turned b seat t trial h = (h.label, h.holds, h.is, refl)
 
@@ -66,16 +62,16 @@ pub moved_same : (b : BookState) (t l : ℕ) (c : Option Trial) (j : Judgement) 
 moved_same b t l c j goal =
     let x : Ticket = with_candidate c (ticket_at b.tickets t) in
     ap (λ (y : Ticket). with_tickets b (slice_set (slice_set b.tickets t x) t (going_on (after_judging j) y))) (ticket_same b.tickets t x (numbered_within b.tickets t l goal))
-    ∙ ap (with_tickets b) (set_twice b.tickets t x (going_on (after_judging j) (ticket_at b.tickets t)))
+    ∙ ap (with_tickets b) (set-set b.tickets t x (going_on (after_judging j) (ticket_at b.tickets t)))
 
 -- and the line of trial answers the same, if memory doesn't run out
 set_again : (b : BookState) (t l : ℕ) (c d : Option Trial) → (ticket_at b.tickets t).goal ≡ Numbered l → with_candidate_of (with_candidate_of b t c) t d ≡ with_candidate_of b t d
 set_again b t l c d goal =
     let x : Ticket = with_candidate c (ticket_at b.tickets t) in
     ap (λ (y : Ticket). with_tickets b (slice_set (slice_set b.tickets t x) t (with_candidate d y))) (ticket_same b.tickets t x (numbered_within b.tickets t l goal))
-    ∙ ap (with_tickets b) (set_twice b.tickets t x (with_candidate d (ticket_at b.tickets t)))
+    ∙ ap (with_tickets b) (set-set b.tickets t x (with_candidate d (ticket_at b.tickets t)))
 
-holds_again : (b : BookState) (seat t l : ℕ) (c : Option Trial) → Holds b.tickets seat t l → Holds (with_candidate_of b t c).tickets seat t l
+pub holds_again : (b : BookState) (seat t l : ℕ) (c : Option Trial) → Holds b.tickets seat t l → Holds (with_candidate_of b t c).tickets seat t l
 holds_again b seat t l c h =
     let x : Ticket = with_candidate c (ticket_at b.tickets t) in
     record {

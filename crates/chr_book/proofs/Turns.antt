@@ -98,7 +98,7 @@ dropped_keeps b now e seat t s entries tickets h not_left log ts k =
     n = with_both entries tickets
 
 -- where the search moves on after a judged trial, which isn't whole
-judged_keeps : (b n : BookState) (seat t : ℕ) (j : Judgement) → IsToJudge b seat t j.trial → IsVerdict j.trial j.verdict → j.verdict ≢ Whole → n ≡ after_judgement b t j → IsKept b → IsKept n
+pub judged_keeps : (b n : BookState) (seat t : ℕ) (j : Judgement) → IsToJudge b seat t j.trial → IsVerdict j.trial j.verdict → j.verdict ≢ Whole → n ≡ after_judgement b t j → IsKept b → IsKept n
 judged_keeps b n seat t j (inl h) right ne after k = reports_keep b n seat t j (Ok tt) right (h, ne, after) k
 judged_keeps b n seat t j (inr h) right ne after k =
     let asked : BookState = with_candidate_of b t (Some j.trial) in

@@ -1,24 +1,20 @@
--- Trials that are given together, and whether a trial is the next one.
-use Rattle.std.specs.Prelude.{◌≡◌, ◌≢◌, ◌⊎◌, ℕ, Bool, true, false, List, Option, Some, None, Ok}
+-- Whether a trial is the next one, and what is reported and fired then.
+use Rattle.std.specs.Prelude.{⊤, ◌≡◌, ◌≢◌, ◌⊎◌, ℕ, Bool, true, false, List, Option, Some, None, MatchOption, Result, Ok, Err}
+use Rattle.chr_search.specs.Reach.{SearchState}
 use Rattle.chr_search.specs.Trials.{Space}
-use Rattle.chr_search.specs.Verdicts.{Trial}
+use Rattle.chr_search.specs.Verdicts.{Trial, IsFormed}
 use Rattle.chr_search.specs.Judged.{Judgement}
 use Rattle.chr_search.specs.declared.judged.Verdict.TheVariants.{Whole}
-use Rattle.chr_calls.specs.Turns.{Next}
-use Rattle.chr_calls.specs.Books.{BookState}
-use Rattle.chr_calls.specs.Calls.{HoldsLive, HoldsCandidate, IsNextTrial, Turns}
-use Rattle.chr_calls.specs.Batches.{IsNextBeside, NoneBeside, IsNextAfter, NoneAfter, IsLastOf}
-use Rattle.chr_book.specs.declared.given.Together.{Together}
-use Rattle.chr_book.specs.declared.given.Together.TheVariants.{Beside, After}
-
--- the one that comes next after another, and none
-abbrev pub IsNextBy : Together → Space → Trial → Trial → Type 0
-IsNextBy Beside = IsNextBeside
-IsNextBy After = IsNextAfter
-
-abbrev pub NoneBy : Together → Space → Trial → Type 0
-NoneBy Beside = NoneBeside
-NoneBy After = NoneAfter
+use Rattle.chr_calls.specs.declared.answers.TurnFault.{TurnFault}
+use Rattle.chr_calls.specs.declared.answers.Fired.{Fired}
+use Rattle.chr_calls.specs.declared.answers.Firing.TheVariants as firing
+use Rattle.chr_calls.specs.Turns.{Turn, Next}
+use Rattle.chr_calls.specs.Books.{BookState, space_of}
+use Rattle.chr_calls.specs.Calls.{HoldsLive, HoldsCandidate, IsNextTrial, Turns, FiresOrMisses, with_candidate_of}
+use Rattle.chr_sheet.specs.Rows.{JudgedSheet, judgements_of}
+use Rattle.chr_sheet.specs.Sheets.{Reports, IsFireable}
+use Rattle.chr_sheet.specs.Sheets as sheets
+use Rattle.chr_calls.specs.Batches.{Following, Follows, IsLastOf, ReportsAll}
 
 -- a trial is the next one of a goal that the seat holds
 pub record ComesNext (b : BookState) (seat t : ℕ) (trial : Trial) : Type 0 where
@@ -36,7 +32,43 @@ IsAskedNext b seat t trial None = (other : Trial) (n : BookState) → Turns b se
 IsAskedNext b seat t trial (Some true) = ComesNext b seat t trial
 IsAskedNext b seat t trial (Some false) = (other : Trial) × (other ≢ trial) × ComesNext b seat t other
 
--- where a trial comes next: the last of the judgements, which is of this trial and whole; else the last one isn't so
-abbrev pub IsToFire : List Judgement → Trial → Option Judgement → Type 0
-IsToFire js next (Some j) = IsLastOf js j × (j.verdict ≡ Whole) × (j.trial ≡ next)
-IsToFire js next None = (j : Judgement) → IsLastOf js j → j.verdict ≡ Whole → next ≢ j.trial
+-- the trials that come next in a search are formed
+abbrev pub AreFormed : Space → Type 0
+AreFormed s = (place : List ℕ) (trial : Trial) → sheets.IsNextTrial s place trial → IsFormed trial
+
+-- A search has moved over the judgements of a sheet that aren't whole: so many were reported; and whether there is one that is
+-- whole, and of the trial that is next then.
+pub record MovesOver (b : BookState) (s after : SearchState) (sheet : JudgedSheet) (reported : ℕ) (told : Bool) : Type 0 where
+  pub label : after.label ≡ s.label
+  pub formed : AreFormed (space_of b s.label)
+  pub whole : MatchOption sheet.whole ⊤ (λ w. w.verdict ≡ Whole)
+  pub moved : Reports (space_of b s.label) s.place sheet.others reported after.place
+  pub tells : IsFireable (space_of b s.label) after.place sheet.whole told
+
+-- It is told whether the judgement that is whole is of the next trial; and where the last judgement is whole and of the next
+-- trial, it is that one, and told so.
+pub record TellsWhole (b : BookState) (seat t : ℕ) (sheet : JudgedSheet) (told : Bool) : Type 0 where
+  pub told_next : (j : Judgement) → sheet.whole ≡ Some j → told ≡ true → ComesNext b seat t j.trial
+  pub next_told : (j : Judgement) → IsLastOf (judgements_of sheet) j → j.verdict ≡ Whole → ComesNext b seat t j.trial → (sheet.whole ≡ Some j) × (told ≡ true)
+
+-- So many of the judgements that aren't whole were reported, once the next trial is asked for; and whether that is the one that
+-- is whole.
+pub record IsReported (b : BookState) (seat t : ℕ) (sheet : JudgedSheet) (reported : ℕ) (told : Bool) (n : BookState) : Type 0 where
+  pub reports : (next : Result Turn TurnFault) (asked : BookState) → Turns n seat t next asked → ReportsAll seat t b (judgements_of sheet) reported next asked
+  pub tells : TellsWhole n seat t sheet told
+
+-- the next trial, which is whole, is fired; or memory ran out, and nothing has changed
+abbrev pub FiresNext : {E : Type 0} → BookState → ℕ → ℕ → Judgement → Result Fired E → BookState → Type 0
+FiresNext b seat t j (Ok fired) n = FiresOrMisses (with_candidate_of b t (Some j.trial)) seat t j (Ok (firing.Fired fired)) n
+FiresNext b seat t j (Err fault) n = n ≡ b
+
+-- a call follows a report, for what the line of trial answers then
+pub record FollowsWith (b : BookState) (seat t most : ℕ) (js : List Judgement) (following : Following) (n : BookState) : Type 0 where
+  pub next : Result Turn TurnFault
+  pub asked : BookState
+  pub turned : Turns b seat t next asked
+  pub follows : Follows asked seat t most js next following n
+
+-- the same, where no judgement is whole
+abbrev pub GivesOrDrops : BookState → ℕ → ℕ → ℕ → Following → BookState → Type 0
+GivesOrDrops b seat t most following n = (js : List Judgement) → ((j : Judgement) (trial : Trial) → IsLastOf js j → j.verdict ≡ Whole → ComesNext b seat t trial → trial ≢ j.trial) → FollowsWith b seat t most js following n

@@ -1,27 +1,15 @@
 //! The calls that make several lines of the table at once.
-ghost use Rattle.chr_calls.specs.Turns.{turn_of};
-ghost use Rattle.chr_calls.specs.Batches.{ClaimsSheet, Follows, ReportsBatch, ReportsSheet, following_of, report_of, sheet_of};
-ghost use Rattle.std.specs.Option.{option_copied};
-ghost use Rattle.chr_book.specs.Given.{IsAskedNext, IsToFire};
+ghost use Rattle.std.specs.List.{AllByRecursion};
+ghost use Rattle.chr_search.specs.Judged.{IsVerdict};
+ghost use Rattle.chr_calls.specs.Batches.{ClaimsSheet, ReportsBatch, ReportsSheet, claimed_of, following_of, report_of};
+ghost use Rattle.chr_sheet.specs.Rows.{judgements_of};
+ghost use Rattle.chr_book.specs.Given.{FollowsWith, GivesOrDrops, IsAskedNext, IsReported, MovesOver, TellsWhole};
 
 use crate::book::Book;
-use chr_calls::{Batch, BatchReport, ClaimFault, Following, SheetReport, Turn, TurnFault};
-use chr_search::{Judged, Trial, Verdict};
+use chr_calls::{BatchReport, ClaimFault, Firing, Following, Sheet, SheetReport, TurnFault};
+use chr_search::{Judged, Search, Trial, Verdict};
+use chr_sheet::{Judgements, Reported, report};
 use std::alloc::Allocator;
-
-/// The judgement that is to be fired where a trial comes next: the last one, where it is of that trial and whole.
-fn to_fire<'j, A: Allocator + Copy>(
-    judgements: &'j [Judged<A>],
-    next: &Trial<A>,
-) -> Option<&'j Judged<A>>
-    ensures { IsToFire judgements.now next.now (option_copied result) }
-{
-    let last = judgements.last()?;
-    if last.verdict() != Verdict::Whole || !last.trial().same(next) {
-        return None;
-    }
-    Some(last)
-}
 
 impl<A: Allocator + Copy> Book<A> {
     /// Whether a trial is the next one of a goal that the seat holds. None where no trial comes next. It takes no memory.
@@ -66,56 +54,124 @@ impl<A: Allocator + Copy> Book<A> {
         }
     }
 
+    /// Moves a search over judged trials in order, where each is the next one in its turn. It takes no memory.
+    fn move_search(&self, search: &mut Search, judgements: &Judgements<A>) -> Reported
+        ensures moves { MovesOver self.now search.old search.new judgements.now result.count result.whole_is_next }
+        ensures right { AllByRecursion (λ j. IsVerdict j.trial j.verdict) judgements.now.others }
+    {
+        // For the proof: what holds of every rule and label, and of what is whole.
+        let _rules = self.program.rules();
+        let _label = self.store.next_label();
+        let _whole = judgements.whole();
+        report(search, judgements, &self.program, &self.plans, &self.store)
+    }
+
+    /// Moves the ticket's search over judged trials as [`report_batch`](Book::report_batch) does, but doesn't ask for the next one.
+    /// It takes no memory.
+    fn move_over(&mut self, seat: u32, ticket: u64, judgements: &Judgements<A>) -> Reported
+        ensures { IsReported self.old seat ticket judgements.now result.count result.whole_is_next self.new }
+    {
+        let Some(held) = self.held(seat, ticket) else {
+            return Reported {
+                count: 0,
+                whole_is_next: false,
+            };
+        };
+        let mut search = held.copy();
+        let reported = self.move_search(&mut search, judgements);
+        if reported.count == 0 {
+            return reported;
+        }
+        self.tickets.go_to(ticket, search);
+        reported
+    }
+
+    /// Reports the judgements of a sheet as [`report_batch`](Book::report_batch) does.
+    pub fn report_all(
+        &mut self,
+        seat: u32,
+        ticket: u64,
+        judgements: &Judgements<A>,
+    ) -> BatchReport<A>
+        ensures { ReportsBatch self.old seat ticket (judgements_of judgements.now) (report_of result) self.new }
+    {
+        let reported = self.move_over(seat, ticket, judgements).count;
+        BatchReport {
+            reported,
+            next: self.trial(seat, ticket),
+        }
+    }
+
     /// Claims a ticket as [`claim`](Book::claim) does, and gives its first trials as [`sheet`](Book::sheet) does.
     pub fn claim_sheet(
         &mut self,
         seat: u32,
         ticket: u64,
         most: usize,
-    ) -> Result<Result<Batch<A>, TurnFault>, ClaimFault>
-        ensures { ClaimsSheet self.old seat ticket most (sheet_of result) self.new }
+    ) -> Result<Result<Sheet<A>, TurnFault>, ClaimFault>
+        ensures { ClaimsSheet self.old seat ticket most (claimed_of result) self.new }
     {
         self.claim(seat, ticket)?;
         Ok(self.sheet(seat, ticket, most))
     }
 
-    /// The call that follows a report of these judgements, for what comes next.
+    /// The call that follows a report where no trial that comes next is known to be whole.
+    fn give_or_drop(&mut self, seat: u32, ticket: u64, most: usize) -> Following<A>
+        ensures { GivesOrDrops self.old seat ticket most (following_of result) self.new }
+    {
+        let sheet = match self.sheet(seat, ticket, most) {
+            Ok(sheet) => sheet,
+            Err(fault) => return Following::Nothing(fault),
+        };
+        let Sheet::Trials(trials) = sheet else {
+            return Following::Drop(self.drop_goal(seat, ticket));
+        };
+        Following::Sheet(Ok(Sheet::Trials(trials)))
+    }
+
+    /// The call that follows a report of these judgements.
     fn follow(
         &mut self,
         seat: u32,
         ticket: u64,
         most: usize,
-        judgements: &[Judged<A>],
-        next: Result<Turn<A>, TurnFault>,
+        judgements: &Judgements<A>,
+        whole_is_next: bool,
     ) -> Following<A>
-        ensures { Follows self.old seat ticket most judgements.now (turn_of next) (following_of result) self.new }
+        requires { TellsWhole self.old seat ticket judgements.now whole_is_next }
+        ensures { FollowsWith self.old seat ticket most (judgements_of judgements.now) (following_of result) self.new }
     {
-        match next {
-            Ok(Turn::Trial(next)) => match to_fire(judgements, &next) {
-                Some(whole) => Following::Fire(self.fire(seat, ticket, whole)),
-                None => Following::Sheet(self.sheet(seat, ticket, most)),
-            },
-            Ok(Turn::Done | Turn::Gone) => Following::Drop(self.drop_goal(seat, ticket)),
-            Err(fault) => Following::Nothing(fault),
+        let Some(whole) = judgements.whole() else {
+            return self.give_or_drop(seat, ticket, most);
+        };
+        if !whole_is_next {
+            return self.give_or_drop(seat, ticket, most);
+        }
+        match self.fire_next(seat, ticket, whole) {
+            Ok(fired) => Following::Fire(Ok(Firing::Fired(fired))),
+            Err(_) => Following::Nothing(TurnFault::NoMemory),
         }
     }
 
-    /// Reports judgements as [`report_batch`](Book::report_batch) does, and makes the call that follows for what comes next:
-    /// the last judged trial, where it is whole, is fired; another trial is given with those after it, at most so many
-    /// together; and where none is left, or the goal's label has left the store, the goal is dropped.
+    /// Reports judgements as [`report_all`](Book::report_all) does, and makes the call that follows for what comes next: the last
+    /// judged trial, where it is whole, is fired; another trial is given with those after it, at most so many together; and where
+    /// none is left, or the goal's label has left the store, the goal is dropped.
     pub fn report_sheet(
         &mut self,
         seat: u32,
         ticket: u64,
-        judgements: &[Judged<A>],
+        judgements: &Judgements<A>,
         most: usize,
     ) -> SheetReport<A>
-        ensures { ReportsSheet self.old seat ticket most judgements.now result.reported (following_of result.following) self.new }
+        ensures { ReportsSheet self.old seat ticket most (judgements_of judgements.now) result.reported (following_of result.following) self.new }
     {
-        let BatchReport { reported, next } = self.report_batch(seat, ticket, judgements);
+        let Reported {
+            count,
+            whole_is_next,
+        } = self.move_over(seat, ticket, judgements);
         SheetReport {
-            reported,
-            following: self.follow(seat, ticket, most, judgements, next),
+            reported: count,
+            following: self.follow(seat, ticket, most, judgements, whole_is_next),
         }
     }
 }

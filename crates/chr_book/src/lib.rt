@@ -14,7 +14,8 @@
 //! | [`report`](Book::report) | the search goes on after a candidate that is no instance |
 //! | [`batch`](Book::batch) | so does the next trial, and those after it that differ in their last label alone come along |
 //! | [`sheet`](Book::sheet) | so does the next trial, and those that come after it, whatever the verdicts, come along |
-//! | [`report_batch`](Book::report_batch) | the judgements of a batch or a sheet are reported up to the first that is an instance |
+//! | [`report_batch`](Book::report_batch) | judgements are reported up to the first that is an instance |
+//! | [`report_all`](Book::report_all) | and so are those of a sheet, as they are kept together |
 //! | [`claim_sheet`](Book::claim_sheet) | a ticket is claimed, and its first trials are given |
 //! | [`report_sheet`](Book::report_sheet) | judgements are reported, and the last one fires, the goal is dropped, or the next trials are given |
 //! | [`fire`](Book::fire) | a candidate that is an instance fires, where its labels are all live |
@@ -35,9 +36,9 @@
 //! and where no goal is open, no rule applies to the store.
 //!
 //! After E01 nothing has changed, but for what some calls have made before it, which stands: the judgements that
-//! [`report_batch`](Book::report_batch) and [`report_sheet`](Book::report_sheet) have reported, the claim of
-//! [`claim_sheet`](Book::claim_sheet), the rounds of [`go_on`](Book::go_on), and the claim and the rounds of
-//! [`start`](Book::start).
+//! [`report_batch`](Book::report_batch), [`report_all`](Book::report_all) and [`report_sheet`](Book::report_sheet) have
+//! reported, the claim of [`claim_sheet`](Book::claim_sheet), the rounds of [`go_on`](Book::go_on), and the claim and the
+//! rounds of [`start`](Book::start).
 #![tactic(auto)]
 
 mod batches;

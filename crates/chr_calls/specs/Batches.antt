@@ -6,6 +6,7 @@ use Rattle.chr_search.specs.Positions.{just_after}
 use Rattle.chr_search.specs.Answers.{IsAnswer, IsAnswerBehind}
 use Rattle.chr_search.specs.declared.search.Ask.TheVariants as answers
 use Rattle.chr_search.specs.Judged.{Judgement, IsVerdict}
+use Rattle.chr_sheet.specs.Kept.{trials_in}
 use Rattle.chr_search.specs.declared.judged.Verdict.TheVariants.{Whole}
 use Rattle.chr_calls.specs.declared.answers.TurnFault.{TurnFault}
 use Rattle.chr_calls.specs.declared.answers.ClaimFault.{ClaimFault}
@@ -18,6 +19,8 @@ use Rattle.chr_calls.specs.declared.answers.Following.TheVariants as followings
 use Rattle.chr_calls.specs.declared.answers.Batch.{Batch as CodeBatch}
 use Rattle.chr_calls.specs.declared.answers.Batch.TheVariants as batches
 use Rattle.chr_calls.specs.declared.answers.BatchReport.{BatchReport as CodeBatchReport}
+use Rattle.chr_calls.specs.declared.answers.Sheet.{Sheet as CodeSheet}
+use Rattle.chr_calls.specs.declared.answers.Sheet.TheVariants as sheets
 use Rattle.chr_calls.specs.Turns.{Turn, Next, turn_of}
 use Rattle.chr_calls.specs.Turns as turn
 use Rattle.chr_calls.specs.Books.{BookState, space_of}
@@ -36,6 +39,13 @@ batch_of (Ok (batches.Trials trials)) = Ok (Trials trials.items)
 batch_of (Ok batches.Done) = Ok Done
 batch_of (Ok batches.Gone) = Ok Gone
 batch_of (Err fault) = Err fault
+
+-- the trials of a sheet
+abbrev pub sheet_of : {Z : Type 0} → Result (CodeSheet Z) TurnFault → Result Batch TurnFault
+sheet_of (Ok (sheets.Trials trials)) = Ok (Trials (trials_in trials.items))
+sheet_of (Ok sheets.Done) = Ok Done
+sheet_of (Ok sheets.Gone) = Ok Gone
+sheet_of (Err fault) = Err fault
 
 -- how many judgements of a batch were reported, and what comes next
 pub record BatchReport : Type 0 where
@@ -135,18 +145,14 @@ AreRight (j ∷ js) = IsVerdict j.trial j.verdict × AreRight js
 
 -- ---- claim_sheet and report_sheet
 
-abbrev pub sheet_of : {Z : Type 0} → Result (Result (CodeBatch Z) TurnFault) ClaimFault → Result (Result Batch TurnFault) ClaimFault
-sheet_of (Ok answer) = Ok (batch_of answer)
-sheet_of (Err fault) = Err fault
+abbrev pub claimed_of : {Z : Type 0} → Result (Result (CodeSheet Z) TurnFault) ClaimFault → Result (Result Batch TurnFault) ClaimFault
+claimed_of (Ok answer) = Ok (sheet_of answer)
+claimed_of (Err fault) = Err fault
 
 -- the ticket is claimed, and then its first trials are given
 abbrev pub ClaimsSheet : BookState → ℕ → ℕ → ℕ → Result (Result Batch TurnFault) ClaimFault → BookState → Type 0
 ClaimsSheet b seat t most (Err fault) n = Claims b seat t (Err fault) n
 ClaimsSheet b seat t most (Ok answer) n = (label : ℕ) × (claimed : BookState) × Claims b seat t (Ok label) claimed × Sheets claimed seat t most answer n
-
--- the last of these
-abbrev pub IsLastOf : List Judgement → Judgement → Type 0
-IsLastOf js j = (before : List Judgement) × (js ≡ before ++ j ∷ [])
 
 -- the call that follows a report, with its answer, wherever trials lie in memory
 pub data Following : Type 0 where
@@ -158,8 +164,12 @@ pub data Following : Type 0 where
 abbrev pub following_of : {Z : Type 0} → CodeFollowing Z → Following
 following_of (followings.Fire answer) = Fire answer
 following_of (followings.Drop answer) = Drop answer
-following_of (followings.Sheet answer) = Sheet (batch_of answer)
+following_of (followings.Sheet answer) = Sheet (sheet_of answer)
 following_of (followings.Nothing fault) = Nothing fault
+
+-- the last of these
+abbrev pub IsLastOf : List Judgement → Judgement → Type 0
+IsLastOf js j = (before : List Judgement) × (js ≡ before ++ j ∷ [])
 
 -- It is the call for what the report says comes next: the last judged trial, which is whole, is fired; another trial is given
 -- with those after it; where none is left, or the goal's label has left the store, the goal is dropped; and without an answer

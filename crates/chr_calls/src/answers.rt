@@ -1,5 +1,6 @@
 //! What the calls of a book answer.
 use chr_search::Trial;
+use chr_sheet::Trials;
 use std::alloc::Allocator;
 
 /// What a seat is told of a ticket.
@@ -153,6 +154,17 @@ pub enum MarkFault {
     NotWaiting(TicketState),
 }
 
+/// The next trials of a goal, across labels, heads and rules.
+#[derive(Drop)]
+pub enum Sheet<A: Allocator> {
+    /// Its next trial and those after it that were asked for, in order.
+    Trials(Vec<Trials<A>, A>),
+    /// No trial is left.
+    Done,
+    /// Its label has left the store.
+    Gone,
+}
+
 /// The call that follows a report of judgements, with its answer.
 #[derive(Drop)]
 pub enum Following<A: Allocator> {
@@ -161,7 +173,7 @@ pub enum Following<A: Allocator> {
     /// No trial was left, or the goal's label had left the store: the goal was to be dropped.
     Drop(Result<Dropping, DropFault>),
     /// Another trial came next: it was to be given with those after it.
-    Sheet(Result<Batch<A>, TurnFault>),
+    Sheet(Result<Sheet<A>, TurnFault>),
     /// No call, since no trial could be asked for.
     Nothing(TurnFault),
 }

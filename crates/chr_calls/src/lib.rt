@@ -28,5 +28,6 @@ pub mod laws;
 
 pub use answers::{
     Batch, BatchReport, ClaimFault, DropFault, Dropping, FireFault, Fired, Firing, Following,
-    MarkFault, PostFault, PutDownFault, ReportFault, SheetReport, TicketState, Turn, TurnFault,
+    MarkFault, PostFault, PutDownFault, ReportFault, Sheet, SheetReport, TicketState, Turn,
+    TurnFault,
 };

@@ -5,13 +5,14 @@ ghost use Rattle.chr_pool.specs.Hands.{hand_id};
 use crate::gate::{Gate, Stop};
 use chr_book::MOST_IN_BATCH;
 use chr_calls::{
-    Batch, ClaimFault, DropFault, Dropping, FireFault, Fired, Firing, Following, PutDownFault,
+    ClaimFault, DropFault, Dropping, FireFault, Fired, Firing, Following, PutDownFault, Sheet,
     Turn, TurnFault,
 };
 use chr_pool::Hand;
-use chr_search::{Judged, Trial, Verdict, judge};
+use chr_search::Judged;
 use chr_seats::{HoldFault, PostLedger, Seat};
 use chr_shared::Shared;
+use chr_sheet::{Judgements, Watch, judge};
 use std::alloc::{AllocError, Allocator};
 use std::sync::Wait;
 use std::sync::ledger::Ledger;
@@ -35,8 +36,18 @@ const FIRST_SHEET: usize = MOST_IN_BATCH;
 /// How many trials any sheet has at most.
 const LARGEST_SHEET: usize = 256;
 
-/// Judgements of the trials of a sheet, in order.
-type Judgements<A> = Vec<Judged<A>, A>;
+/// The gate of the work on one ticket.
+#[derive(Drop)]
+struct AtTicket<'g, G> {
+    gate: &'g G,
+    ticket: u64,
+}
+
+impl<'g, G: Gate> Watch for AtTicket<'g, G> {
+    fn before_judging(&self) {
+        self.gate.before_judging(self.ticket);
+    }
+}
 
 /// A call that comes next for a ticket.
 #[derive(Drop)]
@@ -85,50 +96,33 @@ fn left_without_turn(fault: TurnFault) -> Left {
     }
 }
 
-/// Judges trials in order, up to the first that is whole. The gate comes before each. An `Err` is E01.
-fn judge_all<A: Allocator + Copy, G: Gate>(
-    gate: &G,
-    ticket: u64,
-    trials: Vec<Trial<A>, A>,
-) -> Result<Judgements<A>, AllocError> {
-    let mut judgements = Vec::with_capacity(*trials.allocator(), trials.len())?;
-    for trial in trials {
-        gate.before_judging(ticket);
-        let judged = judge(trial);
-        let whole = judged.verdict() == Verdict::Whole;
-        judgements.push(judged)?;
-        if whole {
-            break;
-        }
-    }
-    Ok(judgements)
-}
-
 /// Fires the one judgement of a sheet where it is whole, since its trial is the candidate then; else reports them all.
 fn fire_or_report<A: Allocator + Copy>(judgements: Judgements<A>) -> Call<A> {
-    let mut judgements = judgements;
-    if judgements.len() != 1 || judgements[0].verdict() != Verdict::Whole {
+    if !judgements.others().is_empty() || judgements.whole().is_none() {
         return Call::Report(judgements);
     }
-    match judgements.pop() {
+    match judgements.into_whole() {
         Some(judged) => Call::Fire(judged),
         None => Call::Sheet,
     }
 }
 
-/// Judges the trials that were given.
+/// Judges the trials that were given, in order, up to the first that is whole. The gate comes before each.
 fn judge_sheet<A: Allocator + Copy, G: Gate>(
     gate: &G,
     ticket: u64,
-    given: Result<Batch<A>, TurnFault>,
+    given: Result<Sheet<A>, TurnFault>,
 ) -> Result<Call<A>, Left> {
     match given {
         Err(fault) => Err(left_without_turn(fault)),
-        Ok(Batch::Trials(trials)) => match judge_all(gate, ticket, trials) {
-            Ok(judgements) => Ok(fire_or_report(judgements)),
-            Err(_) => Err(Left::Want),
-        },
-        Ok(Batch::Done | Batch::Gone) => Ok(Call::Drop),
+        Ok(Sheet::Trials(trials)) => {
+            let alloc = *trials.allocator();
+            match judge(alloc, trials, &AtTicket { gate, ticket }) {
+                Ok(judgements) => Ok(fire_or_report(judgements)),
+                Err(_) => Err(Left::Want),
+            }
+        }
+        Ok(Sheet::Done | Sheet::Gone) => Ok(Call::Drop),
     }
 }
 
@@ -206,12 +200,12 @@ fn report_alone<L1: PostLedger, L2: Ledger, A: Allocator + Copy, R: Wait>(
     shared: &Shared<L1, L2, A>,
     seat: &mut Seat<L1, L2>,
     ticket: u64,
-    judgements: &[Judged<A>],
+    judgements: &Judgements<A>,
 ) -> Result<Call<A>, Left>
     ensures number { seat.new.number ≡ seat.old.number }
     ensures posts { seat.new.counts.posts ≡ seat.old.counts.posts }
 {
-    match shared.report_batch(rt, seat, ticket, judgements) {
+    match shared.report_all(rt, seat, ticket, judgements) {
         Ok(report) => match report.next {
             Ok(Turn::Trial(_)) => Ok(Call::Sheet),
             Ok(Turn::Done | Turn::Gone) => Ok(Call::Drop),
@@ -286,7 +280,7 @@ fn report<L1: PostLedger, L2: Ledger, A: Allocator + Copy, R: Wait, G: Gate>(
     seat: &mut Seat<L1, L2>,
     gate: &G,
     ticket: u64,
-    judgements: &[Judged<A>],
+    judgements: &Judgements<A>,
 ) -> Result<Call<A>, Left>
     ensures hand { hand_id hand.new ≡ hand_id hand.old }
     ensures number { seat.new.number ≡ seat.old.number }
@@ -359,11 +353,9 @@ fn make<L1: PostLedger, L2: Ledger, A: Allocator + Copy, R: Wait, G: Gate>(
         Call::Claim => claim(rt, shared, seat, gate, ticket),
         Call::Sheet => ask(rt, shared, seat, gate, ticket),
         Call::Report(judgements) if turns == 1 => {
-            report_alone(rt, shared, seat, ticket, judgements.as_slice())
+            report_alone(rt, shared, seat, ticket, &judgements)
         }
-        Call::Report(judgements) => {
-            report(rt, shared, hand, seat, gate, ticket, judgements.as_slice())
-        }
+        Call::Report(judgements) => { report(rt, shared, hand, seat, gate, ticket, &judgements) }
         Call::Fire(judged) => fire(rt, shared, hand, seat, ticket, &judged),
         Call::Drop => drop_goal(rt, shared, seat, ticket),
     }

@@ -1,19 +1,16 @@
 -- The trials after another, and whether a trial is the next one.
-use Rattle.std.proofs.Common.{◌≡◌, ◌≢◌, Decides, ℕ, ◌<◌, ◌≤◌, Bool, true, false, ◌==◌, List, [], ◌∷◌, length, Some, Result, Ok, Err, refl, sym, ◌∙◌, ap, subst, arith, ⊎_elim, true≢false}
-use Rattle.std.specs.Prelude.{IfOk}
+use Rattle.std.proofs.Common.{◌≡◌, ◌≢◌, Decides, ℕ, ◌+◌, ◌<◌, ◌≤◌, Bool, true, false, ◌==◌, List, [], ◌∷◌, length, Some, refl, sym, ◌∙◌, ap, subst, arith, ⊎_elim, true≢false}
 use Rattle.std.specs.List.{AllByRecursion}
 use Rattle.std.proofs.lemmas.Bool.Decides.{nat_tests}
 use Rattle.chr_rule.specs.Scope.{IsRule}
 use Rattle.chr_plan.specs.Orders.{heads_of}
 use Rattle.chr_plan.specs.Plans.{ArePlans}
 use Rattle.chr_store.specs.Labels.{LabelledStore, IsLabelled}
-use Rattle.chr_search.specs.declared.search.Ask.{Ask}
-use Rattle.chr_search.specs.declared.search.Ask.TheVariants as answers
 use Rattle.chr_search.specs.Positions.{at_or_after, begins, just_after, past}
-use Rattle.chr_search.specs.Tree.{Beyond}
-use Rattle.chr_search.specs.Trials.{Space, join_in, Child, IsTrial, IsNext}
+use Rattle.chr_search.specs.Trials.{Space, join_in, IsTrial, IsNext}
 use Rattle.chr_search.specs.Verdicts.{Trial, position, IsFormed, IsTrialOf}
-use Rattle.chr_search.specs.Answers.{IsAnswer, IsToldNext}
+use Rattle.chr_search.specs.Answers.{IsToldNext}
+use Rattle.chr_search.specs.Fronts.{ComeAfter}
 use Rattle.chr_search.proofs.Positions.{after, after_itself, after_cases, just_after_reaches, passed, passed_reaches}
 use Rattle.chr_search.proofs.Plans.{planned_order}
 use Rattle.chr_search.proofs.Descents.{rule_scoped, rule_low, head_low}
@@ -35,51 +32,47 @@ longer (x ∷ p) (y ∷ q) b h =
     let r = longer p q rest there in
     omega arith
 
--- a trial has six labels at most
-few_numbers : (s : Space) → ArePlans s.rules s.plans → AllByRecursion IsRule s.rules → (t : List ℕ) → IsTrial s t → length t ≤ 8
-few_numbers s ps all t i =
+-- a trial has as many labels as its rule has heads, at most
+pub many_numbers : (s : Space) → ArePlans s.rules s.plans → (t : List ℕ) (i : IsTrial s t) → length t ≤ length (heads_of (branch s t i).rule) + 2
+many_numbers s ps t i =
     let b = branch s t i in
     let count : length b.labels ≤ length b.order = grows_count (join_in s b.rule b.order) [] b.labels b.grows (omega arith) in
     let same : length b.order ≡ length (heads_of b.rule) = (planned_order s.rules s.plans ps b.r b.h b.rule b.order b.planned.rule_is b.planned.order_is).count in
-    let few : length (heads_of b.rule) ≤ 6 = few_heads b.rule (rule_scoped s.rules all b.r b.rule b.planned.rule_is) in
-    subst (λ (z : List ℕ). length z ≤ 8) (sym b.is) (omega arith)
+    subst (λ (z : List ℕ). length z ≤ length (heads_of b.rule) + 2) (sym b.is) (omega arith)
 
--- so the first one after a position with six is past all that it begins
+-- and so six
+few_numbers : (s : Space) → ArePlans s.rules s.plans → AllByRecursion IsRule s.rules → (t : List ℕ) → IsTrial s t → length t ≤ 8
+few_numbers s ps all t i =
+    let b = branch s t i in
+    let many = many_numbers s ps t i in
+    let few : length (heads_of b.rule) ≤ 6 = few_heads b.rule (rule_scoped s.rules all b.r b.rule b.planned.rule_is) in
+    omega arith
+
+-- where a position begins no longer trial, the first one after it is past all that it begins
 past_after : (p q : List ℕ) → p ≢ [] → at_or_after (past p) q ≡ true → at_or_after (just_after p) q ≡ true
 past_after p q ne h =
     after p q (passed_reaches p q h) (λ e. true≢false (sym h ∙ ap (at_or_after (past p)) (sym e) ∙ (moves_past p p ne (after_itself p)).1))
 
-after_past : (s : Space) → ArePlans s.rules s.plans → AllByRecursion IsRule s.rules → (p q : List ℕ) → 8 ≤ length p → IsTrial s q → at_or_after (just_after p) q ≡ true → at_or_after (past p) q ≡ true
-after_past s ps all p q long i h = passed p q (just_after_reaches p q h) (no (begins p q) refl)
+after_past : (p q : List ℕ) → (begins p q ≡ true → length q ≤ length p) → at_or_after (just_after p) q ≡ true → at_or_after (past p) q ≡ true
+after_past p q short h = passed p q (just_after_reaches p q h) (no (begins p q) refl)
   where
     no : (b : Bool) → begins p q ≡ b → b ≡ false
     no false e = refl
-    no true e = let more : length p < length q = longer p q e h in let few : length q ≤ 8 = few_numbers s ps all q i in absurd (omega arith)
+    no true e = let more : length p < length q = longer p q e h in let few : length q ≤ length p = short e in absurd (omega arith)
 
-beyond_past : (s : Space) → ArePlans s.rules s.plans → AllByRecursion IsRule s.rules → (p t : List ℕ) → 8 ≤ length p → Beyond (Child s) 3 [] (just_after p) t → Beyond (Child s) 3 [] (past p) t
-beyond_past s ps all p t long b = record { grows = b.grows; deep = b.deep; there = after_past s ps all p t long (record { grows = b.grows; deep = b.deep }) b.there }
+pub come_after : (s : Space) (p : List ℕ) → p ≢ [] → ((q : List ℕ) → IsTrial s q → begins p q ≡ true → length q ≤ length p) → ComeAfter s (past p) p
+come_after s p ne short q i = (past_after p q ne, after_past p q (short q i))
 
-next_after : (s : Space) → ArePlans s.rules s.plans → AllByRecursion IsRule s.rules → (p t : List ℕ) → 8 ≤ length p → IsNext s (past p) t → IsNext s (just_after p) t
-next_after s ps all p t long n = record {
-  more = n.more;
-  is = n.is;
-  beyond = record { grows = n.beyond.grows; deep = n.beyond.deep; there = past_after p n.more (λ e. let z : length p ≡ 0 = ap length e in omega arith) n.beyond.there };
-  least = λ other b. n.least other (beyond_past s ps all p other long b);
-}
-
-answer_after : {Z : Type 0} (s : Space) → ArePlans s.rules s.plans → AllByRecursion IsRule s.rules → (p : List ℕ) → 8 ≤ length p → (a : Ask Z) → IsAnswer s (past p) a → IsAnswer s (just_after p) a
-answer_after s ps all p long (answers.Trial t) n = (next_after s ps all p (position t) long n.0, n.1)
-answer_after s ps all p long answers.Done n = λ other b. n other (beyond_past s ps all p other long b)
-
-pub answered : {Z E : Type 0} (s : Space) (t : Trial) (place : List ℕ) (r : Result (Ask Z) E) → ArePlans s.rules s.plans → AllByRecursion IsRule s.rules → (length t.placed ≡ 6 → place ≡ past (position t)) → (length t.placed ≢ 6 → place ≡ just_after (position t)) → IfOk r (IsAnswer s place) → IfOk r (IsAnswer s (just_after (position t)))
-answered s t place (Ok a) ps all most fewer k =
-    elim (length t.placed == 6) as (λ b. (length t.placed == 6 ≡ b) → IsAnswer s (just_after (position t)) a) [
+-- so it is where a search goes on after a trial
+pub gone_after : (s : Space) (t : Trial) (place : List ℕ) → ArePlans s.rules s.plans → AllByRecursion IsRule s.rules → (length t.placed ≡ 6 → place ≡ past (position t)) → (length t.placed ≢ 6 → place ≡ just_after (position t)) → ComeAfter s place (position t)
+gone_after s t place ps all most fewer =
+    elim (length t.placed == 6) as (λ b. (length t.placed == 6 ≡ b) → ComeAfter s place (position t)) [
       | true ↦ λ b.
           let same : length t.placed ≡ 6 = grind (arith, nat_tests) in
-          answer_after s ps all (position t) (omega (arith, labels_length t)) a (subst (λ q. IsAnswer s q a) (most same) k)
-      | false ↦ λ b. subst (λ q. IsAnswer s q a) (fewer (grind (arith, nat_tests))) k
+          subst (λ z. ComeAfter s z (position t)) (sym (most same))
+          (come_after s (position t) (λ e. (cc)) (λ q i e. let few = few_numbers s ps all q i in omega (arith, labels_length t)))
+      | false ↦ λ b. subst (λ z. ComeAfter s z (position t)) (sym (fewer (grind (arith, nat_tests)))) (λ q i. (λ e. e, λ e. e))
     ] refl
-answered s t place (Err e) ps all most fewer k = k
 
 -- the trial of the next position
 pub record Other (s : Space) (p : List ℕ) : Type 0 where

@@ -18,7 +18,7 @@ use Rattle.chr_model.specs.Stores.{atom_at, among}
 use Rattle.chr_plan.specs.Orders.{heads_of}
 use Rattle.chr_plan.specs.declared.order.Step.{Step}
 use Rattle.chr_store.specs.Labels.{GivenBefore}
-use Rattle.chr_search.specs.Trials.{Join, StandsAt, Fit, HasHeadPred, MayFollow}
+use Rattle.chr_search.specs.Trials.{Join, StandsAt, HasHeadPred, MayFollow}
 use Rattle.chr_search.specs.declared.join.Asked.{Asked}
 use Rattle.chr_search.specs.Partners.{HasPlan, IsReady, key_value, keyed_at, KeyIs, key_in, IsAskedFor}
 use Rattle.chr_search.proofs.Plans.{order_of_plan, step_keyed}
@@ -126,24 +126,27 @@ where_some None p f = tt
 where_some (Some x) p f = f x p
 
 -- the active label may begin
+pub begins_by : (j : Join) (h : ℕ) (head : RuleAtom ℕ) (atom : Atom ℕ) → slice_get j.order 0 ≡ Some (record { head = h; key = None }) → head_at j.rule h ≡ Some head → atom_at j.store j.active ≡ Some atom → HasHeadPred head atom → MayFollow j [] j.active
+begins_by j h head atom at is live pred = record {
+  turn = refl;
+  distinct = tt;
+  valuation = λ x. None;
+  fits = tt;
+  step = record { head = h; key = None };
+  step_is = at;
+  head = head;
+  head_is = is;
+  atom = atom;
+  live = live;
+  pred = pred;
+  key = tt;
+}
+
 pub begins_if : (j : Join) → HasPlan j → (step : Step) (head : RuleAtom ℕ) (atom : Atom ℕ) → slice_get j.order 0 ≡ Some step → head_at j.rule step.head ≡ Some head → atom_at j.store j.active ≡ Some atom → HasHeadPred head atom → MayFollow j [] j.active
 begins_if j p step head atom at is live pred =
-    let c : Some step ≡ Some (record { head = p.head; key = None }) = sym at ∙ ap (λ (z : List Step). slice_get z 0) p.plan.first in
-    let first : step ≡ record { head = p.head; key = None } = cc in
-    record {
-      turn = refl;
-      distinct = tt;
-      valuation = λ x. None;
-      fits = tt;
-      step = step;
-      step_is = at;
-      head = head;
-      head_is = is;
-      atom = atom;
-      live = live;
-      pred = pred;
-      key = subst (λ (k : Option ℕ). Rattle.chr_search.specs.Trials.HasKeyValue (λ x. None) head k atom) (sym (ap (λ (s : Step). s.key) first)) tt;
-    }
+    let first : slice_get j.order 0 ≡ Some (record { head = p.head; key = None }) = ap (λ (z : List Step). slice_get z 0) p.plan.first in
+    let same : step ≡ record { head = p.head; key = None } = some_is step (record { head = p.head; key = None }) (sym at ∙ first) in
+    begins_by j p.head head atom first (subst (λ (x : Step). head_at j.rule x.head ≡ Some head) same is) live pred
 
 pub begins_pred : (j : Join) (step : Step) (head : RuleAtom ℕ) (atom : Atom ℕ) → slice_get j.order 0 ≡ Some step → head_at j.rule step.head ≡ Some head → atom_at j.store j.active ≡ Some atom → MayFollow j [] j.active → HasHeadPred head atom
 begins_pred j step head atom at is live m =

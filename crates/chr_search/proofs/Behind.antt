@@ -53,7 +53,7 @@ no_longer [] z (y ∷ zs) h = absurd (⊎_elim (λ l. omega arith) (λ l. let e 
 no_longer (a ∷ f) z zs h = no_longer f z zs (⊎_elim (λ l. absurd (omega arith)) (λ l. l.1) (after_cases a a (f ++ z ∷ zs) (f ++ z ∷ []) h))
 
 -- a beginning grows
-shorter : (C : Children) (path xs ys : List ℕ) → Grows C path (xs ++ ys) → Grows C path xs
+pub shorter : (C : Children) (path xs ys : List ℕ) → Grows C path (xs ++ ys) → Grows C path xs
 shorter C path [] ys g = tt
 shorter C path (x ∷ xs) ys g = (g.0, shorter C (path ++ x ∷ []) xs ys g.1)
 
@@ -82,7 +82,7 @@ none_behind s p u deep n away t i there b =
     away (ap front (r.2 ∙ ap (λ zs. f ++ r.0 ∷ zs) end) ∙ front_last f r.0)
 
 -- and it is of the same rule and head
-alike : (x y : ℕ) (xs ys : List ℕ) → begins (x ∷ xs) (y ∷ ys) ≡ true → (x ≡ y) × (begins xs ys ≡ true)
+pub alike : (x y : ℕ) (xs ys : List ℕ) → begins (x ∷ xs) (y ∷ ys) ≡ true → (x ≡ y) × (begins xs ys ≡ true)
 alike x y xs ys b =
     let same : x ≡ y = grind (arith, nat_tests) in
     let rest : begins xs ys ≡ true = grind (arith, nat_tests) in
@@ -149,3 +149,10 @@ same_front r h q k xs ys before others x y told ex ey rq hk d =
       λ t. f ∙ ap (λ zs. r ∷ h ∷ zs) (d.0 t) ∙ ap₂ (λ a b. a ∷ b ∷ others) rq hk ∙ sym g,
       λ e. d.1 (let z : r ∷ h ∷ before ≡ q ∷ k ∷ others = sym f ∙ e ∙ g in cc),
     )
+
+-- positions with one label more than another
+pub one_more : (p : List ℕ) (r h : ℕ) (ls before : List ℕ) (l : ℕ) (q : List ℕ) → r ∷ h ∷ ls ≡ p → ls ≡ before ++ l ∷ [] → r ∷ h ∷ before ≡ q → p ≡ q ++ l ∷ []
+one_more p r h ls before l q view e same = sym view ∙ ap (λ zs. r ∷ h ∷ zs) e ∙ ap (λ zs. zs ++ l ∷ []) same
+
+pub one_less : (p : List ℕ) (r h : ℕ) (ls before : List ℕ) (l : ℕ) (q : List ℕ) (k : ℕ) → r ∷ h ∷ ls ≡ p → ls ≡ before ++ l ∷ [] → p ≡ q ++ k ∷ [] → r ∷ h ∷ before ≡ q
+one_less p r h ls before l q k view e same = sym (front_two r h before l) ∙ ap (λ zs. front (r ∷ h ∷ zs)) (sym e) ∙ ap front (view ∙ same) ∙ front_last q k

@@ -10,7 +10,7 @@ use Rattle.chr_search.specs.Positions.{past}
 use Rattle.chr_search.specs.Verdicts.{Placed, Trial, labels, position, IsFormed}
 
 -- labels read one by one
-any_label : {X : Type 0} (f : X → ℕ) (xs : List X) (l : ℕ) → list_any (λ x. f x == l) xs ≡ among (map f xs) l
+pub any_label : {X : Type 0} (f : X → ℕ) (xs : List X) (l : ℕ) → list_any (λ x. f x == l) xs ≡ among (map f xs) l
 any_label f [] l = refl
 any_label f (x ∷ xs) l = ap (λ b. (f x == l) || b) (any_label f xs l)
 

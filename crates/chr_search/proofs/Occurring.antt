@@ -39,7 +39,7 @@ pub record IsActive (s : Space) (p : Pred) : Type 0 where
   pub arity : p.arity ≡ length atom.args
 
 -- each trial has it at its head
-trial_occurs : (s : Space) (p : Pred) → IsActive s p → ArePlans s.rules s.plans → (r h : ℕ) (ls : List ℕ) → IsTrial s (r ∷ h ∷ ls) → IsOccurrence s.rules p r h
+pub trial_occurs : (s : Space) (p : Pred) → IsActive s p → ArePlans s.rules s.plans → (r h : ℕ) (ls : List ℕ) → IsTrial s (r ∷ h ∷ ls) → IsOccurrence s.rules p r h
 trial_occurs s p a ps r h [] i = absurd (let d : 3 ≤ length (r ∷ h ∷ []) = i.deep in omega arith)
 trial_occurs s p a ps r h (l ∷ ls) i =
     let c = i.grows.1.1.0 in
@@ -75,7 +75,7 @@ come_to_last s p a ps r h n (x ∷ []) b = let d : 3 ≤ length (x ∷ []) = b.d
 come_to_last s p a ps r h n (x ∷ y ∷ ls) b = n x y (in_order r h x y ls b.there) (trial_occurs s p a ps x y ls (record { grows = b.grows; deep = b.deep }))
 
 -- an occurrence has a plan, and that makes a join
-plan_there : (s : Space) (p : Pred) → ArePlans s.rules s.plans → (r h : ℕ) → IsOccurrence s.rules p r h → (order : List Step) × (plan_at s.plans r h ≡ Some order)
+pub plan_there : (s : Space) (p : Pred) → ArePlans s.rules s.plans → (r h : ℕ) → IsOccurrence s.rules p r h → (order : List Step) × (plan_at s.plans r h ≡ Some order)
 plan_there s p ps r h o = has_plan s.rules s.plans ps r h o.rule o.rule_is (head_from o.rule h o.at.head o.at.head_is) (head_within o.rule h o.at.head o.at.head_is)
 
 join_there : (s : Space) (p : Pred) → IsActive s p → ArePlans s.rules s.plans → (r h : ℕ) (j : Join) → IsOccurrence s.rules p r h → IsJoinOf s r h j → IsJoinAt s r h j

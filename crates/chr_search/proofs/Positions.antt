@@ -1,5 +1,5 @@
 -- Laws of positions.
-use Rattle.std.proofs.Common.{◌≡◌, ◌≢◌, ℕ, zero, suc, ◌+◌, ◌<◌, ◌≤◌, length, take, true, false, ltb, List, [], ◌∷◌, ◌++◌, refl, ◌∙◌, ap, subst, arith, ◌⊎◌, inl, inr, ⊎_elim}
+use Rattle.std.proofs.Common.{◌≡◌, ◌≢◌, ℕ, zero, suc, ◌+◌, ◌<◌, ◌≤◌, length, take, true, false, ltb, List, [], ◌∷◌, ◌++◌, refl, ◌∙◌, ap, ap₂, subst, arith, ◌⊎◌, inl, inr, ⊎_elim}
 use Rattle.std.proofs.lemmas.Bool.Decides.{nat_tests}
 use Rattle.chr_search.specs.Positions.{at_or_after, begins, just_after, past}
 
@@ -28,6 +28,16 @@ after_by (x ∷ xs) (y ∷ ys) [] h k = absurd (cc)
 after_by (x ∷ xs) (y ∷ ys) (z ∷ zs) h k =
     ⊎_elim (λ a. ⊎_elim (λ b. after_first x z xs zs (omega arith)) (λ b. after_first x z xs zs (let e : y ≡ z = b.0 in omega arith)) (after_cases y z ys zs k))
     (λ a. ⊎_elim (λ b. after_first x z xs zs (let e : x ≡ y = a.0 in omega arith)) (λ b. subst (λ w. at_or_after (x ∷ xs) (w ∷ zs) ≡ true) (a.0 ∙ b.0) (after_under x xs zs (after_by xs ys zs a.1 b.1))) (after_cases y z ys zs k))
+    (after_cases x y xs ys h)
+
+-- two positions, each at or after the other
+pub same_place : (xs ys : List ℕ) → at_or_after xs ys ≡ true → at_or_after ys xs ≡ true → xs ≡ ys
+same_place [] [] h k = refl
+same_place [] (y ∷ ys) h k = absurd (let e : false ≡ true = k in cc)
+same_place (x ∷ xs) [] h k = absurd (let e : false ≡ true = h in cc)
+same_place (x ∷ xs) (y ∷ ys) h k =
+    ⊎_elim (λ lt. ⊎_elim (λ gt. absurd (omega arith)) (λ e. absurd (let s : y ≡ x = e.0 in omega arith)) (after_cases y x ys xs k))
+    (λ e. ⊎_elim (λ gt. absurd (let s : x ≡ y = e.0 in omega arith)) (λ f. ap₂ (λ z zs. z ∷ zs) e.0 (same_place xs ys e.1 f.1)) (after_cases y x ys xs k))
     (after_cases x y xs ys h)
 
 -- after t, if it isn't t

@@ -1,10 +1,10 @@
 -- The least path, child by child.
-use Rattle.std.proofs.Common.{◌≡◌, ◌≢◌, ℕ, ◌+◌, ◌<◌, ◌≤◌, Bool, true, false, ◌==◌, if◌then◌else◌, List, [], ◌∷◌, ◌++◌, length, append_assoc, refl, sym, ◌∙◌, subst, arith, ⊎_elim, true-eqb, length-append}
+use Rattle.std.proofs.Common.{◌≡◌, ◌≢◌, ℕ, ◌+◌, ◌<◌, ◌≤◌, Bool, true, false, ◌==◌, if◌then◌else◌, List, [], ◌∷◌, ◌++◌, length, append_assoc, refl, sym, ◌∙◌, ap, subst, arith, ⊎_elim, true-eqb, length-append}
 use Rattle.std.proofs.lemmas.Bool.Decides.{nat_tests}
 use Rattle.std.proofs.lemmas.List.{append-nil}
 use Rattle.chr_search.specs.Positions.{at_or_after}
 use Rattle.chr_search.specs.Tree.{Children, Grows, Beyond, Least, NoneBeyond, LeastFrom, NoneFrom}
-use Rattle.chr_search.proofs.Positions.{after_first, after_under, after_cases}
+use Rattle.chr_search.proofs.Positions.{after_first, after_under, after_cases, same_place}
 
 -- with a longer path there is a shorter rest
 pub append_one : (path more : List ℕ) (x : ℕ) → (path ++ x ∷ []) ++ more ≡ path ++ x ∷ more
@@ -104,6 +104,10 @@ under_same from below x e = grind (arith, nat_tests)
 
 pub under_other : (from : ℕ) (below : List ℕ) (x : ℕ) → x ≢ from → [] ≡ under from below x
 under_other from below x ne = grind (arith, nat_tests)
+
+-- there is one least path
+pub least_same : (C : Children) (d : ℕ) (path place p q : List ℕ) → Least C d path place p → Least C d path place q → p ≡ q
+least_same C d path place p q l m = l.is ∙ ap (λ more. path ++ more) (same_place l.more m.more (l.least m.more m.beyond) (m.least l.more l.beyond)) ∙ sym m.is
 
 pub grows_more : (C : Children) (path xs : List ℕ) (x : ℕ) → Grows C path xs → C (path ++ xs) x → Grows C path (xs ++ x ∷ [])
 grows_more C path [] x g c = (subst (λ p. C p x) (append-nil path) c, tt)

@@ -11,3 +11,4 @@ pub mod Judged
 pub mod Answers
 pub mod Passing
 pub mod PlanByPlan
+pub mod Fronts

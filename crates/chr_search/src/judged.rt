@@ -1,15 +1,16 @@
 //! Judging trials.
-ghost use Rattle.std.specs.Prelude.{◌≡◌, ◌==◌, ◌↔◌, IsTrue, length, map, MatchOption};
+ghost use Rattle.std.specs.Prelude.{◌≡◌, ◌==◌, ◌↔◌, IsTrue, None, length, map, replicate, MatchOption};
 ghost use Rattle.std.specs.List.{list_any};
 ghost use Rattle.chr_guard.specs.Bindings.{NarrowsIf};
 ghost use Rattle.chr_guard.specs.Matching.{AreAtHeads, IsFit};
 ghost use Rattle.chr_model.specs.Stores.{Distinct};
 ghost use Rattle.chr_plan.specs.Orders.{heads_of};
+ghost use Rattle.chr_search.specs.declared.judged.Verdict.TheVariants as verdicts;
 ghost use Rattle.chr_search.specs.Judged.{IsVerdict, IsSettledUnder};
 ghost use Rattle.chr_search.specs.Verdicts.{IsWhole, IsWholeUnder, labels, at_heads};
 
 use crate::trial::{Placed, Trial};
-use chr_guard::instance::instance_from;
+use chr_guard::instance::becomes_instance;
 use chr_guard::{Binding, Settled, fit_head};
 use chr_rule::Rule;
 use chr_store::Label;
@@ -79,22 +80,33 @@ impl<A: Allocator + Copy> Judged<A> {
         let Some(settled) = &self.settled else {
             return None;
         };
-        match settled.plain() {
-            Some(binding) => Some(binding),
-            None => verdict_on(&self.trial).1,
+        if let Some(binding) = settled.plain() {
+            return Some(binding);
         }
+        let mut binding = Binding::free(self.trial.rule().variables());
+        if judge_by(&self.trial, &mut binding) != Verdict::Whole {
+            unreachable!();
+        }
+        Some(binding)
+    }
+
+    /// The trial alone.
+    pub fn into_trial(self) -> Trial<A>
+        ensures { result ≡ self.trial }
+    {
+        self.trial
     }
 }
 
 /// Whether one of these has the label.
-fn has_label<A: Allocator>(placed: &[Placed<A>], label: Label) -> bool
+pub(crate) fn has_label<A: Allocator>(placed: &[Placed<A>], label: Label) -> bool
     ensures { result ≡ list_any (λ p. p.label == label) placed.now }
 {
     placed.iter().any(|other| other.label == label)
 }
 
 /// Whether no label stands twice.
-fn are_distinct<A: Allocator>(placed: &[Placed<A>]) -> bool
+pub(crate) fn are_distinct<A: Allocator>(placed: &[Placed<A>]) -> bool
     ensures { IsTrue result ↔ Distinct (map (λ p. p.label) placed.now) }
 {
     match placed.split_first() {
@@ -104,7 +116,7 @@ fn are_distinct<A: Allocator>(placed: &[Placed<A>]) -> bool
 }
 
 /// Extends a binding so that the heads are the atoms. False only where no valuation that extends it makes them so.
-fn fit_placed<'v, A: Allocator + Copy>(
+pub(crate) fn fit_placed<'v, A: Allocator + Copy>(
     binding: &mut Binding<'v, A>,
     rule: &Rule<A>,
     placed: &'v [Placed<A>],
@@ -123,50 +135,24 @@ fn fit_placed<'v, A: Allocator + Copy>(
     true
 }
 
-/// The one binding under which the heads of a trial are its atoms. None where there is none.
-fn fit<A: Allocator + Copy>(trial: &Trial<A>) -> Option<Binding<'_, A>>
-    ensures { MatchOption result ((v : _) → AreAtHeads trial.now.rule (at_heads trial.now) v → ⊥) (IsFit trial.now.rule (AreAtHeads trial.now.rule (at_heads trial.now))) }
+/// Judges a trial by a free binding. Where it is whole, that becomes the one of all variables of the instance.
+fn judge_by<'v, A: Allocator + Copy>(trial: &'v Trial<A>, binding: &mut Binding<'v, A>) -> Verdict
+    requires { binding.old ≡ replicate trial.now.rule.variables None }
+    ensures verdict { IsVerdict trial.now result }
+    ensures whole { result ≡ verdicts.Whole → IsWholeUnder trial.now binding.new }
 {
     let rule = trial.rule();
-    let mut binding = Binding::free(rule.variables());
-    if !fit_placed(&mut binding, rule, trial.placed()) {
-        return None;
-    }
-    Some(binding)
-}
-
-/// The one binding of all variables of the instance that a trial without heads left is, from that of its heads' variables.
-/// None where it is none.
-fn complete<'v, A: Allocator + Copy>(
-    trial: &Trial<A>,
-    binding: Binding<'v, A>,
-) -> Option<Binding<'v, A>>
-    requires full { length trial.now.placed ≡ length (heads_of trial.now.rule) }
-    requires distinct { Distinct (labels trial.now) }
-    requires fit { IsFit trial.now.rule (AreAtHeads trial.now.rule (at_heads trial.now)) binding }
-    ensures { MatchOption result (IsWhole trial.now → ⊥) (IsWholeUnder trial.now) }
-{
-    instance_from(trial.rule(), binding)
-}
-
-/// The verdict on a trial, and the binding of all variables where it is whole.
-fn verdict_on<A: Allocator + Copy>(trial: &Trial<A>) -> (Verdict, Option<Binding<'_, A>>)
-    ensures verdict { IsVerdict trial.now result.0 }
-    ensures binding { MatchOption result.1 (IsWhole trial.now → ⊥) (IsWholeUnder trial.now) }
-{
     let placed = trial.placed();
-    if !are_distinct(placed) {
-        return (Verdict::Misfit, None);
+    if !are_distinct(placed) || !fit_placed(binding, rule, placed) {
+        return Verdict::Misfit;
     }
-    let Some(binding) = fit(trial) else {
-        return (Verdict::Misfit, None);
-    };
-    if placed.len() < trial.rule().heads() {
-        return (Verdict::Part, None);
+    if placed.len() < rule.heads() {
+        return Verdict::Part;
     }
-    match complete(trial, binding) {
-        None => (Verdict::Misfit, None),
-        Some(whole) => (Verdict::Whole, Some(whole)),
+    if becomes_instance(rule, binding) {
+        Verdict::Whole
+    } else {
+        Verdict::Misfit
     }
 }
 
@@ -175,11 +161,12 @@ fn settled_on<A: Allocator + Copy>(trial: &Trial<A>) -> (Verdict, Option<Settled
     ensures verdict { IsVerdict trial.now result.0 }
     ensures settled { MatchOption result.1 (IsWhole trial.now → ⊥) (IsSettledUnder trial.now) }
 {
-    let (verdict, binding) = verdict_on(trial);
-    match binding {
-        None => (verdict, None),
-        Some(binding) => (verdict, Some(binding.settled())),
+    let mut binding = Binding::free(trial.rule().variables());
+    let verdict = judge_by(trial, &mut binding);
+    if verdict != Verdict::Whole {
+        return (verdict, None);
     }
+    (verdict, Some(binding.settled()))
 }
 
 /// Judges a trial. It takes no memory.

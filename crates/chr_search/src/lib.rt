@@ -14,6 +14,8 @@
 //! youngest of its labels.
 #![tactic(auto)]
 
+mod fitted;
+mod front;
 mod join;
 mod judged;
 pub mod laws;
@@ -22,6 +24,8 @@ mod position;
 mod search;
 mod trial;
 
+pub use fitted::{Fitted, is_misfit_alone};
+pub use front::Front;
 pub use judged::{Judged, Verdict, judge};
 pub use position::Position;
 pub use search::{Ask, Instance, Passed, Search, Then, Whole};

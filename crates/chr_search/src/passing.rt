@@ -51,7 +51,7 @@ struct LastHead<'s, A: Allocator> {
 
 /// Where the labels of trials are looked for that have the same labels but the last.
 #[derive(Drop)]
-struct Level<'s, A: Allocator> {
+pub(crate) struct Level<'s, A: Allocator> {
     /// The variables that the labels before the last bind.
     known: Known,
     at: LastHead<'s, A>,
@@ -183,7 +183,7 @@ impl<'s, A: Allocator + Copy> Join<'s, A> {
 
     /// What the trials of these labels and one more have in common. None where no label may be tried after these.
     #[inline(always)]
-    fn level(&self, labels: &[Label], binding: &Binding<'s, A>) -> Option<Level<'s, A>>
+    pub(crate) fn level(&self, labels: &[Label], binding: &Binding<'s, A>) -> Option<Level<'s, A>>
         requires plan { HasPlan (join_of self.now) }
         requires ready { IsReady (join_of self.now) labels.now binding.now }
         ensures { MatchOption result ((x : ℕ) → MayFollow (join_of self.now) labels.now x → ⊥) (IsLevel (join_of self.now) labels.now binding.now) }
@@ -197,7 +197,7 @@ impl<'s, A: Allocator + Copy> Join<'s, A> {
 
     /// The least label from one on at a level.
     #[inline(always)]
-    fn next_at(
+    pub(crate) fn next_at(
         &self,
         level: &mut Level<'s, A>,
         labels: &[Label],

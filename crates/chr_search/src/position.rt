@@ -1,5 +1,5 @@
 //! Positions in the order of trials.
-ghost use Rattle.std.specs.Prelude.{◌≡◌, ◌≢◌, ◌↔◌, ◌+◌, ◌∷◌, ◌++◌, ◌<◌, ◌≤◌, [], length, map, take, IsTrue};
+ghost use Rattle.std.specs.Prelude.{◌≡◌, ◌≢◌, ◌↔◌, ◌+◌, ◌∷◌, ◌++◌, ◌<◌, ◌≤◌, [], ℕ, length, map, take, MatchOption, IsTrue};
 ghost use Rattle.chr_search.specs.Positions.{beginning, just_after, past, front};
 ghost use Rattle.chr_search.specs.Verdicts.{Trial as TrialView, labels as labels_of, position, IsFormed, IsPart};
 
@@ -167,6 +167,20 @@ impl Position {
             return false;
         }
         are_labels_of(self.labels.as_slice(), trial.placed())
+    }
+
+    /// The last label, where this is a trial's position with one label more.
+    pub(crate) fn label_after<A: Allocator + Copy>(&self, part: &Trial<A>) -> Option<Label>
+        ensures { MatchOption result ((l : ℕ) → self.now ≡ position part.now ++ l ∷ [] → ⊥) (λ l. self.now ≡ position part.now ++ l ∷ []) }
+    {
+        if self.rule != part.number() || self.head != part.head() {
+            return None;
+        }
+        let (last, before) = self.labels.as_slice().split_last()?;
+        if !are_labels_of(before, part.placed()) {
+            return None;
+        }
+        Some(*last)
     }
 
     /// Becomes the first position after a trial of these labels and all that it begins.

@@ -1,14 +1,16 @@
 //! Searches.
-ghost use Rattle.std.specs.Prelude.{◌≡◌, suc, ◌≤◌, ◌∷◌, [], length, Some, MatchOption, IfOk};
+ghost use Rattle.std.specs.Prelude.{◌≡◌, ℕ, suc, ◌≤◌, ◌∷◌, ◌++◌, [], length, Some, MatchOption, IfOk};
 ghost use Rattle.chr_value.specs.Stores.{atom_at};
 ghost use Rattle.chr_plan.specs.Plans.{ArePlans};
 ghost use Rattle.chr_store.specs.Labels.{entered};
 ghost use Rattle.chr_search.specs.declared.passing.End.TheVariants as ends;
+ghost use Rattle.chr_search.specs.declared.judged.Verdict.TheVariants as verdicts;
 ghost use Rattle.chr_search.specs.declared.search.Then.TheVariants as thens;
-ghost use Rattle.chr_search.specs.Positions.{beginning, just_after, past};
+ghost use Rattle.chr_search.specs.Positions.{beginning, past};
 ghost use Rattle.chr_search.specs.Trials.{older, IsNext, MayFollow, NoneLeft};
-ghost use Rattle.chr_search.specs.Answers.{IsAnswer, IsAnswerBehind, IsToldNext, after_judging};
-ghost use Rattle.chr_search.specs.Verdicts.{Trial as TrialView, position as position_of};
+ghost use Rattle.chr_search.specs.Answers.{IsAnswer, IsAnswerBehind, IsToldNext, after_judging, after_verdict};
+ghost use Rattle.chr_search.specs.Verdicts.{Trial as TrialView, IsPart, position as position_of};
+ghost use Rattle.chr_search.specs.Fronts.{ComeAfter};
 ghost use Rattle.chr_search.specs.Joined.{join_of};
 ghost use Rattle.chr_search.specs.Partners.{HasPlan};
 ghost use Rattle.chr_search.specs.Passing.{IsTrialIn, HasTrials, Passes, IsThen};
@@ -207,7 +209,7 @@ impl Search {
 
     /// The plan of a head of a rule. None where there is none.
     #[inline(always)]
-    fn join_at<'s, A: Allocator + Copy>(
+    pub(crate) fn join_at<'s, A: Allocator + Copy>(
         program: &'s Program<A>,
         plans: &'s Plans<A>,
         view: &View<'s, A>,
@@ -352,27 +354,82 @@ impl Search {
         Some(position.is_of(trial) && trial.stands_in(program, plans, store))
     }
 
-    /// The least admissible trial after another, which needn't be judged: where that is a misfit, none lies between it and
-    /// those past all that it begins. Done where there is none. E01 where memory ran out. The search's own position plays no
-    /// part.
-    pub fn after<A: Allocator + Copy>(
-        &self,
-        alloc: A,
+    /// Moves to the trials after another, which needn't be judged: where that is a misfit, none lies between it and those past
+    /// all that it begins.
+    pub fn go_after<A: Allocator + Copy>(
+        &mut self,
         trial: &Trial<A>,
         program: &Program<A>,
         plans: &Plans<A>,
         store: &Store<A>,
-    ) -> Result<Ask<A>, AllocError>
+    )
         requires { ArePlans program.now plans.now }
-        ensures { IfOk result (IsAnswer (older program.now plans.now store.now.entries self.now.label) (just_after (position_of trial.now))) }
+        ensures label { self.new.label ≡ self.old.label }
+        ensures place { ComeAfter (older program.now plans.now store.now.entries self.old.label) self.new.place (position_of trial.now) }
     {
         // For the proof: a rule has at most six heads.
         let _rules = program.rules();
-        let next = Search {
-            label: self.label,
-            position: Position::after(trial),
+        self.position = Position::after(trial);
+    }
+
+    /// Moves past the trial of the active label alone at a rule and a head of it.
+    pub fn go_past_alone(&mut self, number: u16, head: u8)
+        requires number { 1 ≤ number }
+        requires head { 1 ≤ head }
+        requires label { self.old.label ≤ 4294967295 }
+        ensures { self.new ≡ record { label = self.old.label; place = past (number ∷ head ∷ self.old.label ∷ []) } }
+    {
+        let mut labels = Labels::new();
+        labels.push(self.label + 1);
+        self.position = Position {
+            rule: number,
+            head,
+            labels,
         };
-        next.candidate(alloc, program, plans, store)
+    }
+
+    /// The rule and the head of the least trial at or after the position, where it has one label. None where it has more, or no
+    /// trial is left. It takes no memory.
+    pub fn next_alone<A: Allocator + Copy>(
+        &self,
+        program: &Program<A>,
+        plans: &Plans<A>,
+        store: &Store<A>,
+    ) -> Option<(u16, u8)>
+        requires { ArePlans program.now plans.now }
+        ensures { let s = older program.now plans.now store.now.entries self.now.label in MatchOption result ((r h : ℕ) → IsNext s self.now.place (r ∷ h ∷ self.now.label ∷ []) → ⊥) (λ o. IsNext s self.now.place (o.0 ∷ o.1 ∷ self.now.label ∷ [])) }
+    {
+        let position = self.find(program, plans, store)?;
+        if position.labels.len() != 1 {
+            return None;
+        }
+        Some((position.rule, position.head))
+    }
+
+    /// Moves past a trial of these labels and one more, and past all that it begins.
+    pub fn go_past<A: Allocator + Copy>(&mut self, part: &Trial<A>, last: Label)
+        requires few { length part.now.placed ≤ 5 }
+        requires last { last ≤ 4294967295 }
+        ensures { self.new ≡ record { label = self.old.label; place = past (position_of part.now ++ last ∷ []) } }
+    {
+        let mut position = Position::of(part);
+        position.labels.push(last + 1);
+        self.position = position;
+    }
+
+    /// The last label of the least trial at or after the position, where that begins with a trial and has one label more. None
+    /// where it doesn't, or no trial is left. It takes no memory.
+    pub fn next_beside<A: Allocator + Copy>(
+        &self,
+        part: &Trial<A>,
+        program: &Program<A>,
+        plans: &Plans<A>,
+        store: &Store<A>,
+    ) -> Option<Label>
+        requires { ArePlans program.now plans.now }
+        ensures { let s = older program.now plans.now store.now.entries self.now.label in MatchOption result ((l : ℕ) → IsNext s self.now.place (position_of part.now ++ l ∷ []) → ⊥) (λ l. IsNext s self.now.place (position_of part.now ++ l ∷ [])) }
+    {
+        self.find(program, plans, store)?.label_after(part)
     }
 
     /// The least admissible trial past another, with the same rule and head and the same labels but the last. Done where
@@ -413,9 +470,17 @@ impl Search {
     pub fn advance<A: Allocator + Copy>(&mut self, judged: &Judged<A>)
         ensures { self.new ≡ record { label = self.old.label; place = after_judging judged.now } }
     {
-        self.position = match judged.verdict() {
-            Verdict::Part => Position::just_after(judged.trial()),
-            Verdict::Misfit | Verdict::Whole => Position::past(judged.trial()),
+        self.advance_by(judged.trial(), judged.verdict());
+    }
+
+    /// Moves just after a trial where this verdict on it is a part, and else past it and all that it begins.
+    pub fn advance_by<A: Allocator + Copy>(&mut self, trial: &Trial<A>, verdict: Verdict)
+        requires { verdict ≡ verdicts.Part → IsPart trial.now }
+        ensures { self.new ≡ record { label = self.old.label; place = after_verdict verdict (position_of trial.now) } }
+    {
+        self.position = match verdict {
+            Verdict::Part => Position::just_after(trial),
+            Verdict::Misfit | Verdict::Whole => Position::past(trial),
         };
     }
 

@@ -1,7 +1,8 @@
 //! Trials with their atoms.
-ghost use Rattle.std.specs.Prelude.{◌≡◌, ◌↔◌, ◌≤◌, ℕ, map, IfOk, IsTrue};
+ghost use Rattle.std.specs.Prelude.{◌≡◌, ◌↔◌, ◌≤◌, ◌∷◌, [], ℕ, length, map, IfOk, IsTrue};
 ghost use Rattle.std.specs.Arc.{arc_value};
 ghost use Rattle.chr_plan.specs.Plans.{ArePlans};
+ghost use Rattle.chr_search.specs.Fronts.{lengthened, trial_alone};
 ghost use Rattle.chr_search.specs.Positions.{front};
 ghost use Rattle.chr_search.specs.Trials.{older, IsTrial};
 ghost use Rattle.chr_search.specs.Verdicts.{IsFormed, position as position_of, IsTrialOf, label_at, labels_from, kept_labels, removed_labels};
@@ -67,7 +68,7 @@ impl<A: Allocator> Model for Trial<A> {
 
 impl<A: Allocator + Copy> Placed<A> {
     /// A copy, with a copy of the atom. An `Err` is E01.
-    fn copy(&self, alloc: A) -> Result<Placed<A>, AllocError>
+    pub fn copy(&self, alloc: A) -> Result<Placed<A>, AllocError>
         ensures { IfOk result (λ made. placed_as made ≡ placed_as self.now) }
     {
         Ok(Placed {
@@ -224,6 +225,49 @@ impl<A: Allocator + Copy> Trial<A> {
         })
     }
 
+    /// The trial of one label. An `Err` is E01.
+    pub fn alone(
+        alloc: A,
+        rule: Arc<Rule<A>, A>,
+        number: u16,
+        placed: Placed<A>,
+    ) -> Result<Trial<A>, AllocError>
+        requires { IsFormed (trial_alone (arc_value rule) number (placed_as placed)) }
+        ensures { IfOk result (λ made. made ≡ trial_alone (arc_value rule) number (placed_as placed)) }
+    {
+        let head = placed.head;
+        let mut all = Vec::with_capacity(alloc, 1)?;
+        all.push(placed)?;
+        Ok(Trial {
+            rule,
+            number,
+            head,
+            placed: all,
+        })
+    }
+
+    /// The trial without its last label, and that label.
+    pub fn split_last(self) -> (Trial<A>, Placed<A>)
+        requires { 2 ≤ length self.placed }
+        ensures { lengthened result.0 (placed_as result.1) ≡ self }
+    {
+        let mut part = self;
+        let Some(last) = part.placed.pop() else {
+            unreachable!();
+        };
+        (part, last)
+    }
+
+    /// The trial with one label more. An `Err` is E01.
+    pub fn lengthened(self, last: Placed<A>) -> Result<Trial<A>, AllocError>
+        requires { IsFormed (lengthened self (placed_as last)) }
+        ensures { IfOk result (λ made. made ≡ lengthened self (placed_as last)) }
+    {
+        let mut longer = self;
+        longer.placed.push(last)?;
+        Ok(longer)
+    }
+
     /// Whether two trials are equal: the rule with its number, the head, and the labels with their heads and atoms,
     /// wherever the rules and the atoms lie in memory.
     pub fn same(&self, other: &Trial<A>) -> bool
@@ -244,7 +288,7 @@ impl<A: Allocator + Copy> Trial<A> {
 
     /// Whether a trial whose position is admissible is the one that a program, its plans and a store give there: its rule is
     /// that of its number, its heads are those of the plan, and each label has its atom.
-    pub(crate) fn stands_in(&self, program: &Program<A>, plans: &Plans<A>, store: &Store<A>) -> bool
+    pub fn stands_in(&self, program: &Program<A>, plans: &Plans<A>, store: &Store<A>) -> bool
         requires plans { ArePlans program.now plans.now }
         ensures { IsTrue result ↔ IsTrialOf program.now plans.now store.now.entries self.now }
     {

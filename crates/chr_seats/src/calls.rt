@@ -1,18 +1,20 @@
 //! The calls that are made in holds.
 ghost use Rattle.std.specs.Prelude.{ℕ, Bool, true, false};
 ghost use Rattle.chr_calls.specs.Books.{BookState};
-ghost use Rattle.chr_calls.specs.Batches.{ClaimsSheet, ReportsBatch, ReportsSheet, Sheets, batch_of, following_of, report_of, sheet_of};
+ghost use Rattle.chr_calls.specs.Batches.{ClaimsSheet, ReportsBatch, ReportsSheet, Sheets, claimed_of, following_of, report_of, sheet_of};
+ghost use Rattle.chr_sheet.specs.Rows.{judgements_of};
 ghost use Rattle.chr_calls.specs.Calls.{Claims, FiresOrMisses, Drops, PutsDown};
 ghost use Rattle.chr_book.specs.Texts.{PostsText};
 ghost use Rattle.chr_seats.specs.Holds.{GoesOn};
 
 use chr_book::{Book, Posted};
 use chr_calls::{
-    Batch, BatchReport, ClaimFault, DropFault, Dropping, FireFault, Firing, PutDownFault,
+    BatchReport, ClaimFault, DropFault, Dropping, FireFault, Firing, PutDownFault, Sheet,
     SheetReport, TurnFault,
 };
 use chr_lex::fault::ReadError;
 use chr_search::Judged;
+use chr_sheet::Judgements;
 use chr_store::Label;
 use std::alloc::Allocator;
 
@@ -53,12 +55,12 @@ pub struct AskSheet {
     pub most: usize,
 }
 
-impl<A: Allocator + Copy> Call<A, Result<Batch<A>, TurnFault>> for AskSheet {
-    ghost line = { λ c seat b answer n. Sheets b seat c.ticket c.most (batch_of answer) n };
+impl<A: Allocator + Copy> Call<A, Result<Sheet<A>, TurnFault>> for AskSheet {
+    ghost line = { λ c seat b answer n. Sheets b seat c.ticket c.most (sheet_of answer) n };
 
     ghost posts = { false };
 
-    fn make(self, book: &mut Book<A>, seat: u32) -> Result<Batch<A>, TurnFault> {
+    fn make(self, book: &mut Book<A>, seat: u32) -> Result<Sheet<A>, TurnFault> {
         book.sheet(seat, self.ticket, self.most)
     }
 }
@@ -70,8 +72,8 @@ pub struct ClaimSheet {
     pub most: usize,
 }
 
-impl<A: Allocator + Copy> Call<A, Result<Result<Batch<A>, TurnFault>, ClaimFault>> for ClaimSheet {
-    ghost line = { λ c seat b answer n. ClaimsSheet b seat c.ticket c.most (sheet_of answer) n };
+impl<A: Allocator + Copy> Call<A, Result<Result<Sheet<A>, TurnFault>, ClaimFault>> for ClaimSheet {
+    ghost line = { λ c seat b answer n. ClaimsSheet b seat c.ticket c.most (claimed_of answer) n };
 
     ghost posts = { false };
 
@@ -79,7 +81,7 @@ impl<A: Allocator + Copy> Call<A, Result<Result<Batch<A>, TurnFault>, ClaimFault
         self,
         book: &mut Book<A>,
         seat: u32,
-    ) -> Result<Result<Batch<A>, TurnFault>, ClaimFault> {
+    ) -> Result<Result<Sheet<A>, TurnFault>, ClaimFault> {
         book.claim_sheet(seat, self.ticket, self.most)
     }
 }
@@ -88,12 +90,12 @@ impl<A: Allocator + Copy> Call<A, Result<Result<Batch<A>, TurnFault>, ClaimFault
 #[derive(Drop)]
 pub struct ReportSheet<'a, A: Allocator> {
     pub ticket: u64,
-    pub judgements: &'a [Judged<A>],
+    pub judgements: &'a Judgements<A>,
     pub most: usize,
 }
 
 impl<'a, A: Allocator + Copy> Call<A, SheetReport<A>> for ReportSheet<'a, A> {
-    ghost line = { λ c seat b answer n. ReportsSheet b seat c.ticket c.most c.judgements.now answer.reported (following_of answer.following) n };
+    ghost line = { λ c seat b answer n. ReportsSheet b seat c.ticket c.most (judgements_of c.judgements.now) answer.reported (following_of answer.following) n };
 
     ghost posts = { false };
 
@@ -102,20 +104,20 @@ impl<'a, A: Allocator + Copy> Call<A, SheetReport<A>> for ReportSheet<'a, A> {
     }
 }
 
-/// [`report_batch`](Book::report_batch) with these arguments.
+/// [`report_all`](Book::report_all) with these arguments.
 #[derive(Drop)]
-pub struct ReportBatch<'a, A: Allocator> {
+pub struct ReportAll<'a, A: Allocator> {
     pub ticket: u64,
-    pub judgements: &'a [Judged<A>],
+    pub judgements: &'a Judgements<A>,
 }
 
-impl<'a, A: Allocator + Copy> Call<A, BatchReport<A>> for ReportBatch<'a, A> {
-    ghost line = { λ c seat b answer n. ReportsBatch b seat c.ticket c.judgements.now (report_of answer) n };
+impl<'a, A: Allocator + Copy> Call<A, BatchReport<A>> for ReportAll<'a, A> {
+    ghost line = { λ c seat b answer n. ReportsBatch b seat c.ticket (judgements_of c.judgements.now) (report_of answer) n };
 
     ghost posts = { false };
 
     fn make(self, book: &mut Book<A>, seat: u32) -> BatchReport<A> {
-        book.report_batch(seat, self.ticket, self.judgements)
+        book.report_all(seat, self.ticket, self.judgements)
     }
 }
 

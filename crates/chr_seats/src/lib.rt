@@ -24,7 +24,7 @@ mod tally;
 
 pub use answers::HoldFault;
 pub use calls::{
-    AskSheet, Call, Claim, ClaimSheet, DropGoal, Fire, PostText, PutDown, ReportBatch, ReportSheet,
+    AskSheet, Call, Claim, ClaimSheet, DropGoal, Fire, PostText, PutDown, ReportAll, ReportSheet,
 };
 pub use counts::Counts;
 pub use kept::Kept;

@@ -1,7 +1,8 @@
 //! The lock.
 ghost use Rattle.std.specs.Prelude.{◌≡◌, ◌+◌, ◌<◌, [], true, false, Option, sum_by, vec_len, OnErr, IfOk, IfErr};
 ghost use Rattle.chr_calls.specs.Books.{BookState};
-ghost use Rattle.chr_calls.specs.Batches.{ClaimsSheet, ReportsBatch, ReportsSheet, Sheets, batch_of, following_of, report_of, sheet_of};
+ghost use Rattle.chr_calls.specs.Batches.{ClaimsSheet, ReportsBatch, ReportsSheet, Sheets, claimed_of, following_of, report_of, sheet_of};
+ghost use Rattle.chr_sheet.specs.Rows.{judgements_of};
 ghost use Rattle.chr_calls.specs.Calls.{Claims, FiresOrMisses, Drops, PutsDown};
 ghost use Rattle.chr_book.specs.Texts.{PostsText};
 ghost use Rattle.chr_seats.specs.Accounts.{AreSeats, IsAudited};
@@ -10,15 +11,16 @@ ghost use Rattle.chr_seats.specs.Holds.{WasHold, MarksIn, TakesStrayIn};
 use crate::sleepers::Sleepers;
 use chr_book::{Book, Posted};
 use chr_calls::{
-    Batch, BatchReport, ClaimFault, DropFault, Dropping, FireFault, Firing, MarkFault,
-    PutDownFault, SheetReport, TurnFault,
+    BatchReport, ClaimFault, DropFault, Dropping, FireFault, Firing, MarkFault, PutDownFault,
+    Sheet, SheetReport, TurnFault,
 };
 use chr_lex::fault::ReadError;
 use chr_search::Judged;
 use chr_seats::{
     AskSheet, Call, Claim, ClaimSheet, DropGoal, Fire, HoldFault, Kept, PostLedger, PostText,
-    PutDown, ReportBatch, ReportSheet, Seat, Seats,
+    PutDown, ReportAll, ReportSheet, Seat, Seats,
 };
+use chr_sheet::Judgements;
 use chr_store::Label;
 use std::alloc::{AllocError, Allocator};
 use std::sync::atomic::{AtomicBool, AtomicU64};
@@ -170,8 +172,8 @@ impl<L1: PostLedger, L2: Ledger, A: Allocator + Copy> Shared<L1, L2, A> {
         seat: &mut Seat<L1, L2>,
         ticket: u64,
         most: usize,
-    ) -> Result<Result<Result<Batch<A>, TurnFault>, ClaimFault>, HoldFault>
-        ensures hold { WasHold (λ b answer n. ClaimsSheet b seat.old.number ticket most (sheet_of answer) n) seat.old result seat.new }
+    ) -> Result<Result<Result<Sheet<A>, TurnFault>, ClaimFault>, HoldFault>
+        ensures hold { WasHold (λ b answer n. ClaimsSheet b seat.old.number ticket most (claimed_of answer) n) seat.old result seat.new }
         ensures number { seat.new.number ≡ seat.old.number }
         ensures posts { seat.new.counts.posts ≡ seat.old.counts.posts }
     {
@@ -185,8 +187,8 @@ impl<L1: PostLedger, L2: Ledger, A: Allocator + Copy> Shared<L1, L2, A> {
         seat: &mut Seat<L1, L2>,
         ticket: u64,
         most: usize,
-    ) -> Result<Result<Batch<A>, TurnFault>, HoldFault>
-        ensures hold { WasHold (λ b answer n. Sheets b seat.old.number ticket most (batch_of answer) n) seat.old result seat.new }
+    ) -> Result<Result<Sheet<A>, TurnFault>, HoldFault>
+        ensures hold { WasHold (λ b answer n. Sheets b seat.old.number ticket most (sheet_of answer) n) seat.old result seat.new }
         ensures number { seat.new.number ≡ seat.old.number }
         ensures posts { seat.new.counts.posts ≡ seat.old.counts.posts }
     {
@@ -201,10 +203,10 @@ impl<L1: PostLedger, L2: Ledger, A: Allocator + Copy> Shared<L1, L2, A> {
         rt: &R,
         seat: &mut Seat<L1, L2>,
         ticket: u64,
-        judgements: &[Judged<A>],
+        judgements: &Judgements<A>,
         most: usize,
     ) -> Result<SheetReport<A>, HoldFault>
-        ensures hold { WasHold (λ b answer n. ReportsSheet b seat.old.number ticket most judgements.now answer.reported (following_of answer.following) n) seat.old result seat.new }
+        ensures hold { WasHold (λ b answer n. ReportsSheet b seat.old.number ticket most (judgements_of judgements.now) answer.reported (following_of answer.following) n) seat.old result seat.new }
         ensures number { seat.new.number ≡ seat.old.number }
         ensures posts { seat.new.counts.posts ≡ seat.old.counts.posts }
     {
@@ -217,18 +219,18 @@ impl<L1: PostLedger, L2: Ledger, A: Allocator + Copy> Shared<L1, L2, A> {
     }
 
     /// Reports judgements of a ticket's trials, and asks for its next trial. E26; E24; then E13 and E01, as what comes next.
-    pub fn report_batch<R: Wait>(
+    pub fn report_all<R: Wait>(
         &self,
         rt: &R,
         seat: &mut Seat<L1, L2>,
         ticket: u64,
-        judgements: &[Judged<A>],
+        judgements: &Judgements<A>,
     ) -> Result<BatchReport<A>, HoldFault>
-        ensures hold { WasHold (λ b answer n. ReportsBatch b seat.old.number ticket judgements.now (report_of answer) n) seat.old result seat.new }
+        ensures hold { WasHold (λ b answer n. ReportsBatch b seat.old.number ticket (judgements_of judgements.now) (report_of answer) n) seat.old result seat.new }
         ensures number { seat.new.number ≡ seat.old.number }
         ensures posts { seat.new.counts.posts ≡ seat.old.counts.posts }
     {
-        self.in_hold(rt, seat, ReportBatch { ticket, judgements }, false)
+        self.in_hold(rt, seat, ReportAll { ticket, judgements }, false)
     }
 
     /// Fires the candidate of a ticket. Who deals with the new tickets announces them then. E26; E24; then E13, E14, E15 and

@@ -1,0 +1,136 @@
+-- Trials of the active label alone.
+use Rattle.std.proofs.Common.{◌≡◌, ℕ, ◌+◌, ◌<◌, ◌≤◌, true, List, [], ◌∷◌, map, take, length, Some, slice_get, refl, sym, ◌∙◌, ap, subst, arith, inl, inr, ⊎_elim}
+use Rattle.std.specs.List.{AllByRecursion}
+use Rattle.std.proofs.lemmas.Bool.Decides.{nat_tests}
+use Rattle.chr_value.specs.Atoms.{Atom}
+use Rattle.chr_value.specs.declared.atom.Pred.{Pred}
+use Rattle.chr_value.proofs.Chosen.{some_is}
+use Rattle.chr_rule.specs.Rules.{Simpagation, rule_at}
+use Rattle.chr_rule.specs.Occurrences.{IsOccurrence, AtOrAfter, NoneFrom, IsNextOccurrence}
+use Rattle.chr_model.specs.Stores.{atom_at}
+use Rattle.chr_plan.specs.Plans.{ArePlans}
+use Rattle.chr_plan.specs.declared.order.Step.{Step}
+use Rattle.chr_search.specs.Positions.{at_or_after, past}
+use Rattle.chr_search.specs.Tree.{Beyond}
+use Rattle.chr_search.specs.Trials.{Space, join_in, Child, IsTrial, IsNext, NoneLeft}
+use Rattle.chr_search.specs.Verdicts.{Placed, Trial, position, IsTrialOf}
+use Rattle.chr_search.specs.Fronts.{trial_alone}
+use Rattle.chr_search.proofs.Positions.{after_first, after_under, after_cases}
+use Rattle.chr_search.proofs.Plans.{heads_in, planned}
+use Rattle.chr_search.proofs.Tree.{least_same}
+use Rattle.chr_search.proofs.Asking.{begins_by}
+use Rattle.chr_search.proofs.Making.{next_trial}
+use Rattle.chr_search.proofs.Shrinking.{trial_of}
+use Rattle.chr_search.proofs.Occurring.{IsActive, trial_occurs, plan_there}
+
+-- the trials past that of the active label alone are those of later heads and rules
+later : (s : Space) (r h x y : ℕ) (ls : List ℕ) → IsTrial s (x ∷ y ∷ ls) → at_or_after (past (r ∷ h ∷ s.active ∷ [])) (x ∷ y ∷ ls) ≡ true → AtOrAfter r (h + 1) x y
+later s r h x y [] i e = absurd (let d : 3 ≤ length (x ∷ y ∷ []) = i.deep in omega arith)
+later s r h x y (l ∷ ls) i e =
+    let first : l ≡ s.active = i.grows.1.1.0.3.turn in
+    ⊎_elim (λ less. inl less)
+    (λ same. inr (
+      same.0,
+      ⊎_elim (λ less. let low : h < y = less in omega arith)
+          (λ twice. absurd (⊎_elim (λ less. let low : s.active + 1 < l = less in omega arith) (λ is. let z : s.active + 1 ≡ l = is.0 in omega arith) (after_cases (s.active + 1) l [] ls twice.1)))
+          (after_cases h y ((s.active + 1) ∷ []) (l ∷ ls) same.1),
+    ))
+    (after_cases r x (h ∷ (s.active + 1) ∷ []) (y ∷ l ∷ ls) e)
+
+-- and the other way round
+past_alone : (r h x y a : ℕ) (ls : List ℕ) → AtOrAfter r (h + 1) x y → at_or_after (past (r ∷ h ∷ a ∷ [])) (x ∷ y ∷ ls) ≡ true
+past_alone r h x y a ls o =
+    ⊎_elim (λ less. after_first r x (h ∷ (a + 1) ∷ []) (y ∷ ls) less)
+    (λ same. subst (λ z. at_or_after (r ∷ h ∷ (a + 1) ∷ []) (z ∷ y ∷ ls) ≡ true) same.0 (after_under r (h ∷ (a + 1) ∷ []) (y ∷ ls) (after_first h y ((a + 1) ∷ []) ls (let low : h + 1 ≤ y = same.1 in omega arith)))) o
+
+-- the trial of the active label alone is the first one of its head
+first_at : (s : Space) (x y b c : ℕ) (ls : List ℕ) → IsTrial s (b ∷ c ∷ ls) → AtOrAfter x y b c → at_or_after (x ∷ y ∷ s.active ∷ []) (b ∷ c ∷ ls) ≡ true
+first_at s x y b c [] i o = absurd (let d : 3 ≤ length (b ∷ c ∷ []) = i.deep in omega arith)
+first_at s x y b c (l ∷ ls) i o =
+    let first : l ≡ s.active = i.grows.1.1.0.3.turn in
+    ⊎_elim (λ less. after_first x b (y ∷ s.active ∷ []) (c ∷ l ∷ ls) less)
+    (λ same. subst (λ z. at_or_after (x ∷ y ∷ s.active ∷ []) (z ∷ c ∷ l ∷ ls) ≡ true) same.0 (after_under x (y ∷ s.active ∷ []) (c ∷ l ∷ ls) (from first same.1))) o
+  where
+    from : l ≡ s.active → y ≤ c → at_or_after (y ∷ s.active ∷ []) (c ∷ l ∷ ls) ≡ true
+    from e low = grind (arith, nat_tests)
+
+-- the active label alone is a trial at each head with its atom's predicate
+alone_there : (s : Space) (p : Pred) → IsActive s p → ArePlans s.rules s.plans → (r h : ℕ) → IsOccurrence s.rules p r h → IsTrial s (r ∷ h ∷ s.active ∷ [])
+alone_there s p a ps r h o =
+    let there = plan_there s p ps r h o in
+    let q = planned s.rules s.plans ps r h o.rule there.0 o.rule_is there.1 in
+    trial_of s r h (s.active ∷ []) o.rule there.0 (record { rule_is = o.rule_is; order_is = there.1 }) (omega arith)
+    (begins_by (join_in s o.rule there.0) h o.at.head a.atom (ap (λ (z : List Step). slice_get z 0) q.plan.first) o.at.head_is a.live (sym a.name ∙ sym o.at.pred.name, sym a.arity ∙ sym o.at.pred.arity), tt)
+
+-- past it comes that at the next head with the predicate, or none is left
+pub alone_next : (s : Space) (atom : Atom ℕ) (pred : Pred) (r h x y : ℕ) → ArePlans s.rules s.plans → atom_at s.store s.active ≡ Some atom → pred.name.number ≡ atom.name → pred.arity ≡ length atom.args → IsNextOccurrence s.rules pred r (h + 1) (x, y) → IsNext s (past (r ∷ h ∷ s.active ∷ [])) (x ∷ y ∷ s.active ∷ [])
+alone_next s atom pred r h x y ps live name arity o =
+    let active : IsActive s pred = record { atom = atom; live = live; name = name; arity = arity } in
+    let i = alone_there s pred active ps x y o.occurs in
+    record {
+      more = x ∷ y ∷ s.active ∷ [];
+      is = refl;
+      beyond = record { grows = i.grows; deep = i.deep; there = past_alone r h x y s.active (s.active ∷ []) o.after };
+      least = least active;
+    }
+  where
+    least : IsActive s pred → (other : List ℕ) → Beyond (Child s) 3 [] (past (r ∷ h ∷ s.active ∷ [])) other → at_or_after (x ∷ y ∷ s.active ∷ []) other ≡ true
+    least active [] b = absurd (let d : 3 ≤ length {A = ℕ} [] = b.deep in omega arith)
+    least active (c ∷ []) b = absurd (let d : 3 ≤ length (c ∷ []) = b.deep in omega arith)
+    least active (c ∷ d ∷ ls) b =
+        let i : IsTrial s (c ∷ d ∷ ls) = record { grows = b.grows; deep = b.deep } in
+        first_at s x y c d ls i (o.least c d (later s r h c d ls i b.there) (trial_occurs s pred active ps c d ls i))
+
+pub alone_none : (s : Space) (atom : Atom ℕ) (pred : Pred) (r h : ℕ) → ArePlans s.rules s.plans → atom_at s.store s.active ≡ Some atom → pred.name.number ≡ atom.name → pred.arity ≡ length atom.args → NoneFrom s.rules pred r (h + 1) → NoneLeft s (past (r ∷ h ∷ s.active ∷ []))
+alone_none s atom pred r h ps live name arity n [] b = let d : 3 ≤ length {A = ℕ} [] = b.deep in absurd (omega arith)
+alone_none s atom pred r h ps live name arity n (x ∷ []) b = let d : 3 ≤ length (x ∷ []) = b.deep in absurd (omega arith)
+alone_none s atom pred r h ps live name arity n (x ∷ y ∷ ls) b =
+    let i : IsTrial s (x ∷ y ∷ ls) = record { grows = b.grows; deep = b.deep } in
+    n x y (later s r h x y ls i b.there) (trial_occurs s pred (record { atom = atom; live = live; name = name; arity = arity }) ps x y ls i)
+
+-- the trial of a position of the active label alone
+pub alone_trial : (s : Space) (rule : Simpagation ℕ) (r h : ℕ) (atom : Atom ℕ) → ArePlans s.rules s.plans → IsTrial s (r ∷ h ∷ s.active ∷ []) → rule_at s.rules r ≡ Some rule → atom_at s.store s.active ≡ Some atom → IsTrialOf s.rules s.plans s.store (trial_alone rule r (record { head = h; label = s.active; atom = atom }))
+alone_trial s rule r h atom ps i is live =
+    let c = i.grows.1.1.0 in
+    let q = planned s.rules s.plans ps r h c.0 c.1 c.2.rule_is c.2.order_is in
+    record { rule_is = is; order = c.1; order_is = c.2.order_is; heads_are = ap (λ (z : List Step). take 1 (heads_in z)) (sym q.plan.first); live = (live, tt) }
+
+-- there is no other
+one_placed : (ps : List Placed) (l : ℕ) → map (λ (p : Placed). p.label) ps ≡ l ∷ [] → (p : Placed) × (ps ≡ p ∷ []) × (p.label ≡ l)
+one_placed [] l e = absurd (cc)
+one_placed (p ∷ []) l e = (p, refl, cc)
+one_placed (p ∷ q ∷ ps) l e = absurd (cc)
+
+pub alone_is : (s : Space) (t : Trial) (r h : ℕ) (atom : Atom ℕ) → ArePlans s.rules s.plans → IsTrialOf s.rules s.plans s.store t → position t ≡ r ∷ h ∷ s.active ∷ [] → atom_at s.store s.active ≡ Some atom → t ≡ trial_alone t.rule r (record { head = h; label = s.active; atom = atom })
+alone_is s t r h atom ps i is live =
+    let number : t.number ≡ r = cc in
+    let head : t.head ≡ h = cc in
+    let one = one_placed t.placed s.active (cc) in
+    let p = one.0 in
+    let q = planned s.rules s.plans ps t.number t.head t.rule i.order i.rule_is i.order_is in
+    let heads : p.head ∷ [] ≡ t.head ∷ [] = subst (λ (xs : List Placed). map (λ (x : Placed). x.head) xs ≡ take (length xs) (heads_in i.order)) one.1 i.heads_are ∙ ap (λ (z : List Step). take 1 (heads_in z)) q.plan.first in
+    let stands : p.head ≡ h = cc in
+    let there : atom_at s.store p.label ≡ Some p.atom = (subst (AllByRecursion (λ (x : Placed). atom_at s.store x.label ≡ Some x.atom)) one.1 i.live).0 in
+    let same : p.atom ≡ atom = some_is p.atom atom (sym there ∙ ap (atom_at s.store) one.2 ∙ live) in
+    let placed : p ≡ record { head = h; label = s.active; atom = atom } = placed_is p h s.active atom stands one.2 same in
+    ap (λ n. record t { number = n }) number
+    ∙ ap (λ k. record t { number = r; head = k }) head
+    ∙ ap (λ (xs : List Placed). record { rule = t.rule; number = r; head = h; placed = xs }) (one.1 ∙ ap (λ x. x ∷ []) placed)
+  where
+    placed_is : (p : Placed) (h l : ℕ) (a : Atom ℕ) → p.head ≡ h → p.label ≡ l → p.atom ≡ a → p ≡ record { head = h; label = l; atom = a }
+    placed_is p h l a e f g = ap (λ k. record p { head = k }) e ∙ ap (λ k. record p { head = h; label = k }) f ∙ ap (λ b. record { head = h; label = l; atom = b }) g
+
+-- where the next trial has one label, that is the active one
+pub alone_found : (s : Space) (place p : List ℕ) (r h : ℕ) (ls : List ℕ) → r ∷ h ∷ ls ≡ p → IsNext s place p → length ls ≡ 1 → IsNext s place (r ∷ h ∷ s.active ∷ [])
+alone_found s place p r h [] e n one = absurd (omega arith)
+alone_found s place p r h (l ∷ []) e n one =
+    let i = next_trial s place (r ∷ h ∷ l ∷ []) (subst (IsNext s place) (sym e) n) in
+    let first : l ≡ s.active = i.grows.1.1.0.3.turn in
+    subst (λ x. IsNext s place (r ∷ h ∷ x ∷ [])) first (subst (IsNext s place) (sym e) n)
+alone_found s place p r h (l ∷ k ∷ ls) e n one = absurd (omega arith)
+
+pub not_alone : (s : Space) (place p : List ℕ) (r h : ℕ) (ls : List ℕ) → r ∷ h ∷ ls ≡ p → IsNext s place p → (length ls ≡ 1 → ⊥) → (x y : ℕ) → IsNext s place (x ∷ y ∷ s.active ∷ []) → ⊥
+not_alone s place p r h ls e n more x y m =
+    let z : r ∷ h ∷ ls ≡ x ∷ y ∷ s.active ∷ [] = e ∙ least_same (Child s) 3 [] place p (x ∷ y ∷ s.active ∷ []) n m in
+    let same : ls ≡ s.active ∷ [] = cc in
+    more (ap length same)

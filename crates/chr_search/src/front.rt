@@ -1,0 +1,129 @@
+//! Trials that differ in their last label.
+ghost use Rattle.std.specs.Prelude.{◌≡◌, ◌↔◌, ◌∷◌, ◌++◌, ◌≤◌, [], ℕ, List, length, map, take, IfOk, MatchOption, IsTrue};
+ghost use Rattle.chr_plan.specs.Plans.{ArePlans};
+ghost use Rattle.chr_search.specs.Fronts.{MayEnd, IsEndFrom, IsFront, IsPlacedAfter};
+ghost use Rattle.chr_search.specs.Joined.{join_of};
+ghost use Rattle.chr_search.specs.Partners.{HasPlan, IsReady};
+ghost use Rattle.chr_search.specs.Placed.{placed_as};
+ghost use Rattle.chr_search.specs.Tree.{Grows};
+ghost use Rattle.chr_search.specs.Trials.{Space, older, MayFollow};
+
+use crate::join::Join;
+use crate::passing::Level;
+use crate::search::Search;
+use crate::trial::Placed;
+use chr_guard::Binding;
+use chr_log::Labels;
+use chr_plan::Plans;
+use chr_rule::Program;
+use chr_store::{Label, Store, View};
+use std::alloc::{AllocError, Allocator};
+
+/// A rule, a head of it, and labels, with which admissible trials begin that have one label more.
+#[derive(Drop)]
+pub struct Front<'s, A: Allocator> {
+    pub(crate) join: Join<'s, A>,
+    pub(crate) labels: Labels,
+    pub(crate) binding: Binding<'s, A>,
+    pub(crate) level: Level<'s, A>,
+    /// The head at which the last label stands.
+    pub(crate) head: u8,
+}
+
+impl<'s, A: Allocator + Copy> Join<'s, A> {
+    /// Extends the binding of no labels by these in turn. False where no trial begins with them and goes on.
+    fn narrow_by_all(&self, binding: &mut Binding<'s, A>, placed: &[Placed<A>]) -> bool
+        requires plan { HasPlan (join_of self.now) }
+        requires ready { IsReady (join_of self.now) [] binding.old }
+        ensures yes { IsTrue result → Grows (MayFollow (join_of self.now)) [] (map (λ p. p.label) placed.now) × IsReady (join_of self.now) (map (λ p. p.label) placed.now) binding.new }
+        ensures no { (x : ℕ) → Grows (MayFollow (join_of self.now)) [] (map (λ p. p.label) placed.now ++ x ∷ []) → IsTrue result }
+    {
+        let mut labels = Labels::new();
+        for one in placed {
+            if !self.narrow_by(labels.as_slice(), binding, one.label) {
+                return false;
+            }
+            labels.push(one.label);
+        }
+        true
+    }
+}
+
+impl<'s, A: Allocator + Copy> Front<'s, A> {
+    /// What the admissible trials of an active label have in common that begin with a rule, a head and these labels, one at
+    /// least, and have one label more. None where there is no such trial. It takes no memory.
+    pub fn of(
+        program: &'s Program<A>,
+        plans: &'s Plans<A>,
+        store: &'s Store<A>,
+        active: Label,
+        number: u16,
+        head: u8,
+        placed: &[Placed<A>],
+    ) -> Option<Front<'s, A>>
+        requires plans { ArePlans program.now plans.now }
+        requires some { 1 ≤ length placed.now }
+        requires few { length placed.now ≤ 5 }
+        ensures { let s = older program.now plans.now store.now.entries active in let ls = map (λ p. p.label) placed.now in MatchOption result ((x : ℕ) → MayEnd s (number ∷ head ∷ ls) x → ⊥) (IsFront s number head ls) }
+    {
+        let view = View::of(store, active);
+        let join = Search::join_at(program, plans, &view, number, head)?;
+        if !join.begins() {
+            return None;
+        }
+        let mut binding = Binding::free(join.rule.variables());
+        if !join.narrow_by_all(&mut binding, placed) {
+            return None;
+        }
+        let mut labels = Labels::new();
+        for one in placed {
+            labels.push(one.label);
+        }
+        let step = join.order.get(labels.len())?;
+        let level = join.level(labels.as_slice(), &binding)?;
+        Some(Front {
+            join,
+            labels,
+            binding,
+            level,
+            head: step.head,
+        })
+    }
+
+    /// The least label from one on with which an admissible trial ends. None where there is none.
+    #[inline(always)]
+    pub fn next(&mut self, from: Label) -> Option<Label>
+        requires { (s : Space) × (r : ℕ) × (h : ℕ) × (ls : List ℕ) × IsFront s r h ls self.old }
+        ensures { (s : Space) (r h : ℕ) (ls : List ℕ) → IsFront s r h ls self.old → IsEndFrom s (r ∷ h ∷ ls) from result × IsFront s r h ls self.new }
+    {
+        let labels = self.labels.as_slice();
+        self.join
+            .next_at(&mut self.level, labels, &self.binding, from)
+    }
+
+    /// A label with which an admissible trial ends, with a copy of its atom. An `Err` is E01.
+    pub fn place(&self, alloc: A, label: Label) -> Result<Placed<A>, AllocError>
+        requires { (s : Space) × (r : ℕ) × (h : ℕ) × (ls : List ℕ) × IsFront s r h ls self.now × MayEnd s (r ∷ h ∷ ls) label }
+        ensures { IfOk result (λ made. (made.label ≡ label) × ((s : Space) (r h : ℕ) (ls : List ℕ) → IsFront s r h ls self.now → IsPlacedAfter s r h (length ls) (placed_as made))) }
+    {
+        let Some(atom) = self.join.view.get(label) else {
+            unreachable!();
+        };
+        Ok(Placed {
+            head: self.head,
+            label,
+            atom: atom.copy(alloc)?,
+        })
+    }
+
+    /// Whether a label has this atom in the store, and stands at the head at which trials end.
+    pub fn has(&self, placed: &Placed<A>) -> bool
+        requires { (s : Space) × (r : ℕ) × (h : ℕ) × (ls : List ℕ) × IsFront s r h ls self.now }
+        ensures { (s : Space) (r h : ℕ) (ls : List ℕ) → IsFront s r h ls self.now → IsTrue result ↔ IsPlacedAfter s r h (length ls) (placed_as placed.now) }
+    {
+        let Some(atom) = self.join.view.get(placed.label) else {
+            return false;
+        };
+        placed.head == self.head && placed.atom.same(atom)
+    }
+}

@@ -1,0 +1,65 @@
+-- Rows, and what they are up to a place.
+use Rattle.std.proofs.Common.{◌≡◌, ℕ, ◌+◌, ◌-◌, ◌<◌, ◌≤◌, List, [], ◌∷◌, ◌++◌, map, take, length, Some, get_or, slice_get, refl, sym, ◌∙◌, ap, subst, arith}
+use Rattle.std.specs.List.{AllByRecursion}
+use Rattle.std.proofs.lemmas.List.{take_more, take-map, length-map, length-take-le, same_from_push, get_or-map}
+use Rattle.std.proofs.lemmas.Option.{slice_get_read}
+use Rattle.chr_guard.proofs.Steps.{all_at}
+use Rattle.chr_search.specs.Verdicts.{Placed, Trial, IsFormed}
+use Rattle.chr_search.specs.Fronts.{lengthened}
+use Rattle.chr_sheet.specs.Rows.{Row, IsRow, trials_of}
+
+abbrev pub row_of : Trial → List Placed → Row
+row_of part lasts = record { part = part; lasts = lasts }
+
+-- the labels before a place, and the one there
+pub record IsCut (part : Trial) (r : Row) (n : ℕ) (before : List Placed) (last : Placed) : Type 0 where
+  pub trials : trials_of (row_of part before) ≡ take n (trials_of r)
+  pub trial : slice_get (trials_of r) n ≡ Some (lengthened part last)
+  pub formed : IsFormed (lengthened part last)
+  pub row : 1 ≤ n → IsRow (row_of part before)
+
+-- a trial of a row, read at its label's place
+trial_read : {X : Type 0} (f : X → Placed) (part : Trial) (xs : List X) (n : ℕ) (x : X) → n < length xs → x ≡ get_or xs n x → lengthened part (f x) ≡ get_or (trials_of (row_of part (map f xs))) n (lengthened part (f x))
+trial_read f part xs n x h e =
+    ap (lengthened part) (ap f e ∙ sym (get_or-map f xs n x (f x) h)) ∙ sym (get_or-map (lengthened part) (map f xs) n (f x) (lengthened part (f x)) (omega (arith, length-map xs f)))
+
+pub trials_count : {X : Type 0} (f : X → Placed) (part : Trial) (xs : List X) → length (trials_of (row_of part (map f xs))) ≡ length xs
+trials_count f part xs = length-map (map f xs) (lengthened part) ∙ length-map xs f
+
+cut_whole : {X : Type 0} (f : X → Placed) (part : Trial) (xs ys : List X) (n : ℕ) (x : X) → IsRow (row_of part (map f xs)) → n < length (map f xs) → take (n + 1) xs ≡ ys ++ x ∷ [] → IsCut part (row_of part (map f xs)) n (map f ys) (f x)
+cut_whole f part xs ys n x r h e =
+    let all : List Trial = trials_of (row_of part (map f xs)) in
+    let t : Trial = lengthened part (f x) in
+    let within : n < length xs = omega (arith, length-map xs f) in
+    let here : n < length all = omega (arith, trials_count f part xs) in
+    let parts = same_from_push ys (take n xs) x (get_or xs n x) (sym e ∙ take_more xs n x within) in
+    let at : t ≡ get_or all n t = trial_read f part xs n x within parts.1 in
+    let of = all_at IsFormed all n t here at r.formed in
+    let before : map f ys ≡ take n (map f xs) = ap (map f) parts.0 ∙ sym (take-map f n xs) in
+    let trials : trials_of (row_of part (map f ys)) ≡ take n all = ap (map (lengthened part)) before ∙ sym (take-map (lengthened part) n (map f xs)) in
+    record {
+      trials = trials;
+      trial = slice_get_read all (length all) n t refl here at;
+      formed = of.1;
+      row = λ some. record {
+        some = (let count : length (map f ys) ≡ n = ap length before ∙ length-take-le n (map f xs) (omega arith) in omega arith);
+        full = r.full;
+        formed = subst (AllByRecursion IsFormed) (sym trials) of.0;
+      };
+    }
+
+pub cut : {X : Type 0} (f : X → Placed) (part : Trial) (xs ys : List X) (n : ℕ) (x : X) (r : Row) → row_of part (map f xs) ≡ r → IsRow (row_of part (map f xs)) → n < length r.lasts → take (n + 1) xs ≡ ys ++ x ∷ [] → IsCut part r n (map f ys) (f x)
+cut f part xs ys n x r is w h e = subst (λ r. n < length r.lasts → IsCut part r n (map f ys) (f x)) is (λ k. cut_whole f part xs ys n x w k e) h
+
+-- the first trial
+pub first_of : {X : Type 0} (f : X → Placed) (r : Row) (xs : List X) (x : X) → map f xs ≡ r.lasts → 1 ≤ length r.lasts → x ≡ get_or xs 0 x → slice_get (trials_of r) 0 ≡ Some (lengthened r.part (f x))
+first_of f r [] x is some e = absurd (let none : length r.lasts ≡ 0 = ap length (sym is) in omega arith)
+first_of f r (y ∷ ys) x is some e = subst (λ ls. slice_get (map (lengthened r.part) ls) 0 ≡ Some (lengthened r.part (f x))) is (ap (λ z. Some (lengthened r.part (f z))) (sym e))
+
+-- the last one is formed
+pub last_formed : {X : Type 0} (f : X → Placed) (r : Row) (xs : List X) (x : X) → map f xs ≡ r.lasts → IsRow r → x ≡ get_or xs (length xs - 1) x → IsFormed (lengthened r.part (f x))
+last_formed f r xs x is w e =
+    let row : row_of r.part (map f xs) ≡ r = ap (row_of r.part) is in
+    let some : 1 ≤ length r.lasts = w.some in
+    let last : length xs - 1 < length xs = omega (arith, ap length is, length-map xs f) in
+    (all_at IsFormed (trials_of (row_of r.part (map f xs))) (length xs - 1) (lengthened r.part (f x)) (omega (arith, trials_count f r.part xs)) (trial_read f r.part xs (length xs - 1) x last e) (subst (λ (q : Row). AllByRecursion IsFormed (trials_of q)) (sym row) w.formed)).1

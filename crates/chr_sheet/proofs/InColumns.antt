@@ -1,0 +1,72 @@
+-- Columns, trial by trial.
+use Rattle.std.proofs.Common.{◌≡◌, ℕ, zero, suc, ◌+◌, ◌<◌, List, [], ◌∷◌, ◌++◌, map, take, length, get_or, Some, slice_get, sym, ◌∙◌, ap, subst, arith}
+use Rattle.std.specs.List.{AllByRecursion}
+use Rattle.std.proofs.lemmas.List.{take_more, length-map, get_or-map}
+use Rattle.chr_guard.proofs.Steps.{all_at}
+use Rattle.chr_plan.specs.Orders.{heads_of}
+use Rattle.chr_search.specs.Verdicts.{Placed, Trial, IsFormed, at_heads}
+use Rattle.chr_sheet.specs.Columns.{Head, Column, IsColumn, at_head, column_trials}
+
+pub trials_count : {X : Type 0} (f : X → Head) (c : Column) (xs : List X) → map f xs ≡ c.more → length (column_trials c) ≡ length xs + 1
+trials_count f c xs e = let count : length (map (at_head c.first) c.more) ≡ length xs = length-map c.more (at_head c.first) ∙ ap length (sym e) ∙ length-map xs f in omega arith
+
+-- a trial at its place
+pub trial_there : {X : Type 0} (f : X → Head) (c : Column) (xs : List X) (i : ℕ) (x : X) → map f xs ≡ c.more → i < length xs → x ≡ get_or xs i x → at_head c.first (f x) ≡ get_or (column_trials c) (i + 1) (at_head c.first (f x))
+trial_there f c xs i x more h e =
+    let within : i < length (map f xs) = omega (arith, length-map xs f) in
+    let t : Trial = at_head c.first (f x) in
+    let there : t ≡ get_or (map (at_head c.first) c.more) i t =
+    subst (λ hs. t ≡ get_or (map (at_head c.first) hs) i t) more
+    (ap (at_head c.first) (ap f e ∙ sym (get_or-map f xs i x (f x) h)) ∙ sym (get_or-map (at_head c.first) (map f xs) i (f x) t within)) in
+    subst (λ n. t ≡ get_or (column_trials c) n t) (let z : suc i ≡ i + 1 = omega arith in z) there
+
+-- what holds of the trial of a head
+pub record IsColumnTrial (t : Trial) : Type 0 where
+  pub formed : IsFormed t
+  pub full : length (heads_of t.rule) ≡ 1
+
+pub first_trial : (c : Column) → IsColumn c → IsColumnTrial c.first
+first_trial c w = record { formed = w.formed.0; full = w.full.0 }
+
+pub other_trial : {X : Type 0} (f : X → Head) (c : Column) (xs : List X) (i : ℕ) (x : X) → IsColumn c → map f xs ≡ c.more → i < length xs → x ≡ get_or xs i x → IsColumnTrial (at_head c.first (f x))
+other_trial f c xs i x w more h e =
+    let t : Trial = at_head c.first (f x) in
+    let count : length (column_trials c) ≡ length xs + 1 = trials_count f c xs more in
+    let there = trial_there f c xs i x more h e in
+    record {
+      formed = (all_at IsFormed (column_trials c) (i + 1) t (omega arith) there w.formed).1;
+      full = (all_at (λ (t : Trial). length (heads_of t.rule) ≡ 1) (column_trials c) (i + 1) t (omega arith) there w.full).1;
+    }
+
+pub first_heads : (t : Trial) (p : Placed) → t.placed ≡ p ∷ [] → at_heads t ≡ (p.head, p.atom) ∷ []
+first_heads t p e = ap (map (λ (q : Placed). (q.head, q.atom))) e
+
+pub other_heads : (t : Trial) (p : Placed) (h : Head) → t.placed ≡ p ∷ [] → at_heads (at_head t h) ≡ (h.head, p.atom) ∷ []
+other_heads t p h e = ap (λ ps. map (λ (q : Placed). (q.head, q.atom)) (map (λ (q : Placed). record q { head = h.head }) ps)) e
+
+-- the trials up to a head, and the one there
+pub column_step : {X : Type 0} (f : X → Head) (c : Column) (xs : List X) (i : ℕ) (x : X) → map f xs ≡ c.more → i < length xs → x ≡ get_or xs i x → take (i + 1 + 1) (column_trials c) ≡ take (i + 1) (column_trials c) ++ at_head c.first (f x) ∷ []
+column_step f c xs i x more h e =
+    let t : Trial = at_head c.first (f x) in
+    let count : length (column_trials c) ≡ length xs + 1 = trials_count f c xs more in
+    take_more (column_trials c) (i + 1) t (omega arith) ∙ ap (λ y. take (i + 1) (column_trials c) ++ y ∷ []) (sym (trial_there f c xs i x more h e))
+
+-- what holds of each trial holds of the one at a place
+pub told_at : (P : Trial → Type 0) (ts : List Trial) (n : ℕ) (t : Trial) → AllByRecursion P ts → slice_get ts n ≡ Some t → P t
+told_at P [] n t a e = absurd (cc)
+told_at P (u ∷ ts) zero t a e = subst P (let same : u ≡ t = cc in same) a.0
+told_at P (u ∷ ts) (suc n) t a e = told_at P ts n t a.1 e
+
+-- each trial has all heads
+abbrev HasAll : Trial → Type 0
+HasAll t = length t.placed ≡ length (heads_of t.rule)
+
+others_all : (t : Trial) (hs : List Head) → length t.placed ≡ 1 → AllByRecursion (λ (u : Trial). length (heads_of u.rule) ≡ 1) (map (at_head t) hs) → AllByRecursion HasAll (map (at_head t) hs)
+others_all t [] one a = tt
+others_all t (h ∷ hs) one a = (length-map t.placed (λ (p : Placed). record p { head = h.head }) ∙ one ∙ sym a.0, others_all t hs one a.1)
+
+pub column_full : (c : Column) (n : ℕ) (t : Trial) → IsColumn c → slice_get (column_trials c) n ≡ Some t → length t.placed ≡ length (heads_of t.rule)
+column_full c n t w e = told_at HasAll (column_trials c) n t (w.alone ∙ sym w.full.0, others_all c.first c.more w.alone w.full.1) e
+
+pub other_placed : (t : Trial) (p : Placed) (h : Head) → t.placed ≡ p ∷ [] → (at_head t h).placed ≡ record p { head = h.head } ∷ []
+other_placed t p h e = ap (map (λ (q : Placed). record q { head = h.head })) e

@@ -1,0 +1,103 @@
+-- Trials that are judged in order.
+use Rattle.std.proofs.Common.{◌≡◌, ◌≢◌, ℕ, zero, suc, ◌+◌, ◌<◌, ◌≤◌, List, [], ◌∷◌, ◌++◌, map, take, length, length-append, append_assoc, Option, Some, None, slice_get, refl, sym, ◌∙◌, ap, subst, arith, inl, inr, ⊎_elim}
+use Rattle.std.specs.List.{AllByRecursion}
+use Rattle.std.proofs.lemmas.List.{append-nil}
+use Rattle.chr_plan.specs.Orders.{heads_of}
+use Rattle.chr_search.specs.declared.judged.Verdict.{Verdict}
+use Rattle.chr_search.specs.declared.judged.Verdict.TheVariants.{Whole, Part, Misfit}
+use Rattle.chr_search.specs.Verdicts.{Placed, Trial}
+use Rattle.chr_search.specs.Judged.{Judgement, IsVerdict}
+use Rattle.chr_search.specs.Fronts.{lengthened}
+use Rattle.chr_sheet.specs.Rows.{misfit, listed}
+use Rattle.chr_sheet.specs.Sheets.{AreJudgedInOrder, AreJudgedUpTo}
+
+-- ---- some and then others
+
+pub all_both : {X : Type 0} (P : X → Type 0) (xs ys : List X) → AllByRecursion P xs → AllByRecursion P ys → AllByRecursion P (xs ++ ys)
+all_both P [] ys a b = b
+all_both P (x ∷ xs) ys a b = (a.0, all_both P xs ys a.1 b)
+
+both_in_order : (ts us : List Trial) (js ks : List Judgement) → AreJudgedInOrder ts js → AllByRecursion (λ j. j.verdict ≢ Whole) js → AreJudgedInOrder us ks → AreJudgedInOrder (ts ++ us) (js ++ ks)
+both_in_order ts us [] ks a n b = subst (λ (z : List Trial). AreJudgedInOrder (z ++ us) ks) (sym a) b
+both_in_order [] us (j ∷ js) ks a n b = absurd a
+both_in_order (t ∷ ts) us (j ∷ js) ks a n b = (a.0, ⊎_elim (λ w. absurd (n.0 w.0)) (λ m. inr (m.0, both_in_order ts us js ks m.1 n.1 b)) a.1)
+
+-- a whole one is the last, whatever trials come after it
+whole_in_order : (ts us : List Trial) (js : List Judgement) (w : Judgement) → AreJudgedInOrder ts (js ++ w ∷ []) → w.verdict ≡ Whole → AreJudgedInOrder (ts ++ us) (js ++ w ∷ [])
+whole_in_order [] us [] w a h = absurd a
+whole_in_order (t ∷ ts) us [] w a h = (a.0, ⊎_elim (λ m. inl m) (λ m. absurd (m.0 h)) a.1)
+whole_in_order [] us (j ∷ js) w a h = absurd a
+whole_in_order (t ∷ ts) us (j ∷ js) w a h = (a.0, ⊎_elim (λ m. inl m) (λ m. inr (m.0, whole_in_order ts us js w m.1 h)) a.1)
+
+pub both_up_to : (ts us : List Trial) (a b c : List Judgement) (w : Option Judgement) → AreJudgedUpTo ts a b None → AreJudgedUpTo us b c w → AreJudgedUpTo (ts ++ us) a c w
+both_up_to ts us a b c w x y = (
+  x.0 ++ y.0,
+  y.1 ∙ ap (λ z. z ++ y.0) x.1 ∙ append_assoc a x.0 y.0,
+  subst (AreJudgedInOrder (ts ++ us)) (sym (append_assoc x.0 y.0 (listed w))) (both_in_order ts us x.0 (y.0 ++ listed w) (subst (AreJudgedInOrder ts) (append-nil x.0) x.2) x.3 y.2),
+  all_both (λ (j : Judgement). j.verdict ≢ Whole) x.0 y.0 x.3 y.3,
+  y.4,
+)
+
+pub whole_up_to : (ts us : List Trial) (a b : List Judgement) (w : Judgement) → AreJudgedUpTo ts a b (Some w) → AreJudgedUpTo (ts ++ us) a b (Some w)
+whole_up_to ts us a b w x = (x.0, x.1, whole_in_order ts us x.0 w x.2 x.4, x.3, x.4)
+
+-- ---- one trial
+
+pub one_whole : (t : Trial) (a : List Judgement) (w : Judgement) → w.trial ≡ t → w.verdict ≡ Whole → AreJudgedUpTo (t ∷ []) a a (Some w)
+one_whole t a w e h = ([], sym (append-nil a), (e, inl (h, refl)), tt, h)
+
+pub one_other : (t : Trial) (a : List Judgement) (j : Judgement) → j.trial ≡ t → j.verdict ≢ Whole → AreJudgedUpTo (t ∷ []) a (a ++ j ∷ []) None
+one_other t a j e n = (j ∷ [], refl, (e, inr (n, refl)), (n, tt), tt)
+
+-- ---- misfits, and one that is whole after them
+
+misfits_in_order : (ts : List Trial) → AreJudgedInOrder ts (map misfit ts)
+misfits_in_order [] = refl
+misfits_in_order (t ∷ ts) = (refl, inr (λ e. absurd (cc), misfits_in_order ts))
+
+none_whole : (ts : List Trial) → AllByRecursion (λ j. j.verdict ≢ Whole) (map misfit ts)
+none_whole [] = tt
+none_whole (t ∷ ts) = (λ e. absurd (cc), none_whole ts)
+
+pub misfits_up_to : (ts : List Trial) (a b : List Judgement) → b ≡ a ++ map misfit ts → AreJudgedUpTo ts a b None
+misfits_up_to ts a b e = (map misfit ts, e, subst (AreJudgedInOrder ts) (sym (append-nil (map misfit ts))) (misfits_in_order ts), none_whole ts, tt)
+
+cut_in_order : (ts : List Trial) (n : ℕ) (w : Judgement) → slice_get ts n ≡ Some w.trial → w.verdict ≡ Whole → AreJudgedInOrder ts (map misfit (take n ts) ++ w ∷ [])
+cut_in_order [] n w e h = absurd (cc)
+cut_in_order (t ∷ ts) zero w e h = (cc, inl (h, refl))
+cut_in_order (t ∷ ts) (suc n) w e h = (refl, inr (λ z. absurd (cc), cut_in_order ts n w e h))
+
+pub cut_up_to : (ts before : List Trial) (n : ℕ) (w : Judgement) (a b : List Judgement) → before ≡ take n ts → b ≡ a ++ map misfit before → slice_get ts n ≡ Some w.trial → w.verdict ≡ Whole → AreJudgedUpTo ts a b (Some w)
+cut_up_to ts before n w a b cut e at h = (map misfit before, e, subst (λ (z : List Trial). AreJudgedInOrder ts (map misfit z ++ w ∷ [])) (sym cut) (cut_in_order ts n w at h), none_whole before, h)
+
+pub misfits_right : (ts : List Trial) → AllByRecursion (λ t. IsVerdict t Misfit) ts → AllByRecursion (λ j. IsVerdict j.trial j.verdict) (map misfit ts)
+misfits_right [] h = tt
+misfits_right (t ∷ ts) h = (h.0, misfits_right ts h.1)
+
+-- with all heads, what isn't a misfit is whole
+pub is_whole : (t : Trial) (v : Verdict) → length t.placed ≡ length (heads_of t.rule) → (IsVerdict t Misfit → ⊥) → IsVerdict t v → v ≡ Whole
+is_whole t Whole full not is = refl
+is_whole t Part full not is = absurd (let left : length t.placed < length (heads_of t.rule) = is.left in omega arith)
+is_whole t Misfit full not is = absurd (not is)
+
+row_full : (part : Trial) (lasts : List Placed) (n : ℕ) (t : Trial) → length part.placed + 1 ≡ length (heads_of part.rule) → slice_get (map (lengthened part) lasts) n ≡ Some t → length t.placed ≡ length (heads_of t.rule)
+row_full part [] n t full e = absurd (cc)
+row_full part (p ∷ ps) zero t full e =
+    let same : lengthened part p ≡ t = cc in
+    subst (λ (t : Trial). length t.placed ≡ length (heads_of t.rule)) same (length-append part.placed (p ∷ []) ∙ full)
+row_full part (p ∷ ps) (suc n) t full e = row_full part ps n t full e
+
+pub whole_in_row : (part : Trial) (lasts : List Placed) (n : ℕ) (t : Trial) (v : Verdict) → length part.placed + 1 ≡ length (heads_of part.rule) → slice_get (map (lengthened part) lasts) n ≡ Some t → (IsVerdict t Misfit → ⊥) → IsVerdict t v → v ≡ Whole
+whole_in_row part lasts n t v full e = is_whole t v (row_full part lasts n t full e)
+
+-- ---- no more judgements than trials
+
+pub few_in_order : (ts : List Trial) (js : List Judgement) → AreJudgedInOrder ts js → length js ≤ length ts
+few_in_order ts [] a = omega arith
+few_in_order [] (j ∷ js) a = absurd a
+few_in_order (t ∷ ts) (j ∷ js) a =
+    ⊎_elim (λ m. let none : length js ≡ 0 = ap length m.1 in omega arith) (λ m. let few : length js ≤ length ts = few_in_order ts js m.1 in omega arith) a.1
+
+-- where there were none before
+pub in_order_all : (ts : List Trial) (b : List Judgement) (w : Option Judgement) → AreJudgedUpTo ts [] b w → AreJudgedInOrder ts (b ++ listed w)
+in_order_all ts b w x = subst (λ (z : List Judgement). AreJudgedInOrder ts (z ++ listed w)) (sym x.1) x.2

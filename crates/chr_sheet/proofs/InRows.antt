@@ -1,0 +1,65 @@
+-- Rows, trial by trial.
+use Rattle.std.proofs.Common.{◌≡◌, ℕ, zero, suc, ◌+◌, ◌<◌, ◌≤◌, List, [], ◌∷◌, ◌++◌, map, take, length, get_or, MatchOption, slice_get, refl, sym, ◌∙◌, ap, subst, arith}
+use Rattle.std.specs.Bool.{⊤}
+use Rattle.std.specs.List.{AllByRecursion}
+use Rattle.std.proofs.lemmas.List.{take_all, take_more, length-map, get_or-map}
+use Rattle.std.proofs.lemmas.Option.{slice_get_read}
+use Rattle.chr_guard.proofs.Steps.{all_at, all_push}
+use Rattle.chr_plan.specs.Orders.{heads_of}
+use Rattle.chr_search.specs.declared.judged.Verdict.TheVariants.{Misfit}
+use Rattle.chr_search.specs.Verdicts.{Placed, Trial, IsFormed}
+use Rattle.chr_search.specs.Judged.{IsVerdict}
+use Rattle.chr_search.specs.Fronts.{lengthened}
+use Rattle.chr_search.proofs.Judging.{few_heads}
+use Rattle.chr_sheet.specs.Rows.{Row, IsRow, trials_of}
+
+pub trials_count : {X : Type 0} (f : X → Placed) (r : Row) (xs : List X) → map f xs ≡ r.lasts → length (trials_of r) ≡ length xs
+trials_count f r xs e = length-map r.lasts (lengthened r.part) ∙ ap length (sym e) ∙ length-map xs f
+
+-- a trial at its place
+pub trial_there : {X : Type 0} (f : X → Placed) (r : Row) (xs : List X) (i : ℕ) (x : X) → map f xs ≡ r.lasts → i < length xs → x ≡ get_or xs i x → lengthened r.part (f x) ≡ get_or (trials_of r) i (lengthened r.part (f x))
+trial_there f r xs i x lasts h e =
+    let within : i < length (map f xs) = omega (arith, length-map xs f) in
+    subst (λ ls. lengthened r.part (f x) ≡ get_or (map (lengthened r.part) ls) i (lengthened r.part (f x))) lasts
+    (ap (lengthened r.part) (ap f e ∙ sym (get_or-map f xs i x (f x) h)) ∙ sym (get_or-map (lengthened r.part) (map f xs) i (f x) (lengthened r.part (f x)) within))
+
+pub told_there : (ts : List Trial) (n : ℕ) (t : Trial) (P : Trial → Type 0) → n < length ts → t ≡ get_or ts n t → P t → MatchOption (slice_get ts n) ⊤ P
+told_there ts n t P h e p = subst (λ o. MatchOption o ⊤ P) (sym (slice_get_read ts (length ts) n t refl h e)) p
+
+pub none_there : (ts : List Trial) (n : ℕ) (P : Trial → Type 0) → length ts ≤ n → MatchOption (slice_get ts n) ⊤ P
+none_there [] n P h = tt
+none_there (t ∷ ts) zero P h = absurd (omega arith)
+none_there (t ∷ ts) (suc n) P h = none_there ts n P (omega arith)
+
+pub all_taken : (P : Trial → Type 0) (ts : List Trial) (n : ℕ) → length ts ≤ n → AllByRecursion P ts → AllByRecursion P (take n ts)
+all_taken P ts n h a = subst (AllByRecursion P) (sym (take_all n ts h)) a
+
+-- where a part doesn't fit, no trial does that it begins
+pub all_unfit : (part : Trial) (lasts : List Placed) → ((p : Placed) → IsFormed (lengthened part p) → IsVerdict (lengthened part p) Misfit) → AllByRecursion IsFormed (map (lengthened part) lasts) → AllByRecursion (λ t. IsVerdict t Misfit) (map (lengthened part) lasts)
+all_unfit part [] f a = tt
+all_unfit part (p ∷ ps) f a = (f p a.0, all_unfit part ps f a.1)
+
+pub trials_step : {X : Type 0} (f : X → Placed) (r : Row) (xs : List X) (i : ℕ) (x : X) → map f xs ≡ r.lasts → i < length xs → x ≡ get_or xs i x → take (i + 1) (trials_of r) ≡ take i (trials_of r) ++ lengthened r.part (f x) ∷ []
+trials_step f r xs i x lasts h e =
+    let t : Trial = lengthened r.part (f x) in
+    let count : length (trials_of r) ≡ length xs = trials_count f r xs lasts in
+    take_more (trials_of r) i t (omega arith) ∙ ap (λ y. take i (trials_of r) ++ y ∷ []) (sym (trial_there f r xs i x lasts h e))
+
+-- what holds of a row's trials and labels
+pub formed_there : {X : Type 0} (f : X → Placed) (r : Row) (xs : List X) (i : ℕ) (x : X) → IsRow r → map f xs ≡ r.lasts → i < length xs → x ≡ get_or xs i x → IsFormed (lengthened r.part (f x))
+formed_there f r xs i x row lasts h e =
+    let count : length (trials_of r) ≡ length xs = trials_count f r xs lasts in
+    (all_at IsFormed (trials_of r) i (lengthened r.part (f x)) (omega arith) (trial_there f r xs i x lasts h e) row.formed).1
+
+pub label_low : (part : Trial) (p : Placed) → IsFormed (lengthened part p) → p.label ≤ 4294967295
+label_low part p formed = ((all_push (λ (q : Placed). (1 ≤ q.head) × (q.head ≤ length (heads_of part.rule)) × (q.label ≤ 4294967295)) part.placed p).0 formed.within).1.2
+
+pub part_few : (r : Row) → IsRow r → length r.part.placed ≤ 5
+part_few r row = few r.lasts row.some row.formed
+  where
+    few : (lasts : List Placed) → 1 ≤ length lasts → AllByRecursion IsFormed (map (lengthened r.part) lasts) → length r.part.placed ≤ 5
+    few [] some formed = absurd (omega arith)
+    few (p ∷ ps) some formed =
+        let heads : length (heads_of r.part.rule) ≤ 6 = few_heads r.part.rule formed.0.scoped in
+        let full : length r.part.placed + 1 ≡ length (heads_of r.part.rule) = row.full in
+        omega arith

@@ -1,0 +1,13 @@
+pub mod Cutting
+pub mod Columns
+pub mod InOrder
+pub mod Keeping
+pub mod Pushing
+pub mod InRows
+pub mod InColumns
+pub mod ReadOn
+pub mod OneNext
+pub mod Turns
+pub mod TurnsAlone
+pub mod NextBeside
+pub mod NextAlone

@@ -1,0 +1,169 @@
+-- Trials that come next one after another, and differ in their last label.
+use Rattle.std.proofs.Common.{◌≡◌, ℕ, suc, zero, ◌+◌, ◌≤◌, List, [], ◌∷◌, ◌++◌, map, length, get_or, refl, sym, ◌∙◌, ap, subst, arith}
+use Rattle.std.specs.List.{AllByRecursion}
+use Rattle.std.proofs.lemmas.List.{map_push, length_push, same_from_push}
+use Rattle.chr_rule.specs.Scope.{IsRule}
+use Rattle.chr_plan.specs.Orders.{heads_of}
+use Rattle.chr_plan.specs.Plans.{ArePlans}
+use Rattle.chr_store.specs.Labels.{LabelledStore, IsLabelled}
+use Rattle.chr_search.specs.declared.front.Front.{Front as CodeFront}
+use Rattle.chr_search.specs.Positions.{just_after, past}
+use Rattle.chr_search.specs.Tree.{LeastFrom, Beyond}
+use Rattle.chr_search.specs.Trials.{Space, Child, IsTrial, IsNext, NoneLeft}
+use Rattle.chr_search.specs.Verdicts.{Placed, Trial, labels, position, IsFormed, IsTrialOf}
+use Rattle.chr_search.specs.Fronts.{lengthened, MayEnd, IsFront, IsPlacedAfter, ComeAfter}
+use Rattle.chr_search.proofs.Judging.{labels_length, last_small}
+use Rattle.chr_search.proofs.Making.{next_trial, map_twice}
+use Rattle.chr_search.proofs.Fronts.{end_next, full_after, placed_trial, placed_after, trial_formed}
+use Rattle.chr_sheet.specs.Rows.{Row, IsRow, trials_of}
+use Rattle.chr_sheet.specs.Sheets.{IsNextTrial, AreNext, AreNextTogether}
+use Rattle.chr_sheet.specs.Beside.{HasBeside, AreEnds, ComeNext, AreInTurn, last_of}
+use Rattle.chr_sheet.proofs.Cutting.{row_of}
+
+-- from where the same trials lie, the same one comes next
+beyond_back : (s : Space) (place t p : List ℕ) → ComeAfter s place t → Beyond (Child s) 3 [] (just_after t) p → Beyond (Child s) 3 [] place p
+beyond_back s place t p c b = record { grows = b.grows; deep = b.deep; there = (c p (record { grows = b.grows; deep = b.deep })).1 b.there }
+
+pub next_after : (s : Space) (place t p : List ℕ) → ComeAfter s place t → IsNext s place p → IsNext s (just_after t) p
+next_after s place t p c n = record {
+  more = n.more;
+  is = n.is;
+  beyond = record { grows = n.beyond.grows; deep = n.beyond.deep; there = (c n.more (record { grows = n.beyond.grows; deep = n.beyond.deep })).0 n.beyond.there };
+  least = λ other b. n.least other (beyond_back s place t other c b);
+}
+
+are_next_after : (s : Space) (place t : List ℕ) → ComeAfter s place t → (left : ℕ) (more : List Trial) → AreNext s left place more → AreNext s left (just_after t) more
+are_next_after s place t c zero [] h = tt
+are_next_after s place t c zero (x ∷ xs) h = h
+are_next_after s place t c (suc left) [] h = λ other b. h other (beyond_back s place t other c b)
+are_next_after s place t c (suc left) (x ∷ xs) h = ((next_after s place t (position x) c h.0.0, h.0.1), h.1)
+
+-- where no trial is left or asked for, none comes next
+pub none_next : (s : Space) (left : ℕ) (place : List ℕ) → NoneLeft s place → AreNext s left place []
+none_next s zero place n = tt
+none_next s (suc left) place n = n
+
+pub none_asked : (s : Space) (left : ℕ) (place : List ℕ) → left ≤ 0 → AreNext s left place []
+none_asked s zero place h = tt
+none_asked s (suc left) place h = absurd (omega arith)
+
+-- those that come next after a trial, and those after the last of them
+chain : (s : Space) (t : Trial) (us : List Trial) (place after : List ℕ) → IsNextTrial s place t → ComeNext s t us → ComeAfter s after (position (last_of t us)) → (left : ℕ) (more : List Trial) → AreNext s left after more → (n : ℕ) → n ≡ length (t ∷ us) + left → AreNext s n place ((t ∷ us) ++ more)
+chain s t us place after next c k left more h zero e = absurd (omega arith)
+chain s t [] place after next c k left more h (suc n) e = let same : left ≡ n = omega arith in (next, subst (λ m. AreNext s m (just_after (position t)) more) same (are_next_after s after (position t) k left more h))
+chain s t (u ∷ us) place after next c k left more h (suc n) e = (next, chain s u us (just_after (position t)) after c.0 c.1 k left more h n (omega arith))
+
+last_trial : (s : Space) (t : Trial) (us : List Trial) → IsTrial s (position t) → IsTrialOf s.rules s.plans s.store t → ComeNext s t us → IsTrial s (position (last_of t us)) × IsTrialOf s.rules s.plans s.store (last_of t us)
+last_trial s t [] k i c = (k, i)
+last_trial s t (u ∷ us) k i c = last_trial s u us (next_trial s (just_after (position t)) (position u) c.0.0) c.0.1 c.1
+
+pub together : (s : Space) (most : ℕ) (place after : List ℕ) (t : Trial) (ts : List Trial) → IsNextTrial s place t → AreInTurn s most t ts → ((t : Trial) (more : List Trial) → ts ≡ t ∷ more → IsTrial s (position (last_of t more)) → IsTrialOf s.rules s.plans s.store (last_of t more) → ComeAfter s after (position (last_of t more))) → AreNextTogether s most place ts after
+together s most place after t ts n a k =
+    let us = a.0 in
+    let some : 1 ≤ length ts = let count : length ts ≡ suc (length us) = ap length a.1 in omega arith in
+    let last = last_trial s t us (next_trial s place (position t) n.0) n.1 a.3 in
+    let behind : ComeAfter s after (position (last_of t us)) = k t us a.1 last.0 last.1 in
+    (some, a.2, λ left more h. subst (λ (ts : List Trial). AreNext s (length ts + left) place (ts ++ more)) (sym a.1) (chain s t us place after n a.3 behind left more h (length (t ∷ us) + left) refl))
+
+-- a trial that has a label at each head but one
+pub record LacksOne (s : Space) (part : Trial) : Type 0 where
+  pub plans : ArePlans s.rules s.plans
+  pub scoped : AllByRecursion IsRule s.rules
+  pub trial_of : IsTrialOf s.rules s.plans s.store part
+  pub some : 1 ≤ length part.placed
+  pub full : length part.placed + 1 ≡ length (heads_of part.rule)
+
+longer_position : (part : Trial) (p : Placed) → position (lengthened part p) ≡ part.number ∷ part.head ∷ (labels part ++ p.label ∷ [])
+longer_position part p = ap (λ (ls : List ℕ). part.number ∷ part.head ∷ ls) (map_push (λ (x : Placed). x.label) part.placed p)
+
+-- it comes next with the next label, just after it comes with one
+come_one : (s : Space) (part : Trial) → LacksOne s part → (p q : Placed) → IsTrialOf s.rules s.plans s.store (lengthened part p) → LeastFrom (MayEnd s (part.number ∷ part.head ∷ labels part)) (p.label + 1) q.label → IsPlacedAfter s part.number part.head (length (labels part)) q → IsNextTrial s (just_after (position (lengthened part p))) (lengthened part q)
+come_one s part k p q i least placed =
+    let t : Trial = lengthened part p in
+    let u : Trial = lengthened part q in
+    let some : 1 ≤ length part.placed = k.some in
+    let count : length t.placed ≡ length part.placed + 1 = length_push part.placed p in
+    let full : length t.placed ≡ length (heads_of part.rule) = count ∙ k.full in
+    let next : IsNext s (past (position t)) (position u) = subst (λ a. IsNext s (past a) (position u)) (sym (longer_position part p)) (subst (IsNext s (past (part.number ∷ part.head ∷ (labels part ++ p.label ∷ [])))) (sym (longer_position part q))
+    (end_next s part.number part.head (labels part) p.label q.label (omega (arith, labels_length part)) least)) in
+    (next_after s (past (position t)) (position t) (position u) (full_after s t k.plans k.scoped i full (omega arith)) next, placed_trial s part q k.trial_of (subst (λ n. IsPlacedAfter s part.number part.head n q) (labels_length part) placed))
+
+come_next : (s : Space) (part : Trial) → LacksOne s part → (p : Placed) (ps : List Placed) → IsTrialOf s.rules s.plans s.store (lengthened part p) → AreEnds s part.number part.head (labels part) p.label ps → ComeNext s (lengthened part p) (map (lengthened part) ps)
+come_next s part k p [] i e = tt
+come_next s part k p (q ∷ qs) i e = let n = come_one s part k p q i e.0 e.1 in (n, come_next s part k q qs n.1 e.2)
+
+-- each of them is formed
+pub all_formed : (s : Space) (store : LabelledStore) → ArePlans s.rules s.plans → AllByRecursion IsRule s.rules → store.entries ≡ s.store → IsLabelled store → (t : Trial) (us : List Trial) → IsTrial s (position t) → IsTrialOf s.rules s.plans s.store t → ComeNext s t us → AllByRecursion IsFormed (t ∷ us)
+all_formed s store ps rs st w t [] k i c = (trial_formed s store t ps rs st w k i, tt)
+all_formed s store ps rs st w t (u ∷ us) k i c = (trial_formed s store t ps rs st w k i, all_formed s store ps rs st w u us (next_trial s (just_after (position t)) (position u) c.0.0) c.0.1 c.1)
+
+-- the row of a trial and those beside it
+pub record IsMadeRow (s : Space) (part : Trial) (p : Placed) (more lasts : List Placed) : Type 0 where
+  pub row : IsRow (row_of part lasts)
+  pub trials : trials_of (row_of part lasts) ≡ lengthened part p ∷ map (lengthened part) more
+  pub next : ComeNext s (lengthened part p) (map (lengthened part) more)
+
+pub row_made : (s : Space) (store : LabelledStore) → store.entries ≡ s.store → IsLabelled store → (part : Trial) → LacksOne s part → (p : Placed) (more lasts : List Placed) → IsTrial s (position (lengthened part p)) → IsTrialOf s.rules s.plans s.store (lengthened part p) → lasts ≡ p ∷ more → AreEnds s part.number part.head (labels part) p.label more → IsMadeRow s part p more lasts
+row_made s store st w part k p more lasts here i is e =
+    let next = come_next s part k p more i e in
+    let trials : trials_of (row_of part lasts) ≡ lengthened part p ∷ map (lengthened part) more = ap (map (lengthened part)) is in
+    record {
+      row = record {
+        some = (let count : length lasts ≡ suc (length more) = ap length is in omega arith);
+        full = k.full;
+        formed = subst (AllByRecursion IsFormed) (sym trials) (all_formed s store k.plans k.scoped st w (lengthened part p) (map (lengthened part) more) here i next);
+      };
+      trials = trials;
+      next = next;
+    }
+
+-- what is known of a trial with those beside it, without its last label
+pub record IsBegun {Z : Type 0} (s : Space) (part : Trial) (p : Placed) (f : CodeFront Z) (second : ℕ) : Type 0 where
+  pub lacks : LacksOne s part
+  pub here : IsTrial s (position (lengthened part p))
+  pub trial_of : IsTrialOf s.rules s.plans s.store (lengthened part p)
+  pub front : IsFront s part.number part.head (labels part) f
+  pub least : LeastFrom (MayEnd s (part.number ∷ part.head ∷ labels part)) (p.label + 1) second
+
+pub begun : {Z : Type 0} (s : Space) → ArePlans s.rules s.plans → AllByRecursion IsRule s.rules → (part : Trial) (p : Placed) (t : Trial) (f : CodeFront Z) (second : ℕ) → lengthened part p ≡ t → IsTrial s (position t) × IsTrialOf s.rules s.plans s.store t → HasBeside s t f second → IsBegun s part p f second
+begun s ps rs part p t f second e i h = whole (subst (λ t. IsTrial s (position t) × IsTrialOf s.rules s.plans s.store t) (sym e) i) (subst (λ t. HasBeside s t f second) (sym e) h)
+  where
+    whole : IsTrial s (position (lengthened part p)) × IsTrialOf s.rules s.plans s.store (lengthened part p) → HasBeside s (lengthened part p) f second → IsBegun s part p f second
+    whole i h =
+        let same = same_from_push (labels part) h.before p.label h.last (sym (map_push (λ (x : Placed). x.label) part.placed p) ∙ h.labels_are) in
+        let front : IsFront s part.number part.head (labels part) f = subst (λ ls. IsFront s part.number part.head ls f) (sym same.0) h.front in
+        let count : length (part.placed ++ p ∷ []) ≡ length part.placed + 1 = length_push part.placed p in
+        let some : 1 ≤ length (labels part) = front.some in
+        record {
+          lacks = record { plans = ps; scoped = rs; trial_of = (placed_after s part p i.1).0; some = omega (arith, labels_length part); full = sym count ∙ h.full };
+          here = i.0;
+          trial_of = i.1;
+          front = front;
+          least = subst (λ n. LeastFrom (MayEnd s (part.number ∷ part.head ∷ labels part)) (n + 1) second) (sym same.1) (subst (λ (ls : List ℕ). LeastFrom (MayEnd s (part.number ∷ part.head ∷ ls)) (h.last + 1) second) (sym same.0) h.least);
+        }
+
+-- the labels of a trial up to the last
+pub labels_split : {X : Type 0} (f : X → Placed) (xs before : List X) (x : X) (t : Trial) → xs ≡ before ++ x ∷ [] → map f xs ≡ t.placed → labels t ≡ map (λ y. (f y).label) before ++ (f x).label ∷ []
+labels_split f xs before x t e is = ap (map (λ (p : Placed). p.label)) (sym is) ∙ map_twice f (λ (p : Placed). p.label) xs ∙ ap (map (λ y. (f y).label)) e ∙ map_push (λ y. (f y).label) before x
+
+-- a label that one more trial ends with is small
+pub small_end : (s : Space) (store : LabelledStore) → store.entries ≡ s.store → IsLabelled store → (part : Trial) → LacksOne s part → (p : Placed) → MayEnd s (part.number ∷ part.head ∷ labels part) p.label → IsPlacedAfter s part.number part.head (length (labels part)) p → p.label ≤ 4294967295
+small_end s store st w part k p i placed =
+    let t : Trial = lengthened part p in
+    let formed : IsFormed t = trial_formed s store t k.plans k.scoped st w (subst (IsTrial s) (sym (longer_position part p)) i) (placed_trial s part p k.trial_of (subst (λ n. IsPlacedAfter s part.number part.head n p) (labels_length part) placed)) in
+    last_small t formed (labels part) p.label (sym (map_push (λ (x : Placed). x.label) part.placed p))
+
+-- the last of the trials of a row
+pub last_read : {X : Type 0} (f : X → Trial) (xs : List X) (i : ℕ) (x : X) (t : Trial) (more : List Trial) → map f xs ≡ t ∷ more → i + 1 ≡ length xs → x ≡ get_or xs i x → last_of t more ≡ f x
+last_read f [] i x t more is count e = absurd (cc)
+last_read f (y ∷ []) zero x t more is count e = let first : f y ≡ t = cc in let none : [] ≡ more = cc in ap (last_of t) (sym none) ∙ sym first ∙ ap f (sym e)
+last_read f (y ∷ []) (suc i) x t more is count e = absurd (omega arith)
+last_read f (y ∷ z ∷ xs) zero x t more is count e = absurd (omega arith)
+last_read f (y ∷ z ∷ xs) (suc i) x t more is count e = let rest : f z ∷ map f xs ≡ more = cc in ap (last_of t) (sym rest) ∙ last_read f (z ∷ xs) i x (f z) (map f xs) refl (omega arith) e
+
+pub come_behind : (s : Space) → ArePlans s.rules s.plans → AllByRecursion IsRule s.rules → (r : Row) (p : Placed) (place : List ℕ) (u : Trial) → IsRow r → u ≡ lengthened r.part p → place ≡ past (position r.part ++ p.label ∷ []) → IsTrialOf s.rules s.plans s.store u → ComeAfter s place (position u)
+come_behind s ps rs r p place u w e is i =
+    let t : Trial = lengthened r.part p in
+    let count : length t.placed ≡ length r.part.placed + 1 = length_push r.part.placed p in
+    let behind : ComeAfter s (past (position t)) (position t) = full_after s t ps rs (subst (IsTrialOf s.rules s.plans s.store) e i) (count ∙ w.full) (omega arith) in
+    subst (λ u. ComeAfter s place (position u)) (sym e) (subst (λ q. ComeAfter s q (position t)) (sym (is ∙ ap past (sym (longer_position r.part p)))) behind)

@@ -1,0 +1,60 @@
+use Rattle.std.proofs.Common.{◌≡◌, length, subst, refl, arith}
+use Rattle.chr_guard.proofs.Steps.{all_at, all_more}
+use Rattle.chr_search.specs.declared.judged.Verdict.TheVariants.{Misfit}
+use Rattle.chr_search.specs.Verdicts.{Placed, Trial, IsFormed}
+use Rattle.chr_search.specs.Judged.{IsVerdict}
+use Rattle.chr_search.specs.Fronts.{lengthened}
+use Rattle.chr_search.specs.Placed.{placed_as}
+use Rattle.chr_sheet.specs.Rows.{Row, trials_of}
+use Rattle.chr_sheet.proofs.InRows.{trials_count, trial_there, told_there, none_there, all_taken, all_unfit}
+use Rattle.chr_sheet.proofs.judging.count_misfits.Goals as goal
+
+pub returns-in_default-clause-misfits : goal.returns-in_default-clause-misfits
+returns-in_default-clause-misfits g c =
+    let r : Row = c.args.row.now in
+    let count : length (trials_of r) ≡ length c.lasts.result.now = trials_count placed_as r c.lasts.result.now c.lasts.ensures.lasts in
+    let none = subst (λ (part : Trial). (p : Placed) → IsFormed (lengthened part p) → IsVerdict (lengthened part p) Misfit) c.part.ensures.part c.in_default.ensures in
+    all_taken (λ t. IsVerdict t Misfit) (trials_of r) (length c.lasts.result.now) (omega arith) (all_unfit r.part r.lasts none c.part.ensures.row.formed)
+
+pub returns-in_default-clause-next : goal.returns-in_default-clause-next
+returns-in_default-clause-next g c =
+    let r : Row = c.args.row.now in
+    let count : length (trials_of r) ≡ length c.lasts.result.now = trials_count placed_as r c.lasts.result.now c.lasts.ensures.lasts in
+    none_there (trials_of r) (length c.lasts.result.now) (λ t. IsVerdict t Misfit → ⊥) (omega arith)
+
+pub is_misfit-requires : goal.is_misfit-requires
+is_misfit-requires g c =
+    let r : Row = c.args.row.now in
+    let xs = c.lasts-last-items.result.now in
+    let count : length (trials_of r) ≡ length xs = trials_count placed_as r xs c.lasts-last-items.ensures.lasts in
+    let t : Trial = lengthened r.part (placed_as c.last-item.result) in
+    let there = trial_there placed_as r xs c.loop-i.i c.last-item.result c.lasts-last-items.ensures.lasts c.loop-i-test.true c.last-item.is in
+    (omega arith, (r.part, c.loop-i.invariant.fitted, (all_at IsFormed (trials_of r) c.loop-i.i t (omega arith) there c.part.ensures.row.formed).1))
+
+pub returns-then-not-is_misfit-clause-next : goal.returns-then-not-is_misfit-clause-next
+returns-then-not-is_misfit-clause-next g c =
+    let r : Row = c.args.row.now in
+    let xs = c.lasts-last-items.result.now in
+    let count : length (trials_of r) ≡ length xs = trials_count placed_as r xs c.lasts-last-items.ensures.lasts in
+    let t : Trial = lengthened r.part (placed_as c.last-item.result) in
+    let there = trial_there placed_as r xs c.loop-i.i c.last-item.result c.lasts-last-items.ensures.lasts c.loop-i-test.true c.last-item.is in
+    told_there (trials_of r) c.loop-i.i t (λ t. IsVerdict t Misfit → ⊥) (omega arith) there (λ m. let told = (c.if-not-is_misfit.ensures.misfit r.part c.loop-i.invariant.fitted).1 m in absurd (cc))
+
+pub loop-i-preserved : goal.loop-i-preserved
+loop-i-preserved g c =
+    let r : Row = c.args.row.now in
+    let xs = c.lasts-last-items.result.now in
+    let count : length (trials_of r) ≡ length xs = trials_count placed_as r xs c.lasts-last-items.ensures.lasts in
+    let t : Trial = lengthened r.part (placed_as c.last-item.result) in
+    let there = trial_there placed_as r xs c.loop-i.i c.last-item.result c.lasts-last-items.ensures.lasts c.loop-i-test.true c.last-item.is in
+    record {
+      fitted = c.if-not-is_misfit.ensures.fitted r.part c.loop-i.invariant.fitted;
+      lasts = c.loop-i.invariant.lasts;
+      misfits = (all_more (λ t. IsVerdict t Misfit) (trials_of r) c.loop-i.i t (omega arith) there).1 (c.loop-i.invariant.misfits, (c.if-not-is_misfit.ensures.misfit r.part c.loop-i.invariant.fitted).0 refl);
+    }
+
+pub returns-clause-next : goal.returns-clause-next
+returns-clause-next g c =
+    let r : Row = c.args.row.now in
+    let count : length (trials_of r) ≡ length c.lasts-2.result.now = trials_count placed_as r c.lasts-2.result.now c.lasts-2.ensures.lasts in
+    none_there (trials_of r) (length c.lasts-2.result.now) (λ t. IsVerdict t Misfit → ⊥) (omega arith)

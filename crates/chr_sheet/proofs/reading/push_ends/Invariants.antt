@@ -1,0 +1,16 @@
+use Rattle.std.proofs.Common.{ℕ, ◌≤◌, ◌+◌, ◌-◌, List, ◌∷◌, length, map}
+use Rattle.chr_search.specs.Fronts.{MayEnd, IsFront}
+use Rattle.chr_search.specs.Placed.{placed_as}
+use Rattle.chr_search.specs.Tree.{LeastFrom}
+use Rattle.chr_search.specs.Trials.{Space}
+use Rattle.chr_sheet.proofs.Pushing.{ArePushed}
+use Rattle.chr_sheet.proofs.reading.push_ends.Given as goal
+
+abbrev pub invariant-ends : goal.invariant-ends
+invariant-ends g l = record {
+  few : length l.lasts.items ≤ l.most;
+  pushed : (s : Space) (r h : ℕ) (ls : List ℕ) (b : ℕ) → IsFront s r h ls l.fn.front → LeastFrom (MayEnd s (r ∷ h ∷ ls)) (b + 1) l.fn.first → ArePushed s r h ls b (map placed_as l.fn.lasts.items) (map placed_as l.lasts.items) l.front l.next;
+}
+
+abbrev pub decreases-ends : goal.decreases-ends
+decreases-ends g l = l.most - length l.lasts.items

@@ -1,0 +1,45 @@
+use Rattle.std.proofs.Common.{◌≤◌, ◌+◌, length, length-append, take, refl, sym, ap, subst, ◌∙◌, arith}
+use Rattle.std.specs.List.{AllByRecursion}
+use Rattle.chr_search.specs.Judged.{Judgement, IsVerdict}
+use Rattle.chr_search.specs.Trials.{Space, older}
+use Rattle.chr_sheet.specs.Kept.{others_at, others_in}
+use Rattle.chr_sheet.specs.Rows.{listed}
+use Rattle.chr_sheet.specs.Sheets.{Reports, done}
+use Rattle.chr_sheet.proofs.InOrder.{all_both}
+use Rattle.chr_sheet.proofs.Keeping.{others_front, others_step}
+use Rattle.chr_sheet.proofs.Turns.{reports_both, reports_few}
+use Rattle.chr_sheet.proofs.reporting.report.Goals as goal
+
+pub loop-some-init : goal.loop-some-init
+loop-some-init g c = record { all = c.others-some-items.ensures.others; right = tt; label = refl; reports = done c.args.search.now.place }
+
+pub loop-some-preserved : goal.loop-some-preserved
+loop-some-preserved g c =
+    let s : Space = older c.args.program.now c.args.plans.now c.args.store.now.entries c.args.search.now.label in
+    let xs = c.others-some-items.result.now in
+    let before = others_in (take c.loop-some.some-index xs) in
+    let mid = c.loop-some.search.place in
+    let after = c.pass_some-count.new.search.place in
+    let here = others_at c.some-item.result in
+    let step = others_step xs c.loop-some.some-index c.some-item.result c.loop-some-test.true c.some-item.is in
+    let more = subst (λ a. Reports (older c.args.program.now c.args.plans.now c.args.store.now.entries a) mid here c.pass_some-count.result after) c.loop-some.invariant.label c.pass_some-count.ensures.reports in
+    record {
+      all = c.loop-some.invariant.all;
+      right = subst (AllByRecursion (λ j. IsVerdict j.trial j.verdict)) (sym step) (all_both (λ (j : Judgement). IsVerdict j.trial j.verdict) before here c.loop-some.invariant.right c.are_right.ensures);
+      label = c.pass_some-count.ensures.label ∙ c.loop-some.invariant.label;
+      reports = subst (λ js. Reports s c.args.search.now.place js (c.loop-some.count + c.pass_some-count.result) after) (sym step) (reports_both s c.args.search.now.place mid after before here c.loop-some.count c.pass_some-count.result c.loop-some.invariant.reports more);
+    }
+
+pub overflow_add-count : goal.overflow_add-count
+overflow_add-count g c =
+    let s : Space = older c.args.program.now c.args.plans.now c.args.store.now.entries c.args.search.now.label in
+    let moved : Space = older c.args.program.now c.args.plans.now c.args.store.now.entries c.loop-some.search.label in
+    let xs = c.others-some-items.result.now in
+    let reported : c.loop-some.count ≤ length (others_in (take c.loop-some.some-index xs)) = reports_few s c.args.search.now.place c.loop-some.search.place (others_in (take c.loop-some.some-index xs)) c.loop-some.count c.loop-some.invariant.reports in
+    let more : c.pass_some-count.result ≤ length (others_at c.some-item.result) = reports_few moved c.loop-some.search.place c.pass_some-count.new.search.place (others_at c.some-item.result) c.pass_some-count.result c.pass_some-count.ensures.reports in
+    let step = ap length (others_step xs c.loop-some.some-index c.some-item.result c.loop-some-test.true c.some-item.is) ∙ length-append (others_in (take c.loop-some.some-index xs)) (others_at c.some-item.result) in
+    let front = others_front xs (c.loop-some.some-index + 1) in
+    let all = ap length c.loop-some.invariant.all in
+    let few = c.others-some-items.ensures.few in
+    let parts = length-append c.args.judgements.now.others (listed c.args.judgements.now.whole) in
+    omega arith

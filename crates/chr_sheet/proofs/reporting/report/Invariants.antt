@@ -1,0 +1,16 @@
+use Rattle.std.proofs.Common.{◌≡◌, take}
+use Rattle.std.specs.List.{AllByRecursion}
+use Rattle.chr_search.specs.Judged.{IsVerdict}
+use Rattle.chr_search.specs.Trials.{older}
+use Rattle.chr_sheet.specs.Kept.{others_in}
+use Rattle.chr_sheet.specs.Sheets.{Reports}
+use Rattle.chr_sheet.proofs.reporting.report.Given as goal
+
+-- those so far are reported
+abbrev pub invariant-loop-some : goal.invariant-loop-some
+invariant-loop-some g l = record {
+  all : others_in l.some-items ≡ l.judgements.others;
+  right : AllByRecursion (λ j. IsVerdict j.trial j.verdict) (others_in (take l.some-index l.some-items));
+  label : l.search.label ≡ l.fn.search.label;
+  reports : Reports (older l.program l.plans l.store.entries l.fn.search.label) l.fn.search.place (others_in (take l.some-index l.some-items)) l.count l.search.place;
+}

@@ -1,0 +1,39 @@
+-- The trials beside another: those that come next after it and differ from it in their last label alone.
+use Rattle.std.specs.Prelude.{⊤, ◌≡◌, ℕ, ◌+◌, ◌≤◌, List, [], ◌∷◌, ◌++◌, length}
+use Rattle.chr_plan.specs.Orders.{heads_of}
+use Rattle.chr_search.specs.declared.front.Front.{Front as CodeFront}
+use Rattle.chr_search.specs.Positions.{just_after}
+use Rattle.chr_search.specs.Tree.{LeastFrom}
+use Rattle.chr_search.specs.Trials.{Space}
+use Rattle.chr_search.specs.Verdicts.{Placed, Trial, labels, position}
+use Rattle.chr_search.specs.Fronts.{MayEnd, IsFront, IsPlacedAfter}
+use Rattle.chr_sheet.specs.Sheets.{IsNextTrial}
+
+-- A trial has all heads, two at least; a front has all its labels but the last; and this is the least label past that one with
+-- which another ends.
+pub record HasBeside {Z : Type 0} (s : Space) (t : Trial) (f : CodeFront Z) (second : ℕ) : Type 0 where
+  pub full : length t.placed ≡ length (heads_of t.rule)
+  pub before : List ℕ
+  pub last : ℕ
+  pub labels_are : labels t ≡ before ++ last ∷ []
+  pub front : IsFront s t.number t.head before f
+  pub least : LeastFrom (MayEnd s (t.number ∷ t.head ∷ before)) (last + 1) second
+
+-- labels with which admissible trials end: the first is the least one past a number, and each other the least past the one before
+abbrev pub AreEnds : Space → ℕ → ℕ → List ℕ → ℕ → List Placed → Type 0
+AreEnds s r h ls l [] = ⊤
+AreEnds s r h ls l (p ∷ ps) = LeastFrom (MayEnd s (r ∷ h ∷ ls)) (l + 1) p.label × IsPlacedAfter s r h (length ls) p × AreEnds s r h ls p.label ps
+
+-- these come next after a trial, one after another
+abbrev pub ComeNext : Space → Trial → List Trial → Type 0
+ComeNext s t [] = ⊤
+ComeNext s t (u ∷ us) = IsNextTrial s (just_after (position t)) u × ComeNext s u us
+
+-- a trial and those that come next after it, at most so many in all
+abbrev pub AreInTurn : Space → ℕ → Trial → List Trial → Type 0
+AreInTurn s most t ts = (more : List Trial) × (ts ≡ t ∷ more) × (length ts ≤ most) × ComeNext s t more
+
+-- the last of a trial and more
+abbrev pub last_of : Trial → List Trial → Trial
+last_of t [] = t
+last_of t (u ∷ us) = last_of u us

@@ -1,0 +1,55 @@
+-- Trials and judgements, where those that differ in their last label alone are kept together.
+use Rattle.std.specs.Prelude.{⊤, ◌≡◌, ℕ, ◌<◌, ◌≤◌, ◌+◌, List, [], ◌∷◌, ◌++◌, length, map, take, Option, Some, None, MatchOption, slice_get}
+use Rattle.std.specs.List.{AllByRecursion}
+use Rattle.chr_plan.specs.Orders.{heads_of}
+use Rattle.chr_search.specs.declared.judged.Verdict.TheVariants as verdicts
+use Rattle.chr_search.specs.Verdicts.{Placed, Trial, IsFormed}
+use Rattle.chr_search.specs.Judged.{Judgement, IsVerdict}
+use Rattle.chr_search.specs.Fronts.{lengthened}
+
+-- a trial that one head is left of, and labels for that head
+pub record Row : Type 0 where
+  pub part : Trial
+  pub lasts : List Placed
+
+-- its trials have one of these labels each
+abbrev pub trials_of : Row → List Trial
+trials_of r = map (lengthened r.part) r.lasts
+
+pub record IsRow (r : Row) : Type 0 where
+  pub some : 1 ≤ length r.lasts
+  pub full : length r.part.placed + 1 ≡ length (heads_of r.part.rule)
+  pub formed : AllByRecursion IsFormed (trials_of r)
+
+-- all of them are misfits
+abbrev pub AreMisfits : Row → Type 0
+AreMisfits r = AllByRecursion (λ t. IsVerdict t verdicts.Misfit) (trials_of r)
+
+-- a judgement of a misfit
+abbrev pub misfit : Trial → Judgement
+misfit t = record { trial = t; verdict = verdicts.Misfit }
+
+-- judgements in order: those that aren't whole, and after them perhaps one that is
+pub record JudgedSheet : Type 0 where
+  pub others : List Judgement
+  pub whole : Option Judgement
+
+abbrev pub listed : Option Judgement → List Judgement
+listed None = []
+listed (Some j) = j ∷ []
+
+abbrev pub judgements_of : JudgedSheet → List Judgement
+judgements_of sheet = sheet.others ++ listed sheet.whole
+
+-- the last one is whole where it is kept apart, and they can be counted
+pub record IsJudgedSheet (sheet : JudgedSheet) : Type 0 where
+  pub whole : MatchOption sheet.whole ⊤ (λ w. w.verdict ≡ verdicts.Whole)
+  pub few : length (judgements_of sheet) < 18446744073709551616
+
+-- the trials before one of a row, and that one
+abbrev pub trials_before : Option Row → List Trial
+trials_before None = []
+trials_before (Some r) = trials_of r
+
+abbrev pub IsSplitAt : Row → ℕ → Option Row → Trial → Type 0
+IsSplitAt r n before t = (trials_before before ≡ take n (trials_of r)) × (slice_get (trials_of r) n ≡ Some t)

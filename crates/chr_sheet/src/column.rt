@@ -1,0 +1,125 @@
+//! Trials of the active label alone.
+ghost use Rattle.std.specs.Prelude.{◌≡◌, ◌≤◌, ◌∷◌, [], length, map, IfOk};
+ghost use Rattle.std.specs.Arc.{arc_value};
+ghost use Rattle.chr_search.specs.Verdicts.{IsFormed};
+ghost use Rattle.chr_sheet.specs.Beside.{last_of};
+ghost use Rattle.chr_sheet.specs.Columns.{at_head, column_trials, head_of, IsColumn, IsColumnSplitAt};
+
+use chr_rule::Rule;
+use chr_search::{Placed, Trial};
+use std::alloc::{AllocError, Allocator};
+use std::marker::Model;
+use std::sync::Arc;
+
+/// A rule of one head, with its number and the head's.
+#[derive(Drop)]
+pub struct OneHead<A: Allocator> {
+    pub(crate) rule: Arc<Rule<A>, A>,
+    pub(crate) number: u16,
+    pub(crate) head: u8,
+}
+
+/// A trial of one label at a rule of one head, and more such rules, at which its label is tried in turn. Contracts see these
+/// trials.
+#[derive(Drop)]
+pub struct Column<A: Allocator> {
+    first: Trial<A>,
+    more: Vec<OneHead<A>, A>,
+}
+
+impl<A: Allocator> Model for Column<A> {
+    ghost use Rattle.std.specs.Prelude.{map};
+    ghost use Rattle.std.specs.Coded.{codes};
+    ghost use Rattle.chr_value.specs.Code.{value_code};
+    ghost use Rattle.chr_rule.specs.Code.{expression_code};
+    ghost use Rattle.chr_rule.specs.TermCode.{term_code};
+    ghost use Rattle.chr_sheet.specs.Columns.{Column, head_of, IsColumn};
+
+    ghost Value = { Column };
+
+    ghost coded = { Prim.hlevel (codes, expression_code, term_code, value_code) };
+
+    ghost view = { λ c. record { first = c.first; more = map head_of c.more.items } };
+
+    ghost invariant = { λ c. IsColumn (record { first = c.first; more = map head_of c.more.items }) };
+}
+
+/// A trial of one label, at another head. An `Err` is E01.
+fn at_other_head<A: Allocator + Copy>(
+    alloc: A,
+    first: &Trial<A>,
+    other: OneHead<A>,
+) -> Result<Trial<A>, AllocError>
+    requires alone { length first.now.placed ≡ 1 }
+    requires formed { IsFormed (at_head first.now (head_of other)) }
+    ensures { IfOk result (λ made. made ≡ at_head first.now (head_of other)) }
+{
+    let one = &first.placed()[0];
+    let placed = Placed {
+        head: other.head,
+        label: one.label,
+        atom: one.atom.copy(alloc)?,
+    };
+    let OneHead {
+        rule,
+        number,
+        head: _,
+    } = other;
+    Trial::alone(alloc, rule, number, placed)
+}
+
+impl<A: Allocator + Copy> Column<A> {
+    /// The column of a trial and heads.
+    pub(crate) fn new(first: Trial<A>, more: Vec<OneHead<A>, A>) -> Column<A>
+        requires { IsColumn (record { first = first; more = map head_of more.items }) }
+        ensures { result ≡ record { first = first; more = map head_of more.items } }
+    {
+        Column { first, more }
+    }
+
+    /// The first trial.
+    pub fn first(&self) -> &Trial<A>
+        ensures first { result.now ≡ self.now.first }
+        ensures column { IsColumn self.now }
+    {
+        &self.first
+    }
+
+    /// The other heads.
+    pub fn more(&self) -> &[OneHead<A>]
+        ensures more { map head_of result.now ≡ self.now.more }
+        ensures column { IsColumn self.now }
+    {
+        &self.more
+    }
+
+    /// The number of the last trial's rule, and its head's.
+    pub(crate) fn last(&self) -> (u16, u8)
+        ensures number { result.0 ≡ (last_of self.now.first (map (at_head self.now.first) self.now.more)).number }
+        ensures head { result.1 ≡ (last_of self.now.first (map (at_head self.now.first) self.now.more)).head }
+        ensures column { IsColumn self.now }
+    {
+        match self.more.last() {
+            Some(last) => (last.number, last.head),
+            None => (self.first.number(), self.first.head()),
+        }
+    }
+
+    /// The trials before one of them, where there are any, and that one. An `Err` is E01.
+    pub(crate) fn split_at(
+        self,
+        alloc: A,
+        index: usize,
+    ) -> Result<(Option<Column<A>>, Trial<A>), AllocError>
+        requires { index ≤ length self.more }
+        ensures { IfOk result (λ made. IsColumnSplitAt self index made.0 made.1) }
+    {
+        let Column { first, mut more } = self;
+        more.truncate(index);
+        let Some(last) = more.pop() else {
+            return Ok((None, first));
+        };
+        let trial = at_other_head(alloc, &first, last)?;
+        Ok((Some(Column::new(first, more)), trial))
+    }
+}

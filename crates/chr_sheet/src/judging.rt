@@ -1,0 +1,288 @@
+//! Judging the trials of a sheet.
+ghost use Rattle.std.specs.Prelude.{◌≡◌, ◌<◌, ◌≤◌, ⊤, ◌∷◌, ◌++◌, [], length, map, take, IfOk, OnOk, MatchOption, IsTrue, slice_get};
+ghost use Rattle.std.specs.List.{AllByRecursion};
+ghost use Rattle.std.specs.Option.{option_copied};
+ghost use Rattle.chr_search.specs.declared.judged.Verdict.TheVariants as verdicts;
+ghost use Rattle.chr_search.specs.Judged.{IsVerdict};
+ghost use Rattle.chr_sheet.specs.Columns.{column_trials, trials_before_alone};
+ghost use Rattle.chr_sheet.specs.Kept.{others_in, trials_at, trials_in};
+ghost use Rattle.chr_sheet.specs.Rows.{judgements_of, misfit, trials_before, trials_of};
+ghost use Rattle.chr_sheet.specs.Sheets.{AreJudgedInOrder, AreJudgedUpTo};
+
+use crate::column::Column;
+use crate::not_whole::{Misfits, MisfitsAlone, NotWhole};
+use crate::others::Others;
+use crate::row::Row;
+use crate::trials::Trials;
+use chr_guard::Binding;
+use chr_search::{Fitted, Judged, Trial, Verdict, is_misfit_alone};
+use std::alloc::{AllocError, Allocator};
+use std::marker::Model;
+
+/// What is told of each judgement.
+pub trait Watch {
+    /// Comes before each judgement.
+    fn before_judging(&self);
+}
+
+/// Judgements of trials in order. The last one may be whole, and no other is.
+#[derive(Drop)]
+pub struct Judgements<A: Allocator> {
+    others: Vec<Others<A>, A>,
+    whole: Option<Judged<A>>,
+}
+
+impl<A: Allocator> Model for Judgements<A> {
+    ghost use Rattle.std.specs.Coded.{codes};
+    ghost use Rattle.chr_value.specs.Code.{value_code};
+    ghost use Rattle.chr_rule.specs.Code.{expression_code};
+    ghost use Rattle.chr_rule.specs.TermCode.{term_code};
+    ghost use Rattle.chr_sheet.specs.Kept.{others_in};
+    ghost use Rattle.chr_sheet.specs.Rows.{JudgedSheet, IsJudgedSheet};
+
+    ghost Value = { JudgedSheet };
+
+    ghost coded = { Prim.hlevel (codes, expression_code, term_code, value_code) };
+
+    ghost view = { λ j. record { others = others_in j.others.items; whole = j.whole } };
+
+    ghost invariant = { λ j. IsJudgedSheet (record { others = others_in j.others.items; whole = j.whole }) };
+}
+
+impl<A: Allocator + Copy> Judgements<A> {
+    /// Those that aren't whole.
+    pub fn others(&self) -> &[Others<A>]
+        ensures others { others_in result.now ≡ self.now.others }
+        ensures few { length (judgements_of self.now) < 18446744073709551616 }
+    {
+        &self.others
+    }
+
+    /// The last one, where it is whole.
+    pub fn whole(&self) -> Option<&Judged<A>>
+        ensures whole { option_copied result ≡ self.now.whole }
+        ensures verdict { MatchOption self.now.whole ⊤ (λ w. w.verdict ≡ verdicts.Whole) }
+    {
+        self.whole.as_ref()
+    }
+
+    /// The last one alone, where it is whole.
+    pub fn into_whole(self) -> Option<Judged<A>>
+        ensures { result ≡ self.whole }
+    {
+        self.whole
+    }
+
+    /// How many they are.
+    pub fn len(&self) -> usize
+        ensures { result ≡ length (judgements_of self.now) }
+    {
+        let mut count = 0;
+        for some in self.others() {
+            count += some.len();
+        }
+        match self.whole() {
+            None => count,
+            Some(_) => count + 1,
+        }
+    }
+}
+
+/// How many trials of a row are misfits, before the first that isn't.
+fn count_misfits<A: Allocator + Copy, W: Watch>(row: &Row<A>, watch: &W) -> usize
+    ensures few { result ≤ length row.now.lasts }
+    ensures misfits { AllByRecursion (λ t. IsVerdict t verdicts.Misfit) (take result (trials_of row.now)) }
+    ensures next { MatchOption (slice_get (trials_of row.now) result) ⊤ (λ t. IsVerdict t verdicts.Misfit → ⊥) }
+{
+    let Some(mut fitted) = Fitted::of(row.part()) else {
+        for _ in row.lasts() {
+            watch.before_judging();
+        }
+        return row.lasts().len();
+    };
+    for (i, last) in row.lasts().iter().enumerate() {
+        watch.before_judging();
+        if !fitted.is_misfit(last) {
+            return i;
+        }
+    }
+    row.lasts().len()
+}
+
+/// How many trials of a column are misfits, before the first that isn't.
+fn count_misfits_alone<A: Allocator + Copy, W: Watch>(column: &Column<A>, watch: &W) -> usize
+    ensures few { result ≤ length (column_trials column.now) }
+    ensures misfits { AllByRecursion (λ t. IsVerdict t verdicts.Misfit) (take result (column_trials column.now)) }
+    ensures next { MatchOption (slice_get (column_trials column.now) result) ⊤ (λ t. IsVerdict t verdicts.Misfit → ⊥) }
+{
+    let first = column.first();
+    let one = &first.placed()[0];
+    let mut binding = Binding::free(0);
+    watch.before_judging();
+    if !is_misfit_alone(&mut binding, first.rule(), one.head, &one.atom) {
+        return 0;
+    }
+    for (i, other) in column.more().iter().enumerate() {
+        watch.before_judging();
+        if !is_misfit_alone(&mut binding, &other.rule, other.head, &one.atom) {
+            return i + 1;
+        }
+    }
+    column.more().len() + 1
+}
+
+/// Puts misfits of the active label alone after the others. An `Err` is E01.
+fn push_misfits_alone<A: Allocator + Copy>(
+    column: Option<Column<A>>,
+    others: &mut Vec<Others<A>, A>,
+) -> Result<(), AllocError>
+    requires { AllByRecursion (λ t. IsVerdict t verdicts.Misfit) (trials_before_alone column) }
+    ensures { OnOk result (others_in others.new.items ≡ others_in others.old.items ++ map misfit (trials_before_alone column)) }
+{
+    if let Some(column) = column {
+        others.push(Others::Alone(MisfitsAlone::of(column)))?;
+    }
+    Ok(())
+}
+
+/// Judges the trials of a column, as [`judge_row`] does those of a row.
+fn judge_column<A: Allocator + Copy, W: Watch>(
+    alloc: A,
+    column: Column<A>,
+    watch: &W,
+    others: &mut Vec<Others<A>, A>,
+) -> Result<Option<Judged<A>>, AllocError>
+    ensures { IfOk result (λ whole. AreJudgedUpTo (column_trials column) (others_in others.old.items) (others_in others.new.items) whole) }
+{
+    let count = count_misfits_alone(&column, watch);
+    if count > column.more().len() {
+        push_misfits_alone(Some(column), others)?;
+        return Ok(None);
+    }
+    let (before, trial) = column.split_at(alloc, count)?;
+    push_misfits_alone(before, others)?;
+    let judged = chr_search::judge(trial);
+    // For the proof: a trial that has all heads and isn't a misfit is whole.
+    let _verdict = judged.verdict();
+    Ok(Some(judged))
+}
+
+/// Puts misfits after the others. An `Err` is E01.
+fn push_misfits<A: Allocator + Copy>(
+    row: Option<Row<A>>,
+    others: &mut Vec<Others<A>, A>,
+) -> Result<(), AllocError>
+    requires { AllByRecursion (λ t. IsVerdict t verdicts.Misfit) (trials_before row) }
+    ensures { OnOk result (others_in others.new.items ≡ others_in others.old.items ++ map misfit (trials_before row)) }
+{
+    if let Some(row) = row {
+        others.push(Others::Misfits(Misfits::of(row)))?;
+    }
+    Ok(())
+}
+
+/// Judges a trial. Returns the judgement where it is whole, and else puts it after the others. An `Err` is E01.
+fn judge_one<A: Allocator + Copy>(
+    trial: Trial<A>,
+    others: &mut Vec<Others<A>, A>,
+) -> Result<Option<Judged<A>>, AllocError>
+    ensures { IfOk result (λ whole. AreJudgedUpTo (trial ∷ []) (others_in others.old.items) (others_in others.new.items) whole) }
+{
+    let judged = chr_search::judge(trial);
+    if judged.verdict() == Verdict::Whole {
+        return Ok(Some(judged));
+    }
+    others.push(Others::One(NotWhole::of(judged)))?;
+    Ok(None)
+}
+
+/// Judges the trials of a row, up to the first that is whole. Returns the judgement of that one, and puts the others after the
+/// others. An `Err` is E01.
+fn judge_row<A: Allocator + Copy, W: Watch>(
+    alloc: A,
+    row: Row<A>,
+    watch: &W,
+    others: &mut Vec<Others<A>, A>,
+) -> Result<Option<Judged<A>>, AllocError>
+    ensures { IfOk result (λ whole. AreJudgedUpTo (trials_of row) (others_in others.old.items) (others_in others.new.items) whole) }
+{
+    let count = count_misfits(&row, watch);
+    if count == row.lasts().len() {
+        push_misfits(Some(row), others)?;
+        return Ok(None);
+    }
+    let (before, trial) = row.split_at(alloc, count)?;
+    push_misfits(before, others)?;
+    let judged = chr_search::judge(trial);
+    // For the proof: a trial that has all heads and isn't a misfit is whole.
+    let _verdict = judged.verdict();
+    Ok(Some(judged))
+}
+
+/// Judges trials that are kept in one place, up to the first that is whole. Returns the judgement of that one, and puts the
+/// others after the others. An `Err` is E01.
+fn judge_some<A: Allocator + Copy, W: Watch>(
+    alloc: A,
+    trials: Trials<A>,
+    watch: &W,
+    others: &mut Vec<Others<A>, A>,
+) -> Result<Option<Judged<A>>, AllocError>
+    ensures { IfOk result (λ whole. AreJudgedUpTo (trials_at trials) (others_in others.old.items) (others_in others.new.items) whole) }
+{
+    match trials {
+        Trials::One(trial) => {
+            watch.before_judging();
+            judge_one(trial, others)
+        }
+        Trials::Row(row) => judge_row(alloc, row, watch, others),
+        Trials::Column(column) => judge_column(alloc, column, watch, others),
+    }
+}
+
+/// Judges the trials of a sheet in order, up to the first that is whole. Returns the judgement of that one, and puts the others
+/// after the others. An `Err` is E01.
+fn judge_all<A: Allocator + Copy, W: Watch>(
+    alloc: A,
+    sheet: Vec<Trials<A>, A>,
+    watch: &W,
+    others: &mut Vec<Others<A>, A>,
+) -> Result<Option<Judged<A>>, AllocError>
+    ensures { IfOk result (λ whole. AreJudgedUpTo (trials_in sheet.items) (others_in others.old.items) (others_in others.new.items) whole) }
+{
+    for trials in sheet {
+        if let Some(whole) = judge_some(alloc, trials, watch, others)? {
+            return Ok(Some(whole));
+        }
+    }
+    Ok(None)
+}
+
+/// Whether these trials can be counted, as those of any memory can.
+fn can_count<A: Allocator + Copy>(sheet: &[Trials<A>]) -> bool
+    ensures { IsTrue result → length (trials_in sheet.now) < 18446744073709551616 }
+{
+    let mut count = 0_usize;
+    for trials in sheet {
+        let Some(more) = count.checked_add(trials.len()) else {
+            return false;
+        };
+        count = more;
+    }
+    true
+}
+
+/// Judges the trials of a sheet in order, up to the first that is whole. An `Err` is E01.
+pub fn judge<A: Allocator + Copy, W: Watch>(
+    alloc: A,
+    sheet: Vec<Trials<A>, A>,
+    watch: &W,
+) -> Result<Judgements<A>, AllocError>
+    ensures { IfOk result (λ judgements. AreJudgedInOrder (trials_in sheet.items) (judgements_of judgements)) }
+{
+    if !can_count(&sheet) {
+        return Err(AllocError);
+    }
+    let mut others = Vec::with_capacity(alloc, sheet.len())?;
+    let whole = judge_all(alloc, sheet, watch, &mut others)?;
+    Ok(Judgements { others, whole })
+}

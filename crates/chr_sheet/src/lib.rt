@@ -1,0 +1,37 @@
+//! Sheets: the next trials of a search, read together, judged together and reported together.
+//!
+//! A search gives one trial at a time, and a verdict on it moves the search on. After a misfit the trial that comes next is the
+//! one that lies just after it, since no admissible trial begins with a misfit; so the trials that are to be asked for next can
+//! be read ahead, up to the first that is whole. [`read`] reads them from a store, [`judge`] judges them where the store isn't at
+//! hand, and [`report`] moves the search over those of them that are still the next ones there.
+//!
+//! Trials that have all heads and differ in their last label alone lie one after another. They are kept as a [`Row`]: their
+//! rule, head and other labels once, with the last labels and their atoms. The other labels are matched once a row, and the rule
+//! is compared once.
+//!
+//! At rules of one head, trials of the active label alone lie one after another too. They are kept as a [`Column`]: the first of
+//! them, and the rules and heads of the others. Their atom is kept once.
+//!
+//! - `Rows`: rows of trials.
+//! - `Columns`: columns of trials.
+//! - `Kept`: which trials and judgements are kept.
+//! - `Sheets`: what is read, judged and reported.
+#![tactic(auto)]
+
+mod column;
+mod judging;
+mod not_whole;
+mod others;
+mod reading;
+mod reporting;
+mod row;
+mod trials;
+
+pub use column::{Column, OneHead};
+pub use judging::{Judgements, Watch, judge};
+pub use not_whole::{Misfits, NotWhole};
+pub use others::Others;
+pub use reading::read;
+pub use reporting::{Reported, report};
+pub use row::Row;
+pub use trials::Trials;

@@ -1,0 +1,258 @@
+//! Reading the next trials of a search.
+ghost use Rattle.std.specs.Prelude.{⊤, ◌≡◌, ℕ, ◌≤◌, ◌+◌, List, ◌∷◌, ◌++◌, length, map, IfOk, OnOk, MatchOption};
+ghost use Rattle.chr_plan.specs.Orders.{heads_of};
+ghost use Rattle.chr_plan.specs.Plans.{ArePlans};
+ghost use Rattle.chr_search.specs.Fronts.{MayEnd, IsFront, IsPlacedAfter, ComeAfter};
+ghost use Rattle.chr_search.specs.Placed.{placed_as};
+ghost use Rattle.chr_search.specs.Tree.{LeastFrom};
+ghost use Rattle.chr_search.specs.Trials.{Space, older, IsTrial};
+ghost use Rattle.chr_search.specs.Verdicts.{Placed as PlacedView, Trial as TrialView, position, IsTrialOf};
+ghost use Rattle.chr_sheet.specs.Beside.{HasBeside, AreEnds, AreInTurn, last_of};
+ghost use Rattle.chr_sheet.specs.Columns.{head_of, AreNextHeads};
+ghost use Rattle.chr_sheet.specs.Kept.{trials_at, trials_in};
+ghost use Rattle.chr_sheet.specs.Sheets.{AreNext, AreNextTogether, IsNextTrial};
+
+use crate::column::{Column, OneHead};
+use crate::row::Row;
+use crate::trials::Trials;
+use chr_plan::Plans;
+use chr_rule::Program;
+use chr_search::{Ask, Front, Placed, Search, Trial};
+use chr_store::{Label, Store};
+use chr_value::Pred;
+use std::alloc::{AllocError, Allocator};
+use std::sync::Arc;
+
+/// The labels from one on with which trials of a front end, put after the others while they are fewer than so many. An `Err`
+/// is E01.
+fn push_ends<A: Allocator + Copy>(
+    alloc: A,
+    front: &mut Front<'_, A>,
+    lasts: &mut Vec<Placed<A>, A>,
+    first: Label,
+    most: usize,
+) -> Result<(), AllocError>
+    requires front { (s : Space) × (r : ℕ) × (h : ℕ) × (ls : List ℕ) × (l : ℕ) × IsFront s r h ls front.old × LeastFrom (MayEnd s (r ∷ h ∷ ls)) (l + 1) first × ((p : PlacedView) → MayEnd s (r ∷ h ∷ ls) p.label → IsPlacedAfter s r h (length ls) p → p.label ≤ 4294967295) }
+    requires few { length lasts.old.items ≤ most }
+    ensures few { OnOk result (length lasts.new.items ≤ most) }
+    ensures ends { OnOk result ((s : Space) (r h : ℕ) (ls : List ℕ) (l : ℕ) → IsFront s r h ls front.old → LeastFrom (MayEnd s (r ∷ h ∷ ls)) (l + 1) first → (more : List PlacedView) × (map placed_as lasts.new.items ≡ map placed_as lasts.old.items ++ more) × AreEnds s r h ls l more) }
+{
+    let mut next = Some(first);
+    'ends: while lasts.len() < most {
+        let Some(label) = next else {
+            break;
+        };
+        lasts.push(front.place(alloc, label)?)?;
+        next = front.next(label + 1);
+    }
+    Ok(())
+}
+
+/// Where a trial has all heads, two at least: the front of its labels but the last, and the least label past that one with
+/// which a trial ends. None where there is none.
+fn second_beside<'s, A: Allocator + Copy>(
+    first: &Trial<A>,
+    active: Label,
+    program: &'s Program<A>,
+    plans: &'s Plans<A>,
+    store: &'s Store<A>,
+) -> Option<(Front<'s, A>, Label)>
+    requires { ArePlans program.now plans.now }
+    ensures { MatchOption result ⊤ (λ found. HasBeside (older program.now plans.now store.now.entries active) first.now found.0 found.1) }
+{
+    let placed = first.placed();
+    let (last, before) = placed.split_last()?;
+    if before.is_empty() || placed.len() != first.rule().heads() {
+        return None;
+    }
+    let mut front = Front::of(
+        program,
+        plans,
+        store,
+        active,
+        first.number(),
+        first.head(),
+        before,
+    )?;
+    let second = front.next(last.label + 1)?;
+    Some((front, second))
+}
+
+/// The heads of rules of one head at which an atom of a predicate is tried next after a rule and a head, one after another, at
+/// most so many. An `Err` is E01.
+fn next_heads<A: Allocator + Copy>(
+    alloc: A,
+    program: &Program<A>,
+    pred: Pred,
+    after: (u16, u8),
+    most: usize,
+) -> Result<Vec<OneHead<A>, A>, AllocError>
+    requires { after.1 ≤ 6 }
+    ensures few { IfOk result (λ heads. length heads.items ≤ most) }
+    ensures next { IfOk result (λ heads. AreNextHeads program.now pred after.0 after.1 (map head_of heads.items)) }
+{
+    let (mut number, mut head) = after;
+    let mut near = 0;
+    let mut heads = Vec::new(alloc);
+    'heads: while heads.len() < most {
+        let Some(found) = program.next_occurrence(pred, number, head + 1, &mut near) else {
+            break;
+        };
+        let Some(rule) = program.rule(usize::from(found.0)) else {
+            break;
+        };
+        if rule.heads() != 1 {
+            break;
+        }
+        (number, head) = found;
+        heads.push(OneHead {
+            rule: Arc::try_clone(rule)?,
+            number,
+            head,
+        })?;
+    }
+    Ok(heads)
+}
+
+/// A trial of one label, at a rule of one head, with those that come next after it at rules of one head, at most so many. An
+/// `Err` is E01.
+fn in_column<A: Allocator + Copy>(
+    alloc: A,
+    active: Label,
+    first: Trial<A>,
+    most: usize,
+    program: &Program<A>,
+    plans: &Plans<A>,
+    store: &Store<A>,
+) -> Result<Trials<A>, AllocError>
+    requires plans { ArePlans program.now plans.now }
+    requires some { 1 ≤ most }
+    requires full { length (heads_of first.rule) ≡ 1 }
+    requires first { let s = older program.now plans.now store.now.entries active in IsTrial s (position first) × IsTrialOf s.rules s.plans s.store first }
+    ensures { IfOk result (λ trials. AreInTurn (older program.now plans.now store.now.entries active) most first (trials_at trials)) }
+{
+    // For the proof: the rules are valid, and the labels of a store are at most the greatest.
+    let _rules = program.rules();
+    let _given = store.next_label();
+    let after = (first.number(), first.head());
+    let pred = first.placed()[0].atom.pred();
+    let more = next_heads(alloc, program, pred, after, most - 1)?;
+    if more.is_empty() {
+        return Ok(Trials::One(first));
+    }
+    Ok(Trials::Column(Column::new(first, more)))
+}
+
+/// A trial with those that come next after it, at most so many: where it has all heads, two at least, those that differ from it in
+/// their last label alone; where its rule has one head, those of its label at rules of one head. An `Err` is E01.
+fn in_turn<A: Allocator + Copy>(
+    alloc: A,
+    active: Label,
+    first: Trial<A>,
+    most: usize,
+    program: &Program<A>,
+    plans: &Plans<A>,
+    store: &Store<A>,
+) -> Result<Trials<A>, AllocError>
+    requires plans { ArePlans program.now plans.now }
+    requires some { 1 ≤ most }
+    requires first { let s = older program.now plans.now store.now.entries active in IsTrial s (position first) × IsTrialOf s.rules s.plans s.store first }
+    ensures { IfOk result (λ trials. AreInTurn (older program.now plans.now store.now.entries active) most first (trials_at trials)) }
+{
+    if most == 1 {
+        return Ok(Trials::One(first));
+    }
+    if first.rule().heads() == 1 {
+        return in_column(alloc, active, first, most, program, plans, store);
+    }
+    let Some((mut front, second)) = second_beside(&first, active, program, plans, store) else {
+        return Ok(Trials::One(first));
+    };
+    // For the proof: the rules are valid, and the labels of a store are at most the greatest.
+    let _rules = program.rules();
+    let _given = store.next_label();
+    let (part, last) = first.split_last();
+    let mut lasts = Vec::new(alloc);
+    lasts.push(last)?;
+    push_ends(alloc, &mut front, &mut lasts, second, most)?;
+    Ok(Trials::Row(Row::new(part, lasts)))
+}
+
+/// Moves a search to those that come after the last of these trials.
+fn go_behind<A: Allocator + Copy>(
+    search: &mut Search,
+    trials: &Trials<A>,
+    program: &Program<A>,
+    plans: &Plans<A>,
+    store: &Store<A>,
+)
+    requires plans { ArePlans program.now plans.now }
+    requires low { search.old.label ≤ 4294967295 }
+    ensures label { search.new.label ≡ search.old.label }
+    ensures place { let s = older program.now plans.now store.now.entries search.old.label in (t : TrialView) (more : List TrialView) → trials_at trials.now ≡ t ∷ more → IsTrial s (position (last_of t more)) → IsTrialOf s.rules s.plans s.store (last_of t more) → ComeAfter s search.new.place (position (last_of t more)) }
+{
+    // For the proof: the rules are valid.
+    let _rules = program.rules();
+    match trials {
+        Trials::One(trial) => search.go_after(trial, program, plans, store),
+        Trials::Column(column) => {
+            let (number, head) = column.last();
+            search.go_past_alone(number, head);
+        }
+        Trials::Row(row) => {
+            let lasts = row.lasts();
+            search.go_past(row.part(), lasts[lasts.len() - 1].label);
+        }
+    }
+}
+
+/// A trial with those that come next after it and make a row or a column with it, at most so many. The search moves on after
+/// them. An `Err` is E01.
+fn with_those_beside<A: Allocator + Copy>(
+    alloc: A,
+    search: &mut Search,
+    first: Trial<A>,
+    most: usize,
+    program: &Program<A>,
+    plans: &Plans<A>,
+    store: &Store<A>,
+) -> Result<Trials<A>, AllocError>
+    requires plans { ArePlans program.now plans.now }
+    requires some { 1 ≤ most }
+    requires first { IsNextTrial (older program.now plans.now store.now.entries search.old.label) search.old.place first }
+    ensures trials { IfOk result (λ trials. AreNextTogether (older program.now plans.now store.now.entries search.old.label) most search.old.place (trials_at trials) search.new.place) }
+    ensures label { search.new.label ≡ search.old.label }
+{
+    // For the proof: the labels of a trial are at most the greatest.
+    let _placed = first.placed();
+    let trials = in_turn(alloc, search.label(), first, most, program, plans, store)?;
+    go_behind(search, &trials, program, plans, store);
+    Ok(trials)
+}
+
+/// The next trials of a search, at or after its position, whatever the verdicts on them: at most so many, and as many unless
+/// none is left. E01 where memory ran out.
+pub fn read<A: Allocator + Copy>(
+    alloc: A,
+    search: &Search,
+    most: usize,
+    program: &Program<A>,
+    plans: &Plans<A>,
+    store: &Store<A>,
+) -> Result<Vec<Trials<A>, A>, AllocError>
+    requires { ArePlans program.now plans.now }
+    ensures { IfOk result (λ sheet. AreNext (older program.now plans.now store.now.entries search.now.label) most search.now.place (trials_in sheet.items)) }
+{
+    let mut sheet = Vec::new(alloc);
+    let mut ahead = search.copy();
+    let mut left = most;
+    while left > 0 {
+        let Ask::Trial(first) = ahead.candidate(alloc, program, plans, store)? else {
+            break;
+        };
+        let trials = with_those_beside(alloc, &mut ahead, first, left, program, plans, store)?;
+        left -= trials.len();
+        sheet.push(trials)?;
+    }
+    Ok(sheet)
+}

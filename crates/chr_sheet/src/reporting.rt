@@ -1,0 +1,288 @@
+//! Reporting the judgements of a sheet.
+ghost use Rattle.std.specs.Prelude.{◌≡◌, ◌≤◌, ◌↔◌, IsTrue, Some, ◌∷◌, ◌++◌, ⊤, [], ℕ, List, length, map, MatchOption};
+ghost use Rattle.std.specs.List.{AllByRecursion};
+ghost use Rattle.chr_search.specs.Judged.{IsVerdict};
+ghost use Rattle.chr_plan.specs.Plans.{ArePlans};
+ghost use Rattle.chr_search.specs.Fronts.{MayEnd};
+ghost use Rattle.chr_search.specs.Trials.{Space, older, IsNext};
+ghost use Rattle.chr_search.specs.Verdicts.{IsTrialOf, position};
+ghost use Rattle.chr_sheet.specs.Kept.{others_at};
+ghost use Rattle.chr_rule.specs.Rules.{rule_at};
+ghost use Rattle.chr_sheet.specs.Columns.{column_trials};
+ghost use Rattle.chr_sheet.specs.Alone.{IsAloneIn, IsAloneOf, place_past};
+ghost use Rattle.chr_sheet.specs.Rows.{misfit, trials_of};
+ghost use Rattle.chr_sheet.specs.Sheets.{IsFireable, IsFrontOf, Reports, place_after};
+
+use crate::column::Column;
+use crate::judging::Judgements;
+use crate::not_whole::NotWhole;
+use crate::others::Others;
+use crate::row::Row;
+use chr_plan::Plans;
+use chr_rule::{Program, Rule};
+use chr_search::{Front, Search, Trial};
+use chr_store::{Label, Store};
+use std::alloc::Allocator;
+
+/// What was reported of judgements.
+#[derive(Clone, Copy, Debug, PartialEq, Eq)]
+pub struct Reported {
+    /// How many of those that aren't whole came next in their turn.
+    pub count: usize,
+    /// Whether there is one that is whole, and it comes next then.
+    pub whole_is_next: bool,
+}
+
+/// What the admissible trials of an active label have in common that begin with a trial and have one label more. None where
+/// there is no such trial.
+fn front_of<'s, A: Allocator + Copy>(
+    part: &Trial<A>,
+    active: Label,
+    program: &'s Program<A>,
+    plans: &'s Plans<A>,
+    store: &'s Store<A>,
+) -> Option<Front<'s, A>>
+    requires plans { ArePlans program.now plans.now }
+    requires few { length part.now.placed ≤ 5 }
+    ensures { let s = older program.now plans.now store.now.entries active in MatchOption result ((l : ℕ) → MayEnd s (position part.now) l → ⊥) (IsFrontOf s part.now) }
+{
+    Front::of(
+        program,
+        plans,
+        store,
+        active,
+        part.number(),
+        part.head(),
+        part.placed(),
+    )
+}
+
+/// How many trials of a row come next in their turn, and the last label of the last one that does. The label is that of the
+/// trial that comes next, where that begins with the row's part.
+fn meet<A: Allocator + Copy>(
+    front: &mut Front<'_, A>,
+    row: &Row<A>,
+    first: Label,
+) -> (usize, Option<Label>)
+    requires { (s : Space) × IsFrontOf s row.now.part front.old }
+    ensures reports { (s : Space) (place : List ℕ) → IsFrontOf s row.now.part front.old → IsTrialOf s.rules s.plans s.store row.now.part → IsNext s place (position row.now.part ++ first ∷ []) → Reports s place (map misfit (trials_of row.now)) result.0 (place_after place row.now.part result.1) }
+    ensures low { MatchOption result.1 ⊤ (λ last. last ≤ 4294967295) }
+{
+    let mut next = Some(first);
+    let mut count = 0;
+    let mut met = None;
+    for last in row.lasts() {
+        if next != Some(last.label) || !front.has(last) {
+            continue;
+        }
+        count += 1;
+        met = Some(last.label);
+        next = front.next(last.label + 1);
+    }
+    (count, met)
+}
+
+/// Moves a search over the trials of a row that are misfits, where each is the next trial in its turn. Returns how many were.
+fn pass_misfits<A: Allocator + Copy>(
+    search: &mut Search,
+    row: &Row<A>,
+    program: &Program<A>,
+    plans: &Plans<A>,
+    store: &Store<A>,
+) -> usize
+    requires { ArePlans program.now plans.now }
+    ensures label { search.new.label ≡ search.old.label }
+    ensures reports { Reports (older program.now plans.now store.now.entries search.old.label) search.old.place (map misfit (trials_of row.now)) result search.new.place }
+{
+    let part = row.part();
+    let Some(first) = search.next_beside(part, program, plans, store) else {
+        return 0;
+    };
+    if !part.stands_in(program, plans, store) {
+        return 0;
+    }
+    let Some(mut front) = front_of(part, search.label(), program, plans, store) else {
+        return 0;
+    };
+    let (count, met) = meet(&mut front, row, first);
+    if let Some(last) = met {
+        search.go_past(part, last);
+    }
+    count
+}
+
+/// Whether a program's rule of a number is this one.
+fn has_rule<A: Allocator + Copy>(program: &Program<A>, number: u16, rule: &Rule<A>) -> bool
+    ensures { IsTrue result ↔ (rule_at program.now number ≡ Some rule.now) }
+{
+    match program.rule(usize::from(number)) {
+        Some(found) => found.same(rule),
+        None => false,
+    }
+}
+
+/// Whether a rule of a program and a head of it, by their numbers, are those that come next.
+fn is_at<A: Allocator + Copy>(
+    program: &Program<A>,
+    next: Option<(u16, u8)>,
+    at: (u16, u8),
+    rule: &Rule<A>,
+) -> bool
+    ensures { IsTrue result ↔ ((next ≡ Some at) × (rule_at program.now at.0 ≡ Some rule.now)) }
+{
+    next == Some(at) && has_rule(program, at.0, rule)
+}
+
+/// How many trials of a column come next in their turn, and the rule and the head of the last one that does. These are the rule
+/// and the head of the first trial that comes next.
+fn meet_alone<A: Allocator + Copy>(
+    program: &Program<A>,
+    column: &Column<A>,
+    first: (u16, u8),
+) -> (usize, Option<(u16, u8)>)
+    requires { (s : Space) × (place : List ℕ) × IsAloneOf s program.now column.now.first × IsNext s place (first.0 ∷ first.1 ∷ s.active ∷ []) }
+    ensures reports { (s : Space) (place : List ℕ) → IsAloneOf s program.now column.now.first → IsNext s place (first.0 ∷ first.1 ∷ s.active ∷ []) → Reports s place (map misfit (column_trials column.now)) result.0 (place_past place s.active result.1) }
+    ensures met { MatchOption result.1 ⊤ (λ o. (1 ≤ o.0) × (1 ≤ o.1)) }
+{
+    let trial = column.first();
+    let pred = trial.placed()[0].atom.pred();
+    let at = (trial.number(), trial.head());
+    let mut near = 0;
+    let mut next = Some(first);
+    let mut count = 0;
+    let mut met = None;
+    if is_at(program, next, at, trial.rule()) {
+        count = 1;
+        met = Some(at);
+        next = program.next_occurrence(pred, at.0, at.1 + 1, &mut near);
+    }
+    for other in column.more() {
+        let at = (other.number, other.head);
+        if !is_at(program, next, at, &other.rule) {
+            continue;
+        }
+        count += 1;
+        met = Some(at);
+        next = program.next_occurrence(pred, at.0, at.1 + 1, &mut near);
+    }
+    (count, met)
+}
+
+/// Whether a trial has the active label alone, with its atom.
+fn is_alone_in<A: Allocator + Copy>(trial: &Trial<A>, active: Label, store: &Store<A>) -> bool
+    requires { length trial.now.placed ≡ 1 }
+    ensures { IsTrue result ↔ IsAloneIn store.now.entries active trial.now }
+{
+    let one = &trial.placed()[0];
+    match store.get(active) {
+        Some(atom) => one.label == active && one.atom.same(atom),
+        None => false,
+    }
+}
+
+/// Moves a search over the trials of a column that are misfits, where each comes next in its turn. Returns how many were.
+fn pass_alone<A: Allocator + Copy>(
+    search: &mut Search,
+    column: &Column<A>,
+    program: &Program<A>,
+    plans: &Plans<A>,
+    store: &Store<A>,
+) -> usize
+    requires { ArePlans program.now plans.now }
+    ensures label { search.new.label ≡ search.old.label }
+    ensures reports { Reports (older program.now plans.now store.now.entries search.old.label) search.old.place (map misfit (column_trials column.now)) result search.new.place }
+{
+    if !is_alone_in(column.first(), search.label(), store) {
+        return 0;
+    }
+    let Some(first) = search.next_alone(program, plans, store) else {
+        return 0;
+    };
+    let (count, met) = meet_alone(program, column, first);
+    if let Some((number, head)) = met {
+        search.go_past_alone(number, head);
+    }
+    count
+}
+
+/// Moves a search over a judged trial, where it is the next one. Returns how many were.
+fn pass_one<A: Allocator + Copy>(
+    search: &mut Search,
+    judged: &NotWhole<A>,
+    program: &Program<A>,
+    plans: &Plans<A>,
+    store: &Store<A>,
+) -> usize
+    requires { ArePlans program.now plans.now }
+    ensures label { search.new.label ≡ search.old.label }
+    ensures reports { Reports (older program.now plans.now store.now.entries search.old.label) search.old.place (judged.now ∷ []) result search.new.place }
+{
+    if search.is_next(judged.trial(), program, plans, store) != Some(true) {
+        return 0;
+    }
+    search.advance_by(judged.trial(), judged.verdict());
+    1
+}
+
+/// Moves a search over judgements that are kept in one place. Returns how many of their trials were the next one in their turn.
+fn pass_some<A: Allocator + Copy>(
+    search: &mut Search,
+    some: &Others<A>,
+    program: &Program<A>,
+    plans: &Plans<A>,
+    store: &Store<A>,
+) -> usize
+    requires { ArePlans program.now plans.now }
+    ensures label { search.new.label ≡ search.old.label }
+    ensures reports { Reports (older program.now plans.now store.now.entries search.old.label) search.old.place (others_at some.now) result search.new.place }
+{
+    match some {
+        Others::One(judged) => pass_one(search, judged, program, plans, store),
+        Others::Misfits(misfits) => pass_misfits(search, misfits.row(), program, plans, store),
+        Others::Alone(misfits) => pass_alone(search, misfits.column(), program, plans, store),
+    }
+}
+
+/// Whether there is a judgement that is whole, and its trial is the next one.
+fn is_fireable<A: Allocator + Copy>(
+    search: &Search,
+    judgements: &Judgements<A>,
+    program: &Program<A>,
+    plans: &Plans<A>,
+    store: &Store<A>,
+) -> bool
+    requires { ArePlans program.now plans.now }
+    ensures { IsFireable (older program.now plans.now store.now.entries search.now.label) search.now.place judgements.now.whole result }
+{
+    match judgements.whole() {
+        Some(judged) => search.is_next(judged.trial(), program, plans, store) == Some(true),
+        None => false,
+    }
+}
+
+/// Moves a search over judged trials in order, where each is the next one in its turn; those that aren't are passed over, and
+/// so is one that is whole. It takes no memory.
+pub fn report<A: Allocator + Copy>(
+    search: &mut Search,
+    judgements: &Judgements<A>,
+    program: &Program<A>,
+    plans: &Plans<A>,
+    store: &Store<A>,
+) -> Reported
+    requires { ArePlans program.now plans.now }
+    ensures label { search.new.label ≡ search.old.label }
+    ensures reports { Reports (older program.now plans.now store.now.entries search.old.label) search.old.place judgements.now.others result.count search.new.place }
+    ensures right { AllByRecursion (λ j. IsVerdict j.trial j.verdict) judgements.now.others }
+    ensures whole { IsFireable (older program.now plans.now store.now.entries search.old.label) search.new.place judgements.now.whole result.whole_is_next }
+{
+    let mut count = 0;
+    for some in judgements.others() {
+        // For the proof: the verdicts are the right ones.
+        some.are_right();
+        count += pass_some(search, some, program, plans, store);
+    }
+    Reported {
+        count,
+        whole_is_next: is_fireable(search, judgements, program, plans, store),
+    }
+}
