@@ -181,14 +181,22 @@ pub fn any_wide<A: Allocator>(phrases: &[ParsedAtom<'_, A>]) -> bool
     false
 }
 
+fn adds_many_args<A: Allocator>(member: &BodyMember<'_, A>) -> bool
+    ensures { result ≡ adds_many_args (by_texts.member member.now) }
+{
+    match member {
+        BodyMember::True => false,
+        BodyMember::Is(..) => false,
+        BodyMember::Add(phrase) => phrase.args.len() > MOST_ARGS,
+    }
+}
+
 fn adds_wide<A: Allocator>(body: &[BodyMember<'_, A>]) -> bool
     ensures { result ≡ list_any adds_many_args (map by_texts.member body.now) }
 {
     for member in body {
-        if let BodyMember::Add(phrase) = member {
-            if phrase.args.len() > MOST_ARGS {
-                return true;
-            }
+        if adds_many_args(member) {
+            return true;
         }
     }
     false
@@ -233,16 +241,24 @@ pub fn count_comparisons<A: Allocator>(guard: &[GuardMember<'_, A>]) -> usize
     count
 }
 
+fn is_item<A: Allocator>(member: &BodyMember<'_, A>) -> bool
+    ensures { result ≡ is_item (by_texts.member member.now) }
+{
+    match member {
+        BodyMember::True => false,
+        BodyMember::Is(..) => true,
+        BodyMember::Add(_) => true,
+    }
+}
+
 /// How many members of a body are more than `true`.
 pub fn count_items<A: Allocator>(body: &[BodyMember<'_, A>]) -> usize
     ensures { result ≡ length (filter is_item (map by_texts.member body.now)) }
 {
     let mut count = 0;
     for member in body {
-        match member {
-            BodyMember::True => {}
-            BodyMember::Is(..) => count += 1,
-            BodyMember::Add(_) => count += 1,
+        if is_item(member) {
+            count += 1;
         }
     }
     count

@@ -107,14 +107,22 @@ fn any_compares<A: Allocator>(guard: &[GuardMember<'_, A>]) -> bool
     false
 }
 
+fn adds_large_args<A: Allocator>(member: &BodyMember<'_, A>) -> bool
+    ensures { result ≡ adds_large_args (by_texts.member member.now) }
+{
+    match member {
+        BodyMember::True => false,
+        BodyMember::Is(..) => false,
+        BodyMember::Add(phrase) => any_large_term(&phrase.args),
+    }
+}
+
 fn any_adds<A: Allocator>(body: &[BodyMember<'_, A>]) -> bool
     ensures { result ≡ list_any adds_large_args (map by_texts.member body.now) }
 {
     for member in body {
-        if let BodyMember::Add(phrase) = member {
-            if any_large_term(&phrase.args) {
-                return true;
-            }
+        if adds_large_args(member) {
+            return true;
         }
     }
     false

@@ -63,6 +63,13 @@ expression_fits seen (parsed.Operation o a b) fits room =
 pub is_room : (seen : Seen) (x : List ℕ) (e : parsed.ParsedExpression) → length (expression (number_variable seen x).1 e).1 ≤ 24 → length (number_variable seen x).1 ≤ 24
 is_room seen x e h = omega (arith, expression_grows (number_variable seen x).1 e)
 
+-- room for two, one after the other, is room for the first
+pub first_room : (seen : Seen) (a b : parsed.ParsedTerm) → length (argument (argument seen a).1 b).1 ≤ 24 → length (argument seen a).1 ≤ 24
+first_room seen a b h = omega (arith, argument_grows (argument seen a).1 b)
+
+pub left_fits : (seen : Seen) (a b : parsed.ParsedExpression) → FormulaFits a → length (expression (expression seen a).1 b).1 ≤ 24 → ExpressionFits seen a
+left_fits seen a b fits h = expression_fits seen a fits (omega (arith, expression_grows (expression seen a).1 b))
+
 -- a rule has no more variables in a part than in the whole
 pub kept_room : (r : parsed.ParsedRule) → length (after_body r) ≤ 24 → length (after_kept r) ≤ 24
 kept_room r h = omega (arith, in_turn_grows rule_atom shape_grows (after_kept r) r.removed, in_turn_grows test test_grows (after_heads r) r.guard, in_turn_grows member member_grows (after_guard r) r.body)

@@ -1,11 +1,13 @@
 -- Terms that are built, and stacks of them.
-use Rattle.std.proofs.Common.{◌≡◌, ℕ, Bool, false, List, [], ◌∷◌, ◌++◌, length, map, reverse, append_assoc, Box, refl, sym, ap, ap₂, ◌∙◌}
+use Rattle.std.proofs.Common.{◌≡◌, ◌≤◌, ◌<◌, ◌+◌, ℕ, Bool, true, false, List, [], ◌∷◌, ◌++◌, length, get_or, drop, map, reverse, append_assoc, Box, refl, sym, ap, ap₂, ◌∙◌, arith}
+use Rattle.std.specs.Prelude.{nat_lt, if◌then◌else◌}
 use Rattle.std.specs.List.{list_any}
 use Rattle.std.proofs.lemmas.List.{append-nil, map_push, reverse-append, nil_from_length}
-use Rattle.chr_value.specs.Atoms.{Value, Comp, args_of, ground, grounds}
+use Rattle.chr_value.specs.Atoms.{Value, Int, Sym, Comp, args_of, ground, grounds}
 use Rattle.chr_value.specs.declared.value.Value as values_of_code
 use Rattle.chr_value.specs.declared.value.Value.{Value as CodeValue}
 use Rattle.chr_value.specs.declared.value.Comp.{Comp as CodeComp}
+use Rattle.chr_value.specs.declared.names.Name.{Name}
 use Rattle.chr_value.proofs.Levels.{ground-Comp}
 use Rattle.chr_rule.specs.Rules.{Term, Var, Given, Open}
 use Rattle.chr_rule.specs.Parts.{argument}
@@ -14,10 +16,15 @@ use Rattle.chr_rule.specs.declared.term.Term as terms
 use Rattle.chr_rule.specs.declared.term.Term.{Term as CodeTerm}
 use Rattle.chr_rule.specs.declared.term.Open.{Open as CodeOpen}
 use Rattle.chr_rule.proofs.Levels.{argument-Var, argument-Given, argument-parts}
-use Rattle.chr_text.specs.Terms.{values, functor_with, terms_of_words, term_of_words, first_of, Placed}
-use Rattle.chr_text.specs.Trees.{placed, from_top}
+use Rattle.chr_text.specs.declared.words.NumberedWord.{NumberedWord}
+use Rattle.chr_text.specs.declared.words.NumberedWord.TheVariants as numbered
+use Rattle.chr_text.specs.declared.words.NumberedNode.{NumberedNode}
+use Rattle.chr_text.specs.Terms.{values, functor_with, with_args, inside, behind, terms_of_words, term_of_words, first_of, Placed}
+use Rattle.chr_text.specs.Trees.{placed, from_top, is_deeper}
+use Rattle.chr_text.specs.Words.{word_term, placed_word}
 use Rattle.chr_text.specs.declared.trees.PlacedTerm.{PlacedTerm}
 use Rattle.chr_text.proofs.Numbered.{functor_with-values}
+use Rattle.chr_text.proofs.Places.{map_at}
 
 -- ---- the values among terms
 
@@ -56,6 +63,27 @@ pub value_made : {A : Type 0} (b : Box (CodeComp A) A) (n : ℕ) (ts : List (Ter
 value_made b n ts named are none =
     argument-Given (values_of_code.Comp b) ∙ ap (λ v. Given v) (ground-Comp b) ∙ ap₂ (λ (f : ℕ) vs. Given (Comp f (args_of vs))) named are ∙ sym (functor_with-values n ts none)
 
+-- ---- a word with its arguments
+
+pub no_args : {N : Type 0} (t : Term N) → with_args t [] ≡ t
+no_args (Var x) = refl
+no_args (Given (Int z)) = refl
+no_args (Given (Sym s)) = refl
+no_args (Given (Comp s vs)) = refl
+no_args (Open s ts) = refl
+
+pub no_name : (w : NumberedWord) (ts : List (Term ℕ)) → ((n : Name) → w ≡ numbered.Name n → ⊥) → with_args (word_term w) ts ≡ word_term w
+no_name (numbered.Variable x) ts other = refl
+no_name (numbered.Name n) ts other = absurd (other n refl)
+no_name (numbered.Number z) ts other = refl
+
+name_args : (n : ℕ) (ts : List (Term ℕ)) → 0 < length ts → with_args (Given (Sym n)) ts ≡ functor_with n ts
+name_args n [] some = absurd (omega arith)
+name_args n (t ∷ ts) some = refl
+
+pub named_args : (w : NumberedWord) (n : Name) (ts : List (Term ℕ)) → w ≡ numbered.Name n → 0 < length ts → with_args (word_term w) ts ≡ functor_with n.number ts
+named_args w n ts is some = ap (λ v. with_args (word_term v) ts) is ∙ name_args n.number ts some
+
 -- ---- stacks
 
 pub top_first : {A : Type 0} (stack rest : List (PlacedTerm A)) (top : PlacedTerm A) → stack ≡ rest ++ top ∷ [] → from_top stack ≡ placed top ∷ from_top rest
@@ -66,3 +94,54 @@ built stack rest top ws is are = ap first_of (sym (top_first stack rest top is) 
 
 pub none_built : {A : Type 0} (stack : List (PlacedTerm A)) (ws : List (Placed ℕ)) → length stack ≡ 0 → from_top stack ≡ terms_of_words ws → argument {A = A} (terms.Var 0) ≡ term_of_words ws
 none_built {A} stack ws empty are = argument-Var A 0 ∙ ap first_of (sym (ap from_top (nil_from_length stack empty)) ∙ are)
+
+-- a word alone
+pub alone : (words : List NumberedNode) (d : NumberedNode) → 1 ≤ length words → length words < 2 → word_term (get_or words 0 d).word ≡ term_of_words (map placed_word words)
+alone [] d some few = absurd (omega arith)
+alone (w ∷ []) d some few = sym (no_args (word_term w.word))
+alone (w ∷ v ∷ ws) d some few = absurd (omega arith)
+
+-- the word at a place takes the terms inside it from the stack
+pub word_built : {A : Type 0} (words : List NumberedNode) (i place : ℕ) (d : NumberedNode) (stack left new : List (PlacedTerm A)) (args : List (CodeTerm A)) (top : PlacedTerm A) → i + 1 ≡ place → place ≤ length words → from_top stack ≡ terms_of_words (map placed_word (drop place words))
+    → map argument args ≡ inside (get_or words i d).depth (from_top stack) → from_top left ≡ behind (get_or words i d).depth (from_top stack) → argument top.term ≡ with_args (word_term (get_or words i d).word) (map argument args) → top.depth ≡ (get_or words i d).depth → new ≡ left ++ top ∷ []
+    → from_top new ≡ terms_of_words (map placed_word (drop i words))
+word_built words i place d stack left new args top next within so_far taken rest made deep grows =
+    let w = get_or words i d in
+    let behind_it = map placed_word (drop place words) in
+    let split : map placed_word (drop i words) ≡ placed_word w ∷ behind_it = map_at placed_word words i d (omega arith) ∙ ap (λ (k : ℕ). placed_word w ∷ map placed_word (drop k words)) next in
+    let one : placed top ≡ (w.depth, with_args (word_term w.word) (inside w.depth (terms_of_words behind_it))) = ap₂ (λ (n : ℕ) (t : Term ℕ). (n, t)) deep (made ∙ ap (with_args (word_term w.word)) (taken ∙ ap (inside w.depth) so_far)) in
+    top_first new left top grows ∙ ap₂ (λ (t : Placed ℕ) ts. t ∷ ts) one (rest ∙ ap (behind w.depth) so_far) ∙ ap terms_of_words (sym split)
+
+-- ---- what is taken from a stack
+
+deep_inside : (d : ℕ) (t : Placed ℕ) (ts : List (Placed ℕ)) → nat_lt d t.0 ≡ true → inside d (t ∷ ts) ≡ t.1 ∷ inside d ts
+deep_inside d t ts deep = ap (λ (b : Bool). if b then t.1 ∷ inside d ts else []) deep
+
+deep_behind : (d : ℕ) (t : Placed ℕ) (ts : List (Placed ℕ)) → nat_lt d t.0 ≡ true → behind d (t ∷ ts) ≡ behind d ts
+deep_behind d t ts deep = ap (λ (b : Bool). if b then behind d ts else t ∷ ts) deep
+
+pub top_behind : {A : Type 0} (d : ℕ) (stack rest : List (PlacedTerm A)) (top : PlacedTerm A) → stack ≡ rest ++ top ∷ [] → is_deeper d (from_top stack) ≡ true → behind d (from_top stack) ≡ behind d (from_top rest)
+top_behind d stack rest top is deeper =
+    let first = top_first stack rest top is in
+    ap (behind d) first ∙ deep_behind d (placed top) (from_top rest) (ap (is_deeper d) (sym first) ∙ deeper)
+
+pub top_taken : {A : Type 0} (d : ℕ) (stack rest : List (PlacedTerm A)) (top : PlacedTerm A) (made grown : List (CodeTerm A)) (total : List (Term ℕ)) → stack ≡ rest ++ top ∷ [] → is_deeper d (from_top stack) ≡ true → grown ≡ made ++ top.term ∷ []
+    → map argument made ++ inside d (from_top stack) ≡ total → map argument grown ++ inside d (from_top rest) ≡ total
+top_taken d stack rest top made grown total is deeper grows so_far =
+    let first = top_first stack rest top is in
+    let here : inside d (from_top stack) ≡ argument top.term ∷ inside d (from_top rest) = ap (inside d) first ∙ deep_inside d (placed top) (from_top rest) (ap (is_deeper d) (sym first) ∙ deeper) in
+    ap (λ l. l ++ inside d (from_top rest)) (ap (map argument) grows ∙ map_push argument made top.term) ∙ append_assoc (map argument made) (argument top.term ∷ []) (inside d (from_top rest)) ∙ ap (λ l. map argument made ++ l) (sym here) ∙ so_far
+
+none_inside : (d : ℕ) (ts : List (Placed ℕ)) → is_deeper d ts ≡ false → inside d ts ≡ []
+none_inside d [] h = refl
+none_inside d (t ∷ ts) h = ap (λ (b : Bool). if b then t.1 ∷ inside d ts else []) h
+
+pub all_behind : (d : ℕ) (ts : List (Placed ℕ)) → is_deeper d ts ≡ false → behind d ts ≡ ts
+all_behind d [] h = refl
+all_behind d (t ∷ ts) h = ap (λ (b : Bool). if b then behind d ts else t ∷ ts) h
+
+pub all_taken : (d : ℕ) (ts : List (Placed ℕ)) (made total : List (Term ℕ)) → is_deeper d ts ≡ false → made ++ inside d ts ≡ total → made ≡ total
+all_taken d ts made total h so_far = sym (append-nil made) ∙ ap (λ l. made ++ l) (sym (none_inside d ts h)) ∙ so_far
+
+pub is_told : {A : Type 0} (d : ℕ) (stack now : List (PlacedTerm A)) (result b : Bool) → now ≡ stack → result ≡ is_deeper d (from_top now) → result ≡ b → is_deeper d (from_top stack) ≡ b
+is_told d stack now result b same told is = ap (λ s. is_deeper d (from_top s)) (sym same) ∙ sym told ∙ is

@@ -1,13 +1,13 @@
 //! Rules from what is written: names and variables get their numbers.
-ghost use Rattle.std.specs.Prelude.{◌≡◌, ◌≤◌, ◌++◌, map, length, IfOk, OnOk, IfErr};
+ghost use Rattle.std.specs.Prelude.{◌≡◌, ◌≤◌, ◌∷◌, ◌++◌, [], map, length, IfOk, OnOk, IfErr};
 ghost use Rattle.std.specs.Option.{option_map};
 ghost use Rattle.std.specs.List.{AllByRecursion};
 ghost use Rattle.chr_lex.specs.Reading.{Gives};
 ghost use Rattle.chr_grammar.specs.Views as by_texts;
 ghost use Rattle.chr_limits.specs.Views.{names as texts};
-ghost use Rattle.chr_rule.specs.Parts.{shape, expression, comparison, member as item_of};
+ghost use Rattle.chr_rule.specs.Parts.{argument, shape, expression, comparison, member as item_of};
 ghost use Rattle.chr_rule.specs.Rules.{Operation};
-ghost use Rattle.chr_text.specs.Fitting.{ShapeFits, ExpressionFits, TestFits, MemberFits, RuleFits};
+ghost use Rattle.chr_text.specs.Fitting.{TermFits, ShapeFits, ExpressionFits, TestFits, MemberFits, RuleFits};
 ghost use Rattle.chr_text.specs.Numbering as numbering;
 ghost use Rattle.chr_text.specs.Numbering.{or_full, each, maybe, put};
 ghost use Rattle.chr_text.specs.Translation as raw;
@@ -18,10 +18,10 @@ ghost use Rattle.chr_text.specs.Tables.{Table, Keeps};
 use crate::naming::number_name;
 use crate::terms::{number_term, number_terms};
 use crate::variables::number_variable;
-use chr_grammar::{BodyMember, GuardMember, ParsedAtom, ParsedExpression, ParsedRule};
+use chr_grammar::{BodyMember, GuardMember, ParsedAtom, ParsedExpression, ParsedRule, ParsedTerm};
 use chr_lex::fault::ItemError;
 use chr_limits::{Seen, int_in_range};
-use chr_rule::{BodyItem, Comparison, Expr, Operator, Rule, RuleAtom};
+use chr_rule::{BodyItem, Comparison, Expr, Operator, Rule, RuleAtom, Term};
 use chr_value::Names;
 use std::alloc::{AllocError, Allocator};
 
@@ -106,8 +106,27 @@ fn number_tree<'a, A: Allocator + Copy>(
     }
 }
 
+/// Two terms that are compared.
+fn number_pair<'a, A: Allocator + Copy>(
+    alloc: A,
+    names: &mut Names<A>,
+    seen: &mut Seen<'a>,
+    left: &ParsedTerm<'a, A>,
+    right: &ParsedTerm<'a, A>,
+) -> Result<(Term<A>, Term<A>), ItemError>
+    requires left_fits { TermFits (by_texts.term left.now) }
+    requires right_fits { TermFits (by_texts.term right.now) }
+    requires room { length (in_turn raw.argument (texts seen.old.items) (by_texts.term left.now ∷ by_texts.term right.now ∷ [])).1 ≤ 24 }
+    ensures gives { Gives (λ p. (argument p.0 ∷ argument p.1 ∷ [], names.new)) result (or_full (each numbering.numbered_term names.old (in_turn raw.argument (texts seen.old.items) (by_texts.term left.now ∷ by_texts.term right.now ∷ [])).0)) }
+    ensures seen { OnOk result (texts seen.new.items ≡ (in_turn raw.argument (texts seen.old.items) (by_texts.term left.now ∷ by_texts.term right.now ∷ [])).1) }
+    ensures keeps { (t : Table) → Keeps t names.old → Keeps t names.new }
+{
+    let left = number_term(alloc, names, seen, left)?;
+    let right = number_term(alloc, names, seen, right)?;
+    Ok((left, right))
+}
+
 /// A comparison; nothing for `true`.
-#[tactic(auto, using(crate::proofs::Growing::expression_grows, crate::proofs::Growing::argument_grows, crate::proofs::Growing::expression_fits))]
 fn number_test<'a, A: Allocator + Copy>(
     alloc: A,
     names: &mut Names<A>,
@@ -128,13 +147,11 @@ fn number_test<'a, A: Allocator + Copy>(
             Ok(Some(Comparison::Numbers(*relation, left, right)))
         }
         GuardMember::Same(left, right) => {
-            let left = number_term(alloc, names, seen, left)?;
-            let right = number_term(alloc, names, seen, right)?;
+            let (left, right) = number_pair(alloc, names, seen, left, right)?;
             Ok(Some(Comparison::Same(left, right)))
         }
         GuardMember::Differ(left, right) => {
-            let left = number_term(alloc, names, seen, left)?;
-            let right = number_term(alloc, names, seen, right)?;
+            let (left, right) = number_pair(alloc, names, seen, left, right)?;
             Ok(Some(Comparison::Differ(left, right)))
         }
     }
@@ -161,7 +178,6 @@ fn number_tests<'a, A: Allocator + Copy>(
 }
 
 /// A member of the body; nothing for `true`.
-#[tactic(auto, using(crate::proofs::Growing::expression_fits))]
 fn number_member<'a, A: Allocator + Copy>(
     alloc: A,
     names: &mut Names<A>,

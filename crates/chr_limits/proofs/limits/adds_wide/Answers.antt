@@ -1,0 +1,13 @@
+use Rattle.std.proofs.Common.{sym, ◌∙◌}
+use Rattle.chr_grammar.specs.Views.{member}
+use Rattle.chr_limits.specs.Limits.{adds_many_args}
+use Rattle.chr_rule.proofs.Places.{any_here, any_left}
+use Rattle.chr_limits.proofs.limits.adds_wide.Goals as goal
+
+pub returns-then-adds_many_args : goal.returns-then-adds_many_args
+returns-then-adds_many_args g c =
+    sym (sym c.loop-member.invariant ∙ any_here member adds_many_args c.args.body.now c.loop-member.member-index _ c.loop-member-test.true c.member-item.is (sym c.adds_many_args.ensures ∙ c.if-adds_many_args.true))
+
+pub loop-member-preserved : goal.loop-member-preserved
+loop-member-preserved g c =
+    sym (any_left member adds_many_args c.args.body.now c.loop-member.member-index _ c.loop-member-test.true c.member-item.is (sym c.adds_many_args.ensures ∙ c.if-adds_many_args.false)) ∙ c.loop-member.invariant
