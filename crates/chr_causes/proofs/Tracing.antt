@@ -2,6 +2,7 @@
 use Rattle.std.proofs.Common.{◌≡◌, ℕ, zero, suc, ◌+◌, ◌-◌, ◌<◌, ◌≤◌, ◌⊎◌, inl, inr, List, [], ◌∷◌, ◌++◌, length, take, get_or, slice_get, Some, refl, sym, ◌∙◌, ap, subst, arith, add-one}
 use Rattle.std.specs.List.{sum_by}
 use Rattle.std.specs.Option.{option_map}
+use Rattle.std.proofs.lemmas.List.{length_push}
 use Rattle.std.proofs.lemmas.Option.{slice_get-map, slice_get_read, slice_get_within}
 use Rattle.chr_rule.specs.Rules.{Simpagation}
 use Rattle.chr_log.specs.declared.events.Event.{Event as CodeEvent}
@@ -71,6 +72,27 @@ get_push (z ∷ zs) y (suc k) x h =
       | inl e ↦ inl e
       | inr e ↦ inr (ap suc e.0, e.1)
     ]
+
+-- one goal more
+abbrev maker_at : ℕ → ℕ → Maker
+maker_at made nth = record { made = made; nth = nth }
+
+pub none_made : (made : ℕ) (old : List Maker) → HasMade made 0 old old
+none_made made old = record { places = omega arith; each = λ k m h. inl h }
+
+pub one_made : (made n : ℕ) (old list new : List Maker) → HasMade made n old list → new ≡ list ++ maker_at made n ∷ [] → HasMade made (n + 1) old new
+one_made made n old list new so_far more = record {
+  places = omega (arith, so_far.places, ap length more, length_push list (maker_at made n));
+  each = λ k m h. by_side k m (get_push list (maker_at made n) k m (subst (λ ms. slice_get ms k ≡ Some m) more h));
+}
+  where
+    made_before : (k : ℕ) (m : Maker) → (slice_get old k ≡ Some m) ⊎ IsNew made n (length old) k m → (slice_get old k ≡ Some m) ⊎ IsNew made (n + 1) (length old) k m
+    made_before k m (inl h) = inl h
+    made_before k m (inr i) = inr (record { made_is = i.made_is; within = omega (arith, i.within); place_is = i.place_is })
+
+    by_side : (k : ℕ) (m : Maker) → (slice_get list k ≡ Some m) ⊎ ((k ≡ length list) × (maker_at made n ≡ m)) → (slice_get old k ≡ Some m) ⊎ IsNew made (n + 1) (length old) k m
+    by_side k m (inl h) = made_before k m (so_far.each k m h)
+    by_side k m (inr e) = inr (subst (IsNew made (n + 1) (length old) k) e.1 (record { made_is = refl; within = omega arith; place_is = omega (arith, e.0, so_far.places) }))
 
 abbrev pub origin_at : ℕ → ℕ → ℕ → Origin
 origin_at i m p = record { activated = i; made = m; nth = p }
