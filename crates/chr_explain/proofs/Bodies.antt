@@ -8,10 +8,10 @@ use Rattle.chr_guard.specs.Values.{Valuation}
 use Rattle.chr_guard.specs.Bindings.{bound_at}
 use Rattle.chr_guard.specs.Instances.{made_under, AreMadeUnder, added, IsInstance, NoInstance}
 use Rattle.chr_guard.specs.Matching.{IsInstanceUnder}
-use Rattle.chr_log.specs.Events.{Event, Fire}
+use Rattle.chr_log.specs.Events.{Event, Activate, Fire}
 use Rattle.chr_model.proofs.Programs.{program_fixes}
 use Rattle.chr_explain.specs.Atoms.{listed, atoms_of}
-use Rattle.chr_explain.specs.Goals.{body_atoms, AddsBody, Follows}
+use Rattle.chr_explain.specs.Goals.{body_atoms, AddsBody, AddsGoal, Follows}
 
 one_made : (o : Option (Atom ℕ)) (a : Atom ℕ) (xs ys : List (Atom ℕ)) → o ≡ Some a → xs ≡ ys → listed o ++ xs ≡ a ∷ ys
 one_made (Some b) a xs ys is rest = (let same : b ≡ a = cc in ap (λ c. c ∷ xs) same ∙ ap (λ zs. a ∷ zs) rest)
@@ -45,6 +45,10 @@ adds_none rules r rule heads old new at none = λ other body there instance.
 pub fire_follows : (rules : List (Simpagation ℕ)) (e : Event ℕ) (t r : ℕ) (kept removed : List ℕ) (heads goals atoms new : List (Atom ℕ)) → e ≡ Fire t r kept removed → heads ≡ atoms_of atoms kept ++ atoms_of atoms removed → AddsBody rules r heads goals new → Follows rules e goals atoms new atoms
 fire_follows rules e t r kept removed heads goals atoms new is are adds =
     subst (λ x. Follows rules x goals atoms new atoms) (sym is) (subst (λ hs. AddsBody rules r hs goals new) are adds, refl)
+
+pub activate_follows : (rules : List (Simpagation ℕ)) (e : Event ℕ) (t l : ℕ) (goals seen atoms more : List (Atom ℕ)) → e ≡ Activate t l → seen ≡ goals → AddsGoal t seen atoms more → Follows rules e goals atoms goals more
+activate_follows rules e t l goals seen atoms more is same adds =
+    subst (λ x. Follows rules x goals atoms goals more) (sym is) (refl, subst (λ gs. AddsGoal t gs atoms more) same adds)
 
 -- what follows after an Ok
 pub on_ok : {X E : Type 0} (result : Result X E) (P Q : Type 0) → (P → Q) → OnOk result P → OnOk result Q

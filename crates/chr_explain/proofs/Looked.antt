@@ -3,7 +3,7 @@ use Rattle.std.proofs.Common.{◌≡◌, ℕ, suc, ◌-◌, ◌<◌, ◌≤◌, 
 use Rattle.std.specs.List.{HoldsAt}
 use Rattle.std.specs.Option.{option_map, MatchOption, IfSome}
 use Rattle.std.proofs.lemmas.List.{append-nil, map_push}
-use Rattle.std.proofs.lemmas.Option.{slice_get-map, slice_get_read, slice_get_past}
+use Rattle.std.proofs.lemmas.Option.{same_Some, slice_get-map, slice_get_read, slice_get_past}
 use Rattle.std.specs.Borrow.{Bor}
 use Rattle.chr_value.specs.Atoms.{Atom}
 use Rattle.chr_log.specs.declared.events.Event.{Event as CodeEvent}
@@ -41,3 +41,7 @@ at_suc hs r k is = ap (heading_at hs) is
 pub heading_looked : (hs : List CodeHeading) (r : ℕ) (o : Option (Bor CodeHeading)) → 0 < r → option_map (λ (h : Bor CodeHeading). h.now) o ≡ slice_get hs (r - 1) → option_map (λ (h : Bor CodeHeading). heading_view h.now) o ≡ heading_at (map heading_view hs) r
 heading_looked hs r o some h =
     twice heading_view (λ (h : Bor CodeHeading). h.now) o ∙ ap (option_map heading_view) h ∙ sym (slice_get-map heading_view hs (r - 1)) ∙ sym (at_suc (map heading_view hs) r (r - 1) (omega (arith, some)))
+
+-- the atom of a ticket's goal, where it is known
+pub goal_given : (goals : List (Atom ℕ)) (k : ℕ) (x atom : Atom ℕ) (old new : List (Atom ℕ)) → slice_get goals k ≡ Some x → slice_get goals k ≡ Some atom → new ≡ old ++ x ∷ [] → new ≡ old ++ atom ∷ []
+goal_given goals k x atom old new at there pushed = let same : x ≡ atom = same_Some x atom (sym at ∙ there) in pushed ∙ ap (λ (a : Atom ℕ). old ++ a ∷ []) same

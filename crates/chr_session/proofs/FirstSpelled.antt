@@ -1,14 +1,18 @@
 -- What an input spells first, from how its line and its counted bytes were read.
-use Rattle.std.proofs.Common.{◌≡◌, ◌+◌, ◌<◌, ◌≤◌, ℕ, Bool, true, false, List, [], ◌∷◌, length, take, drop, reverse, nat_lt, refl, sym, ap, ◌∙◌, arith}
+use Rattle.std.proofs.Common.{◌≡◌, ◌+◌, ◌<◌, ◌≤◌, ℕ, Bool, true, false, List, [], ◌∷◌, length, take, drop, reverse, nat_lt, if◌then◌else◌, refl, sym, ap, subst, ◌∙◌, arith}
 use Rattle.std.proofs.lemmas.Bool.{false≢true}
 use Rattle.std.proofs.lemmas.List.{length-reverse}
 use Rattle.std.proofs.lemmas.Grind.{common_steps}
 use Rattle.chr_session.specs.declared.desk.Fault.TheVariants as fault
 use Rattle.chr_session.specs.declared.commands.Ended.TheVariants as ended
+use Rattle.chr_session.specs.declared.commands.Received.{Received as CodeReceived}
+use Rattle.chr_session.specs.declared.commands.Received.TheVariants as variants
+use Rattle.chr_session.specs.declared.lines.LineEnd.{LineEnd}
+use Rattle.chr_session.specs.declared.lines.LineEnd.TheVariants.{Whole, TooLong, End}
 use Rattle.chr_session.specs.declared.parsing.ParsedLine.{ParsedLine}
 use Rattle.chr_session.specs.Lines.{has_line, line_of, after_line, Counted}
 use Rattle.chr_session.specs.Parsing.{without_cr, after_blanks, before_blanks, trimmed, word_of, rest_of, parsed_of}
-use Rattle.chr_session.specs.Spelling.{too_long, Received, Spelling, Ending, SpellsFirst, load_spells, parsed_spells, line_spells, next}
+use Rattle.chr_session.specs.Spelling.{too_long, Received, Spelling, Ending, SpellsFirst, received_of, load_spells, parsed_spells, line_spells, next}
 use Rattle.chr_session.specs.Commands.{Load, Faulty, Right}
 
 -- a load
@@ -30,6 +34,14 @@ spells_many {C} {found} {count} {input} present many counted = record { rest = d
 
 pub spells_load : {C : List ℕ → Type 0} {found : Bool} {count : ℕ} {input : List ℕ} (text : List ℕ) → found ≡ true → count ≤ 65536 → text ≡ take count input → Counted found count C input → SpellsFirst (load_spells count) (Spelling (Right (Load text))) C input
 spells_load {C} {found} {count} {input} text present few same counted = record { rest = drop count input; is = rw same (load_text count input (counted.enough present) few); told = λ _. counted.rest present }
+
+pub spells_refused : {C : List ℕ → Type 0} {count : ℕ} {input : List ℕ} (found : Bool) (received : CodeReceived) (text : List ℕ) → received ≡ (if found then variants.Fault too_long else variants.Ended ended.Cut) → 65536 < count → Counted found count C input → SpellsFirst (load_spells count) (received_of received text) C input
+spells_refused true received text is many counted = rw is (spells_many refl many counted)
+spells_refused false received text is many counted = rw is (spells_cut refl counted)
+
+pub spells_loaded : {C : List ℕ → Type 0} {count : ℕ} {input : List ℕ} (found : Bool) (received : CodeReceived) (text : List ℕ) → received ≡ (if found then variants.Load else variants.Ended ended.Cut) → count ≤ 65536 → (found ≡ true → text ≡ take count input) → Counted found count C input → SpellsFirst (load_spells count) (received_of received text) C input
+spells_loaded true received text is few same counted = rw is (spells_load text refl few (same refl) counted)
+spells_loaded false received text is few same counted = rw is (spells_cut refl counted)
 
 -- a parsed line
 
@@ -60,6 +72,30 @@ back_shorter text = omega (arith, length-reverse (after_blanks (reverse text)), 
 
 pub text_shorter : (line : List ℕ) → length (rest_of (trimmed line)) ≤ length line
 text_shorter line = omega (arith, rest_shorter (trimmed line), back_shorter (after_blanks (without_cr line)), front_shorter (without_cr line), cr_shorter line)
+
+pub too_long_line : (line : List ℕ) → 4097 < length line → 4096 < length (without_cr line)
+too_long_line line long = omega (arith, long_line line)
+
+pub long_seen : {line seen cut : List ℕ} → cut ≡ without_cr seen → seen ≡ line → 4096 < length cut → 4096 < length (without_cr line)
+long_seen cut_is seen_is long = subst (λ (l : List ℕ). 4096 < length (without_cr l)) seen_is (subst (λ (l : List ℕ). 4096 < length l) cut_is long)
+
+pub short_seen : {line seen cut : List ℕ} → cut ≡ without_cr seen → seen ≡ line → length cut ≤ 4096 → length (without_cr line) ≤ 4096
+short_seen cut_is seen_is short = subst (λ (l : List ℕ). length (without_cr l) ≤ 4096) seen_is (subst (λ (l : List ℕ). length l ≤ 4096) cut_is short)
+
+pub short_rest : (line : List ℕ) {rest : List ℕ} → rest ≡ rest_of (trimmed line) → length (without_cr line) ≤ 4096 → length rest ≤ 65536
+short_rest line {rest} e short = omega (arith, ap length e, text_shorter line, long_line line)
+
+whole_goes_on : Whole ≡ End → ⊥
+whole_goes_on e = cc
+
+too_long_goes_on : TooLong ≡ End → ⊥
+too_long_goes_on e = cc
+
+pub spent_whole : {P : Type 0} {end : LineEnd} → end ≡ Whole → ((end ≡ End → ⊥) → P) → P
+spent_whole is spent = spent (λ e. whole_goes_on (sym is ∙ e))
+
+pub spent_too_long : {P : Type 0} {end : LineEnd} → end ≡ TooLong → ((end ≡ End → ⊥) → P) → P
+spent_too_long is spent = spent (λ e. too_long_goes_on (sym is ∙ e))
 
 pub next_of_line : (input : List ℕ) → has_line input ≡ true → next input ≡ line_spells (line_of input) (after_line input)
 unfolding next

@@ -1,5 +1,7 @@
+pub mod Causes
 pub mod Pieces
 pub mod Passed
+pub mod Words
 pub mod FirstSpelled
 pub mod Written
 pub mod Underway

@@ -1,9 +1,11 @@
 -- What a loop over a line has passed.
-use Rattle.std.proofs.Common.{◌≡◌, ◌+◌, ◌<◌, ◌≤◌, ℕ, Bool, true, false, List, [], ◌∷◌, ◌++◌, length, suc, take, drop, get_or, Option, Some, None, refl, append_assoc, append-nil, length-append, length-drop, drop-cons, add-one, sym, ap, subst, ◌∙◌, arith}
+use Rattle.std.proofs.Common.{◌≡◌, ◌+◌, ◌<◌, ◌≤◌, ◌==◌, ℕ, zero, Bool, true, false, if◌then◌else◌, List, [], ◌∷◌, ◌++◌, length, suc, take, drop, get_or, Option, Some, None, OnSome, refl, append_assoc, append-nil, length-append, length-drop, drop-cons, add-one, sym, ap, subst, ◌∙◌, arith}
 use Rattle.std.proofs.lemmas.Bool.{false≢true}
 use Rattle.std.proofs.lemmas.Grind.{common_steps}
 use Rattle.chr_session.specs.Devices.{NextIs}
-use Rattle.chr_session.specs.Lines.{has_line, line_of, after_line, Skipped, Counted}
+use Rattle.chr_session.specs.declared.lines.LineEnd.{LineEnd}
+use Rattle.chr_session.specs.declared.lines.LineEnd.TheVariants.{TooLong, Cut, End}
+use Rattle.chr_session.specs.Lines.{has_line, line_of, after_line, Skipped, LineIs, Counted}
 
 -- the rest of the line is that of the input
 pub record SameEnd (rest input : List ℕ) : Type 0 where
@@ -21,6 +23,9 @@ other_line b text ne = grind (arith, common_steps)
 
 at_next : {C : List ℕ → Type 0} {o p : Option ℕ} {input : List ℕ} → o ≡ p → NextIs o C input → NextIs p C input
 at_next {C} {o} {p} {input} e next = let P : Option ℕ → Type 0 = λ q. NextIs q C input in subst P e next
+
+pub at_some : {P : Type 0} {o : Option ℕ} {b : ℕ} → o ≡ Some b → OnSome o P → P
+at_some {P} {o} {b} is on = let Q : Option ℕ → Type 0 = λ q. OnSome q P in subst Q is on
 
 pub skipped_to_end : {A B C : List ℕ → Type 0} {o : Option ℕ} (b : ℕ) → ((input : List ℕ) → A input → (rest : List ℕ) × B rest × SameEnd rest input) → ((rest : List ℕ) → B rest → NextIs o C rest) → o ≡ Some b → b ≡ 10 → (input : List ℕ) → A input → Skipped true C input
 skipped_to_end {A} {B} {C} b before step is lf input a =
@@ -59,6 +64,34 @@ pub record Begun (line rest input : List ℕ) : Type 0 where
 pub record Taken (count : ℕ) (rest input : List ℕ) : Type 0 where
   pub enough : count ≤ length input
   pub rest_is : rest ≡ drop count input
+
+pub grown : (bytes : List ℕ) {more : List ℕ} (b : ℕ) → more ≡ bytes ++ b ∷ [] → length more ≡ length bytes + 1
+grown bytes {more} b e = ap length e ∙ length-append bytes (b ∷ [])
+
+pub none_begun : {line : List ℕ} (input : List ℕ) → line ≡ [] → Begun line input input
+none_begun {line} input e = record { same = record { has = refl; after = refl }; line_is = rw e refl; none = λ z. refl }
+
+pub starts_short : {line : List ℕ} → line ≡ [] → length line ≤ 4097
+starts_short e = omega (arith, ap length e)
+
+pub starts_within : {b : ℕ} {line : List ℕ} → line ≡ [] → b + length line ≤ b
+starts_within e = omega (arith, ap length e)
+
+pub has_room : {n most room : ℕ} (line : List ℕ) → n ≡ length line → length line ≤ most → most < 65536 → 65536 ≤ room → n < room
+has_room line e short lt le = omega arith
+
+pub short_fits : 4097 < 65536
+short_fits = omega arith
+
+pub stays_short : {n more : ℕ} → n ≤ 4097 → (n ≡ 4097 → ⊥) → more ≡ n + 1 → more ≤ 4097
+stays_short le ne e = omega arith
+
+-- a byte of the budget becomes a byte of the line
+pub spent : (b h n b' h' : ℕ) {n' whole : ℕ} → b + h + n ≤ whole → b' + h' < b + h → n' ≡ n + 1 → b' + h' + n' ≤ whole
+spent b h n b' h' before step e = omega arith
+
+pub spent_on_line : (b h n b' h' : ℕ) {whole : ℕ} → b + h + n ≤ whole → b' + h' < b + h → b' + h' < whole
+spent_on_line b h n b' h' before step = omega arith
 
 pub line_ends : {A B C : List ℕ → Type 0} {o : Option ℕ} {line : List ℕ} (b : ℕ) → ((input : List ℕ) → A input → (rest : List ℕ) × B rest × Begun line rest input) → ((rest : List ℕ) → B rest → NextIs o C rest) → o ≡ Some b → b ≡ 10 → length line ≤ 4097 → (input : List ℕ) → A input → (has_line input ≡ true) × (line ≡ line_of input) × (length line ≤ 4097) × C (after_line input)
 line_ends {A} {B} {C} {o} {line} b before step is lf short input a =
@@ -110,6 +143,23 @@ line_none {A} {B} {C} {o} {line} before step is empty input a =
     let s = (at_next is (step i.0 i.1)).is in
     i.2.none empty ∙ s.0
 
+pub line_passed : {A B C D : List ℕ → Type 0} {o : Option ℕ} {line : List ℕ} (kept : List ℕ) (found : Bool) (end : LineEnd) (b : ℕ) → ((input : List ℕ) → A input → (rest : List ℕ) × B rest × Begun line rest input) → ((rest : List ℕ) → B rest → NextIs o C rest) → o ≡ Some b → (b ≡ 10 → ⊥) → length line ≡ 4097 → ((input : List ℕ) → C input → Skipped found D input) → end ≡ (if found then TooLong else Cut) → (input : List ℕ) → A input → LineIs end kept D input
+line_passed kept true end b before step is ne long skip e input a = rw e (line_too_long b before step is ne long skip input a)
+line_passed kept false end b before step is ne long skip e input a =
+    let r = line_too_long b before step is ne long skip input a in
+    rw e (r.0, some_bytes input (omega (arith, r.1)))
+
+pub some_left : (n : ℕ) → (suc n == 0) ≡ false
+some_left n = grind (arith, common_steps)
+
+pub line_open : {A B C : List ℕ → Type 0} {o : Option ℕ} {line : List ℕ} (D : List ℕ → Type 0) (kept : List ℕ) (n : ℕ) (empty : Bool) (end : LineEnd) → ((input : List ℕ) → A input → (rest : List ℕ) × B rest × Begun line rest input) → ((rest : List ℕ) → B rest → NextIs o C rest) → o ≡ None → n ≡ length line → empty ≡ (n == 0) → end ≡ (if empty then End else Cut) → (input : List ℕ) → A input → LineIs end kept D input
+line_open D kept zero empty end before step is len none e input a = rw (e, none) (line_none before step is (sym len) input a)
+line_open D kept (suc n) empty end before step is len none e input a = rw (e, none, some_left n) (line_cut before step is (omega (arith, len)) input a)
+
+pub spent_if_open : (b h b' h' : ℕ) {whole : ℕ} (line : List ℕ) (n : ℕ) (empty : Bool) (end : LineEnd) → n ≡ length line → empty ≡ (n == 0) → end ≡ (if empty then End else Cut) → b + h + length line ≤ whole → b' + h' ≤ b + h → (end ≡ End → ⊥) → b' + h' < whole
+spent_if_open b h b' h' line zero empty end len none e before step ne = absurd (ne (rw (e, none) refl))
+spent_if_open b h b' h' line (suc n) empty end len none e before step ne = omega (arith, len, before, step)
+
 take_next : (n : ℕ) (input : List ℕ) (d : ℕ) → n < length input → take (n + 1) input ≡ take n input ++ get_or input n d ∷ []
 take_next n input d few = grind (arith, common_steps)
 
@@ -147,6 +197,9 @@ pub record Kept (count : ℕ) (bytes rest input : List ℕ) : Type 0 where
   pub taken : Taken count rest input
   pub bytes_are : bytes ≡ take count input
 
+pub none_kept : {bytes : List ℕ} (input : List ℕ) → bytes ≡ [] → Kept 0 bytes input input
+none_kept input e = record { taken = record { enough = omega arith; rest_is = refl }; bytes_are = e }
+
 pub kept_taken : {A B : List ℕ → Type 0} {n : ℕ} {bytes : List ℕ} → ((input : List ℕ) → A input → (rest : List ℕ) × B rest × Kept n bytes rest input) → (input : List ℕ) → A input → (rest : List ℕ) × B rest × Taken n rest input
 kept_taken before input a = let i = before input a in (i.0, i.1, i.2.taken)
 
@@ -159,3 +212,12 @@ kept_more {A} {B} {C} {o} {n} {bytes} b more before step is pushed input a =
 
 pub kept_all : {A B : List ℕ → Type 0} {n : ℕ} {bytes : List ℕ} (count : ℕ) → n ≡ count → ((input : List ℕ) → A input → (rest : List ℕ) × B rest × Kept n bytes rest input) → (input : List ℕ) → A input → bytes ≡ take count input
 kept_all {A} {B} {n} {bytes} count same before input a = let i = before input a in i.2.bytes_are ∙ ap (λ k. take k input) same
+
+pub counts_one_more : (bytes : List ℕ) {more : List ℕ} (b : ℕ) {n : ℕ} → more ≡ bytes ++ b ∷ [] → length bytes ≡ n → length more ≡ n + 1
+counts_one_more bytes b e count = grown bytes b e ∙ ap (λ k. k + 1) count
+
+pub room_for_next : {len n count room : ℕ} (bytes : List ℕ) → len ≡ length bytes → length bytes ≡ n → n < count → count ≤ 65536 → 65536 ≤ room → len < room
+room_for_next bytes e count lt few le = omega arith
+
+pub all_taken : {n count : ℕ} → count ≤ n → n ≤ count → n ≡ count
+all_taken le ge = omega arith

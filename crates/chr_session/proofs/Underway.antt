@@ -1,12 +1,15 @@
 -- A session so far.
-use Rattle.std.proofs.Common.{◌≡◌, ℕ, true, List, [], ◌∷◌, ◌++◌, Option, Some, None, inl, inr, refl, sym, ap, subst, ◌∙◌, append_assoc, append-nil}
+use Rattle.std.proofs.Common.{◌≡◌, ℕ, true, List, [], ◌∷◌, ◌++◌, Option, Some, None, Result, Ok, Err, inl, inr, refl, sym, ap, subst, ◌∙◌, append_assoc, append-nil}
 use Rattle.std.proofs.lemmas.Bool.{false≢true}
 use Rattle.std.proofs.lemmas.List.Concat.{flat_map-append}
 use Rattle.std.specs.Option.{option_to_list}
 use Rattle.std.specs.List.{flat_map}
+use Rattle.chr_session.specs.Devices.{Comes}
 use Rattle.chr_session.specs.declared.commands.Ended.{Ended}
 use Rattle.chr_session.specs.declared.commands.Received.{Received as CodeReceived}
 use Rattle.chr_session.specs.declared.commands.Received.TheVariants as variants
+use Rattle.chr_session.specs.declared.session.ServeFault.{ServeFault}
+use Rattle.chr_session.specs.declared.session.ServeFault.TheVariants.{Device, NoMemory}
 use Rattle.chr_session.specs.Commands.{Reply}
 use Rattle.chr_session.specs.Spelling.{Received, Spelling, Ending, next, SpellsFirst, received_of, goes_on}
 use Rattle.chr_session.specs.Commands.{Command, Spelled}
@@ -53,6 +56,10 @@ session_begins step desk taken input a = record {
   comes = a;
   written = record { told = λ all t. subst taken (sym (append-nil all)) t };
 }
+
+-- nothing is held back at first
+pub comes_first : {left : List ℕ → Type 0} {held : List ℕ} (input : List ℕ) → held ≡ [] → left input → Comes held left input
+comes_first {left} {held} input none a = record { rest = input; told = a; whole = sym (ap (λ (h : List ℕ). h ++ input) none) }
 
 pub session_goes_on : {D : Type 0} {step : D → Command → Reply → D → Type 0} {old now new : D} {before mid after left C : List ℕ → Type 0} {input : List ℕ} (received : Received) (answer : Option Reply) → goes_on received ≡ true → ((rest : List ℕ) → left rest → SpellsFirst next received C rest) → AnswerIs step now received answer new → Wrote mid after (answer_bytes answer) → Underway step old now before mid left input → Underway step old new before after C input
 session_goes_on {D} {step} {old} {now} {new} {before} {mid} {after} {left} {C} {input} (Spelling one) answer on first answered wrote underway =
@@ -137,3 +144,14 @@ session_stopped {D} {step} {old} {now} {before} {after} {left} {input} underway 
   answers = underway.answers;
   written = subst (λ (t : List ℕ). Wrote before after t) (sym (append-nil (flat_map reply_bytes underway.replies))) underway.written;
 }
+
+-- which fault a session ends with
+
+pub no_device : {T : Type 0} → ◌≡◌ {A = Result T ServeFault} (Err NoMemory) (Err Device) → ⊥
+no_device e = cc
+
+pub no_memory : {T : Type 0} → ◌≡◌ {A = Result T ServeFault} (Err Device) (Err NoMemory) → ⊥
+no_memory e = cc
+
+pub not_broken : {T E : Type 0} {value : T} {fault : E} → ◌≡◌ {A = Result T E} (Ok value) (Err fault) → ⊥
+not_broken e = cc

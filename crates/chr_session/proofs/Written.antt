@@ -1,5 +1,5 @@
 -- One piece written after another.
-use Rattle.std.proofs.Common.{◌≡◌, ◌+◌, ◌-◌, ℕ, suc, zero-add, min, List, [], ◌∷◌, ◌++◌, length, take, drop, sym, ap, subst, ◌∙◌, arith, append_assoc}
+use Rattle.std.proofs.Common.{◌≡◌, ◌+◌, ◌-◌, ℕ, suc, zero-add, min, List, [], ◌∷◌, ◌++◌, length, take, drop, codes, sym, ap, subst, ◌∙◌, arith, append_assoc}
 use Rattle.std.proofs.Math.Seq.{take-add}
 use Rattle.std.proofs.lemmas.List.{take_rest}
 use Rattle.std.proofs.lemmas.Grind.{common_steps}
@@ -41,3 +41,8 @@ began_second {A} {B} {C} {x} {y} first second = record {
 
 pub began_all : {A B : List ℕ → Type 0} {x : List ℕ} → Wrote A B x → Began A B x
 began_all {A} {B} {x} wrote = record { told = λ all a. (length x, subst B (ap (λ t. all ++ t) (sym (take-all x))) (wrote.told all a)) }
+
+-- the pieces of a reply's first line, in a vector that was emptied
+pub line_made : {cleared one two three head : List ℕ} (word details : List ℕ) → cleared ≡ [] → one ≡ cleared ++ word → two ≡ one ++ details → three ≡ two ++ codes "\n" → head ≡ word ++ (details ++ codes "\n") → three ≡ head
+line_made {cleared} {one} {two} {three} {head} word details none first second third is =
+    third ∙ (ap (λ (t : List ℕ). t ++ codes "\n") (second ∙ ap (λ (t : List ℕ). t ++ details) (first ∙ ap (λ (t : List ℕ). t ++ word) none)) ∙ (append_assoc word details (codes "\n") ∙ sym is))

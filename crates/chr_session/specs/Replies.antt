@@ -36,6 +36,11 @@ fault_text faults.Cut = codes "E23 Cut"
 fault_text faults.NoProgram = codes "E24 NoProgram"
 fault_text faults.WrongSeat = codes "E26 WrongSeat"
 
+-- what a fault's text has after its number and name: the line of a fault of reading
+abbrev pub place_of : Fault → List ℕ
+place_of (faults.Reading fault) = codes " " ++ decimal fault.line
+place_of other = []
+
 -- the first line of a reply
 abbrev pub head_of : Reply → List ℕ
 head_of (Loaded rules) = codes "loaded " ++ decimal rules ++ codes "\n"
@@ -46,6 +51,15 @@ head_of (Stored count lines) = codes "store " ++ decimal count ++ codes "\n"
 head_of (Logged count lines) = codes "log " ++ decimal count ++ codes "\n"
 head_of (Refused fault) = codes "fault " ++ fault_text fault ++ codes "\n"
 head_of Bye = codes "bye\n"
+
+-- what that line has after its word
+abbrev pub details_of : Reply → List ℕ
+details_of (Loaded rules) = decimal rules
+details_of (Posted first count) = decimal first ++ codes " " ++ decimal count
+details_of (Stored count lines) = decimal count
+details_of (Logged count lines) = decimal count
+details_of (Refused fault) = fault_text fault
+details_of other = []
 
 -- the lines that follow it
 abbrev pub lines_of : Reply → List ℕ

@@ -1,5 +1,5 @@
 //! The bytes of a source, one at a time.
-ghost use Rattle.std.specs.Prelude.{◌≡◌, ◌+◌, ◌-◌, ◌<◌, ◌≤◌, ℕ, List, [], length, IfOk, OnOk, OnSome};
+ghost use Rattle.std.specs.Prelude.{◌≡◌, ◌+◌, ◌-◌, ◌<◌, ◌≤◌, ◌∷◌, ℕ, List, [], length, IfOk, OnOk, OnSome};
 ghost use Rattle.chr_session.specs.Devices.{HasCause, Comes, NextIs};
 
 use crate::devices::{Failed, Source};
@@ -35,6 +35,16 @@ impl Buffer {
         }
     }
 
+    /// Takes the first of the bytes that it holds.
+    fn take_first(&mut self) -> u8
+        requires { 0 < length self.old }
+        ensures { self.old ≡ result ∷ self.new }
+    {
+        let byte = self.bytes[self.from];
+        self.from += 1;
+        byte
+    }
+
     /// The next byte, or none at the end of the source.
     pub fn next<S: Source>(&mut self, source: &mut S) -> Result<Option<u8>, Failed>
         ensures byte { IfOk result (λ b. (input : List ℕ) → Comes self.old (S.left source.old) input → NextIs b (Comes self.new (S.left source.new)) input) }
@@ -42,16 +52,15 @@ impl Buffer {
         ensures within { OnOk result (S.budget source.new + length self.new ≤ S.budget source.old + length self.old) }
         ensures cause { HasCause (S.failures source.old) (S.failures source.new) result }
     {
-        if self.from == self.to {
-            let n = source.read(&mut self.bytes)?;
-            if n == 0 {
-                return Ok(None);
-            }
-            self.from = 0;
-            self.to = n;
+        if self.from < self.to {
+            return Ok(Some(self.take_first()));
         }
-        let byte = self.bytes[self.from];
-        self.from += 1;
-        Ok(Some(byte))
+        let n = source.read(&mut self.bytes)?;
+        if n == 0 {
+            return Ok(None);
+        }
+        self.from = 0;
+        self.to = n;
+        Ok(Some(self.take_first()))
     }
 }

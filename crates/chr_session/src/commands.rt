@@ -1,5 +1,5 @@
 //! Commands, read one at a time.
-ghost use Rattle.std.specs.Prelude.{◌≡◌, ◌+◌, ◌<◌, ◌≤◌, ℕ, List, length, true, IfOk, OnOk, vec_capacity};
+ghost use Rattle.std.specs.Prelude.{◌≡◌, ◌+◌, ◌<◌, ◌≤◌, ℕ, List, length, true, if◌then◌else◌, IfOk, OnOk, vec_capacity};
 ghost use Rattle.chr_session.specs.Devices.{HasCause, Comes};
 ghost use Rattle.chr_session.specs.Spelling.{SpellsFirst, load_spells, parsed_spells, next, received_of, goes_on};
 
@@ -8,6 +8,7 @@ use crate::desk::Fault;
 use crate::devices::{Failed, Source};
 use crate::lines::{LineEnd, read_counted, read_line, skip_counted};
 use crate::parsing::{ParsedLine, parse_line, split_word, trimmed, without_cr};
+use crate::room::append;
 use chr_lex::fault::{Kind, ReadFault};
 use std::alloc::Allocator;
 
@@ -43,6 +44,17 @@ pub enum Received {
     Ended(Ended),
 }
 
+/// What is received where a load's bytes were found, and else the end of the input inside the command.
+fn or_cut(found: bool, received: Received) -> Received
+    ensures { result ≡ (if found then received else Received.Ended Ended.Cut) }
+{
+    if found {
+        received
+    } else {
+        Received::Ended(Ended::Cut)
+    }
+}
+
 /// Reads the counted bytes of a load, and passes over them where they are more than 65,536 (E09).
 fn read_load<S: Source, A: Allocator>(
     count: u32,
@@ -58,18 +70,15 @@ fn read_load<S: Source, A: Allocator>(
     ensures cause { HasCause (S.failures source.old) (S.failures source.new) result }
 {
     if count > 65536 {
-        if skip_counted(count, buffer, source)? {
-            return Ok(Received::Fault(Fault::Reading(ReadFault {
-                kind: Kind::TooLong,
-                line: 0,
-            })));
-        }
-        return Ok(Received::Ended(Ended::Cut));
+        let found = skip_counted(count, buffer, source)?;
+        let too_long = Fault::Reading(ReadFault {
+            kind: Kind::TooLong,
+            line: 0,
+        });
+        return Ok(or_cut(found, Received::Fault(too_long)));
     }
-    if read_counted(count, text, buffer, source)? {
-        return Ok(Received::Load);
-    }
-    Ok(Received::Ended(Ended::Cut))
+    let found = read_counted(count, text, buffer, source)?;
+    Ok(or_cut(found, Received::Load))
 }
 
 /// What is received by a line, and by the bytes after it where it is a load. `rest` is the text after the line's word.
@@ -93,9 +102,7 @@ fn receive<S: Source, A: Allocator>(
         ParsedLine::Load(count) => read_load(count, text, buffer, source),
         ParsedLine::Post => {
             text.clear();
-            if text.extend_from_slice(rest).is_err() {
-                unreachable!();
-            }
+            append(text, rest);
             Ok(Received::Post)
         }
         ParsedLine::Wait(steps) => Ok(Received::Wait(steps)),
@@ -133,6 +140,5 @@ pub fn read_command<S: Source, A: Allocator>(
         return Ok(Received::Fault(Fault::LineTooLong));
     }
     let (word, rest) = split_word(trimmed(line));
-    let received = receive(parse_line(word, rest), rest, text, buffer, source)?;
-    Ok(received)
+    receive(parse_line(word, rest), rest, text, buffer, source)
 }

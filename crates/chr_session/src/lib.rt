@@ -30,6 +30,7 @@ pub mod laws;
 mod lines;
 mod memory;
 mod parsing;
+mod room;
 mod session;
 mod streams;
 mod writing;

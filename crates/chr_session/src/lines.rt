@@ -1,10 +1,11 @@
 //! Lines and counted bytes, in whatever pieces they come.
-ghost use Rattle.std.specs.Prelude.{◌≡◌, ◌≢◌, ◌+◌, ◌<◌, ◌≤◌, ℕ, List, length, take, IfOk, OnOk, true, vec_capacity};
+ghost use Rattle.std.specs.Prelude.{◌≡◌, ◌≢◌, ◌+◌, ◌<◌, ◌≤◌, ℕ, List, length, take, IfOk, OnOk, true, if◌then◌else◌, vec_capacity};
 ghost use Rattle.chr_session.specs.Devices.{HasCause, Comes};
 ghost use Rattle.chr_session.specs.Lines.{Skipped, LineIs, Counted};
 
 use crate::buffer::Buffer;
 use crate::devices::{Failed, Source};
+use crate::room::push;
 use std::alloc::Allocator;
 
 /// How a line ends.
@@ -35,6 +36,24 @@ pub fn skip_line<S: Source>(buffer: &mut Buffer, source: &mut S) -> Result<bool,
     Ok(false)
 }
 
+/// How a line ends that has more bytes than it may have: with its LF, if that was found.
+fn long_end(found: bool) -> LineEnd
+    ensures { result ≡ (if found then LineEnd.TooLong else LineEnd.Cut) }
+{
+    if found {
+        LineEnd::TooLong
+    } else {
+        LineEnd::Cut
+    }
+}
+
+/// How a line ends that has no LF.
+fn open_end(is_empty: bool) -> LineEnd
+    ensures { result ≡ (if is_empty then LineEnd.End else LineEnd.Cut) }
+{
+    if is_empty { LineEnd::End } else { LineEnd::Cut }
+}
+
 /// Reads a line up to its LF, and keeps it where it has at most 4,097 bytes, which leaves room for a CR.
 pub fn read_line<S: Source, A: Allocator>(
     line: &mut Vec<u8, A>,
@@ -55,21 +74,11 @@ pub fn read_line<S: Source, A: Allocator>(
         }
         if line.len() == 4097 {
             let found = skip_line(buffer, source)?;
-            return Ok(if found {
-                LineEnd::TooLong
-            } else {
-                LineEnd::Cut
-            });
+            return Ok(long_end(found));
         }
-        if line.push(byte).is_err() {
-            unreachable!();
-        }
+        push(line, byte);
     }
-    Ok(if line.is_empty() {
-        LineEnd::End
-    } else {
-        LineEnd::Cut
-    })
+    Ok(open_end(line.is_empty()))
 }
 
 /// Passes over so many bytes. False where the input ends before the last of them.
@@ -111,11 +120,7 @@ pub fn read_counted<S: Source, A: Allocator>(
     for _taken in 0..count {
         match buffer.next(source)? {
             None => return Ok(false),
-            Some(byte) => {
-                if bytes.push(byte).is_err() {
-                    unreachable!();
-                }
-            }
+            Some(byte) => push(bytes, byte),
         }
     }
     Ok(true)

@@ -10,7 +10,7 @@ use crate::commands::{Ended, Received, read_command};
 use crate::desk::{Command, Desk, Fault, Reply};
 use crate::devices::{Failed, Sink, Source};
 use crate::writing::write_answer;
-use std::alloc::Allocator;
+use std::alloc::{AllocError, Allocator};
 
 /// Why a session could not be served to its end.
 #[derive(Clone, Copy, Debug, PartialEq, Eq)]
@@ -72,6 +72,15 @@ fn run_session<S: Source, W: Sink, A: Allocator, D: Desk<A>>(
     }
 }
 
+/// Room for a line, and for the text of a load or a post.
+fn rooms<A: Allocator + Copy>(alloc: A) -> Result<(Vec<u8, A>, Vec<u8, A>), AllocError>
+    ensures { IfOk result (λ rooms. (65536 ≤ vec_capacity rooms.0) × (65536 ≤ vec_capacity rooms.1)) }
+{
+    let line = Vec::with_capacity(alloc, 65536)?;
+    let text = Vec::with_capacity(alloc, 65536)?;
+    Ok((line, text))
+}
+
 /// Serves a session: reads commands until `quit` or the end of the input, has each right one carried out by the desk, and
 /// writes each reply before it reads the next command. E25 only where the reader or the writer failed in this call: then a
 /// beginning of the replies is written, and all of those so far where the writer didn't fail. E01 only before the first
@@ -92,10 +101,7 @@ pub fn serve<S: Source, W: Sink, A: Allocator + Copy, D: Desk<A>>(
         S.failures reader.old + W.failures writer.old < S.failures reader.new + W.failures writer.new }
     ensures memory { IsErrOf result ServeFault.NoMemory → (reader.new ≡ reader.old) × (writer.new ≡ writer.old) × (desk.new ≡ desk.old) }
 {
-    let Ok(mut line) = Vec::with_capacity(alloc, 65536) else {
-        return Err(ServeFault::NoMemory);
-    };
-    let Ok(mut text) = Vec::with_capacity(alloc, 65536) else {
+    let Ok((mut line, mut text)) = rooms(alloc) else {
         return Err(ServeFault::NoMemory);
     };
     match run_session(&mut line, &mut text, reader, writer, desk) {

@@ -1,11 +1,12 @@
 //! Replies are written whole, or a beginning of them where the sink fails.
-ghost use Rattle.std.specs.Prelude.{◌≡◌, ◌+◌, ◌≤◌, ◌++◌, ◌∷◌, [], length, OnOk, OnErr, vec_capacity, vec_len, decimal};
+ghost use Rattle.std.specs.Prelude.{◌≡◌, ◌+◌, ◌≤◌, ◌++◌, length, OnOk, OnErr, vec_capacity, vec_len, codes, decimal};
 ghost use Rattle.chr_session.specs.Devices.{HasCause};
 ghost use Rattle.chr_session.specs.Commands.{answer_of, reply_of};
-ghost use Rattle.chr_session.specs.Replies.{Wrote, Began, kind_text, fault_text, head_of, lines_of, reply_bytes, answer_bytes};
+ghost use Rattle.chr_session.specs.Replies.{Wrote, Began, kind_text, fault_text, place_of, head_of, details_of, lines_of, reply_bytes, answer_bytes};
 
 use crate::desk::{Fault, Reply};
 use crate::devices::{Failed, Sink};
+use crate::room::append;
 use chr_lex::fault::Kind;
 use itoa::Buffer as Digits;
 use std::alloc::Allocator;
@@ -22,18 +23,6 @@ fn write_all<W: Sink>(bytes: &[u8], sink: &mut W) -> Result<(), Failed>
         at += n;
     }
     Ok(())
-}
-
-/// Adds bytes for which there is room.
-fn append<A: Allocator>(out: &mut Vec<u8, A>, bytes: &[u8])
-    requires { vec_len out.old + length bytes.now ≤ vec_capacity out.old }
-    ensures items { out.new.items ≡ out.old.items ++ bytes.now }
-    ensures len { vec_len out.new ≡ vec_len out.old + length bytes.now }
-    ensures room { vec_capacity out.old ≤ vec_capacity out.new }
-{
-    if out.extend_from_slice(bytes).is_err() {
-        unreachable!();
-    }
 }
 
 /// Adds a number in decimal.
@@ -64,6 +53,23 @@ fn kind_text(kind: Kind) -> &'static [u8]
     }
 }
 
+/// Number and name of a fault; of a fault of reading, those of its kind.
+fn fault_name(fault: Fault) -> &'static [u8]
+    ensures text { fault_text fault ≡ result.now ++ place_of fault }
+    ensures short { length result.now ≤ 40 }
+{
+    match fault {
+        Fault::NoMemory => b"E01 NoMemory",
+        Fault::Reading(fault) => kind_text(fault.kind),
+        Fault::AlreadyLoaded => b"E20 AlreadyLoaded",
+        Fault::UnknownCommand => b"E21 UnknownCommand",
+        Fault::LineTooLong => b"E22 LineTooLong",
+        Fault::Cut => b"E23 Cut",
+        Fault::NoProgram => b"E24 NoProgram",
+        Fault::WrongSeat => b"E26 WrongSeat",
+    }
+}
+
 /// Adds the text of a fault.
 fn append_fault<A: Allocator>(out: &mut Vec<u8, A>, fault: Fault)
     requires { vec_len out.old + 100 ≤ vec_capacity out.old }
@@ -71,31 +77,49 @@ fn append_fault<A: Allocator>(out: &mut Vec<u8, A>, fault: Fault)
     ensures len { vec_len out.new ≤ vec_len out.old + 90 }
     ensures room { vec_capacity out.old ≤ vec_capacity out.new }
 {
-    match fault {
-        Fault::NoMemory => append(out, b"E01 NoMemory"),
-        Fault::Reading(fault) => {
-            append(out, kind_text(fault.kind));
-            append(out, b" ");
-            append_number(out, u64::from(fault.line));
-        }
-        Fault::AlreadyLoaded => append(out, b"E20 AlreadyLoaded"),
-        Fault::UnknownCommand => append(out, b"E21 UnknownCommand"),
-        Fault::LineTooLong => append(out, b"E22 LineTooLong"),
-        Fault::Cut => append(out, b"E23 Cut"),
-        Fault::NoProgram => append(out, b"E24 NoProgram"),
-        Fault::WrongSeat => append(out, b"E26 WrongSeat"),
+    append(out, fault_name(fault));
+    if let Fault::Reading(fault) = fault {
+        append(out, b" ");
+        append_number(out, u64::from(fault.line));
     }
 }
 
-/// Adds a word and a number, and ends the line.
-fn append_counted<A: Allocator>(out: &mut Vec<u8, A>, word: &[u8], n: u64)
-    requires { vec_len out.old + length word.now + 41 ≤ vec_capacity out.old }
-    ensures items { out.new.items ≡ out.old.items ++ (word.now ++ decimal n ++ 10 ∷ []) }
+/// The word with which a reply's first line begins, and the blank after it where more follows.
+fn first_word<A: Allocator>(reply: &Reply<A>) -> &'static [u8]
+    ensures word { head_of (reply_of reply.now) ≡ result.now ++ (details_of (reply_of reply.now) ++ codes "\n") }
+    ensures short { length result.now ≤ 40 }
+{
+    match reply {
+        Reply::Loaded(_) => b"loaded ",
+        Reply::Posted(_, _) => b"posted ",
+        Reply::Quiet => b"quiet",
+        Reply::Open => b"open",
+        Reply::Store(_, _) => b"store ",
+        Reply::Log(_, _) => b"log ",
+        Reply::Fault(_) => b"fault ",
+        Reply::Bye => b"bye",
+    }
+}
+
+/// Adds what a reply's first line has after its word.
+fn append_details<A: Allocator>(out: &mut Vec<u8, A>, reply: &Reply<A>)
+    requires { vec_len out.old + 100 ≤ vec_capacity out.old }
+    ensures items { out.new.items ≡ out.old.items ++ details_of (reply_of reply.now) }
+    ensures len { vec_len out.new ≤ vec_len out.old + 90 }
     ensures room { vec_capacity out.old ≤ vec_capacity out.new }
 {
-    append(out, word);
-    append_number(out, n);
-    append(out, b"\n");
+    match reply {
+        Reply::Loaded(count) | Reply::Store(count, _) | Reply::Log(count, _) => {
+            append_number(out, *count as u64);
+        }
+        Reply::Posted(first, count) => {
+            append_number(out, *first);
+            append(out, b" ");
+            append_number(out, *count as u64);
+        }
+        Reply::Fault(fault) => append_fault(out, *fault),
+        Reply::Quiet | Reply::Open | Reply::Bye => {}
+    }
 }
 
 /// Writes a reply's first line into `head`.
@@ -105,24 +129,9 @@ fn render<A: Allocator>(reply: &Reply<A>, head: &mut Vec<u8, A>)
     ensures room { 65536 ≤ vec_capacity head.new }
 {
     head.clear();
-    match reply {
-        Reply::Loaded(rules) => append_counted(head, b"loaded ", *rules as u64),
-        Reply::Posted(first, count) => {
-            append(head, b"posted ");
-            append_number(head, *first);
-            append_counted(head, b" ", *count as u64);
-        }
-        Reply::Quiet => append(head, b"quiet\n"),
-        Reply::Open => append(head, b"open\n"),
-        Reply::Store(count, _) => append_counted(head, b"store ", *count as u64),
-        Reply::Log(count, _) => append_counted(head, b"log ", *count as u64),
-        Reply::Fault(fault) => {
-            append(head, b"fault ");
-            append_fault(head, *fault);
-            append(head, b"\n");
-        }
-        Reply::Bye => append(head, b"bye\n"),
-    }
+    append(head, first_word(reply));
+    append_details(head, reply);
+    append(head, b"\n");
 }
 
 /// The lines that follow a reply's first.

@@ -1,4 +1,4 @@
-use Rattle.std.proofs.Common.{◌∙◌, ℕ, zero, List, Option, map, sym, ap, subst}
+use Rattle.std.proofs.Common.{rules, ◌∙◌, ℕ, zero, List, Option, map, sym, ap, subst}
 use Rattle.std.specs.List.{AllByRecursion, flat_map}
 use Rattle.chr_value.specs.Atoms.{Atom}
 use Rattle.chr_lex.specs.Items.{items}
@@ -7,6 +7,8 @@ use Rattle.chr_causes.specs.declared.causes.Cause.{Cause}
 use Rattle.chr_explain.specs.Headings.{heading_view, item_heading, headings_of}
 use Rattle.chr_explain.specs.Reasons.{reason_of, HasRemovals, IsReason}
 use Rattle.chr_explain.proofs.Explained.{explained}
+use Rattle.chr_causes.specs.Origins.{IsOrigin}
+use Rattle.chr_explain.specs.Atoms.{AreAtoms}
 use Rattle.chr_explain.proofs.explanation.explanation.Goals as goal
 
 pub returns : goal.returns
@@ -25,3 +27,28 @@ returns g c =
     (c.in_ok-reasons.ensures.causes ∙ c.deref-5.ensures.value)
     (rw c.in-Some.is at c.in_ok-list.ensures)
     each heads c.deref-8.ensures.value c.in_ok-out.ensures
+
+pub returns-in_default : goal.returns-in_default
+returns-in_default g c = rw c.in_default.is at c.in_ok-list.ensures
+
+pub asked_removals-requires : goal.asked_removals-requires
+asked_removals-requires g c =
+    let rules = c.args.program.now in
+    let log = events_of c.args.events.now in
+    let are = rw c.in-Some.is at c.in_ok-list.ensures in
+    record {
+      atoms = subst (AreAtoms rules log) (sym c.deref.ensures.value) c.in_ok-atoms.ensures;
+      origins = subst (λ (cs : List Cause). AllByRecursion (λ x. IsOrigin rules log x.label x.origin) cs) (sym c.deref-2.ensures.value) are.origins;
+    }
+
+pub reasons-requires : goal.reasons-requires
+reasons-requires g c =
+    let program = c.args.program.now in
+    let log = events_of c.args.events.now in
+    let are = rw c.in-Some.is at c.in_ok-list.ensures in (
+      search rules,
+      (
+        subst (AreAtoms program log) (sym c.deref-3.ensures.value) c.in_ok-atoms.ensures,
+        subst (λ (cs : List Cause). AllByRecursion (λ x. IsOrigin program log x.label x.origin) cs) (sym c.deref-5.ensures.value) are.origins,
+      ),
+    )

@@ -1,7 +1,8 @@
-use Rattle.std.proofs.Common.{refl, arith}
+use Rattle.std.proofs.Common.{refl, arith, ◌∙◌, le_of_lt}
 use Rattle.chr_log.specs.Events.{event_of, events_of}
 use Rattle.chr_causes.proofs.Tracing.{event_read}
 use Rattle.chr_explain.proofs.Told.{label_from_one, label_within, entry_within, causes_more, reasons_more}
+use Rattle.std.proofs.lemmas.List.{take_all}
 use Rattle.chr_explain.proofs.reasons.reasons.Goals as goal
 
 pub overflow_sub-cause : goal.overflow_sub-cause
@@ -27,3 +28,12 @@ loop-cause-preserved g c =
           (label_within rules c.args.causes.now i _ c.loop-cause-test.true log c.args.atoms.now c.requires.atoms c.requires.origins)
           c.in_ok-values.ensures c.removal.ensures gone has (c.loop-cause.invariant.each gone has);
     }
+
+pub offset_bounds-events-cause : goal.offset_bounds-events-cause
+offset_bounds-events-cause g c = le_of_lt (entry_within c.args.program.now c.args.causes.now c.loop-cause.cause-index _ c.loop-cause-test.true c.args.events.now c.requires.origins)
+
+pub bounds-events-cause : goal.bounds-events-cause
+bounds-events-cause g c = entry_within c.args.program.now c.args.causes.now c.loop-cause.cause-index _ c.loop-cause-test.true c.args.events.now c.requires.origins
+
+pub returns-clause-causes : goal.returns-clause-causes
+returns-clause-causes g c = c.loop-cause.invariant.causes ∙ take_all c.loop-cause.cause-index c.args.causes.now c.loop-cause-test.false

@@ -1,0 +1,55 @@
+-- A line's words: the first one, byte by byte, and what it says.
+use Rattle.std.proofs.Common.{◌≡◌, ◌+◌, ◌-◌, ◌<◌, ◌==◌, ◌⊎◌, inl, inr, ℕ, Bool, true, false, List, [], ◌∷◌, ◌++◌, length, take, drop, get_or, codes, if◌then◌else◌, refl, sym, ap, ◌∙◌, append_assoc, append-nil, true≢false}
+use Rattle.std.proofs.lemmas.Bool.{false≢true}
+use Rattle.std.proofs.lemmas.List.{take_more, drop_more, take_rest}
+use Rattle.std.specs.Str.{bytes_eq}
+use Rattle.chr_session.specs.declared.parsing.ParsedLine.{ParsedLine}
+use Rattle.chr_session.specs.declared.parsing.ParsedLine.TheVariants as lines
+use Rattle.chr_session.specs.Parsing.{is_blank, after_blanks, word_of, rest_of, parsed_of}
+use Rattle.chr_session.proofs.Passed.{some_left}
+
+word_from : (b : ℕ) (text : List ℕ) → is_blank b ≡ false → word_of (b ∷ text) ≡ b ∷ word_of text
+word_from b text e = rw e refl
+
+rest_from : (b : ℕ) (text : List ℕ) → is_blank b ≡ false → rest_of (b ∷ text) ≡ rest_of text
+rest_from b text e = rw e refl
+
+word_to : (b : ℕ) (text : List ℕ) → is_blank b ≡ true → word_of (b ∷ text) ≡ []
+word_to b text e = rw e refl
+
+rest_to : (b : ℕ) (text : List ℕ) → is_blank b ≡ true → rest_of (b ∷ text) ≡ after_blanks text
+rest_to b text e = rw e refl
+
+module _ (text : List ℕ) (i : ℕ) (lt : i < length text) where
+  pub word_longer : is_blank (get_or text i 0) ≡ false → word_of text ≡ take i text ++ word_of (drop i text) → word_of text ≡ take (i + 1) text ++ word_of (drop (i + 1) text)
+  word_longer e h =
+      let here : word_of (drop i text) ≡ get_or text i 0 ∷ word_of (drop (i + 1) text) = ap word_of (drop_more text i 0 lt) ∙ word_from (get_or text i 0) (drop (i + 1) text) e in
+      h ∙ ap (λ (t : List ℕ). take i text ++ t) here ∙ sym (append_assoc (take i text) (get_or text i 0 ∷ []) (word_of (drop (i + 1) text))) ∙ ap (λ (t : List ℕ). t ++ word_of (drop (i + 1) text)) (sym (take_more text i 0 lt))
+
+  pub rest_later : is_blank (get_or text i 0) ≡ false → rest_of text ≡ rest_of (drop i text) → rest_of text ≡ rest_of (drop (i + 1) text)
+  rest_later e h = h ∙ ap rest_of (drop_more text i 0 lt) ∙ rest_from (get_or text i 0) (drop (i + 1) text) e
+
+  pub word_whole : is_blank (get_or text i 0) ≡ true → word_of text ≡ take i text ++ word_of (drop i text) → take i text ≡ word_of text
+  word_whole e h = sym (h ∙ ap (λ (t : List ℕ). take i text ++ t) (ap word_of (drop_more text i 0 lt) ∙ word_to (get_or text i 0) (drop (i + 1) text) e) ∙ append-nil (take i text))
+
+  pub rest_whole : {rest : List ℕ} → is_blank (get_or text i 0) ≡ true → rest ≡ after_blanks (take (length text - (i + 1)) (drop (i + 1) text)) → rest_of text ≡ rest_of (drop i text) → rest ≡ rest_of text
+  rest_whole e is h = is ∙ ap after_blanks (take_rest text (i + 1)) ∙ sym (h ∙ ap rest_of (drop_more text i 0 lt) ∙ rest_to (get_or text i 0) (drop (i + 1) text) e)
+
+either : (q : Bool) → lines.Unknown ≡ (if q then lines.Unknown else lines.Unknown)
+either true = refl
+either false = refl
+
+-- a word that is none of the first five
+module _ (word : List ℕ) (some : (length word == 0) ≡ false) (load : bytes_eq word (codes "load") ≡ false) (post : bytes_eq word (codes "post") ≡ false) (wait : bytes_eq word (codes "wait") ≡ false) (store : bytes_eq word (codes "store") ≡ false) (log : bytes_eq word (codes "log") ≡ false) where
+  pub parsed_quit : (rest : List ℕ) → bytes_eq word (codes "quit") ≡ true → (length rest == 0) ≡ true → lines.Quit ≡ parsed_of word rest
+  parsed_quit [] quit alone = rw (some, load, post, wait, store, log, quit) refl
+  parsed_quit (b ∷ rest) quit alone = absurd (false≢true (sym (some_left (length rest)) ∙ alone))
+
+  pub parsed_unknown : (rest : List ℕ) → ((bytes_eq word (codes "quit") ≡ false) ⊎ ((length rest == 0) ≡ false)) → lines.Unknown ≡ parsed_of word rest
+  parsed_unknown rest (inl other) = rw (some, load, post, wait, store, log, other) refl
+  parsed_unknown [] (inr more) = absurd (true≢false more)
+  parsed_unknown (b ∷ rest) (inr more) = rw (some, load, post, wait, store, log) (either (bytes_eq word (codes "quit")))
+
+-- what a comparison with a literal says
+pub compared : {answer is : Bool} (word seen text : List ℕ) → answer ≡ bytes_eq word seen → seen ≡ text → answer ≡ is → bytes_eq word text ≡ is
+compared word seen text told same result = ap (bytes_eq word) (sym same) ∙ (sym told ∙ result)
