@@ -1,6 +1,5 @@
 -- Columns, trial by trial.
-use Rattle.std.proofs.Common.{◌≡◌, ℕ, zero, suc, ◌+◌, ◌<◌, List, [], ◌∷◌, ◌++◌, map, take, length, get_or, Some, slice_get, sym, ◌∙◌, ap, subst, arith}
-use Rattle.std.specs.List.{AllByRecursion}
+use Rattle.std.proofs.Common.{◌≡◌, ℕ, suc, ◌+◌, ◌<◌, List, [], ◌∷◌, ◌++◌, map, take, length, get_or, sym, ◌∙◌, ap, subst, arith}
 use Rattle.std.proofs.lemmas.List.{take_more, length-map, get_or-map}
 use Rattle.chr_guard.proofs.Steps.{all_at}
 use Rattle.chr_plan.specs.Orders.{heads_of}
@@ -51,22 +50,8 @@ column_step f c xs i x more h e =
     let count : length (column_trials c) ≡ length xs + 1 = trials_count f c xs more in
     take_more (column_trials c) (i + 1) t (omega arith) ∙ ap (λ y. take (i + 1) (column_trials c) ++ y ∷ []) (sym (trial_there f c xs i x more h e))
 
--- what holds of each trial holds of the one at a place
-pub told_at : (P : Trial → Type 0) (ts : List Trial) (n : ℕ) (t : Trial) → AllByRecursion P ts → slice_get ts n ≡ Some t → P t
-told_at P [] n t a e = absurd (cc)
-told_at P (u ∷ ts) zero t a e = subst P (let same : u ≡ t = cc in same) a.0
-told_at P (u ∷ ts) (suc n) t a e = told_at P ts n t a.1 e
-
--- each trial has all heads
-abbrev HasAll : Trial → Type 0
-HasAll t = length t.placed ≡ length (heads_of t.rule)
-
-others_all : (t : Trial) (hs : List Head) → length t.placed ≡ 1 → AllByRecursion (λ (u : Trial). length (heads_of u.rule) ≡ 1) (map (at_head t) hs) → AllByRecursion HasAll (map (at_head t) hs)
-others_all t [] one a = tt
-others_all t (h ∷ hs) one a = (length-map t.placed (λ (p : Placed). record p { head = h.head }) ∙ one ∙ sym a.0, others_all t hs one a.1)
-
-pub column_full : (c : Column) (n : ℕ) (t : Trial) → IsColumn c → slice_get (column_trials c) n ≡ Some t → length t.placed ≡ length (heads_of t.rule)
-column_full c n t w e = told_at HasAll (column_trials c) n t (w.alone ∙ sym w.full.0, others_all c.first c.more w.alone w.full.1) e
+pub other_full : (t : Trial) (h : Head) → length t.placed ≡ 1 → length (heads_of h.rule) ≡ 1 → length (at_head t h).placed ≡ length (heads_of h.rule)
+other_full t h one full = length-map t.placed (λ (p : Placed). record p { head = h.head }) ∙ one ∙ sym full
 
 pub other_placed : (t : Trial) (p : Placed) (h : Head) → t.placed ≡ p ∷ [] → (at_head t h).placed ≡ record p { head = h.head } ∷ []
 other_placed t p h e = ap (map (λ (q : Placed). record q { head = h.head })) e

@@ -1,14 +1,14 @@
 -- Trials that are judged in order.
-use Rattle.std.proofs.Common.{◌≡◌, ◌≢◌, ℕ, zero, suc, ◌+◌, ◌<◌, ◌≤◌, List, [], ◌∷◌, ◌++◌, map, take, length, length-append, append_assoc, Option, Some, None, slice_get, refl, sym, ◌∙◌, ap, subst, arith, inl, inr, ⊎_elim}
+use Rattle.std.proofs.Common.{◌≡◌, ◌≢◌, ◌⊎◌, ℕ, zero, suc, ◌<◌, ◌≤◌, List, [], ◌∷◌, ◌++◌, map, take, length, append_assoc, Option, Some, None, MatchOption, Result, Ok, Err, IfOk, slice_get, refl, sym, ◌∙◌, ap, subst, arith, inl, inr, ⊎_elim}
+use Rattle.std.specs.Bool.{⊤}
 use Rattle.std.specs.List.{AllByRecursion}
 use Rattle.std.proofs.lemmas.List.{append-nil}
 use Rattle.chr_plan.specs.Orders.{heads_of}
 use Rattle.chr_search.specs.declared.judged.Verdict.{Verdict}
 use Rattle.chr_search.specs.declared.judged.Verdict.TheVariants.{Whole, Part, Misfit}
-use Rattle.chr_search.specs.Verdicts.{Placed, Trial}
+use Rattle.chr_search.specs.Verdicts.{Trial}
 use Rattle.chr_search.specs.Judged.{Judgement, IsVerdict}
-use Rattle.chr_search.specs.Fronts.{lengthened}
-use Rattle.chr_sheet.specs.Rows.{misfit, listed}
+use Rattle.chr_sheet.specs.Rows.{misfit, listed, MustBeWhole}
 use Rattle.chr_sheet.specs.Sheets.{AreJudgedInOrder, AreJudgedUpTo}
 
 -- ---- some and then others
@@ -49,7 +49,7 @@ one_whole t a w e h = ([], sym (append-nil a), (e, inl (h, refl)), tt, h)
 pub one_other : (t : Trial) (a : List Judgement) (j : Judgement) → j.trial ≡ t → j.verdict ≢ Whole → AreJudgedUpTo (t ∷ []) a (a ++ j ∷ []) None
 one_other t a j e n = (j ∷ [], refl, (e, inr (n, refl)), (n, tt), tt)
 
--- ---- misfits, and one that is whole after them
+-- ---- misfits, and one after them
 
 misfits_in_order : (ts : List Trial) → AreJudgedInOrder ts (map misfit ts)
 misfits_in_order [] = refl
@@ -62,13 +62,29 @@ none_whole (t ∷ ts) = (λ e. absurd (cc), none_whole ts)
 pub misfits_up_to : (ts : List Trial) (a b : List Judgement) → b ≡ a ++ map misfit ts → AreJudgedUpTo ts a b None
 misfits_up_to ts a b e = (map misfit ts, e, subst (AreJudgedInOrder ts) (sym (append-nil (map misfit ts))) (misfits_in_order ts), none_whole ts, tt)
 
-cut_in_order : (ts : List Trial) (n : ℕ) (w : Judgement) → slice_get ts n ≡ Some w.trial → w.verdict ≡ Whole → AreJudgedInOrder ts (map misfit (take n ts) ++ w ∷ [])
-cut_in_order [] n w e h = absurd (cc)
-cut_in_order (t ∷ ts) zero w e h = (cc, inl (h, refl))
-cut_in_order (t ∷ ts) (suc n) w e h = (refl, inr (λ z. absurd (cc), cut_in_order ts n w e h))
+-- misfits, and the trial after them, which is judged alone
+cut_at : (ts : List Trial) (n : ℕ) (t : Trial) → slice_get ts n ≡ Some t → (after : List Trial) × (ts ≡ (take n ts ++ t ∷ []) ++ after)
+cut_at [] n t e = absurd (cc)
+cut_at (u ∷ ts) zero t e = (ts, let same : u ≡ t = cc in ap (λ x. x ∷ ts) same)
+cut_at (u ∷ ts) (suc n) t e = let more = cut_at ts n t e in (more.0, ap (λ xs. u ∷ xs) more.1)
 
-pub cut_up_to : (ts before : List Trial) (n : ℕ) (w : Judgement) (a b : List Judgement) → before ≡ take n ts → b ≡ a ++ map misfit before → slice_get ts n ≡ Some w.trial → w.verdict ≡ Whole → AreJudgedUpTo ts a b (Some w)
-cut_up_to ts before n w a b cut e at h = (map misfit before, e, subst (λ (z : List Trial). AreJudgedInOrder ts (map misfit z ++ w ∷ [])) (sym cut) (cut_in_order ts n w at h), none_whole before, h)
+only_one : (ts : List Trial) (n : ℕ) (t : Trial) → slice_get ts n ≡ Some t → ts ≡ t ∷ [] → take n ts ++ t ∷ [] ≡ ts
+only_one [] n t at e = absurd (cc)
+only_one (u ∷ ts) zero t at e = sym e
+only_one (u ∷ ts) (suc n) t at e = let none : ts ≡ [] = cc in let past = subst (λ xs. slice_get xs n ≡ Some t) none at in absurd (cc)
+
+judged_after : (ts before : List Trial) (n : ℕ) (t : Trial) (a b c : List Judgement) (w : Option Judgement) → before ≡ take n ts → slice_get ts n ≡ Some t → b ≡ a ++ map misfit before → (ts ≡ t ∷ []) ⊎ MustBeWhole t → AreJudgedUpTo (t ∷ []) b c w → MatchOption w (MustBeWhole t → ⊥) (λ _. ⊤) → AreJudgedUpTo ts a c w
+judged_after ts before n t a b c (Some w) cut at e left judged sure =
+    let rest = cut_at ts n t at in
+    let misfits = subst (λ xs. AreJudgedUpTo xs a b None) cut (misfits_up_to before a b e) in
+    subst (λ xs. AreJudgedUpTo xs a c (Some w)) (sym rest.1) (whole_up_to (take n ts ++ t ∷ []) rest.0 a c w (both_up_to (take n ts) (t ∷ []) a b c (Some w) misfits judged))
+judged_after ts before n t a b c None cut at e left judged sure =
+    let misfits = subst (λ xs. AreJudgedUpTo xs a b None) cut (misfits_up_to before a b e) in
+    ⊎_elim (λ one. subst (λ xs. AreJudgedUpTo xs a c None) (only_one ts n t at one) (both_up_to (take n ts) (t ∷ []) a b c None misfits judged)) (λ must. absurd (sure must)) left
+
+pub one_after : {E : Type 0} (r : Result (Option Judgement) E) (ts before : List Trial) (n : ℕ) (t : Trial) (a b c : List Judgement) → before ≡ take n ts → slice_get ts n ≡ Some t → b ≡ a ++ map misfit before → (ts ≡ t ∷ []) ⊎ MustBeWhole t → IfOk r (AreJudgedUpTo (t ∷ []) b c) → IfOk r (λ w. MatchOption w (MustBeWhole t → ⊥) (λ _. ⊤)) → IfOk r (AreJudgedUpTo ts a c)
+one_after (Ok w) ts before n t a b c cut at e left judged sure = judged_after ts before n t a b c w cut at e left judged sure
+one_after (Err e) ts before n t a b c cut at is left judged sure = tt
 
 pub misfits_right : (ts : List Trial) → AllByRecursion (λ t. IsVerdict t Misfit) ts → AllByRecursion (λ j. IsVerdict j.trial j.verdict) (map misfit ts)
 misfits_right [] h = tt
@@ -80,15 +96,8 @@ is_whole t Whole full not is = refl
 is_whole t Part full not is = absurd (let left : length t.placed < length (heads_of t.rule) = is.left in omega arith)
 is_whole t Misfit full not is = absurd (not is)
 
-row_full : (part : Trial) (lasts : List Placed) (n : ℕ) (t : Trial) → length part.placed + 1 ≡ length (heads_of part.rule) → slice_get (map (lengthened part) lasts) n ≡ Some t → length t.placed ≡ length (heads_of t.rule)
-row_full part [] n t full e = absurd (cc)
-row_full part (p ∷ ps) zero t full e =
-    let same : lengthened part p ≡ t = cc in
-    subst (λ (t : Trial). length t.placed ≡ length (heads_of t.rule)) same (length-append part.placed (p ∷ []) ∙ full)
-row_full part (p ∷ ps) (suc n) t full e = row_full part ps n t full e
-
-pub whole_in_row : (part : Trial) (lasts : List Placed) (n : ℕ) (t : Trial) (v : Verdict) → length part.placed + 1 ≡ length (heads_of part.rule) → slice_get (map (lengthened part) lasts) n ≡ Some t → (IsVerdict t Misfit → ⊥) → IsVerdict t v → v ≡ Whole
-whole_in_row part lasts n t v full e = is_whole t v (row_full part lasts n t full e)
+pub must_be : (t : Trial) → length t.placed ≡ length (heads_of t.rule) → (IsVerdict t Misfit → ⊥) → MustBeWhole t
+must_be t full not v is = is_whole t v full not is
 
 -- ---- no more judgements than trials
 

@@ -6,7 +6,8 @@ use Rattle.std.specs.declared.vec.IntoIter.{IntoIter}
 use Rattle.std.proofs.lemmas.List.{append-nil, take_more}
 use Rattle.chr_sheet.specs.declared.trials.Trials.{Trials}
 use Rattle.chr_sheet.specs.declared.others.Others.{Others}
-use Rattle.chr_sheet.specs.Kept.{trials_at, trials_in, others_at, others_in}
+use Rattle.chr_sheet.specs.Kept.{trials_at, trials_in}
+use Rattle.chr_sheet.specs.Others.{others_at, others_in}
 
 trials_both : {Z : Type 0} (xs ys : List (Trials Z)) → trials_in (xs ++ ys) ≡ trials_in xs ++ trials_in ys
 trials_both [] ys = refl

@@ -1,14 +1,12 @@
 -- Trials of the active label alone, at rules of one head.
-use Rattle.std.specs.Prelude.{⊤, ◌≡◌, ℕ, ◌+◌, List, [], ◌∷◌, length, map, take, Option, Some, None, slice_get}
+use Rattle.std.specs.Prelude.{⊤, ◌≡◌, ℕ, ◌+◌, List, [], ◌∷◌, length, map, Some}
 use Rattle.std.specs.Arc.{arc_value}
 use Rattle.std.specs.List.{AllByRecursion}
 use Rattle.chr_value.specs.declared.atom.Pred.{Pred}
 use Rattle.chr_rule.specs.Rules.{Simpagation, rule_at}
 use Rattle.chr_rule.specs.Occurrences.{IsNextOccurrence}
 use Rattle.chr_plan.specs.Orders.{heads_of}
-use Rattle.chr_search.specs.declared.judged.Verdict.TheVariants.{Misfit}
 use Rattle.chr_search.specs.Verdicts.{Placed, Trial, IsFormed}
-use Rattle.chr_search.specs.Judged.{IsVerdict}
 use Rattle.chr_sheet.specs.declared.column.OneHead.{OneHead as CodeOneHead}
 
 -- a rule with its number, and a head of it
@@ -44,16 +42,3 @@ pub record IsColumn (c : Column) : Type 0 where
 abbrev pub AreNextHeads : List (Simpagation ℕ) → Pred → ℕ → ℕ → List Head → Type 0
 AreNextHeads rules p r h [] = ⊤
 AreNextHeads rules p r h (o ∷ os) = IsNextOccurrence rules p r (h + 1) (o.number, o.head) × (rule_at rules o.number ≡ Some o.rule) × (length (heads_of o.rule) ≡ 1) × AreNextHeads rules p o.number o.head os
-
--- all of them are misfits
-abbrev pub AreMisfitsAlone : Column → Type 0
-AreMisfitsAlone c = AllByRecursion (λ t. IsVerdict t Misfit) (column_trials c)
-
--- the trials before one of a column
-abbrev pub trials_before_alone : Option Column → List Trial
-trials_before_alone None = []
-trials_before_alone (Some c) = column_trials c
-
--- the trials before one of a column, and that one
-abbrev pub IsColumnSplitAt : Column → ℕ → Option Column → Trial → Type 0
-IsColumnSplitAt c n before t = (trials_before_alone before ≡ take n (column_trials c)) × (slice_get (column_trials c) n ≡ Some t)

@@ -2,5 +2,6 @@ pub mod Rows
 pub mod Columns
 pub mod Alone
 pub mod Kept
+pub mod Others
 pub mod Sheets
 pub mod Beside

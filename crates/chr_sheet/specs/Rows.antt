@@ -2,6 +2,7 @@
 use Rattle.std.specs.Prelude.{⊤, ◌≡◌, ℕ, ◌<◌, ◌≤◌, ◌+◌, List, [], ◌∷◌, ◌++◌, length, map, take, Option, Some, None, MatchOption, slice_get}
 use Rattle.std.specs.List.{AllByRecursion}
 use Rattle.chr_plan.specs.Orders.{heads_of}
+use Rattle.chr_search.specs.declared.judged.Verdict.{Verdict}
 use Rattle.chr_search.specs.declared.judged.Verdict.TheVariants as verdicts
 use Rattle.chr_search.specs.Verdicts.{Placed, Trial, IsFormed}
 use Rattle.chr_search.specs.Judged.{Judgement, IsVerdict}
@@ -21,9 +22,13 @@ pub record IsRow (r : Row) : Type 0 where
   pub full : length r.part.placed + 1 ≡ length (heads_of r.part.rule)
   pub formed : AllByRecursion IsFormed (trials_of r)
 
--- all of them are misfits
-abbrev pub AreMisfits : Row → Type 0
-AreMisfits r = AllByRecursion (λ t. IsVerdict t verdicts.Misfit) (trials_of r)
+-- all of these are misfits
+abbrev pub AreMisfits : List Trial → Type 0
+AreMisfits ts = AllByRecursion (λ t. IsVerdict t verdicts.Misfit) ts
+
+-- no verdict is right but that it is whole
+abbrev pub MustBeWhole : Trial → Type 0
+MustBeWhole t = (v : Verdict) → IsVerdict t v → v ≡ verdicts.Whole
 
 -- a judgement of a misfit
 abbrev pub misfit : Trial → Judgement
@@ -46,10 +51,10 @@ pub record IsJudgedSheet (sheet : JudgedSheet) : Type 0 where
   pub whole : MatchOption sheet.whole ⊤ (λ w. w.verdict ≡ verdicts.Whole)
   pub few : length (judgements_of sheet) < 18446744073709551616
 
--- the trials before one of a row, and that one
-abbrev pub trials_before : Option Row → List Trial
-trials_before None = []
-trials_before (Some r) = trials_of r
+-- the trials that are kept before one, and that one
+abbrev pub trials_before : {K : Type 0} → (K → List Trial) → Option K → List Trial
+trials_before kept None = []
+trials_before kept (Some some) = kept some
 
-abbrev pub IsSplitAt : Row → ℕ → Option Row → Trial → Type 0
-IsSplitAt r n before t = (trials_before before ≡ take n (trials_of r)) × (slice_get (trials_of r) n ≡ Some t)
+abbrev pub IsSplitAt : List Trial → ℕ → List Trial → Trial → Type 0
+IsSplitAt ts n before t = (before ≡ take n ts) × (slice_get ts n ≡ Some t)

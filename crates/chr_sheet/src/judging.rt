@@ -1,16 +1,15 @@
 //! Judging the trials of a sheet.
-ghost use Rattle.std.specs.Prelude.{◌≡◌, ◌<◌, ◌≤◌, ⊤, ◌∷◌, ◌++◌, [], length, map, take, IfOk, OnOk, MatchOption, IsTrue, slice_get};
-ghost use Rattle.std.specs.List.{AllByRecursion};
+ghost use Rattle.std.specs.Prelude.{◌≡◌, ◌⊎◌, ◌<◌, ◌≤◌, ⊤, ◌∷◌, ◌++◌, [], length, map, take, IfOk, OnOk, MatchOption, IsTrue, slice_get};
 ghost use Rattle.std.specs.Option.{option_copied};
 ghost use Rattle.chr_search.specs.declared.judged.Verdict.TheVariants as verdicts;
-ghost use Rattle.chr_search.specs.Judged.{IsVerdict};
-ghost use Rattle.chr_sheet.specs.Columns.{column_trials, trials_before_alone};
-ghost use Rattle.chr_sheet.specs.Kept.{others_in, trials_at, trials_in};
-ghost use Rattle.chr_sheet.specs.Rows.{judgements_of, misfit, trials_before, trials_of};
+ghost use Rattle.chr_sheet.specs.Columns.{column_trials};
+ghost use Rattle.chr_sheet.specs.Kept.{trials_at, trials_in};
+ghost use Rattle.chr_sheet.specs.Others.{others_in};
+ghost use Rattle.chr_sheet.specs.Rows.{judgements_of, misfit, trials_before, trials_of, AreMisfits, MustBeWhole};
 ghost use Rattle.chr_sheet.specs.Sheets.{AreJudgedInOrder, AreJudgedUpTo};
 
 use crate::column::Column;
-use crate::not_whole::{Misfits, MisfitsAlone, NotWhole};
+use crate::not_whole::{Misfits, NotWhole};
 use crate::others::Others;
 use crate::row::Row;
 use crate::trials::Trials;
@@ -37,7 +36,7 @@ impl<A: Allocator> Model for Judgements<A> {
     ghost use Rattle.chr_value.specs.Code.{value_code};
     ghost use Rattle.chr_rule.specs.Code.{expression_code};
     ghost use Rattle.chr_rule.specs.TermCode.{term_code};
-    ghost use Rattle.chr_sheet.specs.Kept.{others_in};
+    ghost use Rattle.chr_sheet.specs.Others.{others_in};
     ghost use Rattle.chr_sheet.specs.Rows.{JudgedSheet, IsJudgedSheet};
 
     ghost Value = { JudgedSheet };
@@ -89,10 +88,10 @@ impl<A: Allocator + Copy> Judgements<A> {
 }
 
 /// How many trials of a row are misfits, before the first that isn't.
-fn count_misfits<A: Allocator + Copy, W: Watch>(row: &Row<A>, watch: &W) -> usize
-    ensures few { result ≤ length row.now.lasts }
-    ensures misfits { AllByRecursion (λ t. IsVerdict t verdicts.Misfit) (take result (trials_of row.now)) }
-    ensures next { MatchOption (slice_get (trials_of row.now) result) ⊤ (λ t. IsVerdict t verdicts.Misfit → ⊥) }
+fn count_in_row<A: Allocator + Copy, W: Watch>(row: &Row<A>, watch: &W) -> usize
+    ensures few { result ≤ length (trials_of row.now) }
+    ensures misfits { AreMisfits (take result (trials_of row.now)) }
+    ensures next { MatchOption (slice_get (trials_of row.now) result) ⊤ MustBeWhole }
 {
     let Some(mut fitted) = Fitted::of(row.part()) else {
         for _ in row.lasts() {
@@ -110,10 +109,10 @@ fn count_misfits<A: Allocator + Copy, W: Watch>(row: &Row<A>, watch: &W) -> usiz
 }
 
 /// How many trials of a column are misfits, before the first that isn't.
-fn count_misfits_alone<A: Allocator + Copy, W: Watch>(column: &Column<A>, watch: &W) -> usize
+fn count_in_column<A: Allocator + Copy, W: Watch>(column: &Column<A>, watch: &W) -> usize
     ensures few { result ≤ length (column_trials column.now) }
-    ensures misfits { AllByRecursion (λ t. IsVerdict t verdicts.Misfit) (take result (column_trials column.now)) }
-    ensures next { MatchOption (slice_get (column_trials column.now) result) ⊤ (λ t. IsVerdict t verdicts.Misfit → ⊥) }
+    ensures misfits { AreMisfits (take result (column_trials column.now)) }
+    ensures next { MatchOption (slice_get (column_trials column.now) result) ⊤ MustBeWhole }
 {
     let first = column.first();
     let one = &first.placed()[0];
@@ -131,52 +130,32 @@ fn count_misfits_alone<A: Allocator + Copy, W: Watch>(column: &Column<A>, watch:
     column.more().len() + 1
 }
 
-/// Puts misfits of the active label alone after the others. An `Err` is E01.
-fn push_misfits_alone<A: Allocator + Copy>(
-    column: Option<Column<A>>,
-    others: &mut Vec<Others<A>, A>,
-) -> Result<(), AllocError>
-    requires { AllByRecursion (λ t. IsVerdict t verdicts.Misfit) (trials_before_alone column) }
-    ensures { OnOk result (others_in others.new.items ≡ others_in others.old.items ++ map misfit (trials_before_alone column)) }
+/// How many of these trials are misfits, before the first that isn't. Where there is one alone, that is left open.
+fn count_misfits<A: Allocator + Copy, W: Watch>(trials: &Trials<A>, watch: &W) -> usize
+    ensures few { result ≤ length (trials_at trials.now) }
+    ensures misfits { AreMisfits (take result (trials_at trials.now)) }
+    ensures next { MatchOption (slice_get (trials_at trials.now) result) ⊤ (λ t. (trials_at trials.now ≡ t ∷ []) ⊎ MustBeWhole t) }
 {
-    if let Some(column) = column {
-        others.push(Others::Alone(MisfitsAlone::of(column)))?;
+    match trials {
+        Trials::One(_) => {
+            watch.before_judging();
+            0
+        }
+        Trials::Row(row) => count_in_row(row, watch),
+        Trials::Column(column) => count_in_column(column, watch),
     }
-    Ok(())
-}
-
-/// Judges the trials of a column, as [`judge_row`] does those of a row.
-fn judge_column<A: Allocator + Copy, W: Watch>(
-    alloc: A,
-    column: Column<A>,
-    watch: &W,
-    others: &mut Vec<Others<A>, A>,
-) -> Result<Option<Judged<A>>, AllocError>
-    ensures { IfOk result (λ whole. AreJudgedUpTo (column_trials column) (others_in others.old.items) (others_in others.new.items) whole) }
-{
-    let count = count_misfits_alone(&column, watch);
-    if count > column.more().len() {
-        push_misfits_alone(Some(column), others)?;
-        return Ok(None);
-    }
-    let (before, trial) = column.split_at(alloc, count)?;
-    push_misfits_alone(before, others)?;
-    let judged = chr_search::judge(trial);
-    // For the proof: a trial that has all heads and isn't a misfit is whole.
-    let _verdict = judged.verdict();
-    Ok(Some(judged))
 }
 
 /// Puts misfits after the others. An `Err` is E01.
 fn push_misfits<A: Allocator + Copy>(
-    row: Option<Row<A>>,
+    trials: Option<Trials<A>>,
     others: &mut Vec<Others<A>, A>,
 ) -> Result<(), AllocError>
-    requires { AllByRecursion (λ t. IsVerdict t verdicts.Misfit) (trials_before row) }
-    ensures { OnOk result (others_in others.new.items ≡ others_in others.old.items ++ map misfit (trials_before row)) }
+    requires { AreMisfits (trials_before trials_at trials) }
+    ensures { OnOk result (others_in others.new.items ≡ others_in others.old.items ++ map misfit (trials_before trials_at trials)) }
 {
-    if let Some(row) = row {
-        others.push(Others::Misfits(Misfits::of(row)))?;
+    if let Some(trials) = trials {
+        others.push(Others::Misfits(Misfits::of(trials)))?;
     }
     Ok(())
 }
@@ -186,7 +165,8 @@ fn judge_one<A: Allocator + Copy>(
     trial: Trial<A>,
     others: &mut Vec<Others<A>, A>,
 ) -> Result<Option<Judged<A>>, AllocError>
-    ensures { IfOk result (λ whole. AreJudgedUpTo (trial ∷ []) (others_in others.old.items) (others_in others.new.items) whole) }
+    ensures judged { IfOk result (λ whole. AreJudgedUpTo (trial ∷ []) (others_in others.old.items) (others_in others.new.items) whole) }
+    ensures sure { IfOk result (λ whole. MatchOption whole (MustBeWhole trial → ⊥) (λ _. ⊤)) }
 {
     let judged = chr_search::judge(trial);
     if judged.verdict() == Verdict::Whole {
@@ -194,29 +174,6 @@ fn judge_one<A: Allocator + Copy>(
     }
     others.push(Others::One(NotWhole::of(judged)))?;
     Ok(None)
-}
-
-/// Judges the trials of a row, up to the first that is whole. Returns the judgement of that one, and puts the others after the
-/// others. An `Err` is E01.
-fn judge_row<A: Allocator + Copy, W: Watch>(
-    alloc: A,
-    row: Row<A>,
-    watch: &W,
-    others: &mut Vec<Others<A>, A>,
-) -> Result<Option<Judged<A>>, AllocError>
-    ensures { IfOk result (λ whole. AreJudgedUpTo (trials_of row) (others_in others.old.items) (others_in others.new.items) whole) }
-{
-    let count = count_misfits(&row, watch);
-    if count == row.lasts().len() {
-        push_misfits(Some(row), others)?;
-        return Ok(None);
-    }
-    let (before, trial) = row.split_at(alloc, count)?;
-    push_misfits(before, others)?;
-    let judged = chr_search::judge(trial);
-    // For the proof: a trial that has all heads and isn't a misfit is whole.
-    let _verdict = judged.verdict();
-    Ok(Some(judged))
 }
 
 /// Judges trials that are kept in one place, up to the first that is whole. Returns the judgement of that one, and puts the
@@ -229,14 +186,14 @@ fn judge_some<A: Allocator + Copy, W: Watch>(
 ) -> Result<Option<Judged<A>>, AllocError>
     ensures { IfOk result (λ whole. AreJudgedUpTo (trials_at trials) (others_in others.old.items) (others_in others.new.items) whole) }
 {
-    match trials {
-        Trials::One(trial) => {
-            watch.before_judging();
-            judge_one(trial, others)
-        }
-        Trials::Row(row) => judge_row(alloc, row, watch, others),
-        Trials::Column(column) => judge_column(alloc, column, watch, others),
+    let count = count_misfits(&trials, watch);
+    if count == trials.len() {
+        push_misfits(Some(trials), others)?;
+        return Ok(None);
     }
+    let (before, trial) = trials.split_at(alloc, count)?;
+    push_misfits(before, others)?;
+    judge_one(trial, others)
 }
 
 /// Judges the trials of a sheet in order, up to the first that is whole. Returns the judgement of that one, and puts the others

@@ -14,7 +14,8 @@
 //!
 //! - `Rows`: rows of trials.
 //! - `Columns`: columns of trials.
-//! - `Kept`: which trials and judgements are kept.
+//! - `Kept`: which trials are kept.
+//! - `Others`: which judgements are kept.
 //! - `Sheets`: what is read, judged and reported.
 #![tactic(auto)]
 

@@ -1,12 +1,11 @@
-//! Judgements that aren't whole: of one trial, of a row, or of a column.
+//! Judgements that aren't whole: of one trial, or of several that are misfits.
 ghost use Rattle.std.specs.Prelude.{◌≡◌, ◌≢◌};
 ghost use Rattle.chr_search.specs.declared.judged.Verdict.TheVariants as verdicts;
 ghost use Rattle.chr_search.specs.Judged.{IsVerdict};
-ghost use Rattle.chr_sheet.specs.Columns.{AreMisfitsAlone};
+ghost use Rattle.chr_sheet.specs.Kept.{trials_at};
 ghost use Rattle.chr_sheet.specs.Rows.{AreMisfits};
 
-use crate::column::Column;
-use crate::row::Row;
+use crate::trials::Trials;
 use chr_search::{Judged, Trial, Verdict};
 use std::alloc::Allocator;
 use std::marker::Model;
@@ -66,82 +65,45 @@ impl<A: Allocator + Copy> NotWhole<A> {
     }
 }
 
-/// A row of trials that are misfits.
+/// Trials that come one after another and are misfits. Contracts see these trials.
 #[derive(Drop)]
 pub struct Misfits<A: Allocator> {
-    row: Row<A>,
+    trials: Trials<A>,
 }
 
 impl<A: Allocator> Model for Misfits<A> {
+    ghost use Rattle.std.specs.Prelude.{List};
     ghost use Rattle.std.specs.Coded.{codes};
     ghost use Rattle.chr_value.specs.Code.{value_code};
     ghost use Rattle.chr_rule.specs.Code.{expression_code};
     ghost use Rattle.chr_rule.specs.TermCode.{term_code};
-    ghost use Rattle.chr_sheet.specs.Rows.{Row, AreMisfits};
+    ghost use Rattle.chr_search.specs.Verdicts.{Trial};
+    ghost use Rattle.chr_sheet.specs.Kept.{trials_at};
+    ghost use Rattle.chr_sheet.specs.Rows.{AreMisfits};
 
-    ghost Value = { Row };
+    ghost Value = { List Trial };
 
     ghost coded = { Prim.hlevel (codes, expression_code, term_code, value_code) };
 
-    ghost view = { λ m. m.row };
+    ghost view = { λ m. trials_at m.trials };
 
-    ghost invariant = { λ m. AreMisfits m.row };
+    ghost invariant = { λ m. AreMisfits (trials_at m.trials) };
 }
 
 impl<A: Allocator + Copy> Misfits<A> {
-    /// A row of misfits.
-    pub(crate) fn of(row: Row<A>) -> Misfits<A>
-        requires { AreMisfits row }
-        ensures { result ≡ row }
+    /// Trials that are misfits.
+    pub(crate) fn of(trials: Trials<A>) -> Misfits<A>
+        requires { AreMisfits (trials_at trials) }
+        ensures { result ≡ trials_at trials }
     {
-        Misfits { row }
+        Misfits { trials }
     }
 
     /// The trials.
-    pub fn row(&self) -> &Row<A>
-        ensures row { result.now ≡ self.now }
+    pub fn trials(&self) -> &Trials<A>
+        ensures trials { trials_at result.now ≡ self.now }
         ensures misfits { AreMisfits self.now }
     {
-        &self.row
-    }
-}
-
-/// A column of trials that are misfits.
-#[derive(Drop)]
-pub struct MisfitsAlone<A: Allocator> {
-    column: Column<A>,
-}
-
-impl<A: Allocator> Model for MisfitsAlone<A> {
-    ghost use Rattle.std.specs.Coded.{codes};
-    ghost use Rattle.chr_value.specs.Code.{value_code};
-    ghost use Rattle.chr_rule.specs.Code.{expression_code};
-    ghost use Rattle.chr_rule.specs.TermCode.{term_code};
-    ghost use Rattle.chr_sheet.specs.Columns.{Column, AreMisfitsAlone};
-
-    ghost Value = { Column };
-
-    ghost coded = { Prim.hlevel (codes, expression_code, term_code, value_code) };
-
-    ghost view = { λ m. m.column };
-
-    ghost invariant = { λ m. AreMisfitsAlone m.column };
-}
-
-impl<A: Allocator + Copy> MisfitsAlone<A> {
-    /// A column of misfits.
-    pub(crate) fn of(column: Column<A>) -> MisfitsAlone<A>
-        requires { AreMisfitsAlone column }
-        ensures { result ≡ column }
-    {
-        MisfitsAlone { column }
-    }
-
-    /// The trials.
-    pub fn column(&self) -> &Column<A>
-        ensures column { result.now ≡ self.now }
-        ensures misfits { AreMisfitsAlone self.now }
-    {
-        &self.column
+        &self.trials
     }
 }

@@ -2,9 +2,9 @@
 ghost use Rattle.std.specs.Prelude.{◌≡◌, length};
 ghost use Rattle.std.specs.List.{AllByRecursion};
 ghost use Rattle.chr_search.specs.Judged.{IsVerdict};
-ghost use Rattle.chr_sheet.specs.Kept.{others_at};
+ghost use Rattle.chr_sheet.specs.Others.{others_at};
 
-use crate::not_whole::{Misfits, MisfitsAlone, NotWhole};
+use crate::not_whole::{Misfits, NotWhole};
 use std::alloc::Allocator;
 
 /// Judgements of trials that come one after another, none of which is whole.
@@ -12,10 +12,8 @@ use std::alloc::Allocator;
 pub enum Others<A: Allocator> {
     /// One judgement.
     One(NotWhole<A>),
-    /// Misfits that differ in their last label.
+    /// Judgements of misfits.
     Misfits(Misfits<A>),
-    /// Misfits of the active label alone.
-    Alone(MisfitsAlone<A>),
 }
 
 impl<A: Allocator + Copy> Others<A> {
@@ -28,10 +26,7 @@ impl<A: Allocator + Copy> Others<A> {
                 let _right = judged.verdict();
             }
             Others::Misfits(misfits) => {
-                let _right = misfits.row();
-            }
-            Others::Alone(misfits) => {
-                let _right = misfits.column();
+                let _right = misfits.trials();
             }
         }
     }
@@ -42,8 +37,7 @@ impl<A: Allocator + Copy> Others<A> {
     {
         match self {
             Others::One(_) => 1,
-            Others::Misfits(misfits) => misfits.row().lasts().len(),
-            Others::Alone(misfits) => misfits.column().more().len() + 1,
+            Others::Misfits(misfits) => misfits.trials().len(),
         }
     }
 }

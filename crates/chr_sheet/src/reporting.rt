@@ -1,12 +1,13 @@
 //! Reporting the judgements of a sheet.
-ghost use Rattle.std.specs.Prelude.{◌≡◌, ◌≤◌, ◌↔◌, IsTrue, Some, ◌∷◌, ◌++◌, ⊤, [], ℕ, List, length, map, MatchOption};
+ghost use Rattle.std.specs.Prelude.{◌≡◌, ◌≢◌, ◌≤◌, ◌↔◌, IsTrue, Some, ◌∷◌, ◌++◌, ⊤, [], ℕ, List, length, map, MatchOption};
 ghost use Rattle.std.specs.List.{AllByRecursion};
+ghost use Rattle.chr_search.specs.declared.judged.Verdict.TheVariants as verdicts;
 ghost use Rattle.chr_search.specs.Judged.{IsVerdict};
 ghost use Rattle.chr_plan.specs.Plans.{ArePlans};
 ghost use Rattle.chr_search.specs.Fronts.{MayEnd};
 ghost use Rattle.chr_search.specs.Trials.{Space, older, IsNext};
 ghost use Rattle.chr_search.specs.Verdicts.{IsTrialOf, position};
-ghost use Rattle.chr_sheet.specs.Kept.{others_at};
+ghost use Rattle.chr_sheet.specs.Others.{others_at};
 ghost use Rattle.chr_rule.specs.Rules.{rule_at};
 ghost use Rattle.chr_sheet.specs.Columns.{column_trials};
 ghost use Rattle.chr_sheet.specs.Alone.{IsAloneIn, IsAloneOf, place_past};
@@ -15,12 +16,12 @@ ghost use Rattle.chr_sheet.specs.Sheets.{IsFireable, IsFrontOf, Reports, place_a
 
 use crate::column::Column;
 use crate::judging::Judgements;
-use crate::not_whole::NotWhole;
 use crate::others::Others;
 use crate::row::Row;
+use crate::trials::Trials;
 use chr_plan::Plans;
 use chr_rule::{Program, Rule};
-use chr_search::{Front, Search, Trial};
+use chr_search::{Front, Search, Trial, Verdict};
 use chr_store::{Label, Store};
 use std::alloc::Allocator;
 
@@ -205,22 +206,25 @@ fn pass_alone<A: Allocator + Copy>(
     count
 }
 
-/// Moves a search over a judged trial, where it is the next one. Returns how many were.
+/// Moves a search over a trial with a verdict on it, where it is the next one. Returns how many were.
 fn pass_one<A: Allocator + Copy>(
     search: &mut Search,
-    judged: &NotWhole<A>,
+    trial: &Trial<A>,
+    verdict: Verdict,
     program: &Program<A>,
     plans: &Plans<A>,
     store: &Store<A>,
 ) -> usize
-    requires { ArePlans program.now plans.now }
+    requires plans { ArePlans program.now plans.now }
+    requires right { IsVerdict trial.now verdict }
+    requires other { verdict ≢ verdicts.Whole }
     ensures label { search.new.label ≡ search.old.label }
-    ensures reports { Reports (older program.now plans.now store.now.entries search.old.label) search.old.place (judged.now ∷ []) result search.new.place }
+    ensures reports { Reports (older program.now plans.now store.now.entries search.old.label) search.old.place (record { trial = trial.now; verdict = verdict } ∷ []) result search.new.place }
 {
-    if search.is_next(judged.trial(), program, plans, store) != Some(true) {
+    if search.is_next(trial, program, plans, store) != Some(true) {
         return 0;
     }
-    search.advance_by(judged.trial(), judged.verdict());
+    search.advance_by(trial, verdict);
     1
 }
 
@@ -237,9 +241,12 @@ fn pass_some<A: Allocator + Copy>(
     ensures reports { Reports (older program.now plans.now store.now.entries search.old.label) search.old.place (others_at some.now) result search.new.place }
 {
     match some {
-        Others::One(judged) => pass_one(search, judged, program, plans, store),
-        Others::Misfits(misfits) => pass_misfits(search, misfits.row(), program, plans, store),
-        Others::Alone(misfits) => pass_alone(search, misfits.column(), program, plans, store),
+        Others::One(one) => pass_one(search, one.trial(), one.verdict(), program, plans, store),
+        Others::Misfits(misfits) => match misfits.trials() {
+            Trials::One(one) => pass_one(search, one, Verdict::Misfit, program, plans, store),
+            Trials::Row(row) => pass_misfits(search, row, program, plans, store),
+            Trials::Column(column) => pass_alone(search, column, program, plans, store),
+        },
     }
 }
 

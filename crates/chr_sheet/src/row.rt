@@ -1,7 +1,7 @@
 //! Trials that differ in their last label.
 ghost use Rattle.std.specs.Prelude.{◌≡◌, ◌<◌, length, map, IfOk};
 ghost use Rattle.chr_search.specs.Placed.{placed_as};
-ghost use Rattle.chr_sheet.specs.Rows.{IsRow, IsSplitAt};
+ghost use Rattle.chr_sheet.specs.Rows.{IsRow, IsSplitAt, trials_before, trials_of};
 
 use chr_search::{Placed, Trial};
 use std::alloc::{AllocError, Allocator};
@@ -65,7 +65,7 @@ impl<A: Allocator + Copy> Row<A> {
         index: usize,
     ) -> Result<(Option<Row<A>>, Trial<A>), AllocError>
         requires { index < length self.lasts }
-        ensures { IfOk result (λ made. IsSplitAt self index made.0 made.1) }
+        ensures { IfOk result (λ made. IsSplitAt (trials_of self) index (trials_before trials_of made.0) made.1) }
     {
         let Row { part, mut lasts } = self;
         lasts.truncate(index + 1);
@@ -75,8 +75,7 @@ impl<A: Allocator + Copy> Row<A> {
         if index == 0 {
             return Ok((None, part.lengthened(last)?));
         }
-        let copy = part.copy(alloc)?;
-        let before = Row::new(part, lasts);
-        Ok((Some(before), copy.lengthened(last)?))
+        let trial = part.copy(alloc)?.lengthened(last)?;
+        Ok((Some(Row::new(part, lasts)), trial))
     }
 }

@@ -1,6 +1,7 @@
 //! Trials that come one after another.
-ghost use Rattle.std.specs.Prelude.{◌≡◌, ◌≤◌, length, Some, IfOk, slice_get};
+ghost use Rattle.std.specs.Prelude.{◌≡◌, ◌<◌, ◌≤◌, length, Some, IfOk, slice_get};
 ghost use Rattle.chr_sheet.specs.Kept.{trials_at};
+ghost use Rattle.chr_sheet.specs.Rows.{IsSplitAt, trials_before};
 
 use crate::column::Column;
 use crate::row::Row;
@@ -42,6 +43,28 @@ impl<A: Allocator + Copy> Trials<A> {
                 .part()
                 .copy(alloc)?
                 .lengthened(row.lasts()[0].copy(alloc)?),
+        }
+    }
+
+    /// The trials before one of them, where there are any, and that one. An `Err` is E01.
+    pub(crate) fn split_at(
+        self,
+        alloc: A,
+        index: usize,
+    ) -> Result<(Option<Trials<A>>, Trial<A>), AllocError>
+        requires { index < length (trials_at self) }
+        ensures { IfOk result (λ made. IsSplitAt (trials_at self) index (trials_before trials_at made.0) made.1) }
+    {
+        match self {
+            Trials::One(trial) => Ok((None, trial)),
+            Trials::Row(row) => {
+                let (before, trial) = row.split_at(alloc, index)?;
+                Ok((before.map(|row| Trials::Row(row)), trial))
+            }
+            Trials::Column(column) => {
+                let (before, trial) = column.split_at(alloc, index)?;
+                Ok((before.map(|column| Trials::Column(column)), trial))
+            }
         }
     }
 }

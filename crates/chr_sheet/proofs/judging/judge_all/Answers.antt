@@ -1,7 +1,8 @@
 use Rattle.std.proofs.Common.{List, ◌++◌, ◌∙◌, Some, None, sym, ap, subst}
 use Rattle.std.proofs.IntoIterSteps.{All-taken}
 use Rattle.chr_search.specs.Verdicts.{Trial}
-use Rattle.chr_sheet.specs.Kept.{trials_at, trials_in, others_in}
+use Rattle.chr_sheet.specs.Kept.{trials_at, trials_in}
+use Rattle.chr_sheet.specs.Others.{others_in}
 use Rattle.chr_sheet.specs.Sheets.{AreJudgedUpTo}
 use Rattle.chr_sheet.proofs.Keeping.{trials_more, trials_cut, taken_front}
 use Rattle.chr_sheet.proofs.InOrder.{both_up_to, whole_up_to}

@@ -1,20 +1,20 @@
 use Rattle.std.proofs.Common.{◌≡◌, ◌≢◌, ◌∷◌, [], None, sym, ◌∙◌, ap, subst, rules}
 use Rattle.chr_search.specs.declared.judged.Verdict.TheVariants.{Whole}
-use Rattle.chr_search.specs.Judged.{Judgement}
-use Rattle.chr_sheet.specs.Kept.{others_in}
+use Rattle.chr_search.specs.Judged.{Judgement, IsVerdict}
+use Rattle.chr_sheet.specs.Others.{others_in}
 use Rattle.chr_sheet.specs.Sheets.{AreJudgedUpTo}
 use Rattle.chr_sheet.specs.declared.others.Others.TheVariants.{One}
 use Rattle.chr_sheet.proofs.Keeping.{others_pushed}
 use Rattle.chr_sheet.proofs.InOrder.{one_whole, one_other}
 use Rattle.chr_sheet.proofs.judging.judge_one.Goals as goal
 
-pub returns-then-eq : goal.returns-then-eq
-returns-then-eq g c =
+pub returns-then-eq-clause-judged : goal.returns-then-eq-clause-judged
+returns-then-eq-clause-judged g c =
     let is : c.verdict.result ≡ Whole = search rules in
     one_whole c.args.trial (others_in c.args.others.now.items) c.judge-judged.result c.judge-judged.ensures (sym c.verdict.ensures.verdict ∙ is)
 
-pub returns : goal.returns
-returns g c =
+pub returns-clause-judged : goal.returns-clause-judged
+returns-clause-judged g c =
     let isnt : c.verdict.result ≢ Whole = search rules in
     let j = c.of.result in
     let before = others_in c.args.others.now.items in
@@ -22,3 +22,9 @@ returns g c =
     let verdict = c.verdict.ensures.verdict ∙ sym (ap (λ (k : Judgement). k.verdict) c.of.ensures) in
     subst (λ js. AreJudgedUpTo (c.args.trial ∷ []) before js None) (sym (others_pushed c.args.others.now.items c.push.new.self.items (One j) c.in_ok-push.ensures.items))
     (one_other c.args.trial before j trial (λ h. isnt (verdict ∙ h)))
+
+pub returns-clause-sure : goal.returns-clause-sure
+returns-clause-sure g c must =
+    let j = c.judge-judged.result in
+    let isnt : c.verdict.result ≢ Whole = search rules in
+    isnt (c.verdict.ensures.verdict ∙ must j.verdict (subst (λ t. IsVerdict t j.verdict) c.judge-judged.ensures c.verdict.ensures.right))

@@ -2,7 +2,7 @@ use Rattle.std.proofs.Common.{◌≤◌, ◌+◌, length, length-append, take, r
 use Rattle.std.specs.List.{AllByRecursion}
 use Rattle.chr_search.specs.Judged.{Judgement, IsVerdict}
 use Rattle.chr_search.specs.Trials.{Space, older}
-use Rattle.chr_sheet.specs.Kept.{others_at, others_in}
+use Rattle.chr_sheet.specs.Others.{others_at, others_in}
 use Rattle.chr_sheet.specs.Rows.{listed}
 use Rattle.chr_sheet.specs.Sheets.{Reports, done}
 use Rattle.chr_sheet.proofs.InOrder.{all_both}

@@ -2,7 +2,7 @@ use Rattle.std.proofs.Common.{◌≡◌, take}
 use Rattle.std.specs.List.{AllByRecursion}
 use Rattle.chr_search.specs.Judged.{IsVerdict}
 use Rattle.chr_search.specs.Trials.{older}
-use Rattle.chr_sheet.specs.Kept.{others_in}
+use Rattle.chr_sheet.specs.Others.{others_in}
 use Rattle.chr_sheet.specs.Sheets.{Reports}
 use Rattle.chr_sheet.proofs.reporting.report.Given as goal
 

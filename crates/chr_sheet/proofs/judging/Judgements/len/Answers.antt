@@ -1,7 +1,7 @@
 use Rattle.std.proofs.Common.{◌≡◌, ℕ, ◌+◌, ◌≤◌, List, length, length-append, take, ap, sym, arith}
 use Rattle.std.proofs.lemmas.List.{take_all}
 use Rattle.chr_sheet.specs.declared.others.Others.{Others}
-use Rattle.chr_sheet.specs.Kept.{others_in}
+use Rattle.chr_sheet.specs.Others.{others_in}
 use Rattle.chr_sheet.specs.Rows.{JudgedSheet, judgements_of, listed}
 use Rattle.chr_sheet.proofs.Keeping.{others_front, others_counted}
 use Rattle.chr_sheet.proofs.judging.Judgements.len.Goals as goal

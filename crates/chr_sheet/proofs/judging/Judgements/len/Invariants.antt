@@ -1,5 +1,5 @@
 use Rattle.std.proofs.Common.{◌≡◌, length, take}
-use Rattle.chr_sheet.specs.Kept.{others_in}
+use Rattle.chr_sheet.specs.Others.{others_in}
 use Rattle.chr_sheet.proofs.judging.Judgements.len.Given as goal
 
 abbrev pub invariant-loop-some : goal.invariant-loop-some

@@ -18,8 +18,8 @@ returns-then-index-eq0 g c =
     let k = parted g (goal.at.returns-then-index-eq0 g c).In-Some in
     (ap (λ n. take n (trials_of c.args.self)) (sym c.if-index-eq0.true), k.trial ∙ ap (λ t. Some t) (sym c.in_ok-lengthened.ensures))
 
-pub new-before-requires : goal.new-before-requires
-new-before-requires g c = (parted g (goal.at.new-before-requires g c).In-Some).row (omega arith)
+pub new-requires : goal.new-requires
+new-requires g c = (parted g (goal.at.new-requires g c).In-Some).row (omega arith)
 
 pub lengthened-requires-2 : goal.lengthened-requires-2
 lengthened-requires-2 g c =
@@ -28,4 +28,4 @@ lengthened-requires-2 g c =
 pub returns : goal.returns
 returns g c =
     let k = parted g (goal.at.returns g c).In-Some in
-    (ap trials_of c.new-before.ensures ∙ k.trials, k.trial ∙ ap (λ t. Some t) (ap (λ t. lengthened t (placed_as c.in-Some.last)) (sym c.in_ok-copy.ensures) ∙ sym c.in_ok-lengthened-2.ensures))
+    (ap trials_of c.new.ensures ∙ k.trials, k.trial ∙ ap (λ t. Some t) (ap (λ t. lengthened t (placed_as c.in-Some.last)) (sym c.in_ok-copy.ensures) ∙ sym c.in_ok-trial.ensures))

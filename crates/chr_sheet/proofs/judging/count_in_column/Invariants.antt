@@ -3,7 +3,7 @@ use Rattle.std.specs.List.{AllByRecursion}
 use Rattle.chr_search.specs.declared.judged.Verdict.TheVariants as verdicts
 use Rattle.chr_search.specs.Judged.{IsVerdict}
 use Rattle.chr_sheet.specs.Columns.{column_trials, head_of}
-use Rattle.chr_sheet.proofs.judging.count_misfits_alone.Given as goal
+use Rattle.chr_sheet.proofs.judging.count_in_column.Given as goal
 
 -- the trials so far are misfits
 abbrev pub invariant-loop-i : goal.invariant-loop-i

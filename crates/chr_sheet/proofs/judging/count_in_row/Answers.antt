@@ -1,13 +1,14 @@
-use Rattle.std.proofs.Common.{◌≡◌, length, subst, refl, arith}
+use Rattle.std.proofs.Common.{◌≡◌, ◌∷◌, [], length, length-append, subst, refl, ◌∙◌, arith}
 use Rattle.chr_guard.proofs.Steps.{all_at, all_more}
 use Rattle.chr_search.specs.declared.judged.Verdict.TheVariants.{Misfit}
 use Rattle.chr_search.specs.Verdicts.{Placed, Trial, IsFormed}
 use Rattle.chr_search.specs.Judged.{IsVerdict}
 use Rattle.chr_search.specs.Fronts.{lengthened}
 use Rattle.chr_search.specs.Placed.{placed_as}
-use Rattle.chr_sheet.specs.Rows.{Row, trials_of}
+use Rattle.chr_sheet.specs.Rows.{Row, trials_of, MustBeWhole}
+use Rattle.chr_sheet.proofs.InOrder.{must_be}
 use Rattle.chr_sheet.proofs.InRows.{trials_count, trial_there, told_there, none_there, all_taken, all_unfit}
-use Rattle.chr_sheet.proofs.judging.count_misfits.Goals as goal
+use Rattle.chr_sheet.proofs.judging.count_in_row.Goals as goal
 
 pub returns-in_default-clause-misfits : goal.returns-in_default-clause-misfits
 returns-in_default-clause-misfits g c =
@@ -20,7 +21,7 @@ pub returns-in_default-clause-next : goal.returns-in_default-clause-next
 returns-in_default-clause-next g c =
     let r : Row = c.args.row.now in
     let count : length (trials_of r) ≡ length c.lasts.result.now = trials_count placed_as r c.lasts.result.now c.lasts.ensures.lasts in
-    none_there (trials_of r) (length c.lasts.result.now) (λ t. IsVerdict t Misfit → ⊥) (omega arith)
+    none_there (trials_of r) (length c.lasts.result.now) MustBeWhole (omega arith)
 
 pub is_misfit-requires : goal.is_misfit-requires
 is_misfit-requires g c =
@@ -38,7 +39,7 @@ returns-then-not-is_misfit-clause-next g c =
     let count : length (trials_of r) ≡ length xs = trials_count placed_as r xs c.lasts-last-items.ensures.lasts in
     let t : Trial = lengthened r.part (placed_as c.last-item.result) in
     let there = trial_there placed_as r xs c.loop-i.i c.last-item.result c.lasts-last-items.ensures.lasts c.loop-i-test.true c.last-item.is in
-    told_there (trials_of r) c.loop-i.i t (λ t. IsVerdict t Misfit → ⊥) (omega arith) there (λ m. let told = (c.if-not-is_misfit.ensures.misfit r.part c.loop-i.invariant.fitted).1 m in absurd (cc))
+    told_there (trials_of r) c.loop-i.i t MustBeWhole (omega arith) there (must_be t (length-append r.part.placed (placed_as c.last-item.result ∷ []) ∙ c.part.ensures.row.full) (λ m. let told = (c.if-not-is_misfit.ensures.misfit r.part c.loop-i.invariant.fitted).1 m in absurd (cc)))
 
 pub loop-i-preserved : goal.loop-i-preserved
 loop-i-preserved g c =
@@ -57,4 +58,4 @@ pub returns-clause-next : goal.returns-clause-next
 returns-clause-next g c =
     let r : Row = c.args.row.now in
     let count : length (trials_of r) ≡ length c.lasts-2.result.now = trials_count placed_as r c.lasts-2.result.now c.lasts-2.ensures.lasts in
-    none_there (trials_of r) (length c.lasts-2.result.now) (λ t. IsVerdict t Misfit → ⊥) (omega arith)
+    none_there (trials_of r) (length c.lasts-2.result.now) MustBeWhole (omega arith)

@@ -5,7 +5,7 @@ use Rattle.chr_search.specs.Judged.{IsVerdict}
 use Rattle.chr_search.specs.Fronts.{IsFitted}
 use Rattle.chr_search.specs.Placed.{placed_as}
 use Rattle.chr_sheet.specs.Rows.{trials_of}
-use Rattle.chr_sheet.proofs.judging.count_misfits.Given as goal
+use Rattle.chr_sheet.proofs.judging.count_in_row.Given as goal
 
 -- the trials so far are misfits
 abbrev pub invariant-loop-i : goal.invariant-loop-i
