@@ -3,6 +3,7 @@ pub mod PostedBooks
 pub mod Nexts
 pub mod Turns
 pub mod Together
+pub mod Asking
 pub mod Batched
 pub mod Reported
 pub mod Following

@@ -7,19 +7,17 @@ use Rattle.chr_model.specs.Stores.{Store, atom_at}
 use Rattle.chr_model.specs.Goals.{Numbered}
 use Rattle.chr_search.specs.Trials.{IsNext, NoneLeft}
 use Rattle.chr_search.specs.Reach.{SearchState}
-use Rattle.chr_search.specs.Verdicts.{Trial, position, IsFormed, IsTrialOf}
+use Rattle.chr_search.specs.Verdicts.{Trial}
 use Rattle.chr_search.specs.Judged.{Judgement, IsVerdict}
-use Rattle.chr_search.specs.Answers.{IsAnswer, after_judging}
-use Rattle.chr_search.specs.declared.search.Ask.{Ask}
-use Rattle.chr_search.specs.declared.search.Ask.TheVariants as answers
+use Rattle.chr_search.specs.Answers.{after_judging}
 use Rattle.chr_search.specs.declared.judged.Verdict.TheVariants.{Whole}
 use Rattle.chr_calls.specs.declared.answers.TicketState.{TicketState}
 use Rattle.chr_calls.specs.declared.answers.TicketState.TheVariants as states
 use Rattle.chr_calls.specs.declared.answers.Dropping.TheVariants as dropping
 use Rattle.chr_calls.specs.Turns as turn
-use Rattle.chr_calls.specs.Tickets.{Ticket, ended, marked, with_candidate, going_on, ticket_at, state_of, IsClaimable, waits, rests, IsActive, IsNotHeld}
+use Rattle.chr_calls.specs.Tickets.{Ticket, ended, marked, going_on, ticket_at, state_of, IsClaimable, waits, rests, IsActive, IsNotHeld}
 use Rattle.chr_calls.specs.Books.{BookState, space_of, IsLive, with_tickets, with_ticket}
-use Rattle.chr_calls.specs.Calls.{HoldsLive, HoldsCandidate, MayBeDropped, Turns, Marks, after_judgement, with_candidate_of}
+use Rattle.chr_calls.specs.Calls.{HoldsLive, HoldsCandidate, MayBeDropped, Marks, after_judgement, with_candidate_of}
 use Rattle.chr_calls.specs.Headline.{IsKept}
 use Rattle.chr_calls.proofs.Tickets.{held_is}
 use Rattle.chr_calls.proofs.Drops.{drops_keep}
@@ -121,7 +119,7 @@ moved_active b now e t trial (seat, h) = subst (λ (n : BookState). IsActive n.t
 pub holds_candidate : (now : BookState) (seat t : ℕ) (j : Judgement) (found : Option (Bor SearchState)) (trial : Trial) → is_some found ≡ true → MatchOption found (IsNotHeld now.tickets seat t) (λ s. IsHeldSearch now.tickets seat t s.now) → (ticket_at now.tickets t).candidate ≡ Some trial → trial ≡ j.trial → HoldsCandidate now seat t j.trial
 holds_candidate now seat t j found trial some h candidate same = record { held = (held_search now now refl seat t found some h).1.holds.state; candidate = candidate ∙ ap Some same }
 
--- ---- turns
+-- ---- what is live
 
 pub holds_live : (b now : BookState) → b ≡ now → (seat t : ℕ) (s : SearchState) → IsHeldSearch now.tickets seat t s → IsLive b s.label → HoldsLive now seat t s.label
 holds_live b now e seat t s h live = subst (λ (n : BookState). HoldsLive n seat t s.label) e (record { holds = (held_in b now e seat t s h).holds; live = live })
@@ -138,20 +136,3 @@ found_live b now e seat t given s found h is same =
         let label : given ≡ live.0 = cc in
         let z : None ≡ Some live.1.live.0 = shows ∙ ap₂ (λ (n : BookState) (l : ℕ). atom_at n.store l) e label ∙ live.1.live.1 in
         absurd (cc)
-
--- the answer of a search in a ticket's turn
-pub next_turn : {Z : Type 0} (b now : BookState) → b ≡ now → (seat t : ℕ) (s : SearchState) (ask : Ask Z) (trial candidate : Trial) (tickets : List Ticket) → IsHeldSearch now.tickets seat t s → IsLive b s.label → IsAnswer (space_of b s.label) s.place ask → ask ≡ answers.Trial trial → IsFormed trial → candidate ≡ trial → tickets ≡ slice_set b.tickets t (with_candidate (Some candidate) (ticket_at b.tickets t)) → Turns b seat t (Ok (turn.Next trial)) (with_tickets b tickets)
-next_turn b now e seat t s ask trial candidate tickets h live answer is formed same ts =
-    let held = held_in b now e seat t s h in
-    let next : IsNext (space_of b s.label) s.place (position trial) × IsTrialOf b.rules b.plans b.store trial = subst (IsAnswer (space_of b s.label) s.place) is answer in (
-      s.label,
-      record { holds = held.holds; live = live },
-      record { next = subst (λ place. IsNext (space_of b s.label) place (position trial)) held.place next.0; is = next.1; formed = formed },
-      ap (with_tickets b) (ts ∙ ap (λ c. slice_set b.tickets t (with_candidate (Some c) (ticket_at b.tickets t))) same),
-    )
-
-pub done_turn : {Z : Type 0} (b now : BookState) → b ≡ now → (seat t : ℕ) (s : SearchState) (ask : Ask Z) (tickets : List Ticket) → IsHeldSearch now.tickets seat t s → IsLive b s.label → IsAnswer (space_of b s.label) s.place ask → ask ≡ answers.Done → tickets ≡ slice_set b.tickets t (with_candidate None (ticket_at b.tickets t)) → Turns b seat t (Ok turn.Done) (with_tickets b tickets)
-done_turn b now e seat t s ask tickets h live answer is ts =
-    let held = held_in b now e seat t s h in
-    let none : NoneLeft (space_of b s.label) s.place = subst (IsAnswer (space_of b s.label) s.place) is answer in
-    (s.label, record { holds = held.holds; live = live }, subst (NoneLeft (space_of b s.label)) held.place none, ap (with_tickets b) ts)

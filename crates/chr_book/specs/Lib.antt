@@ -1,6 +1,7 @@
 pub mod Books
 pub mod Firings
 pub mod Given
+pub mod Asked
 pub mod Texts
 pub mod Logs
 pub mod Shots

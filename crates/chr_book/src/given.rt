@@ -4,7 +4,7 @@ ghost use Rattle.chr_calls.specs.Batches.{AreTogether, Batches, IsNextBeside, No
 ghost use Rattle.chr_calls.specs.Books.{space_of};
 
 use crate::book::Book;
-use chr_calls::{Batch, Sheet, TurnFault};
+use chr_calls::{Batch, Sheet, Turn, TurnFault};
 use chr_search::{Ask, Search, Trial};
 use chr_sheet::read;
 use std::alloc::{AllocError, Allocator};
@@ -41,29 +41,27 @@ impl<A: Allocator + Copy> Book<A> {
     pub fn batch(&mut self, seat: u32, ticket: u64) -> Result<Batch<A>, TurnFault>
         ensures { Batches self.old seat ticket (batch_of result) self.new }
     {
-        let Some(search) = self.held(seat, ticket) else {
-            return Err(TurnFault::NotHeld);
+        let first = match self.next_turn(seat, ticket)? {
+            Turn::Trial(first) => first,
+            Turn::Done => {
+                self.forget_candidate(ticket);
+                return Ok(Batch::Done);
+            }
+            Turn::Gone => {
+                self.forget_candidate(ticket);
+                return Ok(Batch::Gone);
+            }
         };
-        if self.store.get(search.label()).is_none() {
-            self.tickets.set_candidate(ticket, None);
-            return Ok(Batch::Gone);
-        }
-        let Ok(ask) = search.candidate(self.alloc, &self.program, &self.plans, &self.store) else {
-            return Err(TurnFault::NoMemory);
+        let Some(search) = self.tickets.search(ticket) else {
+            unreachable!();
         };
-        let Ask::Trial(first) = ask else {
-            self.tickets.set_candidate(ticket, None);
-            return Ok(Batch::Done);
-        };
-        // For the proof: what holds of every trial.
-        let _placed = first.placed();
         let Ok(candidate) = first.copy(self.alloc) else {
             return Err(TurnFault::NoMemory);
         };
         let Ok(trials) = self.with_those_behind(search, first) else {
             return Err(TurnFault::NoMemory);
         };
-        self.tickets.set_candidate(ticket, Some(candidate));
+        self.set_candidate(ticket, candidate);
         Ok(Batch::Trials(trials))
     }
 
@@ -74,19 +72,16 @@ impl<A: Allocator + Copy> Book<A> {
     pub fn sheet(&mut self, seat: u32, ticket: u64, most: usize) -> Result<Sheet<A>, TurnFault>
         ensures { Sheets self.old seat ticket most (sheet_of result) self.new }
     {
-        let Some(search) = self.held(seat, ticket) else {
-            return Err(TurnFault::NotHeld);
-        };
-        if self.store.get(search.label()).is_none() {
-            self.tickets.set_candidate(ticket, None);
+        let Some(search) = self.live(seat, ticket)? else {
+            self.forget_candidate(ticket);
             return Ok(Sheet::Gone);
-        }
+        };
         let (program, plans, store) = (&self.program, &self.plans, &self.store);
         let Ok(trials) = read(self.alloc, search, most.max(1), program, plans, store) else {
             return Err(TurnFault::NoMemory);
         };
         let Some(first) = trials.first() else {
-            self.tickets.set_candidate(ticket, None);
+            self.forget_candidate(ticket);
             return Ok(Sheet::Done);
         };
         let Ok(candidate) = first.first(self.alloc) else {
@@ -94,7 +89,7 @@ impl<A: Allocator + Copy> Book<A> {
         };
         // For the proof: what holds of every trial.
         let _placed = candidate.placed();
-        self.tickets.set_candidate(ticket, Some(candidate));
+        self.set_candidate(ticket, candidate);
         Ok(Sheet::Trials(trials))
     }
 }
