@@ -1,7 +1,8 @@
 #!/usr/bin/env bash
 # Tests ./chr and release/ in small repositories of their own, whose ./build is a stand-in that says so, the commands of
-# README.md and of the tutorial, the pictures of docs, and what the examples are to print against a plain reference. Each
-# test is a line `test NAME ... ok` or `test NAME ... FAILED`; the last line is 'N passed, M failed'.
+# README.md and of the tutorial, the pictures of docs, what the examples are to print against a plain reference, and the
+# layout of the sources. Each test is a line `test NAME ... ok` or `test NAME ... FAILED`; the last line is 'N passed, M
+# failed'.
 set -u
 top=$(cd "$(dirname "${BASH_SOURCE[0]}")/.." && pwd)
 work=$(mktemp -d)
@@ -165,6 +166,15 @@ two_at_once_both_run() {
   for it in 1 2 3 4 5 6 7 8; do
     [ "$(cat "$work/out.$it")" = "released $it" ] || return
   done
+}
+
+# The gate refuses a crate whose text isn't formatted, but only when it comes to it, half an hour later.
+texts_are_formatted() {
+  command -v rt >/dev/null || return 0
+  output=$(find "$top"/crates/*/{src,specs,proofs} \( -name '*.rt' -o -name '*.antt' \) -print0 2>/dev/null |
+    xargs -0 "$(dirname "$(rt doc)")/bin/rattle" fmt --check 2>&1)
+  status=$?
+  [ "$status" = 0 ]
 }
 
 version_names_the_sources() {
