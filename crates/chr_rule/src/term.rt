@@ -32,8 +32,9 @@ impl<A: Allocator> Default for Term<A> {
 }
 
 impl<A: Allocator> Term<A> {
-    /// Whether two terms are equal, wherever they lie.
+    /// Whether two terms are equal, wherever they lie. Most are variables or plain values, for which it takes no call.
     #[cycle(same)]
+    #[inline(always)]
     pub fn same(&self, other: &Term<A>) -> bool
         ensures { IsTrue result ↔ (argument self.now ≡ argument other.now) }
     {
