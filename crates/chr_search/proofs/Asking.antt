@@ -1,15 +1,18 @@
 -- What is asked of a store for the next partner, and what its answer says.
-use Rattle.std.proofs.Common.{◌≡◌, ◌↔◌, ℕ, zero, suc, ◌+◌, ◌-◌, ◌<◌, ◌≤◌, Bool, true, false, IsTrue, ltb, ◌&&◌, ◌||◌, ◌==◌, take, List, [], ◌∷◌, ◌++◌, length, replicate, Option, Some, None, MatchOption, IfSome, slice_get, refl, sym, ◌∙◌, ap, subst, arith, length-append}
+use Rattle.std.proofs.Common.{◌≡◌, ◌↔◌, ℕ, zero, suc, ◌+◌, ◌-◌, ◌<◌, ◌≤◌, Bool, true, false, IsTrue, ltb, ◌&&◌, ◌||◌, ◌==◌, take, List, [], ◌∷◌, ◌++◌, length, replicate, Option, Some, None, MatchOption, IfSome, slice_get, refl, sym, ◌∙◌, ap, ap₂, subst, arith, length-append}
 use Rattle.std.specs.List.{list_any}
 use Rattle.std.specs.Option.{option_map}
 use Rattle.std.proofs.lemmas.Bool.Decides.{nat_tests}
-use Rattle.std.proofs.lemmas.Option.{slice_get_within, slice_get_past}
+use Rattle.std.proofs.lemmas.Option.{slice_get_within, slice_get_past, slice_get-map}
 use Rattle.std.proofs.Math.Seq.{take-append_seam}
 use Rattle.chr_value.specs.Atoms.{Value, Atom}
 use Rattle.chr_value.specs.Stores.{Store}
 use Rattle.chr_value.specs.declared.atom.Pred.{Pred}
 use Rattle.chr_value.proofs.Chosen.{some_is}
+use Rattle.chr_rule.specs.Parts.{argument, shape}
 use Rattle.chr_rule.specs.Rules.{RuleAtom, head_at}
+use Rattle.chr_rule.specs.declared.rule_atom.RuleAtom.{RuleAtom as CodeRuleAtom}
+use Rattle.chr_rule.specs.declared.term.Term.{Term as CodeTerm}
 use Rattle.chr_guard.specs.Values.{Valuation}
 use Rattle.chr_guard.specs.Bindings.{bound_at, Extends, Narrows, NoneUnder}
 use Rattle.chr_guard.specs.Instances.{atom_under}
@@ -85,19 +88,30 @@ label_low next (x ∷ es) g l a e =
       | false ↦ λ b. label_low next es g.1 l a (sym (grind (arith, nat_tests)) ∙ e)
     ] refl
 
--- the key of the next head has a value
-pub known_key : (j : Join) → HasPlan j → (labels : List ℕ) (binding : List (Option (Value ℕ))) → 1 ≤ length labels → IsReady j labels binding → (step : Step) → slice_get j.order (length labels) ≡ Some step → (head : RuleAtom ℕ) → head_at j.rule step.head ≡ Some head
-    → (place : ℕ) → step.key ≡ Some place → (value : Value ℕ) × (keyed_at (bound_at binding) head place ≡ Some value)
-known_key j p labels binding some r step at head is place key =
-    step_keyed j p.head (bound_at binding) labels step head place p.plan some ((r.fit.exactly (bound_at binding)).0 (λ x t e. e)) at is key
+-- the next head, and what it has at the key's place
+pub record IsKeyed (j : Join) (labels : List ℕ) (binding : List (Option (Value ℕ))) (step : Step) (head : RuleAtom ℕ) (place : ℕ) : Type 0 where
+  pub step_is : slice_get j.order (length labels) ≡ Some step
+  pub head_is : head_at j.rule step.head ≡ Some head
+  pub low : 1 ≤ place
+  pub value : Value ℕ
+  pub value_is : keyed_at (bound_at binding) head place ≡ Some value
 
-pub place_low : (v : Valuation) (head : RuleAtom ℕ) (place : ℕ) (x : Value ℕ) → keyed_at v head place ≡ Some x → 1 ≤ place
+place_low : (v : Valuation) (head : RuleAtom ℕ) (place : ℕ) (x : Value ℕ) → keyed_at v head place ≡ Some x → 1 ≤ place
 place_low v head zero x e = absurd (let z : None ≡ Some x = e in cc)
 place_low v head (suc i) x e = omega arith
 
-pub keyed_there : (v : Valuation) (head : RuleAtom ℕ) (place : ℕ) → 1 ≤ place → keyed_at v head place ≡ key_value v (slice_get head.args (place - 1))
-keyed_there v head zero low = absurd (omega arith)
-keyed_there v head (suc i) low = ap (λ n. key_value v (slice_get head.args n)) (let q : i ≡ suc i - 1 = omega arith in q)
+pub keyed : (j : Join) → HasPlan j → (labels : List ℕ) (binding : List (Option (Value ℕ))) → 1 ≤ length labels → IsReady j labels binding → (step : Step) → slice_get j.order (length labels) ≡ Some step → (head : RuleAtom ℕ) → head_at j.rule step.head ≡ Some head → (place : ℕ) → step.key ≡ Some place → IsKeyed j labels binding step head place
+keyed j p labels binding some r step at head is place key =
+    let known = step_keyed j p.head (bound_at binding) labels step head place p.plan some ((r.fit.exactly (bound_at binding)).0 (λ x t e. e)) at is key in
+    record { step_is = at; head_is = is; low = place_low (bound_at binding) head place known.0 known.1; value = known.0; value_is = known.1 }
+
+-- that is the value of the term that is found there
+pub keyed_term : {Z : Type 0} (v : Valuation) (head : CodeRuleAtom Z) (terms : List (CodeTerm Z)) (place at : ℕ) → 1 ≤ place → at ≡ place → terms ≡ head.terms.items → (o : Option (CodeTerm Z)) → slice_get terms (at - 1) ≡ o → keyed_at v (shape head) place ≡ key_value v (option_map argument o)
+keyed_term v head terms zero at low same is o there = absurd (omega arith)
+keyed_term v head terms (suc i) at low same is o there =
+    let index : i ≡ at - 1 = omega arith in
+    let found : slice_get head.terms.items i ≡ o = ap₂ (λ xs n. slice_get xs n) (sym is) index ∙ there in
+    ap (key_value v) (slice_get-map argument head.terms.items i ∙ ap (option_map argument) found)
 
 pub key_none : (v : Valuation) (head : RuleAtom ℕ) (place : Option ℕ) (key : Option (ℕ × Value ℕ)) → place ≡ None → key ≡ None → KeyIs v head place key
 key_none v head place key e f = subst (λ p. KeyIs v head p key) (sym e) f

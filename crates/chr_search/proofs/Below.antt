@@ -1,23 +1,22 @@
 -- Going over the trials below labels.
-use Rattle.std.proofs.Common.{◌≡◌, ℕ, zero, suc, ◌+◌, ◌<◌, ◌≤◌, Bool, true, false, ◌==◌, if◌then◌else◌, List, [], ◌∷◌, ◌++◌, length, take, refl, sym, ◌∙◌, ap, subst, arith, ⊎_elim, length-append}
+use Rattle.std.proofs.Common.{◌≡◌, ℕ, zero, suc, ◌+◌, ◌-◌, ◌<◌, ◌≤◌, Bool, true, false, ◌==◌, if◌then◌else◌, List, [], ◌∷◌, ◌++◌, length, take, Option, refl, sym, ◌∙◌, ap, subst, arith, ⊎_elim, length-append}
 use Rattle.std.proofs.Math.Seq.{take-append_seam}
 use Rattle.std.proofs.lemmas.Bool.Decides.{nat_tests}
 use Rattle.std.proofs.lemmas.List.{append-nil}
-use mathlib.Core.Bool.{not}
-use denote.Enum.Bare.{sameb}
-use Rattle.chr_search.specs.contracts.passing.End.{the_type}
+use Rattle.chr_value.specs.Atoms.{Value}
 use Rattle.chr_search.specs.declared.passing.End.{End}
 use Rattle.chr_search.specs.declared.passing.End.TheVariants as ends
+use Rattle.chr_search.specs.declared.passing.Passed.{Passed}
 use Rattle.chr_search.specs.declared.judged.Verdict.TheVariants.{Misfit, Part}
 use Rattle.chr_search.specs.Positions.{at_or_after}
 use Rattle.chr_search.specs.Tree.{Children, Grows, Beyond, Least, NoneBeyond, LeastFrom, NoneFrom}
 use Rattle.chr_search.specs.Trials.{Join, MayFollow, IsInTurn}
 use Rattle.chr_search.specs.Partners.{HasPlan}
-use Rattle.chr_search.specs.Passing.{AreJudged, AreMisfits, PassesOneIn, PassesIn, IsBelow, IsDone, settled}
+use Rattle.chr_search.specs.Passing.{AreJudged, AreMisfits, PassesOneIn, PassesIn, HasPassed, IsBelow, IsDone, EndsBelow, settled}
 use Rattle.chr_search.proofs.Positions.{after_first, after_cases, past_last}
-use Rattle.chr_search.proofs.Partners.{none_below as none_fits}
+use Rattle.chr_search.proofs.Partners.{turn_low, none_above, none_below as none_fits}
 use Rattle.chr_search.proofs.Asking.{room}
-use Rattle.chr_search.proofs.Tree.{append_one, Come, come_first, come_at, come_to_end, come_found, here, under_same}
+use Rattle.chr_search.proofs.Tree.{append_one, Come, come_first, come_at, come_to_end, come_found, come_past, here, under_same}
 
 -- where a list grows, the least below it at or after a place is the least at or after the list and the place
 pub least_deep : (C : Children) (d : ℕ) (path front rest found : List ℕ) → Grows C path front → Least C d (path ++ front) rest found → Least C d path (front ++ rest) found
@@ -26,30 +25,6 @@ least_deep C d path (y ∷ ys) rest found g l =
     come_found C d path (y ∷ (ys ++ rest)) y (ys ++ rest) y found (come_at C d path y (ys ++ rest)) (record { holds = g.0; there = omega arith; least = λ z c low. low })
     (subst (λ b. Least C d (path ++ y ∷ []) b found) (under_same y (ys ++ rest) y refl)
     (least_deep C d (path ++ y ∷ []) ys rest found g.1 (subst (λ p. Least C d p rest found) (sym (append_one path ys y)) l)))
-
--- past a number below which there is nothing
-come_past : (C : Children) (d : ℕ) (path place : List ℕ) (from : ℕ) (below : List ℕ) → Come C d path place from below → (C path from → NoneBeyond C d (path ++ from ∷ []) below) → Come C d path place (from + 1) []
-come_past C d path place from below c none = record { into = to; back = back }
-  where
-    to : (other : List ℕ) → Beyond C d path place other → at_or_after ((from + 1) ∷ []) other ≡ true
-    to [] b = let e : false ≡ true = c.into [] b in absurd (cc)
-    to (y ∷ ys) b =
-        ⊎_elim (λ less. by_order (y == from + 1) refl less)
-        (λ same.
-        let e : from ≡ y = same.0 in
-        absurd (none (subst (C path) (sym e) b.grows.0) ys (record {
-          grows = subst (λ z. Grows C (path ++ z ∷ []) ys) (sym e) b.grows.1;
-          deep = subst (λ (p : List ℕ). d ≤ length p) (sym (append_one path ys from)) (subst (λ z. d ≤ length (path ++ z ∷ ys)) (sym e) b.deep);
-          there = same.1;
-        })))
-        (after_cases from y below ys (c.into (y ∷ ys) b))
-      where
-        by_order : (t : Bool) → (y == from + 1) ≡ t → from < y → at_or_after ((from + 1) ∷ []) (y ∷ ys) ≡ true
-        by_order t e less = grind (arith, nat_tests)
-
-    back : (other : List ℕ) → at_or_after ((from + 1) ∷ []) other ≡ true → at_or_after place other ≡ true
-    back [] h = absurd (cc)
-    back (y ∷ ys) h = c.back (y ∷ ys) (after_first from y below ys (grind (arith, nat_tests)))
 
 -- a place below labels
 come_of : (j : Join) (ls place : List ℕ) (from : ℕ) → (b : IsBelow j ls place from) → Come (MayFollow j) 1 ls b.rest from []
@@ -103,12 +78,8 @@ pub above_done : (j : Join) (ls place : List ℕ) (x : ℕ) (below : List ℕ) �
 above_done j ls place x below same is high = record {
   rest = x ∷ below;
   is = is;
-  none = come_to_end (MayFollow j) 1 ls (x ∷ below) x below (come_at (MayFollow j) 1 ls x below) (λ y m low. high_turn ls y m.turn low);
+  none = come_to_end (MayFollow j) 1 ls (x ∷ below) x below (come_at (MayFollow j) 1 ls x below) (none_above j same ls x high);
 }
-  where
-    high_turn : (ls : List ℕ) (y : ℕ) → IsInTurn j ls y → x ≤ y → ⊥
-    high_turn [] y t low = let e : y ≡ j.active = t in omega arith
-    high_turn (l ∷ ls) y t low = let e : y < j.bound = t in omega arith
 
 -- passing over one more
 pub passes_last : (j : Join) (n : ℕ) (place middle after : List ℕ) → PassesIn j n place middle → PassesOneIn j middle after → PassesIn j (suc n) place after
@@ -180,8 +151,27 @@ pub none_after : (j : Join) (ls : List ℕ) (x : ℕ) (below : List ℕ) → 1 �
 none_after j ls x [] some n = absurd (omega arith)
 none_after j ls x (z ∷ zs) some n = none_fits j ls x z zs n
 
--- none is left
-pub none_left : (e : End) → false ≡ not (sameb the_type e ends.NoneLeft) → e ≡ ends.NoneLeft
-none_left ends.Whole h = absurd (cc)
-none_left ends.NoneLeft h = refl
-none_left ends.Enough h = absurd (cc)
+-- why no more are passed over, where some are left below deeper labels
+pub ends_deeper : (j : Join) (deeper path place : List ℕ) (end : End) (ls : List ℕ) (binding : List (Option (Value ℕ))) → (end ≡ ends.NoneLeft → ⊥) → EndsBelow j deeper place end ls binding → EndsBelow j path place end ls binding
+ends_deeper j deeper path place ends.Whole ls binding other e = e
+ends_deeper j deeper path place ends.NoneLeft ls binding other e = absurd (other refl)
+ends_deeper j deeper path place ends.Enough ls binding other e = tt
+
+-- some are passed over, and then more
+pub passed_more : (j : Join) (most n : ℕ) (place middle after : List ℕ) (more : Passed) → n ≤ most → PassesIn j n place middle → HasPassed j (most - n) middle more after → HasPassed j most place (record { count = n + more.count; end = more.end }) after
+passed_more j most n place middle after more few p m = record {
+  few = (let less : more.count ≤ most - n = m.few in omega arith);
+  enough = λ e. (let all : more.count ≡ most - n = m.enough e in omega arith);
+  passes = passes_more j n more.count place middle after p m.passes;
+}
+
+-- all trials below a label were passed over, so many
+pub record IsLeft (j : Join) (path : List ℕ) (first most n : ℕ) (place after ls : List ℕ) : Type 0 where
+  pub few : n ≤ most
+  pub passes : PassesIn j n place after
+  pub same : ls ≡ path
+  pub below : IsBelow j path after (first + 1)
+
+-- past a label that may follow, fewer are left up to the active one
+pub nearer : (j : Join) → j.bound ≡ j.active → (ls : List ℕ) (from x : ℕ) → MayFollow j ls x → from ≤ x → j.active + 1 - (x + 1) < j.active + 1 - from
+nearer j same ls from x m low = let high : x ≤ j.active = turn_low j same ls x m.turn in omega arith

@@ -9,7 +9,7 @@ use Rattle.chr_search.specs.Tree.{Grows, Beyond, Least, NoneBeyond, LeastFrom}
 use Rattle.chr_search.specs.Trials.{MayFollow, Space, join_in, IsPlanned, Child}
 use Rattle.chr_search.specs.Partners.{HasPlan}
 use Rattle.chr_search.proofs.Plans.{planned}
-use Rattle.chr_search.proofs.Tree.{Come, under_same, come_at, come_found, come_on}
+use Rattle.chr_search.proofs.Tree.{Come, under_same, come_at, come_found, come_past}
 
 pub child_is : (s : Space) (r h : ℕ) (rule : Simpagation ℕ) (order : List Step) → IsPlanned s r h rule order → (path : List ℕ) (l : ℕ) → Child s (r ∷ h ∷ path) l → MayFollow (join_in s rule order) path l
 child_is s r h rule order p path l c =
@@ -61,8 +61,7 @@ found_at_head s r from labels h below rule order c p found l =
 
 pub none_at_head : (s : Space) (r from : ℕ) (labels : List ℕ) (h : ℕ) (below : List ℕ) (rule : Simpagation ℕ) (order : List Step) → AtHead s r from labels h below → IsPlanned s r h rule order → NoneBeyond (MayFollow (join_in s rule order)) 1 [] below → AtHead s r from labels (h + 1) []
 none_at_head s r from labels h below rule order c p n =
-    come_on (Child s) 3 (r ∷ []) (from ∷ labels) h below h c (this_head s r h rule order p)
-    (subst (λ b. NoneBeyond (Child s) 3 (r ∷ h ∷ []) b) (under_same h below h refl) (none_out s r h rule order p below n))
+    come_past (Child s) 3 (r ∷ []) (from ∷ labels) h below c (λ m. none_out s r h rule order p below n)
 
 -- The search has come to a rule, and there to a head and labels.
 abbrev pub AtRule : Space → List ℕ → ℕ → ℕ → List ℕ → Type 0

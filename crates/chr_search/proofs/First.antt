@@ -24,11 +24,11 @@ first_misfit j x m a [] after e is =
     (subst (PassesIn j 1 []) (sym is) r.0, subst (NoneBeyond (MayFollow j) 1 []) (sym is) none)
 
 -- it is whole
-pub first_whole : (j : Join) (x : ℕ) → MayFollow j [] x → (binding : List (Option (Value ℕ))) → AreWhole j (x ∷ []) binding → (place ls : List ℕ) (own : List (Option (Value ℕ))) → place ≡ [] → ls ≡ x ∷ [] → own ≡ binding → EndsIn j place ends.Whole ls own
-first_whole j x m binding w (y ∷ ys) ls own e is same = absurd (cc)
-first_whole j x m binding w [] ls own e is same = (
+pub first_whole : (j : Join) (x : ℕ) → MayFollow j [] x → (binding : List (Option (Value ℕ))) → AreWhole j (x ∷ []) binding → (place ls : List ℕ) → place ≡ [] → ls ≡ x ∷ [] → EndsIn j place ends.Whole ls binding
+first_whole j x m binding w (y ∷ ys) ls e is = absurd (cc)
+first_whole j x m binding w [] ls e is = (
   subst (Least (MayFollow j) 1 [] []) (sym is) (below_least j [] [] 0 x (below_first j [] refl) (first_least j x m)),
-  subst (AreWhole j ls) (sym same) (subst (λ (z : List ℕ). AreWhole j z binding) (sym is) w),
+  subst (λ (z : List ℕ). AreWhole j z binding) (sym is) w,
 )
 
 -- it is a part

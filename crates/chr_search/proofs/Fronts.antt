@@ -2,7 +2,6 @@
 use Rattle.std.proofs.Common.{◌≡◌, ◌↔◌, ℕ, zero, suc, ◌+◌, ◌<◌, ◌≤◌, true, List, [], ◌∷◌, ◌++◌, map, take, length, length-append, Option, Some, None, MatchOption, slice_get, get_or, refl, sym, ◌∙◌, ap, subst, arith, ⊎_elim}
 use Rattle.std.specs.List.{AllByRecursion}
 use Rattle.std.proofs.lemmas.List.{append-nil}
-use Rattle.std.proofs.lemmas.Option.{slice_get-get_or}
 use Rattle.chr_rule.specs.Rules.{rule_at}
 use Rattle.chr_rule.specs.Scope.{IsRule}
 use Rattle.chr_guard.proofs.Steps.{all_push}
@@ -23,7 +22,7 @@ use Rattle.chr_search.proofs.Tree.{append_one, grows_more, least_same, least_bes
 use Rattle.chr_search.proofs.Plans.{heads_in}
 use Rattle.chr_search.proofs.Descents.{grows_in, rule_scoped, rule_low, head_low}
 use Rattle.chr_search.proofs.Judging.{labels_length}
-use Rattle.chr_search.proofs.Making.{take_next, map_push, next_trial, parts, formed}
+use Rattle.chr_search.proofs.Making.{next_trial, parts, formed}
 use Rattle.chr_search.proofs.Shrinking.{branch, trial_of}
 use Rattle.chr_search.proofs.Behind.{shorter, alike}
 use Rattle.chr_search.proofs.After.{come_after, many_numbers}
@@ -51,12 +50,6 @@ grows_at f C path (z ∷ zs) (suc i) one x less is g =
     let r = grows_at f C (path ++ f z ∷ []) zs i one x (omega arith) is g.1 in
     let same : (path ++ f z ∷ []) ++ map f (take i zs) ≡ path ++ f z ∷ map f (take i zs) = append_one path (map f (take i zs)) (f z) in
     (subst (λ p. C p (f one)) same r.0, r.1, subst (λ p. C (p ++ f one ∷ []) r.1) same r.2)
-
--- the labels of one more
-pub labels_more : {X : Type 0} (f : X → ℕ) (xs : List X) (i : ℕ) (x : X) (ls new : List ℕ) → ls ≡ map f (take i xs) → new ≡ ls ++ f x ∷ [] → i < length xs → x ≡ get_or xs i x → new ≡ map f (take (i + 1) xs)
-labels_more f xs i x ls new e n less is =
-    let next : take (i + 1) xs ≡ take i xs ++ x ∷ [] = take_next xs i x (slice_get-get_or xs i x less ∙ ap (λ y. Some y) (sym is)) in
-    n ∙ ap (λ zs. zs ++ f x ∷ []) e ∙ sym (map_push f (take i xs) x) ∙ ap (map f) (sym next)
 
 -- last numbers are in order
 last_reaches : (f : List ℕ) (a y : ℕ) → at_or_after (f ++ a ∷ []) (f ++ y ∷ []) ≡ true → a ≤ y

@@ -26,7 +26,7 @@ use Rattle.chr_search.proofs.Partners.{ready_more, fit_less, no_fit}
 use Rattle.chr_search.proofs.Reaches.{has_pred, has_key}
 use Rattle.chr_search.proofs.Asking.{stands_is}
 use Rattle.chr_search.proofs.Wholes.{in_head_order, completed}
-use Rattle.chr_search.proofs.PassingOver.{stands_nowhere, is_part, is_full, heads_fit, few_placed, misfit_here}
+use Rattle.chr_search.proofs.PassingOver.{stands_nowhere, is_part, is_full, heads_fit, misfit_here}
 
 module _ {Z : Type 0} (j : Join) (ls : List ℕ) (at : LastHead Z) (l : ℕ) (here : IsLastHead j ls at) where
   -- the head has the binding's variables
@@ -59,16 +59,6 @@ module _ {Z : Type 0} (j : Join) (ls : List ℕ) (at : LastHead Z) (l : ℕ) (he
   -- none is left
   last_full : (t : Trial) → IsTrialIn j (ls ++ l ∷ []) t → at.is_last ≡ true → length t.placed ≡ length (heads_of t.rule)
   last_full t i last = let many = here.last.0 last in is_full j (ls ++ l ∷ []) t i (omega (arith, many, length-append ls (l ∷ [])))
-
-  pub last_no_whole : at.is_last ≡ false → (t : Trial) → IsTrialIn j (ls ++ l ∷ []) t → IsWhole t → ⊥
-  last_no_whole more t i whole =
-      let few : (length j.rule.kept + length j.rule.removed ≤ length ls + 1) → ⊥ = λ many. (let z : false ≡ true = sym more ∙ here.last.1 many in cc) in
-      let full = whole.full in
-      let left = (few_placed j (ls ++ l ∷ []) t i (omega (arith, few, length-append ls (l ∷ [])))) in
-      omega arith
-
-  pub last_no_part : at.is_last ≡ true → (t : Trial) → IsTrialIn j (ls ++ l ∷ []) t → IsPart t → ⊥
-  last_no_part last t i part = let full = last_full t i last in let left = part.left in omega arith
 
   pub last_heads : (t : Trial) → IsTrialIn j (ls ++ l ∷ []) t → at.is_last ≡ true → (binding : List (Option (Value ℕ))) → IsReady j (ls ++ l ∷ []) binding → IsFit j.rule (HeadsAre j.rule (in_head_order t)) binding
   last_heads t i last binding r = heads_fit j (ls ++ l ∷ []) t i (last_full t i last) binding r.fit

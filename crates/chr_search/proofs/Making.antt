@@ -33,6 +33,16 @@ pub map_push : {X Y : Type 0} (f : X → Y) (xs : List X) (x : X) → map f (xs 
 map_push f [] x = refl
 map_push f (y ∷ xs) x = ap (λ zs. f y ∷ zs) (map_push f xs x)
 
+pub map_more : {X Y : Type 0} (f : X → Y) (xs : List X) (i : ℕ) (x : X) (old new : List Y) → old ≡ map f (take i xs) → new ≡ old ++ f x ∷ [] → i < length xs → x ≡ get_or xs i x → new ≡ map f (take (i + 1) xs)
+map_more f xs i x old new e n less is = n ∙ ap (λ ys. ys ++ f x ∷ []) e ∙ sym (map_push f (take i xs) x) ∙ ap (map f) (sym (take_next xs i x (slice_get-get_or xs i x less ∙ ap (λ y. Some y) (sym is))))
+
+pub same_more : {X Y Z : Type 0} (f : X → Z) (g : Y → Z) (xs : List X) (ys : List Y) (i : ℕ) (x : X) (y : Y) → map f (take i xs) ≡ map g (take i ys) → i < length xs → i < length ys → x ≡ get_or xs i x → y ≡ get_or ys i y → f x ≡ g y → map f (take (i + 1) xs) ≡ map g (take (i + 1) ys)
+same_more f g xs ys i x y e h k ex ey s =
+    map_more g ys i y (map f (take i xs)) (map f (take (i + 1) xs)) e (sym (map_more f xs i x (map f (take i xs)) (map f (take i xs) ++ f x ∷ []) refl refl h ex) ∙ ap (λ z. map f (take i xs) ++ z ∷ []) s) k ey
+
+pub same_all : {X Y Z : Type 0} (f : X → Z) (g : Y → Z) (xs : List X) (ys : List Y) (i : ℕ) → map f (take i xs) ≡ map g (take i ys) → length xs ≤ i → length ys ≤ i → map f xs ≡ map g ys
+same_all f g xs ys i e past over = ap (map f) (sym (take_all i xs past)) ∙ e ∙ ap (map g) (take_all i ys over)
+
 pub read_more : {X : Type 0} (f : X → ℕ) (xs new : List X) (x : X) (ys : List ℕ) (i y : ℕ) → map f xs ≡ take i ys → new ≡ xs ++ x ∷ [] → f x ≡ y → slice_get ys i ≡ Some y → map f new ≡ take (i + 1) ys
 read_more f xs new x ys i y e n s at = ap (map f) n ∙ map_push f xs x ∙ ap₂ (λ zs z. zs ++ z ∷ []) e s ∙ sym (take_next ys i y at)
 
@@ -122,25 +132,9 @@ formed s t order store ps st w scoped number head p hs live =
           ap (λ (xs : List ℕ). among xs h) (hs ∙ whole) ∙ o.named h low high;
     }
 
--- what the loop has read
-pub record Read (s : Space) (t : Trial) (order : List Step) (ls : List ℕ) : Type 0 where
-  pub labels_are : labels t ≡ ls
-  pub heads_are : heads t ≡ take (length t.placed) (heads_in order)
-  pub live : AllByRecursion (λ p. atom_at s.store p.label ≡ Some p.atom) t.placed
-
 pub all_map : {X Y : Type 0} (P : Y → Type 0) (f : X → Y) (xs : List X) → AllByRecursion (λ x. P (f x)) xs → AllByRecursion P (map f xs)
 all_map P f [] a = tt
 all_map P f (x ∷ xs) a = (a.0, all_map P f xs a.1)
-
-pub read_all : {X : Type 0} (f : X → Placed) (s : Space) (t : Trial) (order : List Step) (xs : List X) (i : ℕ) (ls : List ℕ) → t.placed ≡ map f xs → map (λ x. (f x).head) xs ≡ take i (heads_in order) → map (λ x. (f x).label) xs ≡ take i ls → AllByRecursion (λ x. atom_at s.store (f x).label ≡ Some (f x).atom) xs → length ls ≤ i → i ≤ length ls → Read s t order ls
-read_all f s t order xs i ls is hs lbs live past within =
-    let labels_are : labels t ≡ ls = ap (map (λ (p : Placed). p.label)) is ∙ map_twice f (λ (p : Placed). p.label) xs ∙ lbs ∙ take_all i ls past in
-    let count : length t.placed ≡ i = sym (length-map t.placed (λ (p : Placed). p.label)) ∙ ap length labels_are ∙ (let e : length ls ≡ i = omega arith in e) in
-    record {
-      labels_are = labels_are;
-      heads_are = ap (map (λ (p : Placed). p.head)) is ∙ map_twice f (λ (p : Placed). p.head) xs ∙ hs ∙ ap (λ n. take n (heads_in order)) (sym count);
-      live = subst (AllByRecursion (λ p. atom_at s.store p.label ≡ Some p.atom)) (sym is) (all_map (λ p. atom_at s.store p.label ≡ Some p.atom) f xs live);
-    }
 
 pub heads_read : (order : List Step) (i : ℕ) (d : Step) → i < length order → slice_get (heads_in order) i ≡ Some ((get_or order i d).head)
 heads_read [] i d h = absurd (omega arith)

@@ -1,5 +1,5 @@
 -- Trials where a program has heads of the active atom's predicate.
-use Rattle.std.proofs.Common.{◌≡◌, ℕ, ◌<◌, ◌≤◌, true, List, [], ◌∷◌, length, Option, Some, None, MatchOption, slice_get, sym, ◌∙◌, ap, subst, arith, inl, inr, ⊎_elim}
+use Rattle.std.proofs.Common.{◌≡◌, ℕ, ◌+◌, ◌-◌, ◌*◌, ◌<◌, ◌≤◌, Fits, w8, true, List, [], ◌∷◌, length, Option, Some, None, MatchOption, slice_get, sym, ◌∙◌, ap, subst, arith, inl, inr, ⊎_elim}
 use Rattle.std.proofs.lemmas.Bool.Decides.{nat_tests}
 use Rattle.chr_value.specs.Atoms.{Atom}
 use Rattle.chr_value.specs.declared.atom.Pred.{Pred}
@@ -14,7 +14,7 @@ use Rattle.chr_search.specs.Trials.{HasHeadPred, Join, Space, IsTrial, NoneLeft}
 use Rattle.chr_search.specs.PlanByPlan.{IsJoinOf, IsUnplanned, IsJoinAt, HasComeTo, IsNextJoin}
 use Rattle.chr_search.proofs.Positions.{after_first, after_under, after_cases}
 use Rattle.chr_search.proofs.Plans.{planned, has_plan}
-use Rattle.chr_search.proofs.PlanByPlan.{head_from, head_within, joins_at}
+use Rattle.chr_search.proofs.PlanByPlan.{HasJoin, head_from, head_within, joins_at, rule_at_most, head_at_most}
 
 -- rules and heads in the order of trials
 pub in_order : (r h x y : ℕ) (ls : List ℕ) → at_or_after (r ∷ h ∷ []) (x ∷ y ∷ ls) ≡ true → AtOrAfter r h x y
@@ -93,3 +93,13 @@ join_at_occurrence s p a ps r h x y o as_join (Some j) k = record {
   come = come_to_occurrence s p a ps r h x y o;
   join = join_there s p a ps x y (as_join j) o.occurs k;
 }
+
+-- a walk through the plans that goes on from one: the next head's number fits, and it is nearer to the end
+pub head_fits : (s : Space) (place : List ℕ) (r h : ℕ) (j : Join) → HasJoin s place r h j → Fits w8 (h + 1)
+head_fits s place r h j k = let small : h ≤ 6 = head_at_most s r h j.rule j.order k.makes in omega arith
+
+pub nearer : (s : Space) (place : List ℕ) (r h x y : ℕ) (j : Join) → at_or_after (r ∷ h ∷ []) (x ∷ y ∷ []) ≡ true → HasJoin s place x y j → (length s.rules + 1 - x) * 8 + (8 - (y + 1)) < (length s.rules + 1 - r) * 8 + (8 - h)
+nearer s place r h x y j later k =
+    let small : y ≤ 6 = head_at_most s x y j.rule j.order k.makes in
+    let within : x ≤ length s.rules = rule_at_most s x y j.rule j.order k.makes in
+    ⊎_elim (λ less. let low : r < x = less in omega arith) (λ same. let is : r ≡ x = same.0 in let low : h ≤ y = same.1 in omega arith) (in_order r h x y [] later)

@@ -1,5 +1,5 @@
 -- Labels to which partners are added, one after another.
-use Rattle.std.proofs.Common.{◌≡◌, ◌≢◌, ◌↔◌, ℕ, zero, suc, ◌+◌, ◌<◌, ◌≤◌, Bool, true, false, List, [], ◌∷◌, ◌++◌, length, Option, Some, None, MatchOption, slice_get, refl, sym, ◌∙◌, ap, subst, arith, ◌⊎◌, inl, inr, true≢false}
+use Rattle.std.proofs.Common.{◌≡◌, ◌≢◌, ◌↔◌, ℕ, zero, suc, ◌+◌, ◌<◌, ◌≤◌, Bool, true, false, ltb, ◌==◌, if◌then◌else◌, MatchBool, List, [], ◌∷◌, ◌++◌, length, Option, Some, None, MatchOption, slice_get, refl, sym, ◌∙◌, ap, subst, arith, ◌⊎◌, inl, inr, true≢false}
 use Rattle.std.proofs.lemmas.Bool.Decides.{nat_tests}
 use Rattle.chr_value.specs.Atoms.{Value, Atom}
 use Rattle.chr_rule.specs.Rules.{Term, Var, Given, Open, RuleAtom, head_at}
@@ -11,7 +11,7 @@ use Rattle.chr_store.specs.Keys.{HasKey, Query, Matches, IsLeastMatch}
 use Rattle.chr_search.specs.Tree.{Children, Least, NoneBeyond, LeastFrom, NoneFrom}
 use Rattle.chr_search.specs.Trials.{Join, StandsAt, Fit, HasKeyValue, IsInTurn, MayFollow}
 use Rattle.chr_search.specs.Partners.{IsReady, LengthenedIf, key_value, keyed_at, KeyIs}
-use Rattle.chr_search.proofs.Tree.{Come, under, under_same, under_other, here, come_first, come_at, come_to_end, come_found, come_on}
+use Rattle.chr_search.proofs.Tree.{Come, under, under_same, under_other, here, come_first, come_at, come_to_end, come_found, come_past}
 use Rattle.chr_search.proofs.Plans.{distinct_push, among_push, keyed_given}
 
 -- one label more
@@ -180,24 +180,31 @@ lengthened j labels first below l f (inr e) =
 pub lengthened_none : (j : Join) (labels : List ℕ) (first : ℕ) (below : List ℕ) → NoneFrom (MayFollow j labels) first → NoneBeyond (MayFollow j) 1 labels (first ∷ below)
 lengthened_none j labels first below n = come_to_end (MayFollow j) 1 labels (first ∷ below) first below (come_at (MayFollow j) 1 labels first below) n
 
--- and past it, where there is none below it
-pub lengthened_past : (j : Join) (labels : List ℕ) (first : ℕ) (below : List ℕ) → LeastFrom (MayFollow j labels) first first → NoneBeyond (MayFollow j) 1 (labels ++ first ∷ []) below
-    → (told : Bool) (new : List ℕ) → LengthenedIf j ((first + 1) ∷ []) told labels new → LengthenedIf j (first ∷ below) told labels new
-lengthened_past j labels first below f none told new l =
-    let come : Come (MayFollow j) 1 labels (first ∷ below) (first + 1) [] = come_on (MayFollow j) 1 labels (first ∷ below) first below first (come_at (MayFollow j) 1 labels first below) f (subst (λ b. NoneBeyond (MayFollow j) 1 (labels ++ first ∷ []) b) (under_same first below first refl) none) in
-    by_told told l come
+-- or the least below it
+pub lengthened_at : (j : Join) (labels : List ℕ) (first : ℕ) (below new : List ℕ) → MayFollow j labels first → Least (MayFollow j) 1 (labels ++ first ∷ []) below new → Least (MayFollow j) 1 labels (first ∷ below) new
+lengthened_at j labels first below new m l =
+    come_found (MayFollow j) 1 labels (first ∷ below) first below first new (come_at (MayFollow j) 1 labels first below) (record { holds = m; there = omega arith; least = λ y f low. low })
+    (subst (λ b. Least (MayFollow j) 1 (labels ++ first ∷ []) b new) (under_same first below first refl) l)
+
+-- and past the place's first label, where there is none below it
+pub on_past : (j : Join) (labels mid : List ℕ) (first : ℕ) (below : List ℕ) → (MayFollow j labels first → NoneBeyond (MayFollow j) 1 (labels ++ first ∷ []) below) → mid ≡ labels → (told : Bool) (new : List ℕ) → LengthenedIf j ((first + 1) ∷ []) told mid new → LengthenedIf j (first ∷ below) told labels new
+on_past j labels mid first below none same told new l =
+    by_told told (subst (λ z. LengthenedIf j ((first + 1) ∷ []) told z new) same l) (come_past (MayFollow j) 1 labels (first ∷ below) first below (come_at (MayFollow j) 1 labels first below) none)
   where
     by_told : (b : Bool) → LengthenedIf j ((first + 1) ∷ []) b labels new → Come (MayFollow j) 1 labels (first ∷ below) (first + 1) [] → LengthenedIf j (first ∷ below) b labels new
     by_told true k c = come_least (MayFollow j) 1 labels (first ∷ below) (first + 1) [] new c k
     by_told false k c = (come_none (MayFollow j) 1 labels (first ∷ below) (first + 1) [] c k.0, k.1)
 
--- the same over equal lists
-pub on_past : (j : Join) (labels mid : List ℕ) (first label next : ℕ) (below rest : List ℕ) → LeastFrom (MayFollow j labels) first label → label ≡ first → below ≡ next ∷ rest → NoneBeyond (MayFollow j) 1 (labels ++ label ∷ []) (next ∷ rest) → mid ≡ labels
-    → (told : Bool) (new : List ℕ) → LengthenedIf j ((first + 1) ∷ []) told mid new → LengthenedIf j (first ∷ below) told labels new
-on_past j labels mid first label next below rest f e b none m told new l =
-    lengthened_past j labels first below (subst (λ x. LeastFrom (MayFollow j labels) first x) e f)
-    (subst (λ z. NoneBeyond (MayFollow j) 1 (labels ++ first ∷ []) z) (sym b) (subst (λ x. NoneBeyond (MayFollow j) 1 (labels ++ x ∷ []) (next ∷ rest)) e none))
-    told new (subst (λ z. LengthenedIf j ((first + 1) ∷ []) told z new) m l)
+-- no partner is at or above the bound, and no label above the active one may follow
+pub none_from_bound : (j : Join) (labels : List ℕ) (from : ℕ) → 1 ≤ length labels → j.bound ≤ from → NoneFrom (MayFollow j labels) from
+none_from_bound j labels from some high l m low = let less : l < j.bound = in_turn j labels l some m.turn in omega arith
+
+pub turn_low : (j : Join) → j.bound ≡ j.active → (labels : List ℕ) (l : ℕ) → IsInTurn j labels l → l ≤ j.active
+turn_low j same [] l t = let e : l ≡ j.active = t in omega arith
+turn_low j same (x ∷ labels) l t = let e : l < j.bound = t in omega arith
+
+pub none_above : (j : Join) → j.bound ≡ j.active → (labels : List ℕ) (from : ℕ) → j.active < from → NoneFrom (MayFollow j labels) from
+none_above j same labels from high l m low = let most : l ≤ j.active = turn_low j same labels l m.turn in omega arith
 
 -- below a label that doesn't fit
 pub none_below : (j : Join) (labels : List ℕ) (l : ℕ) (next : ℕ) (rest : List ℕ) → ((x : ℕ) → MayFollow j (labels ++ l ∷ []) x → ⊥) → NoneBeyond (MayFollow j) 1 (labels ++ l ∷ []) (next ∷ rest)
@@ -209,13 +216,46 @@ pub none_at_all : (j : Join) (place : List ℕ) → ((x : ℕ) → MayFollow j [
 none_at_all j [] n = come_to_end (MayFollow j) 1 [] [] 0 [] (come_first (MayFollow j) 1 [] (omega arith)) (λ y m low. n y m)
 none_at_all j (first ∷ below) n = lengthened_none j [] first below (λ y m low. n y m)
 
-pub active_least : (j : Join) (x from : ℕ) → MayFollow j [] x → from ≤ x → LeastFrom (MayFollow j []) from x
-active_least j x from m low = record { holds = m; there = low; least = λ y f k. let d : x ≡ j.active = m.turn in let e : y ≡ j.active = f.turn in omega arith }
+active_least : (j : Join) (from : ℕ) → MayFollow j [] j.active → from ≤ j.active → LeastFrom (MayFollow j []) from j.active
+active_least j from m low = record { holds = m; there = low; least = λ y f k. let e : y ≡ j.active = f.turn in omega arith }
 
-pub active_past : (j : Join) (x from : ℕ) → MayFollow j [] x → x < from → NoneFrom (MayFollow j []) from
-active_past j x from f h y m low = let d : x ≡ j.active = f.turn in let e : y ≡ j.active = m.turn in absurd (omega arith)
+active_past : (j : Join) (from : ℕ) → j.active < from → NoneFrom (MayFollow j []) from
+active_past j from h y m low = let e : y ≡ j.active = m.turn in omega arith
 
-pub active_none_below : (j : Join) (x first next : ℕ) (below rest : List ℕ) → MayFollow j [] x → first ≡ x → below ≡ next ∷ rest → NoneBeyond (MayFollow j) 1 (x ∷ []) (next ∷ rest) → NoneBeyond (MayFollow j) 1 [] (first ∷ below)
-active_none_below j x first next below rest m e b none =
-    (on_past j [] [] first x next below rest (active_least j x first m (omega arith)) (sym e) b none refl false []
-    (lengthened_none j [] (first + 1) [] (active_past j x (first + 1) m (omega arith)), refl)).0
+-- it alone at no place, at its own, and at another one's, if that comes before it
+module _ (j : Join) (m : MayFollow j [] j.active) (ls : List ℕ) (own : ls ≡ j.active ∷ []) where
+  pub active_first : (place : List ℕ) → length place ≡ 0 → Least (MayFollow j) 1 [] place ls
+  active_first [] e =
+      subst (Least (MayFollow j) 1 [] []) (sym own)
+      (come_found (MayFollow j) 1 [] [] 0 [] j.active (j.active ∷ []) (come_first (MayFollow j) 1 [] (omega arith)) (active_least j 0 m (omega arith))
+      (subst (λ b. Least (MayFollow j) 1 (j.active ∷ []) b (j.active ∷ [])) (nothing (j.active == 0)) (here (MayFollow j) 1 (j.active ∷ []) (omega arith))))
+    where
+      nothing : (t : Bool) → ◌≡◌ {A = List ℕ} [] (if t then [] else [])
+      nothing true = refl
+      nothing false = refl
+  active_first (x ∷ place) e = absurd (omega arith)
+
+  pub active_last : (place : List ℕ) (first : ℕ) (below : List ℕ) → place ≡ first ∷ below → first ≡ j.active → length below ≡ 0 → Least (MayFollow j) 1 [] place ls
+  active_last place first [] is e none =
+      subst (Least (MayFollow j) 1 [] place) (sym own) (subst (λ p. Least (MayFollow j) 1 [] p (j.active ∷ [])) (sym is) (lengthened j [] first [] j.active (active_least j first m (omega arith)) (inr refl)))
+  active_last place first (x ∷ below) is e none = absurd (omega arith)
+
+  pub active_other : (place : List ℕ) (first : ℕ) (below : List ℕ) → place ≡ first ∷ below → first ≢ j.active → MatchBool (ltb first j.active) (Least (MayFollow j) 1 [] place ls) (NoneBeyond (MayFollow j) 1 [] place)
+  active_other place first below is ne =
+      elim (ltb first j.active) as (λ b. (ltb first j.active ≡ b) → MatchBool b (Least (MayFollow j) 1 [] place ls) (NoneBeyond (MayFollow j) 1 [] place)) [
+        | true ↦ λ e.
+            let less : first < j.active = grind (arith, nat_tests) in
+            subst (Least (MayFollow j) 1 [] place) (sym own) (subst (λ p. Least (MayFollow j) 1 [] p (j.active ∷ [])) (sym is) (lengthened j [] first below j.active (active_least j first m (omega arith)) (inl (λ s. ne (sym s)))))
+        | false ↦ λ e.
+            let more : j.active ≤ first = grind (arith, nat_tests) in
+            subst (NoneBeyond (MayFollow j) 1 []) (sym is) (lengthened_none j [] first below (active_past j first (omega arith)))
+      ] refl
+
+  -- and partners, or none
+  pub active_more : (place : List ℕ) (first : ℕ) (below : List ℕ) → place ≡ first ∷ below → first ≡ j.active → (told : Bool) (new : List ℕ) → LengthenedIf j below told ls new → MatchBool told (Least (MayFollow j) 1 [] place new) (NoneBeyond (MayFollow j) 1 [] place)
+  active_more place first below is e true new l =
+      subst (λ p. Least (MayFollow j) 1 [] p new) (sym is) (lengthened_at j [] first below new (subst (MayFollow j []) (sym e) m) (subst (λ z. Least (MayFollow j) 1 z below new) (own ∙ ap (λ x. x ∷ []) (sym e)) l))
+  active_more place first below is e false new l =
+      subst (NoneBeyond (MayFollow j) 1 []) (sym is)
+      ((on_past j [] [] first below (λ n. subst (λ z. NoneBeyond (MayFollow j) 1 z below) (own ∙ ap (λ x. x ∷ []) (sym e)) l.0) refl false []
+      (lengthened_none j [] (first + 1) [] (active_past j (first + 1) (omega arith)), refl)).0)

@@ -91,7 +91,7 @@ stands_nowhere j ls binding step l r at n t i = no_fit j (ls ++ l ∷ []) t i (�
 heads_of_trial : (j : Join) (ls : List ℕ) (t : Trial) → IsTrialIn j ls t → length (heads_of t.rule) ≡ length j.rule.kept + length j.rule.removed
 heads_of_trial j ls t i = ap (λ r. length (heads_of r)) i.rule_is ∙ length-append j.rule.kept j.rule.removed
 
-pub few_placed : (j : Join) (ls : List ℕ) (t : Trial) → IsTrialIn j ls t → length ls < length j.rule.kept + length j.rule.removed → length t.placed < length (heads_of t.rule)
+few_placed : (j : Join) (ls : List ℕ) (t : Trial) → IsTrialIn j ls t → length ls < length j.rule.kept + length j.rule.removed → length t.placed < length (heads_of t.rule)
 few_placed j ls t i less =
     let count : length t.placed ≡ length ls = count_of_trial j ls t i in
     let all : length (heads_of t.rule) ≡ length j.rule.kept + length j.rule.removed = heads_of_trial j ls t i in

@@ -47,6 +47,19 @@ placed_all f order store xs i a past within =
       live = all_map (λ p. atom_at store p.label ≡ Some p.atom) f xs (subst (AllByRecursion (λ x. atom_at store (f x).label ≡ Some (f x).atom)) all a.live);
     }
 
+-- those that were read
+pub placed_read : {X : Type 0} (f : X → Placed) (order : List Step) (store : Store) (xs : List X) (i : ℕ) (ls : List ℕ) → map (λ x. (f x).head) xs ≡ take i (heads_in order) → map (λ x. (f x).label) xs ≡ take i ls → AllByRecursion (λ x. atom_at store (f x).label ≡ Some (f x).atom) xs → length ls ≤ i → i ≤ length ls → (map (λ x. (f x).label) xs ≡ ls) × ArePlacedIn order store (map f xs)
+placed_read f order store xs i ls hs lbs live past within =
+    let all : map (λ x. (f x).label) xs ≡ ls = lbs ∙ take_all i ls past in
+    let read : length ls ≡ length xs = ap length (sym all) ∙ length-map xs (λ x. (f x).label) in
+    let count : i ≡ length (map f xs) = omega (arith, length-map xs f) in (
+      all,
+      record {
+        heads = map_twice f (λ (p : Placed). p.head) xs ∙ hs ∙ ap (λ n. take n (heads_in order)) count;
+        live = all_map (λ p. atom_at store p.label ≡ Some p.atom) f xs live;
+      },
+    )
+
 -- of the rule, a trial of the space
 pub stands : (rules : List (Simpagation ℕ)) (plans : PlanList) (store : Store) (t : Trial) (order : List Step) (rule : Simpagation ℕ) (told : Bool) → rule_at rules t.number ≡ Some rule → plan_at plans t.number t.head ≡ Some order → ArePlacedIn order store t.placed → Decides told (rule ≡ t.rule) → IsTrue told ↔ IsTrialOf rules plans store t
 stands rules plans store t order rule told ri oi a d = (

@@ -82,22 +82,29 @@ come_found C d path place from below x found c l f = record {
           | false ↦ λ t. after_first x y f.more ys (grind (arith, nat_tests))
         ] refl
 
-pub come_on : (C : Children) (d : ℕ) (path place : List ℕ) (from : ℕ) (below : List ℕ) (x : ℕ) → Come C d path place from below → LeastFrom (C path) from x → NoneBeyond C d (path ++ x ∷ []) (under from below x) → Come C d path place (x + 1) []
-come_on C d path place from below x c l none = record { into = to; back = back }
+-- past a number below which there is nothing
+pub come_past : (C : Children) (d : ℕ) (path place : List ℕ) (from : ℕ) (below : List ℕ) → Come C d path place from below → (C path from → NoneBeyond C d (path ++ from ∷ []) below) → Come C d path place (from + 1) []
+come_past C d path place from below c none = record { into = to; back = back }
   where
-    to : (other : List ℕ) → Beyond C d path place other → at_or_after ((x + 1) ∷ []) other ≡ true
+    to : (other : List ℕ) → Beyond C d path place other → at_or_after ((from + 1) ∷ []) other ≡ true
     to [] b = let e : false ≡ true = c.into [] b in absurd (cc)
     to (y ∷ ys) b =
-        let from_y : from ≤ y = ⊎_elim (λ a. omega arith) (λ a. let e : from ≡ y = a.0 in omega arith) (after_cases from y below ys (c.into (y ∷ ys) b)) in
-        let least : x ≤ y = l.least y b.grows.0 from_y in
-        elim (x == y) as (λ t. (x == y ≡ t) → at_or_after ((x + 1) ∷ []) (y ∷ ys) ≡ true) [
-          | true ↦ λ t. absurd (none ys (under_child C d path place from below x ys c l (subst (λ z. Beyond C d path place (z ∷ ys)) (sym (true-eqb x y (sym t))) b)))
-          | false ↦ λ t. grind (arith, nat_tests)
-        ] refl
+        ⊎_elim (λ less. by_order (y == from + 1) refl less)
+        (λ same.
+        let e : from ≡ y = same.0 in
+        absurd (none (subst (C path) (sym e) b.grows.0) ys (record {
+          grows = subst (λ z. Grows C (path ++ z ∷ []) ys) (sym e) b.grows.1;
+          deep = subst (λ (p : List ℕ). d ≤ length p) (sym (append_one path ys from)) (subst (λ z. d ≤ length (path ++ z ∷ ys)) (sym e) b.deep);
+          there = same.1;
+        })))
+        (after_cases from y below ys (c.into (y ∷ ys) b))
+      where
+        by_order : (t : Bool) → (y == from + 1) ≡ t → from < y → at_or_after ((from + 1) ∷ []) (y ∷ ys) ≡ true
+        by_order t e less = grind (arith, nat_tests)
 
-    back : (other : List ℕ) → at_or_after ((x + 1) ∷ []) other ≡ true → at_or_after place other ≡ true
+    back : (other : List ℕ) → at_or_after ((from + 1) ∷ []) other ≡ true → at_or_after place other ≡ true
     back [] h = absurd (cc)
-    back (y ∷ ys) h = c.back (y ∷ ys) (after_first from y below ys (let le : from ≤ x = l.there in grind (arith, nat_tests)))
+    back (y ∷ ys) h = c.back (y ∷ ys) (after_first from y below ys (grind (arith, nat_tests)))
 
 pub under_same : (from : ℕ) (below : List ℕ) (x : ℕ) → x ≡ from → below ≡ under from below x
 under_same from below x e = grind (arith, nat_tests)

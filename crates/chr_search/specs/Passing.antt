@@ -15,6 +15,7 @@ use Rattle.chr_search.specs.declared.passing.LastHead.{LastHead}
 use Rattle.chr_search.specs.declared.passing.Level.{Level as CodeLevel}
 use Rattle.chr_search.specs.declared.passing.Next.{Next}
 use Rattle.chr_search.specs.declared.passing.Next.TheVariants as nexts
+use Rattle.chr_search.specs.declared.passing.Passed.{Passed}
 use Rattle.chr_search.specs.declared.passing.Stop.{Stop}
 use Rattle.chr_search.specs.declared.passing.Stop.TheVariants as stops
 use Rattle.chr_search.specs.declared.search.Whole.{Whole as CodeWhole}
@@ -24,7 +25,7 @@ use Rattle.chr_search.specs.declared.search.Then.TheVariants as thens
 use Rattle.chr_search.specs.Positions.{at_or_after, past}
 use Rattle.chr_search.specs.Tree.{Grows, Beyond, Least, NoneBeyond, LeastFrom, NoneFrom}
 use Rattle.chr_search.specs.Trials.{Join, MayFollow, Space, IsNext, NoneLeft}
-use Rattle.chr_search.specs.Partners.{IsReady, GivePartners}
+use Rattle.chr_search.specs.Partners.{HasPlan, IsReady, GivePartners}
 use Rattle.chr_search.specs.Verdicts.{Trial, labels, heads, position, kept_labels, removed_labels, IsFormed, IsTrialOf, IsWholeUnder}
 use Rattle.chr_search.specs.Judged.{Judgement, IsVerdict}
 use Rattle.chr_search.specs.Answers.{after_verdict, after_judging}
@@ -40,6 +41,12 @@ pub record IsTrialIn (j : Join) (ls : List ℕ) (t : Trial) : Type 0 where
 -- labels that grow to a trial have one
 abbrev pub HasTrials : Join → Type 0
 HasTrials j = (ls : List ℕ) → 1 ≤ length ls → Grows (MayFollow j) [] ls → (t : Trial) × IsTrialIn j ls t
+
+-- trials of a plan begin with the active label
+pub record BeginsTrials (j : Join) : Type 0 where
+  pub plan : HasPlan j
+  pub begins : MayFollow j [] j.active
+  pub trials : HasTrials j
 
 -- the trial of these labels has this verdict
 abbrev pub AreJudged : Join → List ℕ → Verdict → Type 0
@@ -80,6 +87,13 @@ abbrev pub PassesIn : Join → ℕ → List ℕ → List ℕ → Type 0
 PassesIn j zero place after = after ≡ place
 PassesIn j (suc n) place after = (middle : List ℕ) × PassesOneIn j place middle × PassesIn j n middle after
 
+-- So many trials of a join are passed over from one place to another: at most as many as were asked for, and as many where that is
+-- why no more are.
+pub record HasPassed (j : Join) (most : ℕ) (place : List ℕ) (passed : Passed) (after : List ℕ) : Type 0 where
+  pub few : passed.count ≤ most
+  pub enough : passed.end ≡ ends.Enough → passed.count ≡ most
+  pub passes : PassesIn j passed.count place after
+
 -- the trial of these labels is whole, under this binding
 abbrev pub AreWhole : Join → List ℕ → List (Option (Value ℕ)) → Type 0
 AreWhole j ls binding = (t : Trial) → IsTrialIn j ls t → IsWholeUnder t binding
@@ -104,13 +118,6 @@ pub record IsLevel {Z : Type 0} (j : Join) (ls : List ℕ) (binding : List (Opti
   pub known : AreKnown level.known binding
   pub at : IsLastHead j ls level.at
   pub partners : IfSome level.partners (GivePartners j ls)
-
--- the level of these labels, whose binding this one has kept
-pub record IsLevelUnder {Z : Type 0} (j : Join) (ls : List ℕ) (binding : List (Option (Value ℕ))) (level : CodeLevel Z) : Type 0 where
-  pub before : List (Option (Value ℕ))
-  pub ready : IsReady j ls before
-  pub is : IsLevel j ls before level
-  pub keeps : Keeps before binding
 
 -- where the answer is yes the label may be tried after these and this binds them all, and where it is no it may not, or none
 -- may be tried after it

@@ -31,21 +31,20 @@ pub struct Front<'s, A: Allocator> {
 }
 
 impl<'s, A: Allocator + Copy> Join<'s, A> {
-    /// Extends the binding of no labels by these in turn. False where no trial begins with them and goes on.
-    fn narrow_by_all(&self, binding: &mut Binding<'s, A>, placed: &[Placed<A>]) -> bool
+    /// These labels, by which the binding of no labels is extended in turn. None where no trial begins with them and goes on.
+    fn narrow_by_all(&self, binding: &mut Binding<'s, A>, placed: &[Placed<A>]) -> Option<Labels>
         requires plan { HasPlan (join_of self.now) }
         requires ready { IsReady (join_of self.now) [] binding.old }
-        ensures yes { IsTrue result → Grows (MayFollow (join_of self.now)) [] (map (λ p. p.label) placed.now) × IsReady (join_of self.now) (map (λ p. p.label) placed.now) binding.new }
-        ensures no { (x : ℕ) → Grows (MayFollow (join_of self.now)) [] (map (λ p. p.label) placed.now ++ x ∷ []) → IsTrue result }
+        ensures { let ls = map (λ p. p.label) placed.now in MatchOption result ((x : ℕ) → Grows (MayFollow (join_of self.now)) [] (ls ++ x ∷ []) → ⊥) (λ labels. (labels.items ≡ ls) × Grows (MayFollow (join_of self.now)) [] ls × IsReady (join_of self.now) ls binding.new) }
     {
         let mut labels = Labels::new();
         for one in placed {
             if !self.narrow_by(labels.as_slice(), binding, one.label) {
-                return false;
+                return None;
             }
             labels.push(one.label);
         }
-        true
+        Some(labels)
     }
 }
 
@@ -72,13 +71,7 @@ impl<'s, A: Allocator + Copy> Front<'s, A> {
             return None;
         }
         let mut binding = Binding::free(join.rule.variables());
-        if !join.narrow_by_all(&mut binding, placed) {
-            return None;
-        }
-        let mut labels = Labels::new();
-        for one in placed {
-            labels.push(one.label);
-        }
+        let labels = join.narrow_by_all(&mut binding, placed)?;
         let step = join.order.get(labels.len())?;
         let level = join.level(labels.as_slice(), &binding)?;
         Some(Front {

@@ -1,5 +1,5 @@
 //! The partners of an active label at the heads of a plan.
-ghost use Rattle.std.specs.Prelude.{◌≡◌, ◌↔◌, ℕ, ◌∷◌, ◌≤◌, [], length, MatchOption, IfSome, IsTrue};
+ghost use Rattle.std.specs.Prelude.{◌≡◌, ◌↔◌, ℕ, ◌∷◌, ◌≤◌, [], length, MatchBool, MatchOption, IfSome, IsTrue};
 ghost use Rattle.chr_guard.specs.Bindings.{Keeps, NarrowsIf};
 ghost use Rattle.chr_rule.specs.Parts.{shape};
 ghost use Rattle.chr_search.specs.Tree.{Least, NoneBeyond};
@@ -150,24 +150,18 @@ impl<'s, A: Allocator + Copy> Join<'s, A> {
         let Some((next, rest)) = below.split_first() else {
             return self.push_next(labels, binding, first);
         };
-        let Some(label) = self.next_partner(labels.as_slice(), binding, first) else {
+        if first >= self.view.active() {
             return false;
-        };
-        if label != first {
-            labels.push(label);
-            return true;
         }
         let known = binding.known();
-        if self.narrow_by(labels.as_slice(), binding, label) {
-            labels.push(label);
+        if self.narrow_by(labels.as_slice(), binding, first) {
+            labels.push(first);
             if self.lengthen(labels, binding, *next, rest) {
                 return true;
             }
             labels.pop();
         }
         binding.return_to(known);
-        // For the proof: a partner is older than the active label.
-        let _active = self.view.active();
         self.push_next(labels, binding, first + 1)
     }
 
@@ -188,6 +182,30 @@ impl<'s, A: Allocator + Copy> Join<'s, A> {
         }
     }
 
+    /// Adds to the active label partners up to the least labels at or after a place. False where there are none.
+    fn lengthen_active(&self, labels: &mut Labels, place: &[Label]) -> bool
+        requires begins { MayFollow (join_of self.now) [] self.now.view.active }
+        requires plan { HasPlan (join_of self.now) }
+        requires active { labels.old.items ≡ self.now.view.active ∷ [] }
+        ensures { MatchBool result (Least (MayFollow (join_of self.now)) 1 [] place.now labels.new.items) (NoneBeyond (MayFollow (join_of self.now)) 1 [] place.now) }
+    {
+        let Some((first, below)) = place.split_first() else {
+            return true;
+        };
+        let active = self.view.active();
+        if *first != active {
+            return *first < active;
+        }
+        let Some((next, rest)) = below.split_first() else {
+            return true;
+        };
+        let mut binding = Binding::free(self.rule.variables());
+        if !self.narrow_by(&[], &mut binding, active) {
+            return false;
+        }
+        self.lengthen(labels, &mut binding, *next, rest)
+    }
+
     /// The least labels at or after these: the active one at the plan's first head, and partners. None where there are
     /// none.
     pub(crate) fn find(&self, place: &[Label]) -> Option<Labels>
@@ -197,31 +215,11 @@ impl<'s, A: Allocator + Copy> Join<'s, A> {
         if !self.begins() {
             return None;
         }
-        let active = self.view.active();
         let mut labels = Labels::new();
-        let Some((first, below)) = place.split_first() else {
-            labels.push(active);
-            return Some(labels);
-        };
-        if *first > active {
+        labels.push(self.view.active());
+        if !self.lengthen_active(&mut labels, place) {
             return None;
         }
-        let Some((next, rest)) = below.split_first() else {
-            labels.push(active);
-            return Some(labels);
-        };
-        if *first < active {
-            labels.push(active);
-            return Some(labels);
-        }
-        let mut binding = Binding::free(self.rule.variables());
-        if !self.narrow_by(&[], &mut binding, active) {
-            return None;
-        }
-        labels.push(active);
-        if self.lengthen(&mut labels, &mut binding, *next, rest) {
-            return Some(labels);
-        }
-        None
+        Some(labels)
     }
 }

@@ -1,13 +1,12 @@
 //! Trials in the store that are judged without being made.
-ghost use Rattle.std.specs.Prelude.{◌≡◌, ◌≢◌, ◌↔◌, ◌==◌, ◌≤◌, ◌<◌, ◌∷◌, ◌++◌, [], ℕ, List, Option, false, take, MatchOption, IsTrue};
+ghost use Rattle.std.specs.Prelude.{◌≡◌, ◌↔◌, ◌==◌, ◌≤◌, ◌<◌, ◌∷◌, ◌++◌, [], ℕ, length, take, MatchOption, IsTrue};
 ghost use Rattle.std.specs.List.{list_any};
-ghost use Rattle.chr_value.specs.Atoms.{Value};
-ghost use Rattle.chr_guard.specs.Bindings.{AreKnown, Keeps};
+ghost use Rattle.chr_guard.specs.Bindings.{Keeps};
 ghost use Rattle.chr_search.specs.declared.passing.End.TheVariants as ends;
 ghost use Rattle.chr_search.specs.declared.passing.Stop.TheVariants as stops;
 ghost use Rattle.chr_search.specs.Joined.{join_of};
 ghost use Rattle.chr_search.specs.Partners.{HasPlan, IsReady, IsPartnerFrom};
-ghost use Rattle.chr_search.specs.Passing.{IsTrialIn, HasTrials, AreMisfits, PassesIn, EndsIn, IsLastHead, IsLevel, IsLevelUnder, IsAfterPart, IsNarrowedIf, IsTried, ComesNext, settled, IsBelow, EndsBelow, StopsAt};
+ghost use Rattle.chr_search.specs.Passing.{IsTrialIn, BeginsTrials, AreMisfits, PassesIn, HasPassed, EndsIn, IsLastHead, IsLevel, IsNarrowedIf, IsTried, ComesNext, settled, IsBelow, EndsBelow, StopsAt};
 ghost use Rattle.chr_search.specs.Tree.{Grows};
 ghost use Rattle.chr_search.specs.Trials.{IsInTurn, MayFollow};
 ghost use Rattle.chr_search.specs.Verdicts.{Trial};
@@ -24,7 +23,7 @@ use chr_store::{Label, Matches};
 use std::alloc::Allocator;
 
 /// Why no more trials of a plan are passed over.
-#[derive(Clone, Copy, PartialEq, Eq)]
+#[derive(Clone, Copy)]
 pub(crate) enum End {
     /// The next one is whole.
     Whole,
@@ -35,7 +34,7 @@ pub(crate) enum End {
 }
 
 /// How many trials of a plan were passed over, and why no more.
-#[derive(Drop)]
+#[derive(Clone, Copy)]
 pub(crate) struct Passed {
     pub(crate) count: u64,
     pub(crate) end: End,
@@ -262,9 +261,7 @@ impl<'s, A: Allocator + Copy> Join<'s, A> {
         instance: &mut Instance,
         binding: &mut Binding<'s, A>,
     ) -> Run
-        requires begins { MayFollow (join_of self.now) [] self.now.view.active }
-        requires plan { HasPlan (join_of self.now) }
-        requires trials { HasTrials (join_of self.now) }
+        requires begins { BeginsTrials (join_of self.now) }
         requires grows { Grows (MayFollow (join_of self.now)) [] instance.old.labels.items }
         requires ready { IsReady (join_of self.now) instance.old.labels.items binding.old }
         requires level { IsLevel (join_of self.now) instance.old.labels.items binding.old level.old }
@@ -313,9 +310,7 @@ impl<'s, A: Allocator + Copy> Join<'s, A> {
         instance: &mut Instance,
         binding: &mut Binding<'s, A>,
     ) -> Stopped
-        requires begins { MayFollow (join_of self.now) [] self.now.view.active }
-        requires plan { HasPlan (join_of self.now) }
-        requires trials { HasTrials (join_of self.now) }
+        requires begins { BeginsTrials (join_of self.now) }
         requires ready { IsReady (join_of self.now) instance.old.labels.items binding.old }
         requires level { IsLevel (join_of self.now) instance.old.labels.items binding.old level.old }
         requires below { IsBelow (join_of self.now) instance.old.labels.items place.old.items from }
@@ -346,167 +341,117 @@ impl<'s, A: Allocator + Copy> Join<'s, A> {
     }
 
     /// Passes over the trials of the instance's labels and more from one on, at most so many.
-    #[cycle(below)]
     fn pass_below(
         &self,
-        from: Label,
+        mut from: Label,
         most: u64,
         place: &mut Labels,
         instance: &mut Instance,
         binding: &mut Binding<'s, A>,
     ) -> Passed
-        requires begins { MayFollow (join_of self.now) [] self.now.view.active }
-        requires plan { HasPlan (join_of self.now) }
-        requires trials { HasTrials (join_of self.now) }
+        requires begins { BeginsTrials (join_of self.now) }
         requires ready { IsReady (join_of self.now) instance.old.labels.items binding.old }
         requires below { IsBelow (join_of self.now) instance.old.labels.items place.old.items from }
-        ensures few { result.count ≤ most }
-        ensures enough { result.end ≡ ends.Enough → result.count ≡ most }
-        ensures passes { PassesIn (join_of self.now) result.count place.old.items place.new.items }
+        ensures passed { HasPassed (join_of self.now) most place.old.items result place.new.items }
         ensures ends { EndsBelow (join_of self.now) instance.old.labels.items place.new.items result.end instance.new.labels.items binding.new }
         ensures keeps { Keeps binding.old binding.new }
     {
-        let Some(mut level) = self.level(instance.labels.as_slice(), binding) else {
-            return Passed {
-                count: 0,
-                end: End::NoneLeft,
-            };
-        };
-        let Stopped { count, stop } = self.pass_level(
-            &mut level, from, most, place, instance, binding,
-        );
-        match stop {
-            Stop::Part(label) => {
-                let more = self.pass_parts(level, label, most - count, place, instance, binding);
-                Passed {
-                    count: count + more.count,
-                    end: more.end,
-                }
-            }
-            Stop::End(end) => Passed { count, end },
-        }
-    }
-
-    /// Passes over the trials that begin with a part of a level, and those of the level after it, at most so many.
-    #[cycle(below)]
-    fn pass_parts(
-        &self,
-        mut level: Level<'s, A>,
-        part: Label,
-        most: u64,
-        place: &mut Labels,
-        instance: &mut Instance,
-        binding: &mut Binding<'s, A>,
-    ) -> Passed
-        requires begins { MayFollow (join_of self.now) [] self.now.view.active }
-        requires plan { HasPlan (join_of self.now) }
-        requires trials { HasTrials (join_of self.now) }
-        requires grows { Grows (MayFollow (join_of self.now)) [] instance.old.labels.items }
-        requires level { IsLevelUnder (join_of self.now) instance.old.labels.items binding.old level }
-        requires part { IsAfterPart (join_of self.now) instance.old.labels.items part place.old.items binding.old }
-        ensures few { result.count ≤ most }
-        ensures enough { result.end ≡ ends.Enough → result.count ≡ most }
-        ensures passes { PassesIn (join_of self.now) result.count place.old.items place.new.items }
-        ensures ends { EndsBelow (join_of self.now) instance.old.labels.items place.new.items result.end instance.new.labels.items binding.new }
-        ensures keeps { (before : List (Option (Value ℕ))) → AreKnown level.entry.known before → Keeps before binding.old → Keeps before binding.new }
-    {
-        let mut label = part;
         let mut count = 0;
+        let Some(mut level) = self.level(instance.labels.as_slice(), binding) else {
+            let end = End::NoneLeft;
+            return Passed { count, end };
+        };
         loop {
-            instance.labels.push(label);
-            let below = self.pass_below(0, most - count, place, instance, binding);
-            count += below.count;
-            if below.end != End::NoneLeft {
-                return Passed {
-                    count,
-                    end: below.end,
-                };
-            }
-            instance.labels.pop();
-            binding.return_to(level.known);
-            let from = label + 1;
             let beside = self.pass_level(&mut level, from, most - count, place, instance, binding);
             count += beside.count;
-            label = match beside.stop {
+            let label = match beside.stop {
                 Stop::Part(label) => label,
                 Stop::End(end) => return Passed { count, end },
             };
+            instance.labels.push(label);
+            let below = self.pass_below(0, most - count, place, instance, binding);
+            count += below.count;
+            let End::NoneLeft = below.end else {
+                let end = below.end;
+                return Passed { count, end };
+            };
+            instance.labels.pop();
+            binding.return_to(level.known);
+            from = label + 1;
         }
     }
 
-    /// Passes over the trials of the instance's labels and more at or after a place, at most so many.
+    /// Passes over the trials of the instance's labels and more at or after a place, at most so many. After these labels the
+    /// place has `first` and then those below it.
     fn pass_on(
         &self,
-        rest: &[Label],
+        first: Label,
+        below: &[Label],
         most: u64,
         place: &mut Labels,
         instance: &mut Instance,
         binding: &mut Binding<'s, A>,
     ) -> Passed
-        requires begins { MayFollow (join_of self.now) [] self.now.view.active }
-        requires plan { HasPlan (join_of self.now) }
-        requires trials { HasTrials (join_of self.now) }
-        requires ready { IsReady (join_of self.now) instance.old.labels.items binding.old }
+        requires begins { BeginsTrials (join_of self.now) }
         requires grows { Grows (MayFollow (join_of self.now)) [] instance.old.labels.items }
-        requires first { rest.now ≡ [] → instance.old.labels.items ≡ [] }
-        requires place { place.old.items ≡ instance.old.labels.items ++ rest.now }
-        ensures few { result.count ≤ most }
-        ensures enough { result.end ≡ ends.Enough → result.count ≡ most }
-        ensures passes { PassesIn (join_of self.now) result.count place.old.items place.new.items }
+        requires ready { IsReady (join_of self.now) instance.old.labels.items binding.old }
+        requires place { place.old.items ≡ instance.old.labels.items ++ first ∷ below.now }
+        ensures passed { HasPassed (join_of self.now) most place.old.items result place.new.items }
         ensures ends { EndsBelow (join_of self.now) instance.old.labels.items place.new.items result.end instance.new.labels.items binding.new }
         ensures keeps { Keeps binding.old binding.new }
     {
-        let Some((first, below)) = rest.split_first() else {
-            return self.pass_below(0, most, place, instance, binding);
+        let Some((next, rest)) = below.split_first() else {
+            return self.pass_below(first, most, place, instance, binding);
         };
-        if below.is_empty() {
-            return self.pass_below(*first, most, place, instance, binding);
+        let mut count = 0;
+        if first > self.view.active() {
+            let end = End::NoneLeft;
+            return Passed { count, end };
         }
-        if *first > self.view.active() {
-            return Passed {
-                count: 0,
-                end: End::NoneLeft,
-            };
-        }
-        let from = *first + 1;
         let known = binding.known();
-        if !self.narrow_by(instance.labels.as_slice(), binding, *first) {
-            binding.return_to(known);
-            return self.pass_below(from, most, place, instance, binding);
+        if self.narrow_by(instance.labels.as_slice(), binding, first) {
+            instance.labels.push(first);
+            let deeper = self.pass_on(*next, rest, most, place, instance, binding);
+            let End::NoneLeft = deeper.end else {
+                return deeper;
+            };
+            count = deeper.count;
+            instance.labels.pop();
         }
-        instance.labels.push(*first);
-        let passed = self.pass_on(below, most, place, instance, binding);
-        if passed.end != End::NoneLeft {
-            return passed;
-        }
-        instance.labels.pop();
         binding.return_to(known);
-        let more = self.pass_below(from, most - passed.count, place, instance, binding);
+        let beside = self.pass_below(first + 1, most - count, place, instance, binding);
         Passed {
-            count: passed.count + more.count,
-            end: more.end,
+            count: count + beside.count,
+            end: beside.end,
         }
     }
 
-    /// Passes over the one trial of a rule of one head, where it isn't whole.
+    /// Passes over the trials as [`pass`](Join::pass) does, from no place on. All of them begin with the active label.
     #[inline(always)]
-    fn pass_only(
+    fn pass_first(
         &self,
-        at: LastHead<'s, A>,
+        most: u64,
         place: &mut Labels,
         instance: &mut Instance,
         binding: &mut Binding<'s, A>,
     ) -> Passed
-        requires begins { MayFollow (join_of self.now) [] self.now.view.active }
-        requires trials { HasTrials (join_of self.now) }
-        requires at { IsLastHead (join_of self.now) [] at }
-        requires only { IsTrue at.is_last }
+        requires begins { BeginsTrials (join_of self.now) }
         requires place { place.old.items ≡ [] }
-        ensures few { result.count ≤ 1 }
-        ensures over { result.end ≢ ends.Enough }
-        ensures passes { PassesIn (join_of self.now) result.count place.old.items place.new.items }
+        ensures passed { HasPassed (join_of self.now) most place.old.items result place.new.items }
         ensures ends { EndsIn (join_of self.now) place.new.items result.end instance.new.labels.items binding.new }
     {
+        let Some(at) = self.last_head(&[]) else {
+            return Passed {
+                count: 0,
+                end: End::NoneLeft,
+            };
+        };
+        if most == 0 {
+            return Passed {
+                count: 0,
+                end: End::Enough,
+            };
+        }
         let active = self.view.active();
         binding.reset(self.rule.variables());
         match self.judge_at(at, &[], active, binding) {
@@ -524,54 +469,6 @@ impl<'s, A: Allocator + Copy> Join<'s, A> {
                     end: End::Whole,
                 }
             }
-            Verdict::Part => unreachable!(),
-        }
-    }
-
-    /// Passes over the trials as [`pass`](Join::pass) does, from no place on. All of them begin with the active label.
-    #[inline(always)]
-    fn pass_first(
-        &self,
-        most: u64,
-        place: &mut Labels,
-        instance: &mut Instance,
-        binding: &mut Binding<'s, A>,
-    ) -> Passed
-        requires begins { MayFollow (join_of self.now) [] self.now.view.active }
-        requires plan { HasPlan (join_of self.now) }
-        requires trials { HasTrials (join_of self.now) }
-        requires place { place.old.items ≡ [] }
-        ensures few { result.count ≤ most }
-        ensures enough { result.end ≡ ends.Enough → result.count ≡ most }
-        ensures passes { PassesIn (join_of self.now) result.count place.old.items place.new.items }
-        ensures ends { EndsIn (join_of self.now) place.new.items result.end instance.new.labels.items binding.new }
-    {
-        let Some(at) = self.last_head(&[]) else {
-            return Passed {
-                count: 0,
-                end: End::NoneLeft,
-            };
-        };
-        if most == 0 {
-            return Passed {
-                count: 0,
-                end: End::Enough,
-            };
-        }
-        if at.is_last {
-            return self.pass_only(at, place, instance, binding);
-        }
-        let active = self.view.active();
-        binding.reset(self.rule.variables());
-        match self.judge_at(at, &[], active, binding) {
-            Verdict::Misfit => {
-                place.push(active + 1);
-                Passed {
-                    count: 1,
-                    end: End::NoneLeft,
-                }
-            }
-            Verdict::Whole => unreachable!(),
             Verdict::Part => {
                 put_at(&mut instance.labels, 0, active);
                 place.push(active);
@@ -593,18 +490,18 @@ impl<'s, A: Allocator + Copy> Join<'s, A> {
         instance: &mut Instance,
         binding: &mut Binding<'s, A>,
     ) -> Passed
-        requires begins { MayFollow (join_of self.now) [] self.now.view.active }
-        requires plan { HasPlan (join_of self.now) }
-        requires trials { HasTrials (join_of self.now) }
-        ensures few { result.count ≤ most }
-        ensures enough { result.end ≡ ends.Enough → result.count ≡ most }
-        ensures passes { PassesIn (join_of self.now) result.count place.old.items place.new.items }
+        requires begins { BeginsTrials (join_of self.now) }
+        requires some { 1 ≤ length place.old.items }
+        ensures passed { HasPassed (join_of self.now) most place.old.items result place.new.items }
         ensures ends { EndsIn (join_of self.now) place.new.items result.end instance.new.labels.items binding.new }
     {
         instance.labels.clear();
         binding.reset(self.rule.variables());
-        let rest = copy_labels(place);
-        self.pass_on(rest.as_slice(), most, place, instance, binding)
+        let all = copy_labels(place);
+        let Some((first, below)) = all.as_slice().split_first() else {
+            unreachable!();
+        };
+        self.pass_on(*first, below, most, place, instance, binding)
     }
 
     /// Passes over the trials at or after a place up to one that is whole, at most so many. The place becomes that at which
@@ -617,12 +514,8 @@ impl<'s, A: Allocator + Copy> Join<'s, A> {
         instance: &mut Instance,
         binding: &mut Binding<'s, A>,
     ) -> Passed
-        requires begins { MayFollow (join_of self.now) [] self.now.view.active }
-        requires plan { HasPlan (join_of self.now) }
-        requires trials { HasTrials (join_of self.now) }
-        ensures few { result.count ≤ most }
-        ensures enough { result.end ≡ ends.Enough → result.count ≡ most }
-        ensures passes { PassesIn (join_of self.now) result.count place.old.items place.new.items }
+        requires begins { BeginsTrials (join_of self.now) }
+        ensures passed { HasPassed (join_of self.now) most place.old.items result place.new.items }
         ensures ends { EndsIn (join_of self.now) place.new.items result.end instance.new.labels.items binding.new }
     {
         if place.is_empty() {

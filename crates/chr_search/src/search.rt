@@ -1,19 +1,18 @@
 //! Searches.
-ghost use Rattle.std.specs.Prelude.{◌≡◌, ℕ, suc, ◌≤◌, ◌∷◌, ◌++◌, [], length, Some, MatchOption, IfOk};
+ghost use Rattle.std.specs.Prelude.{◌≡◌, ℕ, suc, ◌≤◌, true, List, ◌∷◌, ◌++◌, [], length, Some, MatchOption, IfOk};
 ghost use Rattle.chr_value.specs.Stores.{atom_at};
 ghost use Rattle.chr_plan.specs.Plans.{ArePlans};
 ghost use Rattle.chr_store.specs.Labels.{entered};
 ghost use Rattle.chr_search.specs.declared.passing.End.TheVariants as ends;
 ghost use Rattle.chr_search.specs.declared.judged.Verdict.TheVariants as verdicts;
 ghost use Rattle.chr_search.specs.declared.search.Then.TheVariants as thens;
-ghost use Rattle.chr_search.specs.Positions.{beginning, past};
-ghost use Rattle.chr_search.specs.Trials.{older, IsNext, MayFollow, NoneLeft};
+ghost use Rattle.chr_search.specs.Positions.{at_or_after, begins, beginning, past, front};
+ghost use Rattle.chr_search.specs.Trials.{older, IsTrial, IsNext, NoneLeft};
 ghost use Rattle.chr_search.specs.Answers.{IsAnswer, IsAnswerBehind, IsToldNext, after_judging, after_verdict};
 ghost use Rattle.chr_search.specs.Verdicts.{Trial as TrialView, IsPart, position as position_of};
 ghost use Rattle.chr_search.specs.Fronts.{ComeAfter};
 ghost use Rattle.chr_search.specs.Joined.{join_of};
-ghost use Rattle.chr_search.specs.Partners.{HasPlan};
-ghost use Rattle.chr_search.specs.Passing.{IsTrialIn, HasTrials, Passes, IsThen};
+ghost use Rattle.chr_search.specs.Passing.{IsTrialIn, BeginsTrials, Passes, IsThen};
 ghost use Rattle.chr_search.specs.PlanByPlan.{label_at_head, labels_at_heads, IsUnplanned, IsJoinOf, labels_in, PassesPlan, IsNextJoin};
 
 use crate::join::Join;
@@ -432,6 +431,39 @@ impl Search {
         self.find(program, plans, store)?.label_after(part)
     }
 
+    /// The position of the least admissible trial past another, with the same rule and head and the same labels but the last.
+    /// None where there is none.
+    fn find_behind<A: Allocator + Copy>(
+        &self,
+        trial: &Trial<A>,
+        program: &Program<A>,
+        plans: &Plans<A>,
+        store: &Store<A>,
+    ) -> Option<Position>
+        requires { ArePlans program.now plans.now }
+        ensures { let s = older program.now plans.now store.now.entries self.now.label in let p = position_of trial.now in MatchOption result ((t : List ℕ) → IsTrial s t → at_or_after (past p) t ≡ true → begins (front p) t ≡ true → ⊥) (λ next. IsNext s (past p) next × (front next ≡ front p)) }
+    {
+        let past = Position::past(trial);
+        // For the proof: a trial has a label.
+        let _placed = trial.placed();
+        let view = View::of(store, self.label);
+        let Some(join) = Search::join_at(program, plans, &view, past.rule, past.head) else {
+            return None;
+        };
+        let Some(labels) = join.find(past.labels.as_slice()) else {
+            return None;
+        };
+        let next = Position {
+            rule: past.rule,
+            head: past.head,
+            labels,
+        };
+        if !next.is_beside(trial) {
+            return None;
+        }
+        Some(next)
+    }
+
     /// The least admissible trial past another, with the same rule and head and the same labels but the last. Done where
     /// there is none. E01 where memory ran out. The search's own position plays no part.
     pub fn behind<A: Allocator + Copy>(
@@ -445,25 +477,10 @@ impl Search {
         requires { ArePlans program.now plans.now }
         ensures { IfOk result (IsAnswerBehind (older program.now plans.now store.now.entries self.now.label) (position_of trial.now)) }
     {
-        let past = Position::past(trial);
-        // For the proof: a trial has a label.
-        let _placed = trial.placed();
-        let view = View::of(store, self.label);
-        let Some(join) = Search::join_at(program, plans, &view, past.rule, past.head) else {
-            return Ok(Ask::Done);
-        };
-        let Some(labels) = join.find(past.labels.as_slice()) else {
-            return Ok(Ask::Done);
-        };
-        let next = Position {
-            rule: past.rule,
-            head: past.head,
-            labels,
-        };
-        if !next.is_beside(trial) {
-            return Ok(Ask::Done);
+        match self.find_behind(trial, program, plans, store) {
+            None => Ok(Ask::Done),
+            Some(next) => Ok(Ask::Trial(Trial::at(alloc, &next, program, plans, store)?)),
         }
-        Ok(Ask::Trial(Trial::at(alloc, &next, program, plans, store)?))
     }
 
     /// Moves just after a trial that is a part, and past any other and all that it begins.
@@ -496,9 +513,7 @@ impl Search {
     ) -> passing::Passed
         requires rule { 1 ≤ walk.now.rule }
         requires head { 1 ≤ walk.now.head }
-        requires begins { MayFollow (join_of join.now) [] join.now.view.active }
-        requires plan { HasPlan (join_of join.now) }
-        requires trials { HasTrials (join_of join.now) }
+        requires begins { BeginsTrials (join_of join.now) }
         ensures few { result.count ≤ most }
         ensures enough { result.end ≡ ends.Enough → result.count ≡ most }
         ensures label { self.new.label ≡ self.old.label }

@@ -1,6 +1,8 @@
 //! Trials with their atoms.
-ghost use Rattle.std.specs.Prelude.{◌≡◌, ◌↔◌, ◌≤◌, ◌∷◌, [], ℕ, length, map, IfOk, IsTrue};
+ghost use Rattle.std.specs.Prelude.{◌≡◌, ◌↔◌, ◌≤◌, ◌∷◌, [], ℕ, length, map, slice_get, Some, IfOk, IsTrue};
 ghost use Rattle.std.specs.Arc.{arc_value};
+ghost use Rattle.chr_value.specs.Atoms.{Atom as AtomView};
+ghost use Rattle.chr_value.specs.Stores.{atom_at};
 ghost use Rattle.chr_plan.specs.Plans.{ArePlans};
 ghost use Rattle.chr_search.specs.Fronts.{lengthened, trial_alone};
 ghost use Rattle.chr_search.specs.Positions.{front};
@@ -139,6 +141,70 @@ fn are_placed_in<A: Allocator + Copy>(
     true
 }
 
+/// The label at a head, 0 where there is none.
+fn label_at<A: Allocator>(placed: &[Placed<A>], head: usize) -> Label
+    ensures { result ≡ label_at (map placed_as placed.now) head }
+{
+    for one in placed {
+        if usize::from(one.head) == head {
+            return one.label;
+        }
+    }
+    0
+}
+
+/// The labels at the next heads from one on, at most six.
+fn labels_from<A: Allocator>(placed: &[Placed<A>], first: usize, count: usize) -> Labels
+    requires first { first ≤ 7 }
+    requires count { count ≤ 6 }
+    ensures { result.items ≡ labels_from (map placed_as placed.now) first count }
+{
+    let mut labels = Labels::new();
+    for i in 0..count {
+        labels.push(label_at(placed, first + i));
+    }
+    labels
+}
+
+/// Copies, with copies of the atoms. An `Err` is E01.
+fn copy_placed<A: Allocator + Copy>(
+    alloc: A,
+    placed: &[Placed<A>],
+) -> Result<Vec<Placed<A>, A>, AllocError>
+    ensures { IfOk result (λ made. map placed_as made.items ≡ map placed_as placed.now) }
+{
+    let mut made = Vec::with_capacity(alloc, placed.len())?;
+    for one in placed {
+        made.push(one.copy(alloc)?)?;
+    }
+    Ok(made)
+}
+
+/// Labels at the heads of a plan's first steps, with copies of their atoms. An `Err` is E01.
+fn place_labels<A: Allocator + Copy>(
+    alloc: A,
+    labels: &[Label],
+    order: &[Step],
+    store: &Store<A>,
+) -> Result<Vec<Placed<A>, A>, AllocError>
+    requires count { length labels.now ≤ length order.now }
+    requires live { (i l : ℕ) → slice_get labels.now i ≡ Some l → (a : AtomView ℕ) × (atom_at store.now.entries l ≡ Some a) }
+    ensures { IfOk result (λ placed. (map (λ p. p.label) placed.items ≡ labels.now) × ArePlacedIn order.now store.now.entries (map placed_as placed.items)) }
+{
+    let mut placed = Vec::with_capacity(alloc, labels.len())?;
+    for (i, label) in labels.iter().enumerate() {
+        let Some(atom) = store.get(*label) else {
+            unreachable!();
+        };
+        placed.push(Placed {
+            head: order[i].head,
+            label: *label,
+            atom: atom.copy(alloc)?,
+        })?;
+    }
+    Ok(placed)
+}
+
 impl<A: Allocator + Copy> Trial<A> {
     /// The rule.
     pub fn rule(&self) -> &Rule<A>
@@ -170,53 +236,29 @@ impl<A: Allocator + Copy> Trial<A> {
         &self.placed
     }
 
-    /// The label at a head, 0 where there is none.
-    fn label_at(&self, head: usize) -> Label
-        ensures { result ≡ label_at self.now.placed head }
-    {
-        for one in &self.placed {
-            if usize::from(one.head) == head {
-                return one.label;
-            }
-        }
-        0
-    }
-
-    /// The labels at the next heads from one on, at most six.
-    fn labels_from(&self, first: usize, count: usize) -> Labels
-        requires first { first ≤ 7 }
-        requires count { count ≤ 6 }
-        ensures { result.items ≡ labels_from self.now.placed first count }
-    {
-        let mut labels = Labels::new();
-        for i in 0..count {
-            labels.push(self.label_at(first + i));
-        }
-        labels
-    }
-
     /// The labels at the kept heads, in head order. A head that isn't tried has 0.
     pub fn kept_labels(&self) -> Labels
         ensures { result.items ≡ kept_labels self.now }
     {
-        self.labels_from(1, self.rule.kept().len())
+        labels_from(&self.placed, 1, self.rule.kept().len())
     }
 
     /// The labels at the removed heads, in head order. A head that isn't tried has 0.
     pub fn removed_labels(&self) -> Labels
         ensures { result.items ≡ removed_labels self.now }
     {
-        self.labels_from(self.rule.kept().len() + 1, self.rule.removed().len())
+        labels_from(
+            &self.placed,
+            self.rule.kept().len() + 1,
+            self.rule.removed().len(),
+        )
     }
 
     /// A copy: it shares the rule and has copies of the atoms. E01 where memory ran out.
     pub fn copy(&self, alloc: A) -> Result<Trial<A>, AllocError>
         ensures { IfOk result (λ made. made ≡ self.now) }
     {
-        let mut placed = Vec::with_capacity(alloc, self.placed.len())?;
-        for one in &self.placed {
-            placed.push(one.copy(alloc)?)?;
-        }
+        let placed = copy_placed(alloc, &self.placed)?;
         Ok(Trial {
             rule: Arc::try_clone(&self.rule)?,
             number: self.number,
@@ -322,20 +364,9 @@ impl<A: Allocator + Copy> Trial<A> {
         let Some(order) = plans.plan(usize::from(position.rule), position.head) else {
             unreachable!();
         };
-        let labels = position.labels.as_slice();
         // For the proof: the labels of a store are at most the greatest.
         let _given = store.next_label();
-        let mut placed = Vec::with_capacity(alloc, labels.len())?;
-        for (i, label) in labels.iter().enumerate() {
-            let Some(atom) = store.get(*label) else {
-                unreachable!();
-            };
-            placed.push(Placed {
-                head: order[i].head,
-                label: *label,
-                atom: atom.copy(alloc)?,
-            })?;
-        }
+        let placed = place_labels(alloc, position.labels.as_slice(), order, store)?;
         Ok(Trial {
             rule: Arc::try_clone(rule)?,
             number: position.rule,

@@ -1,4 +1,5 @@
-use Rattle.std.proofs.Common.{[], true, false, sym, ◌∙◌, subst, arith}
+use Rattle.std.proofs.Common.{[], true, false, map, sym, ap, ◌∙◌, subst, arith}
+use Rattle.std.proofs.lemmas.List.{take_all}
 use Rattle.chr_search.specs.Joined.{join_of}
 use Rattle.chr_search.specs.Partners.{IsReady}
 use Rattle.chr_search.specs.Passing.{IsNarrowedIf}
@@ -6,15 +7,16 @@ use Rattle.chr_search.specs.Tree.{Grows}
 use Rattle.chr_search.specs.Trials.{MayFollow}
 use Rattle.chr_search.proofs.Asking.{room}
 use Rattle.chr_search.proofs.Tree.{grows_more}
-use Rattle.chr_search.proofs.Fronts.{grows_at, labels_more}
+use Rattle.chr_search.proofs.Making.{map_more}
+use Rattle.chr_search.proofs.Fronts.{grows_at}
 use Rattle.chr_search.proofs.join.Join.narrow_by_all.Goals as goal
 
-pub returns-then-not-narrow_by-clause-no : goal.returns-then-not-narrow_by-clause-no
-returns-then-not-narrow_by-clause-no g c = λ x h.
+pub returns-then-not-narrow_by : goal.returns-then-not-narrow_by
+returns-then-not-narrow_by g c = λ x h.
     let j = join_of c.args.self.now in
     let r = grows_at (λ p. p.label) (MayFollow j) [] c.args.placed.now c.loop-one.one-index c.one-item.result x c.loop-one-test.true c.one-item.is h in
     let none = subst (λ ls. IsNarrowedIf j ls c.one-item.result.label false c.narrow_by.new.narrowed) (c.as_slice.ensures.value ∙ c.loop-one.invariant.labels) c.if-not-narrow_by.ensures.narrowed in
-    absurd (none r.0 r.1 r.2)
+    none r.0 r.1 r.2
 
 pub push-requires : goal.push-requires
 push-requires g c =
@@ -27,7 +29,13 @@ loop-one-preserved g c =
     let one = c.one-item.result in
     let r = subst (λ ls. IsNarrowedIf j ls one.label true c.narrow_by.new.narrowed) c.as_slice.ensures.value c.if-not-narrow_by.ensures.narrowed in
     record {
-      labels = labels_more (λ p. p.label) c.args.placed.now c.loop-one.one-index one c.loop-one.labels.items c.push.new.self.items c.loop-one.invariant.labels c.push.ensures.items c.loop-one-test.true c.one-item.is;
+      labels = map_more (λ p. p.label) c.args.placed.now c.loop-one.one-index one c.loop-one.labels.items c.push.new.self.items c.loop-one.invariant.labels c.push.ensures.items c.loop-one-test.true c.one-item.is;
       grows = subst (Grows (MayFollow j) []) (sym c.push.ensures.items) (grows_more (MayFollow j) [] c.loop-one.labels.items one.label c.loop-one.invariant.grows r.0);
       ready = subst (λ ls. IsReady j ls c.narrow_by.new.narrowed) (sym c.push.ensures.items) r.1;
     }
+
+pub returns : goal.returns
+returns g c =
+    let j = join_of c.args.self.now in
+    let all = c.loop-one.invariant.labels ∙ ap (map (λ p. p.label)) (take_all c.loop-one.one-index c.args.placed.now c.loop-one-test.false) in
+    (all, subst (Grows (MayFollow j) []) all c.loop-one.invariant.grows, subst (λ ls. IsReady j ls c.loop-one.binding) all c.loop-one.invariant.ready)

@@ -6,4 +6,4 @@ use Rattle.chr_search.proofs.join.Join.pass.Goals as goal
 pub pass_first-requires : goal.pass_first-requires
 pass_first-requires g c =
     let empty : length c.args.place.now.items ≡ 0 = grind (arith, nat_tests, c.is_empty.ensures, c.if-is_empty.true) in
-    (omega arith, (c.requires.begins, (c.requires.plan, (c.requires.trials, nil_from_length c.args.place.now.items empty))))
+    (omega arith, (c.requires.begins, nil_from_length c.args.place.now.items empty))

@@ -30,14 +30,14 @@ placed g c run = c.put_at.ensures ∙ ap (λ xs. xs ++ c.in-Part.label ∷ []) r
 pub settle-requires : goal.settle-requires
 settle-requires g c = λ some.
     let depth : c.len-depth.result ≡ length c.args.instance.now.labels.items = c.len-depth.ensures.value ∙ ap (λ (v : ArrayVec ℕ). length v.items) c.pass_run-run.ensures.labels in
-    let r : length c.args.instance.now.labels.items < 6 = misfits_room _ c.requires.plan _ _ c.args.from _ c.pass_run-run.ensures.misfits some in
+    let r : length c.args.instance.now.labels.items < 6 = misfits_room _ c.requires.begins.plan _ _ c.args.from _ c.pass_run-run.ensures.misfits some in
     omega arith
 
 pub put_at-requires : goal.put_at-requires
 put_at-requires g c =
     let at = goal.at.put_at-requires g c in
     let depth : c.len-depth.result ≡ length c.args.instance.now.labels.items = (run g at.After-settle).deep in
-    let r : length c.args.instance.now.labels.items < 6 = room _ c.requires.plan _ c.in-Part.label (part g at.In-Part).1.holds in
+    let r : length c.args.instance.now.labels.items < 6 = room _ c.requires.begins.plan _ c.in-Part.label (part g at.In-Part).1.holds in
     omega arith
 
 pub push-requires : goal.push-requires
@@ -45,13 +45,13 @@ push-requires g c =
     let at = goal.at.push-requires g c in
     let then = part g at.In-Part in
     let ls = c.args.instance.now.labels.items ++ c.in-Part.label ∷ [] in
-    let t = c.requires.trials ls (omega (arith, length-append c.args.instance.now.labels.items (c.in-Part.label ∷ []))) (grows_more _ [] _ c.in-Part.label c.requires.below.grows then.1.holds) in
+    let t = c.requires.begins.trials ls (omega (arith, length-append c.args.instance.now.labels.items (c.in-Part.label ∷ []))) (grows_more _ [] _ c.in-Part.label c.requires.below.grows then.1.holds) in
     let more : length ls < 6 = room_below _ ls t.0 t.1 (then.2.0 t.0 t.1) in
     (omega arith, subst (λ (xs : List ℕ). length xs < 6) (sym (placed g at.After-put_at (run g at.After-settle))) more)
 
 pub push-requires-in-Whole : goal.push-requires-in-Whole
 push-requires-in-Whole g c =
-    let r = room _ c.requires.plan _ c.in-Whole.label (whole g (goal.at.push-requires-in-Whole g c).In-Whole).1.holds in
+    let r = room _ c.requires.begins.plan _ c.in-Whole.label (whole g (goal.at.push-requires-in-Whole g c).In-Whole).1.holds in
     (omega arith, subst (λ (v : ArrayVec ℕ). length v.items < 6) (sym c.pass_run-run.ensures.labels) r)
 
 pub returns-in-Part-clause-passes : goal.returns-in-Part-clause-passes

@@ -22,7 +22,7 @@ next_at-requires g c =
     let seen = sym c.as_slice-labels.ensures.value in
     let ready = subst (IsReady j c.as_slice-labels.result.now) (sym c.loop-count.invariant.binding) (subst (λ ls. IsReady j ls c.args.binding.now) seen c.requires.ready) in
     let level = subst (IsLevel j c.as_slice-labels.result.now c.loop-count.binding) (sym c.loop-count.invariant.same) (subst (λ b. IsLevel j c.as_slice-labels.result.now b c.args.level.now) (sym c.loop-count.invariant.binding) (subst (λ ls. IsLevel j ls c.args.binding.now c.args.level.now) seen c.requires.level)) in
-    (omega arith, (c.requires.begins, (c.requires.plan, (ready, level))))
+    (omega arith, (c.requires.begins.begins, (c.requires.begins.plan, (ready, level))))
 
 pub judge_at-requires : goal.judge_at-requires
 judge_at-requires g c =
@@ -32,7 +32,7 @@ judge_at-requires g c =
     let seen = sym c.as_slice-labels.ensures.value in
     let ready = subst (IsReady j labels) (sym c.loop-count.invariant.binding) (subst (λ ls. IsReady j ls c.args.binding.now) seen c.requires.ready) in
     let grown = grows_more (MayFollow j) [] labels label (subst (Grows (MayFollow j) []) seen c.requires.grows) c.in-Some.ensures.least.holds in
-    (omega arith, ((level g (goal.at.judge_at-requires g c).After-next_at).at, (ready, c.requires.trials (labels ++ label ∷ []) (omega (arith, length-append labels (label ∷ []))) grown)))
+    (omega arith, ((level g (goal.at.judge_at-requires g c).After-next_at).at, (ready, c.requires.begins.trials (labels ++ label ∷ []) (omega (arith, length-append labels (label ∷ []))) grown)))
 
 pub return_to-requires : goal.return_to-requires
 return_to-requires g c =
@@ -63,7 +63,7 @@ overflow_add-next g c =
     let j = join_of c.args.self.now in
     let labels = c.as_slice-labels.result.now in
     let label = c.in-Some.label in
-    let t = c.requires.trials (labels ++ label ∷ []) (omega (arith, length-append labels (label ∷ [])))
+    let t = c.requires.begins.trials (labels ++ label ∷ []) (omega (arith, length-append labels (label ∷ [])))
     (grows_more (MayFollow j) [] labels label (subst (Grows (MayFollow j) []) (sym c.as_slice-labels.ensures.value) c.requires.grows) c.in-Some.ensures.least.holds) in
     let low : label ≤ 4294967295 = label_small j labels label t.0 t.1 in
     omega arith

@@ -1,10 +1,10 @@
-use Rattle.std.proofs.Common.{◌≡◌, ◌≤◌, ◌<◌, ℕ, List, [], ◌∷◌, length, Some, refl, sym, ap, subst, arith, ⊎_elim}
+use Rattle.std.proofs.Common.{◌≡◌, ◌≤◌, ◌<◌, ℕ, List, [], ◌∷◌, length, Some, refl, sym, ap, subst, arith}
 use Rattle.chr_value.specs.Stores.{atom_at}
 use Rattle.chr_search.specs.Tree.{Least, NoneBeyond}
 use Rattle.chr_search.specs.Trials.{Space, older, MayFollow, NoneLeft}
 use Rattle.chr_search.specs.Joined.{join_of}
-use Rattle.chr_search.proofs.PlanByPlan.{HasJoin, come_to_end, has_join, rule_at_most, head_at_most, found_at_join, on_from_join}
-use Rattle.chr_search.proofs.Occurring.{in_order}
+use Rattle.chr_search.proofs.PlanByPlan.{HasJoin, come_to_end, has_join, found_at_join, on_from_join}
+use Rattle.chr_search.proofs.Occurring.{head_fits, nearer}
 use Rattle.chr_search.proofs.search.Search.find_in.Goals.{In-Some}
 use Rattle.chr_search.proofs.search.Search.find_in.Goals as goal
 
@@ -15,17 +15,10 @@ here g c =
     c.requires.plans c.args.view.now.store refl c.active-given.ensures.labelled
 
 pub overflow_add-walk : goal.overflow_add-walk
-overflow_add-walk g c =
-    let small : c.next_join.new.walk.head ≤ 6 = head_at_most _ _ _ _ _ (here g (goal.at.overflow_add-walk g c).In-Some).makes in
-    omega arith
+overflow_add-walk g c = head_fits _ _ _ _ _ (here g (goal.at.overflow_add-walk g c).In-Some)
 
 pub loop-join-smaller : goal.loop-join-smaller
-loop-join-smaller g c =
-    let h = here g (goal.at.loop-join-smaller g c).In-Some in
-    let small : c.next_join.new.walk.head ≤ 6 = head_at_most _ _ _ _ _ h.makes in
-    let on = in_order c.loop-join.walk.rule c.loop-join.walk.head c.next_join.new.walk.rule c.next_join.new.walk.head [] c.in-Some.ensures.come.later in
-    let within : c.next_join.new.walk.rule ≤ length c.args.program.now = rule_at_most _ _ _ _ _ h.makes in
-    ⊎_elim (λ less. let low : c.loop-join.walk.rule < c.next_join.new.walk.rule = less in omega arith) (λ same. let is : c.loop-join.walk.rule ≡ c.next_join.new.walk.rule = same.0 in let low : c.loop-join.walk.head ≤ c.next_join.new.walk.head = same.1 in omega arith) on
+loop-join-smaller g c = nearer _ _ _ _ _ _ _ c.in-Some.ensures.come.later (here g (goal.at.loop-join-smaller g c).In-Some)
 
 pub loop-join-preserved : goal.loop-join-preserved
 loop-join-preserved g c =

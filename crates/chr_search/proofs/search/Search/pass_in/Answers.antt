@@ -1,12 +1,12 @@
-use Rattle.std.proofs.Common.{◌≡◌, ◌-◌, ◌≤◌, ◌<◌, [], ◌∷◌, length, Some, refl, sym, ap, subst, ◌∙◌, arith, ⊎_elim}
+use Rattle.std.proofs.Common.{◌≡◌, ◌-◌, ◌≤◌, ◌<◌, [], ◌∷◌, length, Some, refl, sym, ap, subst, ◌∙◌, arith}
 use Rattle.chr_value.specs.Stores.{atom_at}
 use Rattle.chr_search.specs.declared.passing.End.{End}
 use Rattle.chr_search.specs.Trials.{Space, older, NoneLeft}
 use Rattle.chr_search.specs.Joined.{join_of}
 use Rattle.chr_search.specs.Passing.{EndsIn}
 use Rattle.chr_search.proofs.PassingOver.{pass_more}
-use Rattle.chr_search.proofs.PlanByPlan.{HasGone, HasJoin, grown, come_to_end, has_join, rule_at_most, head_at_most, trials_at, gone_at, on_at, whole_at}
-use Rattle.chr_search.proofs.Occurring.{in_order}
+use Rattle.chr_search.proofs.PlanByPlan.{HasGone, HasJoin, grown, come_to_end, has_join, trials_at, gone_at, on_at, whole_at}
+use Rattle.chr_search.proofs.Occurring.{head_fits, nearer}
 use Rattle.chr_search.proofs.search.Search.pass_in.Goals.{In-Some, After-pass_in_plan-passed}
 use Rattle.chr_search.proofs.search.Search.pass_in.Goals as goal
 
@@ -25,20 +25,13 @@ gone g c h = gone_at _ _ _ _ h.join h.makes _ _ _ _ _ _ h.come c.pass_in_plan-pa
 pub pass_in_plan-passed-requires : goal.pass_in_plan-passed-requires
 pass_in_plan-passed-requires g c =
     let h = here g (goal.at.pass_in_plan-passed-requires g c).In-Some in
-    (omega arith, (h.makes.number, (h.makes.head, (h.join.begins, (h.join.plan, trials_at _ _ _ _ h.join h.makes)))))
+    (omega arith, (h.makes.number, (h.makes.head, record { begins = h.join.begins; plan = h.join.plan; trials = trials_at _ _ _ _ h.join h.makes })))
 
 pub overflow_add-walk : goal.overflow_add-walk
-overflow_add-walk g c =
-    let small : c.next_join.new.walk.head ≤ 6 = head_at_most _ _ _ _ _ (here g (goal.at.overflow_add-walk g c).In-Some).makes in
-    omega arith
+overflow_add-walk g c = head_fits _ _ _ _ _ (here g (goal.at.overflow_add-walk g c).In-Some)
 
 pub loop-join-smaller : goal.loop-join-smaller
-loop-join-smaller g c =
-    let h = here g (goal.at.loop-join-smaller g c).In-Some in
-    let small : c.next_join.new.walk.head ≤ 6 = head_at_most _ _ _ _ _ h.makes in
-    let on = in_order c.loop-join.walk.rule c.loop-join.walk.head c.next_join.new.walk.rule c.next_join.new.walk.head [] c.in-Some.ensures.come.later in
-    let within : c.next_join.new.walk.rule ≤ length c.args.program.now = rule_at_most _ _ _ _ _ h.makes in
-    ⊎_elim (λ less. let low : c.loop-join.walk.rule < c.next_join.new.walk.rule = less in omega arith) (λ same. let is : c.loop-join.walk.rule ≡ c.next_join.new.walk.rule = same.0 in let low : c.loop-join.walk.head ≤ c.next_join.new.walk.head = same.1 in omega arith) on
+loop-join-smaller g c = nearer _ _ _ _ _ _ _ c.in-Some.ensures.come.later (here g (goal.at.loop-join-smaller g c).In-Some)
 
 pub loop-join-preserved : goal.loop-join-preserved
 loop-join-preserved g c =

@@ -1,6 +1,0 @@
-use Rattle.std.proofs.Common.{◌≡◌, map, take}
-use Rattle.chr_search.specs.Placed.{placed_as}
-use Rattle.chr_search.proofs.trial.Trial.copy.Given as goal
-
-abbrev pub invariant-loop-one : goal.invariant-loop-one
-invariant-loop-one g l = map placed_as l.placed.items ≡ map placed_as (take l.one-index l.one-items)
