@@ -2,7 +2,7 @@
 use Rattle.std.proofs.Common.{◌≡◌, ◌↔◌, ℕ, ◌+◌, ◌≤◌, Bool, true, false, not, IsTrue, ◌||◌, ◌==◌, List, [], ◌∷◌, ◌++◌, map, take, length, refl, sym, ◌∙◌, ap, subst, arith, length-append, true≢false}
 use Rattle.std.specs.List.{AllByRecursion, list_any}
 use Rattle.std.proofs.lemmas.List.{take_all, length-map}
-use Rattle.chr_rule.specs.Rules.{Simpagation}
+use Rattle.chr_rule.specs.Rules.{RuleAtom, Simpagation}
 use Rattle.chr_rule.specs.Scope.{IsRule}
 use Rattle.chr_model.specs.Stores.{among, Distinct}
 use Rattle.chr_plan.specs.Orders.{heads_of}
@@ -62,3 +62,16 @@ pub past_last : (xs : List ℕ) (x : ℕ) → past (xs ++ x ∷ []) ≡ xs ++ (x
 past_last [] x = refl
 past_last (y ∷ []) x = refl
 past_last (y ∷ z ∷ ys) x = ap (λ w. y ∷ w) (past_last (z ∷ ys) x)
+
+-- the heads of a rule as they are read
+pub kept_few : {X : Type 0} (rule : Simpagation ℕ) → IsRule rule → (f : X → RuleAtom ℕ) (xs : List X) → map f xs ≡ rule.kept → length xs ≤ 6
+kept_few rule r f xs e =
+    let limit : length rule.kept + length rule.removed ≤ 6 = r.limits.heads in
+    let count : length xs ≡ length rule.kept = sym (length-map xs f) ∙ ap length e in
+    omega arith
+
+pub removed_few : {X : Type 0} (rule : Simpagation ℕ) → IsRule rule → (f : X → RuleAtom ℕ) (xs : List X) → map f xs ≡ rule.removed → length xs ≤ 6
+removed_few rule r f xs e =
+    let limit : length rule.kept + length rule.removed ≤ 6 = r.limits.heads in
+    let count : length xs ≡ length rule.removed = sym (length-map xs f) ∙ ap length e in
+    omega arith

@@ -1,5 +1,5 @@
 //! Trials that differ in their last label.
-ghost use Rattle.std.specs.Prelude.{◌≡◌, ◌↔◌, ◌∷◌, ◌++◌, ◌≤◌, [], ℕ, List, length, map, take, IfOk, MatchOption, IsTrue};
+ghost use Rattle.std.specs.Prelude.{◌≡◌, ◌↔◌, ◌∷◌, ◌++◌, ◌≤◌, [], ℕ, List, length, map, IfOk, MatchOption, IsTrue};
 ghost use Rattle.chr_plan.specs.Plans.{ArePlans};
 ghost use Rattle.chr_search.specs.Fronts.{MayEnd, IsEndFrom, IsFront, IsPlacedAfter};
 ghost use Rattle.chr_search.specs.Joined.{join_of};

@@ -24,7 +24,7 @@ use crate::trial::Trial;
 use chr_guard::Binding;
 use chr_log::Labels;
 use chr_plan::{Plans, Step};
-use chr_rule::{Program, Rule};
+use chr_rule::Program;
 use chr_store::{Label, Store, View};
 use chr_value::Atom;
 use std::alloc::{AllocError, Allocator};

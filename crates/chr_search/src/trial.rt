@@ -1,5 +1,5 @@
 //! Trials with their atoms.
-ghost use Rattle.std.specs.Prelude.{◌≡◌, ◌↔◌, ◌≤◌, ◌∷◌, [], ℕ, length, map, slice_get, Some, IfOk, IsTrue};
+ghost use Rattle.std.specs.Prelude.{◌≡◌, ◌↔◌, ◌≤◌, ℕ, length, map, slice_get, Some, IfOk, IsTrue};
 ghost use Rattle.std.specs.Arc.{arc_value};
 ghost use Rattle.chr_value.specs.Atoms.{Atom as AtomView};
 ghost use Rattle.chr_value.specs.Stores.{atom_at};

@@ -1,9 +1,10 @@
 use Rattle.std.proofs.Common.{◌≡◌, suc, ◌+◌, refl, ◌≤◌, ℕ, List, [], ◌∷◌, ◌++◌, sym, subst, ◌∙◌, length-append, arith}
 use Rattle.chr_guard.specs.Bindings.{Keeps}
+use Rattle.chr_search.specs.declared.judged.Verdict.TheVariants.{Part}
 use Rattle.chr_search.specs.Joined.{join_of}
 use Rattle.chr_search.specs.Partners.{IsReady}
-use Rattle.chr_search.specs.Passing.{AreMisfits, AreWhole, IsLevel}
-use Rattle.chr_search.specs.Tree.{Grows, LeastFrom}
+use Rattle.chr_search.specs.Passing.{AreJudged, AreMisfits, AreWhole, IsLevel}
+use Rattle.chr_search.specs.Tree.{Grows, LeastFrom, NoneFrom}
 use Rattle.chr_search.specs.Trials.{MayFollow}
 use Rattle.chr_search.proofs.Tree.{grows_more}
 use Rattle.chr_search.proofs.PassingOver.{label_small}
@@ -67,3 +68,16 @@ overflow_add-next g c =
     (grows_more (MayFollow j) [] labels label (subst (Grows (MayFollow j) []) (sym c.as_slice-labels.ensures.value) c.requires.grows) c.in-Some.ensures.least.holds) in
     let low : label ≤ 4294967295 = label_small j labels label t.0 t.1 in
     omega arith
+
+pub returns-in_default-clause-then : goal.returns-in_default-clause-then
+returns-in_default-clause-then g c = subst (λ (ls : List ℕ). NoneFrom (MayFollow (join_of c.args.self.now) ls) c.loop-count.next) c.as_slice-labels.ensures.value c.in_default.ensures.least
+
+pub returns-in-Part-clause-then : goal.returns-in-Part-clause-then
+returns-in-Part-clause-then g c =
+    let j = join_of c.args.self.now in
+    let label = c.in-Some.label in
+    let seen = c.as_slice-labels.ensures.value in (
+      c.loop-count-test.true,
+      subst (λ (ls : List ℕ). LeastFrom (MayFollow j ls) c.loop-count.next label) seen c.in-Some.ensures.least,
+      (subst (λ ls. AreJudged j (ls ++ label ∷ []) Part) seen c.in-Part.ensures.tried.0, subst (λ ls. IsReady j (ls ++ label ∷ []) c.judge_at.new.narrowed) seen c.in-Part.ensures.tried.1),
+    )
