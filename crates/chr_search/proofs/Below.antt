@@ -1,19 +1,17 @@
 -- Going over the trials below labels.
-use Rattle.std.proofs.Common.{◌≡◌, ℕ, zero, suc, ◌+◌, ◌-◌, ◌<◌, ◌≤◌, Bool, true, false, ◌==◌, if◌then◌else◌, List, [], ◌∷◌, ◌++◌, length, take, Option, refl, sym, ◌∙◌, ap, subst, arith, ⊎_elim, length-append}
+use Rattle.std.proofs.Common.{◌≡◌, ℕ, zero, suc, ◌+◌, ◌-◌, ◌<◌, ◌≤◌, Bool, true, false, ◌==◌, if◌then◌else◌, List, [], ◌∷◌, ◌++◌, length, take, Option, refl, sym, ◌∙◌, ap, subst, arith, length-append}
 use Rattle.std.proofs.Math.Seq.{take-append_seam}
-use Rattle.std.proofs.lemmas.Bool.Decides.{nat_tests}
 use Rattle.std.proofs.lemmas.List.{append-nil}
 use Rattle.chr_value.specs.Atoms.{Value}
 use Rattle.chr_search.specs.declared.passing.End.{End}
 use Rattle.chr_search.specs.declared.passing.End.TheVariants as ends
 use Rattle.chr_search.specs.declared.passing.Passed.{Passed}
 use Rattle.chr_search.specs.declared.judged.Verdict.TheVariants.{Misfit, Part}
-use Rattle.chr_search.specs.Positions.{at_or_after}
-use Rattle.chr_search.specs.Tree.{Children, Grows, Beyond, Least, NoneBeyond, LeastFrom, NoneFrom}
-use Rattle.chr_search.specs.Trials.{Join, MayFollow, IsInTurn}
+use Rattle.chr_search.specs.Tree.{Children, Grows, Least, NoneBeyond, LeastFrom, NoneFrom}
+use Rattle.chr_search.specs.Trials.{Join, MayFollow}
 use Rattle.chr_search.specs.Partners.{HasPlan}
 use Rattle.chr_search.specs.Passing.{AreJudged, AreMisfits, PassesOneIn, PassesIn, HasPassed, IsBelow, IsDone, EndsBelow, settled}
-use Rattle.chr_search.proofs.Positions.{after_first, after_cases, past_last}
+use Rattle.chr_search.proofs.Positions.{past_last}
 use Rattle.chr_search.proofs.Partners.{turn_low, none_above, none_below as none_fits}
 use Rattle.chr_search.proofs.Asking.{room}
 use Rattle.chr_search.proofs.Tree.{append_one, Come, come_first, come_at, come_to_end, come_found, come_past, here, under_same}

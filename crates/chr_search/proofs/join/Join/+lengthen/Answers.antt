@@ -8,7 +8,7 @@ use Rattle.chr_search.specs.Joined.{join_of}
 use Rattle.chr_search.specs.Partners.{IsReady}
 use Rattle.chr_search.proofs.Partners.{lengthened_none, lengthened_at, none_from_bound, on_past, none_below}
 use Rattle.chr_search.proofs.Asking.{room, front}
-use Rattle.chr_search.proofs.join.Join.+lengthen.Goals.{then-narrow_by+else-lengthen, else-narrow_by, After-push, After-return_to}
+use Rattle.chr_search.proofs.join.Join.+lengthen.Goals.{then-narrow_by+else-lengthen, else-narrow_by, After-return_to}
 use Rattle.chr_search.proofs.join.Join.+lengthen.Goals as goal
 
 pub returns-then-first-active-clause-found : goal.returns-then-first-active-clause-found

@@ -3,8 +3,7 @@ use Rattle.chr_guard.specs.Bindings.{AreKnown, Keeps}
 use Rattle.chr_guard.proofs.Bindings.{keeps_both, keeps_itself}
 use Rattle.chr_search.specs.Tree.{Grows}
 use Rattle.chr_search.specs.declared.passing.Level.{Level as CodeLevel}
-use Rattle.chr_search.specs.declared.passing.End.TheVariants.{NoneLeft}
-use Rattle.chr_search.specs.declared.passing.Stop.TheVariants.{Part, End}
+use Rattle.chr_search.specs.declared.passing.Stop.TheVariants.{End}
 use Rattle.chr_search.specs.Trials.{MayFollow}
 use Rattle.chr_search.specs.Joined.{join_of}
 use Rattle.chr_search.specs.Partners.{IsReady}

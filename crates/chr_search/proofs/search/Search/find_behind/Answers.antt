@@ -1,7 +1,7 @@
 use Rattle.std.proofs.Common.{◌≡◌, ◌≤◌, ◌∷◌, ℕ, List, length, sym, ap, subst, ◌∙◌, arith, refl, true≢false}
 use Rattle.chr_store.specs.Views.{Seen}
 use Rattle.chr_search.specs.Positions.{past}
-use Rattle.chr_search.specs.Trials.{Space, older, IsNext}
+use Rattle.chr_search.specs.Trials.{older, IsNext}
 use Rattle.chr_search.specs.Joined.{join_of}
 use Rattle.chr_search.specs.PlanByPlan.{IsUnplanned, IsJoinOf}
 use Rattle.chr_search.specs.Reach.{SearchState}

@@ -1,4 +1,4 @@
-use Rattle.std.proofs.Common.{◌≡◌, ◌≤◌, ◌<◌, ℕ, List, [], ◌∷◌, length, Some, refl, sym, ap, subst, arith}
+use Rattle.std.proofs.Common.{◌≡◌, ℕ, List, [], ◌∷◌, Some, refl, sym, ap, subst}
 use Rattle.chr_value.specs.Stores.{atom_at}
 use Rattle.chr_search.specs.Tree.{Least, NoneBeyond}
 use Rattle.chr_search.specs.Trials.{Space, older, MayFollow, NoneLeft}

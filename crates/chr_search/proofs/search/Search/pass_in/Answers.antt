@@ -1,4 +1,4 @@
-use Rattle.std.proofs.Common.{◌≡◌, ◌-◌, ◌≤◌, ◌<◌, [], ◌∷◌, length, Some, refl, sym, ap, subst, ◌∙◌, arith}
+use Rattle.std.proofs.Common.{◌≡◌, ◌-◌, [], ◌∷◌, Some, refl, sym, ap, subst, ◌∙◌, arith}
 use Rattle.chr_value.specs.Stores.{atom_at}
 use Rattle.chr_search.specs.declared.passing.End.{End}
 use Rattle.chr_search.specs.Trials.{Space, older, NoneLeft}
