@@ -1,5 +1,5 @@
 //! Reading the next trials of a search.
-ghost use Rattle.std.specs.Prelude.{⊤, ◌≡◌, ℕ, ◌≤◌, ◌+◌, List, ◌∷◌, ◌++◌, length, map, IfOk, OnOk, MatchOption};
+ghost use Rattle.std.specs.Prelude.{⊤, ◌≡◌, ℕ, ◌≤◌, ◌+◌, List, [], ◌∷◌, ◌++◌, length, map, IfOk, OnOk, MatchOption};
 ghost use Rattle.chr_plan.specs.Orders.{heads_of};
 ghost use Rattle.chr_plan.specs.Plans.{ArePlans};
 ghost use Rattle.chr_search.specs.Fronts.{MayEnd, IsFront, IsPlacedAfter, ComeAfter};
@@ -22,6 +22,27 @@ use chr_store::{Label, Store};
 use chr_value::Pred;
 use std::alloc::{AllocError, Allocator};
 use std::sync::Arc;
+
+/// How many labels a row, or heads a column, has room for at first.
+const FIRST_ROOM: usize = 16;
+
+/// How many rows, columns and trials alone a sheet has room for at first.
+const SHEET_ROOM: usize = 8;
+
+/// Puts one after the others. With the first comes room for so many. An `Err` is E01.
+fn push_with_room<T: Drop, A: Allocator>(
+    list: &mut Vec<T, A>,
+    one: T,
+    room: usize,
+) -> Result<(), AllocError>
+    ensures { OnOk result (list.new.items ≡ list.old.items ++ one ∷ []) }
+{
+    if list.is_empty() {
+        list.reserve_exact(room)?;
+    }
+    list.push(one)?;
+    Ok(())
+}
 
 /// The labels from one on with which trials of a front end, put after the others while they are fewer than so many. An `Err`
 /// is E01.
@@ -105,11 +126,12 @@ fn next_heads<A: Allocator + Copy>(
             break;
         }
         (number, head) = found;
-        heads.push(OneHead {
+        let one = OneHead {
             rule: Arc::try_clone(rule)?,
             number,
             head,
-        })?;
+        };
+        push_with_room(&mut heads, one, most.min(FIRST_ROOM))?;
     }
     Ok(heads)
 }
@@ -172,7 +194,7 @@ fn in_turn<A: Allocator + Copy>(
     let _rules = program.rules();
     let _given = store.next_label();
     let (part, last) = first.split_last();
-    let mut lasts = Vec::new(alloc);
+    let mut lasts = Vec::with_capacity(alloc, most.min(FIRST_ROOM))?;
     lasts.push(last)?;
     push_ends(alloc, &mut front, &mut lasts, second, most)?;
     Ok(Trials::Row(Row::new(part, lasts)))
@@ -252,7 +274,7 @@ pub fn read<A: Allocator + Copy>(
         };
         let trials = with_those_beside(alloc, &mut ahead, first, left, program, plans, store)?;
         left -= trials.len();
-        sheet.push(trials)?;
+        push_with_room(&mut sheet, trials, most.min(SHEET_ROOM))?;
     }
     Ok(sheet)
 }

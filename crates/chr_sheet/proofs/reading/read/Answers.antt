@@ -14,9 +14,9 @@ loop-left-preserved g c =
     let ts = trials_at c.in_ok-trials.trials in
     record {
       label = c.in_ok-trials.ensures.label ∙ c.loop-left.invariant.label;
-      next = read_on s c.args.most c.args.search.now.place c.loop-left.left c.loop-left.ahead.place c.with_those_beside.new.search.place c.len-left.result c.loop-left.sheet.items c.push.new.self.items c.in_ok-trials.trials c.loop-left.invariant.next
+      next = read_on s c.args.most c.args.search.now.place c.loop-left.left c.loop-left.ahead.place c.with_those_beside.new.search.place c.len-left.result c.loop-left.sheet.items c.push_with_room.new.list.items c.in_ok-trials.trials c.loop-left.invariant.next
           (subst (λ l. AreNextTogether (older c.args.program.now c.args.plans.now c.args.store.now.entries l) c.loop-left.left c.loop-left.ahead.place ts c.with_those_beside.new.search.place) c.loop-left.invariant.label c.in_ok-trials.ensures.trials)
-          c.len-left.ensures.count c.in_ok-push.ensures.items;
+          c.len-left.ensures.count c.in_ok-push_with_room.ensures;
     }
 
 pub returns : goal.returns
