@@ -1,12 +1,12 @@
 -- Rows, and what they are up to a place.
-use Rattle.std.proofs.Common.{◌≡◌, ℕ, ◌+◌, ◌-◌, ◌<◌, ◌≤◌, List, [], ◌∷◌, ◌++◌, map, take, length, Some, get_or, slice_get, refl, sym, ◌∙◌, ap, subst, arith}
+use Rattle.std.proofs.Common.{◌≡◌, ℕ, zero, suc, ◌+◌, ◌-◌, ◌<◌, ◌≤◌, List, [], ◌∷◌, ◌++◌, map, take, length, Some, get_or, slice_get, refl, sym, ◌∙◌, ap, subst, arith}
 use Rattle.std.specs.List.{AllByRecursion}
-use Rattle.std.proofs.lemmas.List.{take_more, take-map, length-map, length-take-le, same_from_push, get_or-map}
+use Rattle.std.proofs.lemmas.List.{take_more, take-map, length-map, same_from_push, get_or-map}
 use Rattle.std.proofs.lemmas.Option.{slice_get_read}
 use Rattle.chr_guard.proofs.Steps.{all_at}
 use Rattle.chr_search.specs.Verdicts.{Placed, Trial, IsFormed}
 use Rattle.chr_search.specs.Fronts.{lengthened}
-use Rattle.chr_sheet.specs.Rows.{Row, IsRow, trials_of}
+use Rattle.chr_sheet.specs.Rows.{Row, IsRow, trials_of, branch_trials, misfit, judged_part}
 
 abbrev pub row_of : Trial → List Placed → Row
 row_of part lasts = record { part = part; lasts = lasts }
@@ -16,7 +16,7 @@ pub record IsCut (part : Trial) (r : Row) (n : ℕ) (before : List Placed) (last
   pub trials : trials_of (row_of part before) ≡ take n (trials_of r)
   pub trial : slice_get (trials_of r) n ≡ Some (lengthened part last)
   pub formed : IsFormed (lengthened part last)
-  pub row : 1 ≤ n → IsRow (row_of part before)
+  pub row : 1 ≤ length before → IsRow (row_of part before)
 
 -- a trial of a row, read at its label's place
 trial_read : {X : Type 0} (f : X → Placed) (part : Trial) (xs : List X) (n : ℕ) (x : X) → n < length xs → x ≡ get_or xs n x → lengthened part (f x) ≡ get_or (trials_of (row_of part (map f xs))) n (lengthened part (f x))
@@ -42,7 +42,8 @@ cut_whole f part xs ys n x r h e =
       trial = slice_get_read all (length all) n t refl here at;
       formed = of.1;
       row = λ some. record {
-        some = (let count : length (map f ys) ≡ n = ap length before ∙ length-take-le n (map f xs) (omega arith) in omega arith);
+        part = r.part;
+        some = some;
         full = r.full;
         formed = subst (AllByRecursion IsFormed) (sym trials) of.0;
       };
@@ -63,3 +64,20 @@ last_formed f r xs x is w e =
     let some : 1 ≤ length r.lasts = w.some in
     let last : length xs - 1 < length xs = omega (arith, ap length is, length-map xs f) in
     (all_at IsFormed (trials_of (row_of r.part (map f xs))) (length xs - 1) (lengthened r.part (f x)) (omega (arith, trials_count f r.part xs)) (trial_read f r.part xs (length xs - 1) x last e) (subst (λ (q : Row). AllByRecursion IsFormed (trials_of q)) (sym row) w.formed)).1
+
+-- no label, and so no trial
+pub none_before : {X : Type 0} (f : X → Placed) (part : Trial) (xs : List X) → length xs ≡ 0 → [] ≡ trials_of (row_of part (map f xs))
+none_before f part [] e = refl
+none_before f part (x ∷ xs) e = absurd (omega arith)
+
+-- what is kept before a place is judged as all are up to it
+pub judged_row : (ts before : List Trial) (n : ℕ) → before ≡ take n ts → map misfit before ≡ take n (map misfit ts)
+judged_row ts before n e = ap (map misfit) e ∙ sym (take-map misfit n ts)
+
+pub judged_branch : (r : Row) (before : List Trial) (n : ℕ) → 1 ≤ n → before ≡ take (n - 1) (trials_of r) → judged_part r.part ∷ map misfit before ≡ take n (judged_part r.part ∷ map misfit (trials_of r))
+judged_branch r before zero some e = absurd (omega arith)
+judged_branch r before (suc n) some e = ap (λ js. judged_part r.part ∷ js) (judged_row (trials_of r) before n (e ∙ ap (λ k. take k (trials_of r)) (let z : suc n - 1 ≡ n = omega arith in z)))
+
+pub branch_there : (r : Row) (n : ℕ) (t : Trial) → 1 ≤ n → slice_get (trials_of r) (n - 1) ≡ Some t → slice_get (branch_trials r) n ≡ Some t
+branch_there r zero t some e = absurd (omega arith)
+branch_there r (suc n) t some e = subst (λ k. slice_get (trials_of r) k ≡ Some t) (let z : suc n - 1 ≡ n = omega arith in z) e

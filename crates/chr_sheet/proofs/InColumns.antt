@@ -1,9 +1,13 @@
 -- Columns, trial by trial.
-use Rattle.std.proofs.Common.{◌≡◌, ℕ, suc, ◌+◌, ◌<◌, List, [], ◌∷◌, ◌++◌, map, take, length, get_or, sym, ◌∙◌, ap, subst, arith}
+use Rattle.std.proofs.Common.{◌≡◌, ◌↔◌, IsTrue, Bool, ℕ, suc, ◌+◌, ◌<◌, List, [], ◌∷◌, ◌++◌, map, take, length, get_or, refl, sym, ◌∙◌, ap, subst, arith}
 use Rattle.std.proofs.lemmas.List.{take_more, length-map, get_or-map}
+use Rattle.chr_value.specs.Atoms.{Atom}
+use Rattle.chr_rule.specs.Rules.{Simpagation}
 use Rattle.chr_guard.proofs.Steps.{all_at}
 use Rattle.chr_plan.specs.Orders.{heads_of}
+use Rattle.chr_search.specs.declared.judged.Verdict.TheVariants.{Misfit}
 use Rattle.chr_search.specs.Verdicts.{Placed, Trial, IsFormed, at_heads}
+use Rattle.chr_search.specs.Judged.{IsVerdict}
 use Rattle.chr_sheet.specs.Columns.{Head, Column, IsColumn, at_head, column_trials}
 
 pub trials_count : {X : Type 0} (f : X → Head) (c : Column) (xs : List X) → map f xs ≡ c.more → length (column_trials c) ≡ length xs + 1
@@ -37,12 +41,6 @@ other_trial f c xs i x w more h e =
       full = (all_at (λ (t : Trial). length (heads_of t.rule) ≡ 1) (column_trials c) (i + 1) t (omega arith) there w.full).1;
     }
 
-pub first_heads : (t : Trial) (p : Placed) → t.placed ≡ p ∷ [] → at_heads t ≡ (p.head, p.atom) ∷ []
-first_heads t p e = ap (map (λ (q : Placed). (q.head, q.atom))) e
-
-pub other_heads : (t : Trial) (p : Placed) (h : Head) → t.placed ≡ p ∷ [] → at_heads (at_head t h) ≡ (h.head, p.atom) ∷ []
-other_heads t p h e = ap (λ ps. map (λ (q : Placed). (q.head, q.atom)) (map (λ (q : Placed). record q { head = h.head }) ps)) e
-
 -- the trials up to a head, and the one there
 pub column_step : {X : Type 0} (f : X → Head) (c : Column) (xs : List X) (i : ℕ) (x : X) → map f xs ≡ c.more → i < length xs → x ≡ get_or xs i x → take (i + 1 + 1) (column_trials c) ≡ take (i + 1) (column_trials c) ++ at_head c.first (f x) ∷ []
 column_step f c xs i x more h e =
@@ -50,8 +48,46 @@ column_step f c xs i x more h e =
     let count : length (column_trials c) ≡ length xs + 1 = trials_count f c xs more in
     take_more (column_trials c) (i + 1) t (omega arith) ∙ ap (λ y. take (i + 1) (column_trials c) ++ y ∷ []) (sym (trial_there f c xs i x more h e))
 
-pub other_full : (t : Trial) (h : Head) → length t.placed ≡ 1 → length (heads_of h.rule) ≡ 1 → length (at_head t h).placed ≡ length (heads_of h.rule)
-other_full t h one full = length-map t.placed (λ (p : Placed). record p { head = h.head }) ∙ one ∙ sym full
-
 pub other_placed : (t : Trial) (p : Placed) (h : Head) → t.placed ≡ p ∷ [] → (at_head t h).placed ≡ record p { head = h.head } ∷ []
 other_placed t p h e = ap (map (λ (q : Placed). record q { head = h.head })) e
+
+-- ---- whether they are misfits
+
+first_heads : (t : Trial) (p : Placed) → t.placed ≡ p ∷ [] → at_heads t ≡ (p.head, p.atom) ∷ []
+first_heads t p e = ap (map (λ (q : Placed). (q.head, q.atom))) e
+
+other_heads : (t : Trial) (p : Placed) (h : Head) → t.placed ≡ p ∷ [] → at_heads (at_head t h) ≡ (h.head, p.atom) ∷ []
+other_heads t p h e = ap (λ ps. map (λ (q : Placed). (q.head, q.atom)) (map (λ (q : Placed). record q { head = h.head }) ps)) e
+
+other_full : (t : Trial) (h : Head) → length t.placed ≡ 1 → length (heads_of h.rule) ≡ 1 → length (at_head t h).placed ≡ length (heads_of h.rule)
+other_full t h one full = length-map t.placed (λ (p : Placed). record p { head = h.head }) ∙ one ∙ sym full
+
+-- it is told of a trial whether it is a misfit
+pub record IsTold (c : Column) (i : ℕ) (t : Trial) (told : Bool) : Type 0 where
+  pub within : i < length (column_trials c)
+  pub there : t ≡ get_or (column_trials c) i t
+  pub full : length t.placed ≡ length (heads_of t.rule)
+  pub means : IsTrue told ↔ IsVerdict t Misfit
+
+-- by its rule and its label's atom at the head
+abbrev pub IsToldAlone : Simpagation ℕ → ℕ → Atom ℕ → Bool → Type 0
+IsToldAlone rule head atom told = (t : Trial) → t.rule ≡ rule → at_heads t ≡ (head, atom) ∷ [] → IsFormed t → IsTrue told ↔ IsVerdict t Misfit
+
+pub first_told : (c : Column) (p : Placed) (rule : Simpagation ℕ) (told : Bool) → IsColumn c → c.first.placed ≡ p ∷ [] → rule ≡ c.first.rule → IsToldAlone rule p.head p.atom told → IsTold c 0 c.first told
+first_told c p rule told w one is tell = record {
+  within = omega arith;
+  there = refl;
+  full = w.alone ∙ sym w.full.0;
+  means = tell c.first (sym is) (first_heads c.first p one) w.formed.0;
+}
+
+pub other_told : {X : Type 0} (f : X → Head) (c : Column) (xs : List X) (i : ℕ) (x : X) (p : Placed) (rule : Simpagation ℕ) (told : Bool) → IsColumn c → map f xs ≡ c.more → i < length xs → x ≡ get_or xs i x → c.first.placed ≡ p ∷ [] → rule ≡ (f x).rule → IsToldAlone rule (f x).head p.atom told → IsTold c (i + 1) (at_head c.first (f x)) told
+other_told f c xs i x p rule told w more h e one is tell =
+    let count : length (column_trials c) ≡ length xs + 1 = trials_count f c xs more in
+    let t = other_trial f c xs i x w more h e in
+    record {
+      within = omega arith;
+      there = trial_there f c xs i x more h e;
+      full = other_full c.first (f x) w.alone t.full;
+      means = tell (at_head c.first (f x)) (sym is) (other_heads c.first p (f x) one) t.formed;
+    }

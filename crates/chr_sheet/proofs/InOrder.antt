@@ -1,14 +1,18 @@
 -- Trials that are judged in order.
-use Rattle.std.proofs.Common.{◌≡◌, ◌≢◌, ◌⊎◌, ℕ, zero, suc, ◌<◌, ◌≤◌, List, [], ◌∷◌, ◌++◌, map, take, length, append_assoc, Option, Some, None, MatchOption, Result, Ok, Err, IfOk, slice_get, refl, sym, ◌∙◌, ap, subst, arith, inl, inr, ⊎_elim}
+use Rattle.std.proofs.Common.{◌≡◌, ◌≢◌, ◌⊎◌, ℕ, zero, suc, ◌+◌, ◌<◌, ◌≤◌, List, [], ◌∷◌, ◌++◌, map, take, length, append_assoc, Option, Some, None, MatchOption, Result, Ok, Err, IfOk, slice_get, refl, sym, ◌∙◌, ap, subst, arith, inl, inr, ⊎_elim}
 use Rattle.std.specs.Bool.{⊤}
 use Rattle.std.specs.List.{AllByRecursion}
-use Rattle.std.proofs.lemmas.List.{append-nil}
+use Rattle.std.proofs.lemmas.List.{append-nil, take-map}
 use Rattle.chr_plan.specs.Orders.{heads_of}
 use Rattle.chr_search.specs.declared.judged.Verdict.{Verdict}
 use Rattle.chr_search.specs.declared.judged.Verdict.TheVariants.{Whole, Part, Misfit}
 use Rattle.chr_search.specs.Verdicts.{Trial}
 use Rattle.chr_search.specs.Judged.{Judgement, IsVerdict}
-use Rattle.chr_sheet.specs.Rows.{misfit, listed, MustBeWhole}
+use Rattle.chr_sheet.specs.declared.trials.Trials.{Trials as CodeTrials}
+use Rattle.chr_sheet.specs.declared.trials.Trials.TheVariants as some
+use Rattle.chr_sheet.specs.Columns.{column_trials}
+use Rattle.chr_sheet.specs.Kept.{trials_at, judged_at}
+use Rattle.chr_sheet.specs.Rows.{Row, IsRow, misfit, judged_part, listed, trials_of, branch_trials, AreMisfits, AreRight, MustBeWhole}
 use Rattle.chr_sheet.specs.Sheets.{AreJudgedInOrder, AreJudgedUpTo}
 
 -- ---- some and then others
@@ -49,7 +53,7 @@ one_whole t a w e h = ([], sym (append-nil a), (e, inl (h, refl)), tt, h)
 pub one_other : (t : Trial) (a : List Judgement) (j : Judgement) → j.trial ≡ t → j.verdict ≢ Whole → AreJudgedUpTo (t ∷ []) a (a ++ j ∷ []) None
 one_other t a j e n = (j ∷ [], refl, (e, inr (n, refl)), (n, tt), tt)
 
--- ---- misfits, and one after them
+-- ---- misfits
 
 misfits_in_order : (ts : List Trial) → AreJudgedInOrder ts (map misfit ts)
 misfits_in_order [] = refl
@@ -59,10 +63,44 @@ none_whole : (ts : List Trial) → AllByRecursion (λ j. j.verdict ≢ Whole) (m
 none_whole [] = tt
 none_whole (t ∷ ts) = (λ e. absurd (cc), none_whole ts)
 
-pub misfits_up_to : (ts : List Trial) (a b : List Judgement) → b ≡ a ++ map misfit ts → AreJudgedUpTo ts a b None
-misfits_up_to ts a b e = (map misfit ts, e, subst (AreJudgedInOrder ts) (sym (append-nil (map misfit ts))) (misfits_in_order ts), none_whole ts, tt)
+-- ---- trials that are kept together, where none is whole
 
--- misfits, and the trial after them, which is judged alone
+kept_in_order : {Z : Type 0} (x : CodeTrials Z) → AreJudgedInOrder (trials_at x) (judged_at x)
+kept_in_order (some.One t) = (refl, inr (λ e. absurd (cc), refl))
+kept_in_order (some.Row r) = misfits_in_order (trials_of r)
+kept_in_order (some.Branch r) = (refl, inr (λ e. absurd (cc), misfits_in_order (trials_of r)))
+kept_in_order (some.Column c) = misfits_in_order (column_trials c)
+
+kept_others : {Z : Type 0} (x : CodeTrials Z) → AllByRecursion (λ j. j.verdict ≢ Whole) (judged_at x)
+kept_others (some.One t) = (λ e. absurd (cc), tt)
+kept_others (some.Row r) = none_whole (trials_of r)
+kept_others (some.Branch r) = (λ e. absurd (cc), none_whole (trials_of r))
+kept_others (some.Column c) = none_whole (column_trials c)
+
+all_front : {X : Type 0} (P : X → Type 0) (xs : List X) (n : ℕ) → AllByRecursion P xs → AllByRecursion P (take n xs)
+all_front P [] zero a = tt
+all_front P [] (suc n) a = tt
+all_front P (x ∷ xs) zero a = tt
+all_front P (x ∷ xs) (suc n) a = (a.0, all_front P xs n a.1)
+
+front_in_order : (ts : List Trial) (js : List Judgement) (n : ℕ) → AreJudgedInOrder ts js → AllByRecursion (λ j. j.verdict ≢ Whole) js → AreJudgedInOrder (take n ts) (take n js)
+front_in_order [] [] zero a o = refl
+front_in_order [] [] (suc n) a o = refl
+front_in_order (t ∷ ts) [] n a o = absurd (cc)
+front_in_order [] (j ∷ js) n a o = absurd a
+front_in_order (t ∷ ts) (j ∷ js) zero a o = refl
+front_in_order (t ∷ ts) (j ∷ js) (suc n) a o = (a.0, ⊎_elim (λ w. absurd (o.0 w.0)) (λ m. inr (m.0, front_in_order ts js n m.1 o.1)) a.1)
+
+up_to : (ts : List Trial) (js a b : List Judgement) → b ≡ a ++ js → AreJudgedInOrder ts js → AllByRecursion (λ j. j.verdict ≢ Whole) js → AreJudgedUpTo ts a b None
+up_to ts js a b e o n = (js, e, subst (AreJudgedInOrder ts) (sym (append-nil js)) o, n, tt)
+
+pub kept_up_to : {Z : Type 0} (x : CodeTrials Z) (a b : List Judgement) → b ≡ a ++ judged_at x → AreJudgedUpTo (trials_at x) a b None
+kept_up_to x a b e = up_to (trials_at x) (judged_at x) a b e (kept_in_order x) (kept_others x)
+
+front_up_to : {Z : Type 0} (x : CodeTrials Z) (n : ℕ) (a b : List Judgement) → b ≡ a ++ take n (judged_at x) → AreJudgedUpTo (take n (trials_at x)) a b None
+front_up_to x n a b e = up_to (take n (trials_at x)) (take n (judged_at x)) a b e (front_in_order (trials_at x) (judged_at x) n (kept_in_order x) (kept_others x)) (all_front (λ (j : Judgement). j.verdict ≢ Whole) (judged_at x) n (kept_others x))
+
+-- the trial after some of them, which is judged alone
 cut_at : (ts : List Trial) (n : ℕ) (t : Trial) → slice_get ts n ≡ Some t → (after : List Trial) × (ts ≡ (take n ts ++ t ∷ []) ++ after)
 cut_at [] n t e = absurd (cc)
 cut_at (u ∷ ts) zero t e = (ts, let same : u ≡ t = cc in ap (λ x. x ∷ ts) same)
@@ -73,22 +111,34 @@ only_one [] n t at e = absurd (cc)
 only_one (u ∷ ts) zero t at e = sym e
 only_one (u ∷ ts) (suc n) t at e = let none : ts ≡ [] = cc in let past = subst (λ xs. slice_get xs n ≡ Some t) none at in absurd (cc)
 
-judged_after : (ts before : List Trial) (n : ℕ) (t : Trial) (a b c : List Judgement) (w : Option Judgement) → before ≡ take n ts → slice_get ts n ≡ Some t → b ≡ a ++ map misfit before → (ts ≡ t ∷ []) ⊎ MustBeWhole t → AreJudgedUpTo (t ∷ []) b c w → MatchOption w (MustBeWhole t → ⊥) (λ _. ⊤) → AreJudgedUpTo ts a c w
-judged_after ts before n t a b c (Some w) cut at e left judged sure =
-    let rest = cut_at ts n t at in
-    let misfits = subst (λ xs. AreJudgedUpTo xs a b None) cut (misfits_up_to before a b e) in
-    subst (λ xs. AreJudgedUpTo xs a c (Some w)) (sym rest.1) (whole_up_to (take n ts ++ t ∷ []) rest.0 a c w (both_up_to (take n ts) (t ∷ []) a b c (Some w) misfits judged))
-judged_after ts before n t a b c None cut at e left judged sure =
-    let misfits = subst (λ xs. AreJudgedUpTo xs a b None) cut (misfits_up_to before a b e) in
-    ⊎_elim (λ one. subst (λ xs. AreJudgedUpTo xs a c None) (only_one ts n t at one) (both_up_to (take n ts) (t ∷ []) a b c None misfits judged)) (λ must. absurd (sure must)) left
+judged_after : {Z : Type 0} (x : CodeTrials Z) (n : ℕ) (t : Trial) (a b c : List Judgement) (w : Option Judgement) → slice_get (trials_at x) n ≡ Some t → b ≡ a ++ take n (judged_at x) → (trials_at x ≡ t ∷ []) ⊎ MustBeWhole t → AreJudgedUpTo (t ∷ []) b c w → MatchOption w (MustBeWhole t → ⊥) (λ _. ⊤) → AreJudgedUpTo (trials_at x) a c w
+judged_after x n t a b c (Some w) at e left judged sure =
+    let rest = cut_at (trials_at x) n t at in
+    subst (λ xs. AreJudgedUpTo xs a c (Some w)) (sym rest.1) (whole_up_to (take n (trials_at x) ++ t ∷ []) rest.0 a c w (both_up_to (take n (trials_at x)) (t ∷ []) a b c (Some w) (front_up_to x n a b e) judged))
+judged_after x n t a b c None at e left judged sure =
+    ⊎_elim (λ one. subst (λ xs. AreJudgedUpTo xs a c None) (only_one (trials_at x) n t at one) (both_up_to (take n (trials_at x)) (t ∷ []) a b c None (front_up_to x n a b e) judged)) (λ must. absurd (sure must)) left
 
-pub one_after : {E : Type 0} (r : Result (Option Judgement) E) (ts before : List Trial) (n : ℕ) (t : Trial) (a b c : List Judgement) → before ≡ take n ts → slice_get ts n ≡ Some t → b ≡ a ++ map misfit before → (ts ≡ t ∷ []) ⊎ MustBeWhole t → IfOk r (AreJudgedUpTo (t ∷ []) b c) → IfOk r (λ w. MatchOption w (MustBeWhole t → ⊥) (λ _. ⊤)) → IfOk r (AreJudgedUpTo ts a c)
-one_after (Ok w) ts before n t a b c cut at e left judged sure = judged_after ts before n t a b c w cut at e left judged sure
-one_after (Err e) ts before n t a b c cut at is left judged sure = tt
+pub one_after : {E Z : Type 0} (r : Result (Option Judgement) E) (x : CodeTrials Z) (before : List Judgement) (n : ℕ) (t : Trial) (a b c : List Judgement) → before ≡ take n (judged_at x) → slice_get (trials_at x) n ≡ Some t → b ≡ a ++ before → (trials_at x ≡ t ∷ []) ⊎ MustBeWhole t → IfOk r (AreJudgedUpTo (t ∷ []) b c) → IfOk r (λ w. MatchOption w (MustBeWhole t → ⊥) (λ _. ⊤)) → IfOk r (AreJudgedUpTo (trials_at x) a c)
+one_after (Ok w) x before n t a b c cut at e left judged sure = judged_after x n t a b c w at (e ∙ ap (λ js. a ++ js) cut) left judged sure
+one_after (Err e) x before n t a b c cut at is left judged sure = tt
 
-pub misfits_right : (ts : List Trial) → AllByRecursion (λ t. IsVerdict t Misfit) ts → AllByRecursion (λ j. IsVerdict j.trial j.verdict) (map misfit ts)
+pub misfits_right : (ts : List Trial) → AreMisfits ts → AreRight (map misfit ts)
 misfits_right [] h = tt
 misfits_right (t ∷ ts) h = (h.0, misfits_right ts h.1)
+
+pub right_up_to : (ts : List Trial) (n : ℕ) → AreMisfits (take n ts) → AreRight (take n (map misfit ts))
+right_up_to ts n a = subst AreRight (sym (take-map misfit n ts)) (misfits_right (take n ts) a)
+
+-- and of a branch, one more
+pub right_behind : (r : Row) (n : ℕ) → IsRow r → AreMisfits (take n (trials_of r)) → AreRight (take (n + 1) (judged_part r.part ∷ map misfit (trials_of r)))
+right_behind r n w a = subst (λ k. AreRight (take k (judged_part r.part ∷ map misfit (trials_of r)))) (let e : suc n ≡ n + 1 = omega arith in e) (w.part, right_up_to (trials_of r) n a)
+
+pub next_behind : (r : Row) (n : ℕ) → MatchOption (slice_get (trials_of r) n) ⊤ MustBeWhole → MatchOption (slice_get (branch_trials r) (n + 1)) ⊤ (λ t. (branch_trials r ≡ t ∷ []) ⊎ MustBeWhole t)
+next_behind r n m = subst (λ k. MatchOption (slice_get (branch_trials r) k) ⊤ (λ t. (branch_trials r ≡ t ∷ []) ⊎ MustBeWhole t)) (let e : suc n ≡ n + 1 = omega arith in e) (some_next (slice_get (trials_of r) n) m)
+  where
+    some_next : (o : Option Trial) → MatchOption o ⊤ MustBeWhole → MatchOption o ⊤ (λ t. (branch_trials r ≡ t ∷ []) ⊎ MustBeWhole t)
+    some_next None m = tt
+    some_next (Some t) m = inr m
 
 -- with all heads, what isn't a misfit is whole
 pub is_whole : (t : Trial) (v : Verdict) → length t.placed ≡ length (heads_of t.rule) → (IsVerdict t Misfit → ⊥) → IsVerdict t v → v ≡ Whole

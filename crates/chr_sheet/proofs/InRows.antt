@@ -11,7 +11,7 @@ use Rattle.chr_search.specs.Verdicts.{Placed, Trial, IsFormed}
 use Rattle.chr_search.specs.Judged.{IsVerdict}
 use Rattle.chr_search.specs.Fronts.{lengthened}
 use Rattle.chr_search.proofs.Judging.{few_heads}
-use Rattle.chr_sheet.specs.Rows.{Row, IsRow, trials_of}
+use Rattle.chr_sheet.specs.Rows.{Row, IsRow, trials_of, AreMisfits, AreMisfitsUpTo, MustBeWhole}
 
 pub trials_count : {X : Type 0} (f : X → Placed) (r : Row) (xs : List X) → map f xs ≡ r.lasts → length (trials_of r) ≡ length xs
 trials_count f r xs e = length-map r.lasts (lengthened r.part) ∙ ap length (sym e) ∙ length-map xs f
@@ -23,16 +23,28 @@ trial_there f r xs i x lasts h e =
     subst (λ ls. lengthened r.part (f x) ≡ get_or (map (lengthened r.part) ls) i (lengthened r.part (f x))) lasts
     (ap (lengthened r.part) (ap f e ∙ sym (get_or-map f xs i x (f x) h)) ∙ sym (get_or-map (lengthened r.part) (map f xs) i (f x) (lengthened r.part (f x)) within))
 
-pub told_there : (ts : List Trial) (n : ℕ) (t : Trial) (P : Trial → Type 0) → n < length ts → t ≡ get_or ts n t → P t → MatchOption (slice_get ts n) ⊤ P
-told_there ts n t P h e p = subst (λ o. MatchOption o ⊤ P) (sym (slice_get_read ts (length ts) n t refl h e)) p
-
-pub none_there : (ts : List Trial) (n : ℕ) (P : Trial → Type 0) → length ts ≤ n → MatchOption (slice_get ts n) ⊤ P
+none_there : (ts : List Trial) (n : ℕ) (P : Trial → Type 0) → length ts ≤ n → MatchOption (slice_get ts n) ⊤ P
 none_there [] n P h = tt
 none_there (t ∷ ts) zero P h = absurd (omega arith)
 none_there (t ∷ ts) (suc n) P h = none_there ts n P (omega arith)
 
-pub all_taken : (P : Trial → Type 0) (ts : List Trial) (n : ℕ) → length ts ≤ n → AllByRecursion P ts → AllByRecursion P (take n ts)
-all_taken P ts n h a = subst (AllByRecursion P) (sym (take_all n ts h)) a
+-- all of them are misfits, or all before one
+pub all_up_to : (ts : List Trial) (n : ℕ) → length ts ≡ n → AreMisfits ts → AreMisfitsUpTo ts n
+all_up_to ts n count a = record {
+  few = omega arith;
+  misfits = subst AreMisfits (sym (take_all n ts (omega arith))) a;
+  next = none_there ts n MustBeWhole (omega arith);
+}
+
+pub taken_up_to : (ts : List Trial) (i n : ℕ) → length ts ≤ i → length ts ≡ n → AreMisfits (take i ts) → AreMisfitsUpTo ts n
+taken_up_to ts i n all count a = all_up_to ts n count (subst AreMisfits (take_all i ts all) a)
+
+pub one_up_to : (ts : List Trial) (n : ℕ) (t : Trial) → n < length ts → t ≡ get_or ts n t → AreMisfits (take n ts) → MustBeWhole t → AreMisfitsUpTo ts n
+one_up_to ts n t h e a must = record {
+  few = omega arith;
+  misfits = a;
+  next = subst (λ o. MatchOption o ⊤ MustBeWhole) (sym (slice_get_read ts (length ts) n t refl h e)) must;
+}
 
 -- where a part doesn't fit, no trial does that it begins
 pub all_unfit : (part : Trial) (lasts : List Placed) → ((p : Placed) → IsFormed (lengthened part p) → IsVerdict (lengthened part p) Misfit) → AllByRecursion IsFormed (map (lengthened part) lasts) → AllByRecursion (λ t. IsVerdict t Misfit) (map (lengthened part) lasts)

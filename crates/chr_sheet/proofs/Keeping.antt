@@ -3,11 +3,14 @@ use Rattle.std.proofs.Common.{◌≡◌, ℕ, zero, suc, ◌+◌, ◌<◌, ◌�
 use Rattle.std.specs.Iterator.{Yields}
 use Rattle.std.specs.Vec.Iter.{into_iter_items, into_iter_steps}
 use Rattle.std.specs.declared.vec.IntoIter.{IntoIter}
-use Rattle.std.proofs.lemmas.List.{append-nil, take_more}
+use Rattle.std.proofs.lemmas.List.{append-nil, take_more, length-map}
 use Rattle.chr_sheet.specs.declared.trials.Trials.{Trials}
+use Rattle.chr_sheet.specs.declared.trials.Trials.TheVariants as some
 use Rattle.chr_sheet.specs.declared.others.Others.{Others}
-use Rattle.chr_sheet.specs.Kept.{trials_at, trials_in}
+use Rattle.chr_sheet.specs.Columns.{column_trials}
+use Rattle.chr_sheet.specs.Kept.{trials_at, trials_in, judged_at}
 use Rattle.chr_sheet.specs.Others.{others_at, others_in}
+use Rattle.chr_sheet.specs.Rows.{trials_of, misfit}
 
 trials_both : {Z : Type 0} (xs ys : List (Trials Z)) → trials_in (xs ++ ys) ≡ trials_in xs ++ trials_in ys
 trials_both [] ys = refl
@@ -39,6 +42,12 @@ pub trials_cut : {Z : Type 0} (all before after : List (Trials Z)) (x : Trials Z
 trials_cut all before after x e = ap trials_in e ∙ trials_both before (x ∷ after) ∙ sym (append_assoc (trials_in before) (trials_at x) (trials_in after))
 
 -- ---- counted
+
+pub judged_count : {Z : Type 0} (x : Trials Z) → length (judged_at x) ≡ length (trials_at x)
+judged_count (some.One t) = refl
+judged_count (some.Row r) = length-map (trials_of r) misfit
+judged_count (some.Branch r) = ap suc (length-map (trials_of r) misfit)
+judged_count (some.Column c) = length-map (column_trials c) misfit
 
 others_length : {Z : Type 0} (x : Others Z) (xs : List (Others Z)) → length (others_in (x ∷ xs)) ≡ length (others_at x) + length (others_in xs)
 others_length x xs = length-append (others_at x) (others_in xs)

@@ -1,24 +1,30 @@
--- Trials that come next one after another, and differ in their last label.
-use Rattle.std.proofs.Common.{◌≡◌, ℕ, suc, zero, ◌+◌, ◌≤◌, List, [], ◌∷◌, ◌++◌, map, length, get_or, refl, sym, ◌∙◌, ap, subst, arith}
+-- Trials that come next one after another: those that differ in their last label, and the part with which they begin.
+use Rattle.std.proofs.Common.{◌≡◌, ℕ, suc, zero, ◌+◌, ◌≤◌, List, [], ◌∷◌, ◌++◌, map, take, length, length-append, get_or, Option, Some, None, MatchOption, refl, sym, ◌∙◌, ap, subst, arith}
+use Rattle.std.specs.Bool.{⊤}
 use Rattle.std.specs.List.{AllByRecursion}
 use Rattle.std.proofs.lemmas.List.{map_push, length_push, same_from_push}
 use Rattle.chr_rule.specs.Scope.{IsRule}
 use Rattle.chr_plan.specs.Orders.{heads_of}
 use Rattle.chr_plan.specs.Plans.{ArePlans}
+use Rattle.chr_plan.specs.declared.order.Step.{Step}
+use Rattle.chr_model.specs.Stores.{atom_at}
 use Rattle.chr_store.specs.Labels.{LabelledStore, IsLabelled}
 use Rattle.chr_search.specs.declared.front.Front.{Front as CodeFront}
+use Rattle.chr_search.specs.Joined.{join_of}
 use Rattle.chr_search.specs.Positions.{just_after, past}
 use Rattle.chr_search.specs.Tree.{LeastFrom, Beyond}
-use Rattle.chr_search.specs.Trials.{Space, Child, IsTrial, IsNext, NoneLeft}
-use Rattle.chr_search.specs.Verdicts.{Placed, Trial, labels, position, IsFormed, IsTrialOf}
+use Rattle.chr_search.specs.Trials.{Join, Space, Child, IsTrial, IsNext, NoneLeft}
+use Rattle.chr_search.specs.Verdicts.{Placed, Trial, heads, labels, position, IsFormed, IsPart, IsTrialOf}
 use Rattle.chr_search.specs.Fronts.{lengthened, MayEnd, IsFront, IsPlacedAfter, ComeAfter}
 use Rattle.chr_search.proofs.Judging.{labels_length, last_small}
 use Rattle.chr_search.proofs.Making.{next_trial, map_twice}
+use Rattle.chr_search.proofs.PassingOver.{is_part}
 use Rattle.chr_search.proofs.Fronts.{end_next, full_after, placed_trial, placed_after, trial_formed}
-use Rattle.chr_sheet.specs.Rows.{Row, IsRow, trials_of}
+use Rattle.chr_sheet.specs.Rows.{IsRow, trials_of}
 use Rattle.chr_sheet.specs.Sheets.{IsNextTrial, AreNext, AreNextTogether}
-use Rattle.chr_sheet.specs.Beside.{HasBeside, AreEnds, ComeNext, AreInTurn, last_of}
+use Rattle.chr_sheet.specs.Beside.{HasEnd, HasBeside, AreEnds, ComeNext, AreInTurn, last_of}
 use Rattle.chr_sheet.proofs.Cutting.{row_of}
+use Rattle.chr_sheet.proofs.OneNext.{end_at}
 
 -- from where the same trials lie, the same one comes next
 beyond_back : (s : Space) (place t p : List ℕ) → ComeAfter s place t → Beyond (Child s) 3 [] (just_after t) p → Beyond (Child s) 3 [] place p
@@ -73,7 +79,7 @@ pub record LacksOne (s : Space) (part : Trial) : Type 0 where
   pub some : 1 ≤ length part.placed
   pub full : length part.placed + 1 ≡ length (heads_of part.rule)
 
-longer_position : (part : Trial) (p : Placed) → position (lengthened part p) ≡ part.number ∷ part.head ∷ (labels part ++ p.label ∷ [])
+pub longer_position : (part : Trial) (p : Placed) → position (lengthened part p) ≡ part.number ∷ part.head ∷ (labels part ++ p.label ∷ [])
 longer_position part p = ap (λ (ls : List ℕ). part.number ∷ part.head ∷ ls) (map_push (λ (x : Placed). x.label) part.placed p)
 
 -- it comes next with the next label, just after it comes with one
@@ -88,7 +94,7 @@ come_one s part k p q i least placed =
     (end_next s part.number part.head (labels part) p.label q.label (omega (arith, labels_length part)) least)) in
     (next_after s (past (position t)) (position t) (position u) (full_after s t k.plans k.scoped i full (omega arith)) next, placed_trial s part q k.trial_of (subst (λ n. IsPlacedAfter s part.number part.head n q) (labels_length part) placed))
 
-come_next : (s : Space) (part : Trial) → LacksOne s part → (p : Placed) (ps : List Placed) → IsTrialOf s.rules s.plans s.store (lengthened part p) → AreEnds s part.number part.head (labels part) p.label ps → ComeNext s (lengthened part p) (map (lengthened part) ps)
+come_next : (s : Space) (part : Trial) → LacksOne s part → (p : Placed) (ps : List Placed) → IsTrialOf s.rules s.plans s.store (lengthened part p) → AreEnds s part.number part.head (labels part) (p.label + 1) ps → ComeNext s (lengthened part p) (map (lengthened part) ps)
 come_next s part k p [] i e = tt
 come_next s part k p (q ∷ qs) i e = let n = come_one s part k p q i e.0 e.1 in (n, come_next s part k q qs n.1 e.2)
 
@@ -103,12 +109,13 @@ pub record IsMadeRow (s : Space) (part : Trial) (p : Placed) (more lasts : List 
   pub trials : trials_of (row_of part lasts) ≡ lengthened part p ∷ map (lengthened part) more
   pub next : ComeNext s (lengthened part p) (map (lengthened part) more)
 
-pub row_made : (s : Space) (store : LabelledStore) → store.entries ≡ s.store → IsLabelled store → (part : Trial) → LacksOne s part → (p : Placed) (more lasts : List Placed) → IsTrial s (position (lengthened part p)) → IsTrialOf s.rules s.plans s.store (lengthened part p) → lasts ≡ p ∷ more → AreEnds s part.number part.head (labels part) p.label more → IsMadeRow s part p more lasts
-row_made s store st w part k p more lasts here i is e =
+pub row_made : (s : Space) (store : LabelledStore) → store.entries ≡ s.store → IsLabelled store → (part : Trial) → LacksOne s part → IsPart part → (p : Placed) (more lasts : List Placed) → IsTrial s (position (lengthened part p)) → IsTrialOf s.rules s.plans s.store (lengthened part p) → lasts ≡ p ∷ more → AreEnds s part.number part.head (labels part) (p.label + 1) more → IsMadeRow s part p more lasts
+row_made s store st w part k whole p more lasts here i is e =
     let next = come_next s part k p more i e in
     let trials : trials_of (row_of part lasts) ≡ lengthened part p ∷ map (lengthened part) more = ap (map (lengthened part)) is in
     record {
       row = record {
+        part = whole;
         some = (let count : length lasts ≡ suc (length more) = ap length is in omega arith);
         full = k.full;
         formed = subst (AllByRecursion IsFormed) (sym trials) (all_formed s store k.plans k.scoped st w (lengthened part p) (map (lengthened part) more) here i next);
@@ -122,8 +129,7 @@ pub record IsBegun {Z : Type 0} (s : Space) (part : Trial) (p : Placed) (f : Cod
   pub lacks : LacksOne s part
   pub here : IsTrial s (position (lengthened part p))
   pub trial_of : IsTrialOf s.rules s.plans s.store (lengthened part p)
-  pub front : IsFront s part.number part.head (labels part) f
-  pub least : LeastFrom (MayEnd s (part.number ∷ part.head ∷ labels part)) (p.label + 1) second
+  pub end : HasEnd s part.number part.head (labels part) (p.label + 1) f second
 
 pub begun : {Z : Type 0} (s : Space) → ArePlans s.rules s.plans → AllByRecursion IsRule s.rules → (part : Trial) (p : Placed) (t : Trial) (f : CodeFront Z) (second : ℕ) → lengthened part p ≡ t → IsTrial s (position t) × IsTrialOf s.rules s.plans s.store t → HasBeside s t f second → IsBegun s part p f second
 begun s ps rs part p t f second e i h = whole (subst (λ t. IsTrial s (position t) × IsTrialOf s.rules s.plans s.store t) (sym e) i) (subst (λ t. HasBeside s t f second) (sym e) h)
@@ -131,15 +137,14 @@ begun s ps rs part p t f second e i h = whole (subst (λ t. IsTrial s (position 
     whole : IsTrial s (position (lengthened part p)) × IsTrialOf s.rules s.plans s.store (lengthened part p) → HasBeside s (lengthened part p) f second → IsBegun s part p f second
     whole i h =
         let same = same_from_push (labels part) h.before p.label h.last (sym (map_push (λ (x : Placed). x.label) part.placed p) ∙ h.labels_are) in
-        let front : IsFront s part.number part.head (labels part) f = subst (λ ls. IsFront s part.number part.head ls f) (sym same.0) h.front in
         let count : length (part.placed ++ p ∷ []) ≡ length part.placed + 1 = length_push part.placed p in
-        let some : 1 ≤ length (labels part) = front.some in
+        let end : HasEnd s part.number part.head (labels part) (p.label + 1) f second = subst (λ n. HasEnd s part.number part.head (labels part) (n + 1) f second) (sym same.1) (subst (λ ls. HasEnd s part.number part.head ls (h.last + 1) f second) (sym same.0) h.end) in
+        let some : 1 ≤ length (labels part) = end.front.some in
         record {
           lacks = record { plans = ps; scoped = rs; trial_of = (placed_after s part p i.1).0; some = omega (arith, labels_length part); full = sym count ∙ h.full };
           here = i.0;
           trial_of = i.1;
-          front = front;
-          least = subst (λ n. LeastFrom (MayEnd s (part.number ∷ part.head ∷ labels part)) (n + 1) second) (sym same.1) (subst (λ (ls : List ℕ). LeastFrom (MayEnd s (part.number ∷ part.head ∷ ls)) (h.last + 1) second) (sym same.0) h.least);
+          end = end;
         }
 
 -- the labels of a trial up to the last
@@ -161,9 +166,71 @@ last_read f (y ∷ []) (suc i) x t more is count e = absurd (omega arith)
 last_read f (y ∷ z ∷ xs) zero x t more is count e = absurd (omega arith)
 last_read f (y ∷ z ∷ xs) (suc i) x t more is count e = let rest : f z ∷ map f xs ≡ more = cc in ap (last_of t) (sym rest) ∙ last_read f (z ∷ xs) i x (f z) (map f xs) refl (omega arith) e
 
-pub come_behind : (s : Space) → ArePlans s.rules s.plans → AllByRecursion IsRule s.rules → (r : Row) (p : Placed) (place : List ℕ) (u : Trial) → IsRow r → u ≡ lengthened r.part p → place ≡ past (position r.part ++ p.label ∷ []) → IsTrialOf s.rules s.plans s.store u → ComeAfter s place (position u)
-come_behind s ps rs r p place u w e is i =
-    let t : Trial = lengthened r.part p in
-    let count : length t.placed ≡ length r.part.placed + 1 = length_push r.part.placed p in
-    let behind : ComeAfter s (past (position t)) (position t) = full_after s t ps rs (subst (IsTrialOf s.rules s.plans s.store) e i) (count ∙ w.full) (omega arith) in
-    subst (λ u. ComeAfter s place (position u)) (sym e) (subst (λ q. ComeAfter s q (position t)) (sym (is ∙ ap past (sym (longer_position r.part p)))) behind)
+-- past the last of a row's trials
+pub come_behind : (s : Space) → ArePlans s.rules s.plans → AllByRecursion IsRule s.rules → (place : List ℕ) (u : Trial) → place ≡ past (position u) → length u.placed ≡ length (heads_of u.rule) → IsTrial s (position u) → IsTrialOf s.rules s.plans s.store u → ComeAfter s place (position u)
+come_behind s ps rs place u is full k i =
+    let deep : 3 ≤ length (position u) = k.deep in
+    subst (λ q. ComeAfter s q (position u)) (sym is) (full_after s u ps rs i full (omega (arith, labels_length u)))
+
+-- the last of a branch's trials
+pub last_behind : (part : Trial) (ts : List Trial) (t : Trial) (more : List Trial) → 1 ≤ length ts → part ∷ ts ≡ t ∷ more → (x : Trial) × (xs : List Trial) × (ts ≡ x ∷ xs) × (last_of t more ≡ last_of x xs)
+last_behind part [] t more some e = absurd (omega arith)
+last_behind part (x ∷ xs) t more some e = let rest : x ∷ xs ≡ more = cc in (x, xs, refl, ap (last_of t) (sym rest))
+
+-- ---- branches
+
+-- the first trial that begins with a part comes next just after it
+first_behind : (s : Space) (part : Trial) → LacksOne s part → (p : Placed) → LeastFrom (MayEnd s (part.number ∷ part.head ∷ labels part)) 0 p.label → IsPlacedAfter s part.number part.head (length (labels part)) p → IsNextTrial s (just_after (position part)) (lengthened part p)
+first_behind s part k p least placed =
+    let some : 1 ≤ length part.placed = k.some in (
+      subst (IsNext s (just_after (position part))) (sym (longer_position part p)) (end_at s part.number part.head (labels part) 0 p.label (omega (arith, labels_length part)) least),
+      placed_trial s part p k.trial_of (subst (λ n. IsPlacedAfter s part.number part.head n p) (labels_length part) placed),
+    )
+
+-- the branch of a part and labels
+pub record IsMadeBranch (s : Space) (part : Trial) (lasts : List Placed) : Type 0 where
+  pub row : IsRow (row_of part lasts)
+  pub next : ComeNext s part (trials_of (row_of part lasts))
+
+pub branch_made : (s : Space) (store : LabelledStore) → store.entries ≡ s.store → IsLabelled store → (part : Trial) → LacksOne s part → IsPart part → (lasts : List Placed) → 1 ≤ length lasts → AreEnds s part.number part.head (labels part) 0 lasts → IsMadeBranch s part lasts
+branch_made s store st w part k is [] some e = absurd (omega arith)
+branch_made s store st w part k is (p ∷ ps) some e =
+    let first = first_behind s part k p e.0 e.1 in
+    let next = come_next s part k p ps first.1 e.2 in
+    record {
+      row = record {
+        part = is;
+        some = some;
+        full = k.full;
+        formed = all_formed s store k.plans k.scoped st w (lengthened part p) (map (lengthened part) ps) (next_trial s (just_after (position part)) (position (lengthened part p)) first.0) first.1 next;
+      };
+      next = (first, next);
+    }
+
+-- a trial with which others begin is a part
+pub begins_others : {Z : Type 0} (s : Space) (t : Trial) (f : CodeFront Z) → IsFront s t.number t.head (labels t) f → IsTrialOf s.rules s.plans s.store t → IsFormed t → length t.placed + 1 ≡ length (heads_of t.rule) → IsPart t
+begins_others s t f front i w left =
+    let j : Join = join_of f.join in
+    let k = front.join in
+    let rules_are : Some t.rule ≡ Some j.rule = sym i.rule_is ∙ k.planned.rule_is in
+    let rule : t.rule ≡ j.rule = cc in
+    let orders : Some i.order ≡ Some j.order = sym i.order_is ∙ k.planned.order_is in
+    let order : i.order ≡ j.order = cc in
+    let store : s.store ≡ j.store = sym (ap (λ (y : Join). y.store) k.is) in
+    let all : length (heads_of t.rule) ≡ length j.rule.kept + length j.rule.removed = ap (λ r. length (heads_of r)) rule ∙ length-append j.rule.kept j.rule.removed in
+    is_part j (labels t) f.binding front.ready (omega (arith, labels_length t)) t (record {
+      rule_is = rule;
+      labels_are = refl;
+      heads_are = subst (λ (o : List Step). heads t ≡ take (length t.placed) (map (λ (step : Step). step.head) o)) order i.heads_are;
+      live = subst (λ x. AllByRecursion (λ (p : Placed). atom_at x p.label ≡ Some p.atom) t.placed) store i.live;
+      formed = w;
+    })
+
+-- ---- the least label with which a trial ends
+
+pub end_as : {Z : Type 0} (s : Space) (r h : ℕ) (ls ms : List ℕ) (from : ℕ) (f : CodeFront Z) (end : ℕ) → ls ≡ ms → HasEnd s r h ls from f end → HasEnd s r h ms from f end
+end_as s r h ls ms from f end e = subst (λ xs. HasEnd s r h xs from f end) e
+
+pub beside : {Z : Type 0} (s : Space) (t : Trial) (before : List ℕ) (last : ℕ) (found : Option (CodeFront Z × ℕ)) → length t.placed ≡ length (heads_of t.rule) → labels t ≡ before ++ last ∷ [] → MatchOption found ⊤ (λ x. HasEnd s t.number t.head before (last + 1) x.0 x.1) → MatchOption found ⊤ (λ x. HasBeside s t x.0 x.1)
+beside s t before last None full ls h = tt
+beside s t before last (Some x) full ls h = record { full = full; before = before; last = last; labels_are = ls; end = h }

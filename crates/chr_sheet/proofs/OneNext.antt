@@ -1,14 +1,18 @@
--- The next trial of a search: there is one at most.
-use Rattle.std.proofs.Common.{◌≡◌, ℕ, List, [], ◌∷◌, map, length, take, Some, refl, sym, ◌∙◌, ap, ap₂}
+-- The next trial of a search: there is one at most, and one that is the least of those that end so.
+use Rattle.std.proofs.Common.{◌≡◌, ℕ, ◌≤◌, List, [], ◌∷◌, ◌++◌, map, length, length-append, take, Some, refl, sym, ◌∙◌, ap, ap₂, arith}
 use Rattle.std.specs.List.{AllByRecursion}
 use Rattle.chr_rule.specs.Rules.{Simpagation, rule_at}
 use Rattle.chr_model.specs.Stores.{Store, atom_at}
 use Rattle.chr_plan.specs.Plans.{PlanList, plan_at}
 use Rattle.chr_plan.specs.declared.order.Step.{Step}
-use Rattle.chr_search.specs.Trials.{Space}
+use Rattle.chr_search.specs.Tree.{LeastFrom}
+use Rattle.chr_search.specs.Trials.{Space, Child, IsNext}
 use Rattle.chr_search.specs.Verdicts.{Placed, Trial, position, labels, heads, IsTrialOf}
+use Rattle.chr_search.specs.Fronts.{MayEnd}
+use Rattle.chr_search.proofs.Behind.{shorter}
+use Rattle.chr_search.proofs.Fronts.{last_child}
 use Rattle.chr_search.proofs.Same.{same_count}
-use Rattle.chr_search.proofs.Tree.{least_same}
+use Rattle.chr_search.proofs.Tree.{grows_more, least_same, least_beside}
 use Rattle.chr_sheet.specs.Sheets.{IsNextTrial}
 
 placed_is : (p q : Placed) → p.head ≡ q.head → p.label ≡ q.label → p.atom ≡ q.atom → p ≡ q
@@ -50,3 +54,14 @@ trial_same rules plans store s t i j e =
 
 pub next_same : (s : Space) (place : List ℕ) (t u : Trial) → IsNextTrial s place t → IsNextTrial s place u → t ≡ u
 next_same s place t u h k = trial_same s.rules s.plans s.store t u h.1 k.1 (least_same _ _ _ _ (position t) (position u) h.0 k.0)
+
+-- the least label from one on with which a trial ends is that of the next trial from there on
+pub end_at : (s : Space) (r h : ℕ) (ls : List ℕ) (from x : ℕ) → 1 ≤ length ls → LeastFrom (MayEnd s (r ∷ h ∷ ls)) from x → IsNext s (r ∷ h ∷ (ls ++ from ∷ [])) (r ∷ h ∷ (ls ++ x ∷ []))
+end_at s r h ls from x some e =
+    let path : List ℕ = r ∷ h ∷ ls in
+    let g = shorter (Child s) [] path (x ∷ []) e.holds.grows in
+    least_beside (Child s) 3 [] path from x g (record {
+      holds = last_child (Child s) [] path x e.holds.grows;
+      there = e.there;
+      least = λ y c low. e.least y (record { grows = grows_more (Child s) [] path y g c; deep = omega (arith, length-append ls (y ∷ [])) }) low;
+    }) (omega (arith, length-append ls (x ∷ [])))

@@ -9,8 +9,9 @@ use Rattle.chr_plan.specs.Plans.{PlanList}
 use Rattle.chr_search.specs.declared.judged.Verdict.{Verdict}
 use Rattle.chr_search.specs.declared.judged.Verdict.TheVariants.{Whole}
 use Rattle.chr_search.specs.declared.front.Front.{Front}
-use Rattle.chr_search.specs.Positions.{past}
+use Rattle.chr_search.specs.Positions.{just_after, past}
 use Rattle.chr_search.specs.Reach.{SearchState}
+use Rattle.chr_search.specs.Tree.{LeastFrom}
 use Rattle.chr_search.specs.Trials.{Space, older, IsNext}
 use Rattle.chr_search.specs.Verdicts.{Placed, Trial, position, labels, IsTrialOf}
 use Rattle.chr_search.specs.Answers.{IsToldNext, after_judging, after_verdict}
@@ -20,9 +21,9 @@ use Rattle.chr_search.proofs.Judging.{labels_length}
 use Rattle.chr_search.proofs.Making.{next_trial}
 use Rattle.chr_search.proofs.Fronts.{end_next, end_none, placed_trial, placed_after}
 use Rattle.chr_search.proofs.Tree.{least_same}
-use Rattle.chr_sheet.specs.Rows.{Row, misfit, trials_of}
+use Rattle.chr_sheet.specs.Rows.{Row, misfit, judged_part, trials_of}
 use Rattle.chr_sheet.specs.Sheets.{IsNextTrial, IsFrontOf, Reports, done, moves, passes, place_after}
-use Rattle.chr_sheet.proofs.OneNext.{next_same}
+use Rattle.chr_sheet.proofs.OneNext.{next_same, end_at}
 
 -- ---- some and then others
 
@@ -146,9 +147,24 @@ front_there s part number head ls None en eh els none = λ l ends. let path : nu
 front_there s part number head ls (Some f) en eh els is =
     subst (λ n. IsFront s n part.head (labels part) f) en (subst (λ h. IsFront s number h (labels part) f) eh (subst (λ xs. IsFront s number head xs f) els is))
 
-pub row_reported : {Z : Type 0} (rules : List (Simpagation ℕ)) (plans : PlanList) (store : Store) (active label : ℕ) (place : List ℕ) (part : Trial) (row : Row) (first count : ℕ) (met : Option ℕ) (f : Front Z) → active ≡ label → part ≡ row.part → IsTrialOf rules plans store part → IsNext (older rules plans store label) place (position part ++ first ∷ []) → IsFrontOf (older rules plans store active) part f
-    → ((s : Space) (place : List ℕ) → IsFrontOf s row.part f → IsTrialOf s.rules s.plans s.store row.part → IsNext s place (position row.part ++ first ∷ []) → Reports s place (map misfit (trials_of row)) count (place_after place row.part met))
-    → Reports (older rules plans store label) place (map misfit (trials_of row)) count (place_after place row.part met)
-row_reported rules plans store active label place part row first count met f same is stands next front reports =
+-- what is known of a row, whichever way its part and the active label are named
+pub row_reported : {Z : Type 0} (rules : List (Simpagation ℕ)) (plans : PlanList) (store : Store) (active label : ℕ) (place : List ℕ) (part : Trial) (row : Row) (first count : ℕ) (after : List ℕ) (f : Front Z) → active ≡ label → part ≡ row.part → IsTrialOf rules plans store part → IsNext (older rules plans store label) place (position part ++ first ∷ []) → IsFrontOf (older rules plans store active) part f
+    → ((s : Space) → IsFrontOf s row.part f → IsTrialOf s.rules s.plans s.store row.part → IsNext s place (position row.part ++ first ∷ []) → Reports s place (map misfit (trials_of row)) count after)
+    → Reports (older rules plans store label) place (map misfit (trials_of row)) count after
+row_reported rules plans store active label place part row first count after f same is stands next front reports =
     let s : Space = older rules plans store label in
-    reports s place (subst (λ a. IsFrontOf (older rules plans store a) row.part f) same (subst (λ t. IsFrontOf (older rules plans store active) t f) is front)) (subst (IsTrialOf rules plans store) is stands) (subst (λ t. IsNext s place (position t ++ first ∷ [])) is next)
+    reports s (subst (λ a. IsFrontOf (older rules plans store a) row.part f) same (subst (λ t. IsFrontOf (older rules plans store active) t f) is front)) (subst (IsTrialOf rules plans store) is stands) (subst (λ t. IsNext s place (position t ++ first ∷ [])) is next)
+
+-- ---- a branch
+
+-- the trial that comes next just after a part, where one begins with it
+pub next_behind : (s : Space) (place : List ℕ) (part : Trial) (first : ℕ) → place ≡ just_after (position part) → 1 ≤ length (labels part) → LeastFrom (MayEnd s (position part)) 0 first → IsNext s place (position part ++ first ∷ [])
+next_behind s place part first is some least = subst (λ p. IsNext s p (position part ++ first ∷ [])) (sym is) (end_at s part.number part.head (labels part) 0 first some least)
+
+-- the part is the next trial, or it isn't
+pub part_moves : (s : Space) (place mid after : List ℕ) (t : Trial) (js : List Judgement) (n : ℕ) → IsNextTrial s place t → mid ≡ just_after (position t) → Reports s mid js n after → Reports s place (judged_part t ∷ js) (n + 1) after
+part_moves s place mid after t js n next is rest =
+    subst (λ k. Reports s place (judged_part t ∷ js) k after) (let e : suc n ≡ n + 1 = omega arith in e) (moves place after (judged_part t) js n next (λ z. absurd (cc)) (subst (λ p. Reports s p js n after) is rest))
+
+pub part_passes : (s : Space) (place after : List ℕ) (t : Trial) (js : List Judgement) (n : ℕ) → (IsNextTrial s place t → ⊥) → Reports s place js n after → Reports s place (judged_part t ∷ js) n after
+part_passes s place after t js n not rest = passes place after (judged_part t) js n not rest

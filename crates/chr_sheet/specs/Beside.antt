@@ -9,6 +9,11 @@ use Rattle.chr_search.specs.Verdicts.{Placed, Trial, labels, position}
 use Rattle.chr_search.specs.Fronts.{MayEnd, IsFront, IsPlacedAfter}
 use Rattle.chr_sheet.specs.Sheets.{IsNextTrial}
 
+-- a front of a rule, a head and labels, and the least label from one on with which an admissible trial ends that begins with these
+pub record HasEnd {Z : Type 0} (s : Space) (r h : ℕ) (ls : List ℕ) (from : ℕ) (f : CodeFront Z) (end : ℕ) : Type 0 where
+  pub front : IsFront s r h ls f
+  pub least : LeastFrom (MayEnd s (r ∷ h ∷ ls)) from end
+
 -- A trial has all heads, two at least; a front has all its labels but the last; and this is the least label past that one with
 -- which another ends.
 pub record HasBeside {Z : Type 0} (s : Space) (t : Trial) (f : CodeFront Z) (second : ℕ) : Type 0 where
@@ -16,13 +21,12 @@ pub record HasBeside {Z : Type 0} (s : Space) (t : Trial) (f : CodeFront Z) (sec
   pub before : List ℕ
   pub last : ℕ
   pub labels_are : labels t ≡ before ++ last ∷ []
-  pub front : IsFront s t.number t.head before f
-  pub least : LeastFrom (MayEnd s (t.number ∷ t.head ∷ before)) (last + 1) second
+  pub end : HasEnd s t.number t.head before (last + 1) f second
 
--- labels with which admissible trials end: the first is the least one past a number, and each other the least past the one before
+-- labels with which admissible trials end: the first is the least one from a number on, and each other the least past the one before
 abbrev pub AreEnds : Space → ℕ → ℕ → List ℕ → ℕ → List Placed → Type 0
-AreEnds s r h ls l [] = ⊤
-AreEnds s r h ls l (p ∷ ps) = LeastFrom (MayEnd s (r ∷ h ∷ ls)) (l + 1) p.label × IsPlacedAfter s r h (length ls) p × AreEnds s r h ls p.label ps
+AreEnds s r h ls from [] = ⊤
+AreEnds s r h ls from (p ∷ ps) = LeastFrom (MayEnd s (r ∷ h ∷ ls)) from p.label × IsPlacedAfter s r h (length ls) p × AreEnds s r h ls (p.label + 1) ps
 
 -- these come next after a trial, one after another
 abbrev pub ComeNext : Space → Trial → List Trial → Type 0

@@ -4,20 +4,24 @@ use Rattle.std.specs.List.{AllByRecursion}
 use Rattle.chr_plan.specs.Orders.{heads_of}
 use Rattle.chr_search.specs.declared.judged.Verdict.{Verdict}
 use Rattle.chr_search.specs.declared.judged.Verdict.TheVariants as verdicts
-use Rattle.chr_search.specs.Verdicts.{Placed, Trial, IsFormed}
+use Rattle.chr_search.specs.Verdicts.{Placed, Trial, IsFormed, IsPart}
 use Rattle.chr_search.specs.Judged.{Judgement, IsVerdict}
 use Rattle.chr_search.specs.Fronts.{lengthened}
 
--- a trial that one head is left of, and labels for that head
+-- a part that one head is left of, and labels for that head
 pub record Row : Type 0 where
   pub part : Trial
   pub lasts : List Placed
 
--- its trials have one of these labels each
+-- its trials have one of these labels each; those of a branch are its part and then they
 abbrev pub trials_of : Row → List Trial
 trials_of r = map (lengthened r.part) r.lasts
 
+abbrev pub branch_trials : Row → List Trial
+branch_trials r = r.part ∷ trials_of r
+
 pub record IsRow (r : Row) : Type 0 where
+  pub part : IsPart r.part
   pub some : 1 ≤ length r.lasts
   pub full : length r.part.placed + 1 ≡ length (heads_of r.part.rule)
   pub formed : AllByRecursion IsFormed (trials_of r)
@@ -30,9 +34,22 @@ AreMisfits ts = AllByRecursion (λ t. IsVerdict t verdicts.Misfit) ts
 abbrev pub MustBeWhole : Trial → Type 0
 MustBeWhole t = (v : Verdict) → IsVerdict t v → v ≡ verdicts.Whole
 
--- a judgement of a misfit
+-- so many of the trials are misfits, and the one after them must be whole
+pub record AreMisfitsUpTo (ts : List Trial) (n : ℕ) : Type 0 where
+  pub few : n ≤ length ts
+  pub misfits : AreMisfits (take n ts)
+  pub next : MatchOption (slice_get ts n) ⊤ MustBeWhole
+
+-- a judgement of a misfit, and one of a part
 abbrev pub misfit : Trial → Judgement
 misfit t = record { trial = t; verdict = verdicts.Misfit }
+
+abbrev pub judged_part : Trial → Judgement
+judged_part t = record { trial = t; verdict = verdicts.Part }
+
+-- these verdicts are right
+abbrev pub AreRight : List Judgement → Type 0
+AreRight js = AllByRecursion (λ j. IsVerdict j.trial j.verdict) js
 
 -- judgements in order: those that aren't whole, and after them perhaps one that is
 pub record JudgedSheet : Type 0 where
@@ -51,10 +68,17 @@ pub record IsJudgedSheet (sheet : JudgedSheet) : Type 0 where
   pub whole : MatchOption sheet.whole ⊤ (λ w. w.verdict ≡ verdicts.Whole)
   pub few : length (judgements_of sheet) < 18446744073709551616
 
--- the trials that are kept before one, and that one
-abbrev pub trials_before : {K : Type 0} → (K → List Trial) → Option K → List Trial
-trials_before kept None = []
-trials_before kept (Some some) = kept some
+-- what is kept before a trial
+abbrev pub kept_before : {K X : Type 0} → (K → List X) → Option K → List X
+kept_before kept None = []
+kept_before kept (Some some) = kept some
 
+-- the trials before one, and that one
 abbrev pub IsSplitAt : List Trial → ℕ → List Trial → Trial → Type 0
 IsSplitAt ts n before t = (before ≡ take n ts) × (slice_get ts n ≡ Some t)
+
+-- the same of a row: its part, the labels before one of them, and the trial of that one
+pub record IsCutAt (r : Row) (n : ℕ) (part : Trial) (before : List Placed) (t : Trial) : Type 0 where
+  pub part_is : part ≡ r.part
+  pub split : IsSplitAt (trials_of r) n (trials_of (record { part = part; lasts = before })) t
+  pub row : 1 ≤ length before → IsRow (record { part = part; lasts = before })

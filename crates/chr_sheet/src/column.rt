@@ -4,7 +4,7 @@ ghost use Rattle.std.specs.Arc.{arc_value};
 ghost use Rattle.chr_search.specs.Verdicts.{IsFormed};
 ghost use Rattle.chr_sheet.specs.Beside.{last_of};
 ghost use Rattle.chr_sheet.specs.Columns.{at_head, column_trials, head_of, IsColumn};
-ghost use Rattle.chr_sheet.specs.Rows.{IsSplitAt, trials_before};
+ghost use Rattle.chr_sheet.specs.Rows.{IsSplitAt, kept_before};
 
 use chr_rule::Rule;
 use chr_search::{Placed, Trial};
@@ -113,7 +113,7 @@ impl<A: Allocator + Copy> Column<A> {
         index: usize,
     ) -> Result<(Option<Column<A>>, Trial<A>), AllocError>
         requires { index ≤ length self.more }
-        ensures { IfOk result (λ made. IsSplitAt (column_trials self) index (trials_before column_trials made.0) made.1) }
+        ensures { IfOk result (λ made. IsSplitAt (column_trials self) index (kept_before column_trials made.0) made.1) }
     {
         let Column { first, mut more } = self;
         more.truncate(index);

@@ -1,15 +1,15 @@
 //! Judging the trials of a sheet.
-ghost use Rattle.std.specs.Prelude.{◌≡◌, ◌⊎◌, ◌<◌, ◌≤◌, ⊤, ◌∷◌, ◌++◌, [], length, map, take, IfOk, OnOk, MatchOption, IsTrue, slice_get};
+ghost use Rattle.std.specs.Prelude.{◌≡◌, ◌⊎◌, ◌<◌, ◌≤◌, ⊤, ◌∷◌, ◌++◌, [], length, take, IfOk, OnOk, MatchOption, IsTrue, slice_get};
 ghost use Rattle.std.specs.Option.{option_copied};
 ghost use Rattle.chr_search.specs.declared.judged.Verdict.TheVariants as verdicts;
 ghost use Rattle.chr_sheet.specs.Columns.{column_trials};
-ghost use Rattle.chr_sheet.specs.Kept.{trials_at, trials_in};
+ghost use Rattle.chr_sheet.specs.Kept.{judged_at, trials_at, trials_in};
 ghost use Rattle.chr_sheet.specs.Others.{others_in};
-ghost use Rattle.chr_sheet.specs.Rows.{judgements_of, misfit, trials_before, trials_of, AreMisfits, MustBeWhole};
+ghost use Rattle.chr_sheet.specs.Rows.{judgements_of, kept_before, trials_of, AreMisfitsUpTo, AreRight, MustBeWhole};
 ghost use Rattle.chr_sheet.specs.Sheets.{AreJudgedInOrder, AreJudgedUpTo};
 
 use crate::column::Column;
-use crate::not_whole::{Misfits, NotWhole};
+use crate::not_whole::{NotWhole, Several};
 use crate::others::Others;
 use crate::row::Row;
 use crate::trials::Trials;
@@ -89,9 +89,7 @@ impl<A: Allocator + Copy> Judgements<A> {
 
 /// How many trials of a row are misfits, before the first that isn't.
 fn count_in_row<A: Allocator + Copy, W: Watch>(row: &Row<A>, watch: &W) -> usize
-    ensures few { result ≤ length (trials_of row.now) }
-    ensures misfits { AreMisfits (take result (trials_of row.now)) }
-    ensures next { MatchOption (slice_get (trials_of row.now) result) ⊤ MustBeWhole }
+    ensures { AreMisfitsUpTo (trials_of row.now) result }
 {
     let Some(mut fitted) = Fitted::of(row.part()) else {
         for _ in row.lasts() {
@@ -110,9 +108,7 @@ fn count_in_row<A: Allocator + Copy, W: Watch>(row: &Row<A>, watch: &W) -> usize
 
 /// How many trials of a column are misfits, before the first that isn't.
 fn count_in_column<A: Allocator + Copy, W: Watch>(column: &Column<A>, watch: &W) -> usize
-    ensures few { result ≤ length (column_trials column.now) }
-    ensures misfits { AreMisfits (take result (column_trials column.now)) }
-    ensures next { MatchOption (slice_get (column_trials column.now) result) ⊤ MustBeWhole }
+    ensures { AreMisfitsUpTo (column_trials column.now) result }
 {
     let first = column.first();
     let one = &first.placed()[0];
@@ -130,10 +126,10 @@ fn count_in_column<A: Allocator + Copy, W: Watch>(column: &Column<A>, watch: &W)
     column.more().len() + 1
 }
 
-/// How many of these trials are misfits, before the first that isn't. Where there is one alone, that is left open.
-fn count_misfits<A: Allocator + Copy, W: Watch>(trials: &Trials<A>, watch: &W) -> usize
+/// How many of these trials aren't whole, before the first that is. Where there is one alone, that is left open.
+fn count_others<A: Allocator + Copy, W: Watch>(trials: &Trials<A>, watch: &W) -> usize
     ensures few { result ≤ length (trials_at trials.now) }
-    ensures misfits { AreMisfits (take result (trials_at trials.now)) }
+    ensures right { AreRight (take result (judged_at trials.now)) }
     ensures next { MatchOption (slice_get (trials_at trials.now) result) ⊤ (λ t. (trials_at trials.now ≡ t ∷ []) ⊎ MustBeWhole t) }
 {
     match trials {
@@ -142,20 +138,26 @@ fn count_misfits<A: Allocator + Copy, W: Watch>(trials: &Trials<A>, watch: &W) -
             0
         }
         Trials::Row(row) => count_in_row(row, watch),
+        Trials::Branch(row) => {
+            // For the proof: the part is one, and a list can be counted.
+            let _count = row.lasts().len();
+            watch.before_judging();
+            count_in_row(row, watch) + 1
+        }
         Trials::Column(column) => count_in_column(column, watch),
     }
 }
 
-/// Puts misfits after the others. An `Err` is E01.
-fn push_misfits<A: Allocator + Copy>(
+/// Puts trials that aren't whole after the others. An `Err` is E01.
+fn push_several<A: Allocator + Copy>(
     trials: Option<Trials<A>>,
     others: &mut Vec<Others<A>, A>,
 ) -> Result<(), AllocError>
-    requires { AreMisfits (trials_before trials_at trials) }
-    ensures { OnOk result (others_in others.new.items ≡ others_in others.old.items ++ map misfit (trials_before trials_at trials)) }
+    requires { AreRight (kept_before judged_at trials) }
+    ensures { OnOk result (others_in others.new.items ≡ others_in others.old.items ++ kept_before judged_at trials) }
 {
     if let Some(trials) = trials {
-        others.push(Others::Misfits(Misfits::of(trials)))?;
+        others.push(Others::Several(Several::of(trials)))?;
     }
     Ok(())
 }
@@ -186,13 +188,13 @@ fn judge_some<A: Allocator + Copy, W: Watch>(
 ) -> Result<Option<Judged<A>>, AllocError>
     ensures { IfOk result (λ whole. AreJudgedUpTo (trials_at trials) (others_in others.old.items) (others_in others.new.items) whole) }
 {
-    let count = count_misfits(&trials, watch);
+    let count = count_others(&trials, watch);
     if count == trials.len() {
-        push_misfits(Some(trials), others)?;
+        push_several(Some(trials), others)?;
         return Ok(None);
     }
     let (before, trial) = trials.split_at(alloc, count)?;
-    push_misfits(before, others)?;
+    push_several(before, others)?;
     judge_one(trial, others)
 }
 

@@ -9,10 +9,14 @@
 //! rule, head and other labels once, with the last labels and their atoms. The other labels are matched once a row, and the rule
 //! is compared once.
 //!
+//! Just before them lies the trial of the labels that they begin with: a part, since trials begin with it. Where it comes next
+//! as well it is kept with them, and all are called a branch: they are looked for from the part on, both at reading and at
+//! reporting.
+//!
 //! At rules of one head, trials of the active label alone lie one after another too. They are kept as a [`Column`]: the first of
 //! them, and the rules and heads of the others. Their atom is kept once.
 //!
-//! - `Rows`: rows of trials.
+//! - `Rows`: rows and branches of trials.
 //! - `Columns`: columns of trials.
 //! - `Kept`: which trials are kept.
 //! - `Others`: which judgements are kept.
@@ -30,7 +34,7 @@ mod trials;
 
 pub use column::{Column, OneHead};
 pub use judging::{Judgements, Watch, judge};
-pub use not_whole::{Misfits, NotWhole};
+pub use not_whole::{NotWhole, Several};
 pub use others::Others;
 pub use reading::read;
 pub use reporting::{Reported, report};

@@ -1,9 +1,9 @@
-//! Judgements that aren't whole: of one trial, or of several that are misfits.
+//! Judgements that aren't whole: of one trial, or of several that are kept together.
 ghost use Rattle.std.specs.Prelude.{◌≡◌, ◌≢◌};
 ghost use Rattle.chr_search.specs.declared.judged.Verdict.TheVariants as verdicts;
 ghost use Rattle.chr_search.specs.Judged.{IsVerdict};
-ghost use Rattle.chr_sheet.specs.Kept.{trials_at};
-ghost use Rattle.chr_sheet.specs.Rows.{AreMisfits};
+ghost use Rattle.chr_sheet.specs.Kept.{judged_at};
+ghost use Rattle.chr_sheet.specs.Rows.{AreRight};
 
 use crate::trials::Trials;
 use chr_search::{Judged, Trial, Verdict};
@@ -65,44 +65,45 @@ impl<A: Allocator + Copy> NotWhole<A> {
     }
 }
 
-/// Trials that come one after another and are misfits. Contracts see these trials.
+/// Trials that come one after another, none of which is whole: one alone is a part, a branch is a part and then misfits, and
+/// the others are misfits. Contracts see their judgements.
 #[derive(Drop)]
-pub struct Misfits<A: Allocator> {
+pub struct Several<A: Allocator> {
     trials: Trials<A>,
 }
 
-impl<A: Allocator> Model for Misfits<A> {
+impl<A: Allocator> Model for Several<A> {
     ghost use Rattle.std.specs.Prelude.{List};
     ghost use Rattle.std.specs.Coded.{codes};
     ghost use Rattle.chr_value.specs.Code.{value_code};
     ghost use Rattle.chr_rule.specs.Code.{expression_code};
     ghost use Rattle.chr_rule.specs.TermCode.{term_code};
-    ghost use Rattle.chr_search.specs.Verdicts.{Trial};
-    ghost use Rattle.chr_sheet.specs.Kept.{trials_at};
-    ghost use Rattle.chr_sheet.specs.Rows.{AreMisfits};
+    ghost use Rattle.chr_search.specs.Judged.{Judgement};
+    ghost use Rattle.chr_sheet.specs.Kept.{judged_at};
+    ghost use Rattle.chr_sheet.specs.Rows.{AreRight};
 
-    ghost Value = { List Trial };
+    ghost Value = { List Judgement };
 
     ghost coded = { Prim.hlevel (codes, expression_code, term_code, value_code) };
 
-    ghost view = { λ m. trials_at m.trials };
+    ghost view = { λ m. judged_at m.trials };
 
-    ghost invariant = { λ m. AreMisfits (trials_at m.trials) };
+    ghost invariant = { λ m. AreRight (judged_at m.trials) };
 }
 
-impl<A: Allocator + Copy> Misfits<A> {
-    /// Trials that are misfits.
-    pub(crate) fn of(trials: Trials<A>) -> Misfits<A>
-        requires { AreMisfits (trials_at trials) }
-        ensures { result ≡ trials_at trials }
+impl<A: Allocator + Copy> Several<A> {
+    /// Trials whose verdicts are these.
+    pub(crate) fn of(trials: Trials<A>) -> Several<A>
+        requires { AreRight (judged_at trials) }
+        ensures { result ≡ judged_at trials }
     {
-        Misfits { trials }
+        Several { trials }
     }
 
     /// The trials.
     pub fn trials(&self) -> &Trials<A>
-        ensures trials { trials_at result.now ≡ self.now }
-        ensures misfits { AreMisfits self.now }
+        ensures trials { judged_at result.now ≡ self.now }
+        ensures right { AreRight self.now }
     {
         &self.trials
     }

@@ -1,10 +1,9 @@
 //! Judgements that aren't whole, one after another.
 ghost use Rattle.std.specs.Prelude.{◌≡◌, length};
-ghost use Rattle.std.specs.List.{AllByRecursion};
-ghost use Rattle.chr_search.specs.Judged.{IsVerdict};
 ghost use Rattle.chr_sheet.specs.Others.{others_at};
+ghost use Rattle.chr_sheet.specs.Rows.{AreRight};
 
-use crate::not_whole::{Misfits, NotWhole};
+use crate::not_whole::{NotWhole, Several};
 use std::alloc::Allocator;
 
 /// Judgements of trials that come one after another, none of which is whole.
@@ -12,21 +11,21 @@ use std::alloc::Allocator;
 pub enum Others<A: Allocator> {
     /// One judgement.
     One(NotWhole<A>),
-    /// Judgements of misfits.
-    Misfits(Misfits<A>),
+    /// Judgements of trials that are kept together.
+    Several(Several<A>),
 }
 
 impl<A: Allocator + Copy> Others<A> {
     /// Nothing. For proofs, the verdicts are the right ones.
     pub(crate) fn are_right(&self)
-        ensures { AllByRecursion (λ j. IsVerdict j.trial j.verdict) (others_at self.now) }
+        ensures { AreRight (others_at self.now) }
     {
         match self {
             Others::One(judged) => {
                 let _right = judged.verdict();
             }
-            Others::Misfits(misfits) => {
-                let _right = misfits.trials();
+            Others::Several(several) => {
+                let _right = several.trials();
             }
         }
     }
@@ -37,7 +36,7 @@ impl<A: Allocator + Copy> Others<A> {
     {
         match self {
             Others::One(_) => 1,
-            Others::Misfits(misfits) => misfits.trials().len(),
+            Others::Several(several) => several.trials().len(),
         }
     }
 }

@@ -1,15 +1,17 @@
 //! Reading the next trials of a search.
-ghost use Rattle.std.specs.Prelude.{⊤, ◌≡◌, ℕ, ◌≤◌, ◌+◌, List, [], ◌∷◌, ◌++◌, length, map, IfOk, OnOk, MatchOption};
+ghost use Rattle.std.specs.Prelude.{⊤, ◌≡◌, ℕ, ◌<◌, ◌≤◌, ◌+◌, List, [], ◌∷◌, ◌++◌, length, map, IfOk, OnOk, MatchOption};
 ghost use Rattle.chr_plan.specs.Orders.{heads_of};
 ghost use Rattle.chr_plan.specs.Plans.{ArePlans};
 ghost use Rattle.chr_search.specs.Fronts.{MayEnd, IsFront, IsPlacedAfter, ComeAfter};
 ghost use Rattle.chr_search.specs.Placed.{placed_as};
+ghost use Rattle.chr_search.specs.Positions.{past};
 ghost use Rattle.chr_search.specs.Tree.{LeastFrom};
 ghost use Rattle.chr_search.specs.Trials.{Space, older, IsTrial};
 ghost use Rattle.chr_search.specs.Verdicts.{Placed as PlacedView, Trial as TrialView, position, IsTrialOf};
-ghost use Rattle.chr_sheet.specs.Beside.{HasBeside, AreEnds, AreInTurn, last_of};
+ghost use Rattle.chr_sheet.specs.Beside.{HasEnd, HasBeside, AreEnds, AreInTurn, last_of};
 ghost use Rattle.chr_sheet.specs.Columns.{head_of, AreNextHeads};
 ghost use Rattle.chr_sheet.specs.Kept.{trials_at, trials_in};
+ghost use Rattle.chr_sheet.specs.Rows.{trials_of};
 ghost use Rattle.chr_sheet.specs.Sheets.{AreNext, AreNextTogether, IsNextTrial};
 
 use crate::column::{Column, OneHead};
@@ -44,8 +46,8 @@ fn push_with_room<T: Drop, A: Allocator>(
     Ok(())
 }
 
-/// The labels from one on with which trials of a front end, put after the others while they are fewer than so many. An `Err`
-/// is E01.
+/// The labels from one on with which trials of a front end, that one first, put after the others while they are fewer than so
+/// many. An `Err` is E01.
 fn push_ends<A: Allocator + Copy>(
     alloc: A,
     front: &mut Front<'_, A>,
@@ -53,10 +55,11 @@ fn push_ends<A: Allocator + Copy>(
     first: Label,
     most: usize,
 ) -> Result<(), AllocError>
-    requires front { (s : Space) × (r : ℕ) × (h : ℕ) × (ls : List ℕ) × (l : ℕ) × IsFront s r h ls front.old × LeastFrom (MayEnd s (r ∷ h ∷ ls)) (l + 1) first × ((p : PlacedView) → MayEnd s (r ∷ h ∷ ls) p.label → IsPlacedAfter s r h (length ls) p → p.label ≤ 4294967295) }
-    requires few { length lasts.old.items ≤ most }
+    requires front { (s : Space) × (r : ℕ) × (h : ℕ) × (ls : List ℕ) × (from : ℕ) × IsFront s r h ls front.old × LeastFrom (MayEnd s (r ∷ h ∷ ls)) from first × ((p : PlacedView) → MayEnd s (r ∷ h ∷ ls) p.label → IsPlacedAfter s r h (length ls) p → p.label ≤ 4294967295) }
+    requires few { length lasts.old.items < most }
     ensures few { OnOk result (length lasts.new.items ≤ most) }
-    ensures ends { OnOk result ((s : Space) (r h : ℕ) (ls : List ℕ) (l : ℕ) → IsFront s r h ls front.old → LeastFrom (MayEnd s (r ∷ h ∷ ls)) (l + 1) first → (more : List PlacedView) × (map placed_as lasts.new.items ≡ map placed_as lasts.old.items ++ more) × AreEnds s r h ls l more) }
+    ensures some { OnOk result (length lasts.old.items < length lasts.new.items) }
+    ensures ends { OnOk result ((s : Space) (r h : ℕ) (ls : List ℕ) (from : ℕ) → IsFront s r h ls front.old → LeastFrom (MayEnd s (r ∷ h ∷ ls)) from first → (more : List PlacedView) × (map placed_as lasts.new.items ≡ map placed_as lasts.old.items ++ more) × AreEnds s r h ls from more) }
 {
     let mut next = Some(first);
     'ends: while lasts.len() < most {
@@ -67,6 +70,28 @@ fn push_ends<A: Allocator + Copy>(
         next = front.next(label + 1);
     }
     Ok(())
+}
+
+/// The front of a trial's rule, its head and these labels, and the least label from one on with which a trial ends. None where
+/// there is none.
+fn first_end<'s, A: Allocator + Copy>(
+    trial: &Trial<A>,
+    labels: &[Placed<A>],
+    from: Label,
+    active: Label,
+    program: &'s Program<A>,
+    plans: &'s Plans<A>,
+    store: &'s Store<A>,
+) -> Option<(Front<'s, A>, Label)>
+    requires plans { ArePlans program.now plans.now }
+    requires some { 1 ≤ length labels.now }
+    requires few { length labels.now ≤ 5 }
+    ensures { let s = older program.now plans.now store.now.entries active in MatchOption result ⊤ (λ found. HasEnd s trial.now.number trial.now.head (map (λ p. p.label) labels.now) from found.0 found.1) }
+{
+    let (number, head) = (trial.number(), trial.head());
+    let mut front = Front::of(program, plans, store, active, number, head, labels)?;
+    let first = front.next(from)?;
+    Some((front, first))
 }
 
 /// Where a trial has all heads, two at least: the front of its labels but the last, and the least label past that one with
@@ -86,17 +111,7 @@ fn second_beside<'s, A: Allocator + Copy>(
     if before.is_empty() || placed.len() != first.rule().heads() {
         return None;
     }
-    let mut front = Front::of(
-        program,
-        plans,
-        store,
-        active,
-        first.number(),
-        first.head(),
-        before,
-    )?;
-    let second = front.next(last.label + 1)?;
-    Some((front, second))
+    first_end(first, before, last.label + 1, active, program, plans, store)
 }
 
 /// The heads of rules of one head at which an atom of a predicate is tried next after a rule and a head, one after another, at
@@ -165,8 +180,38 @@ fn in_column<A: Allocator + Copy>(
     Ok(Trials::Column(Column::new(first, more)))
 }
 
-/// A trial with those that come next after it, at most so many: where it has all heads, two at least, those that differ from it in
-/// their last label alone; where its rule has one head, those of its label at rules of one head. An `Err` is E01.
+/// A trial that one head is left of, with those that begin with it and have one label more, at most so many. An `Err` is E01.
+fn in_branch<A: Allocator + Copy>(
+    alloc: A,
+    active: Label,
+    part: Trial<A>,
+    most: usize,
+    program: &Program<A>,
+    plans: &Plans<A>,
+    store: &Store<A>,
+) -> Result<Trials<A>, AllocError>
+    requires plans { ArePlans program.now plans.now }
+    requires some { 2 ≤ most }
+    requires left { length part.placed + 1 ≡ length (heads_of part.rule) }
+    requires first { let s = older program.now plans.now store.now.entries active in IsTrial s (position part) × IsTrialOf s.rules s.plans s.store part }
+    ensures { IfOk result (λ trials. AreInTurn (older program.now plans.now store.now.entries active) most part (trials_at trials)) }
+{
+    // For the proof: the rules are valid, and the labels of a store are at most the greatest.
+    let _rules = program.rules();
+    let _given = store.next_label();
+    let found = first_end(&part, part.placed(), 0, active, program, plans, store);
+    let Some((mut front, first)) = found else {
+        return Ok(Trials::One(part));
+    };
+    let most = most - 1;
+    let mut lasts = Vec::with_capacity(alloc, most.min(FIRST_ROOM))?;
+    push_ends(alloc, &mut front, &mut lasts, first, most)?;
+    Ok(Trials::Branch(Row::new(part, lasts)))
+}
+
+/// A trial with those that come next after it, at most so many: where one head is left of it, those that begin with it; where it
+/// has all heads, two at least, those that differ from it in their last label alone; where its rule has one head, those of its
+/// label at rules of one head. An `Err` is E01.
 fn in_turn<A: Allocator + Copy>(
     alloc: A,
     active: Label,
@@ -184,8 +229,12 @@ fn in_turn<A: Allocator + Copy>(
     if most == 1 {
         return Ok(Trials::One(first));
     }
-    if first.rule().heads() == 1 {
+    let heads = first.rule().heads();
+    if heads == 1 {
         return in_column(alloc, active, first, most, program, plans, store);
+    }
+    if first.placed().len() + 1 == heads {
+        return in_branch(alloc, active, first, most, program, plans, store);
     }
     let Some((mut front, second)) = second_beside(&first, active, program, plans, store) else {
         return Ok(Trials::One(first));
@@ -194,10 +243,22 @@ fn in_turn<A: Allocator + Copy>(
     let _rules = program.rules();
     let _given = store.next_label();
     let (part, last) = first.split_last();
+    // For the proof: what holds of every trial.
+    let _placed = part.placed();
     let mut lasts = Vec::with_capacity(alloc, most.min(FIRST_ROOM))?;
     lasts.push(last)?;
     push_ends(alloc, &mut front, &mut lasts, second, most)?;
     Ok(Trials::Row(Row::new(part, lasts)))
+}
+
+/// Moves a search past the last trial of a row.
+fn go_past_row<A: Allocator + Copy>(search: &mut Search, row: &Row<A>)
+    ensures some { 1 ≤ length row.now.lasts }
+    ensures label { search.new.label ≡ search.old.label }
+    ensures place { (t : TrialView) (more : List TrialView) → trials_of row.now ≡ t ∷ more → let last = last_of t more in (search.new.place ≡ past (position last)) × (length last.placed ≡ length (heads_of last.rule)) }
+{
+    let lasts = row.lasts();
+    search.go_past(row.part(), lasts[lasts.len() - 1].label);
 }
 
 /// Moves a search to those that come after the last of these trials.
@@ -221,14 +282,12 @@ fn go_behind<A: Allocator + Copy>(
             let (number, head) = column.last();
             search.go_past_alone(number, head);
         }
-        Trials::Row(row) => {
-            let lasts = row.lasts();
-            search.go_past(row.part(), lasts[lasts.len() - 1].label);
-        }
+        Trials::Row(row) => go_past_row(search, row),
+        Trials::Branch(row) => go_past_row(search, row),
     }
 }
 
-/// A trial with those that come next after it and make a row or a column with it, at most so many. The search moves on after
+/// A trial with those that come next after it and are kept with it, at most so many. The search moves on after
 /// them. An `Err` is E01.
 fn with_those_beside<A: Allocator + Copy>(
     alloc: A,

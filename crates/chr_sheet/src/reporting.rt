@@ -5,13 +5,14 @@ ghost use Rattle.chr_search.specs.declared.judged.Verdict.TheVariants as verdict
 ghost use Rattle.chr_search.specs.Judged.{IsVerdict};
 ghost use Rattle.chr_plan.specs.Plans.{ArePlans};
 ghost use Rattle.chr_search.specs.Fronts.{MayEnd};
+ghost use Rattle.chr_search.specs.Positions.{just_after};
 ghost use Rattle.chr_search.specs.Trials.{Space, older, IsNext};
 ghost use Rattle.chr_search.specs.Verdicts.{IsTrialOf, position};
 ghost use Rattle.chr_sheet.specs.Others.{others_at};
 ghost use Rattle.chr_rule.specs.Rules.{rule_at};
 ghost use Rattle.chr_sheet.specs.Columns.{column_trials};
 ghost use Rattle.chr_sheet.specs.Alone.{IsAloneIn, IsAloneOf, place_past};
-ghost use Rattle.chr_sheet.specs.Rows.{misfit, trials_of};
+ghost use Rattle.chr_sheet.specs.Rows.{judged_part, misfit, trials_of};
 ghost use Rattle.chr_sheet.specs.Sheets.{IsFireable, IsFrontOf, Reports, place_after};
 
 use crate::column::Column;
@@ -83,6 +84,24 @@ fn meet<A: Allocator + Copy>(
     (count, met)
 }
 
+/// Moves a search over the trials of a row that are misfits, as [`meet`] meets them. Returns how many came next.
+fn pass_met<A: Allocator + Copy>(
+    search: &mut Search,
+    front: &mut Front<'_, A>,
+    row: &Row<A>,
+    first: Label,
+) -> usize
+    requires { (s : Space) × IsFrontOf s row.now.part front.old }
+    ensures label { search.new.label ≡ search.old.label }
+    ensures reports { (s : Space) → IsFrontOf s row.now.part front.old → IsTrialOf s.rules s.plans s.store row.now.part → IsNext s search.old.place (position row.now.part ++ first ∷ []) → Reports s search.old.place (map misfit (trials_of row.now)) result search.new.place }
+{
+    let (count, met) = meet(front, row, first);
+    if let Some(last) = met {
+        search.go_past(row.part(), last);
+    }
+    count
+}
+
 /// Moves a search over the trials of a row that are misfits, where each is the next trial in its turn. Returns how many were.
 fn pass_misfits<A: Allocator + Copy>(
     search: &mut Search,
@@ -105,11 +124,54 @@ fn pass_misfits<A: Allocator + Copy>(
     let Some(mut front) = front_of(part, search.label(), program, plans, store) else {
         return 0;
     };
-    let (count, met) = meet(&mut front, row, first);
-    if let Some(last) = met {
-        search.go_past(part, last);
+    pass_met(search, &mut front, row, first)
+}
+
+/// Moves a search that is just after the part of a row over its trials, which are misfits, where each is the next trial in its
+/// turn. Returns how many were.
+fn pass_behind<A: Allocator + Copy>(
+    search: &mut Search,
+    row: &Row<A>,
+    program: &Program<A>,
+    plans: &Plans<A>,
+    store: &Store<A>,
+) -> usize
+    requires plans { ArePlans program.now plans.now }
+    requires place { search.old.place ≡ just_after (position row.now.part) }
+    requires stands { IsTrialOf program.now plans.now store.now.entries row.now.part }
+    ensures label { search.new.label ≡ search.old.label }
+    ensures reports { Reports (older program.now plans.now store.now.entries search.old.label) search.old.place (map misfit (trials_of row.now)) result search.new.place }
+{
+    let Some(mut front) = front_of(row.part(), search.label(), program, plans, store) else {
+        return 0;
+    };
+    let Some(first) = front.next(0) else {
+        return 0;
+    };
+    pass_met(search, &mut front, row, first)
+}
+
+/// Moves a search over a part, and then over misfits that begin with it, where each is the next trial in its turn. Returns how
+/// many were.
+fn pass_branch<A: Allocator + Copy>(
+    search: &mut Search,
+    row: &Row<A>,
+    program: &Program<A>,
+    plans: &Plans<A>,
+    store: &Store<A>,
+) -> usize
+    requires { ArePlans program.now plans.now }
+    ensures label { search.new.label ≡ search.old.label }
+    ensures reports { Reports (older program.now plans.now store.now.entries search.old.label) search.old.place (judged_part row.now.part ∷ map misfit (trials_of row.now)) result search.new.place }
+{
+    let part = row.part();
+    if search.is_next(part, program, plans, store) != Some(true) {
+        return pass_misfits(search, row, program, plans, store);
     }
-    count
+    // For the proof: a branch's trials can be counted.
+    let _count = row.count_with_part();
+    search.advance_by(part, Verdict::Part);
+    pass_behind(search, row, program, plans, store) + 1
 }
 
 /// Whether a program's rule of a number is this one.
@@ -242,9 +304,10 @@ fn pass_some<A: Allocator + Copy>(
 {
     match some {
         Others::One(one) => pass_one(search, one.trial(), one.verdict(), program, plans, store),
-        Others::Misfits(misfits) => match misfits.trials() {
-            Trials::One(one) => pass_one(search, one, Verdict::Misfit, program, plans, store),
+        Others::Several(several) => match several.trials() {
+            Trials::One(one) => pass_one(search, one, Verdict::Part, program, plans, store),
             Trials::Row(row) => pass_misfits(search, row, program, plans, store),
+            Trials::Branch(row) => pass_branch(search, row, program, plans, store),
             Trials::Column(column) => pass_alone(search, column, program, plans, store),
         },
     }

@@ -1,14 +1,14 @@
 //! Trials that differ in their last label.
 ghost use Rattle.std.specs.Prelude.{◌≡◌, ◌<◌, length, map, IfOk};
 ghost use Rattle.chr_search.specs.Placed.{placed_as};
-ghost use Rattle.chr_sheet.specs.Rows.{IsRow, IsSplitAt, trials_before, trials_of};
+ghost use Rattle.chr_sheet.specs.Rows.{branch_trials, IsRow, IsCutAt};
 
 use chr_search::{Placed, Trial};
 use std::alloc::{AllocError, Allocator};
 use std::marker::Model;
 
-/// A trial that one head is left of, and labels for that head, one at least. Each of them makes a trial, and contracts see
-/// these.
+/// A part that one head is left of, and labels for that head, one at least. Each of them makes a trial that begins with the
+/// part.
 #[derive(Drop)]
 pub struct Row<A: Allocator> {
     part: Trial<A>,
@@ -34,7 +34,7 @@ impl<A: Allocator> Model for Row<A> {
 }
 
 impl<A: Allocator + Copy> Row<A> {
-    /// The row of a trial and labels.
+    /// The row of a part and labels.
     pub(crate) fn new(part: Trial<A>, lasts: Vec<Placed<A>, A>) -> Row<A>
         requires { IsRow (record { part = part; lasts = map placed_as lasts.items }) }
         ensures { result ≡ record { part = part; lasts = map placed_as lasts.items } }
@@ -42,7 +42,7 @@ impl<A: Allocator + Copy> Row<A> {
         Row { part, lasts }
     }
 
-    /// The trial that all begin with.
+    /// The part that all begin with.
     pub fn part(&self) -> &Trial<A>
         ensures part { result.now ≡ self.now.part }
         ensures row { IsRow self.now }
@@ -58,24 +58,35 @@ impl<A: Allocator + Copy> Row<A> {
         &self.lasts
     }
 
-    /// The trials before one of them, where there are any, and that one. An `Err` is E01.
-    pub(crate) fn split_at(
+    /// How many trials a branch of it has.
+    pub(crate) fn count_with_part(&self) -> usize
+        ensures { result ≡ length (branch_trials self.now) }
+    {
+        self.lasts().len() + 1
+    }
+
+    /// The part that all begin with, alone.
+    pub(crate) fn into_part(self) -> Trial<A>
+        ensures { result ≡ self.part }
+    {
+        self.part
+    }
+
+    /// The part that all begin with, the labels before one of them, and the trial of that one. An `Err` is E01.
+    pub(crate) fn cut(
         self,
         alloc: A,
         index: usize,
-    ) -> Result<(Option<Row<A>>, Trial<A>), AllocError>
+    ) -> Result<(Trial<A>, Vec<Placed<A>, A>, Trial<A>), AllocError>
         requires { index < length self.lasts }
-        ensures { IfOk result (λ made. IsSplitAt (trials_of self) index (trials_before trials_of made.0) made.1) }
+        ensures { IfOk result (λ made. IsCutAt self index made.0 (map placed_as made.1.items) made.2) }
     {
         let Row { part, mut lasts } = self;
         lasts.truncate(index + 1);
         let Some(last) = lasts.pop() else {
             unreachable!();
         };
-        if index == 0 {
-            return Ok((None, part.lengthened(last)?));
-        }
         let trial = part.copy(alloc)?.lengthened(last)?;
-        Ok((Some(Row::new(part, lasts)), trial))
+        Ok((part, lasts, trial))
     }
 }

@@ -1,7 +1,9 @@
 //! Trials that come one after another.
 ghost use Rattle.std.specs.Prelude.{◌≡◌, ◌<◌, ◌≤◌, length, Some, IfOk, slice_get};
-ghost use Rattle.chr_sheet.specs.Kept.{trials_at};
-ghost use Rattle.chr_sheet.specs.Rows.{IsSplitAt, trials_before};
+ghost use Rattle.chr_sheet.specs.declared.trials.Trials.TheVariants as some;
+ghost use Rattle.chr_sheet.specs.Columns.{column_trials};
+ghost use Rattle.chr_sheet.specs.Kept.{trials_at, IsKeptBefore};
+ghost use Rattle.chr_sheet.specs.Rows.{branch_trials};
 
 use crate::column::Column;
 use crate::row::Row;
@@ -15,8 +17,61 @@ pub enum Trials<A: Allocator> {
     One(Trial<A>),
     /// Several that differ in their last label.
     Row(Row<A>),
+    /// A part, and then those that differ in their last label and begin with it.
+    Branch(Row<A>),
     /// Several of the active label alone, at rules of one head.
     Column(Column<A>),
+}
+
+/// What is kept of a row before one of its trials, where there are any, and that one. An `Err` is E01.
+fn split_row<A: Allocator + Copy>(
+    alloc: A,
+    row: Row<A>,
+    index: usize,
+) -> Result<(Option<Trials<A>>, Trial<A>), AllocError>
+    requires { index < length row.lasts }
+    ensures { IfOk result (λ made. IsKeptBefore (some.Row row) index made.0 made.1) }
+{
+    let (part, before, trial) = row.cut(alloc, index)?;
+    if before.is_empty() {
+        return Ok((None, trial));
+    }
+    Ok((Some(Trials::Row(Row::new(part, before))), trial))
+}
+
+/// What is kept of a branch before one of its trials, where there are any, and that one. An `Err` is E01.
+fn split_branch<A: Allocator + Copy>(
+    alloc: A,
+    row: Row<A>,
+    index: usize,
+) -> Result<(Option<Trials<A>>, Trial<A>), AllocError>
+    requires { index < length (branch_trials row) }
+    ensures { IfOk result (λ made. IsKeptBefore (some.Branch row) index made.0 made.1) }
+{
+    if index == 0 {
+        return Ok((None, row.into_part()));
+    }
+    let (part, before, trial) = row.cut(alloc, index - 1)?;
+    if before.is_empty() {
+        return Ok((Some(Trials::One(part)), trial));
+    }
+    Ok((Some(Trials::Branch(Row::new(part, before))), trial))
+}
+
+/// What is kept of a column before one of its trials, where there are any, and that one. An `Err` is E01.
+fn split_column<A: Allocator + Copy>(
+    alloc: A,
+    column: Column<A>,
+    index: usize,
+) -> Result<(Option<Trials<A>>, Trial<A>), AllocError>
+    requires { index < length (column_trials column) }
+    ensures { IfOk result (λ made. IsKeptBefore (some.Column column) index made.0 made.1) }
+{
+    let (before, trial) = column.split_at(alloc, index)?;
+    match before {
+        None => Ok((None, trial)),
+        Some(before) => Ok((Some(Trials::Column(before)), trial)),
+    }
 }
 
 impl<A: Allocator + Copy> Trials<A> {
@@ -28,6 +83,7 @@ impl<A: Allocator + Copy> Trials<A> {
         match self {
             Trials::One(_) => 1,
             Trials::Row(row) => row.lasts().len(),
+            Trials::Branch(row) => row.count_with_part(),
             Trials::Column(column) => column.more().len() + 1,
         }
     }
@@ -38,6 +94,7 @@ impl<A: Allocator + Copy> Trials<A> {
     {
         match self {
             Trials::One(trial) => trial.copy(alloc),
+            Trials::Branch(row) => row.part().copy(alloc),
             Trials::Column(column) => column.first().copy(alloc),
             Trials::Row(row) => row
                 .part()
@@ -46,25 +103,20 @@ impl<A: Allocator + Copy> Trials<A> {
         }
     }
 
-    /// The trials before one of them, where there are any, and that one. An `Err` is E01.
+    /// What is kept of them before one of them, where there are any, and that one. An `Err` is E01.
     pub(crate) fn split_at(
         self,
         alloc: A,
         index: usize,
     ) -> Result<(Option<Trials<A>>, Trial<A>), AllocError>
         requires { index < length (trials_at self) }
-        ensures { IfOk result (λ made. IsSplitAt (trials_at self) index (trials_before trials_at made.0) made.1) }
+        ensures { IfOk result (λ made. IsKeptBefore self index made.0 made.1) }
     {
         match self {
             Trials::One(trial) => Ok((None, trial)),
-            Trials::Row(row) => {
-                let (before, trial) = row.split_at(alloc, index)?;
-                Ok((before.map(|row| Trials::Row(row)), trial))
-            }
-            Trials::Column(column) => {
-                let (before, trial) = column.split_at(alloc, index)?;
-                Ok((before.map(|column| Trials::Column(column)), trial))
-            }
+            Trials::Row(row) => split_row(alloc, row, index),
+            Trials::Branch(row) => split_branch(alloc, row, index),
+            Trials::Column(column) => split_column(alloc, column, index),
         }
     }
 }

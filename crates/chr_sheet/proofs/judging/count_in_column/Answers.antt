@@ -1,4 +1,4 @@
-use Rattle.std.proofs.Common.{◌≡◌, ℕ, ◌+◌, length, subst, refl, sym, ap, ◌∙◌, arith}
+use Rattle.std.proofs.Common.{◌≡◌, ℕ, ◌+◌, length, subst, sym, ap, ◌∙◌, arith}
 use Rattle.chr_rule.specs.Rules.{Simpagation, heads_of}
 use Rattle.chr_guard.proofs.Steps.{all_more}
 use Rattle.chr_search.specs.declared.judged.Verdict.TheVariants.{Misfit}
@@ -7,11 +7,11 @@ use Rattle.chr_search.specs.Judged.{IsVerdict}
 use Rattle.chr_search.specs.Placed.{placed_as}
 use Rattle.chr_sheet.specs.Columns.{Column, at_head, head_of, column_trials}
 use Rattle.chr_sheet.proofs.Columns.{only_read}
-use Rattle.chr_sheet.specs.Rows.{MustBeWhole}
 use Rattle.chr_sheet.proofs.InOrder.{must_be}
-use Rattle.chr_sheet.proofs.InRows.{told_there, none_there}
-use Rattle.chr_sheet.proofs.InColumns.{trials_count, trial_there, other_trial, first_heads, other_heads, other_full}
+use Rattle.chr_sheet.proofs.InRows.{taken_up_to, one_up_to}
+use Rattle.chr_sheet.proofs.InColumns.{IsTold, trials_count, other_trial, first_told, other_told}
 use Rattle.chr_sheet.proofs.judging.count_in_column.Goals as goal
+use Rattle.chr_sheet.proofs.judging.count_in_column.Goals.{After-is_misfit_alone, After-is_misfit_alone-in-loop-i}
 
 pub is_misfit_alone-requires-in-loop-i : goal.is_misfit_alone-requires-in-loop-i
 is_misfit_alone-requires-in-loop-i g c =
@@ -19,47 +19,49 @@ is_misfit_alone-requires-in-loop-i g c =
     let is = other_trial head_of k c.more-other-items.result.now c.loop-i.i c.other-item.result c.first-first.ensures.column c.loop-i.invariant.more c.loop-i-test.true c.other-item.is in
     (omega arith, subst (λ (r : Simpagation ℕ). length (heads_of r) ≡ 1) (sym c.deref.ensures) is.full)
 
-pub returns-then-not-is_misfit_alone-clause-next : goal.returns-then-not-is_misfit_alone-clause-next
-returns-then-not-is_misfit_alone-clause-next g c =
+-- what is told of the first trial, and of another
+told_first : (g : _) (c : After-is_misfit_alone g) → IsTold c.args.column.now 0 c.args.column.now.first c.is_misfit_alone.result
+told_first g c =
     let k : Column = c.args.column.now in
     let w = c.first-first.ensures.column in
     let one = only_read placed_as c.placed.result.now c.index-placed-0.result k.first.placed (c.placed.ensures.placed ∙ ap (λ (t : Trial). t.placed) c.first-first.ensures.first) w.alone c.index-placed-0.is in
-    let rule = sym (c.rule.ensures.rule ∙ ap (λ (t : Trial). t.rule) c.first-first.ensures.first) in
-    let told = c.if-not-is_misfit_alone.ensures k.first rule (first_heads k.first (placed_as c.index-placed-0.result) one) w.formed.0 in
-    must_be k.first (w.alone ∙ sym w.full.0) (λ m. let yes = told.1 m in absurd (cc))
+    first_told k (placed_as c.index-placed-0.result) c.rule.result.now c.is_misfit_alone.result w one (c.rule.ensures.rule ∙ ap (λ (t : Trial). t.rule) c.first-first.ensures.first) c.is_misfit_alone.ensures
 
-pub returns-then-not-is_misfit_alone-2-clause-next : goal.returns-then-not-is_misfit_alone-2-clause-next
-returns-then-not-is_misfit_alone-2-clause-next g c =
+told_other : (g : _) (c : After-is_misfit_alone-in-loop-i g) → IsTold c.args.column.now (c.loop-i.i + 1) (at_head c.args.column.now.first (head_of c.other-item.result)) c.is_misfit_alone-in-loop-i.result
+told_other g c =
     let k : Column = c.args.column.now in
-    let xs = c.more-other-items.result.now in
-    let x = c.other-item.result in
-    let t : Trial = at_head k.first (head_of x) in
-    let count : length (column_trials k) ≡ length xs + 1 = trials_count head_of k xs c.loop-i.invariant.more in
-    let is = other_trial head_of k xs c.loop-i.i x c.first-first.ensures.column c.loop-i.invariant.more c.loop-i-test.true c.other-item.is in
-    let there = trial_there head_of k xs c.loop-i.i x c.loop-i.invariant.more c.loop-i-test.true c.other-item.is in
-    let one = only_read placed_as c.placed.result.now c.index-placed-0.result k.first.placed (c.placed.ensures.placed ∙ ap (λ (t : Trial). t.placed) c.first-first.ensures.first) c.first-first.ensures.column.alone c.index-placed-0.is in
-    let told = c.if-not-is_misfit_alone-2.ensures t (sym c.deref.ensures) (other_heads k.first (placed_as c.index-placed-0.result) (head_of x) one) is.formed in
-    told_there (column_trials k) (c.loop-i.i + 1) t MustBeWhole (omega arith) there (must_be t (other_full k.first (head_of x) c.first-first.ensures.column.alone is.full) (λ m. let yes = told.1 m in absurd (cc)))
+    let w = c.first-first.ensures.column in
+    let one = only_read placed_as c.placed.result.now c.index-placed-0.result k.first.placed (c.placed.ensures.placed ∙ ap (λ (t : Trial). t.placed) c.first-first.ensures.first) w.alone c.index-placed-0.is in
+    other_told head_of k c.more-other-items.result.now c.loop-i.i c.other-item.result (placed_as c.index-placed-0.result) c.deref.result.now c.is_misfit_alone-in-loop-i.result w c.loop-i.invariant.more c.loop-i-test.true c.other-item.is one c.deref.ensures c.is_misfit_alone-in-loop-i.ensures
+
+pub returns-then-not-is_misfit_alone : goal.returns-then-not-is_misfit_alone
+returns-then-not-is_misfit_alone g c =
+    let k : Column = c.args.column.now in
+    let is = told_first g (goal.at.returns-then-not-is_misfit_alone g c).After-is_misfit_alone in
+    let no = c.if-not-is_misfit_alone.true in
+    one_up_to (column_trials k) 0 k.first is.within is.there tt (must_be k.first is.full (λ m. let yes = is.means.1 m in absurd (cc)))
+
+pub returns-then-not-is_misfit_alone-2 : goal.returns-then-not-is_misfit_alone-2
+returns-then-not-is_misfit_alone-2 g c =
+    let k : Column = c.args.column.now in
+    let t : Trial = at_head k.first (head_of c.other-item.result) in
+    let is = told_other g (goal.at.returns-then-not-is_misfit_alone-2 g c).After-is_misfit_alone-in-loop-i in
+    let no = c.if-not-is_misfit_alone-2.true in
+    one_up_to (column_trials k) (c.loop-i.i + 1) t is.within is.there c.loop-i.invariant.misfits (must_be t is.full (λ m. let yes = is.means.1 m in absurd (cc)))
 
 pub loop-i-preserved : goal.loop-i-preserved
 loop-i-preserved g c =
     let k : Column = c.args.column.now in
-    let xs = c.more-other-items.result.now in
-    let x = c.other-item.result in
-    let t : Trial = at_head k.first (head_of x) in
-    let count : length (column_trials k) ≡ length xs + 1 = trials_count head_of k xs c.loop-i.invariant.more in
-    let is = other_trial head_of k xs c.loop-i.i x c.first-first.ensures.column c.loop-i.invariant.more c.loop-i-test.true c.other-item.is in
-    let there = trial_there head_of k xs c.loop-i.i x c.loop-i.invariant.more c.loop-i-test.true c.other-item.is in
-    let one = only_read placed_as c.placed.result.now c.index-placed-0.result k.first.placed (c.placed.ensures.placed ∙ ap (λ (t : Trial). t.placed) c.first-first.ensures.first) c.first-first.ensures.column.alone c.index-placed-0.is in
-    let told = c.if-not-is_misfit_alone-2.ensures t (sym c.deref.ensures) (other_heads k.first (placed_as c.index-placed-0.result) (head_of x) one) is.formed in
+    let t : Trial = at_head k.first (head_of c.other-item.result) in
+    let is = told_other g (goal.at.loop-i-preserved g c).After-is_misfit_alone-in-loop-i in
     record {
       more = c.loop-i.invariant.more;
-      misfits = (all_more (λ t. IsVerdict t Misfit) (column_trials k) (c.loop-i.i + 1) t (omega arith) there).1 (c.loop-i.invariant.misfits, told.0 refl);
+      misfits = (all_more (λ t. IsVerdict t Misfit) (column_trials k) (c.loop-i.i + 1) t is.within is.there).1 (c.loop-i.invariant.misfits, is.means.0 c.if-not-is_misfit_alone-2.false);
     }
 
-pub returns-clause-next : goal.returns-clause-next
-returns-clause-next g c =
+pub returns : goal.returns
+returns g c =
     let k : Column = c.args.column.now in
     let xs = c.more.result.now in
-    let count : length (column_trials k) ≡ length xs + 1 = trials_count head_of k xs c.more.ensures.more in
-    none_there (column_trials k) (length xs + 1) MustBeWhole (omega arith)
+    let looked : length (column_trials k) ≡ length c.more-other-items.result.now + 1 = trials_count head_of k c.more-other-items.result.now c.loop-i.invariant.more in
+    taken_up_to (column_trials k) (c.loop-i.i + 1) (length xs + 1) (omega arith) (trials_count head_of k xs c.more.ensures.more) c.loop-i.invariant.misfits

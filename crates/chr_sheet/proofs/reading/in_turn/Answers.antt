@@ -1,4 +1,4 @@
-use Rattle.std.proofs.Common.{◌≡◌, ◌≤◌, List, [], ◌∷◌, ◌++◌, map, length, refl, ap, subst, ◌∙◌, arith}
+use Rattle.std.proofs.Common.{◌≡◌, ◌≤◌, ◌+◌, List, [], ◌∷◌, ◌++◌, map, length, refl, ap, subst, ◌∙◌, arith}
 use Rattle.chr_search.specs.Placed.{placed_as}
 use Rattle.chr_search.specs.Trials.{older}
 use Rattle.chr_search.specs.Verdicts.{Placed, labels}
@@ -6,7 +6,7 @@ use Rattle.chr_search.specs.Fronts.{lengthened}
 use Rattle.chr_sheet.specs.Rows.{trials_of}
 use Rattle.chr_sheet.specs.Beside.{ComeNext}
 use Rattle.chr_sheet.proofs.Cutting.{trials_count}
-use Rattle.chr_sheet.proofs.NextBeside.{IsBegun, begun, small_end, IsMadeRow, row_made}
+use Rattle.chr_sheet.proofs.NextBeside.{IsBegun, begun, begins_others, small_end, IsMadeRow, row_made}
 use Rattle.chr_sheet.proofs.reading.in_turn.Goals as goal
 use Rattle.chr_sheet.proofs.reading.in_turn.Goals.{In_ok-push, In_ok-push_ends}
 
@@ -25,7 +25,7 @@ push_ends-requires g c =
     let at = (goal.at.push_ends-requires g c).In_ok-push in
     let b = parted g at in
     let count : length c.push.new.self.items ≡ 1 = ap length (one g at) in
-    (omega arith, ((s, part.number, part.head, labels part, c.split_last-part.result.1.label, b.front, b.least, small_end s c.args.store.now refl c.next_label-given.ensures.labelled part b.lacks), omega arith))
+    (omega arith, ((s, part.number, part.head, labels part, c.split_last-part.result.1.label + 1, b.end.front, b.end.least, small_end s c.args.store.now refl c.next_label-given.ensures.labelled part b.lacks), omega arith))
 
 -- those pushed after it, and the row of all
 pushed : (g : _) (c : In_ok-push_ends g) → (more : List Placed) × IsMadeRow (older c.args.program.now c.args.plans.now c.args.store.now.entries c.args.active) c.split_last-part.result.0 (placed_as c.split_last-part.result.1) more (map placed_as c.push_ends.new.lasts.items)
@@ -35,9 +35,9 @@ pushed g c =
     let last = c.split_last-part.result.1 in
     let at = (goal.at.new-requires g c).In_ok-push in
     let b = parted g at in
-    let ends = c.in_ok-push_ends.ensures.ends s part.number part.head (labels part) last.label b.front b.least in
+    let ends = c.in_ok-push_ends.ensures.ends s part.number part.head (labels part) (last.label + 1) b.end.front b.end.least in
     let all : map placed_as c.push_ends.new.lasts.items ≡ placed_as last ∷ ends.0 = ends.1 ∙ ap (λ xs. map placed_as xs ++ ends.0) (one g at) in
-    (ends.0, row_made s c.args.store.now refl c.next_label-given.ensures.labelled part b.lacks (placed_as last) ends.0 (map placed_as c.push_ends.new.lasts.items) b.here b.trial_of all ends.2)
+    (ends.0, row_made s c.args.store.now refl c.next_label-given.ensures.labelled part b.lacks (begins_others s part c.in-Some.front b.end.front b.lacks.trial_of c.placed-placed.ensures.formed b.lacks.full) (placed_as last) ends.0 (map placed_as c.push_ends.new.lasts.items) b.here b.trial_of all ends.2)
 
 pub new-requires : goal.new-requires
 new-requires g c = (pushed g c).1.row

@@ -1,7 +1,7 @@
 use Rattle.std.proofs.Common.{◌≤◌, ◌∷◌, map, Some, sym, subst, arith}
 use Rattle.chr_search.specs.Fronts.{MayEnd}
 use Rattle.chr_search.specs.Placed.{placed_as}
-use Rattle.chr_sheet.proofs.Pushing.{ArePushed, one_pushed, still_few}
+use Rattle.chr_sheet.proofs.Pushing.{ArePushed, one_pushed, one_more}
 use Rattle.chr_sheet.proofs.reading.push_ends.Goals as goal
 use Rattle.chr_sheet.proofs.reading.push_ends.Goals.{In-Some}
 
@@ -32,15 +32,17 @@ next-next-requires g c =
 
 pub ends-preserved : goal.ends-preserved
 ends-preserved g c = record {
-  few = still_few c.ends.lasts.items c.push.new.self.items c.in_ok-place.field-0 c.args.most c.in_ok-push.ensures.items (omega arith);
-  pushed = λ s r h ls b f least.
-      let a = subst (ArePushed s r h ls b (map placed_as c.args.lasts.now.items) (map placed_as c.ends.lasts.items) c.ends.front) c.in-Some.is (c.ends.invariant.pushed s r h ls b f least) in
-      one_pushed placed_as s r h ls b (map placed_as c.args.lasts.now.items) c.ends.lasts.items c.push.new.self.items c.in_ok-place.field-0 c.ends.front c.next-next.new.self c.in-Some.label c.next-next.result
+  few = (let count = one_more c.ends.lasts.items c.push.new.self.items c.in_ok-place.field-0 c.in_ok-push.ensures.items in omega arith);
+  kept = (let count = one_more c.ends.lasts.items c.push.new.self.items c.in_ok-place.field-0 c.in_ok-push.ensures.items in omega arith);
+  some = (λ none. let count = one_more c.ends.lasts.items c.push.new.self.items c.in_ok-place.field-0 c.in_ok-push.ensures.items in omega arith);
+  pushed = λ s r h ls from f least.
+      let a = subst (ArePushed s r h ls from (map placed_as c.args.lasts.now.items) (map placed_as c.ends.lasts.items) c.ends.front) c.in-Some.is (c.ends.invariant.pushed s r h ls from f least) in
+      one_pushed placed_as s r h ls from (map placed_as c.args.lasts.now.items) c.ends.lasts.items c.push.new.self.items c.in_ok-place.field-0 c.ends.front c.next-next.new.self c.in-Some.label c.next-next.result
       a c.in_ok-push.ensures.items c.in_ok-place.ensures.0 (c.in_ok-place.ensures.1 s r h ls a.front) (c.next-next.ensures s r h ls a.front);
 }
 
 pub returns-after-ends-clause-ends : goal.returns-after-ends-clause-ends
-returns-after-ends-clause-ends g c = λ s r h ls l f least. let a = c.ends.invariant.pushed s r h ls l f least in (a.more, a.is, a.ends)
+returns-after-ends-clause-ends g c = λ s r h ls from f least. let a = c.ends.invariant.pushed s r h ls from f least in (a.more, a.is, a.ends)
 
 pub returns-in_default-clause-ends : goal.returns-in_default-clause-ends
-returns-in_default-clause-ends g c = λ s r h ls l f least. let a = c.ends.invariant.pushed s r h ls l f least in (a.more, a.is, a.ends)
+returns-in_default-clause-ends g c = λ s r h ls from f least. let a = c.ends.invariant.pushed s r h ls from f least in (a.more, a.is, a.ends)

@@ -1,4 +1,4 @@
-use Rattle.std.proofs.Common.{ℕ, ◌≤◌, ◌+◌, ◌-◌, List, ◌∷◌, length, map}
+use Rattle.std.proofs.Common.{◌≡◌, ℕ, ◌<◌, ◌≤◌, ◌-◌, List, ◌∷◌, length, map, None}
 use Rattle.chr_search.specs.Fronts.{MayEnd, IsFront}
 use Rattle.chr_search.specs.Placed.{placed_as}
 use Rattle.chr_search.specs.Tree.{LeastFrom}
@@ -9,7 +9,9 @@ use Rattle.chr_sheet.proofs.reading.push_ends.Given as goal
 abbrev pub invariant-ends : goal.invariant-ends
 invariant-ends g l = record {
   few : length l.lasts.items ≤ l.most;
-  pushed : (s : Space) (r h : ℕ) (ls : List ℕ) (b : ℕ) → IsFront s r h ls l.fn.front → LeastFrom (MayEnd s (r ∷ h ∷ ls)) (b + 1) l.fn.first → ArePushed s r h ls b (map placed_as l.fn.lasts.items) (map placed_as l.lasts.items) l.front l.next;
+  kept : length l.fn.lasts.items ≤ length l.lasts.items;
+  some : l.next ≡ None → length l.fn.lasts.items < length l.lasts.items;
+  pushed : (s : Space) (r h : ℕ) (ls : List ℕ) (from : ℕ) → IsFront s r h ls l.fn.front → LeastFrom (MayEnd s (r ∷ h ∷ ls)) from l.fn.first → ArePushed s r h ls from (map placed_as l.fn.lasts.items) (map placed_as l.lasts.items) l.front l.next;
 }
 
 abbrev pub decreases-ends : goal.decreases-ends

@@ -1,0 +1,41 @@
+use Rattle.std.proofs.Common.{◌≡◌, ◌≤◌, ◌-◌, ◌∷◌, [], ◌++◌, get_or, length, map, sym, ap, subst, ◌∙◌, arith}
+use Rattle.std.proofs.lemmas.List.{length-map, length_push}
+use Rattle.chr_plan.specs.Orders.{heads_of}
+use Rattle.chr_search.specs.Fronts.{lengthened}
+use Rattle.chr_search.specs.Placed.{placed_as}
+use Rattle.chr_search.specs.Positions.{past}
+use Rattle.chr_search.specs.Verdicts.{Trial, position}
+use Rattle.chr_search.proofs.Making.{map_twice}
+use Rattle.chr_sheet.specs.Beside.{last_of}
+use Rattle.chr_sheet.specs.Rows.{Row}
+use Rattle.chr_sheet.proofs.Cutting.{last_formed}
+use Rattle.chr_sheet.proofs.InRows.{label_low, part_few}
+use Rattle.chr_sheet.proofs.NextBeside.{last_read, longer_position}
+use Rattle.chr_sheet.proofs.reading.go_past_row.Goals as goal
+
+pub go_past-requires-clause-few : goal.go_past-requires-clause-few
+go_past-requires-clause-few g c = subst (λ t. length t.placed ≤ 5) (sym c.part.ensures.part) (part_few c.args.row.now c.part.ensures.row)
+
+pub go_past-requires-clause-last : goal.go_past-requires-clause-last
+go_past-requires-clause-last g c =
+    let r : Row = c.args.row.now in
+    let x = c.index-lasts-lasts.result in
+    subst (λ y. y.label ≤ 4294967295) c.index-lasts-lasts.is (label_low r.part (placed_as x) (last_formed placed_as r c.lasts-lasts.result.now x c.lasts-lasts.ensures.lasts c.part.ensures.row c.index-lasts-lasts.is))
+
+-- the last trial has the last of the labels
+pub returns-clause-place : goal.returns-clause-place
+returns-clause-place g c = λ t more e.
+    let r : Row = c.args.row.now in
+    let xs = c.lasts-lasts.result.now in
+    let x = c.index-lasts-lasts.result in
+    let some : 1 ≤ length r.lasts = c.part.ensures.row.some in
+    let count : length xs ≡ length r.lasts = sym (length-map xs placed_as) ∙ ap length c.lasts-lasts.ensures.lasts in
+    let trials : map (λ y. lengthened r.part (placed_as y)) xs ≡ t ∷ more = sym (map_twice placed_as (lengthened r.part) xs) ∙ ap (map (lengthened r.part)) c.lasts-lasts.ensures.lasts ∙ e in
+    let last : last_of t more ≡ lengthened r.part (placed_as x) = last_read (λ y. lengthened r.part (placed_as y)) xs (length xs - 1) x t more trials (omega arith) c.index-lasts-lasts.is in (
+      ap (λ q. q.place) c.go_past.ensures
+          ∙ ap (λ part. past (position part ++ (get_or xs (length xs - 1) x).label ∷ [])) c.part.ensures.part
+          ∙ ap (λ y. past (position r.part ++ y.label ∷ [])) (sym c.index-lasts-lasts.is)
+          ∙ ap past (sym (longer_position r.part (placed_as x)))
+          ∙ ap (λ u. past (position u)) (sym last),
+      subst (λ (u : Trial). length u.placed ≡ length (heads_of u.rule)) (sym last) (length_push r.part.placed (placed_as x) ∙ c.part.ensures.row.full),
+    )

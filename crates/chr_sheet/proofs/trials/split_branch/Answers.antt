@@ -1,0 +1,46 @@
+use Rattle.std.proofs.Common.{◌≡◌, ◌≤◌, ◌∷◌, [], Some, map, length, take, slice_get, sym, ap, ◌∙◌, arith}
+use Rattle.std.proofs.lemmas.Bool.Decides.{nat_tests}
+use Rattle.std.proofs.lemmas.List.{length-map}
+use Rattle.chr_search.specs.Fronts.{lengthened}
+use Rattle.chr_search.specs.Placed.{placed_as}
+use Rattle.chr_sheet.specs.Rows.{Row, branch_trials, judged_part, misfit, trials_of}
+use Rattle.chr_sheet.proofs.Cutting.{judged_branch, branch_there, none_before}
+use Rattle.chr_sheet.proofs.trials.split_branch.Goals as goal
+
+pub returns-then-index-eq0 : goal.returns-then-index-eq0
+returns-then-index-eq0 g c =
+    let r : Row = c.args.row in (
+      ap (λ n. take n (judged_part r.part ∷ map misfit (trials_of r))) (sym c.if-index-eq0.true),
+      ap (slice_get (branch_trials r)) c.if-index-eq0.true ∙ ap (λ t. Some t) (sym c.into_part.ensures),
+    )
+
+pub cut-requires : goal.cut-requires
+cut-requires g c =
+    let r : Row = c.args.row in
+    let count : length (trials_of r) ≡ length r.lasts = length-map r.lasts (lengthened r.part) in
+    omega arith
+
+pub returns-then-is_empty : goal.returns-then-is_empty
+returns-then-is_empty g c =
+    let r : Row = c.args.row in
+    let k = c.in_ok-part.ensures in
+    let empty : c.in_ok-part.before.len ≡ 0 = grind (arith, nat_tests, c.is_empty.ensures, c.if-is_empty.true) in
+    let none : length c.in_ok-part.before.items ≡ 0 = omega (arith, c.in_ok-part.before.ok.0) in (
+      ap (λ t. judged_part t ∷ []) k.part_is ∙ judged_branch r [] c.args.index (omega arith) (none_before placed_as c.in_ok-part.part c.in_ok-part.before.items none ∙ k.split.0),
+      branch_there r c.args.index c.in_ok-part.trial (omega arith) k.split.1,
+    )
+
+pub new-requires : goal.new-requires
+new-requires g c =
+    let some : 1 ≤ c.in_ok-part.before.len = grind (arith, nat_tests, c.is_empty.ensures, c.if-is_empty.false) in
+    c.in_ok-part.ensures.row (omega (arith, c.in_ok-part.before.ok.0, length-map c.in_ok-part.before.items placed_as))
+
+pub returns : goal.returns
+returns g c =
+    let r : Row = c.args.row in
+    let k = c.in_ok-part.ensures in (
+      ap (λ (q : Row). judged_part q.part ∷ map misfit (trials_of q)) c.new.ensures
+          ∙ ap (λ t. judged_part t ∷ map misfit (trials_of (record { part = c.in_ok-part.part; lasts = map placed_as c.in_ok-part.before.items }))) k.part_is
+          ∙ judged_branch r _ c.args.index (omega arith) k.split.0,
+      branch_there r c.args.index c.in_ok-part.trial (omega arith) k.split.1,
+    )
