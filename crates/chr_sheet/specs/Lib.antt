@@ -2,6 +2,7 @@ pub mod Rows
 pub mod Columns
 pub mod Alone
 pub mod Kept
+pub mod Settings
 pub mod Others
 pub mod Sheets
 pub mod Beside

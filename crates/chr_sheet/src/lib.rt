@@ -20,6 +20,7 @@
 //! - `Columns`: columns of trials.
 //! - `Kept`: which trials are kept.
 //! - `Others`: which judgements are kept.
+//! - `Settings`: what a search looks through.
 //! - `Sheets`: what is read, judged and reported.
 #![tactic(auto)]
 
@@ -30,6 +31,7 @@ mod others;
 mod reading;
 mod reporting;
 mod row;
+mod setting;
 mod trials;
 
 pub use column::{Column, OneHead};

@@ -12,10 +12,12 @@ ghost use Rattle.chr_sheet.specs.Beside.{HasEnd, HasBeside, AreEnds, AreInTurn, 
 ghost use Rattle.chr_sheet.specs.Columns.{head_of, AreNextHeads};
 ghost use Rattle.chr_sheet.specs.Kept.{trials_at, trials_in};
 ghost use Rattle.chr_sheet.specs.Rows.{trials_of};
+ghost use Rattle.chr_sheet.specs.Settings.{space_in, HasPlans};
 ghost use Rattle.chr_sheet.specs.Sheets.{AreNext, AreNextTogether, IsNextTrial};
 
 use crate::column::{Column, OneHead};
 use crate::row::Row;
+use crate::setting::Setting;
 use crate::trials::Trials;
 use chr_plan::Plans;
 use chr_rule::Program;
@@ -79,17 +81,23 @@ fn first_end<'s, A: Allocator + Copy>(
     labels: &[Placed<A>],
     from: Label,
     active: Label,
-    program: &'s Program<A>,
-    plans: &'s Plans<A>,
-    store: &'s Store<A>,
+    setting: &Setting<'s, A>,
 ) -> Option<(Front<'s, A>, Label)>
-    requires plans { ArePlans program.now plans.now }
+    requires plans { HasPlans setting.now }
     requires some { 1 ≤ length labels.now }
     requires few { length labels.now ≤ 5 }
-    ensures { let s = older program.now plans.now store.now.entries active in MatchOption result ⊤ (λ found. HasEnd s trial.now.number trial.now.head (map (λ p. p.label) labels.now) from found.0 found.1) }
+    ensures { let s = space_in setting.now active in MatchOption result ⊤ (λ found. HasEnd s trial.now.number trial.now.head (map (λ p. p.label) labels.now) from found.0 found.1) }
 {
     let (number, head) = (trial.number(), trial.head());
-    let mut front = Front::of(program, plans, store, active, number, head, labels)?;
+    let mut front = Front::of(
+        setting.program,
+        setting.plans,
+        setting.store,
+        active,
+        number,
+        head,
+        labels,
+    )?;
     let first = front.next(from)?;
     Some((front, first))
 }
@@ -99,19 +107,17 @@ fn first_end<'s, A: Allocator + Copy>(
 fn second_beside<'s, A: Allocator + Copy>(
     first: &Trial<A>,
     active: Label,
-    program: &'s Program<A>,
-    plans: &'s Plans<A>,
-    store: &'s Store<A>,
+    setting: &Setting<'s, A>,
 ) -> Option<(Front<'s, A>, Label)>
-    requires { ArePlans program.now plans.now }
-    ensures { MatchOption result ⊤ (λ found. HasBeside (older program.now plans.now store.now.entries active) first.now found.0 found.1) }
+    requires { HasPlans setting.now }
+    ensures { MatchOption result ⊤ (λ found. HasBeside (space_in setting.now active) first.now found.0 found.1) }
 {
     let placed = first.placed();
     let (last, before) = placed.split_last()?;
     if before.is_empty() || placed.len() != first.rule().heads() {
         return None;
     }
-    first_end(first, before, last.label + 1, active, program, plans, store)
+    first_end(first, before, last.label + 1, active, setting)
 }
 
 /// The heads of rules of one head at which an atom of a predicate is tried next after a rule and a head, one after another, at
@@ -158,22 +164,20 @@ fn in_column<A: Allocator + Copy>(
     active: Label,
     first: Trial<A>,
     most: usize,
-    program: &Program<A>,
-    plans: &Plans<A>,
-    store: &Store<A>,
+    setting: &Setting<'_, A>,
 ) -> Result<Trials<A>, AllocError>
-    requires plans { ArePlans program.now plans.now }
+    requires plans { HasPlans setting.now }
     requires some { 1 ≤ most }
     requires full { length (heads_of first.rule) ≡ 1 }
-    requires first { let s = older program.now plans.now store.now.entries active in IsTrial s (position first) × IsTrialOf s.rules s.plans s.store first }
-    ensures { IfOk result (λ trials. AreInTurn (older program.now plans.now store.now.entries active) most first (trials_at trials)) }
+    requires first { let s = space_in setting.now active in IsTrial s (position first) × IsTrialOf s.rules s.plans s.store first }
+    ensures { IfOk result (λ trials. AreInTurn (space_in setting.now active) most first (trials_at trials)) }
 {
     // For the proof: the rules are valid, and the labels of a store are at most the greatest.
-    let _rules = program.rules();
-    let _given = store.next_label();
+    let _rules = setting.program.rules();
+    let _given = setting.store.next_label();
     let after = (first.number(), first.head());
     let pred = first.placed()[0].atom.pred();
-    let more = next_heads(alloc, program, pred, after, most - 1)?;
+    let more = next_heads(alloc, setting.program, pred, after, most - 1)?;
     if more.is_empty() {
         return Ok(Trials::One(first));
     }
@@ -186,20 +190,18 @@ fn in_branch<A: Allocator + Copy>(
     active: Label,
     part: Trial<A>,
     most: usize,
-    program: &Program<A>,
-    plans: &Plans<A>,
-    store: &Store<A>,
+    setting: &Setting<'_, A>,
 ) -> Result<Trials<A>, AllocError>
-    requires plans { ArePlans program.now plans.now }
+    requires plans { HasPlans setting.now }
     requires some { 2 ≤ most }
     requires left { length part.placed + 1 ≡ length (heads_of part.rule) }
-    requires first { let s = older program.now plans.now store.now.entries active in IsTrial s (position part) × IsTrialOf s.rules s.plans s.store part }
-    ensures { IfOk result (λ trials. AreInTurn (older program.now plans.now store.now.entries active) most part (trials_at trials)) }
+    requires first { let s = space_in setting.now active in IsTrial s (position part) × IsTrialOf s.rules s.plans s.store part }
+    ensures { IfOk result (λ trials. AreInTurn (space_in setting.now active) most part (trials_at trials)) }
 {
     // For the proof: the rules are valid, and the labels of a store are at most the greatest.
-    let _rules = program.rules();
-    let _given = store.next_label();
-    let found = first_end(&part, part.placed(), 0, active, program, plans, store);
+    let _rules = setting.program.rules();
+    let _given = setting.store.next_label();
+    let found = first_end(&part, part.placed(), 0, active, setting);
     let Some((mut front, first)) = found else {
         return Ok(Trials::One(part));
     };
@@ -217,31 +219,29 @@ fn in_turn<A: Allocator + Copy>(
     active: Label,
     first: Trial<A>,
     most: usize,
-    program: &Program<A>,
-    plans: &Plans<A>,
-    store: &Store<A>,
+    setting: &Setting<'_, A>,
 ) -> Result<Trials<A>, AllocError>
-    requires plans { ArePlans program.now plans.now }
+    requires plans { HasPlans setting.now }
     requires some { 1 ≤ most }
-    requires first { let s = older program.now plans.now store.now.entries active in IsTrial s (position first) × IsTrialOf s.rules s.plans s.store first }
-    ensures { IfOk result (λ trials. AreInTurn (older program.now plans.now store.now.entries active) most first (trials_at trials)) }
+    requires first { let s = space_in setting.now active in IsTrial s (position first) × IsTrialOf s.rules s.plans s.store first }
+    ensures { IfOk result (λ trials. AreInTurn (space_in setting.now active) most first (trials_at trials)) }
 {
     if most == 1 {
         return Ok(Trials::One(first));
     }
     let heads = first.rule().heads();
     if heads == 1 {
-        return in_column(alloc, active, first, most, program, plans, store);
+        return in_column(alloc, active, first, most, setting);
     }
     if first.placed().len() + 1 == heads {
-        return in_branch(alloc, active, first, most, program, plans, store);
+        return in_branch(alloc, active, first, most, setting);
     }
-    let Some((mut front, second)) = second_beside(&first, active, program, plans, store) else {
+    let Some((mut front, second)) = second_beside(&first, active, setting) else {
         return Ok(Trials::One(first));
     };
     // For the proof: the rules are valid, and the labels of a store are at most the greatest.
-    let _rules = program.rules();
-    let _given = store.next_label();
+    let _rules = setting.program.rules();
+    let _given = setting.store.next_label();
     let (part, last) = first.split_last();
     // For the proof: what holds of every trial.
     let _placed = part.placed();
@@ -262,22 +262,16 @@ fn go_past_row<A: Allocator + Copy>(search: &mut Search, row: &Row<A>)
 }
 
 /// Moves a search to those that come after the last of these trials.
-fn go_behind<A: Allocator + Copy>(
-    search: &mut Search,
-    trials: &Trials<A>,
-    program: &Program<A>,
-    plans: &Plans<A>,
-    store: &Store<A>,
-)
-    requires plans { ArePlans program.now plans.now }
+fn go_behind<A: Allocator + Copy>(search: &mut Search, trials: &Trials<A>, setting: &Setting<'_, A>)
+    requires plans { HasPlans setting.now }
     requires low { search.old.label ≤ 4294967295 }
     ensures label { search.new.label ≡ search.old.label }
-    ensures place { let s = older program.now plans.now store.now.entries search.old.label in (t : TrialView) (more : List TrialView) → trials_at trials.now ≡ t ∷ more → IsTrial s (position (last_of t more)) → IsTrialOf s.rules s.plans s.store (last_of t more) → ComeAfter s search.new.place (position (last_of t more)) }
+    ensures place { let s = space_in setting.now search.old.label in (t : TrialView) (more : List TrialView) → trials_at trials.now ≡ t ∷ more → IsTrial s (position (last_of t more)) → IsTrialOf s.rules s.plans s.store (last_of t more) → ComeAfter s search.new.place (position (last_of t more)) }
 {
     // For the proof: the rules are valid.
-    let _rules = program.rules();
+    let _rules = setting.program.rules();
     match trials {
-        Trials::One(trial) => search.go_after(trial, program, plans, store),
+        Trials::One(trial) => search.go_after(trial, setting.program, setting.plans, setting.store),
         Trials::Column(column) => {
             let (number, head) = column.last();
             search.go_past_alone(number, head);
@@ -294,20 +288,18 @@ fn with_those_beside<A: Allocator + Copy>(
     search: &mut Search,
     first: Trial<A>,
     most: usize,
-    program: &Program<A>,
-    plans: &Plans<A>,
-    store: &Store<A>,
+    setting: &Setting<'_, A>,
 ) -> Result<Trials<A>, AllocError>
-    requires plans { ArePlans program.now plans.now }
+    requires plans { HasPlans setting.now }
     requires some { 1 ≤ most }
-    requires first { IsNextTrial (older program.now plans.now store.now.entries search.old.label) search.old.place first }
-    ensures trials { IfOk result (λ trials. AreNextTogether (older program.now plans.now store.now.entries search.old.label) most search.old.place (trials_at trials) search.new.place) }
+    requires first { IsNextTrial (space_in setting.now search.old.label) search.old.place first }
+    ensures trials { IfOk result (λ trials. AreNextTogether (space_in setting.now search.old.label) most search.old.place (trials_at trials) search.new.place) }
     ensures label { search.new.label ≡ search.old.label }
 {
     // For the proof: the labels of a trial are at most the greatest.
     let _placed = first.placed();
-    let trials = in_turn(alloc, search.label(), first, most, program, plans, store)?;
-    go_behind(search, &trials, program, plans, store);
+    let trials = in_turn(alloc, search.label(), first, most, setting)?;
+    go_behind(search, &trials, setting);
     Ok(trials)
 }
 
@@ -324,6 +316,11 @@ pub fn read<A: Allocator + Copy>(
     requires { ArePlans program.now plans.now }
     ensures { IfOk result (λ sheet. AreNext (older program.now plans.now store.now.entries search.now.label) most search.now.place (trials_in sheet.items)) }
 {
+    let setting = Setting {
+        program,
+        plans,
+        store,
+    };
     let mut sheet = Vec::new(alloc);
     let mut ahead = search.copy();
     let mut left = most;
@@ -331,7 +328,7 @@ pub fn read<A: Allocator + Copy>(
         let Ask::Trial(first) = ahead.candidate(alloc, program, plans, store)? else {
             break;
         };
-        let trials = with_those_beside(alloc, &mut ahead, first, left, program, plans, store)?;
+        let trials = with_those_beside(alloc, &mut ahead, first, left, &setting)?;
         left -= trials.len();
         push_with_room(&mut sheet, trials, most.min(SHEET_ROOM))?;
     }

@@ -13,12 +13,14 @@ ghost use Rattle.chr_rule.specs.Rules.{rule_at};
 ghost use Rattle.chr_sheet.specs.Columns.{column_trials};
 ghost use Rattle.chr_sheet.specs.Alone.{IsAloneIn, IsAloneOf, place_past};
 ghost use Rattle.chr_sheet.specs.Rows.{judged_part, misfit, trials_of};
+ghost use Rattle.chr_sheet.specs.Settings.{space_in, HasPlans};
 ghost use Rattle.chr_sheet.specs.Sheets.{IsFireable, IsFrontOf, Reports, place_after};
 
 use crate::column::Column;
 use crate::judging::Judgements;
 use crate::others::Others;
 use crate::row::Row;
+use crate::setting::Setting;
 use crate::trials::Trials;
 use chr_plan::Plans;
 use chr_rule::{Program, Rule};
@@ -40,18 +42,16 @@ pub struct Reported {
 fn front_of<'s, A: Allocator + Copy>(
     part: &Trial<A>,
     active: Label,
-    program: &'s Program<A>,
-    plans: &'s Plans<A>,
-    store: &'s Store<A>,
+    setting: &Setting<'s, A>,
 ) -> Option<Front<'s, A>>
-    requires plans { ArePlans program.now plans.now }
+    requires plans { HasPlans setting.now }
     requires few { length part.now.placed ≤ 5 }
-    ensures { let s = older program.now plans.now store.now.entries active in MatchOption result ((l : ℕ) → MayEnd s (position part.now) l → ⊥) (IsFrontOf s part.now) }
+    ensures { let s = space_in setting.now active in MatchOption result ((l : ℕ) → MayEnd s (position part.now) l → ⊥) (IsFrontOf s part.now) }
 {
     Front::of(
-        program,
-        plans,
-        store,
+        setting.program,
+        setting.plans,
+        setting.store,
         active,
         part.number(),
         part.head(),
@@ -106,22 +106,20 @@ fn pass_met<A: Allocator + Copy>(
 fn pass_misfits<A: Allocator + Copy>(
     search: &mut Search,
     row: &Row<A>,
-    program: &Program<A>,
-    plans: &Plans<A>,
-    store: &Store<A>,
+    setting: &Setting<'_, A>,
 ) -> usize
-    requires { ArePlans program.now plans.now }
+    requires { HasPlans setting.now }
     ensures label { search.new.label ≡ search.old.label }
-    ensures reports { Reports (older program.now plans.now store.now.entries search.old.label) search.old.place (map misfit (trials_of row.now)) result search.new.place }
+    ensures reports { Reports (space_in setting.now search.old.label) search.old.place (map misfit (trials_of row.now)) result search.new.place }
 {
     let part = row.part();
-    let Some(first) = search.next_beside(part, program, plans, store) else {
+    let Some(first) = search.next_beside(part, setting.program, setting.plans, setting.store) else {
         return 0;
     };
-    if !part.stands_in(program, plans, store) {
+    if !part.stands_in(setting.program, setting.plans, setting.store) {
         return 0;
     }
-    let Some(mut front) = front_of(part, search.label(), program, plans, store) else {
+    let Some(mut front) = front_of(part, search.label(), setting) else {
         return 0;
     };
     pass_met(search, &mut front, row, first)
@@ -132,17 +130,15 @@ fn pass_misfits<A: Allocator + Copy>(
 fn pass_behind<A: Allocator + Copy>(
     search: &mut Search,
     row: &Row<A>,
-    program: &Program<A>,
-    plans: &Plans<A>,
-    store: &Store<A>,
+    setting: &Setting<'_, A>,
 ) -> usize
-    requires plans { ArePlans program.now plans.now }
+    requires plans { HasPlans setting.now }
     requires place { search.old.place ≡ just_after (position row.now.part) }
-    requires stands { IsTrialOf program.now plans.now store.now.entries row.now.part }
+    requires stands { let s = space_in setting.now search.old.label in IsTrialOf s.rules s.plans s.store row.now.part }
     ensures label { search.new.label ≡ search.old.label }
-    ensures reports { Reports (older program.now plans.now store.now.entries search.old.label) search.old.place (map misfit (trials_of row.now)) result search.new.place }
+    ensures reports { Reports (space_in setting.now search.old.label) search.old.place (map misfit (trials_of row.now)) result search.new.place }
 {
-    let Some(mut front) = front_of(row.part(), search.label(), program, plans, store) else {
+    let Some(mut front) = front_of(row.part(), search.label(), setting) else {
         return 0;
     };
     let Some(first) = front.next(0) else {
@@ -156,22 +152,20 @@ fn pass_behind<A: Allocator + Copy>(
 fn pass_branch<A: Allocator + Copy>(
     search: &mut Search,
     row: &Row<A>,
-    program: &Program<A>,
-    plans: &Plans<A>,
-    store: &Store<A>,
+    setting: &Setting<'_, A>,
 ) -> usize
-    requires { ArePlans program.now plans.now }
+    requires { HasPlans setting.now }
     ensures label { search.new.label ≡ search.old.label }
-    ensures reports { Reports (older program.now plans.now store.now.entries search.old.label) search.old.place (judged_part row.now.part ∷ map misfit (trials_of row.now)) result search.new.place }
+    ensures reports { Reports (space_in setting.now search.old.label) search.old.place (judged_part row.now.part ∷ map misfit (trials_of row.now)) result search.new.place }
 {
     let part = row.part();
-    if search.is_next(part, program, plans, store) != Some(true) {
-        return pass_misfits(search, row, program, plans, store);
+    if search.is_next(part, setting.program, setting.plans, setting.store) != Some(true) {
+        return pass_misfits(search, row, setting);
     }
     // For the proof: a branch's trials can be counted.
     let _count = row.count_with_part();
     search.advance_by(part, Verdict::Part);
-    pass_behind(search, row, program, plans, store) + 1
+    pass_behind(search, row, setting) + 1
 }
 
 /// Whether a program's rule of a number is this one.
@@ -247,21 +241,19 @@ fn is_alone_in<A: Allocator + Copy>(trial: &Trial<A>, active: Label, store: &Sto
 fn pass_alone<A: Allocator + Copy>(
     search: &mut Search,
     column: &Column<A>,
-    program: &Program<A>,
-    plans: &Plans<A>,
-    store: &Store<A>,
+    setting: &Setting<'_, A>,
 ) -> usize
-    requires { ArePlans program.now plans.now }
+    requires { HasPlans setting.now }
     ensures label { search.new.label ≡ search.old.label }
-    ensures reports { Reports (older program.now plans.now store.now.entries search.old.label) search.old.place (map misfit (column_trials column.now)) result search.new.place }
+    ensures reports { Reports (space_in setting.now search.old.label) search.old.place (map misfit (column_trials column.now)) result search.new.place }
 {
-    if !is_alone_in(column.first(), search.label(), store) {
+    if !is_alone_in(column.first(), search.label(), setting.store) {
         return 0;
     }
-    let Some(first) = search.next_alone(program, plans, store) else {
+    let Some(first) = search.next_alone(setting.program, setting.plans, setting.store) else {
         return 0;
     };
-    let (count, met) = meet_alone(program, column, first);
+    let (count, met) = meet_alone(setting.program, column, first);
     if let Some((number, head)) = met {
         search.go_past_alone(number, head);
     }
@@ -273,17 +265,15 @@ fn pass_one<A: Allocator + Copy>(
     search: &mut Search,
     trial: &Trial<A>,
     verdict: Verdict,
-    program: &Program<A>,
-    plans: &Plans<A>,
-    store: &Store<A>,
+    setting: &Setting<'_, A>,
 ) -> usize
-    requires plans { ArePlans program.now plans.now }
+    requires plans { HasPlans setting.now }
     requires right { IsVerdict trial.now verdict }
     requires other { verdict ≢ verdicts.Whole }
     ensures label { search.new.label ≡ search.old.label }
-    ensures reports { Reports (older program.now plans.now store.now.entries search.old.label) search.old.place (record { trial = trial.now; verdict = verdict } ∷ []) result search.new.place }
+    ensures reports { Reports (space_in setting.now search.old.label) search.old.place (record { trial = trial.now; verdict = verdict } ∷ []) result search.new.place }
 {
-    if search.is_next(trial, program, plans, store) != Some(true) {
+    if search.is_next(trial, setting.program, setting.plans, setting.store) != Some(true) {
         return 0;
     }
     search.advance_by(trial, verdict);
@@ -294,21 +284,19 @@ fn pass_one<A: Allocator + Copy>(
 fn pass_some<A: Allocator + Copy>(
     search: &mut Search,
     some: &Others<A>,
-    program: &Program<A>,
-    plans: &Plans<A>,
-    store: &Store<A>,
+    setting: &Setting<'_, A>,
 ) -> usize
-    requires { ArePlans program.now plans.now }
+    requires { HasPlans setting.now }
     ensures label { search.new.label ≡ search.old.label }
-    ensures reports { Reports (older program.now plans.now store.now.entries search.old.label) search.old.place (others_at some.now) result search.new.place }
+    ensures reports { Reports (space_in setting.now search.old.label) search.old.place (others_at some.now) result search.new.place }
 {
     match some {
-        Others::One(one) => pass_one(search, one.trial(), one.verdict(), program, plans, store),
+        Others::One(one) => pass_one(search, one.trial(), one.verdict(), setting),
         Others::Several(several) => match several.trials() {
-            Trials::One(one) => pass_one(search, one, Verdict::Part, program, plans, store),
-            Trials::Row(row) => pass_misfits(search, row, program, plans, store),
-            Trials::Branch(row) => pass_branch(search, row, program, plans, store),
-            Trials::Column(column) => pass_alone(search, column, program, plans, store),
+            Trials::One(one) => pass_one(search, one, Verdict::Part, setting),
+            Trials::Row(row) => pass_misfits(search, row, setting),
+            Trials::Branch(row) => pass_branch(search, row, setting),
+            Trials::Column(column) => pass_alone(search, column, setting),
         },
     }
 }
@@ -317,15 +305,18 @@ fn pass_some<A: Allocator + Copy>(
 fn is_fireable<A: Allocator + Copy>(
     search: &Search,
     judgements: &Judgements<A>,
-    program: &Program<A>,
-    plans: &Plans<A>,
-    store: &Store<A>,
+    setting: &Setting<'_, A>,
 ) -> bool
-    requires { ArePlans program.now plans.now }
-    ensures { IsFireable (older program.now plans.now store.now.entries search.now.label) search.now.place judgements.now.whole result }
+    requires { HasPlans setting.now }
+    ensures { IsFireable (space_in setting.now search.now.label) search.now.place judgements.now.whole result }
 {
     match judgements.whole() {
-        Some(judged) => search.is_next(judged.trial(), program, plans, store) == Some(true),
+        Some(judged) => search.is_next(
+            judged.trial(),
+            setting.program,
+            setting.plans,
+            setting.store,
+        ) == Some(true),
         None => false,
     }
 }
@@ -345,14 +336,19 @@ pub fn report<A: Allocator + Copy>(
     ensures right { AllByRecursion (λ j. IsVerdict j.trial j.verdict) judgements.now.others }
     ensures whole { IsFireable (older program.now plans.now store.now.entries search.old.label) search.new.place judgements.now.whole result.whole_is_next }
 {
+    let setting = Setting {
+        program,
+        plans,
+        store,
+    };
     let mut count = 0;
     for some in judgements.others() {
         // For the proof: the verdicts are the right ones.
         some.are_right();
-        count += pass_some(search, some, program, plans, store);
+        count += pass_some(search, some, &setting);
     }
     Reported {
         count,
-        whole_is_next: is_fireable(search, judgements, program, plans, store),
+        whole_is_next: is_fireable(search, judgements, &setting),
     }
 }

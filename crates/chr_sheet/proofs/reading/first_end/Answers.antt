@@ -1,11 +1,12 @@
 use Rattle.std.proofs.Common.{◌∷◌, map, subst}
-use Rattle.chr_search.specs.Trials.{Space, older}
+use Rattle.chr_search.specs.Trials.{Space}
+use Rattle.chr_sheet.specs.Settings.{space_in}
 use Rattle.chr_search.specs.Fronts.{IsEndFrom, IsFront}
 use Rattle.chr_sheet.proofs.reading.first_end.Goals as goal
 
 pub returns : goal.returns
 returns g c =
-    let s : Space = older c.args.program.now c.args.plans.now c.args.store.now.entries c.args.active in
+    let s : Space = space_in c.args.setting.now c.args.active in
     let t = c.args.trial.now in
     let ls = map (λ p. p.label) c.args.labels.now in
     let front : IsFront s t.number t.head ls c.in_ok-front.front = subst (λ n. IsFront s n t.head ls c.in_ok-front.front) c.number-number.ensures (subst (λ h. IsFront s c.number-number.result h ls c.in_ok-front.front) c.head-head.ensures c.in_ok-front.ensures) in

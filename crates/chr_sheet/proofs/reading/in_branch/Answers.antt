@@ -2,7 +2,8 @@ use Rattle.std.proofs.Common.{◌≡◌, ◌<◌, ◌≤◌, ◌+◌, ◌-◌, �
 use Rattle.std.proofs.lemmas.List.{length-map}
 use Rattle.chr_plan.specs.Orders.{heads_of}
 use Rattle.chr_search.specs.Placed.{placed_as}
-use Rattle.chr_search.specs.Trials.{Space, older}
+use Rattle.chr_search.specs.Trials.{Space}
+use Rattle.chr_sheet.specs.Settings.{space_in}
 use Rattle.chr_search.specs.Verdicts.{Placed, labels}
 use Rattle.chr_search.proofs.Judging.{few_heads}
 use Rattle.chr_search.proofs.Making.{map_twice}
@@ -21,27 +22,27 @@ first_end-found-requires g c =
     let left : length c.args.part.placed + 1 ≡ length (heads_of c.args.part.rule) = c.requires.left in
     (omega arith, (c.requires.plans, (omega arith, omega arith)))
 
-lacks : (g : _) (c : In-Some g) → LacksOne (older c.args.program.now c.args.plans.now c.args.store.now.entries c.args.active) c.args.part
+lacks : (g : _) (c : In-Some g) → LacksOne (space_in c.args.setting.now c.args.active) c.args.part
 lacks g c = record { plans = c.requires.plans; scoped = c.rules-rules.ensures.valid; trial_of = c.requires.first.1; some = c.placed.ensures.formed.some; full = c.requires.left }
 
-end : (g : _) (c : In-Some g) → let t = c.args.part in HasEnd (older c.args.program.now c.args.plans.now c.args.store.now.entries c.args.active) t.number t.head (labels t) 0 c.in-Some.front c.in-Some.first
+end : (g : _) (c : In-Some g) → let t = c.args.part in HasEnd (space_in c.args.setting.now c.args.active) t.number t.head (labels t) 0 c.in-Some.front c.in-Some.first
 end g c =
     let t = c.args.part in
     let ls : map (λ p. p.label) c.placed.result.now ≡ labels t = sym (map_twice placed_as (λ (p : Placed). p.label) c.placed.result.now) ∙ ap (map (λ (p : Placed). p.label)) c.placed.ensures.placed in
-    end_as (older c.args.program.now c.args.plans.now c.args.store.now.entries c.args.active) t.number t.head _ (labels t) 0 c.in-Some.front c.in-Some.first ls c.in-Some.ensures
+    end_as (space_in c.args.setting.now c.args.active) t.number t.head _ (labels t) 0 c.in-Some.front c.in-Some.first ls c.in-Some.ensures
 
 pub push_ends-requires : goal.push_ends-requires
 push_ends-requires g c =
-    let s : Space = older c.args.program.now c.args.plans.now c.args.store.now.entries c.args.active in
+    let s : Space = space_in c.args.setting.now c.args.active in
     let t = c.args.part in
     let at = (goal.at.push_ends-requires g c).In-Some in
     let e = end g at in
     let none : length c.in_ok-lasts.lasts.items ≡ 0 = ap length c.in_ok-lasts.ensures.items in
-    (omega arith, ((s, t.number, t.head, labels t, 0, e.front, e.least, small_end s c.args.store.now refl c.next_label-given.ensures.labelled t (lacks g at)), omega arith))
+    (omega arith, ((s, t.number, t.head, labels t, 0, e.front, e.least, small_end s c.args.setting.now.store.now refl c.next_label-given.ensures.labelled t (lacks g at)), omega arith))
 
-made : (g : _) (c : In_ok-push_ends g) → IsMadeBranch (older c.args.program.now c.args.plans.now c.args.store.now.entries c.args.active) c.args.part (map placed_as c.push_ends.new.lasts.items)
+made : (g : _) (c : In_ok-push_ends g) → IsMadeBranch (space_in c.args.setting.now c.args.active) c.args.part (map placed_as c.push_ends.new.lasts.items)
 made g c =
-    let s : Space = older c.args.program.now c.args.plans.now c.args.store.now.entries c.args.active in
+    let s : Space = space_in c.args.setting.now c.args.active in
     let t = c.args.part in
     let at = (goal.at.new-requires g c).In-Some in
     let e = end g at in
@@ -50,14 +51,14 @@ made g c =
     let more : lasts ≡ ends.0 = ends.1 ∙ ap (λ xs. map placed_as xs ++ ends.0) c.in_ok-lasts.ensures.items in
     let count : length lasts ≡ length c.push_ends.new.lasts.items = length-map c.push_ends.new.lasts.items placed_as in
     let some : length c.in_ok-lasts.lasts.items < length c.push_ends.new.lasts.items = c.in_ok-push_ends.ensures.some in
-    branch_made s c.args.store.now refl c.next_label-given.ensures.labelled t (lacks g at) (begins_others s t c.in-Some.front e.front c.requires.first.1 c.placed.ensures.formed c.requires.left) lasts (omega arith) (subst (AreEnds s t.number t.head (labels t) 0) (sym more) ends.2)
+    branch_made s c.args.setting.now.store.now refl c.next_label-given.ensures.labelled t (lacks g at) (begins_others s t c.in-Some.front e.front c.requires.first.1 c.placed.ensures.formed c.requires.left) lasts (omega arith) (subst (AreEnds s t.number t.head (labels t) 0) (sym more) ends.2)
 
 pub new-requires : goal.new-requires
 new-requires g c = (made g c).row
 
 pub returns : goal.returns
 returns g c =
-    let s : Space = older c.args.program.now c.args.plans.now c.args.store.now.entries c.args.active in
+    let s : Space = space_in c.args.setting.now c.args.active in
     let t = c.args.part in
     let lasts = map placed_as c.push_ends.new.lasts.items in
     let b = made g (goal.at.returns g c).In_ok-push_ends in

@@ -1,7 +1,8 @@
 use Rattle.std.proofs.Common.{◌≡◌, ◌≤◌, ◌+◌, map, length, sym, ap, ◌∙◌, arith, length-append}
 use Rattle.std.proofs.lemmas.List.{length-map}
 use Rattle.chr_search.specs.Placed.{placed_as}
-use Rattle.chr_search.specs.Trials.{Space, older}
+use Rattle.chr_search.specs.Trials.{Space}
+use Rattle.chr_sheet.specs.Settings.{space_in}
 use Rattle.chr_search.proofs.Judging.{last_small}
 use Rattle.chr_sheet.proofs.NextBeside.{labels_split, beside}
 use Rattle.chr_sheet.proofs.reading.second_beside.Goals as goal
@@ -15,7 +16,7 @@ overflow_add-last g c =
 
 pub returns : goal.returns
 returns g c =
-    let s : Space = older c.args.program.now c.args.plans.now c.args.store.now.entries c.args.active in
+    let s : Space = space_in c.args.setting.now c.args.active in
     let t = c.args.first.now in
     let before = c.in_ok-last.before.now in
     let last = c.in_ok-last.last.now in

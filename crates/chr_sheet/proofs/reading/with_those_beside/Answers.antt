@@ -1,5 +1,6 @@
 use Rattle.std.proofs.Common.{sym, subst}
-use Rattle.chr_search.specs.Trials.{Space, older, IsTrial}
+use Rattle.chr_search.specs.Trials.{Space, IsTrial}
+use Rattle.chr_sheet.specs.Settings.{space_in}
 use Rattle.chr_search.specs.Verdicts.{position}
 use Rattle.chr_search.proofs.Making.{next_trial}
 use Rattle.chr_sheet.specs.Kept.{trials_at}
@@ -10,18 +11,18 @@ use Rattle.chr_sheet.proofs.reading.with_those_beside.Goals as goal
 
 pub in_turn-requires-clause-first : goal.in_turn-requires-clause-first
 in_turn-requires-clause-first g c =
-    let s : Space = older c.args.program.now c.args.plans.now c.args.store.now.entries c.args.search.now.label in
-    (subst (λ l. IsTrial (older c.args.program.now c.args.plans.now c.args.store.now.entries l) (position c.args.first)) (sym c.label.ensures) (next_trial s c.args.search.now.place (position c.args.first) c.requires.first.0), c.requires.first.1)
+    let s : Space = space_in c.args.setting.now c.args.search.now.label in
+    (subst (λ l. IsTrial (space_in c.args.setting.now l) (position c.args.first)) (sym c.label.ensures) (next_trial s c.args.search.now.place (position c.args.first) c.requires.first.0), c.requires.first.1)
 
 pub go_behind-requires-clause-low : goal.go_behind-requires-clause-low
 go_behind-requires-clause-low g c =
-    let s : Space = older c.args.program.now c.args.plans.now c.args.store.now.entries c.args.search.now.label in
+    let s : Space = space_in c.args.setting.now c.args.search.now.label in
     active_low s c.args.first (next_trial s c.args.search.now.place (position c.args.first) c.requires.first.0) c.placed-placed.ensures.formed
 
 pub returns-clause-trials : goal.returns-clause-trials
 returns-clause-trials g c =
-    let s : Space = older c.args.program.now c.args.plans.now c.args.store.now.entries c.args.search.now.label in
+    let s : Space = space_in c.args.setting.now c.args.search.now.label in
     let ts = trials_at c.in_ok-trials.trials in
     together s c.args.most c.args.search.now.place c.go_behind.new.search.place c.args.first ts c.requires.first
-    (subst (λ l. AreInTurn (older c.args.program.now c.args.plans.now c.args.store.now.entries l) c.args.most c.args.first ts) c.label.ensures c.in_ok-trials.ensures)
+    (subst (λ l. AreInTurn (space_in c.args.setting.now l) c.args.most c.args.first ts) c.label.ensures c.in_ok-trials.ensures)
     c.go_behind.ensures.place

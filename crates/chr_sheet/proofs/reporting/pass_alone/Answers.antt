@@ -1,5 +1,6 @@
 use Rattle.std.proofs.Common.{map, refl, sym, ap, subst, ◌∙◌}
-use Rattle.chr_search.specs.Trials.{Space, older}
+use Rattle.chr_search.specs.Trials.{Space}
+use Rattle.chr_sheet.specs.Settings.{space_in}
 use Rattle.chr_search.specs.Reach.{SearchState}
 use Rattle.chr_sheet.specs.Alone.{IsAloneOf, place_past}
 use Rattle.chr_sheet.specs.Columns.{Column, column_trials}
@@ -11,7 +12,7 @@ use Rattle.chr_sheet.proofs.reporting.pass_alone.Goals as goal
 
 pub returns-then-not-is_alone_in-clause-reports : goal.returns-then-not-is_alone_in-clause-reports
 returns-then-not-is_alone_in-clause-reports g c =
-    let s : Space = older c.args.program.now c.args.plans.now c.args.store.now.entries c.args.search.now.label in
+    let s : Space = space_in c.args.setting.now c.args.search.now.label in
     let k : Column = c.args.column.now in
     let one = only_placed k.first.placed c.first.ensures.column.alone in
     none_alone_in s c.args.search.now.place k one.0 one.1
@@ -19,32 +20,32 @@ returns-then-not-is_alone_in-clause-reports g c =
 
 pub returns-in_default-clause-reports : goal.returns-in_default-clause-reports
 returns-in_default-clause-reports g c =
-    let s : Space = older c.args.program.now c.args.plans.now c.args.store.now.entries c.args.search.now.label in
+    let s : Space = space_in c.args.setting.now c.args.search.now.label in
     let k : Column = c.args.column.now in
     let a = alone_as s.store c.label.result s.active c.first.result.now k.first c.label.ensures c.first.ensures.first (c.if-not-is_alone_in.ensures.0 refl) in
     none_next_alone s c.args.search.now.place k a c.in_default.ensures
 
 pub meet_alone-count-requires : goal.meet_alone-count-requires
 meet_alone-count-requires g c =
-    let s : Space = older c.args.program.now c.args.plans.now c.args.store.now.entries c.args.search.now.label in
+    let s : Space = space_in c.args.setting.now c.args.search.now.label in
     let k : Column = c.args.column.now in
     let a = alone_as s.store c.label.result s.active c.first.result.now k.first c.label.ensures c.first.ensures.first (c.if-not-is_alone_in.ensures.0 refl) in
     (s, c.args.search.now.place, record { rules_are = refl; plans = c.requires; alone = a }, c.in-Some.ensures)
 
 pub returns-in-Some-met-clause-reports : goal.returns-in-Some-met-clause-reports
 returns-in-Some-met-clause-reports g c =
-    let s : Space = older c.args.program.now c.args.plans.now c.args.store.now.entries c.args.search.now.label in
+    let s : Space = space_in c.args.setting.now c.args.search.now.label in
     let k : Column = c.args.column.now in
     let a = alone_as s.store c.label.result s.active c.first.result.now k.first c.label.ensures c.first.ensures.first (c.if-not-is_alone_in.ensures.0 refl) in
-    let of : IsAloneOf s c.args.program.now k.first = record { rules_are = refl; plans = c.requires; alone = a } in
+    let of : IsAloneOf s c.args.setting.now.program.now k.first = record { rules_are = refl; plans = c.requires; alone = a } in
     let reports = c.meet_alone-count.ensures.reports s c.args.search.now.place of c.in-Some.ensures in
     subst (Reports s c.args.search.now.place (map misfit (column_trials k)) c.meet_alone-count.result.0) (ap (place_past c.args.search.now.place s.active) c.in-Some-met.is ∙ sym (ap (λ (z : SearchState). z.place) c.go_past_alone.ensures)) reports
 
 pub returns-in_default-met-clause-reports : goal.returns-in_default-met-clause-reports
 returns-in_default-met-clause-reports g c =
-    let s : Space = older c.args.program.now c.args.plans.now c.args.store.now.entries c.args.search.now.label in
+    let s : Space = space_in c.args.setting.now c.args.search.now.label in
     let k : Column = c.args.column.now in
     let a = alone_as s.store c.label.result s.active c.first.result.now k.first c.label.ensures c.first.ensures.first (c.if-not-is_alone_in.ensures.0 refl) in
-    let of : IsAloneOf s c.args.program.now k.first = record { rules_are = refl; plans = c.requires; alone = a } in
+    let of : IsAloneOf s c.args.setting.now.program.now k.first = record { rules_are = refl; plans = c.requires; alone = a } in
     let reports = c.meet_alone-count.ensures.reports s c.args.search.now.place of c.in-Some.ensures in
     subst (Reports s c.args.search.now.place (map misfit (column_trials k)) c.meet_alone-count.result.0) (ap (place_past c.args.search.now.place s.active) c.in_default-met.is) reports

@@ -1,6 +1,7 @@
 use Rattle.std.proofs.Common.{◌≤◌, ℕ, length, sym, subst, arith}
 use Rattle.chr_search.specs.Fronts.{MayEnd, IsEndFrom}
-use Rattle.chr_search.specs.Trials.{Space, older}
+use Rattle.chr_search.specs.Trials.{Space}
+use Rattle.chr_sheet.specs.Settings.{space_in}
 use Rattle.chr_search.specs.Verdicts.{Trial, labels, position}
 use Rattle.chr_sheet.specs.Rows.{Row}
 use Rattle.chr_sheet.specs.Sheets.{IsFrontOf}
@@ -16,26 +17,26 @@ front_of-requires g c =
 
 pub returns-in_default-clause-reports : goal.returns-in_default-clause-reports
 returns-in_default-clause-reports g c =
-    let s : Space = older c.args.program.now c.args.plans.now c.args.store.now.entries c.args.search.now.label in
+    let s : Space = space_in c.args.setting.now c.args.search.now.label in
     let r : Row = c.args.row.now in
-    let none = subst (λ a. (l : ℕ) → MayEnd (older c.args.program.now c.args.plans.now c.args.store.now.entries a) (position c.part.result.now) l → ⊥) c.label.ensures c.in_default.ensures in
+    let none = subst (λ a. (l : ℕ) → MayEnd (space_in c.args.setting.now a) (position c.part.result.now) l → ⊥) c.label.ensures c.in_default.ensures in
     none_reported s c.args.search.now.place r.part r.lasts (none_ends s c.args.search.now.place r.part (subst (λ part. (l : ℕ) → MayEnd s (position part) l → ⊥) c.part.ensures.part none))
 
 -- the front of the row's part, for the search's label
-front : (g : _) (c : In-Some g) → IsFrontOf (older c.args.program.now c.args.plans.now c.args.store.now.entries c.args.search.now.label) c.args.row.now.part c.in-Some.front
+front : (g : _) (c : In-Some g) → IsFrontOf (space_in c.args.setting.now c.args.search.now.label) c.args.row.now.part c.in-Some.front
 front g c =
-    subst (λ a. IsFrontOf (older c.args.program.now c.args.plans.now c.args.store.now.entries a) c.args.row.now.part c.in-Some.front) c.label.ensures
-    (subst (λ part. IsFrontOf (older c.args.program.now c.args.plans.now c.args.store.now.entries c.label.result) part c.in-Some.front) c.part.ensures.part c.in-Some.ensures)
+    subst (λ a. IsFrontOf (space_in c.args.setting.now a) c.args.row.now.part c.in-Some.front) c.label.ensures
+    (subst (λ part. IsFrontOf (space_in c.args.setting.now c.label.result) part c.in-Some.front) c.part.ensures.part c.in-Some.ensures)
 
 pub next-requires : goal.next-requires
 next-requires g c =
-    let s : Space = older c.args.program.now c.args.plans.now c.args.store.now.entries c.args.search.now.label in
+    let s : Space = space_in c.args.setting.now c.args.search.now.label in
     let part : Trial = c.args.row.now.part in
     (omega arith, (s, part.number, part.head, labels part, front g (goal.at.next-requires g c).In-Some))
 
 pub returns-in_default-next-clause-reports : goal.returns-in_default-next-clause-reports
 returns-in_default-next-clause-reports g c =
-    let s : Space = older c.args.program.now c.args.plans.now c.args.store.now.entries c.args.search.now.label in
+    let s : Space = space_in c.args.setting.now c.args.search.now.label in
     let r : Row = c.args.row.now in
     let ends = (c.next.ensures s r.part.number r.part.head (labels r.part) (front g (goal.at.returns-in_default-next-clause-reports g c).In-Some)).0 in
     let none = subst (IsEndFrom s (position r.part) 0) c.in_default-next.is ends in
@@ -43,13 +44,13 @@ returns-in_default-next-clause-reports g c =
 
 pub pass_met-requires : goal.pass_met-requires
 pass_met-requires g c =
-    let s : Space = older c.args.program.now c.args.plans.now c.args.store.now.entries c.args.search.now.label in
+    let s : Space = space_in c.args.setting.now c.args.search.now.label in
     let part : Trial = c.args.row.now.part in
     (omega arith, (s, (c.next.ensures s part.number part.head (labels part) (front g (goal.at.pass_met-requires g c).In-Some)).1))
 
 pub returns-clause-reports : goal.returns-clause-reports
 returns-clause-reports g c =
-    let s : Space = older c.args.program.now c.args.plans.now c.args.store.now.entries c.args.search.now.label in
+    let s : Space = space_in c.args.setting.now c.args.search.now.label in
     let part : Trial = c.args.row.now.part in
     let there = front g (goal.at.returns-clause-reports g c).In-Some in
     let next = c.next.ensures s part.number part.head (labels part) there in

@@ -2,7 +2,8 @@ use Rattle.std.proofs.Common.{◌≡◌, ◌≢◌, true, Some, map, sym, ap, su
 use Rattle.std.proofs.lemmas.List.{length-map}
 use Rattle.chr_search.specs.Positions.{just_after}
 use Rattle.chr_search.specs.Reach.{SearchState}
-use Rattle.chr_search.specs.Trials.{Space, older}
+use Rattle.chr_search.specs.Trials.{Space}
+use Rattle.chr_sheet.specs.Settings.{space_in}
 use Rattle.chr_search.specs.Verdicts.{position, IsPart, IsTrialOf}
 use Rattle.chr_search.specs.Answers.{IsToldNext}
 use Rattle.chr_sheet.specs.Rows.{Row, misfit, trials_of}
@@ -12,7 +13,7 @@ use Rattle.chr_sheet.proofs.reporting.pass_branch.Goals as goal
 
 pub returns-then-ne-clause-reports : goal.returns-then-ne-clause-reports
 returns-then-ne-clause-reports g c =
-    let s : Space = older c.args.program.now c.args.plans.now c.args.store.now.entries c.args.search.now.label in
+    let s : Space = space_in c.args.setting.now c.args.search.now.label in
     let r : Row = c.args.row.now in
     let place = c.args.search.now.place in
     let isnt : c.is_next.result ≢ Some true = search rules in
@@ -27,20 +28,20 @@ pass_behind-requires-clause-place g c = ap (λ (z : SearchState). z.place) c.adv
 
 pub pass_behind-requires-clause-stands : goal.pass_behind-requires-clause-stands
 pass_behind-requires-clause-stands g c =
-    let s : Space = older c.args.program.now c.args.plans.now c.args.store.now.entries c.args.search.now.label in
+    let s : Space = space_in c.args.setting.now c.args.search.now.label in
     let is : c.is_next.result ≡ Some true = search rules in
     subst (IsTrialOf s.rules s.plans s.store) c.part-part.ensures.part (told_is s c.args.search.now.place c.part-part.result.now c.is_next.result c.is_next.ensures is).1
 
 pub overflow_add-result : goal.overflow_add-result
 overflow_add-result g c =
-    let s : Space = older c.args.program.now c.args.plans.now c.args.store.now.entries c.advance_by.new.self.label in
+    let s : Space = space_in c.args.setting.now c.advance_by.new.self.label in
     let r : Row = c.args.row.now in
     let few = reports_few s c.advance_by.new.self.place c.pass_behind.new.search.place (map misfit (trials_of r)) c.pass_behind.result c.pass_behind.ensures.reports in
     omega (arith, few, length-map (trials_of r) misfit, c.count_with_part-count.ensures, c.count_with_part-count.type_inv)
 
 pub returns-clause-reports : goal.returns-clause-reports
 returns-clause-reports g c =
-    let s : Space = older c.args.program.now c.args.plans.now c.args.store.now.entries c.args.search.now.label in
+    let s : Space = space_in c.args.setting.now c.args.search.now.label in
     let r : Row = c.args.row.now in
     let place = c.args.search.now.place in
     let mid = c.advance_by.new.self.place in
@@ -50,4 +51,4 @@ returns-clause-reports g c =
     let next = subst (IsNextTrial s place) part (told_is s place c.part-part.result.now c.is_next.result c.is_next.ensures is) in
     let to = ap (λ (z : SearchState). z.place) c.advance_by.ensures ∙ ap (λ t. just_after (position t)) part in
     part_moves s place mid after r.part (map misfit (trials_of r)) c.pass_behind.result next to
-    (subst (λ l. Reports (older c.args.program.now c.args.plans.now c.args.store.now.entries l) mid (map misfit (trials_of r)) c.pass_behind.result after) (ap (λ (z : SearchState). z.label) c.advance_by.ensures) c.pass_behind.ensures.reports)
+    (subst (λ l. Reports (space_in c.args.setting.now l) mid (map misfit (trials_of r)) c.pass_behind.result after) (ap (λ (z : SearchState). z.label) c.advance_by.ensures) c.pass_behind.ensures.reports)
