@@ -1,6 +1,7 @@
 -- Rows, and what they are up to a place.
-use Rattle.std.proofs.Common.{◌≡◌, ℕ, zero, suc, ◌+◌, ◌-◌, ◌<◌, ◌≤◌, List, [], ◌∷◌, ◌++◌, map, take, length, Some, get_or, slice_get, refl, sym, ◌∙◌, ap, subst, arith}
+use Rattle.std.proofs.Common.{◌≡◌, Bool, true, false, ◌==◌, true-eqb, ℕ, zero, suc, ◌+◌, ◌-◌, ◌<◌, ◌≤◌, List, [], ◌∷◌, ◌++◌, map, take, length, Some, get_or, slice_get, refl, sym, ◌∙◌, ap, subst, arith}
 use Rattle.std.specs.List.{AllByRecursion}
+use Rattle.std.proofs.lemmas.Bool.Decides.{nat_tests}
 use Rattle.std.proofs.lemmas.List.{take_more, take-map, length-map, same_from_push, get_or-map}
 use Rattle.std.proofs.lemmas.Option.{slice_get_read}
 use Rattle.chr_guard.proofs.Steps.{all_at}
@@ -64,6 +65,14 @@ last_formed f r xs x is w e =
     let some : 1 ≤ length r.lasts = w.some in
     let last : length xs - 1 < length xs = omega (arith, ap length is, length-map xs f) in
     (all_at IsFormed (trials_of (row_of r.part (map f xs))) (length xs - 1) (lengthened r.part (f x)) (omega (arith, trials_count f r.part xs)) (trial_read f r.part xs (length xs - 1) x last e) (subst (λ (q : Row). AllByRecursion IsFormed (trials_of q)) (sym row) w.formed)).1
+
+-- whether there are labels, told by their number
+pub told_none : {X : Type 0} (xs : List X) (len : ℕ) (told : Bool) → told ≡ (len == 0) → told ≡ true → length xs ≡ len → length xs ≡ 0
+told_none xs len told e is count = let none : len ≡ 0 = true-eqb len 0 (sym is ∙ e) in omega arith
+
+pub told_some : {X : Type 0} (f : X → Placed) (xs : List X) (len : ℕ) (told : Bool) → told ≡ (len == 0) → told ≡ false → length xs ≡ len → 1 ≤ length (map f xs)
+told_some f [] len told e is count = absurd (grind (arith, nat_tests))
+told_some f (x ∷ xs) len told e is count = omega arith
 
 -- no label, and so no trial
 pub none_before : {X : Type 0} (f : X → Placed) (part : Trial) (xs : List X) → length xs ≡ 0 → [] ≡ trials_of (row_of part (map f xs))

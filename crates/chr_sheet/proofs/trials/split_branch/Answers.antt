@@ -1,10 +1,9 @@
-use Rattle.std.proofs.Common.{◌≡◌, ◌≤◌, ◌∷◌, [], Some, map, length, take, slice_get, sym, ap, ◌∙◌, arith}
-use Rattle.std.proofs.lemmas.Bool.Decides.{nat_tests}
+use Rattle.std.proofs.Common.{◌≡◌, ◌∷◌, [], Some, map, length, take, slice_get, sym, ap, ◌∙◌, arith}
 use Rattle.std.proofs.lemmas.List.{length-map}
 use Rattle.chr_search.specs.Fronts.{lengthened}
 use Rattle.chr_search.specs.Placed.{placed_as}
 use Rattle.chr_sheet.specs.Rows.{Row, branch_trials, judged_part, misfit, trials_of}
-use Rattle.chr_sheet.proofs.Cutting.{judged_branch, branch_there, none_before}
+use Rattle.chr_sheet.proofs.Cutting.{judged_branch, branch_there, none_before, told_none, told_some}
 use Rattle.chr_sheet.proofs.trials.split_branch.Goals as goal
 
 pub returns-then-index-eq0 : goal.returns-then-index-eq0
@@ -24,16 +23,13 @@ pub returns-then-is_empty : goal.returns-then-is_empty
 returns-then-is_empty g c =
     let r : Row = c.args.row in
     let k = c.in_ok-part.ensures in
-    let empty : c.in_ok-part.before.len ≡ 0 = grind (arith, nat_tests, c.is_empty.ensures, c.if-is_empty.true) in
-    let none : length c.in_ok-part.before.items ≡ 0 = omega (arith, c.in_ok-part.before.ok.0) in (
+    let none = told_none c.in_ok-part.before.items c.in_ok-part.before.len c.is_empty.result c.is_empty.ensures c.if-is_empty.true (omega (arith, c.in_ok-part.before.ok.0)) in (
       ap (λ t. judged_part t ∷ []) k.part_is ∙ judged_branch r [] c.args.index (omega arith) (none_before placed_as c.in_ok-part.part c.in_ok-part.before.items none ∙ k.split.0),
       branch_there r c.args.index c.in_ok-part.trial (omega arith) k.split.1,
     )
 
 pub new-requires : goal.new-requires
-new-requires g c =
-    let some : 1 ≤ c.in_ok-part.before.len = grind (arith, nat_tests, c.is_empty.ensures, c.if-is_empty.false) in
-    c.in_ok-part.ensures.row (omega (arith, c.in_ok-part.before.ok.0, length-map c.in_ok-part.before.items placed_as))
+new-requires g c = c.in_ok-part.ensures.row (told_some placed_as c.in_ok-part.before.items c.in_ok-part.before.len c.is_empty.result c.is_empty.ensures c.if-is_empty.false (omega (arith, c.in_ok-part.before.ok.0)))
 
 pub returns : goal.returns
 returns g c =
