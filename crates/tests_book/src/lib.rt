@@ -14,32 +14,4 @@
 #![tactic(auto)]
 
 #[cfg(test)]
-mod batches;
-#[cfg(test)]
-mod listed_tables;
-#[cfg(test)]
-mod lists;
-#[cfg(test)]
-mod opening;
-#[cfg(test)]
-mod refused_batches;
-#[cfg(test)]
-mod refused_calls;
-#[cfg(test)]
-mod refused_lists;
-#[cfg(test)]
-mod refused_opening;
-#[cfg(test)]
-mod refused_rounds;
-#[cfg(test)]
-mod rounds;
-#[cfg(test)]
-mod rows;
-#[cfg(test)]
-mod schedules;
-#[cfg(test)]
-mod script;
-#[cfg(test)]
-mod stale;
-#[cfg(test)]
-mod tables;
+mod tests;

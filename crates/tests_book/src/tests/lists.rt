@@ -1,10 +1,11 @@
-//! Books, lists of calls for them, and answers in words.
-use crate::script::{Call as ScriptCall, Row, Script, trial_text};
+//! Lists of calls for a book, and answers in words.
+use crate::tests::rows::row_of;
+use crate::tests::script::{Call as ScriptCall, Script, debug_text, fault_text, trial_text};
+use chr_book::Book;
 use chr_calls::{Batch, BatchReport, Turn, TurnFault};
-use chr_run_calls::{Answer, Call, SeatCall, Word, Words};
+use chr_run_calls::{Answer, Call, SeatCall, Word, Words, run_calls};
 use chr_search::{Judged, Trial, judge};
 use std::alloc::{AllocError, Allocator, Global};
-use std::fmt::Debug;
 
 /// What is done with a ticket, by the seat's own judgement where by one.
 #[derive(Clone, Copy, Debug)]
@@ -22,7 +23,7 @@ pub enum Does {
 }
 
 /// The call that does this with a ticket.
-pub fn call_of<A: Allocator>(does: Does, ticket: u64) -> Call<A> {
+fn call_of<A: Allocator>(does: Does, ticket: u64) -> Call<A> {
     match does {
         Does::Claim => Call::Claim(ticket),
         Does::Trial => Call::Trial(ticket),
@@ -37,11 +38,85 @@ pub fn call_of<A: Allocator>(does: Does, ticket: u64) -> Call<A> {
     }
 }
 
-/// A call that posts the atoms of a text.
-pub fn post_text<A: Allocator + Copy>(alloc: A, text: &str) -> Result<Call<A>, AllocError> {
-    let mut bytes = Vec::new(alloc);
-    bytes.extend_from_slice(text.as_bytes())?;
-    Ok(Call::PostText(bytes))
+/// The answers to a list of calls.
+pub struct Answers<A: Allocator> {
+    answers: Vec<Answer<A>, A>,
+}
+
+// Not derived: letting answers go is then one call, which is proved here once.
+impl<A: Allocator> Drop for Answers<A> {
+    fn drop(self) {
+        let Answers { answers: _ } = self;
+    }
+}
+
+impl<A: Allocator + Copy> Answers<A> {
+    pub fn as_slice(&self) -> &[Answer<A>] {
+        self.answers.as_slice()
+    }
+
+    /// The answers in words.
+    pub fn text(&self, alloc: A, texts: Global) -> Result<String, AllocError> {
+        let mut text = String::new(texts);
+        for answer in &self.answers {
+            add_made(&mut text, "; ", answer_text(alloc, texts, answer))?;
+        }
+        Ok(text)
+    }
+}
+
+/// A list of calls.
+pub struct Calls<A: Allocator> {
+    calls: Vec<SeatCall<A>, A>,
+}
+
+// Not derived, for the same reason.
+impl<A: Allocator> Drop for Calls<A> {
+    fn drop(self) {
+        let Calls { calls: _ } = self;
+    }
+}
+
+impl<A: Allocator + Copy> Calls<A> {
+    /// No calls.
+    pub fn new(alloc: A) -> Calls<A> {
+        Calls {
+            calls: Vec::new(alloc),
+        }
+    }
+
+    /// Adds a call by a seat.
+    pub fn add(&mut self, seat: u32, call: Call<A>) -> Result<(), AllocError> {
+        self.calls.push(SeatCall { seat, call })?;
+        Ok(())
+    }
+
+    /// Adds the call by which a seat does this with a ticket.
+    pub fn add_own(&mut self, seat: u32, does: Does, ticket: u64) -> Result<(), AllocError> {
+        self.add(seat, call_of(does, ticket))
+    }
+
+    /// Adds a post of the atoms of a text.
+    pub fn add_post(&mut self, alloc: A, seat: u32, text: &str) -> Result<(), AllocError> {
+        let bytes = Vec::from_slice(alloc, text.as_bytes())?;
+        self.add(seat, Call::PostText(bytes))
+    }
+
+    /// Moves the calls of another list to the end of this one.
+    pub fn append(&mut self, other: &mut Calls<A>) -> Result<(), AllocError> {
+        self.calls.append(&mut other.calls)
+    }
+
+    /// Keeps the first calls, so many.
+    pub fn truncate(&mut self, count: usize) {
+        self.calls.truncate(count);
+    }
+
+    /// Makes the calls on a book.
+    pub fn made_on(&self, alloc: A, book: &mut Book<A>) -> Result<Answers<A>, AllocError> {
+        let answers = run_calls(alloc, book, &self.calls)?;
+        Ok(Answers { answers })
+    }
 }
 
 /// The judgement of a copy of a trial.
@@ -85,19 +160,24 @@ fn list_call<A: Allocator + Copy>(
 pub fn list_of<A: Allocator + Copy>(
     alloc: A,
     script: &Script<A>,
-    rows: &[Row],
-) -> Option<Vec<SeatCall<A>, A>> {
-    let mut calls = Vec::new(alloc);
-    for (seat, call, _, _) in rows {
-        let call = list_call(alloc, script, *call)?;
-        calls.push(SeatCall { seat: *seat, call }).ok()?;
+    rows: &[&str],
+) -> Option<Calls<A>> {
+    let mut calls = Calls::new(alloc);
+    for text in rows {
+        let row = row_of(text)?;
+        let call = list_call(alloc, script, row.call)?;
+        calls.add(row.seat, call).ok()?;
     }
     Some(calls)
 }
 
-/// A value's text, as `{:?}` writes it.
-fn debug_text<T: Debug>(texts: Global, value: &T) -> Result<String<Global>, AllocError> {
-    format!(in texts; "{value:?}")
+/// A trial with its verdict, in words.
+fn copy_text<A: Allocator + Copy>(
+    alloc: A,
+    texts: Global,
+    trial: &Trial<A>,
+) -> Result<String, AllocError> {
+    trial_text(texts, &judged_copy(alloc, trial)?)
 }
 
 /// What comes next, in words: a trial with its verdict.
@@ -105,21 +185,33 @@ pub fn turn_text<A: Allocator + Copy>(
     alloc: A,
     texts: Global,
     turn: &Result<Turn<A>, TurnFault>,
-) -> Result<String<Global>, AllocError> {
+) -> Result<String, AllocError> {
     match turn {
-        Ok(Turn::Trial(trial)) => trial_text(texts, &judged_copy(alloc, trial)?),
-        Ok(Turn::Done) => format!(in texts; "Done"),
-        Ok(Turn::Gone) => format!(in texts; "Gone"),
-        Err(fault) => format!(in texts; "Err({fault:?})"),
+        Ok(Turn::Trial(trial)) => copy_text(alloc, texts, trial),
+        Ok(Turn::Done) => "Done".to_string(texts),
+        Ok(Turn::Gone) => "Gone".to_string(texts),
+        Err(fault) => fault_text(texts, *fault),
     }
 }
 
 /// Adds a text to those before it, after a mark that parts them.
-pub fn add_text(text: &mut String<Global>, mark: &str, one: &str) -> Result<(), AllocError> {
+fn add_text(text: &mut String, mark: &str, one: &str) -> Result<(), AllocError> {
     if !text.is_empty() {
         text.push_str(mark)?;
     }
     text.push_str(one)
+}
+
+/// The same, where it was made.
+pub fn add_made(
+    text: &mut String,
+    mark: &str,
+    one: Result<String, AllocError>,
+) -> Result<(), AllocError> {
+    match one {
+        Ok(one) => add_text(text, mark, one.as_str()),
+        Err(error) => Err(error),
+    }
 }
 
 /// Some trials in words.
@@ -127,11 +219,10 @@ fn trials_text<A: Allocator + Copy>(
     alloc: A,
     texts: Global,
     trials: &[Trial<A>],
-) -> Result<String<Global>, AllocError> {
+) -> Result<String, AllocError> {
     let mut text = String::new(texts);
     for trial in trials {
-        let one = trial_text(texts, &judged_copy(alloc, trial)?)?;
-        add_text(&mut text, ", ", one.as_str())?;
+        add_made(&mut text, ", ", copy_text(alloc, texts, trial))?;
     }
     Ok(text)
 }
@@ -141,12 +232,12 @@ fn batch_text<A: Allocator + Copy>(
     alloc: A,
     texts: Global,
     batch: &Result<Batch<A>, TurnFault>,
-) -> Result<String<Global>, AllocError> {
+) -> Result<String, AllocError> {
     match batch {
         Ok(Batch::Trials(trials)) => trials_text(alloc, texts, trials),
-        Ok(Batch::Done) => format!(in texts; "Done"),
-        Ok(Batch::Gone) => format!(in texts; "Gone"),
-        Err(fault) => format!(in texts; "Err({fault:?})"),
+        Ok(Batch::Done) => "Done".to_string(texts),
+        Ok(Batch::Gone) => "Gone".to_string(texts),
+        Err(fault) => fault_text(texts, *fault),
     }
 }
 
@@ -155,7 +246,7 @@ fn report_text<A: Allocator + Copy>(
     alloc: A,
     texts: Global,
     report: &BatchReport<A>,
-) -> Result<String<Global>, AllocError> {
+) -> Result<String, AllocError> {
     let next = turn_text(alloc, texts, &report.next)?;
     format!(in texts; "{}, {next}", report.reported)
 }
@@ -165,7 +256,7 @@ pub fn answer_text<A: Allocator + Copy>(
     alloc: A,
     texts: Global,
     answer: &Answer<A>,
-) -> Result<String<Global>, AllocError> {
+) -> Result<String, AllocError> {
     match answer {
         Answer::Post(told) => debug_text(texts, told),
         Answer::PostText(told) => debug_text(texts, told),
@@ -179,20 +270,6 @@ pub fn answer_text<A: Allocator + Copy>(
         Answer::TakeStray(told) => debug_text(texts, told),
         Answer::Batch(batch) => batch_text(alloc, texts, batch),
         Answer::ReportBatch(report) => report_text(alloc, texts, report),
-        Answer::NoMemory => format!(in texts; "NoMemory"),
+        Answer::NoMemory => "NoMemory".to_string(texts),
     }
-}
-
-/// The answers of a list in words.
-pub fn answers_text<A: Allocator + Copy>(
-    alloc: A,
-    texts: Global,
-    answers: &[Answer<A>],
-) -> Result<String<Global>, AllocError> {
-    let mut text = String::new(texts);
-    for answer in answers {
-        let one = answer_text(alloc, texts, answer)?;
-        add_text(&mut text, "; ", one.as_str())?;
-    }
-    Ok(text)
 }

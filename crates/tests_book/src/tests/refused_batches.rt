@@ -1,14 +1,19 @@
 //! A worked run by batches, with a request of each call refused.
-use crate::batches::{SCENES, Scene, take_first_goals};
-use crate::lists::{add_text, turn_text};
-use crate::script::{open, trial_text};
+use crate::tests::batches::{SCENES, Scene, take_first_goals};
+use crate::tests::lists::{add_made, turn_text};
+use crate::tests::script::{is_text, open, trial_text};
 use chr_book::Book;
 use chr_calls::{Batch, TurnFault};
 use chr_search::{Judged, judge};
 use refusing::Refusing;
-use std::alloc::Global;
+use std::alloc::{AllocError, Global};
 
 type Memory<'m> = &'m Refusing<Global>;
+
+/// What is answered where a batch is asked for, and the judgements of its trials.
+type Given<'m> = Result<Batch<Memory<'m>>, TurnFault>;
+
+type Judgements<'m> = Vec<Judged<Memory<'m>>, Memory<'m>>;
 
 /// The seat, and the ticket of the goal that it works on after the first four.
 const SEAT: u32 = 1;
@@ -27,19 +32,19 @@ static ROWS: [Row; 2] = [
     ),
 ];
 
-/// Asks for a batch with request number `n` refused, and again where it was. The judgements of its trials, and whether it was
-/// refused. None where it doesn't fail exactly then, or gives no trials.
-fn judged_batch<'m>(
-    memory: Memory<'m>,
-    book: &mut Book<Memory<'m>>,
-    n: u64,
-) -> Option<(Vec<Judged<Memory<'m>>, Memory<'m>>, bool)> {
+/// Asks for a batch with request number `n` refused, and again where it was. The batch, and whether it was refused. None where
+/// it doesn't fail exactly then.
+fn asked<'m>(memory: Memory<'m>, book: &mut Book<Memory<'m>>, n: u64) -> Option<(Given<'m>, bool)> {
     memory.refuse(n);
-    let mut batch = book.batch(SEAT, TICKET);
-    let refused = memory.is_refused(matches!(batch, Err(TurnFault::NoMemory)))?;
-    if refused {
-        batch = book.batch(SEAT, TICKET);
+    let batch = book.batch(SEAT, TICKET);
+    if memory.is_refused(matches!(batch, Err(TurnFault::NoMemory)))? {
+        return Some((book.batch(SEAT, TICKET), true));
     }
+    Some((batch, false))
+}
+
+/// The judgements of a batch's trials.
+fn judgements_of<'m>(memory: Memory<'m>, batch: Given<'m>) -> Option<Judgements<'m>> {
     let Ok(Batch::Trials(trials)) = batch else {
         return None;
     };
@@ -47,28 +52,28 @@ fn judged_batch<'m>(
     for trial in trials {
         judgements.push(judge(trial)).ok()?;
     }
-    Some((judgements, refused))
+    Some(judgements)
 }
 
 /// Judgements in words.
-fn judgements_text(texts: Global, judgements: &[Judged<Memory>]) -> Option<String<Global>> {
+fn judgements_text(texts: Global, judgements: &[Judged<Memory>]) -> Result<String, AllocError> {
     let mut text = String::new(texts);
     for judged in judgements {
-        let one = trial_text(texts, judged).ok()?;
-        add_text(&mut text, ", ", one.as_str()).ok()?;
+        add_made(&mut text, ", ", trial_text(texts, judged))?;
     }
-    Some(text)
+    Ok(text)
 }
 
-/// Reports judgements with request number `n` refused, and again where it was: how many both calls reported together, what
-/// comes next, in words, and whether it was refused. None where the call doesn't fail exactly then.
-fn reported<'m>(
+/// Reports judgements with request number `n` refused, and again where it was. Whether it was refused. None where the call
+/// doesn't fail exactly then, or where both calls together don't report so many and tell what comes next.
+fn is_reported<'m>(
     memory: Memory<'m>,
     texts: Global,
     book: &mut Book<Memory<'m>>,
     n: u64,
     judgements: &[Judged<Memory<'m>>],
-) -> Option<(usize, String<Global>, bool)> {
+    row: &Row,
+) -> Option<bool> {
     memory.refuse(n);
     let mut report = book.report_batch(SEAT, TICKET, judgements);
     let refused = memory.is_refused(matches!(report.next, Err(TurnFault::NoMemory)))?;
@@ -77,8 +82,8 @@ fn reported<'m>(
         report = book.report_batch(SEAT, TICKET, judgements);
         count = count.wrapping_add(report.reported);
     }
-    let next = turn_text(memory, texts, &report.next).ok()?;
-    Some((count, next, refused))
+    let next = turn_text(memory, texts, &report.next);
+    (count == row.1 && is_text(next, row.2)).then_some(refused)
 }
 
 /// Makes both calls of a row with request number `n` of each refused. How many were. None where an answer isn't as expected.
@@ -89,11 +94,13 @@ fn refusals<'m>(
     n: u64,
     row: &Row,
 ) -> Option<u64> {
-    let (judgements, asked) = judged_batch(memory, book, n)?;
-    let text = judgements_text(texts, &judgements)?;
-    let (count, next, told) = reported(memory, texts, book, n, &judgements)?;
-    let is_right = text.as_str() == row.0 && count == row.1 && next.as_str() == row.2;
-    is_right.then_some(u64::from(asked).wrapping_add(u64::from(told)))
+    let (batch, asked) = asked(memory, book, n)?;
+    let judgements = judgements_of(memory, batch)?;
+    if !is_text(judgements_text(texts, &judgements), row.0) {
+        return None;
+    }
+    let reported = is_reported(memory, texts, book, n, &judgements, row)?;
+    Some(u64::from(asked).wrapping_add(u64::from(reported)))
 }
 
 /// The same of all rows, after the first four goals.

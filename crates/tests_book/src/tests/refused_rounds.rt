@@ -1,11 +1,9 @@
 //! Rounds of calls for each ticket of a worked run, with a request of each call refused.
-use crate::lists::post_text;
-use crate::script::{Opening, lines, open};
+use crate::tests::script::{Opening, has_lines, open};
 use chr_book::Book;
 use chr_calls::TicketState;
-use chr_run_calls::{SeatCall, run_calls};
 use refusing::Refusing;
-use std::alloc::{AllocError, Global};
+use std::alloc::Global;
 
 type Memory<'m> = &'m Refusing<Global>;
 
@@ -39,19 +37,6 @@ static SCENES: [Scene; 2] = [
     ),
 ];
 
-/// Posts the atoms of a text.
-fn post<'m>(
-    memory: Memory<'m>,
-    book: &mut Book<Memory<'m>>,
-    posts: &str,
-) -> Result<(), AllocError> {
-    let mut calls = Vec::new(memory);
-    let call = post_text(memory, posts)?;
-    calls.push(SeatCall { seat: SEAT, call })?;
-    let _answers = run_calls(memory, book, &calls)?;
-    Ok(())
-}
-
 /// Makes rounds for a ticket to its end, each call with its request number `n` refused, and again where it was. How many were.
 /// None where a call doesn't fail exactly then, or where the ticket doesn't end.
 fn take<'m>(memory: Memory<'m>, book: &mut Book<Memory<'m>>, n: u64, ticket: u64) -> Option<u64> {
@@ -83,13 +68,12 @@ fn play_on<'m>(
     n: u64,
     scene: &Scene,
 ) -> Option<(u64, bool)> {
-    post(memory, book, scene.1).ok()?;
+    book.post_text(SEAT, scene.1.as_bytes()).ok()?;
     let mut all = 0u64;
     for ticket in 1..TICKETS + 1 {
         all = all.wrapping_add(take(memory, book, n, ticket)?);
     }
-    let text = lines(texts, book).ok()?;
-    Some((all, text.as_slice() == scene.2.as_bytes()))
+    Some((all, has_lines(texts, book, scene.2.as_bytes())))
 }
 
 /// The same on a book of its own.

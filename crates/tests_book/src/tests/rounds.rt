@@ -1,10 +1,10 @@
 //! Rounds of calls by one seat.
-use crate::rows::rows_right;
-use crate::script::{Call, Opening, Row, Script};
-use crate::tables::TOKEN;
+use crate::tests::rows::rows_right;
+use crate::tests::script::{Call, Opening, Script, is_text};
+use crate::tests::tables::TOKEN;
 use std::alloc::Global;
 
-const POSTED: [Row; 1] = [(0, Call::Post("n(1), t, t."), "Ok(1)", "WWW")];
+const POSTED: [&str; 1] = ["0 post n(1), t, t. | Ok(1) | WWW"];
 
 /// A seat, a ticket, how many rounds are made at most, the answer, and the states of the tickets after it.
 type Rounds<'t> = (u32, u64, u64, &'t str, &'t str);
@@ -23,7 +23,7 @@ static ROUNDS: [Rounds; 8] = [
 const LINES: &str =
     "quiet\nP 1 n(1)\nP 2 t\nP 3 t\nA 1 1\nD 1\nA 2 2\nF 2 1 2\\1\nD 2\nA 3 3\nD 3\nA 4 4\nD 4\n#2 t\n#3 t\n#4 r(1)\n";
 
-const WAITING: [Row; 1] = [(0, Call::Post("t, n(1), t."), "Ok(1)", "WWW")];
+const WAITING: [&str; 1] = ["0 post t, n(1), t. | Ok(1) | WWW"];
 
 static STARTS: [Rounds; 8] = [
     (1, 1, 0, "Ok(None)", "WWW"),
@@ -57,26 +57,21 @@ static STARTS: [Rounds; 8] = [
 const STARTED: &str =
     "open\nP 1 t\nP 2 n(1)\nP 3 t\nA 1 1\nD 1\nA 2 2\nF 2 1 1\\2\nA 3 3\n#1 t\n#3 t\n";
 
-/// Makes rounds, which start the ticket or come after seat 1 has claimed it, where it waits: the answer, and the states of the
-/// tickets.
-fn given(
-    script: &mut Script<Global>,
-    starts: bool,
-    rounds: &Rounds,
-) -> Option<(String<Global>, String<Global>)> {
-    let (seat, ticket, most, _, _) = *rounds;
-    if !starts {
-        let _claimed = script.make(1, Call::Claim(ticket), &[]).ok()?;
+/// Makes rounds, which start the ticket or come after seat 1 has claimed it, where it waits. Whether the answer, and the states
+/// of the tickets after it, are as expected.
+fn is_right(script: &mut Script<Global>, starts: bool, rounds: &Rounds) -> bool {
+    let (seat, ticket, most, answer, states) = *rounds;
+    if !starts && script.make(1, Call::Claim(ticket), &[]).is_err() {
+        return false;
     }
-    let answer = script.make_rounds(starts, seat, ticket, most).ok()?;
-    Some((answer, script.states().ok()?))
+    is_text(script.make_rounds(starts, seat, ticket, most), answer) && script.has_states(states)
 }
 
 /// Makes all rounds after the posts. How many are as expected before the first that isn't. None where the posts aren't
-/// answered as expected, or where memory ran out.
+/// answered as expected.
 fn rounds_right(
     script: &mut Script<Global>,
-    posts: &[Row],
+    posts: &[&str],
     starts: bool,
     all: &[Rounds],
 ) -> Option<usize> {
@@ -84,8 +79,7 @@ fn rounds_right(
         return None;
     }
     for (i, rounds) in all.iter().enumerate() {
-        let (answer, states) = given(script, starts, rounds)?;
-        if answer.as_str() != rounds.3 || states.as_str() != rounds.4 {
+        if !is_right(script, starts, rounds) {
             return Some(i);
         }
     }
@@ -96,16 +90,14 @@ fn rounds_right(
 fn end(
     alloc: Global,
     limit: u64,
-    posts: &[Row],
+    posts: &[&str],
     starts: bool,
     all: &[Rounds],
     lines: &str,
 ) -> Option<(usize, bool)> {
     let mut script = Script::open(alloc, alloc, Opening { limit, ..TOKEN })?;
-    match rounds_right(&mut script, posts, starts, all) {
-        None => None,
-        Some(right) => Some((right, script.has_lines(lines))),
-    }
+    let right = rounds_right(&mut script, posts, starts, all)?;
+    Some((right, script.has_lines(lines.as_bytes())))
 }
 
 #[test]

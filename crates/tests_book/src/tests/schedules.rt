@@ -1,13 +1,12 @@
 //! Many lists of calls by three seats, whose logs the check of a log accepts.
-use crate::lists::{Does, call_of, post_text};
-use crate::script::{Opening, open};
-use crate::tables::GCD;
+use crate::tests::lists::{Calls, Does};
+use crate::tests::script::{Opening, open};
+use crate::tests::tables::GCD;
 use chr_book::Book;
 use chr_calls::TicketState;
 use chr_check::{Verdict, check};
 use chr_entries::Entries;
-use chr_log::{Event, Log, Version};
-use chr_run_calls::{SeatCall, run_calls};
+use chr_log::{Entry, Event, Version};
 use chr_value::Atom;
 use std::alloc::{AllocError, Global};
 
@@ -131,20 +130,24 @@ fn drawn_course(book: &Book<Global>, draw: u64) -> Course {
     }
 }
 
-/// A call of a course, for which any call by any seat stands so many times in thirty-two.
-fn drawn_call(course: &Course, does: Does, any: u64, draw: u64) -> SeatCall<Global> {
+/// Adds a call of a course, for which any call by any seat stands so many times in thirty-two.
+fn add_drawn(
+    calls: &mut Calls<Global>,
+    course: &Course,
+    does: Does,
+    any: u64,
+    draw: u64,
+) -> Result<(), AllocError> {
     if any <= draw % 32 {
-        return SeatCall {
-            seat: course.seat,
-            call: call_of(does, course.ticket),
-        };
+        return calls.add_own(course.seat, does, course.ticket);
     }
     let number = draw / 32;
     let other = ANY.get((number / 3 % 10) as usize).copied();
-    SeatCall {
-        seat: (number % 3) as u32 + 1,
-        call: call_of(other.unwrap_or(does), course.ticket),
-    }
+    calls.add_own(
+        (number % 3) as u32 + 1,
+        other.unwrap_or(does),
+        course.ticket,
+    )
 }
 
 /// What is posted in a round, if anything: the posts rise for some seeds, and fall for others.
@@ -158,6 +161,24 @@ fn post_in(scene: &Scene, seed: u64, number: usize) -> Option<&'static str> {
     scene.1.get(place).copied()
 }
 
+/// Adds the calls of a round by which two goals are taken further by turns.
+fn add_turns(
+    calls: &mut Calls<Global>,
+    book: &Book<Global>,
+    any: u64,
+    first: u64,
+) -> Result<(), AllocError> {
+    let mut draw = next_draw(first);
+    let (one, other) = (drawn_course(book, first), drawn_course(book, draw));
+    for (does, next) in one.kinds.iter().zip(other.kinds.iter()) {
+        draw = next_draw(draw);
+        add_drawn(calls, &one, *does, any, draw)?;
+        draw = next_draw(draw);
+        add_drawn(calls, &other, *next, any, draw)?;
+    }
+    Ok(())
+}
+
 /// The calls of a round: two goals are taken further by turns, after a post in the first rounds.
 fn round(
     alloc: Global,
@@ -166,20 +187,12 @@ fn round(
     seed: u64,
     number: usize,
     first: u64,
-) -> Result<Vec<SeatCall<Global>, Global>, AllocError> {
-    let mut calls = Vec::new(alloc);
+) -> Result<Calls<Global>, AllocError> {
+    let mut calls = Calls::new(alloc);
     if let Some(text) = post_in(scene, seed, number) {
-        let call = post_text(alloc, text)?;
-        calls.push(SeatCall { seat: 1, call })?;
+        calls.add_post(alloc, 1, text)?;
     }
-    let mut draw = next_draw(first);
-    let (one, other) = (drawn_course(book, first), drawn_course(book, draw));
-    for (does, next) in one.kinds.iter().zip(other.kinds.iter()) {
-        draw = next_draw(draw);
-        calls.push(drawn_call(&one, *does, seed % 8, draw))?;
-        draw = next_draw(draw);
-        calls.push(drawn_call(&other, *next, seed % 8, draw))?;
-    }
+    add_turns(&mut calls, book, seed % 8, first)?;
     calls.truncate(16);
     Ok(calls)
 }
@@ -188,10 +201,10 @@ fn round(
 fn add_round(
     alloc: Global,
     book: &mut Book<Global>,
-    list: &mut Vec<SeatCall<Global>, Global>,
-    mut calls: Vec<SeatCall<Global>, Global>,
+    list: &mut Calls<Global>,
+    mut calls: Calls<Global>,
 ) -> Result<(), AllocError> {
-    let _answers = run_calls(alloc, book, &calls)?;
+    let _answers = calls.made_on(alloc, book)?;
     list.append(&mut calls)
 }
 
@@ -201,8 +214,8 @@ fn rounds(
     scene: &Scene,
     book: &mut Book<Global>,
     seed: u64,
-) -> Result<Vec<SeatCall<Global>, Global>, AllocError> {
-    let mut list = Vec::new(alloc);
+) -> Result<Calls<Global>, AllocError> {
+    let mut list = Calls::new(alloc);
     let mut draw = seed;
     for number in 0..ROUNDS {
         draw = next_draw(next_draw(draw));
@@ -213,16 +226,13 @@ fn rounds(
 }
 
 /// The same on a book of their own.
-fn list_of(alloc: Global, scene: &Scene, seed: u64) -> Option<Vec<SeatCall<Global>, Global>> {
+fn list_of(alloc: Global, scene: &Scene, seed: u64) -> Option<Calls<Global>> {
     let mut book = open(alloc, scene.0)?;
     rounds(alloc, scene, &mut book, seed).ok()
 }
 
 /// The events of a book's log.
-fn events_of(
-    alloc: Global,
-    log: &Entries<Global>,
-) -> Result<Vec<Event<Global>, Global>, AllocError> {
+fn events_of(alloc: Global, log: &Entries<Global>) -> Result<Vec<Event<Global>>, AllocError> {
     let mut events = Vec::new(alloc);
     for index in 0..log.len() {
         events.push(log.get(index)?.event)?;
@@ -233,20 +243,17 @@ fn events_of(
 /// The events of a strict log.
 fn strict_events(
     alloc: Global,
-    log: &Log<Global>,
-) -> Result<Vec<Event<Global>, Global>, AllocError> {
+    entries: &[Entry<Global>],
+) -> Result<Vec<Event<Global>>, AllocError> {
     let mut events = Vec::new(alloc);
-    for entry in log.entries() {
+    for entry in entries {
         events.push(entry.event.copy(alloc)?)?;
     }
     Ok(events)
 }
 
 /// The constraints of a book's store.
-fn store_of(
-    alloc: Global,
-    book: &Book<Global>,
-) -> Result<Vec<(u64, Atom<Global>), Global>, AllocError> {
+fn store_of(alloc: Global, book: &Book<Global>) -> Result<Vec<(u64, Atom<Global>)>, AllocError> {
     let mut store = Vec::new(alloc);
     for (label, atom) in book.store().iter() {
         store.push((label, atom.copy(alloc)?))?;
@@ -254,35 +261,54 @@ fn store_of(
     Ok(store)
 }
 
-/// What the check of a book's strict log answers, where it has one. None where it is refused or memory ran out.
+/// What the check of a book's log answers. None where it is refused, or where memory ran out.
+fn verdict(alloc: Global, book: &Book<Global>, store: &[(u64, Atom<Global>)]) -> Option<Verdict> {
+    let events = events_of(alloc, book.log()).ok()?;
+    check(alloc, book.program(), Version::Two, &events, store).ok()
+}
+
+/// The same of the entries of its strict log.
+fn verdict_of(
+    alloc: Global,
+    book: &Book<Global>,
+    entries: &[Entry<Global>],
+    store: &[(u64, Atom<Global>)],
+) -> Option<Verdict> {
+    let events = strict_events(alloc, entries).ok()?;
+    check(alloc, book.program(), Version::One, &events, store).ok()
+}
+
+/// What the check of a book's strict log answers, where it has one. None where it is refused, or where memory ran out.
 fn strict_verdict(
     alloc: Global,
     book: &Book<Global>,
     store: &[(u64, Atom<Global>)],
 ) -> Option<Option<Verdict>> {
-    let Some(log) = book.strict_log().ok()? else {
-        return Some(None);
-    };
-    let events = strict_events(alloc, &log).ok()?;
-    let verdict = check(alloc, book.program(), Version::One, &events, store).ok()?;
-    Some(Some(verdict))
+    match book.strict_log().ok()? {
+        None => Some(None),
+        Some(log) => verdict_of(alloc, book, log.entries(), store).map(Some),
+    }
 }
 
 /// What the checks of a book's log and of its strict log answer. None where one is refused, or where memory ran out.
 fn verdicts(alloc: Global, book: &Book<Global>) -> Option<(Verdict, Option<Verdict>)> {
     let store = store_of(alloc, book).ok()?;
-    let events = events_of(alloc, book.log()).ok()?;
-    let verdict = check(alloc, book.program(), Version::Two, &events, &store).ok()?;
-    Some((verdict, strict_verdict(alloc, book, &store)?))
+    match (
+        verdict(alloc, book, &store),
+        strict_verdict(alloc, book, &store),
+    ) {
+        (Some(verdict), Some(strict)) => Some((verdict, strict)),
+        _ => None,
+    }
 }
 
 /// Makes a list of calls. Whether the book is then quiet, and what the checks of its logs answer.
 fn run_checked(
     alloc: Global,
     book: &mut Book<Global>,
-    list: &[SeatCall<Global>],
+    list: &Calls<Global>,
 ) -> Option<(bool, (Verdict, Option<Verdict>))> {
-    let _answers = run_calls(alloc, book, list).ok()?;
+    let _answers = list.made_on(alloc, book).ok()?;
     Some((book.quiet(), verdicts(alloc, book)?))
 }
 

@@ -1,10 +1,9 @@
 //! Lists of calls, with a request refused as a seat's own judgement is made.
-use crate::lists::{Does, answers_text, call_of, post_text};
-use crate::script::{Opening, lines, open};
-use crate::tables::TOKEN;
+use crate::tests::lists::{Answers, Calls, Does};
+use crate::tests::script::{Opening, has_lines, lines, open};
+use crate::tests::tables::TOKEN;
 use chr_book::Book;
 use chr_calls::TicketState;
-use chr_run_calls::{Answer, SeatCall, run_calls};
 use refusing::Refusing;
 use std::alloc::{AllocError, Global};
 
@@ -42,21 +41,17 @@ fn begin<'m>(
     book: &mut Book<Memory<'m>>,
     posts: &str,
 ) -> Result<(), AllocError> {
-    let mut calls = Vec::new(memory);
-    let call = post_text(memory, posts)?;
-    calls.push(SeatCall { seat: 0, call })?;
-    let call = call_of(Does::Claim, 1);
-    calls.push(SeatCall { seat: 1, call })?;
-    let _answers = run_calls(memory, book, &calls)?;
-    Ok(())
+    let mut calls = Calls::new(memory);
+    calls.add_post(memory, 0, posts)?;
+    calls.add_own(1, Does::Claim, 1)?;
+    calls.made_on(memory, book).map(|_| ())
 }
 
 /// The calls of a list.
-fn calls_of<'m>(memory: Memory<'m>, list: &List) -> Option<Vec<SeatCall<Memory<'m>>, Memory<'m>>> {
-    let mut calls = Vec::new(memory);
+fn calls_of<'m>(memory: Memory<'m>, list: &List) -> Option<Calls<Memory<'m>>> {
+    let mut calls = Calls::new(memory);
     for does in list {
-        let call = call_of(*does, 1);
-        calls.push(SeatCall { seat: 1, call }).ok()?;
+        calls.add_own(1, *does, 1).ok()?;
     }
     Some(calls)
 }
@@ -68,47 +63,50 @@ fn told<'m>(
     texts: Global,
     book: &Book<Memory<'m>>,
     before: &[u8],
-    answers: Result<Vec<Answer<Memory<'m>>, Memory<'m>>, AllocError>,
-) -> Option<String<Global>> {
-    match answers {
-        Err(_) => {
-            let after = lines(texts, book).ok()?;
-            if before != after.as_slice() || book.state(1) != TicketState::Held(1) {
-                return None;
-            }
+    answers: &Result<Answers<Memory<'m>>, AllocError>,
+) -> Option<String> {
+    match (answers, book.state(1)) {
+        (Err(_), TicketState::Held(1)) if has_lines(texts, book, before) => {
             "no room".to_string(texts).ok()
         }
-        Ok(answers) => {
-            if book.state(1) != TicketState::Resting {
-                return None;
-            }
-            answers_text(memory, texts, &answers).ok()
-        }
+        (Ok(answers), TicketState::Resting) => answers.text(memory, texts).ok(),
+        _ => None,
     }
 }
 
-/// Whether request number `n` of a list was refused, and what the list was then answered, in words, on a book as it is
-/// opened.
+/// Whether request number `n` of a list was refused, and what the list was then answered, in words, on a book that has these
+/// lines.
+fn outcome_of<'m>(
+    memory: Memory<'m>,
+    texts: Global,
+    book: &mut Book<Memory<'m>>,
+    n: u64,
+    calls: &Calls<Memory<'m>>,
+    before: &[u8],
+) -> Option<(bool, String)> {
+    memory.refuse(n);
+    let answers = calls.made_on(memory, book);
+    let refused = memory.was_refused();
+    memory.refuse(0);
+    Some((refused, told(memory, texts, book, before, &answers)?))
+}
+
+/// The same of a list that is made, on a book as it is opened.
 fn outcome_on<'m>(
     memory: Memory<'m>,
     texts: Global,
     book: &mut Book<Memory<'m>>,
     n: u64,
     scene: &Scene,
-) -> Option<(bool, String<Global>)> {
+) -> Option<(bool, String)> {
     begin(memory, book, scene.0).ok()?;
     let calls = calls_of(memory, &scene.1)?;
     let before = lines(texts, book).ok()?;
-    memory.refuse(n);
-    let answers = run_calls(memory, book, &calls);
-    let refused = memory.was_refused();
-    memory.refuse(0);
-    let text = told(memory, texts, book, before.as_slice(), answers)?;
-    Some((refused, text))
+    outcome_of(memory, texts, book, n, &calls, &before)
 }
 
 /// The same on a book of its own.
-fn outcome(memory: Memory, texts: Global, n: u64, scene: &Scene) -> Option<(bool, String<Global>)> {
+fn outcome(memory: Memory, texts: Global, n: u64, scene: &Scene) -> Option<(bool, String)> {
     let mut book = open(memory, Opening { limit: 10, ..TOKEN })?;
     outcome_on(memory, texts, &mut book, n, scene)
 }
@@ -119,8 +117,8 @@ fn add_outcome(
     texts: Global,
     n: u64,
     scene: &Scene,
-    all: &mut String<Global>,
-    last: &mut String<Global>,
+    all: &mut String,
+    last: &mut String,
 ) -> Option<bool> {
     let memory = Refusing::new(texts, 0);
     let (refused, text) = outcome(&memory, texts, n, scene)?;
@@ -132,14 +130,13 @@ fn add_outcome(
     Some(refused)
 }
 
-/// What the list answers with its first request refused, then with its second, and so on, a line for each that differs from
-/// the one before. The last one is without a refusal.
-fn outcomes(texts: Global, scene: &Scene) -> Option<String<Global>> {
-    let mut all = String::new(texts);
+/// Adds what the list answers with its first request refused, then with its second, and so on, a line for each that differs
+/// from the one before. The last one is without a refusal.
+fn add_outcomes(texts: Global, scene: &Scene, all: &mut String) -> Option<()> {
     let mut last = String::new(texts);
     for n in 1..100u64 {
-        if !add_outcome(texts, n, scene, &mut all, &mut last)? {
-            return Some(all);
+        if !add_outcome(texts, n, scene, all, &mut last)? {
+            return Some(());
         }
     }
     None
@@ -149,7 +146,9 @@ fn outcomes(texts: Global, scene: &Scene) -> Option<String<Global>> {
 fn own_judgements_are_refused(rt: HostRuntime) {
     for posts in POSTS {
         for (list, expected) in &OUTCOMES {
-            let text = outcomes(rt.alloc(), &(posts, *list)).unwrap_or(String::new(rt.alloc()));
+            let mut text = String::new(rt.alloc());
+            let added = add_outcomes(rt.alloc(), &(posts, *list), &mut text);
+            assert_eq!(rt; added, Some(()), "{list:?} of {posts}");
             assert_eq!(rt; text.as_str(), *expected, "{list:?} of {posts}");
         }
     }

@@ -1,5 +1,5 @@
 //! Opening a book.
-use crate::tables::GCD;
+use crate::tests::tables::GCD;
 use chr_book::{Book, OpenFault};
 use chr_calls::TicketState;
 use chr_text::read_program;

@@ -1,15 +1,18 @@
 //! Books of programs whose names aren't all in the table.
+use crate::tests::script::adds_names;
 use chr_book::{Book, OpenFault};
-use chr_text::{read_atoms, read_program};
+use chr_text::read_program;
 use chr_value::Names;
 use std::alloc::Global;
 
 /// What a book is answered to a program and the table of other posts, None where a text isn't read.
 fn opened(alloc: Global, program: &str, posts: &str) -> Option<Result<(), OpenFault>> {
+    let mut names = Names::new(alloc);
+    if !adds_names(alloc, posts, &mut names) {
+        return None;
+    }
     let mut numbered = Names::new(alloc);
     let program = read_program(alloc, program.as_bytes(), &mut numbered).ok()?;
-    let mut names = Names::new(alloc);
-    let _posts = read_atoms(alloc, posts.as_bytes(), &mut names).ok()?;
     Some(Book::new(alloc, program, names, 10).map(|_| ()))
 }
 

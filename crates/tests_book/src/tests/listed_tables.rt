@@ -1,0 +1,141 @@
+//! Tables of calls, each as one list.
+use crate::tests::lists::{Calls, answer_text, list_of};
+use crate::tests::rows::{answer, row_of};
+use crate::tests::script::{Script, has_lines, is_text, open};
+use crate::tests::tables::{GCD, OLDER_GOAL_IS_DROPPED, TOKEN, Table, tables};
+use chr_book::Book;
+use chr_log::write_entries;
+use chr_run_calls::Answer;
+use std::alloc::Global;
+
+/// The search of a goal without partners.
+static ALONE: Table = Table {
+    name: "alone",
+    opening: GCD,
+    rows: &[
+        "0 post gcd(4). | Ok(1) | W",
+        "1 claim 1 | Ok(1) | 1",
+        "1 trial 1 | 1.1 [1] Misfit | 1",
+        "1 report 1 | Ok(()) | 1",
+        "1 trial 1 | 2.1 [1] Part | 1",
+        "1 report 1 | Ok(()) | 1",
+        "1 trial 1 | 2.2 [1] Part | 1",
+        "1 report 1 | Ok(()) | 1",
+        "1 trial 1 | Done | 1",
+        "1 drop_goal 1 | Ok(Dropped) | E",
+    ],
+    lines: "quiet\nP 1 gcd(4)\nA 1 1\nD 1\n#1 gcd(4)\n",
+};
+
+/// Words of a seat that was told no trial for the ticket, or whose last trial was of another ticket or told to another seat.
+static OWN_WORDS: Table = Table {
+    name: "own words",
+    opening: TOKEN,
+    rows: &[
+        "0 post n(1), t. | Ok(1) | WW",
+        "1 report 1 | Err(NotHeld) | WW",
+        "1 claim 1 | Ok(1) | 1W",
+        "1 report 1 | Err(Stale) | 1W",
+        "1 fire 1 | Err(Stale) | 1W",
+        "2 fire 1 | Err(NotHeld) | 1W",
+        "1 trial 1 | 1.2 [1] Part | 1W",
+        "2 claim 2 | Ok(2) | 12",
+        "2 trial 2 | 1.1 [2] Part | 12",
+        "1 report 1 | Ok(()) | 12",
+        "1 put_down 1 | Ok(()) | R2",
+        "2 claim 1 | Ok(1) | 22",
+        "2 report 1 | Err(Stale) | 22",
+        "2 report 2 | Ok(()) | 22",
+        "2 trial 2 | 1.1 [2, 1] Whole | 22",
+        "1 fire 2 | Err(NotHeld) | 22",
+        "2 fire 2 | Ok(Fired(Fired { first: 3, count: 1, active_lives: true })) | 22W",
+    ],
+    lines: "open\nP 1 n(1)\nP 2 t\nA 1 1\nA 2 2\nF 2 1 2\\1\n#2 t\n",
+};
+
+/// Makes all calls of rows. The same calls as one list, with the judgements that the script has made of them.
+fn listed(alloc: Global, script: &mut Script<Global>, rows: &[&str]) -> Option<Calls<Global>> {
+    for text in rows {
+        let _answer = answer(script, &row_of(text)?)?;
+    }
+    list_of(alloc, script, rows)
+}
+
+/// The calls of a table as one list.
+fn calls_of(alloc: Global, table: &Table) -> Option<Calls<Global>> {
+    let mut script = Script::open(alloc, alloc, table.opening)?;
+    listed(alloc, &mut script, table.rows)
+}
+
+/// Whether an answer is the one that its row has.
+fn is_right(alloc: Global, text: &str, answer: &Answer<Global>) -> bool {
+    match row_of(text) {
+        Some(row) => is_text(answer_text(alloc, alloc, answer), row.answer),
+        None => false,
+    }
+}
+
+/// How many answers are those of their rows before the first that isn't.
+fn rows_right(alloc: Global, rows: &[&str], answers: &[Answer<Global>]) -> usize {
+    for (i, (text, answer)) in rows.iter().zip(answers.iter()).enumerate() {
+        if !is_right(alloc, text, answer) {
+            return i;
+        }
+    }
+    answers.len()
+}
+
+/// Makes the calls of a table's list on its book. How many are answered as expected.
+fn run(alloc: Global, book: &mut Book<Global>, table: &Table) -> Option<usize> {
+    let calls = calls_of(alloc, table)?;
+    let answers = calls.made_on(alloc, book).ok()?;
+    Some(rows_right(alloc, table.rows, answers.as_slice()))
+}
+
+/// How many calls of a table's list are answered as expected, and whether it ends in the table's lines.
+fn end(alloc: Global, table: &Table) -> Option<(usize, bool)> {
+    let mut book = open(alloc, table.opening)?;
+    let right = run(alloc, &mut book, table);
+    let ends = has_lines(alloc, &book, table.lines.as_bytes());
+    Some((right?, ends))
+}
+
+/// Adds the entries of a book's strict log, line by line.
+fn add_strict_lines(text: &mut Vec<u8>, book: &Book<Global>) -> Option<()> {
+    let log = book.strict_log().ok()??;
+    write_entries(text, book.names(), log.entries()).ok()
+}
+
+/// Adds the entries of the strict log that a table's list leaves, line by line.
+fn add_strict_end(alloc: Global, text: &mut Vec<u8>, table: &Table) -> Option<()> {
+    let mut book = open(alloc, table.opening)?;
+    let right = run(alloc, &mut book, table);
+    right.and(add_strict_lines(text, &book))
+}
+
+/// Whether each of these tables is answered as a list as it is expected, row by row and to its lines. The name of the first
+/// that isn't.
+fn first_wrong(alloc: Global, tables: &[&'static Table<'static>]) -> Option<&'static str> {
+    for table in tables {
+        if end(alloc, table) != Some((table.rows.len(), true)) {
+            return Some(table.name);
+        }
+    }
+    None
+}
+
+#[test]
+fn tables_as_lists(rt: HostRuntime) {
+    assert_eq!(rt; first_wrong(rt.alloc(), &tables()), None);
+    assert_eq!(rt; first_wrong(rt.alloc(), &[&ALONE, &OWN_WORDS]), None);
+}
+
+/// The strict log of the list in which an older goal is dropped.
+const STRICT: &str = "P 1 n(1)\nP 2 t\nA 1 1\nA 2 2\nF 2 1 2\\1\nA 3 3\nD 1\nD 2\nD 3\n";
+
+#[test]
+fn strict_log_of_a_list(rt: HostRuntime) {
+    let mut text = Vec::new(rt.alloc());
+    let added = add_strict_end(rt.alloc(), &mut text, &OLDER_GOAL_IS_DROPPED);
+    assert!(rt; added.is_some() && text.as_slice() == STRICT.as_bytes());
+}
