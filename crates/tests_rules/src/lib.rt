@@ -11,20 +11,4 @@
 #![tactic(auto)]
 
 #[cfg(test)]
-mod guards;
-#[cfg(test)]
-mod plans;
-#[cfg(test)]
-mod random;
-#[cfg(test)]
-mod refusals;
-#[cfg(test)]
-mod refused_plans;
-#[cfg(test)]
-mod refused_store;
-#[cfg(test)]
-mod rules;
-#[cfg(test)]
-mod searches;
-#[cfg(test)]
-mod store;
+mod tests;

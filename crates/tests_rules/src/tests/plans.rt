@@ -1,8 +1,9 @@
 //! Worked plans.
+use crate::tests::searches::plans_of;
+use crate::tests::texts::program_of;
 use chr_plan::Plans;
 use chr_rule::Program;
-use chr_text::read_program;
-use chr_value::Names;
+use chr_value::{Names, Pred};
 use std::alloc::Global;
 
 /// A plan for each head: pairs of a head and a place, 0 for no key.
@@ -68,39 +69,54 @@ fn has_steps(plans: &Plans<Global>, head: u8, steps: &[(u8, u8)]) -> bool {
             && step.key.unwrap_or(0) == *place)
 }
 
-/// The first head whose plan is another one, or 0. None if memory ran out.
-fn first_wrong(alloc: Global, program: &Program<Global>, wanted: Steps) -> Option<u8> {
-    let plans = Plans::make(alloc, program).ok()?;
+/// The first head whose plan is another one, or 0.
+fn first_wrong(plans: &Plans<Global>, wanted: Steps) -> u8 {
     let mut head: u8 = 0;
     for steps in wanted {
         head = head.wrapping_add(1);
-        if !has_steps(&plans, head, steps) {
-            return Some(head);
+        if !has_steps(plans, head, steps) {
+            return head;
         }
     }
-    Some(0)
+    0
 }
 
-/// Whether the plans of a program look up these places. None if memory ran out.
-fn has_places(alloc: Global, program: &Program<Global>, wanted: Places) -> Option<bool> {
-    let plans = Plans::make(alloc, program).ok()?;
-    let places = plans.places(alloc, program).ok()?;
-    Some(
-        places.len() == wanted.len()
-            && places.iter().zip(wanted).all(|((pred, place), wanted)| (
-                pred.name.number,
-                pred.arity,
-                *place,
-            ) == *wanted),
-    )
+/// Whether these places are the wanted ones.
+fn are_places(places: &[(Pred, u8)], wanted: Places) -> bool {
+    places.len() == wanted.len()
+        && places.iter().zip(wanted).all(|((pred, place), wanted)| (
+            pred.name.number,
+            pred.arity,
+            *place,
+        ) == *wanted)
+}
+
+/// The places that plans look up. None if memory ran out.
+fn places_of(
+    alloc: Global,
+    program: &Program<Global>,
+    plans: &Plans<Global>,
+) -> Option<Vec<(Pred, u8)>> {
+    plans.places(alloc, program).ok()
 }
 
 /// The first head whose plan is another one, or 0, and whether the plans look up these places. None if memory ran out.
+fn found_of(
+    alloc: Global,
+    program: &Program<Global>,
+    steps: Steps,
+    places: Places,
+) -> Option<(u8, bool)> {
+    let plans = plans_of(alloc, program)?;
+    let looked_up = places_of(alloc, program, &plans)?;
+    Some((first_wrong(&plans, steps), are_places(&looked_up, places)))
+}
+
+/// The same of a program's text.
 fn found(alloc: Global, text: &str, steps: Steps, places: Places) -> Option<(u8, bool)> {
     let mut names = Names::new(alloc);
-    let program = read_program(alloc, text.as_bytes(), &mut names).ok()?;
-    let head = first_wrong(alloc, &program, steps)?;
-    Some((head, has_places(alloc, &program, places)?))
+    let program = program_of(alloc, text, &mut names)?;
+    found_of(alloc, &program, steps, places)
 }
 
 #[test]

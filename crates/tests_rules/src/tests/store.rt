@@ -1,8 +1,8 @@
 //! The store, up to its limit.
 ghost use Rattle.std.specs.Prelude.{◌≤◌};
 
+use crate::tests::texts::{atoms_of, inserts_text};
 use chr_store::{Store, StoreFault};
-use chr_text::read_atoms;
 use chr_value::{Atom, Comp, Name, Names, Pred, Value, ValueRef};
 use std::alloc::Global;
 
@@ -45,10 +45,7 @@ fn store_of(alloc: Global, kind: Kind, limit: u64) -> Option<Store<Global>>
     };
     let mut names = Names::new(alloc);
     let mut store = empty(alloc, indexed, limit)?;
-    for atom in read_atoms(alloc, text.as_bytes(), &mut names).ok()? {
-        store.insert(atom).ok()?;
-    }
-    Some(store)
+    inserts_text(alloc, text, &mut names, &mut store).then_some(store)
 }
 
 /// Whether an atom is refused because all labels were given.
@@ -59,26 +56,42 @@ fn is_full(alloc: Global, store: &mut Store<Global>) -> bool {
     )
 }
 
-/// The first row of the table of `next_at` that a store doesn't answer as it should, by a value as the key.
-fn first_wrong(
+/// The next label of a store between two others, by a value where there is one.
+fn next_at(
     store: &Store<Global>,
-    one: ValueRef<'_, Global>,
-    rows: &[(bool, u64, u64, Option<u64>)],
-) -> Option<usize> {
-    rows.iter().position(|(keyed, after, below, wanted)| {
-        let key = if *keyed { Some((1, one)) } else { None };
-        store.next_at(PRED, key, *after, *below) != *wanted
-    })
+    value: Option<ValueRef<'_, Global>>,
+    after: u64,
+    below: u64,
+) -> Option<u64> {
+    let key = match value {
+        Some(value) => Some((1, value)),
+        None => None,
+    };
+    store.next_at(PRED, key, after, below)
 }
 
-const ROWS: [(bool, u64, u64, Option<u64>); 4] = [
+/// A row of the table of `next_at`: whether by the value, the labels between which it is, and the answer.
+type Row = (bool, u64, u64, Option<u64>);
+
+/// The first row of the table that a store doesn't answer as it should, by a value as the key.
+fn first_wrong(store: &Store<Global>, one: ValueRef<'_, Global>, rows: &[Row]) -> Option<usize> {
+    for (i, (keyed, after, below, wanted)) in rows.iter().enumerate() {
+        let value = if *keyed { Some(one) } else { None };
+        if next_at(store, value, *after, *below) != *wanted {
+            return Some(i);
+        }
+    }
+    None
+}
+
+static ROWS: [Row; 4] = [
     (true, 0, 4, Some(1)),
     (true, 1, 4, Some(3)),
     (true, 1, 3, None),
     (false, 1, 3, Some(2)),
 ];
 
-const ROWS_WITHOUT_3: [(bool, u64, u64, Option<u64>); 3] = [
+static ROWS_WITHOUT_3: [Row; 3] = [
     (true, 0, 4, Some(1)),
     (true, 1, 4, None),
     (false, 1, 4, Some(2)),
@@ -91,14 +104,22 @@ fn is_right_with_3(alloc: Global, store: &mut Store<Global>, one: ValueRef<'_, G
         && (store.len(), store.next_label()) == (3, 4)
 }
 
+/// Whether label 3 is there, and is gone once it is removed.
+fn loses_3(store: &mut Store<Global>) -> bool {
+    store.remove(3).is_some() && store.get(3).is_none()
+}
+
+/// Whether a store still has label 2, and has two atoms.
+fn has_two(store: &Store<Global>) -> bool {
+    store.get(2).is_some() && store.iter().count() == 2
+}
+
 /// Whether it answers its table once label 3 is gone, and takes none in its place.
 fn is_right_without_3(alloc: Global, store: &mut Store<Global>, one: ValueRef<'_, Global>) -> bool {
-    store.remove(3).is_some()
-        && store.get(3).is_none()
+    loses_3(store)
         && first_wrong(store, one, &ROWS_WITHOUT_3).is_none()
-        && store.get(2).is_some()
         && is_full(alloc, store)
-        && store.iter().count() == 2
+        && has_two(store)
 }
 
 /// Whether both hold of a store. None where memory ran out.
@@ -166,18 +187,18 @@ static LABELS: [(&str, &[u64]); 12] = [
 fn has_labels(store: &Store<Global>, value: ValueRef<'_, Global>, labels: &[u64]) -> bool {
     let mut after = 0;
     for label in labels {
-        if store.next_at(PRED, Some((1, value)), after, 100) != Some(*label) {
+        if next_at(store, Some(value), after, 100) != Some(*label) {
             return false;
         }
         after = *label;
     }
-    store.next_at(PRED, Some((1, value)), after, 100).is_none()
+    next_at(store, Some(value), after, 100).is_none()
 }
 
 /// The first row of the labels that a store doesn't answer as it should, or how many rows there are. None if memory ran out.
 fn first_other(alloc: Global, store: &Store<Global>, names: &mut Names<Global>) -> Option<usize> {
     for (i, (text, labels)) in LABELS.iter().enumerate() {
-        let atoms = read_atoms(alloc, text.as_bytes(), names).ok()?;
+        let atoms = atoms_of(alloc, text, names)?;
         let value = atoms.first()?.arg(0)?;
         if !has_labels(store, value, labels) {
             return Some(i);
@@ -190,8 +211,8 @@ fn first_other(alloc: Global, store: &Store<Global>, names: &mut Names<Global>) 
 fn first_other_of(alloc: Global, indexed: bool) -> Option<usize> {
     let mut names = Names::new(alloc);
     let mut store = empty(alloc, indexed, 100)?;
-    for atom in read_atoms(alloc, ALIKE.as_bytes(), &mut names).ok()? {
-        store.insert(atom).ok()?;
+    if !inserts_text(alloc, ALIKE, &mut names, &mut store) {
+        return None;
     }
     first_other(alloc, &store, &mut names)
 }

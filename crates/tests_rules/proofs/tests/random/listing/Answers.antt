@@ -6,7 +6,7 @@ use Rattle.chr_model.specs.Stores.{labels, Distinct}
 use Rattle.chr_enumeration.specs.Found.{listed}
 use Rattle.chr_store.specs.Table.{shown}
 use Rattle.tests_rules.proofs.Distinct.{rising_distinct}
-use Rattle.tests_rules.proofs.random.listing.Goals as goal
+use Rattle.tests_rules.proofs.tests.random.listing.Goals as goal
 
 pub returns : goal.returns
 returns c =

@@ -21,44 +21,87 @@ fn atom_of(terms: Vec<Term<Global>>) -> Option<RuleAtom<Global>> {
     Some(RuleAtom { name, terms })
 }
 
-/// Heads, each by its first variable and the number of its variables.
-fn heads_of(alloc: Global, heads: &[(u8, u8)]) -> Option<Vec<RuleAtom<Global>>> {
-    let mut made = Vec::new(alloc);
+/// What a rule is made of.
+struct Parts {
+    kept: Vec<RuleAtom<Global>>,
+    removed: Vec<RuleAtom<Global>>,
+    guard: Vec<Comparison<Global>>,
+    body: Vec<BodyItem<Global>>,
+}
+
+// Not derived: letting parts go is then one call, which is proved here once.
+impl Drop for Parts {
+    fn drop(self) {
+        let Parts {
+            kept: _,
+            removed: _,
+            guard: _,
+            body: _,
+        } = self;
+    }
+}
+
+impl Parts {
+    /// No parts.
+    fn new(alloc: Global) -> Parts {
+        Parts {
+            kept: Vec::new(alloc),
+            removed: Vec::new(alloc),
+            guard: Vec::new(alloc),
+            body: Vec::new(alloc),
+        }
+    }
+
+    /// Whether they are those of a rule.
+    fn are_a_rule(self) -> bool {
+        let Parts {
+            kept,
+            removed,
+            guard,
+            body,
+        } = self;
+        Rule::new(kept, removed, guard, body).is_some()
+    }
+}
+
+/// An atom of `count` variables, from `first` on.
+fn atom_from(alloc: Global, first: u8, count: u8) -> Option<RuleAtom<Global>> {
+    atom_of(variables(alloc, first, count)?)
+}
+
+/// Adds heads, each by its first variable and the number of its variables.
+fn add_heads(alloc: Global, made: &mut Vec<RuleAtom<Global>>, heads: &[(u8, u8)]) -> Option<()> {
     for (first, count) in heads {
-        made.push(atom_of(variables(alloc, *first, *count)?)?).ok()?;
+        made.push(atom_from(alloc, *first, *count)?).ok()?;
     }
-    Some(made)
+    Some(())
 }
 
-/// A guard that compares a variable with itself `count` times.
-fn guard_of(alloc: Global, count: u8, variable: u8) -> Option<Vec<Comparison<Global>>> {
-    let mut guard = Vec::new(alloc);
+/// Adds `count` comparisons of a variable with itself.
+fn add_guard(guard: &mut Vec<Comparison<Global>>, count: u8, variable: u8) -> Option<()> {
     for _ in 0..count {
-        guard
-            .push(Comparison::Same(Term::Var(variable), Term::Var(variable)))
-            .ok()?;
+        let test = Comparison::Same(Term::Var(variable), Term::Var(variable));
+        guard.push(test).ok()?;
     }
-    Some(guard)
+    Some(())
 }
 
-/// A body that gives `count` variables the value of another one, from `first` on, and then adds atoms of one variable.
-fn body_of(
-    alloc: Global,
-    first: u8,
-    count: u8,
-    other: u8,
-    added: &[u8],
-) -> Option<Vec<BodyItem<Global>>> {
-    let mut body = Vec::new(alloc);
+/// Adds what gives `count` variables the value of another one, from `first` on.
+fn add_values(body: &mut Vec<BodyItem<Global>>, first: u8, count: u8, other: u8) -> Option<()> {
     for i in 0..count {
-        body.push(BodyItem::Is(first.wrapping_add(i), Expr::Var(other)))
+        let item = BodyItem::Is(first.wrapping_add(i), Expr::Var(other));
+        body.push(item).ok()?;
+    }
+    Some(())
+}
+
+/// Adds atoms of one variable.
+fn add_atoms(alloc: Global, body: &mut Vec<BodyItem<Global>>, variables: &[u8]) -> Option<()> {
+    for variable in variables {
+        body.push(BodyItem::Add(atom_from(alloc, *variable, 1)?))
             .ok()?;
     }
-    for variable in added {
-        let atom = atom_of(variables(alloc, *variable, 1)?)?;
-        body.push(BodyItem::Add(atom)).ok()?;
-    }
-    Some(body)
+    Some(())
 }
 
 /// Kept and removed heads, the guard, the body, and whether they are a rule.
@@ -71,16 +114,24 @@ type Row<'r> = (
     bool,
 );
 
-fn is_as_it_says(alloc: Global, row: &Row) -> Option<bool> {
-    let (kept, removed, (comparisons, variable), (first, count, other), added, wanted) = *row;
-    let kept = heads_of(alloc, kept)?;
-    let removed = heads_of(alloc, removed)?;
-    let guard = guard_of(alloc, comparisons, variable)?;
-    let body = body_of(alloc, first, count, other, added)?;
-    Some(Rule::new(kept, removed, guard, body).is_some() == wanted)
+/// Adds the parts of a row.
+fn add_parts(alloc: Global, parts: &mut Parts, row: &Row) -> Option<()> {
+    let (kept, removed, (comparisons, variable), (first, count, other), added, _) = *row;
+    add_heads(alloc, &mut parts.kept, kept)?;
+    add_heads(alloc, &mut parts.removed, removed)?;
+    add_guard(&mut parts.guard, comparisons, variable)?;
+    add_values(&mut parts.body, first, count, other)?;
+    add_atoms(alloc, &mut parts.body, added)
 }
 
-const ROWS: [Row; 27] = [
+/// Whether the parts of a row are those of a rule. None where memory ran out.
+fn are_a_rule(alloc: Global, row: &Row) -> Option<bool> {
+    let mut parts = Parts::new(alloc);
+    add_parts(alloc, &mut parts, row)?;
+    Some(parts.are_a_rule())
+}
+
+static ROWS: [Row; 27] = [
     (&[], &[], (0, 0), (0, 0, 0), &[], false),
     (&[], &[(0, 1)], (0, 0), (0, 0, 0), &[], true),
     (&[], &[(0, 1); 6], (0, 0), (0, 0, 0), &[], true),
@@ -127,55 +178,68 @@ const ROWS: [Row; 27] = [
 #[test]
 fn rules_from_both_sides_of_each_limit(rt: HostRuntime) {
     for (i, row) in ROWS.iter().enumerate() {
-        assert_eq!(rt; is_as_it_says(rt.alloc(), row), Some(true), "row {i}");
+        assert_eq!(rt; are_a_rule(rt.alloc(), row), Some(row.5), "row {i}");
     }
 }
 
+const FUNCTOR: Name = Name { number: 4 };
+
+/// A functor with these arguments.
+fn functor_of(alloc: Global, args: Vec<Term<Global>>) -> Option<Term<Global>> {
+    let functor = FUNCTOR;
+    Some(Term::Open(Box::new(alloc, Open { functor, args }).ok()?))
+}
+
 /// A functor with one argument.
-fn functor_of(alloc: Global, term: Term<Global>) -> Option<Term<Global>> {
+fn functor_over(alloc: Global, term: Term<Global>) -> Option<Term<Global>> {
     let mut args = Vec::new(alloc);
     args.push(term).ok()?;
-    let functor = Name { number: 4 };
-    Some(Term::Open(Box::new(alloc, Open { functor, args }).ok()?))
+    functor_of(alloc, args)
 }
 
 /// A variable under so many functors.
 fn nested(alloc: Global, functors: u8) -> Option<Term<Global>> {
     let mut term = Term::Var(0);
     for _ in 0..functors {
-        term = functor_of(alloc, term)?;
+        term = functor_over(alloc, term)?;
     }
     Some(term)
+}
+
+/// A functor with a value as its argument.
+fn comp_over(alloc: Global, value: Value<Global>) -> Option<Value<Global>> {
+    let mut args = Vec::new(alloc);
+    args.push(value).ok()?;
+    let functor = FUNCTOR;
+    Some(Value::Comp(Box::new(alloc, Comp { functor, args }).ok()?))
 }
 
 /// A number under so many functors.
 fn nested_value(alloc: Global, functors: u8) -> Option<Term<Global>> {
     let mut value = Value::Int(1);
     for _ in 0..functors {
-        let mut args = Vec::new(alloc);
-        args.push(value).ok()?;
-        let functor = Name { number: 4 };
-        value = Value::Comp(Box::new(alloc, Comp { functor, args }).ok()?);
+        value = comp_over(alloc, value)?;
     }
     Some(Term::Given(value))
 }
 
+/// So many times the first variable.
+fn same_variables(alloc: Global, count: u8) -> Option<Vec<Term<Global>>> {
+    let mut same = Vec::new(alloc);
+    for _ in 0..count {
+        same.push(Term::Var(0)).ok()?;
+    }
+    Some(same)
+}
+
 /// A functor whose arguments are functors with so many times the first variable.
 fn wide(alloc: Global, counts: &[u8]) -> Option<Term<Global>> {
-    let functor = Name { number: 4 };
     let mut args = Vec::new(alloc);
     for count in counts {
-        let mut same = Vec::new(alloc);
-        for _ in 0..*count {
-            same.push(Term::Var(0)).ok()?;
-        }
-        let inner = Open {
-            functor,
-            args: same,
-        };
-        args.push(Term::Open(Box::new(alloc, inner).ok()?)).ok()?;
+        let same = same_variables(alloc, *count)?;
+        args.push(functor_of(alloc, same)?).ok()?;
     }
-    Some(Term::Open(Box::new(alloc, Open { functor, args }).ok()?))
+    functor_of(alloc, args)
 }
 
 /// A term by what it is made of.
@@ -192,7 +256,7 @@ fn term_of(alloc: Global, shape: Shape) -> Option<Term<Global>> {
     match shape {
         Shape::Nested(functors) => nested(alloc, functors),
         Shape::NestedValue(functors) => nested_value(alloc, functors),
-        Shape::OpenValue => functor_of(alloc, nested_value(alloc, 0)?),
+        Shape::OpenValue => functor_over(alloc, nested_value(alloc, 0)?),
         Shape::Wide(counts) => wide(alloc, counts),
     }
 }
@@ -212,14 +276,18 @@ static TERMS: [(Shape, bool); 11] = [
     (Shape::Wide(&[7; 8]), false),
 ];
 
-/// Whether a rule may remove a head of the first variable and a term.
-fn may_be_removed(alloc: Global, shape: Shape) -> Option<bool> {
+/// Adds a head of the first variable and a term.
+fn add_head_with(alloc: Global, heads: &mut Vec<RuleAtom<Global>>, shape: Shape) -> Option<()> {
     let mut terms = variables(alloc, 0, 1)?;
     terms.push(term_of(alloc, shape)?).ok()?;
-    let mut removed = Vec::new(alloc);
-    removed.push(atom_of(terms)?).ok()?;
-    let rule = Rule::new(Vec::new(alloc), removed, Vec::new(alloc), Vec::new(alloc));
-    Some(rule.is_some())
+    heads.push(atom_of(terms)?).ok()
+}
+
+/// Whether a rule may remove a head of the first variable and a term.
+fn may_be_removed(alloc: Global, shape: Shape) -> Option<bool> {
+    let mut parts = Parts::new(alloc);
+    add_head_with(alloc, &mut parts.removed, shape)?;
+    Some(parts.are_a_rule())
 }
 
 #[test]
