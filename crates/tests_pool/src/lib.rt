@@ -5,8 +5,4 @@
 #![tactic(auto)]
 
 #[cfg(test)]
-mod room;
-#[cfg(test)]
-mod rows;
-#[cfg(test)]
-mod threads;
+mod tests;

@@ -2,7 +2,7 @@ use Rattle.std.proofs.Common.{ap, ◌∙◌}
 use Rattle.std.proofs.Math.Seq.{map-set_same}
 use Rattle.chr_pool.specs.Hands.{hand_id}
 use Rattle.chr_pool.specs.Inlets.{inlet_id}
-use Rattle.tests_pool.proofs.rows.answers.Goals as goal
+use Rattle.tests_pool.proofs.tests.rows.answers.Goals as goal
 
 pub returns-then-hand-len-clause-hands : goal.returns-then-hand-len-clause-hands
 returns-then-hand-len-clause-hands g c =

@@ -21,6 +21,21 @@ enum Call {
     Take { hand: usize, task: Option<u64> },
 }
 
+// The call of a text: `push HAND TASK`, `feed INLET TASK`, or `take HAND` with the task that it answers, where there is one.
+fn call_of(text: &str) -> Option<Call> {
+    let (name, rest) = text.split_once(' ')?;
+    let (place, task) = match rest.split_once(' ') {
+        None => (rest.parse().ok()?, None),
+        Some((place, task)) => (place.parse().ok()?, Some(task.parse().ok()?)),
+    };
+    match (name, task) {
+        ("push", Some(task)) => Some(Call::Push { hand: place, task }),
+        ("feed", Some(task)) => Some(Call::Feed { inlet: place, task }),
+        ("take", task) => Some(Call::Take { hand: place, task }),
+        _ => None,
+    }
+}
+
 // Pushes a task, once more where it comes back.
 fn push(hand: &mut Hand<u64>, task: u64) -> bool
     ensures { hand_id hand.new ≡ hand_id hand.old }
@@ -58,18 +73,21 @@ fn answers<R: Wait>(
     }
 }
 
-// Makes all calls, and says whether each answers as it is to.
+// Makes the calls of texts, and says whether each answers as it is to.
 fn all_answer<R: Wait>(
     rt: &R,
     hands: &mut Vec<Hand<u64>>,
     inlets: &mut Vec<Inlet<u64>>,
-    calls: &[Call],
+    calls: &[&str],
 ) -> bool
     ensures hands { map hand_id hands.new.items ≡ map hand_id hands.old.items }
     ensures inlets { map inlet_id inlets.new.items ≡ map inlet_id inlets.old.items }
 {
-    for call in calls {
-        if !answers(rt, hands, inlets, *call) {
+    for text in calls {
+        let Some(call) = call_of(text) else {
+            return false;
+        };
+        if !answers(rt, hands, inlets, call) {
             return false;
         }
     }
@@ -108,7 +126,7 @@ fn end<R: Wait>(
 fn holds<R: Wait>(
     rt: &R,
     alloc: Global,
-    calls: &[Call],
+    calls: &[&str],
     counts: (u64, u64),
     left: &[u64],
 ) -> Result<bool, AllocError> {
@@ -122,59 +140,21 @@ fn holds<R: Wait>(
 
 #[test]
 fn the_oldest_task_is_stolen(rt: HostRuntime) -> Result<(), Fail> {
-    let calls = [
-        Call::Push { hand: 0, task: 5 },
-        Call::Push { hand: 0, task: 6 },
-        Call::Push { hand: 0, task: 7 },
-        Call::Take {
-            hand: 1,
-            task: Some(5),
-        },
-        Call::Take {
-            hand: 0,
-            task: Some(6),
-        },
-    ];
+    let calls = ["push 0 5", "push 0 6", "push 0 7", "take 1 5", "take 0 6"];
     assert!(rt; holds(&rt, rt.alloc(), &calls, (3, 2), &[7])?);
     Ok(())
 }
 
 #[test]
 fn the_queue_comes_before_the_deques_of_others(rt: HostRuntime) -> Result<(), Fail> {
-    let calls = [
-        Call::Feed { inlet: 0, task: 9 },
-        Call::Push { hand: 1, task: 5 },
-        Call::Take {
-            hand: 0,
-            task: Some(9),
-        },
-        Call::Take {
-            hand: 0,
-            task: Some(5),
-        },
-        Call::Take {
-            hand: 0,
-            task: None,
-        },
-    ];
+    let calls = ["feed 0 9", "push 1 5", "take 0 9", "take 0 5", "take 0"];
     assert!(rt; holds(&rt, rt.alloc(), &calls, (2, 2), &[])?);
     Ok(())
 }
 
 #[test]
 fn the_hands_own_deque_comes_before_the_queue(rt: HostRuntime) -> Result<(), Fail> {
-    let calls = [
-        Call::Feed { inlet: 0, task: 9 },
-        Call::Push { hand: 0, task: 5 },
-        Call::Take {
-            hand: 0,
-            task: Some(5),
-        },
-        Call::Take {
-            hand: 0,
-            task: Some(9),
-        },
-    ];
+    let calls = ["feed 0 9", "push 0 5", "take 0 5", "take 0 9"];
     assert!(rt; holds(&rt, rt.alloc(), &calls, (2, 2), &[])?);
     Ok(())
 }
@@ -182,21 +162,7 @@ fn the_hands_own_deque_comes_before_the_queue(rt: HostRuntime) -> Result<(), Fai
 #[test]
 fn the_deques_of_others_come_by_rising_number(rt: HostRuntime) -> Result<(), Fail> {
     let calls = [
-        Call::Push { hand: 2, task: 7 },
-        Call::Push { hand: 0, task: 5 },
-        Call::Push { hand: 0, task: 6 },
-        Call::Take {
-            hand: 1,
-            task: Some(5),
-        },
-        Call::Take {
-            hand: 1,
-            task: Some(6),
-        },
-        Call::Take {
-            hand: 1,
-            task: Some(7),
-        },
+        "push 2 7", "push 0 5", "push 0 6", "take 1 5", "take 1 6", "take 1 7",
     ];
     assert!(rt; holds(&rt, rt.alloc(), &calls, (3, 3), &[])?);
     Ok(())
@@ -205,16 +171,7 @@ fn the_deques_of_others_come_by_rising_number(rt: HostRuntime) -> Result<(), Fai
 #[test]
 fn a_deque_grows(rt: HostRuntime) -> Result<(), Fail> {
     let calls = [
-        Call::Push { hand: 0, task: 1 },
-        Call::Push { hand: 0, task: 2 },
-        Call::Push { hand: 0, task: 3 },
-        Call::Push { hand: 0, task: 4 },
-        Call::Push { hand: 0, task: 5 },
-        Call::Push { hand: 0, task: 6 },
-        Call::Take {
-            hand: 1,
-            task: Some(1),
-        },
+        "push 0 1", "push 0 2", "push 0 3", "push 0 4", "push 0 5", "push 0 6", "take 1 1",
     ];
     assert!(rt; holds(&rt, rt.alloc(), &calls, (6, 1), &[2, 3, 4, 5, 6])?);
     Ok(())
@@ -223,7 +180,7 @@ fn a_deque_grows(rt: HostRuntime) -> Result<(), Fail> {
 #[test]
 fn the_queue_grows(rt: HostRuntime) -> Result<(), Fail> {
     // A block of the queue has 31 tasks.
-    let calls = [Call::Feed { inlet: 0, task: 9 }; 40];
+    let calls = ["feed 0 9"; 40];
     assert!(rt; holds(&rt, rt.alloc(), &calls, (40, 0), &[9; 40])?);
     Ok(())
 }

@@ -1,7 +1,7 @@
 use Rattle.std.proofs.Common.{sym, ap, ◌∙◌, arith}
 use Rattle.chr_pool.specs.Hands.{hand_id}
 use Rattle.tests_pool.proofs.Maps.{map_by_each}
-use Rattle.tests_pool.proofs.threads.work_all.Goals as goal
+use Rattle.tests_pool.proofs.tests.threads.work_all.Goals as goal
 
 pub returns : goal.returns
 returns g c =

@@ -1,0 +1,4 @@
+//! Calls in one thread, hands in threads, and room.
+mod room;
+mod rows;
+mod threads;
