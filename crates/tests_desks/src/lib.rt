@@ -3,15 +3,9 @@
 //! Each reply of a desk on a shared book, and what it adds to the counts of the desk's seat, is proved. The tests show what
 //! no clause says: that a desk's posts are the atoms that its client named, that another desk finds them at once, which
 //! tickets the workers' pool gets, and that a wait ends where no worker is awake; that of sixteen sessions which load at once
-//! one is told `loaded`, and posts run under its rules; and that a lock, a rack and a desk answer E01 exactly where a request
-//! for memory is refused, and work on afterwards.
+//! one is told `loaded`, and posts run under its rules; that a rack lends sixteen places and no seventeenth; and that a lock,
+//! a rack and a desk answer E01 exactly where a request for memory is refused, and work on afterwards.
 #![tactic(auto)]
 
 #[cfg(test)]
-mod racing;
-#[cfg(test)]
-mod reading;
-#[cfg(test)]
-mod refused;
-#[cfg(test)]
-mod sharing;
+mod tests;

@@ -3,10 +3,10 @@
 //! The memory is that of the lock, the rack and the desk. That of the pool isn't refused, since it is always of `Global`.
 ghost use Rattle.std.specs.Prelude.{◌≡◌, false};
 
-use chr_crew::work::work;
-use chr_crew::{Open, Rack, Stop};
-use chr_pool::{Hand, make};
-use chr_seats::{PostLedger, Seat};
+use crate::tests::hall::{Hall, Visit, Worker, visited, work_some};
+use chr_crew::{Place, Rack};
+use chr_pool::make;
+use chr_seats::PostLedger;
 use chr_session::{Command, Desk, Fault, Reply};
 use chr_shared::Shared;
 use chr_shared_desk::SharedDesk;
@@ -25,14 +25,31 @@ enum Opens {
     Rack,
 }
 
-/// Opens a lock, or a rack over the sessions of one, with request number `n` refused. Whether it is opened, and may be used.
-/// None where memory ran out before.
-fn is_opened_on<L1: PostLedger, L2: Ledger, R: Wait>(
+/// Whether a lock is opened with request number `n` refused, and may be used.
+fn lock_is_opened<L1: PostLedger, L2: Ledger, R: Wait>(
+    rt: &R,
+    memory: Memory,
+    n: u64,
+    posts: Blank,
+    others: Blank,
+) -> bool
+    requires posts { (posts.name ≡ L1.name) × (posts.parts ≡ L1.parts) × (posts.parts ≡ 32) }
+    requires others { (others.name ≡ L2.name) × (others.parts ≡ L2.parts) × (others.parts ≡ 32) }
+    requires none { L1.loaded ≡ false }
+{
+    memory.refuse(n);
+    match Shared::<L1, L2, Memory>::empty(memory, posts, others) {
+        Ok((shared, _seats)) => shared.resting(rt) == 0,
+        Err(_) => false,
+    }
+}
+
+/// The same of a rack over the sessions of a lock, whose requests aren't refused. None where memory ran out for these.
+fn rack_is_opened<L1: PostLedger, L2: Ledger, R: Wait>(
     rt: &R,
     memory: Memory,
     pool: Global,
     n: u64,
-    opens: Opens,
     posts: Blank,
     others: Blank,
 ) -> Option<bool>
@@ -40,15 +57,6 @@ fn is_opened_on<L1: PostLedger, L2: Ledger, R: Wait>(
     requires others { (others.name ≡ L2.name) × (others.parts ≡ L2.parts) × (others.parts ≡ 32) }
     requires none { L1.loaded ≡ false }
 {
-    if matches!(opens, Opens::Lock) {
-        memory.refuse(n);
-        return Some(
-            match Shared::<L1, L2, Memory>::empty(memory, posts, others) {
-                Ok((shared, _seats)) => shared.resting(rt) == 0,
-                Err(_) => false,
-            },
-        );
-    }
     let (_shared, seats) = Shared::<L1, L2, Memory>::empty(memory, posts, others).ok()?;
     let (_hands, inlets) = make::<u64>(pool, 1, 16, 0).ok()?;
     memory.refuse(n);
@@ -60,7 +68,11 @@ fn is_opened_on<L1: PostLedger, L2: Ledger, R: Wait>(
 
 /// The same on seats of its own.
 fn is_opened<R: Wait>(rt: &R, memory: Memory, pool: Global, n: u64, opens: Opens) -> Option<bool> {
-    is_opened_on::<Brand, Brand, R>(rt, memory, pool, n, opens, Blank::new(32), Blank::new(32))
+    let (posts, others) = (Blank::new(32), Blank::new(32));
+    match opens {
+        Opens::Lock => Some(lock_is_opened::<Brand, Brand, R>(rt, memory, n, posts, others)),
+        Opens::Rack => rack_is_opened::<Brand, Brand, R>(rt, memory, pool, n, posts, others),
+    }
 }
 
 #[derive(Drop)]
@@ -193,43 +205,42 @@ fn refusals<'m, D: Desk<Memory<'m>>>(
 fn play_on<'m, D: Desk<Memory<'m>>, L1: PostLedger, L2: Ledger, R: Wait>(
     rt: &R,
     shared: &Shared<L1, L2, Memory<'m>>,
-    worker: (Hand<u64>, Seat<L1, L2>),
+    worker: &mut Worker<L1, L2>,
     desk: &mut D,
     memory: Memory<'m>,
     n: u64,
 ) -> Option<u64> {
     let before = refusals(desk, memory, n, &BEFORE)?;
-    let (mut hand, mut seat) = worker;
-    work(rt, shared, &mut hand, &mut seat, &Open, Stop::Turns(1000));
+    work_some(rt, shared, worker, 1000);
     let after = refusals(desk, memory, n, &AFTER)?;
     Some(before.wrapping_add(after))
 }
 
-/// The same by a desk of a new lock.
-fn play_over<L1: PostLedger, L2: Ledger, R: Wait>(
-    rt: &R,
-    memory: Memory,
-    pool: Global,
+/// The same at a place of the rack. How many were refused.
+#[derive(Drop)]
+struct Play {
     n: u64,
-    posts: Blank,
-    others: Blank,
-) -> Option<u64>
-    requires posts { (posts.name ≡ L1.name) × (posts.parts ≡ L1.parts) × (posts.parts ≡ 32) }
-    requires others { (others.name ≡ L2.name) × (others.parts ≡ L2.parts) × (others.parts ≡ 32) }
-    requires none { L1.loaded ≡ false }
-{
-    let (shared, seats) = Shared::<L1, L2, Memory>::empty(memory, posts, others).ok()?;
-    let (mut hands, mut inlets) = make::<u64>(pool, 1, 1, 16).ok()?;
-    let (mut workers, mut sessions) = (seats.workers, seats.sessions);
-    let worker = (hands.pop()?, workers.pop()?);
-    let (seat, inlet) = (sessions.pop()?, inlets.pop()?);
-    let mut desk = SharedDesk::new(rt, memory, &shared, seat, inlet);
-    play_on(rt, &shared, worker, &mut desk, memory, n)
 }
 
-/// The same on seats of its own.
-fn play<R: Wait>(rt: &R, memory: Memory, pool: Global, n: u64) -> Option<u64> {
-    play_over::<Brand, Brand, R>(rt, memory, pool, n, Blank::new(32), Blank::new(32))
+impl<'m> Visit<Memory<'m>> for Play {
+    type Seen = u64;
+
+    fn visit<L1: PostLedger, L2: Ledger, R: Wait>(
+        &self,
+        rt: &R,
+        hall: &mut Hall<L1, L2, Memory<'m>>,
+    ) -> Option<u64> {
+        let Place { seat, inlet } = hall.rack.take(rt).ok()?;
+        let mut desk = SharedDesk::new(rt, hall.alloc, &hall.shared, seat, inlet);
+        play_on(
+            rt,
+            &hall.shared,
+            &mut hall.worker,
+            &mut desk,
+            hall.alloc,
+            self.n,
+        )
+    }
 }
 
 /// Plays with the first request of each command refused, then with the second, and so on. The first of these numbers with
@@ -237,7 +248,7 @@ fn play<R: Wait>(rt: &R, memory: Memory, pool: Global, n: u64) -> Option<u64> {
 fn last_play<R: Wait>(rt: &R, pool: Global) -> (u64, Option<u64>) {
     for n in 1..200u64 {
         let memory = Refusing::new(pool, 0);
-        let played = play(rt, &memory, pool, n);
+        let played = visited(rt, &memory, pool, &Play { n });
         match played {
             Some(refusals) if 0 < refusals => (),
             _ => return (n, played),

@@ -1,10 +1,9 @@
 //! Long replies, whose texts are made while the lock is free.
 ghost use Rattle.std.specs.Prelude.{◌≡◌, false};
 
-use chr_crew::work::work;
-use chr_crew::{Open, Place, Stop};
-use chr_pool::{Hand, make};
-use chr_seats::{PostLedger, Seat};
+use crate::tests::hall::{Hall, Worker, hall_of, work_some};
+use chr_crew::Place;
+use chr_seats::PostLedger;
 use chr_session::{Command, Desk, Reply};
 use chr_shared::Shared;
 use chr_shared_desk::SharedDesk;
@@ -138,7 +137,7 @@ fn is_filled<L1: PostLedger, L2: Ledger, A: Allocator + Copy, D: Desk<A>, R: Wai
     pool: Global,
     shared: &Shared<L1, L2, A>,
     desk: &mut D,
-    worker: (Hand<u64>, Seat<L1, L2>),
+    worker: &mut Worker<L1, L2>,
 ) -> bool {
     let Ok(text) = numbers(pool) else {
         return false;
@@ -148,46 +147,59 @@ fn is_filled<L1: PostLedger, L2: Ledger, A: Allocator + Copy, D: Desk<A>, R: Wai
             desk.ask(Command::Post(text.as_bytes())),
             Reply::Posted(1, 2000)
         );
-    let (mut hand, mut seat) = worker;
-    work(rt, shared, &mut hand, &mut seat, &Open, Stop::Turns(MANY));
+    work_some(rt, shared, worker, MANY);
     posted
 }
 
-/// Fills a store and a log, and reads a long reply once. The place that it was done at comes back.
+/// Fills a store and a log at a place of the rack, and reads a long reply once.
 fn fill<L1: PostLedger, L2: Ledger, A: Allocator + Copy, N: Requests, R: Wait>(
     rt: &R,
-    alloc: A,
     pool: Global,
-    shared: &Shared<L1, L2, A>,
-    place: Place<L1, L2>,
-    worker: (Hand<u64>, Seat<L1, L2>),
+    hall: &mut Hall<L1, L2, A>,
     requests: &N,
     reads: Reads,
-) -> (Place<L1, L2>, Option<Span>) {
-    let Place { seat, inlet } = place;
-    let mut desk = SharedDesk::new(rt, alloc, shared, seat, inlet);
-    let filled = is_filled(rt, pool, shared, &mut desk, worker);
+) -> Option<Span> {
+    let Place { seat, inlet } = hall.rack.take(rt).ok()?;
+    let mut desk = SharedDesk::new(rt, hall.alloc, &hall.shared, seat, inlet);
+    let filled = is_filled(rt, pool, &hall.shared, &mut desk, &mut hall.worker);
     let span = span_of(&mut desk, requests, reads);
-    let (seat, inlet) = desk.end();
-    (Place { seat, inlet }, if filled { span } else { None })
+    if filled { span } else { None }
 }
 
-/// Asks for a long reply at a desk of its own.
+/// Asks for a long reply at a place of the rack.
 fn read_at<L1: PostLedger, L2: Ledger, A: Allocator + Copy, R: Wait>(
     rt: &R,
-    alloc: A,
-    shared: &Shared<L1, L2, A>,
-    place: Place<L1, L2>,
+    hall: &Hall<L1, L2, A>,
     reads: Reads,
     seen: &AtomicU64,
     ended: &AtomicU64,
 ) -> bool {
-    let Place { seat, inlet } = place;
-    let mut desk = SharedDesk::new(rt, alloc, shared, seat, inlet);
+    let Ok(Place { seat, inlet }) = hall.rack.take(rt) else {
+        return false;
+    };
+    let mut desk = SharedDesk::new(rt, hall.alloc, &hall.shared, seat, inlet);
     read_until(&mut desk, reads, seen, ended)
 }
 
-/// Whether another thread gets the lock while a long reply is made. None where memory ran out before.
+/// Whether another thread gets the lock while a long reply is made.
+fn gets_beside<
+    L1: PostLedger + Send + Sync,
+    L2: Ledger + Send + Sync,
+    A: Allocator + Copy + Send + Sync,
+    N: Requests + Sync,
+    R: Threads + Wait + Sync,
+>(rt: &R, hall: &Hall<L1, L2, A>, requests: &N, span: Span, reads: Reads) -> bool {
+    let shared = &hall.shared;
+    let (seen, ended) = (AtomicU64::new(0), AtomicU64::new(0));
+    let (between, right) = thread::join(
+        rt,
+        || gets_between(rt, shared, requests, span, &seen, &ended),
+        || read_at(rt, hall, reads, &seen, &ended),
+    );
+    between && right
+}
+
+/// The same in a new hall, whose store and log are filled first. None where memory ran out before.
 fn read_beside<
     L1: PostLedger + Send + Sync,
     L2: Ledger + Send + Sync,
@@ -198,30 +210,18 @@ fn read_beside<
     rt: &R,
     alloc: A,
     pool: Global,
-    requests: &N,
-    reads: Reads,
     posts: Blank,
     others: Blank,
+    requests: &N,
+    reads: Reads,
 ) -> Option<bool>
     requires posts { (posts.name ≡ L1.name) × (posts.parts ≡ L1.parts) × (posts.parts ≡ 32) }
     requires others { (others.name ≡ L2.name) × (others.parts ≡ L2.parts) × (others.parts ≡ 32) }
     requires none { L1.loaded ≡ false }
 {
-    let (shared, seats) = Shared::<L1, L2, A>::empty(alloc, posts, others).ok()?;
-    let (mut hands, mut inlets) = make::<u64>(pool, 1, 1, 16).ok()?;
-    let (mut workers, mut sessions) = (seats.workers, seats.sessions);
-    let worker = (hands.pop()?, workers.pop()?);
-    let (seat, inlet) = (sessions.pop()?, inlets.pop()?);
-    let place = Place { seat, inlet };
-    let (place, span) = fill(rt, alloc, pool, &shared, place, worker, requests, reads);
-    let span = span?;
-    let (seen, ended) = (AtomicU64::new(0), AtomicU64::new(0));
-    let (between, right) = thread::join(
-        rt,
-        || gets_between(rt, &shared, requests, span, &seen, &ended),
-        || read_at(rt, alloc, &shared, place, reads, &seen, &ended),
-    );
-    Some(between && right)
+    let mut hall = hall_of::<L1, L2, A>(alloc, pool, posts, others)?;
+    let span = fill(rt, pool, &mut hall, requests, reads)?;
+    Some(gets_beside(rt, &hall, requests, span, reads))
 }
 
 /// The same on seats of its own.
@@ -231,14 +231,9 @@ fn is_made_outside<R: Threads + Wait + Sync>(
     pool: Global,
     reads: Reads,
 ) -> Option<bool> {
+    let (posts, others) = (Blank::new(32), Blank::new(32));
     read_beside::<Brand, Brand, Memory, Refusing<Global>, R>(
-        rt,
-        memory,
-        pool,
-        memory,
-        reads,
-        Blank::new(32),
-        Blank::new(32),
+        rt, memory, pool, posts, others, memory, reads,
     )
 }
 

@@ -1,15 +1,14 @@
 //! Two sessions on one book, without workers.
-ghost use Rattle.std.specs.Prelude.{◌≡◌, false};
-
-use chr_pool::{Hand, Inlet, make};
-use chr_seats::{PostLedger, Seat};
+use crate::tests::hall::{Hall, Visit, visited};
+use chr_crew::Place;
+use chr_pool::Hand;
+use chr_seats::PostLedger;
 use chr_session::{Desk, Ended, MemorySink, MemorySource, serve};
 use chr_shared::Shared;
 use chr_shared_desk::SharedDesk;
 use std::alloc::Global;
-use std::marker::Brand;
 use std::sync::Wait;
-use std::sync::ledger::{Blank, Ledger};
+use std::sync::ledger::Ledger;
 use std::test::*;
 
 /// What the first session is told, or the second, and what it replies.
@@ -99,17 +98,17 @@ fn wrong_reply<D: Desk<Global>>(
     None
 }
 
-/// The same of desks with these seats and inlets.
+/// The same of desks at these places.
 fn first_wrong<L1: PostLedger, L2: Ledger, R: Wait>(
     rt: &R,
     alloc: Global,
     shared: &Shared<L1, L2, Global>,
-    seats: (Seat<L1, L2>, Seat<L1, L2>),
-    inlets: (Inlet<u64>, Inlet<u64>),
+    places: (Place<L1, L2>, Place<L1, L2>),
     lines: &[Line<'_>],
 ) -> Option<usize> {
-    let mut first = SharedDesk::new(rt, alloc, shared, seats.0, inlets.0);
-    let mut second = SharedDesk::new(rt, alloc, shared, seats.1, inlets.1);
+    let (first, second) = places;
+    let mut first = SharedDesk::new(rt, alloc, shared, first.seat, first.inlet);
+    let mut second = SharedDesk::new(rt, alloc, shared, second.seat, second.inlet);
     wrong_reply(alloc, &mut first, &mut second, lines)
 }
 
@@ -123,52 +122,31 @@ fn has_tickets<R: Wait>(rt: &R, hand: &mut Hand<u64>, tickets: &[u64]) -> bool {
     hand.take(rt).is_none()
 }
 
-/// The number of the first line whose reply is another, or how many there are where the tickets are others. An `Err` where
-/// memory ran out.
-fn first_fault<L1: PostLedger, L2: Ledger, R: Wait>(
-    rt: &R,
-    alloc: Global,
-    talk: &Talk<'_>,
-    posts: Blank,
-    others: Blank,
-) -> Result<Option<usize>, ()>
-    requires posts { (posts.name ≡ L1.name) × (posts.parts ≡ L1.parts) × (posts.parts ≡ 32) }
-    requires others { (others.name ≡ L2.name) × (others.parts ≡ L2.parts) × (others.parts ≡ 32) }
-    requires none { L1.loaded ≡ false }
-{
-    let (Ok((shared, seats)), Ok((mut hands, mut inlets))) = (
-        Shared::<L1, L2, Global>::empty(alloc, posts, others),
-        make::<u64>(alloc, 1, 2, 16),
-    ) else {
-        return Err(());
-    };
-    let mut sessions = seats.sessions;
-    let (Some(hand), Some(seat), Some(inlet), Some(other_seat), Some(other_inlet)) = (
-        hands.first_mut(),
-        sessions.pop(),
-        inlets.pop(),
-        sessions.pop(),
-        inlets.pop(),
-    ) else {
-        return Err(());
-    };
-    let seats = (seat, other_seat);
-    let inlets = (inlet, other_inlet);
-    let wrong = first_wrong(rt, alloc, &shared, seats, inlets, talk.lines);
-    if wrong.is_none() && !has_tickets(rt, hand, talk.tickets) {
-        return Ok(Some(talk.lines.len()));
-    }
-    Ok(wrong)
-}
+/// The number of the first line whose reply is another, or how many there are where the tickets are others. None where all
+/// are as they are to be.
+impl Visit<Global> for Talk<'_> {
+    type Seen = Option<usize>;
 
-/// The same on a lock of its own.
-fn fault_of<R: Wait>(rt: &R, alloc: Global, talk: &Talk<'_>) -> Result<Option<usize>, ()> {
-    first_fault::<Brand, Brand, R>(rt, alloc, talk, Blank::new(32), Blank::new(32))
+    fn visit<L1: PostLedger, L2: Ledger, R: Wait>(
+        &self,
+        rt: &R,
+        hall: &mut Hall<L1, L2, Global>,
+    ) -> Option<Option<usize>> {
+        let (Ok(first), Ok(second)) = (hall.rack.take(rt), hall.rack.take(rt)) else {
+            return None;
+        };
+        let wrong = first_wrong(rt, hall.alloc, &hall.shared, (first, second), self.lines);
+        if wrong.is_none() && !has_tickets(rt, &mut hall.worker.hand, self.tickets) {
+            return Some(Some(self.lines.len()));
+        }
+        Some(wrong)
+    }
 }
 
 #[test]
 fn replies_are_those_of_the_tables(rt: HostRuntime) {
     for talk in [POSTS, LOADS] {
-        assert_eq!(rt; fault_of(&rt, rt.alloc(), &talk), Ok(None), "{}", talk.name);
+        let wrong = visited(&rt, rt.alloc(), rt.alloc(), &talk);
+        assert_eq!(rt; wrong, Some(None), "{}", talk.name);
     }
 }

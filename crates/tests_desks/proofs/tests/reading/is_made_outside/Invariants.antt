@@ -1,5 +1,5 @@
 use Rattle.std.specs.Prelude.{false}
-use Rattle.tests_desks.proofs.reading.is_made_outside.Given as goal
+use Rattle.tests_desks.proofs.tests.reading.is_made_outside.Given as goal
 
 abbrev pub ghosts-read_beside-L1-Ledger : goal.ghosts-read_beside-L1-Ledger
 ghosts-read_beside-L1-Ledger g a = record { name = a.posts.name; parts = a.posts.parts }

@@ -1,5 +1,5 @@
 use Rattle.chr_crew.proofs.Crossing.{basis, Shared-sync}
-use Rattle.tests_desks.proofs.reading.read_beside.Goals as goal
+use Rattle.tests_desks.proofs.tests.reading.gets_beside.Goals as goal
 
 pub join-between-requires-send-F : goal.join-between-requires-send-F
 join-between-requires-send-F g c κs within =

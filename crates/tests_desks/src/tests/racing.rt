@@ -1,10 +1,9 @@
 //! Sixteen sessions that load at once.
 ghost use Rattle.std.specs.Prelude.{◌≡◌, false};
 
-use chr_crew::work::work;
-use chr_crew::{Open, Place, Rack, Stop};
-use chr_pool::{Hand, make};
-use chr_seats::{PostLedger, Seat};
+use crate::tests::hall::{Hall, Worker, hall_of, work_some};
+use chr_crew::{Place, Rack};
+use chr_seats::PostLedger;
 use chr_session::{Command, Desk, Fault, Reply};
 use chr_shared::Shared;
 use chr_shared_desk::SharedDesk;
@@ -86,14 +85,13 @@ fn runs_by_rules_of<D: Desk<Global>, L1: PostLedger, L2: Ledger, R: Wait>(
     alloc: Global,
     shared: &Shared<L1, L2, Global>,
     desk: &mut D,
-    worker: (Hand<u64>, Seat<L1, L2>),
+    worker: &mut Worker<L1, L2>,
     number: usize,
 ) -> bool {
     if !matches!(desk.ask(Command::Post(b"go.")), Reply::Posted(1, 1)) {
         return false;
     }
-    let (mut hand, mut seat) = worker;
-    work(rt, shared, &mut hand, &mut seat, &Open, Stop::Turns(1000));
+    work_some(rt, shared, worker, 1000);
     match (
         desk.ask(Command::Store),
         format!(in alloc; "#2 won({number})\n"),
@@ -101,6 +99,40 @@ fn runs_by_rules_of<D: Desk<Global>, L1: PostLedger, L2: Ledger, R: Wait>(
         (Reply::Store(1, lines), Ok(line)) => lines.as_slice() == line.as_bytes(),
         _ => false,
     }
+}
+
+/// The same of a post at a place of the rack. None where there is none.
+fn last_runs_by_rules_of<L1: PostLedger, L2: Ledger, R: Wait>(
+    rt: &R,
+    hall: &mut Hall<L1, L2, Global>,
+    number: usize,
+) -> Option<bool> {
+    let Place { seat, inlet } = hall.rack.take(rt).ok()?;
+    let mut desk = SharedDesk::new(rt, hall.alloc, &hall.shared, seat, inlet);
+    Some(runs_by_rules_of(
+        rt,
+        hall.alloc,
+        &hall.shared,
+        &mut desk,
+        &mut hall.worker,
+        number,
+    ))
+}
+
+/// What each of the sessions is told that load at once. None where memory ran out.
+fn load_all<L1: PostLedger + Send + Sync, L2: Ledger + Send + Sync, R: Threads + Wait + Sync>(
+    rt: &R,
+    alloc: Global,
+    shared: &Shared<L1, L2, Global>,
+    rack: &Rack<L1, L2, Global>,
+) -> Option<Vec<Told>> {
+    thread::map_indices(
+        rt,
+        alloc,
+        RACERS,
+        &|number| load(rt, alloc, shared, rack, number),
+    )
+    .ok()
 }
 
 /// Whether just one of the sessions is told `loaded`, and a post runs under its rules. None where memory ran out.
@@ -114,24 +146,12 @@ fn race<L1: PostLedger + Send + Sync, L2: Ledger + Send + Sync, R: Threads + Wai
     requires others { (others.name ≡ L2.name) × (others.parts ≡ L2.parts) × (others.parts ≡ 32) }
     requires none { L1.loaded ≡ false }
 {
-    let (shared, seats) = Shared::<L1, L2, Global>::empty(alloc, posts, others).ok()?;
-    let (mut hands, inlets) = make::<u64>(alloc, 1, 16, 16).ok()?;
-    let rack = Rack::new(alloc, seats.sessions, inlets).ok()?;
-    let mut workers = seats.workers;
-    let worker = (hands.pop()?, workers.pop()?);
-    let told = thread::map_indices(
-        rt,
-        alloc,
-        RACERS,
-        &|number| load(rt, alloc, &shared, &rack, number),
-    )
-    .ok()?;
-    let Some(number) = winner(&told) else {
-        return Some(false);
-    };
-    let Place { seat, inlet } = rack.take(rt).ok()?;
-    let mut desk = SharedDesk::new(rt, alloc, &shared, seat, inlet);
-    Some(runs_by_rules_of(rt, alloc, &shared, &mut desk, worker, number))
+    let mut hall = hall_of::<L1, L2, Global>(alloc, alloc, posts, others)?;
+    let told = load_all(rt, alloc, &hall.shared, &hall.rack)?;
+    match winner(&told) {
+        Some(number) => last_runs_by_rules_of(rt, &mut hall, number),
+        None => Some(false),
+    }
 }
 
 /// The same on a lock of its own.
@@ -142,10 +162,7 @@ fn one_load_stands<R: Threads + Wait + Sync>(rt: &R, alloc: Global) -> Option<bo
 #[test]
 fn one_of_sixteen_loads_stands(rt: HostRuntime) {
     for round in 0..5u64 {
-        assert_eq!(rt;
-            one_load_stands(&rt, rt.alloc()),
-            Some(true),
-            "round {round}"
-        );
+        let stands = one_load_stands(&rt, rt.alloc());
+        assert_eq!(rt; stands, Some(true), "round {round}");
     }
 }

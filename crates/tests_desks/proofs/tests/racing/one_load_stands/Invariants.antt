@@ -1,5 +1,5 @@
 use Rattle.std.specs.Prelude.{false}
-use Rattle.tests_desks.proofs.racing.one_load_stands.Given as goal
+use Rattle.tests_desks.proofs.tests.racing.one_load_stands.Given as goal
 
 abbrev pub ghosts-race-L1-Ledger : goal.ghosts-race-L1-Ledger
 ghosts-race-L1-Ledger g a = record { name = a.posts.name; parts = a.posts.parts }

@@ -1,0 +1,20 @@
+use Rattle.std.specs.Prelude.{false}
+use Rattle.tests_desks.proofs.tests.refused.is_opened.Given as goal
+
+abbrev pub ghosts-lock_is_opened-L1-Ledger : goal.ghosts-lock_is_opened-L1-Ledger
+ghosts-lock_is_opened-L1-Ledger g a = record { name = a.posts.name; parts = a.posts.parts }
+
+abbrev pub ghosts-lock_is_opened-L2-Ledger : goal.ghosts-lock_is_opened-L2-Ledger
+ghosts-lock_is_opened-L2-Ledger g a = record { name = a.others.name; parts = a.others.parts }
+
+abbrev pub ghosts-lock_is_opened-L1-PostLedger : goal.ghosts-lock_is_opened-L1-PostLedger
+ghosts-lock_is_opened-L1-PostLedger g a = record { loaded = false }
+
+abbrev pub ghosts-rack_is_opened-L1-Ledger : goal.ghosts-rack_is_opened-L1-Ledger
+ghosts-rack_is_opened-L1-Ledger g a = record { name = a.posts.name; parts = a.posts.parts }
+
+abbrev pub ghosts-rack_is_opened-L2-Ledger : goal.ghosts-rack_is_opened-L2-Ledger
+ghosts-rack_is_opened-L2-Ledger g a = record { name = a.others.name; parts = a.others.parts }
+
+abbrev pub ghosts-rack_is_opened-L1-PostLedger : goal.ghosts-rack_is_opened-L1-PostLedger
+ghosts-rack_is_opened-L1-PostLedger g a = record { loaded = false }

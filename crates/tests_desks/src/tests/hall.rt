@@ -1,0 +1,115 @@
+//! A lock over no book, with a worker and the places of sessions, and what is done there.
+ghost use Rattle.std.specs.Prelude.{◌≡◌, false};
+
+use chr_crew::work::work;
+use chr_crew::{Open, Rack, Stop};
+use chr_pool::{Hand, make};
+use chr_seats::{PostLedger, Seat, Seats};
+use chr_shared::Shared;
+use std::alloc::{Allocator, Global};
+use std::marker::Brand;
+use std::sync::Wait;
+use std::sync::ledger::{Blank, Ledger};
+
+/// A worker's hand and seat.
+#[derive(Drop)]
+pub struct Worker<L1: PostLedger, L2: Ledger> {
+    pub hand: Hand<u64>,
+    pub seat: Seat<L1, L2>,
+}
+
+/// The memory of a lock, the lock, the places of its sessions, and a worker.
+#[derive(Drop)]
+pub struct Hall<L1: PostLedger, L2: Ledger, A: Allocator> {
+    pub alloc: A,
+    pub shared: Shared<L1, L2, A>,
+    pub rack: Rack<L1, L2, A>,
+    pub worker: Worker<L1, L2>,
+}
+
+/// What is done in a hall by one thread.
+pub trait Visit<A: Allocator> {
+    /// What is seen there.
+    type Seen: Drop;
+
+    /// What is seen. None where memory ran out.
+    fn visit<L1: PostLedger, L2: Ledger, R: Wait>(
+        &self,
+        rt: &R,
+        hall: &mut Hall<L1, L2, A>,
+    ) -> Option<Self::Seen>;
+}
+
+/// Makes these. None where memory ran out.
+pub fn hall_of<L1: PostLedger, L2: Ledger, A: Allocator + Copy>(
+    alloc: A,
+    pool: Global,
+    posts: Blank,
+    others: Blank,
+) -> Option<Hall<L1, L2, A>>
+    requires posts { (posts.name ≡ L1.name) × (posts.parts ≡ L1.parts) × (posts.parts ≡ 32) }
+    requires others { (others.name ≡ L2.name) × (others.parts ≡ L2.parts) × (others.parts ≡ 32) }
+    requires none { L1.loaded ≡ false }
+{
+    let (Ok((shared, seats)), Ok((mut hands, inlets))) = (
+        Shared::empty(alloc, posts, others),
+        make(pool, 1, 16, 16),
+    ) else {
+        return None;
+    };
+    let Seats {
+        mut workers,
+        sessions,
+    } = seats;
+    match (
+        hands.pop(),
+        workers.pop(),
+        Rack::new(alloc, sessions, inlets),
+    ) {
+        (Some(hand), Some(seat), Ok(rack)) => Some(Hall {
+            alloc,
+            shared,
+            rack,
+            worker: Worker { hand, seat },
+        }),
+        _ => None,
+    }
+}
+
+/// Visits a new hall.
+fn visit_hall<L1: PostLedger, L2: Ledger, A: Allocator + Copy, R: Wait, V: Visit<A>>(
+    rt: &R,
+    alloc: A,
+    pool: Global,
+    visit: &V,
+    posts: Blank,
+    others: Blank,
+) -> Option<V::Seen>
+    requires posts { (posts.name ≡ L1.name) × (posts.parts ≡ L1.parts) × (posts.parts ≡ 32) }
+    requires others { (others.name ≡ L2.name) × (others.parts ≡ L2.parts) × (others.parts ≡ 32) }
+    requires none { L1.loaded ≡ false }
+{
+    let mut hall = hall_of::<L1, L2, A>(alloc, pool, posts, others)?;
+    visit.visit(rt, &mut hall)
+}
+
+/// The same with seats of its own.
+pub fn visited<A: Allocator + Copy, R: Wait, V: Visit<A>>(
+    rt: &R,
+    alloc: A,
+    pool: Global,
+    visit: &V,
+) -> Option<V::Seen> {
+    visit_hall::<Brand, Brand, A, R, V>(rt, alloc, pool, visit, Blank::new(32), Blank::new(32))
+}
+
+/// Has the worker make so many turns at most.
+pub fn work_some<L1: PostLedger, L2: Ledger, A: Allocator + Copy, R: Wait>(
+    rt: &R,
+    shared: &Shared<L1, L2, A>,
+    worker: &mut Worker<L1, L2>,
+    turns: u64,
+) {
+    let Worker { hand, seat } = worker;
+    work(rt, shared, hand, seat, &Open, Stop::Turns(turns));
+}
