@@ -10,18 +10,4 @@
 #![tactic(auto)]
 
 #[cfg(test)]
-mod allocator;
-#[cfg(test)]
-mod lexer;
-#[cfg(test)]
-mod logs;
-#[cfg(test)]
-mod programs;
-#[cfg(test)]
-mod refusals;
-#[cfg(test)]
-mod refused_logs;
-#[cfg(test)]
-mod refused_names;
-#[cfg(test)]
-mod refused_texts;
+mod tests;

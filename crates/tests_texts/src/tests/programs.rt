@@ -1,9 +1,9 @@
 //! Texts of programs and of posts, each with what the reader gives.
-use crate::logs::full_table;
+use crate::tests::logs::full_table;
 use chr_lex::fault::ReadError;
 use chr_text::{read_atoms, read_program};
 use chr_value::Names;
-use std::alloc::{AllocError, Global};
+use std::alloc::{AllocError, Allocator, Global};
 use std::test::Fail;
 
 /// Texts of programs with what the reader gives: how many rules they have, or the first fault and its line. In a text
@@ -352,32 +352,41 @@ fn put_repeated(out: &mut Vec<u8>, piece: &[u8]) -> Result<(), AllocError> {
     Ok(())
 }
 
-/// The text that a row writes.
-fn text_of(alloc: Global, row: &[u8]) -> Result<Vec<u8>, AllocError> {
-    let mut out = Vec::new(alloc);
+/// Adds the text that a row writes.
+fn put_row(out: &mut Vec<u8>, row: &[u8]) -> Result<(), AllocError> {
     for piece in row.split(|b| *b == b'}') {
         match split_once(piece, b'{') {
-            None => put(&mut out, piece)?,
+            None => put(out, piece)?,
             Some((before, repeated)) => {
-                put(&mut out, before)?;
-                put_repeated(&mut out, repeated)?;
+                put(out, before)?;
+                put_repeated(out, repeated)?;
             }
         }
     }
-    Ok(out)
+    Ok(())
 }
 
-/// How many rules or atoms the reader gives over a table of names.
-fn count(
-    alloc: Global,
-    names: &mut Names<Global>,
-    are_posts: bool,
+/// How many rules the reader gives over a table of names.
+pub fn rules<A: Allocator + Copy>(
+    alloc: A,
     text: &[u8],
+    names: &mut Names<A>,
 ) -> Result<usize, ReadError> {
-    if are_posts {
-        Ok(read_atoms(alloc, text, names)?.len())
-    } else {
-        Ok(read_program(alloc, text, names)?.len())
+    match read_program(alloc, text, names) {
+        Ok(rules) => Ok(rules.len()),
+        Err(error) => Err(error),
+    }
+}
+
+/// How many atoms the reader of posts gives over a table of names.
+pub fn atoms<A: Allocator + Copy>(
+    alloc: A,
+    text: &[u8],
+    names: &mut Names<A>,
+) -> Result<usize, ReadError> {
+    match read_atoms(alloc, text, names) {
+        Ok(atoms) => Ok(atoms.len()),
+        Err(error) => Err(error),
     }
 }
 
@@ -387,40 +396,55 @@ fn answer(
     are_posts: bool,
     text: &[u8],
 ) -> Result<String, AllocError> {
-    match count(alloc, names, are_posts, text) {
+    let read = if are_posts {
+        atoms(alloc, text, names)
+    } else {
+        rules(alloc, text, names)
+    };
+    match read {
         Ok(count) => format!(in alloc; "ok {count}"),
         Err(ReadError::Fault(fault)) => format!(in alloc; "{} {}", fault.kind, fault.line),
         Err(ReadError::Memory) => format!(in alloc; "E01"),
     }
 }
 
-/// Whether the reader gives what stands in front of the row's first colon.
-fn is_given(
+/// Whether the reader gives this of a text.
+fn gives(
     alloc: Global,
     names: &mut Names<Global>,
     are_posts: bool,
-    row: &[u8],
-) -> Result<bool, AllocError> {
-    let Some((wanted, text)) = split_once(row, b':') else {
-        return Ok(true);
+    text: &[u8],
+    wanted: &[u8],
+) -> bool {
+    match answer(alloc, names, are_posts, text) {
+        Ok(given) => given.as_bytes() == wanted,
+        Err(_) => false,
+    }
+}
+
+/// Whether the reader gives what stands in front of the row's first colon.
+fn is_given(alloc: Global, names: &mut Names<Global>, are_posts: bool, row: &[u8]) -> bool {
+    let Some((wanted, row)) = split_once(row, b':') else {
+        return true;
     };
-    let text = text_of(alloc, text)?;
-    let given = answer(alloc, names, are_posts, &text)?;
-    Ok(given.as_bytes() == wanted)
+    let mut text = Vec::new(alloc);
+    put_row(&mut text, row).is_ok() && gives(alloc, names, are_posts, &text, wanted)
+}
+
+/// The same over an empty table.
+fn is_given_alone(alloc: Global, are_posts: bool, row: &[u8]) -> bool {
+    let mut names = Names::new(alloc);
+    is_given(alloc, &mut names, are_posts, row)
 }
 
 #[test]
-fn texts_of_programs_and_posts(rt: HostRuntime) -> Result<(), Fail> {
+fn texts_of_programs_and_posts(rt: HostRuntime) {
     for (number, (are_posts, table)) in TABLES.iter().enumerate() {
         for (i, row) in table.split(|b| *b == b'\n').enumerate() {
-            let mut names = Names::new(rt.alloc());
-            assert!(rt;
-                is_given(rt.alloc(), &mut names, *are_posts, row)?,
-                "table {number}, row {i}"
-            );
+            let is = is_given_alone(rt.alloc(), *are_posts, row);
+            assert!(rt; is, "table {number}, row {i}");
         }
     }
-    Ok(())
 }
 
 /// The first row for which the reader gives something else.
@@ -429,20 +453,20 @@ fn first_other(
     names: &mut Names<Global>,
     are_posts: bool,
     table: &[u8],
-) -> Result<Option<usize>, AllocError> {
+) -> Option<usize> {
     for (i, row) in table.split(|b| *b == b'\n').enumerate() {
-        if !is_given(alloc, names, are_posts, row)? {
-            return Ok(Some(i));
+        if !is_given(alloc, names, are_posts, row) {
+            return Some(i);
         }
     }
-    Ok(None)
+    None
 }
 
 #[test]
 fn texts_over_a_full_table(rt: HostRuntime) -> Result<(), Fail> {
     let mut names = full_table(rt.alloc())?;
-    let of_programs = first_other(rt.alloc(), &mut names, false, FULL[0])?;
-    let of_posts = first_other(rt.alloc(), &mut names, true, FULL[1])?;
+    let of_programs = first_other(rt.alloc(), &mut names, false, FULL[0]);
+    let of_posts = first_other(rt.alloc(), &mut names, true, FULL[1]);
     assert_eq!(rt; (of_programs, of_posts), (None, None));
     assert_eq!(rt; names.len(), 65_536);
     Ok(())

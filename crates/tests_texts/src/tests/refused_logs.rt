@@ -1,4 +1,5 @@
 //! A log, and the writers of a log and of a store.
+use crate::tests::refused_texts::Memory;
 use chr_log::{Entry, Event, Labels, Log, Version, write_log, write_store};
 use chr_value::{Atom, Name, Names, Value};
 use refusing::Refusing;
@@ -7,7 +8,7 @@ use std::alloc::Global;
 const TEXT: &str = "chr-log 1\nF 1 256 \\4294967295\nF 2 256 \\4294967295\nF 3 256 \\4294967295\n";
 
 /// A firing of rule 256 by a ticket, which takes no memory.
-fn entry_of<'m>(ticket: u64) -> Entry<&'m Refusing<Global>> {
+fn entry_of<'m>(ticket: u64) -> Entry<Memory<'m>> {
     let mut removed = Labels::new();
     removed.push(4_294_967_295);
     let event = Event::Fire {
@@ -20,8 +21,7 @@ fn entry_of<'m>(ticket: u64) -> Entry<&'m Refusing<Global>> {
 }
 
 /// Adds 40 entries, each again where that fails.
-pub fn push(memory: &Refusing<Global>, n: u64) -> Option<bool> {
-    let mut log = Log::new(memory);
+fn push_all<'m>(memory: Memory<'m>, n: u64, log: &mut Log<Memory<'m>>) -> Option<bool> {
     let mut fails = false;
     memory.refuse(n);
     for ticket in 1..41u64 {
@@ -36,9 +36,13 @@ pub fn push(memory: &Refusing<Global>, n: u64) -> Option<bool> {
     memory.is_refused(fails)
 }
 
-/// Makes room for two entries, which then take no memory.
-pub fn reserve(memory: &Refusing<Global>, n: u64) -> Option<bool> {
+pub fn push(memory: &Refusing<Global>, n: u64) -> Option<bool> {
     let mut log = Log::new(memory);
+    push_all(memory, n, &mut log)
+}
+
+/// Makes room for two entries, which then take no memory.
+fn reserve_two<'m>(memory: Memory<'m>, n: u64, log: &mut Log<Memory<'m>>) -> Option<bool> {
     memory.refuse(n);
     let refused = memory.is_refused(log.reserve(2).is_err())?;
     log.reserve(2).ok()?;
@@ -48,20 +52,24 @@ pub fn reserve(memory: &Refusing<Global>, n: u64) -> Option<bool> {
     (memory.requests() == before).then_some(refused)
 }
 
-/// A log of three firings.
-fn log_of(memory: &Refusing<Global>) -> Option<Log<&Refusing<Global>>> {
+pub fn reserve(memory: &Refusing<Global>, n: u64) -> Option<bool> {
     let mut log = Log::new(memory);
+    reserve_two(memory, n, &mut log)
+}
+
+/// Copies a log of three firings.
+fn copy_three<'m>(memory: Memory<'m>, n: u64, log: &mut Log<Memory<'m>>) -> Option<bool> {
     for ticket in 1..4u64 {
         log.push(entry_of(ticket)).ok()?;
     }
-    Some(log)
-}
-
-pub fn copy(memory: &Refusing<Global>, n: u64) -> Option<bool> {
-    let log = log_of(memory)?;
     memory.refuse(n);
     let refused = memory.is_refused(log.copy(memory).is_err())?;
     (log.copy(memory).ok()?.len() == 3).then_some(refused)
+}
+
+pub fn copy(memory: &Refusing<Global>, n: u64) -> Option<bool> {
+    let mut log = Log::new(memory);
+    copy_three(memory, n, &mut log)
 }
 
 /// Three firings.
@@ -77,9 +85,9 @@ fn events_of(
 
 /// Whether the events are written as their text into an emptied buffer. None where memory is refused.
 fn is_log_written<'m>(
-    names: &Names<&'m Refusing<Global>>,
-    events: &[Event<&'m Refusing<Global>>],
-    out: &mut Vec<u8, &'m Refusing<Global>>,
+    names: &Names<Memory<'m>>,
+    events: &[Event<Memory<'m>>],
+    out: &mut Vec<u8, Memory<'m>>,
 ) -> Option<bool> {
     out.clear();
     match write_log(out, names, Version::One, events) {
@@ -89,11 +97,7 @@ fn is_log_written<'m>(
 }
 
 /// Writes the events, and once more into the same buffer.
-fn write_events<'m>(
-    memory: &'m Refusing<Global>,
-    n: u64,
-    events: &[Event<&'m Refusing<Global>>],
-) -> Option<bool> {
+fn write_events<'m>(memory: Memory<'m>, n: u64, events: &[Event<Memory<'m>>]) -> Option<bool> {
     let names = Names::new(memory);
     let mut out = Vec::new(memory);
     memory.refuse(n);
@@ -110,9 +114,9 @@ pub fn write_events_of_a_log(memory: &Refusing<Global>, n: u64) -> Option<bool> 
 
 /// Whether a store is written as its text into an emptied buffer. None where memory is refused.
 fn is_store_written<'m>(
-    names: &Names<&'m Refusing<Global>>,
-    lines: &[(u64, Atom<&'m Refusing<Global>>)],
-    out: &mut Vec<u8, &'m Refusing<Global>>,
+    names: &Names<Memory<'m>>,
+    lines: &[(u64, Atom<Memory<'m>>)],
+    out: &mut Vec<u8, Memory<'m>>,
 ) -> Option<bool> {
     out.clear();
     match write_store(out, names, lines) {
@@ -123,9 +127,9 @@ fn is_store_written<'m>(
 
 /// Writes a store of one atom, whose name has its number in the table, and once more into the same buffer.
 fn write_one<'m>(
-    memory: &'m Refusing<Global>,
+    memory: Memory<'m>,
     n: u64,
-    names: &Names<&'m Refusing<Global>>,
+    names: &Names<Memory<'m>>,
     name: Name,
 ) -> Option<bool> {
     let mut atom = Atom::new(memory, name);

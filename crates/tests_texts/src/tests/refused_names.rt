@@ -1,4 +1,5 @@
 //! A table of names.
+use crate::tests::refused_texts::Memory;
 use chr_value::{Name, Names};
 use refusing::Refusing;
 use std::alloc::Global;
@@ -6,11 +7,7 @@ use std::alloc::Global;
 static TEXTS: [&str; 12] = ["a", "b", "c", "d", "e", "f", "g", "h", "i", "j", "k", "l"];
 
 /// Numbers each text, again where that fails.
-fn intern_all<'m>(
-    memory: &'m Refusing<Global>,
-    n: u64,
-    names: &mut Names<&'m Refusing<Global>>,
-) -> Option<bool> {
+fn intern_all<'m>(memory: Memory<'m>, n: u64, names: &mut Names<Memory<'m>>) -> Option<bool> {
     let mut fails = false;
     memory.refuse(n);
     for text in &TEXTS {
@@ -31,11 +28,7 @@ pub fn intern(memory: &Refusing<Global>, n: u64) -> Option<bool> {
 }
 
 /// Whether a copy of a table has the number of a text. None where memory is refused.
-fn is_copied<'m>(
-    memory: &'m Refusing<Global>,
-    names: &Names<&'m Refusing<Global>>,
-    name: Name,
-) -> Option<bool> {
+fn is_copied<'m>(memory: Memory<'m>, names: &Names<Memory<'m>>, name: Name) -> Option<bool> {
     match names.copy(memory) {
         Ok(copy) => Some(copy.find("gcd") == Some(name)),
         Err(_) => None,
@@ -43,11 +36,7 @@ fn is_copied<'m>(
 }
 
 /// Copies a table after a text has its number.
-fn copy_of<'m>(
-    memory: &'m Refusing<Global>,
-    n: u64,
-    names: &mut Names<&'m Refusing<Global>>,
-) -> Option<bool> {
+fn copy_of<'m>(memory: Memory<'m>, n: u64, names: &mut Names<Memory<'m>>) -> Option<bool> {
     let name = names.intern("gcd").ok()?;
     memory.refuse(n);
     let fails = is_copied(memory, names, name).is_none();

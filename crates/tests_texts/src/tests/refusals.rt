@@ -1,5 +1,6 @@
 //! Each call, with each of its requests refused in turn.
-use crate::{refused_logs, refused_names, refused_texts};
+use crate::tests::refused_texts::{self, Text};
+use crate::tests::{refused_logs, refused_names};
 use refusing::{Refusable, Refusing, refuse_each};
 use std::alloc::Global;
 
@@ -13,10 +14,8 @@ enum Call {
     CopyLog,
     WriteLog,
     WriteStore,
-    ReadLog,
-    ReadStore,
-    ReadProgram,
-    ReadPosts,
+    /// The reader of a text, and how many entries, lines, rules or atoms it gives.
+    Read(Text, usize),
 }
 
 const CALLS: [Call; 11] = [
@@ -27,10 +26,10 @@ const CALLS: [Call; 11] = [
     Call::CopyLog,
     Call::WriteLog,
     Call::WriteStore,
-    Call::ReadLog,
-    Call::ReadStore,
-    Call::ReadProgram,
-    Call::ReadPosts,
+    Call::Read(Text::Log, 7),
+    Call::Read(Text::Store, 5),
+    Call::Read(Text::Program, 3),
+    Call::Read(Text::Posts, 3),
 ];
 
 impl Refusable for Call {
@@ -43,10 +42,7 @@ impl Refusable for Call {
             Call::CopyLog => refused_logs::copy(memory, n),
             Call::WriteLog => refused_logs::write_events_of_a_log(memory, n),
             Call::WriteStore => refused_logs::write_line_of_a_store(memory, n),
-            Call::ReadLog => refused_texts::read_entries(memory, n),
-            Call::ReadStore => refused_texts::read_lines(memory, n),
-            Call::ReadProgram => refused_texts::read_rules(memory, n),
-            Call::ReadPosts => refused_texts::read_posts(memory, n),
+            Call::Read(text, count) => refused_texts::read(memory, n, *text, *count),
         }
     }
 }

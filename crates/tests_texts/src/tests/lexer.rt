@@ -2,7 +2,7 @@
 use chr_lex::fault::{ItemError, Kind};
 use chr_lex::{Token, Word, has_bad_byte, next_item, plain_text, tokens};
 use std::alloc::Global;
-use std::test::Fail;
+use std::test::*;
 
 /// An item: its line, its bytes, whether it has its end point, and whether a byte is bad.
 type ItemRow<'r> = (u32, &'r [u8], bool, bool);
@@ -71,32 +71,39 @@ static ITEMS: [(&[u8], &[ItemRow]); 20] = [
     ),
 ];
 
-fn has_items(alloc: Global, text: &[u8], expected: &[ItemRow]) -> Result<bool, Fail> {
-    let plain = plain_text(alloc, text)?;
+/// Whether a text without comments has these items, and no others.
+fn are_items(plain: &[u8], expected: &[ItemRow]) -> bool {
     let mut line = 1;
-    let mut rest = plain.as_slice();
+    let mut rest = plain;
     for row in expected {
         if line > 1000 || rest.len() >= 1000 {
-            return Ok(false);
+            return false;
         }
         let Some((item, next_line, after)) = next_item(line, rest) else {
-            return Ok(false);
+            return false;
         };
         if (item.line, item.text, item.ended, has_bad_byte(item.text)) != *row {
-            return Ok(false);
+            return false;
         }
         line = next_line;
         rest = after;
     }
-    Ok(line <= 1000 && rest.len() < 1000 && next_item(line, rest).is_none())
+    line <= 1000 && rest.len() < 1000 && next_item(line, rest).is_none()
+}
+
+/// The same of a text with its comments.
+fn has_items(alloc: Global, text: &[u8], expected: &[ItemRow]) -> bool {
+    match plain_text(alloc, text) {
+        Ok(plain) => are_items(&plain, expected),
+        Err(_) => false,
+    }
 }
 
 #[test]
-fn comments_and_items(rt: HostRuntime) -> Result<(), Fail> {
+fn comments_and_items(rt: HostRuntime) {
     for (i, (text, expected)) in ITEMS.iter().enumerate() {
-        assert!(rt; has_items(rt.alloc(), text, expected)?, "row {i}");
+        assert!(rt; has_items(rt.alloc(), text, expected), "row {i}");
     }
-    Ok(())
 }
 
 /// Items with their tokens: the kind and the bytes.
@@ -217,39 +224,43 @@ fn kind_of<'a>(token: &Token<'a>) -> (&'static str, &'a [u8]) {
     }
 }
 
-fn has_tokens(alloc: Global, text: &[u8], expected: &[(&str, &[u8])]) -> Result<bool, ItemError> {
-    let read = tokens(alloc, text)?;
-    let mut rest = read.as_slice();
+/// Whether these are tokens of these kinds and bytes.
+fn are_tokens(read: &[Token], expected: &[(&str, &[u8])]) -> bool {
+    let mut rest = read;
     for row in expected {
         let [first, after @ ..] = rest else {
-            return Ok(false);
+            return false;
         };
         if kind_of(first) != *row {
-            return Ok(false);
+            return false;
         }
         rest = after;
     }
-    Ok(rest.is_empty())
+    rest.is_empty()
 }
 
-/// The first item whose tokens are others.
-fn first_with_others(alloc: Global) -> Option<usize> {
-    TOKENS.iter().position(|(text, expected)| !matches!(
-        has_tokens(alloc, text, expected),
-        Ok(true)
-    ))
+/// Whether an item has these tokens.
+fn has_tokens(alloc: Global, text: &[u8], expected: &[(&str, &[u8])]) -> bool {
+    match tokens(alloc, text) {
+        Ok(read) => are_tokens(&read, expected),
+        Err(_) => false,
+    }
 }
 
-/// The first item that is read as tokens, though it has none.
-fn first_with_tokens(alloc: Global) -> Option<usize> {
-    NO_TOKENS.iter().position(|text| !matches!(
-        has_tokens(alloc, text, &[]),
-        Err(ItemError::Fault(Kind::Syntax))
-    ))
+/// Whether an item is no tokens.
+fn has_none(alloc: Global, text: &[u8]) -> bool {
+    match tokens(alloc, text) {
+        Ok(_) => false,
+        Err(error) => matches!(error, ItemError::Fault(Kind::Syntax)),
+    }
 }
 
 #[test]
 fn tokens_of_an_item(rt: HostRuntime) {
-    assert_eq!(rt; first_with_others(rt.alloc()), None);
-    assert_eq!(rt; first_with_tokens(rt.alloc()), None);
+    for (i, (text, expected)) in TOKENS.iter().enumerate() {
+        assert!(rt; has_tokens(rt.alloc(), text, expected), "row {i}");
+    }
+    for (i, text) in NO_TOKENS.iter().enumerate() {
+        assert!(rt; has_none(rt.alloc(), text), "item {i}");
+    }
 }
