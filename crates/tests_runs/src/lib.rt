@@ -12,8 +12,4 @@
 #![tactic(auto)]
 
 #[cfg(test)]
-mod checks;
-#[cfg(test)]
-mod pictures;
-#[cfg(test)]
-mod runs;
+mod tests;

@@ -1,8 +1,9 @@
 //! Checks of logs.
 use chr_check::Verdict;
+use chr_check::fault::CheckFault;
 use chr_check_text::{CheckTextFault, check_text, watched_check_text};
 use chr_watch::Watch;
-use std::alloc::Global;
+use std::alloc::{AllocError, Global};
 use std::test::*;
 
 const GCD: &str = "gcd(0) <=> true.\ngcd(N) \\ gcd(M) <=> 0 < N, N =< M | L is M mod N, gcd(L).\n";
@@ -36,54 +37,55 @@ const TALLER: &str = "n(X) <=> n(s(X)).";
 
 const TOKEN_STORE: &str = "#2 t\n#3 r(1)\n";
 
-/// What is told of three texts: the line of the answer, or the fault of the first text that can't be read. A refusal's
-/// line is also the fault as it is displayed.
-fn told(alloc: Global, program: &str, log: &str, store: &str) -> Result<String<Global>, Fail> {
-    let (program, log, store) = (program.as_bytes(), log.as_bytes(), store.as_bytes());
-    let text = match check_text(alloc, program, log, store) {
-        Ok(checked) => {
-            let displayed = match checked.answer {
-                Ok(Verdict::RunAndFinal) => format!(in alloc; "run final\n")?,
-                Ok(Verdict::Run) => format!(in alloc; "run\n")?,
-                Err(fault) => format!(in alloc; "refused {fault}\n")?,
-            };
-            if displayed.as_bytes() == checked.line.as_slice() {
-                displayed
-            } else {
-                format!(in alloc; "another line than {displayed}")?
-            }
-        }
-        Err(CheckTextFault::Program(fault)) => {
-            format!(in alloc; "program {}: {fault}", fault.line)?
-        }
-        Err(CheckTextFault::Log(fault)) => format!(in alloc; "log {}: {fault}", fault.line())?,
-        Err(CheckTextFault::Store(fault)) => {
-            format!(in alloc; "store {}: {fault}", fault.line())?
-        }
-        Err(CheckTextFault::Memory) => format!(in alloc; "no memory")?,
-    };
-    Ok(text)
+/// How an answer is displayed.
+fn displayed(alloc: Global, answer: Result<Verdict, CheckFault>) -> Result<String, AllocError> {
+    match answer {
+        Ok(Verdict::RunAndFinal) => format!(in alloc; "run final\n"),
+        Ok(Verdict::Run) => format!(in alloc; "run\n"),
+        Err(fault) => format!(in alloc; "refused {fault}\n"),
+    }
 }
 
-/// Whether this is told of three texts.
-fn is_told(
-    alloc: Global,
-    program: &str,
-    log: &str,
-    store: &str,
-    wanted: &str,
-) -> Result<bool, Fail> {
-    Ok(told(alloc, program, log, store)?.as_str() == wanted)
+/// How the fault of the first text that can't be read is displayed.
+fn displayed_fault(alloc: Global, fault: CheckTextFault) -> Result<String, AllocError> {
+    match fault {
+        CheckTextFault::Program(fault) => format!(in alloc; "program {}: {fault}", fault.line),
+        CheckTextFault::Log(fault) => format!(in alloc; "log {}: {fault}", fault.line()),
+        CheckTextFault::Store(fault) => format!(in alloc; "store {}: {fault}", fault.line()),
+        CheckTextFault::Memory => format!(in alloc; "no memory"),
+    }
+}
+
+/// Whether a text that is made with memory is this.
+fn is_text(made: Result<String, AllocError>, wanted: &str) -> bool {
+    match made {
+        Ok(text) => text.as_str() == wanted,
+        Err(_) => false,
+    }
+}
+
+/// Whether this is told of three texts: the line of the answer, which is also how it is displayed, or the fault of the first
+/// text that can't be read.
+fn is_told(alloc: Global, program: &str, log: &str, store: &str, wanted: &str) -> bool {
+    match check_text(alloc, program.as_bytes(), log.as_bytes(), store.as_bytes()) {
+        Ok(checked) => {
+            checked.line.as_slice() == wanted.as_bytes()
+                && is_text(displayed(alloc, checked.answer), wanted)
+        }
+        Err(fault) => is_text(displayed_fault(alloc, fault), wanted),
+    }
 }
 
 /// A program, the version and the events of a log, a store, and what is told of them.
 type Row<'r> = (&'r str, u8, &'r str, &'r str, &'r str);
 
 /// Whether a row has what is told of its texts.
-fn is_told_of(alloc: Global, row: &Row) -> Result<bool, Fail> {
+fn is_told_of(alloc: Global, row: &Row) -> bool {
     let (program, version, events, store, wanted) = *row;
-    let log = format!(in alloc; "chr-log {version}\n{events}")?;
-    is_told(alloc, program, log.as_str(), store, wanted)
+    match format!(in alloc; "chr-log {version}\n{events}") {
+        Ok(log) => is_told(alloc, program, log.as_str(), store, wanted),
+        Err(_) => false,
+    }
 }
 
 /// A line of the log of the run of `GCD`, counted from 1, and what is told where it is left out.
@@ -103,26 +105,31 @@ static WITHOUT: [(usize, &str); 13] = [
     (13, "refused E16 store 2 StoreDiffers\n"),
 ];
 
-/// Whether this is told of the run of `GCD` without one of the lines of its log, under the header of a version.
-fn is_told_without(alloc: Global, version: u8, line: usize, wanted: &str) -> Result<bool, Fail> {
-    let mut events = String::new(alloc);
+/// Adds the events of the run of `GCD` but for one of the lines of its log.
+fn add_without(line: usize, events: &mut String) -> Result<(), AllocError> {
     for (place, text) in GCD_LOG.iter().enumerate() {
         if place > 0 && place + 1 != line {
             events.push_str(text)?;
         }
     }
-    is_told_of(alloc, &(GCD, version, events.as_str(), GCD_STORE, wanted))
+    Ok(())
+}
+
+/// Whether this is told of that run without the line, under the header of a version.
+fn is_told_without(alloc: Global, version: u8, line: usize, wanted: &str) -> bool {
+    let mut events = String::new(alloc);
+    add_without(line, &mut events).is_ok()
+        && is_told_of(alloc, &(GCD, version, events.as_str(), GCD_STORE, wanted))
 }
 
 #[test]
-fn a_log_without_one_line(rt: HostRuntime) -> Result<(), Fail> {
+fn a_log_without_one_line(rt: HostRuntime) {
     for version in [1, 2] {
         for (line, wanted) in &WITHOUT {
-            let is = is_told_without(rt.alloc(), version, *line, wanted)?;
+            let is = is_told_without(rt.alloc(), version, *line, wanted);
             assert!(rt; is, "version {version} without line {line}");
         }
     }
-    Ok(())
 }
 
 /// What is changed in the log of the run of `GCD`, its lines from the first firing on, those from the last one on, a store, and
@@ -168,20 +175,21 @@ static CHANGED: [Changed; 5] = [
 ];
 
 /// Whether a row has what is told of its log.
-fn is_told_of_changed(alloc: Global, row: &Changed) -> Result<bool, Fail> {
+fn is_told_of_changed(alloc: Global, row: &Changed) -> bool {
     let (_, before, last, store, wanted) = *row;
-    let head = "chr-log 1\nP 1 gcd(9)\nP 2 gcd(6)\nA 1 1\nD 1\nA 2 2\n";
+    let head = "P 1 gcd(9)\nP 2 gcd(6)\nA 1 1\nD 1\nA 2 2\n";
     let tail = "A 3 3\nF 3 2 3\\2\nD 3\nA 4 4\n";
-    let log = format!(in alloc; "{head}{before}{tail}{last}")?;
-    is_told(alloc, GCD, log.as_str(), store, wanted)
+    match format!(in alloc; "{head}{before}{tail}{last}") {
+        Ok(events) => is_told_of(alloc, &(GCD, 1, events.as_str(), store, wanted)),
+        Err(_) => false,
+    }
 }
 
 #[test]
-fn a_log_with_changed_lines(rt: HostRuntime) -> Result<(), Fail> {
+fn a_log_with_changed_lines(rt: HostRuntime) {
     for row in &CHANGED {
-        assert!(rt; is_told_of_changed(rt.alloc(), row)?, "{}", row.0);
+        assert!(rt; is_told_of_changed(rt.alloc(), row), "{}", row.0);
     }
-    Ok(())
 }
 
 /// A program, the events of a log, a store, and what is told of them.
@@ -310,12 +318,11 @@ static KINDS: [(&str, &str, &str, &str); 26] = [
 ];
 
 #[test]
-fn faults_by_kind(rt: HostRuntime) -> Result<(), Fail> {
+fn faults_by_kind(rt: HostRuntime) {
     for (program, events, store, wanted) in &KINDS {
-        let is = is_told_of(rt.alloc(), &(*program, 1, *events, *store, *wanted))?;
+        let is = is_told_of(rt.alloc(), &(*program, 1, *events, *store, *wanted));
         assert!(rt; is, "{program} {events} {store}");
     }
-    Ok(())
 }
 
 const OLDER: &str = "P 1 n(1)\nP 2 t\nA 1 1\nA 2 2\nD 1\nF 2 1 2\\1\nD 2\nA 3 3\nD 3\n";
@@ -347,11 +354,10 @@ static VERSIONS: [Row; 6] = [
 ];
 
 #[test]
-fn a_goal_may_be_dropped_by_version(rt: HostRuntime) -> Result<(), Fail> {
+fn a_goal_may_be_dropped_by_version(rt: HostRuntime) {
     for row in &VERSIONS {
-        assert!(rt; is_told_of(rt.alloc(), row)?, "version {} {}", row.1, row.2);
+        assert!(rt; is_told_of(rt.alloc(), row), "version {} {}", row.1, row.2);
     }
-    Ok(())
 }
 
 /// The log of one constraint that stays.
@@ -404,12 +410,12 @@ static TEXTS: [(&str, &str, &str, &str); 20] = [
 #[test]
 fn texts_that_are_not_read(rt: HostRuntime) -> Result<(), Fail> {
     for (program, log, store, wanted) in &TEXTS {
-        let is = is_told(rt.alloc(), program, log, store, wanted)?;
+        let is = is_told(rt.alloc(), program, log, store, wanted);
         assert!(rt; is, "log {log} store {store}");
     }
     let long = " ".repeat(rt.alloc(), 65_537)?;
     let wanted = "program 0: E09 TooLong";
-    assert!(rt; is_told(rt.alloc(), long.as_str(), ENTERED, "", wanted)?);
+    assert!(rt; is_told(rt.alloc(), long.as_str(), ENTERED, "", wanted));
     Ok(())
 }
 

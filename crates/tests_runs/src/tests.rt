@@ -1,0 +1,4 @@
+//! Whole runs, checks and pictures.
+mod checks;
+mod pictures;
+mod runs;
