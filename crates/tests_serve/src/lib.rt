@@ -7,22 +7,4 @@
 #![tactic(auto)]
 
 #[cfg(test)]
-mod client;
-#[cfg(test)]
-mod failing;
-#[cfg(test)]
-mod long;
-#[cfg(test)]
-mod memory;
-#[cfg(test)]
-mod refused;
-#[cfg(test)]
-mod sessions;
-#[cfg(test)]
-mod socket;
-#[cfg(test)]
-mod unread;
-#[cfg(test)]
-mod vanishing;
-#[cfg(test)]
-mod workers;
+mod tests;

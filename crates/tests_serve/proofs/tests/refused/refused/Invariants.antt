@@ -1,5 +1,5 @@
 use Rattle.std.specs.Prelude.{false}
-use Rattle.tests_serve.proofs.refused.refused.Given as goal
+use Rattle.tests_serve.proofs.tests.refused.refused.Given as goal
 
 abbrev pub ghosts-refused_on-L1-Ledger : goal.ghosts-refused_on-L1-Ledger
 ghosts-refused_on-L1-Ledger g a = record { name = a.posts.name; parts = a.posts.parts }

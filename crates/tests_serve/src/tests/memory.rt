@@ -1,11 +1,11 @@
 //! Sessions over memory, beside two workers.
-ghost use Rattle.std.specs.Prelude.{◌≡◌, false};
+ghost use Rattle.std.specs.Prelude.{◌≡◌, vec_len, false};
 
-use crate::client::{LOAD, NUMBERS, has_posts};
+use crate::tests::client::{LOAD, NUMBERS, first_ticket};
 use chr_crew::work::work;
 use chr_crew::{Open, Place, Rack, Stop};
 use chr_pool::{Hand, make};
-use chr_seats::{PostLedger, Seat};
+use chr_seats::{PostLedger, Seat, Seats};
 use chr_serve::serve_at;
 use chr_session::{Ended, MemorySink, MemorySource};
 use chr_shared::Shared;
@@ -56,7 +56,14 @@ fn written<L1: PostLedger, L2: Ledger, R: Wait>(
     (place, written)
 }
 
-/// A session that posts two numbers, and is to find them in the log at once.
+/// Whether the replies to a post of two numbers and to `log 1` name tickets under which the log has them.
+fn has_posts(alloc: Global, written: &[u8], numbers: (u64, u64)) -> Option<bool> {
+    let (posted, log) = str::from_utf8(written).ok()?.split_once('\n')?;
+    let ticket = first_ticket(posted)?;
+    Some(NUMBERS.has_posts(alloc, log, ticket, numbers))
+}
+
+/// Whether a session that posts two numbers finds them in the log at once.
 fn finds_its_posts<L1: PostLedger, L2: Ledger, R: Wait>(
     rt: &R,
     alloc: Global,
@@ -65,12 +72,36 @@ fn finds_its_posts<L1: PostLedger, L2: Ledger, R: Wait>(
     numbers: (u64, u64),
     piece: usize,
 ) -> Option<bool> {
-    let (one, other) = numbers;
-    let input = format!(in alloc; "post gcd({one}), gcd({other}).\nlog 1\n").ok()?;
+    let input = NUMBERS.post_and_log(alloc, numbers).ok()?;
     let (_, written) = written(rt, alloc, shared, place, input.as_str(), piece);
-    let written = written?;
-    let told = str::from_utf8(&written).ok()?;
-    has_posts(alloc, NUMBERS, told, one, other).ok()
+    has_posts(alloc, &written?, numbers)
+}
+
+/// Whether a session loads the rules, and its place.
+fn loads<L1: PostLedger, L2: Ledger, R: Wait>(
+    rt: &R,
+    alloc: Global,
+    shared: &Shared<L1, L2, Global>,
+    place: Place<L1, L2>,
+    piece: usize,
+) -> (Place<L1, L2>, bool) {
+    let (place, written) = written(rt, alloc, shared, place, LOAD, piece);
+    (place, written.as_deref() == Some(b"loaded 2\n".as_slice()))
+}
+
+/// Whether a session finds the end of the run.
+fn finds_the_end<L1: PostLedger, L2: Ledger, R: Wait>(
+    rt: &R,
+    alloc: Global,
+    shared: &Shared<L1, L2, Global>,
+    place: Place<L1, L2>,
+    piece: usize,
+) -> bool {
+    let (_, told) = written(rt, alloc, shared, place, "wait 10000000\nstore\n", piece);
+    match told {
+        Some(told) => told.starts_with(b"quiet\nstore 1\n#") && told.ends_with(b" gcd(1)\n"),
+        None => false,
+    }
 }
 
 /// Whether two sessions that post at once each find their posts, after one has loaded, and the next finds the end of the run.
@@ -80,22 +111,55 @@ fn talk<L1: PostLedger + Send + Sync, L2: Ledger + Send + Sync, R: Threads + Wai
     shared: &Shared<L1, L2, Global>,
     rack: &Rack<L1, L2, Global>,
     piece: usize,
-) -> Option<bool> {
-    let (place, other_place) = (rack.take(rt).ok()?, rack.take(rt).ok()?);
-    let last = rack.take(rt).ok()?;
-    let (last, loaded) = written(rt, alloc, shared, last, LOAD, piece);
+) -> bool {
+    let (Ok(place), Ok(other), Ok(last)) = (rack.take(rt), rack.take(rt), rack.take(rt)) else {
+        return false;
+    };
+    let (last, loads) = loads(rt, alloc, shared, last, piece);
     let (found, other_found) = thread::join(
         rt,
         || finds_its_posts(rt, alloc, shared, place, (9, 6), piece),
-        || finds_its_posts(rt, alloc, shared, other_place, (10, 4), piece),
+        || finds_its_posts(rt, alloc, shared, other, (10, 4), piece),
     );
-    let (_, told) = written(rt, alloc, shared, last, "wait 10000000\nstore\n", piece);
-    let told = told?;
-    let ends = told.starts_with(b"quiet\nstore 1\n#") && told.ends_with(b" gcd(1)\n");
-    Some(loaded?.as_slice() == b"loaded 2\n".as_slice() && found? && other_found? && ends)
+    let ends = finds_the_end(rt, alloc, shared, last, piece);
+    loads && found == Some(true) && other_found == Some(true) && ends
 }
 
-/// Two workers and three sessions. None where memory ran out.
+/// The same beside two workers, on a lock with these seats. None where memory ran out.
+fn talk_beside_workers<
+    L1: PostLedger + Send + Sync,
+    L2: Ledger + Send + Sync,
+    R: Threads + Wait + Sync,
+>(
+    rt: &R,
+    alloc: Global,
+    shared: &Shared<L1, L2, Global>,
+    seats: Seats<L1, L2, Global>,
+    piece: usize,
+) -> Option<bool>
+    requires { vec_len seats.sessions ≡ 16 }
+{
+    let Seats {
+        mut workers,
+        sessions,
+    } = seats;
+    let (mut hands, inlets) = make::<u64>(alloc, 2, 16, 16).ok()?;
+    let rack = Rack::new(alloc, sessions, inlets).ok()?;
+    let hands = (hands.pop()?, hands.pop()?);
+    let seats = (workers.pop()?, workers.pop()?);
+    let (_, right) = thread::join(
+        rt,
+        || work_both(rt, shared, hands, seats),
+        || {
+            let right = talk(rt, alloc, shared, &rack, piece);
+            shared.close(rt);
+            right
+        },
+    );
+    Some(right)
+}
+
+/// The same on a lock of its own.
 fn sessions_over_memory<
     L1: PostLedger + Send + Sync,
     L2: Ledger + Send + Sync,
@@ -106,24 +170,10 @@ fn sessions_over_memory<
     requires none { L1.loaded ≡ false }
 {
     let (shared, seats) = Shared::<L1, L2, Global>::empty(alloc, posts, others).ok()?;
-    let (mut hands, inlets) = make::<u64>(alloc, 2, 16, 16).ok()?;
-    let rack = Rack::new(alloc, seats.sessions, inlets).ok()?;
-    let mut workers = seats.workers;
-    let hands = (hands.pop()?, hands.pop()?);
-    let seats = (workers.pop()?, workers.pop()?);
-    let (_, right) = thread::join(
-        rt,
-        || work_both(rt, &shared, hands, seats),
-        || {
-            let right = talk(rt, alloc, &shared, &rack, piece);
-            shared.close(rt);
-            right
-        },
-    );
-    right
+    talk_beside_workers(rt, alloc, &shared, seats, piece)
 }
 
-/// The same on a lock of its own.
+/// The same with ledgers of its own.
 fn find_their_posts<R: Threads + Wait + Sync>(rt: &R, alloc: Global, piece: usize) -> Option<bool> {
     sessions_over_memory::<Brand, Brand, R>(rt, alloc, piece, Blank::new(32), Blank::new(32))
 }

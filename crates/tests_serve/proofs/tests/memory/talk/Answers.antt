@@ -1,6 +1,6 @@
 use Rattle.chr_crew.proofs.Crossing.{basis, Shared-sync}
 use Rattle.chr_crew.proofs.rack.Place.TheSendSync as place
-use Rattle.tests_serve.proofs.memory.talk.Goals as goal
+use Rattle.tests_serve.proofs.tests.memory.talk.Goals as goal
 
 pub join-found-requires-send-F : goal.join-found-requires-send-F
 join-found-requires-send-F g c κs within =

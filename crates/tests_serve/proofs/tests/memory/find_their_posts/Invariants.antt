@@ -1,5 +1,5 @@
 use Rattle.std.specs.Prelude.{false}
-use Rattle.tests_serve.proofs.memory.find_their_posts.Given as goal
+use Rattle.tests_serve.proofs.tests.memory.find_their_posts.Given as goal
 
 abbrev pub ghosts-sessions_over_memory-L1-Ledger : goal.ghosts-sessions_over_memory-L1-Ledger
 ghosts-sessions_over_memory-L1-Ledger g a = record { name = a.posts.name; parts = a.posts.parts }

@@ -1,5 +1,5 @@
 //! Listeners that fail.
-use crate::client::Client;
+use crate::tests::client::Client;
 use chr_serve::{Listener, ServerFault, serve_on};
 use std::alloc::{AllocError, AllocGlobal, Global};
 use std::cell::Cell;
@@ -44,11 +44,10 @@ fn ended<R: Threads + Wait + Clock + Sync + AllocGlobal>(
 
 /// Whether a client that ends its session reads `bye` and the end.
 fn takes_leave(alloc: Global, stream: UnixStream) -> bool {
-    let Ok(mut client) = Client::over(alloc, stream) else {
-        return false;
-    };
-    client.replies("quit\n", "bye\n").is_ok_and(|told| told)
-        && client.reply().is_ok_and(|told| told.is_empty())
+    match Client::over(alloc, stream) {
+        Some(mut client) => client.replies("quit\n", "bye\n") && client.is_told(""),
+        None => false,
+    }
 }
 
 /// The number of the system's error where no descriptor is free.

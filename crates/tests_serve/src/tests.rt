@@ -1,0 +1,11 @@
+//! Clients of servers, and a module for each kind of test.
+mod client;
+mod failing;
+mod long;
+mod memory;
+mod refused;
+mod sessions;
+mod socket;
+mod unread;
+mod vanishing;
+mod workers;

@@ -1,0 +1,199 @@
+//! The socket of a server: its file, and what is said of it.
+use chr_commands::{Detail, Status};
+use chr_socket::serve::{Listening, Taken, serve};
+use std::alloc::{AllocGlobal, Global};
+use std::fmt::Display;
+use std::fs::Files;
+use std::io::{self, Read, Write};
+use std::net::Net;
+use std::os::unix::net::{UnixListener, UnixStream};
+use std::rt::Clock;
+use std::sync::Wait;
+use std::test::*;
+use std::thread::Threads;
+use std::{env, fs, process, thread};
+
+/// Whether a server of one session refuses to listen.
+fn is_refused<R: Files + Net + Threads + Wait + Sync + Clock + Eprint + AllocGlobal>(
+    rt: &R,
+    path: &str,
+) -> bool {
+    serve(rt, Detail::Line, path, 1, Some(1)) == Status::Usage
+}
+
+#[test]
+fn paths_where_no_socket_can_be_made(rt: HostRuntime) {
+    for path in [
+        ".",
+        "there-is-no-such-folder/chr.sock",
+        "a-path-of-more-than-one-hundred-and-seven-bytes-which-no-socket-of-the-system-can-have-since-its-address-ends-there",
+    ] {
+        assert!(rt; is_refused(&rt, path), "{path}");
+    }
+}
+
+/// A connection to a server. None where it doesn't begin to listen.
+fn connect<R: Net>(rt: &R, path: &str) -> Option<UnixStream> {
+    for _ in 0..1_000_000 {
+        if let Ok(stream) = UnixStream::connect(rt, path) {
+            return Some(stream);
+        }
+        thread::yield_now();
+    }
+    None
+}
+
+/// Whether what a new client does turns out well.
+fn talks<R: Net, F: FnOnce(&UnixStream) -> io::Result<bool>>(rt: &R, path: &str, talk: F) -> bool
+    requires { F.IsAlwaysCallable talk }
+{
+    match connect(rt, path) {
+        Some(stream) => matches!(talk(&stream), Ok(true)),
+        None => false,
+    }
+}
+
+/// A path for a socket of this process, in the folder for files that don't last.
+fn socket_path(rt: &HostRuntime, name: &str) -> io::Result<String> {
+    let folder = env::temp_dir(rt)?;
+    let number = process::id(rt.process());
+    Ok(format!(in rt.alloc(); "{}/chr-server-{number}-{name}.sock", folder.display())?)
+}
+
+/// Whether a client that ends its session at once is told `bye` and nothing else.
+fn takes_leave<R: AllocGlobal>(rt: &R, stream: &UnixStream) -> io::Result<bool> {
+    let mut told = stream;
+    told.write_all(b"quit\n")?;
+    Ok(io::read_to_string(rt.alloc(), stream)?.as_str() == "bye\n")
+}
+
+#[test]
+fn a_socket_is_removed_at_the_end(rt: HostRuntime) -> Result<(), Fail> {
+    let path = socket_path(&rt, "removed")?;
+    let path = path.as_str();
+    let (status, left) = thread::join(
+        &rt,
+        || serve(&rt, Detail::Line, path, 1, Some(1)),
+        || talks(&rt, path, |stream| takes_leave(&rt, stream)),
+    );
+    assert!(rt; status == Status::Done && left);
+    assert!(rt; matches!(fs::exists(&rt, path), Ok(false)));
+    Ok(())
+}
+
+/// Whether a client can put a file in the place of the socket while its session lives. It ends the session then.
+fn replaces_socket<R: Files + AllocGlobal>(
+    rt: &R,
+    path: &str,
+    stream: &UnixStream,
+) -> io::Result<bool> {
+    let mut client = stream;
+    let mut first = [0];
+    client.write_all(b"store\n")?;
+    client.read_exact(&mut first)?;
+    fs::remove_file(rt, path)?;
+    fs::write(rt, path, b"kept")?;
+    client.write_all(b"quit\n")?;
+    io::read_to_string(rt.alloc(), stream)?;
+    Ok(true)
+}
+
+/// Whether this file is as it was written. It is removed then.
+fn was_kept<R: Files + AllocGlobal>(rt: &R, path: &str) -> io::Result<bool> {
+    let kept = fs::read_to_string(rt, path)?.as_str() == "kept";
+    fs::remove_file(rt, path)?;
+    Ok(kept)
+}
+
+#[test]
+fn another_file_is_left_at_the_end(rt: HostRuntime) -> Result<(), Fail> {
+    let path = socket_path(&rt, "replaced")?;
+    let path = path.as_str();
+    let (status, replaced) = thread::join(
+        &rt,
+        || serve(&rt, Detail::Line, path, 1, Some(1)),
+        || talks(&rt, path, |stream| replaces_socket(&rt, path, stream)),
+    );
+    assert!(rt; status == Status::Done && replaced);
+    assert!(rt; matches!(was_kept(&rt, path), Ok(true)));
+    Ok(())
+}
+
+/// Whether a server leaves a file that is at its path.
+fn leaves_file<R: Files + Net + Threads + Wait + Sync + Clock + Eprint + AllocGlobal>(
+    rt: &R,
+    path: &str,
+) -> io::Result<bool> {
+    fs::write(rt, path, b"kept")?;
+    let refused = is_refused(rt, path);
+    Ok(was_kept(rt, path)? && refused)
+}
+
+/// Whether a server leaves a socket that another listens at, and one that none does.
+fn leaves_socket<R: Files + Net + Threads + Wait + Sync + Clock + Eprint + AllocGlobal>(
+    rt: &R,
+    path: &str,
+) -> io::Result<bool> {
+    let listener = UnixListener::bind(rt, path)?;
+    let refused = is_refused(rt, path) && UnixStream::connect(rt, path).is_ok();
+    drop(listener);
+    let left = is_refused(rt, path) && fs::exists(rt, path)?;
+    fs::remove_file(rt, path)?;
+    Ok(refused && left)
+}
+
+#[test]
+fn what_is_at_the_path_is_left(rt: HostRuntime) -> Result<(), Fail> {
+    let path = socket_path(&rt, "taken")?;
+    let (file, socket) = (
+        leaves_file(&rt, path.as_str()),
+        leaves_socket(&rt, path.as_str()),
+    );
+    assert!(rt; file?);
+    assert!(rt; socket?);
+    Ok(())
+}
+
+/// How many workers there are, and what is told once clients can connect.
+static LISTENING: [(usize, &str); 2] = [
+    (1, "chr: listening on chr.sock with 1 worker"),
+    (4, "chr: listening on chr.sock with 4 workers"),
+];
+
+/// Whether a socket is at a path, and what is told of it.
+static TAKEN: [(bool, &str); 2] = [
+    (
+        true,
+        "chr: chr.sock: a socket is there; remove it if no server uses it, or name another path",
+    ),
+    (
+        false,
+        "chr: chr.sock: a file is there that isn't a socket; name another path",
+    ),
+];
+
+/// Whether this is how a sentence is displayed.
+fn is_displayed<D: Display + Drop>(alloc: Global, sentence: D, wanted: &str) -> bool {
+    match format!(in alloc; "{sentence}") {
+        Ok(told) => told.as_str() == wanted,
+        Err(_) => false,
+    }
+}
+
+#[test]
+fn sentences_on_listening(rt: HostRuntime) {
+    let path = "chr.sock";
+    for (workers, wanted) in LISTENING {
+        let told = is_displayed(rt.alloc(), Listening { path, workers }, wanted);
+        assert!(rt; told, "{workers}");
+    }
+}
+
+#[test]
+fn sentences_on_paths_that_are_taken(rt: HostRuntime) {
+    let path = "chr.sock";
+    for (by_socket, wanted) in TAKEN {
+        let told = is_displayed(rt.alloc(), Taken { path, by_socket }, wanted);
+        assert!(rt; told, "{by_socket}");
+    }
+}

@@ -1,0 +1,117 @@
+//! Goals that are worked on at once.
+use crate::tests::client::{Client, found_at, has_line};
+use std::alloc::{AllocError, Global};
+use std::test::*;
+
+/// A goal `go` tries each `n` with each `m`, and fires with none; `d` fires at once.
+const LOAD: &str = "load 49\nn(X), m(Y), go <=> X + Y =:= -1 | true.\nd <=> e.\n";
+
+/// How many of `n` and of `m` are posted.
+const EACH: u64 = 60;
+
+/// How often a short goal is posted behind a long one. A second worker may come too late once; one alone always does.
+const ROUNDS: u64 = 20;
+
+/// The command that posts this name with each number below `count`.
+fn post_numbers(alloc: Global, name: &str, count: u64) -> Result<String, AllocError> {
+    let mut post = format!(in alloc; "post {name}(0)")?;
+    for k in 1..count {
+        post.push_str(format!(in alloc; ",{name}({k})")?.as_str())?;
+    }
+    post.push_str(".\n")?;
+    Ok(post)
+}
+
+/// Whether a client can post each of these names with each number below `count`.
+pub fn posts_each(client: &mut Client, names: &[&str], count: u64) -> bool {
+    for name in names {
+        let posted = match post_numbers(client.alloc, name, count) {
+            Ok(post) => client.tell(post.as_str()) && client.reply().is_ok(),
+            Err(_) => false,
+        };
+        if !posted {
+            return false;
+        }
+    }
+    true
+}
+
+/// Whether a log has a firing by this ticket.
+fn fires(alloc: Global, log: &str, ticket: u64) -> bool {
+    match format!(in alloc; "F {ticket} ") {
+        Ok(start) => log.lines().any(|entry| entry.starts_with(start.as_str())),
+        Err(_) => false,
+    }
+}
+
+/// Whether the goal of the ticket `long` has not ended in a log that has a firing of the next one's. None before that.
+fn is_overtaken(alloc: Global, log: &str, long: u64) -> Option<bool> {
+    if fires(alloc, log, long.wrapping_add(1)) {
+        Some(!has_line(log, format!(in alloc; "D {long}")))
+    } else {
+        None
+    }
+}
+
+/// Whether the goal of the ticket `long` is overtaken before it has ended.
+fn sees_overtaken(client: &mut Client, long: u64) -> bool {
+    let alloc = client.alloc;
+    for _ in 0..100_000 {
+        if !client.tell("log 1\n") {
+            return false;
+        }
+        let overtaken = match client.reply() {
+            Ok(log) => is_overtaken(alloc, log, long),
+            Err(_) => Some(false),
+        };
+        if let Some(overtaken) = overtaken {
+            return client.becomes_quiet() && overtaken;
+        }
+    }
+    false
+}
+
+/// Whether a goal that is posted behind a long one, of the ticket `long`, fires before that has ended.
+fn overtakes(client: &mut Client, long: u64) -> bool {
+    match format!(in client.alloc; "posted {long} 2\n") {
+        Ok(posted) => {
+            client.replies("post go, d.\n", posted.as_str()) && sees_overtaken(client, long)
+        }
+        Err(_) => false,
+    }
+}
+
+/// Whether a short goal overtakes a long one in one of the rounds, each of which has the tickets of `go`, `d` and `e`.
+fn one_overtakes(client: &mut Client) -> bool {
+    for round in 0..ROUNDS {
+        let before = EACH.wrapping_mul(2).wrapping_add(round.wrapping_mul(3));
+        if overtakes(client, before.wrapping_add(1)) {
+            return true;
+        }
+    }
+    false
+}
+
+/// The same after a client has loaded the rules and posted what long goals try.
+fn one_overtakes_after_posts(client: Option<Client>) -> bool {
+    match client {
+        Some(mut client) => {
+            client.replies(LOAD, "loaded 2\n")
+                && posts_each(&mut client, &["n", "m"], EACH)
+                && client.becomes_quiet()
+                && one_overtakes(&mut client)
+        }
+        None => false,
+    }
+}
+
+#[test]
+fn two_workers_work_at_once(rt: HostRuntime) {
+    let overtakes = found_at(
+        &rt,
+        2,
+        1,
+        |address| one_overtakes_after_posts(Client::connect(&rt, address)),
+    );
+    assert_eq!(rt; overtakes, Some(true));
+}
