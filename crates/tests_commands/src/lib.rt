@@ -8,18 +8,4 @@
 #![tactic(auto)]
 
 #[cfg(test)]
-mod check;
-#[cfg(test)]
-mod command_line;
-#[cfg(test)]
-mod explain;
-#[cfg(test)]
-mod message;
-#[cfg(test)]
-mod picture;
-#[cfg(test)]
-mod progress;
-#[cfg(test)]
-mod run;
-#[cfg(test)]
-mod session;
+mod tests;

@@ -1,8 +1,10 @@
 //! The ends of runs.
+use crate::tests::command_line::DEFAULTS;
+use crate::tests::message::whole;
 use chr_command_line::RunOptions;
 use chr_commands::Status;
 use chr_commands::check::check;
-use chr_commands::message::{Detail, Source, Text};
+use chr_commands::message::{Detail, Text};
 use chr_commands::run::{run, run_sources};
 use chr_run_text::Show;
 use std::test::*;
@@ -10,21 +12,8 @@ use std::{fs, io};
 
 #[test]
 fn a_file_that_is_not_there(rt: HostRuntime) {
-    let options = RunOptions {
-        steps: 0,
-        labels: 0,
-        show: Show::All,
-        log: None,
-        store: None,
-    };
-    let status = run(
-        &rt,
-        Detail::Line,
-        "there-is-no-such-file.chr",
-        "nor-this.txt",
-        &[],
-        options,
-    );
+    let (rules, posts) = ("there-is-no-such-file.chr", "nor-this.txt");
+    let status = run(&rt, Detail::Line, rules, posts, &[], DEFAULTS);
     assert!(rt; status == Status::Usage);
 }
 
@@ -45,24 +34,13 @@ static STATUSES: [Row; 8] = [
 /// Whether a run ends as its row has it.
 fn ends(rt: &HostRuntime, row: &Row) -> bool {
     let (program, posts, steps, labels, show, wanted) = *row;
-    let program = Source {
-        text: Text::Program,
-        path: "rules",
-        bytes: program.as_bytes(),
-        part: None,
-    };
-    let posts = Source {
-        text: Text::Posts,
-        path: "posts",
-        bytes: posts.as_bytes(),
-        part: None,
-    };
+    let program = whole(Text::Program, "rules", program.as_bytes());
+    let posts = whole(Text::Posts, "posts", posts.as_bytes());
     let options = RunOptions {
         steps,
         labels,
         show,
-        log: None,
-        store: None,
+        ..DEFAULTS
     };
     run_sources(rt, Detail::Line, program, &[posts], options) == wanted
 }
@@ -100,11 +78,10 @@ fn writes(rt: &HostRuntime, row: &FilesRow) -> io::Result<bool> {
     fs::write(rt, "posts.txt", posts.as_bytes())?;
     fs::write(rt, "more.txt", more.as_bytes())?;
     let options = RunOptions {
-        steps: 1_000_000,
-        labels: 4_294_967_295,
         show: Show::Store,
         log: Some("log.txt"),
         store: Some("store.txt"),
+        ..DEFAULTS
     };
     let ran = run(
         rt,
@@ -136,11 +113,9 @@ fn files_that_cannot_be_read_or_written(rt: HostRuntime) -> Result<(), Fail> {
     fs::write(&rt, "rules.chr", b"a <=> b.".as_slice())?;
     fs::write(&rt, "posts.txt", b"a.".as_slice())?;
     let options = RunOptions {
-        steps: 1_000_000,
-        labels: 4_294_967_295,
         show: Show::Store,
         log: Some("there-is-no-such-folder/log.txt"),
-        store: None,
+        ..DEFAULTS
     };
     let wrong = run(
         &rt,

@@ -8,6 +8,16 @@ use chr_log_text::fault::TextFault;
 use std::alloc::{AllocError, Global};
 use std::test::*;
 
+/// The only file of its kind.
+pub fn whole<'a>(text: Text, path: &'a str, bytes: &'a [u8]) -> Source<'a> {
+    Source {
+        text,
+        path,
+        bytes,
+        part: None,
+    }
+}
+
 /// A kind of fault of a whole text, and what is said of it before its place.
 type Sentence = (Text, Kind, &'static str);
 
@@ -72,12 +82,7 @@ static SENTENCES: [Sentence; 11] = [
 /// Whether this is said of a fault of a whole text.
 fn says(alloc: Global, row: &Sentence) -> Result<bool, AllocError> {
     let (text, kind, wanted) = *row;
-    let source = Source {
-        text,
-        path: "f",
-        bytes: b"",
-        part: None,
-    };
+    let source = whole(text, "f", b"");
     let fault = Fault::Read(ReadFault { kind, line: 0 });
     let full = message(alloc, Detail::Explained, source, fault)?;
     Ok(full.as_str().strip_suffix(" --> f\n") == Some(wanted))
@@ -110,12 +115,11 @@ static PLACES: [(u32, &str); 5] = [
 
 /// Whether a fault in a line is shown at this place, and at none where only the line that names it is said.
 fn is_shown(alloc: Global, line: u32, place: &str) -> Result<bool, AllocError> {
-    let source = Source {
-        text: Text::Posts,
-        path: "f",
-        bytes: b"a <=> b.\r\n\n\tp(X) <=> q(Y). % \xff\nlast",
-        part: None,
-    };
+    let source = whole(
+        Text::Posts,
+        "f",
+        b"a <=> b.\r\n\n\tp(X) <=> q(Y). % \xff\nlast",
+    );
     let fault = Fault::Read(ReadFault {
         kind: Kind::NumberRange,
         line,
@@ -171,12 +175,7 @@ static LOG_SENTENCES: [LogSentence; 5] = [
 /// Whether this is said of a fault of a log or of a store.
 fn says_of_log(alloc: Global, row: &LogSentence) -> Result<bool, AllocError> {
     let (text, fault, wanted) = *row;
-    let source = Source {
-        text,
-        path: "f",
-        bytes: b"first\nsecond",
-        part: None,
-    };
+    let source = whole(text, "f", b"first\nsecond");
     let full = message(alloc, Detail::Explained, source, Fault::Text(fault))?;
     Ok(full.as_str() == wanted)
 }
@@ -277,12 +276,7 @@ static REFUSALS: [Refusal; 10] = [
 /// Whether this is said of a log that is refused.
 fn says_of_refusal(alloc: Global, row: &Refusal) -> Result<bool, AllocError> {
     let (bytes, line, kind, told, wanted) = *row;
-    let source = Source {
-        text: Text::Log,
-        path: "f",
-        bytes,
-        part: None,
-    };
+    let source = whole(Text::Log, "f", bytes);
     let fault = CheckFault {
         place: Place::Log,
         line,

@@ -1,15 +1,14 @@
 //! Explanations: what their command lines ask for, and how they end.
-use chr_command_line::{Request, read};
+use crate::tests::command_line::{Errors, asks, first_other};
+use crate::tests::message::whole;
+use chr_command_line::Request;
 use chr_commands::Status;
 use chr_commands::explain::{explain, explain_sources};
-use chr_commands::message::{Detail, Source, Text};
+use chr_commands::message::{Detail, Text};
 use chr_explain::explanation::{Form, Question};
 use clap::error::ErrorKind;
 use std::alloc::Global;
 use std::test::*;
-
-/// The words of a command line.
-type Words = &'static [&'static str];
 
 const LINES: Question = Question {
     label: 3,
@@ -17,15 +16,12 @@ const LINES: Question = Question {
     form: Form::Text,
 };
 
-/// Words with the question that they ask of the log `log` by the rules `rules`.
-static ASKED: [(Words, Question); 5] = [
-    (&["chr", "explain", "rules", "log", "3"], LINES),
+/// Command lines with the question that they ask of the log `log` by the rules `rules`.
+static ASKED: [(&str, Question); 5] = [
+    ("chr explain rules log 3", LINES),
+    ("chr explain rules log 3 --as text", LINES),
     (
-        &["chr", "explain", "rules", "log", "3", "--as", "text"],
-        LINES,
-    ),
-    (
-        &["chr", "explain", "--gone", "rules", "log", "1"],
+        "chr explain --gone rules log 1",
         Question {
             label: 1,
             gone: true,
@@ -33,7 +29,7 @@ static ASKED: [(Words, Question); 5] = [
         },
     ),
     (
-        &["chr", "explain", "rules", "log", "--as=dot", "4294967295"],
+        "chr explain rules log --as=dot 4294967295",
         Question {
             label: 4_294_967_295,
             gone: false,
@@ -41,9 +37,7 @@ static ASKED: [(Words, Question); 5] = [
         },
     ),
     (
-        &[
-            "chr", "explain", "--as", "dot", "rules", "log", "3", "--gone",
-        ],
+        "chr explain --as dot rules log 3 --gone",
         Question {
             label: 3,
             gone: true,
@@ -52,70 +46,55 @@ static ASKED: [(Words, Question); 5] = [
     ),
 ];
 
-/// Whether words ask this question.
-fn asks(alloc: Global, words: Words, question: Question) -> bool {
+/// Whether a command line asks this question.
+fn asks_of_log(alloc: Global, line: &str, question: Question) -> bool {
     let wanted = Request::Explain {
         file: "rules",
         log: "log",
         question,
     };
-    match read(alloc, words) {
-        Ok(asked) => asked.request == wanted && asked.more.is_empty(),
-        Err(_) => false,
-    }
+    asks(alloc, line, &wanted, &[])
 }
 
 #[test]
 fn questions(rt: HostRuntime) {
-    for (i, (words, question)) in ASKED.iter().enumerate() {
-        assert!(rt; asks(rt.alloc(), words, *question), "row {i}");
+    for (line, question) in &ASKED {
+        assert!(rt; asks_of_log(rt.alloc(), line, *question), "{line}");
     }
 }
 
-/// Words at fault.
-static REFUSED: [(Words, ErrorKind); 7] = [
+/// Command lines at fault.
+static REFUSED: [Errors; 4] = [
     (
-        &["chr", "explain", "rules", "log"],
         ErrorKind::MissingRequiredArgument,
+        2,
+        &["chr explain rules log"],
     ),
     (
-        &["chr", "explain", "rules", "log", "0"],
         ErrorKind::ValueValidation,
+        2,
+        &[
+            "chr explain rules log 0",
+            "chr explain rules log 4294967296",
+            "chr explain rules log #3",
+        ],
     ),
     (
-        &["chr", "explain", "rules", "log", "4294967296"],
-        ErrorKind::ValueValidation,
-    ),
-    (
-        &["chr", "explain", "rules", "log", "#3"],
-        ErrorKind::ValueValidation,
-    ),
-    (
-        &["chr", "explain", "rules", "log", "3", "--as", "svg"],
         ErrorKind::InvalidValue,
+        2,
+        &["chr explain rules log 3 --as svg"],
     ),
     (
-        &["chr", "explain", "rules", "log", "3", "--gone", "--gone"],
         ErrorKind::ArgumentConflict,
-    ),
-    (
-        &["chr", "explain", "-", "-", "3"],
-        ErrorKind::ArgumentConflict,
+        2,
+        &["chr explain rules log 3 --gone --gone", "chr explain - - 3"],
     ),
 ];
 
-/// Whether words have this error.
-fn fails(alloc: Global, words: Words, kind: ErrorKind) -> bool {
-    match read(alloc, words) {
-        Ok(_) => false,
-        Err(error) => error.kind() == kind && error.exit_code() == 2,
-    }
-}
-
 #[test]
 fn words_at_fault(rt: HostRuntime) {
-    for (i, (words, kind)) in REFUSED.iter().enumerate() {
-        assert!(rt; fails(rt.alloc(), words, *kind), "row {i}");
+    for row in &REFUSED {
+        assert_eq!(rt; first_other(rt.alloc(), row), None);
     }
 }
 
@@ -143,18 +122,8 @@ static STATUSES: [(&str, &str, u64, Status); 6] = [
 /// Whether an explanation ends so.
 fn ends(rt: &HostRuntime, row: &(&'static str, &'static str, u64, Status)) -> bool {
     let (program, log, label, wanted) = *row;
-    let program = Source {
-        text: Text::Program,
-        path: "rules",
-        bytes: program.as_bytes(),
-        part: None,
-    };
-    let log = Source {
-        text: Text::Log,
-        path: "log",
-        bytes: log.as_bytes(),
-        part: None,
-    };
+    let program = whole(Text::Program, "rules", program.as_bytes());
+    let log = whole(Text::Log, "log", log.as_bytes());
     let question = Question {
         label,
         gone: true,

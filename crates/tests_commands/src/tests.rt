@@ -1,0 +1,9 @@
+//! A module for each command, for the command line, and for what is said.
+mod check;
+mod command_line;
+mod explain;
+mod message;
+mod picture;
+mod progress;
+mod run;
+mod session;
