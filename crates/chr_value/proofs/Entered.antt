@@ -1,5 +1,5 @@
 -- Names entered one after another.
-use Rattle.std.proofs.Common.{◌≡◌, ℕ, List, [], ◌∷◌, ◌++◌, Option, Some, None, Result, Ok, Err, refl, ap, ◌∙◌}
+use Rattle.std.proofs.Common.{◌≡◌, ◌↔◌, ℕ, List, length, [], ◌∷◌, ◌++◌, Option, Some, None, Result, Ok, Err, refl, ap, ◌∙◌, arith}
 use Rattle.chr_value.specs.declared.names.NamesFault.{NamesFault}
 use Rattle.chr_value.specs.declared.names.NamesFault.TheVariants as faults
 use Rattle.chr_value.specs.Atoms.{Value, Sym, Comp, Args, args_of, Atom}
@@ -32,6 +32,11 @@ entered-stop W X P Q faults.Full a b new stops less h = (stops h.0, h.1, λ q. h
 pub entered-fails : (W : Type 0) {X Y Z : Type 0} (P : Table → Type 0) (view : X → Z) (e : NamesFault) (a : Option (Y × Table)) (b : Option (Z × Table)) (new : Table) → (a ≡ None → b ≡ None) → IsEntered {X = W} P (Err e) a new → Named view (Err e) b new
 entered-fails W P view faults.NoMemory a b new stops h = tt
 entered-fails W P view faults.Full a b new stops h = stops h.0
+
+-- the table is full, and lacks a name of the whole, exactly where the fault says so
+pub full-where : (W X : Type 0) {Y : Type 0} (P : Table → Type 0) (Known : Type 0) (e : NamesFault) (a : Option (Y × Table)) (new : Table) → (Known → P new) → IsEntered {X = W} P (Err e) a new → (◌≡◌ {A = Result X NamesFault} (Err e) (Err faults.Full)) ↔ ((length new ≡ 65536) × (Known → ⊥))
+full-where W X P Known faults.NoMemory a new less h = (λ is. absurd cc, λ full. absurd (omega (arith, h, full.0)))
+full-where W X P Known faults.Full a new less h = (λ is. (h.1, λ known. h.2 (less known)), λ full. refl)
 
 -- ---- a compound value
 

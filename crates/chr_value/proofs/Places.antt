@@ -67,3 +67,7 @@ module _ {X Y : Type 0} (f : X → Y) where
 -- a list that is made place by place, and what it is made of
 pub map-more : {W X Y : Type 0} (f : X → Y) (g : W → Y) (made new : List W) (xs : List X) (i : ℕ) (x : X) (w : W) → i < length xs → x ≡ get_or xs i x → new ≡ made ++ w ∷ [] → g w ≡ f x → map g made ≡ map f (take i xs) → map g new ≡ map f (take (i + 1) xs)
 map-more f g made new xs i x w lt e pushed same before = ap (map g) pushed ∙ map_push g made w ∙ ap₂ (λ us u. us ++ u ∷ []) before same ∙ sym (front-more f xs i x lt e)
+
+-- a list that is made place by place of what another says
+pub mapped-more : {V W X Y : Type 0} (f : X → V) (h : V → Y) (g : W → Y) (made new : List W) (xs : List X) (i : ℕ) (x : X) (w : W) → i < length xs → x ≡ get_or xs i x → new ≡ made ++ w ∷ [] → g w ≡ h (f x) → map g made ≡ map h (map f (take i xs)) → map g new ≡ map h (map f (take (i + 1) xs))
+mapped-more f h g made new xs i x w lt e pushed same before = ap (map g) pushed ∙ map_push g made w ∙ ap₂ (λ us u. us ++ u ∷ []) before same ∙ sym (ap (map h) (front-more f xs i x lt e) ∙ map_push h (map f (take i xs)) (f x))

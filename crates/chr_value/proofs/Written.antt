@@ -39,6 +39,10 @@ texts-push table vs v = ap (map spell_term) (map_push (renamed (text_of table)) 
 length-texts : (table : List (List ℕ)) (vs : List (Value ℕ)) → length (texts table vs) ≡ length vs
 length-texts table vs = length-map (map (renamed (text_of table)) vs) spell_term ∙ length-map vs (renamed (text_of table))
 
+-- the name alone is written
+pub begun : (out name new : List ℕ) → new ≡ out ++ name → new ≡ out ++ (name ++ [])
+begun out name new e = e ∙ ap (λ (w : List ℕ). out ++ w) (sym (append-nil name))
+
 -- one more value written
 pub step : (table : List (List ℕ)) (out name new marked before : List ℕ) (front more : List (Value ℕ)) (v : Value ℕ) (i : ℕ) → more ≡ front ++ v ∷ [] → length front ≡ i
     → new ≡ marked ++ text table v

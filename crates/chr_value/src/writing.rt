@@ -37,10 +37,10 @@ fn put_name<A: Allocator + Copy, C: Allocator>(
     ensures writes { OnOk result (out.new.items ≡ out.old.items ++ text_of names.now name.number) }
     ensures keeps { take (length out.old.items) out.new.items ≡ out.old.items }
 {
-    if let Some(text) = names.text(name) {
-        out.extend_from_slice(text.as_bytes())?;
+    match names.text(name) {
+        Some(text) => out.extend_from_slice(text.as_bytes()),
+        None => Ok(()),
     }
-    Ok(())
 }
 
 /// What stands before the argument at an index: `(` before the first, and `,` before each further one.
@@ -48,8 +48,11 @@ fn put_before<C: Allocator>(out: &mut Vec<u8, C>, index: usize) -> Result<(), Al
     ensures writes { OnOk result (out.new.items ≡ out.old.items ++ mark_before index ∷ []) }
     ensures keeps { take (length out.old.items) out.new.items ≡ out.old.items }
 {
-    out.push(if index == 0 { b'(' } else { b',' })?;
-    Ok(())
+    if index == 0 {
+        out.extend_from_slice(b"(")
+    } else {
+        out.extend_from_slice(b",")
+    }
 }
 
 /// What stands behind the arguments: `)`, and nothing where there are none.
@@ -58,9 +61,10 @@ fn put_behind<C: Allocator>(out: &mut Vec<u8, C>, count: usize) -> Result<(), Al
     ensures keeps { take (length out.old.items) out.new.items ≡ out.old.items }
 {
     if count > 0 {
-        out.push(b')')?;
+        out.extend_from_slice(b")")
+    } else {
+        Ok(())
     }
-    Ok(())
 }
 
 #[cycle(put)]
@@ -127,11 +131,8 @@ pub fn write_atom<A: Allocator + Copy, C: Allocator>(
     put_name(out, names, atom.name())?;
     let count = atom.arity();
     for i in 0..count {
-        let Some(value) = atom.arg(i) else {
-            unreachable!();
-        };
         put_before(out, i)?;
-        write_value(out, names, &value)?;
+        write_value(out, names, &atom.arg_at(i))?;
     }
     put_behind(out, count)
 }
