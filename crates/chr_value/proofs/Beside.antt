@@ -63,9 +63,12 @@ module _ {A : Type 0} where
   pushed cs ss name a new v w view more is =
       ap (atom name) (more ∙ ap (λ u. values_in cs ss ++ u ∷ []) is) ∙ ap (λ (b : Atom ℕ). atom b.name (b.args ++ w ∷ [])) view
 
-  -- fewer arguments, fewer slots
+  -- as many arguments as slots
+  pub slot-count : (cs : List (CodeComp A)) (ss : List Slot) (name : ℕ) (a : Atom ℕ) → atom name (values_in cs ss) ≡ a → length a.args ≡ length ss
+  slot-count cs ss name a view = sym (ap (λ (b : Atom ℕ). length b.args) view) ∙ length-map ss (value_in cs)
+
   pub room-left : (cs : List (CodeComp A)) (ss : List Slot) (name : ℕ) (a : Atom ℕ) → atom name (values_in cs ss) ≡ a → length a.args < 8 → length ss < 8
-  room-left cs ss name a view room = omega (arith, ap (λ (b : Atom ℕ). length b.args) view, length-map ss (value_in cs))
+  room-left cs ss name a view room = omega (arith, slot-count cs ss name a view)
 
   pub flat-pushed : (cs : List (CodeComp A)) (ss ss' : List Slot) (s : Slot) → ss' ≡ ss ++ s ∷ [] → values_in cs ss' ≡ values_in cs ss ++ value_in cs s ∷ []
   flat-pushed cs ss ss' s is = ap (values_in cs) is ∙ map_push (value_in cs) ss s

@@ -7,6 +7,7 @@ use Rattle.chr_value.specs.Naming.{TermIsKnown, AtomIsKnown, table_after, number
 use Rattle.chr_value.specs.TextAtoms.{text_values, text_atom}
 use Rattle.chr_value.proofs.Again.{read_again}
 use Rattle.chr_value.proofs.Back.{atom_back}
+use Rattle.chr_value.proofs.Chosen.{made-no-fault}
 use Rattle.chr_value.proofs.Entered.{entered-fails, full-where, none_after, some_after, atom-after, atom-none}
 use Rattle.chr_value.proofs.Known.{atom_known}
 use Rattle.chr_value.proofs.NameLaws.{keeps-then}
@@ -89,7 +90,7 @@ returns-in-Ok-clause-gives g c =
 pub returns-in-Ok-clause-full : goal.returns-in-Ok-clause-full
 returns-in-Ok-clause-full g c =
     let known = atom_known c.args.names.now (text_atom c.args.text.now) c.in-Ok.atom c.enter_values.new.names (returns-in-Ok-clause-gives g c) in
-    (λ is. absurd cc, λ h. absurd (h.1 known))
+    (λ is. absurd (made-no-fault _ _ is), λ h. absurd (h.1 known))
 
 pub returns-in-Ok-clause-says : goal.returns-in-Ok-clause-says
 returns-in-Ok-clause-says g c = (fact_says c.args.names.now (text_atom c.args.text.now) c.in-Ok.atom c.enter_values.new.names (returns-in-Ok-clause-gives g c)).0
@@ -102,3 +103,9 @@ returns-in-Err-clause-full g c =
     let made = entered g (goal.at.returns-in-Err-clause-full g c).After-make_atom in
     let known = atom_known c.args.names.now (text_atom c.args.text.now) made.0 c.enter_values.new.names made.1 in
     (λ is. absurd cc, λ h. absurd (h.1 known))
+
+pub returns-in-Ok-clause-fits : goal.returns-in-Ok-clause-fits
+returns-in-Ok-clause-fits g c = c.enter_values.ensures.fits c.enter_name.ensures.fits
+
+pub returns-in-Err-clause-fits : goal.returns-in-Err-clause-fits
+returns-in-Err-clause-fits g c = c.enter_values.ensures.fits c.enter_name.ensures.fits

@@ -1,4 +1,5 @@
-use Rattle.std.proofs.Common.{◌<◌, IsTrue, length, ap, ◌∙◌, arith}
+use Rattle.std.proofs.Common.{◌<◌, length, sym, ap, ◌∙◌, arith}
+use Rattle.std.proofs.lemmas.Bool.{false≢true}
 use Rattle.chr_value.specs.Atoms.{ground, grounds}
 use Rattle.chr_value.proofs.Places.{same-at, same-more}
 use Rattle.chr_value.proofs.Comps.{same-not, same-length}
@@ -20,9 +21,7 @@ Comp::same-returns-then-not-same g t c =
     let b = c.args.other.now in
     same-not a b (λ functors args.
     let here = same-at ground c.deref-value-items.result.now b.args.items c.loop-i.i _ _ c.loop-i-test.true c.value-item.is c.index.ensures (ap grounds c.deref-value-items.ensures.value ∙ args) in
-    let yes : IsTrue c.same.result = c.same.ensures.1 here in
-    let denied = c.if-not-same.true in
-    cc)
+    false≢true (sym c.if-not-same.true ∙ c.same.ensures.1 here))
 
 pub Comp::same-loop-i-preserved : goal.Comp::same-loop-i-preserved
 Comp::same-loop-i-preserved g t c =

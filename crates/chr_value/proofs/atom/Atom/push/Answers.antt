@@ -57,3 +57,6 @@ invariant_of-self-in-Comp g c = (with_comp g c).0
 pub returns-in_ok-push_comp-in-Comp-clause-ok : goal.returns-in_ok-push_comp-in-Comp-clause-ok
 returns-in_ok-push_comp-in-Comp-clause-ok g c =
     pushed (comps_of c.self.inside.comps) c.self.inside.slots c.self.inside.name.number c.args.self.now _ _ _ c.self.view_is (with_comp g c).1 (says g c)
+
+pub push-requires-in-Comp : goal.push-requires-in-Comp
+push-requires-in-Comp g c = room-left (comps_of c.self.inside.comps) c.self.inside.slots c.self.inside.name.number c.args.self.now c.self.view_is c.requires.room
