@@ -1,5 +1,5 @@
 -- How many variables are known after what is left of a body.
-use Rattle.std.proofs.Common.{◌≡◌, ◌<◌, ◌+◌, ℕ, suc, Bool, true, ◌&&◌, if◌then◌else◌, eqb, List, ◌∷◌, length, drop, get_or, map, None, arith, ap, ap₂, ◌∙◌}
+use Rattle.std.proofs.Common.{◌≡◌, ◌<◌, ◌+◌, ℕ, suc, Bool, true, false, ◌&&◌, if◌then◌else◌, eqb, List, ◌∷◌, length, drop, get_or, map, None, arith, ap, ap₂, ◌∙◌}
 use Rattle.std.specs.List.{list_all}
 use Rattle.std.proofs.lemmas.Bool.Decides.{nat_tests}
 use Rattle.chr_rule.specs.Rules.{Expression, BodyItem, Is, Add}
@@ -28,3 +28,7 @@ module _ {A : Type 0} (n : ℕ) (xs : List (CodeBodyItem A)) (i : ℕ) (x : Code
   pub known_after-Add : (p : CodeRuleAtom A) → x ≡ items.Add p → list_all (argument_known n) (shape p).args ≡ true → known_after_body n (map member (drop i xs)) ≡ known_after_body n (map member (drop (i + 1) xs))
   known_after-Add p is known =
       first (Add (shape p)) (ap member is) ∙ ap (λ (b : Bool). if b then known_after_body n (map member (drop (i + 1) xs)) else None) known
+
+  pub none_after-Add : (p : CodeRuleAtom A) → x ≡ items.Add p → list_all (argument_known n) (shape p).args ≡ false → known_after_body n (map member (drop i xs)) ≡ None
+  none_after-Add p is unknown =
+      first (Add (shape p)) (ap member is) ∙ ap (λ (b : Bool). if b then known_after_body n (map member (drop (i + 1) xs)) else None) unknown

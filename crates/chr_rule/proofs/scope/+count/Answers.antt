@@ -1,6 +1,6 @@
 use Rattle.std.proofs.Common.{sym, ap, ◌∙◌}
 use Rattle.chr_rule.specs.declared.term.Open.{Open as CodeOpen}
-use Rattle.chr_rule.proofs.Heads.{known_after-left}
+use Rattle.chr_rule.proofs.Heads.{known_after-left, known_after-none}
 use Rattle.chr_rule.proofs.Levels.{known_after-parts}
 use Rattle.chr_rule.proofs.scope.+count.Goals as goal
 
@@ -11,3 +11,7 @@ count_term-returns-in-Open g t c =
 pub count_terms-loop-term-preserved : goal.count_terms-loop-term-preserved
 count_terms-loop-term-preserved g t c =
     sym (known_after-left c.loop-term.known c.in_ok-known.known c.args.terms.now c.loop-term.term-index _ c.loop-term-test.true c.term-item.is (sym c.in_ok-known.ensures)) ∙ c.loop-term.invariant
+
+pub count_terms-returns-in_err-known : goal.count_terms-returns-in_err-known
+count_terms-returns-in_err-known g t c =
+    c.from_residual.ensures ∙ sym (known_after-none c.loop-term.known c.args.terms.now c.loop-term.term-index _ c.loop-term-test.true c.term-item.is (sym c.in_err-known.ensures)) ∙ c.loop-term.invariant

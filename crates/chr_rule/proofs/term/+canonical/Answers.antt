@@ -4,7 +4,7 @@ use Rattle.chr_rule.specs.Parts.{argument}
 use Rattle.chr_rule.specs.Terms.{IsCanonical, is_open}
 use Rattle.chr_rule.specs.declared.term.Open.{Open as CodeOpen}
 use Rattle.chr_rule.proofs.Levels.{canonical-told, canonical-not}
-use Rattle.chr_rule.proofs.Places.{all_more, not_all}
+use Rattle.chr_rule.proofs.Places.{all_more, all_told, not_all}
 use Rattle.chr_rule.proofs.term.+canonical.Goals as goal
 
 pub Term::is_canonical-returns-then-are_open : goal.Term::is_canonical-returns-then-are_open
@@ -25,3 +25,6 @@ are_canonical-returns-then-not-is_canonical g t c =
 pub are_canonical-loop-term-preserved : goal.are_canonical-loop-term-preserved
 are_canonical-loop-term-preserved g t c =
     all_more argument IsCanonical c.args.terms.now c.loop-term.term-index _ c.loop-term-test.true c.term-item.is c.loop-term.invariant (c.is_canonical.ensures.0 c.if-not-is_canonical.false)
+
+pub are_canonical-returns : goal.are_canonical-returns
+are_canonical-returns g t c = all_told argument IsCanonical c.args.terms.now c.loop-term.term-index c.loop-term-test.false c.loop-term.invariant

@@ -1,6 +1,6 @@
 use Rattle.std.proofs.Common.{sym, ap, ◌∙◌, arith}
 use Rattle.chr_rule.specs.declared.term.Open.{Open as CodeOpen}
-use Rattle.chr_rule.proofs.Left.{left-next, left-stop, left-parts}
+use Rattle.chr_rule.proofs.Left.{left-end, left-next, left-stop, left-parts}
 use Rattle.chr_rule.proofs.term.+left.Goals as goal
 
 pub Term::left-returns-in_ok-rest-in-Open : goal.Term::left-returns-in_ok-rest-in-Open
@@ -17,3 +17,6 @@ left_behind-returns-in_err-rest g t c =
 pub left_behind-loop-term-preserved : goal.left_behind-loop-term-preserved
 left_behind-loop-term-preserved g t c =
     sym (left-next c.args.depth c.loop-term.rest c.in_ok-rest.rest c.args.terms.now c.loop-term.term-index _ c.loop-term-test.true c.term-item.is (sym c.in_ok-rest.ensures)) ∙ c.loop-term.invariant
+
+pub left_behind-returns : goal.left_behind-returns
+left_behind-returns g t c = sym (left-end c.args.depth c.loop-term.rest c.args.terms.now c.loop-term.term-index c.loop-term-test.false) ∙ c.loop-term.invariant

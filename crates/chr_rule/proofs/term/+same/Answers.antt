@@ -3,7 +3,7 @@ use Rattle.chr_rule.specs.Parts.{argument}
 use Rattle.chr_rule.specs.declared.term.Open.{Open as CodeOpen}
 use Rattle.chr_rule.proofs.Levels.{same-told}
 use Rattle.chr_rule.proofs.Lists.{differ_at}
-use Rattle.chr_rule.proofs.Places.{same_more}
+use Rattle.chr_rule.proofs.Places.{differ_long, same_more, same_told}
 use Rattle.chr_rule.proofs.term.+same.Goals as goal
 
 pub Term::same-returns-then-deref : goal.Term::same-returns-then-deref
@@ -22,3 +22,9 @@ same_terms-loop-i-preserved g t c =
     let lx : c.loop-i.i < length c.args.terms.now = omega arith in
     let ly : c.loop-i.i < length c.args.others.now = omega arith in
     same_more argument c.args.terms.now c.args.others.now c.loop-i.i _ _ lx ly c.index-terms-i.is c.index-others-i.is (c.same.ensures.0 c.if-not-same.false) c.loop-i.invariant
+
+pub same_terms-returns-then-terms-others : goal.same_terms-returns-then-terms-others
+same_terms-returns-then-terms-others g t c = differ_long argument c.args.terms.now c.args.others.now c.if-terms-others.true
+
+pub same_terms-returns : goal.same_terms-returns
+same_terms-returns g t c = same_told argument c.args.terms.now c.args.others.now c.loop-i.i c.loop-i-test.false (omega arith) c.loop-i.invariant
