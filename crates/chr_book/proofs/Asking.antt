@@ -1,8 +1,9 @@
 -- What a search of a live goal is asked for, and what a book keeps where the ticket's candidate is set.
-use Rattle.std.proofs.Common.{◌≡◌, ℕ, suc, true, List, Option, Some, None, is_some, Ok, refl, sym, ap, subst, slice_get, slice_set, Bor}
+use Rattle.std.proofs.Common.{◌≡◌, ℕ, suc, true, List, Option, Some, None, is_some, Ok, Err, refl, sym, ap, subst, ◌∙◌, slice_get, slice_set, Bor}
 use Rattle.std.specs.Option.{option_copied}
 use Rattle.chr_value.specs.Atoms.{Atom}
 use Rattle.chr_model.specs.Stores.{atom_at}
+use Rattle.chr_model.specs.Goals.{Numbered}
 use Rattle.chr_search.specs.Trials.{IsNext, NoneLeft}
 use Rattle.chr_search.specs.Reach.{SearchState}
 use Rattle.chr_search.specs.Verdicts.{Trial, position, IsFormed, IsTrialOf}
@@ -12,17 +13,23 @@ use Rattle.chr_search.specs.declared.search.Ask.TheVariants as answers
 use Rattle.chr_sheet.specs.declared.trials.Trials.{Trials as CodeTrials}
 use Rattle.chr_sheet.specs.Kept.{trials_at, trials_in}
 use Rattle.chr_sheet.specs.Sheets.{AreNext}
+use Rattle.chr_calls.specs.declared.answers.Turn.{Turn as CodeTurn}
+use Rattle.chr_calls.specs.declared.answers.Turn.TheVariants as turns
+use Rattle.chr_calls.specs.declared.answers.TurnFault.{TurnFault}
+use Rattle.chr_calls.specs.declared.answers.TurnFault.TheVariants as turn_fault
 use Rattle.chr_calls.specs.Turns as turn
-use Rattle.chr_calls.specs.Tickets.{Ticket, with_candidate, ticket_at}
+use Rattle.chr_calls.specs.Tickets.{Ticket, with_candidate, ticket_at, search_in, IsActive}
 use Rattle.chr_calls.specs.Books.{BookState, space_of, with_tickets}
+use Rattle.chr_calls.specs.Calls.{HoldsLive, Turns, with_candidate_of}
 use Rattle.chr_calls.specs.Batches.{AreTogether, IsNextAfter, NoneAfter}
 use Rattle.chr_calls.specs.Headline.{IsKept}
 use Rattle.chr_calls.proofs.Tickets.{kept_forgotten}
 use Rattle.chr_calls.proofs.Turning.{turns_keep}
 use Rattle.chr_book.specs.Books.{IsHeldSearch}
 use Rattle.chr_book.specs.Given.{ComesNext}
-use Rattle.chr_book.specs.Asked.{IsLiveSearch, FindsLive, IsTurn}
+use Rattle.chr_book.specs.Asked.{HoldsGone, IsLiveSearch, FindsLive, IsTurn}
 use Rattle.chr_book.proofs.Turns.{live_label, holds_live, kept_set}
+use Rattle.chr_book.proofs.Fired.{label_there}
 use Rattle.chr_book.proofs.Together.{sheet_first, sheet_none}
 
 -- ---- the search of a live goal
@@ -33,6 +40,49 @@ live_search b now e seat t given s found h some is same = record { holds = holds
 
 pub live_is : (b : BookState) (seat t : ℕ) (found : Option (Bor SearchState)) (s : Bor SearchState) → FindsLive b seat t (Ok found) → found ≡ Some s → IsLiveSearch b seat t s.now
 live_is b seat t found s h is = subst (λ (o : Option (Bor SearchState)). FindsLive b seat t (Ok o)) is h
+
+pub gone_is : (b : BookState) (seat t : ℕ) (found : Option (Bor SearchState)) → FindsLive b seat t (Ok found) → found ≡ None → HoldsGone b seat t
+gone_is b seat t found h is = subst (λ (o : Option (Bor SearchState)). FindsLive b seat t (Ok o)) is h
+
+pub find_refused : (b : BookState) (seat t : ℕ) (fault : TurnFault) → FindsLive b seat t (Err fault) → Turns b seat t (Err fault) b
+find_refused b seat t turn_fault.NotHeld h = (h, refl)
+find_refused b seat t turn_fault.NoMemory h = absurd h
+
+-- ---- what a turn is told
+
+pub turn_refused : (b : BookState) (seat t : ℕ) (fault : TurnFault) → IsTurn b seat t (Err fault) → Turns b seat t (Err fault) b
+turn_refused b seat t turn_fault.NotHeld h = (h, refl)
+turn_refused b seat t turn_fault.NoMemory h = (h.0, h.1, refl)
+
+pub told_is : {Z : Type 0} (b : BookState) (seat t : ℕ) (told other : CodeTurn Z) → told ≡ other → IsTurn b seat t (turn.turn_of (Ok told)) → IsTurn b seat t (turn.turn_of (Ok other))
+told_is {Z} b seat t told other is h = subst (λ (x : CodeTurn Z). IsTurn b seat t (turn.turn_of (Ok x))) is h
+
+-- its ticket is active
+pub told_active : {Z : Type 0} (b : BookState) (seat t : ℕ) (told : CodeTurn Z) → IsTurn b seat t (turn.turn_of (Ok told)) → IsActive b.tickets t
+told_active b seat t (turns.Trial trial) h = (h.label, h.holds.holds.goal)
+told_active b seat t turns.Done h = (h.0, h.1.holds.goal)
+told_active b seat t turns.Gone h = (h.label, h.holds.goal)
+
+pub told_next : {Z : Type 0} (b : BookState) (seat t : ℕ) (told : CodeTurn Z) (trial candidate : Trial) → told ≡ turns.Trial trial → candidate ≡ trial → IsTurn b seat t (turn.turn_of (Ok told)) → ComesNext b seat t candidate
+told_next b seat t told trial candidate is same h = subst (ComesNext b seat t) (sym same) (told_is b seat t told (turns.Trial trial) is h)
+
+-- its candidate is set or forgotten
+pub turn_given : {Z : Type 0} (b n : BookState) (seat t : ℕ) (told : CodeTurn Z) (trial candidate : Trial) → told ≡ turns.Trial trial → candidate ≡ trial → IsTurn b seat t (turn.turn_of (Ok told)) → n ≡ with_candidate_of b t (Some candidate) → Turns b seat t (turn.turn_of (Ok told)) n
+turn_given {Z} b n seat t told trial candidate is same h e =
+    let next : ComesNext b seat t trial = told_next b seat t told trial trial is refl h in
+    subst (λ (x : CodeTurn Z). Turns b seat t (turn.turn_of (Ok x)) n) (sym is) (next.label, next.holds, next.is, e ∙ ap (λ (x : Trial). with_candidate_of b t (Some x)) same)
+
+pub turn_forgotten : {Z : Type 0} (b n : BookState) (seat t : ℕ) (told : CodeTurn Z) → ((trial : Trial) → told ≡ turns.Trial trial → ⊥) → IsTurn b seat t (turn.turn_of (Ok told)) → n ≡ with_candidate_of b t None → Turns b seat t (turn.turn_of (Ok told)) n
+turn_forgotten b n seat t (turns.Trial trial) none h e = absurd (none trial refl)
+turn_forgotten b n seat t turns.Done none h e = (h.0, h.1, h.2, e)
+turn_forgotten b n seat t turns.Gone none h e = (h.label, h.holds, h.gone, e)
+
+-- the label of the search that its ticket shows
+pub holds_searched : (b now : BookState) → b ≡ now → (seat t : ℕ) (s : Bor SearchState) (found : Option (Bor SearchState)) (trial : Trial) → option_copied found ≡ search_in (ticket_at b.tickets t) → found ≡ Some s → ComesNext now seat t trial → HoldsLive now seat t s.now.label
+holds_searched b now e seat t s found trial shown is next =
+    let goals : Numbered next.label ≡ Numbered s.now.label = sym next.holds.holds.goal ∙ ap (λ (n : BookState). (ticket_at n.tickets t).goal) (sym e) ∙ label_there b.tickets t s.now (ap option_copied (sym is) ∙ shown) in
+    let same : next.label ≡ s.now.label = cc in
+    subst (HoldsLive now seat t) same next.holds
 
 -- ---- what comes next
 

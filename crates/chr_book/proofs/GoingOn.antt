@@ -38,7 +38,7 @@ use Rattle.chr_book.specs.Books.{book_of}
 use Rattle.chr_book.specs.Firings.{MakesFound, EndsRounds}
 use Rattle.chr_book.specs.Given.{ComesNext}
 use Rattle.chr_book.specs.Passed.{PassesTrials, FiresTrial, DropsGoal, IsLast, MakesRounds, MakesFewer, PassesMaking, PassesSome}
-use Rattle.chr_book.proofs.PostedBooks.{rest_back}
+use Rattle.chr_book.proofs.PostedBooks.{rest_back, on_any_err}
 use Rattle.chr_book.proofs.Passes.{IsPast, gone_past, passes_keep}
 use Rattle.chr_book.proofs.Nexts.{next_turned}
 use Rattle.chr_book.proofs.Fired.{FiresWhole, goal_stays, IsWholeOf, next_is_live, with_fired, fires_there, fires_whole, next_fires}
@@ -181,17 +181,13 @@ cut_rounds rules plans names log entries st left ts pushed same cut seat t l fir
     fewer_rounds rules plans names log entries st left ts (slice_set ts t found.x) cut seat t come.count l most found.over.place (gone_past (book_of rules plans names log st ts) seat t l come i found.binding found.x h found.over)
     (rest_back (slice_set ts t found.x) same cut first (found.more, e ∙ found.tickets) back (f ∙ sym (length-set ts t found.x))) es s less
 
-pub on_err : {X E : Type 0} (P : Type 0) (r : Result X E) → P → OnErr r P
-on_err P (Ok x) h = tt
-on_err P (Err e) h = h
-
 -- ---- of what the book showed before
 
 pub rounds_of : {seat t : ℕ} {r : Rounds} {b now n : BookState} → b ≡ now → MakesRounds seat t r b n → MakesRounds seat t r now n
 rounds_of {seat} {t} {r} {b} {now} {n} e h = subst (λ (m : BookState). MakesRounds seat t r m n) e h
 
 pub fewer_of : {X E : Type 0} {seat t most : ℕ} {b now n : BookState} (r : Result X E) → b ≡ now → MakesFewer seat t most b n → OnErr r (MakesFewer seat t most now n)
-fewer_of {X} {E} {seat} {t} {most} {b} {now} {n} r e h = on_err (MakesFewer seat t most now n) r (subst (λ (m : BookState). MakesFewer seat t most m n) e h)
+fewer_of {X} {E} {seat} {t} {most} {b} {now} {n} r e h = on_any_err (MakesFewer seat t most now n) r (subst (λ (m : BookState). MakesFewer seat t most m n) e h)
 
 -- ---- what a book keeps
 

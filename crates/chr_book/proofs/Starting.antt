@@ -40,9 +40,9 @@ use Rattle.chr_book.specs.Books.{book_of}
 use Rattle.chr_book.specs.Firings.{MakesBody, MakesFound, EntersGoal, FiresWaiting, EndsRounds, EndsStart, fires, enters, EntersOrStays}
 use Rattle.chr_book.specs.Passed.{PassesTrials, MakesRounds, StartsRounds, StartsFewer, PassesBefore}
 use Rattle.chr_book.proofs.Fired.{FiresWhole}
-use Rattle.chr_book.proofs.PostedBooks.{plain_is, rest_back}
+use Rattle.chr_book.proofs.PostedBooks.{plain_is, rest_back, on_any_err}
 use Rattle.chr_book.proofs.Passes.{IsPast, is_past}
-use Rattle.chr_book.proofs.GoingOn.{book_same, makes_same, fired_rounds, ended_rounds, on_err, rounds_keep, fewer_keep}
+use Rattle.chr_book.proofs.GoingOn.{book_same, makes_same, fired_rounds, ended_rounds, rounds_keep, fewer_keep}
 
 -- ---- what the calls do
 
@@ -389,7 +389,7 @@ pub started_of : {seat t : ℕ} {r : Rounds} {b now n : BookState} → b ≡ now
 started_of {seat} {t} {r} {b} {now} {n} e h = subst (λ (m : BookState). StartsRounds seat t r m n) e h
 
 pub started_fewer_of : {X E : Type 0} {seat t most : ℕ} {b now n : BookState} (r : Result X E) → b ≡ now → StartsFewer seat t most b n → OnErr r (StartsFewer seat t most now n)
-started_fewer_of {X} {E} {seat} {t} {most} {b} {now} {n} r e h = on_err (StartsFewer seat t most now n) r (subst (λ (m : BookState). StartsFewer seat t most m n) e h)
+started_fewer_of {X} {E} {seat} {t} {most} {b} {now} {n} r e h = on_any_err (StartsFewer seat t most now n) r (subst (λ (m : BookState). StartsFewer seat t most m n) e h)
 
 -- ---- the limit of the labels
 

@@ -4,7 +4,7 @@ use Rattle.std.specs.Option.{option_copied}
 use Rattle.chr_value.specs.Atoms.{Atom}
 use Rattle.chr_log.specs.Events.{Entry, Drop}
 use Rattle.chr_model.specs.Stores.{Store, atom_at}
-use Rattle.chr_model.specs.Goals.{Numbered}
+use Rattle.chr_model.specs.Goals.{Goal, Numbered}
 use Rattle.chr_search.specs.Trials.{IsNext, NoneLeft}
 use Rattle.chr_search.specs.Reach.{SearchState}
 use Rattle.chr_search.specs.Verdicts.{Trial}
@@ -15,7 +15,7 @@ use Rattle.chr_calls.specs.declared.answers.TicketState.{TicketState}
 use Rattle.chr_calls.specs.declared.answers.TicketState.TheVariants as states
 use Rattle.chr_calls.specs.declared.answers.Dropping.TheVariants as dropping
 use Rattle.chr_calls.specs.Turns as turn
-use Rattle.chr_calls.specs.Tickets.{Ticket, ended, marked, going_on, ticket_at, state_of, IsClaimable, waits, rests, IsActive, IsNotHeld}
+use Rattle.chr_calls.specs.Tickets.{Ticket, ended, marked, going_on, ticket_at, state_of, IsClaimable, waits, rests, IsActive, IsNotHeld, search_with, search_in}
 use Rattle.chr_calls.specs.Books.{BookState, space_of, IsLive, with_tickets, with_ticket}
 use Rattle.chr_calls.specs.Calls.{HoldsLive, HoldsCandidate, MayBeDropped, Marks, after_judgement, with_candidate_of}
 use Rattle.chr_calls.specs.Headline.{IsKept}
@@ -61,6 +61,13 @@ held_search b now e seat t (Some s) some h = (s.now, held_in b now e seat t s.no
 
 pub held_active : (b now : BookState) → b ≡ now → (seat t : ℕ) (found : Option (Bor SearchState)) → is_some found ≡ true → MatchOption found (IsNotHeld now.tickets seat t) (λ s. IsHeldSearch now.tickets seat t s.now) → IsActive b.tickets t
 held_active b now e seat t found some h = let s = held_search b now e seat t found some h in (s.0.label, s.1.holds.goal)
+
+-- an active ticket shows its search
+pub shows_search : (ts : List Ticket) (t : ℕ) (found : Option (Bor SearchState)) → IsActive ts t → option_copied found ≡ search_in (ticket_at ts t) → found ≡ None → ⊥
+shows_search ts t found (l, at) shown none =
+    let s : SearchState = record { label = l; place = (ticket_at ts t).position } in
+    let z : None ≡ Some s = sym (ap option_copied none) ∙ shown ∙ ap (λ (g : Goal). search_with g (ticket_at ts t).position) at in
+    cc
 
 -- it has a trial left where one was found
 pub left_is : (b now : BookState) → b ≡ now → (s : SearchState) (found : Option (List ℕ)) (r : Bool) → r ≡ is_some found → IsLive b s.label → MatchOption found (NoneLeft (space_of b s.label) s.place) (IsNext (space_of b s.label) s.place) → IsTrue r ↔ HasTrialLeft now s

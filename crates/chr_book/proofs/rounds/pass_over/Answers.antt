@@ -5,7 +5,7 @@ use Rattle.chr_search.specs.Trials.{older}
 use Rattle.chr_search.specs.declared.search.Whole.{Whole}
 use Rattle.chr_calls.specs.Tickets.{ticket_at}
 use Rattle.chr_book.specs.Passed.{PassesSome}
-use Rattle.chr_book.proofs.GoingOn.{on_err}
+use Rattle.chr_book.proofs.PostedBooks.{on_any_err}
 use Rattle.chr_book.proofs.Starting.{finds_rule}
 use Rattle.chr_book.proofs.rounds.pass_over.Goals as goal
 
@@ -23,7 +23,7 @@ pub returns-in_err-push_found-clause-err : goal.returns-in_err-push_found-clause
 returns-in_err-push_found-clause-err g c =
     let t = c.args.ticket in
     let ts = c.args.tickets.now in
-    on_err ((l : ℕ) → (ticket_at ts t).goal ≡ Numbered l → PassesSome (older c.args.program.now c.args.plans.now c.args.store.now.entries l) t c.args.most ts c.push_found.new.tickets) c.from_residual.result (λ l is. record {
+    on_any_err ((l : ℕ) → (ticket_at ts t).goal ≡ Numbered l → PassesSome (older c.args.program.now c.args.plans.now c.args.store.now.entries l) t c.args.most ts c.push_found.new.tickets) c.from_residual.result (λ l is. record {
       passed = c.pass_over-come.result;
       few = c.pass_over-come.ensures.few;
       instance = c.pass_over-come.new.instance;

@@ -1,8 +1,10 @@
-use Rattle.std.proofs.Common.{rules, ◌≡◌, ◌<◌, ◌-◌, length}
+use Rattle.std.proofs.Common.{rules, ◌≡◌, ◌<◌, ◌+◌, ◌-◌, ℕ, List, [], ◌∷◌, ◌++◌, length, length-append, ap, subst, ◌∙◌, arith}
+use Rattle.std.proofs.lemmas.Result.{err_from_is_err_and}
+use Rattle.chr_search.specs.Verdicts.{Trial}
 use Rattle.chr_calls.specs.Books.{BookState, space_of}
 use Rattle.chr_calls.specs.Batches.{IsNextBeside, NoneBeside}
 use Rattle.chr_book.specs.Books.{book_of}
-use Rattle.chr_book.proofs.Together.{behind_told, none_told, together_next, together_end, together_full, last_there}
+use Rattle.chr_book.proofs.Together.{behind_told, none_told, together_first, together_next, together_end, together_full, last_there}
 use Rattle.chr_book.proofs.book.Book.with_those_behind.Goals.{else-loop-program-test, then-loop-program-test+in_ok-next+in_default}
 use Rattle.chr_book.proofs.book.Book.with_those_behind.Goals as goal
 
@@ -36,3 +38,43 @@ returns g c =
           let is : last ≡ c.loop-program.invariant.last = search rules in
           together_end (IsNextBeside s) (NoneBeside s) 16 c.args.first last trials less c.loop-program.invariant is (none_told b c.args.self.now c.self.view_is l last w.in_ok-next.field-0 w.in_ok-next.ensures w.in_default.is)
     ]
+
+pub returns-in_err-trials : goal.returns-in_err-trials
+returns-in_err-trials g c = rw (err_from_is_err_and c.from_residual.result c.from_residual.ensures.1).1 tt
+
+pub returns-in_err-push : goal.returns-in_err-push
+returns-in_err-push g c = rw (err_from_is_err_and c.from_residual-in_err-push.result c.from_residual-in_err-push.ensures.1).1 tt
+
+pub loop-program-init : goal.loop-program-init
+loop-program-init g c =
+    let s = space_of c.args.self.now c.args.search.now.label in
+    together_first (IsNextBeside s) (NoneBeside s) 16 c.args.first c.push.new.self.items (c.in_ok-push.ensures.items ∙ ap (λ (trials : List Trial). trials ++ c.args.first ∷ []) c.in_ok-trials.ensures.items)
+
+pub overflow_sub-len : goal.overflow_sub-len
+overflow_sub-len g c =
+    let many : c.len-in-loop-program.result ≡ length c.loop-program.trials.items = c.len-in-loop-program.ensures ∙ c.loop-program.trials.ok.0 in
+    let one : length c.loop-program.trials.items ≡ length c.loop-program.invariant.before + 1 = ap length c.loop-program.invariant.are ∙ length-append c.loop-program.invariant.before (c.loop-program.invariant.last ∷ []) in
+    omega arith
+
+pub index-last-requires : goal.index-last-requires
+index-last-requires g c =
+    let many : c.len-in-loop-program.result ≡ length c.loop-program.trials.items = c.len-in-loop-program.ensures ∙ c.loop-program.trials.ok.0 in
+    let one : length c.loop-program.trials.items ≡ length c.loop-program.invariant.before + 1 = ap length c.loop-program.invariant.are ∙ length-append c.loop-program.invariant.before (c.loop-program.invariant.last ∷ []) in
+    omega (arith, c.len-in-loop-program.ensures)
+
+pub behind-requires : goal.behind-requires
+behind-requires g c = c.self.invariant.0.plans
+
+pub returns-in_err-next : goal.returns-in_err-next
+returns-in_err-next g c = rw (err_from_is_err_and c.from_residual-in_err-next.result c.from_residual-in_err-next.ensures.1).1 tt
+
+pub loop-program-smaller : goal.loop-program-smaller
+loop-program-smaller g c =
+    let trials = c.loop-program.trials.items in
+    let less : length trials < 16 = subst (λ (n : ℕ). n < 16) (c.len.ensures ∙ c.loop-program.trials.ok.0) c.loop-program-test.true in
+    let more : length c.push-in-loop-program.new.self.items ≡ length trials + 1 = ap length c.in_ok-push-2.ensures.items ∙ length-append trials (c.in-Trial.next ∷ []) in
+    let smaller : 16 - length c.push-in-loop-program.new.self.items < 16 - length trials = omega arith in
+    smaller
+
+pub returns-in_err-push-2 : goal.returns-in_err-push-2
+returns-in_err-push-2 g c = rw (err_from_is_err_and c.from_residual-in_err-push-2.result c.from_residual-in_err-push-2.ensures.1).1 tt
