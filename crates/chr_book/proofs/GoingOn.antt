@@ -1,5 +1,5 @@
 -- Rounds of calls: the last one fires what was found whole or drops the goal, and a book keeps what it has.
-use Rattle.std.proofs.Common.{◌≡◌, inr, ℕ, ◌-◌, ◌<◌, length, take, arith, List, [], ◌∷◌, ◌++◌, Option, Some, None, Result, Ok, Err, OnErr, refl, sym, ◌∙◌, ap, ap₂, subst, slice_set}
+use Rattle.std.proofs.Common.{◌≡◌, inr, ℕ, ◌-◌, ◌<◌, length, take, arith, List, [], ◌∷◌, ◌++◌, Option, Some, None, Result, Ok, OnErr, refl, sym, ◌∙◌, ap, ap₂, subst, slice_set}
 use Rattle.std.proofs.lemmas.List.{set-set, length-set, append-nil}
 use Rattle.chr_value.specs.Atoms.{Value}
 use Rattle.chr_value.proofs.Chosen.{some_is}

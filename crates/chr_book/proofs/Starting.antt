@@ -10,7 +10,7 @@ use Rattle.chr_log.specs.declared.events.Version.TheVariants.{Two}
 use Rattle.chr_plan.specs.Plans.{PlanList}
 use Rattle.chr_store.specs.Labels.{LabelledStore}
 use Rattle.chr_model.specs.Stores.{Store, atom_at, drop_label, without, among}
-use Rattle.chr_model.specs.Goals.{Goal, Plain}
+use Rattle.chr_model.specs.Goals.{Goal, Plain, Numbered}
 use Rattle.chr_model.specs.Programs.{Instances}
 use Rattle.chr_model.proofs.Once.{Lawful-once}
 use Rattle.chr_model.proofs.Older.{store_below}
@@ -88,6 +88,9 @@ pub record IsLent (ts now : List Ticket) (t : ℕ) (a : Atom ℕ) : Type 0 where
   pub other : Atom ℕ
   pub lent_is : now ≡ slice_set ts t (with_atom other (ticket_at ts t))
 
+pub is_lent : (b now : BookState) → b ≡ now → (t : ℕ) (a other : Atom ℕ) (ts : List Ticket) → state_of now.tickets t ≡ Waiting → Some a ≡ atom_in (ticket_at b.tickets t).goal → ts ≡ slice_set b.tickets t (with_atom other (ticket_at b.tickets t)) → IsLent b.tickets ts t a
+is_lent b now e t a other ts waits atom rest = record { waits = subst (λ (n : BookState). state_of n.tickets t ≡ Waiting) (sym e) waits; atom = atom; other = other; lent_is = rest }
+
 pub waits_lent : {ts now : List Ticket} {t : ℕ} {a : Atom ℕ} → IsLent ts now t a → state_of now t ≡ Waiting
 waits_lent {ts} {now} {t} {a} h =
     ap (λ (xs : List Ticket). state_of xs t) h.lent_is
@@ -131,6 +134,11 @@ goes_in seat t place a ts log st now entries after new waits h e = record {
   where
     y : Ticket
     y = activated_by seat st.next
+
+-- its goal is numbered then
+pub entered_label : {seat t : ℕ} {place : List ℕ} {a : Atom ℕ} {ts now : List Ticket} {log es : List (Entry ℕ)} {st store : LabelledStore} → EntersGoal seat t place a ts log st now es store → state_of ts t ≡ Waiting → (ticket_at now t).goal ≡ Numbered st.next
+entered_label {seat} {t} {place} {a} {ts} {now} {log} {es} {st} {store} h waits =
+    ap (λ (xs : List Ticket). (ticket_at xs t).goal) h.tickets ∙ ap (λ (x : Ticket). x.goal) (ticket_same ts t (going_on place (activated_by seat st.next)) (waits_within ts t waits))
 
 -- ---- answers
 

@@ -1,4 +1,4 @@
-use Rattle.std.proofs.Common.{rules, ◌≡◌, ◌≢◌, ◌+◌, Some, None, true, false, drop, ap, ◌∙◌, arith}
+use Rattle.std.proofs.Common.{rules, inr, ◌≡◌, ◌≢◌, ◌+◌, Some, None, true, false, drop, ap, ◌∙◌, arith}
 use Rattle.std.proofs.lemmas.List.{drop_all}
 use Rattle.chr_search.specs.declared.judged.Verdict.TheVariants.{Whole}
 use Rattle.chr_calls.specs.Turns.{turn_of}
@@ -60,3 +60,9 @@ returns g c =
           let whole : j.verdict ≡ Whole = search rules in
           stopped seat t b now last js (drop (i + 1) js) j n told inv c.trial-2.ensures (whole_ends now last seat t j told next whole c.trial-2.ensures)
     ]
+
+pub move_on-requires-clause-judged : goal.move_on-requires-clause-judged
+move_on-requires-clause-judged g c = (c.args.seat, inr (asked_as c.loop-judged.self c.args.seat c.args.ticket c.trial.result.now c.judged-item.result.trial c.is_next.result (Some true) c.trial.ensures (c.in-Some.is ∙ ap Some c.if-is_next.true) c.is_next.ensures))
+
+pub move_on-requires-clause-other : goal.move_on-requires-clause-other
+move_on-requires-clause-other g c = let other : c.judged-item.result.verdict ≢ Whole = search rules in other

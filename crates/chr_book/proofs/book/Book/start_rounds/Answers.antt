@@ -1,11 +1,16 @@
 use Rattle.std.proofs.Common.{◌≡◌, ◌-◌, ◌≤◌, ℕ, sym, ap, subst, ◌∙◌, arith}
+use Rattle.chr_store.specs.Labels.{entered}
 use Rattle.chr_search.specs.Positions.{beginning}
+use Rattle.chr_search.specs.Reach.{SearchState}
+use Rattle.chr_search.specs.Trials.{older}
+use Rattle.chr_search.specs.declared.search.Whole.{Whole}
 use Rattle.chr_calls.specs.declared.answers.TicketState.TheVariants.{Waiting}
 use Rattle.chr_calls.specs.Tickets.{state_of}
 use Rattle.chr_calls.specs.Books.{BookState}
 use Rattle.chr_book.specs.Books.{book_of}
 use Rattle.chr_book.specs.Passed.{StartsRounds, StartsFewer}
-use Rattle.chr_book.proofs.Starting.{IsLent, waits_before, started, started_fewer, stays_as_is, starts_keep, starts_fewer_keep, started_of, starts_limit, starts_more, stays_limit}
+use Rattle.chr_book.proofs.GoingOn.{finds_label}
+use Rattle.chr_book.proofs.Starting.{is_lent, waits_before, started, started_fewer, stays_as_is, starts_keep, starts_fewer_keep, started_of, starts_limit, starts_more, stays_limit}
 use Rattle.chr_book.proofs.book.Book.start_rounds.Given.{Over}
 use Rattle.chr_book.proofs.book.Book.start_rounds.Goals as goal
 use Rattle.chr_book.proofs.book.Book.start_rounds.Goals.{After-take_back, In-Ok-end_start, After-take_back-in_default-end_start}
@@ -15,12 +20,7 @@ use Rattle.chr_book.proofs.book.Book.start_rounds.Goals.{After-take_back, In-Ok-
 none : (g : Over) (c : After-take_back g) → StartsFewer c.args.seat c.args.ticket c.args.most (book_of c.self.inside.program c.self.inside.plans c.self.inside.names c.self.inside.log c.self.inside.store c.self.inside.tickets) (book_of c.self.inside.program c.self.inside.plans c.self.inside.names c.self.inside.log c.self.inside.store c.take_back.new.tickets)
 none g c =
     let x = c.self.inside in
-    let out : IsLent x.tickets c.swap_atom.new.self c.args.ticket c.swap_atom.new.other = record {
-      waits = subst (λ (b : BookState). state_of b.tickets c.args.ticket ≡ Waiting) (sym c.self.view_is) c.requires.waiting;
-      atom = c.swap_atom.ensures.atom;
-      other = x.started;
-      lent_is = c.swap_atom.ensures.rest;
-    } in
+    let out = is_lent (book_of x.program x.plans x.names x.log x.store x.tickets) c.args.self.now c.self.view_is c.args.ticket c.swap_atom.new.other x.started c.swap_atom.new.self c.requires.waiting c.swap_atom.ensures.atom c.swap_atom.ensures.rest in
     stays_as_is x.program x.plans x.names x.log x.store x.tickets c.swap_atom.new.self c.pass_over_before.new.tickets c.take_back.new.tickets c.args.seat c.args.ticket c.args.most c.next-first.result c.swap_atom.new.other out c.in_default.ensures.err c.next-first.ensures.value c.take_back.ensures.waits
 
 made : (g : Over) (c : In-Ok-end_start g) → StartsRounds c.args.seat c.args.ticket (record { passed = c.in-Ok.come.count; last = c.in-Ok-end_start.last }) (book_of c.self.inside.program c.self.inside.plans c.self.inside.names c.self.inside.log c.self.inside.store c.self.inside.tickets) (book_of c.self.inside.program c.self.inside.plans c.self.inside.names c.end_start.new.log c.end_start.new.store c.end_start.new.tickets)
@@ -56,12 +56,7 @@ returns-in_default-clause-err g c =
 pub end_start-requires-clause-waiting : goal.end_start-requires-clause-waiting
 end_start-requires-clause-waiting g c =
     let x = c.self.inside in
-    let out : IsLent x.tickets c.swap_atom.new.self c.args.ticket c.swap_atom.new.other = record {
-      waits = subst (λ (b : BookState). state_of b.tickets c.args.ticket ≡ Waiting) (sym c.self.view_is) c.requires.waiting;
-      atom = c.swap_atom.ensures.atom;
-      other = x.started;
-      lent_is = c.swap_atom.ensures.rest;
-    } in
+    let out = is_lent (book_of x.program x.plans x.names x.log x.store x.tickets) c.args.self.now c.self.view_is c.args.ticket c.swap_atom.new.other x.started c.swap_atom.new.self c.requires.waiting c.swap_atom.ensures.atom c.swap_atom.ensures.rest in
     let found = c.in-Ok.ensures.ok in
     waits_before found.more c.pass_over_before.new.tickets out found.tickets
 
@@ -89,3 +84,32 @@ pub returns-clause-all : goal.returns-clause-all
 returns-clause-all g c = λ passed.
     let all : c.in-Ok.come.count ≡ c.args.most - 1 = c.in-Ok.ensures.more (starts_more c.args.seat c.args.ticket c.pass_over_before.new.search.place c.swap_atom.new.other c.in-Ok.come.then c.whole.result.now c.in-Ok-end_start.last c.pass_over_before.new.tickets c.self.inside.log c.self.inside.store c.end_start.new.tickets c.end_start.new.log c.end_start.new.store c.in-Ok-end_start.ensures.ok passed) in
     omega arith
+
+pub swap_atom-requires : goal.swap_atom-requires
+swap_atom-requires g c = subst (λ (b : BookState). state_of b.tickets c.args.ticket ≡ Waiting) (sym c.self.view_is) c.requires.waiting
+
+pub pass_over_before-requires-clause-plans : goal.pass_over_before-requires-clause-plans
+pass_over_before-requires-clause-plans g c = c.self.invariant.0.plans
+
+pub pass_over_before-requires-clause-label : goal.pass_over_before-requires-clause-label
+pass_over_before-requires-clause-label g c = ap (λ (z : SearchState). z.label) c.begin-search.ensures ∙ c.next_label.ensures.value
+
+pub pass_over_before-requires-clause-room : goal.pass_over_before-requires-clause-room
+pass_over_before-requires-clause-room g c = subst (λ (b : BookState). b.next ≤ b.limit) (sym c.self.view_is) c.requires.room
+
+pub take_back-requires : goal.take_back-requires
+take_back-requires g c = subst (λ (n : ℕ). 1 ≤ n) (sym c.next-first.ensures.value) c.next-first.ensures.some
+
+pub end_start-requires-clause-label : goal.end_start-requires-clause-label
+end_start-requires-clause-label g c = c.in-Ok.ensures.label ∙ ap (λ (z : SearchState). z.label) c.begin-search.ensures ∙ c.next_label.ensures.value
+
+pub end_start-requires-clause-found : goal.end_start-requires-clause-found
+end_start-requires-clause-found g c =
+    let x = c.self.inside in
+    let found = c.in-Ok.ensures.ok in λ is.
+    ap (λ (w : Whole). w.past.label) c.whole.ensures
+    ∙ finds_label (older x.program x.plans (entered x.store c.swap_atom.new.other).entries c.begin-search.result.label) c.pass_over_before.new.search.place c.in-Ok.come.then c.pass_over_before.new.instance found.binding found.next is
+    ∙ ap (λ (z : SearchState). z.label) c.begin-search.ensures ∙ c.next_label.ensures.value
+
+pub take_back-requires-in_default-end_start : goal.take_back-requires-in_default-end_start
+take_back-requires-in_default-end_start g c = subst (λ (n : ℕ). 1 ≤ n) (sym c.next-first.ensures.value) c.next-first.ensures.some
