@@ -1,11 +1,10 @@
 //! `chr check`.
-use crate::files::{
-    MOST_LOG, MOST_TEXT, all_paths, called, fetch_all, fetch_both, sources, texts, whole,
-};
+use crate::files::texts;
 use crate::message::{Detail, Fault, Source, Text, part_message, refusal_message};
 use crate::progress::Progress;
 use crate::refused;
-use crate::report::{Status, put, report_failure, report_fault, report_no_memory};
+use crate::report::{Status, print, report_fault, report_no_memory};
+use crate::task::{Task, read_and_do};
 use chr_check::fault::{CheckFault, Place};
 use chr_check_text::{CheckPartsFault, Checked, watched_check_parts};
 use chr_log_text::read_log_in_parts;
@@ -14,11 +13,12 @@ use chr_value::Names;
 use std::alloc::{AllocError, Allocator, Global};
 use std::rt::{Clock, Files};
 
-/// The texts of the log, which may come in parts, and of the store.
+/// The texts of the log, which may come in parts, their bytes, and the text of the store.
 #[derive(Clone, Copy)]
-pub(crate) struct Recorded<'a> {
-    pub(crate) log: &'a [Source<'a>],
-    pub(crate) store: Source<'a>,
+struct Recorded<'a> {
+    log: &'a [Source<'a>],
+    parts: &'a [&'a [u8]],
+    store: Source<'a>,
 }
 
 /// Returns the part of a log that has the entry of this line.
@@ -39,15 +39,11 @@ pub fn told(alloc: Global, program: &[u8], log: &[&[u8]], fault: CheckFault) -> 
         return None;
     };
     let mut names = Names::new(alloc);
-    let Ok(program) = read_program(alloc, program, &mut names) else {
-        return None;
-    };
-    let Ok(log) = read_log_in_parts(alloc, first, more, &mut names) else {
-        return None;
-    };
-    match refused::told(alloc, &program, &log.events, fault) {
-        Ok(told) => told,
-        Err(AllocError) => None,
+    let program = read_program(alloc, program, &mut names);
+    let log = read_log_in_parts(alloc, first, more, &mut names);
+    match (&program, &log) {
+        (Ok(program), Ok(log)) => refused::told(alloc, program, &log.events, fault),
+        _ => None,
     }
 }
 
@@ -61,102 +57,141 @@ pub fn refusal_text(
     source: Source<'_>,
     fault: CheckFault,
 ) -> Result<Option<String>, AllocError> {
-    if detail == Detail::Explained {
-        let told = told(alloc, program, log, fault);
-        return Ok(Some(refusal_message(alloc, source, fault, told.as_deref())?));
-    }
-    match source.part {
-        Some(_) => Ok(Some(part_message(alloc, source, fault)?)),
-        None => Ok(None),
+    match (detail, source.part) {
+        (Detail::Explained, _) => {
+            let told = told(alloc, program, log, fault);
+            refusal_message(alloc, source, fault, told.as_deref()).map(Some)
+        }
+        (Detail::Line, Some(_)) => part_message(alloc, source, fault).map(Some),
+        (Detail::Line, None) => Ok(None),
     }
 }
 
 /// Writes to standard error what is to be said of a refusal, as far as there is memory for it.
-pub(crate) fn tell_refusal(
+fn tell_refusal(
     rt: &(impl Eprint + AllocGlobal),
     detail: Detail,
     program: &[u8],
     recorded: Recorded<'_>,
     fault: CheckFault,
 ) {
-    let alloc = rt.alloc();
     let source = match fault.place {
         Place::Log => part_with(recorded.log, fault.line),
         Place::Store => Some(recorded.store),
     };
-    let (Some(source), Ok(log)) = (source, texts(alloc, recorded.log)) else {
+    let Some(source) = source else {
         return;
     };
-    if let Ok(Some(text)) = refusal_text(alloc, detail, program, &log, source, fault) {
+    let text = refusal_text(rt.alloc(), detail, program, recorded.parts, source, fault);
+    if let Ok(Some(text)) = &text {
         let _ = eprint!(rt; "{text}");
     }
 }
 
+/// Writes the line of a refusal to standard output, and to standard error what is to be said of it.
+fn print_refusal(
+    rt: &(impl Print + Eprint + AllocGlobal),
+    detail: Detail,
+    line: &[u8],
+    program: &[u8],
+    recorded: Recorded<'_>,
+    fault: CheckFault,
+) -> Status {
+    let status = print(rt, detail, line);
+    if status != Status::Done {
+        return status;
+    }
+    tell_refusal(rt, detail, program, recorded, fault);
+    Status::Fault
+}
+
+/// Writes the line of a log that is refused to standard output, as `chr check` does, and to standard error what is to be
+/// said of the refusal.
+pub(crate) fn report_refusal(
+    rt: &(impl Print + Eprint + AllocGlobal),
+    detail: Detail,
+    program: &[u8],
+    log: Source<'_>,
+    fault: CheckFault,
+) -> Status {
+    let Ok(line) = format!(in rt.alloc(); "refused {fault}\n") else {
+        return report_no_memory(rt, detail);
+    };
+    let recorded = Recorded {
+        log: &[log],
+        parts: &[log.bytes],
+        store: log,
+    };
+    print_refusal(rt, detail, line.as_bytes(), program, recorded, fault)
+}
+
 /// Writes the line of a check to standard output, and to standard error what is to be said of a refusal.
-fn print<A: Allocator>(
+fn print_checked<A: Allocator>(
     rt: &(impl Print + Eprint + AllocGlobal),
     detail: Detail,
     program: &[u8],
     recorded: Recorded<'_>,
     checked: &Checked<A>,
 ) -> Status {
-    if let Err(error) = put(rt, &checked.line) {
-        return report_failure(rt, detail, "standard output", &error);
+    match checked.answer {
+        Ok(_) => print(rt, detail, &checked.line),
+        Err(fault) => print_refusal(rt, detail, &checked.line, program, recorded, fault),
     }
-    let Err(fault) = checked.answer else {
-        return Status::Done;
-    };
-    tell_refusal(rt, detail, program, recorded, fault);
-    Status::Fault
 }
 
-/// Checks the log of some texts, and writes the answer to standard output. After a fault in one of the texts nothing is
-/// written there.
-fn check_sources<R: Clock + Print + Eprint + AllocGlobal>(
+/// Writes to standard error why nothing was checked.
+fn report_parts_fault<R: Eprint + AllocGlobal>(
     rt: &R,
     detail: Detail,
     program: Source<'_>,
     recorded: Recorded<'_>,
+    fault: CheckPartsFault,
 ) -> Status {
-    let Ok(log) = texts(rt.alloc(), recorded.log) else {
-        return report_no_memory(rt, detail);
-    };
-    let [first, more @ ..] = log.as_slice() else {
-        return Status::Usage;
-    };
-    let store = recorded.store.bytes;
-    let mut progress = Progress::new(rt, detail, "entries checked");
-    match watched_check_parts(rt.alloc(), program.bytes, first, more, store, &mut progress) {
-        Ok(checked) => print(rt, detail, program.bytes, recorded, &checked),
-        Err(CheckPartsFault::Program(fault)) => {
-            report_fault(rt, detail, program, Fault::Read(fault))
-        }
-        Err(CheckPartsFault::Log(fault)) => match recorded.log.get(fault.part) {
+    match fault {
+        CheckPartsFault::Program(fault) => report_fault(rt, detail, program, Fault::Read(fault)),
+        CheckPartsFault::Log(fault) => match recorded.log.get(fault.part) {
             Some(source) => report_fault(rt, detail, *source, Fault::Text(fault.fault)),
             None => Status::Fault,
         },
-        Err(CheckPartsFault::Store(fault)) => {
+        CheckPartsFault::Store(fault) => {
             report_fault(rt, detail, recorded.store, Fault::Text(fault))
         }
-        Err(CheckPartsFault::Memory) => report_no_memory(rt, detail),
+        CheckPartsFault::Memory => report_no_memory(rt, detail),
     }
 }
 
-/// Checks the log of the files that were read.
-fn check_files<R: Clock + Print + Eprint + AllocGlobal>(
+/// Checks the log of some texts, and writes the answer to standard output. After a fault in one of the texts nothing is
+/// written there.
+pub(crate) fn check_sources<'s, R: Clock + Print + Eprint + AllocGlobal>(
     rt: &R,
     detail: Detail,
     program: Source<'_>,
-    paths: &[&str],
-    files: &[Vec<u8>],
-    store: Source<'_>,
+    log: &'s [Source<'s>],
+    store: Source<'s>,
 ) -> Status {
-    match sources(rt.alloc(), Text::Log, paths, files) {
-        Ok(log) => {
-            let recorded = Recorded { log: &log, store };
-            check_sources(rt, detail, program, recorded)
-        }
-        Err(AllocError) => report_no_memory(rt, detail),
+    let Ok(parts) = texts(rt.alloc(), log) else {
+        return report_no_memory(rt, detail);
+    };
+    let [first, more @ ..] = parts.as_slice() else {
+        return Status::Usage;
+    };
+    let recorded = Recorded {
+        log,
+        parts: &parts,
+        store,
+    };
+    let mut progress = Progress::new(rt, detail, "entries checked");
+    let checked = watched_check_parts(
+        rt.alloc(),
+        program.bytes,
+        first,
+        more,
+        store.bytes,
+        &mut progress,
+    );
+    match &checked {
+        Ok(checked) => print_checked(rt, detail, program.bytes, recorded, checked),
+        Err(fault) => report_parts_fault(rt, detail, program, recorded, *fault),
     }
 }
 
@@ -171,17 +206,10 @@ pub fn check<R: Files + Clock + Input + Print + Eprint + AllocGlobal>(
     more: &[&str],
     store: &str,
 ) -> Status {
-    let (program, stored) = match fetch_both(rt, (file, MOST_TEXT), (store, MOST_LOG)) {
-        Ok(files) => files,
-        Err(unread) => return report_failure(rt, detail, called(unread.path), &unread.error),
-    };
-    let Ok(paths) = all_paths(rt.alloc(), log, more) else {
-        return report_no_memory(rt, detail);
-    };
-    let program = whole(Text::Program, file, &program);
-    let store = whole(Text::Store, store, &stored);
-    match fetch_all(rt, &paths, MOST_LOG) {
-        Ok(files) => check_files(rt, detail, program, &paths, &files, store),
-        Err(unread) => report_failure(rt, detail, called(unread.path), &unread.error),
-    }
+    let paths = [
+        (Text::Program, file),
+        (Text::Store, store),
+        (Text::Log, log),
+    ];
+    read_and_do(rt, detail, Task::Check, &paths, Text::Log, more)
 }

@@ -27,6 +27,7 @@ mod refused;
 mod report;
 pub mod run;
 pub mod session;
+mod task;
 
 pub use message::Detail;
 pub use report::{Status, print_usage, report_failure, report_no_memory};

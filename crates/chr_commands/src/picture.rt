@@ -1,10 +1,9 @@
 //! `chr picture`.
-use crate::check::refusal_text;
-use crate::files::{MOST_LOG, MOST_TEXT, called, fetch_both, whole};
+use crate::check::report_refusal;
 use crate::message::{Detail, Fault, Source, Text};
 use crate::progress::Progress;
-use crate::report::{Status, put, report_failure, report_fault, report_no_memory};
-use chr_check::fault::CheckFault;
+use crate::report::{Status, print, report_fault, report_no_memory};
+use crate::task::{Task, read_and_do};
 use chr_picture_text::{PictureFault, Range, watched_draw_text};
 use std::rt::{Clock, Files};
 
@@ -14,37 +13,8 @@ fn report(rt: &impl Eprint, why: &str) -> Status {
     Status::Fault
 }
 
-/// Writes a picture, or the line of a refusal, to standard output.
-fn print(rt: &(impl Print + Eprint + AllocGlobal), detail: Detail, text: &[u8]) -> Status {
-    match put(rt, text) {
-        Ok(()) => Status::Done,
-        Err(error) => report_failure(rt, detail, "standard output", &error),
-    }
-}
-
-/// Writes the line of a refusal to standard output, and to standard error what is to be said of it.
-fn refuse(
-    rt: &(impl Print + Eprint + AllocGlobal),
-    detail: Detail,
-    program: &[u8],
-    log: Source<'_>,
-    fault: CheckFault,
-) -> Status {
-    let Ok(line) = format!(in rt.alloc(); "refused {fault}\n") else {
-        return report_no_memory(rt, detail);
-    };
-    let status = print(rt, detail, line.as_bytes());
-    if status != Status::Done {
-        return status;
-    }
-    if let Ok(Some(text)) = refusal_text(rt.alloc(), detail, program, &[log.bytes], log, fault) {
-        let _ = eprint!(rt; "{text}");
-    }
-    Status::Fault
-}
-
 /// Draws the entries of a range of a log that was read, as [`picture`] does.
-fn draw<R: Clock + Print + Eprint + AllocGlobal>(
+pub(crate) fn draw<R: Clock + Print + Eprint + AllocGlobal>(
     rt: &R,
     detail: Detail,
     program: Source<'_>,
@@ -56,7 +26,9 @@ fn draw<R: Clock + Print + Eprint + AllocGlobal>(
         Ok(text) => print(rt, detail, &text),
         Err(PictureFault::Program(fault)) => report_fault(rt, detail, program, Fault::Read(fault)),
         Err(PictureFault::Log(fault)) => report_fault(rt, detail, log, Fault::Text(fault)),
-        Err(PictureFault::Refused(fault)) => refuse(rt, detail, program.bytes, log, fault),
+        Err(PictureFault::Refused(fault)) => {
+            report_refusal(rt, detail, program.bytes, log, fault)
+        },
         Err(PictureFault::NoEntry(_)) => report(rt, "the log has no entry in this range"),
         Err(PictureFault::TooManyRows) => {
             report(rt, "these entries have more than 10,000 constraints")
@@ -75,11 +47,6 @@ pub fn picture<R: Files + Clock + Input + Print + Eprint + AllocGlobal>(
     log: &str,
     range: Range,
 ) -> Status {
-    let (program, logged) = match fetch_both(rt, (file, MOST_TEXT), (log, MOST_LOG)) {
-        Ok(files) => files,
-        Err(unread) => return report_failure(rt, detail, called(unread.path), &unread.error),
-    };
-    let program = whole(Text::Program, file, &program);
-    let log = whole(Text::Log, log, &logged);
-    draw(rt, detail, program, log, range)
+    let paths = [(Text::Program, file), (Text::Log, log)];
+    read_and_do(rt, detail, Task::Draw(range), &paths, Text::Log, &[])
 }

@@ -7,6 +7,38 @@ use chr_log::{Event, Label};
 use chr_rule::{BodyItem, Program};
 use std::alloc::{AllocError, Allocator};
 
+/// A sentence on a refused entry.
+#[derive(Clone, Copy)]
+enum Remark {
+    Plain(&'static str),
+    /// What stands before and after a number, as in `Goal 3 has ended.`
+    Number(&'static str, u64, &'static str),
+    /// What stands before each of two numbers, as in `Goal 3 was dropped in line 5.`
+    Numbers(&'static str, u64, &'static str, u64),
+    /// How many heads a rule keeps and removes.
+    Heads {
+        rule: u16,
+        keeps: usize,
+        removes: usize,
+    },
+}
+
+/// Returns the text of a sentence.
+fn sentence<A: Allocator>(alloc: A, remark: Remark) -> Result<String<A>, AllocError> {
+    match remark {
+        Remark::Plain(words) => format!(in alloc; "{words}"),
+        Remark::Number(before, number, after) => format!(in alloc; "{before}{number}{after}"),
+        Remark::Numbers(before, number, between, other) => {
+            format!(in alloc; "{before}{number}{between}{other}.")
+        }
+        Remark::Heads {
+            rule,
+            keeps,
+            removes,
+        } => { format!(in alloc; "Rule {rule} keeps {keeps} and removes {removes}.") }
+    }
+}
+
 /// The entries before a refused one, with the rules whose log they are.
 #[derive(Drop)]
 struct History<'l, A: Allocator> {
@@ -96,56 +128,45 @@ impl<'l, A: Allocator + Copy> History<'l, A> {
 }
 
 /// What is wrong with the ticket of an entry.
-fn ticket_told<A: Allocator + Copy, B: Allocator + Copy>(
-    alloc: B,
-    history: &History<'_, A>,
-    entry: &Event<A>,
-) -> Result<String<B>, AllocError> {
+fn ticket_remark<A: Allocator + Copy>(history: &History<'_, A>, entry: &Event<A>) -> Remark {
     let next = history.next_ticket();
     let (ticket, activates) = match entry {
-        Event::Post { .. } => return format!(in alloc; "The next one is {next}."),
+        Event::Post { .. } => return Remark::Number("The next one is ", next, "."),
         Event::Activate { ticket, .. } => (*ticket, true),
         Event::Fire { ticket, .. } | Event::Drop { ticket } => (*ticket, false),
     };
     if next <= ticket {
-        return format!(in alloc; "Ticket {ticket} has not been given: the next one is {next}.");
+        let words = " has not been given: the next one is ";
+        return Remark::Numbers("Ticket ", ticket, words, next);
     }
     let Some((place, label)) = history.activation(ticket) else {
-        return format!(in alloc; "Goal {ticket} has not been activated.");
+        return Remark::Number("Goal ", ticket, " has not been activated.");
     };
     if activates {
-        return format!(in alloc; "Goal {ticket} was activated in line {}.", line_at(place));
+        return Remark::Numbers("Goal ", ticket, " was activated in line ", line_at(place));
     }
     if let Some(place) = history.drop_of(ticket) {
-        return format!(in alloc; "Goal {ticket} was dropped in line {}.", line_at(place));
+        return Remark::Numbers("Goal ", ticket, " was dropped in line ", line_at(place));
     }
     match history.removal(label) {
-        Some(place) => format!(in alloc; "Goal {ticket} ended in line {}.", line_at(place)),
-        None => format!(in alloc; "Goal {ticket} has ended."),
+        Some(place) => Remark::Numbers("Goal ", ticket, " ended in line ", line_at(place)),
+        None => Remark::Number("Goal ", ticket, " has ended."),
     }
 }
 
 /// What is wrong with the label of an activation, or with the first label of a firing that is not in the store.
-fn label_told<A: Allocator + Copy, B: Allocator + Copy>(
-    alloc: B,
-    history: &History<'_, A>,
-    entry: &Event<A>,
-) -> Result<Option<String<B>>, AllocError> {
+fn label_remark<A: Allocator + Copy>(history: &History<'_, A>, entry: &Event<A>) -> Option<Remark> {
     let next = history.next_label();
     let Event::Fire { kept, removed, .. } = entry else {
-        return Ok(Some(format!(in alloc; "The next one is {next}.")?));
+        return Some(Remark::Number("The next one is ", next, "."));
     };
     let absent = history.absent(kept.as_slice());
-    let Some(label) = absent.or(history.absent(removed.as_slice())) else {
-        return Ok(None);
+    let label = absent.or(history.absent(removed.as_slice()))?;
+    let (words, number) = match history.removal(label) {
+        Some(place) => (" was removed in line ", line_at(place)),
+        None => (" has not been given: the next one is ", next),
     };
-    let told = match history.removal(label) {
-        Some(place) => {
-            format!(in alloc; "Label {label} was removed in line {}.", line_at(place))?
-        }
-        None => { format!(in alloc; "Label {label} has not been given: the next one is {next}.")? }
-    };
-    Ok(Some(told))
+    Some(Remark::Numbers("Label ", label, words, number))
 }
 
 /// How often a label stands among labels.
@@ -161,42 +182,47 @@ fn is_repeated(kept: &[Label], removed: &[Label]) -> bool {
 }
 
 /// Why the labels of a firing by the goal of the label `own` are no instance.
-fn firing_told<A: Allocator + Copy, B: Allocator + Copy>(
-    alloc: B,
+fn firing_remark<A: Allocator + Copy>(
     program: &Program<A>,
     own: Label,
     number: u16,
     kept: &[Label],
     removed: &[Label],
-) -> Result<String<B>, AllocError> {
+) -> Remark {
     let Some(rule) = program.rule(number as usize) else {
-        return format!(in alloc; "The last rule of the program is rule {}.", program.len());
+        let rules = program.len() as u64;
+        return Remark::Number("The last rule of the program is rule ", rules, ".");
     };
-    let (k, r) = (rule.kept().len(), rule.removed().len());
-    if k != kept.len() || r != removed.len() {
-        return format!(in alloc; "Rule {number} keeps {k} and removes {r}.");
+    let (keeps, removes) = (rule.kept().len(), rule.removed().len());
+    if keeps != kept.len() || removes != removed.len() {
+        return Remark::Heads {
+            rule: number,
+            keeps,
+            removes,
+        };
     }
     if !kept.contains(&own) && !removed.contains(&own) {
-        return format!(in alloc; "The goal's own label is {own}.");
+        return Remark::Number("The goal's own label is ", own, ".");
     }
     if is_repeated(kept, removed) {
-        return format!(in alloc; "One label stands at two heads.");
+        return Remark::Plain("One label stands at two heads.");
     }
-    format!(in alloc;
-        "The constraints don't match the heads of rule {number}, or its guard doesn't hold, or its body has no value."
+    Remark::Number(
+        "The constraints don't match the heads of rule ",
+        u64::from(number),
+        ", or its guard doesn't hold, or its body has no value.",
     )
 }
 
 /// What is wrong with an entry, by its kind of fault.
-fn entry_told<A: Allocator + Copy, B: Allocator + Copy>(
-    alloc: B,
+fn entry_remark<A: Allocator + Copy>(
     history: &History<'_, A>,
     kind: Kind,
     entry: &Event<A>,
-) -> Result<Option<String<B>>, AllocError> {
+) -> Option<Remark> {
     match (kind, entry) {
-        (Kind::BadTicket, _) => Ok(Some(ticket_told(alloc, history, entry)?)),
-        (Kind::BadLabel, _) => label_told(alloc, history, entry),
+        (Kind::BadTicket, _) => Some(ticket_remark(history, entry)),
+        (Kind::BadLabel, _) => label_remark(history, entry),
         (
             Kind::NoInstance,
             Event::Fire {
@@ -206,39 +232,43 @@ fn entry_told<A: Allocator + Copy, B: Allocator + Copy>(
                 removed,
             },
         ) => {
-            let Some((_, own)) = history.activation(*ticket) else {
-                return Ok(None);
-            };
+            let (_, own) = history.activation(*ticket)?;
             let (kept, removed) = (kept.as_slice(), removed.as_slice());
-            let told = firing_told(alloc, history.program, own, *rule, kept, removed)?;
-            Ok(Some(told))
+            Some(firing_remark(history.program, own, *rule, kept, removed))
         }
-        (Kind::StillApplies, Event::Drop { ticket }) => match history.activation(*ticket) {
-            Some((_, own)) => Ok(Some(format!(in alloc; "It stands under label {own}.")?)),
-            None => Ok(None),
-        },
-        _ => Ok(None),
+        (Kind::StillApplies, Event::Drop { ticket }) => {
+            let (_, own) = history.activation(*ticket)?;
+            Some(Remark::Number("It stands under label ", own, "."))
+        }
+        _ => None,
     }
 }
 
+/// What the entries before a refused one tell of it.
+fn remark_on<A: Allocator + Copy>(
+    program: &Program<A>,
+    events: &[Event<A>],
+    fault: CheckFault,
+) -> Option<Remark> {
+    if fault.place == Place::Store || fault.line < 2 {
+        return None;
+    }
+    let place = (fault.line - 2) as usize;
+    let entry = events.get(place)?;
+    let history = History {
+        program,
+        entries: &events[..place],
+    };
+    entry_remark(&history, fault.kind, entry)
+}
+
 /// Returns which ticket or label of a refused entry is wrong, and what would be right or why, as a sentence. None where
-/// the fault is in the store, or the entries before the refused one tell no more than its kind.
+/// the fault is in the store, the entries before the refused one tell no more than its kind, or memory is refused.
 pub fn told<A: Allocator + Copy, B: Allocator + Copy>(
     alloc: B,
     program: &Program<A>,
     events: &[Event<A>],
     fault: CheckFault,
-) -> Result<Option<String<B>>, AllocError> {
-    if fault.place == Place::Store || fault.line < 2 {
-        return Ok(None);
-    }
-    let place = (fault.line - 2) as usize;
-    let Some(entry) = events.get(place) else {
-        return Ok(None);
-    };
-    let history = History {
-        program,
-        entries: &events[..place],
-    };
-    entry_told(alloc, &history, fault.kind, entry)
+) -> Option<String<B>> {
+    sentence(alloc, remark_on(program, events, fault)?).ok()
 }

@@ -40,7 +40,7 @@ fn is_closed(error: &io::Error) -> bool {
 }
 
 /// Writes to standard output, as much as its reader takes.
-pub fn put(rt: &impl Print, bytes: &[u8]) -> io::Result<()> {
+fn put(rt: &impl Print, bytes: &[u8]) -> io::Result<()> {
     match io::writer(rt).write_all(bytes) {
         Err(error) if !is_closed(&error) => Err(error),
         _ => Ok(()),
@@ -60,6 +60,14 @@ pub fn report_failure(rt: &impl Eprint, detail: Detail, what: &str, error: &io::
     }
     let _ = eprintln!(rt; "chr: {what}: {error}");
     Status::Usage
+}
+
+/// Writes a result to standard output.
+pub fn print(rt: &(impl Print + Eprint), detail: Detail, bytes: &[u8]) -> Status {
+    match put(rt, bytes) {
+        Ok(()) => Status::Done,
+        Err(error) => report_failure(rt, detail, "standard output", &error),
+    }
 }
 
 /// Writes a text's fault to standard error.

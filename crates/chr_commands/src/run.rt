@@ -1,8 +1,9 @@
 //! `chr run`.
-use crate::files::{MOST_TEXT, all_paths, called, fetch, fetch_all, sources, texts, whole};
+use crate::files::texts;
 use crate::message::{Detail, Fault, Source, Text};
 use crate::progress::Progress;
-use crate::report::{Status, put, report_failure, report_fault, report_no_memory};
+use crate::report::{Status, print, report_failure, report_fault, report_no_memory};
+use crate::task::{Task, read_and_do};
 use chr_command_line::RunOptions;
 use chr_run_text::{Ran, RunTextsFault, Show, watched_run_texts};
 use chr_solo::End;
@@ -11,9 +12,16 @@ use std::rt::{Clock, Files};
 use std::{fs, io};
 
 /// Writes what is shown of a run to standard output.
-fn print(rt: &(impl Print + AllocGlobal), ran: &Ran<Global>, show: Show) -> io::Result<()> {
-    let bytes = ran.shown(rt.alloc(), show)?;
-    put(rt, &bytes)
+fn print_shown(
+    rt: &(impl Print + Eprint + AllocGlobal),
+    detail: Detail,
+    ran: &Ran<Global>,
+    show: Show,
+) -> Status {
+    match ran.shown(rt.alloc(), show) {
+        Ok(bytes) => print(rt, detail, &bytes),
+        Err(AllocError) => report_no_memory(rt, detail),
+    }
 }
 
 /// Writes what is shown of a run to a file, if there is a path for it.
@@ -38,8 +46,9 @@ fn give<R: Files + Print + Eprint + AllocGlobal>(
     ran: &Ran<Global>,
     options: RunOptions<'_>,
 ) -> Status {
-    if let Err(error) = print(rt, ran, options.show) {
-        return report_failure(rt, detail, "standard output", &error);
+    let status = print_shown(rt, detail, ran, options.show);
+    if status != Status::Done {
+        return status;
     }
     let files = [(options.log, Show::Log), (options.store, Show::Store)];
     for (path, show) in files {
@@ -50,6 +59,24 @@ fn give<R: Files + Print + Eprint + AllocGlobal>(
     match ran.end {
         End::Quiet => Status::Done,
         End::Open => Status::Open,
+    }
+}
+
+/// Writes to standard error why there is no run of texts.
+fn report_texts_fault<R: Eprint + AllocGlobal>(
+    rt: &R,
+    detail: Detail,
+    program: Source<'_>,
+    posts: &[Source<'_>],
+    fault: RunTextsFault,
+) -> Status {
+    match fault {
+        RunTextsFault::Program(fault) => report_fault(rt, detail, program, Fault::Read(fault)),
+        RunTextsFault::Posts { place, fault } => match posts.get(place) {
+            Some(source) => report_fault(rt, detail, *source, Fault::Read(fault)),
+            None => Status::Fault,
+        },
+        RunTextsFault::Memory => report_no_memory(rt, detail),
     }
 }
 
@@ -67,36 +94,17 @@ pub fn run_sources<R: Files + Clock + Print + Eprint + AllocGlobal>(
     };
     let (steps, labels) = (u64::from(options.steps), u64::from(options.labels));
     let mut progress = Progress::new(rt, detail, "calls made");
-    match watched_run_texts(
+    let ran = watched_run_texts(
         rt.alloc(),
         program.bytes,
         &texts,
         steps,
         labels,
         &mut progress,
-    ) {
-        Ok(ran) => give(rt, detail, &ran, options),
-        Err(RunTextsFault::Program(fault)) => report_fault(rt, detail, program, Fault::Read(fault)),
-        Err(RunTextsFault::Posts { place, fault }) => match posts.get(place) {
-            Some(source) => report_fault(rt, detail, *source, Fault::Read(fault)),
-            None => Status::Fault,
-        },
-        Err(RunTextsFault::Memory) => report_no_memory(rt, detail),
-    }
-}
-
-/// Runs the rules of a text on the constraints of the files that were read.
-fn run_files<R: Files + Clock + Print + Eprint + AllocGlobal>(
-    rt: &R,
-    detail: Detail,
-    program: Source<'_>,
-    paths: &[&str],
-    files: &[Vec<u8>],
-    options: RunOptions<'_>,
-) -> Status {
-    match sources(rt.alloc(), Text::Posts, paths, files) {
-        Ok(posts) => run_sources(rt, detail, program, &posts, options),
-        Err(AllocError) => report_no_memory(rt, detail),
+    );
+    match &ran {
+        Ok(ran) => give(rt, detail, ran, options),
+        Err(fault) => report_texts_fault(rt, detail, program, posts, *fault),
     }
 }
 
@@ -111,16 +119,6 @@ pub fn run<R: Files + Clock + Input + Print + Eprint + AllocGlobal>(
     more: &[&str],
     options: RunOptions<'_>,
 ) -> Status {
-    let program = match fetch(rt, file, MOST_TEXT) {
-        Ok(bytes) => bytes,
-        Err(error) => return report_failure(rt, detail, called(file), &error),
-    };
-    let Ok(paths) = all_paths(rt.alloc(), posts, more) else {
-        return report_no_memory(rt, detail);
-    };
-    let program = whole(Text::Program, file, &program);
-    match fetch_all(rt, &paths, MOST_TEXT) {
-        Ok(files) => run_files(rt, detail, program, &paths, &files, options),
-        Err(unread) => report_failure(rt, detail, called(unread.path), &unread.error),
-    }
+    let paths = [(Text::Program, file), (Text::Posts, posts)];
+    read_and_do(rt, detail, Task::Run(options), &paths, Text::Posts, more)
 }
