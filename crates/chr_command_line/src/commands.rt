@@ -53,6 +53,20 @@ struct CommandRow {
     arguments: &'static [Argument],
 }
 
+const FILE: Argument = Argument {
+    name: "FILE",
+    help: "The rules; `-` is standard input",
+    presence: Presence::Required,
+    value: None,
+};
+
+const LOG: Argument = Argument {
+    name: "LOG",
+    help: "The log, which begins with `chr-log 1` or `chr-log 2`; `-` is standard input",
+    presence: Presence::Required,
+    value: None,
+};
+
 const LABELS: Argument = Argument {
     name: "labels",
     help: "The greatest label that may be given",
@@ -81,212 +95,180 @@ const ENTRY_RANGE: &str = "1..4294967295";
 /// What each number of that range passes.
 const ENTRY: ValueParser = ValueParser::Signed(1, 4_294_967_295);
 
-static COMMANDS: [CommandRow; 6] = [
-    CommandRow {
-        name: "run",
-        about: "Runs rules on posted constraints, and prints the store and the log",
-        after_help: "Example:\n  chr run examples/gcd/gcd.chr examples/gcd/posts.txt --show store",
-        arguments: &[
-            Argument {
-                name: "FILE",
-                help: "The rules; `-` is standard input",
-                presence: Presence::Required,
-                value: None,
-            },
-            Argument {
-                name: "POSTS",
-                help: "The constraints to post; `-` is standard input",
-                presence: Presence::Required,
-                value: None,
-            },
-            Argument {
-                name: "posts",
-                help: "Further constraints, posted after those of POSTS; as often as wanted, in order",
-                presence: Presence::Repeated,
-                value: Some(MORE),
-            },
-            Argument {
-                name: "steps",
-                help: "How many calls are made at most",
-                presence: Presence::Default("1000000"),
-                value: Some(OptionValue {
-                    name: RANGE,
-                    parser: NUMBER,
-                }),
-            },
-            LABELS,
-            Argument {
-                name: "show",
-                help: "What is printed: all of the end, the store and the log, or one part; `strict` is the log with its drops after its other entries, and nothing where the run ends open",
-                presence: Presence::Default("all"),
-                value: Some(OptionValue {
-                    name: "all|store|log|strict",
-                    parser: ValueParser::Names(&["all", "store", "log", "strict"]),
-                }),
-            },
-            Argument {
-                name: "log",
-                help: "A file to write: the log of the run, besides what is printed",
-                presence: Presence::Optional,
-                value: Some(PATH),
-            },
-            Argument {
-                name: "store",
-                help: "A file to write: the store of the run, besides what is printed",
-                presence: Presence::Optional,
-                value: Some(PATH),
-            },
-        ],
-    },
-    CommandRow {
-        name: "check",
-        about: "Checks whether a log is that of a run of rules, and whether the run ends in a store",
-        after_help: "Example:\n  chr check examples/gcd/gcd.chr examples/gcd/log.txt examples/gcd/store.txt",
-        arguments: &[
-            Argument {
-                name: "FILE",
-                help: "The rules; `-` is standard input",
-                presence: Presence::Required,
-                value: None,
-            },
-            Argument {
-                name: "LOG",
-                help: "The log, which begins with `chr-log 1` or `chr-log 2`; `-` is standard input",
-                presence: Presence::Required,
-                value: None,
-            },
-            Argument {
-                name: "STORE",
-                help: "The store, without the line that counts; `-` is standard input",
-                presence: Presence::Required,
-                value: None,
-            },
-            Argument {
-                name: "log",
-                help: "A file to read: a further part of the log, of entries alone; as often as wanted, in order",
-                presence: Presence::Repeated,
-                value: Some(MORE),
-            },
-        ],
-    },
-    CommandRow {
-        name: "explain",
-        about: "Shows from which posts and by which firings a constraint of a log was derived",
-        after_help: "Example:\n  chr explain examples/gcd/gcd.chr examples/gcd/log.txt 3 --gone",
-        arguments: &[
-            Argument {
-                name: "FILE",
-                help: "The rules; `-` is standard input",
-                presence: Presence::Required,
-                value: None,
-            },
-            Argument {
-                name: "LOG",
-                help: "The log, which begins with `chr-log 1` or `chr-log 2`; `-` is standard input",
-                presence: Presence::Required,
-                value: None,
-            },
-            Argument {
+static RUN: CommandRow = CommandRow {
+    name: "run",
+    about: "Runs rules on posted constraints, and prints the store and the log",
+    after_help: "Example:\n  chr run examples/gcd/gcd.chr examples/gcd/posts.txt --show store",
+    arguments: &[
+        FILE,
+        Argument {
+            name: "POSTS",
+            help: "The constraints to post; `-` is standard input",
+            presence: Presence::Required,
+            value: None,
+        },
+        Argument {
+            name: "posts",
+            help: "Further constraints, posted after those of POSTS; as often as wanted, in order",
+            presence: Presence::Repeated,
+            value: Some(MORE),
+        },
+        Argument {
+            name: "steps",
+            help: "How many calls are made at most",
+            presence: Presence::Default("1000000"),
+            value: Some(OptionValue {
+                name: RANGE,
+                parser: NUMBER,
+            }),
+        },
+        LABELS,
+        Argument {
+            name: "show",
+            help: "What is printed: all of the end, the store and the log, or one part; `strict` is the log with its drops after its other entries, and nothing where the run ends open",
+            presence: Presence::Default("all"),
+            value: Some(OptionValue {
+                name: "all|store|log|strict",
+                parser: ValueParser::Names(&["all", "store", "log", "strict"]),
+            }),
+        },
+        Argument {
+            name: "log",
+            help: "A file to write: the log of the run, besides what is printed",
+            presence: Presence::Optional,
+            value: Some(PATH),
+        },
+        Argument {
+            name: "store",
+            help: "A file to write: the store of the run, besides what is printed",
+            presence: Presence::Optional,
+            value: Some(PATH),
+        },
+    ],
+};
+
+static CHECK: CommandRow = CommandRow {
+    name: "check",
+    about: "Checks whether a log is that of a run of rules, and whether the run ends in a store",
+    after_help: "Example:\n  chr check examples/gcd/gcd.chr examples/gcd/log.txt examples/gcd/store.txt",
+    arguments: &[
+        FILE,
+        LOG,
+        Argument {
+            name: "STORE",
+            help: "The store, without the line that counts; `-` is standard input",
+            presence: Presence::Required,
+            value: None,
+        },
+        Argument {
+            name: "log",
+            help: "A file to read: a further part of the log, of entries alone; as often as wanted, in order",
+            presence: Presence::Repeated,
+            value: Some(MORE),
+        },
+    ],
+};
+
+static EXPLAIN: CommandRow = CommandRow {
+    name: "explain",
+    about: "Shows from which posts and by which firings a constraint of a log was derived",
+    after_help: "Example:\n  chr explain examples/gcd/gcd.chr examples/gcd/log.txt 3 --gone",
+    arguments: &[
+        FILE,
+        LOG,
+        Argument {
+            name: "LABEL",
+            help: "The label of the constraint, without `#`: 1..4294967295",
+            presence: Presence::Required,
+            value: Some(OptionValue {
                 name: "LABEL",
-                help: "The label of the constraint, without `#`: 1..4294967295",
-                presence: Presence::Required,
-                value: Some(OptionValue {
-                    name: "LABEL",
-                    parser: ValueParser::Signed(1, 4_294_967_295),
-                }),
-            },
-            Argument {
-                name: "gone",
-                help: "Tells also which firing removed each constraint",
-                presence: Presence::Flag,
-                value: None,
-            },
-            Argument {
-                name: "as",
-                help: "How it is written: as lines, or as a graph in the language of Graphviz",
-                presence: Presence::Default("text"),
-                value: Some(OptionValue {
-                    name: "text|dot",
-                    parser: ValueParser::Names(&["text", "dot"]),
-                }),
-            },
-        ],
-    },
-    CommandRow {
-        name: "picture",
-        about: "Draws a log as an SVG: a row for each constraint, and the firings that join them",
-        after_help: "At most 2,000 entries are drawn; the caption tells which, of how many.\n\nExample:\n  chr picture examples/gcd/gcd.chr examples/gcd/log.txt > gcd.svg",
-        arguments: &[
-            Argument {
-                name: "FILE",
-                help: "The rules; `-` is standard input",
-                presence: Presence::Required,
-                value: None,
-            },
-            Argument {
-                name: "LOG",
-                help: "The log, which begins with `chr-log 1` or `chr-log 2`; `-` is standard input",
-                presence: Presence::Required,
-                value: None,
-            },
-            Argument {
-                name: "from",
-                help: "The number of the first entry that is drawn",
-                presence: Presence::Default("1"),
-                value: Some(OptionValue {
-                    name: ENTRY_RANGE,
-                    parser: ENTRY,
-                }),
-            },
-            Argument {
-                name: "to",
-                help: "The number of the last entry that is drawn, if the log has it and it is no further than the 2,000th from the first",
-                presence: Presence::Default("4294967295"),
-                value: Some(OptionValue {
-                    name: ENTRY_RANGE,
-                    parser: ENTRY,
-                }),
-            },
-        ],
-    },
-    CommandRow {
-        name: "session",
-        about: "Reads commands from standard input, and writes each reply to standard output before it reads the next",
-        after_help: "Lines of input:\n  load N      The rules are the N bytes after this line\n  post TEXT   Posts the constraints of the text\n  wait K      Makes at most K calls, and tells whether a goal is open\n  store       Shows the store\n  log F       Shows the log from entry F on\n  quit        Ends the session\n\nExample:\n  printf 'load 9\\na <=> b.\\npost a.\\nwait 1000\\nstore\\nquit\\n' | chr session",
-        arguments: &[LABELS],
-    },
-    CommandRow {
-        name: "serve",
-        about: "Serves up to sixteen sessions at once over a Unix socket, on one book that workers run",
-        after_help: "A client sends the commands of `chr session` and reads its replies.\n\nExample:\n  chr serve --socket chr.sock --workers 4",
-        arguments: &[
-            Argument {
-                name: "socket",
-                help: "Where the socket is made: a path at which there is no file",
-                presence: Presence::Required,
-                value: Some(PATH),
-            },
-            Argument {
-                name: "workers",
-                help: "How many workers run the rules",
-                presence: Presence::Required,
-                value: Some(OptionValue {
-                    name: "1..16",
-                    parser: ValueParser::Signed(1, 16),
-                }),
-            },
-            Argument {
-                name: "sessions",
-                help: "After how many connections the server ends; without it, it serves until it is stopped",
-                presence: Presence::Optional,
-                value: Some(OptionValue {
-                    name: "1..1000000",
-                    parser: ValueParser::Signed(1, 1_000_000),
-                }),
-            },
-        ],
-    },
-];
+                parser: ValueParser::Signed(1, 4_294_967_295),
+            }),
+        },
+        Argument {
+            name: "gone",
+            help: "Tells also which firing removed each constraint",
+            presence: Presence::Flag,
+            value: None,
+        },
+        Argument {
+            name: "as",
+            help: "How it is written: as lines, or as a graph in the language of Graphviz",
+            presence: Presence::Default("text"),
+            value: Some(OptionValue {
+                name: "text|dot",
+                parser: ValueParser::Names(&["text", "dot"]),
+            }),
+        },
+    ],
+};
+
+static PICTURE: CommandRow = CommandRow {
+    name: "picture",
+    about: "Draws a log as an SVG: a row for each constraint, and the firings that join them",
+    after_help: "At most 2,000 entries are drawn; the caption tells which, of how many.\n\nExample:\n  chr picture examples/gcd/gcd.chr examples/gcd/log.txt > gcd.svg",
+    arguments: &[
+        FILE,
+        LOG,
+        Argument {
+            name: "from",
+            help: "The number of the first entry that is drawn",
+            presence: Presence::Default("1"),
+            value: Some(OptionValue {
+                name: ENTRY_RANGE,
+                parser: ENTRY,
+            }),
+        },
+        Argument {
+            name: "to",
+            help: "The number of the last entry that is drawn, if the log has it and it is no further than the 2,000th from the first",
+            presence: Presence::Default("4294967295"),
+            value: Some(OptionValue {
+                name: ENTRY_RANGE,
+                parser: ENTRY,
+            }),
+        },
+    ],
+};
+
+static SESSION: CommandRow = CommandRow {
+    name: "session",
+    about: "Reads commands from standard input, and writes each reply to standard output before it reads the next",
+    after_help: "Lines of input:\n  load N      The rules are the N bytes after this line\n  post TEXT   Posts the constraints of the text\n  wait K      Makes at most K calls, and tells whether a goal is open\n  store       Shows the store\n  log F       Shows the log from entry F on\n  quit        Ends the session\n\nExample:\n  printf 'load 9\\na <=> b.\\npost a.\\nwait 1000\\nstore\\nquit\\n' | chr session",
+    arguments: &[LABELS],
+};
+
+static SERVE: CommandRow = CommandRow {
+    name: "serve",
+    about: "Serves up to sixteen sessions at once over a Unix socket, on one book that workers run",
+    after_help: "A client sends the commands of `chr session` and reads its replies.\n\nExample:\n  chr serve --socket chr.sock --workers 4",
+    arguments: &[
+        Argument {
+            name: "socket",
+            help: "Where the socket is made: a path at which there is no file",
+            presence: Presence::Required,
+            value: Some(PATH),
+        },
+        Argument {
+            name: "workers",
+            help: "How many workers run the rules",
+            presence: Presence::Required,
+            value: Some(OptionValue {
+                name: "1..16",
+                parser: ValueParser::Signed(1, 16),
+            }),
+        },
+        Argument {
+            name: "sessions",
+            help: "After how many connections the server ends; without it, it serves until it is stopped",
+            presence: Presence::Optional,
+            value: Some(OptionValue {
+                name: "1..1000000",
+                parser: ValueParser::Signed(1, 1_000_000),
+            }),
+        },
+    ],
+};
 
 /// Returns an option with the value that follows it.
 fn with_value<'a>(arg: Arg<'a>, name: &'static str, value: OptionValue) -> Arg<'a> {
@@ -338,7 +320,7 @@ fn subcommand<'a>(alloc: Global, row: &CommandRow) -> Result<Command<'a>, AllocE
 /// Returns the commands of the program below its own.
 fn subcommands<'a>(alloc: Global) -> Result<Vec<Command<'a>>, AllocError> {
     let mut commands = Vec::new(alloc);
-    for row in &COMMANDS {
+    for row in [&RUN, &CHECK, &EXPLAIN, &PICTURE, &SESSION, &SERVE] {
         commands.push(subcommand(alloc, row)?)?;
     }
     Ok(commands)

@@ -246,13 +246,12 @@ fn requested<'a>(name: &str, given: &ArgMatches<'a>, more: &[&str]) -> Result<Re
     }
 }
 
-/// Reads the words of a command line by the commands that there are.
-fn read_by<'a, S: AsStr>(
+/// Returns what words that were matched ask for. An error is worded by the commands that there are.
+fn asked_by<'a>(
     alloc: Global,
     command: &mut Command<'a>,
-    words: &'a [S],
+    matches: &ArgMatches<'a>,
 ) -> Result<Asked<'a>, Error> {
-    let matches = command.try_get_matches_from_mut(words)?;
     let Some((name, given)) = matches.subcommand() else {
         return Err(command.error(ErrorKind::MissingSubcommand, "a command is missing")?);
     };
@@ -260,6 +259,18 @@ fn read_by<'a, S: AsStr>(
     match requested(name, given, more.as_slice()) {
         Ok(request) => Ok(Asked { request, more }),
         Err((kind, text)) => Err(command.error(kind, text)?),
+    }
+}
+
+/// Reads the words of a command line by the commands that there are.
+fn read_by<'a, S: AsStr>(
+    alloc: Global,
+    command: &mut Command<'a>,
+    words: &'a [S],
+) -> Result<Asked<'a>, Error> {
+    match command.try_get_matches_from_mut(words) {
+        Ok(matches) => asked_by(alloc, command, &matches),
+        Err(error) => Err(error),
     }
 }
 
