@@ -5,7 +5,7 @@
 use chr_check::fault::{CheckFault, Kind, Place};
 use chr_log::{Event, Label};
 use chr_rule::{BodyItem, Program};
-use std::alloc::{AllocError, Allocator};
+use std::alloc::{AllocError, Global};
 
 /// A sentence on a refused entry.
 #[derive(Clone, Copy)]
@@ -24,7 +24,7 @@ enum Remark {
 }
 
 /// Returns the text of a sentence.
-fn sentence<A: Allocator>(alloc: A, remark: Remark) -> Result<String<A>, AllocError> {
+fn sentence(alloc: Global, remark: Remark) -> Result<String, AllocError> {
     match remark {
         Remark::Plain(words) => format!(in alloc; "{words}"),
         Remark::Number(before, number, after) => format!(in alloc; "{before}{number}{after}"),
@@ -41,9 +41,9 @@ fn sentence<A: Allocator>(alloc: A, remark: Remark) -> Result<String<A>, AllocEr
 
 /// The entries before a refused one, with the rules whose log they are.
 #[derive(Drop)]
-struct History<'l, A: Allocator> {
-    program: &'l Program<A>,
-    entries: &'l [Event<A>],
+struct History<'l> {
+    program: &'l Program<Global>,
+    entries: &'l [Event<Global>],
 }
 
 /// The line of an entry by its place in the log, from 0: the header of a log is line 1.
@@ -51,9 +51,9 @@ fn line_at(place: usize) -> u64 {
     (place as u64).saturating_add(2)
 }
 
-impl<'l, A: Allocator + Copy> History<'l, A> {
+impl History<'_> {
     /// How many goals an entry adds.
-    fn added(&self, entry: &Event<A>) -> u64 {
+    fn added(&self, entry: &Event<Global>) -> u64 {
         match entry {
             Event::Post { .. } => 1,
             Event::Fire { rule, .. } => match self.program.rule(*rule as usize) {
@@ -128,7 +128,7 @@ impl<'l, A: Allocator + Copy> History<'l, A> {
 }
 
 /// What is wrong with the ticket of an entry.
-fn ticket_remark<A: Allocator + Copy>(history: &History<'_, A>, entry: &Event<A>) -> Remark {
+fn ticket_remark(history: &History<'_>, entry: &Event<Global>) -> Remark {
     let next = history.next_ticket();
     let (ticket, activates) = match entry {
         Event::Post { .. } => return Remark::Number("The next one is ", next, "."),
@@ -155,7 +155,7 @@ fn ticket_remark<A: Allocator + Copy>(history: &History<'_, A>, entry: &Event<A>
 }
 
 /// What is wrong with the label of an activation, or with the first label of a firing that is not in the store.
-fn label_remark<A: Allocator + Copy>(history: &History<'_, A>, entry: &Event<A>) -> Option<Remark> {
+fn label_remark(history: &History<'_>, entry: &Event<Global>) -> Option<Remark> {
     let next = history.next_label();
     let Event::Fire { kept, removed, .. } = entry else {
         return Some(Remark::Number("The next one is ", next, "."));
@@ -181,73 +181,67 @@ fn is_repeated(kept: &[Label], removed: &[Label]) -> bool {
         || removed.iter().any(|label| 1 < times(removed, *label))
 }
 
-/// Why the labels of a firing by the goal of the label `own` are no instance.
-fn firing_remark<A: Allocator + Copy>(
-    program: &Program<A>,
-    own: Label,
-    number: u16,
-    kept: &[Label],
-    removed: &[Label],
-) -> Remark {
-    let Some(rule) = program.rule(number as usize) else {
-        let rules = program.len() as u64;
-        return Remark::Number("The last rule of the program is rule ", rules, ".");
+/// Why the labels of a firing are no instance.
+fn firing_remark(history: &History<'_>, entry: &Event<Global>) -> Option<Remark> {
+    let Event::Fire {
+        ticket,
+        rule: number,
+        kept,
+        removed,
+    } = entry
+    else {
+        return None;
+    };
+    let (_, own) = history.activation(*ticket)?;
+    let (kept, removed) = (kept.as_slice(), removed.as_slice());
+    let Some(rule) = history.program.rule(*number as usize) else {
+        let rules = history.program.len() as u64;
+        return Some(Remark::Number("The last rule of the program is rule ", rules, "."));
     };
     let (keeps, removes) = (rule.kept().len(), rule.removed().len());
-    if keeps != kept.len() || removes != removed.len() {
-        return Remark::Heads {
-            rule: number,
+    Some(if keeps != kept.len() || removes != removed.len() {
+        Remark::Heads {
+            rule: *number,
             keeps,
             removes,
-        };
-    }
-    if !kept.contains(&own) && !removed.contains(&own) {
-        return Remark::Number("The goal's own label is ", own, ".");
-    }
-    if is_repeated(kept, removed) {
-        return Remark::Plain("One label stands at two heads.");
-    }
-    Remark::Number(
-        "The constraints don't match the heads of rule ",
-        u64::from(number),
-        ", or its guard doesn't hold, or its body has no value.",
-    )
+        }
+    } else if !kept.contains(&own) && !removed.contains(&own) {
+        Remark::Number("The goal's own label is ", own, ".")
+    } else if is_repeated(kept, removed) {
+        Remark::Plain("One label stands at two heads.")
+    } else {
+        Remark::Number(
+            "The constraints don't match the heads of rule ",
+            u64::from(*number),
+            ", or its guard doesn't hold, or its body has no value.",
+        )
+    })
+}
+
+/// Why a goal can't be dropped.
+fn drop_remark(history: &History<'_>, entry: &Event<Global>) -> Option<Remark> {
+    let Event::Drop { ticket } = entry else {
+        return None;
+    };
+    let (_, own) = history.activation(*ticket)?;
+    Some(Remark::Number("It stands under label ", own, "."))
 }
 
 /// What is wrong with an entry, by its kind of fault.
-fn entry_remark<A: Allocator + Copy>(
-    history: &History<'_, A>,
-    kind: Kind,
-    entry: &Event<A>,
-) -> Option<Remark> {
-    match (kind, entry) {
-        (Kind::BadTicket, _) => Some(ticket_remark(history, entry)),
-        (Kind::BadLabel, _) => label_remark(history, entry),
-        (
-            Kind::NoInstance,
-            Event::Fire {
-                ticket,
-                rule,
-                kept,
-                removed,
-            },
-        ) => {
-            let (_, own) = history.activation(*ticket)?;
-            let (kept, removed) = (kept.as_slice(), removed.as_slice());
-            Some(firing_remark(history.program, own, *rule, kept, removed))
-        }
-        (Kind::StillApplies, Event::Drop { ticket }) => {
-            let (_, own) = history.activation(*ticket)?;
-            Some(Remark::Number("It stands under label ", own, "."))
-        }
-        _ => None,
+fn entry_remark(history: &History<'_>, kind: Kind, entry: &Event<Global>) -> Option<Remark> {
+    match kind {
+        Kind::BadTicket => Some(ticket_remark(history, entry)),
+        Kind::BadLabel => label_remark(history, entry),
+        Kind::NoInstance => firing_remark(history, entry),
+        Kind::StillApplies => drop_remark(history, entry),
+        Kind::StoreDiffers => None,
     }
 }
 
 /// What the entries before a refused one tell of it.
-fn remark_on<A: Allocator + Copy>(
-    program: &Program<A>,
-    events: &[Event<A>],
+fn remark_on(
+    program: &Program<Global>,
+    events: &[Event<Global>],
     fault: CheckFault,
 ) -> Option<Remark> {
     if fault.place == Place::Store || fault.line < 2 {
@@ -264,11 +258,11 @@ fn remark_on<A: Allocator + Copy>(
 
 /// Returns which ticket or label of a refused entry is wrong, and what would be right or why, as a sentence. None where
 /// the fault is in the store, the entries before the refused one tell no more than its kind, or memory is refused.
-pub fn told<A: Allocator + Copy, B: Allocator + Copy>(
-    alloc: B,
-    program: &Program<A>,
-    events: &[Event<A>],
+pub fn told(
+    alloc: Global,
+    program: &Program<Global>,
+    events: &[Event<Global>],
     fault: CheckFault,
-) -> Option<String<B>> {
+) -> Option<String> {
     sentence(alloc, remark_on(program, events, fault)?).ok()
 }
