@@ -1,3 +1,4 @@
 pub mod Grouped
+pub mod Rooms
 pub mod Texts
 pub mod Ticks

@@ -1,7 +1,7 @@
 //! The whole text of a picture.
 ghost use Rattle.std.specs.Prelude.{◌≡◌, ◌++◌, ◌≤◌, ◌+◌, [], length, IfOk, OnOk};
-ghost use Rattle.chr_picture.specs.Layouts.{pair_of, pairs_of, room, most_room, most_rows};
-ghost use Rattle.chr_picture.specs.Svg.{with_predicate, predicates_of, layout_of, width_of, plot, below, picture_text};
+ghost use Rattle.chr_picture.specs.Layouts.{pair_of, pairs_of, label_text, room, most_room, most_rows};
+ghost use Rattle.chr_picture.specs.Svg.{with_predicate, predicates_of, layout_of, width_of, plot, below, laid_out, picture_text};
 
 use crate::layout::{Layout, MOST_LETTERS, every_of, index_of, step_of, y_of};
 use crate::picture::{Picture, Row};
@@ -27,6 +27,21 @@ fn room(letters: usize, step: u8, since: Option<u32>) -> u16
     width.saturating_sub(offset) as u16
 }
 
+/// What the name of a row needs to the left of where the columns begin. An `Err` is E01.
+fn room_of<A: Allocator + Copy>(
+    alloc: A,
+    names: &Names<A>,
+    step: u8,
+    row: &Row<A>,
+) -> Result<u16, AllocError>
+    ensures room { IfOk result (λ needed. needed ≡ room (length (label_text names.now row.now)) step row.now.since) }
+    ensures few { IfOk result (λ needed. needed ≤ 4_480) }
+{
+    let mut text = Vec::new(alloc);
+    put_label(&mut text, names, row)?;
+    Ok(room(text.len(), step, row.since))
+}
+
 /// The most that the names of rows need to the left of where the columns begin. An `Err` is E01.
 fn most_room<A: Allocator + Copy>(
     alloc: A,
@@ -39,9 +54,7 @@ fn most_room<A: Allocator + Copy>(
 {
     let mut most = 0;
     for row in rows {
-        let mut text = Vec::new(alloc);
-        put_label(&mut text, names, row)?;
-        most = room(text.len(), step, row.since).max(most);
+        most = room_of(alloc, names, step, row)?.max(most);
     }
     Ok(most)
 }
@@ -133,8 +146,26 @@ fn put_below<A: Allocator + Copy>(
     put_words(out, Words::PictureEnd)
 }
 
-/// Writes the text of a picture after the bytes that are there. An `Err` is E01, and part of the text may follow them.
+/// The text of a picture by its layout, with the predicates of its rows.
 #[tactic(auto, using(crate::proofs::Grouped::grouping))]
+fn put_laid_out<A: Allocator + Copy>(
+    out: &mut Vec<u8, A>,
+    names: &Names<A>,
+    layout: &Layout,
+    preds: &[Pred],
+    picture: &Picture<A>,
+) -> Result<(), AllocError>
+    requires rows { length picture.now.rows.items ≤ most_rows }
+    requires preds { length preds.now ≤ most_rows }
+    ensures { OnOk result (out.new.items ≡ out.old.items ++ laid_out names.now layout.now (pairs_of preds.now) picture.now) }
+{
+    let rows = picture.rows.len();
+    put_head(out, width_of(layout), y_of(rows + preds.len() + 4))?;
+    put_plot(out, names, layout, preds, picture)?;
+    put_below(out, names, layout, preds, picture.total, rows)
+}
+
+/// Writes the text of a picture after the bytes that are there. An `Err` is E01, and part of the text may follow them.
 pub fn write_picture<A: Allocator + Copy>(
     alloc: A,
     out: &mut Vec<u8, A>,
@@ -144,10 +175,7 @@ pub fn write_picture<A: Allocator + Copy>(
     requires { length picture.now.rows.items ≤ most_rows }
     ensures { OnOk result (out.new.items ≡ out.old.items ++ picture_text names.now picture.now) }
 {
-    let rows = picture.rows.len();
-    let preds = predicates(alloc, &picture.rows)?;
     let layout = layout_of(alloc, names, picture)?;
-    put_head(out, width_of(&layout), y_of(rows + preds.len() + 4))?;
-    put_plot(out, names, &layout, &preds, picture)?;
-    put_below(out, names, &layout, &preds, picture.total, rows)
+    let preds = predicates(alloc, &picture.rows)?;
+    put_laid_out(out, names, &layout, &preds, picture)
 }
