@@ -4,7 +4,7 @@ use crate::message::{Detail, Fault, Source, Text, part_message, refusal_message}
 use crate::progress::Progress;
 use crate::refused;
 use crate::report::{Status, print, report_fault, report_no_memory};
-use crate::task::{Task, read_and_do};
+use crate::task::{Task, read_and_carry_out};
 use chr_check::fault::{CheckFault, Place};
 use chr_check_text::{CheckPartsFault, Checked, watched_check_parts};
 use chr_log_text::read_log_in_parts;
@@ -211,5 +211,5 @@ pub fn check<R: Files + Clock + Input + Print + Eprint + AllocGlobal>(
         (Text::Store, store),
         (Text::Log, log),
     ];
-    read_and_do(rt, detail, Task::Check, &paths, Text::Log, more)
+    read_and_carry_out(rt, detail, Task::Check, &paths, Text::Log, more)
 }

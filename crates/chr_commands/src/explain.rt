@@ -3,7 +3,7 @@ use crate::check::report_refusal;
 use crate::message::{Detail, Fault, Source, Text};
 use crate::progress::Progress;
 use crate::report::{Status, print, report_fault, report_no_memory};
-use crate::task::{Task, read_and_do};
+use crate::task::{Task, read_and_carry_out};
 use chr_explain_text::{ExplainFault, Question, watched_explain_text};
 use chr_log::Label;
 use std::rt::{Clock, Files};
@@ -47,5 +47,5 @@ pub fn explain<R: Files + Clock + Input + Print + Eprint + AllocGlobal>(
     question: Question,
 ) -> Status {
     let paths = [(Text::Program, file), (Text::Log, log)];
-    read_and_do(rt, detail, Task::Explain(question), &paths, Text::Log, &[])
+    read_and_carry_out(rt, detail, Task::Explain(question), &paths, Text::Log, &[])
 }

@@ -3,7 +3,7 @@ use crate::check::report_refusal;
 use crate::message::{Detail, Fault, Source, Text};
 use crate::progress::Progress;
 use crate::report::{Status, print, report_fault, report_no_memory};
-use crate::task::{Task, read_and_do};
+use crate::task::{Task, read_and_carry_out};
 use chr_picture_text::{PictureFault, Range, watched_draw_text};
 use std::rt::{Clock, Files};
 
@@ -48,5 +48,5 @@ pub fn picture<R: Files + Clock + Input + Print + Eprint + AllocGlobal>(
     range: Range,
 ) -> Status {
     let paths = [(Text::Program, file), (Text::Log, log)];
-    read_and_do(rt, detail, Task::Draw(range), &paths, Text::Log, &[])
+    read_and_carry_out(rt, detail, Task::Draw(range), &paths, Text::Log, &[])
 }

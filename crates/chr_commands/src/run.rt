@@ -3,7 +3,7 @@ use crate::files::texts;
 use crate::message::{Detail, Fault, Source, Text};
 use crate::progress::Progress;
 use crate::report::{Status, print, report_failure, report_fault, report_no_memory};
-use crate::task::{Task, read_and_do};
+use crate::task::{Task, read_and_carry_out};
 use chr_command_line::RunOptions;
 use chr_run_text::{Ran, RunTextsFault, Show, watched_run_texts};
 use chr_solo::End;
@@ -120,5 +120,5 @@ pub fn run<R: Files + Clock + Input + Print + Eprint + AllocGlobal>(
     options: RunOptions<'_>,
 ) -> Status {
     let paths = [(Text::Program, file), (Text::Posts, posts)];
-    read_and_do(rt, detail, Task::Run(options), &paths, Text::Posts, more)
+    read_and_carry_out(rt, detail, Task::Run(options), &paths, Text::Posts, more)
 }

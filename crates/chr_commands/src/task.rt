@@ -25,8 +25,8 @@ pub enum Task<'a> {
     Draw(Range),
 }
 
-/// Does it with the texts.
-fn do_with<'s, R: Files + Clock + Print + Eprint + AllocGlobal>(
+/// Carries out a task with its texts.
+fn carry_out<'s, R: Files + Clock + Print + Eprint + AllocGlobal>(
     rt: &R,
     detail: Detail,
     task: Task<'_>,
@@ -43,8 +43,8 @@ fn do_with<'s, R: Files + Clock + Print + Eprint + AllocGlobal>(
     }
 }
 
-/// Does it with the texts of the files that were read.
-fn do_with_files<R: Files + Clock + Print + Eprint + AllocGlobal>(
+/// Carries out a task with the texts of the files that were read.
+fn carry_out_on_files<R: Files + Clock + Print + Eprint + AllocGlobal>(
     rt: &R,
     detail: Detail,
     task: Task<'_>,
@@ -52,13 +52,13 @@ fn do_with_files<R: Files + Clock + Print + Eprint + AllocGlobal>(
     files: &[Vec<u8>],
 ) -> Status {
     match sources(rt.alloc(), paths, files) {
-        Ok(texts) => do_with(rt, detail, task, &texts),
+        Ok(texts) => carry_out(rt, detail, task, &texts),
         Err(AllocError) => report_no_memory(rt, detail),
     }
 }
 
-/// Reads some files, and after them further ones of one kind of text, and does the task with their texts.
-pub fn read_and_do<R: Files + Clock + Input + Print + Eprint + AllocGlobal>(
+/// Reads some files, and after them further ones of one kind of text, and carries out a task with their texts.
+pub fn read_and_carry_out<R: Files + Clock + Input + Print + Eprint + AllocGlobal>(
     rt: &R,
     detail: Detail,
     task: Task<'_>,
@@ -71,7 +71,7 @@ pub fn read_and_do<R: Files + Clock + Input + Print + Eprint + AllocGlobal>(
     };
     let fetched = fetch_all(rt, &paths);
     match &fetched {
-        Ok(files) => do_with_files(rt, detail, task, &paths, files),
+        Ok(files) => carry_out_on_files(rt, detail, task, &paths, files),
         Err(unread) => report_failure(rt, detail, called(unread.path), &unread.error),
     }
 }
