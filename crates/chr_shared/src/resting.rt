@@ -1,11 +1,10 @@
 //! How workers rest, and sessions wait for them.
 use crate::shared::Shared;
-use crate::sleepers::{HOLDS_A_LOOK, Sleepers};
 use chr_seats::PostLedger;
 use std::alloc::Allocator;
-use std::sync::Wait;
 use std::sync::atomic::Ordering;
 use std::sync::ledger::Ledger;
+use std::sync::{Condvar, Wait};
 use std::thread;
 
 /// How a rest ended.
@@ -17,30 +16,23 @@ pub enum Rest {
     Over,
 }
 
+/// Tells so many of those that sleep there.
+fn notify(condvar: &Condvar, count: u32) {
+    for _ in 0..count {
+        condvar.notify_one();
+    }
+}
+
 impl<L1: PostLedger, L2: Ledger, A: Allocator + Copy> Shared<L1, L2, A> {
     /// A worker begins to work.
     pub fn begin<R: Wait>(&self, rt: &R) {
         self.locked.lock(rt).sleepers.begin();
     }
 
-    /// Tells those that may wait for it that no worker is awake, where that is so.
-    fn tell_last(&self, sleepers: &Sleepers) {
-        if sleepers.awake != 0 {
-            return;
-        }
-        if sleepers.together > 0 {
-            self.rested.notify_all();
-        }
-        if sleepers.watching > 0 {
-            self.watched.notify_all();
-        }
-    }
-
     /// A worker that works ends.
     pub fn end<R: Wait>(&self, rt: &R) {
         let mut locked = self.locked.lock(rt);
-        locked.sleepers.end();
-        self.tell_last(&locked.sleepers);
+        locked.sleepers.end(&self.rested, &self.watched);
     }
 
     /// There is something new to take: all workers that rest look again.
@@ -55,9 +47,7 @@ impl<L1: PostLedger, L2: Ledger, A: Allocator + Copy> Shared<L1, L2, A> {
         self.news.fetch_add(1, Ordering::SeqCst);
         let told = locked.sleepers.tell(most);
         drop(locked);
-        for _ in 0..told {
-            self.rested.notify_one();
-        }
+        notify(&self.rested, told);
     }
 
     /// How often there was something new to take. What was announced before this call is found by looking after it; what
@@ -76,8 +66,7 @@ impl<L1: PostLedger, L2: Ledger, A: Allocator + Copy> Shared<L1, L2, A> {
     pub fn rest<R: Wait>(&self, rt: &R, seen: u64) -> Rest {
         let mut locked = self.locked.lock(rt);
         if self.news() == seen {
-            locked.sleepers.rest();
-            self.tell_last(&locked.sleepers);
+            locked.sleepers.rest(&self.rested, &self.watched);
             for _ in rt.forever() {
                 if locked.sleepers.told > 0 || self.is_closed() {
                     break;
@@ -87,8 +76,7 @@ impl<L1: PostLedger, L2: Ledger, A: Allocator + Copy> Shared<L1, L2, A> {
             locked.sleepers.wake();
         }
         if self.is_closed() {
-            locked.sleepers.end();
-            self.tell_last(&locked.sleepers);
+            locked.sleepers.end(&self.rested, &self.watched);
             return Rest::Over;
         }
         Rest::News
@@ -101,21 +89,18 @@ impl<L1: PostLedger, L2: Ledger, A: Allocator + Copy> Shared<L1, L2, A> {
         if self.news() != seen {
             return Rest::News;
         }
-        locked.sleepers.rest();
-        self.tell_last(&locked.sleepers);
-        locked.sleepers.together = locked.sleepers.together.saturating_add(1);
+        locked.sleepers.rest_together(&self.rested, &self.watched);
         for _ in rt.forever() {
-            if locked.sleepers.told > 0 || locked.sleepers.awake == 0 {
+            if locked.sleepers.is_rest_over() {
                 break;
             }
             locked = self.rested.wait(rt, locked);
         }
-        locked.sleepers.together = locked.sleepers.together.saturating_sub(1);
-        if locked.sleepers.wake() {
-            return Rest::News;
+        if locked.sleepers.wake_together() {
+            Rest::News
+        } else {
+            Rest::Over
         }
-        locked.sleepers.end();
-        Rest::Over
     }
 
     /// How many holds seats have made, modulo 2^64. What is seen after this call tells of all of them.
@@ -128,24 +113,24 @@ impl<L1: PostLedger, L2: Ledger, A: Allocator + Copy> Shared<L1, L2, A> {
     /// there may be something new: false only once a worker has begun, none is awake and there was no hold since.
     pub fn watch<R: Wait>(&self, rt: &R, seen: u64) -> bool {
         let mut locked = self.locked.lock(rt);
-        if locked.sleepers.awake == 0 {
-            if locked.sleepers.begun && locked.sleepers.holds == seen {
-                return false;
-            }
+        let sleepers = &mut locked.sleepers;
+        if sleepers.awake == 0 {
+            let more = !sleepers.begun || sleepers.holds != seen;
             drop(locked);
-            thread::yield_now();
-            return true;
+            if more {
+                thread::yield_now();
+            }
+            return more;
         }
-        locked.sleepers.watching = locked.sleepers.watching.saturating_add(1);
+        sleepers.watching = sleepers.watching.saturating_add(1);
         for _ in rt.forever() {
-            if locked.sleepers.awake == 0
-                || locked.sleepers.holds.wrapping_sub(seen) >= HOLDS_A_LOOK
-            {
+            if locked.sleepers.is_watch_over(seen) {
                 break;
             }
             locked = self.watched.wait(rt, locked);
         }
-        locked.sleepers.watching = locked.sleepers.watching.saturating_sub(1);
+        let sleepers = &mut locked.sleepers;
+        sleepers.watching = sleepers.watching.saturating_sub(1);
         true
     }
 

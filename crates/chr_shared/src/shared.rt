@@ -35,7 +35,6 @@ pub(crate) struct Locked<L1: PostLedger, L2: Ledger, A: Allocator> {
 }
 
 /// One lock over a book, or over none yet, for the holders of seats.
-#[derive(Drop)]
 pub struct Shared<L1: PostLedger, L2: Ledger, A: Allocator> {
     pub(crate) locked: Mutex<Locked<L1, L2, A>>,
     /// Where workers sleep.
@@ -47,6 +46,19 @@ pub struct Shared<L1: PostLedger, L2: Ledger, A: Allocator> {
     pub(crate) news: AtomicU64,
     /// Whether workers that wait for the end are to end.
     pub(crate) closed: AtomicBool,
+}
+
+// Not derived, as for a book.
+impl<L1: PostLedger, L2: Ledger, A: Allocator> Drop for Shared<L1, L2, A> {
+    fn drop(self) {
+        let Shared {
+            locked: _,
+            rested: _,
+            watched: _,
+            news: _,
+            closed: _,
+        } = self;
+    }
 }
 
 impl<L1: PostLedger, L2: Ledger, A: Allocator + Copy> Shared<L1, L2, A> {
@@ -111,7 +123,14 @@ impl<L1: PostLedger, L2: Ledger, A: Allocator + Copy> Shared<L1, L2, A> {
 
     /// What is under the lock, once no other thread has it.
     pub fn into_kept(self) -> Kept<L1, L2, A> {
-        self.locked.into_inner().kept
+        let Shared {
+            locked,
+            rested: _,
+            watched: _,
+            news: _,
+            closed: _,
+        } = self;
+        locked.into_inner().kept
     }
 
     /// Ends with all 32 seats back, and lets go of the book and of them. Their counts add up to what these seats have made in

@@ -1,7 +1,8 @@
 //! Who works, and who sleeps.
+use std::sync::Condvar;
 
 /// The least number of holds through which a session that waits sleeps while a worker is awake.
-pub const HOLDS_A_LOOK: u64 = 64;
+const HOLDS_A_LOOK: u64 = 64;
 
 /// How many work, and how many sleep for what. It is kept under the lock.
 #[derive(Default, Drop)]
@@ -37,9 +38,23 @@ impl Sleepers {
         self.awake = self.awake.saturating_add(1);
     }
 
-    /// A worker that works ends.
-    pub fn end(&mut self) {
+    /// Tells those that may wait for it that no worker is awake, where that is so.
+    fn tell_last(&self, rested: &Condvar, watched: &Condvar) {
+        if self.awake != 0 {
+            return;
+        }
+        if self.together > 0 {
+            rested.notify_all();
+        }
+        if self.watching > 0 {
+            watched.notify_all();
+        }
+    }
+
+    /// A worker that works ends. Where none is awake then, those that wait for that are told.
+    pub fn end(&mut self, rested: &Condvar, watched: &Condvar) {
         self.awake = self.awake.saturating_sub(1);
+        self.tell_last(rested, watched);
     }
 
     /// As many of the workers that rest are told, or all of them, and awake from now on. Returns how many.
@@ -51,20 +66,49 @@ impl Sleepers {
         told
     }
 
-    /// A worker that works sleeps.
-    pub fn rest(&mut self) {
+    /// A worker that works sleeps. Where none is awake then, those that wait for that are told.
+    pub fn rest(&mut self, rested: &Condvar, watched: &Condvar) {
         self.awake = self.awake.saturating_sub(1);
         self.resting = self.resting.saturating_add(1);
+        self.tell_last(rested, watched);
     }
 
-    /// A worker that sleeps wakes up. Whether one was told to.
-    pub fn wake(&mut self) -> bool {
+    /// The same of one that ends where no worker is awake.
+    pub fn rest_together(&mut self, rested: &Condvar, watched: &Condvar) {
+        self.rest(rested, watched);
+        self.together = self.together.saturating_add(1);
+    }
+
+    /// A worker that sleeps wakes up, and works.
+    pub fn wake(&mut self) {
         if self.told > 0 {
             self.told -= 1;
-            return true;
+        } else {
+            self.resting = self.resting.saturating_sub(1);
+            self.awake = self.awake.saturating_add(1);
         }
-        self.resting = self.resting.saturating_sub(1);
-        self.awake = self.awake.saturating_add(1);
-        false
+    }
+
+    /// Whether a rest together with others is over: a worker that rests was told to work, or none is awake.
+    pub fn is_rest_over(&self) -> bool {
+        self.told > 0 || self.awake == 0
+    }
+
+    /// A worker that rested together with others wakes up. Whether it was told to, and works; else it has ended.
+    pub fn wake_together(&mut self) -> bool {
+        self.together = self.together.saturating_sub(1);
+        let told = self.told > 0;
+        if told {
+            self.told -= 1;
+        } else {
+            self.resting = self.resting.saturating_sub(1);
+        }
+        told
+    }
+
+    /// Whether the sleep of a session that saw the book after `seen` holds is over: no worker is awake, or there have been 64
+    /// holds since.
+    pub fn is_watch_over(&self, seen: u64) -> bool {
+        self.awake == 0 || self.holds.wrapping_sub(seen) >= HOLDS_A_LOOK
     }
 }
