@@ -25,3 +25,26 @@ pub enum Stop {
     /// there may be one.
     Closed,
 }
+
+impl Stop {
+    /// Takes so many turns, or fewer where no more are left; none where the crew is closed. Returns how many.
+    pub(crate) fn spend(&mut self, turns: u64, closed: bool) -> u64 {
+        match self {
+            Stop::Turns(left) => {
+                let taken = turns.min(*left);
+                *left -= taken;
+                taken
+            }
+            Stop::Closed if closed => 0,
+            Stop::Closed => turns,
+        }
+    }
+
+    /// Whether a worker takes no ticket any more, of a crew that is closed or isn't.
+    pub(crate) fn is_over(self, closed: bool) -> bool {
+        match self {
+            Stop::Turns(left) => left == 0,
+            Stop::Closed => closed,
+        }
+    }
+}

@@ -5,15 +5,16 @@ ghost use Rattle.chr_pool.specs.Hands.{hand_id};
 use crate::gate::{Gate, Stop};
 use chr_book::MOST_IN_BATCH;
 use chr_calls::{
-    ClaimFault, DropFault, Dropping, FireFault, Fired, Firing, Following, PutDownFault, Sheet,
-    Turn, TurnFault,
+    BatchReport, ClaimFault, DropFault, Dropping, FireFault, Fired, Firing, Following,
+    PutDownFault, Sheet, SheetReport, Turn, TurnFault,
 };
 use chr_pool::Hand;
 use chr_search::Judged;
 use chr_seats::{HoldFault, PostLedger, Seat};
 use chr_shared::Shared;
 use chr_sheet::{Judgements, Watch, judge};
-use std::alloc::{AllocError, Allocator};
+use chr_store::Label;
+use std::alloc::Allocator;
 use std::sync::Wait;
 use std::sync::ledger::Ledger;
 
@@ -50,7 +51,6 @@ impl<'g, G: Gate> Watch for AtTicket<'g, G> {
 }
 
 /// A call that comes next for a ticket.
-#[derive(Drop)]
 enum Call<A: Allocator> {
     /// Claims the ticket, and asks for its first trials.
     Claim,
@@ -64,6 +64,15 @@ enum Call<A: Allocator> {
     Drop,
 }
 
+// Not derived: letting a call go is then one call, which is proved here once.
+impl<A: Allocator> Drop for Call<A> {
+    fn drop(self) {
+        match self {
+            Call::Report(_) | Call::Fire(_) | Call::Claim | Call::Sheet | Call::Drop => {}
+        }
+    }
+}
+
 impl<A: Allocator> Call<A> {
     /// How many turns it takes at most.
     fn turns(&self) -> u64 {
@@ -72,6 +81,16 @@ impl<A: Allocator> Call<A> {
             Call::Sheet | Call::Fire(_) | Call::Drop => 1,
         }
     }
+}
+
+/// What comes after a call.
+enum After<A: Allocator> {
+    /// Another call.
+    Call(Call<A>),
+    /// The tickets of a firing are dealt with.
+    Fired(Fired),
+    /// The ticket is left so.
+    Left(Left),
 }
 
 /// How many trials the sheet after so many judgements has at most: twice as many, so that a goal of many trials takes few
@@ -98,12 +117,13 @@ fn left_without_turn(fault: TurnFault) -> Left {
 
 /// Fires the one judgement of a sheet where it is whole, since its trial is the candidate then; else reports them all.
 fn fire_or_report<A: Allocator + Copy>(judgements: Judgements<A>) -> Call<A> {
-    if !judgements.others().is_empty() || judgements.whole().is_none() {
-        return Call::Report(judgements);
-    }
-    match judgements.into_whole() {
-        Some(judged) => Call::Fire(judged),
-        None => Call::Sheet,
+    if judgements.others().is_empty() && judgements.whole().is_some() {
+        match judgements.into_whole() {
+            Some(judged) => Call::Fire(judged),
+            None => Call::Sheet,
+        }
+    } else {
+        Call::Report(judgements)
     }
 }
 
@@ -112,106 +132,149 @@ fn judge_sheet<A: Allocator + Copy, G: Gate>(
     gate: &G,
     ticket: u64,
     given: Result<Sheet<A>, TurnFault>,
-) -> Result<Call<A>, Left> {
+) -> After<A> {
     match given {
-        Err(fault) => Err(left_without_turn(fault)),
+        Err(fault) => After::Left(left_without_turn(fault)),
         Ok(Sheet::Trials(trials)) => {
             let alloc = *trials.allocator();
             match judge(alloc, trials, &AtTicket { gate, ticket }) {
-                Ok(judgements) => Ok(fire_or_report(judgements)),
-                Err(_) => Err(Left::Want),
+                Ok(judgements) => After::Call(fire_or_report(judgements)),
+                Err(_) => After::Left(Left::Want),
             }
         }
-        Ok(Sheet::Done | Sheet::Gone) => Ok(Call::Drop),
+        Ok(Sheet::Done | Sheet::Gone) => After::Call(Call::Drop),
     }
 }
 
-/// How a worker leaves a ticket that it couldn't claim. Where memory or labels run out, it is marked stray.
-fn left_unclaimed<L1: PostLedger, L2: Ledger, A: Allocator + Copy, R: Wait>(
-    rt: &R,
-    shared: &Shared<L1, L2, A>,
-    ticket: u64,
-    fault: ClaimFault,
-) -> Left {
+/// How a worker leaves a ticket that it couldn't claim.
+fn left_unclaimed(fault: ClaimFault) -> Left {
     match fault {
         ClaimFault::NotWaiting(_) => Left::Free,
-        ClaimFault::LabelsSpent | ClaimFault::NoMemory => {
-            let _ = shared.mark_stray(rt, ticket);
-            Left::Want
-        }
+        ClaimFault::LabelsSpent | ClaimFault::NoMemory => Left::Want,
     }
 }
 
-/// Claims the ticket, without its first trials.
-fn claim_alone<L1: PostLedger, L2: Ledger, A: Allocator + Copy, R: Wait>(
-    rt: &R,
-    shared: &Shared<L1, L2, A>,
-    seat: &mut Seat<L1, L2>,
-    ticket: u64,
-) -> Result<Call<A>, Left>
-    ensures number { seat.new.number ≡ seat.old.number }
-    ensures posts { seat.new.counts.posts ≡ seat.old.counts.posts }
-{
-    match shared.claim(rt, seat, ticket) {
-        Ok(Ok(_)) => Ok(Call::Sheet),
-        Ok(Err(fault)) => Err(left_unclaimed(rt, shared, ticket, fault)),
-        Err(fault) => Err(left_by(fault)),
+/// What comes after a claim.
+fn after_claim<A: Allocator>(answer: Result<Result<Label, ClaimFault>, HoldFault>) -> After<A> {
+    match answer {
+        Ok(Ok(_)) => After::Call(Call::Sheet),
+        Ok(Err(fault)) => After::Left(left_unclaimed(fault)),
+        Err(fault) => After::Left(left_by(fault)),
     }
 }
 
-/// Claims the ticket, and judges its first trials when the lock is given back.
-fn claim<L1: PostLedger, L2: Ledger, A: Allocator + Copy, R: Wait, G: Gate>(
-    rt: &R,
-    shared: &Shared<L1, L2, A>,
-    seat: &mut Seat<L1, L2>,
+/// What comes after a claim that gives the first trials, which are judged here.
+fn after_claim_sheet<A: Allocator + Copy, G: Gate>(
     gate: &G,
     ticket: u64,
-) -> Result<Call<A>, Left>
-    ensures number { seat.new.number ≡ seat.old.number }
-    ensures posts { seat.new.counts.posts ≡ seat.old.counts.posts }
-{
-    match shared.claim_sheet(rt, seat, ticket, FIRST_SHEET) {
+    answer: Result<Result<Result<Sheet<A>, TurnFault>, ClaimFault>, HoldFault>,
+) -> After<A> {
+    match answer {
         Ok(Ok(given)) => judge_sheet(gate, ticket, given),
-        Ok(Err(fault)) => Err(left_unclaimed(rt, shared, ticket, fault)),
-        Err(fault) => Err(left_by(fault)),
+        Ok(Err(fault)) => After::Left(left_unclaimed(fault)),
+        Err(fault) => After::Left(left_by(fault)),
     }
 }
 
-/// Asks for the next trials, and judges them when the lock is given back.
-fn ask<L1: PostLedger, L2: Ledger, A: Allocator + Copy, R: Wait, G: Gate>(
+/// What comes after the next trials were asked for, which are judged here.
+fn after_sheet<A: Allocator + Copy, G: Gate>(
+    gate: &G,
+    ticket: u64,
+    answer: Result<Result<Sheet<A>, TurnFault>, HoldFault>,
+) -> After<A> {
+    match answer {
+        Ok(given) => judge_sheet(gate, ticket, given),
+        Err(fault) => After::Left(left_by(fault)),
+    }
+}
+
+/// What comes after a report alone.
+fn after_report<A: Allocator>(answer: Result<BatchReport<A>, HoldFault>) -> After<A> {
+    match answer {
+        Ok(report) => match report.next {
+            Ok(Turn::Trial(_)) => After::Call(Call::Sheet),
+            Ok(Turn::Done | Turn::Gone) => After::Call(Call::Drop),
+            Err(fault) => After::Left(left_without_turn(fault)),
+        },
+        Err(fault) => After::Left(left_by(fault)),
+    }
+}
+
+/// What comes after a firing.
+fn after_firing<A: Allocator>(answer: Result<Firing, FireFault>) -> After<A> {
+    match answer {
+        Ok(Firing::Fired(fired)) => After::Fired(fired),
+        Ok(Firing::Missed) | Err(FireFault::Stale | FireFault::NotWhole) => {
+            After::Call(Call::Sheet)
+        }
+        Err(FireFault::NoMemory) => After::Left(Left::Want),
+        Err(FireFault::NotHeld) => After::Left(Left::Free),
+    }
+}
+
+/// What comes after a goal was to be dropped.
+fn after_dropping<A: Allocator>(answer: Result<Dropping, DropFault>) -> After<A> {
+    match answer {
+        Ok(Dropping::Unfinished) => After::Call(Call::Sheet),
+        Ok(Dropping::Dropped) | Err(DropFault::NotHeld) => After::Left(Left::Free),
+        Err(DropFault::NoMemory) => After::Left(Left::Want),
+    }
+}
+
+/// What comes after a report with the call that follows. Trials that it gives are judged here.
+fn after_report_sheet<A: Allocator + Copy, G: Gate>(
+    gate: &G,
+    ticket: u64,
+    answer: Result<SheetReport<A>, HoldFault>,
+) -> After<A> {
+    match answer {
+        Ok(report) => match report.following {
+            Following::Fire(answer) => after_firing(answer),
+            Following::Drop(answer) => after_dropping(answer),
+            Following::Sheet(given) => judge_sheet(gate, ticket, given),
+            Following::Nothing(fault) => After::Left(left_without_turn(fault)),
+        },
+        Err(fault) => After::Left(left_by(fault)),
+    }
+}
+
+/// Makes a call that may take so many turns. What it gives is judged when the lock is given back.
+fn make<L1: PostLedger, L2: Ledger, A: Allocator + Copy, R: Wait, G: Gate>(
     rt: &R,
     shared: &Shared<L1, L2, A>,
     seat: &mut Seat<L1, L2>,
     gate: &G,
     ticket: u64,
-) -> Result<Call<A>, Left>
+    call: &Call<A>,
+    turns: u64,
+) -> After<A>
     ensures number { seat.new.number ≡ seat.old.number }
     ensures posts { seat.new.counts.posts ≡ seat.old.counts.posts }
 {
-    match shared.sheet(rt, seat, ticket, FIRST_SHEET) {
-        Ok(given) => judge_sheet(gate, ticket, given),
-        Err(fault) => Err(left_by(fault)),
-    }
-}
-
-/// Reports judgements, and asks for the next trial, without the call that follows.
-fn report_alone<L1: PostLedger, L2: Ledger, A: Allocator + Copy, R: Wait>(
-    rt: &R,
-    shared: &Shared<L1, L2, A>,
-    seat: &mut Seat<L1, L2>,
-    ticket: u64,
-    judgements: &Judgements<A>,
-) -> Result<Call<A>, Left>
-    ensures number { seat.new.number ≡ seat.old.number }
-    ensures posts { seat.new.counts.posts ≡ seat.old.counts.posts }
-{
-    match shared.report_all(rt, seat, ticket, judgements) {
-        Ok(report) => match report.next {
-            Ok(Turn::Trial(_)) => Ok(Call::Sheet),
-            Ok(Turn::Done | Turn::Gone) => Ok(Call::Drop),
-            Err(fault) => Err(left_without_turn(fault)),
+    match call {
+        _ if turns == 0 => After::Left(Left::Spent),
+        Call::Claim if turns == 1 => after_claim(shared.claim(rt, seat, ticket)),
+        Call::Claim => {
+            let answer = shared.claim_sheet(rt, seat, ticket, FIRST_SHEET);
+            after_claim_sheet(gate, ticket, answer)
+        }
+        Call::Sheet => after_sheet(gate, ticket, shared.sheet(rt, seat, ticket, FIRST_SHEET)),
+        Call::Report(judgements) if turns == 1 => {
+            after_report(shared.report_all(rt, seat, ticket, judgements))
+        }
+        Call::Report(judgements) => {
+            let most = size_after(judgements.len());
+            let answer = shared.report_sheet(rt, seat, ticket, judgements, most);
+            after_report_sheet(gate, ticket, answer)
+        }
+        Call::Fire(judged) => match shared.fire(rt, seat, ticket, judged) {
+            Ok(answer) => after_firing(answer),
+            Err(fault) => After::Left(left_by(fault)),
         },
-        Err(fault) => Err(left_by(fault)),
+        Call::Drop => match shared.drop_goal(rt, seat, ticket) {
+            Ok(answer) => after_dropping(answer),
+            Err(fault) => After::Left(left_by(fault)),
+        },
     }
 }
 
@@ -238,131 +301,8 @@ fn push_new<L1: PostLedger, L2: Ledger, A: Allocator + Copy, R: Wait>(
     }
 }
 
-/// What comes after a firing was asked for.
-fn after_firing<L1: PostLedger, L2: Ledger, A: Allocator + Copy, R: Wait>(
-    rt: &R,
-    shared: &Shared<L1, L2, A>,
-    hand: &mut Hand<u64>,
-    answer: Result<Firing, FireFault>,
-) -> Result<Call<A>, Left>
-    ensures { hand_id hand.new ≡ hand_id hand.old }
-{
-    let fired = match answer {
-        Ok(Firing::Fired(fired)) => fired,
-        Ok(Firing::Missed) | Err(FireFault::Stale | FireFault::NotWhole) => {
-            return Ok(Call::Sheet);
-        }
-        Err(FireFault::NoMemory) => return Err(Left::Want),
-        Err(FireFault::NotHeld) => return Err(Left::Free),
-    };
-    push_new(rt, shared, hand, fired);
-    if fired.active_lives {
-        Ok(Call::Sheet)
-    } else {
-        Err(Left::Free)
-    }
-}
-
-/// What comes after a goal was to be dropped.
-fn after_dropping<A: Allocator>(answer: Result<Dropping, DropFault>) -> Result<Call<A>, Left> {
-    match answer {
-        Ok(Dropping::Unfinished) => Ok(Call::Sheet),
-        Ok(Dropping::Dropped) | Err(DropFault::NotHeld) => Err(Left::Free),
-        Err(DropFault::NoMemory) => Err(Left::Want),
-    }
-}
-
-/// Reports judgements, and judges the trials that come next when the lock is given back.
-fn report<L1: PostLedger, L2: Ledger, A: Allocator + Copy, R: Wait, G: Gate>(
-    rt: &R,
-    shared: &Shared<L1, L2, A>,
-    hand: &mut Hand<u64>,
-    seat: &mut Seat<L1, L2>,
-    gate: &G,
-    ticket: u64,
-    judgements: &Judgements<A>,
-) -> Result<Call<A>, Left>
-    ensures hand { hand_id hand.new ≡ hand_id hand.old }
-    ensures number { seat.new.number ≡ seat.old.number }
-    ensures posts { seat.new.counts.posts ≡ seat.old.counts.posts }
-{
-    let most = size_after(judgements.len());
-    match shared.report_sheet(rt, seat, ticket, judgements, most) {
-        Err(fault) => Err(left_by(fault)),
-        Ok(report) => match report.following {
-            Following::Fire(answer) => after_firing(rt, shared, hand, answer),
-            Following::Drop(answer) => after_dropping(answer),
-            Following::Sheet(given) => judge_sheet(gate, ticket, given),
-            Following::Nothing(fault) => Err(left_without_turn(fault)),
-        },
-    }
-}
-
-/// Fires.
-fn fire<L1: PostLedger, L2: Ledger, A: Allocator + Copy, R: Wait>(
-    rt: &R,
-    shared: &Shared<L1, L2, A>,
-    hand: &mut Hand<u64>,
-    seat: &mut Seat<L1, L2>,
-    ticket: u64,
-    judged: &Judged<A>,
-) -> Result<Call<A>, Left>
-    ensures hand { hand_id hand.new ≡ hand_id hand.old }
-    ensures number { seat.new.number ≡ seat.old.number }
-    ensures posts { seat.new.counts.posts ≡ seat.old.counts.posts }
-{
-    match shared.fire(rt, seat, ticket, judged) {
-        Ok(answer) => after_firing(rt, shared, hand, answer),
-        Err(fault) => Err(left_by(fault)),
-    }
-}
-
-/// Drops a goal.
-fn drop_goal<L1: PostLedger, L2: Ledger, A: Allocator + Copy, R: Wait>(
-    rt: &R,
-    shared: &Shared<L1, L2, A>,
-    seat: &mut Seat<L1, L2>,
-    ticket: u64,
-) -> Result<Call<A>, Left>
-    ensures number { seat.new.number ≡ seat.old.number }
-    ensures posts { seat.new.counts.posts ≡ seat.old.counts.posts }
-{
-    match shared.drop_goal(rt, seat, ticket) {
-        Ok(answer) => after_dropping(answer),
-        Err(fault) => Err(left_by(fault)),
-    }
-}
-
-/// Makes a call that may take so many turns, one at least. Returns the next one, or how the worker leaves the ticket.
-fn make<L1: PostLedger, L2: Ledger, A: Allocator + Copy, R: Wait, G: Gate>(
-    rt: &R,
-    shared: &Shared<L1, L2, A>,
-    hand: &mut Hand<u64>,
-    seat: &mut Seat<L1, L2>,
-    gate: &G,
-    ticket: u64,
-    call: Call<A>,
-    turns: u64,
-) -> Result<Call<A>, Left>
-    ensures hand { hand_id hand.new ≡ hand_id hand.old }
-    ensures number { seat.new.number ≡ seat.old.number }
-    ensures posts { seat.new.counts.posts ≡ seat.old.counts.posts }
-{
-    match call {
-        Call::Claim if turns == 1 => claim_alone(rt, shared, seat, ticket),
-        Call::Claim => claim(rt, shared, seat, gate, ticket),
-        Call::Sheet => ask(rt, shared, seat, gate, ticket),
-        Call::Report(judgements) if turns == 1 => {
-            report_alone(rt, shared, seat, ticket, &judgements)
-        }
-        Call::Report(judgements) => { report(rt, shared, hand, seat, gate, ticket, &judgements) }
-        Call::Fire(judged) => fire(rt, shared, hand, seat, ticket, &judged),
-        Call::Drop => drop_goal(rt, shared, seat, ticket),
-    }
-}
-
-/// Puts a ticket down, or marks one that isn't claimed. It is stray then.
-fn put_down<L1: PostLedger, L2: Ledger, A: Allocator + Copy, R: Wait>(
+/// Leaves a ticket. One whose goal hasn't ended is put down, or marked where it isn't claimed. It is stray then.
+fn leave<L1: PostLedger, L2: Ledger, A: Allocator + Copy, R: Wait>(
     rt: &R,
     shared: &Shared<L1, L2, A>,
     seat: &mut Seat<L1, L2>,
@@ -372,6 +312,9 @@ fn put_down<L1: PostLedger, L2: Ledger, A: Allocator + Copy, R: Wait>(
     ensures number { seat.new.number ≡ seat.old.number }
     ensures posts { seat.new.counts.posts ≡ seat.old.counts.posts }
 {
+    if left == Left::Free || left == Left::WrongSeat {
+        return left;
+    }
     match shared.put_down(rt, seat, ticket) {
         Err(HoldFault::WrongSeat) => Left::WrongSeat,
         Ok(Err(PutDownFault::NotHeld)) => {
@@ -379,23 +322,6 @@ fn put_down<L1: PostLedger, L2: Ledger, A: Allocator + Copy, R: Wait>(
             left
         }
         _ => left,
-    }
-}
-
-/// Takes so many turns, or fewer where no more are left; none where the crew is closed. Returns how many.
-fn spend<L1: PostLedger, L2: Ledger, A: Allocator + Copy>(
-    shared: &Shared<L1, L2, A>,
-    stop: &mut Stop,
-    turns: u64,
-) -> u64 {
-    match stop {
-        Stop::Turns(left) => {
-            let taken = turns.min(*left);
-            *left -= taken;
-            taken
-        }
-        Stop::Closed if shared.is_closed() => 0,
-        Stop::Closed => turns,
     }
 }
 
@@ -416,15 +342,23 @@ pub fn work_on_ticket<L1: PostLedger, L2: Ledger, A: Allocator + Copy, R: Wait, 
 {
     let mut call = Call::Claim;
     for _ in rt.forever() {
-        let turns = spend(shared, stop, call.turns());
-        if turns == 0 {
-            return put_down(rt, shared, seat, ticket, Left::Spent);
-        }
-        match make(rt, shared, hand, seat, gate, ticket, call, turns) {
-            Ok(next) => call = next,
-            Err(Left::Want) => return put_down(rt, shared, seat, ticket, Left::Want),
-            Err(left) => return left,
-        }
+        let turns = stop.spend(call.turns(), shared.is_closed());
+        let left = match make(rt, shared, seat, gate, ticket, &call, turns) {
+            After::Call(next) => {
+                call = next;
+                continue;
+            }
+            After::Fired(fired) => {
+                push_new(rt, shared, hand, fired);
+                if fired.active_lives {
+                    call = Call::Sheet;
+                    continue;
+                }
+                Left::Free
+            }
+            After::Left(left) => left,
+        };
+        return leave(rt, shared, seat, ticket, left);
     }
     unreachable!()
 }

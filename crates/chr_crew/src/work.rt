@@ -15,25 +15,20 @@ use std::sync::ledger::Ledger;
 /// so that no chain of its own keeps these waiting.
 const TICKETS_A_LOOK: u64 = 32;
 
+/// What a worker does next.
+#[derive(Clone, Copy)]
+enum Next {
+    /// It looks for a ticket.
+    Look,
+    /// It ends, and the others look for what it leaves.
+    Leave,
+    /// It has ended.
+    Ended,
+}
+
 /// Whether a worker looks elsewhere first, after so many tickets.
 fn looks_elsewhere(worked: u64) -> bool {
     worked % TICKETS_A_LOOK == TICKETS_A_LOOK - 1
-}
-
-/// The first ticket that was posted or the least stray one, in turn.
-fn find_elsewhere<L1: PostLedger, L2: Ledger, A: Allocator + Copy, R: Wait>(
-    rt: &R,
-    shared: &Shared<L1, L2, A>,
-    hand: &mut Hand<u64>,
-    worked: u64,
-) -> Option<u64>
-    ensures { hand_id hand.new ≡ hand_id hand.old }
-{
-    if worked / TICKETS_A_LOOK % 2 == 0 {
-        hand.take_fed(rt)
-    } else {
-        shared.take_stray(rt)
-    }
 }
 
 /// A ticket of the pool, else the least stray one, after so many tickets.
@@ -45,13 +40,19 @@ fn find<L1: PostLedger, L2: Ledger, A: Allocator + Copy, R: Wait>(
 ) -> Option<u64>
     ensures { hand_id hand.new ≡ hand_id hand.old }
 {
-    if looks_elsewhere(worked) {
-        if let Some(ticket) = find_elsewhere(rt, shared, hand, worked) {
-            return Some(ticket);
-        }
+    let first = if !looks_elsewhere(worked) {
+        None
+    } else if worked / TICKETS_A_LOOK % 2 == 0 {
+        hand.take_fed(rt)
+    } else {
+        shared.take_stray(rt)
+    };
+    if first.is_some() {
+        return first;
     }
-    if let Some(ticket) = hand.take(rt) {
-        return Some(ticket);
+    let taken = hand.take(rt);
+    if taken.is_some() {
+        return taken;
     }
     shared.take_stray(rt)
 }
@@ -62,102 +63,49 @@ fn rest<L1: PostLedger, L2: Ledger, A: Allocator + Copy, R: Wait>(
     shared: &Shared<L1, L2, A>,
     stop: Stop,
     seen: u64,
-) -> Rest {
-    match stop {
+) -> Next {
+    let rested = match stop {
         Stop::Turns(_) => shared.rest_together(rt, seen),
         Stop::Closed => shared.rest(rt, seen),
+    };
+    match rested {
+        Rest::News => Next::Look,
+        Rest::Over => Next::Ended,
     }
 }
 
-/// Waits for a ticket to take. Returns it with the number of the news before it was looked for. None where there is none any
-/// more: then the worker has ended.
-fn next_ticket<L1: PostLedger, L2: Ledger, A: Allocator + Copy, R: Wait>(
-    rt: &R,
-    shared: &Shared<L1, L2, A>,
-    hand: &mut Hand<u64>,
-    stop: Stop,
-    worked: u64,
-) -> Option<(u64, u64)>
-    ensures { hand_id hand.new ≡ hand_id hand.old }
-{
-    for _ in rt.forever() {
-        // What was announced before this is found now, and what is announced later ends the rest.
-        let seen = shared.news();
-        if let Some(ticket) = find(rt, shared, hand, worked) {
-            return Some((ticket, seen));
-        }
-        if rest(rt, shared, stop, seen) == Rest::Over {
-            return None;
-        }
-    }
-    unreachable!()
-}
-
-/// Whether a worker takes no ticket any more.
-fn is_over<L1: PostLedger, L2: Ledger, A: Allocator + Copy>(
-    shared: &Shared<L1, L2, A>,
-    stop: Stop,
-) -> bool {
-    match stop {
-        Stop::Turns(turns) => turns == 0,
-        Stop::Closed => shared.is_closed(),
-    }
-}
-
-/// Ends a worker that works. The others look for what it leaves.
-fn leave<L1: PostLedger, L2: Ledger, A: Allocator + Copy, R: Wait>(
-    rt: &R,
-    shared: &Shared<L1, L2, A>,
-) {
-    shared.announce(rt);
-    shared.end(rt);
-}
-
-/// Whether a worker goes on that has left a ticket so, which it looked for after so much news. What came since may be the
-/// memory that it wants.
-fn goes_on<L1: PostLedger, L2: Ledger, A: Allocator + Copy, R: Wait>(
-    rt: &R,
-    shared: &Shared<L1, L2, A>,
-    left: Left,
-    stop: Stop,
-    seen: u64,
-) -> bool {
-    match (left, stop) {
-        (Left::Free, _) => true,
-        (Left::Want, Stop::Closed) => shared.rest(rt, seen) == Rest::News,
-        _ => {
-            leave(rt, shared);
-            false
-        }
-    }
-}
-
-/// Works on one ticket, after so many others. Whether the worker goes on; else it has ended.
-fn work_on_one<L1: PostLedger, L2: Ledger, A: Allocator + Copy, R: Wait, G: Gate>(
+/// Looks for a ticket and works on it, or sleeps where it finds none. It has worked on so many before.
+fn look_once<L1: PostLedger, L2: Ledger, A: Allocator + Copy, R: Wait, G: Gate>(
     rt: &R,
     shared: &Shared<L1, L2, A>,
     hand: &mut Hand<u64>,
     seat: &mut Seat<L1, L2>,
     gate: &G,
     stop: &mut Stop,
-    worked: u64,
-) -> bool
+    worked: &mut u64,
+) -> Next
     ensures hand { hand_id hand.new ≡ hand_id hand.old }
     ensures number { seat.new.number ≡ seat.old.number }
     ensures posts { seat.new.counts.posts ≡ seat.old.counts.posts }
 {
-    if is_over(shared, *stop) {
-        leave(rt, shared);
-        return false;
+    if stop.is_over(shared.is_closed()) {
+        return Next::Leave;
     }
-    match next_ticket(rt, shared, hand, *stop, worked) {
-        Some((ticket, seen)) => {
-            let left = work_on_ticket(rt, shared, hand, seat, gate, stop, ticket);
-            // What it looked elsewhere for may want memory that its own tickets don't want.
-            (left == Left::Want && looks_elsewhere(worked))
-                || goes_on(rt, shared, left, *stop, seen)
-        }
-        None => false,
+    // What was announced before this is found now, and what is announced later ends the rest.
+    let seen = shared.news();
+    let Some(ticket) = find(rt, shared, hand, *worked) else {
+        return rest(rt, shared, *stop, seen);
+    };
+    let left = work_on_ticket(rt, shared, hand, seat, gate, stop, ticket);
+    let looked_elsewhere = looks_elsewhere(*worked);
+    *worked = worked.wrapping_add(1);
+    match (left, *stop) {
+        (Left::Free, _) => Next::Look,
+        // What it looked elsewhere for may want memory that its own tickets don't want.
+        (Left::Want, _) if looked_elsewhere => Next::Look,
+        // What came since may be the memory that it wants.
+        (Left::Want, Stop::Closed) => rest(rt, shared, *stop, seen),
+        _ => Next::Leave,
     }
 }
 
@@ -187,9 +135,14 @@ pub fn work<L1: PostLedger, L2: Ledger, A: Allocator + Copy, R: Wait, G: Gate>(
     let mut worked: u64 = 0;
     shared.begin(rt);
     for _ in rt.forever() {
-        if !work_on_one(rt, shared, hand, seat, gate, &mut stop, worked) {
-            return;
+        match look_once(rt, shared, hand, seat, gate, &mut stop, &mut worked) {
+            Next::Look => {}
+            Next::Leave => {
+                shared.announce(rt);
+                shared.end(rt);
+                return;
+            }
+            Next::Ended => return,
         }
-        worked = worked.wrapping_add(1);
     }
 }

@@ -22,45 +22,44 @@ pub struct Worker<L1: PostLedger, L2: Ledger> {
 
 /// Gives each hand a seat, in order.
 pub fn join_all<L1: PostLedger, L2: Ledger, A: Allocator>(
-    hands: Vec<Hand<u64>>,
+    hands: &mut Vec<Hand<u64>>,
     seats: &mut Vec<Seat<L1, L2>, A>,
-    room: Vec<Worker<L1, L2>, A>,
-) -> Vec<Worker<L1, L2>, A>
-    requires enough { length hands.items ≤ vec_len seats.old }
-    requires empty { vec_len room ≡ 0 }
-    requires room { length hands.items ≤ vec_capacity room }
-    ensures hands { map (λ w. hand_id w.hand) result.items ≡ map hand_id hands.items }
-    ensures count { length result.items ≡ length hands.items }
-    ensures seats { map (λ w. w.seat) result.items ++ seats.new.items ≡ seats.old.items }
-    ensures back { vec_capacity seats.new ≡ vec_capacity seats.old }
+    workers: &mut Vec<Worker<L1, L2>, A>,
+)
+    requires enough { vec_len hands.old ≤ vec_len seats.old }
+    requires empty { vec_len workers.old ≡ 0 }
+    requires room { vec_len hands.old ≤ vec_capacity workers.old }
+    ensures hands { map (λ w. hand_id w.hand) workers.new.items ≡ map hand_id hands.old.items }
+    ensures count { length workers.new.items ≡ length hands.old.items }
+    ensures seats { map (λ w. w.seat) workers.new.items ++ seats.new.items ≡ seats.old.items }
+    ensures none { vec_len hands.new ≡ 0 }
+    ensures seats_back { vec_capacity seats.new ≡ vec_capacity seats.old }
+    ensures hands_back { vec_len hands.old ≤ vec_capacity hands.new }
 {
-    let mut workers = room;
-    for hand in hands {
+    while !hands.is_empty() {
+        let hand = hands.remove(0);
         let seat = seats.remove(0);
         workers.push_reserved(Worker { hand, seat });
     }
-    workers
 }
 
-/// Takes the hands from workers that have ended, in order, and puts their seats back to the others.
+/// Takes the hands and the seats back from workers that have ended, in order.
 pub fn part_all<L1: PostLedger, L2: Ledger, A: Allocator>(
-    workers: Vec<Worker<L1, L2>, A>,
+    workers: &mut Vec<Worker<L1, L2>, A>,
     seats: &mut Vec<Seat<L1, L2>, A>,
-    room: Vec<Hand<u64>>,
-) -> Vec<Hand<u64>>
-    requires empty { vec_len room ≡ 0 }
-    requires room { vec_len workers ≤ vec_capacity room }
-    requires back { vec_len seats.old + vec_len workers ≤ vec_capacity seats.old }
-    ensures hands { map hand_id result.items ≡ map (λ w. hand_id w.hand) workers.items }
-    ensures seats { seats.new.items ≡ seats.old.items ++ map (λ w. w.seat) workers.items }
+    hands: &mut Vec<Hand<u64>>,
+)
+    requires empty { vec_len hands.old ≡ 0 }
+    requires room { vec_len workers.old ≤ vec_capacity hands.old }
+    requires back { vec_len seats.old + vec_len workers.old ≤ vec_capacity seats.old }
+    ensures hands { map hand_id hands.new.items ≡ map (λ w. hand_id w.hand) workers.old.items }
+    ensures seats { seats.new.items ≡ seats.old.items ++ map (λ w. w.seat) workers.old.items }
 {
-    let mut hands = room;
-    for worker in workers {
-        let Worker { hand, seat } = worker;
+    while !workers.is_empty() {
+        let Worker { hand, seat } = workers.remove(0);
         hands.push_reserved(hand);
         seats.push_reserved(seat);
     }
-    hands
 }
 
 /// The work of one worker.

@@ -1,6 +1,6 @@
 use Rattle.std.specs.Prelude.{◌≡◌, ◌+◌, ◌<◌, ◌≤◌, ℕ, get_or, length, vec_len, vec_capacity}
 use Rattle.chr_seats.specs.Accounts.{log_of, counts_in}
-use Rattle.chr_crew.proofs.crew.counted.Given as goal
+use Rattle.chr_crew.proofs.crew.count.Given as goal
 
 abbrev pub invariant-loop-k : goal.invariant-loop-k
 invariant-loop-k g l =

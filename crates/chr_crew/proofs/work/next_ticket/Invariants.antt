@@ -1,6 +1,0 @@
-use Rattle.std.specs.Prelude.{◌≡◌}
-use Rattle.chr_pool.specs.Hands.{hand_id}
-use Rattle.chr_crew.proofs.work.next_ticket.Given as goal
-
-abbrev pub invariant-loop : goal.invariant-loop
-invariant-loop g l = hand_id l.hand ≡ hand_id l.initial.hand
