@@ -62,20 +62,26 @@ fn make_parts<L1: PostLedger, L2: Ledger, A: Allocator + Copy>(
     ensures some { IfOk result (λ p. 0 < vec_len p.members) }
     ensures room { IfOk result (λ p. (vec_len p.room ≡ 0) × (vec_len p.members ≤ vec_capacity p.room)) }
 {
-    let connections = Connections::new(alloc)?;
-    let members = Vec::with_capacity(alloc, SEATS)?;
-    let room = Vec::with_capacity(alloc, SEATS)?;
-    let (hands, inlets) = make(pool, workers, SESSION_SEATS, CAPACITY)?;
-    let (shared, seats) = Shared::empty(alloc, posts, others)?;
-    let mut spare = seats.workers;
-    let members = muster(hands, inlets, &mut spare, seats.sessions, members);
-    Ok(Parts {
-        shared,
-        members,
-        spare,
-        room,
-        connections,
-    })
+    match (
+        Connections::new(alloc),
+        Vec::with_capacity(alloc, SEATS),
+        Vec::with_capacity(alloc, SEATS),
+        make(pool, workers, SESSION_SEATS, CAPACITY),
+        Shared::empty(alloc, posts, others),
+    ) {
+        (Ok(connections), Ok(members), Ok(room), Ok((hands, inlets)), Ok((shared, seats))) => {
+            let mut spare = seats.workers;
+            let members = muster(hands, inlets, &mut spare, seats.sessions, members);
+            Ok(Parts {
+                shared,
+                members,
+                spare,
+                room,
+                connections,
+            })
+        }
+        _ => Err(AllocError),
+    }
 }
 
 /// What the thread of a session runs: it serves one connection after another until they are closed.
@@ -187,10 +193,11 @@ fn with_threads<
                 let starts = scope
                     .spawn(move || run_by(rt, alloc, shared, connections, member))
                     .is_ok();
-                works |= starts && is_worker;
-                serves |= starts && !is_worker;
-                if !starts && !is_worker {
-                    connections.withhold(rt);
+                match (starts, is_worker) {
+                    (true, true) => works = true,
+                    (true, false) => serves = true,
+                    (false, true) => {}
+                    (false, false) => connections.withhold(rt),
                 }
             }
             let taken = if works && serves {

@@ -87,7 +87,7 @@ pub(crate) fn serve_stream<R: Wait, L1: PostLedger, L2: Ledger, A: Allocator + C
         patience: WhileConnected { stream },
     };
     let ended = serve_lent(alloc, &mut desk, &mut reader, &mut writer);
-    if ended == Err(ServeFault::NoMemory) {
+    if matches!(ended, Err(ServeFault::NoMemory)) {
         // Its client may be gone already.
         let _ = refuse(&mut writer.inner, Refusal::NoMemory);
     }
