@@ -10,12 +10,23 @@
 //!
 //! Workers [`rest`](Shared::rest) where there is nothing to take, until they are told of something new; a worker that is told
 //! is awake from then on. Sessions [`watch`](Shared::watch) the workers. No contract says that a sleeper wakes.
+//!
+//! Who reads a log or a store takes in the hold only what its lines are made of ([`LogRead`], [`StoreRead`]), and makes the
+//! [`Lines`] once the lock is free: to copy entries or constraints takes a part of the time that their text takes. What isn't
+//! asked for isn't copied. Lines that are no more than the names are made at once, since to copy the names would take longer.
+//! The lines are those of the log or the store that was read, as they were then.
 #![tactic(auto)]
 
+mod lines;
+mod log_lines;
 mod readings;
 mod resting;
 mod shared;
 mod sleepers;
+mod store_lines;
 
+pub use lines::Lines;
+pub use log_lines::LogRead;
 pub use resting::Rest;
 pub use shared::Shared;
+pub use store_lines::StoreRead;

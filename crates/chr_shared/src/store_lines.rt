@@ -1,7 +1,7 @@
 //! The lines of a store.
 ghost use Rattle.std.specs.Prelude.{◌≡◌, ℕ, List, IfOk};
 ghost use Rattle.chr_value.specs.Stores.{Store as PlainStore};
-ghost use Rattle.chr_lines.specs.Readings.{AreStoreLines, GivesStore};
+ghost use Rattle.chr_shared.specs.Lines.{AreStoreLines, GivesStore};
 
 use crate::lines::Lines;
 use chr_log::write_store;

@@ -1,5 +1,5 @@
 use Rattle.std.specs.Prelude.{◌≡◌, ◌-◌, ◌++◌, length}
-use Rattle.chr_lines.proofs.store.copy_constraints.Given as goal
+use Rattle.chr_shared.proofs.store_lines.copy_constraints.Given as goal
 
 abbrev pub invariant-loop-left : goal.invariant-loop-left
 invariant-loop-left g l = l.constraints.items ++ l.left ≡ l.fn.store.entries
