@@ -9,28 +9,4 @@
 #![tactic(auto)]
 
 #[cfg(test)]
-mod beside;
-#[cfg(test)]
-mod closing;
-#[cfg(test)]
-mod gates;
-#[cfg(test)]
-mod rack;
-#[cfg(test)]
-mod refused;
-#[cfg(test)]
-mod runs;
-#[cfg(test)]
-mod scenes;
-#[cfg(test)]
-mod sessions;
-#[cfg(test)]
-mod stops;
-#[cfg(test)]
-mod threads;
-#[cfg(test)]
-mod told;
-#[cfg(test)]
-mod waiting;
-#[cfg(test)]
-mod waking;
+mod tests;

@@ -1,0 +1,143 @@
+//! Runs in which one request for memory is refused.
+//!
+//! The memory is that of the book and of the run. That of the pool isn't refused, since it is always of `Global`.
+ghost use Rattle.std.specs.Prelude.{◌≤◌};
+
+use crate::tests::runs::{
+    COMPOUND, MANY, NUMBERS, Rules, is_brought_to_its_end, multiples, open, run, tickets, verdict,
+};
+use chr_book::Book;
+use chr_calls::TicketState;
+use chr_check::Verdict;
+use chr_crew::{Cause, CrewFault, End, Finished, Open};
+use refusing::Refusing;
+use std::alloc::{Allocator, Global};
+use std::sync::Wait;
+use std::test::*;
+use std::thread::Threads;
+
+/// Whether all tickets of a book that was given back before the workers started still wait.
+fn all_wait<A: Allocator + Copy>(book: &Book<A>, posts: u64) -> bool {
+    for ticket in 1..=posts {
+        if book.state(ticket) != TicketState::Waiting {
+            return false;
+        }
+    }
+    book.log().len() as u64 == posts && tickets(book) == (posts, 0)
+}
+
+/// How a run ends, and what the check answers of it, where a ticket is left marked or none is.
+fn end_of(marked: bool) -> (End, Option<Verdict>) {
+    if marked {
+        (End::Stopped, Some(Verdict::Run))
+    } else {
+        (End::Quiet, Some(Verdict::RunAndFinal))
+    }
+}
+
+/// Whether a run ended so, and no ticket is held.
+fn is_ended<A: Allocator + Copy>(alloc: A, finished: &mut Finished<A>, marked: bool) -> bool {
+    let ended = (finished.end, verdict(alloc, &finished.book));
+    let (_, held) = tickets(&finished.book);
+    let is_marked = finished.book.take_stray().is_some();
+    held == 0 && is_marked == marked && ended == end_of(marked)
+}
+
+/// What came of a run.
+type Answer<A> = Result<Finished<A>, CrewFault<A>>;
+
+/// Whether a run of so many workers on a book of so many posts left what it is to leave, where a request was refused or none.
+fn is_left<A: Allocator + Copy>(
+    alloc: A,
+    answer: &mut Answer<A>,
+    posts: u64,
+    workers: usize,
+    refused: bool,
+) -> bool {
+    match answer {
+        // A worker whose call is refused ends, and leaves its ticket marked. Where there is another worker, that one takes it.
+        Ok(finished) => is_ended(alloc, finished, refused && workers == 1),
+        Err(fault) => refused && fault.cause == Cause::NoMemory && all_wait(&fault.book, posts),
+    }
+}
+
+/// The book that came back.
+fn book_of<A: Allocator>(answer: Answer<A>) -> Book<A> {
+    match answer {
+        Ok(finished) => finished.book,
+        Err(fault) => fault.book,
+    }
+}
+
+/// Whether a run by so many workers on a book of so many posts leaves what it is to leave with request number `n` of the run
+/// refused, and can be brought to its end; and whether a request was refused. None where memory ran out before it.
+fn refused_run<R: Threads + Wait + Sync>(
+    rt: &R,
+    memory: &Refusing<Global>,
+    pool: Global,
+    rules: Rules,
+    posts: u64,
+    workers: usize,
+    n: u64,
+) -> Option<(bool, bool)>
+    requires { (1 ≤ workers) × (workers ≤ 16) }
+{
+    let text = multiples(pool, rules, posts).ok()?;
+    let book = open(memory, rules.program, text.as_str())?;
+    memory.refuse(n);
+    let mut answer = run(rt, memory, pool, book, workers, &Open, MANY);
+    let refused = memory.was_refused();
+    memory.refuse(0);
+    let right = is_left(memory, &mut answer, posts, workers, refused);
+    let ends = is_brought_to_its_end(rt, memory, pool, book_of(answer), rules.last);
+    Some((right && ends, refused))
+}
+
+/// Refuses a request of a run, the first one first, until a run meets no refusal: each in turn, or where `apart` isn't 0 each
+/// of the first ones, and later ones that are one `apart`th of their number from one another. Returns the last number, or as
+/// an `Err` that at which a book that came back was not the one that is to come.
+fn refuse_each<R: Threads + Wait + Sync>(
+    rt: &R,
+    memory: &Refusing<Global>,
+    pool: Global,
+    rules: Rules,
+    posts: u64,
+    workers: usize,
+    apart: u64,
+) -> Result<u64, u64>
+    requires { (1 ≤ workers) × (workers ≤ 16) }
+{
+    let mut n = 0u64;
+    for _ in 0..100_000u64 {
+        n = n
+            .wrapping_add(1)
+            .wrapping_add(n.checked_div(apart).unwrap_or(0));
+        match refused_run(rt, memory, pool, rules, posts, workers, n) {
+            Some((true, true)) => (),
+            Some((true, false)) => return Ok(n),
+            _ => return Err(n),
+        }
+    }
+    Err(0)
+}
+
+#[test]
+fn one_worker_leaves_a_stray_ticket(rt: HostRuntime) {
+    let memory = Refusing::new(rt.alloc(), 0);
+    let refused = refuse_each(&rt, &memory, rt.alloc(), NUMBERS, 4, 1, 0);
+    assert!(rt; refused.is_ok(), "at request {refused:?}");
+}
+
+#[test]
+fn two_workers_leave_a_lawful_book(rt: HostRuntime) {
+    let memory = Refusing::new(rt.alloc(), 0);
+    let refused = refuse_each(&rt, &memory, rt.alloc(), NUMBERS, 20, 2, 16);
+    assert!(rt; refused.is_ok(), "at request {refused:?}");
+}
+
+#[test]
+fn a_worker_is_refused_compound_values(rt: HostRuntime) {
+    let memory = Refusing::new(rt.alloc(), 0);
+    let refused = refuse_each(&rt, &memory, rt.alloc(), COMPOUND, 3, 1, 0);
+    assert!(rt; refused.is_ok(), "at request {refused:?}");
+}
