@@ -47,7 +47,7 @@ impl<L1: PostLedger, L2: Ledger, A: Allocator + Copy, R: Wait> Crew for Lock<'_,
     }
 }
 
-/// What a case does before a judgement.
+/// A gate where a case does what comes before a judgement.
 #[derive(Drop)]
 struct Before<'a, L1: PostLedger, L2: Ledger, A: Allocator, R: Wait, K> {
     rt: &'a R,
@@ -73,7 +73,7 @@ pub struct Worker<L1: PostLedger, L2: Ledger> {
     pub seat: Seat<L1, L2>,
 }
 
-/// A session's desk, and a worker.
+/// A session at its desk, and a worker.
 #[derive(Drop)]
 struct Seated<'a, L1: PostLedger, L2: Ledger, A: Allocator, R: Wait, K> {
     rt: &'a R,
@@ -139,10 +139,9 @@ pub fn until_closed(count: usize, tickets: u64) -> Workers
     }
 }
 
-/// A lock, workers beside a session, and the session's place and worker.
+/// Workers beside a session, and the session's place and worker.
 #[derive(Drop)]
-struct Start<L1: PostLedger, L2: Ledger, A: Allocator> {
-    shared: Shared<L1, L2, A>,
+struct Members<L1: PostLedger, L2: Ledger> {
     workers: Vec<Worker<L1, L2>>,
     place: Place<L1, L2>,
     worker: Worker<L1, L2>,
@@ -186,25 +185,15 @@ fn deal(hands: &mut [Hand<u64>], count: u64) -> bool {
     true
 }
 
-/// Makes these. None where memory ran out.
-fn start_of<L1: PostLedger, L2: Ledger, A: Allocator + Copy>(
-    alloc: A,
+/// Members by some seats and a new pool. None where memory ran out.
+fn members_of<L1: PostLedger, L2: Ledger, A: Allocator>(
     pool: Global,
-    book: Book<A>,
+    seats: Seats<L1, L2, A>,
     workers: Workers,
-    posts: Blank,
-    others: Blank,
-) -> Option<Start<L1, L2, A>>
-    requires count { workers.count ≤ 15 }
-    requires posts { (posts.name ≡ L1.name) × (posts.parts ≡ L1.parts) × (posts.parts ≡ 32) }
-    requires others { (others.name ≡ L2.name) × (others.parts ≡ L2.parts) × (others.parts ≡ 32) }
+) -> Option<Members<L1, L2>>
+    requires { workers.count ≤ 15 }
 {
-    let (Ok((shared, seats)), Ok((mut hands, mut inlets))) = (
-        Shared::with(alloc, book, posts, others),
-        make(pool, workers.count + 1, 1, 64),
-    ) else {
-        return None;
-    };
+    let (mut hands, mut inlets) = make(pool, workers.count + 1, 1, 64).ok()?;
     let Seats {
         workers: mut seats,
         mut sessions,
@@ -216,8 +205,7 @@ fn start_of<L1: PostLedger, L2: Ledger, A: Allocator + Copy>(
         sessions.pop(),
         inlets.pop(),
     ) {
-        (true, Some(worker), Some(workers), Some(seat), Some(inlet)) => Some(Start {
-            shared,
+        (true, Some(worker), Some(workers), Some(seat), Some(inlet)) => Some(Members {
             workers,
             place: Place { seat, inlet },
             worker,
@@ -237,7 +225,7 @@ fn ends_right<A: Allocator, C: Crew, S: Session<A>, K: Case<A>>(
     right
 }
 
-/// The same beside workers.
+/// The same while workers work.
 fn ends_right_beside<
     L1: PostLedger + Send + Sync,
     L2: Ledger + Send + Sync,
@@ -265,8 +253,8 @@ fn ends_right_beside<
     right
 }
 
-/// The same with this place and this worker of the session.
-fn is_right_at<
+/// The same of such members, until the workers have ended.
+fn is_right_of<
     'a,
     L1: PostLedger + Send + Sync,
     L2: Ledger + Send + Sync,
@@ -277,12 +265,15 @@ fn is_right_at<
     rt: &'a R,
     alloc: A,
     shared: &'a Shared<L1, L2, A>,
-    workers: &mut [Worker<L1, L2>],
+    members: Members<L1, L2>,
     stop: Stop,
     case: &'a K,
-    place: Place<L1, L2>,
-    worker: Worker<L1, L2>,
 ) -> bool {
+    let Members {
+        mut workers,
+        place,
+        worker,
+    } = members;
     let lock = Lock { rt, shared };
     let gate = Before { rt, shared, case };
     let mut session = Seated {
@@ -292,10 +283,11 @@ fn is_right_at<
         desk: SharedDesk::new(rt, alloc, shared, place.seat, place.inlet),
         worker,
     };
+    let workers = workers.as_mut_slice();
     ends_right_beside(rt, shared, workers, &gate, stop, case, &lock, &mut session)
 }
 
-/// The same on this book. None where memory ran out before.
+/// The same on a book. None where memory ran out before.
 fn is_right_by<
     L1: PostLedger + Send + Sync,
     L2: Ledger + Send + Sync,
@@ -316,26 +308,13 @@ fn is_right_by<
     requires posts { (posts.name ≡ L1.name) × (posts.parts ≡ L1.parts) × (posts.parts ≡ 32) }
     requires others { (others.name ≡ L2.name) × (others.parts ≡ L2.parts) × (others.parts ≡ 32) }
 {
-    let stop = workers.stop;
-    let Start {
-        shared,
-        mut workers,
-        place,
-        worker,
-    } = start_of::<L1, L2, A>(alloc, pool, book, workers, posts, others)?;
-    Some(is_right_at(
-        rt,
-        alloc,
-        &shared,
-        workers.as_mut_slice(),
-        stop,
-        case,
-        place,
-        worker,
-    ))
+    let (shared, seats) = Shared::<L1, L2, A>::with(alloc, book, posts, others).ok()?;
+    let members = members_of(pool, seats, workers)?;
+    Some(is_right_of(rt, alloc, &shared, members, workers.stop, case))
 }
 
-/// The same on seats of its own.
+/// Whether a case goes as it is to on a book, beside such workers. At its end the crew is closed. None where memory ran out
+/// before.
 pub fn is_right_on<A: Allocator + Copy + Send + Sync, R: Threads + Wait + Sync, K: Case<A> + Sync>(
     rt: &R,
     alloc: A,

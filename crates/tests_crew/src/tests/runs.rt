@@ -5,8 +5,8 @@ use chr_book::Book;
 use chr_calls::TicketState;
 use chr_check::{Verdict, check};
 use chr_crew::{CrewFault, End, Finished, Gate, Open, run_crew};
-use chr_log::Version;
-use chr_value::GREATEST_LABEL;
+use chr_log::{Event, Version};
+use chr_value::{Atom, GREATEST_LABEL, Label};
 use std::alloc::{AllocError, Allocator, Global};
 use std::marker::Brand;
 use std::sync::Wait;
@@ -129,17 +129,32 @@ pub fn finished<R: Threads + Wait + Sync, G: Gate + Sync>(
     .ok()
 }
 
-/// What the check answers of a book's log and store. None where it refuses them, or where memory ran out.
-pub fn verdict<A: Allocator + Copy>(alloc: A, book: &Book<A>) -> Option<Verdict> {
+/// The events of a book's log. None where memory ran out.
+fn events_of<A: Allocator + Copy>(alloc: A, book: &Book<A>) -> Option<Vec<Event<A>, A>> {
     let mut events = Vec::new(alloc);
     for index in 0..book.log().len() {
         events.push(book.log().get(index).ok()?.event).ok()?;
     }
+    Some(events)
+}
+
+/// A copy of a book's store. None where memory ran out.
+fn store_of<A: Allocator + Copy>(alloc: A, book: &Book<A>) -> Option<Vec<(Label, Atom<A>), A>> {
     let mut store = Vec::new(alloc);
     for (label, atom) in book.store().iter() {
         store.push((label, atom.copy(alloc).ok()?)).ok()?;
     }
-    check(alloc, book.program(), Version::Two, &events, &store).ok()
+    Some(store)
+}
+
+/// What the check answers of a book's log and store. None where it refuses them, or where memory ran out.
+pub fn verdict<A: Allocator + Copy>(alloc: A, book: &Book<A>) -> Option<Verdict> {
+    match (events_of(alloc, book), store_of(alloc, book)) {
+        (Some(events), Some(store)) => {
+            check(alloc, book.program(), Version::Two, &events, &store).ok()
+        }
+        _ => None,
+    }
 }
 
 /// Whether the store has the one constraint of this text.

@@ -1,5 +1,5 @@
 //! Three sessions and two workers on one book.
-ghost use Rattle.std.specs.Prelude.{◌≡◌, false};
+ghost use Rattle.std.specs.Prelude.{◌≡◌, vec_len, false};
 
 use crate::tests::beside::{Worker, work_all, workers_of};
 use crate::tests::runs::{GCD, verdict};
@@ -97,30 +97,21 @@ fn talk<L1: PostLedger + Send + Sync, L2: Ledger + Send + Sync, R: Threads + Wai
     loaded && found && other_found && ends(&mut desk)
 }
 
-/// A lock over no book, the places of its sessions, and two workers.
+/// The places of sessions, and two workers.
 #[derive(Drop)]
 struct Hall<L1: PostLedger, L2: Ledger> {
-    shared: Shared<L1, L2, Global>,
     rack: Rack<L1, L2, Global>,
     workers: Vec<Worker<L1, L2>>,
 }
 
-/// Makes these. None where memory ran out.
+/// Makes these of some seats. None where memory ran out.
 fn hall_of<L1: PostLedger, L2: Ledger>(
     alloc: Global,
-    posts: Blank,
-    others: Blank,
+    seats: Seats<L1, L2, Global>,
 ) -> Option<Hall<L1, L2>>
-    requires posts { (posts.name ≡ L1.name) × (posts.parts ≡ L1.parts) × (posts.parts ≡ 32) }
-    requires others { (others.name ≡ L2.name) × (others.parts ≡ L2.parts) × (others.parts ≡ 32) }
-    requires none { L1.loaded ≡ false }
+    requires { vec_len seats.sessions ≡ 16 }
 {
-    let (Ok((shared, seats)), Ok((mut hands, inlets))) = (
-        Shared::empty(alloc, posts, others),
-        make(alloc, 2, 16, 16),
-    ) else {
-        return None;
-    };
+    let (mut hands, inlets) = make(alloc, 2, 16, 16).ok()?;
     let Seats {
         mut workers,
         sessions,
@@ -129,11 +120,7 @@ fn hall_of<L1: PostLedger, L2: Ledger>(
         workers_of(alloc, &mut hands, &mut workers, 2),
         Rack::new(alloc, sessions, inlets),
     ) {
-        (Some(workers), Ok(rack)) => Some(Hall {
-            shared,
-            rack,
-            workers,
-        }),
+        (Some(workers), Ok(rack)) => Some(Hall { rack, workers }),
         _ => None,
     }
 }
@@ -148,11 +135,8 @@ fn crew_with_sessions<
     requires others { (others.name ≡ L2.name) × (others.parts ≡ L2.parts) × (others.parts ≡ 32) }
     requires none { L1.loaded ≡ false }
 {
-    let Hall {
-        shared,
-        rack,
-        mut workers,
-    } = hall_of::<L1, L2>(alloc, posts, others)?;
+    let (shared, seats) = Shared::<L1, L2, Global>::empty(alloc, posts, others).ok()?;
+    let Hall { rack, mut workers } = hall_of(alloc, seats)?;
     let (_, right) = thread::join(
         rt,
         || work_all(rt, &shared, workers.as_mut_slice(), &Open, Stop::Closed),
@@ -195,7 +179,7 @@ fn lends_sixteen<L1: PostLedger, L2: Ledger, R: Wait>(rt: &R, rack: &Rack<L1, L2
     lent == 16 && rack.take(rt).is_ok() && rack.take(rt).is_err()
 }
 
-/// The same of the rack of a hall. None where memory ran out.
+/// The same of a rack of these seats. None where memory ran out.
 fn hall_lends_sixteen<L1: PostLedger, L2: Ledger, R: Wait>(
     rt: &R,
     alloc: Global,
@@ -206,7 +190,8 @@ fn hall_lends_sixteen<L1: PostLedger, L2: Ledger, R: Wait>(
     requires others { (others.name ≡ L2.name) × (others.parts ≡ L2.parts) × (others.parts ≡ 32) }
     requires none { L1.loaded ≡ false }
 {
-    let hall = hall_of::<L1, L2>(alloc, posts, others)?;
+    let (_shared, seats) = Shared::<L1, L2, Global>::empty(alloc, posts, others).ok()?;
+    let hall = hall_of(alloc, seats)?;
     Some(lends_sixteen(rt, &hall.rack))
 }
 

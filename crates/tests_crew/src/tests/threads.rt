@@ -10,7 +10,7 @@ use std::sync::Wait;
 use std::thread::Threads;
 
 /// Tasks whose runs have an end in any order.
-const TASKS: [Task<'static>; 4] = [
+static TASKS: [Task; 4] = [
     (
         GCD,
         "gcd(12), gcd(24), gcd(36), gcd(48), gcd(60), gcd(72), gcd(84), gcd(96), gcd(18), gcd(30).",
@@ -63,7 +63,7 @@ fn each_run_is_accepted(rt: HostRuntime) {
 
 /// Programs and posts of four kinds of work: joins of three heads that never fire, whose guard is one comparison, or three of
 /// products; joins of six heads that never fire; and pipelines, where each firing gives the next goal.
-const KINDS: [Task<'static>; 4] = [
+static KINDS: [Task; 4] = [
     (
         "p(X), p(Y), p(Z) <=> X + Y + Z < 0 | true.",
         "p(1), p(2), p(3), p(4), p(5), p(6), p(7), p(8), p(9), p(10), p(11), p(12).",

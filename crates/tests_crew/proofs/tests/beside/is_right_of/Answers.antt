@@ -1,5 +1,5 @@
 use Rattle.chr_crew.proofs.Crossing.{basis, Shared-sync}
-use Rattle.tests_crew.proofs.tests.beside.is_right_at.Goals as goal
+use Rattle.tests_crew.proofs.tests.beside.is_right_of.Goals as goal
 
 pub ends_right_beside-requires-sync-G : goal.ends_right_beside-requires-sync-G
 ends_right_beside-requires-sync-G g c κs within =
