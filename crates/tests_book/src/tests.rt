@@ -3,6 +3,7 @@ mod batches;
 mod listed_tables;
 mod lists;
 mod opening;
+mod plays;
 mod refused_batches;
 mod refused_calls;
 mod refused_lists;

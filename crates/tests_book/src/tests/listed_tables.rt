@@ -88,7 +88,7 @@ fn rows_right(alloc: Global, rows: &[&str], answers: &[Answer<Global>]) -> usize
 /// Makes the calls of a table's list on its book. How many are answered as expected.
 fn run(alloc: Global, book: &mut Book<Global>, table: &Table) -> Option<usize> {
     let calls = calls_of(alloc, table)?;
-    let answers = calls.made_on(alloc, book).ok()?;
+    let answers = calls.answers(alloc, book).ok()?;
     Some(rows_right(alloc, table.rows, answers.as_slice()))
 }
 

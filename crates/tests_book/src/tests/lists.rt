@@ -8,7 +8,7 @@ use chr_search::{Judged, Trial, judge};
 use std::alloc::{AllocError, Allocator, Global};
 
 /// What is done with a ticket, by the seat's own judgement where by one.
-#[derive(Clone, Copy, Debug)]
+#[derive(Clone, Copy)]
 pub enum Does {
     Claim,
     Trial,
@@ -96,6 +96,14 @@ impl<A: Allocator + Copy> Calls<A> {
         self.add(seat, call_of(does, ticket))
     }
 
+    /// Adds the calls by which a seat does each of these with a ticket, in order.
+    pub fn add_each(&mut self, seat: u32, list: &[Does], ticket: u64) -> Result<(), AllocError> {
+        for does in list {
+            self.add_own(seat, *does, ticket)?;
+        }
+        Ok(())
+    }
+
     /// Adds a post of the atoms of a text.
     pub fn add_post(&mut self, alloc: A, seat: u32, text: &str) -> Result<(), AllocError> {
         let bytes = Vec::from_slice(alloc, text.as_bytes())?;
@@ -113,9 +121,14 @@ impl<A: Allocator + Copy> Calls<A> {
     }
 
     /// Makes the calls on a book.
-    pub fn made_on(&self, alloc: A, book: &mut Book<A>) -> Result<Answers<A>, AllocError> {
+    pub fn answers(&self, alloc: A, book: &mut Book<A>) -> Result<Answers<A>, AllocError> {
         let answers = run_calls(alloc, book, &self.calls)?;
         Ok(Answers { answers })
+    }
+
+    /// Makes the calls on a book, whatever the answers. Whether there was memory for them.
+    pub fn are_made(&self, alloc: A, book: &mut Book<A>) -> bool {
+        self.answers(alloc, book).is_ok()
     }
 }
 

@@ -5,15 +5,15 @@ use chr_text::read_program;
 use chr_value::Names;
 use std::alloc::Global;
 
-/// What a book is answered to a program and the table of other posts, None where a text isn't read.
-fn opened(alloc: Global, program: &str, posts: &str) -> Option<Result<(), OpenFault>> {
+/// Why a book of a program isn't opened over the table of other posts, if it isn't. None where a text isn't read.
+fn fault(alloc: Global, program: &str, posts: &str) -> Option<Option<OpenFault>> {
     let mut names = Names::new(alloc);
     if !adds_names(alloc, posts, &mut names) {
         return None;
     }
     let mut numbered = Names::new(alloc);
     let program = read_program(alloc, program.as_bytes(), &mut numbered).ok()?;
-    Some(Book::new(alloc, program, names, 10).map(|_| ()))
+    Some(Book::new(alloc, program, names, 10).err())
 }
 
 /// Programs, with posts of as many names, and of one name less.
@@ -41,9 +41,11 @@ const ROWS: [(&str, &str, &str); 18] = [
 #[test]
 fn names_outside_the_table(rt: HostRuntime) {
     for (i, (program, whole, less)) in ROWS.iter().enumerate() {
-        let answer = opened(rt.alloc(), program, whole);
-        assert_eq!(rt; answer, Some(Ok(())), "row {i}");
-        let answer = opened(rt.alloc(), program, less);
-        assert_eq!(rt; answer, Some(Err(OpenFault::UnknownName)), "row {i}");
+        let faults = (
+            fault(rt.alloc(), program, whole),
+            fault(rt.alloc(), program, less),
+        );
+        let expected = (Some(None), Some(Some(OpenFault::UnknownName)));
+        assert!(rt; faults == expected, "row {i}");
     }
 }

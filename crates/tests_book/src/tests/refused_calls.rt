@@ -1,4 +1,5 @@
 //! Tables of calls, with a request of each call refused.
+use crate::tests::plays::Play;
 use crate::tests::rows::{Row, row_of};
 use crate::tests::script::{Call, Opening, Script, is_text};
 use crate::tests::tables::{
@@ -6,10 +7,8 @@ use crate::tests::tables::{
     ONE_OF_TWO_FIRES, Table,
 };
 use chr_value::Atom;
-use refusing::Refusing;
-use std::alloc::Global;
-
-type Memory<'m> = &'m Refusing<Global>;
+use refusing::{Refusable, Refusing, refuse_each};
+use std::alloc::{Allocator, Global};
 
 /// So many tickets that a post and a body each grow their tree of tickets in their midst.
 static MANY_TICKETS: Table = Table {
@@ -42,98 +41,117 @@ fn takes_none(row: &Row) -> bool {
         )
 }
 
-/// Makes a row's call with its request number `n` refused. Whether it was refused; None where the answer isn't E01 then, and
-/// else that of the row.
-fn meets<'m>(
-    script: &mut Script<Memory<'m>>,
-    memory: Memory,
-    n: u64,
+/// A script as it is before a row's call, and the atoms that the call posts.
+#[derive(Clone, Copy)]
+struct Before<'b, A: Allocator> {
+    states: &'b str,
+    lines: &'b [u8],
+    atoms: &'b [Atom<A>],
+}
+
+/// Makes a row's call with a request refused. Whether it was refused; None where the answer isn't E01 then, and else that of
+/// the row.
+fn meets<A: Allocator + Copy>(
+    script: &mut Script<A>,
+    play: &Play<A>,
     row: &Row,
-    atoms: &[Atom<Memory<'m>>],
+    atoms: &[Atom<A>],
 ) -> Option<bool> {
-    memory.refuse(n);
+    play.memory.refuse(play.n);
     let given = script.make(row.seat, row.call, atoms);
-    let refused = memory.was_refused();
-    memory.refuse(0);
+    let refused = play.memory.was_refused();
+    play.memory.refuse(0);
     let expected = if refused { "Err(NoMemory)" } else { row.answer };
     is_text(given, expected).then_some(refused)
 }
 
-/// Makes a row's call again after it was refused. Whether it may have been, has left these states and lines, and now answers
-/// as expected.
-fn is_made_again<'m>(
-    script: &mut Script<Memory<'m>>,
+/// Makes a row's call again after it was refused. Whether it may have been, has left the script as before, and now answers as
+/// expected.
+fn is_made_again<A: Allocator + Copy>(
+    script: &mut Script<A>,
     row: &Row,
-    atoms: &[Atom<Memory<'m>>],
-    states: &str,
-    lines: &[u8],
+    before: &Before<A>,
 ) -> bool {
     !takes_none(row)
-        && script.has_states(states)
-        && script.has_lines(lines)
-        && is_text(script.make(row.seat, row.call, atoms), row.answer)
+        && script.has_states(before.states)
+        && script.has_lines(before.lines)
+        && is_text(script.make(row.seat, row.call, before.atoms), row.answer)
 }
 
-/// Makes a row's call with its request number `n` refused, and again where it was. Whether it was refused; None where an
-/// answer or the book after it isn't the expected one.
-fn is_refused<'m>(
-    script: &mut Script<Memory<'m>>,
-    memory: Memory,
-    n: u64,
+/// Makes a row's call with a request refused, and again where it was. Whether it was refused; None where an answer or the
+/// book after it isn't the expected one.
+fn is_refused<A: Allocator + Copy>(
+    script: &mut Script<A>,
+    play: &Play<A>,
     row: &Row,
-    states: &str,
+    before: &Before<A>,
 ) -> Option<bool> {
-    let atoms = script.posted(row.call)?;
-    let lines = script.lines().ok()?;
-    let refused = meets(script, memory, n, row, &atoms)?;
-    let is_right = !refused || is_made_again(script, row, &atoms, states, &lines);
+    let refused = meets(script, play, row, before.atoms)?;
+    let is_right = !refused || is_made_again(script, row, before);
     (is_right && script.has_states(row.states)).then_some(refused)
 }
 
-/// Makes the calls of a table with request number `n` of each refused. How many were, and the number of the first row that
-/// isn't as expected, which is that of the rows where all are and the table ends as it should.
-fn play_on(
-    script: &mut Script<Memory>,
-    memory: Memory,
-    n: u64,
-    table: &Table,
-) -> Option<(usize, usize)> {
-    let mut refusals = 0usize;
-    let mut states = "";
-    for (i, text) in table.rows.iter().enumerate() {
-        let row = row_of(text)?;
-        let Some(refused) = is_refused(script, memory, n, &row, states) else {
-            return Some((refusals, i));
-        };
-        if refused {
-            refusals = refusals.wrapping_add(1);
+/// The same after a row that has left these states.
+fn is_refused_after<A: Allocator + Copy>(
+    script: &mut Script<A>,
+    play: &Play<A>,
+    row: &Row,
+    states: &str,
+) -> Option<bool> {
+    match (script.posted(row.call), script.lines()) {
+        (Some(atoms), Ok(lines)) => {
+            let before = Before {
+                states,
+                lines: &lines,
+                atoms: &atoms,
+            };
+            is_refused(script, play, row, &before)
         }
+        _ => None,
+    }
+}
+
+/// Makes the calls of a table with a request of each refused. Whether one was; None where a row isn't as expected, or where
+/// the table doesn't end as it should.
+fn play_on<A: Allocator + Copy>(
+    script: &mut Script<A>,
+    play: &Play<A>,
+    table: &Table,
+) -> Option<bool> {
+    let mut refused = false;
+    let mut states = "";
+    for text in table.rows {
+        let row = row_of(text)?;
+        refused = is_refused_after(script, play, &row, states)? || refused;
         states = row.states;
     }
     let lines = table.lines.as_bytes();
-    script
-        .has_lines(lines)
-        .then_some((refusals, table.rows.len()))
+    script.has_lines(lines).then_some(refused)
 }
 
 /// The same on a book of its own.
-fn play(memory: Memory, texts: Global, n: u64, table: &Table) -> Option<(usize, usize)> {
-    let mut script = Script::open(memory, texts, table.opening)?;
-    play_on(&mut script, memory, n, table)
+fn play_table<A: Allocator + Copy>(play: &Play<A>, table: &Table) -> Option<bool> {
+    let mut script = Script::open(play.alloc, play.texts, table.opening)?;
+    play_on(&mut script, play, table)
 }
 
-/// Plays a table with the first request of each call refused, then with the second, and so on. The last of these numbers,
-/// with which no call was refused or a row wasn't as expected, and how many calls were refused and rows as expected.
-fn last_play(alloc: Global, table: &Table) -> (u64, Option<(usize, usize)>) {
-    for n in 1..100u64 {
-        let memory = Refusing::new(alloc, 0);
-        let played = play(&memory, alloc, n, table);
-        match played {
-            Some((refusals, right)) if 0 < refusals && right == table.rows.len() => (),
-            _ => return (n, played),
-        }
+/// The calls of a table.
+#[derive(Drop)]
+struct Calls<'t> {
+    table: &'t Table<'t>,
+    texts: Global,
+}
+
+impl Refusable for Calls<'_> {
+    fn is_made_again(&self, memory: &Refusing<Global>, n: u64) -> Option<bool> {
+        let play = Play {
+            alloc: memory,
+            memory,
+            texts: self.texts,
+            n,
+        };
+        play_table(&play, self.table)
     }
-    (100, None)
 }
 
 #[test]
@@ -148,9 +166,8 @@ fn each_request_of_a_call_is_refused(rt: HostRuntime) {
         &MANY_TICKETS,
     ];
     for table in tables {
-        let (n, played) = last_play(rt.alloc(), table);
-        let name = table.name;
-        assert_eq!(rt; played, Some((0, table.rows.len())), "{name}, request {n}");
-        assert!(rt; 1 < n, "{name}");
+        let texts = rt.alloc();
+        let refused = refuse_each(texts, &Calls { table, texts });
+        assert!(rt; matches!(refused, Ok(1..)), "{}: {refused:?}", table.name);
     }
 }

@@ -47,7 +47,7 @@ const TICKETS: u64 = 64;
 const ROUNDS: usize = 25;
 
 /// The calls for one goal in a round.
-#[derive(Clone, Copy, Debug)]
+#[derive(Clone, Copy)]
 struct Course {
     seat: u32,
     ticket: u64,
@@ -204,7 +204,7 @@ fn add_round(
     list: &mut Calls<Global>,
     mut calls: Calls<Global>,
 ) -> Result<(), AllocError> {
-    let _answers = calls.made_on(alloc, book)?;
+    let _answers = calls.answers(alloc, book)?;
     list.append(&mut calls)
 }
 
@@ -308,7 +308,9 @@ fn run_checked(
     book: &mut Book<Global>,
     list: &Calls<Global>,
 ) -> Option<(bool, (Verdict, Option<Verdict>))> {
-    let _answers = list.made_on(alloc, book).ok()?;
+    if !list.are_made(alloc, book) {
+        return None;
+    }
     Some((book.quiet(), verdicts(alloc, book)?))
 }
 

@@ -8,7 +8,7 @@ use std::alloc::{AllocError, Allocator, Global};
 use std::fmt::Debug;
 
 /// A call of a book. The judgements of a script are numbered from 1, in the order in which their trials were answered.
-#[derive(Clone, Copy, Debug)]
+#[derive(Clone, Copy)]
 pub enum Call<'t> {
     /// Posts the atoms of a text. A name that the book's table lacks has a number outside it.
     Post(&'t str),
@@ -35,7 +35,7 @@ pub enum Call<'t> {
 }
 
 /// What a book is opened with: a program, some posts, whose names are in its table too, and its label limit.
-#[derive(Clone, Copy, Debug)]
+#[derive(Clone, Copy)]
 pub struct Opening<'t> {
     pub program: &'t str,
     pub names: &'t str,
