@@ -82,7 +82,8 @@ fn add_report(alloc: Global, calls: &mut Calls<Global>, first: &[Answer<Global>]
         return None;
     };
     let judged = judged_copy(alloc, trials.last()?).ok()?;
-    let given = Vec::from_array(alloc, [judged]).ok()?;
+    let mut given = Vec::new(alloc);
+    given.push(judged).ok()?;
     calls.add(1, Call::ReportBatch(5, Words::Given(given))).ok()
 }
 

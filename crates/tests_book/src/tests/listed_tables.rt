@@ -1,6 +1,7 @@
 //! Tables of calls, each as one list.
 use crate::tests::lists::{Calls, answer_text, list_of};
-use crate::tests::rows::{answer, row_of};
+use crate::tests::rows::{Row, answer};
+use crate::tests::script::Call::{Claim, DropGoal, Fire, Post, PutDown, Report, Trial};
 use crate::tests::script::{Script, has_lines, is_text, open};
 use crate::tests::tables::{GCD, OLDER_GOAL_IS_DROPPED, TOKEN, Table, tables};
 use chr_book::Book;
@@ -13,16 +14,16 @@ static ALONE: Table = Table {
     name: "alone",
     opening: GCD,
     rows: &[
-        "0 post gcd(4). | Ok(1) | W",
-        "1 claim 1 | Ok(1) | 1",
-        "1 trial 1 | 1.1 [1] Misfit | 1",
-        "1 report 1 | Ok(()) | 1",
-        "1 trial 1 | 2.1 [1] Part | 1",
-        "1 report 1 | Ok(()) | 1",
-        "1 trial 1 | 2.2 [1] Part | 1",
-        "1 report 1 | Ok(()) | 1",
-        "1 trial 1 | Done | 1",
-        "1 drop_goal 1 | Ok(Dropped) | E",
+        (0, Post("gcd(4)."), "Ok(1)", "W"),
+        (1, Claim(1), "Ok(1)", "1"),
+        (1, Trial(1), "1.1 [1] Misfit", "1"),
+        (1, Report(1), "Ok(())", "1"),
+        (1, Trial(1), "2.1 [1] Part", "1"),
+        (1, Report(1), "Ok(())", "1"),
+        (1, Trial(1), "2.2 [1] Part", "1"),
+        (1, Report(1), "Ok(())", "1"),
+        (1, Trial(1), "Done", "1"),
+        (1, DropGoal(1), "Ok(Dropped)", "E"),
     ],
     lines: "quiet\nP 1 gcd(4)\nA 1 1\nD 1\n#1 gcd(4)\n",
 };
@@ -32,31 +33,36 @@ static OWN_WORDS: Table = Table {
     name: "own words",
     opening: TOKEN,
     rows: &[
-        "0 post n(1), t. | Ok(1) | WW",
-        "1 report 1 | Err(NotHeld) | WW",
-        "1 claim 1 | Ok(1) | 1W",
-        "1 report 1 | Err(Stale) | 1W",
-        "1 fire 1 | Err(Stale) | 1W",
-        "2 fire 1 | Err(NotHeld) | 1W",
-        "1 trial 1 | 1.2 [1] Part | 1W",
-        "2 claim 2 | Ok(2) | 12",
-        "2 trial 2 | 1.1 [2] Part | 12",
-        "1 report 1 | Ok(()) | 12",
-        "1 put_down 1 | Ok(()) | R2",
-        "2 claim 1 | Ok(1) | 22",
-        "2 report 1 | Err(Stale) | 22",
-        "2 report 2 | Ok(()) | 22",
-        "2 trial 2 | 1.1 [2, 1] Whole | 22",
-        "1 fire 2 | Err(NotHeld) | 22",
-        "2 fire 2 | Ok(Fired(Fired { first: 3, count: 1, active_lives: true })) | 22W",
+        (0, Post("n(1), t."), "Ok(1)", "WW"),
+        (1, Report(1), "Err(NotHeld)", "WW"),
+        (1, Claim(1), "Ok(1)", "1W"),
+        (1, Report(1), "Err(Stale)", "1W"),
+        (1, Fire(1), "Err(Stale)", "1W"),
+        (2, Fire(1), "Err(NotHeld)", "1W"),
+        (1, Trial(1), "1.2 [1] Part", "1W"),
+        (2, Claim(2), "Ok(2)", "12"),
+        (2, Trial(2), "1.1 [2] Part", "12"),
+        (1, Report(1), "Ok(())", "12"),
+        (1, PutDown(1), "Ok(())", "R2"),
+        (2, Claim(1), "Ok(1)", "22"),
+        (2, Report(1), "Err(Stale)", "22"),
+        (2, Report(2), "Ok(())", "22"),
+        (2, Trial(2), "1.1 [2, 1] Whole", "22"),
+        (1, Fire(2), "Err(NotHeld)", "22"),
+        (
+            2,
+            Fire(2),
+            "Ok(Fired(Fired { first: 3, count: 1, active_lives: true }))",
+            "22W",
+        ),
     ],
     lines: "open\nP 1 n(1)\nP 2 t\nA 1 1\nA 2 2\nF 2 1 2\\1\n#2 t\n",
 };
 
 /// Makes all calls of rows. The same calls as one list, with the judgements that the script has made of them.
-fn listed(alloc: Global, script: &mut Script<Global>, rows: &[&str]) -> Option<Calls<Global>> {
-    for text in rows {
-        let _answer = answer(script, &row_of(text)?)?;
+fn listed(alloc: Global, script: &mut Script<Global>, rows: &[Row]) -> Option<Calls<Global>> {
+    for row in rows {
+        let _answer = answer(script, row)?;
     }
     list_of(alloc, script, rows)
 }
@@ -67,18 +73,10 @@ fn calls_of(alloc: Global, table: &Table) -> Option<Calls<Global>> {
     listed(alloc, &mut script, table.rows)
 }
 
-/// Whether an answer is the one that its row has.
-fn is_right(alloc: Global, text: &str, answer: &Answer<Global>) -> bool {
-    match row_of(text) {
-        Some(row) => is_text(answer_text(alloc, alloc, answer), row.answer),
-        None => false,
-    }
-}
-
 /// How many answers are those of their rows before the first that isn't.
-fn rows_right(alloc: Global, rows: &[&str], answers: &[Answer<Global>]) -> usize {
-    for (i, (text, answer)) in rows.iter().zip(answers.iter()).enumerate() {
-        if !is_right(alloc, text, answer) {
+fn rows_right(alloc: Global, rows: &[Row], answers: &[Answer<Global>]) -> usize {
+    for (i, (row, answer)) in rows.iter().zip(answers.iter()).enumerate() {
+        if !is_text(answer_text(alloc, alloc, answer), row.2) {
             return i;
         }
     }

@@ -1,5 +1,5 @@
 //! Lists of calls for a book, and answers in words.
-use crate::tests::rows::row_of;
+use crate::tests::rows::Row;
 use crate::tests::script::{Call as ScriptCall, Script, debug_text, fault_text, trial_text};
 use chr_book::Book;
 use chr_calls::{Batch, BatchReport, Turn, TurnFault};
@@ -173,13 +173,12 @@ fn list_call<A: Allocator + Copy>(
 pub fn list_of<A: Allocator + Copy>(
     alloc: A,
     script: &Script<A>,
-    rows: &[&str],
+    rows: &[Row],
 ) -> Option<Calls<A>> {
     let mut calls = Calls::new(alloc);
-    for text in rows {
-        let row = row_of(text)?;
-        let call = list_call(alloc, script, row.call)?;
-        calls.add(row.seat, call).ok()?;
+    for (seat, call, _, _) in rows {
+        let call = list_call(alloc, script, *call)?;
+        calls.add(*seat, call).ok()?;
     }
     Some(calls)
 }

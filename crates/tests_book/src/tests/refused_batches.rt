@@ -1,12 +1,11 @@
 //! A worked run by batches, with a request of each call refused.
 use crate::tests::batches::{SCENES, Scene, takes_first_goals};
 use crate::tests::lists::{add_made, judged_copy, turn_text};
-use crate::tests::plays::Play;
+use crate::tests::plays::{Play, Played, play_each};
 use crate::tests::script::{is_text, open, trial_text};
 use chr_book::Book;
-use chr_calls::{Batch, TurnFault};
-use chr_search::{Judged, Trial};
-use refusing::{Refusable, Refusing, refuse_each};
+use chr_calls::{Batch, Turn, TurnFault};
+use chr_search::Judged;
 use std::alloc::{AllocError, Allocator, Global};
 
 /// The seat, and the ticket of the goal that it works on after the first four.
@@ -49,14 +48,14 @@ fn judge_batch<A: Allocator + Copy>(
     judgements: &mut Vec<Judged<A>, A>,
 ) -> Option<bool> {
     play.memory.refuse(play.n);
-    let mut batch = book.batch(SEAT, TICKET);
-    let refused = play
-        .memory
-        .is_refused(matches!(batch, Err(TurnFault::NoMemory)))?;
-    if refused {
-        batch = book.batch(SEAT, TICKET);
-    }
-    add_judgements(play.alloc, judgements, &batch).and(Some(refused))
+    let batch = book.batch(SEAT, TICKET);
+    let fails = matches!(batch, Err(TurnFault::NoMemory));
+    let added = match play.memory.is_refused(fails) {
+        Some(true) => add_judgements(play.alloc, judgements, &book.batch(SEAT, TICKET)),
+        Some(false) => add_judgements(play.alloc, judgements, &batch),
+        None => None,
+    };
+    added.and(Some(fails))
 }
 
 /// Judgements in words.
@@ -71,8 +70,35 @@ fn judgements_text<A: Allocator + Copy>(
     Ok(text)
 }
 
+/// Whether so many judgements were reported, and this comes next, as a row has it.
+fn is_right<A: Allocator + Copy>(
+    play: &Play<A>,
+    reported: usize,
+    next: &Result<Turn<A>, TurnFault>,
+    row: &Row,
+) -> bool {
+    reported == row.1 && is_text(turn_text(play.alloc, play.texts, next), row.2)
+}
+
+/// Reports judgements again, of which so many were reported before. Whether both reports together are as expected.
+fn is_reported_again<A: Allocator + Copy>(
+    book: &mut Book<A>,
+    play: &Play<A>,
+    judgements: &[Judged<A>],
+    before: usize,
+    row: &Row,
+) -> bool {
+    let report = book.report_batch(SEAT, TICKET, judgements);
+    is_right(
+        play,
+        before.wrapping_add(report.reported),
+        &report.next,
+        row,
+    )
+}
+
 /// Reports judgements with a request refused, and again where it was. Whether it was refused. None where the call doesn't
-/// fail exactly then, or where both calls together don't report so many and tell what comes next.
+/// fail exactly then, or where it isn't as expected.
 fn is_reported<A: Allocator + Copy>(
     book: &mut Book<A>,
     play: &Play<A>,
@@ -80,16 +106,14 @@ fn is_reported<A: Allocator + Copy>(
     row: &Row,
 ) -> Option<bool> {
     play.memory.refuse(play.n);
-    let mut report = book.report_batch(SEAT, TICKET, judgements);
+    let report = book.report_batch(SEAT, TICKET, judgements);
     let fails = matches!(report.next, Err(TurnFault::NoMemory));
-    let refused = play.memory.is_refused(fails)?;
-    let mut count = report.reported;
-    if refused {
-        report = book.report_batch(SEAT, TICKET, judgements);
-        count = count.wrapping_add(report.reported);
-    }
-    let next = turn_text(play.alloc, play.texts, &report.next);
-    (count == row.1 && is_text(next, row.2)).then_some(refused)
+    let is_right = match play.memory.is_refused(fails) {
+        Some(true) => is_reported_again(book, play, judgements, report.reported, row),
+        Some(false) => is_right(play, report.reported, &report.next, row),
+        None => false,
+    };
+    is_right.then_some(fails)
 }
 
 /// Makes both calls of a row with a request of each refused. Whether one was. None where an answer isn't as expected.
@@ -103,9 +127,14 @@ fn is_refused<A: Allocator + Copy>(book: &mut Book<A>, play: &Play<A>, row: &Row
     }
 }
 
+/// Claims the ticket of the last goal. Whether it is given.
+fn claims<A: Allocator + Copy>(book: &mut Book<A>) -> bool {
+    book.claim(SEAT, TICKET).is_ok()
+}
+
 /// The same of all rows, after the first four goals.
 fn play_on<A: Allocator + Copy>(book: &mut Book<A>, play: &Play<A>, posts: &str) -> Option<bool> {
-    if !takes_first_goals(play.alloc, book, posts) || book.claim(SEAT, TICKET).is_err() {
+    if !takes_first_goals(play.alloc, book, posts) || !claims(book) {
         return None;
     }
     let mut any = false;
@@ -115,36 +144,17 @@ fn play_on<A: Allocator + Copy>(book: &mut Book<A>, play: &Play<A>, posts: &str)
     Some(any)
 }
 
-/// The same on a book of its own.
-fn play_scene<A: Allocator + Copy>(play: &Play<A>, scene: &Scene) -> Option<bool> {
-    let mut book = open(play.alloc, scene.opening)?;
-    play_on(&mut book, play, scene.posts)
-}
-
-/// The batches of a scene.
-#[derive(Drop)]
-struct Batches<'s> {
-    scene: &'s Scene,
-    texts: Global,
-}
-
-impl Refusable for Batches<'_> {
-    fn is_made_again(&self, memory: &Refusing<Global>, n: u64) -> Option<bool> {
-        let play = Play {
-            alloc: memory,
-            memory,
-            texts: self.texts,
-            n,
-        };
-        play_scene(&play, self.scene)
+impl Played for Scene {
+    fn is_refused<A: Allocator + Copy>(&self, play: &Play<A>) -> Option<bool> {
+        let mut book = open(play.alloc, self.opening)?;
+        play_on(&mut book, play, self.posts)
     }
 }
 
 #[test]
 fn each_request_of_a_batch_is_refused(rt: HostRuntime) {
     for scene in &SCENES {
-        let texts = rt.alloc();
-        let refused = refuse_each(texts, &Batches { scene, texts });
-        assert!(rt; matches!(refused, Ok(1..)), "{}: {refused:?}", scene.posts);
+        let (is_right, n) = play_each(rt.alloc(), scene);
+        assert!(rt; is_right, "request {n} of {}", scene.posts);
     }
 }

@@ -1,10 +1,9 @@
 //! Rounds of calls for each ticket of a worked run, with a request of each call refused.
-use crate::tests::plays::Play;
+use crate::tests::plays::{Play, Played, play_each};
 use crate::tests::script::{Opening, has_lines, open};
 use chr_book::Book;
 use chr_calls::TicketState;
-use refusing::{Refusable, Refusing, refuse_each};
-use std::alloc::{Allocator, Global};
+use std::alloc::Allocator;
 
 const SEAT: u32 = 1;
 
@@ -79,36 +78,17 @@ fn play_on<A: Allocator + Copy>(book: &mut Book<A>, play: &Play<A>, scene: &Scen
     has_lines(play.texts, book, scene.lines.as_bytes()).then_some(any)
 }
 
-/// The same on a book of its own.
-fn play_scene<A: Allocator + Copy>(play: &Play<A>, scene: &Scene) -> Option<bool> {
-    let mut book = open(play.alloc, scene.opening)?;
-    play_on(&mut book, play, scene)
-}
-
-/// The rounds of a scene.
-#[derive(Drop)]
-struct Rounds<'s> {
-    scene: &'s Scene,
-    texts: Global,
-}
-
-impl Refusable for Rounds<'_> {
-    fn is_made_again(&self, memory: &Refusing<Global>, n: u64) -> Option<bool> {
-        let play = Play {
-            alloc: memory,
-            memory,
-            texts: self.texts,
-            n,
-        };
-        play_scene(&play, self.scene)
+impl Played for Scene {
+    fn is_refused<A: Allocator + Copy>(&self, play: &Play<A>) -> Option<bool> {
+        let mut book = open(play.alloc, self.opening)?;
+        play_on(&mut book, play, self)
     }
 }
 
 #[test]
 fn each_request_of_a_round_is_refused(rt: HostRuntime) {
     for scene in &SCENES {
-        let texts = rt.alloc();
-        let refused = refuse_each(texts, &Rounds { scene, texts });
-        assert!(rt; matches!(refused, Ok(1..)), "{}: {refused:?}", scene.posts);
+        let (is_right, n) = play_each(rt.alloc(), scene);
+        assert!(rt; is_right, "request {n} of {}", scene.posts);
     }
 }

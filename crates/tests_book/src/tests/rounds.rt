@@ -1,10 +1,11 @@
 //! Rounds of calls by one seat.
-use crate::tests::rows::rows_right;
-use crate::tests::script::{Call, Opening, Script, is_text};
+use crate::tests::rows::{Row, rows_right};
+use crate::tests::script::Call::{Claim, Post};
+use crate::tests::script::{Opening, Script, is_text};
 use crate::tests::tables::TOKEN;
 use std::alloc::Global;
 
-const POSTED: [&str; 1] = ["0 post n(1), t, t. | Ok(1) | WWW"];
+static POSTED: [Row; 1] = [(0, Post("n(1), t, t."), "Ok(1)", "WWW")];
 
 /// A seat, a ticket, how many rounds are made at most, the answer, and the states of the tickets after it.
 type Rounds<'t> = (u32, u64, u64, &'t str, &'t str);
@@ -23,7 +24,7 @@ static ROUNDS: [Rounds; 8] = [
 const LINES: &str =
     "quiet\nP 1 n(1)\nP 2 t\nP 3 t\nA 1 1\nD 1\nA 2 2\nF 2 1 2\\1\nD 2\nA 3 3\nD 3\nA 4 4\nD 4\n#2 t\n#3 t\n#4 r(1)\n";
 
-const WAITING: [&str; 1] = ["0 post t, n(1), t. | Ok(1) | WWW"];
+static WAITING: [Row; 1] = [(0, Post("t, n(1), t."), "Ok(1)", "WWW")];
 
 static STARTS: [Rounds; 8] = [
     (1, 1, 0, "Ok(None)", "WWW"),
@@ -61,7 +62,7 @@ const STARTED: &str =
 /// of the tickets after it, are as expected.
 fn is_right(script: &mut Script<Global>, starts: bool, rounds: &Rounds) -> bool {
     let (seat, ticket, most, answer, states) = *rounds;
-    if !starts && script.make(1, Call::Claim(ticket), &[]).is_err() {
+    if !starts && script.make(1, Claim(ticket), &[]).is_err() {
         return false;
     }
     is_text(script.make_rounds(starts, seat, ticket, most), answer) && script.has_states(states)
@@ -71,7 +72,7 @@ fn is_right(script: &mut Script<Global>, starts: bool, rounds: &Rounds) -> bool 
 /// answered as expected.
 fn rounds_right(
     script: &mut Script<Global>,
-    posts: &[&str],
+    posts: &[Row],
     starts: bool,
     all: &[Rounds],
 ) -> Option<usize> {
@@ -90,7 +91,7 @@ fn rounds_right(
 fn end(
     alloc: Global,
     limit: u64,
-    posts: &[&str],
+    posts: &[Row],
     starts: bool,
     all: &[Rounds],
     lines: &str,

@@ -51,11 +51,11 @@ const ROUNDS: usize = 25;
 struct Course {
     seat: u32,
     ticket: u64,
-    kinds: [Does; 8],
+    kinds: &'static [Does],
 }
 
 /// Calls that take a goal further trial by trial.
-const SINGLY: [Does; 8] = [
+static SINGLY: [Does; 8] = [
     Does::Claim,
     Does::Trial,
     Does::Report,
@@ -67,7 +67,7 @@ const SINGLY: [Does; 8] = [
 ];
 
 /// Calls that take a goal further by batches.
-const BY_BATCHES: [Does; 8] = [
+static BY_BATCHES: [Does; 8] = [
     Does::Claim,
     Does::Batch,
     Does::ReportBatch,
@@ -119,9 +119,9 @@ fn drawn_course(book: &Book<Global>, draw: u64) -> Course {
         _ => (number % 3) as u32 + 1,
     };
     let kinds = if number / 3 % 2 == 0 {
-        SINGLY
+        &SINGLY
     } else {
-        BY_BATCHES
+        &BY_BATCHES
     };
     Course {
         seat,
@@ -261,21 +261,15 @@ fn store_of(alloc: Global, book: &Book<Global>) -> Result<Vec<(u64, Atom<Global>
     Ok(store)
 }
 
-/// What the check of a book's log answers. None where it is refused, or where memory ran out.
-fn verdict(alloc: Global, book: &Book<Global>, store: &[(u64, Atom<Global>)]) -> Option<Verdict> {
-    let events = events_of(alloc, book.log()).ok()?;
-    check(alloc, book.program(), Version::Two, &events, store).ok()
-}
-
-/// The same of the entries of its strict log.
-fn verdict_of(
+/// What the check of a book's events answers. None where it is refused, or where memory ran out.
+fn verdict(
     alloc: Global,
     book: &Book<Global>,
-    entries: &[Entry<Global>],
+    version: Version,
+    events: Result<Vec<Event<Global>>, AllocError>,
     store: &[(u64, Atom<Global>)],
 ) -> Option<Verdict> {
-    let events = strict_events(alloc, entries).ok()?;
-    check(alloc, book.program(), Version::One, &events, store).ok()
+    check(alloc, book.program(), version, &events.ok()?, store).ok()
 }
 
 /// What the check of a book's strict log answers, where it has one. None where it is refused, or where memory ran out.
@@ -286,15 +280,19 @@ fn strict_verdict(
 ) -> Option<Option<Verdict>> {
     match book.strict_log().ok()? {
         None => Some(None),
-        Some(log) => verdict_of(alloc, book, log.entries(), store).map(Some),
+        Some(log) => {
+            let events = strict_events(alloc, log.entries());
+            verdict(alloc, book, Version::One, events, store).map(Some)
+        }
     }
 }
 
 /// What the checks of a book's log and of its strict log answer. None where one is refused, or where memory ran out.
 fn verdicts(alloc: Global, book: &Book<Global>) -> Option<(Verdict, Option<Verdict>)> {
     let store = store_of(alloc, book).ok()?;
+    let events = events_of(alloc, book.log());
     match (
-        verdict(alloc, book, &store),
+        verdict(alloc, book, Version::Two, events, &store),
         strict_verdict(alloc, book, &store),
     ) {
         (Some(verdict), Some(strict)) => Some((verdict, strict)),
@@ -346,13 +344,13 @@ fn quiet_books(alloc: Global, scene: &Scene, seeds: u64) -> (u64, u64) {
 #[test]
 fn each_schedule_is_a_run(rt: HostRuntime) {
     let (quiet, wrong) = quiet_books(rt.alloc(), &NUMBERS, 200);
-    assert_eq!(rt; wrong, 0);
-    assert!(rt; 20 < quiet && quiet < 180, "{quiet} of 200 are quiet");
+    let is_right = wrong == 0 && 20 < quiet && quiet < 180;
+    assert!(rt; is_right, "{quiet} of 200 are quiet, {wrong} is wrong");
 }
 
 #[test]
 fn each_schedule_with_compound_values_is_a_run(rt: HostRuntime) {
     let (quiet, wrong) = quiet_books(rt.alloc(), &COMPOUND, 40);
-    assert_eq!(rt; wrong, 0);
-    assert!(rt; 4 < quiet && quiet < 36, "{quiet} of 40 are quiet");
+    let is_right = wrong == 0 && 4 < quiet && quiet < 36;
+    assert!(rt; is_right, "{quiet} of 40 are quiet, {wrong} is wrong");
 }

@@ -1,12 +1,13 @@
 //! A judgement that was made of another program's rule.
-use crate::tests::rows::rows_right;
-use crate::tests::script::{Call, Opening, Script, is_text};
+use crate::tests::rows::{Row, rows_right};
+use crate::tests::script::Call::{Claim, Fire, Post, Trial};
+use crate::tests::script::{Opening, Script, is_text};
 use std::alloc::Global;
 
-const ROWS: [&str; 3] = [
-    "0 post a. | Ok(1) | W",
-    "1 claim 1 | Ok(1) | 1",
-    "1 trial 1 | 1.1 [1] Whole | 1",
+static ROWS: [Row; 3] = [
+    (0, Post("a."), "Ok(1)", "W"),
+    (1, Claim(1), "Ok(1)", "1"),
+    (1, Trial(1), "1.1 [1] Whole", "1"),
 ];
 
 /// A book of a program, whose first trial is judged. None where a call isn't answered as expected.
@@ -23,25 +24,25 @@ fn judged(alloc: Global, program: &str) -> Option<Script<Global>> {
     Some(script)
 }
 
-/// Whether a book answers E14 to the judgement of another, whether that leaves its lines as they were, and whether it answers
-/// to its own judgement as expected.
-fn are_right(
-    script: &mut Script<Global>,
-    other: &Script<Global>,
-    own: &str,
-) -> Option<(bool, bool, bool)> {
-    let before = script.lines().ok()?;
-    let stale = is_text(script.fire_judged(1, 1, other.judged(1)?), "Err(Stale)");
-    let is_unchanged = script.has_lines(&before);
-    let fired = is_text(script.make(1, Call::Fire(1), &[]), own);
-    Some((stale, is_unchanged, fired))
+/// Whether a book answers E14 to the judgement of another, is left as it was, and then answers to its own judgement as
+/// expected.
+fn is_right(script: &mut Script<Global>, other: &Script<Global>, own: &str) -> bool {
+    match (script.lines(), other.judged(1)) {
+        (Ok(before), Some(judged)) => {
+            is_text(script.fire_judged(1, 1, judged), "Err(Stale)")
+                && script.has_lines(&before)
+                && is_text(script.make(1, Fire(1), &[]), own)
+        }
+        _ => false,
+    }
 }
 
 /// The same for a book of the first program, and the judgement of a book of the second.
-fn answers(alloc: Global, first: &str, second: &str, own: &str) -> Option<(bool, bool, bool)> {
-    let mut script = judged(alloc, first)?;
-    let other = judged(alloc, second)?;
-    are_right(&mut script, &other, own)
+fn are_right(alloc: Global, first: &str, second: &str, own: &str) -> bool {
+    match (judged(alloc, first), judged(alloc, second)) {
+        (Some(mut script), Some(other)) => is_right(&mut script, &other, own),
+        _ => false,
+    }
 }
 
 /// Two programs, and the answer to the first one's own judgement.
@@ -71,7 +72,9 @@ const PAIRS: [(&str, &str, &str); 4] = [
 #[test]
 fn fire_trusts_the_rule_number(rt: HostRuntime) {
     for (first, second, own) in &PAIRS {
-        let right = answers(rt.alloc(), first, second, own);
-        assert_eq!(rt; right, Some((true, true, true)), "{first} {second}");
+        assert!(rt;
+            are_right(rt.alloc(), first, second, own),
+            "{first} {second}"
+        );
     }
 }
