@@ -22,6 +22,7 @@ fn first_number(atoms: &[Atom<Global>]) -> Option<i64> {
     }
 }
 
+/// What the first two variables are, and the number that the body then holds; None where the heads don't fit.
 type Fitted = Option<(Option<i64>, Option<i64>, Option<i64>)>;
 
 /// The number that the body under a binding holds. The outer Option is None where memory ran out.
@@ -36,50 +37,56 @@ fn body_number(
     })
 }
 
-/// What the first two variables are under a binding, and the number that the body then holds.
-fn values_under(
+/// Whether a binding is as wanted.
+fn is_bound(
     alloc: Global,
     rule: &Rule<Global>,
     binding: &Binding<'_, Global>,
-) -> Option<Fitted> {
-    let made = body_number(alloc, rule, binding)?;
-    let (first, second) = (number_of(binding.at(0)), number_of(binding.at(1)));
-    Some(Some((first, second, made)))
+    wanted: &Fitted,
+) -> bool {
+    let Some((first, second, made)) = wanted else {
+        return false;
+    };
+    number_of(binding.at(0)) == *first
+        && number_of(binding.at(1)) == *second
+        && body_number(alloc, rule, binding) == Some(*made)
 }
 
-/// The same once these heads are these atoms.
-fn fitted_by(
+/// Whether these atoms fit these heads as wanted.
+fn is_fitted_by(
     alloc: Global,
     rule: &Rule<Global>,
     placed: &[(usize, &Atom<Global>)],
-) -> Option<Fitted> {
+    wanted: &Fitted,
+) -> bool {
     match fit(rule, placed) {
-        None => Some(None),
-        Some(binding) => values_under(alloc, rule, &binding),
+        None => wanted.is_none(),
+        Some(binding) => is_bound(alloc, rule, &binding, wanted),
     }
 }
 
 /// The same of a program's rule, and of heads by their numbers and the places of their atoms.
-fn fitted_at(
+fn is_fitted_at(
     alloc: Global,
     program: &Program<Global>,
     atoms: &[Atom<Global>],
     heads: &[(usize, usize)],
-) -> Option<Fitted> {
+    wanted: &Fitted,
+) -> Option<bool> {
     let mut placed = Vec::new(alloc);
     for (number, place) in heads {
         placed.push((*number, atoms.get(*place)?)).ok()?;
     }
-    fitted_by(alloc, program.rule(1)?, &placed)
+    Some(is_fitted_by(alloc, program.rule(1)?, &placed, wanted))
 }
 
-/// What fits the heads of `p(A,B) \ q(A) <=> r(B).`, each the number of a head and the place of an atom among `p(3,4)`,
-/// `q(3)` and `q(5)`.
-fn fitted(alloc: Global, heads: &[(usize, usize)]) -> Option<Fitted> {
+/// Whether heads of `p(A,B) \ q(A) <=> r(B).` fit as wanted, each the number of a head and the place of an atom among
+/// `p(3,4)`, `q(3)` and `q(5)`. None where memory ran out.
+fn is_fitted(alloc: Global, heads: &[(usize, usize)], wanted: &Fitted) -> Option<bool> {
     let mut names = Names::new(alloc);
     let program = program_of(alloc, "p(A,B) \\ q(A) <=> r(B).", &mut names)?;
     let atoms = atoms_of(alloc, "p(3,4), q(3), q(5).", &mut names)?;
-    fitted_at(alloc, &program, &atoms, heads)
+    is_fitted_at(alloc, &program, &atoms, heads, wanted)
 }
 
 /// Heads, and what fits them.
@@ -96,8 +103,11 @@ static FITTED: [(&[(usize, usize)], Fitted); 8] = [
 
 #[test]
 fn heads_fit_and_the_body_follows(rt: HostRuntime) {
-    for (heads, wanted) in &FITTED {
-        assert_eq!(rt; fitted(rt.alloc(), heads), Some(*wanted), "{heads:?}");
+    for (i, (heads, wanted)) in FITTED.iter().enumerate() {
+        assert!(rt;
+            is_fitted(rt.alloc(), heads, wanted) == Some(true),
+            "row {i}"
+        );
     }
 }
 
@@ -274,7 +284,7 @@ fn instances_with_compound_values(rt: HostRuntime) {
     for (program, rows) in &INSTANCES {
         for row in *rows {
             let says = is_as_it_says(rt.alloc(), program, row);
-            assert_eq!(rt; says, Some(true), "{program} {row}");
+            assert!(rt; says == Some(true), "{program} {row}");
         }
     }
 }

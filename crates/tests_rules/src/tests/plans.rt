@@ -123,6 +123,6 @@ fn found(alloc: Global, text: &str, steps: Steps, places: Places) -> Option<(u8,
 fn plans_and_the_places_that_they_look_up(rt: HostRuntime) {
     for (text, steps, places) in &ROWS {
         let found = found(rt.alloc(), text, steps, places);
-        assert_eq!(rt; found, Some((0, true)), "{text}");
+        assert!(rt; found == Some((0, true)), "{text}");
     }
 }

@@ -32,15 +32,15 @@ const CALLS: [Call; 9] = [
 impl Refusable for Call {
     fn is_made_again(&self, memory: &Refusing<Global>, n: u64) -> Option<bool> {
         match self {
-            Call::PushRule => refused_plans::push(memory, n),
-            Call::CopyProgram => refused_plans::copy(memory, n),
-            Call::MakePlans => refused_plans::make(memory, n),
-            Call::Places => refused_plans::places(memory, n),
-            Call::OpenIndexed => refused_store::open(memory, n),
-            Call::Insert => refused_store::insert(memory, n),
-            Call::InsertIndexed => refused_store::insert_indexed(memory, n),
-            Call::InsertCompound => refused_store::insert_compound(memory, n),
-            Call::CopyStore => refused_store::copy(memory, n),
+            Call::PushRule => refused_plans::push(memory, memory, n),
+            Call::CopyProgram => refused_plans::copy(memory, memory, n),
+            Call::MakePlans => refused_plans::make(memory, memory, n),
+            Call::Places => refused_plans::places(memory, memory, n),
+            Call::OpenIndexed => refused_store::open(memory, memory, n),
+            Call::Insert => refused_store::insert(memory, memory, n),
+            Call::InsertIndexed => refused_store::insert_indexed(memory, memory, n),
+            Call::InsertCompound => refused_store::insert_compound(memory, memory, n),
+            Call::CopyStore => refused_store::copy(memory, memory, n),
         }
     }
 }

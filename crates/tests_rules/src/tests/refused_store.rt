@@ -1,9 +1,9 @@
-//! A store.
+//! A store. The allocator `alloc` hands on to `memory`, whose request number `n` is refused.
 use crate::tests::texts::{atoms_of, inserts, inserts_text};
 use chr_store::{Store, StoreFault};
 use chr_value::{Atom, Name, Names, Pred, Value, ValueRef};
 use refusing::Refusing;
-use std::alloc::Global;
+use std::alloc::{Allocator, Global};
 
 const PRED: Pred = Pred {
     name: Name { number: 0 },
@@ -11,22 +11,19 @@ const PRED: Pred = Pred {
 };
 
 /// An atom without arguments, which takes no memory.
-fn atom_of(memory: &Refusing<Global>, number: u32) -> Atom<&Refusing<Global>> {
-    Atom::new(memory, Name { number })
+fn atom_of<A: Allocator + Copy>(alloc: A, number: u32) -> Atom<A> {
+    Atom::new(alloc, Name { number })
 }
 
 /// An atom with a number as its argument, which takes no memory.
-fn unary_of(memory: &Refusing<Global>, argument: i64) -> Atom<&Refusing<Global>> {
-    let mut atom = Atom::new(memory, PRED.name);
+fn unary_of<A: Allocator + Copy>(alloc: A, argument: i64) -> Atom<A> {
+    let mut atom = Atom::new(alloc, PRED.name);
     let _taken = atom.push(Value::Int(argument));
     atom
 }
 
 /// Inserts an atom. The same atom, where memory is refused.
-fn given_back<'m>(
-    store: &mut Store<&'m Refusing<Global>>,
-    atom: Atom<&'m Refusing<Global>>,
-) -> Option<Atom<&'m Refusing<Global>>> {
+fn given_back<A: Allocator + Copy>(store: &mut Store<A>, atom: Atom<A>) -> Option<Atom<A>> {
     match store.insert(atom) {
         Err(StoreFault::NoMemory(atom)) => Some(atom),
         _ => None,
@@ -34,9 +31,9 @@ fn given_back<'m>(
 }
 
 /// The next label of a store after another, by a value where there is one.
-fn next_after<'m>(
-    store: &Store<&'m Refusing<Global>>,
-    value: Option<ValueRef<'_, &'m Refusing<Global>>>,
+fn next_after<'v, A: Allocator + Copy>(
+    store: &'v Store<A>,
+    value: Option<ValueRef<'v, A>>,
     last: u64,
 ) -> Option<u64> {
     let key = match value {
@@ -47,10 +44,7 @@ fn next_after<'m>(
 }
 
 /// Inserts an atom, and again where that fails. Whether it fails; None where the store has some of it then.
-fn insert_again<'m>(
-    store: &mut Store<&'m Refusing<Global>>,
-    atom: Atom<&'m Refusing<Global>>,
-) -> Option<bool> {
+fn insert_again<A: Allocator + Copy>(store: &mut Store<A>, atom: Atom<A>) -> Option<bool> {
     let Some(atom) = given_back(store, atom) else {
         return Some(false);
     };
@@ -61,19 +55,20 @@ fn insert_again<'m>(
 }
 
 /// Inserts 40 atoms, each again where that fails: without arguments, or 20 of each of two numbers.
-fn insert_all<'m>(
-    memory: &'m Refusing<Global>,
+fn insert_all<A: Allocator + Copy>(
+    alloc: A,
+    memory: &Refusing<Global>,
     n: u64,
     numbers: bool,
-    store: &mut Store<&'m Refusing<Global>>,
+    store: &mut Store<A>,
 ) -> Option<bool> {
     let mut fails = false;
     memory.refuse(n);
     for number in 0..40u32 {
         let atom = if numbers {
-            unary_of(memory, i64::from(number % 2))
+            unary_of(alloc, i64::from(number % 2))
         } else {
-            atom_of(memory, number)
+            atom_of(alloc, number)
         };
         fails = insert_again(store, atom)? || fails;
     }
@@ -83,27 +78,24 @@ fn insert_all<'m>(
     memory.is_refused(fails)
 }
 
-pub fn insert(memory: &Refusing<Global>, n: u64) -> Option<bool> {
-    let mut store = Store::new(memory, 40);
-    insert_all(memory, n, false, &mut store)
+pub fn insert<A: Allocator + Copy>(alloc: A, memory: &Refusing<Global>, n: u64) -> Option<bool> {
+    let mut store = Store::new(alloc, 40);
+    insert_all(alloc, memory, n, false, &mut store)
 }
 
 /// A store with an index.
-fn indexed(memory: &Refusing<Global>) -> Option<Store<&Refusing<Global>>> {
-    Store::indexed(memory, 40, &[(PRED, 1)]).ok()
+fn indexed<A: Allocator + Copy>(alloc: A) -> Option<Store<A>> {
+    Store::indexed(alloc, 40, &[(PRED, 1)]).ok()
 }
 
-pub fn open(memory: &Refusing<Global>, n: u64) -> Option<bool> {
+pub fn open<A: Allocator + Copy>(alloc: A, memory: &Refusing<Global>, n: u64) -> Option<bool> {
     memory.refuse(n);
-    let refused = memory.is_refused(indexed(memory).is_none())?;
-    indexed(memory).is_some().then_some(refused)
+    let refused = memory.is_refused(indexed(alloc).is_none())?;
+    indexed(alloc).is_some().then_some(refused)
 }
 
 /// How many of the labels up to 40 have a value.
-fn count_of<'m>(
-    store: &Store<&'m Refusing<Global>>,
-    value: ValueRef<'_, &'m Refusing<Global>>,
-) -> usize {
+fn count_of<'v, A: Allocator + Copy>(store: &'v Store<A>, value: ValueRef<'v, A>) -> usize {
     let mut labels: usize = 0;
     let mut last = 0;
     for _ in 0..40u8 {
@@ -116,9 +108,13 @@ fn count_of<'m>(
 }
 
 /// Inserts the numbers into a store with an index, which then has them at their keys.
-pub fn insert_indexed(memory: &Refusing<Global>, n: u64) -> Option<bool> {
-    let mut store = indexed(memory)?;
-    let refused = insert_all(memory, n, true, &mut store)?;
+pub fn insert_indexed<A: Allocator + Copy>(
+    alloc: A,
+    memory: &Refusing<Global>,
+    n: u64,
+) -> Option<bool> {
+    let mut store = indexed(alloc)?;
+    let refused = insert_all(alloc, memory, n, true, &mut store)?;
     let counts = (
         count_of(&store, ValueRef::Int(0)),
         count_of(&store, ValueRef::Int(1)),
@@ -127,11 +123,11 @@ pub fn insert_indexed(memory: &Refusing<Global>, n: u64) -> Option<bool> {
 }
 
 /// Inserts copies of two atoms by turns, six of each, each again where that fails, and the store has none of it in between.
-fn insert_copies<'m>(
-    memory: &'m Refusing<Global>,
+fn insert_copies<A: Allocator + Copy>(
+    memory: &Refusing<Global>,
     n: u64,
-    store: &mut Store<&'m Refusing<Global>>,
-    atoms: &[Atom<&'m Refusing<Global>>],
+    store: &mut Store<A>,
+    atoms: &[Atom<A>],
 ) -> Option<bool> {
     let mut fails = false;
     memory.refuse(n);
@@ -148,22 +144,27 @@ fn insert_copies<'m>(
 }
 
 /// The same into a store with an index, which then has them at their keys.
-fn insert_indexed_copies<'m>(
-    memory: &'m Refusing<Global>,
+fn insert_indexed_copies<A: Allocator + Copy>(
+    alloc: A,
+    memory: &Refusing<Global>,
     n: u64,
-    atoms: &[Atom<&'m Refusing<Global>>],
+    atoms: &[Atom<A>],
 ) -> Option<bool> {
-    let mut store = indexed(memory)?;
+    let mut store = indexed(alloc)?;
     let refused = insert_copies(memory, n, &mut store, atoms)?;
     let value = atoms.last()?.arg(0)?;
     (count_of(&store, value) == 6).then_some(refused)
 }
 
 /// Inserts atoms whose arguments are compound.
-pub fn insert_compound(memory: &Refusing<Global>, n: u64) -> Option<bool> {
-    let mut names = Names::new(memory);
-    let atoms = atoms_of(memory, "p(f(1)), p(f(2)).", &mut names)?;
-    insert_indexed_copies(memory, n, &atoms)
+pub fn insert_compound<A: Allocator + Copy>(
+    alloc: A,
+    memory: &Refusing<Global>,
+    n: u64,
+) -> Option<bool> {
+    let mut names = Names::new(alloc);
+    let atoms = atoms_of(alloc, "p(f(1)), p(f(2)).", &mut names)?;
+    insert_indexed_copies(alloc, memory, n, &atoms)
 }
 
 /// 30 atoms without arguments, and ten with compound ones.
@@ -171,20 +172,20 @@ const ATOMS: &str =
     "a, b, c, d, e, f, g, h, i, j, k, l, m, n, o, q, r, s, t, u, v, w, x, y, z, aa, ab, ac, ad, ae, p(f(0)), p(f(1)), p(f(2)), p(f(3)), p(f(4)), p(f(5)), p(f(6)), p(f(7)), p(f(8)), p(f(9)).";
 
 /// How many atoms a copy of a store has. None where memory is refused.
-fn copied<'m>(memory: &'m Refusing<Global>, store: &Store<&'m Refusing<Global>>) -> Option<usize> {
-    match store.copy(memory) {
+fn copied<A: Allocator + Copy>(alloc: A, store: &Store<A>) -> Option<usize> {
+    match store.copy(alloc) {
         Ok(copy) => Some(copy.len()),
         Err(_) => None,
     }
 }
 
-pub fn copy(memory: &Refusing<Global>, n: u64) -> Option<bool> {
-    let mut names = Names::new(memory);
-    let mut store = Store::new(memory, 40);
-    if !inserts_text(memory, ATOMS, &mut names, &mut store) {
+pub fn copy<A: Allocator + Copy>(alloc: A, memory: &Refusing<Global>, n: u64) -> Option<bool> {
+    let mut names = Names::new(alloc);
+    let mut store = Store::new(alloc, 40);
+    if !inserts_text(alloc, ATOMS, &mut names, &mut store) {
         return None;
     }
     memory.refuse(n);
-    let refused = memory.is_refused(copied(memory, &store).is_none())?;
-    (copied(memory, &store) == Some(40)).then_some(refused)
+    let refused = memory.is_refused(copied(alloc, &store).is_none())?;
+    (copied(alloc, &store) == Some(40)).then_some(refused)
 }

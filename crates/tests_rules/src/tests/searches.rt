@@ -105,15 +105,12 @@ fn first_other(alloc: Global, scene: Scene, label: u64, rows: &[&str]) -> Option
     }
 }
 
-/// The same of a program and a store that are read from their texts.
-fn first_wrong(
-    alloc: Global,
-    program: &str,
-    posts: &str,
-    removed: &[u64],
-    label: u64,
-    rows: &[&str],
-) -> Option<usize> {
+/// A search: a program, posts, the labels that are removed, the active label and its trials.
+type Row<'r> = (&'r str, &'r str, &'r [u64], u64, &'r [&'r str]);
+
+/// The number of the first trial of a row's search that isn't as expected, 0 where all are. None where memory ran out.
+fn first_wrong(alloc: Global, row: &Row) -> Option<usize> {
+    let (program, posts, removed, label, trials) = *row;
     let mut names = Names::new(alloc);
     let program = program_of(alloc, program, &mut names)?;
     let store = store_of(alloc, posts, &mut names, removed)?;
@@ -123,7 +120,7 @@ fn first_wrong(
         plans: &plans,
         store: &store,
     };
-    first_other(alloc, scene, label, rows)
+    first_other(alloc, scene, label, trials)
 }
 
 /// How many trials are passed over before an instance, and its kept and removed labels.
@@ -222,48 +219,75 @@ fn is_found_twice(
 
 const GCD: &str = "gcd(0) <=> true. gcd(N) \\ gcd(M) <=> N =< M | L is M mod N, gcd(L).";
 
-#[test]
-fn one_label_has_no_partner(rt: HostRuntime) {
-    let rows = ["1.1 [1] Misfit", "2.1 [1] Part", "2.2 [1] Part"];
-    let wrong = first_wrong(rt.alloc(), GCD, "gcd(4).", &[], 1, &rows);
-    assert_eq!(rt; wrong, Some(0));
-}
+static ONE_LABEL: Row = (
+    GCD,
+    "gcd(4).",
+    &[],
+    1,
+    &["1.1 [1] Misfit", "2.1 [1] Part", "2.2 [1] Part"],
+);
 
 #[test]
-fn guard_decides_which_of_two_is_kept(rt: HostRuntime) {
-    let rows = [
+fn one_label_has_no_partner(rt: HostRuntime) {
+    assert!(rt; first_wrong(rt.alloc(), &ONE_LABEL) == Some(0));
+}
+
+static GUARDED: Row = (
+    GCD,
+    "gcd(9), gcd(6).",
+    &[],
+    2,
+    &[
         "1.1 [2] Misfit",
         "2.1 [2] Part",
         "2.1 [2, 1] Whole",
         "2.2 [2] Part",
         "2.2 [2, 1] Misfit",
-    ];
-    let wrong = first_wrong(rt.alloc(), GCD, "gcd(9), gcd(6).", &[], 2, &rows);
-    assert_eq!(rt; wrong, Some(0));
+    ],
+);
+
+#[test]
+fn guard_decides_which_of_two_is_kept(rt: HostRuntime) {
+    assert!(rt; first_wrong(rt.alloc(), &GUARDED) == Some(0));
 }
+
+static ELDEST: Row = (
+    GCD,
+    "gcd(9), gcd(6).",
+    &[],
+    1,
+    &["1.1 [1] Misfit", "2.1 [1] Part", "2.2 [1] Part"],
+);
 
 #[test]
 fn younger_labels_are_no_partners(rt: HostRuntime) {
-    let rows = ["1.1 [1] Misfit", "2.1 [1] Part", "2.2 [1] Part"];
-    let wrong = first_wrong(rt.alloc(), GCD, "gcd(9), gcd(6).", &[], 1, &rows);
-    assert_eq!(rt; wrong, Some(0));
+    assert!(rt; first_wrong(rt.alloc(), &ELDEST) == Some(0));
 }
 
-#[test]
-fn removed_labels_are_passed_over(rt: HostRuntime) {
-    let rows = [
+static REMOVED: Row = (
+    "p, q <=> r.",
+    "p, p, p, p, q.",
+    &[2],
+    5,
+    &[
         "1.2 [5] Part",
         "1.2 [5, 1] Whole",
         "1.2 [5, 3] Whole",
         "1.2 [5, 4] Whole",
-    ];
-    let wrong = first_wrong(rt.alloc(), "p, q <=> r.", "p, p, p, p, q.", &[2], 5, &rows);
-    assert_eq!(rt; wrong, Some(0));
-}
+    ],
+);
 
 #[test]
-fn one_label_does_not_serve_two_heads(rt: HostRuntime) {
-    let rows = [
+fn removed_labels_are_passed_over(rt: HostRuntime) {
+    assert!(rt; first_wrong(rt.alloc(), &REMOVED) == Some(0));
+}
+
+static THREE_HEADS: Row = (
+    "p, p, p <=> q.",
+    "p, p.",
+    &[],
+    2,
+    &[
         "1.1 [2] Part",
         "1.1 [2, 1] Part",
         "1.1 [2, 1, 1] Misfit",
@@ -273,30 +297,38 @@ fn one_label_does_not_serve_two_heads(rt: HostRuntime) {
         "1.3 [2] Part",
         "1.3 [2, 1] Part",
         "1.3 [2, 1, 1] Misfit",
-    ];
-    let wrong = first_wrong(rt.alloc(), "p, p, p <=> q.", "p, p.", &[], 2, &rows);
-    assert_eq!(rt; wrong, Some(0));
-}
+    ],
+);
 
 #[test]
-fn partners_are_found_by_the_value_that_joins_them(rt: HostRuntime) {
-    let rows = [
+fn one_label_does_not_serve_two_heads(rt: HostRuntime) {
+    assert!(rt; first_wrong(rt.alloc(), &THREE_HEADS) == Some(0));
+}
+
+static JOINED: Row = (
+    "edge(X,Y), edge(Y,Z), node(Z) <=> path(X,Z).",
+    "edge(a,b), edge(b,c), edge(c,b), node(c).",
+    &[],
+    4,
+    &[
         "1.3 [4] Part",
         "1.3 [4, 2] Part",
         "1.3 [4, 2, 1] Whole",
         "1.3 [4, 2, 3] Whole",
-    ];
-    let program = "edge(X,Y), edge(Y,Z), node(Z) <=> path(X,Z).";
-    let posts = "edge(a,b), edge(b,c), edge(c,b), node(c).";
-    let wrong = first_wrong(rt.alloc(), program, posts, &[], 4, &rows);
-    assert_eq!(rt; wrong, Some(0));
+    ],
+);
+
+#[test]
+fn partners_are_found_by_the_value_that_joins_them(rt: HostRuntime) {
+    assert!(rt; first_wrong(rt.alloc(), &JOINED) == Some(0));
 }
 
-/// Searches with compound values, worked by hand: a program, posts, the active label and its trials.
-static COMPOUND: [(&str, &str, u64, &[&str]); 9] = [
+/// Searches with compound values, worked by hand.
+static COMPOUND: [Row; 9] = [
     (
         "edge(X,Y), edge(Y,Z), node(Z) <=> path(X,Z).",
         "edge(f(a),f(b)), edge(f(b),f(c)), edge(f(c),f(b)), node(f(c)), node(c).",
+        &[],
         4,
         &[
             "1.3 [4] Part",
@@ -308,6 +340,7 @@ static COMPOUND: [(&str, &str, u64, &[&str]); 9] = [
     (
         "edge(X,Y), edge(Y,Z), node(Z) <=> path(X,Z).",
         "edge(f(a),f(b)), edge(f(b),f(c)), edge(f(c),f(b)), node(f(c)), node(c).",
+        &[],
         5,
         &["1.3 [5] Part"],
     ),
@@ -315,18 +348,21 @@ static COMPOUND: [(&str, &str, u64, &[&str]); 9] = [
     (
         "p(X), q(f(X)) <=> r.",
         "p(1), q(f(1)), q(f(2)), p(1).",
+        &[],
         4,
         &["1.1 [4] Part", "1.1 [4, 2] Whole", "1.1 [4, 3] Misfit"],
     ),
     (
         "p(X), q(f(X)) <=> r.",
         "p(1), q(f(1)), q(f(2)), p(1).",
+        &[],
         2,
         &["1.2 [2] Part", "1.2 [2, 1] Whole"],
     ),
     (
         "p(X), q(f(X)) <=> r.",
         "p(1), q(f(1)), q(f(2)), p(1).",
+        &[],
         3,
         &["1.2 [3] Part"],
     ),
@@ -334,24 +370,28 @@ static COMPOUND: [(&str, &str, u64, &[&str]); 9] = [
     (
         "t \\ p(f(1,g(a))) <=> true.",
         "p(f(1,g(a))), p(f(1,g(b))), p(f(1,a)), p(f(1,g(a))), t.",
+        &[],
         5,
         &["1.1 [5] Part", "1.1 [5, 1] Whole", "1.1 [5, 4] Whole"],
     ),
     (
         "p(f(X)) <=> X > 0 | true. p(f(X,X)) <=> true.",
         "p(f(1)), p(f(a)), p(1), p(f(1,1)).",
+        &[],
         4,
         &["1.1 [4] Misfit", "2.1 [4] Whole"],
     ),
     (
         "n(X) <=> n(s(X)).",
         "n(s(s(s(s(s(s(z))))))), n(s(s(s(s(s(s(s(z)))))))).",
+        &[],
         1,
         &["1.1 [1] Whole"],
     ),
     (
         "n(X) <=> n(s(X)).",
         "n(s(s(s(s(s(s(z))))))), n(s(s(s(s(s(s(s(z)))))))).",
+        &[],
         2,
         &["1.1 [2] Misfit"],
     ),
@@ -359,25 +399,29 @@ static COMPOUND: [(&str, &str, u64, &[&str]); 9] = [
 
 #[test]
 fn searches_with_compound_values(rt: HostRuntime) {
-    for (program, posts, label, rows) in &COMPOUND {
-        let wrong = first_wrong(rt.alloc(), program, posts, &[], *label, rows);
-        assert_eq!(rt; wrong, Some(0), "label {label} of {posts}");
+    for row in &COMPOUND {
+        let (_, posts, _, label, _) = row;
+        assert!(rt;
+            first_wrong(rt.alloc(), row) == Some(0),
+            "label {label} of {posts}"
+        );
     }
 }
 
+static DEAD: Row = (GCD, "gcd(9), gcd(6).", &[2], 2, &[]);
+
 #[test]
 fn dead_label_has_no_trials(rt: HostRuntime) {
-    let wrong = first_wrong(rt.alloc(), GCD, "gcd(9), gcd(6).", &[2], 2, &[]);
-    assert_eq!(rt; wrong, Some(0));
+    assert!(rt; first_wrong(rt.alloc(), &DEAD) == Some(0));
 }
 
 #[test]
 fn instance_is_found_before_its_atom_is_entered(rt: HostRuntime) {
     let expected = (2, &[2][..], &[1][..]);
     let found = is_found_twice(rt.alloc(), GCD, "gcd(9).", "gcd(6).", expected);
-    assert_eq!(rt; found, Some((true, true)));
+    assert!(rt; found == Some((true, true)));
     let program = "p(f(X)) \\ q(X) <=> r(X).";
     let expected = (1, &[2][..], &[1][..]);
     let found = is_found_twice(rt.alloc(), program, "q(g(a)).", "p(f(g(a))).", expected);
-    assert_eq!(rt; found, Some((true, true)));
+    assert!(rt; found == Some((true, true)));
 }
