@@ -75,8 +75,12 @@ fn calls_of(alloc: Global, table: &Table) -> Option<Calls<Global>> {
 
 /// How many answers are those of their rows before the first that isn't.
 fn rows_right(alloc: Global, rows: &[Row], answers: &[Answer<Global>]) -> usize {
-    for (i, (row, answer)) in rows.iter().zip(answers.iter()).enumerate() {
-        if !is_text(answer_text(alloc, alloc, answer), row.2) {
+    for (i, answer) in answers.iter().enumerate() {
+        let is_right = match rows.get(i) {
+            Some((_, _, expected, _)) => is_text(answer_text(alloc, alloc, answer), expected),
+            None => false,
+        };
+        if !is_right {
             return i;
         }
     }

@@ -1,41 +1,10 @@
 //! Tables of calls, with a request of each call refused.
 use crate::tests::plays::{Play, Played, play_each};
 use crate::tests::rows::Row;
-use crate::tests::script::Call::{self, Claim, Fire, Post, Trial};
-use crate::tests::script::{Opening, Script, is_text};
-use crate::tests::tables::{
-    ANOTHER_SEAT_GOES_ON, COMPOUND_VALUES, EACH_ANSWER, LABELS_ARE_SPENT, OLDER_GOAL_IS_DROPPED,
-    ONE_OF_TWO_FIRES, Table,
-};
+use crate::tests::script::{Call, Script, is_text};
+use crate::tests::tables::{Table, tables};
 use chr_value::Atom;
 use std::alloc::Allocator;
-
-/// So many tickets that a post and a body each grow their tree of tickets in their midst.
-static MANY_TICKETS: Table = Table {
-    name: "many tickets",
-    opening: Opening {
-        program: "a <=> b, b, b, b, b, b, b, b, b, b, b, b, b, b, b, b.",
-        names: "",
-        limit: 10,
-    },
-    rows: &[
-        (
-            0,
-            Post("a, a, a, a, a, a, a, a, a, a, a, a, a, a."),
-            "Ok(1)",
-            "WWWWWWWWWWWWWW",
-        ),
-        (1, Claim(1), "Ok(1)", "1WWWWWWWWWWWWW"),
-        (1, Trial(1), "1.1 [1] Whole", "1WWWWWWWWWWWWW"),
-        (
-            1,
-            Fire(1),
-            "Ok(Fired(Fired { first: 15, count: 16, active_lives: false }))",
-            "EWWWWWWWWWWWWWWWWWWWWWWWWWWWWW",
-        ),
-    ],
-    lines: "open\nP 1 a\nP 2 a\nP 3 a\nP 4 a\nP 5 a\nP 6 a\nP 7 a\nP 8 a\nP 9 a\nP 10 a\nP 11 a\nP 12 a\nP 13 a\nP 14 a\nA 1 1\nF 1 1 \\1\n",
-};
 
 /// Whether a row's call takes no memory.
 fn takes_none(row: &Row) -> bool {
@@ -138,16 +107,7 @@ impl Played for Table<'_> {
 
 #[test]
 fn each_request_of_a_call_is_refused(rt: HostRuntime) {
-    let tables = [
-        &ONE_OF_TWO_FIRES,
-        &OLDER_GOAL_IS_DROPPED,
-        &ANOTHER_SEAT_GOES_ON,
-        &LABELS_ARE_SPENT,
-        &EACH_ANSWER,
-        &COMPOUND_VALUES,
-        &MANY_TICKETS,
-    ];
-    for table in tables {
+    for table in tables() {
         let (is_right, n) = play_each(rt.alloc(), table);
         assert!(rt; is_right, "request {n} of {}", table.name);
     }

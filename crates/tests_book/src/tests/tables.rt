@@ -30,7 +30,7 @@ pub const GCD: Opening = Opening {
 };
 
 /// Two seats hold the same constraint in their candidates, and one of them fires.
-pub static ONE_OF_TWO_FIRES: Table = Table {
+static ONE_OF_TWO_FIRES: Table = Table {
     name: "one of two fires",
     opening: TOKEN,
     rows: &[
@@ -60,7 +60,7 @@ pub static ONE_OF_TWO_FIRES: Table = Table {
 };
 
 /// A kept head of a candidate has left the store, and its removed head is still there.
-pub static KEPT_HEAD_IS_GONE: Table = Table {
+static KEPT_HEAD_IS_GONE: Table = Table {
     name: "kept head is gone",
     opening: Opening {
         program: "t \\ n(X) <=> r(X). k, t <=> true.",
@@ -125,7 +125,7 @@ pub static OLDER_GOAL_IS_DROPPED: Table = Table {
 };
 
 /// A ticket is put down in the middle of its search, with which another seat goes on.
-pub static ANOTHER_SEAT_GOES_ON: Table = Table {
+static ANOTHER_SEAT_GOES_ON: Table = Table {
     name: "another seat goes on",
     opening: TOKEN,
     rows: &[
@@ -154,7 +154,7 @@ pub static ANOTHER_SEAT_GOES_ON: Table = Table {
 };
 
 /// No label is above the limit.
-pub static LABELS_ARE_SPENT: Table = Table {
+static LABELS_ARE_SPENT: Table = Table {
     name: "labels are spent",
     opening: Opening {
         program: "",
@@ -176,7 +176,7 @@ pub static LABELS_ARE_SPENT: Table = Table {
 };
 
 /// Calls that are refused, each of which leaves the book as it was.
-pub static REFUSED_CALLS: Table = Table {
+static REFUSED_CALLS: Table = Table {
     name: "refused calls",
     opening: TOKEN,
     rows: &[
@@ -206,7 +206,7 @@ pub static REFUSED_CALLS: Table = Table {
 };
 
 /// One seat takes each ticket to its end.
-pub static ONE_SEAT: Table = Table {
+static ONE_SEAT: Table = Table {
     name: "one seat",
     opening: GCD,
     rows: &[
@@ -265,7 +265,7 @@ pub static ONE_SEAT: Table = Table {
 };
 
 /// Each answer of each call.
-pub static EACH_ANSWER: Table = Table {
+static EACH_ANSWER: Table = Table {
     name: "each answer",
     opening: Opening {
         program: "t \\ n(X) <=> r(X). r(0) <=> true.",
@@ -381,7 +381,7 @@ pub static EACH_ANSWER: Table = Table {
 };
 
 /// Compound values at heads, in a body and in posts, and posts with a name deep in a value that the table lacks.
-pub static COMPOUND_VALUES: Table = Table {
+static COMPOUND_VALUES: Table = Table {
     name: "compound values",
     opening: Opening {
         program: "t \\ n(f(X)) <=> r(g(X,f(X))). u(X), r(g(X,Y)) <=> s(Y).",
@@ -436,8 +436,35 @@ pub static COMPOUND_VALUES: Table = Table {
     lines: "quiet\nP 1 n(f(h(a)))\nP 2 t\nP 3 n(h(a))\nP 4 u(h(a))\nA 1 1\nD 1\nA 2 2\nA 3 3\nF 2 1 2\\1\nD 3\nD 2\nA 5 4\nD 5\nA 4 5\nF 4 2 \\5,4\nA 6 6\nD 6\n#2 t\n#3 n(h(a))\n#6 s(f(h(a)))\n",
 };
 
+/// So many tickets that a post and a body each grow their tree of tickets in their midst.
+static MANY_TICKETS: Table = Table {
+    name: "many tickets",
+    opening: Opening {
+        program: "a <=> b, b, b, b, b, b, b, b, b, b, b, b, b, b, b, b.",
+        names: "",
+        limit: 10,
+    },
+    rows: &[
+        (
+            0,
+            Post("a, a, a, a, a, a, a, a, a, a, a, a, a, a."),
+            "Ok(1)",
+            "WWWWWWWWWWWWWW",
+        ),
+        (1, Claim(1), "Ok(1)", "1WWWWWWWWWWWWW"),
+        (1, Trial(1), "1.1 [1] Whole", "1WWWWWWWWWWWWW"),
+        (
+            1,
+            Fire(1),
+            "Ok(Fired(Fired { first: 15, count: 16, active_lives: false }))",
+            "EWWWWWWWWWWWWWWWWWWWWWWWWWWWWW",
+        ),
+    ],
+    lines: "open\nP 1 a\nP 2 a\nP 3 a\nP 4 a\nP 5 a\nP 6 a\nP 7 a\nP 8 a\nP 9 a\nP 10 a\nP 11 a\nP 12 a\nP 13 a\nP 14 a\nA 1 1\nF 1 1 \\1\n",
+};
+
 /// All of these tables.
-pub fn tables() -> [&'static Table<'static>; 9] {
+pub fn tables() -> [&'static Table<'static>; 10] {
     [
         &KEPT_HEAD_IS_GONE,
         &ONE_OF_TWO_FIRES,
@@ -448,5 +475,6 @@ pub fn tables() -> [&'static Table<'static>; 9] {
         &ONE_SEAT,
         &EACH_ANSWER,
         &COMPOUND_VALUES,
+        &MANY_TICKETS,
     ]
 }
