@@ -132,7 +132,7 @@ fn claims<A: Allocator + Copy>(book: &mut Book<A>) -> bool {
     book.claim(SEAT, TICKET).is_ok()
 }
 
-/// The same of all rows, after the first four goals.
+/// Makes the calls of all rows with a request of each refused, after the first four goals. Whether one was.
 fn play_on<A: Allocator + Copy>(book: &mut Book<A>, play: &Play<A>, posts: &str) -> Option<bool> {
     if !takes_first_goals(play.alloc, book, posts) || !claims(book) {
         return None;
