@@ -1,11 +1,11 @@
 //! Servers in a process of their clients, and these clients.
 ghost use Rattle.std.specs.Prelude.{◌≤◌};
-ghost use denote.Param.Send.{IsSync};
+ghost use denote.Param.Send.{IsSend, IsSync, Frees};
 
 use chr_check::Verdict;
 use chr_check_text::check_text;
 use chr_serve::serve_on;
-use std::alloc::{AllocError, AllocGlobal, Global};
+use std::alloc::{AllocError, AllocGlobal, Allocator, Global};
 use std::fs::Files;
 use std::io::{self, BufRead, BufReader, Write};
 use std::net::Net;
@@ -119,29 +119,18 @@ pub fn listen<R: Files + Net>(rt: &R) -> io::Result<(UnixListener, SocketAddr)> 
 }
 
 /// What clients find beside a server that takes so many connections. None where it ends with a fault.
-pub fn found_beside<R: Threads + Wait + Clock + Sync + AllocGlobal, T: Drop, F: FnOnce() -> T>(
-    rt: &R,
-    listener: &UnixListener,
-    workers: usize,
-    sessions: u32,
-    talk: F,
-) -> Option<T>
+pub fn found_beside<
+    R: Threads + Wait + Clock + Sync + AllocGlobal,
+    A: Allocator + Copy + Send + Sync,
+    T: Drop,
+    F: FnOnce() -> T,
+>(rt: &R, alloc: A, listener: &UnixListener, workers: usize, sessions: u32, talk: F) -> Option<T>
     requires workers { (1 ≤ workers) × (workers ≤ 16) }
     requires talk { F.pre talk }
 {
     let serve = || -> bool
-        requires { IsSync R.row × (1 ≤ workers) × (workers ≤ 16) }
-    {
-        serve_on(
-            rt,
-            rt.alloc(),
-            rt.alloc(),
-            listener,
-            workers,
-            Some(sessions),
-        )
-        .is_ok()
-    };
+        requires { IsSync R.row × IsSend A.row × IsSync A.row × Frees A.Allocator A.dealloc_token × (1 ≤ workers) × (workers ≤ 16) }
+    { serve_on(rt, alloc, rt.alloc(), listener, workers, Some(sessions)).is_ok() };
     let (ended, found) = thread::join(rt, serve, talk);
     ended.then_some(found)
 }
@@ -156,7 +145,14 @@ pub fn found_at<
     requires talk { F.IsAlwaysCallable talk }
 {
     let (listener, address) = listen(rt).ok()?;
-    found_beside(rt, &listener, workers, sessions, || talk(&address))
+    found_beside(
+        rt,
+        rt.alloc(),
+        &listener,
+        workers,
+        sessions,
+        || talk(&address),
+    )
 }
 
 /// How many lines follow the first line of a reply.
@@ -168,6 +164,29 @@ fn lines_after(first: &str) -> usize {
         Some(count) => count.trim().parse::<usize>().unwrap_or(0),
         None => 0,
     }
+}
+
+/// Adds a client. Whether there is one.
+pub fn is_added(clients: &mut Vec<Client>, client: Option<Client>) -> bool {
+    match client {
+        Some(client) => clients.push(client).is_ok(),
+        None => false,
+    }
+}
+
+/// Whether so many new clients connect. They are added.
+pub fn connect_all<R: Net + AllocGlobal>(
+    rt: &R,
+    address: &SocketAddr,
+    count: usize,
+    clients: &mut Vec<Client>,
+) -> bool {
+    for _ in 0..count {
+        if !is_added(clients, Client::connect(rt, address)) {
+            return false;
+        }
+    }
+    true
 }
 
 /// A client of a server, and the reply that it has read last.
@@ -207,6 +226,17 @@ impl Client {
         }
     }
 
+    /// A new connection to a server that may not listen yet. None where it doesn't begin to.
+    pub fn connect_at<R: Net + AllocGlobal>(rt: &R, path: &str) -> Option<Client> {
+        for _ in 0..1_000_000 {
+            if let Ok(stream) = UnixStream::connect(rt, path) {
+                return Client::over(rt.alloc(), stream);
+            }
+            thread::yield_now();
+        }
+        None
+    }
+
     /// Sends bytes. Whether all were taken.
     pub fn tell(&mut self, told: &str) -> bool {
         self.reader.get_mut().write_all(told.as_bytes()).is_ok()
@@ -233,6 +263,11 @@ impl Client {
     /// Whether the reply to a command is this.
     pub fn replies(&mut self, told: &str, reply: &str) -> bool {
         self.tell(told) && self.is_told(reply)
+    }
+
+    /// Whether its session ends when it says so.
+    pub fn takes_leave(&mut self) -> bool {
+        self.replies("quit\n", "bye\n") && self.is_told("")
     }
 
     /// Whether no ticket is open after at most a thousand waits.

@@ -1,132 +1,191 @@
 //! Listeners that fail.
-use crate::tests::client::Client;
+use crate::tests::client::{Client, connect_all, listen};
 use chr_serve::{Listener, ServerFault, serve_on};
-use std::alloc::{AllocError, AllocGlobal, Global};
+use std::alloc::AllocGlobal;
 use std::cell::Cell;
+use std::fs::Files;
 use std::io::{self, ErrorKind};
 use std::net::Net;
-use std::os::unix::net::UnixStream;
+use std::os::unix::net::{UnixListener, UnixStream};
 use std::rt::Clock;
 use std::sync::Wait;
 use std::test::*;
 use std::thread;
 use std::thread::Threads;
 
-/// A listener that gives what it was made with, the last first, and then fails.
-#[derive(Drop)]
-struct Scripted(Cell<Vec<io::Result<UnixStream>>>, Global);
+/// What a listener gives.
+#[derive(Clone, Copy)]
+enum Next {
+    /// The next client that has connected.
+    Client,
+    Fault(ErrorKind),
+    /// The system's error where no descriptor is free.
+    TooManyOpenFiles,
+}
 
-impl Listener for Scripted {
+/// The number of that error.
+const TOO_MANY_OPEN_FILES: i32 = 24;
+
+/// A listener that goes by a script, and then fails.
+#[derive(Drop)]
+struct Scripted<'s> {
+    clients: &'s UnixListener,
+    script: &'s [Next],
+    /// How much of the script it has given.
+    given: Cell<usize>,
+}
+
+impl Listener for Scripted<'_> {
     fn next_connection(&self) -> io::Result<UnixStream> {
-        let mut left = self.0.replace(Vec::new(self.1));
-        let next = left.pop();
-        self.0.set(left);
-        match next {
-            Some(next) => next,
+        let given = self.given.get();
+        self.given.set(given.wrapping_add(1));
+        match self.script.get(given) {
+            Some(Next::Client) => self.clients.next_connection(),
+            Some(Next::Fault(kind)) => Err((*kind).into()),
+            Some(Next::TooManyOpenFiles) => Err(io::Error::from_raw_os_error(TOO_MANY_OPEN_FILES)),
             None => Err(ErrorKind::Other.into()),
         }
     }
 }
 
-/// How a server with this script ends that is to take so many connections.
+/// A server and its clients.
+struct Row {
+    script: &'static [Next],
+    /// How many connections the server is to take.
+    sessions: u32,
+    /// How many clients have connected before. They take their leave one after the other.
+    clients: usize,
+    /// Whether the last of them takes its leave first.
+    last_first: bool,
+    /// How the server ends.
+    ended: Result<(), Option<ErrorKind>>,
+}
+
+/// Failures between two connections: while the first session lives, and after its end, when no further one is passed over.
+static BESIDE_A_SESSION: [Row; 2] = [
+    Row {
+        script: &[
+            Next::Fault(ErrorKind::Interrupted),
+            Next::Client,
+            Next::Fault(ErrorKind::ConnectionAborted),
+            Next::TooManyOpenFiles,
+            Next::Client,
+        ],
+        sessions: 2,
+        clients: 2,
+        last_first: false,
+        ended: Ok(()),
+    },
+    Row {
+        script: &[
+            Next::Fault(ErrorKind::Interrupted),
+            Next::Client,
+            Next::Fault(ErrorKind::ConnectionAborted),
+            Next::TooManyOpenFiles,
+            Next::TooManyOpenFiles,
+            Next::TooManyOpenFiles,
+            Next::Client,
+        ],
+        sessions: 2,
+        clients: 2,
+        last_first: true,
+        ended: Ok(()),
+    },
+];
+
+static AFTER_THE_LAST_SESSION: Row = Row {
+    script: &[Next::Client],
+    sessions: 2,
+    clients: 1,
+    last_first: false,
+    ended: Err(Some(ErrorKind::Other)),
+};
+
+static WITH_NO_SESSION: [Row; 2] = [
+    Row {
+        script: &[Next::Fault(ErrorKind::PermissionDenied)],
+        sessions: 1,
+        clients: 0,
+        last_first: false,
+        ended: Err(Some(ErrorKind::PermissionDenied)),
+    },
+    Row {
+        script: &[],
+        sessions: 0,
+        clients: 0,
+        last_first: false,
+        ended: Ok(()),
+    },
+];
+
+/// How a server ends that takes its connections by a script.
 fn ended<R: Threads + Wait + Clock + Sync + AllocGlobal>(
     rt: &R,
-    script: Vec<io::Result<UnixStream>>,
-    sessions: u32,
+    clients: &UnixListener,
+    row: &Row,
 ) -> Result<(), Option<ErrorKind>> {
-    let listener = Scripted(Cell::new(script), rt.alloc());
-    match serve_on(rt, rt.alloc(), rt.alloc(), &listener, 1, Some(sessions)) {
+    let listener = Scripted {
+        clients,
+        script: row.script,
+        given: Cell::new(0),
+    };
+    match serve_on(rt, rt.alloc(), rt.alloc(), &listener, 1, Some(row.sessions)) {
         Ok(()) => Ok(()),
         Err(ServerFault::NoMemory) => Err(None),
         Err(ServerFault::Listener(error)) => Err(Some(error.kind())),
     }
 }
 
-/// Whether a client that ends its session reads `bye` and the end.
-fn takes_leave(alloc: Global, stream: UnixStream) -> bool {
-    match Client::over(alloc, stream) {
-        Some(mut client) => client.replies("quit\n", "bye\n") && client.is_told(""),
-        None => false,
-    }
-}
-
-/// The number of the system's error where no descriptor is free.
-const TOO_MANY_OPEN_FILES: i32 = 24;
-
-/// A script of two connections, between which no descriptor is free so often.
-fn failing_between(
-    alloc: Global,
-    first: UnixStream,
-    second: UnixStream,
-    failures: u32,
-) -> Result<Vec<io::Result<UnixStream>>, AllocError> {
-    let mut script = Vec::new(alloc);
-    script.push(Ok(second))?;
-    for _ in 0..failures {
-        script.push(Err(io::Error::from_raw_os_error(TOO_MANY_OPEN_FILES)))?;
-    }
-    script.push(Err(ErrorKind::ConnectionAborted.into()))?;
-    script.push(Ok(first))?;
-    script.push(Err(ErrorKind::Interrupted.into()))?;
-    Ok(script)
-}
-
-/// Whether a server whose listener fails so often between two connections serves both: the first session ends before the
-/// second, or only after it.
-fn serves_both<R: Net + Threads + Wait + Clock + Sync + AllocGlobal>(
+/// Whether clients take their leave, and their server ends as it should.
+fn end_well<R: Threads + Wait + Clock + Sync + AllocGlobal>(
     rt: &R,
-    failures: u32,
-    second_first: bool,
-) -> io::Result<bool> {
-    let (near, far) = UnixStream::pair(rt)?;
-    let (next_near, next_far) = UnixStream::pair(rt)?;
-    let script = failing_between(rt.alloc(), far, next_far, failures)?;
-    let (one, other) = if second_first {
-        (next_near, near)
-    } else {
-        (near, next_near)
-    };
-    let (left, ended) = thread::join(
+    listener: &UnixListener,
+    row: &Row,
+    clients: &mut [Client],
+) -> bool {
+    let (leave, ended) = thread::join(
         rt,
-        || takes_leave(rt.alloc(), one) && takes_leave(rt.alloc(), other),
-        || ended(rt, script, 2),
+        || clients.iter_mut().all(|client| client.takes_leave()),
+        || ended(rt, listener, row),
     );
-    Ok(left && ended == Ok(()))
+    leave && ended == row.ended
 }
 
-#[test]
-fn a_failure_beside_a_session_is_passed_over(rt: HostRuntime) -> Result<(), Fail> {
-    // After the end of the first session no further failure is passed over.
-    for (failures, second_first) in [(1, false), (3, true)] {
-        let serves = serves_both(&rt, failures, second_first)?;
-        assert!(rt; serves, "{failures} {second_first}");
+/// The same of a new server and new clients.
+fn is_right<R: Files + Net + Threads + Wait + Clock + Sync + AllocGlobal>(
+    rt: &R,
+    row: &Row,
+) -> bool {
+    let mut clients = Vec::new(rt.alloc());
+    match listen(rt) {
+        Ok((listener, address)) => {
+            if !connect_all(rt, &address, row.clients, &mut clients) {
+                return false;
+            }
+            if row.last_first {
+                clients.reverse();
+            }
+            end_well(rt, &listener, row, clients.as_mut_slice())
+        }
+        Err(_) => false,
     }
-    Ok(())
 }
 
 #[test]
-fn a_failure_ends_it_once_the_last_session_has_ended(rt: HostRuntime) -> Result<(), Fail> {
-    let (near, far) = UnixStream::pair(&rt)?;
-    let mut script = Vec::new(rt.alloc());
-    script.push(Ok(far))?;
-    let (left, ended) = thread::join(
-        &rt,
-        || takes_leave(rt.alloc(), near),
-        || ended(&rt, script, 2),
-    );
-    assert!(rt; left);
-    assert_eq!(rt; ended, Err(Some(ErrorKind::Other)));
-    Ok(())
+fn a_failure_beside_a_session_is_passed_over(rt: HostRuntime) {
+    for (i, row) in BESIDE_A_SESSION.iter().enumerate() {
+        assert!(rt; is_right(&rt, row), "row {i}");
+    }
 }
 
 #[test]
-fn a_failure_with_no_session_ends_it(rt: HostRuntime) -> Result<(), Fail> {
-    let mut script = Vec::new(rt.alloc());
-    script.push(Err(ErrorKind::PermissionDenied.into()))?;
-    assert_eq!(rt;
-        ended(&rt, script, 1),
-        Err(Some(ErrorKind::PermissionDenied))
-    );
-    assert_eq!(rt; ended(&rt, Vec::new(rt.alloc()), 0), Ok(()));
-    Ok(())
+fn a_failure_ends_it_once_the_last_session_has_ended(rt: HostRuntime) {
+    assert!(rt; is_right(&rt, &AFTER_THE_LAST_SESSION));
+}
+
+#[test]
+fn a_failure_with_no_session_ends_it(rt: HostRuntime) {
+    for (i, row) in WITH_NO_SESSION.iter().enumerate() {
+        assert!(rt; is_right(&rt, row), "row {i}");
+    }
 }

@@ -1,13 +1,14 @@
 //! Sessions over memory, beside two workers.
-ghost use Rattle.std.specs.Prelude.{◌≡◌, vec_len, false};
+ghost use Rattle.std.specs.Prelude.{◌≡◌, false};
+ghost use denote.Param.Send.{IsSync};
 
 use crate::tests::client::{LOAD, NUMBERS, first_ticket};
+use crate::tests::hall::{Hall, Lent, Sessions, hall_of};
 use chr_crew::work::work;
-use chr_crew::{Open, Place, Rack, Stop};
-use chr_pool::{Hand, make};
-use chr_seats::{PostLedger, Seat, Seats};
-use chr_serve::serve_at;
-use chr_session::{Ended, MemorySink, MemorySource};
+use chr_crew::{Open, Stop};
+use chr_pool::Hand;
+use chr_seats::{PostLedger, Seat};
+use chr_session::Ended;
 use chr_shared::Shared;
 use std::alloc::Global;
 use std::marker::Brand;
@@ -40,20 +41,20 @@ fn work_both<L1: PostLedger + Send + Sync, L2: Ledger + Send + Sync, R: Threads 
     );
 }
 
-/// What a session by a place writes whose input comes in pieces, and the place. None where it doesn't end with its input.
-fn written<L1: PostLedger, L2: Ledger, R: Wait>(
-    rt: &R,
-    alloc: Global,
-    shared: &Shared<L1, L2, Global>,
-    place: Place<L1, L2>,
-    input: &str,
-    piece: usize,
-) -> (Place<L1, L2>, Option<Vec<u8>>) {
-    let mut source = MemorySource::new(input.as_bytes(), piece);
-    let mut sink = MemorySink::new(alloc, piece);
-    let (place, ended) = serve_at(rt, alloc, shared, place, &mut source, &mut sink);
-    let written = (ended == Ok(Ended::End)).then_some(sink.bytes);
-    (place, written)
+/// What a session writes. None where it doesn't end with its input.
+fn written<S: Sessions>(sessions: &S, input: &str, piece: usize) -> Option<Vec<u8>> {
+    match sessions.serve(input.as_bytes(), piece) {
+        Some((Ok(Ended::End), written)) => Some(written),
+        _ => None,
+    }
+}
+
+/// Whether a session loads the rules.
+fn loads<S: Sessions>(sessions: &S, piece: usize) -> bool {
+    match written(sessions, LOAD, piece) {
+        Some(told) => told.as_slice() == b"loaded 2\n".as_slice(),
+        None => false,
+    }
 }
 
 /// Whether the replies to a post of two numbers and to `log 1` name tickets under which the log has them.
@@ -64,102 +65,80 @@ fn has_posts(alloc: Global, written: &[u8], numbers: (u64, u64)) -> Option<bool>
 }
 
 /// Whether a session that posts two numbers finds them in the log at once.
-fn finds_its_posts<L1: PostLedger, L2: Ledger, R: Wait>(
-    rt: &R,
+fn finds_its_posts<S: Sessions>(
     alloc: Global,
-    shared: &Shared<L1, L2, Global>,
-    place: Place<L1, L2>,
+    sessions: &S,
     numbers: (u64, u64),
     piece: usize,
-) -> Option<bool> {
-    let input = NUMBERS.post_and_log(alloc, numbers).ok()?;
-    let (_, written) = written(rt, alloc, shared, place, input.as_str(), piece);
-    has_posts(alloc, &written?, numbers)
-}
-
-/// Whether a session loads the rules, and its place.
-fn loads<L1: PostLedger, L2: Ledger, R: Wait>(
-    rt: &R,
-    alloc: Global,
-    shared: &Shared<L1, L2, Global>,
-    place: Place<L1, L2>,
-    piece: usize,
-) -> (Place<L1, L2>, bool) {
-    let (place, written) = written(rt, alloc, shared, place, LOAD, piece);
-    (place, written.as_deref() == Some(b"loaded 2\n".as_slice()))
+) -> bool {
+    match NUMBERS.post_and_log(alloc, numbers) {
+        Ok(input) => match written(sessions, input.as_str(), piece) {
+            Some(told) => has_posts(alloc, &told, numbers) == Some(true),
+            None => false,
+        },
+        Err(_) => false,
+    }
 }
 
 /// Whether a session finds the end of the run.
-fn finds_the_end<L1: PostLedger, L2: Ledger, R: Wait>(
-    rt: &R,
-    alloc: Global,
-    shared: &Shared<L1, L2, Global>,
-    place: Place<L1, L2>,
-    piece: usize,
-) -> bool {
-    let (_, told) = written(rt, alloc, shared, place, "wait 10000000\nstore\n", piece);
-    match told {
+fn finds_the_end<S: Sessions>(sessions: &S, piece: usize) -> bool {
+    match written(sessions, "wait 10000000\nstore\n", piece) {
         Some(told) => told.starts_with(b"quiet\nstore 1\n#") && told.ends_with(b" gcd(1)\n"),
         None => false,
     }
 }
 
 /// Whether two sessions that post at once each find their posts, after one has loaded, and the next finds the end of the run.
-fn talk<L1: PostLedger + Send + Sync, L2: Ledger + Send + Sync, R: Threads + Wait + Sync>(
+fn talk<S: Sessions + Sync, R: Threads + Sync>(
     rt: &R,
     alloc: Global,
-    shared: &Shared<L1, L2, Global>,
-    rack: &Rack<L1, L2, Global>,
+    sessions: &S,
     piece: usize,
 ) -> bool {
-    let (Ok(place), Ok(other), Ok(last)) = (rack.take(rt), rack.take(rt), rack.take(rt)) else {
-        return false;
-    };
-    let (last, loads) = loads(rt, alloc, shared, last, piece);
+    let loads = loads(sessions, piece);
     let (found, other_found) = thread::join(
         rt,
-        || finds_its_posts(rt, alloc, shared, place, (9, 6), piece),
-        || finds_its_posts(rt, alloc, shared, other, (10, 4), piece),
+        || finds_its_posts(alloc, sessions, (9, 6), piece),
+        || finds_its_posts(alloc, sessions, (10, 4), piece),
     );
-    let ends = finds_the_end(rt, alloc, shared, last, piece);
-    loads && found == Some(true) && other_found == Some(true) && ends
+    let ends = finds_the_end(sessions, piece);
+    loads && found && other_found && ends
 }
 
-/// The same beside two workers, on a lock with these seats. None where memory ran out.
+/// The same beside two workers, in a hall.
 fn talk_beside_workers<
     L1: PostLedger + Send + Sync,
     L2: Ledger + Send + Sync,
     R: Threads + Wait + Sync,
->(
-    rt: &R,
-    alloc: Global,
-    shared: &Shared<L1, L2, Global>,
-    seats: Seats<L1, L2, Global>,
-    piece: usize,
-) -> Option<bool>
-    requires { vec_len seats.sessions ≡ 16 }
-{
-    let Seats {
-        mut workers,
-        sessions,
-    } = seats;
-    let (mut hands, inlets) = make::<u64>(alloc, 2, 16, 16).ok()?;
-    let rack = Rack::new(alloc, sessions, inlets).ok()?;
-    let hands = (hands.pop()?, hands.pop()?);
-    let seats = (workers.pop()?, workers.pop()?);
+>(rt: &R, alloc: Global, hall: Hall<L1, L2, Global>, piece: usize) -> bool {
+    let Hall {
+        shared,
+        rack,
+        hands,
+        seats,
+    } = hall;
     let (_, right) = thread::join(
         rt,
-        || work_both(rt, shared, hands, seats),
-        || {
-            let right = talk(rt, alloc, shared, &rack, piece);
+        || work_both(rt, &shared, hands, seats),
+        || -> bool
+            requires { IsSync R.row }
+        {
+            let sessions = Lent {
+                rt,
+                alloc,
+                texts: alloc,
+                shared: &shared,
+                rack: &rack,
+            };
+            let right = talk(rt, alloc, &sessions, piece);
             shared.close(rt);
             right
         },
     );
-    Some(right)
+    right
 }
 
-/// The same on a lock of its own.
+/// The same in a new hall. None where memory ran out.
 fn sessions_over_memory<
     L1: PostLedger + Send + Sync,
     L2: Ledger + Send + Sync,
@@ -169,8 +148,10 @@ fn sessions_over_memory<
     requires others { (others.name ≡ L2.name) × (others.parts ≡ L2.parts) × (others.parts ≡ 32) }
     requires none { L1.loaded ≡ false }
 {
-    let (shared, seats) = Shared::<L1, L2, Global>::empty(alloc, posts, others).ok()?;
-    talk_beside_workers(rt, alloc, &shared, seats, piece)
+    match hall_of::<L1, L2, Global>(alloc, alloc, posts, others) {
+        Some(hall) => Some(talk_beside_workers(rt, alloc, hall, piece)),
+        None => None,
+    }
 }
 
 /// The same with ledgers of its own.

@@ -1,13 +1,10 @@
 //! Sessions of a server with a request for memory refused.
 ghost use Rattle.std.specs.Prelude.{◌≡◌, false};
 
-use crate::tests::client::{Client, LOAD, listen};
-use chr_crew::Place;
-use chr_pool::make;
-use chr_seats::{PostLedger, Seat};
-use chr_serve::{serve_at, serve_on};
-use chr_session::{Ended, MemorySink, MemorySource, ServeFault};
-use chr_shared::Shared;
+use crate::tests::client::{Client, LOAD, found_beside, listen};
+use crate::tests::hall::{Lent, Sessions, hall_of};
+use chr_seats::PostLedger;
+use chr_session::{Ended, ServeFault};
 use refusing::{Refusing, refuses_in_order};
 use std::alloc::{AllocGlobal, Global};
 use std::marker::Brand;
@@ -16,7 +13,6 @@ use std::os::unix::net::SocketAddr;
 use std::sync::Wait;
 use std::sync::ledger::{Blank, Ledger};
 use std::test::*;
-use std::thread;
 
 type Memory<'m> = &'m Refusing<Global>;
 
@@ -57,77 +53,47 @@ fn command_refused(ended: Result<Ended, ServeFault>, written: &[u8]) -> Option<&
     None
 }
 
-/// A session that is told this, with request number `n` for memory refused. What it writes is of other memory.
-#[derive(Clone, Copy)]
-struct Attempt<'t> {
-    memory: Memory<'t>,
+/// Serves a session with request number `n` for memory refused, in a new hall, without workers. How it ended, and what it
+/// wrote. None where memory ran out before.
+fn served_on<L1: PostLedger, L2: Ledger, R: Wait>(
+    rt: &R,
+    memory: Memory,
     texts: Global,
     n: u64,
-    input: &'t [u8],
-}
-
-/// The command that is refused at a place, by the words above, and whether a request was.
-fn refused_at<'t, L1: PostLedger, L2: Ledger, R: Wait>(
-    rt: &R,
-    attempt: Attempt<'t>,
-    shared: &Shared<L1, L2, Memory<'t>>,
-    place: Place<L1, L2>,
-) -> Option<(&'static str, bool)> {
-    let Attempt {
-        memory,
-        texts,
-        n,
-        input,
-    } = attempt;
-    let mut source = MemorySource::new(input, 65_536);
-    let mut sink = MemorySink::new(texts, 65_536);
-    memory.refuse(n);
-    let (_, ended) = serve_at(rt, memory, shared, place, &mut source, &mut sink);
-    match command_refused(ended, &sink.bytes) {
-        Some(command) => Some((command, memory.was_refused())),
-        None => None,
-    }
-}
-
-/// The same by one of these seats, without workers.
-fn refused_by<'t, L1: PostLedger, L2: Ledger, R: Wait>(
-    rt: &R,
-    attempt: Attempt<'t>,
-    shared: &Shared<L1, L2, Memory<'t>>,
-    seats: &mut Vec<Seat<L1, L2>, Memory<'t>>,
-) -> Option<(&'static str, bool)> {
-    let (_hands, mut inlets) = make::<u64>(attempt.texts, 1, 1, 16).ok()?;
-    match (seats.pop(), inlets.pop()) {
-        (Some(seat), Some(inlet)) => refused_at(rt, attempt, shared, Place { seat, inlet }),
-        _ => None,
-    }
-}
-
-/// The same on a lock of its own.
-fn refused_on<L1: PostLedger, L2: Ledger, R: Wait>(
-    rt: &R,
-    attempt: Attempt<'_>,
+    input: &[u8],
     posts: Blank,
     others: Blank,
-) -> Option<(&'static str, bool)>
+) -> Option<(Result<Ended, ServeFault>, Vec<u8>)>
     requires posts { (posts.name ≡ L1.name) × (posts.parts ≡ L1.parts) × (posts.parts ≡ 32) }
     requires others { (others.name ≡ L2.name) × (others.parts ≡ L2.parts) × (others.parts ≡ 32) }
     requires none { L1.loaded ≡ false }
 {
-    let (shared, mut seats) = Shared::<L1, L2, Memory>::empty(attempt.memory, posts, others).ok()?;
-    refused_by(rt, attempt, &shared, &mut seats.sessions)
+    match hall_of::<L1, L2, Memory>(memory, texts, posts, others) {
+        Some(hall) => {
+            let sessions = Lent {
+                rt,
+                alloc: memory,
+                texts,
+                shared: &hall.shared,
+                rack: &hall.rack,
+            };
+            memory.refuse(n);
+            sessions.serve(input, 65_536)
+        }
+        None => None,
+    }
 }
 
-/// The same with memory and ledgers of its own.
+/// The command of such a session that is refused, by the words above, and whether a request was.
 fn refused<R: Wait>(rt: &R, texts: Global, n: u64, input: &[u8]) -> Option<(&'static str, bool)> {
     let memory = Refusing::new(texts, 0);
-    let attempt = Attempt {
-        memory: &memory,
-        texts,
-        n,
-        input,
+    let (posts, others) = (Blank::new(32), Blank::new(32));
+    let served = served_on::<Brand, Brand, R>(rt, &memory, texts, n, input, posts, others);
+    let command = match served {
+        Some((ended, written)) => command_refused(ended, &written),
+        None => None,
     };
-    refused_on::<Brand, Brand, R>(rt, attempt, Blank::new(32), Blank::new(32))
+    Some((command?, memory.was_refused()))
 }
 
 /// The commands that are refused memory, in order.
@@ -167,15 +133,18 @@ fn is_told<R: Net + AllocGlobal>(rt: &R, memory: Memory, address: &SocketAddr) -
 }
 
 #[test]
-fn a_session_without_memory_is_told(rt: HostRuntime) -> Result<(), Fail> {
+fn a_session_without_memory_is_told(rt: HostRuntime) {
     let memory = Refusing::new(rt.alloc(), 0);
-    let (listener, address) = listen(&rt)?;
-    let (served, told) = thread::join(
-        &rt,
-        || serve_on(&rt, &memory, rt.alloc(), &listener, 1, Some(2)).is_ok(),
-        || is_told(&rt, &memory, &address),
-    );
-    assert!(rt; told);
-    assert!(rt; served);
-    Ok(())
+    let told = match listen(&rt) {
+        Ok((listener, address)) => found_beside(
+            &rt,
+            &memory,
+            &listener,
+            1,
+            2,
+            || is_told(&rt, &memory, &address),
+        ),
+        Err(_) => None,
+    };
+    assert_eq!(rt; told, Some(true));
 }

@@ -1,8 +1,9 @@
 //! Sessions of clients that read what they are told.
-use crate::tests::client::{COMPOUND, Client, LOAD, NUMBERS, Rules, found_at};
+use crate::tests::client::{COMPOUND, Client, LOAD, NUMBERS, Rules, connect_all, found_at};
 use std::alloc::AllocGlobal;
 use std::net::Net;
 use std::os::unix::net::SocketAddr;
+use std::sync::atomic::{AtomicU64, Ordering};
 use std::test::*;
 use std::thread;
 use std::thread::Threads;
@@ -17,8 +18,7 @@ fn is_served(client: Option<Client>) -> bool {
                 && matches!(client.reply(), Ok("quiet\n" | "open\n"))
                 && client.becomes_quiet()
                 && client.ends_with(NUMBERS, 3)
-                && client.replies("quit\n", "bye\n")
-                && client.is_told("")
+                && client.takes_leave()
         }
         None => false,
     }
@@ -58,19 +58,6 @@ fn two_sessions_find_their_posts(rt: HostRuntime) {
     assert_eq!(rt; found, Some(true));
 }
 
-/// So many idle clients.
-pub fn idle<R: Net + AllocGlobal>(
-    rt: &R,
-    address: &SocketAddr,
-    count: usize,
-) -> Option<Vec<Client>> {
-    let mut clients = Vec::new(rt.alloc());
-    for _ in 0..count {
-        clients.push(Client::connect(rt, address)?).ok()?;
-    }
-    Some(clients)
-}
-
 /// Whether a new client is told that there is no seat.
 fn is_refused<R: Net + AllocGlobal>(rt: &R, address: &SocketAddr) -> bool {
     match Client::connect(rt, address) {
@@ -81,37 +68,14 @@ fn is_refused<R: Net + AllocGlobal>(rt: &R, address: &SocketAddr) -> bool {
 
 /// Whether a seventeenth client is refused while sixteen have a session.
 fn seventeenth_is_refused<R: Net + AllocGlobal>(rt: &R, address: &SocketAddr) -> bool {
-    let sixteen = idle(rt, address, 16);
-    let refused = is_refused(rt, address);
-    sixteen.is_some() && refused
+    let mut sixteen = Vec::new(rt.alloc());
+    connect_all(rt, address, 16, &mut sixteen) && is_refused(rt, address)
 }
 
 #[test]
 fn seventeen_connections(rt: HostRuntime) {
     let refused = found_at(&rt, 1, 17, |address| seventeenth_is_refused(&rt, address));
     assert_eq!(rt; refused, Some(true));
-}
-
-/// A client and whether it found its posts.
-#[derive(Drop)]
-struct Poster {
-    client: Client,
-    found: bool,
-}
-
-/// So many clients that have found nothing.
-fn posters<R: Net + AllocGlobal>(
-    rt: &R,
-    address: &SocketAddr,
-    count: usize,
-) -> Option<Vec<Poster>> {
-    let mut posters = Vec::new(rt.alloc());
-    for _ in 0..count {
-        let client = Client::connect(rt, address)?;
-        let found = false;
-        posters.push(Poster { client, found }).ok()?;
-    }
-    Some(posters)
 }
 
 /// Whether a client finds two numbers of its own that it posts.
@@ -129,26 +93,31 @@ fn finds_its_posts(client: &mut Client, rules: Rules, at: usize) -> bool {
 }
 
 /// Whether clients that post at once each find their own posts.
-fn all_find<R: Threads + Sync>(rt: &R, rules: Rules, posters: &mut [Poster]) -> bool {
+fn all_find<R: Threads + Sync>(rt: &R, rules: Rules, clients: &mut [Client]) -> bool {
+    let found = AtomicU64::new(0);
     thread::for_each_mut(
         rt,
-        posters,
+        clients,
         16,
-        &|at, poster| poster.found = finds_its_posts(&mut poster.client, rules, at),
+        &|at, client| {
+            if finds_its_posts(client, rules, at) {
+                found.fetch_add(1, Ordering::SeqCst);
+            }
+        },
     );
-    posters.iter().all(|poster| poster.found)
+    found.load(Ordering::SeqCst) == 16
 }
 
 /// The same after the first has loaded, and whether the last is then told a log that the check accepts.
-fn all_find_and_end<R: Threads + Sync>(rt: &R, rules: Rules, posters: &mut [Poster]) -> bool {
-    let loads = match posters.first_mut() {
-        Some(first) => first.client.replies(rules.load, "loaded 2\n"),
+fn all_find_and_end<R: Threads + Sync>(rt: &R, rules: Rules, clients: &mut [Client]) -> bool {
+    let loads = match clients.first_mut() {
+        Some(first) => first.replies(rules.load, "loaded 2\n"),
         None => false,
     };
     loads
-        && all_find(rt, rules, posters)
-        && match posters.last_mut() {
-            Some(last) => last.client.ends_with(rules, 12),
+        && all_find(rt, rules, clients)
+        && match clients.last_mut() {
+            Some(last) => last.ends_with(rules, 12),
             None => false,
         }
 }
@@ -159,10 +128,9 @@ fn sixteen_post<R: Net + Threads + Sync + AllocGlobal>(
     rules: Rules,
     address: &SocketAddr,
 ) -> bool {
-    match posters(rt, address, 16) {
-        Some(mut posters) => all_find_and_end(rt, rules, posters.as_mut_slice()),
-        None => false,
-    }
+    let mut clients = Vec::new(rt.alloc());
+    connect_all(rt, address, 16, &mut clients)
+        && all_find_and_end(rt, rules, clients.as_mut_slice())
 }
 
 #[test]

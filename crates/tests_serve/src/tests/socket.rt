@@ -1,17 +1,17 @@
 //! The socket of a server: its file, and what is said of it.
+use crate::tests::client::Client;
 use chr_commands::{Detail, Status};
 use chr_socket::serve::{Listening, Taken, serve};
 use std::alloc::{AllocGlobal, Global};
 use std::fmt::Display;
 use std::fs::Files;
-use std::io::{self, Read, Write};
 use std::net::Net;
 use std::os::unix::net::{UnixListener, UnixStream};
 use std::rt::Clock;
 use std::sync::Wait;
 use std::test::*;
 use std::thread::Threads;
-use std::{env, fs, process, thread};
+use std::{env, fs, io, process, thread};
 
 /// Whether a server of one session refuses to listen.
 fn is_refused<R: Files + Net + Threads + Wait + Sync + Clock + Eprint + AllocGlobal>(
@@ -32,27 +32,6 @@ fn paths_where_no_socket_can_be_made(rt: HostRuntime) {
     }
 }
 
-/// A connection to a server. None where it doesn't begin to listen.
-fn connect<R: Net>(rt: &R, path: &str) -> Option<UnixStream> {
-    for _ in 0..1_000_000 {
-        if let Ok(stream) = UnixStream::connect(rt, path) {
-            return Some(stream);
-        }
-        thread::yield_now();
-    }
-    None
-}
-
-/// Whether what a new client does turns out well.
-fn talks<R: Net, F: FnOnce(&UnixStream) -> io::Result<bool>>(rt: &R, path: &str, talk: F) -> bool
-    requires { F.IsAlwaysCallable talk }
-{
-    match connect(rt, path) {
-        Some(stream) => matches!(talk(&stream), Ok(true)),
-        None => false,
-    }
-}
-
 /// A path for a socket of this process, in the folder for files that don't last.
 fn socket_path(rt: &HostRuntime, name: &str) -> io::Result<String> {
     let folder = env::temp_dir(rt)?;
@@ -60,11 +39,12 @@ fn socket_path(rt: &HostRuntime, name: &str) -> io::Result<String> {
     Ok(format!(in rt.alloc(); "{}/chr-server-{number}-{name}.sock", folder.display())?)
 }
 
-/// Whether a client that ends its session at once is told `bye` and nothing else.
-fn takes_leave<R: AllocGlobal>(rt: &R, stream: &UnixStream) -> io::Result<bool> {
-    let mut told = stream;
-    told.write_all(b"quit\n")?;
-    Ok(io::read_to_string(rt.alloc(), stream)?.as_str() == "bye\n")
+/// Whether a client ends its session at once.
+fn takes_leave<R: Net + AllocGlobal>(rt: &R, path: &str) -> bool {
+    match Client::connect_at(rt, path) {
+        Some(mut client) => client.takes_leave(),
+        None => false,
+    }
 }
 
 #[test]
@@ -74,28 +54,24 @@ fn a_socket_is_removed_at_the_end(rt: HostRuntime) -> Result<(), Fail> {
     let (status, left) = thread::join(
         &rt,
         || serve(&rt, Detail::Line, path, 1, Some(1)),
-        || talks(&rt, path, |stream| takes_leave(&rt, stream)),
+        || takes_leave(&rt, path),
     );
     assert!(rt; status == Status::Done && left);
     assert!(rt; matches!(fs::exists(&rt, path), Ok(false)));
     Ok(())
 }
 
-/// Whether a client can put a file in the place of the socket while its session lives. It ends the session then.
-fn replaces_socket<R: Files + AllocGlobal>(
-    rt: &R,
-    path: &str,
-    stream: &UnixStream,
-) -> io::Result<bool> {
-    let mut client = stream;
-    let mut first = [0];
-    client.write_all(b"store\n")?;
-    client.read_exact(&mut first)?;
-    fs::remove_file(rt, path)?;
-    fs::write(rt, path, b"kept")?;
-    client.write_all(b"quit\n")?;
-    io::read_to_string(rt.alloc(), stream)?;
-    Ok(true)
+/// Whether a client can put a file in the place of the socket while its session lives.
+fn replaces_socket<R: Files + Net + AllocGlobal>(rt: &R, path: &str) -> bool {
+    match Client::connect_at(rt, path) {
+        Some(mut client) => {
+            client.replies("store\n", "fault E24 NoProgram\n")
+                && fs::remove_file(rt, path).is_ok()
+                && fs::write(rt, path, b"kept").is_ok()
+                && client.takes_leave()
+        }
+        None => false,
+    }
 }
 
 /// Whether this file is as it was written. It is removed then.
@@ -112,7 +88,7 @@ fn another_file_is_left_at_the_end(rt: HostRuntime) -> Result<(), Fail> {
     let (status, replaced) = thread::join(
         &rt,
         || serve(&rt, Detail::Line, path, 1, Some(1)),
-        || talks(&rt, path, |stream| replaces_socket(&rt, path, stream)),
+        || replaces_socket(&rt, path),
     );
     assert!(rt; status == Status::Done && replaced);
     assert!(rt; matches!(was_kept(&rt, path), Ok(true)));
@@ -134,9 +110,10 @@ fn leaves_socket<R: Files + Net + Threads + Wait + Sync + Clock + Eprint + Alloc
     rt: &R,
     path: &str,
 ) -> io::Result<bool> {
-    let listener = UnixListener::bind(rt, path)?;
-    let refused = is_refused(rt, path) && UnixStream::connect(rt, path).is_ok();
-    drop(listener);
+    let refused = match UnixListener::bind(rt, path) {
+        Ok(_listener) => is_refused(rt, path) && UnixStream::connect(rt, path).is_ok(),
+        Err(_) => false,
+    };
     let left = is_refused(rt, path) && fs::exists(rt, path)?;
     fs::remove_file(rt, path)?;
     Ok(refused && left)
@@ -145,12 +122,8 @@ fn leaves_socket<R: Files + Net + Threads + Wait + Sync + Clock + Eprint + Alloc
 #[test]
 fn what_is_at_the_path_is_left(rt: HostRuntime) -> Result<(), Fail> {
     let path = socket_path(&rt, "taken")?;
-    let (file, socket) = (
-        leaves_file(&rt, path.as_str()),
-        leaves_socket(&rt, path.as_str()),
-    );
-    assert!(rt; file?);
-    assert!(rt; socket?);
+    assert!(rt; matches!(leaves_file(&rt, path.as_str()), Ok(true)));
+    assert!(rt; matches!(leaves_socket(&rt, path.as_str()), Ok(true)));
     Ok(())
 }
 

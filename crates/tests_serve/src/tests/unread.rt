@@ -1,11 +1,13 @@
 //! Clients that send what no session reads.
-use crate::tests::client::{Client, found_at, found_beside, listen};
-use crate::tests::sessions::idle;
+use crate::tests::client::{Client, connect_all, found_at, found_beside, listen};
 use std::alloc::{AllocError, AllocGlobal, Global};
 use std::io::{Read, Write};
 use std::net::Net;
-use std::os::unix::net::{SocketAddr, UnixStream};
+use std::os::unix::net::{SocketAddr, UnixListener, UnixStream};
+use std::rt::Clock;
+use std::sync::Wait;
 use std::test::*;
+use std::thread::Threads;
 
 /// Whether a client is told this and then comes to the end, without a failure.
 fn is_told(alloc: Global, stream: &mut UnixStream, reply: &str) -> bool {
@@ -45,33 +47,47 @@ fn bytes_behind_quit_reset_no_client(rt: HostRuntime) {
 
 /// A client that has sent a command.
 fn sender<R: Net>(rt: &R, address: &SocketAddr) -> Option<UnixStream> {
-    let mut stream = UnixStream::connect_addr(rt, address).ok()?;
-    stream.write_all(b"wait 0\n").is_ok().then_some(stream)
+    match UnixStream::connect_addr(rt, address) {
+        Ok(mut stream) => stream.write_all(b"wait 0\n").is_ok().then_some(stream),
+        Err(_) => None,
+    }
 }
 
 /// Whether the last client is told that there is no seat; then the others go away.
-fn last_is_refused(alloc: Global, sixteen: Vec<Client>, last: UnixStream) -> bool {
-    let mut last = last;
-    let told = is_told(alloc, &mut last, "fault E18 NoSeat\n");
-    drop(sixteen);
+fn last_is_refused(alloc: Global, sixteen: &mut Vec<Client>, last: &mut UnixStream) -> bool {
+    let told = is_told(alloc, last, "fault E18 NoSeat\n");
+    sixteen.clear();
     told
 }
 
-#[test]
-fn bytes_without_a_seat_reset_no_client(rt: HostRuntime) -> Result<(), Fail> {
-    let (listener, address) = listen(&rt)?;
-    let alloc = rt.alloc();
-    // All have connected, and the last has sent its command, before any connection is taken.
-    let refused = match (idle(&rt, &address, 16), sender(&rt, &address)) {
-        (Some(sixteen), Some(last)) => found_beside(
-            &rt,
-            &listener,
+/// The same where all have connected, and the last has sent its command, before any connection is taken.
+fn late_client_is_refused<R: Net + Threads + Wait + Clock + Sync + AllocGlobal>(
+    rt: &R,
+    listener: &UnixListener,
+    address: &SocketAddr,
+) -> Option<bool> {
+    let mut sixteen = Vec::new(rt.alloc());
+    if !connect_all(rt, address, 16, &mut sixteen) {
+        return None;
+    }
+    match sender(rt, address) {
+        Some(mut last) => found_beside(
+            rt,
+            rt.alloc(),
+            listener,
             1,
             17,
-            move || last_is_refused(alloc, sixteen, last),
+            || last_is_refused(rt.alloc(), &mut sixteen, &mut last),
         ),
-        _ => None,
+        None => None,
+    }
+}
+
+#[test]
+fn bytes_without_a_seat_reset_no_client(rt: HostRuntime) {
+    let refused = match listen(&rt) {
+        Ok((listener, address)) => late_client_is_refused(&rt, &listener, &address),
+        Err(_) => None,
     };
     assert_eq!(rt; refused, Some(true));
-    Ok(())
 }

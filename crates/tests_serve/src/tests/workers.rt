@@ -1,6 +1,6 @@
 //! Goals that are worked on at once.
 use crate::tests::client::{Client, found_at, has_line};
-use std::alloc::{AllocError, Global};
+use std::alloc::Global;
 use std::test::*;
 
 /// A goal `go` tries each `n` with each `m`, and fires with none; `d` fires at once.
@@ -12,24 +12,30 @@ const EACH: u64 = 60;
 /// How often a short goal is posted behind a long one. A second worker may come too late once; one alone always does.
 const ROUNDS: u64 = 20;
 
-/// The command that posts this name with each number below `count`.
-fn post_numbers(alloc: Global, name: &str, count: u64) -> Result<String, AllocError> {
-    let mut post = format!(in alloc; "post {name}(0)")?;
-    for k in 1..count {
-        post.push_str(format!(in alloc; ",{name}({k})")?.as_str())?;
+/// Adds the command that posts this name with each number below `count` to a text. Whether it could.
+fn adds_post(text: &mut String, alloc: Global, name: &str, count: u64) -> bool {
+    for k in 0..count {
+        let start = if k == 0 { "post " } else { "," };
+        let added = match format!(in alloc; "{start}{name}({k})") {
+            Ok(next) => text.push_str(next.as_str()).is_ok(),
+            Err(_) => false,
+        };
+        if !added {
+            return false;
+        }
     }
-    post.push_str(".\n")?;
-    Ok(post)
+    text.push_str(".\n").is_ok()
 }
 
 /// Whether a client can post each of these names with each number below `count`.
 pub fn posts_each(client: &mut Client, names: &[&str], count: u64) -> bool {
+    let mut post = String::new(client.alloc);
     for name in names {
-        let posted = match post_numbers(client.alloc, name, count) {
-            Ok(post) => client.tell(post.as_str()) && client.reply().is_ok(),
-            Err(_) => false,
-        };
-        if !posted {
+        post.clear();
+        if !adds_post(&mut post, client.alloc, name, count)
+            || !client.tell(post.as_str())
+            || client.reply().is_err()
+        {
             return false;
         }
     }
