@@ -1,6 +1,6 @@
 //! What the words of a command line ask for.
 use crate::commands::command;
-use chr_explain::explanation::{Form, Question};
+use chr_explain::{Form, Question};
 use chr_run_text::Show;
 use clap::error::ErrorKind;
 use clap::{ArgMatches, Command, Error};

@@ -4,7 +4,7 @@ use crate::message::{Detail, Fault, Source, Text};
 use crate::progress::Progress;
 use crate::report::{Status, print, report_fault, report_no_memory};
 use crate::task::{Task, read_and_carry_out};
-use chr_explain_text::{ExplainFault, Question, watched_explain_text};
+use chr_explain::{ExplainFault, Question, watched_explain_text};
 use chr_log::Label;
 use std::rt::{Clock, Files};
 

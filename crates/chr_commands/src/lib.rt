@@ -9,7 +9,7 @@
 //!
 //! A command is safe and returns, whatever the files and the streams hold; a text is read up to its limit and one byte,
 //! and no further. That its bytes are what a run, a check, an explanation, a picture or a session has for those it read is
-//! proved below, in `chr_run_text`, `chr_check_text`, `chr_explain_text`, `chr_picture_text` and `chr_session`. Nothing but a
+//! proved below, in `chr_run_text`, `chr_check_text`, `chr_explain`, `chr_picture` and `chr_session`. Nothing but a
 //! fault goes to standard error, unless that is a terminal ([`Detail`]): then each fault is followed by what it means and
 //! where it is ([`message`]), and long work tells each second how far it is ([`progress`]).
 //!

@@ -4,7 +4,7 @@ use crate::message::{Detail, Fault, Source, Text};
 use crate::progress::Progress;
 use crate::report::{Status, print, report_fault, report_no_memory};
 use crate::task::{Task, read_and_carry_out};
-use chr_picture_text::{PictureFault, Range, watched_draw_text};
+use chr_picture::{PictureFault, Range, watched_draw_text};
 use std::rt::{Clock, Files};
 
 /// Writes to standard error that nothing is drawn, and why.

@@ -7,8 +7,8 @@ use crate::picture::draw;
 use crate::report::{Status, report_failure, report_no_memory};
 use crate::run::run_sources;
 use chr_command_line::RunOptions;
-use chr_explain_text::Question;
-use chr_picture_text::Range;
+use chr_explain::Question;
+use chr_picture::Range;
 use std::alloc::AllocError;
 use std::rt::{Clock, Files};
 

@@ -7,3 +7,4 @@ pub mod Told
 pub mod Values
 pub mod Explained
 pub mod Looked
+pub mod ExplainedTexts

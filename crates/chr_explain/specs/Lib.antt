@@ -5,3 +5,4 @@ pub mod Headings
 pub mod Lines
 pub mod Graphs
 pub mod Explanations
+pub mod ExplainTexts

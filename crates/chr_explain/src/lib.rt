@@ -1,6 +1,7 @@
-//! How a constraint came to be: the causes of a label of a lawful log, as lines or as a graph.
+//! How a constraint came to be, from the bytes of a program and of a log to the bytes shown, as lines or as a graph.
 //!
-//! [`explanation`](explanation::explanation) writes a line for each cause of a label, by rising label ([`chr_causes`]):
+//! [`explain_text`] reads the text of rules and the text of a log, has [`chr_check`] replay the log, and writes a line for
+//! each cause of a label ([`chr_causes`]), by rising label:
 //!
 //! ```text
 //! #1 gcd(9) at log 4: posted at log 2; removed at log 7 by rule 2 (program 2)
@@ -15,13 +16,19 @@
 //!
 //! As a graph each line is the label of a node, and an arrow leads from each head to what its firing gave.
 //!
+//! A log that is no run of the rules is refused, with its first fault, and a label that it doesn't give is told.
+//!
 //! It takes time and memory in proportion to the log and the program's text.
 #![tactic(auto)]
 
-pub mod atoms;
+mod atoms;
 mod dot;
-pub mod explanation;
-pub mod headings;
-pub mod reasons;
-pub mod removals;
+mod explanation;
+mod headings;
+mod reasons;
+mod removals;
+mod text;
 mod writing;
+
+pub use explanation::{Form, Question};
+pub use text::{ExplainFault, explain_text, watched_explain_text};

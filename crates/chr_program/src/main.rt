@@ -23,7 +23,7 @@ use chr_commands::picture::picture;
 use chr_commands::run::run;
 use chr_commands::session::session;
 use chr_commands::{Detail, Status, print_usage, report_failure};
-use chr_picture_text::Range;
+use chr_picture::Range;
 use chr_socket::serve::serve;
 use std::env;
 use std::io::{self, IsTerminal};

@@ -1,6 +1,6 @@
 //! Worked explanations. What is wanted was found by hand, from the rules and the entries of the logs.
 use chr_check::fault::{CheckFault, Kind, Place};
-use chr_explain_text::{ExplainFault, Form, Question, explain_text};
+use chr_explain::{ExplainFault, Form, Question, explain_text};
 use std::alloc::Allocator;
 
 /// The rules and a log, a question, and what is shown.

@@ -1,5 +1,5 @@
 //! The pictures of examples against their runs.
-use chr_picture_text::{Range, draw_text};
+use chr_picture::{Range, draw_text};
 use chr_run_text::{Show, run_text};
 use std::alloc::Allocator;
 use std::rt::Files;

@@ -5,7 +5,7 @@ use chr_command_line::Request;
 use chr_commands::Status;
 use chr_commands::explain::{explain, explain_sources};
 use chr_commands::message::{Detail, Text};
-use chr_explain::explanation::{Form, Question};
+use chr_explain::{Form, Question};
 use clap::error::ErrorKind;
 use std::alloc::Global;
 use std::test::*;

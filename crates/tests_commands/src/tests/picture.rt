@@ -1,7 +1,7 @@
 //! How a picture ends.
 use chr_commands::picture::picture;
 use chr_commands::{Detail, Status};
-use chr_picture_text::Range;
+use chr_picture::Range;
 use std::test::*;
 use std::{fs, io};
 

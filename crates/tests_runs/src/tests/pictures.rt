@@ -1,5 +1,5 @@
 //! Pictures of parts of a log.
-use chr_picture_text::{PictureFault, Range, draw_text};
+use chr_picture::{PictureFault, Range, draw_text};
 use std::alloc::Global;
 use std::test::*;
 

@@ -1,2 +1,0 @@
-mod Gathered
-mod Drawn
