@@ -29,3 +29,5 @@ pub mod InScope
 pub mod PlaceNumbers
 pub mod Writable
 pub mod RuleWritable
+pub mod Arguments
+pub mod Entered

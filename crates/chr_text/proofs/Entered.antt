@@ -21,7 +21,7 @@ use Rattle.chr_text.specs.Writable.{AreWritable}
 use Rattle.chr_text.proofs.PostTexts.{are_posts}
 use Rattle.chr_text.proofs.ProgramTexts.{is_program}
 use Rattle.chr_text.proofs.Writable.{posts_writable}
-use Rattle.chr_named.specs.Named.{ArgumentIsNamed, ArgumentsAreNamed, RuleAtomIsNamed, ComparisonIsNamed, BodyItemIsNamed, RuleIsNamed, RulesAreNamed}
+use Rattle.chr_text.specs.Named.{ArgumentIsNamed, ArgumentsAreNamed, RuleAtomIsNamed, ComparisonIsNamed, BodyItemIsNamed, RuleIsNamed, RulesAreNamed}
 
 -- ---- what a table has, a longer one has
 
