@@ -1,7 +1,7 @@
 -- Arguments of a functor beside lists of terms.
 use Rattle.std.proofs.Common.{◌≡◌, ◌<◌, ◌↔◌, ℕ, List, [], ◌∷◌, map, Box, Bool, IsTrue, sym, subst}
 use Rattle.std.specs.List.{AllByRecursion}
-use Rattle.chr_rule.specs.Rules.{Term, Open, terms_of}
+use Rattle.chr_rule.specs.Rules.{Term, terms_of}
 use Rattle.chr_rule.specs.Parts.{argument}
 use Rattle.chr_rule.specs.declared.term.Term as terms
 use Rattle.chr_rule.specs.declared.term.Term.{Term as CodeTerm}
