@@ -8,7 +8,7 @@ use Rattle.chr_search.specs.Reach.{SearchState}
 use Rattle.chr_search.specs.Trials.{NoneLeft}
 use Rattle.chr_calls.specs.Tickets.{Ticket, ticket_at, Holds}
 use Rattle.chr_calls.specs.Books.{BookState, opened, space_of, IsLive}
-use Rattle.chr_named.specs.Named.{RulesAreNamed}
+use Rattle.chr_text.specs.Named.{RulesAreNamed}
 
 abbrev pub book_of : List (Simpagation ℕ) → PlanList → List (List ℕ) → List (Entry ℕ) → LabelledStore → List Ticket → BookState
 book_of rules plans names log store tickets = record { rules = rules; plans = plans; names = names; limit = store.limit; log = log; store = store.entries; next = store.next; tickets = tickets }

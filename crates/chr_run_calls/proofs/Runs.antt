@@ -5,7 +5,7 @@ use Rattle.chr_rule.specs.Rules.{Simpagation}
 use Rattle.chr_plan.specs.Plans.{PlanList, ArePlans}
 use Rattle.chr_lex.specs.declared.fault.ReadError.{ReadError}
 use Rattle.chr_lex.specs.declared.fault.ReadError.TheVariants as errors
-use Rattle.chr_named.proofs.Entered.{posts_named, posts_kept}
+use Rattle.chr_text.proofs.Entered.{posts_named, posts_kept}
 use Rattle.chr_search.specs.Verdicts.{Trial}
 use Rattle.chr_search.specs.Judged.{Judgement, IsVerdict}
 use Rattle.chr_calls.specs.declared.answers.PostFault.{PostFault}

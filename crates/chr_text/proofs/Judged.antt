@@ -40,13 +40,19 @@ nodes_fit (n ∷ ns) range long p =
 term_fits : (t : ParsedTerm) → term_has is_out_of_range t ≡ false → term_has is_long t ≡ false → is_large_term t ≡ false → TermPlain t → TermFits t
 term_fits t range long small p = record { words = nodes_fit t range long p.1; small = small; nested = p.0 }
 
+-- where none of a list has a fault of four kinds
+each_fits : {A : Type 0} (P Q : A → Type 0) (p q r s : A → Bool) → ((a : A) → p a ≡ false → q a ≡ false → r a ≡ false → s a ≡ false → P a → Q a)
+    → (as' : List A) → list_any p as' ≡ false → list_any q as' ≡ false → list_any r as' ≡ false → list_any s as' ≡ false → AllByRecursion P as' → AllByRecursion Q as'
+each_fits P Q p q r s fits [] hp hq hr hs all = tt
+each_fits P Q p q r s fits (a ∷ as') hp hq hr hs all =
+    let kp = neither (p a) (list_any p as') hp in
+    let kq = neither (q a) (list_any q as') hq in
+    let kr = neither (r a) (list_any r as') hr in
+    let ks = neither (s a) (list_any s as') hs in
+    (fits a kp.0 kq.0 kr.0 ks.0 all.0, each_fits P Q p q r s fits as' kp.1 kq.1 kr.1 ks.1 all.1)
+
 terms_fit : (ts : List ParsedTerm) → list_any (term_has is_out_of_range) ts ≡ false → list_any (term_has is_long) ts ≡ false → list_any is_large_term ts ≡ false → AllByRecursion TermPlain ts → AllByRecursion TermFits ts
-terms_fit [] range long small p = tt
-terms_fit (t ∷ ts) range long small p =
-    let r = neither (term_has is_out_of_range t) (list_any (term_has is_out_of_range) ts) range in
-    let l = neither (term_has is_long t) (list_any (term_has is_long) ts) long in
-    let s = neither (is_large_term t) (list_any is_large_term ts) small in
-    (term_fits t r.0 l.0 s.0 p.0, terms_fit ts r.1 l.1 s.1 p.1)
+terms_fit ts range long small p = each_fits TermPlain TermFits (term_has is_out_of_range) (term_has is_long) is_large_term is_large_term (λ t r l s u. term_fits t r l s) ts range long small small p
 
 values_fit : (ts : List ParsedTerm) → AllByRecursion TermFits ts → list_any (term_has is_variable) ts ≡ false → AllByRecursion ValueFits ts
 values_fit [] fits variable = tt
@@ -54,39 +60,26 @@ values_fit (t ∷ ts) fits variable =
     let v = neither (term_has is_variable t) (list_any (term_has is_variable) ts) variable in
     (record { term = fits.0; given = v.0 }, values_fit ts fits.1 v.1)
 
-phrase_fits : (a : ParsedAtom) → phrase_has is_out_of_range a ≡ false → phrase_has is_long a ≡ false → has_many_args a ≡ false → has_large_args a ≡ false → phrase_has is_variable a ≡ false → PhrasePlain a → PostFits a
-phrase_fits a range long many small variable p =
-    let l = neither (is_long (Name a.name)) (list_any (term_has is_long) a.args) long in
-    record { name = name_fits a.name l.0 p.0; args = values_fit a.args (terms_fit a.args range l.1 small p.1) variable; few = not_above 8 (length a.args) many }
-
-phrases_fit : (ps : List ParsedAtom) → list_any (phrase_has is_out_of_range) ps ≡ false → list_any (phrase_has is_long) ps ≡ false → list_any has_many_args ps ≡ false → list_any has_large_args ps ≡ false → list_any (phrase_has is_variable) ps ≡ false → AllByRecursion PhrasePlain ps → AllByRecursion PostFits ps
-phrases_fit [] range long many small variable p = tt
-phrases_fit (a ∷ ps) range long many small variable p =
-    let r = neither (phrase_has is_out_of_range a) (list_any (phrase_has is_out_of_range) ps) range in
-    let l = neither (phrase_has is_long a) (list_any (phrase_has is_long) ps) long in
-    let m = neither (has_many_args a) (list_any has_many_args ps) many in
-    let s = neither (has_large_args a) (list_any has_large_args ps) small in
-    let v = neither (phrase_has is_variable a) (list_any (phrase_has is_variable) ps) variable in
-    (phrase_fits a r.0 l.0 m.0 s.0 v.0 p.0, phrases_fit ps r.1 l.1 m.1 s.1 v.1 p.1)
-
-pub posts_fit : (ps : List ParsedAtom) (u : Unit {0}) → post_judged ps ≡ Ok u → AllByRecursion PhrasePlain ps → AllByRecursion PostFits ps
-posts_fit ps u h p = let may = posted ps h in phrases_fit ps may.numbers may.names may.args may.terms may.no_variables p
-
--- ---- rules
-
 shape_fits : (a : ParsedAtom) → phrase_has is_out_of_range a ≡ false → phrase_has is_long a ≡ false → has_many_args a ≡ false → has_large_args a ≡ false → PhrasePlain a → ShapeFits a
 shape_fits a range long many small p =
     let l = neither (is_long (Name a.name)) (list_any (term_has is_long) a.args) long in
     record { name = name_fits a.name l.0 p.0; args = terms_fit a.args range l.1 small p.1; few = not_above 8 (length a.args) many }
 
 shapes_fit : (ps : List ParsedAtom) → list_any (phrase_has is_out_of_range) ps ≡ false → list_any (phrase_has is_long) ps ≡ false → list_any has_many_args ps ≡ false → list_any has_large_args ps ≡ false → AllByRecursion PhrasePlain ps → AllByRecursion ShapeFits ps
-shapes_fit [] range long many small p = tt
-shapes_fit (a ∷ ps) range long many small p =
-    let r = neither (phrase_has is_out_of_range a) (list_any (phrase_has is_out_of_range) ps) range in
-    let l = neither (phrase_has is_long a) (list_any (phrase_has is_long) ps) long in
-    let m = neither (has_many_args a) (list_any has_many_args ps) many in
-    let s = neither (has_large_args a) (list_any has_large_args ps) small in
-    (shape_fits a r.0 l.0 m.0 s.0 p.0, shapes_fit ps r.1 l.1 m.1 s.1 p.1)
+shapes_fit ps range long many small p = each_fits PhrasePlain ShapeFits (phrase_has is_out_of_range) (phrase_has is_long) has_many_args has_large_args shape_fits ps range long many small p
+
+-- ---- posts
+
+phrases_fit : (ps : List ParsedAtom) → list_any (phrase_has is_variable) ps ≡ false → AllByRecursion ShapeFits ps → AllByRecursion PostFits ps
+phrases_fit [] variable fits = tt
+phrases_fit (a ∷ ps) variable fits =
+    let v = neither (phrase_has is_variable a) (list_any (phrase_has is_variable) ps) variable in
+    (record { name = fits.0.name; args = values_fit a.args fits.0.args v.0; few = fits.0.few }, phrases_fit ps v.1 fits.1)
+
+pub posts_fit : (ps : List ParsedAtom) (u : Unit {0}) → post_judged ps ≡ Ok u → AllByRecursion PhrasePlain ps → AllByRecursion PostFits ps
+posts_fit ps u h p = let may = posted ps h in phrases_fit ps may.no_variables (shapes_fit ps may.numbers may.names may.args may.terms p)
+
+-- ---- rules
 
 formula_fits : (e : ParsedExpression) → formula_has is_out_of_range e ≡ false → FormulaFits e
 formula_fits (parsed.Number negative ds) range = range
@@ -108,12 +101,7 @@ test_fits (parsed.Same s t) range long small p = sides_fit s t range long small 
 test_fits (parsed.Differ s t) range long small p = sides_fit s t range long small p
 
 tests_fit : (ts : List GuardMember) → list_any (test_has is_out_of_range) ts ≡ false → list_any (test_has is_long) ts ≡ false → list_any compares_large_terms ts ≡ false → AllByRecursion TestPlain ts → AllByRecursion TestFits ts
-tests_fit [] range long small p = tt
-tests_fit (t ∷ ts) range long small p =
-    let r = neither (test_has is_out_of_range t) (list_any (test_has is_out_of_range) ts) range in
-    let l = neither (test_has is_long t) (list_any (test_has is_long) ts) long in
-    let m = neither (compares_large_terms t) (list_any compares_large_terms ts) small in
-    (test_fits t r.0 l.0 m.0 p.0, tests_fit ts r.1 l.1 m.1 p.1)
+tests_fit ts range long small p = each_fits TestPlain TestFits (test_has is_out_of_range) (test_has is_long) compares_large_terms compares_large_terms (λ t r l s u. test_fits t r l s) ts range long small small p
 
 member_fits : (m : BodyMember) → member_has is_out_of_range m ≡ false → member_has is_long m ≡ false → adds_many_args m ≡ false → adds_large_args m ≡ false → MemberPlain m → MemberFits m
 member_fits parsed.Nothing range long many small p = tt
@@ -121,13 +109,7 @@ member_fits (parsed.Is x e) range long many small p = formula_fits e range
 member_fits (parsed.Add a) range long many small p = shape_fits a range long many small p
 
 members_fit : (ms : List BodyMember) → list_any (member_has is_out_of_range) ms ≡ false → list_any (member_has is_long) ms ≡ false → list_any adds_many_args ms ≡ false → list_any adds_large_args ms ≡ false → AllByRecursion MemberPlain ms → AllByRecursion MemberFits ms
-members_fit [] range long many small p = tt
-members_fit (a ∷ ps) range long many small p =
-    let r = neither (member_has is_out_of_range a) (list_any (member_has is_out_of_range) ps) range in
-    let l = neither (member_has is_long a) (list_any (member_has is_long) ps) long in
-    let m = neither (adds_many_args a) (list_any adds_many_args ps) many in
-    let s = neither (adds_large_args a) (list_any adds_large_args ps) small in
-    (member_fits a r.0 l.0 m.0 s.0 p.0, members_fit ps r.1 l.1 m.1 s.1 p.1)
+members_fit ms range long many small p = each_fits MemberPlain MemberFits (member_has is_out_of_range) (member_has is_long) adds_many_args adds_large_args member_fits ms range long many small p
 
 tests_count : (seen : Seen) (ts : List GuardMember) → length (somes (in_turn test seen ts).0) ≡ length (filter is_comparison ts)
 tests_count seen [] = refl

@@ -1,6 +1,5 @@
 pub mod Nested
 pub mod Numbered
-pub mod Bare
 pub mod Stacks
 pub mod Values
 pub mod Said
@@ -13,7 +12,7 @@ pub mod Names
 pub mod Parts
 pub mod Places
 pub mod Plain
-pub mod Same
+pub mod Renamed
 pub mod Spoken
 pub mod Steps
 pub mod Tables
@@ -29,3 +28,5 @@ pub mod InScope
 pub mod PlaceNumbers
 pub mod Writable
 pub mod RuleWritable
+pub mod Arguments
+pub mod Entered

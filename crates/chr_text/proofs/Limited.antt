@@ -1,5 +1,5 @@
 -- A term that is judged not to be too large: how deep and large it is, and what its functors have.
-use Rattle.std.proofs.Common.{◌≡◌, ◌<◌, ◌≤◌, ◌+◌, ℕ, suc, max, Bool, true, false, cond, ltb, eqb, leb, ◌||◌, List, [], ◌∷◌, ◌++◌, length, length-append, filter, refl, sym, ap, ap₂, subst, ◌∙◌, arith}
+use Rattle.std.proofs.Common.{◌≡◌, ◌<◌, ◌≤◌, ◌+◌, ℕ, suc, max, Bool, true, false, cond, ltb, eqb, leb, ◌||◌, List, [], ◌∷◌, ◌++◌, length, length-append, filter, refl, sym, ap, ap₂, ◌∙◌, arith}
 use Rattle.std.specs.List.{AllByRecursion, list_any, take_while}
 use Rattle.std.proofs.lemmas.Bool.{ltb-true}
 use Rattle.std.proofs.lemmas.List.Sums.{take_while-cons}
@@ -11,7 +11,7 @@ use Rattle.chr_grammar.specs.Parsed.{TermNode, ParsedTerm}
 use Rattle.chr_grammar.specs.Spelling.{IsParsedTerm}
 use Rattle.chr_limits.specs.Limits.{is_deep, arguments_behind, has_wide_functor, is_large_term}
 use Rattle.chr_limits.proofs.Standing.{neither}
-use Rattle.chr_text.specs.Terms.{Placed, inside, behind, values, functor_with, with_args, terms_of_words, term_of_words, value_words, args_words, words_of, terms_words}
+use Rattle.chr_text.specs.Terms.{Placed, inside, behind, values, with_args, terms_of_words, term_of_words, value_words, args_words, words_of, terms_words}
 use Rattle.chr_text.specs.Translation.{placed_word, argument}
 use Rattle.chr_text.specs.Variables.{Seen, in_turn}
 use Rattle.chr_text.proofs.Nested.{IsWord, can_open, AreBehind, AreWords, Falls, falls_up, terms_fall, none_inside, term_words, nodes_words}

@@ -1,9 +1,9 @@
 -- Words in text order as they nest: the terms that they make, and the words of these.
-use Rattle.std.proofs.Common.{◌≡◌, ◌<◌, ◌≤◌, ℕ, zero, suc, Bool, true, false, cond, ltb, ◌||◌, List, [], ◌∷◌, ◌++◌, map, append_assoc, refl, sym, ap, ◌∙◌, arith}
+use Rattle.std.proofs.Common.{◌≡◌, ◌<◌, ◌≤◌, ℕ, suc, Bool, true, false, cond, ltb, List, [], ◌∷◌, ◌++◌, append_assoc, refl, sym, ap, ◌∙◌, arith}
 use Rattle.std.specs.List.{AllByRecursion, list_any}
-use Rattle.std.proofs.lemmas.Bool.{lt-ltb, ltb-true}
+use Rattle.std.proofs.lemmas.Bool.{ltb-true}
 use Rattle.std.proofs.lemmas.List.{append-nil}
-use Rattle.chr_value.specs.Atoms.{Value, Int, Sym, Comp, args_of}
+use Rattle.chr_value.specs.Atoms.{Int, Sym, Comp, args_of}
 use Rattle.chr_rule.specs.Rules.{Term, Var, Given, Open, terms_of}
 use Rattle.chr_rule.specs.Terms.{is_open}
 use Rattle.chr_lex.specs.Tokens.{Word}
@@ -11,8 +11,8 @@ use Rattle.chr_lex.specs.Tokens as words
 use Rattle.chr_grammar.specs.Parsed as parsed
 use Rattle.chr_grammar.specs.Parsed.{TermNode, ParsedTerm, ParsedAtom, GuardMember, BodyMember, ParsedRule, is_name}
 use Rattle.chr_grammar.specs.Spelling.{AreNodes, IsParsedTerm, IsParsedAtom, IsGuardMember, IsBodyMember, IsParsedRule}
-use Rattle.chr_text.specs.Fitting.{TermPlain, PhrasePlain, TestPlain, MemberPlain, RulePlain}
-use Rattle.chr_text.specs.Terms.{Placed, inside, behind, values, functor_with, with_args, terms_of_words, first_of, term_of_words, value_words, args_words, words_of, terms_words}
+use Rattle.chr_text.specs.Fitting.{TermPlain, PhrasePlain, TestOf, MemberOf, RuleOf, TestPlain, MemberPlain, RulePlain}
+use Rattle.chr_text.specs.Terms.{Placed, inside, behind, values, with_args, terms_of_words, term_of_words, value_words, args_words, words_of, terms_words}
 use Rattle.chr_text.specs.Translation.{word_term, placed_word, argument}
 use Rattle.chr_text.specs.Variables.{Seen, in_turn}
 
@@ -203,22 +203,14 @@ abbrev pub AtomNests : ParsedAtom → Type 0
 AtomNests p = AllByRecursion IsParsedTerm p.args
 
 abbrev pub TestNests : GuardMember → Type 0
-TestNests parsed.Always = Unit {0}
-TestNests (parsed.Compared r e f) = Unit {0}
-TestNests (parsed.Same t u) = IsParsedTerm t × IsParsedTerm u
-TestNests (parsed.Differ t u) = IsParsedTerm t × IsParsedTerm u
+TestNests t = TestOf IsParsedTerm t
 
 abbrev pub MemberNests : BodyMember → Type 0
-MemberNests parsed.Nothing = Unit {0}
-MemberNests (parsed.Is x e) = Unit {0}
-MemberNests (parsed.Add p) = AtomNests p
+MemberNests m = MemberOf AtomNests m
 
 -- each term of a rule is one by the grammar
-pub record RuleNests (r : ParsedRule) : Type 0 where
-  pub kept : AllByRecursion AtomNests r.kept
-  pub removed : AllByRecursion AtomNests r.removed
-  pub guard : AllByRecursion TestNests r.guard
-  pub body : AllByRecursion MemberNests r.body
+abbrev pub RuleNests : ParsedRule → Type 0
+RuleNests r = RuleOf IsParsedTerm AtomNests r
 
 pub each_nests : {A : Type 0} (P Q : A → Type 0) → ((a : A) → P a → Q a) → (as' : List A) → AllByRecursion P as' → AllByRecursion Q as'
 each_nests P Q h [] all = tt

@@ -1,17 +1,17 @@
 -- The words of a term that are numbered make the numbered term.
-use Rattle.std.proofs.Common.{◌≡◌, ◌<◌, ◌≤◌, ℕ, suc, Bool, true, false, cond, ltb, ◌||◌, List, [], ◌∷◌, Option, Some, None, Ok, refl, sym, ap, ap₂, subst, ◌∙◌}
+use Rattle.std.proofs.Common.{◌≡◌, ℕ, Bool, true, false, cond, ltb, ◌||◌, List, [], ◌∷◌, Option, Some, None, Ok, refl, sym, ap, ap₂, subst, ◌∙◌}
 use Rattle.std.specs.List.{list_any}
 use Rattle.chr_lex.specs.declared.fault.ItemError.{ItemError}
 use Rattle.chr_lex.specs.Reading.{Fails}
-use Rattle.chr_value.specs.Atoms.{Value, Int, Sym, Comp, Args, Nil, Cons, args_of}
+use Rattle.chr_value.specs.Atoms.{Int, Sym, Comp, Cons, args_of}
 use Rattle.chr_value.specs.Naming.{◌>>=◌, Table, number_name, numbered_value, numbered_args}
 use Rattle.chr_value.proofs.Chosen.{bind_some, some_is}
-use Rattle.chr_rule.specs.Rules.{Term, Var, Given, Open, Terms, End, And, terms_of}
+use Rattle.chr_rule.specs.Rules.{Term, Var, Given, Open, And, terms_of}
 use Rattle.chr_rule.specs.Terms.{is_open}
 use Rattle.chr_text.specs.Terms.{Placed, inside, behind, values, functor_with, with_args, terms_of_words, first_of, term_of_words}
 use Rattle.chr_text.specs.Numbering.{or_full, each, numbered_term, numbered_terms, numbered_word}
 use Rattle.chr_text.proofs.Steps.{numbered_is, fails_then}
-use Rattle.chr_text.proofs.Nested.{IsWord, can_open, Follows, AreBehind, AreWords, none_inside, one_term}
+use Rattle.chr_text.proofs.Nested.{IsWord, can_open, AreBehind, AreWords, none_inside, one_term}
 
 -- ---- one step after another
 

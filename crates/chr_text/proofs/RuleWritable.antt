@@ -1,18 +1,15 @@
 -- A log can hold each atom that a rule adds, whatever values that a log can hold its variables stand for.
-use Rattle.std.proofs.Common.{◌≡◌, ◌≤◌, ℕ, suc, false, List, [], ◌∷◌, ◌++◌, length, take, map, Option, Some, Ok, refl, sym, ap, subst, ◌∙◌, arith}
+use Rattle.std.proofs.Common.{◌≡◌, ◌≤◌, ℕ, suc, false, List, [], ◌∷◌, length, take, map, Some, Ok, refl, sym, ap, subst, ◌∙◌, arith}
 use Rattle.std.specs.List.{AllByRecursion}
-use Rattle.std.proofs.Math.Seq.{take-length}
 use Rattle.chr_grammar.proofs.Members_again.{all_append}
 use Rattle.chr_lex.specs.Items.{Item}
-use Rattle.chr_value.specs.Atoms.{Value, args_count, renamed, args_renamed, text_of, by_texts}
+use Rattle.chr_value.specs.Atoms.{Value, args_count, renamed, args_renamed, text_of}
 use Rattle.chr_value.specs.Limits.{IsWithin}
-use Rattle.chr_value.specs.Naming.{◌>>=◌, Table}
-use Rattle.chr_value.specs.Spelling.{is_reserved, is_control, IsName, FitsTerm, ArgsFit, FitsAtom}
-use Rattle.chr_value.proofs.Chosen.{bind_some, some_is}
-use Rattle.chr_value.proofs.NameLaws.{keeps-then}
+use Rattle.chr_value.specs.Naming.{Table}
+use Rattle.chr_value.specs.Spelling.{is_reserved, is_control, IsName, FitsTerm, ArgsFit}
 use Rattle.chr_value.proofs.Said.{as_long}
 use Rattle.chr_value.proofs.Back.{within_same}
-use Rattle.chr_rule.specs.Rules.{Term, Var, Given, Open, Terms, End, And, RuleAtom, Comparison, Compared, Same, Differ, BodyItem, Is, Add, Simpagation}
+use Rattle.chr_rule.specs.Rules.{Term, Var, Given, Open, Terms, End, And, RuleAtom, BodyItem, Is, Add, Simpagation}
 use Rattle.chr_rule.specs.Terms.{terms_count}
 use Rattle.chr_grammar.specs.Parsed as parsed
 use Rattle.chr_grammar.specs.Parsed.{ParsedTerm, ParsedAtom, ParsedRule, Statement}
@@ -20,16 +17,17 @@ use Rattle.chr_grammar.specs.Spelling.{IsUnreserved, IsParsedAtom, IsBodyMember,
 use Rattle.chr_grammar.proofs.Statements_again.{by_texts as statement_read}
 use Rattle.chr_limits.proofs.Standing as standing
 use Rattle.chr_text.specs.Fitting.{TermFits, ShapeFits, MemberFits}
+use Rattle.chr_text.specs.Named.{RuleAtomIsNamed, BodyItemIsNamed}
 use Rattle.chr_text.specs.Variables.{Seen, in_turn}
 use Rattle.chr_text.specs.Translation.{argument, rule_atom, member, somes, after_guard, rule}
-use Rattle.chr_text.specs.Numbering.{each, numbered_term, numbered_rule_atom, number_test, number_member, number_rule}
+use Rattle.chr_text.specs.Numbering.{number_rule}
 use Rattle.chr_text.specs.Reading.{Program, program_of}
 use Rattle.chr_text.specs.Forms.{InOrder, no_more, item, Adds, AddsStatement}
 use Rattle.chr_text.specs.Writable.{term_with, terms_with, CanHold, AddsWritable, HasWritable}
 use Rattle.chr_text.proofs.Judged.{rule_fits}
 use Rattle.chr_text.proofs.Limited.{turns_count}
 use Rattle.chr_text.proofs.Plain.{lexemes_plain}
-use Rattle.chr_text.proofs.Said.{argument_renamed, arguments_renamed, rule_atom_by, AtomInside, atom_later, atom_kept, argument_keeps, atom_says}
+use Rattle.chr_text.proofs.Said.{argument_renamed, arguments_renamed, rule_atom_by, item_by, atom_later, atom_kept, rule_says}
 use Rattle.chr_text.proofs.Spoken.{rules_are_plain}
 use Rattle.chr_text.proofs.Texts.{item_read}
 use Rattle.chr_text.proofs.ProgramTexts.{is_program}
@@ -49,7 +47,7 @@ record TextFits (s : RuleAtom (List ℕ)) : Type 0 where
 
 -- the table has the names, and by its texts the atom can be written
 record Held (table : Table) (s : RuleAtom ℕ) : Type 0 where
-  inside : AtomInside (length table) s
+  inside : RuleAtomIsNamed (length table) s
   fits : TextFits (rule_atom_by table s)
 
 abbrev ItemHeld : Table → BodyItem ℕ → Type 0
@@ -69,53 +67,15 @@ items_kept old new [] keeps all = tt
 items_kept old new (Is x e ∷ ms) keeps all = (tt, items_kept old new ms keeps all.1)
 items_kept old new (Add s ∷ ms) keeps all = (held_kept old new s keeps all.0, items_kept old new ms keeps all.1)
 
--- ---- numbering
-
-each_keeps : {A B : Type 0} (f : Table → A → Option (B × Table)) → ((table new : Table) (a : A) (b : B) → f table a ≡ Some (b, new) → take (length table) new ≡ table) → (table new : Table) (as' : List A) (bs : List B) → each f table as' ≡ Some (bs, new) → take (length table) new ≡ table
-each_keeps {B = B} f keeps table new [] bs h = subst (λ (z : List B × Table). take (length table) z.1 ≡ table) (some_is {A = List B × Table} ([], table) (bs, new) h) (take-length table)
-each_keeps {B = B} f keeps table new (a ∷ as') bs h =
-    let x = bind_some (f table a) (λ x. each f x.1 as' >>= λ xs. Some (x.0 ∷ xs.0, xs.1)) (bs, new) h in
-    let y = bind_some (each f x.0.1 as') (λ xs. Some (x.0.0 ∷ xs.0, xs.1)) (bs, new) x.2 in
-    subst (λ (z : List B × Table). take (length table) z.1 ≡ table) (some_is {A = List B × Table} (x.0.0 ∷ y.0.0, y.0.1) (bs, new) y.2) (keeps-then table x.0.1 y.0.1 (keeps table x.0.1 a x.0.0 x.1) (each_keeps f keeps x.0.1 y.0.1 as' y.0.0 y.1))
-
-atom_numbered : (table new : Table) (s : RuleAtom (List ℕ)) (r : RuleAtom ℕ) → TextFits s → numbered_rule_atom table s ≡ Some (r, new) → Held new r
-atom_numbered table new s r fits h = let says = atom_says table new s r h in record { inside = says.1; fits = subst TextFits (sym says.0) fits }
-
-atom_keeps : (table new : Table) (s : RuleAtom (List ℕ)) (r : RuleAtom ℕ) → numbered_rule_atom table s ≡ Some (r, new) → take (length table) new ≡ table
-atom_keeps table new s r h = (atom_says table new s r h).2
-
-abbrev sides : (Term ℕ → Term ℕ → Comparison ℕ) → Table → Term (List ℕ) → Term (List ℕ) → Option (Comparison ℕ × Table)
-sides make table s t = numbered_term table s >>= λ x. numbered_term x.1 t >>= λ y. Some (make x.0 y.0, y.1)
-
-sides_keep : (table new : Table) (s t : Term (List ℕ)) (make : Term ℕ → Term ℕ → Comparison ℕ) (c : Comparison ℕ) → sides make table s t ≡ Some (c, new) → take (length table) new ≡ table
-sides_keep table new s t make c h =
-    let x = bind_some (numbered_term table s) _ (c, new) h in
-    let y = bind_some (numbered_term x.0.1 t) _ (c, new) x.2 in
-    subst (λ (z : Comparison ℕ × Table). take (length table) z.1 ≡ table) (some_is {A = Comparison ℕ × Table} (make x.0.0 y.0.0, y.0.1) (c, new) y.2) (keeps-then table x.0.1 y.0.1 (argument_keeps table x.0.1 s x.0.0 x.1) (argument_keeps x.0.1 y.0.1 t y.0.0 y.1))
-
-test_keeps : (table new : Table) (t : Comparison (List ℕ)) (c : Comparison ℕ) → number_test table t ≡ Some (c, new) → take (length table) new ≡ table
-test_keeps table new (Compared r a b) c h = subst (λ (z : Comparison ℕ × Table). take (length table) z.1 ≡ table) (some_is {A = Comparison ℕ × Table} (Compared r a b, table) (c, new) h) (take-length table)
-test_keeps table new (Same s t) c h = sides_keep table new s t (λ x y. Same x y) c h
-test_keeps table new (Differ s t) c h = sides_keep table new s t (λ x y. Differ x y) c h
-
 abbrev ItemFits : BodyItem (List ℕ) → Type 0
 ItemFits (Is x e) = Unit {0}
 ItemFits (Add s) = TextFits s
 
-item_numbered : (table new : Table) (m : BodyItem (List ℕ)) (b : BodyItem ℕ) → number_member table m ≡ Some (b, new) → (ItemFits m → ItemHeld new b) × (take (length table) new ≡ table)
-item_numbered table new (Is x e) b h = subst (λ (z : BodyItem ℕ × Table). (Unit {0} → ItemHeld z.1 z.0) × (take (length table) z.1 ≡ table)) (some_is {A = BodyItem ℕ × Table} (Is x e, table) (b, new) h) (λ u. tt, take-length table)
-item_numbered table new (Add s) b h =
-    let x = bind_some (numbered_rule_atom table s) (λ x. Some (Add x.0, x.1)) (b, new) h in
-    subst (λ (z : BodyItem ℕ × Table). (TextFits s → ItemHeld z.1 z.0) × (take (length table) z.1 ≡ table)) (some_is {A = BodyItem ℕ × Table} (Add x.0.0, x.0.1) (b, new) x.2) (λ fits. atom_numbered table x.0.1 s x.0.0 fits x.1, atom_keeps table x.0.1 s x.0.0 x.1)
-
-items_numbered : (table new : Table) (ms : List (BodyItem (List ℕ))) (bs : List (BodyItem ℕ)) → AllByRecursion ItemFits ms → each number_member table ms ≡ Some (bs, new) → AllByRecursion (ItemHeld new) bs
-items_numbered table new [] bs all h = subst (λ (z : List (BodyItem ℕ) × Table). AllByRecursion (ItemHeld z.1) z.0) (some_is {A = List (BodyItem ℕ) × Table} ([], table) (bs, new) h) tt
-items_numbered table new (m ∷ ms) bs all h =
-    let x = bind_some (number_member table m) (λ x. each number_member x.1 ms >>= λ xs. Some (x.0 ∷ xs.0, xs.1)) (bs, new) h in
-    let y = bind_some (each number_member x.0.1 ms) (λ xs. Some (x.0.0 ∷ xs.0, xs.1)) (bs, new) x.2 in
-    let keeps = each_keeps number_member (λ t n a b e. (item_numbered t n a b e).1) x.0.1 y.0.1 ms y.0.0 y.1 in
-    let first = items_kept x.0.1 y.0.1 (x.0.0 ∷ []) keeps ((item_numbered table x.0.1 m x.0.0 x.1).0 all.0, tt) in
-    subst (λ (z : List (BodyItem ℕ) × Table). AllByRecursion (ItemHeld z.1) z.0) (some_is {A = List (BodyItem ℕ) × Table} (x.0.0 ∷ y.0.0, y.0.1) (bs, new) y.2) (first.0, items_numbered x.0.1 y.0.1 ms y.0.0 all.1 y.1)
+-- items whose names a table has, and which can be written by its texts
+items_by_texts : (table : Table) (ms : List (BodyItem ℕ)) → AllByRecursion (BodyItemIsNamed (length table)) ms → AllByRecursion ItemFits (map (item_by table) ms) → AllByRecursion (ItemHeld table) ms
+items_by_texts table [] named all = tt
+items_by_texts table (Is x e ∷ ms) named all = (tt, items_by_texts table ms named.1 all.1)
+items_by_texts table (Add s ∷ ms) named all = (record { inside = named.0; fits = all.0 }, items_by_texts table ms named.1 all.1)
 
 -- ---- a rule as it is written
 
@@ -151,17 +111,8 @@ items_fit seen (parsed.Add p ∷ ms) fits written = (atom_fits seen p fits.0 wri
 
 rule_numbered : (table new : Table) (r : Simpagation (List ℕ)) (n : Simpagation ℕ) → AllByRecursion ItemFits r.body → number_rule table r ≡ Some (n, new) → AllByRecursion (ItemHeld new) n.body × (take (length table) new ≡ table)
 rule_numbered table new r n all h =
-    let a = bind_some (each numbered_rule_atom table r.kept) _ (n, new) h in
-    let b = bind_some (each numbered_rule_atom a.0.1 r.removed) _ (n, new) a.2 in
-    let c = bind_some (each number_test b.0.1 r.guard) _ (n, new) b.2 in
-    let d = bind_some (each number_member c.0.1 r.body) _ (n, new) c.2 in
-    let ka = each_keeps numbered_rule_atom atom_keeps table a.0.1 r.kept a.0.0 a.1 in
-    let kb = each_keeps numbered_rule_atom atom_keeps a.0.1 b.0.1 r.removed b.0.0 b.1 in
-    let kc = each_keeps number_test test_keeps b.0.1 c.0.1 r.guard c.0.0 c.1 in
-    let kd = each_keeps number_member (λ t n a b e. (item_numbered t n a b e).1) c.0.1 d.0.1 r.body d.0.0 d.1 in
-    let held = items_numbered c.0.1 d.0.1 r.body d.0.0 all d.1 in
-    let keeps = keeps-then table c.0.1 d.0.1 (keeps-then table b.0.1 c.0.1 (keeps-then table a.0.1 b.0.1 ka kb) kc) kd in
-    subst (λ (z : Simpagation ℕ × Table). AllByRecursion (ItemHeld z.1) z.0.body × (take (length table) z.1 ≡ table)) (some_is {A = Simpagation ℕ × Table} _ (n, new) d.2) (held, keeps)
+    let says = rule_says table new r n h in
+    (items_by_texts new n.body says.1.body (subst (λ (s : Simpagation (List ℕ)). AllByRecursion ItemFits s.body) (sym says.0) all), says.2)
 
 -- ---- a program
 

@@ -3,12 +3,12 @@ use Rattle.std.proofs.Common.{◌≡◌, ℕ, List, [], ◌∷◌, ◌++◌, Ok,
 use Rattle.std.specs.List.{AllByRecursion}
 use Rattle.chr_lex.specs.Tokens.{Lexeme, OfWord}
 use Rattle.chr_grammar.specs.Parsed as parsed
-use Rattle.chr_grammar.specs.Parsed.{TermNode, ParsedTerm, ParsedAtom, GuardMember, BodyMember, ParsedRule, Rule}
+use Rattle.chr_grammar.specs.Parsed.{TermNode, ParsedTerm, ParsedAtom, GuardMember, BodyMember, ParsedRule, Statement, Import, Declaration, Rule}
 use Rattle.chr_grammar.specs.Parsing.{phrases_of, statement_of}
-use Rattle.chr_grammar.specs.Spelling.{by_commas, between, nodes_spelled, term_spelled, further, phrase_spelled, test_spelled, member_spelled, rule_name_spelled, heads_spelled, consequence_spelled, IsParsedTerm, IsParsedAtom, IsGuardMember, IsBodyMember, IsParsedRule}
+use Rattle.chr_grammar.specs.Spelling.{by_commas, between, nodes_spelled, term_spelled, further, phrase_spelled, test_spelled, member_spelled, rule_name_spelled, heads_spelled, consequence_spelled, IsParsedTerm, IsParsedAtom, IsGuardMember, IsBodyMember}
 use Rattle.chr_grammar.proofs.Phrases.{are_phrases}
 use Rattle.chr_grammar.proofs.Statements.{says}
-use Rattle.chr_text.specs.Fitting.{NodePlain, TermPlain, PhrasePlain, TestPlain, MemberPlain, RulePlain}
+use Rattle.chr_text.specs.Fitting.{NodePlain, TermPlain, PhrasePlain, TestPlain, MemberPlain, RulePlain, StatementPlain}
 use Rattle.chr_text.proofs.Plain.{AllPlain}
 
 both_plain : (xs ys : List Lexeme) → AllPlain (xs ++ ys) → AllPlain xs × AllPlain ys
@@ -98,3 +98,8 @@ rules_are_plain ts r all h =
     let heads = heads_plain r.kept r.removed is.0.kept is.0.removed parts.0 in
     let rest = consequence_plain r.guard r.body is.0.guard is.0.body parts.1.1 in
     record { kept = heads.0; removed = heads.1; guard = rest.0; body = rest.1 }
+
+pub statements_are_plain : (ts : List Lexeme) (s : Statement) → AllPlain ts → statement_of ts ≡ Ok s → StatementPlain s
+statements_are_plain ts Import plain is = tt
+statements_are_plain ts (Declaration ds) plain is = tt
+statements_are_plain ts (Rule r) plain is = rules_are_plain ts r plain is

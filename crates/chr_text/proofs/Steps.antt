@@ -9,6 +9,10 @@ use Rattle.chr_lex.specs.Reading.{Fails}
 use Rattle.chr_value.specs.Naming.{◌>>=◌, Table, number_name}
 use Rattle.chr_value.proofs.Chosen.{some_is}
 use Rattle.chr_rule.specs.Rules.{Term, RuleAtom, Same, Differ, Add}
+use Rattle.chr_grammar.specs.Parsed as parsed
+use Rattle.chr_grammar.specs.Parsed.{ParsedTerm}
+use Rattle.chr_text.specs.Translation.{argument, test}
+use Rattle.chr_text.specs.Variables.{Seen, in_turn}
 use Rattle.chr_text.specs.Numbering.{or_full, each, more, maybe, numbered_term, numbered_rule_atom, number_test, number_member}
 
 pub numbered_is : {A : Type 0} (r : Option A) (x : A) → or_full r ≡ Ok x → r ≡ Some x
@@ -101,17 +105,26 @@ both_is : {B : Type 0} (h : Term ℕ → Term ℕ → B) (r : Option (Term ℕ �
 both_is h None f a b new k = absurd cc
 both_is h (Some x) f a b new k = second_is h x.0 (f x.1) a b new k
 
-pub compared_fail : (e : ItemError) (table : Table) (s t : Term (List ℕ)) → Fails e (or_full (each numbered_term table (s ∷ t ∷ []))) → Fails e (or_full (maybe number_test table (Some (Same s t)))) × Fails e (or_full (maybe number_test table (Some (Differ s t))))
-compared_fail e table s t h = (
-  fails_then e (number_test table (Same s t)) (λ x. Some (Some x.0, x.1)) (both_fail e Same (numbered_term table s) (λ new. numbered_term new t) h),
-  fails_then e (number_test table (Differ s t)) (λ x. Some (Some x.0, x.1)) (both_fail e Differ (numbered_term table s) (λ new. numbered_term new t) h),
-)
+abbrev both_sides : Seen → ParsedTerm → ParsedTerm → List (Term (List ℕ))
+both_sides seen s t = (in_turn argument seen (s ∷ t ∷ [])).0
 
-pub same_numbered : (table new : Table) (s t : Term (List ℕ)) (x y : Term ℕ) → or_full (each numbered_term table (s ∷ t ∷ [])) ≡ Ok (x ∷ y ∷ [], new) → or_full (maybe number_test table (Some (Same s t))) ≡ Ok (Some (Same x y), new)
-same_numbered table new s t x y h = ap (λ r. or_full (r >>= λ z. Some (Some z.0, z.1))) (both_is Same (numbered_term table s) (λ last. numbered_term last t) x y new (numbered_is _ _ h))
+pub sides_fail : (e : ItemError) (table : Table) (seen : Seen) (s t : ParsedTerm) → Fails e (or_full (each numbered_term table (both_sides seen s t)))
+    → Fails e (or_full (maybe number_test table (test seen (parsed.Same s t)).0)) × Fails e (or_full (maybe number_test table (test seen (parsed.Differ s t)).0))
+sides_fail e table seen s t h =
+    let left = argument seen s in
+    let right = argument left.1 t in (
+      fails_then e (number_test table (Same left.0 right.0)) (λ x. Some (Some x.0, x.1)) (both_fail e Same (numbered_term table left.0) (λ new. numbered_term new right.0) h),
+      fails_then e (number_test table (Differ left.0 right.0)) (λ x. Some (Some x.0, x.1)) (both_fail e Differ (numbered_term table left.0) (λ new. numbered_term new right.0) h),
+    )
 
-pub differ_numbered : (table new : Table) (s t : Term (List ℕ)) (x y : Term ℕ) → or_full (each numbered_term table (s ∷ t ∷ [])) ≡ Ok (x ∷ y ∷ [], new) → or_full (maybe number_test table (Some (Differ s t))) ≡ Ok (Some (Differ x y), new)
-differ_numbered table new s t x y h = ap (λ r. or_full (r >>= λ z. Some (Some z.0, z.1))) (both_is Differ (numbered_term table s) (λ last. numbered_term last t) x y new (numbered_is _ _ h))
+pub sides_numbered : (table new : Table) (seen : Seen) (s t : ParsedTerm) (x y : Term ℕ) → or_full (each numbered_term table (both_sides seen s t)) ≡ Ok (x ∷ y ∷ [], new)
+    → (or_full (maybe number_test table (test seen (parsed.Same s t)).0) ≡ Ok (Some (Same x y), new)) × (or_full (maybe number_test table (test seen (parsed.Differ s t)).0) ≡ Ok (Some (Differ x y), new))
+sides_numbered table new seen s t x y h =
+    let left = argument seen s in
+    let right = argument left.1 t in (
+      ap (λ r. or_full (r >>= λ z. Some (Some z.0, z.1))) (both_is Same (numbered_term table left.0) (λ last. numbered_term last right.0) x y new (numbered_is _ _ h)),
+      ap (λ r. or_full (r >>= λ z. Some (Some z.0, z.1))) (both_is Differ (numbered_term table left.0) (λ last. numbered_term last right.0) x y new (numbered_is _ _ h)),
+    )
 
 -- a constraint: its name, and then its arguments
 pub name_fails : (e : ItemError) (table : Table) (s : RuleAtom (List ℕ)) → Fails e (or_full (number_name table s.name)) → Fails e (or_full (numbered_rule_atom table s))

@@ -1,5 +1,5 @@
 -- The variables of a rule in scope: each has a value where it is used.
-use Rattle.std.proofs.Common.{◌≡◌, ◌<◌, ◌+◌, ℕ, suc, Bool, true, false, not, ◌&&◌, ◌||◌, cond, ltb, eqb, List, [], ◌∷◌, ◌++◌, length, length-append, flat_map, Option, Some, None, refl, sym, ap, ◌∙◌, arith}
+use Rattle.std.proofs.Common.{◌≡◌, ◌<◌, ◌+◌, ℕ, suc, Bool, true, false, not, ◌&&◌, ◌||◌, cond, ltb, eqb, List, [], ◌∷◌, ◌++◌, length, length-append, flat_map, Option, Some, refl, sym, ap, ◌∙◌, arith}
 use Rattle.std.specs.List.{AllByRecursion, list_any, list_all, position_or_len}
 use Rattle.std.specs.Str.{bytes_eq}
 use Rattle.std.proofs.lemmas.Bool.{lt-ltb}
@@ -108,6 +108,14 @@ old_expression m n (parsed.Operation o e f) holds h =
 
 -- ---- a guard
 
+old_sides : (m : Seen) (s t : parsed.ParsedTerm) → IsParsedTerm s × IsParsedTerm t → are_seen m (term_variables s ++ term_variables t) ≡ true
+    → ((argument_known (length m) (argument m s).0 && argument_known (length m) (argument (argument m s).1 t).0) ≡ true) × ((argument (argument m s).1 t).1 ≡ m)
+old_sides m s t nested h =
+    let p = met_both m (term_variables s) (term_variables t) h in
+    let a = old_argument m m s nested.0 (holds_same m) p.0 in
+    let b = old_argument m m t nested.1 (holds_same m) p.1 in
+    (rw (a.0, a.1, b.0) refl, rw (a.1, b.1) refl)
+
 pub old_tests : (m : Seen) (ts : List parsed.GuardMember) → AllByRecursion TestNests ts → are_seen m (flat_map test_variables ts) ≡ true → (list_all (test_known (length m)) (somes (in_turn test m ts).0) ≡ true) × ((in_turn test m ts).1 ≡ m)
 old_tests m [] nested h = (refl, refl)
 old_tests m (parsed.Always ∷ ts) nested h = old_tests m ts nested.1 h
@@ -120,18 +128,14 @@ old_tests m (parsed.Compared r e f ∷ ts) nested h =
     (rw (a.0, a.1, b.0, b.1, c.0) refl, rw (a.1, b.1, c.1) refl)
 old_tests m (parsed.Same s t ∷ ts) nested h =
     let p = met_both m (term_variables s ++ term_variables t) (flat_map test_variables ts) h in
-    let q = met_both m (term_variables s) (term_variables t) p.0 in
-    let a = old_argument m m s nested.0.0 (holds_same m) q.0 in
-    let b = old_argument m m t nested.0.1 (holds_same m) q.1 in
+    let a = old_sides m s t nested.0 p.0 in
     let c = old_tests m ts nested.1 p.1 in
-    (rw (a.0, a.1, b.0, b.1, c.0) refl, rw (a.1, b.1, c.1) refl)
+    (rw (a.0, a.1, c.0) refl, rw (a.1, c.1) refl)
 old_tests m (parsed.Differ s t ∷ ts) nested h =
     let p = met_both m (term_variables s ++ term_variables t) (flat_map test_variables ts) h in
-    let q = met_both m (term_variables s) (term_variables t) p.0 in
-    let a = old_argument m m s nested.0.0 (holds_same m) q.0 in
-    let b = old_argument m m t nested.0.1 (holds_same m) q.1 in
+    let a = old_sides m s t nested.0 p.0 in
     let c = old_tests m ts nested.1 p.1 in
-    (rw (a.0, a.1, b.0, b.1, c.0) refl, rw (a.1, b.1, c.1) refl)
+    (rw (a.0, a.1, c.0) refl, rw (a.1, c.1) refl)
 
 -- ---- heads
 

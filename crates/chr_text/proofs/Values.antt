@@ -1,5 +1,5 @@
 -- Terms of posts, which are values.
-use Rattle.std.proofs.Common.{◌≡◌, ◌≤◌, ℕ, Bool, true, false, List, [], ◌∷◌, length, map, Option, Some, None, Ok, true≢false, Box, refl, sym, ap, subst, ◌∙◌, arith}
+use Rattle.std.proofs.Common.{◌≡◌, ◌≤◌, ℕ, true, false, List, [], ◌∷◌, length, Some, Ok, true≢false, Box, refl, sym, ap, subst, ◌∙◌, arith}
 use Rattle.std.specs.List.{AllByRecursion, list_any}
 use Rattle.chr_lex.specs.declared.fault.ItemError.{ItemError}
 use Rattle.chr_lex.specs.Reading.{Fails}
@@ -8,12 +8,12 @@ use Rattle.chr_lex.specs.Tokens as words
 use Rattle.chr_grammar.specs.Parsed.{TermNode, ParsedTerm}
 use Rattle.chr_limits.specs.Words.{is_variable, term_has}
 use Rattle.chr_limits.proofs.Standing.{neither}
-use Rattle.chr_value.specs.Atoms.{Value, Int, Sym, Comp, args_of, ground}
+use Rattle.chr_value.specs.Atoms.{Value, Int, Sym, Comp, ground, text_of}
 use Rattle.chr_value.specs.Limits.{IsWithin}
-use Rattle.chr_value.specs.Naming.{◌>>=◌, Table, numbered_value}
+use Rattle.chr_value.specs.Naming.{Table, numbered_value}
 use Rattle.chr_value.specs.declared.value.Value.{Value as CodeValue}
 use Rattle.chr_value.proofs.Chosen.{bind_some, some_is}
-use Rattle.chr_rule.specs.Rules.{Term, Var, Given, Open, terms_of}
+use Rattle.chr_rule.specs.Rules.{Term, Var, Given, Open}
 use Rattle.chr_rule.specs.Parts.{argument as argument_of}
 use Rattle.chr_rule.specs.Terms.{is_open, IsTerm}
 use Rattle.chr_rule.specs.declared.term.Term as terms
@@ -22,13 +22,14 @@ use Rattle.chr_rule.specs.declared.term.Open.{Open as CodeOpen}
 use Rattle.chr_rule.proofs.Levels.{argument-Var, argument-Given, argument-parts}
 use Rattle.chr_text.specs.Fitting.{ValueFits}
 use Rattle.chr_text.specs.Numbering.{or_full, numbered_term}
-use Rattle.chr_text.specs.Terms.{values, with_args, functor_with}
+use Rattle.chr_text.specs.Terms.{with_args}
 use Rattle.chr_text.specs.Translation.{word_term, placed_word, argument, value_in, value}
 use Rattle.chr_text.specs.Variables.{Seen, in_turn}
-use Rattle.chr_text.proofs.Bare.{term_bare, same_term}
-use Rattle.chr_text.proofs.Limited.{Holds, small, term_all, nodes_narrow, is_term}
+use Rattle.chr_text.proofs.Limited.{small, term_all, nodes_narrow, is_term}
 use Rattle.chr_text.proofs.Nested.{IsWord, can_open, nodes_words}
 use Rattle.chr_text.proofs.Numbered.{opened, functor_with-values}
+use Rattle.chr_text.proofs.Renamed.{term_stays}
+use Rattle.chr_text.proofs.Said.{argument_says}
 use Rattle.chr_text.proofs.Steps.{numbered_is, fails_back}
 
 -- ---- terms without variables
@@ -142,4 +143,4 @@ value_within table new p w fits e =
     let numbered : numbered_value table v ≡ Some (w, new) = ap (numbered_value table) (sym value_is) ∙ e in
     let whole : numbered_term table (Given v) ≡ Some (Given w, new) = rw numbered refl in
     let term : IsTerm (Given v) = subst IsTerm made.1 (is_term [] p fits.term.small fits.term.nested) in
-    within_given w (same_term (Given v) (Given w) (term_bare table new (Given v) (Given w) whole) term)
+    within_given w (term_stays (text_of new) (Given w) (subst IsTerm (sym (argument_says table new (Given v) (Given w) whole).0) term))

@@ -1,12 +1,12 @@
 -- The atoms of posts are atoms that a log can hold.
-use Rattle.std.proofs.Common.{◌≡◌, ◌≤◌, ◌^◌, ℕ, zero, suc, ℤ, pos, Bool, true, false, cond, ltb, leb, List, [], ◌∷◌, ◌++◌, length, take, map, Option, Some, None, Ok, is_none, refl, sym, ap, subst, arith, lit<}
+use Rattle.std.proofs.Common.{◌≡◌, ◌≤◌, ◌^◌, ℕ, zero, suc, ℤ, pos, Bool, true, false, cond, ltb, leb, List, [], ◌∷◌, length, take, map, Option, Some, None, Ok, is_none, refl, sym, ap, subst, arith, lit<}
 use Rattle.std.specs.List.{AllByRecursion, list_any}
 use Rattle.std.proofs.lemmas.Bool.{ltb-true}
 use Rattle.std.proofs.Math.Seq.{take-length}
 use Rattle.chr_grammar.proofs.Members_again.{all_append}
 use Rattle.chr_lex.specs.Items.{Item}
 use Rattle.chr_lex.specs.Tokens.{Word, Name, Variable, Number}
-use Rattle.chr_value.specs.Atoms.{Value, Int, Sym, Comp, args_of, args_count, Atom, by_texts}
+use Rattle.chr_value.specs.Atoms.{Int, Sym, Comp, args_of, args_count, Atom, by_texts}
 use Rattle.chr_value.specs.Naming.{◌>>=◌, Table, numbered_atom}
 use Rattle.chr_value.specs.Spelling.{is_control, IsName, FitsTerm, ArgsFit, FitsAtom}
 use Rattle.chr_value.specs.Limits.{IsWithin}

@@ -100,20 +100,36 @@ TermPlain t = IsParsedTerm t × AllByRecursion NodePlain t
 abbrev pub PhrasePlain : ParsedAtom → Type 0
 PhrasePlain p = NamePlain p.name × AllByRecursion TermPlain p.args
 
+-- each term of a comparison is such, and the atom of a member of a body
+abbrev pub TestOf : (ParsedTerm → Type 0) → GuardMember → Type 0
+TestOf Terms parsed.Always = Unit {0}
+TestOf Terms (parsed.Compared r a b) = Unit {0}
+TestOf Terms (parsed.Same s t) = Terms s × Terms t
+TestOf Terms (parsed.Differ s t) = Terms s × Terms t
+
+abbrev pub MemberOf : (ParsedAtom → Type 0) → BodyMember → Type 0
+MemberOf Atoms parsed.Nothing = Unit {0}
+MemberOf Atoms (parsed.Is x e) = Unit {0}
+MemberOf Atoms (parsed.Add p) = Atoms p
+
+-- each term that a rule compares is such, and each atom
+pub record RuleOf (Terms : ParsedTerm → Type 0) (Atoms : ParsedAtom → Type 0) (r : ParsedRule) : Type 0 where
+  pub kept : AllByRecursion Atoms r.kept
+  pub removed : AllByRecursion Atoms r.removed
+  pub guard : AllByRecursion (TestOf Terms) r.guard
+  pub body : AllByRecursion (MemberOf Atoms) r.body
+
 abbrev pub TestPlain : GuardMember → Type 0
-TestPlain parsed.Always = Unit {0}
-TestPlain (parsed.Compared r a b) = Unit {0}
-TestPlain (parsed.Same s t) = TermPlain s × TermPlain t
-TestPlain (parsed.Differ s t) = TermPlain s × TermPlain t
+TestPlain t = TestOf TermPlain t
 
 abbrev pub MemberPlain : BodyMember → Type 0
-MemberPlain parsed.Nothing = Unit {0}
-MemberPlain (parsed.Is x e) = Unit {0}
-MemberPlain (parsed.Add p) = PhrasePlain p
+MemberPlain m = MemberOf PhrasePlain m
 
 -- the names of a rule, its own name aside
-pub record RulePlain (r : ParsedRule) : Type 0 where
-  pub kept : AllByRecursion PhrasePlain r.kept
-  pub removed : AllByRecursion PhrasePlain r.removed
-  pub guard : AllByRecursion TestPlain r.guard
-  pub body : AllByRecursion MemberPlain r.body
+abbrev pub RulePlain : ParsedRule → Type 0
+RulePlain r = RuleOf TermPlain PhrasePlain r
+
+abbrev pub StatementPlain : parsed.Statement → Type 0
+StatementPlain parsed.Import = Unit {0}
+StatementPlain (parsed.Declaration ds) = Unit {0}
+StatementPlain (parsed.Rule r) = RulePlain r

@@ -11,3 +11,4 @@ pub mod Forms
 pub mod Faults
 pub mod Places
 pub mod Writable
+pub mod Named

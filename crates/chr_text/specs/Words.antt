@@ -1,5 +1,5 @@
 -- What the numbered words of a term say.
-use Rattle.std.specs.Prelude.{ℕ, List, map}
+use Rattle.std.specs.Prelude.{ℕ}
 use Rattle.chr_value.specs.Atoms.{Int, Sym}
 use Rattle.chr_rule.specs.Rules.{Term, Var, Given}
 use Rattle.chr_text.specs.declared.words.NumberedWord.{NumberedWord}

@@ -1,8 +1,10 @@
 //! Laws of the definitions: what is read of a text is what the text is by the grammar, so it is one program at most, and
 //! where it is none the fault is its first.
 
-ghost use Rattle.std.specs.Prelude.{◌≡◌, ◌↔◌, ◌++◌, ℕ, true, false, List, Some, Ok, Err, slice_get};
+ghost use Rattle.std.specs.Prelude.{◌≡◌, ◌↔◌, ◌++◌, ℕ, true, false, List, Some, Ok, Err, length, take, slice_get};
+ghost use Rattle.std.specs.List.{AllByRecursion};
 ghost use Rattle.chr_lex.specs.declared.fault.ReadFault.{ReadFault};
+ghost use Rattle.chr_value.specs.Atoms.{AtomIsNamed};
 ghost use Rattle.chr_value.specs.Naming.{Table};
 ghost use Rattle.chr_rule.specs.Scope.{variable_count};
 ghost use Rattle.chr_grammar.specs.Parsed.{ParsedTerm, ParsedRule};
@@ -17,6 +19,7 @@ ghost use Rattle.chr_text.specs.Reading.{Program, program_of, Posts, posts_of};
 ghost use Rattle.chr_text.specs.Forms.{IsProgramText, ArePosts};
 ghost use Rattle.chr_text.specs.Faults.{IsProgramFault, IsPostsFault};
 ghost use Rattle.chr_text.specs.Writable.{AreWritable, HasWritable};
+ghost use Rattle.chr_text.specs.Named.{RulesAreNamed};
 
 /// What is read as a program is one by the grammar and the limits, and each such program is read. So a text is one
 /// program at most over a table of names, and where the reader gives a fault it is none.
@@ -74,4 +77,12 @@ pub fn scope_by_numbers()
 pub fn what_is_read_can_be_written()
     ensures posts { (table : Table) (bytes : List ℕ) (p : Posts) → posts_of table bytes ≡ Ok p → AreWritable p.1 p.0 }
     ensures rules { (table : Table) (bytes : List ℕ) (p : Program) → program_of table bytes ≡ Ok p → HasWritable p.1 p.0 }
+{}
+
+/// The table after a text that was read has all names of its rules, or of its atoms. After posts it begins with the names that
+/// it had.
+pub fn texts_enter_their_names()
+    ensures programs { (table : Table) (bytes : List ℕ) (p : Program) → program_of table bytes ≡ Ok p → RulesAreNamed p.1 p.0 }
+    ensures posts { (table : Table) (bytes : List ℕ) (p : Posts) → posts_of table bytes ≡ Ok p → AllByRecursion (AtomIsNamed (length p.1)) p.0 }
+    ensures kept { (table : Table) (bytes : List ℕ) (p : Posts) → posts_of table bytes ≡ Ok p → take (length table) p.1 ≡ table }
 {}

@@ -14,10 +14,16 @@
 //! A term comes as its words in text order. All of them are numbered, a functor before its arguments, and only then is the
 //! term built, from the last word to the first: each word takes the terms that stand deeper behind it (`term_of_words`). So
 //! no call goes as deep as a text nests, and the words of the term are those of the text ([`laws`]).
+//!
+//! A program and its atoms have names by their numbers in a table. [`are_rules_named`] tells whether a table has all of them,
+//! so that whoever takes a program and a table from elsewhere can refuse one that doesn't fit the other. This never happens
+//! with what the readers give: the table after a text that was read has all names of its rules or of its atoms. Posts leave
+//! the names that a table had where they are.
 #![tactic(auto)]
 
 mod build;
 pub mod laws;
+mod named;
 mod naming;
 mod posts;
 mod reading;
@@ -26,4 +32,5 @@ mod trees;
 mod variables;
 mod words;
 
+pub use named::are_rules_named;
 pub use reading::{MOST_BYTES, read_atoms, read_program};

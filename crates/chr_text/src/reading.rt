@@ -3,8 +3,8 @@ ghost use Rattle.std.specs.Prelude.{◌≡◌, ◌≤◌, ◌<◌, zero, [], len
 ghost use Rattle.chr_lex.specs.Items.{items, entry};
 ghost use Rattle.chr_lex.specs.Reading.{Gives, Reads, placed};
 ghost use Rattle.chr_lex.specs.Tokens.{lexeme};
-ghost use Rattle.chr_text.specs.Fitting.{RulePlain};
-ghost use Rattle.chr_text.specs.Reading.{item_lexemes, over_items, with_rule, with_item, program_of, with_post, posts_of};
+ghost use Rattle.chr_text.specs.Fitting.{RulePlain, StatementPlain};
+ghost use Rattle.chr_text.specs.Reading.{item_lexemes, over_items, with_rule, with_statement, with_item, program_of, with_post, posts_of};
 ghost use Rattle.chr_lex.specs.declared.fault.Kind.TheVariants.{TooLong};
 ghost use Rattle.chr_lex.specs.declared.fault.ReadError.TheVariants as errors;
 ghost use Rattle.chr_grammar.specs.Views as by_texts;
@@ -57,6 +57,24 @@ fn add_rule<A: Allocator + Copy>(
     Ok(())
 }
 
+/// Adds what an item says. Only a rule adds to a program.
+fn add_statement<A: Allocator + Copy>(
+    alloc: A,
+    names: &mut Names<A>,
+    program: &mut Program<A>,
+    statement: &Statement<'_, A>,
+) -> Result<(), ItemError>
+    requires { StatementPlain (by_texts.statement statement.now) }
+    ensures gives { Gives (λ u. (program.new, names.new)) result (with_statement (program.old, names.old) (by_texts.statement statement.now)) }
+    ensures keeps { (t : Table) → Keeps t names.old → Keeps t names.new }
+{
+    match statement {
+        Statement::Import => Ok(()),
+        Statement::Declaration(all) => judge_declaration(all),
+        Statement::Rule(rule) => add_rule(alloc, names, program, rule),
+    }
+}
+
 /// An item of a program.
 fn read_statement<A: Allocator + Copy>(
     alloc: A,
@@ -68,11 +86,8 @@ fn read_statement<A: Allocator + Copy>(
     ensures keeps { (t : Table) → Keeps t names.old → Keeps t names.new }
 {
     let tokens = item_tokens(alloc, item)?;
-    match parse_statement(alloc, &tokens)? {
-        Statement::Import => Ok(()),
-        Statement::Declaration(all) => judge_declaration(&all),
-        Statement::Rule(rule) => add_rule(alloc, names, program, &rule),
-    }
+    let statement = parse_statement(alloc, &tokens)?;
+    add_statement(alloc, names, program, &statement)
 }
 
 /// An item of a text of posts.

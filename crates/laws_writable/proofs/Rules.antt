@@ -22,7 +22,7 @@ use Rattle.chr_text.specs.Forms.{InOrder, no_more, item, Adds, AddsStatement}
 use Rattle.chr_text.specs.Writable.{AddsWritable, HasWritable}
 use Rattle.chr_text.proofs.Judged.{rule_fits}
 use Rattle.chr_text.proofs.Plain.{lexemes_plain}
-use Rattle.chr_text.proofs.Same.{rule_same}
+use Rattle.chr_text.proofs.Parts.{rule_same}
 use Rattle.chr_text.proofs.Spoken.{rules_are_plain}
 use Rattle.chr_text.proofs.Texts.{item_read}
 use Rattle.chr_text.proofs.ProgramTexts.{is_program}

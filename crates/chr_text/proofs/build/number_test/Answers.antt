@@ -6,7 +6,7 @@ use Rattle.chr_rule.specs.Rules.{Expression, Compared}
 use Rattle.chr_text.specs.Fitting.{TestFits}
 use Rattle.chr_text.specs.Translation as raw
 use Rattle.chr_text.proofs.Growing.{left_fits, expression_fits}
-use Rattle.chr_text.proofs.Steps.{compared_fail, same_numbered, differ_numbered}
+use Rattle.chr_text.proofs.Steps.{sides_fail, sides_numbered}
 use Rattle.chr_text.proofs.build.number_test.Goals as goal
 
 pub number_tree-requires : goal.number_tree-requires
@@ -39,15 +39,11 @@ number_pair-requires-clause-room g c = subst (λ m. length (raw.test (texts c.ar
 pub returns-in_err-left-in-Same-clause-gives : goal.returns-in_err-left-in-Same-clause-gives
 returns-in_err-left-in-Same-clause-gives g c =
     let p = err_from_is_err_and c.from_residual-in_err-left-in-Same.result c.from_residual-in_err-left-in-Same.ensures.1 in
-    let left = raw.argument (texts c.args.seen.now.items) (by_texts.term {Z = g.row.A.Denot} c.in-Same.left) in
-    let right = (raw.argument left.1 (by_texts.term {Z = g.row.A.Denot} c.in-Same.right)).0 in
-    rw (p.1, p.2, c.in-Same.is) (compared_fail c.in_err-left-in-Same.field-0.0 c.args.names.now left.0 right c.in_err-left-in-Same.ensures.gives).0
+    rw (p.1, p.2, c.in-Same.is) (sides_fail c.in_err-left-in-Same.field-0.0 c.args.names.now (texts c.args.seen.now.items) (by_texts.term {Z = g.row.A.Denot} c.in-Same.left) (by_texts.term {Z = g.row.A.Denot} c.in-Same.right) c.in_err-left-in-Same.ensures.gives).0
 
 pub returns-in_ok-left-in-Same-clause-gives : goal.returns-in_ok-left-in-Same-clause-gives
 returns-in_ok-left-in-Same-clause-gives g c =
-    let left = raw.argument (texts c.args.seen.now.items) (by_texts.term {Z = g.row.A.Denot} c.in-Same.left) in
-    let right = (raw.argument left.1 (by_texts.term {Z = g.row.A.Denot} c.in-Same.right)).0 in
-    rw c.in-Same.is (same_numbered c.args.names.now c.number_pair.new.names left.0 right _ _ c.in_ok-left-in-Same.ensures.gives)
+    rw c.in-Same.is (sides_numbered c.args.names.now c.number_pair.new.names (texts c.args.seen.now.items) (by_texts.term {Z = g.row.A.Denot} c.in-Same.left) (by_texts.term {Z = g.row.A.Denot} c.in-Same.right) _ _ c.in_ok-left-in-Same.ensures.gives).0
 
 pub returns-in_ok-left-in-Same-clause-seen : goal.returns-in_ok-left-in-Same-clause-seen
 returns-in_ok-left-in-Same-clause-seen g c = rw c.in-Same.is c.in_ok-left-in-Same.ensures.seen
@@ -64,15 +60,11 @@ number_pair-requires-in-Differ-clause-room g c = subst (λ m. length (raw.test (
 pub returns-in_err-left-in-Differ-clause-gives : goal.returns-in_err-left-in-Differ-clause-gives
 returns-in_err-left-in-Differ-clause-gives g c =
     let p = err_from_is_err_and c.from_residual-in_err-left-in-Differ.result c.from_residual-in_err-left-in-Differ.ensures.1 in
-    let left = raw.argument (texts c.args.seen.now.items) (by_texts.term {Z = g.row.A.Denot} c.in-Differ.left) in
-    let right = (raw.argument left.1 (by_texts.term {Z = g.row.A.Denot} c.in-Differ.right)).0 in
-    rw (p.1, p.2, c.in-Differ.is) (compared_fail c.in_err-left-in-Differ.field-0.0 c.args.names.now left.0 right c.in_err-left-in-Differ.ensures.gives).1
+    rw (p.1, p.2, c.in-Differ.is) (sides_fail c.in_err-left-in-Differ.field-0.0 c.args.names.now (texts c.args.seen.now.items) (by_texts.term {Z = g.row.A.Denot} c.in-Differ.left) (by_texts.term {Z = g.row.A.Denot} c.in-Differ.right) c.in_err-left-in-Differ.ensures.gives).1
 
 pub returns-in_ok-left-in-Differ-clause-gives : goal.returns-in_ok-left-in-Differ-clause-gives
 returns-in_ok-left-in-Differ-clause-gives g c =
-    let left = raw.argument (texts c.args.seen.now.items) (by_texts.term {Z = g.row.A.Denot} c.in-Differ.left) in
-    let right = (raw.argument left.1 (by_texts.term {Z = g.row.A.Denot} c.in-Differ.right)).0 in
-    rw c.in-Differ.is (differ_numbered c.args.names.now c.number_pair-in-Differ.new.names left.0 right _ _ c.in_ok-left-in-Differ.ensures.gives)
+    rw c.in-Differ.is (sides_numbered c.args.names.now c.number_pair-in-Differ.new.names (texts c.args.seen.now.items) (by_texts.term {Z = g.row.A.Denot} c.in-Differ.left) (by_texts.term {Z = g.row.A.Denot} c.in-Differ.right) _ _ c.in_ok-left-in-Differ.ensures.gives).1
 
 pub returns-in_ok-left-in-Differ-clause-seen : goal.returns-in_ok-left-in-Differ-clause-seen
 returns-in_ok-left-in-Differ-clause-seen g c = rw c.in-Differ.is c.in_ok-left-in-Differ.ensures.seen

@@ -1,7 +1,7 @@
 use Rattle.chr_rule.specs.Parts.{member}
 use Rattle.chr_rule.proofs.Places.{all_more, not_all}
-use Rattle.chr_named.specs.Named.{BodyItemIsNamed}
-use Rattle.chr_named.proofs.named.are_body_items_named.Goals as goal
+use Rattle.chr_text.specs.Named.{BodyItemIsNamed}
+use Rattle.chr_text.proofs.named.are_body_items_named.Goals as goal
 
 pub returns-then-not-is_body_item_named : goal.returns-then-not-is_body_item_named
 returns-then-not-is_body_item_named g c =

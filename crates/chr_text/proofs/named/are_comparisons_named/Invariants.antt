@@ -1,8 +1,8 @@
 use Rattle.std.proofs.Common.{take, map}
 use Rattle.std.specs.List.{AllByRecursion}
 use Rattle.chr_rule.specs.Parts.{comparison}
-use Rattle.chr_named.specs.Named.{ComparisonIsNamed}
-use Rattle.chr_named.proofs.named.are_comparisons_named.Given as goal
+use Rattle.chr_text.specs.Named.{ComparisonIsNamed}
+use Rattle.chr_text.proofs.named.are_comparisons_named.Given as goal
 
 abbrev pub invariant-loop-test : goal.invariant-loop-test
 invariant-loop-test g l = AllByRecursion (ComparisonIsNamed l.count) (map comparison (take l.test-index l.guard))

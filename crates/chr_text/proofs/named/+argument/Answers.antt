@@ -2,9 +2,9 @@ use Rattle.std.proofs.Common.{arith, ap, ◌∙◌}
 use Rattle.chr_rule.specs.Parts.{argument}
 use Rattle.chr_rule.specs.declared.term.Open.{Open as CodeOpen}
 use Rattle.chr_rule.proofs.Places.{all_more, not_all}
-use Rattle.chr_named.specs.Named.{ArgumentIsNamed}
-use Rattle.chr_named.proofs.Arguments.{named-told}
-use Rattle.chr_named.proofs.named.+argument.Goals as goal
+use Rattle.chr_text.specs.Named.{ArgumentIsNamed}
+use Rattle.chr_text.proofs.Arguments.{named-told}
+use Rattle.chr_text.proofs.named.+argument.Goals as goal
 
 pub are_arguments_named-returns-then-not-is_argument_named : goal.are_arguments_named-returns-then-not-is_argument_named
 are_arguments_named-returns-then-not-is_argument_named g t c =

@@ -2,7 +2,7 @@
 ghost use Rattle.std.specs.Prelude.{◌↔◌, IsTrue, map};
 ghost use Rattle.std.specs.List.{AllByRecursion};
 ghost use Rattle.chr_rule.specs.Parts.{argument, shape, comparison, member};
-ghost use Rattle.chr_named.specs.Named.{ArgumentIsNamed, RuleAtomIsNamed, ComparisonIsNamed, BodyItemIsNamed, RuleIsNamed};
+ghost use Rattle.chr_text.specs.Named.{ArgumentIsNamed, RuleAtomIsNamed, ComparisonIsNamed, BodyItemIsNamed, RuleIsNamed};
 
 use chr_rule::{BodyItem, Comparison, Program, Rule, RuleAtom, Term};
 use std::alloc::Allocator;

@@ -1,13 +1,13 @@
 -- Arguments of a functor beside lists of terms.
 use Rattle.std.proofs.Common.{◌≡◌, ◌<◌, ◌↔◌, ℕ, List, [], ◌∷◌, map, Box, Bool, IsTrue, sym, subst}
 use Rattle.std.specs.List.{AllByRecursion}
-use Rattle.chr_rule.specs.Rules.{Term, Open, terms_of}
+use Rattle.chr_rule.specs.Rules.{Term, terms_of}
 use Rattle.chr_rule.specs.Parts.{argument}
 use Rattle.chr_rule.specs.declared.term.Term as terms
 use Rattle.chr_rule.specs.declared.term.Term.{Term as CodeTerm}
 use Rattle.chr_rule.specs.declared.term.Open.{Open as CodeOpen}
 use Rattle.chr_rule.proofs.Levels.{argument-parts}
-use Rattle.chr_named.specs.Named.{ArgumentIsNamed, ArgumentsAreNamed}
+use Rattle.chr_text.specs.Named.{ArgumentIsNamed, ArgumentsAreNamed}
 
 named-terms : (n : ℕ) (ts : List (Term ℕ)) → ArgumentsAreNamed n (terms_of ts) ↔ AllByRecursion (ArgumentIsNamed n) ts
 named-terms n [] = (λ h. h, λ h. h)

@@ -1,7 +1,7 @@
 use Rattle.chr_rule.specs.Parts.{shape}
 use Rattle.chr_rule.proofs.Places.{all_more, not_all}
-use Rattle.chr_named.specs.Named.{RuleAtomIsNamed}
-use Rattle.chr_named.proofs.named.are_rule_atoms_named.Goals as goal
+use Rattle.chr_text.specs.Named.{RuleAtomIsNamed}
+use Rattle.chr_text.proofs.named.are_rule_atoms_named.Goals as goal
 
 pub returns-then-not-is_rule_atom_named : goal.returns-then-not-is_rule_atom_named
 returns-then-not-is_rule_atom_named g c =

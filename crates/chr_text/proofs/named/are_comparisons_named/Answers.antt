@@ -1,7 +1,7 @@
 use Rattle.chr_rule.specs.Parts.{comparison}
 use Rattle.chr_rule.proofs.Places.{all_more, not_all}
-use Rattle.chr_named.specs.Named.{ComparisonIsNamed}
-use Rattle.chr_named.proofs.named.are_comparisons_named.Goals as goal
+use Rattle.chr_text.specs.Named.{ComparisonIsNamed}
+use Rattle.chr_text.proofs.named.are_comparisons_named.Goals as goal
 
 pub returns-then-not-is_comparison_named : goal.returns-then-not-is_comparison_named
 returns-then-not-is_comparison_named g c =

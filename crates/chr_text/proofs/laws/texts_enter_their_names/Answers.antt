@@ -1,5 +1,5 @@
-use Rattle.chr_named.proofs.Entered.{program_named, posts_named, posts_kept}
-use Rattle.chr_named.proofs.laws.texts_enter_their_names.Goals as goal
+use Rattle.chr_text.proofs.Entered.{program_named, posts_named, posts_kept}
+use Rattle.chr_text.proofs.laws.texts_enter_their_names.Goals as goal
 
 pub returns-clause-programs : goal.returns-clause-programs
 returns-clause-programs c = program_named

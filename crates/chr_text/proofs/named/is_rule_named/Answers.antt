@@ -1,7 +1,7 @@
 use Rattle.std.proofs.Common.{sym, subst}
 use Rattle.std.specs.List.{AllByRecursion}
-use Rattle.chr_named.specs.Named.{RuleAtomIsNamed, ComparisonIsNamed, BodyItemIsNamed}
-use Rattle.chr_named.proofs.named.is_rule_named.Goals as goal
+use Rattle.chr_text.specs.Named.{RuleAtomIsNamed, ComparisonIsNamed, BodyItemIsNamed}
+use Rattle.chr_text.proofs.named.is_rule_named.Goals as goal
 
 pub returns : goal.returns
 returns g c =
