@@ -4,7 +4,7 @@ ghost use Rattle.std.specs.Prelude.{◌≡◌, None};
 use crate::message::Detail;
 use crate::report::{Status, report_failure, report_no_memory};
 use chr_session::{Ended, ServeFault, Sink, Source, StreamSink, StreamSource, serve};
-use chr_solo_desk::SoloDesk;
+use chr_solo::SoloDesk;
 use std::alloc::Allocator;
 use std::io::{self, Read, Write};
 
