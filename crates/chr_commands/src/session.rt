@@ -3,8 +3,8 @@ ghost use Rattle.std.specs.Prelude.{◌≡◌, None};
 
 use crate::message::Detail;
 use crate::report::{Status, report_failure, report_no_memory};
-use chr_session::{Ended, ServeFault, Sink, Source, StreamSink, StreamSource, serve};
-use chr_solo_desk::SoloDesk;
+use chr_session::{Ended, ServeFault, Sink, Source, Stream, serve};
+use chr_solo::SoloDesk;
 use std::alloc::Allocator;
 use std::io::{self, Read, Write};
 
@@ -78,8 +78,8 @@ fn serve_alone<S: Source, W: Sink, A: Allocator + Copy>(
 fn report_end<R: Read, W: Write>(
     rt: &impl Eprint,
     detail: Detail,
-    source: &StreamSource<Remembering<R>>,
-    sink: &StreamSink<Remembering<W>>,
+    source: &Stream<Remembering<R>>,
+    sink: &Stream<Remembering<W>>,
     ended: Result<Ended, ServeFault>,
 ) -> Status {
     match ended {
@@ -105,8 +105,8 @@ pub fn serve_streams<E: Eprint + AllocGlobal, R: Read + Drop, W: Write + Drop>(
     reader: R,
     writer: W,
 ) -> Status {
-    let mut source = StreamSource::new(Remembering::new(reader));
-    let mut sink = StreamSink::new(Remembering::new(writer));
+    let mut source = Stream::new(Remembering::new(reader));
+    let mut sink = Stream::new(Remembering::new(writer));
     let ended = serve_alone(rt.alloc(), labels, &mut source, &mut sink);
     report_end(rt, detail, &source, &sink, ended)
 }

@@ -10,7 +10,7 @@ use crate::unread::discard_unread;
 use chr_crew::Place;
 use chr_pool::Inlet;
 use chr_seats::{PostLedger, Seat};
-use chr_session::{Ended, ServeFault, Sink, Source, StreamSink, StreamSource, serve};
+use chr_session::{Ended, ServeFault, Sink, Source, Stream, serve};
 use chr_shared::Shared;
 use chr_shared_desk::{LentDesk, Patience, SharedDesk};
 use std::alloc::Allocator;
@@ -76,8 +76,8 @@ pub(crate) fn serve_stream<R: Wait, L1: PostLedger, L2: Ledger, A: Allocator + C
     inlet: &mut Inlet<u64>,
     stream: &UnixStream,
 ) {
-    let mut reader = StreamSource::new(stream);
-    let mut writer = StreamSink::new(stream);
+    let mut reader = Stream::new(stream);
+    let mut writer = Stream::new(stream);
     let mut desk = LentDesk {
         rt,
         alloc,

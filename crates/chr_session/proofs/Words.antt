@@ -3,7 +3,6 @@ use Rattle.std.proofs.Common.{◌≡◌, ◌+◌, ◌-◌, ◌<◌, ◌==◌, �
 use Rattle.std.proofs.lemmas.Bool.{false≢true}
 use Rattle.std.proofs.lemmas.List.{take_more, drop_more, take_rest}
 use Rattle.std.specs.Str.{bytes_eq}
-use Rattle.chr_session.specs.declared.parsing.ParsedLine.{ParsedLine}
 use Rattle.chr_session.specs.declared.parsing.ParsedLine.TheVariants as lines
 use Rattle.chr_session.specs.Parsing.{is_blank, after_blanks, word_of, rest_of, parsed_of}
 use Rattle.chr_session.proofs.Passed.{some_left}

@@ -82,6 +82,7 @@ fn read_load<S: Source, A: Allocator>(
 }
 
 /// What is received by a line, and by the bytes after it where it is a load. `rest` is the text after the line's word.
+#[tactic(auto, using(crate::proofs::FirstSpelled::spells_parsed, crate::proofs::FirstSpelled::spells_quit))]
 fn receive<S: Source, A: Allocator>(
     parsed: ParsedLine,
     rest: &[u8],

@@ -1,36 +1,51 @@
-//! A source and a sink that fail after so many calls.
-ghost use Rattle.std.specs.Prelude.{◌≡◌, ◌+◌, ◌-◌, ◌<◌, ◌≤◌, ◌++◌, ℕ, List, length, take, IfOk, OnErr, IsErr};
+//! Sources and sinks that fail after so many calls.
+ghost use Rattle.std.specs.Prelude.{◌≡◌, ◌+◌, ◌-◌, ◌<◌, ◌≤◌, ◌++◌, ℕ, List, length, take, IfOk, OnErr, IsOk, IsErr};
 ghost use Rattle.chr_session.specs.Devices.{HasCause, Gives};
 
 use crate::devices::{Failed, Sink, Source};
 
-/// A source of which only the first calls are made; each later one fails.
+/// A source or a sink of which only the first calls are made; each later one fails.
 #[derive(Drop)]
-pub struct FailingSource<S: Source> {
-    /// The source that is read.
-    pub inner: S,
+pub struct Failing<T> {
+    /// The source that is read, or the sink that is written to.
+    pub inner: T,
     /// How many more calls are made.
     pub calls: u64,
     /// How many calls failed that were not made.
     pub failures: u64,
 }
 
-impl<S: Source> FailingSource<S> {
-    /// A source that reads from `inner` at most `calls` times.
-    pub fn new(inner: S, calls: u64) -> FailingSource<S>
+impl<T> Failing<T> {
+    /// A source that reads from `inner`, or a sink that writes to it, at most `calls` times.
+    pub fn new(inner: T, calls: u64) -> Failing<T>
         ensures inner { result.inner ≡ inner }
         ensures calls { result.calls ≡ calls }
         ensures failures { result.failures ≡ 0 }
     {
-        FailingSource {
+        Failing {
             inner,
             calls,
             failures: 0,
         }
     }
+
+    /// Counts a call, or a failure where none is left.
+    fn begin(&mut self) -> Result<(), Failed>
+        ensures inner { self.new.inner ≡ self.old.inner }
+        ensures spent { self.old.calls ≡ 0 → IsErr result }
+        ensures made { 0 < self.old.calls → IsOk result × (self.new.calls ≡ self.old.calls - 1) × (self.new.failures ≡ self.old.failures) }
+        ensures cause { HasCause self.old.failures self.new.failures result }
+    {
+        if self.calls == 0 {
+            self.failures = self.failures.saturating_add(1);
+            return Err(Failed);
+        }
+        self.calls -= 1;
+        Ok(())
+    }
 }
 
-impl<S: Source> Source for FailingSource<S> {
+impl<S: Source> Source for Failing<S> {
     ghost left = { λ s bytes. S.left s.inner bytes };
 
     ghost budget = { λ s. S.budget s.inner };
@@ -46,42 +61,12 @@ impl<S: Source> Source for FailingSource<S> {
         ensures spent { self.old.calls ≡ 0 → IsErr result }
         ensures made { 0 < self.old.calls → (self.new.calls ≡ self.old.calls - 1) × (self.new.failures ≡ self.old.failures) }
     {
-        if self.calls == 0 {
-            self.failures = self.failures.saturating_add(1);
-            return Err(Failed);
-        }
-        self.calls -= 1;
+        self.begin()?;
         self.inner.read(into)
     }
 }
 
-/// A sink of which only the first calls are made; each later one fails.
-#[derive(Drop)]
-pub struct FailingSink<W: Sink> {
-    /// The sink that is written to.
-    pub inner: W,
-    /// How many more calls are made.
-    pub calls: u64,
-    /// How many calls failed that were not made.
-    pub failures: u64,
-}
-
-impl<W: Sink> FailingSink<W> {
-    /// A sink that writes to `inner` at most `calls` times.
-    pub fn new(inner: W, calls: u64) -> FailingSink<W>
-        ensures inner { result.inner ≡ inner }
-        ensures calls { result.calls ≡ calls }
-        ensures failures { result.failures ≡ 0 }
-    {
-        FailingSink {
-            inner,
-            calls,
-            failures: 0,
-        }
-    }
-}
-
-impl<W: Sink> Sink for FailingSink<W> {
+impl<W: Sink> Sink for Failing<W> {
     ghost taken = { λ s all. W.taken s.inner all };
 
     ghost failures = { λ s. s.failures + W.failures s.inner };
@@ -95,11 +80,7 @@ impl<W: Sink> Sink for FailingSink<W> {
         ensures spent { self.old.calls ≡ 0 → IsErr result }
         ensures made { 0 < self.old.calls → (self.new.calls ≡ self.old.calls - 1) × (self.new.failures ≡ self.old.failures) }
     {
-        if self.calls == 0 {
-            self.failures = self.failures.saturating_add(1);
-            return Err(Failed);
-        }
-        self.calls -= 1;
+        self.begin()?;
         self.inner.write(bytes)
     }
 }

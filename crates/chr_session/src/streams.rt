@@ -1,37 +1,52 @@
 //! Sources and sinks over std's readers and writers. Each passes at most 2^63 - 1 bytes, and fails past that.
-ghost use Rattle.std.specs.Prelude.{◌≡◌, ◌+◌, ◌-◌, ◌<◌, ◌≤◌, ◌++◌, ℕ, List, Some, length, take, IfOk, OnErr};
+ghost use Rattle.std.specs.Prelude.{◌≡◌, ◌+◌, ◌-◌, ◌<◌, ◌≤◌, ◌++◌, ℕ, List, Some, Ok, length, take, IfOk, OnErr, IsErr, MatchOption, MatchResult};
 ghost use Rattle.chr_session.specs.Devices.{HasCause, Gives};
 ghost use Rattle.std.specs.Io.{ReadsAtMost, WritesAtMost};
 ghost use Rattle.std.specs.Io.KnownBytes.{ReadConsumes, WriteAppends};
 
 use crate::devices::{Failed, Sink, Source};
-use std::io::{ErrorKind, Read, Write};
+use std::io::{self, ErrorKind, Read, Write};
 
 /// So many bytes pass at most.
 const LIMIT: u64 = 9_223_372_036_854_775_807;
 
-/// A reader of bytes. A call that a signal interrupts is made again.
+/// A reader or a writer of bytes. A call that a signal interrupts is made again.
 #[derive(Drop)]
-pub struct StreamSource<R: Read> {
-    /// The reader.
-    pub inner: R,
-    /// How many bytes it gave.
-    pub given: u64,
+pub struct Stream<T> {
+    /// The reader or the writer.
+    pub inner: T,
+    /// How many bytes it gave or took.
+    pub passed: u64,
     /// How many calls failed.
     pub failures: u64,
 }
 
-impl<R: Read> StreamSource<R> {
-    /// A source of what this reader gives.
-    pub fn new(inner: R) -> StreamSource<R>
+impl<T> Stream<T> {
+    /// A source of what this reader gives, or a sink of what this writer takes.
+    pub fn new(inner: T) -> Stream<T>
         ensures inner { result.inner ≡ inner }
-        ensures given { result.given ≡ 0 }
+        ensures passed { result.passed ≡ 0 }
         ensures failures { result.failures ≡ 0 }
     {
-        StreamSource {
+        Stream {
             inner,
-            given: 0,
+            passed: 0,
             failures: 0,
+        }
+    }
+}
+
+/// What a call came to, or none where a signal interrupted it.
+fn ended(call: io::Result<usize>) -> Option<Result<usize, Failed>>
+    ensures { MatchOption result (IsErr call) (λ ended. MatchResult ended (λ n. call ≡ Ok n) (λ _. IsErr call)) }
+{
+    match call {
+        Ok(n) => Some(Ok(n)),
+        Err(error) => {
+            if error.kind() == ErrorKind::Interrupted {
+                return None;
+            }
+            Some(Err(Failed))
         }
     }
 }
@@ -42,22 +57,17 @@ fn read_some<R: Read>(inner: &mut R, into: &mut [u8]) -> Result<usize, Failed>
     ensures bytes { ReadConsumes (R.remaining inner.old) (R.remaining inner.new) result into.new }
 {
     for _turn in 0..u64::MAX {
-        match inner.read(into) {
-            Ok(n) => return Ok(n),
-            Err(error) => {
-                if error.kind() != ErrorKind::Interrupted {
-                    return Err(Failed);
-                }
-            }
+        if let Some(read) = ended(inner.read(into)) {
+            return read;
         }
     }
     Err(Failed)
 }
 
-impl<R: Read> Source for StreamSource<R> {
+impl<R: Read> Source for Stream<R> {
     ghost left = { λ s bytes. R.remaining s.inner ≡ Some bytes };
 
-    ghost budget = { λ s. 9223372036854775807 - s.given };
+    ghost budget = { λ s. 9223372036854775807 - s.passed };
 
     ghost failures = { λ s. s.failures };
 
@@ -65,45 +75,19 @@ impl<R: Read> Source for StreamSource<R> {
         requires { 0 < length into.old }
         ensures within { IfOk result (λ n. n ≤ length into.old) }
         ensures bytes { IfOk result (λ n. (bytes : List ℕ) → R.remaining self.old.inner ≡ Some bytes → Gives bytes n into.new (λ rest. R.remaining self.new.inner ≡ Some rest)) }
-        ensures budget { IfOk result (λ n. (9223372036854775807 - self.new.given) + n ≤ 9223372036854775807 - self.old.given) }
+        ensures budget { IfOk result (λ n. (9223372036854775807 - self.new.passed) + n ≤ 9223372036854775807 - self.old.passed) }
         ensures cause { HasCause self.old.failures self.new.failures result }
-        ensures given { IfOk result (λ n. (self.new.given ≡ self.old.given + n) × (self.new.given ≤ 9223372036854775807)) }
+        ensures passed { IfOk result (λ n. (self.new.passed ≡ self.old.passed + n) × (self.new.passed ≤ 9223372036854775807)) }
     {
-        let room = LIMIT.saturating_sub(self.given);
+        let room = LIMIT.saturating_sub(self.passed);
         if room >= into.len() as u64 {
             if let Ok(n) = read_some(&mut self.inner, into) {
-                self.given += n as u64;
+                self.passed += n as u64;
                 return Ok(n);
             }
         }
         self.failures = self.failures.saturating_add(1);
         Err(Failed)
-    }
-}
-
-/// A writer of bytes. A call that a signal interrupts is made again.
-#[derive(Drop)]
-pub struct StreamSink<W: Write> {
-    /// The writer.
-    pub inner: W,
-    /// How many bytes it took.
-    pub taken: u64,
-    /// How many calls failed.
-    pub failures: u64,
-}
-
-impl<W: Write> StreamSink<W> {
-    /// A sink that this writer takes.
-    pub fn new(inner: W) -> StreamSink<W>
-        ensures inner { result.inner ≡ inner }
-        ensures taken { result.taken ≡ 0 }
-        ensures failures { result.failures ≡ 0 }
-    {
-        StreamSink {
-            inner,
-            taken: 0,
-            failures: 0,
-        }
     }
 }
 
@@ -113,19 +97,14 @@ fn write_some<W: Write>(inner: &mut W, bytes: &[u8]) -> Result<usize, Failed>
     ensures bytes { WriteAppends (W.contents inner.old) (W.contents inner.new) result bytes.now }
 {
     for _turn in 0..u64::MAX {
-        match inner.write(bytes) {
-            Ok(n) => return Ok(n),
-            Err(error) => {
-                if error.kind() != ErrorKind::Interrupted {
-                    return Err(Failed);
-                }
-            }
+        if let Some(written) = ended(inner.write(bytes)) {
+            return written;
         }
     }
     Err(Failed)
 }
 
-impl<W: Write> Sink for StreamSink<W> {
+impl<W: Write> Sink for Stream<W> {
     ghost taken = { λ s all. W.contents s.inner ≡ Some all };
 
     ghost failures = { λ s. s.failures };
@@ -136,13 +115,13 @@ impl<W: Write> Sink for StreamSink<W> {
         ensures bytes { IfOk result (λ n. (all : List ℕ) → W.contents self.old.inner ≡ Some all → W.contents self.new.inner ≡ Some (all ++ take n bytes.now)) }
         ensures none { OnErr result ((all : List ℕ) → W.contents self.old.inner ≡ Some all → W.contents self.new.inner ≡ Some all) }
         ensures cause { HasCause self.old.failures self.new.failures result }
-        ensures taken { IfOk result (λ n. (self.new.taken ≡ self.old.taken + n) × (self.new.taken ≤ 9223372036854775807)) }
+        ensures passed { IfOk result (λ n. (self.new.passed ≡ self.old.passed + n) × (self.new.passed ≤ 9223372036854775807)) }
     {
-        let room = LIMIT.saturating_sub(self.taken);
+        let room = LIMIT.saturating_sub(self.passed);
         if room >= bytes.len() as u64 {
             if let Ok(n) = write_some(&mut self.inner, bytes) {
                 if n > 0 {
-                    self.taken += n as u64;
+                    self.passed += n as u64;
                     return Ok(n);
                 }
             }

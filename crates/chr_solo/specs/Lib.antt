@@ -1,2 +1,3 @@
 pub mod Solo
 pub mod SoloCode
+pub mod SoloSteps

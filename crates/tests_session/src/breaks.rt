@@ -1,7 +1,7 @@
 //! A session whose input is cut off, or whose reader or writer fails, at each of its bytes.
 use crate::serving::{end, texts, written};
 use crate::talks::{GREATEST, RUN};
-use chr_session::{Ended, FailingSink, FailingSource, MemorySink, MemorySource, ServeFault};
+use chr_session::{Ended, Failing, MemorySink, MemorySource, ServeFault};
 use std::alloc::{AllocError, Global};
 use std::test::Fail;
 
@@ -42,7 +42,7 @@ fn reader_fails(rt: HostRuntime) -> Result<(), Fail> {
     let (input, _) = texts(rt.alloc(), RUN.commands)?;
     for read in 0..input.len() {
         let (replies, _) = replies_within(rt.alloc(), read)?;
-        let mut source = FailingSource::new(MemorySource::new(&input, 1), read as u64);
+        let mut source = Failing::new(MemorySource::new(&input, 1), read as u64);
         let given = written(rt.alloc(), rt.alloc(), &mut source, 1);
         assert_eq!(rt;
             given,
@@ -58,7 +58,7 @@ fn writer_fails(rt: HostRuntime) -> Result<(), Fail> {
     let (input, replies) = texts(rt.alloc(), RUN.commands)?;
     for taken in 0..replies.len() {
         let mut source = MemorySource::new(&input, 1);
-        let mut sink = FailingSink::new(MemorySink::new(rt.alloc(), 1), taken as u64);
+        let mut sink = Failing::new(MemorySink::new(rt.alloc(), 1), taken as u64);
         let (ended, _) = end(rt.alloc(), GREATEST, &mut source, &mut sink);
         let given = (ended, sink.inner.bytes.as_slice());
         assert_eq!(rt;
@@ -73,8 +73,8 @@ fn writer_fails(rt: HostRuntime) -> Result<(), Fail> {
 #[test]
 fn gives_up_at_once(rt: HostRuntime) -> Result<(), Fail> {
     let (input, replies) = texts(rt.alloc(), RUN.commands)?;
-    let mut source = FailingSource::new(MemorySource::new(&input, 1), input.len() as u64);
-    let mut sink = FailingSink::new(MemorySink::new(rt.alloc(), 1), replies.len() as u64);
+    let mut source = Failing::new(MemorySource::new(&input, 1), input.len() as u64);
+    let mut sink = Failing::new(MemorySink::new(rt.alloc(), 1), replies.len() as u64);
     let ended = end(rt.alloc(), GREATEST, &mut source, &mut sink);
     assert_eq!(rt; ended, (Ok(Ended::Quit), true));
     Ok(())

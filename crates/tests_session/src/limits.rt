@@ -1,6 +1,6 @@
 //! Lines and loads up to their limits, and past them.
 use crate::serving::written;
-use chr_session::{Ended, MemorySource, StreamSource};
+use chr_session::{Ended, MemorySource, Stream};
 use std::alloc::{AllocError, Global};
 use std::io::Read;
 use std::test::Fail;
@@ -161,7 +161,7 @@ fn is_served(alloc: Global, row: &Row, input: &[u8], cut: usize) -> bool {
     let Some((front, back)) = input.split_at_checked(cut) else {
         return true;
     };
-    let mut source = StreamSource::new(front.chain(back));
+    let mut source = Stream::new(front.chain(back));
     let (ended, given) = written(alloc, alloc, &mut source, 65_536);
     ended == Ok(wanted) && given.as_slice() == replies
 }

@@ -1,7 +1,7 @@
 //! Sessions whose input comes in one piece, in single bytes, and in two pieces.
 use crate::serving::{end, texts};
 use crate::talks::{GREATEST, TALKS, Talk};
-use chr_session::{Ended, MemorySink, MemorySource, Source, StreamSource};
+use chr_session::{Ended, MemorySink, MemorySource, Source, Stream};
 use std::alloc::{AllocError, Global};
 use std::io::Read;
 use std::test::Fail;
@@ -23,7 +23,7 @@ fn is_served<S: Source>(
 fn is_served_in_two(alloc: Global, talk: &Talk, input: &[u8], replies: &[u8]) -> bool {
     for cut in 0..=input.len() {
         let (front, back) = input.split_at(cut);
-        let mut halves = StreamSource::new(front.chain(back));
+        let mut halves = Stream::new(front.chain(back));
         if !is_served(alloc, talk, replies, &mut halves, 65_536) {
             return false;
         }

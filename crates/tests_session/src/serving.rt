@@ -1,7 +1,7 @@
 //! Sessions over memory.
 use crate::talks::GREATEST;
 use chr_session::{Ended, MemorySink, ServeFault, Sink, Source, serve};
-use chr_solo_desk::SoloDesk;
+use chr_solo::SoloDesk;
 use std::alloc::{AllocError, Allocator, Global};
 
 /// The bytes of all commands, and those of all replies.

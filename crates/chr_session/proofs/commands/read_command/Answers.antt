@@ -1,4 +1,4 @@
-use Rattle.std.proofs.Common.{◌≡◌, ◌≤◌, length, ap, ◌∙◌, le_refl, le_trans, lt_of_le_of_lt}
+use Rattle.std.proofs.Common.{◌≡◌, ◌≤◌, length, ap, ◌∙◌, le_refl, lt_of_le_of_lt}
 use Rattle.std.proofs.lemmas.Bool.{false≢true}
 use Rattle.std.proofs.lemmas.Result.{err_from_is_err_and, IfOk-weaker}
 use Rattle.chr_session.specs.Lines.{line_of}

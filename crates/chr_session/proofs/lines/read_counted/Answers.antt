@@ -1,4 +1,4 @@
-use Rattle.std.proofs.Common.{◌≡◌, sym, ap, length, le_trans, le_refl, le_of_eq, lt_of_lt_of_le, arith}
+use Rattle.std.proofs.Common.{◌≡◌, sym, ap, length, le_trans, le_refl, le_of_eq}
 use Rattle.std.proofs.lemmas.Bool.{false≢true}
 use Rattle.std.proofs.lemmas.Result.{err_from_is_err_and}
 use Rattle.chr_session.proofs.Causes.{went_well, failed_later}

@@ -1,4 +1,4 @@
-use Rattle.std.proofs.Common.{◌≡◌, ◌+◌, length, sym, ap, ◌∙◌, le_trans, lt_of_le_of_lt, le_refl, le_of_eq, arith}
+use Rattle.std.proofs.Common.{◌≡◌, ◌+◌, length, sym, ◌∙◌, le_trans, lt_of_le_of_lt, le_refl, le_of_eq}
 use Rattle.std.proofs.lemmas.Result.{err_from_is_err_and}
 use Rattle.chr_session.proofs.Causes.{went_well, failed_later}
 use Rattle.chr_session.proofs.Passed.{at_some, none_begun, line_ends, line_more, line_passed, line_open, grown, starts_short, starts_within, has_room, short_fits, stays_short, spent, spent_on_line, spent_if_open}

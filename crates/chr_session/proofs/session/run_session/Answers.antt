@@ -1,4 +1,4 @@
-use Rattle.std.proofs.Common.{◌++◌, ℕ, List, subst, le_refl, le_trans}
+use Rattle.std.proofs.Common.{ℕ, List, subst, le_refl, le_trans}
 use Rattle.std.proofs.lemmas.Result.{err_from_is_err_and}
 use Rattle.chr_session.specs.Commands.{answer_of}
 use Rattle.chr_session.specs.Spelling.{received_of}

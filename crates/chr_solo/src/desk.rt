@@ -2,12 +2,12 @@
 ghost use Rattle.std.specs.Prelude.{◌≡◌, ◌≤◌, ℕ, None, Some, vec_len};
 ghost use Rattle.chr_calls.specs.Books.{BookState};
 ghost use Rattle.chr_session.specs.Commands.{reply_of, command_of};
-ghost use Rattle.chr_solo_desk.specs.SoloSteps.{LoadsText, PostReplies, WaitReplies, StoreReplies, LogReplies, BookReplies, SoloReplies};
+ghost use Rattle.chr_solo.specs.SoloSteps.{LoadsText, PostReplies, WaitReplies, StoreReplies, LogReplies, BookReplies, SoloReplies};
 
+use crate::solo::{End, solo_steps};
 use chr_book::Book;
 use chr_lex::fault::ReadError;
 use chr_session::{Command, Desk, Fault, Reply};
-use chr_solo::{End, solo_steps};
 use chr_store::Label;
 use std::alloc::Allocator;
 use std::marker::Model;

@@ -1,7 +1,7 @@
 use Rattle.std.proofs.Common.{ℕ, subst}
 use Rattle.chr_solo.specs.Solo.{IsSolo}
-use Rattle.chr_solo_desk.specs.SoloSteps.{seat}
-use Rattle.chr_solo_desk.proofs.solo_desk.wait.Goals as goal
+use Rattle.chr_solo.specs.SoloSteps.{seat}
+use Rattle.chr_solo.proofs.desk.wait.Goals as goal
 
 pub returns-in-Quiet : goal.returns-in-Quiet
 returns-in-Quiet g c =

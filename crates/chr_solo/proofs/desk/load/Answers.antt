@@ -1,7 +1,7 @@
 use Rattle.std.proofs.Common.{ℕ, List, length, refl, ap, ◌∙◌}
 use Rattle.chr_rule.specs.Rules.{Simpagation}
 use Rattle.chr_calls.specs.Books.{BookState}
-use Rattle.chr_solo_desk.proofs.solo_desk.load.Goals as goal
+use Rattle.chr_solo.proofs.desk.load.Goals as goal
 
 pub returns-in-Ok : goal.returns-in-Ok
 returns-in-Ok g c =
