@@ -1,10 +1,10 @@
 //! A book: a program with a store, its goals by their tickets, and the log of what happened.
 //!
-//! Several seats work on one [`Book`], one call at a time: whoever shares a book among threads holds a lock
-//! around each call. A seat posts atoms, claims a ticket, asks for the next trial of its goal, judges it elsewhere and
-//! reports the judgement or fires, until the goal has ended or is dropped. But for [`go_on`](Book::go_on) and
-//! [`start`](Book::start), which are for a seat that works alone, the book judges nothing: it looks at what a judged
-//! trial carries, and at the store.
+//! Several seats work on one [`Book`], one call at a time: whoever shares a book among threads holds a lock around each
+//! call. A seat posts atoms, claims a ticket, asks for the next trial of its goal, judges it elsewhere and reports the
+//! judgement or fires, until the goal has ended or is dropped. But for [`go_on`](Book::go_on) and [`start`](Book::start),
+//! which are for a seat that works alone, the book judges nothing: it looks at what a judged trial carries, and at the
+//! store. Where a compound value is bound, what is carried is found anew by one more judgement.
 //!
 //! | Call | What it does |
 //! |---|---|

@@ -1,12 +1,13 @@
 //! A book under a lock, for the threads that hold its seats.
 //!
 //! [`Shared`] is one lock over a book, or over none yet. Who makes entries has a [`Seat`](chr_seats::Seat). A *hold* is
-//! what is done between taking the lock and giving it back. Each hold makes one call of the book, by the number of the seat
-//! that it is given, and its contract is the line of that call in `chr_calls`, for the book that was there at that moment:
-//! there was such a book, and it answered the call. Before the call the book has the headline of `chr_calls`, and the seat's
-//! counts are what it has made in the log, and after it again. What a hold only reads it reads of a book that has the
-//! headline. So whenever a call takes the lock, it holds no book, or one that has the headline. Nothing is judged in a hold,
-//! and no guard of the lock leaves this crate.
+//! what is done between taking the lock and giving it back. A hold makes at most one call of the book, by the number of the
+//! seat that it is given, and its contract is the line of that call in `chr_calls`, for the book that was there at that
+//! moment: there was such a book, and it answered the call. Before the call the book has the headline of `chr_calls`, and
+//! the seat's counts are what it has made in the log, and after it again. What a hold only reads it reads of a book that
+//! has the headline. So whenever a call takes the lock, it holds no book, or one that has the headline. Nothing is judged
+//! in a hold, but for a trial that fires under a compound value, which is judged once more there. No guard of the lock
+//! leaves this crate.
 //!
 //! Workers [`rest`](Shared::rest) where there is nothing to take, until they are told of something new; a worker that is told
 //! is awake from then on. Sessions [`watch`](Shared::watch) the workers. No contract says that a sleeper wakes.
