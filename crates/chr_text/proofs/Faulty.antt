@@ -1,5 +1,5 @@
 -- The first fault of a text is what the reader gives, and what it gives is the first fault.
-use Rattle.std.proofs.Common.{◌≡◌, ◌<◌, ℕ, Bool, true, false, cond, ltb, eqb, inl, inr, List, [], ◌∷◌, length, Result, Ok, Err, refl, sym, ap, subst, ◌∙◌, arith}
+use Rattle.std.proofs.Common.{◌≡◌, ◌↔◌, ◌<◌, ℕ, Bool, true, false, cond, ltb, eqb, inl, inr, List, [], ◌∷◌, length, Result, Ok, Err, refl, sym, ap, subst, ◌∙◌, arith}
 use Rattle.std.proofs.lemmas.Bool.{ltb-false, ltb-true, lt-ltb, le-ltb, cases_order}
 use Rattle.chr_lex.specs.declared.fault.Kind.{Kind}
 use Rattle.chr_lex.specs.declared.fault.Kind.TheVariants.{TooLong, BadByte, Syntax, Propagation, NumberRange, TooMany, Binding, NamesFull}
@@ -142,7 +142,7 @@ item_fault read judge Says Has reader x e (Ok ts) k h bad = judged_fault read ju
 item_fault {A} {S} read judge Says Has reader x e (Err j) k h bad =
     subst (IsFirst (ItemHas Says (Has x) e)) (err_is j k bad) (lexemes_fault Says (Has x) e (has_bad e.bytes) e.ended (tokens_of e.bytes) j refl refl refl h)
 
-pub faulty_item : {A S : Type 0} (read : List Lexeme → Result S Kind) (judge : A → S → Result A Kind) (Says : List Lexeme → S → Type 0) (Has : A → S → Kind → Type 0) → IsReader read judge Says Has
+faulty_item : {A S : Type 0} (read : List Lexeme → Result S Kind) (judge : A → S → Result A Kind) (Says : List Lexeme → S → Type 0) (Has : A → S → Kind → Type 0) → IsReader read judge Says Has
     → (x : A) (e : Item) (k : Kind) → (item_lexemes e >>= read >>= judge x) ≡ Err k → IsFirst (ItemHas Says (Has x) e) k
 faulty_item read judge Says Has reader x e k bad = item_fault read judge Says Has reader x e (item_lexemes e) k refl bad
 
@@ -158,7 +158,7 @@ item_refused : {A S : Type 0} (read : List Lexeme → Result S Kind) (judge : A 
 item_refused read judge Says Has reader x e (Ok y) k h first = absurd (faultless_item read judge Says Has reader x e y k h first.has)
 item_refused read judge Says Has reader x e (Err j) k h first = ap (λ (i : Kind). Err i) (one_first (ItemHas Says (Has x) e) j k (faulty_item read judge Says Has reader x e j h) first)
 
-pub refused_item : {A S : Type 0} (read : List Lexeme → Result S Kind) (judge : A → S → Result A Kind) (Says : List Lexeme → S → Type 0) (Has : A → S → Kind → Type 0) → IsReader read judge Says Has
+refused_item : {A S : Type 0} (read : List Lexeme → Result S Kind) (judge : A → S → Result A Kind) (Says : List Lexeme → S → Type 0) (Has : A → S → Kind → Type 0) → IsReader read judge Says Has
     → (x : A) (e : Item) (k : Kind) → IsFirst (ItemHas Says (Has x) e) k → (item_lexemes e >>= read >>= judge x) ≡ Err k
 refused_item read judge Says Has reader x e k first = item_refused read judge Says Has reader x e (item_lexemes e >>= read >>= judge x) k refl first
 
@@ -188,11 +188,20 @@ text_fault : {A : Type 0} (f : A → Item → Result A Kind) (Step : A → Item 
 text_fault f Step Has steps faults x bytes g true is h = subst (IsFault Step Has x bytes) (err_is (record { kind = TooLong; line = 0 }) g h) (too_long (ltb-true _ _ is))
 text_fault f Step Has steps faults x bytes g false is h = in_item (items_of bytes) g (ltb-false _ _ is) (has_items bytes) (faults_found f Step Has steps faults x (items_of bytes) g h)
 
-pub faulty_text : {A : Type 0} (f : A → Item → Result A Kind) (Step : A → Item → A → Type 0) (Has : A → Item → Kind → Type 0) → ((x : A) (e : Item) (y : A) → f x e ≡ Ok y → Step x e y)
+faulty_text : {A : Type 0} (f : A → Item → Result A Kind) (Step : A → Item → A → Type 0) (Has : A → Item → Kind → Type 0) → ((x : A) (e : Item) (y : A) → f x e ≡ Ok y → Step x e y)
     → ((x : A) (e : Item) (k : Kind) → f x e ≡ Err k → IsFirst (Has x e) k) → (x : A) (bytes : List ℕ) (g : ReadFault) → of_text f x bytes ≡ Err g → IsFault Step Has x bytes g
 faulty_text f Step Has steps faults x bytes g h = text_fault f Step Has steps faults x bytes g (ltb 65536 (length bytes)) refl h
 
-pub refused_text : {A : Type 0} (f : A → Item → Result A Kind) (Step : A → Item → A → Type 0) (Has : A → Item → Kind → Type 0) → ((x : A) (e : Item) (y : A) → Step x e y → f x e ≡ Ok y)
+refused_text : {A : Type 0} (f : A → Item → Result A Kind) (Step : A → Item → A → Type 0) (Has : A → Item → Kind → Type 0) → ((x : A) (e : Item) (y : A) → Step x e y → f x e ≡ Ok y)
     → ((x : A) (e : Item) (k : Kind) → IsFirst (Has x e) k → f x e ≡ Err k) → (x : A) (bytes : List ℕ) (g : ReadFault) → IsFault Step Has x bytes g → of_text f x bytes ≡ Err g
 refused_text f Step Has steps faults x bytes _ (too_long h) = rw (lt-ltb _ _ h) refl
 refused_text f Step Has steps faults x bytes _ (in_item es g short has first) = rw (le-ltb _ _ short, items_read bytes es has) (faults_given f Step Has steps faults x es g first)
+
+-- a text has just the faults that the reader gives
+pub faults_are : {A S : Type 0} (read : List Lexeme → Result S Kind) (judge : A → S → Result A Kind) (Says : List Lexeme → S → Type 0) (Has : A → S → Kind → Type 0) (Step : A → Item → A → Type 0) → IsReader read judge Says Has
+    → ((x : A) (e : Item) (y : A) → (item_lexemes e >>= read >>= judge x) ≡ Ok y → Step x e y) → ((x : A) (e : Item) (y : A) → Step x e y → (item_lexemes e >>= read >>= judge x) ≡ Ok y)
+    → (x : A) (bytes : List ℕ) (g : ReadFault) → of_text (λ y e. item_lexemes e >>= read >>= judge y) x bytes ≡ Err g ↔ IsFault Step (λ y. ItemHas Says (Has y)) x bytes g
+faults_are read judge Says Has Step reader steps stepped x bytes g = (
+  faulty_text (λ y e. item_lexemes e >>= read >>= judge y) Step (λ y. ItemHas Says (Has y)) steps (faulty_item read judge Says Has reader) x bytes g,
+  refused_text (λ y e. item_lexemes e >>= read >>= judge y) Step (λ y. ItemHas Says (Has y)) stepped (refused_item read judge Says Has reader) x bytes g,
+)

@@ -1,5 +1,5 @@
 -- The first fault of a text of posts.
-use Rattle.std.proofs.Common.{◌≡◌, ◌<◌, ◌≤◌, ◌⊎◌, ℕ, Bool, true, false, cond, ◌||◌, inl, inr, List, [], map, Option, Some, None, Result, Ok, Err, refl, subst, arith}
+use Rattle.std.proofs.Common.{◌≡◌, ◌↔◌, ◌<◌, ◌≤◌, ◌⊎◌, ℕ, Bool, true, false, cond, ◌||◌, inl, inr, List, [], map, Option, Some, None, Result, Ok, Err, refl, subst, arith}
 use Rattle.std.specs.List.{list_any}
 use Rattle.chr_lex.specs.declared.fault.Kind.{Kind}
 use Rattle.chr_lex.specs.declared.fault.Kind.TheVariants.{TooLong, BadByte, Syntax, Propagation, NumberRange, TooMany, Binding, NamesFull}
@@ -16,10 +16,10 @@ use Rattle.chr_limits.specs.Limits.{has_many_args, has_large_args}
 use Rattle.chr_limits.proofs.Standing.{neither}
 use Rattle.chr_text.specs.Translation.{atom_by_texts}
 use Rattle.chr_text.specs.Numbering.{or_full, each, more}
-use Rattle.chr_text.specs.Reading.{Posts, with_phrases, with_post, posts_of}
+use Rattle.chr_text.specs.Reading.{Posts, with_phrases, posts_of}
 use Rattle.chr_text.specs.Forms.{AddsAtoms}
-use Rattle.chr_text.specs.Faults.{rank, IsFirst, PostHas, ItemHas, IsPostsFault}
-use Rattle.chr_text.proofs.Faulty.{err_is, IsReader, faulty_item, refused_item, faulty_text, refused_text}
+use Rattle.chr_text.specs.Faults.{rank, IsFirst, PostHas, IsPostsFault}
+use Rattle.chr_text.proofs.Faulty.{err_is, IsReader, faults_are}
 use Rattle.chr_text.proofs.PostTexts.{adds_atoms, atoms_added}
 
 one_of : (a b c : Bool) → a || b || c ≡ true → (a ≡ true) ⊎ (b ≡ true) ⊎ (c ≡ true)
@@ -83,10 +83,5 @@ phrases_faultless p ps q k h has = post_faultless p ps _ _ _ _ q k refl refl ref
 reader : IsReader phrases_of with_phrases AreParsedAtoms PostHas
 reader = record { only = phrases_read; found = are_phrases; refused = no_phrases; faulty = phrases_faulty; faultless = phrases_faultless }
 
-pub posts_fault : (table : Table) (bytes : List ℕ) (f : ReadFault) → posts_of table bytes ≡ Err f → IsPostsFault table bytes f
-posts_fault table bytes f h =
-    faulty_text with_post AddsAtoms (λ before. ItemHas AreParsedAtoms (PostHas before)) adds_atoms (faulty_item phrases_of with_phrases AreParsedAtoms PostHas reader) ([], table) bytes f h
-
-pub posts_refused : (table : Table) (bytes : List ℕ) (f : ReadFault) → IsPostsFault table bytes f → posts_of table bytes ≡ Err f
-posts_refused table bytes f is =
-    refused_text with_post AddsAtoms (λ before. ItemHas AreParsedAtoms (PostHas before)) atoms_added (refused_item phrases_of with_phrases AreParsedAtoms PostHas reader) ([], table) bytes f is
+pub posts_faults : (table : Table) (bytes : List ℕ) (f : ReadFault) → posts_of table bytes ≡ Err f ↔ IsPostsFault table bytes f
+posts_faults table bytes f = faults_are phrases_of with_phrases AreParsedAtoms PostHas AddsAtoms reader adds_atoms atoms_added ([], table) bytes f

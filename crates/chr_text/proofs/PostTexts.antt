@@ -1,6 +1,5 @@
 -- What is read as posts is written so and may be posted, and the other way round.
-use Rattle.std.proofs.Common.{◌≡◌, ℕ, List, [], ◌++◌, map, Some, Ok, Err, sym, ap}
-use Rattle.chr_lex.specs.declared.fault.ReadFault.{ReadFault}
+use Rattle.std.proofs.Common.{◌≡◌, ℕ, List, [], ◌++◌, map, Some, Ok, sym, ap}
 use Rattle.chr_lex.specs.Items.{Item}
 use Rattle.chr_lex.specs.Reading.{◌>>=◌}
 use Rattle.chr_value.specs.Naming.{Table, numbered_atom}
@@ -33,9 +32,3 @@ are_posts table bytes p h = is_text with_post AddsAtoms adds_atoms ([], table) b
 
 pub posts_read : (table : Table) (bytes : List ℕ) (p : Posts) → ArePosts table bytes p → posts_of table bytes ≡ Ok p
 posts_read table bytes p are = text_read with_post AddsAtoms atoms_added ([], table) bytes p are
-
-pub same_posts : (table : Table) (bytes : List ℕ) (p q : Posts) → ArePosts table bytes p → ArePosts table bytes q → p ≡ q
-same_posts table bytes p q a b = let h = posts_read table bytes p a in let k = posts_read table bytes q b in cc
-
-pub no_posts : (table : Table) (bytes : List ℕ) (f : ReadFault) → posts_of table bytes ≡ Err f → (p : Posts) → ArePosts table bytes p → ⊥
-no_posts table bytes f h p are = let k = posts_read table bytes p are in cc

@@ -1,5 +1,5 @@
 -- The first fault of a program.
-use Rattle.std.proofs.Common.{◌≡◌, ◌<◌, ◌≤◌, ◌⊎◌, ℕ, Bool, true, false, cond, leb, ◌||◌, inl, inr, List, [], ◌∷◌, ◌++◌, length, Option, Some, None, Result, Ok, Err, refl, subst, arith}
+use Rattle.std.proofs.Common.{◌≡◌, ◌↔◌, ◌<◌, ◌≤◌, ◌⊎◌, ℕ, Bool, true, false, cond, leb, ◌||◌, inl, inr, List, [], ◌∷◌, ◌++◌, length, Option, Some, None, Result, Ok, Err, refl, subst, arith}
 use Rattle.std.specs.List.{list_any}
 use Rattle.chr_lex.specs.declared.fault.Kind.{Kind}
 use Rattle.chr_lex.specs.declared.fault.Kind.TheVariants.{TooLong, BadByte, Syntax, Propagation, NumberRange, TooMany, Binding, NamesFull}
@@ -20,10 +20,10 @@ use Rattle.chr_limits.specs.Scope.{is_in_scope}
 use Rattle.chr_limits.proofs.Standing.{neither}
 use Rattle.chr_text.specs.Translation.{rule}
 use Rattle.chr_text.specs.Numbering.{or_full, number_rule}
-use Rattle.chr_text.specs.Reading.{Program, with_statement, with_item, program_of}
+use Rattle.chr_text.specs.Reading.{Program, with_statement, program_of}
 use Rattle.chr_text.specs.Forms.{AddsStatement}
-use Rattle.chr_text.specs.Faults.{rank, IsFirst, RuleHas, StatementHas, ItemHas, IsProgramFault}
-use Rattle.chr_text.proofs.Faulty.{err_is, IsReader, faulty_item, refused_item, faulty_text, refused_text}
+use Rattle.chr_text.specs.Faults.{rank, IsFirst, RuleHas, StatementHas, IsProgramFault}
+use Rattle.chr_text.proofs.Faulty.{err_is, IsReader, faults_are}
 use Rattle.chr_text.proofs.ProgramTexts.{adds_statement, statement_added}
 
 -- ---- tests one after another
@@ -146,10 +146,5 @@ reader = record { only = by_texts; found = says; refused = refused; faulty = sta
 
 -- ---- a text
 
-pub program_fault : (table : Table) (bytes : List ℕ) (f : ReadFault) → program_of table bytes ≡ Err f → IsProgramFault table bytes f
-program_fault table bytes f h =
-    faulty_text with_item AddsStatement (λ before. ItemHas AreStatement (StatementHas before)) adds_statement (faulty_item statement_of with_statement AreStatement StatementHas reader) ([], table) bytes f h
-
-pub program_refused : (table : Table) (bytes : List ℕ) (f : ReadFault) → IsProgramFault table bytes f → program_of table bytes ≡ Err f
-program_refused table bytes f is =
-    refused_text with_item AddsStatement (λ before. ItemHas AreStatement (StatementHas before)) statement_added (refused_item statement_of with_statement AreStatement StatementHas reader) ([], table) bytes f is
+pub program_faults : (table : Table) (bytes : List ℕ) (f : ReadFault) → program_of table bytes ≡ Err f ↔ IsProgramFault table bytes f
+program_faults table bytes f = faults_are statement_of with_statement AreStatement StatementHas AddsStatement reader adds_statement statement_added ([], table) bytes f

@@ -1,6 +1,5 @@
 -- What is read as a program is one by the grammar and the limits, and the other way round.
-use Rattle.std.proofs.Common.{◌≡◌, ◌<◌, ℕ, false, leb, List, [], ◌∷◌, ◌++◌, length, Option, Some, None, Ok, Err, sym, ap, arith}
-use Rattle.chr_lex.specs.declared.fault.ReadFault.{ReadFault}
+use Rattle.std.proofs.Common.{◌≡◌, ◌<◌, ℕ, false, leb, List, [], ◌∷◌, ◌++◌, length, Option, Some, None, Ok, sym, ap, arith}
 use Rattle.chr_lex.specs.Items.{Item}
 use Rattle.chr_lex.specs.Reading.{◌>>=◌}
 use Rattle.chr_value.specs.Naming.{Table}
@@ -62,9 +61,3 @@ is_program table bytes p h = is_text with_item AddsStatement adds_statement ([],
 
 pub program_read : (table : Table) (bytes : List ℕ) (p : Program) → IsProgramText table bytes p → program_of table bytes ≡ Ok p
 program_read table bytes p is = text_read with_item AddsStatement statement_added ([], table) bytes p is
-
-pub one_program : (table : Table) (bytes : List ℕ) (p q : Program) → IsProgramText table bytes p → IsProgramText table bytes q → p ≡ q
-one_program table bytes p q a b = let h = program_read table bytes p a in let k = program_read table bytes q b in cc
-
-pub no_program : (table : Table) (bytes : List ℕ) (f : ReadFault) → program_of table bytes ≡ Err f → (p : Program) → IsProgramText table bytes p → ⊥
-no_program table bytes f h p is = let k = program_read table bytes p is in cc

@@ -78,3 +78,11 @@ is_text f Step steps x bytes y h =
 pub text_read : {A : Type 0} (f : A → Item → Result A Kind) (Step : A → Item → A → Type 0) → ((x : A) (e : Item) (y : A) → Step x e y → f x e ≡ Ok y)
     → (x : A) (bytes : List ℕ) (y : A) → IsText Step x bytes y → of_text f x bytes ≡ Ok y
 text_read f Step steps x bytes y is = rw (le-ltb _ _ is.short, items_read bytes is.entries is.has) (read_in_order f Step steps x is.entries y is.in_order)
+
+pub one_text : {A : Type 0} (f : A → Item → Result A Kind) (Step : A → Item → A → Type 0) → ((x : A) (e : Item) (y : A) → Step x e y → f x e ≡ Ok y)
+    → (x : A) (bytes : List ℕ) (y z : A) → IsText Step x bytes y → IsText Step x bytes z → y ≡ z
+one_text f Step steps x bytes y z a b = let h = text_read f Step steps x bytes y a in let k = text_read f Step steps x bytes z b in cc
+
+pub no_text : {A : Type 0} (f : A → Item → Result A Kind) (Step : A → Item → A → Type 0) → ((x : A) (e : Item) (y : A) → Step x e y → f x e ≡ Ok y)
+    → (x : A) (bytes : List ℕ) (g : ReadFault) → of_text f x bytes ≡ Err g → (y : A) → IsText Step x bytes y → ⊥
+no_text f Step steps x bytes g h y is = let k = text_read f Step steps x bytes y is in cc

@@ -1,5 +1,5 @@
-use Rattle.chr_text.proofs.PostFaults.{posts_fault, posts_refused}
+use Rattle.chr_text.proofs.PostFaults.{posts_faults}
 use Rattle.chr_text.proofs.laws.post_faults_by_their_forms.Goals as goal
 
 pub returns : goal.returns
-returns c = record { found = posts_fault; only = posts_refused }
+returns c = record { found = λ table bytes f. (posts_faults table bytes f).0; only = λ table bytes f. (posts_faults table bytes f).1 }
