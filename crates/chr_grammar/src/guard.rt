@@ -3,8 +3,8 @@
 ghost use Rattle.std.specs.Prelude.{◌≡◌, map};
 ghost use Rattle.chr_lex.specs.Reading.{Gives};
 ghost use Rattle.chr_lex.specs.Tokens.{lexeme};
-ghost use Rattle.chr_grammar.specs.Views.{term, test};
-ghost use Rattle.chr_grammar.specs.Parsing.{relation, equality, equal, other_side_at, plain_test_at, compared_at, test_at};
+ghost use Rattle.chr_grammar.specs.Views.{formula, term, test};
+ghost use Rattle.chr_grammar.specs.Parsing.{relation, relation_at, equality, equal, other_side_at, plain_test_at, compared_at, test_at};
 
 use crate::expression::{ParsedExpression, parse_expression};
 use crate::list::Member;
@@ -91,15 +91,15 @@ fn equal<'a, A: Allocator>(
     }
 }
 
-/// Two expressions and what stands between them.
-fn compared<'a, A: Allocator + Copy>(
+/// A comparison of numbers, and what is compared with the expression left of it.
+fn related<'a, A: Allocator + Copy>(
     alloc: A,
+    left: ParsedExpression<'a, A>,
     tokens: &'a [Token<'a>],
 ) -> Result<(GuardMember<'a, A>, &'a [Token<'a>]), ItemError>
-    ensures { Gives (λ x. (test x.0, map lexeme x.1.now)) result (compared_at (map lexeme tokens.now)) }
+    ensures { Gives (λ x. (test x.0, map lexeme x.1.now)) result (relation_at (formula left.entry) (map lexeme tokens.now)) }
 {
-    let (left, after) = parse_expression(alloc, tokens)?;
-    match after {
+    match tokens {
         [first, behind @ ..] => match relation(*first) {
             None => Err(ItemError::Fault(Kind::Syntax)),
             Some(relation) => {
@@ -109,6 +109,17 @@ fn compared<'a, A: Allocator + Copy>(
         },
         [] => Err(ItemError::Fault(Kind::Syntax)),
     }
+}
+
+/// Two expressions and what stands between them.
+fn compared<'a, A: Allocator + Copy>(
+    alloc: A,
+    tokens: &'a [Token<'a>],
+) -> Result<(GuardMember<'a, A>, &'a [Token<'a>]), ItemError>
+    ensures { Gives (λ x. (test x.0, map lexeme x.1.now)) result (compared_at (map lexeme tokens.now)) }
+{
+    let (left, after) = parse_expression(alloc, tokens)?;
+    related(alloc, left, after)
 }
 
 /// What is compared with a term by `==` or `\==`.
