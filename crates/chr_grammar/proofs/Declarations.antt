@@ -1,5 +1,5 @@
 -- What is read as a declaration is spelled so.
-use Rattle.std.proofs.Common.{◌≡◌, false, List, [], ◌∷◌, ◌++◌, refl, ap, subst, Result, Ok, Err}
+use Rattle.std.proofs.Common.{◌≡◌, false, List, [], ◌∷◌, ◌++◌, refl, ap, Result, Ok, Err}
 use Rattle.chr_lex.specs.declared.fault.Kind.{Kind}
 use Rattle.chr_lex.specs.declared.fault.Kind.TheVariants.{Syntax}
 use Rattle.chr_lex.specs.declared.mark.Mark.TheVariants as mark
@@ -33,6 +33,3 @@ declared_found [] = refl
 declared_found (a ∷ []) = refl
 declared_found (a ∷ b ∷ []) = refl
 declared_found (a ∷ b ∷ c ∷ ts) = behind_found a b c ts (declared_of a b c) (declared_is a b c)
-
-pub declared_so : (ts r : List Lexeme) (d : Declared) → declared_at ts ≡ Ok (d, r) → ts ≡ declared_spelled d ++ r
-declared_so ts r d h = (subst (DeclaredRead ts) h (declared_found ts)).1

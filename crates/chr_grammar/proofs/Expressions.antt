@@ -1,31 +1,25 @@
 -- Expressions: a step of the reading.
-use Rattle.std.proofs.Common.{◌≡◌, ◌≤◌, ℕ, zero, suc, ◌-◌, List, [], ◌∷◌, length, take, drop, get_or, map, refl, sym, ap, ◌∙◌, arith, Option, Some, Ok, Err}
+use Rattle.std.proofs.Common.{◌≡◌, ◌≤◌, ℕ, zero, suc, ◌-◌, List, [], ◌∷◌, length, take, drop, get_or, map, refl, sym, ap, ◌∙◌, arith, Option, Some, Ok}
 use Rattle.std.proofs.lemmas.Grind.{common_steps}
-use Rattle.chr_lex.specs.declared.fault.ItemError.{ItemError}
-use Rattle.chr_lex.specs.declared.fault.ItemError.TheVariants as errors
 use Rattle.chr_lex.specs.declared.token.Token.{Token}
-use Rattle.chr_lex.specs.Reading.{Fails}
 use Rattle.chr_lex.specs.Tokens.{lexeme, Lexeme}
 use Rattle.chr_rule.specs.declared.expression.Operator.{Operator}
+use Rattle.chr_grammar.specs.declared.expression.Level.{Level}
+use Rattle.chr_grammar.specs.declared.expression.Level.TheVariants as level
 use Rattle.chr_grammar.specs.Parsed.{ParsedExpression, Operation}
-use Rattle.chr_grammar.specs.Parsing.{Front, sum_operator, chain_at, product_at, sum_at}
+use Rattle.chr_grammar.specs.Parsing.{Front, sum_operator, chain_at, level_at, product_at, sum_at}
 
-pub sum_fails : (e : ItemError) (n : ℕ) (ts : List Lexeme) → (n ≡ 0 → ⊥) → Fails e (product_at (sum_at (n - 1)) ts) → Fails e (sum_at n ts)
-unfolding sum_at
-sum_fails errors.Memory n ts some h = tt
-sum_fails (errors.Fault k) zero ts some h = absurd (some refl)
-sum_fails (errors.Fault k) (suc n) ts some h =
-    let e : suc n - 1 ≡ n = omega arith in
-    let there : product_at (sum_at n) ts ≡ Err k = ap (λ (m : ℕ). product_at (sum_at m) ts) (sym e) ∙ h in
-    rw there refl
+-- Sums stand above products in the order of what calls what.
+abbrev pub rank : Level → ℕ
+rank level.Sums = 18
+rank level.Products = 0
 
-pub sum_steps : (n : ℕ) (ts : List Lexeme) (left : ParsedExpression) (after : List Lexeme) → (n ≡ 0 → ⊥) → product_at (sum_at (n - 1)) ts ≡ Ok (left, after) → sum_at n ts ≡ chain_at sum_operator (product_at (sum_at (n - 1))) 15 left after
+pub sum_steps : (n : ℕ) (ts : List Lexeme) → (n ≡ 0 → ⊥) → sum_at n ts ≡ level_at sum_operator (product_at (sum_at (n - 1))) ts
 unfolding sum_at
-sum_steps zero ts left after some found = absurd (some refl)
-sum_steps (suc n) ts left after some found =
-    let e : suc n - 1 ≡ n = omega arith in
-    let there : product_at (sum_at n) ts ≡ Ok (left, after) = ap (λ (m : ℕ). product_at (sum_at m) ts) (sym e) ∙ found in
-    rw there (ap (λ (m : ℕ). chain_at sum_operator (product_at (sum_at m)) 15 left after) (sym e))
+sum_steps zero ts some = absurd (some refl)
+sum_steps (suc n) ts some =
+    let e : n ≡ suc n - 1 = omega arith in
+    ap (λ (m : ℕ). level_at sum_operator (product_at (sum_at m)) ts) e
 
 whole : (ts : List Token) → take (suc (length ts) - 1) ts ≡ ts
 whole ts = grind (arith, common_steps)

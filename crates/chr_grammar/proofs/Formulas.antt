@@ -12,7 +12,7 @@ use Rattle.chr_rule.specs.declared.expression.Operator.{Operator}
 use Rattle.chr_rule.specs.declared.expression.Operator.TheVariants as operator
 use Rattle.chr_grammar.specs.declared.expression.TheConstants.{MOST_DEPTH}
 use Rattle.chr_grammar.specs.Parsed.{ParsedExpression, Number, Variable, Group, Operation}
-use Rattle.chr_grammar.specs.Parsing.{Front, is_open, is_close, either, sum_operator, product_operator, closed, fits, fitting, factor_at, chain_at, product_at, sum_at, expression_at}
+use Rattle.chr_grammar.specs.Parsing.{Front, is_open, is_close, either, sum_operator, product_operator, enclosed, fits, fitting, factor_at, chain_at, level_at, product_at, sum_at, expression_at}
 use Rattle.chr_grammar.specs.Spelling.{operator_sign, formula_spelled, binds, holds, depth, IsGrouped, IsExpression}
 use Rattle.chr_grammar.proofs.Fronts.{FrontRead}
 use Rattle.chr_grammar.proofs.Signs.{open_is, close_is}
@@ -25,7 +25,7 @@ abbrev pub FormulaRead : ℕ → List Lexeme → Front ParsedExpression → Type
 FormulaRead k ts (Ok x) = Taken k ts x.0 x.1
 FormulaRead k ts (Err e) = e ≡ Syntax
 
-closed_found : (ts : List Lexeme) (f : ParsedExpression) (r : List Lexeme) → Taken 1 ts f r → FormulaRead 3 (OfMark Open ∷ ts) (closed f r)
+closed_found : (ts : List Lexeme) (f : ParsedExpression) (r : List Lexeme) → Taken 1 ts f r → FormulaRead 3 (OfMark Open ∷ ts) (enclosed (Group f) r)
 closed_found ts f [] h = refl
 closed_found ts f (s ∷ r) h =
     cond_both (is_close s) _ _ (FormulaRead 3 (OfMark Open ∷ ts))
@@ -34,7 +34,7 @@ closed_found ts f (s ∷ r) h =
     (h.0, omega arith, ap (λ (x : List Lexeme). OfMark Open ∷ x) (at ∙ sym (append_assoc (formula_spelled f) (OfMark Close ∷ []) r))))
     (λ c. refl)
 
-group_found : (ts : List Lexeme) (read : Front ParsedExpression) → FormulaRead 1 ts read → FormulaRead 3 (OfMark Open ∷ ts) (read >>= λ x. closed x.0 x.1)
+group_found : (ts : List Lexeme) (read : Front ParsedExpression) → FormulaRead 1 ts read → FormulaRead 3 (OfMark Open ∷ ts) (read >>= λ x. enclosed (Group x.0) x.1)
 group_found ts (Ok x) h = closed_found ts x.0 x.1 h
 group_found ts (Err e) h = h
 
@@ -45,7 +45,7 @@ factor_found inner h (OfWord (word.Variable x) ∷ ts) = (tt, omega arith, refl)
 factor_found inner h (OfWord (word.Number negative digits) ∷ ts) = (tt, omega arith, refl)
 factor_found inner h (OfMark m ∷ ts) =
     cond_both (is_open (OfMark m)) _ _ (FormulaRead 3 (OfMark m ∷ ts))
-    (λ o. subst (λ (s : Lexeme). FormulaRead 3 (s ∷ ts) (inner ts >>= λ x. closed x.0 x.1)) (sym (open_is (OfMark m) o)) (group_found ts (inner ts) (h ts)))
+    (λ o. subst (λ (s : Lexeme). FormulaRead 3 (s ∷ ts) (inner ts >>= λ x. enclosed (Group x.0) x.1)) (sym (open_is (OfMark m) o)) (group_found ts (inner ts) (h ts)))
     (λ o. refl)
 
 -- the operators of a level
@@ -105,17 +105,17 @@ products (OfMark mark.Rem) o h = let e : operator.Rem ≡ o = cc in subst (λ (o
 products (OfMark mark.Mod) o h = let e : operator.Mod ≡ o = cc in subst (λ (o : Operator). (binds o ≡ 2) × (OfMark mark.Mod ≡ operator_sign o)) e (refl, refl)
 products (OfMark _) o h = absurd cc
 
+level_found : (k : ℕ) (operator : Lexeme → Option Operator) (side : List Lexeme → Front ParsedExpression) → OfLevel k operator → ((us : List Lexeme) → FormulaRead (suc k) us (side us)) → (ts : List Lexeme) → FormulaRead k ts (level_at operator side ts)
+level_found k operator side level each ts =
+    then_found k ts (side ts) (chain_at operator side 15) (each ts) (λ f r t. chain_found k operator side level each 15 ts f r t)
+
 product_found : (inner : List Lexeme → Front ParsedExpression) → ((ts : List Lexeme) → FormulaRead 1 ts (inner ts)) → (ts : List Lexeme) → FormulaRead 2 ts (product_at inner ts)
-product_found inner h ts =
-    then_found 2 ts (factor_at inner ts) (chain_at product_operator (factor_at inner) 15) (factor_found inner h ts)
-    (λ f r t. chain_found 2 product_operator (factor_at inner) products (factor_found inner h) 15 ts f r t)
+product_found inner h = level_found 2 product_operator (factor_at inner) products (factor_found inner h)
 
 sum_found : (n : ℕ) (ts : List Lexeme) → FormulaRead 1 ts (sum_at n ts)
 unfolding sum_at
 sum_found zero ts = refl
-sum_found (suc n) ts =
-    then_found 1 ts (product_at (sum_at n) ts) (chain_at sum_operator (product_at (sum_at n)) 15) (product_found (sum_at n) (sum_found n) ts)
-    (λ f r t. chain_found 1 sum_operator (product_at (sum_at n)) sums (product_found (sum_at n) (sum_found n)) 15 ts f r t)
+sum_found (suc n) ts = level_found 1 sum_operator (product_at (sum_at n)) sums (product_found (sum_at n) (sum_found n)) ts
 
 -- ---- depth
 

@@ -106,27 +106,19 @@ level_again k operator side Stops d n lt room level f rest grouped tight deep st
 abbrev pub InnerAgain : ℕ → (List Lexeme → Front ParsedExpression) → Type 0
 InnerAgain n inner = (f : ParsedExpression) (rest : List Lexeme) → IsGrouped f → depth f ≤ n → NoOperator product_operator rest → NoOperator sum_operator rest → inner (formula_spelled f ++ rest) ≡ Ok (f, rest)
 
-at_most_two : (o : Operator) → binds o ≤ 2
-at_most_two operator.Add = omega arith
-at_most_two operator.Sub = omega arith
-at_most_two operator.Mul = omega arith
-at_most_two operator.Quot = omega arith
-at_most_two operator.Rem = omega arith
-at_most_two operator.Mod = omega arith
-
-at_least_one : (o : Operator) → 1 ≤ binds o
-at_least_one operator.Add = omega arith
-at_least_one operator.Sub = omega arith
-at_least_one operator.Mul = omega arith
-at_least_one operator.Quot = omega arith
-at_least_one operator.Rem = omega arith
-at_least_one operator.Mod = omega arith
+one_or_two : (o : Operator) → (1 ≤ binds o) × (binds o ≤ 2)
+one_or_two operator.Add = (omega arith, omega arith)
+one_or_two operator.Sub = (omega arith, omega arith)
+one_or_two operator.Mul = (omega arith, omega arith)
+one_or_two operator.Quot = (omega arith, omega arith)
+one_or_two operator.Rem = (omega arith, omega arith)
+one_or_two operator.Mod = (omega arith, omega arith)
 
 holds_some : (f : ParsedExpression) → 1 ≤ holds f
 holds_some (Number negative digits) = omega arith
 holds_some (Variable x) = omega arith
 holds_some (Group f) = omega arith
-holds_some (Operation o f g) = at_least_one o
+holds_some (Operation o f g) = (one_or_two o).0
 
 factor_again : (n : ℕ) (inner : List Lexeme → Front ParsedExpression) → InnerAgain n inner → (g : ParsedExpression) (rest : List Lexeme) → IsGrouped g → 3 ≤ holds g → depth g ≤ suc n → factor_at inner (formula_spelled g ++ rest) ≡ Ok (g, rest)
 factor_again n inner again (Number negative digits) rest grouped tight deep = refl
@@ -135,44 +127,37 @@ factor_again n inner again (Group f) rest grouped tight deep =
     let split : (formula_spelled f ++ OfMark Close ∷ []) ++ rest ≡ formula_spelled f ++ (OfMark Close ∷ rest) = append_assoc (formula_spelled f) (OfMark Close ∷ []) rest in
     let inside : inner (formula_spelled f ++ (OfMark Close ∷ rest)) ≡ Ok (f, OfMark Close ∷ rest) = again f (OfMark Close ∷ rest) grouped (omega (arith, deep)) refl refl in
     rw (split, inside) refl
-factor_again n inner again (Operation o f g) rest grouped tight deep = let h = at_most_two o in absurd (omega (arith, h, tight))
+factor_again n inner again (Operation o f g) rest grouped tight deep = let h : binds o ≤ 2 = (one_or_two o).1 in absurd (omega (arith, h, tight))
 
-known_product : (o : Operator) → binds o ≡ 2 → product_operator (operator_sign o) ≡ Some o
-known_product operator.Add h = absurd (omega (arith, h))
-known_product operator.Sub h = absurd (omega (arith, h))
-known_product operator.Mul h = refl
-known_product operator.Quot h = refl
-known_product operator.Rem h = refl
-known_product operator.Mod h = refl
+-- how the sign of an operator that binds so tightly is read
+abbrev SignRead : ℕ → Operator → Type 0
+SignRead zero o = Unit {0}
+SignRead (suc zero) o = (sum_operator (operator_sign o) ≡ Some o) × (product_operator (operator_sign o) ≡ None)
+SignRead (suc (suc k)) o = product_operator (operator_sign o) ≡ Some o
 
-known_sum : (o : Operator) → binds o ≡ 1 → sum_operator (operator_sign o) ≡ Some o
-known_sum operator.Add h = refl
-known_sum operator.Sub h = refl
-known_sum operator.Mul h = absurd (omega (arith, h))
-known_sum operator.Quot h = absurd (omega (arith, h))
-known_sum operator.Rem h = absurd (omega (arith, h))
-known_sum operator.Mod h = absurd (omega (arith, h))
+sign_read : (o : Operator) → SignRead (binds o) o
+sign_read operator.Add = (refl, refl)
+sign_read operator.Sub = (refl, refl)
+sign_read operator.Mul = refl
+sign_read operator.Quot = refl
+sign_read operator.Rem = refl
+sign_read operator.Mod = refl
 
-no_product : (o : Operator) → binds o ≡ 1 → product_operator (operator_sign o) ≡ None
-no_product operator.Add h = refl
-no_product operator.Sub h = refl
-no_product operator.Mul h = absurd (omega (arith, h))
-no_product operator.Quot h = absurd (omega (arith, h))
-no_product operator.Rem h = absurd (omega (arith, h))
-no_product operator.Mod h = absurd (omega (arith, h))
+read_so : (k : ℕ) (o : Operator) → binds o ≡ k → SignRead k o
+read_so k o h = subst (λ (n : ℕ). SignRead n o) h (sign_read o)
 
 abbrev Anything : List Lexeme → Type 0
 Anything ts = Unit {0}
 
 products_level : (n : ℕ) (inner : List Lexeme → Front ParsedExpression) → InnerAgain n inner → Level 2 product_operator (factor_at inner) Anything (suc n)
-products_level n inner again = record { known = known_product; stops = λ o ts h. tt; reads = λ g rest grouped tight deep stops. factor_again n inner again g rest grouped tight deep }
+products_level n inner again = record { known = read_so 2; stops = λ o ts h. tt; reads = λ g rest grouped tight deep stops. factor_again n inner again g rest grouped tight deep }
 
 product_again : (n : ℕ) (inner : List Lexeme → Front ParsedExpression) → suc n ≤ 16 → InnerAgain n inner → (g : ParsedExpression) (rest : List Lexeme) → IsGrouped g → 2 ≤ holds g → depth g ≤ suc n → NoOperator product_operator rest → product_at inner (formula_spelled g ++ rest) ≡ Ok (g, rest)
 product_again n inner room again g rest grouped tight deep none =
     level_again 2 product_operator (factor_at inner) Anything (suc n) 15 (omega arith) room (products_level n inner again) g rest grouped tight deep tt none
 
 sums_level : (n : ℕ) (inner : List Lexeme → Front ParsedExpression) → suc n ≤ 16 → InnerAgain n inner → Level 1 sum_operator (product_at inner) (NoOperator product_operator) (suc n)
-sums_level n inner room again = record { known = known_sum; stops = λ o ts h. no_product o h; reads = product_again n inner room again }
+sums_level n inner room again = record { known = λ o h. (read_so 1 o h).0; stops = λ o ts h. (read_so 1 o h).1; reads = product_again n inner room again }
 
 sum_again : (n : ℕ) → n ≤ 16 → InnerAgain n (sum_at n)
 unfolding sum_at

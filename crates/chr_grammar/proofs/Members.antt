@@ -105,12 +105,6 @@ by_found ts (Err k) h = plain_test_found ts
 pub test_found : (ts : List Lexeme) → TestRead ts (test_at ts)
 test_found ts = by_found ts (term_at ts) (term_found ts)
 
-pub test_so : (ts r : List Lexeme) (t : GuardMember) → test_at ts ≡ Ok (t, r) → ts ≡ test_spelled t ++ r
-test_so ts r t h = (subst (TestRead ts) h (test_found ts)).1
-
-pub test_stands : (ts r : List Lexeme) (t : GuardMember) → test_at ts ≡ Ok (t, r) → IsGuardMember t
-test_stands ts r t h = (subst (TestRead ts) h (test_found ts)).0
-
 -- ---- bodies
 
 abbrev pub MemberRead : List Lexeme → Front BodyMember → Type 0
@@ -150,9 +144,3 @@ member_found (s ∷ e ∷ ts) =
     cond_both (is_is e) _ _ (MemberRead (s ∷ e ∷ ts))
     (λ h. subst (λ (e : Lexeme). MemberRead (s ∷ e ∷ ts) (is_member_at s ts)) (sym (is_is_is e h)) (is_member_found s ts))
     (λ h. cond_both (is_open e) _ _ (MemberRead (s ∷ e ∷ ts)) (λ h. added_found (s ∷ e ∷ ts)) (λ h. last_member_found (s ∷ e ∷ ts)))
-
-pub member_so : (ts r : List Lexeme) (m : BodyMember) → member_at ts ≡ Ok (m, r) → ts ≡ member_spelled m ++ r
-member_so ts r m h = (subst (MemberRead ts) h (member_found ts)).1
-
-pub member_stands : (ts r : List Lexeme) (m : BodyMember) → member_at ts ≡ Ok (m, r) → IsBodyMember m
-member_stands ts r m h = (subst (MemberRead ts) h (member_found ts)).0

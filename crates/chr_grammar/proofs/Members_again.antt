@@ -45,42 +45,19 @@ ends_sum (s ∷ ts) h = rw h refl
 last_expression : (f : ParsedExpression) (rest : List Lexeme) → IsExpression f → Ends rest → expression_at (formula_spelled f ++ rest) ≡ Ok (f, rest)
 last_expression f rest stands ends = expression_again f rest stands (ends_product rest ends) (ends_sum rest ends)
 
-relation_no_product : (r : Relation) → product_operator (relation_sign r) ≡ None
-relation_no_product relation.Less = refl
-relation_no_product relation.LessEqual = refl
-relation_no_product relation.Greater = refl
-relation_no_product relation.GreaterEqual = refl
-relation_no_product relation.Equal = refl
-relation_no_product relation.Unequal = refl
-
-relation_no_sum : (r : Relation) → sum_operator (relation_sign r) ≡ None
-relation_no_sum relation.Less = refl
-relation_no_sum relation.LessEqual = refl
-relation_no_sum relation.Greater = refl
-relation_no_sum relation.GreaterEqual = refl
-relation_no_sum relation.Equal = refl
-relation_no_sum relation.Unequal = refl
-
-relation_known : (r : Relation) → parsing.relation (relation_sign r) ≡ Some r
-relation_known relation.Less = refl
-relation_known relation.LessEqual = refl
-relation_known relation.Greater = refl
-relation_known relation.GreaterEqual = refl
-relation_known relation.Equal = refl
-relation_known relation.Unequal = refl
-
 -- ---- a comparison is no equality, and has no names
 
 abbrev Compares : Lexeme → Type 0
 Compares s = (equality s ≡ None) × (named s ≡ None)
 
-relation_compares : (r : Relation) → Compares (relation_sign r)
-relation_compares relation.Less = (refl, refl)
-relation_compares relation.LessEqual = (refl, refl)
-relation_compares relation.Greater = (refl, refl)
-relation_compares relation.GreaterEqual = (refl, refl)
-relation_compares relation.Equal = (refl, refl)
-relation_compares relation.Unequal = (refl, refl)
+-- a comparison is read as itself, and as no operator
+relation_reads : (r : Relation) → Compares (relation_sign r) × (parsing.relation (relation_sign r) ≡ Some r) × (product_operator (relation_sign r) ≡ None) × (sum_operator (relation_sign r) ≡ None)
+relation_reads relation.Less = ((refl, refl), refl, refl, refl)
+relation_reads relation.LessEqual = ((refl, refl), refl, refl, refl)
+relation_reads relation.Greater = ((refl, refl), refl, refl, refl)
+relation_reads relation.GreaterEqual = ((refl, refl), refl, refl, refl)
+relation_reads relation.Equal = ((refl, refl), refl, refl, refl)
+relation_reads relation.Unequal = ((refl, refl), refl, refl, refl)
 
 operator_compares : (o : Operator) → Compares (operator_sign o)
 operator_compares operator.Add = (refl, refl)
@@ -124,9 +101,10 @@ comparison (x ∷ y ∷ xs) s ys some all this = compares x y (xs ++ s ∷ ys) a
 compared_again : (r : Relation) (f g : ParsedExpression) (rest : List Lexeme) → IsExpression f → IsExpression g → Ends rest → compared_at (formula_spelled f ++ (relation_sign r ∷ (formula_spelled g ++ rest))) ≡ Ok (Compared r f g, rest)
 compared_again r f g rest left right ends =
     let one : expression_at (formula_spelled f ++ (relation_sign r ∷ (formula_spelled g ++ rest))) ≡ Ok (f, relation_sign r ∷ (formula_spelled g ++ rest)) =
-    expression_again f (relation_sign r ∷ (formula_spelled g ++ rest)) left (relation_no_product r) (relation_no_sum r) in
+    expression_again f (relation_sign r ∷ (formula_spelled g ++ rest)) left (relation_reads r).2 (relation_reads r).3 in
     let two : expression_at (formula_spelled g ++ rest) ≡ Ok (g, rest) = last_expression g rest right ends in
-    rw (one, relation_known r, two) refl
+    let known : parsing.relation (relation_sign r) ≡ Some r = (relation_reads r).1 in
+    rw (one, known, two) refl
 
 ends_term : (rest : List Lexeme) → Ends rest → Shut rest
 ends_term [] h = tt
@@ -150,7 +128,7 @@ test_again Always [] stands ends = refl
 test_again Always (s ∷ rest) stands ends = always_again s rest ends
 test_again (Compared r f g) rest stands ends =
     let split : (formula_spelled f ++ relation_sign r ∷ formula_spelled g) ++ rest ≡ formula_spelled f ++ (relation_sign r ∷ (formula_spelled g ++ rest)) = append_assoc (formula_spelled f) (relation_sign r ∷ formula_spelled g) rest in
-    ap test_at split ∙ comparison (formula_spelled f) (relation_sign r) (formula_spelled g ++ rest) (formula_some f) (formula_compares f) (relation_compares r) ∙ compared_again r f g rest stands.0 stands.1 ends
+    ap test_at split ∙ comparison (formula_spelled f) (relation_sign r) (formula_spelled g ++ rest) (formula_some f) (formula_compares f) (relation_reads r).0 ∙ compared_again r f g rest stands.0 stands.1 ends
 test_again (Same t u) rest stands ends = sides_again true (OfMark mark.Equals) t u rest refl stands.0 stands.1 refl (ends_term rest ends)
 test_again (Differ t u) rest stands ends = sides_again false (OfMark mark.Differs) t u rest refl stands.0 stands.1 refl (ends_term rest ends)
 

@@ -1,5 +1,5 @@
 -- The loops that read terms: what is read from a place on.
-use Rattle.std.proofs.Common.{◌≡◌, ◌≤◌, ◌<◌, ℕ, zero, suc, ◌+◌, ◌-◌, true, false, get_or, List, [], ◌∷◌, ◌++◌, length, take, drop, map, refl, sym, ap, ◌∙◌, arith, Ok, Err, append_assoc, length-drop}
+use Rattle.std.proofs.Common.{◌≡◌, ◌≤◌, ◌<◌, ℕ, zero, suc, ◌+◌, ◌-◌, true, false, get_or, List, [], ◌∷◌, ◌++◌, length, take, drop, map, refl, sym, ap, ◌∙◌, arith, Ok, Err, length-drop}
 use Rattle.std.proofs.lemmas.List.{drop-drop, length-map}
 use Rattle.chr_lex.specs.declared.fault.Kind.TheVariants.{Syntax}
 use Rattle.chr_lex.specs.declared.fault.ItemError.{ItemError}
@@ -11,9 +11,8 @@ use Rattle.chr_lex.specs.declared.token.Word.{Word as CodeWord}
 use Rattle.chr_lex.specs.Reading.{◌>>=◌, Fails}
 use Rattle.chr_lex.specs.Tokens.{word, lexeme, Word, Lexeme, OfWord, OfMark}
 use Rattle.chr_grammar.specs.Parsed.{TermNode, ParsedTerm}
-use Rattle.chr_grammar.specs.Parsing.{Front, is_close, is_comma, next_at, is_functor, behind_word_at, with_node, nodes_at, term_at, behind_term, several_at, terms_at}
-use Rattle.chr_grammar.proofs.Lists.{token_there, tokens_from_place}
-use Rattle.chr_grammar.proofs.Signs.{close_is}
+use Rattle.chr_grammar.specs.Parsing.{Front, is_close, is_comma, next_at, is_functor, behind_word_at, with_node, nodes_at, term_at}
+use Rattle.chr_grammar.proofs.Lists.{front_with, regroup, none_before, token_there, tokens_from_place}
 
 -- ---- the next argument
 
@@ -72,18 +71,6 @@ behind_other w d ts h = rw h refl
 
 -- ---- nodes
 
--- what was read before, and what is still read
-abbrev pub front_with : {A : Type 0} → List A → Front (List A) → Front (List A)
-front_with front read = read >>= λ x. Ok (front ++ x.0, x.1)
-
-regroup : {A : Type 0} (front : List A) (a : A) (read : Front (List A)) → front_with front (read >>= λ x. Ok (a ∷ x.0, x.1)) ≡ front_with (front ++ a ∷ []) read
-regroup {A} front a (Ok x) = ap (λ (y : List A). Ok (y, x.1)) (sym (append_assoc front (a ∷ []) x.0))
-regroup front a (Err k) = refl
-
-pub none_before : {A : Type 0} (read : Front (List A)) → front_with [] read ≡ read
-none_before (Ok x) = refl
-none_before (Err k) = refl
-
 pub first_nodes : (ts : List Token) (n : ℕ) → front_with [] (nodes_at (length ts - n - 0) 0 (drop n (map lexeme ts))) ≡ term_at (drop n (map lexeme ts))
 first_nodes ts n =
     let whole : length (map lexeme ts) ≡ length ts = length-map ts lexeme in
@@ -135,70 +122,3 @@ nodes_go_on front n i d ts r u w e total lt is h some so_far =
     let node : TermNode = record { depth = d; word = w } in
     let one : front_with front (behind_word_at w d r >>= λ x. with_node node x.0 x.1 (nodes_at (n - (i + 1)) x.0 x.1)) ≡ front_with front (with_node node e u (nodes_at (n - (i + 1)) e u)) = rw h refl in
     sym (others_behind front node e u (nodes_at (n - (i + 1)) e u) some) ∙ sym one ∙ nodes_step front n i d ts r w total lt is so_far
-
--- ---- terms
-
-pub first_terms : (ts : List Token) → front_with [] (several_at (length ts - 0) (drop 0 (map lexeme ts))) ≡ terms_at (map lexeme ts)
-first_terms ts =
-    let whole : length (map lexeme ts) ≡ length ts = length-map ts lexeme in
-    let all : length ts - 0 ≡ length (map lexeme ts) = omega (arith, whole) in
-    none_before (several_at (length ts - 0) (map lexeme ts)) ∙ ap (λ (k : ℕ). several_at k (map lexeme ts)) all
-
-pub terms_none : (front : List ParsedTerm) (n i : ℕ) (ts : List Lexeme) (total : Front (List ParsedTerm)) → n ≤ i → front_with front (several_at (n - i) ts) ≡ total → total ≡ Err Syntax
-terms_none front n i ts total le so_far =
-    let e : n - i ≡ 0 = omega arith in
-    let one : front_with front (several_at (n - i) ts) ≡ Err Syntax = rw e refl in
-    sym so_far ∙ one
-
-terms_step : (front : List ParsedTerm) (n i : ℕ) (ts : List Lexeme) (total : Front (List ParsedTerm)) → i < n → front_with front (several_at (n - i) ts) ≡ total
-    → front_with front (term_at ts >>= λ x. behind_term x.0 x.1 (several_at (n - (i + 1)) (drop 1 x.1))) ≡ total
-terms_step front n i ts total lt so_far =
-    let e : n - i ≡ suc (n - (i + 1)) = omega arith in
-    let one : front_with front (several_at (n - i) ts) ≡ front_with front (several_at (suc (n - (i + 1))) ts) = rw e refl in
-    sym one ∙ so_far
-
-pub terms_fail : (e : ItemError) (front : List ParsedTerm) (n i : ℕ) (ts : List Lexeme) (total : Front (List ParsedTerm)) → i < n → Fails e (term_at ts) → front_with front (several_at (n - i) ts) ≡ total → Fails e total
-terms_fail errors.Memory front n i ts total lt h so_far = tt
-terms_fail (errors.Fault k) front n i ts total lt h so_far = sym (terms_step front n i ts total lt so_far) ∙ rw h refl
-
-pub terms_cut : (front : List ParsedTerm) (n i : ℕ) (ts r : List Lexeme) (t : ParsedTerm) (total : Front (List ParsedTerm)) → i < n → term_at ts ≡ Ok (t, r) → r ≡ [] → front_with front (several_at (n - i) ts) ≡ total → total ≡ Err Syntax
-terms_cut front n i ts r t total lt h none so_far = sym (terms_step front n i ts total lt so_far) ∙ rw (h, none) refl
-
--- what follows a term
-terms_behind : (front : List ParsedTerm) (n i : ℕ) (ts r u : List Lexeme) (s : Lexeme) (t : ParsedTerm) (total : Front (List ParsedTerm)) → i < n → term_at ts ≡ Ok (t, r) → r ≡ s ∷ u → front_with front (several_at (n - i) ts) ≡ total
-    → front_with front (behind_term t (s ∷ u) (several_at (n - (i + 1)) u)) ≡ total
-terms_behind front n i ts r u s t total lt h is so_far =
-    let one : front_with front (term_at ts >>= λ x. behind_term x.0 x.1 (several_at (n - (i + 1)) (drop 1 x.1))) ≡ front_with front (behind_term t (s ∷ u) (several_at (n - (i + 1)) u)) = rw (h, is) refl in
-    sym one ∙ terms_step front n i ts total lt so_far
-
-close_no_comma : (s : Lexeme) → is_close s ≡ true → is_comma s ≡ false
-close_no_comma s h = rw (close_is s h) refl
-
-pub terms_done : (front : List ParsedTerm) (n i : ℕ) (us : List Lexeme) (ts : List Token) (next : ℕ) (d : Token) (t : ParsedTerm) (total : Front (List ParsedTerm)) → i < n → term_at us ≡ Ok (t, drop next (map lexeme ts)) → next < length ts
-    → true ≡ is_close (lexeme (get_or ts next d)) → front_with front (several_at (n - i) us) ≡ total → total ≡ Ok (front ++ t ∷ [], map lexeme (take (length ts - (next + 1)) (drop (next + 1) ts)))
-terms_done front n i us ts next d t total lt h within close so_far =
-    let s = lexeme (get_or ts next d) in
-    let behind = drop (next + 1) (map lexeme ts) in
-    let none : is_comma s ≡ false = close_no_comma s (sym close) in
-    let closing : is_close s ≡ true = sym close in
-    let all : front_with front (behind_term t (s ∷ behind) (several_at (n - (i + 1)) behind)) ≡ Ok (front ++ t ∷ [], behind) = rw (none, closing) refl in
-    sym (terms_behind front n i us (drop next (map lexeme ts)) behind s t total lt h (token_there ts next d within) so_far) ∙ all ∙ ap (λ (x : List Lexeme). Ok (front ++ t ∷ [], x)) (sym (tokens_from_place ts (next + 1)))
-
-pub terms_stop : (front : List ParsedTerm) (n i : ℕ) (us : List Lexeme) (ts : List Token) (next : ℕ) (d : Token) (t : ParsedTerm) (total : Front (List ParsedTerm)) → i < n → term_at us ≡ Ok (t, drop next (map lexeme ts)) → next < length ts
-    → false ≡ is_close (lexeme (get_or ts next d)) → false ≡ is_comma (lexeme (get_or ts next d)) → front_with front (several_at (n - i) us) ≡ total → total ≡ Err Syntax
-terms_stop front n i us ts next d t total lt h within close comma so_far =
-    let s = lexeme (get_or ts next d) in
-    let behind = drop (next + 1) (map lexeme ts) in
-    let no_comma : is_comma s ≡ false = sym comma in
-    let no_close : is_close s ≡ false = sym close in
-    let all : front_with front (behind_term t (s ∷ behind) (several_at (n - (i + 1)) behind)) ≡ Err Syntax = rw (no_comma, no_close) refl in
-    sym (terms_behind front n i us (drop next (map lexeme ts)) behind s t total lt h (token_there ts next d within) so_far) ∙ all
-
-pub terms_go_on : (front : List ParsedTerm) (n i : ℕ) (us : List Lexeme) (ts : List Token) (next : ℕ) (d : Token) (t : ParsedTerm) (total : Front (List ParsedTerm)) → i < n → term_at us ≡ Ok (t, drop next (map lexeme ts)) → next < length ts
-    → true ≡ is_comma (lexeme (get_or ts next d)) → front_with front (several_at (n - i) us) ≡ total → front_with (front ++ t ∷ []) (several_at (n - (i + 1)) (drop (next + 1) (map lexeme ts))) ≡ total
-terms_go_on front n i us ts next d t total lt h within comma so_far =
-    let s = lexeme (get_or ts next d) in
-    let behind = drop (next + 1) (map lexeme ts) in
-    let a_comma : is_comma s ≡ true = sym comma in
-    let one : front_with front (behind_term t (s ∷ behind) (several_at (n - (i + 1)) behind)) ≡ front_with front (several_at (n - (i + 1)) behind >>= λ x. Ok (t ∷ x.0, x.1)) = rw a_comma refl in
-    sym (regroup front t (several_at (n - (i + 1)) behind)) ∙ sym one ∙ terms_behind front n i us (drop next (map lexeme ts)) behind s t total lt h (token_there ts next d within) so_far

@@ -1,5 +1,5 @@
 -- Tokens before and after a sign.
-use Rattle.std.proofs.Common.{◌≡◌, ◌≤◌, ◌<◌, ℕ, suc, ◌+◌, ◌-◌, Bool, true, false, not, cond, if◌then◌else◌, get_or, List, [], ◌∷◌, length, take, drop, map, refl, sym, ap, ◌∙◌, arith, Option, None, Result, Ok}
+use Rattle.std.proofs.Common.{◌≡◌, ◌≤◌, ◌<◌, ℕ, suc, ◌+◌, ◌-◌, Bool, true, false, not, cond, if◌then◌else◌, get_or, List, [], ◌∷◌, length, take, drop, map, refl, sym, ap, ◌∙◌, arith, None, Result}
 use Rattle.std.specs.List.{take_while}
 use Rattle.std.proofs.lemmas.Grind.{common_steps}
 use Rattle.std.proofs.lemmas.List.Sums.{take_while-cons}
@@ -9,8 +9,7 @@ use Rattle.chr_lex.specs.declared.fault.ItemError.TheVariants as errors
 use Rattle.chr_lex.specs.declared.token.Token.{Token}
 use Rattle.chr_lex.specs.Reading.{◌>>=◌, Fails}
 use Rattle.chr_lex.specs.Tokens.{lexeme, Lexeme}
-use Rattle.chr_grammar.specs.Parsed.{ParsedAtom}
-use Rattle.chr_grammar.specs.Parsing.{heads_by_arrow, before, from_first, is_at, is_arrow, is_module, is_library, consequence_of, rule_by, named_rule_of, rule_of, last_member_at, member_at, a_rule, statement_of}
+use Rattle.chr_grammar.specs.Parsing.{before, from_first, IsCut, is_at, is_module, is_library, named_rule_of, rule_of, last_member_at, member_at, a_rule, statement_of}
 use Rattle.chr_grammar.proofs.Lists.{token_there, tokens_past, tokens_from_place}
 
 pub fails_then : {A B : Type 0} (e : ItemError) (read : Result A Kind) (f : A → Result B Kind) → Fails e read → Fails e (read >>= f)
@@ -53,34 +52,21 @@ take_whole : (n : ℕ) (ts : List Token) → n ≡ length ts → take n ts ≡ t
 take_whole n ts h = grind (arith, common_steps)
 
 -- no such sign
-whole_front : (p : Lexeme → Bool) (ts : List Token) (n : ℕ) → n ≡ count_before p ts → n ≡ length ts → before p (map lexeme ts) ≡ map lexeme ts
-whole_front p ts n is all = before_map p ts ∙ ap (λ (k : ℕ). map lexeme (take k ts)) (sym is) ∙ ap (map lexeme) (take_whole n ts all)
+pub uncut : (p : Lexeme → Bool) (ts : List Token) (n : ℕ) → n ≡ count_before p ts → n ≡ length ts → IsCut p (map lexeme ts) (map lexeme ts) []
+uncut p ts n is all = record {
+  front = before_map p ts ∙ ap (λ (k : ℕ). map lexeme (take k ts)) (sym is) ∙ ap (map lexeme) (take_whole n ts all);
+  back = from_map p ts ∙ ap (λ (k : ℕ). drop k (map lexeme ts)) (sym is) ∙ tokens_past ts n all;
+}
 
-whole_back : (p : Lexeme → Bool) (ts : List Token) (n : ℕ) → n ≡ count_before p ts → n ≡ length ts → from_first p (map lexeme ts) ≡ []
-whole_back p ts n is all = from_map p ts ∙ ap (λ (k : ℕ). drop k (map lexeme ts)) (sym is) ∙ tokens_past ts n all
+pub cut_at : (p : Lexeme → Bool) (ts : List Token) (n : ℕ) (d : Token) → n ≡ count_before p ts → n < length ts → IsCut p (map lexeme ts) (map lexeme (take n ts)) (lexeme (get_or ts n d) ∷ map lexeme (take (length ts - (n + 1)) (drop (n + 1) ts)))
+cut_at p ts n d is lt = record {
+  front = before_map p ts ∙ ap (λ (k : ℕ). map lexeme (take k ts)) (sym is);
+  back = from_map p ts ∙ ap (λ (k : ℕ). drop k (map lexeme ts)) (sym is) ∙ token_there ts n d lt ∙ ap (λ (x : List Lexeme). lexeme (get_or ts n d) ∷ x) (sym (tokens_from_place ts (n + 1)));
+}
 
-cut_front : (p : Lexeme → Bool) (ts : List Token) (n : ℕ) → n ≡ count_before p ts → before p (map lexeme ts) ≡ map lexeme (take n ts)
-cut_front p ts n is = before_map p ts ∙ ap (λ (k : ℕ). map lexeme (take k ts)) (sym is)
-
-cut_back : (p : Lexeme → Bool) (ts : List Token) (n : ℕ) (d : Token) → n ≡ count_before p ts → n < length ts → from_first p (map lexeme ts) ≡ lexeme (get_or ts n d) ∷ map lexeme (take (length ts - (n + 1)) (drop (n + 1) ts))
-cut_back p ts n d is lt =
-    from_map p ts ∙ ap (λ (k : ℕ). drop k (map lexeme ts)) (sym is) ∙ token_there ts n d lt ∙ ap (λ (x : List Lexeme). lexeme (get_or ts n d) ∷ x) (sym (tokens_from_place ts (n + 1)))
-
-both : {A : Type 0} (f : List Lexeme → List Lexeme → A) (a b c d : List Lexeme) → a ≡ b → c ≡ d → f a c ≡ f b d
-both f a b c d h k = rw (h, k) refl
-
-pub split_none : {A : Type 0} (f : List Lexeme → List Lexeme → A) (p : Lexeme → Bool) (ts : List Token) (n : ℕ) → n ≡ count_before p ts → n ≡ length ts → f (before p (map lexeme ts)) (from_first p (map lexeme ts)) ≡ f (map lexeme ts) []
-split_none f p ts n is all = both f _ _ _ _ (whole_front p ts n is all) (whole_back p ts n is all)
-
-pub split_some : {A : Type 0} (f : List Lexeme → List Lexeme → A) (p : Lexeme → Bool) (ts : List Token) (n : ℕ) (d : Token) → n ≡ count_before p ts → n < length ts
-    → f (before p (map lexeme ts)) (from_first p (map lexeme ts)) ≡ f (map lexeme (take n ts)) (lexeme (get_or ts n d) ∷ map lexeme (take (length ts - (n + 1)) (drop (n + 1) ts)))
-split_some f p ts n d is lt = both f _ _ _ _ (cut_front p ts n is) (cut_back p ts n d is lt)
-
-pub after_heads : (rule_name : Option (List ℕ)) (ts : List Token) (n : ℕ) (d : Token) (hs : List ParsedAtom × List ParsedAtom) → n ≡ count_before is_arrow ts → n < length ts → heads_by_arrow (lexeme (get_or ts n d)) (map lexeme (take n ts)) ≡ Ok hs
-    → named_rule_of rule_name (map lexeme ts) ≡ (consequence_of (map lexeme (take (length ts - (n + 1)) (drop (n + 1) ts))) >>= λ c. Ok (record { rule_name = rule_name; kept = hs.0; removed = hs.1; guard = c.0; body = c.1 }))
-after_heads rule_name ts n d hs is lt read =
-    let split = split_some (rule_by rule_name) is_arrow ts n d is lt in
-    rw (split, read) refl
+-- what is made of the two sides
+pub by_cut : {A : Type 0} (f : List Lexeme → List Lexeme → A) (p : Lexeme → Bool) (ts front back : List Lexeme) → IsCut p ts front back → f (before p ts) (from_first p ts) ≡ f front back
+by_cut f p ts front back h = rw (h.front, h.back) refl
 
 -- ---- too few tokens
 

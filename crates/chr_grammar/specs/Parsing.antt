@@ -1,6 +1,6 @@
 -- What tokens say, read from the left: posts, declarations and rules. Each step takes what it reads from the front and
 -- gives it with the tokens after it.
-use Rattle.std.specs.Prelude.{ℕ, zero, suc, ◌-◌, Bool, true, false, List, [], ◌∷◌, length, drop, ◌&&◌, if◌then◌else◌, Option, Some, None, Result, Ok, Err, codes}
+use Rattle.std.specs.Prelude.{◌≡◌, ℕ, zero, suc, ◌-◌, Bool, true, false, List, [], ◌∷◌, length, drop, ◌&&◌, if◌then◌else◌, Option, Some, None, Result, Ok, Err, codes}
 use Rattle.std.specs.Str.{bytes_eq}
 use Rattle.chr_value.specs.Spelling.{is_reserved}
 use Rattle.chr_lex.specs.declared.fault.Kind.{Kind}
@@ -13,6 +13,10 @@ use Rattle.chr_rule.specs.declared.expression.Operator.TheVariants.{Add, Sub, Mu
 use Rattle.chr_rule.specs.declared.expression.Relation.{Relation}
 use Rattle.chr_rule.specs.declared.expression.Relation.TheVariants.{Less, LessEqual, Greater, GreaterEqual, Equal, Unequal}
 use Rattle.chr_grammar.specs.declared.expression.TheConstants.{MOST_DEPTH}
+use Rattle.chr_grammar.specs.declared.expression.Level.{Level}
+use Rattle.chr_grammar.specs.declared.expression.Level.TheVariants as level
+use Rattle.chr_grammar.specs.declared.sign.Divider.{Divider}
+use Rattle.chr_grammar.specs.declared.sign.Divider.TheVariants as divider
 use Rattle.chr_grammar.specs.Parsed as parsed
 use Rattle.chr_grammar.specs.Parsed.{ParsedExpression, TermNode, ParsedTerm, is_name, ParsedAtom, GuardMember, BodyMember, ParsedRule, Declared, Statement}
 
@@ -85,19 +89,37 @@ either (Some x) without with = with x
 
 -- ---- lists by commas
 
--- a member, and what follows it: nothing, or a comma and the others
-abbrev pub behind : {A : Type 0} → A → List Lexeme → Result (List A) Kind → Result (List A) Kind
-behind x [] others = Ok (x ∷ [])
-behind x (s ∷ ts) others = if is_comma s then (others >>= λ xs. Ok (x ∷ xs)) else Err Syntax
+-- no comma stands in front
+abbrev pub NoComma : List Lexeme → Type 0
+NoComma [] = Unit {0}
+NoComma (s ∷ ts) = is_comma s ≡ false
+
+-- a member, and what follows it: a comma and the others, or something else
+abbrev pub behind : {A : Type 0} → A → List Lexeme → Front (List A) → Front (List A)
+behind x [] others = Ok (x ∷ [], [])
+behind x (s ∷ ts) others = if is_comma s then (others >>= λ y. Ok (x ∷ y.0, y.1)) else Ok (x ∷ [], s ∷ ts)
 
 -- no more members than so many
-abbrev pub members_at : {A : Type 0} → (List Lexeme → Front A) → ℕ → List Lexeme → Result (List A) Kind
+abbrev pub members_at : {A : Type 0} → (List Lexeme → Front A) → ℕ → List Lexeme → Front (List A)
 members_at member zero ts = Err Syntax
 members_at member (suc n) ts = member ts >>= λ x. behind x.0 x.1 (members_at member n (drop 1 x.1))
 
 -- Each member has a token of its own, so there are no more members than tokens.
+abbrev pub several_at : {A : Type 0} → (List Lexeme → Front A) → List Lexeme → Front (List A)
+several_at member ts = members_at member (length ts) ts
+
+-- with nothing behind them
+abbrev pub alone : {A : Type 0} → List A → List Lexeme → Result (List A) Kind
+alone xs [] = Ok xs
+alone xs (s ∷ ts) = Err Syntax
+
 abbrev pub each_by_commas : {A : Type 0} → (List Lexeme → Front A) → List Lexeme → Result (List A) Kind
-each_by_commas member ts = members_at member (length ts) ts
+each_by_commas member ts = several_at member ts >>= λ x. alone x.0 x.1
+
+-- with a closing parenthesis behind them
+abbrev pub enclosed : {A : Type 0} → A → List Lexeme → Front A
+enclosed x [] = Err Syntax
+enclosed x (s ∷ ts) = if is_close s then Ok (x, ts) else Err Syntax
 
 -- ---- terms
 
@@ -138,21 +160,9 @@ term_at ts = nodes_at (length ts) 0 ts
 
 -- ---- atoms
 
--- a term, and what follows it: a comma and the others, or a closing parenthesis
-abbrev pub behind_term : ParsedTerm → List Lexeme → Front (List ParsedTerm) → Front (List ParsedTerm)
-behind_term t [] others = Err Syntax
-behind_term t (s ∷ ts) others =
-    if is_comma s then (others >>= λ x. Ok (t ∷ x.0, x.1))
-    else (if is_close s then Ok (t ∷ [], ts) else Err Syntax)
-
--- no more terms than so many
-abbrev pub several_at : ℕ → List Lexeme → Front (List ParsedTerm)
-several_at zero ts = Err Syntax
-several_at (suc n) ts = term_at ts >>= λ x. behind_term x.0 x.1 (several_at n (drop 1 x.1))
-
 -- terms by commas, and a closing parenthesis
 abbrev pub terms_at : List Lexeme → Front (List ParsedTerm)
-terms_at ts = several_at (length ts) ts
+terms_at ts = several_at term_at ts >>= λ x. enclosed x.0 x.1
 
 -- what follows the name of an atom
 abbrev pub args_at : List ℕ → List Lexeme → Front ParsedAtom
@@ -183,17 +193,13 @@ product_operator (OfMark mark.Rem) = Some Rem
 product_operator (OfMark mark.Mod) = Some Mod
 product_operator _ = None
 
-abbrev pub closed : ParsedExpression → List Lexeme → Front ParsedExpression
-closed f [] = Err Syntax
-closed f (s ∷ ts) = if is_close s then Ok (parsed.Group f, ts) else Err Syntax
-
 -- a number, a variable, or what stands in parentheses
 abbrev pub factor_at : (List Lexeme → Front ParsedExpression) → List Lexeme → Front ParsedExpression
 factor_at inner [] = Err Syntax
 factor_at inner (OfWord (Name x) ∷ ts) = Err Syntax
 factor_at inner (OfWord (Variable x) ∷ ts) = Ok (parsed.Variable x, ts)
 factor_at inner (OfWord (Number negative digits) ∷ ts) = Ok (parsed.Number negative digits, ts)
-factor_at inner (OfMark m ∷ ts) = if is_open (OfMark m) then (inner ts >>= λ x. closed x.0 x.1) else Err Syntax
+factor_at inner (OfMark m ∷ ts) = if is_open (OfMark m) then (inner ts >>= λ x. enclosed (parsed.Group x.0) x.1) else Err Syntax
 
 -- To the left: what was read so far is the left side of the next operator. No more operators than so many.
 abbrev pub chain_at : (Lexeme → Option Operator) → (List Lexeme → Front ParsedExpression) → ℕ → ParsedExpression → List Lexeme → Front ParsedExpression
@@ -201,13 +207,26 @@ chain_at operator side n left [] = Ok (left, [])
 chain_at operator side zero left (s ∷ ts) = either (operator s) (Ok (left, s ∷ ts)) (λ o. Err Syntax)
 chain_at operator side (suc n) left (s ∷ ts) = either (operator s) (Ok (left, s ∷ ts)) (λ o. side ts >>= λ x. chain_at operator side n (parsed.Operation o left x.0) x.1)
 
+-- sides with operators of a level between them
+abbrev pub level_at : (Lexeme → Option Operator) → (List Lexeme → Front ParsedExpression) → List Lexeme → Front ParsedExpression
+level_at operator side ts = side ts >>= λ x. chain_at operator side (MOST_DEPTH - 1) x.0 x.1
+
 abbrev pub product_at : (List Lexeme → Front ParsedExpression) → List Lexeme → Front ParsedExpression
-product_at inner ts = factor_at inner ts >>= λ x. chain_at product_operator (factor_at inner) (MOST_DEPTH - 1) x.0 x.1
+product_at inner = level_at product_operator (factor_at inner)
 
 -- no more parentheses in one another than so many
 unfoldable pub sum_at : ℕ → List Lexeme → Front ParsedExpression
 sum_at zero ts = Err Syntax
-sum_at (suc n) ts = product_at (sum_at n) ts >>= λ x. chain_at sum_operator (product_at (sum_at n)) (MOST_DEPTH - 1) x.0 x.1
+sum_at (suc n) ts = level_at sum_operator (product_at (sum_at n)) ts
+
+-- the operators of a level, and what stands on their sides
+abbrev pub operator_of : Level → Lexeme → Option Operator
+operator_of level.Sums = sum_operator
+operator_of level.Products = product_operator
+
+abbrev pub side_at : Level → (List Lexeme → Front ParsedExpression) → List Lexeme → Front ParsedExpression
+side_at level.Sums = product_at
+side_at level.Products = factor_at
 
 -- A number or a variable has depth 1. An operation is one deeper than its deeper side, and parentheses add one.
 abbrev pub fits : ℕ → ParsedExpression → Bool
@@ -309,10 +328,30 @@ abbrev pub from_first : (Lexeme → Bool) → List Lexeme → List Lexeme
 from_first p [] = []
 from_first p (s ∷ ts) = if p s then s ∷ ts else from_first p ts
 
+-- cut before the first such token
+pub record IsCut (p : Lexeme → Bool) (ts us vs : List Lexeme) : Type 0 where
+  pub front : before p ts ≡ us
+  pub back : from_first p ts ≡ vs
+
+-- cut at the first such token, which is let go
+pub record IsParted (p : Lexeme → Bool) (ts us vs : List Lexeme) : Type 0 where
+  pub divider : Lexeme
+  pub cut : IsCut p ts us (divider ∷ vs)
+
+-- what stands between the parts of a rule
+abbrev pub divides : Divider → Lexeme → Bool
+divides divider.Arrow = is_arrow
+divides divider.Backslash = is_backslash
+divides divider.Bar = is_bar
+
+-- two lists with a sign between them, or the second one alone
+abbrev pub parts_by : {A B : Type 0} → (List Lexeme → Result (List A) Kind) → (List Lexeme → Result (List B) Kind) → List Lexeme → List Lexeme → Result (List A × List B) Kind
+parts_by first second front [] = second front >>= λ ys. Ok ([], ys)
+parts_by first second front (s ∷ ts) = first front >>= λ xs. second ts >>= λ ys. Ok (xs, ys)
+
 -- the heads: those that are kept, and those that are removed
 abbrev pub heads_by : List Lexeme → List Lexeme → Result (List ParsedAtom × List ParsedAtom) Kind
-heads_by heads [] = phrases_of heads >>= λ removed. Ok ([], removed)
-heads_by heads (s ∷ ts) = phrases_of heads >>= λ kept. phrases_of ts >>= λ removed. Ok (kept, removed)
+heads_by = parts_by phrases_of phrases_of
 
 abbrev pub heads_of : List Lexeme → Result (List ParsedAtom × List ParsedAtom) Kind
 heads_of ts = heads_by (before is_backslash ts) (from_first is_backslash ts)
@@ -325,8 +364,7 @@ heads_by_arrow s ts = if is_propagate s then all_kept ts else heads_of ts
 
 -- the guard and the body
 abbrev pub consequence_by : List Lexeme → List Lexeme → Result (List GuardMember × List BodyMember) Kind
-consequence_by front [] = body_of front >>= λ body. Ok ([], body)
-consequence_by front (s ∷ ts) = tests_of front >>= λ guard. body_of ts >>= λ body. Ok (guard, body)
+consequence_by = parts_by tests_of body_of
 
 abbrev pub consequence_of : List Lexeme → Result (List GuardMember × List BodyMember) Kind
 consequence_of ts = consequence_by (before is_bar ts) (from_first is_bar ts)

@@ -1,12 +1,12 @@
 //! Declarations as they are written.
 
-ghost use Rattle.std.specs.Prelude.{◌≡◌, ◌≤◌, ◌<◌, length, drop, map, IfOk};
+ghost use Rattle.std.specs.Prelude.{◌≡◌, map};
 ghost use Rattle.chr_lex.specs.Reading.{Gives};
 ghost use Rattle.chr_lex.specs.Tokens.{lexeme};
 ghost use Rattle.chr_grammar.specs.Views.{declared};
-ghost use Rattle.chr_grammar.specs.Parsing.{named, is_named, is_opened, are_closed, is_module, is_library, declared_of, declared_at, declarations_of};
+ghost use Rattle.chr_grammar.specs.Parsing.{named, is_named, is_opened, are_closed, is_module, is_library, declared_of, declared_at};
 
-use crate::list::{Member, parse_list};
+use crate::list::Member;
 use crate::sign::{is_close, is_open, is_slash, named};
 use chr_lex::fault::{ItemError, Kind};
 use chr_lex::{Token, Word};
@@ -19,7 +19,7 @@ pub struct Declared<'a> {
     pub digits: &'a [u8],
 }
 
-impl<'a> Member for Declared<'a> {
+impl<'a, A: Allocator + Copy> Member<A, &'a [Token<'a>]> for Declared<'a> {
     ghost use Rattle.chr_grammar.specs.Parsed as parsed;
 
     ghost Said = { parsed.Declared };
@@ -27,6 +27,16 @@ impl<'a> Member for Declared<'a> {
     ghost said = { declared };
 
     ghost front = { declared_at };
+
+    fn read(_alloc: A, tokens: &'a [Token<'a>]) -> Result<(Self, &'a [Token<'a>]), ItemError> {
+        match tokens {
+            [name, slash, number, after @ ..] => {
+                let declared = declared_of(*name, *slash, *number)?;
+                Ok((declared, after))
+            }
+            _ => Err(ItemError::Fault(Kind::Syntax)),
+        }
+    }
 }
 
 fn is_named(token: Token, word: &[u8]) -> bool
@@ -96,42 +106,4 @@ fn declared_of<'a>(
         ) => Ok(Declared { name, digits }),
         _ => Err(ItemError::Fault(Kind::Syntax)),
     }
-}
-
-/// What is declared at the front, and the tokens after it.
-fn parse_declared<'a>(tokens: &'a [Token<'a>]) -> Result<(Declared<'a>, &'a [Token<'a>]), ItemError>
-    ensures same { Gives (λ x. (declared x.0, map lexeme x.1.now)) result (declared_at (map lexeme tokens.now)) }
-    ensures shorter { IfOk result (λ x. length x.1.now < length tokens.now) }
-{
-    match tokens {
-        [name, slash, number, after @ ..] => {
-            let declared = declared_of(*name, *slash, *number)?;
-            Ok((declared, after))
-        }
-        _ => Err(ItemError::Fault(Kind::Syntax)),
-    }
-}
-
-/// What is declared at a place, and the place after it.
-fn declared_from<'a>(
-    tokens: &'a [Token<'a>],
-    from: usize,
-) -> Result<(Declared<'a>, usize), ItemError>
-    requires { from ≤ length tokens.now }
-    ensures same { Gives (λ x. (declared x.0, drop x.1 (map lexeme tokens.now))) result (declared_at (drop from (map lexeme tokens.now))) }
-    ensures next { IfOk result (λ x. (from < x.1) × (x.1 ≤ length tokens.now)) }
-{
-    let (declared, after) = parse_declared(&tokens[from..])?;
-    Ok((declared, tokens.len() - after.len()))
-}
-
-/// Names with a slash and a number without a sign by commas, at least one. Tokens that are something else are a fault of
-/// syntax (E04).
-pub(crate) fn parse_declarations<'a, A: Allocator + Copy>(
-    alloc: A,
-    tokens: &'a [Token<'a>],
-) -> Result<Vec<Declared<'a>, A>, ItemError>
-    ensures { Gives (λ v. map declared v.items) result (declarations_of (map lexeme tokens.now)) }
-{
-    parse_list(alloc, tokens, |from| declared_from(tokens, from))
 }

@@ -1,11 +1,11 @@
 //! Expressions as they are written.
 
-ghost use Rattle.std.specs.Prelude.{◌≡◌, ◌≤◌, ◌<◌, length, map, IfOk, IfErr};
+ghost use Rattle.std.specs.Prelude.{◌≡◌, map, IfOk, IfErr};
 ghost use Rattle.chr_lex.specs.Reading.{Gives};
 ghost use Rattle.chr_lex.specs.Tokens.{lexeme};
-ghost use Rattle.chr_grammar.specs.Parsed.{Operation};
+ghost use Rattle.chr_grammar.specs.Parsed.{Group, Operation};
 ghost use Rattle.chr_grammar.specs.Views.{formula};
-ghost use Rattle.chr_grammar.specs.Parsing.{sum_operator, product_operator, closed, fits, factor_at, chain_at, product_at, sum_at, expression_at};
+ghost use Rattle.chr_grammar.specs.Parsing.{sum_operator, product_operator, operator_of, enclosed, fits, factor_at, chain_at, side_at, level_at, sum_at, expression_at};
 
 use crate::sign::{is_close, is_open};
 use chr_lex::fault::{ItemError, Kind};
@@ -24,6 +24,13 @@ pub enum ParsedExpression<'a, A: Allocator> {
     Variable(&'a [u8]),
     Group(Box<ParsedExpression<'a, A>, A>),
     Operation(Operator, Box<ParsedExpression<'a, A>, A>, Box<ParsedExpression<'a, A>, A>),
+}
+
+/// Operators that bind equally tight.
+#[derive(Clone, Copy)]
+enum Level {
+    Sums,
+    Products,
 }
 
 /// `+` or `-`
@@ -47,6 +54,16 @@ fn product_operator(token: Token) -> Option<Operator>
         Token::Mark(Mark::Rem) => Some(Operator::Rem),
         Token::Mark(Mark::Mod) => Some(Operator::Mod),
         _ => None,
+    }
+}
+
+/// The operator of the level.
+fn operator(level: Level, token: Token) -> Option<Operator>
+    ensures { result ≡ operator_of level (lexeme token.entry) }
+{
+    match level {
+        Level::Sums => sum_operator(token),
+        Level::Products => product_operator(token),
     }
 }
 
@@ -84,8 +101,7 @@ fn closed<'a, A: Allocator + Copy>(
     inner: ParsedExpression<'a, A>,
     tokens: &'a [Token<'a>],
 ) -> Result<(ParsedExpression<'a, A>, &'a [Token<'a>]), ItemError>
-    ensures same { Gives (λ x. (formula x.0, map lexeme x.1.now)) result (closed (formula inner.entry) (map lexeme tokens.now)) }
-    ensures shorter { IfOk result (λ x. length x.1.now < length tokens.now) }
+    ensures { Gives (λ x. (formula x.0, map lexeme x.1.now)) result (enclosed (Group (formula inner.entry)) (map lexeme tokens.now)) }
 {
     match tokens {
         [first, after @ ..] if is_close(*first) => {
@@ -103,27 +119,42 @@ fn sum<'a, A: Allocator + Copy>(
     room: u32,
     tokens: &'a [Token<'a>],
 ) -> Result<(ParsedExpression<'a, A>, &'a [Token<'a>]), ItemError>
-    ensures same { Gives (λ x. (formula x.0, map lexeme x.1.now)) result (sum_at room (map lexeme tokens.now)) }
-    ensures shorter { IfOk result (λ x. length x.1.now < length tokens.now) }
+    ensures { Gives (λ x. (formula x.0, map lexeme x.1.now)) result (sum_at room (map lexeme tokens.now)) }
 {
     if room == 0 {
         return Err(ItemError::Fault(Kind::Syntax));
     }
-    let (left, after) = product(alloc, room - 1, tokens)?;
-    more_sums(alloc, room - 1, MOST_DEPTH - 1, left, after)
+    sides(alloc, Level::Sums, room - 1, tokens)
 }
 
+/// Sides with operators of the level between them.
 #[cycle(expression)]
-fn product<'a, A: Allocator + Copy>(
+fn sides<'a, A: Allocator + Copy>(
     alloc: A,
+    level: Level,
     room: u32,
     tokens: &'a [Token<'a>],
 ) -> Result<(ParsedExpression<'a, A>, &'a [Token<'a>]), ItemError>
-    ensures same { Gives (λ x. (formula x.0, map lexeme x.1.now)) result (product_at (sum_at room) (map lexeme tokens.now)) }
-    ensures shorter { IfOk result (λ x. length x.1.now < length tokens.now) }
+    ensures { Gives (λ x. (formula x.0, map lexeme x.1.now)) result (level_at (operator_of level) (side_at level (sum_at room)) (map lexeme tokens.now)) }
 {
-    let (left, after) = factor(alloc, room, tokens)?;
-    more_products(alloc, room, MOST_DEPTH - 1, left, after)
+    let (left, after) = side(alloc, level, room, tokens)?;
+    more_sides(alloc, level, room, MOST_DEPTH - 1, left, after)
+}
+
+/// What stands on a side of an operator of the level.
+#[cycle(expression)]
+fn side<'a, A: Allocator + Copy>(
+    alloc: A,
+    level: Level,
+    room: u32,
+    tokens: &'a [Token<'a>],
+) -> Result<(ParsedExpression<'a, A>, &'a [Token<'a>]), ItemError>
+    ensures { Gives (λ x. (formula x.0, map lexeme x.1.now)) result (side_at level (sum_at room) (map lexeme tokens.now)) }
+{
+    match level {
+        Level::Sums => sides(alloc, Level::Products, room, tokens),
+        Level::Products => factor(alloc, room, tokens),
+    }
 }
 
 #[cycle(expression)]
@@ -132,8 +163,7 @@ fn factor<'a, A: Allocator + Copy>(
     room: u32,
     tokens: &'a [Token<'a>],
 ) -> Result<(ParsedExpression<'a, A>, &'a [Token<'a>]), ItemError>
-    ensures same { Gives (λ x. (formula x.0, map lexeme x.1.now)) result (factor_at (sum_at room) (map lexeme tokens.now)) }
-    ensures shorter { IfOk result (λ x. length x.1.now < length tokens.now) }
+    ensures { Gives (λ x. (formula x.0, map lexeme x.1.now)) result (factor_at (sum_at room) (map lexeme tokens.now)) }
 {
     match tokens {
         [first, after @ ..] => match *first {
@@ -156,53 +186,26 @@ fn factor<'a, A: Allocator + Copy>(
 
 /// To the left: what was read so far is the left side of the next operator.
 #[cycle(expression)]
-fn more_sums<'a, A: Allocator + Copy>(
+fn more_sides<'a, A: Allocator + Copy>(
     alloc: A,
+    level: Level,
     room: u32,
     count: u32,
     left: ParsedExpression<'a, A>,
     tokens: &'a [Token<'a>],
 ) -> Result<(ParsedExpression<'a, A>, &'a [Token<'a>]), ItemError>
-    ensures same { Gives (λ x. (formula x.0, map lexeme x.1.now)) result (chain_at sum_operator (product_at (sum_at room)) count (formula left.entry) (map lexeme tokens.now)) }
-    ensures shorter { IfOk result (λ x. length x.1.now ≤ length tokens.now) }
+    ensures { Gives (λ x. (formula x.0, map lexeme x.1.now)) result (chain_at (operator_of level) (side_at level (sum_at room)) count (formula left.entry) (map lexeme tokens.now)) }
 {
     match tokens {
-        [first, after @ ..] => match sum_operator(*first) {
+        [first, after @ ..] => match operator(level, *first) {
             None => Ok((left, tokens)),
             Some(operator) => {
                 if count == 0 {
                     return Err(ItemError::Fault(Kind::Syntax));
                 }
-                let (right, rest) = product(alloc, room, after)?;
+                let (right, rest) = side(alloc, level, room, after)?;
                 let both = joined(alloc, operator, left, right)?;
-                more_sums(alloc, room, count - 1, both, rest)
-            }
-        },
-        [] => Ok((left, tokens)),
-    }
-}
-
-#[cycle(expression)]
-fn more_products<'a, A: Allocator + Copy>(
-    alloc: A,
-    room: u32,
-    count: u32,
-    left: ParsedExpression<'a, A>,
-    tokens: &'a [Token<'a>],
-) -> Result<(ParsedExpression<'a, A>, &'a [Token<'a>]), ItemError>
-    ensures same { Gives (λ x. (formula x.0, map lexeme x.1.now)) result (chain_at product_operator (factor_at (sum_at room)) count (formula left.entry) (map lexeme tokens.now)) }
-    ensures shorter { IfOk result (λ x. length x.1.now ≤ length tokens.now) }
-{
-    match tokens {
-        [first, after @ ..] => match product_operator(*first) {
-            None => Ok((left, tokens)),
-            Some(operator) => {
-                if count == 0 {
-                    return Err(ItemError::Fault(Kind::Syntax));
-                }
-                let (right, rest) = factor(alloc, room, after)?;
-                let both = joined(alloc, operator, left, right)?;
-                more_products(alloc, room, count - 1, both, rest)
+                more_sides(alloc, level, room, count - 1, both, rest)
             }
         },
         [] => Ok((left, tokens)),
@@ -217,8 +220,7 @@ pub(crate) fn parse_expression<'a, A: Allocator + Copy>(
     alloc: A,
     tokens: &'a [Token<'a>],
 ) -> Result<(ParsedExpression<'a, A>, &'a [Token<'a>]), ItemError>
-    ensures same { Gives (λ x. (formula x.0, map lexeme x.1.now)) result (expression_at (map lexeme tokens.now)) }
-    ensures shorter { IfOk result (λ x. length x.1.now < length tokens.now) }
+    ensures { Gives (λ x. (formula x.0, map lexeme x.1.now)) result (expression_at (map lexeme tokens.now)) }
 {
     let (tree, after) = sum(alloc, MOST_DEPTH, tokens)?;
     if !fits(&tree, MOST_DEPTH) {

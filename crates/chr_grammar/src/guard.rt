@@ -1,13 +1,13 @@
 //! The members of a guard as they are written.
 
-ghost use Rattle.std.specs.Prelude.{◌≡◌, ◌≤◌, ◌<◌, length, drop, map, IfOk};
+ghost use Rattle.std.specs.Prelude.{◌≡◌, map};
 ghost use Rattle.chr_lex.specs.Reading.{Gives};
 ghost use Rattle.chr_lex.specs.Tokens.{lexeme};
-ghost use Rattle.chr_grammar.specs.Views.{term, test};
-ghost use Rattle.chr_grammar.specs.Parsing.{relation, equality, equal, other_side_at, plain_test_at, compared_at, test_at, tests_of};
+ghost use Rattle.chr_grammar.specs.Views.{formula, term, test};
+ghost use Rattle.chr_grammar.specs.Parsing.{relation, relation_at, equality, equal, other_side_at, plain_test_at, compared_at, test_at};
 
 use crate::expression::{ParsedExpression, parse_expression};
-use crate::list::{Member, parse_list};
+use crate::list::Member;
 use crate::sign::is_true;
 use crate::term::{ParsedTerm, parse_term};
 use chr_lex::fault::{ItemError, Kind};
@@ -26,7 +26,7 @@ pub enum GuardMember<'a, A: Allocator> {
     Differ(ParsedTerm<'a, A>, ParsedTerm<'a, A>),
 }
 
-impl<'a, A: Allocator> Member for GuardMember<'a, A> {
+impl<'a, A: Allocator + Copy> Member<A, &'a [Token<'a>]> for GuardMember<'a, A> {
     ghost use Rattle.chr_grammar.specs.Parsed as parsed;
 
     ghost Said = { parsed.GuardMember };
@@ -34,6 +34,21 @@ impl<'a, A: Allocator> Member for GuardMember<'a, A> {
     ghost said = { test };
 
     ghost front = { test_at };
+
+    fn read(alloc: A, tokens: &'a [Token<'a>]) -> Result<(Self, &'a [Token<'a>]), ItemError> {
+        let (left, after) = match parse_term(alloc, tokens) {
+            Ok(side) => side,
+            Err(ItemError::Memory) => return Err(ItemError::Memory),
+            Err(ItemError::Fault(_)) => return plain_test(alloc, tokens),
+        };
+        match after {
+            [sign, behind @ ..] => match equality(*sign) {
+                None => plain_test(alloc, tokens),
+                Some(same) => other_side(alloc, same, left, behind),
+            },
+            [] => plain_test(alloc, tokens),
+        }
+    }
 }
 
 /// A comparison of numbers.
@@ -76,16 +91,15 @@ fn equal<'a, A: Allocator>(
     }
 }
 
-/// Two expressions and what stands between them.
-fn compared<'a, A: Allocator + Copy>(
+/// A comparison of numbers, and what is compared with the expression left of it.
+fn related<'a, A: Allocator + Copy>(
     alloc: A,
+    left: ParsedExpression<'a, A>,
     tokens: &'a [Token<'a>],
 ) -> Result<(GuardMember<'a, A>, &'a [Token<'a>]), ItemError>
-    ensures same { Gives (λ x. (test x.0, map lexeme x.1.now)) result (compared_at (map lexeme tokens.now)) }
-    ensures shorter { IfOk result (λ x. length x.1.now < length tokens.now) }
+    ensures { Gives (λ x. (test x.0, map lexeme x.1.now)) result (relation_at (formula left.entry) (map lexeme tokens.now)) }
 {
-    let (left, after) = parse_expression(alloc, tokens)?;
-    match after {
+    match tokens {
         [first, behind @ ..] => match relation(*first) {
             None => Err(ItemError::Fault(Kind::Syntax)),
             Some(relation) => {
@@ -97,6 +111,17 @@ fn compared<'a, A: Allocator + Copy>(
     }
 }
 
+/// Two expressions and what stands between them.
+fn compared<'a, A: Allocator + Copy>(
+    alloc: A,
+    tokens: &'a [Token<'a>],
+) -> Result<(GuardMember<'a, A>, &'a [Token<'a>]), ItemError>
+    ensures { Gives (λ x. (test x.0, map lexeme x.1.now)) result (compared_at (map lexeme tokens.now)) }
+{
+    let (left, after) = parse_expression(alloc, tokens)?;
+    related(alloc, left, after)
+}
+
 /// What is compared with a term by `==` or `\==`.
 fn other_side<'a, A: Allocator + Copy>(
     alloc: A,
@@ -104,8 +129,7 @@ fn other_side<'a, A: Allocator + Copy>(
     left: ParsedTerm<'a, A>,
     tokens: &'a [Token<'a>],
 ) -> Result<(GuardMember<'a, A>, &'a [Token<'a>]), ItemError>
-    ensures same { Gives (λ x. (test x.0, map lexeme x.1.now)) result (other_side_at same (term left.entry) (map lexeme tokens.now)) }
-    ensures shorter { IfOk result (λ x. length x.1.now < length tokens.now) }
+    ensures { Gives (λ x. (test x.0, map lexeme x.1.now)) result (other_side_at same (term left.entry) (map lexeme tokens.now)) }
 {
     let (right, rest) = parse_term(alloc, tokens)?;
     Ok((equal(same, left, right), rest))
@@ -116,57 +140,10 @@ fn plain_test<'a, A: Allocator + Copy>(
     alloc: A,
     tokens: &'a [Token<'a>],
 ) -> Result<(GuardMember<'a, A>, &'a [Token<'a>]), ItemError>
-    ensures same { Gives (λ x. (test x.0, map lexeme x.1.now)) result (plain_test_at (map lexeme tokens.now)) }
-    ensures shorter { IfOk result (λ x. length x.1.now < length tokens.now) }
+    ensures { Gives (λ x. (test x.0, map lexeme x.1.now)) result (plain_test_at (map lexeme tokens.now)) }
 {
     match tokens {
         [first, rest @ ..] if is_true(*first) => Ok((GuardMember::True, rest)),
         _ => compared(alloc, tokens),
     }
-}
-
-/// The member of a guard at the front, and the tokens after it. No member at the front is a fault of syntax (E04).
-pub(crate) fn parse_test<'a, A: Allocator + Copy>(
-    alloc: A,
-    tokens: &'a [Token<'a>],
-) -> Result<(GuardMember<'a, A>, &'a [Token<'a>]), ItemError>
-    ensures same { Gives (λ x. (test x.0, map lexeme x.1.now)) result (test_at (map lexeme tokens.now)) }
-    ensures shorter { IfOk result (λ x. length x.1.now < length tokens.now) }
-{
-    let (left, after) = match parse_term(alloc, tokens) {
-        Ok(side) => side,
-        Err(ItemError::Memory) => return Err(ItemError::Memory),
-        Err(ItemError::Fault(_)) => return plain_test(alloc, tokens),
-    };
-    match after {
-        [sign, behind @ ..] => match equality(*sign) {
-            None => plain_test(alloc, tokens),
-            Some(same) => other_side(alloc, same, left, behind),
-        },
-        [] => plain_test(alloc, tokens),
-    }
-}
-
-/// The member at a place, and the place after it.
-fn test_from<'a, A: Allocator + Copy>(
-    alloc: A,
-    tokens: &'a [Token<'a>],
-    from: usize,
-) -> Result<(GuardMember<'a, A>, usize), ItemError>
-    requires { from ≤ length tokens.now }
-    ensures same { Gives (λ x. (test x.0, drop x.1 (map lexeme tokens.now))) result (test_at (drop from (map lexeme tokens.now))) }
-    ensures next { IfOk result (λ x. (from < x.1) × (x.1 ≤ length tokens.now)) }
-{
-    let (test, after) = parse_test(alloc, &tokens[from..])?;
-    Ok((test, tokens.len() - after.len()))
-}
-
-/// The members of a guard by commas, at least one. Tokens that are something else are a fault of syntax (E04).
-pub(crate) fn parse_tests<'a, A: Allocator + Copy>(
-    alloc: A,
-    tokens: &'a [Token<'a>],
-) -> Result<Vec<GuardMember<'a, A>, A>, ItemError>
-    ensures { Gives (λ v. map test v.items) result (tests_of (map lexeme tokens.now)) }
-{
-    parse_list(alloc, tokens, |from| test_from(alloc, tokens, from))
 }

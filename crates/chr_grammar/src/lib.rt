@@ -20,6 +20,7 @@ mod expression;
 mod guard;
 pub mod laws;
 mod list;
+mod parts;
 mod phrase;
 mod rule;
 mod sign;

@@ -1,15 +1,15 @@
 //! Atoms as they are written, and lists of them.
 
-ghost use Rattle.std.specs.Prelude.{◌≡◌, ◌≤◌, ◌<◌, length, drop, map, IfOk};
+ghost use Rattle.std.specs.Prelude.{◌≡◌, map};
 ghost use Rattle.chr_value.specs.Spelling.{is_reserved};
 ghost use Rattle.chr_lex.specs.Reading.{Gives};
 ghost use Rattle.chr_lex.specs.Tokens.{lexeme};
 ghost use Rattle.chr_grammar.specs.Views.{term, phrase};
 ghost use Rattle.chr_grammar.specs.Parsing.{terms_at, args_at, phrase_at, phrases_of};
 
-use crate::list::{Member, parse_list};
-use crate::sign::{is_close, is_comma, is_open};
-use crate::term::{ParsedTerm, term_from};
+use crate::list::{Member, parse_list, parse_several};
+use crate::sign::{is_close, is_open};
+use crate::term::ParsedTerm;
 use chr_lex::fault::{ItemError, Kind};
 use chr_lex::{Token, Word};
 use std::alloc::Allocator;
@@ -21,7 +21,7 @@ pub struct ParsedAtom<'a, A: Allocator> {
     pub args: Vec<ParsedTerm<'a, A>, A>,
 }
 
-impl<'a, A: Allocator> Member for ParsedAtom<'a, A> {
+impl<'a, A: Allocator + Copy> Member<A, &'a [Token<'a>]> for ParsedAtom<'a, A> {
     ghost use Rattle.chr_grammar.specs.Parsed as parsed;
 
     ghost Said = { parsed.ParsedAtom };
@@ -29,6 +29,10 @@ impl<'a, A: Allocator> Member for ParsedAtom<'a, A> {
     ghost said = { phrase };
 
     ghost front = { phrase_at };
+
+    fn read(alloc: A, tokens: &'a [Token<'a>]) -> Result<(Self, &'a [Token<'a>]), ItemError> {
+        parse_phrase(alloc, tokens)
+    }
 }
 
 /// These words are no atoms.
@@ -43,26 +47,13 @@ fn terms<'a, A: Allocator + Copy>(
     alloc: A,
     tokens: &'a [Token<'a>],
 ) -> Result<(Vec<ParsedTerm<'a, A>, A>, &'a [Token<'a>]), ItemError>
-    ensures same { Gives (λ x. (map term x.0.items, map lexeme x.1.now)) result (terms_at (map lexeme tokens.now)) }
-    ensures shorter { IfOk result (λ x. length x.1.now < length tokens.now) }
+    ensures { Gives (λ x. (map term x.0.items, map lexeme x.1.now)) result (terms_at (map lexeme tokens.now)) }
 {
-    let mut terms = Vec::new(alloc);
-    let mut from = 0;
-    for _ in 0..tokens.len() {
-        let (term, next) = term_from(alloc, tokens, from)?;
-        terms.push(term)?;
-        if next == tokens.len() {
-            return Err(ItemError::Fault(Kind::Syntax));
-        }
-        from = next + 1;
-        if is_close(tokens[next]) {
-            return Ok((terms, &tokens[from..]));
-        }
-        if !is_comma(tokens[next]) {
-            return Err(ItemError::Fault(Kind::Syntax));
-        }
+    let (terms, after) = parse_several(alloc, tokens)?;
+    match after {
+        [first, behind @ ..] if is_close(*first) => Ok((terms, behind)),
+        _ => Err(ItemError::Fault(Kind::Syntax)),
     }
-    Err(ItemError::Fault(Kind::Syntax))
 }
 
 /// The atom at the front, and the tokens after it. `true`, `fail` and `false` without arguments are no atoms. No atom at
@@ -71,8 +62,7 @@ pub(crate) fn parse_phrase<'a, A: Allocator + Copy>(
     alloc: A,
     tokens: &'a [Token<'a>],
 ) -> Result<(ParsedAtom<'a, A>, &'a [Token<'a>]), ItemError>
-    ensures same { Gives (λ x. (phrase x.0, map lexeme x.1.now)) result (phrase_at (map lexeme tokens.now)) }
-    ensures shorter { IfOk result (λ x. length x.1.now < length tokens.now) }
+    ensures { Gives (λ x. (phrase x.0, map lexeme x.1.now)) result (phrase_at (map lexeme tokens.now)) }
 {
     match tokens {
         [first, after @ ..] => match *first {
@@ -89,8 +79,7 @@ fn args<'a, A: Allocator + Copy>(
     name: &'a [u8],
     tokens: &'a [Token<'a>],
 ) -> Result<(ParsedAtom<'a, A>, &'a [Token<'a>]), ItemError>
-    ensures same { Gives (λ x. (phrase x.0, map lexeme x.1.now)) result (args_at name.now (map lexeme tokens.now)) }
-    ensures shorter { IfOk result (λ x. length x.1.now ≤ length tokens.now) }
+    ensures { Gives (λ x. (phrase x.0, map lexeme x.1.now)) result (args_at name.now (map lexeme tokens.now)) }
 {
     match tokens {
         [first, inside @ ..] if is_open(*first) => {
@@ -105,20 +94,6 @@ fn args<'a, A: Allocator + Copy>(
     }
 }
 
-/// The atom at a place, and the place after it.
-fn phrase_from<'a, A: Allocator + Copy>(
-    alloc: A,
-    tokens: &'a [Token<'a>],
-    from: usize,
-) -> Result<(ParsedAtom<'a, A>, usize), ItemError>
-    requires { from ≤ length tokens.now }
-    ensures same { Gives (λ x. (phrase x.0, drop x.1 (map lexeme tokens.now))) result (phrase_at (drop from (map lexeme tokens.now))) }
-    ensures next { IfOk result (λ x. (from < x.1) × (x.1 ≤ length tokens.now)) }
-{
-    let (phrase, after) = parse_phrase(alloc, &tokens[from..])?;
-    Ok((phrase, tokens.len() - after.len()))
-}
-
 /// Atoms by commas, at least one: a post, or the heads of a rule. Tokens that are something else are a fault of syntax
 /// (E04).
 pub fn parse_phrases<'a, A: Allocator + Copy>(
@@ -127,5 +102,5 @@ pub fn parse_phrases<'a, A: Allocator + Copy>(
 ) -> Result<Vec<ParsedAtom<'a, A>, A>, ItemError>
     ensures { Gives (λ v. map phrase v.items) result (phrases_of (map lexeme tokens.now)) }
 {
-    parse_list(alloc, tokens, |from| phrase_from(alloc, tokens, from))
+    parse_list(alloc, tokens)
 }

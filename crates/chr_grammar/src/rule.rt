@@ -1,16 +1,17 @@
 //! Rules as they are written.
 
-ghost use Rattle.std.specs.Prelude.{◌≡◌, ◌≤◌, length, map, option_map, not};
-ghost use Rattle.std.specs.List.{take_while};
+ghost use Rattle.std.specs.Prelude.{map, option_map};
 ghost use Rattle.chr_lex.specs.Reading.{Gives};
 ghost use Rattle.chr_lex.specs.Tokens.{lexeme};
 ghost use Rattle.chr_grammar.specs.Views.{phrase, test, member, raw_rule};
-ghost use Rattle.chr_grammar.specs.Parsing.{is_arrow, is_backslash, is_bar, heads_of, all_kept, heads_by_arrow, consequence_of, named_rule_of, rule_of};
+ghost use Rattle.chr_grammar.specs.Parsing.{heads_of, all_kept, heads_by_arrow, consequence_of, named_rule_of, rule_of};
 
-use crate::body::{BodyMember, parse_members};
-use crate::guard::{GuardMember, parse_tests};
+use crate::body::BodyMember;
+use crate::guard::GuardMember;
+use crate::list::parse_parts;
+use crate::parts::cut;
 use crate::phrase::{ParsedAtom, parse_phrases};
-use crate::sign::{is_arrow, is_at, is_backslash, is_bar, is_propagate, named};
+use crate::sign::{Divider, is_at, is_propagate, named};
 use chr_lex::Token;
 use chr_lex::fault::{ItemError, Kind};
 use std::alloc::Allocator;
@@ -38,33 +39,6 @@ pub struct ParsedRule<'a, A: Allocator> {
     pub consequence: Consequence<'a, A>,
 }
 
-/// How many tokens there are before the first arrow.
-fn before_arrow(tokens: &[Token]) -> usize
-    ensures same { result ≡ length (take_while (λ t. not (is_arrow (lexeme t))) tokens.now) }
-    ensures within { result ≤ length tokens.now }
-{
-    tokens.iter().take_while(|token| !is_arrow(**token)).count()
-}
-
-/// How many tokens there are before the first `\`.
-fn before_backslash(tokens: &[Token]) -> usize
-    ensures same { result ≡ length (take_while (λ t. not (is_backslash (lexeme t))) tokens.now) }
-    ensures within { result ≤ length tokens.now }
-{
-    tokens
-        .iter()
-        .take_while(|token| !is_backslash(**token))
-        .count()
-}
-
-/// How many tokens there are before the first `|`.
-fn before_bar(tokens: &[Token]) -> usize
-    ensures same { result ≡ length (take_while (λ t. not (is_bar (lexeme t))) tokens.now) }
-    ensures within { result ≤ length tokens.now }
-{
-    tokens.iter().take_while(|token| !is_bar(**token)).count()
-}
-
 /// The heads of a rule with `<=>`.
 fn parse_heads<'a, A: Allocator + Copy>(
     alloc: A,
@@ -72,17 +46,8 @@ fn parse_heads<'a, A: Allocator + Copy>(
 ) -> Result<Heads<'a, A>, ItemError>
     ensures { Gives (λ h. (map phrase h.kept.items, map phrase h.removed.items)) result (heads_of (map lexeme tokens.now)) }
 {
-    let at = before_backslash(tokens);
-    if at == tokens.len() {
-        return Ok(Heads {
-            kept: Vec::new(alloc),
-            removed: parse_phrases(alloc, tokens)?,
-        });
-    }
-    Ok(Heads {
-        kept: parse_phrases(alloc, &tokens[..at])?,
-        removed: parse_phrases(alloc, &tokens[at + 1..])?,
-    })
+    let (kept, removed) = parse_parts(alloc, Divider::Backslash, tokens)?;
+    Ok(Heads { kept, removed })
 }
 
 /// The heads of a rule with `==>`.
@@ -120,17 +85,8 @@ fn parse_consequence<'a, A: Allocator + Copy>(
 ) -> Result<Consequence<'a, A>, ItemError>
     ensures { Gives (λ c. (map test c.guard.items, map member c.body.items)) result (consequence_of (map lexeme tokens.now)) }
 {
-    let at = before_bar(tokens);
-    if at == tokens.len() {
-        return Ok(Consequence {
-            guard: Vec::new(alloc),
-            body: parse_members(alloc, tokens)?,
-        });
-    }
-    Ok(Consequence {
-        guard: parse_tests(alloc, &tokens[..at])?,
-        body: parse_members(alloc, &tokens[at + 1..])?,
-    })
+    let (guard, body) = parse_parts(alloc, Divider::Bar, tokens)?;
+    Ok(Consequence { guard, body })
 }
 
 /// The rule of this name, by what follows the name.
@@ -141,12 +97,11 @@ fn named_rule<'a, A: Allocator + Copy>(
 ) -> Result<ParsedRule<'a, A>, ItemError>
     ensures { Gives raw_rule result (named_rule_of (option_map (λ name. name.now) rule_name.entry) (map lexeme tokens.now)) }
 {
-    let at = before_arrow(tokens);
-    if at == tokens.len() {
+    let Some((front, arrow, behind)) = cut(Divider::Arrow, tokens) else {
         return Err(ItemError::Fault(Kind::Syntax));
-    }
-    let heads = heads_by_arrow(alloc, tokens[at], &tokens[..at])?;
-    let consequence = parse_consequence(alloc, &tokens[at + 1..])?;
+    };
+    let heads = heads_by_arrow(alloc, arrow, front)?;
+    let consequence = parse_consequence(alloc, behind)?;
     Ok(ParsedRule {
         rule_name,
         heads,

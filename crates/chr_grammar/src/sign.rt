@@ -2,9 +2,31 @@
 
 ghost use Rattle.std.specs.Prelude.{◌≡◌, option_map};
 ghost use Rattle.chr_lex.specs.Tokens.{lexeme};
-ghost use Rattle.chr_grammar.specs.Parsing.{is_open, is_close, is_comma, is_slash, is_declares, is_at, is_backslash, is_bar, is_is, is_propagate, is_arrow, named, is_true};
+ghost use Rattle.chr_grammar.specs.Parsing.{is_open, is_close, is_comma, is_slash, is_declares, is_at, is_is, is_propagate, divides, named, is_true};
 
 use chr_lex::{Mark, Token, Word};
+
+/// What stands between the parts of a rule.
+#[derive(Clone, Copy)]
+pub enum Divider {
+    /// `<=>` or `==>`
+    Arrow,
+    /// `\`
+    Backslash,
+    /// `|`
+    Bar,
+}
+
+/// Whether the token is this divider.
+pub fn divides(divider: Divider, token: Token) -> bool
+    ensures { result ≡ divides divider (lexeme token.entry) }
+{
+    match divider {
+        Divider::Arrow => matches!(token, Token::Mark(Mark::Simplify | Mark::Propagate)),
+        Divider::Backslash => matches!(token, Token::Mark(Mark::Backslash)),
+        Divider::Bar => matches!(token, Token::Mark(Mark::Bar)),
+    }
+}
 
 pub fn is_open(token: Token) -> bool
     ensures { result ≡ is_open (lexeme token.entry) }
@@ -42,18 +64,6 @@ pub fn is_at(token: Token) -> bool
     matches!(token, Token::Mark(Mark::At))
 }
 
-pub fn is_backslash(token: Token) -> bool
-    ensures { result ≡ is_backslash (lexeme token.entry) }
-{
-    matches!(token, Token::Mark(Mark::Backslash))
-}
-
-pub fn is_bar(token: Token) -> bool
-    ensures { result ≡ is_bar (lexeme token.entry) }
-{
-    matches!(token, Token::Mark(Mark::Bar))
-}
-
 pub fn is_is(token: Token) -> bool
     ensures { result ≡ is_is (lexeme token.entry) }
 {
@@ -64,13 +74,6 @@ pub fn is_propagate(token: Token) -> bool
     ensures { result ≡ is_propagate (lexeme token.entry) }
 {
     matches!(token, Token::Mark(Mark::Propagate))
-}
-
-/// `<=>` or `==>`
-pub fn is_arrow(token: Token) -> bool
-    ensures { result ≡ is_arrow (lexeme token.entry) }
-{
-    matches!(token, Token::Mark(Mark::Simplify | Mark::Propagate))
 }
 
 /// The name that the token is.

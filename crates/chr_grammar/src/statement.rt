@@ -6,7 +6,8 @@ ghost use Rattle.chr_lex.specs.Tokens.{lexeme};
 ghost use Rattle.chr_grammar.specs.Views.{statement};
 ghost use Rattle.chr_grammar.specs.Parsing.{directive_of, a_rule, statement_of};
 
-use crate::declaration::{Declared, is_library, parse_declarations};
+use crate::declaration::{Declared, is_library};
+use crate::list::parse_list;
 use crate::rule::{ParsedRule, parse_rule};
 use crate::sign::{is_declares, named};
 use chr_lex::Token;
@@ -32,7 +33,7 @@ fn directive<'a, A: Allocator + Copy>(
     ensures { Gives statement result (directive_of name.now (map lexeme tokens.now)) }
 {
     if name == b"chr_constraint".as_slice() {
-        return Ok(Statement::Declaration(parse_declarations(alloc, tokens)?));
+        return Ok(Statement::Declaration(parse_list(alloc, tokens)?));
     }
     if name == b"use_module".as_slice() && is_library(tokens) {
         return Ok(Statement::Import);

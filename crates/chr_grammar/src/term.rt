@@ -7,6 +7,7 @@ ghost use Rattle.chr_grammar.specs.Parsed.{is_name};
 ghost use Rattle.chr_grammar.specs.Views.{term};
 ghost use Rattle.chr_grammar.specs.Parsing.{is_functor, next_at, behind_word_at, term_at};
 
+use crate::list::Member;
 use crate::sign::{is_close, is_comma, is_open};
 use chr_lex::fault::{ItemError, Kind};
 use chr_lex::{Token, Word};
@@ -25,6 +26,20 @@ pub struct TermNode<'a> {
 #[derive(Drop)]
 pub struct ParsedTerm<'a, A: Allocator> {
     pub nodes: Vec<TermNode<'a>, A>,
+}
+
+impl<'a, A: Allocator + Copy> Member<A, &'a [Token<'a>]> for ParsedTerm<'a, A> {
+    ghost use Rattle.chr_grammar.specs.Parsed as parsed;
+
+    ghost Said = { parsed.ParsedTerm };
+
+    ghost said = { term };
+
+    ghost front = { term_at };
+
+    fn read(alloc: A, tokens: &'a [Token<'a>]) -> Result<(Self, &'a [Token<'a>]), ItemError> {
+        parse_term(alloc, tokens)
+    }
 }
 
 fn is_name(name: Word) -> bool
@@ -87,7 +102,7 @@ fn behind_word(
 }
 
 /// The term at a place, and the place after it.
-pub(crate) fn term_from<'a, A: Allocator + Copy>(
+fn term_from<'a, A: Allocator + Copy>(
     alloc: A,
     tokens: &[Token<'a>],
     from: usize,
@@ -122,8 +137,7 @@ pub(crate) fn parse_term<'a, A: Allocator + Copy>(
     alloc: A,
     tokens: &'a [Token<'a>],
 ) -> Result<(ParsedTerm<'a, A>, &'a [Token<'a>]), ItemError>
-    ensures same { Gives (λ x. (term x.0, map lexeme x.1.now)) result (term_at (map lexeme tokens.now)) }
-    ensures shorter { IfOk result (λ x. length x.1.now < length tokens.now) }
+    ensures { Gives (λ x. (term x.0, map lexeme x.1.now)) result (term_at (map lexeme tokens.now)) }
 {
     let (term, next) = term_from(alloc, tokens, 0)?;
     Ok((term, &tokens[next..]))

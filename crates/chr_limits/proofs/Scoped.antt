@@ -1,10 +1,12 @@
 -- The scope of a body, one member more.
-use Rattle.std.proofs.Common.{◌≡◌, ◌+◌, ◌≤◌, ◌<◌, ℕ, Bool, true, false, not, ◌&&◌, ◌||◌, List, [], ◌∷◌, ◌++◌, length, map, drop, get_or, flat_map, length-append, bytes_eq, refl, sym, subst, ap, ◌∙◌, arith}
+use Rattle.std.proofs.Common.{◌≡◌, ◌+◌, ◌≤◌, ◌<◌, ℕ, Bool, true, false, not, ◌&&◌, ◌||◌, List, [], ◌∷◌, ◌++◌, length, map, drop, get_or, flat_map, length-append, bytes_eq, refl, sym, ap, ◌∙◌, arith}
 use Rattle.std.specs.List.{list_any}
+use Rattle.std.specs.Bool.{OnTrue}
+use Rattle.std.proofs.lemmas.Bool.{OnTrue_from}
 use Rattle.std.proofs.lemmas.List.{at_drop_more}
 use Rattle.std.proofs.lemmas.List.Folds.{list_any-append}
-use Rattle.chr_grammar.specs.Parsed.{ParsedExpression, ParsedAtom, BodyMember, Nothing, Is, Add}
-use Rattle.chr_limits.specs.Variables.{is_blank, is_seen, seen_from, formula_variables, phrase_variables, member_variables}
+use Rattle.chr_grammar.specs.Parsed.{BodyMember}
+use Rattle.chr_limits.specs.Variables.{is_blank, is_seen, seen_from, member_variables}
 use Rattle.chr_limits.specs.Scope.{are_seen, body_in_scope}
 use Rattle.chr_limits.proofs.Meeting.{met_from_append, met_from_longer, met_from_seen}
 
@@ -34,30 +36,44 @@ still_all_seen m x (y ∷ ys) e =
 skipped : (m xs ys : List (List ℕ)) → are_seen m xs ≡ true → seen_from m (xs ++ ys) ≡ seen_from m ys
 skipped m xs ys e = met_from_append m xs ys ∙ ap (λ (l : List (List ℕ)). seen_from l ys) (met_from_seen m xs e)
 
--- room for the variables of a body, which is in scope exactly if all is
-abbrev pub Left : Bool → List (List ℕ) → List BodyMember → Type 0
-Left all m ms = (length (seen_from m (flat_map member_variables ms)) ≤ 24) × (body_in_scope m ms ≡ all)
+pub stopped : (b c all : Bool) → b ≡ false → (b && c) ≡ all → false ≡ all
+stopped true c all e h = absurd (cc)
+stopped false c all e h = h
 
-pub turn_of : {X : Type 0} (v : X → BodyMember) (P : List BodyMember → Type 0) (xs : List X) (i : ℕ) (x : X) (w : BodyMember) → i < length xs → x ≡ get_or xs i x → v x ≡ w → P (map v (drop i xs)) → P (w ∷ map v (drop (i + 1) xs))
-turn_of v P xs i x w h e f p =
-    subst (λ (u : BodyMember). P (u ∷ map v (drop (i + 1) xs))) (ap v (sym e) ∙ f) (subst P (at_drop_more (map v) xs i x h) p)
+pub goes_on : (b c all : Bool) → b ≡ true → (b && c) ≡ all → c ≡ all
+goes_on true c all e h = h
+goes_on false c all e h = absurd (cc)
 
-pub after_nothing : (all : Bool) (m : List (List ℕ)) (ms : List BodyMember) → Left all m (Nothing ∷ ms) → Left all m ms
-after_nothing all m ms h = h
+pub room_for : (m : List (List ℕ)) (x : List ℕ) (ys : List (List ℕ)) → is_seen m x ≡ false → length (seen_from m (x ∷ ys)) ≤ 24 → length m < 24
+room_for m x ys e h =
+    let few : length (seen_from (m ++ x ∷ []) ys) ≤ 24 = rw e at h in
+    omega (arith, met_from_longer (m ++ x ∷ []) ys, length-append m (x ∷ []))
 
-pub after_add : (all : Bool) (m : List (List ℕ)) (p : ParsedAtom) (ms : List BodyMember) → are_seen m (phrase_variables p) ≡ true → Left all m (Add p ∷ ms) → Left all m ms
-after_add all m p ms e h =
-    (rw (skipped m (phrase_variables p) (flat_map member_variables ms) e) at h.0, rw e at h.1)
+pub value_met : (m : List (List ℕ)) (x : List ℕ) (ys : List (List ℕ)) → is_seen m x ≡ false → are_seen m ys ≡ true → m ++ x ∷ [] ≡ seen_from m (x ∷ ys)
+value_met m x ys e k = rw e (sym (met_from_seen (m ++ x ∷ []) ys (still_all_seen m x ys k)))
 
-pub room_for : (all : Bool) (m : List (List ℕ)) (x : List ℕ) (f : ParsedExpression) (ms : List BodyMember) → is_seen m x ≡ false → Left all m (Is x f ∷ ms) → length m < 24
-room_for all m x f ms e h =
-    let few : length (seen_from (m ++ x ∷ []) (formula_variables f ++ flat_map member_variables ms)) ≤ 24 = rw e at h.0 in
-    omega (arith, met_from_longer (m ++ x ∷ []) (formula_variables f ++ flat_map member_variables ms), length-append m (x ∷ []))
+pub all_met : (m xs : List (List ℕ)) (b : Bool) → b ≡ are_seen m xs → OnTrue b (m ≡ seen_from m xs)
+all_met m xs b e = OnTrue_from b _ (λ h. sym (met_from_seen m xs (sym e ∙ h)))
 
-pub after_is : (all : Bool) (m : List (List ℕ)) (x : List ℕ) (f : ParsedExpression) (ms : List BodyMember) → is_seen m x ≡ false → are_seen m (formula_variables f) ≡ true → Left all m (Is x f ∷ ms) → Left all (m ++ x ∷ []) ms
-after_is all m x f ms e k h =
-    let few : length (seen_from (m ++ x ∷ []) (formula_variables f ++ flat_map member_variables ms)) ≤ 24 = rw e at h.0 in
-    (rw (skipped (m ++ x ∷ []) (formula_variables f) (flat_map member_variables ms) (still_all_seen m x (formula_variables f) k)) at few, rw (e, k) at h.1)
+-- a body with one member more, as at a step of a loop
+one_more : {X : Type 0} (v : X → BodyMember) (m : List (List ℕ)) (xs : List X) (i : ℕ) (x : X) → i < length xs → x ≡ get_or xs i x → seen_from m (flat_map member_variables (map v (drop i xs))) ≡ seen_from (seen_from m (member_variables (v x))) (flat_map member_variables (map v (drop (i + 1) xs)))
+one_more v m xs i x lt is =
+    at_drop_more (λ ys. seen_from m (flat_map member_variables (map v ys))) xs i x lt
+    ∙ met_from_append m (member_variables (v (get_or xs i x))) (flat_map member_variables (map v (drop (i + 1) xs)))
+    ∙ ap (λ y. seen_from (seen_from m (member_variables (v y))) (flat_map member_variables (map v (drop (i + 1) xs)))) (sym is)
+
+pub room_left : {X : Type 0} (v : X → BodyMember) (m : List (List ℕ)) (xs : List X) (i : ℕ) (x : X) → i < length xs → x ≡ get_or xs i x → length (seen_from m (flat_map member_variables (map v (drop i xs)))) ≤ 24 → length (seen_from m (member_variables (v x))) ≤ 24
+room_left v m xs i x lt is few =
+    omega (arith, few, ap length (one_more v m xs i x lt is), met_from_longer (seen_from m (member_variables (v x))) (flat_map member_variables (map v (drop (i + 1) xs))))
+
+pub still_few : {X : Type 0} (v : X → BodyMember) (m n : List (List ℕ)) (xs : List X) (i : ℕ) (x : X) → i < length xs → x ≡ get_or xs i x → n ≡ seen_from m (member_variables (v x)) → length (seen_from m (flat_map member_variables (map v (drop i xs)))) ≤ 24
+    → length (seen_from n (flat_map member_variables (map v (drop (i + 1) xs)))) ≤ 24
+still_few v m n xs i x lt is met few = rw met (rw (one_more v m xs i x lt is) at few)
+
+pub body_more : {X : Type 0} (v : X → BodyMember) (m n : List (List ℕ)) (b all : Bool) (xs : List X) (i : ℕ) (x : X) → i < length xs → x ≡ get_or xs i x → ((ms : List BodyMember) → body_in_scope m (v x ∷ ms) ≡ (b && body_in_scope n ms)) → body_in_scope m (map v (drop i xs)) ≡ all
+    → (b && body_in_scope n (map v (drop (i + 1) xs))) ≡ all
+body_more v m n b all xs i x lt is scope so_far =
+    sym (scope (map v (drop (i + 1) xs))) ∙ ap (λ y. body_in_scope m (v y ∷ map v (drop (i + 1) xs))) is ∙ sym (at_drop_more (λ ys. body_in_scope m (map v ys)) xs i x lt) ∙ so_far
 
 -- the variables left for the body after heads and guard
 pub body_left : (hs gs bs m : List (List ℕ)) → m ≡ seen_from [] hs → are_seen m gs ≡ true → length (seen_from [] (hs ++ gs ++ bs)) ≤ 24 → length (seen_from m bs) ≤ 24

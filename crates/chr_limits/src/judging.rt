@@ -1,6 +1,5 @@
 //! What may not stand in an item, in the order in which it is tested.
 ghost use Rattle.std.specs.Prelude.{◌≡◌, ◌≢◌, false, map, IfErr};
-ghost use Rattle.std.specs.List.{list_any};
 ghost use Rattle.chr_grammar.specs.Views as by_texts;
 ghost use Rattle.chr_lex.specs.Reading.{Gives};
 ghost use Rattle.chr_lex.specs.Tokens.{Name, Number};
@@ -9,13 +8,11 @@ ghost use Rattle.chr_limits.specs.Words.{is_out_of_range, is_long};
 ghost use Rattle.chr_limits.specs.Limits.{is_too_large};
 ghost use Rattle.chr_limits.specs.Judging.{declaration_judged, rule_judged, post_judged};
 
-use crate::limits::{
-    Unfit, any_wide, count_comparisons, count_items, has_many_heads, has_wide_atom, phrases_have,
-    rule_has,
-};
+use crate::limits::{Counted, Unfit, Wide, has_many_heads, has_wide_atom, rule_has};
 use crate::number::int;
 use crate::scope::is_in_scope;
-use crate::terms::{any_large_args, has_large_term};
+use crate::terms::{Large, has_large_term};
+use crate::test::{Test, any, count};
 use crate::variables::has_many_variables;
 use chr_grammar::{Declared, ParsedAtom, ParsedRule};
 use chr_lex::fault::{ItemError, Kind};
@@ -23,26 +20,40 @@ use chr_rule::{MOST_COMPARISONS, MOST_ITEMS};
 use chr_value::MOST_NAME_BYTES;
 use std::alloc::Allocator;
 
-fn any_out_of_range(all: &[Declared]) -> bool
-    ensures { result ≡ list_any (λ d. is_out_of_range (Number false d.digits)) (map by_texts.declared all.now) }
-{
-    for declared in all {
-        if int(false, declared.digits).is_none() {
-            return true;
-        }
+/// A number that is out of range.
+#[derive(Clone, Copy)]
+struct OutOfRange;
+
+impl<'a> Test<Declared<'a>> for OutOfRange {
+    ghost use Rattle.chr_grammar.specs.Parsed as parsed;
+
+    ghost Said = { parsed.Declared };
+
+    ghost said = { by_texts.declared };
+
+    ghost passed = { λ _ d. is_out_of_range (Number false d.digits) };
+
+    fn passes(self, part: &Declared<'a>) -> bool {
+        int(false, part.digits).is_none()
     }
-    false
 }
 
-fn any_long(all: &[Declared]) -> bool
-    ensures { result ≡ list_any (λ d. is_long (Name d.name)) (map by_texts.declared all.now) }
-{
-    for declared in all {
-        if declared.name.len() > MOST_NAME_BYTES {
-            return true;
-        }
+/// A name that is too long.
+#[derive(Clone, Copy)]
+struct Long;
+
+impl<'a> Test<Declared<'a>> for Long {
+    ghost use Rattle.chr_grammar.specs.Parsed as parsed;
+
+    ghost Said = { parsed.Declared };
+
+    ghost said = { by_texts.declared };
+
+    ghost passed = { λ _ d. is_long (Name d.name) };
+
+    fn passes(self, part: &Declared<'a>) -> bool {
+        part.name.len() > MOST_NAME_BYTES
     }
-    false
 }
 
 fn is_too_large<A: Allocator>(rule: &ParsedRule<'_, A>) -> bool
@@ -54,10 +65,10 @@ fn is_too_large<A: Allocator>(rule: &ParsedRule<'_, A>) -> bool
     if has_many_heads(rule) {
         return true;
     }
-    if count_comparisons(&rule.consequence.guard) > MOST_COMPARISONS {
+    if count(Counted, &rule.consequence.guard) > MOST_COMPARISONS {
         return true;
     }
-    if count_items(&rule.consequence.body) > MOST_ITEMS {
+    if count(Counted, &rule.consequence.body) > MOST_ITEMS {
         return true;
     }
     has_many_variables(rule)
@@ -71,10 +82,10 @@ pub fn judge_declaration(all: &[Declared]) -> Result<(), ItemError>
     ensures judged { Gives (λ u. u) result (declaration_judged (map by_texts.declared all.now)) }
     ensures no_memory { IfErr result (λ e. e ≢ Memory) }
 {
-    if any_out_of_range(all) {
+    if any(OutOfRange, all) {
         return Err(ItemError::Fault(Kind::NumberRange));
     }
-    if any_long(all) {
+    if any(Long, all) {
         return Err(ItemError::Fault(Kind::TooMany));
     }
     Ok(())
@@ -112,13 +123,13 @@ pub fn judge_post<A: Allocator>(phrases: &[ParsedAtom<'_, A>]) -> Result<(), Ite
     ensures judged { Gives (λ u. u) result (post_judged (map by_texts.phrase phrases.now)) }
     ensures no_memory { IfErr result (λ e. e ≢ Memory) }
 {
-    if phrases_have(Unfit::OutOfRange, phrases) {
+    if any(Unfit::OutOfRange, phrases) {
         return Err(ItemError::Fault(Kind::NumberRange));
     }
-    if phrases_have(Unfit::TooLong, phrases) || any_wide(phrases) || any_large_args(phrases) {
+    if any(Unfit::TooLong, phrases) || any(Wide, phrases) || any(Large, phrases) {
         return Err(ItemError::Fault(Kind::TooMany));
     }
-    if phrases_have(Unfit::Variable, phrases) {
+    if any(Unfit::Variable, phrases) {
         return Err(ItemError::Fault(Kind::Binding));
     }
     Ok(())

@@ -23,6 +23,7 @@ mod limits;
 mod number;
 mod scope;
 mod terms;
+mod test;
 mod variables;
 
 pub use judging::{judge_declaration, judge_post, judge_rule};

@@ -1,6 +1,5 @@
 //! What is out of range, too long or too many.
-ghost use Rattle.std.specs.Prelude.{◌≡◌, ◌+◌, length, map, nat_lt, filter};
-ghost use Rattle.std.specs.List.{list_any};
+ghost use Rattle.std.specs.Prelude.{◌≡◌, ◌+◌, length, nat_lt};
 ghost use Rattle.std.specs.Option.{option_map};
 ghost use Rattle.chr_lex.specs.Tokens.{word};
 ghost use Rattle.chr_grammar.specs.Views as by_texts;
@@ -8,6 +7,7 @@ ghost use Rattle.chr_limits.specs.Words.{is_unfit, formula_has, term_has, phrase
 ghost use Rattle.chr_limits.specs.Limits.{has_many_args, adds_many_args, is_comparison, is_item, has_wide_atom};
 
 use crate::number::int;
+use crate::test::{Test, any};
 use chr_grammar::{
     BodyMember, GuardMember, ParsedAtom, ParsedExpression, ParsedRule, ParsedTerm, TermNode,
 };
@@ -40,32 +40,32 @@ pub fn is_unfit(unfit: Unfit, term: Word) -> bool
     }
 }
 
-fn any_word(unfit: Unfit, nodes: &[TermNode]) -> bool
-    ensures { result ≡ term_has (is_unfit unfit) (map by_texts.node nodes.now) }
-{
-    for node in nodes {
-        if is_unfit(unfit, node.word) {
-            return true;
-        }
+impl<'a> Test<TermNode<'a>> for Unfit {
+    ghost use Rattle.chr_grammar.specs.Parsed as parsed;
+
+    ghost Said = { parsed.TermNode };
+
+    ghost said = { by_texts.node };
+
+    ghost passed = { λ unfit n. is_unfit unfit n.word };
+
+    fn passes(self, part: &TermNode<'a>) -> bool {
+        is_unfit(self, part.word)
     }
-    false
 }
 
-fn term_has<A: Allocator>(unfit: Unfit, term: &ParsedTerm<'_, A>) -> bool
-    ensures { result ≡ term_has (is_unfit unfit) (by_texts.term term.now) }
-{
-    any_word(unfit, &term.nodes)
-}
+impl<'a, A: Allocator> Test<ParsedTerm<'a, A>> for Unfit {
+    ghost use Rattle.chr_grammar.specs.Parsed as parsed;
 
-fn any_term<A: Allocator>(unfit: Unfit, terms: &[ParsedTerm<'_, A>]) -> bool
-    ensures { result ≡ list_any (term_has (is_unfit unfit)) (map by_texts.term terms.now) }
-{
-    for term in terms {
-        if term_has(unfit, term) {
-            return true;
-        }
+    ghost Said = { parsed.ParsedTerm };
+
+    ghost said = { by_texts.term };
+
+    ghost passed = { λ unfit. term_has (is_unfit unfit) };
+
+    fn passes(self, part: &ParsedTerm<'a, A>) -> bool {
+        any(self, &part.nodes)
     }
-    false
 }
 
 fn tree_has<A: Allocator>(unfit: Unfit, tree: &ParsedExpression<'_, A>) -> bool
@@ -86,44 +86,56 @@ fn tree_has<A: Allocator>(unfit: Unfit, tree: &ParsedExpression<'_, A>) -> bool
     }
 }
 
-fn phrase_has<A: Allocator>(unfit: Unfit, phrase: &ParsedAtom<'_, A>) -> bool
-    ensures { result ≡ phrase_has (is_unfit unfit) (by_texts.phrase phrase.now) }
-{
-    is_unfit(unfit, Word::Name(phrase.name)) || any_term(unfit, &phrase.args)
-}
+impl<'a, A: Allocator> Test<ParsedAtom<'a, A>> for Unfit {
+    ghost use Rattle.chr_grammar.specs.Parsed as parsed;
 
-/// Whether a word of some atoms is unfit.
-pub fn phrases_have<A: Allocator>(unfit: Unfit, phrases: &[ParsedAtom<'_, A>]) -> bool
-    ensures { result ≡ list_any (phrase_has (is_unfit unfit)) (map by_texts.phrase phrases.now) }
-{
-    for phrase in phrases {
-        if phrase_has(unfit, phrase) {
-            return true;
-        }
-    }
-    false
-}
+    ghost Said = { parsed.ParsedAtom };
 
-fn test_has<A: Allocator>(unfit: Unfit, test: &GuardMember<'_, A>) -> bool
-    ensures { result ≡ test_has (is_unfit unfit) (by_texts.test test.now) }
-{
-    match test {
-        GuardMember::True => false,
-        GuardMember::Compared(_, left, right) => tree_has(unfit, left) || tree_has(unfit, right),
-        GuardMember::Same(left, right) => term_has(unfit, left) || term_has(unfit, right),
-        GuardMember::Differ(left, right) => term_has(unfit, left) || term_has(unfit, right),
+    ghost said = { by_texts.phrase };
+
+    ghost passed = { λ unfit. phrase_has (is_unfit unfit) };
+
+    fn passes(self, part: &ParsedAtom<'a, A>) -> bool {
+        is_unfit(self, Word::Name(part.name)) || any(self, &part.args)
     }
 }
 
-fn member_has<A: Allocator>(unfit: Unfit, member: &BodyMember<'_, A>) -> bool
-    ensures { result ≡ member_has (is_unfit unfit) (by_texts.member member.now) }
-{
-    match member {
-        BodyMember::True => false,
-        BodyMember::Is(name, tree) => {
-            is_unfit(unfit, Word::Variable(*name)) || tree_has(unfit, tree)
+impl<'a, A: Allocator> Test<GuardMember<'a, A>> for Unfit {
+    ghost use Rattle.chr_grammar.specs.Parsed as parsed;
+
+    ghost Said = { parsed.GuardMember };
+
+    ghost said = { by_texts.test };
+
+    ghost passed = { λ unfit. test_has (is_unfit unfit) };
+
+    fn passes(self, part: &GuardMember<'a, A>) -> bool {
+        match part {
+            GuardMember::True => false,
+            GuardMember::Compared(_, left, right) => tree_has(self, left) || tree_has(self, right),
+            GuardMember::Same(left, right) => self.passes(left) || self.passes(right),
+            GuardMember::Differ(left, right) => self.passes(left) || self.passes(right),
         }
-        BodyMember::Add(phrase) => phrase_has(unfit, phrase),
+    }
+}
+
+impl<'a, A: Allocator> Test<BodyMember<'a, A>> for Unfit {
+    ghost use Rattle.chr_grammar.specs.Parsed as parsed;
+
+    ghost Said = { parsed.BodyMember };
+
+    ghost said = { by_texts.member };
+
+    ghost passed = { λ unfit. member_has (is_unfit unfit) };
+
+    fn passes(self, part: &BodyMember<'a, A>) -> bool {
+        match part {
+            BodyMember::True => false,
+            BodyMember::Is(name, tree) => {
+                is_unfit(self, Word::Variable(*name)) || tree_has(self, tree)
+            }
+            BodyMember::Add(phrase) => self.passes(phrase),
+        }
     }
 }
 
@@ -136,77 +148,60 @@ fn rule_name_has(unfit: Unfit, rule_name: Option<&[u8]>) -> bool
     }
 }
 
-fn guard_has<A: Allocator>(unfit: Unfit, guard: &[GuardMember<'_, A>]) -> bool
-    ensures { result ≡ list_any (test_has (is_unfit unfit)) (map by_texts.test guard.now) }
-{
-    for test in guard {
-        if test_has(unfit, test) {
-            return true;
-        }
-    }
-    false
-}
-
-fn body_has<A: Allocator>(unfit: Unfit, body: &[BodyMember<'_, A>]) -> bool
-    ensures { result ≡ list_any (member_has (is_unfit unfit)) (map by_texts.member body.now) }
-{
-    for member in body {
-        if member_has(unfit, member) {
-            return true;
-        }
-    }
-    false
-}
-
 /// Whether a name, a variable or a number of a rule is unfit.
 pub fn rule_has<A: Allocator>(unfit: Unfit, rule: &ParsedRule<'_, A>) -> bool
     ensures { result ≡ rule_has (is_unfit unfit) (by_texts.raw_rule rule.now) }
 {
     rule_name_has(unfit, rule.rule_name)
-        || phrases_have(unfit, &rule.heads.kept)
-        || phrases_have(unfit, &rule.heads.removed)
-        || guard_has(unfit, &rule.consequence.guard)
-        || body_has(unfit, &rule.consequence.body)
+        || any(unfit, &rule.heads.kept)
+        || any(unfit, &rule.heads.removed)
+        || any(unfit, &rule.consequence.guard)
+        || any(unfit, &rule.consequence.body)
 }
 
-/// Whether an atom has more than [`MOST_ARGS`] arguments.
-pub fn any_wide<A: Allocator>(phrases: &[ParsedAtom<'_, A>]) -> bool
-    ensures { result ≡ list_any has_many_args (map by_texts.phrase phrases.now) }
-{
-    for phrase in phrases {
-        if phrase.args.len() > MOST_ARGS {
-            return true;
+/// An atom with more than [`MOST_ARGS`] arguments.
+#[derive(Clone, Copy)]
+pub struct Wide;
+
+impl<'a, A: Allocator> Test<ParsedAtom<'a, A>> for Wide {
+    ghost use Rattle.chr_grammar.specs.Parsed as parsed;
+
+    ghost Said = { parsed.ParsedAtom };
+
+    ghost said = { by_texts.phrase };
+
+    ghost passed = { λ _. has_many_args };
+
+    fn passes(self, part: &ParsedAtom<'a, A>) -> bool {
+        part.args.len() > MOST_ARGS
+    }
+}
+
+impl<'a, A: Allocator> Test<BodyMember<'a, A>> for Wide {
+    ghost use Rattle.chr_grammar.specs.Parsed as parsed;
+
+    ghost Said = { parsed.BodyMember };
+
+    ghost said = { by_texts.member };
+
+    ghost passed = { λ _. adds_many_args };
+
+    fn passes(self, part: &BodyMember<'a, A>) -> bool {
+        match part {
+            BodyMember::True => false,
+            BodyMember::Is(..) => false,
+            BodyMember::Add(phrase) => self.passes(phrase),
         }
     }
-    false
-}
-
-fn adds_many_args<A: Allocator>(member: &BodyMember<'_, A>) -> bool
-    ensures { result ≡ adds_many_args (by_texts.member member.now) }
-{
-    match member {
-        BodyMember::True => false,
-        BodyMember::Is(..) => false,
-        BodyMember::Add(phrase) => phrase.args.len() > MOST_ARGS,
-    }
-}
-
-fn adds_wide<A: Allocator>(body: &[BodyMember<'_, A>]) -> bool
-    ensures { result ≡ list_any adds_many_args (map by_texts.member body.now) }
-{
-    for member in body {
-        if adds_many_args(member) {
-            return true;
-        }
-    }
-    false
 }
 
 /// Whether an atom of a rule has more than [`MOST_ARGS`] arguments.
 pub fn has_wide_atom<A: Allocator>(rule: &ParsedRule<'_, A>) -> bool
     ensures { result ≡ has_wide_atom (by_texts.raw_rule rule.now) }
 {
-    any_wide(&rule.heads.kept) || any_wide(&rule.heads.removed) || adds_wide(&rule.consequence.body)
+    any(Wide, &rule.heads.kept)
+        || any(Wide, &rule.heads.removed)
+        || any(Wide, &rule.consequence.body)
 }
 
 /// Whether a rule has more than [`MOST_HEADS`] heads.
@@ -217,49 +212,43 @@ pub fn has_many_heads<A: Allocator>(rule: &ParsedRule<'_, A>) -> bool
     kept > MOST_HEADS || rule.heads.removed.len() > MOST_HEADS - kept
 }
 
-fn is_comparison<A: Allocator>(test: &GuardMember<'_, A>) -> bool
-    ensures { result ≡ is_comparison (by_texts.test test.now) }
-{
-    match test {
-        GuardMember::True => false,
-        GuardMember::Compared(..) => true,
-        GuardMember::Same(..) => true,
-        GuardMember::Differ(..) => true,
-    }
-}
+/// A member that is more than `true`.
+#[derive(Clone, Copy)]
+pub struct Counted;
 
-/// How many members of a guard are comparisons.
-pub fn count_comparisons<A: Allocator>(guard: &[GuardMember<'_, A>]) -> usize
-    ensures { result ≡ length (filter is_comparison (map by_texts.test guard.now)) }
-{
-    let mut count = 0;
-    for test in guard {
-        if is_comparison(test) {
-            count += 1;
+impl<'a, A: Allocator> Test<GuardMember<'a, A>> for Counted {
+    ghost use Rattle.chr_grammar.specs.Parsed as parsed;
+
+    ghost Said = { parsed.GuardMember };
+
+    ghost said = { by_texts.test };
+
+    ghost passed = { λ _. is_comparison };
+
+    fn passes(self, part: &GuardMember<'a, A>) -> bool {
+        match part {
+            GuardMember::True => false,
+            GuardMember::Compared(..) => true,
+            GuardMember::Same(..) => true,
+            GuardMember::Differ(..) => true,
         }
     }
-    count
 }
 
-fn is_item<A: Allocator>(member: &BodyMember<'_, A>) -> bool
-    ensures { result ≡ is_item (by_texts.member member.now) }
-{
-    match member {
-        BodyMember::True => false,
-        BodyMember::Is(..) => true,
-        BodyMember::Add(_) => true,
-    }
-}
+impl<'a, A: Allocator> Test<BodyMember<'a, A>> for Counted {
+    ghost use Rattle.chr_grammar.specs.Parsed as parsed;
 
-/// How many members of a body are more than `true`.
-pub fn count_items<A: Allocator>(body: &[BodyMember<'_, A>]) -> usize
-    ensures { result ≡ length (filter is_item (map by_texts.member body.now)) }
-{
-    let mut count = 0;
-    for member in body {
-        if is_item(member) {
-            count += 1;
+    ghost Said = { parsed.BodyMember };
+
+    ghost said = { by_texts.member };
+
+    ghost passed = { λ _. is_item };
+
+    fn passes(self, part: &BodyMember<'a, A>) -> bool {
+        match part {
+            BodyMember::True => false,
+            BodyMember::Is(..) => true,
+            BodyMember::Add(_) => true,
         }
     }
-    count
 }

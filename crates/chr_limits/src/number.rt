@@ -1,5 +1,5 @@
 //! The numbers that digits spell.
-ghost use Rattle.std.specs.Prelude.{◌≡◌, ◌≤◌, ◌<◌, ◌+◌, ◌-◌, ◌*◌, ◌^◌, false, Some, is_none, MatchOption};
+ghost use Rattle.std.specs.Prelude.{◌≡◌, ◌≤◌, ◌+◌, ◌-◌, ◌*◌, ◌^◌, false, Some, is_none, MatchOption};
 ghost use Rattle.chr_limits.specs.Numbers.{decimal_from, whole_number};
 
 fn with_digit(number: u64, digit: u8) -> Option<u64>
@@ -47,32 +47,14 @@ pub fn int(negative: bool, digits: &[u8]) -> Option<i64>
     }
 }
 
-/// The number of digits that spell less than 2^64.
-#[tactic(auto, using(crate::proofs::Digits::decimal_least))]
-fn small_magnitude(digits: &[u8]) -> u64
-    requires { decimal_from 0 digits.now < 2 ^ 64 }
-    ensures { result ≡ decimal_from 0 digits.now }
-{
-    let mut number: u64 = 0;
-    let mut rest = digits;
-    while let [digit, after @ ..] = rest {
-        number = number * 10 + u64::from(digit.saturating_sub(b'0'));
-        rest = after;
-    }
-    number
-}
-
 /// The whole number that the sign and the digits spell, which is in the range of 64 bits with sign.
 pub fn int_in_range(negative: bool, digits: &[u8]) -> i64
     requires { is_none (whole_number negative digits.now) ≡ false }
     ensures { Some result ≡ whole_number negative digits.now }
 {
-    let number = small_magnitude(digits);
-    if !negative {
-        number as i64
-    } else if number == 0 {
-        0
-    } else {
-        -((number - 1) as i64) - 1
+    match int(negative, digits) {
+        Some(number) => number,
+        // It is in range.
+        None => 0,
     }
 }

@@ -1,6 +1,8 @@
 //! Whether each variable has a value where it is used.
-ghost use Rattle.std.specs.Prelude.{◌≡◌, ◌≤◌, length, map, flat_map};
+ghost use Rattle.std.specs.Prelude.{◌≡◌, ◌≤◌, ◌&&◌, ◌∷◌, List, length, map, flat_map};
+ghost use Rattle.std.specs.Bool.{OnTrue};
 ghost use Rattle.chr_lex.specs.Tokens.{word};
+ghost use Rattle.chr_grammar.specs.Parsed as parsed;
 ghost use Rattle.chr_grammar.specs.Views as by_texts;
 ghost use Rattle.chr_limits.specs.Variables.{word_variables, term_variables, formula_variables, test_variables, member_variables, head_variables, variables_of, seen_from, seen};
 ghost use Rattle.chr_limits.specs.Scope.{are_seen, body_in_scope, is_in_scope};
@@ -84,25 +86,34 @@ fn is_guard_seen<A: Allocator>(seen: &[&[u8]], guard: &[GuardMember<'_, A>]) -> 
     true
 }
 
+/// Whether each variable of a member has a value where it is used, if those of `seen` have one. The variable left of `is`
+/// has one too then.
+fn enter<'a, A: Allocator>(seen: &mut Seen<'a>, member: &BodyMember<'a, A>) -> bool
+    requires { length (seen_from (names seen.old.items) (member_variables (by_texts.member member.now))) ≤ 24 }
+    ensures scope { (ms : List parsed.BodyMember) → body_in_scope (names seen.old.items) (by_texts.member member.now ∷ ms) ≡ (result && body_in_scope (names seen.new.items) ms) }
+    ensures met { OnTrue result (names seen.new.items ≡ seen_from (names seen.old.items) (member_variables (by_texts.member member.now))) }
+{
+    match member {
+        BodyMember::True => true,
+        BodyMember::Is(name, tree) => {
+            if is_seen(seen, *name) || !is_tree_seen(seen, tree) {
+                return false;
+            }
+            seen.push(*name);
+            true
+        }
+        BodyMember::Add(phrase) => are_terms_seen(seen, &phrase.args),
+    }
+}
+
 /// Whether each variable of a body has a value where it is used, if those of `seen` have one.
-fn is_body_in_scope<'a, A: Allocator>(mut seen: Seen<'a>, body: &[BodyMember<'a, A>]) -> bool
-    requires { length (seen_from (names seen.items) (flat_map member_variables (map by_texts.member body.now))) ≤ 24 }
-    ensures { result ≡ body_in_scope (names seen.entry.items) (map by_texts.member body.now) }
+fn is_body_in_scope<'a, A: Allocator>(seen: &mut Seen<'a>, body: &[BodyMember<'a, A>]) -> bool
+    requires { length (seen_from (names seen.old.items) (flat_map member_variables (map by_texts.member body.now))) ≤ 24 }
+    ensures { result ≡ body_in_scope (names seen.old.items) (map by_texts.member body.now) }
 {
     for member in body {
-        match member {
-            BodyMember::True => {}
-            BodyMember::Is(name, tree) => {
-                if is_seen(&seen, *name) || !is_tree_seen(&seen, tree) {
-                    return false;
-                }
-                seen.push(*name);
-            }
-            BodyMember::Add(phrase) => {
-                if !are_terms_seen(&seen, &phrase.args) {
-                    return false;
-                }
-            }
+        if !enter(seen, member) {
+            return false;
         }
     }
     true
@@ -113,11 +124,11 @@ pub fn is_in_scope<A: Allocator>(rule: &ParsedRule<'_, A>) -> bool
     requires { length (seen (variables_of (by_texts.raw_rule rule.now))) ≤ 24 }
     ensures { result ≡ is_in_scope (by_texts.raw_rule rule.now) }
 {
-    let Some(seen) = head_variables(rule) else {
+    let Some(mut seen) = head_variables(rule) else {
         return false;
     };
     if !is_guard_seen(&seen, &rule.consequence.guard) {
         return false;
     }
-    is_body_in_scope(seen, &rule.consequence.body)
+    is_body_in_scope(&mut seen, &rule.consequence.body)
 }

@@ -1,9 +1,10 @@
 //! Terms that are too large.
-ghost use Rattle.std.specs.Prelude.{◌≡◌, map};
-ghost use Rattle.std.specs.List.{list_any};
+ghost use Rattle.std.specs.Prelude.{◌≡◌, map, nat_le};
 ghost use Rattle.chr_grammar.specs.Views as by_texts;
-ghost use Rattle.chr_limits.specs.Limits.{is_deep, arguments_behind, has_wide_functor, is_large_term, has_large_args, compares_large_terms, adds_large_args, has_large_term};
+ghost use Rattle.chr_limits.specs.declared.terms.TheConstants.{MOST_TERM_DEPTH};
+ghost use Rattle.chr_limits.specs.Limits.{arguments_behind, has_wide_functor, is_large_term, has_large_args, compares_large_terms, adds_large_args, has_large_term};
 
+use crate::test::{Test, any};
 use chr_grammar::{BodyMember, GuardMember, ParsedAtom, ParsedRule, ParsedTerm, TermNode};
 use chr_value::MOST_ARGS;
 use std::alloc::Allocator;
@@ -15,15 +16,22 @@ pub const MOST_TERM_DEPTH: usize = 8;
 /// arguments'.
 pub const MOST_TERM_SIZE: usize = 64;
 
-fn is_deep(nodes: &[TermNode]) -> bool
-    ensures { result ≡ is_deep (map by_texts.node nodes.now) }
-{
-    for node in nodes {
-        if node.depth >= MOST_TERM_DEPTH {
-            return true;
-        }
+/// A word in too many parentheses.
+#[derive(Clone, Copy)]
+struct Deep;
+
+impl<'a> Test<TermNode<'a>> for Deep {
+    ghost use Rattle.chr_grammar.specs.Parsed as parsed;
+
+    ghost Said = { parsed.TermNode };
+
+    ghost said = { by_texts.node };
+
+    ghost passed = { λ _ n. nat_le MOST_TERM_DEPTH n.depth };
+
+    fn passes(self, part: &TermNode<'a>) -> bool {
+        part.depth >= MOST_TERM_DEPTH
     }
-    false
 }
 
 /// How many arguments a word in so many parentheses has, by the nodes behind it.
@@ -55,85 +63,82 @@ fn has_wide_functor(nodes: &[TermNode]) -> bool
     false
 }
 
-fn is_large_term<A: Allocator>(term: &ParsedTerm<'_, A>) -> bool
-    ensures { result ≡ is_large_term (by_texts.term term.now) }
-{
-    term.nodes.len() > MOST_TERM_SIZE || is_deep(&term.nodes) || has_wide_functor(&term.nodes)
+/// A part with a term that is more than [`MOST_TERM_DEPTH`] deep, more than [`MOST_TERM_SIZE`] large, or has a functor with
+/// more than [`MOST_ARGS`] arguments.
+#[derive(Clone, Copy)]
+pub struct Large;
+
+impl<'a, A: Allocator> Test<ParsedTerm<'a, A>> for Large {
+    ghost use Rattle.chr_grammar.specs.Parsed as parsed;
+
+    ghost Said = { parsed.ParsedTerm };
+
+    ghost said = { by_texts.term };
+
+    ghost passed = { λ _. is_large_term };
+
+    fn passes(self, part: &ParsedTerm<'a, A>) -> bool {
+        part.nodes.len() > MOST_TERM_SIZE || any(Deep, &part.nodes) || has_wide_functor(&part.nodes)
+    }
 }
 
-fn any_large_term<A: Allocator>(terms: &[ParsedTerm<'_, A>]) -> bool
-    ensures { result ≡ list_any is_large_term (map by_texts.term terms.now) }
-{
-    for term in terms {
-        if is_large_term(term) {
-            return true;
+impl<'a, A: Allocator> Test<ParsedAtom<'a, A>> for Large {
+    ghost use Rattle.chr_grammar.specs.Parsed as parsed;
+
+    ghost Said = { parsed.ParsedAtom };
+
+    ghost said = { by_texts.phrase };
+
+    ghost passed = { λ _. has_large_args };
+
+    fn passes(self, part: &ParsedAtom<'a, A>) -> bool {
+        any(self, &part.args)
+    }
+}
+
+impl<'a, A: Allocator> Test<GuardMember<'a, A>> for Large {
+    ghost use Rattle.chr_grammar.specs.Parsed as parsed;
+
+    ghost Said = { parsed.GuardMember };
+
+    ghost said = { by_texts.test };
+
+    ghost passed = { λ _. compares_large_terms };
+
+    fn passes(self, part: &GuardMember<'a, A>) -> bool {
+        match part {
+            GuardMember::True => false,
+            GuardMember::Compared(..) => false,
+            GuardMember::Same(left, right) => self.passes(left) || self.passes(right),
+            GuardMember::Differ(left, right) => self.passes(left) || self.passes(right),
         }
     }
-    false
 }
 
-/// Whether an atom has an argument that is more than [`MOST_TERM_DEPTH`] deep, more than [`MOST_TERM_SIZE`] large, or has
-/// a functor with more than [`MOST_ARGS`] arguments.
-pub fn any_large_args<A: Allocator>(phrases: &[ParsedAtom<'_, A>]) -> bool
-    ensures { result ≡ list_any has_large_args (map by_texts.phrase phrases.now) }
-{
-    for phrase in phrases {
-        if any_large_term(&phrase.args) {
-            return true;
+impl<'a, A: Allocator> Test<BodyMember<'a, A>> for Large {
+    ghost use Rattle.chr_grammar.specs.Parsed as parsed;
+
+    ghost Said = { parsed.BodyMember };
+
+    ghost said = { by_texts.member };
+
+    ghost passed = { λ _. adds_large_args };
+
+    fn passes(self, part: &BodyMember<'a, A>) -> bool {
+        match part {
+            BodyMember::True => false,
+            BodyMember::Is(..) => false,
+            BodyMember::Add(phrase) => self.passes(phrase),
         }
     }
-    false
-}
-
-fn compares_large_terms<A: Allocator>(test: &GuardMember<'_, A>) -> bool
-    ensures { result ≡ compares_large_terms (by_texts.test test.now) }
-{
-    match test {
-        GuardMember::True => false,
-        GuardMember::Compared(..) => false,
-        GuardMember::Same(left, right) => is_large_term(left) || is_large_term(right),
-        GuardMember::Differ(left, right) => is_large_term(left) || is_large_term(right),
-    }
-}
-
-fn any_compares<A: Allocator>(guard: &[GuardMember<'_, A>]) -> bool
-    ensures { result ≡ list_any compares_large_terms (map by_texts.test guard.now) }
-{
-    for test in guard {
-        if compares_large_terms(test) {
-            return true;
-        }
-    }
-    false
-}
-
-fn adds_large_args<A: Allocator>(member: &BodyMember<'_, A>) -> bool
-    ensures { result ≡ adds_large_args (by_texts.member member.now) }
-{
-    match member {
-        BodyMember::True => false,
-        BodyMember::Is(..) => false,
-        BodyMember::Add(phrase) => any_large_term(&phrase.args),
-    }
-}
-
-fn any_adds<A: Allocator>(body: &[BodyMember<'_, A>]) -> bool
-    ensures { result ≡ list_any adds_large_args (map by_texts.member body.now) }
-{
-    for member in body {
-        if adds_large_args(member) {
-            return true;
-        }
-    }
-    false
 }
 
 /// Whether a rule has a term that is too large.
 pub fn has_large_term<A: Allocator>(rule: &ParsedRule<'_, A>) -> bool
     ensures { result ≡ has_large_term (by_texts.raw_rule rule.now) }
 {
-    any_large_args(&rule.heads.kept)
-        || any_large_args(&rule.heads.removed)
-        || any_compares(&rule.consequence.guard)
-        || any_adds(&rule.consequence.body)
+    any(Large, &rule.heads.kept)
+        || any(Large, &rule.heads.removed)
+        || any(Large, &rule.consequence.guard)
+        || any(Large, &rule.consequence.body)
 }

@@ -1,17 +1,18 @@
 use Rattle.std.proofs.Common.{◌+◌, ◌*◌}
+use Rattle.chr_grammar.proofs.Expressions.{rank}
 use Rattle.chr_grammar.proofs.expression.+expression.Given as goal
 
 abbrev pub decreases-sum : goal.decreases-sum
 decreases-sum g l = 100 * l.room
 
-abbrev pub decreases-product : goal.decreases-product
-decreases-product g l = 100 * l.room + 20
+abbrev pub decreases-sides : goal.decreases-sides
+decreases-sides g l = 100 * l.room + 19 + rank l.level
+
+abbrev pub decreases-side : goal.decreases-side
+decreases-side g l = 100 * l.room + 2 + rank l.level
 
 abbrev pub decreases-factor : goal.decreases-factor
 decreases-factor g l = 100 * l.room + 1
 
-abbrev pub decreases-more_sums : goal.decreases-more_sums
-decreases-more_sums g l = 100 * l.room + 21 + l.count
-
-abbrev pub decreases-more_products : goal.decreases-more_products
-decreases-more_products g l = 100 * l.room + 2 + l.count
+abbrev pub decreases-more_sides : goal.decreases-more_sides
+decreases-more_sides g l = 100 * l.room + 3 + rank l.level + l.count

@@ -4,6 +4,6 @@ use Rattle.chr_grammar.specs.Views.{term}
 use Rattle.chr_grammar.proofs.Lists.{tokens_from_place}
 use Rattle.chr_grammar.proofs.term.parse_term.Goals as goal
 
-pub returns-clause-same : goal.returns-clause-same
-returns-clause-same g c =
+pub returns : goal.returns
+returns g c =
     c.in_ok-term.ensures.same ∙ ap (λ (x : List Lexeme). Ok (term c.in_ok-term.term, x)) (sym (tokens_from_place c.args.tokens.now c.in_ok-term.next))

@@ -2,7 +2,7 @@ use Rattle.std.proofs.Common.{◌≡◌, ◌-◌, ◌≤◌, length, map, drop}
 use Rattle.chr_lex.specs.Tokens.{lexeme}
 use Rattle.chr_grammar.specs.Views.{node}
 use Rattle.chr_grammar.specs.Parsing.{nodes_at, term_at}
-use Rattle.chr_grammar.proofs.Nodes.{front_with}
+use Rattle.chr_grammar.proofs.Lists.{front_with}
 use Rattle.chr_grammar.proofs.term.term_from.Given as goal
 
 abbrev pub invariant-loop : goal.invariant-loop
