@@ -1,5 +1,5 @@
 //! Lines and loads up to their limits, and past them.
-use crate::serving::written;
+use crate::serving::is_served;
 use chr_session::{Ended, MemorySource, Stream};
 use std::alloc::{AllocError, Global};
 use std::io::Read;
@@ -155,15 +155,25 @@ fn input(alloc: Global, row: &Row) -> Result<Vec<u8, Global>, AllocError> {
     Ok(input)
 }
 
+/// Whether a session ends so and has these replies, with its input and its replies in one piece and in single bytes.
+fn is_served_in_pieces(alloc: Global, input: &[u8], wanted: Ended, replies: &[u8]) -> bool {
+    for piece in [1, 65_536] {
+        let mut source = MemorySource::new(input, piece);
+        if !is_served(alloc, &mut source, piece, Ok(wanted), replies) {
+            return false;
+        }
+    }
+    true
+}
+
 /// Whether a session is served as a row says, with its input cut in two at this byte.
-fn is_served(alloc: Global, row: &Row, input: &[u8], cut: usize) -> bool {
+fn is_served_in_two(alloc: Global, row: &Row, input: &[u8], cut: usize) -> bool {
     let (_, _, _, _, replies, wanted) = *row;
     let Some((front, back)) = input.split_at_checked(cut) else {
         return true;
     };
     let mut source = Stream::new(front.chain(back));
-    let (ended, given) = written(alloc, alloc, &mut source, 65_536);
-    ended == Ok(wanted) && given.as_slice() == replies
+    is_served(alloc, &mut source, 65_536, Ok(wanted), replies)
 }
 
 #[test]
@@ -171,20 +181,12 @@ fn lines_and_loads(rt: HostRuntime) -> Result<(), Fail> {
     for (i, row) in ROWS.iter().enumerate() {
         let (before, _, count, _, replies, wanted) = *row;
         let input = input(rt.alloc(), row)?;
-        for piece in [1, 65_536] {
-            let mut source = MemorySource::new(&input, piece);
-            let (ended, given) = written(rt.alloc(), rt.alloc(), &mut source, piece);
-            let given = (ended, given.as_slice());
-            assert_eq!(rt;
-                given,
-                (Ok(wanted), replies),
-                "row {i} in pieces of {piece}"
-            );
-        }
+        let is = is_served_in_pieces(rt.alloc(), &input, wanted, replies);
+        assert!(rt; is, "row {i}");
         // Around the place where the repeated bytes begin, and where they end.
         for place in [before.len(), before.len().saturating_add(count)] {
             for cut in place.saturating_sub(12)..place.saturating_add(12) {
-                let is = is_served(rt.alloc(), row, &input, cut);
+                let is = is_served_in_two(rt.alloc(), row, &input, cut);
                 assert!(rt; is, "row {i} cut at {cut}");
             }
         }
@@ -197,7 +199,7 @@ fn long_line_cut_anywhere(rt: HostRuntime) -> Result<(), Fail> {
     let input = input(rt.alloc(), &ROWS[0])?;
     for cut in 0..=input.len() {
         assert!(rt;
-            is_served(rt.alloc(), &ROWS[0], &input, cut),
+            is_served_in_two(rt.alloc(), &ROWS[0], &input, cut),
             "cut at {cut}"
         );
     }
@@ -256,16 +258,8 @@ fn text_of(alloc: Global, pieces: Pieces) -> Result<Vec<u8, Global>, AllocError>
 fn lines_of_nested_values(rt: HostRuntime) -> Result<(), Fail> {
     for (i, (pieces, replies)) in NESTED.iter().enumerate() {
         let input = text_of(rt.alloc(), pieces)?;
-        for piece in [1, 65_536] {
-            let mut source = MemorySource::new(&input, piece);
-            let (ended, given) = written(rt.alloc(), rt.alloc(), &mut source, piece);
-            let given = (ended, given.as_slice());
-            assert_eq!(rt;
-                given,
-                (Ok(Ended::Quit), *replies),
-                "row {i} in pieces of {piece}"
-            );
-        }
+        let is = is_served_in_pieces(rt.alloc(), &input, Ended::Quit, replies);
+        assert!(rt; is, "row {i}");
     }
     Ok(())
 }

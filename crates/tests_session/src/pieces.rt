@@ -1,6 +1,6 @@
 //! Sessions whose input comes in one piece, in single bytes, and in two pieces.
 use crate::serving::{end, texts};
-use crate::talks::{GREATEST, TALKS, Talk};
+use crate::talks::{GREATEST, Talk, talks};
 use chr_session::{Ended, MemorySink, MemorySource, Source, Stream};
 use std::alloc::{AllocError, Global};
 use std::io::Read;
@@ -33,7 +33,7 @@ fn is_served_in_two(alloc: Global, talk: &Talk, input: &[u8], replies: &[u8]) ->
 
 /// Whether a session is served so in one piece, in single bytes, and in two pieces.
 fn is_served_in_pieces(alloc: Global, talk: &Talk) -> Result<bool, AllocError> {
-    let (input, replies) = texts(alloc, talk.commands)?;
+    let (input, replies) = texts(alloc, talk.lines)?;
     let mut whole = MemorySource::new(&input, 65_536);
     let mut bytes = MemorySource::new(&input, 1);
     Ok(
@@ -45,7 +45,7 @@ fn is_served_in_pieces(alloc: Global, talk: &Talk) -> Result<bool, AllocError> {
 
 #[test]
 fn worked_sessions(rt: HostRuntime) -> Result<(), Fail> {
-    for talk in &TALKS {
+    for talk in talks() {
         let is = is_served_in_pieces(rt.alloc(), talk)?;
         assert!(rt; is, "{}", talk.name);
     }
@@ -72,19 +72,29 @@ static CUTS: [&[u8]; 16] = [
     b"load 4294967295\na <=> b.\nquit\n",
 ];
 
+/// How such a session ends.
+static CUT: Talk = Talk {
+    name: "cut",
+    limit: GREATEST,
+    lines: b"",
+    ended: Ended::Cut,
+    stands: false,
+};
+
+/// Whether a session is cut by its input, in one piece and in single bytes.
+fn is_cut(alloc: Global, input: &[u8]) -> bool {
+    for piece in [1, 65_536] {
+        let mut source = MemorySource::new(input, piece);
+        if !is_served(alloc, &CUT, b"fault E23 Cut\n", &mut source, piece) {
+            return false;
+        }
+    }
+    true
+}
+
 #[test]
 fn cut_commands(rt: HostRuntime) {
     for (i, input) in CUTS.iter().enumerate() {
-        for piece in [1, 65_536] {
-            let mut sink = MemorySink::new(rt.alloc(), piece);
-            let mut source = MemorySource::new(input, piece);
-            let ended = end(rt.alloc(), GREATEST, &mut source, &mut sink);
-            assert_eq!(rt; ended, (Ok(Ended::Cut), false), "input {i}");
-            assert_eq!(rt;
-                sink.bytes.as_slice(),
-                b"fault E23 Cut\n".as_slice(),
-                "input {i}"
-            );
-        }
+        assert!(rt; is_cut(rt.alloc(), input), "input {i}");
     }
 }

@@ -10,10 +10,7 @@ use std::test::Fail;
 /// refused, so the store and the log after it are those after any entry but the last.
 type Refused = &'static [(&'static str, &'static str)];
 
-/// A run, and what is written where a command of it is refused.
-const RUNS: [(Talk<'static>, Refused); 2] = [(RUN, &REFUSED), (COMPOUND_RUN, &COMPOUND_REFUSED)];
-
-const COMPOUND_REFUSED: [(&str, &str); 9] = [
+static COMPOUND_REFUSED: [(&str, &str); 9] = [
     (
         "load",
         "fault E01 NoMemory\nfault E24 NoProgram\nfault E24 NoProgram\nfault E24 NoProgram\nfault E24 NoProgram\nbye\n",
@@ -52,7 +49,7 @@ const COMPOUND_REFUSED: [(&str, &str); 9] = [
     ),
 ];
 
-const REFUSED: [(&str, &str); 12] = [
+static REFUSED: [(&str, &str); 12] = [
     (
         "load",
         "fault E01 NoMemory\nfault E24 NoProgram\nfault E24 NoProgram\nfault E24 NoProgram\nfault E24 NoProgram\nbye\n",
@@ -102,6 +99,11 @@ const REFUSED: [(&str, &str); 12] = [
         "loaded 2\nposted 1 2\nquiet\nstore 1\n#3 gcd(3)\nlog 2\nA 4 4\nF 4 1 \\4\nbye\n",
     ),
 ];
+
+/// Each run, and what is written where a command of it is refused.
+fn runs() -> [(&'static Talk<'static>, Refused); 2] {
+    [(&RUN, &REFUSED), (&COMPOUND_RUN, &COMPOUND_REFUSED)]
+}
 
 /// The command that was answered E01, "" where none was, and "serve" where the session ended before the first. None for any
 /// other session.
@@ -156,8 +158,8 @@ fn commands_refused(alloc: Global, input: &[u8], rows: Refused) -> Option<Vec<&'
 #[test]
 fn each_request_of_a_session_is_refused(rt: HostRuntime) -> Result<(), Fail> {
     let wanted = ["serve", "load", "post", "wait", "store", "log"].as_slice();
-    for (talk, rows) in &RUNS {
-        let (input, _) = texts(rt.alloc(), talk.commands)?;
+    for (talk, rows) in runs() {
+        let (input, _) = texts(rt.alloc(), talk.lines)?;
         let commands = commands_refused(rt.alloc(), &input, rows);
         let commands = commands.unwrap_or(Vec::new(rt.alloc()));
         assert_eq!(rt; commands.as_slice(), wanted, "{}", talk.name);

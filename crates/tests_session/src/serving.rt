@@ -4,17 +4,43 @@ use chr_session::{Ended, MemorySink, ServeFault, Sink, Source, serve};
 use chr_solo::SoloDesk;
 use std::alloc::{AllocError, Allocator, Global};
 
-/// The bytes of all commands, and those of all replies.
+fn add_command(input: &mut Vec<u8, Global>, command: &[u8]) -> Result<(), AllocError> {
+    for byte in command {
+        input.push(if *byte == b'~' { b'\n' } else { *byte })?;
+    }
+    Ok(())
+}
+
+/// Adds a line of a reply.
+pub fn add_line(replies: &mut Vec<u8, Global>, line: &[u8]) -> Result<(), AllocError> {
+    replies.extend_from_slice(line)?;
+    replies.push(b'\n')?;
+    Ok(())
+}
+
+fn add_lines(
+    input: &mut Vec<u8, Global>,
+    replies: &mut Vec<u8, Global>,
+    lines: &[u8],
+) -> Result<(), AllocError> {
+    for line in lines.split(|b| *b == b'\n') {
+        match line {
+            [] => {}
+            [b'>', b' ', command @ ..] => add_command(input, command)?,
+            reply => add_line(replies, reply)?,
+        }
+    }
+    Ok(())
+}
+
+/// The bytes of all commands of a talk's lines, and those of all replies.
 pub fn texts(
     alloc: Global,
-    commands: &[(&[u8], &[u8])],
+    lines: &[u8],
 ) -> Result<(Vec<u8, Global>, Vec<u8, Global>), AllocError> {
     let mut input = Vec::new(alloc);
     let mut replies = Vec::new(alloc);
-    for (command, reply) in commands {
-        input.extend_from_slice(command)?;
-        replies.extend_from_slice(reply)?;
-    }
+    add_lines(&mut input, &mut replies, lines)?;
     Ok((input, replies))
 }
 
@@ -30,14 +56,15 @@ pub fn end<A: Allocator + Copy, S: Source, W: Sink>(
     (ended, desk.book().is_some())
 }
 
-/// Serves a session without a limit, whose replies are taken in pieces of this size. How it ended, and its replies.
-pub fn written<A: Allocator + Copy, S: Source>(
-    alloc: A,
-    texts: Global,
+/// Whether a session without a limit, whose replies are taken in pieces of this size, ends so and has these replies.
+pub fn is_served<S: Source>(
+    alloc: Global,
     source: &mut S,
     piece: usize,
-) -> (Result<Ended, ServeFault>, Vec<u8, Global>) {
-    let mut sink = MemorySink::new(texts, piece);
+    wanted: Result<Ended, ServeFault>,
+    replies: &[u8],
+) -> bool {
+    let mut sink = MemorySink::new(alloc, piece);
     let (ended, _) = end(alloc, GREATEST, source, &mut sink);
-    (ended, sink.bytes)
+    ended == wanted && sink.bytes.as_slice() == replies
 }
