@@ -10,9 +10,9 @@ ghost use Rattle.chr_limits.specs.Judging.{declaration_judged, rule_judged, post
 
 use crate::limits::{Counted, Unfit, Wide, has_many_heads, has_wide_atom, rule_has};
 use crate::number::int;
+use crate::parts::{Test, any, count};
 use crate::scope::is_in_scope;
 use crate::terms::{Large, has_large_term};
-use crate::test::{Test, any, count};
 use crate::variables::has_many_variables;
 use chr_grammar::{Declared, ParsedAtom, ParsedRule};
 use chr_lex::fault::{ItemError, Kind};

@@ -21,9 +21,9 @@ mod judging;
 pub mod laws;
 mod limits;
 mod number;
+mod parts;
 mod scope;
 mod terms;
-mod test;
 mod variables;
 
 pub use judging::{judge_declaration, judge_post, judge_rule};

@@ -7,7 +7,7 @@ ghost use Rattle.chr_limits.specs.Words.{is_unfit, formula_has, term_has, phrase
 ghost use Rattle.chr_limits.specs.Limits.{has_many_args, adds_many_args, is_comparison, is_item, has_wide_atom};
 
 use crate::number::int;
-use crate::test::{Test, any};
+use crate::parts::{Test, any};
 use chr_grammar::{
     BodyMember, GuardMember, ParsedAtom, ParsedExpression, ParsedRule, ParsedTerm, TermNode,
 };

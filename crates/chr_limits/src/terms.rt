@@ -4,7 +4,7 @@ ghost use Rattle.chr_grammar.specs.Views as by_texts;
 ghost use Rattle.chr_limits.specs.declared.terms.TheConstants.{MOST_TERM_DEPTH};
 ghost use Rattle.chr_limits.specs.Limits.{arguments_behind, has_wide_functor, is_large_term, has_large_args, compares_large_terms, adds_large_args, has_large_term};
 
-use crate::test::{Test, any};
+use crate::parts::{Test, any};
 use chr_grammar::{BodyMember, GuardMember, ParsedAtom, ParsedRule, ParsedTerm, TermNode};
 use chr_value::MOST_ARGS;
 use std::alloc::Allocator;

@@ -1,7 +1,7 @@
 use Rattle.std.proofs.Common.{arith, ap, sym, ◌∙◌}
 use Rattle.chr_limits.proofs.Arguments.{passed, not_passed}
-use Rattle.chr_limits.proofs.test.count.Goals as goal
-use Rattle.chr_limits.proofs.test.count.Goals.{then-passes, else-passes}
+use Rattle.chr_limits.proofs.parts.count.Goals as goal
+use Rattle.chr_limits.proofs.parts.count.Goals.{then-passes, else-passes}
 
 pub loop-part-preserved : goal.loop-part-preserved
 loop-part-preserved g c =

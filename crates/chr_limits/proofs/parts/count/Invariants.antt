@@ -1,5 +1,5 @@
 use Rattle.std.proofs.Common.{◌≡◌, ◌≤◌, ◌+◌, length, map, drop, filter}
-use Rattle.chr_limits.proofs.test.count.Given as goal
+use Rattle.chr_limits.proofs.parts.count.Given as goal
 
 abbrev pub invariant-loop-part : goal.invariant-loop-part
 invariant-loop-part g l = record {

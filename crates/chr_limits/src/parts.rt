@@ -1,4 +1,4 @@
-//! Tests of the parts of an item.
+//! The parts of an item, and tests of them.
 ghost use Rattle.std.specs.Prelude.{◌≡◌, Bool, length, map, filter};
 ghost use Rattle.std.specs.List.{list_any};
 

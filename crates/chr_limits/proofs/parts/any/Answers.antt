@@ -1,6 +1,6 @@
 use Rattle.std.proofs.Common.{sym, ◌∙◌}
 use Rattle.chr_rule.proofs.Places.{any_here, any_left}
-use Rattle.chr_limits.proofs.test.any.Goals as goal
+use Rattle.chr_limits.proofs.parts.any.Goals as goal
 
 pub returns-then-passes : goal.returns-then-passes
 returns-then-passes g c =
