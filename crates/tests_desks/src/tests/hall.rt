@@ -1,4 +1,4 @@
-//! A lock over no book, with a worker and the places of sessions, and what is done there.
+//! A lock over no book, with two workers and the places of sessions, and what is done there.
 ghost use Rattle.std.specs.Prelude.{◌≡◌, false};
 
 use chr_crew::work::work;
@@ -18,13 +18,13 @@ pub struct Worker<L1: PostLedger, L2: Ledger> {
     pub seat: Seat<L1, L2>,
 }
 
-/// The memory of a lock, the lock, the places of its sessions, and a worker.
+/// The memory of a lock, the lock, the places of its sessions, and two workers.
 #[derive(Drop)]
 pub struct Hall<L1: PostLedger, L2: Ledger, A: Allocator> {
     pub alloc: A,
     pub shared: Shared<L1, L2, A>,
     pub rack: Rack<L1, L2, A>,
-    pub worker: Worker<L1, L2>,
+    pub workers: (Worker<L1, L2>, Worker<L1, L2>),
 }
 
 /// What is done in a hall by one thread.
@@ -53,7 +53,7 @@ pub fn hall_of<L1: PostLedger, L2: Ledger, A: Allocator + Copy>(
 {
     let (Ok((shared, seats)), Ok((mut hands, inlets))) = (
         Shared::empty(alloc, posts, others),
-        make(pool, 1, 16, 16),
+        make(pool, 2, 16, 16),
     ) else {
         return None;
     };
@@ -62,15 +62,23 @@ pub fn hall_of<L1: PostLedger, L2: Ledger, A: Allocator + Copy>(
         sessions,
     } = seats;
     match (
+        Rack::new(alloc, sessions, inlets),
+        hands.pop(),
         hands.pop(),
         workers.pop(),
-        Rack::new(alloc, sessions, inlets),
+        workers.pop(),
     ) {
-        (Some(hand), Some(seat), Ok(rack)) => Some(Hall {
+        (Ok(rack), Some(hand), Some(other_hand), Some(seat), Some(other_seat)) => Some(Hall {
             alloc,
             shared,
             rack,
-            worker: Worker { hand, seat },
+            workers: (
+                Worker { hand, seat },
+                Worker {
+                    hand: other_hand,
+                    seat: other_seat,
+                },
+            ),
         }),
         _ => None,
     }
@@ -103,13 +111,13 @@ pub fn visited<A: Allocator + Copy, R: Wait, V: Visit<A>>(
     visit_hall::<Brand, Brand, A, R, V>(rt, alloc, pool, visit, Blank::new(32), Blank::new(32))
 }
 
-/// Has the worker make so many turns at most.
-pub fn work_some<L1: PostLedger, L2: Ledger, A: Allocator + Copy, R: Wait>(
+/// Has a worker work.
+pub fn work_until<L1: PostLedger, L2: Ledger, A: Allocator + Copy, R: Wait>(
     rt: &R,
     shared: &Shared<L1, L2, A>,
     worker: &mut Worker<L1, L2>,
-    turns: u64,
+    stop: Stop,
 ) {
     let Worker { hand, seat } = worker;
-    work(rt, shared, hand, seat, &Open, Stop::Turns(turns));
+    work(rt, shared, hand, seat, &Open, stop);
 }

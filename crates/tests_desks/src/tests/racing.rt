@@ -1,8 +1,8 @@
 //! Sixteen sessions that load at once.
 ghost use Rattle.std.specs.Prelude.{◌≡◌, false};
 
-use crate::tests::hall::{Hall, Worker, hall_of, work_some};
-use chr_crew::{Place, Rack};
+use crate::tests::hall::{Hall, Worker, hall_of, work_until};
+use chr_crew::{Place, Rack, Stop};
 use chr_seats::PostLedger;
 use chr_session::{Command, Desk, Fault, Reply};
 use chr_shared::Shared;
@@ -91,7 +91,7 @@ fn runs_by_rules_of<D: Desk<Global>, L1: PostLedger, L2: Ledger, R: Wait>(
     if !matches!(desk.ask(Command::Post(b"go.")), Reply::Posted(1, 1)) {
         return false;
     }
-    work_some(rt, shared, worker, 1000);
+    work_until(rt, shared, worker, Stop::Turns(1000));
     match (
         desk.ask(Command::Store),
         format!(in alloc; "#2 won({number})\n"),
@@ -114,7 +114,7 @@ fn last_runs_by_rules_of<L1: PostLedger, L2: Ledger, R: Wait>(
         hall.alloc,
         &hall.shared,
         &mut desk,
-        &mut hall.worker,
+        &mut hall.workers.0,
         number,
     ))
 }

@@ -1,8 +1,8 @@
 //! Long replies, whose texts are made while the lock is free.
 ghost use Rattle.std.specs.Prelude.{◌≡◌, false};
 
-use crate::tests::hall::{Hall, Worker, hall_of, work_some};
-use chr_crew::Place;
+use crate::tests::hall::{Hall, Worker, hall_of, work_until};
+use chr_crew::{Place, Stop};
 use chr_seats::PostLedger;
 use chr_session::{Command, Desk, Reply};
 use chr_shared::Shared;
@@ -147,7 +147,7 @@ fn is_filled<L1: PostLedger, L2: Ledger, A: Allocator + Copy, D: Desk<A>, R: Wai
             desk.ask(Command::Post(text.as_bytes())),
             Reply::Posted(1, 2000)
         );
-    work_some(rt, shared, worker, MANY);
+    work_until(rt, shared, worker, Stop::Turns(MANY));
     posted
 }
 
@@ -161,7 +161,7 @@ fn fill<L1: PostLedger, L2: Ledger, A: Allocator + Copy, N: Requests, R: Wait>(
 ) -> Option<Span> {
     let Place { seat, inlet } = hall.rack.take(rt).ok()?;
     let mut desk = SharedDesk::new(rt, hall.alloc, &hall.shared, seat, inlet);
-    let filled = is_filled(rt, pool, &hall.shared, &mut desk, &mut hall.worker);
+    let filled = is_filled(rt, pool, &hall.shared, &mut desk, &mut hall.workers.0);
     let span = span_of(&mut desk, requests, reads);
     if filled { span } else { None }
 }

@@ -3,8 +3,8 @@
 //! The memory is that of the lock, the rack and the desk. That of the pool isn't refused, since it is always of `Global`.
 ghost use Rattle.std.specs.Prelude.{◌≡◌, false};
 
-use crate::tests::hall::{Hall, Visit, Worker, visited, work_some};
-use chr_crew::{Place, Rack};
+use crate::tests::hall::{Hall, Visit, Worker, visited, work_until};
+use chr_crew::{Place, Rack, Stop};
 use chr_pool::make;
 use chr_seats::PostLedger;
 use chr_session::{Command, Desk, Fault, Reply};
@@ -211,7 +211,7 @@ fn play_on<'m, D: Desk<Memory<'m>>, L1: PostLedger, L2: Ledger, R: Wait>(
     n: u64,
 ) -> Option<u64> {
     let before = refusals(desk, memory, n, &BEFORE)?;
-    work_some(rt, shared, worker, 1000);
+    work_until(rt, shared, worker, Stop::Turns(1000));
     let after = refusals(desk, memory, n, &AFTER)?;
     Some(before.wrapping_add(after))
 }
@@ -235,7 +235,7 @@ impl<'m> Visit<Memory<'m>> for Play {
         play_on(
             rt,
             &hall.shared,
-            &mut hall.worker,
+            &mut hall.workers.0,
             &mut desk,
             hall.alloc,
             self.n,

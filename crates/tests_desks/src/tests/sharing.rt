@@ -6,110 +6,150 @@ use chr_seats::PostLedger;
 use chr_session::{Desk, Ended, MemorySink, MemorySource, serve};
 use chr_shared::Shared;
 use chr_shared_desk::SharedDesk;
-use std::alloc::Global;
+use std::alloc::{AllocError, Global};
 use std::sync::Wait;
 use std::sync::ledger::Ledger;
 use std::test::*;
 
-/// What the first session is told, or the second, and what it replies.
-#[derive(Clone, Copy, Debug)]
-enum Line<'t> {
-    First(&'t [u8], &'t [u8]),
-    Second(&'t [u8], &'t [u8]),
-}
-
-/// Lines in order, and the tickets that the pool has in the end.
+/// What two sessions are told and reply, and the tickets that the pool has in the end.
 #[derive(Clone, Copy, Debug)]
 struct Talk<'t> {
     pub name: &'t str,
-    pub lines: &'t [Line<'t>],
+    /// What the first session is told stands after `1> `, and what the second is told after `2> `; `~` in it is the end of a
+    /// line. Each other line is one of the reply to the command before it.
+    pub lines: &'t [u8],
     pub tickets: &'t [u64],
 }
 
 /// Posts of one session, as both find them.
-const POSTS: Talk = Talk {
+static POSTS: Talk = Talk {
     name: "posts",
-    lines: &[
-        Line::First(
-            b"load 75\ngcd(0) <=> true.\ngcd(N) \\ gcd(M) <=> 0 < N, N =< M | L is M mod N, gcd(L).\n",
-            b"loaded 2\n",
-        ),
-        Line::Second(b"wait 3\n", b"quiet\n"),
-        Line::First(
-            b"post gcd(9), gcd(6).\nlog 1\n",
-            b"posted 1 2\nlog 2\nP 1 gcd(9)\nP 2 gcd(6)\n",
-        ),
-        Line::Second(b"log 2\n", b"log 1\nP 2 gcd(6)\n"),
-        Line::Second(b"wait 0\n", b"open\n"),
-        Line::First(b"wait 3\n", b"open\n"),
-        Line::Second(b"post gcd(4).\n", b"posted 3 1\n"),
-        Line::Second(b"post\n", b"posted 4 0\n"),
-        Line::First(b"post gcd(X).\n", b"fault E08 Binding 1\n"),
-        Line::First(b"log 3\n", b"log 1\nP 3 gcd(4)\n"),
-        Line::First(b"log 4\n", b"log 0\n"),
-        Line::Second(b"store\n", b"store 0\n"),
-    ],
+    lines: b"
+1> load 75~gcd(0) <=> true.~gcd(N) \\ gcd(M) <=> 0 < N, N =< M | L is M mod N, gcd(L).~
+loaded 2
+2> wait 3~
+quiet
+1> post gcd(9), gcd(6).~log 1~
+posted 1 2
+log 2
+P 1 gcd(9)
+P 2 gcd(6)
+2> log 2~
+log 1
+P 2 gcd(6)
+2> wait 0~
+open
+1> wait 3~
+open
+2> post gcd(4).~
+posted 3 1
+2> post~
+posted 4 0
+1> post gcd(X).~
+fault E08 Binding 1
+1> log 3~
+log 1
+P 3 gcd(4)
+1> log 4~
+log 0
+2> store~
+store 0
+",
     tickets: &[1, 2, 3],
 };
 
 /// A load where no program stands, where one can't be read, and where one stands.
-const LOADS: Talk = Talk {
+static LOADS: Talk = Talk {
     name: "loads",
-    lines: &[
-        Line::First(b"post a.\n", b"fault E24 NoProgram\n"),
-        Line::First(b"wait 3\n", b"fault E24 NoProgram\n"),
-        Line::First(b"store\n", b"fault E24 NoProgram\n"),
-        Line::First(b"log 1\n", b"fault E24 NoProgram\n"),
-        Line::First(b"load 9\na ==> b.\n", b"fault E05 Propagation 1\n"),
-        Line::Second(b"wait 0\n", b"fault E24 NoProgram\n"),
-        Line::Second(b"load 9\na <=> b.\n", b"loaded 1\n"),
-        Line::First(b"load 9\na <=> b.\n", b"fault E20 AlreadyLoaded\n"),
-        Line::Second(b"load 9\na ==> b.\n", b"fault E20 AlreadyLoaded\n"),
-        Line::First(b"wait 0\n", b"quiet\n"),
-        Line::First(b"post a.\nlog 1\n", b"posted 1 1\nlog 1\nP 1 a\n"),
-    ],
+    lines: b"
+1> post a.~
+fault E24 NoProgram
+1> wait 3~
+fault E24 NoProgram
+1> store~
+fault E24 NoProgram
+1> log 1~
+fault E24 NoProgram
+1> load 9~a ==> b.~
+fault E05 Propagation 1
+2> wait 0~
+fault E24 NoProgram
+2> load 9~a <=> b.~
+loaded 1
+1> load 9~a <=> b.~
+fault E20 AlreadyLoaded
+2> load 9~a ==> b.~
+fault E20 AlreadyLoaded
+1> wait 0~
+quiet
+1> post a.~log 1~
+posted 1 1
+log 1
+P 1 a
+",
     tickets: &[1],
 };
 
-/// Whether a desk that is told this replies so.
-fn replies<D: Desk<Global>>(alloc: Global, desk: &mut D, told: &[u8], reply: &[u8]) -> bool {
-    let mut source = MemorySource::new(told, 7);
-    let mut sink = MemorySink::new(alloc, 5);
-    let ended = serve(alloc, &mut source, &mut sink, desk);
-    matches!(ended, Ok(Ended::End)) && sink.bytes.as_slice() == reply
+/// Adds a line of a reply. Whether it could.
+fn adds_line(replies: &mut Vec<u8>, line: &[u8]) -> bool {
+    replies.extend_from_slice(line).is_ok() && replies.push(b'\n').is_ok()
 }
 
-/// The first line whose reply is another.
-fn wrong_reply<D: Desk<Global>>(
+/// The bytes of a command.
+fn bytes_of(alloc: Global, command: &[u8]) -> Result<Vec<u8>, AllocError> {
+    let mut bytes = Vec::new(alloc);
+    for byte in command {
+        bytes.push(if *byte == b'~' { b'\n' } else { *byte })?;
+    }
+    Ok(bytes)
+}
+
+/// Whether a desk is served a command, with its reply behind those before.
+fn is_served<D: Desk<Global>>(
     alloc: Global,
-    first: &mut D,
-    second: &mut D,
-    lines: &[Line<'_>],
-) -> Option<usize> {
-    for at in 0..lines.len() {
-        let right = match lines[at] {
-            Line::First(told, reply) => replies(alloc, first, told, reply),
-            Line::Second(told, reply) => replies(alloc, second, told, reply),
+    desk: &mut D,
+    command: &[u8],
+    sink: &mut MemorySink<Global>,
+) -> bool {
+    match bytes_of(alloc, command) {
+        Ok(told) => {
+            let mut source = MemorySource::new(&told, 7);
+            matches!(serve(alloc, &mut source, sink, desk), Ok(Ended::End))
+        }
+        Err(_) => false,
+    }
+}
+
+/// Whether two desks reply as the lines say.
+fn reply<D: Desk<Global>>(alloc: Global, first: &mut D, second: &mut D, lines: &[u8]) -> bool {
+    let mut sink = MemorySink::new(alloc, 5);
+    let mut wanted = Vec::new(alloc);
+    for line in lines.split(|b| *b == b'\n') {
+        let right = match line {
+            [] => true,
+            [b'1', b'>', b' ', command @ ..] => is_served(alloc, first, command, &mut sink),
+            [b'2', b'>', b' ', command @ ..] => is_served(alloc, second, command, &mut sink),
+            reply => adds_line(&mut wanted, reply),
         };
         if !right {
-            return Some(at);
+            return false;
         }
     }
-    None
+    sink.bytes.as_slice() == wanted.as_slice()
 }
 
 /// The same of desks at these places.
-fn first_wrong<L1: PostLedger, L2: Ledger, R: Wait>(
+fn reply_at<L1: PostLedger, L2: Ledger, R: Wait>(
     rt: &R,
     alloc: Global,
     shared: &Shared<L1, L2, Global>,
     places: (Place<L1, L2>, Place<L1, L2>),
-    lines: &[Line<'_>],
-) -> Option<usize> {
+    lines: &[u8],
+) -> bool {
     let (first, second) = places;
     let mut first = SharedDesk::new(rt, alloc, shared, first.seat, first.inlet);
     let mut second = SharedDesk::new(rt, alloc, shared, second.seat, second.inlet);
-    wrong_reply(alloc, &mut first, &mut second, lines)
+    reply(alloc, &mut first, &mut second, lines)
 }
 
 /// Whether the pool has these tickets, and no other.
@@ -122,31 +162,27 @@ fn has_tickets<R: Wait>(rt: &R, hand: &mut Hand<u64>, tickets: &[u64]) -> bool {
     hand.take(rt).is_none()
 }
 
-/// The number of the first line whose reply is another, or how many there are where the tickets are others. None where all
-/// are as they are to be.
+/// Whether the replies are those of the lines, and the pool has the tickets then.
 impl Visit<Global> for Talk<'_> {
-    type Seen = Option<usize>;
+    type Seen = bool;
 
     fn visit<L1: PostLedger, L2: Ledger, R: Wait>(
         &self,
         rt: &R,
         hall: &mut Hall<L1, L2, Global>,
-    ) -> Option<Option<usize>> {
+    ) -> Option<bool> {
         let (Ok(first), Ok(second)) = (hall.rack.take(rt), hall.rack.take(rt)) else {
             return None;
         };
-        let wrong = first_wrong(rt, hall.alloc, &hall.shared, (first, second), self.lines);
-        if wrong.is_none() && !has_tickets(rt, &mut hall.worker.hand, self.tickets) {
-            return Some(Some(self.lines.len()));
-        }
-        Some(wrong)
+        let right = reply_at(rt, hall.alloc, &hall.shared, (first, second), self.lines);
+        Some(right && has_tickets(rt, &mut hall.workers.0.hand, self.tickets))
     }
 }
 
 #[test]
 fn replies_are_those_of_the_tables(rt: HostRuntime) {
-    for talk in [POSTS, LOADS] {
-        let wrong = visited(&rt, rt.alloc(), rt.alloc(), &talk);
-        assert_eq!(rt; wrong, Some(None), "{}", talk.name);
+    for talk in [&POSTS, &LOADS] {
+        let right = visited(&rt, rt.alloc(), rt.alloc(), talk);
+        assert_eq!(rt; right, Some(true), "{}", talk.name);
     }
 }
