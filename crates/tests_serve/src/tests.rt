@@ -1,9 +1,7 @@
 //! Clients of servers, and a module for each kind of test.
 mod client;
 mod failing;
-mod hall;
 mod long;
-mod memory;
 mod refused;
 mod sessions;
 mod socket;

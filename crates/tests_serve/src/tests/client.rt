@@ -62,17 +62,17 @@ impl Rules {
         format!(in alloc; "post {before}{one}{after}, {before}{other}{after}.\nlog 1\n")
     }
 
-    /// Whether a log has the post of a number under this ticket.
-    fn has_post(self, alloc: Global, log: &str, ticket: u64, number: u64) -> bool {
-        let (before, after) = self.around;
-        has_line(log, format!(in alloc; "P {ticket} {before}{number}{after}"))
-    }
-
-    /// Whether a log has the posts of two numbers under this ticket and the next.
-    pub fn has_posts(self, alloc: Global, log: &str, ticket: u64, numbers: (u64, u64)) -> bool {
+    /// Whether a log has the posts of two numbers under this ticket and the next, one after the other.
+    fn has_posts(self, alloc: Global, log: &str, ticket: u64, numbers: (u64, u64)) -> bool {
+        let next = ticket.wrapping_add(1);
         let (one, other) = numbers;
-        self.has_post(alloc, log, ticket, one)
-            && self.has_post(alloc, log, ticket.wrapping_add(1), other)
+        let (before, after) = self.around;
+        has_part(
+            log,
+            format!(in alloc;
+                "\nP {ticket} {before}{one}{after}\nP {next} {before}{other}{after}\n"
+            ),
+        )
     }
 
     /// Whether a store's reply has one constraint, of this number.
@@ -94,16 +94,16 @@ impl Rules {
     }
 }
 
-/// Whether a text has a line that is made with memory.
-pub fn has_line(text: &str, wanted: Result<String, AllocError>) -> bool {
+/// Whether a text has a part that is made with memory.
+pub fn has_part(text: &str, wanted: Result<String, AllocError>) -> bool {
     match wanted {
-        Ok(wanted) => text.lines().any(|line| line == wanted.as_str()),
+        Ok(wanted) => text.contains(wanted.as_str()),
         Err(_) => false,
     }
 }
 
 /// The first ticket that the reply to a post of two numbers names.
-pub fn first_ticket(posted: &str) -> Option<u64> {
+fn first_ticket(posted: &str) -> Option<u64> {
     let ticket = posted
         .trim_end()
         .strip_prefix("posted ")?
@@ -189,6 +189,20 @@ pub fn connect_all<R: Net + AllocGlobal>(
     true
 }
 
+/// What a client tells, and the reply: none is told where the first is empty, and the end comes where the second is.
+pub type Row<'t> = (&'t str, &'t str);
+
+/// What a client is told where there is no seat.
+pub static NO_SEAT: [Row; 2] = [("", "fault E18 NoSeat\n"), ("", "")];
+
+/// Whether a new client is told the replies of these rows. It goes away then.
+pub fn plays<R: Net + AllocGlobal>(rt: &R, address: &SocketAddr, rows: &[Row]) -> bool {
+    match Client::connect(rt, address) {
+        Some(mut client) => client.plays(rows),
+        None => false,
+    }
+}
+
 /// A client of a server, and the reply that it has read last.
 pub struct Client {
     pub alloc: Global,
@@ -226,6 +240,18 @@ impl Client {
         }
     }
 
+    /// A new connection that has told this.
+    pub fn that_tells<R: Net + AllocGlobal>(
+        rt: &R,
+        address: &SocketAddr,
+        told: &str,
+    ) -> Option<Client> {
+        match Client::connect(rt, address) {
+            Some(mut client) => client.tell(told).then_some(client),
+            None => None,
+        }
+    }
+
     /// A new connection to a server that may not listen yet. None where it doesn't begin to.
     pub fn connect_at<R: Net + AllocGlobal>(rt: &R, path: &str) -> Option<Client> {
         for _ in 0..1_000_000 {
@@ -253,7 +279,7 @@ impl Client {
     }
 
     /// Whether the next reply is this, or the end where it is nothing.
-    pub fn is_told(&mut self, reply: &str) -> bool {
+    fn is_told(&mut self, reply: &str) -> bool {
         match self.reply() {
             Ok(told) => told == reply,
             Err(_) => false,
@@ -265,9 +291,19 @@ impl Client {
         self.tell(told) && self.is_told(reply)
     }
 
+    /// Whether it is told the replies of these rows.
+    pub fn plays(&mut self, rows: &[Row]) -> bool {
+        for (told, reply) in rows {
+            if !self.replies(told, reply) {
+                return false;
+            }
+        }
+        true
+    }
+
     /// Whether its session ends when it says so.
     pub fn takes_leave(&mut self) -> bool {
-        self.replies("quit\n", "bye\n") && self.is_told("")
+        self.plays(&[("quit\n", "bye\n"), ("", "")])
     }
 
     /// Whether no ticket is open after at most a thousand waits.

@@ -1,6 +1,9 @@
 //! A goal that outlasts its server.
 use crate::tests::client::{Client, found_at};
 use crate::tests::workers::posts_each;
+use std::alloc::AllocGlobal;
+use std::net::Net;
+use std::os::unix::net::SocketAddr;
 use std::test::*;
 
 /// The goal of an `a` tries each older `b` with each older `c` and so on, and fires with none.
@@ -11,14 +14,13 @@ const EACH: u64 = 100;
 
 /// Whether a `wait` for one look is answered while a worker is at such a goal. The goals of the other names are short, since
 /// they find no `a`.
-fn is_answered(client: Option<Client>) -> bool {
-    match client {
+fn is_answered<R: Net + AllocGlobal>(rt: &R, address: &SocketAddr) -> bool {
+    match Client::connect(rt, address) {
         Some(mut client) => {
             client.replies(LOAD, "loaded 1\n")
                 && posts_each(&mut client, &["b", "c", "d", "e", "f"], EACH)
                 && client.becomes_quiet()
-                && client.replies("post a(0).\n", "posted 501 1\n")
-                && client.replies("wait 1\n", "open\n")
+                && client.plays(&[("post a(0).\n", "posted 501 1\n"), ("wait 1\n", "open\n")])
         }
         None => false,
     }
@@ -26,12 +28,7 @@ fn is_answered(client: Option<Client>) -> bool {
 
 #[test]
 fn a_long_goal_holds_up_no_wait_and_no_end(rt: HostRuntime) {
-    let answered = found_at(
-        &rt,
-        1,
-        1,
-        |address| is_answered(Client::connect(&rt, address)),
-    );
+    let answered = found_at(&rt, 1, 1, |address| is_answered(&rt, address));
     // The server ends, though the goal isn't done.
     assert_eq!(rt; answered, Some(true));
 }

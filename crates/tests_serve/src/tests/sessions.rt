@@ -1,5 +1,7 @@
 //! Sessions of clients that read what they are told.
-use crate::tests::client::{COMPOUND, Client, LOAD, NUMBERS, Rules, connect_all, found_at};
+use crate::tests::client::{
+    COMPOUND, Client, LOAD, NO_SEAT, NUMBERS, Rules, connect_all, found_at, plays,
+};
 use std::alloc::AllocGlobal;
 use std::net::Net;
 use std::os::unix::net::SocketAddr;
@@ -9,12 +11,13 @@ use std::thread;
 use std::thread::Threads;
 
 /// What one client does: it loads and posts, and reads the store and the log of a quiet book.
-fn is_served(client: Option<Client>) -> bool {
-    match client {
+fn is_served<R: Net + AllocGlobal>(rt: &R, address: &SocketAddr) -> bool {
+    match Client::connect(rt, address) {
         Some(mut client) => {
-            client.replies(LOAD, "loaded 2\n")
-                && client.replies("post gcd(9), gcd(6).\r\n", "posted 1 2\n")
-                && client.tell("wait 1000\n")
+            client.plays(&[
+                (LOAD, "loaded 2\n"),
+                ("post gcd(9), gcd(6).\r\n", "posted 1 2\n"),
+            ]) && client.tell("wait 1000\n")
                 && matches!(client.reply(), Ok("quiet\n" | "open\n"))
                 && client.becomes_quiet()
                 && client.ends_with(NUMBERS, 3)
@@ -26,12 +29,7 @@ fn is_served(client: Option<Client>) -> bool {
 
 #[test]
 fn a_session_of_two_workers(rt: HostRuntime) {
-    let served = found_at(
-        &rt,
-        2,
-        1,
-        |address| is_served(Client::connect(&rt, address)),
-    );
+    let served = found_at(&rt, 2, 1, |address| is_served(&rt, address));
     assert_eq!(rt; served, Some(true));
 }
 
@@ -58,18 +56,10 @@ fn two_sessions_find_their_posts(rt: HostRuntime) {
     assert_eq!(rt; found, Some(true));
 }
 
-/// Whether a new client is told that there is no seat.
-fn is_refused<R: Net + AllocGlobal>(rt: &R, address: &SocketAddr) -> bool {
-    match Client::connect(rt, address) {
-        Some(mut client) => client.is_told("fault E18 NoSeat\n") && client.is_told(""),
-        None => false,
-    }
-}
-
 /// Whether a seventeenth client is refused while sixteen have a session.
 fn seventeenth_is_refused<R: Net + AllocGlobal>(rt: &R, address: &SocketAddr) -> bool {
     let mut sixteen = Vec::new(rt.alloc());
-    connect_all(rt, address, 16, &mut sixteen) && is_refused(rt, address)
+    connect_all(rt, address, 16, &mut sixteen) && plays(rt, address, &NO_SEAT)
 }
 
 #[test]

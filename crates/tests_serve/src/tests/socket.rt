@@ -13,12 +13,12 @@ use std::test::*;
 use std::thread::Threads;
 use std::{env, fs, io, process, thread};
 
-/// Whether a server of one session refuses to listen.
-fn is_refused<R: Files + Net + Threads + Wait + Sync + Clock + Eprint + AllocGlobal>(
+/// How a server of one session ends.
+fn served<R: Files + Net + Threads + Wait + Sync + Clock + Eprint + AllocGlobal>(
     rt: &R,
     path: &str,
-) -> bool {
-    serve(rt, Detail::Line, path, 1, Some(1)) == Status::Usage
+) -> Status {
+    serve(rt, Detail::Line, path, 1, Some(1))
 }
 
 #[test]
@@ -28,7 +28,7 @@ fn paths_where_no_socket_can_be_made(rt: HostRuntime) {
         "there-is-no-such-folder/chr.sock",
         "a-path-of-more-than-one-hundred-and-seven-bytes-which-no-socket-of-the-system-can-have-since-its-address-ends-there",
     ] {
-        assert!(rt; is_refused(&rt, path), "{path}");
+        assert!(rt; served(&rt, path) == Status::Usage, "{path}");
     }
 }
 
@@ -39,10 +39,16 @@ fn socket_path(rt: &HostRuntime, name: &str) -> io::Result<String> {
     Ok(format!(in rt.alloc(); "{}/chr-server-{number}-{name}.sock", folder.display())?)
 }
 
-/// Whether a client ends its session at once.
-fn takes_leave<R: Net + AllocGlobal>(rt: &R, path: &str) -> bool {
+/// Whether a client ends its session, and can put a file in the place of the socket before, where it is to.
+fn leaves<R: Files + Net + AllocGlobal>(rt: &R, path: &str, replaces: bool) -> bool {
     match Client::connect_at(rt, path) {
-        Some(mut client) => client.takes_leave(),
+        Some(mut client) => {
+            let replaced = !replaces
+                || client.replies("store\n", "fault E24 NoProgram\n")
+                    && fs::remove_file(rt, path).is_ok()
+                    && fs::write(rt, path, b"kept").is_ok();
+            replaced && client.takes_leave()
+        }
         None => false,
     }
 }
@@ -51,27 +57,10 @@ fn takes_leave<R: Net + AllocGlobal>(rt: &R, path: &str) -> bool {
 fn a_socket_is_removed_at_the_end(rt: HostRuntime) -> Result<(), Fail> {
     let path = socket_path(&rt, "removed")?;
     let path = path.as_str();
-    let (status, left) = thread::join(
-        &rt,
-        || serve(&rt, Detail::Line, path, 1, Some(1)),
-        || takes_leave(&rt, path),
-    );
+    let (status, left) = thread::join(&rt, || served(&rt, path), || leaves(&rt, path, false));
     assert!(rt; status == Status::Done && left);
     assert!(rt; matches!(fs::exists(&rt, path), Ok(false)));
     Ok(())
-}
-
-/// Whether a client can put a file in the place of the socket while its session lives.
-fn replaces_socket<R: Files + Net + AllocGlobal>(rt: &R, path: &str) -> bool {
-    match Client::connect_at(rt, path) {
-        Some(mut client) => {
-            client.replies("store\n", "fault E24 NoProgram\n")
-                && fs::remove_file(rt, path).is_ok()
-                && fs::write(rt, path, b"kept").is_ok()
-                && client.takes_leave()
-        }
-        None => false,
-    }
 }
 
 /// Whether this file is as it was written. It is removed then.
@@ -85,12 +74,8 @@ fn was_kept<R: Files + AllocGlobal>(rt: &R, path: &str) -> io::Result<bool> {
 fn another_file_is_left_at_the_end(rt: HostRuntime) -> Result<(), Fail> {
     let path = socket_path(&rt, "replaced")?;
     let path = path.as_str();
-    let (status, replaced) = thread::join(
-        &rt,
-        || serve(&rt, Detail::Line, path, 1, Some(1)),
-        || replaces_socket(&rt, path),
-    );
-    assert!(rt; status == Status::Done && replaced);
+    let (status, left) = thread::join(&rt, || served(&rt, path), || leaves(&rt, path, true));
+    assert!(rt; status == Status::Done && left);
     assert!(rt; matches!(was_kept(&rt, path), Ok(true)));
     Ok(())
 }
@@ -101,7 +86,7 @@ fn leaves_file<R: Files + Net + Threads + Wait + Sync + Clock + Eprint + AllocGl
     path: &str,
 ) -> io::Result<bool> {
     fs::write(rt, path, b"kept")?;
-    let refused = is_refused(rt, path);
+    let refused = served(rt, path) == Status::Usage;
     Ok(was_kept(rt, path)? && refused)
 }
 
@@ -111,10 +96,10 @@ fn leaves_socket<R: Files + Net + Threads + Wait + Sync + Clock + Eprint + Alloc
     path: &str,
 ) -> io::Result<bool> {
     let refused = match UnixListener::bind(rt, path) {
-        Ok(_listener) => is_refused(rt, path) && UnixStream::connect(rt, path).is_ok(),
+        Ok(_listener) => served(rt, path) == Status::Usage && UnixStream::connect(rt, path).is_ok(),
         Err(_) => false,
     };
-    let left = is_refused(rt, path) && fs::exists(rt, path)?;
+    let left = served(rt, path) == Status::Usage && fs::exists(rt, path)?;
     fs::remove_file(rt, path)?;
     Ok(refused && left)
 }

@@ -1,19 +1,12 @@
 //! Clients that send what no session reads.
-use crate::tests::client::{Client, connect_all, found_at, found_beside, listen};
+use crate::tests::client::{Client, NO_SEAT, connect_all, found_at, found_beside, listen};
 use std::alloc::{AllocError, AllocGlobal, Global};
-use std::io::{Read, Write};
 use std::net::Net;
-use std::os::unix::net::{SocketAddr, UnixListener, UnixStream};
+use std::os::unix::net::{SocketAddr, UnixListener};
 use std::rt::Clock;
 use std::sync::Wait;
 use std::test::*;
 use std::thread::Threads;
-
-/// Whether a client is told this and then comes to the end, without a failure.
-fn is_told(alloc: Global, stream: &mut UnixStream, reply: &str) -> bool {
-    let mut told = Vec::new(alloc);
-    stream.read_to_end(&mut told).is_ok() && told.as_slice() == reply.as_bytes()
-}
 
 /// More than a session reads at once.
 const BEHIND: usize = 100_000;
@@ -24,16 +17,13 @@ fn quit_and_more(alloc: Global) -> Result<String, AllocError> {
     format!(in alloc; "quit\n{more}")
 }
 
-/// Whether a client that has sent bytes behind the end of its session comes to the end of its replies.
+/// Whether a client that has sent bytes behind the end of its session comes to the end of its replies, without a failure.
 fn ends_behind_quit<R: Net + AllocGlobal>(rt: &R, address: &SocketAddr) -> bool {
-    match (
-        UnixStream::connect_addr(rt, address),
-        quit_and_more(rt.alloc()),
-    ) {
-        (Ok(mut stream), Ok(sent)) => {
+    match (Client::connect(rt, address), quit_and_more(rt.alloc())) {
+        (Some(mut client), Ok(sent)) => {
             // The session may have ended before all is sent.
-            let _ = stream.write_all(sent.as_bytes());
-            is_told(rt.alloc(), &mut stream, "bye\n")
+            client.tell(sent.as_str());
+            client.plays(&[("", "bye\n"), ("", "")])
         }
         _ => false,
     }
@@ -45,17 +35,9 @@ fn bytes_behind_quit_reset_no_client(rt: HostRuntime) {
     assert_eq!(rt; ends, Some(true));
 }
 
-/// A client that has sent a command.
-fn sender<R: Net>(rt: &R, address: &SocketAddr) -> Option<UnixStream> {
-    match UnixStream::connect_addr(rt, address) {
-        Ok(mut stream) => stream.write_all(b"wait 0\n").is_ok().then_some(stream),
-        Err(_) => None,
-    }
-}
-
-/// Whether the last client is told that there is no seat; then the others go away.
-fn last_is_refused(alloc: Global, sixteen: &mut Vec<Client>, last: &mut UnixStream) -> bool {
-    let told = is_told(alloc, last, "fault E18 NoSeat\n");
+/// Whether the last client is told that there is no seat, and comes to the end of its replies; then the others go away.
+fn last_is_refused(sixteen: &mut Vec<Client>, last: &mut Client) -> bool {
+    let told = last.plays(&NO_SEAT);
     sixteen.clear();
     told
 }
@@ -70,14 +52,14 @@ fn late_client_is_refused<R: Net + Threads + Wait + Clock + Sync + AllocGlobal>(
     if !connect_all(rt, address, 16, &mut sixteen) {
         return None;
     }
-    match sender(rt, address) {
+    match Client::that_tells(rt, address, "wait 0\n") {
         Some(mut last) => found_beside(
             rt,
             rt.alloc(),
             listener,
             1,
             17,
-            || last_is_refused(rt.alloc(), &mut sixteen, &mut last),
+            || last_is_refused(&mut sixteen, &mut last),
         ),
         None => None,
     }

@@ -1,5 +1,5 @@
 //! Clients that vanish, that send what is no command, and that never read.
-use crate::tests::client::{Client, LOAD, connect_all, found_at, is_added};
+use crate::tests::client::{Client, LOAD, connect_all, found_at, is_added, plays};
 use std::alloc::AllocGlobal;
 use std::io::{self, Write};
 use std::net::Net;
@@ -18,14 +18,6 @@ fn next_descriptor<R: Net>(rt: &R) -> Option<i32> {
     }
 }
 
-/// A new client that has told this.
-fn teller<R: Net + AllocGlobal>(rt: &R, address: &SocketAddr, told: &str) -> Option<Client> {
-    match Client::connect(rt, address) {
-        Some(mut client) => client.tell(told).then_some(client),
-        None => None,
-    }
-}
-
 /// What clients tell that don't end it.
 static UNENDED: [&str; 3] = [
     "post gcd(8), gcd(",
@@ -36,7 +28,7 @@ static UNENDED: [&str; 3] = [
 /// A client whose replies are longer than what the system keeps for a client that doesn't read them.
 fn asker<R: Net + AllocGlobal>(rt: &R, address: &SocketAddr) -> Option<Client> {
     match "log 1\n".repeat(rt.alloc(), 5000) {
-        Ok(logs) => teller(rt, address, logs.as_str()),
+        Ok(logs) => Client::that_tells(rt, address, logs.as_str()),
         Err(_) => None,
     }
 }
@@ -44,7 +36,7 @@ fn asker<R: Net + AllocGlobal>(rt: &R, address: &SocketAddr) -> Option<Client> {
 /// Adds clients that don't end what they say, and one that asks for much and reads nothing. Whether it could.
 fn adds_bad<R: Net + AllocGlobal>(rt: &R, address: &SocketAddr, clients: &mut Vec<Client>) -> bool {
     for told in UNENDED {
-        if !is_added(clients, teller(rt, address, told)) {
+        if !is_added(clients, Client::that_tells(rt, address, told)) {
             return false;
         }
     }
@@ -72,9 +64,10 @@ fn finds_quiet<R: Net + AllocGlobal>(rt: &R, address: &SocketAddr) -> bool {
 fn others_go_on<R: Net + AllocGlobal>(rt: &R, address: &SocketAddr) -> bool {
     match Client::connect(rt, address) {
         Some(mut client) => {
-            client.replies(LOAD, "loaded 2\n")
-                && client.replies("post gcd(9), gcd(6).\n", "posted 1 2\n")
-                && goes_on(rt, address, &mut client)
+            client.plays(&[
+                (LOAD, "loaded 2\n"),
+                ("post gcd(9), gcd(6).\n", "posted 1 2\n"),
+            ]) && goes_on(rt, address, &mut client)
                 && finds_quiet(rt, address)
         }
         None => false,
@@ -163,17 +156,9 @@ fn seats<R: Net + Clock + AllocGlobal>(
     (clients.len(), next.wrapping_sub(before), left)
 }
 
-/// Whether a client can load rules. It goes away then.
-fn loads<R: Net + AllocGlobal>(rt: &R, address: &SocketAddr) -> bool {
-    match Client::connect(rt, address) {
-        Some(mut client) => client.replies(LOAD, "loaded 2\n"),
-        None => false,
-    }
-}
-
 /// The first two of these after a client has loaded and ten thousand were cut.
 fn seats_after<R: Net + Clock + AllocGlobal>(rt: &R, address: &SocketAddr) -> Option<(usize, i32)> {
-    let loads = loads(rt, address);
+    let loads = plays(rt, address, &[(LOAD, "loaded 2\n")]);
     let before = next_descriptor(rt)?;
     open_and_cut(rt, address, CUT).ok()?;
     let (seats, rise, left) = seats(rt, address, before);
@@ -197,9 +182,10 @@ const BESIDE: u32 = 2000;
 fn waits<R: Net + AllocGlobal>(rt: &R, address: &SocketAddr) -> bool {
     match Client::connect(rt, address) {
         Some(mut client) => {
-            client.replies("load 9\na <=> a.\n", "loaded 1\n")
-                && client.replies("post a.\n", "posted 1 1\n")
-                && client.tell("wait 4294967295\n")
+            client.plays(&[
+                ("load 9\na <=> a.\n", "loaded 1\n"),
+                ("post a.\n", "posted 1 1\n"),
+            ]) && client.tell("wait 4294967295\n")
         }
         None => false,
     }

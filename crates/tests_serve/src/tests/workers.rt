@@ -1,6 +1,8 @@
 //! Goals that are worked on at once.
-use crate::tests::client::{Client, found_at, has_line};
-use std::alloc::Global;
+use crate::tests::client::{Client, found_at, has_part};
+use std::alloc::{AllocGlobal, Global};
+use std::net::Net;
+use std::os::unix::net::SocketAddr;
 use std::test::*;
 
 /// A goal `go` tries each `n` with each `m`, and fires with none; `d` fires at once.
@@ -42,18 +44,11 @@ pub fn posts_each(client: &mut Client, names: &[&str], count: u64) -> bool {
     true
 }
 
-/// Whether a log has a firing by this ticket.
-fn fires(alloc: Global, log: &str, ticket: u64) -> bool {
-    match format!(in alloc; "F {ticket} ") {
-        Ok(start) => log.lines().any(|entry| entry.starts_with(start.as_str())),
-        Err(_) => false,
-    }
-}
-
 /// Whether the goal of the ticket `long` has not ended in a log that has a firing of the next one's. None before that.
 fn is_overtaken(alloc: Global, log: &str, long: u64) -> Option<bool> {
-    if fires(alloc, log, long.wrapping_add(1)) {
-        Some(!has_line(log, format!(in alloc; "D {long}")))
+    let next = long.wrapping_add(1);
+    if has_part(log, format!(in alloc; "\nF {next} ")) {
+        Some(!has_part(log, format!(in alloc; "\nD {long}\n")))
     } else {
         None
     }
@@ -99,8 +94,8 @@ fn one_overtakes(client: &mut Client) -> bool {
 }
 
 /// The same after a client has loaded the rules and posted what long goals try.
-fn one_overtakes_after_posts(client: Option<Client>) -> bool {
-    match client {
+fn one_overtakes_after_posts<R: Net + AllocGlobal>(rt: &R, address: &SocketAddr) -> bool {
+    match Client::connect(rt, address) {
         Some(mut client) => {
             client.replies(LOAD, "loaded 2\n")
                 && posts_each(&mut client, &["n", "m"], EACH)
@@ -113,11 +108,6 @@ fn one_overtakes_after_posts(client: Option<Client>) -> bool {
 
 #[test]
 fn two_workers_work_at_once(rt: HostRuntime) {
-    let overtakes = found_at(
-        &rt,
-        2,
-        1,
-        |address| one_overtakes_after_posts(Client::connect(&rt, address)),
-    );
+    let overtakes = found_at(&rt, 2, 1, |address| one_overtakes_after_posts(&rt, address));
     assert_eq!(rt; overtakes, Some(true));
 }
