@@ -1,10 +1,9 @@
 //! Runs of crews, and sessions beside workers.
 mod beside;
-mod case;
 mod gates;
+mod play;
 mod refused;
 mod runs;
-mod sessions;
 mod stops;
 mod threads;
 mod told;

@@ -1,111 +1,156 @@
 //! A session on a book under a lock, with workers beside it.
 ghost use Rattle.std.specs.Prelude.{◌≡◌, ◌≤◌};
 
-use crate::tests::case::{Case, Crew, Session};
-use crate::tests::runs::{Task, open};
+use crate::tests::play::{
+    Before, Looks, Play, Refuses, Signs, Step, becomes_quiet, comes, is_quiet, looks_twice, posts,
+    stores, yields,
+};
+use crate::tests::runs::{MANY, open};
 use chr_book::Book;
 use chr_crew::work::work;
 use chr_crew::{Gate, Place, Stop};
 use chr_pool::{Hand, make};
 use chr_seats::{PostLedger, Seat, Seats};
-use chr_session::{Command, Desk, Reply};
+use chr_session::Reply;
 use chr_shared::Shared;
-use chr_shared_desk::{Patience, SharedDesk};
+use chr_shared_desk::SharedDesk;
 use std::alloc::{Allocator, Global};
 use std::marker::Brand;
 use std::sync::Wait;
+use std::sync::atomic::Ordering;
 use std::sync::ledger::{Blank, Ledger};
 use std::thread;
 use std::thread::Threads;
 
-/// The lock of a book.
+/// A gate at which workers do what a play has them do before a judgement.
 #[derive(Drop)]
-struct Lock<'a, L1: PostLedger, L2: Ledger, A: Allocator, R: Wait> {
+struct Door<'a, L1: PostLedger, L2: Ledger, A: Allocator, R: Wait> {
     rt: &'a R,
     shared: &'a Shared<L1, L2, A>,
+    signs: &'a Signs,
 }
 
-impl<L1: PostLedger, L2: Ledger, A: Allocator + Copy, R: Wait> Crew for Lock<'_, L1, L2, A, R> {
-    fn resting(&self) -> u32 {
-        self.shared.resting(self.rt)
-    }
-
-    fn news(&self) -> u64 {
-        self.shared.news()
-    }
-
-    fn announce(&self) {
-        self.shared.announce(self.rt);
-    }
-
-    fn take_stray(&self) -> Option<u64> {
-        self.shared.take_stray(self.rt)
-    }
-
-    fn close(&self) {
-        self.shared.close(self.rt);
-    }
-}
-
-/// A gate where a case does what comes before a judgement.
-#[derive(Drop)]
-struct Before<'a, L1: PostLedger, L2: Ledger, A: Allocator, R: Wait, K> {
-    rt: &'a R,
-    shared: &'a Shared<L1, L2, A>,
-    case: &'a K,
-}
-
-impl<L1: PostLedger, L2: Ledger, A: Allocator + Copy, R: Wait, K: Case<A>> Gate
-    for Before<'_, L1, L2, A, R, K> {
+impl<L1: PostLedger, L2: Ledger, A: Allocator + Copy, R: Wait> Gate for Door<'_, L1, L2, A, R> {
     fn before_judging(&self, ticket: u64) {
-        let lock = Lock {
-            rt: self.rt,
-            shared: self.shared,
-        };
-        self.case.before_judging(&lock, ticket);
+        match self.signs.before {
+            Before::Closes(one) if ticket == one => self.shared.close(self.rt),
+            Before::WaitsForASleeper => {
+                if self.signs.first.fetch_add(1, Ordering::SeqCst) == 0 {
+                    let _ = come_to_rest(self.rt, self.shared, 1);
+                }
+            }
+            _ => self.signs.before_judging(ticket),
+        }
     }
+}
+
+/// Waits until so many workers sleep. False where it waited long and they didn't.
+fn come_to_rest<L1: PostLedger, L2: Ledger, A: Allocator + Copy, R: Wait>(
+    rt: &R,
+    shared: &Shared<L1, L2, A>,
+    count: u32,
+) -> bool {
+    for _ in 0..MANY {
+        if shared.resting(rt) == count {
+            return true;
+        }
+        thread::yield_now();
+    }
+    false
 }
 
 /// A worker's hand and seat.
 #[derive(Drop)]
-pub struct Worker<L1: PostLedger, L2: Ledger> {
-    pub hand: Hand<u64>,
-    pub seat: Seat<L1, L2>,
+struct Worker<L1: PostLedger, L2: Ledger> {
+    hand: Hand<u64>,
+    seat: Seat<L1, L2>,
 }
 
 /// A session at its desk, and a worker.
 #[derive(Drop)]
-struct Seated<'a, L1: PostLedger, L2: Ledger, A: Allocator, R: Wait, K> {
-    rt: &'a R,
-    shared: &'a Shared<L1, L2, A>,
-    case: &'a K,
+struct Seated<'a, L1: PostLedger, L2: Ledger, A: Allocator, R: Wait> {
+    alloc: A,
+    door: Door<'a, L1, L2, A, R>,
     desk: SharedDesk<'a, R, L1, L2, A>,
     worker: Worker<L1, L2>,
+    /// How often something new was announced before the first step.
+    news: u64,
 }
 
-impl<L1: PostLedger, L2: Ledger, A: Allocator + Copy, R: Wait, K: Case<A>> Session<A>
-    for Seated<'_, L1, L2, A, R, K> {
-    fn ask(&mut self, command: Command<'_>) -> Reply<A> {
-        self.desk.ask(command)
-    }
-
-    fn wait<P: Patience>(&self, most: u32, patience: &mut P) -> Reply<A> {
-        self.desk.wait(most, patience)
-    }
-
+impl<L1: PostLedger, L2: Ledger, A: Allocator + Copy + Refuses, R: Wait> Seated<'_, L1, L2, A, R> {
+    /// Has the worker work.
     fn work(&mut self, stop: Stop) {
-        let gate = Before {
-            rt: self.rt,
-            shared: self.shared,
-            case: self.case,
-        };
         let Worker { hand, seat } = &mut self.worker;
-        work(self.rt, self.shared, hand, seat, &gate, stop);
+        work(self.door.rt, self.door.shared, hand, seat, &self.door, stop);
+    }
+
+    /// Whether a post is told this, once more where memory ran out. The worker works after each.
+    fn posts_and_works(&mut self, text: &[u8], ticket: u64, count: usize) -> bool {
+        let mut posted = false;
+        for _ in 0..2u64 {
+            posted = posted || posts(&mut self.desk, text, ticket, count);
+            self.work(Stop::Turns(MANY));
+        }
+        posted
+    }
+
+    /// Whether a `wait` of so many looks finds a ticket open, and has looked at most so often.
+    fn finds_open(&self, looks: u32, most: u64) -> bool {
+        let signs = self.door.signs;
+        let mut patience = Looks { signs };
+        let open = matches!(self.desk.wait(looks, &mut patience), Reply::Open);
+        open && signs.look() <= most
+    }
+
+    /// Does what nothing is found by.
+    fn acts(&mut self, step: Step) {
+        match step {
+            Step::Tells => {
+                self.door.signs.second.fetch_add(1, Ordering::SeqCst);
+            }
+            Step::Works(stop) => self.work(stop),
+            Step::Announces => self.door.shared.announce(self.door.rt),
+            Step::Refuses => self.alloc.refuse_next(),
+            _ => yields(),
+        }
+    }
+
+    /// Whether a step goes as it is to.
+    fn is_done(&mut self, step: Step) -> bool {
+        let (rt, shared, signs) = (self.door.rt, self.door.shared, self.door.signs);
+        match step {
+            Step::Sleep(count) => come_to_rest(rt, shared, count),
+            Step::Judges => comes(&signs.first),
+            Step::HaveMet => signs.have_met(),
+            Step::Posts(text, ticket, count) => posts(&mut self.desk, text, ticket, count),
+            Step::PostsAndWorks(text, ticket, count) => self.posts_and_works(text, ticket, count),
+            Step::LooksTwice(times) => looks_twice(&mut self.desk, times),
+            Step::Waits(looks) => is_quiet(&mut self.desk, looks),
+            Step::BecomesQuiet => becomes_quiet(&mut self.desk),
+            Step::Open(looks, most) => self.finds_open(looks, most),
+            Step::News(times) => shared.news().wrapping_sub(self.news) == times,
+            Step::Stray(ticket) => shared.take_stray(rt) == Some(ticket),
+            Step::Stores(line) => stores(&mut self.desk, line),
+            _ => {
+                self.acts(step);
+                true
+            }
+        }
+    }
+
+    /// Whether all steps go as they are to. At their end the crew is closed.
+    fn is_right(&mut self, steps: &[Step]) -> bool {
+        let mut right = true;
+        for step in steps {
+            right = right && self.is_done(*step);
+        }
+        self.door.shared.close(self.door.rt);
+        right
     }
 }
 
 /// Has workers work at once, each in a thread of its own.
-pub fn work_all<
+fn work_all<
     L1: PostLedger + Send + Sync,
     L2: Ledger + Send + Sync,
     A: Allocator + Copy + Send + Sync,
@@ -118,25 +163,6 @@ pub fn work_all<
         16,
         &|_, worker| work(rt, shared, &mut worker.hand, &mut worker.seat, gate, stop),
     );
-}
-
-/// How many workers there are beside a session, when they end, and how many tickets the pool has from the start.
-#[derive(Clone, Copy, Debug)]
-pub struct Workers {
-    pub count: usize,
-    pub stop: Stop,
-    pub tickets: u64,
-}
-
-/// So many workers until the crew is closed, and so many tickets.
-pub fn until_closed(count: usize, tickets: u64) -> Workers
-    ensures { result.count ≡ count }
-{
-    Workers {
-        count,
-        stop: Stop::Closed,
-        tickets,
-    }
 }
 
 /// Workers beside a session, and the session's place and worker.
@@ -159,7 +185,7 @@ fn worker_of<L1: PostLedger, L2: Ledger, A: Allocator>(
 }
 
 /// As many of these as are asked for. None where there aren't as many, or where memory ran out.
-pub fn workers_of<L1: PostLedger, L2: Ledger, A: Allocator>(
+fn workers_of<L1: PostLedger, L2: Ledger, A: Allocator>(
     pool: Global,
     hands: &mut Vec<Hand<u64>>,
     seats: &mut Vec<Seat<L1, L2>, A>,
@@ -185,23 +211,24 @@ fn deal(hands: &mut [Hand<u64>], count: u64) -> bool {
     true
 }
 
-/// Members by some seats and a new pool. None where memory ran out.
+/// Members by some seats and a new pool that has so many tickets. None where memory ran out.
 fn members_of<L1: PostLedger, L2: Ledger, A: Allocator>(
     pool: Global,
     seats: Seats<L1, L2, A>,
-    workers: Workers,
+    count: usize,
+    tickets: u64,
 ) -> Option<Members<L1, L2>>
-    requires { workers.count ≤ 15 }
+    requires { count ≤ 15 }
 {
-    let (mut hands, mut inlets) = make(pool, workers.count + 1, 1, 64).ok()?;
+    let (mut hands, mut inlets) = make(pool, count + 1, 1, 64).ok()?;
     let Seats {
         workers: mut seats,
         mut sessions,
     } = seats;
     match (
-        deal(hands.as_mut_slice(), workers.tickets),
+        deal(hands.as_mut_slice(), tickets),
         worker_of(&mut hands, &mut seats),
-        workers_of(pool, &mut hands, &mut seats, workers.count),
+        workers_of(pool, &mut hands, &mut seats, count),
         sessions.pop(),
         inlets.pop(),
     ) {
@@ -214,138 +241,103 @@ fn members_of<L1: PostLedger, L2: Ledger, A: Allocator>(
     }
 }
 
-/// Whether a case goes as it is to. At its end the crew is closed.
-fn ends_right<A: Allocator, C: Crew, S: Session<A>, K: Case<A>>(
-    case: &K,
-    crew: &C,
-    session: &mut S,
-) -> bool {
-    let right = case.is_right(crew, session);
-    crew.close();
-    right
-}
-
-/// The same while workers work.
-fn ends_right_beside<
+/// Whether the steps of a session go as they are to while workers work.
+fn is_right_beside<
     L1: PostLedger + Send + Sync,
     L2: Ledger + Send + Sync,
-    A: Allocator + Copy + Send + Sync,
+    A: Allocator + Copy + Refuses + Send + Sync,
     R: Threads + Wait + Sync,
     G: Gate + Sync,
-    C: Crew,
-    S: Session<A>,
-    K: Case<A>,
 >(
     rt: &R,
     shared: &Shared<L1, L2, A>,
     workers: &mut [Worker<L1, L2>],
     gate: &G,
-    stop: Stop,
-    case: &K,
-    crew: &C,
-    session: &mut S,
+    seated: &mut Seated<'_, L1, L2, A, R>,
+    play: &Play,
 ) -> bool {
+    let stop = play.stop;
     let (_, right) = thread::join(
         rt,
         || work_all(rt, shared, workers, gate, stop),
-        || ends_right(case, crew, session),
+        || seated.is_right(play.steps),
     );
     right
 }
 
-/// The same of such members, until the workers have ended.
+/// The same of such members.
 fn is_right_of<
     'a,
     L1: PostLedger + Send + Sync,
     L2: Ledger + Send + Sync,
-    A: Allocator + Copy + Send + Sync,
+    A: Allocator + Copy + Refuses + Send + Sync,
     R: Threads + Wait + Sync,
-    K: Case<A> + Sync,
 >(
     rt: &'a R,
     alloc: A,
     shared: &'a Shared<L1, L2, A>,
+    signs: &'a Signs,
     members: Members<L1, L2>,
-    stop: Stop,
-    case: &'a K,
+    play: &Play,
 ) -> bool {
     let Members {
         mut workers,
         place,
         worker,
     } = members;
-    let lock = Lock { rt, shared };
-    let gate = Before { rt, shared, case };
-    let mut session = Seated {
-        rt,
-        shared,
-        case,
+    let door = Door { rt, shared, signs };
+    let mut seated = Seated {
+        alloc,
+        door: Door { rt, shared, signs },
         desk: SharedDesk::new(rt, alloc, shared, place.seat, place.inlet),
         worker,
+        news: shared.news(),
     };
-    let workers = workers.as_mut_slice();
-    ends_right_beside(rt, shared, workers, &gate, stop, case, &lock, &mut session)
+    is_right_beside(rt, shared, workers.as_mut_slice(), &door, &mut seated, play)
 }
 
 /// The same on a book. None where memory ran out before.
 fn is_right_by<
     L1: PostLedger + Send + Sync,
     L2: Ledger + Send + Sync,
-    A: Allocator + Copy + Send + Sync,
+    A: Allocator + Copy + Refuses + Send + Sync,
     R: Threads + Wait + Sync,
-    K: Case<A> + Sync,
 >(
     rt: &R,
     alloc: A,
     pool: Global,
     book: Book<A>,
-    workers: Workers,
-    case: &K,
+    play: Play<'_>,
     posts: Blank,
     others: Blank,
 ) -> Option<bool>
-    requires count { workers.count ≤ 15 }
+    requires workers { play.workers ≤ 15 }
     requires posts { (posts.name ≡ L1.name) × (posts.parts ≡ L1.parts) × (posts.parts ≡ 32) }
     requires others { (others.name ≡ L2.name) × (others.parts ≡ L2.parts) × (others.parts ≡ 32) }
 {
     let (shared, seats) = Shared::<L1, L2, A>::with(alloc, book, posts, others).ok()?;
-    let members = members_of(pool, seats, workers)?;
-    Some(is_right_of(rt, alloc, &shared, members, workers.stop, case))
+    let members = members_of(pool, seats, play.workers, play.tickets)?;
+    let signs = Signs::new(play.before);
+    Some(is_right_of(rt, alloc, &shared, &signs, members, &play))
 }
 
-/// Whether a case goes as it is to on a book, beside such workers. At its end the crew is closed. None where memory ran out
-/// before.
-pub fn is_right_on<A: Allocator + Copy + Send + Sync, R: Threads + Wait + Sync, K: Case<A> + Sync>(
+/// Whether a play goes as it is to on a book. None where memory ran out before, and where a play has too many workers.
+pub fn is_right_on<A: Allocator + Copy + Refuses + Send + Sync, R: Threads + Wait + Sync>(
     rt: &R,
     alloc: A,
     pool: Global,
     book: Book<A>,
-    workers: Workers,
-    case: &K,
-) -> Option<bool>
-    requires { workers.count ≤ 15 }
-{
+    play: &Play,
+) -> Option<bool> {
+    if 15 < play.workers {
+        return None;
+    }
     let (posts, others) = (Blank::new(32), Blank::new(32));
-    is_right_by::<Brand, Brand, A, R, K>(rt, alloc, pool, book, workers, case, posts, others)
+    is_right_by::<Brand, Brand, A, R>(rt, alloc, pool, book, *play, posts, others)
 }
 
-/// The same on a book of a program after a text of posts.
-pub fn is_right<R: Threads + Wait + Sync, K: Case<Global> + Sync>(
-    rt: &R,
-    alloc: Global,
-    task: Task<'_>,
-    workers: Workers,
-    case: &K,
-) -> Option<bool>
-    requires { workers.count ≤ 15 }
-{
-    let (program, posts) = task;
-    is_right_on(
-        rt,
-        alloc,
-        alloc,
-        open(alloc, program, posts)?,
-        workers,
-        case,
-    )
+/// The same on a book of its own task.
+pub fn is_right<R: Threads + Wait + Sync>(rt: &R, alloc: Global, play: &Play) -> Option<bool> {
+    let (program, posts) = play.task;
+    is_right_on(rt, alloc, alloc, open(alloc, program, posts)?, play)
 }

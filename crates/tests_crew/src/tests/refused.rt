@@ -1,8 +1,6 @@
 //! Runs in which one request for memory is refused.
 //!
 //! The memory is that of the book and of the run. That of the pool isn't refused, since it is always of `Global`.
-ghost use Rattle.std.specs.Prelude.{◌≤◌};
-
 use crate::tests::runs::{
     COMPOUND, MANY, NUMBERS, Rules, is_brought_to_its_end, multiples, open, run, tickets, verdict,
 };
@@ -69,50 +67,51 @@ fn book_of<A: Allocator>(answer: Answer<A>) -> Book<A> {
     }
 }
 
-/// Whether a run by so many workers on a book of so many posts leaves what it is to leave with request number `n` of the run
-/// refused, and can be brought to its end; and whether a request was refused. None where memory ran out before it.
+/// Runs of which a request for memory is refused.
+struct Row {
+    rules: Rules,
+    /// How many posts the book has.
+    posts: u64,
+    workers: usize,
+    /// Each request is refused in turn where this is 0, else each of the first ones, and later ones that are one such part of
+    /// their number from one another.
+    apart: u64,
+}
+
+/// Whether a run leaves what it is to leave with its request number `n` refused, and can be brought to its end; and whether a
+/// request was refused. None where memory ran out before it.
 fn refused_run<R: Threads + Wait + Sync>(
     rt: &R,
     memory: &Refusing<Global>,
     pool: Global,
-    rules: Rules,
-    posts: u64,
-    workers: usize,
+    row: &Row,
     n: u64,
-) -> Option<(bool, bool)>
-    requires { (1 ≤ workers) × (workers ≤ 16) }
-{
-    let text = multiples(pool, rules, posts).ok()?;
-    let book = open(memory, rules.program, text.as_str())?;
+) -> Option<(bool, bool)> {
+    let workers = row.workers;
+    if workers < 1 || 16 < workers {
+        return None;
+    }
+    let text = multiples(pool, row.rules, row.posts).ok()?;
+    let book = open(memory, row.rules.program, text.as_str())?;
     memory.refuse(n);
     let mut answer = run(rt, memory, pool, book, workers, &Open, MANY);
     let refused = memory.was_refused();
     memory.refuse(0);
-    let right = is_left(memory, &mut answer, posts, workers, refused);
-    let ends = is_brought_to_its_end(rt, memory, pool, book_of(answer), rules.last);
+    let right = is_left(memory, &mut answer, row.posts, workers, refused);
+    let ends = is_brought_to_its_end(rt, memory, pool, book_of(answer), row.rules.last);
     Some((right && ends, refused))
 }
 
-/// Refuses a request of a run, the first one first, until a run meets no refusal: each in turn, or where `apart` isn't 0 each
-/// of the first ones, and later ones that are one `apart`th of their number from one another. Returns the last number, or as
-/// an `Err` that at which a book that came back was not the one that is to come.
-fn refuse_each<R: Threads + Wait + Sync>(
-    rt: &R,
-    memory: &Refusing<Global>,
-    pool: Global,
-    rules: Rules,
-    posts: u64,
-    workers: usize,
-    apart: u64,
-) -> Result<u64, u64>
-    requires { (1 ≤ workers) × (workers ≤ 16) }
-{
+/// Refuses a request of a run, the first one first, until a run meets no refusal. Returns the last number, or as an `Err` that
+/// at which a book that came back was not the one that is to come.
+fn refuse_each<R: Threads + Wait + Sync>(rt: &R, pool: Global, row: &Row) -> Result<u64, u64> {
+    let memory = Refusing::new(pool, 0);
     let mut n = 0u64;
     for _ in 0..100_000u64 {
         n = n
             .wrapping_add(1)
-            .wrapping_add(n.checked_div(apart).unwrap_or(0));
-        match refused_run(rt, memory, pool, rules, posts, workers, n) {
+            .wrapping_add(n.checked_div(row.apart).unwrap_or(0));
+        match refused_run(rt, &memory, pool, row, n) {
             Some((true, true)) => (),
             Some((true, false)) => return Ok(n),
             _ => return Err(n),
@@ -121,23 +120,41 @@ fn refuse_each<R: Threads + Wait + Sync>(
     Err(0)
 }
 
+static ONE_WORKER: Row = Row {
+    rules: NUMBERS,
+    posts: 4,
+    workers: 1,
+    apart: 0,
+};
+
 #[test]
 fn one_worker_leaves_a_stray_ticket(rt: HostRuntime) {
-    let memory = Refusing::new(rt.alloc(), 0);
-    let refused = refuse_each(&rt, &memory, rt.alloc(), NUMBERS, 4, 1, 0);
+    let refused = refuse_each(&rt, rt.alloc(), &ONE_WORKER);
     assert!(rt; refused.is_ok(), "at request {refused:?}");
 }
+
+static TWO_WORKERS: Row = Row {
+    rules: NUMBERS,
+    posts: 20,
+    workers: 2,
+    apart: 16,
+};
 
 #[test]
 fn two_workers_leave_a_lawful_book(rt: HostRuntime) {
-    let memory = Refusing::new(rt.alloc(), 0);
-    let refused = refuse_each(&rt, &memory, rt.alloc(), NUMBERS, 20, 2, 16);
+    let refused = refuse_each(&rt, rt.alloc(), &TWO_WORKERS);
     assert!(rt; refused.is_ok(), "at request {refused:?}");
 }
 
+static COMPOUND_VALUES: Row = Row {
+    rules: COMPOUND,
+    posts: 3,
+    workers: 1,
+    apart: 0,
+};
+
 #[test]
 fn a_worker_is_refused_compound_values(rt: HostRuntime) {
-    let memory = Refusing::new(rt.alloc(), 0);
-    let refused = refuse_each(&rt, &memory, rt.alloc(), COMPOUND, 3, 1, 0);
+    let refused = refuse_each(&rt, rt.alloc(), &COMPOUND_VALUES);
     assert!(rt; refused.is_ok(), "at request {refused:?}");
 }

@@ -89,17 +89,8 @@ pub fn run<A: Allocator + Copy + Send + Sync, R: Threads + Wait + Sync, G: Gate 
 ) -> Result<Finished<A>, CrewFault<A>>
     requires { (1 ≤ n) × (n ≤ 16) }
 {
-    run_crew::<Brand, Brand, A, R, G>(
-        rt,
-        alloc,
-        pool,
-        book,
-        n,
-        gate,
-        turns,
-        Blank::new(32),
-        Blank::new(32),
-    )
+    let (posts, others) = (Blank::new(32), Blank::new(32));
+    run_crew::<Brand, Brand, A, R, G>(rt, alloc, pool, book, n, gate, turns, posts, others)
 }
 
 /// A program and posts.
@@ -117,16 +108,8 @@ pub fn finished<R: Threads + Wait + Sync, G: Gate + Sync>(
     requires { (1 ≤ workers) × (workers ≤ 16) }
 {
     let (program, posts) = task;
-    run(
-        rt,
-        alloc,
-        alloc,
-        open(alloc, program, posts)?,
-        workers,
-        gate,
-        turns,
-    )
-    .ok()
+    let book = open(alloc, program, posts)?;
+    run(rt, alloc, alloc, book, workers, gate, turns).ok()
 }
 
 /// The events of a book's log. None where memory ran out.

@@ -1,79 +1,51 @@
 //! Workers that are told in time, and sessions that look in time.
-use crate::tests::beside::{is_right, is_right_on, until_closed};
-use crate::tests::case::{Case, Crew, Session, becomes_quiet, come_to_rest};
-use crate::tests::gates::comes;
-use crate::tests::runs::{GCD, open};
-use chr_session::{Command, Reply};
-use chr_shared_desk::Patience;
+use crate::tests::beside::{is_right, is_right_on};
+use crate::tests::play::{Before, NONE, Play, Step};
+use crate::tests::runs::{GCD, MANY, open};
 use refusing::Refusing;
-use std::alloc::{AllocError, Allocator, Global};
+use std::alloc::{AllocError, Global};
 use std::sync::Wait;
-use std::sync::atomic::{AtomicU64, Ordering};
 use std::test::*;
-use std::thread;
 use std::thread::Threads;
 
 /// A session that posts when the worker is probably asleep.
-#[derive(Clone, Copy)]
-struct Wakes;
-
-impl Case<Global> for Wakes {
-    fn is_right<C: Crew, S: Session<Global>>(&self, _crew: &C, session: &mut S) -> bool {
-        for _ in 0..1000 {
-            thread::yield_now();
-        }
-        matches!(
-            session.ask(Command::Post(b"gcd(9), gcd(6).")),
-            Reply::Posted(1, 2)
-        ) && becomes_quiet(session)
-    }
-}
+static WAKES: Play = Play {
+    task: (GCD, ""),
+    workers: 1,
+    steps: &[
+        Step::Yields,
+        Step::Posts(b"gcd(9), gcd(6).", 1, 2),
+        Step::BecomesQuiet,
+    ],
+    ..NONE
+};
 
 #[test]
 fn a_post_wakes_a_sleeper(rt: HostRuntime) {
-    assert_eq!(rt;
-        is_right(&rt, rt.alloc(), (GCD, ""), until_closed(1, 0), &Wakes),
-        Some(true)
-    );
+    assert_eq!(rt; is_right(&rt, rt.alloc(), &WAKES), Some(true));
 }
 
 /// A session that posts again and again while the worker sleeps, and looks twice each time.
-#[derive(Clone, Copy)]
-struct LooksTwice;
-
-impl Case<Global> for LooksTwice {
-    fn is_right<C: Crew, S: Session<Global>>(&self, crew: &C, session: &mut S) -> bool {
-        let mut quiet = come_to_rest(crew, 1);
-        for _ in 0..1000u64 {
-            quiet = quiet
-                && matches!(session.ask(Command::Post(b"a.")), Reply::Posted(_, 1))
-                && matches!(session.ask(Command::Wait(1)), Reply::Quiet);
-        }
-        quiet
-    }
-}
+static LOOKS_TWICE: Play = Play {
+    task: ("a <=> true.", ""),
+    workers: 1,
+    steps: &[Step::Sleep(1), Step::LooksTwice(1000)],
+    ..NONE
+};
 
 #[test]
 fn who_is_told_counts_as_awake(rt: HostRuntime) {
-    let right = is_right(
-        &rt,
-        rt.alloc(),
-        ("a <=> true.", ""),
-        until_closed(1, 0),
-        &LooksTwice,
-    );
-    assert_eq!(rt; right, Some(true));
+    assert_eq!(rt; is_right(&rt, rt.alloc(), &LOOKS_TWICE), Some(true));
 }
 
 /// A session that waits for the end of a run.
-#[derive(Clone, Copy)]
-struct Waits;
-
-impl<A: Allocator> Case<A> for Waits {
-    fn is_right<C: Crew, S: Session<A>>(&self, _crew: &C, session: &mut S) -> bool {
-        matches!(session.ask(Command::Wait(u32::MAX)), Reply::Quiet)
-    }
-}
+static WAITS: Play = Play {
+    task: (GCD, "gcd(9), gcd(6)."),
+    workers: 1,
+    tickets: 2,
+    steps: &[Step::Waits(u32::MAX)],
+    ..NONE
+};
 
 /// Whether a `wait` comes to the end of a run with request number `n` refused, and whether one was. None where it was refused
 /// before the worker had begun.
@@ -83,9 +55,10 @@ fn ends_though_refused<R: Threads + Wait + Sync>(
     pool: Global,
     n: u64,
 ) -> Option<(bool, bool)> {
-    let book = open(memory, GCD, "gcd(9), gcd(6).")?;
+    let (program, posts) = WAITS.task;
+    let book = open(memory, program, posts)?;
     memory.refuse(n);
-    let ends = is_right_on(rt, memory, pool, book, until_closed(1, 2), &Waits);
+    let ends = is_right_on(rt, memory, pool, book, &WAITS);
     let refused = memory.was_refused();
     memory.refuse(0);
     Some((ends?, refused))
@@ -112,49 +85,34 @@ fn a_wait_tells_a_worker_that_had_no_memory(rt: HostRuntime) {
 }
 
 /// A session that announces something new while the worker judges, and nothing afterwards. The first judgement waits for that,
-/// and then the next request for memory is refused.
-#[derive(Drop)]
-struct Announces<'m> {
-    memory: &'m Refusing<Global>,
-    came: AtomicU64,
-    told: AtomicU64,
-}
+/// and then the next request for memory is refused. The firing needs memory, since it adds sixteen goals.
+static ANNOUNCES: Play = Play {
+    task: (
+        "a <=> b, b, b, b, b, b, b, b, b, b, b, b, b, b, b, b.",
+        "a.",
+    ),
+    workers: 1,
+    tickets: 1,
+    before: Before::Meets(1),
+    steps: &[
+        Step::Judges,
+        Step::Announces,
+        Step::Refuses,
+        Step::Tells,
+        Step::BecomesQuiet,
+    ],
+    ..NONE
+};
 
-impl<'m> Case<&'m Refusing<Global>> for Announces<'m> {
-    fn before_judging<C: Crew>(&self, _crew: &C, _ticket: u64) {
-        if self.came.fetch_add(1, Ordering::SeqCst) == 0 {
-            let _ = comes(&self.told);
-            self.memory.refuse(1);
-        }
-    }
-
-    fn is_right<C: Crew, S: Session<&'m Refusing<Global>>>(
-        &self,
-        crew: &C,
-        session: &mut S,
-    ) -> bool {
-        let came = comes(&self.came);
-        crew.announce();
-        self.told.fetch_add(1, Ordering::SeqCst);
-        came && becomes_quiet(session)
-    }
-}
-
-/// Whether a worker that is refused memory behind something new looks again by itself. Its firing needs memory, since it adds
-/// sixteen goals. None where memory ran out.
+/// Whether a worker that is refused memory behind something new looks again by itself. None where memory ran out.
 fn looks_again<R: Threads + Wait + Sync>(
     rt: &R,
     memory: &Refusing<Global>,
     pool: Global,
 ) -> Option<bool> {
-    let rule = "a <=> b, b, b, b, b, b, b, b, b, b, b, b, b, b, b, b.";
-    let book = open(memory, rule, "a.")?;
-    let case = Announces {
-        memory,
-        came: AtomicU64::new(0),
-        told: AtomicU64::new(0),
-    };
-    let quiet = is_right_on(rt, memory, pool, book, until_closed(1, 1), &case)?;
+    let (program, posts) = ANNOUNCES.task;
+    let book = open(memory, program, posts)?;
+    let quiet = is_right_on(rt, memory, pool, book, &ANNOUNCES)?;
     Some(quiet && memory.was_refused())
 }
 
@@ -173,55 +131,6 @@ const LONG: u64 = 401;
 /// A judgement far behind the first: more than 128 holds lie between, of up to 256 judgements each.
 const FAR: u64 = 34_000;
 
-/// Says that a session has looked once.
-#[derive(Drop)]
-struct Looks<'c> {
-    looked: &'c AtomicU64,
-}
-
-impl Patience for Looks<'_> {
-    fn goes_on(&mut self) -> bool {
-        self.looked.fetch_add(1, Ordering::SeqCst);
-        true
-    }
-}
-
-/// A session that looks twice while a long goal goes on: its first judgement waits until the session has looked, and a late one
-/// until it was answered.
-#[derive(Drop)]
-struct AsksBetween {
-    judged: AtomicU64,
-    looked: AtomicU64,
-    answered: AtomicU64,
-}
-
-impl Case<Global> for AsksBetween {
-    fn before_judging<C: Crew>(&self, _crew: &C, ticket: u64) {
-        if ticket != LONG {
-            return;
-        }
-        match self.judged.fetch_add(1, Ordering::SeqCst) {
-            0 => {
-                let _ = comes(&self.looked);
-            }
-            FAR => {
-                let _ = comes(&self.answered);
-            }
-            _ => {}
-        }
-    }
-
-    fn is_right<C: Crew, S: Session<Global>>(&self, _crew: &C, session: &mut S) -> bool {
-        let begins = comes(&self.judged);
-        let mut looks = Looks {
-            looked: &self.looked,
-        };
-        let open = matches!(session.wait(1, &mut looks), Reply::Open);
-        self.answered.fetch_add(1, Ordering::SeqCst);
-        begins && open
-    }
-}
-
 /// The posts `n(0), m(0)` and so on, and `go` behind them.
 fn pairs(alloc: Global) -> Result<String<Global>, AllocError> {
     let mut text = String::new(alloc);
@@ -233,22 +142,19 @@ fn pairs(alloc: Global) -> Result<String<Global>, AllocError> {
     Ok(text)
 }
 
-/// Whether a session is answered within a long goal. None where memory ran out.
+/// Whether a session is answered within a long goal: its first judgement waits until the session has looked, and a late one
+/// until it was answered. None where memory ran out.
 fn is_answered_between<R: Threads + Wait + Sync>(rt: &R, alloc: Global) -> Option<bool> {
     let posts = pairs(alloc).ok()?;
-    let rule = "go, n(X), m(Y) <=> X + Y =:= -1 | true.";
-    let case = AsksBetween {
-        judged: AtomicU64::new(0),
-        looked: AtomicU64::new(0),
-        answered: AtomicU64::new(0),
+    let play = Play {
+        task: ("go, n(X), m(Y) <=> X + Y =:= -1 | true.", posts.as_str()),
+        workers: 1,
+        tickets: LONG,
+        before: Before::WaitsTwice(LONG, FAR),
+        steps: &[Step::Judges, Step::Open(1, MANY), Step::Tells],
+        ..NONE
     };
-    is_right(
-        rt,
-        alloc,
-        (rule, posts.as_str()),
-        until_closed(1, LONG),
-        &case,
-    )
+    is_right(rt, alloc, &play)
 }
 
 #[test]

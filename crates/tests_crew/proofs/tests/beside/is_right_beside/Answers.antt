@@ -1,6 +1,6 @@
 use Rattle.chr_crew.proofs.Crossing.{basis, Shared-sync}
 use Rattle.tests_crew.proofs.tests.beside.Worker.TheSendSync as worker
-use Rattle.tests_crew.proofs.tests.beside.ends_right_beside.Goals as goal
+use Rattle.tests_crew.proofs.tests.beside.is_right_beside.Goals as goal
 
 pub join-right-requires-send-F : goal.join-right-requires-send-F
 join-right-requires-send-F g c κs within =

@@ -1,9 +1,0 @@
-use Rattle.chr_crew.proofs.Crossing.{basis, Shared-sync}
-use Rattle.tests_crew.proofs.tests.beside.Worker.TheSendSync as worker
-use Rattle.tests_crew.proofs.tests.sessions.crew_with_sessions.Goals as goal
-
-pub join-right-requires-send-F : goal.join-right-requires-send-F
-join-right-requires-send-F g c κs within =
-    let b = c.type_bounds in
-    let r = b.sync-R in
-    search (basis, Shared-sync, worker.the_send) fits 5000 depth 40

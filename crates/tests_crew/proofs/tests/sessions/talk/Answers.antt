@@ -1,9 +1,0 @@
-use Rattle.chr_crew.proofs.Crossing.{basis, Shared-sync}
-use Rattle.chr_crew.proofs.rack.Rack.TheSendSync as rack
-use Rattle.tests_crew.proofs.tests.sessions.talk.Goals as goal
-
-pub join-found-requires-send-F : goal.join-found-requires-send-F
-join-found-requires-send-F g c κs within =
-    let b = c.type_bounds in
-    let r = b.sync-R in
-    search (basis, Shared-sync, rack.the_sync) fits 5000 depth 40
