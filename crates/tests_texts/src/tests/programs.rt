@@ -308,13 +308,10 @@ ok 1: n0(n65535(n1(n2))).
 ];
 
 /// Each table of texts, and whether they are of posts.
-static TABLES: [(bool, &[u8]); 5] = [
-    (false, PROGRAMS),
-    (false, LIMITS),
-    (false, TERMS),
-    (false, TERM_LIMITS),
-    (true, POSTS),
-];
+static TABLES: [(bool, &[u8]); 2] = [(false, PROGRAMS), (true, POSTS)];
+
+/// The tables of texts with compound terms.
+static TABLES_OF_TERMS: [(bool, &[u8]); 2] = [(false, TERMS), (false, TERM_LIMITS)];
 
 /// The number that the digits at the front spell.
 fn times(piece: &[u8]) -> usize {
@@ -437,14 +434,31 @@ fn is_given_alone(alloc: Global, are_posts: bool, row: &[u8]) -> bool {
     is_given(alloc, &mut names, are_posts, row)
 }
 
-#[test]
-fn texts_of_programs_and_posts(rt: HostRuntime) {
-    for (number, (are_posts, table)) in TABLES.iter().enumerate() {
+/// The first table, and its row, for which the reader gives something else over an empty table of names.
+fn first_other_alone(alloc: Global, tables: &[(bool, &[u8])]) -> Option<(usize, usize)> {
+    for (number, (are_posts, table)) in tables.iter().enumerate() {
         for (i, row) in table.split(|b| *b == b'\n').enumerate() {
-            let is = is_given_alone(rt.alloc(), *are_posts, row);
-            assert!(rt; is, "table {number}, row {i}");
+            if !is_given_alone(alloc, *are_posts, row) {
+                return Some((number, i));
+            }
         }
     }
+    None
+}
+
+#[test]
+fn texts_of_programs_and_posts(rt: HostRuntime) {
+    assert_eq!(rt; first_other_alone(rt.alloc(), &TABLES), None);
+}
+
+#[test]
+fn texts_of_terms(rt: HostRuntime) {
+    assert_eq!(rt; first_other_alone(rt.alloc(), &TABLES_OF_TERMS), None);
+}
+
+#[test]
+fn texts_at_the_limits(rt: HostRuntime) {
+    assert_eq!(rt; first_other_alone(rt.alloc(), &[(false, LIMITS)]), None);
 }
 
 /// The first row for which the reader gives something else.
