@@ -28,14 +28,14 @@ module _ {P T M : Type 0} (f : P → RuleAtom ℕ) (g : T → Comparison ℕ) (h
         terms = record { kept = terms.kept; removed = terms.removed; guard = terms.guard; body = terms.body };
       }
 
--- the same of other lists with the same parts
-pub rule_as : {P T M : Type 0} (f : P → RuleAtom ℕ) (g : T → Comparison ℕ) (h : M → BodyItem ℕ) (ks rs kept removed : List P) (ts guard : List T) (ms body : List M) (n : ℕ) → ks ≡ kept → rs ≡ removed → ts ≡ guard → ms ≡ body
-    → IsRule (of_parts n (map f ks) (map f rs) (map g ts) (map h ms)) → IsRule (of_parts n (map f kept) (map f removed) (map g guard) (map h body))
-rule_as f g h ks rs kept removed ts guard ms body n k r t m rule =
-    subst (λ us. IsRule (of_parts n (map f kept) (map f removed) (map g guard) (map h us))) m
-    (subst (λ us. IsRule (of_parts n (map f kept) (map f removed) (map g us) (map h ms))) t
-    (subst (λ us. IsRule (of_parts n (map f kept) (map f us) (map g ts) (map h ms))) r
-    (subst (λ us. IsRule (of_parts n (map f us) (map f rs) (map g ts) (map h ms))) k rule)))
+-- what holds of a rule holds of one of other lists with the same parts
+pub parts_as : {P T M : Type 0} (Q : Simpagation ℕ → Type 0) (f : P → RuleAtom ℕ) (g : T → Comparison ℕ) (h : M → BodyItem ℕ) (ks rs kept removed : List P) (ts guard : List T) (ms body : List M) (n : ℕ) → ks ≡ kept → rs ≡ removed → ts ≡ guard → ms ≡ body
+    → Q (of_parts n (map f ks) (map f rs) (map g ts) (map h ms)) → Q (of_parts n (map f kept) (map f removed) (map g guard) (map h body))
+parts_as Q f g h ks rs kept removed ts guard ms body n k r t m rule =
+    subst (λ us. Q (of_parts n (map f kept) (map f removed) (map g guard) (map h us))) m
+    (subst (λ us. Q (of_parts n (map f kept) (map f removed) (map g us) (map h ms))) t
+    (subst (λ us. Q (of_parts n (map f kept) (map f us) (map g ts) (map h ms))) r
+    (subst (λ us. Q (of_parts n (map f us) (map f rs) (map g ts) (map h ms))) k rule)))
 
 -- rules of the same parts, but for the body, of which it is told
 pub same_rules : (told : Bool) (m n : ℕ) (ks ls rs ss : List (RuleAtom ℕ)) (ts us : List (Comparison ℕ)) (bs ds : List (BodyItem ℕ)) (rule other : Simpagation ℕ) → of_parts m ks rs ts bs ≡ rule → of_parts n ls ss us ds ≡ other

@@ -8,3 +8,4 @@ pub mod Bodies
 pub mod Numbers
 pub mod Index
 pub mod Judged
+pub mod Written

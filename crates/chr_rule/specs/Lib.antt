@@ -1,4 +1,5 @@
 pub mod Rules
+pub mod Nodes
 pub mod Terms
 pub mod Scope
 pub mod Parts

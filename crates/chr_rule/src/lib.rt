@@ -9,11 +9,15 @@
 //! reader of rule text keeps to 16 levels. A [`Program`] is a list of shared rules, numbered from 1, with an index that
 //! tells where the heads of a predicate are.
 //!
+//! A rule keeps itself once more as a list of its nodes, in Polish notation, by which [`Rule::same`](Rule::same) tells equal
+//! rules in few steps. Rules with compound terms have no such list, and are compared part by part.
+//!
 //! Contracts see a rule as a `Simpagation ℕ` (Frühwirth's general form of a rule) over the numbers of names, without
 //! where its parts lie in memory, so two rules are equal exactly where their content is.
 #![tactic(auto)]
 
 mod expression;
+mod nodes;
 mod occurrences;
 mod patterns;
 mod program;

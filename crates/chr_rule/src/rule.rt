@@ -9,6 +9,7 @@ ghost use Rattle.chr_rule.specs.Terms.{HasTerms};
 use crate::expression::{
     BodyItem, Comparison, is_body_valid, is_guard_valid, same_bodies, same_guards,
 };
+use crate::nodes::{Node, nodes_of, same_nodes};
 use crate::patterns::{are_patterns_valid, same_patterns};
 use crate::rule_atom::RuleAtom;
 use crate::scope::count_variables;
@@ -34,6 +35,8 @@ pub struct Rule<A: Allocator> {
     removed: Vec<RuleAtom<A>, A>,
     guard: Vec<Comparison<A>, A>,
     body: Vec<BodyItem<A>, A>,
+    /// The rule once more, where no term of it has a functor and there was memory for it.
+    nodes: Option<Vec<Node, A>>,
 }
 
 // Not derived: letting a rule go is then one call, which is proved here once.
@@ -45,15 +48,17 @@ impl<A: Allocator> Drop for Rule<A> {
             removed: _,
             guard: _,
             body: _,
+            nodes: _,
         } = self;
     }
 }
 
 impl<A: Allocator> Model for Rule<A> {
-    ghost use Rattle.std.specs.Prelude.{ℕ, map};
+    ghost use Rattle.std.specs.Prelude.{ℕ, map, IfSome};
     ghost use Rattle.chr_rule.specs.Rules.{Simpagation};
     ghost use Rattle.chr_rule.specs.Parts.{shape, comparison, member};
     ghost use Rattle.chr_rule.specs.Scope.{IsRule};
+    ghost use Rattle.chr_rule.specs.Nodes.{IsWritten};
     ghost use Rattle.chr_rule.specs.Code.{expression_code};
     ghost use Rattle.chr_rule.specs.TermCode.{term_code};
     ghost use Rattle.std.specs.Coded.{codes};
@@ -64,7 +69,7 @@ impl<A: Allocator> Model for Rule<A> {
 
     ghost view = { λ r. record { variables = r.variables; kept = map shape r.kept.items; removed = map shape r.removed.items; guard = map comparison r.guard.items; body = map member r.body.items } };
 
-    ghost invariant = { λ r. IsRule (record { variables = r.variables; kept = map shape r.kept.items; removed = map shape r.removed.items; guard = map comparison r.guard.items; body = map member r.body.items }) };
+    ghost invariant = { λ r. let rule : Simpagation ℕ = record { variables = r.variables; kept = map shape r.kept.items; removed = map shape r.removed.items; guard = map comparison r.guard.items; body = map member r.body.items } in IsRule rule × IfSome r.nodes (λ written. IsWritten rule written.items) };
 }
 
 /// Whether a rule may have so many heads, comparisons and members of the body.
@@ -121,7 +126,7 @@ fn variables_of<A: Allocator>(
     Some(variables)
 }
 
-impl<A: Allocator> Rule<A> {
+impl<A: Allocator + Copy> Rule<A> {
     /// The rule of these parts, or None unless each variable has a value wherever it is used, a term without variables is a
     /// value, and the limits are kept. How deep an expression nests is limited by the reader of rule text alone.
     pub fn new(
@@ -135,13 +140,7 @@ impl<A: Allocator> Rule<A> {
         ensures exact { IsSome result ↔ ((n : ℕ) × IsRule (of_parts n (map shape kept.items) (map shape removed.items) (map comparison guard.items) (map member body.items))) }
     {
         let variables = variables_of(&kept, &removed, &guard, &body)?;
-        Some(Rule {
-            variables: variables as u8,
-            kept,
-            removed,
-            guard,
-            body,
-        })
+        Some(Rule::from_parts(variables, kept, removed, guard, body))
     }
 
     /// The rule of these parts, of which the caller knows that they are those of a rule with so many variables.
@@ -155,17 +154,32 @@ impl<A: Allocator> Rule<A> {
         requires { IsRule (of_parts variables (map shape kept.items) (map shape removed.items) (map comparison guard.items) (map member body.items)) }
         ensures { result ≡ of_parts variables (map shape kept.items) (map shape removed.items) (map comparison guard.items) (map member body.items) }
     {
+        let alloc = *removed.allocator();
+        let nodes = nodes_of(alloc, variables, &kept, &removed, &guard, &body);
         Rule {
             variables: variables as u8,
             kept,
             removed,
             guard,
             body,
+            nodes,
+        }
+    }
+}
+
+impl<A: Allocator> Rule<A> {
+    /// Whether two rules are equal: the same heads, guard and body, wherever these lie in memory.
+    pub fn same(&self, other: &Rule<A>) -> bool
+        ensures { IsTrue result ↔ (self.now ≡ other.now) }
+    {
+        match (&self.nodes, &other.nodes) {
+            (Some(nodes), Some(others)) => same_nodes(nodes, others),
+            _ => self.has_parts_of(other),
         }
     }
 
-    /// Whether two rules are equal: the same heads, guard and body, wherever these lie in memory.
-    pub fn same(&self, other: &Rule<A>) -> bool
+    /// Whether the parts of two rules are equal.
+    fn has_parts_of(&self, other: &Rule<A>) -> bool
         ensures { IsTrue result ↔ (self.now ≡ other.now) }
     {
         self.variables == other.variables
