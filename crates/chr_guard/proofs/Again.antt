@@ -1,19 +1,15 @@
 -- A binding again from what is kept of it.
-use Rattle.std.proofs.Common.{◌≡◌, ◌≢◌, ℕ, zero, suc, ◌+◌, ◌<◌, ◌≤◌, ℤ, Bool, true, false, ◌||◌, List, [], ◌∷◌, ◌++◌, length, map, take, drop, replicate, get_or, Option, Some, None, ◌⊎◌, inl, inr, refl, sym, ap, ap₂, ◌∙◌, arith, slice_index_or, slice_set, get_or-set_same, get_or-set_other, length-set}
-use Rattle.std.specs.List.{AllByRecursion, list_any}
+use Rattle.std.proofs.Common.{◌≡◌, ℕ, zero, suc, ◌+◌, ◌<◌, ◌≤◌, ℤ, Bool, true, false, ◌||◌, List, [], ◌∷◌, ◌++◌, length, map, take, drop, replicate, get_or, Option, Some, None, ◌⊎◌, inl, inr, refl, sym, ap, ap₂, ◌∙◌, arith, slice_index_or, slice_set, get_or-set_same, get_or-set_other, length-set}
+use Rattle.std.specs.List.{list_any}
 use Rattle.std.proofs.lemmas.List.{length-map, length-replicate, get_or_past, get_or_default, take_all, take_more, map_push, ext_get_or}
 use Rattle.std.proofs.lemmas.Bool.{cases_lt, cases_eq}
-use Rattle.chr_value.specs.Atoms.{Value, Int, Sym, Comp, Args, Atom}
+use Rattle.chr_value.specs.Atoms.{Value, Int, Sym, Comp, Args}
 use Rattle.chr_value.proofs.Places.{left-at}
-use Rattle.chr_rule.specs.Rules.{Expression, Number, Variable, Operation, BodyItem, Is, Add, Simpagation}
 use Rattle.chr_guard.specs.declared.settled.Mark.{Mark}
 use Rattle.chr_guard.specs.declared.settled.Mark.TheVariants as marks
-use Rattle.chr_guard.specs.Values.{Valuation, value_of, number_in, computed, both}
-use Rattle.chr_guard.specs.Bindings.{bound_at, Extends, Narrows, NoneUnder}
-use Rattle.chr_guard.specs.Instances.{IsRight}
-use Rattle.chr_guard.specs.Matching.{AreAtHeads}
-use Rattle.chr_guard.specs.Settled.{Marks, mark_of, mark_view, is_compound, filled, IsFilled, IsKept}
-use Rattle.chr_guard.proofs.Bindings.{changed, changed_same, changed_other, extends_itself, free_at, free_extends}
+use Rattle.chr_guard.specs.Bindings.{bound_at}
+use Rattle.chr_guard.specs.Settled.{Marks, mark_of, mark_view, is_compound, filled, IsFilled}
+use Rattle.chr_guard.proofs.Bindings.{free_at}
 use Rattle.chr_guard.proofs.Steps.{map_read}
 
 -- whether there is a compound value among the marks from a place on
@@ -118,65 +114,6 @@ pub plain_again : (binding : List (Option (Value ℕ))) (settled : Marks) (n : �
 plain_again binding settled n new is count none fill =
     again binding settled (replicate n None) new is (length-replicate n None ∙ count ∙ ap length is ∙ length-map binding mark_of) fill (λ x e. free_at n x)
     (λ x s vs e. absurd (no_compound binding x s vs (sym (ap (list_any is_compound) is) ∙ none) e))
-
--- the value of an expression over valuations with the same numbers
-value_same : (v w : Valuation) → ((x : ℕ) → number_in (v x) ≡ number_in (w x)) → (e : Expression) → value_of v e ≡ value_of w e
-value_same v w same (Number z) = refl
-value_same v w same (Variable x) = same x
-value_same v w same (Operation o a b) = ap₂ (both (computed o)) (value_same v w same a) (value_same v w same b)
-
--- the binding of a rule's variables without one of its compound values
-module _ (binding : List (Option (Value ℕ))) (x s : ℕ) (vs : Args ℕ) (at : bound_at binding x ≡ Some (Comp s vs)) where
-  numbers : (y : ℕ) → number_in (bound_at binding y) ≡ number_in (changed (bound_at binding) x None y)
-  numbers y = by_place (cases_eq y x)
-    where
-      by_place : (y ≡ x) ⊎ (y ≡ x → ⊥) → number_in (bound_at binding y) ≡ number_in (changed (bound_at binding) x None y)
-      by_place (inl e) = ap number_in (ap (bound_at binding) e ∙ at) ∙ sym (ap number_in (ap (changed (bound_at binding) x None) e ∙ changed_same (bound_at binding) x None))
-      by_place (inr ne) = sym (ap number_in (changed_other (bound_at binding) x y None ne))
-
-  right_without : (ms : List (BodyItem ℕ)) → AllByRecursion (IsRight (bound_at binding)) ms → AllByRecursion (IsRight (changed (bound_at binding) x None)) ms
-  right_without [] a = tt
-  right_without (Add c ∷ ms) a = (tt, right_without ms a.1)
-  right_without (Is y e ∷ ms) a =
-      let other : y ≢ x = λ same. (let z : Some (Int a.0.0) ≡ Some (Comp s vs) = sym a.0.2 ∙ ap (bound_at binding) same ∙ at in cc) in
-      ((a.0.0, sym (value_same (bound_at binding) (changed (bound_at binding) x None) numbers e) ∙ a.0.1, changed_other (bound_at binding) x y None other ∙ a.0.2), right_without ms a.1)
-
--- the heads alone bind the compound values of an instance
-module _ (rule : Simpagation ℕ) (placed : List (ℕ × Atom ℕ)) (settled : Marks) (binding : List (Option (Value ℕ))) (kept : IsKept rule placed settled binding) where
-  all : AreAtHeads rule placed (bound_at binding) × AllByRecursion (IsRight (bound_at binding)) rule.body
-  all = (kept.fit.exactly (bound_at binding)).0 (extends_itself binding)
-
-  pub kept_count : length settled ≡ rule.variables
-  kept_count = ap length kept.marks ∙ length-map binding mark_of ∙ kept.fit.places
-
-  pub heads_fit : (n : ℕ) → NoneUnder (AreAtHeads rule placed) (replicate n None) → ⊥
-  heads_fit n none = none (bound_at binding) (free_extends (bound_at binding) n) all.0
-
-  pub kept_again : (n : ℕ) (fitted new : List (Option (Value ℕ))) → n ≡ length settled → Narrows (AreAtHeads rule placed) (replicate n None) fitted → IsFilled settled fitted new → new ≡ binding
-  kept_again n fitted new count narrows fill =
-      again binding settled fitted new kept.marks (narrows.places ∙ length-replicate n None ∙ count ∙ kept_count ∙ sym kept.fit.places) fill free right
-    where
-      within : Extends (bound_at binding) fitted
-      within = (narrows.exactly (bound_at binding)).1 (free_extends (bound_at binding) n, all.0)
-
-      free : (x : ℕ) → bound_at binding x ≡ None → bound_at fitted x ≡ None
-      free x e = by_case (bound_at fitted x) refl
-        where
-          by_case : (o : Option (Value ℕ)) → bound_at fitted x ≡ o → o ≡ None
-          by_case None f = refl
-          by_case (Some a) f = let z : None ≡ Some a = sym e ∙ within x a f in absurd (cc)
-
-      right : (x s : ℕ) (vs : Args ℕ) → bound_at binding x ≡ Some (Comp s vs) → bound_at fitted x ≡ Some (Comp s vs)
-      right x s vs e = by_case (bound_at fitted x) refl
-        where
-          by_case : (o : Option (Value ℕ)) → bound_at fitted x ≡ o → o ≡ Some (Comp s vs)
-          by_case (Some a) f = sym (within x a f) ∙ e
-          by_case None f =
-              let extends : Extends (changed (bound_at binding) x None) fitted = λ y a g. changed_other (bound_at binding) x y None (λ same. (let z : None ≡ Some a = sym f ∙ ap (bound_at fitted) (sym same) ∙ g in cc)) ∙ within y a g in
-              let heads = ((narrows.exactly (changed (bound_at binding) x None)).0 extends).1 in
-              let there = (kept.fit.exactly (changed (bound_at binding) x None)).1 (heads, right_without binding x s vs e rule.body all.1) x (Comp s vs) e in
-              let z : None ≡ Some (Comp s vs) = sym (changed_same (bound_at binding) x None) ∙ there in
-              absurd (cc)
 
 -- the marks of the first places, one place more
 pub marks_more : (binding : List (Option (Value ℕ))) (i : ℕ) (ms new : List Mark) (m : Mark) → i < length binding → mark_view m ≡ mark_of (bound_at binding i) → new ≡ ms ++ m ∷ [] → map mark_view ms ≡ map mark_of (take i binding) → map mark_view new ≡ map mark_of (take (i + 1) binding)

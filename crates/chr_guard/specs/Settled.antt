@@ -1,15 +1,10 @@
 -- What is kept of a binding without what it borrows.
-use Rattle.std.specs.Prelude.{◌≡◌, ℕ, Bool, true, false, List, length, map, Option, Some, None}
+use Rattle.std.specs.Prelude.{◌≡◌, ℕ, Bool, true, false, List, length, Option, Some, None}
 use Rattle.std.specs.Prelude.{slice_index_or}
-use Rattle.std.specs.List.{AllByRecursion}
-use Rattle.chr_value.specs.Atoms.{Value, Int, Sym, Comp, Atom}
-use Rattle.chr_rule.specs.Rules.{Simpagation}
+use Rattle.chr_value.specs.Atoms.{Value, Int, Sym, Comp}
 use Rattle.chr_guard.specs.declared.settled.Mark.{Mark}
 use Rattle.chr_guard.specs.declared.settled.Mark.TheVariants as marks
-use Rattle.chr_guard.specs.Values.{Valuation}
 use Rattle.chr_guard.specs.Bindings.{bound_at}
-use Rattle.chr_guard.specs.Instances.{IsRight}
-use Rattle.chr_guard.specs.Matching.{AreAtHeads, IsFit}
 
 -- a binding, and what is kept of it
 abbrev pub Places : Type 0
@@ -47,13 +42,3 @@ filled (Some None) o = o
 pub record IsFilled (kept : Marks) (old new : Places) : Type 0 where
   pub places : length new ≡ length old
   pub each : (x : ℕ) → bound_at new x ≡ filled (slice_index_or kept x None) (bound_at old x)
-
--- under the valuation the heads are these atoms and each `is` is right
-abbrev pub CompletesHeads : Simpagation ℕ → List (ℕ × Atom ℕ) → Valuation → Type 0
-CompletesHeads rule placed v = AreAtHeads rule placed v × AllByRecursion (IsRight v) rule.body
-
--- this is kept of the one binding of all variables of the rule under which these are its heads
-pub record IsKept (rule : Simpagation ℕ) (placed : List (ℕ × Atom ℕ)) (kept : Marks)
-    (binding : Places) : Type 0 where
-  pub marks : kept ≡ map mark_of binding
-  pub fit : IsFit rule (CompletesHeads rule placed) binding

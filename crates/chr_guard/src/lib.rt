@@ -19,7 +19,7 @@
 //! returns the binding to these.
 //!
 //! A [`Settled`] is what is kept of a binding where the atoms can't be borrowed on: numbers, symbols, and where compound
-//! values stand. With the atoms it gives the very same binding.
+//! values stand. Where there are none of these, it gives the very same binding.
 //!
 //! Contracts speak of valuations, which give each variable a value. A binding is the list of what its variables are bound
 //! to; the valuations that extend it are those that give each bound variable its value.

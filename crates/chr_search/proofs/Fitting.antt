@@ -75,9 +75,9 @@ module _ (t : Trial) (formed : IsFormed t) (full : length t.placed ≡ length (h
   pub misfit_by : NoInstance rule (in_head_order t) → (IsWhole t → ⊥) × (IsPart t → ⊥)
   misfit_by n = (no_instance t formed full (subst (λ r. NoInstance r (in_head_order t)) same n), no_part)
 
-  pub told_by : Distinct (labels t) → (told : Bool) (binding : List (Option (Value ℕ))) → IsInstanceIf rule (in_head_order t) told binding → IsTrue (not told) ↔ IsVerdict t Misfit
-  told_by d true binding u = (λ z. absurd (cc), λ m. absurd (m.0 (whole_by d binding u).whole))
-  told_by d false binding n = (λ z. misfit_by n, λ m. refl)
+  pub told_by : Distinct (labels t) → (told : Bool) (binding : List (Option (Value ℕ))) → IsInstanceIf rule (in_head_order t) told binding → (IsTrue (not told) ↔ IsVerdict t Misfit) × (not told ≡ false → IsWholeUnder t binding)
+  told_by d true binding u = ((λ z. absurd (cc), λ m. absurd (m.0 (whole_by d binding u).whole)), λ e. whole_by d binding u)
+  told_by d false binding n = ((λ z. misfit_by n, λ m. refl), λ e. absurd (cc))
 
 -- a rule's only head
 only_head : (hs : List (RuleAtom ℕ)) (h : ℕ) (s : RuleAtom ℕ) → head_in hs h ≡ Some s → length hs ≡ 1 → (h ≡ 1) × (hs ≡ s ∷ [])
@@ -117,7 +117,7 @@ module _ (rule : Simpagation ℕ) (h : ℕ) (atom : Atom ℕ) (one : length (hea
         let here : IsAtHead rule v (h, atom) = (subst (λ (r : Simpagation ℕ). AreAtHeads r ((h, atom) ∷ []) v) same (subst (λ ps. AreAtHeads t.rule ps v) stands a)).0 in
         none_from_free (λ v. atom_under v s ≡ Some atom) rule.variables (subst (NoneUnder (λ v. atom_under v s ≡ Some atom)) start n) v (some_is (atom_under v s) (Some atom) (sym (ap (option_map (atom_under v)) head) ∙ here)))
 
-    pub told_alone : IsFormed t → (told : Bool) (binding : List (Option (Value ℕ))) → IsInstanceIf rule (atom ∷ []) told binding → IsTrue (not told) ↔ IsVerdict t Misfit
+    pub told_alone : IsFormed t → (told : Bool) (binding : List (Option (Value ℕ))) → IsInstanceIf rule (atom ∷ []) told binding → (IsTrue (not told) ↔ IsVerdict t Misfit) × (not told ≡ false → IsWholeUnder t binding)
     told_alone formed told binding i =
         let count : length (heads_of t.rule) ≡ 1 = ap (λ (r : Simpagation ℕ). length (heads_of r)) same ∙ one in
         let placed = one_place t.placed h atom stands in

@@ -1,5 +1,6 @@
 -- Trials that differ in their last label: what they begin with, and how they end.
 use Rattle.std.specs.Prelude.{◌≡◌, ℕ, ◌+◌, ◌≤◌, ◌↔◌, true, List, [], ◌∷◌, ◌++◌, length, Option, Some, MatchOption, slice_get}
+use Rattle.chr_value.specs.Atoms.{Value}
 use Rattle.chr_value.specs.Stores.{atom_at}
 use Rattle.chr_rule.specs.Rules.{Simpagation}
 use Rattle.chr_guard.specs.Bindings.{AreKnown}
@@ -50,20 +51,20 @@ pub record IsFront {Z : Type 0} (s : Space) (r h : ℕ) (ls : List ℕ) (f : Cod
   pub labels : f.labels.items ≡ ls
   pub some : 1 ≤ length ls
   pub grows : Grows (MayFollow (join_of f.join)) [] ls
-  pub ready : IsReady (join_of f.join) ls f.binding
-  pub level : IsLevel (join_of f.join) ls f.binding f.level
+  pub ready : IsReady (join_of f.join) ls f.binding.now
+  pub level : IsLevel (join_of f.join) ls f.binding.now f.level
   pub step : Step
   pub step_is : slice_get f.join.order.now (length ls) ≡ Some step
   pub head_is : f.head ≡ step.head
 
 -- what is kept for judging the trials that have one label more than this one, and all heads then: its labels are distinct, and
 -- its heads fit by this binding
-pub record IsFitted {Z : Type 0} (t : Trial) (j : CodeFitted Z) : Type 0 where
+pub record IsFitted {Z : Type 0} (t : Trial) (j : CodeFitted Z) (binding : List (Option (Value ℕ))) : Type 0 where
   pub part : j.part.now ≡ t
   pub last : length t.placed + 1 ≡ length (heads_of t.rule)
   pub distinct : Distinct (labels t)
-  pub fit : IsFit t.rule (AreAtHeads t.rule (at_heads t)) j.binding
-  pub known : AreKnown j.known j.binding
+  pub fit : IsFit t.rule (AreAtHeads t.rule (at_heads t)) binding
+  pub known : AreKnown j.known binding
 
 -- from the one position on lie the admissible trials that come after the other
 abbrev pub ComeAfter : Space → List ℕ → List ℕ → Type 0

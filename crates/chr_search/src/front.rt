@@ -21,10 +21,11 @@ use std::alloc::{AllocError, Allocator};
 
 /// A rule, a head of it, and labels, with which admissible trials begin that have one label more.
 #[derive(Drop)]
-pub struct Front<'s, A: Allocator> {
+pub struct Front<'b, 's, A: Allocator> {
     pub(crate) join: Join<'s, A>,
     pub(crate) labels: Labels,
-    pub(crate) binding: Binding<'s, A>,
+    /// The binding of the labels. It is lent, since one costs more to make than to set.
+    pub(crate) binding: &'b Binding<'s, A>,
     pub(crate) level: Level<'s, A>,
     /// The head at which the last label stands.
     pub(crate) head: u8,
@@ -48,32 +49,33 @@ impl<'s, A: Allocator + Copy> Join<'s, A> {
     }
 }
 
-impl<'s, A: Allocator + Copy> Front<'s, A> {
+impl<'b, 's, A: Allocator + Copy> Front<'b, 's, A> {
     /// What the admissible trials of an active label have in common that begin with a rule, a head and these labels, one at
-    /// least, and have one label more. None where there is no such trial. It takes no memory.
+    /// least, and have one label more. None where there is no such trial. The binding becomes that of the labels. It takes no
+    /// memory.
     pub fn of(
         program: &'s Program<A>,
         plans: &'s Plans<A>,
         store: &'s Store<A>,
         active: Label,
-        number: u16,
-        head: u8,
+        at: (u16, u8),
         placed: &[Placed<A>],
-    ) -> Option<Front<'s, A>>
+        binding: &'b mut Binding<'s, A>,
+    ) -> Option<Front<'b, 's, A>>
         requires plans { ArePlans program.now plans.now }
         requires some { 1 ≤ length placed.now }
         requires few { length placed.now ≤ 5 }
-        ensures { let s = older program.now plans.now store.now.entries active in let ls = map (λ p. p.label) placed.now in MatchOption result ((x : ℕ) → MayEnd s (number ∷ head ∷ ls) x → ⊥) (IsFront s number head ls) }
+        ensures { let s = older program.now plans.now store.now.entries active in let ls = map (λ p. p.label) placed.now in MatchOption result ((x : ℕ) → MayEnd s (at.0 ∷ at.1 ∷ ls) x → ⊥) (IsFront s at.0 at.1 ls) }
     {
         let view = View::of(store, active);
-        let join = Search::join_at(program, plans, &view, number, head)?;
+        let join = Search::join_at(program, plans, &view, at.0, at.1)?;
         if !join.begins() {
             return None;
         }
-        let mut binding = Binding::free(join.rule.variables());
-        let labels = join.narrow_by_all(&mut binding, placed)?;
+        binding.reset(join.rule.variables());
+        let labels = join.narrow_by_all(binding, placed)?;
         let step = join.order.get(labels.len())?;
-        let level = join.level(labels.as_slice(), &binding)?;
+        let level = join.level(labels.as_slice(), binding)?;
         Some(Front {
             join,
             labels,
@@ -91,7 +93,7 @@ impl<'s, A: Allocator + Copy> Front<'s, A> {
     {
         let labels = self.labels.as_slice();
         self.join
-            .next_at(&mut self.level, labels, &self.binding, from)
+            .next_at(&mut self.level, labels, self.binding, from)
     }
 
     /// A label with which an admissible trial ends, with a copy of its atom. An `Err` is E01.

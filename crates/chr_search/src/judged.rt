@@ -1,5 +1,5 @@
 //! Judging trials.
-ghost use Rattle.std.specs.Prelude.{◌≡◌, ◌==◌, ◌↔◌, IsTrue, None, length, map, replicate, MatchOption};
+ghost use Rattle.std.specs.Prelude.{◌≡◌, ◌==◌, ◌↔◌, IsTrue, None, length, map, replicate, IfSome, MatchOption};
 ghost use Rattle.std.specs.List.{list_any};
 ghost use Rattle.chr_guard.specs.Bindings.{NarrowsIf};
 ghost use Rattle.chr_guard.specs.Matching.{AreAtHeads, IsFit};
@@ -34,18 +34,17 @@ pub enum Verdict {
 pub struct Judged<A: Allocator> {
     trial: Trial<A>,
     verdict: Verdict,
-    /// What is kept of the instance's binding, where the trial is whole.
-    settled: Option<Settled>,
+    /// What is kept of the instance's binding, where the trial is whole and there was memory for it.
+    settled: Option<Settled<A>>,
 }
 
 impl<A: Allocator> Model for Judged<A> {
-    ghost use Rattle.std.specs.Prelude.{MatchOption};
+    ghost use Rattle.std.specs.Prelude.{IfSome};
     ghost use Rattle.std.specs.Coded.{codes};
     ghost use Rattle.chr_value.specs.Code.{value_code};
     ghost use Rattle.chr_rule.specs.Code.{expression_code};
     ghost use Rattle.chr_rule.specs.TermCode.{term_code};
     ghost use Rattle.chr_search.specs.Judged.{Judgement, IsVerdict, IsSettledUnder};
-    ghost use Rattle.chr_search.specs.Verdicts.{IsWhole};
 
     ghost Value = { Judgement };
 
@@ -53,7 +52,7 @@ impl<A: Allocator> Model for Judged<A> {
 
     ghost view = { λ j. record { trial = j.trial; verdict = j.verdict } };
 
-    ghost invariant = { λ j. IsVerdict j.trial j.verdict × MatchOption j.settled (IsWhole j.trial → ⊥) (IsSettledUnder j.trial) };
+    ghost invariant = { λ j. IsVerdict j.trial j.verdict × IfSome j.settled (IsSettledUnder j.trial) };
 }
 
 impl<A: Allocator + Copy> Judged<A> {
@@ -73,21 +72,37 @@ impl<A: Allocator + Copy> Judged<A> {
     }
 
     /// The one binding of all variables of the instance that a whole trial is. None unless the verdict is
-    /// [`Verdict::Whole`]. It takes no memory. Where a compound value stands in it, the trial is judged once more.
+    /// [`Verdict::Whole`]. It takes no memory. The trial is judged once more where a compound value stands in the binding, or
+    /// where there was no memory to keep it.
     pub fn binding(&self) -> Option<Binding<'_, A>>
         ensures { MatchOption result (IsWhole self.now.trial → ⊥) (IsWholeUnder self.now.trial) }
     {
-        let Some(settled) = &self.settled else {
+        if self.verdict != Verdict::Whole {
             return None;
-        };
-        if let Some(binding) = settled.plain() {
-            return Some(binding);
+        }
+        if let Some(settled) = &self.settled {
+            if let Some(binding) = settled.plain() {
+                return Some(binding);
+            }
         }
         let mut binding = Binding::free(self.trial.rule().variables());
         if judge_by(&self.trial, &mut binding) != Verdict::Whole {
             unreachable!();
         }
         Some(binding)
+    }
+
+    /// The judgement of a trial that is whole, of whose instance's binding this is kept.
+    pub fn whole(trial: Trial<A>, settled: Settled<A>) -> Judged<A>
+        requires { IsSettledUnder trial settled }
+        ensures trial { result.trial ≡ trial }
+        ensures verdict { result.verdict ≡ verdicts.Whole }
+    {
+        Judged {
+            trial,
+            verdict: Verdict::Whole,
+            settled: Some(settled),
+        }
     }
 
     /// The trial alone.
@@ -156,20 +171,20 @@ fn judge_by<'v, A: Allocator + Copy>(trial: &'v Trial<A>, binding: &mut Binding<
     }
 }
 
-/// The verdict on a trial, and what is kept of the binding of all variables where it is whole.
-fn settled_on<A: Allocator + Copy>(trial: &Trial<A>) -> (Verdict, Option<Settled>)
+/// The verdict on a trial, and what is kept of the binding of all variables where it is whole and there is memory for that.
+fn settled_on<A: Allocator + Copy>(trial: &Trial<A>) -> (Verdict, Option<Settled<A>>)
     ensures verdict { IsVerdict trial.now result.0 }
-    ensures settled { MatchOption result.1 (IsWhole trial.now → ⊥) (IsSettledUnder trial.now) }
+    ensures settled { IfSome result.1 (IsSettledUnder trial.now) }
 {
     let mut binding = Binding::free(trial.rule().variables());
     let verdict = judge_by(trial, &mut binding);
     if verdict != Verdict::Whole {
         return (verdict, None);
     }
-    (verdict, Some(binding.settled()))
+    (verdict, binding.settled(trial.allocator()).ok())
 }
 
-/// Judges a trial. It takes no memory.
+/// Judges a trial. Where there is no memory to keep a whole trial's binding, that is found again when it is asked for.
 pub fn judge<A: Allocator + Copy>(trial: Trial<A>) -> Judged<A>
     ensures { result.trial ≡ trial }
 {

@@ -254,6 +254,11 @@ impl<A: Allocator + Copy> Trial<A> {
         )
     }
 
+    /// Where its labels lie.
+    pub(crate) fn allocator(&self) -> A {
+        *self.placed.allocator()
+    }
+
     /// A copy: it shares the rule and has copies of the atoms. E01 where memory ran out.
     pub fn copy(&self, alloc: A) -> Result<Trial<A>, AllocError>
         ensures { IfOk result (λ made. made ≡ self.now) }

@@ -1,12 +1,13 @@
 -- Columns, trial by trial.
-use Rattle.std.proofs.Common.{◌≡◌, ◌↔◌, IsTrue, Bool, ℕ, suc, ◌+◌, ◌<◌, List, [], ◌∷◌, ◌++◌, map, take, length, get_or, refl, sym, ◌∙◌, ap, subst, arith}
+use Rattle.std.proofs.Common.{◌≡◌, ◌↔◌, IsTrue, Bool, false, ℕ, suc, ◌+◌, ◌<◌, List, [], ◌∷◌, ◌++◌, map, take, length, get_or, refl, sym, ◌∙◌, ap, subst, arith}
 use Rattle.std.proofs.lemmas.List.{take_more, length-map, get_or-map}
 use Rattle.chr_value.specs.Atoms.{Atom}
 use Rattle.chr_rule.specs.Rules.{Simpagation}
+use Rattle.chr_guard.specs.Settled.{Places}
 use Rattle.chr_guard.proofs.Steps.{all_at}
 use Rattle.chr_plan.specs.Orders.{heads_of}
 use Rattle.chr_search.specs.declared.judged.Verdict.TheVariants.{Misfit}
-use Rattle.chr_search.specs.Verdicts.{Placed, Trial, IsFormed, at_heads}
+use Rattle.chr_search.specs.Verdicts.{Placed, Trial, IsFormed, IsWholeUnder, at_heads}
 use Rattle.chr_search.specs.Judged.{IsVerdict}
 use Rattle.chr_sheet.specs.Columns.{Head, Column, IsColumn, at_head, column_trials}
 
@@ -63,31 +64,34 @@ other_full : (t : Trial) (h : Head) → length t.placed ≡ 1 → length (heads_
 other_full t h one full = length-map t.placed (λ (p : Placed). record p { head = h.head }) ∙ one ∙ sym full
 
 -- it is told of a trial whether it is a misfit
-pub record IsTold (c : Column) (i : ℕ) (t : Trial) (told : Bool) : Type 0 where
+pub record IsTold (c : Column) (i : ℕ) (t : Trial) (told : Bool) (binding : Places) : Type 0 where
   pub within : i < length (column_trials c)
   pub there : t ≡ get_or (column_trials c) i t
   pub full : length t.placed ≡ length (heads_of t.rule)
   pub means : IsTrue told ↔ IsVerdict t Misfit
+  pub whole : told ≡ false → IsWholeUnder t binding
 
 -- by its rule and its label's atom at the head
-abbrev pub IsToldAlone : Simpagation ℕ → ℕ → Atom ℕ → Bool → Type 0
-IsToldAlone rule head atom told = (t : Trial) → t.rule ≡ rule → at_heads t ≡ (head, atom) ∷ [] → IsFormed t → IsTrue told ↔ IsVerdict t Misfit
+abbrev pub IsToldAlone : Simpagation ℕ → ℕ → Atom ℕ → Bool → Places → Type 0
+IsToldAlone rule head atom told binding = (t : Trial) → t.rule ≡ rule → at_heads t ≡ (head, atom) ∷ [] → IsFormed t → (IsTrue told ↔ IsVerdict t Misfit) × (told ≡ false → IsWholeUnder t binding)
 
-pub first_told : (c : Column) (p : Placed) (rule : Simpagation ℕ) (told : Bool) → IsColumn c → c.first.placed ≡ p ∷ [] → rule ≡ c.first.rule → IsToldAlone rule p.head p.atom told → IsTold c 0 c.first told
-first_told c p rule told w one is tell = record {
+pub first_told : (c : Column) (p : Placed) (rule : Simpagation ℕ) (told : Bool) (binding : Places) → IsColumn c → c.first.placed ≡ p ∷ [] → rule ≡ c.first.rule → IsToldAlone rule p.head p.atom told binding → IsTold c 0 c.first told binding
+first_told c p rule told binding w one is tell = record {
   within = omega arith;
   there = refl;
   full = w.alone ∙ sym w.full.0;
-  means = tell c.first (sym is) (first_heads c.first p one) w.formed.0;
+  means = (tell c.first (sym is) (first_heads c.first p one) w.formed.0).0;
+  whole = (tell c.first (sym is) (first_heads c.first p one) w.formed.0).1;
 }
 
-pub other_told : {X : Type 0} (f : X → Head) (c : Column) (xs : List X) (i : ℕ) (x : X) (p : Placed) (rule : Simpagation ℕ) (told : Bool) → IsColumn c → map f xs ≡ c.more → i < length xs → x ≡ get_or xs i x → c.first.placed ≡ p ∷ [] → rule ≡ (f x).rule → IsToldAlone rule (f x).head p.atom told → IsTold c (i + 1) (at_head c.first (f x)) told
-other_told f c xs i x p rule told w more h e one is tell =
+pub other_told : {X : Type 0} (f : X → Head) (c : Column) (xs : List X) (i : ℕ) (x : X) (p : Placed) (rule : Simpagation ℕ) (told : Bool) (binding : Places) → IsColumn c → map f xs ≡ c.more → i < length xs → x ≡ get_or xs i x → c.first.placed ≡ p ∷ [] → rule ≡ (f x).rule → IsToldAlone rule (f x).head p.atom told binding → IsTold c (i + 1) (at_head c.first (f x)) told binding
+other_told f c xs i x p rule told binding w more h e one is tell =
     let count : length (column_trials c) ≡ length xs + 1 = trials_count f c xs more in
     let t = other_trial f c xs i x w more h e in
     record {
       within = omega arith;
       there = trial_there f c xs i x more h e;
       full = other_full c.first (f x) w.alone t.full;
-      means = tell (at_head c.first (f x)) (sym is) (other_heads c.first p (f x) one) t.formed;
+      means = (tell (at_head c.first (f x)) (sym is) (other_heads c.first p (f x) one) t.formed).0;
+      whole = (tell (at_head c.first (f x)) (sym is) (other_heads c.first p (f x) one) t.formed).1;
     }

@@ -1,17 +1,19 @@
 -- Rows, trial by trial.
-use Rattle.std.proofs.Common.{◌≡◌, ℕ, zero, suc, ◌+◌, ◌<◌, ◌≤◌, List, [], ◌∷◌, ◌++◌, map, take, length, get_or, MatchOption, slice_get, refl, sym, ◌∙◌, ap, subst, arith}
+use Rattle.std.proofs.Common.{◌≡◌, ℕ, zero, suc, ◌+◌, ◌<◌, ◌≤◌, List, [], ◌∷◌, ◌++◌, map, take, length, get_or, Result, Ok, Err, IfOk, IfSome, MatchOption, slice_get, refl, sym, ◌∙◌, ap, subst, arith}
 use Rattle.std.specs.Bool.{⊤}
 use Rattle.std.specs.List.{AllByRecursion}
+use Rattle.std.specs.Result.{result_ok}
 use Rattle.std.proofs.lemmas.List.{take_all, take_more, length-map, get_or-map}
 use Rattle.std.proofs.lemmas.Option.{slice_get_read}
+use Rattle.chr_guard.specs.Settled.{Places, Marks, mark_of}
 use Rattle.chr_guard.proofs.Steps.{all_at, all_push}
 use Rattle.chr_plan.specs.Orders.{heads_of}
 use Rattle.chr_search.specs.declared.judged.Verdict.TheVariants.{Misfit}
-use Rattle.chr_search.specs.Verdicts.{Placed, Trial, IsFormed}
-use Rattle.chr_search.specs.Judged.{IsVerdict}
+use Rattle.chr_search.specs.Verdicts.{Placed, Trial, IsFormed, IsWholeUnder}
+use Rattle.chr_search.specs.Judged.{IsVerdict, IsSettledUnder}
 use Rattle.chr_search.specs.Fronts.{lengthened}
 use Rattle.chr_search.proofs.Judging.{few_heads}
-use Rattle.chr_sheet.specs.Rows.{Row, IsRow, trials_of, AreMisfits, AreMisfitsUpTo, MustBeWhole}
+use Rattle.chr_sheet.specs.Rows.{Row, IsRow, trials_of, AreMisfits, AreMisfitsUpTo, IsSettledAt, MustBeWhole}
 
 pub trials_count : {X : Type 0} (f : X → Placed) (r : Row) (xs : List X) → map f xs ≡ r.lasts → length (trials_of r) ≡ length xs
 trials_count f r xs e = length-map r.lasts (lengthened r.part) ∙ ap length (sym e) ∙ length-map xs f
@@ -45,6 +47,11 @@ one_up_to ts n t h e a must = record {
   misfits = a;
   next = subst (λ o. MatchOption o ⊤ MustBeWhole) (sym (slice_get_read ts (length ts) n t refl h e)) must;
 }
+
+-- what is kept of the binding by which a trial is whole
+pub settled_up_to : {E : Type 0} (ts : List Trial) (n : ℕ) (t : Trial) (binding : Places) (r : Result Marks E) → n < length ts → t ≡ get_or ts n t → IsWholeUnder t binding → IfOk r (λ kept. kept ≡ map mark_of binding) → IfSome (result_ok r) (IsSettledAt ts n)
+settled_up_to ts n t binding (Err e) h at whole is = tt
+settled_up_to ts n t binding (Ok kept) h at whole is = subst (λ o. MatchOption o ⊥ (λ u. IsSettledUnder u kept)) (sym (slice_get_read ts (length ts) n t refl h at)) (record { binding = binding; under = whole; settled = is })
 
 -- where a part doesn't fit, no trial does that it begins
 pub all_unfit : (part : Trial) (lasts : List Placed) → ((p : Placed) → IsFormed (lengthened part p) → IsVerdict (lengthened part p) Misfit) → AllByRecursion IsFormed (map (lengthened part) lasts) → AllByRecursion (λ t. IsVerdict t Misfit) (map (lengthened part) lasts)

@@ -218,7 +218,7 @@ begins_others s t f front i w left =
     let order : i.order ≡ j.order = cc in
     let store : s.store ≡ j.store = sym (ap (λ (y : Join). y.store) k.is) in
     let all : length (heads_of t.rule) ≡ length j.rule.kept + length j.rule.removed = ap (λ r. length (heads_of r)) rule ∙ length-append j.rule.kept j.rule.removed in
-    is_part j (labels t) f.binding front.ready (omega (arith, labels_length t)) t (record {
+    is_part j (labels t) f.binding.now front.ready (omega (arith, labels_length t)) t (record {
       rule_is = rule;
       labels_are = refl;
       heads_are = subst (λ (o : List Step). heads t ≡ take (length t.placed) (map (λ (step : Step). step.head) o)) order i.heads_are;

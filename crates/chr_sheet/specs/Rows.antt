@@ -1,11 +1,12 @@
 -- Trials and judgements, where those that differ in their last label alone are kept together.
 use Rattle.std.specs.Prelude.{⊤, ◌≡◌, ℕ, ◌<◌, ◌≤◌, ◌+◌, List, [], ◌∷◌, ◌++◌, length, map, take, Option, Some, None, MatchOption, slice_get}
 use Rattle.std.specs.List.{AllByRecursion}
+use Rattle.chr_value.specs.Atoms.{Value}
 use Rattle.chr_plan.specs.Orders.{heads_of}
 use Rattle.chr_search.specs.declared.judged.Verdict.{Verdict}
 use Rattle.chr_search.specs.declared.judged.Verdict.TheVariants as verdicts
 use Rattle.chr_search.specs.Verdicts.{Placed, Trial, IsFormed, IsPart}
-use Rattle.chr_search.specs.Judged.{Judgement, IsVerdict}
+use Rattle.chr_search.specs.Judged.{Judgement, IsVerdict, IsSettledUnder}
 use Rattle.chr_search.specs.Fronts.{lengthened}
 
 -- a part that one head is left of, and labels for that head
@@ -39,6 +40,10 @@ pub record AreMisfitsUpTo (ts : List Trial) (n : ℕ) : Type 0 where
   pub few : n ≤ length ts
   pub misfits : AreMisfits (take n ts)
   pub next : MatchOption (slice_get ts n) ⊤ MustBeWhole
+
+-- this is kept of the binding of the trial after so many
+abbrev pub IsSettledAt : List Trial → ℕ → List (Option (Option (Value ℕ))) → Type 0
+IsSettledAt ts n kept = MatchOption (slice_get ts n) ⊥ (λ t. IsSettledUnder t kept)
 
 -- a judgement of a misfit, and one of a part
 abbrev pub misfit : Trial → Judgement

@@ -1,11 +1,12 @@
 //! Judging the trials of a sheet.
-ghost use Rattle.std.specs.Prelude.{◌≡◌, ◌⊎◌, ◌<◌, ◌≤◌, ⊤, ◌∷◌, ◌++◌, [], length, take, IfOk, OnOk, MatchOption, IsTrue, slice_get};
+ghost use Rattle.std.specs.Prelude.{◌≡◌, ◌⊎◌, ◌<◌, ◌≤◌, ⊤, ◌∷◌, ◌++◌, [], length, take, IfOk, IfSome, OnOk, MatchOption, IsTrue, slice_get};
 ghost use Rattle.std.specs.Option.{option_copied};
 ghost use Rattle.chr_search.specs.declared.judged.Verdict.TheVariants as verdicts;
+ghost use Rattle.chr_search.specs.Judged.{IsSettledUnder};
 ghost use Rattle.chr_sheet.specs.Columns.{column_trials};
 ghost use Rattle.chr_sheet.specs.Kept.{judged_at, trials_at, trials_in};
 ghost use Rattle.chr_sheet.specs.Others.{others_in};
-ghost use Rattle.chr_sheet.specs.Rows.{judgements_of, kept_before, trials_of, AreMisfitsUpTo, AreRight, MustBeWhole};
+ghost use Rattle.chr_sheet.specs.Rows.{judgements_of, kept_before, trials_of, AreMisfitsUpTo, AreRight, IsSettledAt, MustBeWhole};
 ghost use Rattle.chr_sheet.specs.Sheets.{AreJudgedInOrder, AreJudgedUpTo};
 
 use crate::column::Column;
@@ -13,7 +14,7 @@ use crate::not_whole::{NotWhole, Several};
 use crate::others::Others;
 use crate::row::Row;
 use crate::trials::Trials;
-use chr_guard::Binding;
+use chr_guard::{Binding, Settled};
 use chr_search::{Fitted, Judged, Trial, Verdict, is_misfit_alone};
 use std::alloc::{AllocError, Allocator};
 use std::marker::Model;
@@ -87,64 +88,84 @@ impl<A: Allocator + Copy> Judgements<A> {
     }
 }
 
-/// How many trials of a row are misfits, before the first that isn't.
-fn count_in_row<A: Allocator + Copy, W: Watch>(row: &Row<A>, watch: &W) -> usize
-    ensures { AreMisfitsUpTo (trials_of row.now) result }
+/// How many trials of a row are misfits, before the first that isn't, and what is kept of that one's binding, where there is
+/// memory for that.
+fn count_in_row<A: Allocator + Copy, W: Watch>(
+    alloc: A,
+    row: &Row<A>,
+    watch: &W,
+) -> (usize, Option<Settled<A>>)
+    ensures misfits { AreMisfitsUpTo (trials_of row.now) result.0 }
+    ensures settled { IfSome result.1 (IsSettledAt (trials_of row.now) result.0) }
 {
-    let Some(mut fitted) = Fitted::of(row.part()) else {
+    let mut binding = Binding::free(0);
+    let Some(fitted) = Fitted::of(row.part(), &mut binding) else {
         for _ in row.lasts() {
             watch.before_judging();
         }
-        return row.lasts().len();
+        return (row.lasts().len(), None);
     };
     for (i, last) in row.lasts().iter().enumerate() {
         watch.before_judging();
-        if !fitted.is_misfit(last) {
-            return i;
+        if !fitted.is_misfit(&mut binding, last) {
+            return (i, binding.settled(alloc).ok());
         }
     }
-    row.lasts().len()
+    (row.lasts().len(), None)
 }
 
-/// How many trials of a column are misfits, before the first that isn't.
-fn count_in_column<A: Allocator + Copy, W: Watch>(column: &Column<A>, watch: &W) -> usize
-    ensures { AreMisfitsUpTo (column_trials column.now) result }
+/// How many trials of a column are misfits, before the first that isn't, and what is kept of that one's binding, where there is
+/// memory for that.
+fn count_in_column<A: Allocator + Copy, W: Watch>(
+    alloc: A,
+    column: &Column<A>,
+    watch: &W,
+) -> (usize, Option<Settled<A>>)
+    ensures misfits { AreMisfitsUpTo (column_trials column.now) result.0 }
+    ensures settled { IfSome result.1 (IsSettledAt (column_trials column.now) result.0) }
 {
     let first = column.first();
     let one = &first.placed()[0];
     let mut binding = Binding::free(0);
     watch.before_judging();
     if !is_misfit_alone(&mut binding, first.rule(), one.head, &one.atom) {
-        return 0;
+        return (0, binding.settled(alloc).ok());
     }
     for (i, other) in column.more().iter().enumerate() {
         watch.before_judging();
         if !is_misfit_alone(&mut binding, &other.rule, other.head, &one.atom) {
-            return i + 1;
+            return (i + 1, binding.settled(alloc).ok());
         }
     }
-    column.more().len() + 1
+    (column.more().len() + 1, None)
 }
 
-/// How many of these trials aren't whole, before the first that is. Where there is one alone, that is left open.
-fn count_others<A: Allocator + Copy, W: Watch>(trials: &Trials<A>, watch: &W) -> usize
-    ensures few { result ≤ length (trials_at trials.now) }
-    ensures right { AreRight (take result (judged_at trials.now)) }
-    ensures next { MatchOption (slice_get (trials_at trials.now) result) ⊤ (λ t. (trials_at trials.now ≡ t ∷ []) ⊎ MustBeWhole t) }
+/// How many of these trials aren't whole, before the first that is, and what is kept of that one's binding, where there is
+/// memory for that. Where there is one trial alone, both are left open.
+fn count_others<A: Allocator + Copy, W: Watch>(
+    alloc: A,
+    trials: &Trials<A>,
+    watch: &W,
+) -> (usize, Option<Settled<A>>)
+    ensures few { result.0 ≤ length (trials_at trials.now) }
+    ensures right { AreRight (take result.0 (judged_at trials.now)) }
+    ensures next { MatchOption (slice_get (trials_at trials.now) result.0) ⊤ (λ t. (trials_at trials.now ≡ t ∷ []) ⊎ MustBeWhole t) }
+    ensures settled { IfSome result.1 (IsSettledAt (trials_at trials.now) result.0) }
 {
     match trials {
         Trials::One(_) => {
             watch.before_judging();
-            0
+            (0, None)
         }
-        Trials::Row(row) => count_in_row(row, watch),
+        Trials::Row(row) => count_in_row(alloc, row, watch),
         Trials::Branch(row) => {
             // For the proof: the part is one, and a list can be counted.
             let _count = row.lasts().len();
             watch.before_judging();
-            count_in_row(row, watch) + 1
+            let (count, settled) = count_in_row(alloc, row, watch);
+            (count + 1, settled)
         }
-        Trials::Column(column) => count_in_column(column, watch),
+        Trials::Column(column) => count_in_column(alloc, column, watch),
     }
 }
 
@@ -162,14 +183,20 @@ fn push_several<A: Allocator + Copy>(
     Ok(())
 }
 
-/// Judges a trial. Returns the judgement where it is whole, and else puts it after the others. An `Err` is E01.
+/// Judges a trial, unless what is kept of its binding shows that it is whole. Returns the judgement where it is, and else puts
+/// it after the others. An `Err` is E01.
 fn judge_one<A: Allocator + Copy>(
     trial: Trial<A>,
+    settled: Option<Settled<A>>,
     others: &mut Vec<Others<A>, A>,
 ) -> Result<Option<Judged<A>>, AllocError>
+    requires { IfSome settled (IsSettledUnder trial) }
     ensures judged { IfOk result (λ whole. AreJudgedUpTo (trial ∷ []) (others_in others.old.items) (others_in others.new.items) whole) }
     ensures sure { IfOk result (λ whole. MatchOption whole (MustBeWhole trial → ⊥) (λ _. ⊤)) }
 {
+    if let Some(settled) = settled {
+        return Ok(Some(Judged::whole(trial, settled)));
+    }
     let judged = chr_search::judge(trial);
     if judged.verdict() == Verdict::Whole {
         return Ok(Some(judged));
@@ -188,14 +215,14 @@ fn judge_some<A: Allocator + Copy, W: Watch>(
 ) -> Result<Option<Judged<A>>, AllocError>
     ensures { IfOk result (λ whole. AreJudgedUpTo (trials_at trials) (others_in others.old.items) (others_in others.new.items) whole) }
 {
-    let count = count_others(&trials, watch);
+    let (count, settled) = count_others(alloc, &trials, watch);
     if count == trials.len() {
         push_several(Some(trials), others)?;
         return Ok(None);
     }
     let (before, trial) = trials.split_at(alloc, count)?;
     push_several(before, others)?;
-    judge_one(trial, others)
+    judge_one(trial, settled, others)
 }
 
 /// Judges the trials of a sheet in order, up to the first that is whole. Returns the judgement of that one, and puts the others

@@ -19,6 +19,7 @@ use crate::column::{Column, OneHead};
 use crate::row::Row;
 use crate::setting::Setting;
 use crate::trials::Trials;
+use chr_guard::Binding;
 use chr_plan::Plans;
 use chr_rule::Program;
 use chr_search::{Ask, Front, Placed, Search, Trial};
@@ -28,10 +29,10 @@ use std::alloc::{AllocError, Allocator};
 use std::sync::Arc;
 
 /// How many labels a row, or heads a column, has room for at first.
-const FIRST_ROOM: usize = 16;
+const FIRST_ROOM: usize = 2;
 
 /// How many rows, columns and trials alone a sheet has room for at first.
-const SHEET_ROOM: usize = 8;
+const SHEET_ROOM: usize = 4;
 
 /// Puts one after the others. With the first comes room for so many. An `Err` is E01.
 fn push_with_room<T: Drop, A: Allocator>(
@@ -52,7 +53,7 @@ fn push_with_room<T: Drop, A: Allocator>(
 /// many. An `Err` is E01.
 fn push_ends<A: Allocator + Copy>(
     alloc: A,
-    front: &mut Front<'_, A>,
+    front: &mut Front<'_, '_, A>,
     lasts: &mut Vec<Placed<A>, A>,
     first: Label,
     most: usize,
@@ -76,27 +77,27 @@ fn push_ends<A: Allocator + Copy>(
 
 /// The front of a trial's rule, its head and these labels, and the least label from one on with which a trial ends. None where
 /// there is none.
-fn first_end<'s, A: Allocator + Copy>(
+fn first_end<'b, 's, A: Allocator + Copy>(
     trial: &Trial<A>,
     labels: &[Placed<A>],
     from: Label,
     active: Label,
     setting: &Setting<'s, A>,
-) -> Option<(Front<'s, A>, Label)>
+    binding: &'b mut Binding<'s, A>,
+) -> Option<(Front<'b, 's, A>, Label)>
     requires plans { HasPlans setting.now }
     requires some { 1 ≤ length labels.now }
     requires few { length labels.now ≤ 5 }
     ensures { let s = space_in setting.now active in MatchOption result ⊤ (λ found. HasEnd s trial.now.number trial.now.head (map (λ p. p.label) labels.now) from found.0 found.1) }
 {
-    let (number, head) = (trial.number(), trial.head());
     let mut front = Front::of(
         setting.program,
         setting.plans,
         setting.store,
         active,
-        number,
-        head,
+        (trial.number(), trial.head()),
         labels,
+        binding,
     )?;
     let first = front.next(from)?;
     Some((front, first))
@@ -104,11 +105,12 @@ fn first_end<'s, A: Allocator + Copy>(
 
 /// Where a trial has all heads, two at least: the front of its labels but the last, and the least label past that one with
 /// which a trial ends. None where there is none.
-fn second_beside<'s, A: Allocator + Copy>(
+fn second_beside<'b, 's, A: Allocator + Copy>(
     first: &Trial<A>,
     active: Label,
     setting: &Setting<'s, A>,
-) -> Option<(Front<'s, A>, Label)>
+    binding: &'b mut Binding<'s, A>,
+) -> Option<(Front<'b, 's, A>, Label)>
     requires { HasPlans setting.now }
     ensures { MatchOption result ⊤ (λ found. HasBeside (space_in setting.now active) first.now found.0 found.1) }
 {
@@ -117,7 +119,7 @@ fn second_beside<'s, A: Allocator + Copy>(
     if before.is_empty() || placed.len() != first.rule().heads() {
         return None;
     }
-    first_end(first, before, last.label + 1, active, setting)
+    first_end(first, before, last.label + 1, active, setting, binding)
 }
 
 /// The heads of rules of one head at which an atom of a predicate is tried next after a rule and a head, one after another, at
@@ -185,12 +187,13 @@ fn in_column<A: Allocator + Copy>(
 }
 
 /// A trial that one head is left of, with those that begin with it and have one label more, at most so many. An `Err` is E01.
-fn in_branch<A: Allocator + Copy>(
+fn in_branch<'s, A: Allocator + Copy>(
     alloc: A,
     active: Label,
     part: Trial<A>,
     most: usize,
-    setting: &Setting<'_, A>,
+    setting: &Setting<'s, A>,
+    binding: &mut Binding<'s, A>,
 ) -> Result<Trials<A>, AllocError>
     requires plans { HasPlans setting.now }
     requires some { 2 ≤ most }
@@ -201,7 +204,7 @@ fn in_branch<A: Allocator + Copy>(
     // For the proof: the rules are valid, and the labels of a store are at most the greatest.
     let _rules = setting.program.rules();
     let _given = setting.store.next_label();
-    let found = first_end(&part, part.placed(), 0, active, setting);
+    let found = first_end(&part, part.placed(), 0, active, setting, binding);
     let Some((mut front, first)) = found else {
         return Ok(Trials::One(part));
     };
@@ -214,12 +217,13 @@ fn in_branch<A: Allocator + Copy>(
 /// A trial with those that come next after it, at most so many: where one head is left of it, those that begin with it; where it
 /// has all heads, two at least, those that differ from it in their last label alone; where its rule has one head, those of its
 /// label at rules of one head. An `Err` is E01.
-fn in_turn<A: Allocator + Copy>(
+fn in_turn<'s, A: Allocator + Copy>(
     alloc: A,
     active: Label,
     first: Trial<A>,
     most: usize,
-    setting: &Setting<'_, A>,
+    setting: &Setting<'s, A>,
+    binding: &mut Binding<'s, A>,
 ) -> Result<Trials<A>, AllocError>
     requires plans { HasPlans setting.now }
     requires some { 1 ≤ most }
@@ -234,9 +238,10 @@ fn in_turn<A: Allocator + Copy>(
         return in_column(alloc, active, first, most, setting);
     }
     if first.placed().len() + 1 == heads {
-        return in_branch(alloc, active, first, most, setting);
+        return in_branch(alloc, active, first, most, setting, binding);
     }
-    let Some((mut front, second)) = second_beside(&first, active, setting) else {
+    let beside = second_beside(&first, active, setting, binding);
+    let Some((mut front, second)) = beside else {
         return Ok(Trials::One(first));
     };
     // For the proof: the rules are valid, and the labels of a store are at most the greatest.
@@ -283,12 +288,13 @@ fn go_behind<A: Allocator + Copy>(search: &mut Search, trials: &Trials<A>, setti
 
 /// A trial with those that come next after it and are kept with it, at most so many. The search moves on after
 /// them. An `Err` is E01.
-fn with_those_beside<A: Allocator + Copy>(
+fn with_those_beside<'s, A: Allocator + Copy>(
     alloc: A,
     search: &mut Search,
     first: Trial<A>,
     most: usize,
-    setting: &Setting<'_, A>,
+    setting: &Setting<'s, A>,
+    binding: &mut Binding<'s, A>,
 ) -> Result<Trials<A>, AllocError>
     requires plans { HasPlans setting.now }
     requires some { 1 ≤ most }
@@ -298,7 +304,7 @@ fn with_those_beside<A: Allocator + Copy>(
 {
     // For the proof: the labels of a trial are at most the greatest.
     let _placed = first.placed();
-    let trials = in_turn(alloc, search.label(), first, most, setting)?;
+    let trials = in_turn(alloc, search.label(), first, most, setting, binding)?;
     go_behind(search, &trials, setting);
     Ok(trials)
 }
@@ -323,12 +329,13 @@ pub fn read<A: Allocator + Copy>(
     };
     let mut sheet = Vec::new(alloc);
     let mut ahead = search.copy();
+    let mut binding = Binding::free(0);
     let mut left = most;
     while left > 0 {
         let Ask::Trial(first) = ahead.candidate(alloc, program, plans, store)? else {
             break;
         };
-        let trials = with_those_beside(alloc, &mut ahead, first, left, &setting)?;
+        let trials = with_those_beside(alloc, &mut ahead, first, left, &setting, &mut binding)?;
         left -= trials.len();
         push_with_room(&mut sheet, trials, most.min(SHEET_ROOM))?;
     }

@@ -22,6 +22,7 @@ use crate::others::Others;
 use crate::row::Row;
 use crate::setting::Setting;
 use crate::trials::Trials;
+use chr_guard::Binding;
 use chr_plan::Plans;
 use chr_rule::{Program, Rule};
 use chr_search::{Front, Search, Trial, Verdict};
@@ -39,11 +40,12 @@ pub struct Reported {
 
 /// What the admissible trials of an active label have in common that begin with a trial and have one label more. None where
 /// there is no such trial.
-fn front_of<'s, A: Allocator + Copy>(
+fn front_of<'b, 's, A: Allocator + Copy>(
     part: &Trial<A>,
     active: Label,
     setting: &Setting<'s, A>,
-) -> Option<Front<'s, A>>
+    binding: &'b mut Binding<'s, A>,
+) -> Option<Front<'b, 's, A>>
     requires plans { HasPlans setting.now }
     requires few { length part.now.placed ≤ 5 }
     ensures { let s = space_in setting.now active in MatchOption result ((l : ℕ) → MayEnd s (position part.now) l → ⊥) (IsFrontOf s part.now) }
@@ -53,16 +55,16 @@ fn front_of<'s, A: Allocator + Copy>(
         setting.plans,
         setting.store,
         active,
-        part.number(),
-        part.head(),
+        (part.number(), part.head()),
         part.placed(),
+        binding,
     )
 }
 
 /// How many trials of a row come next in their turn, and the last label of the last one that does. The label is that of the
 /// trial that comes next, where that begins with the row's part.
 fn meet<A: Allocator + Copy>(
-    front: &mut Front<'_, A>,
+    front: &mut Front<'_, '_, A>,
     row: &Row<A>,
     first: Label,
 ) -> (usize, Option<Label>)
@@ -87,7 +89,7 @@ fn meet<A: Allocator + Copy>(
 /// Moves a search over the trials of a row that are misfits, as [`meet`] meets them. Returns how many came next.
 fn pass_met<A: Allocator + Copy>(
     search: &mut Search,
-    front: &mut Front<'_, A>,
+    front: &mut Front<'_, '_, A>,
     row: &Row<A>,
     first: Label,
 ) -> usize
@@ -103,10 +105,11 @@ fn pass_met<A: Allocator + Copy>(
 }
 
 /// Moves a search over the trials of a row that are misfits, where each is the next trial in its turn. Returns how many were.
-fn pass_misfits<A: Allocator + Copy>(
+fn pass_misfits<'s, A: Allocator + Copy>(
     search: &mut Search,
     row: &Row<A>,
-    setting: &Setting<'_, A>,
+    setting: &Setting<'s, A>,
+    binding: &mut Binding<'s, A>,
 ) -> usize
     requires { HasPlans setting.now }
     ensures label { search.new.label ≡ search.old.label }
@@ -119,7 +122,7 @@ fn pass_misfits<A: Allocator + Copy>(
     if !part.stands_in(setting.program, setting.plans, setting.store) {
         return 0;
     }
-    let Some(mut front) = front_of(part, search.label(), setting) else {
+    let Some(mut front) = front_of(part, search.label(), setting, binding) else {
         return 0;
     };
     pass_met(search, &mut front, row, first)
@@ -127,10 +130,11 @@ fn pass_misfits<A: Allocator + Copy>(
 
 /// Moves a search that is just after the part of a row over its trials, which are misfits, where each is the next trial in its
 /// turn. Returns how many were.
-fn pass_behind<A: Allocator + Copy>(
+fn pass_behind<'s, A: Allocator + Copy>(
     search: &mut Search,
     row: &Row<A>,
-    setting: &Setting<'_, A>,
+    setting: &Setting<'s, A>,
+    binding: &mut Binding<'s, A>,
 ) -> usize
     requires plans { HasPlans setting.now }
     requires place { search.old.place ≡ just_after (position row.now.part) }
@@ -138,7 +142,7 @@ fn pass_behind<A: Allocator + Copy>(
     ensures label { search.new.label ≡ search.old.label }
     ensures reports { Reports (space_in setting.now search.old.label) search.old.place (map misfit (trials_of row.now)) result search.new.place }
 {
-    let Some(mut front) = front_of(row.part(), search.label(), setting) else {
+    let Some(mut front) = front_of(row.part(), search.label(), setting, binding) else {
         return 0;
     };
     let Some(first) = front.next(0) else {
@@ -149,10 +153,11 @@ fn pass_behind<A: Allocator + Copy>(
 
 /// Moves a search over a part, and then over misfits that begin with it, where each is the next trial in its turn. Returns how
 /// many were.
-fn pass_branch<A: Allocator + Copy>(
+fn pass_branch<'s, A: Allocator + Copy>(
     search: &mut Search,
     row: &Row<A>,
-    setting: &Setting<'_, A>,
+    setting: &Setting<'s, A>,
+    binding: &mut Binding<'s, A>,
 ) -> usize
     requires { HasPlans setting.now }
     ensures label { search.new.label ≡ search.old.label }
@@ -160,12 +165,12 @@ fn pass_branch<A: Allocator + Copy>(
 {
     let part = row.part();
     if search.is_next(part, setting.program, setting.plans, setting.store) != Some(true) {
-        return pass_misfits(search, row, setting);
+        return pass_misfits(search, row, setting, binding);
     }
     // For the proof: a branch's trials can be counted.
     let _count = row.count_with_part();
     search.advance_by(part, Verdict::Part);
-    pass_behind(search, row, setting) + 1
+    pass_behind(search, row, setting, binding) + 1
 }
 
 /// Whether a program's rule of a number is this one.
@@ -281,10 +286,11 @@ fn pass_one<A: Allocator + Copy>(
 }
 
 /// Moves a search over judgements that are kept in one place. Returns how many of their trials were the next one in their turn.
-fn pass_some<A: Allocator + Copy>(
+fn pass_some<'s, A: Allocator + Copy>(
     search: &mut Search,
     some: &Others<A>,
-    setting: &Setting<'_, A>,
+    setting: &Setting<'s, A>,
+    binding: &mut Binding<'s, A>,
 ) -> usize
     requires { HasPlans setting.now }
     ensures label { search.new.label ≡ search.old.label }
@@ -294,8 +300,8 @@ fn pass_some<A: Allocator + Copy>(
         Others::One(one) => pass_one(search, one.trial(), one.verdict(), setting),
         Others::Several(several) => match several.trials() {
             Trials::One(one) => pass_one(search, one, Verdict::Part, setting),
-            Trials::Row(row) => pass_misfits(search, row, setting),
-            Trials::Branch(row) => pass_branch(search, row, setting),
+            Trials::Row(row) => pass_misfits(search, row, setting, binding),
+            Trials::Branch(row) => pass_branch(search, row, setting, binding),
             Trials::Column(column) => pass_alone(search, column, setting),
         },
     }
@@ -341,11 +347,12 @@ pub fn report<A: Allocator + Copy>(
         plans,
         store,
     };
+    let mut binding = Binding::free(0);
     let mut count = 0;
     for some in judgements.others() {
         // For the proof: the verdicts are the right ones.
         some.are_right();
-        count += pass_some(search, some, &setting);
+        count += pass_some(search, some, &setting, &mut binding);
     }
     Reported {
         count,

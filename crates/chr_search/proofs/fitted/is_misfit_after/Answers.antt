@@ -52,18 +52,20 @@ returns-then-not-fit_head-clause-misfit g c =
     let m = no_fit_last c.args.part.now (placed_as c.args.last.now) (shape c.in-Some.head.now) (head g (goal.at.returns-then-not-fit_head-clause-misfit g c).In-Some) c.args.binding.now c.requires.fit c.if-not-fit_head.ensures.narrows in
     (λ e. m, λ n. ap not c.if-not-fit_head.true)
 
-pub returns-else-not-fit_head-clause-misfit : goal.returns-else-not-fit_head-clause-misfit
-returns-else-not-fit_head-clause-misfit g c =
-    let at = goal.at.returns-else-not-fit_head-clause-misfit g c in
+pub returns-else-not-fit_head : goal.returns-else-not-fit_head
+returns-else-not-fit_head g c =
+    let at = goal.at.returns-else-not-fit_head g c in
     let t = c.args.part.now in
     let p = placed_as c.args.last.now in
     let rule = c.rule-rule.result.now in
     let full = full_more t p c.requires.full in
     let fit = fit_last t p (shape c.in-Some.head.now) (head g at.In-Some) c.args.binding.now c.requires.fit c.fit_head.new.binding c.if-not-fit_head.ensures.narrows in
-    told_by (lengthened t p) c.requires.formed full rule c.rule-rule.ensures.rule
+    let told = told_by (lengthened t p) c.requires.formed full rule c.rule-rule.ensures.rule
     (distinct_more t p c.requires.distinct (sym (there g at.After-has_label) ∙ c.if-has_label.false))
     c.becomes_instance.result c.becomes_instance.new.binding
-    (c.becomes_instance.ensures.instance (in_head_order (lengthened t p)) (heads_by (lengthened t p) c.requires.formed full rule c.rule-rule.ensures.rule c.fit_head.new.binding fit))
-
-pub returns-else-not-fit_head-clause-keeps : goal.returns-else-not-fit_head-clause-keeps
-returns-else-not-fit_head-clause-keeps g c = keeps_both c.args.binding.now c.fit_head.new.binding c.becomes_instance.new.binding c.fit_head.ensures.keeps c.becomes_instance.ensures.keeps
+    (c.becomes_instance.ensures.instance (in_head_order (lengthened t p)) (heads_by (lengthened t p) c.requires.formed full rule c.rule-rule.ensures.rule c.fit_head.new.binding fit)) in
+    record {
+      misfit = told.0;
+      whole = told.1;
+      keeps = keeps_both c.args.binding.now c.fit_head.new.binding c.becomes_instance.new.binding c.fit_head.ensures.keeps c.becomes_instance.ensures.keeps;
+    }

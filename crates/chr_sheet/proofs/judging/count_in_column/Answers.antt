@@ -1,4 +1,4 @@
-use Rattle.std.proofs.Common.{◌≡◌, ℕ, ◌+◌, length, subst, sym, ap, ◌∙◌, arith}
+use Rattle.std.proofs.Common.{◌≡◌, ℕ, ◌+◌, IfSome, length, subst, sym, ap, ◌∙◌, arith}
 use Rattle.chr_rule.specs.Rules.{Simpagation, heads_of}
 use Rattle.chr_guard.proofs.Steps.{all_more}
 use Rattle.chr_search.specs.declared.judged.Verdict.TheVariants.{Misfit}
@@ -6,9 +6,10 @@ use Rattle.chr_search.specs.Verdicts.{Trial}
 use Rattle.chr_search.specs.Judged.{IsVerdict}
 use Rattle.chr_search.specs.Placed.{placed_as}
 use Rattle.chr_sheet.specs.Columns.{Column, at_head, head_of, column_trials}
+use Rattle.chr_sheet.specs.Rows.{IsSettledAt}
 use Rattle.chr_sheet.proofs.Columns.{only_read}
 use Rattle.chr_sheet.proofs.InOrder.{must_be}
-use Rattle.chr_sheet.proofs.InRows.{taken_up_to, one_up_to}
+use Rattle.chr_sheet.proofs.InRows.{taken_up_to, one_up_to, settled_up_to}
 use Rattle.chr_sheet.proofs.InColumns.{IsTold, trials_count, other_trial, first_told, other_told}
 use Rattle.chr_sheet.proofs.judging.count_in_column.Goals as goal
 use Rattle.chr_sheet.proofs.judging.count_in_column.Goals.{After-is_misfit_alone, After-is_misfit_alone-in-loop-i}
@@ -20,34 +21,49 @@ is_misfit_alone-requires-in-loop-i g c =
     (omega arith, subst (λ (r : Simpagation ℕ). length (heads_of r) ≡ 1) (sym c.deref.ensures) is.full)
 
 -- what is told of the first trial, and of another
-told_first : (g : _) (c : After-is_misfit_alone g) → IsTold c.args.column.now 0 c.args.column.now.first c.is_misfit_alone.result
+told_first : (g : _) (c : After-is_misfit_alone g) → IsTold c.args.column.now 0 c.args.column.now.first c.is_misfit_alone.result c.is_misfit_alone.new.binding
 told_first g c =
     let k : Column = c.args.column.now in
     let w = c.first-first.ensures.column in
     let one = only_read placed_as c.placed.result.now c.index-placed-0.result k.first.placed (c.placed.ensures.placed ∙ ap (λ (t : Trial). t.placed) c.first-first.ensures.first) w.alone c.index-placed-0.is in
-    first_told k (placed_as c.index-placed-0.result) c.rule.result.now c.is_misfit_alone.result w one (c.rule.ensures.rule ∙ ap (λ (t : Trial). t.rule) c.first-first.ensures.first) c.is_misfit_alone.ensures
+    first_told k (placed_as c.index-placed-0.result) c.rule.result.now c.is_misfit_alone.result c.is_misfit_alone.new.binding w one (c.rule.ensures.rule ∙ ap (λ (t : Trial). t.rule) c.first-first.ensures.first) (λ t same places formed. (c.is_misfit_alone.ensures.misfit t same places formed, λ no. c.is_misfit_alone.ensures.whole no t same places formed))
 
-told_other : (g : _) (c : After-is_misfit_alone-in-loop-i g) → IsTold c.args.column.now (c.loop-i.i + 1) (at_head c.args.column.now.first (head_of c.other-item.result)) c.is_misfit_alone-in-loop-i.result
+told_other : (g : _) (c : After-is_misfit_alone-in-loop-i g) → IsTold c.args.column.now (c.loop-i.i + 1) (at_head c.args.column.now.first (head_of c.other-item.result)) c.is_misfit_alone-in-loop-i.result c.is_misfit_alone-in-loop-i.new.binding
 told_other g c =
     let k : Column = c.args.column.now in
     let w = c.first-first.ensures.column in
     let one = only_read placed_as c.placed.result.now c.index-placed-0.result k.first.placed (c.placed.ensures.placed ∙ ap (λ (t : Trial). t.placed) c.first-first.ensures.first) w.alone c.index-placed-0.is in
-    other_told head_of k c.more-other-items.result.now c.loop-i.i c.other-item.result (placed_as c.index-placed-0.result) c.deref.result.now c.is_misfit_alone-in-loop-i.result w c.loop-i.invariant.more c.loop-i-test.true c.other-item.is one c.deref.ensures c.is_misfit_alone-in-loop-i.ensures
+    other_told head_of k c.more-other-items.result.now c.loop-i.i c.other-item.result (placed_as c.index-placed-0.result) c.deref.result.now c.is_misfit_alone-in-loop-i.result c.is_misfit_alone-in-loop-i.new.binding w c.loop-i.invariant.more c.loop-i-test.true c.other-item.is one c.deref.ensures (λ t same places formed. (c.is_misfit_alone-in-loop-i.ensures.misfit t same places formed, λ no. c.is_misfit_alone-in-loop-i.ensures.whole no t same places formed))
 
-pub returns-then-not-is_misfit_alone : goal.returns-then-not-is_misfit_alone
-returns-then-not-is_misfit_alone g c =
+pub returns-then-not-is_misfit_alone-clause-misfits : goal.returns-then-not-is_misfit_alone-clause-misfits
+returns-then-not-is_misfit_alone-clause-misfits g c =
     let k : Column = c.args.column.now in
-    let is = told_first g (goal.at.returns-then-not-is_misfit_alone g c).After-is_misfit_alone in
+    let is = told_first g (goal.at.returns-then-not-is_misfit_alone-clause-misfits g c).After-is_misfit_alone in
     let no = c.if-not-is_misfit_alone.true in
     one_up_to (column_trials k) 0 k.first is.within is.there tt (must_be k.first is.full (λ m. let yes = is.means.1 m in absurd (cc)))
 
-pub returns-then-not-is_misfit_alone-2 : goal.returns-then-not-is_misfit_alone-2
-returns-then-not-is_misfit_alone-2 g c =
+pub returns-then-not-is_misfit_alone-2-clause-misfits : goal.returns-then-not-is_misfit_alone-2-clause-misfits
+returns-then-not-is_misfit_alone-2-clause-misfits g c =
     let k : Column = c.args.column.now in
     let t : Trial = at_head k.first (head_of c.other-item.result) in
-    let is = told_other g (goal.at.returns-then-not-is_misfit_alone-2 g c).After-is_misfit_alone-in-loop-i in
+    let is = told_other g (goal.at.returns-then-not-is_misfit_alone-2-clause-misfits g c).After-is_misfit_alone-in-loop-i in
     let no = c.if-not-is_misfit_alone-2.true in
     one_up_to (column_trials k) (c.loop-i.i + 1) t is.within is.there c.loop-i.invariant.misfits (must_be t is.full (λ m. let yes = is.means.1 m in absurd (cc)))
+
+pub returns-then-not-is_misfit_alone-clause-settled : goal.returns-then-not-is_misfit_alone-clause-settled
+returns-then-not-is_misfit_alone-clause-settled g c =
+    let k : Column = c.args.column.now in
+    let is = told_first g (goal.at.returns-then-not-is_misfit_alone-clause-settled g c).After-is_misfit_alone in
+    subst (λ o. IfSome o (IsSettledAt (column_trials k) 0)) (sym c.ok.ensures.value)
+    (settled_up_to (column_trials k) 0 k.first c.is_misfit_alone.new.binding c.settled.result is.within is.there (is.whole c.if-not-is_misfit_alone.true) c.settled.ensures)
+
+pub returns-then-not-is_misfit_alone-2-clause-settled : goal.returns-then-not-is_misfit_alone-2-clause-settled
+returns-then-not-is_misfit_alone-2-clause-settled g c =
+    let k : Column = c.args.column.now in
+    let t : Trial = at_head k.first (head_of c.other-item.result) in
+    let is = told_other g (goal.at.returns-then-not-is_misfit_alone-2-clause-settled g c).After-is_misfit_alone-in-loop-i in
+    subst (λ o. IfSome o (IsSettledAt (column_trials k) (c.loop-i.i + 1))) (sym c.ok-then-not-is_misfit_alone-2.ensures.value)
+    (settled_up_to (column_trials k) (c.loop-i.i + 1) t c.is_misfit_alone-in-loop-i.new.binding c.settled-then-not-is_misfit_alone-2.result is.within is.there (is.whole c.if-not-is_misfit_alone-2.true) c.settled-then-not-is_misfit_alone-2.ensures)
 
 pub loop-i-preserved : goal.loop-i-preserved
 loop-i-preserved g c =
@@ -59,8 +75,8 @@ loop-i-preserved g c =
       misfits = (all_more (λ t. IsVerdict t Misfit) (column_trials k) (c.loop-i.i + 1) t is.within is.there).1 (c.loop-i.invariant.misfits, is.means.0 c.if-not-is_misfit_alone-2.false);
     }
 
-pub returns : goal.returns
-returns g c =
+pub returns-clause-misfits : goal.returns-clause-misfits
+returns-clause-misfits g c =
     let k : Column = c.args.column.now in
     let xs = c.more.result.now in
     let looked : length (column_trials k) ≡ length c.more-other-items.result.now + 1 = trials_count head_of k c.more-other-items.result.now c.loop-i.invariant.more in

@@ -10,7 +10,7 @@ use Rattle.chr_sheet.proofs.judging.count_in_row.Given as goal
 -- the trials so far are misfits
 abbrev pub invariant-loop-i : goal.invariant-loop-i
 invariant-loop-i g l = record {
-  fitted : IsFitted l.row.part l.fitted;
+  fitted : IsFitted l.row.part l.fitted l.binding;
   lasts : map placed_as l.last-items ≡ l.row.lasts;
   misfits : AllByRecursion (λ t. IsVerdict t verdicts.Misfit) (take l.i (trials_of l.row));
 }

@@ -8,6 +8,9 @@ use Rattle.chr_sheet.proofs.Keeping.{others_pushed}
 use Rattle.chr_sheet.proofs.InOrder.{one_whole, one_other}
 use Rattle.chr_sheet.proofs.judging.judge_one.Goals as goal
 
+pub returns-in-Some-clause-judged : goal.returns-in-Some-clause-judged
+returns-in-Some-clause-judged g c = one_whole c.args.trial (others_in c.args.others.now.items) c.whole.result c.whole.ensures.trial c.whole.ensures.verdict
+
 pub returns-then-eq-clause-judged : goal.returns-then-eq-clause-judged
 returns-then-eq-clause-judged g c =
     let is : c.verdict.result ≡ Whole = search rules in

@@ -38,7 +38,10 @@ push_ends-requires g c =
     let at = (goal.at.push_ends-requires g c).In-Some in
     let e = end g at in
     let none : length c.in_ok-lasts.lasts.items ≡ 0 = ap length c.in_ok-lasts.ensures.items in
-    (omega arith, ((s, t.number, t.head, labels t, 0, e.front, e.least, small_end s c.args.setting.now.store.now refl c.next_label-given.ensures.labelled t (lacks g at)), omega arith))
+    record {
+      front = (s, t.number, t.head, labels t, 0, e.front, e.least, small_end s c.args.setting.now.store.now refl c.next_label-given.ensures.labelled t (lacks g at));
+      few = omega arith;
+    }
 
 made : (g : _) (c : In_ok-push_ends g) → IsMadeBranch (space_in c.args.setting.now c.args.active) c.args.part (map placed_as c.push_ends.new.lasts.items)
 made g c =

@@ -25,7 +25,10 @@ push_ends-requires g c =
     let at = (goal.at.push_ends-requires g c).In_ok-push in
     let b = parted g at in
     let count : length c.push.new.self.items ≡ 1 = ap length (one g at) in
-    (omega arith, ((s, part.number, part.head, labels part, c.split_last-part.result.1.label + 1, b.end.front, b.end.least, small_end s c.args.setting.now.store.now refl c.next_label-given.ensures.labelled part b.lacks), omega arith))
+    record {
+      front = (s, part.number, part.head, labels part, c.split_last-part.result.1.label + 1, b.end.front, b.end.least, small_end s c.args.setting.now.store.now refl c.next_label-given.ensures.labelled part b.lacks);
+      few = omega arith;
+    }
 
 -- those pushed after it, and the row of all
 pushed : (g : _) (c : In_ok-push_ends g) → (more : List Placed) × IsMadeRow (space_in c.args.setting.now c.args.active) c.split_last-part.result.0 (placed_as c.split_last-part.result.1) more (map placed_as c.push_ends.new.lasts.items)

@@ -15,7 +15,7 @@ pub place-requires : goal.place-requires
 place-requires g c =
     let q = c.requires.front in
     let a = pushed g (goal.at.place-requires g c).In-Some in
-    (omega arith, (q.0, q.1, q.2, q.3, a.front, a.next_is.holds))
+    (q.0, q.1, q.2, q.3, a.front, a.next_is.holds)
 
 pub overflow_add-label : goal.overflow_add-label
 overflow_add-label g c =
@@ -28,7 +28,7 @@ overflow_add-label g c =
 pub next-next-requires : goal.next-next-requires
 next-next-requires g c =
     let q = c.requires.front in
-    (omega arith, (q.0, q.1, q.2, q.3, (pushed g (goal.at.next-next-requires g c).In-Some).front))
+    (q.0, q.1, q.2, q.3, (pushed g (goal.at.next-next-requires g c).In-Some).front)
 
 pub ends-preserved : goal.ends-preserved
 ends-preserved g c = record {

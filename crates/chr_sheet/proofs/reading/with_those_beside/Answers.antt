@@ -1,4 +1,4 @@
-use Rattle.std.proofs.Common.{sym, subst}
+use Rattle.std.proofs.Common.{sym, subst, arith}
 use Rattle.chr_search.specs.Trials.{Space, IsTrial}
 use Rattle.chr_sheet.specs.Settings.{space_in}
 use Rattle.chr_search.specs.Verdicts.{position}
@@ -9,10 +9,11 @@ use Rattle.chr_sheet.proofs.NextBeside.{together}
 use Rattle.chr_sheet.proofs.NextAlone.{active_low}
 use Rattle.chr_sheet.proofs.reading.with_those_beside.Goals as goal
 
-pub in_turn-requires-clause-first : goal.in_turn-requires-clause-first
-in_turn-requires-clause-first g c =
+pub in_turn-requires : goal.in_turn-requires
+in_turn-requires g c =
     let s : Space = space_in c.args.setting.now c.args.search.now.label in
-    (subst (λ l. IsTrial (space_in c.args.setting.now l) (position c.args.first)) (sym c.label.ensures) (next_trial s c.args.search.now.place (position c.args.first) c.requires.first.0), c.requires.first.1)
+    let first = subst (λ l. IsTrial (space_in c.args.setting.now l) (position c.args.first)) (sym c.label.ensures) (next_trial s c.args.search.now.place (position c.args.first) c.requires.first.0) in
+    (omega arith, (c.requires.plans, (c.requires.some, (first, c.requires.first.1))))
 
 pub go_behind-requires-clause-low : goal.go_behind-requires-clause-low
 go_behind-requires-clause-low g c =

@@ -23,7 +23,7 @@ loop-last-init g c = record {
 pub has-requires : goal.has-requires
 has-requires g c =
     let part : Trial = c.args.row.now.part in
-    (omega arith, (c.requires.0, part.number, part.head, labels part, c.loop-last.invariant.front c.requires.0 c.requires.1))
+    (c.requires.0, part.number, part.head, labels part, c.loop-last.invariant.front c.requires.0 c.requires.1)
 
 pub loop-last-preserved-then-ne : goal.loop-last-preserved-then-ne
 loop-last-preserved-then-ne g c =
@@ -52,7 +52,7 @@ overflow_add-last g c =
 pub next-next-requires : goal.next-next-requires
 next-next-requires g c =
     let part : Trial = c.args.row.now.part in
-    (omega arith, (c.requires.0, part.number, part.head, labels part, c.loop-last.invariant.front c.requires.0 c.requires.1))
+    (c.requires.0, part.number, part.head, labels part, c.loop-last.invariant.front c.requires.0 c.requires.1)
 
 pub loop-last-preserved : goal.loop-last-preserved
 loop-last-preserved g c =

@@ -32,7 +32,7 @@ pub next-requires : goal.next-requires
 next-requires g c =
     let s : Space = space_in c.args.setting.now c.args.search.now.label in
     let part : Trial = c.args.row.now.part in
-    (omega arith, (s, part.number, part.head, labels part, front g (goal.at.next-requires g c).In-Some))
+    (s, part.number, part.head, labels part, front g (goal.at.next-requires g c).In-Some)
 
 pub returns-in_default-next-clause-reports : goal.returns-in_default-next-clause-reports
 returns-in_default-next-clause-reports g c =
@@ -46,7 +46,7 @@ pub pass_met-requires : goal.pass_met-requires
 pass_met-requires g c =
     let s : Space = space_in c.args.setting.now c.args.search.now.label in
     let part : Trial = c.args.row.now.part in
-    (omega arith, (s, (c.next.ensures s part.number part.head (labels part) (front g (goal.at.pass_met-requires g c).In-Some)).1))
+    (s, (c.next.ensures s part.number part.head (labels part) (front g (goal.at.pass_met-requires g c).In-Some)).1)
 
 pub returns-clause-reports : goal.returns-clause-reports
 returns-clause-reports g c =

@@ -23,14 +23,13 @@ returns-then-ne-clause-reports g c =
 pub advance_by-requires : goal.advance_by-requires
 advance_by-requires g c = λ e. subst IsPart (sym c.part-part.ensures.part) c.part-part.ensures.row.part
 
-pub pass_behind-requires-clause-place : goal.pass_behind-requires-clause-place
-pass_behind-requires-clause-place g c = ap (λ (z : SearchState). z.place) c.advance_by.ensures ∙ ap (λ t. just_after (position t)) c.part-part.ensures.part
-
-pub pass_behind-requires-clause-stands : goal.pass_behind-requires-clause-stands
-pass_behind-requires-clause-stands g c =
+pub pass_behind-requires : goal.pass_behind-requires
+pass_behind-requires g c =
     let s : Space = space_in c.args.setting.now c.args.search.now.label in
     let is : c.is_next.result ≡ Some true = search rules in
-    subst (IsTrialOf s.rules s.plans s.store) c.part-part.ensures.part (told_is s c.args.search.now.place c.part-part.result.now c.is_next.result c.is_next.ensures is).1
+    let stands = told_is s c.args.search.now.place c.part-part.result.now c.is_next.result c.is_next.ensures is in
+    let place = ap (λ (z : SearchState). z.place) c.advance_by.ensures ∙ ap (λ t. just_after (position t)) c.part-part.ensures.part in
+    (omega arith, (c.requires, (place, subst (IsTrialOf s.rules s.plans s.store) c.part-part.ensures.part stands.1)))
 
 pub overflow_add-result : goal.overflow_add-result
 overflow_add-result g c =

@@ -39,7 +39,7 @@ returns-in_default-front_of-clause-reports g c =
 pub pass_met-requires : goal.pass_met-requires
 pass_met-requires g c =
     let s : Space = space_in c.args.setting.now c.label.result in
-    (omega arith, (s, subst (λ part. IsFrontOf s part c.in-Some-front_of.front) c.part-part.ensures.part c.in-Some-front_of.ensures))
+    (s, subst (λ part. IsFrontOf s part c.in-Some-front_of.front) c.part-part.ensures.part c.in-Some-front_of.ensures)
 
 pub returns-clause-reports : goal.returns-clause-reports
 returns-clause-reports g c =

@@ -9,28 +9,28 @@ use Rattle.chr_guard.proofs.settled.Settled.fill.Goals as goal
 use Rattle.chr_guard.proofs.settled.Settled.fill.Goals.{in-Number, in-Symbol, in_default}
 
 pub loop-variable-init : goal.loop-variable-init
-loop-variable-init g c = filling_start (map mark_view c.as_slice-mark-items.result.now) c.args.binding.now
+loop-variable-init g c = filling_start (map mark_view c.deref-mark-items.result.now) c.args.binding.now
 
 pub put-requires : goal.put-requires
 put-requires g c =
-    let here : c.loop-variable.variable < length c.as_slice-mark-items.result.now = c.loop-variable-test.true in
-    let marks : length c.args.self.now ≡ length c.as_slice-mark-items.result.now = sym (ap length c.self.view_is) ∙ length-map c.self.inside.marks.items mark_view ∙ sym (ap length c.as_slice-mark-items.ensures.value) in
+    let here : c.loop-variable.variable < length c.deref-mark-items.result.now = c.loop-variable-test.true in
+    let marks : length c.args.self.now ≡ length c.deref-mark-items.result.now = sym (ap length c.self.view_is) ∙ length-map c.self.inside.marks.items mark_view ∙ sym (ap length c.deref-mark-items.ensures.value) in
     let places : length c.loop-variable.binding ≡ length c.args.binding.now = c.loop-variable.invariant.places in
     (omega arith, omega arith)
 
 pub put-requires-in-Symbol : goal.put-requires-in-Symbol
 put-requires-in-Symbol g c =
-    let here : c.loop-variable.variable < length c.as_slice-mark-items.result.now = c.loop-variable-test.true in
-    let marks : length c.args.self.now ≡ length c.as_slice-mark-items.result.now = sym (ap length c.self.view_is) ∙ length-map c.self.inside.marks.items mark_view ∙ sym (ap length c.as_slice-mark-items.ensures.value) in
+    let here : c.loop-variable.variable < length c.deref-mark-items.result.now = c.loop-variable-test.true in
+    let marks : length c.args.self.now ≡ length c.deref-mark-items.result.now = sym (ap length c.self.view_is) ∙ length-map c.self.inside.marks.items mark_view ∙ sym (ap length c.deref-mark-items.ensures.value) in
     let places : length c.loop-variable.binding ≡ length c.args.binding.now = c.loop-variable.invariant.places in
     (omega arith, omega arith)
 
 pub loop-variable-preserved : goal.loop-variable-preserved
 loop-variable-preserved g c =
-    let ms = c.as_slice-mark-items.result.now in
+    let ms = c.deref-mark-items.result.now in
     let i = c.loop-variable.variable in
-    let here : c.loop-variable.variable < length c.as_slice-mark-items.result.now = c.loop-variable-test.true in
-    let count : length c.args.self.now ≡ length c.as_slice-mark-items.result.now = sym (ap length c.self.view_is) ∙ length-map c.self.inside.marks.items mark_view ∙ sym (ap length c.as_slice-mark-items.ensures.value) in
+    let here : c.loop-variable.variable < length c.deref-mark-items.result.now = c.loop-variable-test.true in
+    let count : length c.args.self.now ≡ length c.deref-mark-items.result.now = sym (ap length c.self.view_is) ∙ length-map c.self.inside.marks.items mark_view ∙ sym (ap length c.deref-mark-items.ensures.value) in
     let places : length c.loop-variable.binding ≡ length c.args.binding.now = c.loop-variable.invariant.places in
     let within : c.loop-variable.variable < length c.loop-variable.binding = omega arith in
     let at = mark_there ms i (get_or ms i marks.Free) here (read_there ms i marks.Free here) in
@@ -48,7 +48,7 @@ loop-variable-preserved g c =
 
 pub returns : goal.returns
 returns g c =
-    let ms = c.as_slice-mark-items.result.now in
-    let past : length (map mark_view c.as_slice-mark-items.result.now) ≤ c.loop-variable.variable = rw length-map c.loop-variable-test.false in
-    subst (λ s. IsFilled s c.args.binding.now c.loop-variable.binding) (ap (map mark_view) c.as_slice-mark-items.ensures.value ∙ c.self.view_is)
+    let ms = c.deref-mark-items.result.now in
+    let past : length (map mark_view c.deref-mark-items.result.now) ≤ c.loop-variable.variable = rw length-map c.loop-variable-test.false in
+    subst (λ s. IsFilled s c.args.binding.now c.loop-variable.binding) (ap (map mark_view) c.deref-mark-items.ensures.value ∙ c.self.view_is)
     (filling_end (map mark_view ms) c.loop-variable.variable c.args.binding.now c.loop-variable.binding past c.loop-variable.invariant)

@@ -8,22 +8,22 @@ use Rattle.chr_guard.proofs.Steps.{read_there}
 use Rattle.chr_guard.proofs.settled.Settled.has_compound.Goals as goal
 
 pub returns-in-Compound : goal.returns-in-Compound
-returns-in-Compound c =
-    let ms = c.as_slice-mark-items.result.now in
+returns-in-Compound g c =
+    let ms = c.deref-mark-items.result.now in
     let i = c.loop-mark.mark-index in
-    let here : c.loop-mark.mark-index < length c.as_slice-mark-items.result.now = c.loop-mark-test.true in
+    let here : c.loop-mark.mark-index < length c.deref-mark-items.result.now = c.loop-mark-test.true in
     sym (any_here ms i (get_or ms i marks.Free) here (read_there ms i marks.Free here) c.in-Compound.is) ∙ c.loop-mark.invariant
-    ∙ ap (λ ks. list_any is_compound (map mark_view ks)) c.as_slice-mark-items.ensures.value ∙ ap (list_any is_compound) c.self.view_is
+    ∙ ap (λ ks. list_any is_compound (map mark_view ks)) c.deref-mark-items.ensures.value ∙ ap (list_any is_compound) c.self.view_is
 
 pub loop-mark-preserved : goal.loop-mark-preserved
-loop-mark-preserved c =
-    let ms = c.as_slice-mark-items.result.now in
+loop-mark-preserved g c =
+    let ms = c.deref-mark-items.result.now in
     let i = c.loop-mark.mark-index in
-    let here : c.loop-mark.mark-index < length c.as_slice-mark-items.result.now = c.loop-mark-test.true in
+    let here : c.loop-mark.mark-index < length c.deref-mark-items.result.now = c.loop-mark-test.true in
     any_later ms i (get_or ms i marks.Free) here (read_there ms i marks.Free here) c.in_default.not-Compound ∙ c.loop-mark.invariant
 
 pub returns : goal.returns
-returns c =
-    let ms = c.as_slice-mark-items.result.now in
+returns g c =
+    let ms = c.deref-mark-items.result.now in
     sym (ap (λ ks. list_any is_compound (map mark_view ks)) (drop_all c.loop-mark.mark-index ms c.loop-mark-test.false)) ∙ c.loop-mark.invariant
-    ∙ ap (λ ks. list_any is_compound (map mark_view ks)) c.as_slice-mark-items.ensures.value ∙ ap (list_any is_compound) c.self.view_is
+    ∙ ap (λ ks. list_any is_compound (map mark_view ks)) c.deref-mark-items.ensures.value ∙ ap (list_any is_compound) c.self.view_is

@@ -6,8 +6,8 @@ use Rattle.chr_search.proofs.fitted.Fitted.of.Goals.{After-fit_placed}
 use Rattle.chr_search.proofs.fitted.Fitted.of.Goals as goal
 
 -- the binding is free at first
-free : (g : _) (c : After-fit_placed g) → c.free-binding.result ≡ replicate c.args.part.now.rule.variables None
-free g c = c.free-binding.ensures ∙ ap (λ n. replicate n None) (c.variables.ensures.count ∙ ap (λ (r : Simpagation _). r.variables) c.rule-rule.ensures.rule)
+free : (g : _) (c : After-fit_placed g) → c.reset.new.self ≡ replicate c.args.part.now.rule.variables None
+free g c = c.reset.ensures ∙ ap (λ n. replicate n None) (c.variables.ensures.count ∙ ap (λ (r : Simpagation _). r.variables) c.rule-rule.ensures.rule)
 
 pub returns-then-not-are_distinct : goal.returns-then-not-are_distinct
 returns-then-not-are_distinct g c = λ p f.
@@ -18,14 +18,14 @@ returns-then-not-are_distinct g c = λ p f.
 pub returns-then-not-fit_placed : goal.returns-then-not-fit_placed
 returns-then-not-fit_placed g c = λ p f.
     let t = c.args.part.now in
-    let old = c.free-binding.result in
+    let old = c.reset.new.self in
     none_more t p (no_fit_of t old (free g (goal.at.returns-then-not-fit_placed g c).After-fit_placed)
     (told_fit placed_as t c.placed-placed.result.now c.placed-placed.ensures.placed c.rule-rule.result.now c.rule-rule.ensures.rule false old c.fit_placed.new.binding c.if-not-fit_placed.ensures))
 
 pub returns : goal.returns
 returns g c =
     let t = c.args.part.now in
-    let old = c.free-binding.result in
+    let old = c.reset.new.self in
     let new = c.fit_placed.new.binding in
     record {
       part = refl;

@@ -13,14 +13,14 @@ use Rattle.chr_search.proofs.front.Front.of.Goals.{In_ok-join, After-as_slice}
 use Rattle.chr_search.proofs.front.Front.of.Goals as goal
 
 -- the join of the rule's head
-join : (g : _) (c : In_ok-join g) → IsJoinOf (older c.args.program.now c.args.plans.now c.args.store.now.entries c.args.active) c.args.number c.args.head (join_of c.in_ok-join.join)
-join g c = subst (λ (v : Seen). IsJoinOf (older c.args.program.now c.args.plans.now v.store.entries v.active) c.args.number c.args.head (join_of c.in_ok-join.join)) c.of-view.ensures c.in_ok-join.ensures
+join : (g : _) (c : In_ok-join g) → IsJoinOf (older c.args.program.now c.args.plans.now c.args.store.now.entries c.args.active) c.args.at.0 c.args.at.1 (join_of c.in_ok-join.join)
+join g c = subst (λ (v : Seen). IsJoinOf (older c.args.program.now c.args.plans.now v.store.entries v.active) c.args.at.0 c.args.at.1 (join_of c.in_ok-join.join)) c.of-view.ensures c.in_ok-join.ensures
 
 pub returns-in_err-join : goal.returns-in_err-join
 returns-in_err-join g c =
     let s : Space = older c.args.program.now c.args.plans.now c.args.store.now.entries c.args.active in
-    let none : IsUnplanned s c.args.number c.args.head = subst (λ (v : Seen). IsUnplanned (older c.args.program.now c.args.plans.now v.store.entries v.active) c.args.number c.args.head) c.of-view.ensures c.in_err-join.ensures in
-    rw c.from_residual.ensures (ends_unplanned s c.args.number c.args.head (map (λ p. p.label) c.args.placed.now) none)
+    let none : IsUnplanned s c.args.at.0 c.args.at.1 = subst (λ (v : Seen). IsUnplanned (older c.args.program.now c.args.plans.now v.store.entries v.active) c.args.at.0 c.args.at.1) c.of-view.ensures c.in_err-join.ensures in
+    rw c.from_residual.ensures (ends_unplanned s c.args.at.0 c.args.at.1 (map (λ p. p.label) c.args.placed.now) none)
 
 pub returns-then-not-begins : goal.returns-then-not-begins
 returns-then-not-begins g c = λ x t.
@@ -29,7 +29,7 @@ returns-then-not-begins g c = λ x t.
     true≢false (sym (c.begins.ensures.1 (active_first j (map (λ p. p.label) c.args.placed.now) x (grown_in _ _ _ j (map (λ p. p.label) c.args.placed.now) x (join g at.In_ok-join) t))) ∙ c.if-not-begins.true)
 
 pub narrow_by_all-requires : goal.narrow_by_all-requires
-narrow_by_all-requires g c = (omega arith, ((join g (goal.at.narrow_by_all-requires g c).In_ok-join).plan, free_ready (join_of c.in_ok-join.join) c.variables.result c.free-binding.result c.variables.ensures.count c.free-binding.ensures))
+narrow_by_all-requires g c = (omega arith, ((join g (goal.at.narrow_by_all-requires g c).In_ok-join).plan, free_ready (join_of c.in_ok-join.join) c.variables.result c.reset.new.self c.variables.ensures.count c.reset.ensures))
 
 pub returns-in_err-labels : goal.returns-in_err-labels
 returns-in_err-labels g c =
