@@ -15,27 +15,37 @@ use Rattle.chr_search.specs.Tree.{Beyond}
 use Rattle.chr_search.specs.Trials.{Space, join_in, Child, IsTrial, IsNext, NoneLeft}
 use Rattle.chr_search.specs.Verdicts.{Placed, Trial, position, IsTrialOf}
 use Rattle.chr_search.specs.Fronts.{trial_alone}
+use Rattle.chr_search.specs.PlanByPlan.{HasComeTo}
 use Rattle.chr_search.proofs.Positions.{after_first, after_under, after_cases}
 use Rattle.chr_search.proofs.Plans.{heads_in, planned}
 use Rattle.chr_search.proofs.Tree.{least_same}
 use Rattle.chr_search.proofs.Asking.{begins_by}
 use Rattle.chr_search.proofs.Making.{next_trial}
 use Rattle.chr_search.proofs.Shrinking.{trial_of}
-use Rattle.chr_search.proofs.Occurring.{IsActive, trial_occurs, plan_there}
+use Rattle.chr_search.proofs.Occurring.{IsActive, order_in, trial_occurs, plan_there}
 
--- the trials past that of the active label alone are those of later heads and rules
-later : (s : Space) (r h x y : ℕ) (ls : List ℕ) → IsTrial s (x ∷ y ∷ ls) → at_or_after (past (r ∷ h ∷ s.active ∷ [])) (x ∷ y ∷ ls) ≡ true → AtOrAfter r (h + 1) x y
-later s r h x y [] i e = absurd (let d : 3 ≤ length (x ∷ y ∷ []) = i.deep in omega arith)
-later s r h x y (l ∷ ls) i e =
-    let first : l ≡ s.active = i.grows.1.1.0.3.turn in
+-- the trials at or after a label past the active one are those of later heads and rules
+later : (s : Space) (r h l x y : ℕ) (ls ms : List ℕ) → s.active < l → IsTrial s (x ∷ y ∷ ms) → at_or_after (r ∷ h ∷ l ∷ ls) (x ∷ y ∷ ms) ≡ true → AtOrAfter r (h + 1) x y
+later s r h l x y ls [] past i e = absurd (let d : 3 ≤ length (x ∷ y ∷ []) = i.deep in omega arith)
+later s r h l x y ls (m ∷ ms) past i e =
+    let first : m ≡ s.active = i.grows.1.1.0.3.turn in
     ⊎_elim (λ less. inl less)
     (λ same. inr (
       same.0,
       ⊎_elim (λ less. let low : h < y = less in omega arith)
-          (λ twice. absurd (⊎_elim (λ less. let low : s.active + 1 < l = less in omega arith) (λ is. let z : s.active + 1 ≡ l = is.0 in omega arith) (after_cases (s.active + 1) l [] ls twice.1)))
-          (after_cases h y ((s.active + 1) ∷ []) (l ∷ ls) same.1),
+          (λ twice. absurd (⊎_elim (λ less. let low : l < m = less in omega arith) (λ is. let z : l ≡ m = is.0 in omega arith) (after_cases l m ls ms twice.1)))
+          (after_cases h y (l ∷ ls) (m ∷ ms) same.1),
     ))
-    (after_cases r x (h ∷ (s.active + 1) ∷ []) (y ∷ l ∷ ls) e)
+    (after_cases r x (h ∷ l ∷ ls) (y ∷ m ∷ ms) e)
+
+-- a search at such a label has come to the next head
+pub come_past_active : (s : Space) (r h l : ℕ) (ls : List ℕ) → s.active < l → HasComeTo s (r ∷ h ∷ l ∷ ls) r (h + 1)
+come_past_active s r h l ls past = record { later = after_under r (h ∷ []) ((h + 1) ∷ []) (after_first h (h + 1) [] [] (omega arith)); none = none }
+  where
+    none : (t : List ℕ) → IsTrial s t → at_or_after (r ∷ h ∷ l ∷ ls) t ≡ true → at_or_after (r ∷ (h + 1) ∷ []) t ≡ true
+    none [] i e = absurd (let d : 3 ≤ length {A = ℕ} [] = i.deep in omega arith)
+    none (x ∷ []) i e = absurd (let d : 3 ≤ length (x ∷ []) = i.deep in omega arith)
+    none (x ∷ y ∷ ms) i e = order_in r (h + 1) x y ms (later s r h l x y ls ms past i e)
 
 -- and the other way round
 past_alone : (r h x y a : ℕ) (ls : List ℕ) → AtOrAfter r (h + 1) x y → at_or_after (past (r ∷ h ∷ a ∷ [])) (x ∷ y ∷ ls) ≡ true
@@ -79,14 +89,14 @@ alone_next s atom pred r h x y ps live name arity o =
     least active (c ∷ []) b = absurd (let d : 3 ≤ length (c ∷ []) = b.deep in omega arith)
     least active (c ∷ d ∷ ls) b =
         let i : IsTrial s (c ∷ d ∷ ls) = record { grows = b.grows; deep = b.deep } in
-        first_at s x y c d ls i (o.least c d (later s r h c d ls i b.there) (trial_occurs s pred active ps c d ls i))
+        first_at s x y c d ls i (o.least c d (later s r h (s.active + 1) c d [] ls (omega arith) i b.there) (trial_occurs s pred active ps c d ls i))
 
 pub alone_none : (s : Space) (atom : Atom ℕ) (pred : Pred) (r h : ℕ) → ArePlans s.rules s.plans → atom_at s.store s.active ≡ Some atom → pred.name.number ≡ atom.name → pred.arity ≡ length atom.args → NoneFrom s.rules pred r (h + 1) → NoneLeft s (past (r ∷ h ∷ s.active ∷ []))
 alone_none s atom pred r h ps live name arity n [] b = let d : 3 ≤ length {A = ℕ} [] = b.deep in absurd (omega arith)
 alone_none s atom pred r h ps live name arity n (x ∷ []) b = let d : 3 ≤ length (x ∷ []) = b.deep in absurd (omega arith)
 alone_none s atom pred r h ps live name arity n (x ∷ y ∷ ls) b =
     let i : IsTrial s (x ∷ y ∷ ls) = record { grows = b.grows; deep = b.deep } in
-    n x y (later s r h x y ls i b.there) (trial_occurs s pred (record { atom = atom; live = live; name = name; arity = arity }) ps x y ls i)
+    n x y (later s r h (s.active + 1) x y [] ls (omega arith) i b.there) (trial_occurs s pred (record { atom = atom; live = live; name = name; arity = arity }) ps x y ls i)
 
 -- the trial of a position of the active label alone
 pub alone_trial : (s : Space) (rule : Simpagation ℕ) (r h : ℕ) (atom : Atom ℕ) → ArePlans s.rules s.plans → IsTrial s (r ∷ h ∷ s.active ∷ []) → rule_at s.rules r ≡ Some rule → atom_at s.store s.active ≡ Some atom → IsTrialOf s.rules s.plans s.store (trial_alone rule r (record { head = h; label = s.active; atom = atom }))

@@ -7,13 +7,13 @@ ghost use Rattle.chr_search.specs.declared.passing.End.TheVariants as ends;
 ghost use Rattle.chr_search.specs.declared.judged.Verdict.TheVariants as verdicts;
 ghost use Rattle.chr_search.specs.declared.search.Then.TheVariants as thens;
 ghost use Rattle.chr_search.specs.Positions.{at_or_after, begins, beginning, past, front};
-ghost use Rattle.chr_search.specs.Trials.{older, IsTrial, IsNext, NoneLeft};
+ghost use Rattle.chr_search.specs.Trials.{Space, older, IsTrial, IsNext, NoneLeft};
 ghost use Rattle.chr_search.specs.Answers.{IsAnswer, IsAnswerBehind, IsToldNext, after_judging, after_verdict};
 ghost use Rattle.chr_search.specs.Verdicts.{Trial as TrialView, IsPart, position as position_of};
 ghost use Rattle.chr_search.specs.Fronts.{ComeAfter};
 ghost use Rattle.chr_search.specs.Joined.{join_of};
 ghost use Rattle.chr_search.specs.Passing.{IsTrialIn, BeginsTrials, Passes, IsThen};
-ghost use Rattle.chr_search.specs.PlanByPlan.{label_at_head, labels_at_heads, IsUnplanned, IsJoinOf, labels_in, PassesPlan, IsNextJoin};
+ghost use Rattle.chr_search.specs.PlanByPlan.{label_at_head, labels_at_heads, IsUnplanned, IsJoinOf, labels_in, PassesPlan, HasComeTo, IsNextJoin};
 
 use crate::join::Join;
 use crate::judged::{Judged, Verdict};
@@ -267,6 +267,23 @@ impl Search {
         }
     }
 
+    /// Where a walk to the next trial begins: at the position's rule and head, or at the head after that where the position is
+    /// past the active label there, since each trial at a head has that label first.
+    fn first_walk(&self) -> Walk
+        ensures { (s : Space) → s.active ≡ self.now.label → HasComeTo s self.now.place result.rule result.head }
+    {
+        let position = &self.position;
+        let head = match position.labels.as_slice().first() {
+            Some(first) if self.label < *first => position.head.saturating_add(1),
+            _ => position.head,
+        };
+        Walk {
+            rule: position.rule,
+            head,
+            near: 0,
+        }
+    }
+
     /// The position of the least trial at or after the search's own, in a view for its label, which has this atom.
     fn find_in<'s, A: Allocator + Copy>(
         &self,
@@ -282,11 +299,7 @@ impl Search {
     {
         // For the proof: the labels of a store are at most the greatest.
         let _given = view.active();
-        let mut walk = Walk {
-            rule: self.position.rule,
-            head: self.position.head,
-            near: 0,
-        };
+        let mut walk = self.first_walk();
         while let Some(join) = Search::next_join(program, plans, view, atom, &mut walk) {
             if let Some(labels) = join.find(self.labels_in(&walk)) {
                 return Some(Position {
@@ -554,11 +567,7 @@ impl Search {
     {
         // For the proof: the labels of a store are at most the greatest.
         let _given = view.active();
-        let mut walk = Walk {
-            rule: self.position.rule,
-            head: self.position.head,
-            near: 0,
-        };
+        let mut walk = self.first_walk();
         let mut count = 0;
         while let Some(join) = Search::next_join(program, plans, view, atom, &mut walk) {
             let passed = self.pass_in_plan(&join, &walk, most - count, instance, bound);
