@@ -2,6 +2,7 @@ pub mod Cutting
 pub mod Columns
 pub mod InOrder
 pub mod Keeping
+pub mod LastAtHead
 pub mod Pushing
 pub mod InRows
 pub mod InColumns

@@ -1,5 +1,5 @@
 -- Trials of the active label alone that come next one after another.
-use Rattle.std.proofs.Common.{◌≡◌, ℕ, ◌+◌, ◌≤◌, List, [], ◌∷◌, ◌++◌, map, length, length-append, Some, get_or, refl, sym, ◌∙◌, ap, ap₂, subst, arith}
+use Rattle.std.proofs.Common.{◌≡◌, ℕ, ◌+◌, ◌≤◌, List, [], ◌∷◌, ◌++◌, map, length, length-append, Some, get_or, refl, sym, ◌∙◌, ap, subst, arith}
 use Rattle.std.specs.List.{AllByRecursion}
 use Rattle.std.proofs.lemmas.List.{map_push}
 use Rattle.chr_value.specs.Atoms.{Atom}
@@ -21,8 +21,8 @@ use Rattle.chr_search.proofs.Fronts.{full_after}
 use Rattle.chr_search.proofs.Making.{next_trial}
 use Rattle.chr_search.proofs.PlanByPlan.{head_within}
 use Rattle.chr_sheet.specs.Beside.{ComeNext, last_of}
-use Rattle.chr_sheet.specs.Columns.{Head, Column, IsColumn, AreNextHeads, at_head, column_trials}
-use Rattle.chr_sheet.proofs.Columns.{column_of, only_placed, only_read}
+use Rattle.chr_sheet.specs.Columns.{Head, Column, IsColumn, AreNextHeads, at_head}
+use Rattle.chr_sheet.proofs.Columns.{column_of, only_read}
 use Rattle.chr_sheet.proofs.NextBeside.{next_after, all_formed}
 
 -- the trial of the active label alone at a head
@@ -132,11 +132,11 @@ found_more f rules pred r h number head xs new x a items next is count =
     })
 
 -- what holds of a trial and more holds of the last
-last_all : (P : Trial → Type 0) (t : Trial) (us : List Trial) → AllByRecursion P (t ∷ us) → P (last_of t us)
+pub last_all : (P : Trial → Type 0) (t : Trial) (us : List Trial) → AllByRecursion P (t ∷ us) → P (last_of t us)
 last_all P t [] a = a.0
 last_all P t (u ∷ us) a = last_all P u us a.1
 
-all_alone : (t : Trial) (os : List Head) → length t.placed ≡ 1 → AllByRecursion (λ (u : Trial). length u.placed ≡ 1) (map (at_head t) os)
+pub all_alone : (t : Trial) (os : List Head) → length t.placed ≡ 1 → AllByRecursion (λ (u : Trial). length u.placed ≡ 1) (map (at_head t) os)
 all_alone t [] one = tt
 all_alone t (o ∷ os) one = (alike t.placed one, all_alone t os one)
   where
@@ -145,16 +145,8 @@ all_alone t (o ∷ os) one = (alike t.placed one, all_alone t os one)
     alike (p ∷ []) e = refl
     alike (p ∷ q ∷ ps) e = absurd (omega arith)
 
-pub last_formed : (c : Column) → IsColumn c → IsFormed (last_of c.first (map (at_head c.first) c.more))
-last_formed c w = last_all IsFormed c.first (map (at_head c.first) c.more) w.formed
-
--- past the active label alone at the last head lie the trials after the last one
-pub come_past : (s : Space) → ArePlans s.rules s.plans → AllByRecursion IsRule s.rules → (c : Column) → IsColumn c → (place : List ℕ) (t : Trial) (more : List Trial) → column_trials c ≡ t ∷ more → place ≡ past ((last_of c.first (map (at_head c.first) c.more)).number ∷ (last_of c.first (map (at_head c.first) c.more)).head ∷ s.active ∷ []) → IsTrial s (position (last_of t more)) → IsTrialOf s.rules s.plans s.store (last_of t more) → ComeAfter s place (position (last_of t more))
-come_past s ps rs c w place t more e is here i =
-    let u : Trial = last_of t more in
-    let same : last_of c.first (map (at_head c.first) c.more) ≡ u = let first : c.first ≡ t = cc in let rest : map (at_head c.first) c.more ≡ more = cc in ap₂ last_of first rest in
-    let alone : length u.placed ≡ 1 = last_all (λ (u : Trial). length u.placed ≡ 1) t more (subst (AllByRecursion (λ (u : Trial). length u.placed ≡ 1)) e (w.alone, all_alone c.first c.more w.alone)) in
-    let full : length (heads_of u.rule) ≡ 1 = last_all (λ (u : Trial). length (heads_of u.rule) ≡ 1) t more (subst (AllByRecursion (λ (u : Trial). length (heads_of u.rule) ≡ 1)) e w.full) in
-    let p = only_placed u.placed alone in
-    let there : position u ≡ u.number ∷ u.head ∷ s.active ∷ [] = ap (λ (ps : List Placed). u.number ∷ u.head ∷ map (λ (x : Placed). x.label) ps) p.1 ∙ ap (λ l. u.number ∷ u.head ∷ l ∷ []) (active_alone s u p.0 p.1 here) in
-    subst (λ q. ComeAfter s q (position u)) (ap past there ∙ ap (λ (v : Trial). past (v.number ∷ v.head ∷ s.active ∷ [])) (sym same) ∙ sym is) (full_after s u ps rs i (alone ∙ sym full) (omega arith))
+-- the last trial's rule and its head are numbered from 1
+pub last_low : (c : Column) → IsColumn c → (number head : ℕ) → let last = last_of c.first (map (at_head c.first) c.more) in number ≡ last.number → head ≡ last.head → (1 ≤ number) × (1 ≤ head)
+last_low c w number head e f =
+    let formed = last_all IsFormed c.first (map (at_head c.first) c.more) w.formed in
+    (subst (λ n. 1 ≤ n) (sym e) formed.number, subst (λ n. 1 ≤ n) (sym f) formed.head)

@@ -1,6 +1,5 @@
 -- Trials that come next one after another: those that differ in their last label, and the part with which they begin.
 use Rattle.std.proofs.Common.{◌≡◌, ℕ, suc, zero, ◌+◌, ◌≤◌, List, [], ◌∷◌, ◌++◌, map, take, length, length-append, get_or, Option, Some, None, MatchOption, refl, sym, ◌∙◌, ap, subst, arith}
-use Rattle.std.specs.Bool.{⊤}
 use Rattle.std.specs.List.{AllByRecursion}
 use Rattle.std.proofs.lemmas.List.{map_push, length_push, same_from_push}
 use Rattle.chr_rule.specs.Scope.{IsRule}
@@ -12,7 +11,7 @@ use Rattle.chr_store.specs.Labels.{LabelledStore, IsLabelled}
 use Rattle.chr_search.specs.declared.front.Front.{Front as CodeFront}
 use Rattle.chr_search.specs.Joined.{join_of}
 use Rattle.chr_search.specs.Positions.{just_after, past}
-use Rattle.chr_search.specs.Tree.{LeastFrom, Beyond}
+use Rattle.chr_search.specs.Tree.{LeastFrom, NoneFrom, Beyond}
 use Rattle.chr_search.specs.Trials.{Join, Space, Child, IsTrial, IsNext, NoneLeft}
 use Rattle.chr_search.specs.Verdicts.{Placed, Trial, heads, labels, position, IsFormed, IsPart, IsTrialOf}
 use Rattle.chr_search.specs.Fronts.{lengthened, MayEnd, IsFront, IsPlacedAfter, ComeAfter}
@@ -22,7 +21,7 @@ use Rattle.chr_search.proofs.PassingOver.{is_part}
 use Rattle.chr_search.proofs.Fronts.{end_next, full_after, placed_trial, placed_after, trial_formed}
 use Rattle.chr_sheet.specs.Rows.{IsRow, trials_of}
 use Rattle.chr_sheet.specs.Sheets.{IsNextTrial, AreNext, AreNextTogether}
-use Rattle.chr_sheet.specs.Beside.{HasEnd, HasBeside, AreEnds, ComeNext, AreInTurn, last_of}
+use Rattle.chr_sheet.specs.Beside.{HasEnd, HasBeside, HasNoneBeside, AreEnds, ComeNext, AreInTurn, last_of}
 use Rattle.chr_sheet.proofs.Cutting.{row_of}
 use Rattle.chr_sheet.proofs.OneNext.{end_at}
 
@@ -59,7 +58,7 @@ chain s t us place after next c k left more h zero e = absurd (omega arith)
 chain s t [] place after next c k left more h (suc n) e = let same : left ≡ n = omega arith in (next, subst (λ m. AreNext s m (just_after (position t)) more) same (are_next_after s after (position t) k left more h))
 chain s t (u ∷ us) place after next c k left more h (suc n) e = (next, chain s u us (just_after (position t)) after c.0 c.1 k left more h n (omega arith))
 
-last_trial : (s : Space) (t : Trial) (us : List Trial) → IsTrial s (position t) → IsTrialOf s.rules s.plans s.store t → ComeNext s t us → IsTrial s (position (last_of t us)) × IsTrialOf s.rules s.plans s.store (last_of t us)
+pub last_trial : (s : Space) (t : Trial) (us : List Trial) → IsTrial s (position t) → IsTrialOf s.rules s.plans s.store t → ComeNext s t us → IsTrial s (position (last_of t us)) × IsTrialOf s.rules s.plans s.store (last_of t us)
 last_trial s t [] k i c = (k, i)
 last_trial s t (u ∷ us) k i c = last_trial s u us (next_trial s (just_after (position t)) (position u) c.0.0) c.0.1 c.1
 
@@ -147,9 +146,13 @@ begun s ps rs part p t f second e i h = whole (subst (λ t. IsTrial s (position 
           end = end;
         }
 
--- the labels of a trial up to the last
+-- the labels of a trial
+pub labels_read : {X : Type 0} (f : X → Placed) (xs : List X) (t : Trial) → map f xs ≡ t.placed → map (λ x. (f x).label) xs ≡ labels t
+labels_read f xs t is = sym (map_twice f (λ (p : Placed). p.label) xs) ∙ ap (map (λ (p : Placed). p.label)) is
+
+-- and up to the last
 pub labels_split : {X : Type 0} (f : X → Placed) (xs before : List X) (x : X) (t : Trial) → xs ≡ before ++ x ∷ [] → map f xs ≡ t.placed → labels t ≡ map (λ y. (f y).label) before ++ (f x).label ∷ []
-labels_split f xs before x t e is = ap (map (λ (p : Placed). p.label)) (sym is) ∙ map_twice f (λ (p : Placed). p.label) xs ∙ ap (map (λ y. (f y).label)) e ∙ map_push (λ y. (f y).label) before x
+labels_split f xs before x t e is = sym (labels_read f xs t is) ∙ ap (map (λ y. (f y).label)) e ∙ map_push (λ y. (f y).label) before x
 
 -- a label that one more trial ends with is small
 pub small_end : (s : Space) (store : LabelledStore) → store.entries ≡ s.store → IsLabelled store → (part : Trial) → LacksOne s part → (p : Placed) → MayEnd s (part.number ∷ part.head ∷ labels part) p.label → IsPlacedAfter s part.number part.head (length (labels part)) p → p.label ≤ 4294967295
@@ -231,6 +234,8 @@ begins_others s t f front i w left =
 pub end_as : {Z : Type 0} (s : Space) (r h : ℕ) (ls ms : List ℕ) (from : ℕ) (f : CodeFront Z) (end : ℕ) → ls ≡ ms → HasEnd s r h ls from f end → HasEnd s r h ms from f end
 end_as s r h ls ms from f end e = subst (λ xs. HasEnd s r h xs from f end) e
 
-pub beside : {Z : Type 0} (s : Space) (t : Trial) (before : List ℕ) (last : ℕ) (found : Option (CodeFront Z × ℕ)) → length t.placed ≡ length (heads_of t.rule) → labels t ≡ before ++ last ∷ [] → MatchOption found ⊤ (λ x. HasEnd s t.number t.head before (last + 1) x.0 x.1) → MatchOption found ⊤ (λ x. HasBeside s t x.0 x.1)
-beside s t before last None full ls h = tt
+pub beside : {Z : Type 0} (s : Space) (t : Trial) (before : List ℕ) (last : ℕ) (found : Option (CodeFront Z × ℕ)) → length t.placed ≡ length (heads_of t.rule) → labels t ≡ before ++ last ∷ [] → MatchOption found (NoneFrom (MayEnd s (t.number ∷ t.head ∷ before)) (last + 1)) (λ x. HasEnd s t.number t.head before (last + 1) x.0 x.1) → MatchOption found (HasNoneBeside s t) (λ x. HasBeside s t x.0 x.1)
+beside s t before last None full ls none = λ all others other is some.
+    let same = same_from_push before others last other (sym ls ∙ is) in
+    subst (λ l. NoneFrom (MayEnd s (t.number ∷ t.head ∷ others)) (l + 1)) same.1 (subst (λ xs. NoneFrom (MayEnd s (t.number ∷ t.head ∷ xs)) (last + 1)) same.0 none)
 beside s t before last (Some x) full ls h = record { full = full; before = before; last = last; labels_are = ls; end = h }

@@ -6,12 +6,7 @@ use Rattle.chr_search.specs.Tree.{LeastFrom}
 use Rattle.chr_search.specs.Trials.{Space}
 use Rattle.chr_search.specs.Verdicts.{Placed}
 use Rattle.chr_search.specs.Fronts.{MayEnd, IsEndFrom, IsFront, IsPlacedAfter}
-use Rattle.chr_sheet.specs.Beside.{AreEnds}
-
--- from where the label after these is looked for
-abbrev pub next_from : ℕ → List Placed → ℕ
-next_from from [] = from
-next_from from (p ∷ ps) = next_from (p.label + 1) ps
+use Rattle.chr_sheet.specs.Beside.{AreEnds, next_from}
 
 -- those that were pushed so far, and the next one
 pub record ArePushed {Z : Type 0} (s : Space) (r h : ℕ) (ls : List ℕ) (from : ℕ) (old new : List Placed) (f : CodeFront Z) (next : Option ℕ) : Type 0 where

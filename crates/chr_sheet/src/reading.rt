@@ -1,14 +1,14 @@
 //! Reading the next trials of a search.
-ghost use Rattle.std.specs.Prelude.{⊤, ◌≡◌, ℕ, ◌<◌, ◌≤◌, ◌+◌, List, [], ◌∷◌, ◌++◌, length, map, IfOk, OnOk, MatchOption};
+ghost use Rattle.std.specs.Prelude.{◌≡◌, ℕ, ◌<◌, ◌≤◌, ◌+◌, List, [], ◌∷◌, ◌++◌, length, map, IfOk, IsTrue, OnOk, MatchOption};
 ghost use Rattle.chr_plan.specs.Orders.{heads_of};
 ghost use Rattle.chr_plan.specs.Plans.{ArePlans};
 ghost use Rattle.chr_search.specs.Fronts.{MayEnd, IsFront, IsPlacedAfter, ComeAfter};
 ghost use Rattle.chr_search.specs.Placed.{placed_as};
 ghost use Rattle.chr_search.specs.Positions.{past};
-ghost use Rattle.chr_search.specs.Tree.{LeastFrom};
+ghost use Rattle.chr_search.specs.Tree.{LeastFrom, NoneFrom};
 ghost use Rattle.chr_search.specs.Trials.{Space, older, IsTrial};
 ghost use Rattle.chr_search.specs.Verdicts.{Placed as PlacedView, Trial as TrialView, position, IsTrialOf};
-ghost use Rattle.chr_sheet.specs.Beside.{HasEnd, HasBeside, AreEnds, AreInTurn, last_of};
+ghost use Rattle.chr_sheet.specs.Beside.{HasEnd, HasBeside, HasNoneBeside, AreEnds, AreInTurn, EndHead, last_of, next_from};
 ghost use Rattle.chr_sheet.specs.Columns.{head_of, AreNextHeads};
 ghost use Rattle.chr_sheet.specs.Kept.{trials_at, trials_in};
 ghost use Rattle.chr_sheet.specs.Rows.{trials_of};
@@ -50,7 +50,7 @@ fn push_with_room<T: Drop, A: Allocator>(
 }
 
 /// The labels from one on with which trials of a front end, that one first, put after the others while they are fewer than so
-/// many. An `Err` is E01.
+/// many. Where they stay fewer, there is no further one. An `Err` is E01.
 fn push_ends<A: Allocator + Copy>(
     alloc: A,
     front: &mut Front<'_, '_, A>,
@@ -62,7 +62,7 @@ fn push_ends<A: Allocator + Copy>(
     requires few { length lasts.old.items < most }
     ensures few { OnOk result (length lasts.new.items ≤ most) }
     ensures some { OnOk result (length lasts.old.items < length lasts.new.items) }
-    ensures ends { OnOk result ((s : Space) (r h : ℕ) (ls : List ℕ) (from : ℕ) → IsFront s r h ls front.old → LeastFrom (MayEnd s (r ∷ h ∷ ls)) from first → (more : List PlacedView) × (map placed_as lasts.new.items ≡ map placed_as lasts.old.items ++ more) × AreEnds s r h ls from more) }
+    ensures ends { OnOk result ((s : Space) (r h : ℕ) (ls : List ℕ) (from : ℕ) → IsFront s r h ls front.old → LeastFrom (MayEnd s (r ∷ h ∷ ls)) from first → (more : List PlacedView) × (map placed_as lasts.new.items ≡ map placed_as lasts.old.items ++ more) × AreEnds s r h ls from more × (length lasts.new.items < most → NoneFrom (MayEnd s (r ∷ h ∷ ls)) (next_from from more))) }
 {
     let mut next = Some(first);
     'ends: while lasts.len() < most {
@@ -88,7 +88,7 @@ fn first_end<'b, 's, A: Allocator + Copy>(
     requires plans { HasPlans setting.now }
     requires some { 1 ≤ length labels.now }
     requires few { length labels.now ≤ 5 }
-    ensures { let s = space_in setting.now active in MatchOption result ⊤ (λ found. HasEnd s trial.now.number trial.now.head (map (λ p. p.label) labels.now) from found.0 found.1) }
+    ensures { let s = space_in setting.now active in let ls = map (λ p. p.label) labels.now in MatchOption result (NoneFrom (MayEnd s (trial.now.number ∷ trial.now.head ∷ ls)) from) (λ found. HasEnd s trial.now.number trial.now.head ls from found.0 found.1) }
 {
     let mut front = Front::of(
         setting.program,
@@ -112,7 +112,7 @@ fn second_beside<'b, 's, A: Allocator + Copy>(
     binding: &'b mut Binding<'s, A>,
 ) -> Option<(Front<'b, 's, A>, Label)>
     requires { HasPlans setting.now }
-    ensures { MatchOption result ⊤ (λ found. HasBeside (space_in setting.now active) first.now found.0 found.1) }
+    ensures { let s = space_in setting.now active in MatchOption result (HasNoneBeside s first.now) (λ found. HasBeside s first.now found.0 found.1) }
 {
     let placed = first.placed();
     let (last, before) = placed.split_last()?;
@@ -159,8 +159,8 @@ fn next_heads<A: Allocator + Copy>(
     Ok(heads)
 }
 
-/// A trial of one label, at a rule of one head, with those that come next after it at rules of one head, at most so many. An
-/// `Err` is E01.
+/// A trial of one label, at a rule of one head, with those that come next after it at rules of one head, at most so many. No
+/// other is left at the last one's head. An `Err` is E01.
 fn in_column<A: Allocator + Copy>(
     alloc: A,
     active: Label,
@@ -172,7 +172,8 @@ fn in_column<A: Allocator + Copy>(
     requires some { 1 ≤ most }
     requires full { length (heads_of first.rule) ≡ 1 }
     requires first { let s = space_in setting.now active in IsTrial s (position first) × IsTrialOf s.rules s.plans s.store first }
-    ensures { IfOk result (λ trials. AreInTurn (space_in setting.now active) most first (trials_at trials)) }
+    ensures turn { IfOk result (λ trials. AreInTurn (space_in setting.now active) most first (trials_at trials)) }
+    ensures last { IfOk result (λ trials. EndHead (space_in setting.now active) (trials_at trials)) }
 {
     // For the proof: the rules are valid, and the labels of a store are at most the greatest.
     let _rules = setting.program.rules();
@@ -186,7 +187,8 @@ fn in_column<A: Allocator + Copy>(
     Ok(Trials::Column(Column::new(first, more)))
 }
 
-/// A trial that one head is left of, with those that begin with it and have one label more, at most so many. An `Err` is E01.
+/// A trial that one head is left of, with those that begin with it and have one label more, at most so many, and whether it is
+/// known that no other is left at the head. An `Err` is E01.
 fn in_branch<'s, A: Allocator + Copy>(
     alloc: A,
     active: Label,
@@ -194,29 +196,34 @@ fn in_branch<'s, A: Allocator + Copy>(
     most: usize,
     setting: &Setting<'s, A>,
     binding: &mut Binding<'s, A>,
-) -> Result<Trials<A>, AllocError>
+) -> Result<(Trials<A>, bool), AllocError>
     requires plans { HasPlans setting.now }
     requires some { 2 ≤ most }
     requires left { length part.placed + 1 ≡ length (heads_of part.rule) }
     requires first { let s = space_in setting.now active in IsTrial s (position part) × IsTrialOf s.rules s.plans s.store part }
-    ensures { IfOk result (λ trials. AreInTurn (space_in setting.now active) most part (trials_at trials)) }
+    ensures turn { IfOk result (λ made. AreInTurn (space_in setting.now active) most part (trials_at made.0)) }
+    ensures last { IfOk result (λ made. IsTrue made.1 → EndHead (space_in setting.now active) (trials_at made.0)) }
 {
     // For the proof: the rules are valid, and the labels of a store are at most the greatest.
     let _rules = setting.program.rules();
     let _given = setting.store.next_label();
-    let found = first_end(&part, part.placed(), 0, active, setting, binding);
+    let placed = part.placed();
+    // Each trial at a head begins with the active label, and so with a part that has no other.
+    let is_alone = placed.len() == 1;
+    let found = first_end(&part, placed, 0, active, setting, binding);
     let Some((mut front, first)) = found else {
-        return Ok(Trials::One(part));
+        return Ok((Trials::One(part), is_alone));
     };
     let most = most - 1;
     let mut lasts = Vec::with_capacity(alloc, most.min(FIRST_ROOM))?;
     push_ends(alloc, &mut front, &mut lasts, first, most)?;
-    Ok(Trials::Branch(Row::new(part, lasts)))
+    let ends_head = is_alone && lasts.len() < most;
+    Ok((Trials::Branch(Row::new(part, lasts)), ends_head))
 }
 
 /// A trial with those that come next after it, at most so many: where one head is left of it, those that begin with it; where it
 /// has all heads, two at least, those that differ from it in their last label alone; where its rule has one head, those of its
-/// label at rules of one head. An `Err` is E01.
+/// label at rules of one head. Also whether it is known that no other is left at the last one's head. An `Err` is E01.
 fn in_turn<'s, A: Allocator + Copy>(
     alloc: A,
     active: Label,
@@ -224,36 +231,39 @@ fn in_turn<'s, A: Allocator + Copy>(
     most: usize,
     setting: &Setting<'s, A>,
     binding: &mut Binding<'s, A>,
-) -> Result<Trials<A>, AllocError>
+) -> Result<(Trials<A>, bool), AllocError>
     requires plans { HasPlans setting.now }
     requires some { 1 ≤ most }
     requires first { let s = space_in setting.now active in IsTrial s (position first) × IsTrialOf s.rules s.plans s.store first }
-    ensures { IfOk result (λ trials. AreInTurn (space_in setting.now active) most first (trials_at trials)) }
+    ensures turn { IfOk result (λ made. AreInTurn (space_in setting.now active) most first (trials_at made.0)) }
+    ensures last { IfOk result (λ made. IsTrue made.1 → EndHead (space_in setting.now active) (trials_at made.0)) }
 {
     if most == 1 {
-        return Ok(Trials::One(first));
+        return Ok((Trials::One(first), false));
     }
     let heads = first.rule().heads();
     if heads == 1 {
-        return in_column(alloc, active, first, most, setting);
+        return Ok((in_column(alloc, active, first, most, setting)?, true));
     }
     if first.placed().len() + 1 == heads {
         return in_branch(alloc, active, first, most, setting, binding);
     }
-    let beside = second_beside(&first, active, setting, binding);
-    let Some((mut front, second)) = beside else {
-        return Ok(Trials::One(first));
-    };
     // For the proof: the rules are valid, and the labels of a store are at most the greatest.
     let _rules = setting.program.rules();
     let _given = setting.store.next_label();
+    let beside = second_beside(&first, active, setting, binding);
+    // Where the rule has two heads, its full trials at one of them differ in their last label alone.
+    let Some((mut front, second)) = beside else {
+        return Ok((Trials::One(first), heads == 2));
+    };
     let (part, last) = first.split_last();
     // For the proof: what holds of every trial.
     let _placed = part.placed();
     let mut lasts = Vec::with_capacity(alloc, most.min(FIRST_ROOM))?;
     lasts.push(last)?;
     push_ends(alloc, &mut front, &mut lasts, second, most)?;
-    Ok(Trials::Row(Row::new(part, lasts)))
+    let ends_head = heads == 2 && lasts.len() < most;
+    Ok((Trials::Row(Row::new(part, lasts)), ends_head))
 }
 
 /// Moves a search past the last trial of a row.
@@ -266,15 +276,27 @@ fn go_past_row<A: Allocator + Copy>(search: &mut Search, row: &Row<A>)
     search.go_past(row.part(), lasts[lasts.len() - 1].label);
 }
 
-/// Moves a search to those that come after the last of these trials.
-fn go_behind<A: Allocator + Copy>(search: &mut Search, trials: &Trials<A>, setting: &Setting<'_, A>)
+/// Moves a search to those that come after the last of these trials. Where no other is left at the last one's head, it moves
+/// past the active label there, from where the next trial is looked for at the next head.
+fn go_behind<A: Allocator + Copy>(
+    search: &mut Search,
+    trials: &Trials<A>,
+    ends_head: bool,
+    setting: &Setting<'_, A>,
+)
     requires plans { HasPlans setting.now }
     requires low { search.old.label ≤ 4294967295 }
+    requires last { IsTrue ends_head → EndHead (space_in setting.now search.old.label) (trials_at trials.now) }
     ensures label { search.new.label ≡ search.old.label }
     ensures place { let s = space_in setting.now search.old.label in (t : TrialView) (more : List TrialView) → trials_at trials.now ≡ t ∷ more → IsTrial s (position (last_of t more)) → IsTrialOf s.rules s.plans s.store (last_of t more) → ComeAfter s search.new.place (position (last_of t more)) }
 {
     // For the proof: the rules are valid.
     let _rules = setting.program.rules();
+    if ends_head {
+        let (number, head) = trials.last_head();
+        search.go_past_alone(number, head);
+        return;
+    }
     match trials {
         Trials::One(trial) => search.go_after(trial, setting.program, setting.plans, setting.store),
         Trials::Column(column) => {
@@ -304,8 +326,8 @@ fn with_those_beside<'s, A: Allocator + Copy>(
 {
     // For the proof: the labels of a trial are at most the greatest.
     let _placed = first.placed();
-    let trials = in_turn(alloc, search.label(), first, most, setting, binding)?;
-    go_behind(search, &trials, setting);
+    let (trials, ends_head) = in_turn(alloc, search.label(), first, most, setting, binding)?;
+    go_behind(search, &trials, ends_head, setting);
     Ok(trials)
 }
 

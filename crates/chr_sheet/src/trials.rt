@@ -1,6 +1,8 @@
 //! Trials that come one after another.
-ghost use Rattle.std.specs.Prelude.{◌≡◌, ◌<◌, ◌≤◌, length, Some, IfOk, slice_get};
+ghost use Rattle.std.specs.Prelude.{◌≡◌, ◌<◌, ◌≤◌, List, ◌∷◌, length, Some, IfOk, slice_get};
+ghost use Rattle.chr_search.specs.Verdicts.{Trial as TrialView};
 ghost use Rattle.chr_sheet.specs.declared.trials.Trials.TheVariants as some;
+ghost use Rattle.chr_sheet.specs.Beside.{last_of};
 ghost use Rattle.chr_sheet.specs.Columns.{column_trials};
 ghost use Rattle.chr_sheet.specs.Kept.{trials_at, IsKeptBefore};
 ghost use Rattle.chr_sheet.specs.Rows.{branch_trials};
@@ -74,6 +76,16 @@ fn split_column<A: Allocator + Copy>(
     }
 }
 
+/// The number of a trial's rule, and its head's.
+fn head_of_trial<A: Allocator + Copy>(trial: &Trial<A>) -> (u16, u8)
+    ensures is { (result.0 ≡ trial.now.number) × (result.1 ≡ trial.now.head) }
+    ensures low { (1 ≤ result.0) × (1 ≤ result.1) }
+{
+    // For the proof: what holds of every trial.
+    let _placed = trial.placed();
+    (trial.number(), trial.head())
+}
+
 impl<A: Allocator + Copy> Trials<A> {
     /// How many they are.
     pub(crate) fn len(&self) -> usize
@@ -85,6 +97,19 @@ impl<A: Allocator + Copy> Trials<A> {
             Trials::Row(row) => row.lasts().len(),
             Trials::Branch(row) => row.count_with_part(),
             Trials::Column(column) => column.more().len() + 1,
+        }
+    }
+
+    /// The number of the last one's rule, and its head's.
+    pub(crate) fn last_head(&self) -> (u16, u8)
+        ensures is { (t : TrialView) (more : List TrialView) → trials_at self.now ≡ t ∷ more → let last = last_of t more in (result.0 ≡ last.number) × (result.1 ≡ last.head) }
+        ensures low { (1 ≤ result.0) × (1 ≤ result.1) }
+    {
+        match self {
+            Trials::One(trial) => head_of_trial(trial),
+            Trials::Row(row) => head_of_trial(row.part()),
+            Trials::Branch(row) => head_of_trial(row.part()),
+            Trials::Column(column) => column.last(),
         }
     }
 

@@ -1,4 +1,4 @@
-use Rattle.std.proofs.Common.{◌≡◌, ◌≤◌, ◌∷◌, [], length, sym, ap, ap₂, subst, ◌∙◌, arith}
+use Rattle.std.proofs.Common.{◌≡◌, ◌≤◌, ◌∷◌, [], length, map, sym, ap, ap₂, subst, ◌∙◌, arith}
 use Rattle.std.proofs.lemmas.List.{length-map}
 use Rattle.chr_plan.specs.Orders.{heads_of}
 use Rattle.chr_search.specs.Fronts.{lengthened}
@@ -7,10 +7,12 @@ use Rattle.chr_search.specs.Trials.{Space}
 use Rattle.chr_sheet.specs.Settings.{space_in}
 use Rattle.chr_search.specs.Verdicts.{Trial, position}
 use Rattle.chr_sheet.specs.Kept.{trials_at}
-use Rattle.chr_sheet.specs.Beside.{last_of}
+use Rattle.chr_sheet.specs.Beside.{EndHead, last_of}
+use Rattle.chr_sheet.specs.Columns.{Column, at_head, column_trials}
 use Rattle.chr_sheet.specs.Rows.{Row, trials_of}
 use Rattle.chr_sheet.proofs.NextBeside.{come_behind, last_behind}
-use Rattle.chr_sheet.proofs.NextAlone.{last_formed as alone_formed, come_past}
+use Rattle.chr_sheet.proofs.NextAlone.{last_low}
+use Rattle.chr_sheet.proofs.LastAtHead.{come_past_head, column_ends}
 use Rattle.chr_sheet.proofs.reading.go_behind.Goals as goal
 
 pub returns-in-Row-clause-place : goal.returns-in-Row-clause-place
@@ -28,16 +30,28 @@ returns-in-Branch-clause-place g c = λ t more e here i.
     let at = c.go_past_row-in-Branch.ensures.place b.0 b.1 b.2 in
     come_behind s c.requires.plans c.rules-rules.ensures.valid c.go_past_row-in-Branch.new.search.place (last_of t more) (at.0 ∙ ap (λ u. past (position u)) (sym b.3)) (subst (λ (u : Trial). length u.placed ≡ length (heads_of u.rule)) (sym b.3) at.1) here i
 
-pub go_past_alone-requires-clause-number : goal.go_past_alone-requires-clause-number
-go_past_alone-requires-clause-number g c = subst (λ n. 1 ≤ n) (sym c.last-number.ensures.number) (alone_formed c.in-Column.column c.last-number.ensures.column).number
+pub go_past_alone-requires-in-Column-clause-number : goal.go_past_alone-requires-in-Column-clause-number
+go_past_alone-requires-in-Column-clause-number g c = (last_low c.in-Column.column c.last-number.ensures.column c.last-number.result.0 c.last-number.result.1 c.last-number.ensures.number c.last-number.ensures.head).0
 
-pub go_past_alone-requires-clause-head : goal.go_past_alone-requires-clause-head
-go_past_alone-requires-clause-head g c = subst (λ n. 1 ≤ n) (sym c.last-number.ensures.head) (alone_formed c.in-Column.column c.last-number.ensures.column).head
+pub go_past_alone-requires-in-Column-clause-head : goal.go_past_alone-requires-in-Column-clause-head
+go_past_alone-requires-in-Column-clause-head g c = (last_low c.in-Column.column c.last-number.ensures.column c.last-number.result.0 c.last-number.result.1 c.last-number.ensures.number c.last-number.ensures.head).1
 
 pub returns-in-Column-clause-place : goal.returns-in-Column-clause-place
 returns-in-Column-clause-place g c = λ t more e here i.
     let s : Space = space_in c.args.setting.now c.args.search.now.label in
-    come_past s c.requires.plans c.rules-rules.ensures.valid c.in-Column.column c.last-number.ensures.column c.go_past_alone.new.self.place t more
-    (sym (ap trials_at c.in-Column.is) ∙ e)
-    (ap (λ q. q.place) c.go_past_alone.ensures ∙ ap₂ (λ r h. past (r ∷ h ∷ s.active ∷ [])) c.last-number.ensures.number c.last-number.ensures.head)
-    here i
+    let k : Column = c.in-Column.column in
+    let trials : column_trials k ≡ t ∷ more = sym (ap trials_at c.in-Column.is) ∙ e in
+    let first : k.first ≡ t = cc in
+    let rest : map (at_head k.first) k.more ≡ more = cc in
+    let last = ap₂ last_of first rest in
+    come_past_head s c.go_past_alone-in-Column.new.self.place (last_of t more)
+    (ap (λ q. q.place) c.go_past_alone-in-Column.ensures ∙ ap₂ (λ r h. past (r ∷ h ∷ s.active ∷ [])) (c.last-number.ensures.number ∙ ap (λ u. u.number) last) (c.last-number.ensures.head ∙ ap (λ u. u.head) last))
+    (column_ends s c.requires.plans c.rules-rules.ensures.valid k c.last-number.ensures.column t more trials here i)
+
+pub returns-then-ends_head-clause-place : goal.returns-then-ends_head-clause-place
+returns-then-ends_head-clause-place g c = λ t more e here i.
+    let s : Space = space_in c.args.setting.now c.args.search.now.label in
+    let is = c.last_head-number.ensures.is t more e in
+    come_past_head s c.go_past_alone.new.self.place (last_of t more)
+    (ap (λ q. q.place) c.go_past_alone.ensures ∙ ap₂ (λ r h. past (r ∷ h ∷ s.active ∷ [])) is.0 is.1)
+    (subst (EndHead s) e (c.requires.last c.if-ends_head.true))

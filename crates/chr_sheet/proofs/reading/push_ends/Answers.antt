@@ -1,6 +1,7 @@
 use Rattle.std.proofs.Common.{◌≤◌, ◌∷◌, map, Some, sym, subst, arith}
-use Rattle.chr_search.specs.Fronts.{MayEnd}
+use Rattle.chr_search.specs.Fronts.{MayEnd, IsEndFrom}
 use Rattle.chr_search.specs.Placed.{placed_as}
+use Rattle.chr_sheet.specs.Beside.{next_from}
 use Rattle.chr_sheet.proofs.Pushing.{ArePushed, one_pushed, one_more}
 use Rattle.chr_sheet.proofs.reading.push_ends.Goals as goal
 use Rattle.chr_sheet.proofs.reading.push_ends.Goals.{In-Some}
@@ -42,7 +43,9 @@ ends-preserved g c = record {
 }
 
 pub returns-after-ends-clause-ends : goal.returns-after-ends-clause-ends
-returns-after-ends-clause-ends g c = λ s r h ls from f least. let a = c.ends.invariant.pushed s r h ls from f least in (a.more, a.is, a.ends)
+returns-after-ends-clause-ends g c = λ s r h ls from f least. let a = c.ends.invariant.pushed s r h ls from f least in (a.more, a.is, a.ends, λ fewer. absurd (let all = c.ends-test.false in omega arith))
 
 pub returns-in_default-clause-ends : goal.returns-in_default-clause-ends
-returns-in_default-clause-ends g c = λ s r h ls from f least. let a = c.ends.invariant.pushed s r h ls from f least in (a.more, a.is, a.ends)
+returns-in_default-clause-ends g c = λ s r h ls from f least.
+    let a = c.ends.invariant.pushed s r h ls from f least in
+    (a.more, a.is, a.ends, λ fewer. subst (IsEndFrom s (r ∷ h ∷ ls) (next_from from a.more)) c.in_default.is a.next_is)

@@ -25,5 +25,5 @@ returns-clause-trials g c =
     let s : Space = space_in c.args.setting.now c.args.search.now.label in
     let ts = trials_at c.in_ok-trials.trials in
     together s c.args.most c.args.search.now.place c.go_behind.new.search.place c.args.first ts c.requires.first
-    (subst (λ l. AreInTurn (space_in c.args.setting.now l) c.args.most c.args.first ts) c.label.ensures c.in_ok-trials.ensures)
+    (subst (λ l. AreInTurn (space_in c.args.setting.now l) c.args.most c.args.first ts) c.label.ensures c.in_ok-trials.ensures.turn)
     c.go_behind.ensures.place
