@@ -4,7 +4,7 @@
 //! call. A seat posts atoms, claims a ticket, asks for the next trial of its goal, judges it elsewhere and reports the
 //! judgement or fires, until the goal has ended or is dropped. But for [`go_on`](Book::go_on) and [`start`](Book::start),
 //! which are for a seat that works alone, the book judges nothing: it looks at what a judged trial carries, and at the
-//! store. Where a compound value is bound, what is carried is found anew by one more judgement.
+//! store. Where a compound value is bound, or there was no memory to keep what is bound, one more judgement finds it anew.
 //!
 //! | Call | What it does |
 //! |---|---|

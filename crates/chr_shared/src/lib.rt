@@ -6,8 +6,8 @@
 //! moment: there was such a book, and it answered the call. Before the call the book has the headline of `chr_calls`, and
 //! the seat's counts are what it has made in the log, and after it again. What a hold only reads it reads of a book that
 //! has the headline. So whenever a call takes the lock, it holds no book, or one that has the headline. Nothing is judged
-//! in a hold, but for a trial that fires under a compound value, which is judged once more there. No guard of the lock
-//! leaves this crate.
+//! in a hold, but for a trial that fires under a compound value, or whose binding there was no memory to keep: that is judged
+//! once more there. No guard of the lock leaves this crate.
 //!
 //! Workers [`rest`](Shared::rest) where there is nothing to take, until they are told of something new; a worker that is told
 //! is awake from then on. Sessions [`watch`](Shared::watch) the workers. No contract says that a sleeper wakes.
