@@ -100,9 +100,23 @@ static REFUSED: [(&str, &str); 12] = [
     ),
 ];
 
-/// Each run, and what is written where a command of it is refused.
-fn runs() -> [(&'static Talk<'static>, Refused); 2] {
-    [(&RUN, &REFUSED), (&COMPOUND_RUN, &COMPOUND_REFUSED)]
+/// The commands of a run that are refused, in order, and "rule" for each rule of its program.
+type Commands = &'static [&'static str];
+
+static COMMANDS: [&str; 10] = [
+    "serve", "load", "rule", "load", "rule", "load", "post", "wait", "store", "log",
+];
+
+static COMPOUND_COMMANDS: [&str; 8] = [
+    "serve", "load", "rule", "load", "post", "wait", "store", "log",
+];
+
+/// Each run, what is written where a command of it is refused, and these commands.
+fn runs() -> [(&'static Talk<'static>, Refused, Commands); 2] {
+    [
+        (&RUN, &REFUSED, &COMMANDS),
+        (&COMPOUND_RUN, &COMPOUND_REFUSED, &COMPOUND_COMMANDS),
+    ]
 }
 
 /// The command that was answered E01, "" where none was, and "serve" where the session ended before the first. None for any
@@ -123,8 +137,8 @@ fn command_refused(
     None
 }
 
-/// Serves a run with request number `n` refused. The command that was refused, by the words above, and whether a request was
-/// refused.
+/// Serves a run with request number `n` refused. The command that was refused, by the words above, or "rule" where a rule did
+/// without the list of its nodes, and whether a request was refused.
 fn refused(alloc: Global, input: &[u8], rows: Refused, n: u64) -> Option<(&'static str, bool)> {
     let memory = Refusing::new(alloc, n);
     let mut source = MemorySource::new(input, 65_536);
@@ -132,6 +146,7 @@ fn refused(alloc: Global, input: &[u8], rows: Refused, n: u64) -> Option<(&'stat
     let (ended, _) = end(&memory, GREATEST, &mut source, &mut sink);
     match command_refused(rows, ended, &sink.bytes) {
         None => None,
+        Some("") if memory.was_refused() => Some(("rule", true)),
         Some(command) => Some((command, memory.was_refused())),
     }
 }
@@ -157,8 +172,7 @@ fn commands_refused(alloc: Global, input: &[u8], rows: Refused) -> Option<Vec<&'
 
 #[test]
 fn each_request_of_a_session_is_refused(rt: HostRuntime) -> Result<(), Fail> {
-    let wanted = ["serve", "load", "post", "wait", "store", "log"].as_slice();
-    for (talk, rows) in runs() {
+    for (talk, rows, wanted) in runs() {
         let (input, _) = texts(rt.alloc(), talk.lines)?;
         let commands = commands_refused(rt.alloc(), &input, rows);
         let commands = commands.unwrap_or(Vec::new(rt.alloc()));

@@ -24,20 +24,34 @@ fn takes_none(row: &Row) -> bool {
 /// The states of a script's tickets and its lines, before a row's call.
 type Before<'b> = (&'b str, &'b [u8]);
 
-/// Makes a row's call with a request refused. Whether it was refused; None where the answer isn't E01 then, and else that of
-/// the row.
+/// What a refused request belonged to.
+#[derive(Clone, Copy, PartialEq, Eq)]
+enum Refused {
+    /// No request was refused.
+    Nothing,
+    /// The call answered E01.
+    Call,
+    /// The judging of the whole trial that the call gave, which does without.
+    Judging,
+}
+
+/// Makes a row's call with a request refused. None where the answer is neither E01 nor that of the row.
 fn meets<A: Allocator + Copy>(
     script: &mut Script<A>,
     play: &Play<A>,
     row: &Row,
     atoms: &[Atom<A>],
-) -> Option<bool> {
+) -> Option<Refused> {
     play.memory.refuse(play.n);
-    let given = script.make(row.0, row.1, atoms);
+    let given = script.make(row.0, row.1, atoms).ok();
     let refused = play.memory.was_refused();
     play.memory.refuse(0);
-    let expected = if refused { "Err(NoMemory)" } else { row.2 };
-    is_text(given, expected).then_some(refused)
+    let text = given?;
+    match refused {
+        false => (text.as_str() == row.2).then_some(Refused::Nothing),
+        true if text.as_str() == "Err(NoMemory)" => Some(Refused::Call),
+        true => (row.2.ends_with("Whole") && text.as_str() == row.2).then_some(Refused::Judging),
+    }
 }
 
 /// Makes a row's call again after it was refused. Whether it may have been, has left the script as before, and now answers as
@@ -64,8 +78,8 @@ fn is_refused<A: Allocator + Copy>(
     before: Before,
 ) -> Option<bool> {
     let refused = meets(script, play, row, atoms)?;
-    let is_right = !refused || is_made_again(script, row, atoms, before);
-    (is_right && script.has_states(row.3)).then_some(refused)
+    let is_right = refused != Refused::Call || is_made_again(script, row, atoms, before);
+    (is_right && script.has_states(row.3)).then_some(refused != Refused::Nothing)
 }
 
 /// The same after a row that has left these states.

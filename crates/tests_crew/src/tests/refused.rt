@@ -54,7 +54,11 @@ fn is_left<A: Allocator + Copy>(
 ) -> bool {
     match answer {
         // A worker whose call is refused ends, and leaves its ticket marked. Where there is another worker, that one takes it.
-        Ok(finished) => is_ended(alloc, finished, refused && workers == 1),
+        // Judging a whole trial does without, and the run goes on.
+        Ok(finished) => {
+            let marked = refused && workers == 1 && finished.end == End::Stopped;
+            is_ended(alloc, finished, marked)
+        }
         Err(fault) => refused && fault.cause == Cause::NoMemory && all_wait(&fault.book, posts),
     }
 }
@@ -78,15 +82,23 @@ struct Row {
     apart: u64,
 }
 
-/// Whether a run leaves what it is to leave with its request number `n` refused, and can be brought to its end; and whether a
-/// request was refused. None where memory ran out before it.
+/// Whether a run became quiet.
+fn is_quiet<A: Allocator>(answer: &Answer<A>) -> bool {
+    match answer {
+        Ok(finished) => finished.end == End::Quiet,
+        Err(_) => false,
+    }
+}
+
+/// Whether a run leaves what it is to leave with its request number `n` refused, and can be brought to its end; and whether it
+/// became quiet all the same, where a request was refused. None where memory ran out before it.
 fn refused_run<R: Threads + Wait + Sync>(
     rt: &R,
     memory: &Refusing<Global>,
     pool: Global,
     row: &Row,
     n: u64,
-) -> Option<(bool, bool)> {
+) -> Option<(bool, Option<bool>)> {
     let workers = row.workers;
     if workers < 1 || 16 < workers {
         return None;
@@ -97,23 +109,25 @@ fn refused_run<R: Threads + Wait + Sync>(
     let mut answer = run(rt, memory, pool, book, workers, &Open, MANY);
     let refused = memory.was_refused();
     memory.refuse(0);
+    let quiet = refused.then_some(is_quiet(&answer));
     let right = is_left(memory, &mut answer, row.posts, workers, refused);
     let ends = is_brought_to_its_end(rt, memory, pool, book_of(answer), row.rules.last);
-    Some((right && ends, refused))
+    Some((right && ends, quiet))
 }
 
-/// Refuses a request of a run, the first one first, until a run meets no refusal. Returns the last number, or as an `Err` that
-/// at which a book that came back was not the one that is to come.
+/// Refuses a request of a run, the first one first, until a run meets no refusal. Returns how many runs became quiet with a
+/// request refused, or as an `Err` the number at which a book that came back was not the one that is to come.
 fn refuse_each<R: Threads + Wait + Sync>(rt: &R, pool: Global, row: &Row) -> Result<u64, u64> {
     let memory = Refusing::new(pool, 0);
     let mut n = 0u64;
+    let mut quiet = 0u64;
     for _ in 0..100_000u64 {
         n = n
             .wrapping_add(1)
             .wrapping_add(n.checked_div(row.apart).unwrap_or(0));
         match refused_run(rt, &memory, pool, row, n) {
-            Some((true, true)) => (),
-            Some((true, false)) => return Ok(n),
+            Some((true, Some(became))) => quiet = quiet.wrapping_add(u64::from(became)),
+            Some((true, None)) => return Ok(quiet),
             _ => return Err(n),
         }
     }
@@ -127,10 +141,14 @@ static ONE_WORKER: Row = Row {
     apart: 0,
 };
 
+/// Each of 24, 36 and 48 fires with 12, and so many trials with variables are whole. What is left of each, 0, fires by a rule
+/// that has none, of which nothing is kept.
+const WHOLE_OF_FOUR: u64 = 3;
+
 #[test]
 fn one_worker_leaves_a_stray_ticket(rt: HostRuntime) {
-    let refused = refuse_each(&rt, rt.alloc(), &ONE_WORKER);
-    assert!(rt; refused.is_ok(), "at request {refused:?}");
+    let quiet = refuse_each(&rt, rt.alloc(), &ONE_WORKER);
+    assert!(rt; quiet == Ok(WHOLE_OF_FOUR), "{quiet:?}");
 }
 
 static TWO_WORKERS: Row = Row {
@@ -142,8 +160,8 @@ static TWO_WORKERS: Row = Row {
 
 #[test]
 fn two_workers_leave_a_lawful_book(rt: HostRuntime) {
-    let refused = refuse_each(&rt, rt.alloc(), &TWO_WORKERS);
-    assert!(rt; refused.is_ok(), "at request {refused:?}");
+    let quiet = refuse_each(&rt, rt.alloc(), &TWO_WORKERS);
+    assert!(rt; quiet.is_ok(), "at request {quiet:?}");
 }
 
 static COMPOUND_VALUES: Row = Row {
@@ -153,8 +171,11 @@ static COMPOUND_VALUES: Row = Row {
     apart: 0,
 };
 
+/// Each of 24 and 36 fires with 12, and then what is left of it, by a rule with a variable.
+const WHOLE_OF_THREE: u64 = 4;
+
 #[test]
 fn a_worker_is_refused_compound_values(rt: HostRuntime) {
-    let refused = refuse_each(&rt, rt.alloc(), &COMPOUND_VALUES);
-    assert!(rt; refused.is_ok(), "at request {refused:?}");
+    let quiet = refuse_each(&rt, rt.alloc(), &COMPOUND_VALUES);
+    assert!(rt; quiet == Ok(WHOLE_OF_THREE), "{quiet:?}");
 }

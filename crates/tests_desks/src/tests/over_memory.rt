@@ -122,16 +122,22 @@ impl<'m> Visit<Memory<'m>> for WithRefusal<'_> {
     }
 }
 
-/// The command of such a session that is refused, by the words above, and whether a request was.
+/// The command of such a session that is refused, by the words above, or "rule" where a rule did without the list of its nodes,
+/// and whether a request was.
 fn refused<R: Wait>(rt: &R, texts: Global, n: u64, input: &[u8]) -> Option<(&'static str, bool)> {
     let memory = Refusing::new(texts, 0);
     let session = WithRefusal { n, input, texts };
     let (ended, written) = visited(rt, &memory, texts, &session)?;
-    Some((command_refused(ended, &written)?, memory.was_refused()))
+    match command_refused(ended, &written)? {
+        "" if memory.was_refused() => Some(("rule", true)),
+        command => Some((command, memory.was_refused())),
+    }
 }
 
 /// The commands that are refused memory, in order.
-static COMMANDS: [&str; 4] = ["serve", "load", "post", "log"];
+static COMMANDS: [&str; 8] = [
+    "serve", "load", "rule", "load", "rule", "load", "post", "log",
+];
 
 #[test]
 fn each_request_of_a_session_is_refused(rt: HostRuntime) -> Result<(), Fail> {

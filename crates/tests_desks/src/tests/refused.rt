@@ -171,7 +171,7 @@ fn is_told(reply: &Reply<Memory>, told: &Told) -> bool {
 }
 
 /// Asks a desk with request number `n` of the command refused, and again where it was. Whether it was. None where the reply
-/// isn't E01 exactly then, or isn't the expected one else.
+/// isn't E01 exactly then, or isn't the expected one else. A load does without the memory for the list of a rule's nodes.
 fn is_refused<'m, D: Desk<Memory<'m>>>(
     desk: &mut D,
     memory: Memory<'m>,
@@ -180,8 +180,14 @@ fn is_refused<'m, D: Desk<Memory<'m>>>(
 ) -> Option<bool> {
     memory.refuse(n);
     let mut reply = desk.ask(command(&row.0));
-    let refused = memory.is_refused(matches!(reply, Reply::Fault(Fault::NoMemory)))?;
-    if refused {
+    let refused = memory.was_refused();
+    memory.refuse(0);
+    let fails = matches!(reply, Reply::Fault(Fault::NoMemory));
+    let does_without = refused && !fails && matches!(row.0, Asks::Load(_));
+    if fails != refused && !does_without {
+        return None;
+    }
+    if fails {
         reply = desk.ask(command(&row.0));
     }
     is_told(&reply, &row.1).then_some(refused)

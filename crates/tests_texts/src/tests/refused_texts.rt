@@ -59,14 +59,16 @@ fn count<'m>(memory: Memory<'m>, names: &mut Names<Memory<'m>>, text: Text) -> R
     }
 }
 
-/// Reads a text of this kind, and again into the same table, which then gives so many.
+/// Reads a text of this kind with request number `n` refused, and again into the same table, which then gives so many. A rule
+/// does without the memory for the list of its nodes.
 pub fn read(memory: &Refusing<Global>, n: u64, text: Text, wanted: usize) -> Option<bool> {
     let mut names = Names::new(memory);
     memory.refuse(n);
-    let refused = memory.is_refused(count(memory, &mut names, text) == Err(true));
-    if count(memory, &mut names, text) == Ok(wanted) {
-        refused
-    } else {
-        None
-    }
+    let first = count(memory, &mut names, text);
+    let refused = memory.was_refused();
+    memory.refuse(0);
+    let does_without = matches!(text, Text::Program) && first == Ok(wanted);
+    let expected = if refused { Err(true) } else { Ok(wanted) };
+    let is_right = first == expected || does_without;
+    (is_right && count(memory, &mut names, text) == Ok(wanted)).then_some(refused)
 }
