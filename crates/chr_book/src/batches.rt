@@ -7,6 +7,7 @@ ghost use Rattle.chr_book.specs.Given.{FollowsWith, GivesOrDrops, IsAskedNext, I
 
 use crate::book::Book;
 use chr_calls::{BatchReport, ClaimFault, Firing, Following, Sheet, SheetReport, TurnFault};
+use chr_rule::Program;
 use chr_search::{Judged, Search, Trial, Verdict};
 use chr_sheet::{Judgements, Reported, report};
 use std::alloc::Allocator;
@@ -60,10 +61,11 @@ impl<A: Allocator + Copy> Book<A> {
         ensures right { AllByRecursion (λ j. IsVerdict j.trial j.verdict) judgements.now.others }
     {
         // For the proof: what holds of every rule and label, and of what is whole.
-        let _rules = self.program.rules();
+        let program: &Program<A> = &self.program;
+        let _rules = program.rules();
         let _label = self.store.next_label();
         let _whole = judgements.whole();
-        report(search, judgements, &self.program, &self.plans, &self.store)
+        report(search, judgements, program, &self.plans, &self.store)
     }
 
     /// Moves the ticket's search over judged trials as [`report_batch`](Book::report_batch) does, but doesn't ask for the next one.

@@ -93,6 +93,9 @@ module _ (A : RattleType) (g : Ghosts A.Denot) where
   pub Program-send : IsSend A → IsSync A → Frees g g.dealloc_token → IsSend (Program.the_row A g)
   Program-send s y f = search (basis, Rule-send, Rule-sync) fits 5000 depth 40
 
+  pub Program-sync : IsSend A → IsSync A → Frees g g.dealloc_token → IsSync (Program.the_row A g)
+  Program-sync s y f = search (basis, Rule-send, Rule-sync) fits 5000 depth 40
+
   pub Placed-send : IsSend A → Frees g g.dealloc_token → IsSend (Placed.the_row A g)
   Placed-send s f =
       let a = Atom-send s f in
@@ -120,7 +123,7 @@ module _ (A : RattleType) (g : Ghosts A.Denot) where
   Tickets-send s y f = search (basis, maps.crosses, Ticket-send) fits 5000 depth 40
 
   pub Book-send : IsSend A → IsSync A → Frees g g.dealloc_token → IsSend (Book.the_row A g)
-  Book-send s y f = search (basis, Program-send, plans.the_send, names.the_send, Store-send, instance.the_field_send, Tickets-send, Atom-send) fits 5000 depth 40
+  Book-send s y f = search (basis, Program-send, Program-sync, plans.the_send, names.the_send, Store-send, instance.the_field_send, Tickets-send, Atom-send) fits 5000 depth 40
 
 module _ (L1 L2 A : RattleType) (p : posts.Ghosts L1.Denot) (l : ledger.Ghosts L1.Denot) (m : ledger.Ghosts L2.Denot) (g : Ghosts A.Denot) where
   Inside-send : IsSend A → IsSync A → Frees g g.dealloc_token → IsSend (Inside.the_row L1 L2 A p l m g)

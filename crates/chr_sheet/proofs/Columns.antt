@@ -36,6 +36,7 @@ pub record IsCutAt (t : Trial) (c : Column) (n : ℕ) (before : List Head) (last
   pub trials : column_trials (column_of t before) ≡ take n (column_trials c)
   pub trial : slice_get (column_trials c) n ≡ Some (at_head t last)
   pub formed : IsFormed (at_head t last)
+  pub full : length (heads_of last.rule) ≡ 1
   pub column : IsColumn (column_of t before)
 
 cut_whole : {X : Type 0} (f : X → Head) (t : Trial) (xs ys : List X) (n : ℕ) (x : X) → IsColumn (column_of t (map f xs)) → n ≤ length (map f xs) → take n xs ≡ ys ++ x ∷ [] → IsCutAt t (column_of t (map f xs)) n (map f ys) (f x)
@@ -49,13 +50,15 @@ cut_whole f t xs ys (suc k) x w h e =
     let at : g (f x) ≡ get_or (map g (map f xs)) k (g (f x)) = ap g (ap f parts.1 ∙ sym (get_or-map f xs k x (f x) (omega arith))) ∙ sym (get_or-map g (map f xs) k (f x) (g (f x)) (omega arith)) in
     let trials : column_trials (column_of t (map f ys)) ≡ take (suc k) all = ap (λ ts. t ∷ ts) (ap (map g) (ap (map f) parts.0 ∙ sym (take-map f k xs)) ∙ sym (take-map g k (map f xs))) in
     let formed = all_at IsFormed all (suc k) (g (f x)) (omega arith) at w.formed in
+    let full = all_at (λ (u : Trial). length (heads_of u.rule) ≡ 1) all (suc k) (g (f x)) (omega arith) at w.full in
     record {
       trials = trials;
       trial = slice_get_read all (length all) (suc k) (g (f x)) refl (omega arith) at;
       formed = formed.1;
+      full = full.1;
       column = record {
         alone = w.alone;
-        full = subst (AllByRecursion (λ (u : Trial). length (heads_of u.rule) ≡ 1)) (sym trials) (all_at (λ (u : Trial). length (heads_of u.rule) ≡ 1) all (suc k) (g (f x)) (omega arith) at w.full).0;
+        full = subst (AllByRecursion (λ (u : Trial). length (heads_of u.rule) ≡ 1)) (sym trials) full.0;
         formed = subst (AllByRecursion IsFormed) (sym trials) formed.0;
       };
     }

@@ -4,12 +4,20 @@ use Rattle.std.proofs.lemmas.List.{take_more, length-map, get_or-map}
 use Rattle.chr_value.specs.Atoms.{Atom}
 use Rattle.chr_rule.specs.Rules.{Simpagation}
 use Rattle.chr_guard.specs.Settled.{Places}
-use Rattle.chr_guard.proofs.Steps.{all_at}
+use Rattle.chr_guard.proofs.Steps.{all_at, read_there}
 use Rattle.chr_plan.specs.Orders.{heads_of}
 use Rattle.chr_search.specs.declared.judged.Verdict.TheVariants.{Misfit}
 use Rattle.chr_search.specs.Verdicts.{Placed, Trial, IsFormed, IsWholeUnder, at_heads}
 use Rattle.chr_search.specs.Judged.{IsVerdict}
+use Rattle.chr_sheet.specs.declared.column.OneHead.{OneHead}
 use Rattle.chr_sheet.specs.Columns.{Head, Column, IsColumn, at_head, column_trials}
+
+-- a head that is kept, by its index
+abbrev pub kept_at : List OneHead → ℕ → OneHead
+kept_at xs i = get_or xs i (record { number = 0; head = 0 })
+
+pub kept_there : (xs : List OneHead) (i : ℕ) → i < length xs → kept_at xs i ≡ get_or xs i (kept_at xs i)
+kept_there xs i h = read_there xs i (record { number = 0; head = 0 }) h
 
 pub trials_count : {X : Type 0} (f : X → Head) (c : Column) (xs : List X) → map f xs ≡ c.more → length (column_trials c) ≡ length xs + 1
 trials_count f c xs e = let count : length (map (at_head c.first) c.more) ≡ length xs = length-map c.more (at_head c.first) ∙ ap length (sym e) ∙ length-map xs f in omega arith

@@ -1,9 +1,8 @@
 -- Trials of the active label alone, at rules of one head.
-use Rattle.std.specs.Prelude.{⊤, ◌≡◌, ℕ, ◌+◌, List, [], ◌∷◌, length, map, Some}
-use Rattle.std.specs.Arc.{arc_value}
+use Rattle.std.specs.Prelude.{⊤, ◌≡◌, ℕ, ◌+◌, List, [], ◌∷◌, length, map, Option, Some, None}
 use Rattle.std.specs.List.{AllByRecursion}
 use Rattle.chr_value.specs.declared.atom.Pred.{Pred}
-use Rattle.chr_rule.specs.Rules.{Simpagation, rule_at}
+use Rattle.chr_rule.specs.Rules.{Simpagation, of_parts, rule_at}
 use Rattle.chr_rule.specs.Occurrences.{IsNextOccurrence}
 use Rattle.chr_plan.specs.Orders.{heads_of}
 use Rattle.chr_search.specs.Verdicts.{Placed, Trial, IsFormed}
@@ -15,8 +14,14 @@ pub record Head : Type 0 where
   pub number : ℕ
   pub head : ℕ
 
-abbrev pub head_of : {Z : Type 0} → CodeOneHead Z → Head
-head_of h = record { rule = arc_value h.rule; number = h.number; head = h.head }
+-- a rule, and one without heads where there is none
+abbrev pub rule_or_none : Option (Simpagation ℕ) → Simpagation ℕ
+rule_or_none (Some rule) = rule
+rule_or_none None = of_parts 0 [] [] [] []
+
+-- a head of a rule of a number among these
+abbrev pub head_in : List (Simpagation ℕ) → CodeOneHead → Head
+head_in rules h = record { rule = rule_or_none (rule_at rules h.number); number = h.number; head = h.head }
 
 -- a trial, and heads of other rules
 pub record Column : Type 0 where

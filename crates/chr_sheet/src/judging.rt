@@ -9,7 +9,7 @@ ghost use Rattle.chr_sheet.specs.Others.{others_in};
 ghost use Rattle.chr_sheet.specs.Rows.{judgements_of, kept_before, trials_of, AreMisfitsUpTo, AreRight, IsSettledAt, MustBeWhole};
 ghost use Rattle.chr_sheet.specs.Sheets.{AreJudgedInOrder, AreJudgedUpTo};
 
-use crate::column::Column;
+use crate::column::{Column, rule_of};
 use crate::not_whole::{NotWhole, Several};
 use crate::others::Others;
 use crate::row::Row;
@@ -131,13 +131,19 @@ fn count_in_column<A: Allocator + Copy, W: Watch>(
     if !is_misfit_alone(&mut binding, first.rule(), one.head, &one.atom) {
         return (0, binding.settled(alloc).ok());
     }
-    for (i, other) in column.more().iter().enumerate() {
+    let (program, more) = column.more();
+    for (i, other) in more.iter().enumerate() {
         watch.before_judging();
-        if !is_misfit_alone(&mut binding, &other.rule, other.head, &one.atom) {
+        if !is_misfit_alone(
+            &mut binding,
+            rule_of(program, *other),
+            other.head,
+            &one.atom,
+        ) {
             return (i + 1, binding.settled(alloc).ok());
         }
     }
-    (column.more().len() + 1, None)
+    (more.len() + 1, None)
 }
 
 /// How many of these trials aren't whole, before the first that is, and what is kept of that one's binding, where there is

@@ -14,7 +14,7 @@
 //! reporting.
 //!
 //! At rules of one head, trials of the active label alone lie one after another too. They are kept as a [`Column`]: the first of
-//! them, and the rules and heads of the others. Their atom is kept once.
+//! them, the heads of the others by their numbers, and the program that has them, which is shared. Their atom is kept once.
 //!
 //! - `Rows`: rows and branches of trials.
 //! - `Columns`: columns of trials.
@@ -34,7 +34,7 @@ mod row;
 mod setting;
 mod trials;
 
-pub use column::{Column, OneHead};
+pub use column::Column;
 pub use judging::{Judgements, Watch, judge};
 pub use not_whole::{NotWhole, Several};
 pub use others::Others;

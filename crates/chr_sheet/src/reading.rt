@@ -1,5 +1,6 @@
 //! Reading the next trials of a search.
 ghost use Rattle.std.specs.Prelude.{◌≡◌, ℕ, ◌<◌, ◌≤◌, ◌+◌, List, [], ◌∷◌, ◌++◌, length, map, IfOk, IsTrue, OnOk, MatchOption};
+ghost use Rattle.std.specs.Arc.{arc_value};
 ghost use Rattle.chr_plan.specs.Orders.{heads_of};
 ghost use Rattle.chr_plan.specs.Plans.{ArePlans};
 ghost use Rattle.chr_search.specs.Fronts.{MayEnd, IsFront, IsPlacedAfter, ComeAfter};
@@ -9,7 +10,7 @@ ghost use Rattle.chr_search.specs.Tree.{LeastFrom, NoneFrom};
 ghost use Rattle.chr_search.specs.Trials.{Space, older, IsTrial};
 ghost use Rattle.chr_search.specs.Verdicts.{Placed as PlacedView, Trial as TrialView, position, IsTrialOf};
 ghost use Rattle.chr_sheet.specs.Beside.{HasEnd, HasBeside, HasNoneBeside, AreEnds, AreInTurn, EndHead, last_of, next_from};
-ghost use Rattle.chr_sheet.specs.Columns.{head_of, AreNextHeads};
+ghost use Rattle.chr_sheet.specs.Columns.{head_in, AreNextHeads};
 ghost use Rattle.chr_sheet.specs.Kept.{trials_at, trials_in};
 ghost use Rattle.chr_sheet.specs.Rows.{trials_of};
 ghost use Rattle.chr_sheet.specs.Settings.{space_in, HasPlans};
@@ -28,8 +29,11 @@ use chr_value::Pred;
 use std::alloc::{AllocError, Allocator};
 use std::sync::Arc;
 
-/// How many labels a row, or heads a column, has room for at first.
+/// How many labels a row has room for at first: most have one or two.
 const FIRST_ROOM: usize = 2;
+
+/// How many heads a column has room for at first. They are small.
+const HEADS_ROOM: usize = 16;
 
 /// How many rows, columns and trials alone a sheet has room for at first.
 const SHEET_ROOM: usize = 4;
@@ -130,10 +134,10 @@ fn next_heads<A: Allocator + Copy>(
     pred: Pred,
     after: (u16, u8),
     most: usize,
-) -> Result<Vec<OneHead<A>, A>, AllocError>
+) -> Result<Vec<OneHead, A>, AllocError>
     requires { after.1 ≤ 6 }
     ensures few { IfOk result (λ heads. length heads.items ≤ most) }
-    ensures next { IfOk result (λ heads. AreNextHeads program.now pred after.0 after.1 (map head_of heads.items)) }
+    ensures next { IfOk result (λ heads. AreNextHeads program.now pred after.0 after.1 (map (head_in program.now) heads.items)) }
 {
     let (mut number, mut head) = after;
     let mut near = 0;
@@ -149,12 +153,7 @@ fn next_heads<A: Allocator + Copy>(
             break;
         }
         (number, head) = found;
-        let one = OneHead {
-            rule: Arc::try_clone(rule)?,
-            number,
-            head,
-        };
-        push_with_room(&mut heads, one, most.min(FIRST_ROOM))?;
+        push_with_room(&mut heads, OneHead { number, head }, most.min(HEADS_ROOM))?;
     }
     Ok(heads)
 }
@@ -166,8 +165,10 @@ fn in_column<A: Allocator + Copy>(
     active: Label,
     first: Trial<A>,
     most: usize,
+    program: &Arc<Program<A>, A>,
     setting: &Setting<'_, A>,
 ) -> Result<Trials<A>, AllocError>
+    requires program { arc_value program.now ≡ setting.now.program.now }
     requires plans { HasPlans setting.now }
     requires some { 1 ≤ most }
     requires full { length (heads_of first.rule) ≡ 1 }
@@ -180,11 +181,12 @@ fn in_column<A: Allocator + Copy>(
     let _given = setting.store.next_label();
     let after = (first.number(), first.head());
     let pred = first.placed()[0].atom.pred();
-    let more = next_heads(alloc, setting.program, pred, after, most - 1)?;
+    let more = next_heads(alloc, program, pred, after, most - 1)?;
     if more.is_empty() {
         return Ok(Trials::One(first));
     }
-    Ok(Trials::Column(Column::new(first, more)))
+    let program = Arc::try_clone(program)?;
+    Ok(Trials::Column(Column::new(first, program, more)))
 }
 
 /// A trial that one head is left of, with those that begin with it and have one label more, at most so many, and whether it is
@@ -229,9 +231,11 @@ fn in_turn<'s, A: Allocator + Copy>(
     active: Label,
     first: Trial<A>,
     most: usize,
+    program: &Arc<Program<A>, A>,
     setting: &Setting<'s, A>,
     binding: &mut Binding<'s, A>,
 ) -> Result<(Trials<A>, bool), AllocError>
+    requires program { arc_value program.now ≡ setting.now.program.now }
     requires plans { HasPlans setting.now }
     requires some { 1 ≤ most }
     requires first { let s = space_in setting.now active in IsTrial s (position first) × IsTrialOf s.rules s.plans s.store first }
@@ -243,7 +247,10 @@ fn in_turn<'s, A: Allocator + Copy>(
     }
     let heads = first.rule().heads();
     if heads == 1 {
-        return Ok((in_column(alloc, active, first, most, setting)?, true));
+        return Ok((
+            in_column(alloc, active, first, most, program, setting)?,
+            true,
+        ));
     }
     if first.placed().len() + 1 == heads {
         return in_branch(alloc, active, first, most, setting, binding);
@@ -315,9 +322,11 @@ fn with_those_beside<'s, A: Allocator + Copy>(
     search: &mut Search,
     first: Trial<A>,
     most: usize,
+    program: &Arc<Program<A>, A>,
     setting: &Setting<'s, A>,
     binding: &mut Binding<'s, A>,
 ) -> Result<Trials<A>, AllocError>
+    requires program { arc_value program.now ≡ setting.now.program.now }
     requires plans { HasPlans setting.now }
     requires some { 1 ≤ most }
     requires first { IsNextTrial (space_in setting.now search.old.label) search.old.place first }
@@ -326,7 +335,15 @@ fn with_those_beside<'s, A: Allocator + Copy>(
 {
     // For the proof: the labels of a trial are at most the greatest.
     let _placed = first.placed();
-    let (trials, ends_head) = in_turn(alloc, search.label(), first, most, setting, binding)?;
+    let (trials, ends_head) = in_turn(
+        alloc,
+        search.label(),
+        first,
+        most,
+        program,
+        setting,
+        binding,
+    )?;
     go_behind(search, &trials, ends_head, setting);
     Ok(trials)
 }
@@ -337,12 +354,12 @@ pub fn read<A: Allocator + Copy>(
     alloc: A,
     search: &Search,
     most: usize,
-    program: &Program<A>,
+    program: &Arc<Program<A>, A>,
     plans: &Plans<A>,
     store: &Store<A>,
 ) -> Result<Vec<Trials<A>, A>, AllocError>
-    requires { ArePlans program.now plans.now }
-    ensures { IfOk result (λ sheet. AreNext (older program.now plans.now store.now.entries search.now.label) most search.now.place (trials_in sheet.items)) }
+    requires { ArePlans (arc_value program.now) plans.now }
+    ensures { IfOk result (λ sheet. AreNext (older (arc_value program.now) plans.now store.now.entries search.now.label) most search.now.place (trials_in sheet.items)) }
 {
     let setting = Setting {
         program,
@@ -354,10 +371,18 @@ pub fn read<A: Allocator + Copy>(
     let mut binding = Binding::free(0);
     let mut left = most;
     while left > 0 {
-        let Ask::Trial(first) = ahead.candidate(alloc, program, plans, store)? else {
+        let Ask::Trial(first) = ahead.candidate(alloc, setting.program, plans, store)? else {
             break;
         };
-        let trials = with_those_beside(alloc, &mut ahead, first, left, &setting, &mut binding)?;
+        let trials = with_those_beside(
+            alloc,
+            &mut ahead,
+            first,
+            left,
+            program,
+            &setting,
+            &mut binding,
+        )?;
         left -= trials.len();
         push_with_room(&mut sheet, trials, most.min(SHEET_ROOM))?;
     }

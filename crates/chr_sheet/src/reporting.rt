@@ -16,7 +16,7 @@ ghost use Rattle.chr_sheet.specs.Rows.{judged_part, misfit, trials_of};
 ghost use Rattle.chr_sheet.specs.Settings.{space_in, HasPlans};
 ghost use Rattle.chr_sheet.specs.Sheets.{IsFireable, IsFrontOf, Reports, place_after};
 
-use crate::column::Column;
+use crate::column::{Column, rule_of};
 use crate::judging::Judgements;
 use crate::others::Others;
 use crate::row::Row;
@@ -218,9 +218,10 @@ fn meet_alone<A: Allocator + Copy>(
         met = Some(at);
         next = program.next_occurrence(pred, at.0, at.1 + 1, &mut near);
     }
-    for other in column.more() {
+    let (judged, more) = column.more();
+    for other in more {
         let at = (other.number, other.head);
-        if !is_at(program, next, at, &other.rule) {
+        if !is_at(program, next, at, rule_of(judged, *other)) {
             continue;
         }
         count += 1;

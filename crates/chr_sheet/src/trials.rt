@@ -96,7 +96,7 @@ impl<A: Allocator + Copy> Trials<A> {
             Trials::One(_) => 1,
             Trials::Row(row) => row.lasts().len(),
             Trials::Branch(row) => row.count_with_part(),
-            Trials::Column(column) => column.more().len() + 1,
+            Trials::Column(column) => column.len(),
         }
     }
 

@@ -1,16 +1,24 @@
-use Rattle.std.proofs.Common.{◌≡◌, IfOk, sym, subst}
+use Rattle.std.proofs.Common.{◌≡◌, ℕ, IfOk, sym, ap, subst, ◌∙◌}
+use Rattle.std.specs.Arc.{arc_value}
+use Rattle.chr_rule.specs.Rules.{Simpagation}
+use Rattle.chr_search.specs.Fronts.{trial_alone}
 use Rattle.chr_search.specs.Placed.{placed_as}
 use Rattle.chr_search.specs.Verdicts.{Trial, IsFormed}
-use Rattle.chr_sheet.specs.Columns.{head_of}
+use Rattle.chr_sheet.specs.Columns.{at_head, head_in}
 use Rattle.chr_sheet.proofs.Columns.{only_read, at_head_alone}
 use Rattle.chr_sheet.proofs.column.at_other_head.Goals as goal
+use Rattle.chr_sheet.proofs.column.at_other_head.Goals.{In_ok-rule}
+
+-- it is the trial of one label
+alone : (g : _) (c : In_ok-rule g) → let other = head_in c.args.program.now c.args.other in at_head c.args.first.now other ≡ trial_alone (arc_value c.in_ok-rule.rule) other.number (record { head = other.head; label = c.index-placed-0.result.label; atom = c.in_ok-copy.field-0 })
+alone g c =
+    let other = head_in c.args.program.now c.args.other in
+    let one = only_read placed_as c.placed.result.now c.index-placed-0.result c.args.first.now.placed c.placed.ensures.placed c.requires.alone c.index-placed-0.is in
+    at_head_alone c.args.first.now other (placed_as c.index-placed-0.result) c.in_ok-copy.field-0 one c.in_ok-copy.ensures
+    ∙ ap (λ (r : Simpagation ℕ). trial_alone r other.number (record { head = other.head; label = c.index-placed-0.result.label; atom = c.in_ok-copy.field-0 })) (sym (c.in_ok-rule.ensures ∙ c.rule_of.ensures))
 
 pub alone-requires : goal.alone-requires
-alone-requires g c =
-    let one = only_read placed_as c.placed.result.now c.index-placed-0.result c.args.first.now.placed c.placed.ensures.placed c.requires.alone c.index-placed-0.is in
-    subst IsFormed (at_head_alone c.args.first.now (head_of c.args.other) (placed_as c.index-placed-0.result) c.in_ok-copy.field-0 one c.in_ok-copy.ensures) c.requires.formed
+alone-requires g c = subst IsFormed (alone g (goal.at.alone-requires g c).In_ok-rule) c.requires.formed
 
 pub returns : goal.returns
-returns g c =
-    let one = only_read placed_as c.placed.result.now c.index-placed-0.result c.args.first.now.placed c.placed.ensures.placed c.requires.alone c.index-placed-0.is in
-    subst (λ (t : Trial). IfOk c.alone.result (λ made. made ≡ t)) (sym (at_head_alone c.args.first.now (head_of c.args.other) (placed_as c.index-placed-0.result) c.in_ok-copy.field-0 one c.in_ok-copy.ensures)) c.alone.ensures
+returns g c = subst (λ (t : Trial). IfOk c.alone.result (λ made. made ≡ t)) (sym (alone g (goal.at.returns g c).In_ok-rule)) c.alone.ensures

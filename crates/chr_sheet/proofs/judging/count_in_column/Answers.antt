@@ -5,20 +5,23 @@ use Rattle.chr_search.specs.declared.judged.Verdict.TheVariants.{Misfit}
 use Rattle.chr_search.specs.Verdicts.{Trial}
 use Rattle.chr_search.specs.Judged.{IsVerdict}
 use Rattle.chr_search.specs.Placed.{placed_as}
-use Rattle.chr_sheet.specs.Columns.{Column, at_head, head_of, column_trials}
+use Rattle.chr_sheet.specs.Columns.{Column, at_head, head_in, column_trials}
 use Rattle.chr_sheet.specs.Rows.{IsSettledAt}
 use Rattle.chr_sheet.proofs.Columns.{only_read}
 use Rattle.chr_sheet.proofs.InOrder.{must_be}
 use Rattle.chr_sheet.proofs.InRows.{taken_up_to, one_up_to, settled_up_to}
-use Rattle.chr_sheet.proofs.InColumns.{IsTold, trials_count, other_trial, first_told, other_told}
+use Rattle.chr_sheet.proofs.InColumns.{IsTold, trials_count, other_trial, first_told, kept_at, kept_there, other_told}
 use Rattle.chr_sheet.proofs.judging.count_in_column.Goals as goal
 use Rattle.chr_sheet.proofs.judging.count_in_column.Goals.{After-is_misfit_alone, After-is_misfit_alone-in-loop-i}
+
+pub rule_of-requires : goal.rule_of-requires
+rule_of-requires g c = (other_trial (head_in c.more.result.0.now) c.args.column.now c.more.result.1.now c.loop-i.i (kept_at c.more.result.1.now c.loop-i.i) c.first-first.ensures.column c.loop-i.invariant.more c.loop-i-test.true (kept_there c.more.result.1.now c.loop-i.i c.loop-i-test.true)).full
 
 pub is_misfit_alone-requires-in-loop-i : goal.is_misfit_alone-requires-in-loop-i
 is_misfit_alone-requires-in-loop-i g c =
     let k : Column = c.args.column.now in
-    let is = other_trial head_of k c.more-other-items.result.now c.loop-i.i c.other-item.result c.first-first.ensures.column c.loop-i.invariant.more c.loop-i-test.true c.other-item.is in
-    (omega arith, subst (λ (r : Simpagation ℕ). length (heads_of r) ≡ 1) (sym c.deref.ensures) is.full)
+    let is = other_trial (head_in c.more.result.0.now) k c.more.result.1.now c.loop-i.i (kept_at c.more.result.1.now c.loop-i.i) c.first-first.ensures.column c.loop-i.invariant.more c.loop-i-test.true (kept_there c.more.result.1.now c.loop-i.i c.loop-i-test.true) in
+    (omega arith, subst (λ (r : Simpagation ℕ). length (heads_of r) ≡ 1) (sym (c.deref.ensures ∙ c.rule_of.ensures)) is.full)
 
 -- what is told of the first trial, and of another
 told_first : (g : _) (c : After-is_misfit_alone g) → IsTold c.args.column.now 0 c.args.column.now.first c.is_misfit_alone.result c.is_misfit_alone.new.binding
@@ -28,12 +31,12 @@ told_first g c =
     let one = only_read placed_as c.placed.result.now c.index-placed-0.result k.first.placed (c.placed.ensures.placed ∙ ap (λ (t : Trial). t.placed) c.first-first.ensures.first) w.alone c.index-placed-0.is in
     first_told k (placed_as c.index-placed-0.result) c.rule.result.now c.is_misfit_alone.result c.is_misfit_alone.new.binding w one (c.rule.ensures.rule ∙ ap (λ (t : Trial). t.rule) c.first-first.ensures.first) (λ t same places formed. (c.is_misfit_alone.ensures.misfit t same places formed, λ no. c.is_misfit_alone.ensures.whole no t same places formed))
 
-told_other : (g : _) (c : After-is_misfit_alone-in-loop-i g) → IsTold c.args.column.now (c.loop-i.i + 1) (at_head c.args.column.now.first (head_of c.other-item.result)) c.is_misfit_alone-in-loop-i.result c.is_misfit_alone-in-loop-i.new.binding
+told_other : (g : _) (c : After-is_misfit_alone-in-loop-i g) → IsTold c.args.column.now (c.loop-i.i + 1) (at_head c.args.column.now.first (head_in c.more.result.0.now (kept_at c.more.result.1.now c.loop-i.i))) c.is_misfit_alone-in-loop-i.result c.is_misfit_alone-in-loop-i.new.binding
 told_other g c =
     let k : Column = c.args.column.now in
     let w = c.first-first.ensures.column in
     let one = only_read placed_as c.placed.result.now c.index-placed-0.result k.first.placed (c.placed.ensures.placed ∙ ap (λ (t : Trial). t.placed) c.first-first.ensures.first) w.alone c.index-placed-0.is in
-    other_told head_of k c.more-other-items.result.now c.loop-i.i c.other-item.result (placed_as c.index-placed-0.result) c.deref.result.now c.is_misfit_alone-in-loop-i.result c.is_misfit_alone-in-loop-i.new.binding w c.loop-i.invariant.more c.loop-i-test.true c.other-item.is one c.deref.ensures (λ t same places formed. (c.is_misfit_alone-in-loop-i.ensures.misfit t same places formed, λ no. c.is_misfit_alone-in-loop-i.ensures.whole no t same places formed))
+    other_told (head_in c.more.result.0.now) k c.more.result.1.now c.loop-i.i (kept_at c.more.result.1.now c.loop-i.i) (placed_as c.index-placed-0.result) c.deref.result.now c.is_misfit_alone-in-loop-i.result c.is_misfit_alone-in-loop-i.new.binding w c.loop-i.invariant.more c.loop-i-test.true (kept_there c.more.result.1.now c.loop-i.i c.loop-i-test.true) one (c.deref.ensures ∙ c.rule_of.ensures) (λ t same places formed. (c.is_misfit_alone-in-loop-i.ensures.misfit t same places formed, λ no. c.is_misfit_alone-in-loop-i.ensures.whole no t same places formed))
 
 pub returns-then-not-is_misfit_alone-clause-misfits : goal.returns-then-not-is_misfit_alone-clause-misfits
 returns-then-not-is_misfit_alone-clause-misfits g c =
@@ -45,7 +48,7 @@ returns-then-not-is_misfit_alone-clause-misfits g c =
 pub returns-then-not-is_misfit_alone-2-clause-misfits : goal.returns-then-not-is_misfit_alone-2-clause-misfits
 returns-then-not-is_misfit_alone-2-clause-misfits g c =
     let k : Column = c.args.column.now in
-    let t : Trial = at_head k.first (head_of c.other-item.result) in
+    let t : Trial = at_head k.first (head_in c.more.result.0.now (kept_at c.more.result.1.now c.loop-i.i)) in
     let is = told_other g (goal.at.returns-then-not-is_misfit_alone-2-clause-misfits g c).After-is_misfit_alone-in-loop-i in
     let no = c.if-not-is_misfit_alone-2.true in
     one_up_to (column_trials k) (c.loop-i.i + 1) t is.within is.there c.loop-i.invariant.misfits (must_be t is.full (λ m. let yes = is.means.1 m in absurd (cc)))
@@ -60,7 +63,7 @@ returns-then-not-is_misfit_alone-clause-settled g c =
 pub returns-then-not-is_misfit_alone-2-clause-settled : goal.returns-then-not-is_misfit_alone-2-clause-settled
 returns-then-not-is_misfit_alone-2-clause-settled g c =
     let k : Column = c.args.column.now in
-    let t : Trial = at_head k.first (head_of c.other-item.result) in
+    let t : Trial = at_head k.first (head_in c.more.result.0.now (kept_at c.more.result.1.now c.loop-i.i)) in
     let is = told_other g (goal.at.returns-then-not-is_misfit_alone-2-clause-settled g c).After-is_misfit_alone-in-loop-i in
     subst (λ o. IfSome o (IsSettledAt (column_trials k) (c.loop-i.i + 1))) (sym c.ok-then-not-is_misfit_alone-2.ensures.value)
     (settled_up_to (column_trials k) (c.loop-i.i + 1) t c.is_misfit_alone-in-loop-i.new.binding c.settled-then-not-is_misfit_alone-2.result is.within is.there (is.whole c.if-not-is_misfit_alone-2.true) c.settled-then-not-is_misfit_alone-2.ensures)
@@ -68,7 +71,7 @@ returns-then-not-is_misfit_alone-2-clause-settled g c =
 pub loop-i-preserved : goal.loop-i-preserved
 loop-i-preserved g c =
     let k : Column = c.args.column.now in
-    let t : Trial = at_head k.first (head_of c.other-item.result) in
+    let t : Trial = at_head k.first (head_in c.more.result.0.now (kept_at c.more.result.1.now c.loop-i.i)) in
     let is = told_other g (goal.at.loop-i-preserved g c).After-is_misfit_alone-in-loop-i in
     record {
       more = c.loop-i.invariant.more;
@@ -78,6 +81,6 @@ loop-i-preserved g c =
 pub returns-clause-misfits : goal.returns-clause-misfits
 returns-clause-misfits g c =
     let k : Column = c.args.column.now in
-    let xs = c.more.result.now in
-    let looked : length (column_trials k) ≡ length c.more-other-items.result.now + 1 = trials_count head_of k c.more-other-items.result.now c.loop-i.invariant.more in
-    taken_up_to (column_trials k) (c.loop-i.i + 1) (length xs + 1) (omega arith) (trials_count head_of k xs c.more.ensures.more) c.loop-i.invariant.misfits
+    let xs = c.more.result.1.now in
+    let looked : length (column_trials k) ≡ length c.more.result.1.now + 1 = trials_count (head_in c.more.result.0.now) k c.more.result.1.now c.loop-i.invariant.more in
+    taken_up_to (column_trials k) (c.loop-i.i + 1) (length xs + 1) (omega arith) (trials_count (head_in c.more.result.0.now) k xs c.more.ensures.more) c.loop-i.invariant.misfits

@@ -2,12 +2,12 @@ use Rattle.std.proofs.Common.{◌≡◌, ◌+◌, map, take}
 use Rattle.std.specs.List.{AllByRecursion}
 use Rattle.chr_search.specs.declared.judged.Verdict.TheVariants as verdicts
 use Rattle.chr_search.specs.Judged.{IsVerdict}
-use Rattle.chr_sheet.specs.Columns.{column_trials, head_of}
+use Rattle.chr_sheet.specs.Columns.{column_trials, head_in}
 use Rattle.chr_sheet.proofs.judging.count_in_column.Given as goal
 
 -- the trials so far are misfits
 abbrev pub invariant-loop-i : goal.invariant-loop-i
 invariant-loop-i g l = record {
-  more : map head_of l.other-items ≡ l.column.more;
+  more : map (head_in l.program) l.more ≡ l.column.more;
   misfits : AllByRecursion (λ t. IsVerdict t verdicts.Misfit) (take (l.i + 1) (column_trials l.column));
 }

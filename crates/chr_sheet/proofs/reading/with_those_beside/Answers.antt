@@ -13,7 +13,7 @@ pub in_turn-requires : goal.in_turn-requires
 in_turn-requires g c =
     let s : Space = space_in c.args.setting.now c.args.search.now.label in
     let first = subst (λ l. IsTrial (space_in c.args.setting.now l) (position c.args.first)) (sym c.label.ensures) (next_trial s c.args.search.now.place (position c.args.first) c.requires.first.0) in
-    (omega arith, (c.requires.plans, (c.requires.some, (first, c.requires.first.1))))
+    (omega arith, (c.requires.program, (c.requires.plans, (c.requires.some, (first, c.requires.first.1)))))
 
 pub go_behind-requires-clause-low : goal.go_behind-requires-clause-low
 go_behind-requires-clause-low g c =

@@ -1,3 +1,4 @@
+use Rattle.std.proofs.Common.{◌≡◌, ap, ◌∙◌}
 use Rattle.chr_calls.specs.Books.{BookState}
 use Rattle.chr_book.specs.Books.{book_of}
 use Rattle.chr_book.proofs.Nexts.{asked_next}
@@ -7,5 +8,6 @@ pub returns : goal.returns
 returns g c =
     let x = c.self.inside in
     let s = c.in_ok-search.search.now in
-    let b : BookState = book_of x.program x.plans x.names x.log x.store x.tickets in
-    asked_next b c.args.self.now c.self.view_is c.args.seat c.args.ticket s c.args.trial.now c.is_next.result c.in_ok-search.ensures c.placed-placed.ensures.formed c.is_next.ensures
+    let b : BookState = book_of c.deref.result.now x.plans x.names x.log x.store x.tickets in
+    let is : b ≡ c.args.self.now = ap (λ rules. book_of rules x.plans x.names x.log x.store x.tickets) c.deref.ensures ∙ c.self.view_is in
+    asked_next b c.args.self.now is c.args.seat c.args.ticket s c.args.trial.now c.is_next.result c.in_ok-search.ensures c.placed-placed.ensures.formed c.is_next.ensures

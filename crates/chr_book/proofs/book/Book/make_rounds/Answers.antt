@@ -1,6 +1,9 @@
 use Rattle.std.proofs.Common.{◌≡◌, ◌≤◌, ◌-◌, ℕ, sym, ap, ◌∙◌, subst, arith}
+use Rattle.std.specs.Arc.{arc_value}
 use Rattle.std.proofs.lemmas.Result.{err_from_is_err_and}
 use Rattle.chr_store.specs.Labels.{LabelledStore}
+use Rattle.chr_plan.specs.Plans.{ArePlans}
+use Rattle.chr_calls.specs.Headline.{IsKept}
 use Rattle.chr_calls.specs.Tickets.{ticket_at}
 use Rattle.chr_calls.specs.Books.{BookState}
 use Rattle.chr_calls.specs.Calls.{HoldsLive}
@@ -14,28 +17,31 @@ use Rattle.chr_book.proofs.book.Book.make_rounds.Goals.{After-from_residual, Aft
 
 -- ---- what has been made
 
-none : (g : Over) (c : After-from_residual g) → MakesFewer c.args.seat c.args.ticket c.args.most (book_of c.self.inside.program c.self.inside.plans c.self.inside.names c.self.inside.log c.self.inside.store c.self.inside.tickets) (book_of c.self.inside.program c.self.inside.plans c.self.inside.names c.self.inside.log c.self.inside.store c.pass_over.new.tickets)
+none : (g : Over) (c : After-from_residual g) → MakesFewer c.args.seat c.args.ticket c.args.most (book_of (arc_value c.self.inside.program) c.self.inside.plans c.self.inside.names c.self.inside.log c.self.inside.store c.self.inside.tickets) (book_of (arc_value c.self.inside.program) c.self.inside.plans c.self.inside.names c.self.inside.log c.self.inside.store c.pass_over.new.tickets)
 none g c =
     let x = c.self.inside in
     let l = c.requires.held.0 in
-    let live = subst (λ (b : BookState). HoldsLive b c.args.seat c.args.ticket l) (sym c.self.view_is) c.requires.held.1 in
-    some_rounds x.program x.plans x.names x.log x.store x.tickets c.pass_over.new.tickets c.args.seat c.args.ticket l (c.args.most - 1) c.args.most live (c.in_err-come.ensures.err l live.holds.goal) (omega (arith, c.requires.some))
+    let live = subst (λ (b : BookState). HoldsLive b c.args.seat c.args.ticket l) (sym (ap (λ rules. book_of rules x.plans x.names x.log x.store x.tickets) c.deref.ensures ∙ c.self.view_is)) c.requires.held.1 in
+    subst (λ rules. MakesFewer c.args.seat c.args.ticket c.args.most (book_of rules x.plans x.names x.log x.store x.tickets) (book_of rules x.plans x.names x.log x.store c.pass_over.new.tickets)) c.deref.ensures
+    (some_rounds c.deref.result.now x.plans x.names x.log x.store x.tickets c.pass_over.new.tickets c.args.seat c.args.ticket l (c.args.most - 1) c.args.most live (c.in_err-come.ensures.err l live.holds.goal) (omega (arith, c.requires.some)))
 
-made : (g : Over) (c : In-Ok g) → MakesRounds c.args.seat c.args.ticket (record { passed = c.in_ok-come.come.count; last = c.in-Ok.last }) (book_of c.self.inside.program c.self.inside.plans c.self.inside.names c.self.inside.log c.self.inside.store c.self.inside.tickets) (book_of c.self.inside.program c.self.inside.plans c.self.inside.names c.end_rounds.new.log c.end_rounds.new.store c.end_rounds.new.tickets)
+made : (g : Over) (c : In-Ok g) → MakesRounds c.args.seat c.args.ticket (record { passed = c.in_ok-come.come.count; last = c.in-Ok.last }) (book_of (arc_value c.self.inside.program) c.self.inside.plans c.self.inside.names c.self.inside.log c.self.inside.store c.self.inside.tickets) (book_of (arc_value c.self.inside.program) c.self.inside.plans c.self.inside.names c.end_rounds.new.log c.end_rounds.new.store c.end_rounds.new.tickets)
 made g c =
     let x = c.self.inside in
     let l = c.requires.held.0 in
-    let live = subst (λ (b : BookState). HoldsLive b c.args.seat c.args.ticket l) (sym c.self.view_is) c.requires.held.1 in
-    makes_rounds x.program x.plans x.names x.log c.end_rounds.new.log x.store c.end_rounds.new.store x.tickets c.pass_over.new.tickets c.end_rounds.new.tickets c.args.seat c.args.ticket l c.in_ok-come.come c.pass_over.new.instance c.whole.result.now c.in-Ok.last
-    c.self.invariant.0 live (c.in_ok-come.ensures.ok l live.holds.goal) c.whole.ensures c.in-Ok.ensures.ok
+    let live = subst (λ (b : BookState). HoldsLive b c.args.seat c.args.ticket l) (sym (ap (λ rules. book_of rules x.plans x.names x.log x.store x.tickets) c.deref.ensures ∙ c.self.view_is)) c.requires.held.1 in
+    subst (λ rules. MakesRounds c.args.seat c.args.ticket (record { passed = c.in_ok-come.come.count; last = c.in-Ok.last }) (book_of rules x.plans x.names x.log x.store x.tickets) (book_of rules x.plans x.names c.end_rounds.new.log c.end_rounds.new.store c.end_rounds.new.tickets)) c.deref.ensures
+    (makes_rounds c.deref.result.now x.plans x.names x.log c.end_rounds.new.log x.store c.end_rounds.new.store x.tickets c.pass_over.new.tickets c.end_rounds.new.tickets c.args.seat c.args.ticket l c.in_ok-come.come c.pass_over.new.instance c.whole.result.now c.in-Ok.last
+    (subst (λ rules. IsKept (book_of rules x.plans x.names x.log x.store x.tickets)) (sym c.deref.ensures) c.self.invariant.0) live (c.in_ok-come.ensures.ok l live.holds.goal) c.whole.ensures c.in-Ok.ensures.ok)
 
-cut : (g : Over) (c : After-truncate g) → MakesFewer c.args.seat c.args.ticket c.args.most (book_of c.self.inside.program c.self.inside.plans c.self.inside.names c.self.inside.log c.self.inside.store c.self.inside.tickets) (book_of c.self.inside.program c.self.inside.plans c.self.inside.names c.end_rounds.new.log c.end_rounds.new.store c.truncate.new.self)
+cut : (g : Over) (c : After-truncate g) → MakesFewer c.args.seat c.args.ticket c.args.most (book_of (arc_value c.self.inside.program) c.self.inside.plans c.self.inside.names c.self.inside.log c.self.inside.store c.self.inside.tickets) (book_of (arc_value c.self.inside.program) c.self.inside.plans c.self.inside.names c.end_rounds.new.log c.end_rounds.new.store c.truncate.new.self)
 cut g c =
     let x = c.self.inside in
     let l = c.requires.held.0 in
-    let live = subst (λ (b : BookState). HoldsLive b c.args.seat c.args.ticket l) (sym c.self.view_is) c.requires.held.1 in
-    cut_rounds x.program x.plans x.names x.log c.end_rounds.new.log x.store c.end_rounds.new.store x.tickets c.pass_over.new.tickets c.end_rounds.new.tickets c.truncate.new.self c.args.seat c.args.ticket l c.next-first.result c.args.most c.in_ok-come.come c.pass_over.new.instance
-    live (c.in_ok-come.ensures.ok l live.holds.goal) (omega (arith, c.in_ok-come.ensures.few, c.requires.some)) c.in_default.ensures.tickets c.truncate.ensures c.next-first.ensures.value c.in_default.ensures.log c.in_default.ensures.store
+    let live = subst (λ (b : BookState). HoldsLive b c.args.seat c.args.ticket l) (sym (ap (λ rules. book_of rules x.plans x.names x.log x.store x.tickets) c.deref.ensures ∙ c.self.view_is)) c.requires.held.1 in
+    subst (λ rules. MakesFewer c.args.seat c.args.ticket c.args.most (book_of rules x.plans x.names x.log x.store x.tickets) (book_of rules x.plans x.names c.end_rounds.new.log c.end_rounds.new.store c.truncate.new.self)) c.deref.ensures
+    (cut_rounds c.deref.result.now x.plans x.names x.log c.end_rounds.new.log x.store c.end_rounds.new.store x.tickets c.pass_over.new.tickets c.end_rounds.new.tickets c.truncate.new.self c.args.seat c.args.ticket l c.next-first.result c.args.most c.in_ok-come.come c.pass_over.new.instance
+    live (c.in_ok-come.ensures.ok l live.holds.goal) (omega (arith, c.in_ok-come.ensures.few, c.requires.some)) c.in_default.ensures.tickets c.truncate.ensures c.next-first.ensures.value c.in_default.ensures.log c.in_default.ensures.store)
 
 -- ---- the goals
 
@@ -49,8 +55,8 @@ pub end_rounds-requires : goal.end_rounds-requires
 end_rounds-requires g c =
     let x = c.self.inside in
     let l = c.requires.held.0 in
-    let live = subst (λ (b : BookState). HoldsLive b c.args.seat c.args.ticket l) (sym c.self.view_is) c.requires.held.1 in
-    whole_goal (book_of x.program x.plans x.names x.log x.store x.tickets) c.pass_over.new.tickets c.args.seat c.args.ticket l c.in_ok-come.come c.pass_over.new.instance c.whole.result.now live (c.in_ok-come.ensures.ok l live.holds.goal) c.whole.ensures
+    let live = subst (λ (b : BookState). HoldsLive b c.args.seat c.args.ticket l) (sym (ap (λ rules. book_of rules x.plans x.names x.log x.store x.tickets) c.deref.ensures ∙ c.self.view_is)) c.requires.held.1 in
+    whole_goal (book_of c.deref.result.now x.plans x.names x.log x.store x.tickets) c.pass_over.new.tickets c.args.seat c.args.ticket l c.in_ok-come.come c.pass_over.new.instance c.whole.result.now live (c.in_ok-come.ensures.ok l live.holds.goal) c.whole.ensures
 
 pub invariant_of-self-in-Ok-1 : goal.invariant_of-self-in-Ok-1
 invariant_of-self-in-Ok-1 g c = (
@@ -62,7 +68,7 @@ pub invariant_of-self-in_default : goal.invariant_of-self-in_default
 invariant_of-self-in_default g c = (fewer_keep _ _ _ _ _ (cut g c) c.self.invariant.0, ap (λ (z : LabelledStore). z.limit) c.in_default.ensures.store ∙ c.self.invariant.1)
 
 pub returns-in_default-clause-err : goal.returns-in_default-clause-err
-returns-in_default-clause-err g c = subst (λ (b : BookState). MakesFewer c.args.seat c.args.ticket c.args.most b (book_of c.self.inside.program c.self.inside.plans c.self.inside.names c.end_rounds.new.log c.end_rounds.new.store c.truncate.new.self)) c.self.view_is (cut g c)
+returns-in_default-clause-err g c = subst (λ (b : BookState). MakesFewer c.args.seat c.args.ticket c.args.most b (book_of (arc_value c.self.inside.program) c.self.inside.plans c.self.inside.names c.end_rounds.new.log c.end_rounds.new.store c.truncate.new.self)) c.self.view_is (cut g c)
 
 pub returns-clause-ok : goal.returns-clause-ok
 returns-clause-ok g c = rounds_of c.self.view_is (made g c)
@@ -76,7 +82,7 @@ pub pass_over-requires-clause-active : goal.pass_over-requires-clause-active
 pass_over-requires-clause-active g c = (c.requires.held.0, ap (λ (b : BookState). (ticket_at b.tickets c.args.ticket).goal) c.self.view_is ∙ c.requires.held.1.holds.goal)
 
 pub pass_over-requires-clause-plans : goal.pass_over-requires-clause-plans
-pass_over-requires-clause-plans g c = c.self.invariant.0.plans
+pass_over-requires-clause-plans g c = subst (λ rules. ArePlans rules c.self.inside.plans) (sym c.deref.ensures) c.self.invariant.0.plans
 
 pub returns-in_err-come-clause-few : goal.returns-in_err-come-clause-few
 returns-in_err-come-clause-few g c = rw (err_from_is_err_and c.from_residual.result c.from_residual.ensures.1).1 tt

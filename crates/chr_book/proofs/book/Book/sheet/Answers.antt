@@ -1,4 +1,5 @@
 use Rattle.std.proofs.Common.{rules, ◌≡◌, suc, ◌-◌, slice_get, Some, None, refl, arith}
+use Rattle.std.specs.Arc.{arc_value}
 use Rattle.std.proofs.lemmas.Result.{err_from_is_err_and}
 use Rattle.chr_sheet.specs.Kept.{trials_in}
 use Rattle.chr_calls.specs.Books.{BookState}
@@ -11,7 +12,7 @@ use Rattle.chr_book.proofs.book.Book.sheet.Goals as goal
 pub returns-in_default-first : goal.returns-in_default-first
 returns-in_default-first g c =
     let x = c.self.inside in
-    let b : BookState = book_of x.program x.plans x.names x.log x.store x.tickets in
+    let b : BookState = book_of (arc_value x.program) x.plans x.names x.log x.store x.tickets in
     let live = live_is c.args.self.now c.args.seat c.args.ticket c.in_ok-search.field-0 c.in-Some.search c.in_ok-search.ensures c.in-Some.is in
     let one : c.max.result ≡ suc (c.args.most - 1) = omega arith in
     let at : slice_get c.in-Ok.trials.items 0 ≡ None = search rules in
@@ -21,7 +22,7 @@ returns-in_default-first g c =
 pub set_candidate-requires : goal.set_candidate-requires
 set_candidate-requires g c =
     let x = c.self.inside in
-    let b : BookState = book_of x.program x.plans x.names x.log x.store x.tickets in
+    let b : BookState = book_of (arc_value x.program) x.plans x.names x.log x.store x.tickets in
     let live = live_is c.args.self.now c.args.seat c.args.ticket c.in_ok-search.field-0 c.in-Some.search c.in_ok-search.ensures c.in-Some.is in
     let one : c.max.result ≡ suc (c.args.most - 1) = omega arith in
     let at : slice_get c.in-Ok.trials.items 0 ≡ Some c.in-Some-first.first.now = search rules in
@@ -32,7 +33,7 @@ pub returns : goal.returns
 returns g c =
     let x = c.self.inside in
     let now = c.args.self.now in
-    let b : BookState = book_of x.program x.plans x.names x.log x.store x.tickets in
+    let b : BookState = book_of (arc_value x.program) x.plans x.names x.log x.store x.tickets in
     let live = live_is now c.args.seat c.args.ticket c.in_ok-search.field-0 c.in-Some.search c.in_ok-search.ensures c.in-Some.is in
     let one : c.max.result ≡ suc (c.args.most - 1) = omega arith in
     let at : slice_get c.in-Ok.trials.items 0 ≡ Some c.in-Some-first.first.now = search rules in

@@ -1,10 +1,13 @@
 use Rattle.std.proofs.Common.{◌≡◌, ◌-◌, ◌≤◌, ℕ, sym, ap, subst, ◌∙◌, arith}
+use Rattle.std.specs.Arc.{arc_value}
 use Rattle.chr_store.specs.Labels.{entered}
 use Rattle.chr_search.specs.Positions.{beginning}
 use Rattle.chr_search.specs.Reach.{SearchState}
 use Rattle.chr_search.specs.Trials.{older}
 use Rattle.chr_search.specs.declared.search.Whole.{Whole}
 use Rattle.chr_calls.specs.declared.answers.TicketState.TheVariants.{Waiting}
+use Rattle.chr_plan.specs.Plans.{ArePlans}
+use Rattle.chr_calls.specs.Headline.{IsKept}
 use Rattle.chr_calls.specs.Tickets.{state_of}
 use Rattle.chr_calls.specs.Books.{BookState}
 use Rattle.chr_book.specs.Books.{book_of}
@@ -17,31 +20,33 @@ use Rattle.chr_book.proofs.book.Book.start_rounds.Goals.{After-take_back, In-Ok-
 
 -- ---- what has been made
 
-none : (g : Over) (c : After-take_back g) → StartsFewer c.args.seat c.args.ticket c.args.most (book_of c.self.inside.program c.self.inside.plans c.self.inside.names c.self.inside.log c.self.inside.store c.self.inside.tickets) (book_of c.self.inside.program c.self.inside.plans c.self.inside.names c.self.inside.log c.self.inside.store c.take_back.new.tickets)
+none : (g : Over) (c : After-take_back g) → StartsFewer c.args.seat c.args.ticket c.args.most (book_of (arc_value c.self.inside.program) c.self.inside.plans c.self.inside.names c.self.inside.log c.self.inside.store c.self.inside.tickets) (book_of (arc_value c.self.inside.program) c.self.inside.plans c.self.inside.names c.self.inside.log c.self.inside.store c.take_back.new.tickets)
 none g c =
     let x = c.self.inside in
-    let out = is_lent (book_of x.program x.plans x.names x.log x.store x.tickets) c.args.self.now c.self.view_is c.args.ticket c.swap_atom.new.other x.started c.swap_atom.new.self c.requires.waiting c.swap_atom.ensures.atom c.swap_atom.ensures.rest in
-    stays_as_is x.program x.plans x.names x.log x.store x.tickets c.swap_atom.new.self c.pass_over_before.new.tickets c.take_back.new.tickets c.args.seat c.args.ticket c.args.most c.next-first.result c.swap_atom.new.other out c.in_default.ensures.err c.next-first.ensures.value c.take_back.ensures.waits
+    let out = is_lent (book_of (arc_value x.program) x.plans x.names x.log x.store x.tickets) c.args.self.now c.self.view_is c.args.ticket c.swap_atom.new.other x.started c.swap_atom.new.self c.requires.waiting c.swap_atom.ensures.atom c.swap_atom.ensures.rest in
+    stays_as_is (arc_value x.program) x.plans x.names x.log x.store x.tickets c.swap_atom.new.self c.pass_over_before.new.tickets c.take_back.new.tickets c.args.seat c.args.ticket c.args.most c.next-first.result c.swap_atom.new.other out c.in_default.ensures.err c.next-first.ensures.value c.take_back.ensures.waits
 
-made : (g : Over) (c : In-Ok-end_start g) → StartsRounds c.args.seat c.args.ticket (record { passed = c.in-Ok.come.count; last = c.in-Ok-end_start.last }) (book_of c.self.inside.program c.self.inside.plans c.self.inside.names c.self.inside.log c.self.inside.store c.self.inside.tickets) (book_of c.self.inside.program c.self.inside.plans c.self.inside.names c.end_start.new.log c.end_start.new.store c.end_start.new.tickets)
+made : (g : Over) (c : In-Ok-end_start g) → StartsRounds c.args.seat c.args.ticket (record { passed = c.in-Ok.come.count; last = c.in-Ok-end_start.last }) (book_of (arc_value c.self.inside.program) c.self.inside.plans c.self.inside.names c.self.inside.log c.self.inside.store c.self.inside.tickets) (book_of (arc_value c.self.inside.program) c.self.inside.plans c.self.inside.names c.end_start.new.log c.end_start.new.store c.end_start.new.tickets)
 made g c =
     let x = c.self.inside in
     let waits = subst (λ (b : BookState). state_of b.tickets c.args.ticket ≡ Waiting) (sym c.self.view_is) c.requires.waiting in
-    started x.program x.plans x.names x.log c.end_start.new.log x.store c.end_start.new.store x.tickets c.swap_atom.new.self c.pass_over_before.new.tickets c.end_start.new.tickets c.args.seat c.args.ticket c.swap_atom.new.other c.begin-search.result c.pass_over_before.new.search.place c.in-Ok.come c.pass_over_before.new.instance c.whole.result.now c.in-Ok-end_start.last
-    (record { kept = c.self.invariant.0; waits = waits; atom = c.swap_atom.ensures.atom; room = subst (λ (b : BookState). b.next ≤ b.limit) (sym c.self.view_is) c.requires.room })
+    subst (λ rules. StartsRounds c.args.seat c.args.ticket (record { passed = c.in-Ok.come.count; last = c.in-Ok-end_start.last }) (book_of rules x.plans x.names x.log x.store x.tickets) (book_of rules x.plans x.names c.end_start.new.log c.end_start.new.store c.end_start.new.tickets)) c.deref.ensures
+    (started c.deref.result.now x.plans x.names x.log c.end_start.new.log x.store c.end_start.new.store x.tickets c.swap_atom.new.self c.pass_over_before.new.tickets c.end_start.new.tickets c.args.seat c.args.ticket c.swap_atom.new.other c.begin-search.result c.pass_over_before.new.search.place c.in-Ok.come c.pass_over_before.new.instance c.whole.result.now c.in-Ok-end_start.last
+    (record { kept = subst (λ rules. IsKept (book_of rules x.plans x.names x.log x.store x.tickets)) (sym c.deref.ensures) c.self.invariant.0; waits = waits; atom = c.swap_atom.ensures.atom; room = subst (λ (b : BookState). b.next ≤ b.limit) (sym c.self.view_is) c.requires.room })
     (record { waits = waits; atom = c.swap_atom.ensures.atom; other = x.started; lent_is = c.swap_atom.ensures.rest })
     (c.begin-search.ensures ∙ ap (λ (l : ℕ). record { label = l; place = beginning }) c.next_label.ensures.value)
-    c.in-Ok.ensures.ok c.whole.ensures c.in-Ok-end_start.ensures.ok
+    c.in-Ok.ensures.ok c.whole.ensures c.in-Ok-end_start.ensures.ok)
 
-cut : (g : Over) (c : After-take_back-in_default-end_start g) → StartsFewer c.args.seat c.args.ticket c.args.most (book_of c.self.inside.program c.self.inside.plans c.self.inside.names c.self.inside.log c.self.inside.store c.self.inside.tickets) (book_of c.self.inside.program c.self.inside.plans c.self.inside.names c.end_start.new.log c.end_start.new.store c.take_back-in_default-end_start.new.tickets)
+cut : (g : Over) (c : After-take_back-in_default-end_start g) → StartsFewer c.args.seat c.args.ticket c.args.most (book_of (arc_value c.self.inside.program) c.self.inside.plans c.self.inside.names c.self.inside.log c.self.inside.store c.self.inside.tickets) (book_of (arc_value c.self.inside.program) c.self.inside.plans c.self.inside.names c.end_start.new.log c.end_start.new.store c.take_back-in_default-end_start.new.tickets)
 cut g c =
     let x = c.self.inside in
     let waits = subst (λ (b : BookState). state_of b.tickets c.args.ticket ≡ Waiting) (sym c.self.view_is) c.requires.waiting in
-    started_fewer x.program x.plans x.names x.log c.end_start.new.log x.store c.end_start.new.store x.tickets c.swap_atom.new.self c.pass_over_before.new.tickets c.end_start.new.tickets c.take_back-in_default-end_start.new.tickets c.args.seat c.args.ticket c.args.most c.next-first.result c.swap_atom.new.other c.begin-search.result c.pass_over_before.new.search.place c.in-Ok.come c.pass_over_before.new.instance
-    (record { kept = c.self.invariant.0; waits = waits; atom = c.swap_atom.ensures.atom; room = subst (λ (b : BookState). b.next ≤ b.limit) (sym c.self.view_is) c.requires.room })
+    subst (λ rules. StartsFewer c.args.seat c.args.ticket c.args.most (book_of rules x.plans x.names x.log x.store x.tickets) (book_of rules x.plans x.names c.end_start.new.log c.end_start.new.store c.take_back-in_default-end_start.new.tickets)) c.deref.ensures
+    (started_fewer c.deref.result.now x.plans x.names x.log c.end_start.new.log x.store c.end_start.new.store x.tickets c.swap_atom.new.self c.pass_over_before.new.tickets c.end_start.new.tickets c.take_back-in_default-end_start.new.tickets c.args.seat c.args.ticket c.args.most c.next-first.result c.swap_atom.new.other c.begin-search.result c.pass_over_before.new.search.place c.in-Ok.come c.pass_over_before.new.instance
+    (record { kept = subst (λ rules. IsKept (book_of rules x.plans x.names x.log x.store x.tickets)) (sym c.deref.ensures) c.self.invariant.0; waits = waits; atom = c.swap_atom.ensures.atom; room = subst (λ (b : BookState). b.next ≤ b.limit) (sym c.self.view_is) c.requires.room })
     (record { waits = waits; atom = c.swap_atom.ensures.atom; other = x.started; lent_is = c.swap_atom.ensures.rest })
     (c.begin-search.ensures ∙ ap (λ (l : ℕ). record { label = l; place = beginning }) c.next_label.ensures.value)
-    c.in-Ok.ensures.ok (omega (arith, c.in-Ok.ensures.few, c.requires.some)) c.in_default-end_start.ensures.err c.next-first.ensures.value c.take_back-in_default-end_start.ensures.waits c.take_back-in_default-end_start.ensures.other
+    c.in-Ok.ensures.ok (omega (arith, c.in-Ok.ensures.few, c.requires.some)) c.in_default-end_start.ensures.err c.next-first.ensures.value c.take_back-in_default-end_start.ensures.waits c.take_back-in_default-end_start.ensures.other)
 
 -- ---- the goals
 
@@ -51,12 +56,12 @@ invariant_of-self g c = (starts_fewer_keep _ _ _ _ _ (none g c) c.self.invariant
 pub returns-in_default-clause-err : goal.returns-in_default-clause-err
 returns-in_default-clause-err g c =
     let x = c.self.inside in
-    subst (λ (b : BookState). StartsFewer c.args.seat c.args.ticket c.args.most b (book_of x.program x.plans x.names x.log x.store c.take_back.new.tickets)) c.self.view_is (none g c)
+    subst (λ (b : BookState). StartsFewer c.args.seat c.args.ticket c.args.most b (book_of (arc_value x.program) x.plans x.names x.log x.store c.take_back.new.tickets)) c.self.view_is (none g c)
 
 pub end_start-requires-clause-waiting : goal.end_start-requires-clause-waiting
 end_start-requires-clause-waiting g c =
     let x = c.self.inside in
-    let out = is_lent (book_of x.program x.plans x.names x.log x.store x.tickets) c.args.self.now c.self.view_is c.args.ticket c.swap_atom.new.other x.started c.swap_atom.new.self c.requires.waiting c.swap_atom.ensures.atom c.swap_atom.ensures.rest in
+    let out = is_lent (book_of (arc_value x.program) x.plans x.names x.log x.store x.tickets) c.args.self.now c.self.view_is c.args.ticket c.swap_atom.new.other x.started c.swap_atom.new.self c.requires.waiting c.swap_atom.ensures.atom c.swap_atom.ensures.rest in
     let found = c.in-Ok.ensures.ok in
     waits_before found.more c.pass_over_before.new.tickets out found.tickets
 
@@ -75,7 +80,7 @@ invariant_of-self-in_default-end_start g c = (
 pub returns-in_default-end_start-clause-err : goal.returns-in_default-end_start-clause-err
 returns-in_default-end_start-clause-err g c =
     let x = c.self.inside in
-    subst (λ (b : BookState). StartsFewer c.args.seat c.args.ticket c.args.most b (book_of x.program x.plans x.names c.end_start.new.log c.end_start.new.store c.take_back-in_default-end_start.new.tickets)) c.self.view_is (cut g c)
+    subst (λ (b : BookState). StartsFewer c.args.seat c.args.ticket c.args.most b (book_of (arc_value x.program) x.plans x.names c.end_start.new.log c.end_start.new.store c.take_back-in_default-end_start.new.tickets)) c.self.view_is (cut g c)
 
 pub returns-clause-ok : goal.returns-clause-ok
 returns-clause-ok g c = started_of c.self.view_is (made g (goal.at.returns-clause-ok g c).In-Ok-end_start)
@@ -89,7 +94,7 @@ pub swap_atom-requires : goal.swap_atom-requires
 swap_atom-requires g c = subst (λ (b : BookState). state_of b.tickets c.args.ticket ≡ Waiting) (sym c.self.view_is) c.requires.waiting
 
 pub pass_over_before-requires-clause-plans : goal.pass_over_before-requires-clause-plans
-pass_over_before-requires-clause-plans g c = c.self.invariant.0.plans
+pass_over_before-requires-clause-plans g c = subst (λ rules. ArePlans rules c.self.inside.plans) (sym c.deref.ensures) c.self.invariant.0.plans
 
 pub pass_over_before-requires-clause-label : goal.pass_over_before-requires-clause-label
 pass_over_before-requires-clause-label g c = ap (λ (z : SearchState). z.label) c.begin-search.ensures ∙ c.next_label.ensures.value
@@ -108,7 +113,7 @@ end_start-requires-clause-found g c =
     let x = c.self.inside in
     let found = c.in-Ok.ensures.ok in λ is.
     ap (λ (w : Whole). w.past.label) c.whole.ensures
-    ∙ finds_label (older x.program x.plans (entered x.store c.swap_atom.new.other).entries c.begin-search.result.label) c.pass_over_before.new.search.place c.in-Ok.come.then c.pass_over_before.new.instance found.binding found.next is
+    ∙ finds_label (older c.deref.result.now x.plans (entered x.store c.swap_atom.new.other).entries c.begin-search.result.label) c.pass_over_before.new.search.place c.in-Ok.come.then c.pass_over_before.new.instance found.binding found.next is
     ∙ ap (λ (z : SearchState). z.label) c.begin-search.ensures ∙ c.next_label.ensures.value
 
 pub take_back-requires-in_default-end_start : goal.take_back-requires-in_default-end_start

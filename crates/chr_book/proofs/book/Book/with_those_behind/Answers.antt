@@ -1,5 +1,6 @@
-use Rattle.std.proofs.Common.{rules, ◌≡◌, ◌<◌, ◌+◌, ◌-◌, ℕ, List, [], ◌∷◌, ◌++◌, length, length-append, ap, subst, ◌∙◌, arith}
+use Rattle.std.proofs.Common.{rules, ◌≡◌, ◌<◌, ◌+◌, ◌-◌, ℕ, List, [], ◌∷◌, ◌++◌, length, length-append, ap, subst, ◌∙◌, arith, sym}
 use Rattle.std.proofs.lemmas.Result.{err_from_is_err_and}
+use Rattle.chr_plan.specs.Plans.{ArePlans}
 use Rattle.chr_search.specs.Verdicts.{Trial}
 use Rattle.chr_calls.specs.Books.{BookState, space_of}
 use Rattle.chr_calls.specs.Batches.{IsNextBeside, NoneBeside}
@@ -11,7 +12,7 @@ use Rattle.chr_book.proofs.book.Book.with_those_behind.Goals as goal
 pub loop-program-preserved : goal.loop-program-preserved
 loop-program-preserved g c =
     let x = c.self.inside in
-    let b : BookState = book_of x.program x.plans x.names x.log x.store x.tickets in
+    let b : BookState = book_of c.deref.result.now x.plans x.names x.log x.store x.tickets in
     let l = c.args.search.now.label in
     let s = space_of c.args.self.now l in
     let trials = c.loop-program.trials.items in
@@ -19,13 +20,13 @@ loop-program-preserved g c =
     let less : length trials < 16 = search rules in
     let there = last_there (IsNextBeside s) (NoneBeside s) 16 c.args.first trials (16 - length trials) c.loop-program.invariant last in
     let is : last ≡ c.loop-program.invariant.last = search rules in
-    let next = behind_told b c.args.self.now c.self.view_is l last c.in-Trial.next c.in_ok-next.field-0 c.in_ok-next.ensures c.in-Trial.is in
+    let same : b ≡ c.args.self.now = ap (λ rules. book_of rules x.plans x.names x.log x.store x.tickets) c.deref.ensures ∙ c.self.view_is in
+    let next = behind_told b c.args.self.now same l last c.in-Trial.next c.in_ok-next.field-0 c.in_ok-next.ensures c.in-Trial.is in
     together_next (IsNextBeside s) (NoneBeside s) 16 c.args.first last c.in-Trial.next trials c.push-in-loop-program.new.self.items less c.loop-program.invariant is next (search rules)
 
 pub returns : goal.returns
 returns g c =
     let x = c.self.inside in
-    let b : BookState = book_of x.program x.plans x.names x.log x.store x.tickets in
     let l = c.args.search.now.label in
     let s = space_of c.args.self.now l in
     let trials = c.loop-program.trials.items in
@@ -36,7 +37,7 @@ returns g c =
           let less : length trials < 16 = search rules in
           let there = last_there (IsNextBeside s) (NoneBeside s) 16 c.args.first trials (16 - length trials) c.loop-program.invariant last in
           let is : last ≡ c.loop-program.invariant.last = search rules in
-          together_end (IsNextBeside s) (NoneBeside s) 16 c.args.first last trials less c.loop-program.invariant is (none_told b c.args.self.now c.self.view_is l last w.in_ok-next.field-0 w.in_ok-next.ensures w.in_default.is)
+          together_end (IsNextBeside s) (NoneBeside s) 16 c.args.first last trials less c.loop-program.invariant is (none_told (book_of w.deref.result.now x.plans x.names x.log x.store x.tickets) c.args.self.now (ap (λ rules. book_of rules x.plans x.names x.log x.store x.tickets) w.deref.ensures ∙ c.self.view_is) l last w.in_ok-next.field-0 w.in_ok-next.ensures w.in_default.is)
     ]
 
 pub returns-in_err-trials : goal.returns-in_err-trials
@@ -63,7 +64,7 @@ index-last-requires g c =
     omega (arith, c.len-in-loop-program.ensures)
 
 pub behind-requires : goal.behind-requires
-behind-requires g c = c.self.invariant.0.plans
+behind-requires g c = subst (λ rules. ArePlans rules c.self.inside.plans) (sym c.deref.ensures) c.self.invariant.0.plans
 
 pub returns-in_err-next : goal.returns-in_err-next
 returns-in_err-next g c = rw (err_from_is_err_and c.from_residual-in_err-next.result c.from_residual-in_err-next.ensures.1).1 tt
