@@ -1,18 +1,19 @@
 -- An index of the heads of rules.
-use Rattle.std.proofs.Common.{◌≡◌, ℕ, zero, suc, ◌+◌, ◌-◌, ◌<◌, ◌≤◌, ◌⊎◌, inl, inr, List, [], ◌∷◌, ◌++◌, length, get_or, Some, None, slice_get, map, Bool, true, false, not, ◌&&◌, eqb, refl, sym, ap, ap₂, subst, ◌∙◌, arith, length-append}
+use Rattle.std.proofs.Common.{◌≡◌, ℕ, zero, suc, ◌+◌, ◌-◌, ◌<◌, ◌≤◌, ◌⊎◌, inl, inr, List, [], ◌∷◌, ◌++◌, length, get_or, drop, Some, None, slice_get, map, Bool, true, false, not, ◌&&◌, eqb, refl, sym, ap, ap₂, subst, ◌∙◌, arith, length-append}
 use Rattle.std.proofs.Math.Nat.{eq-or-lt_of_le}
-use Rattle.std.proofs.lemmas.Option.{slice_get_within, get_or_from_slice_get}
+use Rattle.std.proofs.lemmas.Option.{slice_get_within}
 use Rattle.std.proofs.lemmas.Bool.Decides.{nat_tests}
-use Rattle.std.proofs.lemmas.List.{length-map, get_or_default}
-use Rattle.std.proofs.lemmas.List.Sorted.{IsPermutation-sym, IsPermutation-insert, Contains-permutation, IsNonDecreasingBy-insert}
+use Rattle.std.proofs.lemmas.List.{length-map}
+use Rattle.std.proofs.lemmas.List.Elements.{Contains-get_or}
+use Rattle.std.proofs.lemmas.List.Sorted.{IsPermutation-sym, IsPermutation-insert, Contains-permutation}
 use Rattle.std.specs.List.{Contains, insert, AllByRecursion}
 use Rattle.std.specs.List.Sorted.{IsNonDecreasingBy}
 use Rattle.chr_value.specs.declared.atom.Pred.{Pred}
 use Rattle.chr_rule.specs.declared.occurrences.Occurrence.{Occurrence}
 use Rattle.chr_rule.specs.Rules.{RuleAtom, Simpagation, head_at, rule_at}
 use Rattle.chr_rule.specs.Scope.{IsRule}
-use Rattle.chr_rule.specs.Occurrences.{HasPred, HasPredAt, IsOccurrence, AtOrAfter, NoneFrom, IsNextOccurrence}
-use Rattle.chr_rule.specs.Index.{rank, FitsRank, IsInOrder, IsIndexOf, HasNoneFrom, IsLeastFrom, HasInserted, HasHeadsBelow, HasHeadsOf}
+use Rattle.chr_rule.specs.Occurrences.{HasPred, HasPredAt, IsOccurrence, AtOrAfter, NoneFrom, IsNextOccurrence, AreListedFrom}
+use Rattle.chr_rule.specs.Index.{rank, FitsRank, IsRising, IsInOrder, IsIndexOf, IsRestFrom, HasInserted, HasHeadsBelow, HasHeadsOf}
 
 -- what an insert leaves
 
@@ -32,41 +33,6 @@ inserted old i one o =
       λ h. (let at = Contains-permutation (insert old i one) (one ∷ old) o (IsPermutation-sym _ _ moved) h in front_or_rest one o old at.0 at.1 at.2),
       λ h. Contains-permutation (one ∷ old) (insert old i one) o moved (elim h [ inl rest ↦ in_rest one o old rest | inr front ↦ in_front one o old front ]),
     )
-
-pub inserted_in_order : (old : List Occurrence) (i : ℕ) (one : Occurrence) → IsInOrder old → FitsRank one → i ≤ length old → ((k : ℕ) (d : Occurrence) → k < i → rank (get_or old k d) < rank one) → ((k : ℕ) (d : Occurrence) → i ≤ k → k < length old → rank one ≤ rank (get_or old k d)) → IsInOrder (insert old i one)
-inserted_in_order old i one order fits within front later = record {
-  rising = IsNonDecreasingBy-insert rank old i one order.rising within (λ k d l. (let below = front k d l in omega (arith, below))) later;
-  fit = λ o h. elim ((inserted old i one o).0 h) [ inl before ↦ order.fit o before | inr last ↦ subst FitsRank last fits ];
-}
-
--- at a place, what lies between its neighbours: the occurrences before it are below a rank, and those from it on are not
-pub front_near : (list : List Occurrence) (i r : ℕ) (e : Occurrence) → IsNonDecreasingBy rank list → i < length list → rank (get_or list (i - 1) e) < r → (k : ℕ) (d : Occurrence) → k < i → rank (get_or list k d) < r
-front_near list i r e rising within below k d before =
-    let up = rising k (i - 1) d (omega (arith, before)) (omega (arith, within)) in
-    let same = ap rank (get_or_default list (i - 1) d e (omega (arith, within))) in
-    omega (arith, up, same, below)
-
-pub later_near : (list : List Occurrence) (i r : ℕ) (e : Occurrence) → IsNonDecreasingBy rank list → i < length list → r ≤ rank (get_or list i e) → (k : ℕ) (d : Occurrence) → i ≤ k → k < length list → r ≤ rank (get_or list k d)
-later_near list i r e rising within above k d from last =
-    let up = rising i k d from last in
-    let same = ap rank (get_or_default list i d e within) in
-    omega (arith, up, same, above)
-
--- the first that is not before one
-pub none_found : (list : List Occurrence) (from : Occurrence) (i : ℕ) → length list ≤ i → ((k : ℕ) (d : Occurrence) → k < i → rank (get_or list k d) < rank from) → HasNoneFrom list from
-none_found list from i past front o h = let l = h.1 in subst (λ (x : Occurrence). rank x < rank from) h.2 (front h.0 o (omega (arith, l)))
-
-pub least_found : (list : List Occurrence) (from found : Occurrence) (i : ℕ) → IsNonDecreasingBy rank list → slice_get list i ≡ Some found → ((k : ℕ) (d : Occurrence) → k < i → rank (get_or list k d) < rank from) → ((k : ℕ) (d : Occurrence) → i ≤ k → k < length list → rank from ≤ rank (get_or list k d)) → IsLeastFrom list from found
-least_found list from found i rising at front later =
-    let within = slice_get_within list i found at in
-    let is = λ (d : Occurrence). get_or_from_slice_get list i found d at in
-    record {
-      listed = (i, within, is found);
-      after = subst (λ (x : Occurrence). rank from ≤ rank x) (is found) (later i found (omega arith) within);
-      least = λ o h a.
-          let past : i ≤ h.0 = (let low : h.0 < i → ⊥ = (λ l. let below = subst (λ (x : Occurrence). rank x < rank from) h.2 (front h.0 o l) in omega (arith, below, a)) in omega (arith, low)) in
-          subst (λ (x : Occurrence). rank x ≤ rank o) (is o) (subst (λ (x : Occurrence). rank (get_or list i o) ≤ rank x) h.2 (rising i h.0 o past h.1));
-    }
 
 -- the heads of one more rule
 
@@ -145,6 +111,12 @@ more_heads old mid new number head rule pattern p e there below added o = (to, f
     from : Contains old o ⊎ Heads (head + 1) number rule o → Contains new o
     from h = (added o).1 (elim h [ inl first ↦ inl ((below o).1 (inl first)) | inr heads ↦ last_or_before heads ])
 
+pub new_head : (old mid : List Occurrence) (number head : ℕ) (rule : Simpagation ℕ) (p : Pred) → ((o : Occurrence) → Contains old o → o.rule < number) → HasHeadsBelow head old number rule mid → Contains mid (at_head p number head) → ⊥
+new_head old mid number head rule p last below h = elim ((below (at_head p number head)).0 h) [
+  | inl before ↦ (let less : number < number = last (at_head p number head) before in omega (arith, less))
+  | inr heads ↦ (let less : head < head = heads.1 in omega (arith, less))
+]
+
 pub all_heads : (old new : List Occurrence) (number bound : ℕ) (rule : Simpagation ℕ) → length rule.kept + length rule.removed < bound → HasHeadsBelow bound old number rule new → HasHeadsOf old number rule new
 all_heads old new number bound rule past below o = (to, from)
   where
@@ -153,6 +125,93 @@ all_heads old new number bound rule past below o = (to, from)
 
     from : Contains old o ⊎ ((o.rule ≡ number) × HasPredAt rule o.pred o.head) → Contains new o
     from h = (below o).1 (elim h [ inl first ↦ inl first | inr heads ↦ inr (heads.0, (let within = head_within rule o.head heads.1.head heads.1.head_is in omega (arith, within)), heads.1) ])
+
+-- an index in order
+
+-- equal ranks are of equal occurrences
+same_by_rank : (a b : Occurrence) → FitsRank a → FitsRank b → rank a ≡ rank b → a ≡ b
+same_by_rank a b f g e =
+    let f1 = f.arity in let f2 = f.rule in let f3 = f.head in
+    let g1 = g.arity in let g2 = g.rule in let g3 = g.head in
+    let name : a.pred.name.number ≡ b.pred.name.number = omega (arith, f1, f2, f3, g1, g2, g3, e) in
+    let arity : a.pred.arity ≡ b.pred.arity = omega (arith, f1, f2, f3, g1, g2, g3, e) in
+    same_occurrence a b (same_parts a.pred b.pred name arity) (omega (arith, f1, f2, f3, g1, g2, g3, e)) (omega (arith, f1, f2, f3, g1, g2, g3, e))
+
+all_of : (P : Occurrence → Type 0) (list : List Occurrence) → ((k : ℕ) (d : Occurrence) → k < length list → P (get_or list k d)) → AllByRecursion P list
+all_of P [] f = tt
+all_of P (o ∷ os) f = (f zero o (omega arith), all_of P os (λ k d l. f (suc k) d (omega (arith, l))))
+
+at_place : (P : Occurrence → Type 0) (list : List Occurrence) → AllByRecursion P list → (k : ℕ) (d : Occurrence) → k < length list → P (get_or list k d)
+at_place P [] all k d l = absurd (omega (arith, l))
+at_place P (o ∷ os) all zero d l = all.0
+at_place P (o ∷ os) all (suc k) d l = at_place P os all.1 k d (omega (arith, l))
+
+pub by_place : (list : List Occurrence) → IsRising list → IsNonDecreasingBy rank list
+by_place [] r i j d l w = absurd (omega (arith, w))
+by_place (o ∷ os) r zero zero d l w = omega arith
+by_place (o ∷ os) r zero (suc j) d l w = let less = at_place (λ x. rank o < rank x) os r.0 j d (omega (arith, w)) in omega (arith, less)
+by_place (o ∷ os) r (suc i) zero d l w = absurd (omega (arith, l))
+by_place (o ∷ os) r (suc i) (suc j) d l w = by_place os r.1 i j d (omega (arith, l)) (omega (arith, w))
+
+all_inserted : (P : Occurrence → Type 0) (old : List Occurrence) (i : ℕ) (one : Occurrence) → AllByRecursion P old → P one → AllByRecursion P (insert old i one)
+all_inserted P old zero one all p = (p, all)
+all_inserted P [] (suc i) one all p = (p, tt)
+all_inserted P (o ∷ os) (suc i) one all p = (all.0, all_inserted P os i one all.1 p)
+
+rising_inserted : (old : List Occurrence) (i : ℕ) (one : Occurrence) → IsRising old → ((k : ℕ) (d : Occurrence) → k < i → rank (get_or old k d) < rank one) → ((k : ℕ) (d : Occurrence) → i ≤ k → k < length old → rank one < rank (get_or old k d)) → IsRising (insert old i one)
+rising_inserted old zero one r front later = (all_of (λ x. rank one < rank x) old (λ k d l. later k d (omega arith) l), r)
+rising_inserted [] (suc i) one r front later = (tt, tt)
+rising_inserted (o ∷ os) (suc i) one r front later = (
+  all_inserted (λ x. rank o < rank x) os i one r.0 (front zero o (omega arith)),
+  rising_inserted os i one r.1 (λ k d l. front (suc k) d (omega (arith, l))) (λ k d l w. later (suc k) d (omega (arith, l)) (omega (arith, w))),
+)
+
+pub inserted_in_order : (old : List Occurrence) (i : ℕ) (one : Occurrence) → IsInOrder old → FitsRank one → (Contains old one → ⊥) → ((k : ℕ) (d : Occurrence) → k < i → rank (get_or old k d) < rank one) → ((k : ℕ) (d : Occurrence) → i ≤ k → k < length old → rank one ≤ rank (get_or old k d)) → IsInOrder (insert old i one)
+inserted_in_order old i one order fits new front later = record {
+  rising = rising_inserted old i one order.rising front above;
+  fit = λ o h. elim ((inserted old i one o).0 h) [ inl before ↦ order.fit o before | inr last ↦ subst FitsRank last fits ];
+}
+  where
+    above : (k : ℕ) (d : Occurrence) → i ≤ k → k < length old → rank one < rank (get_or old k d)
+    above k d l w =
+        let there : Contains old (get_or old k d) = Contains-get_or old k d w in
+        elim (eq-or-lt_of_le {n = rank one} {m = rank (get_or old k d)} (later k d l w)) [
+          | inl same ↦ absurd (new (subst (Contains old) (sym (same_by_rank one (get_or old k d) fits (order.fit _ there) same)) there))
+          | inr less ↦ less
+        ]
+
+-- what is left of an index from a place on
+
+rising_from : (list : List Occurrence) (i : ℕ) → IsRising list → IsRising (drop i list)
+rising_from list zero r = r
+rising_from [] (suc i) r = tt
+rising_from (o ∷ os) (suc i) r = rising_from os i r.1
+
+listed_from : (list : List Occurrence) (i : ℕ) (o : Occurrence) → Contains (drop i list) o → Contains list o
+listed_from list zero o h = h
+listed_from [] (suc i) o h = h
+listed_from (x ∷ xs) (suc i) o h = in_rest x o xs (listed_from xs i o h)
+
+after_from : (list : List Occurrence) (i r : ℕ) → ((k : ℕ) (d : Occurrence) → i ≤ k → k < length list → r ≤ rank (get_or list k d)) → AllByRecursion (λ o. r ≤ rank o) (drop i list)
+after_from list zero r later = all_of (λ o. r ≤ rank o) list (λ k d l. later k d (omega arith) l)
+after_from [] (suc i) r later = tt
+after_from (o ∷ os) (suc i) r later = after_from os i r (λ k d l w. later (suc k) d (omega (arith, l)) (omega (arith, w)))
+
+all_from : (list : List Occurrence) (i r : ℕ) → ((k : ℕ) (d : Occurrence) → k < i → rank (get_or list k d) < r) → (o : Occurrence) → Contains list o → r ≤ rank o → Contains (drop i list) o
+all_from list zero r front o h l = h
+all_from [] (suc i) r front o h l = h
+all_from (x ∷ xs) (suc i) r front o h l = elim (front_or_rest x o xs h.0 h.1 h.2) [
+  | inl rest ↦ all_from xs i r (λ k d a. front (suc k) d (omega (arith, a))) o rest l
+  | inr first ↦ (let below = subst (λ (y : Occurrence). rank y < r) first (front zero x (omega arith)) in absurd (omega (arith, below, l)))
+]
+
+pub rest_from : (list : List Occurrence) (i : ℕ) (from : Occurrence) → IsRising list → ((k : ℕ) (d : Occurrence) → k < i → rank (get_or list k d) < rank from) → ((k : ℕ) (d : Occurrence) → i ≤ k → k < length list → rank from ≤ rank (get_or list k d)) → IsRestFrom list from (drop i list)
+rest_from list i from r front later = record {
+  rising = rising_from list i r;
+  listed = listed_from list i;
+  after = after_from list i (rank from) later;
+  all = all_from list i (rank from) front;
+}
 
 -- ranks, and where occurrences of one predicate stand
 
@@ -226,18 +285,28 @@ pub record IsIndexed (rules : List (Simpagation ℕ)) (list : List Occurrence) :
 pub indexed : {X : Type 0} (f : X → Simpagation ℕ) (xs : List X) (list : List Occurrence) → (length xs ≤ 256) × AllByRecursion IsRule (map f xs) × IsIndexOf (map f xs) list → IsIndexed (map f xs) list
 indexed f xs list is = let few = is.0 in record { few = omega (arith, few, length-map xs f); all = is.1; index = is.2 }
 
-pub none_listed : (rules : List (Simpagation ℕ)) (list : List Occurrence) (p : Pred) (s i : ℕ) → IsIndexed rules list → FitsRank (at_head p s i) → HasNoneFrom list (at_head p s i) → NoneFrom rules p s i
+-- each of the list is before one
+abbrev HasNoneFrom : List Occurrence → Occurrence → Type 0
+HasNoneFrom list from = (o : Occurrence) → Contains list o → rank o < rank from
+
+-- the least of the list that is not before one
+record IsLeastFrom (list : List Occurrence) (from found : Occurrence) : Type 0 where
+  listed : Contains list found
+  after : rank from ≤ rank found
+  least : (o : Occurrence) → Contains list o → rank from ≤ rank o → rank found ≤ rank o
+
+none_listed : (rules : List (Simpagation ℕ)) (list : List Occurrence) (p : Pred) (s i : ℕ) → IsIndexed rules list → FitsRank (at_head p s i) → HasNoneFrom list (at_head p s i) → NoneFrom rules p s i
 none_listed rules list p s i is fits none r h after o =
     let before = none (at_head p r h) ((is.index (at_head p r h)).1 o) in
     let from = by_rank p s i r h fits.head after in
     omega (arith, before, from)
 
-pub none_of_pred : (rules : List (Simpagation ℕ)) (list : List Occurrence) (p : Pred) (s i : ℕ) (found : Occurrence) → IsIndexed rules list → FitsRank (at_head p s i) → FitsRank found → IsLeastFrom list (at_head p s i) found → (found.pred ≡ p → ⊥) → NoneFrom rules p s i
+none_of_pred : (rules : List (Simpagation ℕ)) (list : List Occurrence) (p : Pred) (s i : ℕ) (found : Occurrence) → IsIndexed rules list → FitsRank (at_head p s i) → FitsRank found → IsLeastFrom list (at_head p s i) found → (found.pred ≡ p → ⊥) → NoneFrom rules p s i
 none_of_pred rules list p s i found is fits found_fits least other r h after o =
     let up = least.least (at_head p r h) ((is.index (at_head p r h)).1 o) (by_rank p s i r h fits.head after) in
     other (between (at_head p s i) found (at_head p r h) fits found_fits (occurrence_fits rules p r h is.few is.all fits.arity o) refl least.after up)
 
-pub next_listed : (rules : List (Simpagation ℕ)) (list : List Occurrence) (p : Pred) (s i : ℕ) (found : Occurrence) → IsIndexed rules list → FitsRank (at_head p s i) → FitsRank found → IsLeastFrom list (at_head p s i) found → found.pred ≡ p → IsNextOccurrence rules p s i (found.rule, found.head)
+next_listed : (rules : List (Simpagation ℕ)) (list : List Occurrence) (p : Pred) (s i : ℕ) (found : Occurrence) → IsIndexed rules list → FitsRank (at_head p s i) → FitsRank found → IsLeastFrom list (at_head p s i) found → found.pred ≡ p → IsNextOccurrence rules p s i (found.rule, found.head)
 next_listed rules list p s i found is fits found_fits least e = record {
   occurs = subst (λ (q : Pred). IsOccurrence rules q found.rule found.head) e ((is.index found).0 least.listed);
   after = at_or_after (at_head p s i) found (sym e) fits found_fits least.after;
@@ -245,6 +314,74 @@ next_listed rules list p s i found is fits found_fits least e = record {
       at_or_after found (at_head p r h) e found_fits (occurrence_fits rules p r h is.few is.all fits.arity o)
       (least.least (at_head p r h) ((is.index (at_head p r h)).1 o) (by_rank p s i r h fits.head after));
 }
+
+-- what is left from one on begins with the least, if it has any, and goes on with what is left after that
+none_in_rest : (list : List Occurrence) (from : Occurrence) → IsRestFrom list from [] → HasNoneFrom list from
+none_in_rest list from rest o h =
+    let low : rank from ≤ rank o → ⊥ = (λ l. let there = rest.all o h l in let within : there.0 < length {A = Occurrence} [] = there.1 in omega (arith, within)) in
+    omega (arith, low)
+
+least_in_rest : (list : List Occurrence) (from o : Occurrence) (os : List Occurrence) → IsRestFrom list from (o ∷ os) → IsLeastFrom list from o
+least_in_rest list from o os rest = record { listed = rest.listed o (in_front o o os refl); after = rest.after.0; least = least }
+  where
+    least : (x : Occurrence) → Contains list x → rank from ≤ rank x → rank o ≤ rank x
+    least x h l =
+        let there = rest.all x h l in
+        elim (front_or_rest o x os there.0 there.1 there.2) [
+          | inl later ↦ (let less = subst (λ (y : Occurrence). rank o < rank y) later.2 (at_place (λ y. rank o < rank y) os rest.rising.0 later.0 x later.1) in omega (arith, less))
+          | inr same ↦ subst (λ (y : Occurrence). rank o ≤ rank y) same (omega arith)
+        ]
+
+rest_after : (list : List Occurrence) (from o : Occurrence) (os : List Occurrence) → IsRestFrom list from (o ∷ os) → IsRestFrom list (at_head o.pred o.rule (o.head + 1)) os
+rest_after list from o os rest = record {
+  rising = rest.rising.1;
+  listed = λ x h. rest.listed x (in_rest o x os h);
+  after = above os rest.rising.0;
+  all = all;
+}
+  where
+    next : Occurrence
+    next = at_head o.pred o.rule (o.head + 1)
+
+    above : (xs : List Occurrence) → AllByRecursion (λ x. rank o < rank x) xs → AllByRecursion (λ x. rank next ≤ rank x) xs
+    above [] a = tt
+    above (x ∷ xs) a = ((let less = a.0 in omega (arith, less)), above xs a.1)
+
+    all : (x : Occurrence) → Contains list x → rank next ≤ rank x → Contains os x
+    all x h l =
+        let from_on = rest.after.0 in
+        let there = rest.all x h (omega (arith, from_on, l)) in
+        elim (front_or_rest o x os there.0 there.1 there.2) [
+          | inl later ↦ later
+          | inr same ↦ (let high = subst (λ (y : Occurrence). rank next ≤ rank y) (sym same) l in absurd (omega (arith, high)))
+        ]
+
+next_fits : (rules : List (Simpagation ℕ)) (list : List Occurrence) (o : Occurrence) → IsIndexed rules list → FitsRank o → Contains list o → FitsRank (at_head o.pred o.rule (o.head + 1))
+next_fits rules list o is fits listed =
+    let there = (is.index o).0 listed in
+    let head = head_within there.rule o.head there.at.head there.at.head_is in
+    let heads = (scoped rules is.all o.rule there.rule there.rule_is).limits.heads in
+    record { arity = fits.arity; rule = fits.rule; head = omega (arith, head, heads) }
+
+pub none_ahead : (rules : List (Simpagation ℕ)) (p : Pred) (s i : ℕ) (rest : List Occurrence) → length rest ≡ 0 → AreListedFrom rules p s i rest → NoneFrom rules p s i
+none_ahead rules p s i [] e are = are
+none_ahead rules p s i (o ∷ os) e are = absurd (omega (arith, e))
+
+pub others_ahead : (rules : List (Simpagation ℕ)) (p : Pred) (s i : ℕ) (rest : List Occurrence) (o : Occurrence) (os : List Occurrence) → rest ≡ o ∷ os → (o.pred ≡ p → ⊥) → AreListedFrom rules p s i rest → NoneFrom rules p s i
+others_ahead rules p s i rest o os e other are = (subst (AreListedFrom rules p s i) e are).0 other
+
+pub next_ahead : (rules : List (Simpagation ℕ)) (p : Pred) (s i : ℕ) (rest : List Occurrence) (o : Occurrence) (os : List Occurrence) → rest ≡ o ∷ os → o.pred ≡ p → AreListedFrom rules p s i rest → IsNextOccurrence rules p s i (o.rule, o.head) × AreListedFrom rules p o.rule (o.head + 1) os
+next_ahead rules p s i rest o os e same are = (subst (AreListedFrom rules p s i) e are).1 same
+
+pub heads_listed : (rules : List (Simpagation ℕ)) (list : List Occurrence) (p : Pred) (s i : ℕ) (rest : List Occurrence) → IsIndexed rules list → ((o : Occurrence) → Contains list o → FitsRank o) → FitsRank (at_head p s i) → IsRestFrom list (at_head p s i) rest → AreListedFrom rules p s i rest
+heads_listed rules list p s i [] is fit fits rest = none_listed rules list p s i is fits (none_in_rest list (at_head p s i) rest)
+heads_listed rules list p s i (o ∷ os) is fit fits rest =
+    let least = least_in_rest list (at_head p s i) o os rest in
+    let found_fits = fit o least.listed in
+    let after = heads_listed rules list o.pred o.rule (o.head + 1) os is fit (next_fits rules list o is found_fits least.listed) (rest_after list (at_head p s i) o os rest) in (
+      λ other. none_of_pred rules list p s i o is fits found_fits least other,
+      λ e. (next_listed rules list p s i o is fits found_fits least e, subst (λ (q : Pred). AreListedFrom rules q o.rule (o.head + 1) os) e after),
+    )
 
 -- one more rule
 
@@ -274,6 +411,9 @@ few_pushed f xs new x rules e same few =
 pub all_pushed : (rules : List (Simpagation ℕ)) (rule : Simpagation ℕ) → AllByRecursion IsRule rules → IsRule rule → AllByRecursion IsRule (rules ++ rule ∷ [])
 all_pushed [] rule all valid = (valid, tt)
 all_pushed (x ∷ xs) rule all valid = (all.0, all_pushed xs rule all.1 valid)
+
+pub numbers_within : (rules : List (Simpagation ℕ)) (list : List Occurrence) (number : ℕ) → number ≡ length rules + 1 → IsIndexOf rules list → (o : Occurrence) → Contains list o → o.rule < number
+numbers_within rules list number last index o h = let there = (index o).0 h in let within = rule_within rules o.rule there.rule there.rule_is in omega (arith, last, within)
 
 pub index_pushed : (rules : List (Simpagation ℕ)) (old new : List Occurrence) (rule : Simpagation ℕ) (number : ℕ) → number ≡ length rules + 1 → IsIndexOf rules old → HasHeadsOf old number rule new → IsIndexOf (rules ++ rule ∷ []) new
 index_pushed rules old new rule number last index added o = (to, from)

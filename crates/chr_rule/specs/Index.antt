@@ -1,7 +1,6 @@
 -- An index of the heads of rules.
-use Rattle.std.specs.Prelude.{◌≡◌, ℕ, ◌+◌, ◌*◌, ◌<◌, ◌≤◌, ◌⊎◌, ◌↔◌, List}
-use Rattle.std.specs.List.{Contains}
-use Rattle.std.specs.List.Sorted.{IsNonDecreasingBy}
+use Rattle.std.specs.Prelude.{◌≡◌, ℕ, ◌+◌, ◌*◌, ◌<◌, ◌≤◌, ◌⊎◌, ◌↔◌, ⊤, List, [], ◌∷◌}
+use Rattle.std.specs.List.{AllByRecursion, Contains}
 use Rattle.chr_rule.specs.declared.occurrences.Occurrence.{Occurrence}
 use Rattle.chr_rule.specs.Rules.{Simpagation}
 use Rattle.chr_rule.specs.Occurrences.{HasPredAt, IsOccurrence}
@@ -21,24 +20,26 @@ pub record FitsRank (o : Occurrence) : Type 0 where
   pub rule : o.rule < 65536
   pub head : o.head < 256
 
+-- each comes before all that stand after it
+abbrev pub IsRising : List Occurrence → Type 0
+IsRising [] = ⊤
+IsRising (o ∷ os) = AllByRecursion (λ x. rank o < rank x) os × IsRising os
+
 -- the list is in order, and the numbers in it are small enough
 pub record IsInOrder (list : List Occurrence) : Type 0 where
-  pub rising : IsNonDecreasingBy rank list
+  pub rising : IsRising list
   pub fit : (o : Occurrence) → Contains list o → FitsRank o
 
 -- the list has exactly the occurrences of the rules
 abbrev pub IsIndexOf : List (Simpagation ℕ) → List Occurrence → Type 0
 IsIndexOf rules list = (o : Occurrence) → Contains list o ↔ IsOccurrence rules o.pred o.rule o.head
 
--- each of the list is before one
-abbrev pub HasNoneFrom : List Occurrence → Occurrence → Type 0
-HasNoneFrom list from = (o : Occurrence) → Contains list o → rank o < rank from
-
--- the least of the list that is not before one
-pub record IsLeastFrom (list : List Occurrence) (from found : Occurrence) : Type 0 where
-  pub listed : Contains list found
-  pub after : rank from ≤ rank found
-  pub least : (o : Occurrence) → Contains list o → rank from ≤ rank o → rank found ≤ rank o
+-- what is left of the list from one on: those that are not before it
+pub record IsRestFrom (list : List Occurrence) (from : Occurrence) (rest : List Occurrence) : Type 0 where
+  pub rising : IsRising rest
+  pub listed : (o : Occurrence) → Contains rest o → Contains list o
+  pub after : AllByRecursion (λ o. rank from ≤ rank o) rest
+  pub all : (o : Occurrence) → Contains list o → rank from ≤ rank o → Contains rest o
 
 -- the new list has what the old one has, and one more
 abbrev pub HasInserted : List Occurrence → Occurrence → List Occurrence → Type 0

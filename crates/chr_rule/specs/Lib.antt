@@ -1,5 +1,5 @@
 pub mod Rules
-pub mod Nodes
+pub mod Words
 pub mod Terms
 pub mod Scope
 pub mod Parts

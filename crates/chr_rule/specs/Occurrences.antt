@@ -1,6 +1,7 @@
 -- Where a program has heads of a predicate.
-use Rattle.std.specs.Prelude.{◌≡◌, ℕ, ◌<◌, ◌≤◌, ◌⊎◌, List, length, Some}
+use Rattle.std.specs.Prelude.{◌≡◌, ℕ, ◌+◌, ◌<◌, ◌≤◌, ◌⊎◌, List, [], ◌∷◌, length, Some}
 use Rattle.chr_value.specs.declared.atom.Pred.{Pred}
+use Rattle.chr_rule.specs.declared.occurrences.Occurrence.{Occurrence}
 use Rattle.chr_rule.specs.Rules.{RuleAtom, Simpagation, head_at, rule_at}
 
 -- a head has a predicate
@@ -33,3 +34,19 @@ pub record IsNextOccurrence (rules : List (Simpagation ℕ)) (p : Pred) (s i : �
   pub occurs : IsOccurrence rules p found.0 found.1
   pub after : AtOrAfter s i found.0 found.1
   pub least : (r h : ℕ) → AtOrAfter s i r h → IsOccurrence rules p r h → AtOrAfter found.0 found.1 r h
+
+-- heads of a predicate, as they are listed in order; heads of other predicates may come after them
+pub record HeadsFrom : Type 0 where
+  pub pred : Pred
+  pub rest : List Occurrence
+
+-- the occurrences of a predicate at or after a rule and a head are those at the front of a list, in order
+abbrev pub AreListedFrom : List (Simpagation ℕ) → Pred → ℕ → ℕ → List Occurrence → Type 0
+AreListedFrom rules p s i [] = NoneFrom rules p s i
+AreListedFrom rules p s i (o ∷ os) =
+    ((o.pred ≡ p → ⊥) → NoneFrom rules p s i)
+    × (o.pred ≡ p → IsNextOccurrence rules p s i (o.rule, o.head) × AreListedFrom rules p o.rule (o.head + 1) os)
+
+-- these are the heads of their predicate at or after a rule and a head
+abbrev pub AreHeadsFrom : List (Simpagation ℕ) → HeadsFrom → ℕ → ℕ → Type 0
+AreHeadsFrom rules heads s i = AreListedFrom rules heads.pred s i heads.rest

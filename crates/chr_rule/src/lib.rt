@@ -9,7 +9,7 @@
 //! reader of rule text keeps to 16 levels. A [`Program`] is a list of shared rules, numbered from 1, with an index that
 //! tells where the heads of a predicate are.
 //!
-//! A rule keeps itself once more as a list of its nodes, in Polish notation, by which [`Rule::same`](Rule::same) tells equal
+//! A rule keeps itself once more as a list of words, in Polish notation, by which [`Rule::same`](Rule::same) tells equal
 //! rules in few steps. Rules with compound terms have no such list, and are compared part by part.
 //!
 //! Contracts see a rule as a `Simpagation ℕ` (Frühwirth's general form of a rule) over the numbers of names, without
@@ -17,7 +17,6 @@
 #![tactic(auto)]
 
 mod expression;
-mod nodes;
 mod occurrences;
 mod patterns;
 mod program;
@@ -25,8 +24,10 @@ mod rule;
 mod rule_atom;
 mod scope;
 mod term;
+mod words;
 
 pub use expression::{BodyItem, Comparison, Expr, Operator, Relation};
+pub use occurrences::HeadsFrom;
 pub use program::{MOST_RULES, Program};
 pub use rule::{MOST_COMPARISONS, MOST_HEADS, MOST_ITEMS, MOST_VARIABLES, Rule};
 pub use rule_atom::RuleAtom;

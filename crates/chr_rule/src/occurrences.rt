@@ -1,9 +1,10 @@
 //! Where rules have heads of a predicate.
-ghost use Rattle.std.specs.Prelude.{◌≡◌, ℕ, ◌+◌, ◌<◌, ◌≤◌, [], length, OnOk, IfSome, MatchOption};
-ghost use Rattle.std.specs.List.{slice_index_or};
-ghost use Rattle.std.specs.List.Sorted.{IsNonDecreasingBy};
+ghost use Rattle.std.specs.Prelude.{◌≡◌, ℕ, ◌+◌, ◌<◌, ◌≤◌, List, [], length, OnOk, MatchOption};
+ghost use Rattle.std.specs.List.{Contains, slice_index_or};
 ghost use Rattle.chr_rule.specs.declared.occurrences.Occurrence.{Occurrence as OccurrenceView};
-ghost use Rattle.chr_rule.specs.Index.{rank, FitsRank, HasNoneFrom, IsLeastFrom, HasInserted, HasHeadsOf};
+ghost use Rattle.chr_rule.specs.Rules.{Simpagation};
+ghost use Rattle.chr_rule.specs.Occurrences.{NoneFrom, IsNextOccurrence, AreHeadsFrom};
+ghost use Rattle.chr_rule.specs.Index.{rank, FitsRank, IsRising, IsRestFrom, HasInserted, HasHeadsOf};
 
 use crate::rule::Rule;
 use chr_value::Pred;
@@ -96,7 +97,7 @@ impl<A: Allocator> Model for Occurrences<A> {
 
 /// The place of the first occurrence that is not before one.
 fn place_from(list: &[Ranked], from: &Occurrence) -> usize
-    requires { IsNonDecreasingBy rank list.now }
+    requires { IsRising list.now }
     ensures fits { FitsRank from.now }
     ensures within { result ≤ length list.now }
     ensures front { (k : ℕ) (d : OccurrenceView) → k < result → rank (slice_index_or list.now k d) < rank from.now }
@@ -106,23 +107,39 @@ fn place_from(list: &[Ranked], from: &Occurrence) -> usize
     list.partition_point(|other| other.rank() < rank)
 }
 
-/// The same. It takes no search where it is `near`.
-#[inline(always)]
-fn place_near(list: &[Ranked], near: usize, from: &Occurrence) -> usize
-    requires { IsNonDecreasingBy rank list.now }
-    ensures fits { FitsRank from.now }
-    ensures within { result ≤ length list.now }
-    ensures front { (k : ℕ) (d : OccurrenceView) → k < result → rank (slice_index_or list.now k d) < rank from.now }
-    ensures later { (k : ℕ) (d : OccurrenceView) → result ≤ k → k < length list.now → rank from.now ≤ rank (slice_index_or list.now k d) }
-{
-    if near == 0 || list.len() <= near {
-        return place_from(list, from);
+/// The heads of a predicate from a rule and a head on, by rule and then by head.
+#[derive(Drop)]
+pub struct HeadsFrom<'p> {
+    pred: Pred,
+    /// The occurrences from there on, those of later predicates too.
+    rest: &'p [Ranked],
+}
+
+impl<'p> Model for HeadsFrom<'p> {
+    ghost use Rattle.chr_rule.specs.Occurrences.{HeadsFrom};
+
+    ghost Value = { HeadsFrom };
+
+    ghost view = { λ h. record { pred = h.pred; rest = h.rest.now } };
+}
+
+impl<'p> HeadsFrom<'p> {
+    /// The number of the next one's rule, and its own in the rule, both from 1. None where none is left.
+    #[inline(always)]
+    pub fn next(&mut self) -> Option<(u16, u8)>
+        ensures pred { self.new.pred ≡ self.old.pred }
+        ensures next { (rules : List (Simpagation ℕ)) (s i : ℕ) → AreHeadsFrom rules self.old s i → MatchOption result (NoneFrom rules self.old.pred s i) (λ found. IsNextOccurrence rules self.old.pred s i found × AreHeadsFrom rules self.new found.0 (found.1 + 1)) }
+    {
+        let Some((first, rest)) = self.rest.split_first() else {
+            return None;
+        };
+        let found = first.occurrence();
+        if found.pred != self.pred {
+            return None;
+        }
+        self.rest = rest;
+        Some((found.rule, found.head))
     }
-    let rank = from.rank();
-    if list[near - 1].rank() < rank && rank <= list[near].rank() {
-        return near;
-    }
-    place_from(list, from)
 }
 
 impl<A: Allocator + Copy> Occurrences<A> {
@@ -145,7 +162,8 @@ impl<A: Allocator + Copy> Occurrences<A> {
 
     /// Puts one more in its place, for which there is room.
     fn insert_reserved(&mut self, one: Occurrence)
-        requires { 0 < self.old.room }
+        requires room { 0 < self.old.room }
+        requires new { Contains self.old.items one → ⊥ }
         ensures items { HasInserted self.old.items one self.new.items }
         ensures room { self.new.room + 1 ≡ self.old.room }
     {
@@ -153,9 +171,10 @@ impl<A: Allocator + Copy> Occurrences<A> {
         let _ = self.list.insert(place, Ranked::of(one));
     }
 
-    /// Adds the heads of a rule of a number, for which there is room.
+    /// Adds the heads of a rule of a number above all others, for which there is room.
     pub fn add_rule(&mut self, number: u16, rule: &Rule<A>)
-        requires { 6 ≤ self.old.room }
+        requires room { 6 ≤ self.old.room }
+        requires last { (o : OccurrenceView) → Contains self.old.items o → o.rule < number }
         ensures { HasHeadsOf self.old.items number rule.now self.new.items }
     {
         for head in 1..rule.heads() as u8 + 1 {
@@ -169,21 +188,17 @@ impl<A: Allocator + Copy> Occurrences<A> {
         }
     }
 
-    /// The least at or after one. None where there is none. `near` becomes the place behind it: it takes no search where the
-    /// least at or after the next one is there.
-    #[inline(always)]
-    pub fn next(&self, from: Occurrence, near: &mut usize) -> Option<Occurrence>
+    /// The heads of an occurrence's predicate from it on. It takes a search.
+    pub fn heads_from(&self, from: Occurrence) -> HeadsFrom<'_>
+        ensures pred { result.pred ≡ from.pred }
+        ensures rest { IsRestFrom self.now.items from result.rest }
         ensures fits { FitsRank from }
-        ensures found_fits { IfSome result FitsRank }
-        ensures next { MatchOption result (HasNoneFrom self.now.items from) (IsLeastFrom self.now.items from) }
+        ensures all_fit { (o : OccurrenceView) → Contains self.now.items o → FitsRank o }
     {
-        let place = place_near(&self.list, *near, &from);
-        match self.list.get(place) {
-            None => None,
-            Some(found) => {
-                *near = place + 1;
-                Some(found.occurrence())
-            }
+        let place = place_from(&self.list, &from);
+        HeadsFrom {
+            pred: from.pred,
+            rest: &self.list[place..],
         }
     }
 }

@@ -1,13 +1,13 @@
 //! Programs.
-ghost use Rattle.std.specs.Prelude.{◌≡◌, ◌<◌, ◌≤◌, ◌++◌, ◌∷◌, [], length, map, OnOk, OnErr, IfOk, MatchOption};
+ghost use Rattle.std.specs.Prelude.{◌≡◌, ◌<◌, ◌≤◌, ◌++◌, ◌∷◌, [], length, map, OnOk, OnErr, IfOk};
 ghost use Rattle.std.specs.Option.{option_map};
 ghost use Rattle.std.specs.Arc.{arc_value};
 ghost use Rattle.std.specs.List.{AllByRecursion};
 ghost use Rattle.chr_rule.specs.Rules.{rule_at};
 ghost use Rattle.chr_rule.specs.Scope.{IsRule};
-ghost use Rattle.chr_rule.specs.Occurrences.{IsNextOccurrence, NoneFrom};
+ghost use Rattle.chr_rule.specs.Occurrences.{AreHeadsFrom};
 
-use crate::occurrences::{Occurrence, Occurrences};
+use crate::occurrences::{HeadsFrom, Occurrence, Occurrences};
 use crate::rule::{MOST_HEADS, Rule};
 use chr_value::Pred;
 use std::alloc::{AllocError, Allocator};
@@ -94,26 +94,13 @@ impl<A: Allocator + Copy> Program<A> {
         Some(&rules[number - 1])
     }
 
-    /// The least rule and head at or after these whose head has this predicate, all numbered from 1. None where there is
-    /// none. `near` is 0 at first; with what a call leaves there, the next one for this predicate takes no search where it
-    /// goes on just after the rule and head found.
-    #[inline(always)]
-    pub fn next_occurrence(
-        &self,
-        pred: Pred,
-        rule: u16,
-        head: u8,
-        near: &mut usize,
-    ) -> Option<(u16, u8)>
-        ensures { MatchOption result (NoneFrom self.now pred rule head) (IsNextOccurrence self.now pred rule head) }
+    /// The heads of this predicate at or after a rule and a head, by rule and then by head, all numbered from 1. It takes a
+    /// search, and going from one to the next takes none.
+    pub fn heads_from(&self, pred: Pred, rule: u16, head: u8) -> HeadsFrom<'_>
+        ensures pred { result.pred ≡ pred }
+        ensures heads { AreHeadsFrom self.now result rule head }
     {
-        let Some(found) = self.occurrences.next(Occurrence { pred, rule, head }, near) else {
-            return None;
-        };
-        if found.pred != pred {
-            return None;
-        }
-        Some((found.rule, found.head))
+        self.occurrences.heads_from(Occurrence { pred, rule, head })
     }
 
     /// Adds a rule after the others.

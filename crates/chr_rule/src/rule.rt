@@ -9,10 +9,10 @@ ghost use Rattle.chr_rule.specs.Terms.{HasTerms};
 use crate::expression::{
     BodyItem, Comparison, is_body_valid, is_guard_valid, same_bodies, same_guards,
 };
-use crate::nodes::{Node, nodes_of, same_nodes};
 use crate::patterns::{are_patterns_valid, same_patterns};
 use crate::rule_atom::RuleAtom;
 use crate::scope::count_variables;
+use crate::words::{same_words, words_of};
 use std::alloc::Allocator;
 use std::marker::Model;
 
@@ -36,7 +36,7 @@ pub struct Rule<A: Allocator> {
     guard: Vec<Comparison<A>, A>,
     body: Vec<BodyItem<A>, A>,
     /// The rule once more, where no term of it has a functor and there was memory for it.
-    nodes: Option<Vec<Node, A>>,
+    words: Option<Vec<u64, A>>,
 }
 
 // Not derived: letting a rule go is then one call, which is proved here once.
@@ -48,7 +48,7 @@ impl<A: Allocator> Drop for Rule<A> {
             removed: _,
             guard: _,
             body: _,
-            nodes: _,
+            words: _,
         } = self;
     }
 }
@@ -58,7 +58,7 @@ impl<A: Allocator> Model for Rule<A> {
     ghost use Rattle.chr_rule.specs.Rules.{Simpagation};
     ghost use Rattle.chr_rule.specs.Parts.{shape, comparison, member};
     ghost use Rattle.chr_rule.specs.Scope.{IsRule};
-    ghost use Rattle.chr_rule.specs.Nodes.{IsWritten};
+    ghost use Rattle.chr_rule.specs.Words.{IsWritten};
     ghost use Rattle.chr_rule.specs.Code.{expression_code};
     ghost use Rattle.chr_rule.specs.TermCode.{term_code};
     ghost use Rattle.std.specs.Coded.{codes};
@@ -69,7 +69,7 @@ impl<A: Allocator> Model for Rule<A> {
 
     ghost view = { λ r. record { variables = r.variables; kept = map shape r.kept.items; removed = map shape r.removed.items; guard = map comparison r.guard.items; body = map member r.body.items } };
 
-    ghost invariant = { λ r. let rule : Simpagation ℕ = record { variables = r.variables; kept = map shape r.kept.items; removed = map shape r.removed.items; guard = map comparison r.guard.items; body = map member r.body.items } in IsRule rule × IfSome r.nodes (λ written. IsWritten rule written.items) };
+    ghost invariant = { λ r. let rule : Simpagation ℕ = record { variables = r.variables; kept = map shape r.kept.items; removed = map shape r.removed.items; guard = map comparison r.guard.items; body = map member r.body.items } in IsRule rule × IfSome r.words (λ written. IsWritten rule written.items) };
 }
 
 /// Whether a rule may have so many heads, comparisons and members of the body.
@@ -155,14 +155,14 @@ impl<A: Allocator + Copy> Rule<A> {
         ensures { result ≡ of_parts variables (map shape kept.items) (map shape removed.items) (map comparison guard.items) (map member body.items) }
     {
         let alloc = *removed.allocator();
-        let nodes = nodes_of(alloc, variables, &kept, &removed, &guard, &body);
+        let words = words_of(alloc, variables, &kept, &removed, &guard, &body);
         Rule {
             variables: variables as u8,
             kept,
             removed,
             guard,
             body,
-            nodes,
+            words,
         }
     }
 }
@@ -172,8 +172,8 @@ impl<A: Allocator> Rule<A> {
     pub fn same(&self, other: &Rule<A>) -> bool
         ensures { IsTrue result ↔ (self.now ≡ other.now) }
     {
-        match (&self.nodes, &other.nodes) {
-            (Some(nodes), Some(others)) => same_nodes(nodes, others),
+        match (&self.words, &other.words) {
+            (Some(words), Some(others)) => same_words(words, others),
             _ => self.has_parts_of(other),
         }
     }

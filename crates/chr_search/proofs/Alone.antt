@@ -15,14 +15,14 @@ use Rattle.chr_search.specs.Tree.{Beyond}
 use Rattle.chr_search.specs.Trials.{Space, join_in, Child, IsTrial, IsNext, NoneLeft}
 use Rattle.chr_search.specs.Verdicts.{Placed, Trial, position, IsTrialOf}
 use Rattle.chr_search.specs.Fronts.{trial_alone}
-use Rattle.chr_search.specs.PlanByPlan.{HasComeTo}
+use Rattle.chr_search.specs.PlanByPlan.{HasComeTo, IsActive}
 use Rattle.chr_search.proofs.Positions.{after_first, after_under, after_cases}
 use Rattle.chr_search.proofs.Plans.{heads_in, planned}
 use Rattle.chr_search.proofs.Tree.{least_same}
 use Rattle.chr_search.proofs.Asking.{begins_by}
 use Rattle.chr_search.proofs.Making.{next_trial}
 use Rattle.chr_search.proofs.Shrinking.{trial_of}
-use Rattle.chr_search.proofs.Occurring.{IsActive, order_in, trial_occurs, plan_there}
+use Rattle.chr_search.proofs.Occurring.{order_in, trial_occurs, plan_there}
 
 -- the trials at or after a label past the active one are those of later heads and rules
 later : (s : Space) (r h l x y : ℕ) (ls ms : List ℕ) → s.active < l → IsTrial s (x ∷ y ∷ ms) → at_or_after (r ∷ h ∷ l ∷ ls) (x ∷ y ∷ ms) ≡ true → AtOrAfter r (h + 1) x y

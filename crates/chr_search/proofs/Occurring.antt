@@ -1,7 +1,6 @@
 -- Trials where a program has heads of the active atom's predicate.
-use Rattle.std.proofs.Common.{◌≡◌, ℕ, ◌+◌, ◌-◌, ◌*◌, ◌<◌, ◌≤◌, Fits, w8, true, List, [], ◌∷◌, length, Option, Some, None, MatchOption, slice_get, sym, ◌∙◌, ap, subst, arith, inl, inr, ⊎_elim}
+use Rattle.std.proofs.Common.{◌≡◌, ℕ, ◌+◌, ◌-◌, ◌*◌, ◌<◌, ◌≤◌, Fits, w8, true, List, [], ◌∷◌, length, Option, Some, None, MatchOption, IfSome, slice_get, sym, ◌∙◌, ap, subst, arith, inl, inr, ⊎_elim}
 use Rattle.std.proofs.lemmas.Bool.Decides.{nat_tests}
-use Rattle.chr_value.specs.Atoms.{Atom}
 use Rattle.chr_value.specs.declared.atom.Pred.{Pred}
 use Rattle.chr_value.proofs.Chosen.{some_is}
 use Rattle.chr_rule.specs.Rules.{Simpagation, head_at}
@@ -11,7 +10,7 @@ use Rattle.chr_plan.specs.Plans.{plan_at, ArePlans}
 use Rattle.chr_plan.specs.declared.order.Step.{Step}
 use Rattle.chr_search.specs.Positions.{at_or_after}
 use Rattle.chr_search.specs.Trials.{HasHeadPred, Join, Space, IsTrial, NoneLeft}
-use Rattle.chr_search.specs.PlanByPlan.{IsJoinOf, IsUnplanned, IsJoinAt, HasComeTo, IsNextJoin}
+use Rattle.chr_search.specs.PlanByPlan.{IsActive, IsJoinOf, IsUnplanned, IsJoinAt, HasComeTo, IsNextJoin}
 use Rattle.chr_search.proofs.Positions.{after_first, after_under, after_cases}
 use Rattle.chr_search.proofs.Plans.{planned, has_plan}
 use Rattle.chr_search.proofs.PlanByPlan.{HasJoin, head_from, head_within, joins_at, rule_at_most, head_at_most}
@@ -31,14 +30,7 @@ order_in r h x y ls a =
     from : (h y : ℕ) (ls : List ℕ) → h ≤ y → at_or_after (h ∷ []) (y ∷ ls) ≡ true
     from h y ls low = grind (arith, nat_tests)
 
--- the predicate of the active atom
-pub record IsActive (s : Space) (p : Pred) : Type 0 where
-  pub atom : Atom ℕ
-  pub live : atom_at s.store s.active ≡ Some atom
-  pub name : p.name.number ≡ atom.name
-  pub arity : p.arity ≡ length atom.args
-
--- each trial has it at its head
+-- each trial has the predicate of the active atom at its head
 pub trial_occurs : (s : Space) (p : Pred) → IsActive s p → ArePlans s.rules s.plans → (r h : ℕ) (ls : List ℕ) → IsTrial s (r ∷ h ∷ ls) → IsOccurrence s.rules p r h
 trial_occurs s p a ps r h [] i = absurd (let d : 3 ≤ length (r ∷ h ∷ []) = i.deep in omega arith)
 trial_occurs s p a ps r h (l ∷ ls) i =
@@ -93,6 +85,10 @@ join_at_occurrence s p a ps r h x y o as_join (Some j) k = record {
   come = come_to_occurrence s p a ps r h x y o;
   join = join_there s p a ps x y (as_join j) o.occurs k;
 }
+
+pub if_there : {X : Type 0} {A : Type 0} (found : Option X) → A → IfSome found (λ _. A)
+if_there None a = tt
+if_there (Some x) a = a
 
 -- a walk through the plans that goes on from one: the next head's number fits, and it is nearer to the end
 pub head_fits : (s : Space) (place : List ℕ) (r h : ℕ) (j : Join) → HasJoin s place r h j → Fits w8 (h + 1)

@@ -1,7 +1,10 @@
 -- Searches that pass over trials plan by plan.
-use Rattle.std.specs.Prelude.{◌≡◌, ℕ, zero, suc, ◌≤◌, ◌==◌, true, ◌&&◌, if◌then◌else◌, List, [], ◌∷◌, take, Option}
-use Rattle.chr_value.specs.Atoms.{Value}
+use Rattle.std.specs.Prelude.{◌≡◌, ℕ, zero, suc, ◌≤◌, ◌==◌, true, ◌&&◌, if◌then◌else◌, List, [], ◌∷◌, length, take, Option, Some}
+use Rattle.chr_value.specs.Atoms.{Atom, Value}
+use Rattle.chr_value.specs.declared.atom.Pred.{Pred}
 use Rattle.chr_rule.specs.Rules.{Simpagation}
+use Rattle.chr_rule.specs.Occurrences.{HeadsFrom, AreHeadsFrom}
+use Rattle.chr_model.specs.Stores.{atom_at}
 use Rattle.chr_plan.specs.declared.order.Step.{Step}
 use Rattle.chr_search.specs.declared.passing.End.{End}
 use Rattle.chr_search.specs.Positions.{at_or_after}
@@ -59,3 +62,15 @@ pub record HasComeTo (s : Space) (place : List ℕ) (r h : ℕ) : Type 0 where
 pub record IsNextJoin (s : Space) (r h x y : ℕ) (j : Join) : Type 0 where
   pub come : HasComeTo s (r ∷ h ∷ []) x y
   pub join : IsJoinAt s x y j
+
+-- the predicate of the active atom
+pub record IsActive (s : Space) (p : Pred) : Type 0 where
+  pub atom : Atom ℕ
+  pub live : atom_at s.store s.active ≡ Some atom
+  pub name : p.name.number ≡ atom.name
+  pub arity : p.arity ≡ length atom.args
+
+-- these are the heads of the active atom's predicate at or after a rule and a head
+pub record AreAhead (s : Space) (r h : ℕ) (heads : HeadsFrom) : Type 0 where
+  pub active : IsActive s heads.pred
+  pub listed : AreHeadsFrom s.rules heads r h

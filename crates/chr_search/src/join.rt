@@ -7,6 +7,7 @@ ghost use Rattle.chr_search.specs.Trials.{MayFollow, StandsAt};
 ghost use Rattle.chr_search.specs.Partners.{HasPlan, IsReady, LengthenedIf, IsAskedFor, IsPartnerFrom, GivePartners};
 ghost use Rattle.chr_search.specs.Joined.{join_of};
 
+use crate::position::alone;
 use chr_guard::{Binding, fit_head};
 use chr_log::Labels;
 use chr_plan::Step;
@@ -215,8 +216,7 @@ impl<'s, A: Allocator + Copy> Join<'s, A> {
         if !self.begins() {
             return None;
         }
-        let mut labels = Labels::new();
-        labels.push(self.view.active());
+        let mut labels = alone(self.view.active());
         if !self.lengthen_active(&mut labels, place) {
             return None;
         }

@@ -28,6 +28,16 @@ impl Model for Position {
     ghost invariant = { λ p. (1 ≤ p.rule) × (1 ≤ p.head) };
 }
 
+/// One label alone.
+#[inline(always)]
+pub(crate) fn alone(label: Label) -> Labels
+    ensures { result.items ≡ label ∷ [] }
+{
+    let mut labels = Labels::new();
+    labels.push(label);
+    labels
+}
+
 /// Keeps the first labels, as many as `depth`, and puts one after them.
 pub(crate) fn put_at(labels: &mut Labels, depth: usize, label: Label)
     requires { depth < 6 }

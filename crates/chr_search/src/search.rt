@@ -1,5 +1,5 @@
 //! Searches.
-ghost use Rattle.std.specs.Prelude.{◌≡◌, ℕ, suc, ◌≤◌, true, List, ◌∷◌, ◌++◌, [], length, Some, MatchOption, IfOk};
+ghost use Rattle.std.specs.Prelude.{◌≡◌, ℕ, suc, ◌+◌, ◌≤◌, true, List, ◌∷◌, ◌++◌, [], length, Some, MatchOption, IfOk, IfSome};
 ghost use Rattle.chr_value.specs.Stores.{atom_at};
 ghost use Rattle.chr_plan.specs.Plans.{ArePlans};
 ghost use Rattle.chr_store.specs.Labels.{entered};
@@ -13,18 +13,18 @@ ghost use Rattle.chr_search.specs.Verdicts.{Trial as TrialView, IsPart, position
 ghost use Rattle.chr_search.specs.Fronts.{ComeAfter};
 ghost use Rattle.chr_search.specs.Joined.{join_of};
 ghost use Rattle.chr_search.specs.Passing.{IsTrialIn, BeginsTrials, Passes, IsThen};
-ghost use Rattle.chr_search.specs.PlanByPlan.{label_at_head, labels_at_heads, IsUnplanned, IsJoinOf, labels_in, PassesPlan, HasComeTo, IsNextJoin};
+ghost use Rattle.chr_search.specs.PlanByPlan.{label_at_head, labels_at_heads, AreAhead, IsUnplanned, IsJoinOf, labels_in, PassesPlan, HasComeTo, IsNextJoin};
 
 use crate::join::Join;
 use crate::judged::{Judged, Verdict};
 use crate::passing;
 use crate::passing::End;
-use crate::position::{Position, set_at};
+use crate::position::{Position, alone, set_at};
 use crate::trial::Trial;
 use chr_guard::Binding;
 use chr_log::Labels;
 use chr_plan::{Plans, Step};
-use chr_rule::Program;
+use chr_rule::{HeadsFrom, Program};
 use chr_store::{Label, Store, View};
 use chr_value::Atom;
 use std::alloc::{AllocError, Allocator};
@@ -115,7 +115,7 @@ impl Instance {
     }
 
     /// Sets the trial to that of the labels, by the rule and the head at which a walk stands.
-    fn set_whole<A: Allocator + Copy>(&mut self, join: &Join<'_, A>, walk: &Walk)
+    fn set_whole<A: Allocator + Copy>(&mut self, join: &Join<'_, A>, walk: &Walk<'_>)
         requires rule { 1 ≤ walk.now.rule }
         requires head { 1 ≤ walk.now.head }
         requires trial { (t : TrialView) × IsTrialIn (join_of join.now) self.old.labels.items t }
@@ -156,11 +156,11 @@ pub struct Passed {
 
 /// Where a walk through the heads of a predicate stands, by a rule and a head of it.
 #[derive(Drop)]
-struct Walk {
+struct Walk<'s> {
     rule: u16,
     head: u8,
-    /// Where the program has the head after it.
-    near: usize,
+    /// The heads that come next.
+    heads: HeadsFrom<'s>,
 }
 
 /// An active label, and how far its trials are ruled out.
@@ -238,15 +238,14 @@ impl Search {
         program: &'s Program<A>,
         plans: &'s Plans<A>,
         view: &View<'s, A>,
-        atom: &Atom<A>,
-        walk: &mut Walk,
+        walk: &mut Walk<'s>,
     ) -> Option<Join<'s, A>>
         requires plans { ArePlans program.now plans.now }
-        requires atom { atom_at view.now.store.entries view.now.active ≡ Some atom.now }
-        ensures { let s = older program.now plans.now view.now.store.entries view.now.active in MatchOption result (NoneLeft s (walk.old.rule ∷ walk.old.head ∷ [])) (λ join. IsNextJoin s walk.old.rule walk.old.head walk.new.rule walk.new.head (join_of join)) }
+        requires ahead { AreAhead (older program.now plans.now view.now.store.entries view.now.active) walk.old.rule walk.old.head walk.old.heads }
+        ensures next { let s = older program.now plans.now view.now.store.entries view.now.active in MatchOption result (NoneLeft s (walk.old.rule ∷ walk.old.head ∷ [])) (λ join. IsNextJoin s walk.old.rule walk.old.head walk.new.rule walk.new.head (join_of join)) }
+        ensures ahead { IfSome result (λ _. AreAhead (older program.now plans.now view.now.store.entries view.now.active) walk.new.rule (walk.new.head + 1) walk.new.heads) }
     {
-        let Some(found) = program.next_occurrence(atom.pred(), walk.rule, walk.head, &mut walk.near)
-        else {
+        let Some(found) = walk.heads.next() else {
             return None;
         };
         walk.rule = found.0;
@@ -256,7 +255,7 @@ impl Search {
 
     /// The labels from which the trials of the plan are looked for at which a walk stands: those of the position, where
     /// that is one of the same plan, and else none.
-    fn labels_in(&self, walk: &Walk) -> &[Label]
+    fn labels_in(&self, walk: &Walk<'_>) -> &[Label]
         ensures { result.now ≡ labels_in self.now.place walk.now.rule walk.now.head }
     {
         let position = &self.position;
@@ -269,8 +268,13 @@ impl Search {
 
     /// Where a walk to the next trial begins: at the position's rule and head, or at the head after that where the position is
     /// past the active label there, since each trial at a head has that label first.
-    fn first_walk(&self) -> Walk
-        ensures { (s : Space) → s.active ≡ self.now.label → HasComeTo s self.now.place result.rule result.head }
+    fn first_walk<'s, A: Allocator + Copy>(
+        &self,
+        program: &'s Program<A>,
+        atom: &Atom<A>,
+    ) -> Walk<'s>
+        ensures come { (s : Space) → s.active ≡ self.now.label → HasComeTo s self.now.place result.rule result.head }
+        ensures ahead { (s : Space) → s.rules ≡ program.now → atom_at s.store s.active ≡ Some atom.now → AreAhead s result.rule result.head result.heads }
     {
         let position = &self.position;
         let head = match position.labels.as_slice().first() {
@@ -280,7 +284,7 @@ impl Search {
         Walk {
             rule: position.rule,
             head,
-            near: 0,
+            heads: program.heads_from(atom.pred(), position.rule, head),
         }
     }
 
@@ -299,8 +303,8 @@ impl Search {
     {
         // For the proof: the labels of a store are at most the greatest.
         let _given = view.active();
-        let mut walk = self.first_walk();
-        while let Some(join) = Search::next_join(program, plans, view, atom, &mut walk) {
+        let mut walk = self.first_walk(program, atom);
+        while let Some(join) = Search::next_join(program, plans, view, &mut walk) {
             if let Some(labels) = join.find(self.labels_in(&walk)) {
                 return Some(Position {
                     rule: walk.rule,
@@ -391,12 +395,10 @@ impl Search {
         requires label { self.old.label ≤ 4294967295 }
         ensures { self.new ≡ record { label = self.old.label; place = past (number ∷ head ∷ self.old.label ∷ []) } }
     {
-        let mut labels = Labels::new();
-        labels.push(self.label + 1);
         self.position = Position {
             rule: number,
             head,
-            labels,
+            labels: alone(self.label + 1),
         };
     }
 
@@ -519,7 +521,7 @@ impl Search {
     fn pass_in_plan<'s, A: Allocator + Copy>(
         &mut self,
         join: &Join<'s, A>,
-        walk: &Walk,
+        walk: &Walk<'_>,
         most: u64,
         instance: &mut Instance,
         bound: &mut Binding<'s, A>,
@@ -567,9 +569,9 @@ impl Search {
     {
         // For the proof: the labels of a store are at most the greatest.
         let _given = view.active();
-        let mut walk = self.first_walk();
+        let mut walk = self.first_walk(program, atom);
         let mut count = 0;
-        while let Some(join) = Search::next_join(program, plans, view, atom, &mut walk) {
+        while let Some(join) = Search::next_join(program, plans, view, &mut walk) {
             let passed = self.pass_in_plan(&join, &walk, most - count, instance, bound);
             count += passed.count;
             match passed.end {

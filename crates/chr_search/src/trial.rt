@@ -166,14 +166,15 @@ fn labels_from<A: Allocator>(placed: &[Placed<A>], first: usize, count: usize) -
     labels
 }
 
-/// Copies, with copies of the atoms. An `Err` is E01.
+/// Copies, with copies of the atoms and with room for so many more. An `Err` is E01.
 fn copy_placed<A: Allocator + Copy>(
     alloc: A,
     placed: &[Placed<A>],
+    more: usize,
 ) -> Result<Vec<Placed<A>, A>, AllocError>
     ensures { IfOk result (λ made. map placed_as made.items ≡ map placed_as placed.now) }
 {
-    let mut made = Vec::with_capacity(alloc, placed.len())?;
+    let mut made = Vec::with_capacity(alloc, placed.len().saturating_add(more))?;
     for one in placed {
         made.push(one.copy(alloc)?)?;
     }
@@ -263,7 +264,7 @@ impl<A: Allocator + Copy> Trial<A> {
     pub fn copy(&self, alloc: A) -> Result<Trial<A>, AllocError>
         ensures { IfOk result (λ made. made ≡ self.now) }
     {
-        let placed = copy_placed(alloc, &self.placed)?;
+        let placed = copy_placed(alloc, &self.placed, 0)?;
         Ok(Trial {
             rule: Arc::try_clone(&self.rule)?,
             number: self.number,
@@ -305,14 +306,19 @@ impl<A: Allocator + Copy> Trial<A> {
         (part, last)
     }
 
-    /// The trial with one label more. An `Err` is E01.
-    pub fn lengthened(self, last: Placed<A>) -> Result<Trial<A>, AllocError>
-        requires { IsFormed (lengthened self (placed_as last)) }
-        ensures { IfOk result (λ made. made ≡ lengthened self (placed_as last)) }
+    /// A copy with one label more. An `Err` is E01.
+    pub fn lengthened(&self, alloc: A, last: Placed<A>) -> Result<Trial<A>, AllocError>
+        requires { IsFormed (lengthened self.now (placed_as last)) }
+        ensures { IfOk result (λ made. made ≡ lengthened self.now (placed_as last)) }
     {
-        let mut longer = self;
-        longer.placed.push(last)?;
-        Ok(longer)
+        let mut placed = copy_placed(alloc, &self.placed, 1)?;
+        placed.push(last)?;
+        Ok(Trial {
+            rule: Arc::try_clone(&self.rule)?,
+            number: self.number,
+            head: self.head,
+            placed,
+        })
     }
 
     /// Whether two trials are equal: the rule with its number, the head, and the labels with their heads and atoms,

@@ -4,7 +4,6 @@ use Rattle.std.specs.List.{AllByRecursion}
 use Rattle.std.proofs.lemmas.List.{map_push}
 use Rattle.chr_value.specs.Atoms.{Atom}
 use Rattle.chr_value.specs.declared.atom.Pred.{Pred}
-use Rattle.chr_value.proofs.Chosen.{some_is}
 use Rattle.chr_rule.specs.Rules.{Simpagation, rule_at}
 use Rattle.chr_rule.specs.Occurrences.{IsNextOccurrence}
 use Rattle.chr_rule.specs.Scope.{IsRule}
@@ -19,7 +18,6 @@ use Rattle.chr_search.specs.Fronts.{trial_alone, ComeAfter}
 use Rattle.chr_search.proofs.Alone.{alone_next, alone_trial, alone_is}
 use Rattle.chr_search.proofs.Fronts.{full_after}
 use Rattle.chr_search.proofs.Making.{next_trial}
-use Rattle.chr_search.proofs.PlanByPlan.{head_within}
 use Rattle.chr_sheet.specs.Beside.{ComeNext, last_of}
 use Rattle.chr_sheet.specs.Columns.{Head, Column, IsColumn, AreNextHeads, at_head}
 use Rattle.chr_sheet.proofs.Columns.{column_of, only_read}
@@ -101,15 +99,9 @@ column_made s store st w t p pred os k name arity e = record {
 }
 
 -- the last of heads that come next, or the one before them
-abbrev last_head : ℕ → ℕ → List Head → ℕ × ℕ
+abbrev pub last_head : ℕ → ℕ → List Head → ℕ × ℕ
 last_head r h [] = (r, h)
 last_head r h (o ∷ os) = last_head o.number o.head os
-
--- those that were found so far, and the last of them
-pub record AreFound (rules : List (Simpagation ℕ)) (pred : Pred) (r h : ℕ) (os : List Head) (number head : ℕ) : Type 0 where
-  pub next : AreNextHeads rules pred r h os
-  pub last : last_head r h os ≡ (number, head)
-  pub low : head ≤ 6
 
 next_push : (rules : List (Simpagation ℕ)) (pred : Pred) (r h : ℕ) (os : List Head) (o : Head) → AreNextHeads rules pred r h os → IsNextOccurrence rules pred (last_head r h os).0 ((last_head r h os).1 + 1) (o.number, o.head) → rule_at rules o.number ≡ Some o.rule → length (heads_of o.rule) ≡ 1 → AreNextHeads rules pred r h (os ++ o ∷ [])
 next_push rules pred r h [] o e next is one = (next, is, one, tt)
@@ -119,17 +111,14 @@ last_push : (r h : ℕ) (os : List Head) (o : Head) → last_head r h (os ++ o �
 last_push r h [] o = refl
 last_push r h (q ∷ qs) o = last_push q.number q.head qs o
 
-pub found_more : {X : Type 0} (f : X → Head) (rules : List (Simpagation ℕ)) (pred : Pred) (r h number head : ℕ) (xs new : List X) (x : X) → AreFound rules pred r h (map f xs) number head → new ≡ xs ++ x ∷ [] → IsNextOccurrence rules pred number (head + 1) ((f x).number, (f x).head) → rule_at rules (f x).number ≡ Some (f x).rule → length (f x).rule.kept + length (f x).rule.removed ≡ 1 → AreFound rules pred r h (map f new) (f x).number (f x).head
-found_more f rules pred r h number head xs new x a items next is count =
+pub heads_push : {X : Type 0} (f : X → Head) (rules : List (Simpagation ℕ)) (pred : Pred) (r h : ℕ) (xs new : List X) (x : X) → AreNextHeads rules pred r h (map f xs) → new ≡ xs ++ x ∷ [] → IsNextOccurrence rules pred (last_head r h (map f xs)).0 ((last_head r h (map f xs)).1 + 1) ((f x).number, (f x).head) → rule_at rules (f x).number ≡ Some (f x).rule → length (f x).rule.kept + length (f x).rule.removed ≡ 1 → AreNextHeads rules pred r h (map f new)
+heads_push f rules pred r h xs new x are items next is count =
     let o : Head = f x in
     let one : length (heads_of o.rule) ≡ 1 = length-append o.rule.kept o.rule.removed ∙ count in
-    let same : next.occurs.rule ≡ o.rule = some_is next.occurs.rule o.rule (sym next.occurs.rule_is ∙ is) in
-    let within : o.head ≤ length (heads_of next.occurs.rule) = head_within next.occurs.rule o.head next.occurs.at.head next.occurs.at.head_is in
-    subst (λ os. AreFound rules pred r h os o.number o.head) (sym (ap (map f) items ∙ map_push f xs x)) (record {
-      next = next_push rules pred r h (map f xs) o a.next (subst (λ (at : ℕ × ℕ). IsNextOccurrence rules pred at.0 (at.1 + 1) (o.number, o.head)) (sym a.last) next) is one;
-      last = last_push r h (map f xs) o;
-      low = (let few : length (heads_of next.occurs.rule) ≡ 1 = ap (λ (rule : Simpagation ℕ). length (heads_of rule)) same ∙ one in omega arith);
-    })
+    subst (AreNextHeads rules pred r h) (sym (ap (map f) items ∙ map_push f xs x)) (next_push rules pred r h (map f xs) o are next is one)
+
+pub last_pushed : {X : Type 0} (f : X → Head) (r h : ℕ) (xs new : List X) (x : X) → new ≡ xs ++ x ∷ [] → last_head r h (map f new) ≡ ((f x).number, (f x).head)
+last_pushed f r h xs new x items = ap (last_head r h) (ap (map f) items ∙ map_push f xs x) ∙ last_push r h (map f xs) (f x)
 
 -- what holds of a trial and more holds of the last
 pub last_all : (P : Trial → Type 0) (t : Trial) (us : List Trial) → AllByRecursion P (t ∷ us) → P (last_of t us)

@@ -1,18 +1,21 @@
 -- Trials of the active label alone that are reported, one after another.
-use Rattle.std.proofs.Common.{◌≡◌, ◌↔◌, IsTrue, Bool, ℕ, ◌+◌, ◌≤◌, List, [], ◌∷◌, ◌++◌, map, length, Option, Some, None, MatchOption, refl, sym, ◌∙◌, ap, ap₂, subst, arith}
+use Rattle.std.proofs.Common.{◌≡◌, ◌↔◌, IsTrue, Bool, ℕ, ◌+◌, ◌≤◌, List, [], ◌∷◌, ◌++◌, map, length, Option, Some, None, MatchOption, IfSome, refl, sym, ◌∙◌, ap, ap₂, subst, arith}
 use Rattle.std.specs.List.{AllByRecursion}
 use Rattle.std.proofs.lemmas.List.{map_push}
 use Rattle.chr_value.specs.Atoms.{Atom}
 use Rattle.chr_value.specs.declared.atom.Pred.{Pred}
 use Rattle.chr_value.proofs.Chosen.{some_is}
 use Rattle.chr_rule.specs.Rules.{Simpagation, rule_at, heads_of}
-use Rattle.chr_rule.specs.Occurrences.{NoneFrom, IsNextOccurrence}
+use Rattle.chr_rule.specs.Occurrences.{HeadsFrom, NoneFrom, IsNextOccurrence, AreHeadsFrom}
+use Rattle.chr_rule.specs.Scope.{IsRule}
 use Rattle.chr_model.specs.Stores.{Store, atom_at}
 use Rattle.chr_search.specs.Positions.{past}
 use Rattle.chr_search.specs.Trials.{Space, IsTrial, IsNext, NoneLeft}
 use Rattle.chr_search.specs.Verdicts.{Placed, Trial, position, IsTrialOf}
 use Rattle.chr_search.specs.Fronts.{trial_alone}
 use Rattle.chr_search.proofs.Alone.{alone_next, alone_none, alone_trial}
+use Rattle.chr_search.proofs.Descents.{rule_scoped}
+use Rattle.chr_search.proofs.Judging.{few_heads}
 use Rattle.chr_search.proofs.Making.{next_trial}
 use Rattle.chr_search.proofs.Plans.{planned}
 use Rattle.chr_search.proofs.Tree.{least_same}
@@ -78,6 +81,16 @@ its_head s rules place t a w n is =
     let low : 1 ≤ t.head = q.from in
     let high : t.head ≤ length (heads_of t.rule) = subst (λ (r : Simpagation ℕ). t.head ≤ length (heads_of r)) same q.to in
     let full : length (heads_of t.rule) ≡ 1 = w.full in
+    omega arith
+
+-- a head at which the active label comes next has a small number
+pub next_low : (s : Space) (rules : List (Simpagation ℕ)) (place : List ℕ) (o : ℕ × ℕ) (t : Trial) → IsAloneOf s rules t → AllByRecursion IsRule rules → IsNext s place (o.0 ∷ o.1 ∷ s.active ∷ []) → o.1 ≤ 6
+next_low s rules place o t a scoped n =
+    let i : IsTrial s (o.0 ∷ o.1 ∷ s.active ∷ []) = next_trial s place (o.0 ∷ o.1 ∷ s.active ∷ []) n in
+    let c = i.grows.1.1.0 in
+    let q = planned s.rules s.plans a.plans o.0 o.1 c.0 c.1 c.2.rule_is c.2.order_is in
+    let to : o.1 ≤ length (heads_of c.0) = q.to in
+    let few : length (heads_of c.0) ≤ 6 = few_heads c.0 (rule_scoped rules scoped o.0 c.0 (sym (ap (λ (rs : List (Simpagation ℕ)). rule_at rs o.0) a.rules_are) ∙ c.2.rule_is)) in
     omega arith
 
 -- ---- which trial comes next
@@ -149,6 +162,28 @@ alone_met_one s rules place t p pred here before after count met next then e at 
     let at_arity : pred.arity ≡ length a.alone.placed.atom.args = arity ∙ ap (λ (x : Placed). length x.atom.args) (sym same) in
     subst (λ (o : ℕ × ℕ). HasMetAlone s place after (count + 1) (Some o) then) (sym at)
     (met_here s rules place t pred before after count met next then e a w at_name at_arity (subst (λ (o : ℕ × ℕ). (next ≡ Some o) × (rule_at rules o.0 ≡ Some t.rule)) at told) (subst (λ (o : ℕ × ℕ). Follows rules pred o then) at o) h)
+
+-- the predicate of these heads is that of a trial's one label
+abbrev pub ArePredOf : HeadsFrom → Trial → Type 0
+ArePredOf heads t = (p : Placed) → t.placed ≡ p ∷ [] → (heads.pred.name.number ≡ p.atom.name) × (heads.pred.arity ≡ length p.atom.args)
+
+pub pred_of : (heads : HeadsFrom) (pred : Pred) (t : Trial) (p : Placed) → heads.pred ≡ pred → t.placed ≡ p ∷ [] → pred.name.number ≡ p.atom.name → pred.arity ≡ length p.atom.args → ArePredOf heads t
+pred_of heads pred t p is one name arity q e =
+    let both : p ∷ [] ≡ q ∷ [] = sym one ∙ e in
+    let same : p ≡ q = cc in
+    subst (λ (x : Placed). (heads.pred.name.number ≡ x.atom.name) × (heads.pred.arity ≡ length x.atom.args)) same (ap (λ (y : Pred). y.name.number) is ∙ name, ap (λ (y : Pred). y.arity) is ∙ arity)
+
+pub pred_as : (heads new : HeadsFrom) (t : Trial) → new.pred ≡ heads.pred → ArePredOf heads t → ArePredOf new t
+pred_as heads new t is are p e = subst (λ (q : Pred). (q.name.number ≡ p.atom.name) × (q.arity ≡ length p.atom.args)) (sym is) (are p e)
+
+-- the heads after the one that comes next
+abbrev pub AreAfter : List (Simpagation ℕ) → HeadsFrom → Option (ℕ × ℕ) → Type 0
+AreAfter rules heads next = IfSome next (λ o. AreHeadsFrom rules heads o.0 (o.1 + 1))
+
+-- what the heads after one tell of the one that comes then
+pub follows_there : (rules : List (Simpagation ℕ)) (pred : Pred) (heads : HeadsFrom) (o : ℕ × ℕ) (then : Option (ℕ × ℕ)) → MatchOption then (NoneFrom rules pred o.0 (o.1 + 1)) (λ found. IsNextOccurrence rules pred o.0 (o.1 + 1) found × AreHeadsFrom rules heads found.0 (found.1 + 1)) → Follows rules pred o then × AreAfter rules heads then
+follows_there rules pred heads o None none = (none, tt)
+follows_there rules pred heads o (Some x) found = (found.0, found.1)
 
 pub met_as : (s : Space) (place : List ℕ) (ts : List Trial) (count count-now : ℕ) (met met-now next next-now : Option (ℕ × ℕ)) → count-now ≡ count → met-now ≡ met → next-now ≡ next → HasMetAlone s place ts count met next → HasMetAlone s place ts count-now met-now next-now
 met_as s place ts count count-now met met-now next next-now e f g h =

@@ -139,20 +139,18 @@ fn next_heads<A: Allocator + Copy>(
     ensures few { IfOk result (λ heads. length heads.items ≤ most) }
     ensures next { IfOk result (λ heads. AreNextHeads program.now pred after.0 after.1 (map (head_in program.now) heads.items)) }
 {
-    let (mut number, mut head) = after;
-    let mut near = 0;
+    let mut ahead = program.heads_from(pred, after.0, after.1 + 1);
     let mut heads = Vec::new(alloc);
     'heads: while heads.len() < most {
-        let Some(found) = program.next_occurrence(pred, number, head + 1, &mut near) else {
+        let Some((number, head)) = ahead.next() else {
             break;
         };
-        let Some(rule) = program.rule(usize::from(found.0)) else {
+        let Some(rule) = program.rule(usize::from(number)) else {
             break;
         };
         if rule.heads() != 1 {
             break;
         }
-        (number, head) = found;
         push_with_room(&mut heads, OneHead { number, head }, most.min(HEADS_ROOM))?;
     }
     Ok(heads)

@@ -206,17 +206,19 @@ fn meet_alone<A: Allocator + Copy>(
     ensures reports { (s : Space) (place : List ℕ) → IsAloneOf s program.now column.now.first → IsNext s place (first.0 ∷ first.1 ∷ s.active ∷ []) → Reports s place (map misfit (column_trials column.now)) result.0 (place_past place s.active result.1) }
     ensures met { MatchOption result.1 ⊤ (λ o. (1 ≤ o.0) × (1 ≤ o.1)) }
 {
+    // For the proof: the rules are valid.
+    let _rules = program.rules();
     let trial = column.first();
     let pred = trial.placed()[0].atom.pred();
     let at = (trial.number(), trial.head());
-    let mut near = 0;
+    let mut ahead = program.heads_from(pred, first.0, first.1 + 1);
     let mut next = Some(first);
     let mut count = 0;
     let mut met = None;
     if is_at(program, next, at, trial.rule()) {
         count = 1;
         met = Some(at);
-        next = program.next_occurrence(pred, at.0, at.1 + 1, &mut near);
+        next = ahead.next();
     }
     let (judged, more) = column.more();
     for other in more {
@@ -226,7 +228,7 @@ fn meet_alone<A: Allocator + Copy>(
         }
         count += 1;
         met = Some(at);
-        next = program.next_occurrence(pred, at.0, at.1 + 1, &mut near);
+        next = ahead.next();
     }
     (count, met)
 }

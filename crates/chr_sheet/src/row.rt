@@ -86,7 +86,7 @@ impl<A: Allocator + Copy> Row<A> {
         let Some(last) = lasts.pop() else {
             unreachable!();
         };
-        let trial = part.copy(alloc)?.lengthened(last)?;
+        let trial = part.lengthened(alloc, last)?;
         Ok((part, lasts, trial))
     }
 }

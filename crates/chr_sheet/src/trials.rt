@@ -121,10 +121,7 @@ impl<A: Allocator + Copy> Trials<A> {
             Trials::One(trial) => trial.copy(alloc),
             Trials::Branch(row) => row.part().copy(alloc),
             Trials::Column(column) => column.first().copy(alloc),
-            Trials::Row(row) => row
-                .part()
-                .copy(alloc)?
-                .lengthened(row.lasts()[0].copy(alloc)?),
+            Trials::Row(row) => row.part().lengthened(alloc, row.lasts()[0].copy(alloc)?),
         }
     }
 

@@ -138,7 +138,7 @@ fn command_refused(
 }
 
 /// Serves a run with request number `n` refused. The command that was refused, by the words above, or "rule" where a rule did
-/// without the list of its nodes, and whether a request was refused.
+/// without the list of its words, and whether a request was refused.
 fn refused(alloc: Global, input: &[u8], rows: Refused, n: u64) -> Option<(&'static str, bool)> {
     let memory = Refusing::new(alloc, n);
     let mut source = MemorySource::new(input, 65_536);

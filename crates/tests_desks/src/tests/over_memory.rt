@@ -122,7 +122,7 @@ impl<'m> Visit<Memory<'m>> for WithRefusal<'_> {
     }
 }
 
-/// The command of such a session that is refused, by the words above, or "rule" where a rule did without the list of its nodes,
+/// The command of such a session that is refused, by the words above, or "rule" where a rule did without the list of its words,
 /// and whether a request was.
 fn refused<R: Wait>(rt: &R, texts: Global, n: u64, input: &[u8]) -> Option<(&'static str, bool)> {
     let memory = Refusing::new(texts, 0);

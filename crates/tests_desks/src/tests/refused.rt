@@ -171,7 +171,7 @@ fn is_told(reply: &Reply<Memory>, told: &Told) -> bool {
 }
 
 /// Asks a desk with request number `n` of the command refused, and again where it was. Whether it was. None where the reply
-/// isn't E01 exactly then, or isn't the expected one else. A load does without the memory for the list of a rule's nodes.
+/// isn't E01 exactly then, or isn't the expected one else. A load does without the memory for the list of a rule's words.
 fn is_refused<'m, D: Desk<Memory<'m>>>(
     desk: &mut D,
     memory: Memory<'m>,

@@ -60,7 +60,7 @@ fn count<'m>(memory: Memory<'m>, names: &mut Names<Memory<'m>>, text: Text) -> R
 }
 
 /// Reads a text of this kind with request number `n` refused, and again into the same table, which then gives so many. A rule
-/// does without the memory for the list of its nodes.
+/// does without the memory for the list of its words.
 pub fn read(memory: &Refusing<Global>, n: u64, text: Text, wanted: usize) -> Option<bool> {
     let mut names = Names::new(memory);
     memory.refuse(n);

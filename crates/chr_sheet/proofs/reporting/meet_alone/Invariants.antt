@@ -3,7 +3,7 @@ use Rattle.std.specs.Bool.{⊤}
 use Rattle.chr_search.specs.Trials.{Space, IsNext}
 use Rattle.chr_sheet.specs.Alone.{IsAloneOf}
 use Rattle.chr_sheet.specs.Columns.{column_trials, head_in}
-use Rattle.chr_sheet.proofs.TurnsAlone.{HasMetAlone}
+use Rattle.chr_sheet.proofs.TurnsAlone.{AreAfter, ArePredOf, HasMetAlone}
 use Rattle.chr_sheet.proofs.reporting.meet_alone.Given as goal
 
 -- the trials so far are reported, and it is known which one comes next
@@ -12,5 +12,7 @@ invariant-loop-other g l = record {
   more : map (head_in l.judged) l.more ≡ l.column.more;
   few : l.count ≤ l.other-index + 1;
   met : (s : Space) (place : List ℕ) → IsAloneOf s l.program l.column.first → IsNext s place (l.fn.first.0 ∷ l.fn.first.1 ∷ s.active ∷ []) → HasMetAlone s place (take (l.other-index + 1) (column_trials l.column)) l.count l.met l.next;
+  pred : ArePredOf l.ahead l.column.first;
+  ahead : AreAfter l.program l.ahead l.next;
   low : MatchOption l.met ⊤ (λ o. (1 ≤ o.0) × (1 ≤ o.1));
 }

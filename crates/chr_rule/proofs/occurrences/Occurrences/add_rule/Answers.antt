@@ -1,7 +1,7 @@
 use Rattle.std.proofs.Common.{◌≡◌, Some, None, sym, subst, arith}
 use Rattle.chr_rule.specs.Rules.{head_at}
 use Rattle.chr_rule.specs.Parts.{shape}
-use Rattle.chr_rule.proofs.Index.{all_heads, more_heads, skip_head}
+use Rattle.chr_rule.proofs.Index.{all_heads, more_heads, new_head, skip_head}
 use Rattle.chr_rule.proofs.occurrences.Occurrences.add_rule.Goals.{in-Some, in_default}
 use Rattle.chr_rule.proofs.occurrences.Occurrences.add_rule.Goals as goal
 
@@ -33,3 +33,6 @@ pub returns : goal.returns
 returns g c =
     let count = c.heads.ensures.count in
     all_heads c.args.self.now.items c.loop-head.self.items c.args.number c.loop-head.head c.args.rule.now (omega (arith, count)) c.loop-head.invariant.added
+
+pub insert_reserved-requires-clause-new : goal.insert_reserved-requires-clause-new
+insert_reserved-requires-clause-new g c = new_head c.args.self.now.items c.loop-head.self.items c.args.number c.loop-head.head c.args.rule.now c.pred.result c.requires.last c.loop-head.invariant.added

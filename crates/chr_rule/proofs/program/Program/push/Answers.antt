@@ -5,7 +5,7 @@ use Rattle.chr_rule.specs.Rules.{Simpagation}
 use Rattle.std.specs.List.{AllByRecursion}
 use Rattle.chr_rule.specs.Scope.{IsRule}
 use Rattle.chr_rule.specs.Index.{IsIndexOf, HasHeadsOf}
-use Rattle.chr_rule.proofs.Index.{index_pushed, few_pushed, all_pushed}
+use Rattle.chr_rule.proofs.Index.{index_pushed, few_pushed, all_pushed, numbers_within}
 use Rattle.chr_rule.proofs.program.Program.push.Goals as goal
 
 pub invariant_of-self : goal.invariant_of-self
@@ -28,3 +28,10 @@ invariant_of-self-2 g c =
       subst (AllByRecursion IsRule) (sym pushed) (all_pushed before rule c.self.invariant.1 (subst IsRule c.deref-2.ensures c.variables-variables.ensures.valid)),
       subst (λ (rules : List (Simpagation _)). IsIndexOf rules c.add_rule.new.self.items) (sym pushed) (index_pushed before _ _ rule (c.len.result + 1) number index added),
     )
+
+pub add_rule-requires-clause-last : goal.add_rule-requires-clause-last
+add_rule-requires-clause-last g c =
+    let before = map arc_value c.self.inside.rules.items in
+    let index : IsIndexOf before c.reserve-2.new.self.items = rw (c.reserve-2.ensures.items) c.self.invariant.2 in
+    let count : c.len.result ≡ length c.self.inside.rules.items = search rules in
+    numbers_within before _ (c.len.result + 1) (ap (λ n. n + 1) (count ∙ sym (length-map c.self.inside.rules.items arc_value))) index

@@ -1,8 +1,8 @@
-use Rattle.std.proofs.Common.{◌≡◌, ℕ, List, [], ◌∷◌, Some, refl, sym, ap, subst}
-use Rattle.chr_value.specs.Stores.{atom_at}
+use Rattle.std.proofs.Common.{ℕ, ◌+◌, List, [], ◌∷◌, refl, sym, ap, subst}
 use Rattle.chr_search.specs.Tree.{Least, NoneBeyond}
 use Rattle.chr_search.specs.Trials.{Space, older, MayFollow, NoneLeft}
 use Rattle.chr_search.specs.Joined.{join_of}
+use Rattle.chr_search.specs.PlanByPlan.{AreAhead}
 use Rattle.chr_search.proofs.PlanByPlan.{HasJoin, come_to_end, has_join, found_at_join, on_from_join}
 use Rattle.chr_search.proofs.Occurring.{head_fits, nearer}
 use Rattle.chr_search.proofs.search.Search.find_in.Goals.{In-Some}
@@ -11,19 +11,24 @@ use Rattle.chr_search.proofs.search.Search.find_in.Goals as goal
 -- the join that the walk has come to
 here : (g : _) (c : In-Some g) → HasJoin (older c.args.program.now c.args.plans.now c.args.view.now.store.entries c.args.self.now.label) c.args.self.now.place c.next_join.new.walk.rule c.next_join.new.walk.head (join_of c.in-Some.join)
 here g c =
-    has_join _ _ (ap (older c.args.program.now c.args.plans.now c.args.view.now.store.entries) c.requires.active) c.args.self.now.place c.loop-join.walk.rule c.loop-join.walk.head c.next_join.new.walk.rule c.next_join.new.walk.head (join_of c.in-Some.join) c.loop-join.invariant c.in-Some.ensures
+    has_join _ _ (ap (older c.args.program.now c.args.plans.now c.args.view.now.store.entries) c.requires.active) c.args.self.now.place c.loop-join.walk.rule c.loop-join.walk.head c.next_join.new.walk.rule c.next_join.new.walk.head (join_of c.in-Some.join) c.loop-join.invariant.come c.in-Some.ensures.next
     c.requires.plans c.args.view.now.store refl c.active-given.ensures.labelled
 
 pub overflow_add-walk : goal.overflow_add-walk
 overflow_add-walk g c = head_fits _ _ _ _ _ (here g (goal.at.overflow_add-walk g c).In-Some)
 
 pub loop-join-smaller : goal.loop-join-smaller
-loop-join-smaller g c = nearer _ _ _ _ _ _ _ c.in-Some.ensures.come.later (here g (goal.at.loop-join-smaller g c).In-Some)
+loop-join-smaller g c = nearer _ _ _ _ _ _ _ c.in-Some.ensures.next.come.later (here g (goal.at.loop-join-smaller g c).In-Some)
 
 pub loop-join-preserved : goal.loop-join-preserved
 loop-join-preserved g c =
-    on_from_join _ _ _ _ _ (here g (goal.at.loop-join-preserved g c).In-Some)
-    (subst (λ (ls : List ℕ). NoneBeyond (MayFollow (join_of c.in-Some.join)) 1 [] ls) c.labels_in.ensures c.in_default-find.ensures)
+    let walk = c.next_join.new.walk in
+    record {
+      come =
+          on_from_join _ _ _ _ _ (here g (goal.at.loop-join-preserved g c).In-Some)
+          (subst (λ (ls : List ℕ). NoneBeyond (MayFollow (join_of c.in-Some.join)) 1 [] ls) c.labels_in.ensures c.in_default-find.ensures);
+      ahead = subst (λ l. AreAhead (older c.args.program.now c.args.plans.now c.args.view.now.store.entries l) walk.rule (walk.head + 1) walk.heads) c.requires.active c.in-Some.ensures.ahead;
+    }
 
 pub returns-in-Some-find : goal.returns-in-Some-find
 returns-in-Some-find g c =
@@ -35,8 +40,12 @@ returns g c =
     let s : Space = older c.args.program.now c.args.plans.now c.args.view.now.store.entries c.args.self.now.label in
     let r = c.loop-join.walk.rule in
     let h = c.loop-join.walk.head in
-    come_to_end s c.args.self.now.place r h c.loop-join.invariant (subst (λ l. NoneLeft (older c.args.program.now c.args.plans.now c.args.view.now.store.entries l) (r ∷ h ∷ [])) c.requires.active c.in_default.ensures)
+    come_to_end s c.args.self.now.place r h c.loop-join.invariant.come (subst (λ l. NoneLeft (older c.args.program.now c.args.plans.now c.args.view.now.store.entries l) (r ∷ h ∷ [])) c.requires.active c.in_default.ensures.next)
 
-pub next_join-requires-clause-atom : goal.next_join-requires-clause-atom
-next_join-requires-clause-atom g c =
-    subst (λ l. atom_at c.args.view.now.store.entries l ≡ Some c.args.atom.now) (sym c.requires.active) c.requires.atom
+pub loop-join-init : goal.loop-join-init
+loop-join-init g c = record { come = c.first_walk-walk.ensures.come _ refl; ahead = c.first_walk-walk.ensures.ahead _ refl c.requires.atom }
+
+pub next_join-requires-clause-ahead : goal.next_join-requires-clause-ahead
+next_join-requires-clause-ahead g c =
+    let walk = c.loop-join.walk in
+    subst (λ l. AreAhead (older c.args.program.now c.args.plans.now c.args.view.now.store.entries l) walk.rule walk.head walk.heads) (sym c.requires.active) c.loop-join.invariant.ahead

@@ -1,9 +1,9 @@
-use Rattle.std.proofs.Common.{◌≡◌, ◌-◌, [], ◌∷◌, Some, refl, sym, ap, subst, ◌∙◌, arith}
-use Rattle.chr_value.specs.Stores.{atom_at}
+use Rattle.std.proofs.Common.{◌≡◌, ◌+◌, ◌-◌, [], ◌∷◌, refl, sym, ap, subst, ◌∙◌, arith}
 use Rattle.chr_search.specs.declared.passing.End.{End}
 use Rattle.chr_search.specs.Trials.{Space, older, NoneLeft}
 use Rattle.chr_search.specs.Joined.{join_of}
 use Rattle.chr_search.specs.Passing.{EndsIn}
+use Rattle.chr_search.specs.PlanByPlan.{AreAhead}
 use Rattle.chr_search.proofs.PassingOver.{pass_more}
 use Rattle.chr_search.proofs.PlanByPlan.{HasGone, HasJoin, grown, come_to_end, has_join, trials_at, gone_at, on_at, whole_at}
 use Rattle.chr_search.proofs.Occurring.{head_fits, nearer}
@@ -14,7 +14,7 @@ use Rattle.chr_search.proofs.search.Search.pass_in.Goals as goal
 here : (g : _) (c : In-Some g) → HasJoin (older c.args.program.now c.args.plans.now c.args.view.now.store.entries c.args.self.now.label) c.loop-join.self.place c.next_join.new.walk.rule c.next_join.new.walk.head (join_of c.in-Some.join)
 here g c =
     let i = c.loop-join.invariant in
-    has_join _ _ (ap (older c.args.program.now c.args.plans.now c.args.view.now.store.entries) c.requires.active) c.loop-join.self.place c.loop-join.walk.rule c.loop-join.walk.head c.next_join.new.walk.rule c.next_join.new.walk.head (join_of c.in-Some.join) i.come c.in-Some.ensures
+    has_join _ _ (ap (older c.args.program.now c.args.plans.now c.args.view.now.store.entries) c.requires.active) c.loop-join.self.place c.loop-join.walk.rule c.loop-join.walk.head c.next_join.new.walk.rule c.next_join.new.walk.head (join_of c.in-Some.join) i.come c.in-Some.ensures.next
     c.requires.plans c.args.view.now.store refl c.active-given.ensures.labelled
 
 -- and its trials that are passed over
@@ -31,7 +31,7 @@ pub overflow_add-walk : goal.overflow_add-walk
 overflow_add-walk g c = head_fits _ _ _ _ _ (here g (goal.at.overflow_add-walk g c).In-Some)
 
 pub loop-join-smaller : goal.loop-join-smaller
-loop-join-smaller g c = nearer _ _ _ _ _ _ _ c.in-Some.ensures.come.later (here g (goal.at.loop-join-smaller g c).In-Some)
+loop-join-smaller g c = nearer _ _ _ _ _ _ _ c.in-Some.ensures.next.come.later (here g (goal.at.loop-join-smaller g c).In-Some)
 
 pub loop-join-preserved : goal.loop-join-preserved
 loop-join-preserved g c =
@@ -40,12 +40,14 @@ loop-join-preserved g c =
     let gone = gone g at.After-pass_in_plan-passed h in
     let i = c.loop-join.invariant in
     let p = c.pass_in_plan-passed.ensures.passed in
+    let walk = c.next_join.new.walk in
     let e = subst (λ (end : End). EndsIn (join_of c.in-Some.join) p.labels end c.pass_in_plan-passed.new.instance.labels.items c.pass_in_plan-passed.new.bound) c.in-NoneLeft.is p.ends in
     record {
       few = omega (arith, i.few, c.pass_in_plan-passed.ensures.few);
       label = c.pass_in_plan-passed.ensures.label ∙ i.label;
       passed = pass_more _ _ _ _ _ _ i.passed gone.passed;
       come = on_at _ _ _ _ h.join _ _ _ _ gone e;
+      ahead = subst (λ l. AreAhead (older c.args.program.now c.args.plans.now c.args.view.now.store.entries l) walk.rule (walk.head + 1) walk.heads) c.requires.active c.in-Some.ensures.ahead;
     }
 
 pub returns-in-Enough-clause-passed : goal.returns-in-Enough-clause-passed
@@ -88,8 +90,18 @@ returns-clause-then g c =
     let r = c.loop-join.walk.rule in
     let i = c.loop-join.invariant in
     let h = c.loop-join.walk.head in
-    come_to_end s c.loop-join.self.place r h i.come (subst (λ l. NoneLeft (older c.args.program.now c.args.plans.now c.args.view.now.store.entries l) (r ∷ h ∷ [])) c.requires.active c.in_default.ensures)
+    come_to_end s c.loop-join.self.place r h i.come (subst (λ l. NoneLeft (older c.args.program.now c.args.plans.now c.args.view.now.store.entries l) (r ∷ h ∷ [])) c.requires.active c.in_default.ensures.next)
 
-pub next_join-requires-clause-atom : goal.next_join-requires-clause-atom
-next_join-requires-clause-atom g c =
-    subst (λ l. atom_at c.args.view.now.store.entries l ≡ Some c.args.atom.now) (sym c.requires.active) c.requires.atom
+pub loop-join-init : goal.loop-join-init
+loop-join-init g c = record {
+  few = omega arith;
+  label = refl;
+  passed = refl;
+  come = c.first_walk-walk.ensures.come _ refl;
+  ahead = c.first_walk-walk.ensures.ahead _ refl c.requires.atom;
+}
+
+pub next_join-requires-clause-ahead : goal.next_join-requires-clause-ahead
+next_join-requires-clause-ahead g c =
+    let walk = c.loop-join.walk in
+    subst (λ l. AreAhead (older c.args.program.now c.args.plans.now c.args.view.now.store.entries l) walk.rule walk.head walk.heads) (sym c.requires.active) c.loop-join.invariant.ahead

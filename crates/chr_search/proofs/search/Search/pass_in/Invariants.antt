@@ -1,7 +1,7 @@
 use Rattle.std.proofs.Common.{◌≡◌, ◌+◌, ◌-◌, ◌*◌, ◌≤◌, length}
 use Rattle.chr_search.specs.Trials.{older}
 use Rattle.chr_search.specs.Passing.{Passes}
-use Rattle.chr_search.specs.PlanByPlan.{HasComeTo}
+use Rattle.chr_search.specs.PlanByPlan.{AreAhead, HasComeTo}
 use Rattle.chr_search.proofs.search.Search.pass_in.Given as goal
 
 abbrev pub invariant-loop-join : goal.invariant-loop-join
@@ -10,6 +10,7 @@ invariant-loop-join g l = record {
   label : l.self.label ≡ l.fn.self.label;
   passed : Passes (older l.fn.program l.fn.plans l.fn.view.store.entries l.fn.self.label) l.count l.fn.self.place l.self.place;
   come : HasComeTo (older l.fn.program l.fn.plans l.fn.view.store.entries l.fn.self.label) l.self.place l.walk.rule l.walk.head;
+  ahead : AreAhead (older l.fn.program l.fn.plans l.fn.view.store.entries l.fn.self.label) l.walk.rule l.walk.head l.walk.heads;
 }
 
 abbrev pub decreases-loop-join : goal.decreases-loop-join
