@@ -59,18 +59,12 @@ one_more : (operator : Lexeme → Option Operator) (side : List Lexeme → Front
     → chain_at operator side (suc m) f (operator_sign o ∷ (formula_spelled g ++ rest)) ≡ chain_at operator side m (Operation o f g) rest
 one_more operator side o f g m rest is read = rw (is, read) refl
 
-nat_same : (a b : ℕ) → nat_eq a b ≡ true → a ≡ b
-nat_same a b h = eqb-true a b h
-
-nat_other : (a b : ℕ) → nat_eq a b ≡ false → a ≡ b → ⊥
-nat_other a b h = eqb-false a b h
-
 spine_one : (k : ℕ) (operator : Lexeme → Option Operator) (side : List Lexeme → Front ParsedExpression) (Stops : List Lexeme → Type 0) (d : ℕ) → Level k operator side Stops d
     → (o : Operator) (f g : ParsedExpression) (m n : ℕ) (rest : List Lexeme) → IsGrouped (Operation o f g) → k ≤ binds o → depth (Operation o f g) ≤ d → (b : Bool) → nat_eq (binds o) k ≡ b → (if b then suc (operators k f) else 0) + m ≡ n → Stops rest
     → ((m n : ℕ) (rest : List Lexeme) → IsGrouped f → k ≤ holds f → depth f ≤ d → operators k f + m ≡ n → Stops rest → reading operator side n (formula_spelled f ++ rest) ≡ chain_at operator side m f rest)
     → reading operator side n (formula_spelled (Operation o f g) ++ rest) ≡ chain_at operator side m (Operation o f g) rest
 spine_one k operator side Stops d level o f g m n rest grouped tight deep true is e stops before =
-    let same : binds o ≡ k = nat_same (binds o) k is in
+    let same : binds o ≡ k = eqb-true (binds o) k is in
     let split : formula_spelled (Operation o f g) ++ rest ≡ formula_spelled f ++ (operator_sign o ∷ (formula_spelled g ++ rest)) = append_assoc (formula_spelled f) (operator_sign o ∷ formula_spelled g) rest in
     let left : k ≤ holds f = omega (arith, same, grouped.0) in
     let deep_left : depth f ≤ d = omega (arith, deep) in
@@ -81,7 +75,7 @@ spine_one k operator side Stops d level o f g m n rest grouped tight deep true i
     ∙ before (suc m) n (operator_sign o ∷ (formula_spelled g ++ rest)) grouped.2 left deep_left count (level.stops o (formula_spelled g ++ rest) same)
     ∙ one_more operator side o f g m rest (level.known o same) (level.reads g rest grouped.3 right deep_right stops)
 spine_one k operator side Stops d level o f g m n rest grouped tight deep false is e stops before =
-    let other = nat_other (binds o) k is in
+    let other = eqb-false (binds o) k is in
     let more : suc k ≤ binds o = omega (arith, other, tight) in
     alone operator side (Operation o f g) m n rest (level.reads (Operation o f g) rest grouped more deep stops) e
 

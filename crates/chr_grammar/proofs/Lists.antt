@@ -84,7 +84,3 @@ take_rest n ts = grind (arith, common_steps)
 
 pub tokens_from_place : (ts : List Token) (n : ℕ) → map lexeme (take (length ts - n) (drop n ts)) ≡ drop n (map lexeme ts)
 tokens_from_place ts n = ap (map lexeme) (take_rest n ts) ∙ map_drop n ts
-
--- the token in front, before those behind it
-pub first_there : (ts : List Token) (d : Token) → 1 ≤ length ts → map lexeme ts ≡ lexeme (get_or ts 0 d) ∷ map lexeme (take (length ts - 1) (drop 1 ts))
-first_there ts d some = token_there ts 0 d (omega (arith, some)) ∙ ap (λ (x : List Lexeme). lexeme (get_or ts 0 d) ∷ x) (sym (tokens_from_place ts 1))

@@ -8,7 +8,7 @@ use Rattle.chr_grammar.specs.Parsing.{test_at, tests_of, member_at, body_of, dec
 use Rattle.chr_grammar.specs.Spelling.{AreByCommas, test_spelled, member_spelled, declared_spelled, IsGuardMember, IsBodyMember, AreGuardMembers, AreBodyMembers}
 use Rattle.chr_grammar.proofs.Fronts.{ListRead, list_found, list_read}
 use Rattle.chr_grammar.proofs.Members.{test_found, member_found}
-use Rattle.chr_grammar.proofs.Declarations.{AnyDeclared, declared_found}
+use Rattle.chr_grammar.proofs.Declarations.{AnyDeclared}
 use Rattle.chr_grammar.proofs.Members_again.{test_again, test_some, member_again, member_some, declared_again, declared_some}
 
 pub are_tests : (ts : List Lexeme) (xs : List GuardMember) → tests_of ts ≡ Ok xs → AreGuardMembers ts xs
@@ -28,9 +28,6 @@ members_read = list_read IsBodyMember member_spelled member_at member_again memb
 
 pub no_members : (ts : List Lexeme) (k : Kind) → body_of ts ≡ Err k → (k ≡ Syntax) × ((xs : List BodyMember) → AreBodyMembers ts xs → ⊥)
 no_members ts k h = (subst (ListRead IsBodyMember member_spelled ts) h (list_found IsBodyMember member_spelled member_at member_found ts), λ xs a. let x = members_read ts xs a in cc)
-
-pub are_declared : (ts : List Lexeme) (xs : List Declared) → declarations_of ts ≡ Ok xs → AreByCommas AnyDeclared declared_spelled ts xs
-are_declared ts xs h = subst (ListRead AnyDeclared declared_spelled ts) h (list_found AnyDeclared declared_spelled declared_at declared_found ts)
 
 pub declared_read : (ts : List Lexeme) (xs : List Declared) → AreByCommas AnyDeclared declared_spelled ts xs → declarations_of ts ≡ Ok xs
 declared_read = list_read AnyDeclared declared_spelled declared_at declared_again declared_some

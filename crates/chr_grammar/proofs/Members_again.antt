@@ -3,6 +3,7 @@ use Rattle.std.proofs.Common.{◌≡◌, ◌<◌, ℕ, Bool, true, false, List, 
 use Rattle.std.specs.Prelude.{codes, ◌||◌}
 use Rattle.std.specs.List.{AllByRecursion}
 use Rattle.std.specs.Str.{bytes_eq}
+use Rattle.chr_value.proofs.Texts.{neither}
 use Rattle.chr_value.specs.Spelling.{is_reserved}
 use Rattle.chr_lex.specs.declared.mark.Mark.TheVariants as mark
 use Rattle.chr_lex.specs.declared.mark.Mark.TheVariants.{Comma}
@@ -140,13 +141,9 @@ test_some (Differ t u) = omega (arith, length-append (term_spelled t) (OfMark ma
 
 -- ---- members of a body
 
-either_false : (a b : Bool) → a || b ≡ false → a ≡ false
-either_false false b h = refl
-either_false true b h = absurd cc
-
 not_true : (name : List ℕ) → is_reserved name ≡ false → bytes_eq name (codes "true") ≡ false
 not_true name h =
-    either_false (bytes_eq name (codes "true")) (bytes_eq name (codes "fail")) (either_false (bytes_eq name (codes "true") || bytes_eq name (codes "fail")) (bytes_eq name (codes "false")) h)
+    (neither (bytes_eq name (codes "true")) (bytes_eq name (codes "fail")) (neither (bytes_eq name (codes "true") || bytes_eq name (codes "fail")) (bytes_eq name (codes "false")) h).0).0
 
 member_atom : (name : List ℕ) (ws : List ParsedTerm) (rest : List Lexeme) → IsUnreserved name ws → Ends rest → phrase_at (OfWord (word.Name name) ∷ (arguments ws ++ rest)) ≡ Ok (record { name = name; args = ws }, rest)
     → member_at (OfWord (word.Name name) ∷ (arguments ws ++ rest)) ≡ Ok (Add (record { name = name; args = ws }), rest)

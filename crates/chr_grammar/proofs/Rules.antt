@@ -64,10 +64,6 @@ cut_at p ts n d is lt = record {
   back = from_map p ts ∙ ap (λ (k : ℕ). drop k (map lexeme ts)) (sym is) ∙ token_there ts n d lt ∙ ap (λ (x : List Lexeme). lexeme (get_or ts n d) ∷ x) (sym (tokens_from_place ts (n + 1)));
 }
 
--- what is made of the two sides
-pub by_cut : {A : Type 0} (f : List Lexeme → List Lexeme → A) (p : Lexeme → Bool) (ts front back : List Lexeme) → IsCut p ts front back → f (before p ts) (from_first p ts) ≡ f front back
-by_cut f p ts front back h = rw (h.front, h.back) refl
-
 -- ---- too few tokens
 
 pub short_member : (ts : List Token) → length ts < 2 → member_at (map lexeme ts) ≡ last_member_at (map lexeme ts)

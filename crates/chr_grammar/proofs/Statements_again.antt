@@ -33,20 +33,10 @@ abbrev AllInside : List Lexeme → Type 0
 AllInside ts = AllByRecursion Inside ts
 
 operator_inside : (o : Operator) → Inside (operator_sign o)
-operator_inside operator.Add = plain
-operator_inside operator.Sub = plain
-operator_inside operator.Mul = plain
-operator_inside operator.Quot = plain
-operator_inside operator.Rem = plain
-operator_inside operator.Mod = plain
+operator_inside = elim [ operator.Add ↦ plain | operator.Sub ↦ plain | operator.Mul ↦ plain | operator.Quot ↦ plain | operator.Rem ↦ plain | operator.Mod ↦ plain ]
 
 relation_inside : (r : Relation) → Inside (relation_sign r)
-relation_inside relation.Less = plain
-relation_inside relation.LessEqual = plain
-relation_inside relation.Greater = plain
-relation_inside relation.GreaterEqual = plain
-relation_inside relation.Equal = plain
-relation_inside relation.Unequal = plain
+relation_inside = elim [ relation.Less ↦ plain | relation.LessEqual ↦ plain | relation.Greater ↦ plain | relation.GreaterEqual ↦ plain | relation.Equal ↦ plain | relation.Unequal ↦ plain ]
 
 closings_inside : (n : ℕ) → AllInside (closings n)
 closings_inside zero = tt
@@ -97,7 +87,7 @@ list_inside spelled each [] = tt
 list_inside spelled each (x ∷ []) = each x
 list_inside spelled each (x ∷ y ∷ xs) = all_append Inside (spelled x) (OfMark mark.Comma ∷ by_commas spelled (y ∷ xs)) (each x) (plain, list_inside spelled each (y ∷ xs))
 
-weaker : {A : Type 0} (P Q : A → Type 0) → ((x : A) → P x → Q x) → (xs : List A) → AllByRecursion P xs → AllByRecursion Q xs
+pub weaker : {A : Type 0} (P Q : A → Type 0) → ((x : A) → P x → Q x) → (xs : List A) → AllByRecursion P xs → AllByRecursion Q xs
 weaker P Q f [] h = tt
 weaker P Q f (x ∷ xs) h = (f x h.0, weaker P Q f xs h.1)
 

@@ -3,15 +3,16 @@
 ghost use Rattle.std.specs.Prelude.{map};
 ghost use Rattle.chr_lex.specs.Reading.{Gives};
 ghost use Rattle.chr_lex.specs.Tokens.{lexeme};
+ghost use Rattle.chr_grammar.specs.Parsed as parsed;
 ghost use Rattle.chr_grammar.specs.Views.{member};
 ghost use Rattle.chr_grammar.specs.Parsing.{added_at, is_member_at, last_member_at, member_at};
 
 use crate::expression::{ParsedExpression, parse_expression};
 use crate::list::Member;
 use crate::phrase::{ParsedAtom, parse_phrase};
-use crate::sign::{is_is, is_open, is_true};
+use crate::sign::is_true;
 use chr_lex::fault::{ItemError, Kind};
-use chr_lex::{Token, Word};
+use chr_lex::{Mark, Token, Word};
 use std::alloc::Allocator;
 
 /// A member of a body as it is written.
@@ -24,8 +25,6 @@ pub enum BodyMember<'a, A: Allocator> {
 }
 
 impl<'a, A: Allocator + Copy> Member<A, &'a [Token<'a>]> for BodyMember<'a, A> {
-    ghost use Rattle.chr_grammar.specs.Parsed as parsed;
-
     ghost Said = { parsed.BodyMember };
 
     ghost said = { member };
@@ -34,15 +33,11 @@ impl<'a, A: Allocator + Copy> Member<A, &'a [Token<'a>]> for BodyMember<'a, A> {
 
     fn read(alloc: A, tokens: &'a [Token<'a>]) -> Result<(Self, &'a [Token<'a>]), ItemError> {
         match tokens {
-            [first, second, after @ ..] => {
-                if is_is(*second) {
-                    is_member(alloc, *first, after)
-                } else if is_open(*second) {
-                    added(alloc, tokens)
-                } else {
-                    last_member(alloc, tokens)
-                }
-            }
+            [first, second, after @ ..] => match *second {
+                Token::Mark(Mark::Is) => is_member(alloc, *first, after),
+                Token::Mark(Mark::Open) => added(alloc, tokens),
+                _ => last_member(alloc, tokens),
+            },
             _ => last_member(alloc, tokens),
         }
     }

@@ -7,9 +7,9 @@ ghost use Rattle.chr_grammar.specs.Views.{declared};
 ghost use Rattle.chr_grammar.specs.Parsing.{named, is_named, is_opened, are_closed, is_module, is_library, declared_of, declared_at};
 
 use crate::list::Member;
-use crate::sign::{is_close, is_open, is_slash, named};
+use crate::sign::{is_close, is_open, named};
 use chr_lex::fault::{ItemError, Kind};
-use chr_lex::{Token, Word};
+use chr_lex::{Mark, Token, Word};
 use std::alloc::Allocator;
 
 /// A name and how many arguments it takes, as they are declared.
@@ -91,12 +91,10 @@ fn declared_of<'a>(
 ) -> Result<Declared<'a>, ItemError>
     ensures { Gives declared result (declared_of (lexeme name.entry) (lexeme slash.entry) (lexeme number.entry)) }
 {
-    if !is_slash(slash) {
-        return Err(ItemError::Fault(Kind::Syntax));
-    }
-    match (name, number) {
+    match (name, slash, number) {
         (
             Token::Word(Word::Name(name)),
+            Token::Mark(Mark::Slash),
             Token::Word(
                 Word::Number {
                     negative: false,

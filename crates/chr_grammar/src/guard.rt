@@ -3,6 +3,7 @@
 ghost use Rattle.std.specs.Prelude.{◌≡◌, map};
 ghost use Rattle.chr_lex.specs.Reading.{Gives};
 ghost use Rattle.chr_lex.specs.Tokens.{lexeme};
+ghost use Rattle.chr_grammar.specs.Parsed as parsed;
 ghost use Rattle.chr_grammar.specs.Views.{formula, term, test};
 ghost use Rattle.chr_grammar.specs.Parsing.{relation, relation_at, equality, equal, other_side_at, plain_test_at, compared_at, test_at};
 
@@ -27,8 +28,6 @@ pub enum GuardMember<'a, A: Allocator> {
 }
 
 impl<'a, A: Allocator + Copy> Member<A, &'a [Token<'a>]> for GuardMember<'a, A> {
-    ghost use Rattle.chr_grammar.specs.Parsed as parsed;
-
     ghost Said = { parsed.GuardMember };
 
     ghost said = { test };

@@ -5,7 +5,7 @@ ghost use Rattle.std.specs.List.{take_while};
 ghost use Rattle.chr_lex.specs.Tokens.{lexeme};
 ghost use Rattle.chr_grammar.specs.Parsing.{divides, IsCut};
 
-use crate::sign::{Divider, divides};
+use crate::sign::Divider;
 use chr_lex::Token;
 
 /// How many tokens there are before the first divider.
@@ -15,7 +15,7 @@ fn count_before(divider: Divider, tokens: &[Token]) -> usize
 {
     tokens
         .iter()
-        .take_while(|token| !divides(divider, **token))
+        .take_while(|token| !divider.is(**token))
         .count()
 }
 

@@ -4,6 +4,7 @@ ghost use Rattle.std.specs.Prelude.{◌≡◌, map};
 ghost use Rattle.chr_value.specs.Spelling.{is_reserved};
 ghost use Rattle.chr_lex.specs.Reading.{Gives};
 ghost use Rattle.chr_lex.specs.Tokens.{lexeme};
+ghost use Rattle.chr_grammar.specs.Parsed as parsed;
 ghost use Rattle.chr_grammar.specs.Views.{term, phrase};
 ghost use Rattle.chr_grammar.specs.Parsing.{terms_at, args_at, phrase_at, phrases_of};
 
@@ -22,8 +23,6 @@ pub struct ParsedAtom<'a, A: Allocator> {
 }
 
 impl<'a, A: Allocator + Copy> Member<A, &'a [Token<'a>]> for ParsedAtom<'a, A> {
-    ghost use Rattle.chr_grammar.specs.Parsed as parsed;
-
     ghost Said = { parsed.ParsedAtom };
 
     ghost said = { phrase };

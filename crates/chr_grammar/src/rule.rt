@@ -11,9 +11,9 @@ use crate::guard::GuardMember;
 use crate::list::parse_parts;
 use crate::parts::cut;
 use crate::phrase::{ParsedAtom, parse_phrases};
-use crate::sign::{Divider, is_at, is_propagate, named};
-use chr_lex::Token;
+use crate::sign::{Divider, is_at, named};
 use chr_lex::fault::{ItemError, Kind};
+use chr_lex::{Mark, Token};
 use std::alloc::Allocator;
 
 /// The heads of a rule as they are written.
@@ -71,22 +71,10 @@ fn heads_by_arrow<'a, A: Allocator + Copy>(
 ) -> Result<Heads<'a, A>, ItemError>
     ensures { Gives (λ h. (map phrase h.kept.items, map phrase h.removed.items)) result (heads_by_arrow (lexeme arrow.entry) (map lexeme tokens.now)) }
 {
-    if is_propagate(arrow) {
-        all_kept(alloc, tokens)
-    } else {
-        parse_heads(alloc, tokens)
+    match arrow {
+        Token::Mark(Mark::Propagate) => all_kept(alloc, tokens),
+        _ => parse_heads(alloc, tokens),
     }
-}
-
-/// The guard, if there is one, and the body.
-fn parse_consequence<'a, A: Allocator + Copy>(
-    alloc: A,
-    tokens: &'a [Token<'a>],
-) -> Result<Consequence<'a, A>, ItemError>
-    ensures { Gives (λ c. (map test c.guard.items, map member c.body.items)) result (consequence_of (map lexeme tokens.now)) }
-{
-    let (guard, body) = parse_parts(alloc, Divider::Bar, tokens)?;
-    Ok(Consequence { guard, body })
 }
 
 /// The rule of this name, by what follows the name.
@@ -101,11 +89,11 @@ fn named_rule<'a, A: Allocator + Copy>(
         return Err(ItemError::Fault(Kind::Syntax));
     };
     let heads = heads_by_arrow(alloc, arrow, front)?;
-    let consequence = parse_consequence(alloc, behind)?;
+    let (guard, body) = parse_parts(alloc, Divider::Bar, behind)?;
     Ok(ParsedRule {
         rule_name,
         heads,
-        consequence,
+        consequence: Consequence { guard, body },
     })
 }
 

@@ -2,7 +2,7 @@
 
 ghost use Rattle.std.specs.Prelude.{◌≡◌, option_map};
 ghost use Rattle.chr_lex.specs.Tokens.{lexeme};
-ghost use Rattle.chr_grammar.specs.Parsing.{is_open, is_close, is_comma, is_slash, is_declares, is_at, is_is, is_propagate, divides, named, is_true};
+ghost use Rattle.chr_grammar.specs.Parsing.{is_open, is_close, is_comma, is_declares, is_at, divides, named, is_true};
 
 use chr_lex::{Mark, Token, Word};
 
@@ -17,14 +17,16 @@ pub enum Divider {
     Bar,
 }
 
-/// Whether the token is this divider.
-pub fn divides(divider: Divider, token: Token) -> bool
-    ensures { result ≡ divides divider (lexeme token.entry) }
-{
-    match divider {
-        Divider::Arrow => matches!(token, Token::Mark(Mark::Simplify | Mark::Propagate)),
-        Divider::Backslash => matches!(token, Token::Mark(Mark::Backslash)),
-        Divider::Bar => matches!(token, Token::Mark(Mark::Bar)),
+impl Divider {
+    /// Whether the token is this divider.
+    pub fn is(self, token: Token) -> bool
+        ensures { result ≡ divides self (lexeme token.entry) }
+    {
+        match self {
+            Divider::Arrow => matches!(token, Token::Mark(Mark::Simplify | Mark::Propagate)),
+            Divider::Backslash => matches!(token, Token::Mark(Mark::Backslash)),
+            Divider::Bar => matches!(token, Token::Mark(Mark::Bar)),
+        }
     }
 }
 
@@ -46,12 +48,6 @@ pub fn is_comma(token: Token) -> bool
     matches!(token, Token::Mark(Mark::Comma))
 }
 
-pub fn is_slash(token: Token) -> bool
-    ensures { result ≡ is_slash (lexeme token.entry) }
-{
-    matches!(token, Token::Mark(Mark::Slash))
-}
-
 pub fn is_declares(token: Token) -> bool
     ensures { result ≡ is_declares (lexeme token.entry) }
 {
@@ -62,18 +58,6 @@ pub fn is_at(token: Token) -> bool
     ensures { result ≡ is_at (lexeme token.entry) }
 {
     matches!(token, Token::Mark(Mark::At))
-}
-
-pub fn is_is(token: Token) -> bool
-    ensures { result ≡ is_is (lexeme token.entry) }
-{
-    matches!(token, Token::Mark(Mark::Is))
-}
-
-pub fn is_propagate(token: Token) -> bool
-    ensures { result ≡ is_propagate (lexeme token.entry) }
-{
-    matches!(token, Token::Mark(Mark::Propagate))
 }
 
 /// The name that the token is.

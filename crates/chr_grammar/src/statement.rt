@@ -58,16 +58,14 @@ pub fn parse_statement<'a, A: Allocator + Copy>(
 ) -> Result<Statement<'a, A>, ItemError>
     ensures { Gives statement result (statement_of (map lexeme tokens.now)) }
 {
-    match tokens {
-        [first, second, after @ ..] => {
-            if !is_declares(*first) {
-                return a_rule(alloc, tokens);
-            }
-            match named(*second) {
-                Some(name) => directive(alloc, name, after),
-                None => Err(ItemError::Fault(Kind::Syntax)),
-            }
-        }
-        _ => a_rule(alloc, tokens),
+    let [first, second, after @ ..] = tokens else {
+        return a_rule(alloc, tokens);
+    };
+    if !is_declares(*first) {
+        return a_rule(alloc, tokens);
+    }
+    match named(*second) {
+        Some(name) => directive(alloc, name, after),
+        None => Err(ItemError::Fault(Kind::Syntax)),
     }
 }

@@ -4,6 +4,7 @@ ghost use Rattle.std.specs.Prelude.{◌≡◌, ◌≤◌, ◌<◌, length, drop,
 ghost use Rattle.chr_lex.specs.Reading.{Gives};
 ghost use Rattle.chr_lex.specs.Tokens.{word, lexeme};
 ghost use Rattle.chr_grammar.specs.Parsed.{is_name};
+ghost use Rattle.chr_grammar.specs.Parsed as parsed;
 ghost use Rattle.chr_grammar.specs.Views.{term};
 ghost use Rattle.chr_grammar.specs.Parsing.{is_functor, next_at, behind_word_at, term_at};
 
@@ -29,8 +30,6 @@ pub struct ParsedTerm<'a, A: Allocator> {
 }
 
 impl<'a, A: Allocator + Copy> Member<A, &'a [Token<'a>]> for ParsedTerm<'a, A> {
-    ghost use Rattle.chr_grammar.specs.Parsed as parsed;
-
     ghost Said = { parsed.ParsedTerm };
 
     ghost said = { term };

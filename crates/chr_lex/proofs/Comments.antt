@@ -1,8 +1,7 @@
 -- The text without its comments, from a place on.
-use Rattle.std.proofs.Common.{◌≡◌, ◌≤◌, ◌<◌, ℕ, zero, suc, ◌+◌, ◌-◌, true, false, cond, List, [], ◌∷◌, ◌++◌, length, take, drop, refl, sym, ap, ◌∙◌, arith, length-take, length-drop, length-append, append_assoc}
+use Rattle.std.proofs.Common.{◌≡◌, ◌≤◌, ◌<◌, ℕ, zero, suc, ◌+◌, true, false, cond, List, [], ◌∷◌, ◌++◌, length, take, drop, refl, sym, ap, ◌∙◌, arith, length-take, length-drop, length-append, append_assoc}
 use Rattle.std.specs.Prelude.{◌==◌, ◌||◌}
 use Rattle.std.specs.List.{take_while}
-use Rattle.std.proofs.lemmas.Grind.{common_steps}
 use Rattle.std.proofs.lemmas.Bool.{and_parts, false_from_ne_true}
 use Rattle.std.proofs.lemmas.Bool.Decides.{nat_tests}
 use Rattle.std.proofs.lemmas.List.Filters.{length-filter_both}
@@ -45,9 +44,6 @@ block_same front out n bs comment h fits is comment-is grown =
     let count : n + 3 ≡ 3 + length (before_close (drop 1 bs)) = omega (arith, before_len n (drop 1 bs) fits is) in
     let there : plain_of (drop (n + 3) bs) ≡ plain (3 + length (before_close (drop 1 bs))) bs = sym (plain-skip (n + 3) bs) ∙ ap (λ (k : ℕ). plain k bs) count in
     rw (grown, comment-is, is, there, h) (append_assoc (front ++ 1 ∷ []) _ _ ∙ append_assoc front (1 ∷ []) _)
-
-pub rest_of : (n : ℕ) (xs : List ℕ) → take (length xs - n) (drop n xs) ≡ drop n xs
-rest_of n xs = grind (arith, common_steps)
 
 ends_below : (bs : List ℕ) → length (line_ends bs) ≤ length bs
 ends_below bs = omega (arith, length-filter_both is_line_end is_within_line (λ x. refl) bs)

@@ -4,8 +4,9 @@ use Rattle.std.specs.List.{list_any, count_by}
 use Rattle.std.proofs.lemmas.List.Folds.{list_any-append}
 use Rattle.std.proofs.lemmas.List.Sums.{sum_by-append}
 use Rattle.std.proofs.lemmas.Slice.Eq.{bytes_eq-Decides}
+use Rattle.std.proofs.Math.Bool.{or-false}
+use Rattle.chr_value.proofs.Chosen.{both}
 use Rattle.chr_limits.specs.Variables.{is_blank, is_seen, seen_from, seen}
-use Rattle.chr_limits.proofs.Scoped.{both}
 
 absorb : (a q c : Bool) → (q ≡ true → a ≡ true) → (a || c) ≡ (a || (q || c))
 absorb true q c h = refl
@@ -27,12 +28,8 @@ same_step true x y m ys h p q = p ∙ absorb (list_any (bytes_eq x) m) (bytes_eq
 same_step false x y m ys h p q =
     q ∙ ap (λ (a : Bool). a || list_any (bytes_eq x) ys) (list_any-append (bytes_eq x) m (y ∷ [])) ∙ joined (list_any (bytes_eq x) m) (bytes_eq x y) (list_any (bytes_eq x) ys)
 
-or_false : (a : Bool) → a ≡ (a || false)
-or_false true = refl
-or_false false = refl
-
 same_from : (x : List ℕ) (m xs : List (List ℕ)) → list_any (bytes_eq x) (seen_from m xs) ≡ (list_any (bytes_eq x) m || list_any (bytes_eq x) xs)
-same_from x m [] = or_false (list_any (bytes_eq x) m)
+same_from x m [] = sym (or-false (list_any (bytes_eq x) m))
 same_from x m (y ∷ ys) = same_step (is_seen m y) x y m ys (twin m x y) (same_from x m ys) (same_from x (m ++ y ∷ []) ys)
 
 pub same : (names : List (List ℕ)) (x : List ℕ) → list_any (bytes_eq x) (seen names) ≡ list_any (bytes_eq x) names

@@ -5,14 +5,11 @@ use Rattle.std.specs.Bool.{OnTrue}
 use Rattle.std.proofs.lemmas.Bool.{OnTrue_from}
 use Rattle.std.proofs.lemmas.List.{at_drop_more}
 use Rattle.std.proofs.lemmas.List.Folds.{list_any-append}
+use Rattle.chr_value.proofs.Chosen.{both}
 use Rattle.chr_grammar.specs.Parsed.{BodyMember}
 use Rattle.chr_limits.specs.Variables.{is_blank, is_seen, seen_from, member_variables}
 use Rattle.chr_limits.specs.Scope.{are_seen, body_in_scope}
 use Rattle.chr_limits.proofs.Meeting.{met_from_append, met_from_longer, met_from_seen}
-
-pub both : (b c : Bool) → b && c ≡ true → (b ≡ true) × (c ≡ true)
-both true c e = (refl, e)
-both false c e = absurd (cc)
 
 still_or : (b c : Bool) → b ≡ true → b || c ≡ true
 still_or b c e = rw e refl

@@ -2,6 +2,7 @@
 use Rattle.std.proofs.Common.{◌≡◌, ◌<◌, ◌+◌, Bool, true, false, ltb, ◌||◌, cond, List, [], ◌∷◌, length, filter, Result, Ok, Err, refl, arith}
 use Rattle.std.specs.List.{list_any}
 use Rattle.std.proofs.lemmas.Bool.{ltb-false, le-ltb}
+use Rattle.chr_value.proofs.Texts.{neither}
 use Rattle.chr_lex.specs.declared.fault.Kind.{Kind}
 use Rattle.chr_grammar.specs.Parsed.{Declared, ParsedAtom, ParsedRule}
 use Rattle.chr_limits.specs.Words.{is_long, phrase_has, rule_has}
@@ -9,10 +10,6 @@ use Rattle.chr_limits.specs.Limits.{has_many_args, has_large_args, has_wide_atom
 use Rattle.chr_limits.specs.Variables.{variables_of, seen}
 use Rattle.chr_limits.specs.Judging.{removes_nothing, is_propagation, rule_judged, declaration_judged, post_judged}
 use Rattle.chr_limits.specs.Standing.{IsAllowedRule, AreAllowedDeclarations, AreAllowedPosts}
-
-pub neither : (a b : Bool) → a || b ≡ false → (a ≡ false) × (b ≡ false)
-neither true b h = absurd cc
-neither false b h = (refl, h)
 
 nor : (a b : Bool) → a ≡ false → b ≡ false → a || b ≡ false
 nor a b h k = rw h k

@@ -1,5 +1,5 @@
 -- With labels forgotten, the firings of a run are an abstract run.
-use Rattle.std.proofs.Common.{◌≡◌, ◌≢◌, ℕ, zero, suc, ◌+◌, ◌<◌, ◌≤◌, ◌⊎◌, inl, inr, Bool, true, false, cond, ◌||◌, ◌==◌, if◌then◌else◌, List, [], ◌∷◌, ◌++◌, map, length, Option, Some, None, refl, sym, ◌∙◌, ap, subst, arith, true-eqb, true≢false, get_or, set, slice_set, append_assoc, append-nil, IsPermutation}
+use Rattle.std.proofs.Common.{◌≡◌, ℕ, zero, suc, ◌+◌, ◌≤◌, ◌⊎◌, inl, inr, true, false, ◌==◌, if◌then◌else◌, List, [], ◌∷◌, ◌++◌, map, Some, refl, sym, ◌∙◌, ap, subst, arith, get_or, set, append_assoc, append-nil, IsPermutation}
 use Rattle.std.proofs.lemmas.Bool.Decides.{nat_tests}
 use Rattle.std.proofs.lemmas.List.Sorted.{IsPermutation-refl, IsPermutation-sym, IsPermutation-cons, IsPermutation-to_front, IsPermutation-append_left, IsPermutation-append_right, IsPermutation-trans, IsPermutation-middle, IsPermutation-append_comm}
 use Rattle.chr_value.specs.Atoms.{Atom}
@@ -8,9 +8,9 @@ use Rattle.chr_log.specs.declared.events.Version.{Version}
 use Rattle.chr_model.specs.Abstract.{Rules, Firing, AbstractStep, AbstractRun}
 use Rattle.chr_model.specs.Stores.{Store, atom_at, drop_label, without, labels, atoms, among, Distinct, Carry, Labelled}
 use Rattle.chr_model.specs.Goals.{Goal, Plain, Numbered, Ended, State, start, goal_at, plain_goals, erase}
-use Rattle.chr_model.specs.Steps.{posted, activated, ended, replaced, Simplify, Propagate, Step, Run}
+use Rattle.chr_model.specs.Steps.{posted, activated, ended, replaced, Simplify, Propagate, Run}
 use Rattle.chr_model.specs.Logs.{Lawful, posted_by, firing, firings, times}
-use Rattle.chr_model.proofs.Stores.{atom_at-drop, atom_at-without, among-append, Carry-move, times-drop, times-without, apart, Distinct-left, Distinct-right}
+use Rattle.chr_model.proofs.Stores.{atom_at-drop, atom_at-without, Carry-move, times-drop, times-without, apart, Distinct-left, Distinct-right}
 use Rattle.chr_model.proofs.Once.{LabelsOnce, Step-once, start_once}
 
 -- permutations, with lists that antt finds

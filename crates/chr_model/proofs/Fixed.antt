@@ -1,15 +1,12 @@
 -- A log has at most one last state, where the heads' atoms fix a body's.
-use Rattle.std.proofs.Common.{◌≡◌, ℕ, zero, suc, ◌⊎◌, inl, inr, Bool, true, false, List, [], ◌∷◌, ◌++◌, Option, Some, None, refl, sym, ◌∙◌, ap, ap₂, subst, slice_get, true≢false}
+use Rattle.std.proofs.Common.{◌≡◌, ℕ, ◌⊎◌, inl, inr, List, [], ◌∷◌, sym, ◌∙◌, ap, subst, true≢false}
 use Rattle.chr_value.specs.Atoms.{Atom}
-use Rattle.chr_rule.specs.Rules.{Simpagation}
-use Rattle.chr_guard.specs.Instances.{Instance}
 use Rattle.chr_log.specs.Events.{Event, Post, Activate, Fire, Drop}
 use Rattle.chr_log.specs.declared.events.Version.{Version}
 use Rattle.chr_model.specs.Abstract.{Rules}
 use Rattle.chr_model.specs.Stores.{Store, among, Labelled}
-use Rattle.chr_model.specs.Goals.{Goal, Plain, Numbered, Ended, State, goal_at}
+use Rattle.chr_model.specs.Goals.{Plain, State}
 use Rattle.chr_model.specs.Steps.{activated, ended, replaced, Simplify, Propagate, Step, Run}
-use Rattle.chr_model.specs.Programs.{Instances}
 use Rattle.chr_model.proofs.Stores.{Carry-same, apart}
 use Rattle.chr_model.proofs.Quiet.{same_label}
 

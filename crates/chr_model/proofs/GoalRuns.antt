@@ -1,5 +1,5 @@
 -- A lawful log is a goal-based run from all that it posts.
-use Rattle.std.proofs.Common.{◌≡◌, ◌≢◌, ℕ, zero, suc, ◌+◌, ◌<◌, ◌⊎◌, inl, inr, Bool, true, false, List, [], ◌∷◌, ◌++◌, map, length, refl, sym, ◌∙◌, ap, subst, get_or, set, slice_set, append_assoc, append-nil, IsPermutation}
+use Rattle.std.proofs.Common.{◌≡◌, ℕ, ◌+◌, ◌⊎◌, inl, inr, List, [], ◌∷◌, ◌++◌, map, refl, sym, ◌∙◌, ap, subst, append_assoc, append-nil, IsPermutation}
 use Rattle.std.proofs.lemmas.List.Sorted.{IsPermutation-refl, IsPermutation-append_right, IsPermutation-trans, IsPermutation-append_comm}
 use Rattle.chr_value.specs.Atoms.{Atom}
 use Rattle.chr_log.specs.Events.{Event, Post, Activate, Fire, Drop}

@@ -1,14 +1,14 @@
 -- An instance of labels that were given before was an instance before: why a search may be cut into steps.
-use Rattle.std.proofs.Common.{◌≡◌, ◌≢◌, ℕ, ◌+◌, ◌<◌, ◌≤◌, ◌⊎◌, inl, inr, Bool, true, false, cond, leb, ◌||◌, ◌==◌, if◌then◌else◌, true≢false, zero, suc, List, [], ◌∷◌, ◌++◌, length, Some, None, refl, sym, ◌∙◌, ap, subst, arith}
+use Rattle.std.proofs.Common.{◌≡◌, ℕ, ◌+◌, ◌<◌, ◌≤◌, ◌⊎◌, inl, inr, Bool, true, false, ◌||◌, true≢false, zero, suc, List, [], ◌∷◌, ◌++◌, length, Some, None, refl, sym, ◌∙◌, ap, subst, arith}
 use Rattle.std.proofs.lemmas.Bool.Decides.{nat_tests}
 use Rattle.chr_value.specs.Atoms.{Atom}
 use Rattle.chr_log.specs.Events.{Event, Post, Activate, Fire, Drop}
 use Rattle.chr_log.specs.declared.events.Version.{Version}
-use Rattle.chr_log.specs.declared.events.Version.TheVariants.{One, Two}
+use Rattle.chr_log.specs.declared.events.Version.TheVariants.{One}
 use Rattle.chr_model.specs.Abstract.{Rules}
-use Rattle.chr_model.specs.Stores.{Store, atom_at, without, labels, among, Labelled}
+use Rattle.chr_model.specs.Stores.{atom_at, without, labels, among, Labelled}
 use Rattle.chr_model.specs.Goals.{State, start}
-use Rattle.chr_model.specs.Steps.{posted, activated, ended, replaced, MayDrop, Simplify, Propagate, Step, Run}
+use Rattle.chr_model.specs.Steps.{MayDrop, Simplify, Propagate, Step, Run}
 use Rattle.chr_model.specs.Logs.{Lawful, times, given_by, up_from}
 use Rattle.chr_model.specs.Searches.{AllBelow, NoneBelow}
 use Rattle.chr_model.proofs.Stores.{atom_at-old, atom_at-kept, among-append, among-itself, Labelled-move, Labelled-there, times-there}

@@ -1,13 +1,13 @@
 -- Labels are given once, and removed at most once.
-use Rattle.std.proofs.Common.{◌≡◌, ◌≢◌, ℕ, ◌+◌, ◌<◌, ◌≤◌, ◌⊎◌, inl, inr, Bool, true, false, cond, leb, ◌||◌, ◌==◌, if◌then◌else◌, List, [], ◌∷◌, ◌++◌, map, length, Option, Some, None, refl, sym, ◌∙◌, ap, subst, arith, true-eqb, true≢false}
+use Rattle.std.proofs.Common.{◌≡◌, ℕ, ◌+◌, ◌≤◌, ◌⊎◌, inl, inr, true, false, cond, leb, List, [], ◌∷◌, ◌++◌, length, refl, sym, ◌∙◌, ap, subst, arith}
 use Rattle.std.proofs.lemmas.Bool.Decides.{nat_tests}
 use Rattle.chr_value.specs.Atoms.{Atom}
 use Rattle.chr_log.specs.Events.{Event, Post, Activate, Fire, Drop}
 use Rattle.chr_log.specs.declared.events.Version.{Version}
 use Rattle.chr_model.specs.Abstract.{Rules}
-use Rattle.chr_model.specs.Stores.{Store, atom_at, without, labels, among, Distinct, Carry, Labelled}
-use Rattle.chr_model.specs.Goals.{State, start, goal_at}
-use Rattle.chr_model.specs.Steps.{posted, activated, ended, replaced, Simplify, Propagate, Step, Run}
+use Rattle.chr_model.specs.Stores.{Store, without, labels, among, Distinct, Carry, Labelled}
+use Rattle.chr_model.specs.Goals.{State, start}
+use Rattle.chr_model.specs.Steps.{activated, ended, replaced, Simplify, Propagate, Step, Run}
 use Rattle.chr_model.specs.Logs.{Lawful, removed_by, given_by, times, up_from}
 use Rattle.chr_model.proofs.Stores.{Carry-there, labels-push, times-append, times-without, times-none, times-distinct, times-there, Distinct-right}
 

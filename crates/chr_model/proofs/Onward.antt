@@ -1,7 +1,7 @@
 -- What follows a run's first event.
-use Rattle.std.proofs.Common.{◌≡◌, ℕ, List, ◌∷◌, refl, sym, ◌∙◌, ap, subst}
+use Rattle.std.proofs.Common.{◌≡◌, ℕ, List, ◌∷◌, sym, ◌∙◌, ap, subst}
 use Rattle.chr_value.specs.Atoms.{Atom}
-use Rattle.chr_log.specs.Events.{Event, Post, Activate, Fire, Drop}
+use Rattle.chr_log.specs.Events.{Event, Post, Activate, Drop}
 use Rattle.chr_log.specs.declared.events.Version.{Version}
 use Rattle.chr_model.specs.Abstract.{Rules}
 use Rattle.chr_model.specs.Goals.{Plain, Numbered, State, goal_at}

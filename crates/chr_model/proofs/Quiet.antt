@@ -1,12 +1,12 @@
 -- Where no goal is open, no rule applies.
-use Rattle.std.proofs.Common.{◌≡◌, ◌≢◌, ℕ, zero, suc, ◌+◌, ◌<◌, ◌⊎◌, inl, inr, Bool, true, false, ◌||◌, ◌==◌, if◌then◌else◌, List, [], ◌∷◌, ◌++◌, map, length, slice_index_or, slice_set, Option, Some, None, refl, sym, ◌∙◌, ap, subst, arith, true-eqb, get_or, set, get_or-set_other, get_or-set_same, true≢false}
+use Rattle.std.proofs.Common.{◌≡◌, ◌≢◌, ℕ, zero, suc, ◌<◌, ◌⊎◌, inl, inr, true, false, ◌==◌, List, [], ◌∷◌, ◌++◌, map, length, refl, sym, ◌∙◌, ap, subst, arith, true-eqb, get_or, get_or-set_other, get_or-set_same, true≢false}
 use Rattle.std.proofs.lemmas.Bool.Decides.{nat_tests}
 use Rattle.chr_value.specs.Atoms.{Atom}
 use Rattle.chr_log.specs.Events.{Event, Post, Activate, Fire, Drop}
 use Rattle.chr_log.specs.declared.events.Version.{Version}
 use Rattle.chr_log.specs.declared.events.Version.TheVariants.{One, Two}
 use Rattle.chr_model.specs.Abstract.{Rules}
-use Rattle.chr_model.specs.Stores.{Store, atom_at, without, among, Carry, Labelled, Final}
+use Rattle.chr_model.specs.Stores.{Store, without, among, Carry, Labelled, Final}
 use Rattle.chr_model.specs.Goals.{Goal, Plain, Numbered, Ended, State, start, goal_at, IsNumbered, Quiet}
 use Rattle.chr_model.specs.Steps.{posted, activated, ended, replaced, MayDrop, Simplify, Propagate, Step, Run}
 use Rattle.chr_model.specs.Logs.{Lawful}

@@ -1,12 +1,12 @@
 -- Where searches look at older partners only: the youngest label of each instance is a numbered goal, and that gives the
 -- second condition of a drop.
-use Rattle.std.proofs.Common.{◌≡◌, ◌≢◌, ℕ, ◌+◌, ◌<◌, ◌≤◌, ◌⊎◌, inl, inr, Bool, true, false, leb, ◌||◌, ◌==◌, if◌then◌else◌, List, [], ◌∷◌, ◌++◌, map, sym, ◌∙◌, ap, subst, arith, true-eqb, true≢false, refl}
+use Rattle.std.proofs.Common.{◌≡◌, ◌≢◌, ℕ, ◌<◌, ◌≤◌, true, false, leb, ◌==◌, List, [], ◌∷◌, ◌++◌, map, sym, ◌∙◌, ap, subst, arith, true-eqb, true≢false, refl}
 use Rattle.std.proofs.lemmas.Bool.Decides.{nat_tests}
 use Rattle.chr_value.specs.Atoms.{Atom}
-use Rattle.chr_log.specs.declared.events.Version.TheVariants.{One, Two}
+use Rattle.chr_log.specs.declared.events.Version.TheVariants.{Two}
 use Rattle.chr_model.specs.Abstract.{Rules}
-use Rattle.chr_model.specs.Stores.{Store, atom_at, without, labels, among, Labelled}
-use Rattle.chr_model.specs.Goals.{Goal, Plain, Numbered, Ended, State, goal_at, IsNumbered}
+use Rattle.chr_model.specs.Stores.{without, labels, among}
+use Rattle.chr_model.specs.Goals.{Plain, Numbered, State, goal_at, IsNumbered}
 use Rattle.chr_model.specs.Steps.{posted, activated, ended, replaced, MayDrop}
 use Rattle.chr_model.specs.Logs.{times}
 use Rattle.chr_model.specs.Searches.{IsYoungest, YoungestAreGoals, NoneYoungest}

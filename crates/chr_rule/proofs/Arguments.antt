@@ -17,21 +17,10 @@ list_again (t ∷ ts) = ap (λ us. t ∷ us) (list_again ts)
 terms_of-injective : {N : Type 0} (ts us : List (Term N)) → terms_of ts ≡ terms_of us → ts ≡ us
 terms_of-injective ts us h = sym (list_again ts) ∙ ap list_of h ∙ list_again us
 
--- the functor and the arguments of an open term; of another term, those given
-abbrev functor_of : {N : Type 0} → N → Term N → N
-functor_of d (Var x) = d
-functor_of d (Given v) = d
-functor_of d (Open s ts) = s
-
-abbrev args_in : {N : Type 0} → Term N → Terms N
-args_in (Var x) = End
-args_in (Given v) = End
-args_in (Open s ts) = ts
-
 -- two open terms are equal where their functors and their lists of arguments are
 pub same-Open : (s t : ℕ) (us vs : List (Term ℕ)) → (Open s (terms_of us) ≡ Open t (terms_of vs)) ↔ ((s ≡ t) × (us ≡ vs))
 same-Open s t us vs =
-    (λ h. (ap (functor_of 0) h, terms_of-injective us vs (ap args_in h)), λ h. ap₂ (λ (f : ℕ) (ws : List (Term ℕ)). Open f (terms_of ws)) h.0 h.1)
+    (λ h. ((cc), terms_of-injective us vs (cc)), λ h. ap₂ (λ (f : ℕ) (ws : List (Term ℕ)). Open f (terms_of ws)) h.0 h.1)
 
 -- the variables of arguments are those of the list
 pub known-terms : (n : ℕ) (ts : List (Term ℕ)) → arguments_known n (terms_of ts) ≡ list_all (argument_known n) ts

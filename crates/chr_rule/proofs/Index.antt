@@ -1,12 +1,13 @@
 -- An index of the heads of rules.
-use Rattle.std.proofs.Common.{◌≡◌, ℕ, zero, suc, ◌+◌, ◌-◌, ◌<◌, ◌≤◌, ◌⊎◌, inl, inr, List, [], ◌∷◌, ◌++◌, length, get_or, drop, Some, None, slice_get, map, Bool, true, false, not, ◌&&◌, eqb, refl, sym, ap, ap₂, subst, ◌∙◌, arith, length-append}
+use Rattle.std.proofs.Common.{◌≡◌, ℕ, zero, suc, ◌+◌, ◌<◌, ◌≤◌, ◌⊎◌, inl, inr, List, [], ◌∷◌, ◌++◌, length, get_or, drop, Some, None, slice_get, map, Bool, true, false, not, ◌&&◌, eqb, refl, sym, ap, ap₂, subst, ◌∙◌, arith, length-append}
 use Rattle.std.proofs.Math.Nat.{eq-or-lt_of_le}
 use Rattle.std.proofs.lemmas.Option.{slice_get_within}
 use Rattle.std.proofs.lemmas.Bool.Decides.{nat_tests}
 use Rattle.std.proofs.lemmas.List.{length-map}
-use Rattle.std.proofs.lemmas.List.Elements.{Contains-get_or}
-use Rattle.std.proofs.lemmas.List.Sorted.{IsPermutation-sym, IsPermutation-insert, Contains-permutation}
-use Rattle.std.specs.List.{Contains, insert, AllByRecursion}
+use Rattle.std.proofs.lemmas.List.Elements.{All-cons, recursion_from_All, Contains-get_or}
+use Rattle.std.proofs.lemmas.List.Kept.{AllPairs-cons}
+use Rattle.std.proofs.lemmas.List.Sorted.{IsPermutation-sym, IsPermutation-insert, All-permutation, Contains-permutation}
+use Rattle.std.specs.List.{All, AllByRecursion, Contains, insert}
 use Rattle.std.specs.List.Sorted.{IsNonDecreasingBy}
 use Rattle.chr_value.specs.declared.atom.Pred.{Pred}
 use Rattle.chr_rule.specs.declared.occurrences.Occurrence.{Occurrence}
@@ -137,34 +138,22 @@ same_by_rank a b f g e =
     let arity : a.pred.arity ≡ b.pred.arity = omega (arith, f1, f2, f3, g1, g2, g3, e) in
     same_occurrence a b (same_parts a.pred b.pred name arity) (omega (arith, f1, f2, f3, g1, g2, g3, e)) (omega (arith, f1, f2, f3, g1, g2, g3, e))
 
-all_of : (P : Occurrence → Type 0) (list : List Occurrence) → ((k : ℕ) (d : Occurrence) → k < length list → P (get_or list k d)) → AllByRecursion P list
-all_of P [] f = tt
-all_of P (o ∷ os) f = (f zero o (omega arith), all_of P os (λ k d l. f (suc k) d (omega (arith, l))))
-
-at_place : (P : Occurrence → Type 0) (list : List Occurrence) → AllByRecursion P list → (k : ℕ) (d : Occurrence) → k < length list → P (get_or list k d)
-at_place P [] all k d l = absurd (omega (arith, l))
-at_place P (o ∷ os) all zero d l = all.0
-at_place P (o ∷ os) all (suc k) d l = at_place P os all.1 k d (omega (arith, l))
-
 pub by_place : (list : List Occurrence) → IsRising list → IsNonDecreasingBy rank list
-by_place [] r i j d l w = absurd (omega (arith, w))
-by_place (o ∷ os) r zero zero d l w = omega arith
-by_place (o ∷ os) r zero (suc j) d l w = let less = at_place (λ x. rank o < rank x) os r.0 j d (omega (arith, w)) in omega (arith, less)
-by_place (o ∷ os) r (suc i) zero d l w = absurd (omega (arith, l))
-by_place (o ∷ os) r (suc i) (suc j) d l w = by_place os r.1 i j d (omega (arith, l)) (omega (arith, w))
+by_place list r i j d l w = elim (eq-or-lt_of_le {n = i} {m = j} l) [
+  | inl same ↦ (let at = ap (λ k. rank (get_or list k d)) same in omega (arith, at))
+  | inr before ↦ (let less = r i j d before w in omega (arith, less))
+]
 
-all_inserted : (P : Occurrence → Type 0) (old : List Occurrence) (i : ℕ) (one : Occurrence) → AllByRecursion P old → P one → AllByRecursion P (insert old i one)
-all_inserted P old zero one all p = (p, all)
-all_inserted P [] (suc i) one all p = (p, tt)
-all_inserted P (o ∷ os) (suc i) one all p = (all.0, all_inserted P os i one all.1 p)
+rising_tail : (o : Occurrence) (os : List Occurrence) → IsRising (o ∷ os) → IsRising os
+rising_tail o os r i j d l w = r (suc i) (suc j) d (omega (arith, l)) (omega (arith, w))
 
 rising_inserted : (old : List Occurrence) (i : ℕ) (one : Occurrence) → IsRising old → ((k : ℕ) (d : Occurrence) → k < i → rank (get_or old k d) < rank one) → ((k : ℕ) (d : Occurrence) → i ≤ k → k < length old → rank one < rank (get_or old k d)) → IsRising (insert old i one)
-rising_inserted old zero one r front later = (all_of (λ x. rank one < rank x) old (λ k d l. later k d (omega arith) l), r)
-rising_inserted [] (suc i) one r front later = (tt, tt)
-rising_inserted (o ∷ os) (suc i) one r front later = (
-  all_inserted (λ x. rank o < rank x) os i one r.0 (front zero o (omega arith)),
-  rising_inserted os i one r.1 (λ k d l. front (suc k) d (omega (arith, l))) (λ k d l w. later (suc k) d (omega (arith, l)) (omega (arith, w))),
-)
+rising_inserted old zero one r front later = AllPairs-cons (λ a b. rank a < rank b) one old (λ k d. later k d (omega arith)) r
+rising_inserted [] (suc i) one r front later = λ a b d l w. absurd (omega (arith, l, w))
+rising_inserted (o ∷ os) (suc i) one r front later =
+    let above : All (λ x. rank o < rank x) (one ∷ os) = All-cons (λ x. rank o < rank x) one os (front zero o (omega arith)) (λ k d l. r zero (suc k) d (omega arith) (omega (arith, l))) in
+    AllPairs-cons (λ a b. rank a < rank b) o (insert os i one) (All-permutation (λ x. rank o < rank x) (one ∷ os) (insert os i one) (IsPermutation-insert os i one) above)
+    (rising_inserted os i one (rising_tail o os r) (λ k d l. front (suc k) d (omega (arith, l))) (λ k d l w. later (suc k) d (omega (arith, l)) (omega (arith, w))))
 
 pub inserted_in_order : (old : List Occurrence) (i : ℕ) (one : Occurrence) → IsInOrder old → FitsRank one → (Contains old one → ⊥) → ((k : ℕ) (d : Occurrence) → k < i → rank (get_or old k d) < rank one) → ((k : ℕ) (d : Occurrence) → i ≤ k → k < length old → rank one ≤ rank (get_or old k d)) → IsInOrder (insert old i one)
 inserted_in_order old i one order fits new front later = record {
@@ -184,8 +173,8 @@ inserted_in_order old i one order fits new front later = record {
 
 rising_from : (list : List Occurrence) (i : ℕ) → IsRising list → IsRising (drop i list)
 rising_from list zero r = r
-rising_from [] (suc i) r = tt
-rising_from (o ∷ os) (suc i) r = rising_from os i r.1
+rising_from [] (suc i) r = r
+rising_from (o ∷ os) (suc i) r = rising_from os i (rising_tail o os r)
 
 listed_from : (list : List Occurrence) (i : ℕ) (o : Occurrence) → Contains (drop i list) o → Contains list o
 listed_from list zero o h = h
@@ -193,7 +182,7 @@ listed_from [] (suc i) o h = h
 listed_from (x ∷ xs) (suc i) o h = in_rest x o xs (listed_from xs i o h)
 
 after_from : (list : List Occurrence) (i r : ℕ) → ((k : ℕ) (d : Occurrence) → i ≤ k → k < length list → r ≤ rank (get_or list k d)) → AllByRecursion (λ o. r ≤ rank o) (drop i list)
-after_from list zero r later = all_of (λ o. r ≤ rank o) list (λ k d l. later k d (omega arith) l)
+after_from list zero r later = recursion_from_All (λ o. r ≤ rank o) list (λ k d. later k d (omega arith))
 after_from [] (suc i) r later = tt
 after_from (o ∷ os) (suc i) r later = after_from os i r (λ k d l w. later (suc k) d (omega (arith, l)) (omega (arith, w)))
 
@@ -328,24 +317,20 @@ least_in_rest list from o os rest = record { listed = rest.listed o (in_front o 
     least x h l =
         let there = rest.all x h l in
         elim (front_or_rest o x os there.0 there.1 there.2) [
-          | inl later ↦ (let less = subst (λ (y : Occurrence). rank o < rank y) later.2 (at_place (λ y. rank o < rank y) os rest.rising.0 later.0 x later.1) in omega (arith, less))
+          | inl later ↦ (let within = later.1 in let less = subst (λ (y : Occurrence). rank o < rank y) later.2 (rest.rising zero (suc later.0) x (omega arith) (omega (arith, within))) in omega (arith, less))
           | inr same ↦ subst (λ (y : Occurrence). rank o ≤ rank y) same (omega arith)
         ]
 
 rest_after : (list : List Occurrence) (from o : Occurrence) (os : List Occurrence) → IsRestFrom list from (o ∷ os) → IsRestFrom list (at_head o.pred o.rule (o.head + 1)) os
 rest_after list from o os rest = record {
-  rising = rest.rising.1;
+  rising = rising_tail o os rest.rising;
   listed = λ x h. rest.listed x (in_rest o x os h);
-  after = above os rest.rising.0;
+  after = recursion_from_All (λ x. rank next ≤ rank x) os (λ k d l. let less = rest.rising zero (suc k) d (omega arith) (omega (arith, l)) in omega (arith, less));
   all = all;
 }
   where
     next : Occurrence
     next = at_head o.pred o.rule (o.head + 1)
-
-    above : (xs : List Occurrence) → AllByRecursion (λ x. rank o < rank x) xs → AllByRecursion (λ x. rank next ≤ rank x) xs
-    above [] a = tt
-    above (x ∷ xs) a = ((let less = a.0 in omega (arith, less)), above xs a.1)
 
     all : (x : Occurrence) → Contains list x → rank next ≤ rank x → Contains os x
     all x h l =
@@ -407,10 +392,6 @@ few_pushed f xs new x rules e same few =
     let count = ap length e ∙ length-append xs (x ∷ []) in
     let same_count = sym (length-map xs f) ∙ ap length same in
     omega (arith, count, same_count)
-
-pub all_pushed : (rules : List (Simpagation ℕ)) (rule : Simpagation ℕ) → AllByRecursion IsRule rules → IsRule rule → AllByRecursion IsRule (rules ++ rule ∷ [])
-all_pushed [] rule all valid = (valid, tt)
-all_pushed (x ∷ xs) rule all valid = (all.0, all_pushed xs rule all.1 valid)
 
 pub numbers_within : (rules : List (Simpagation ℕ)) (list : List Occurrence) (number : ℕ) → number ≡ length rules + 1 → IsIndexOf rules list → (o : Occurrence) → Contains list o → o.rule < number
 numbers_within rules list number last index o h = let there = (index o).0 h in let within = rule_within rules o.rule there.rule there.rule_is in omega (arith, last, within)

@@ -46,24 +46,19 @@ behind_term (Compound t ∷ ws) = ws
 behind_term (Plain k ∷ []) = []
 behind_term (Plain k ∷ w ∷ ws) = ws
 
-term_again : (t : Term ℕ) (r : List RuleWord) → term_in (term_words t ++ r) ≡ t
-term_again (Var x) r = refl
-term_again (Given (Int (pos n))) r = refl
-term_again (Given (Int (negsuc n))) r = refl
-term_again (Given (Sym s)) r = refl
-term_again (Given (Comp s vs)) r = refl
-term_again (Open s ts) r = refl
-
-behind_again : (t : Term ℕ) (r : List RuleWord) → behind_term (term_words t ++ r) ≡ r
-behind_again (Var x) r = refl
-behind_again (Given (Int (pos n))) r = refl
-behind_again (Given (Int (negsuc n))) r = refl
-behind_again (Given (Sym s)) r = refl
-behind_again (Given (Comp s vs)) r = refl
-behind_again (Open s ts) r = refl
+leaf_again : (t : Term ℕ) (r : List RuleWord) → (term_in (term_words t ++ r) ≡ t) × (behind_term (term_words t ++ r) ≡ r)
+leaf_again (Var x) r = (refl, refl)
+leaf_again (Given (Int (pos n))) r = (refl, refl)
+leaf_again (Given (Int (negsuc n))) r = (refl, refl)
+leaf_again (Given (Sym s)) r = (refl, refl)
+leaf_again (Given (Comp s vs)) r = (refl, refl)
+leaf_again (Open s ts) r = (refl, refl)
 
 terms_tell : Tells term_words
-terms_tell t u r s e = (sym (term_again t r) ∙ ap term_in e ∙ term_again u s, sym (behind_again t r) ∙ ap behind_term e ∙ behind_again u s)
+terms_tell t u r s e =
+    let first = leaf_again t r in
+    let second = leaf_again u s in
+    (sym first.0 ∙ ap term_in e ∙ second.0, sym first.1 ∙ ap behind_term e ∙ second.1)
 
 -- of two parts, one after the other
 both_tell : {X Y : Type 0} (f : X → List RuleWord) (g : Y → List RuleWord) → Tells f → Tells g → (x u : X) (y v : Y) (r s : List RuleWord) → (f x ++ g y) ++ r ≡ (f u ++ g v) ++ s → (x ≡ u) × (y ≡ v) × (r ≡ s)

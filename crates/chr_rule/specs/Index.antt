@@ -1,6 +1,6 @@
 -- An index of the heads of rules.
-use Rattle.std.specs.Prelude.{◌≡◌, ℕ, ◌+◌, ◌*◌, ◌<◌, ◌≤◌, ◌⊎◌, ◌↔◌, ⊤, List, [], ◌∷◌}
-use Rattle.std.specs.List.{AllByRecursion, Contains}
+use Rattle.std.specs.Prelude.{◌≡◌, ℕ, ◌+◌, ◌*◌, ◌<◌, ◌≤◌, ◌⊎◌, ◌↔◌, List}
+use Rattle.std.specs.List.{AllByRecursion, AllPairs, Contains}
 use Rattle.chr_rule.specs.declared.occurrences.Occurrence.{Occurrence}
 use Rattle.chr_rule.specs.Rules.{Simpagation}
 use Rattle.chr_rule.specs.Occurrences.{HasPredAt, IsOccurrence}
@@ -22,8 +22,7 @@ pub record FitsRank (o : Occurrence) : Type 0 where
 
 -- each comes before all that stand after it
 abbrev pub IsRising : List Occurrence → Type 0
-IsRising [] = ⊤
-IsRising (o ∷ os) = AllByRecursion (λ x. rank o < rank x) os × IsRising os
+IsRising = AllPairs (λ a b. rank a < rank b)
 
 -- the list is in order, and the numbers in it are small enough
 pub record IsInOrder (list : List Occurrence) : Type 0 where

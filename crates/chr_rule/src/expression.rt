@@ -1,10 +1,11 @@
 //! Expressions, comparisons and the members of a body.
-ghost use Rattle.std.specs.Prelude.{◌≡◌, ◌↔◌, IsTrue, map};
-ghost use Rattle.std.specs.List.{AllByRecursion};
+ghost use Rattle.std.specs.Prelude.{◌≡◌, ◌↔◌, IsTrue, ℕ};
 ghost use Rattle.chr_rule.specs.Parts.{expression, comparison, member};
+ghost use Rattle.chr_rule.specs.Rules as rules;
 ghost use Rattle.chr_rule.specs.Scope.{expression_known, test_known};
 ghost use Rattle.chr_rule.specs.Terms.{IsComparison, IsBodyItem};
 
+use crate::parts::Part;
 use crate::rule_atom::RuleAtom;
 use crate::term::Term;
 use std::alloc::Allocator;
@@ -123,16 +124,25 @@ impl<A: Allocator> Comparison<A> {
             Comparison::Differ(s, t) => s.is_known(known) && t.is_known(known),
         }
     }
+}
 
-    /// Whether a rule may have the terms.
-    pub(crate) fn is_valid(&self) -> bool
-        ensures { IsTrue result ↔ IsComparison (comparison self.now) }
-    {
+impl<A: Allocator> Part for Comparison<A> {
+    ghost Said = { rules.Comparison ℕ };
+
+    ghost said = { comparison };
+
+    ghost IsValid = { IsComparison };
+
+    fn is_valid(&self) -> bool {
         match self {
             Comparison::Numbers(_, _, _) => true,
             Comparison::Same(s, t) => s.is_valid() && t.is_valid(),
             Comparison::Differ(s, t) => s.is_valid() && t.is_valid(),
         }
+    }
+
+    fn is_same(&self, other: &Self) -> bool {
+        self.same(other)
     }
 }
 
@@ -147,68 +157,23 @@ impl<A: Allocator> BodyItem<A> {
             _ => false,
         }
     }
+}
 
-    /// Whether a rule may have the terms.
-    pub(crate) fn is_valid(&self) -> bool
-        ensures { IsTrue result ↔ IsBodyItem (member self.now) }
-    {
+impl<A: Allocator> Part for BodyItem<A> {
+    ghost Said = { rules.BodyItem ℕ };
+
+    ghost said = { member };
+
+    ghost IsValid = { IsBodyItem };
+
+    fn is_valid(&self) -> bool {
         match self {
             BodyItem::Is(_, _) => true,
             BodyItem::Add(pattern) => pattern.is_valid(),
         }
     }
-}
 
-/// Whether two guards are equal.
-pub(crate) fn same_guards<A: Allocator>(guard: &[Comparison<A>], other: &[Comparison<A>]) -> bool
-    ensures { IsTrue result ↔ (map comparison guard.now ≡ map comparison other.now) }
-{
-    if guard.len() != other.len() {
-        return false;
+    fn is_same(&self, other: &Self) -> bool {
+        self.same(other)
     }
-    for i in 0..guard.len() {
-        if !guard[i].same(&other[i]) {
-            return false;
-        }
-    }
-    true
-}
-
-/// Whether two bodies are equal.
-pub(crate) fn same_bodies<A: Allocator>(body: &[BodyItem<A>], other: &[BodyItem<A>]) -> bool
-    ensures { IsTrue result ↔ (map member body.now ≡ map member other.now) }
-{
-    if body.len() != other.len() {
-        return false;
-    }
-    for i in 0..body.len() {
-        if !body[i].same(&other[i]) {
-            return false;
-        }
-    }
-    true
-}
-
-/// Whether a rule may have the terms of a guard.
-pub(crate) fn is_guard_valid<A: Allocator>(guard: &[Comparison<A>]) -> bool
-    ensures { IsTrue result ↔ AllByRecursion IsComparison (map comparison guard.now) }
-{
-    for comparison in guard {
-        if !comparison.is_valid() {
-            return false;
-        }
-    }
-    true
-}
-
-/// Whether a rule may have the terms of a body.
-pub(crate) fn is_body_valid<A: Allocator>(body: &[BodyItem<A>]) -> bool
-    ensures { IsTrue result ↔ AllByRecursion IsBodyItem (map member body.now) }
-{
-    for item in body {
-        if !item.is_valid() {
-            return false;
-        }
-    }
-    true
 }

@@ -18,7 +18,7 @@
 
 mod expression;
 mod occurrences;
-mod patterns;
+mod parts;
 mod program;
 mod rule;
 mod rule_atom;

@@ -6,10 +6,8 @@ ghost use Rattle.chr_rule.specs.Rules.{head_at, of_parts};
 ghost use Rattle.chr_rule.specs.Scope.{IsRule};
 ghost use Rattle.chr_rule.specs.Terms.{HasTerms};
 
-use crate::expression::{
-    BodyItem, Comparison, is_body_valid, is_guard_valid, same_bodies, same_guards,
-};
-use crate::patterns::{are_patterns_valid, same_patterns};
+use crate::expression::{BodyItem, Comparison};
+use crate::parts::{are_same, are_valid};
 use crate::rule_atom::RuleAtom;
 use crate::scope::count_variables;
 use crate::words::{same_words, words_of};
@@ -91,16 +89,16 @@ fn have_terms<A: Allocator>(
 ) -> bool
     ensures { IsTrue result ↔ HasTerms (of_parts 0 (map shape kept.now) (map shape removed.now) (map comparison guard.now) (map member body.now)) }
 {
-    if !are_patterns_valid(kept) {
+    if !are_valid(kept) {
         return false;
     }
-    if !are_patterns_valid(removed) {
+    if !are_valid(removed) {
         return false;
     }
-    if !is_guard_valid(guard) {
+    if !are_valid(guard) {
         return false;
     }
-    is_body_valid(body)
+    are_valid(body)
 }
 
 /// How many variables the rule of these parts has, or None where there is no such rule.
@@ -183,10 +181,10 @@ impl<A: Allocator> Rule<A> {
         ensures { IsTrue result ↔ (self.now ≡ other.now) }
     {
         self.variables == other.variables
-            && same_patterns(&self.kept, &other.kept)
-            && same_patterns(&self.removed, &other.removed)
-            && same_guards(&self.guard, &other.guard)
-            && same_bodies(&self.body, &other.body)
+            && are_same(&self.kept, &other.kept)
+            && are_same(&self.removed, &other.removed)
+            && are_same(&self.guard, &other.guard)
+            && are_same(&self.body, &other.body)
     }
 
     /// How many variables the rule has, at most 24.

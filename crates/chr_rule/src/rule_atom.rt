@@ -1,7 +1,8 @@
 //! Constraints in a rule, with terms for arguments.
 ghost use Rattle.std.specs.Prelude.{◌≡◌, ◌↔◌, ◌≤◌, IsTrue, vec_len};
 
-use crate::term::{Term, are_valid, same_terms};
+use crate::parts::{Part, are_same, are_valid};
+use crate::term::Term;
 use chr_value::{Name, Pred};
 use std::alloc::Allocator;
 
@@ -15,7 +16,6 @@ pub struct RuleAtom<A: Allocator> {
 
 impl<A: Allocator> RuleAtom<A> {
     ghost use Rattle.chr_rule.specs.Parts.{shape};
-    ghost use Rattle.chr_rule.specs.Terms.{IsRuleAtom};
     ghost use Rattle.chr_rule.specs.Occurrences.{HasPred};
 
     /// The predicate: the name, and how many terms there are.
@@ -32,13 +32,27 @@ impl<A: Allocator> RuleAtom<A> {
     pub fn same(&self, other: &RuleAtom<A>) -> bool
         ensures { IsTrue result ↔ (shape self.now ≡ shape other.now) }
     {
-        self.name.number == other.name.number && same_terms(&self.terms, &other.terms)
+        self.name.number == other.name.number && are_same(&self.terms, &other.terms)
+    }
+}
+
+impl<A: Allocator> Part for RuleAtom<A> {
+    ghost use Rattle.std.specs.Prelude.{ℕ};
+    ghost use Rattle.chr_rule.specs.Parts.{shape};
+    ghost use Rattle.chr_rule.specs.Rules as rules;
+    ghost use Rattle.chr_rule.specs.Terms.{IsRuleAtom};
+
+    ghost Said = { rules.RuleAtom ℕ };
+
+    ghost said = { shape };
+
+    ghost IsValid = { IsRuleAtom };
+
+    fn is_valid(&self) -> bool {
+        are_valid(&self.terms)
     }
 
-    /// Whether a rule may have the terms.
-    pub(crate) fn is_valid(&self) -> bool
-        ensures { IsTrue result ↔ IsRuleAtom (shape self.now) }
-    {
-        are_valid(&self.terms)
+    fn is_same(&self, other: &Self) -> bool {
+        self.same(other)
     }
 }

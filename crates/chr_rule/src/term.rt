@@ -1,10 +1,12 @@
 //! Terms of a rule.
-ghost use Rattle.std.specs.Prelude.{◌≡◌, ◌↔◌, ◌&&◌, IsTrue, length, map, nat_le};
+ghost use Rattle.std.specs.Prelude.{◌≡◌, ◌↔◌, ◌&&◌, IsTrue, ℕ, length, map, nat_le};
 ghost use Rattle.std.specs.List.{AllByRecursion, list_all, list_any};
 ghost use Rattle.chr_rule.specs.Parts.{argument};
+ghost use Rattle.chr_rule.specs.Rules as rules;
 ghost use Rattle.chr_rule.specs.Scope.{argument_known};
 ghost use Rattle.chr_rule.specs.Terms.{IsCanonical, IsTerm, is_open, left_after_term, left_after_terms};
 
+use crate::parts::Part;
 use chr_value::{MOST_ARGS, MOST_DEPTH, MOST_SIZE, Name, Value};
 use std::alloc::Allocator;
 
@@ -105,18 +107,28 @@ impl<A: Allocator> Term<A> {
             }
         }
     }
+}
 
-    /// Whether a rule may have the term: it is canonical, at most [`MOST_DEPTH`] deep and at most [`MOST_SIZE`] large.
-    pub(crate) fn is_valid(&self) -> bool
-        ensures { IsTrue result ↔ IsTerm (argument self.now) }
-    {
+impl<A: Allocator> Part for Term<A> {
+    ghost Said = { rules.Term ℕ };
+
+    ghost said = { argument };
+
+    ghost IsValid = { IsTerm };
+
+    /// It is canonical, at most [`MOST_DEPTH`] deep and at most [`MOST_SIZE`] large.
+    fn is_valid(&self) -> bool {
         self.is_canonical() && self.left(MOST_DEPTH, MOST_SIZE).is_some()
+    }
+
+    fn is_same(&self, other: &Self) -> bool {
+        self.same(other)
     }
 }
 
 /// Whether two lists of terms are equal.
 #[cycle(same)]
-pub(crate) fn same_terms<A: Allocator>(terms: &[Term<A>], others: &[Term<A>]) -> bool
+fn same_terms<A: Allocator>(terms: &[Term<A>], others: &[Term<A>]) -> bool
     ensures { IsTrue result ↔ (map argument terms.now ≡ map argument others.now) }
 {
     if terms.len() != others.len() {
@@ -181,16 +193,4 @@ fn left_behind<A: Allocator>(terms: &[Term<A>], depth: u8, room: u8) -> Option<u
         rest = term.left(depth, rest)?;
     }
     Some(rest)
-}
-
-/// Whether a rule may have each of some terms.
-pub(crate) fn are_valid<A: Allocator>(terms: &[Term<A>]) -> bool
-    ensures { IsTrue result ↔ AllByRecursion IsTerm (map argument terms.now) }
-{
-    for term in terms {
-        if !term.is_valid() {
-            return false;
-        }
-    }
-    true
 }

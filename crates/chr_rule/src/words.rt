@@ -1,10 +1,11 @@
 //! Rules as lists of words, by which equal rules are told in fewer steps than part by part. What puts words after others
 //! gives None where a term has a functor, or where there is no memory.
-ghost use Rattle.std.specs.Prelude.{◌≡◌, ◌↔◌, ◌∷◌, ◌++◌, [], IsTrue, map, IfSome};
+ghost use Rattle.std.specs.Prelude.{◌≡◌, ◌↔◌, ◌∷◌, ◌++◌, [], List, IsTrue, ℕ, map, IfSome};
 ghost use Rattle.std.specs.List.{flat_map};
 ghost use Rattle.chr_rule.specs.Parts.{argument, shape, expression, comparison, member};
+ghost use Rattle.chr_rule.specs.Rules as rules;
 ghost use Rattle.chr_rule.specs.Rules.{of_parts};
-ghost use Rattle.chr_rule.specs.Words.{IsWritten, Plain, Puts, atom_words, expression_words, integer_words, member_words, rule_words, term_words, test_words};
+ghost use Rattle.chr_rule.specs.Words.{IsWritten, Plain, RuleWord, Puts, atom_words, expression_words, integer_words, member_words, rule_words, term_words, test_words};
 
 use crate::expression::{BodyItem, Comparison, Expr};
 use crate::rule_atom::RuleAtom;
@@ -33,6 +34,29 @@ const IS: u64 = 8;
 
 const ADD: u64 = 9;
 
+/// A part of a rule that is written as words.
+trait Written<A: Allocator> {
+    ghost Said: { Type 0 };
+
+    ghost said: { Self → Said };
+
+    ghost spelled: { Said → List RuleWord };
+
+    /// Puts the words of the part after the others.
+    fn push_to(&self, words: &mut Vec<u64, A>) -> Option<()>
+        ensures { Puts result words.old.items words.new.items (spelled (said self.now)) };
+}
+
+/// Puts the words of parts after the others.
+fn push_parts<A: Allocator, P: Written<A>>(words: &mut Vec<u64, A>, parts: &[P]) -> Option<()>
+    ensures { Puts result words.old.items words.new.items (flat_map P.spelled (map P.said parts.now)) }
+{
+    for part in parts {
+        part.push_to(words)?;
+    }
+    Some(())
+}
+
 /// Puts words after the others.
 fn push_words<A: Allocator>(words: &mut Vec<u64, A>, more: &[u64]) -> Option<()>
     ensures { Puts result words.old.items words.new.items (map Plain more.now) }
@@ -53,49 +77,39 @@ fn push_integer<A: Allocator>(words: &mut Vec<u64, A>, n: i64) -> Option<()>
     push_words(words, &[NATURAL, n.unsigned_abs()])
 }
 
-/// Puts the words of a term after the others.
-fn push_term<A: Allocator>(words: &mut Vec<u64, A>, term: &Term<A>) -> Option<()>
-    ensures { Puts result words.old.items words.new.items (term_words (argument term.now)) }
-{
-    match term {
-        Term::Var(x) => push_words(words, &[VARIABLE, u64::from(*x)]),
-        Term::Open(_) => None,
-        Term::Given(value) => match value.as_ref() {
-            ValueRef::Int(n) => push_integer(words, n),
-            ValueRef::Sym(name) => push_words(words, &[SYMBOL, u64::from(name.number)]),
-            ValueRef::Comp(_) => None,
-        },
+impl<A: Allocator> Written<A> for Term<A> {
+    ghost Said = { rules.Term ℕ };
+
+    ghost said = { argument };
+
+    ghost spelled = { term_words };
+
+    fn push_to(&self, words: &mut Vec<u64, A>) -> Option<()> {
+        match self {
+            Term::Var(x) => push_words(words, &[VARIABLE, u64::from(*x)]),
+            Term::Open(_) => None,
+            Term::Given(value) => match value.as_ref() {
+                ValueRef::Int(n) => push_integer(words, n),
+                ValueRef::Sym(name) => push_words(words, &[SYMBOL, u64::from(name.number)]),
+                ValueRef::Comp(_) => None,
+            },
+        }
     }
 }
 
-/// Puts the words of terms after the others.
-fn push_terms<A: Allocator>(words: &mut Vec<u64, A>, terms: &[Term<A>]) -> Option<()>
-    ensures { Puts result words.old.items words.new.items (flat_map term_words (map argument terms.now)) }
-{
-    for term in terms {
-        push_term(words, term)?;
-    }
-    Some(())
-}
+impl<A: Allocator> Written<A> for RuleAtom<A> {
+    ghost Said = { rules.RuleAtom ℕ };
 
-/// Puts the words of a constraint after the others.
-fn push_atom<A: Allocator>(words: &mut Vec<u64, A>, atom: &RuleAtom<A>) -> Option<()>
-    ensures { Puts result words.old.items words.new.items (atom_words (shape atom.now)) }
-{
-    let name = u64::from(atom.name.number);
-    push_words(words, &[name, atom.terms.len() as u64])?;
-    push_terms(words, &atom.terms)?;
-    Some(())
-}
+    ghost said = { shape };
 
-/// Puts the words of constraints after the others.
-fn push_atoms<A: Allocator>(words: &mut Vec<u64, A>, atoms: &[RuleAtom<A>]) -> Option<()>
-    ensures { Puts result words.old.items words.new.items (flat_map atom_words (map shape atoms.now)) }
-{
-    for atom in atoms {
-        push_atom(words, atom)?;
+    ghost spelled = { atom_words };
+
+    fn push_to(&self, words: &mut Vec<u64, A>) -> Option<()> {
+        let name = u64::from(self.name.number);
+        push_words(words, &[name, self.terms.len() as u64])?;
+        push_parts(words, &self.terms)?;
+        Some(())
     }
-    Some(())
 }
 
 /// Puts the words of an expression after the others.
@@ -124,63 +138,53 @@ fn push_both<A: Allocator>(
     ensures { Puts result words.old.items words.new.items (Plain kind ∷ (term_words (argument left.now) ++ term_words (argument right.now))) }
 {
     push_words(words, &[kind])?;
-    push_term(words, left)?;
-    push_term(words, right)?;
+    left.push_to(words)?;
+    right.push_to(words)?;
     Some(())
 }
 
-/// Puts the words of a comparison after the others.
-fn push_comparison<A: Allocator>(words: &mut Vec<u64, A>, one: &Comparison<A>) -> Option<()>
-    ensures { Puts result words.old.items words.new.items (test_words (comparison one.now)) }
-{
-    match one {
-        Comparison::Numbers(relation, left, right) => {
-            push_words(words, &[COMPARED, *relation as u64])?;
-            push_expression(words, left)?;
-            push_expression(words, right)?;
-            Some(())
-        }
-        Comparison::Same(left, right) => push_both(words, SAME, left, right),
-        Comparison::Differ(left, right) => push_both(words, DIFFER, left, right),
-    }
-}
+impl<A: Allocator> Written<A> for Comparison<A> {
+    ghost Said = { rules.Comparison ℕ };
 
-/// Puts the words of a guard after the others.
-fn push_guard<A: Allocator>(words: &mut Vec<u64, A>, guard: &[Comparison<A>]) -> Option<()>
-    ensures { Puts result words.old.items words.new.items (flat_map test_words (map comparison guard.now)) }
-{
-    for one in guard {
-        push_comparison(words, one)?;
-    }
-    Some(())
-}
+    ghost said = { comparison };
 
-/// Puts the words of a member of a body after the others.
-fn push_member<A: Allocator>(words: &mut Vec<u64, A>, item: &BodyItem<A>) -> Option<()>
-    ensures { Puts result words.old.items words.new.items (member_words (member item.now)) }
-{
-    match item {
-        BodyItem::Is(x, expr) => {
-            push_words(words, &[IS, u64::from(*x)])?;
-            push_expression(words, expr)?;
-            Some(())
-        }
-        BodyItem::Add(atom) => {
-            push_words(words, &[ADD])?;
-            push_atom(words, atom)?;
-            Some(())
+    ghost spelled = { test_words };
+
+    fn push_to(&self, words: &mut Vec<u64, A>) -> Option<()> {
+        match self {
+            Comparison::Numbers(relation, left, right) => {
+                push_words(words, &[COMPARED, *relation as u64])?;
+                push_expression(words, left)?;
+                push_expression(words, right)?;
+                Some(())
+            }
+            Comparison::Same(left, right) => push_both(words, SAME, left, right),
+            Comparison::Differ(left, right) => push_both(words, DIFFER, left, right),
         }
     }
 }
 
-/// Puts the words of a body after the others.
-fn push_body<A: Allocator>(words: &mut Vec<u64, A>, body: &[BodyItem<A>]) -> Option<()>
-    ensures { Puts result words.old.items words.new.items (flat_map member_words (map member body.now)) }
-{
-    for item in body {
-        push_member(words, item)?;
+impl<A: Allocator> Written<A> for BodyItem<A> {
+    ghost Said = { rules.BodyItem ℕ };
+
+    ghost said = { member };
+
+    ghost spelled = { member_words };
+
+    fn push_to(&self, words: &mut Vec<u64, A>) -> Option<()> {
+        match self {
+            BodyItem::Is(x, expr) => {
+                push_words(words, &[IS, u64::from(*x)])?;
+                push_expression(words, expr)?;
+                Some(())
+            }
+            BodyItem::Add(atom) => {
+                push_words(words, &[ADD])?;
+                atom.push_to(words)?;
+                Some(())
+            }
+        }
     }
-    Some(())
 }
 
 /// Puts the words of a rule of these parts after the others.
@@ -202,10 +206,10 @@ fn push_rule<A: Allocator>(
         body.len() as u64,
     ];
     push_words(words, &sizes)?;
-    push_atoms(words, kept)?;
-    push_atoms(words, removed)?;
-    push_guard(words, guard)?;
-    push_body(words, body)?;
+    push_parts(words, kept)?;
+    push_parts(words, removed)?;
+    push_parts(words, guard)?;
+    push_parts(words, body)?;
     Some(())
 }
 

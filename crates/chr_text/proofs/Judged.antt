@@ -1,6 +1,7 @@
 -- What is judged to stand can be numbered.
-use Rattle.std.proofs.Common.{◌≡◌, ℕ, suc, ◌≤◌, ◌<◌, Bool, false, leb, ltb, ◌||◌, List, [], ◌∷◌, length, filter, Ok, refl, ap, arith}
+use Rattle.std.proofs.Common.{◌≡◌, ℕ, suc, Bool, false, ◌||◌, List, [], ◌∷◌, length, filter, Ok, refl, ap, arith}
 use Rattle.std.specs.List.{AllByRecursion, list_any}
+use Rattle.std.proofs.lemmas.Bool.{ltb-false}
 use Rattle.chr_value.specs.Spelling.{IsName}
 use Rattle.chr_lex.specs.Tokens.{Word, Name, Variable, Number}
 use Rattle.chr_grammar.specs.Parsed as parsed
@@ -11,7 +12,8 @@ use Rattle.chr_limits.specs.Words.{is_out_of_range, is_long, is_variable, formul
 use Rattle.chr_limits.specs.Limits.{is_large_term, has_large_args, compares_large_terms, adds_large_args, has_many_args, adds_many_args, is_comparison, is_item}
 use Rattle.chr_limits.specs.Judging.{post_judged, rule_judged}
 use Rattle.chr_limits.specs.Standing.{IsAllowedRule}
-use Rattle.chr_limits.proofs.Standing.{neither, posted, stands}
+use Rattle.chr_value.proofs.Texts.{neither}
+use Rattle.chr_limits.proofs.Standing.{posted, stands}
 use Rattle.chr_text.specs.Fitting.{WordPlain, NodePlain, TermPlain, PhrasePlain, TestPlain, MemberPlain, RulePlain, NamePlain, WordFits, NodeFits, TermFits, ValueFits, PostFits, FormulaFits, ShapeFits, TestFits, MemberFits, RuleFits}
 use Rattle.chr_text.specs.Translation.{argument, rule_atom, test, member, somes, after_kept, after_heads, after_guard, rule}
 use Rattle.chr_text.specs.Variables.{Seen, in_turn}
@@ -19,11 +21,8 @@ use Rattle.chr_text.proofs.Nested.{RuleNests, plain_nests}
 use Rattle.chr_text.proofs.Limited.{turns_count, is_term}
 use Rattle.chr_text.proofs.Valued.{rule_known, all_seen}
 
-pub not_above : (n m : ℕ) → ltb n m ≡ false → m ≤ n
-not_above n m h = grind arith
-
 pub name_fits : (t : List ℕ) → is_long (Name t) ≡ false → NamePlain t → IsName t
-name_fits t h p = record { first = p.first; bytes = p.bytes; short = not_above 64 (length t) h; plain = p.plain }
+name_fits t h p = record { first = p.first; bytes = p.bytes; short = ltb-false 64 (length t) h; plain = p.plain }
 
 word_fits : (w : Word) → is_out_of_range w ≡ false → is_long w ≡ false → WordPlain w → WordFits w
 word_fits (Name t) range long p = name_fits t long p
@@ -63,7 +62,7 @@ values_fit (t ∷ ts) fits variable =
 shape_fits : (a : ParsedAtom) → phrase_has is_out_of_range a ≡ false → phrase_has is_long a ≡ false → has_many_args a ≡ false → has_large_args a ≡ false → PhrasePlain a → ShapeFits a
 shape_fits a range long many small p =
     let l = neither (is_long (Name a.name)) (list_any (term_has is_long) a.args) long in
-    record { name = name_fits a.name l.0 p.0; args = terms_fit a.args range l.1 small p.1; few = not_above 8 (length a.args) many }
+    record { name = name_fits a.name l.0 p.0; args = terms_fit a.args range l.1 small p.1; few = ltb-false 8 (length a.args) many }
 
 shapes_fit : (ps : List ParsedAtom) → list_any (phrase_has is_out_of_range) ps ≡ false → list_any (phrase_has is_long) ps ≡ false → list_any has_many_args ps ≡ false → list_any has_large_args ps ≡ false → AllByRecursion PhrasePlain ps → AllByRecursion ShapeFits ps
 shapes_fit ps range long many small p = each_fits PhrasePlain ShapeFits (phrase_has is_out_of_range) (phrase_has is_long) has_many_args has_large_args shape_fits ps range long many small p
@@ -206,6 +205,3 @@ rule_fits full r u h p =
 
 pub not_full : (full : Bool) (r : ParsedRule) (u : Unit {0}) → rule_judged full r ≡ Ok u → full ≡ false
 not_full full r u h = (stands full r h).0
-
-pub not_many : (n : ℕ) → leb 256 n ≡ false → n < 256
-not_many n h = grind arith

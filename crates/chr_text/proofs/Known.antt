@@ -1,6 +1,7 @@
 -- The variables of a term are those of its words.
-use Rattle.std.proofs.Common.{◌≡◌, ℕ, suc, Bool, true, false, ◌&&◌, List, [], ◌∷◌, ◌++◌, flat_map, append_assoc, Option, Some, None, refl, sym, ap, ap₂, ◌∙◌}
+use Rattle.std.proofs.Common.{◌≡◌, ℕ, suc, Bool, true, ◌&&◌, List, [], ◌∷◌, ◌++◌, flat_map, append_assoc, Option, Some, None, refl, sym, ap, ap₂, ◌∙◌}
 use Rattle.std.specs.List.{list_all}
+use Rattle.std.proofs.Math.Bool.{and-true, and_assoc}
 use Rattle.chr_value.specs.Atoms.{Value, Int, Sym, Comp, Args, Nil, Cons}
 use Rattle.chr_rule.specs.Rules.{Term, Var, Given, Open, Terms, End, And}
 use Rattle.chr_rule.specs.Scope.{known_then, known_after_variable, known_after_term, known_after_terms, argument_known, arguments_known}
@@ -11,23 +12,16 @@ use Rattle.chr_text.specs.Terms.{Placed, value_words, args_words, words_of, term
 use Rattle.chr_text.specs.Translation.{placed_word, argument}
 use Rattle.chr_text.specs.Variables.{Seen, in_turn}
 use Rattle.chr_text.proofs.Nested.{term_words}
+use Rattle.chr_text.proofs.Renamed.{then_same}
 
 -- ---- variables that are known
 
 abbrev words_known : {N : Type 0} → ℕ → List (Placed N) → Bool
 words_known n ws = list_all (λ w. argument_known n w.1) ws
 
-all_three : (a b c : Bool) → (a && (b && c)) ≡ ((a && b) && c)
-all_three true b c = refl
-all_three false b c = refl
-
-and_true : (a : Bool) → (a && true) ≡ a
-and_true true = refl
-and_true false = refl
-
 known_append : {N : Type 0} (n : ℕ) (xs ys : List (Placed N)) → words_known n (xs ++ ys) ≡ (words_known n xs && words_known n ys)
 known_append n [] ys = refl
-known_append n (x ∷ xs) ys = ap (λ (b : Bool). argument_known n x.1 && b) (known_append n xs ys) ∙ all_three (argument_known n x.1) (words_known n xs) (words_known n ys)
+known_append n (x ∷ xs) ys = ap (λ (b : Bool). argument_known n x.1 && b) (known_append n xs ys) ∙ sym (and_assoc (argument_known n x.1) (words_known n xs) (words_known n ys))
 
 mutual
   value_known : {N : Type 0} (n d : ℕ) (v : Value N) → words_known n (value_words d v) ≡ true
@@ -41,7 +35,7 @@ mutual
 
 mutual
   known_words : {N : Type 0} (n d : ℕ) (t : Term N) → argument_known n t ≡ words_known n (words_of d t)
-  known_words n d (Var x) = sym (and_true (argument_known {N = ℕ} n (Var x)))
+  known_words n d (Var x) = sym (and-true (argument_known {N = ℕ} n (Var x)))
   known_words n d (Given v) = sym (value_known n d v)
   known_words n d (Open s ts) = all_known_words n (suc d) ts
 
@@ -62,10 +56,6 @@ then_then : {A : Type 0} (o : Option ℕ) (f : ℕ → Option ℕ) (g : ℕ → 
 then_then None f g = refl
 then_then (Some n) f g = refl
 
-then_same : {A : Type 0} (o : Option ℕ) (f g : ℕ → Option A) → ((n : ℕ) → f n ≡ g n) → known_then o f ≡ known_then o g
-then_same None f g h = refl
-then_same (Some n) f g h = h n
-
 then_nothing : (o : Option ℕ) → known_then o (λ n. Some n) ≡ o
 then_nothing None = refl
 then_nothing (Some n) = refl
@@ -73,7 +63,7 @@ then_nothing (Some n) = refl
 after_append : {N : Type 0} (n : ℕ) (xs ys : List (Placed N)) → known_after_words n (xs ++ ys) ≡ known_then (known_after_words n xs) (λ m. known_after_words m ys)
 after_append n [] ys = refl
 after_append n (x ∷ xs) ys =
-    then_same (known_after_term n x.1) (λ m. known_after_words m (xs ++ ys)) (λ m. known_then (known_after_words m xs) (λ k. known_after_words k ys)) (λ m. after_append m xs ys)
+    then_same _ _ (λ m. known_after_words m (xs ++ ys)) (λ m. known_then (known_after_words m xs) (λ k. known_after_words k ys)) refl (λ m. after_append m xs ys)
     ∙ sym (then_then (known_after_term n x.1) (λ m. known_after_words m xs) (λ k. known_after_words k ys))
 
 mutual
@@ -96,7 +86,7 @@ mutual
   all_after_words n d End = refl
   all_after_words n d (And t ts) =
       ap (λ o. known_then o (λ m. known_after_terms m ts)) (after_words n d t)
-      ∙ then_same (known_after_words n (words_of d t)) (λ m. known_after_terms m ts) (λ m. known_after_words m (terms_words d ts)) (λ m. all_after_words m d ts)
+      ∙ then_same _ _ (λ m. known_after_terms m ts) (λ m. known_after_words m (terms_words d ts)) refl (λ m. all_after_words m d ts)
       ∙ sym (after_append n (words_of d t) (terms_words d ts))
 
 pub known_after_nodes : (n : ℕ) (seen : Seen) (t : ParsedTerm) → IsParsedTerm t → known_after_term n (argument seen t).0 ≡ known_after_words n (in_turn placed_word seen t).0

@@ -1,7 +1,7 @@
 -- A term that is judged not to be too large: how deep and large it is, and what its functors have.
 use Rattle.std.proofs.Common.{◌≡◌, ◌<◌, ◌≤◌, ◌+◌, ℕ, suc, max, Bool, true, false, cond, ltb, eqb, leb, ◌||◌, List, [], ◌∷◌, ◌++◌, length, length-append, filter, refl, sym, ap, ap₂, ◌∙◌, arith}
 use Rattle.std.specs.List.{AllByRecursion, list_any, take_while}
-use Rattle.std.proofs.lemmas.Bool.{ltb-true}
+use Rattle.std.proofs.lemmas.Bool.{ltb-true, leb-false, ltb-false}
 use Rattle.std.proofs.lemmas.List.Sums.{take_while-cons}
 use Rattle.chr_value.specs.Atoms.{Value, Int, Sym, Comp, Args, Nil, Cons, args_of}
 use Rattle.chr_value.specs.Limits.{depth, args_depth, size, args_size}
@@ -10,7 +10,7 @@ use Rattle.chr_rule.specs.Terms.{is_open, has_variable, have_variable, terms_cou
 use Rattle.chr_grammar.specs.Parsed.{TermNode, ParsedTerm}
 use Rattle.chr_grammar.specs.Spelling.{IsParsedTerm}
 use Rattle.chr_limits.specs.Limits.{is_deep, arguments_behind, has_wide_functor, is_large_term}
-use Rattle.chr_limits.proofs.Standing.{neither}
+use Rattle.chr_value.proofs.Texts.{neither}
 use Rattle.chr_text.specs.Terms.{Placed, inside, behind, values, with_args, terms_of_words, term_of_words, value_words, args_words, words_of, terms_words}
 use Rattle.chr_text.specs.Translation.{placed_word, argument}
 use Rattle.chr_text.specs.Variables.{Seen, in_turn}
@@ -75,14 +75,11 @@ mutual
       let parts = below_both n (words_of d t) (terms_words d ts) all in
       within_both n d (term_depth t) (terms_depth ts) (depth_words n d t parts.0) (depths_words n d ts le parts.1)
 
-not_above : (n m : ℕ) → leb n m ≡ false → m < n
-not_above n m h = grind arith
-
 nodes_below : (seen : Seen) (ns : List TermNode) → is_deep ns ≡ false → AreBelow 8 (in_turn placed_word seen ns).0
 nodes_below seen [] h = tt
 nodes_below seen (n ∷ ns) h =
     let parts = neither (leb 8 n.depth) (is_deep ns) h in
-    (not_above 8 n.depth parts.0, nodes_below (placed_word seen n).1 ns parts.1)
+    (leb-false 8 n.depth parts.0, nodes_below (placed_word seen n).1 ns parts.1)
 
 -- ---- how many arguments a functor has
 
@@ -144,15 +141,12 @@ abbrev pub AreNarrow : {N : Type 0} → List (Placed N) → Type 0
 AreNarrow [] = Unit {0}
 AreNarrow (w ∷ ws) = (one_deeper w.0 ws ≤ 8) × AreNarrow ws
 
-not_more : (n m : ℕ) → ltb n m ≡ false → m ≤ n
-not_more n m h = grind arith
-
 pub nodes_narrow : (seen : Seen) (ns : List TermNode) → has_wide_functor ns ≡ false → AreNarrow (in_turn placed_word seen ns).0
 nodes_narrow seen [] h = tt
 nodes_narrow seen (n ∷ ns) h =
     let parts = neither (ltb 8 (arguments_behind n.depth ns)) (has_wide_functor ns) h in
     let e = nodes_deeper (placed_word seen n).1 n.depth ns in
-    (rw (← e) (not_more 8 (arguments_behind n.depth ns) parts.0), nodes_narrow (placed_word seen n).1 ns parts.1)
+    (rw (← e) (ltb-false 8 (arguments_behind n.depth ns) parts.0), nodes_narrow (placed_word seen n).1 ns parts.1)
 
 -- ---- what holds of a word with its arguments holds of a term
 
@@ -242,7 +236,7 @@ pub small : (t : ParsedTerm) → is_large_term t ≡ false → IsSmall t
 small t h =
     let a = neither (ltb 64 (length t) || is_deep t) (has_wide_functor t) h in
     let b = neither (ltb 64 (length t)) (is_deep t) a.0 in
-    record { few = not_more 64 (length t) b.0; shallow = b.1; narrow = a.1 }
+    record { few = ltb-false 64 (length t) b.0; shallow = b.1; narrow = a.1 }
 
 pub is_term : (seen : Seen) (t : ParsedTerm) → is_large_term t ≡ false → IsParsedTerm t → IsTerm (argument seen t).0
 is_term seen t h nested =

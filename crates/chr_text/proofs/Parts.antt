@@ -1,19 +1,22 @@
 -- The parts of a rule, one after another.
-use Rattle.std.proofs.Common.{◌≡◌, ◌≤◌, ℕ, List, length, Option, Some, Ok, refl, sym, ap, subst, ◌∙◌}
+use Rattle.std.proofs.Common.{◌≡◌, ◌≤◌, ℕ, suc, List, [], ◌∷◌, length, Option, Some, Ok, refl, sym, ap, subst, ◌∙◌}
 use Rattle.std.proofs.lemmas.List.{length-map}
 use Rattle.std.specs.Borrow.{Bor}
 use Rattle.chr_lex.specs.declared.fault.ItemError.{ItemError}
 use Rattle.chr_lex.specs.Reading.{Fails}
 use Rattle.chr_limits.specs.Views.{names as texts}
+use Rattle.chr_value.proofs.Chosen.{some_is, bind_some}
 use Rattle.chr_value.specs.Atoms.{text_of}
 use Rattle.chr_value.specs.Naming.{◌>>=◌, Table}
 use Rattle.chr_rule.specs.Rules.{RuleAtom, Comparison, BodyItem, Simpagation, of_parts}
 use Rattle.chr_rule.specs.Scope.{IsRule}
 use Rattle.chr_text.specs.Numbering.{or_full, each, numbered_rule_atom, number_test, number_member, number_rule}
+use Rattle.chr_text.specs.Translation.{given}
 use Rattle.chr_text.specs.Variables.{Seen, in_turn}
 use Rattle.chr_text.proofs.Renamed.{rule_stays}
 use Rattle.chr_text.proofs.Said.{rule_says}
 use Rattle.chr_text.proofs.Steps.{numbered_is, fails_then}
+use Rattle.chr_text.proofs.Turns.{each_some, given_somes, given_seen}
 
 -- a part that was numbered, and the variables that were seen by then
 pub record Done {A B C : Type 0} (number : Table → List B → Option (List C × Table)) (g : Seen → A → B × Seen) (start : Seen) (xs : List A) (table : Table) (made : List C) (new : Table) (after : Seen) : Type 0 where
@@ -29,6 +32,34 @@ done number g {start = start} {xs = xs} {table = table} e h n met = record {
 
 pub room_as : {A B : Type 0} (g : Seen → A → B × Seen) {seen start : Seen} {xs ys : List A} → seen ≡ start → xs ≡ ys → length (in_turn g start ys).1 ≤ 24 → length (in_turn g seen xs).1 ≤ 24
 room_as g e h n = rw (e, h) n
+
+-- the same, where each gave something
+pub given_done : {A B C : Type 0} (f : Table → B → Option (C × Table)) (g : Seen → A → B × Seen)
+    → {seen start after : Seen} {xs ys : List A} {table new : Table} {made : List C} → seen ≡ start → xs ≡ ys → or_full (each_some f table (in_turn (given g) seen xs).0) ≡ Ok (made, new) → after ≡ (in_turn (given g) seen xs).1 → Done (each f) g start ys table made new after
+given_done f g {seen = seen} {xs = xs} {table = table} e h n met =
+    done (each f) g e h (ap (λ l. or_full (each f table l)) (sym (given_somes g seen xs)) ∙ n) (met ∙ given_seen g seen xs)
+
+pub given_room : {A B : Type 0} (g : Seen → A → B × Seen) {seen start : Seen} {xs ys : List A} → seen ≡ start → xs ≡ ys → length (in_turn g start ys).1 ≤ 24 → length (in_turn (given g) seen xs).1 ≤ 24
+given_room g {start = start} {ys = ys} e h n = room_as (given g) e h (subst (λ (l : Seen). length l ≤ 24) (sym (given_seen g start ys)) n)
+
+pub given_fails : {A B C : Type 0} (f : Table → B → Option (C × Table)) (g : Seen → A → B × Seen) (error : ItemError) (table : Table)
+    → {seen start : Seen} {xs ys : List A} → seen ≡ start → xs ≡ ys → Fails error (or_full (each_some f table (in_turn (given g) seen xs).0)) → Fails error (or_full (each f table (in_turn g start ys).0))
+given_fails f g error table {seen = seen} {start = start} {xs = xs} e h n =
+    subst (λ l. Fails error (or_full (each f table l))) (given_somes g seen xs ∙ ap (λ s. (in_turn g s xs).0) e ∙ ap (λ l. (in_turn g start l).0) h) n
+
+-- as many as there were
+pub each_count : {A B : Type 0} (f : Table → A → Option (B × Table)) (table new : Table) (as' : List A) (ys : List B) → each f table as' ≡ Some (ys, new) → length ys ≡ length as'
+each_count {B = B} f table new [] ys h = ap (λ (p : List B × Table). length p.0) (sym (some_is {A = List B × Table} ([], table) (ys, new) h))
+each_count {B = B} f table new (a ∷ as') ys h =
+    let x = bind_some (f table a) (λ x. each f x.1 as' >>= λ xs. Some (x.0 ∷ xs.0, xs.1)) (ys, new) h in
+    let y = bind_some (each f x.0.1 as') (λ xs. Some (x.0.0 ∷ xs.0, xs.1)) (ys, new) x.2 in
+    ap (λ (p : List B × Table). length p.0) (sym (some_is {A = List B × Table} (x.0.0 ∷ y.0.0, y.0.1) (ys, new) y.2)) ∙ ap suc (each_count f x.0.1 y.0.1 as' y.0.0 y.1)
+
+pub kept_fails : (error : ItemError) (table : Table) (r : Simpagation (List ℕ)) → Fails error (or_full (each numbered_rule_atom table r.kept)) → Fails error (or_full (number_rule table r))
+kept_fails error table r h = fails_then error (each numbered_rule_atom table r.kept) (λ kept. each numbered_rule_atom kept.1 r.removed >>= λ removed. each number_test removed.1 r.guard >>= λ guard. each number_member guard.1 r.body >>= λ body. Some (of_parts r.variables kept.0 removed.0 guard.0 body.0, body.1)) h
+
+pub removed_fails : (error : ItemError) (table t1 : Table) (r : Simpagation (List ℕ)) (kept : List (RuleAtom ℕ)) → each numbered_rule_atom table r.kept ≡ Some (kept, t1) → Fails error (or_full (each numbered_rule_atom t1 r.removed)) → Fails error (or_full (number_rule table r))
+removed_fails error table t1 r kept e1 h = rw e1 (fails_then error (each numbered_rule_atom t1 r.removed) (λ removed. each number_test removed.1 r.guard >>= λ guard. each number_member guard.1 r.body >>= λ body. Some (of_parts r.variables kept removed.0 guard.0 body.0, body.1)) h)
 
 pub guard_fails : (error : ItemError) (table t1 t2 : Table) (r : Simpagation (List ℕ)) (kept removed : List (RuleAtom ℕ)) → each numbered_rule_atom table r.kept ≡ Some (kept, t1) → each numbered_rule_atom t1 r.removed ≡ Some (removed, t2) → Fails error (or_full (each number_test t2 r.guard)) → Fails error (or_full (number_rule table r))
 guard_fails error table t1 t2 r kept removed e1 e2 h = rw (e1, e2) (fails_then error (each number_test t2 r.guard) (λ guard. each number_member guard.1 r.body >>= λ body. Some (of_parts r.variables kept removed guard.0 body.0, body.1)) h)

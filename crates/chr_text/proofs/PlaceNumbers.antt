@@ -5,12 +5,14 @@ use Rattle.std.specs.List.{AllByRecursion, list_any, position_or_len}
 use Rattle.std.specs.Str.{bytes_eq}
 use Rattle.std.proofs.lemmas.Slice.Eq.{bytes_eq-Decides}
 use Rattle.std.proofs.lemmas.Bool.{cases_order}
+use Rattle.std.proofs.lemmas.List.{append-nil}
+use Rattle.std.proofs.Math.Bool.{or-true}
 use Rattle.chr_lex.specs.Tokens.{Word}
 use Rattle.chr_lex.specs.Tokens as words
 use Rattle.chr_grammar.specs.Parsed as parsed
 use Rattle.chr_grammar.specs.Spelling.{IsParsedTerm, IsParsedRule}
 use Rattle.chr_value.proofs.Chosen.{both}
-use Rattle.chr_limits.proofs.Standing.{neither}
+use Rattle.chr_value.proofs.Texts.{neither}
 use Rattle.chr_limits.specs.Variables.{is_blank, is_seen, word_variables, term_variables, formula_variables, phrase_variables, test_variables, member_variables, variables_of}
 use Rattle.chr_text.specs.Translation.{word_term, placed_word, argument, rule_atom, expression, test, member, somes, after_kept, after_heads, after_guard, rule}
 use Rattle.chr_text.specs.Variables.{Seen, number_variable, numbers, in_turn}
@@ -169,25 +171,17 @@ number_case m x false h = get_last m x
 number_there : (m : Seen) (x : List ℕ) → slice_get (number_variable m x).1 (number_variable m x).0 ≡ Some x
 number_there m x = number_case m x (is_seen m x) refl
 
-nothing_after : (m : Seen) → m ++ [] ≡ m
-nothing_after [] = refl
-nothing_after (x ∷ m) = ap (λ (n : Seen). x ∷ n) (nothing_after m)
-
-either_true : (b : Bool) → b || true ≡ true
-either_true true = refl
-either_true false = refl
-
 not_seen : (m : Seen) (x : List ℕ) → is_blank x ≡ false → is_seen m x ≡ false → list_any (bytes_eq x) m ≡ false
 not_seen m x named h = rw named at h
 
 -- what is seen later begins with what was seen
 grown_case : (m : Seen) (x : List ℕ) (b : Bool) → let v : ℕ × Seen = cond b (position_or_len (bytes_eq x) m, m) (length m, m ++ x ∷ []) in (k : Seen) × (v.1 ≡ m ++ k)
-grown_case m x true = ([], sym (nothing_after m))
+grown_case m x true = ([], sym (append-nil m))
 grown_case m x false = (x ∷ [], refl)
 
 grown : (m : Seen) (xs : List (List ℕ)) → (k : Seen) × (after m xs ≡ m ++ k)
 unfolding after
-grown m [] = ([], sym (nothing_after m))
+grown m [] = ([], sym (append-nil m))
 grown m (x ∷ xs) =
     let a = grown_case m x (is_seen m x) in
     let b = grown (number_variable m x).1 xs in
@@ -214,7 +208,7 @@ new_place p (x ∷ xs) y h k =
 
 any_last : {A : Type 0} (p : A → Bool) (xs : List A) (y : A) → p y ≡ true → list_any p (xs ++ y ∷ []) ≡ true
 any_last p [] y k = rw k refl
-any_last p (x ∷ xs) y k = rw (any_last p xs y k) (either_true (p x))
+any_last p (x ∷ xs) y k = rw (any_last p xs y k) (or-true (p x))
 
 first_case : (m : Seen) (x : List ℕ) (b : Bool) → is_blank x ≡ false → is_seen m x ≡ b
     → let v : ℕ × Seen = cond b (position_or_len (bytes_eq x) m, m) (length m, m ++ x ∷ []) in (list_any (bytes_eq x) v.1 ≡ true) × (v.0 ≡ position_or_len (bytes_eq x) v.1)

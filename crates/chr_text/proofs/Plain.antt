@@ -1,26 +1,15 @@
 -- The names of an item are letters, digits and `_`: those of its tokens are, and the grammar makes no others.
-use Rattle.std.proofs.Common.{◌≡◌, ℕ, zero, suc, Bool, true, false, cond, List, [], ◌∷◌, drop, Result, Ok, Err, arith}
-use Rattle.std.specs.Prelude.{IfOk}
+use Rattle.std.proofs.Common.{◌≡◌, ℕ, zero, suc, Bool, true, false, List, [], ◌∷◌, drop, Ok, arith}
 use Rattle.std.specs.List.{AllByRecursion}
 use Rattle.chr_value.specs.Spelling.{is_name_byte}
-use Rattle.chr_lex.specs.declared.fault.Kind.{Kind}
 use Rattle.chr_lex.specs.Items.{Item}
 use Rattle.chr_lex.specs.Lexing.{Spells, a_name, a_variable, a_number, below_zero, a_mark, Tokens, no_more, blank, token}
-use Rattle.chr_lex.specs.Reading.{◌>>=◌}
 use Rattle.chr_lex.specs.Tokens.{Lexeme, OfWord, OfMark, is_operand}
 use Rattle.chr_text.specs.Fitting.{WordPlain}
 use Rattle.chr_text.specs.Reading.{item_lexemes}
 use Rattle.chr_text.proofs.Texts.{is_item}
 
 -- ---- results
-
-pub if_bind : {A B : Type 0} (P : A → Type 0) (Q : B → Type 0) (r : Result A Kind) (f : A → Result B Kind) → IfOk r P → ((x : A) → P x → IfOk (f x) Q) → IfOk (r >>= f) Q
-if_bind P Q (Ok x) f p h = h x p
-if_bind P Q (Err e) f p h = tt
-
-pub if_cond : {A : Type 0} (P : A → Type 0) (b : Bool) (r s : Result A Kind) → IfOk r P → IfOk s P → IfOk (cond b r s) P
-if_cond P true r s p q = p
-if_cond P false r s p q = q
 
 -- ---- words
 

@@ -13,7 +13,7 @@ use Rattle.chr_grammar.specs.Spelling.{AreParsedAtoms}
 use Rattle.chr_grammar.proofs.Phrases.{are_phrases, phrases_read, no_phrases}
 use Rattle.chr_limits.specs.Words.{is_out_of_range, is_long, is_variable, phrase_has}
 use Rattle.chr_limits.specs.Limits.{has_many_args, has_large_args}
-use Rattle.chr_limits.proofs.Standing.{neither}
+use Rattle.chr_value.proofs.Texts.{neither}
 use Rattle.chr_text.specs.Translation.{atom_by_texts}
 use Rattle.chr_text.specs.Numbering.{or_full, each, more}
 use Rattle.chr_text.specs.Reading.{Posts, with_phrases, posts_of}

@@ -13,14 +13,14 @@ use Rattle.chr_text.specs.Numbering.{or_full, each, more}
 use Rattle.chr_text.specs.Reading.{Posts, item_lexemes, with_phrases, with_post, posts_of}
 use Rattle.chr_text.specs.Forms.{AddsAtoms, ArePosts}
 use Rattle.chr_text.proofs.Texts.{bind_ok, is_item, item_read, is_text, text_read}
-use Rattle.chr_text.proofs.ProgramTexts.{has_number}
+use Rattle.chr_text.proofs.Steps.{numbered_is}
 
 pub adds_atoms : (p : Posts) (e : Item) (q : Posts) → with_post p e ≡ Ok q → AddsAtoms p e q
 adds_atoms p e q h =
     let s = bind_ok (item_lexemes e >>= phrases_of) (with_phrases p) q h in
     let t = bind_ok (item_lexemes e) phrases_of s.0 s.1 in
     let judged = bind_ok (post_judged s.0) (λ judged. or_full (more p.0 (each numbered_atom p.1 (map atom_by_texts s.0)))) q s.2 in
-    let all = has_number (more p.0 (each numbered_atom p.1 (map atom_by_texts s.0))) q judged.2 in
+    let all = numbered_is (more p.0 (each numbered_atom p.1 (map atom_by_texts s.0))) q judged.2 in
     let x = bind_some (each numbered_atom p.1 (map atom_by_texts s.0)) (λ x. Some (p.0 ++ x.0, x.1)) q all in
     record { tokens = t.0; atoms = s.0; item = is_item e t.0 t.1; are = are_phrases t.0 s.0 t.2; may = standing.posted s.0 judged.1; new = x.0.0; table = x.0.1; numbered = x.1; added = sym (some_is _ q x.2) }
 

@@ -17,7 +17,7 @@ use Rattle.chr_limits.specs.Words.{is_out_of_range, is_long}
 use Rattle.chr_limits.specs.Limits.{is_too_large}
 use Rattle.chr_limits.specs.Judging.{removes_nothing, is_propagation, has_number_out_of_range}
 use Rattle.chr_limits.specs.Scope.{is_in_scope}
-use Rattle.chr_limits.proofs.Standing.{neither}
+use Rattle.chr_value.proofs.Texts.{neither}
 use Rattle.chr_text.specs.Translation.{rule}
 use Rattle.chr_text.specs.Numbering.{or_full, number_rule}
 use Rattle.chr_text.specs.Reading.{Program, with_statement, program_of}

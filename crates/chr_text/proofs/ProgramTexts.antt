@@ -1,5 +1,7 @@
 -- What is read as a program is one by the grammar and the limits, and the other way round.
-use Rattle.std.proofs.Common.{◌≡◌, ◌<◌, ℕ, false, leb, List, [], ◌∷◌, ◌++◌, length, Option, Some, None, Ok, sym, ap, arith}
+use Rattle.std.proofs.Common.{◌≡◌, ℕ, leb, List, [], ◌∷◌, ◌++◌, length, Ok, sym, ap}
+use Rattle.std.proofs.lemmas.Bool.{leb-false, lt-leb}
+use Rattle.chr_text.proofs.Steps.{numbered_is}
 use Rattle.chr_lex.specs.Items.{Item}
 use Rattle.chr_lex.specs.Reading.{◌>>=◌}
 use Rattle.chr_value.specs.Naming.{Table}
@@ -15,25 +17,15 @@ use Rattle.chr_text.specs.Reading.{Program, item_lexemes, with_rule, with_statem
 use Rattle.chr_text.specs.Forms.{AddsRule, Adds, AddsStatement, IsProgramText}
 use Rattle.chr_text.proofs.Texts.{bind_ok, ok_is, is_item, item_read, is_text, text_read}
 
-pub has_number : {A : Type 0} (o : Option A) (x : A) → or_full o ≡ Ok x → o ≡ Some x
-has_number (Some y) x h = ap Some (ok_is y x h)
-has_number None x h = absurd cc
-
-room_left : (n : ℕ) → leb 256 n ≡ false → n < 256
-room_left n h = grind arith
-
-not_full : (n : ℕ) → n < 256 → leb 256 n ≡ false
-not_full n h = grind arith
-
 adds_rule : (p : Program) (r : ParsedRule) (q : Program) → with_rule p r ≡ Ok q → AddsRule p r q
 adds_rule p r q h =
     let judged = bind_ok (rule_judged (leb 256 (length p.0)) r) (λ judged. or_full (number_rule p.1 (rule r)) >>= λ x. Ok (p.0 ++ x.0 ∷ [], x.1)) q h in
     let may = stands (leb 256 (length p.0)) r judged.1 in
     let x = bind_ok (or_full (number_rule p.1 (rule r))) (λ x. Ok (p.0 ++ x.0 ∷ [], x.1)) q judged.2 in
-    record { room = room_left (length p.0) may.0; stands = may.1; new = x.0.0; table = x.0.1; numbered = has_number (number_rule p.1 (rule r)) x.0 x.1; added = sym (ok_is _ q x.2) }
+    record { room = leb-false 256 (length p.0) may.0; stands = may.1; new = x.0.0; table = x.0.1; numbered = numbered_is (number_rule p.1 (rule r)) x.0 x.1; added = sym (ok_is _ q x.2) }
 
 rule_added : (p : Program) (r : ParsedRule) (q : Program) → AddsRule p r q → with_rule p r ≡ Ok q
-rule_added p r q a = rw (passes (leb 256 (length p.0)) r (not_full (length p.0) a.room, a.stands), a.numbered) (ap Ok (sym a.added))
+rule_added p r q a = rw (passes (leb 256 (length p.0)) r (lt-leb 256 (length p.0) a.room, a.stands), a.numbered) (ap Ok (sym a.added))
 
 adds : (p : Program) (s : Statement) (q : Program) → with_statement p s ≡ Ok q → Adds p s q
 adds p Import q h = sym (ok_is p q h)

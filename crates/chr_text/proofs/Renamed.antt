@@ -34,7 +34,7 @@ mutual
 
 -- ---- terms
 
-then_same : {A : Type 0} (o p : Option ℕ) (f g : ℕ → Option A) → o ≡ p → ((n : ℕ) → f n ≡ g n) → known_then o f ≡ known_then p g
+pub then_same : {A : Type 0} (o p : Option ℕ) (f g : ℕ → Option A) → o ≡ p → ((n : ℕ) → f n ≡ g n) → known_then o f ≡ known_then p g
 then_same None p f g e h = rw (← e) refl
 then_same (Some n) p f g e h = rw (← e) (h n)
 

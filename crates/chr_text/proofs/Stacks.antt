@@ -3,7 +3,7 @@ use Rattle.std.proofs.Common.{◌≡◌, ◌≤◌, ◌<◌, ◌+◌, ℕ, Bool,
 use Rattle.std.specs.Prelude.{nat_lt, if◌then◌else◌}
 use Rattle.std.specs.List.{list_any}
 use Rattle.std.proofs.lemmas.List.{append-nil, map_push, reverse-append, nil_from_length}
-use Rattle.chr_value.specs.Atoms.{Value, Int, Sym, Comp, args_of, ground, grounds}
+use Rattle.chr_value.specs.Atoms.{Value, Int, Sym, Comp, args_of, grounds}
 use Rattle.chr_value.specs.declared.value.Value as values_of_code
 use Rattle.chr_value.specs.declared.value.Value.{Value as CodeValue}
 use Rattle.chr_value.specs.declared.value.Comp.{Comp as CodeComp}
@@ -14,8 +14,7 @@ use Rattle.chr_rule.specs.Parts.{argument}
 use Rattle.chr_rule.specs.Terms.{is_open}
 use Rattle.chr_rule.specs.declared.term.Term as terms
 use Rattle.chr_rule.specs.declared.term.Term.{Term as CodeTerm}
-use Rattle.chr_rule.specs.declared.term.Open.{Open as CodeOpen}
-use Rattle.chr_rule.proofs.Levels.{argument-Var, argument-Given, argument-parts}
+use Rattle.chr_rule.proofs.Levels.{argument-Var, argument-Given}
 use Rattle.chr_text.specs.declared.words.NumberedWord.{NumberedWord}
 use Rattle.chr_text.specs.declared.words.NumberedWord.TheVariants as numbered
 use Rattle.chr_text.specs.declared.words.NumberedNode.{NumberedNode}
@@ -41,20 +40,6 @@ value_more made new ts rest t total are more so_far =
 
 pub all_values : {A : Type 0} (made : List (CodeValue A)) (ts : List (CodeTerm A)) (total : List (Value ℕ)) → length ts ≡ 0 → grounds made ++ values (map argument ts) ≡ total → grounds made ≡ total
 all_values made ts total empty so_far = sym (append-nil (grounds made)) ∙ ap (λ l. grounds made ++ values (map argument l)) (sym (nil_from_length ts empty)) ∙ so_far
-
--- the term is a value, or a variable, or open
-pub value_pushed : {A : Type 0} (made new : List (CodeValue A)) (t : CodeTerm A) (v : CodeValue A) → t ≡ terms.Given v → new ≡ made ++ v ∷ [] → grounds new ≡ grounds made ++ values (argument t ∷ [])
-value_pushed made new t v is more =
-    let one : argument t ≡ Given (ground v) = ap argument is ∙ argument-Given v in
-    ap grounds more ∙ map_push ground made v ∙ ap (λ u. grounds made ++ values (u ∷ [])) (sym one)
-
-pub variable_passed : {A : Type 0} (made : List (CodeValue A)) (t : CodeTerm A) (x : ℕ) → t ≡ terms.Var x → grounds made ≡ grounds made ++ values (argument t ∷ [])
-variable_passed {A} made t x is =
-    let one : argument t ≡ Var x = ap argument is ∙ argument-Var A x in
-    sym (append-nil (grounds made)) ∙ ap (λ u. grounds made ++ values (u ∷ [])) (sym one)
-
-pub open_passed : {A : Type 0} (made : List (CodeValue A)) (t : CodeTerm A) (o : Box (CodeOpen A) A) → t ≡ terms.Open o → grounds made ≡ grounds made ++ values (argument t ∷ [])
-open_passed made t o is = sym (append-nil (grounds made)) ∙ ap (λ u. grounds made ++ values (u ∷ [])) (sym (argument-parts t o o.value.args.items is refl))
 
 -- ---- a functor with its arguments
 

@@ -9,7 +9,7 @@ use Rattle.chr_lex.specs.declared.fault.ItemError.TheVariants as item_errors
 use Rattle.chr_lex.specs.Reading.{Fails}
 use Rattle.chr_value.specs.Naming.{◌>>=◌, Table}
 use Rattle.chr_text.specs.Numbering.{or_full, each, more, maybe, put}
-use Rattle.chr_text.specs.Translation.{somes}
+use Rattle.chr_text.specs.Translation.{somes, given}
 use Rattle.chr_text.specs.Tables.{Keeps}
 use Rattle.chr_text.specs.Variables.{Seen, in_turn}
 use Rattle.chr_text.proofs.Growing.{in_turn_grows}
@@ -26,16 +26,6 @@ pub turn_room : {A B : Type 0} (g : Seen → A → B × Seen) → ((seen : Seen)
 turn_room g grows seen last a as' all is so_far room =
     let e : (in_turn g (g seen a).1 as').1 ≡ last = ap (λ l. (in_turn g seen l).1) (sym is) ∙ so_far in
     omega (arith, in_turn_grows g grows (g seen a).1 as', ap length e)
-
-turn_more : {A B C : Type 0} (f : Table → B → Option (C × Table)) (g : Seen → A → B × Seen) (front : List C) (table new : Table) (seen after : Seen) (a : A) (as' all : List A) (y : C) (total : Option (List C × Table))
-    → all ≡ a ∷ as' → f table (g seen a).0 ≡ Some (y, new) → after ≡ (g seen a).1 → more front (each f table (in_turn g seen all).0) ≡ total → more (front ++ y ∷ []) (each f new (in_turn g after as').0) ≡ total
-turn_more f g front table new seen after a as' all y total is h e so_far =
-    rw e (each_more f front table new (g seen a).0 (in_turn g (g seen a).1 as').0 (in_turn g seen all).0 y total (ap (λ l. (in_turn g seen l).0) is) h so_far)
-
-turn_fails : {A B C : Type 0} (f : Table → B → Option (C × Table)) (g : Seen → A → B × Seen) (error : ItemError) (front : List C) (table : Table) (seen : Seen) (a : A) (as' all : List A) (total : Option (List C × Table))
-    → all ≡ a ∷ as' → Fails error (or_full (f table (g seen a).0)) → more front (each f table (in_turn g seen all).0) ≡ total → Fails error (or_full total)
-turn_fails f g error front table seen a as' all total is h so_far =
-    each_fails f error front table (g seen a).0 (in_turn g (g seen a).1 as').0 (in_turn g seen all).0 total (ap (λ l. (in_turn g seen l).0) is) h so_far
 
 met_done : {A B : Type 0} (g : Seen → A → B × Seen) (seen last : Seen) (all : List A) → all ≡ [] → (in_turn g seen all).1 ≡ last → seen ≡ last
 met_done g seen last all is so_far = ap (λ l. (in_turn g seen l).1) (sym is) ∙ so_far
@@ -58,19 +48,6 @@ turned_first number g start first all front none = record {
 pub turned_room : {A B C : Type 0} (number : Table → List B → Option (List C × Table)) (g : Seen → A → B × Seen) → ((seen : Seen) (a : A) → length seen ≤ length (g seen a).1)
     → {start table : Table} {first seen : Seen} {all rest as' : List A} {a : A} {front : List C} → rest ≡ a ∷ as' → Turned number g start first all front table seen rest → length (in_turn g first all).1 ≤ 24 → length (g seen a).1 ≤ 24
 turned_room number g grows is so_far room = turn_room g grows _ _ _ _ _ is so_far.seen room
-
-pub turned_fails : {A B C : Type 0} (f : Table → B → Option (C × Table)) (g : Seen → A → B × Seen) (error : ItemError)
-    → {start table : Table} {first seen : Seen} {all rest as' : List A} {a : A} {front : List C} → rest ≡ a ∷ as' → Fails error (or_full (f table (g seen a).0)) → Turned (each f) g start first all front table seen rest → Fails error (or_full (each f start (in_turn g first all).0))
-turned_fails f g error is h so_far = turn_fails f g error _ _ _ _ _ _ _ is h so_far.gives
-
-pub turned_next : {X A B C : Type 0} (view : X → C) (f : Table → B → Option (C × Table)) (g : Seen → A → B × Seen) (made : List X) (x : X)
-    → {start table new : Table} {first seen after : Seen} {all rest as' : List A} {a : A} {grown : List X} → rest ≡ a ∷ as' → grown ≡ made ++ x ∷ [] → or_full (f table (g seen a).0) ≡ Ok (view x, new) → after ≡ (g seen a).1 → ((t : Table) → Keeps t table → Keeps t new)
-    → Turned (each f) g start first all (map view made) table seen rest → Turned (each f) g start first all (map view grown) new after as'
-turned_next view f g made x is grows numbered e keeps so_far = record {
-  gives = rw (grows, map_push view made x) (turn_more f g (map view made) _ _ _ _ _ _ _ (view x) _ is (numbered_is _ _ numbered) e so_far.gives);
-  seen = turn_seen g _ _ _ _ _ _ is e so_far.seen;
-  keeps = λ t h. keeps t (so_far.keeps t h);
-}
 
 pub turned_done : {A B C : Type 0} (number : Table → List B → Option (List C × Table)) (g : Seen → A → B × Seen) → ((table : Table) → number table [] ≡ Some ([], table))
     → {start table : Table} {first seen : Seen} {all rest : List A} {front : List C} → rest ≡ [] → Turned number g start first all front table seen rest → or_full (number start (in_turn g first all).0) ≡ Ok (front, table)
@@ -147,3 +124,13 @@ some_turned_next view f g made o is grows numbered e keeps so_far = record {
   seen = turn_seen g _ _ _ _ _ _ is e so_far.seen;
   keeps = λ t h. keeps t (so_far.keeps t h);
 }
+
+-- ---- where each gives something
+
+pub given_somes : {A B : Type 0} (g : Seen → A → B × Seen) (seen : Seen) (as' : List A) → somes (in_turn (given g) seen as').0 ≡ (in_turn g seen as').0
+given_somes g seen [] = refl
+given_somes g seen (a ∷ as') = ap (λ l. (g seen a).0 ∷ l) (given_somes g (g seen a).1 as')
+
+pub given_seen : {A B : Type 0} (g : Seen → A → B × Seen) (seen : Seen) (as' : List A) → (in_turn (given g) seen as').1 ≡ (in_turn g seen as').1
+given_seen g seen [] = refl
+given_seen g seen (a ∷ as') = given_seen g (g seen a).1 as'

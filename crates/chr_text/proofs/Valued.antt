@@ -2,7 +2,7 @@
 use Rattle.std.proofs.Common.{◌≡◌, ◌<◌, ◌+◌, ℕ, suc, Bool, true, false, not, ◌&&◌, ◌||◌, cond, ltb, eqb, List, [], ◌∷◌, ◌++◌, length, length-append, flat_map, Option, Some, refl, sym, ap, ◌∙◌, arith}
 use Rattle.std.specs.List.{AllByRecursion, list_any, list_all, position_or_len}
 use Rattle.std.specs.Str.{bytes_eq}
-use Rattle.std.proofs.lemmas.Bool.{lt-ltb}
+use Rattle.std.proofs.lemmas.Bool.{lt-ltb, not-true}
 use Rattle.chr_rule.proofs.Heads.{heads_append}
 use Rattle.chr_lex.specs.Tokens.{Word}
 use Rattle.chr_lex.specs.Tokens as words
@@ -232,17 +232,13 @@ all_seen r =
 
 -- ---- a body
 
-not_so : (b : Bool) → not b ≡ true → b ≡ false
-not_so true h = absurd cc
-not_so false h = refl
-
 body_known : (m : Seen) (ms : List parsed.BodyMember) → AllByRecursion MemberNests ms → body_in_scope m ms ≡ true → known_after_body (length m) (somes (in_turn member m ms).0) ≡ Some (length (in_turn member m ms).1)
 body_known m [] nested h = refl
 body_known m (parsed.Nothing ∷ ms) nested h = body_known m ms nested.1 h
 body_known m (parsed.Is x e ∷ ms) nested h =
     let p = both (not (is_seen m x) && are_seen m (formula_variables e)) (body_in_scope (m ++ x ∷ []) ms) h in
     let q = both (not (is_seen m x)) (are_seen m (formula_variables e)) p.0 in
-    let new = not_so (is_seen m x) q.0 in
+    let new = not-true (is_seen m x) q.0 in
     let a = old_expression m (m ++ x ∷ []) e (holds_more m x) q.1 in
     let len : length (m ++ x ∷ []) ≡ suc (length m) = omega (arith, length-append m (x ∷ [])) in
     rw (new, a.0, a.1, itself (length m), ← len) (body_known (m ++ x ∷ []) ms nested.1 p.1)

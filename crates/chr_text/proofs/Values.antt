@@ -7,19 +7,17 @@ use Rattle.chr_lex.specs.Tokens.{Word}
 use Rattle.chr_lex.specs.Tokens as words
 use Rattle.chr_grammar.specs.Parsed.{TermNode, ParsedTerm}
 use Rattle.chr_limits.specs.Words.{is_variable, term_has}
-use Rattle.chr_limits.proofs.Standing.{neither}
-use Rattle.chr_value.specs.Atoms.{Value, Int, Sym, Comp, ground, text_of}
+use Rattle.chr_value.proofs.Texts.{neither}
+use Rattle.chr_value.specs.Atoms.{Value, Int, Sym, Comp, text_of}
 use Rattle.chr_value.specs.Limits.{IsWithin}
 use Rattle.chr_value.specs.Naming.{Table, numbered_value}
-use Rattle.chr_value.specs.declared.value.Value.{Value as CodeValue}
-use Rattle.chr_value.proofs.Chosen.{bind_some, some_is}
 use Rattle.chr_rule.specs.Rules.{Term, Var, Given, Open}
 use Rattle.chr_rule.specs.Parts.{argument as argument_of}
 use Rattle.chr_rule.specs.Terms.{is_open, IsTerm}
 use Rattle.chr_rule.specs.declared.term.Term as terms
 use Rattle.chr_rule.specs.declared.term.Term.{Term as CodeTerm}
 use Rattle.chr_rule.specs.declared.term.Open.{Open as CodeOpen}
-use Rattle.chr_rule.proofs.Levels.{argument-Var, argument-Given, argument-parts}
+use Rattle.chr_rule.proofs.Levels.{argument-parts}
 use Rattle.chr_text.specs.Fitting.{ValueFits}
 use Rattle.chr_text.specs.Numbering.{or_full, numbered_term}
 use Rattle.chr_text.specs.Terms.{with_args}
@@ -85,18 +83,6 @@ value_of_given (Var x) h = absurd cc
 value_of_given (Given v) h = (v, refl)
 value_of_given (Open s ts) h = absurd cc
 
-abbrev value_or : {N : Type 0} → Value N → Term N → Value N
-value_or d (Var x) = d
-value_or d (Given v) = v
-value_or d (Open s ts) = d
-
-given_case : (table new : Table) (t : Term (List ℕ)) (w : Value ℕ) → IsGiven t → numbered_term table t ≡ Some (Given w, new) → numbered_value table (value_in t) ≡ Some (w, new)
-given_case table new (Var x) w h e = absurd cc
-given_case table new (Open s ts) w h e = absurd cc
-given_case table new (Given v) w h e =
-    let x = bind_some (numbered_value table v) (λ x. Some (Given x.0, x.1)) (Given w, new) e in
-    subst (λ (z : Term ℕ × Table). numbered_value table v ≡ Some (value_or x.0.0 z.0, z.1)) (some_is {A = Term ℕ × Table} (Given x.0.0, x.0.1) (Given w, new) x.2) x.1
-
 fails_case : (error : ItemError) (table : Table) (t : Term (List ℕ)) → IsGiven t → Fails error (or_full (numbered_term table t)) → Fails error (or_full (numbered_value table (value_in t)))
 fails_case error table (Var x) h e = absurd cc
 fails_case error table (Open s ts) h e = absurd cc
@@ -106,23 +92,9 @@ pub value_fails : (error : ItemError) (table : Table) (seen : Seen) (p : ParsedT
 value_fails error table seen p empty fits e =
     fails_case error table (argument [] p).0 (term_given p fits) (subst (λ s. Fails error (or_full (numbered_term table (argument s p).0))) empty e)
 
--- the numbered term is a value
-pub value_given : {A : Type 0} (table new : Table) (seen : Seen) (p : ParsedTerm) (term : CodeTerm A) (v : CodeValue A) → seen ≡ [] → ValueFits p → term ≡ terms.Given v → or_full (numbered_term table (argument seen p).0) ≡ Ok (argument_of term, new)
-    → or_full (numbered_value table (value p)) ≡ Ok (ground v, new)
-value_given table new seen p term v empty fits is gives =
-    let one = ap argument_of is ∙ argument-Given v in
-    let some = numbered_is (numbered_term table (argument seen p).0) (argument_of term, new) gives ∙ ap (λ (t : Term ℕ). Some (t, new)) one in
-    ap or_full (given_case table new (argument [] p).0 (ground v) (term_given p fits) (subst (λ s. numbered_term table (argument s p).0 ≡ Some (Given (ground v), new)) empty some))
-
 never_open : (table new : Table) (seen : Seen) (p : ParsedTerm) (t : Term ℕ) → seen ≡ [] → ValueFits p → or_full (numbered_term table (argument seen p).0) ≡ Ok (t, new) → is_open t ≡ false
 never_open table new seen p t empty fits gives =
     opened table new (argument seen p).0 t (numbered_is (numbered_term table (argument seen p).0) (t, new) gives) ∙ ap (λ s. is_open (argument s p).0) empty ∙ term_given p fits
-
-pub never_variable : {A : Type 0} (table new : Table) (seen : Seen) (p : ParsedTerm) (term : CodeTerm A) (x : ℕ) → seen ≡ [] → ValueFits p → term ≡ terms.Var x → or_full (numbered_term table (argument seen p).0) ≡ Ok (argument_of term, new) → ⊥
-never_variable {A} table new seen p term x empty fits is gives =
-    let shut = never_open table new seen p (argument_of term) empty fits gives in
-    let opens : is_open (argument_of term) ≡ true = ap is_open (ap argument_of is ∙ argument-Var A x) in
-    absurd (true≢false (sym opens ∙ shut))
 
 pub never_functor : {A : Type 0} (table new : Table) (seen : Seen) (p : ParsedTerm) (term : CodeTerm A) (o : Box (CodeOpen A) A) → seen ≡ [] → ValueFits p → term ≡ terms.Open o → or_full (numbered_term table (argument seen p).0) ≡ Ok (argument_of term, new) → ⊥
 never_functor table new seen p term o empty fits is gives =

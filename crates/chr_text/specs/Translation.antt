@@ -66,6 +66,10 @@ member seen parsed.Nothing = (None, seen)
 member seen (parsed.Is x e) = (Some (Is (number_variable seen x).0 (expression (number_variable seen x).1 e).0), (expression (number_variable seen x).1 e).1)
 member seen (parsed.Add p) = (Some (Add (rule_atom seen p).0), (rule_atom seen p).1)
 
+-- the same, as something that is there
+abbrev pub given : {A B : Type 0} → (Seen → A → B × Seen) → Seen → A → Option B × Seen
+given f seen a = (Some (f seen a).0, (f seen a).1)
+
 abbrev pub somes : {A : Type 0} → List (Option A) → List A
 somes [] = []
 somes (None ∷ xs) = somes xs

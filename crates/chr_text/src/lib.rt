@@ -22,6 +22,7 @@
 #![tactic(auto)]
 
 mod build;
+mod in_order;
 pub mod laws;
 mod named;
 mod naming;

@@ -1,11 +1,37 @@
 //! Whether a table has all names of a program.
-ghost use Rattle.std.specs.Prelude.{◌↔◌, IsTrue, map};
+ghost use Rattle.std.specs.Prelude.{◌↔◌, IsTrue, ℕ, map};
 ghost use Rattle.std.specs.List.{AllByRecursion};
+ghost use Rattle.chr_rule.specs.Rules as rules;
 ghost use Rattle.chr_rule.specs.Parts.{argument, shape, comparison, member};
 ghost use Rattle.chr_text.specs.Named.{ArgumentIsNamed, RuleAtomIsNamed, ComparisonIsNamed, BodyItemIsNamed, RuleIsNamed};
 
 use chr_rule::{BodyItem, Comparison, Program, Rule, RuleAtom, Term};
 use std::alloc::Allocator;
+
+/// A part of a program with names.
+trait Named {
+    ghost Said: { Type 0 };
+
+    ghost said: { Self → Said };
+
+    ghost named: { ℕ → Said → Type 0 };
+
+    /// Whether a table of `count` names has all of them.
+    fn is_named(&self, count: usize) -> bool
+        ensures { IsTrue result ↔ named count (said self.now) };
+}
+
+/// Whether a table of `count` names has the names of all parts.
+fn are_named<X: Named>(parts: &[X], count: usize) -> bool
+    ensures { IsTrue result ↔ AllByRecursion (X.named count) (map X.said parts.now) }
+{
+    for part in parts {
+        if !part.is_named(count) {
+            return false;
+        }
+    }
+    true
+}
 
 /// Whether a table of `count` names has all names of an argument.
 #[cycle(argument)]
@@ -41,78 +67,64 @@ fn is_rule_atom_named<A: Allocator>(atom: &RuleAtom<A>, count: usize) -> bool
     (atom.name.number as usize) < count && are_arguments_named(&atom.terms, count)
 }
 
-/// Whether it has the names of all constraints.
-fn are_rule_atoms_named<A: Allocator>(atoms: &[RuleAtom<A>], count: usize) -> bool
-    ensures { IsTrue result ↔ AllByRecursion (RuleAtomIsNamed count) (map shape atoms.now) }
-{
-    for atom in atoms {
-        if !is_rule_atom_named(atom, count) {
-            return false;
-        }
-    }
-    true
-}
+impl<A: Allocator> Named for RuleAtom<A> {
+    ghost Said = { rules.RuleAtom ℕ };
 
-/// Whether it has the names of a comparison.
-fn is_comparison_named<A: Allocator>(test: &Comparison<A>, count: usize) -> bool
-    ensures { IsTrue result ↔ ComparisonIsNamed count (comparison test.now) }
-{
-    match test {
-        Comparison::Numbers(_, _, _) => true,
-        Comparison::Same(s, t) | Comparison::Differ(s, t) => {
-            is_argument_named(s, count) && is_argument_named(t, count)
-        }
+    ghost said = { shape };
+
+    ghost named = { RuleAtomIsNamed };
+
+    fn is_named(&self, count: usize) -> bool {
+        is_rule_atom_named(self, count)
     }
 }
 
-/// Whether it has the names of all comparisons.
-fn are_comparisons_named<A: Allocator>(guard: &[Comparison<A>], count: usize) -> bool
-    ensures { IsTrue result ↔ AllByRecursion (ComparisonIsNamed count) (map comparison guard.now) }
-{
-    for test in guard {
-        if !is_comparison_named(test, count) {
-            return false;
-        }
-    }
-    true
-}
+impl<A: Allocator> Named for Comparison<A> {
+    ghost Said = { rules.Comparison ℕ };
 
-/// Whether it has the names of a member of a body.
-fn is_body_item_named<A: Allocator>(item: &BodyItem<A>, count: usize) -> bool
-    ensures { IsTrue result ↔ BodyItemIsNamed count (member item.now) }
-{
-    match item {
-        BodyItem::Is(_, _) => true,
-        BodyItem::Add(atom) => is_rule_atom_named(atom, count),
+    ghost said = { comparison };
+
+    ghost named = { ComparisonIsNamed };
+
+    fn is_named(&self, count: usize) -> bool {
+        match self {
+            Comparison::Numbers(_, _, _) => true,
+            Comparison::Same(s, t) | Comparison::Differ(s, t) => {
+                is_argument_named(s, count) && is_argument_named(t, count)
+            }
+        }
     }
 }
 
-/// Whether it has the names of all members.
-fn are_body_items_named<A: Allocator>(body: &[BodyItem<A>], count: usize) -> bool
-    ensures { IsTrue result ↔ AllByRecursion (BodyItemIsNamed count) (map member body.now) }
-{
-    for item in body {
-        if !is_body_item_named(item, count) {
-            return false;
+impl<A: Allocator> Named for BodyItem<A> {
+    ghost Said = { rules.BodyItem ℕ };
+
+    ghost said = { member };
+
+    ghost named = { BodyItemIsNamed };
+
+    fn is_named(&self, count: usize) -> bool {
+        match self {
+            BodyItem::Is(_, _) => true,
+            BodyItem::Add(atom) => is_rule_atom_named(atom, count),
         }
     }
-    true
 }
 
 /// Whether it has all names of a rule.
 fn is_rule_named<A: Allocator + Copy>(rule: &Rule<A>, count: usize) -> bool
     ensures { IsTrue result ↔ RuleIsNamed count rule.now }
 {
-    if !are_rule_atoms_named(rule.kept(), count) {
+    if !are_named(rule.kept(), count) {
         return false;
     }
-    if !are_rule_atoms_named(rule.removed(), count) {
+    if !are_named(rule.removed(), count) {
         return false;
     }
-    if !are_comparisons_named(rule.guard(), count) {
+    if !are_named(rule.guard(), count) {
         return false;
     }
-    are_body_items_named(rule.body(), count)
+    are_named(rule.body(), count)
 }
 
 /// Whether a table of `count` names has all names of a program.

@@ -1,11 +1,14 @@
 //! Reading programs and posts.
-ghost use Rattle.std.specs.Prelude.{◌≡◌, ◌≤◌, ◌<◌, zero, [], length, map, take, Err, OnErr};
-ghost use Rattle.chr_lex.specs.Items.{items, entry};
+ghost use Rattle.std.specs.Prelude.{◌≡◌, ◌≤◌, ◌<◌, ℕ, zero, List, length, map, take, Result as ResultOf, Err, OnErr};
+ghost use Rattle.chr_lex.specs.Items.{Item as Entry, items, entry};
 ghost use Rattle.chr_lex.specs.Reading.{Gives, Reads, placed};
 ghost use Rattle.chr_lex.specs.Tokens.{lexeme};
-ghost use Rattle.chr_text.specs.Fitting.{RulePlain, StatementPlain};
-ghost use Rattle.chr_text.specs.Reading.{item_lexemes, over_items, with_rule, with_statement, with_item, program_of, with_post, posts_of};
+ghost use Rattle.chr_text.specs.Fitting.{RulePlain};
+ghost use Rattle.chr_text.specs.Reading.{item_lexemes, over_items, of_text, with_rule, with_item, program_of, with_post, posts_of};
+ghost use Rattle.chr_lex.specs.declared.fault.Kind.{Kind as FaultKind};
 ghost use Rattle.chr_lex.specs.declared.fault.Kind.TheVariants.{TooLong};
+ghost use Rattle.chr_value.specs.Atoms.{Atom as AtomOf};
+ghost use Rattle.chr_rule.specs.Rules.{Simpagation};
 ghost use Rattle.chr_lex.specs.declared.fault.ReadError.TheVariants as errors;
 ghost use Rattle.chr_grammar.specs.Views as by_texts;
 ghost use Rattle.chr_text.specs.Tables.{Table, Keeps};
@@ -57,53 +60,51 @@ fn add_rule<A: Allocator + Copy>(
     Ok(())
 }
 
-/// Adds what an item says. Only a rule adds to a program.
-fn add_statement<A: Allocator + Copy>(
-    alloc: A,
-    names: &mut Names<A>,
-    program: &mut Program<A>,
-    statement: &Statement<'_, A>,
-) -> Result<(), ItemError>
-    requires { StatementPlain (by_texts.statement statement.now) }
-    ensures gives { Gives (λ u. (program.new, names.new)) result (with_statement (program.old, names.old) (by_texts.statement statement.now)) }
-    ensures keeps { (t : Table) → Keeps t names.old → Keeps t names.new }
-{
-    match statement {
-        Statement::Import => Ok(()),
-        Statement::Declaration(all) => judge_declaration(all),
-        Statement::Rule(rule) => add_rule(alloc, names, program, rule),
+/// What the items of a text give together.
+trait Items<A: Allocator + Copy>: Drop + Sized {
+    ghost Said: { Type 0 };
+
+    ghost said: { Self → Said };
+
+    ghost with: { Said × Table → Entry → ResultOf (Said × Table) FaultKind };
+
+    /// Adds what an item says.
+    fn add_item(&mut self, alloc: A, names: &mut Names<A>, item: Item) -> Result<(), ItemError>
+        ensures gives { Gives (λ u. (said self.new, names.new)) result (with (said self.old, names.old) (entry item.entry)) }
+        ensures keeps { (t : Table) → Keeps t names.old → Keeps t names.new };
+}
+
+impl<A: Allocator + Copy> Items<A> for Program<A> {
+    ghost Said = { List (Simpagation ℕ) };
+
+    ghost said = { λ program. program };
+
+    ghost with = { with_item };
+
+    fn add_item(&mut self, alloc: A, names: &mut Names<A>, item: Item) -> Result<(), ItemError> {
+        let tokens = item_tokens(alloc, item)?;
+        let statement = parse_statement(alloc, &tokens)?;
+        match &statement {
+            Statement::Import => Ok(()),
+            Statement::Declaration(all) => judge_declaration(all),
+            Statement::Rule(rule) => add_rule(alloc, names, self, rule),
+        }
     }
 }
 
-/// An item of a program.
-fn read_statement<A: Allocator + Copy>(
-    alloc: A,
-    names: &mut Names<A>,
-    program: &mut Program<A>,
-    item: Item,
-) -> Result<(), ItemError>
-    ensures gives { Gives (λ u. (program.new, names.new)) result (with_item (program.old, names.old) (entry item.entry)) }
-    ensures keeps { (t : Table) → Keeps t names.old → Keeps t names.new }
-{
-    let tokens = item_tokens(alloc, item)?;
-    let statement = parse_statement(alloc, &tokens)?;
-    add_statement(alloc, names, program, &statement)
-}
+impl<A: Allocator + Copy> Items<A> for Vec<Atom<A>, A> {
+    ghost Said = { List (AtomOf ℕ) };
 
-/// An item of a text of posts.
-fn read_post<A: Allocator + Copy>(
-    alloc: A,
-    names: &mut Names<A>,
-    atoms: &mut Vec<Atom<A>, A>,
-    item: Item,
-) -> Result<(), ItemError>
-    ensures gives { Gives (λ u. (atoms.new.items, names.new)) result (with_post (atoms.old.items, names.old) (entry item.entry)) }
-    ensures keeps { (t : Table) → Keeps t names.old → Keeps t names.new }
-{
-    let tokens = item_tokens(alloc, item)?;
-    let phrases = parse_phrases(alloc, &tokens)?;
-    judge_post(&phrases)?;
-    number_posts(alloc, names, atoms, &phrases)
+    ghost said = { λ atoms. atoms.items };
+
+    ghost with = { with_post };
+
+    fn add_item(&mut self, alloc: A, names: &mut Names<A>, item: Item) -> Result<(), ItemError> {
+        let tokens = item_tokens(alloc, item)?;
+        let phrases = parse_phrases(alloc, &tokens)?;
+        judge_post(&phrases)?;
+        number_posts(alloc, names, self, &phrases)
+    }
 }
 
 fn at_line(line: u32, error: ItemError) -> ReadError
@@ -124,24 +125,24 @@ fn too_long() -> ReadError
     })
 }
 
-/// The rules of all items.
-fn read_statements<A: Allocator + Copy>(
+/// Adds what all items say.
+fn add_items<S: Items<A>, A: Allocator + Copy>(
     alloc: A,
     names: &mut Names<A>,
+    mut so_far: S,
     text: &[u8],
-) -> Result<Program<A>, ReadError>
+) -> Result<S, ReadError>
     requires { length text.now ≤ 65536 }
-    ensures reads { Reads (λ p. (p, names.new)) result (over_items with_item ([], names.old) (items zero 1 text.now)) }
+    ensures reads { Reads (λ made. (S.said made, names.new)) result (over_items S.with (S.said so_far, names.old) (items zero 1 text.now)) }
     ensures keeps { (t : Table) → Keeps t names.old → Keeps t names.new }
 {
-    let mut program = Program::new(alloc);
     let mut line = 1;
     let mut rest = text;
     'items: loop {
         match next_item(line, rest) {
-            None => return Ok(program),
+            None => return Ok(so_far),
             Some((item, next_line, after)) => {
-                match read_statement(alloc, names, &mut program, item) {
+                match so_far.add_item(alloc, names, item) {
                     Ok(()) => {}
                     Err(e) => return Err(at_line(item.line, e)),
                 }
@@ -152,30 +153,29 @@ fn read_statements<A: Allocator + Copy>(
     }
 }
 
-/// The atoms of all items.
-fn read_posts<A: Allocator + Copy>(
+/// What a text says, after what there is. After any error `names` is as before.
+#[tactic(auto, using(crate::proofs::Tables::keeps_same))]
+fn read_text<S: Items<A>, A: Allocator + Copy>(
     alloc: A,
+    bytes: &[u8],
     names: &mut Names<A>,
-    text: &[u8],
-) -> Result<Vec<Atom<A>, A>, ReadError>
-    requires { length text.now ≤ 65536 }
-    ensures reads { Reads (λ v. (v.items, names.new)) result (over_items with_post ([], names.old) (items zero 1 text.now)) }
-    ensures keeps { (t : Table) → Keeps t names.old → Keeps t names.new }
+    so_far: S,
+) -> Result<S, ReadError>
+    ensures reads { Reads (λ made. (S.said made, names.new)) result (of_text S.with (S.said so_far, names.old) bytes.now) }
+    ensures too_long { 65536 < length bytes.now → result ≡ Err (errors.Fault (record { kind = TooLong; line = 0 })) }
+    ensures unchanged { OnErr result (names.new ≡ names.old) }
+    ensures keeps { take (length names.old) names.new ≡ names.old }
 {
-    let mut atoms = Vec::new(alloc);
-    let mut line = 1;
-    let mut rest = text;
-    'items: loop {
-        match next_item(line, rest) {
-            None => return Ok(atoms),
-            Some((item, next_line, after)) => {
-                match read_post(alloc, names, &mut atoms, item) {
-                    Ok(()) => {}
-                    Err(e) => return Err(at_line(item.line, e)),
-                }
-                line = next_line;
-                rest = after;
-            }
+    if bytes.len() > MOST_BYTES {
+        return Err(too_long());
+    }
+    let plain = plain_text(alloc, bytes)?;
+    let before = names.len();
+    match add_items(alloc, names, so_far, &plain) {
+        Ok(made) => Ok(made),
+        Err(error) => {
+            names.truncate(before);
+            Err(error)
         }
     }
 }
@@ -187,7 +187,6 @@ fn read_posts<A: Allocator + Copy>(
 /// Syntax, E05 Propagation, E06 NumberRange, E07 TooMany, E08 Binding, E02 NamesFull. E01 comes only where a growth was
 /// refused. After any error `names` is as before; else the names of the rules are in it, after those from before, in
 /// text order.
-#[tactic(auto, using(crate::proofs::Tables::keeps_same))]
 pub fn read_program<A: Allocator + Copy>(
     alloc: A,
     bytes: &[u8],
@@ -198,24 +197,12 @@ pub fn read_program<A: Allocator + Copy>(
     ensures unchanged { OnErr result (names.new ≡ names.old) }
     ensures keeps { take (length names.old) names.new ≡ names.old }
 {
-    if bytes.len() > MOST_BYTES {
-        return Err(too_long());
-    }
-    let plain = plain_text(alloc, bytes)?;
-    let before = names.len();
-    match read_statements(alloc, names, &plain) {
-        Ok(program) => Ok(program),
-        Err(error) => {
-            names.truncate(before);
-            Err(error)
-        }
-    }
+    read_text(alloc, bytes, names, Program::new(alloc))
 }
 
 /// The atoms of a text of posts, in text order.
 ///
 /// The errors are those of [`read_program`]; a variable is E08 Binding. After any error `names` is as before.
-#[tactic(auto, using(crate::proofs::Tables::keeps_same))]
 pub fn read_atoms<A: Allocator + Copy>(
     alloc: A,
     bytes: &[u8],
@@ -226,16 +213,5 @@ pub fn read_atoms<A: Allocator + Copy>(
     ensures unchanged { OnErr result (names.new ≡ names.old) }
     ensures keeps { take (length names.old) names.new ≡ names.old }
 {
-    if bytes.len() > MOST_BYTES {
-        return Err(too_long());
-    }
-    let plain = plain_text(alloc, bytes)?;
-    let known = names.len();
-    match read_posts(alloc, names, &plain) {
-        Ok(atoms) => Ok(atoms),
-        Err(error) => {
-            names.truncate(known);
-            Err(error)
-        }
-    }
+    read_text(alloc, bytes, names, Vec::new(alloc))
 }

@@ -1,14 +1,12 @@
 //! Terms from what is written: names and variables get their numbers.
-ghost use Rattle.std.specs.Prelude.{◌≡◌, ◌≤◌, [], length, map, IfOk, OnOk};
-ghost use Rattle.std.specs.List.{AllByRecursion};
+ghost use Rattle.std.specs.Prelude.{◌≡◌, ◌≤◌, length, OnOk};
 ghost use Rattle.chr_lex.specs.Reading.{Gives};
 ghost use Rattle.chr_grammar.specs.Views as by_texts;
 ghost use Rattle.chr_limits.specs.Views.{names as texts};
 ghost use Rattle.chr_rule.specs.Parts.{argument};
 ghost use Rattle.chr_text.specs.Fitting.{TermFits};
-ghost use Rattle.chr_text.specs.Numbering.{or_full, each, numbered_term};
+ghost use Rattle.chr_text.specs.Numbering.{or_full, numbered_term};
 ghost use Rattle.chr_text.specs.Translation as raw;
-ghost use Rattle.chr_text.specs.Variables.{in_turn};
 ghost use Rattle.chr_text.specs.Tables.{Table, Keeps};
 
 use crate::trees::build_term;
@@ -36,26 +34,4 @@ pub fn number_term<'a, A: Allocator + Copy>(
     let words = number_words(names, seen, &term.nodes)?;
     let term = build_term(alloc, &words)?;
     Ok(term)
-}
-
-/// Terms from left to right.
-pub fn number_terms<'a, A: Allocator + Copy>(
-    alloc: A,
-    names: &mut Names<A>,
-    seen: &mut Seen<'a>,
-    terms: &[ParsedTerm<'a, A>],
-) -> Result<Vec<Term<A>, A>, ItemError>
-    requires fits { AllByRecursion TermFits (map by_texts.term terms.now) }
-    requires room { length (in_turn raw.argument (texts seen.old.items) (map by_texts.term terms.now)).1 ≤ 24 }
-    ensures gives { Gives (λ v. (map argument v.items, names.new)) result (or_full (each numbered_term names.old (in_turn raw.argument (texts seen.old.items) (map by_texts.term terms.now)).0)) }
-    ensures seen { OnOk result (texts seen.new.items ≡ (in_turn raw.argument (texts seen.old.items) (map by_texts.term terms.now)).1) }
-    ensures count { IfOk result (λ v. length v.items ≡ length terms.now) }
-    ensures keeps { (t : Table) → Keeps t names.old → Keeps t names.new }
-{
-    let mut arguments = Vec::new(alloc);
-    for term in terms {
-        let argument = number_term(alloc, names, seen, term)?;
-        arguments.push(argument)?;
-    }
-    Ok(arguments)
 }

@@ -1,6 +1,7 @@
 use Rattle.std.proofs.Common.{◌≡◌, ◌≤◌, ◌+◌, ◌-◌, ◌++◌, true, length, take, drop, ap, ◌∙◌, arith, length-take}
 use Rattle.chr_lex.specs.Plain.{closes, before_close, line_ends}
-use Rattle.chr_lex.proofs.Comments.{rest_of, block_fits, block_same, block_room}
+use Rattle.chr_lex.proofs.Comments.{block_fits, block_same, block_room}
+use Rattle.chr_lex.proofs.TokenLaws.{rest_of}
 use Rattle.chr_lex.proofs.plain.put_block.Goals as goal
 
 pub returns-in_ok-put_line_ends-in-Some-clause-same : goal.returns-in_ok-put_line_ends-in-Some-clause-same

@@ -1,12 +1,4 @@
-use Rattle.std.proofs.Math.Seq.{take-length}
-use Rattle.chr_text.proofs.Tables.{keeps_back}
 use Rattle.chr_text.proofs.reading.read_atoms.Goals as goal
 
-pub returns-in-Ok-clause-keeps : goal.returns-in-Ok-clause-keeps
-returns-in-Ok-clause-keeps g c = keeps_back c.args.names.now c.read_posts.new.names c.in-Ok.ensures.keeps
-
-pub returns-clause-unchanged : goal.returns-clause-unchanged
-returns-clause-unchanged g c = rw (c.truncate.ensures, c.len-known.ensures.value) (keeps_back c.args.names.now c.read_posts.new.names c.in-Err.ensures.keeps)
-
-pub returns-clause-keeps : goal.returns-clause-keeps
-returns-clause-keeps g c = rw (returns-clause-unchanged g c) (take-length c.args.names.now)
+pub returns-clause-reads : goal.returns-clause-reads
+returns-clause-reads g c = rw c.new.ensures.items at c.read_text.ensures.reads

@@ -5,7 +5,8 @@ use Rattle.chr_rule.specs.Rules.{Simpagation}
 use Rattle.std.specs.List.{AllByRecursion}
 use Rattle.chr_rule.specs.Scope.{IsRule}
 use Rattle.chr_rule.specs.Index.{IsIndexOf, HasHeadsOf}
-use Rattle.chr_rule.proofs.Index.{index_pushed, few_pushed, all_pushed, numbers_within}
+use Rattle.chr_rule.proofs.Index.{index_pushed, few_pushed, numbers_within}
+use Rattle.chr_rule.proofs.Places.{all_push}
 use Rattle.chr_rule.proofs.program.Program.push.Goals as goal
 
 pub invariant_of-self : goal.invariant_of-self
@@ -25,7 +26,7 @@ invariant_of-self-2 g c =
     let count : c.len.result ≡ length c.self.inside.rules.items = search rules in
     let number : c.len.result + 1 ≡ length before + 1 = ap (λ n. n + 1) (count ∙ sym (length-map c.self.inside.rules.items arc_value)) in (
       few_pushed arc_value c.self.inside.rules.items _ c.args.rule c.args.self.now items c.self.view_is c.requires,
-      subst (AllByRecursion IsRule) (sym pushed) (all_pushed before rule c.self.invariant.1 (subst IsRule c.deref-2.ensures c.variables-variables.ensures.valid)),
+      subst (AllByRecursion IsRule) (sym pushed) (all_push IsRule before rule c.self.invariant.1 (subst IsRule c.deref-2.ensures c.variables-variables.ensures.valid)),
       subst (λ (rules : List (Simpagation _)). IsIndexOf rules c.add_rule.new.self.items) (sym pushed) (index_pushed before _ _ rule (c.len.result + 1) number index added),
     )
 
