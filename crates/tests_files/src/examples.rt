@@ -1,14 +1,9 @@
 //! The examples against their runs.
-use chr_run_text::{Show, run_text};
-use std::alloc::Allocator;
+use crate::runs::Example;
+use chr_run_text::Show;
+use std::alloc::Global;
 use std::rt::Files;
 use std::{fs, io};
-
-/// The calls that a run makes at most, as `chr run` has it where no option is given.
-const STEPS: u64 = 1_000_000;
-
-/// The greatest label of such a run.
-const LABELS: u64 = 4_294_967_295;
 
 /// The names of the folders of examples, in alphabetical order.
 fn names<R: Files + Alloc + Clone + Drop>(rt: &R) -> io::Result<Vec<String<R::A>, R::A>>
@@ -32,21 +27,20 @@ fn firings(log: &[u8]) -> usize {
     lines.filter(|line| line.starts_with(b"F ")).count()
 }
 
-/// Whether a run of rules on posts prints this.
-fn is_run<A: Allocator + Copy>(alloc: A, rules: &[u8], posts: &[u8], expected: &[u8]) -> bool {
-    match run_text(alloc, rules, posts, STEPS, LABELS, Show::All) {
-        Ok(made) => made.bytes.as_slice() == expected,
-        Err(_) => false,
+/// Whether the run of an example prints this.
+fn is_run(alloc: Global, example: &Example, expected: &[u8]) -> bool {
+    match example.run(alloc, Show::All) {
+        Some(printed) => printed.as_slice() == expected,
+        None => false,
     }
 }
 
 /// Prints how many firings an example makes, or that its run isn't as expected.
 fn print_one<R: Files + Print + AllocGlobal>(rt: &R, name: &str) -> io::Result<()> {
     let alloc = rt.alloc();
-    let rules = fs::read(rt, format!(in alloc; "examples/{name}/{name}.chr")?)?;
-    let posts = fs::read(rt, format!(in alloc; "examples/{name}/posts.txt")?)?;
+    let example = Example::read(rt, name)?;
     let expected = fs::read(rt, format!(in alloc; "examples/{name}/expected.txt")?)?;
-    if is_run(alloc, &rules, &posts, &expected) {
+    if is_run(alloc, &example, &expected) {
         println!(rt; "{name}: {} firings", firings(&expected))
     } else {
         println!(rt; "{name}: the run isn't as expected")

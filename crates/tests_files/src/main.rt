@@ -13,6 +13,7 @@
 mod examples;
 mod help;
 mod pictures;
+mod runs;
 
 use std::io;
 

@@ -1,18 +1,13 @@
 //! The pictures of examples against their runs.
+use crate::runs::Example;
 use chr_picture::{Range, draw_text};
-use chr_run_text::{Show, run_text};
-use std::alloc::Allocator;
+use chr_run_text::Show;
+use std::alloc::Global;
 use std::rt::Files;
 use std::{fs, io};
 
 /// The examples that are drawn.
 const DRAWN: [&str; 3] = ["gcd", "scheduler", "union_find"];
-
-/// The calls that a run makes at most, as `chr run` has it where no option is given.
-const STEPS: u64 = 1_000_000;
-
-/// The greatest label of such a run.
-const LABELS: u64 = 4_294_967_295;
 
 /// All entries of a log.
 const ALL: Range = Range {
@@ -20,24 +15,23 @@ const ALL: Range = Range {
     to: 4_294_967_295,
 };
 
-/// Whether this is the picture of the run of rules on posts.
-fn is_drawn<A: Allocator + Copy>(alloc: A, rules: &[u8], posts: &[u8], picture: &[u8]) -> bool {
-    match run_text(alloc, rules, posts, STEPS, LABELS, Show::Log) {
-        Ok(made) => match draw_text(alloc, rules, &made.bytes, ALL) {
+/// Whether this is the picture of the run of an example.
+fn is_drawn(alloc: Global, example: &Example, picture: &[u8]) -> bool {
+    match example.run(alloc, Show::Log) {
+        Some(log) => match draw_text(alloc, &example.rules, &log, ALL) {
             Ok(drawn) => drawn.as_slice() == picture,
             Err(_) => false,
         },
-        Err(_) => false,
+        None => false,
     }
 }
 
 /// Prints whether the picture of an example is that of its run.
 fn print_one<R: Files + Print + AllocGlobal>(rt: &R, name: &str) -> io::Result<()> {
     let alloc = rt.alloc();
-    let rules = fs::read(rt, format!(in alloc; "examples/{name}/{name}.chr")?)?;
-    let posts = fs::read(rt, format!(in alloc; "examples/{name}/posts.txt")?)?;
+    let example = Example::read(rt, name)?;
     let picture = fs::read(rt, format!(in alloc; "pictures/{name}.svg")?)?;
-    if is_drawn(alloc, &rules, &posts, &picture) {
+    if is_drawn(alloc, &example, &picture) {
         println!(rt; "pictures/{name}.svg: as drawn")
     } else {
         println!(rt; "pictures/{name}.svg: not as drawn")

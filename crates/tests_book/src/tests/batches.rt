@@ -1,5 +1,5 @@
 //! A worked run: batches, their judgements, and a firing.
-use crate::tests::lists::{Calls, Does, judged_copy};
+use crate::tests::lists::{Calls, Does, Memory, judged_copy};
 use crate::tests::script::{Opening, is_text, open};
 use chr_book::Book;
 use chr_calls::Batch;
@@ -93,7 +93,7 @@ fn is_second_right(alloc: Global, book: &mut Book<Global>, first: &[Answer<Globa
     add_report(alloc, &mut calls, first).is_some()
         && calls.add_each(1, &SECOND, 5).is_ok()
         && match calls.answers(alloc, book) {
-            Ok(answers) => is_text(answers.text(alloc, alloc), SECOND_ANSWERS),
+            Ok(answers) => is_text(answers.text(&Memory::new(alloc, alloc)), SECOND_ANSWERS),
             Err(_) => false,
         }
 }
@@ -102,7 +102,7 @@ fn is_second_right(alloc: Global, book: &mut Book<Global>, first: &[Answer<Globa
 fn are_right(alloc: Global, book: &mut Book<Global>, first: &Calls<Global>) -> bool {
     match first.answers(alloc, book) {
         Ok(answers) => {
-            is_text(answers.text(alloc, alloc), FIRST_ANSWERS)
+            is_text(answers.text(&Memory::new(alloc, alloc)), FIRST_ANSWERS)
                 && is_second_right(alloc, book, answers.as_slice())
         }
         Err(_) => false,

@@ -1,63 +1,12 @@
 //! Tables of calls, each as one list.
-use crate::tests::lists::{Calls, answer_text, list_of};
+use crate::tests::lists::{Calls, Memory, list_of};
 use crate::tests::rows::{Row, answer};
-use crate::tests::script::Call::{Claim, DropGoal, Fire, Post, PutDown, Report, Trial};
 use crate::tests::script::{Script, has_lines, is_text, open};
-use crate::tests::tables::{GCD, OLDER_GOAL_IS_DROPPED, TOKEN, Table, tables};
+use crate::tests::tables::{ALONE, OLDER_GOAL_IS_DROPPED, OWN_WORDS, Table, tables};
 use chr_book::Book;
 use chr_log::write_entries;
 use chr_run_calls::Answer;
 use std::alloc::Global;
-
-/// The search of a goal without partners.
-static ALONE: Table = Table {
-    name: "alone",
-    opening: GCD,
-    rows: &[
-        (0, Post("gcd(4)."), "Ok(1)", "W"),
-        (1, Claim(1), "Ok(1)", "1"),
-        (1, Trial(1), "1.1 [1] Misfit", "1"),
-        (1, Report(1), "Ok(())", "1"),
-        (1, Trial(1), "2.1 [1] Part", "1"),
-        (1, Report(1), "Ok(())", "1"),
-        (1, Trial(1), "2.2 [1] Part", "1"),
-        (1, Report(1), "Ok(())", "1"),
-        (1, Trial(1), "Done", "1"),
-        (1, DropGoal(1), "Ok(Dropped)", "E"),
-    ],
-    lines: "quiet\nP 1 gcd(4)\nA 1 1\nD 1\n#1 gcd(4)\n",
-};
-
-/// Words of a seat that was told no trial for the ticket, or whose last trial was of another ticket or told to another seat.
-static OWN_WORDS: Table = Table {
-    name: "own words",
-    opening: TOKEN,
-    rows: &[
-        (0, Post("n(1), t."), "Ok(1)", "WW"),
-        (1, Report(1), "Err(NotHeld)", "WW"),
-        (1, Claim(1), "Ok(1)", "1W"),
-        (1, Report(1), "Err(Stale)", "1W"),
-        (1, Fire(1), "Err(Stale)", "1W"),
-        (2, Fire(1), "Err(NotHeld)", "1W"),
-        (1, Trial(1), "1.2 [1] Part", "1W"),
-        (2, Claim(2), "Ok(2)", "12"),
-        (2, Trial(2), "1.1 [2] Part", "12"),
-        (1, Report(1), "Ok(())", "12"),
-        (1, PutDown(1), "Ok(())", "R2"),
-        (2, Claim(1), "Ok(1)", "22"),
-        (2, Report(1), "Err(Stale)", "22"),
-        (2, Report(2), "Ok(())", "22"),
-        (2, Trial(2), "1.1 [2, 1] Whole", "22"),
-        (1, Fire(2), "Err(NotHeld)", "22"),
-        (
-            2,
-            Fire(2),
-            "Ok(Fired(Fired { first: 3, count: 1, active_lives: true }))",
-            "22W",
-        ),
-    ],
-    lines: "open\nP 1 n(1)\nP 2 t\nA 1 1\nA 2 2\nF 2 1 2\\1\n#2 t\n",
-};
 
 /// Makes all calls of rows. The same calls as one list, with the judgements that the script has made of them.
 fn listed(alloc: Global, script: &mut Script<Global>, rows: &[Row]) -> Option<Calls<Global>> {
@@ -75,9 +24,10 @@ fn calls_of(alloc: Global, table: &Table) -> Option<Calls<Global>> {
 
 /// How many answers are those of their rows before the first that isn't.
 fn rows_right(alloc: Global, rows: &[Row], answers: &[Answer<Global>]) -> usize {
+    let memory = Memory::new(alloc, alloc);
     for (i, answer) in answers.iter().enumerate() {
         let is_right = match rows.get(i) {
-            Some((_, _, expected, _)) => is_text(answer_text(alloc, alloc, answer), expected),
+            Some((_, _, expected, _)) => is_text(memory.answer_text(answer), expected),
             None => false,
         };
         if !is_right {

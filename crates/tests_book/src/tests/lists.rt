@@ -56,10 +56,10 @@ impl<A: Allocator + Copy> Answers<A> {
     }
 
     /// The answers in words.
-    pub fn text(&self, alloc: A, texts: Global) -> Result<String, AllocError> {
-        let mut text = String::new(texts);
+    pub fn text(&self, memory: &Memory<A>) -> Result<String, AllocError> {
+        let mut text = String::new(memory.texts);
         for answer in &self.answers {
-            add_made(&mut text, "; ", answer_text(alloc, texts, answer))?;
+            add_made(&mut text, "; ", memory.answer_text(answer))?;
         }
         Ok(text)
     }
@@ -153,7 +153,7 @@ fn list_call<A: Allocator + Copy>(
     call: ScriptCall,
 ) -> Option<Call<A>> {
     Some(match call {
-        ScriptCall::Post(_) => Call::Post(script.posted(call)?),
+        ScriptCall::Post(_) => Call::Post(script.posted(alloc, call)?),
         ScriptCall::Claim(ticket) => Call::Claim(ticket),
         ScriptCall::Trial(ticket) => Call::Trial(ticket),
         ScriptCall::Report(ticket) => Call::Report(ticket, Word::Own),
@@ -183,29 +183,6 @@ pub fn list_of<A: Allocator + Copy>(
     Some(calls)
 }
 
-/// A trial with its verdict, in words.
-fn copy_text<A: Allocator + Copy>(
-    alloc: A,
-    texts: Global,
-    trial: &Trial<A>,
-) -> Result<String, AllocError> {
-    trial_text(texts, &judged_copy(alloc, trial)?)
-}
-
-/// What comes next, in words: a trial with its verdict.
-pub fn turn_text<A: Allocator + Copy>(
-    alloc: A,
-    texts: Global,
-    turn: &Result<Turn<A>, TurnFault>,
-) -> Result<String, AllocError> {
-    match turn {
-        Ok(Turn::Trial(trial)) => copy_text(alloc, texts, trial),
-        Ok(Turn::Done) => "Done".to_string(texts),
-        Ok(Turn::Gone) => "Gone".to_string(texts),
-        Err(fault) => fault_text(texts, *fault),
-    }
-}
-
 /// Adds a text to those before it, after a mark that parts them.
 fn add_text(text: &mut String, mark: &str, one: &str) -> Result<(), AllocError> {
     if !text.is_empty() {
@@ -226,62 +203,78 @@ pub fn add_made(
     }
 }
 
-/// Some trials in words.
-fn trials_text<A: Allocator + Copy>(
-    alloc: A,
-    texts: Global,
-    trials: &[Trial<A>],
-) -> Result<String, AllocError> {
-    let mut text = String::new(texts);
-    for trial in trials {
-        add_made(&mut text, ", ", copy_text(alloc, texts, trial))?;
-    }
-    Ok(text)
+/// The memory of a book, and that of texts about it.
+#[derive(Drop)]
+pub struct Memory<A> {
+    pub book: A,
+    pub texts: Global,
 }
 
-/// A batch in words.
-fn batch_text<A: Allocator + Copy>(
-    alloc: A,
-    texts: Global,
-    batch: &Result<Batch<A>, TurnFault>,
-) -> Result<String, AllocError> {
-    match batch {
-        Ok(Batch::Trials(trials)) => trials_text(alloc, texts, trials),
-        Ok(Batch::Done) => "Done".to_string(texts),
-        Ok(Batch::Gone) => "Gone".to_string(texts),
-        Err(fault) => fault_text(texts, *fault),
+impl<A> Memory<A> {
+    /// The memory of these allocators.
+    pub fn new(book: A, texts: Global) -> Memory<A> {
+        Memory { book, texts }
     }
 }
 
-/// The report of a batch in words.
-fn report_text<A: Allocator + Copy>(
-    alloc: A,
-    texts: Global,
-    report: &BatchReport<A>,
-) -> Result<String, AllocError> {
-    let next = turn_text(alloc, texts, &report.next)?;
-    format!(in texts; "{}, {next}", report.reported)
-}
+impl<A: Allocator + Copy> Memory<A> {
+    /// A trial with its verdict, in words.
+    fn copy_text(&self, trial: &Trial<A>) -> Result<String, AllocError> {
+        trial_text(self.texts, &judged_copy(self.book, trial)?)
+    }
 
-/// An answer in words.
-pub fn answer_text<A: Allocator + Copy>(
-    alloc: A,
-    texts: Global,
-    answer: &Answer<A>,
-) -> Result<String, AllocError> {
-    match answer {
-        Answer::Post(told) => debug_text(texts, told),
-        Answer::PostText(told) => debug_text(texts, told),
-        Answer::Claim(told) => debug_text(texts, told),
-        Answer::Trial(turn) => turn_text(alloc, texts, turn),
-        Answer::Report(told) => debug_text(texts, told),
-        Answer::Fire(told) => debug_text(texts, told),
-        Answer::DropGoal(told) => debug_text(texts, told),
-        Answer::PutDown(told) => debug_text(texts, told),
-        Answer::MarkStray(told) => debug_text(texts, told),
-        Answer::TakeStray(told) => debug_text(texts, told),
-        Answer::Batch(batch) => batch_text(alloc, texts, batch),
-        Answer::ReportBatch(report) => report_text(alloc, texts, report),
-        Answer::NoMemory => "NoMemory".to_string(texts),
+    /// What comes next, in words: a trial with its verdict.
+    pub fn turn_text(&self, turn: &Result<Turn<A>, TurnFault>) -> Result<String, AllocError> {
+        match turn {
+            Ok(Turn::Trial(trial)) => self.copy_text(trial),
+            Ok(Turn::Done) => "Done".to_string(self.texts),
+            Ok(Turn::Gone) => "Gone".to_string(self.texts),
+            Err(fault) => fault_text(self.texts, *fault),
+        }
+    }
+
+    /// Some trials in words.
+    fn trials_text(&self, trials: &[Trial<A>]) -> Result<String, AllocError> {
+        let mut text = String::new(self.texts);
+        for trial in trials {
+            add_made(&mut text, ", ", self.copy_text(trial))?;
+        }
+        Ok(text)
+    }
+
+    /// A batch in words.
+    fn batch_text(&self, batch: &Result<Batch<A>, TurnFault>) -> Result<String, AllocError> {
+        match batch {
+            Ok(Batch::Trials(trials)) => self.trials_text(trials),
+            Ok(Batch::Done) => "Done".to_string(self.texts),
+            Ok(Batch::Gone) => "Gone".to_string(self.texts),
+            Err(fault) => fault_text(self.texts, *fault),
+        }
+    }
+
+    /// The report of a batch in words.
+    fn report_text(&self, report: &BatchReport<A>) -> Result<String, AllocError> {
+        let next = self.turn_text(&report.next)?;
+        format!(in self.texts; "{}, {next}", report.reported)
+    }
+
+    /// An answer in words.
+    pub fn answer_text(&self, answer: &Answer<A>) -> Result<String, AllocError> {
+        let texts = self.texts;
+        match answer {
+            Answer::Post(told) => debug_text(texts, told),
+            Answer::PostText(told) => debug_text(texts, told),
+            Answer::Claim(told) => debug_text(texts, told),
+            Answer::Trial(turn) => self.turn_text(turn),
+            Answer::Report(told) => debug_text(texts, told),
+            Answer::Fire(told) => debug_text(texts, told),
+            Answer::DropGoal(told) => debug_text(texts, told),
+            Answer::PutDown(told) => debug_text(texts, told),
+            Answer::MarkStray(told) => debug_text(texts, told),
+            Answer::TakeStray(told) => debug_text(texts, told),
+            Answer::Batch(batch) => self.batch_text(batch),
+            Answer::ReportBatch(report) => self.report_text(report),
+            Answer::NoMemory => "NoMemory".to_string(texts),
+        }
     }
 }

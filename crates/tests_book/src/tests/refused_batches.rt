@@ -1,6 +1,6 @@
 //! A worked run by batches, with a request of each call refused.
 use crate::tests::batches::{SCENES, Scene, takes_first_goals};
-use crate::tests::lists::{add_made, judged_copy, turn_text};
+use crate::tests::lists::{Memory, add_made, judged_copy};
 use crate::tests::plays::{Play, Played, play_each};
 use crate::tests::script::{is_text, open, trial_text};
 use chr_book::Book;
@@ -77,7 +77,8 @@ fn is_right<A: Allocator + Copy>(
     next: &Result<Turn<A>, TurnFault>,
     row: &Row,
 ) -> bool {
-    reported == row.1 && is_text(turn_text(play.alloc, play.texts, next), row.2)
+    let memory = Memory::new(play.alloc, play.texts);
+    reported == row.1 && is_text(memory.turn_text(next), row.2)
 }
 
 /// Reports judgements again, of which so many were reported before. Whether both reports together are as expected.

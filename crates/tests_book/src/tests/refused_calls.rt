@@ -89,7 +89,7 @@ fn is_refused_after<A: Allocator + Copy>(
     row: &Row,
     states: &str,
 ) -> Option<bool> {
-    match (script.posted(row.1), script.lines()) {
+    match (script.posted(play.alloc, row.1), script.lines()) {
         (Some(atoms), Ok(lines)) => is_refused(script, play, row, &atoms, (states, &lines)),
         _ => None,
     }

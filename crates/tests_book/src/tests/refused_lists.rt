@@ -1,5 +1,5 @@
 //! Lists of calls, with a request refused as a seat's own judgement is made.
-use crate::tests::lists::{Answers, Calls, Does, add_made};
+use crate::tests::lists::{Answers, Calls, Does, Memory, add_made};
 use crate::tests::plays::Play;
 use crate::tests::script::{Opening, has_lines, lines, open};
 use crate::tests::tables::TOKEN;
@@ -49,7 +49,7 @@ fn told<A: Allocator + Copy>(
     answers: &Result<Answers<A>, AllocError>,
 ) -> Result<String, AllocError> {
     match answers {
-        Ok(answers) => answers.text(play.alloc, play.texts),
+        Ok(answers) => answers.text(&Memory::new(play.alloc, play.texts)),
         Err(_) => "no room".to_string(play.texts),
     }
 }

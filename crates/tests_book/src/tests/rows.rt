@@ -10,7 +10,7 @@ pub type Row<'t> = (u32, Call<'t>, &'t str, &'t str);
 /// What a row's call answers. None where memory ran out.
 pub fn answer(script: &mut Script<Global>, row: &Row) -> Option<String> {
     let (seat, call, _, _) = *row;
-    let atoms = script.posted(call)?;
+    let atoms = script.posted(script.texts(), call)?;
     script.make(seat, call, &atoms).ok()
 }
 

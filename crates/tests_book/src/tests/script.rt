@@ -54,19 +54,12 @@ struct Told<A: Allocator> {
 pub struct Script<A: Allocator> {
     book: Book<A>,
     told: Vec<Told<A>>,
-    alloc: A,
-    texts: Global,
 }
 
 // Not derived: letting a script go is then one call, which is proved here once.
 impl<A: Allocator> Drop for Script<A> {
     fn drop(self) {
-        let Script {
-            book: _,
-            told: _,
-            alloc: _,
-            texts: _,
-        } = self;
+        let Script { book: _, told: _ } = self;
     }
 }
 
@@ -168,19 +161,22 @@ impl<A: Allocator + Copy> Script<A> {
         Some(Script {
             book,
             told: Vec::new(texts),
-            alloc,
-            texts,
         })
     }
 
+    /// The allocator of texts.
+    pub fn texts(&self) -> Global {
+        *self.told.allocator()
+    }
+
     /// The atoms that a call posts. None where their text can't be read, or where memory ran out.
-    pub fn posted(&self, call: Call) -> Option<Vec<Atom<A>, A>> {
-        let mut names = self.book.names().copy(self.alloc).ok()?;
+    pub fn posted(&self, alloc: A, call: Call) -> Option<Vec<Atom<A>, A>> {
+        let mut names = self.book.names().copy(alloc).ok()?;
         let text = match call {
             Call::Post(text) => text,
             _ => "",
         };
-        read_atoms(self.alloc, text.as_bytes(), &mut names).ok()
+        read_atoms(alloc, text.as_bytes(), &mut names).ok()
     }
 
     /// The judgement of a number.
@@ -202,7 +198,7 @@ impl<A: Allocator + Copy> Script<A> {
 
     /// Keeps a judgement, and tells it.
     fn keep(&mut self, told: Told<A>) -> Result<String, AllocError> {
-        let text = trial_text(self.texts, &told.judged);
+        let text = trial_text(self.texts(), &told.judged);
         self.told.push(told)?;
         text
     }
@@ -215,25 +211,27 @@ impl<A: Allocator + Copy> Script<A> {
                 ticket,
                 judged: judge(trial),
             }),
-            Ok(Turn::Done) => "Done".to_string(self.texts),
-            Ok(Turn::Gone) => "Gone".to_string(self.texts),
-            Err(fault) => fault_text(self.texts, fault),
+            Ok(Turn::Done) => "Done".to_string(self.texts()),
+            Ok(Turn::Gone) => "Gone".to_string(self.texts()),
+            Err(fault) => fault_text(self.texts(), fault),
         }
     }
 
     /// Reports the judgement of a number.
     fn report(&mut self, seat: u32, ticket: u64, number: usize) -> Result<String, AllocError> {
+        let texts = self.texts();
         match self.told.get(number.wrapping_sub(1)) {
-            None => "no judgement".to_string(self.texts),
-            Some(told) => { debug_text(self.texts, &self.book.report(seat, ticket, &told.judged)) }
+            None => "no judgement".to_string(texts),
+            Some(told) => debug_text(texts, &self.book.report(seat, ticket, &told.judged)),
         }
     }
 
     /// Fires the judgement of a number.
     fn fire(&mut self, seat: u32, ticket: u64, number: usize) -> Result<String, AllocError> {
+        let texts = self.texts();
         match self.told.get(number.wrapping_sub(1)) {
-            None => "no judgement".to_string(self.texts),
-            Some(told) => debug_text(self.texts, &self.book.fire(seat, ticket, &told.judged)),
+            None => "no judgement".to_string(texts),
+            Some(told) => debug_text(texts, &self.book.fire(seat, ticket, &told.judged)),
         }
     }
 
@@ -244,7 +242,7 @@ impl<A: Allocator + Copy> Script<A> {
         ticket: u64,
         judged: &Judged<A>,
     ) -> Result<String, AllocError> {
-        debug_text(self.texts, &self.book.fire(seat, ticket, judged))
+        debug_text(self.texts(), &self.book.fire(seat, ticket, judged))
     }
 
     /// Makes rounds of calls for a ticket, at most so many, and tells the answer. Where `starts`, the call that makes them
@@ -257,14 +255,14 @@ impl<A: Allocator + Copy> Script<A> {
         most: u64,
     ) -> Result<String, AllocError> {
         if starts {
-            return debug_text(self.texts, &self.book.start(seat, ticket, most));
+            return debug_text(self.texts(), &self.book.start(seat, ticket, most));
         }
-        debug_text(self.texts, &self.book.go_on(seat, ticket, most))
+        debug_text(self.texts(), &self.book.go_on(seat, ticket, most))
     }
 
     /// Makes a call, which posts these atoms where it is a post, and tells its answer.
     pub fn make(&mut self, seat: u32, call: Call, atoms: &[Atom<A>]) -> Result<String, AllocError> {
-        let texts = self.texts;
+        let texts = self.texts();
         match call {
             Call::Post(_) => debug_text(texts, &self.book.post(seat, atoms)),
             Call::Claim(ticket) => debug_text(texts, &self.book.claim(seat, ticket)),
@@ -282,7 +280,7 @@ impl<A: Allocator + Copy> Script<A> {
 
     /// A letter for the state of each ticket, of the first hundred.
     fn states(&self) -> Result<String, AllocError> {
-        let mut text = String::new(self.texts);
+        let mut text = String::new(self.texts());
         for ticket in 1..101u64 {
             if !add_state(&mut text, self.book.state(ticket))? {
                 break;
@@ -298,11 +296,11 @@ impl<A: Allocator + Copy> Script<A> {
 
     /// Whether it is quiet, the entries of the log, and the constraints of the store, a line for each.
     pub fn lines(&self) -> Result<Vec<u8>, AllocError> {
-        lines(self.texts, &self.book)
+        lines(self.texts(), &self.book)
     }
 
     /// Whether these are its lines.
     pub fn has_lines(&self, expected: &[u8]) -> bool {
-        has_lines(self.texts, &self.book, expected)
+        has_lines(self.texts(), &self.book, expected)
     }
 }

@@ -463,7 +463,57 @@ static MANY_TICKETS: Table = Table {
     lines: "open\nP 1 a\nP 2 a\nP 3 a\nP 4 a\nP 5 a\nP 6 a\nP 7 a\nP 8 a\nP 9 a\nP 10 a\nP 11 a\nP 12 a\nP 13 a\nP 14 a\nA 1 1\nF 1 1 \\1\n",
 };
 
-/// All of these tables.
+/// The search of a goal without partners.
+pub static ALONE: Table = Table {
+    name: "alone",
+    opening: GCD,
+    rows: &[
+        (0, Post("gcd(4)."), "Ok(1)", "W"),
+        (1, Claim(1), "Ok(1)", "1"),
+        (1, Trial(1), "1.1 [1] Misfit", "1"),
+        (1, Report(1), "Ok(())", "1"),
+        (1, Trial(1), "2.1 [1] Part", "1"),
+        (1, Report(1), "Ok(())", "1"),
+        (1, Trial(1), "2.2 [1] Part", "1"),
+        (1, Report(1), "Ok(())", "1"),
+        (1, Trial(1), "Done", "1"),
+        (1, DropGoal(1), "Ok(Dropped)", "E"),
+    ],
+    lines: "quiet\nP 1 gcd(4)\nA 1 1\nD 1\n#1 gcd(4)\n",
+};
+
+/// Words of a seat that was told no trial for the ticket, or whose last trial was of another ticket or told to another seat.
+pub static OWN_WORDS: Table = Table {
+    name: "own words",
+    opening: TOKEN,
+    rows: &[
+        (0, Post("n(1), t."), "Ok(1)", "WW"),
+        (1, Report(1), "Err(NotHeld)", "WW"),
+        (1, Claim(1), "Ok(1)", "1W"),
+        (1, Report(1), "Err(Stale)", "1W"),
+        (1, Fire(1), "Err(Stale)", "1W"),
+        (2, Fire(1), "Err(NotHeld)", "1W"),
+        (1, Trial(1), "1.2 [1] Part", "1W"),
+        (2, Claim(2), "Ok(2)", "12"),
+        (2, Trial(2), "1.1 [2] Part", "12"),
+        (1, Report(1), "Ok(())", "12"),
+        (1, PutDown(1), "Ok(())", "R2"),
+        (2, Claim(1), "Ok(1)", "22"),
+        (2, Report(1), "Err(Stale)", "22"),
+        (2, Report(2), "Ok(())", "22"),
+        (2, Trial(2), "1.1 [2, 1] Whole", "22"),
+        (1, Fire(2), "Err(NotHeld)", "22"),
+        (
+            2,
+            Fire(2),
+            "Ok(Fired(Fired { first: 3, count: 1, active_lives: true }))",
+            "22W",
+        ),
+    ],
+    lines: "open\nP 1 n(1)\nP 2 t\nA 1 1\nA 2 2\nF 2 1 2\\1\n#2 t\n",
+};
+
+/// The tables that hold row by row and as one list.
 pub fn tables() -> [&'static Table<'static>; 10] {
     [
         &KEPT_HEAD_IS_GONE,

@@ -12,7 +12,7 @@ use std::thread::Threads;
 /// memory ran out.
 fn both_come<R: Threads + Wait + Sync>(rt: &R, alloc: Global) -> Option<bool> {
     let gate = Signs::new(Before::Meets(1));
-    let finished = finished(rt, alloc, (GCD, "gcd(9), gcd(6)."), 2, &gate, MANY)?;
+    let finished = finished(rt, alloc, (GCD, "gcd(9), gcd(6)."), (2, &gate, MANY))?;
     Some(finished.end == End::Quiet && gate.have_met())
 }
 
@@ -51,7 +51,7 @@ fn judgements<R: Threads + Wait + Sync>(rt: &R, alloc: Global) -> Option<(u64, u
         "t \\ n(X) <=> X > 20 | r(X).",
         "n(1), n(2), n(3), n(21), t.",
     );
-    finished(rt, alloc, task, 1, &gate, MANY)?;
+    finished(rt, alloc, task, (1, &gate, MANY))?;
     Some(gate.counts())
 }
 

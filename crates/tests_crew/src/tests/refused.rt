@@ -106,7 +106,7 @@ fn refused_run<R: Threads + Wait + Sync>(
     let text = multiples(pool, row.rules, row.posts).ok()?;
     let book = open(memory, row.rules.program, text.as_str())?;
     memory.refuse(n);
-    let mut answer = run(rt, memory, pool, book, workers, &Open, MANY);
+    let mut answer = run(rt, memory, pool, book, (workers, &Open, MANY));
     let refused = memory.was_refused();
     memory.refuse(0);
     let quiet = refused.then_some(is_quiet(&answer));
@@ -134,7 +134,7 @@ fn refuse_each<R: Threads + Wait + Sync>(rt: &R, pool: Global, row: &Row) -> Res
     Err(0)
 }
 
-static ONE_WORKER: Row = Row {
+const ONE_WORKER: Row = Row {
     rules: NUMBERS,
     posts: 4,
     workers: 1,
@@ -167,8 +167,7 @@ fn two_workers_leave_a_lawful_book(rt: HostRuntime) {
 static COMPOUND_VALUES: Row = Row {
     rules: COMPOUND,
     posts: 3,
-    workers: 1,
-    apart: 0,
+    ..ONE_WORKER
 };
 
 /// Each of 24 and 36 fires with 12, and then what is left of it, by a rule with a variable.

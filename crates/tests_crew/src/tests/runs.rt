@@ -77,18 +77,20 @@ pub fn multiples(alloc: Global, rules: Rules, count: u64) -> Result<String<Globa
     Ok(text)
 }
 
+/// How many workers there are, their gate, and how many turns each makes at most.
+pub type Crew<'g, G> = (usize, &'g G, u64);
+
 /// A run of a crew.
 pub fn run<A: Allocator + Copy + Send + Sync, R: Threads + Wait + Sync, G: Gate + Sync>(
     rt: &R,
     alloc: A,
     pool: Global,
     book: Book<A>,
-    n: usize,
-    gate: &G,
-    turns: u64,
+    crew: Crew<'_, G>,
 ) -> Result<Finished<A>, CrewFault<A>>
-    requires { (1 ≤ n) × (n ≤ 16) }
+    requires { (1 ≤ crew.0) × (crew.0 ≤ 16) }
 {
+    let (n, gate, turns) = crew;
     let (posts, others) = (Blank::new(32), Blank::new(32));
     run_crew::<Brand, Brand, A, R, G>(rt, alloc, pool, book, n, gate, turns, posts, others)
 }
@@ -96,20 +98,18 @@ pub fn run<A: Allocator + Copy + Send + Sync, R: Threads + Wait + Sync, G: Gate 
 /// A program and posts.
 pub type Task<'t> = (&'t str, &'t str);
 
-/// What a run of so many workers on a task leaves. None where memory ran out.
+/// What a run of a crew on a task leaves. None where memory ran out.
 pub fn finished<R: Threads + Wait + Sync, G: Gate + Sync>(
     rt: &R,
     alloc: Global,
     task: Task<'_>,
-    workers: usize,
-    gate: &G,
-    turns: u64,
+    crew: Crew<'_, G>,
 ) -> Option<Finished<Global>>
-    requires { (1 ≤ workers) × (workers ≤ 16) }
+    requires { (1 ≤ crew.0) × (crew.0 ≤ 16) }
 {
     let (program, posts) = task;
     let book = open(alloc, program, posts)?;
-    run(rt, alloc, alloc, book, workers, gate, turns).ok()
+    run(rt, alloc, alloc, book, crew).ok()
 }
 
 /// The events of a book's log. None where memory ran out.
@@ -167,7 +167,7 @@ pub fn is_brought_to_its_end<A: Allocator + Copy + Send + Sync, R: Threads + Wai
     book: Book<A>,
     atom: &str,
 ) -> bool {
-    match run(rt, alloc, pool, book, 2, &Open, MANY) {
+    match run(rt, alloc, pool, book, (2, &Open, MANY)) {
         Ok(finished) => is_final(alloc, &finished, atom),
         Err(_) => false,
     }

@@ -30,7 +30,7 @@ fn is_as_posted(alloc: Global, finished: &Finished<Global>) -> bool {
 
 /// Whether two workers without a turn leave a book so. None where memory ran out.
 fn makes_no_turn<R: Threads + Wait + Sync>(rt: &R, alloc: Global) -> Option<bool> {
-    let finished = finished(rt, alloc, (GCD, "gcd(9), gcd(6)."), 2, &Open, 0)?;
+    let finished = finished(rt, alloc, (GCD, "gcd(9), gcd(6)."), (2, &Open, 0))?;
     Some(is_as_posted(alloc, &finished))
 }
 
@@ -49,7 +49,7 @@ fn leaves_the_fourth(alloc: Global, book: &mut Book<Global>) -> bool {
 /// Whether one worker on four constraints with three labels leaves the fourth. None where memory ran out.
 fn spends_its_labels<R: Threads + Wait + Sync>(rt: &R, alloc: Global) -> Option<bool> {
     let book = open_up_to(alloc, "", 3, "a, b, c, d.")?;
-    let mut finished = run(rt, alloc, alloc, book, 1, &Open, MANY).ok()?;
+    let mut finished = run(rt, alloc, alloc, book, (1, &Open, MANY)).ok()?;
     Some(finished.end == End::Stopped && leaves_the_fourth(alloc, &mut finished.book))
 }
 
@@ -75,7 +75,7 @@ fn goes_on<R: Threads + Wait + Sync>(
     posts: &str,
     turns: u64,
 ) -> Option<bool> {
-    let finished = finished(rt, alloc, (GCD, posts), 2, &Open, turns)?;
+    let finished = finished(rt, alloc, (GCD, posts), (2, &Open, turns))?;
     let let_go = is_let_go(alloc, &finished);
     Some(is_brought_to_its_end(rt, alloc, alloc, finished.book, " gcd(12)") && let_go)
 }

@@ -39,7 +39,7 @@ fn ended<R: Threads + Wait + Sync>(
     if workers < 1 || 16 < workers {
         return None;
     }
-    let finished = finished(rt, alloc, task, workers, &Open, MANY)?;
+    let finished = finished(rt, alloc, task, (workers, &Open, MANY))?;
     Some((finished.end, verdict(alloc, &finished.book)))
 }
 
@@ -110,7 +110,7 @@ fn is_two_hundred_whole<R: Threads + Wait + Sync>(
     rules: Rules,
 ) -> Option<bool> {
     let posts = multiples(alloc, rules, 200).ok()?;
-    let finished = finished(rt, alloc, (rules.program, posts.as_str()), 4, &Open, MANY)?;
+    let finished = finished(rt, alloc, (rules.program, posts.as_str()), (4, &Open, MANY))?;
     Some(is_whole(alloc, rules, &finished))
 }
 
@@ -149,7 +149,7 @@ fn is_left(alloc: Global, finished: &Finished<Global>, row: &Turns) -> bool {
 
 /// Whether one worker leaves what a row has. None where memory ran out.
 fn leaves<R: Threads + Wait + Sync>(rt: &R, alloc: Global, row: &Turns) -> Option<bool> {
-    let finished = finished(rt, alloc, (GCD, "gcd(9), gcd(6)."), 1, &Open, row.0)?;
+    let finished = finished(rt, alloc, (GCD, "gcd(9), gcd(6)."), (1, &Open, row.0))?;
     Some(is_left(alloc, &finished, row))
 }
 

@@ -1,6 +1,7 @@
 //! Two workers, of which one is told of what the other leaves.
 use crate::tests::beside::is_right;
-use crate::tests::play::{Before, NONE, Play, Step};
+use crate::tests::play::Step::{BecomesQuiet, HaveMet, Posts, Sleep, Waits};
+use crate::tests::play::{Before, NONE, Play};
 use chr_crew::Stop;
 use std::test::*;
 
@@ -10,12 +11,7 @@ static SHARES_A_FIRING: Play = Play {
     task: ("go <=> a, b.\na <=> true.\nb <=> true.\n", ""),
     workers: 2,
     before: Before::Meets(2),
-    steps: &[
-        Step::Sleep(2),
-        Step::Posts(b"go.", 1, 1),
-        Step::Waits(u32::MAX),
-        Step::HaveMet,
-    ],
+    steps: &[Sleep(2), Posts(b"go.", 1, 1), Waits(u32::MAX), HaveMet],
     ..NONE
 };
 
@@ -32,7 +28,7 @@ static SHARES_A_CHAIN: Play = Play {
     stop: Stop::Turns(200),
     tickets: 1,
     before: Before::WaitsForASleeper,
-    steps: &[Step::BecomesQuiet],
+    steps: &[BecomesQuiet],
 };
 
 #[test]

@@ -1,6 +1,7 @@
 //! A wait that no worker can end, a worker whose crew is closed, and one that finds a ticket that the inlet refused.
 use crate::tests::beside::is_right;
-use crate::tests::play::{Before, NONE, Play, Step};
+use crate::tests::play::Step::{News, Open, Posts, PostsAndWorks, Stores, Stray, Waits, Works};
+use crate::tests::play::{Before, NONE, Play};
 use crate::tests::runs::MANY;
 use chr_crew::Stop;
 use std::test::*;
@@ -8,7 +9,7 @@ use std::test::*;
 /// A session that waits where the only worker has ended.
 static NOBODY: Play = Play {
     task: ("", "a."),
-    steps: &[Step::Works(Stop::Turns(0)), Step::Open(u32::MAX, 2)],
+    steps: &[Works(Stop::Turns(0)), Open(u32::MAX, 2)],
     ..NONE
 };
 
@@ -26,7 +27,7 @@ static CLOSED_IN_A_GOAL: Play = Play {
     task: ("a(X), b(Y) <=> X + Y =:= -1 | true.", FORTY),
     tickets: 41,
     before: Before::Closes(41),
-    steps: &[Step::Works(Stop::Closed), Step::Stray(41)],
+    steps: &[Works(Stop::Closed), Stray(41)],
     ..NONE
 };
 
@@ -42,7 +43,7 @@ const FORTY_POSTS: &[u8] =
 /// A session that posts, where one request for memory may be refused, and a worker that works until it finds no ticket.
 static POSTS_FORTY: Play = Play {
     task: ("a <=> true.", ""),
-    steps: &[Step::PostsAndWorks(FORTY_POSTS, 1, 40), Step::Waits(0)],
+    steps: &[PostsAndWorks(FORTY_POSTS, 1, 40), Waits(0)],
     ..NONE
 };
 
@@ -59,26 +60,26 @@ fn a_ticket_that_the_inlet_refuses_is_worked_on(rt: HostRuntime) {
     assert_eq!(rt; right, Some(true));
 }
 
+/// Nothing but one ticket from the start.
+const ONE_TICKET: Play = Play { tickets: 1, ..NONE };
+
 /// How often something new is announced: at a firing that gives two, at one that gives one, and by a worker that leaves its
 /// goal.
 static ANNOUNCED: [Play; 3] = [
     Play {
         task: ("go <=> a, b.", "go."),
-        tickets: 1,
-        steps: &[Step::Works(Stop::Turns(MANY)), Step::News(1)],
-        ..NONE
+        steps: &[Works(Stop::Turns(MANY)), News(1)],
+        ..ONE_TICKET
     },
     Play {
         task: ("go <=> a.", "go."),
-        tickets: 1,
-        steps: &[Step::Works(Stop::Turns(MANY)), Step::News(0)],
-        ..NONE
+        steps: &[Works(Stop::Turns(MANY)), News(0)],
+        ..ONE_TICKET
     },
     Play {
         task: ("go <=> a, b.", "go."),
-        tickets: 1,
-        steps: &[Step::Works(Stop::Turns(1)), Step::News(1)],
-        ..NONE
+        steps: &[Works(Stop::Turns(1)), News(1)],
+        ..ONE_TICKET
     },
 ];
 
@@ -91,7 +92,7 @@ fn what_others_may_take_is_announced(rt: HostRuntime) {
 
 /// A session whose post of two is announced once, when the pool has both tickets.
 static POSTED_ONCE: Play = Play {
-    steps: &[Step::Posts(b"a, b.", 1, 2), Step::News(1)],
+    steps: &[Posts(b"a, b.", 1, 2), News(1)],
     ..NONE
 };
 
@@ -103,13 +104,12 @@ fn a_post_is_announced_once(rt: HostRuntime) {
 /// A worker whose own tickets never end, and one that a session posts.
 static BESIDE_A_CHAIN: Play = Play {
     task: ("a <=> a.\nd <=> e.\n", "a."),
-    tickets: 1,
     steps: &[
-        Step::Posts(b"d.", 2, 1),
-        Step::Works(Stop::Turns(10_000)),
-        Step::Stores(b" e\n"),
+        Posts(b"d.", 2, 1),
+        Works(Stop::Turns(10_000)),
+        Stores(b" e\n"),
     ],
-    ..NONE
+    ..ONE_TICKET
 };
 
 #[test]

@@ -1,6 +1,9 @@
 //! Workers that are told in time, and sessions that look in time.
 use crate::tests::beside::{is_right, is_right_on};
-use crate::tests::play::{Before, NONE, Play, Step};
+use crate::tests::play::Step::{
+    Announces, BecomesQuiet, Judges, LooksTwice, Open, Posts, Refuses, Sleep, Tells, Waits, Yields,
+};
+use crate::tests::play::{Before, NONE, Play};
 use crate::tests::runs::{GCD, MANY, open};
 use refusing::Refusing;
 use std::alloc::{AllocError, Global};
@@ -8,16 +11,14 @@ use std::sync::Wait;
 use std::test::*;
 use std::thread::Threads;
 
+/// Nothing beside one worker.
+const ONE_WORKER: Play = Play { workers: 1, ..NONE };
+
 /// A session that posts when the worker is probably asleep.
 static WAKES: Play = Play {
     task: (GCD, ""),
-    workers: 1,
-    steps: &[
-        Step::Yields,
-        Step::Posts(b"gcd(9), gcd(6).", 1, 2),
-        Step::BecomesQuiet,
-    ],
-    ..NONE
+    steps: &[Yields, Posts(b"gcd(9), gcd(6).", 1, 2), BecomesQuiet],
+    ..ONE_WORKER
 };
 
 #[test]
@@ -28,9 +29,8 @@ fn a_post_wakes_a_sleeper(rt: HostRuntime) {
 /// A session that posts again and again while the worker sleeps, and looks twice each time.
 static LOOKS_TWICE: Play = Play {
     task: ("a <=> true.", ""),
-    workers: 1,
-    steps: &[Step::Sleep(1), Step::LooksTwice(1000)],
-    ..NONE
+    steps: &[Sleep(1), LooksTwice(1000)],
+    ..ONE_WORKER
 };
 
 #[test]
@@ -41,10 +41,9 @@ fn who_is_told_counts_as_awake(rt: HostRuntime) {
 /// A session that waits for the end of a run.
 static WAITS: Play = Play {
     task: (GCD, "gcd(9), gcd(6)."),
-    workers: 1,
     tickets: 2,
-    steps: &[Step::Waits(u32::MAX)],
-    ..NONE
+    steps: &[Waits(u32::MAX)],
+    ..ONE_WORKER
 };
 
 /// Whether a `wait` comes to the end of a run with request number `n` refused, and whether one was. None where it was refused
@@ -91,17 +90,10 @@ static ANNOUNCES: Play = Play {
         "a <=> b, b, b, b, b, b, b, b, b, b, b, b, b, b, b, b.",
         "a.",
     ),
-    workers: 1,
     tickets: 1,
     before: Before::Meets(1),
-    steps: &[
-        Step::Judges,
-        Step::Announces,
-        Step::Refuses,
-        Step::Tells,
-        Step::BecomesQuiet,
-    ],
-    ..NONE
+    steps: &[Judges, Announces, Refuses, Tells, BecomesQuiet],
+    ..ONE_WORKER
 };
 
 /// Whether a worker that is refused memory behind something new looks again by itself. None where memory ran out.
@@ -148,11 +140,10 @@ fn is_answered_between<R: Threads + Wait + Sync>(rt: &R, alloc: Global) -> Optio
     let posts = pairs(alloc).ok()?;
     let play = Play {
         task: ("go, n(X), m(Y) <=> X + Y =:= -1 | true.", posts.as_str()),
-        workers: 1,
         tickets: LONG,
         before: Before::WaitsTwice(LONG, FAR),
-        steps: &[Step::Judges, Step::Open(1, MANY), Step::Tells],
-        ..NONE
+        steps: &[Judges, Open(1, MANY), Tells],
+        ..ONE_WORKER
     };
     is_right(rt, alloc, &play)
 }

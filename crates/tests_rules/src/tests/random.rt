@@ -4,14 +4,13 @@ ghost use Rattle.chr_enumeration.specs.Found.{listed};
 ghost use Rattle.chr_model.specs.Stores.{labels, Distinct};
 ghost use Rattle.chr_plan.specs.Plans.{ArePlans};
 
-use crate::tests::searches::{Scene, labels_of, next_judged, plans_of, store_of};
-use crate::tests::texts::program_of;
+use crate::tests::searches::{Scene, labels_of, next_judged, plans_of, program_and_store};
 use chr_enumeration::find_with_label;
 use chr_guard::instance::instance_under;
 use chr_rule::{Program, Rule};
 use chr_search::{Ask, Judged, Search, Trial, Verdict};
 use chr_store::Store;
-use chr_value::{Atom, Names};
+use chr_value::Atom;
 use std::alloc::{AllocError, Global};
 
 /// How many atoms a store has at most.
@@ -184,21 +183,16 @@ fn are_beside(row: &Row, other: &Row) -> bool {
     row.rule == other.rule && row.head == other.head && labels == others
 }
 
-/// What a search goes through: each trial, the one behind it if there is one, and the instances.
+/// What a search goes through: each trial with the one behind it, if there is one, and the instances.
 struct Reached {
-    rows: Vec<Row>,
-    behind: Vec<Option<Row>>,
+    rows: Vec<(Row, Option<Row>)>,
     found: Vec<Found>,
 }
 
 // Not derived: letting all this go is then one call, which is proved here once.
 impl Drop for Reached {
     fn drop(self) {
-        let Reached {
-            rows: _,
-            behind: _,
-            found: _,
-        } = self;
+        let Reached { rows: _, found: _ } = self;
     }
 }
 
@@ -256,8 +250,7 @@ fn add_judged(
     behind: Option<Row>,
 ) -> Option<()> {
     let trial = judged.trial();
-    reached.behind.push(behind).ok()?;
-    reached.rows.push(row_of(alloc, trial)?).ok()?;
+    reached.rows.push((row_of(alloc, trial)?, behind)).ok()?;
     if judged.verdict() == Verdict::Whole {
         let (kept, removed) = (trial.kept_labels(), trial.removed_labels());
         let found = found_of(alloc, trial.number(), kept.as_slice(), removed.as_slice())?;
@@ -292,7 +285,6 @@ fn reach(alloc: Global, scene: Scene, label: u64) -> Option<Reached>
 {
     let mut reached = Reached {
         rows: Vec::new(alloc),
-        behind: Vec::new(alloc),
         found: Vec::new(alloc),
     };
     let mut search = Search::begin(label);
@@ -308,12 +300,12 @@ fn reach(alloc: Global, scene: Scene, label: u64) -> Option<Reached>
 /// Whether what is behind each trial is the first later one that differs in the last label alone.
 fn is_behind_right(reached: &Reached) -> bool {
     let rows = reached.rows.as_slice();
-    for (i, row) in rows.iter().enumerate() {
+    for (i, (row, behind)) in rows.iter().enumerate() {
         let (_, later) = rows.split_at(i);
-        let next = later.iter().skip(1).find(|other| are_beside(row, other));
-        let right = match (next, reached.behind.as_slice().get(i)) {
-            (None, Some(None)) => true,
-            (Some(next), Some(Some(behind))) => {
+        let next = later.iter().skip(1).find(|other| are_beside(row, &other.0));
+        let right = match (next, behind) {
+            (None, None) => true,
+            (Some((next, _)), Some(behind)) => {
                 are_beside(next, behind)
                     && next.labels.as_slice().last() == behind.labels.as_slice().last()
             }
@@ -493,9 +485,7 @@ fn count_reached(alloc: Global, scene: Scene) -> Option<usize>
 
 /// The same of a program and a store that are read from their texts.
 fn count_of_texts(alloc: Global, rules: &str, posts: &str, removed: &[u64]) -> Option<usize> {
-    let mut names = Names::new(alloc);
-    let program = program_of(alloc, rules, &mut names)?;
-    let store = store_of(alloc, posts, &mut names, removed)?;
+    let (program, store) = program_and_store(alloc, rules, posts, removed)?;
     let plans = plans_of(alloc, &program)?;
     let scene = Scene {
         program: &program,

@@ -21,69 +21,28 @@ fn atom_of(terms: Vec<Term<Global>>) -> Option<RuleAtom<Global>> {
     Some(RuleAtom { name, terms })
 }
 
-/// What a rule is made of.
-struct Parts {
-    kept: Vec<RuleAtom<Global>>,
-    removed: Vec<RuleAtom<Global>>,
-    guard: Vec<Comparison<Global>>,
-    body: Vec<BodyItem<Global>>,
-}
-
-// Not derived: letting parts go is then one call, which is proved here once.
-impl Drop for Parts {
-    fn drop(self) {
-        let Parts {
-            kept: _,
-            removed: _,
-            guard: _,
-            body: _,
-        } = self;
-    }
-}
-
-impl Parts {
-    /// No parts.
-    fn new(alloc: Global) -> Parts {
-        Parts {
-            kept: Vec::new(alloc),
-            removed: Vec::new(alloc),
-            guard: Vec::new(alloc),
-            body: Vec::new(alloc),
-        }
-    }
-
-    /// Whether they are those of a rule.
-    fn are_a_rule(self) -> bool {
-        let Parts {
-            kept,
-            removed,
-            guard,
-            body,
-        } = self;
-        Rule::new(kept, removed, guard, body).is_some()
-    }
-}
-
 /// An atom of `count` variables, from `first` on.
 fn atom_from(alloc: Global, first: u8, count: u8) -> Option<RuleAtom<Global>> {
     atom_of(variables(alloc, first, count)?)
 }
 
-/// Adds heads, each by its first variable and the number of its variables.
-fn add_heads(alloc: Global, made: &mut Vec<RuleAtom<Global>>, heads: &[(u8, u8)]) -> Option<()> {
+/// Heads, each by its first variable and the number of its variables.
+fn heads_of(alloc: Global, heads: &[(u8, u8)]) -> Option<Vec<RuleAtom<Global>>> {
+    let mut made = Vec::new(alloc);
     for (first, count) in heads {
         made.push(atom_from(alloc, *first, *count)?).ok()?;
     }
-    Some(())
+    Some(made)
 }
 
-/// Adds `count` comparisons of a variable with itself.
-fn add_guard(guard: &mut Vec<Comparison<Global>>, count: u8, variable: u8) -> Option<()> {
+/// `count` comparisons of a variable with itself.
+fn guard_of(alloc: Global, count: u8, variable: u8) -> Option<Vec<Comparison<Global>>> {
+    let mut guard = Vec::new(alloc);
     for _ in 0..count {
         let test = Comparison::Same(Term::Var(variable), Term::Var(variable));
         guard.push(test).ok()?;
     }
-    Some(())
+    Some(guard)
 }
 
 /// Adds what gives `count` variables the value of another one, from `first` on.
@@ -114,21 +73,29 @@ type Row<'r> = (
     bool,
 );
 
-/// Adds the parts of a row.
-fn add_parts(alloc: Global, parts: &mut Parts, row: &Row) -> Option<()> {
-    let (kept, removed, (comparisons, variable), (first, count, other), added, _) = *row;
-    add_heads(alloc, &mut parts.kept, kept)?;
-    add_heads(alloc, &mut parts.removed, removed)?;
-    add_guard(&mut parts.guard, comparisons, variable)?;
-    add_values(&mut parts.body, first, count, other)?;
-    add_atoms(alloc, &mut parts.body, added)
+/// The body of a row.
+fn body_of(alloc: Global, row: &Row) -> Option<Vec<BodyItem<Global>>> {
+    let (_, _, _, (first, count, other), added, _) = *row;
+    let mut body = Vec::new(alloc);
+    add_values(&mut body, first, count, other)?;
+    add_atoms(alloc, &mut body, added)?;
+    Some(body)
 }
 
 /// Whether the parts of a row are those of a rule. None where memory ran out.
 fn are_a_rule(alloc: Global, row: &Row) -> Option<bool> {
-    let mut parts = Parts::new(alloc);
-    add_parts(alloc, &mut parts, row)?;
-    Some(parts.are_a_rule())
+    let (kept, removed, (comparisons, variable), _, _, _) = *row;
+    match (
+        heads_of(alloc, kept),
+        heads_of(alloc, removed),
+        guard_of(alloc, comparisons, variable),
+        body_of(alloc, row),
+    ) {
+        (Some(kept), Some(removed), Some(guard), Some(body)) => {
+            Some(Rule::new(kept, removed, guard, body).is_some())
+        }
+        _ => None,
+    }
 }
 
 static ROWS: [Row; 27] = [
@@ -276,18 +243,19 @@ static TERMS: [(Shape, bool); 11] = [
     (Shape::Wide(&[7; 8]), false),
 ];
 
-/// Adds a head of the first variable and a term.
-fn add_head_with(alloc: Global, heads: &mut Vec<RuleAtom<Global>>, shape: Shape) -> Option<()> {
+/// A head of the first variable and a term.
+fn head_with(alloc: Global, shape: Shape) -> Option<RuleAtom<Global>> {
     let mut terms = variables(alloc, 0, 1)?;
     terms.push(term_of(alloc, shape)?).ok()?;
-    heads.push(atom_of(terms)?).ok()
+    atom_of(terms)
 }
 
 /// Whether a rule may remove a head of the first variable and a term.
 fn may_be_removed(alloc: Global, shape: Shape) -> Option<bool> {
-    let mut parts = Parts::new(alloc);
-    add_head_with(alloc, &mut parts.removed, shape)?;
-    Some(parts.are_a_rule())
+    let mut heads = Vec::new(alloc);
+    heads.push(head_with(alloc, shape)?).ok()?;
+    let rule = Rule::new(Vec::new(alloc), heads, Vec::new(alloc), Vec::new(alloc));
+    Some(rule.is_some())
 }
 
 #[test]

@@ -20,7 +20,7 @@ pub(crate) struct Scene<'s> {
 }
 
 /// A store of these atoms, from label 1 on, of which some are removed. None where memory ran out.
-pub(crate) fn store_of(
+fn store_of(
     alloc: Global,
     posts: &str,
     names: &mut Names<Global>,
@@ -34,6 +34,19 @@ pub(crate) fn store_of(
         let _atom = store.remove(*label);
     }
     Some(store)
+}
+
+/// The program and the store of these texts. None where memory ran out.
+pub(crate) fn program_and_store(
+    alloc: Global,
+    rules: &str,
+    posts: &str,
+    removed: &[u64],
+) -> Option<(Program<Global>, Store<Global>)> {
+    let mut names = Names::new(alloc);
+    let program = program_of(alloc, rules, &mut names)?;
+    let store = store_of(alloc, posts, &mut names, removed)?;
+    Some((program, store))
 }
 
 /// The plans of a program. None where memory ran out.
@@ -110,10 +123,8 @@ type Row<'r> = (&'r str, &'r str, &'r [u64], u64, &'r [&'r str]);
 
 /// The number of the first trial of a row's search that isn't as expected, 0 where all are. None where memory ran out.
 fn first_wrong(alloc: Global, row: &Row) -> Option<usize> {
-    let (program, posts, removed, label, trials) = *row;
-    let mut names = Names::new(alloc);
-    let program = program_of(alloc, program, &mut names)?;
-    let store = store_of(alloc, posts, &mut names, removed)?;
+    let (rules, posts, removed, label, trials) = *row;
+    let (program, store) = program_and_store(alloc, rules, posts, removed)?;
     let plans = plans_of(alloc, &program)?;
     let scene = Scene {
         program: &program,

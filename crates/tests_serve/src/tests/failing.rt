@@ -26,6 +26,12 @@ enum Next {
 /// The number of that error.
 const TOO_MANY_OPEN_FILES: i32 = 24;
 
+const INTERRUPTED: Next = Next::Fault(ErrorKind::Interrupted);
+
+const ABORTED: Next = Next::Fault(ErrorKind::ConnectionAborted);
+
+const TOO_MANY: Next = Next::TooManyOpenFiles;
+
 /// A listener that goes by a script, and then fails.
 #[derive(Drop)]
 struct Scripted<'s> {
@@ -64,13 +70,7 @@ struct Row {
 /// Failures between two connections: while the first session lives, and after its end, when no further one is passed over.
 static BESIDE_A_SESSION: [Row; 2] = [
     Row {
-        script: &[
-            Next::Fault(ErrorKind::Interrupted),
-            Next::Client,
-            Next::Fault(ErrorKind::ConnectionAborted),
-            Next::TooManyOpenFiles,
-            Next::Client,
-        ],
+        script: &[INTERRUPTED, Next::Client, ABORTED, TOO_MANY, Next::Client],
         sessions: 2,
         clients: 2,
         last_first: false,
@@ -78,12 +78,12 @@ static BESIDE_A_SESSION: [Row; 2] = [
     },
     Row {
         script: &[
-            Next::Fault(ErrorKind::Interrupted),
+            INTERRUPTED,
             Next::Client,
-            Next::Fault(ErrorKind::ConnectionAborted),
-            Next::TooManyOpenFiles,
-            Next::TooManyOpenFiles,
-            Next::TooManyOpenFiles,
+            ABORTED,
+            TOO_MANY,
+            TOO_MANY,
+            TOO_MANY,
             Next::Client,
         ],
         sessions: 2,

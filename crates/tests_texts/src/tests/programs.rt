@@ -369,10 +369,7 @@ pub fn rules<A: Allocator + Copy>(
     text: &[u8],
     names: &mut Names<A>,
 ) -> Result<usize, ReadError> {
-    match read_program(alloc, text, names) {
-        Ok(rules) => Ok(rules.len()),
-        Err(error) => Err(error),
-    }
+    Ok(read_program(alloc, text, names)?.len())
 }
 
 /// How many atoms the reader of posts gives over a table of names.
@@ -381,10 +378,7 @@ pub fn atoms<A: Allocator + Copy>(
     text: &[u8],
     names: &mut Names<A>,
 ) -> Result<usize, ReadError> {
-    match read_atoms(alloc, text, names) {
-        Ok(atoms) => Ok(atoms.len()),
-        Err(error) => Err(error),
-    }
+    Ok(read_atoms(alloc, text, names)?.len())
 }
 
 fn answer(
