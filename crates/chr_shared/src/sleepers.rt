@@ -2,7 +2,7 @@
 use std::sync::Condvar;
 
 /// The least number of holds through which a session that waits sleeps while a worker is awake.
-const HOLDS_A_LOOK: u64 = 64;
+const HOLDS_A_LOOK: u64 = 512;
 
 /// How many work, and how many sleep for what. It is kept under the lock.
 #[derive(Default, Drop)]
@@ -25,7 +25,7 @@ pub struct Sleepers {
 
 impl Sleepers {
     /// Counts a hold. Whether sessions that sleep are to look: the more there are, the more holds lie between, so that all
-    /// together look about once in 64 holds.
+    /// together look about once in so many holds.
     pub fn count_hold(&mut self) -> bool {
         self.holds = self.holds.wrapping_add(1);
         let watching = u64::from(self.watching);
@@ -106,8 +106,8 @@ impl Sleepers {
         told
     }
 
-    /// Whether the sleep of a session that saw the book after `seen` holds is over: no worker is awake, or there have been 64
-    /// holds since.
+    /// Whether the sleep of a session that saw the book after `seen` holds is over: no worker is awake, or there have been
+    /// [`HOLDS_A_LOOK`] holds since.
     pub fn is_watch_over(&self, seen: u64) -> bool {
         self.awake == 0 || self.holds.wrapping_sub(seen) >= HOLDS_A_LOOK
     }
