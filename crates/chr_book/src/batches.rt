@@ -42,7 +42,7 @@ impl<A: Allocator + Copy> Book<A> {
                 break;
             };
             if is_next {
-                if judged.verdict() == Verdict::Whole {
+                if let Verdict::Whole = judged.verdict() {
                     break;
                 }
                 self.move_on(ticket, judged);

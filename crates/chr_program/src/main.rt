@@ -34,9 +34,11 @@ use std::sync::Wait;
 use std::thread::Threads;
 
 /// Returns the words of the command line, the program's own name first.
+#[inline(never)]
 fn words(rt: &HostRuntime) -> io::Result<Vec<String>> {
-    let mut words = Vec::new(rt.alloc());
-    for word in env::args(rt)? {
+    let given = env::args(rt)?;
+    let mut words = Vec::with_capacity(rt.alloc(), given.len())?;
+    for word in given {
         words.push(word)?;
     }
     Ok(words)
@@ -86,9 +88,8 @@ fn main(rt: HostRuntime) -> ExitCode {
     } else {
         Detail::Line
     };
-    let status = match words(&rt) {
-        Ok(words) => obey(&rt, detail, words.as_slice()),
-        Err(error) => report_failure(&rt, detail, "the command line", &error),
-    };
-    status.code()
+    match words(&rt) {
+        Ok(words) => obey(&rt, detail, words.as_slice()).code(),
+        Err(error) => report_failure(&rt, detail, "the command line", &error).code(),
+    }
 }

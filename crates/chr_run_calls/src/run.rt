@@ -54,10 +54,13 @@ fn refused<A: Allocator>(holds: bool, does: Act) -> Answer<A>
 fn none_told<A: Allocator + Copy>(book: &Book<A>, seat: u32, ticket: u64, does: Act) -> Answer<A>
     ensures { IsNoneTold does book.now seat ticket (answer_of result) }
 {
-    if book.state(ticket) == TicketState::Held(seat) {
-        return refused(true, does);
+    let TicketState::Held(holder) = book.state(ticket) else {
+        return refused(false, does);
+    };
+    if holder != seat {
+        return refused(false, does);
     }
-    refused(false, does)
+    refused(true, does)
 }
 
 /// Reports or fires by the seat's own judgement, after these calls and answers.

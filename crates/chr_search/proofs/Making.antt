@@ -1,8 +1,9 @@
 -- Making the trial of a position.
-use Rattle.std.proofs.Common.{◌≡◌, ℕ, zero, suc, ◌+◌, ◌<◌, ◌≤◌, true, false, ◌==◌, List, [], ◌∷◌, ◌++◌, map, take, drop, length, Some, None, get_or, slice_get, refl, sym, ◌∙◌, ap, ap₂, subst, arith, length-append}
+use Rattle.std.proofs.Common.{◌≡◌, ℕ, zero, suc, ◌+◌, ◌<◌, ◌≤◌, true, false, ◌==◌, List, [], ◌∷◌, ◌++◌, map, take, drop, length, Some, None, get_or, slice_get, slice_index_or, slice_set, refl, sym, ◌∙◌, ap, ap₂, subst, arith, length-append}
 use Rattle.std.specs.List.{AllByRecursion}
 use Rattle.std.proofs.lemmas.Bool.Decides.{nat_tests}
-use Rattle.std.proofs.lemmas.List.{length-map, take-append-drop, take_all, append-nil}
+use Rattle.std.proofs.lemmas.List.{length-map, take-append-drop, take_all, append-nil, get_or_push}
+use Rattle.std.proofs.Math.Seq.{set-append_seam}
 use Rattle.std.proofs.lemmas.Option.{slice_get_within, slice_get-get_or}
 use Rattle.chr_value.specs.Atoms.{Atom}
 use Rattle.chr_rule.specs.Rules.{Simpagation, rule_at}
@@ -13,6 +14,7 @@ use Rattle.chr_plan.specs.Orders.{heads_of}
 use Rattle.chr_plan.specs.Plans.{plan_at, ArePlans}
 use Rattle.chr_plan.specs.declared.order.Step.{Step}
 use Rattle.chr_store.specs.Labels.{GivenBefore, LabelledStore, IsLabelled}
+use Rattle.chr_search.specs.declared.trial.Placed.{Placed as CodePlaced}
 use Rattle.chr_search.specs.Tree.{Grows}
 use Rattle.chr_search.specs.Trials.{Join, MayFollow, Space, join_in, IsPlanned, IsTrial, IsNext}
 use Rattle.chr_search.specs.Verdicts.{Placed, Trial, heads, labels, IsFormed}
@@ -22,6 +24,13 @@ use Rattle.chr_search.proofs.Descents.{grows_in}
 pub map_twice : {X Y Z : Type 0} (f : X → Y) (g : Y → Z) (xs : List X) → map g (map f xs) ≡ map (λ x. g (f x)) xs
 map_twice f g [] = refl
 map_twice f g (x ∷ xs) = ap (λ ys. g (f x) ∷ ys) (map_twice f g xs)
+
+-- a label that is put after others, and whose atom is set there
+pub push_set : {Z : Type 0} (old new : List (CodePlaced Z)) (one last : CodePlaced Z) (i : ℕ) (a b : Atom ℕ) → new ≡ old ++ one ∷ [] → i ≡ length old → last ≡ slice_index_or new i last → a ≡ b → slice_set new i (record last { atom = a }) ≡ old ++ record one { atom = b } ∷ []
+push_set {Z} old new one last i a b is at read same =
+    let here : last ≡ one = read ∙ ap (λ xs. slice_index_or xs i last) is ∙ get_or_push old one last i (sym at) in
+    let with_atom : Atom ℕ → CodePlaced Z → CodePlaced Z = λ x p. record p { atom = x } in
+    ap₂ (λ xs n. slice_set xs n (with_atom a last)) is at ∙ set-append_seam old one [] (with_atom a last) ∙ ap (λ p. old ++ p ∷ []) (ap₂ with_atom same here)
 
 -- one number more
 pub take_next : {X : Type 0} (ys : List X) (i : ℕ) (y : X) → slice_get ys i ≡ Some y → take (i + 1) ys ≡ take i ys ++ y ∷ []

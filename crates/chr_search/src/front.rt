@@ -1,6 +1,7 @@
 //! Trials that differ in their last label.
-ghost use Rattle.std.specs.Prelude.{◌≡◌, ◌↔◌, ◌∷◌, ◌++◌, ◌≤◌, [], ℕ, List, length, map, IfOk, MatchOption, IsTrue};
+ghost use Rattle.std.specs.Prelude.{◌≡◌, ◌↔◌, ◌∷◌, ◌++◌, ◌≤◌, [], ℕ, List, length, map, OnOk, MatchOption, IsTrue};
 ghost use Rattle.chr_plan.specs.Plans.{ArePlans};
+ghost use Rattle.chr_search.specs.declared.trial.Placed.{Placed as CodePlaced};
 ghost use Rattle.chr_search.specs.Fronts.{MayEnd, IsEndFrom, IsFront, IsPlacedAfter};
 ghost use Rattle.chr_search.specs.Joined.{join_of};
 ghost use Rattle.chr_search.specs.Partners.{HasPlan, IsReady};
@@ -11,7 +12,7 @@ ghost use Rattle.chr_search.specs.Trials.{Space, older, MayFollow};
 use crate::join::Join;
 use crate::passing::Level;
 use crate::search::Search;
-use crate::trial::Placed;
+use crate::trial::{Placed, push_placed};
 use chr_guard::Binding;
 use chr_log::Labels;
 use chr_plan::Plans;
@@ -96,19 +97,21 @@ impl<'b, 's, A: Allocator + Copy> Front<'b, 's, A> {
             .next_at(&mut self.level, labels, self.binding, from)
     }
 
-    /// A label with which an admissible trial ends, with a copy of its atom. An `Err` is E01.
-    pub fn place(&self, alloc: A, label: Label) -> Result<Placed<A>, AllocError>
+    /// Puts a label with which an admissible trial ends after others, with a copy of its atom. An `Err` is E01.
+    #[inline(always)]
+    pub fn push_end(
+        &self,
+        alloc: A,
+        placed: &mut Vec<Placed<A>, A>,
+        label: Label,
+    ) -> Result<(), AllocError>
         requires { (s : Space) × (r : ℕ) × (h : ℕ) × (ls : List ℕ) × IsFront s r h ls self.now × MayEnd s (r ∷ h ∷ ls) label }
-        ensures { IfOk result (λ made. (made.label ≡ label) × ((s : Space) (r h : ℕ) (ls : List ℕ) → IsFront s r h ls self.now → IsPlacedAfter s r h (length ls) (placed_as made))) }
+        ensures { OnOk result ((p : CodePlaced A) × (placed.new.items ≡ placed.old.items ++ p ∷ []) × (p.label ≡ label) × ((s : Space) (r h : ℕ) (ls : List ℕ) → IsFront s r h ls self.now → IsPlacedAfter s r h (length ls) (placed_as p))) }
     {
         let Some(atom) = self.join.view.get(label) else {
             unreachable!();
         };
-        Ok(Placed {
-            head: self.head,
-            label,
-            atom: atom.copy(alloc)?,
-        })
+        push_placed(alloc, placed, self.head, label, atom)
     }
 
     /// Whether a label has this atom in the store, and stands at the head at which trials end.

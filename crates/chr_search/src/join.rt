@@ -7,7 +7,7 @@ ghost use Rattle.chr_search.specs.Trials.{MayFollow, StandsAt};
 ghost use Rattle.chr_search.specs.Partners.{HasPlan, IsReady, LengthenedIf, IsAskedFor, IsPartnerFrom, GivePartners};
 ghost use Rattle.chr_search.specs.Joined.{join_of};
 
-use crate::position::alone;
+use crate::position::set_alone;
 use chr_guard::{Binding, fit_head};
 use chr_log::Labels;
 use chr_plan::Step;
@@ -207,19 +207,16 @@ impl<'s, A: Allocator + Copy> Join<'s, A> {
         self.lengthen(labels, &mut binding, *next, rest)
     }
 
-    /// The least labels at or after these: the active one at the plan's first head, and partners. None where there are
-    /// none.
-    pub(crate) fn find(&self, place: &[Label]) -> Option<Labels>
+    /// Makes labels the least ones at or after a place: the active one at the plan's first head, and partners. False where
+    /// there are none.
+    pub(crate) fn find(&self, place: &[Label], labels: &mut Labels) -> bool
         requires { HasPlan (join_of self.now) }
-        ensures { MatchOption result (NoneBeyond (MayFollow (join_of self.now)) 1 [] place.now) (λ labels. Least (MayFollow (join_of self.now)) 1 [] place.now labels.items) }
+        ensures { MatchBool result (Least (MayFollow (join_of self.now)) 1 [] place.now labels.new.items) (NoneBeyond (MayFollow (join_of self.now)) 1 [] place.now) }
     {
         if !self.begins() {
-            return None;
+            return false;
         }
-        let mut labels = alone(self.view.active());
-        if !self.lengthen_active(&mut labels, place) {
-            return None;
-        }
-        Some(labels)
+        set_alone(labels, self.view.active());
+        self.lengthen_active(labels, place)
     }
 }

@@ -13,7 +13,7 @@ ghost use Rattle.chr_search.specs.Verdicts.{Trial};
 
 use crate::join::Join;
 use crate::judged::Verdict;
-use crate::position::{alone, put_at};
+use crate::position::{put_at, set_alone};
 use crate::search::Instance;
 use chr_guard::instance::becomes_instance;
 use chr_guard::{Binding, Known, fit_head};
@@ -463,14 +463,14 @@ impl<'s, A: Allocator + Copy> Join<'s, A> {
                 }
             }
             Verdict::Whole => {
-                instance.labels = alone(active);
+                set_alone(&mut instance.labels, active);
                 Passed {
                     count: 0,
                     end: End::Whole,
                 }
             }
             Verdict::Part => {
-                instance.labels = alone(active);
+                set_alone(&mut instance.labels, active);
                 place.push(active);
                 place.push(0);
                 let below = self.pass_below(0, most - 1, place, instance, binding);

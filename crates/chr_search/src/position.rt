@@ -13,9 +13,9 @@ use std::marker::Model;
 /// numbers.
 #[derive(Drop)]
 pub struct Position {
+    pub(crate) labels: Labels,
     pub(crate) rule: u16,
     pub(crate) head: u8,
-    pub(crate) labels: Labels,
 }
 
 impl Model for Position {
@@ -28,14 +28,23 @@ impl Model for Position {
     ghost invariant = { λ p. (1 ≤ p.rule) × (1 ≤ p.head) };
 }
 
-/// One label alone.
+/// Makes labels one label alone. As they are written one by one, and are slow to move then, this is done where they lie.
 #[inline(always)]
-pub(crate) fn alone(label: Label) -> Labels
-    ensures { result.items ≡ label ∷ [] }
+pub(crate) fn set_alone(labels: &mut Labels, label: Label)
+    ensures { labels.new.items ≡ label ∷ [] }
 {
-    let mut labels = Labels::new();
+    labels.clear();
     labels.push(label);
-    labels
+}
+
+/// Makes labels a copy of others.
+fn set_copy(labels: &mut Labels, others: &Labels)
+    ensures { labels.new.items ≡ others.now.items }
+{
+    labels.clear();
+    for label in others.as_slice() {
+        labels.push(*label);
+    }
 }
 
 /// Keeps the first labels, as many as `depth`, and puts one after them.
@@ -100,9 +109,9 @@ impl Position {
         ensures { result ≡ beginning }
     {
         Position {
+            labels: Labels::new(),
             rule: 1,
             head: 1,
-            labels: Labels::new(),
         }
     }
 
@@ -111,9 +120,9 @@ impl Position {
         ensures { result ≡ self.now }
     {
         Position {
+            labels: copy_labels(&self.labels),
             rule: self.rule,
             head: self.head,
-            labels: copy_labels(&self.labels),
         }
     }
 
@@ -122,51 +131,78 @@ impl Position {
         ensures position { result ≡ position trial.now }
         ensures formed { IsFormed trial.now }
     {
-        let mut labels = Labels::new();
+        let mut position = Position::beginning();
+        position.become_of(trial);
+        position
+    }
+
+    /// Becomes the position of a trial.
+    pub(crate) fn become_of<A: Allocator + Copy>(&mut self, trial: &Trial<A>)
+        ensures position { self.new ≡ position trial.now }
+        ensures formed { IsFormed trial.now }
+    {
+        self.labels.clear();
         let all = trial.placed();
         for placed in all {
-            labels.push(placed.label);
+            self.labels.push(placed.label);
         }
-        Position {
-            rule: trial.number(),
-            head: trial.head(),
-            labels,
-        }
+        self.rule = trial.number();
+        self.head = trial.head();
     }
 
-    /// The first position after a trial, which is a part.
-    pub(crate) fn just_after<A: Allocator + Copy>(trial: &Trial<A>) -> Position
+    /// Becomes that of the active label alone, at a rule and a head.
+    pub(crate) fn become_alone(&mut self, rule: u16, head: u8, label: Label)
+        requires rule { 1 ≤ rule }
+        requires head { 1 ≤ head }
+        ensures { self.new ≡ rule ∷ head ∷ label ∷ [] }
+    {
+        self.rule = rule;
+        self.head = head;
+        set_alone(&mut self.labels, label);
+    }
+
+    /// Becomes that of these labels, at a rule and a head.
+    pub(crate) fn become_at(&mut self, rule: u16, head: u8, labels: &Labels)
+        requires rule { 1 ≤ rule }
+        requires head { 1 ≤ head }
+        ensures { self.new ≡ rule ∷ head ∷ labels.now.items }
+    {
+        self.rule = rule;
+        self.head = head;
+        set_copy(&mut self.labels, labels);
+    }
+
+    /// Becomes the first position after a trial, which is a part.
+    pub(crate) fn become_just_after<A: Allocator + Copy>(&mut self, trial: &Trial<A>)
         requires { IsPart trial.now }
-        ensures { result ≡ just_after (position trial.now) }
+        ensures { self.new ≡ just_after (position trial.now) }
     {
-        let mut after = Position::of(trial);
-        after.labels.push(0);
-        after
+        self.become_of(trial);
+        self.labels.push(0);
     }
 
-    /// The first position after a trial and all that it begins.
-    pub(crate) fn past<A: Allocator + Copy>(trial: &Trial<A>) -> Position
-        ensures { result ≡ past (position trial.now) }
+    /// Becomes the first position after a trial and all that it begins.
+    pub(crate) fn become_past<A: Allocator + Copy>(&mut self, trial: &Trial<A>)
+        ensures { self.new ≡ past (position trial.now) }
     {
-        let mut after = Position::of(trial);
-        if let Some(last) = after.labels.pop() {
-            after.labels.push(last + 1);
+        self.become_of(trial);
+        if let Some(last) = self.labels.pop() {
+            self.labels.push(last + 1);
         }
-        after
     }
 
-    /// A position from which the trials after a trial are looked for: the first one after it. Where it has as many labels as
-    /// a trial can have, it begins no other, and the position is past it.
-    pub(crate) fn after<A: Allocator + Copy>(trial: &Trial<A>) -> Position
-        ensures most { length trial.now.placed ≡ 6 → result ≡ past (position trial.now) }
-        ensures fewer { length trial.now.placed ≢ 6 → result ≡ just_after (position trial.now) }
+    /// Becomes a position from which the trials after a trial are looked for: the first one after it. Where it has as many
+    /// labels as a trial can have, it begins no other, and the position is past it.
+    pub(crate) fn become_after<A: Allocator + Copy>(&mut self, trial: &Trial<A>)
+        ensures most { length trial.now.placed ≡ 6 → self.new ≡ past (position trial.now) }
+        ensures fewer { length trial.now.placed ≢ 6 → self.new ≡ just_after (position trial.now) }
     {
         if trial.placed().len() == 6 {
-            return Position::past(trial);
+            self.become_past(trial);
+            return;
         }
-        let mut after = Position::of(trial);
-        after.labels.push(0);
-        after
+        self.become_of(trial);
+        self.labels.push(0);
     }
 
     /// Whether it is a trial's.

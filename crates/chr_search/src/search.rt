@@ -1,5 +1,5 @@
 //! Searches.
-ghost use Rattle.std.specs.Prelude.{◌≡◌, ℕ, suc, ◌+◌, ◌≤◌, true, List, ◌∷◌, ◌++◌, [], length, Some, MatchOption, IfOk, IfSome};
+ghost use Rattle.std.specs.Prelude.{◌≡◌, ℕ, suc, ◌+◌, ◌≤◌, true, List, ◌∷◌, ◌++◌, [], length, Some, MatchBool, MatchOption, IfOk, IfSome};
 ghost use Rattle.chr_value.specs.Stores.{atom_at};
 ghost use Rattle.chr_plan.specs.Plans.{ArePlans};
 ghost use Rattle.chr_store.specs.Labels.{entered};
@@ -19,7 +19,7 @@ use crate::join::Join;
 use crate::judged::{Judged, Verdict};
 use crate::passing;
 use crate::passing::End;
-use crate::position::{Position, alone, set_at};
+use crate::position::{Position, set_at};
 use crate::trial::Trial;
 use chr_guard::Binding;
 use chr_log::Labels;
@@ -42,14 +42,14 @@ pub enum Ask<A: Allocator> {
 /// A trial that a search has found to be whole.
 #[derive(Drop)]
 pub struct Whole {
-    /// The number of its rule in the program.
-    pub number: u16,
     /// The labels at the kept heads, in head order.
     pub kept: Labels,
     /// The labels at the removed heads, in head order.
     pub removed: Labels,
     /// The search past the trial.
     pub past: Search,
+    /// The number of its rule in the program.
+    pub number: u16,
 }
 
 /// The labels of a trial that is whole, and the trial itself. A search that passes over trials is lent one and sets it, since
@@ -157,17 +157,17 @@ pub struct Passed {
 /// Where a walk through the heads of a predicate stands, by a rule and a head of it.
 #[derive(Drop)]
 struct Walk<'s> {
-    rule: u16,
-    head: u8,
     /// The heads that come next.
     heads: HeadsFrom<'s>,
+    rule: u16,
+    head: u8,
 }
 
 /// An active label, and how far its trials are ruled out.
 #[derive(Drop)]
 pub struct Search {
-    label: Label,
     position: Position,
+    label: Label,
 }
 
 impl Model for Search {
@@ -288,33 +288,52 @@ impl Search {
         }
     }
 
-    /// The position of the least trial at or after the search's own, in a view for its label, which has this atom.
+    /// Makes a position that of the least trial at or after the search's own, in a view for its label, which has this atom.
+    /// False where no trial is left.
     fn find_in<'s, A: Allocator + Copy>(
         &self,
         program: &'s Program<A>,
         plans: &'s Plans<A>,
         view: &View<'s, A>,
         atom: &Atom<A>,
-    ) -> Option<Position>
+        found: &mut Position,
+    ) -> bool
         requires plans { ArePlans program.now plans.now }
         requires active { view.now.active ≡ self.now.label }
         requires atom { atom_at view.now.store.entries self.now.label ≡ Some atom.now }
-        ensures { let s = older program.now plans.now view.now.store.entries self.now.label in MatchOption result (NoneLeft s self.now.place) (IsNext s self.now.place) }
+        ensures { let s = older program.now plans.now view.now.store.entries self.now.label in MatchBool result (IsNext s self.now.place found.new) (NoneLeft s self.now.place) }
     {
         // For the proof: the labels of a store are at most the greatest.
         let _given = view.active();
         let mut walk = self.first_walk(program, atom);
         while let Some(join) = Search::next_join(program, plans, view, &mut walk) {
-            if let Some(labels) = join.find(self.labels_in(&walk)) {
-                return Some(Position {
-                    rule: walk.rule,
-                    head: walk.head,
-                    labels,
-                });
+            if join.find(self.labels_in(&walk), &mut found.labels) {
+                found.rule = walk.rule;
+                found.head = walk.head;
+                return true;
             }
             walk.head += 1;
         }
-        None
+        false
+    }
+
+    /// Makes a position that of the least trial at or after the search's own, which is written where the position lies. False
+    /// where no trial is left.
+    fn find_to<A: Allocator + Copy>(
+        &self,
+        program: &Program<A>,
+        plans: &Plans<A>,
+        store: &Store<A>,
+        found: &mut Position,
+    ) -> bool
+        requires { ArePlans program.now plans.now }
+        ensures { let s = older program.now plans.now store.now.entries self.now.label in MatchBool result (IsNext s self.now.place found.new) (NoneLeft s self.now.place) }
+    {
+        let Some(atom) = store.get(self.label) else {
+            return false;
+        };
+        let view = View::of(store, self.label);
+        self.find_in(program, plans, &view, atom, found)
     }
 
     /// The position of the least trial at or after the search's own. None where no trial is left. It takes no memory.
@@ -327,11 +346,11 @@ impl Search {
         requires { ArePlans program.now plans.now }
         ensures { let s = older program.now plans.now store.now.entries self.now.label in MatchOption result (NoneLeft s self.now.place) (IsNext s self.now.place) }
     {
-        let Some(atom) = store.get(self.label) else {
+        let mut found = Position::beginning();
+        if !self.find_to(program, plans, store, &mut found) {
             return None;
-        };
-        let view = View::of(store, self.label);
-        self.find_in(program, plans, &view, atom)
+        }
+        Some(found)
     }
 
     /// The least admissible trial at or after the position. Done where there is none. E01 where memory ran out. The search
@@ -346,10 +365,11 @@ impl Search {
         requires { ArePlans program.now plans.now }
         ensures { IfOk result (IsAnswer (older program.now plans.now store.now.entries self.now.label) self.now.place) }
     {
-        match self.find(program, plans, store) {
-            None => Ok(Ask::Done),
-            Some(position) => Ok(Ask::Trial(Trial::at(alloc, &position, program, plans, store)?)),
+        let mut position = Position::beginning();
+        if !self.find_to(program, plans, store, &mut position) {
+            return Ok(Ask::Done);
         }
+        Ok(Ask::Trial(Trial::at(alloc, &position, program, plans, store)?))
     }
 
     /// Whether a trial is the least admissible one at or after the position. None where no trial is left. It takes no memory.
@@ -366,7 +386,10 @@ impl Search {
         // For the proof: the rules are valid, and the labels of a store are at most the greatest.
         let _rules = program.rules();
         let _given = store.next_label();
-        let position = self.find(program, plans, store)?;
+        let mut position = Position::beginning();
+        if !self.find_to(program, plans, store, &mut position) {
+            return None;
+        }
         Some(position.is_of(trial) && trial.stands_in(program, plans, store))
     }
 
@@ -385,7 +408,7 @@ impl Search {
     {
         // For the proof: a rule has at most six heads.
         let _rules = program.rules();
-        self.position = Position::after(trial);
+        self.position.become_after(trial);
     }
 
     /// Moves past the trial of the active label alone at a rule and a head of it.
@@ -395,11 +418,7 @@ impl Search {
         requires label { self.old.label ≤ 4294967295 }
         ensures { self.new ≡ record { label = self.old.label; place = past (number ∷ head ∷ self.old.label ∷ []) } }
     {
-        self.position = Position {
-            rule: number,
-            head,
-            labels: alone(self.label + 1),
-        };
+        self.position.become_alone(number, head, self.label + 1);
     }
 
     /// The rule and the head of the least trial at or after the position, where it has one label. None where it has more, or no
@@ -413,7 +432,10 @@ impl Search {
         requires { ArePlans program.now plans.now }
         ensures { let s = older program.now plans.now store.now.entries self.now.label in MatchOption result ((r h : ℕ) → IsNext s self.now.place (r ∷ h ∷ self.now.label ∷ []) → ⊥) (λ o. IsNext s self.now.place (o.0 ∷ o.1 ∷ self.now.label ∷ [])) }
     {
-        let position = self.find(program, plans, store)?;
+        let mut position = Position::beginning();
+        if !self.find_to(program, plans, store, &mut position) {
+            return None;
+        }
         if position.labels.len() != 1 {
             return None;
         }
@@ -426,9 +448,9 @@ impl Search {
         requires last { last ≤ 4294967295 }
         ensures { self.new ≡ record { label = self.old.label; place = past (position_of part.now ++ last ∷ []) } }
     {
-        let mut position = Position::of(part);
+        let position = &mut self.position;
+        position.become_of(part);
         position.labels.push(last + 1);
-        self.position = position;
     }
 
     /// The last label of the least trial at or after the position, where that begins with a trial and has one label more. None
@@ -443,7 +465,11 @@ impl Search {
         requires { ArePlans program.now plans.now }
         ensures { let s = older program.now plans.now store.now.entries self.now.label in MatchOption result ((l : ℕ) → IsNext s self.now.place (position_of part.now ++ l ∷ []) → ⊥) (λ l. IsNext s self.now.place (position_of part.now ++ l ∷ [])) }
     {
-        self.find(program, plans, store)?.label_after(part)
+        let mut position = Position::beginning();
+        if !self.find_to(program, plans, store, &mut position) {
+            return None;
+        }
+        position.label_after(part)
     }
 
     /// The position of the least admissible trial past another, with the same rule and head and the same labels but the last.
@@ -458,21 +484,20 @@ impl Search {
         requires { ArePlans program.now plans.now }
         ensures { let s = older program.now plans.now store.now.entries self.now.label in let p = position_of trial.now in MatchOption result ((t : List ℕ) → IsTrial s t → at_or_after (past p) t ≡ true → begins (front p) t ≡ true → ⊥) (λ next. IsNext s (past p) next × (front next ≡ front p)) }
     {
-        let past = Position::past(trial);
+        let mut past = Position::beginning();
+        past.become_past(trial);
         // For the proof: a trial has a label.
         let _placed = trial.placed();
         let view = View::of(store, self.label);
         let Some(join) = Search::join_at(program, plans, &view, past.rule, past.head) else {
             return None;
         };
-        let Some(labels) = join.find(past.labels.as_slice()) else {
+        let mut next = Position::beginning();
+        if !join.find(past.labels.as_slice(), &mut next.labels) {
             return None;
-        };
-        let next = Position {
-            rule: past.rule,
-            head: past.head,
-            labels,
-        };
+        }
+        next.rule = past.rule;
+        next.head = past.head;
         if !next.is_beside(trial) {
             return None;
         }
@@ -510,10 +535,10 @@ impl Search {
         requires { verdict ≡ verdicts.Part → IsPart trial.now }
         ensures { self.new ≡ record { label = self.old.label; place = after_verdict verdict (position_of trial.now) } }
     {
-        self.position = match verdict {
-            Verdict::Part => Position::just_after(trial),
-            Verdict::Misfit | Verdict::Whole => Position::past(trial),
-        };
+        match verdict {
+            Verdict::Part => self.position.become_just_after(trial),
+            Verdict::Misfit | Verdict::Whole => self.position.become_past(trial),
+        }
     }
 
     /// Passes over the trials of a plan at or after the position, at most so many. The position becomes that after the last
@@ -540,9 +565,7 @@ impl Search {
         let mut labels = Labels::new();
         let passed = join.pass(&mut labels, most, instance, bound);
         if passed.count > 0 {
-            self.position.rule = walk.rule;
-            self.position.head = walk.head;
-            self.position.labels = labels;
+            self.position.become_at(walk.rule, walk.head, &labels);
         }
         passed
     }

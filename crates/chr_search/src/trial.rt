@@ -1,5 +1,5 @@
 //! Trials with their atoms.
-ghost use Rattle.std.specs.Prelude.{◌≡◌, ◌↔◌, ◌≤◌, ℕ, length, map, slice_get, Some, IfOk, IsTrue};
+ghost use Rattle.std.specs.Prelude.{◌≡◌, ◌↔◌, ◌≤◌, ◌∷◌, ◌++◌, [], ℕ, length, map, slice_get, Some, IfOk, OnOk, IsTrue};
 ghost use Rattle.std.specs.Arc.{arc_value};
 ghost use Rattle.chr_value.specs.Atoms.{Atom as AtomView};
 ghost use Rattle.chr_value.specs.Stores.{atom_at};
@@ -23,18 +23,18 @@ use std::sync::Arc;
 /// A label with its atom, and the number of the head at which it stands.
 #[derive(Drop)]
 pub struct Placed<A: Allocator> {
-    pub head: u8,
-    pub label: Label,
     pub atom: Atom<A>,
+    pub label: Label,
+    pub head: u8,
 }
 
 /// A rule with its number, one of its heads, and labels for heads in the order of that head's plan, the active label
 /// first. Labels stand at different heads, at most one at each.
 pub struct Trial<A: Allocator> {
     rule: Arc<Rule<A>, A>,
+    placed: Vec<Placed<A>, A>,
     number: u16,
     head: u8,
-    placed: Vec<Placed<A>, A>,
 }
 
 // Not derived: letting a trial go is then one call, which is proved here once.
@@ -42,9 +42,9 @@ impl<A: Allocator> Drop for Trial<A> {
     fn drop(self) {
         let Trial {
             rule: _,
+            placed: _,
             number: _,
             head: _,
-            placed: _,
         } = self;
     }
 }
@@ -74,9 +74,9 @@ impl<A: Allocator + Copy> Placed<A> {
         ensures { IfOk result (λ made. placed_as made ≡ placed_as self.now) }
     {
         Ok(Placed {
-            head: self.head,
-            label: self.label,
             atom: self.atom.copy(alloc)?,
+            label: self.label,
+            head: self.head,
         })
     }
 
@@ -166,6 +166,26 @@ fn labels_from<A: Allocator>(placed: &[Placed<A>], first: usize, count: usize) -
     labels
 }
 
+/// Puts a label after others, with its head and a copy of its atom, which is written where it stays. An `Err` is E01.
+#[inline(always)]
+pub(crate) fn push_placed<A: Allocator + Copy>(
+    alloc: A,
+    placed: &mut Vec<Placed<A>, A>,
+    head: u8,
+    label: Label,
+    atom: &Atom<A>,
+) -> Result<(), AllocError>
+    ensures { OnOk result (placed.new.items ≡ placed.old.items ++ record { atom = atom.now; label = label; head = head } ∷ []) }
+{
+    let last = placed.len();
+    placed.push(Placed {
+        atom: Atom::new(alloc, atom.name()),
+        label,
+        head,
+    })?;
+    placed[last].atom.become_copy(atom)
+}
+
 /// Copies, with copies of the atoms and with room for so many more. An `Err` is E01.
 fn copy_placed<A: Allocator + Copy>(
     alloc: A,
@@ -176,7 +196,7 @@ fn copy_placed<A: Allocator + Copy>(
 {
     let mut made = Vec::with_capacity(alloc, placed.len().saturating_add(more))?;
     for one in placed {
-        made.push(one.copy(alloc)?)?;
+        push_placed(alloc, &mut made, one.head, one.label, &one.atom)?;
     }
     Ok(made)
 }
@@ -197,11 +217,7 @@ fn place_labels<A: Allocator + Copy>(
         let Some(atom) = store.get(*label) else {
             unreachable!();
         };
-        placed.push(Placed {
-            head: order[i].head,
-            label: *label,
-            atom: atom.copy(alloc)?,
-        })?;
+        push_placed(alloc, &mut placed, order[i].head, *label, atom)?;
     }
     Ok(placed)
 }

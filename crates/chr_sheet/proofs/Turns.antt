@@ -1,6 +1,7 @@
 -- Judgements that are reported, one after another.
 use Rattle.std.proofs.Common.{◌≡◌, ◌≢◌, ◌↔◌, IsTrue, ℕ, suc, ◌+◌, ◌≤◌, Bool, true, false, not, nat_eq, List, [], ◌∷◌, ◌++◌, map, length, Option, Some, None, MatchOption, refl, sym, ◌∙◌, ap, ap₂, subst, arith}
 use Rattle.std.specs.Option.{option_eq}
+use Rattle.std.proofs.lemmas.Bool.{eqb-true, not-false}
 use Rattle.std.proofs.lemmas.Bool.Decides.{nat_tests}
 use Rattle.std.proofs.lemmas.List.{map_push, same_from_push}
 use Rattle.chr_rule.specs.Rules.{Simpagation}
@@ -24,6 +25,11 @@ use Rattle.chr_search.proofs.Tree.{least_same}
 use Rattle.chr_sheet.specs.Rows.{Row, misfit, judged_part, trials_of}
 use Rattle.chr_sheet.specs.Sheets.{IsNextTrial, IsFrontOf, Reports, done, moves, passes, place_after}
 use Rattle.chr_sheet.proofs.OneNext.{next_same, end_at}
+
+-- two labels that are compared
+pub next_is : (next : Option ℕ) (l : ℕ) → false ≡ not (option_eq nat_eq next (Some l)) → next ≡ Some l
+next_is None l e = absurd (cc)
+next_is (Some n) l e = ap (λ (x : ℕ). Some x) (eqb-true n l (not-false (nat_eq n l) (sym e)))
 
 -- ---- some and then others
 

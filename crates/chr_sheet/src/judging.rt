@@ -204,7 +204,7 @@ fn judge_one<A: Allocator + Copy>(
         return Ok(Some(Judged::whole(trial, settled)));
     }
     let judged = chr_search::judge(trial);
-    if judged.verdict() == Verdict::Whole {
+    if let Verdict::Whole = judged.verdict() {
         return Ok(Some(judged));
     }
     others.push(Others::One(NotWhole::of(judged)))?;

@@ -29,8 +29,17 @@ use chr_value::Pred;
 use std::alloc::{AllocError, Allocator};
 use std::sync::Arc;
 
-/// How many labels a row has room for at first: most have one or two.
+/// How many labels a row has room for at first where few trials are asked for: most rows have one or two.
 const FIRST_ROOM: usize = 2;
+
+/// The part of the trials asked for that a row has room for at first where they are many: the rows of a goal that goes on for
+/// long are longer.
+const ROOM_PART: usize = 16;
+
+/// How many labels a row has room for at first, which may have so many.
+fn row_room(most: usize) -> usize {
+    (most / ROOM_PART).max(FIRST_ROOM).min(most)
+}
 
 /// How many heads a column has room for at first. They are small.
 const HEADS_ROOM: usize = 16;
@@ -73,7 +82,7 @@ fn push_ends<A: Allocator + Copy>(
         let Some(label) = next else {
             break;
         };
-        lasts.push(front.place(alloc, label)?)?;
+        front.push_end(alloc, lasts, label)?;
         next = front.next(label + 1);
     }
     Ok(())
@@ -215,7 +224,7 @@ fn in_branch<'s, A: Allocator + Copy>(
         return Ok((Trials::One(part), is_alone));
     };
     let most = most - 1;
-    let mut lasts = Vec::with_capacity(alloc, most.min(FIRST_ROOM))?;
+    let mut lasts = Vec::with_capacity(alloc, row_room(most))?;
     push_ends(alloc, &mut front, &mut lasts, first, most)?;
     let ends_head = is_alone && lasts.len() < most;
     Ok((Trials::Branch(Row::new(part, lasts)), ends_head))
@@ -264,7 +273,7 @@ fn in_turn<'s, A: Allocator + Copy>(
     let (part, last) = first.split_last();
     // For the proof: what holds of every trial.
     let _placed = part.placed();
-    let mut lasts = Vec::with_capacity(alloc, most.min(FIRST_ROOM))?;
+    let mut lasts = Vec::with_capacity(alloc, row_room(most))?;
     lasts.push(last)?;
     push_ends(alloc, &mut front, &mut lasts, second, most)?;
     let ends_head = heads == 2 && lasts.len() < most;

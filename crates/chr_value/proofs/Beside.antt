@@ -83,26 +83,3 @@ module _ {A : Type 0} where
         places = subst (AllByRecursion (HasPlace cs)) (sym is) (all-push (HasPlace cs) ss s h.places place);
         within = subst (AllByRecursion IsWithin) (sym (flat-pushed cs ss ss' s is)) (all-push IsWithin (values_in cs ss) (value_in cs s) h.within within);
       }
-
-  value-same : (cs ds : List (CodeComp A)) (s : Slot) → map ground_comp cs ≡ map ground_comp ds → value_in cs s ≡ value_in ds s
-  value-same cs ds (slots.Int z) e = refl
-  value-same cs ds (slots.Sym s) e = refl
-  value-same cs ds (slots.Comp i) e = ap (λ (vs : List (Value ℕ)). slice_index_or vs i (Int (pos 0))) e
-
-  values-same : (cs ds : List (CodeComp A)) (ss : List Slot) → map ground_comp cs ≡ map ground_comp ds → values_in cs ss ≡ values_in ds ss
-  values-same cs ds [] e = refl
-  values-same cs ds (s ∷ ss) e = ap₂ (λ (v : Value ℕ) vs. v ∷ vs) (value-same cs ds s e) (values-same cs ds ss e)
-
-  -- copies of the slots and the compound values
-  pub copied : (cs ds : List (CodeComp A)) (ss ss' : List Slot) → map ground_comp ds ≡ map ground_comp cs → ss' ≡ ss → AreArguments cs ss → AreArguments ds ss' × (values_in ds ss' ≡ values_in cs ss)
-  copied cs ds ss ss' same is h =
-      let many : length ds ≡ length cs = sym (length-map ds ground_comp) ∙ ap length same ∙ length-map cs ground_comp in
-      let values : values_in ds ss' ≡ values_in cs ss = ap (values_in ds) is ∙ values-same ds cs ss same in (
-        record {
-          few = omega (arith, h.few, ap length is);
-          fewer = omega (arith, h.fewer, many, ap length is);
-          places = subst (AllByRecursion (HasPlace ds)) (sym is) (places-longer cs ds ss (omega (arith, many)) h.places);
-          within = subst (AllByRecursion IsWithin) (sym values) h.within;
-        },
-        values,
-      )

@@ -22,7 +22,7 @@ slot_of kinds.Int w = slots.Int (cast_signed w64 w)
 slot_of kinds.Sym w = slots.Sym (record { number = w % 4294967296 })
 slot_of kinds.Comp w = slots.Comp (w % 256)
 
--- those of as many kinds and words
+-- those of words, and of the kinds at their places
 abbrev pub slots_of : List Kind → List ℕ → List Slot
 slots_of [] ws = []
 slots_of (k ∷ ks) [] = []

@@ -90,9 +90,9 @@ fn value_at<A: Allocator>(slot: Slot, comps: &Comps<A>) -> ValueRef<'_, A>
 /// A predicate with its arguments, at most [`MOST_ARGS`], each within the limits of values. Contracts see a name and a list
 /// of values.
 pub struct Atom<A: Allocator> {
-    name: Name,
     slots: Slots,
     comps: Comps<A>,
+    name: Name,
     alloc: A,
 }
 
@@ -100,9 +100,9 @@ pub struct Atom<A: Allocator> {
 impl<A: Allocator> Drop for Atom<A> {
     fn drop(self) {
         let Atom {
-            name: _,
             slots: _,
             comps: _,
+            name: _,
             alloc: _,
         } = self;
     }
@@ -130,9 +130,9 @@ impl<A: Allocator + Copy> Atom<A> {
         ensures { result ≡ record { name = name.number; args = [] } }
     {
         Atom {
-            name,
             slots: Slots::new(),
             comps: None,
+            name,
             alloc,
         }
     }
@@ -241,13 +241,22 @@ impl<A: Allocator + Copy> Atom<A> {
     pub fn copy(&self, alloc: A) -> Result<Atom<A>, AllocError>
         ensures { IfOk result (λ made. made ≡ self.now) }
     {
-        let comps = copy_comps(&self.comps, alloc)?;
-        Ok(Atom {
-            name: self.name,
-            slots: self.slots.copy(),
-            comps,
-            alloc,
-        })
+        let mut made = Atom::new(alloc, self.name);
+        made.become_copy(self)?;
+        Ok(made)
+    }
+
+    /// Makes the atom a copy of another, which is written where the atom lies. An `Err` is E01, and nothing has changed.
+    #[inline(always)]
+    pub fn become_copy(&mut self, other: &Atom<A>) -> Result<(), AllocError>
+        ensures ok { OnOk result (self.new ≡ other.now) }
+        ensures err { OnErr result (self.new ≡ self.old) }
+    {
+        let comps = copy_comps(&other.comps, self.alloc)?;
+        self.comps = comps;
+        self.name = other.name;
+        self.slots.become_copy(&other.slots);
+        Ok(())
     }
 }
 

@@ -66,24 +66,27 @@ fn slot_of(kind: Kind, word: u64) -> Slot
     }
 }
 
-/// At most eight slots. Kinds and words lie apart: so an atom takes 112 bytes and not 160, and is copied without a call.
-/// Contracts see the list of the slots.
+/// How many slots there may be.
+const MOST_SLOTS: usize = 8;
+
+/// At most eight slots. Kinds and words lie apart: so an atom takes 104 bytes and not 160. There are always eight kinds, which
+/// are copied as one word; those past the last slot say nothing. Contracts see the list of the slots.
 #[derive(Drop)]
 pub(crate) struct Slots {
-    words: ArrayVec<u64, 8>,
-    kinds: ArrayVec<Kind, 8>,
+    words: ArrayVec<u64, MOST_SLOTS>,
+    kinds: [Kind; MOST_SLOTS],
 }
 
 impl Model for Slots {
-    ghost use Rattle.std.specs.Prelude.{◌≡◌, List, length};
+    ghost use Rattle.std.specs.Prelude.{◌≡◌, ◌≤◌, List, length};
     ghost use Rattle.chr_value.specs.Slots.{slots_of};
     ghost use Rattle.chr_value.specs.declared.slots.Slot.{Slot as ListedSlot};
 
     ghost Value = { List ListedSlot };
 
-    ghost view = { λ s. slots_of s.kinds.items s.words.items };
+    ghost view = { λ s. slots_of s.kinds s.words.items };
 
-    ghost invariant = { λ s. length s.kinds.items ≡ length s.words.items };
+    ghost invariant = { λ s. (length s.words.items ≤ 8) × (length s.kinds ≡ 8) };
 }
 
 impl Slots {
@@ -93,7 +96,7 @@ impl Slots {
     {
         Slots {
             words: ArrayVec::new(),
-            kinds: ArrayVec::new(),
+            kinds: [Kind::Int; MOST_SLOTS],
         }
     }
 
@@ -112,7 +115,8 @@ impl Slots {
         requires { index < length self.now }
         ensures { Some result ≡ slice_get self.now index }
     {
-        slot_of(self.kinds.as_slice()[index], self.words.as_slice()[index])
+        let word = self.words.as_slice()[index];
+        slot_of(self.kinds[index], word)
     }
 
     /// Adds a slot after the others.
@@ -121,18 +125,19 @@ impl Slots {
         requires { length self.old < 8 }
         ensures { self.new ≡ self.old ++ slot ∷ [] }
     {
+        self.kinds[self.words.len()] = kind_of(slot);
         self.words.push(word_of(slot));
-        self.kinds.push(kind_of(slot));
     }
 
-    /// A copy.
-    pub(crate) fn copy(&self) -> Slots
-        ensures { result ≡ self.now }
+    /// Makes these a copy of others, which is written where these lie.
+    #[inline(always)]
+    pub(crate) fn become_copy(&mut self, other: &Slots)
+        ensures { self.new ≡ other.now }
     {
-        let mut slots = Slots::new();
-        for index in 0..self.len() {
-            slots.push(self.at(index));
+        self.words.clear();
+        for word in other.words.as_slice() {
+            self.words.push(*word);
         }
-        slots
+        self.kinds = other.kinds;
     }
 }

@@ -1,4 +1,4 @@
-use Rattle.std.proofs.Common.{[], ◌∷◌, ◌++◌, map, ap, ◌∙◌}
+use Rattle.std.proofs.Common.{map, ap, ◌∙◌}
 use Rattle.std.proofs.lemmas.List.{take_all}
 use Rattle.chr_search.specs.Placed.{placed_as}
 use Rattle.chr_search.proofs.Making.{map_push, map_more}
@@ -7,8 +7,8 @@ use Rattle.chr_search.proofs.trial.copy_placed.Goals as goal
 pub loop-one-preserved : goal.loop-one-preserved
 loop-one-preserved g c =
     let made = c.loop-one.made.items in
-    map_more placed_as c.args.placed.now c.loop-one.one-index c.one-item.result (map placed_as made) (map placed_as c.push.new.self.items) c.loop-one.invariant
-    (ap (map placed_as) c.in_ok-push.ensures.items ∙ map_push placed_as made c.in_ok-copy.field-0 ∙ ap (λ p. map placed_as made ++ p ∷ []) c.in_ok-copy.ensures) c.loop-one-test.true c.one-item.is
+    map_more placed_as c.args.placed.now c.loop-one.one-index c.one-item.result (map placed_as made) (map placed_as c.push_placed.new.placed.items) c.loop-one.invariant
+    (ap (map placed_as) c.in_ok-push_placed.ensures ∙ map_push placed_as made c.one-item.result) c.loop-one-test.true c.one-item.is
 
 pub returns : goal.returns
 returns g c = c.loop-one.invariant ∙ ap (map placed_as) (take_all c.loop-one.one-index c.args.placed.now c.loop-one-test.false)

@@ -1,4 +1,4 @@
-use Rattle.std.proofs.Common.{◌≡◌, ◌≤◌, ◌<◌, length, Some, None, get_or, refl, sym, ap, ◌∙◌, arith}
+use Rattle.std.proofs.Common.{◌≡◌, ◌≤◌, ◌<◌, length, Some, None, get_or, refl, sym, ◌∙◌, arith}
 use Rattle.chr_model.specs.Stores.{atom_at}
 use Rattle.chr_search.specs.Placed.{placed_as}
 use Rattle.chr_search.proofs.Plans.{heads_in}
@@ -20,9 +20,9 @@ loop-i-preserved g c =
     let here : c.loop-i.i < length ls = c.loop-i-test.true in
     let count : length ls ≤ length order = c.requires.count in
     record {
-      heads = read_more (λ p. p.head) c.loop-i.placed.items c.push.new.self.items _ (heads_in order) c.loop-i.i _ c.loop-i.invariant.heads c.in_ok-push.ensures.items refl (heads_read order c.loop-i.i (record { head = 0; key = None }) (omega arith));
-      labels = read_more (λ p. p.label) c.loop-i.placed.items c.push.new.self.items _ ls c.loop-i.i _ c.loop-i.invariant.labels c.in_ok-push.ensures.items refl (read_at ls c.loop-i.i 0 here);
-      live = all_push (λ p. atom_at c.args.store.now.entries p.label ≡ Some p.atom) c.loop-i.placed.items c.push.new.self.items _ c.loop-i.invariant.live c.in_ok-push.ensures.items (sym c.in-Some.ensures ∙ ap (λ a. Some a) (sym c.in_ok-copy.ensures));
+      heads = read_more (λ p. p.head) c.loop-i.placed.items c.push_placed.new.placed.items _ (heads_in order) c.loop-i.i _ c.loop-i.invariant.heads c.in_ok-push_placed.ensures refl (heads_read order c.loop-i.i (record { head = 0; key = None }) (omega arith));
+      labels = read_more (λ p. p.label) c.loop-i.placed.items c.push_placed.new.placed.items _ ls c.loop-i.i _ c.loop-i.invariant.labels c.in_ok-push_placed.ensures refl (read_at ls c.loop-i.i 0 here);
+      live = all_push (λ p. atom_at c.args.store.now.entries p.label ≡ Some p.atom) c.loop-i.placed.items c.push_placed.new.placed.items _ c.loop-i.invariant.live c.in_ok-push_placed.ensures (sym c.in-Some.ensures);
     }
 
 pub returns : goal.returns

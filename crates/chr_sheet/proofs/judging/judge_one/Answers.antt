@@ -1,4 +1,4 @@
-use Rattle.std.proofs.Common.{◌≡◌, ◌≢◌, ◌∷◌, [], None, sym, ◌∙◌, ap, subst, rules}
+use Rattle.std.proofs.Common.{◌≡◌, ◌≢◌, ◌∷◌, [], None, sym, ◌∙◌, ap, subst}
 use Rattle.chr_search.specs.declared.judged.Verdict.TheVariants.{Whole}
 use Rattle.chr_search.specs.Judged.{Judgement, IsVerdict}
 use Rattle.chr_sheet.specs.Others.{others_in}
@@ -11,14 +11,14 @@ use Rattle.chr_sheet.proofs.judging.judge_one.Goals as goal
 pub returns-in-Some-clause-judged : goal.returns-in-Some-clause-judged
 returns-in-Some-clause-judged g c = one_whole c.args.trial (others_in c.args.others.now.items) c.whole.result c.whole.ensures.trial c.whole.ensures.verdict
 
-pub returns-then-eq-clause-judged : goal.returns-then-eq-clause-judged
-returns-then-eq-clause-judged g c =
-    let is : c.verdict.result ≡ Whole = search rules in
+pub returns-in-Whole-clause-judged : goal.returns-in-Whole-clause-judged
+returns-in-Whole-clause-judged g c =
+    let is : c.verdict.result ≡ Whole = c.in-Whole.is in
     one_whole c.args.trial (others_in c.args.others.now.items) c.judge-judged.result c.judge-judged.ensures (sym c.verdict.ensures.verdict ∙ is)
 
 pub returns-clause-judged : goal.returns-clause-judged
 returns-clause-judged g c =
-    let isnt : c.verdict.result ≢ Whole = search rules in
+    let isnt : c.verdict.result ≢ Whole = c.in_default-verdict.not-Whole in
     let j = c.of.result in
     let before = others_in c.args.others.now.items in
     let trial = ap (λ (k : Judgement). k.trial) c.of.ensures ∙ c.judge-judged.ensures in
@@ -29,5 +29,5 @@ returns-clause-judged g c =
 pub returns-clause-sure : goal.returns-clause-sure
 returns-clause-sure g c must =
     let j = c.judge-judged.result in
-    let isnt : c.verdict.result ≢ Whole = search rules in
+    let isnt : c.verdict.result ≢ Whole = c.in_default-verdict.not-Whole in
     isnt (c.verdict.ensures.verdict ∙ must j.verdict (subst (λ t. IsVerdict t j.verdict) c.judge-judged.ensures c.verdict.ensures.right))

@@ -7,7 +7,7 @@ use Rattle.chr_search.specs.Verdicts.{Placed, Trial, labels}
 use Rattle.chr_sheet.specs.Rows.{Row, misfit, trials_of}
 use Rattle.chr_sheet.specs.Sheets.{IsFrontOf, IsNextTrial, Reports, place_after}
 use Rattle.chr_sheet.proofs.InRows.{trials_count, trials_step, formed_there, label_low}
-use Rattle.chr_sheet.proofs.Turns.{ComesWith, met_none, met_other, met_one, told_other_label, other_label, other_atom}
+use Rattle.chr_sheet.proofs.Turns.{ComesWith, met_none, met_other, met_one, next_is, told_other_label, other_label, other_atom}
 use Rattle.chr_sheet.proofs.reporting.meet.Goals.{then-ne-via-then-ne, then-ne-via-else-ne+then-not-has}
 use Rattle.chr_sheet.proofs.reporting.meet.Goals as goal
 
@@ -60,7 +60,7 @@ loop-last-preserved g c =
     let p : Placed = placed_as c.last-item.result in
     let i = c.loop-last.invariant in
     let step = trials_step placed_as r c.lasts-last-items.result.now c.loop-last.last-index c.last-item.result i.lasts c.loop-last-test.true c.last-item.is in
-    let is : c.loop-last.next ≡ Some p.label = search rules in
+    let is : c.loop-last.next ≡ Some p.label = next_is c.loop-last.next p.label c.if-ne.ensures in
     record {
       lasts = i.lasts;
       few = omega arith;

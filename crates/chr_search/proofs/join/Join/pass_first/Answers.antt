@@ -51,13 +51,13 @@ pub returns-in-Whole-clause-passed : goal.returns-in-Whole-clause-passed
 returns-in-Whole-clause-passed g c = record { few = omega arith; enough = λ e. absurd (cc); passes = refl }
 
 pub returns-in-Whole-clause-ends : goal.returns-in-Whole-clause-ends
-returns-in-Whole-clause-ends g c = first_whole (join_of c.args.self.now) c.active-active.result (began g (goal.at.returns-in-Whole-clause-ends g c).After-active-active) c.judge_at.new.narrowed c.in-Whole.ensures.tried c.args.place.now.items c.alone-instance.result.items c.requires.place c.alone-instance.ensures
+returns-in-Whole-clause-ends g c = first_whole (join_of c.args.self.now) c.active-active.result (began g (goal.at.returns-in-Whole-clause-ends g c).After-active-active) c.judge_at.new.narrowed c.in-Whole.ensures.tried c.args.place.now.items c.set_alone.new.labels.items c.requires.place c.set_alone.ensures
 
 pub pass_below-below-requires : goal.pass_below-below-requires
 pass_below-below-requires g c =
     let j = join_of c.args.self.now in
-    let ready = subst (λ ls. IsReady j ls c.judge_at.new.narrowed) (sym c.alone-instance-in-Part.ensures) c.in-Part.ensures.tried.1 in
-    let below = first_below j c.active-active.result (began g (goal.at.pass_below-below-requires g c).After-active-active) c.args.place.now.items c.alone-instance-in-Part.result.items c.push-in-Part.new.self.items c.push-in-Part-2.new.self.items c.requires.place c.alone-instance-in-Part.ensures c.push-in-Part.ensures.items c.push-in-Part-2.ensures.items in
+    let ready = subst (λ ls. IsReady j ls c.judge_at.new.narrowed) (sym c.set_alone-in-Part.ensures) c.in-Part.ensures.tried.1 in
+    let below = first_below j c.active-active.result (began g (goal.at.pass_below-below-requires g c).After-active-active) c.args.place.now.items c.set_alone-in-Part.new.labels.items c.push-in-Part.new.self.items c.push-in-Part-2.new.self.items c.requires.place c.set_alone-in-Part.ensures c.push-in-Part.ensures.items c.push-in-Part-2.ensures.items in
     (omega arith, (c.requires.begins, (ready, below)))
 
 pub returns-in-Part-clause-passed : goal.returns-in-Part-clause-passed
@@ -68,4 +68,4 @@ returns-in-Part-clause-passed g c =
 
 pub returns-in-Part-clause-ends : goal.returns-in-Part-clause-ends
 returns-in-Part-clause-ends g c =
-    first_ends (join_of c.args.self.now) c.active-active.result (began g (goal.at.returns-in-Part-clause-ends g c).After-active-active) c.alone-instance-in-Part.result.items c.alone-instance-in-Part.ensures c.pass_below-below.new.place.items c.pass_below-below.result.end c.pass_below-below.new.instance.labels.items c.pass_below-below.new.binding c.pass_below-below.ensures.ends
+    first_ends (join_of c.args.self.now) c.active-active.result (began g (goal.at.returns-in-Part-clause-ends g c).After-active-active) c.set_alone-in-Part.new.labels.items c.set_alone-in-Part.ensures c.pass_below-below.new.place.items c.pass_below-below.result.end c.pass_below-below.new.instance.labels.items c.pass_below-below.new.binding c.pass_below-below.ensures.ends

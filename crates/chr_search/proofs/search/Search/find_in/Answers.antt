@@ -26,14 +26,15 @@ loop-join-preserved g c =
     record {
       come =
           on_from_join _ _ _ _ _ (here g (goal.at.loop-join-preserved g c).In-Some)
-          (subst (λ (ls : List ℕ). NoneBeyond (MayFollow (join_of c.in-Some.join)) 1 [] ls) c.labels_in.ensures c.in_default-find.ensures);
+          (subst (λ (ls : List ℕ). NoneBeyond (MayFollow (join_of c.in-Some.join)) 1 [] ls) c.labels_in.ensures c.if-find.ensures);
+      found = c.loop-join.invariant.found;
       ahead = subst (λ l. AreAhead (older c.args.program.now c.args.plans.now c.args.view.now.store.entries l) walk.rule (walk.head + 1) walk.heads) c.requires.active c.in-Some.ensures.ahead;
     }
 
-pub returns-in-Some-find : goal.returns-in-Some-find
-returns-in-Some-find g c =
-    found_at_join _ _ _ _ _ (here g (goal.at.returns-in-Some-find g c).In-Some) c.in-Some-find.labels.items
-    (subst (λ (ls : List ℕ). Least (MayFollow (join_of c.in-Some.join)) 1 [] ls c.in-Some-find.labels.items) c.labels_in.ensures c.in-Some-find.ensures)
+pub returns-then-find : goal.returns-then-find
+returns-then-find g c =
+    found_at_join _ _ _ _ _ (here g (goal.at.returns-then-find g c).In-Some) c.find.new.labels.items
+    (subst (λ (ls : List ℕ). Least (MayFollow (join_of c.in-Some.join)) 1 [] ls c.find.new.labels.items) c.labels_in.ensures c.if-find.ensures)
 
 pub returns : goal.returns
 returns g c =
@@ -43,9 +44,12 @@ returns g c =
     come_to_end s c.args.self.now.place r h c.loop-join.invariant.come (subst (λ l. NoneLeft (older c.args.program.now c.args.plans.now c.args.view.now.store.entries l) (r ∷ h ∷ [])) c.requires.active c.in_default.ensures.next)
 
 pub loop-join-init : goal.loop-join-init
-loop-join-init g c = record { come = c.first_walk-walk.ensures.come _ refl; ahead = c.first_walk-walk.ensures.ahead _ refl c.requires.atom }
+loop-join-init g c = record { found = c.found.invariant; come = c.first_walk-walk.ensures.come _ refl; ahead = c.first_walk-walk.ensures.ahead _ refl c.requires.atom }
 
 pub next_join-requires-clause-ahead : goal.next_join-requires-clause-ahead
 next_join-requires-clause-ahead g c =
     let walk = c.loop-join.walk in
     subst (λ l. AreAhead (older c.args.program.now c.args.plans.now c.args.view.now.store.entries l) walk.rule walk.head walk.heads) (sym c.requires.active) c.loop-join.invariant.ahead
+
+pub invariant_of-found-in_default : goal.invariant_of-found-in_default
+invariant_of-found-in_default g c = c.loop-join.invariant.found

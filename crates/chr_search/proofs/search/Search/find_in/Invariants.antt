@@ -1,4 +1,4 @@
-use Rattle.std.proofs.Common.{◌+◌, ◌-◌, ◌*◌, length}
+use Rattle.std.proofs.Common.{◌≤◌, ◌+◌, ◌-◌, ◌*◌, length}
 use Rattle.chr_search.specs.Trials.{older}
 use Rattle.chr_search.specs.PlanByPlan.{AreAhead, HasComeTo}
 use Rattle.chr_search.proofs.search.Search.find_in.Given as goal
@@ -6,6 +6,7 @@ use Rattle.chr_search.proofs.search.Search.find_in.Given as goal
 abbrev pub invariant-loop-join : goal.invariant-loop-join
 invariant-loop-join g l = record {
   come : HasComeTo (older l.fn.program l.fn.plans l.fn.view.store.entries l.fn.self.label) l.fn.self.place l.walk.rule l.walk.head;
+  found : (1 ≤ l.found-inside.rule) × (1 ≤ l.found-inside.head);
   ahead : AreAhead (older l.fn.program l.fn.plans l.fn.view.store.entries l.fn.self.label) l.walk.rule l.walk.head l.walk.heads;
 }
 

@@ -5,4 +5,4 @@ use Rattle.chr_search.proofs.search.Search.go_after.Goals as goal
 pub returns-clause-place : goal.returns-clause-place
 returns-clause-place g c =
     let s : Space = older c.args.program.now c.args.plans.now c.args.store.now.entries c.args.self.now.label in
-    gone_after s c.args.trial.now c.after-self-inside.result c.requires c.rules-rules.ensures.valid c.after-self-inside.ensures.most c.after-self-inside.ensures.fewer
+    gone_after s c.args.trial.now c.become_after.new.self c.requires c.rules-rules.ensures.valid c.become_after.ensures.most c.become_after.ensures.fewer

@@ -6,9 +6,9 @@ use Rattle.chr_search.proofs.search.Search.next_alone.Goals as goal
 pub returns-then-len-ne1 : goal.returns-then-len-ne1
 returns-then-len-ne1 g c =
     let s : Space = older c.args.program.now c.args.plans.now c.args.store.now.entries c.args.self.now.label in
-    not_alone s c.args.self.now.place c.in_ok-position.position c.position.inside.rule c.position.inside.head c.position.inside.labels.items c.position.view_is c.in_ok-position.ensures (λ one. c.if-len-ne1.true (c.len.ensures.value ∙ one))
+    not_alone s c.args.self.now.place c.find_to.new.found c.position.inside.rule c.position.inside.head c.position.inside.labels.items c.position.view_is c.if-not-find_to.ensures (λ one. c.if-len-ne1.true (c.len.ensures.value ∙ one))
 
 pub returns : goal.returns
 returns g c =
     let s : Space = older c.args.program.now c.args.plans.now c.args.store.now.entries c.args.self.now.label in
-    alone_found s c.args.self.now.place c.in_ok-position.position c.position.inside.rule c.position.inside.head c.position.inside.labels.items c.position.view_is c.in_ok-position.ensures (sym c.len.ensures.value ∙ c.if-len-ne1.false)
+    alone_found s c.args.self.now.place c.find_to.new.found c.position.inside.rule c.position.inside.head c.position.inside.labels.items c.position.view_is c.if-not-find_to.ensures (sym c.len.ensures.value ∙ c.if-len-ne1.false)

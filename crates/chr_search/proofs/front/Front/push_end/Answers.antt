@@ -1,7 +1,7 @@
 use Rattle.std.proofs.Common.{◌≡◌, Some, None, ◌∙◌}
 use Rattle.chr_search.specs.Joined.{join_of}
 use Rattle.chr_search.proofs.Fronts.{ends}
-use Rattle.chr_search.proofs.front.Front.place.Goals as goal
+use Rattle.chr_search.proofs.front.Front.push_end.Goals as goal
 
 pub unreachable-requires : goal.unreachable-requires
 unreachable-requires g c =

@@ -1,10 +1,10 @@
-use Rattle.std.proofs.Common.{◌≡◌, None, MatchOption, sym, ap, subst}
+use Rattle.std.proofs.Common.{◌≡◌, None, MatchBool, sym, ap, subst}
 use Rattle.chr_value.specs.Stores.{atom_at}
 use Rattle.chr_store.specs.Views.{Seen}
 use Rattle.chr_search.specs.Trials.{Space, older, IsNext, NoneLeft}
 use Rattle.chr_search.specs.Reach.{SearchState}
 use Rattle.chr_search.proofs.PlanByPlan.{gone_none}
-use Rattle.chr_search.proofs.search.Search.find.Goals as goal
+use Rattle.chr_search.proofs.search.Search.find_to.Goals as goal
 
 pub returns-in_default : goal.returns-in_default
 returns-in_default g c =
@@ -15,4 +15,4 @@ returns-in_default g c =
 pub returns : goal.returns
 returns g c =
     let space = λ (v : Seen). older c.args.program.now c.args.plans.now v.store.entries c.args.self.now.label in
-    subst (λ (v : Seen). MatchOption c.find_in.result (NoneLeft (space v) c.args.self.now.place) (IsNext (space v) c.args.self.now.place)) c.of-view.ensures c.find_in.ensures
+    subst (λ (v : Seen). MatchBool c.find_in.result (IsNext (space v) c.args.self.now.place c.find_in.new.found) (NoneLeft (space v) c.args.self.now.place)) c.of-view.ensures c.find_in.ensures

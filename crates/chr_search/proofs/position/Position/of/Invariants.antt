@@ -1,5 +1,0 @@
-use Rattle.std.proofs.Common.{◌≡◌, map, take}
-use Rattle.chr_search.proofs.position.Position.of.Given as goal
-
-abbrev pub invariant-loop-placed : goal.invariant-loop-placed
-invariant-loop-placed g l = l.labels.items ≡ map (λ p. p.label) (take l.placed-index l.all)
