@@ -115,13 +115,13 @@ fn news_during_a_refused_call_is_not_slept_over(rt: HostRuntime) {
 }
 
 /// How many constraints there are of each of two names, whose pairs one goal tries.
-const EACH: u64 = 200;
+const EACH: u64 = 520;
 
 /// The ticket of that goal.
-const LONG: u64 = 401;
+const LONG: u64 = 1_041;
 
-/// A judgement far behind the first: more than 128 holds lie between, of up to 256 judgements each.
-const FAR: u64 = 34_000;
+/// A judgement far behind the first: more than 1,024 holds lie between, of up to 256 judgements each.
+const FAR: u64 = 265_000;
 
 /// The posts `n(0), m(0)` and so on, and `go` behind them.
 fn pairs(alloc: Global) -> Result<String<Global>, AllocError> {
