@@ -119,14 +119,13 @@ pub struct Binding<'v, A: Allocator> {
 
 impl<'v, A: Allocator> Model for Binding<'v, A> {
     ghost use Rattle.std.specs.Prelude.{ℕ, List, Option, take};
-    ghost use Rattle.std.specs.Coded.{codes};
     ghost use Rattle.chr_value.specs.Atoms.{Value as PlainValue};
-    ghost use Rattle.chr_value.specs.Code.{value_code};
+    ghost use Rattle.chr_value.specs.Code.{value_codes};
     ghost use Rattle.chr_guard.specs.Bindings.{told_from, AreBoundBy};
 
     ghost Value = { List (Option (PlainValue ℕ)) };
 
-    ghost coded = { Prim.hlevel (codes, value_code) };
+    ghost coded = { Prim.hlevel value_codes };
 
     ghost view = { λ b. take b.variables (told_from b.known.bits 0 b.bound.items) };
 

@@ -48,14 +48,13 @@ pub struct Settled<A: Allocator> {
 
 impl<A: Allocator> Model for Settled<A> {
     ghost use Rattle.std.specs.Prelude.{ℕ, ◌≤◌, List, Option, length, map};
-    ghost use Rattle.std.specs.Coded.{codes};
     ghost use Rattle.chr_value.specs.Atoms.{Value as PlainValue};
-    ghost use Rattle.chr_value.specs.Code.{value_code};
+    ghost use Rattle.chr_value.specs.Code.{value_codes};
     ghost use Rattle.chr_guard.specs.Settled.{mark_view};
 
     ghost Value = { List (Option (Option (PlainValue ℕ))) };
 
-    ghost coded = { Prim.hlevel (codes, value_code) };
+    ghost coded = { Prim.hlevel value_codes };
 
     ghost view = { λ s. map mark_view s.marks.items };
 

@@ -5,5 +5,6 @@ pub mod Scope
 pub mod Parts
 pub mod Code
 pub mod TermCode
+pub mod Codes
 pub mod Occurrences
 pub mod Index

@@ -41,13 +41,11 @@ impl<A: Allocator> Model for Program<A> {
     ghost use Rattle.chr_rule.specs.Rules.{Simpagation};
     ghost use Rattle.chr_rule.specs.Scope.{IsRule};
     ghost use Rattle.chr_rule.specs.Index.{IsIndexOf};
-    ghost use Rattle.chr_rule.specs.Code.{expression_code};
-    ghost use Rattle.chr_rule.specs.TermCode.{term_code};
-    ghost use Rattle.std.specs.Coded.{codes};
+    ghost use Rattle.chr_rule.specs.Codes.{rule_codes};
 
     ghost Value = { List (Simpagation ℕ) };
 
-    ghost coded = { Prim.hlevel (codes, expression_code, term_code) };
+    ghost coded = { Prim.hlevel rule_codes };
 
     ghost view = { λ p. map arc_value p.rules.items };
 

@@ -57,13 +57,11 @@ impl<A: Allocator> Model for Rule<A> {
     ghost use Rattle.chr_rule.specs.Parts.{shape, comparison, member};
     ghost use Rattle.chr_rule.specs.Scope.{IsRule};
     ghost use Rattle.chr_rule.specs.Words.{IsWritten};
-    ghost use Rattle.chr_rule.specs.Code.{expression_code};
-    ghost use Rattle.chr_rule.specs.TermCode.{term_code};
-    ghost use Rattle.std.specs.Coded.{codes};
+    ghost use Rattle.chr_rule.specs.Codes.{rule_codes};
 
     ghost Value = { Simpagation ℕ };
 
-    ghost coded = { Prim.hlevel (codes, expression_code, term_code) };
+    ghost coded = { Prim.hlevel rule_codes };
 
     ghost view = { λ r. record { variables = r.variables; kept = map shape r.kept.items; removed = map shape r.removed.items; guard = map comparison r.guard.items; body = map member r.body.items } };
 

@@ -40,15 +40,12 @@ pub struct Judged<A: Allocator> {
 
 impl<A: Allocator> Model for Judged<A> {
     ghost use Rattle.std.specs.Prelude.{IfSome};
-    ghost use Rattle.std.specs.Coded.{codes};
-    ghost use Rattle.chr_value.specs.Code.{value_code};
-    ghost use Rattle.chr_rule.specs.Code.{expression_code};
-    ghost use Rattle.chr_rule.specs.TermCode.{term_code};
+    ghost use Rattle.chr_rule.specs.Codes.{rule_codes};
     ghost use Rattle.chr_search.specs.Judged.{Judgement, IsVerdict, IsSettledUnder};
 
     ghost Value = { Judgement };
 
-    ghost coded = { Prim.hlevel (codes, expression_code, term_code, value_code) };
+    ghost coded = { Prim.hlevel rule_codes };
 
     ghost view = { λ j. record { trial = j.trial; verdict = j.verdict } };
 

@@ -37,16 +37,6 @@ pub(crate) fn set_alone(labels: &mut Labels, label: Label)
     labels.push(label);
 }
 
-/// Makes labels a copy of others.
-fn set_copy(labels: &mut Labels, others: &Labels)
-    ensures { labels.new.items ≡ others.now.items }
-{
-    labels.clear();
-    for label in others.as_slice() {
-        labels.push(*label);
-    }
-}
-
 /// Keeps the first labels, as many as `depth`, and puts one after them.
 pub(crate) fn put_at(labels: &mut Labels, depth: usize, label: Label)
     requires { depth < 6 }
@@ -159,17 +149,6 @@ impl Position {
         self.rule = rule;
         self.head = head;
         set_alone(&mut self.labels, label);
-    }
-
-    /// Becomes that of these labels, at a rule and a head.
-    pub(crate) fn become_at(&mut self, rule: u16, head: u8, labels: &Labels)
-        requires rule { 1 ≤ rule }
-        requires head { 1 ≤ head }
-        ensures { self.new ≡ rule ∷ head ∷ labels.now.items }
-    {
-        self.rule = rule;
-        self.head = head;
-        set_copy(&mut self.labels, labels);
     }
 
     /// Becomes the first position after a trial, which is a part.

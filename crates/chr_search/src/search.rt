@@ -565,7 +565,9 @@ impl Search {
         let mut labels = Labels::new();
         let passed = join.pass(&mut labels, most, instance, bound);
         if passed.count > 0 {
-            self.position.become_at(walk.rule, walk.head, &labels);
+            self.position.labels = labels;
+            self.position.rule = walk.rule;
+            self.position.head = walk.head;
         }
         passed
     }

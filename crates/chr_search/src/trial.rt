@@ -52,16 +52,13 @@ impl<A: Allocator> Drop for Trial<A> {
 impl<A: Allocator> Model for Trial<A> {
     ghost use Rattle.std.specs.Prelude.{map};
     ghost use Rattle.std.specs.Arc.{arc_value};
-    ghost use Rattle.std.specs.Coded.{codes};
-    ghost use Rattle.chr_value.specs.Code.{value_code};
-    ghost use Rattle.chr_rule.specs.Code.{expression_code};
-    ghost use Rattle.chr_rule.specs.TermCode.{term_code};
+    ghost use Rattle.chr_rule.specs.Codes.{rule_codes};
     ghost use Rattle.chr_search.specs.Verdicts.{Trial, IsFormed};
     ghost use Rattle.chr_search.specs.Placed.{placed_as};
 
     ghost Value = { Trial };
 
-    ghost coded = { Prim.hlevel (codes, expression_code, term_code, value_code) };
+    ghost coded = { Prim.hlevel rule_codes };
 
     ghost view = { λ t. record { rule = arc_value t.rule; number = t.number; head = t.head; placed = map placed_as t.placed.items } };
 

@@ -28,16 +28,13 @@ pub struct Kept<L1: PostLedger, L2: Ledger, A: Allocator> {
 
 impl<L1: PostLedger, L2: Ledger, A: Allocator> Model for Kept<L1, L2, A> {
     ghost use Rattle.std.specs.Prelude.{◌≡◌, true, Option, IsSome};
-    ghost use Rattle.std.specs.Coded.{codes};
-    ghost use Rattle.chr_value.specs.Code.{value_code};
-    ghost use Rattle.chr_rule.specs.Code.{expression_code};
-    ghost use Rattle.chr_rule.specs.TermCode.{term_code};
+    ghost use Rattle.chr_rule.specs.Codes.{rule_codes};
     ghost use Rattle.chr_calls.specs.Books.{BookState};
     ghost use Rattle.chr_seats.specs.Accounts.{AreSeats, log_of, IsCounted};
 
     ghost Value = { Option BookState };
 
-    ghost coded = { Prim.hlevel (codes, expression_code, value_code, term_code) };
+    ghost coded = { Prim.hlevel rule_codes };
 
     ghost view = { λ k. k.book };
 

@@ -33,15 +33,12 @@ pub struct Column<A: Allocator> {
 impl<A: Allocator> Model for Column<A> {
     ghost use Rattle.std.specs.Prelude.{map};
     ghost use Rattle.std.specs.Arc.{arc_value};
-    ghost use Rattle.std.specs.Coded.{codes};
-    ghost use Rattle.chr_value.specs.Code.{value_code};
-    ghost use Rattle.chr_rule.specs.Code.{expression_code};
-    ghost use Rattle.chr_rule.specs.TermCode.{term_code};
+    ghost use Rattle.chr_rule.specs.Codes.{rule_codes};
     ghost use Rattle.chr_sheet.specs.Columns.{Column, head_in, IsColumn};
 
     ghost Value = { Column };
 
-    ghost coded = { Prim.hlevel (codes, expression_code, term_code, value_code) };
+    ghost coded = { Prim.hlevel rule_codes };
 
     ghost view = { λ c. record { first = c.first; more = map (head_in (arc_value c.program)) c.more.items } };
 

@@ -33,16 +33,13 @@ pub struct Judgements<A: Allocator> {
 }
 
 impl<A: Allocator> Model for Judgements<A> {
-    ghost use Rattle.std.specs.Coded.{codes};
-    ghost use Rattle.chr_value.specs.Code.{value_code};
-    ghost use Rattle.chr_rule.specs.Code.{expression_code};
-    ghost use Rattle.chr_rule.specs.TermCode.{term_code};
+    ghost use Rattle.chr_rule.specs.Codes.{rule_codes};
     ghost use Rattle.chr_sheet.specs.Others.{others_in};
     ghost use Rattle.chr_sheet.specs.Rows.{JudgedSheet, IsJudgedSheet};
 
     ghost Value = { JudgedSheet };
 
-    ghost coded = { Prim.hlevel (codes, expression_code, term_code, value_code) };
+    ghost coded = { Prim.hlevel rule_codes };
 
     ghost view = { λ j. record { others = others_in j.others.items; whole = j.whole } };
 

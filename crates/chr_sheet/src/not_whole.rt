@@ -18,17 +18,14 @@ pub struct NotWhole<A: Allocator> {
 }
 
 impl<A: Allocator> Model for NotWhole<A> {
-    ghost use Rattle.std.specs.Coded.{codes};
-    ghost use Rattle.chr_value.specs.Code.{value_code};
-    ghost use Rattle.chr_rule.specs.Code.{expression_code};
-    ghost use Rattle.chr_rule.specs.TermCode.{term_code};
     ghost use Rattle.std.specs.Prelude.{◌≢◌};
+    ghost use Rattle.chr_rule.specs.Codes.{rule_codes};
     ghost use Rattle.chr_search.specs.declared.judged.Verdict.TheVariants as verdicts;
     ghost use Rattle.chr_search.specs.Judged.{Judgement, IsVerdict};
 
     ghost Value = { Judgement };
 
-    ghost coded = { Prim.hlevel (codes, expression_code, term_code, value_code) };
+    ghost coded = { Prim.hlevel rule_codes };
 
     ghost view = { λ j. record { trial = j.trial; verdict = j.verdict } };
 
@@ -74,17 +71,14 @@ pub struct Several<A: Allocator> {
 
 impl<A: Allocator> Model for Several<A> {
     ghost use Rattle.std.specs.Prelude.{List};
-    ghost use Rattle.std.specs.Coded.{codes};
-    ghost use Rattle.chr_value.specs.Code.{value_code};
-    ghost use Rattle.chr_rule.specs.Code.{expression_code};
-    ghost use Rattle.chr_rule.specs.TermCode.{term_code};
+    ghost use Rattle.chr_rule.specs.Codes.{rule_codes};
     ghost use Rattle.chr_search.specs.Judged.{Judgement};
     ghost use Rattle.chr_sheet.specs.Kept.{judged_at};
     ghost use Rattle.chr_sheet.specs.Rows.{AreRight};
 
     ghost Value = { List Judgement };
 
-    ghost coded = { Prim.hlevel (codes, expression_code, term_code, value_code) };
+    ghost coded = { Prim.hlevel rule_codes };
 
     ghost view = { λ m. judged_at m.trials };
 

@@ -17,16 +17,13 @@ pub struct Row<A: Allocator> {
 
 impl<A: Allocator> Model for Row<A> {
     ghost use Rattle.std.specs.Prelude.{map};
-    ghost use Rattle.std.specs.Coded.{codes};
-    ghost use Rattle.chr_value.specs.Code.{value_code};
-    ghost use Rattle.chr_rule.specs.Code.{expression_code};
-    ghost use Rattle.chr_rule.specs.TermCode.{term_code};
+    ghost use Rattle.chr_rule.specs.Codes.{rule_codes};
     ghost use Rattle.chr_search.specs.Placed.{placed_as};
     ghost use Rattle.chr_sheet.specs.Rows.{Row, IsRow};
 
     ghost Value = { Row };
 
-    ghost coded = { Prim.hlevel (codes, expression_code, term_code, value_code) };
+    ghost coded = { Prim.hlevel rule_codes };
 
     ghost view = { λ r. record { part = r.part; lasts = map placed_as r.lasts.items } };
 

@@ -110,15 +110,12 @@ fn ask_book<A: Allocator + Copy>(alloc: A, book: &mut Book<A>, command: Command<
 
 impl<A: Allocator> Model for SoloDesk<A> {
     ghost use Rattle.std.specs.Prelude.{◌≤◌, ℕ, Option};
-    ghost use Rattle.std.specs.Coded.{codes};
-    ghost use Rattle.chr_value.specs.Code.{value_code};
-    ghost use Rattle.chr_rule.specs.Code.{expression_code};
-    ghost use Rattle.chr_rule.specs.TermCode.{term_code};
+    ghost use Rattle.chr_rule.specs.Codes.{rule_codes};
     ghost use Rattle.chr_calls.specs.Books.{BookState};
 
     ghost Value = { ℕ × Option BookState };
 
-    ghost coded = { Prim.hlevel (codes, expression_code, value_code, term_code) };
+    ghost coded = { Prim.hlevel rule_codes };
 
     ghost view = { λ d. (d.limit, d.book) };
 

@@ -29,15 +29,14 @@ pub struct Atoms<A: Allocator> {
 
 impl<A: Allocator> Model for Atoms<A> {
     ghost use Rattle.std.specs.Prelude.{◌+◌, length};
-    ghost use Rattle.std.specs.Coded.{codes};
-    ghost use Rattle.chr_value.specs.Code.{value_code};
+    ghost use Rattle.chr_value.specs.Code.{value_codes};
     ghost use Rattle.chr_store.specs.Labels.{GivenAtoms};
     ghost use Rattle.chr_store.specs.Table.{entries_from, held, IsTable};
     ghost use Rattle.chr_store.specs.Blocks.{AreCounts};
 
     ghost Value = { GivenAtoms };
 
-    ghost coded = { Prim.hlevel (codes, value_code) };
+    ghost coded = { Prim.hlevel value_codes };
 
     ghost view = { λ a. record { entries = entries_from 1 (held a.slots.items); next = length a.slots.items + 1 } };
 
@@ -236,15 +235,14 @@ pub struct Constraints<'s, A: Allocator> {
 
 impl<'s, A: Allocator> Model for Constraints<'s, A> {
     ghost use Rattle.std.specs.Prelude.{◌+◌, ◌≤◌, length};
-    ghost use Rattle.std.specs.Coded.{codes};
     ghost use Rattle.chr_value.specs.Stores.{Store};
-    ghost use Rattle.chr_value.specs.Code.{value_code};
+    ghost use Rattle.chr_value.specs.Code.{value_codes};
     ghost use Rattle.chr_store.specs.Table.{entries_from, held};
     ghost use Rattle.chr_store.specs.Blocks.{AreEmptyAtNone};
 
     ghost Value = { Store };
 
-    ghost coded = { Prim.hlevel (codes, value_code) };
+    ghost coded = { Prim.hlevel value_codes };
 
     ghost view = { λ c. entries_from c.label (held c.slots.now) };
 

@@ -69,14 +69,13 @@ impl<A: Allocator> Drop for Store<A> {
 }
 
 impl<A: Allocator> Model for Store<A> {
-    ghost use Rattle.std.specs.Coded.{codes};
-    ghost use Rattle.chr_value.specs.Code.{value_code};
+    ghost use Rattle.chr_value.specs.Code.{value_codes};
     ghost use Rattle.chr_store.specs.Labels.{LabelledStore};
     ghost use Rattle.chr_store.specs.Indexed.{IsIndexed};
 
     ghost Value = { LabelledStore };
 
-    ghost coded = { Prim.hlevel (codes, value_code) };
+    ghost coded = { Prim.hlevel value_codes };
 
     ghost view = { λ s. record { entries = s.atoms.entries; next = s.atoms.next; limit = s.limit } };
 

@@ -22,13 +22,12 @@ pub struct View<'s, A: Allocator> {
 
 impl<'s, A: Allocator> Model for View<'s, A> {
     ghost use Rattle.std.specs.Option.{option_copied};
-    ghost use Rattle.std.specs.Coded.{codes};
-    ghost use Rattle.chr_value.specs.Code.{value_code};
+    ghost use Rattle.chr_value.specs.Code.{value_codes};
     ghost use Rattle.chr_store.specs.Views.{Seen, seen_with, IsSeen};
 
     ghost Value = { Seen };
 
-    ghost coded = { Prim.hlevel (codes, value_code) };
+    ghost coded = { Prim.hlevel value_codes };
 
     ghost view = { λ v. record { store = seen_with v.store.now (option_copied v.fresh); active = v.active } };
 

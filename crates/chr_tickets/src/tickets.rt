@@ -53,16 +53,13 @@ impl<A: Allocator> Drop for Tickets<A> {
 
 impl<A: Allocator> Model for Tickets<A> {
     ghost use Rattle.std.specs.Prelude.{List};
-    ghost use Rattle.std.specs.Coded.{codes};
-    ghost use Rattle.chr_value.specs.Code.{value_code};
-    ghost use Rattle.chr_rule.specs.Code.{expression_code};
-    ghost use Rattle.chr_rule.specs.TermCode.{term_code};
+    ghost use Rattle.chr_rule.specs.Codes.{rule_codes};
     ghost use Rattle.chr_calls.specs.Tickets.{Ticket};
     ghost use Rattle.chr_tickets.specs.Listed.{listed, AreQueued};
 
     ghost Value = { List Ticket };
 
-    ghost coded = { Prim.hlevel (codes, expression_code, term_code, value_code) };
+    ghost coded = { Prim.hlevel rule_codes };
 
     ghost view = { λ s. listed s.first s.slots.items };
 

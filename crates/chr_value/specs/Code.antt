@@ -1,7 +1,7 @@
 -- A code of values, by which proofs tell them apart: a value as a list of marks, a functor with its count before its arguments.
 use Rattle.std.specs.Prelude.{◌≡◌, ℕ, zero, suc, ℤ, List, [], ◌∷◌, refl}
 use Rattle.std.proofs.Common.{◌⊎◌, inl, inr, ap, ◌∙◌}
-use Rattle.std.specs.Coded.{Coded, code_by, coded⊎, coded_ℕ, coded_ℤ, coded×, coded_list}
+use Rattle.std.specs.Coded.{Coded, code_by, coded⊎, coded_ℕ, coded_ℤ, coded×, coded_list, codes}
 use Rattle.chr_value.specs.Atoms.{Value, Int, Sym, Comp, Args, Nil, Cons, args_count}
 
 -- a number, a symbol, or a functor with how many arguments it has
@@ -75,3 +75,6 @@ value_again v = ap first (marks_back v [] [] refl)
 
 abbrev pub value_code : Coded (Value ℕ)
 value_code = code_by (List Mark) (coded_list (coded⊎ coded_ℤ (coded⊎ coded_ℕ (coded× coded_ℕ coded_ℕ)))) (λ v. marks v []) (λ ms. first (spelled ms)) value_again
+
+-- by these `hlevel` finds the code of what is made of values
+pub ruleset value_codes = (codes, value_code)

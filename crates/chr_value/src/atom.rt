@@ -110,14 +110,13 @@ impl<A: Allocator> Drop for Atom<A> {
 
 impl<A: Allocator> Model for Atom<A> {
     ghost use Rattle.std.specs.Prelude.{ℕ};
-    ghost use Rattle.std.specs.Coded.{codes};
     ghost use Rattle.chr_value.specs.Atoms.{Atom};
-    ghost use Rattle.chr_value.specs.Code.{value_code};
     ghost use Rattle.chr_value.specs.Slots.{comps_of, values_in, AreArguments};
+    ghost use Rattle.chr_value.specs.Code.{value_codes};
 
     ghost Value = { Atom ℕ };
 
-    ghost coded = { Prim.hlevel (codes, value_code) };
+    ghost coded = { Prim.hlevel value_codes };
 
     ghost view = { λ a. record { name = a.name.number; args = values_in (comps_of a.comps) a.slots } };
 
