@@ -150,6 +150,13 @@ same_front r h q k xs ys before others x y told ex ey rq hk d =
       λ e. d.1 (let z : r ∷ h ∷ before ≡ q ∷ k ∷ others = sym f ∙ e ∙ g in cc),
     )
 
+-- two positions, by their rules, heads and labels
+pub same_place : (r h q k : ℕ) (xs ys p p' : List ℕ) (told : Bool) → r ∷ h ∷ xs ≡ p → q ∷ k ∷ ys ≡ p' → r ≡ q → h ≡ k → Decides told (xs ≡ ys) → IsTrue told ↔ (p ≡ p')
+same_place r h q k xs ys p p' told view view' rq hk d = (
+      λ t. let same : xs ≡ ys = d.0 t in cc,
+      λ e. d.1 (let z : r ∷ h ∷ xs ≡ q ∷ k ∷ ys = view ∙ e ∙ sym view' in cc),
+    )
+
 -- positions with one label more than another
 pub one_more : (p : List ℕ) (r h : ℕ) (ls before : List ℕ) (l : ℕ) (q : List ℕ) → r ∷ h ∷ ls ≡ p → ls ≡ before ++ l ∷ [] → r ∷ h ∷ before ≡ q → p ≡ q ++ l ∷ []
 one_more p r h ls before l q view e same = sym view ∙ ap (λ zs. r ∷ h ∷ zs) e ∙ ap (λ zs. zs ++ l ∷ []) same

@@ -116,6 +116,16 @@ impl Position {
         }
     }
 
+    /// Whether two positions are the same.
+    pub(crate) fn is_same(&self, other: &Position) -> bool
+        ensures { IsTrue result ↔ (self.now ≡ other.now) }
+    {
+        if self.rule != other.rule || self.head != other.head {
+            return false;
+        }
+        self.labels.as_slice() == other.labels.as_slice()
+    }
+
     /// The position of a trial.
     pub(crate) fn of<A: Allocator + Copy>(trial: &Trial<A>) -> Position
         ensures position { result ≡ position trial.now }

@@ -1,5 +1,5 @@
 //! Searches.
-ghost use Rattle.std.specs.Prelude.{◌≡◌, ℕ, suc, ◌+◌, ◌≤◌, true, List, ◌∷◌, ◌++◌, [], length, Some, MatchBool, MatchOption, IfOk, IfSome};
+ghost use Rattle.std.specs.Prelude.{◌≡◌, ◌↔◌, ℕ, suc, ◌+◌, ◌≤◌, true, List, ◌∷◌, ◌++◌, [], length, Some, MatchBool, MatchOption, IfOk, IfSome, IsTrue};
 ghost use Rattle.chr_value.specs.Stores.{atom_at};
 ghost use Rattle.chr_plan.specs.Plans.{ArePlans};
 ghost use Rattle.chr_store.specs.Labels.{entered};
@@ -204,6 +204,13 @@ impl Search {
         ensures { result ≡ self.now.label }
     {
         self.label
+    }
+
+    /// Whether two searches are the same: of one label, and come equally far.
+    pub fn is_same(&self, other: &Search) -> bool
+        ensures { IsTrue result ↔ (self.now ≡ other.now) }
+    {
+        self.label == other.label && self.position.is_same(&other.position)
     }
 
     /// The plan of a head of a rule. None where there is none.
