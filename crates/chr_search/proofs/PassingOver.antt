@@ -44,7 +44,7 @@ fit_heads j v (s ∷ steps) (p ∷ ps) hs live =
       λ a. (record { atom = p.atom; live = live.0; fits = subst (λ n. IsAtHead j.rule v (n, p.atom)) head a.0 }, rest.1 a.1),
     )
 
-fits_at_heads : (j : Join) (ls : List ℕ) (t : Trial) → IsTrialIn j ls t → (v : Valuation) → Fit j v j.order ls ↔ AreAtHeads t.rule (at_heads t) v
+pub fits_at_heads : (j : Join) (ls : List ℕ) (t : Trial) → IsTrialIn j ls t → (v : Valuation) → Fit j v j.order ls ↔ AreAtHeads t.rule (at_heads t) v
 fits_at_heads j ls t i v =
     let both = fit_heads j v j.order t.placed i.heads_are i.live in (
       λ f. subst (λ r. AreAtHeads r (at_heads t) v) (sym i.rule_is) (both.0 (subst (Fit j v j.order) (sym i.labels_are) f)),

@@ -5,7 +5,7 @@ use Rattle.chr_search.proofs.Behind.{same_place}
 use Rattle.chr_search.proofs.position.Position.is_same.Goals as goal
 
 pub returns : goal.returns
-returns g c =
+returns c =
     same_place c.self.inside.rule c.self.inside.head c.other.inside.rule c.other.inside.head c.as_slice.result.now c.as_slice-2.result.now c.args.self.now c.args.other.now c.eq.result
     (ap (λ (ls : List ℕ). c.self.inside.rule ∷ c.self.inside.head ∷ ls) c.as_slice.ensures.value ∙ c.self.view_is)
     (ap (λ (ls : List ℕ). c.other.inside.rule ∷ c.other.inside.head ∷ ls) c.as_slice-2.ensures.value ∙ c.other.view_is)
