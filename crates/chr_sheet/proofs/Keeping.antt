@@ -1,9 +1,13 @@
 -- What is kept in several places, and in one more.
-use Rattle.std.proofs.Common.{◌≡◌, ℕ, zero, suc, ◌+◌, ◌<◌, ◌≤◌, List, [], ◌∷◌, ◌++◌, length, length-append, take, get_or, append_assoc, refl, sym, ◌∙◌, ap, arith}
+use Rattle.std.proofs.Common.{◌≡◌, ℕ, zero, suc, ◌+◌, ◌<◌, ◌≤◌, List, [], ◌∷◌, ◌++◌, length, length-append, map, take, get_or, append_assoc, refl, sym, ◌∙◌, ap, arith}
+use Rattle.std.specs.Prelude.{◌≢◌}
+use Rattle.std.specs.List.{AllByRecursion}
 use Rattle.std.specs.Iterator.{Yields}
 use Rattle.std.specs.Vec.Iter.{into_iter_items, into_iter_steps}
 use Rattle.std.specs.declared.vec.IntoIter.{IntoIter}
 use Rattle.std.proofs.lemmas.List.{append-nil, take_more, length-map}
+use Rattle.chr_search.specs.declared.judged.Verdict.TheVariants as verdicts
+use Rattle.chr_search.specs.Verdicts.{Trial}
 use Rattle.chr_sheet.specs.declared.trials.Trials.{Trials}
 use Rattle.chr_sheet.specs.declared.trials.Trials.TheVariants as some
 use Rattle.chr_sheet.specs.declared.others.Others.{Others}
@@ -63,3 +67,14 @@ others_step xs i x h e = others_pushed (take i xs) (take (i + 1) xs) x (take_mor
 
 pub others_counted : {Z : Type 0} (xs : List (Others Z)) (i : ℕ) (x : Others Z) → i < length xs → x ≡ get_or xs i x → length (others_in (take (i + 1) xs)) ≡ length (others_in (take i xs)) + length (others_at x)
 others_counted xs i x h e = ap length (others_step xs i x h e) ∙ length-append (others_in (take i xs)) (others_at x)
+
+-- none of those that are judged together is whole
+misfits_other : (ts : List Trial) → AllByRecursion (λ j. j.verdict ≢ verdicts.Whole) (map misfit ts)
+misfits_other [] = tt
+misfits_other (t ∷ ts) = (λ e. absurd (cc), misfits_other ts)
+
+pub none_whole : {Z : Type 0} (x : Trials Z) → AllByRecursion (λ j. j.verdict ≢ verdicts.Whole) (judged_at x)
+none_whole (some.One t) = (λ e. absurd (cc), tt)
+none_whole (some.Row r) = misfits_other (trials_of r)
+none_whole (some.Branch r) = (λ e. absurd (cc), misfits_other (trials_of r))
+none_whole (some.Column c) = misfits_other (column_trials c)

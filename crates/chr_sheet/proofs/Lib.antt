@@ -12,3 +12,4 @@ pub mod Turns
 pub mod TurnsAlone
 pub mod NextBeside
 pub mod NextAlone
+pub mod KnownNext

@@ -23,6 +23,11 @@ AreNext s zero place (t ∷ ts) = ⊥
 AreNext s (suc most) place [] = NoneLeft s place
 AreNext s (suc most) place (t ∷ ts) = IsNextTrial s place t × AreNext s most (just_after (position t)) ts
 
+-- these trials come next one after another, whatever the verdicts on them: the first is the next one at or after a position
+abbrev pub AreNextInOrder : Space → List ℕ → List Trial → Type 0
+AreNextInOrder s place [] = ⊤
+AreNextInOrder s place (t ∷ ts) = IsNextTrial s place t × AreNextInOrder s (just_after (position t)) ts
+
 -- these are the next trials, at most so many, and from the position on lie those that come after the last of them
 abbrev pub AreNextTogether : Space → ℕ → List ℕ → List Trial → List ℕ → Type 0
 AreNextTogether s most place ts after = (1 ≤ length ts) × (length ts ≤ most) × ((left : ℕ) (more : List Trial) → AreNext s left after more → AreNext s (length ts + left) place (ts ++ more))
@@ -45,6 +50,11 @@ pub data Reports (s : Space) : List ℕ → List Judgement → ℕ → List ℕ 
       → IsNextTrial s place j.trial → j.verdict ≢ Whole → Reports s (after_judging j) more count after → Reports s place (j ∷ more) (suc count) after
   passes : (place after : List ℕ) (j : Judgement) (more : List Judgement) (count : ℕ)
       → (IsNextTrial s place j.trial → ⊥) → Reports s place more count after → Reports s place (j ∷ more) count after
+
+-- where a search goes on after judgements: as after the last one of them
+abbrev pub after_all : List ℕ → List Judgement → List ℕ
+after_all place [] = place
+after_all place (j ∷ js) = after_all (after_judging j) js
 
 -- whether there is a judgement that is whole, and it is of the next trial
 abbrev pub IsFireable : Space → List ℕ → Option Judgement → Bool → Type 0

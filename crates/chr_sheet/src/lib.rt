@@ -39,6 +39,6 @@ pub use judging::{Judgements, Watch, judge};
 pub use not_whole::{NotWhole, Several};
 pub use others::Others;
 pub use reading::read;
-pub use reporting::{Reported, report};
+pub use reporting::{Reported, report, report_next};
 pub use row::Row;
 pub use trials::Trials;

@@ -1,5 +1,7 @@
 //! Judgements that aren't whole, one after another.
-ghost use Rattle.std.specs.Prelude.{◌≡◌, length};
+ghost use Rattle.std.specs.Prelude.{◌≡◌, ◌≢◌, length};
+ghost use Rattle.std.specs.List.{AllByRecursion};
+ghost use Rattle.chr_search.specs.declared.judged.Verdict.TheVariants as verdicts;
 ghost use Rattle.chr_sheet.specs.Others.{others_at};
 ghost use Rattle.chr_sheet.specs.Rows.{AreRight};
 
@@ -16,9 +18,10 @@ pub enum Others<A: Allocator> {
 }
 
 impl<A: Allocator + Copy> Others<A> {
-    /// Nothing. For proofs, the verdicts are the right ones.
+    /// Nothing. For proofs, the verdicts are the right ones, and none is that a trial is whole.
     pub(crate) fn are_right(&self)
-        ensures { AreRight (others_at self.now) }
+        ensures right { AreRight (others_at self.now) }
+        ensures other { AllByRecursion (λ j. j.verdict ≢ verdicts.Whole) (others_at self.now) }
     {
         match self {
             Others::One(judged) => {

@@ -6,15 +6,15 @@ ghost use Rattle.chr_search.specs.Judged.{IsVerdict};
 ghost use Rattle.chr_plan.specs.Plans.{ArePlans};
 ghost use Rattle.chr_search.specs.Fronts.{MayEnd};
 ghost use Rattle.chr_search.specs.Positions.{just_after};
-ghost use Rattle.chr_search.specs.Trials.{Space, older, IsNext};
+ghost use Rattle.chr_search.specs.Trials.{Space, older, IsNext, IsTrial};
 ghost use Rattle.chr_search.specs.Verdicts.{IsTrialOf, position};
 ghost use Rattle.chr_sheet.specs.Others.{others_at};
 ghost use Rattle.chr_rule.specs.Rules.{rule_at};
 ghost use Rattle.chr_sheet.specs.Columns.{column_trials};
 ghost use Rattle.chr_sheet.specs.Alone.{IsAloneIn, IsAloneOf, place_past};
-ghost use Rattle.chr_sheet.specs.Rows.{judged_part, misfit, trials_of};
+ghost use Rattle.chr_sheet.specs.Rows.{judged_part, judgements_of, misfit, trials_of};
 ghost use Rattle.chr_sheet.specs.Settings.{space_in, HasPlans};
-ghost use Rattle.chr_sheet.specs.Sheets.{IsFireable, IsFrontOf, Reports, place_after};
+ghost use Rattle.chr_sheet.specs.Sheets.{AreNextInOrder, IsFireable, IsFrontOf, Reports, after_all, place_after};
 
 use crate::column::{Column, rule_of};
 use crate::judging::Judgements;
@@ -360,5 +360,75 @@ pub fn report<A: Allocator + Copy>(
     Reported {
         count,
         whole_is_next: is_fireable(search, judgements, &setting),
+    }
+}
+
+/// Moves a search past the last trial of a row, which is a misfit.
+fn go_past_row<A: Allocator + Copy>(search: &mut Search, row: &Row<A>)
+    ensures label { search.new.label ≡ search.old.label }
+    ensures place { (place : List ℕ) → search.new.place ≡ after_all place (map misfit (trials_of row.now)) }
+{
+    let Some((last, _)) = row.lasts().split_last() else {
+        return;
+    };
+    search.go_past(row.part(), last.label);
+}
+
+/// Moves a search past the last trial of a column, which is a misfit.
+fn go_past_column<A: Allocator + Copy>(search: &mut Search, column: &Column<A>)
+    requires { (s : Space) × (s.active ≡ search.old.label) × IsTrial s (position column.now.first) }
+    ensures label { search.new.label ≡ search.old.label }
+    ensures place { (place : List ℕ) → search.new.place ≡ after_all place (map misfit (column_trials column.now)) }
+{
+    let (number, head) = column.last();
+    search.go_past_alone(number, head);
+}
+
+/// Moves a search past judgements that are kept in one place, as if each of their trials had come next.
+fn go_past_some<A: Allocator + Copy>(search: &mut Search, some: &Others<A>)
+    requires { (s : Space) × (s.active ≡ search.old.label) × AllByRecursion (λ j. IsTrial s (position j.trial)) (others_at some.now) }
+    ensures label { search.new.label ≡ search.old.label }
+    ensures place { (place : List ℕ) → search.new.place ≡ after_all place (others_at some.now) }
+{
+    match some {
+        Others::One(one) => search.advance_by(one.trial(), one.verdict()),
+        Others::Several(several) => match several.trials() {
+            Trials::One(one) => search.advance_by(one, Verdict::Part),
+            Trials::Row(row) => go_past_row(search, row),
+            Trials::Branch(row) => go_past_row(search, row),
+            Trials::Column(column) => go_past_column(search, column),
+        },
+    }
+}
+
+/// Moves a search over judged trials as [`report`] does, where they are known to come next one after another. It looks for none
+/// of them.
+pub fn report_next<A: Allocator + Copy>(
+    search: &mut Search,
+    judgements: &Judgements<A>,
+    program: &Program<A>,
+    plans: &Plans<A>,
+    store: &Store<A>,
+) -> Reported
+    requires plans { ArePlans program.now plans.now }
+    requires next { AreNextInOrder (older program.now plans.now store.now.entries search.old.label) search.old.place (map (λ j. j.trial) (judgements_of judgements.now)) }
+    ensures label { search.new.label ≡ search.old.label }
+    ensures reports { Reports (older program.now plans.now store.now.entries search.old.label) search.old.place judgements.now.others result.count search.new.place }
+    ensures right { AllByRecursion (λ j. IsVerdict j.trial j.verdict) judgements.now.others }
+    ensures whole { IsFireable (older program.now plans.now store.now.entries search.old.label) search.new.place judgements.now.whole result.whole_is_next }
+{
+    // For the proof: the rules are valid, and the store is one of labels.
+    let _rules = program.rules();
+    let _given = store.next_label();
+    let mut count = 0;
+    for some in judgements.others() {
+        // For the proof: the verdicts are the right ones.
+        some.are_right();
+        go_past_some(search, some);
+        count += some.len();
+    }
+    Reported {
+        count,
+        whole_is_next: judgements.whole().is_some(),
     }
 }
