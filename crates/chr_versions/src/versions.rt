@@ -180,13 +180,9 @@ impl<J: Naming, E> Versions<J, E> {
         let mut seen = self.seen.again();
         let mut offer: Offer<E, u64, Law, Add> = seen.plain::<Add, E, Add>(value);
         let mut pen = seen.no_pen();
-        let found = self.head.compare_exchange::<Add, Add>(
-            count,
-            count + 1,
-            &mut seen,
-            &mut offer,
-            &mut pen,
-        );
+        let found = self
+            .head
+            .compare_exchange::<Add, Add>(count, count + 1, &mut seen, &mut offer, &mut pen);
         if found != count {
             return false;
         }

@@ -25,7 +25,7 @@ loop-some-preserved g c =
     let more = subst (λ a. Reports (older c.args.program.now c.args.plans.now c.args.store.now.entries a) mid here c.pass_some-count.result after) c.loop-some.invariant.label c.pass_some-count.ensures.reports in
     record {
       all = c.loop-some.invariant.all;
-      right = subst (AllByRecursion (λ j. IsVerdict j.trial j.verdict)) (sym step) (all_both (λ (j : Judgement). IsVerdict j.trial j.verdict) before here c.loop-some.invariant.right c.are_right.ensures);
+      right = subst (AllByRecursion (λ j. IsVerdict j.trial j.verdict)) (sym step) (all_both (λ (j : Judgement). IsVerdict j.trial j.verdict) before here c.loop-some.invariant.right c.are_right.ensures.right);
       label = c.pass_some-count.ensures.label ∙ c.loop-some.invariant.label;
       reports = subst (λ js. Reports s c.args.search.now.place js (c.loop-some.count + c.pass_some-count.result) after) (sym step) (reports_both s c.args.search.now.place mid after before here c.loop-some.count c.pass_some-count.result c.loop-some.invariant.reports more);
     }
