@@ -59,6 +59,12 @@ formed_there b l store k same labelled scoped place trial h =
     formed (space_of b l) trial is.order store k.plans same labelled (rule_there b.rules trial.number trial.rule scoped is.rule_is) (from_one b.rules trial.number trial.rule is.rule_is) (head_from_one (orders_at b.plans trial.number) trial.head is.order is.order_is)
     (parts (space_of b l) trial.number trial.head (labels trial) (position trial) trial.rule is.order refl (next_trial (space_of b l) place (position trial) h.0) is.rule_is is.order_is) is.heads_are is.live
 
+-- a search has moved over judgements, as a report of them says
+pub moves_in : (b now : BookState) (s after : SearchState) (store : LabelledStore) (sheet : JudgedSheet) (count : ℕ) (told : Bool) → b ≡ now → IsKept b → store.entries ≡ b.store → IsLabelled store → AllByRecursion IsRule b.rules → MatchOption sheet.whole ⊤ (λ w. w.verdict ≡ Whole)
+    → after.label ≡ s.label → Reports (space_of b s.label) s.place sheet.others count after.place → IsFireable (space_of b s.label) after.place sheet.whole told → MovesOver now s after sheet count told
+moves_in b now s after store sheet count told is kept same labelled scoped whole label moved tells =
+    subst (λ (n : BookState). MovesOver n s after sheet count told) is (record { label = label; formed = formed_there b s.label store kept same labelled scoped; whole = whole; moved = moved; tells = tells })
+
 -- ---- where a search has gone on
 
 -- the book after so many judgements, where the search is at a place

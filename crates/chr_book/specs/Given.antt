@@ -1,5 +1,5 @@
 -- Whether a trial is the next one, and what is reported and fired then.
-use Rattle.std.specs.Prelude.{⊤, ◌≡◌, ◌≢◌, ◌⊎◌, ℕ, Bool, true, false, List, Option, Some, None, MatchOption, Result, Ok, Err}
+use Rattle.std.specs.Prelude.{⊤, ◌≡◌, ◌≢◌, ◌⊎◌, ℕ, Bool, true, false, List, map, Option, Some, None, MatchOption, Result, Ok, Err}
 use Rattle.chr_search.specs.Reach.{SearchState}
 use Rattle.chr_search.specs.Trials.{Space}
 use Rattle.chr_search.specs.Verdicts.{Trial, IsFormed}
@@ -12,7 +12,7 @@ use Rattle.chr_calls.specs.Turns.{Turn, Next}
 use Rattle.chr_calls.specs.Books.{BookState, space_of}
 use Rattle.chr_calls.specs.Calls.{HoldsLive, HoldsCandidate, IsNextTrial, Turns, FiresOrMisses, with_candidate_of}
 use Rattle.chr_sheet.specs.Rows.{JudgedSheet, judgements_of}
-use Rattle.chr_sheet.specs.Sheets.{Reports, IsFireable}
+use Rattle.chr_sheet.specs.Sheets.{Reports, IsFireable, AreNextInOrder}
 use Rattle.chr_sheet.specs.Sheets as sheets
 use Rattle.chr_calls.specs.Batches.{Following, Follows, IsLastOf, ReportsAll}
 
@@ -35,6 +35,10 @@ IsAskedNext b seat t trial (Some false) = (other : Trial) × (other ≢ trial) �
 -- the trials that come next in a search are formed
 abbrev pub AreFormed : Space → Type 0
 AreFormed s = (place : List ℕ) (trial : Trial) → sheets.IsNextTrial s place trial → IsFormed trial
+
+-- the judged trials come next one after another in a search of a label over the book's store
+abbrev pub AreNextIn : BookState → SearchState → List Judgement → Type 0
+AreNextIn b s js = AreNextInOrder (space_of b s.label) s.place (map (λ j. j.trial) js)
 
 -- A search has moved over the judgements of a sheet that aren't whole: so many were reported; and whether there is one that is
 -- whole, and of the trial that is next then.

@@ -1,15 +1,16 @@
 //! The calls that make several lines of the table at once.
+ghost use Rattle.std.specs.Prelude.{◌≡◌, true, IfSome};
 ghost use Rattle.std.specs.List.{AllByRecursion};
 ghost use Rattle.chr_search.specs.Judged.{IsVerdict};
 ghost use Rattle.chr_calls.specs.Batches.{ClaimsSheet, ReportsBatch, ReportsSheet, claimed_of, following_of, report_of};
 ghost use Rattle.chr_sheet.specs.Rows.{judgements_of};
-ghost use Rattle.chr_book.specs.Given.{FollowsWith, GivesOrDrops, IsAskedNext, IsReported, MovesOver, TellsWhole};
+ghost use Rattle.chr_book.specs.Given.{AreNextIn, FollowsWith, GivesOrDrops, IsAskedNext, IsReported, MovesOver, TellsWhole};
 
 use crate::book::Book;
 use chr_calls::{BatchReport, ClaimFault, Firing, Following, Sheet, SheetReport, TurnFault};
 use chr_rule::Program;
 use chr_search::{Judged, Search, Trial, Verdict};
-use chr_sheet::{Judgements, Reported, report};
+use chr_sheet::{Judgements, Reported, report, report_next};
 use std::alloc::Allocator;
 
 impl<A: Allocator + Copy> Book<A> {
@@ -55,8 +56,15 @@ impl<A: Allocator + Copy> Book<A> {
         }
     }
 
-    /// Moves a search over judged trials in order, where each is the next one in its turn. It takes no memory.
-    fn move_search(&self, search: &mut Search, judgements: &Judgements<A>) -> Reported
+    /// Moves a search over judged trials in order, where each is the next one in its turn, which may be known of all. It takes no
+    /// memory.
+    fn move_search(
+        &self,
+        search: &mut Search,
+        judgements: &Judgements<A>,
+        are_next: bool,
+    ) -> Reported
+        requires { are_next ≡ true → AreNextIn self.now search.old (judgements_of judgements.now) }
         ensures moves { MovesOver self.now search.old search.new judgements.now result.count result.whole_is_next }
         ensures right { AllByRecursion (λ j. IsVerdict j.trial j.verdict) judgements.now.others }
     {
@@ -65,12 +73,22 @@ impl<A: Allocator + Copy> Book<A> {
         let _rules = program.rules();
         let _label = self.store.next_label();
         let _whole = judgements.whole();
+        if are_next {
+            return report_next(search, judgements, program, &self.plans, &self.store);
+        }
         report(search, judgements, program, &self.plans, &self.store)
     }
 
     /// Moves the ticket's search over judged trials as [`report_batch`](Book::report_batch) does, but doesn't ask for the next one.
-    /// It takes no memory.
-    fn move_over(&mut self, seat: u32, ticket: u64, judgements: &Judgements<A>) -> Reported
+    /// Where they are known to come next in a search, and that is the ticket's, none is looked for. It takes no memory.
+    fn move_over(
+        &mut self,
+        seat: u32,
+        ticket: u64,
+        judgements: &Judgements<A>,
+        known: Option<&Search>,
+    ) -> Reported
+        requires { IfSome known (λ search. AreNextIn self.old search.now (judgements_of judgements.now)) }
         ensures { IsReported self.old seat ticket judgements.now result.count result.whole_is_next self.new }
     {
         let Some(held) = self.held(seat, ticket) else {
@@ -79,8 +97,12 @@ impl<A: Allocator + Copy> Book<A> {
                 whole_is_next: false,
             };
         };
+        let are_next = match known {
+            Some(known) => held.is_same(known),
+            None => false,
+        };
         let mut search = held.copy();
-        let reported = self.move_search(&mut search, judgements);
+        let reported = self.move_search(&mut search, judgements, are_next);
         if reported.count == 0 {
             return reported;
         }
@@ -97,7 +119,7 @@ impl<A: Allocator + Copy> Book<A> {
     ) -> BatchReport<A>
         ensures { ReportsBatch self.old seat ticket (judgements_of judgements.now) (report_of result) self.new }
     {
-        let reported = self.move_over(seat, ticket, judgements).count;
+        let reported = self.move_over(seat, ticket, judgements, None).count;
         BatchReport {
             reported,
             next: self.trial(seat, ticket),
@@ -157,20 +179,23 @@ impl<A: Allocator + Copy> Book<A> {
 
     /// Reports judgements as [`report_all`](Book::report_all) does, and makes the call that follows for what comes next: the last
     /// judged trial, where it is whole, is fired; another trial is given with those after it, at most so many together; and where
-    /// none is left, or the goal's label has left the store, the goal is dropped.
+    /// none is left, or the goal's label has left the store, the goal is dropped. A search may be known in which their trials come
+    /// next one after another: where that is the ticket's, none of them is looked for.
     pub fn report_sheet(
         &mut self,
         seat: u32,
         ticket: u64,
         judgements: &Judgements<A>,
+        known: Option<&Search>,
         most: usize,
     ) -> SheetReport<A>
+        requires { IfSome known (λ search. AreNextIn self.old search.now (judgements_of judgements.now)) }
         ensures { ReportsSheet self.old seat ticket most (judgements_of judgements.now) result.reported (following_of result.following) self.new }
     {
         let Reported {
             count,
             whole_is_next,
-        } = self.move_over(seat, ticket, judgements);
+        } = self.move_over(seat, ticket, judgements, known);
         SheetReport {
             reported: count,
             following: self.follow(seat, ticket, most, judgements, whole_is_next),

@@ -1,4 +1,4 @@
-use Rattle.std.proofs.Common.{rules, inr, ◌≡◌, ◌≢◌, ◌+◌, Some, None, true, false, drop, sym, ap, ◌∙◌, arith}
+use Rattle.std.proofs.Common.{inr, ◌≡◌, ◌≢◌, ◌+◌, Some, None, true, false, drop, sym, ap, ◌∙◌, arith}
 use Rattle.std.proofs.lemmas.List.{drop_all}
 use Rattle.chr_search.specs.declared.judged.Verdict.TheVariants.{Whole}
 use Rattle.chr_calls.specs.Turns.{turn_of}
