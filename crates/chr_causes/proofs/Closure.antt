@@ -2,16 +2,19 @@
 use Rattle.std.proofs.Common.{◌≡◌, ℕ, zero, suc, ◌+◌, ◌-◌, ◌<◌, ◌≤◌, ◌⊎◌, inl, inr, Bool, true, false, ◌||◌, ◌==◌, true≢false, List, [], ◌∷◌, ◌++◌, length, take, drop, get_or, set, slice_get, replicate, Some, refl, sym, ◌∙◌, ap, subst, arith, true-eqb, get_or-set_other, get_or-set_same}
 use Rattle.std.proofs.Math.ListN.{length-set, length-replicate}
 use Rattle.std.proofs.Math.Seq.{take-append_seam}
+use Rattle.std.proofs.lemmas.List.{length-map}
 use Rattle.std.proofs.lemmas.Option.{slice_get-get_or, slice_get_within}
 use Rattle.std.proofs.lemmas.Bool.Decides.{nat_tests}
 use Rattle.chr_rule.specs.Rules.{Simpagation}
-use Rattle.chr_log.specs.Events.{Event}
+use Rattle.chr_log.specs.declared.events.Event.{Event as CodeEvent}
+use Rattle.chr_log.specs.Events.{Event, event_of, events_of}
 use Rattle.chr_model.specs.Stores.{among}
 use Rattle.chr_model.proofs.Stores.{among-itself, among-more}
 use Rattle.chr_causes.specs.declared.origins.Origin.{Origin}
 use Rattle.chr_causes.specs.Origins.{IsLawful, IsOrigin, AreOrigins}
 use Rattle.chr_causes.specs.Causes.{heads_of, IsHeadFor, IsCause, itself, head}
 use Rattle.chr_causes.specs.Marks.{AreWithin, Adds, AreMarks}
+use Rattle.chr_causes.proofs.Tracing.{event_read}
 use Rattle.chr_causes.proofs.OneOrigin.{one_origin, head_below}
 
 -- Only causes are marked, the label is, and so is each head for a marked label of which the place isn't below.
@@ -76,7 +79,7 @@ module _ (rules : List (Simpagation ℕ)) (log : List (Event ℕ)) (lawful : IsL
   head_by h has = record { origin = o; from = from; event = e; there = there; has = has }
 
   -- all heads for the label have places
-  pub all_within : (n : ℕ) → p < n → AreWithin n (heads_of e)
+  all_within : (n : ℕ) → p < n → AreWithin n (heads_of e)
   all_within n lt = heads_within n (heads_of e) (λ h has. (let b = head_below rules log lawful (p + 1) h (head_by h has) in (b.0, omega (arith, b.1, lt))))
 
   head_has : (h : ℕ) → IsHeadFor rules log (p + 1) h → among (heads_of e) h ≡ true
@@ -87,7 +90,7 @@ module _ (rules : List (Simpagation ℕ)) (log : List (Event ℕ)) (lawful : IsL
       subst (λ x. among (heads_of x) h ≡ true) event hd.has
 
   -- its heads are marked
-  pub traced_marked : (old new : List Bool) → get_or old p false ≡ true → Adds (heads_of e) old new → Traced rules log label (p + 1) old → Traced rules log label p new
+  traced_marked : (old new : List Bool) → get_or old p false ≡ true → Adds (heads_of e) old new → Traced rules log label (p + 1) old → Traced rules log label p new
   traced_marked old new here adds t = record {
     places = adds.places ∙ t.places;
     first = adds.marks (label - 1) ∙ or_left (get_or old (label - 1) false) _ t.first;
@@ -149,10 +152,24 @@ module _ (rules : List (Simpagation ℕ)) (log : List (Event ℕ)) (lawful : IsL
 pub origin_read : (rules : List (Simpagation ℕ)) (log : List (Event ℕ)) (origins : List Origin) (p : ℕ) (d : Origin) → AreOrigins rules log origins → p < length origins → IsOrigin rules log (p + 1) (get_or origins p d)
 origin_read rules log origins p d all lt = all.each p (get_or origins p d) (slice_get-get_or origins p d lt)
 
-pub made_within : (rules : List (Simpagation ℕ)) (log : List (Event ℕ)) (origins : List Origin) (p : ℕ) (d : Origin) → AreOrigins rules log origins → p < length origins → (get_or origins p d).made < length log
-made_within rules log origins p d all lt =
-    let from = origin_read rules log origins p d all lt in
-    slice_get_within log (get_or origins p d).made from.makes.event from.makes.there
+pub made_within : {Z : Type 0} (rules : List (Simpagation ℕ)) (events : List (CodeEvent Z)) (origins : List Origin) (p : ℕ) (d : Origin) → AreOrigins rules (events_of events) origins → p < length origins → (get_or origins p d).made < length events
+made_within rules events origins p d all lt =
+    let makes = (origin_read rules (events_of events) origins p d all lt).makes in
+    omega (arith, slice_get_within (events_of events) (get_or origins p d).made makes.event makes.there, length-map events event_of)
+
+-- the heads of the event that made a label's goal, as it was read
+module _ {Z : Type 0} (rules : List (Simpagation ℕ)) (events : List (CodeEvent Z)) (lawful : IsLawful rules (events_of events)) (label : ℕ) (origins : List Origin) (p : ℕ) (d : Origin) (x : CodeEvent Z) (all : AreOrigins rules (events_of events) origins) (lt : p < length origins) (is : x ≡ get_or events (get_or origins p d).made x) where
+  from : IsOrigin rules (events_of events) (p + 1) (get_or origins p d)
+  from = origin_read rules (events_of events) origins p d all lt
+
+  there : slice_get (events_of events) (get_or origins p d).made ≡ Some (event_of x)
+  there = event_read events (get_or origins p d).made x (made_within rules events origins p d all lt) is
+
+  pub heads_fit : (n : ℕ) → p < n → AreWithin n (heads_of (event_of x))
+  heads_fit = all_within rules (events_of events) lawful label p (get_or origins p d) (event_of x) from there
+
+  pub heads_traced : (old new : List Bool) → get_or old p false ≡ true → Adds (heads_of (event_of x)) old new → Traced rules (events_of events) label (p + 1) old → Traced rules (events_of events) label p new
+  heads_traced = traced_marked rules (events_of events) lawful label p (get_or origins p d) (event_of x) from there
 
 -- what is written back
 pub taken_back : (new old : List Bool) (n : ℕ) → length new ≡ n → take n (new ++ drop (length new) old) ≡ new

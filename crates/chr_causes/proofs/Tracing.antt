@@ -63,7 +63,8 @@ ticket_within rules log lawful place t l n there count =
     let fit : Fits rules (take place log) (Activate t l) = event_fits rules log lawful place (Activate t l) there in
     (fit.0, omega (arith, fit.0, fit.1, count))
 
-get_push : {X : Type 0} (xs : List X) (y : X) (k : ℕ) (x : X) → slice_get (xs ++ y ∷ []) k ≡ Some x → (slice_get xs k ≡ Some x) ⊎ ((k ≡ length xs) × (y ≡ x))
+-- one element more
+pub get_push : {X : Type 0} (xs : List X) (y : X) (k : ℕ) (x : X) → slice_get (xs ++ y ∷ []) k ≡ Some x → (slice_get xs k ≡ Some x) ⊎ ((k ≡ length xs) × (y ≡ x))
 get_push [] y zero x h = inr (refl, cc)
 get_push [] y (suc k) x h = absurd (cc)
 get_push (z ∷ zs) y zero x h = inl h

@@ -1,11 +1,9 @@
 use Rattle.std.proofs.Common.{◌≡◌, ◌+◌, ◌-◌, List, Bool, true, false, length, slice_set, slice_index_or, sym, ap, subst, ◌∙◌, arith}
-use Rattle.std.proofs.lemmas.List.{length-map}
 use Rattle.chr_log.specs.Events.{event_of, events_of}
 use Rattle.chr_causes.specs.declared.origins.Origin.{Origin}
 use Rattle.chr_causes.specs.Causes.{heads_of}
 use Rattle.chr_causes.specs.Marks.{Adds}
-use Rattle.chr_causes.proofs.Tracing.{event_read}
-use Rattle.chr_causes.proofs.Closure.{Traced, traced_first, origin_read, made_within, all_within, traced_marked, traced_passed, traced_all, taken_back, mark_read}
+use Rattle.chr_causes.proofs.Closure.{Traced, traced_first, made_within, heads_fit, heads_traced, traced_passed, traced_all, taken_back, mark_read}
 use Rattle.chr_causes.proofs.causes.mark_causes.Goals as goal
 
 abbrev no_origin : Origin
@@ -17,24 +15,15 @@ loop-place-init g c =
     (ap (λ (bs : List Bool). slice_set bs (c.args.label - 1) true) (c.in_ok-marks.ensures.items_if_clones_equal (λ y h. h)))
 
 pub bounds-events-origins : goal.bounds-events-origins
-bounds-events-origins g c =
-    omega (arith, made_within c.args.program.now (events_of c.args.events.now) c.args.origins.now (c.loop-place.place - 1) no_origin c.requires.origins (omega arith), length-map c.args.events.now (event_of {Z = g.row.A.Denot}))
+bounds-events-origins g c = made_within c.args.program.now c.args.events.now c.args.origins.now (c.loop-place.place - 1) no_origin c.requires.origins (omega arith)
 
 pub offset_bounds-events-origins : goal.offset_bounds-events-origins
 offset_bounds-events-origins g c =
-    omega (arith, made_within c.args.program.now (events_of c.args.events.now) c.args.origins.now (c.loop-place.place - 1) no_origin c.requires.origins (omega arith), length-map c.args.events.now (event_of {Z = g.row.A.Denot}))
+    omega (arith, made_within c.args.program.now c.args.events.now c.args.origins.now (c.loop-place.place - 1) no_origin c.requires.origins (omega arith))
 
 pub mark_heads-requires : goal.mark_heads-requires
 mark_heads-requires g c =
-    let rules = c.args.program.now in
-    let log = events_of c.args.events.now in
-    let p = c.loop-place.place - 1 in
-    let o = slice_index_or c.args.origins.now p no_origin in
-    let event = c.index-events-origins.result in
-    let from = origin_read rules log c.args.origins.now p no_origin c.requires.origins (omega arith) in
-    let lt = made_within rules log c.args.origins.now p no_origin c.requires.origins (omega arith) in
-    let there = event_read c.args.events.now o.made event (omega (arith, lt, length-map c.args.events.now (event_of {Z = g.row.A.Denot}))) c.index-events-origins.is in
-    all_within rules log c.requires.lawful c.args.label p o (event_of event) from there (length c.deref_mut.result.now)
+    heads_fit c.args.program.now c.args.events.now c.requires.lawful c.args.label c.args.origins.now (c.loop-place.place - 1) no_origin c.index-events-origins.result c.requires.origins (omega arith) c.index-events-origins.is (length c.deref_mut.result.now)
     (omega (arith, ap length c.deref_mut.ensures.value, c.loop-place.invariant.places))
 
 pub loop-place-preserved-then-index : goal.loop-place-preserved-then-index
@@ -42,18 +31,14 @@ loop-place-preserved-then-index g c =
     let rules = c.args.program.now in
     let log = events_of c.args.events.now in
     let p = c.loop-place.place - 1 in
-    let o = slice_index_or c.args.origins.now p no_origin in
     let event = c.index-events-origins.result in
-    let from = origin_read rules log c.args.origins.now p no_origin c.requires.origins (omega arith) in
-    let lt = made_within rules log c.args.origins.now p no_origin c.requires.origins (omega arith) in
-    let there = event_read c.args.events.now o.made event (omega (arith, lt, length-map c.args.events.now (event_of {Z = g.row.A.Denot}))) c.index-events-origins.is in
     let place : c.loop-place.place ≡ p + 1 = omega arith in
     let old = c.loop-place.marks.items in
     let new = c.mark_heads.new.marks in
     let adds : Adds (heads_of (event_of event)) old new = subst (λ (bs : List Bool). Adds (heads_of (event_of event)) bs new) c.deref_mut.ensures.value c.mark_heads.ensures in
     let here : slice_index_or old p false ≡ true = mark_read old p c.index.result.now true (omega (arith, c.loop-place.invariant.places)) c.if-index.true c.index.ensures in
     subst (Traced rules log c.args.label p) (sym (taken_back new old c.loop-place.marks.len (adds.places ∙ sym c.loop-place.marks.ok.0)))
-    (traced_marked rules log c.requires.lawful c.args.label p o (event_of event) from there old new here adds
+    (heads_traced rules c.args.events.now c.requires.lawful c.args.label c.args.origins.now p no_origin event c.requires.origins (omega arith) c.index-events-origins.is old new here adds
     (subst (λ n. Traced rules log c.args.label n old) place c.loop-place.invariant))
 
 pub loop-place-preserved : goal.loop-place-preserved
