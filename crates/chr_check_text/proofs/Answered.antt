@@ -1,5 +1,5 @@
 -- What the check of three texts answers.
-use Rattle.std.proofs.Common.{◌≡◌, ◌≢◌, ◌↔◌, ℕ, zero, suc, List, [], Result, Ok, Err, IsOk, refl, sym, ap, subst, ◌∙◌, arith}
+use Rattle.std.proofs.Common.{◌≡◌, ◌≢◌, ℕ, zero, suc, List, [], Result, Ok, Err, IsOk, refl, sym, ap, subst, ◌∙◌, arith}
 use Rattle.std.proofs.lemmas.Option.{slice_get_within}
 use Rattle.chr_value.specs.Naming.{Table}
 use Rattle.chr_value.specs.Atoms.{Atom}
@@ -11,7 +11,6 @@ use Rattle.chr_log_text.specs.Parts.{IsLogInParts, HasLogPartFault}
 use Rattle.chr_log_text.specs.declared.fault.PartFault.{PartFault}
 use Rattle.chr_log_text.specs.declared.fault.TextFault.{TextFault}
 use Rattle.chr_log_text.specs.declared.fault.TextFault.TheVariants as text_faults
-use Rattle.chr_model.specs.Abstract.{Rules}
 use Rattle.chr_model.specs.Stores.{Store}
 use Rattle.chr_model.specs.Programs.{Instances}
 use Rattle.chr_text.specs.Reading.{program_of}
@@ -20,47 +19,44 @@ use Rattle.chr_check.specs.declared.checking.Verdict.TheVariants.{RunAndFinal}
 use Rattle.chr_check.specs.declared.fault.CheckFault.{CheckFault}
 use Rattle.chr_check.specs.declared.fault.CheckError.{CheckError}
 use Rattle.chr_check.specs.declared.fault.CheckError.TheVariants.{NoMemory, NotARun}
-use Rattle.chr_check.specs.Faults.{IsFirstFault, IsRun, IsFinalRun}
+use Rattle.chr_check.proofs.Checked.{Answers}
 use Rattle.chr_check_text.specs.declared.checked.Checked.{Checked}
-use Rattle.chr_check_text.specs.CheckTexts.{IsAnswer, IsTold, IsChecked, IsUnread}
+use Rattle.chr_check_text.specs.CheckTexts.{check_of, IsAnswer, IsTold, IsChecked, IsUnread}
 use Rattle.chr_check_text.specs.CheckParts.{fault_of, log_fault, store_fault, whole_fault, IsPartsChecked, IsPartsUnread}
 use Rattle.chr_check_text.specs.declared.checked.CheckPartsFault.{CheckPartsFault}
 use Rattle.chr_check_text.specs.declared.checked.CheckPartsFault.TheVariants as parts_faults
 
-abbrev answer : CheckError → Result Verdict CheckError
-answer e = Err e
+abbrev said : Verdict → Result Verdict CheckError
+said verdict = Ok verdict
 
 abbrev refusal : CheckFault → Result Verdict CheckError
-refusal f = answer (NotARun f)
+refusal f = Err (NotARun f)
 
--- a refusal
-pub refused : (v : Version) (I : Rules) (log : List (Event ℕ)) (store : Store) (f : CheckFault)
-    → (refusal f ≢ Err NoMemory → (IsOk (refusal f) ↔ IsRun v I log store))
-    → (refusal f ≢ Err NoMemory → ((refusal f ≡ Ok RunAndFinal) ↔ IsFinalRun v I log store))
-    → ((g : CheckFault) → refusal f ≢ Err NoMemory → ((refusal f ≡ Err (NotARun g)) ↔ IsFirstFault v I log store g))
-    → IsAnswer v I log store (Err f)
-refused v I log store f run final_run fault =
+-- what a check answers, where it had memory
+answered : (v : Version) (rules : List (Simpagation ℕ)) (log : List (Event ℕ)) (store : Store) (answer : Result Verdict CheckFault) → Answers v rules log store (check_of answer) → IsAnswer v (Instances rules) log store answer
+answered v rules log store (Ok verdict) a =
+    let had_memory : check_of (Ok verdict) ≢ Err NoMemory = λ e. absurd (cc) in
+    record {
+      run = a.run had_memory;
+      final_run = (
+        λ e. (let same : verdict ≡ RunAndFinal = cc in (a.final_run had_memory).0 (ap said same)),
+        λ r. (let e : said verdict ≡ said RunAndFinal = (a.final_run had_memory).1 r in cc),
+      );
+      fault = λ f. (λ e. absurd (cc), λ h. (let e : said verdict ≡ refusal f = (a.fault f had_memory).1 h in absurd (cc)));
+    }
+answered v rules log store (Err f) a =
     let had_memory : refusal f ≢ Err NoMemory = λ e. absurd (cc) in
     record {
-      run = (λ ok. absurd (cc), λ r. (let ok : IsOk (refusal f) = (run had_memory).1 r in absurd (cc)));
-      final_run = (λ e. absurd (cc), λ r. (let e : refusal f ≡ Ok RunAndFinal = (final_run had_memory).1 r in absurd (cc)));
+      run = (λ ok. absurd (cc), λ r. (let ok : IsOk (refusal f) = (a.run had_memory).1 r in absurd (cc)));
+      final_run = (λ e. absurd (cc), λ r. (let e : refusal f ≡ said RunAndFinal = (a.final_run had_memory).1 r in absurd (cc)));
       fault = λ g. (
-        λ e. (let same : f ≡ g = cc in (fault g had_memory).0 (ap refusal same)),
-        λ h. (let e : refusal f ≡ refusal g = (fault g had_memory).1 h in cc),
+        λ e. (let same : f ≡ g = cc in (a.fault g had_memory).0 (ap refusal same)),
+        λ h. (let e : refusal f ≡ refusal g = (a.fault g had_memory).1 h in cc),
       );
     }
 
--- the same of an error that is a refusal
-pub refused_by : (v : Version) (I : Rules) (log : List (Event ℕ)) (store : Store) (error : CheckError) (f : CheckFault) → error ≡ NotARun f
-    → (answer error ≢ Err NoMemory → (IsOk (answer error) ↔ IsRun v I log store))
-    → (answer error ≢ Err NoMemory → ((answer error ≡ Ok RunAndFinal) ↔ IsFinalRun v I log store))
-    → ((g : CheckFault) → answer error ≢ Err NoMemory → ((answer error ≡ Err (NotARun g)) ↔ IsFirstFault v I log store g))
-    → IsAnswer v I log store (Err f)
-refused_by v I log store error f is run final_run fault =
-    refused v I log store f
-    (subst (λ e. answer e ≢ Err NoMemory → (IsOk (answer e) ↔ IsRun v I log store)) is run)
-    (subst (λ e. answer e ≢ Err NoMemory → ((answer e ≡ Ok RunAndFinal) ↔ IsFinalRun v I log store)) is final_run)
-    (subst (λ e. (g : CheckFault) → answer e ≢ Err NoMemory → ((answer e ≡ Err (NotARun g)) ↔ IsFirstFault v I log store g)) is fault)
+pub answered_by : (v : Version) (rules : List (Simpagation ℕ)) (log : List (Event ℕ)) (store : Store) (answer : Result Verdict CheckFault) (checked : Result Verdict CheckError) → checked ≡ check_of answer → Answers v rules log store checked → IsAnswer v (Instances rules) log store answer
+answered_by v rules log store answer checked is a = answered v rules log store answer (subst (Answers v rules log store) is a)
 
 -- the log has a fault
 fault_unread : (program first : List ℕ) (more : List (List ℕ)) (store : List ℕ) (part : PartFault) (fault : TextFault) (rules : List (Simpagation ℕ)) (table : List (List ℕ)) → part.fault ≡ fault → program_of [] program ≡ Ok (rules, table) → HasLogPartFault table first more part.part part.fault

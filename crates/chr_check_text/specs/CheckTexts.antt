@@ -11,11 +11,18 @@ use Rattle.chr_text.specs.Reading.{program_of, RulesOf}
 use Rattle.chr_check.specs.declared.checking.Verdict.{Verdict}
 use Rattle.chr_check.specs.declared.checking.Verdict.TheVariants.{RunAndFinal}
 use Rattle.chr_check.specs.declared.fault.CheckFault.{CheckFault}
+use Rattle.chr_check.specs.declared.fault.CheckError.{CheckError}
+use Rattle.chr_check.specs.declared.fault.CheckError.TheVariants.{NotARun}
 use Rattle.chr_check.specs.Faults.{IsFirstFault, IsRun, IsFinalRun}
 use Rattle.chr_check_text.specs.declared.checked.Checked.{Checked}
 use Rattle.chr_check_text.specs.declared.checked.CheckTextFault.{CheckTextFault}
 use Rattle.chr_check_text.specs.declared.checked.CheckTextFault.TheVariants as faults
 use Rattle.chr_check_text.specs.Output.{answer_line}
+
+-- what a check says that had memory
+abbrev pub check_of : Result Verdict CheckFault → Result Verdict CheckError
+check_of (Ok verdict) = Ok verdict
+check_of (Err fault) = Err (NotARun fault)
 
 -- What is answered of a log and a store: that the log is a run that ends in the store, exactly where it is one; that
 -- this run is final, exactly where it is; and a fault exactly where it is the first one.

@@ -5,7 +5,7 @@ ghost use Rattle.chr_log.specs.Events.{events_of};
 ghost use Rattle.chr_log_text.specs.Parts.{IsLogInParts};
 ghost use Rattle.chr_model.specs.Programs.{Instances};
 ghost use Rattle.chr_text.specs.Reading.{program_of};
-ghost use Rattle.chr_check_text.specs.CheckTexts.{IsAnswer, IsTold, IsCheckText};
+ghost use Rattle.chr_check_text.specs.CheckTexts.{check_of, IsTold, IsCheckText};
 ghost use Rattle.chr_check_text.specs.CheckParts.{IsCheckParts, log_fault, store_fault, whole_fault};
 
 use crate::writing::written;
@@ -92,18 +92,13 @@ fn whole_fault(fault: CheckPartsFault) -> CheckTextFault
     }
 }
 
-/// What the check of a log answers. An `Err` is E01.
-fn answer_of<A: Allocator + Copy, W: Watch>(
-    alloc: A,
-    program: &Program<A>,
-    version: Version,
-    events: &[Event<A>],
-    store: &[(Label, Atom<A>)],
-    watch: &mut W,
+/// What a check answered. An `Err` is E01.
+fn answer_of(
+    checked: Result<Verdict, CheckError>,
 ) -> Result<Result<Verdict, CheckFault>, AllocError>
-    ensures { IfOk result (IsAnswer version (Instances program.now) (events_of events.now) store.now) }
+    ensures { IfOk result (λ answer. checked ≡ check_of answer) }
 {
-    match watched_check(alloc, program, version, events, store, watch) {
+    match checked {
         Ok(verdict) => Ok(Ok(verdict)),
         Err(CheckError::NotARun(fault)) => Ok(Err(fault)),
         Err(CheckError::NoMemory) => Err(AllocError),
@@ -121,7 +116,7 @@ fn told<A: Allocator + Copy, W: Watch>(
 ) -> Result<Checked<A>, AllocError>
     ensures { IfOk result (IsTold version (Instances program.now) (events_of events.now) store.now) }
 {
-    let answer = answer_of(alloc, program, version, events, store, watch)?;
+    let answer = answer_of(watched_check(alloc, program, version, events, store, watch))?;
     let line = written(alloc, answer)?;
     Ok(Checked { line, answer })
 }
