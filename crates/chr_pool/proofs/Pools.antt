@@ -40,43 +40,38 @@ module _ {T : Type 0} (h : ℕ → ℕ) where
       let e : sum_by h (handle_account w).pushed ≡ sum_by h [] = ap (sum_by h) w.only_taken in
       omega (arith, e, handles_pushed ws, sum_by-append h (handle_account w).pushed (flat_map pushed (map handle_account ws)))
 
-  pub hands_pushed : (hs : List (Hand T))
-      → sum_by h (flat_map pushed (map hand_account hs)) + sum_by h (flat_map pushed (flat_map row_accounts (map hand_handles hs))) + sum_by h (flat_map pushed (map queue_account (map hand_queue hs))) ≡ sum_by h (flat_map hand_pushed hs)
-  hands_pushed [] = refl
-  hands_pushed (x ∷ hs) =
-      let e : sum_by h (queue_account x.queue_handle).pushed ≡ sum_by h [] = ap (sum_by h) x.queue_only_taken in
+  -- what the accounts of each hand have together
+  hands_sum : (f : Account → List ℕ) (of_hand : Hand T → List ℕ)
+      → ((x : Hand T) → sum_by h (f (hand_account x)) + sum_by h (flat_map f (row_accounts x.deque_handles)) + sum_by h (f (queue_account x.queue_handle)) ≡ sum_by h (of_hand x))
+      → (hs : List (Hand T))
+      → sum_by h (flat_map f (map hand_account hs)) + sum_by h (flat_map f (flat_map row_accounts (map hand_handles hs))) + sum_by h (flat_map f (map queue_account (map hand_queue hs))) ≡ sum_by h (flat_map of_hand hs)
+  hands_sum f of_hand each [] = refl
+  hands_sum f of_hand each (x ∷ hs) =
       omega (
         arith,
-        e,
-        hands_pushed hs,
-        handles_pushed x.deque_handles.items,
-        sum_by-append h (hand_account x).pushed (flat_map pushed (map hand_account hs)),
-        weigh_more h pushed (row_accounts x.deque_handles) (flat_map row_accounts (map hand_handles hs)),
-        sum_by-append h (queue_account x.queue_handle).pushed (flat_map pushed (map queue_account (map hand_queue hs))),
-        sum_by-append h (hand_pushed x) (flat_map hand_pushed hs),
+        each x,
+        hands_sum f of_hand each hs,
+        sum_by-append h (f (hand_account x)) (flat_map f (map hand_account hs)),
+        weigh_more h f (row_accounts x.deque_handles) (flat_map row_accounts (map hand_handles hs)),
+        sum_by-append h (f (queue_account x.queue_handle)) (flat_map f (map queue_account (map hand_queue hs))),
+        sum_by-append h (of_hand x) (flat_map of_hand hs),
       )
+
+  hand_pushes : (x : Hand T) → sum_by h (hand_account x).pushed + sum_by h (flat_map pushed (row_accounts x.deque_handles)) + sum_by h (queue_account x.queue_handle).pushed ≡ sum_by h (hand_pushed x)
+  hand_pushes x =
+      let e : sum_by h (queue_account x.queue_handle).pushed ≡ sum_by h [] = ap (sum_by h) x.queue_only_taken in
+      omega (arith, e, handles_pushed x.deque_handles.items)
 
   stolen_is : (ws : List (DequeHandle T)) → sum_by h (flat_map taken (map handle_account ws)) ≡ sum_by h (concat (map stolen ws))
   stolen_is [] = refl
   stolen_is (w ∷ ws) =
       omega (arith, stolen_is ws, sum_by-append h (stolen w) (flat_map taken (map handle_account ws)), sum_by-append h (stolen w) (concat (map stolen ws)))
 
-  pub hands_taken : (hs : List (Hand T))
-      → sum_by h (flat_map taken (map hand_account hs)) + sum_by h (flat_map taken (flat_map row_accounts (map hand_handles hs))) + sum_by h (flat_map taken (map queue_account (map hand_queue hs))) ≡ sum_by h (flat_map hand_taken hs)
-  hands_taken [] = refl
-  hands_taken (x ∷ hs) =
+  hand_takes : (x : Hand T) → sum_by h (hand_account x).taken + sum_by h (flat_map taken (row_accounts x.deque_handles)) + sum_by h (queue_account x.queue_handle).taken ≡ sum_by h (hand_taken x)
+  hand_takes x =
       let rest = concat (map stolen x.deque_handles.items) in
-      omega (
-        arith,
-        hands_taken hs,
-        stolen_is x.deque_handles.items,
-        sum_by-append h (hand_account x).taken (flat_map taken (map hand_account hs)),
-        weigh_more h taken (row_accounts x.deque_handles) (flat_map row_accounts (map hand_handles hs)),
-        sum_by-append h (queue_account x.queue_handle).taken (flat_map taken (map queue_account (map hand_queue hs))),
-        sum_by-append h (hand_taken x) (flat_map hand_taken hs),
-        sum_by-append h (hand_account x).taken ((queue_account x.queue_handle).taken ++ rest),
-        sum_by-append h (queue_account x.queue_handle).taken rest,
-      )
+      let fed = (queue_account x.queue_handle).taken in
+      omega (arith, stolen_is x.deque_handles.items, sum_by-append h (hand_account x).taken (fed ++ rest), sum_by-append h fed rest)
 
   pub inlets_pushed : (is : List (Inlet T)) → sum_by h (flat_map pushed (map queue_account (map inlet_queue is))) ≡ sum_by h (flat_map inlet_pushed is)
   inlets_pushed [] = refl
@@ -99,10 +94,10 @@ module _ {T : Type 0} (h : ℕ → ℕ) where
       omega (arith, a, b, c, d)
 
   pub everyone_pushed : (hs : List (Hand T)) (is : List (Inlet T)) → sum_by h (pushed_of (everyone hs is)) ≡ sum_by h (pool_pushed hs is)
-  everyone_pushed hs is = omega (arith, parts pushed hs is, hands_pushed hs, inlets_pushed is, sum_by-append h (flat_map hand_pushed hs) (flat_map inlet_pushed is))
+  everyone_pushed hs is = omega (arith, parts pushed hs is, hands_sum pushed hand_pushed hand_pushes hs, inlets_pushed is, sum_by-append h (flat_map hand_pushed hs) (flat_map inlet_pushed is))
 
   pub everyone_taken : (hs : List (Hand T)) (is : List (Inlet T)) → sum_by h (taken_of (everyone hs is)) ≡ sum_by h (pool_taken hs)
-  everyone_taken hs is = omega (arith, parts taken hs is, hands_taken hs, inlets_taken is)
+  everyone_taken hs is = omega (arith, parts taken hs is, hands_sum taken hand_taken hand_takes hs, inlets_taken is)
 
 module _ {T : Type 0} where
   pub pushed_counted : (hs : List (Hand T)) → length (flat_map hand_pushed hs) ≡ sum_by (λ x. x.pushed) hs

@@ -1,5 +1,5 @@
 -- What a deque's worker and the queue's first queue_handle know once they took in all other accounts.
-use Rattle.std.proofs.Common.{◌≡◌, ℕ, ◌+◌, List, [], ◌∷◌, ◌++◌, map, All, length, sym, ap, ◌∙◌, subst, arith}
+use Rattle.std.proofs.Common.{◌≡◌, ℕ, ◌+◌, List, [], ◌∷◌, ◌++◌, map, All, length, refl, sym, ap, ◌∙◌, subst, arith}
 use Rattle.std.specs.Prelude.{Vec}
 use Rattle.std.specs.declared.alloc.Global.{Global}
 use Rattle.std.specs.List.{sum_by, flat_map}
@@ -10,7 +10,7 @@ use Rattle.chr_pool.specs.declared.own_deque.OwnDeque.{OwnDeque}
 use Rattle.chr_pool.specs.declared.deque_handle.DequeHandle.{DequeHandle}
 use Rattle.chr_pool.specs.declared.queue_handle.QueueHandle.{QueueHandle}
 use Rattle.chr_pool.specs.Accounts.{join, all_absorbed, joined, all_added, parts_of}
-use Rattle.chr_pool.specs.Handles.{queue_account, handle_account, handle_deque}
+use Rattle.chr_pool.specs.Handles.{queue_account, handle_account, handle_deque, taken_of, pushed_of}
 use Rattle.chr_pool.specs.Hands.{row_accounts, row_deques, row_parts}
 use Rattle.chr_pool.specs.OwnDeques.{own_account, own_deque, accounts}
 use Rattle.chr_pool.proofs.Settles.{weigh_more, weigh_all_absorbed, weigh_joined, parts_all_absorbed, parts_joined, All-unmap, sum_map}
@@ -25,7 +25,7 @@ module _ {T : Type 0} (owns after : Vec (OwnDeque T) Global) (rows : Vec (Vec (D
       let e = ap length (deques k d within) in
       length-map _ handle_account ∙ (sym (length-map _ handle_deque) ∙ (e ∙ (length-map owns.items own_deque ∙ sym (length-map owns.items own_account))))
 
-  pub settled : (f : Account → List ℕ) (both : (v w : Account) → f (join v w) ≡ f v ++ f w) (h : ℕ → ℕ)
+  settled : (f : Account → List ℕ) (both : (v w : Account) → f (join v w) ≡ f v ++ f w) (h : ℕ → ℕ)
       → sum_by h (flat_map f (accounts owns rows queue_handles)) ≡ sum_by h (flat_map f (map own_account after.items)) + sum_by h (f (queue_account all_queue))
   settled f both h =
       let vs = map own_account owns.items in
@@ -43,6 +43,20 @@ module _ {T : Type 0} (owns after : Vec (OwnDeque T) Global) (rows : Vec (Vec (D
       let k : sum_by h (f (joined w ws)) ≡ sum_by h (f w) + sum_by h (flat_map f ws) = weigh_joined f both h w ws in
       let m : sum_by h (f w ++ []) ≡ sum_by h (f w) + sum_by h [] = sum_by-append h (f w) [] in
       omega (arith, a, b, c, d, e, i, j, k, m)
+
+  pub all_settled : (h : ℕ → ℕ)
+      → (sum_by h (pushed_of (accounts owns rows queue_handles)) ≡ sum_by h (pushed_of (map own_account after.items)) + sum_by h (queue_account all_queue).pushed)
+      × (sum_by h (taken_of (accounts owns rows queue_handles)) ≡ sum_by h (taken_of (map own_account after.items)) + sum_by h (queue_account all_queue).taken)
+  all_settled h = (settled (λ v. v.pushed) (λ a b. refl) h, settled (λ v. v.taken) (λ a b. refl) h)
+
+  -- the same once the queue was drained, by what is left over before and after
+  pub queue_drained : (h : ℕ → ℕ) (vs : List Account) (before left : ℕ) → vs ≡ map own_account after.items → left + sum_by h (queue_account all_queue).taken ≡ before + sum_by h (queue_account all_queue).pushed
+      → left + sum_by h (pushed_of vs) + sum_by h (taken_of (accounts owns rows queue_handles)) ≡ before + sum_by h (taken_of vs) + sum_by h (pushed_of (accounts owns rows queue_handles))
+  queue_drained h vs before left same drained =
+      let s = all_settled h in
+      let p : sum_by h (pushed_of vs) ≡ sum_by h (pushed_of (map own_account after.items)) = ap (λ l. sum_by h (pushed_of l)) same in
+      let t : sum_by h (taken_of vs) ≡ sum_by h (taken_of (map own_account after.items)) = ap (λ l. sum_by h (taken_of l)) same in
+      omega (arith, s.0, s.1, p, t, drained)
 
   pub own_whole : All (λ p. p ≡ 64) (all_added (parts_of (map own_account owns.items)) (map row_parts rows.items)) → All (λ (v : Account). v.parts ≡ 64) (map own_account after.items)
   own_whole all =

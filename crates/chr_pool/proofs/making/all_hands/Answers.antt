@@ -1,4 +1,4 @@
-use Rattle.std.proofs.Common.{◌≡◌, ◌+◌, [], ◌∷◌, ◌++◌, length, map, All, sym, ap, ◌∙◌, subst, append-nil, length-append, arith}
+use Rattle.std.proofs.Common.{◌≡◌, ◌+◌, List, [], ◌∷◌, ◌++◌, length, map, All, refl, sym, ap, ◌∙◌, subst, append-nil, length-append, arith}
 use Rattle.std.specs.List.{range_with_len}
 use Rattle.std.specs.Vec.Iter.{into_iter_items}
 use Rattle.std.proofs.lemmas.List.Elements.{All-push}
@@ -66,26 +66,22 @@ loop-deque-preserved g c =
           ∙ (ap (λ l. map hand_capacity at.made.items ++ map new_capacity l) (sym steps) ∙ at.invariant.14)),
     )
 
+-- At the end no new deque is left: what was made of the first ones and is to be made of the rest is what was made of all.
+all_made : {D X : Type 0} (made : List X) (rest whole : List D → List X) (left all given : List D) → length left ≡ 0 → rest [] ≡ [] → made ++ rest left ≡ whole all → all ≡ given → made ≡ whole given
+all_made made rest whole left all given none empty kept same =
+    sym (append-nil made) ∙ (ap (λ l. made ++ l) (sym empty ∙ ap rest (sym (nothing_left left none))) ∙ (kept ∙ ap whole same))
+
 pub returns-clause-deques : goal.returns-clause-deques
 returns-clause-deques g c =
     let at = c.loop-deque in
-    let empty = nothing_left (into_iter_items at.deque-iterator) (sym at.invariant.2 ∙ c.in-None.ensures.steps.0) in
-    sym (append-nil (map hand_deque at.made.items))
-    ∙ (ap (λ l. map hand_deque at.made.items ++ map new_deque l) (sym empty)
-    ∙ (at.invariant.3 ∙ ap (map new_deque) c.into_iter-deque-iterator.ensures.into_iter_gives.0))
+    all_made (map hand_deque at.made.items) (map new_deque) (map new_deque) (into_iter_items at.deque-iterator) _ _ (sym at.invariant.2 ∙ c.in-None.ensures.steps.0) refl at.invariant.3 c.into_iter-deque-iterator.ensures.into_iter_gives.0
 
 pub returns-clause-capacities : goal.returns-clause-capacities
 returns-clause-capacities g c =
     let at = c.loop-deque in
-    let empty = nothing_left (into_iter_items at.deque-iterator) (sym at.invariant.2 ∙ c.in-None.ensures.steps.0) in
-    sym (append-nil (map hand_capacity at.made.items))
-    ∙ (ap (λ l. map hand_capacity at.made.items ++ map new_capacity l) (sym empty)
-    ∙ (at.invariant.14 ∙ ap (map new_capacity) c.into_iter-deque-iterator.ensures.into_iter_gives.0))
+    all_made (map hand_capacity at.made.items) (map new_capacity) (map new_capacity) (into_iter_items at.deque-iterator) _ _ (sym at.invariant.2 ∙ c.in-None.ensures.steps.0) refl at.invariant.14 c.into_iter-deque-iterator.ensures.into_iter_gives.0
 
 pub returns-clause-numbers : goal.returns-clause-numbers
 returns-clause-numbers g c =
     let at = c.loop-deque in
-    let empty = nothing_left (into_iter_items at.deque-iterator) (sym at.invariant.2 ∙ c.in-None.ensures.steps.0) in
-    sym (append-nil (map hand_number at.made.items))
-    ∙ (ap (λ l. map hand_number at.made.items ++ range_with_len at.number (length l)) (sym empty)
-    ∙ (at.invariant.8 ∙ ap (λ l. range_with_len 0 (length l)) c.into_iter-deque-iterator.ensures.into_iter_gives.0))
+    all_made (map hand_number at.made.items) (λ l. range_with_len at.number (length l)) (λ l. range_with_len 0 (length l)) (into_iter_items at.deque-iterator) _ _ (sym at.invariant.2 ∙ c.in-None.ensures.steps.0) refl at.invariant.8 c.into_iter-deque-iterator.ensures.into_iter_gives.0
