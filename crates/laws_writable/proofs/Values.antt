@@ -134,33 +134,25 @@ zeros x = Int (pos 0)
 
 -- a number is as deep and as large as a variable is taken to be
 mutual
-  zeros_depth : (t : Term ℕ) → depth (term_with zeros t) ≡ term_depth t
-  zeros_depth (Var x) = refl
-  zeros_depth (Given a) = refl
-  zeros_depth (Open s ts) = ap suc (all_zeros_depth ts)
+  zeros_count : (t : Term ℕ) → (depth (term_with zeros t) ≡ term_depth t) × (size (term_with zeros t) ≡ term_size t)
+  zeros_count (Var x) = (refl, refl)
+  zeros_count (Given a) = (refl, refl)
+  zeros_count (Open s ts) = let all = all_zeros_count ts in (ap suc all.0, ap suc all.1)
 
-  all_zeros_depth : (ts : Terms ℕ) → args_depth (terms_with zeros ts) ≡ terms_depth ts
-  all_zeros_depth End = refl
-  all_zeros_depth (And t ts) = ap₂ max (zeros_depth t) (all_zeros_depth ts)
-
-mutual
-  zeros_size : (t : Term ℕ) → size (term_with zeros t) ≡ term_size t
-  zeros_size (Var x) = refl
-  zeros_size (Given a) = refl
-  zeros_size (Open s ts) = ap suc (all_zeros_size ts)
-
-  all_zeros_size : (ts : Terms ℕ) → args_size (terms_with zeros ts) ≡ terms_size ts
-  all_zeros_size End = refl
-  all_zeros_size (And t ts) = ap₂ (λ (m n : ℕ). m + n) (zeros_size t) (all_zeros_size ts)
+  all_zeros_count : (ts : Terms ℕ) → (args_depth (terms_with zeros ts) ≡ terms_depth ts) × (args_size (terms_with zeros ts) ≡ terms_size ts)
+  all_zeros_count End = (refl, refl)
+  all_zeros_count (And t ts) =
+      let first = zeros_count t in
+      let rest = all_zeros_count ts in
+      (ap₂ max first.0 rest.0, ap₂ (λ (m n : ℕ). m + n) first.1 rest.1)
 
 pub zeros_within : (ts : List (Term ℕ)) → AllByRecursion IsTerm ts → AllByRecursion IsWithin (map (term_with zeros) ts)
 zeros_within [] all = tt
 zeros_within (t ∷ ts) all =
     let deep = all.0.depth in
     let large = all.0.size in
-    let d = zeros_depth t in
-    let z = zeros_size t in
-    (record { depth = omega (arith, deep, d); size = omega (arith, large, z) }, zeros_within ts all.1)
+    let zero_is = zeros_count t in
+    (record { depth = omega (arith, deep, zero_is.0); size = omega (arith, large, zero_is.1) }, zeros_within ts all.1)
 
 -- an atom of a rule, where its variables are numbers
 abbrev pub AtomHeld : Table → RuleAtom ℕ → Type 0
