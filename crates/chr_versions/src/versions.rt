@@ -61,6 +61,7 @@ impl Naming for Brand {
 }
 
 /// An empty history, which no type names yet.
+#[derive(Drop)]
 pub struct Opened<E> {
     head: Word<E, u64, Law>,
     seen: Seen<E, u64, Law>,
