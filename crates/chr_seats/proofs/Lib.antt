@@ -1,3 +1,4 @@
 pub mod Accounts
+pub mod Alike
 pub mod Lines
 pub mod Left

@@ -1,6 +1,6 @@
 -- Holds of the lock by a seat. A call, and what is read, is given as a relation: from the book before it and its answer to
 -- the book after it, and from a book to what is read of it.
-use Rattle.std.specs.Prelude.{◌≡◌, ℕ, ◌++◌, List, Bool, true, false, Option, Some, None, Result, Ok, Err}
+use Rattle.std.specs.Prelude.{◌≡◌, ℕ, ◌++◌, List, [], Bool, true, false, Option, Some, None, Result, Ok, Err}
 use Rattle.std.specs.List.{AllByRecursion}
 use Rattle.chr_log.specs.Events.{Entry, Event, Post, Activate, Fire, Drop}
 use Rattle.chr_model.specs.Logs.{posted_by}
@@ -13,6 +13,7 @@ use Rattle.chr_calls.specs.declared.answers.TicketState.TheVariants.{Unknown}
 use Rattle.chr_seats.specs.declared.answers.HoldFault.{HoldFault}
 use Rattle.chr_seats.specs.declared.answers.HoldFault.TheVariants.{WrongSeat, NoBook}
 use Rattle.chr_seats.specs.Accounts.{SeatState, log_of, counts_in}
+use Rattle.chr_seats.specs.Versions.{AreAlike}
 
 -- the book has the headline, for what its log says was posted
 abbrev pub HasHeadline : BookState → Type 0
@@ -82,11 +83,13 @@ IsOfSort false (Drop t) = Unit {0}
 abbrev pub IsEntryOf : Bool → ℕ → Entry ℕ → Type 0
 IsEntryOf posts seat e = (e.seat ≡ seat) × IsOfSort posts e.event
 
--- the book's log goes on by posts of the seat alone, or by other entries of it alone
+-- The book's log goes on by posts of the seat alone, or by other entries of it alone. Where it is as long as before, what
+-- searches look through is the same.
 pub record GoesOn (posts : Bool) (seat : ℕ) (b n : BookState) : Type 0 where
   pub more : List (Entry ℕ)
   pub log : n.log ≡ b.log ++ more
   pub are : AllByRecursion (IsEntryOf posts seat) more
+  pub still : more ≡ [] → AreAlike b n
 
 -- marking a ticket stray, and taking one, where there is a book, which has the headline before and after; without one every
 -- ticket is unknown and none is stray

@@ -1,9 +1,10 @@
 //! The calls that are made in holds.
-ghost use Rattle.std.specs.Prelude.{ℕ, Bool, true, false};
+ghost use Rattle.std.specs.Prelude.{⊤, ℕ, Bool, true, false, IfSome};
 ghost use Rattle.chr_calls.specs.Books.{BookState};
 ghost use Rattle.chr_calls.specs.Batches.{ClaimsSheet, ReportsBatch, ReportsSheet, Sheets, claimed_of, following_of, report_of, sheet_of};
 ghost use Rattle.chr_sheet.specs.Rows.{judgements_of};
 ghost use Rattle.chr_calls.specs.Calls.{Claims, FiresOrMisses, Drops, PutsDown};
+ghost use Rattle.chr_book.specs.Given.{AreNextIn};
 ghost use Rattle.chr_book.specs.Texts.{PostsText};
 ghost use Rattle.chr_seats.specs.Holds.{GoesOn};
 
@@ -13,7 +14,7 @@ use chr_calls::{
     SheetReport, TurnFault,
 };
 use chr_lex::fault::ReadError;
-use chr_search::Judged;
+use chr_search::{Judged, Search};
 use chr_sheet::Judgements;
 use chr_store::Label;
 use std::alloc::Allocator;
@@ -26,8 +27,12 @@ pub trait Call<A: Allocator + Copy, X> {
     /// Whether it adds posts.
     ghost posts: { Bool };
 
+    /// What must hold of the book.
+    ghost needs: { Self → BookState → Type 0 };
+
     /// Makes the call.
     fn make(self, book: &mut Book<A>, seat: u32) -> X
+        requires { needs self book.old }
         ensures line { line self seat book.old result book.new }
         ensures goes_on { GoesOn posts seat book.old book.new };
 }
@@ -42,6 +47,8 @@ impl<A: Allocator + Copy> Call<A, Result<Label, ClaimFault>> for Claim {
     ghost line = { λ c seat b answer n. Claims b seat c.ticket answer n };
 
     ghost posts = { false };
+
+    ghost needs = { λ c b. ⊤ };
 
     fn make(self, book: &mut Book<A>, seat: u32) -> Result<Label, ClaimFault> {
         book.claim(seat, self.ticket)
@@ -60,6 +67,8 @@ impl<A: Allocator + Copy> Call<A, Result<Sheet<A>, TurnFault>> for AskSheet {
 
     ghost posts = { false };
 
+    ghost needs = { λ c b. ⊤ };
+
     fn make(self, book: &mut Book<A>, seat: u32) -> Result<Sheet<A>, TurnFault> {
         book.sheet(seat, self.ticket, self.most)
     }
@@ -77,6 +86,8 @@ impl<A: Allocator + Copy> Call<A, Result<Result<Sheet<A>, TurnFault>, ClaimFault
 
     ghost posts = { false };
 
+    ghost needs = { λ c b. ⊤ };
+
     fn make(
         self,
         book: &mut Book<A>,
@@ -91,6 +102,7 @@ impl<A: Allocator + Copy> Call<A, Result<Result<Sheet<A>, TurnFault>, ClaimFault
 pub struct ReportSheet<'a, A: Allocator> {
     pub ticket: u64,
     pub judgements: &'a Judgements<A>,
+    pub known: Option<&'a Search>,
     pub most: usize,
 }
 
@@ -99,8 +111,10 @@ impl<'a, A: Allocator + Copy> Call<A, SheetReport<A>> for ReportSheet<'a, A> {
 
     ghost posts = { false };
 
+    ghost needs = { λ c b. IfSome c.known (λ search. AreNextIn b search.now (judgements_of c.judgements.now)) };
+
     fn make(self, book: &mut Book<A>, seat: u32) -> SheetReport<A> {
-        book.report_sheet(seat, self.ticket, self.judgements, self.most)
+        book.report_sheet(seat, self.ticket, self.judgements, self.known, self.most)
     }
 }
 
@@ -115,6 +129,8 @@ impl<'a, A: Allocator + Copy> Call<A, BatchReport<A>> for ReportAll<'a, A> {
     ghost line = { λ c seat b answer n. ReportsBatch b seat c.ticket (judgements_of c.judgements.now) (report_of answer) n };
 
     ghost posts = { false };
+
+    ghost needs = { λ c b. ⊤ };
 
     fn make(self, book: &mut Book<A>, seat: u32) -> BatchReport<A> {
         book.report_all(seat, self.ticket, self.judgements)
@@ -133,6 +149,8 @@ impl<'a, A: Allocator + Copy> Call<A, Result<Firing, FireFault>> for Fire<'a, A>
 
     ghost posts = { false };
 
+    ghost needs = { λ c b. ⊤ };
+
     fn make(self, book: &mut Book<A>, seat: u32) -> Result<Firing, FireFault> {
         book.fire(seat, self.ticket, self.judged)
     }
@@ -148,6 +166,8 @@ impl<A: Allocator + Copy> Call<A, Result<Dropping, DropFault>> for DropGoal {
     ghost line = { λ c seat b answer n. Drops b seat c.ticket answer n };
 
     ghost posts = { false };
+
+    ghost needs = { λ c b. ⊤ };
 
     fn make(self, book: &mut Book<A>, seat: u32) -> Result<Dropping, DropFault> {
         book.drop_goal(seat, self.ticket)
@@ -165,6 +185,8 @@ impl<A: Allocator + Copy> Call<A, Result<(), PutDownFault>> for PutDown {
 
     ghost posts = { false };
 
+    ghost needs = { λ c b. ⊤ };
+
     fn make(self, book: &mut Book<A>, seat: u32) -> Result<(), PutDownFault> {
         book.put_down(seat, self.ticket)
     }
@@ -180,6 +202,8 @@ impl<'a, A: Allocator + Copy> Call<A, Result<Posted, ReadError>> for PostText<'a
     ghost line = { λ c seat b answer n. PostsText b seat c.bytes.now answer n };
 
     ghost posts = { true };
+
+    ghost needs = { λ c b. ⊤ };
 
     fn make(self, book: &mut Book<A>, seat: u32) -> Result<Posted, ReadError> {
         book.post_text(seat, self.bytes)

@@ -1,26 +1,37 @@
 //! A book, beside what each seat has made of it.
 ghost use Rattle.std.specs.Prelude.{◌≡◌, ◌↔◌, ◌+◌, ◌-◌, ◌^◌, ◌<◌, set, [], true, false, not, length, sum_by, vec_len, IfOk, IfErr, IfSome, IsTrue, IsSome, Some, None};
-ghost use Rattle.chr_seats.specs.Accounts.{AreSeats, log_of, made_upto, if_so, raised};
+ghost use Rattle.chr_book.specs.Given.{AreNextIn};
+ghost use Rattle.chr_calls.specs.Batches.{ClaimsSheet, ReportsSheet, Sheets, claimed_of, following_of, sheet_of};
+ghost use Rattle.chr_calls.specs.Books.{BookState};
+ghost use Rattle.chr_sheet.specs.Rows.{judgements_of};
+ghost use Rattle.chr_seats.specs.Accounts.{AreNamed, AreSeats, log_of, made_upto, if_so, raised};
+ghost use Rattle.chr_seats.specs.Versions.{IsKnownAfter, IsKnownOf, IsSearchOf, IsVersionOf};
 ghost use Rattle.chr_seats.specs.Holds.{GoesOn, HasHeadline, HasRightCounts, IsHold, IsReading, MarksIn, TakesStrayIn};
 
 use crate::answers::HoldFault;
-use crate::calls::Call;
+use crate::calls::{AskSheet, Call, ClaimSheet, ReportSheet};
 use crate::counts::Counts;
-use crate::seat::{PostLedger, SESSION_SEATS, Seat, Seats, WORKER_SEATS};
+use crate::known::{Known, KnownJudgements};
+use crate::seat::{Blanks, PostLedger, SESSION_SEATS, Seat, Seats, WORKER_SEATS};
 use crate::seating::{merge_all, merged, seat_all};
 use crate::tally::{none_yet, tally};
 use chr_book::Book;
-use chr_calls::{MarkFault, TicketState};
+use chr_calls::{ClaimFault, Following, MarkFault, Sheet, SheetReport, TicketState, TurnFault};
+use chr_search::Search;
+use chr_versions::{Version, Versions};
 use std::alloc::{AllocError, Allocator};
 use std::marker::Model;
 use std::mem;
 use std::sync::ledger;
-use std::sync::ledger::{Blank, Ledger};
+use std::sync::ledger::Ledger;
 
-/// Perhaps a book, and what each seat has made of it. Contracts see the book.
+/// Perhaps a book with its versions, and what each seat has made of it. Contracts see the book.
 #[derive(Drop)]
 pub struct Kept<L1: PostLedger, L2: Ledger, A: Allocator> {
     book: Option<Book<A>>,
+    versions: Versions<L1, Book<A>>,
+    /// How many entries the log had when the last version was added.
+    entries: usize,
     counts: [Counts; 32],
     posts: ledger::Book<L1>,
     others: ledger::Book<L2>,
@@ -31,6 +42,7 @@ impl<L1: PostLedger, L2: Ledger, A: Allocator> Model for Kept<L1, L2, A> {
     ghost use Rattle.chr_rule.specs.Codes.{rule_codes};
     ghost use Rattle.chr_calls.specs.Books.{BookState};
     ghost use Rattle.chr_seats.specs.Accounts.{AreSeats, log_of, IsCounted};
+    ghost use Rattle.chr_seats.specs.Versions.{IsVersion};
 
     ghost Value = { Option BookState };
 
@@ -38,7 +50,7 @@ impl<L1: PostLedger, L2: Ledger, A: Allocator> Model for Kept<L1, L2, A> {
 
     ghost view = { λ k. k.book };
 
-    ghost invariant = { λ k. IsCounted (log_of k.book) k.counts k.posts.total k.others.total × (L1.loaded ≡ true → IsSome k.book) };
+    ghost invariant = { λ k. IsCounted (log_of k.book) k.counts k.posts.total k.others.total × (L1.loaded ≡ true → IsSome k.book) × IsVersion k.book k.entries k.versions };
 }
 
 /// Makes a call by a seat, and counts the entries that it adds.
@@ -47,6 +59,7 @@ fn make<A: Allocator + Copy, X, C: Call<A, X> + Drop>(
     seat: u32,
     call: C,
 ) -> (X, u64)
+    requires { C.needs call book.old }
     ensures line { C.line call seat book.old result.0 book.new }
     ensures headline_before { HasHeadline book.old }
     ensures headline_now { HasHeadline book.new }
@@ -100,11 +113,9 @@ impl<L1: PostLedger, L2: Ledger, A: Allocator + Copy> Kept<L1, L2, A> {
     pub fn with(
         alloc: A,
         book: Book<A>,
-        posts: Blank,
-        others: Blank,
+        blanks: Blanks<A>,
     ) -> Result<(Kept<L1, L2, A>, Seats<L1, L2, A>), Book<A>>
-        requires posts { (posts.name ≡ L1.name) × (posts.parts ≡ L1.parts) × (posts.parts ≡ 32) }
-        requires others { (others.name ≡ L2.name) × (others.parts ≡ L2.parts) × (others.parts ≡ 32) }
+        requires { AreNamed blanks L1.name L1.parts L2.name L2.parts L1.history }
         ensures book { IfOk result (λ r. r.0 ≡ Some book) }
         ensures workers { IfOk result (λ r. AreSeats book.log 0 r.1.workers.items) }
         ensures sessions { IfOk result (λ r. AreSeats book.log 16 r.1.sessions.items) }
@@ -117,9 +128,17 @@ impl<L1: PostLedger, L2: Ledger, A: Allocator + Copy> Kept<L1, L2, A> {
             return Err(book);
         };
         let counts = tally(book.log());
+        let Blanks {
+            posts,
+            others,
+            versions,
+        } = blanks;
+        let versions = Versions::named(versions);
         let (posts, others) = seat_all(&counts, posts, others, &mut workers, &mut sessions);
         let kept = Kept {
             book: Some(book),
+            versions,
+            entries: 0,
             counts,
             posts,
             others,
@@ -130,11 +149,9 @@ impl<L1: PostLedger, L2: Ledger, A: Allocator + Copy> Kept<L1, L2, A> {
     /// No book yet, and all seats, which have made nothing. An `Err` is E01.
     pub fn empty(
         alloc: A,
-        posts: Blank,
-        others: Blank,
+        blanks: Blanks<A>,
     ) -> Result<(Kept<L1, L2, A>, Seats<L1, L2, A>), AllocError>
-        requires posts { (posts.name ≡ L1.name) × (posts.parts ≡ L1.parts) × (posts.parts ≡ 32) }
-        requires others { (others.name ≡ L2.name) × (others.parts ≡ L2.parts) × (others.parts ≡ 32) }
+        requires named { AreNamed blanks L1.name L1.parts L2.name L2.parts L1.history }
         requires none { L1.loaded ≡ false }
         ensures book { IfOk result (λ r. r.0 ≡ None) }
         ensures workers { IfOk result (λ r. AreSeats [] 0 r.1.workers.items) }
@@ -143,9 +160,17 @@ impl<L1: PostLedger, L2: Ledger, A: Allocator + Copy> Kept<L1, L2, A> {
         let mut workers = Vec::with_capacity(alloc, WORKER_SEATS)?;
         let mut sessions = Vec::with_capacity(alloc, SESSION_SEATS)?;
         let counts = none_yet();
+        let Blanks {
+            posts,
+            others,
+            versions,
+        } = blanks;
+        let versions = Versions::named(versions);
         let (posts, others) = seat_all(&counts, posts, others, &mut workers, &mut sessions);
         let kept = Kept {
             book: None,
+            versions,
+            entries: 0,
             counts,
             posts,
             others,
@@ -168,6 +193,8 @@ impl<L1: PostLedger, L2: Ledger, A: Allocator + Copy> Kept<L1, L2, A> {
     {
         let Kept {
             book,
+            versions: _,
+            entries: _,
             counts: _,
             posts: _,
             others: _,
@@ -212,7 +239,8 @@ impl<L1: PostLedger, L2: Ledger, A: Allocator + Copy> Kept<L1, L2, A> {
         call: C,
         are_posts: bool,
     ) -> Result<X, HoldFault>
-        requires { are_posts ≡ C.posts }
+        requires posts { are_posts ≡ C.posts }
+        requires needs { (b : BookState) → self.old ≡ Some b → C.needs call b }
         ensures hold { IsHold (λ b answer n. C.line call seat.old.number b answer n) self.old seat.old result self.new seat.new }
         ensures posts { C.posts ≡ false → seat.new.counts.posts ≡ seat.old.counts.posts }
         ensures others { C.posts ≡ true → seat.new.counts.others ≡ seat.old.counts.others }
@@ -234,6 +262,131 @@ impl<L1: PostLedger, L2: Ledger, A: Allocator + Copy> Kept<L1, L2, A> {
             more,
         );
         Ok(answer)
+    }
+
+    /// The version of the book as it is. None without a book, or where no version can be added.
+    fn version(&mut self) -> Option<Version<L1, Book<A>>>
+        ensures same { self.new ≡ self.old }
+        ensures version { IfSome result (IsVersionOf self.new) }
+    {
+        let Some(book) = &self.book else {
+            return None;
+        };
+        let entries = book.log().len();
+        if self.entries != entries || self.versions.is_empty() {
+            if !self.versions.add(book) {
+                return None;
+            }
+            self.entries = entries;
+        }
+        Some(self.versions.last())
+    }
+
+    /// The search of a ticket that a seat holds, with the version of the book as it is. None where the seat doesn't hold the
+    /// ticket, or no version can be added.
+    fn known(&mut self, number: u32, ticket: u64) -> Option<Known<L1, A>>
+        ensures same { self.new ≡ self.old }
+        ensures known { IfSome result (λ k. IsSearchOf self.new number ticket k.version k.search) }
+    {
+        let version = self.version()?;
+        let Some(book) = &self.book else {
+            return None;
+        };
+        let search = book.search(number, ticket)?;
+        Some(Known { version, search })
+    }
+
+    /// What is known of the trials that follow a report, where any do.
+    fn known_after(
+        &mut self,
+        number: u32,
+        ticket: u64,
+        following: &Following<A>,
+    ) -> Option<Known<L1, A>>
+        ensures same { self.new ≡ self.old }
+        ensures known { IfSome result (λ k. IsSearchOf self.new number ticket k.version k.search) }
+    {
+        match following {
+            Following::Sheet(_) => self.known(number, ticket),
+            _ => None,
+        }
+    }
+
+    /// The search in which judged trials come next in the book as it is, if that is known.
+    fn known_now<'k>(&self, judged: &'k KnownJudgements<L1, A>) -> Option<&'k Search>
+        ensures { IfSome result (λ search. (b : BookState) → self.now ≡ Some b → AreNextIn b search.now (judgements_of judged.now)) }
+    {
+        let Some(known) = &judged.known else {
+            return None;
+        };
+        let Some(book) = &self.book else {
+            return None;
+        };
+        if book.log().len() != self.entries || !self.versions.is_last(&known.version) {
+            return None;
+        }
+        Some(&known.search)
+    }
+
+    /// The next trials of a ticket, and the search in which they are known to come next, if it is known.
+    pub fn sheet(
+        &mut self,
+        seat: &mut Seat<L1, L2>,
+        ticket: u64,
+        most: usize,
+    ) -> Result<(Result<Sheet<A>, TurnFault>, Option<Known<L1, A>>), HoldFault>
+        ensures hold { IsHold (λ b answer n. Sheets b seat.old.number ticket most (sheet_of answer.0) n) self.old seat.old result self.new seat.new }
+        ensures posts { seat.new.counts.posts ≡ seat.old.counts.posts }
+        ensures known { IfOk result (λ r. IfSome r.1 (λ k. IsKnownOf k.version k.search (sheet_of r.0))) }
+    {
+        let given = self.hold(seat, AskSheet { ticket, most }, false)?;
+        let known = self.known(seat.number, ticket);
+        Ok((given, known))
+    }
+
+    /// Claims a ticket, and gives its first trials as [`sheet`](Kept::sheet) does.
+    pub fn claim_sheet(
+        &mut self,
+        seat: &mut Seat<L1, L2>,
+        ticket: u64,
+        most: usize,
+    ) -> Result<
+        (
+            Result<Result<Sheet<A>, TurnFault>, ClaimFault>,
+            Option<Known<L1, A>>,
+        ),
+        HoldFault,
+    >
+        ensures hold { IsHold (λ b answer n. ClaimsSheet b seat.old.number ticket most (claimed_of answer.0) n) self.old seat.old result self.new seat.new }
+        ensures posts { seat.new.counts.posts ≡ seat.old.counts.posts }
+        ensures known { IfOk result (λ r. IfSome r.1 (λ k. IfOk (claimed_of r.0) (IsKnownOf k.version k.search))) }
+    {
+        let claimed = self.hold(seat, ClaimSheet { ticket, most }, false)?;
+        let known = self.known(seat.number, ticket);
+        Ok((claimed, known))
+    }
+
+    /// Reports judgements, and makes the call that follows. Gives trials as [`sheet`](Kept::sheet) does.
+    pub fn report_sheet(
+        &mut self,
+        seat: &mut Seat<L1, L2>,
+        ticket: u64,
+        judged: &KnownJudgements<L1, A>,
+        most: usize,
+    ) -> Result<(SheetReport<A>, Option<Known<L1, A>>), HoldFault>
+        ensures hold { IsHold (λ b answer n. ReportsSheet b seat.old.number ticket most (judgements_of judged.now) answer.0.reported (following_of answer.0.following) n) self.old seat.old result self.new seat.new }
+        ensures posts { seat.new.counts.posts ≡ seat.old.counts.posts }
+        ensures known { IfOk result (λ r. IfSome r.1 (λ k. IsKnownAfter k.version k.search (following_of r.0.following))) }
+    {
+        let call = ReportSheet {
+            ticket,
+            judgements: &judged.judgements,
+            known: self.known_now(judged),
+            most,
+        };
+        let report = self.hold(seat, call, false)?;
+        let known = self.known_after(seat.number, ticket, &report.following);
+        Ok((report, known))
     }
 
     /// Marks a ticket stray.

@@ -10,6 +10,10 @@
 //! reads these hold too. A seat with other counts than those that are kept for its number makes no call (E26), nor does one
 //! where no book is there (E24).
 //!
+//! What searches look through changes with the log alone. So a book has versions, one for each length of its log at which trials
+//! are given; trials that come next in a version come next still while that is the last one, and are reported without being
+//! looked for again.
+//!
 //! By two ledgers of which each seat has a share, no count rises without its entry: who has all 32 seats knows that their
 //! counts add up to the entries of the log ([`audit`](Kept::audit)).
 #![tactic(auto)]
@@ -18,6 +22,7 @@ mod answers;
 mod calls;
 mod counts;
 mod kept;
+mod known;
 mod seat;
 mod seating;
 mod tally;
@@ -28,4 +33,5 @@ pub use calls::{
 };
 pub use counts::Counts;
 pub use kept::Kept;
-pub use seat::{PostLedger, SEATS, SESSION_SEATS, Seat, Seats, WORKER_SEATS};
+pub use known::{Known, KnownJudgements, KnownTrials};
+pub use seat::{Blanks, PostLedger, SEATS, SESSION_SEATS, Seat, Seats, WORKER_SEATS};

@@ -2,9 +2,11 @@
 ghost use Rattle.std.specs.Prelude.{◌≡◌, ◌≤◌, Bool, true};
 
 use crate::counts::Counts;
+use chr_book::Book;
+use chr_versions::{Naming, Opened};
 use std::alloc::Allocator;
 use std::marker::{Brand, Model};
-use std::sync::ledger::{Ledger, Share};
+use std::sync::ledger::{Blank, Ledger, Share};
 
 /// How many seats workers have, from the number 1 on.
 pub const WORKER_SEATS: usize = 16;
@@ -15,13 +17,34 @@ pub const SESSION_SEATS: usize = 16;
 /// How many seats there are.
 pub const SEATS: usize = WORKER_SEATS + SESSION_SEATS;
 
-/// The ledger of the posts, which says besides whether a book is there from the start.
-pub trait PostLedger: Ledger {
+/// The ledger of the posts, which names the history of the book's versions too, and says whether a book is there from the start.
+pub trait PostLedger: Ledger + Naming {
     ghost loaded: { Bool };
 }
 
 impl PostLedger for Brand {
     ghost loaded = { true };
+}
+
+/// Two ledgers, and a history of a book's versions, which no types name yet.
+#[derive(Drop)]
+pub struct Blanks<A: Allocator> {
+    pub posts: Blank,
+    pub others: Blank,
+    pub versions: Opened<Book<A>>,
+}
+
+impl<A: Allocator> Blanks<A> {
+    /// Ledgers with a part for each seat, and an empty history.
+    pub fn new() -> Blanks<A>
+        ensures { (result.posts.parts ≡ 32) × (result.others.parts ≡ 32) }
+    {
+        Blanks {
+            posts: Blank::new(SEATS as u64),
+            others: Blank::new(SEATS as u64),
+            versions: Opened::new(),
+        }
+    }
 }
 
 /// One of the 32 seats. Contracts see its number and its counts, which are the amounts of its shares of both ledgers.

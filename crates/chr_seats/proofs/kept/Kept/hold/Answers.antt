@@ -1,4 +1,5 @@
 use Rattle.std.proofs.Common.{rules, ◌∙◌, sym, refl}
+use Rattle.chr_seats.proofs.Alike.{version_on}
 use Rattle.chr_seats.proofs.Left.{left, fits}
 use Rattle.chr_seats.proofs.kept.Kept.hold.Goals as goal
 
@@ -11,15 +12,16 @@ raise-requires-clause-others g c = (fits c.args.self.now c.in-Some.book c.make-a
 pub invariant_of-self-2 : goal.invariant_of-self-2
 invariant_of-self-2 g c = (
   (left c.args.are_posts _ c.self.inside.book c.args.self.now c.in-Some.book c.make-answer.new.book c.number-number.result c.args.seat.now.number c.make-answer.result.1 c.args.seat.now.counts c.raise.new.seat.counts c.self.inside.counts c.raise.new.counts _ _ _ _
-      c.self.view_is c.in-Some.is (search rules) c.number-number.ensures.same c.number-number.ensures.range.0 c.number-number.ensures.range.1 c.requires c.make-answer.ensures.goes_on c.make-answer.ensures.count
+      c.self.view_is c.in-Some.is (search rules) c.number-number.ensures.same c.number-number.ensures.range.0 c.number-number.ensures.range.1 c.requires.posts c.make-answer.ensures.goes_on c.make-answer.ensures.count
       c.self.invariant.0 (c.knows.ensures.0 c.if-not-knows.false) c.raise.ensures.seat c.raise.ensures.counts c.raise.ensures.post_total c.raise.ensures.other_total).0,
   λ loaded. search rules,
+  version_on _ _ c.self.inside.book c.in-Some.book c.make-answer.new.book c.self.inside.entries c.self.inside.versions c.make-answer.ensures.goes_on c.in-Some.is c.self.invariant.2,
 )
 
 pub returns-clause-hold : goal.returns-clause-hold
 returns-clause-hold g c =
     let at = left c.args.are_posts _ c.self.inside.book c.args.self.now c.in-Some.book c.make-answer.new.book c.number-number.result c.args.seat.now.number c.make-answer.result.1 c.args.seat.now.counts c.raise.new.seat.counts c.self.inside.counts c.raise.new.counts _ _ _ _
-    c.self.view_is c.in-Some.is (search rules) c.number-number.ensures.same c.number-number.ensures.range.0 c.number-number.ensures.range.1 c.requires c.make-answer.ensures.goes_on c.make-answer.ensures.count
+    c.self.view_is c.in-Some.is (search rules) c.number-number.ensures.same c.number-number.ensures.range.0 c.number-number.ensures.range.1 c.requires.posts c.make-answer.ensures.goes_on c.make-answer.ensures.count
     c.self.invariant.0 (c.knows.ensures.0 c.if-not-knows.false) c.raise.ensures.seat c.raise.ensures.counts c.raise.ensures.post_total c.raise.ensures.other_total in
     record {
       book = c.in-Some.book;
