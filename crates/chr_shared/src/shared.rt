@@ -1,11 +1,12 @@
 //! The lock.
-ghost use Rattle.std.specs.Prelude.{◌≡◌, ◌+◌, ◌<◌, [], true, false, Option, sum_by, vec_len, OnErr, IfOk, IfErr};
+ghost use Rattle.std.specs.Prelude.{◌≡◌, ◌+◌, ◌<◌, [], true, false, Option, sum_by, vec_len, OnErr, IfOk, IfErr, IfSome};
 ghost use Rattle.chr_calls.specs.Books.{BookState};
 ghost use Rattle.chr_calls.specs.Batches.{ClaimsSheet, ReportsBatch, ReportsSheet, Sheets, claimed_of, following_of, report_of, sheet_of};
 ghost use Rattle.chr_sheet.specs.Rows.{judgements_of};
 ghost use Rattle.chr_calls.specs.Calls.{Claims, FiresOrMisses, Drops, PutsDown};
 ghost use Rattle.chr_book.specs.Texts.{PostsText};
-ghost use Rattle.chr_seats.specs.Accounts.{AreSeats, IsAudited};
+ghost use Rattle.chr_seats.specs.Accounts.{AreNamed, AreSeats, IsAudited};
+ghost use Rattle.chr_seats.specs.Versions.{IsKnownAfter, IsKnownOf};
 ghost use Rattle.chr_seats.specs.Holds.{WasHold, MarksIn, TakesStrayIn};
 
 use crate::sleepers::Sleepers;
@@ -17,15 +18,15 @@ use chr_calls::{
 use chr_lex::fault::ReadError;
 use chr_search::Judged;
 use chr_seats::{
-    AskSheet, Call, Claim, ClaimSheet, DropGoal, Fire, HoldFault, Kept, PostLedger, PostText,
-    PutDown, ReportAll, ReportSheet, Seat, Seats,
+    Blanks, Call, Claim, DropGoal, Fire, HoldFault, Kept, Known, KnownJudgements, PostLedger,
+    PostText, PutDown, ReportAll, Seat, Seats,
 };
 use chr_sheet::Judgements;
 use chr_store::Label;
 use std::alloc::{AllocError, Allocator};
 use std::sync::atomic::{AtomicBool, AtomicU64};
-use std::sync::ledger::{Blank, Ledger};
-use std::sync::{Condvar, Mutex, Wait};
+use std::sync::ledger::Ledger;
+use std::sync::{Condvar, Mutex, MutexGuard, Wait};
 
 /// What is under the lock.
 #[derive(Drop)]
@@ -79,32 +80,28 @@ impl<L1: PostLedger, L2: Ledger, A: Allocator + Copy> Shared<L1, L2, A> {
     pub fn with(
         alloc: A,
         book: Book<A>,
-        posts: Blank,
-        others: Blank,
+        blanks: Blanks<A>,
     ) -> Result<(Shared<L1, L2, A>, Seats<L1, L2, A>), Book<A>>
-        requires posts { (posts.name ≡ L1.name) × (posts.parts ≡ L1.parts) × (posts.parts ≡ 32) }
-        requires others { (others.name ≡ L2.name) × (others.parts ≡ L2.parts) × (others.parts ≡ 32) }
+        requires { AreNamed blanks L1.name L1.parts L2.name L2.parts L1.history }
         ensures workers { IfOk result (λ r. AreSeats book.log 0 r.1.workers.items) }
         ensures sessions { IfOk result (λ r. AreSeats book.log 16 r.1.sessions.items) }
         ensures back { IfErr result (λ b. b ≡ book) }
     {
-        let (kept, seats) = Kept::with(alloc, book, posts, others)?;
+        let (kept, seats) = Kept::with(alloc, book, blanks)?;
         Ok((Shared::over(kept), seats))
     }
 
     /// A lock over no book, and all seats, which have made nothing. An `Err` is E01.
     pub fn empty(
         alloc: A,
-        posts: Blank,
-        others: Blank,
+        blanks: Blanks<A>,
     ) -> Result<(Shared<L1, L2, A>, Seats<L1, L2, A>), AllocError>
-        requires posts { (posts.name ≡ L1.name) × (posts.parts ≡ L1.parts) × (posts.parts ≡ 32) }
-        requires others { (others.name ≡ L2.name) × (others.parts ≡ L2.parts) × (others.parts ≡ 32) }
+        requires named { AreNamed blanks L1.name L1.parts L2.name L2.parts L1.history }
         requires none { L1.loaded ≡ false }
         ensures workers { IfOk result (λ r. AreSeats [] 0 r.1.workers.items) }
         ensures sessions { IfOk result (λ r. AreSeats [] 16 r.1.sessions.items) }
     {
-        let (kept, seats) = Kept::empty(alloc, posts, others)?;
+        let (kept, seats) = Kept::empty(alloc, blanks)?;
         Ok((Shared::over(kept), seats))
     }
 
@@ -145,8 +142,16 @@ impl<L1: PostLedger, L2: Ledger, A: Allocator + Copy> Shared<L1, L2, A> {
         kept.audit(workers, sessions);
     }
 
-    /// Makes a call by a seat, which adds posts or other entries. Now and then the sessions that sleep are told after a hold, so
-    /// that they see a run that goes on and on.
+    /// Ends the hold of a call. Now and then the sessions that sleep are told then, so that they see a run that goes on and on.
+    fn end_hold(&self, mut locked: MutexGuard<'_, Locked<L1, L2, A>>) {
+        let look = locked.sleepers.count_hold();
+        drop(locked);
+        if look {
+            self.watched.notify_all();
+        }
+    }
+
+    /// Makes a call by a seat, which adds posts or other entries.
     fn in_hold<R: Wait, X, C: Call<A, X> + Drop>(
         &self,
         rt: &R,
@@ -154,18 +159,15 @@ impl<L1: PostLedger, L2: Ledger, A: Allocator + Copy> Shared<L1, L2, A> {
         call: C,
         are_posts: bool,
     ) -> Result<X, HoldFault>
-        requires { are_posts ≡ C.posts }
+        requires posts { are_posts ≡ C.posts }
+        requires needs { (b : BookState) → C.needs call b }
         ensures hold { WasHold (λ b answer n. C.line call seat.old.number b answer n) seat.old result seat.new }
         ensures posts { C.posts ≡ false → seat.new.counts.posts ≡ seat.old.counts.posts }
         ensures others { C.posts ≡ true → seat.new.counts.others ≡ seat.old.counts.others }
     {
         let mut locked = self.locked.lock(rt);
-        let look = locked.sleepers.count_hold();
         let answer = locked.kept.hold(seat, call, are_posts);
-        drop(locked);
-        if look {
-            self.watched.notify_all();
-        }
+        self.end_hold(locked);
         answer
     }
 
@@ -184,57 +186,74 @@ impl<L1: PostLedger, L2: Ledger, A: Allocator + Copy> Shared<L1, L2, A> {
     }
 
     /// Gives a ticket to the seat, and then its first trials, at most so many together, as
-    /// [`Book::claim_sheet`](chr_book::Book::claim_sheet) does. E26; E24; then E12, E10 and E01; and E01 of the trials.
+    /// [`Book::claim_sheet`](chr_book::Book::claim_sheet) does, with the search in which they are known to come next, if it is
+    /// known. E26; E24; then E12, E10 and E01; and E01 of the trials.
     pub fn claim_sheet<R: Wait>(
         &self,
         rt: &R,
         seat: &mut Seat<L1, L2>,
         ticket: u64,
         most: usize,
-    ) -> Result<Result<Result<Sheet<A>, TurnFault>, ClaimFault>, HoldFault>
-        ensures hold { WasHold (λ b answer n. ClaimsSheet b seat.old.number ticket most (claimed_of answer) n) seat.old result seat.new }
+    ) -> Result<
+        (
+            Result<Result<Sheet<A>, TurnFault>, ClaimFault>,
+            Option<Known<L1, A>>,
+        ),
+        HoldFault,
+    >
+        ensures hold { WasHold (λ b answer n. ClaimsSheet b seat.old.number ticket most (claimed_of answer.0) n) seat.old result seat.new }
         ensures number { seat.new.number ≡ seat.old.number }
         ensures posts { seat.new.counts.posts ≡ seat.old.counts.posts }
+        ensures known { IfOk result (λ r. IfSome r.1 (λ k. IfOk (claimed_of r.0) (IsKnownOf k.version k.search))) }
     {
-        self.in_hold(rt, seat, ClaimSheet { ticket, most }, false)
+        let mut locked = self.locked.lock(rt);
+        let answer = locked.kept.claim_sheet(seat, ticket, most);
+        self.end_hold(locked);
+        answer
     }
 
-    /// The next trials of a ticket that the seat holds, at most so many together. E26; E24; then E13 and E01.
+    /// The next trials of a ticket that the seat holds, at most so many together, with the search in which they are known to come
+    /// next, if it is known. E26; E24; then E13 and E01.
     pub fn sheet<R: Wait>(
         &self,
         rt: &R,
         seat: &mut Seat<L1, L2>,
         ticket: u64,
         most: usize,
-    ) -> Result<Result<Sheet<A>, TurnFault>, HoldFault>
-        ensures hold { WasHold (λ b answer n. Sheets b seat.old.number ticket most (sheet_of answer) n) seat.old result seat.new }
+    ) -> Result<(Result<Sheet<A>, TurnFault>, Option<Known<L1, A>>), HoldFault>
+        ensures hold { WasHold (λ b answer n. Sheets b seat.old.number ticket most (sheet_of answer.0) n) seat.old result seat.new }
         ensures number { seat.new.number ≡ seat.old.number }
         ensures posts { seat.new.counts.posts ≡ seat.old.counts.posts }
+        ensures known { IfOk result (λ r. IfSome r.1 (λ k. IsKnownOf k.version k.search (sheet_of r.0))) }
     {
-        self.in_hold(rt, seat, AskSheet { ticket, most }, false)
+        let mut locked = self.locked.lock(rt);
+        let answer = locked.kept.sheet(seat, ticket, most);
+        self.end_hold(locked);
+        answer
     }
 
     /// Reports judgements of a ticket's trials, and fires the last one, drops the goal, or gives the next trials, at most so
-    /// many together, as [`Book::report_sheet`](chr_book::Book::report_sheet) does. Who deals with the tickets of a firing
-    /// announces them then. E26; E24; then E13 and E01, of the report and of the call that follows.
+    /// many together, as [`Book::report_sheet`](chr_book::Book::report_sheet) does, with the search in which these are known to
+    /// come next, if it is known. Where the judged trials are known to come next in the book as it is, none of them is looked for.
+    /// Who deals with the tickets of a firing announces them then. E26; E24; then E13 and E01, of the report and of the call that
+    /// follows.
     pub fn report_sheet<R: Wait>(
         &self,
         rt: &R,
         seat: &mut Seat<L1, L2>,
         ticket: u64,
-        judgements: &Judgements<A>,
+        judged: &KnownJudgements<L1, A>,
         most: usize,
-    ) -> Result<SheetReport<A>, HoldFault>
-        ensures hold { WasHold (λ b answer n. ReportsSheet b seat.old.number ticket most (judgements_of judgements.now) answer.reported (following_of answer.following) n) seat.old result seat.new }
+    ) -> Result<(SheetReport<A>, Option<Known<L1, A>>), HoldFault>
+        ensures hold { WasHold (λ b answer n. ReportsSheet b seat.old.number ticket most (judgements_of judged.now) answer.0.reported (following_of answer.0.following) n) seat.old result seat.new }
         ensures number { seat.new.number ≡ seat.old.number }
         ensures posts { seat.new.counts.posts ≡ seat.old.counts.posts }
+        ensures known { IfOk result (λ r. IfSome r.1 (λ k. IsKnownAfter k.version k.search (following_of r.0.following))) }
     {
-        let call = ReportSheet {
-            ticket,
-            judgements,
-            most,
-        };
-        self.in_hold(rt, seat, call, false)
+        let mut locked = self.locked.lock(rt);
+        let answer = locked.kept.report_sheet(seat, ticket, judged, most);
+        self.end_hold(locked);
+        answer
     }
 
     /// Reports judgements of a ticket's trials, and asks for its next trial. E26; E24; then E13 and E01, as what comes next.
