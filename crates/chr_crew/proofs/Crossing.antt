@@ -40,6 +40,8 @@ use Rattle.std.specs.declared.sync.ledger.Ledger as ledger
 use Rattle.chr_seats.proofs.counts.Counts.TheSendSync as counts
 use Rattle.chr_seats.specs.declared.seat.PostLedger as posts
 use Rattle.std.proofs.sync.ledger.Book.TheSendSync as ledgers
+use Rattle.chr_versions.specs.declared.versions.Naming as naming
+use Rattle.chr_versions.proofs.versions.Versions.TheSendSync as versions
 use Rattle.chr_seats.specs.contracts.kept.Kept as Kept
 use Rattle.chr_seats.specs.contracts.kept.Kept.TheInside as Inside
 use Rattle.chr_shared.specs.contracts.shared.Locked as Locked
@@ -125,26 +127,26 @@ module _ (A : RattleType) (g : Ghosts A.Denot) where
   pub Book-send : IsSend A → IsSync A → Frees g g.dealloc_token → IsSend (Book.the_row A g)
   Book-send s y f = search (basis, Program-send, Program-sync, plans.the_send, names.the_send, Store-send, instance.the_field_send, Tickets-send, Atom-send) fits 5000 depth 40
 
-module _ (L1 L2 A : RattleType) (p : posts.Ghosts L1.Denot) (l : ledger.Ghosts L1.Denot) (m : ledger.Ghosts L2.Denot) (g : Ghosts A.Denot) where
-  Inside-send : IsSend A → IsSync A → Frees g g.dealloc_token → IsSend (Inside.the_row L1 L2 A p l m g)
+module _ (L1 L2 A : RattleType) (p : posts.Ghosts L1.Denot) (l : ledger.Ghosts L1.Denot) (n : naming.Ghosts L1.Denot) (m : ledger.Ghosts L2.Denot) (g : Ghosts A.Denot) where
+  Inside-send : IsSend A → IsSync A → Frees g g.dealloc_token → IsSend (Inside.the_row L1 L2 A p l n m g)
   Inside-send s y f =
       let b = Book-send A g s y f in
-      fields-send (Inside.the_type L1 L2 A p l m g) (
+      fields-send (Inside.the_type L1 L2 A p l n m g) (
         search (basis, b) fits 5000 depth 40,
-        (search (sendable, counts.the_send) fits 5000 depth 40, (search (sendable, ledgers.the_send) fits 5000 depth 40, (search (sendable, ledgers.the_send) fits 5000 depth 40, tt))),
+        (search (sendable, versions.the_send) fits 5000 depth 40, (search sendable, (search (sendable, counts.the_send) fits 5000 depth 40, (search (sendable, ledgers.the_send) fits 5000 depth 40, (search (sendable, ledgers.the_send) fits 5000 depth 40, tt))))),
       )
 
-  pub Kept-send : IsSend A → IsSync A → Frees g g.dealloc_token → IsSend (Kept.the_row L1 L2 A p l m g)
+  pub Kept-send : IsSend A → IsSync A → Frees g g.dealloc_token → IsSend (Kept.the_row L1 L2 A p l n m g)
   Kept-send s y f =
       let i = Inside-send s y f in
       search (basis, i) fits 5000 depth 40
 
-  Locked-send : IsSend A → IsSync A → Frees g g.dealloc_token → IsSend (Locked.the_row L1 L2 A p l m g)
+  Locked-send : IsSend A → IsSync A → Frees g g.dealloc_token → IsSend (Locked.the_row L1 L2 A p l n m g)
   Locked-send s y f =
       let k = Kept-send s y f in
-      fields-send (Locked.the_type L1 L2 A p l m g) (search (basis, k) fits 5000 depth 40, (search sendable fits 5000 depth 40, tt))
+      fields-send (Locked.the_type L1 L2 A p l n m g) (search (basis, k) fits 5000 depth 40, (search sendable fits 5000 depth 40, tt))
 
-  pub Shared-sync : IsSend A → IsSync A → Frees g g.dealloc_token → IsSync (Shared.the_row L1 L2 A p l m g)
+  pub Shared-sync : IsSend A → IsSync A → Frees g g.dealloc_token → IsSync (Shared.the_row L1 L2 A p l n m g)
   Shared-sync s y f =
       let k = Locked-send s y f in
       search (basis, k) fits 5000 depth 40

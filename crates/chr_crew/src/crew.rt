@@ -9,7 +9,7 @@ ghost use Rattle.chr_pool.specs.Hands.{hand_id};
 ghost use Rattle.chr_pool.specs.Inlets.{inlet_id};
 ghost use Rattle.chr_pool.specs.Pools.{OfOneMake};
 ghost use Rattle.chr_book.specs.Shots.{IsShotOf, Continues};
-ghost use Rattle.chr_seats.specs.Accounts.{log_of, counts_in, made_upto, AreSeats};
+ghost use Rattle.chr_seats.specs.Accounts.{AreNamed, log_of, counts_in, made_upto, AreSeats};
 ghost use Rattle.chr_crew.specs.Runs.{IsWorkedOn};
 ghost use Rattle.chr_crew.specs.declared.crew.End.TheVariants.{Quiet};
 ghost use Rattle.chr_crew.specs.declared.crew.Cause.TheVariants.{NoMemory};
@@ -19,11 +19,11 @@ use crate::worker::{Worker, join_all, part_all, work_all};
 use chr_book::{Book, Shot};
 use chr_calls::TicketState;
 use chr_pool::{Hand, Inlet, Tally, gather, make};
-use chr_seats::{Counts, Kept, PostLedger, Seats, WORKER_SEATS};
+use chr_seats::{Blanks, Counts, Kept, PostLedger, Seats, WORKER_SEATS};
 use chr_shared::Shared;
 use std::alloc::{AllocError, Allocator, Global};
 use std::sync::Wait;
-use std::sync::ledger::{Blank, Ledger};
+use std::sync::ledger::Ledger;
 use std::thread::Threads;
 
 /// How many tickets each hand takes before it takes memory.
@@ -316,13 +316,11 @@ pub fn run_crew<
     n: usize,
     gate: &G,
     turns: u64,
-    posts: Blank,
-    others: Blank,
+    blanks: Blanks<A>,
 ) -> Result<Finished<A>, CrewFault<A>>
     requires n { (1 ≤ n) × (n ≤ 16) }
     requires there { L1.loaded ≡ true }
-    requires posts { (posts.name ≡ L1.name) × (posts.parts ≡ L1.parts) × (posts.parts ≡ 32) }
-    requires others { (others.name ≡ L2.name) × (others.parts ≡ L2.parts) × (others.parts ≡ 32) }
+    requires named { AreNamed blanks L1.name L1.parts L2.name L2.parts L1.history }
     ensures worked_on { IfOk result (λ f. IsWorkedOn n book f.book) }
     ensures headline { IfOk result (λ f. Headline f.book (posted_by (events f.book))) }
     ensures all { IfOk result (λ f. vec_len f.counts ≡ n) }
@@ -335,7 +333,7 @@ pub fn run_crew<
     let Ok(mut room) = make_room::<L1, L2, A>(alloc, pool, &book, n) else {
         return Err(CrewFault { cause, book });
     };
-    match Shared::with(alloc, book, posts, others) {
+    match Shared::with(alloc, book, blanks) {
         Ok((shared, seats)) => {
             let (book, right) = work_together(rt, shared, seats, &mut room, gate, turns);
             conclude(rt, pool, n, room, book, right)

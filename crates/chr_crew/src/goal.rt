@@ -1,6 +1,8 @@
 //! The work on one ticket, a call of the book in each hold.
-ghost use Rattle.std.specs.Prelude.{◌≡◌};
+ghost use Rattle.std.specs.Prelude.{◌≡◌, IfOk, IfSome};
+ghost use Rattle.chr_calls.specs.Batches.{claimed_of, following_of, sheet_of};
 ghost use Rattle.chr_pool.specs.Hands.{hand_id};
+ghost use Rattle.chr_seats.specs.Versions.{IsKnownAfter, IsKnownOf};
 
 use crate::gate::{Gate, Stop};
 use chr_book::MOST_IN_BATCH;
@@ -10,9 +12,9 @@ use chr_calls::{
 };
 use chr_pool::Hand;
 use chr_search::Judged;
-use chr_seats::{HoldFault, PostLedger, Seat};
+use chr_seats::{HoldFault, Known, KnownJudgements, KnownTrials, PostLedger, Seat};
 use chr_shared::Shared;
-use chr_sheet::{Judgements, Watch, judge};
+use chr_sheet::Watch;
 use chr_store::Label;
 use std::alloc::Allocator;
 use std::sync::Wait;
@@ -51,13 +53,13 @@ impl<'g, G: Gate> Watch for AtTicket<'g, G> {
 }
 
 /// A call that comes next for a ticket.
-enum Call<A: Allocator> {
+enum Call<L1: PostLedger, A: Allocator> {
     /// Claims the ticket, and asks for its first trials.
     Claim,
     /// Asks for the next trials.
     Sheet,
     /// Reports judgements of these, and fires the last one, drops the goal, or asks for the next trials.
-    Report(Judgements<A>),
+    Report(KnownJudgements<L1, A>),
     /// Fires one that is whole.
     Fire(Judged<A>),
     /// Drops a goal that has no trial left.
@@ -65,7 +67,7 @@ enum Call<A: Allocator> {
 }
 
 // Not derived: letting a call go is then one call, which is proved here once.
-impl<A: Allocator> Drop for Call<A> {
+impl<L1: PostLedger, A: Allocator> Drop for Call<L1, A> {
     fn drop(self) {
         match self {
             Call::Report(_) | Call::Fire(_) | Call::Claim | Call::Sheet | Call::Drop => {}
@@ -73,7 +75,7 @@ impl<A: Allocator> Drop for Call<A> {
     }
 }
 
-impl<A: Allocator> Call<A> {
+impl<L1: PostLedger, A: Allocator> Call<L1, A> {
     /// How many turns it takes at most.
     fn turns(&self) -> u64 {
         match self {
@@ -84,9 +86,9 @@ impl<A: Allocator> Call<A> {
 }
 
 /// What comes after a call.
-enum After<A: Allocator> {
+enum After<L1: PostLedger, A: Allocator> {
     /// Another call.
-    Call(Call<A>),
+    Call(Call<L1, A>),
     /// The tickets of a firing are dealt with.
     Fired(Fired),
     /// The ticket is left so.
@@ -116,28 +118,35 @@ fn left_without_turn(fault: TurnFault) -> Left {
 }
 
 /// Fires the one judgement of a sheet where it is whole, since its trial is the candidate then; else reports them all.
-fn fire_or_report<A: Allocator + Copy>(judgements: Judgements<A>) -> Call<A> {
+fn fire_or_report<L1: PostLedger, A: Allocator + Copy>(
+    judged: KnownJudgements<L1, A>,
+) -> Call<L1, A> {
+    let judgements = judged.judgements();
     if judgements.others().is_empty() && judgements.whole().is_some() {
-        match judgements.into_whole() {
+        match judged.into_whole() {
             Some(judged) => Call::Fire(judged),
             None => Call::Sheet,
         }
     } else {
-        Call::Report(judgements)
+        Call::Report(judged)
     }
 }
 
 /// Judges the trials that were given, in order, up to the first that is whole. The gate comes before each.
-fn judge_sheet<A: Allocator + Copy, G: Gate>(
+fn judge_sheet<L1: PostLedger, A: Allocator + Copy, G: Gate>(
     gate: &G,
     ticket: u64,
     given: Result<Sheet<A>, TurnFault>,
-) -> After<A> {
+    known: Option<Known<L1, A>>,
+) -> After<L1, A>
+    requires { IfSome known (λ k. IsKnownOf k.version k.search (sheet_of given)) }
+{
     match given {
         Err(fault) => After::Left(left_without_turn(fault)),
         Ok(Sheet::Trials(trials)) => {
             let alloc = *trials.allocator();
-            match judge(alloc, trials, &AtTicket { gate, ticket }) {
+            let trials = KnownTrials::of(trials, known);
+            match trials.judge(alloc, &AtTicket { gate, ticket }) {
                 Ok(judgements) => After::Call(fire_or_report(judgements)),
                 Err(_) => After::Left(Left::Want),
             }
@@ -155,7 +164,9 @@ fn left_unclaimed(fault: ClaimFault) -> Left {
 }
 
 /// What comes after a claim.
-fn after_claim<A: Allocator>(answer: Result<Result<Label, ClaimFault>, HoldFault>) -> After<A> {
+fn after_claim<L1: PostLedger, A: Allocator>(
+    answer: Result<Result<Label, ClaimFault>, HoldFault>,
+) -> After<L1, A> {
     match answer {
         Ok(Ok(_)) => After::Call(Call::Sheet),
         Ok(Err(fault)) => After::Left(left_unclaimed(fault)),
@@ -164,32 +175,46 @@ fn after_claim<A: Allocator>(answer: Result<Result<Label, ClaimFault>, HoldFault
 }
 
 /// What comes after a claim that gives the first trials, which are judged here.
-fn after_claim_sheet<A: Allocator + Copy, G: Gate>(
+fn after_claim_sheet<L1: PostLedger, A: Allocator + Copy, G: Gate>(
     gate: &G,
     ticket: u64,
-    answer: Result<Result<Result<Sheet<A>, TurnFault>, ClaimFault>, HoldFault>,
-) -> After<A> {
+    answer: Result<
+        (
+            Result<Result<Sheet<A>, TurnFault>, ClaimFault>,
+            Option<Known<L1, A>>,
+        ),
+        HoldFault,
+    >,
+) -> After<L1, A>
+    requires { IfOk answer (λ r. IfSome r.1 (λ k. IfOk (claimed_of r.0) (IsKnownOf k.version k.search))) }
+{
     match answer {
-        Ok(Ok(given)) => judge_sheet(gate, ticket, given),
-        Ok(Err(fault)) => After::Left(left_unclaimed(fault)),
+        Ok((claimed, known)) => match claimed {
+            Ok(given) => judge_sheet(gate, ticket, given, known),
+            Err(fault) => After::Left(left_unclaimed(fault)),
+        },
         Err(fault) => After::Left(left_by(fault)),
     }
 }
 
 /// What comes after the next trials were asked for, which are judged here.
-fn after_sheet<A: Allocator + Copy, G: Gate>(
+fn after_sheet<L1: PostLedger, A: Allocator + Copy, G: Gate>(
     gate: &G,
     ticket: u64,
-    answer: Result<Result<Sheet<A>, TurnFault>, HoldFault>,
-) -> After<A> {
+    answer: Result<(Result<Sheet<A>, TurnFault>, Option<Known<L1, A>>), HoldFault>,
+) -> After<L1, A>
+    requires { IfOk answer (λ r. IfSome r.1 (λ k. IsKnownOf k.version k.search (sheet_of r.0))) }
+{
     match answer {
-        Ok(given) => judge_sheet(gate, ticket, given),
+        Ok((given, known)) => judge_sheet(gate, ticket, given, known),
         Err(fault) => After::Left(left_by(fault)),
     }
 }
 
 /// What comes after a report alone.
-fn after_report<A: Allocator>(answer: Result<BatchReport<A>, HoldFault>) -> After<A> {
+fn after_report<L1: PostLedger, A: Allocator>(
+    answer: Result<BatchReport<A>, HoldFault>,
+) -> After<L1, A> {
     match answer {
         Ok(report) => match report.next {
             Ok(Turn::Trial(_)) => After::Call(Call::Sheet),
@@ -201,7 +226,7 @@ fn after_report<A: Allocator>(answer: Result<BatchReport<A>, HoldFault>) -> Afte
 }
 
 /// What comes after a firing.
-fn after_firing<A: Allocator>(answer: Result<Firing, FireFault>) -> After<A> {
+fn after_firing<L1: PostLedger, A: Allocator>(answer: Result<Firing, FireFault>) -> After<L1, A> {
     match answer {
         Ok(Firing::Fired(fired)) => After::Fired(fired),
         Ok(Firing::Missed) | Err(FireFault::Stale | FireFault::NotWhole) => {
@@ -213,7 +238,9 @@ fn after_firing<A: Allocator>(answer: Result<Firing, FireFault>) -> After<A> {
 }
 
 /// What comes after a goal was to be dropped.
-fn after_dropping<A: Allocator>(answer: Result<Dropping, DropFault>) -> After<A> {
+fn after_dropping<L1: PostLedger, A: Allocator>(
+    answer: Result<Dropping, DropFault>,
+) -> After<L1, A> {
     match answer {
         Ok(Dropping::Unfinished) => After::Call(Call::Sheet),
         Ok(Dropping::Dropped) | Err(DropFault::NotHeld) => After::Left(Left::Free),
@@ -222,16 +249,18 @@ fn after_dropping<A: Allocator>(answer: Result<Dropping, DropFault>) -> After<A>
 }
 
 /// What comes after a report with the call that follows. Trials that it gives are judged here.
-fn after_report_sheet<A: Allocator + Copy, G: Gate>(
+fn after_report_sheet<L1: PostLedger, A: Allocator + Copy, G: Gate>(
     gate: &G,
     ticket: u64,
-    answer: Result<SheetReport<A>, HoldFault>,
-) -> After<A> {
+    answer: Result<(SheetReport<A>, Option<Known<L1, A>>), HoldFault>,
+) -> After<L1, A>
+    requires { IfOk answer (λ r. IfSome r.1 (λ k. IsKnownAfter k.version k.search (following_of r.0.following))) }
+{
     match answer {
-        Ok(report) => match report.following {
+        Ok((report, known)) => match report.following {
             Following::Fire(answer) => after_firing(answer),
             Following::Drop(answer) => after_dropping(answer),
-            Following::Sheet(given) => judge_sheet(gate, ticket, given),
+            Following::Sheet(given) => judge_sheet(gate, ticket, given, known),
             Following::Nothing(fault) => After::Left(left_without_turn(fault)),
         },
         Err(fault) => After::Left(left_by(fault)),
@@ -245,9 +274,9 @@ fn make<L1: PostLedger, L2: Ledger, A: Allocator + Copy, R: Wait, G: Gate>(
     seat: &mut Seat<L1, L2>,
     gate: &G,
     ticket: u64,
-    call: &Call<A>,
+    call: &Call<L1, A>,
     turns: u64,
-) -> After<A>
+) -> After<L1, A>
     ensures number { seat.new.number ≡ seat.old.number }
     ensures posts { seat.new.counts.posts ≡ seat.old.counts.posts }
 {
@@ -259,12 +288,12 @@ fn make<L1: PostLedger, L2: Ledger, A: Allocator + Copy, R: Wait, G: Gate>(
             after_claim_sheet(gate, ticket, answer)
         }
         Call::Sheet => after_sheet(gate, ticket, shared.sheet(rt, seat, ticket, FIRST_SHEET)),
-        Call::Report(judgements) if turns == 1 => {
-            after_report(shared.report_all(rt, seat, ticket, judgements))
+        Call::Report(judged) if turns == 1 => {
+            after_report(shared.report_all(rt, seat, ticket, judged.judgements()))
         }
-        Call::Report(judgements) => {
-            let most = size_after(judgements.len());
-            let answer = shared.report_sheet(rt, seat, ticket, judgements, most);
+        Call::Report(judged) => {
+            let most = size_after(judged.judgements().len());
+            let answer = shared.report_sheet(rt, seat, ticket, judged, most);
             after_report_sheet(gate, ticket, answer)
         }
         Call::Fire(judged) => match shared.fire(rt, seat, ticket, judged) {

@@ -1,6 +1,7 @@
 //! The threads of a server.
 ghost use Rattle.std.specs.Prelude.{◌≡◌, ◌≤◌, ◌<◌, ◌+◌, false, length, vec_len, vec_capacity, IfOk};
 ghost use denote.Param.Send.{IsSend, IsSync, Frees};
+ghost use Rattle.chr_seats.specs.Accounts.{AreNamed};
 
 use crate::connections::Connections;
 use crate::listener::Listener;
@@ -11,7 +12,7 @@ use crate::unread::discard_unread;
 use chr_crew::work::work;
 use chr_crew::{Open, Stop};
 use chr_pool::{Inlet, make};
-use chr_seats::{PostLedger, SEATS, SESSION_SEATS, Seat};
+use chr_seats::{Blanks, PostLedger, SEATS, SESSION_SEATS, Seat};
 use chr_shared::Shared;
 use std::alloc::{AllocError, Allocator, Global};
 use std::io::{self, ErrorKind};
@@ -19,7 +20,7 @@ use std::marker::Brand;
 use std::os::unix::net::UnixStream;
 use std::rt::Clock;
 use std::sync::Wait;
-use std::sync::ledger::{Blank, Ledger};
+use std::sync::ledger::Ledger;
 use std::thread;
 use std::thread::Threads;
 
@@ -51,12 +52,10 @@ fn make_parts<L1: PostLedger, L2: Ledger, A: Allocator + Copy>(
     alloc: A,
     pool: Global,
     workers: usize,
-    posts: Blank,
-    others: Blank,
+    blanks: Blanks<A>,
 ) -> Result<Parts<L1, L2, A>, AllocError>
     requires workers { (1 ≤ workers) × (workers ≤ 16) }
-    requires posts { (posts.name ≡ L1.name) × (posts.parts ≡ L1.parts) × (posts.parts ≡ 32) }
-    requires others { (others.name ≡ L2.name) × (others.parts ≡ L2.parts) × (others.parts ≡ 32) }
+    requires named { AreNamed blanks L1.name L1.parts L2.name L2.parts L1.history }
     requires none { L1.loaded ≡ false }
     ensures all { IfOk result (λ p. vec_len p.members + vec_len p.spare ≡ 32) }
     ensures some { IfOk result (λ p. 0 < vec_len p.members) }
@@ -67,7 +66,7 @@ fn make_parts<L1: PostLedger, L2: Ledger, A: Allocator + Copy>(
         Vec::with_capacity(alloc, SEATS),
         Vec::with_capacity(alloc, SEATS),
         make(pool, workers, SESSION_SEATS, CAPACITY),
-        Shared::empty(alloc, posts, others),
+        Shared::empty(alloc, blanks),
     ) {
         (Ok(connections), Ok(members), Ok(room), Ok((hands, inlets)), Ok((shared, seats))) => {
             let mut spare = seats.workers;
@@ -226,15 +225,13 @@ fn serve_by<
     listener: &C,
     workers: usize,
     sessions: Option<u32>,
-    posts: Blank,
-    others: Blank,
+    blanks: Blanks<A>,
 ) -> Result<(), ServerFault>
     requires workers { (1 ≤ workers) × (workers ≤ 16) }
-    requires posts { (posts.name ≡ L1.name) × (posts.parts ≡ L1.parts) × (posts.parts ≡ 32) }
-    requires others { (others.name ≡ L2.name) × (others.parts ≡ L2.parts) × (others.parts ≡ 32) }
+    requires named { AreNamed blanks L1.name L1.parts L2.name L2.parts L1.history }
     requires none { L1.loaded ≡ false }
 {
-    match make_parts::<L1, L2, A>(alloc, pool, workers, posts, others) {
+    match make_parts::<L1, L2, A>(alloc, pool, workers, blanks) {
         Ok(parts) => {
             let Parts {
                 shared,
@@ -283,14 +280,5 @@ pub fn serve_on<A: Allocator + Copy + Send + Sync, R: Threads + Wait + Clock + S
 ) -> Result<(), ServerFault>
     requires { (1 ≤ workers) × (workers ≤ 16) }
 {
-    serve_by::<Brand, Brand, A, R, C>(
-        rt,
-        alloc,
-        pool,
-        listener,
-        workers,
-        sessions,
-        Blank::new(32),
-        Blank::new(32),
-    )
+    serve_by::<Brand, Brand, A, R, C>(rt, alloc, pool, listener, workers, sessions, Blanks::new())
 }

@@ -1,5 +1,6 @@
 //! A session on a book under a lock, with workers beside it.
 ghost use Rattle.std.specs.Prelude.{◌≡◌, ◌≤◌};
+ghost use Rattle.chr_seats.specs.Accounts.{AreNamed};
 
 use crate::tests::play::{
     Before, Looks, Play, Refuses, Signs, Step, becomes_quiet, comes, is_quiet, looks_twice, posts,
@@ -10,7 +11,7 @@ use chr_book::Book;
 use chr_crew::work::work;
 use chr_crew::{Gate, Place, Stop};
 use chr_pool::{Hand, make};
-use chr_seats::{PostLedger, Seat, Seats};
+use chr_seats::{Blanks, PostLedger, Seat, Seats};
 use chr_session::Reply;
 use chr_shared::Shared;
 use chr_shared_desk::SharedDesk;
@@ -18,7 +19,7 @@ use std::alloc::{Allocator, Global};
 use std::marker::Brand;
 use std::sync::Wait;
 use std::sync::atomic::Ordering;
-use std::sync::ledger::{Blank, Ledger};
+use std::sync::ledger::Ledger;
 use std::thread;
 use std::thread::Threads;
 
@@ -302,20 +303,11 @@ fn is_right_by<
     L2: Ledger + Send + Sync,
     A: Allocator + Copy + Refuses + Send + Sync,
     R: Threads + Wait + Sync,
->(
-    rt: &R,
-    alloc: A,
-    pool: Global,
-    book: Book<A>,
-    play: Play<'_>,
-    posts: Blank,
-    others: Blank,
-) -> Option<bool>
+>(rt: &R, alloc: A, pool: Global, book: Book<A>, play: Play<'_>, blanks: Blanks<A>) -> Option<bool>
     requires workers { play.workers ≤ 15 }
-    requires posts { (posts.name ≡ L1.name) × (posts.parts ≡ L1.parts) × (posts.parts ≡ 32) }
-    requires others { (others.name ≡ L2.name) × (others.parts ≡ L2.parts) × (others.parts ≡ 32) }
+    requires named { AreNamed blanks L1.name L1.parts L2.name L2.parts L1.history }
 {
-    let (shared, seats) = Shared::<L1, L2, A>::with(alloc, book, posts, others).ok()?;
+    let (shared, seats) = Shared::<L1, L2, A>::with(alloc, book, blanks).ok()?;
     let members = members_of(pool, seats, play.workers, play.tickets)?;
     let signs = Signs::new(play.before);
     Some(is_right_of(rt, alloc, &shared, &signs, members, &play))
@@ -332,8 +324,8 @@ pub fn is_right_on<A: Allocator + Copy + Refuses + Send + Sync, R: Threads + Wai
     if 15 < play.workers {
         return None;
     }
-    let (posts, others) = (Blank::new(32), Blank::new(32));
-    is_right_by::<Brand, Brand, A, R>(rt, alloc, pool, book, *play, posts, others)
+    let blanks = Blanks::new();
+    is_right_by::<Brand, Brand, A, R>(rt, alloc, pool, book, *play, blanks)
 }
 
 /// The same on a book of its own task.

@@ -6,11 +6,11 @@ use chr_calls::TicketState;
 use chr_check::{Verdict, check};
 use chr_crew::{CrewFault, End, Finished, Gate, Open, run_crew};
 use chr_log::{Event, Version};
+use chr_seats::Blanks;
 use chr_value::{Atom, GREATEST_LABEL, Label};
 use std::alloc::{AllocError, Allocator, Global};
 use std::marker::Brand;
 use std::sync::Wait;
-use std::sync::ledger::Blank;
 use std::thread::Threads;
 
 pub const GCD: &str =
@@ -91,8 +91,8 @@ pub fn run<A: Allocator + Copy + Send + Sync, R: Threads + Wait + Sync, G: Gate 
     requires { (1 ≤ crew.0) × (crew.0 ≤ 16) }
 {
     let (n, gate, turns) = crew;
-    let (posts, others) = (Blank::new(32), Blank::new(32));
-    run_crew::<Brand, Brand, A, R, G>(rt, alloc, pool, book, n, gate, turns, posts, others)
+    let blanks = Blanks::new();
+    run_crew::<Brand, Brand, A, R, G>(rt, alloc, pool, book, n, gate, turns, blanks)
 }
 
 /// A program and posts.

@@ -1,5 +1,6 @@
 //! Three sessions beside two workers.
 ghost use Rattle.std.specs.Prelude.{◌≡◌, false};
+ghost use Rattle.chr_seats.specs.Accounts.{AreNamed};
 
 use crate::tests::hall::{Hall, Worker, hall_of, work_until};
 use crate::tests::over_memory::{LOAD, Lent, Sessions};
@@ -7,14 +8,14 @@ use chr_book::Book;
 use chr_check::Verdict;
 use chr_check_text::check_text;
 use chr_crew::{Place, Rack, Stop};
-use chr_seats::PostLedger;
+use chr_seats::{Blanks, PostLedger};
 use chr_session::{Command, Desk, Ended, Reply};
 use chr_shared::Shared;
 use chr_shared_desk::SharedDesk;
 use std::alloc::Global;
 use std::marker::Brand;
 use std::sync::Wait;
-use std::sync::ledger::{Blank, Ledger};
+use std::sync::ledger::Ledger;
 use std::test::*;
 use std::thread;
 use std::thread::Threads;
@@ -231,9 +232,8 @@ fn talk_beside_workers<
     L1: PostLedger + Send + Sync,
     L2: Ledger + Send + Sync,
     R: Threads + Wait + Sync,
->(rt: &R, alloc: Global, by: By, posts: Blank, others: Blank) -> Option<bool>
-    requires posts { (posts.name ≡ L1.name) × (posts.parts ≡ L1.parts) × (posts.parts ≡ 32) }
-    requires others { (others.name ≡ L2.name) × (others.parts ≡ L2.parts) × (others.parts ≡ 32) }
+>(rt: &R, alloc: Global, by: By, blanks: Blanks<Global>) -> Option<bool>
+    requires named { AreNamed blanks L1.name L1.parts L2.name L2.parts L1.history }
     requires none { L1.loaded ≡ false }
 {
     let Hall {
@@ -241,7 +241,7 @@ fn talk_beside_workers<
         shared,
         rack,
         workers,
-    } = hall_of::<L1, L2, Global>(alloc, alloc, posts, others)?;
+    } = hall_of::<L1, L2, Global>(alloc, alloc, blanks)?;
     let (_, right) = thread::join(
         rt,
         || work_both(rt, &shared, workers),
@@ -260,7 +260,7 @@ fn talk_beside_workers<
 
 /// The same on a lock of its own.
 fn find_their_posts<R: Threads + Wait + Sync>(rt: &R, alloc: Global, by: By) -> Option<bool> {
-    talk_beside_workers::<Brand, Brand, R>(rt, alloc, by, Blank::new(32), Blank::new(32))
+    talk_beside_workers::<Brand, Brand, R>(rt, alloc, by, Blanks::new())
 }
 
 #[test]

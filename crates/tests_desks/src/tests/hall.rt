@@ -1,15 +1,16 @@
 //! A lock over no book, with two workers and the places of sessions, and what is done there.
 ghost use Rattle.std.specs.Prelude.{◌≡◌, false};
+ghost use Rattle.chr_seats.specs.Accounts.{AreNamed};
 
 use chr_crew::work::work;
 use chr_crew::{Open, Rack, Stop};
 use chr_pool::{Hand, make};
-use chr_seats::{PostLedger, Seat, Seats};
+use chr_seats::{Blanks, PostLedger, Seat, Seats};
 use chr_shared::Shared;
 use std::alloc::{Allocator, Global};
 use std::marker::Brand;
 use std::sync::Wait;
-use std::sync::ledger::{Blank, Ledger};
+use std::sync::ledger::Ledger;
 
 /// A worker's hand and seat.
 #[derive(Drop)]
@@ -44,15 +45,13 @@ pub trait Visit<A: Allocator> {
 pub fn hall_of<L1: PostLedger, L2: Ledger, A: Allocator + Copy>(
     alloc: A,
     pool: Global,
-    posts: Blank,
-    others: Blank,
+    blanks: Blanks<A>,
 ) -> Option<Hall<L1, L2, A>>
-    requires posts { (posts.name ≡ L1.name) × (posts.parts ≡ L1.parts) × (posts.parts ≡ 32) }
-    requires others { (others.name ≡ L2.name) × (others.parts ≡ L2.parts) × (others.parts ≡ 32) }
+    requires named { AreNamed blanks L1.name L1.parts L2.name L2.parts L1.history }
     requires none { L1.loaded ≡ false }
 {
     let (Ok((shared, seats)), Ok((mut hands, inlets))) = (
-        Shared::empty(alloc, posts, others),
+        Shared::empty(alloc, blanks),
         make(pool, 2, 16, 16),
     ) else {
         return None;
@@ -90,14 +89,12 @@ fn visit_hall<L1: PostLedger, L2: Ledger, A: Allocator + Copy, R: Wait, V: Visit
     alloc: A,
     pool: Global,
     visit: &V,
-    posts: Blank,
-    others: Blank,
+    blanks: Blanks<A>,
 ) -> Option<V::Seen>
-    requires posts { (posts.name ≡ L1.name) × (posts.parts ≡ L1.parts) × (posts.parts ≡ 32) }
-    requires others { (others.name ≡ L2.name) × (others.parts ≡ L2.parts) × (others.parts ≡ 32) }
+    requires named { AreNamed blanks L1.name L1.parts L2.name L2.parts L1.history }
     requires none { L1.loaded ≡ false }
 {
-    let mut hall = hall_of::<L1, L2, A>(alloc, pool, posts, others)?;
+    let mut hall = hall_of::<L1, L2, A>(alloc, pool, blanks)?;
     visit.visit(rt, &mut hall)
 }
 
@@ -108,7 +105,7 @@ pub fn visited<A: Allocator + Copy, R: Wait, V: Visit<A>>(
     pool: Global,
     visit: &V,
 ) -> Option<V::Seen> {
-    visit_hall::<Brand, Brand, A, R, V>(rt, alloc, pool, visit, Blank::new(32), Blank::new(32))
+    visit_hall::<Brand, Brand, A, R, V>(rt, alloc, pool, visit, Blanks::new())
 }
 
 /// Has a worker work.

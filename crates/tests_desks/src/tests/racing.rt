@@ -1,16 +1,17 @@
 //! Sixteen sessions that load at once.
 ghost use Rattle.std.specs.Prelude.{◌≡◌, false};
+ghost use Rattle.chr_seats.specs.Accounts.{AreNamed};
 
 use crate::tests::hall::{Hall, Worker, hall_of, work_until};
 use chr_crew::{Place, Rack, Stop};
-use chr_seats::PostLedger;
+use chr_seats::{Blanks, PostLedger};
 use chr_session::{Command, Desk, Fault, Reply};
 use chr_shared::Shared;
 use chr_shared_desk::SharedDesk;
 use std::alloc::{AllocError, Global};
 use std::marker::Brand;
 use std::sync::Wait;
-use std::sync::ledger::{Blank, Ledger};
+use std::sync::ledger::Ledger;
 use std::test::*;
 use std::thread;
 use std::thread::Threads;
@@ -139,14 +140,12 @@ fn load_all<L1: PostLedger + Send + Sync, L2: Ledger + Send + Sync, R: Threads +
 fn race<L1: PostLedger + Send + Sync, L2: Ledger + Send + Sync, R: Threads + Wait + Sync>(
     rt: &R,
     alloc: Global,
-    posts: Blank,
-    others: Blank,
+    blanks: Blanks<Global>,
 ) -> Option<bool>
-    requires posts { (posts.name ≡ L1.name) × (posts.parts ≡ L1.parts) × (posts.parts ≡ 32) }
-    requires others { (others.name ≡ L2.name) × (others.parts ≡ L2.parts) × (others.parts ≡ 32) }
+    requires named { AreNamed blanks L1.name L1.parts L2.name L2.parts L1.history }
     requires none { L1.loaded ≡ false }
 {
-    let mut hall = hall_of::<L1, L2, Global>(alloc, alloc, posts, others)?;
+    let mut hall = hall_of::<L1, L2, Global>(alloc, alloc, blanks)?;
     let told = load_all(rt, alloc, &hall.shared, &hall.rack)?;
     match winner(&told) {
         Some(number) => last_runs_by_rules_of(rt, &mut hall, number),
@@ -156,7 +155,7 @@ fn race<L1: PostLedger + Send + Sync, L2: Ledger + Send + Sync, R: Threads + Wai
 
 /// The same on a lock of its own.
 fn one_load_stands<R: Threads + Wait + Sync>(rt: &R, alloc: Global) -> Option<bool> {
-    race::<Brand, Brand, R>(rt, alloc, Blank::new(32), Blank::new(32))
+    race::<Brand, Brand, R>(rt, alloc, Blanks::new())
 }
 
 #[test]

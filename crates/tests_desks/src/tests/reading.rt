@@ -1,9 +1,10 @@
 //! Long replies, whose texts are made while the lock is free.
 ghost use Rattle.std.specs.Prelude.{◌≡◌, false};
+ghost use Rattle.chr_seats.specs.Accounts.{AreNamed};
 
 use crate::tests::hall::{Hall, Worker, hall_of, work_until};
 use chr_crew::{Place, Stop};
-use chr_seats::PostLedger;
+use chr_seats::{Blanks, PostLedger};
 use chr_session::{Command, Desk, Reply};
 use chr_shared::Shared;
 use chr_shared_desk::SharedDesk;
@@ -12,7 +13,7 @@ use std::alloc::{AllocError, Allocator, Global};
 use std::marker::Brand;
 use std::sync::Wait;
 use std::sync::atomic::{AtomicU64, Ordering};
-use std::sync::ledger::{Blank, Ledger};
+use std::sync::ledger::Ledger;
 use std::test::*;
 use std::thread;
 use std::thread::Threads;
@@ -206,20 +207,11 @@ fn read_beside<
     A: Allocator + Copy + Send + Sync,
     N: Requests + Sync,
     R: Threads + Wait + Sync,
->(
-    rt: &R,
-    alloc: A,
-    pool: Global,
-    posts: Blank,
-    others: Blank,
-    requests: &N,
-    reads: Reads,
-) -> Option<bool>
-    requires posts { (posts.name ≡ L1.name) × (posts.parts ≡ L1.parts) × (posts.parts ≡ 32) }
-    requires others { (others.name ≡ L2.name) × (others.parts ≡ L2.parts) × (others.parts ≡ 32) }
+>(rt: &R, alloc: A, pool: Global, blanks: Blanks<A>, requests: &N, reads: Reads) -> Option<bool>
+    requires named { AreNamed blanks L1.name L1.parts L2.name L2.parts L1.history }
     requires none { L1.loaded ≡ false }
 {
-    let mut hall = hall_of::<L1, L2, A>(alloc, pool, posts, others)?;
+    let mut hall = hall_of::<L1, L2, A>(alloc, pool, blanks)?;
     let span = fill(rt, pool, &mut hall, requests, reads)?;
     Some(gets_beside(rt, &hall, requests, span, reads))
 }
@@ -231,9 +223,9 @@ fn is_made_outside<R: Threads + Wait + Sync>(
     pool: Global,
     reads: Reads,
 ) -> Option<bool> {
-    let (posts, others) = (Blank::new(32), Blank::new(32));
+    let blanks = Blanks::new();
     read_beside::<Brand, Brand, Memory, Refusing<Global>, R>(
-        rt, memory, pool, posts, others, memory, reads,
+        rt, memory, pool, blanks, memory, reads,
     )
 }
 

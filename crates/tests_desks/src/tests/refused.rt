@@ -2,11 +2,12 @@
 //!
 //! The memory is that of the lock, the rack and the desk. That of the pool isn't refused, since it is always of `Global`.
 ghost use Rattle.std.specs.Prelude.{◌≡◌, false};
+ghost use Rattle.chr_seats.specs.Accounts.{AreNamed};
 
 use crate::tests::hall::{Hall, Visit, Worker, visited, work_until};
 use chr_crew::{Place, Rack, Stop};
 use chr_pool::make;
-use chr_seats::PostLedger;
+use chr_seats::{Blanks, PostLedger};
 use chr_session::{Command, Desk, Fault, Reply};
 use chr_shared::Shared;
 use chr_shared_desk::SharedDesk;
@@ -14,7 +15,7 @@ use refusing::{Refusable, Refusing, refuse_each};
 use std::alloc::Global;
 use std::marker::Brand;
 use std::sync::Wait;
-use std::sync::ledger::{Blank, Ledger};
+use std::sync::ledger::Ledger;
 
 type Memory<'m> = &'m Refusing<Global>;
 
@@ -30,15 +31,13 @@ fn lock_is_opened<L1: PostLedger, L2: Ledger, R: Wait>(
     rt: &R,
     memory: Memory,
     n: u64,
-    posts: Blank,
-    others: Blank,
+    blanks: Blanks<Memory>,
 ) -> bool
-    requires posts { (posts.name ≡ L1.name) × (posts.parts ≡ L1.parts) × (posts.parts ≡ 32) }
-    requires others { (others.name ≡ L2.name) × (others.parts ≡ L2.parts) × (others.parts ≡ 32) }
+    requires named { AreNamed blanks L1.name L1.parts L2.name L2.parts L1.history }
     requires none { L1.loaded ≡ false }
 {
     memory.refuse(n);
-    match Shared::<L1, L2, Memory>::empty(memory, posts, others) {
+    match Shared::<L1, L2, Memory>::empty(memory, blanks) {
         Ok((shared, _seats)) => shared.resting(rt) == 0,
         Err(_) => false,
     }
@@ -50,14 +49,12 @@ fn rack_is_opened<L1: PostLedger, L2: Ledger, R: Wait>(
     memory: Memory,
     pool: Global,
     n: u64,
-    posts: Blank,
-    others: Blank,
+    blanks: Blanks<Memory>,
 ) -> Option<bool>
-    requires posts { (posts.name ≡ L1.name) × (posts.parts ≡ L1.parts) × (posts.parts ≡ 32) }
-    requires others { (others.name ≡ L2.name) × (others.parts ≡ L2.parts) × (others.parts ≡ 32) }
+    requires named { AreNamed blanks L1.name L1.parts L2.name L2.parts L1.history }
     requires none { L1.loaded ≡ false }
 {
-    let (_shared, seats) = Shared::<L1, L2, Memory>::empty(memory, posts, others).ok()?;
+    let (_shared, seats) = Shared::<L1, L2, Memory>::empty(memory, blanks).ok()?;
     let (_hands, inlets) = make::<u64>(pool, 1, 16, 0).ok()?;
     memory.refuse(n);
     Some(match Rack::new(memory, seats.sessions, inlets) {
@@ -68,10 +65,10 @@ fn rack_is_opened<L1: PostLedger, L2: Ledger, R: Wait>(
 
 /// The same on seats of its own.
 fn is_opened<R: Wait>(rt: &R, memory: Memory, pool: Global, n: u64, opens: Opens) -> Option<bool> {
-    let (posts, others) = (Blank::new(32), Blank::new(32));
+    let blanks = Blanks::new();
     match opens {
-        Opens::Lock => Some(lock_is_opened::<Brand, Brand, R>(rt, memory, n, posts, others)),
-        Opens::Rack => rack_is_opened::<Brand, Brand, R>(rt, memory, pool, n, posts, others),
+        Opens::Lock => Some(lock_is_opened::<Brand, Brand, R>(rt, memory, n, blanks)),
+        Opens::Rack => rack_is_opened::<Brand, Brand, R>(rt, memory, pool, n, blanks),
     }
 }
 
