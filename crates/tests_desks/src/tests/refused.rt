@@ -27,34 +27,34 @@ enum Opens {
 }
 
 /// Whether a lock is opened with request number `n` refused, and may be used.
-fn lock_is_opened<L1: PostLedger, L2: Ledger, R: Wait>(
+fn lock_is_opened<'m, L1: PostLedger, L2: Ledger, R: Wait>(
     rt: &R,
-    memory: Memory,
+    memory: Memory<'m>,
     n: u64,
-    blanks: Blanks<Memory>,
+    blanks: Blanks<Memory<'m>>,
 ) -> bool
     requires named { AreNamed blanks L1.name L1.parts L2.name L2.parts L1.history }
     requires none { L1.loaded ≡ false }
 {
     memory.refuse(n);
-    match Shared::<L1, L2, Memory>::empty(memory, blanks) {
+    match Shared::<L1, L2, Memory<'m>>::empty(memory, blanks) {
         Ok((shared, _seats)) => shared.resting(rt) == 0,
         Err(_) => false,
     }
 }
 
 /// The same of a rack over the sessions of a lock, whose requests aren't refused. None where memory ran out for these.
-fn rack_is_opened<L1: PostLedger, L2: Ledger, R: Wait>(
+fn rack_is_opened<'m, L1: PostLedger, L2: Ledger, R: Wait>(
     rt: &R,
-    memory: Memory,
+    memory: Memory<'m>,
     pool: Global,
     n: u64,
-    blanks: Blanks<Memory>,
+    blanks: Blanks<Memory<'m>>,
 ) -> Option<bool>
     requires named { AreNamed blanks L1.name L1.parts L2.name L2.parts L1.history }
     requires none { L1.loaded ≡ false }
 {
-    let (_shared, seats) = Shared::<L1, L2, Memory>::empty(memory, blanks).ok()?;
+    let (_shared, seats) = Shared::<L1, L2, Memory<'m>>::empty(memory, blanks).ok()?;
     let (_hands, inlets) = make::<u64>(pool, 1, 16, 0).ok()?;
     memory.refuse(n);
     Some(match Rack::new(memory, seats.sessions, inlets) {
