@@ -153,9 +153,9 @@ same_front r h q k xs ys before others x y told ex ey rq hk d =
 -- two positions, by their rules, heads and labels
 pub same_place : (r h q k : ℕ) (xs ys p p' : List ℕ) (told : Bool) → r ∷ h ∷ xs ≡ p → q ∷ k ∷ ys ≡ p' → r ≡ q → h ≡ k → Decides told (xs ≡ ys) → IsTrue told ↔ (p ≡ p')
 same_place r h q k xs ys p p' told view view' rq hk d = (
-      λ t. let same : xs ≡ ys = d.0 t in cc,
-      λ e. d.1 (let z : r ∷ h ∷ xs ≡ q ∷ k ∷ ys = view ∙ e ∙ sym view' in cc),
-    )
+  λ t. let same : xs ≡ ys = d.0 t in cc,
+  λ e. d.1 (let z : r ∷ h ∷ xs ≡ q ∷ k ∷ ys = view ∙ e ∙ sym view' in cc),
+)
 
 -- positions with one label more than another
 pub one_more : (p : List ℕ) (r h : ℕ) (ls before : List ℕ) (l : ℕ) (q : List ℕ) → r ∷ h ∷ ls ≡ p → ls ≡ before ++ l ∷ [] → r ∷ h ∷ before ≡ q → p ≡ q ++ l ∷ []
