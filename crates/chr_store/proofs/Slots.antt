@@ -7,6 +7,15 @@ use Rattle.std.proofs.lemmas.Bool.Decides.{nat_tests}
 use Rattle.chr_store.specs.declared.bucket.Slot.{Slot}
 use Rattle.chr_store.specs.Buckets.{is_live, JumpsAreDead, live_labels, live_slots, drop_number, IsIn, SlotsRise, IsLiveOrNone, HasLabelAt, IsBucket}
 
+-- ---- how many live
+
+pub live_few : (ss : List Slot) → length (live_labels ss) ≤ length ss
+live_few [] = omega arith
+live_few (s ∷ ss) = elim (is_live s) as (λ b. length (if b then s.label ∷ live_labels ss else live_labels ss) ≤ length (s ∷ ss)) [
+  | true ↦ (let few = live_few ss in omega arith)
+  | false ↦ (let few = live_few ss in omega arith)
+]
+
 -- ---- a fact by places, over the front and over the rest
 
 pub all_front : {X : Type 0} (P : X → Type 0) (xs : List X) (r : ℕ) → r ≤ length xs → ((k : ℕ) (d : X) → 0 ≤ k → k < r → P (slice_index_or xs k d)) → AllByRecursion P (take r xs)
@@ -384,6 +393,16 @@ skip_most ss r f m e h = elim (cases_lt r f) [
   | inl l ↦ (let same : m ≡ f = omega arith in skip_front ss r f (omega arith) h ∙ ap (λ (z : ℕ). live_labels (drop z ss)) (sym same))
   | inr l ↦ (let same : m ≡ r = omega arith in ap (λ (z : ℕ). live_labels (drop z ss)) (sym same))
 ]
+
+-- where slots are passed over up to the greater of two places, and then dead ones
+pub sought_past : (ss : List Slot) (after r f m p : ℕ) → SlotsRise ss → live_labels (take f ss) ≡ [] → m ≡ max r f → live_labels (drop m ss) ≡ live_labels (drop p ss) → IsLiveOrNone (slice_get ss p) → AllByRecursion (λ s. s.label ≤ after) (take r ss) → AllByRecursion (λ s. after < s.label) (drop r ss) → IsSought ss after r p
+sought_past ss after r f m p rising none most rest live front later = record {
+  rising = rising;
+  front = front;
+  later = later;
+  skipped = skip_most ss r f m most none ∙ rest;
+  live = live;
+}
 
 pub get_none : (ss : List Slot) (p : ℕ) → false ≡ ltb p (length ss) → slice_get ss p ≡ None
 get_none [] p h = refl

@@ -6,4 +6,4 @@ use Rattle.chr_store.specs.declared.labels.Kept.TheVariants as ways
 abbrev pub kept_labels : {A : Type 0} → Kept A → List ℕ
 kept_labels ways.None = []
 kept_labels (ways.One label) = label ∷ []
-kept_labels (ways.Many labels) = labels
+kept_labels (ways.Many bucket) = bucket.value

@@ -243,6 +243,13 @@ impl<A: Allocator + Copy> Bucket<A> {
         self.slots.is_empty()
     }
 
+    /// An upper bound on how many labels there are.
+    pub fn most(&self) -> usize
+        ensures { length self.now ≤ result }
+    {
+        self.slots.len()
+    }
+
     /// One label more, above the others. E01 where the bucket could not grow, which is then unchanged.
     pub fn push(&mut self, label: u64) -> Result<(), AllocError>
         requires { AllByRecursion (λ m. m < label) self.old }

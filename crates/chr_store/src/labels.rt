@@ -1,5 +1,5 @@
 //! The labels of one key, where one alone takes no memory.
-ghost use Rattle.std.specs.Prelude.{◌≡◌, ◌<◌, ◌++◌, ◌∷◌, [], OnOk, OnErr, IsTrue};
+ghost use Rattle.std.specs.Prelude.{◌≡◌, ◌<◌, ◌≤◌, ◌++◌, ◌∷◌, [], OnOk, OnErr, IsTrue, length};
 ghost use Rattle.std.specs.List.{AllByRecursion};
 ghost use Rattle.std.specs.Option.{option_map};
 ghost use Rattle.chr_store.specs.Buckets.{drop_number, IsLeastBetween};
@@ -13,7 +13,7 @@ use std::marker::Model;
 pub(crate) enum Kept<A: Allocator> {
     None,
     One(u64),
-    Many(Bucket<A>),
+    Many(Box<Bucket<A>, A>),
 }
 
 /// Labels that rise. They take memory from the second on. Contracts see the list of them.
@@ -50,6 +50,17 @@ impl<A: Allocator + Copy> Labels<A> {
         }
     }
 
+    /// An upper bound on how many there are.
+    pub fn most(&self) -> usize
+        ensures { length self.now ≤ result }
+    {
+        match &self.kept {
+            Kept::None => 0,
+            Kept::One(_) => 1,
+            Kept::Many(bucket) => bucket.most(),
+        }
+    }
+
     /// One label more, above the others. E01 where they could not grow, and are then unchanged.
     pub fn push(&mut self, alloc: A, label: u64) -> Result<(), AllocError>
         requires { AllByRecursion (λ m. m < label) self.old }
@@ -65,7 +76,7 @@ impl<A: Allocator + Copy> Labels<A> {
                 let mut bucket = Bucket::new(alloc);
                 bucket.push(*first)?;
                 bucket.push(label)?;
-                self.kept = Kept::Many(bucket);
+                self.kept = Kept::Many(Box::new(alloc, bucket)?);
                 Ok(())
             }
             Kept::Many(bucket) => bucket.push(label),

@@ -333,6 +333,16 @@ impl<'s, A: Allocator> Model for Matches<'s, A> {
 }
 
 impl<'s, A: Allocator + Copy> Matches<'s, A> {
+    /// An upper bound on how many there are: those that were taken out may be counted too.
+    pub fn most(&self) -> usize
+        ensures { length self.now ≤ result }
+    {
+        match self.labels {
+            None => 0,
+            Some(labels) => labels.most(),
+        }
+    }
+
     /// The least label over `after` and under `below`. It takes no search where `after` is the one found last.
     #[inline(always)]
     pub fn next_at(&mut self, after: Label, below: Label) -> Option<Label>
