@@ -1,5 +1,5 @@
 //! Trials that differ in their last label.
-ghost use Rattle.std.specs.Prelude.{◌≡◌, ◌↔◌, ◌∷◌, ◌++◌, ◌≤◌, [], ℕ, List, length, map, OnOk, MatchOption, IsTrue};
+ghost use Rattle.std.specs.Prelude.{◌≡◌, ◌↔◌, ◌∷◌, ◌++◌, ◌≤◌, [], ℕ, List, length, map, IfOk, OnOk, MatchOption, IsTrue};
 ghost use Rattle.chr_plan.specs.Plans.{ArePlans};
 ghost use Rattle.chr_search.specs.declared.trial.Placed.{Placed as CodePlaced};
 ghost use Rattle.chr_search.specs.Fronts.{MayEnd, IsEndFrom, IsFront, IsPlacedAfter};
@@ -19,6 +19,9 @@ use chr_plan::Plans;
 use chr_rule::Program;
 use chr_store::{Label, Store, View};
 use std::alloc::{AllocError, Allocator};
+
+/// How many labels there is room for at first where the store doesn't know how many there are.
+const FIRST_ROOM: usize = 2;
 
 /// A rule, a head of it, and labels, with which admissible trials begin that have one label more.
 #[derive(Drop)]
@@ -95,6 +98,17 @@ impl<'b, 's, A: Allocator + Copy> Front<'b, 's, A> {
         let labels = self.labels.as_slice();
         self.join
             .next_at(&mut self.level, labels, self.binding, from)
+    }
+
+    /// No labels, with room for those with which admissible trials end, but for at most so many. An `Err` is E01.
+    pub fn no_ends(&self, alloc: A, most: usize) -> Result<Vec<Placed<A>, A>, AllocError>
+        ensures { IfOk result (λ made. made.items ≡ []) }
+    {
+        let count = match &self.level.partners {
+            None => FIRST_ROOM,
+            Some(partners) => partners.most(),
+        };
+        Vec::with_capacity(alloc, count.min(most))
     }
 
     /// Puts a label with which an admissible trial ends after others, with a copy of its atom. An `Err` is E01.
