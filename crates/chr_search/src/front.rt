@@ -37,6 +37,7 @@ pub struct Front<'b, 's, A: Allocator> {
 
 impl<'s, A: Allocator + Copy> Join<'s, A> {
     /// These labels, by which the binding of no labels is extended in turn. None where no trial begins with them and goes on.
+    #[inline(always)]
     fn narrow_by_all(&self, binding: &mut Binding<'s, A>, placed: &[Placed<A>]) -> Option<Labels>
         requires plan { HasPlan (join_of self.now) }
         requires ready { IsReady (join_of self.now) [] binding.old }
@@ -57,6 +58,7 @@ impl<'b, 's, A: Allocator + Copy> Front<'b, 's, A> {
     /// What the admissible trials of an active label have in common that begin with a rule, a head and these labels, one at
     /// least, and have one label more. None where there is no such trial. The binding becomes that of the labels. It takes no
     /// memory.
+    #[inline(always)]
     pub fn of(
         program: &'s Program<A>,
         plans: &'s Plans<A>,

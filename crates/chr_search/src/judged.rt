@@ -71,6 +71,7 @@ impl<A: Allocator + Copy> Judged<A> {
     /// The one binding of all variables of the instance that a whole trial is. None unless the verdict is
     /// [`Verdict::Whole`]. It takes no memory. The trial is judged once more where a compound value stands in the binding, or
     /// where there was no memory to keep it.
+    #[inline(always)]
     pub fn binding(&self) -> Option<Binding<'_, A>>
         ensures { MatchOption result (IsWhole self.now.trial → ⊥) (IsWholeUnder self.now.trial) }
     {

@@ -362,6 +362,7 @@ impl Search {
 
     /// The least admissible trial at or after the position. Done where there is none. E01 where memory ran out. The search
     /// stays as it is.
+    #[inline(always)]
     pub fn candidate<A: Allocator + Copy>(
         &self,
         alloc: A,

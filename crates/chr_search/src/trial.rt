@@ -199,6 +199,7 @@ fn copy_placed<A: Allocator + Copy>(
 }
 
 /// Labels at the heads of a plan's first steps, with copies of their atoms. An `Err` is E01.
+#[inline(always)]
 fn place_labels<A: Allocator + Copy>(
     alloc: A,
     labels: &[Label],
@@ -371,6 +372,7 @@ impl<A: Allocator + Copy> Trial<A> {
     }
 
     /// The admissible trial of a position, with copies of its atoms. E01 where memory ran out.
+    #[inline(always)]
     pub(crate) fn at(
         alloc: A,
         position: &Position,

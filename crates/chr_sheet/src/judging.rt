@@ -87,6 +87,7 @@ impl<A: Allocator + Copy> Judgements<A> {
 
 /// How many trials of a row are misfits, before the first that isn't, and what is kept of that one's binding, where there is
 /// memory for that.
+#[inline(always)]
 fn count_in_row<A: Allocator + Copy, W: Watch>(
     alloc: A,
     row: &Row<A>,
@@ -113,6 +114,7 @@ fn count_in_row<A: Allocator + Copy, W: Watch>(
 
 /// How many trials of a column are misfits, before the first that isn't, and what is kept of that one's binding, where there is
 /// memory for that.
+#[inline(always)]
 fn count_in_column<A: Allocator + Copy, W: Watch>(
     alloc: A,
     column: &Column<A>,
@@ -145,6 +147,7 @@ fn count_in_column<A: Allocator + Copy, W: Watch>(
 
 /// How many of these trials aren't whole, before the first that is, and what is kept of that one's binding, where there is
 /// memory for that. Where there is one trial alone, both are left open.
+#[inline(always)]
 fn count_others<A: Allocator + Copy, W: Watch>(
     alloc: A,
     trials: &Trials<A>,
@@ -188,6 +191,7 @@ fn push_several<A: Allocator + Copy>(
 
 /// Judges a trial, unless what is kept of its binding shows that it is whole. Returns the judgement where it is, and else puts
 /// it after the others. An `Err` is E01.
+#[inline(always)]
 fn judge_one<A: Allocator + Copy>(
     trial: Trial<A>,
     settled: Option<Settled<A>>,
@@ -210,6 +214,7 @@ fn judge_one<A: Allocator + Copy>(
 
 /// Judges trials that are kept in one place, up to the first that is whole. Returns the judgement of that one, and puts the
 /// others after the others. An `Err` is E01.
+#[inline(always)]
 fn judge_some<A: Allocator + Copy, W: Watch>(
     alloc: A,
     trials: Trials<A>,

@@ -29,18 +29,6 @@ use chr_value::Pred;
 use std::alloc::{AllocError, Allocator};
 use std::sync::Arc;
 
-/// How many labels a row has room for at first where few trials are asked for: most rows have one or two.
-const FIRST_ROOM: usize = 2;
-
-/// The part of the trials asked for that a row has room for at first where they are many: the rows of a goal that goes on for
-/// long are longer.
-const ROOM_PART: usize = 16;
-
-/// How many labels a row has room for at first, which may have so many.
-fn row_room(most: usize) -> usize {
-    (most / ROOM_PART).max(FIRST_ROOM).min(most)
-}
-
 /// How many heads a column has room for at first. They are small.
 const HEADS_ROOM: usize = 16;
 
@@ -64,6 +52,7 @@ fn push_with_room<T: Drop, A: Allocator>(
 
 /// The labels from one on with which trials of a front end, that one first, put after the others while they are fewer than so
 /// many. Where they stay fewer, there is no further one. An `Err` is E01.
+#[inline(always)]
 fn push_ends<A: Allocator + Copy>(
     alloc: A,
     front: &mut Front<'_, '_, A>,
@@ -90,6 +79,7 @@ fn push_ends<A: Allocator + Copy>(
 
 /// The front of a trial's rule, its head and these labels, and the least label from one on with which a trial ends. None where
 /// there is none.
+#[inline(always)]
 fn first_end<'b, 's, A: Allocator + Copy>(
     trial: &Trial<A>,
     labels: &[Placed<A>],
@@ -137,6 +127,7 @@ fn second_beside<'b, 's, A: Allocator + Copy>(
 
 /// The heads of rules of one head at which an atom of a predicate is tried next after a rule and a head, one after another, at
 /// most so many. An `Err` is E01.
+#[inline(always)]
 fn next_heads<A: Allocator + Copy>(
     alloc: A,
     program: &Program<A>,
@@ -167,6 +158,7 @@ fn next_heads<A: Allocator + Copy>(
 
 /// A trial of one label, at a rule of one head, with those that come next after it at rules of one head, at most so many. No
 /// other is left at the last one's head. An `Err` is E01.
+#[inline(always)]
 fn in_column<A: Allocator + Copy>(
     alloc: A,
     active: Label,
@@ -198,6 +190,7 @@ fn in_column<A: Allocator + Copy>(
 
 /// A trial that one head is left of, with those that begin with it and have one label more, at most so many, and whether it is
 /// known that no other is left at the head. An `Err` is E01.
+#[inline(always)]
 fn in_branch<'s, A: Allocator + Copy>(
     alloc: A,
     active: Label,
@@ -224,7 +217,7 @@ fn in_branch<'s, A: Allocator + Copy>(
         return Ok((Trials::One(part), is_alone));
     };
     let most = most - 1;
-    let mut lasts = Vec::with_capacity(alloc, row_room(most))?;
+    let mut lasts = front.no_ends(alloc, most)?;
     push_ends(alloc, &mut front, &mut lasts, first, most)?;
     let ends_head = is_alone && lasts.len() < most;
     Ok((Trials::Branch(Row::new(part, lasts)), ends_head))
@@ -233,6 +226,7 @@ fn in_branch<'s, A: Allocator + Copy>(
 /// A trial with those that come next after it, at most so many: where one head is left of it, those that begin with it; where it
 /// has all heads, two at least, those that differ from it in their last label alone; where its rule has one head, those of its
 /// label at rules of one head. Also whether it is known that no other is left at the last one's head. An `Err` is E01.
+#[inline(always)]
 fn in_turn<'s, A: Allocator + Copy>(
     alloc: A,
     active: Label,
@@ -273,7 +267,7 @@ fn in_turn<'s, A: Allocator + Copy>(
     let (part, last) = first.split_last();
     // For the proof: what holds of every trial.
     let _placed = part.placed();
-    let mut lasts = Vec::with_capacity(alloc, row_room(most))?;
+    let mut lasts = front.no_ends(alloc, most)?;
     lasts.push(last)?;
     push_ends(alloc, &mut front, &mut lasts, second, most)?;
     let ends_head = heads == 2 && lasts.len() < most;
@@ -292,6 +286,7 @@ fn go_past_row<A: Allocator + Copy>(search: &mut Search, row: &Row<A>)
 
 /// Moves a search to those that come after the last of these trials. Where no other is left at the last one's head, it moves
 /// past the active label there, from where the next trial is looked for at the next head.
+#[inline(always)]
 fn go_behind<A: Allocator + Copy>(
     search: &mut Search,
     trials: &Trials<A>,
@@ -324,6 +319,7 @@ fn go_behind<A: Allocator + Copy>(
 
 /// A trial with those that come next after it and are kept with it, at most so many. The search moves on after
 /// them. An `Err` is E01.
+#[inline(always)]
 fn with_those_beside<'s, A: Allocator + Copy>(
     alloc: A,
     search: &mut Search,

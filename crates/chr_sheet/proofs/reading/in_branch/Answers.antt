@@ -43,7 +43,7 @@ push_ends-requires g c =
     let t = c.args.part in
     let at = (goal.at.push_ends-requires g c).In-Some in
     let e = end g at in
-    let none : length c.in_ok-lasts.lasts.items ≡ 0 = ap length c.in_ok-lasts.ensures.items in
+    let none : length c.in_ok-lasts.lasts.items ≡ 0 = ap length c.in_ok-lasts.ensures in
     record {
       front = (s, t.number, t.head, labels t, 0, e.front, e.least, small_end s c.args.setting.now.store.now refl c.next_label-given.ensures.labelled t (lacks g at));
       few = omega arith;
@@ -55,7 +55,7 @@ made g c k e =
     let t = c.args.part in
     let lasts = map placed_as c.push_ends.new.lasts.items in
     let ends = c.in_ok-push_ends.ensures.ends s t.number t.head (labels t) 0 e.front e.least in
-    let more : lasts ≡ ends.0 = ends.1 ∙ ap (λ xs. map placed_as xs ++ ends.0) c.in_ok-lasts.ensures.items in
+    let more : lasts ≡ ends.0 = ends.1 ∙ ap (λ xs. map placed_as xs ++ ends.0) c.in_ok-lasts.ensures in
     let count : length lasts ≡ length c.push_ends.new.lasts.items = length-map c.push_ends.new.lasts.items placed_as in
     let some : length c.in_ok-lasts.lasts.items < length c.push_ends.new.lasts.items = c.in_ok-push_ends.ensures.some in
     (branch_made s c.args.setting.now.store.now refl c.next_label-given.ensures.labelled t k (begins_others s t c.in-Some.front e.front c.requires.first.1 c.placed-placed.ensures.formed c.requires.left) lasts (omega arith) (subst (AreEnds s t.number t.head (labels t) 0) (sym more) ends.2), λ fewer. subst (λ ps. NoneFrom (MayEnd s (position t)) (next_from 0 ps)) (sym more) (ends.3 fewer))

@@ -25,7 +25,7 @@ parted g c =
 
 -- the label that the pushed ones come after
 one : (g : _) (c : In_ok-push g) → c.push.new.self.items ≡ c.split_last-part.result.1 ∷ []
-one g c = c.in_ok-push.ensures.items ∙ ap (λ xs. xs ++ c.split_last-part.result.1 ∷ []) c.in_ok-lasts.ensures.items
+one g c = c.in_ok-push.ensures.items ∙ ap (λ xs. xs ++ c.split_last-part.result.1 ∷ []) c.in_ok-lasts.ensures
 
 pub push_ends-requires : goal.push_ends-requires
 push_ends-requires g c =
