@@ -25,6 +25,10 @@ trial_there f r xs i x lasts h e =
     subst (λ ls. lengthened r.part (f x) ≡ get_or (map (lengthened r.part) ls) i (lengthened r.part (f x))) lasts
     (ap (lengthened r.part) (ap f e ∙ sym (get_or-map f xs i x (f x) h)) ∙ sym (get_or-map (lengthened r.part) (map f xs) i (f x) (lengthened r.part (f x)) within))
 
+-- the same, and that it is one of them
+pub trial_at : {X : Type 0} (f : X → Placed) (r : Row) (xs : List X) (i : ℕ) (x : X) → map f xs ≡ r.lasts → i < length xs → x ≡ get_or xs i x → (i < length (trials_of r)) × (lengthened r.part (f x) ≡ get_or (trials_of r) i (lengthened r.part (f x)))
+trial_at f r xs i x lasts h e = (let count = trials_count f r xs lasts in omega arith, trial_there f r xs i x lasts h e)
+
 none_there : (ts : List Trial) (n : ℕ) (P : Trial → Type 0) → length ts ≤ n → MatchOption (slice_get ts n) ⊤ P
 none_there [] n P h = tt
 none_there (t ∷ ts) zero P h = absurd (omega arith)
@@ -67,8 +71,8 @@ trials_step f r xs i x lasts h e =
 -- what holds of a row's trials and labels
 pub formed_there : {X : Type 0} (f : X → Placed) (r : Row) (xs : List X) (i : ℕ) (x : X) → IsRow r → map f xs ≡ r.lasts → i < length xs → x ≡ get_or xs i x → IsFormed (lengthened r.part (f x))
 formed_there f r xs i x row lasts h e =
-    let count : length (trials_of r) ≡ length xs = trials_count f r xs lasts in
-    (all_at IsFormed (trials_of r) i (lengthened r.part (f x)) (omega arith) (trial_there f r xs i x lasts h e) row.formed).1
+    let at = trial_at f r xs i x lasts h e in
+    (all_at IsFormed (trials_of r) i (lengthened r.part (f x)) at.0 at.1 row.formed).1
 
 pub label_low : (part : Trial) (p : Placed) → IsFormed (lengthened part p) → p.label ≤ 4294967295
 label_low part p formed = ((all_push (λ (q : Placed). (1 ≤ q.head) × (q.head ≤ length (heads_of part.rule)) × (q.label ≤ 4294967295)) part.placed p).0 formed.within).1.2

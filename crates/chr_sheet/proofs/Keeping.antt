@@ -68,6 +68,9 @@ others_step xs i x h e = others_pushed (take i xs) (take (i + 1) xs) x (take_mor
 pub others_counted : {Z : Type 0} (xs : List (Others Z)) (i : ℕ) (x : Others Z) → i < length xs → x ≡ get_or xs i x → length (others_in (take (i + 1) xs)) ≡ length (others_in (take i xs)) + length (others_at x)
 others_counted xs i x h e = ap length (others_step xs i x h e) ∙ length-append (others_in (take i xs)) (others_at x)
 
+pub others_within : {Z : Type 0} (xs : List (Others Z)) (i : ℕ) (x : Others Z) → i < length xs → x ≡ get_or xs i x → length (others_in (take i xs)) + length (others_at x) ≤ length (others_in xs)
+others_within xs i x h e = let front = others_front xs (i + 1) in let more = others_counted xs i x h e in omega arith
+
 -- none of those that are judged together is whole
 misfits_other : (ts : List Trial) → AllByRecursion (λ j. j.verdict ≢ verdicts.Whole) (map misfit ts)
 misfits_other [] = tt

@@ -1,4 +1,4 @@
-use Rattle.std.proofs.Common.{◌+◌, length, length-append, take, refl, sym, ap, subst, ◌∙◌, arith}
+use Rattle.std.proofs.Common.{length, length-append, take, refl, sym, ap, subst, ◌∙◌, arith}
 use Rattle.std.specs.Prelude.{◌≢◌}
 use Rattle.std.specs.List.{AllByRecursion}
 use Rattle.std.proofs.lemmas.List.{take_all}
@@ -9,7 +9,7 @@ use Rattle.chr_sheet.specs.Others.{others_at, others_in}
 use Rattle.chr_sheet.specs.Rows.{listed}
 use Rattle.chr_sheet.specs.Sheets.{after_all}
 use Rattle.chr_sheet.proofs.InOrder.{all_both}
-use Rattle.chr_sheet.proofs.Keeping.{others_front, others_step, others_counted}
+use Rattle.chr_sheet.proofs.Keeping.{others_step, others_counted, others_within}
 use Rattle.chr_sheet.proofs.KnownNext.{admissible_here, after_both, fireable, some_told, told_all}
 use Rattle.chr_sheet.proofs.reporting.report_next.Goals as goal
 
@@ -26,9 +26,7 @@ go_past_some-requires g c =
 
 pub overflow_add-count : goal.overflow_add-count
 overflow_add-count g c =
-    let xs = c.others-some-items.result.now in
-    let more = others_counted xs c.loop-some.some-index c.some-item.result c.loop-some-test.true c.some-item.is in
-    let front = others_front xs (c.loop-some.some-index + 1) in
+    let within = others_within c.others-some-items.result.now c.loop-some.some-index c.some-item.result c.loop-some-test.true c.some-item.is in
     let all = ap length c.loop-some.invariant.all in
     let few = c.others-some-items.ensures.few in
     let parts = length-append c.args.judgements.now.others (listed c.args.judgements.now.whole) in

@@ -3,7 +3,7 @@ use Rattle.std.proofs.lemmas.List.{take_all}
 use Rattle.chr_sheet.specs.declared.others.Others.{Others}
 use Rattle.chr_sheet.specs.Others.{others_in}
 use Rattle.chr_sheet.specs.Rows.{JudgedSheet, judgements_of, listed}
-use Rattle.chr_sheet.proofs.Keeping.{others_front, others_counted}
+use Rattle.chr_sheet.proofs.Keeping.{others_counted, others_within}
 use Rattle.chr_sheet.proofs.judging.Judgements.len.Goals as goal
 
 judged_count : (sheet : JudgedSheet) → length (judgements_of sheet) ≡ length sheet.others + length (listed sheet.whole)
@@ -14,9 +14,7 @@ counted_all xs n h = ap (λ ys. length (others_in ys)) (take_all n xs h)
 
 pub overflow_add-count : goal.overflow_add-count
 overflow_add-count g c =
-    let xs = c.others-some-items.result.now in
-    let more = others_counted xs c.loop-some.some-index c.some-item.result c.loop-some-test.true c.some-item.is in
-    let front = others_front xs (c.loop-some.some-index + 1) in
+    let within = others_within c.others-some-items.result.now c.loop-some.some-index c.some-item.result c.loop-some-test.true c.some-item.is in
     let all = ap length c.loop-some.invariant.all in
     let few = c.others-some-items.ensures.few in
     omega (arith, judged_count c.args.self.now)
