@@ -251,7 +251,11 @@ impl<A: Allocator + Copy> Atom<A> {
         ensures ok { OnOk result (self.new ≡ other.now) }
         ensures err { OnErr result (self.new ≡ self.old) }
     {
-        let comps = copy_comps(&other.comps, self.alloc)?;
+        // Most atoms have no compound values, and then it takes no call.
+        let comps = match &other.comps {
+            None => None,
+            _ => copy_comps(&other.comps, self.alloc)?,
+        };
         self.comps = comps;
         self.name = other.name;
         self.slots.become_copy(&other.slots);
