@@ -66,24 +66,21 @@ atom_back table a f new e apart =
 -- ---- other names, the same limits
 
 mutual
-  depth_same : {M N : Type 0} (f : M → N) (v : Value M) → depth (renamed f v) ≡ depth v
-  depth_same f (Int z) = refl
-  depth_same f (Sym s) = refl
-  depth_same f (Comp s vs) = ap (λ (n : ℕ). suc n) (args_depth_same f vs)
+  measures_same : {M N : Type 0} (f : M → N) (v : Value M) → (depth (renamed f v) ≡ depth v) × (size (renamed f v) ≡ size v)
+  measures_same f (Int z) = (refl, refl)
+  measures_same f (Sym s) = (refl, refl)
+  measures_same f (Comp s vs) =
+      let args = args_measures_same f vs in
+      (ap (λ (n : ℕ). suc n) args.0, ap (λ (n : ℕ). suc n) args.1)
 
-  args_depth_same : {M N : Type 0} (f : M → N) (vs : Args M) → args_depth (args_renamed f vs) ≡ args_depth vs
-  args_depth_same f Nil = refl
-  args_depth_same f (Cons v vs) = ap₂ (λ (m n : ℕ). max m n) (depth_same f v) (args_depth_same f vs)
-
-mutual
-  size_same : {M N : Type 0} (f : M → N) (v : Value M) → size (renamed f v) ≡ size v
-  size_same f (Int z) = refl
-  size_same f (Sym s) = refl
-  size_same f (Comp s vs) = ap (λ (n : ℕ). suc n) (args_size_same f vs)
-
-  args_size_same : {M N : Type 0} (f : M → N) (vs : Args M) → args_size (args_renamed f vs) ≡ args_size vs
-  args_size_same f Nil = refl
-  args_size_same f (Cons v vs) = ap₂ (λ (m n : ℕ). m + n) (size_same f v) (args_size_same f vs)
+  args_measures_same : {M N : Type 0} (f : M → N) (vs : Args M) → (args_depth (args_renamed f vs) ≡ args_depth vs) × (args_size (args_renamed f vs) ≡ args_size vs)
+  args_measures_same f Nil = (refl, refl)
+  args_measures_same f (Cons v vs) =
+      let one = measures_same f v in
+      let args = args_measures_same f vs in
+      (ap₂ (λ (m n : ℕ). max m n) one.0 args.0, ap₂ (λ (m n : ℕ). m + n) one.1 args.1)
 
 pub within_same : {M N : Type 0} (f : M → N) (v : Value M) → IsWithin v → IsWithin (renamed f v)
-within_same f v h = record { depth = omega (arith, h.depth, depth_same f v); size = omega (arith, h.size, size_same f v) }
+within_same f v h =
+    let same = measures_same f v in
+    record { depth = omega (arith, h.depth, same.0); size = omega (arith, h.size, same.1) }
