@@ -7,7 +7,7 @@ use Rattle.chr_store.specs.declared.keys.KeyValue.{KeyValue}
 use Rattle.chr_store.specs.declared.keys.Key.{Key}
 use Rattle.chr_store.specs.declared.buckets.Buckets.{Buckets}
 use Rattle.chr_store.specs.Keys.{arg_at}
-use Rattle.chr_store.specs.Index.{Places, own_key, chosen, key_value, key_value_at, IsKeyAt, is_value, same_key, fits}
+use Rattle.chr_store.specs.Index.{Places, own_key, chosen, key_value, key_value_at, IsKeyAt, is_value, same_key, fits, pred_of}
 use Rattle.chr_store.specs.KeyLabels.{labels_in, reached, IsChanged}
 use Rattle.chr_store.specs.KeyLaws.{same_key_true, same_key_refl, same_value_true, same_value_refl, same_parts}
 
@@ -15,8 +15,8 @@ use Rattle.chr_store.specs.KeyLaws.{same_key_true, same_key_refl, same_value_tru
 
 -- what the parts of an atom's key are
 pub record Fitting (k : Key) (a : Atom ℕ) : Type 0 where
-  pub name : k.pred.name.number ≡ a.name
-  pub arity : k.pred.arity ≡ length a.args
+  pub name : k.name.number ≡ a.name
+  pub arity : k.arity ≡ length a.args
   pub value : key_value_at a k.place ≡ Some k.value
 
 is_value_some : (v : KeyValue) (o : Option KeyValue) → is_value v o ≡ true → o ≡ Some v
@@ -82,11 +82,11 @@ pred_one : (p q : Pred) → p.name.number ≡ q.name.number → p.arity ≡ q.ar
 pred_one p q e f = ap (λ (z : ℕ). pred_from z p.arity) e ∙ ap (λ (z : ℕ). pred_from q.name.number z) f
 
 pub touched_same : {A : Type 0} (f : List ℕ → List ℕ) (places : Places) (a : Atom ℕ) (n : ℕ) (pred : Pred) (old cur : Buckets A) → pred.name.number ≡ a.name → pred.arity ≡ length a.args → chosen places pred n ≡ false → IsChanged f places a n old cur → IsChanged f places a (n + 1) old cur
-touched_same f places a n pred old cur name arity not t = λ k. t k ∙ ap (λ (b : Bool). if b then f (labels_in old k) else labels_in old k) (sym (and_lt_more (chosen places k.pred k.place && fits k a) k.place n (λ e both.
+touched_same f places a n pred old cur name arity not t = λ k. t k ∙ ap (λ (b : Bool). if b then f (labels_in old k) else labels_in old k) (sym (and_lt_more (chosen places (pred_of k) k.place && fits k a) k.place n (λ e both.
     let p = and_parts _ _ both in
     let g : Fitting k a = fitting k a p.1 in
-    let one : k.pred ≡ pred = pred_one k.pred pred (g.name ∙ sym name) (g.arity ∙ sym arity) in
-    let c : chosen places pred n ≡ true = subst (λ (z : Pred). chosen places z n ≡ true) one (subst (λ (z : ℕ). chosen places k.pred z ≡ true) e p.0) in
+    let one : pred_of k ≡ pred = pred_one (pred_of k) pred (g.name ∙ sym name) (g.arity ∙ sym arity) in
+    let c : chosen places pred n ≡ true = subst (λ (z : Pred). chosen places z n ≡ true) one (subst (λ (z : ℕ). chosen places (pred_of k) z ≡ true) e p.0) in
     false≢true (sym not ∙ c))))
 
 pub touched_more : {A : Type 0} (f : List ℕ → List ℕ) (places : Places) (a : Atom ℕ) (n : ℕ) (pred : Pred) (kk : Key) (old cur new : Buckets A) → pred.name.number ≡ a.name → pred.arity ≡ length a.args → chosen places pred n ≡ true → IsKeyAt a n kk → IsChanged f places a n old cur → ((k : Key) → labels_in new k ≡ (if same_key kk k then f (labels_in cur kk) else labels_in cur k)) → IsChanged f places a (n + 1) old new
@@ -94,12 +94,12 @@ touched_more f places a n pred kk old cur new name arity there h t s = λ k. s k
   | true ↦ λ u.
       let e : kk ≡ k = same_key_true kk k u in
       let own = own_fits a n kk k h u in
-      let one : k.pred ≡ pred = pred_one k.pred pred ((fitting k a own.0).name ∙ sym name) ((fitting k a own.0).arity ∙ sym arity) in
-      let c : chosen places k.pred k.place ≡ true = subst (λ (z : ℕ). chosen places k.pred z ≡ true) (sym own.1) (subst (λ (z : Pred). chosen places z n ≡ true) (sym one) there) in
+      let one : pred_of k ≡ pred = pred_one (pred_of k) pred ((fitting k a own.0).name ∙ sym name) ((fitting k a own.0).arity ∙ sym arity) in
+      let c : chosen places (pred_of k) k.place ≡ true = subst (λ (z : ℕ). chosen places (pred_of k) z ≡ true) (sym own.1) (subst (λ (z : Pred). chosen places z n ≡ true) (sym one) there) in
       let lt : nat_lt k.place (n + 1) ≡ true = lt-ltb k.place (n + 1) (let w : k.place ≡ n = own.1 in omega arith) in
       let r : reached places a (n + 1) k ≡ true = and_from _ _ (and_from _ _ c own.0) lt in
       ap f (own_unreached f places a n kk old cur h t ∙ ap (labels_in old) e) ∙ sym (ap (λ (b : Bool). if b then f (labels_in old k) else labels_in old k) r)
-  | false ↦ λ u. t k ∙ ap (λ (b : Bool). if b then f (labels_in old k) else labels_in old k) (sym (and_lt_more (chosen places k.pred k.place && fits k a) k.place n (λ e both.
+  | false ↦ λ u. t k ∙ ap (λ (b : Bool). if b then f (labels_in old k) else labels_in old k) (sym (and_lt_more (chosen places (pred_of k) k.place && fits k a) k.place n (λ e both.
       let p = and_parts _ _ both in
       false≢true (sym u ∙ fits_own a n kk k h p.1 e))))
 ] refl

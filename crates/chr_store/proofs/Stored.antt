@@ -15,7 +15,7 @@ use Rattle.chr_store.specs.Labels.{LabelledStore, GivenAtoms, Rising, GivenBefor
 use Rattle.chr_store.specs.Keys.{arg_at, HasPred, HasKey, Query, key_of, IsLeastMatch}
 use Rattle.chr_store.specs.Indexed.{IsIndexed, LabelHas, IsLeastWith}
 use Rattle.chr_store.specs.Buckets.{drop_number, IsIn, IsLeastBetween}
-use Rattle.chr_store.specs.Index.{own_key, Places, chosen, is_constant, key_value, key_value_at, fits}
+use Rattle.chr_store.specs.Index.{own_key, Places, chosen, is_constant, key_value, key_value_at, fits, pred_of}
 use Rattle.chr_store.specs.KeyLabels.{labels_in, labels_of, reached, IsChanged, IsIndexOf}
 use Rattle.chr_store.proofs.Entries.{drop_absent}
 use Rattle.chr_store.proofs.Slots.{drop_absent as number_absent, pushed_back, all_map}
@@ -79,7 +79,7 @@ labels_drop k l a (e ∷ es) r h =
 -- ---- the index of no atoms
 
 pub kept_none : {A : Type 0} (places : Places) (m : Buckets A) → ((k : Key) → labels_in m k ≡ []) → IsIndexOf places [] m
-kept_none places m empty = λ k. elim (chosen places k.pred k.place) as (λ b. labels_in m k ≡ (if b then [] else [])) [ true ↦ empty k | false ↦ empty k ]
+kept_none places m empty = λ k. elim (chosen places (pred_of k) k.place) as (λ b. labels_in m k ≡ (if b then [] else [])) [ true ↦ empty k | false ↦ empty k ]
 
 pub indexed_none : {A : Type 0} (limit : ℕ) (places : Places) (m : Buckets A) → limit ≤ 4294967295 → ((k : Key) → labels_in m k ≡ []) → IsIndexed (record { entries = []; next = 1; limit = limit }) places m
 indexed_none limit places m fits empty = record {
@@ -102,30 +102,30 @@ place_within k a h = within a.args k.place (λ i e. subst (λ (z : ℕ). key_val
     within ts (suc i) h = let z : i < length ts = short ts i (h i refl) in omega arith
 
 -- with all places reached
-all_reached : (places : Places) (a : Atom ℕ) (k : Key) → reached places a (length a.args + 1) k ≡ (chosen places k.pred k.place && fits k a)
-all_reached places a k = elim (chosen places k.pred k.place) as (λ b. ((b && fits k a) && nat_lt k.place (length a.args + 1)) ≡ (b && fits k a)) [
+all_reached : (places : Places) (a : Atom ℕ) (k : Key) → reached places a (length a.args + 1) k ≡ (chosen places (pred_of k) k.place && fits k a)
+all_reached places a k = elim (chosen places (pred_of k) k.place) as (λ b. ((b && fits k a) && nat_lt k.place (length a.args + 1)) ≡ (b && fits k a)) [
   | true ↦ elim (fits k a) as (λ b. (fits k a ≡ b) → (b && nat_lt k.place (length a.args + 1)) ≡ b) [ true ↦ λ t. lt-ltb _ _ (place_within k a t) | false ↦ λ t. refl ] refl
   | false ↦ refl
 ]
 
 -- what every place reaches, some place reaches only where all do
-part_reached : (places : Places) (a : Atom ℕ) (n : ℕ) (k : Key) → (chosen places k.pred k.place && fits k a) ≡ false → reached places a n k ≡ false
+part_reached : (places : Places) (a : Atom ℕ) (n : ℕ) (k : Key) → (chosen places (pred_of k) k.place && fits k a) ≡ false → reached places a n k ≡ false
 part_reached places a n k h = ap (λ (b : Bool). b && nat_lt k.place n) h
 
 pub kept_push : {A : Type 0} (places : Places) (n : ℕ) (a : Atom ℕ) (es : Store) (old new : Buckets A) → IsIndexOf places es old → IsChanged (λ ms. ms ++ n ∷ []) places a (length a.args + 1) old new → IsIndexOf places (es ++ (n, a) ∷ []) new
-kept_push places n a es old new h t = λ k. t k ∙ ap (λ (b : Bool). if b then labels_in old k ++ n ∷ [] else labels_in old k) (all_reached places a k) ∙ subst (λ (z : List ℕ). (if chosen places k.pred k.place && fits k a then z ++ n ∷ [] else z) ≡ (if chosen places k.pred k.place then labels_of k (es ++ (n, a) ∷ []) else [])) (sym (h k)) (elim (chosen places k.pred k.place) as (λ b. (if b && fits k a then (if b then labels_of k es else []) ++ n ∷ [] else (if b then labels_of k es else [])) ≡ (if b then labels_of k (es ++ (n, a) ∷ []) else [])) [
+kept_push places n a es old new h t = λ k. t k ∙ ap (λ (b : Bool). if b then labels_in old k ++ n ∷ [] else labels_in old k) (all_reached places a k) ∙ subst (λ (z : List ℕ). (if chosen places (pred_of k) k.place && fits k a then z ++ n ∷ [] else z) ≡ (if chosen places (pred_of k) k.place then labels_of k (es ++ (n, a) ∷ []) else [])) (sym (h k)) (elim (chosen places (pred_of k) k.place) as (λ b. (if b && fits k a then (if b then labels_of k es else []) ++ n ∷ [] else (if b then labels_of k es else [])) ≡ (if b then labels_of k (es ++ (n, a) ∷ []) else [])) [
   | true ↦ sym (labels_push k n a es)
   | false ↦ refl
 ])
 
 pub kept_drop : {A : Type 0} (places : Places) (l : ℕ) (a : Atom ℕ) (es : Store) (old new : Buckets A) → Rising es → atom_at es l ≡ Some a → IsIndexOf places es old → IsChanged (drop_number l) places a (length a.args + 1) old new → IsIndexOf places (drop_label l es) new
-kept_drop places l a es old new r at h t = λ k. t k ∙ ap (λ (b : Bool). if b then drop_number l (labels_in old k) else labels_in old k) (all_reached places a k) ∙ subst (λ (z : List ℕ). (if chosen places k.pred k.place && fits k a then drop_number l z else z) ≡ (if chosen places k.pred k.place then labels_of k (drop_label l es) else [])) (sym (h k)) (elim (chosen places k.pred k.place) as (λ b. (if b && fits k a then drop_number l (if b then labels_of k es else []) else (if b then labels_of k es else [])) ≡ (if b then labels_of k (drop_label l es) else [])) [
+kept_drop places l a es old new r at h t = λ k. t k ∙ ap (λ (b : Bool). if b then drop_number l (labels_in old k) else labels_in old k) (all_reached places a k) ∙ subst (λ (z : List ℕ). (if chosen places (pred_of k) k.place && fits k a then drop_number l z else z) ≡ (if chosen places (pred_of k) k.place then labels_of k (drop_label l es) else [])) (sym (h k)) (elim (chosen places (pred_of k) k.place) as (λ b. (if b && fits k a then drop_number l (if b then labels_of k es else []) else (if b then labels_of k es else [])) ≡ (if b then labels_of k (drop_label l es) else [])) [
   | true ↦ sym (labels_drop k l a es r at)
   | false ↦ refl
 ])
 
 pub kept_below : {A : Type 0} (places : Places) (n : ℕ) (es : Store) (m : Buckets A) → GivenBefore n es → IsIndexOf places es m → (k : Key) → AllByRecursion (λ l. l < n) (labels_in m k)
-kept_below places n es m g h k = subst (AllByRecursion (λ l. l < n)) (sym (h k)) (elim (chosen places k.pred k.place) as (λ b. AllByRecursion (λ l. l < n) (if b then labels_of k es else [])) [ true ↦ labels_below n k es g | false ↦ tt ])
+kept_below places n es m g h k = subst (AllByRecursion (λ l. l < n)) (sym (h k)) (elim (chosen places (pred_of k) k.place) as (λ b. AllByRecursion (λ l. l < n) (if b then labels_of k es else [])) [ true ↦ labels_below n k es g | false ↦ tt ])
 
 -- what was entered, in part or whole, and left again is as before
 pub kept_undone : {A : Type 0} (places : Places) (n l : ℕ) (a : Atom ℕ) (es : Store) (old mid new : Buckets A) → GivenBefore l es → IsIndexOf places es old → IsChanged (λ ms. ms ++ l ∷ []) places a n old mid → IsChanged (drop_number l) places a (length a.args + 1) mid new → IsIndexOf places es new
@@ -140,8 +140,8 @@ kept_undone places n l a es old mid new g h t s = λ k. s k ∙ ap (λ (b : Bool
       | false ↦ number_absent l (labels_in old k) (all_map (λ m. m < l) (λ m. m ≡ l → ⊥) (labels_in old k) (λ m u e. absurd (omega arith)) (below k))
     ]
 
-    back : (k : Key) → (if chosen places k.pred k.place && fits k a then drop_number l (labels_in mid k) else labels_in mid k) ≡ labels_in old k
-    back k = elim (chosen places k.pred k.place && fits k a) as (λ b. (chosen places k.pred k.place && fits k a ≡ b) → (if b then drop_number l (labels_in mid k) else labels_in mid k) ≡ labels_in old k) [
+    back : (k : Key) → (if chosen places (pred_of k) k.place && fits k a then drop_number l (labels_in mid k) else labels_in mid k) ≡ labels_in old k
+    back k = elim (chosen places (pred_of k) k.place && fits k a) as (λ b. (chosen places (pred_of k) k.place && fits k a ≡ b) → (if b then drop_number l (labels_in mid k) else labels_in mid k) ≡ labels_in old k) [
       | true ↦ λ u. ap (drop_number l) (t k) ∙ out k
       | false ↦ λ u. t k ∙ ap (λ (b : Bool). if b then labels_in old k ++ l ∷ [] else labels_in old k) (part_reached places a n k u)
     ] refl
@@ -194,9 +194,9 @@ asked pred key after below = record { pred = pred; key = key; after = after; bel
 
 -- the key of a value at a place
 abbrev pub at_place : Pred → ℕ → Value ℕ → Key
-at_place pred n v = record { pred = pred; place = n; value = key_value v }
+at_place pred n v = record { name = pred.name; arity = pred.arity; place = n; value = key_value v }
 
-pred_met : (k : Key) (a : Atom ℕ) → fits k a ≡ true → HasPred k.pred a
+pred_met : (k : Key) (a : Atom ℕ) → fits k a ≡ true → HasPred (pred_of k) a
 pred_met k a f = let g : Fitting k a = fitting k a f in (sym g.name, sym g.arity)
 
 own_fit : (pred : Pred) (a : Atom ℕ) → HasPred pred a → fits (own_key pred) a ≡ true
@@ -243,12 +243,12 @@ same_asked {A} s t pred key given after below found e f h =
     (subst (λ (z : Option (ℕ × ValueRef A)). IsLeastMatch s.entries (asked pred (key_of z) after below) found) (sym f) h)
 
 -- the labels of a key of the predicate, among which those of each atom with the value are
-least_with : (es : Store) (k : Key) (n : ℕ) (v : Value ℕ) (after below : ℕ) (found : Option ℕ) → Rising es → ((a : Atom ℕ) → HasPred k.pred a → arg_at a n ≡ Some v → fits k a ≡ true) → IsLeastWith es n v (labels_of k es) after below found → IsLeastMatch es (asked k.pred (Some (n, v)) after below) found
+least_with : (es : Store) (k : Key) (n : ℕ) (v : Value ℕ) (after below : ℕ) (found : Option ℕ) → Rising es → ((a : Atom ℕ) → HasPred (pred_of k) a → arg_at a n ≡ Some v → fits k a ≡ true) → IsLeastWith es n v (labels_of k es) after below found → IsLeastMatch es (asked (pred_of k) (Some (n, v)) after below) found
 least_with es k n v after below None r fit h = λ l m. h l (is_in_under k es l m.atom m.there (fit m.atom m.pred m.key)) m.over m.under (record { atom = m.atom; there = m.there; has = m.key })
 least_with es k n v after below (Some l) r fit h =
     let u = under_is_in k es l r h.there in
     let same : u.atom ≡ h.has.atom = some_one _ _ (sym u.there ∙ h.has.there) in (
-      record { atom = h.has.atom; there = h.has.there; pred = subst (HasPred k.pred) same (pred_met k u.atom u.fit); key = h.has.has; over = h.over; under = h.under },
+      record { atom = h.has.atom; there = h.has.there; pred = subst (HasPred (pred_of k)) same (pred_met k u.atom u.fit); key = h.has.has; over = h.over; under = h.under },
       λ i m. h.least i (is_in_under k es i m.atom m.there (fit m.atom m.pred m.key)) m.over (record { atom = m.atom; there = m.there; has = m.key }),
     )
 
@@ -320,7 +320,7 @@ passed_all es n v ms after below from p none = λ m i o u h. none m i (p.left m 
 -- ---- a copy
 
 pub kept_under : {A : Type 0} (places : Places) (n : ℕ) (es : Store) (m : Buckets A) → AllByRecursion (λ e. e.0 < n) es → IsIndexOf places es m → (k : Key) → AllByRecursion (λ l. l < n) (labels_in m k)
-kept_under places n es m g h k = subst (AllByRecursion (λ l. l < n)) (sym (h k)) (elim (chosen places k.pred k.place) as (λ b. AllByRecursion (λ l. l < n) (if b then labels_of k es else [])) [ true ↦ labels_all (λ l. l < n) k es g | false ↦ tt ])
+kept_under places n es m g h k = subst (AllByRecursion (λ l. l < n)) (sym (h k)) (elim (chosen places (pred_of k) k.place) as (λ b. AllByRecursion (λ l. l < n) (if b then labels_of k es else [])) [ true ↦ labels_all (λ l. l < n) k es g | false ↦ tt ])
 
 pub before_all : (l : ℕ) (a : Atom ℕ) (es rest : Store) → Rising (es ++ (l, a) ∷ rest) → AllByRecursion (λ e. e.0 < l) es
 before_all l a [] rest h = tt

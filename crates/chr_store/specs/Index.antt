@@ -18,6 +18,10 @@ Places = List (Pred × ℕ)
 abbrev pub is_pred : Pred → Pred → Bool
 is_pred p q = nat_eq p.name.number q.name.number && nat_eq p.arity q.arity
 
+-- the predicate of a key
+abbrev pub pred_of : Key → Pred
+pred_of k = record { name = k.name; arity = k.arity }
+
 -- the place of the predicate is one of these; the place 0, which is the predicate alone, always counts as one
 abbrev pub chosen : Places → Pred → ℕ → Bool
 chosen places pred zero = true
@@ -37,7 +41,7 @@ key_value (Comp s vs) = keyed.Digest (digest_after 0 (Comp s vs))
 
 -- the key of a predicate alone
 abbrev pub own_key : Pred → Key
-own_key pred = record { pred = pred; place = 0; value = keyed.Int (pos 0) }
+own_key pred = record { name = pred.name; arity = pred.arity; place = 0; value = keyed.Int (pos 0) }
 
 -- what stands for what an atom has at a place; at the place 0 that is the number 0
 abbrev pub key_value_at : Atom ℕ → ℕ → Option KeyValue
@@ -46,8 +50,8 @@ key_value_at a (suc i) = option_map key_value (slice_get a.args i)
 
 -- the key of an atom at a place
 pub record IsKeyAt (a : Atom ℕ) (n : ℕ) (k : Key) : Type 0 where
-  pub name : k.pred.name.number ≡ a.name
-  pub arity : k.pred.arity ≡ length a.args
+  pub name : k.name.number ≡ a.name
+  pub arity : k.arity ≡ length a.args
   pub place : k.place ≡ n
   pub value : key_value_at a n ≡ Some k.value
 
@@ -65,7 +69,7 @@ same_value (keyed.Digest c) (keyed.Digest d) = nat_eq c d
 
 -- whether two keys are equal
 abbrev pub same_key : Key → Key → Bool
-same_key k l = (is_pred k.pred l.pred && nat_eq k.place l.place) && same_value k.value l.value
+same_key k l = (is_pred (pred_of k) (pred_of l) && nat_eq k.place l.place) && same_value k.value l.value
 
 -- the key is that of a predicate alone
 abbrev pub is_own : Key → Bool
@@ -79,12 +83,12 @@ is_value v (Some w) = same_value v w
 -- an atom has a key
 abbrev pub fits : Key → Atom ℕ → Bool
 fits k a =
-    (nat_eq k.pred.name.number a.name && nat_eq k.pred.arity (length a.args))
+    (nat_eq k.name.number a.name && nat_eq k.arity (length a.args))
     && is_value k.value (key_value_at a k.place)
 
 -- what a key is hashed by
 abbrev pub key_word : Key → ℕ
-key_word k = k.pred.name.number * 65536 + k.pred.arity * 256 + k.place
+key_word k = k.name.number * 65536 + k.arity * 256 + k.place
 
 abbrev pub value_input : KeyValue → List (List ℕ)
 value_input (keyed.Int z) = fed.i64 z

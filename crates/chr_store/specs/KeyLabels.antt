@@ -6,7 +6,7 @@ use Rattle.chr_value.specs.Atoms.{Atom}
 use Rattle.chr_value.specs.Stores.{Store}
 use Rattle.chr_store.specs.declared.keys.Key.{Key}
 use Rattle.chr_store.specs.declared.buckets.Buckets.{Buckets}
-use Rattle.chr_store.specs.Index.{Places, chosen, fits, same_key}
+use Rattle.chr_store.specs.Index.{Places, chosen, fits, same_key, pred_of}
 use Rattle.chr_store.specs.Rows.{row_of_key}
 
 -- the labels that a map has under a key
@@ -27,7 +27,7 @@ labels_in b k = found_in b.rows.items b.map k (row_of_key k)
 
 -- a key of the atom at a chosen place below n
 abbrev pub reached : Places → Atom ℕ → ℕ → Key → Bool
-reached places a n k = (chosen places k.pred k.place && fits k a) && nat_lt k.place n
+reached places a n k = (chosen places (pred_of k) k.place && fits k a) && nat_lt k.place n
 
 -- the labels are as before, but for a change of those under the keys that were reached
 abbrev pub IsChanged : {A : Type 0} → (List ℕ → List ℕ) → Places → Atom ℕ → ℕ → Buckets A → Buckets A → Type 0
@@ -40,4 +40,4 @@ labels_of k (e ∷ es) = if fits k e.1 then e.0 ∷ labels_of k es else labels_o
 
 -- under each key of a chosen place are exactly the labels of its atoms, once each and rising
 abbrev pub IsIndexOf : {A : Type 0} → Places → Store → Buckets A → Type 0
-IsIndexOf places es b = (k : Key) → labels_in b k ≡ (if chosen places k.pred k.place then labels_of k es else [])
+IsIndexOf places es b = (k : Key) → labels_in b k ≡ (if chosen places (pred_of k) k.place then labels_of k es else [])

@@ -26,14 +26,14 @@ same_value_true (keyed.Digest c) (keyed.Sym s) h = cc
 same_value_true (keyed.Digest c) (keyed.Digest d) h = ap (λ (n : ℕ). keyed.Digest n) (eqb-true c d h)
 
 abbrev key_from : ℕ → ℕ → ℕ → KeyValue → Key
-key_from n m p v = record { pred = record { name = record { number = n }; arity = m }; place = p; value = v }
+key_from n m p v = record { name = record { number = n }; arity = m; place = p; value = v }
 
-pub same_parts : (k l : Key) → k.pred.name.number ≡ l.pred.name.number → k.pred.arity ≡ l.pred.arity → k.place ≡ l.place → k.value ≡ l.value → k ≡ l
+pub same_parts : (k l : Key) → k.name.number ≡ l.name.number → k.arity ≡ l.arity → k.place ≡ l.place → k.value ≡ l.value → k ≡ l
 same_parts k l name arity place value =
-    ap (λ (z : ℕ). key_from z k.pred.arity k.place k.value) name ∙
-    ap (λ (z : ℕ). key_from l.pred.name.number z k.place k.value) arity ∙
-    ap (λ (z : ℕ). key_from l.pred.name.number l.pred.arity z k.value) place ∙
-    ap (λ (z : KeyValue). key_from l.pred.name.number l.pred.arity l.place z) value
+    ap (λ (z : ℕ). key_from z k.arity k.place k.value) name ∙
+    ap (λ (z : ℕ). key_from l.name.number z k.place k.value) arity ∙
+    ap (λ (z : ℕ). key_from l.name.number l.arity z k.value) place ∙
+    ap (λ (z : KeyValue). key_from l.name.number l.arity l.place z) value
 
 pub same_key_true : (k l : Key) → same_key k l ≡ true → k ≡ l
 same_key_true k l h =
@@ -43,7 +43,7 @@ same_key_true k l h =
     same_parts k l (eqb-true _ _ r.0) (eqb-true _ _ r.1) (eqb-true _ _ q.1) (same_value_true _ _ p.1)
 
 pub same_key_refl : (k : Key) → same_key k k ≡ true
-same_key_refl k = rw (eq-eqb k.pred.name.number k.pred.name.number refl, eq-eqb k.pred.arity k.pred.arity refl, eq-eqb k.place k.place refl) (same_value_refl k.value)
+same_key_refl k = rw (eq-eqb k.name.number k.name.number refl, eq-eqb k.arity k.arity refl, eq-eqb k.place k.place refl) (same_value_refl k.value)
 
 pub same_key_equiv : IsEquivalence same_key
 same_key_equiv = record {

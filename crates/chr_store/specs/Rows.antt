@@ -2,7 +2,7 @@
 use Rattle.std.specs.Prelude.{ℕ, ◌+◌, ◌*◌, ◌&&◌, if◌then◌else◌, Option, Some, None, nat_lt}
 use Rattle.chr_value.specs.declared.atom.Pred.{Pred}
 use Rattle.chr_store.specs.declared.keys.Key.{Key}
-use Rattle.chr_store.specs.Index.{is_own}
+use Rattle.chr_store.specs.Index.{is_own, pred_of}
 
 -- the row of a predicate whose name's number is low; nine rows a name, one for each number of arguments
 abbrev pub row_of : Pred → Option ℕ
@@ -10,4 +10,4 @@ row_of pred = if nat_lt pred.name.number 1024 && nat_lt pred.arity 9 then Some (
 
 -- the row of a key, which that of a predicate alone may have
 abbrev pub row_of_key : Key → Option ℕ
-row_of_key k = if is_own k then row_of k.pred else None
+row_of_key k = if is_own k then row_of (pred_of k) else None

@@ -2,7 +2,7 @@
 ghost use Rattle.std.specs.Prelude.{◌≡◌, ◌<◌, ◌≤◌, length};
 ghost use Rattle.chr_value.specs.Atoms.{ground, ground_comp, said};
 ghost use Rattle.chr_store.specs.Digests.{mixed, digest_after};
-ghost use Rattle.chr_store.specs.Index.{IsKeyAt, is_constant, is_own, key_value, own_key, same_value};
+ghost use Rattle.chr_store.specs.Index.{IsKeyAt, is_constant, is_own, key_value, own_key, same_value, pred_of};
 
 use chr_value::{Atom, Comp, Name, Pred, Value, ValueRef};
 use std::alloc::Allocator;
@@ -19,10 +19,12 @@ enum KeyValue {
     Digest(u64),
 }
 
-/// What atoms are found by: a predicate, and what stands for a value at a place. At the place 0 that is the number 0.
+/// What atoms are found by: a predicate, and what stands for a value at a place. At the place 0 that is the number 0. The
+/// predicate's parts are its own fields, so that a key takes 24 bytes.
 #[derive(Clone, Copy, Drop)]
 pub struct Key {
-    pub pred: Pred,
+    name: Name,
+    arity: u8,
     place: u8,
     value: KeyValue,
 }
@@ -88,6 +90,17 @@ impl KeyValue {
 }
 
 impl Key {
+    /// The predicate.
+    #[inline(always)]
+    pub fn pred(&self) -> Pred
+        ensures { result ≡ pred_of self.now }
+    {
+        Pred {
+            name: self.name,
+            arity: self.arity,
+        }
+    }
+
     /// Whether it is the key of a predicate alone.
     #[inline(always)]
     pub fn is_own(&self) -> bool
@@ -107,8 +120,8 @@ impl PartialEq for Key {
     ghost laws = { partial_equiv_from_equiv same_key_equiv };
 
     fn eq(&self, other: &Key) -> bool {
-        self.pred.name.number == other.pred.name.number
-            && self.pred.arity == other.pred.arity
+        self.name.number == other.name.number
+            && self.arity == other.arity
             && self.place == other.place
             && self.value.same(&other.value)
     }
@@ -132,7 +145,7 @@ impl Hash for Key {
 
     fn hash<H: Hasher>(&self, state: &mut H) {
         state.write_u64(
-            self.pred.name.number as u64 * 65536 + self.pred.arity as u64 * 256 + self.place as u64,
+            self.name.number as u64 * 65536 + self.arity as u64 * 256 + self.place as u64,
         );
         match self.value {
             KeyValue::Int(n) => state.write_i64(n),
@@ -159,7 +172,8 @@ pub fn own_key(pred: Pred) -> Key
     ensures { result ≡ own_key pred }
 {
     Key {
-        pred,
+        name: pred.name,
+        arity: pred.arity,
         place: 0,
         value: KeyValue::Int(0),
     }
@@ -168,10 +182,11 @@ pub fn own_key(pred: Pred) -> Key
 /// The key of a value at a place of a predicate.
 #[inline(always)]
 pub fn value_key<A: Allocator>(pred: Pred, place: u8, value: &ValueRef<'_, A>) -> Key
-    ensures { result ≡ record { pred = pred; place = place; value = key_value (said value.now) } }
+    ensures { result ≡ record { name = pred.name; arity = pred.arity; place = place; value = key_value (said value.now) } }
 {
     Key {
-        pred,
+        name: pred.name,
+        arity: pred.arity,
         place,
         value: KeyValue::of(value),
     }

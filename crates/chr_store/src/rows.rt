@@ -29,5 +29,9 @@ pub fn row_of(pred: Pred) -> Option<usize>
 pub fn row_of_key(key: &Key) -> Option<usize>
     ensures { result ≡ row_of_key key.now }
 {
-    if key.is_own() { row_of(key.pred) } else { None }
+    if key.is_own() {
+        row_of(key.pred())
+    } else {
+        None
+    }
 }

@@ -15,8 +15,8 @@ returns g c =
     let is = c.value_key.ensures in
     let here : arg_at a n ≡ Some v = arg_here a n _ c.requires.above c.in-Some.ensures.value in
     record {
-      name = ap (λ (k : Key). k.pred.name.number) is ∙ c.pred.ensures.name;
-      arity = ap (λ (k : Key). k.pred.arity) is ∙ c.pred.ensures.arity;
+      name = ap (λ (k : Key). k.name.number) is ∙ c.pred.ensures.name;
+      arity = ap (λ (k : Key). k.arity) is ∙ c.pred.ensures.arity;
       place = ap (λ (k : Key). k.place) is;
       value = key_value_of a n v c.requires.above here ∙ ap (λ (w : KeyValue). Some w) (sym (ap (λ (k : Key). k.value) is));
     }
