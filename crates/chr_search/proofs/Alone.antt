@@ -21,7 +21,7 @@ use Rattle.chr_search.proofs.Plans.{heads_in, planned}
 use Rattle.chr_search.proofs.Tree.{least_same}
 use Rattle.chr_search.proofs.Asking.{begins_by}
 use Rattle.chr_search.proofs.Making.{next_trial}
-use Rattle.chr_search.proofs.Shrinking.{trial_of}
+use Rattle.chr_search.proofs.Descents.{trial_of}
 use Rattle.chr_search.proofs.Occurring.{order_in, trial_occurs, plan_there}
 
 -- the trials at or after a label past the active one are those of later heads and rules

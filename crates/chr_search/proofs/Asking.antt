@@ -25,6 +25,7 @@ use Rattle.chr_search.specs.Trials.{Join, StandsAt, HasHeadPred, MayFollow}
 use Rattle.chr_search.specs.declared.join.Asked.{Asked}
 use Rattle.chr_search.specs.Partners.{HasPlan, IsReady, key_value, keyed_at, KeyIs, key_in, IsAskedFor}
 use Rattle.chr_search.proofs.Plans.{order_of_plan, step_keyed}
+use Rattle.chr_search.proofs.Following.{follows_live}
 use Rattle.chr_search.proofs.Partners.{IsAsked, ready_more, no_fit}
 
 pub none_if : {A : Type 0} (o : Option A) → ((x : A) → o ≡ Some x → ⊥) → o ≡ None
@@ -141,20 +142,7 @@ where_some (Some x) p f = f x p
 
 -- the active label may begin
 pub begins_by : (j : Join) (h : ℕ) (head : RuleAtom ℕ) (atom : Atom ℕ) → slice_get j.order 0 ≡ Some (record { head = h; key = None }) → head_at j.rule h ≡ Some head → atom_at j.store j.active ≡ Some atom → HasHeadPred head atom → MayFollow j [] j.active
-begins_by j h head atom at is live pred = record {
-  turn = refl;
-  distinct = tt;
-  valuation = λ x. None;
-  fits = tt;
-  step = record { head = h; key = None };
-  step_is = at;
-  head = head;
-  head_is = is;
-  atom = atom;
-  live = live;
-  pred = pred;
-  key = tt;
-}
+begins_by j h head atom at is live pred = follows_live j [] j.active refl tt (λ x. None) tt (record { head = h; key = None }) at (record { head = head; head_is = is; atom = atom; live = live; pred = pred }) tt
 
 pub begins_if : (j : Join) → HasPlan j → (step : Step) (head : RuleAtom ℕ) (atom : Atom ℕ) → slice_get j.order 0 ≡ Some step → head_at j.rule step.head ≡ Some head → atom_at j.store j.active ≡ Some atom → HasHeadPred head atom → MayFollow j [] j.active
 begins_if j p step head atom at is live pred =

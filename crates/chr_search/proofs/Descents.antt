@@ -6,7 +6,7 @@ use Rattle.chr_rule.specs.Scope.{IsRule}
 use Rattle.chr_plan.specs.Plans.{PlanList, order_in, orders_at, plan_at, ArePlans}
 use Rattle.chr_plan.specs.declared.order.Step.{Step}
 use Rattle.chr_search.specs.Tree.{Grows, Beyond, Least, NoneBeyond, LeastFrom}
-use Rattle.chr_search.specs.Trials.{MayFollow, Space, join_in, IsPlanned, Child}
+use Rattle.chr_search.specs.Trials.{MayFollow, Space, join_in, IsPlanned, Child, IsTrial}
 use Rattle.chr_search.specs.Partners.{HasPlan}
 use Rattle.chr_search.proofs.Plans.{planned}
 use Rattle.chr_search.proofs.Tree.{Come, under_same, come_at, come_found, come_past}
@@ -26,6 +26,10 @@ grows_in s r h rule order p path (x ∷ more) g = (child_is s r h rule order p p
 pub grows_out : (s : Space) (r h : ℕ) (rule : Simpagation ℕ) (order : List Step) → IsPlanned s r h rule order → (path more : List ℕ) → Grows (MayFollow (join_in s rule order)) path more → Grows (Child s) (r ∷ h ∷ path) more
 grows_out s r h rule order p path [] g = tt
 grows_out s r h rule order p path (x ∷ more) g = ((rule, order, p, g.0), grows_out s r h rule order p (path ++ x ∷ []) more g.1)
+
+-- a trial of a plan
+pub trial_of : (s : Space) (r h : ℕ) (labels : List ℕ) (rule : Simpagation ℕ) (order : List Step) → IsPlanned s r h rule order → 1 ≤ length labels → Grows (MayFollow (join_in s rule order)) [] labels → IsTrial s (r ∷ h ∷ labels)
+trial_of s r h labels rule order p some g = record { grows = ((rule, p.rule_is), ((rule, order, p), grows_out s r h rule order p [] labels g)); deep = omega arith }
 
 beyond_in : (s : Space) (r h : ℕ) (rule : Simpagation ℕ) (order : List Step) → IsPlanned s r h rule order → (path place more : List ℕ) → Beyond (Child s) 3 (r ∷ h ∷ path) place more → Beyond (MayFollow (join_in s rule order)) 1 path place more
 beyond_in s r h rule order p path place more b = record { grows = grows_in s r h rule order p path more b.grows; deep = (let d : 3 ≤ length (r ∷ h ∷ (path ++ more)) = b.deep in omega arith); there = b.there }

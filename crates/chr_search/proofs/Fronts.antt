@@ -23,7 +23,8 @@ use Rattle.chr_search.proofs.Plans.{heads_in}
 use Rattle.chr_search.proofs.Descents.{grows_in, rule_scoped, rule_low, head_low}
 use Rattle.chr_search.proofs.Judging.{labels_length}
 use Rattle.chr_search.proofs.Making.{next_trial, parts, formed}
-use Rattle.chr_search.proofs.Shrinking.{branch, trial_of}
+use Rattle.chr_search.proofs.Shrinking.{branch}
+use Rattle.chr_search.proofs.Descents.{trial_of}
 use Rattle.chr_search.proofs.Behind.{shorter, alike}
 use Rattle.chr_search.proofs.After.{come_after, many_numbers}
 

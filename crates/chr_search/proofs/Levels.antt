@@ -1,12 +1,8 @@
 -- Trials that have the same labels but the last.
-use Rattle.std.proofs.Common.{◌≡◌, ℕ, ◌+◌, ◌≤◌, Bool, true, false, List, [], ◌∷◌, ◌++◌, length, length-append, Option, Some, None, slice_get, refl, sym, ◌∙◌, ap, subst, arith}
-use Rattle.std.specs.Option.{option_map}
+use Rattle.std.proofs.Common.{◌≡◌, ℕ, ◌+◌, ◌≤◌, Bool, true, false, List, [], ◌∷◌, ◌++◌, length, length-append, Option, Some, None, slice_get, sym, ◌∙◌, subst, arith}
 use Rattle.chr_value.specs.Atoms.{Value, Atom}
-use Rattle.chr_value.proofs.Chosen.{some_is}
 use Rattle.chr_rule.specs.Parts.{shape}
-use Rattle.chr_rule.specs.Rules.{RuleAtom, head_at}
 use Rattle.chr_rule.specs.Scope.{IsRule}
-use Rattle.chr_guard.specs.Values.{Valuation}
 use Rattle.chr_guard.specs.Bindings.{bound_at, NarrowsIf}
 use Rattle.chr_guard.specs.Instances.{atom_under, NoInstance}
 use Rattle.chr_guard.specs.Matching.{IsFit, HeadsAre, IsInstanceUnder}
@@ -17,13 +13,12 @@ use Rattle.chr_plan.specs.Orders.{heads_of}
 use Rattle.chr_plan.specs.declared.order.Step.{Step}
 use Rattle.chr_search.specs.declared.judged.Verdict.TheVariants.{Misfit, Part}
 use Rattle.chr_search.specs.declared.passing.LastHead.{LastHead}
-use Rattle.chr_search.specs.Trials.{Join, StandsAt, Fit, IsInTurn, MayFollow, given_at}
+use Rattle.chr_search.specs.Trials.{Join, StandsAt, IsInTurn, MayFollow}
 use Rattle.chr_search.specs.Partners.{HasPlan, IsReady}
 use Rattle.chr_search.specs.Verdicts.{Trial, IsWhole, IsPart, IsWholeUnder}
 use Rattle.chr_search.specs.Passing.{IsTrialIn, AreJudged, IsLastHead, IsNarrowedIf}
-use Rattle.chr_search.proofs.Plans.{step_key_given}
 use Rattle.chr_search.proofs.Partners.{ready_more, fit_less, no_fit}
-use Rattle.chr_search.proofs.Reaches.{has_pred, has_key}
+use Rattle.chr_search.proofs.Following.{follows_at}
 use Rattle.chr_search.proofs.Asking.{stands_is}
 use Rattle.chr_search.proofs.Wholes.{in_head_order, completed}
 use Rattle.chr_search.proofs.PassingOver.{stands_nowhere, is_part, is_full, heads_fit, misfit_here}
@@ -72,36 +67,10 @@ module _ {Z : Type 0} (j : Join) (ls : List ℕ) (at : LastHead Z) (l : ℕ) (he
   last_none t i last n = misfit_here j (ls ++ l ∷ []) t i (last_full t i last) n
 
 -- a label that fits may follow
-follows_at : (j : Join) → HasPlan j → (v : Valuation) (ls : List ℕ) (l : ℕ) → IsInTurn j ls l → Distinct ls → (step : Step) → slice_get j.order (length ls) ≡ Some step → Fit j v j.order ls → StandsAt j v step l → (o : Option (RuleAtom ℕ)) → head_at j.rule step.head ≡ o → MayFollow j ls l
-follows_at j p v ls l turn d step at f s None is = absurd (let z : None ≡ Some (Some s.atom) = sym (ap (option_map (atom_under v)) is) ∙ s.fits in cc)
-follows_at j p v ls l turn d step at f s (Some head) is =
-    let under : atom_under v head ≡ Some s.atom = some_is (atom_under v head) (Some s.atom) (sym (ap (option_map (atom_under v)) is) ∙ s.fits) in
-    record {
-      turn = turn;
-      distinct = d;
-      valuation = v;
-      fits = f;
-      step = step;
-      step_is = at;
-      head = head;
-      head_is = is;
-      atom = s.atom;
-      live = s.live;
-      pred = has_pred v head s.atom under;
-      key = has_key v head s.atom under step.key (known ls f at);
-    }
-  where
-    known : (before : List ℕ) → Fit j v j.order before → slice_get j.order (length before) ≡ Some step → (place : ℕ) → step.key ≡ Some place → (value : Value ℕ) × (given_at v head place ≡ Some value)
-    known [] g at place k =
-        let first : step ≡ record { head = p.head; key = None } = some_is step (record { head = p.head; key = None }) (sym at ∙ ap (λ (z : List Step). slice_get z 0) p.plan.first) in
-        let n : None ≡ Some place = sym (ap (λ (y : Step). y.key) first) ∙ k in
-        absurd (cc)
-    known (y ∷ before) g at place k = step_key_given j p.head v (y ∷ before) step head place p.plan (omega arith) g at is k
-
 pub follows_fit : (j : Join) → HasPlan j → (ls : List ℕ) (l : ℕ) (binding : List (Option (Value ℕ))) → IsInTurn j ls l → Distinct ls → IsReady j (ls ++ l ∷ []) binding → MayFollow j ls l
 follows_fit j p ls l binding turn d r =
     let f = fit_less j (bound_at binding) j.order ls l ((r.fit.exactly (bound_at binding)).0 (λ x t e. e)) in
-    follows_at j p (bound_at binding) ls l turn d f.0 f.1 f.2 f.3 (head_at j.rule f.0.head) refl
+    follows_at j p.head p.plan (bound_at binding) ls l turn d f.0 f.1 f.2 f.3
 
 -- one label more
 pub narrowed_by : (j : Join) → HasPlan j → (ls : List ℕ) (old new : List (Option (Value ℕ))) (step : Step) (l : ℕ) → IsReady j ls old → slice_get j.order (length ls) ≡ Some step → among ls l ≡ false → IsInTurn j ls l → (told : Bool) → NarrowsIf (λ v. StandsAt j v step l) told old new → IsNarrowedIf j ls l told new

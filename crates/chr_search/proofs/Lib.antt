@@ -1,6 +1,7 @@
 pub mod Positions
 pub mod Tree
 pub mod Plans
+pub mod Following
 pub mod Partners
 pub mod Descents
 pub mod Reaches

@@ -12,6 +12,7 @@ use Rattle.chr_search.specs.Tree.{Children, Least, NoneBeyond, LeastFrom, NoneFr
 use Rattle.chr_search.specs.Trials.{Join, StandsAt, Fit, HasKeyValue, IsInTurn, MayFollow}
 use Rattle.chr_search.specs.Partners.{IsReady, LengthenedIf, key_value, keyed_at, KeyIs}
 use Rattle.chr_search.proofs.Tree.{Come, under, under_same, under_other, here, come_first, come_at, come_to_end, come_found, come_past}
+use Rattle.chr_search.proofs.Following.{follows_live}
 use Rattle.chr_search.proofs.Plans.{distinct_push, among_push, keyed_given}
 
 -- one label more
@@ -122,20 +123,10 @@ asked_for j labels binding from q a l low m =
     }
 
 found_follows : (j : Join) (labels : List ℕ) (binding : List (Option (Value ℕ))) (from : ℕ) (q : Query) → IsAsked j labels binding from q → (l : ℕ) → Matches j.store q l → MayFollow j labels l
-found_follows j labels binding from q a l m = record {
-  turn = turn_in j labels l a.some (subst (λ x. l < x) a.under m.under);
-  distinct = a.ready.distinct;
-  valuation = bound_at binding;
-  fits = (a.ready.fit.exactly (bound_at binding)).0 (λ x t e. e);
-  step = a.step;
-  step_is = a.step_is;
-  head = a.head;
-  head_is = a.head_is;
-  atom = m.atom;
-  live = m.there;
-  pred = (m.pred.0 ∙ a.name, m.pred.1 ∙ a.arity);
-  key = has_value binding a.head a.step.key q.key m.atom a.key m.key;
-}
+found_follows j labels binding from q a l m =
+    let turn = turn_in j labels l a.some (subst (λ x. l < x) a.under m.under) in
+    let fits = (a.ready.fit.exactly (bound_at binding)).0 (λ x t e. e) in
+    follows_live j labels l turn a.ready.distinct (bound_at binding) fits a.step a.step_is (record { head = a.head; head_is = a.head_is; atom = m.atom; live = m.there; pred = (m.pred.0 ∙ a.name, m.pred.1 ∙ a.arity) }) (has_value binding a.head a.step.key q.key m.atom a.key m.key)
 
 pub least_partner : (j : Join) (labels : List ℕ) (binding : List (Option (Value ℕ))) (from : ℕ) (q : Query) → IsAsked j labels binding from q → (found : Option ℕ) → IsLeastMatch j.store q found → MatchOption found (NoneFrom (MayFollow j labels) from) (LeastFrom (MayFollow j labels) from)
 least_partner j labels binding from q a None n = λ l m low. n l (asked_for j labels binding from q a l low m)

@@ -1,14 +1,11 @@
 -- Admissible trials in plain words are those that grow label by label.
 use Rattle.std.proofs.Common.{◌≡◌, ℕ, ◌<◌, ◌≤◌, true, false, ◌==◌, List, [], ◌∷◌, ◌++◌, length, append_assoc, Some, None, slice_get, refl, sym, ◌∙◌, ap, subst, arith, true-eqb}
-use Rattle.std.specs.Option.{option_map}
 use Rattle.std.proofs.lemmas.Bool.Decides.{nat_tests}
 use Rattle.std.proofs.lemmas.List.{append-nil}
-use Rattle.chr_value.specs.Atoms.{Value, Atom}
 use Rattle.chr_value.proofs.Chosen.{some_is}
-use Rattle.chr_rule.specs.Rules.{RuleAtom, head_at}
+use Rattle.chr_rule.specs.Rules.{head_at}
 use Rattle.chr_guard.specs.Values.{Valuation}
-use Rattle.chr_guard.specs.Instances.{atom_under}
-use Rattle.chr_model.specs.Stores.{atom_at, among, Distinct}
+use Rattle.chr_model.specs.Stores.{among, Distinct}
 use Rattle.chr_model.specs.Searches.{AllBelow}
 use Rattle.chr_model.proofs.Stores.{Distinct-left, among-itself, among-right}
 use Rattle.chr_plan.specs.Plans.{ArePlans}
@@ -16,22 +13,17 @@ use Rattle.chr_plan.specs.declared.order.Step.{Step}
 use Rattle.chr_search.specs.Tree.{Grows}
 use Rattle.chr_search.specs.Trials.{Join, StandsAt, Fit, HasKeyValue, IsInTurn, MayFollow, Space, join_in, IsPlanned, IsTrial}
 use Rattle.chr_search.specs.Admissible.{IsLiveFor, AreLiveFor, AreAdmissible, IsAdmissible}
-use Rattle.chr_search.proofs.Plans.{IsPlanOf, planned, step_key_given}
-use Rattle.chr_search.proofs.Reaches.{has_key}
+use Rattle.chr_search.proofs.Plans.{IsPlanOf, planned}
+use Rattle.chr_search.proofs.Partners.{fit_less}
+use Rattle.chr_search.proofs.Following.{follows_live, follows_at}
 use Rattle.chr_search.proofs.Descents.{grows_in}
-use Rattle.chr_search.proofs.Shrinking.{trial_of}
+use Rattle.chr_search.proofs.Descents.{trial_of}
 
 -- the parts of a fit
 fit_front : (j : Join) (v : Valuation) (steps : List Step) (front rest : List ℕ) → Fit j v steps (front ++ rest) → Fit j v steps front
 fit_front j v steps [] rest f = tt
 fit_front j v [] (x ∷ front) rest f = f
 fit_front j v (s ∷ steps) (x ∷ front) rest f = (f.0, fit_front j v steps front rest f.1)
-
-fit_at : (j : Join) (v : Valuation) (steps : List Step) (front : List ℕ) (x : ℕ) (rest : List ℕ) → Fit j v steps (front ++ x ∷ rest) → (step : Step) → slice_get steps (length front) ≡ Some step → StandsAt j v step x
-fit_at j v [] [] x rest f step e = absurd f
-fit_at j v [] (y ∷ front) x rest f step e = absurd f
-fit_at j v (s ∷ steps) [] x rest f step e = subst (λ z. StandsAt j v z x) (some_is s step e) f.0
-fit_at j v (s ∷ steps) (y ∷ front) x rest f step e = fit_at j v steps front x rest f.1 step e
 
 live_at : (j : Join) (steps : List Step) (front : List ℕ) (x : ℕ) (rest : List ℕ) → AreLiveFor j steps (front ++ x ∷ rest) → (step : Step) × (slice_get steps (length front) ≡ Some step) × IsLiveFor j step x
 live_at j [] [] x rest a = absurd a
@@ -44,40 +36,11 @@ turn_of : (j : Join) (front : List ℕ) (x : ℕ) (rest partners : List ℕ) →
 turn_of j [] x rest partners e b = cc
 turn_of j (y ∷ front) x rest partners e b = let same : front ++ x ∷ rest ≡ partners = cc in b x (subst (λ ls. among ls x ≡ true) same (among-right front (x ∷ rest) x (among-itself x rest)))
 
-key_of_fit : (j : Join) (h : ℕ) → IsPlanOf j.rule h j.order → (v : Valuation) (front : List ℕ) (x : ℕ) (rest : List ℕ) → Fit j v j.order (front ++ x ∷ rest) → (step : Step) → slice_get j.order (length front) ≡ Some step → (head : RuleAtom ℕ) → head_at j.rule step.head ≡ Some head → (atom : Atom ℕ) → atom_at j.store x ≡ Some atom → HasKeyValue v head step.key atom
-key_of_fit j h p v front x rest f step at head is atom live =
-    let s = fit_at j v j.order front x rest f step at in
-    let same : s.atom ≡ atom = some_is s.atom atom (sym s.live ∙ live) in
-    let under : atom_under v head ≡ Some s.atom = some_is (atom_under v head) (Some s.atom) (sym (ap (option_map (atom_under v)) is) ∙ s.fits) in
-    has_key v head atom (under ∙ ap (λ a. Some a) same) step.key (known front f at)
-  where
-    known : (fs : List ℕ) → Fit j v j.order (fs ++ x ∷ rest) → slice_get j.order (length fs) ≡ Some step → (place : ℕ) → step.key ≡ Some place → (value : Value ℕ) × (Rattle.chr_search.specs.Trials.given_at v head place ≡ Some value)
-    known [] g at place k =
-        let first : step ≡ record { head = h; key = None } = some_is step (record { head = h; key = None }) (sym at ∙ ap (λ (z : List Step). slice_get z 0) p.plan.first) in
-        let n : None ≡ Some place = sym (ap (λ (y : Step). y.key) first) ∙ k in
-        absurd (cc)
-    known (y ∷ fs) g at place k = step_key_given j h v (y ∷ fs) step head place p.plan (omega arith) (fit_front j v j.order (y ∷ fs) (x ∷ rest) g) at is k
-
 plain_grows : (j : Join) (h : ℕ) → IsPlanOf j.rule h j.order → (labels : List ℕ) → (a : AreAdmissible j labels) → (front rest : List ℕ) → a.before ≡ front ++ rest → Grows (MayFollow j) front (rest ++ a.last ∷ [])
 plain_grows j h p labels a front [] e =
     let is : a.before ≡ front = e ∙ append-nil front in
-    subst (λ z. Grows (MayFollow j) z (a.last ∷ [])) is ((
-      record {
-        turn = turn_of j a.before a.last [] a.partners (sym a.ends ∙ a.first) a.below;
-        distinct = a.distinct;
-        valuation = a.valuation;
-        fits = a.fits;
-        step = a.step;
-        step_is = a.step_is;
-        head = a.head;
-        head_is = a.head_is;
-        atom = a.atom;
-        live = a.atom_is;
-        pred = last_pred;
-        key = a.key;
-      },
-      tt,
-    ))
+    let turn = turn_of j a.before a.last [] a.partners (sym a.ends ∙ a.first) a.below in
+    subst (λ z. Grows (MayFollow j) z (a.last ∷ [])) is (follows_live j a.before a.last turn a.distinct a.valuation a.fits a.step a.step_is (record { head = a.head; head_is = a.head_is; atom = a.atom; live = a.atom_is; pred = last_pred }) a.key, tt)
   where
     last_pred : Rattle.chr_search.specs.Trials.HasHeadPred a.head a.atom
     last_pred =
@@ -88,24 +51,10 @@ plain_grows j h p labels a front [] e =
         subst (λ z. Rattle.chr_search.specs.Trials.HasHeadPred z a.atom) hd (subst (λ z. Rattle.chr_search.specs.Trials.HasHeadPred l.2.head z) at l.2.pred)
 plain_grows j h p labels a front (x ∷ rest) e =
     let whole : labels ≡ front ++ x ∷ (rest ++ a.last ∷ []) = a.ends ∙ ap (λ (z : List ℕ). z ++ a.last ∷ []) e ∙ append_assoc front (x ∷ rest) (a.last ∷ []) in
-    let l = live_at j j.order front x (rest ++ a.last ∷ []) (subst (AreLiveFor j j.order) whole a.live) in
-    let fits : Fit j a.valuation j.order (front ++ x ∷ rest) = subst (Fit j a.valuation j.order) e a.fits in (
-      record {
-        turn = turn_of j front x (rest ++ a.last ∷ []) a.partners (sym whole ∙ a.first) a.below;
-        distinct = Distinct-left front (x ∷ rest) (subst Distinct e a.distinct);
-        valuation = a.valuation;
-        fits = fit_front j a.valuation j.order front (x ∷ rest) fits;
-        step = l.0;
-        step_is = l.1;
-        head = l.2.head;
-        head_is = l.2.head_is;
-        atom = l.2.atom;
-        live = l.2.live;
-        pred = l.2.pred;
-        key = key_of_fit j h p a.valuation front x rest fits l.0 l.1 l.2.head l.2.head_is l.2.atom l.2.live;
-      },
-      plain_grows j h p labels a (front ++ x ∷ []) rest (e ∙ sym (append_assoc front (x ∷ []) rest)),
-    )
+    let next : a.before ≡ (front ++ x ∷ []) ++ rest = e ∙ sym (append_assoc front (x ∷ []) rest) in
+    let f = fit_less j a.valuation j.order front x (fit_front j a.valuation j.order (front ++ x ∷ []) rest (subst (Fit j a.valuation j.order) next a.fits)) in
+    let turn = turn_of j front x (rest ++ a.last ∷ []) a.partners (sym whole ∙ a.first) a.below in
+    (follows_at j h p.plan a.valuation front x turn (Distinct-left front (x ∷ rest) (subst Distinct e a.distinct)) f.0 f.1 f.2 f.3, plain_grows j h p labels a (front ++ x ∷ []) rest next)
 
 nonempty : (xs : List ℕ) (x : ℕ) (ls : List ℕ) → ls ≡ x ∷ xs → 1 ≤ length ls
 nonempty xs x ls e = subst (λ (z : List ℕ). 1 ≤ length z) (sym e) (let q : 1 ≤ length (x ∷ xs) = omega arith in q)

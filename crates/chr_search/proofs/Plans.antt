@@ -7,6 +7,7 @@ use Rattle.std.proofs.lemmas.List.Quantifiers.{position-Some}
 use Rattle.std.proofs.lemmas.Option.{slice_get-get_or, slice_get_within}
 use Rattle.std.proofs.lemmas.List.{append-nil, map-append}
 use Rattle.chr_value.specs.Atoms.{Value, Args, Atom}
+use Rattle.chr_value.proofs.Chosen.{some_is}
 use Rattle.chr_rule.specs.Rules.{Term, Var, Given, Open, Terms, End, And, RuleAtom, Simpagation, rule_at}
 use Rattle.chr_rule.specs.Rules as rules
 use Rattle.chr_guard.specs.Values.{Valuation, term_under, terms_under, key_under}
@@ -187,16 +188,19 @@ variable_given v (t ∷ args) (y ∷ xs) e x h =
       | false ↦ λ b. variable_given v args xs (cc) x (let g : (stands_in x t || has_variable x args) ≡ true = h in cc)
     ] refl
 
--- a variable of a head that stands at a label has a value
-stands_given : (j : Join) (v : Valuation) (step : Step) (l x : ℕ) → StandsAt j v step l → binds (head_in (heads_of j.rule) step.head) x ≡ true → (value : Value ℕ) × (v x ≡ Some value)
-stands_given j v step l x s b = by_head (rules.head_at j.rule step.head) refl
+-- the head at which a label stands
+pub stands_head : (j : Join) (v : Valuation) (step : Step) (l : ℕ) (s : StandsAt j v step l) → (head : RuleAtom ℕ) × (rules.head_at j.rule step.head ≡ Some head) × (atom_under v head ≡ Some s.atom)
+stands_head j v step l s = of_head (rules.head_at j.rule step.head) refl
   where
-    by_head : (o : Option (RuleAtom ℕ)) → rules.head_at j.rule step.head ≡ o → (value : Value ℕ) × (v x ≡ Some value)
-    by_head None e = absurd (let z : None ≡ Some (Some s.atom) = sym (ap (option_map (atom_under v)) e) ∙ s.fits in cc)
-    by_head (Some head) e =
-        let z : Some (atom_under v head) ≡ Some (Some s.atom) = sym (ap (option_map (atom_under v)) e) ∙ s.fits in
-        let under : atom_under v head ≡ Some s.atom = cc in
-        variable_given v head.args s.atom.args ((atom_is v head s.atom).0 under).1 x (ap (λ (q : Option (RuleAtom ℕ)). binds q x) (sym (same_head j.rule step.head ∙ e)) ∙ b)
+    of_head : (o : Option (RuleAtom ℕ)) → rules.head_at j.rule step.head ≡ o → (head : RuleAtom ℕ) × (rules.head_at j.rule step.head ≡ Some head) × (atom_under v head ≡ Some s.atom)
+    of_head None e = absurd (let z : None ≡ Some (Some s.atom) = sym (ap (option_map (atom_under v)) e) ∙ s.fits in cc)
+    of_head (Some head) e = (head, e, some_is (atom_under v head) (Some s.atom) (sym (ap (option_map (atom_under v)) e) ∙ s.fits))
+
+-- its variables have values
+stands_given : (j : Join) (v : Valuation) (step : Step) (l x : ℕ) → StandsAt j v step l → binds (head_in (heads_of j.rule) step.head) x ≡ true → (value : Value ℕ) × (v x ≡ Some value)
+stands_given j v step l x s b =
+    let h = stands_head j v step l s in
+    variable_given v h.0.args s.atom.args ((atom_is v h.0 s.atom).0 h.2).1 x (ap (λ (q : Option (RuleAtom ℕ)). binds q x) (sym (same_head j.rule step.head ∙ h.1)) ∙ b)
 
 pub bound_given : (j : Join) (v : Valuation) (steps : List Step) (ls : List ℕ) → Fit j v steps ls → (x : ℕ) → is_bound (heads_of j.rule) (take (length ls) steps) x ≡ true → (value : Value ℕ) × (v x ≡ Some value)
 bound_given j v steps [] f x b = absurd (cc)

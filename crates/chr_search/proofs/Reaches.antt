@@ -1,5 +1,5 @@
 -- Each labelled instance whose labels are the active one and others below the bound is in the reach, once.
-use Rattle.std.proofs.Common.{◌≡◌, ◌≢◌, ℕ, zero, suc, ◌<◌, ◌≤◌, true, false, ◌||◌, ◌==◌, List, [], ◌∷◌, ◌++◌, map, length, append_assoc, Option, Some, None, slice_get, slice_index_or, refl, sym, ◌∙◌, ap, subst, arith, true-eqb, true≢false}
+use Rattle.std.proofs.Common.{◌≡◌, ◌≢◌, ℕ, zero, suc, ◌<◌, ◌≤◌, true, false, ◌||◌, ◌==◌, List, [], ◌∷◌, ◌++◌, map, length, append_assoc, Some, None, slice_get, slice_index_or, refl, sym, ◌∙◌, ap, subst, arith, true-eqb, true≢false}
 use Rattle.std.specs.List.{AllByRecursion}
 use Rattle.std.specs.Option.{option_map}
 use Rattle.std.proofs.lemmas.Bool.Decides.{nat_tests}
@@ -17,10 +17,11 @@ use Rattle.chr_plan.specs.Orders.{heads_of}
 use Rattle.chr_plan.specs.Plans.{plan_at, ArePlans}
 use Rattle.chr_plan.specs.declared.order.Step.{Step}
 use Rattle.chr_search.specs.Tree.{Grows}
-use Rattle.chr_search.specs.Trials.{Join, StandsAt, Fit, HasHeadPred, HasKeyValue, IsInTurn, MayFollow, Space, join_in, IsPlanned, Child, IsTrial}
+use Rattle.chr_search.specs.Trials.{Join, StandsAt, Fit, IsInTurn, MayFollow, Space, join_in, IsPlanned, IsTrial}
 use Rattle.chr_search.specs.Reach.{label_of, labels_in, Reach}
-use Rattle.chr_search.proofs.Plans.{heads_in, IsWithin, IsOrder, IsPlanOf, planned, planned_order, given_is, step_key_given}
-use Rattle.chr_search.proofs.Descents.{grows_out}
+use Rattle.chr_search.proofs.Plans.{heads_in, IsWithin, IsOrder, IsPlanOf, planned, planned_order}
+use Rattle.chr_search.proofs.Descents.{trial_of}
+use Rattle.chr_search.proofs.Following.{follows_at}
 
 pub get_after : {A : Type 0} (xs : List A) (x : A) (ys : List A) → slice_get (xs ++ x ∷ ys) (length xs) ≡ Some x
 get_after [] x ys = refl
@@ -155,21 +156,6 @@ within_at : (n : ℕ) (front : List Step) (x : Step) (rest : List Step) → AllB
 within_at n [] x rest w = w.0
 within_at n (y ∷ front) x rest w = within_at n front x rest w.1
 
-values_length : {A B : Type 0} (f : A → Option B) (xs : List A) (ys : List B) → map f xs ≡ map (λ y. Some y) ys → length ys ≡ length xs
-values_length f [] [] e = refl
-values_length f [] (y ∷ ys) e = absurd (cc)
-values_length f (x ∷ xs) [] e = absurd (cc)
-values_length f (x ∷ xs) (y ∷ ys) e = let r = values_length f xs ys (cc) in omega arith
-
--- an atom of a head has its predicate
-pub has_pred : (v : Valuation) (head : RuleAtom ℕ) (atom : Atom ℕ) → atom_under v head ≡ Some atom → HasHeadPred head atom
-has_pred v head atom e = let u = (Rattle.chr_guard.proofs.Under.atom_is v head atom).0 e in (sym u.0, values_length (Rattle.chr_guard.specs.Values.term_under v) head.args atom.args u.1)
-
--- an atom of a head has the key's value, where the head has one
-pub has_key : (v : Valuation) (head : RuleAtom ℕ) (atom : Atom ℕ) → atom_under v head ≡ Some atom → (key : Option ℕ) → ((place : ℕ) → key ≡ Some place → (value : _) × (Rattle.chr_search.specs.Trials.given_at v head place ≡ Some value)) → HasKeyValue v head key atom
-has_key v head atom e None f = tt
-has_key v head atom e (Some place) f = let g = f place refl in (g.0, g.1, sym (given_is v head atom e place) ∙ g.1)
-
 -- The active label stands at the first head, and all other labels lie below the bound.
 pub record OthersBelow (j : Join) (h : ℕ) (ls : List ℕ) : Type 0 where
   pub first : label_of ls h ≡ j.active
@@ -182,25 +168,10 @@ grow j h v ls p o s b front (x ∷ rest) q =
     let n : ℕ = length (heads_of j.rule) in
     let w : AllByRecursion (IsWithin n) (front ++ x ∷ rest) = subst (AllByRecursion (IsWithin n)) q o.within in
     let d : Distinct (heads_in (front ++ x ∷ rest)) = subst (λ z. Distinct (heads_in z)) q o.distinct in
-    let in_x = within_at n front x rest w in
-    let at = s.at x.head in_x.0 in_x.1 in
     let fits : Fit j v j.order (labels_in ls front) = subst (λ z. Fit j v z (labels_in ls front)) (sym q) (fit_front j v ls s front (x ∷ rest) w) in
     let step : slice_get j.order (length (labels_in ls front)) ≡ Some x =
     subst (λ k. slice_get j.order k ≡ Some x) (sym (length-map front (λ (y : Step). label_of ls y.head))) (ap (λ z. slice_get z (length front)) q ∙ get_after front x rest) in (
-      record {
-        turn = turn front q w d;
-        distinct = distinct_front n ls s.distinct s.count front (x ∷ rest) w d;
-        valuation = v;
-        fits = fits;
-        step = x;
-        step_is = step;
-        head = at.0;
-        head_is = at.1;
-        atom = at.2.atom;
-        live = at.2.live;
-        pred = has_pred v at.0 at.2.atom at.2.under;
-        key = has_key v at.0 at.2.atom at.2.under x.key (λ place k. known front q fits step at.0 at.1 place k);
-      },
+      follows_at j h p.plan v (labels_in ls front) (label_of ls x.head) (turn front q w d) (distinct_front n ls s.distinct s.count front (x ∷ rest) w d) x step fits (stand_at j v ls s x (within_at n front x rest w)),
       subst (λ z. Grows (MayFollow j) z (labels_in ls rest)) (map-append (λ (y : Step). label_of ls y.head) front (x ∷ []))
           (grow j h v ls p o s b (front ++ x ∷ []) rest (q ∙ sym (append_assoc front (x ∷ []) rest))),
     )
@@ -222,16 +193,15 @@ grow j h v ls p o s b front (x ∷ rest) q =
         (λ e. let same : label_of ls f.head ≡ label_of ls x.head = ap (λ (k : Step). label_of ls k.head) is_h ∙ b.first ∙ sym e in
         absurd (true≢false (sym (among-itself (label_of ls f.head) (labels_in ls fs)) ∙ ap (among (labels_in ls (f ∷ fs))) same ∙ other)))
 
-    known : (f : List Step) → j.order ≡ f ++ x ∷ rest → Fit j v j.order (labels_in ls f) → slice_get j.order (length (labels_in ls f)) ≡ Some x → (head : RuleAtom ℕ) → rules.head_at j.rule x.head ≡ Some head → (place : ℕ) → x.key ≡ Some place → (value : _) × (Rattle.chr_search.specs.Trials.given_at v head place ≡ Some value)
-    known [] z fits at head is place k = absurd (let first = first_step [] x rest z refl in let n : None ≡ Some place = sym (ap (λ (y : Step). y.key) first) ∙ k in cc)
-    known (f ∷ fs) z fits at head is place k = step_key_given j h v (labels_in ls (f ∷ fs)) x head place p.plan (omega arith) fits at is k
-
 -- An instance is in the reach by each head at which the active label stands.
 pub record IsReached (s : Space) (r h : ℕ) (kept removed : List ℕ) : Type 0 where
   pub low : 1 ≤ h
   pub high : h ≤ length (kept ++ removed)
   pub active : label_of (kept ++ removed) h ≡ s.active
   pub others : (l : ℕ) → among (kept ++ removed) l ≡ true → l ≢ s.active → l < s.bound
+
+pub reach_of : (s : Space) (r h : ℕ) (order : List Step) → plan_at s.plans r h ≡ Some order → (kept removed : List ℕ) (body : List (Atom ℕ)) → Labelled (Instances s.rules) s.store r kept removed body → IsTrial s (r ∷ h ∷ labels_in (kept ++ removed) order) → Reach s (r ∷ h ∷ labels_in (kept ++ removed) order)
+reach_of s r h order oi kept removed body i t = record { trial = t; rule = r; head = h; order = order; order_is = oi; kept = kept; removed = removed; body = body; instance = i; is = refl }
 
 pub in_reach : (s : Space) → ArePlans s.rules s.plans → (r h : ℕ) (kept removed : List ℕ) (body : List (Atom ℕ)) → Labelled (Instances s.rules) s.store r kept removed body → IsReached s r h kept removed
     → (order : List Step) → plan_at s.plans r h ≡ Some order → Reach s (r ∷ h ∷ labels_in (kept ++ removed) order)
@@ -242,19 +212,6 @@ in_reach s ps r h kept removed body i q order oi =
     let p : IsPlanned s r h rule order = record { rule_is = ri; order_is = oi } in
     let is_plan = planned s.rules s.plans ps r h rule order ri oi in
     let o = planned_order s.rules s.plans ps r h rule order ri oi in
-    let j : Join = join_in s rule order in
-    record {
-      trial = record {
-        grows = ((rule, ri), ((rule, order, p), grows_out s r h rule order p [] (labels_in (kept ++ removed) order) (grow j h (i.instance.2).valuation (kept ++ removed) is_plan o st (record { first = q.active; others = q.others }) [] order refl)));
-        deep = subst (λ z. 3 ≤ length (r ∷ h ∷ labels_in (kept ++ removed) z)) (sym o.first) (omega arith);
-      };
-      rule = r;
-      head = h;
-      order = order;
-      order_is = oi;
-      kept = kept;
-      removed = removed;
-      body = body;
-      instance = i;
-      is = refl;
-    }
+    let some : 1 ≤ length (labels_in (kept ++ removed) order) = subst (λ z. 1 ≤ length (labels_in (kept ++ removed) z)) (sym o.first) (omega arith) in
+    let grows = grow (join_in s rule order) h (i.instance.2).valuation (kept ++ removed) is_plan o st (record { first = q.active; others = q.others }) [] order refl in
+    reach_of s r h order oi kept removed body i (trial_of s r h (labels_in (kept ++ removed) order) rule order p some grows)

@@ -17,8 +17,9 @@ use Rattle.chr_search.specs.Tree.{Grows}
 use Rattle.chr_search.specs.Trials.{Join, Fit, IsInTurn, MayFollow, Space, join_in, IsPlanned, Child, IsTrial}
 use Rattle.chr_search.specs.Reach.{label_of, labels_in, Reach, MayHave, HasNoMore, over}
 use Rattle.chr_search.proofs.Plans.{heads_in, planned_order, IsOrder}
-use Rattle.chr_search.proofs.Descents.{grows_in, grows_out}
-use Rattle.chr_search.proofs.Reaches.{Stands, stands, head_of}
+use Rattle.chr_search.proofs.Descents.{grows_in, trial_of}
+use Rattle.chr_search.proofs.Following.{follows_live}
+use Rattle.chr_search.proofs.Reaches.{Stands, stands, head_of, reach_of}
 
 -- the labels that trials of a join may have
 abbrev pub AllSeen : Join → List ℕ → Type 0
@@ -67,20 +68,7 @@ grows_shrunk j new f before (x ∷ more) s g =
     let m = g.0 in
     let turn : IsInTurn j before x = turn_same j new before x m.turn in
     let seen = turn_seen j before x turn in (
-      record {
-        turn = turn;
-        distinct = m.distinct;
-        valuation = m.valuation;
-        fits = fit_shrunk j new f m.valuation j.order before s m.fits;
-        step = m.step;
-        step_is = m.step_is;
-        head = m.head;
-        head_is = m.head_is;
-        atom = m.atom;
-        live = f x m.atom seen m.live;
-        pred = m.pred;
-        key = m.key;
-      },
+      follows_live j before x turn m.distinct m.valuation (fit_shrunk j new f m.valuation j.order before s m.fits) m.step m.step_is (record { head = m.head; head_is = m.head_is; atom = m.atom; live = f x m.atom seen m.live; pred = m.pred }) m.key,
       grows_shrunk j new f (before ++ x ∷ []) more (seen_push j before x s seen) g.1,
     )
 
@@ -102,9 +90,6 @@ branch s (r ∷ []) i = absurd (let d : 3 ≤ length (r ∷ []) = i.deep in omeg
 branch s (r ∷ h ∷ labels) i =
     let c = i.grows.1.0 in
     record { r = r; h = h; labels = labels; is = refl; some = (let d : 3 ≤ length (r ∷ h ∷ labels) = i.deep in omega arith); rule = c.0; order = c.1; planned = c.2; grows = grows_in s r h c.0 c.1 c.2 [] labels i.grows.1.1 }
-
-pub trial_of : (s : Space) (r h : ℕ) (labels : List ℕ) (rule : Simpagation ℕ) (order : List Step) → IsPlanned s r h rule order → 1 ≤ length labels → Grows (MayFollow (join_in s rule order)) [] labels → IsTrial s (r ∷ h ∷ labels)
-trial_of s r h labels rule order p some g = record { grows = ((rule, p.rule_is), ((rule, order, p), grows_out s r h rule order p [] labels g)); deep = omega arith }
 
 none_seen : (j : Join) → AllSeen j []
 none_seen j l i = absurd (cc)
@@ -167,18 +152,9 @@ reach_seen s ps t k l i =
     grows_seen (join_in s r.rule k.order) [] (labels_in (k.kept ++ k.removed) k.order) (none_seen (join_in s r.rule k.order)) r.grows l (reach_named s ps t k l i)
 
 pub reach_shrunk : (s : Space) → ArePlans s.rules s.plans → (new : Store) → HasNoMore s new → (t : List ℕ) → Reach (over s new) t → Reach s t
-reach_shrunk s ps new f t k = record {
-  trial = trial_shrunk s new f t k.trial;
-  rule = k.rule;
-  head = k.head;
-  order = k.order;
-  order_is = k.order_is;
-  kept = k.kept;
-  removed = k.removed;
-  body = k.body;
-  instance = Labelled-move (Instances s.rules) new s.store k.rule k.kept k.removed k.body (λ l a i at. f l a (reach_seen (over s new) ps t k l i) at) k.instance;
-  is = k.is;
-}
+reach_shrunk s ps new f t k =
+    let i = Labelled-move (Instances s.rules) new s.store k.rule k.kept k.removed k.body (λ l a i at. f l a (reach_seen (over s new) ps t k l i) at) k.instance in
+    subst (Reach s) (sym k.is) (reach_of s k.rule k.head k.order k.order_is k.kept k.removed k.body i (subst (IsTrial s) k.is (trial_shrunk s new f t k.trial)))
 
 -- what others do to the store
 pub removed_no_more : (s : Space) (l : ℕ) → HasNoMore s (drop_label l s.store)
