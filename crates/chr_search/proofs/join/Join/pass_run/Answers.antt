@@ -1,10 +1,10 @@
 use Rattle.std.proofs.Common.{◌≡◌, suc, ◌+◌, refl, ◌≤◌, ℕ, List, [], ◌∷◌, ◌++◌, sym, subst, ◌∙◌, length-append, arith}
 use Rattle.chr_guard.specs.Bindings.{Keeps}
-use Rattle.chr_search.specs.declared.judged.Verdict.TheVariants.{Part}
+use Rattle.chr_search.specs.declared.passing.Next.TheVariants.{Part, Whole}
 use Rattle.chr_search.specs.Joined.{join_of}
 use Rattle.chr_search.specs.Partners.{IsReady}
-use Rattle.chr_search.specs.Passing.{AreJudged, AreMisfits, AreWhole, IsLevel}
-use Rattle.chr_search.specs.Tree.{Grows, LeastFrom, NoneFrom}
+use Rattle.chr_search.specs.Passing.{AreMisfits, ComesNext, IsLevel}
+use Rattle.chr_search.specs.Tree.{Grows, NoneFrom}
 use Rattle.chr_search.specs.Trials.{MayFollow}
 use Rattle.chr_search.proofs.Tree.{grows_more}
 use Rattle.chr_search.proofs.PassingOver.{label_small}
@@ -51,13 +51,8 @@ loop-count-preserved g c =
 
 pub returns-in-Whole-clause-then : goal.returns-in-Whole-clause-then
 returns-in-Whole-clause-then g c =
-    let j = join_of c.args.self.now in
-    let label = c.in-Some.label in
-    let seen = c.as_slice-labels.ensures.value in (
-      c.loop-count-test.true,
-      subst (λ (ls : List ℕ). LeastFrom (MayFollow j ls) c.loop-count.next label) seen c.in-Some.ensures.least,
-      subst (λ ls. AreWhole j (ls ++ label ∷ []) c.judge_at.new.narrowed) seen c.in-Whole.ensures.tried,
-    )
+    subst (λ (ls : List ℕ). ComesNext (join_of c.args.self.now) ls c.loop-count.count c.args.most c.loop-count.next (Whole c.in-Some.label) c.judge_at.new.narrowed) c.as_slice-labels.ensures.value
+    (c.loop-count-test.true, c.in-Some.ensures.least, c.in-Whole.ensures.tried)
 
 pub overflow_add-next : goal.overflow_add-next
 overflow_add-next g c =
@@ -74,10 +69,5 @@ returns-in_default-clause-then g c = subst (λ (ls : List ℕ). NoneFrom (MayFol
 
 pub returns-in-Part-clause-then : goal.returns-in-Part-clause-then
 returns-in-Part-clause-then g c =
-    let j = join_of c.args.self.now in
-    let label = c.in-Some.label in
-    let seen = c.as_slice-labels.ensures.value in (
-      c.loop-count-test.true,
-      subst (λ (ls : List ℕ). LeastFrom (MayFollow j ls) c.loop-count.next label) seen c.in-Some.ensures.least,
-      (subst (λ ls. AreJudged j (ls ++ label ∷ []) Part) seen c.in-Part.ensures.tried.0, subst (λ ls. IsReady j (ls ++ label ∷ []) c.judge_at.new.narrowed) seen c.in-Part.ensures.tried.1),
-    )
+    subst (λ (ls : List ℕ). ComesNext (join_of c.args.self.now) ls c.loop-count.count c.args.most c.loop-count.next (Part c.in-Some.label) c.judge_at.new.narrowed) c.as_slice-labels.ensures.value
+    (c.loop-count-test.true, c.in-Some.ensures.least, c.in-Part.ensures.tried)
