@@ -28,10 +28,6 @@ use Rattle.chr_search.proofs.Plans.{order_of_plan, step_keyed}
 use Rattle.chr_search.proofs.Following.{follows_live}
 use Rattle.chr_search.proofs.Partners.{IsAsked, ready_more, no_fit}
 
-pub none_if : {A : Type 0} (o : Option A) → ((x : A) → o ≡ Some x → ⊥) → o ≡ None
-none_if None f = refl
-none_if (Some x) f = absurd (f x refl)
-
 pub any_among : (ls : List ℕ) (l : ℕ) → list_any (λ y. y == l) ls ≡ among ls l
 any_among [] l = refl
 any_among (x ∷ ls) l = ap (λ b. (x == l) || b) (any_among ls l)

@@ -121,9 +121,6 @@ before_all r h ls t e = after_by (r ∷ h ∷ []) (r ∷ h ∷ ls) t (after_unde
 pub come_to_own : (s : Space) (r h : ℕ) (ls : List ℕ) → HasComeTo s (r ∷ h ∷ ls) r h
 come_to_own s r h ls = record { later = after_itself (r ∷ h ∷ []); none = λ t i e. before_all r h ls t e }
 
-same_twice : (r h x y : ℕ) (ls : List ℕ) → x ≡ r → y ≡ h → labels_in (x ∷ y ∷ ls) r h ≡ ls
-same_twice r h x y ls e f = grind (arith, nat_tests)
-
 pub alike_in : (s : Space) (place : List ℕ) (r h : ℕ) → HasComeTo s place r h → AreAlike s place (r ∷ h ∷ labels_in place r h)
 alike_in s [] r h c = record { into = c.none; back = λ t i e. refl }
 alike_in s (x ∷ []) r h c = record { into = c.none; back = λ t i e. after_by (x ∷ []) (r ∷ h ∷ []) t c.later e }

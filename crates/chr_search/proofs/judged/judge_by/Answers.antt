@@ -82,12 +82,3 @@ returns-else-becomes_instance-clause-verdict g c =
     let rule = c.rule-rule.result.now in
     misfit_by t c.rule-rule.ensures.formed all rule c.rule-rule.ensures.rule
     (c.if-becomes_instance.ensures.instance (in_head_order t) (heads_by t c.rule-rule.ensures.formed all rule c.rule-rule.ensures.rule c.fit_placed.new.binding (fit g at)))
-
-pub returns-then-not-are_distinct-clause-whole : goal.returns-then-not-are_distinct-clause-whole
-returns-then-not-are_distinct-clause-whole g c e = absurd (cc)
-
-pub returns-then-placed-heads-clause-whole : goal.returns-then-placed-heads-clause-whole
-returns-then-placed-heads-clause-whole g c e = absurd (cc)
-
-pub returns-else-becomes_instance-clause-whole : goal.returns-else-becomes_instance-clause-whole
-returns-else-becomes_instance-clause-whole g c e = absurd (cc)

@@ -23,15 +23,6 @@ pass_below-requires g t c =
     let is = c.requires.place ∙ ap (λ ls. path ++ c.args.first ∷ ls) (nil_from_length c.args.below.now c.in_default.ensures.cases) in
     (omega arith, (c.requires.begins, (c.requires.ready, below_at (join_of c.args.self.now) path c.args.place.now.items c.args.first c.requires.grows is)))
 
-pub returns-in_default-clause-passed : goal.returns-in_default-clause-passed
-returns-in_default-clause-passed g t c = c.pass_below.ensures.passed
-
-pub returns-in_default-clause-ends : goal.returns-in_default-clause-ends
-returns-in_default-clause-ends g t c = c.pass_below.ensures.ends
-
-pub returns-in_default-clause-keeps : goal.returns-in_default-clause-keeps
-returns-in_default-clause-keeps g t c = c.pass_below.ensures.keeps
-
 -- no label may follow that is as great
 pub returns-then-first-active-clause-passed : goal.returns-then-first-active-clause-passed
 returns-then-first-active-clause-passed g t c = record { few = omega arith; enough = λ e. absurd (cc); passes = refl }
