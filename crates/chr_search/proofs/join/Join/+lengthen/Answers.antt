@@ -1,4 +1,4 @@
-use Rattle.std.proofs.Common.{◌≡◌, ◌<◌, ◌≤◌, ℕ, List, [], ◌∷◌, ◌++◌, length, length-append, refl, sym, subst, ap, ◌∙◌, arith}
+use Rattle.std.proofs.Common.{◌≡◌, ◌≤◌, ℕ, List, [], ◌∷◌, ◌++◌, length, refl, sym, subst, ap, ◌∙◌, arith}
 use Rattle.arrayvec.specs.ArrayVec.{ArrayVec}
 use Rattle.chr_guard.specs.Bindings.{Keeps}
 use Rattle.chr_guard.proofs.Bindings.{keeps_both, keeps_itself}
@@ -22,19 +22,6 @@ returns-then-first-active-clause-keeps g t c = keeps_itself c.args.binding.now
 
 pub push-requires : goal.push-requires
 push-requires g t c = (omega arith, room (join_of c.args.self.now) c.requires.plan c.args.labels.now.items c.args.first (subst (λ ls. MayFollow (join_of c.args.self.now) ls c.args.first) c.as_slice.ensures.value c.if-narrow_by.ensures.narrowed.0))
-
-pub lengthen-requires : goal.lengthen-requires
-lengthen-requires g t c κs within =
-    let j = join_of c.args.self.now in
-    let pushed : c.push.new.self.items ≡ c.args.labels.now.items ++ c.args.first ∷ [] = c.push.ensures.items in
-    let ready = subst (λ ls. IsReady j (ls ++ c.args.first ∷ []) c.narrow_by.new.narrowed) c.as_slice.ensures.value c.if-narrow_by.ensures.narrowed.1 in
-    let less : length c.in-Some.rest.now < length c.args.below.now = (let e = ap length c.in-Some.ensures.cases.0 in omega arith) in (
-      subst (λ n. length c.in-Some.rest.now < n) c.decreases less,
-      (within, (omega arith, (longer c.args.labels.now.items c.push.new.self.items c.args.first pushed, (c.requires.plan, subst (λ ls. IsReady j ls c.narrow_by.new.narrowed) (sym pushed) ready)))),
-    )
-  where
-    longer : (ls new : List ℕ) (x : ℕ) → new ≡ ls ++ x ∷ [] → 1 ≤ length new
-    longer ls new x e = subst (λ (zs : List ℕ). 1 ≤ length zs) (sym e) (omega (arith, length-append ls (x ∷ [])))
 
 pub returns-then-lengthen-clause-found : goal.returns-then-lengthen-clause-found
 returns-then-lengthen-clause-found g t c =

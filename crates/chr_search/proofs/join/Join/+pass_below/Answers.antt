@@ -16,18 +16,12 @@ use Rattle.chr_search.proofs.join.Join.+pass_below.Goals.{In-Part, After-push, A
 use Rattle.chr_search.proofs.join.Join.+pass_below.Goals as goal
 
 -- no label may be tried after these
-pub returns-in_default-clause-passed : goal.returns-in_default-clause-passed
-returns-in_default-clause-passed g t c = record { few = omega arith; enough = λ e. absurd (cc); passes = refl }
-
 pub returns-in_default-clause-ends : goal.returns-in_default-clause-ends
 returns-in_default-clause-ends g t c =
     (refl, below_done (join_of c.args.self.now) c.args.instance.now.labels.items c.args.place.now.items c.args.from c.requires.below (λ x m low. c.in_default.ensures x (subst (λ ls. MayFollow (join_of c.args.self.now) ls x) (sym c.as_slice.ensures.value) m)))
 
 pub returns-in_default-clause-keeps : goal.returns-in_default-clause-keeps
 returns-in_default-clause-keeps g t c = keeps_itself c.args.binding.now
-
-pub pass_level-beside-requires : goal.pass_level-beside-requires
-pass_level-beside-requires g t c = (omega arith, (c.requires.begins, (c.loop-label.invariant.ready, (c.loop-label.invariant.level, c.loop-label.invariant.below))))
 
 -- the level stops at a part
 stopped : (g : _) (t : _) (c : In-Part g t) → (c.pass_level-beside.new.instance.labels.items ≡ c.loop-label.instance.labels.items) × (c.loop-label.from ≤ c.in-Part.label) × IsAfterPart (join_of c.args.self.now) c.loop-label.instance.labels.items c.in-Part.label c.pass_level-beside.new.place.items c.pass_level-beside.new.binding
@@ -99,17 +93,6 @@ loop-label-smaller g t c =
     let stop = stopped g t (goal.at.loop-label-smaller g t c).In-Part in
     nearer (join_of c.args.self.now) refl c.loop-label.instance.labels.items c.loop-label.from c.in-Part.label stop.2.follows stop.1
 
-pub loop-label-init : goal.loop-label-init
-loop-label-init g t c = record {
-  few = omega arith;
-  passes = refl;
-  labels = refl;
-  binding = refl;
-  ready = c.requires.ready;
-  level = subst (λ ls. IsLevel (join_of c.args.self.now) ls c.args.binding.now c.in-Some.level) c.as_slice.ensures.value c.in-Some.ensures;
-  below = c.requires.below;
-}
-
 pub loop-label-preserved : goal.loop-label-preserved
 loop-label-preserved g t c =
     let at = goal.at.loop-label-preserved g t c in
@@ -136,14 +119,6 @@ pub returns-in-End-clause-passed : goal.returns-in-End-clause-passed
 returns-in-End-clause-passed g t c =
     passed_more (join_of c.args.self.now) c.args.most c.loop-label.count c.args.place.now.items c.loop-label.place.items c.pass_level-beside.new.place.items (record { count = c.pass_level-beside.result.count; end = c.in-End.end }) c.loop-label.invariant.few c.loop-label.invariant.passes
     (record { few = c.pass_level-beside.ensures.few; enough = λ e. c.pass_level-beside.ensures.enough (c.in-End.is ∙ ap End e); passes = c.pass_level-beside.ensures.passes })
-
-pub returns-in-End-clause-ends : goal.returns-in-End-clause-ends
-returns-in-End-clause-ends g t c =
-    let stop = subst (λ s. StopsAt (join_of c.args.self.now) c.loop-label.instance.labels.items c.loop-label.from s c.pass_level-beside.new.place.items c.pass_level-beside.new.instance.labels.items c.pass_level-beside.new.binding) c.in-End.is c.pass_level-beside.ensures.stops in
-    subst (λ ls. EndsBelow (join_of c.args.self.now) ls c.pass_level-beside.new.place.items c.in-End.end c.pass_level-beside.new.instance.labels.items c.pass_level-beside.new.binding) c.loop-label.invariant.labels stop
-
-pub returns-in-End-clause-keeps : goal.returns-in-End-clause-keeps
-returns-in-End-clause-keeps g t c = subst (λ b. Keeps b c.pass_level-beside.new.binding) c.loop-label.invariant.binding c.pass_level-beside.ensures.keeps
 
 -- or some are left deeper
 pub returns-in_default-end-clause-passed : goal.returns-in_default-end-clause-passed

@@ -24,9 +24,6 @@ pass_below-requires g t c =
     (omega arith, (c.requires.begins, (c.requires.ready, below_at (join_of c.args.self.now) path c.args.place.now.items c.args.first c.requires.grows is)))
 
 -- no label may follow that is as great
-pub returns-then-first-active-clause-passed : goal.returns-then-first-active-clause-passed
-returns-then-first-active-clause-passed g t c = record { few = omega arith; enough = λ e. absurd (cc); passes = refl }
-
 pub returns-then-first-active-clause-ends : goal.returns-then-first-active-clause-ends
 returns-then-first-active-clause-ends g t c =
     let high = subst (λ x. x < c.args.first) c.active.ensures.value c.if-first-active.true in
@@ -60,9 +57,6 @@ pass_on-deeper-requires g t c κs within =
     )
 
 -- where some are left below it
-pub returns-in_default-end-clause-passed : goal.returns-in_default-end-clause-passed
-returns-in_default-end-clause-passed g t c = c.pass_on-deeper.ensures.passed
-
 pub returns-in_default-end-clause-ends : goal.returns-in_default-end-clause-ends
 returns-in_default-end-clause-ends g t c = ends_deeper (join_of c.args.self.now) c.push.new.self.items c.args.instance.now.labels.items c.pass_on-deeper.new.place.items c.pass_on-deeper.result.end c.pass_on-deeper.new.instance.labels.items c.pass_on-deeper.new.binding c.in_default-end.not-NoneLeft c.pass_on-deeper.ensures.ends
 

@@ -1,8 +1,8 @@
-use Rattle.std.proofs.Common.{◌≡◌, ◌≤◌, length, ltb, MatchBool, false, [], ◌∷◌, refl, sym, subst, ◌∙◌, arith}
+use Rattle.std.proofs.Common.{◌≡◌, ltb, MatchBool, false, [], ◌∷◌, refl, sym, subst, ◌∙◌, arith}
 use Rattle.chr_search.specs.Tree.{Least, NoneBeyond}
 use Rattle.chr_search.specs.Trials.{MayFollow}
 use Rattle.chr_search.specs.Joined.{join_of}
-use Rattle.chr_search.specs.Partners.{IsReady, LengthenedIf}
+use Rattle.chr_search.specs.Partners.{LengthenedIf}
 use Rattle.chr_search.proofs.Asking.{free_ready}
 use Rattle.chr_search.proofs.Partners.{none_below, active_first, active_last, active_other, active_more}
 use Rattle.chr_search.proofs.join.Join.lengthen_active.Goals as goal
@@ -31,13 +31,6 @@ returns-then-not-narrow_by g c =
 
 pub narrow_by-requires : goal.narrow_by-requires
 narrow_by-requires g c = (omega arith, (c.requires.plan, free_ready (join_of c.args.self.now) c.variables.result c.free-binding.result c.variables.ensures.count c.free-binding.ensures))
-
-pub lengthen-requires : goal.lengthen-requires
-lengthen-requires g c =
-    let j = join_of c.args.self.now in
-    let own = c.requires.active in
-    let ready = subst (λ z. IsReady j (z ∷ []) c.narrow_by.new.narrowed) c.active-active.ensures.value c.if-not-narrow_by.ensures.narrowed.1 in
-    (omega arith, (subst (λ ls. 1 ≤ length ls) (sym own) (omega arith), (c.requires.plan, subst (λ ls. IsReady j ls c.narrow_by.new.narrowed) (sym own) ready)))
 
 pub returns : goal.returns
 returns g c =

@@ -1,4 +1,4 @@
-use Rattle.std.proofs.Common.{◌≡◌, true, false, true≢false, length, sym, ◌∙◌}
+use Rattle.std.proofs.Common.{◌≡◌, true, false, length, sym, ◌∙◌}
 use Rattle.chr_store.proofs.Walks.{get_there}
 use Rattle.chr_model.specs.Stores.{among}
 use Rattle.chr_search.specs.Joined.{join_of}
@@ -6,9 +6,6 @@ use Rattle.chr_search.proofs.Partners.{repeated, no_step}
 use Rattle.chr_search.proofs.Asking.{any_among, past_get}
 use Rattle.chr_search.proofs.Levels.{narrowed_by}
 use Rattle.chr_search.proofs.join.Join.narrow_by.Goals as goal
-
-pub returns-then-not-is_in_turn-clause-narrowed : goal.returns-then-not-is_in_turn-clause-narrowed
-returns-then-not-is_in_turn-clause-narrowed g c = λ m x f. true≢false (sym (c.is_in_turn.ensures.1 m.turn) ∙ c.if-not-is_in_turn.true)
 
 pub returns-then-is_among-clause-narrowed : goal.returns-then-is_among-clause-narrowed
 returns-then-is_among-clause-narrowed g c =

@@ -1,4 +1,4 @@
-use Rattle.std.proofs.Common.{◌≡◌, ◌≤◌, [], ◌∷◌, refl, sym, subst, arith}
+use Rattle.std.proofs.Common.{◌≡◌, ◌≤◌, [], ◌∷◌, sym, subst, arith}
 use Rattle.chr_search.specs.Tree.{NoneBeyond}
 use Rattle.chr_search.specs.Trials.{MayFollow}
 use Rattle.chr_search.specs.Joined.{join_of}
@@ -24,9 +24,6 @@ overflow_add-active g c =
     let is : c.active-active.result ≡ j.active = c.active-active.ensures.value in
     omega arith
 
-pub returns-in_default-clause-passed : goal.returns-in_default-clause-passed
-returns-in_default-clause-passed g c = record { few = omega arith; enough = λ e. absurd (cc); passes = refl }
-
 pub returns-in_default-clause-ends : goal.returns-in_default-clause-ends
 returns-in_default-clause-ends g c = none_at_all (join_of c.args.self.now) c.args.place.now.items c.in_default.ensures
 
@@ -47,9 +44,6 @@ pub returns-in-Misfit-clause-ends : goal.returns-in-Misfit-clause-ends
 returns-in-Misfit-clause-ends g c = (misfit g (goal.at.returns-in-Misfit-clause-ends g c).After-push).1
 
 -- or whole, or a part
-pub returns-in-Whole-clause-passed : goal.returns-in-Whole-clause-passed
-returns-in-Whole-clause-passed g c = record { few = omega arith; enough = λ e. absurd (cc); passes = refl }
-
 pub returns-in-Whole-clause-ends : goal.returns-in-Whole-clause-ends
 returns-in-Whole-clause-ends g c = first_whole (join_of c.args.self.now) c.active-active.result (began g (goal.at.returns-in-Whole-clause-ends g c).After-active-active) c.judge_at.new.narrowed c.in-Whole.ensures.tried c.args.place.now.items c.set_alone.new.labels.items c.requires.place c.set_alone.ensures
 

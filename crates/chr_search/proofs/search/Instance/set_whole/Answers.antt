@@ -21,9 +21,6 @@ overflow_add-kept g c =
     let few : length c.kept-kept.result.now ≤ 6 = kept_few _ c.kept-kept.ensures.valid shape c.kept-kept.result.now c.kept-kept.ensures.heads in
     omega arith
 
-pub set_past-requires-clause-trial : goal.set_past-requires-clause-trial
-set_past-requires-clause-trial g c = (c.requires.trial.0, c.requires.trial.1.formed, c.requires.trial.1.labels_are ∙ sym c.as_slice-labels.ensures.value)
-
 pub returns-clause-kept : goal.returns-clause-kept
 returns-clause-kept g c =
     c.set_labels_at_heads.ensures ∙ ap₂ (λ ls n. labels_at_heads c.args.join.now.order.now ls 1 n) c.as_slice-labels.ensures.value (sym (length-map c.kept-kept.result.now shape) ∙ ap length c.kept-kept.ensures.heads)

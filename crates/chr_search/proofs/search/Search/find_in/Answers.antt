@@ -1,4 +1,4 @@
-use Rattle.std.proofs.Common.{ℕ, ◌+◌, List, [], ◌∷◌, refl, sym, ap, subst}
+use Rattle.std.proofs.Common.{ℕ, ◌+◌, List, [], ◌∷◌, refl, ap, subst}
 use Rattle.chr_search.specs.Tree.{Least, NoneBeyond}
 use Rattle.chr_search.specs.Trials.{Space, older, MayFollow, NoneLeft}
 use Rattle.chr_search.specs.Joined.{join_of}
@@ -45,11 +45,3 @@ returns g c =
 
 pub loop-join-init : goal.loop-join-init
 loop-join-init g c = record { found = c.found.invariant; come = c.first_walk-walk.ensures.come _ refl; ahead = c.first_walk-walk.ensures.ahead _ refl c.requires.atom }
-
-pub next_join-requires-clause-ahead : goal.next_join-requires-clause-ahead
-next_join-requires-clause-ahead g c =
-    let walk = c.loop-join.walk in
-    subst (λ l. AreAhead (older c.args.program.now c.args.plans.now c.args.view.now.store.entries l) walk.rule walk.head walk.heads) (sym c.requires.active) c.loop-join.invariant.ahead
-
-pub invariant_of-found-in_default : goal.invariant_of-found-in_default
-invariant_of-found-in_default g c = c.loop-join.invariant.found

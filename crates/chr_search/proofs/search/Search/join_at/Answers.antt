@@ -1,4 +1,4 @@
-use Rattle.std.proofs.Common.{◌≡◌, Some, None, refl, sym, ap, subst, ◌∙◌}
+use Rattle.std.proofs.Common.{◌≡◌, Some, refl, sym, ap, subst, ◌∙◌}
 use Rattle.chr_rule.specs.Rules.{rule_at}
 use Rattle.chr_plan.specs.Plans.{plan_at}
 use Rattle.chr_store.specs.Views.{Seen}
@@ -6,18 +6,6 @@ use Rattle.chr_search.specs.Trials.{Space, older, join_in, IsPlanned}
 use Rattle.chr_search.specs.PlanByPlan.{IsJoinOf}
 use Rattle.chr_search.proofs.Descents.{plan_of}
 use Rattle.chr_search.proofs.search.Search.join_at.Goals as goal
-
-pub returns-in_default : goal.returns-in_default
-returns-in_default g c = λ rule order planned.
-    let gone : None ≡ plan_at c.args.plans.now c.args.rule c.args.head = subst (λ n. None ≡ plan_at c.args.plans.now n c.args.head) c.from.ensures c.in_default.ensures in
-    let z : None ≡ Some order = gone ∙ planned.order_is in
-    absurd (cc)
-
-pub returns-in_default-rule : goal.returns-in_default-rule
-returns-in_default-rule g c = λ rule order planned.
-    let gone : None ≡ rule_at c.args.program.now c.args.rule = subst (λ n. None ≡ rule_at c.args.program.now n) c.from-2.ensures c.in_default-rule.ensures.rule in
-    let z : None ≡ Some rule = gone ∙ planned.rule_is in
-    absurd (cc)
 
 pub returns : goal.returns
 returns g c =

@@ -1,4 +1,4 @@
-use Rattle.std.proofs.Common.{◌≡◌, ◌+◌, ◌-◌, [], ◌∷◌, refl, sym, ap, subst, ◌∙◌, arith}
+use Rattle.std.proofs.Common.{◌+◌, [], ◌∷◌, refl, ap, subst, ◌∙◌, arith}
 use Rattle.chr_search.specs.declared.passing.End.{End}
 use Rattle.chr_search.specs.Trials.{Space, older, NoneLeft}
 use Rattle.chr_search.specs.Joined.{join_of}
@@ -55,11 +55,6 @@ returns-in-Enough-clause-passed g c =
     let at = goal.at.returns-in-Enough-clause-passed g c in
     pass_more _ _ _ _ _ _ c.loop-join.invariant.passed (gone g at.After-pass_in_plan-passed (here g at.In-Some)).passed
 
-pub returns-in-Enough-clause-more : goal.returns-in-Enough-clause-more
-returns-in-Enough-clause-more g c = λ more.
-    let all : c.pass_in_plan-passed.result.count ≡ c.args.most - c.loop-join.count = c.pass_in_plan-passed.ensures.enough c.in-Enough.is in
-    omega (arith, c.loop-join.invariant.few)
-
 pub set_whole-requires-clause-trial : goal.set_whole-requires-clause-trial
 set_whole-requires-clause-trial g c =
     let h = here g (goal.at.set_whole-requires-clause-trial g c).In-Some in
@@ -100,8 +95,3 @@ loop-join-init g c = record {
   come = c.first_walk-walk.ensures.come _ refl;
   ahead = c.first_walk-walk.ensures.ahead _ refl c.requires.atom;
 }
-
-pub next_join-requires-clause-ahead : goal.next_join-requires-clause-ahead
-next_join-requires-clause-ahead g c =
-    let walk = c.loop-join.walk in
-    subst (λ l. AreAhead (older c.args.program.now c.args.plans.now c.args.view.now.store.entries l) walk.rule walk.head walk.heads) (sym c.requires.active) c.loop-join.invariant.ahead
