@@ -6,7 +6,6 @@ use Rattle.chr_rule.specs.Rules.{RuleAtom, Simpagation}
 use Rattle.chr_rule.specs.Scope.{IsRule}
 use Rattle.chr_model.specs.Stores.{among, Distinct}
 use Rattle.chr_plan.specs.Orders.{heads_of}
-use Rattle.chr_search.specs.Positions.{past}
 use Rattle.chr_search.specs.Verdicts.{Placed, Trial, labels, position, IsFormed}
 
 -- labels read one by one
@@ -57,11 +56,6 @@ label_small (p ∷ ps) n a (y ∷ xs) x e = label_small ps n a.1 xs x (cc)
 
 pub last_small : (t : Trial) → IsFormed t → (xs : List ℕ) (x : ℕ) → xs ++ x ∷ [] ≡ labels t → x ≤ 4294967295
 last_small t f xs x e = label_small t.placed (length (heads_of t.rule)) f.within xs x e
-
-pub past_last : (xs : List ℕ) (x : ℕ) → past (xs ++ x ∷ []) ≡ xs ++ (x + 1) ∷ []
-past_last [] x = refl
-past_last (y ∷ []) x = refl
-past_last (y ∷ z ∷ ys) x = ap (λ w. y ∷ w) (past_last (z ∷ ys) x)
 
 -- the heads of a rule as they are read
 pub kept_few : {X : Type 0} (rule : Simpagation ℕ) → IsRule rule → (f : X → RuleAtom ℕ) (xs : List X) → map f xs ≡ rule.kept → length xs ≤ 6

@@ -1,5 +1,6 @@
 -- Trials that have the same labels but the last.
-use Rattle.std.proofs.Common.{◌≡◌, ℕ, ◌+◌, ◌≤◌, Bool, true, false, List, [], ◌∷◌, ◌++◌, length, length-append, Option, Some, None, slice_get, sym, ◌∙◌, subst, arith}
+use Rattle.std.proofs.Common.{◌≡◌, ℕ, ◌+◌, ◌≤◌, Bool, true, false, ◌==◌, List, [], ◌∷◌, ◌++◌, length, length-append, Option, Some, None, slice_get, sym, ◌∙◌, subst, arith}
+use Rattle.std.specs.List.{list_any}
 use Rattle.chr_value.specs.Atoms.{Value, Atom}
 use Rattle.chr_rule.specs.Parts.{shape}
 use Rattle.chr_rule.specs.Scope.{IsRule}
@@ -19,7 +20,7 @@ use Rattle.chr_search.specs.Verdicts.{Trial, IsWhole, IsPart, IsWholeUnder}
 use Rattle.chr_search.specs.Passing.{IsTrialIn, AreJudged, IsLastHead, IsNarrowedIf}
 use Rattle.chr_search.proofs.Partners.{ready_more, fit_less, no_fit}
 use Rattle.chr_search.proofs.Following.{follows_at}
-use Rattle.chr_search.proofs.Asking.{stands_is}
+use Rattle.chr_search.proofs.Asking.{any_among, stands_is}
 use Rattle.chr_search.proofs.Wholes.{in_head_order, completed}
 use Rattle.chr_search.proofs.PassingOver.{stands_nowhere, is_part, is_full, heads_fit, misfit_here}
 
@@ -42,8 +43,8 @@ module _ {Z : Type 0} (j : Join) (ls : List ℕ) (at : LastHead Z) (l : ℕ) (he
   last_misfit a live old new r n = stands_nowhere j ls old here.step l r here.step_is (last_fits a live false old new n)
 
   -- it fits
-  pub last_ready : (a : Atom ℕ) → atom_at j.store l ≡ Some a → among ls l ≡ false → (old new : List (Option (Value ℕ))) → IsReady j ls old → NarrowsIf (λ v. atom_under v (shape at.head.now) ≡ Some a) true old new → IsReady j (ls ++ l ∷ []) new
-  last_ready a live away old new r n = ready_more j ls old new here.step l r here.step_is away (last_fits a live true old new n)
+  pub last_ready : (a : Atom ℕ) → atom_at j.store l ≡ Some a → (there : Bool) → there ≡ list_any (λ y. y == l) ls → there ≡ false → (old new : List (Option (Value ℕ))) → IsReady j ls old → NarrowsIf (λ v. atom_under v (shape at.head.now) ≡ Some a) true old new → IsReady j (ls ++ l ∷ []) new
+  last_ready a live there is away old new r n = ready_more j ls old new here.step l r here.step_is (sym (any_among ls l) ∙ sym is ∙ away) (last_fits a live true old new n)
 
   -- heads are left
   pub last_part : (binding : List (Option (Value ℕ))) → IsReady j (ls ++ l ∷ []) binding → at.is_last ≡ false → AreJudged j (ls ++ l ∷ []) Part

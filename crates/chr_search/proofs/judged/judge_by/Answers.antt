@@ -1,6 +1,6 @@
 use Rattle.std.proofs.Common.{◌≡◌, ◌<◌, ◌≤◌, true, false, length, sym, ap, ◌∙◌, arith}
 use Rattle.std.proofs.lemmas.List.{length-map}
-use Rattle.chr_guard.specs.Matching.{AreAtHeads, IsFit}
+use Rattle.chr_guard.specs.Matching.{AreAtHeads, HeadsAre, IsFit}
 use Rattle.chr_model.specs.Stores.{Distinct}
 use Rattle.chr_plan.specs.Orders.{heads_of}
 use Rattle.chr_search.specs.Placed.{placed_as}
@@ -44,6 +44,9 @@ full g c many =
     let few : length c.args.trial.now.placed ≤ length (heads_of c.args.trial.now.rule) = c.rule-rule.ensures.formed.few in
     omega (arith, count g c, heads g c)
 
+in_order : (g : _) (c : After-heads g) → c.heads.result ≤ length c.placed-placed.result.now → IsFit c.rule-rule.result.now (HeadsAre c.rule-rule.result.now (in_head_order c.args.trial.now)) c.fit_placed.new.binding
+in_order g c many = heads_by c.args.trial.now c.rule-rule.ensures.formed (full g c many) c.rule-rule.result.now c.rule-rule.ensures.rule c.fit_placed.new.binding (fit g c)
+
 pub returns-then-placed-heads-clause-verdict : goal.returns-then-placed-heads-clause-verdict
 returns-then-placed-heads-clause-verdict g c =
     let at = (goal.at.returns-then-placed-heads-clause-verdict g c).After-heads in
@@ -52,9 +55,7 @@ returns-then-placed-heads-clause-verdict g c =
 
 pub becomes_instance-requires : goal.becomes_instance-requires
 becomes_instance-requires g c =
-    let t = c.args.trial.now in
-    let at = (goal.at.becomes_instance-requires g c).After-heads in
-    (omega arith, (in_head_order t, heads_by t c.rule-rule.ensures.formed (full g at c.if-placed-heads.false) c.rule-rule.result.now c.rule-rule.ensures.rule c.fit_placed.new.binding (fit g at)))
+    (omega arith, (in_head_order c.args.trial.now, in_order g (goal.at.becomes_instance-requires g c).After-heads c.if-placed-heads.false))
 
 pub returns-then-becomes_instance-clause-verdict : goal.returns-then-becomes_instance-clause-verdict
 returns-then-becomes_instance-clause-verdict g c =
@@ -63,7 +64,7 @@ returns-then-becomes_instance-clause-verdict g c =
     let all = full g at c.if-placed-heads.false in
     let rule = c.rule-rule.result.now in
     (whole_by t c.rule-rule.ensures.formed all rule c.rule-rule.ensures.rule (distinct g at) c.becomes_instance.new.binding
-    (c.if-becomes_instance.ensures.instance (in_head_order t) (heads_by t c.rule-rule.ensures.formed all rule c.rule-rule.ensures.rule c.fit_placed.new.binding (fit g at)))).whole
+    (c.if-becomes_instance.ensures.instance (in_head_order t) (in_order g at c.if-placed-heads.false))).whole
 
 pub returns-then-becomes_instance-clause-whole : goal.returns-then-becomes_instance-clause-whole
 returns-then-becomes_instance-clause-whole g c = λ is.
@@ -72,7 +73,7 @@ returns-then-becomes_instance-clause-whole g c = λ is.
     let all = full g at c.if-placed-heads.false in
     let rule = c.rule-rule.result.now in
     whole_by t c.rule-rule.ensures.formed all rule c.rule-rule.ensures.rule (distinct g at) c.becomes_instance.new.binding
-    (c.if-becomes_instance.ensures.instance (in_head_order t) (heads_by t c.rule-rule.ensures.formed all rule c.rule-rule.ensures.rule c.fit_placed.new.binding (fit g at)))
+    (c.if-becomes_instance.ensures.instance (in_head_order t) (in_order g at c.if-placed-heads.false))
 
 pub returns-else-becomes_instance-clause-verdict : goal.returns-else-becomes_instance-clause-verdict
 returns-else-becomes_instance-clause-verdict g c =
@@ -81,4 +82,4 @@ returns-else-becomes_instance-clause-verdict g c =
     let all = full g at c.if-placed-heads.false in
     let rule = c.rule-rule.result.now in
     misfit_by t c.rule-rule.ensures.formed all rule c.rule-rule.ensures.rule
-    (c.if-becomes_instance.ensures.instance (in_head_order t) (heads_by t c.rule-rule.ensures.formed all rule c.rule-rule.ensures.rule c.fit_placed.new.binding (fit g at)))
+    (c.if-becomes_instance.ensures.instance (in_head_order t) (in_order g at c.if-placed-heads.false))

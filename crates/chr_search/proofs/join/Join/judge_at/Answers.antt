@@ -1,4 +1,4 @@
-use Rattle.std.proofs.Common.{◌≡◌, true, false, sym, ◌∙◌, arith}
+use Rattle.std.proofs.Common.{◌≡◌, true, sym, ◌∙◌, arith}
 use Rattle.chr_model.specs.Stores.{among}
 use Rattle.chr_guard.proofs.Bindings.{keeps_itself, keeps_both}
 use Rattle.chr_search.specs.Joined.{join_of}
@@ -27,16 +27,14 @@ pub returns-then-not-at-clause-tried : goal.returns-then-not-at-clause-tried
 returns-then-not-at-clause-tried g c =
     let j = join_of c.args.self.now in
     let labels = c.args.labels.now in
-    let away : among labels c.args.label ≡ false = sym (any_among labels c.args.label) ∙ sym c.is_among.ensures ∙ c.if-is_among.false in
-    let ready = last_ready j labels c.args.at c.args.label c.requires.at c.in-Some.atom.now (sym c.in-Some.ensures) away c.args.narrowed.now c.fit_head.new.binding c.requires.ready c.if-not-fit_head.ensures.narrows in
+    let ready = last_ready j labels c.args.at c.args.label c.requires.at c.in-Some.atom.now (sym c.in-Some.ensures) c.is_among.result c.is_among.ensures c.if-is_among.false c.args.narrowed.now c.fit_head.new.binding c.requires.ready c.if-not-fit_head.ensures.narrows in
     (last_part j labels c.args.at c.args.label c.requires.at c.fit_head.new.binding ready c.if-not-at.true, ready)
 
 pub becomes_instance-requires : goal.becomes_instance-requires
 becomes_instance-requires g c =
     let j = join_of c.args.self.now in
     let labels = c.args.labels.now in
-    let away : among labels c.args.label ≡ false = sym (any_among labels c.args.label) ∙ sym c.is_among.ensures ∙ c.if-is_among.false in
-    let ready = last_ready j labels c.args.at c.args.label c.requires.at c.in-Some.atom.now (sym c.in-Some.ensures) away c.args.narrowed.now c.fit_head.new.binding c.requires.ready c.if-not-fit_head.ensures.narrows in
+    let ready = last_ready j labels c.args.at c.args.label c.requires.at c.in-Some.atom.now (sym c.in-Some.ensures) c.is_among.result c.is_among.ensures c.if-is_among.false c.args.narrowed.now c.fit_head.new.binding c.requires.ready c.if-not-fit_head.ensures.narrows in
     let t = c.requires.trial.0 in
     (omega arith, (in_head_order t, last_heads j labels c.args.at c.args.label c.requires.at t c.requires.trial.1 c.if-not-at.false c.fit_head.new.binding ready))
 
@@ -44,8 +42,7 @@ pub returns-then-becomes_instance-clause-tried : goal.returns-then-becomes_insta
 returns-then-becomes_instance-clause-tried g c = λ t i.
     let j = join_of c.args.self.now in
     let labels = c.args.labels.now in
-    let away : among labels c.args.label ≡ false = sym (any_among labels c.args.label) ∙ sym c.is_among.ensures ∙ c.if-is_among.false in
-    let ready = last_ready j labels c.args.at c.args.label c.requires.at c.in-Some.atom.now (sym c.in-Some.ensures) away c.args.narrowed.now c.fit_head.new.binding c.requires.ready c.if-not-fit_head.ensures.narrows in
+    let ready = last_ready j labels c.args.at c.args.label c.requires.at c.in-Some.atom.now (sym c.in-Some.ensures) c.is_among.result c.is_among.ensures c.if-is_among.false c.args.narrowed.now c.fit_head.new.binding c.requires.ready c.if-not-fit_head.ensures.narrows in
     last_whole j labels c.args.at c.args.label c.requires.at t i c.if-not-at.false c.fit_head.new.binding c.becomes_instance.new.binding ready
     (c.if-becomes_instance.ensures.instance (in_head_order t) (last_heads j labels c.args.at c.args.label c.requires.at t i c.if-not-at.false c.fit_head.new.binding ready))
 
@@ -53,8 +50,7 @@ pub returns-clause-tried : goal.returns-clause-tried
 returns-clause-tried g c = λ t i.
     let j = join_of c.args.self.now in
     let labels = c.args.labels.now in
-    let away : among labels c.args.label ≡ false = sym (any_among labels c.args.label) ∙ sym c.is_among.ensures ∙ c.if-is_among.false in
-    let ready = last_ready j labels c.args.at c.args.label c.requires.at c.in-Some.atom.now (sym c.in-Some.ensures) away c.args.narrowed.now c.fit_head.new.binding c.requires.ready c.if-not-fit_head.ensures.narrows in
+    let ready = last_ready j labels c.args.at c.args.label c.requires.at c.in-Some.atom.now (sym c.in-Some.ensures) c.is_among.result c.is_among.ensures c.if-is_among.false c.args.narrowed.now c.fit_head.new.binding c.requires.ready c.if-not-fit_head.ensures.narrows in
     last_none j labels c.args.at c.args.label c.requires.at t i c.if-not-at.false
     (c.if-becomes_instance.ensures.instance (in_head_order t) (last_heads j labels c.args.at c.args.label c.requires.at t i c.if-not-at.false c.fit_head.new.binding ready))
 
