@@ -1,5 +1,5 @@
 -- What is asked of a store for the next partner, and what its answer says.
-use Rattle.std.proofs.Common.{◌≡◌, ◌↔◌, ℕ, zero, suc, ◌+◌, ◌-◌, ◌<◌, ◌≤◌, Bool, true, false, IsTrue, ltb, ◌&&◌, ◌||◌, ◌==◌, take, List, [], ◌∷◌, ◌++◌, length, replicate, Option, Some, None, MatchOption, IfSome, slice_get, refl, sym, ◌∙◌, ap, ap₂, subst, arith, length-append}
+use Rattle.std.proofs.Common.{◌≡◌, ◌↔◌, ℕ, zero, suc, ◌+◌, ◌-◌, ◌<◌, ◌≤◌, Bool, true, false, IsTrue, ltb, ◌&&◌, ◌||◌, ◌==◌, take, List, [], ◌∷◌, ◌++◌, length, replicate, Option, Some, None, IfSome, slice_get, refl, sym, ◌∙◌, ap, ap₂, subst, arith, length-append}
 use Rattle.std.specs.List.{list_any}
 use Rattle.std.specs.Option.{option_map}
 use Rattle.std.proofs.lemmas.Bool.Decides.{nat_tests}
@@ -14,7 +14,7 @@ use Rattle.chr_rule.specs.Rules.{RuleAtom, head_at}
 use Rattle.chr_rule.specs.declared.rule_atom.RuleAtom.{RuleAtom as CodeRuleAtom}
 use Rattle.chr_rule.specs.declared.term.Term.{Term as CodeTerm}
 use Rattle.chr_guard.specs.Values.{Valuation}
-use Rattle.chr_guard.specs.Bindings.{bound_at, Extends, Narrows, NoneUnder}
+use Rattle.chr_guard.specs.Bindings.{bound_at, Extends}
 use Rattle.chr_guard.specs.Instances.{atom_under}
 use Rattle.chr_guard.proofs.Bindings.{free_extends}
 use Rattle.chr_model.specs.Stores.{atom_at, among}
@@ -26,7 +26,7 @@ use Rattle.chr_search.specs.declared.join.Asked.{Asked}
 use Rattle.chr_search.specs.Partners.{HasPlan, IsReady, key_value, keyed_at, KeyIs, key_in, IsAskedFor}
 use Rattle.chr_search.proofs.Plans.{order_of_plan, step_keyed}
 use Rattle.chr_search.proofs.Following.{follows_live}
-use Rattle.chr_search.proofs.Partners.{IsAsked, ready_more, no_fit}
+use Rattle.chr_search.proofs.Partners.{IsAsked}
 
 pub any_among : (ls : List ℕ) (l : ℕ) → list_any (λ y. y == l) ls ≡ among ls l
 any_among [] l = refl
@@ -44,12 +44,6 @@ stands_is j step l s a hs at v = (
       let under : atom_under v s ≡ Some t.atom = some_is (atom_under v s) (Some t.atom) (sym (ap (option_map (atom_under v)) hs) ∙ t.fits) in
       under ∙ ap (λ x. Some x) same,
 )
-
--- one label more, or none
-pub narrowed : (j : Join) (labels : List ℕ) (binding : List (Option (Value ℕ))) (step : Step) (l : ℕ) → IsReady j labels binding → slice_get j.order (length labels) ≡ Some step → among labels l ≡ false
-    → (found : Option (List (Option (Value ℕ)))) → MatchOption found (NoneUnder (λ v. StandsAt j v step l) binding) (Narrows (λ v. StandsAt j v step l) binding) → MatchOption found ((x : ℕ) → MayFollow j (labels ++ l ∷ []) x → ⊥) (IsReady j (labels ++ l ∷ []))
-narrowed j labels binding step l r at away None n = λ x m. no_fit j labels binding step l x r at n m
-narrowed j labels binding step l r at away (Some next) n = ready_more j labels binding next step l r at away n
 
 pub free_ready : (j : Join) (n : ℕ) (binding : List (Option (Value ℕ))) → n ≡ j.rule.variables → binding ≡ replicate n None → IsReady j [] binding
 free_ready j n binding e f = record {
@@ -109,9 +103,6 @@ keyed_term v head terms (suc i) at low same is o there =
     let index : i ≡ at - 1 = omega arith in
     let found : slice_get head.terms.items i ≡ o = ap₂ (λ xs n. slice_get xs n) (sym is) index ∙ there in
     ap (key_value v) (slice_get-map argument head.terms.items i ∙ ap (option_map argument) found)
-
-pub key_none : (v : Valuation) (head : RuleAtom ℕ) (place : Option ℕ) (key : Option (ℕ × Value ℕ)) → place ≡ None → key ≡ None → KeyIs v head place key
-key_none v head place key e f = subst (λ p. KeyIs v head p key) (sym e) f
 
 pub key_some : (v : Valuation) (head : RuleAtom ℕ) (place : Option ℕ) (key : Option (ℕ × Value ℕ)) (p : ℕ) (x : Value ℕ) → place ≡ Some p → keyed_at v head p ≡ Some x → key ≡ Some (p, x) → KeyIs v head place key
 key_some v head place key p x e g f = subst (λ q. KeyIs v head q key) (sym e) (x, g, f)

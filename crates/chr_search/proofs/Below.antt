@@ -12,7 +12,7 @@ use Rattle.chr_search.specs.Trials.{Join, MayFollow}
 use Rattle.chr_search.specs.Partners.{HasPlan}
 use Rattle.chr_search.specs.Passing.{AreJudged, AreMisfits, PassesOneIn, PassesIn, HasPassed, IsBelow, IsDone, EndsBelow, settled}
 use Rattle.chr_search.proofs.Positions.{past_last}
-use Rattle.chr_search.proofs.Partners.{turn_low, none_above, none_below as none_fits}
+use Rattle.chr_search.proofs.Partners.{turn_low, none_above}
 use Rattle.chr_search.proofs.Asking.{room}
 use Rattle.chr_search.proofs.Tree.{append_one, Come, come_first, come_at, come_to_end, come_found, come_past, here, under_same}
 
@@ -143,11 +143,6 @@ has_run j ls place after depth n from next b m e is =
     let same : settled n ls next place ≡ after = ap (λ xs. settled n xs next place) (sym (front_of ls b.rest place depth b.is e)) ∙ sym is in
     let below : IsBelow j ls after next = subst (λ z. IsBelow j ls z next) same r.1 in
     record { passes = subst (PassesIn j n place) same r.0; below = below; front = front_of ls below.rest after depth below.is e; deep = e }
-
--- nothing comes at or after a place below labels where no label may follow
-pub none_after : (j : Join) (ls : List ℕ) (x : ℕ) (below : List ℕ) → 1 ≤ length below → ((y : ℕ) → MayFollow j (ls ++ x ∷ []) y → ⊥) → NoneBeyond (MayFollow j) 1 (ls ++ x ∷ []) below
-none_after j ls x [] some n = absurd (omega arith)
-none_after j ls x (z ∷ zs) some n = none_fits j ls x z zs n
 
 -- why no more are passed over, where some are left below deeper labels
 pub ends_deeper : (j : Join) (deeper path place : List ℕ) (end : End) (ls : List ℕ) (binding : List (Option (Value ℕ))) → (end ≡ ends.NoneLeft → ⊥) → EndsBelow j deeper place end ls binding → EndsBelow j path place end ls binding

@@ -51,11 +51,6 @@ after (x ∷ xs) (y ∷ ys) h ne =
     (λ a. subst (λ w. at_or_after (x ∷ just_after xs) (w ∷ ys) ≡ true) a.0 (after_under x (just_after xs) ys (after xs ys a.1 (λ e. ne (ap (λ w. w ∷ xs) a.0 ∙ ap (λ w. y ∷ w) e)))))
     (after_cases x y xs ys h)
 
--- and only so
-pub not_before : (t : List ℕ) → at_or_after (just_after t) t ≡ false
-not_before [] = refl
-not_before (x ∷ xs) = grind (arith, nat_tests, not_before xs)
-
 pub just_after_reaches : (t p : List ℕ) → at_or_after (just_after t) p ≡ true → at_or_after t p ≡ true
 just_after_reaches [] p h = refl
 just_after_reaches (x ∷ xs) [] h = h
@@ -77,12 +72,6 @@ passed_reaches (x ∷ []) [] h = absurd (cc)
 passed_reaches (x ∷ z ∷ zs) [] h = absurd (cc)
 passed_reaches (x ∷ []) (y ∷ ys) h = grind (arith, nat_tests)
 passed_reaches (x ∷ z ∷ zs) (y ∷ ys) h = grind (arith, nat_tests, passed_reaches (z ∷ zs) ys)
-
--- a beginning is at or before what it begins
-pub begins_reaches : (t p : List ℕ) → begins t p ≡ true → at_or_after t p ≡ true
-begins_reaches [] p h = refl
-begins_reaches (x ∷ xs) [] h = absurd (cc)
-begins_reaches (x ∷ xs) (y ∷ ys) h = grind (arith, nat_tests, begins_reaches xs ys)
 
 pub past_last : (xs : List ℕ) (x : ℕ) → past (xs ++ x ∷ []) ≡ xs ++ (x + 1) ∷ []
 past_last [] x = refl
