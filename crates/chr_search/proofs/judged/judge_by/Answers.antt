@@ -1,4 +1,4 @@
-use Rattle.std.proofs.Common.{◌≡◌, ◌<◌, ◌≤◌, true, false, length, sym, ap, ◌∙◌, arith}
+use Rattle.std.proofs.Common.{◌≡◌, ◌<◌, ◌≤◌, true, false, length, refl, sym, ap, ◌∙◌, arith}
 use Rattle.std.proofs.lemmas.List.{length-map}
 use Rattle.chr_guard.specs.Matching.{AreAtHeads, HeadsAre, IsFit}
 use Rattle.chr_model.specs.Stores.{Distinct}
@@ -57,15 +57,6 @@ pub becomes_instance-requires : goal.becomes_instance-requires
 becomes_instance-requires g c =
     (omega arith, (in_head_order c.args.trial.now, in_order g (goal.at.becomes_instance-requires g c).After-heads c.if-placed-heads.false))
 
-pub returns-then-becomes_instance-clause-verdict : goal.returns-then-becomes_instance-clause-verdict
-returns-then-becomes_instance-clause-verdict g c =
-    let t = c.args.trial.now in
-    let at = (goal.at.returns-then-becomes_instance-clause-verdict g c).After-heads in
-    let all = full g at c.if-placed-heads.false in
-    let rule = c.rule-rule.result.now in
-    (whole_by t c.rule-rule.ensures.formed all rule c.rule-rule.ensures.rule (distinct g at) c.becomes_instance.new.binding
-    (c.if-becomes_instance.ensures.instance (in_head_order t) (in_order g at c.if-placed-heads.false))).whole
-
 pub returns-then-becomes_instance-clause-whole : goal.returns-then-becomes_instance-clause-whole
 returns-then-becomes_instance-clause-whole g c = λ is.
     let t = c.args.trial.now in
@@ -74,6 +65,9 @@ returns-then-becomes_instance-clause-whole g c = λ is.
     let rule = c.rule-rule.result.now in
     whole_by t c.rule-rule.ensures.formed all rule c.rule-rule.ensures.rule (distinct g at) c.becomes_instance.new.binding
     (c.if-becomes_instance.ensures.instance (in_head_order t) (in_order g at c.if-placed-heads.false))
+
+pub returns-then-becomes_instance-clause-verdict : goal.returns-then-becomes_instance-clause-verdict
+returns-then-becomes_instance-clause-verdict g c = (returns-then-becomes_instance-clause-whole g c refl).whole
 
 pub returns-else-becomes_instance-clause-verdict : goal.returns-else-becomes_instance-clause-verdict
 returns-else-becomes_instance-clause-verdict g c =
