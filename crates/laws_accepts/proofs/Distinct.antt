@@ -1,13 +1,12 @@
 -- No table that reading gives has a text twice.
-use Rattle.std.proofs.Common.{◌≡◌, ℕ, Bool, true, false, cond, ltb, ◌||◌, List, [], ◌∷◌, ◌++◌, length, Option, Some, None, Ok, refl, sym, subst, ◌∙◌, inl, inr}
+use Rattle.std.proofs.Common.{◌≡◌, ℕ, Bool, true, false, cond, ltb, ◌||◌, List, [], ◌∷◌, ◌++◌, length, Option, Some, None, Ok, refl, sym, subst, ◌∙◌}
 use Rattle.std.proofs.lemmas.Cmp.{nat_list_eq_equiv}
 use Rattle.chr_lex.specs.Items.{Item}
 use Rattle.chr_value.specs.Names.{is_text, has_text, number_of, with_text, HasDistinctTexts}
-use Rattle.chr_value.specs.Atoms.{Value, Int, Sym, Comp, Args, Nil, Cons, Atom}
+use Rattle.chr_value.specs.Atoms.{Int, Sym, Comp, Nil, Cons}
 use Rattle.chr_value.specs.Naming.{◌>>=◌, Table, number_name, numbered_value, numbered_args, number_terms, number_more, numbered_atom}
-use Rattle.chr_value.proofs.Chosen.{chosen, bind_some, some_is}
 use Rattle.chr_value.proofs.Texts.{neither}
-use Rattle.chr_rule.specs.Rules.{Term, Var, Given, Open, Terms, End, And, RuleAtom, Comparison, Compared, Same, Differ, BodyItem, Is, Add, Simpagation, of_parts}
+use Rattle.chr_rule.specs.Rules.{Var, Given, Open, End, And, Compared, Same, Differ, Is, Add}
 use Rattle.chr_grammar.specs.Parsed as parsed
 use Rattle.chr_grammar.specs.Parsed.{Statement}
 use Rattle.chr_text.specs.Translation.{rule}
@@ -35,120 +34,84 @@ distinct_with table t false e d = distinct_more table t d e
 
 -- ---- numbering
 
-moved : {A : Type 0} (a b : A) (s t : Table) → (let o : Option (A × Table) = Some (a, s) in o ≡ Some (b, t)) → HasDistinctTexts s → HasDistinctTexts t
-moved {A} a b s t e d = subst (λ (z : A × Table). HasDistinctTexts z.1) (some_is {A = A × Table} (a, s) (b, t) e) d
+-- what numbering gives, if it gives something, comes with a table that has no text twice
+abbrev GivesDistinct : {A : Type 0} → Option (A × Table) → Type 0
+GivesDistinct None = Unit {0}
+GivesDistinct (Some x) = HasDistinctTexts x.1
 
-name_distinct : (table : Table) (t : List ℕ) (n : ℕ) (new : Table) → number_name table t ≡ Some (n, new) → HasDistinctTexts table → HasDistinctTexts new
-name_distinct table t n new e d =
-    elim (chosen (has_text table t || ltb (length table) 65536) (Some (number_of table t, with_text table t)) None (Some (n, new)) e) [
-      | inl p ↦ moved (number_of table t) n (with_text table t) new p.1 (distinct_with table t (has_text table t) refl d)
-      | inr p ↦ absurd (let k = p.1 in cc)
-    ]
+then_distinct : {A B : Type 0} (r : Option (A × Table)) (f : A × Table → Option (B × Table)) → GivesDistinct r → ((x : A × Table) → HasDistinctTexts x.1 → GivesDistinct (f x)) → GivesDistinct (r >>= f)
+then_distinct (Some x) f d more = more x d
+then_distinct None f d more = tt
+
+-- numbering so keeps the texts distinct
+abbrev KeepsDistinct : {A B : Type 0} → (Table → A → Option (B × Table)) → Type 0
+KeepsDistinct {A = A} f = (table : Table) (a : A) → HasDistinctTexts table → GivesDistinct (f table a)
+
+if_room : (room : Bool) (n : ℕ) (new : Table) → HasDistinctTexts new → GivesDistinct (cond room (Some (n, new)) None)
+if_room true n new d = d
+if_room false n new d = tt
+
+name_distinct : KeepsDistinct number_name
+name_distinct table t d = if_room (has_text table t || ltb (length table) 65536) (number_of table t) (with_text table t) (distinct_with table t (has_text table t) refl d)
 
 mutual
-  value_distinct : (table new : Table) (t : Value (List ℕ)) (v : Value ℕ) → numbered_value table t ≡ Some (v, new) → HasDistinctTexts table → HasDistinctTexts new
-  value_distinct table new (Int z) v e d = moved {A = Value ℕ} (Int z) v table new e d
-  value_distinct table new (Sym t) v e d =
-      let n = bind_some (number_name table t) (λ n. Some (Sym n.0, n.1)) (v, new) e in
-      moved {A = Value ℕ} (Sym n.0.0) v n.0.1 new n.2 (name_distinct table t n.0.0 n.0.1 n.1 d)
-  value_distinct table new (Comp t ts) v e d =
-      let n = bind_some (number_name table t) (λ n. numbered_args n.1 ts >>= λ xs. Some (Comp n.0 xs.0, xs.1)) (v, new) e in
-      let x = bind_some (numbered_args n.0.1 ts) (λ xs. Some (Comp n.0.0 xs.0, xs.1)) (v, new) n.2 in
-      moved {A = Value ℕ} (Comp n.0.0 x.0.0) v x.0.1 new x.2 (args_distinct n.0.1 x.0.1 ts x.0.0 x.1 (name_distinct table t n.0.0 n.0.1 n.1 d))
+  value_distinct : KeepsDistinct numbered_value
+  value_distinct table (Int z) d = d
+  value_distinct table (Sym t) d = then_distinct (number_name table t) _ (name_distinct table t d) (λ n e. e)
+  value_distinct table (Comp t ts) d = then_distinct (number_name table t) _ (name_distinct table t d) (λ n e. then_distinct (numbered_args n.1 ts) _ (args_distinct n.1 ts e) (λ xs g. g))
 
-  args_distinct : (table new : Table) (ts : Args (List ℕ)) (vs : Args ℕ) → numbered_args table ts ≡ Some (vs, new) → HasDistinctTexts table → HasDistinctTexts new
-  args_distinct table new Nil vs e d = moved {A = Args ℕ} Nil vs table new e d
-  args_distinct table new (Cons t ts) vs e d =
-      let x = bind_some (numbered_value table t) (λ x. numbered_args x.1 ts >>= λ xs. Some (Cons x.0 xs.0, xs.1)) (vs, new) e in
-      let y = bind_some (numbered_args x.0.1 ts) (λ xs. Some (Cons x.0.0 xs.0, xs.1)) (vs, new) x.2 in
-      moved {A = Args ℕ} (Cons x.0.0 y.0.0) vs y.0.1 new y.2 (args_distinct x.0.1 y.0.1 ts y.0.0 y.1 (value_distinct table x.0.1 t x.0.0 x.1 d))
+  args_distinct : KeepsDistinct numbered_args
+  args_distinct table Nil d = d
+  args_distinct table (Cons t ts) d = then_distinct (numbered_value table t) _ (value_distinct table t d) (λ x e. then_distinct (numbered_args x.1 ts) _ (args_distinct x.1 ts e) (λ xs g. g))
 
-terms_distinct : (table new : Table) (ts : List (Value (List ℕ))) (vs : List (Value ℕ)) → number_terms table ts ≡ Some (vs, new) → HasDistinctTexts table → HasDistinctTexts new
+terms_distinct : KeepsDistinct number_terms
 unfolding number_terms
-terms_distinct table new [] vs e d = moved {A = List (Value ℕ)} [] vs table new e d
-terms_distinct table new (t ∷ ts) vs e d =
-    let x = bind_some (numbered_value table t) (λ x. number_terms x.1 ts >>= λ xs. Some (x.0 ∷ xs.0, xs.1)) (vs, new) e in
-    let y = bind_some (number_terms x.0.1 ts) (λ xs. Some (x.0.0 ∷ xs.0, xs.1)) (vs, new) x.2 in
-    moved {A = List (Value ℕ)} (x.0.0 ∷ y.0.0) vs y.0.1 new y.2 (terms_distinct x.0.1 y.0.1 ts y.0.0 y.1 (value_distinct table x.0.1 t x.0.0 x.1 d))
+terms_distinct table [] d = d
+terms_distinct table (t ∷ ts) d = then_distinct (numbered_value table t) _ (value_distinct table t d) (λ x e. then_distinct (number_terms x.1 ts) _ (terms_distinct x.1 ts e) (λ xs g. g))
 
-atom_distinct : (table new : Table) (a : Atom (List ℕ)) (f : Atom ℕ) → numbered_atom table a ≡ Some (f, new) → HasDistinctTexts table → HasDistinctTexts new
+atom_distinct : KeepsDistinct numbered_atom
 unfolding numbered_atom
-atom_distinct table new a f e d =
-    let n = bind_some (number_name table a.name) (λ n. number_more n.0 [] (number_terms n.1 a.args)) (f, new) e in
-    let x = bind_some (number_terms n.0.1 a.args) (λ x. Some (record { name = n.0.0; args = [] ++ x.0 }, x.1)) (f, new) n.2 in
-    let made : Atom ℕ = record { name = n.0.0; args = x.0.0 } in
-    moved {A = Atom ℕ} made f x.0.1 new x.2 (terms_distinct n.0.1 x.0.1 a.args x.0.0 x.1 (name_distinct table a.name n.0.0 n.0.1 n.1 d))
+atom_distinct table a d = then_distinct (number_name table a.name) _ (name_distinct table a.name d) (λ n e. then_distinct (number_terms n.1 a.args) _ (terms_distinct n.1 a.args e) (λ xs g. g))
 
-each_distinct : {A B : Type 0} (f : Table → A → Option (B × Table)) → ((table new : Table) (a : A) (b : B) → f table a ≡ Some (b, new) → HasDistinctTexts table → HasDistinctTexts new) → (table new : Table) (as' : List A) (bs : List B)
-    → each f table as' ≡ Some (bs, new) → HasDistinctTexts table → HasDistinctTexts new
-each_distinct {B = B} f one table new [] bs h d = moved {A = List B} [] bs table new h d
-each_distinct {B = B} f one table new (a ∷ as') bs h d =
-    let x = bind_some (f table a) (λ x. each f x.1 as' >>= λ xs. Some (x.0 ∷ xs.0, xs.1)) (bs, new) h in
-    let y = bind_some (each f x.0.1 as') (λ xs. Some (x.0.0 ∷ xs.0, xs.1)) (bs, new) x.2 in
-    moved {A = List B} (x.0.0 ∷ y.0.0) bs y.0.1 new y.2 (each_distinct f one x.0.1 y.0.1 as' y.0.0 y.1 (one table x.0.1 a x.0.0 x.1 d))
+each_distinct : {A B : Type 0} (f : Table → A → Option (B × Table)) → KeepsDistinct f → KeepsDistinct (each f)
+each_distinct f one table [] d = d
+each_distinct f one table (a ∷ as') d = then_distinct (f table a) _ (one table a d) (λ x e. then_distinct (each f x.1 as') _ (each_distinct f one x.1 as' e) (λ xs g. g))
 
 mutual
-  term_distinct : (table new : Table) (a : Term (List ℕ)) (b : Term ℕ) → numbered_term table a ≡ Some (b, new) → HasDistinctTexts table → HasDistinctTexts new
-  term_distinct table new (Var x) b h d = moved {A = Term ℕ} (Var x) b table new h d
-  term_distinct table new (Given t) b h d =
-      let x = bind_some (numbered_value table t) (λ x. Some (Given x.0, x.1)) (b, new) h in
-      moved {A = Term ℕ} (Given x.0.0) b x.0.1 new x.2 (value_distinct table x.0.1 t x.0.0 x.1 d)
-  term_distinct table new (Open t ts) b h d =
-      let n = bind_some (number_name table t) (λ n. numbered_terms n.1 ts >>= λ xs. Some (Open n.0 xs.0, xs.1)) (b, new) h in
-      let x = bind_some (numbered_terms n.0.1 ts) (λ xs. Some (Open n.0.0 xs.0, xs.1)) (b, new) n.2 in
-      moved {A = Term ℕ} (Open n.0.0 x.0.0) b x.0.1 new x.2 (open_distinct n.0.1 x.0.1 ts x.0.0 x.1 (name_distinct table t n.0.0 n.0.1 n.1 d))
+  term_distinct : KeepsDistinct numbered_term
+  term_distinct table (Var x) d = d
+  term_distinct table (Given t) d = then_distinct (numbered_value table t) _ (value_distinct table t d) (λ x e. e)
+  term_distinct table (Open t ts) d = then_distinct (number_name table t) _ (name_distinct table t d) (λ n e. then_distinct (numbered_terms n.1 ts) _ (open_distinct n.1 ts e) (λ xs g. g))
 
-  open_distinct : (table new : Table) (ts : Terms (List ℕ)) (us : Terms ℕ) → numbered_terms table ts ≡ Some (us, new) → HasDistinctTexts table → HasDistinctTexts new
-  open_distinct table new End us h d = moved {A = Terms ℕ} End us table new h d
-  open_distinct table new (And t ts) us h d =
-      let x = bind_some (numbered_term table t) (λ x. numbered_terms x.1 ts >>= λ xs. Some (And x.0 xs.0, xs.1)) (us, new) h in
-      let y = bind_some (numbered_terms x.0.1 ts) (λ xs. Some (And x.0.0 xs.0, xs.1)) (us, new) x.2 in
-      moved {A = Terms ℕ} (And x.0.0 y.0.0) us y.0.1 new y.2 (open_distinct x.0.1 y.0.1 ts y.0.0 y.1 (term_distinct table x.0.1 t x.0.0 x.1 d))
+  open_distinct : KeepsDistinct numbered_terms
+  open_distinct table End d = d
+  open_distinct table (And t ts) d = then_distinct (numbered_term table t) _ (term_distinct table t d) (λ x e. then_distinct (numbered_terms x.1 ts) _ (open_distinct x.1 ts e) (λ xs g. g))
 
-rule_atom_distinct : (table new : Table) (s : RuleAtom (List ℕ)) (r : RuleAtom ℕ) → numbered_rule_atom table s ≡ Some (r, new) → HasDistinctTexts table → HasDistinctTexts new
-rule_atom_distinct table new s r h d =
-    let n = bind_some (number_name table s.name) (λ n. each numbered_term n.1 s.args >>= λ xs. Some (record { name = n.0; args = xs.0 }, xs.1)) (r, new) h in
-    let x = bind_some (each numbered_term n.0.1 s.args) (λ xs. Some (record { name = n.0.0; args = xs.0 }, xs.1)) (r, new) n.2 in
-    let made : RuleAtom ℕ = record { name = n.0.0; args = x.0.0 } in
-    moved {A = RuleAtom ℕ} made r x.0.1 new x.2 (each_distinct numbered_term term_distinct n.0.1 x.0.1 s.args x.0.0 x.1 (name_distinct table s.name n.0.0 n.0.1 n.1 d))
+rule_atom_distinct : KeepsDistinct numbered_rule_atom
+rule_atom_distinct table s d = then_distinct (number_name table s.name) _ (name_distinct table s.name d) (λ n e. then_distinct (each numbered_term n.1 s.args) _ (each_distinct numbered_term term_distinct n.1 s.args e) (λ xs g. g))
 
-abbrev sides : (Term ℕ → Term ℕ → Comparison ℕ) → Table → Term (List ℕ) → Term (List ℕ) → Option (Comparison ℕ × Table)
-sides make table s t = numbered_term table s >>= λ x. numbered_term x.1 t >>= λ y. Some (make x.0 y.0, y.1)
+test_distinct : KeepsDistinct number_test
+test_distinct table (Compared r a b) d = d
+test_distinct table (Same s t) d = then_distinct (numbered_term table s) _ (term_distinct table s d) (λ x e. then_distinct (numbered_term x.1 t) _ (term_distinct x.1 t e) (λ y g. g))
+test_distinct table (Differ s t) d = then_distinct (numbered_term table s) _ (term_distinct table s d) (λ x e. then_distinct (numbered_term x.1 t) _ (term_distinct x.1 t e) (λ y g. g))
 
-sides_distinct : (table new : Table) (s t : Term (List ℕ)) (make : Term ℕ → Term ℕ → Comparison ℕ) (c : Comparison ℕ) → sides make table s t ≡ Some (c, new) → HasDistinctTexts table → HasDistinctTexts new
-sides_distinct table new s t make c h d =
-    let x = bind_some (numbered_term table s) _ (c, new) h in
-    let y = bind_some (numbered_term x.0.1 t) _ (c, new) x.2 in
-    moved {A = Comparison ℕ} (make x.0.0 y.0.0) c y.0.1 new y.2 (term_distinct x.0.1 y.0.1 t y.0.0 y.1 (term_distinct table x.0.1 s x.0.0 x.1 d))
+member_distinct : KeepsDistinct number_member
+member_distinct table (Is x e) d = d
+member_distinct table (Add s) d = then_distinct (numbered_rule_atom table s) _ (rule_atom_distinct table s d) (λ x e. e)
 
-test_distinct : (table new : Table) (t : Comparison (List ℕ)) (c : Comparison ℕ) → number_test table t ≡ Some (c, new) → HasDistinctTexts table → HasDistinctTexts new
-test_distinct table new (Compared r a b) c h d = moved {A = Comparison ℕ} (Compared r a b) c table new h d
-test_distinct table new (Same s t) c h d = sides_distinct table new s t (λ x y. Same x y) c h d
-test_distinct table new (Differ s t) c h d = sides_distinct table new s t (λ x y. Differ x y) c h d
-
-member_distinct : (table new : Table) (m : BodyItem (List ℕ)) (b : BodyItem ℕ) → number_member table m ≡ Some (b, new) → HasDistinctTexts table → HasDistinctTexts new
-member_distinct table new (Is x e) b h d = moved {A = BodyItem ℕ} (Is x e) b table new h d
-member_distinct table new (Add s) b h d =
-    let x = bind_some (numbered_rule_atom table s) (λ x. Some (Add x.0, x.1)) (b, new) h in
-    moved {A = BodyItem ℕ} (Add x.0.0) b x.0.1 new x.2 (rule_atom_distinct table x.0.1 s x.0.0 x.1 d)
-
-rule_distinct : (table new : Table) (r : Simpagation (List ℕ)) (n : Simpagation ℕ) → number_rule table r ≡ Some (n, new) → HasDistinctTexts table → HasDistinctTexts new
-rule_distinct table new r n h e =
-    let a = bind_some (each numbered_rule_atom table r.kept) _ (n, new) h in
-    let b = bind_some (each numbered_rule_atom a.0.1 r.removed) _ (n, new) a.2 in
-    let c = bind_some (each number_test b.0.1 r.guard) _ (n, new) b.2 in
-    let d = bind_some (each number_member c.0.1 r.body) _ (n, new) c.2 in
-    let ea = each_distinct numbered_rule_atom rule_atom_distinct table a.0.1 r.kept a.0.0 a.1 e in
-    let eb = each_distinct numbered_rule_atom rule_atom_distinct a.0.1 b.0.1 r.removed b.0.0 b.1 ea in
-    let ec = each_distinct number_test test_distinct b.0.1 c.0.1 r.guard c.0.0 c.1 eb in
-    moved {A = Simpagation ℕ} (of_parts r.variables a.0.0 b.0.0 c.0.0 d.0.0) n d.0.1 new d.2 (each_distinct number_member member_distinct c.0.1 d.0.1 r.body d.0.0 d.1 ec)
+rule_distinct : KeepsDistinct number_rule
+rule_distinct table r d =
+    then_distinct (each numbered_rule_atom table r.kept) _ (each_distinct numbered_rule_atom rule_atom_distinct table r.kept d) (λ kept e.
+    then_distinct (each numbered_rule_atom kept.1 r.removed) _ (each_distinct numbered_rule_atom rule_atom_distinct kept.1 r.removed e) (λ removed g.
+    then_distinct (each number_test removed.1 r.guard) _ (each_distinct number_test test_distinct removed.1 r.guard g) (λ guard h.
+    then_distinct (each number_member guard.1 r.body) _ (each_distinct number_member member_distinct guard.1 r.body h) (λ body i. i))))
 
 -- ---- texts
 
 statement_distinct : (before : Program) (e : Item) (after : Program) (s : Statement) → Adds before s after → HasDistinctTexts before.1 → HasDistinctTexts after.1
 statement_distinct before e after parsed.Import adds d = subst (λ (p : Program). HasDistinctTexts p.1) (sym adds) d
 statement_distinct before e after (parsed.Declaration ds) adds d = subst (λ (p : Program). HasDistinctTexts p.1) (sym adds.1) d
-statement_distinct before e after (parsed.Rule r) adds d = subst (λ (p : Program). HasDistinctTexts p.1) (sym adds.added) (rule_distinct before.1 adds.table (rule r) adds.new adds.numbered d)
+statement_distinct before e after (parsed.Rule r) adds d = subst (λ (p : Program). HasDistinctTexts p.1) (sym adds.added) (subst GivesDistinct adds.numbered (rule_distinct before.1 (rule r) d))
 
 statements_distinct : (x : Program) (es : List Item) (y : Program) → InOrder AddsStatement x es y → HasDistinctTexts x.1 → HasDistinctTexts y.1
 statements_distinct _ _ _ (no_more x) d = d
@@ -160,7 +123,7 @@ program_distinct bytes p h = let is = is_program [] bytes p h in statements_dist
 atoms_distinct : (x : Posts) (es : List Item) (y : Posts) → InOrder AddsAtoms x es y → HasDistinctTexts x.1 → HasDistinctTexts y.1
 atoms_distinct _ _ _ (no_more x) d = d
 atoms_distinct _ _ _ (item x next y e es a more) d =
-    atoms_distinct next es y more (subst (λ (p : Posts). HasDistinctTexts p.1) (sym a.added) (each_distinct numbered_atom atom_distinct x.1 a.table _ a.new a.numbered d))
+    atoms_distinct next es y more (subst (λ (p : Posts). HasDistinctTexts p.1) (sym a.added) (subst GivesDistinct a.numbered (each_distinct numbered_atom atom_distinct x.1 _ d)))
 
 pub posts_distinct : (table : Table) (bytes : List ℕ) (p : Posts) → posts_of table bytes ≡ Ok p → HasDistinctTexts table → HasDistinctTexts p.1
 posts_distinct table bytes p h d = let is = are_posts table bytes p h in atoms_distinct ([], table) is.entries p is.in_order d
