@@ -34,6 +34,7 @@ use Rattle.chr_check_text.specs.declared.checked.CheckTextFault.TheVariants as f
 use Rattle.laws_writable.proofs.Rules.{program_held, rules_whole}
 use Rattle.laws_accepts.specs.Accepted.{IsTextRun, verdict_of, IsAnswered}
 use Rattle.laws_accepts.proofs.Kept.{run_kept}
+use Rattle.laws_accepts.proofs.Posted.{text_read}
 use Rattle.laws_accepts.proofs.ReadBack.{log_read, store_read, log_no_fault, store_no_fault}
 use Rattle.laws_accepts.proofs.Runs.{lawful_is, strict_is, whole_answer, strict_answer}
 
@@ -109,7 +110,7 @@ run_log program posts steps limit end b v w es le run is lawful short =
     let room : b.next ≤ 4294967296 = omega (arith, next, le) in
     let brief = subst (λ (t : Table). length (log_of w t es) ≤ most_bytes) kept.0 short in
     subst (λ (t : Table). IsLogText run.read.table (log_of w t es) w es t) (sym kept.0)
-    (log_read program posts run.read.rules run.read.table run.posted.names run.posted.atoms v w es (goal_state b) run.read.reads run.posted.reads is lawful room brief)
+    (log_read program run.read.rules run.read.table run.posted.names run.posted.atoms v w es (goal_state b) run.read.reads (text_read run.read.table posts (run.posted.atoms, run.posted.names) run.posted.reads) is lawful room brief)
 
 run_store : (program posts : List ℕ) (steps limit : ℕ) (end : End) (b : BookState) → limit ≤ 4294967295 → (run : IsTextRun program posts steps limit end b) → length (store_of b.names b.store) ≤ most_bytes → IsStoreText b.names (store_of b.names b.store) (labelled_atoms b.store) b.names
 run_store program posts steps limit end b le run short =
@@ -119,7 +120,7 @@ run_store program posts steps limit end b le run short =
     let brief = subst (λ (t : Table). length (store_of t b.store) ≤ most_bytes) kept.0 short in
     let lawful = run_lawful program posts steps limit end b run in
     subst (λ (t : Table). IsStoreText t (store_of t b.store) (labelled_atoms b.store) t) (sym kept.0)
-    (store_read program posts run.read.rules run.read.table run.posted.names run.posted.atoms Two (events b) (goal_state b) run.read.reads run.posted.reads run.run.headline.posts_are lawful room brief)
+    (store_read program run.read.rules run.read.table run.posted.names run.posted.atoms Two (events b) (goal_state b) run.read.reads (text_read run.read.table posts (run.posted.atoms, run.posted.names) run.posted.reads) run.run.headline.posts_are lawful room brief)
 
 pub run_log_read : (program posts : List ℕ) (steps limit : ℕ) (end : End) (b : BookState) → limit ≤ 4294967295 → (run : IsTextRun program posts steps limit end b) → length (shown show.Log end b) ≤ most_bytes → IsLogText run.read.table (shown show.Log end b) Two (events b) b.names
 run_log_read program posts steps limit end b le run short =

@@ -4,7 +4,7 @@ use Rattle.std.proofs.lemmas.Cmp.{nat_list_eq_equiv}
 use Rattle.chr_lex.specs.Items.{Item}
 use Rattle.chr_value.specs.Names.{is_text, has_text, number_of, with_text, HasDistinctTexts}
 use Rattle.chr_value.specs.Atoms.{Int, Sym, Comp, Nil, Cons}
-use Rattle.chr_value.specs.Naming.{◌>>=◌, Table, number_name, numbered_value, numbered_args, number_terms, number_more, numbered_atom}
+use Rattle.chr_value.specs.Naming.{◌>>=◌, Table, number_name, numbered_value, numbered_args, number_terms, numbered_atom}
 use Rattle.chr_value.proofs.Texts.{neither}
 use Rattle.chr_rule.specs.Rules.{Var, Given, Open, End, And, Compared, Same, Differ, Is, Add}
 use Rattle.chr_grammar.specs.Parsed as parsed

@@ -1,6 +1,7 @@
 pub mod Runs
 pub mod Distinct
 pub mod Posted
+pub mod Stays
 pub mod Kept
 pub mod ReadBack
 pub mod Checked

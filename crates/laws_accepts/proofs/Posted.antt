@@ -4,6 +4,8 @@ use Rattle.std.specs.List.{AllByRecursion}
 use Rattle.std.proofs.Math.Seq.{take-length}
 use Rattle.std.proofs.lemmas.List.{map-append, append-nil}
 use Rattle.chr_lex.specs.Items.{Item}
+use Rattle.chr_value.specs.Names.{HasDistinctTexts}
+use Rattle.chr_value.specs.Spelling.{FitsAtom}
 use Rattle.chr_value.specs.Atoms.{Value, Atom, TermIsNamed, AtomIsNamed, by_texts}
 use Rattle.chr_value.specs.Naming.{◌>>=◌, Table, number_name, numbered_value, number_terms, number_more, numbered_atom}
 use Rattle.chr_value.proofs.Chosen.{bind_some, some_is}
@@ -17,7 +19,10 @@ use Rattle.chr_model.specs.Logs.{posted_by}
 use Rattle.chr_text.specs.Numbering.{each}
 use Rattle.chr_text.specs.Reading.{Posts, posts_of}
 use Rattle.chr_text.specs.Forms.{InOrder, no_more, item, AddsAtoms}
+use Rattle.chr_text.specs.Writable.{AreWritable}
 use Rattle.chr_text.proofs.PostTexts.{are_posts}
+use Rattle.chr_text.proofs.Writable.{posts_writable}
+use Rattle.laws_accepts.proofs.Distinct.{posts_distinct}
 
 -- ---- what is numbered is in the table
 
@@ -44,7 +49,7 @@ atom_named table new a f h =
 
 -- ---- lists of atoms
 
-pub texts_kept : (old new : Table) (as' : List (Atom ℕ)) → take (length old) new ≡ old → AllByRecursion (AtomIsNamed (length old)) as' → map (by_texts new) as' ≡ map (by_texts old) as'
+texts_kept : (old new : Table) (as' : List (Atom ℕ)) → take (length old) new ≡ old → AllByRecursion (AtomIsNamed (length old)) as' → map (by_texts new) as' ≡ map (by_texts old) as'
 texts_kept old new [] keeps named = refl
 texts_kept old new (a ∷ as') keeps named = ap (λ (x : Atom (List ℕ)). x ∷ map (by_texts new) as') (atom_kept old new a keeps named.0) ∙ ap (λ (xs : List (Atom (List ℕ))). by_texts old a ∷ xs) (texts_kept old new as' keeps named.1)
 
@@ -78,7 +83,7 @@ each_says table new (a ∷ as') atoms h =
     } in
     subst (λ (z : List (Atom ℕ) × Table). Said table z.1 (a ∷ as') z.0) (some_is {A = List (Atom ℕ) × Table} (x.0.0 ∷ y.0.0, y.0.1) (atoms, new) y.2) all
 
-pub each_append : (table t u : Table) (as' bs : List (Atom (List ℕ))) (xs ys : List (Atom ℕ)) → each numbered_atom table as' ≡ Some (xs, t) → each numbered_atom t bs ≡ Some (ys, u) → each numbered_atom table (as' ++ bs) ≡ Some (xs ++ ys, u)
+each_append : (table t u : Table) (as' bs : List (Atom (List ℕ))) (xs ys : List (Atom ℕ)) → each numbered_atom table as' ≡ Some (xs, t) → each numbered_atom t bs ≡ Some (ys, u) → each numbered_atom table (as' ++ bs) ≡ Some (xs ++ ys, u)
 each_append table t u [] bs xs ys h k =
     subst (λ (z : List (Atom ℕ) × Table). each numbered_atom z.1 bs ≡ Some (ys, u) → each numbered_atom table bs ≡ Some (z.0 ++ ys, u)) (some_is {A = List (Atom ℕ) × Table} ([], table) (xs, t) h) (λ i. i) k
 each_append table t u (a ∷ as') bs xs ys h k =
@@ -113,21 +118,45 @@ items_again : (x : Posts) (es : List Item) (y : Posts) → InOrder AddsAtoms x e
 items_again _ _ _ (no_more x) = record { new = []; is = sym (append-nil x.0); numbered = refl; keeps = take-length x.1 }
 items_again _ _ _ (item x next y e es a more) = one_more x a.new a.table _ y a.numbered (subst (λ (p : Posts). Again p y) a.added (items_again next es y more))
 
-pub posts_again : (table names : Table) (bytes : List ℕ) (atoms : List (Atom ℕ)) → posts_of table bytes ≡ Ok (atoms, names) → (each numbered_atom table (map (by_texts names) atoms) ≡ Some (atoms, names)) × (take (length table) names ≡ table)
+posts_again : (table names : Table) (bytes : List ℕ) (atoms : List (Atom ℕ)) → posts_of table bytes ≡ Ok (atoms, names) → (each numbered_atom table (map (by_texts names) atoms) ≡ Some (atoms, names)) × (take (length table) names ≡ table)
 posts_again table names bytes atoms h =
     let are = are_posts table bytes (atoms, names) h in
     let a = items_again ([], table) are.entries (atoms, names) are.in_order in
     (subst (λ (xs : List (Atom ℕ)). each numbered_atom table (map (by_texts names) xs) ≡ Some (xs, names)) (sym a.is) a.numbered, a.keeps)
 
--- atoms after those that were posted before
-pub posts_more : (table old new : Table) (posts atoms : List (Atom ℕ)) → each numbered_atom table (map (by_texts old) posts) ≡ Some (posts, old) → each numbered_atom old (map (by_texts new) atoms) ≡ Some (atoms, new)
-    → each numbered_atom table (map (by_texts new) (posts ++ atoms)) ≡ Some (posts ++ atoms, new)
-posts_more table old new posts atoms h k =
-    let before = each_says table old (map (by_texts old) posts) posts h in
-    let then = each_says old new (map (by_texts new) atoms) atoms k in
-    let texts : map (by_texts new) (posts ++ atoms) ≡ map (by_texts old) posts ++ map (by_texts new) atoms
-    = map-append (by_texts new) posts atoms ∙ ap (λ (ts : List (Atom (List ℕ))). ts ++ map (by_texts new) atoms) (texts_kept old new posts then.keeps before.named) in
-    ap (each numbered_atom table) texts ∙ each_append table old new (map (by_texts old) posts) (map (by_texts new) atoms) posts atoms h k
+-- atoms that were read over one table of names, with the table after them
+pub record AreRead (table new : Table) (atoms : List (Atom ℕ)) : Type 0 where
+  pub numbered : each numbered_atom table (map (by_texts new) atoms) ≡ Some (atoms, new)
+  pub keeps : take (length table) new ≡ table
+  pub writable : AreWritable new atoms
+  pub distinct : HasDistinctTexts table → HasDistinctTexts new
+
+pub none_read : (table : Table) → AreRead table table []
+none_read table = record { numbered = refl; keeps = take-length table; writable = tt; distinct = λ d. d }
+
+pub text_read : (table : Table) (text : List ℕ) (own : Posts) → posts_of table text ≡ Ok own → AreRead table own.1 own.0
+text_read table text own h =
+    let again = posts_again table own.1 text own.0 h in
+    record { numbered = again.0; keeps = again.1; writable = posts_writable table text own h; distinct = λ d. posts_distinct table text own h d }
+
+atoms_writable : (old new : Table) (xs ys : List (Atom ℕ)) → map (by_texts new) xs ≡ map (by_texts old) xs → AreWritable old xs → AreWritable new ys → AreWritable new (xs ++ ys)
+atoms_writable old new [] ys same one two = two
+atoms_writable old new (x ∷ xs) ys same one two =
+    let head : by_texts new x ≡ by_texts old x = cc in
+    let rest : map (by_texts new) xs ≡ map (by_texts old) xs = cc in
+    (subst FitsAtom (sym head) one.0, atoms_writable old new xs ys rest one.1 two)
+
+pub both_read : (table mid new : Table) (xs ys : List (Atom ℕ)) → AreRead table mid xs → AreRead mid new ys → AreRead table new (xs ++ ys)
+both_read table mid new xs ys one two =
+    let said = each_says table mid (map (by_texts mid) xs) xs one.numbered in
+    let same : map (by_texts new) xs ≡ map (by_texts mid) xs = texts_kept mid new xs two.keeps said.named in
+    let texts : map (by_texts new) (xs ++ ys) ≡ map (by_texts mid) xs ++ map (by_texts new) ys = map-append (by_texts new) xs ys ∙ ap (λ (ts : List (Atom (List ℕ))). ts ++ map (by_texts new) ys) same in
+    record {
+      numbered = ap (each numbered_atom table) texts ∙ each_append table mid new (map (by_texts mid) xs) (map (by_texts new) ys) xs ys one.numbered two.numbered;
+      keeps = keeps-then table mid new one.keeps two.keeps;
+      writable = atoms_writable mid new xs ys same one.writable two.writable;
+      distinct = λ d. two.distinct (one.distinct d);
+    }
 
 -- ---- lines of a log
 

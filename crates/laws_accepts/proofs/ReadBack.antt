@@ -1,7 +1,7 @@
 -- The texts of a run are read back, and have no fault.
-use Rattle.std.proofs.Common.{◌≡◌, ℕ, ◌≤◌, inl, inr, List, [], length, map, take, Some, Ok, refl, sym, ap, subst, arith}
-use Rattle.chr_value.specs.Atoms.{Atom, by_texts}
-use Rattle.chr_value.specs.Naming.{Table, numbered_atom}
+use Rattle.std.proofs.Common.{◌≡◌, ℕ, ◌≤◌, inl, inr, List, [], length, map, Ok, refl, sym, ap, subst, arith}
+use Rattle.chr_value.specs.Atoms.{Atom}
+use Rattle.chr_value.specs.Naming.{Table}
 use Rattle.chr_rule.specs.Rules.{Simpagation}
 use Rattle.chr_log.specs.Events.{Event, LabelledAtom, event_by_texts, labelled_by_texts, labelled_atoms}
 use Rattle.chr_log.specs.LogText.{entry_line, log_text, store_text}
@@ -15,43 +15,31 @@ use Rattle.std.specs.List.{flat_map}
 use Rattle.chr_model.specs.Goals.{State}
 use Rattle.chr_model.specs.Logs.{Lawful, posted_by}
 use Rattle.chr_model.specs.Programs.{Instances}
-use Rattle.chr_text.specs.Numbering.{each}
-use Rattle.chr_text.specs.Reading.{program_of, posts_of}
-use Rattle.chr_text.specs.Writable.{AreWritable}
-use Rattle.chr_text.proofs.Writable.{posts_writable}
+use Rattle.chr_text.specs.Reading.{program_of}
 use Rattle.laws_writable.proofs.Entries.{log_writable, store_writable}
-use Rattle.laws_accepts.proofs.Distinct.{program_distinct, posts_distinct}
-use Rattle.laws_accepts.proofs.Posted.{posts_again, events_numbered}
+use Rattle.laws_accepts.proofs.Distinct.{program_distinct}
+use Rattle.laws_accepts.proofs.Posted.{AreRead, events_numbered}
 
 -- ---- what is written is read with the names of the program alone
 
-pub log_back : (program : List ℕ) (rules : List (Simpagation ℕ)) (table names : Table) (v w : Version) (log : List (Event ℕ)) (last : State)
-    → program_of [] program ≡ Ok (rules, table) → each numbered_atom table (map (by_texts names) (posted_by log)) ≡ Some (posted_by log, names) → take (length table) names ≡ table → AreWritable names (posted_by log)
-    → Lawful v (Instances rules) log last → last.next ≤ 4294967296
+pub log_read : (program : List ℕ) (rules : List (Simpagation ℕ)) (table names : Table) (atoms : List (Atom ℕ)) (v w : Version) (log : List (Event ℕ)) (last : State)
+    → program_of [] program ≡ Ok (rules, table) → AreRead table names atoms → posted_by log ≡ atoms → Lawful v (Instances rules) log last → last.next ≤ 4294967296
     → length (log_text w (map (event_by_texts names) log)) ≤ most_bytes → IsLogText table (log_text w (map (event_by_texts names) log)) w log names
-log_back program rules table names v w log last p numbered keeps all lawful next short = record {
-  writable = log_writable [] table names program rules v w log last p keeps all lawful next short;
-  spelled = refl;
-  numbered = events_numbered names table names log numbered;
-}
+log_read program rules table names atoms v w log last p read is lawful next short =
+    let own = subst (AreRead table names) (sym is) read in
+    record {
+      writable = log_writable [] table names program rules v w log last p own.keeps own.writable lawful next short;
+      spelled = refl;
+      numbered = events_numbered names table names log own.numbered;
+    }
 
-pub log_read : (program posts : List ℕ) (rules : List (Simpagation ℕ)) (table names : Table) (atoms : List (Atom ℕ)) (v w : Version) (log : List (Event ℕ)) (last : State)
-    → program_of [] program ≡ Ok (rules, table) → posts_of table posts ≡ Ok (atoms, names) → posted_by log ≡ atoms → Lawful v (Instances rules) log last → last.next ≤ 4294967296
-    → length (log_text w (map (event_by_texts names) log)) ≤ most_bytes → IsLogText table (log_text w (map (event_by_texts names) log)) w log names
-log_read program posts rules table names atoms v w log last p q is lawful next short =
-    let again = posts_again table names posts atoms q in
-    let all : AreWritable names (posted_by log) = subst (AreWritable names) (sym is) (posts_writable table posts (atoms, names) q) in
-    let numbered = subst (λ (xs : List (Atom ℕ)). each numbered_atom table (map (by_texts names) xs) ≡ Some (xs, names)) (sym is) again.0 in
-    log_back program rules table names v w log last p numbered again.1 all lawful next short
-
-pub store_read : (program posts : List ℕ) (rules : List (Simpagation ℕ)) (table names : Table) (atoms : List (Atom ℕ)) (v : Version) (log : List (Event ℕ)) (last : State)
-    → program_of [] program ≡ Ok (rules, table) → posts_of table posts ≡ Ok (atoms, names) → posted_by log ≡ atoms → Lawful v (Instances rules) log last → last.next ≤ 4294967296
+pub store_read : (program : List ℕ) (rules : List (Simpagation ℕ)) (table names : Table) (atoms : List (Atom ℕ)) (v : Version) (log : List (Event ℕ)) (last : State)
+    → program_of [] program ≡ Ok (rules, table) → AreRead table names atoms → posted_by log ≡ atoms → Lawful v (Instances rules) log last → last.next ≤ 4294967296
     → length (store_text (map (labelled_by_texts names) (labelled_atoms last.store))) ≤ most_bytes → IsStoreText names (store_text (map (labelled_by_texts names) (labelled_atoms last.store))) (labelled_atoms last.store) names
-store_read program posts rules table names atoms v log last p q is lawful next short =
-    let again = posts_again table names posts atoms q in
-    let all : AreWritable names (posted_by log) = subst (AreWritable names) (sym is) (posts_writable table posts (atoms, names) q) in
-    let distinct = posts_distinct table posts (atoms, names) q (program_distinct program (rules, table) p) in
-    store_back names (labelled_atoms last.store) distinct (store_writable [] table names program rules v log last p again.1 all lawful next short)
+store_read program rules table names atoms v log last p read is lawful next short =
+    let own = subst (AreRead table names) (sym is) read in
+    store_back names (labelled_atoms last.store) (own.distinct (program_distinct program (rules, table) p))
+    (store_writable [] table names program rules v log last p own.keeps own.writable lawful next short)
 
 -- ---- what is read has no fault
 

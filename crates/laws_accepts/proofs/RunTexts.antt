@@ -1,13 +1,9 @@
 -- What a run of several texts of posts writes is read back and accepted.
-use Rattle.std.proofs.Common.{◌≡◌, ℕ, ◌≤◌, List, [], ◌∷◌, ◌++◌, length, take, map, Some, Result, Ok, refl, sym, ap, subst, ◌∙◌, append_assoc, arith}
+use Rattle.std.proofs.Common.{◌≡◌, ℕ, ◌≤◌, List, [], ◌∷◌, ◌++◌, length, map, Result, Ok, sym, subst, ◌∙◌, append_assoc, arith}
 use Rattle.std.specs.List.{AllByRecursion}
-use Rattle.std.proofs.Math.Seq.{take-length}
-use Rattle.std.proofs.lemmas.List.{append-nil, map-append}
-use Rattle.chr_value.specs.Names.{HasDistinctTexts}
-use Rattle.chr_value.specs.Spelling.{FitsAtom}
-use Rattle.chr_value.specs.Atoms.{Atom, by_texts}
-use Rattle.chr_value.specs.Naming.{Table, numbered_atom}
-use Rattle.chr_value.proofs.NameLaws.{keeps-then}
+use Rattle.std.proofs.lemmas.List.{append-nil}
+use Rattle.chr_value.specs.Atoms.{Atom}
+use Rattle.chr_value.specs.Naming.{Table}
 use Rattle.chr_rule.specs.Scope.{IsRule}
 use Rattle.chr_log.specs.Events.{Event, labelled_atoms, event_by_texts}
 use Rattle.chr_log.specs.LogText.{log_text}
@@ -15,13 +11,9 @@ use Rattle.chr_log.specs.declared.events.Version.{Version}
 use Rattle.chr_log.specs.declared.events.Version.TheVariants.{One, Two}
 use Rattle.chr_log_text.specs.Writable.{most_bytes}
 use Rattle.chr_log_text.specs.Texts.{IsLogText, IsStoreText}
-use Rattle.chr_log_text.proofs.Whole.{store_back}
 use Rattle.chr_model.specs.Logs.{Lawful, posted_by, strict}
 use Rattle.chr_model.specs.Programs.{Instances}
-use Rattle.chr_text.specs.Numbering.{each}
 use Rattle.chr_text.specs.Reading.{Posts, posts_of}
-use Rattle.chr_text.specs.Writable.{AreWritable}
-use Rattle.chr_text.proofs.Writable.{posts_writable}
 use Rattle.chr_calls.specs.Tickets.{AreQuiet}
 use Rattle.chr_calls.specs.Books.{BookState, goal_state, events}
 use Rattle.chr_calls.proofs.Tickets.{posted_strict}
@@ -35,50 +27,15 @@ use Rattle.chr_run_text.proofs.Texts.{ok_is, bind_ok}
 use Rattle.chr_check_text.specs.CheckTexts.{IsCheckText}
 use Rattle.chr_check_text.specs.declared.checked.Checked.{Checked}
 use Rattle.chr_check_text.specs.declared.checked.CheckTextFault.{CheckTextFault}
-use Rattle.laws_writable.proofs.Entries.{log_writable, store_writable}
 use Rattle.laws_writable.proofs.Rules.{program_held, rules_whole}
 use Rattle.laws_accepts.specs.Accepted.{verdict_of, IsAnswered}
 use Rattle.laws_accepts.proofs.Checked.{texts_answered}
-use Rattle.laws_accepts.proofs.Distinct.{program_distinct, posts_distinct}
 use Rattle.laws_accepts.proofs.Kept.{run_kept}
-use Rattle.laws_accepts.proofs.Posted.{each_says, each_append, texts_kept, posts_again, events_numbered}
+use Rattle.laws_accepts.proofs.Posted.{AreRead, none_read, text_read, both_read}
+use Rattle.laws_accepts.proofs.ReadBack.{log_read, store_read}
 use Rattle.laws_accepts.proofs.Runs.{lawful_is, strict_is, whole_answer, strict_answer}
 
 -- ---- the names of the posts of texts
-
--- atoms that were read over one table of names, with the table after them
-record AreRead (table new : Table) (atoms : List (Atom ℕ)) : Type 0 where
-  numbered : each numbered_atom table (map (by_texts new) atoms) ≡ Some (atoms, new)
-  keeps : take (length table) new ≡ table
-  writable : AreWritable new atoms
-  distinct : HasDistinctTexts table → HasDistinctTexts new
-
-none_read : (table : Table) → AreRead table table []
-none_read table = record { numbered = refl; keeps = take-length table; writable = tt; distinct = λ d. d }
-
-text_read : (table : Table) (text : List ℕ) (own : Posts) → posts_of table text ≡ Ok own → AreRead table own.1 own.0
-text_read table text own h =
-    let again = posts_again table own.1 text own.0 h in
-    record { numbered = again.0; keeps = again.1; writable = posts_writable table text own h; distinct = λ d. posts_distinct table text own h d }
-
-atoms_writable : (old new : Table) (xs ys : List (Atom ℕ)) → map (by_texts new) xs ≡ map (by_texts old) xs → AreWritable old xs → AreWritable new ys → AreWritable new (xs ++ ys)
-atoms_writable old new [] ys same one two = two
-atoms_writable old new (x ∷ xs) ys same one two =
-    let head : by_texts new x ≡ by_texts old x = cc in
-    let rest : map (by_texts new) xs ≡ map (by_texts old) xs = cc in
-    (subst FitsAtom (sym head) one.0, atoms_writable old new xs ys rest one.1 two)
-
-both_read : (table mid new : Table) (xs ys : List (Atom ℕ)) → AreRead table mid xs → AreRead mid new ys → AreRead table new (xs ++ ys)
-both_read table mid new xs ys one two =
-    let said = each_says table mid (map (by_texts mid) xs) xs one.numbered in
-    let same : map (by_texts new) xs ≡ map (by_texts mid) xs = texts_kept mid new xs two.keeps said.named in
-    let texts : map (by_texts new) (xs ++ ys) ≡ map (by_texts mid) xs ++ map (by_texts new) ys = map-append (by_texts new) xs ys ∙ ap (λ (ts : List (Atom (List ℕ))). ts ++ map (by_texts new) ys) same in
-    record {
-      numbered = ap (each numbered_atom table) texts ∙ each_append table mid new (map (by_texts mid) xs) (map (by_texts new) ys) xs ys one.numbered two.numbered;
-      keeps = keeps-then table mid new one.keeps two.keeps;
-      writable = atoms_writable mid new xs ys same one.writable two.writable;
-      distinct = λ d. two.distinct (one.distinct d);
-    }
 
 record Adds (x y : Posts) : Type 0 where
   own : List (Atom ℕ)
@@ -122,27 +79,19 @@ module _ (program : List ℕ) (posts : List (List ℕ)) (steps limit : ℕ) (end
   lawful : Lawful Two (Instances run.read.rules) (events b) (goal_state b)
   lawful = lawful_is run.read.rules run.posted.atoms run.posted.names steps limit b run.run
 
-  log_read : (v w : Version) (es : List (Event ℕ)) → posted_by es ≡ run.posted.atoms → Lawful v (Instances run.read.rules) es (goal_state b) → length (log_of w b.names es) ≤ most_bytes → IsLogText run.read.table (log_of w b.names es) w es b.names
-  log_read v w es is law short =
-      let all : AreWritable b.names (posted_by es) = subst (AreWritable b.names) (sym is) read.writable in
-      let numbered = subst (λ (xs : List (Atom ℕ)). each numbered_atom run.read.table (map (by_texts b.names) xs) ≡ Some (xs, b.names)) (sym is) read.numbered in
-      record {
-        writable = log_writable [] run.read.table b.names program run.read.rules v w es (goal_state b) run.read.reads read.keeps all law room short;
-        spelled = refl;
-        numbered = events_numbered b.names run.read.table b.names es numbered;
-      }
+  log_is_read : (v w : Version) (es : List (Event ℕ)) → posted_by es ≡ run.posted.atoms → Lawful v (Instances run.read.rules) es (goal_state b) → length (log_of w b.names es) ≤ most_bytes → IsLogText run.read.table (log_of w b.names es) w es b.names
+  log_is_read v w es is law short =
+      log_read program run.read.rules run.read.table b.names run.posted.atoms v w es (goal_state b) run.read.reads read is law room short
 
-  store_read : length (shown show.Store end b) ≤ most_bytes → IsStoreText b.names (shown show.Store end b) (labelled_atoms b.store) b.names
-  store_read short =
-      let all : AreWritable b.names (posted_by (events b)) = subst (AreWritable b.names) (sym run.run.headline.posts_are) read.writable in
-      store_back b.names (labelled_atoms b.store) (read.distinct (program_distinct program (run.read.rules, run.read.table) run.read.reads))
-      (store_writable [] run.read.table b.names program run.read.rules Two (events b) (goal_state b) run.read.reads read.keeps all lawful room short)
+  store_is_read : length (shown show.Store end b) ≤ most_bytes → IsStoreText b.names (shown show.Store end b) (labelled_atoms b.store) b.names
+  store_is_read short =
+      store_read program run.read.rules run.read.table b.names run.posted.atoms Two (events b) (goal_state b) run.read.reads read run.run.headline.posts_are lawful room short
 
   pub texts_accepted : {Z : Type 0} (result : Result (Checked Z) CheckTextFault) → length (shown show.Log end b) ≤ most_bytes → length (shown show.Store end b) ≤ most_bytes
       → IsCheckText program (shown show.Log end b) (shown show.Store end b) result → IsAnswered (verdict_of end) result
   texts_accepted result log_short store_short is =
       texts_answered program (shown show.Log end b) (shown show.Store end b) run.read.rules run.read.table b.names Two (events b) b.store (verdict_of end) result run.read.reads
-      (log_read Two Two (events b) run.run.headline.posts_are lawful log_short) (store_read store_short)
+      (log_is_read Two Two (events b) run.run.headline.posts_are lawful log_short) (store_is_read store_short)
       (λ answer. whole_answer run.read.rules b end answer rules_are lawful run.quiet) is
 
   pub strict_texts_accepted : {Z : Type 0} (result : Result (Checked Z) CheckTextFault) → AreQuiet b.tickets → length (log_of One b.names (strict (events b))) ≤ most_bytes → length (shown show.Store end b) ≤ most_bytes
@@ -150,5 +99,5 @@ module _ (program : List ℕ) (posts : List (List ℕ)) (steps limit : ℕ) (end
   strict_texts_accepted result quiet log_short store_short is =
       let law = strict_is run.read.rules b lawful quiet in
       texts_answered program (log_of One b.names (strict (events b))) (shown show.Store end b) run.read.rules run.read.table b.names One (strict (events b)) b.store RunAndFinal result run.read.reads
-      (log_read One One (strict (events b)) (posted_strict (events b) ∙ run.run.headline.posts_are) law log_short) (store_read store_short)
+      (log_is_read One One (strict (events b)) (posted_strict (events b) ∙ run.run.headline.posts_are) law log_short) (store_is_read store_short)
       (λ answer. strict_answer run.read.rules b answer lawful quiet) is
