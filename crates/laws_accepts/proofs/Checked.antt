@@ -1,13 +1,12 @@
--- What the check of the texts of a run answers.
-use Rattle.std.proofs.Common.{◌≡◌, ℕ, ◌≤◌, List, [], ◌∷◌, length, map, Result, Ok, Err, refl, sym, ap, ap₂, subst, ◌∙◌, arith}
+-- What the check of the texts of a book answers, and so of a run.
+use Rattle.std.proofs.Common.{◌≡◌, ℕ, ◌↔◌, ◌≤◌, List, [], ◌∷◌, length, Result, Ok, Err, refl, sym, ap, ap₂, subst, ◌∙◌, arith}
 use Rattle.std.specs.List.{AllByRecursion}
 use Rattle.chr_lex.specs.declared.fault.ReadFault.{ReadFault}
 use Rattle.chr_value.specs.Atoms.{Atom}
 use Rattle.chr_value.specs.Naming.{Table}
 use Rattle.chr_rule.specs.Rules.{Simpagation}
 use Rattle.chr_rule.specs.Scope.{IsRule}
-use Rattle.chr_log.specs.Events.{Event, LabelledAtom, labelled_atom, labelled_atoms, event_by_texts, labelled_by_texts}
-use Rattle.chr_log.specs.LogText.{log_text, store_text}
+use Rattle.chr_log.specs.Events.{Event, LabelledAtom, labelled_atom, labelled_atoms}
 use Rattle.chr_log.specs.declared.events.Version.{Version}
 use Rattle.chr_log.specs.declared.events.Version.TheVariants.{One, Two}
 use Rattle.chr_log_text.specs.Writable.{most_bytes}
@@ -16,7 +15,8 @@ use Rattle.chr_log_text.proofs.Whole.{log_once, store_once}
 use Rattle.chr_model.specs.Logs.{Lawful, posted_by, strict}
 use Rattle.chr_model.specs.Programs.{Instances}
 use Rattle.chr_model.specs.Stores.{Store}
-use Rattle.chr_text.specs.Reading.{Program, program_of}
+use Rattle.chr_text.specs.Reading.{Program, program_of, RulesOf}
+use Rattle.chr_calls.specs.Tickets.{AreQuiet}
 use Rattle.chr_calls.specs.Books.{BookState, goal_state, events}
 use Rattle.chr_calls.proofs.Tickets.{posted_strict}
 use Rattle.chr_solo.specs.declared.solo.End.{End}
@@ -26,6 +26,7 @@ use Rattle.chr_check.specs.declared.checking.Verdict.TheVariants.{RunAndFinal}
 use Rattle.chr_check.specs.declared.fault.CheckFault.{CheckFault}
 use Rattle.chr_run_text.specs.Output.{shown}
 use Rattle.chr_run_text.specs.declared.output.Show.TheVariants as show
+use Rattle.chr_run_text.specs.RunText.{IsRunOf}
 use Rattle.chr_check_text.specs.Output.{answer_line}
 use Rattle.chr_check_text.specs.CheckTexts.{IsAnswer, IsCheckText}
 use Rattle.chr_check_text.specs.declared.checked.Checked.{Checked}
@@ -34,7 +35,7 @@ use Rattle.chr_check_text.specs.declared.checked.CheckTextFault.TheVariants as f
 use Rattle.laws_writable.proofs.Rules.{program_held, rules_whole}
 use Rattle.laws_accepts.specs.Accepted.{IsTextRun, verdict_of, IsAnswered}
 use Rattle.laws_accepts.proofs.Kept.{run_kept}
-use Rattle.laws_accepts.proofs.Posted.{text_read}
+use Rattle.laws_accepts.proofs.Posted.{AreRead, text_read}
 use Rattle.laws_accepts.proofs.ReadBack.{log_read, store_read, log_no_fault, store_no_fault}
 use Rattle.laws_accepts.proofs.Runs.{lawful_is, strict_is, whole_answer, strict_answer}
 
@@ -87,70 +88,64 @@ texts_answered program log store rules table names v es st verdict (Err (faults.
     absurd (not (store_no_fault logged.names store (labelled_atoms st) names fault (subst (λ (t : Table). IsStoreText t store (labelled_atoms st) names) (sym one.2) s) has))
 texts_answered program log store rules table names v es st verdict (Err faults.Memory) p l s answers is = refl
 
--- ---- the texts of a run
+-- ---- the texts of a book
 
-run_rules : (program posts : List ℕ) (steps limit : ℕ) (end : End) (b : BookState) (run : IsTextRun program posts steps limit end b) → AllByRecursion IsRule run.read.rules
-run_rules program posts steps limit end b run = rules_whole run.read.table run.read.rules (program_held [] program (run.read.rules, run.read.table) run.read.reads).0
+pub are_rules : (program : List ℕ) (read : RulesOf program) → AllByRecursion IsRule read.rules
+are_rules program read = rules_whole read.table read.rules (program_held [] program (read.rules, read.table) read.reads).0
+
+-- a lawful book by the rules of a text, whose posts were read over the names of that text
+pub record IsReadable (program : List ℕ) (read : RulesOf program) (b : BookState) : Type 0 where
+  pub posted : AreRead read.table b.names (posted_by (events b))
+  pub lawful : Lawful Two (Instances read.rules) (events b) (goal_state b)
+  pub room : b.next ≤ 4294967296
+
+module _ (program : List ℕ) (read : RulesOf program) (b : BookState) (r : IsReadable program read b) where
+  pub log_is_read : (end : End) → length (shown show.Log end b) ≤ most_bytes → IsLogText read.table (shown show.Log end b) Two (events b) b.names
+  log_is_read end short = log_read program read.rules read.table b.names (posted_by (events b)) Two (events b) (goal_state b) read.reads r.posted refl r.lawful r.room short
+
+  pub strict_log_is_read : AreQuiet b.tickets → length (shown show.Strict Quiet b) ≤ most_bytes → IsLogText read.table (shown show.Strict Quiet b) One (strict (events b)) b.names
+  strict_log_is_read quiet short =
+      log_read program read.rules read.table b.names (posted_by (events b)) One (strict (events b)) (goal_state b) read.reads r.posted (posted_strict (events b)) (strict_is read.rules b r.lawful quiet) r.room short
+
+  pub store_is_read : (end : End) → length (shown show.Store end b) ≤ most_bytes → IsStoreText b.names (shown show.Store end b) (labelled_atoms b.store) b.names
+  store_is_read end short = store_read program read.rules read.table b.names (posted_by (events b)) Two (events b) (goal_state b) read.reads r.posted refl r.lawful r.room short
+
+  pub accepted : {Z : Type 0} (end : End) (result : Result (Checked Z) CheckTextFault) → ((end ≡ Quiet) ↔ AreQuiet b.tickets)
+      → length (shown show.Log end b) ≤ most_bytes → length (shown show.Store end b) ≤ most_bytes → IsCheckText program (shown show.Log end b) (shown show.Store end b) result → IsAnswered (verdict_of end) result
+  accepted end result quiet log_short store_short is =
+      texts_answered program (shown show.Log end b) (shown show.Store end b) read.rules read.table b.names Two (events b) b.store (verdict_of end) result read.reads
+      (log_is_read end log_short) (store_is_read end store_short)
+      (λ answer. whole_answer read.rules b end answer (are_rules program read) r.lawful quiet) is
+
+  pub strict_accepted : {Z : Type 0} (result : Result (Checked Z) CheckTextFault) → AreQuiet b.tickets
+      → length (shown show.Strict Quiet b) ≤ most_bytes → length (shown show.Store Quiet b) ≤ most_bytes → IsCheckText program (shown show.Strict Quiet b) (shown show.Store Quiet b) result → IsAnswered RunAndFinal result
+  strict_accepted result quiet log_short store_short is =
+      texts_answered program (shown show.Strict Quiet b) (shown show.Store Quiet b) read.rules read.table b.names One (strict (events b)) b.store RunAndFinal result read.reads
+      (strict_log_is_read quiet log_short) (store_is_read Quiet store_short)
+      (λ answer. strict_answer read.rules b answer r.lawful quiet) is
+
+-- ---- runs
+
+pub run_readable : (program : List ℕ) (read : RulesOf program) (atoms : List (Atom ℕ)) (names : Table) (steps limit : ℕ) (b : BookState) → limit ≤ 4294967295 → IsRunOf read.rules atoms names steps limit b → AreRead read.table names atoms → IsReadable program read b
+run_readable program read atoms names steps limit b le run are =
+    let kept = run_kept read.rules atoms names steps limit b run in
+    let next = kept.1 in
+    record {
+      posted = subst (λ (t : Table). AreRead read.table t (posted_by (events b))) (sym kept.0) (subst (AreRead read.table names) (sym run.headline.posts_are) are);
+      lawful = lawful_is read.rules atoms names steps limit b run;
+      room = omega (arith, next, le);
+    }
+
+pub text_run_readable : (program posts : List ℕ) (steps limit : ℕ) (end : End) (b : BookState) → limit ≤ 4294967295 → (run : IsTextRun program posts steps limit end b) → IsReadable program run.read b
+text_run_readable program posts steps limit end b le run =
+    run_readable program run.read run.posted.atoms run.posted.names steps limit b le run.run (text_read run.read.table posts (run.posted.atoms, run.posted.names) run.posted.reads)
 
 run_lawful : (program posts : List ℕ) (steps limit : ℕ) (end : End) (b : BookState) (run : IsTextRun program posts steps limit end b) → Lawful Two (Instances run.read.rules) (events b) (goal_state b)
 run_lawful program posts steps limit end b run = lawful_is run.read.rules run.posted.atoms run.posted.names steps limit b run.run
 
--- the texts by the names of the posts
-abbrev log_of : Version → Table → List (Event ℕ) → List ℕ
-log_of w names es = log_text w (map (event_by_texts names) es)
-
-abbrev store_of : Table → Store → List ℕ
-store_of names st = store_text (map (labelled_by_texts names) (labelled_atoms st))
-
-run_log : (program posts : List ℕ) (steps limit : ℕ) (end : End) (b : BookState) (v w : Version) (es : List (Event ℕ)) → limit ≤ 4294967295 → (run : IsTextRun program posts steps limit end b) → posted_by es ≡ run.posted.atoms → Lawful v (Instances run.read.rules) es (goal_state b)
-    → length (log_of w b.names es) ≤ most_bytes → IsLogText run.read.table (log_of w b.names es) w es b.names
-run_log program posts steps limit end b v w es le run is lawful short =
-    let kept = run_kept run.read.rules run.posted.atoms run.posted.names steps limit b run.run in
-    let next = kept.1 in
-    let room : b.next ≤ 4294967296 = omega (arith, next, le) in
-    let brief = subst (λ (t : Table). length (log_of w t es) ≤ most_bytes) kept.0 short in
-    subst (λ (t : Table). IsLogText run.read.table (log_of w t es) w es t) (sym kept.0)
-    (log_read program run.read.rules run.read.table run.posted.names run.posted.atoms v w es (goal_state b) run.read.reads (text_read run.read.table posts (run.posted.atoms, run.posted.names) run.posted.reads) is lawful room brief)
-
-run_store : (program posts : List ℕ) (steps limit : ℕ) (end : End) (b : BookState) → limit ≤ 4294967295 → (run : IsTextRun program posts steps limit end b) → length (store_of b.names b.store) ≤ most_bytes → IsStoreText b.names (store_of b.names b.store) (labelled_atoms b.store) b.names
-run_store program posts steps limit end b le run short =
-    let kept = run_kept run.read.rules run.posted.atoms run.posted.names steps limit b run.run in
-    let next = kept.1 in
-    let room : b.next ≤ 4294967296 = omega (arith, next, le) in
-    let brief = subst (λ (t : Table). length (store_of t b.store) ≤ most_bytes) kept.0 short in
-    let lawful = run_lawful program posts steps limit end b run in
-    subst (λ (t : Table). IsStoreText t (store_of t b.store) (labelled_atoms b.store) t) (sym kept.0)
-    (store_read program run.read.rules run.read.table run.posted.names run.posted.atoms Two (events b) (goal_state b) run.read.reads (text_read run.read.table posts (run.posted.atoms, run.posted.names) run.posted.reads) run.run.headline.posts_are lawful room brief)
-
-pub run_log_read : (program posts : List ℕ) (steps limit : ℕ) (end : End) (b : BookState) → limit ≤ 4294967295 → (run : IsTextRun program posts steps limit end b) → length (shown show.Log end b) ≤ most_bytes → IsLogText run.read.table (shown show.Log end b) Two (events b) b.names
-run_log_read program posts steps limit end b le run short =
-    run_log program posts steps limit end b Two Two (events b) le run run.run.headline.posts_are (run_lawful program posts steps limit end b run) short
-
-pub run_store_read : (program posts : List ℕ) (steps limit : ℕ) (end : End) (b : BookState) → limit ≤ 4294967295 → (run : IsTextRun program posts steps limit end b) → length (shown show.Store end b) ≤ most_bytes → IsStoreText b.names (shown show.Store end b) (labelled_atoms b.store) b.names
-run_store_read program posts steps limit end b le run short = run_store program posts steps limit end b le run short
-
-pub strict_log_read : (program posts : List ℕ) (steps limit : ℕ) (b : BookState) → limit ≤ 4294967295 → (run : IsTextRun program posts steps limit Quiet b) → length (shown show.Strict Quiet b) ≤ most_bytes → IsLogText run.read.table (shown show.Strict Quiet b) One (strict (events b)) b.names
-strict_log_read program posts steps limit b le run short =
-    run_log program posts steps limit Quiet b One One (strict (events b)) le run (posted_strict (events b) ∙ run.run.headline.posts_are)
-    (strict_is run.read.rules b (run_lawful program posts steps limit Quiet b run) (run.quiet.0 refl)) short
-
 pub run_answer : (program posts : List ℕ) (steps limit : ℕ) (end : End) (b : BookState) (answer : Result Verdict CheckFault) → (run : IsTextRun program posts steps limit end b) → IsAnswer Two (Instances run.read.rules) (events b) b.store answer → answer ≡ Ok (verdict_of end)
 run_answer program posts steps limit end b answer run is =
-    whole_answer run.read.rules b end answer (run_rules program posts steps limit end b run) (run_lawful program posts steps limit end b run) run.quiet is
+    whole_answer run.read.rules b end answer (are_rules program run.read) (run_lawful program posts steps limit end b run) run.quiet is
 
 pub strict_run_answer : (program posts : List ℕ) (steps limit : ℕ) (b : BookState) (answer : Result Verdict CheckFault) → (run : IsTextRun program posts steps limit Quiet b) → IsAnswer One (Instances run.read.rules) (strict (events b)) b.store answer → answer ≡ Ok RunAndFinal
 strict_run_answer program posts steps limit b answer run is = strict_answer run.read.rules b answer (run_lawful program posts steps limit Quiet b run) (run.quiet.0 refl) is
-
-pub run_accepted : {Z : Type 0} (program posts : List ℕ) (steps limit : ℕ) (end : End) (b : BookState) (result : Result (Checked Z) CheckTextFault) → limit ≤ 4294967295 → IsTextRun program posts steps limit end b
-    → length (shown show.Log end b) ≤ most_bytes → length (shown show.Store end b) ≤ most_bytes → IsCheckText program (shown show.Log end b) (shown show.Store end b) result → IsAnswered (verdict_of end) result
-run_accepted program posts steps limit end b result le run log_short store_short is =
-    texts_answered program (shown show.Log end b) (shown show.Store end b) run.read.rules run.read.table b.names Two (events b) b.store (verdict_of end) result run.read.reads
-    (run_log_read program posts steps limit end b le run log_short) (run_store_read program posts steps limit end b le run store_short)
-    (λ answer. run_answer program posts steps limit end b answer run) is
-
-pub strict_accepted : {Z : Type 0} (program posts : List ℕ) (steps limit : ℕ) (b : BookState) (result : Result (Checked Z) CheckTextFault) → limit ≤ 4294967295 → IsTextRun program posts steps limit Quiet b
-    → length (shown show.Strict Quiet b) ≤ most_bytes → length (shown show.Store Quiet b) ≤ most_bytes → IsCheckText program (shown show.Strict Quiet b) (shown show.Store Quiet b) result → IsAnswered RunAndFinal result
-strict_accepted program posts steps limit b result le run log_short store_short is =
-    texts_answered program (shown show.Strict Quiet b) (shown show.Store Quiet b) run.read.rules run.read.table b.names One (strict (events b)) b.store RunAndFinal result run.read.reads
-    (strict_log_read program posts steps limit b le run log_short) (run_store_read program posts steps limit Quiet b le run store_short)
-    (λ answer. strict_run_answer program posts steps limit b answer run) is

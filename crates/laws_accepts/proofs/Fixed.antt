@@ -27,9 +27,8 @@ use Rattle.chr_run_text.proofs.SoloPosts.{posted_rules}
 use Rattle.chr_check_text.specs.CheckTexts.{IsCheckText}
 use Rattle.chr_check_text.specs.declared.checked.Checked.{Checked}
 use Rattle.chr_check_text.specs.declared.checked.CheckTextFault.{CheckTextFault}
-use Rattle.laws_writable.proofs.Rules.{program_held, rules_whole}
 use Rattle.laws_accepts.specs.Accepted.{IsTextRun, verdict_of, IsAnswered}
-use Rattle.laws_accepts.proofs.Checked.{same_ok, run_accepted, strict_accepted}
+use Rattle.laws_accepts.proofs.Checked.{same_ok, are_rules, accepted, strict_accepted, text_run_readable}
 
 -- ---- plans
 
@@ -80,7 +79,7 @@ run_same program posts steps limit read posted rules table atoms names b c p q x
     let own = subst (λ (t : Table). posts_of t posts ≡ Ok (atoms, names)) table_same q in
     let lists = same_ok {A = Posts} (atoms, names) (posted.atoms, posted.names) (posts_of read.table posts) own posted.reads in
     let other = subst (λ (z : Posts). IsRunOf rules z.0 z.1 steps limit c) lists y in
-    let whole = rules_whole read.table read.rules (program_held [] program (read.rules, read.table) read.reads).0 in
+    let whole = are_rules program read in
     book_same read.rules posted.atoms posted.names steps limit b c whole x (subst (λ (z : List (Simpagation ℕ)). IsRunOf z posted.atoms posted.names steps limit c) rules_same other)
 
 made_same : {X Y : Type 0} (program posts : List ℕ) (steps limit : ℕ) (one two : Show) (x : RunOut X) (y : RunOut Y) → (m : IsMade program posts steps limit one x) → (n : IsMade program posts steps limit two y) → m.book ≡ n.book
@@ -103,7 +102,7 @@ calls_accepted program posts steps limit log store result le m n log_short store
     let run = made_run program posts steps limit show.Log log m in
     let a = subst (λ (t : List ℕ). IsCheckText program t store.bytes.items result) m.bytes is in
     let b = subst (λ (t : List ℕ). IsCheckText program (shown show.Log log.end m.book) t result) stored a in
-    run_accepted program posts steps limit log.end m.book result le run (subst (λ (t : List ℕ). length t ≤ most_bytes) m.bytes log_short) (subst (λ (t : List ℕ). length t ≤ most_bytes) stored store_short) b
+    accepted program run.read m.book (text_run_readable program posts steps limit log.end m.book le run) log.end result run.quiet (subst (λ (t : List ℕ). length t ≤ most_bytes) m.bytes log_short) (subst (λ (t : List ℕ). length t ≤ most_bytes) stored store_short) b
 
 pub strict_calls_accepted : {X Y Z : Type 0} (program posts : List ℕ) (steps limit : ℕ) (log : RunOut X) (store : RunOut Y) (result : Result (Checked Z) CheckTextFault) → limit ≤ 4294967295 → IsMade program posts steps limit show.Strict log → IsMade program posts steps limit show.Store store → log.end ≡ Quiet
     → length log.bytes.items ≤ most_bytes → length store.bytes.items ≤ most_bytes → IsCheckText program log.bytes.items store.bytes.items result → IsAnswered RunAndFinal result
@@ -113,4 +112,4 @@ strict_calls_accepted program posts steps limit log store result le m n quiet lo
     let run : IsTextRun program posts steps limit Quiet m.book = subst (λ (e : End). IsTextRun program posts steps limit e m.book) quiet (made_run program posts steps limit show.Strict log m) in
     let a = subst (λ (t : List ℕ). IsCheckText program t store.bytes.items result) bytes is in
     let b = subst (λ (t : List ℕ). IsCheckText program (shown show.Strict Quiet m.book) t result) stored a in
-    strict_accepted program posts steps limit m.book result le run (subst (λ (t : List ℕ). length t ≤ most_bytes) bytes log_short) (subst (λ (t : List ℕ). length t ≤ most_bytes) stored store_short) b
+    strict_accepted program run.read m.book (text_run_readable program posts steps limit Quiet m.book le run) result (run.quiet.0 refl) (subst (λ (t : List ℕ). length t ≤ most_bytes) bytes log_short) (subst (λ (t : List ℕ). length t ≤ most_bytes) stored store_short) b

@@ -22,13 +22,13 @@ use Rattle.laws_accepts.proofs.Posted.{AreRead, events_numbered}
 
 -- ---- what is written is read with the names of the program alone
 
-pub log_read : (program : List ℕ) (rules : List (Simpagation ℕ)) (table names : Table) (atoms : List (Atom ℕ)) (v w : Version) (log : List (Event ℕ)) (last : State)
+pub log_read : (program : List ℕ) (rules : List (Simpagation ℕ)) (table names : Table) (atoms : List (Atom ℕ)) (v : Version) (log : List (Event ℕ)) (last : State)
     → program_of [] program ≡ Ok (rules, table) → AreRead table names atoms → posted_by log ≡ atoms → Lawful v (Instances rules) log last → last.next ≤ 4294967296
-    → length (log_text w (map (event_by_texts names) log)) ≤ most_bytes → IsLogText table (log_text w (map (event_by_texts names) log)) w log names
-log_read program rules table names atoms v w log last p read is lawful next short =
+    → length (log_text v (map (event_by_texts names) log)) ≤ most_bytes → IsLogText table (log_text v (map (event_by_texts names) log)) v log names
+log_read program rules table names atoms v log last p read is lawful next short =
     let own = subst (AreRead table names) (sym is) read in
     record {
-      writable = log_writable [] table names program rules v w log last p own.keeps own.writable lawful next short;
+      writable = log_writable [] table names program rules v v log last p own.keeps own.writable lawful next short;
       spelled = refl;
       numbered = events_numbered names table names log own.numbered;
     }
