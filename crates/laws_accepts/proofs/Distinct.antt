@@ -6,7 +6,7 @@ use Rattle.chr_value.specs.Names.{is_text, has_text, number_of, with_text, HasDi
 use Rattle.chr_value.specs.Atoms.{Int, Sym, Comp, Nil, Cons}
 use Rattle.chr_value.specs.Naming.{◌>>=◌, Table, number_name, numbered_value, numbered_args, number_terms, numbered_atom}
 use Rattle.chr_value.proofs.Texts.{neither}
-use Rattle.chr_rule.specs.Rules.{Var, Given, Open, End, And, Compared, Same, Differ, Is, Add}
+use Rattle.chr_rule.specs.Rules.{Var, Given, Open, End, And, Compared, Same, Differ, Is, Add, of_parts}
 use Rattle.chr_grammar.specs.Parsed as parsed
 use Rattle.chr_grammar.specs.Parsed.{Statement}
 use Rattle.chr_text.specs.Translation.{rule}
@@ -35,83 +35,92 @@ distinct_with table t false e d = distinct_more table t d e
 -- ---- numbering
 
 -- what numbering gives, if it gives something, comes with a table that has no text twice
-abbrev GivesDistinct : {A : Type 0} → Option (A × Table) → Type 0
-GivesDistinct None = Unit {0}
-GivesDistinct (Some x) = HasDistinctTexts x.1
+data GivesDistinct {A : Type 0} : Option (A × Table) → Type 0 where
+  nothing : GivesDistinct None
+  gives : (x : A × Table) → HasDistinctTexts x.1 → GivesDistinct (Some x)
 
-then_distinct : {A B : Type 0} (r : Option (A × Table)) (f : A × Table → Option (B × Table)) → GivesDistinct r → ((x : A × Table) → HasDistinctTexts x.1 → GivesDistinct (f x)) → GivesDistinct (r >>= f)
-then_distinct (Some x) f d more = more x d
-then_distinct None f d more = tt
+given : {A : Type 0} (x : A × Table) → GivesDistinct (Some x) → HasDistinctTexts x.1
+given x (gives _ d) = d
+
+-- one step after another; and the last step, of one part or of two
+then_distinct : {A B : Type 0} {r : Option (A × Table)} (f : A × Table → Option (B × Table)) → GivesDistinct r → ((x : A × Table) → HasDistinctTexts x.1 → GivesDistinct (f x)) → GivesDistinct (r >>= f)
+then_distinct f nothing more = nothing
+then_distinct f (gives x d) more = more x d
+
+one_distinct : {A B : Type 0} {r : Option (A × Table)} (make : A → B) → GivesDistinct r → GivesDistinct (r >>= λ x. Some (make x.0, x.1))
+one_distinct make one = then_distinct (λ x. Some (make x.0, x.1)) one (λ x d. gives (make x.0, x.1) d)
+
+two_distinct : {A B C : Type 0} {r : Option (A × Table)} {f : Table → Option (B × Table)} (make : A → B → C) → GivesDistinct r → ((table : Table) → HasDistinctTexts table → GivesDistinct (f table)) → GivesDistinct (r >>= λ x. f x.1 >>= λ y. Some (make x.0 y.0, y.1))
+two_distinct {f = f} make one two = then_distinct (λ x. f x.1 >>= λ y. Some (make x.0 y.0, y.1)) one (λ x d. one_distinct (make x.0) (two x.1 d))
 
 -- numbering so keeps the texts distinct
 abbrev KeepsDistinct : {A B : Type 0} → (Table → A → Option (B × Table)) → Type 0
-KeepsDistinct {A = A} f = (table : Table) (a : A) → HasDistinctTexts table → GivesDistinct (f table a)
+KeepsDistinct {A = A} f = (a : A) (table : Table) → HasDistinctTexts table → GivesDistinct (f table a)
 
 if_room : (room : Bool) (n : ℕ) (new : Table) → HasDistinctTexts new → GivesDistinct (cond room (Some (n, new)) None)
-if_room true n new d = d
-if_room false n new d = tt
+if_room true n new d = gives (n, new) d
+if_room false n new d = nothing
 
 name_distinct : KeepsDistinct number_name
-name_distinct table t d = if_room (has_text table t || ltb (length table) 65536) (number_of table t) (with_text table t) (distinct_with table t (has_text table t) refl d)
+name_distinct t table d = if_room (has_text table t || ltb (length table) 65536) (number_of table t) (with_text table t) (distinct_with table t (has_text table t) refl d)
 
 mutual
   value_distinct : KeepsDistinct numbered_value
-  value_distinct table (Int z) d = d
-  value_distinct table (Sym t) d = then_distinct (number_name table t) _ (name_distinct table t d) (λ n e. e)
-  value_distinct table (Comp t ts) d = then_distinct (number_name table t) _ (name_distinct table t d) (λ n e. then_distinct (numbered_args n.1 ts) _ (args_distinct n.1 ts e) (λ xs g. g))
+  value_distinct (Int z) table d = gives (Int z, table) d
+  value_distinct (Sym t) table d = one_distinct (λ n. Sym n) (name_distinct t table d)
+  value_distinct (Comp t ts) table d = two_distinct (λ n xs. Comp n xs) (name_distinct t table d) (args_distinct ts)
 
   args_distinct : KeepsDistinct numbered_args
-  args_distinct table Nil d = d
-  args_distinct table (Cons t ts) d = then_distinct (numbered_value table t) _ (value_distinct table t d) (λ x e. then_distinct (numbered_args x.1 ts) _ (args_distinct x.1 ts e) (λ xs g. g))
+  args_distinct Nil table d = gives (Nil, table) d
+  args_distinct (Cons t ts) table d = two_distinct (λ x xs. Cons x xs) (value_distinct t table d) (args_distinct ts)
 
 terms_distinct : KeepsDistinct number_terms
 unfolding number_terms
-terms_distinct table [] d = d
-terms_distinct table (t ∷ ts) d = then_distinct (numbered_value table t) _ (value_distinct table t d) (λ x e. then_distinct (number_terms x.1 ts) _ (terms_distinct x.1 ts e) (λ xs g. g))
+terms_distinct [] table d = gives ([], table) d
+terms_distinct (t ∷ ts) table d = two_distinct (λ x xs. x ∷ xs) (value_distinct t table d) (terms_distinct ts)
 
 atom_distinct : KeepsDistinct numbered_atom
 unfolding numbered_atom
-atom_distinct table a d = then_distinct (number_name table a.name) _ (name_distinct table a.name d) (λ n e. then_distinct (number_terms n.1 a.args) _ (terms_distinct n.1 a.args e) (λ xs g. g))
+atom_distinct a table d = two_distinct (λ n xs. record { name = n; args = xs }) (name_distinct a.name table d) (terms_distinct a.args)
 
 each_distinct : {A B : Type 0} (f : Table → A → Option (B × Table)) → KeepsDistinct f → KeepsDistinct (each f)
-each_distinct f one table [] d = d
-each_distinct f one table (a ∷ as') d = then_distinct (f table a) _ (one table a d) (λ x e. then_distinct (each f x.1 as') _ (each_distinct f one x.1 as' e) (λ xs g. g))
+each_distinct f one [] table d = gives ([], table) d
+each_distinct f one (a ∷ as') table d = two_distinct (λ x xs. x ∷ xs) (one a table d) (each_distinct f one as')
 
 mutual
   term_distinct : KeepsDistinct numbered_term
-  term_distinct table (Var x) d = d
-  term_distinct table (Given t) d = then_distinct (numbered_value table t) _ (value_distinct table t d) (λ x e. e)
-  term_distinct table (Open t ts) d = then_distinct (number_name table t) _ (name_distinct table t d) (λ n e. then_distinct (numbered_terms n.1 ts) _ (open_distinct n.1 ts e) (λ xs g. g))
+  term_distinct (Var x) table d = gives (Var x, table) d
+  term_distinct (Given t) table d = one_distinct (λ v. Given v) (value_distinct t table d)
+  term_distinct (Open t ts) table d = two_distinct (λ n xs. Open n xs) (name_distinct t table d) (open_distinct ts)
 
   open_distinct : KeepsDistinct numbered_terms
-  open_distinct table End d = d
-  open_distinct table (And t ts) d = then_distinct (numbered_term table t) _ (term_distinct table t d) (λ x e. then_distinct (numbered_terms x.1 ts) _ (open_distinct x.1 ts e) (λ xs g. g))
+  open_distinct End table d = gives (End, table) d
+  open_distinct (And t ts) table d = two_distinct (λ x xs. And x xs) (term_distinct t table d) (open_distinct ts)
 
 rule_atom_distinct : KeepsDistinct numbered_rule_atom
-rule_atom_distinct table s d = then_distinct (number_name table s.name) _ (name_distinct table s.name d) (λ n e. then_distinct (each numbered_term n.1 s.args) _ (each_distinct numbered_term term_distinct n.1 s.args e) (λ xs g. g))
+rule_atom_distinct s table d = two_distinct (λ n xs. record { name = n; args = xs }) (name_distinct s.name table d) (each_distinct numbered_term term_distinct s.args)
 
 test_distinct : KeepsDistinct number_test
-test_distinct table (Compared r a b) d = d
-test_distinct table (Same s t) d = then_distinct (numbered_term table s) _ (term_distinct table s d) (λ x e. then_distinct (numbered_term x.1 t) _ (term_distinct x.1 t e) (λ y g. g))
-test_distinct table (Differ s t) d = then_distinct (numbered_term table s) _ (term_distinct table s d) (λ x e. then_distinct (numbered_term x.1 t) _ (term_distinct x.1 t e) (λ y g. g))
+test_distinct (Compared r a b) table d = gives (Compared r a b, table) d
+test_distinct (Same s t) table d = two_distinct (λ x y. Same x y) (term_distinct s table d) (term_distinct t)
+test_distinct (Differ s t) table d = two_distinct (λ x y. Differ x y) (term_distinct s table d) (term_distinct t)
 
 member_distinct : KeepsDistinct number_member
-member_distinct table (Is x e) d = d
-member_distinct table (Add s) d = then_distinct (numbered_rule_atom table s) _ (rule_atom_distinct table s d) (λ x e. e)
+member_distinct (Is x e) table d = gives (Is x e, table) d
+member_distinct (Add s) table d = one_distinct (λ r. Add r) (rule_atom_distinct s table d)
 
 rule_distinct : KeepsDistinct number_rule
-rule_distinct table r d =
-    then_distinct (each numbered_rule_atom table r.kept) _ (each_distinct numbered_rule_atom rule_atom_distinct table r.kept d) (λ kept e.
-    then_distinct (each numbered_rule_atom kept.1 r.removed) _ (each_distinct numbered_rule_atom rule_atom_distinct kept.1 r.removed e) (λ removed g.
-    then_distinct (each number_test removed.1 r.guard) _ (each_distinct number_test test_distinct removed.1 r.guard g) (λ guard h.
-    then_distinct (each number_member guard.1 r.body) _ (each_distinct number_member member_distinct guard.1 r.body h) (λ body i. i))))
+rule_distinct r table d =
+    then_distinct _ (each_distinct numbered_rule_atom rule_atom_distinct r.kept table d) (λ kept e.
+    then_distinct _ (each_distinct numbered_rule_atom rule_atom_distinct r.removed kept.1 e) (λ removed h.
+    two_distinct (of_parts r.variables kept.0 removed.0) (each_distinct number_test test_distinct r.guard removed.1 h) (each_distinct number_member member_distinct r.body)))
 
 -- ---- texts
 
 statement_distinct : (before : Program) (e : Item) (after : Program) (s : Statement) → Adds before s after → HasDistinctTexts before.1 → HasDistinctTexts after.1
 statement_distinct before e after parsed.Import adds d = subst (λ (p : Program). HasDistinctTexts p.1) (sym adds) d
 statement_distinct before e after (parsed.Declaration ds) adds d = subst (λ (p : Program). HasDistinctTexts p.1) (sym adds.1) d
-statement_distinct before e after (parsed.Rule r) adds d = subst (λ (p : Program). HasDistinctTexts p.1) (sym adds.added) (subst GivesDistinct adds.numbered (rule_distinct before.1 (rule r) d))
+statement_distinct before e after (parsed.Rule r) adds d = subst (λ (p : Program). HasDistinctTexts p.1) (sym adds.added) (given (adds.new, adds.table) (subst GivesDistinct adds.numbered (rule_distinct (rule r) before.1 d)))
 
 statements_distinct : (x : Program) (es : List Item) (y : Program) → InOrder AddsStatement x es y → HasDistinctTexts x.1 → HasDistinctTexts y.1
 statements_distinct _ _ _ (no_more x) d = d
@@ -123,7 +132,7 @@ program_distinct bytes p h = let is = is_program [] bytes p h in statements_dist
 atoms_distinct : (x : Posts) (es : List Item) (y : Posts) → InOrder AddsAtoms x es y → HasDistinctTexts x.1 → HasDistinctTexts y.1
 atoms_distinct _ _ _ (no_more x) d = d
 atoms_distinct _ _ _ (item x next y e es a more) d =
-    atoms_distinct next es y more (subst (λ (p : Posts). HasDistinctTexts p.1) (sym a.added) (subst GivesDistinct a.numbered (each_distinct numbered_atom atom_distinct x.1 _ d)))
+    atoms_distinct next es y more (subst (λ (p : Posts). HasDistinctTexts p.1) (sym a.added) (given (a.new, a.table) (subst GivesDistinct a.numbered (each_distinct numbered_atom atom_distinct _ x.1 d))))
 
 pub posts_distinct : (table : Table) (bytes : List ℕ) (p : Posts) → posts_of table bytes ≡ Ok p → HasDistinctTexts table → HasDistinctTexts p.1
 posts_distinct table bytes p h d = let is = are_posts table bytes p h in atoms_distinct ([], table) is.entries p is.in_order d
