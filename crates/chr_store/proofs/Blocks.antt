@@ -86,12 +86,6 @@ still_empty n label xs ns h = record { empty = λ k lt none. fewer_left n label 
 
 -- ---- the counts
 
-pub counts_show : (xs : Slots) (ns : List ℕ) → AreCounts xs ns → AreEmptyAtNone 1 xs ns
-counts_show xs ns h = record { empty = λ k lt none. sym (h.each k lt) ∙ none }
-
-pub no_counts : AreCounts [] []
-no_counts = record { within = λ one. absurd (omega arith); each = λ k lt. absurd (omega arith) }
-
 none_ahead : (xs : Slots) (ns : List ℕ) → AreCounts xs ns → atoms_in 1 (length ns) xs ≡ 0
 none_ahead [] ns h = refl
 none_ahead (x ∷ xs) ns h = none_yet 1 (length ns) (x ∷ xs) (let was : length (x ∷ xs) < 64 * length ns = h.within (omega arith) in omega arith)

@@ -1,13 +1,10 @@
 -- Jumps over dead slots.
 use Rattle.std.proofs.Common.{◌≡◌, ℕ, zero, suc, ◌+◌, ◌<◌, ◌≤◌, Bool, true, false, if◌then◌else◌, List, [], ◌∷◌, ◌++◌, refl, sym, ap, subst, arith, length, take, drop, ◌∙◌, slice_set, get_or, Some, None, nat_eq}
 use Rattle.std.specs.List.{AllByRecursion, slice_get}
-use Rattle.std.proofs.lemmas.Bool.{eq-eqb, eqb-true}
+use Rattle.std.proofs.lemmas.Bool.{eqb-true}
 use Rattle.chr_store.specs.declared.bucket.Slot.{Slot}
 use Rattle.chr_store.specs.Buckets.{is_live, jump_at, JumpsAreDead, AreAlike, live_labels, SlotsRise}
 use Rattle.chr_store.proofs.Slots.{living_split, front_struck}
-
-no_jump : (s : Slot) → s.jump ≡ 0 → is_live s ≡ true
-no_jump s h = eq-eqb s.jump 0 h
 
 -- ---- slots that are alike
 

@@ -2,7 +2,7 @@
 use Rattle.std.proofs.Common.{◌≡◌, ◌↔◌, ℕ, List, length, [], ◌∷◌, ◌++◌, Option, Some, None, Result, Ok, Err, refl, ap, ◌∙◌, arith}
 use Rattle.chr_value.specs.declared.names.NamesFault.{NamesFault}
 use Rattle.chr_value.specs.declared.names.NamesFault.TheVariants as faults
-use Rattle.chr_value.specs.Atoms.{Value, Sym, Comp, Args, args_of, Atom}
+use Rattle.chr_value.specs.Atoms.{Value, Comp, args_of, Atom}
 use Rattle.chr_value.specs.Naming.{◌>>=◌, Table, Named, IsEntered, table_after, number_name, numbered_value, numbered_args, number_terms, number_more, numbered_atom}
 use Rattle.chr_value.proofs.Back.{as_args}
 
@@ -48,12 +48,6 @@ pub comp-after : (table mid : Table) (t : List ℕ) (vs : List (Value (List ℕ)
 comp-after table mid t vs e =
     let n = some_after (number_name table t) mid e in
     ap (λ (o : Option (ℕ × Table)). table_after (o >>= λ n. numbered_args n.1 (args_of vs) >>= λ xs. Some (Comp n.0 xs.0, xs.1))) n.1 ∙ comp-step n.0 mid vs
-
-pub comp-none : (table : Table) (t : List ℕ) (vs : Args (List ℕ)) → number_name table t ≡ None → numbered_value table (Comp t vs) ≡ None
-comp-none table t vs e = ap (λ (o : Option (ℕ × Table)). o >>= λ n. numbered_args n.1 vs >>= λ xs. Some (Comp n.0 xs.0, xs.1)) e
-
-pub sym-after : (table : Table) (t : List ℕ) → table_after (numbered_value table (Sym t)) ≡ table_after (number_name table t)
-sym-after table t = after_bind (number_name table t) (λ n. Sym n)
 
 -- ---- several values
 

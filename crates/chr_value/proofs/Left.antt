@@ -1,5 +1,5 @@
 -- The room that values leave.
-use Rattle.std.proofs.Common.{◌≡◌, ◌<◌, ◌≤◌, ◌+◌, ℕ, suc, max, List, Option, length, drop, get_or, Some, None, arith, ap, ◌∙◌}
+use Rattle.std.proofs.Common.{◌≡◌, ◌<◌, ◌≤◌, ◌+◌, ℕ, max, List, Option, length, drop, get_or, Some, None, arith, ap, ◌∙◌}
 use Rattle.std.proofs.lemmas.Bool.Decides.{nat_tests}
 use Rattle.chr_value.specs.Atoms.{Value, args_of, ground, grounds}
 use Rattle.chr_value.specs.Limits.{depth, size, left_of, left_after, args_depth, args_size}
@@ -18,10 +18,6 @@ left-none d room a s b t h = grind (arith, nat_tests)
 
 pub left-nothing : (d room : ℕ) → left_of d room 0 0 ≡ Some room
 left-nothing d room = grind (arith, nat_tests)
-
--- a functor takes one level and one place
-pub left-functor : (d room a s : ℕ) → left_of (suc d) (suc room) (suc a) (suc s) ≡ left_of d room a s
-left-functor d room a s = grind (arith, nat_tests)
 
 -- the same of a value and of those behind it
 pub left-next : {A : Type 0} (d room r : ℕ) (xs : List (CodeValue A)) (i : ℕ) (x : CodeValue A) → i < length xs → x ≡ get_or xs i x → left_after d room (ground x) ≡ Some r
