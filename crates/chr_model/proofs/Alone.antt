@@ -1,5 +1,5 @@
 -- Over small stores few instances can stand.
-use Rattle.std.proofs.Common.{◌≡◌, ◌≢◌, ℕ, zero, suc, ◌+◌, ◌≤◌, true, false, ◌==◌, if◌then◌else◌, List, [], ◌∷◌, ◌++◌, length, Some, None, refl, sym, ◌∙◌, ap, arith, true-eqb}
+use Rattle.std.proofs.Common.{◌≡◌, ◌≢◌, ℕ, zero, suc, ◌+◌, ◌≤◌, true, false, ◌==◌, if◌then◌else◌, List, [], ◌∷◌, ◌++◌, length, get_or, Some, None, refl, ◌∙◌, ap, arith}
 use Rattle.std.proofs.lemmas.Bool.Decides.{nat_tests}
 use Rattle.chr_value.specs.Atoms.{Atom}
 use Rattle.chr_model.specs.Abstract.{Rules}
@@ -7,7 +7,6 @@ use Rattle.chr_model.specs.Stores.{Store, atom_at, Carry, Labelled}
 use Rattle.chr_model.specs.Goals.{Goal, Ended}
 use Rattle.chr_model.specs.Logs.{times}
 use Rattle.chr_model.proofs.Stores.{times-append, times-distinct}
-use Rattle.std.proofs.Common.{get_or}
 
 -- in a store of one label every head would have it
 carry_alone : (k : ℕ) (b : Atom ℕ) (ls : List ℕ) (as' : List (Atom ℕ)) → Carry ((k, b) ∷ []) ls as' → times k ls ≡ length as'
@@ -33,27 +32,16 @@ carry_one st [] (x ∷ as') a e c = absurd c
 carry_one st ls (x ∷ y ∷ as') a e c = absurd (cc)
 carry_one st ls [] a e c = absurd (cc)
 
--- the atom of a lone label, and the label of the second of two atoms
-pub only_atom : (k : ℕ) (b : Atom ℕ) (l : ℕ) (a : Atom ℕ) → atom_at ((k, b) ∷ []) l ≡ Some a → b ≡ a
-only_atom k b l a h =
-    elim (k == l) as (λ t. (if t then Some b else None) ≡ Some a → b ≡ a) [
-      | true ↦ λ e. (cc)
-      | false ↦ λ e. (cc)
-    ] h
+-- what a store of one atom has, and a store of two that isn't its first
+pub only_atom : (k : ℕ) (b : Atom ℕ) (l : ℕ) (a : Atom ℕ) → atom_at ((k, b) ∷ []) l ≡ Some a → (k ≡ l) × (b ≡ a)
+only_atom k b l a h = (grind (arith, nat_tests), grind (arith, nat_tests))
 
 pub second_atom : (j : ℕ) (a : Atom ℕ) (k : ℕ) (b : Atom ℕ) (l : ℕ) (x : Atom ℕ) → a ≢ x → atom_at ((j, a) ∷ (k, b) ∷ []) l ≡ Some x → (k ≡ l) × (b ≡ x)
 second_atom j a k b l x ne h =
     elim (j == l) as (λ t. (if t then Some a else atom_at ((k, b) ∷ []) l) ≡ Some x → (k ≡ l) × (b ≡ x)) [
       | true ↦ λ e. absurd (ne (let same : a ≡ x = cc in same))
-      | false ↦ λ e. (its_label e, only_atom k b l x e)
+      | false ↦ λ e. only_atom k b l x e
     ] h
-  where
-    its_label : atom_at ((k, b) ∷ []) l ≡ Some x → k ≡ l
-    its_label e =
-        elim (k == l) as (λ t. (k == l ≡ t) → (if t then Some b else None) ≡ Some x → k ≡ l) [
-          | true ↦ λ t _. true-eqb k l (sym t)
-          | false ↦ λ _ z. (cc)
-        ] refl e
 
 -- so many goals that have all ended
 abbrev pub endings : ℕ → List Goal

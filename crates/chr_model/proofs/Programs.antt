@@ -1,5 +1,5 @@
 -- What holds of a program's instances.
-use Rattle.std.proofs.Common.{◌≡◌, ℕ, zero, suc, List, [], ◌∷◌, Some, None, sym, ◌∙◌, subst, slice_get}
+use Rattle.std.proofs.Common.{◌≡◌, ℕ, zero, suc, ◌⊎◌, inl, inr, List, [], ◌∷◌, Some, None, sym, ◌∙◌, subst, slice_get}
 use Rattle.std.specs.List.{AllByRecursion}
 use Rattle.chr_value.specs.Atoms.{Atom}
 use Rattle.chr_rule.specs.Rules.{Simpagation}
@@ -13,22 +13,25 @@ use Rattle.chr_model.proofs.Fixed.{Fixes}
 pub program_removes : (rules : List (Simpagation ℕ)) → Removes (Instances rules)
 program_removes rules r kept removed body i = i.2.some_removed
 
--- an instance of the first rule, and of those after it
 pub of_zero : (rules : List (Simpagation ℕ)) (kept removed body : List (Atom ℕ)) → Instances rules 0 kept removed body → ⊥
 of_zero rules kept removed body i = let e : None ≡ Some i.0 = i.1 in cc
 
-pub of_first : (rule : Simpagation ℕ) (rules : List (Simpagation ℕ)) (kept removed body : List (Atom ℕ)) → Instances (rule ∷ rules) 1 kept removed body → Instance rule kept removed body
+of_first : (rule : Simpagation ℕ) (rules : List (Simpagation ℕ)) (kept removed body : List (Atom ℕ)) → Instances (rule ∷ rules) 1 kept removed body → Instance rule kept removed body
 of_first rule rules kept removed body i =
     let e : Some rule ≡ Some i.0 = i.1 in
     let same : i.0 ≡ rule = cc in
     subst (λ x. Instance x kept removed body) same i.2
 
-pub of_later : (rule : Simpagation ℕ) (rules : List (Simpagation ℕ)) (n : ℕ) (kept removed body : List (Atom ℕ)) → Instances (rule ∷ rules) (suc (suc n)) kept removed body → Instances rules (suc n) kept removed body
-of_later rule rules n kept removed body i = i
+-- the instances of one rule, and of two
+pub of_only : (rule : Simpagation ℕ) (r : ℕ) (kept removed body : List (Atom ℕ)) → Instances (rule ∷ []) r kept removed body → Instance rule kept removed body
+of_only rule zero kept removed body i = absurd (of_zero (rule ∷ []) kept removed body i)
+of_only rule (suc zero) kept removed body i = of_first rule [] kept removed body i
+of_only rule (suc (suc n)) kept removed body i = let e : None ≡ Some i.0 = i.1 in absurd (cc)
 
-pub of_none : (n : ℕ) (kept removed body : List (Atom ℕ)) → Instances [] n kept removed body → ⊥
-of_none zero kept removed body i = of_zero [] kept removed body i
-of_none (suc n) kept removed body i = let e : None ≡ Some i.0 = i.1 in cc
+pub of_two : (rule other : Simpagation ℕ) (r : ℕ) (kept removed body : List (Atom ℕ)) → Instances (rule ∷ other ∷ []) r kept removed body → Instance rule kept removed body ⊎ Instance other kept removed body
+of_two rule other zero kept removed body i = absurd (of_zero (rule ∷ other ∷ []) kept removed body i)
+of_two rule other (suc zero) kept removed body i = inl (of_first rule (other ∷ []) kept removed body i)
+of_two rule other (suc (suc n)) kept removed body i = inr (of_only other (suc n) kept removed body i)
 
 -- where each rule is in scope, the heads' atoms fix the body's
 rule_in_scope : (rules : List (Simpagation ℕ)) → AllByRecursion IsRule rules → (k : ℕ) (rule : Simpagation ℕ) → slice_get rules k ≡ Some rule → IsRule rule

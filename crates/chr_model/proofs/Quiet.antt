@@ -91,6 +91,11 @@ pub MayDrop-weaker : (v : Version) (I : Rules) (s : State) (l : ℕ) → MayDrop
 MayDrop-weaker One I s l m = λ r kept removed body i h. absurd (true≢false (sym h ∙ m r kept removed body i))
 MayDrop-weaker Two I s l m = m
 
+-- and where no rule applies, each goal may be dropped
+pub MayDrop-final : (v : Version) (I : Rules) (s : State) (l : ℕ) → Final I s.store → MayDrop v I s l
+MayDrop-final One I s l f = λ r kept removed body i. absurd (f r kept removed body i)
+MayDrop-final Two I s l f = λ r kept removed body i _. absurd (f r kept removed body i)
+
 guarded_dropped : (I : Rules) (s : State) (t l : ℕ) → goal_at s t ≡ Numbered l → MayDrop Two I s l → Guarded I s → Guarded I (ended s t)
 guarded_dropped I s t l at m p r kept removed body i =
     let q = p r kept removed body i in

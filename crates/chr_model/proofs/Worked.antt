@@ -1,27 +1,50 @@
 -- Instances and states of worked runs.
-use Rattle.std.proofs.Common.{◌≡◌, ◌≢◌, ℕ, zero, suc, ◌+◌, ◌≤◌, List, [], ◌∷◌, ◌++◌, length, Some, None, pos, negsuc, drop, ◌⊎◌, refl, sym, ◌∙◌, ap, subst, arith, inl, inr, slice_index_or, true, false, true≢false}
+use Rattle.std.proofs.Common.{◌≡◌, ◌≢◌, ℕ, ◌+◌, ◌≤◌, List, [], ◌∷◌, ◌++◌, length, Some, None, pos, negsuc, drop, ◌⊎◌, refl, sym, ◌∙◌, ap, subst, arith, inl, inr, slice_index_or, true, false, true≢false}
 use Rattle.chr_value.specs.Atoms.{Value, Atom, Int, Sym, Comp}
 use Rattle.chr_rule.specs.declared.expression.Relation.TheVariants.{LessEqual}
 use Rattle.chr_rule.specs.Rules.{Variable, Compared, Simpagation}
 use Rattle.chr_guard.specs.Values.{Valuation, Holds}
+use Rattle.chr_guard.specs.Instances.{Instance}
 use Rattle.chr_guard.proofs.Under.{somes, under_length, one_under, atom_is}
 use Rattle.chr_log.specs.Events.{Event}
 use Rattle.chr_log.specs.declared.events.Version.{Version}
 use Rattle.chr_model.specs.Stores.{Store, atom_at, among, Labelled, Final}
-use Rattle.chr_model.specs.Goals.{State, start}
-use Rattle.chr_model.specs.Steps.{Simplify, Propagate, Run}
+use Rattle.chr_model.specs.Abstract.{Rules}
+use Rattle.chr_model.specs.Goals.{Plain, Numbered, State, start, goal_at}
+use Rattle.chr_model.specs.Steps.{posted, activated, ended, replaced, Post, Activate, Simplify, Propagate, Drop, Run}
 use Rattle.chr_model.specs.Programs.{Instances}
 use Rattle.chr_model.specs.Examples.{shape_of, EndsQuietIn, of, gcd, gcd_zero, gcd_mod, gcd_rules, pair_rule, pair_rules, pair_log_one_label, min_rule, min_rules, token, token_rule, token_rules}
-use Rattle.chr_model.proofs.Programs.{of_zero, of_first, of_none}
+use Rattle.chr_model.proofs.Quiet.{MayDrop-final}
+use Rattle.chr_model.proofs.Programs.{of_only, of_two}
 use Rattle.chr_model.proofs.Alone.{one_head, carry_one, only_atom, second_atom, endings, all_ended}
 
 -- one step, to a state, before the others of a run
 infixr 20 ◌▸◌
 pub ◌▸◌ : {A B : State → Type 0} (first : (s : State) × A s) → B first.0 → (s : State) × A s × B s
-◌▸◌ first others = (first.0, first.1, others)
+first ▸ others = (first.0, first.1, others)
+
+-- each kind of step, with what allows it
+abbrev pub post : {s : State} {t : ℕ} {a : Atom ℕ} → t ≡ length s.goals → (n : State) × Post s t a n
+post {s} {t} {a} e = (posted s a, record { ticket = e; after = refl })
+
+abbrev pub activate : {s : State} {t l : ℕ} {a : Atom ℕ} → goal_at s t ≡ Plain a → l ≡ s.next → (n : State) × Activate s t l n
+activate {s} {t} {l} {a} at e = (activated s t a, record { atom = a; plain = at; label = e; after = refl })
+
+abbrev pub simplify : {I : Rules} {s : State} {t r l : ℕ} {kept removed : List ℕ} {body : List (Atom ℕ)} → goal_at s t ≡ Numbered l → among removed l ≡ true → Labelled I s.store r kept removed body → (n : State) × (Simplify I s t r kept removed n ⊎ Propagate I s t r kept removed n)
+simplify {s = s} {t = t} {l = l} {removed = removed} {body = body} at e i = (replaced (ended s t) removed body, inl (record { label = l; body = body; numbered = at; stands = e; instance = i; after = refl }))
+
+abbrev pub propagate : {I : Rules} {s : State} {t r l : ℕ} {kept removed : List ℕ} {body : List (Atom ℕ)} → goal_at s t ≡ Numbered l → among kept l ≡ true → Labelled I s.store r kept removed body → (n : State) × (Simplify I s t r kept removed n ⊎ Propagate I s t r kept removed n)
+propagate {s = s} {t = t} {l = l} {removed = removed} {body = body} at e i = (replaced s removed body, inr (record { label = l; body = body; numbered = at; stands = e; instance = i; after = refl }))
+
+abbrev pub drop_last : {v : Version} {I : Rules} {s : State} {t l : ℕ} → goal_at s t ≡ Numbered l → Final I s.store → (n : State) × Drop v I s t n
+drop_last {v} {I} {s} {t} {l} at f = (ended s t, record { label = l; numbered = at; done = MayDrop-final v I s l f; after = refl })
+
+-- the run of a log whose goals have all ended
+pub quiet : (v : Version) (rules : List (Simpagation ℕ)) (log : List (Event ℕ)) (n : ℕ) (store : Store) → Run v (Instances rules) start log (record { goals = endings n; store = store; next = n }) → EndsQuietIn v rules log store
+quiet v rules log n store run = (record { goals = endings n; store = store; next = n }, run, refl, all_ended n)
 
 -- a firing of a rule that keeps one constraint and removes one
-pub fires : (rules : List (Simpagation ℕ)) (r : ℕ) (st : Store) (j k : ℕ) (a b : Atom ℕ) (body : List (Atom ℕ)) → Instances rules r (a ∷ []) (b ∷ []) body → among (k ∷ []) j ≡ false → atom_at st j ≡ Some a → atom_at st k ≡ Some b → Labelled (Instances rules) st r (j ∷ []) (k ∷ []) body
+fires : (rules : List (Simpagation ℕ)) (r : ℕ) (st : Store) (j k : ℕ) (a b : Atom ℕ) (body : List (Atom ℕ)) → Instances rules r (a ∷ []) (b ∷ []) body → among (k ∷ []) j ≡ false → atom_at st j ≡ Some a → atom_at st k ≡ Some b → Labelled (Instances rules) st r (j ∷ []) (k ∷ []) body
 fires rules r st j k a b body i differ at_j at_k = record {
   kept_atoms = a ∷ [];
   removed_atoms = b ∷ [];
@@ -30,10 +53,6 @@ fires rules r st j k a b body i differ at_j at_k = record {
   kept_there = (at_j, tt);
   removed_there = (at_k, tt);
 }
-
--- the run of a log whose goals have all ended
-pub quiet : (v : Version) (rules : List (Simpagation ℕ)) (log : List (Event ℕ)) (n : ℕ) (store : Store) → Run v (Instances rules) start log (record { goals = endings n; store = store; next = n }) → EndsQuietIn v rules log store
-quiet v rules log n store run = (record { goals = endings n; store = store; next = n }, run, refl, all_ended n)
 
 -- a valuation of three variables
 abbrev numbers : ℕ → ℕ → ℕ → Valuation
@@ -50,23 +69,27 @@ first_number (Int (negsuc n) ∷ ts) = 0
 first_number (Sym s ∷ ts) = 0
 first_number (Comp s vs ∷ ts) = 0
 
-pub other_number : (m n : ℕ) → m ≢ n → gcd m ≢ gcd n
-other_number m n ne e = ne (ap (λ x. first_number x.args) e)
+-- a rule of two heads or more has no instance over one constraint
+two_heads : (I : Rules) (rule : Simpagation ℕ) → 2 ≤ length rule.kept + length rule.removed → (k : ℕ) (a : Atom ℕ) (r : ℕ) (kept removed : List ℕ) (body : List (Atom ℕ)) (i : Labelled I ((k, a) ∷ []) r kept removed body) → Instance rule i.kept_atoms i.removed_atoms body → ⊥
+two_heads I rule two k a r kept removed body i one =
+    let first : length i.kept_atoms ≡ length rule.kept = under_length one.valuation rule.kept i.kept_atoms one.kept_are in
+    let second : length i.removed_atoms ≡ length rule.removed = under_length one.valuation rule.removed i.removed_atoms one.removed_are in
+    let few = one_head I k a r kept removed body i in
+    absurd (omega arith)
+
+alone : (rule : Simpagation ℕ) → 2 ≤ length rule.kept + length rule.removed → (k : ℕ) (a : Atom ℕ) → Final (Instances (rule ∷ [])) ((k, a) ∷ [])
+alone rule two k a r kept removed body i =
+    two_heads (Instances (rule ∷ [])) rule two k a r kept removed body i (of_only rule r i.kept_atoms i.removed_atoms body i.instance)
 
 -- The greatest common divisor.
-pub gcd_alone : (k n : ℕ) → gcd n ≢ gcd 0 → Final (Instances gcd_rules) ((k, gcd n) ∷ [])
-gcd_alone k n ne zero kept removed body i = of_zero gcd_rules i.kept_atoms i.removed_atoms body i.instance
-gcd_alone k n ne (suc zero) kept removed body i =
-    let one = of_first gcd_zero (gcd_mod ∷ []) i.kept_atoms i.removed_atoms body i.instance in
-    let at = carry_one ((k, gcd n) ∷ []) removed i.removed_atoms (gcd 0) (somes i.removed_atoms (gcd 0 ∷ []) (sym one.removed_are)) i.removed_there in
-    ne (only_atom k (gcd n) at.0 (gcd 0) at.2)
-gcd_alone k n ne (suc (suc zero)) kept removed body i =
-    let one = of_first gcd_mod [] i.kept_atoms i.removed_atoms body i.instance in
-    let first : length i.kept_atoms ≡ 1 = under_length one.valuation gcd_mod.kept i.kept_atoms one.kept_are in
-    let second : length i.removed_atoms ≡ 1 = under_length one.valuation gcd_mod.removed i.removed_atoms one.removed_are in
-    let few = one_head (Instances gcd_rules) k (gcd n) 2 kept removed body i in
-    absurd (omega arith)
-gcd_alone k n ne (suc (suc (suc m))) kept removed body i = of_none (suc m) i.kept_atoms i.removed_atoms body i.instance
+pub gcd_alone : (k n : ℕ) → n ≢ 0 → Final (Instances gcd_rules) ((k, gcd n) ∷ [])
+gcd_alone k n ne r kept removed body i = zero_or_mod (of_two gcd_zero gcd_mod r i.kept_atoms i.removed_atoms body i.instance)
+  where
+    zero_or_mod : (Instance gcd_zero i.kept_atoms i.removed_atoms body ⊎ Instance gcd_mod i.kept_atoms i.removed_atoms body) → ⊥
+    zero_or_mod (inl one) =
+        let at = carry_one ((k, gcd n) ∷ []) removed i.removed_atoms (gcd 0) (somes i.removed_atoms (gcd 0 ∷ []) (sym one.removed_are)) i.removed_there in
+        ne (ap (λ a. first_number a.args) (only_atom k (gcd n) at.0 (gcd 0) at.2).1)
+    zero_or_mod (inr one) = two_heads (Instances gcd_rules) gcd_mod (omega arith) k (gcd n) r kept removed body i one
 
 pub gcd_nine_six : Labelled (Instances gcd_rules) ((1, gcd 9) ∷ (2, gcd 6) ∷ []) 2 (2 ∷ []) (1 ∷ []) (gcd 3 ∷ [])
 gcd_nine_six = fires gcd_rules 2 ((1, gcd 9) ∷ (2, gcd 6) ∷ []) 2 1 (gcd 6) (gcd 9) (gcd 3 ∷ []) (gcd_mod, refl, record { valuation = numbers 6 9 3; guard = (refl, (refl, tt)); right = ((pos 3, refl, refl), (tt, tt)); kept_are = refl; removed_are = refl; some_removed = λ e. (cc); body_is = refl }) refl refl refl
@@ -83,17 +106,6 @@ gcd_three_zero = record {
   kept_there = tt;
   removed_there = (refl, tt);
 }
-
--- one constraint alone, under a rule of two heads or more
-alone : (rule : Simpagation ℕ) → 2 ≤ length rule.kept + length rule.removed → (k : ℕ) (a : Atom ℕ) → Final (Instances (rule ∷ [])) ((k, a) ∷ [])
-alone rule two k a zero kept removed body i = of_zero (rule ∷ []) i.kept_atoms i.removed_atoms body i.instance
-alone rule two k a (suc zero) kept removed body i =
-    let one = of_first rule [] i.kept_atoms i.removed_atoms body i.instance in
-    let first : length i.kept_atoms ≡ length rule.kept = under_length one.valuation rule.kept i.kept_atoms one.kept_are in
-    let second : length i.removed_atoms ≡ length rule.removed = under_length one.valuation rule.removed i.removed_atoms one.removed_are in
-    let few = one_head (Instances (rule ∷ [])) k a 1 kept removed body i in
-    absurd (omega arith)
-alone rule two k a (suc (suc n)) kept removed body i = of_none (suc n) i.kept_atoms i.removed_atoms body i.instance
 
 -- Two equal constraints.
 pub pair_alone : (k : ℕ) (a : Atom ℕ) → Final (Instances pair_rules) ((k, a) ∷ [])
@@ -120,8 +132,9 @@ one_label v s last run = two_heads run.2.1
 pub min_alone : (k : ℕ) (a : Atom ℕ) → Final (Instances min_rules) ((k, a) ∷ [])
 min_alone = alone min_rule (omega arith)
 
-pub min_one : (n : ℕ) → Holds (numbers 1 n 0) (Compared LessEqual (Variable 0) (Variable 1)) → Instances min_rules 1 (of 0 1 ∷ []) (of 0 n ∷ []) []
-min_one n le = (min_rule, refl, record { valuation = numbers 1 n 0; guard = (le, tt); right = tt; kept_are = refl; removed_are = refl; some_removed = λ e. (cc); body_is = refl })
+pub min_fires : (st : Store) (j k n : ℕ) → Holds (numbers 1 n 0) (Compared LessEqual (Variable 0) (Variable 1)) → among (k ∷ []) j ≡ false → atom_at st j ≡ Some (of 0 1) → atom_at st k ≡ Some (of 0 n) → Labelled (Instances min_rules) st 1 (j ∷ []) (k ∷ []) []
+min_fires st j k n le differ at_j at_k =
+    fires min_rules 1 st j k (of 0 1) (of 0 n) [] (min_rule, refl, record { valuation = numbers 1 n 0; guard = (le, tt); right = tt; kept_are = refl; removed_are = refl; some_removed = λ e. (cc); body_is = refl }) differ at_j at_k
 
 -- A token that a constraint waits for.
 pub token_fires : Labelled (Instances token_rules) ((1, of 1 1) ∷ (2, token) ∷ []) 1 (2 ∷ []) (1 ∷ []) (of 2 1 ∷ [])
@@ -132,22 +145,18 @@ token_alone = alone token_rule (omega arith)
 
 -- each instance over both has the token's label
 pub token_partner : (r : ℕ) (kept removed : List ℕ) (body : List (Atom ℕ)) → Labelled (Instances token_rules) ((1, of 1 1) ∷ (2, token) ∷ []) r kept removed body → among (kept ++ removed) 2 ≡ true
-token_partner zero kept removed body i = absurd (of_zero token_rules i.kept_atoms i.removed_atoms body i.instance)
-token_partner (suc zero) kept removed body i =
-    let one = of_first token_rule [] i.kept_atoms i.removed_atoms body i.instance in
+token_partner r kept removed body i =
+    let one = of_only token_rule r i.kept_atoms i.removed_atoms body i.instance in
     let at = carry_one ((1, of 1 1) ∷ (2, token) ∷ []) kept i.kept_atoms token (somes i.kept_atoms (token ∷ []) (sym one.kept_are)) i.kept_there in
     let two : 2 ≡ at.0 = (second_atom 1 (of 1 1) 2 token at.0 token (other_name (of 1 1) token (λ e. (cc))) at.2).0 in
     subst (λ ls. among (ls ++ removed) 2 ≡ true) (sym at.1) (subst (λ l. among (l ∷ removed) 2 ≡ true) two refl)
-token_partner (suc (suc n)) kept removed body i = absurd (of_none (suc n) i.kept_atoms i.removed_atoms body i.instance)
 
 pub token_done : Final (Instances token_rules) ((2, token) ∷ (3, of 2 1) ∷ [])
-token_done zero kept removed body i = of_zero token_rules i.kept_atoms i.removed_atoms body i.instance
-token_done (suc zero) kept removed body i =
-    let one = of_first token_rule [] i.kept_atoms i.removed_atoms body i.instance in
+token_done r kept removed body i =
+    let one = of_only token_rule r i.kept_atoms i.removed_atoms body i.instance in
     let lone = one_under one.valuation (shape_of 1 0) i.removed_atoms one.removed_are in
     let wanted : Atom ℕ = lone.0 in
     let name : 1 ≡ wanted.name = ((atom_is one.valuation (shape_of 1 0) wanted).0 lone.2).0 in
     let at = carry_one ((2, token) ∷ (3, of 2 1) ∷ []) removed i.removed_atoms wanted lone.1 i.removed_there in
     let same : of 2 1 ≡ wanted = (second_atom 2 token 3 (of 2 1) at.0 wanted (other_name token wanted (λ e. (let z : 0 ≡ 1 = e ∙ sym name in cc))) at.2).1 in
     other_name (of 2 1) wanted (λ e. (let z : 2 ≡ 1 = e ∙ sym name in cc)) same
-token_done (suc (suc n)) kept removed body i = of_none (suc n) i.kept_atoms i.removed_atoms body i.instance
