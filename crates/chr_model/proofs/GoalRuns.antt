@@ -1,6 +1,6 @@
 -- A lawful log is a goal-based run from all that it posts.
 use Rattle.std.proofs.Common.{◌≡◌, ℕ, ◌+◌, ◌⊎◌, inl, inr, List, [], ◌∷◌, ◌++◌, map, refl, sym, ◌∙◌, ap, subst, append_assoc, append-nil, IsPermutation}
-use Rattle.std.proofs.lemmas.List.Sorted.{IsPermutation-refl, IsPermutation-append_right, IsPermutation-trans, IsPermutation-append_comm}
+use Rattle.std.proofs.lemmas.List.Sorted.{IsPermutation-refl, IsPermutation-append_right, IsPermutation-append_comm}
 use Rattle.chr_value.specs.Atoms.{Atom}
 use Rattle.chr_log.specs.Events.{Event, Post, Activate, Fire, Drop}
 use Rattle.chr_log.specs.declared.events.Version.{Version}
@@ -11,8 +11,8 @@ use Rattle.chr_model.specs.Goals.{Goal, Plain, Numbered, Ended, State, start, go
 use Rattle.chr_model.specs.Steps.{posted, activated, ended, replaced, MayDrop, Simplify, Propagate, Run}
 use Rattle.chr_model.specs.Logs.{Lawful, posted_by}
 use Rattle.chr_model.specs.GoalRuns.{opening, SameGoals, GoalRun, unposted}
-use Rattle.chr_model.proofs.Quiet.{place_within, goal_stays, active_open, waiting_open, numbered-more}
-use Rattle.chr_model.proofs.Strict.{set_front}
+use Rattle.chr_model.proofs.Quiet.{goal_stays, waiting_open, numbered_stays, numbered-replaced}
+use Rattle.chr_model.proofs.Strict.{set_front, ended-replaced}
 use Rattle.chr_model.proofs.Erasure.{plain_goals-append}
 
 numbered_goals-append : (gs hs : List Goal) → numbered_goals (gs ++ hs) ≡ numbered_goals gs ++ numbered_goals hs
@@ -21,32 +21,16 @@ numbered_goals-append (Plain a ∷ gs) hs = numbered_goals-append gs hs
 numbered_goals-append (Numbered l ∷ gs) hs = ap (λ xs. l ∷ xs) (numbered_goals-append gs hs)
 numbered_goals-append (Ended ∷ gs) hs = numbered_goals-append gs hs
 
-equal : {A : Type 0} (xs ys : List A) → xs ≡ ys → IsPermutation xs ys
-equal xs ys e = subst (λ zs. IsPermutation xs zs) e (IsPermutation-refl xs)
-
-turned : {A : Type 0} (x w m : List A) → IsPermutation ((x ++ w) ++ m) ((x ++ m) ++ w)
-turned x w m =
-    IsPermutation-trans ((x ++ w) ++ m) (x ++ (w ++ m)) ((x ++ m) ++ w) (equal ((x ++ w) ++ m) (x ++ (w ++ m)) (append_assoc x w m))
-    (IsPermutation-trans (x ++ (w ++ m)) (x ++ (m ++ w)) ((x ++ m) ++ w) (IsPermutation-append_right x (w ++ m) (m ++ w) (IsPermutation-append_comm w m))
-    (equal (x ++ (m ++ w)) ((x ++ m) ++ w) (sym (append_assoc x m w))))
-
-turned_by : {A : Type 0} (x w m a b : List A) → a ≡ (x ++ w) ++ m → b ≡ (x ++ m) ++ w → IsPermutation a b
-turned_by x w m a b p q =
-    IsPermutation-trans a ((x ++ w) ++ m) b (equal a ((x ++ w) ++ m) p) (IsPermutation-trans ((x ++ w) ++ m) ((x ++ m) ++ w) b (turned x w m) (equal ((x ++ m) ++ w) b (sym q)))
-
-plain_parts : (x w m : List Goal) → plain_goals ((x ++ w) ++ m) ≡ (plain_goals x ++ plain_goals w) ++ plain_goals m
-plain_parts x w m = plain_goals-append (x ++ w) m ∙ ap (λ z. z ++ plain_goals m) (plain_goals-append x w)
-
-numbered_parts : (x w m : List Goal) → numbered_goals ((x ++ w) ++ m) ≡ (numbered_goals x ++ numbered_goals w) ++ numbered_goals m
-numbered_parts x w m = numbered_goals-append (x ++ w) m ∙ ap (λ z. z ++ numbered_goals m) (numbered_goals-append x w)
+turned : {A : Type 0} (x w m : List A) → IsPermutation (x ++ (w ++ m)) (x ++ (m ++ w))
+turned x w m = IsPermutation-append_right x (w ++ m) (m ++ w) (IsPermutation-append_comm w m)
 
 abbrev entry_of : List Goal → Store → ℕ → State
 entry_of gs st n = record { goals = gs; store = st; next = n }
 
 same_turned : (x w m : List Goal) (st : Store) (n : ℕ) → SameGoals (entry_of ((x ++ w) ++ m) st n) (entry_of ((x ++ m) ++ w) st n)
 same_turned x w m st n = record {
-  plain = turned_by (plain_goals x) (plain_goals w) (plain_goals m) (plain_goals ((x ++ w) ++ m)) (plain_goals ((x ++ m) ++ w)) (plain_parts x w m) (plain_parts x m w);
-  numbered = turned_by (numbered_goals x) (numbered_goals w) (numbered_goals m) (numbered_goals ((x ++ w) ++ m)) (numbered_goals ((x ++ m) ++ w)) (numbered_parts x w m) (numbered_parts x m w);
+  plain = simp (append_assoc, plain_goals-append) (turned (plain_goals x) (plain_goals w) (plain_goals m));
+  numbered = simp (append_assoc, numbered_goals-append) (turned (numbered_goals x) (numbered_goals w) (numbered_goals m));
   store = refl;
   next = refl;
 }
@@ -56,56 +40,47 @@ same_equal a b e = subst (SameGoals a) e (record { plain = IsPermutation-refl (p
 
 -- a state with the atoms that are still to be posted after its goals
 abbrev ahead : State → List (Atom ℕ) → State
-ahead s ps = entry_of (s.goals ++ map Plain ps) s.store s.next
+ahead s ps = replaced s [] ps
 
 may_drop_ahead : (v : Version) (I : Rules) (s : State) (ps : List (Atom ℕ)) (l : ℕ) → MayDrop v I s l → MayDrop v I (ahead s ps) l
 may_drop_ahead One I s ps l m = m
 may_drop_ahead Two I s ps l m = λ r kept removed body i h.
     let o = m r kept removed body i h in
-    (o.0, o.1, o.2, numbered-more s s.goals (map Plain ps) s.store s.next o.0 o.3)
+    (o.0, o.1, o.2, numbered-replaced s [] ps o.0 o.3)
 
 post_ahead : (s : State) (a : Atom ℕ) (ps : List (Atom ℕ)) → ahead (posted s a) ps ≡ ahead s (a ∷ ps)
 post_ahead s a ps = ap (λ gs. entry_of gs s.store s.next) (append_assoc s.goals (Plain a ∷ []) (map Plain ps))
 
 activate_ahead : (s : State) (t : ℕ) (a : Atom ℕ) (ps : List (Atom ℕ)) → goal_at s t ≡ Plain a → activated (ahead s ps) t a ≡ ahead (activated s t a) ps
 activate_ahead s t a ps at =
-    ap (λ gs. entry_of gs (s.store ++ (s.next, a) ∷ []) (s.next + 1)) (set_front s.goals (map Plain ps) t (Numbered s.next) (place_within s.goals t (λ z. waiting_open a (sym at ∙ z))))
-
-end_ahead : (s : State) (t l : ℕ) (ps : List (Atom ℕ)) → goal_at s t ≡ Numbered l → ended (ahead s ps) t ≡ ahead (ended s t) ps
-end_ahead s t l ps at = ap (λ gs. entry_of gs s.store s.next) (set_front s.goals (map Plain ps) t Ended (place_within s.goals t (λ z. active_open l (sym at ∙ z))))
+    ap (λ gs. entry_of gs (s.store ++ (s.next, a) ∷ []) (s.next + 1)) (set_front s.goals (map Plain ps) t (Numbered s.next) (λ z. waiting_open a (sym at ∙ z)))
 
 propagate_ahead : (s : State) (removed : List ℕ) (body ps : List (Atom ℕ)) → SameGoals (replaced (ahead s ps) removed body) (ahead (replaced s removed body) ps)
 propagate_ahead s removed body ps = same_turned s.goals (map Plain ps) (map Plain body) (without removed s.store) s.next
 
 simplify_ahead : (s : State) (t l : ℕ) (removed : List ℕ) (body ps : List (Atom ℕ)) → goal_at s t ≡ Numbered l → SameGoals (replaced (ended (ahead s ps) t) removed body) (ahead (replaced (ended s t) removed body) ps)
 simplify_ahead s t l removed body ps at =
-    subst (λ m. SameGoals (replaced m removed body) (ahead (replaced (ended s t) removed body) ps)) (sym (end_ahead s t l ps at)) (propagate_ahead (ended s t) removed body ps)
+    subst (λ m. SameGoals (replaced m removed body) (ahead (replaced (ended s t) removed body) ps)) (ended-replaced s [] ps t l at) (propagate_ahead (ended s t) removed body ps)
 
 -- one firing, and the run after it
 fire_ahead : (v : Version) (I : Rules) (s : State) (t r : ℕ) (kept removed : List ℕ) (m n : State) (ps : List (Atom ℕ)) (es : List (Event ℕ)) → (Simplify I s t r kept removed m ⊎ Propagate I s t r kept removed m) → GoalRun v I (ahead m ps) es n → GoalRun v I (ahead s ps) (Fire t r kept removed ∷ es) n
 fire_ahead v I s t r kept removed m n ps es (inl h) rest = (
   replaced (ended (ahead s ps) t) removed h.body,
   ahead m ps,
-  inl (record { label = h.label; body = h.body; numbered = goal_stays s.goals (map Plain ps) t (Numbered h.label) (active_open h.label) h.numbered; stands = h.stands; instance = h.instance; after = refl }),
+  inl (record { label = h.label; body = h.body; numbered = numbered_stays s [] ps t h.label h.numbered; stands = h.stands; instance = h.instance; after = refl }),
   subst (λ x. SameGoals (replaced (ended (ahead s ps) t) removed h.body) (ahead x ps)) (sym h.after) (simplify_ahead s t h.label removed h.body ps h.numbered),
   rest,
 )
 fire_ahead v I s t r kept removed m n ps es (inr h) rest = (
   replaced (ahead s ps) removed h.body,
   ahead m ps,
-  inr (record { label = h.label; body = h.body; numbered = goal_stays s.goals (map Plain ps) t (Numbered h.label) (active_open h.label) h.numbered; stands = h.stands; instance = h.instance; after = refl }),
+  inr (record { label = h.label; body = h.body; numbered = numbered_stays s [] ps t h.label h.numbered; stands = h.stands; instance = h.instance; after = refl }),
   subst (λ x. SameGoals (replaced (ahead s ps) removed h.body) (ahead x ps)) (sym h.after) (propagate_ahead s removed h.body ps),
   rest,
 )
 
 run_ahead : (v : Version) (I : Rules) (es : List (Event ℕ)) (s n : State) → Run v I s es n → GoalRun v I (ahead s (posted_by es)) (unposted es) n
-run_ahead v I [] s n run =
-    subst (SameGoals (ahead s [])) (sym run) (record {
-      plain = equal (plain_goals (s.goals ++ [])) (plain_goals s.goals) (ap plain_goals (append-nil s.goals));
-      numbered = equal (numbered_goals (s.goals ++ [])) (numbered_goals s.goals) (ap numbered_goals (append-nil s.goals));
-      store = refl;
-      next = refl;
-    })
+run_ahead v I [] s n run = same_equal (ahead s []) n (ap (λ gs. entry_of gs s.store s.next) (append-nil s.goals) ∙ sym run)
 run_ahead v I (Post t a ∷ es) s n run =
     subst (λ m. GoalRun v I m (unposted es) n) (ap (λ m. ahead m (posted_by es)) run.1.after ∙ post_ahead s a (posted_by es)) (run_ahead v I es run.0 n run.2)
 run_ahead v I (Activate t l ∷ es) s n run =
@@ -123,8 +98,8 @@ run_ahead v I (Drop t ∷ es) s n run =
     let ps = posted_by es in (
       ended (ahead s ps) t,
       ahead run.0 ps,
-      record { label = h.label; numbered = goal_stays s.goals (map Plain ps) t (Numbered h.label) (active_open h.label) h.numbered; done = may_drop_ahead v I s ps h.label h.done; after = refl },
-      same_equal (ended (ahead s ps) t) (ahead run.0 ps) (end_ahead s t h.label ps h.numbered ∙ sym (ap (λ m. ahead m ps) h.after)),
+      record { label = h.label; numbered = numbered_stays s [] ps t h.label h.numbered; done = may_drop_ahead v I s ps h.label h.done; after = refl },
+      same_equal (ended (ahead s ps) t) (ahead run.0 ps) (sym (ap (λ m. ahead m ps) h.after ∙ ended-replaced s [] ps t h.label h.numbered)),
       run_ahead v I es run.0 n run.2,
     )
 

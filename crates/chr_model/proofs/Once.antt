@@ -45,31 +45,26 @@ room_replaced l I s r kept removed body i =
     let h : times l removed + times l (labels (without removed s.store)) ≤ times l (labels s.store) = times_removed l s.store removed i.removed_atoms (Distinct-right kept removed i.distinct) i.removed_there in
     omega arith
 
-room_fired : (l : ℕ) (I : Rules) (s : State) (t r : ℕ) (kept removed : List ℕ) (n : State) → (Simplify I s t r kept removed n ⊎ Propagate I s t r kept removed n) → times l (removed ++ []) + room l n ≤ room l s
-room_fired l I s t r kept removed n (inl h) = subst (λ m. times l (removed ++ []) + room l m ≤ room l s) (sym h.after) (omega (arith, times-append l removed [], room_replaced l I (ended s t) r kept removed h.body h.instance))
-room_fired l I s t r kept removed n (inr h) = subst (λ m. times l (removed ++ []) + room l m ≤ room l s) (sym h.after) (omega (arith, times-append l removed [], room_replaced l I s r kept removed h.body h.instance))
+room_fired : (l : ℕ) (I : Rules) (s : State) (t r : ℕ) (kept removed : List ℕ) (n : State) → (Simplify I s t r kept removed n ⊎ Propagate I s t r kept removed n) → times l removed + room l n ≤ room l s
+room_fired l I s t r kept removed n (inl h) = subst (λ m. times l removed + room l m ≤ room l s) (sym h.after) (room_replaced l I (ended s t) r kept removed h.body h.instance)
+room_fired l I s t r kept removed n (inr h) = subst (λ m. times l removed + room l m ≤ room l s) (sym h.after) (room_replaced l I s r kept removed h.body h.instance)
 
-pub Step-room : (l : ℕ) (v : Version) (I : Rules) (s : State) (e : Event ℕ) (n : State) → Step v I s e n → times l (removed_by (e ∷ [])) + room l n ≤ room l s
-Step-room l v I s (Post t a) n h = subst (λ m. 0 + room l m ≤ room l s) (sym h.after) (omega arith)
-Step-room l v I s (Activate t k) n h = subst (λ m. 0 + room l m ≤ room l s) (sym h.after) (omega (arith, room_activated l s t h.atom))
-Step-room l v I s (Fire t r kept removed) n h = room_fired l I s t r kept removed n h
-Step-room l v I s (Drop t) n h = subst (λ m. 0 + room l m ≤ room l s) (sym h.after) (omega arith)
+-- the events after a step say the same of the room that it leaves
+Step-room : (l : ℕ) (v : Version) (I : Rules) (s : State) (e : Event ℕ) (n : State) (es : List (Event ℕ)) → Step v I s e n → times l (removed_by (e ∷ es)) + room l n ≤ times l (removed_by es) + room l s
+Step-room l v I s (Post t a) n es h = subst (λ m. times l (removed_by es) + room l m ≤ times l (removed_by es) + room l s) (sym h.after) (omega arith)
+Step-room l v I s (Activate t k) n es h = subst (λ m. times l (removed_by es) + room l m ≤ times l (removed_by es) + room l s) (sym h.after) (omega (arith, room_activated l s t h.atom))
+Step-room l v I s (Fire t r kept removed) n es h = omega (arith, times-append l removed (removed_by es), room_fired l I s t r kept removed n h)
+Step-room l v I s (Drop t) n es h = subst (λ m. times l (removed_by es) + room l m ≤ times l (removed_by es) + room l s) (sym h.after) (omega arith)
 
-removed_by-cons : (l : ℕ) (e : Event ℕ) (es : List (Event ℕ)) → times l (removed_by (e ∷ es)) ≡ times l (removed_by (e ∷ [])) + times l (removed_by es)
-removed_by-cons l (Post t a) es = omega arith
-removed_by-cons l (Activate t k) es = omega arith
-removed_by-cons l (Fire t r kept removed) es = omega (arith, times-append l removed (removed_by es), times-append l removed [])
-removed_by-cons l (Drop t) es = omega arith
-
-pub Run-room : (l : ℕ) (v : Version) (I : Rules) (es : List (Event ℕ)) (s n : State) → Run v I s es n → times l (removed_by es) + room l n ≤ room l s
+Run-room : (l : ℕ) (v : Version) (I : Rules) (es : List (Event ℕ)) (s n : State) → Run v I s es n → times l (removed_by es) + room l n ≤ room l s
 Run-room l v I [] s n run = subst (λ m. 0 + room l m ≤ room l s) (sym run) (omega arith)
-Run-room l v I (e ∷ es) s n run = omega (arith, removed_by-cons l e es, Step-room l v I s e run.0 run.1, Run-room l v I es run.0 n run.2)
+Run-room l v I (e ∷ es) s n run = omega (arith, Step-room l v I s e run.0 es run.1, Run-room l v I es run.0 n run.2)
 
 pub start_once : LabelsOnce start
 start_once l = grind (arith, nat_tests)
 
 pub Step-once : (v : Version) (I : Rules) (s : State) (e : Event ℕ) (n : State) → Step v I s e n → LabelsOnce s → LabelsOnce n
-Step-once v I s e n step u l = omega (arith, Step-room l v I s e n step, u l)
+Step-once v I s e n step u l = omega (arith, Step-room l v I s e n [] step, u l)
 
 pub removed_once : (v : Version) (I : Rules) (log : List (Event ℕ)) (last : State) → Lawful v I log last → (l : ℕ) → times l (removed_by log) ≤ 1
 removed_once v I log last run l = omega (arith, Run-room l v I log start last run, start_once l)

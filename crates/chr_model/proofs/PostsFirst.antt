@@ -20,27 +20,21 @@ Run-gathered v I (Activate t l ∷ es) s n run = (with (posted_by es) run.0, (re
 Run-gathered v I (Fire t r kept removed ∷ es) s n run = (with (posted_by es) run.0, (refl, run.1), Run-gathered v I es run.0 n run.2)
 Run-gathered v I (Drop t ∷ es) s n run = (with (posted_by es) run.0, (refl, run.1), Run-gathered v I es run.0 n run.2)
 
-abbrev Run-scattered : (v : Version) (I : Rules) (es : List (Event ℕ)) (g h : Gathered) → RunAmong v I g es h → Run v I g.state es h.state
-Run-scattered v I [] g h run = ap (λ x. x.state) run
-Run-scattered v I (Post t a ∷ es) g h run = (run.0.state, run.1.1, Run-scattered v I es run.0 h run.2)
-Run-scattered v I (Activate t l ∷ es) g h run = (run.0.state, run.1.1, Run-scattered v I es run.0 h run.2)
-Run-scattered v I (Fire t r kept removed ∷ es) g h run = (run.0.state, run.1.1, Run-scattered v I es run.0 h run.2)
-Run-scattered v I (Drop t ∷ es) g h run = (run.0.state, run.1.1, Run-scattered v I es run.0 h run.2)
+-- the other way, with the same firings
+scattered : (v : Version) (I : Rules) (es : List (Event ℕ)) (g h : Gathered) (run : RunAmong v I g es h) → (same : Run v I g.state es h.state) × (firings v I es g.state h.state same ≡ firings_among v I es g h run)
+scattered v I [] g h run = (ap (λ x. x.state) run, refl)
+scattered v I (Post t a ∷ es) g h run = let rest = scattered v I es run.0 h run.2 in ((run.0.state, run.1.1, rest.0), rest.1)
+scattered v I (Activate t l ∷ es) g h run = let rest = scattered v I es run.0 h run.2 in ((run.0.state, run.1.1, rest.0), rest.1)
+scattered v I (Fire t r kept removed ∷ es) g h run = let rest = scattered v I es run.0 h run.2 in ((run.0.state, run.1.1, rest.0), ap (λ fs. firing run.1.1 ∷ fs) rest.1)
+scattered v I (Drop t ∷ es) g h run = let rest = scattered v I es run.0 h run.2 in ((run.0.state, run.1.1, rest.0), rest.1)
 
 pub posts_to_front : (v : Version) (I : Rules) (log : List (Event ℕ)) (last : State) → Lawful v I log last → LawfulPostsFirst v I log last
 posts_to_front v I log last run = Run-gathered v I log start last run
 
 pub posts_to_places : (v : Version) (I : Rules) (log : List (Event ℕ)) (last : State) → LawfulPostsFirst v I log last → Lawful v I log last
-posts_to_places v I log last run = Run-scattered v I log (with (posted_by log) start) (with [] last) run
-
--- the firings are the same
-firings_same : (v : Version) (I : Rules) (es : List (Event ℕ)) (g h : Gathered) (run : RunAmong v I g es h) → firings v I es g.state h.state (Run-scattered v I es g h run) ≡ firings_among v I es g h run
-firings_same v I [] g h run = refl
-firings_same v I (Post t a ∷ es) g h run = firings_same v I es run.0 h run.2
-firings_same v I (Activate t l ∷ es) g h run = firings_same v I es run.0 h run.2
-firings_same v I (Fire t r kept removed ∷ es) g h run = ap (λ fs. firing run.1.1 ∷ fs) (firings_same v I es run.0 h run.2)
-firings_same v I (Drop t ∷ es) g h run = firings_same v I es run.0 h run.2
+posts_to_places v I log last run = (scattered v I log (all_posted log) (none_left last) run).0
 
 pub posts_erased : (v : Version) (I : Rules) (log : List (Event ℕ)) (last : State) (run : LawfulPostsFirst v I log last) → AbstractRun I (posted_by log) (firings_among v I log (all_posted log) (none_left last) run) (erase last)
 posts_erased v I log last run =
-    subst (λ fs. AbstractRun I (posted_by log) fs (erase last)) (firings_same v I log (all_posted log) (none_left last) run) (Lawful-erased v I log last (Run-scattered v I log (all_posted log) (none_left last) run))
+    let same = scattered v I log (all_posted log) (none_left last) run in
+    subst (λ fs. AbstractRun I (posted_by log) fs (erase last)) same.1 (Lawful-erased v I log last same.0)

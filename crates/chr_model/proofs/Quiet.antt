@@ -8,7 +8,7 @@ use Rattle.chr_log.specs.declared.events.Version.TheVariants.{One, Two}
 use Rattle.chr_model.specs.Abstract.{Rules}
 use Rattle.chr_model.specs.Stores.{Store, without, among, Carry, Labelled, Final}
 use Rattle.chr_model.specs.Goals.{Goal, Plain, Numbered, Ended, State, start, goal_at, IsNumbered, Quiet}
-use Rattle.chr_model.specs.Steps.{posted, activated, ended, replaced, MayDrop, Simplify, Propagate, Step, Run}
+use Rattle.chr_model.specs.Steps.{activated, ended, replaced, MayDrop, Simplify, Propagate, Step, Run}
 use Rattle.chr_model.specs.Logs.{Lawful}
 use Rattle.chr_model.proofs.Stores.{atom_at-old, atom_at-kept, Labelled-move, Labelled-there}
 
@@ -37,9 +37,12 @@ waiting_open a h = cc
 pub same_label : (k l : ℕ) → Numbered k ≡ Numbered l → k ≡ l
 same_label k l h = cc
 
--- a numbered goal stays one where goals are added
-pub numbered-more : (s : State) (gs hs : List Goal) (store : Store) (next l : ℕ) → (t : ℕ) × (get_or gs t Ended ≡ Numbered l) → IsNumbered (record { goals = gs ++ hs; store = store; next = next }) l
-numbered-more s gs hs store next l h = (h.0, goal_stays gs hs h.0 (Numbered l) (active_open l) h.1)
+-- a numbered goal stays one where goals are added, as by a post, which removes nothing
+pub numbered_stays : (s : State) (gone : List ℕ) (added : List (Atom ℕ)) (t l : ℕ) → goal_at s t ≡ Numbered l → goal_at (replaced s gone added) t ≡ Numbered l
+numbered_stays s gone added t l h = goal_stays s.goals (map Plain added) t (Numbered l) (active_open l) h
+
+pub numbered-replaced : (s : State) (gone : List ℕ) (added : List (Atom ℕ)) (l : ℕ) → IsNumbered s l → IsNumbered (replaced s gone added) l
+numbered-replaced s gone added l h = (h.0, numbered_stays s gone added h.0 l h.1)
 
 -- and where another goal ends
 pub numbered-ended : (s : State) (t l k : ℕ) → goal_at s t ≡ Numbered l → k ≢ l → IsNumbered s k → IsNumbered (ended s t) k
@@ -55,9 +58,6 @@ numbered-new s t a at = (t, get_or-set_same s.goals t (Numbered s.next) Ended (p
 -- in each instance over the store is a label that is a numbered goal
 abbrev pub Guarded : Rules → State → Type 0
 Guarded I s = (r : ℕ) (kept removed : List ℕ) (body : List (Atom ℕ)) → Labelled I s.store r kept removed body → (l : ℕ) × (among (kept ++ removed) l ≡ true) × IsNumbered s l
-
-guarded_posted : (I : Rules) (s : State) (a : Atom ℕ) → Guarded I s → Guarded I (posted s a)
-guarded_posted I s a p r kept removed body i = let q = p r kept removed body i in (q.0, q.1, numbered-more s s.goals (Plain a ∷ []) s.store s.next q.0 q.2)
 
 guarded_activated : (I : Rules) (s : State) (t : ℕ) (a : Atom ℕ) → goal_at s t ≡ Plain a → Guarded I s → Guarded I (activated s t a)
 guarded_activated I s t a at p r kept removed body i =
@@ -79,12 +79,12 @@ guarded_simplified : (I : Rules) (s : State) (t l : ℕ) (gone : List ℕ) (adde
 guarded_simplified I s t l gone added at dead p r kept removed body i =
     let q = p r kept removed body (Labelled-left I s.store gone r kept removed body i) in
     let alive : among gone q.0 ≡ false = Labelled-alive I s.store gone r kept removed body q.0 q.1 i in
-    (q.0, q.1, numbered-more s (ended s t).goals (map Plain added) (without gone s.store) s.next q.0 (numbered-ended s t l q.0 at (λ z. true≢false (sym dead ∙ ap (among gone) (sym z) ∙ alive)) q.2))
+    (q.0, q.1, numbered-replaced (ended s t) gone added q.0 (numbered-ended s t l q.0 at (λ z. true≢false (sym dead ∙ ap (among gone) (sym z) ∙ alive)) q.2))
 
-guarded_propagated : (I : Rules) (s : State) (gone : List ℕ) (added : List (Atom ℕ)) → Guarded I s → Guarded I (replaced s gone added)
-guarded_propagated I s gone added p r kept removed body i =
+guarded_replaced : (I : Rules) (s : State) (gone : List ℕ) (added : List (Atom ℕ)) → Guarded I s → Guarded I (replaced s gone added)
+guarded_replaced I s gone added p r kept removed body i =
     let q = p r kept removed body (Labelled-left I s.store gone r kept removed body i) in
-    (q.0, q.1, numbered-more s s.goals (map Plain added) (without gone s.store) s.next q.0 q.2)
+    (q.0, q.1, numbered-replaced s gone added q.0 q.2)
 
 -- the first condition of a drop is stronger than the second
 pub MayDrop-weaker : (v : Version) (I : Rules) (s : State) (l : ℕ) → MayDrop v I s l → MayDrop Two I s l
@@ -106,10 +106,10 @@ guarded_dropped I s t l at m p r kept removed body i =
 
 guarded_fired : (I : Rules) (s : State) (t r : ℕ) (kept removed : List ℕ) (n : State) → (Simplify I s t r kept removed n ⊎ Propagate I s t r kept removed n) → Guarded I s → Guarded I n
 guarded_fired I s t r kept removed n (inl h) p = subst (Guarded I) (sym h.after) (guarded_simplified I s t h.label removed h.body h.numbered h.stands p)
-guarded_fired I s t r kept removed n (inr h) p = subst (Guarded I) (sym h.after) (guarded_propagated I s removed h.body p)
+guarded_fired I s t r kept removed n (inr h) p = subst (Guarded I) (sym h.after) (guarded_replaced I s removed h.body p)
 
 pub Step-guarded : (v : Version) (I : Rules) (s : State) (e : Event ℕ) (n : State) → Step v I s e n → Guarded I s → Guarded I n
-Step-guarded v I s (Post t a) n h p = subst (Guarded I) (sym h.after) (guarded_posted I s a p)
+Step-guarded v I s (Post t a) n h p = subst (Guarded I) (sym h.after) (guarded_replaced I s [] (a ∷ []) p)
 Step-guarded v I s (Activate t l) n h p = subst (Guarded I) (sym h.after) (guarded_activated I s t h.atom h.plain p)
 Step-guarded v I s (Fire t r kept removed) n h p = guarded_fired I s t r kept removed n h p
 Step-guarded v I s (Drop t) n h p = subst (Guarded I) (sym h.after) (guarded_dropped I s t h.label h.numbered (MayDrop-weaker v I s h.label h.done) p)

@@ -1,18 +1,18 @@
 -- Where searches look at older partners only: the youngest label of each instance is a numbered goal, and that gives the
 -- second condition of a drop.
-use Rattle.std.proofs.Common.{◌≡◌, ◌≢◌, ℕ, ◌<◌, ◌≤◌, true, false, leb, ◌==◌, List, [], ◌∷◌, ◌++◌, map, sym, ◌∙◌, ap, subst, arith, true-eqb, true≢false, refl}
+use Rattle.std.proofs.Common.{◌≡◌, ◌≢◌, ℕ, ◌<◌, ◌≤◌, true, false, leb, ◌==◌, List, [], ◌∷◌, ◌++◌, sym, ◌∙◌, ap, subst, arith, true-eqb, true≢false, refl}
 use Rattle.std.proofs.lemmas.Bool.Decides.{nat_tests}
 use Rattle.chr_value.specs.Atoms.{Atom}
 use Rattle.chr_log.specs.declared.events.Version.TheVariants.{Two}
 use Rattle.chr_model.specs.Abstract.{Rules}
-use Rattle.chr_model.specs.Stores.{without, labels, among}
+use Rattle.chr_model.specs.Stores.{labels, among}
 use Rattle.chr_model.specs.Goals.{Plain, Numbered, State, goal_at, IsNumbered}
 use Rattle.chr_model.specs.Steps.{posted, activated, ended, replaced, MayDrop}
 use Rattle.chr_model.specs.Logs.{times}
 use Rattle.chr_model.specs.Searches.{IsYoungest, YoungestAreGoals, NoneYoungest}
 use Rattle.chr_model.proofs.Stores.{atom_at-old, among-itself, among-more, Labelled-move, Labelled-there, times-there}
 use Rattle.chr_model.proofs.Once.{room, LabelsOnce}
-use Rattle.chr_model.proofs.Quiet.{numbered-more, numbered-ended, numbered-activated, numbered-new, Labelled-left, Labelled-alive}
+use Rattle.chr_model.proofs.Quiet.{numbered-replaced, numbered-ended, numbered-activated, numbered-new, Labelled-left, Labelled-alive}
 
 -- in a list with one more label in front
 split : (x k y : ℕ) (zs : List ℕ) → among (x ∷ zs) k ≡ true → x ≤ y → (among zs k ≡ true → k ≤ y) → k ≤ y
@@ -38,7 +38,7 @@ older_done I s l g none r kept removed body i h =
 
 -- each step keeps that, where no goal is dropped that is some instance's youngest
 pub young_posted : (I : Rules) (s : State) (a : Atom ℕ) → YoungestAreGoals I s → YoungestAreGoals I (posted s a)
-young_posted I s a g r kept removed body i y h = numbered-more s s.goals (Plain a ∷ []) s.store s.next y (g r kept removed body i y h)
+young_posted I s a g r kept removed body i y h = numbered-replaced s [] (a ∷ []) y (g r kept removed body i y h)
 
 pub young_dropped : (I : Rules) (s : State) (t l : ℕ) → goal_at s t ≡ Numbered l → NoneYoungest I s.store l → YoungestAreGoals I s → YoungestAreGoals I (ended s t)
 young_dropped I s t l at none g r kept removed body i y h =
@@ -47,12 +47,12 @@ young_dropped I s t l at none g r kept removed body i y h =
 pub young_simplified : (I : Rules) (s : State) (t l : ℕ) (gone : List ℕ) (added : List (Atom ℕ)) → goal_at s t ≡ Numbered l → among gone l ≡ true → YoungestAreGoals I s → YoungestAreGoals I (replaced (ended s t) gone added)
 young_simplified I s t l gone added at dead g r kept removed body i y h =
     let alive : among gone y ≡ false = Labelled-alive I s.store gone r kept removed body y h.there i in
-    numbered-more s (ended s t).goals (map Plain added) (without gone s.store) s.next y
+    numbered-replaced (ended s t) gone added y
     (numbered-ended s t l y at (λ z. true≢false (sym dead ∙ ap (among gone) (sym z) ∙ alive)) (g r kept removed body (Labelled-left I s.store gone r kept removed body i) y h))
 
 pub young_propagated : (I : Rules) (s : State) (gone : List ℕ) (added : List (Atom ℕ)) → YoungestAreGoals I s → YoungestAreGoals I (replaced s gone added)
 young_propagated I s gone added g r kept removed body i y h =
-    numbered-more s s.goals (map Plain added) (without gone s.store) s.next y (g r kept removed body (Labelled-left I s.store gone r kept removed body i) y h)
+    numbered-replaced s gone added y (g r kept removed body (Labelled-left I s.store gone r kept removed body i) y h)
 
 pub young_activated : (I : Rules) (s : State) (t : ℕ) (a : Atom ℕ) → LabelsOnce s → goal_at s t ≡ Plain a → YoungestAreGoals I s → YoungestAreGoals I (activated s t a)
 young_activated I s t a few at g r kept removed body i y h =

@@ -5,4 +5,4 @@ use Rattle.chr_model.proofs.Programs.{program_fixes}
 use Rattle.chr_model.proofs.laws.last_is_fixed.Goals as goal
 
 pub returns : goal.returns
-returns g c = λ v log last other p q. Run-same v (Instances c.args.program.now) (program_fixes c.args.program.now c.rules-rules.ensures.valid) log start last other p q
+returns g c = λ v log. Run-same v (Instances c.args.program.now) (program_fixes c.args.program.now c.rules-rules.ensures.valid) log start

@@ -3,4 +3,4 @@ use Rattle.chr_model.proofs.Older.{Run-older}
 use Rattle.chr_model.proofs.laws.older_instances_were_there.Goals as goal
 
 pub returns : goal.returns
-returns c = λ v rules events s new run r kept removed body below i. Run-older v (Instances rules) events s new run r kept removed body below i
+returns c = λ v rules. Run-older v (Instances rules)

@@ -3,4 +3,4 @@ use Rattle.chr_model.proofs.Strict.{Lawful-push}
 use Rattle.chr_model.proofs.laws.one_event_more.Goals as goal
 
 pub returns : goal.returns
-returns c = λ v rules log event last new run step. Lawful-push v (Instances rules) log event last new run step
+returns c = λ v rules. Lawful-push v (Instances rules)

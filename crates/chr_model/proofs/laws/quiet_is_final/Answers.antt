@@ -4,4 +4,4 @@ use Rattle.chr_model.proofs.Programs.{program_removes}
 use Rattle.chr_model.proofs.laws.quiet_is_final.Goals as goal
 
 pub returns : goal.returns
-returns c = λ v rules log last run quiet. quiet_final v (Instances rules) (program_removes rules) log last run quiet
+returns c = λ v rules. quiet_final v (Instances rules) (program_removes rules)

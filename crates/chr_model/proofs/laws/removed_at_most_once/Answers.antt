@@ -3,4 +3,4 @@ use Rattle.chr_model.proofs.Once.{removed_once}
 use Rattle.chr_model.proofs.laws.removed_at_most_once.Goals as goal
 
 pub returns : goal.returns
-returns c = λ v rules log last run l. removed_once v (Instances rules) log last run l
+returns c = λ v rules. removed_once v (Instances rules)

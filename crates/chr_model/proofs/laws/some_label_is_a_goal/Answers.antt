@@ -4,4 +4,4 @@ use Rattle.chr_model.proofs.Programs.{program_removes}
 use Rattle.chr_model.proofs.laws.some_label_is_a_goal.Goals as goal
 
 pub returns : goal.returns
-returns c = λ v rules log last run r kept removed body i. Lawful-guarded v (Instances rules) (program_removes rules) log last run r kept removed body i
+returns c = λ v rules. Lawful-guarded v (Instances rules) (program_removes rules)

@@ -4,4 +4,4 @@ use Rattle.chr_model.proofs.Programs.{program_removes}
 use Rattle.chr_model.proofs.laws.strict_is_lawful.Goals as goal
 
 pub returns : goal.returns
-returns c = λ v rules log last run quiet. strict_lawful v (Instances rules) (program_removes rules) log last run quiet
+returns c = λ v rules. strict_lawful v (Instances rules) (program_removes rules)
