@@ -1,6 +1,7 @@
 -- With labels forgotten, the firings of a run are an abstract run.
 use Rattle.std.proofs.Common.{◌≡◌, ℕ, zero, suc, ◌+◌, ◌≤◌, ◌⊎◌, inl, inr, true, false, ◌==◌, if◌then◌else◌, List, [], ◌∷◌, ◌++◌, map, Some, refl, sym, ◌∙◌, ap, subst, arith, get_or, set, append_assoc, append-nil, IsPermutation}
 use Rattle.std.proofs.lemmas.Bool.Decides.{nat_tests}
+use Rattle.std.proofs.lemmas.List.{map-append}
 use Rattle.std.proofs.lemmas.List.Sorted.{IsPermutation-refl, IsPermutation-sym, IsPermutation-cons, IsPermutation-to_front, IsPermutation-append_left, IsPermutation-append_right, IsPermutation-trans, IsPermutation-middle, IsPermutation-append_comm}
 use Rattle.chr_value.specs.Atoms.{Atom}
 use Rattle.chr_log.specs.Events.{Event, Post, Activate, Fire, Drop}
@@ -14,9 +15,6 @@ use Rattle.chr_model.proofs.Stores.{atom_at-drop, atom_at-without, Carry-move, t
 use Rattle.chr_model.proofs.Once.{LabelsOnce, Step-once, start_once}
 
 -- permutations, with lists that antt finds
-abbrev Same : List (Atom ℕ) → List (Atom ℕ) → Type 0
-Same xs ys = IsPermutation xs ys
-
 both : {xs ys zs : List (Atom ℕ)} → IsPermutation xs ys → IsPermutation ys zs → IsPermutation xs zs
 both {xs} {ys} {zs} p q = IsPermutation-trans xs ys zs p q
 
@@ -36,7 +34,7 @@ swapped : (a b : Atom ℕ) (xs : List (Atom ℕ)) → IsPermutation (a ∷ b ∷
 swapped a b xs = IsPermutation-middle (a ∷ []) b xs
 
 shift : (w x y : List (Atom ℕ)) → IsPermutation (w ++ (x ++ y)) (x ++ (w ++ y))
-shift w x y = both (equal (w ++ (x ++ y)) ((w ++ x) ++ y) (sym (append_assoc w x y))) (both (back y (IsPermutation-append_comm w x)) (equal ((x ++ w) ++ y) (x ++ (w ++ y)) (append_assoc x w y)))
+shift w x y = simp append_assoc at (back y (IsPermutation-append_comm w x))
 
 mix : (w x k r : List (Atom ℕ)) → IsPermutation (w ++ (x ++ (k ++ r))) (x ++ (k ++ (w ++ r)))
 mix w x k r = both (shift w x (k ++ r)) (front x (shift w k r))
@@ -44,11 +42,7 @@ mix w x k r = both (shift w x (k ++ r)) (front x (shift w k r))
 -- the atoms of a store, without those of some labels
 drop_none : (l : ℕ) (st : Store) → times l (labels st) ≡ 0 → drop_label l st ≡ st
 drop_none l [] h = refl
-drop_none l (e ∷ es) h =
-    elim (e.0 == l) as (λ b. (if b then 1 else 0) + times l (labels es) ≡ 0 → (if b then drop_label l es else e ∷ drop_label l es) ≡ e ∷ es) [
-      | true ↦ λ z. absurd (omega arith)
-      | false ↦ λ z. ap (λ xs. e ∷ xs) (drop_none l es (omega arith))
-    ] h
+drop_none l (e ∷ es) h = grind (arith, nat_tests, drop_none l es)
 
 one_out : (st : Store) (l : ℕ) (a : Atom ℕ) → times l (labels st) ≤ 1 → atom_at st l ≡ Some a → IsPermutation (atoms st) (a ∷ atoms (drop_label l st))
 one_out [] l a u h = absurd (cc)
@@ -97,21 +91,12 @@ plain_ended (Ended ∷ gs) (suc t) l h = plain_ended gs t l h
 
 -- what each kind of event does to the multiset
 erase_posted : (s : State) (a : Atom ℕ) (rest : List (Atom ℕ)) → IsPermutation (erase s ++ (a ∷ rest)) (erase (posted s a) ++ rest)
-erase_posted s a rest =
-    let e : plain_goals (s.goals ++ Plain a ∷ []) ≡ plain_goals s.goals ++ a ∷ [] = plain_goals-append s.goals (Plain a ∷ []) in
-    both (IsPermutation-middle (erase s) a rest)
-    (IsPermutation-sym _ _ (back rest (back (atoms s.store) (subst (λ w. IsPermutation w (a ∷ plain_goals s.goals)) (sym e) (IsPermutation-to_front (plain_goals s.goals) a)))))
-
-atoms-push : (st : Store) (n : ℕ) (a : Atom ℕ) → atoms (st ++ (n, a) ∷ []) ≡ atoms st ++ a ∷ []
-atoms-push [] n a = refl
-atoms-push (e ∷ es) n a = ap (λ xs. e.1 ∷ xs) (atoms-push es n a)
+erase_posted s a rest = simp (plain_goals-append, append_assoc) (front (plain_goals s.goals) (IsPermutation-middle (atoms s.store) a rest))
 
 erase_activated : (s : State) (t : ℕ) (a : Atom ℕ) → goal_at s t ≡ Plain a → IsPermutation (erase s) (erase (activated s t a))
 erase_activated s t a h =
-    let w = plain_goals (set s.goals t (Numbered s.next)) in
-    let e : erase (activated s t a) ≡ (w ++ atoms s.store) ++ a ∷ [] = ap (λ xs. w ++ xs) (atoms-push s.store s.next a) ∙ sym (append_assoc w (atoms s.store) (a ∷ [])) in
-    both (back (atoms s.store) (plain_activated s.goals t a s.next h))
-    (IsPermutation-sym _ _ (subst (λ x. IsPermutation x (a ∷ (w ++ atoms s.store))) (sym e) (IsPermutation-to_front (w ++ atoms s.store) a)))
+    let left = plain_goals (set s.goals t (Numbered s.next)) ++ atoms s.store in
+    simp map-append (both (back (atoms s.store) (plain_activated s.goals t a s.next h)) (IsPermutation-sym _ _ (simp append_assoc at (IsPermutation-to_front left a))))
 
 erase_ended : (s : State) (t l : ℕ) → goal_at s t ≡ Numbered l → erase (ended s t) ≡ erase s
 erase_ended s t l h = ap (λ w. w ++ atoms s.store) (plain_ended s.goals t l h)
@@ -128,32 +113,27 @@ erase_replaced I s r kept removed body u i =
     let out : IsPermutation (atoms s.store) (i.removed_atoms ++ atoms mid) = all_out removed i.removed_atoms s.store few (Distinct-right kept removed i.distinct) i.removed_there in
     let stay : Carry mid kept i.kept_atoms = Carry-move s.store mid kept i.kept_atoms (λ q b j e. let n : among removed q ≡ false = apart kept removed q i.distinct j in grind (arith, atom_at-without removed s.store q)) i.kept_there in
     let kept_out : IsPermutation (atoms mid) (i.kept_atoms ++ rest) = all_out kept i.kept_atoms mid (λ k. grind (arith, times-without k removed s.store, few k)) (Distinct-left kept removed i.distinct) stay in
-    let goals : plain_goals (s.goals ++ map Plain body) ≡ w ++ body = plain_goals-append s.goals (map Plain body) ∙ ap (λ xs. w ++ xs) (plain_goals-map body) in
     record {
       rest = w ++ rest;
       instance = i.instance;
       before = both (front w (both out (front i.removed_atoms kept_out))) (mix w i.removed_atoms i.kept_atoms rest);
-      after = subst (λ x. IsPermutation (x ++ atoms mid) (body ++ (i.kept_atoms ++ (w ++ rest)))) (sym goals)
-          (both (equal ((w ++ body) ++ atoms mid) (w ++ (body ++ atoms mid)) (append_assoc w body (atoms mid))) (both (front w (front body kept_out)) (mix w body i.kept_atoms rest)));
+      after = simp (plain_goals-append, plain_goals-map, append_assoc) (both (front w (front body kept_out)) (mix w body i.kept_atoms rest));
     }
 
-erase_simplified : (I : Rules) (s : State) (t l r : ℕ) (kept removed : List ℕ) (body : List (Atom ℕ)) → LabelsOnce s → goal_at s t ≡ Numbered l → (i : Labelled I s.store r kept removed body) → AbstractStep I (firing_by I s.store r kept removed body i) (erase s) (erase (replaced (ended s t) removed body))
-erase_simplified I s t l r kept removed body u g i = subst (λ x. AbstractStep I (firing_by I s.store r kept removed body i) x (erase (replaced (ended s t) removed body))) (erase_ended s t l g) (erase_replaced I (ended s t) r kept removed body u i)
+AbstractStep-between : {I : Rules} {f : Firing} {old new from to : List (Atom ℕ)} → old ≡ from → new ≡ to → AbstractStep I f old new → AbstractStep I f from to
+AbstractStep-between p q step = rw (← p, ← q) step
 
 erase_fired : (I : Rules) (s : State) (t r : ℕ) (kept removed : List ℕ) (n : State) → LabelsOnce s → (step : Simplify I s t r kept removed n ⊎ Propagate I s t r kept removed n) → AbstractStep I (firing step) (erase s) (erase n)
-erase_fired I s t r kept removed n u (inl h) = subst (λ m. AbstractStep I (firing_by I s.store r kept removed h.body h.instance) (erase s) (erase m)) (sym h.after) (erase_simplified I s t h.label r kept removed h.body u h.numbered h.instance)
-erase_fired I s t r kept removed n u (inr h) = subst (λ m. AbstractStep I (firing_by I s.store r kept removed h.body h.instance) (erase s) (erase m)) (sym h.after) (erase_replaced I s r kept removed h.body u h.instance)
+erase_fired I s t r kept removed n u (inl h) = AbstractStep-between (erase_ended s t h.label h.numbered) (ap erase (sym h.after)) (erase_replaced I (ended s t) r kept removed h.body u h.instance)
+erase_fired I s t r kept removed n u (inr h) = AbstractStep-between refl (ap erase (sym h.after)) (erase_replaced I s r kept removed h.body u h.instance)
 
 -- what else is there stays there
-regroup : (x k r t : List (Atom ℕ)) → (x ++ (k ++ r)) ++ t ≡ x ++ (k ++ (r ++ t))
-regroup x k r t = append_assoc x (k ++ r) t ∙ ap (λ ys. x ++ ys) (append_assoc k r t)
-
 pub AbstractStep-frame : (I : Rules) (f : Firing) (old new more : List (Atom ℕ)) → AbstractStep I f old new → AbstractStep I f (old ++ more) (new ++ more)
 AbstractStep-frame I f old new more s = record {
   rest = s.rest ++ more;
   instance = s.instance;
-  before = both (back more s.before) (equal ((f.removed ++ (f.kept ++ s.rest)) ++ more) (f.removed ++ (f.kept ++ (s.rest ++ more))) (regroup f.removed f.kept s.rest more));
-  after = both (back more s.after) (equal ((f.body ++ (f.kept ++ s.rest)) ++ more) (f.body ++ (f.kept ++ (s.rest ++ more))) (regroup f.body f.kept s.rest more));
+  before = simp append_assoc at (back more s.before);
+  after = simp append_assoc at (back more s.after);
 }
 
 pub AbstractRun-frame : (I : Rules) (fs : List Firing) (old new more : List (Atom ℕ)) → AbstractRun I old fs new → AbstractRun I (old ++ more) fs (new ++ more)
@@ -169,23 +149,19 @@ AbstractRun-from I (f ∷ fs) old same new p run =
 pub Run-erased : (v : Version) (I : Rules) (es : List (Event ℕ)) (s n : State) → LabelsOnce s → (run : Run v I s es n) → AbstractRun I (erase s ++ posted_by es) (firings v I es s n run) (erase n)
 Run-erased v I [] s n u run = equal (erase s ++ []) (erase n) (append-nil (erase s) ∙ ap erase (sym run))
 Run-erased v I (Post t a ∷ es) s n u run =
-    let next = Run-erased v I es run.0 n (Step-once v I s (Post t a) run.0 run.1 u) run.2 in
-    AbstractRun-from I (firings v I es run.0 n run.2) (erase s ++ (a ∷ posted_by es)) (erase run.0 ++ posted_by es) (erase n)
-    (subst (λ m. IsPermutation (erase s ++ (a ∷ posted_by es)) (erase m ++ posted_by es)) (sym run.1.after) (erase_posted s a (posted_by es))) next
+    AbstractRun-from I _ _ _ _ (subst (λ m. IsPermutation (erase s ++ (a ∷ posted_by es)) (erase m ++ posted_by es)) (sym run.1.after) (erase_posted s a (posted_by es)))
+    (Run-erased v I es run.0 n (Step-once v I s (Post t a) run.0 run.1 u) run.2)
 Run-erased v I (Activate t l ∷ es) s n u run =
-    let next = Run-erased v I es run.0 n (Step-once v I s (Activate t l) run.0 run.1 u) run.2 in
-    AbstractRun-from I (firings v I es run.0 n run.2) (erase s ++ posted_by es) (erase run.0 ++ posted_by es) (erase n)
-    (back (posted_by es) (subst (λ m. IsPermutation (erase s) (erase m)) (sym run.1.after) (erase_activated s t run.1.atom run.1.plain))) next
-Run-erased v I (Fire t r kept removed ∷ es) s n u run =
-    let next = Run-erased v I es run.0 n (Step-once v I s (Fire t r kept removed) run.0 run.1 u) run.2 in (
-      erase run.0 ++ posted_by es,
-      AbstractStep-frame I (firing run.1) (erase s) (erase run.0) (posted_by es) (erase_fired I s t r kept removed run.0 u run.1),
-      next,
-    )
+    AbstractRun-from I _ _ _ _ (back (posted_by es) (subst (λ m. IsPermutation (erase s) (erase m)) (sym run.1.after) (erase_activated s t run.1.atom run.1.plain)))
+    (Run-erased v I es run.0 n (Step-once v I s (Activate t l) run.0 run.1 u) run.2)
+Run-erased v I (Fire t r kept removed ∷ es) s n u run = (
+  erase run.0 ++ posted_by es,
+  AbstractStep-frame I (firing run.1) (erase s) (erase run.0) (posted_by es) (erase_fired I s t r kept removed run.0 u run.1),
+  Run-erased v I es run.0 n (Step-once v I s (Fire t r kept removed) run.0 run.1 u) run.2,
+)
 Run-erased v I (Drop t ∷ es) s n u run =
-    let next = Run-erased v I es run.0 n (Step-once v I s (Drop t) run.0 run.1 u) run.2 in
-    AbstractRun-from I (firings v I es run.0 n run.2) (erase s ++ posted_by es) (erase run.0 ++ posted_by es) (erase n)
-    (back (posted_by es) (equal (erase s) (erase run.0) (sym (ap erase run.1.after ∙ erase_ended s t run.1.label run.1.numbered)))) next
+    AbstractRun-from I _ _ _ _ (back (posted_by es) (equal (erase s) (erase run.0) (sym (ap erase run.1.after ∙ erase_ended s t run.1.label run.1.numbered))))
+    (Run-erased v I es run.0 n (Step-once v I s (Drop t) run.0 run.1 u) run.2)
 
 pub Lawful-erased : (v : Version) (I : Rules) (log : List (Event ℕ)) (last : State) → (run : Lawful v I log last) → AbstractRun I (posted_by log) (firings v I log start last run) (erase last)
 Lawful-erased v I log last run = Run-erased v I log start last start_once run

@@ -1,5 +1,6 @@
 -- Labels are given once, and removed at most once.
-use Rattle.std.proofs.Common.{◌≡◌, ℕ, ◌+◌, ◌≤◌, ◌⊎◌, inl, inr, true, false, cond, leb, List, [], ◌∷◌, ◌++◌, length, refl, sym, ◌∙◌, ap, subst, arith}
+use Rattle.std.proofs.Common.{◌≡◌, ℕ, ◌+◌, ◌≤◌, ◌⊎◌, inl, inr, true, false, cond, leb, List, [], ◌∷◌, length, refl, sym, ◌∙◌, ap, subst, arith}
+use Rattle.std.proofs.lemmas.List.{map-append}
 use Rattle.std.proofs.lemmas.Bool.Decides.{nat_tests}
 use Rattle.chr_value.specs.Atoms.{Atom}
 use Rattle.chr_log.specs.Events.{Event, Post, Activate, Fire, Drop}
@@ -9,7 +10,7 @@ use Rattle.chr_model.specs.Stores.{Store, without, labels, among, Distinct, Carr
 use Rattle.chr_model.specs.Goals.{State, start}
 use Rattle.chr_model.specs.Steps.{activated, ended, replaced, Simplify, Propagate, Step, Run}
 use Rattle.chr_model.specs.Logs.{Lawful, removed_by, given_by, times, up_from}
-use Rattle.chr_model.proofs.Stores.{Carry-there, labels-push, times-append, times-without, times-none, times-distinct, times-there, Distinct-right}
+use Rattle.chr_model.proofs.Stores.{Carry-there, times-append, times-without, times-none, times-distinct, times-there, Distinct-right}
 
 -- what is removed leaves as much room
 times_removed : (l : ℕ) (st : Store) (ls : List ℕ) (as' : List (Atom ℕ)) → Distinct ls → Carry st ls as' → times l ls + times l (labels (without ls st)) ≤ times l (labels st)
@@ -37,7 +38,7 @@ LabelsOnce s = (l : ℕ) → room l s ≤ 1
 
 room_activated : (l : ℕ) (s : State) (t : ℕ) (a : Atom ℕ) → room l (activated s t a) ≤ room l s
 room_activated l s t a =
-    let e : times l (labels (s.store ++ (s.next, a) ∷ [])) ≡ times l (labels s.store) + times l (s.next ∷ []) = ap (times l) (labels-push s.store s.next a) ∙ times-append l (labels s.store) (s.next ∷ []) in
+    let e : times l (labels (activated s t a).store) ≡ times l (labels s.store) + times l (s.next ∷ []) = simp map-append (times-append l (labels s.store) (s.next ∷ [])) in
     grind (arith, nat_tests)
 
 room_replaced : (l : ℕ) (I : Rules) (s : State) (r : ℕ) (kept removed : List ℕ) (body : List (Atom ℕ)) → Labelled I s.store r kept removed body → times l removed + room l (replaced s removed body) ≤ room l s

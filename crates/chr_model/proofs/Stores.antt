@@ -1,5 +1,5 @@
 -- Laws of stores.
-use Rattle.std.proofs.Common.{◌≡◌, ◌≢◌, ℕ, ◌+◌, ◌≤◌, true, false, ◌||◌, ◌==◌, if◌then◌else◌, List, [], ◌∷◌, ◌++◌, Some, None, refl, sym, ◌∙◌, ap, ap₂, subst, arith, true-eqb}
+use Rattle.std.proofs.Common.{◌≡◌, ◌≢◌, ℕ, ◌+◌, ◌≤◌, true, false, ◌||◌, ◌==◌, if◌then◌else◌, List, [], ◌∷◌, ◌++◌, Some, None, refl, sym, ◌∙◌, ap₂, subst, arith, true-eqb}
 use Rattle.std.proofs.lemmas.Bool.Decides.{nat_tests}
 use Rattle.chr_value.specs.Atoms.{Atom}
 use Rattle.chr_model.specs.Abstract.{Rules}
@@ -106,10 +106,6 @@ Distinct-right (x ∷ xs) ys h = Distinct-right xs ys h.1
 pub times-append : (l : ℕ) (xs ys : List ℕ) → times l (xs ++ ys) ≡ times l xs + times l ys
 times-append l [] ys = omega arith
 times-append l (x ∷ xs) ys = grind (arith, nat_tests, times-append l xs ys)
-
-pub labels-push : (st : Store) (n : ℕ) (a : Atom ℕ) → labels (st ++ (n, a) ∷ []) ≡ labels st ++ n ∷ []
-labels-push [] n a = refl
-labels-push (e ∷ es) n a = ap (λ xs. e.0 ∷ xs) (labels-push es n a)
 
 pub times-drop : (l q : ℕ) (st : Store) → times l (labels (drop_label q st)) ≡ (if q == l then 0 else times l (labels st))
 times-drop l q [] = grind (arith, nat_tests)
