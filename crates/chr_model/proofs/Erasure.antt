@@ -78,16 +78,14 @@ plain_goals-map (a ∷ body) = ap (λ xs. a ∷ xs) (plain_goals-map body)
 plain_activated : (gs : List Goal) (t : ℕ) (a : Atom ℕ) (l : ℕ) → get_or gs t Ended ≡ Plain a → IsPermutation (plain_goals gs) (a ∷ plain_goals (set gs t (Numbered l)))
 plain_activated [] t a l h = absurd (let c : Ended ≡ Plain a = h in cc)
 plain_activated (g ∷ gs) zero a l h = subst (λ x. IsPermutation (plain_goals (x ∷ gs)) (a ∷ plain_goals gs)) (sym h) (IsPermutation-refl (a ∷ plain_goals gs))
-plain_activated (Plain b ∷ gs) (suc t) a l h = both (one_more b (plain_activated gs t a l h)) (swapped b a (plain_goals (set gs t (Numbered l))))
-plain_activated (Numbered k ∷ gs) (suc t) a l h = plain_activated gs t a l h
-plain_activated (Ended ∷ gs) (suc t) a l h = plain_activated gs t a l h
+plain_activated (g ∷ gs) (suc t) a l h =
+    let others = plain_goals (set gs t (Numbered l)) in
+    rw (plain_goals-append (g ∷ []) gs, plain_goals-append (g ∷ []) (set gs t (Numbered l))) (both (front (plain_goals (g ∷ [])) (plain_activated gs t a l h)) (IsPermutation-middle (plain_goals (g ∷ [])) a others))
 
 plain_ended : (gs : List Goal) (t l : ℕ) → get_or gs t Ended ≡ Numbered l → plain_goals (set gs t Ended) ≡ plain_goals gs
 plain_ended [] t l h = refl
 plain_ended (g ∷ gs) zero l h = ap (λ x. plain_goals (x ∷ gs)) (sym h)
-plain_ended (Plain b ∷ gs) (suc t) l h = ap (λ xs. b ∷ xs) (plain_ended gs t l h)
-plain_ended (Numbered k ∷ gs) (suc t) l h = plain_ended gs t l h
-plain_ended (Ended ∷ gs) (suc t) l h = plain_ended gs t l h
+plain_ended (g ∷ gs) (suc t) l h = rw (plain_goals-append (g ∷ []) gs, plain_goals-append (g ∷ []) (set gs t Ended), plain_ended gs t l h)
 
 -- what each kind of event does to the multiset
 erase_posted : (s : State) (a : Atom ℕ) (rest : List (Atom ℕ)) → IsPermutation (erase s ++ (a ∷ rest)) (erase (posted s a) ++ rest)

@@ -68,18 +68,21 @@ guarded_activated I s t a at p r kept removed body i =
           (q.0, q.1, numbered-activated s t a q.0 at q.2)
     ] refl
 
--- an instance over what is left was one before, and none of its labels was removed
+-- an instance over what is left was one before
 pub Labelled-left : (I : Rules) (s : Store) (gone : List ℕ) (r : ℕ) (kept removed : List ℕ) (body : List (Atom ℕ)) → Labelled I (without gone s) r kept removed body → Labelled I s r kept removed body
 Labelled-left I s gone r kept removed body i = Labelled-move I (without gone s) s r kept removed body (λ l a j h. (atom_at-kept gone s l a h).0) i
 
-pub Labelled-alive : (I : Rules) (s : Store) (gone : List ℕ) (r : ℕ) (kept removed : List ℕ) (body : List (Atom ℕ)) (l : ℕ) → among (kept ++ removed) l ≡ true → Labelled I (without gone s) r kept removed body → among gone l ≡ false
-Labelled-alive I s gone r kept removed body l h i = let there = Labelled-there I (without gone s) r kept removed body l h i in (atom_at-kept gone s l there.0 there.1).1
+-- none of its labels was removed: where the goal of a removed label ends, theirs stay
+pub numbered_left : (I : Rules) (s : State) (t l : ℕ) (gone : List ℕ) (added : List (Atom ℕ)) (r : ℕ) (kept removed : List ℕ) (body : List (Atom ℕ)) (k : ℕ) → goal_at s t ≡ Numbered l → among gone l ≡ true → Labelled I (without gone s.store) r kept removed body → among (kept ++ removed) k ≡ true → IsNumbered s k → IsNumbered (replaced (ended s t) gone added) k
+numbered_left I s t l gone added r kept removed body k at dead i j h =
+    let there = Labelled-there I (without gone s.store) r kept removed body k j i in
+    let alive : among gone k ≡ false = (atom_at-kept gone s.store k there.0 there.1).1 in
+    numbered-replaced (ended s t) gone added k (numbered-ended s t l k at (λ z. true≢false (sym dead ∙ ap (among gone) (sym z) ∙ alive)) h)
 
 guarded_simplified : (I : Rules) (s : State) (t l : ℕ) (gone : List ℕ) (added : List (Atom ℕ)) → goal_at s t ≡ Numbered l → among gone l ≡ true → Guarded I s → Guarded I (replaced (ended s t) gone added)
 guarded_simplified I s t l gone added at dead p r kept removed body i =
     let q = p r kept removed body (Labelled-left I s.store gone r kept removed body i) in
-    let alive : among gone q.0 ≡ false = Labelled-alive I s.store gone r kept removed body q.0 q.1 i in
-    (q.0, q.1, numbered-replaced (ended s t) gone added q.0 (numbered-ended s t l q.0 at (λ z. true≢false (sym dead ∙ ap (among gone) (sym z) ∙ alive)) q.2))
+    (q.0, q.1, numbered_left I s t l gone added r kept removed body q.0 at dead i q.1 q.2)
 
 guarded_replaced : (I : Rules) (s : State) (gone : List ℕ) (added : List (Atom ℕ)) → Guarded I s → Guarded I (replaced s gone added)
 guarded_replaced I s gone added p r kept removed body i =
@@ -118,17 +121,13 @@ Step-guarded v I s (Drop t) n h p = subst (Guarded I) (sym h.after) (guarded_dro
 abbrev pub Removes : Rules → Type 0
 Removes I = (r : ℕ) (kept removed body : List (Atom ℕ)) → I r kept removed body → removed ≢ []
 
+none_carried : (ls : List ℕ) (as' : List (Atom ℕ)) → Carry [] ls as' → as' ≡ []
+none_carried ls [] c = refl
+none_carried [] (a ∷ as') c = absurd c
+none_carried (l ∷ ls) (a ∷ as') c = cc
+
 guarded_start : (I : Rules) → Removes I → Guarded I start
-guarded_start I rem r kept [] body i = absurd (no_labels i.removed_atoms i.removed_there (rem r i.kept_atoms i.removed_atoms body i.instance))
-  where
-    no_labels : (as' : List (Atom ℕ)) → Carry [] [] as' → as' ≢ [] → ⊥
-    no_labels [] h ne = ne refl
-    no_labels (a ∷ as') h ne = h
-guarded_start I rem r kept (l ∷ removed) body i = absurd (no_label i.removed_atoms i.removed_there)
-  where
-    no_label : (as' : List (Atom ℕ)) → Carry [] (l ∷ removed) as' → ⊥
-    no_label [] h = h
-    no_label (a ∷ as') h = cc
+guarded_start I rem r kept removed body i = absurd (rem r i.kept_atoms i.removed_atoms body i.instance (none_carried removed i.removed_atoms i.removed_there))
 
 pub Lawful-guarded : (v : Version) (I : Rules) → Removes I → (log : List (Event ℕ)) (last : State) → Lawful v I log last → Guarded I last
 Lawful-guarded v I rem log last run = Run-keeps (Guarded I) v I (Step-guarded v I) log start last run (guarded_start I rem)

@@ -88,11 +88,7 @@ Labelled-there I s r kept removed body l h i =
 -- distinct labels
 pub apart : (xs ys : List ℕ) (l : ℕ) → Distinct (xs ++ ys) → among xs l ≡ true → among ys l ≡ false
 apart [] ys l d h = absurd (cc)
-apart (x ∷ xs) ys l d h =
-    elim (x == l) as (λ b. (x == l ≡ b) → (b || among xs l) ≡ true → among ys l ≡ false) [
-      | true ↦ λ e _. let n : among (xs ++ ys) l ≡ false = subst (λ k. among (xs ++ ys) k ≡ false) (true-eqb x l (sym e)) d.0 in grind (arith, nat_tests, among-append xs ys l)
-      | false ↦ λ e i. apart xs ys l d.1 i
-    ] refl h
+apart (x ∷ xs) ys l d h = grind (arith, nat_tests, apart xs ys l d.1, among-append xs ys x, d.0)
 
 pub Distinct-left : (xs ys : List ℕ) → Distinct (xs ++ ys) → Distinct xs
 Distinct-left [] ys d = tt
@@ -121,11 +117,7 @@ times-none l (x ∷ xs) h = grind (arith, nat_tests, times-none l xs)
 
 pub times-distinct : (l : ℕ) (ls : List ℕ) → Distinct ls → times l ls ≤ 1
 times-distinct l [] h = omega arith
-times-distinct l (x ∷ xs) h =
-    elim (x == l) as (λ b. (x == l ≡ b) → times l (x ∷ xs) ≤ 1) [
-      | true ↦ λ e. let z : times l xs ≡ 0 = times-none l xs (subst (λ k. among xs k ≡ false) (true-eqb x l (sym e)) h.0) in grind (arith, nat_tests)
-      | false ↦ λ e. grind (arith, nat_tests, times-distinct l xs h.1)
-    ] refl
+times-distinct l (x ∷ xs) h = grind (arith, nat_tests, times-distinct l xs h.1, times-none l xs, h.0)
 
 pub times-there : (l : ℕ) (st : Store) (a : Atom ℕ) → atom_at st l ≡ Some a → 1 ≤ times l (labels st)
 times-there l [] a h = cc

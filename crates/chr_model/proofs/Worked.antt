@@ -58,16 +58,8 @@ fires rules r st j k a b body i differ at_j at_k = record {
 abbrev numbers : ℕ → ℕ → ℕ → Valuation
 numbers x y z v = slice_index_or (Some (Int (pos x)) ∷ Some (Int (pos y)) ∷ Some (Int (pos z)) ∷ []) v None
 
--- atoms of other names or numbers
 other_name : (a b : Atom ℕ) → a.name ≢ b.name → a ≢ b
 other_name a b ne e = ne (ap (λ x. x.name) e)
-
-abbrev first_number : List (Value ℕ) → ℕ
-first_number [] = 0
-first_number (Int (pos n) ∷ ts) = n
-first_number (Int (negsuc n) ∷ ts) = 0
-first_number (Sym s ∷ ts) = 0
-first_number (Comp s vs ∷ ts) = 0
 
 -- a rule of two heads or more has no instance over one constraint
 two_heads : (I : Rules) (rule : Simpagation ℕ) → 2 ≤ length rule.kept + length rule.removed → (k : ℕ) (a : Atom ℕ) (r : ℕ) (kept removed : List ℕ) (body : List (Atom ℕ)) (i : Labelled I ((k, a) ∷ []) r kept removed body) → Instance rule i.kept_atoms i.removed_atoms body → ⊥
@@ -88,7 +80,8 @@ gcd_alone k n ne r kept removed body i = zero_or_mod (of_two gcd_zero gcd_mod r 
     zero_or_mod : (Instance gcd_zero i.kept_atoms i.removed_atoms body ⊎ Instance gcd_mod i.kept_atoms i.removed_atoms body) → ⊥
     zero_or_mod (inl one) =
         let at = carry_one ((k, gcd n) ∷ []) removed i.removed_atoms (gcd 0) (somes i.removed_atoms (gcd 0 ∷ []) (sym one.removed_are)) i.removed_there in
-        ne (ap (λ a. first_number a.args) (only_atom k (gcd n) at.0 (gcd 0) at.2).1)
+        let same : (gcd n).args ≡ (gcd 0).args = ap (λ a. a.args) (only_atom k (gcd n) at.0 (gcd 0) at.2).1 in
+        ne (cc)
     zero_or_mod (inr one) = two_heads (Instances gcd_rules) gcd_mod (omega arith) k (gcd n) r kept removed body i one
 
 pub gcd_nine_six : Labelled (Instances gcd_rules) ((1, gcd 9) ∷ (2, gcd 6) ∷ []) 2 (2 ∷ []) (1 ∷ []) (gcd 3 ∷ [])
@@ -122,11 +115,11 @@ pair_fires = record {
 }
 
 pub one_label : (v : Version) (s last : State) → Run v (Instances pair_rules) s (drop 1 pair_log_one_label) last → ⊥
-one_label v s last run = two_heads run.2.1
+one_label v s last run = apart run.2.1
   where
-    two_heads : (Simplify (Instances pair_rules) run.0 1 1 [] (1 ∷ 1 ∷ []) run.2.0 ⊎ Propagate (Instances pair_rules) run.0 1 1 [] (1 ∷ 1 ∷ []) run.2.0) → ⊥
-    two_heads (inl h) = true≢false h.instance.distinct.0
-    two_heads (inr h) = true≢false h.instance.distinct.0
+    apart : (Simplify (Instances pair_rules) run.0 1 1 [] (1 ∷ 1 ∷ []) run.2.0 ⊎ Propagate (Instances pair_rules) run.0 1 1 [] (1 ∷ 1 ∷ []) run.2.0) → ⊥
+    apart (inl h) = true≢false h.instance.distinct.0
+    apart (inr h) = true≢false h.instance.distinct.0
 
 -- The least number.
 pub min_alone : (k : ℕ) (a : Atom ℕ) → Final (Instances min_rules) ((k, a) ∷ [])

@@ -12,7 +12,7 @@ use Rattle.chr_model.specs.Logs.{times}
 use Rattle.chr_model.specs.Searches.{IsYoungest, YoungestAreGoals, NoneYoungest}
 use Rattle.chr_model.proofs.Stores.{atom_at-old, among-itself, among-more, Labelled-move, Labelled-there, times-there}
 use Rattle.chr_model.proofs.Once.{room, LabelsOnce}
-use Rattle.chr_model.proofs.Quiet.{numbered-replaced, numbered-ended, numbered-activated, numbered-new, Labelled-left, Labelled-alive}
+use Rattle.chr_model.proofs.Quiet.{numbered-replaced, numbered-ended, numbered-activated, numbered-new, Labelled-left, numbered_left}
 
 -- in a list with one more label in front
 split : (x k y : ℕ) (zs : List ℕ) → among (x ∷ zs) k ≡ true → x ≤ y → (among zs k ≡ true → k ≤ y) → k ≤ y
@@ -46,9 +46,7 @@ young_dropped I s t l at none g r kept removed body i y h =
 
 pub young_simplified : (I : Rules) (s : State) (t l : ℕ) (gone : List ℕ) (added : List (Atom ℕ)) → goal_at s t ≡ Numbered l → among gone l ≡ true → YoungestAreGoals I s → YoungestAreGoals I (replaced (ended s t) gone added)
 young_simplified I s t l gone added at dead g r kept removed body i y h =
-    let alive : among gone y ≡ false = Labelled-alive I s.store gone r kept removed body y h.there i in
-    numbered-replaced (ended s t) gone added y
-    (numbered-ended s t l y at (λ z. true≢false (sym dead ∙ ap (among gone) (sym z) ∙ alive)) (g r kept removed body (Labelled-left I s.store gone r kept removed body i) y h))
+    numbered_left I s t l gone added r kept removed body y at dead i h.there (g r kept removed body (Labelled-left I s.store gone r kept removed body i) y h)
 
 pub young_propagated : (I : Rules) (s : State) (gone : List ℕ) (added : List (Atom ℕ)) → YoungestAreGoals I s → YoungestAreGoals I (replaced s gone added)
 young_propagated I s gone added g r kept removed body i y h =
