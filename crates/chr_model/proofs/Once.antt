@@ -15,18 +15,8 @@ use Rattle.chr_model.proofs.Stores.{Carry-there, times-append, times-without, ti
 -- what is removed leaves as much room
 times_removed : (l : ℕ) (st : Store) (ls : List ℕ) (as' : List (Atom ℕ)) → Distinct ls → Carry st ls as' → times l ls + times l (labels (without ls st)) ≤ times l (labels st)
 times_removed l st ls as' d c =
-    elim (among ls l) as (λ b. (among ls l ≡ b) → times l ls + times l (labels (without ls st)) ≤ times l (labels st)) [
-      | true ↦ λ e.
-          let at = Carry-there st ls as' l e c in
-          let one : 1 ≤ times l (labels st) = times-there l st at.0 at.1 in
-          let few : times l ls ≤ 1 = times-distinct l ls d in
-          let gone : times l (labels (without ls st)) ≡ 0 = grind (arith, times-without l ls st) in
-          omega arith
-      | false ↦ λ e.
-          let none : times l ls ≡ 0 = times-none l ls e in
-          let same : times l (labels (without ls st)) ≡ times l (labels st) = grind (arith, times-without l ls st) in
-          omega arith
-    ] refl
+    let stood : among ls l ≡ true → 1 ≤ times l (labels st) = λ e. let at = Carry-there st ls as' l e c in times-there l st at.0 at.1 in
+    grind (arith, nat_tests, stood, times-without l ls st, times-distinct l ls d, times-none l ls)
 
 -- how often a label stands in the store or is still to come
 abbrev pub room : ℕ → State → ℕ

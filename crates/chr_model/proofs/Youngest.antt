@@ -14,11 +14,6 @@ use Rattle.chr_model.proofs.Stores.{atom_at-old, among-itself, among-more, Label
 use Rattle.chr_model.proofs.Once.{room, LabelsOnce}
 use Rattle.chr_model.proofs.Quiet.{numbered-replaced, numbered-ended, numbered-activated, numbered-new, Labelled-left, numbered_left}
 
--- in a list with one more label in front
-split : (x k y : ℕ) (zs : List ℕ) → among (x ∷ zs) k ≡ true → x ≤ y → (among zs k ≡ true → k ≤ y) → k ≤ y
-split x k y zs j le f =
-    elim (x == k) as (λ b. (x == k ≡ b) → k ≤ y) [ true ↦ λ e. grind (arith, nat_tests) | false ↦ λ e. f (grind (arith, nat_tests)) ] refl
-
 -- a list with a label in it has a youngest one
 pub youngest : (ls : List ℕ) (l : ℕ) → among ls l ≡ true → (y : ℕ) × IsYoungest ls y
 youngest [] l h = absurd (cc)
@@ -26,8 +21,8 @@ youngest (x ∷ []) l h = (x, record { there = among-itself x []; greatest = λ 
 youngest (x ∷ z ∷ xs) l h =
     let rest = youngest (z ∷ xs) z (among-itself z xs) in
     elim (leb x rest.0) as (λ b. (leb x rest.0 ≡ b) → (y : ℕ) × IsYoungest (x ∷ z ∷ xs) y) [
-      | true ↦ λ e. (rest.0, record { there = among-more x (z ∷ xs) rest.0 rest.1.there; greatest = λ k j. split x k rest.0 (z ∷ xs) j (grind (arith, nat_tests)) (λ i. rest.1.greatest k i) })
-      | false ↦ λ e. (x, record { there = among-itself x (z ∷ xs); greatest = λ k j. split x k x (z ∷ xs) j (omega arith) (λ i. let g : k ≤ rest.0 = rest.1.greatest k i in grind (arith, nat_tests)) })
+      | true ↦ λ e. (rest.0, record { there = among-more x (z ∷ xs) rest.0 rest.1.there; greatest = λ k j. grind (arith, nat_tests, rest.1.greatest k) })
+      | false ↦ λ e. (x, record { there = among-itself x (z ∷ xs); greatest = λ k j. grind (arith, nat_tests, rest.1.greatest k) })
     ] refl
 
 -- the second condition of a drop
