@@ -1,5 +1,6 @@
 -- A lawful log is a goal-based run from all that it posts.
 use Rattle.std.proofs.Common.{◌≡◌, ℕ, ◌+◌, ◌⊎◌, inl, inr, List, [], ◌∷◌, ◌++◌, map, refl, sym, ◌∙◌, ap, subst, append_assoc, append-nil, IsPermutation}
+use Rattle.std.proofs.lemmas.List.{set-append_left}
 use Rattle.std.proofs.lemmas.List.Sorted.{IsPermutation-refl, IsPermutation-append_right, IsPermutation-append_comm}
 use Rattle.chr_value.specs.Atoms.{Atom}
 use Rattle.chr_log.specs.Events.{Event, Post, Activate, Fire, Drop}
@@ -11,8 +12,8 @@ use Rattle.chr_model.specs.Goals.{Goal, Plain, Numbered, Ended, State, start, go
 use Rattle.chr_model.specs.Steps.{posted, activated, ended, replaced, MayDrop, Simplify, Propagate, Run}
 use Rattle.chr_model.specs.Logs.{Lawful, posted_by}
 use Rattle.chr_model.specs.GoalRuns.{opening, SameGoals, GoalRun, unposted}
-use Rattle.chr_model.proofs.Quiet.{goal_stays, waiting_open, numbered_stays, numbered-replaced}
-use Rattle.chr_model.proofs.Strict.{set_front, ended-replaced}
+use Rattle.chr_model.proofs.Quiet.{open_within, goal_stays, waiting_open, numbered_stays, numbered-replaced}
+use Rattle.chr_model.proofs.Strict.{ended-replaced}
 use Rattle.chr_model.proofs.Erasure.{plain_goals-append}
 
 numbered_goals-append : (gs hs : List Goal) → numbered_goals (gs ++ hs) ≡ numbered_goals gs ++ numbered_goals hs
@@ -53,7 +54,7 @@ post_ahead s a ps = ap (λ gs. entry_of gs s.store s.next) (append_assoc s.goals
 
 activate_ahead : (s : State) (t : ℕ) (a : Atom ℕ) (ps : List (Atom ℕ)) → goal_at s t ≡ Plain a → activated (ahead s ps) t a ≡ ahead (activated s t a) ps
 activate_ahead s t a ps at =
-    ap (λ gs. entry_of gs (s.store ++ (s.next, a) ∷ []) (s.next + 1)) (set_front s.goals (map Plain ps) t (Numbered s.next) (λ z. waiting_open a (sym at ∙ z)))
+    ap (λ gs. entry_of gs (s.store ++ (s.next, a) ∷ []) (s.next + 1)) (set-append_left s.goals (map Plain ps) t (Numbered s.next) (open_within s.goals t (Plain a) (waiting_open a) at))
 
 propagate_ahead : (s : State) (removed : List ℕ) (body ps : List (Atom ℕ)) → SameGoals (replaced (ahead s ps) removed body) (ahead (replaced s removed body) ps)
 propagate_ahead s removed body ps = same_turned s.goals (map Plain ps) (map Plain body) (without removed s.store) s.next

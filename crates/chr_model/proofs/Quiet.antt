@@ -1,5 +1,6 @@
 -- Where no goal is open, no rule applies.
 use Rattle.std.proofs.Common.{◌≡◌, ◌≢◌, ℕ, zero, suc, ◌<◌, ◌⊎◌, inl, inr, true, false, ◌==◌, List, [], ◌∷◌, ◌++◌, map, length, refl, sym, ◌∙◌, ap, subst, arith, true-eqb, get_or, get_or-set_other, get_or-set_same, true≢false}
+use Rattle.std.proofs.Math.ListN.{get_or-append}
 use Rattle.std.proofs.lemmas.Bool.Decides.{nat_tests}
 use Rattle.chr_value.specs.Atoms.{Atom}
 use Rattle.chr_log.specs.Events.{Event, Post, Activate, Fire, Drop}
@@ -23,10 +24,11 @@ place_within [] t h = absurd (h refl)
 place_within (g ∷ gs) zero h = omega arith
 place_within (g ∷ gs) (suc t) h = let i = place_within gs t h in omega arith
 
+pub open_within : (gs : List Goal) (t : ℕ) (g : Goal) → g ≢ Ended → get_or gs t Ended ≡ g → t < length gs
+open_within gs t g ne h = place_within gs t (λ z. ne (sym h ∙ z))
+
 pub goal_stays : (gs hs : List Goal) (t : ℕ) (g : Goal) → g ≢ Ended → get_or gs t Ended ≡ g → get_or (gs ++ hs) t Ended ≡ g
-goal_stays [] hs t g ne h = absurd (ne (sym h))
-goal_stays (x ∷ gs) hs zero g ne h = h
-goal_stays (x ∷ gs) hs (suc t) g ne h = goal_stays gs hs t g ne h
+goal_stays gs hs t g ne h = get_or-append gs hs Ended t (open_within gs t g ne h) ∙ h
 
 pub active_open : (l : ℕ) → Numbered l ≢ Ended
 active_open l h = cc
@@ -53,7 +55,7 @@ pub numbered-activated : (s : State) (t : ℕ) (a : Atom ℕ) (l : ℕ) → goal
 numbered-activated s t a l at h = (h.0, get_or-set_other s.goals t h.0 (Numbered s.next) Ended (λ z. (let c : Numbered l ≡ Plain a = sym h.1 ∙ ap (goal_at s) z ∙ at in cc)) ∙ h.1)
 
 pub numbered-new : (s : State) (t : ℕ) (a : Atom ℕ) → goal_at s t ≡ Plain a → IsNumbered (activated s t a) s.next
-numbered-new s t a at = (t, get_or-set_same s.goals t (Numbered s.next) Ended (place_within s.goals t (λ z. waiting_open a (sym at ∙ z))))
+numbered-new s t a at = (t, get_or-set_same s.goals t (Numbered s.next) Ended (open_within s.goals t (Plain a) (waiting_open a) at))
 
 -- in each instance over the store is a label that is a numbered goal
 abbrev pub Guarded : Rules → State → Type 0
