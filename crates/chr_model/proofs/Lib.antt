@@ -1,4 +1,5 @@
 pub mod Stores
+pub mod Steps
 pub mod Quiet
 pub mod Once
 pub mod Erasure

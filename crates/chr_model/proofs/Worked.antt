@@ -1,6 +1,6 @@
 -- Instances and states of worked runs.
-use Rattle.std.proofs.Common.{◌≡◌, ◌≢◌, ℕ, ◌+◌, ◌≤◌, List, [], ◌∷◌, ◌++◌, length, Some, None, pos, negsuc, drop, ◌⊎◌, refl, sym, ◌∙◌, ap, subst, arith, inl, inr, slice_index_or, true, false, true≢false}
-use Rattle.chr_value.specs.Atoms.{Value, Atom, Int, Sym, Comp}
+use Rattle.std.proofs.Common.{◌≡◌, ◌≢◌, ℕ, ◌+◌, ◌≤◌, List, [], ◌∷◌, ◌++◌, length, Some, None, pos, drop, ◌⊎◌, refl, sym, ◌∙◌, ap, subst, arith, inl, inr, slice_index_or, true, false, true≢false}
+use Rattle.chr_value.specs.Atoms.{Atom, Int}
 use Rattle.chr_rule.specs.declared.expression.Relation.TheVariants.{LessEqual}
 use Rattle.chr_rule.specs.Rules.{Variable, Compared, Simpagation}
 use Rattle.chr_guard.specs.Values.{Valuation, Holds}
@@ -10,34 +10,18 @@ use Rattle.chr_log.specs.Events.{Event}
 use Rattle.chr_log.specs.declared.events.Version.{Version}
 use Rattle.chr_model.specs.Stores.{Store, atom_at, among, Labelled, Final}
 use Rattle.chr_model.specs.Abstract.{Rules}
-use Rattle.chr_model.specs.Goals.{Plain, Numbered, State, start, goal_at}
-use Rattle.chr_model.specs.Steps.{posted, activated, ended, replaced, Post, Activate, Simplify, Propagate, Drop, Run}
+use Rattle.chr_model.specs.Goals.{Numbered, State, start, goal_at}
+use Rattle.chr_model.specs.Steps.{Simplify, Propagate, Drop, Run}
 use Rattle.chr_model.specs.Programs.{Instances}
 use Rattle.chr_model.specs.Examples.{shape_of, EndsQuietIn, of, gcd, gcd_zero, gcd_mod, gcd_rules, pair_rule, pair_rules, pair_log_one_label, min_rule, min_rules, token, token_rule, token_rules}
+use Rattle.chr_model.proofs.Steps.{drop_goal}
 use Rattle.chr_model.proofs.Quiet.{MayDrop-final}
 use Rattle.chr_model.proofs.Programs.{of_only, of_two}
 use Rattle.chr_model.proofs.Alone.{one_head, carry_one, only_atom, second_atom, endings, all_ended}
 
--- one step, to a state, before the others of a run
-infixr 20 ◌▸◌
-pub ◌▸◌ : {A B : State → Type 0} (first : (s : State) × A s) → B first.0 → (s : State) × A s × B s
-first ▸ others = (first.0, first.1, others)
-
--- each kind of step, with what allows it
-abbrev pub post : {s : State} {t : ℕ} {a : Atom ℕ} → t ≡ length s.goals → (n : State) × Post s t a n
-post {s} {t} {a} e = (posted s a, record { ticket = e; after = refl })
-
-abbrev pub activate : {s : State} {t l : ℕ} {a : Atom ℕ} → goal_at s t ≡ Plain a → l ≡ s.next → (n : State) × Activate s t l n
-activate {s} {t} {l} {a} at e = (activated s t a, record { atom = a; plain = at; label = e; after = refl })
-
-abbrev pub simplify : {I : Rules} {s : State} {t r l : ℕ} {kept removed : List ℕ} {body : List (Atom ℕ)} → goal_at s t ≡ Numbered l → among removed l ≡ true → Labelled I s.store r kept removed body → (n : State) × (Simplify I s t r kept removed n ⊎ Propagate I s t r kept removed n)
-simplify {s = s} {t = t} {l = l} {removed = removed} {body = body} at e i = (replaced (ended s t) removed body, inl (record { label = l; body = body; numbered = at; stands = e; instance = i; after = refl }))
-
-abbrev pub propagate : {I : Rules} {s : State} {t r l : ℕ} {kept removed : List ℕ} {body : List (Atom ℕ)} → goal_at s t ≡ Numbered l → among kept l ≡ true → Labelled I s.store r kept removed body → (n : State) × (Simplify I s t r kept removed n ⊎ Propagate I s t r kept removed n)
-propagate {s = s} {t = t} {l = l} {removed = removed} {body = body} at e i = (replaced s removed body, inr (record { label = l; body = body; numbered = at; stands = e; instance = i; after = refl }))
-
+-- a drop where no rule applies
 abbrev pub drop_last : {v : Version} {I : Rules} {s : State} {t l : ℕ} → goal_at s t ≡ Numbered l → Final I s.store → (n : State) × Drop v I s t n
-drop_last {v} {I} {s} {t} {l} at f = (ended s t, record { label = l; numbered = at; done = MayDrop-final v I s l f; after = refl })
+drop_last {v} {I} {s} {t} {l} at f = drop_goal at (MayDrop-final v I s l f)
 
 -- the run of a log whose goals have all ended
 pub quiet : (v : Version) (rules : List (Simpagation ℕ)) (log : List (Event ℕ)) (n : ℕ) (store : Store) → Run v (Instances rules) start log (record { goals = endings n; store = store; next = n }) → EndsQuietIn v rules log store

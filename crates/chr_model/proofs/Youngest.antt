@@ -1,6 +1,6 @@
 -- Where searches look at older partners only: the youngest label of each instance is a numbered goal, and that gives the
 -- second condition of a drop.
-use Rattle.std.proofs.Common.{◌≡◌, ◌≢◌, ℕ, ◌<◌, ◌≤◌, true, false, leb, ◌==◌, List, [], ◌∷◌, ◌++◌, sym, ◌∙◌, ap, subst, arith, true-eqb, true≢false, refl}
+use Rattle.std.proofs.Common.{◌≡◌, ◌≢◌, ℕ, ◌<◌, ◌≤◌, true, false, leb, ◌==◌, List, [], ◌∷◌, ◌++◌, sym, subst, arith, true-eqb, refl}
 use Rattle.std.proofs.lemmas.Bool.Decides.{nat_tests}
 use Rattle.chr_value.specs.Atoms.{Atom}
 use Rattle.chr_log.specs.declared.events.Version.TheVariants.{Two}
