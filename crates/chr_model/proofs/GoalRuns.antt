@@ -12,6 +12,7 @@ use Rattle.chr_model.specs.Goals.{Goal, Plain, Numbered, Ended, State, start, go
 use Rattle.chr_model.specs.Steps.{posted, activated, ended, replaced, MayDrop, Simplify, Propagate, Run}
 use Rattle.chr_model.specs.Logs.{Lawful, posted_by}
 use Rattle.chr_model.specs.GoalRuns.{opening, SameGoals, GoalRun, unposted}
+use Rattle.chr_model.proofs.Steps.{activate, simplify, propagate, drop_goal}
 use Rattle.chr_model.proofs.Quiet.{open_within, goal_stays, waiting_open, numbered_stays, numbered-replaced}
 use Rattle.chr_model.proofs.Strict.{ended-replaced}
 use Rattle.chr_model.proofs.Erasure.{plain_goals-append}
@@ -63,22 +64,17 @@ simplify_ahead : (s : State) (t l : ℕ) (removed : List ℕ) (body ps : List (A
 simplify_ahead s t l removed body ps at =
     subst (λ m. SameGoals (replaced m removed body) (ahead (replaced (ended s t) removed body) ps)) (ended-replaced s [] ps t l at) (propagate_ahead (ended s t) removed body ps)
 
--- one firing, and the run after it
+-- a step, to a state with the same goals as another, before what follows there
+step_ahead : {A B : State → Type 0} (first : (u : State) × A u) (m : State) → SameGoals first.0 m → B m → (u : State) × (same : State) × A u × SameGoals u same × B same
+step_ahead first m same others = (first.0, m, first.1, same, others)
+
 fire_ahead : (v : Version) (I : Rules) (s : State) (t r : ℕ) (kept removed : List ℕ) (m n : State) (ps : List (Atom ℕ)) (es : List (Event ℕ)) → (Simplify I s t r kept removed m ⊎ Propagate I s t r kept removed m) → GoalRun v I (ahead m ps) es n → GoalRun v I (ahead s ps) (Fire t r kept removed ∷ es) n
-fire_ahead v I s t r kept removed m n ps es (inl h) rest = (
-  replaced (ended (ahead s ps) t) removed h.body,
-  ahead m ps,
-  inl (record { label = h.label; body = h.body; numbered = numbered_stays s [] ps t h.label h.numbered; stands = h.stands; instance = h.instance; after = refl }),
-  subst (λ x. SameGoals (replaced (ended (ahead s ps) t) removed h.body) (ahead x ps)) (sym h.after) (simplify_ahead s t h.label removed h.body ps h.numbered),
-  rest,
-)
-fire_ahead v I s t r kept removed m n ps es (inr h) rest = (
-  replaced (ahead s ps) removed h.body,
-  ahead m ps,
-  inr (record { label = h.label; body = h.body; numbered = numbered_stays s [] ps t h.label h.numbered; stands = h.stands; instance = h.instance; after = refl }),
-  subst (λ x. SameGoals (replaced (ahead s ps) removed h.body) (ahead x ps)) (sym h.after) (propagate_ahead s removed h.body ps),
-  rest,
-)
+fire_ahead v I s t r kept removed m n ps es (inl h) others =
+    let same = subst (λ x. SameGoals (replaced (ended (ahead s ps) t) removed h.body) (ahead x ps)) (sym h.after) (simplify_ahead s t h.label removed h.body ps h.numbered) in
+    step_ahead (simplify (numbered_stays s [] ps t h.label h.numbered) h.stands h.instance) (ahead m ps) same others
+fire_ahead v I s t r kept removed m n ps es (inr h) others =
+    let same = subst (λ x. SameGoals (replaced (ahead s ps) removed h.body) (ahead x ps)) (sym h.after) (propagate_ahead s removed h.body ps) in
+    step_ahead (propagate (numbered_stays s [] ps t h.label h.numbered) h.stands h.instance) (ahead m ps) same others
 
 run_ahead : (v : Version) (I : Rules) (es : List (Event ℕ)) (s n : State) → Run v I s es n → GoalRun v I (ahead s (posted_by es)) (unposted es) n
 run_ahead v I [] s n run = same_equal (ahead s []) n (ap (λ gs. entry_of gs s.store s.next) (append-nil s.goals) ∙ sym run)
@@ -86,23 +82,15 @@ run_ahead v I (Post t a ∷ es) s n run =
     subst (λ m. GoalRun v I m (unposted es) n) (ap (λ m. ahead m (posted_by es)) run.1.after ∙ post_ahead s a (posted_by es)) (run_ahead v I es run.0 n run.2)
 run_ahead v I (Activate t l ∷ es) s n run =
     let h = run.1 in
-    let ps = posted_by es in (
-      activated (ahead s ps) t h.atom,
-      ahead run.0 ps,
-      record { atom = h.atom; plain = goal_stays s.goals (map Plain ps) t (Plain h.atom) (waiting_open h.atom) h.plain; label = h.label; after = refl },
-      same_equal (activated (ahead s ps) t h.atom) (ahead run.0 ps) (activate_ahead s t h.atom ps h.plain ∙ sym (ap (λ m. ahead m ps) h.after)),
-      run_ahead v I es run.0 n run.2,
-    )
+    let ps = posted_by es in
+    let same = same_equal (activated (ahead s ps) t h.atom) (ahead run.0 ps) (activate_ahead s t h.atom ps h.plain ∙ sym (ap (λ m. ahead m ps) h.after)) in
+    step_ahead (activate (goal_stays s.goals (map Plain ps) t (Plain h.atom) (waiting_open h.atom) h.plain) h.label) (ahead run.0 ps) same (run_ahead v I es run.0 n run.2)
 run_ahead v I (Fire t r kept removed ∷ es) s n run = fire_ahead v I s t r kept removed run.0 n (posted_by es) (unposted es) run.1 (run_ahead v I es run.0 n run.2)
 run_ahead v I (Drop t ∷ es) s n run =
     let h = run.1 in
-    let ps = posted_by es in (
-      ended (ahead s ps) t,
-      ahead run.0 ps,
-      record { label = h.label; numbered = numbered_stays s [] ps t h.label h.numbered; done = may_drop_ahead v I s ps h.label h.done; after = refl },
-      same_equal (ended (ahead s ps) t) (ahead run.0 ps) (sym (ap (λ m. ahead m ps) h.after ∙ ended-replaced s [] ps t h.label h.numbered)),
-      run_ahead v I es run.0 n run.2,
-    )
+    let ps = posted_by es in
+    let same = same_equal (ended (ahead s ps) t) (ahead run.0 ps) (sym (ap (λ m. ahead m ps) h.after ∙ ended-replaced s [] ps t h.label h.numbered)) in
+    step_ahead (drop_goal (numbered_stays s [] ps t h.label h.numbered) (may_drop_ahead v I s ps h.label h.done)) (ahead run.0 ps) same (run_ahead v I es run.0 n run.2)
 
 pub goal_run : (v : Version) (I : Rules) (log : List (Event ℕ)) (last : State) → Lawful v I log last → GoalRun v I (opening (posted_by log)) (unposted log) last
 goal_run v I log last run = run_ahead v I log start last run
