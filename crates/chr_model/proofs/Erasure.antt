@@ -24,14 +24,8 @@ front {xs} {ys} zs p = IsPermutation-append_right zs xs ys p
 back : {xs ys : List (Atom ℕ)} (zs : List (Atom ℕ)) → IsPermutation xs ys → IsPermutation (xs ++ zs) (ys ++ zs)
 back {xs} {ys} zs p = IsPermutation-append_left zs xs ys p
 
-one_more : {xs ys : List (Atom ℕ)} (a : Atom ℕ) → IsPermutation xs ys → IsPermutation (a ∷ xs) (a ∷ ys)
-one_more {xs} {ys} a p = IsPermutation-cons a xs ys p
-
 equal : (xs ys : List (Atom ℕ)) → xs ≡ ys → IsPermutation xs ys
 equal xs ys e = subst (λ zs. IsPermutation xs zs) e (IsPermutation-refl xs)
-
-swapped : (a b : Atom ℕ) (xs : List (Atom ℕ)) → IsPermutation (a ∷ b ∷ xs) (b ∷ a ∷ xs)
-swapped a b xs = IsPermutation-middle (a ∷ []) b xs
 
 shift : (w x y : List (Atom ℕ)) → IsPermutation (w ++ (x ++ y)) (x ++ (w ++ y))
 shift w x y = simp append_assoc at (back y (IsPermutation-append_comm w x))
@@ -52,14 +46,14 @@ one_out (e ∷ es) l a u h =
           let same : e.1 ≡ a = cc in
           let rest : drop_label l es ≡ es = drop_none l es (omega arith) in
           equal (e.1 ∷ atoms es) (a ∷ atoms (drop_label l es)) (ap (λ x. x ∷ atoms es) same ∙ ap (λ xs. a ∷ atoms xs) (sym rest))
-      | false ↦ λ few is. both (one_more e.1 (one_out es l a (omega arith) is)) (swapped e.1 a (atoms (drop_label l es)))
+      | false ↦ λ few is. both (front (e.1 ∷ []) (one_out es l a (omega arith) is)) (IsPermutation-middle (e.1 ∷ []) a (atoms (drop_label l es)))
     ] u h
 
 all_out : (ls : List ℕ) (as' : List (Atom ℕ)) (st : Store) → ((l : ℕ) → times l (labels st) ≤ 1) → Distinct ls → Carry st ls as' → IsPermutation (atoms st) (as' ++ atoms (without ls st))
 all_out [] [] st u d c = IsPermutation-refl (atoms st)
 all_out (l ∷ ls) (a ∷ as') st u d c =
     both (one_out st l a (u l) c.0)
-    (one_more a (all_out ls as' (drop_label l st) (λ k. grind (arith, nat_tests, times-drop k l st, u k)) d.1
+    (front (a ∷ []) (all_out ls as' (drop_label l st) (λ k. grind (arith, nat_tests, times-drop k l st, u k)) d.1
     (Carry-move st (drop_label l st) ls as' (λ q b i e. atom_at-drop st l q ∙ grind (arith, nat_tests, d.0)) c.1)))
 all_out [] (a ∷ as') st u d c = absurd c
 all_out (l ∷ ls) [] st u d c = absurd c

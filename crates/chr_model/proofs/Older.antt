@@ -16,10 +16,10 @@ use Rattle.chr_model.proofs.Stores.{atom_at-old, atom_at-kept, Labelled-move, La
 use Rattle.chr_model.proofs.Once.{room, LabelsOnce, next_fired, given_rising}
 
 pub Step-next : (v : Version) (I : Rules) (s : State) (e : Event ℕ) (n : State) → Step v I s e n → s.next ≤ n.next
-Step-next v I s (Post t a) n h = subst (λ m. s.next ≤ m.next) (sym h.after) (omega arith)
-Step-next v I s (Activate t l) n h = subst (λ m. s.next ≤ m.next) (sym h.after) (omega arith)
+Step-next v I s (Post t a) n h = omega (arith, ap (λ m. m.next) h.after)
+Step-next v I s (Activate t l) n h = omega (arith, ap (λ m. m.next) h.after)
 Step-next v I s (Fire t r kept removed) n h = omega (arith, next_fired I s t r kept removed n h)
-Step-next v I s (Drop t) n h = subst (λ m. s.next ≤ m.next) (sym h.after) (omega arith)
+Step-next v I s (Drop t) n h = omega (arith, ap (λ m. m.next) h.after)
 
 store_fired : (I : Rules) (s : State) (t r : ℕ) (kept removed : List ℕ) (n : State) → (Simplify I s t r kept removed n ⊎ Propagate I s t r kept removed n) → n.store ≡ without removed s.store
 store_fired I s t r kept removed n (inl h) = ap (λ m. m.store) h.after

@@ -37,18 +37,18 @@ room_replaced l I s r kept removed body i =
     omega arith
 
 room_fired : (l : ℕ) (I : Rules) (s : State) (t r : ℕ) (kept removed : List ℕ) (n : State) → (Simplify I s t r kept removed n ⊎ Propagate I s t r kept removed n) → times l removed + room l n ≤ room l s
-room_fired l I s t r kept removed n (inl h) = subst (λ m. times l removed + room l m ≤ room l s) (sym h.after) (room_replaced l I (ended s t) r kept removed h.body h.instance)
-room_fired l I s t r kept removed n (inr h) = subst (λ m. times l removed + room l m ≤ room l s) (sym h.after) (room_replaced l I s r kept removed h.body h.instance)
+room_fired l I s t r kept removed n (inl h) = omega (arith, ap (room l) h.after, room_replaced l I (ended s t) r kept removed h.body h.instance)
+room_fired l I s t r kept removed n (inr h) = omega (arith, ap (room l) h.after, room_replaced l I s r kept removed h.body h.instance)
 
 -- the events after a step say the same of the room that it leaves
 Step-room : (l : ℕ) (v : Version) (I : Rules) (s : State) (e : Event ℕ) (n : State) (es : List (Event ℕ)) → Step v I s e n → times l (removed_by (e ∷ es)) + room l n ≤ times l (removed_by es) + room l s
-Step-room l v I s (Post t a) n es h = subst (λ m. times l (removed_by es) + room l m ≤ times l (removed_by es) + room l s) (sym h.after) (omega arith)
-Step-room l v I s (Activate t k) n es h = subst (λ m. times l (removed_by es) + room l m ≤ times l (removed_by es) + room l s) (sym h.after) (omega (arith, room_activated l s t h.atom))
+Step-room l v I s (Post t a) n es h = omega (arith, ap (room l) h.after)
+Step-room l v I s (Activate t k) n es h = omega (arith, ap (room l) h.after, room_activated l s t h.atom)
 Step-room l v I s (Fire t r kept removed) n es h = omega (arith, times-append l removed (removed_by es), room_fired l I s t r kept removed n h)
-Step-room l v I s (Drop t) n es h = subst (λ m. times l (removed_by es) + room l m ≤ times l (removed_by es) + room l s) (sym h.after) (omega arith)
+Step-room l v I s (Drop t) n es h = omega (arith, ap (room l) h.after)
 
 Run-room : (l : ℕ) (v : Version) (I : Rules) (es : List (Event ℕ)) (s n : State) → Run v I s es n → times l (removed_by es) + room l n ≤ room l s
-Run-room l v I [] s n run = subst (λ m. 0 + room l m ≤ room l s) (sym run) (omega arith)
+Run-room l v I [] s n run = omega (arith, ap (room l) run)
 Run-room l v I (e ∷ es) s n run = omega (arith, Step-room l v I s e run.0 es run.1, Run-room l v I es run.0 n run.2)
 
 pub start_once : LabelsOnce start

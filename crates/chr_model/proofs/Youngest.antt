@@ -11,7 +11,8 @@ use Rattle.chr_model.specs.Steps.{posted, activated, ended, replaced, MayDrop}
 use Rattle.chr_model.specs.Logs.{times}
 use Rattle.chr_model.specs.Searches.{IsYoungest, YoungestAreGoals, NoneYoungest}
 use Rattle.chr_model.proofs.Stores.{atom_at-old, among-itself, among-more, Labelled-move, Labelled-there, times-there}
-use Rattle.chr_model.proofs.Once.{room, LabelsOnce}
+use Rattle.chr_model.proofs.Once.{LabelsOnce}
+use Rattle.chr_model.proofs.Older.{store_below}
 use Rattle.chr_model.proofs.Quiet.{numbered-replaced, numbered-ended, numbered-activated, numbered-new, Labelled-left, numbered_left}
 
 -- a list with a label in it has a youngest one
@@ -32,9 +33,6 @@ older_done I s l g none r kept removed body i h =
     (y.0, y.1.there, (λ e. none r kept removed body (subst (IsYoungest (kept ++ removed)) e y.1) i), g r kept removed body i y.0 y.1)
 
 -- each step keeps that, where no goal is dropped that is some instance's youngest
-pub young_posted : (I : Rules) (s : State) (a : Atom ℕ) → YoungestAreGoals I s → YoungestAreGoals I (posted s a)
-young_posted I s a g r kept removed body i y h = numbered-replaced s [] (a ∷ []) y (g r kept removed body i y h)
-
 pub young_dropped : (I : Rules) (s : State) (t l : ℕ) → goal_at s t ≡ Numbered l → NoneYoungest I s.store l → YoungestAreGoals I s → YoungestAreGoals I (ended s t)
 young_dropped I s t l at none g r kept removed body i y h =
     numbered-ended s t l y at (λ e. none r kept removed body (subst (IsYoungest (kept ++ removed)) e h) i) (g r kept removed body i y h)
@@ -47,6 +45,9 @@ pub young_propagated : (I : Rules) (s : State) (gone : List ℕ) (added : List (
 young_propagated I s gone added g r kept removed body i y h =
     numbered-replaced s gone added y (g r kept removed body (Labelled-left I s.store gone r kept removed body i) y h)
 
+pub young_posted : (I : Rules) (s : State) (a : Atom ℕ) → YoungestAreGoals I s → YoungestAreGoals I (posted s a)
+young_posted I s a = young_propagated I s [] (a ∷ [])
+
 pub young_activated : (I : Rules) (s : State) (t : ℕ) (a : Atom ℕ) → LabelsOnce s → goal_at s t ≡ Plain a → YoungestAreGoals I s → YoungestAreGoals I (activated s t a)
 young_activated I s t a few at g r kept removed body i y h =
     let there = Labelled-there I (s.store ++ (s.next, a) ∷ []) r kept removed body y h.there i in
@@ -54,9 +55,7 @@ young_activated I s t a few at g r kept removed body i y h =
       | true ↦ λ e. subst (IsNumbered (activated s t a)) (true-eqb s.next y (sym e)) (numbered-new s t a at)
       | false ↦ λ e.
           let ne : s.next ≢ y = grind (arith, nat_tests) in
-          let old : 1 ≤ times y (labels s.store) = times-there y s.store there.0 (atom_at-old s.store s.next a y there.0 ne there.1) in
-          let bound : room y s ≤ 1 = few y in
-          let less : y < s.next = grind (arith, nat_tests) in
+          let less : y < s.next = store_below s few y there.0 (atom_at-old s.store s.next a y there.0 ne there.1) in
           numbered-activated s t a y at
           (g r kept removed body (Labelled-move I (s.store ++ (s.next, a) ∷ []) s.store r kept removed body (λ l x j k. atom_at-old s.store s.next a l x (λ z. let le : l ≤ y = h.greatest l j in absurd (omega arith)) k) i) y h)
     ] refl
