@@ -8,7 +8,7 @@ use Rattle.chr_guard.specs.Instances.{Instance}
 use Rattle.chr_guard.proofs.Under.{somes, under_length, one_under, atom_is}
 use Rattle.chr_log.specs.Events.{Event}
 use Rattle.chr_log.specs.declared.events.Version.{Version}
-use Rattle.chr_model.specs.Stores.{Store, atom_at, among, Labelled, Final}
+use Rattle.chr_model.specs.Stores.{Store, atom_at, among, Distinct, Carry, Labelled, Final}
 use Rattle.chr_model.specs.Abstract.{Rules}
 use Rattle.chr_model.specs.Goals.{Numbered, State, start, goal_at}
 use Rattle.chr_model.specs.Steps.{Simplify, Propagate, Drop, Run}
@@ -27,16 +27,9 @@ drop_last {v} {I} {s} {t} {l} at f = drop_goal at (MayDrop-final v I s l f)
 pub quiet : (v : Version) (rules : List (Simpagation ℕ)) (log : List (Event ℕ)) (n : ℕ) (store : Store) → Run v (Instances rules) start log (record { goals = endings n; store = store; next = n }) → EndsQuietIn v rules log store
 quiet v rules log n store run = (record { goals = endings n; store = store; next = n }, run, refl, all_ended n)
 
--- a firing of a rule that keeps one constraint and removes one
-fires : (rules : List (Simpagation ℕ)) (r : ℕ) (st : Store) (j k : ℕ) (a b : Atom ℕ) (body : List (Atom ℕ)) → Instances rules r (a ∷ []) (b ∷ []) body → among (k ∷ []) j ≡ false → atom_at st j ≡ Some a → atom_at st k ≡ Some b → Labelled (Instances rules) st r (j ∷ []) (k ∷ []) body
-fires rules r st j k a b body i differ at_j at_k = record {
-  kept_atoms = a ∷ [];
-  removed_atoms = b ∷ [];
-  instance = i;
-  distinct = (differ, (refl, tt));
-  kept_there = (at_j, tt);
-  removed_there = (at_k, tt);
-}
+-- a labelled instance, by the atoms of its heads
+labelled : {I : Rules} {st : Store} {r : ℕ} {kept removed : List ℕ} {body : List (Atom ℕ)} (kept_atoms removed_atoms : List (Atom ℕ)) → I r kept_atoms removed_atoms body → Distinct (kept ++ removed) → Carry st kept kept_atoms → Carry st removed removed_atoms → Labelled I st r kept removed body
+labelled kept_atoms removed_atoms i d k m = record { kept_atoms = kept_atoms; removed_atoms = removed_atoms; instance = i; distinct = d; kept_there = k; removed_there = m }
 
 -- a valuation of three variables
 abbrev numbers : ℕ → ℕ → ℕ → Valuation
@@ -69,34 +62,24 @@ gcd_alone k n ne r kept removed body i = zero_or_mod (of_two gcd_zero gcd_mod r 
     zero_or_mod (inr one) = two_heads (Instances gcd_rules) gcd_mod (omega arith) k (gcd n) r kept removed body i one
 
 pub gcd_nine_six : Labelled (Instances gcd_rules) ((1, gcd 9) ∷ (2, gcd 6) ∷ []) 2 (2 ∷ []) (1 ∷ []) (gcd 3 ∷ [])
-gcd_nine_six = fires gcd_rules 2 ((1, gcd 9) ∷ (2, gcd 6) ∷ []) 2 1 (gcd 6) (gcd 9) (gcd 3 ∷ []) (gcd_mod, refl, record { valuation = numbers 6 9 3; guard = (refl, (refl, tt)); right = ((pos 3, refl, refl), (tt, tt)); kept_are = refl; removed_are = refl; some_removed = λ e. (cc); body_is = refl }) refl refl refl
+gcd_nine_six =
+    labelled (gcd 6 ∷ []) (gcd 9 ∷ []) (gcd_mod, refl, record { valuation = numbers 6 9 3; guard = (refl, (refl, tt)); right = ((pos 3, refl, refl), (tt, tt)); kept_are = refl; removed_are = refl; some_removed = λ e. (cc); body_is = refl }) (refl, (refl, tt)) (refl, tt) (refl, tt)
 
 pub gcd_six_three : Labelled (Instances gcd_rules) ((2, gcd 6) ∷ (3, gcd 3) ∷ []) 2 (3 ∷ []) (2 ∷ []) (gcd 0 ∷ [])
-gcd_six_three = fires gcd_rules 2 ((2, gcd 6) ∷ (3, gcd 3) ∷ []) 3 2 (gcd 3) (gcd 6) (gcd 0 ∷ []) (gcd_mod, refl, record { valuation = numbers 3 6 0; guard = (refl, (refl, tt)); right = ((pos 0, refl, refl), (tt, tt)); kept_are = refl; removed_are = refl; some_removed = λ e. (cc); body_is = refl }) refl refl refl
+gcd_six_three =
+    labelled (gcd 3 ∷ []) (gcd 6 ∷ []) (gcd_mod, refl, record { valuation = numbers 3 6 0; guard = (refl, (refl, tt)); right = ((pos 0, refl, refl), (tt, tt)); kept_are = refl; removed_are = refl; some_removed = λ e. (cc); body_is = refl }) (refl, (refl, tt)) (refl, tt) (refl, tt)
 
 pub gcd_three_zero : Labelled (Instances gcd_rules) ((3, gcd 3) ∷ (4, gcd 0) ∷ []) 1 [] (4 ∷ []) []
-gcd_three_zero = record {
-  kept_atoms = [];
-  removed_atoms = gcd 0 ∷ [];
-  instance = (gcd_zero, refl, record { valuation = numbers 0 0 0; guard = tt; right = tt; kept_are = refl; removed_are = refl; some_removed = λ e. (cc); body_is = refl });
-  distinct = (refl, tt);
-  kept_there = tt;
-  removed_there = (refl, tt);
-}
+gcd_three_zero =
+    labelled [] (gcd 0 ∷ []) (gcd_zero, refl, record { valuation = numbers 0 0 0; guard = tt; right = tt; kept_are = refl; removed_are = refl; some_removed = λ e. (cc); body_is = refl }) (refl, tt) tt (refl, tt)
 
 -- Two equal constraints.
 pub pair_alone : (k : ℕ) (a : Atom ℕ) → Final (Instances pair_rules) ((k, a) ∷ [])
 pair_alone = alone pair_rule (omega arith)
 
 pub pair_fires : Labelled (Instances pair_rules) ((1, of 0 1) ∷ (2, of 0 1) ∷ []) 1 [] (2 ∷ 1 ∷ []) (of 1 1 ∷ [])
-pair_fires = record {
-  kept_atoms = [];
-  removed_atoms = of 0 1 ∷ of 0 1 ∷ [];
-  instance = (pair_rule, refl, record { valuation = numbers 1 0 0; guard = tt; right = (tt, tt); kept_are = refl; removed_are = refl; some_removed = λ e. (cc); body_is = refl });
-  distinct = (refl, (refl, tt));
-  kept_there = tt;
-  removed_there = (refl, (refl, tt));
-}
+pair_fires =
+    labelled [] (of 0 1 ∷ of 0 1 ∷ []) (pair_rule, refl, record { valuation = numbers 1 0 0; guard = tt; right = (tt, tt); kept_are = refl; removed_are = refl; some_removed = λ e. (cc); body_is = refl }) (refl, (refl, tt)) tt (refl, (refl, tt))
 
 pub one_label : (v : Version) (s last : State) → Run v (Instances pair_rules) s (drop 1 pair_log_one_label) last → ⊥
 one_label v s last run = apart run.2.1
@@ -111,11 +94,12 @@ min_alone = alone min_rule (omega arith)
 
 pub min_fires : (st : Store) (j k n : ℕ) → Holds (numbers 1 n 0) (Compared LessEqual (Variable 0) (Variable 1)) → among (k ∷ []) j ≡ false → atom_at st j ≡ Some (of 0 1) → atom_at st k ≡ Some (of 0 n) → Labelled (Instances min_rules) st 1 (j ∷ []) (k ∷ []) []
 min_fires st j k n le differ at_j at_k =
-    fires min_rules 1 st j k (of 0 1) (of 0 n) [] (min_rule, refl, record { valuation = numbers 1 n 0; guard = (le, tt); right = tt; kept_are = refl; removed_are = refl; some_removed = λ e. (cc); body_is = refl }) differ at_j at_k
+    labelled (of 0 1 ∷ []) (of 0 n ∷ []) (min_rule, refl, record { valuation = numbers 1 n 0; guard = (le, tt); right = tt; kept_are = refl; removed_are = refl; some_removed = λ e. (cc); body_is = refl }) (differ, (refl, tt)) (at_j, tt) (at_k, tt)
 
 -- A token that a constraint waits for.
 pub token_fires : Labelled (Instances token_rules) ((1, of 1 1) ∷ (2, token) ∷ []) 1 (2 ∷ []) (1 ∷ []) (of 2 1 ∷ [])
-token_fires = fires token_rules 1 ((1, of 1 1) ∷ (2, token) ∷ []) 2 1 token (of 1 1) (of 2 1 ∷ []) (token_rule, refl, record { valuation = numbers 1 0 0; guard = tt; right = (tt, tt); kept_are = refl; removed_are = refl; some_removed = λ e. (cc); body_is = refl }) refl refl refl
+token_fires =
+    labelled (token ∷ []) (of 1 1 ∷ []) (token_rule, refl, record { valuation = numbers 1 0 0; guard = tt; right = (tt, tt); kept_are = refl; removed_are = refl; some_removed = λ e. (cc); body_is = refl }) (refl, (refl, tt)) (refl, tt) (refl, tt)
 
 pub token_alone : (k : ℕ) (a : Atom ℕ) → Final (Instances token_rules) ((k, a) ∷ [])
 token_alone = alone token_rule (omega arith)
