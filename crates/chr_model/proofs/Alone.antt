@@ -28,7 +28,7 @@ carry_one st [] (x ∷ as') a e c = absurd c
 carry_one st ls (x ∷ y ∷ as') a e c = absurd (cc)
 carry_one st ls [] a e c = absurd (cc)
 
--- what a store of one atom has, and a store of two that isn't its first
+-- the label and the atom of a store of one, and the second of a store of two
 pub only_atom : (k : ℕ) (b : Atom ℕ) (l : ℕ) (a : Atom ℕ) → atom_at ((k, b) ∷ []) l ≡ Some a → (k ≡ l) × (b ≡ a)
 only_atom k b l a h = (grind (arith, nat_tests), grind (arith, nat_tests))
 

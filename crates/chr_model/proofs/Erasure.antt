@@ -2,7 +2,7 @@
 use Rattle.std.proofs.Common.{◌≡◌, ℕ, zero, suc, ◌+◌, ◌≤◌, ◌⊎◌, inl, inr, true, false, ◌==◌, if◌then◌else◌, List, [], ◌∷◌, ◌++◌, map, Some, refl, sym, ◌∙◌, ap, subst, arith, get_or, set, append_assoc, append-nil, IsPermutation}
 use Rattle.std.proofs.lemmas.Bool.Decides.{nat_tests}
 use Rattle.std.proofs.lemmas.List.{map-append}
-use Rattle.std.proofs.lemmas.List.Sorted.{IsPermutation-refl, IsPermutation-sym, IsPermutation-cons, IsPermutation-to_front, IsPermutation-append_left, IsPermutation-append_right, IsPermutation-trans, IsPermutation-middle, IsPermutation-append_comm}
+use Rattle.std.proofs.lemmas.List.Sorted.{IsPermutation-refl, IsPermutation-sym, IsPermutation-to_front, IsPermutation-append_left, IsPermutation-append_right, IsPermutation-trans, IsPermutation-middle, IsPermutation-append_comm}
 use Rattle.chr_value.specs.Atoms.{Atom}
 use Rattle.chr_log.specs.Events.{Event, Post, Activate, Fire, Drop}
 use Rattle.chr_log.specs.declared.events.Version.{Version}
@@ -93,10 +93,7 @@ erase_activated s t a h =
 erase_ended : (s : State) (t l : ℕ) → goal_at s t ≡ Numbered l → erase (ended s t) ≡ erase s
 erase_ended s t l h = ap (λ w. w ++ atoms s.store) (plain_ended s.goals t l h)
 
-abbrev firing_by : (I : Rules) (st : Store) (r : ℕ) (kept removed : List ℕ) (body : List (Atom ℕ)) → Labelled I st r kept removed body → Firing
-firing_by I st r kept removed body i = record { rule = r; kept = i.kept_atoms; removed = i.removed_atoms; body = body }
-
-erase_replaced : (I : Rules) (s : State) (r : ℕ) (kept removed : List ℕ) (body : List (Atom ℕ)) → LabelsOnce s → (i : Labelled I s.store r kept removed body) → AbstractStep I (firing_by I s.store r kept removed body i) (erase s) (erase (replaced s removed body))
+erase_replaced : (I : Rules) (s : State) (r : ℕ) (kept removed : List ℕ) (body : List (Atom ℕ)) → LabelsOnce s → (i : Labelled I s.store r kept removed body) → AbstractStep I (record { rule = r; kept = i.kept_atoms; removed = i.removed_atoms; body = body }) (erase s) (erase (replaced s removed body))
 erase_replaced I s r kept removed body u i =
     let mid = without removed s.store in
     let rest = atoms (without kept mid) in

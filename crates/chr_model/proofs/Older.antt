@@ -37,6 +37,7 @@ Run-given v I (Fire t r kept removed ∷ es) s n run l a away at =
     (atom_at-kept removed s.store l a (subst (λ st. atom_at st l ≡ Some a) (store_fired I s t r kept removed run.0 run.1) (Run-given v I es run.0 n run.2 l a away at))).0
 Run-given v I (Drop t ∷ es) s n run l a away at = subst (λ m. atom_at m.store l ≡ Some a) run.1.after (Run-given v I es run.0 n run.2 l a away at)
 
+-- a label below the next one is not among those that are given from then on
 below_given : (n k l : ℕ) → l < n → among (up_from n k) l ≡ false
 below_given n zero l h = refl
 below_given n (suc k) l h = grind (arith, nat_tests, below_given (n + 1) k l)

@@ -1,5 +1,5 @@
 -- Labels are given once, and removed at most once.
-use Rattle.std.proofs.Common.{◌≡◌, ℕ, ◌+◌, ◌≤◌, ◌⊎◌, inl, inr, true, cond, leb, List, [], ◌∷◌, length, refl, sym, ◌∙◌, ap, subst, arith}
+use Rattle.std.proofs.Common.{◌≡◌, ℕ, ◌+◌, ◌≤◌, ◌⊎◌, inl, inr, true, cond, leb, List, [], ◌∷◌, length, refl, ◌∙◌, ap, arith}
 use Rattle.std.proofs.lemmas.List.{map-append}
 use Rattle.std.proofs.lemmas.Bool.Decides.{nat_tests}
 use Rattle.chr_value.specs.Atoms.{Atom}
@@ -40,7 +40,7 @@ room_fired : (l : ℕ) (I : Rules) (s : State) (t r : ℕ) (kept removed : List 
 room_fired l I s t r kept removed n (inl h) = omega (arith, ap (room l) h.after, room_replaced l I (ended s t) r kept removed h.body h.instance)
 room_fired l I s t r kept removed n (inr h) = omega (arith, ap (room l) h.after, room_replaced l I s r kept removed h.body h.instance)
 
--- the events after a step say the same of the room that it leaves
+-- what a step removes and the room that it leaves fit in the room before, whatever events follow
 Step-room : (l : ℕ) (v : Version) (I : Rules) (s : State) (e : Event ℕ) (n : State) (es : List (Event ℕ)) → Step v I s e n → times l (removed_by (e ∷ es)) + room l n ≤ times l (removed_by es) + room l s
 Step-room l v I s (Post t a) n es h = omega (arith, ap (room l) h.after)
 Step-room l v I s (Activate t k) n es h = omega (arith, ap (room l) h.after, room_activated l s t h.atom)

@@ -20,8 +20,8 @@ use Rattle.chr_model.proofs.Programs.{of_only, of_two}
 use Rattle.chr_model.proofs.Alone.{one_head, carry_one, only_atom, second_atom, endings, all_ended}
 
 -- a drop where no rule applies
-abbrev pub drop_last : {v : Version} {I : Rules} {s : State} {t l : ℕ} → goal_at s t ≡ Numbered l → Final I s.store → (n : State) × Drop v I s t n
-drop_last {v} {I} {s} {t} {l} at f = drop_goal at (MayDrop-final v I s l f)
+abbrev pub drop_final : {v : Version} {I : Rules} {s : State} {t l : ℕ} → goal_at s t ≡ Numbered l → Final I s.store → (n : State) × Drop v I s t n
+drop_final {v} {I} {s} {t} {l} at f = drop_goal at (MayDrop-final v I s l f)
 
 -- the run of a log whose goals have all ended
 pub quiet : (v : Version) (rules : List (Simpagation ℕ)) (log : List (Event ℕ)) (n : ℕ) (store : Store) → Run v (Instances rules) start log (record { goals = endings n; store = store; next = n }) → EndsQuietIn v rules log store
@@ -82,11 +82,11 @@ pair_fires =
     labelled [] (of 0 1 ∷ of 0 1 ∷ []) (pair_rule, refl, record { valuation = numbers 1 0 0; guard = tt; right = (tt, tt); kept_are = refl; removed_are = refl; some_removed = λ e. (cc); body_is = refl }) (refl, (refl, tt)) tt (refl, (refl, tt))
 
 pub one_label : (v : Version) (s last : State) → Run v (Instances pair_rules) s (drop 1 pair_log_one_label) last → ⊥
-one_label v s last run = apart run.2.1
+one_label v s last run = not_distinct run.2.1
   where
-    apart : (Simplify (Instances pair_rules) run.0 1 1 [] (1 ∷ 1 ∷ []) run.2.0 ⊎ Propagate (Instances pair_rules) run.0 1 1 [] (1 ∷ 1 ∷ []) run.2.0) → ⊥
-    apart (inl h) = true≢false h.instance.distinct.0
-    apart (inr h) = true≢false h.instance.distinct.0
+    not_distinct : (Simplify (Instances pair_rules) run.0 1 1 [] (1 ∷ 1 ∷ []) run.2.0 ⊎ Propagate (Instances pair_rules) run.0 1 1 [] (1 ∷ 1 ∷ []) run.2.0) → ⊥
+    not_distinct (inl h) = true≢false h.instance.distinct.0
+    not_distinct (inr h) = true≢false h.instance.distinct.0
 
 -- The least number.
 pub min_alone : (k : ℕ) (a : Atom ℕ) → Final (Instances min_rules) ((k, a) ∷ [])

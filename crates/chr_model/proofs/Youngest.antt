@@ -5,12 +5,11 @@ use Rattle.std.proofs.lemmas.Bool.Decides.{nat_tests}
 use Rattle.chr_value.specs.Atoms.{Atom}
 use Rattle.chr_log.specs.declared.events.Version.TheVariants.{Two}
 use Rattle.chr_model.specs.Abstract.{Rules}
-use Rattle.chr_model.specs.Stores.{labels, among}
+use Rattle.chr_model.specs.Stores.{among}
 use Rattle.chr_model.specs.Goals.{Plain, Numbered, State, goal_at, IsNumbered}
 use Rattle.chr_model.specs.Steps.{posted, activated, ended, replaced, MayDrop}
-use Rattle.chr_model.specs.Logs.{times}
 use Rattle.chr_model.specs.Searches.{IsYoungest, YoungestAreGoals, NoneYoungest}
-use Rattle.chr_model.proofs.Stores.{atom_at-old, among-itself, among-more, Labelled-move, Labelled-there, times-there}
+use Rattle.chr_model.proofs.Stores.{atom_at-old, among-itself, among-more, Labelled-move, Labelled-there}
 use Rattle.chr_model.proofs.Once.{LabelsOnce}
 use Rattle.chr_model.proofs.Older.{store_below}
 use Rattle.chr_model.proofs.Quiet.{numbered-replaced, numbered-ended, numbered-activated, numbered-new, Labelled-left, numbered_left}

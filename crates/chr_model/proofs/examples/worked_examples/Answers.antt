@@ -6,16 +6,16 @@ use Rattle.chr_model.specs.Programs.{Instances}
 use Rattle.chr_model.specs.Examples.{of, gcd, gcd_rules, gcd_log, gcd_log_early_drop, pair_rules, pair_log, pair_log_one_label, min_rules, min_log, token, token_rules, token_log_two, token_log_strict}
 use Rattle.chr_model.proofs.Onward.{after_post, after_activate, after_drop, drop_allowed}
 use Rattle.chr_model.proofs.Steps.{◌▸◌, post, activate, simplify, propagate}
-use Rattle.chr_model.proofs.Worked.{drop_last, quiet, gcd_alone, gcd_nine_six, gcd_six_three, gcd_three_zero, pair_alone, pair_fires, one_label, min_alone, min_fires, token_fires, token_alone, token_partner, token_done}
+use Rattle.chr_model.proofs.Worked.{drop_final, quiet, gcd_alone, gcd_nine_six, gcd_six_three, gcd_three_zero, pair_alone, pair_fires, one_label, min_alone, min_fires, token_fires, token_alone, token_partner, token_done}
 use Rattle.chr_model.proofs.examples.worked_examples.Goals as goal
 
 pub returns-clause-gcd : goal.returns-clause-gcd
 returns-clause-gcd c =
     quiet One gcd_rules gcd_log 5 ((3, gcd 3) ∷ [])
     (post refl ▸ post refl
-    ▸ activate refl refl ▸ drop_last refl (gcd_alone 1 9 (λ e. (cc)))
-    ▸ activate refl refl ▸ propagate refl refl gcd_nine_six ▸ drop_last refl (gcd_alone 2 6 (λ e. (cc)))
-    ▸ activate refl refl ▸ propagate refl refl gcd_six_three ▸ drop_last refl (gcd_alone 3 3 (λ e. (cc)))
+    ▸ activate refl refl ▸ drop_final refl (gcd_alone 1 9 (λ e. (cc)))
+    ▸ activate refl refl ▸ propagate refl refl gcd_nine_six ▸ drop_final refl (gcd_alone 2 6 (λ e. (cc)))
+    ▸ activate refl refl ▸ propagate refl refl gcd_six_three ▸ drop_final refl (gcd_alone 3 3 (λ e. (cc)))
     ▸ activate refl refl ▸ simplify refl refl gcd_three_zero
     ▸ refl)
 
@@ -23,19 +23,19 @@ pub returns-clause-pair : goal.returns-clause-pair
 returns-clause-pair c =
     quiet One pair_rules pair_log 4 ((3, of 1 1) ∷ [])
     (post refl ▸ post refl
-    ▸ activate refl refl ▸ drop_last refl (pair_alone 1 (of 0 1))
+    ▸ activate refl refl ▸ drop_final refl (pair_alone 1 (of 0 1))
     ▸ activate refl refl ▸ simplify refl refl pair_fires
-    ▸ activate refl refl ▸ drop_last refl (pair_alone 3 (of 1 1))
+    ▸ activate refl refl ▸ drop_final refl (pair_alone 3 (of 1 1))
     ▸ refl)
 
 pub returns-clause-min : goal.returns-clause-min
 returns-clause-min c =
     quiet One min_rules min_log 5 ((4, of 0 1) ∷ [])
     (post refl ▸ post refl ▸ post refl ▸ post refl
-    ▸ activate refl refl ▸ drop_last refl (min_alone 1 (of 0 3))
-    ▸ activate refl refl ▸ propagate refl refl (min_fires ((1, of 0 3) ∷ (2, of 0 1) ∷ []) 2 1 3 refl refl refl refl) ▸ drop_last refl (min_alone 2 (of 0 1))
+    ▸ activate refl refl ▸ drop_final refl (min_alone 1 (of 0 3))
+    ▸ activate refl refl ▸ propagate refl refl (min_fires ((1, of 0 3) ∷ (2, of 0 1) ∷ []) 2 1 3 refl refl refl refl) ▸ drop_final refl (min_alone 2 (of 0 1))
     ▸ activate refl refl ▸ simplify refl refl (min_fires ((2, of 0 1) ∷ (3, of 0 2) ∷ []) 2 3 2 refl refl refl refl)
-    ▸ activate refl refl ▸ propagate refl refl (min_fires ((2, of 0 1) ∷ (4, of 0 1) ∷ []) 4 2 1 refl refl refl refl) ▸ drop_last refl (min_alone 4 (of 0 1))
+    ▸ activate refl refl ▸ propagate refl refl (min_fires ((2, of 0 1) ∷ (4, of 0 1) ∷ []) 4 2 1 refl refl refl refl) ▸ drop_final refl (min_alone 4 (of 0 1))
     ▸ refl)
 
 pub returns-clause-token : goal.returns-clause-token
@@ -50,15 +50,15 @@ returns-clause-token_two c =
     quiet Two token_rules token_log_two 4 ((2, token) ∷ (3, of 2 1) ∷ [])
     (post refl ▸ post refl ▸ activate refl refl ▸ activate refl refl
     ▸ (_, record { label = 1; numbered = refl; done = λ r kept removed body i h. (2, token_partner r kept removed body i, (λ e. (cc)), (2, refl)); after = refl })
-    ▸ propagate refl refl token_fires ▸ drop_last refl (token_alone 2 token)
-    ▸ activate refl refl ▸ drop_last refl token_done
+    ▸ propagate refl refl token_fires ▸ drop_final refl (token_alone 2 token)
+    ▸ activate refl refl ▸ drop_final refl token_done
     ▸ refl)
 
 pub returns-clause-token_strict : goal.returns-clause-token_strict
 returns-clause-token_strict c =
     quiet One token_rules token_log_strict 4 ((2, token) ∷ (3, of 2 1) ∷ [])
     (post refl ▸ post refl ▸ activate refl refl ▸ activate refl refl ▸ propagate refl refl token_fires
-    ▸ activate refl refl ▸ drop_last refl token_done ▸ drop_last refl token_done ▸ drop_last refl token_done
+    ▸ activate refl refl ▸ drop_final refl token_done ▸ drop_final refl token_done ▸ drop_final refl token_done
     ▸ refl)
 
 pub returns-clause-early_drop : goal.returns-clause-early_drop
