@@ -71,24 +71,24 @@ guarded_activated I s t a at p r kept removed body i =
     ] refl
 
 -- an instance over what is left was one before
-pub Labelled-left : (I : Rules) (s : Store) (gone : List ℕ) (r : ℕ) (kept removed : List ℕ) (body : List (Atom ℕ)) → Labelled I (without gone s) r kept removed body → Labelled I s r kept removed body
-Labelled-left I s gone r kept removed body i = Labelled-move I (without gone s) s r kept removed body (λ l a j h. (atom_at-kept gone s l a h).0) i
+pub Labelled-left : (I : Rules) (s : Store) (gone : List ℕ) {r : ℕ} {kept removed : List ℕ} {body : List (Atom ℕ)} → Labelled I (without gone s) r kept removed body → Labelled I s r kept removed body
+Labelled-left I s gone {r} {kept} {removed} {body} i = Labelled-move I (without gone s) s r kept removed body (λ l a j h. (atom_at-kept gone s l a h).0) i
 
 -- none of its labels was removed: where the goal of a removed label ends, theirs stay
-pub numbered_left : (I : Rules) (s : State) (t l : ℕ) (gone : List ℕ) (added : List (Atom ℕ)) (r : ℕ) (kept removed : List ℕ) (body : List (Atom ℕ)) (k : ℕ) → goal_at s t ≡ Numbered l → among gone l ≡ true → Labelled I (without gone s.store) r kept removed body → among (kept ++ removed) k ≡ true → IsNumbered s k → IsNumbered (replaced (ended s t) gone added) k
-numbered_left I s t l gone added r kept removed body k at dead i j h =
+pub numbered_left : (I : Rules) (s : State) (t l : ℕ) (gone : List ℕ) (added : List (Atom ℕ)) {r : ℕ} {kept removed : List ℕ} {body : List (Atom ℕ)} (k : ℕ) → goal_at s t ≡ Numbered l → among gone l ≡ true → Labelled I (without gone s.store) r kept removed body → among (kept ++ removed) k ≡ true → IsNumbered s k → IsNumbered (replaced (ended s t) gone added) k
+numbered_left I s t l gone added {r} {kept} {removed} {body} k at dead i j h =
     let there = Labelled-there I (without gone s.store) r kept removed body k j i in
     let alive : among gone k ≡ false = (atom_at-kept gone s.store k there.0 there.1).1 in
     numbered-replaced (ended s t) gone added k (numbered-ended s t l k at (λ z. true≢false (sym dead ∙ ap (among gone) (sym z) ∙ alive)) h)
 
 guarded_simplified : (I : Rules) (s : State) (t l : ℕ) (gone : List ℕ) (added : List (Atom ℕ)) → goal_at s t ≡ Numbered l → among gone l ≡ true → Guarded I s → Guarded I (replaced (ended s t) gone added)
 guarded_simplified I s t l gone added at dead p r kept removed body i =
-    let q = p r kept removed body (Labelled-left I s.store gone r kept removed body i) in
-    (q.0, q.1, numbered_left I s t l gone added r kept removed body q.0 at dead i q.1 q.2)
+    let q = p r kept removed body (Labelled-left I s.store gone i) in
+    (q.0, q.1, numbered_left I s t l gone added q.0 at dead i q.1 q.2)
 
 guarded_replaced : (I : Rules) (s : State) (gone : List ℕ) (added : List (Atom ℕ)) → Guarded I s → Guarded I (replaced s gone added)
 guarded_replaced I s gone added p r kept removed body i =
-    let q = p r kept removed body (Labelled-left I s.store gone r kept removed body i) in
+    let q = p r kept removed body (Labelled-left I s.store gone i) in
     (q.0, q.1, numbered-replaced s gone added q.0 q.2)
 
 -- the first condition of a drop is stronger than the second

@@ -38,11 +38,11 @@ young_dropped I s t l at none g r kept removed body i y h =
 
 pub young_simplified : (I : Rules) (s : State) (t l : ℕ) (gone : List ℕ) (added : List (Atom ℕ)) → goal_at s t ≡ Numbered l → among gone l ≡ true → YoungestAreGoals I s → YoungestAreGoals I (replaced (ended s t) gone added)
 young_simplified I s t l gone added at dead g r kept removed body i y h =
-    numbered_left I s t l gone added r kept removed body y at dead i h.there (g r kept removed body (Labelled-left I s.store gone r kept removed body i) y h)
+    numbered_left I s t l gone added y at dead i h.there (g r kept removed body (Labelled-left I s.store gone i) y h)
 
 pub young_propagated : (I : Rules) (s : State) (gone : List ℕ) (added : List (Atom ℕ)) → YoungestAreGoals I s → YoungestAreGoals I (replaced s gone added)
 young_propagated I s gone added g r kept removed body i y h =
-    numbered-replaced s gone added y (g r kept removed body (Labelled-left I s.store gone r kept removed body i) y h)
+    numbered-replaced s gone added y (g r kept removed body (Labelled-left I s.store gone i) y h)
 
 pub young_posted : (I : Rules) (s : State) (a : Atom ℕ) → YoungestAreGoals I s → YoungestAreGoals I (posted s a)
 young_posted I s a = young_propagated I s [] (a ∷ [])
