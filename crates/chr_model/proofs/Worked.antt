@@ -1,5 +1,5 @@
 -- Instances and states of worked runs.
-use Rattle.std.proofs.Common.{◌≡◌, ◌≢◌, ℕ, ◌+◌, ◌≤◌, List, [], ◌∷◌, ◌++◌, length, Some, None, pos, drop, ◌⊎◌, refl, sym, ◌∙◌, ap, subst, arith, inl, inr, slice_index_or, true, false, true≢false}
+use Rattle.std.proofs.Common.{◌≡◌, ◌≢◌, ℕ, ◌+◌, ◌≤◌, List, [], ◌∷◌, ◌++◌, length, Some, None, pos, drop, ◌⊎◌, refl, sym, ◌∙◌, ap, arith, inl, inr, slice_index_or, true, false, true≢false}
 use Rattle.chr_value.specs.Atoms.{Atom, Int}
 use Rattle.chr_rule.specs.declared.expression.Relation.TheVariants.{LessEqual}
 use Rattle.chr_rule.specs.Rules.{Variable, Compared, Simpagation}
@@ -110,7 +110,7 @@ token_partner r kept removed body i =
     let one = of_only token_rule r i.kept_atoms i.removed_atoms body i.instance in
     let at = carry_one ((1, of 1 1) ∷ (2, token) ∷ []) kept i.kept_atoms token (somes i.kept_atoms (token ∷ []) (sym one.kept_are)) i.kept_there in
     let two : 2 ≡ at.0 = (second_atom 1 (of 1 1) 2 token at.0 token (other_name (of 1 1) token (λ e. (cc))) at.2).0 in
-    subst (λ ls. among (ls ++ removed) 2 ≡ true) (sym at.1) (subst (λ l. among (l ∷ removed) 2 ≡ true) two refl)
+    rw at.1 (rw (← two) refl)
 
 pub token_done : Final (Instances token_rules) ((2, token) ∷ (3, of 2 1) ∷ [])
 token_done r kept removed body i =

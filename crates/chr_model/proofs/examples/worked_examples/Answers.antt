@@ -3,7 +3,7 @@ use Rattle.chr_log.specs.declared.events.Version.TheVariants.{One, Two}
 use Rattle.chr_model.specs.Goals.{Plain, Numbered, Ended, start}
 use Rattle.chr_model.specs.Steps.{posted, activated, ended}
 use Rattle.chr_model.specs.Programs.{Instances}
-use Rattle.chr_model.specs.Examples.{of, gcd, gcd_rules, gcd_log, gcd_log_early_drop, pair_rules, pair_log, pair_log_one_label, min_rules, min_log, token, token_rules, token_log_two, token_log_strict}
+use Rattle.chr_model.specs.Examples.{of, gcd, gcd_rules, gcd_log, gcd_log_early_drop, pair_rules, pair_log, min_rules, min_log, token, token_rules, token_log_two, token_log_strict}
 use Rattle.chr_model.proofs.Onward.{after_post, after_activate, after_drop, drop_allowed}
 use Rattle.chr_model.proofs.Steps.{◌▸◌, post, activate, simplify, propagate}
 use Rattle.chr_model.proofs.Worked.{drop_final, quiet, gcd_alone, gcd_nine_six, gcd_six_three, gcd_three_zero, pair_alone, pair_fires, one_label, min_alone, min_fires, token_fires, token_alone, token_partner, token_done}
@@ -75,8 +75,7 @@ returns-clause-early_drop c = λ last run.
     true≢false (m 2 (2 ∷ []) (1 ∷ []) (gcd 3 ∷ []) gcd_nine_six)
 
 pub returns-clause-one_label : goal.returns-clause-one_label
-returns-clause-one_label c = λ v last run.
-    one_label v (posted start (of 0 1)) last (after_post v (Instances pair_rules) start 1 (of 0 1) (drop 1 pair_log_one_label) last run)
+returns-clause-one_label c = λ v last run. one_label v run.0 last run.2
 
 pub returns-clause-two_is_not_one : goal.returns-clause-two_is_not_one
 returns-clause-two_is_not_one c = λ last run.
