@@ -1,38 +1,25 @@
 -- A goal that is dropped.
-use Rattle.std.proofs.Common.{◌≡◌, ℕ, List, Some, None, Result, Ok, Err, refl, sym, ◌∙◌, ap, subst, slice_set}
+use Rattle.std.proofs.Common.{◌≡◌, ℕ, List, Some, None, Result, Ok, Err, refl, sym, ◌∙◌, ap, subst}
 use Rattle.std.specs.Option.{option_map}
 use Rattle.chr_log.specs.Events.{Drop}
-use Rattle.chr_log.specs.declared.events.Version.TheVariants.{Two}
 use Rattle.chr_model.specs.Stores.{atom_at}
 use Rattle.chr_model.specs.Goals.{Goal, Numbered, goal_at}
-use Rattle.chr_model.specs.Goals as goals
 use Rattle.chr_model.specs.Steps as steps
-use Rattle.chr_model.specs.Logs.{Lawful}
 use Rattle.chr_model.specs.Programs.{Instances}
 use Rattle.chr_model.specs.Searches.{NoneYoungest, YoungestAreGoals}
 use Rattle.chr_model.proofs.Stores.{Labelled-there}
-use Rattle.chr_model.proofs.Strict.{Lawful-push}
 use Rattle.chr_model.proofs.Youngest.{older_done, young_dropped}
 use Rattle.chr_search.specs.Verdicts.{position}
-use Rattle.chr_search.specs.Reach.{Searching}
 use Rattle.chr_search.proofs.Searching.{none_youngest}
 use Rattle.chr_calls.specs.declared.answers.Dropping.{Dropping}
 use Rattle.chr_calls.specs.declared.answers.Dropping.TheVariants as dropping
 use Rattle.chr_calls.specs.declared.answers.DropFault.{DropFault}
 use Rattle.chr_calls.specs.declared.answers.DropFault.TheVariants as drop
-use Rattle.chr_calls.specs.Tickets.{Ticket, ended, ticket_at}
-use Rattle.chr_calls.specs.Books.{BookState, goal_state, events, space_of}
+use Rattle.chr_calls.specs.Tickets.{ended, ticket_at}
+use Rattle.chr_calls.specs.Books.{BookState, goal_state}
 use Rattle.chr_calls.specs.Calls.{MayBeDropped, Drops, dropped}
 use Rattle.chr_calls.specs.Headline.{IsKept}
-use Rattle.chr_calls.proofs.Tickets.{AfterSet, is_set, stands, after_set, goal_there, goals_set, none_ahead, set_ahead, kept_as_is, events_more, still_named}
-
--- where one goal ends, a goal that is numbered is of another ticket, which stands as before
-numbered_else : (tickets : List Ticket) (t u l : ℕ) → (ticket_at (slice_set tickets t ended) u).goal ≡ Numbered l → ticket_at (slice_set tickets t ended) u ≡ ticket_at tickets u
-numbered_else tickets t u l h = other (after_set tickets t ended u)
-  where
-    other : AfterSet tickets t ended u → ticket_at (slice_set tickets t ended) u ≡ ticket_at tickets u
-    other (is_set e within is) = absurd (let z : goals.Ended ≡ Numbered l = sym (ap (λ (x : Ticket). x.goal) is) ∙ h in cc)
-    other (stands is) = is
+use Rattle.chr_calls.proofs.Tickets.{goal_there, goals_set, set_each, IsKeptTicket, ticket_kept, ended_kept, kept_beside, stepped_kept, kept_as_is}
 
 -- no instance has the label of a goal that may be dropped as its youngest
 none_youngest_left : (b : BookState) → IsKept b → (t l : ℕ) → (ticket_at b.tickets t).goal ≡ Numbered l → MayBeDropped b t l → NoneYoungest (Instances b.rules) b.store l
@@ -50,23 +37,11 @@ dropped_kept b seat t l at may k =
     let at_goal : goal_at (goal_state b) t ≡ Numbered l = goal_there b t ∙ at in
     let none : NoneYoungest (Instances b.rules) b.store l = none_youngest_left b k t l at may in
     let after : goal_state n ≡ steps.ended (goal_state b) t = ap (λ (gs : List Goal). record { goals = gs; store = b.store; next = b.next }) (goals_set b.tickets t ended) in
-    record {
-      plans = k.plans;
-      lawful = subst (λ es. Lawful Two (Instances b.rules) es (goal_state n)) (sym (events_more b seat (Drop t)))
-          (Lawful-push Two (Instances b.rules) (events b) (Drop t) (goal_state b) (goal_state n) k.lawful
-          (record { label = l; numbered = at_goal; done = older_done (Instances b.rules) (goal_state b) l k.youngest none; after = after }));
-      given = λ u m h. k.given u m (ap (λ (x : Ticket). x.goal) (sym (numbered_else b.tickets t u m h)) ∙ h);
-      searching = λ u m h.
-          let same = numbered_else b.tickets t u m h in
-          subst (λ (x : Ticket). Searching (space_of b m) x.position (option_map position x.candidate)) (sym same) (k.searching u m (ap (λ (x : Ticket). x.goal) (sym same) ∙ h));
-      candidates = λ u m trial h is.
-          let same = numbered_else b.tickets t u m h in
-          let i = k.candidates u m trial (ap (λ (x : Ticket). x.goal) (sym same) ∙ h) (ap (λ (x : Ticket). x.candidate) (sym same) ∙ is) in
-          record { formed = i.formed; was = i.was; active = i.active; given = i.given };
-      ahead = set_ahead b.tickets t ended k.ahead (none_ahead ended refl);
-      named = still_named b seat (Drop t) refl k.named;
-      youngest = subst (YoungestAreGoals (Instances b.rules)) (sym after) (young_dropped (Instances b.rules) (goal_state b) t l at_goal none k.youngest);
-    }
+    stepped_kept b seat (Drop t) b.store b.next n.tickets
+    (record { label = l; numbered = at_goal; done = older_done (Instances b.rules) (goal_state b) l k.youngest none; after = after })
+    (subst (YoungestAreGoals (Instances b.rules)) (sym after) (young_dropped (Instances b.rules) (goal_state b) t l at_goal none k.youngest))
+    tt
+    (set_each (λ u. IsKeptTicket n) b.tickets t ended (ended_kept n) (λ u. kept_beside b b.names n.log n.tickets (ticket_at b.tickets u) (ticket_kept b k u))) k
 
 pub drops_keep : (b n : BookState) (seat t : ℕ) (answer : Result Dropping DropFault) → Drops b seat t answer n → IsKept b → IsKept n
 drops_keep b n seat t (Err drop.NotHeld) d k = kept_as_is b n d.1 k

@@ -1,5 +1,5 @@
 -- A trial that is fired, and one that is missed.
-use Rattle.std.proofs.Common.{◌≡◌, ℕ, zero, suc, ◌+◌, ◌<◌, ◌≤◌, inl, inr, Bool, true, false, not, ◌==◌, ltb, if◌then◌else◌, List, [], ◌∷◌, ◌++◌, map, length, length-append, Some, None, Result, Ok, Err, refl, sym, ◌∙◌, ap, ap₂, subst, arith, slice_set, true≢false, true-eqb}
+use Rattle.std.proofs.Common.{◌≡◌, ℕ, zero, suc, ◌+◌, ◌<◌, ◌≤◌, inl, inr, Bool, true, false, not, ◌==◌, ltb, if◌then◌else◌, List, [], ◌∷◌, ◌++◌, map, length, length-append, Option, Some, None, Result, Ok, Err, refl, sym, ◌∙◌, ap, ap₂, subst, arith, slice_set, true≢false, true-eqb}
 use Rattle.std.specs.List.{AllByRecursion}
 use Rattle.std.specs.Option.{option_map}
 use Rattle.std.proofs.lemmas.Bool.Decides.{nat_tests}
@@ -8,14 +8,11 @@ use Rattle.chr_log.specs.Events.{Fire}
 use Rattle.chr_log.specs.declared.events.Version.TheVariants.{Two}
 use Rattle.chr_model.specs.Stores.{Store, atom_at, without, among, Distinct, Labelled}
 use Rattle.chr_model.specs.Goals.{Goal, Numbered, goal_at}
-use Rattle.chr_model.specs.Goals as goals
 use Rattle.chr_model.specs.Steps.{Step}
 use Rattle.chr_model.specs.Steps as steps
-use Rattle.chr_model.specs.Logs.{Lawful}
 use Rattle.chr_model.specs.Programs.{Instances}
 use Rattle.chr_model.specs.Searches.{YoungestAreGoals}
 use Rattle.chr_model.proofs.Stores.{atom_at-kept, atom_at-without, among-itself, among-more}
-use Rattle.chr_model.proofs.Strict.{Lawful-push}
 use Rattle.chr_model.proofs.Youngest.{young_simplified, young_propagated}
 use Rattle.chr_plan.specs.Orders.{heads_of}
 use Rattle.chr_search.specs.Positions.{past}
@@ -30,10 +27,10 @@ use Rattle.chr_calls.specs.declared.answers.Firing.TheVariants as firing
 use Rattle.chr_calls.specs.declared.answers.FireFault.{FireFault}
 use Rattle.chr_calls.specs.declared.answers.FireFault.TheVariants as fire
 use Rattle.chr_calls.specs.Tickets.{Ticket, ended, waiting, going_on, ticket_at}
-use Rattle.chr_calls.specs.Books.{BookState, goal_state, events, space_of, with_ticket}
+use Rattle.chr_calls.specs.Books.{BookState, goal_state, space_of, with_ticket}
 use Rattle.chr_calls.specs.Calls.{AreLive, FiresOrMisses, fired_ticket, fired}
-use Rattle.chr_calls.specs.Headline.{IsCandidate, IsAhead, IsKept}
-use Rattle.chr_calls.proofs.Tickets.{AfterSet, is_set, stands, after_set, goal_there, goals_set, goals_stay, goals_waiting, goals_appended, numbered_before, none_ahead, set_ahead, waiting_ahead, kept_as_is, kept_with, events_more, still_named}
+use Rattle.chr_calls.specs.Headline.{IsCandidate, IsKept}
+use Rattle.chr_calls.proofs.Tickets.{set_each, goal_there, goals_set, goals_stay, goals_waiting, goals_appended, waiting_each, IsKeptTicket, ticket_kept, kept_without, ended_kept, waiting_kept, still_kept, stepped_kept, kept_as_is, moved_keeps}
 
 -- ---- a trial of which a label has left the store
 
@@ -59,9 +56,7 @@ past_gone b t l g trial at c named store less gone k =
 missed_kept : (b : BookState) (t : ℕ) (trial : Trial) → (ticket_at b.tickets t).candidate ≡ Some trial → (AreLive b trial → ⊥) → IsKept b → IsKept (with_ticket b t (going_on (past (position trial)) (ticket_at b.tickets t)))
 missed_kept b t trial c dead k =
     let gone = one_gone b.store trial.placed dead in
-    kept_with b t (going_on (past (position trial)) (ticket_at b.tickets t)) refl
-    (λ l at. past_gone b t l gone.0 trial at c gone.1 b.store (λ m a seen h. h) gone.2 k)
-    (λ l other at is. absurd (let z : None ≡ Some other = is in cc)) (none_ahead (going_on (past (position trial)) (ticket_at b.tickets t)) refl) k
+    moved_keeps b t (past (position trial)) (λ l at. past_gone b t l gone.0 trial at c gone.1 b.store (λ m a seen h. h) gone.2 k) k
 
 -- ---- the labels of a whole trial
 
@@ -159,23 +154,6 @@ was_before b trial other w = record { rule_is = w.rule_is; order = w.order; orde
     left [] all = tt
     left (p ∷ ps) all = ((λ a h. all.0 a (atom_at-kept (removed_labels trial) b.store p.label a h).0), left ps all.1)
 
--- a numbered goal is of the ticket that goes on, or of another, which stands as before
-data AfterFiring (ts : List Ticket) (t : ℕ) (trial : Trial) (body : List (Atom ℕ)) (lives : Bool) (u : ℕ) : Type 0 where
-  goes_on : ticket_at (tickets_fired ts t trial body lives) u ≡ going_on (past (position trial)) (ticket_at ts t) → AfterFiring ts t trial body lives u
-  is_other : ticket_at (tickets_fired ts t trial body lives) u ≡ ticket_at ts u → AfterFiring ts t trial body lives u
-
-after_firing : (ts : List Ticket) (t : ℕ) (trial : Trial) (body : List (Atom ℕ)) (lives : Bool) (u l : ℕ) → (ticket_at (tickets_fired ts t trial body lives) u).goal ≡ Numbered l → AfterFiring ts t trial body lives u
-after_firing ts t trial body lives u l h =
-    let x : Ticket = fired_ticket (ticket_at ts t) trial lives in
-    let same : ticket_at (tickets_fired ts t trial body lives) u ≡ ticket_at (slice_set ts t x) u = numbered_before (slice_set ts t x) body u l h in
-    of_set lives (after_set ts t x u) same (ap (λ (y : Ticket). y.goal) (sym same) ∙ h)
-  where
-    of_set : (c : Bool) → AfterSet ts t (fired_ticket (ticket_at ts t) trial c) u → ticket_at (tickets_fired ts t trial body c) u ≡ ticket_at (slice_set ts t (fired_ticket (ticket_at ts t) trial c)) u
-        → (ticket_at (slice_set ts t (fired_ticket (ticket_at ts t) trial c)) u).goal ≡ Numbered l → AfterFiring ts t trial body c u
-    of_set c (stands is) same at = is_other (same ∙ is)
-    of_set true (is_set e within is) same at = goes_on (same ∙ is)
-    of_set false (is_set e within is) same at = absurd (let z : goals.Ended ≡ Numbered l = sym (ap (λ (y : Ticket). y.goal) is) ∙ at in cc)
-
 -- the step that it is
 state_fired : (b : BookState) (seat t : ℕ) (trial : Trial) (body : List (Atom ℕ)) (lives : Bool) (gs : List Goal) → map (λ (y : Ticket). y.goal) (slice_set b.tickets t (fired_ticket (ticket_at b.tickets t) trial lives)) ≡ gs
     → goal_state (fired b seat t trial body lives) ≡ steps.replaced (record { goals = gs; store = b.store; next = b.next }) (removed_labels trial) body
@@ -215,46 +193,29 @@ outcome b seat t l trial body false at i e kept k =
 fired_kept : (b : BookState) (seat t l : ℕ) (trial : Trial) (body : List (Atom ℕ)) (lives : Bool) → (ticket_at b.tickets t).goal ≡ Numbered l → (ticket_at b.tickets t).candidate ≡ Some trial → IsWhole trial
     → Labelled (Instances b.rules) b.store trial.number (kept_labels trial) (removed_labels trial) body → lives ≡ not (among (removed_labels trial) l) → IsKept b → IsKept (fired b seat t trial body lives)
 fired_kept b seat t l trial body lives at c w i e k =
-    let n = fired b seat t trial body lives in
-    let gone = removed_labels trial in
     let cand = k.candidates t l trial at c in
     let o = outcome b seat t l trial body lives at i e (kept_else trial cand.formed l cand.active) k in
     let one = one_removed trial cand.formed w.full in
-    let dead : atom_at (store_fired b trial) one.0 ≡ None = atom_at-without gone b.store one.0 ∙ ap (λ (z : Bool). if z then None else atom_at b.store one.0) one.2 in
-    record {
-      plans = k.plans;
-      lawful = subst (λ es. Lawful Two (Instances b.rules) es (goal_state n)) (sym (events_more b seat (Fire t trial.number (kept_labels trial) gone)))
-          (Lawful-push Two (Instances b.rules) (events b) (Fire t trial.number (kept_labels trial) gone) (goal_state b) (goal_state n) k.lawful o.step);
-      given = λ u m h. given u m (after_firing b.tickets t trial body lives u m h) h;
-      searching = λ u m h. searching one.0 one.1 dead u m (after_firing b.tickets t trial body lives u m h) h;
-      candidates = λ u m other h is. candidate u m other (after_firing b.tickets t trial body lives u m h) h is;
-      ahead = waiting_ahead (slice_set b.tickets t (fired_ticket (ticket_at b.tickets t) trial lives)) body (set_ahead b.tickets t (fired_ticket (ticket_at b.tickets t) trial lives) k.ahead (fired_ahead lives));
-      named = still_named b seat (Fire t trial.number (kept_labels trial) gone) refl k.named;
-      youngest = o.youngest;
-    }
+    let dead : atom_at store one.0 ≡ None = atom_at-without (removed_labels trial) b.store one.0 ∙ ap (λ (z : Bool). if z then None else atom_at b.store one.0) one.2 in
+    stepped_kept b seat (Fire t trial.number (kept_labels trial) (removed_labels trial)) store b.next (tickets_fired b.tickets t trial body lives) o.step o.youngest tt
+    (waiting_each (IsKeptTicket n) (slice_set b.tickets t (fired_ticket (ticket_at b.tickets t) trial lives)) body (waiting_kept n)
+    (set_each (λ u. IsKeptTicket n) b.tickets t (fired_ticket (ticket_at b.tickets t) trial lives) (own one.0 one.1 dead lives) (λ u. still_kept b n (ticket_at b.tickets u) (omega arith) searching candidate (ticket_kept b k u)))) k
   where
-    fired_ahead : (stays : Bool) → IsAhead (fired_ticket (ticket_at b.tickets t) trial stays)
-    fired_ahead true = none_ahead (going_on (past (position trial)) (ticket_at b.tickets t)) refl
-    fired_ahead false = none_ahead ended refl
+    n : BookState
+    n = fired b seat t trial body lives
 
-    given : (u m : ℕ) → AfterFiring b.tickets t trial body lives u → (ticket_at (tickets_fired b.tickets t trial body lives) u).goal ≡ Numbered m → m < b.next
-    given u m (goes_on is) h = k.given t m (ap (λ (y : Ticket). y.goal) (sym is) ∙ h)
-    given u m (is_other is) h = k.given u m (ap (λ (y : Ticket). y.goal) (sym is) ∙ h)
+    store : Store
+    store = store_fired b trial
 
-    searching : (g : ℕ) → among (labels trial) g ≡ true → atom_at (store_fired b trial) g ≡ None → (u m : ℕ) → AfterFiring b.tickets t trial body lives u → (ticket_at (tickets_fired b.tickets t trial body lives) u).goal ≡ Numbered m
-        → Searching (over (space_of b m) (store_fired b trial)) (ticket_at (tickets_fired b.tickets t trial body lives) u).position (option_map position (ticket_at (tickets_fired b.tickets t trial body lives) u).candidate)
-    searching g named dead u m (goes_on is) h =
-        subst (λ (y : Ticket). Searching (over (space_of b m) (store_fired b trial)) y.position (option_map position y.candidate)) (sym is)
-        (past_gone b t m g trial (ap (λ (y : Ticket). y.goal) (sym is) ∙ h) c named (store_fired b trial) (no_more b trial m) dead k)
-    searching g named dead u m (is_other is) h =
-        subst (λ (y : Ticket). Searching (over (space_of b m) (store_fired b trial)) y.position (option_map position y.candidate)) (sym is)
-        (shrunk (space_of b m) k.plans (store_fired b trial) (no_more b trial m) (ticket_at b.tickets u).position (option_map position (ticket_at b.tickets u).candidate) (k.searching u m (ap (λ (y : Ticket). y.goal) (sym is) ∙ h)))
+    own : (g : ℕ) → among (labels trial) g ≡ true → atom_at store g ≡ None → (stays : Bool) → IsKeptTicket n (fired_ticket (ticket_at b.tickets t) trial stays)
+    own g named dead true = kept_without n (going_on (past (position trial)) (ticket_at b.tickets t)) refl (λ m h. (k.given t m h, past_gone b t m g trial h c named store (no_more b trial m) dead k))
+    own g named dead false = ended_kept n
 
-    candidate : (u m : ℕ) (other : Trial) → AfterFiring b.tickets t trial body lives u → (ticket_at (tickets_fired b.tickets t trial body lives) u).goal ≡ Numbered m → (ticket_at (tickets_fired b.tickets t trial body lives) u).candidate ≡ Some other → IsCandidate (fired b seat t trial body lives) m other
-    candidate u m other (goes_on is) h has = absurd (let z : None ≡ Some other = sym (ap (λ (y : Ticket). y.candidate) is) ∙ has in cc)
-    candidate u m other (is_other is) h has =
-        let old = k.candidates u m other (ap (λ (y : Ticket). y.goal) (sym is) ∙ h) (ap (λ (y : Ticket). y.candidate) (sym is) ∙ has) in
-        record { formed = old.formed; was = was_before b trial other old.was; active = old.active; given = old.given }
+    searching : (m : ℕ) (place : List ℕ) (o : Option (List ℕ)) → m < b.next → Searching (space_of b m) place o → Searching (space_of n m) place o
+    searching m place o less s = shrunk (space_of b m) k.plans store (no_more b trial m) place o s
+
+    candidate : (m : ℕ) (other : Trial) → IsCandidate b m other → IsCandidate n m other
+    candidate m other old = record { formed = old.formed; was = was_before b trial other old.was; active = old.active; given = old.given }
 
 pub fires_keep : (b n : BookState) (seat t : ℕ) (j : Judgement) (answer : Result Firing FireFault) → IsVerdict j.trial j.verdict → FiresOrMisses b seat t j answer n → IsKept b → IsKept n
 fires_keep b n seat t j (Err fire.NotHeld) right f k = kept_as_is b n f.1 k

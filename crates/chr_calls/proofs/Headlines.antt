@@ -4,7 +4,6 @@ use Rattle.chr_value.specs.Atoms.{Atom}
 use Rattle.chr_rule.specs.Rules.{Simpagation}
 use Rattle.chr_log.specs.Events.{Event, Post, Activate, Fire, Drop}
 use Rattle.chr_log.specs.declared.events.Version.TheVariants.{Two}
-use Rattle.chr_model.specs.Goals.{Numbered}
 use Rattle.chr_model.specs.Logs.{posted_by}
 use Rattle.chr_model.specs.Programs.{Instances}
 use Rattle.chr_model.proofs.Stores.{Labelled-there}
@@ -43,34 +42,24 @@ use Rattle.chr_calls.specs.Calls.{posted, all_posted, Posts, Claims, Turns, Repo
 use Rattle.chr_calls.specs.Batches.{Batch, Trials, Done, Gone, BatchReport, Batches, ReportsAll, asks, ends, reports, passes, ReportsBatch, AreRight}
 use Rattle.chr_calls.specs.Runs.{Call, Run, posts_of, all_posts}
 use Rattle.chr_calls.specs.Runs as calls
-use Rattle.chr_calls.specs.Headline.{Headline, IsAhead, IsKept}
-use Rattle.chr_calls.proofs.Tickets.{goal_there, none_ahead, posts_appended, events_more}
+use Rattle.chr_calls.specs.Headline.{Headline, IsKept}
+use Rattle.chr_calls.proofs.Tickets.{goal_there, posts_appended, events_more, IsKeptTicket, ended_kept, book_kept}
 use Rattle.chr_calls.proofs.Posting.{renamed_keeps, posts_keep}
 use Rattle.chr_calls.proofs.Claiming.{claims_keep}
 use Rattle.chr_calls.proofs.Marking.{put_downs_keep, marks_keep, strays_keep}
 
 -- ---- a book as it is opened
 
--- no ticket of it has a numbered goal
-none_numbered : (t l : ℕ) → (ticket_at (ended ∷ []) t).goal ≡ Numbered l → ⊥
-none_numbered zero l h = cc
-none_numbered (suc t) l h = cc
-
-opened_ahead : (t : ℕ) → IsAhead (ticket_at (ended ∷ []) t)
-opened_ahead zero = none_ahead ended refl
-opened_ahead (suc t) = none_ahead ended refl
+-- each ticket of it has ended
+opened_each : (b : BookState) (t : ℕ) → IsKeptTicket b (ticket_at (ended ∷ []) t)
+opened_each b zero = ended_kept b
+opened_each b (suc t) = ended_kept b
 
 pub opened_kept : (rules : List (Simpagation ℕ)) (plans : PlanList) (names : List (List ℕ)) (limit : ℕ) → ArePlans rules plans → IsKept (opened rules plans names limit)
-opened_kept rules plans names limit ps = record {
-  plans = ps;
-  lawful = refl;
-  given = λ t l at. absurd (none_numbered t l at);
-  searching = λ t l at. absurd (none_numbered t l at);
-  candidates = λ t l trial at is. absurd (none_numbered t l at);
-  ahead = opened_ahead;
-  named = tt;
-  youngest = λ r kept removed body i y h. absurd (let there = Labelled-there (Instances rules) [] r kept removed body y h.there i in let z : None ≡ Some there.0 = there.1 in cc);
-}
+opened_kept rules plans names limit ps =
+    book_kept (opened rules plans names limit) ps refl
+    (λ r kept removed body i y h. absurd (let there = Labelled-there (Instances rules) [] r kept removed body y h.there i in let z : None ≡ Some there.0 = there.1 in cc)) tt
+    (opened_each (opened rules plans names limit))
 
 -- ---- the headline
 

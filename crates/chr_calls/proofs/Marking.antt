@@ -17,7 +17,7 @@ put_downs_keep b n seat t (Ok done) h k =
 
 -- a mark is no part of what is kept
 mark_keeps : (b : BookState) (t : ℕ) (mark : Bool) → IsKept b → IsKept (with_ticket b t (marked mark (ticket_at b.tickets t)))
-mark_keeps b t mark k = kept_with b t (marked mark (ticket_at b.tickets t)) refl (λ l at. k.searching t l at) (λ l trial at is. k.candidates t l trial at is) (k.ahead t) k
+mark_keeps b t mark k = kept_with b t (marked mark (ticket_at b.tickets t)) refl (record { given = k.given t; searching = k.searching t; candidates = k.candidates t; ahead = k.ahead t }) k
 
 pub marks_keep : (b n : BookState) (t : ℕ) (answer : Result (Unit {0}) MarkFault) → Marks b t answer n → IsKept b → IsKept n
 marks_keep b n t (Err (mark.NotWaiting state)) h k = kept_as_is b n h.2 k

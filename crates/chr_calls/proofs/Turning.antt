@@ -29,11 +29,11 @@ use Rattle.chr_calls.specs.declared.answers.TurnFault.TheVariants as turn_fault
 use Rattle.chr_calls.specs.declared.answers.ReportFault.{ReportFault}
 use Rattle.chr_calls.specs.declared.answers.ReportFault.TheVariants as report
 use Rattle.chr_calls.specs.Turns.{Turn, Next, Done, Gone}
-use Rattle.chr_calls.specs.Tickets.{with_candidate, going_on, ticket_at}
-use Rattle.chr_calls.specs.Books.{BookState, goal_state, events, space_of, with_ticket}
+use Rattle.chr_calls.specs.Tickets.{with_candidate, ticket_at}
+use Rattle.chr_calls.specs.Books.{BookState, goal_state, events, space_of}
 use Rattle.chr_calls.specs.Calls.{IsNextTrial, with_candidate_of, Turns, after_judgement, Reports}
 use Rattle.chr_calls.specs.Headline.{IsCandidate, IsAhead, IsKept}
-use Rattle.chr_calls.proofs.Tickets.{held_label, none_ahead, kept_as_is, kept_with, kept_forgotten}
+use Rattle.chr_calls.proofs.Tickets.{held_label, kept_as_is, kept_with, kept_forgotten, moved_keeps}
 
 -- ---- trial
 
@@ -79,7 +79,7 @@ next_candidate b t l trial lawful n = record {
 }
 
 next_keeps : (b : BookState) (t l : ℕ) (trial : Trial) → (ticket_at b.tickets t).goal ≡ Numbered l → IsNextTrial b t l trial → IsKept b → IsKept (with_candidate_of b t (Some trial))
-next_keeps b t l trial g n k = kept_with b t (with_candidate (Some trial) (ticket_at b.tickets t)) refl searching candidate ahead k
+next_keeps b t l trial g n k = kept_with b t (with_candidate (Some trial) (ticket_at b.tickets t)) refl (record { given = k.given t; searching = searching; candidates = candidate; ahead = ahead }) k
   where
     searching : (m : ℕ) → (ticket_at b.tickets t).goal ≡ Numbered m → Searching (space_of b m) (ticket_at b.tickets t).position (Some (position trial))
     searching m e =
@@ -107,10 +107,6 @@ turns_keep b n seat t (Ok (Next trial)) h k = subst IsKept (sym h.3) (next_keeps
 turns_keep b n seat t (Ok Done) h k = subst IsKept (sym h.3) (none_keeps b t k)
 
 -- ---- report
-
--- the ticket's search goes on at a position, without a candidate
-moved_keeps : (b : BookState) (t : ℕ) (place : List ℕ) → ((l : ℕ) → (ticket_at b.tickets t).goal ≡ Numbered l → Searching (space_of b l) place None) → IsKept b → IsKept (with_ticket b t (going_on place (ticket_at b.tickets t)))
-moved_keeps b t place s k = kept_with b t (going_on place (ticket_at b.tickets t)) refl s (λ l trial e c. absurd (let z : Some trial ≡ None = sym c in cc)) (none_ahead (going_on place (ticket_at b.tickets t)) refl) k
 
 -- the search of a ticket that has this candidate
 searching_of : (b : BookState) (t : ℕ) (trial : Trial) → IsKept b → (ticket_at b.tickets t).candidate ≡ Some trial → (l : ℕ) → (ticket_at b.tickets t).goal ≡ Numbered l → Searching (space_of b l) (ticket_at b.tickets t).position (Some (position trial))
