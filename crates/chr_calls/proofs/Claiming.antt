@@ -22,7 +22,8 @@ use Rattle.chr_calls.specs.Tickets.{activated_by, held_by, ticket_at}
 use Rattle.chr_calls.specs.Books.{BookState, goal_state, events, space_of}
 use Rattle.chr_calls.specs.Calls.{activated, Claims}
 use Rattle.chr_calls.specs.Headline.{IsCandidate, IsKept}
-use Rattle.chr_calls.proofs.Tickets.{goal_there, goals_set, set_each, IsKeptTicket, ticket_kept, kept_without, still_kept, stepped_kept, kept_as_is, kept_forgotten}
+use Rattle.chr_calls.proofs.Tickets.{goal_there, goals_set, set_each, IsKeptTicket, ticket_kept, kept_without, still_kept, stepped_kept}
+use Rattle.chr_calls.proofs.Leading.{was_plain, set_follows, searches_forget, Leads, leads_search, leads_same, leads_entry}
 
 -- the goal state where an atom has entered the store
 activated_state : (b : BookState) (seat t : ℕ) (a : Atom ℕ) → goal_state (activated b seat t a) ≡ steps.activated (goal_state b) t a
@@ -65,9 +66,13 @@ activated_keeps b seat t a plain k =
       given = placed_below b.next trial.placed c.given;
     }
 
+pub claims_lead : (b n : BookState) (seat t : ℕ) (answer : Result ℕ ClaimFault) → Claims b seat t answer n → Leads b n []
+claims_lead b n seat t (Err (claim.NotWaiting state)) h = leads_same b n h.2
+claims_lead b n seat t (Err claim.LabelsSpent) h = leads_same b n h.2
+claims_lead b n seat t (Err claim.NoMemory) h = leads_same b n h.1
+claims_lead b n seat t (Ok l) (inl h) =
+    leads_entry b n (activated b seat t h.atom) seat (log.Activate t b.next) h.after refl (activated_keeps b seat t h.atom h.goal) (λ k. set_follows b.tickets t (activated_by seat b.next) (was_plain h.atom h.goal))
+claims_lead b n seat t (Ok l) (inr h) = leads_search b n (searches_forget b n t (held_by seat (ticket_at b.tickets t)) h.after refl refl refl)
+
 pub claims_keep : (b n : BookState) (seat t : ℕ) (answer : Result ℕ ClaimFault) → Claims b seat t answer n → IsKept b → IsKept n
-claims_keep b n seat t (Err (claim.NotWaiting state)) h k = kept_as_is b n h.2 k
-claims_keep b n seat t (Err claim.LabelsSpent) h k = kept_as_is b n h.2 k
-claims_keep b n seat t (Err claim.NoMemory) h k = kept_as_is b n h.1 k
-claims_keep b n seat t (Ok l) (inl h) k = subst IsKept (sym h.after) (activated_keeps b seat t h.atom h.goal k)
-claims_keep b n seat t (Ok l) (inr h) k = subst IsKept (sym h.after) (kept_forgotten b t (held_by seat (ticket_at b.tickets t)) refl refl refl k)
+claims_keep b n seat t answer h = (claims_lead b n seat t answer h).kept

@@ -1,5 +1,5 @@
 -- A goal that is dropped.
-use Rattle.std.proofs.Common.{◌≡◌, ℕ, List, Some, None, Result, Ok, Err, refl, sym, ◌∙◌, ap, subst}
+use Rattle.std.proofs.Common.{◌≡◌, ℕ, List, [], Some, None, Result, Ok, Err, refl, sym, ◌∙◌, ap, subst}
 use Rattle.std.specs.Option.{option_map}
 use Rattle.chr_log.specs.Events.{Drop}
 use Rattle.chr_model.specs.Stores.{atom_at}
@@ -19,7 +19,8 @@ use Rattle.chr_calls.specs.Tickets.{ended, ticket_at}
 use Rattle.chr_calls.specs.Books.{BookState, goal_state}
 use Rattle.chr_calls.specs.Calls.{MayBeDropped, Drops, dropped}
 use Rattle.chr_calls.specs.Headline.{IsKept}
-use Rattle.chr_calls.proofs.Tickets.{goal_there, goals_set, set_each, IsKeptTicket, ticket_kept, ended_kept, kept_beside, stepped_kept, kept_as_is}
+use Rattle.chr_calls.proofs.Tickets.{goal_there, goals_set, set_each, IsKeptTicket, ticket_kept, ended_kept, kept_beside, stepped_kept}
+use Rattle.chr_calls.proofs.Leading.{is_over, set_follows, Leads, leads_same, leads_entry}
 
 -- no instance has the label of a goal that may be dropped as its youngest
 none_youngest_left : (b : BookState) → IsKept b → (t l : ℕ) → (ticket_at b.tickets t).goal ≡ Numbered l → MayBeDropped b t l → NoneYoungest (Instances b.rules) b.store l
@@ -43,8 +44,11 @@ dropped_kept b seat t l at may k =
     tt
     (set_each (λ u. IsKeptTicket n) b.tickets t ended (ended_kept n) (λ u. kept_beside b b.names n.log n.tickets (ticket_at b.tickets u) (ticket_kept b k u))) k
 
+pub drops_lead : (b n : BookState) (seat t : ℕ) (answer : Result Dropping DropFault) → Drops b seat t answer n → Leads b n []
+drops_lead b n seat t (Err drop.NotHeld) h = leads_same b n h.1
+drops_lead b n seat t (Err drop.NoMemory) h = leads_same b n h.3
+drops_lead b n seat t (Ok dropping.Dropped) h = leads_entry b n (dropped b seat t) seat (Drop t) h.3 refl (dropped_kept b seat t h.0 h.1.goal h.2) (λ k. set_follows b.tickets t ended (is_over refl))
+drops_lead b n seat t (Ok dropping.Unfinished) h = leads_same b n h.3
+
 pub drops_keep : (b n : BookState) (seat t : ℕ) (answer : Result Dropping DropFault) → Drops b seat t answer n → IsKept b → IsKept n
-drops_keep b n seat t (Err drop.NotHeld) d k = kept_as_is b n d.1 k
-drops_keep b n seat t (Err drop.NoMemory) d k = kept_as_is b n d.3 k
-drops_keep b n seat t (Ok dropping.Dropped) d k = subst IsKept (sym d.3) (dropped_kept b seat t d.0 d.1.goal d.2 k)
-drops_keep b n seat t (Ok dropping.Unfinished) d k = kept_as_is b n d.3 k
+drops_keep b n seat t answer h = (drops_lead b n seat t answer h).kept

@@ -3,6 +3,7 @@ use Rattle.std.proofs.Common.{◌≡◌, ℕ, zero, suc, ◌+◌, ◌<◌, ◌�
 use Rattle.std.specs.List.{AllByRecursion}
 use Rattle.std.specs.Option.{option_map}
 use Rattle.std.proofs.lemmas.Bool.Decides.{nat_tests}
+use Rattle.std.proofs.lemmas.List.{length-set}
 use Rattle.chr_value.specs.Atoms.{Atom}
 use Rattle.chr_log.specs.Events.{Fire}
 use Rattle.chr_log.specs.declared.events.Version.TheVariants.{Two}
@@ -15,22 +16,26 @@ use Rattle.chr_model.specs.Searches.{YoungestAreGoals}
 use Rattle.chr_model.proofs.Stores.{atom_at-kept, atom_at-without, among-itself, among-more}
 use Rattle.chr_model.proofs.Youngest.{young_simplified, young_propagated}
 use Rattle.chr_plan.specs.Orders.{heads_of}
-use Rattle.chr_search.specs.Positions.{past}
+use Rattle.chr_search.specs.Positions.{at_or_after, past}
 use Rattle.chr_search.specs.Verdicts.{Placed, Trial, labels, position, label_at, labels_from, kept_labels, removed_labels, IsFormed, IsWhole, WasTrialOf}
 use Rattle.chr_search.specs.Reach.{HasNoMore, over, Searching}
+use Rattle.chr_search.specs.declared.judged.Verdict.TheVariants as verdicts
 use Rattle.chr_search.specs.Judged.{Judgement, IsVerdict}
 use Rattle.chr_search.specs.Answers.{after_verdict}
 use Rattle.chr_search.proofs.Searching.{shrunk, moved_past}
 use Rattle.chr_search.proofs.Outcomes.{gone_none}
 use Rattle.chr_calls.specs.declared.answers.Firing.{Firing}
 use Rattle.chr_calls.specs.declared.answers.Firing.TheVariants as firing
+use Rattle.chr_calls.specs.declared.answers.Fired.{Fired}
 use Rattle.chr_calls.specs.declared.answers.FireFault.{FireFault}
 use Rattle.chr_calls.specs.declared.answers.FireFault.TheVariants as fire
 use Rattle.chr_calls.specs.Tickets.{Ticket, ended, waiting, going_on, ticket_at}
 use Rattle.chr_calls.specs.Books.{BookState, goal_state, space_of, with_ticket}
 use Rattle.chr_calls.specs.Calls.{AreLive, FiresOrMisses, fired_ticket, fired}
 use Rattle.chr_calls.specs.Headline.{IsCandidate, IsKept}
-use Rattle.chr_calls.proofs.Tickets.{set_each, goal_there, goals_set, goals_stay, goals_waiting, goals_appended, waiting_each, IsKeptTicket, ticket_kept, kept_without, ended_kept, waiting_kept, still_kept, stepped_kept, kept_as_is, moved_keeps}
+use Rattle.chr_calls.specs.Moves.{MovesOn}
+use Rattle.chr_calls.proofs.Tickets.{set_each, goal_there, goals_set, goals_stay, goals_waiting, goals_appended, waiting_each, IsKeptTicket, ticket_kept, kept_without, ended_kept, waiting_kept, still_kept, stepped_kept, moved_keeps, ticket_same, ticket_before, held_is}
+use Rattle.chr_calls.proofs.Leading.{judged_on, Comes, is_searched, is_over, follow_by, set_follows, more_follow, searches_set, on_from, Leads, leads_search, leads_same, leads_entry}
 
 -- ---- a trial of which a label has left the store
 
@@ -217,14 +222,43 @@ fired_kept b seat t l trial body lives at c w i e k =
     candidate : (m : ℕ) (other : Trial) → IsCandidate b m other → IsCandidate n m other
     candidate m other old = record { formed = old.formed; was = was_before b trial other old.was; active = old.active; given = old.given }
 
-pub fires_keep : (b n : BookState) (seat t : ℕ) (j : Judgement) (answer : Result Firing FireFault) → IsVerdict j.trial j.verdict → FiresOrMisses b seat t j answer n → IsKept b → IsKept n
-fires_keep b n seat t j (Err fire.NotHeld) right f k = kept_as_is b n f.1 k
-fires_keep b n seat t j (Err fire.Stale) right f k = kept_as_is b n f.1 k
-fires_keep b n seat t j (Err fire.NotWhole) right f k = kept_as_is b n f.2 k
-fires_keep b n seat t j (Err fire.NoMemory) right f k = kept_as_is b n f.2 k
-fires_keep b n seat t j (Ok firing.Missed) right f k =
+-- the ticket of a trial that fires
+fired_comes : (b : BookState) (t : ℕ) (trial : Trial) (lives : Bool) → (ticket_at b.tickets t).candidate ≡ Some trial → IsKept b → Comes (ticket_at b.tickets t) (fired_ticket (ticket_at b.tickets t) trial lives)
+fired_comes b t trial true c k = is_searched refl (judged_on (ticket_at b.tickets t).position trial verdicts.Whole (k.ahead t trial c)).0
+fired_comes b t trial false c k = is_over refl
+
+pub fires_lead : (b n : BookState) (seat t : ℕ) (j : Judgement) (answer : Result Firing FireFault) → IsVerdict j.trial j.verdict → FiresOrMisses b seat t j answer n → Leads b n []
+fires_lead b n seat t j (Err fire.NotHeld) right f = leads_same b n f.1
+fires_lead b n seat t j (Err fire.Stale) right f = leads_same b n f.1
+fires_lead b n seat t j (Err fire.NotWhole) right f = leads_same b n f.2
+fires_lead b n seat t j (Err fire.NoMemory) right f = leads_same b n f.2
+fires_lead b n seat t j (Ok firing.Missed) right f =
     let moved : n ≡ with_ticket b t (going_on (past (position j.trial)) (ticket_at b.tickets t)) = f.2 ∙ ap (λ v. with_ticket b t (going_on (after_verdict v (position j.trial)) (ticket_at b.tickets t))) f.0.whole in
-    subst IsKept (sym moved) (missed_kept b t j.trial f.0.holds.candidate f.1 k)
-fires_keep b n seat t j (Ok (firing.Fired g)) right f k =
+    leads_search b n
+    (searches_set b n t (going_on (past (position j.trial)) (ticket_at b.tickets t)) moved refl (missed_kept b t j.trial f.0.holds.candidate f.1) (λ k. (judged_on (ticket_at b.tickets t).position j.trial verdicts.Whole (k.ahead t j.trial f.0.holds.candidate)).0))
+fires_lead b n seat t j (Ok (firing.Fired g)) right f =
     let w : IsWhole j.trial = subst (IsVerdict j.trial) f.0.whole right in
-    subst IsKept (sym f.2.after) (fired_kept b seat t f.2.label j.trial f.2.body g.active_lives f.2.goal f.0.holds.candidate w f.2.instance f.2.lives k)
+    let x : Ticket = fired_ticket (ticket_at b.tickets t) j.trial g.active_lives in
+    leads_entry b n (fired b seat t j.trial f.2.body g.active_lives) seat (Fire t j.trial.number (kept_labels j.trial) (removed_labels j.trial)) f.2.after refl
+    (fired_kept b seat t f.2.label j.trial f.2.body g.active_lives f.2.goal f.0.holds.candidate w f.2.instance f.2.lives)
+    (λ k. follow_by b.tickets (slice_set b.tickets t x) (slice_set b.tickets t x ++ map waiting f.2.body)
+    (set_follows b.tickets t x (fired_comes b t j.trial g.active_lives f.0.holds.candidate k)) (more_follow (slice_set b.tickets t x) (map waiting f.2.body)))
+
+pub fires_keep : (b n : BookState) (seat t : ℕ) (j : Judgement) (answer : Result Firing FireFault) → IsVerdict j.trial j.verdict → FiresOrMisses b seat t j answer n → IsKept b → IsKept n
+fires_keep b n seat t j answer right f = (fires_lead b n seat t j answer right f).kept
+
+-- ---- its search moves on
+
+pub missed_moves : (b n : BookState) (seat t : ℕ) (j : Judgement) → FiresOrMisses b seat t j (Ok firing.Missed) n → IsKept b → MovesOn b t n
+missed_moves b n seat t j h k = subst (MovesOn b t) (sym h.2) (on_from b seat t j.trial j.verdict k h.0.holds)
+
+pub fired_moves : (b n : BookState) (seat t : ℕ) (j : Judgement) (f : Fired) → FiresOrMisses b seat t j (Ok (firing.Fired f)) n → f.active_lives ≡ true → IsKept b → MovesOn b t n
+fired_moves b n seat t j f h lives k =
+    let x : Ticket = ticket_at b.tickets t in
+    let y : Ticket = going_on (past (position j.trial)) x in
+    let is : n ≡ fired b seat t j.trial h.2.body true = h.2.after ∙ ap (fired b seat t j.trial h.2.body) lives in
+    let low : t < length b.tickets = (held_is b.tickets t seat h.0.holds.held).within in
+    let e : length (slice_set b.tickets t y) ≡ length b.tickets = length-set b.tickets t y in
+    let there : ticket_at (slice_set b.tickets t y ++ map waiting h.2.body) t ≡ y = ticket_before (slice_set b.tickets t y) (map waiting h.2.body) t (omega arith) ∙ ticket_same b.tickets t y low in
+    subst (MovesOn b t) (sym is)
+    (subst (λ (z : Ticket). at_or_after z.position x.position ≡ false) (sym there) (judged_on x.position j.trial verdicts.Whole (k.ahead t j.trial h.0.holds.candidate)).1)

@@ -1,4 +1,5 @@
 pub mod Tickets
+pub mod Leading
 pub mod Posting
 pub mod Claiming
 pub mod Marking

@@ -104,18 +104,10 @@ numbered_within ts t l e = open_within ts t (λ z. (let h : Numbered l ≡ goals
 pub plain_within : (ts : List Ticket) (t : ℕ) (a : Atom ℕ) → (ticket_at ts t).goal ≡ Plain a → t < length ts
 plain_within ts t a e = open_within ts t (λ z. (let h : Plain a ≡ goals.Ended = sym e ∙ z in cc))
 
--- two numbered goals of one ticket
-pub same_number : (k l : ℕ) → Numbered k ≡ Numbered l → k ≡ l
-same_number k l h = cc
-
 -- ---- tickets that are appended
 
 pub ticket_before : (ts more : List Ticket) (t : ℕ) → t < length ts → ticket_at (ts ++ more) t ≡ ticket_at ts t
 ticket_before ts more t within = get_or_append_left ts more ended t within
-
-pub ticket_new : (ts : List Ticket) (x : Ticket) (more : List Ticket) → ticket_at (ts ++ x ∷ more) (length ts) ≡ x
-ticket_new [] x more = refl
-ticket_new (y ∷ ts) x more = ticket_new ts x more
 
 -- what holds of each ticket, and of each that waits, holds where some that wait are appended
 pub waiting_each : (P : Ticket → Type 0) (ts : List Ticket) (as' : List (Atom ℕ)) → ((a : Atom ℕ) → P (waiting a)) → ((u : ℕ) → P (ticket_at ts u)) → (u : ℕ) → P (ticket_at (ts ++ map waiting as') u)
@@ -182,7 +174,7 @@ waiting_is ts t h =
 
 -- the goal of a ticket that is held has this label, and no other
 pub held_label : (ts : List Ticket) (t k l : ℕ) → (ticket_at ts t).goal ≡ Numbered k → (ticket_at ts t).goal ≡ Numbered l → k ≡ l
-held_label ts t k l h i = same_number k l (sym h ∙ i)
+held_label ts t k l h i = cc
 
 -- ---- the names of a log
 

@@ -29,11 +29,13 @@ use Rattle.chr_calls.specs.declared.answers.TurnFault.TheVariants as turn_fault
 use Rattle.chr_calls.specs.declared.answers.ReportFault.{ReportFault}
 use Rattle.chr_calls.specs.declared.answers.ReportFault.TheVariants as report
 use Rattle.chr_calls.specs.Turns.{Turn, Next, Done, Gone}
-use Rattle.chr_calls.specs.Tickets.{with_candidate, ticket_at}
+use Rattle.chr_calls.specs.Tickets.{with_candidate, going_on, ticket_at}
 use Rattle.chr_calls.specs.Books.{BookState, goal_state, events, space_of}
 use Rattle.chr_calls.specs.Calls.{IsNextTrial, with_candidate_of, Turns, after_judgement, Reports}
 use Rattle.chr_calls.specs.Headline.{IsCandidate, IsAhead, IsKept}
-use Rattle.chr_calls.proofs.Tickets.{held_label, kept_as_is, kept_with, kept_forgotten, moved_keeps}
+use Rattle.chr_calls.specs.Moves.{MovesOn}
+use Rattle.chr_calls.proofs.Tickets.{held_label, kept_with, moved_keeps}
+use Rattle.chr_calls.proofs.Leading.{judged_on, Searches, searches_same, searches_set, searches_stay, searches_forget, on_from}
 
 -- ---- trial
 
@@ -96,15 +98,15 @@ next_keeps b t l trial g n k = kept_with b t (with_candidate (Some trial) (ticke
         let same : trial ≡ other = cc in
         subst (λ z. at_or_after (ticket_at b.tickets t).position (position z) ≡ true) same (next_ahead (space_of b l) (ticket_at b.tickets t).position (position trial) n.next)
 
-none_keeps : (b : BookState) (t : ℕ) → IsKept b → IsKept (with_candidate_of b t None)
-none_keeps b t k = kept_forgotten b t (with_candidate None (ticket_at b.tickets t)) refl refl refl k
+pub turns_search : (b n : BookState) (seat t : ℕ) (answer : Result Turn TurnFault) → Turns b seat t answer n → Searches b n
+turns_search b n seat t (Err turn_fault.NotHeld) h = searches_same b n h.1
+turns_search b n seat t (Err turn_fault.NoMemory) h = searches_same b n h.2
+turns_search b n seat t (Ok Gone) h = searches_forget b n t (with_candidate None (ticket_at b.tickets t)) h.3 refl refl refl
+turns_search b n seat t (Ok (Next trial)) h = searches_stay b n t (with_candidate (Some trial) (ticket_at b.tickets t)) h.3 refl refl (next_keeps b t h.0 trial h.1.holds.goal h.2)
+turns_search b n seat t (Ok Done) h = searches_forget b n t (with_candidate None (ticket_at b.tickets t)) h.3 refl refl refl
 
 pub turns_keep : (b n : BookState) (seat t : ℕ) (answer : Result Turn TurnFault) → Turns b seat t answer n → IsKept b → IsKept n
-turns_keep b n seat t (Err turn_fault.NotHeld) h k = kept_as_is b n h.1 k
-turns_keep b n seat t (Err turn_fault.NoMemory) h k = kept_as_is b n h.2 k
-turns_keep b n seat t (Ok Gone) h k = subst IsKept (sym h.3) (none_keeps b t k)
-turns_keep b n seat t (Ok (Next trial)) h k = subst IsKept (sym h.3) (next_keeps b t h.0 trial h.1.holds.goal h.2 k)
-turns_keep b n seat t (Ok Done) h k = subst IsKept (sym h.3) (none_keeps b t k)
+turns_keep b n seat t answer h = (turns_search b n seat t answer h).kept
 
 -- ---- report
 
@@ -126,8 +128,15 @@ judgement_keeps b t j right ne c k = moved_keeps b t (after_judging j) moved k
         let i = k.candidates t l j.trial e c in
         judged (space_of b l) (ticket_at b.tickets t).position j.trial j.verdict k.plans i.was i.formed right ne (searching_of b t j.trial k c l e)
 
+pub reports_search : (b n : BookState) (seat t : ℕ) (j : Judgement) (answer : Result (Unit {0}) ReportFault) → IsVerdict j.trial j.verdict → Reports b seat t j answer n → Searches b n
+reports_search b n seat t j (Err report.NotHeld) right h = searches_same b n h.1
+reports_search b n seat t j (Err report.Stale) right h = searches_same b n h.1
+reports_search b n seat t j (Err report.IsWhole) right h = searches_same b n h.2
+reports_search b n seat t j (Ok done) right h =
+    searches_set b n t (going_on (after_judging j) (ticket_at b.tickets t)) h.2 refl (judgement_keeps b t j right h.1 h.0.candidate) (λ k. (judged_on (ticket_at b.tickets t).position j.trial j.verdict (k.ahead t j.trial h.0.candidate)).0)
+
 pub reports_keep : (b n : BookState) (seat t : ℕ) (j : Judgement) (answer : Result (Unit {0}) ReportFault) → IsVerdict j.trial j.verdict → Reports b seat t j answer n → IsKept b → IsKept n
-reports_keep b n seat t j (Err report.NotHeld) right h k = kept_as_is b n h.1 k
-reports_keep b n seat t j (Err report.Stale) right h k = kept_as_is b n h.1 k
-reports_keep b n seat t j (Err report.IsWhole) right h k = kept_as_is b n h.2 k
-reports_keep b n seat t j (Ok moved) right h k = subst IsKept (sym h.2) (judgement_keeps b t j right h.1 h.0.candidate k)
+reports_keep b n seat t j answer right h = (reports_search b n seat t j answer right h).kept
+
+pub report_moves : (b n : BookState) (seat t : ℕ) (j : Judgement) (done : Unit {0}) → Reports b seat t j (Ok done) n → IsKept b → MovesOn b t n
+report_moves b n seat t j done h k = subst (MovesOn b t) (sym h.2) (on_from b seat t j.trial j.verdict k h.0)
