@@ -22,7 +22,7 @@ use Rattle.chr_calls.specs.Tickets.{activated_by, held_by, ticket_at}
 use Rattle.chr_calls.specs.Books.{BookState, goal_state, events, space_of}
 use Rattle.chr_calls.specs.Calls.{activated, Claims}
 use Rattle.chr_calls.specs.Headline.{IsCandidate, IsKept}
-use Rattle.chr_calls.proofs.Tickets.{goal_there, goals_set, set_each, IsKeptTicket, ticket_kept, kept_without, still_kept, stepped_kept}
+use Rattle.chr_calls.proofs.Tickets.{all_map, goal_there, goals_set, set_each, IsKeptTicket, ticket_kept, kept_without, still_kept, stepped_kept}
 use Rattle.chr_calls.proofs.Leading.{was_plain, set_follows, searches_forget, Leads, leads_search, leads_same, leads_entry}
 
 -- the goal state where an atom has entered the store
@@ -37,10 +37,6 @@ placed_before store next a [] low were = tt
 placed_before store next a (p ∷ ps) low were =
     let less : p.label < next = low.0 in
     ((λ x at. were.0 x (atom_at-old store next a p.label x (λ (e : next ≡ p.label). absurd (omega arith)) at)), placed_before store next a ps low.1 were.1)
-
-placed_below : (next : ℕ) (ps : List Placed) → AllByRecursion (λ p. p.label < next) ps → AllByRecursion (λ p. p.label < next + 1) ps
-placed_below next [] low = tt
-placed_below next (p ∷ ps) low = let less : p.label < next = low.0 in (omega arith, placed_below next ps low.1)
 
 pub activated_keeps : (b : BookState) (seat t : ℕ) (a : Atom ℕ) → (ticket_at b.tickets t).goal ≡ Plain a → IsKept b → IsKept (activated b seat t a)
 activated_keeps b seat t a plain k =
@@ -63,7 +59,7 @@ activated_keeps b seat t a plain k =
       formed = c.formed;
       was = record { rule_is = c.was.rule_is; order = c.was.order; order_is = c.was.order_is; heads_are = c.was.heads_are; atoms = placed_before b.store b.next a trial.placed c.given c.was.atoms };
       active = c.active;
-      given = placed_below b.next trial.placed c.given;
+      given = all_map (λ (p : Placed). p.label < b.next) (λ (p : Placed). p.label < b.next + 1) (λ p low. omega arith) trial.placed c.given;
     }
 
 pub claims_lead : (b n : BookState) (seat t : ℕ) (answer : Result ℕ ClaimFault) → Claims b seat t answer n → Leads b n []

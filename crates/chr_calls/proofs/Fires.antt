@@ -34,8 +34,8 @@ use Rattle.chr_calls.specs.Books.{BookState, goal_state, space_of, with_ticket}
 use Rattle.chr_calls.specs.Calls.{AreLive, FiresOrMisses, fired_ticket, fired}
 use Rattle.chr_calls.specs.Headline.{IsCandidate, IsKept}
 use Rattle.chr_calls.specs.Moves.{MovesOn}
-use Rattle.chr_calls.proofs.Tickets.{set_each, goal_there, goals_set, goals_stay, goals_waiting, goals_appended, waiting_each, IsKeptTicket, ticket_kept, kept_without, ended_kept, waiting_kept, still_kept, stepped_kept, moved_keeps, ticket_same, ticket_before, held_is}
-use Rattle.chr_calls.proofs.Leading.{judged_on, Comes, is_searched, is_over, follow_by, set_follows, more_follow, searches_set, on_from, Leads, leads_search, leads_same, leads_entry}
+use Rattle.chr_calls.proofs.Tickets.{all_map, set_each, goal_there, goals_set, goals_stay, goals_waiting, goals_appended, waiting_each, IsKeptTicket, ticket_kept, kept_without, ended_kept, waiting_kept, still_kept, stepped_kept, moved_keeps, ticket_same, ticket_before, held_is}
+use Rattle.chr_calls.proofs.Leading.{is_false, judged_on, Comes, is_searched, is_over, follow_by, set_follows, more_follow, searches_set, on_from, Leads, leads_search, leads_same, leads_entry}
 
 -- ---- a trial of which a label has left the store
 
@@ -65,34 +65,22 @@ missed_kept b t trial c dead k =
 
 -- ---- the labels of a whole trial
 
--- the head at which a label stands
-own_head : (ps : List Placed) → Distinct (map (λ (p : Placed). p.head) ps) → (l : ℕ) → among (map (λ (p : Placed). p.label) ps) l ≡ true → (h : ℕ) × (among (map (λ (p : Placed). p.head) ps) h ≡ true) × (label_at ps h ≡ l)
-own_head [] d l i = absurd (cc)
-own_head (p ∷ ps) d l i =
-    elim (p.label == l) as (λ b. (p.label == l ≡ b) → (h : ℕ) × (among (p.head ∷ map (λ (q : Placed). q.head) ps) h ≡ true) × (label_at (p ∷ ps) h ≡ l)) [
-      | true ↦ λ e. (p.head, among-itself p.head (map (λ (q : Placed). q.head) ps), first (true-eqb p.label l (sym e)))
+-- what has a label, at its head
+own_head : (P : Placed → Type 0) (ps : List Placed) → Distinct (map (λ (p : Placed). p.head) ps) → AllByRecursion P ps → (l : ℕ) → among (map (λ (p : Placed). p.label) ps) l ≡ true → (p : Placed) × P p × (among (map (λ (q : Placed). q.head) ps) p.head ≡ true) × (label_at ps p.head ≡ l)
+own_head P [] d all l i = absurd (cc)
+own_head P (p ∷ ps) d all l i =
+    elim (p.label == l) as (λ b. (p.label == l ≡ b) → (q : Placed) × P q × (among (p.head ∷ map (λ (r : Placed). r.head) ps) q.head ≡ true) × (label_at (p ∷ ps) q.head ≡ l)) [
+      | true ↦ λ e. (p, all.0, among-itself p.head (map (λ (q : Placed). q.head) ps), first (true-eqb p.label l (sym e)))
       | false ↦ λ e.
-          let more = own_head ps d.1 l (grind (arith, nat_tests)) in
-          (more.0, among-more p.head (map (λ (q : Placed). q.head) ps) more.0 more.1, ap (λ (c : Bool). if c then p.label else label_at ps more.0) (apart more.0 more.1) ∙ more.2)
+          let more = own_head P ps d.1 all.1 l (grind (arith, nat_tests)) in
+          (more.0, more.1, among-more p.head (map (λ (q : Placed). q.head) ps) more.0.head more.2, ap (λ (c : Bool). if c then p.label else label_at ps more.0.head) (apart more.0.head more.2) ∙ more.3)
     ] refl
   where
     first : p.label ≡ l → label_at (p ∷ ps) p.head ≡ l
     first e = ap (λ (c : Bool). if c then p.label else label_at ps p.head) (let q : (p.head == p.head) ≡ true = grind (arith, nat_tests) in q) ∙ e
 
     apart : (h : ℕ) → among (map (λ (q : Placed). q.head) ps) h ≡ true → (p.head == h) ≡ false
-    apart h j =
-        elim (p.head == h) as (λ c. (p.head == h ≡ c) → c ≡ false) [
-          | true ↦ λ e. absurd (true≢false (sym j ∙ ap (among (map (λ (q : Placed). q.head) ps)) (sym (true-eqb p.head h (sym e))) ∙ d.0))
-          | false ↦ λ e. refl
-        ] refl
-
-head_within : (n : ℕ) (ps : List Placed) → AllByRecursion (λ p. (1 ≤ p.head) × (p.head ≤ n) × (p.label ≤ 4294967295)) ps → (h : ℕ) → among (map (λ (p : Placed). p.head) ps) h ≡ true → (1 ≤ h) × (h ≤ n)
-head_within n [] all h i = absurd (cc)
-head_within n (p ∷ ps) all h i =
-    elim (p.head == h) as (λ b. (p.head == h ≡ b) → (1 ≤ h) × (h ≤ n)) [
-      | true ↦ λ e. subst (λ z. (1 ≤ z) × (z ≤ n)) (true-eqb p.head h (sym e)) (all.0.0, all.0.1)
-      | false ↦ λ e. head_within n ps all.1 h (grind (arith, nat_tests))
-    ] refl
+    apart h j = is_false (p.head == h) (λ e. true≢false (sym j ∙ ap (among (map (λ (q : Placed). q.head) ps)) (sym (true-eqb p.head h (sym e))) ∙ d.0))
 
 -- the labels at some heads in turn have the label at each of these
 label_from : (ps : List Placed) (h n k : ℕ) → h ≤ k → k < h + n → among (labels_from ps h n) (label_at ps k) ≡ true
@@ -117,17 +105,16 @@ kept_else trial f l i stays =
     let a : ℕ = length trial.rule.kept in
     let b : ℕ = length trial.rule.removed in
     let all : length (heads_of trial.rule) ≡ a + b = length-append trial.rule.kept trial.rule.removed in
-    let h = own_head trial.placed f.distinct l i in
-    let w = head_within (length (heads_of trial.rule)) trial.placed f.within h.0 h.1 in
-    let low : 1 ≤ h.0 = w.0 in
-    let high : h.0 ≤ length (heads_of trial.rule) = w.1 in
-    elim (ltb h.0 (suc a)) as (λ c. (ltb h.0 (suc a) ≡ c) → among (kept_labels trial) l ≡ true) [
+    let h = own_head (λ p. (1 ≤ p.head) × (p.head ≤ length (heads_of trial.rule)) × (p.label ≤ 4294967295)) trial.placed f.distinct f.within l i in
+    let low : 1 ≤ h.0.head = h.1.0 in
+    let high : h.0.head ≤ length (heads_of trial.rule) = h.1.1 in
+    elim (ltb h.0.head (suc a)) as (λ c. (ltb h.0.head (suc a) ≡ c) → among (kept_labels trial) l ≡ true) [
       | true ↦ λ e.
-          let less : h.0 < suc a = grind (arith, nat_tests) in
-          subst (λ z. among (kept_labels trial) z ≡ true) h.2 (label_from trial.placed 1 a h.0 low (omega arith))
+          let less : h.0.head < suc a = grind (arith, nat_tests) in
+          subst (λ z. among (kept_labels trial) z ≡ true) h.3 (label_from trial.placed 1 a h.0.head low (omega arith))
       | false ↦ λ e.
-          let more : suc a ≤ h.0 = grind (arith, nat_tests) in
-          absurd (true≢false (sym (subst (λ z. among (removed_labels trial) z ≡ true) h.2 (label_from trial.placed (suc a) b h.0 more (omega arith))) ∙ stays))
+          let more : suc a ≤ h.0.head = grind (arith, nat_tests) in
+          absurd (true≢false (sym (subst (λ z. among (removed_labels trial) z ≡ true) h.3 (label_from trial.placed (suc a) b h.0.head more (omega arith))) ∙ stays))
     ] refl
 
 -- a whole trial has a removed label
@@ -153,11 +140,14 @@ no_more : (b : BookState) (trial : Trial) (l : ℕ) → HasNoMore (space_of b l)
 no_more b trial l m a seen h = (atom_at-kept (removed_labels trial) b.store m a h).0
 
 was_before : (b : BookState) (trial other : Trial) → WasTrialOf b.rules b.plans b.store other → WasTrialOf b.rules b.plans (store_fired b trial) other
-was_before b trial other w = record { rule_is = w.rule_is; order = w.order; order_is = w.order_is; heads_are = w.heads_are; atoms = left other.placed w.atoms }
-  where
-    left : (ps : List Placed) → AllByRecursion (λ p. (a : Atom ℕ) → atom_at b.store p.label ≡ Some a → a ≡ p.atom) ps → AllByRecursion (λ p. (a : Atom ℕ) → atom_at (store_fired b trial) p.label ≡ Some a → a ≡ p.atom) ps
-    left [] all = tt
-    left (p ∷ ps) all = ((λ a h. all.0 a (atom_at-kept (removed_labels trial) b.store p.label a h).0), left ps all.1)
+was_before b trial other w = record {
+  rule_is = w.rule_is;
+  order = w.order;
+  order_is = w.order_is;
+  heads_are = w.heads_are;
+  atoms = all_map (λ (p : Placed). (a : Atom ℕ) → atom_at b.store p.label ≡ Some a → a ≡ p.atom) (λ (p : Placed). (a : Atom ℕ) → atom_at (store_fired b trial) p.label ≡ Some a → a ≡ p.atom)
+      (λ p was a h. was a (atom_at-kept (removed_labels trial) b.store p.label a h).0) other.placed w.atoms;
+}
 
 -- the step that it is
 state_fired : (b : BookState) (seat t : ℕ) (trial : Trial) (body : List (Atom ℕ)) (lives : Bool) (gs : List Goal) → map (λ (y : Ticket). y.goal) (slice_set b.tickets t (fired_ticket (ticket_at b.tickets t) trial lives)) ≡ gs
@@ -170,30 +160,26 @@ record Outcome (b : BookState) (seat t : ℕ) (trial : Trial) (body : List (Atom
   pub step : Step Two (Instances b.rules) (goal_state b) (Fire t trial.number (kept_labels trial) (removed_labels trial)) (goal_state (fired b seat t trial body lives))
   pub youngest : YoungestAreGoals (Instances b.rules) (goal_state (fired b seat t trial body lives))
 
+not_not : (b c : Bool) → b ≡ not c → c ≡ not b
+not_not b true e = ap not (sym e)
+not_not b false e = ap not (sym e)
+
 outcome : (b : BookState) (seat t l : ℕ) (trial : Trial) (body : List (Atom ℕ)) (lives : Bool) → (ticket_at b.tickets t).goal ≡ Numbered l → Labelled (Instances b.rules) b.store trial.number (kept_labels trial) (removed_labels trial) body
     → lives ≡ not (among (removed_labels trial) l) → (among (removed_labels trial) l ≡ false → among (kept_labels trial) l ≡ true) → IsKept b → Outcome b seat t trial body lives
 outcome b seat t l trial body true at i e kept k =
     let after : goal_state (fired b seat t trial body true) ≡ steps.replaced (goal_state b) (removed_labels trial) body = state_fired b seat t trial body true (goal_state b).goals (goals_stay b.tickets t (going_on (past (position trial)) (ticket_at b.tickets t)) refl) in
     record {
-      step = inr (record { label = l; body = body; numbered = goal_there b t ∙ at; stands = kept (not_true (among (removed_labels trial) l) e); instance = i; after = after });
+      step = inr (record { label = l; body = body; numbered = goal_there b t ∙ at; stands = kept (not_not true (among (removed_labels trial) l) e); instance = i; after = after });
       youngest = subst (YoungestAreGoals (Instances b.rules)) (sym after) (young_propagated (Instances b.rules) (goal_state b) (removed_labels trial) body k.youngest);
     }
-  where
-    not_true : (c : Bool) → true ≡ not c → c ≡ false
-    not_true true h = absurd (cc)
-    not_true false h = refl
 outcome b seat t l trial body false at i e kept k =
     let after : goal_state (fired b seat t trial body false) ≡ steps.replaced (steps.ended (goal_state b) t) (removed_labels trial) body = state_fired b seat t trial body false (steps.ended (goal_state b) t).goals (goals_set b.tickets t ended) in
-    let removed : among (removed_labels trial) l ≡ true = not_false (among (removed_labels trial) l) e in
+    let removed : among (removed_labels trial) l ≡ true = not_not false (among (removed_labels trial) l) e in
     let numbered : goal_at (goal_state b) t ≡ Numbered l = goal_there b t ∙ at in
     record {
       step = inl (record { label = l; body = body; numbered = numbered; stands = removed; instance = i; after = after });
       youngest = subst (YoungestAreGoals (Instances b.rules)) (sym after) (young_simplified (Instances b.rules) (goal_state b) t l (removed_labels trial) body numbered removed k.youngest);
     }
-  where
-    not_false : (c : Bool) → false ≡ not c → c ≡ true
-    not_false true h = refl
-    not_false false h = absurd (cc)
 
 fired_kept : (b : BookState) (seat t l : ℕ) (trial : Trial) (body : List (Atom ℕ)) (lives : Bool) → (ticket_at b.tickets t).goal ≡ Numbered l → (ticket_at b.tickets t).candidate ≡ Some trial → IsWhole trial
     → Labelled (Instances b.rules) b.store trial.number (kept_labels trial) (removed_labels trial) body → lives ≡ not (among (removed_labels trial) l) → IsKept b → IsKept (fired b seat t trial body lives)

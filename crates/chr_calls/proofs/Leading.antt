@@ -22,13 +22,9 @@ use Rattle.chr_calls.proofs.Tickets.{set_each, ticket_same, ticket_before, held_
 
 -- ---- positions
 
--- strictly after one position is after all at or before it
-after_further : (p q r : List ℕ) → at_or_after q p ≡ false → at_or_after q r ≡ true → at_or_after r p ≡ false
-after_further p q r strict on = no (at_or_after r p) (λ e. true≢false (sym (after_by q r p on e) ∙ strict))
-  where
-    no : (c : Bool) → (c ≡ true → ⊥) → c ≡ false
-    no true h = absurd (h refl)
-    no false h = refl
+pub is_false : (c : Bool) → (c ≡ true → ⊥) → c ≡ false
+is_false true h = absurd (h refl)
+is_false false h = refl
 
 -- where a search goes on from its candidate
 pub judged_on : (place : List ℕ) (trial : Trial) (v : Verdict) → at_or_after place (position trial) ≡ true → (at_or_after place (after_verdict v (position trial)) ≡ true) × (at_or_after (after_verdict v (position trial)) place ≡ false)
@@ -124,14 +120,10 @@ on_from b seat t trial v k h =
 
 -- before or after that it stays or goes on
 pub first_stays : (b m n : BookState) (t : ℕ) → IsKept b → Searches b m → MovesOn m t n → MovesOn b t n
-first_stays b m n t k f g = earlier (at_or_after (ticket_at n.tickets t).position (ticket_at b.tickets t).position) refl
-  where
-    earlier : (c : Bool) → at_or_after (ticket_at n.tickets t).position (ticket_at b.tickets t).position ≡ c → at_or_after (ticket_at n.tickets t).position (ticket_at b.tickets t).position ≡ false
-    earlier true e = absurd (true≢false (sym (after_by (ticket_at n.tickets t).position (ticket_at b.tickets t).position (ticket_at m.tickets t).position e (f.on k t)) ∙ g))
-    earlier false e = e
+first_stays b m n t k f g = is_false _ (λ e. true≢false (sym (after_by (ticket_at n.tickets t).position (ticket_at b.tickets t).position (ticket_at m.tickets t).position e (f.on k t)) ∙ g))
 
 pub then_stays : (b m n : BookState) (t : ℕ) → IsKept m → MovesOn b t m → Searches m n → MovesOn b t n
-then_stays b m n t k f g = after_further (ticket_at b.tickets t).position (ticket_at m.tickets t).position (ticket_at n.tickets t).position f (g.on k t)
+then_stays b m n t k f g = is_false _ (λ e. true≢false (sym (after_by (ticket_at m.tickets t).position (ticket_at n.tickets t).position (ticket_at b.tickets t).position (g.on k t) e) ∙ f))
 
 -- ---- any call
 

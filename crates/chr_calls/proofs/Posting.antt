@@ -2,7 +2,7 @@
 use Rattle.std.proofs.Common.{◌≡◌, ℕ, List, [], ◌∷◌, length, length-take, take, ◌≤◌, Result, Ok, Err, refl, sym, ap, subst, arith}
 use Rattle.std.proofs.lemmas.List.{length-map}
 use Rattle.std.specs.List.{AllByRecursion}
-use Rattle.chr_value.specs.Atoms.{Value, Atom, TermIsNamed, AtomIsNamed}
+use Rattle.chr_value.specs.Atoms.{Atom, TermIsNamed, AtomIsNamed}
 use Rattle.chr_value.specs.Naming.{Table}
 use Rattle.chr_value.proofs.Said.{term_later}
 use Rattle.chr_log.specs.Events.{Post}
@@ -20,17 +20,14 @@ use Rattle.chr_calls.specs.Calls.{posted, all_posted, AreNamed, Posts}
 use Rattle.chr_calls.specs.Runs.{posts_of}
 use Rattle.chr_calls.specs.Runs as calls
 use Rattle.chr_calls.specs.Headline.{IsKept}
-use Rattle.chr_calls.proofs.Tickets.{goals_appended, waiting_each, IsKeptTicket, ticket_kept, waiting_kept, kept_beside, book_kept, stepped_kept}
+use Rattle.chr_calls.proofs.Tickets.{all_map, goals_appended, waiting_each, IsKeptTicket, ticket_kept, waiting_kept, kept_beside, book_kept, stepped_kept}
 use Rattle.chr_calls.proofs.Leading.{more_follow, Searches, Leads, leads_search, leads_same, leads_entry, leads_by}
 
 -- a longer table has the names that a shorter one has
-values_later : (m n : ℕ) (vs : List (Value ℕ)) → m ≤ n → AllByRecursion (TermIsNamed m) vs → AllByRecursion (TermIsNamed n) vs
-values_later m n [] le all = tt
-values_later m n (v ∷ vs) le all = (term_later m n v le all.0, values_later m n vs le all.1)
-
 atoms_later : (m n : ℕ) (as' : List (Atom ℕ)) → m ≤ n → AllByRecursion (AtomIsNamed m) as' → AllByRecursion (AtomIsNamed n) as'
-atoms_later m n [] le all = tt
-atoms_later m n (a ∷ as') le all = (record { name = (let lt = all.0.name in omega (arith, lt, le)); args = values_later m n a.args le all.0.args }, atoms_later m n as' le all.1)
+atoms_later m n as' le =
+    all_map (AtomIsNamed m) (AtomIsNamed n)
+    (λ a named. record { name = (let lt = named.name in omega (arith, lt, le)); args = all_map (TermIsNamed m) (TermIsNamed n) (λ v. term_later m n v le) a.args named.args }) as'
 
 -- names are entered after those that are there
 pub renamed_keeps : (b : BookState) (table : Table) → take (length b.names) table ≡ b.names → IsKept b → IsKept (with_names b table)

@@ -28,6 +28,10 @@ use Rattle.chr_calls.specs.Books.{BookState, goal_state, events, space_of, with_
 use Rattle.chr_calls.specs.Calls.{AreNamed}
 use Rattle.chr_calls.specs.Headline.{IsCandidate, IsAhead, IsKept}
 
+pub all_map : {X : Type 0} (P Q : X → Type 0) → ((x : X) → P x → Q x) → (xs : List X) → AllByRecursion P xs → AllByRecursion Q xs
+all_map P Q f [] all = tt
+all_map P Q f (x ∷ xs) all = (f x all.0, all_map P Q f xs all.1)
+
 -- ---- reads after writes
 
 -- the goal of a ticket, in the goal state

@@ -2,10 +2,9 @@
 use Rattle.std.proofs.Common.{◌≡◌, ◌≢◌, ℕ, ◌<◌, ◌≤◌, true, List, [], ◌∷◌, length, Some, None, Result, Ok, Err, refl, sym, subst, arith}
 use Rattle.std.specs.List.{AllByRecursion}
 use Rattle.std.specs.Option.{option_map}
-use Rattle.chr_value.specs.Atoms.{Atom}
 use Rattle.chr_log.specs.declared.events.Version.TheVariants.{Two}
 use Rattle.chr_plan.specs.Plans.{ArePlans}
-use Rattle.chr_model.specs.Stores.{Store, atom_at, among}
+use Rattle.chr_model.specs.Stores.{atom_at, among}
 use Rattle.chr_model.specs.Goals.{Numbered}
 use Rattle.chr_model.specs.Logs.{Lawful}
 use Rattle.chr_model.specs.Programs.{Instances}
@@ -34,7 +33,7 @@ use Rattle.chr_calls.specs.Books.{BookState, goal_state, events, space_of}
 use Rattle.chr_calls.specs.Calls.{IsNextTrial, with_candidate_of, Turns, after_judgement, Reports}
 use Rattle.chr_calls.specs.Headline.{IsCandidate, IsAhead, IsKept}
 use Rattle.chr_calls.specs.Moves.{MovesOn}
-use Rattle.chr_calls.proofs.Tickets.{held_label, kept_with, moved_keeps}
+use Rattle.chr_calls.proofs.Tickets.{all_map, held_label, kept_with, moved_keeps}
 use Rattle.chr_calls.proofs.Leading.{judged_on, Searches, searches_same, searches_set, searches_stay, searches_forget, on_from}
 
 -- ---- trial
@@ -58,13 +57,10 @@ next_trial s place found n =
     subst (IsTrial s) (sym is) (record { grows = n.beyond.grows; deep = n.beyond.deep })
 
 -- the labels of a trial over the store were all given
-given_before : (store : Store) (next : ℕ) → ((l : ℕ) (a : Atom ℕ) → atom_at store l ≡ Some a → l < next) → (ps : List Placed) → AllByRecursion (λ p. atom_at store p.label ≡ Some p.atom) ps → AllByRecursion (λ p. p.label < next) ps
-given_before store next low [] live = tt
-given_before store next low (p ∷ ps) live = (low p.label p.atom live.0, given_before store next low ps live.1)
-
 trial_given : (b : BookState) (trial : Trial) → Lawful Two (Instances b.rules) (events b) (goal_state b) → IsTrialOf b.rules b.plans b.store trial → AllByRecursion (λ p. p.label < b.next) trial.placed
 trial_given b trial lawful i =
-    given_before b.store b.next (λ l a h. store_below (goal_state b) (Lawful-once Two (Instances b.rules) (events b) (goal_state b) lawful) l a h) trial.placed i.live
+    let once = Lawful-once Two (Instances b.rules) (events b) (goal_state b) lawful in
+    all_map (λ (p : Placed). atom_at b.store p.label ≡ Some p.atom) (λ (p : Placed). p.label < b.next) (λ p live. store_below (goal_state b) once p.label p.atom live) trial.placed i.live
 
 -- and at or after the position
 next_ahead : (s : Space) (place found : List ℕ) → IsNext s place found → at_or_after place found ≡ true
