@@ -9,6 +9,7 @@ use Rattle.chr_log.specs.Events.{labelled_atoms, labelled_by_texts}
 use Rattle.chr_log_text.specs.Writable.{UpTo, Rises}
 use Rattle.chr_model.specs.Stores.{Store, atom_at, drop_label, without, Carry}
 use Rattle.chr_model.specs.Goals.{Goal, Plain, Numbered, Ended, State, goal_at}
+use Rattle.chr_model.proofs.Quiet.{place_within}
 use Rattle.chr_model.specs.Steps.{posted, activated, ended, replaced}
 use Rattle.chr_text.specs.Writable.{AreWritable}
 
@@ -97,35 +98,16 @@ goals_plain table (a ∷ as') all = (all.0, goals_plain table as' all.1)
 
 -- the first goal has ended
 abbrev Begins : List Goal → Type 0
-Begins [] = ⊥
-Begins (Plain a ∷ gs) = ⊥
-Begins (Numbered l ∷ gs) = ⊥
-Begins (Ended ∷ gs) = Unit {0}
+Begins gs = (1 ≤ length gs) × (get_or gs 0 Ended ≡ Ended)
 
 begins_more : (gs hs : List Goal) → Begins gs → Begins (gs ++ hs)
-begins_more [] hs b = absurd b
-begins_more (Plain a ∷ gs) hs b = absurd b
-begins_more (Numbered l ∷ gs) hs b = absurd b
-begins_more (Ended ∷ gs) hs b = tt
+begins_more [] hs b = absurd (omega arith)
+begins_more (g ∷ gs) hs b = (omega arith, b.1)
 
 begins_set : (gs : List Goal) (t : ℕ) (g : Goal) → 1 ≤ t → Begins gs → Begins (set gs t g)
-begins_set [] t g le b = absurd b
-begins_set (Plain a ∷ gs) t g le b = absurd b
-begins_set (Numbered l ∷ gs) t g le b = absurd b
-begins_set (Ended ∷ gs) zero g le b = absurd (omega (arith, le))
-begins_set (Ended ∷ gs) (suc t) g le b = tt
-
-begins_some : (gs : List Goal) → Begins gs → 1 ≤ length gs
-begins_some [] b = absurd b
-begins_some (g ∷ gs) b = omega arith
-
--- a goal that hasn't ended is at a later place
-open_place : (gs : List Goal) (t : ℕ) → Begins gs → get_or gs t Ended ≢ Ended → 1 ≤ t
-open_place [] t b h = absurd b
-open_place (Plain a ∷ gs) t b h = absurd b
-open_place (Numbered l ∷ gs) t b h = absurd b
-open_place (Ended ∷ gs) zero b h = absurd (h refl)
-open_place (Ended ∷ gs) (suc t) b h = omega arith
+begins_set [] t g le b = absurd (omega arith)
+begins_set (x ∷ gs) zero g le b = absurd (omega (arith, le))
+begins_set (x ∷ gs) (suc t) g le b = (omega arith, b.1)
 
 -- ---- states
 
@@ -138,11 +120,13 @@ pub record StateFits (table : Table) (s : State) : Type 0 where
 pub plain_there : (table : Table) (s : State) (t : ℕ) (a : Atom ℕ) → StateFits table s → goal_at s t ≡ Plain a → FitsAtom (by_texts table a)
 plain_there table s t a fits h = goal_fits table s.goals t a fits.goals h
 
-pub ticket_from : (table : Table) (s : State) (t : ℕ) (g : Goal) → StateFits table s → g ≢ Ended → goal_at s t ≡ g → 1 ≤ t
-ticket_from table s t g fits ne h = open_place s.goals t fits.begins (λ e. ne (sym h ∙ e))
-
-pub next_ticket : (table : Table) (s : State) → StateFits table s → 1 ≤ length s.goals
-next_ticket table s fits = begins_some s.goals fits.begins
+-- a goal that hasn't ended is at a later place
+pub ticket_within : (table : Table) (s : State) (t : ℕ) (g : Goal) → StateFits table s → g ≢ Ended → goal_at s t ≡ g → (1 ≤ t) × (t < length s.goals)
+ticket_within table s t g fits ne h = (later t (λ e. ne (sym h ∙ e)), place_within s.goals t (λ e. ne (sym h ∙ e)))
+  where
+    later : (u : ℕ) → goal_at s u ≢ Ended → 1 ≤ u
+    later zero stays = absurd (stays fits.begins.1)
+    later (suc u) stays = omega arith
 
 pub posted_fits : (table : Table) (s : State) (a : Atom ℕ) → FitsAtom (by_texts table a) → StateFits table s → StateFits table (posted s a)
 posted_fits table s a one fits = record {
