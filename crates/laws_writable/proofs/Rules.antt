@@ -10,7 +10,7 @@ use Rattle.chr_rule.specs.Scope.{IsRule}
 use Rattle.chr_rule.specs.Terms.{IsBodyItem}
 use Rattle.chr_grammar.specs.Parsed as parsed
 use Rattle.chr_grammar.specs.Parsed.{Statement}
-use Rattle.chr_grammar.proofs.Statements_again.{by_texts as statement_read}
+use Rattle.chr_grammar.proofs.Statements_again.{weaker, by_texts as statement_read}
 use Rattle.chr_grammar.proofs.Members_again.{all_append}
 use Rattle.chr_limits.proofs.Standing as standing
 use Rattle.chr_text.specs.Fitting.{FormulaFits, MemberFits}
@@ -119,8 +119,7 @@ rules_held table [] s w = tt
 rules_held table (r ∷ rs) s w = ((s.0.0, items_held table r.body s.0.1 s.0.0.terms.body w.0), rules_held table rs s.1 w.1)
 
 pub rules_kept : (old new : Table) (rules : List (Simpagation ℕ)) → take (length old) new ≡ old → AllByRecursion (RuleHeld old) rules → AllByRecursion (RuleHeld new) rules
-rules_kept old new [] keeps all = tt
-rules_kept old new (r ∷ rs) keeps all = ((all.0.0, items_kept old new r.body keeps all.0.1), rules_kept old new rs keeps all.1)
+rules_kept old new rules keeps = weaker (RuleHeld old) (RuleHeld new) (λ r held. (held.0, items_kept old new r.body keeps held.1)) rules
 
 pub program_held : (table : Table) (bytes : List ℕ) (p : Program) → program_of table bytes ≡ Ok p → AllByRecursion (RuleHeld p.1) p.0 × (length p.0 ≤ 256)
 program_held table bytes p h =
@@ -128,5 +127,4 @@ program_held table bytes p h =
     (rules_held p.1 p.0 sound.0 (program_writable table bytes p h), sound.1)
 
 pub rules_whole : (table : Table) (rules : List (Simpagation ℕ)) → AllByRecursion (RuleHeld table) rules → AllByRecursion IsRule rules
-rules_whole table [] all = tt
-rules_whole table (r ∷ rs) all = (all.0.0, rules_whole table rs all.1)
+rules_whole table rules = weaker (RuleHeld table) IsRule (λ r held. held.0) rules

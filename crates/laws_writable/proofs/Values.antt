@@ -196,9 +196,16 @@ mutual
       let rest = terms_filled table v n ts p.1 p.3 two.1 held fits.1 in
       subst (λ (ws : Args ℕ). CanHoldAll table ws × (suc (written_count table (terms_with zeros ts)) ≡ written_count table ws)) p.4 ((first, rest.0), ap suc rest.1)
 
+-- values in place of the arguments of an atom of a rule
+record AreFilled (table : Table) (args : List (Term ℕ)) (vs : List (Value ℕ)) : Type 0 where
+  fit : AllByRecursion FitsTerm (map (renamed (text_of table)) vs)
+  within : AllByRecursion IsWithin (map (renamed (text_of table)) vs)
+  as_many : length (map (renamed (text_of table)) vs) ≡ length (map (renamed (text_of table)) (map (term_with zeros) args))
+  plain : (t : List ℕ) → is_control t (map (renamed (text_of table)) (map (term_with zeros) args)) ≡ false → is_control t (map (renamed (text_of table)) vs) ≡ false
+
 args_filled : (table : Table) (v : Valuation) (n : ℕ) (args : List (Term ℕ)) (vs : List (Value ℕ)) → map (value_under v) args ≡ map (λ t. Some t) vs → list_all (argument_known n) args ≡ true → HeldBelow table v n
-    → AllByRecursion FitsTerm (map (renamed (text_of table)) (map (term_with zeros) args)) → AllByRecursion FitsTerm (map (renamed (text_of table)) vs) × AllByRecursion IsWithin (map (renamed (text_of table)) vs)
-args_filled table v n [] [] e k held all = (tt, tt)
+    → AllByRecursion FitsTerm (map (renamed (text_of table)) (map (term_with zeros) args)) → AreFilled table args vs
+args_filled table v n [] [] e k held all = record { fit = tt; within = tt; as_many = refl; plain = λ t h. h }
 args_filled table v n [] (x ∷ vs) e k held all = absurd (cc)
 args_filled table v n (t ∷ args) [] e k held all = absurd (cc)
 args_filled table v n (t ∷ args) (x ∷ vs) e k held all =
@@ -206,32 +213,23 @@ args_filled table v n (t ∷ args) (x ∷ vs) e k held all =
     let is = limited (term_under v t) x one in
     let two = and_parts (argument_known n t) (list_all (argument_known n) args) k in
     let rest = args_filled table v n args vs (cc) two.1 held all.1 in
-    ((term_filled table v n t x is.0 two.0 held all.0, rest.0), (within_same (text_of table) x is.1, rest.1))
-
-as_many : (table : Table) (v : Valuation) (args : List (Term ℕ)) (vs : List (Value ℕ)) → map (value_under v) args ≡ map (λ t. Some t) vs → length (map (renamed (text_of table)) vs) ≡ length (map (renamed (text_of table)) (map (term_with zeros) args))
-as_many table v [] [] e = refl
-as_many table v [] (x ∷ vs) e = absurd (cc)
-as_many table v (t ∷ args) [] e = absurd (cc)
-as_many table v (t ∷ args) (x ∷ vs) e = ap suc (as_many table v args vs (cc))
-
-no_control : (table : Table) (v : Valuation) (t : List ℕ) (args : List (Term ℕ)) (vs : List (Value ℕ)) → map (value_under v) args ≡ map (λ t. Some t) vs
-    → is_control t (map (renamed (text_of table)) (map (term_with zeros) args)) ≡ false → is_control t (map (renamed (text_of table)) vs) ≡ false
-no_control table v t [] [] e h = h
-no_control table v t [] (x ∷ vs) e h = absurd (cc)
-no_control table v t (a ∷ args) [] e h = absurd (cc)
-no_control table v t (a ∷ args) (x ∷ vs) e h = refl
+    record {
+      fit = (term_filled table v n t x is.0 two.0 held all.0, rest.fit);
+      within = (within_same (text_of table) x is.1, rest.within);
+      as_many = ap suc rest.as_many;
+      plain = λ name h. refl;
+    }
 
 atom_filled : (table : Table) (v : Valuation) (n : ℕ) (s : RuleAtom ℕ) (a : Atom ℕ) → AtomHeld table s → list_all (argument_known n) s.args ≡ true → HeldBelow table v n → made_under v s ≡ Some a → FitsAtom (by_texts table a)
 atom_filled table v n s a fits known held h =
     let is = (atom_by_is (value_under v) s a).0 h in
-    let few : length (map (renamed (text_of table)) a.args) ≤ 8 = (let e = as_many table v s.args a.args is.1 in let le = fits.few in omega (arith, e, le)) in
     let args = args_filled table v n s.args a.args is.1 known held fits.args in
     record {
       name = subst (λ (k : ℕ). IsName (text_of table k)) is.0 fits.name;
-      args = args.0;
-      within = args.1;
-      few = few;
-      plain = no_control table v (text_of table a.name) s.args a.args is.1 (subst (λ (k : ℕ). is_control (text_of table k) (map (renamed (text_of table)) (map (term_with zeros) s.args)) ≡ false) is.0 fits.plain);
+      args = args.fit;
+      within = args.within;
+      few = omega (arith, args.as_many, fits.few);
+      plain = args.plain (text_of table a.name) (subst (λ (k : ℕ). is_control (text_of table k) (map (renamed (text_of table)) (map (term_with zeros) s.args)) ≡ false) is.0 fits.plain);
     }
 
 body_fits : (table : Table) (v : Valuation) (n m : ℕ) (ms : List (BodyItem ℕ)) (atoms : List (Atom ℕ)) → known_after_body n ms ≡ Some m → AllByRecursion (IsRight v) ms → AllByRecursion (ItemHeld table) ms → HeldBelow table v n → AreMadeUnder v (added ms) atoms → AreWritable table atoms
