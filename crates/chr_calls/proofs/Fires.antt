@@ -1,7 +1,6 @@
 -- A trial that is fired, and one that is missed.
 use Rattle.std.proofs.Common.{◌≡◌, ℕ, zero, suc, ◌+◌, ◌<◌, ◌≤◌, inl, inr, Bool, true, false, not, ◌==◌, ltb, if◌then◌else◌, List, [], ◌∷◌, ◌++◌, map, length, length-append, Option, Some, None, Result, Ok, Err, refl, sym, ◌∙◌, ap, ap₂, subst, arith, slice_set, true≢false, true-eqb}
 use Rattle.std.specs.List.{AllByRecursion}
-use Rattle.std.specs.Option.{option_map}
 use Rattle.std.proofs.lemmas.Bool.Decides.{nat_tests}
 use Rattle.std.proofs.lemmas.List.{length-set}
 use Rattle.chr_value.specs.Atoms.{Atom}
@@ -35,6 +34,7 @@ use Rattle.chr_calls.specs.Calls.{AreLive, FiresOrMisses, fired_ticket, fired}
 use Rattle.chr_calls.specs.Headline.{IsCandidate, IsKept}
 use Rattle.chr_calls.specs.Moves.{MovesOn}
 use Rattle.chr_calls.proofs.Tickets.{all_map, set_each, goal_there, goals_set, goals_stay, goals_waiting, goals_appended, waiting_each, IsKeptTicket, ticket_kept, kept_without, ended_kept, waiting_kept, still_kept, stepped_kept, moved_keeps, ticket_same, ticket_before, held_is}
+use Rattle.chr_calls.proofs.Turning.{searching_of}
 use Rattle.chr_calls.proofs.Leading.{is_false, judged_on, Comes, is_searched, is_over, follow_by, set_follows, more_follow, searches_set, on_from, Leads, leads_search, leads_same, leads_entry}
 
 -- ---- a trial of which a label has left the store
@@ -54,9 +54,8 @@ one_gone store (p ∷ ps) none =
 past_gone : (b : BookState) (t l g : ℕ) (trial : Trial) → (ticket_at b.tickets t).goal ≡ Numbered l → (ticket_at b.tickets t).candidate ≡ Some trial → among (labels trial) g ≡ true
     → (store : Store) → HasNoMore (space_of b l) store → atom_at store g ≡ None → IsKept b → Searching (over (space_of b l) store) (past (position trial)) None
 past_gone b t l g trial at c named store less gone k =
-    let x : Ticket = ticket_at b.tickets t in
-    let s : Searching (space_of b l) x.position (Some (position trial)) = subst (λ o. Searching (space_of b l) x.position (option_map position o)) c (k.searching t l at) in
-    moved_past (over (space_of b l) store) x.position (position trial) (shrunk (space_of b l) k.plans store less x.position (Some (position trial)) s) (gone_none (over (space_of b l) store) trial g named gone)
+    let place : List ℕ = (ticket_at b.tickets t).position in
+    moved_past (over (space_of b l) store) place (position trial) (shrunk (space_of b l) k.plans store less place (Some (position trial)) (searching_of b t trial k c l at)) (gone_none (over (space_of b l) store) trial g named gone)
 
 missed_kept : (b : BookState) (t : ℕ) (trial : Trial) → (ticket_at b.tickets t).candidate ≡ Some trial → (AreLive b trial → ⊥) → IsKept b → IsKept (with_ticket b t (going_on (past (position trial)) (ticket_at b.tickets t)))
 missed_kept b t trial c dead k =

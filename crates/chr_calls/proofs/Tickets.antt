@@ -17,6 +17,7 @@ use Rattle.chr_model.specs.Goals as goals
 use Rattle.chr_model.specs.Logs.{Lawful, posted_by, others, drops, strict}
 use Rattle.chr_model.specs.Programs.{Instances}
 use Rattle.chr_model.specs.Searches.{YoungestAreGoals}
+use Rattle.chr_model.proofs.Quiet.{active_open, waiting_open}
 use Rattle.chr_model.proofs.Strict.{Lawful-push}
 use Rattle.chr_search.specs.Verdicts.{Trial, position}
 use Rattle.chr_search.specs.Reach.{Searching}
@@ -103,10 +104,10 @@ open_within (x ∷ ts) zero ne = omega arith
 open_within (x ∷ ts) (suc t) ne = let i = open_within ts t ne in omega arith
 
 pub numbered_within : (ts : List Ticket) (t l : ℕ) → (ticket_at ts t).goal ≡ Numbered l → t < length ts
-numbered_within ts t l e = open_within ts t (λ z. (let h : Numbered l ≡ goals.Ended = sym e ∙ z in cc))
+numbered_within ts t l e = open_within ts t (λ z. active_open l (sym e ∙ z))
 
 pub plain_within : (ts : List Ticket) (t : ℕ) (a : Atom ℕ) → (ticket_at ts t).goal ≡ Plain a → t < length ts
-plain_within ts t a e = open_within ts t (λ z. (let h : Plain a ≡ goals.Ended = sym e ∙ z in cc))
+plain_within ts t a e = open_within ts t (λ z. waiting_open a (sym e ∙ z))
 
 -- ---- tickets that are appended
 

@@ -62,12 +62,6 @@ trial_given b trial lawful i =
     let once = Lawful-once Two (Instances b.rules) (events b) (goal_state b) lawful in
     all_map (λ (p : Placed). atom_at b.store p.label ≡ Some p.atom) (λ (p : Placed). p.label < b.next) (λ p live. store_below (goal_state b) once p.label p.atom live) trial.placed i.live
 
--- and at or after the position
-next_ahead : (s : Space) (place found : List ℕ) → IsNext s place found → at_or_after place found ≡ true
-next_ahead s place found n =
-    let is : found ≡ n.more = n.is in
-    subst (λ z. at_or_after place z ≡ true) (sym is) n.beyond.there
-
 next_candidate : (b : BookState) (t l : ℕ) (trial : Trial) → Lawful Two (Instances b.rules) (events b) (goal_state b) → IsNextTrial b t l trial → IsCandidate b l trial
 next_candidate b t l trial lawful n = record {
   formed = n.formed;
@@ -92,7 +86,7 @@ next_keeps b t l trial g n k = kept_with b t (with_candidate (Some trial) (ticke
     ahead : IsAhead (with_candidate (Some trial) (ticket_at b.tickets t))
     ahead other c =
         let same : trial ≡ other = cc in
-        subst (λ z. at_or_after (ticket_at b.tickets t).position (position z) ≡ true) same (next_ahead (space_of b l) (ticket_at b.tickets t).position (position trial) n.next)
+        subst (λ z. at_or_after (ticket_at b.tickets t).position (position z) ≡ true) same (subst (λ z. at_or_after (ticket_at b.tickets t).position z ≡ true) (sym n.next.is) n.next.beyond.there)
 
 pub turns_search : (b n : BookState) (seat t : ℕ) (answer : Result Turn TurnFault) → Turns b seat t answer n → Searches b n
 turns_search b n seat t (Err turn_fault.NotHeld) h = searches_same b n h.1
@@ -107,7 +101,7 @@ turns_keep b n seat t answer h = (turns_search b n seat t answer h).kept
 -- ---- report
 
 -- the search of a ticket that has this candidate
-searching_of : (b : BookState) (t : ℕ) (trial : Trial) → IsKept b → (ticket_at b.tickets t).candidate ≡ Some trial → (l : ℕ) → (ticket_at b.tickets t).goal ≡ Numbered l → Searching (space_of b l) (ticket_at b.tickets t).position (Some (position trial))
+pub searching_of : (b : BookState) (t : ℕ) (trial : Trial) → IsKept b → (ticket_at b.tickets t).candidate ≡ Some trial → (l : ℕ) → (ticket_at b.tickets t).goal ≡ Numbered l → Searching (space_of b l) (ticket_at b.tickets t).position (Some (position trial))
 searching_of b t trial k c l e = subst (λ z. Searching (space_of b l) (ticket_at b.tickets t).position (option_map position z)) c (k.searching t l e)
 
 -- after a verdict, where the trial isn't whole
