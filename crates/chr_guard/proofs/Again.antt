@@ -1,10 +1,10 @@
 -- A binding again from what is kept of it.
-use Rattle.std.proofs.Common.{◌≡◌, ℕ, zero, suc, ◌+◌, ◌<◌, ◌≤◌, ℤ, Bool, true, false, ◌||◌, List, [], ◌∷◌, ◌++◌, length, map, take, drop, replicate, get_or, Option, Some, None, ◌⊎◌, inl, inr, refl, sym, ap, ap₂, ◌∙◌, arith, slice_index_or, slice_set, get_or-set_same, get_or-set_other, length-set}
+use Rattle.chr_rule.proofs.Places.{any_here as any_first, any_left}
+use Rattle.std.proofs.Common.{◌≡◌, ℕ, zero, suc, ◌+◌, ◌<◌, ◌≤◌, ℤ, true, false, List, [], ◌∷◌, ◌++◌, length, map, take, drop, replicate, get_or, Option, Some, None, refl, sym, ap, ap₂, ◌∙◌, arith, slice_index_or, slice_set, get_or-set_same, get_or-set_other, length-set}
 use Rattle.std.specs.List.{list_any}
 use Rattle.std.proofs.lemmas.List.{length-map, length-replicate, get_or_past, get_or_default, take_all, take_more, map_push, ext_get_or}
-use Rattle.std.proofs.lemmas.Bool.{cases_lt, cases_eq}
+use Rattle.std.proofs.lemmas.Bool.{cases_lt, cases_eq, or_parts}
 use Rattle.chr_value.specs.Atoms.{Value, Int, Sym, Comp, Args}
-use Rattle.chr_value.proofs.Places.{left-at}
 use Rattle.chr_guard.specs.declared.settled.Mark.{Mark}
 use Rattle.chr_guard.specs.declared.settled.Mark.TheVariants as marks
 use Rattle.chr_guard.specs.Bindings.{bound_at}
@@ -14,16 +14,10 @@ use Rattle.chr_guard.proofs.Steps.{map_read}
 
 -- whether there is a compound value among the marks from a place on
 pub any_here : (ms : List Mark) (i : ℕ) (m : Mark) → i < length ms → m ≡ get_or ms i m → m ≡ marks.Compound → list_any is_compound (map mark_view (drop i ms)) ≡ true
-any_here ms i m lt e is = ap (list_any is_compound) (left-at mark_view ms i m lt e) ∙ ap (λ k. is_compound (mark_view k) || list_any is_compound (map mark_view (drop (i + 1) ms))) is
+any_here ms i m lt e is = any_first mark_view is_compound ms i m lt e (ap (λ k. is_compound (mark_view k)) is)
 
 pub any_later : (ms : List Mark) (i : ℕ) (m : Mark) → i < length ms → m ≡ get_or ms i m → (m ≡ marks.Compound → ⊥) → list_any is_compound (map mark_view (drop (i + 1) ms)) ≡ list_any is_compound (map mark_view (drop i ms))
-any_later ms i m lt e ne = sym (ap (list_any is_compound) (left-at mark_view ms i m lt e) ∙ ap (λ b. b || list_any is_compound (map mark_view (drop (i + 1) ms))) (plain m ne))
-  where
-    plain : (m : Mark) → (m ≡ marks.Compound → ⊥) → is_compound (mark_view m) ≡ false
-    plain marks.Free ne = refl
-    plain (marks.Number n) ne = refl
-    plain (marks.Symbol name) ne = refl
-    plain marks.Compound ne = absurd (ne refl)
+any_later ms i m lt e ne = sym (any_left mark_view is_compound ms i m lt e (grind arith))
 
 -- the mark that is read at a place
 pub mark_there : (ms : List Mark) (i : ℕ) (m : Mark) → i < length ms → m ≡ get_or ms i m → slice_index_or (map mark_view ms) i None ≡ mark_view m
@@ -33,13 +27,10 @@ mark_there ms i m lt e =
 
 -- a mark that keeps nothing
 pub nothing_kept : (m : Mark) (k : Option (Option (Value ℕ))) → k ≡ mark_view m → ((n : ℤ) → m ≡ marks.Number n → ⊥) → ((name : _) → m ≡ marks.Symbol name → ⊥) → (o : Option (Value ℕ)) → filled k o ≡ o
-nothing_kept m k at number symbol o = ap (λ k. filled k o) at ∙ by_mark m number symbol
-  where
-    by_mark : (m : Mark) → ((n : ℤ) → m ≡ marks.Number n → ⊥) → ((name : _) → m ≡ marks.Symbol name → ⊥) → filled (mark_view m) o ≡ o
-    by_mark marks.Free number symbol = refl
-    by_mark (marks.Number n) number symbol = absurd (number n refl)
-    by_mark (marks.Symbol name) number symbol = absurd (symbol name refl)
-    by_mark marks.Compound number symbol = refl
+nothing_kept marks.Free k at number symbol o = ap (λ k. filled k o) at
+nothing_kept (marks.Number n) k at number symbol o = absurd (number n refl)
+nothing_kept (marks.Symbol name) k at number symbol o = absurd (symbol name refl)
+nothing_kept marks.Compound k at number symbol o = ap (λ k. filled k o) at
 
 -- the binding once the first i marks are done
 pub record Filling (settled : Marks) (i : ℕ) (old new : List (Option (Value ℕ))) : Type 0 where
@@ -53,35 +44,19 @@ filling_start settled old = record { places = refl; before = λ x h. absurd (ome
 pub filling_put : (settled : Marks) (i : ℕ) (a : Value ℕ) (old mid new : List (Option (Value ℕ))) → i < length mid → slice_index_or settled i None ≡ Some (Some a) → new ≡ slice_set mid i (Some a) → Filling settled i old mid → Filling settled (i + 1) old new
 filling_put settled i a old mid new within at put f = record {
   places = ap length put ∙ length-set mid i (Some a) ∙ f.places;
-  before = λ x h. ap (λ b. bound_at b x) put ∙ by_place x h (cases_eq x i);
+  before = λ x h. rw put (grind (arith, cases_eq x i, f.before x, get_or-set_same mid i (Some a) None within, get_or-set_other mid i x (Some a) None));
   behind = λ x h. ap (λ b. bound_at b x) put ∙ get_or-set_other mid i x (Some a) None (λ e. omega (arith, e, h)) ∙ f.behind x (omega (arith, h));
 }
-  where
-    by_place : (x : ℕ) → x < i + 1 → (x ≡ i) ⊎ (x ≡ i → ⊥) → bound_at (slice_set mid i (Some a)) x ≡ filled (slice_index_or settled x None) (bound_at old x)
-    by_place x h (inl e) =
-        ap (bound_at (slice_set mid i (Some a))) e ∙ get_or-set_same mid i (Some a) None within
-        ∙ sym (ap (λ m. filled m (bound_at old x)) (ap (λ y. slice_index_or settled y None) e ∙ at))
-    by_place x h (inr ne) = get_or-set_other mid i x (Some a) None ne ∙ f.before x (below x h ne)
-      where
-        below : (x : ℕ) → x < i + 1 → (x ≡ i → ⊥) → x < i
-        below x h ne = omega arith
 
 pub filling_skip : (settled : Marks) (i : ℕ) (old mid : List (Option (Value ℕ))) → ((o : Option (Value ℕ)) → filled (slice_index_or settled i None) o ≡ o) → Filling settled i old mid → Filling settled (i + 1) old mid
-filling_skip settled i old mid same f = record { places = f.places; before = λ x h. by_place x h (cases_eq x i); behind = λ x h. f.behind x (omega (arith, h)) }
-  where
-    by_place : (x : ℕ) → x < i + 1 → (x ≡ i) ⊎ (x ≡ i → ⊥) → bound_at mid x ≡ filled (slice_index_or settled x None) (bound_at old x)
-    by_place x h (inl e) = f.behind x (omega (arith, e)) ∙ sym (ap (λ y. filled (slice_index_or settled y None) (bound_at old x)) e ∙ same (bound_at old x))
-    by_place x h (inr ne) = f.before x (below x h ne)
-      where
-        below : (x : ℕ) → x < i + 1 → (x ≡ i → ⊥) → x < i
-        below x h ne = omega arith
+filling_skip settled i old mid same f = record {
+  places = f.places;
+  before = λ x h. grind (arith, cases_eq x i, f.before x, f.behind x, same (bound_at old x));
+  behind = λ x h. f.behind x (omega (arith, h));
+}
 
 pub filling_end : (settled : Marks) (i : ℕ) (old new : List (Option (Value ℕ))) → length settled ≤ i → Filling settled i old new → IsFilled settled old new
-filling_end settled i old new past f = record { places = f.places; each = λ x. by_place x (cases_lt x i) }
-  where
-    by_place : (x : ℕ) → (x < i) ⊎ (i ≤ x) → bound_at new x ≡ filled (slice_index_or settled x None) (bound_at old x)
-    by_place x (inl h) = f.before x h
-    by_place x (inr h) = f.behind x h ∙ sym (ap (λ m. filled m (bound_at old x)) (get_or_past settled x None (omega (arith, past, h))))
+filling_end settled i old new past f = record { places = f.places; each = λ x. grind (arith, cases_lt x i, f.before x, f.behind x, get_or_past settled x None) }
 
 -- what is kept at each place
 marks_at : (binding : List (Option (Value ℕ))) (x : ℕ) → slice_index_or (map mark_of binding) x None ≡ mark_of (bound_at binding x)
@@ -103,12 +78,8 @@ module _ (binding : List (Option (Value ℕ))) (settled : Marks) (old new : List
 -- where no compound value stands in it, from all free
 no_compound : (binding : List (Option (Value ℕ))) (x s : ℕ) (vs : Args ℕ) → list_any is_compound (map mark_of binding) ≡ false → bound_at binding x ≡ Some (Comp s vs) → ⊥
 no_compound [] x s vs none e = absurd (cc)
-no_compound (o ∷ binding) zero s vs none e = let z : true ≡ false = sym (ap (λ p. is_compound (mark_of p) || list_any is_compound (map mark_of binding)) e) ∙ none in absurd (cc)
-no_compound (o ∷ binding) (suc x) s vs none e = no_compound binding x s vs (behind (is_compound (mark_of o)) none) e
-  where
-    behind : (b : Bool) → b || list_any is_compound (map mark_of binding) ≡ false → list_any is_compound (map mark_of binding) ≡ false
-    behind true e = absurd (cc)
-    behind false e = e
+no_compound (o ∷ binding) zero s vs none e = grind arith
+no_compound (o ∷ binding) (suc x) s vs none e = no_compound binding x s vs (or_parts (is_compound (mark_of o)) _ none).1 e
 
 pub plain_again : (binding : List (Option (Value ℕ))) (settled : Marks) (n : ℕ) (new : List (Option (Value ℕ))) → settled ≡ map mark_of binding → n ≡ length settled → list_any is_compound settled ≡ false → IsFilled settled (replicate n None) new → new ≡ binding
 plain_again binding settled n new is count none fill =

@@ -1,10 +1,11 @@
 -- Bindings and the valuations that extend them.
-use Rattle.std.proofs.Common.{◌≡◌, ◌≢◌, ◌↔◌, ℕ, zero, suc, ◌+◌, ◌<◌, ◌≤◌, Bool, true, false, IsTrue, ◌==◌, if◌then◌else◌, List, [], ◌∷◌, length, take, replicate, Option, Some, None, IsSome, ◌⊎◌, inl, inr, ⊎_elim, refl, sym, subst, ap, ap₂, ◌∙◌, arith, true-eqb, slice_index_or, slice_set, get_or-set_same, get_or-set_other, length-set}
+use Rattle.chr_guard.proofs.Under.{some_is_some}
+use Rattle.std.proofs.Common.{◌≡◌, ◌≢◌, ◌↔◌, ℕ, zero, suc, ◌+◌, ◌<◌, ◌≤◌, Bool, true, false, IsTrue, ◌==◌, if◌then◌else◌, List, [], ◌∷◌, length, take, replicate, Option, Some, None, IsSome, ◌⊎◌, inl, inr, refl, sym, subst, ap, ap₂, ◌∙◌, arith, slice_index_or, slice_set, get_or-set_same, get_or-set_other, length-set}
 use Rattle.std.specs.List.{refill}
 use Rattle.std.specs.Int.{bit_at}
-use Rattle.std.proofs.lemmas.List.{length-take-le, length-replicate, take_at}
+use Rattle.std.proofs.lemmas.List.{length-take-le, length-replicate, take_at, ext_get_or}
 use Rattle.std.proofs.lemmas.Nat.Bits.{bit_at-zero}
-use Rattle.std.proofs.lemmas.Bool.{cases_lt}
+use Rattle.std.proofs.lemmas.Bool.{cases_eq}
 use Rattle.std.proofs.lemmas.Bool.Decides.{nat_tests}
 use Rattle.chr_value.specs.Atoms.{Value, Int, Sym, ground_comp}
 use Rattle.chr_guard.specs.declared.binding.Bound.{Bound}
@@ -12,15 +13,10 @@ use Rattle.chr_guard.specs.declared.binding.Bound.TheVariants as bounds
 use Rattle.chr_guard.specs.Values.{Valuation}
 use Rattle.chr_guard.specs.Bindings.{bound_term, bound_at, told, told_from, AreBoundBy, Extends, Keeps, Narrows, NoneUnder, NarrowsIf}
 
--- where there is no place, whatever the bit
-told_nothing : (A : Type 0) (n : ℕ) → told {A = A} n bounds.Free ≡ None
-told_nothing A zero = refl
-told_nothing A (suc n) = refl
-
 -- the bits and the places of the variables say what each is bound to
 taken_from : {A : Type 0} (bits n from x : ℕ) (places : List (Bound A)) → ((y : ℕ) → n ≤ y → bit_at bits (from + y) ≡ 0) → bound_at (take n (told_from bits from places)) x ≡ told (bit_at bits (from + x)) (slice_index_or places x bounds.Free)
 taken_from bits zero from x places behind = ap (λ b. told b (slice_index_or places x bounds.Free)) (sym (behind x (omega arith)))
-taken_from bits (suc n) from x [] behind = sym (told_nothing _ (bit_at bits (from + x)))
+taken_from bits (suc n) from x [] behind = grind arith
 taken_from bits (suc n) from zero (b ∷ places) behind = let here : from ≡ from + 0 = omega arith in ap (λ y. told (bit_at bits y) b) here
 taken_from bits (suc n) from (suc x) (b ∷ places) behind =
     let next : (y : ℕ) → suc from + y ≡ from + suc y = λ y. omega arith in
@@ -44,10 +40,7 @@ is_place bits n places binding x by same lt = omega (arith, lt, length_binding b
 
 -- lists that bind as many variables to the same are equal
 pub same_places : (binding other : List (Option (Value ℕ))) → length binding ≡ length other → ((x : ℕ) → bound_at binding x ≡ bound_at other x) → binding ≡ other
-same_places [] [] e at = refl
-same_places [] (o ∷ other) e at = absurd (omega (arith, e))
-same_places (b ∷ binding) [] e at = absurd (omega (arith, e))
-same_places (b ∷ binding) (o ∷ other) e at = ap₂ (λ y ys. y ∷ ys) (at zero) (same_places binding other (omega (arith, e)) (λ x. at (suc x)))
+same_places binding other e at = ext_get_or None binding other e (λ x _. at x)
 
 pub binds_as : {A : Type 0} (bits n : ℕ) (places : List (Bound A)) (binding : List (Option (Value ℕ))) → AreBoundBy bits n places → length binding ≡ n → ((x : ℕ) → told (bit_at bits x) (slice_index_or places x bounds.Free) ≡ bound_at binding x) → take n (told_from bits 0 places) ≡ binding
 binds_as bits n places binding by len at =
@@ -60,71 +53,43 @@ free_at (suc n) zero = refl
 free_at (suc n) (suc x) = free_at n x
 
 pub none_bound : {A : Type 0} (n : ℕ) (places : List (Bound A)) → length places ≡ 24 → n ≤ 24 → AreBoundBy 0 n places
-none_bound n places full within = record {
-  full = full;
-  within = within;
-  behind = λ x le. bit_at-zero x;
-  bound = λ x one. let c : 0 ≡ 1 = sym (bit_at-zero x) ∙ one in absurd (omega (arith, c));
-}
+none_bound n places full within = grind (arith, bit_at-zero)
 
 pub told_none : {A : Type 0} (n : ℕ) (places : List (Bound A)) → length places ≡ 24 → n ≤ 24 → take n (told_from 0 0 places) ≡ replicate n None
 told_none n places full within = binds_as 0 n places (replicate n None) (none_bound n places full within) (length-replicate n None) (λ x. ap (λ b. told b (slice_index_or places x bounds.Free)) (bit_at-zero x) ∙ sym (free_at n x))
 
+-- what a variable is bound to, by its bit and its place
+told_is : {A : Type 0} (bits n x : ℕ) (places : List (Bound A)) (binding : List (Option (Value ℕ))) → AreBoundBy bits n places → take n (told_from bits 0 places) ≡ binding → told (bit_at bits x) (slice_index_or places x bounds.Free) ≡ bound_at binding x
+told_is bits n x places binding by same = sym (at_taken bits n places by.behind x) ∙ ap (λ b. bound_at b x) same
+
 -- a bit is 0 or 1
 bit_cases : (bits x : ℕ) → (bit_at bits x ≡ 0) ⊎ (bit_at bits x ≡ 1)
-bit_cases bits x = by_case (bit_at bits x) refl
-  where
-    small : bit_at bits x < 2
-    small = omega arith
-
-    by_case : (b : ℕ) → bit_at bits x ≡ b → (bit_at bits x ≡ 0) ⊎ (bit_at bits x ≡ 1)
-    by_case zero e = inl e
-    by_case (suc b) e = inr (omega (arith, e, small))
+bit_cases bits x = let small : bit_at bits x < 2 = omega arith in grind arith
 
 -- the bits are those of the variables that are bound
 pub known_bits : {A : Type 0} (bits n : ℕ) (places : List (Bound A)) (binding : List (Option (Value ℕ))) → AreBoundBy bits n places → take n (told_from bits 0 places) ≡ binding → (x : ℕ) → (bit_at bits x ≡ 1) ↔ IsSome (bound_at binding x)
-known_bits bits n places binding by same x = (
-  λ one. subst (λ o. IsSome o) (sym (ap (λ b. told b (slice_index_or places x bounds.Free)) one) ∙ here) (by.bound x one),
-  λ some. ⊎_elim (λ none. (let c : None ≡ bound_at binding x = sym (ap (λ b. told b (slice_index_or places x bounds.Free)) none) ∙ here in let s = subst (λ o. IsSome o) (sym c) some in absurd (cc))) (λ one. one) (bit_cases bits x),
-)
-  where
-    here : told (bit_at bits x) (slice_index_or places x bounds.Free) ≡ bound_at binding x
-    here = sym (at_taken bits n places by.behind x) ∙ ap (λ b. bound_at b x) same
+known_bits bits n places binding by same x = grind (arith, told_is bits n x places binding by same, bit_cases bits x, by.bound x)
 
 -- what a variable is bound to, by its bit
 pub told_one : {A : Type 0} (bits n x : ℕ) (places : List (Bound A)) (binding : List (Option (Value ℕ))) → AreBoundBy bits n places → take n (told_from bits 0 places) ≡ binding → bit_at bits x ≡ 1 → bound_term (slice_index_or places x bounds.Free) ≡ bound_at binding x
-told_one bits n x places binding by same one = ap (λ b. told b (slice_index_or places x bounds.Free)) (sym one) ∙ sym (at_taken bits n places by.behind x) ∙ ap (λ b. bound_at b x) same
+told_one bits n x places binding by same one = rw one at (told_is bits n x places binding by same)
 
 pub told_zero : {A : Type 0} (bits n x : ℕ) (places : List (Bound A)) (binding : List (Option (Value ℕ))) → AreBoundBy bits n places → take n (told_from bits 0 places) ≡ binding → (bit_at bits x ≡ 1 → ⊥) → None ≡ bound_at binding x
-told_zero bits n x places binding by same not_one =
-    ⊎_elim (λ none. ap (λ b. told b (slice_index_or places x bounds.Free)) (sym none) ∙ sym (at_taken bits n places by.behind x) ∙ ap (λ b. bound_at b x) same) (λ one. absurd (not_one one)) (bit_cases bits x)
+told_zero bits n x places binding by same not_one = grind (arith, told_is bits n x places binding by same, bit_cases bits x)
 
 -- a place more is copied
 pub copy_more : {A : Type 0} (i : ℕ) (places copies : List (Bound A)) (b : Bound A) → i < length copies → b ≡ slice_index_or places i bounds.Free → ((x : ℕ) → x < i → slice_index_or copies x bounds.Free ≡ slice_index_or places x bounds.Free) → (x : ℕ) → x < i + 1 → slice_index_or (slice_set copies i b) x bounds.Free ≡ slice_index_or places x bounds.Free
-copy_more i places copies b within is before x below =
-    elim (x == i) as (λ t. (x == i ≡ t) → slice_index_or (slice_set copies i b) x bounds.Free ≡ slice_index_or places x bounds.Free) [
-      | true ↦ λ e. let same : x ≡ i = true-eqb x i (sym e) in ap (λ y. slice_index_or (slice_set copies i b) y bounds.Free) same ∙ get_or-set_same copies i b bounds.Free within ∙ is ∙ sym (ap (λ y. slice_index_or places y bounds.Free) same)
-      | false ↦ λ e. let other : x ≢ i = grind (arith, nat_tests) in get_or-set_other copies i x b bounds.Free other ∙ before x (omega (arith, below, other))
-    ] refl
+copy_more i places copies b within is before x below = grind (arith, cases_eq x i, before x, get_or-set_same copies i b bounds.Free within, get_or-set_other copies i x b bounds.Free)
 
 -- places that are the same as far as there are variables
 pub bound_copy : {A : Type 0} (bits n : ℕ) (places copies : List (Bound A)) (binding : List (Option (Value ℕ))) → AreBoundBy bits n places → take n (told_from bits 0 places) ≡ binding → length copies ≡ 24 → ((x : ℕ) → x < n → slice_index_or copies x bounds.Free ≡ slice_index_or places x bounds.Free) → AreBoundBy bits n copies × (take n (told_from bits 0 copies) ≡ binding)
-bound_copy bits n places copies binding by same full at = (now, binds_as bits n copies binding now (length_binding bits n places binding by same) (λ x. alike x (bit_cases bits x) ∙ sym (at_taken bits n places by.behind x) ∙ ap (λ b. bound_at b x) same))
+bound_copy bits n places copies binding by same full at = (now, binds_as bits n copies binding now (length_binding bits n places binding by same) (λ x. alike x ∙ told_is bits n x places binding by same))
   where
-    within : (x : ℕ) → bit_at bits x ≡ 1 → x < n
-    within x one = ⊎_elim (λ lt. lt) (λ le. (let c : 0 ≡ 1 = sym (by.behind x le) ∙ one in absurd (omega (arith, c)))) (cases_lt x n)
-
     now : AreBoundBy bits n copies
-    now = record {
-      full = full;
-      within = by.within;
-      behind = by.behind;
-      bound = λ x one. subst (λ b. IsSome (bound_term b)) (sym (at x (within x one))) (by.bound x one);
-    }
+    now = record { full = full; within = by.within; behind = by.behind; bound = λ x one. grind (arith, by.bound x, by.behind x, at x) }
 
-    alike : (x : ℕ) → (bit_at bits x ≡ 0) ⊎ (bit_at bits x ≡ 1) → told (bit_at bits x) (slice_index_or copies x bounds.Free) ≡ told (bit_at bits x) (slice_index_or places x bounds.Free)
-    alike x (inl none) = ap (λ b. told b (slice_index_or copies x bounds.Free)) none ∙ sym (ap (λ b. told b (slice_index_or places x bounds.Free)) none)
-    alike x (inr one) = ap (told (bit_at bits x)) (at x (within x one))
+    alike : (x : ℕ) → told (bit_at bits x) (slice_index_or copies x bounds.Free) ≡ told (bit_at bits x) (slice_index_or places x bounds.Free)
+    alike x = grind (arith, bit_cases bits x, by.behind x, at x)
 
 -- a write at a variable's place
 pub after_write : {A : Type 0} (bs slice : List (Bound A)) (x at : ℕ) (b : Bound A) → slice ≡ bs → at ≡ x → refill (length bs) bs (slice_set slice at b) ≡ slice_set bs x b
@@ -135,34 +100,23 @@ bound_write bits new n x places b by lt some here others = record {
   full = length-set places x b ∙ by.full;
   within = by.within;
   behind = λ y le. others y (λ e. omega (arith, e, le, lt)) ∙ by.behind y le;
-  bound = λ y one.
-      elim (y == x) as (λ t. (y == x ≡ t) → IsSome (bound_term (slice_index_or (slice_set places x b) y bounds.Free))) [
-        | true ↦ λ e.
-            let same : y ≡ x = true-eqb y x (sym e) in
-            let place : x < length places = omega (arith, lt, by.full, by.within) in
-            subst (λ o. IsSome (bound_term o)) (sym (ap (λ z. slice_index_or (slice_set places x b) z bounds.Free) same ∙ get_or-set_same places x b bounds.Free place)) some
-        | false ↦ λ e.
-            let other : y ≢ x = grind (arith, nat_tests) in
-            subst (λ o. IsSome (bound_term o)) (sym (get_or-set_other places x y b bounds.Free other)) (by.bound y (sym (others y other) ∙ one))
-      ] refl;
+  bound = λ y one. grind (arith, cases_eq y x, by.bound y, others y, get_or-set_same places x b bounds.Free, get_or-set_other places x y b bounds.Free);
 }
 
 pub told_write : {A : Type 0} (bits new n x : ℕ) (places : List (Bound A)) (b : Bound A) (binding : List (Option (Value ℕ))) (by : AreBoundBy bits n places) (same : take n (told_from bits 0 places) ≡ binding) (lt : x < n) (some : IsSome (bound_term b)) (here : bit_at new x ≡ 1) (others : (y : ℕ) → y ≢ x → bit_at new y ≡ bit_at bits y) → take n (told_from new 0 (slice_set places x b)) ≡ slice_set binding x (bound_term b)
 told_write bits new n x places b binding by same lt some here others =
+    let len = length_binding bits n places binding by same in
+    let place : x < length places = omega (arith, lt, by.full, by.within) in
     binds_as new n (slice_set places x b) (slice_set binding x (bound_term b)) (bound_write bits new n x places b by lt some here others) (length-set binding x (bound_term b) ∙ len) (λ y.
-    elim (y == x) as (λ t. (y == x ≡ t) → told (bit_at new y) (slice_index_or (slice_set places x b) y bounds.Free) ≡ bound_at (slice_set binding x (bound_term b)) y) [
-      | true ↦ λ e.
-          let at : y ≡ x = true-eqb y x (sym e) in
-          let place : x < length places = omega (arith, lt, by.full, by.within) in
-          let within : x < length binding = omega (arith, lt, len) in
-          ap (λ z. told (bit_at new z) (slice_index_or (slice_set places x b) z bounds.Free)) at ∙ ap₂ (λ k v. told k v) here (get_or-set_same places x b bounds.Free place) ∙ sym (ap (bound_at (slice_set binding x (bound_term b))) at ∙ get_or-set_same binding x (bound_term b) None within)
-      | false ↦ λ e.
-          let other : y ≢ x = grind (arith, nat_tests) in
-          ap₂ (λ k v. told k v) (others y other) (get_or-set_other places x y b bounds.Free other) ∙ sym (at_taken bits n places by.behind y) ∙ ap (λ c. bound_at c y) same ∙ sym (get_or-set_other binding x y (bound_term b) None other)
-    ] refl)
-  where
-    len : length binding ≡ n
-    len = length_binding bits n places binding by same
+    grind (arith, cases_eq y x, told_is bits n y places binding by same, others y, get_or-set_same places x b bounds.Free place, get_or-set_other places x y b bounds.Free, get_or-set_same binding x (bound_term b) None, get_or-set_other binding x y (bound_term b) None))
+
+-- a value is put at a variable's place
+pub put_at : {A : Type 0} (bits new n x at : ℕ) (places slice : List (Bound A)) (b : Bound A) (t : Value ℕ) (binding : List (Option (Value ℕ))) → AreBoundBy bits n places → take n (told_from bits 0 places) ≡ binding → x < length binding → slice ≡ places → at ≡ x → bound_term b ≡ Some t → bit_at new x ≡ 1 → ((y : ℕ) → y ≢ x → bit_at new y ≡ bit_at bits y)
+    → AreBoundBy new n (refill (length places) places (slice_set slice at b)) × (take n (told_from new 0 (refill (length places) places (slice_set slice at b))) ≡ slice_set binding x (Some t))
+put_at bits new n x at places slice b t binding by same lt is there some here others =
+    let place = is_place bits n places binding x by same lt in
+    let bound = subst (λ o. IsSome o) (sym some) refl in
+    rw (after_write places slice x at b is there) (bound_write bits new n x places b by place bound here others, told_write bits new n x places b binding by same place bound here others ∙ ap (λ o. slice_set binding x o) some)
 
 -- a binding is the least valuation that extends it
 pub extends_itself : (binding : List (Option (Value ℕ))) → Extends (bound_at binding) binding
@@ -172,21 +126,11 @@ extends_itself binding x t at = at
 pub told_new : (old : List (Option (Value ℕ))) (x : ℕ) (t : Value ℕ) → x < length old → bound_at old x ≡ None → NarrowsIf (λ v. v x ≡ Some t) true old (slice_set old x (Some t))
 told_new old x t within free = record {
   places = length-set old x (Some t);
-  exactly = λ v. (λ h. (before v h, h x t (get_or-set_same old x (Some t) None within)), λ h. after v h.0 h.1);
+  exactly = λ v. (
+    λ h. ((λ y a at. grind (arith, cases_eq y x, h y a, get_or-set_other old x y (Some t) None)), h x t (get_or-set_same old x (Some t) None within)),
+    λ h y a at. grind (arith, cases_eq y x, h.0 y a, get_or-set_same old x (Some t) None within, get_or-set_other old x y (Some t) None),
+  );
 }
-  where
-    before : (v : Valuation) → Extends v (slice_set old x (Some t)) → Extends v old
-    before v h y a at = h y a (get_or-set_other old x y (Some t) None (λ e. (let c : None ≡ Some a = sym free ∙ ap (λ z. slice_index_or old z None) (sym e) ∙ at in cc)) ∙ at)
-
-    after : (v : Valuation) → Extends v old → v x ≡ Some t → Extends v (slice_set old x (Some t))
-    after v h e y a at =
-        elim (y == x) as (λ b. (y == x ≡ b) → v y ≡ Some a) [
-          | true ↦ λ b.
-              let same : y ≡ x = true-eqb y x (sym b) in
-              let c : Some t ≡ Some a = sym (get_or-set_same old x (Some t) None within) ∙ ap (λ z. slice_index_or (slice_set old x (Some t)) z None) (sym same) ∙ at in
-              ap v same ∙ e ∙ c
-          | false ↦ λ b. h y a (sym (get_or-set_other old x y (Some t) None (grind (arith, nat_tests))) ∙ at)
-        ] refl
 
 -- a variable is bound already
 pub told_bound : {A : Type 0} (told : Bool) (old : List (Option (Value ℕ))) (x : ℕ) (t : Value ℕ) (b : Bound A) → bound_term b ≡ bound_at old x → (b ≡ bounds.Free → ⊥) → IsTrue told ↔ (bound_term b ≡ Some t) → NarrowsIf (λ v. v x ≡ Some t) told old old
@@ -225,34 +169,25 @@ narrows_keeps P old new n = record { places = n.places; extends = ((n.exactly (b
 
 -- A binding that has kept another returns to it: the variables that the other binds are bound to the same.
 pub returns_to : {A : Type 0} (bits known n : ℕ) (places : List (Bound A)) (binding before : List (Option (Value ℕ))) → AreBoundBy bits n places → take n (told_from bits 0 places) ≡ binding → ((x : ℕ) → (bit_at known x ≡ 1) ↔ IsSome (bound_at before x)) → Keeps before binding → AreBoundBy known n places × (take n (told_from known 0 places) ≡ before)
-returns_to bits known n places binding before by same are k = (now, binds_as known n places before now (sym k.places ∙ length_binding bits n places binding by same) (λ x. by_bit x (bit_cases known x)))
+returns_to bits known n places binding before by same are k = (now, binds_as known n places before now (sym k.places ∙ length_binding bits n places binding by same) (λ x. each x (bit_cases known x)))
   where
+    kept : (x : ℕ) → bit_at known x ≡ 1 → bound_at binding x ≡ bound_at before x
+    kept x one = let t = some_is_some (bound_at before x) ((are x).0 one) in k.extends x t.0 t.1 ∙ sym t.1
+
     stays : (x : ℕ) → bit_at known x ≡ 1 → bit_at bits x ≡ 1
-    stays x one = by_case (bound_at before x) refl ((are x).0 one)
-      where
-        by_case : (o : Option (Value ℕ)) → bound_at before x ≡ o → IsSome o → bit_at bits x ≡ 1
-        by_case (Some t) e some = (known_bits bits n places binding by same x).1 (subst (λ o. IsSome o) (sym (k.extends x t e)) some)
-        by_case None e some = absurd (cc)
+    stays x one = (known_bits bits n places binding by same x).1 (rw (kept x one) ((are x).0 one))
 
     now : AreBoundBy known n places
     now = record {
       full = by.full;
       within = by.within;
-      behind = λ x le. ⊎_elim (λ none. none) (λ one. (let c : 0 ≡ 1 = sym (by.behind x le) ∙ stays x one in absurd (omega (arith, c)))) (bit_cases known x);
+      behind = λ x le. grind (arith, bit_cases known x, by.behind x, stays x);
       bound = λ x one. by.bound x (stays x one);
     }
 
-    by_bit : (x : ℕ) → (bit_at known x ≡ 0) ⊎ (bit_at known x ≡ 1) → told (bit_at known x) (slice_index_or places x bounds.Free) ≡ bound_at before x
-    by_bit x (inl none) = ap (λ b. told b (slice_index_or places x bounds.Free)) none ∙ by_none (bound_at before x) refl
-      where
-        by_none : (o : Option (Value ℕ)) → bound_at before x ≡ o → None ≡ o
-        by_none None e = refl
-        by_none (Some t) e = let c : 0 ≡ 1 = sym none ∙ (are x).1 (subst (λ o. IsSome o) (sym e) refl) in absurd (omega (arith, c))
-    by_bit x (inr one) = ap (λ b. told b (slice_index_or places x bounds.Free)) one ∙ told_one bits n x places binding by same (stays x one) ∙ by_some (bound_at before x) refl ((are x).0 one)
-      where
-        by_some : (o : Option (Value ℕ)) → bound_at before x ≡ o → IsSome o → bound_at binding x ≡ o
-        by_some (Some t) e some = k.extends x t e
-        by_some None e some = absurd (cc)
+    each : (x : ℕ) → (bit_at known x ≡ 0) ⊎ (bit_at known x ≡ 1) → told (bit_at known x) (slice_index_or places x bounds.Free) ≡ bound_at before x
+    each x (inl none) = grind (arith, are x)
+    each x (inr one) = ap (λ b. told b (slice_index_or places x bounds.Free)) one ∙ told_one bits n x places binding by same (stays x one) ∙ kept x one
 
 -- where there is none for a part there is none for the whole
 pub none_after : (P Q R : Valuation → Type 0) (old mid : List (Option (Value ℕ))) → Narrows P old mid → NoneUnder Q mid → ((v : Valuation) → R v → P v × Q v) → NoneUnder R old
@@ -263,51 +198,22 @@ pub free_extends : (v : Valuation) (n : ℕ) → Extends v (replicate n None)
 free_extends v n x t at = let c : None ≡ Some t = sym (free_at n x) ∙ at in absurd (cc)
 
 -- a valuation but for one variable
-pub changed : Valuation → ℕ → Option (Value ℕ) → Valuation
+abbrev changed : Valuation → ℕ → Option (Value ℕ) → Valuation
 changed v x t y = if y == x then t else v y
-
-pub changed_same : (v : Valuation) (x : ℕ) (t : Option (Value ℕ)) → changed v x t x ≡ t
-unfolding changed
-changed_same v x t = elim (x == x) as (λ b. (x == x ≡ b) → (if b then t else v x) ≡ t) [ true ↦ λ _. refl | false ↦ λ e. absurd (grind (arith, nat_tests)) ] refl
-
-pub changed_other : (v : Valuation) (x y : ℕ) (t : Option (Value ℕ)) → y ≢ x → changed v x t y ≡ v y
-unfolding changed
-changed_other v x y t ne = elim (y == x) as (λ b. (y == x ≡ b) → (if b then t else v y) ≡ v y) [ true ↦ λ e. absurd (ne (true-eqb y x (sym e))) | false ↦ λ _. refl ] refl
 
 -- where one variable is bound the others are as before
 pub others_stay : (old new : List (Option (Value ℕ))) (x y : ℕ) (t : Value ℕ) → Narrows (λ v. v x ≡ Some t) old new → y ≢ x → bound_at new y ≡ bound_at old y
-others_stay old new x y t n ne = by_old (bound_at old y) refl
+others_stay old new x y t n ne = grind (arith, nat_tests, least.0 y, there y)
   where
     least : Extends (bound_at new) old × (bound_at new x ≡ Some t)
     least = (n.exactly (bound_at new)).0 (extends_itself new)
 
-    extends : Extends (changed (bound_at old) x (Some t)) old
-    extends z a at =
-        elim (z == x) as (λ b. (z == x ≡ b) → changed (bound_at old) x (Some t) z ≡ Some a) [
-          | true ↦ λ e.
-              let same : z ≡ x = true-eqb z x (sym e) in
-              ap (changed (bound_at old) x (Some t)) same ∙ changed_same (bound_at old) x (Some t) ∙ sym least.1 ∙ ap (bound_at new) (sym same) ∙ least.0 z a at
-          | false ↦ λ e. changed_other (bound_at old) x z (Some t) (grind (arith, nat_tests)) ∙ at
-        ] refl
-
-    by_new : (o : Option (Value ℕ)) → bound_at new y ≡ o → bound_at old y ≡ None → o ≡ None
-    by_new None e f = refl
-    by_new (Some b) e f =
-        let there : changed (bound_at old) x (Some t) y ≡ Some b = (n.exactly (changed (bound_at old) x (Some t))).1 (extends, changed_same (bound_at old) x (Some t)) y b e in
-        let none : None ≡ Some b = sym f ∙ sym (changed_other (bound_at old) x y (Some t) ne) ∙ there in
-        absurd (cc)
-
-    by_old : (o : Option (Value ℕ)) → bound_at old y ≡ o → bound_at new y ≡ o
-    by_old (Some a) e = least.0 y a e
-    by_old None e = by_new (bound_at new y) refl e
+    there : Extends (changed (bound_at old) x (Some t)) new
+    there = (n.exactly (changed (bound_at old) x (Some t))).1 ((λ z a at. grind (arith, nat_tests, least.0 z a, least.1)), grind (arith, nat_tests))
 
 -- what is bound has one value, and stays bound
 pub bound_settled : (binding : List (Option (Value ℕ))) (x : ℕ) (v : Valuation) → IsSome (bound_at binding x) → Extends v binding → v x ≡ bound_at binding x
-bound_settled binding x v some extends = by_case (bound_at binding x) refl some
-  where
-    by_case : (o : Option (Value ℕ)) → bound_at binding x ≡ o → IsSome o → v x ≡ o
-    by_case (Some t) e h = extends x t e
-    by_case None e h = absurd (cc)
+bound_settled binding x v some extends = let t = some_is_some (bound_at binding x) some in extends x t.0 t.1 ∙ sym t.1
 
 pub stays_bound : (P : Valuation → Type 0) (old new : List (Option (Value ℕ))) (x : ℕ) → Narrows P old new → IsSome (bound_at old x) → IsSome (bound_at new x)
 stays_bound P old new x n some = subst (λ o. IsSome o) (sym (bound_settled old x (bound_at new) some ((n.exactly (bound_at new)).0 (extends_itself new)).0)) some

@@ -1,5 +1,5 @@
 -- Left sides of `is` bound one after another.
-use Rattle.std.proofs.Common.{◌≡◌, ℕ, suc, ◌+◌, ◌<◌, ◌≤◌, ℤ, List, [], ◌∷◌, ◌++◌, length, take, drop, get_or, Option, Some, None, IsSome, ◌⊎◌, inl, inr, refl, sym, subst, ap, ◌∙◌, arith}
+use Rattle.std.proofs.Common.{◌≡◌, ℕ, suc, ◌+◌, ◌<◌, ◌≤◌, ℤ, List, [], ◌∷◌, ◌++◌, length, take, drop, get_or, Option, Some, None, IsSome, inl, inr, refl, sym, subst, ap, ◌∙◌, arith}
 use Rattle.std.specs.List.{AllByRecursion}
 use Rattle.std.proofs.lemmas.List.{drop_more, take_all, take_more, take-append-drop, append-nil}
 use Rattle.std.proofs.lemmas.Bool.{cases_lt, cases_eq}
@@ -14,7 +14,7 @@ use Rattle.chr_guard.specs.Matching.{Completes, IsBody, IsCompleted}
 use Rattle.chr_guard.proofs.Scoped.{scoped, is_known, add_known, body_below}
 use Rattle.chr_guard.proofs.Under.{value_grows, made_grows, made_append, none_made, added_append}
 use Rattle.chr_guard.proofs.Fixed.{Agree, value_agrees, made_agrees}
-use Rattle.chr_guard.proofs.Bindings.{narrows_nothing, extends_itself, others_stay, bound_settled, stays_bound}
+use Rattle.chr_guard.proofs.Bindings.{narrows_nothing, extends_itself, others_stay, bound_settled, stays_bound, narrows_as}
 use Rattle.chr_guard.proofs.Steps.{all_more, all_at}
 
 -- the binding once the first i members are done
@@ -60,18 +60,14 @@ completing_start rule old r len =
 
 -- what completes the old binding agrees with the new one on the variables known by then
 agrees : (rule : Simpagation ℕ) (i : ℕ) (old mid : List (Option (Value ℕ))) (done : Completing rule i old mid) (v : Valuation) → Completes rule old v → Extends v mid → Agree v (bound_at mid) done.known
-agrees rule i old mid done v c h y l = by_place (cases_lt y done.first)
-  where
-    by_place : (y < done.first) ⊎ (done.first ≤ y) → v y ≡ bound_at mid y
-    by_place (inl below) = c.heads y (done.first, done.of_heads, below) ∙ sym (done.heads y below)
-    by_place (inr from) = bound_settled mid y v (done.bound y from l) h
+agrees rule i old mid done v c h y l = elim (cases_lt y done.first) [
+  | inl below ↦ c.heads y (done.first, done.of_heads, below) ∙ sym (done.heads y below)
+  | inr from ↦ bound_settled mid y v (done.bound y from l) h
+]
 
 module _ (rule : Simpagation ℕ) (i x : ℕ) (e : Expression) (old mid : List (Option (Value ℕ))) (within : i < length rule.body) (there : Is x e ≡ get_or rule.body i (Is x e)) (done : Completing rule i old mid) where
-  next : drop i rule.body ≡ Is x e ∷ drop (i + 1) rule.body
-  next = drop_more rule.body i (Is x e) within ∙ ap (λ m. m ∷ drop (i + 1) rule.body) (sym there)
-
   turn : known_after_body done.known (Is x e ∷ drop (i + 1) rule.body) ≡ Some rule.variables
-  turn = subst (λ ms. known_after_body done.known ms ≡ Some rule.variables) next done.rest
+  turn = subst (λ ms. known_after_body done.known ms ≡ Some rule.variables) (drop_more rule.body i (Is x e) within ∙ ap (λ m. m ∷ drop (i + 1) rule.body) (sym there)) done.rest
 
   pub is_place : x < length mid
   is_place = is_known done.known rule.variables x e (drop (i + 1) rule.body) turn (λ same _ later. let le : suc done.known ≤ rule.variables = body_below (suc done.known) rule.variables (drop (i + 1) rule.body) later in let len : rule.variables ≤ length mid = done.places in omega arith)
@@ -94,14 +90,10 @@ module _ (rule : Simpagation ℕ) (i x : ℕ) (e : Expression) (old mid : List (
       none v p.0 (p.1.2 ∙ ap (λ z. Some (Int z)) (sym same))
 
   bound_more : (n : ℤ) (new : List (Option (Value ℕ))) → Narrows (λ v. v x ≡ Some (Int n)) mid new → x ≡ done.known → (y : ℕ) → done.first ≤ y → y < suc done.known → IsSome (bound_at new y)
-  bound_more n new m same y from l = by_place (cases_eq y x)
-    where
-      by_place : (y ≡ x) ⊎ (y ≡ x → ⊥) → IsSome (bound_at new y)
-      by_place (inl z) = subst (λ o. IsSome o) (sym (ap (bound_at new) z ∙ ((m.exactly (bound_at new)).0 (extends_itself new)).1)) refl
-      by_place (inr ne) = stays_bound (λ v. v x ≡ Some (Int n)) mid new y m (done.bound y from (below ne))
-        where
-          below : (y ≡ x → ⊥) → y < done.known
-          below ne = omega arith
+  bound_more n new m same y from l = elim (cases_eq y x) [
+    | inl z ↦ subst (λ o. IsSome o) (sym (ap (bound_at new) z ∙ ((m.exactly (bound_at new)).0 (extends_itself new)).1)) refl
+    | inr ne ↦ stays_bound (λ v. v x ≡ Some (Int n)) mid new y m (done.bound y from (omega arith))
+  ]
 
   pub is_more : (n : ℤ) (new : List (Option (Value ℕ))) → value_of (bound_at mid) e ≡ Some n → Narrows (λ v. v x ≡ Some (Int n)) mid new → Completing rule (i + 1) old new
   is_more n new val m =
@@ -112,7 +104,7 @@ module _ (rule : Simpagation ℕ) (i x : ℕ) (e : Expression) (old mid : List (
         later = (let le : done.first ≤ done.known = done.later in omega arith);
         rest = later;
         bound = bound_more n new m same;
-        heads = λ y h. (let le : done.first ≤ done.known = done.later in others_stay mid new x y n' m (λ z. absurd (omega arith))) ∙ done.heads y h;
+        heads = λ y h. (let le : done.first ≤ done.known = done.later in others_stay mid new x y (Int n) m (λ z. absurd (omega arith))) ∙ done.heads y h;
         places = subst (λ k. rule.variables ≤ k) (sym m.places) done.places;
         narrows = record {
           places = m.places ∙ done.narrows.places;
@@ -132,9 +124,6 @@ module _ (rule : Simpagation ℕ) (i x : ℕ) (e : Expression) (old mid : List (
         made_is = subst (λ ss. AreMadeUnder (bound_at new) ss done.made) (sym (added_next rule.body i (Is x e) within there ∙ append-nil (added (take i rule.body))))
             (made_grows (bound_at mid) (bound_at new) ((m.exactly (bound_at new)).0 (extends_itself new)).0 (added (take i rule.body)) done.made done.made_is);
       })
-    where
-      n' : Value ℕ
-      n' = Int n
 
 module _ (rule : Simpagation ℕ) (i : ℕ) (s : RuleAtom ℕ) (old mid : List (Option (Value ℕ))) (within : i < length rule.body) (there : Add s ≡ get_or rule.body i (Add s)) (done : Completing rule i old mid) where
   add_turn : known_after_body done.known (Add s ∷ drop (i + 1) rule.body) ≡ Some rule.variables
@@ -161,13 +150,8 @@ module _ (rule : Simpagation ℕ) (i : ℕ) (s : RuleAtom ℕ) (old mid : List (
         bound = done.bound;
         heads = done.heads;
         places = done.places;
-        narrows = record {
-          places = done.narrows.places;
-          exactly = λ v. (
-            λ h. let o = (done.narrows.exactly v).0 h in (o.0, (all_more (IsRight v) rule.body i (Add s) within there).1 (o.1, tt)),
-            λ h. (done.narrows.exactly v).1 (h.0, ((all_more (IsRight v) rule.body i (Add s) within there).0 h.1).0),
-          );
-        };
+        narrows = narrows_as (λ v. AllByRecursion (IsRight v) (take i rule.body)) (λ v. AllByRecursion (IsRight v) (take (i + 1) rule.body)) old mid
+            (λ v. let step = all_more (IsRight v) rule.body i (Add s) within there in (λ a. step.1 (a, tt), λ a. (step.0 a).0)) done.narrows;
         made = done.made ++ a ∷ [];
         made_is = subst (λ ss. AreMadeUnder (bound_at mid) ss (done.made ++ a ∷ [])) (sym (added_next rule.body i (Add s) within there))
             (made_append (bound_at mid) (added (take i rule.body)) (s ∷ []) done.made (a ∷ []) done.made_is (ap (λ o. o ∷ []) is));

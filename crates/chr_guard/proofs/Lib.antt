@@ -1,11 +1,6 @@
 pub mod Scoped
 pub mod Under
-pub mod Weights
-pub mod Opened
-pub mod Counted
-pub mod Compared
-pub mod Plains
-pub mod Made
+pub mod Arguments
 pub mod Fixed
 pub mod Bindings
 pub mod Steps

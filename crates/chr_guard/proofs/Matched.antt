@@ -1,4 +1,6 @@
 -- Heads, atoms and the bindings that make them equal.
+use Rattle.std.proofs.lemmas.List.Elements.{All-from_recursion}
+use Rattle.std.proofs.lemmas.Option.{get_or_from_slice_get, slice_get_within}
 use Rattle.std.proofs.Common.{◌≡◌, ◌≢◌, ◌↔◌, ℕ, zero, suc, ◌≤◌, ◌+◌, ◌<◌, Bool, true, false, List, [], ◌∷◌, ◌++◌, length, take, drop, map, replicate, get_or, Option, Some, None, IsSome, refl, sym, subst, ap, ap₂, ◌∙◌, arith}
 use Rattle.std.specs.List.{AllByRecursion, list_all}
 use Rattle.std.specs.Prelude.{slice_get}
@@ -32,9 +34,7 @@ pub other_name : (s : RuleAtom ℕ) (a : Atom ℕ) (old : List (Option (Value �
 other_name s a old ne v h e = ne ((atom_is v s a).0 e).0
 
 placed_in : (hs : List (RuleAtom ℕ)) (n j : ℕ) (s : RuleAtom ℕ) → AllByRecursion (IsPlaced n) hs → slice_get hs j ≡ Some s → list_all (argument_known n) s.args ≡ true
-placed_in [] n j s a e = let z : None ≡ Some s = e in absurd (cc)
-placed_in (h ∷ hs) n zero s a e = let same : h ≡ s = some_is h s e in subst (IsPlaced n) same a.0
-placed_in (h ∷ hs) n (suc j) s a e = placed_in hs n j s a.1 e
+placed_in hs n j s a e = subst (IsPlaced n) (get_or_from_slice_get hs j s s e) (All-from_recursion (IsPlaced n) hs a j s (slice_get_within hs j s e))
 
 all_later : (n m : ℕ) (hs : List (RuleAtom ℕ)) → n ≤ m → AllByRecursion (IsPlaced n) hs → AllByRecursion (IsPlaced m) hs
 all_later n m [] h a = tt
@@ -54,11 +54,8 @@ all_front : {X : Type 0} (P : X → Type 0) (xs ys : List X) → AllByRecursion 
 all_front P [] ys a = (tt, a)
 all_front P (x ∷ xs) ys a = let rest = all_front P xs ys a.1 in ((a.0, rest.0), rest.1)
 
-pub kept_placed : (rule : Simpagation ℕ) → IsRule rule → AllByRecursion (IsPlaced rule.variables) rule.kept
-kept_placed rule r = (all_front (IsPlaced rule.variables) rule.kept rule.removed (all_placed rule r)).0
-
-pub removed_placed : (rule : Simpagation ℕ) → IsRule rule → AllByRecursion (IsPlaced rule.variables) rule.removed
-removed_placed rule r = (all_front (IsPlaced rule.variables) rule.kept rule.removed (all_placed rule r)).1
+pub both_placed : (rule : Simpagation ℕ) → IsRule rule → AllByRecursion (IsPlaced rule.variables) rule.kept × AllByRecursion (IsPlaced rule.variables) rule.removed
+both_placed rule r = all_front (IsPlaced rule.variables) rule.kept rule.removed (all_placed rule r)
 
 -- what a binding narrowed from all free says
 pub fit_from_free : (rule : Simpagation ℕ) (P : Valuation → Type 0) (new : List (Option (Value ℕ))) → Narrows P (replicate rule.variables None) new → IsFit rule P new
@@ -70,11 +67,8 @@ fit_from_free rule P new n = record {
 pub none_from_free : (P : Valuation → Type 0) (n : ℕ) → NoneUnder P (replicate n None) → (v : Valuation) → P v → ⊥
 none_from_free P n none v p = none v (free_extends v n) p
 
-stands_from : (rule : Simpagation ℕ) (v : Valuation) (p : ℕ × Atom ℕ) (s : RuleAtom ℕ) → head_at rule p.0 ≡ Some s → atom_under v s ≡ Some p.1 → IsAtHead rule v p
-stands_from rule v p s at e = ap (option_map (atom_under v)) at ∙ ap (λ a. Some a) e
-
-stands_to : (rule : Simpagation ℕ) (v : Valuation) (p : ℕ × Atom ℕ) (s : RuleAtom ℕ) → head_at rule p.0 ≡ Some s → IsAtHead rule v p → atom_under v s ≡ Some p.1
-stands_to rule v p s at e = some_is (atom_under v s) (Some p.1) (sym (ap (option_map (atom_under v)) at) ∙ e)
+stands_is : (rule : Simpagation ℕ) (v : Valuation) (p : ℕ × Atom ℕ) (s : RuleAtom ℕ) → head_at rule p.0 ≡ Some s → IsAtHead rule v p ↔ (atom_under v s ≡ Some p.1)
+stands_is rule v p s at = (λ e. some_is (atom_under v s) (Some p.1) (sym (ap (option_map (atom_under v)) at) ∙ e), λ e. ap (option_map (atom_under v)) at ∙ ap (λ a. Some a) e)
 
 -- one head more of a list of heads with their atoms
 pub stands_more : (rule : Simpagation ℕ) (places : List (ℕ × Atom ℕ)) (i : ℕ) (p : ℕ × Atom ℕ) (s : RuleAtom ℕ) (old mid new : List (Option (Value ℕ))) → i < length places → p ≡ get_or places i p → head_at rule p.0 ≡ Some s
@@ -82,14 +76,14 @@ pub stands_more : (rule : Simpagation ℕ) (places : List (ℕ × Atom ℕ)) (i 
 stands_more rule places i p s old mid new h e at n m =
     narrows_as (λ v. AreAtHeads rule (take i places) v × (atom_under v s ≡ Some p.1)) (AreAtHeads rule (take (i + 1) places)) old new
     (λ v. let step = all_more (IsAtHead rule v) places i p h e in
-    (λ a. step.1 (a.0, stands_from rule v p s at a.1), λ a. let two = step.0 a in (two.0, stands_to rule v p s at two.1)))
+    (λ a. step.1 (a.0, (stands_is rule v p s at).1 a.1), λ a. let two = step.0 a in (two.0, (stands_is rule v p s at).0 two.1)))
     (narrows_both (AreAtHeads rule (take i places)) (λ v. atom_under v s ≡ Some p.1) old mid new n m)
 
 pub stands_stop : (rule : Simpagation ℕ) (places : List (ℕ × Atom ℕ)) (i : ℕ) (p : ℕ × Atom ℕ) (s : RuleAtom ℕ) (old mid : List (Option (Value ℕ))) → i < length places → p ≡ get_or places i p → head_at rule p.0 ≡ Some s
     → Narrows (AreAtHeads rule (take i places)) old mid → NoneUnder (λ v. atom_under v s ≡ Some p.1) mid → NoneUnder (AreAtHeads rule places) old
 stands_stop rule places i p s old mid h e at n none =
     none_after (AreAtHeads rule (take i places)) (λ v. atom_under v s ≡ Some p.1) (AreAtHeads rule places) old mid n none
-    (λ v a. let two = all_at (IsAtHead rule v) places i p h e a in (two.0, stands_to rule v p s at two.1))
+    (λ v a. let two = all_at (IsAtHead rule v) places i p h e a in (two.0, (stands_is rule v p s at).0 two.1))
 
 -- a number that no head has
 pub stands_nowhere : (rule : Simpagation ℕ) (places : List (ℕ × Atom ℕ)) (i : ℕ) (p : ℕ × Atom ℕ) → i < length places → p ≡ get_or places i p → head_at rule p.0 ≡ None → (v : Valuation) → AreAtHeads rule places v → ⊥
@@ -98,25 +92,16 @@ stands_nowhere rule places i p h e at v a =
     let z : None ≡ Some (Some p.1) = sym (ap (option_map (atom_under v)) at) ∙ s in
     absurd (cc)
 
-heads_join : (rule : Simpagation ℕ) (first rest : List (Option (Atom ℕ))) (v : Valuation) → map (atom_under v) rule.kept ≡ first → map (atom_under v) rule.removed ≡ rest → map (atom_under v) (rule.kept ++ rule.removed) ≡ first ++ rest
-heads_join rule first rest v k r = map-append (atom_under v) rule.kept rule.removed ∙ ap₂ (λ a b. a ++ b) k r
-
-heads_part : (rule : Simpagation ℕ) (first rest : List (Option (Atom ℕ))) → length first ≡ length rule.kept → (v : Valuation) → map (atom_under v) (rule.kept ++ rule.removed) ≡ first ++ rest → (map (atom_under v) rule.kept ≡ first) × (map (atom_under v) rule.removed ≡ rest)
-heads_part rule first rest len v h =
-    let joined : map (atom_under v) rule.kept ++ map (atom_under v) rule.removed ≡ first ++ rest = sym (map-append (atom_under v) rule.kept rule.removed) ∙ h in
-    let same : length (map (atom_under v) rule.kept) ≡ length first = length-map rule.kept (atom_under v) ∙ sym len in (
-      sym (take_at (map (atom_under v) rule.kept) (map (atom_under v) rule.removed) (length first) same) ∙ ap (take (length first)) joined ∙ take_at first rest (length first) refl,
-      sym (drop_at (map (atom_under v) rule.kept) (map (atom_under v) rule.removed) (length first) same) ∙ ap (drop (length first)) joined ∙ drop_at first rest (length first) refl,
-    )
+same_halves : {X : Type 0} (a b c d : List X) → length a ≡ length c → a ++ b ≡ c ++ d → (a ≡ c) × (b ≡ d)
+same_halves a b c d len e = (
+  sym (take_at a b (length c) len) ∙ ap (take (length c)) e ∙ take_at c d (length c) refl,
+  sym (drop_at a b (length c) len) ∙ ap (drop (length c)) e ∙ drop_at c d (length c) refl,
+)
 
 -- a binding of all heads binds each of their variables
 pub fit_binds : (rule : Simpagation ℕ) (atoms : List (Atom ℕ)) (binding : List (Option (Value ℕ))) → IsFit rule (HeadsAre rule atoms) binding → (x : ℕ) → IsOfHeads rule x → IsSome (bound_at binding x)
 fit_binds rule atoms binding f x h =
     heads_bound (bound_at binding) 0 h.0 (rule.kept ++ rule.removed) atoms h.1 ((f.exactly (bound_at binding)).0 (extends_itself binding)) (λ y l. absurd (omega arith)) x h.2
-
--- the heads of a rule, as its parts are read
-pub placed_in_binding : (rule : Simpagation ℕ) (hs : List (RuleAtom ℕ)) (n : ℕ) → n ≡ rule.variables → AllByRecursion (IsPlaced rule.variables) hs → AllByRecursion (IsPlaced n) hs
-placed_in_binding rule hs n e a = subst (λ m. AllByRecursion (IsPlaced m) hs) (sym e) a
 
 -- kept heads, then removed ones: the atoms in two parts
 pub record InParts (rule : Simpagation ℕ) (facts : List (Atom ℕ)) (kept removed : List (RuleAtom ℕ)) (first rest : List (Option (Atom ℕ))) : Type 0 where
@@ -133,29 +118,32 @@ in_parts f rule atoms first rest kept removed n k r is front back len = record {
   front = length-map first (λ a. Some (f a)) ∙ len ∙ is;
 }
 
+parts_iff : (rule : Simpagation ℕ) (facts : List (Atom ℕ)) (first rest : List (Option (Atom ℕ))) (kept removed : List (RuleAtom ℕ)) → InParts rule facts kept removed first rest
+    → (v : Valuation) → ((map (atom_under v) kept ≡ first) × (map (atom_under v) removed ≡ rest)) ↔ HeadsAre rule facts v
+parts_iff rule facts first rest kept removed p v =
+    let heads = ap₂ (λ a b. map (atom_under v) (a ++ b)) (sym p.kept_are) (sym p.removed_are) ∙ map-append (atom_under v) kept removed in (
+      λ h. heads ∙ ap₂ (λ a b. a ++ b) h.0 h.1 ∙ sym p.both,
+      λ h. same_halves (map (atom_under v) kept) (map (atom_under v) removed) first rest (length-map kept (atom_under v) ∙ sym p.front) (sym heads ∙ h ∙ p.both),
+    )
+
 pub fit_both : (rule : Simpagation ℕ) (facts : List (Atom ℕ)) (first rest : List (Option (Atom ℕ))) (kept removed : List (RuleAtom ℕ)) (start mid new : List (Option (Value ℕ))) → InParts rule facts kept removed first rest → start ≡ replicate rule.variables None
     → Narrows (λ v. map (atom_under v) kept ≡ first) start mid → Narrows (λ v. map (atom_under v) removed ≡ rest) mid new → IsFit rule (HeadsAre rule facts) new
 fit_both rule facts first rest kept removed start mid new p s n m =
     fit_from_free rule (HeadsAre rule facts) new
     (subst (λ old. Narrows (HeadsAre rule facts) old new) s
-    (narrows_as (λ v. (map (atom_under v) kept ≡ first) × (map (atom_under v) removed ≡ rest)) (HeadsAre rule facts) start new
-    (λ v. (
-      λ h. heads_join rule first rest v (ap (map (atom_under v)) (sym p.kept_are) ∙ h.0) (ap (map (atom_under v)) (sym p.removed_are) ∙ h.1) ∙ sym p.both,
-      λ h. let two = heads_part rule first rest (p.front ∙ ap length p.kept_are) v (h ∙ p.both) in (ap (map (atom_under v)) p.kept_are ∙ two.0, ap (map (atom_under v)) p.removed_are ∙ two.1),
-    ))
+    (narrows_as (λ v. (map (atom_under v) kept ≡ first) × (map (atom_under v) removed ≡ rest)) (HeadsAre rule facts) start new (parts_iff rule facts first rest kept removed p)
     (narrows_both (λ v. map (atom_under v) kept ≡ first) (λ v. map (atom_under v) removed ≡ rest) start mid new n m)))
 
 pub no_kept : (rule : Simpagation ℕ) (facts : List (Atom ℕ)) (first rest : List (Option (Atom ℕ))) (kept : List (RuleAtom ℕ)) (start : List (Option (Value ℕ))) → InParts rule facts kept rule.removed first rest → start ≡ replicate rule.variables None
     → NoneUnder (λ v. map (atom_under v) kept ≡ first) start → (v : Valuation) → HeadsAre rule facts v → ⊥
 no_kept rule facts first rest kept start p s none v h =
-    let two = heads_part rule first rest (p.front ∙ ap length p.kept_are) v (h ∙ p.both) in
-    none v (subst (Extends v) (sym s) (free_extends v rule.variables)) (ap (map (atom_under v)) p.kept_are ∙ two.0)
+    none v (subst (Extends v) (sym s) (free_extends v rule.variables)) ((parts_iff rule facts first rest kept rule.removed p v).1 h).0
 
 pub no_removed : (rule : Simpagation ℕ) (facts : List (Atom ℕ)) (first rest : List (Option (Atom ℕ))) (kept removed : List (RuleAtom ℕ)) (start mid : List (Option (Value ℕ))) → InParts rule facts kept removed first rest → start ≡ replicate rule.variables None
     → Narrows (λ v. map (atom_under v) kept ≡ first) start mid → NoneUnder (λ v. map (atom_under v) removed ≡ rest) mid → (v : Valuation) → HeadsAre rule facts v → ⊥
 no_removed rule facts first rest kept removed start mid p s n none v h =
-    let two = heads_part rule first rest (p.front ∙ ap length p.kept_are) v (h ∙ p.both) in
-    none v ((n.exactly v).1 (subst (Extends v) (sym s) (free_extends v rule.variables), ap (map (atom_under v)) p.kept_are ∙ two.0)) (ap (map (atom_under v)) p.removed_are ∙ two.1)
+    let two = (parts_iff rule facts first rest kept removed p v).1 h in
+    none v ((n.exactly v).1 (subst (Extends v) (sym s) (free_extends v rule.variables), two.0)) two.1
 
 -- fewer atoms than kept heads
 pub too_few : (rule : Simpagation ℕ) (facts : List (Atom ℕ)) → length facts < length rule.kept → (v : Valuation) → HeadsAre rule facts v → ⊥

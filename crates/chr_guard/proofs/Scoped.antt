@@ -7,9 +7,6 @@ use Rattle.chr_value.proofs.Chosen.{some_is}
 use Rattle.chr_rule.specs.Rules.{Term, Var, Given, Open, Terms, End, And, RuleAtom, Expression, BodyItem, Is, Add, Simpagation}
 use Rattle.chr_rule.specs.Scope.{known_after_variable, known_after_term, known_after_terms, known_after_args, known_after_heads, known_after_body, known_then, argument_known, arguments_known, expression_known, test_known, IsRule}
 
-pub all_true : (a b : Bool) → a ≡ true → b ≡ true → a && b ≡ true
-all_true a b e f = cc
-
 if_known : {A P : Type 0} (b : Bool) (o : Option A) (m : A) → (if b then o else None) ≡ Some m → (b ≡ true → o ≡ Some m → P) → P
 if_known true o m e f = f refl e
 if_known false o m e f = let z : None ≡ Some m = e in absurd (cc)
@@ -56,75 +53,47 @@ scoped rule r =
     (λ n k j. if_known (list_all (test_known n) rule.guard) (known_after_body n rule.body) rule.variables j (λ g b. record { count = n; heads = k; guard = g; body = b }))
 
 -- what is known stays known
-lt_later : (n m x : ℕ) → n ≤ m → nat_lt x n ≡ true → nat_lt x m ≡ true
-lt_later n m x h k = grind (arith, nat_tests)
-
 mutual
   pub argument_later : (n m : ℕ) (t : Term ℕ) → n ≤ m → argument_known n t ≡ true → argument_known m t ≡ true
-  argument_later n m (Var x) h k = lt_later n m x h k
+  argument_later n m (Var x) h k = grind (arith, nat_tests)
   argument_later n m (Given v) h k = refl
   argument_later n m (Open s ts) h k = arguments_later n m ts h k
 
   arguments_later : (n m : ℕ) (ts : Terms ℕ) → n ≤ m → arguments_known n ts ≡ true → arguments_known m ts ≡ true
   arguments_later n m End h k = refl
-  arguments_later n m (And t ts) h k =
-      let two = and_parts (argument_known n t) (arguments_known n ts) k in
-      all_true (argument_known m t) (arguments_known m ts) (argument_later n m t h two.0) (arguments_later n m ts h two.1)
+  arguments_later n m (And t ts) h k = grind (arith, argument_later n m t h, arguments_later n m ts h)
 
 pub args_later : (n m : ℕ) (args : List (Term ℕ)) → n ≤ m → list_all (argument_known n) args ≡ true → list_all (argument_known m) args ≡ true
 args_later n m [] h k = refl
-args_later n m (a ∷ args) h k =
-    let two = and_parts (argument_known n a) (list_all (argument_known n) args) k in
-    all_true (argument_known m a) (list_all (argument_known m) args) (argument_later n m a h two.0) (args_later n m args h two.1)
+args_later n m (a ∷ args) h k = grind (arith, argument_later n m a h, args_later n m args h)
 
 -- a term of a head is known after it
-lt_old : (n m x : ℕ) → x < n → n ≡ m → (n ≤ m) × (nat_lt x m ≡ true)
-lt_old n m x h e = (omega arith, grind (arith, nat_tests))
-
-lt_new : (n m x : ℕ) → x ≡ n → suc n ≡ m → (n ≤ m) × (nat_lt x m ≡ true)
-lt_new n m x h e = (omega arith, grind (arith, nat_tests))
-
 mutual
   term_below : (n m : ℕ) (t : Term ℕ) → known_after_term n t ≡ Some m → (n ≤ m) × (argument_known m t ≡ true)
-  term_below n m (Var x) k = variable_known n m x k (λ h e. lt_old n m x h e) (λ h e. lt_new n m x h e)
-  term_below n m (Given v) k = let e : n ≡ m = some_is n m k in (omega arith, refl)
+  term_below n m (Var x) k = grind (arith, nat_tests)
+  term_below n m (Given v) k = grind arith
   term_below n m (Open s ts) k = terms_below n m ts k
 
   terms_below : (n m : ℕ) (ts : Terms ℕ) → known_after_terms n ts ≡ Some m → (n ≤ m) × (arguments_known m ts ≡ true)
-  terms_below n m End k = let e : n ≡ m = some_is n m k in (omega arith, refl)
+  terms_below n m End k = grind arith
   terms_below n m (And t ts) k =
-      and_known n m t ts k (λ z i j.
-      let one = term_below n z t i in
-      let rest = terms_below z m ts j in
-      let le : n ≤ z = one.0 in
-      let there : z ≤ m = rest.0 in
-      (omega arith, all_true (argument_known m t) (arguments_known m ts) (argument_later z m t there one.1) rest.1))
+      and_known n m t ts k (λ z i j. let one = term_below n z t i in let rest = terms_below z m ts j in grind (arith, argument_later z m t))
 
 pub args_below : (n m : ℕ) (args : List (Term ℕ)) → known_after_args n args ≡ Some m → (n ≤ m) × (list_all (argument_known m) args ≡ true)
-args_below n m [] k = let e : n ≡ m = some_is n m k in (omega arith, refl)
+args_below n m [] k = grind arith
 args_below n m (t ∷ args) k =
-    arg_known n m t args k (λ z i j.
-    let one = term_below n z t i in
-    let rest = args_below z m args j in
-    let le : n ≤ z = one.0 in
-    let there : z ≤ m = rest.0 in
-    (omega arith, all_true (argument_known m t) (list_all (argument_known m) args) (argument_later z m t there one.1) rest.1))
+    arg_known n m t args k (λ z i j. let one = term_below n z t i in let rest = args_below z m args j in grind (arith, argument_later z m t))
 
 -- the variables of each head are known after all of them
 abbrev pub IsPlaced : ℕ → RuleAtom ℕ → Type 0
 IsPlaced n h = list_all (argument_known n) h.args ≡ true
 
 pub heads_below : (n m : ℕ) (hs : List (RuleAtom ℕ)) → known_after_heads n hs ≡ Some m → (n ≤ m) × AllByRecursion (IsPlaced m) hs
-heads_below n m [] k = let e : n ≡ m = cc in (omega arith, tt)
+heads_below n m [] k = grind arith
 heads_below n m (h ∷ hs) k =
-    head_known n m h hs k (λ z i j.
-    let one = args_below n z h.args i in
-    let rest = heads_below z m hs j in
-    let le : n ≤ z = one.0 in
-    let there : z ≤ m = rest.0 in
-    (omega arith, (args_later z m h.args there one.1, rest.1)))
+    head_known n m h hs k (λ z i j. let one = args_below n z h.args i in let rest = heads_below z m hs j in (omega arith, (args_later z m h.args (omega arith) one.1, rest.1)))
 
 pub body_below : (n m : ℕ) (ms : List (BodyItem ℕ)) → known_after_body n ms ≡ Some m → n ≤ m
-body_below n m [] k = let e : n ≡ m = cc in omega arith
-body_below n m (Is x e ∷ ms) k = is_known n m x e ms k (λ _ _ j. let le : suc n ≤ m = body_below (suc n) m ms j in omega arith)
-body_below n m (Add s ∷ ms) k = add_known n m s ms k (λ _ j. body_below n m ms j)
+body_below n m [] k = grind arith
+body_below n m (Is x e ∷ ms) k = grind (arith, body_below (suc n) m ms)
+body_below n m (Add s ∷ ms) k = grind (arith, body_below n m ms)

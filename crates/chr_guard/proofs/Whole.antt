@@ -9,7 +9,7 @@ use Rattle.chr_rule.specs.Scope.{IsRule}
 use Rattle.chr_guard.specs.Values.{Valuation, Holds}
 use Rattle.chr_guard.specs.Bindings.{bound_at, Extends}
 use Rattle.chr_guard.specs.Instances.{atom_under, made_under, AreMadeUnder, added, IsInstance, NoInstance}
-use Rattle.chr_guard.specs.Matching.{HeadsAre, IsFit, Completes, IsBody, IsCompleted, CompletedIf, IsInstanceIf, IsInstanceUnder}
+use Rattle.chr_guard.specs.Matching.{HeadsAre, IsFit, IsBody, IsCompleted, CompletedIf, IsInstanceIf, IsInstanceUnder}
 use Rattle.chr_guard.proofs.Scoped.{scoped}
 use Rattle.chr_guard.proofs.Under.{somes, under_append, under_parts, made_append, none_made, added_append}
 use Rattle.chr_guard.proofs.Fixed.{Agree, heads_agree, guard_agrees}
@@ -25,27 +25,11 @@ agree_on_heads rule r facts binding f v w ev ew =
     heads_agree v w 0 (scoped rule r).count (rule.kept ++ rule.removed) facts (scoped rule r).heads ((f.exactly v).0 ev) ((f.exactly w).0 ew) (λ x h. absurd (omega arith))
 
 -- the heads fit, the guard holds and the body is completed
-is_instance : (rule : Simpagation ℕ) → IsRule rule → (facts made : List (Atom ℕ)) (binding new : List (Option (Value ℕ))) → IsFit rule (HeadsAre rule facts) binding → AllByRecursion (Holds (bound_at binding)) rule.guard → IsCompleted rule binding new → AreMadeUnder (bound_at new) (added rule.body) made → IsInstance rule facts made
-is_instance rule r facts made binding new f guard done is =
+is_instance_under : (rule : Simpagation ℕ) → IsRule rule → (facts : List (Atom ℕ)) (binding new : List (Option (Value ℕ))) → IsFit rule (HeadsAre rule facts) binding → AllByRecursion (Holds (bound_at binding)) rule.guard → IsCompleted rule binding new → IsInstanceUnder rule facts new
+is_instance_under rule r facts binding new f guard done =
     let v = bound_at new in
     let both = (done.narrows.exactly v).0 (extends_itself new) in
     let parts = under_parts v rule.kept rule.removed facts ((f.exactly v).0 both.0) in
-    record {
-      valuation = v;
-      guard = guard_agrees (bound_at binding) v (scoped rule r).count rule.guard (agree_on_heads rule r facts binding f (bound_at binding) v (extends_itself binding) both.0) (scoped rule r).guard guard;
-      right = both.1;
-      kept_are = parts.0;
-      removed_are = parts.1;
-      some_removed = λ e. (
-          let none : length rule.removed ≡ 0 = sym (length-map rule.removed (atom_under v)) ∙ ap length parts.1 ∙ length-map (drop (length rule.kept) facts) (λ a. Some a) ∙ ap length e in
-          let some : 0 < length rule.removed = r.limits.removed in
-          absurd (omega arith)
-          );
-      body_is = is;
-    }
-
-is_instance_under : (rule : Simpagation ℕ) → IsRule rule → (facts : List (Atom ℕ)) (binding new : List (Option (Value ℕ))) → IsFit rule (HeadsAre rule facts) binding → AllByRecursion (Holds (bound_at binding)) rule.guard → IsCompleted rule binding new → IsInstanceUnder rule facts new
-is_instance_under rule r facts binding new f guard done =
     record {
       fit = record {
         places = done.narrows.places ∙ f.places;
@@ -55,7 +39,19 @@ is_instance_under rule r facts binding new f guard done =
         );
       };
       body = done.body;
-      instance = is_instance rule r facts done.body binding new f guard done done.body_is;
+      instance = record {
+        valuation = v;
+        guard = guard_agrees (bound_at binding) v (scoped rule r).count rule.guard (agree_on_heads rule r facts binding f (bound_at binding) v (extends_itself binding) both.0) (scoped rule r).guard guard;
+        right = both.1;
+        kept_are = parts.0;
+        removed_are = parts.1;
+        some_removed = λ e. (
+            let none : length rule.removed ≡ 0 = sym (length-map rule.removed (atom_under v)) ∙ ap length parts.1 ∙ length-map (drop (length rule.kept) facts) (λ a. Some a) ∙ ap length e in
+            let some : 0 < length rule.removed = r.limits.removed in
+            absurd (omega arith)
+            );
+        body_is = done.body_is;
+      };
       body_is = done.body_is;
     }
 
@@ -67,18 +63,15 @@ no_guard rule r facts binding f none body i =
     let e = (f.exactly i.valuation).1 (heads_of rule facts body i) in
     none (guard_agrees i.valuation (bound_at binding) (scoped rule r).count rule.guard (agree_on_heads rule r facts binding f i.valuation (bound_at binding) e (extends_itself binding)) (scoped rule r).guard i.guard)
 
-no_right : (rule : Simpagation ℕ) (facts : List (Atom ℕ)) (binding : List (Option (Value ℕ))) → IsFit rule (HeadsAre rule facts) binding → ((body : List (Atom ℕ)) → IsBody rule binding body → ⊥) → NoInstance rule facts
-no_right rule facts binding f none body i =
+pub becomes_if : (rule : Simpagation ℕ) → IsRule rule → (facts : List (Atom ℕ)) (done : Bool) (binding new : List (Option (Value ℕ))) → IsFit rule (HeadsAre rule facts) binding → AllByRecursion (Holds (bound_at binding)) rule.guard → CompletedIf rule done binding new → IsInstanceIf rule facts done new
+becomes_if rule r facts true binding new f guard done = is_instance_under rule r facts binding new f guard done
+becomes_if rule r facts false binding new f guard none = λ body i.
     let e = (f.exactly i.valuation).1 (heads_of rule facts body i) in
     none body (record {
       valuation = i.valuation;
       completes = record { extends = e; heads = λ x h. bound_settled binding x i.valuation (fit_binds rule facts binding f x h) e; right = i.right };
       body_is = i.body_is;
     })
-
-pub becomes_if : (rule : Simpagation ℕ) → IsRule rule → (facts : List (Atom ℕ)) (done : Bool) (binding new : List (Option (Value ℕ))) → IsFit rule (HeadsAre rule facts) binding → AllByRecursion (Holds (bound_at binding)) rule.guard → CompletedIf rule done binding new → IsInstanceIf rule facts done new
-becomes_if rule r facts true binding new f guard done = is_instance_under rule r facts binding new f guard done
-becomes_if rule r facts false binding new f guard none = no_right rule facts binding f none
 
 -- what the binding of an instance adds is the instance's body
 pub is_added : (rule : Simpagation ℕ) (facts made : List (Atom ℕ)) (binding : List (Option (Value ℕ))) → IsInstanceUnder rule facts binding → AreMadeUnder (bound_at binding) (added rule.body) made → IsInstance rule facts made
@@ -89,9 +82,6 @@ not_added rule facts binding u none = absurd (none u.body u.body_is)
 
 -- the body under a binding, read through a copy that has more places
 module _ (rule : Simpagation ℕ) (binding all : List (Option (Value ℕ))) (same : (x : ℕ) → bound_at all x ≡ bound_at binding x) where
-  completes_copy : (v : Valuation) → Completes rule binding v → Completes rule all v
-  completes_copy v c = record { extends = λ x t at. c.extends x t (sym (same x) ∙ at); heads = λ x h. c.heads x h ∙ sym (same x); right = c.right }
-
   pub is_body : (new : List (Option (Value ℕ))) (made : List (Atom ℕ)) → IsCompleted rule all new → AreMadeUnder (bound_at new) (added rule.body) made → IsBody rule binding made
   is_body new made done is =
       let both = (done.narrows.exactly (bound_at new)).0 (extends_itself new) in
@@ -102,7 +92,13 @@ module _ (rule : Simpagation ℕ) (binding all : List (Option (Value ℕ))) (sam
       }
 
   pub no_body : ((made : List (Atom ℕ)) → IsBody rule all made → ⊥) → (made : List (Atom ℕ)) → IsBody rule binding made → ⊥
-  no_body none made b = none made (record { valuation = b.valuation; completes = completes_copy b.valuation b.completes; body_is = b.body_is })
+  no_body none made b =
+      let c = b.completes in
+      none made (record {
+        valuation = b.valuation;
+        completes = record { extends = λ x t at. c.extends x t (sym (same x) ∙ at); heads = λ x h. c.heads x h ∙ sym (same x); right = c.right };
+        body_is = b.body_is;
+      })
 
   pub no_arguments : (new : List (Option (Value ℕ))) → IsCompleted rule all new → ((made : List (Atom ℕ)) → AreMadeUnder (bound_at new) (added rule.body) made → ⊥) → (made : List (Atom ℕ)) → IsBody rule binding made → ⊥
   no_arguments new done none made b = none done.body done.body_is

@@ -20,13 +20,12 @@ use std::alloc::{AllocError, Allocator};
 /// The atoms of a body, at most 16.
 pub type Body<A> = ArrayVec<Atom<A>, 16, A>;
 
+/// A value that was made, or None where there is none. An `Err` is E01.
+type Made<A> = Result<Option<Value<A>>, AllocError>;
+
 /// The value that a term stands for, within the limits or not. None where a variable is free. An `Err` is E01.
 #[cycle(made)]
-fn made<A: Allocator + Copy>(
-    alloc: A,
-    term: &Term<A>,
-    binding: &Binding<'_, A>,
-) -> Result<Option<Value<A>>, AllocError>
+fn made<A: Allocator + Copy>(alloc: A, term: &Term<A>, binding: &Binding<'_, A>) -> Made<A>
     ensures { IfOk result (λ made. option_map ground made ≡ term_under (bound_at binding.now) (argument term.now)) }
 {
     match term {
@@ -66,11 +65,7 @@ fn all_made<A: Allocator + Copy>(
 
 /// A compound value that a term stands for, which is counted before it is made. None where there is none within the
 /// limits. An `Err` is E01.
-fn counted<A: Allocator + Copy>(
-    alloc: A,
-    term: &Term<A>,
-    binding: &Binding<'_, A>,
-) -> Result<Option<Value<A>>, AllocError>
+fn counted<A: Allocator + Copy>(alloc: A, term: &Term<A>, binding: &Binding<'_, A>) -> Made<A>
     ensures { IfOk result (λ made. option_map ground made ≡ value_under (bound_at binding.now) (argument term.now)) }
 {
     if !binding.is_within(term) {
@@ -82,11 +77,7 @@ fn counted<A: Allocator + Copy>(
 /// The value that an argument stands for, within the limits. None where there is none. Numbers and symbols take no
 /// memory. An `Err` is E01.
 #[inline(always)]
-fn made_argument<A: Allocator + Copy>(
-    alloc: A,
-    term: &Term<A>,
-    binding: &Binding<'_, A>,
-) -> Result<Option<Value<A>>, AllocError>
+fn made_argument<A: Allocator + Copy>(alloc: A, term: &Term<A>, binding: &Binding<'_, A>) -> Made<A>
     ensures { IfOk result (λ made. option_map ground made ≡ value_under (bound_at binding.now) (argument term.now)) }
 {
     match binding.plain(term) {

@@ -12,26 +12,19 @@ use Rattle.chr_plan.specs.declared.order.Step.{Step}
 use Rattle.std.proofs.lemmas.Option.{slice_get-map, slice_get_past, slice_get_read}
 use Rattle.std.proofs.lemmas.List.{length-map}
 
-get_past : {A : Type 0} (xs : List A) (i : ℕ) → false ≡ ltb i (length xs) → slice_get xs i ≡ None
-get_past xs i t = slice_get_past xs i (ltb-false i (length xs) (sym t))
-
 -- what `get` answers, read by a function
 pub got_none : {A B : Type 0} (f : A → B) (xs : List A) (i : ℕ) → false ≡ ltb i (length xs) → None ≡ slice_get (map f xs) i
-got_none f xs i t = sym (slice_get-map f xs i ∙ ap (option_map f) (get_past xs i t))
+got_none f xs i t = sym (slice_get-map f xs i ∙ ap (option_map f) (slice_get_past xs i (ltb-false i (length xs) (sym t))))
 
 pub got_some : {A B : Type 0} (f : A → B) (xs : List A) (i : ℕ) (x : A) → true ≡ ltb i (length xs) → x ≡ slice_index_or xs i x → Some (f x) ≡ slice_get (map f xs) i
 got_some f xs i x t e = sym (slice_get-map f xs i ∙ ap (option_map f) (slice_get_read xs (length xs) i x refl (ltb-true i (length xs) (sym t)) e))
 
 -- an element of a list that takes one more is an old one, or it
 pub get_pushed : {A : Type 0} (xs : List A) (y z : A) (i : ℕ) → slice_get (xs ++ y ∷ []) i ≡ Some z → (slice_get xs i ≡ Some z) ⊎ ((i ≡ length xs) × (y ≡ z))
-get_pushed [] y z zero h = inr (refl, (cc))
-get_pushed [] y z (suc i) h = let n : None ≡ Some z = h in absurd (cc)
+get_pushed [] y z zero h = grind arith
+get_pushed [] y z (suc i) h = grind arith
 get_pushed (x ∷ xs) y z zero h = inl h
-get_pushed (x ∷ xs) y z (suc i) h = more xs y z i (get_pushed xs y z i h)
-  where
-    more : {A : Type 0} (xs : List A) (y z : A) (i : ℕ) → (slice_get xs i ≡ Some z) ⊎ ((i ≡ length xs) × (y ≡ z)) → (slice_get xs i ≡ Some z) ⊎ ((suc i ≡ suc (length xs)) × (y ≡ z))
-    more xs y z i (inl k) = inl k
-    more xs y z i (inr k) = inr (ap suc k.0, k.1)
+get_pushed (x ∷ xs) y z (suc i) h = grind (arith, get_pushed xs y z i h)
 
 prefix_len-map : {A B : Type 0} (f : A → B) (p : B → Bool) (xs : List A) → prefix_len p (map f xs) ≡ prefix_len (λ x. p (f x)) xs
 prefix_len-map f p [] = refl

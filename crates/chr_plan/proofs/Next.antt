@@ -2,7 +2,7 @@
 use Rattle.std.proofs.Common.{◌≡◌, ℕ, ◌+◌, ◌≤◌, Bool, true, false, List, length, Option, Some, None, is_some, MatchOption, refl, sym, ap, ◌∙◌, arith, ◌==◌, true-eqb}
 use Rattle.std.proofs.lemmas.Bool.Decides.{nat_tests}
 use Rattle.std.specs.Option.{unwrap_or}
-use Rattle.std.proofs.lemmas.Bool.{false≢true}
+use Rattle.std.proofs.lemmas.Bool.{false≢true, cases_eq, cases_lt}
 use Rattle.chr_rule.specs.Rules.{RuleAtom}
 use Rattle.chr_plan.specs.Orders.{head_in, is_bound, key_in, key_of, is_named, IsOpen, IsNext}
 use Rattle.chr_plan.specs.declared.order.Step.{Step}
@@ -25,50 +25,27 @@ pub same_key : (heads : List (RuleAtom ℕ)) (before : List Step) (f : ℕ → B
 same_key heads before f j h = let e : f ≡ is_bound heads before = λ i x. h x i in ap (λ (g : ℕ → Bool). key_in g (head_in heads j)) e
 
 pub passed_start : (heads : List (RuleAtom ℕ)) (before : List Step) → Passed heads before 0 None
-passed_start heads before = record {
-  unkeyed = λ j o h. absurd (let f : 1 ≤ j = o.from in omega arith);
-  first_is = λ j o h. let f : 1 ≤ j = o.from in omega arith;
-}
-
-up_or_here : (i j : ℕ) → j ≤ i + 1 → (j ≡ i + 1 → ⊥) → j ≤ i
-up_or_here i j h n = omega arith
+passed_start heads before = record { unkeyed = λ j o h. absurd (omega (arith, o.from, h)); first_is = λ j o h. omega (arith, o.from, h) }
 
 pub passed_named : (heads : List (RuleAtom ℕ)) (before : List Step) (i : ℕ) (first : Option Step) → is_named before (i + 1) ≡ true → Passed heads before i first → Passed heads before (i + 1) first
 passed_named heads before i first n h = record { unkeyed = λ j o l. h.unkeyed j o (below j o l); first_is = firsts first h.first_is }
   where
     below : (j : ℕ) → IsOpen heads before j → j ≤ i + 1 → j ≤ i
-    below j o l = up_or_here i j l (λ e. false≢true (sym o.unnamed ∙ ap (is_named before) e ∙ n))
+    below j o l = grind (arith, cases_eq j (i + 1), o.unnamed)
 
     firsts : (first : Option Step) → MatchOption first ((j : ℕ) → IsOpen heads before j → j ≤ i → ⊥) (IsFirst heads before i) → MatchOption first ((j : ℕ) → IsOpen heads before j → j ≤ i + 1 → ⊥) (IsFirst heads before (i + 1))
     firsts None k = λ j o l. k j o (below j o l)
     firsts (Some s) k = record { open_head = k.open_head; within = (let w : s.head ≤ i = k.within in omega arith); none = k.none; key = k.key; least = k.least }
 
 pub passed_open : (heads : List (RuleAtom ℕ)) (before : List Step) (i : ℕ) (first : Option Step) (s : Step) → s.head ≡ i + 1 → IsOpen heads before s.head → s.key ≡ key_of heads before s.head → s.key ≡ None → Passed heads before i first → Passed heads before (i + 1) (Some (unwrap_or first s))
-passed_open heads before i first s e o k n h = record { unkeyed = unkeyed; first_is = firsts first h.first_is }
+passed_open heads before i first s e o k n h = record { unkeyed = λ j p l. grind (arith, cases_eq j s.head, h.unkeyed j p); first_is = firsts first h.first_is }
   where
-    unkeyed : (j : ℕ) → IsOpen heads before j → j ≤ i + 1 → key_of heads before j ≡ None
-    unkeyed j p l = elim (j == s.head) as (λ b. (j == s.head ≡ b) → key_of heads before j ≡ None) [
-      | true ↦ λ t. ap (key_of heads before) (true-eqb j s.head (sym t)) ∙ sym k ∙ n
-      | false ↦ λ t. h.unkeyed j p (grind (arith, nat_tests))
-    ] refl
-
     firsts : (first : Option Step) → MatchOption first ((j : ℕ) → IsOpen heads before j → j ≤ i → ⊥) (IsFirst heads before i) → IsFirst heads before (i + 1) (unwrap_or first s)
-    firsts None m = record { open_head = o; within = omega arith; none = n; key = k; least = λ j p. least j p (m j p) }
-      where
-        least : (j : ℕ) → IsOpen heads before j → (j ≤ i → ⊥) → s.head ≤ j
-        least j p c = omega arith
+    firsts None m = record { open_head = o; within = omega arith; none = n; key = k; least = λ j p. grind (arith, cases_lt i j, m j p) }
     firsts (Some f) m = record { open_head = m.open_head; within = (let w : f.head ≤ i = m.within in omega arith); none = m.none; key = m.key; least = m.least }
 
 pub passed_found : (heads : List (RuleAtom ℕ)) (before : List Step) (i : ℕ) (first : Option Step) (s : Step) → s.head ≡ i + 1 → IsOpen heads before s.head → s.key ≡ key_of heads before s.head → is_some s.key ≡ true → Passed heads before i first → IsNext heads before s
-passed_found heads before i first s e o k t h = record {
-  open_head = o;
-  key = k;
-  keyed = λ j p q. t;
-  least = λ j p q. behind j (λ l. false≢true (ap is_some (sym (h.unkeyed j p l)) ∙ q ∙ t));
-}
-  where
-    behind : (j : ℕ) → (j ≤ i → ⊥) → s.head ≤ j
-    behind j c = omega arith
+passed_found heads before i first s e o k t h = record { open_head = o; key = k; keyed = λ j p q. t; least = λ j p q. grind (arith, cases_lt i j, h.unkeyed j p) }
 
 pub passed_end : (heads : List (RuleAtom ℕ)) (before : List Step) (first : Option Step) → Passed heads before (length heads) first → MatchOption first ((j : ℕ) → IsOpen heads before j → ⊥) (IsNext heads before)
 passed_end heads before first h = ends first h.first_is
@@ -83,5 +60,4 @@ passed_end heads before first h = ends first h.first_is
     }
 
 pub key_none : (key : Option ℕ) → is_some key ≡ false → key ≡ None
-key_none None h = refl
-key_none (Some k) h = absurd (false≢true (sym h))
+key_none key h = grind arith

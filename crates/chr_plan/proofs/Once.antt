@@ -1,4 +1,7 @@
 -- The places that plans look up, one at a time.
+use Rattle.std.proofs.lemmas.List.{append-nil, take_all, get_or-map, length-map}
+use Rattle.std.proofs.lemmas.List.Elements.{filter-append}
+use Rattle.std.proofs.lemmas.Bool.Decides.{nat_tests}
 use Rattle.std.proofs.Common.{◌≡◌, ℕ, zero, suc, ◌+◌, ◌<◌, ◌≤◌, ◌||◌, Bool, true, false, not, if◌then◌else◌, List, [], ◌∷◌, ◌++◌, length, map, take, refl, sym, ap, subst, ◌∙◌, arith, append_assoc, add-one, get_or, ◌⊎◌, inl, inr}
 use Rattle.std.specs.List.{list_any, filter}
 use Rattle.std.proofs.lemmas.Bool.{and_parts, and_from, eq-eqb, eqb-true}
@@ -8,26 +11,14 @@ use Rattle.chr_plan.specs.Plans.{PlanList}
 use Rattle.chr_plan.specs.declared.order.Step.{Step}
 use Rattle.chr_plan.specs.Places.{Place, same_place, for_each, order_places, keys_met, once}
 
-abbrev place_from : ℕ → ℕ → ℕ → Place
-place_from n m i = (record { name = record { number = n }; arity = m }, i)
-
 same_true : (p q : Place) → same_place p q ≡ true → p ≡ q
-same_true p q h =
-    let a = and_parts _ _ h in
-    let b = and_parts _ _ a.0 in
-    ap (λ (z : ℕ). place_from z p.0.arity p.1) (eqb-true _ _ b.0) ∙ ap (λ (z : ℕ). place_from q.0.name.number z p.1) (eqb-true _ _ b.1) ∙ ap (λ (z : ℕ). place_from q.0.name.number q.0.arity z) (eqb-true _ _ a.1)
+same_true p q h = grind (arith, nat_tests)
 
 same_refl : (p : Place) → same_place p p ≡ true
-same_refl p = and_from _ _ (and_from _ _ (eq-eqb p.0.name.number p.0.name.number refl) (eq-eqb p.0.arity p.0.arity refl)) (eq-eqb p.1 p.1 refl)
+same_refl p = grind (arith, nat_tests)
 
 same_swap : (p q : Place) → same_place p q ≡ same_place q p
-same_swap p q = elim (same_place p q) as (λ b. (same_place p q ≡ b) → b ≡ same_place q p) [
-  | true ↦ λ t. sym (subst (λ (z : Place). same_place z p ≡ true) (same_true p q t) (same_refl p))
-  | false ↦ λ t. elim (same_place q p) as (λ b. (same_place q p ≡ b) → false ≡ b) [
-    | true ↦ λ u. sym t ∙ subst (λ (z : Place). same_place p z ≡ true) (sym (same_true q p u)) (same_refl p)
-    | false ↦ λ u. refl
-  ] refl
-] refl
+same_swap p q = grind (arith, nat_tests)
 
 abbrev has : Place → List Place → Bool
 has x ps = list_any (λ p. same_place p x) ps
@@ -38,25 +29,10 @@ others y ps = filter (λ q. not (same_place q y)) ps
 -- a place is among the others than another one where it was among all
 has_others : (x y : Place) (ps : List Place) → same_place y x ≡ false → has x (others y ps) ≡ has x ps
 has_others x y [] d = refl
-has_others x y (p ∷ ps) d =
-    elim (same_place p y) as (λ b. (same_place p y ≡ b) → has x (if not b then p ∷ others y ps else others y ps) ≡ (same_place p x || has x ps)) [
-      | true ↦ λ t.
-          let e : p ≡ y = same_true p y t in
-          let n : same_place p x ≡ false = subst (λ (z : Place). same_place z x ≡ false) (sym e) d in
-          has_others x y ps d ∙ sym (ap (λ (b : Bool). b || has x ps) n)
-      | false ↦ λ t. ap (λ (b : Bool). same_place p x || b) (has_others x y ps d)
-    ] refl
+has_others x y (p ∷ ps) d = let rest = has_others x y ps d in grind (arith, same_true p y)
 
 others_push : (x y : Place) (ps : List Place) → others y (ps ++ x ∷ []) ≡ others y ps ++ (if not (same_place x y) then x ∷ [] else [])
-others_push x y [] = elim (same_place x y) as (λ b. (if not b then x ∷ [] else []) ≡ (if not b then x ∷ [] else [])) [ true ↦ refl | false ↦ refl ]
-others_push x y (p ∷ ps) = elim (same_place p y) as (λ b. (if not b then p ∷ others y (ps ++ x ∷ []) else others y (ps ++ x ∷ [])) ≡ (if not b then p ∷ others y ps else others y ps) ++ (if not (same_place x y) then x ∷ [] else [])) [
-  | true ↦ others_push x y ps
-  | false ↦ ap (λ (z : List Place). p ∷ z) (others_push x y ps)
-]
-
-append_none : (ps : List Place) → ps ++ [] ≡ ps
-append_none [] = refl
-append_none (p ∷ ps) = ap (λ (z : List Place). p ∷ z) (append_none ps)
+others_push x y ps = filter-append (λ q. not (same_place q y)) ps (x ∷ [])
 
 -- the list with a place unless it has it
 abbrev with : List Place → Place → List Place
@@ -64,39 +40,22 @@ with ps x = if has x ps then ps else ps ++ x ∷ []
 
 once_push : (ps : List Place) (x : Place) → once (ps ++ x ∷ []) ≡ with (once ps) x
 once_push [] x = refl
-once_push (y ∷ ps) x =
-    ap (λ (z : List Place). y ∷ others y z) (once_push ps x) ∙
-    elim (same_place y x) as (λ b. (same_place y x ≡ b) → (y ∷ others y (with (once ps) x)) ≡ (if b || has x (others y (once ps)) then y ∷ others y (once ps) else y ∷ others y (once ps) ++ x ∷ [])) [
-      | true ↦ λ t. ap (λ (z : List Place). y ∷ z) (same t)
-      | false ↦ λ t. other t
-    ] refl
-  where
-    same : same_place y x ≡ true → others y (with (once ps) x) ≡ others y (once ps)
-    same t = elim (has x (once ps)) as (λ b. others y (if b then once ps else once ps ++ x ∷ []) ≡ others y (once ps)) [
-      | true ↦ refl
-      | false ↦ others_push x y (once ps) ∙ ap (λ (b : Bool). others y (once ps) ++ (if not b then x ∷ [] else [])) (same_swap x y ∙ t) ∙ append_none (others y (once ps))
-    ]
-
-    other : same_place y x ≡ false → (y ∷ others y (with (once ps) x)) ≡ (if has x (others y (once ps)) then y ∷ others y (once ps) else y ∷ others y (once ps) ++ x ∷ [])
-    other t = subst (λ (b : Bool). (y ∷ others y (with (once ps) x)) ≡ (if b then y ∷ others y (once ps) else y ∷ others y (once ps) ++ x ∷ [])) (sym (has_others x y (once ps) t)) (elim (has x (once ps)) as (λ b. (y ∷ others y (if b then once ps else once ps ++ x ∷ [])) ≡ (if b then y ∷ others y (once ps) else y ∷ others y (once ps) ++ x ∷ [])) [
-      | true ↦ refl
-      | false ↦ ap (λ (z : List Place). y ∷ z) (others_push x y (once ps) ∙ ap (λ (b : Bool). others y (once ps) ++ (if not b then x ∷ [] else [])) (same_swap x y ∙ t))
-    ])
+once_push (y ∷ ps) x = let rest = once_push ps x in grind (arith, others_push x y (once ps), has_others x y (once ps), same_swap x y, append-nil (others y (once ps)))
 
 pub once_has : (x : Place) (met ps : List Place) → has x ps ≡ true → ps ≡ once met → ps ≡ once (met ++ x ∷ [])
-once_has x met ps h e = e ∙ sym (once_push met x ∙ ap (λ (b : Bool). if b then once met else once met ++ x ∷ []) (sym (ap (has x) e) ∙ h))
+once_has x met ps h e = grind (arith, once_push met x)
 
 pub once_lacks : (x : Place) (met ps : List Place) → has x ps ≡ false → ps ≡ once met → ps ++ x ∷ [] ≡ once (met ++ x ∷ [])
-once_lacks x met ps h e = ap (λ (z : List Place). z ++ x ∷ []) e ∙ sym (once_push met x ∙ ap (λ (b : Bool). if b then once met else once met ++ x ∷ []) (sym (ap (has x) e) ∙ h))
+once_lacks x met ps h e = grind (arith, once_push met x)
 
 pub once_same : (met ps : List Place) → ps ≡ once met → ps ≡ once (met ++ [])
-once_same met ps e = e ∙ ap once (sym (append_none met))
+once_same met ps e = e ∙ ap once (sym (append-nil met))
 
 -- ---- a walk over a list
 
 each_next : {X : Type 0} (f : X → List Place) (xs : List X) (i : ℕ) (d : X) → i < length xs → for_each f (take (suc i) xs) ≡ for_each f (take i xs) ++ f (get_or xs i d)
 each_next f [] i d u = absurd (omega arith)
-each_next f (x ∷ xs) zero d u = append_none (f x)
+each_next f (x ∷ xs) zero d u = append-nil (f x)
 each_next f (x ∷ xs) (suc i) d u = ap (λ (z : List Place). f x ++ z) (each_next f xs i d (omega arith)) ∙ sym (append_assoc (f x) (for_each f (take i xs)) (f (get_or xs i d)))
 
 -- what has been met once the first i have been passed
@@ -110,10 +69,7 @@ pub added_next : {X : Type 0} (f : X → List Place) (xs : List X) (i : ℕ) (d 
 added_next f xs i d old cur new u h k = λ met e. k (met ++ for_each f (take i xs)) (h met e) ∙ ap once (append_assoc met (for_each f (take i xs)) (f (get_or xs i d)) ∙ ap (λ (z : List Place). met ++ z) (sym (each_next f xs i d u) ∙ ap (λ (n : ℕ). for_each f (take n xs)) (sym (add-one i))))
 
 pub each_all : {X : Type 0} (f : X → List Place) (xs : List X) (i : ℕ) → length xs ≤ i → for_each f (take i xs) ≡ for_each f xs
-each_all f [] zero u = refl
-each_all f [] (suc i) u = refl
-each_all f (x ∷ xs) zero u = absurd (omega arith)
-each_all f (x ∷ xs) (suc i) u = ap (λ (z : List Place). f x ++ z) (each_all f xs i (omega arith))
+each_all f xs i u = ap (for_each f) (take_all i xs u)
 
 pub each_map : {X Y : Type 0} (f : Y → List Place) (g : X → Y) (xs : List X) → for_each f (map g xs) ≡ for_each (λ x. f (g x)) xs
 each_map f g [] = refl
@@ -124,7 +80,7 @@ each_map f g (x ∷ xs) = ap (λ (z : List Place). f (g x) ++ z) (each_map f g x
 keys_next : (rules : List (Simpagation ℕ)) (plans : PlanList) (i : ℕ) (r : Simpagation ℕ) (o : List (List Step)) → i < length rules → i < length plans → keys_met (take (suc i) rules) (take (suc i) plans) ≡ keys_met (take i rules) (take i plans) ++ for_each (order_places (heads_of (get_or rules i r))) (get_or plans i o)
 keys_next [] plans i r o u v = absurd (omega arith)
 keys_next (rule ∷ rules) [] i r o u v = absurd (omega arith)
-keys_next (rule ∷ rules) (orders ∷ plans) zero r o u v = append_none (for_each (order_places (heads_of rule)) orders)
+keys_next (rule ∷ rules) (orders ∷ plans) zero r o u v = append-nil (for_each (order_places (heads_of rule)) orders)
 keys_next (rule ∷ rules) (orders ∷ plans) (suc i) r o u v = ap (λ (z : List Place). for_each (order_places (heads_of rule)) orders ++ z) (keys_next rules plans i r o (omega arith) (omega arith)) ∙ sym (append_assoc (for_each (order_places (heads_of rule)) orders) (keys_met (take i rules) (take i plans)) (for_each (order_places (heads_of (get_or rules i r))) (get_or plans i o)))
 
 pub rules_next : (rules : List (Simpagation ℕ)) (plans : PlanList) (i : ℕ) (r : Simpagation ℕ) (o : List (List Step)) (cur new : List Place) → i < length rules → i < length plans → cur ≡ once (keys_met (take i rules) (take i plans)) → Added (for_each (order_places (heads_of (get_or rules i r))) (get_or plans i o)) cur new → new ≡ once (keys_met (take (i + 1) rules) (take (i + 1) plans))
@@ -135,27 +91,16 @@ keys_all [] plans zero u = refl
 keys_all [] plans (suc i) u = refl
 keys_all (rule ∷ rules) [] zero u = refl
 keys_all (rule ∷ rules) [] (suc i) u = refl
-keys_all (rule ∷ rules) (orders ∷ plans) zero (inl u) = absurd (omega arith)
-keys_all (rule ∷ rules) (orders ∷ plans) zero (inr u) = absurd (omega arith)
-keys_all (rule ∷ rules) (orders ∷ plans) (suc i) (inl u) = ap (λ (z : List Place). for_each (order_places (heads_of rule)) orders ++ z) (keys_all rules plans i (inl (omega arith)))
-keys_all (rule ∷ rules) (orders ∷ plans) (suc i) (inr u) = ap (λ (z : List Place). for_each (order_places (heads_of rule)) orders ++ z) (keys_all rules plans i (inr (omega arith)))
-
-got : {X Y : Type 0} (f : X → Y) (xs : List X) (i : ℕ) (d : X) → get_or (map f xs) i (f d) ≡ f (get_or xs i d)
-got f [] i d = refl
-got f (x ∷ xs) zero d = refl
-got f (x ∷ xs) (suc i) d = got f xs i d
-
-map_length : {X Y : Type 0} (f : X → Y) (xs : List X) → length (map f xs) ≡ length xs
-map_length f [] = refl
-map_length f (x ∷ xs) = let z : length (map f xs) ≡ length xs = map_length f xs in omega arith
+keys_all (rule ∷ rules) (orders ∷ plans) zero u = grind arith
+keys_all (rule ∷ rules) (orders ∷ plans) (suc i) u = ap (λ (z : List Place). for_each (order_places (heads_of rule)) orders ++ z) (keys_all rules plans i (grind arith))
 
 -- the same in the lists that hold rules and plans
 pub places_next : {R V : Type 0} (f : R → Simpagation ℕ) (g : V → List (List Step)) (rs : List R) (vs : List V) (rules : List (Simpagation ℕ)) (plans : PlanList) (i : ℕ) (r : R) (v : V) (rule : Simpagation ℕ) (orders : List (List Step)) (cur new : List Place) → map f rs ≡ rules → map g vs ≡ plans → i < length rs → i < length vs → rule ≡ f (get_or rs i r) → orders ≡ g (get_or vs i v) → cur ≡ once (keys_met (take i rules) (take i plans)) → Added (for_each (order_places (heads_of rule)) orders) cur new → new ≡ once (keys_met (take (i + 1) rules) (take (i + 1) plans))
 places_next f g rs vs rules plans i r v rule orders cur new e d u w x y h k =
-    rules_next rules plans i (f r) (g v) cur new (let a : length rules ≡ length rs = sym (ap length e) ∙ map_length f rs in omega arith) (let a : length plans ≡ length vs = sym (ap length d) ∙ map_length g vs in omega arith) h
-    (subst (λ (z : List (List Step)). Added (for_each (order_places (heads_of (get_or rules i (f r)))) z) cur new) (y ∙ sym (got g vs i v) ∙ ap (λ (z : PlanList). get_or z i (g v)) d)
-    (subst (λ (z : Simpagation ℕ). Added (for_each (order_places (heads_of z)) orders) cur new) (x ∙ sym (got f rs i r) ∙ ap (λ (z : List (Simpagation ℕ)). get_or z i (f r)) e) k))
+    rules_next rules plans i (f r) (g v) cur new (let a : length rules ≡ length rs = sym (ap length e) ∙ length-map rs f in omega arith) (let a : length plans ≡ length vs = sym (ap length d) ∙ length-map vs g in omega arith) h
+    (subst (λ (z : List (List Step)). Added (for_each (order_places (heads_of (get_or rules i (f r)))) z) cur new) (y ∙ sym (get_or-map g vs i v (g v) w) ∙ ap (λ (z : PlanList). get_or z i (g v)) d)
+    (subst (λ (z : Simpagation ℕ). Added (for_each (order_places (heads_of z)) orders) cur new) (x ∙ sym (get_or-map f rs i r (f r) u) ∙ ap (λ (z : List (Simpagation ℕ)). get_or z i (f r)) e) k))
 
 pub places_end : {R V : Type 0} (f : R → Simpagation ℕ) (g : V → List (List Step)) (rs : List R) (vs : List V) (rules : List (Simpagation ℕ)) (plans : PlanList) (i : ℕ) (cur : List Place) → map f rs ≡ rules → map g vs ≡ plans → (length rs ≤ i) ⊎ (length vs ≤ i) → cur ≡ once (keys_met (take i rules) (take i plans)) → cur ≡ once (keys_met rules plans)
-places_end f g rs vs rules plans i cur e d (inl u) h = h ∙ ap once (keys_all rules plans i (inl (let a : length rules ≡ length rs = sym (ap length e) ∙ map_length f rs in omega arith)))
-places_end f g rs vs rules plans i cur e d (inr u) h = h ∙ ap once (keys_all rules plans i (inr (let a : length plans ≡ length vs = sym (ap length d) ∙ map_length g vs in omega arith)))
+places_end f g rs vs rules plans i cur e d (inl u) h = h ∙ ap once (keys_all rules plans i (inl (let a : length rules ≡ length rs = sym (ap length e) ∙ length-map rs f in omega arith)))
+places_end f g rs vs rules plans i cur e d (inr u) h = h ∙ ap once (keys_all rules plans i (inr (let a : length plans ≡ length vs = sym (ap length d) ∙ length-map vs g in omega arith)))

@@ -1,4 +1,5 @@
 -- The definition of a plan leaves no choice.
+use Rattle.std.proofs.lemmas.Bool.{true_from_ne_false}
 use Rattle.std.proofs.Common.{◌≡◌, ℕ, ◌≤◌, Bool, true, false, List, [], ◌∷◌, ◌++◌, length, Option, Some, None, is_some, refl, sym, ap, ap₂, subst, ◌∙◌, arith, append_assoc, zero, suc, take, slice_get}
 use Rattle.std.proofs.lemmas.List.{append-nil}
 use Rattle.chr_rule.specs.Rules.{RuleAtom}
@@ -7,20 +8,13 @@ use Rattle.chr_plan.specs.declared.order.Step.{Step}
 use Rattle.chr_plan.proofs.Planning.{start}
 
 same_kind : (a b : Bool) → (a ≡ true → b ≡ true) → (b ≡ true → a ≡ true) → a ≡ b
-same_kind true true f g = refl
-same_kind true false f g = sym (f refl)
-same_kind false true f g = g refl
-same_kind false false f g = refl
-
-least_both : (a b : ℕ) → a ≤ b → b ≤ a → a ≡ b
-least_both a b h k = omega arith
+same_kind a b f g = grind arith
 
 next_same : (heads : List (RuleAtom ℕ)) (before : List Step) (s t : Step) → IsNext heads before s → IsNext heads before t → s ≡ t
 next_same heads before s t m n =
     let kind : is_some s.key ≡ is_some t.key = same_kind (is_some s.key) (is_some t.key)
     (λ e. n.keyed s.head m.open_head (sym (ap is_some m.key) ∙ e)) (λ e. m.keyed t.head n.open_head (sym (ap is_some n.key) ∙ e)) in
-    let head : s.head ≡ t.head = least_both s.head t.head
-    (m.least t.head n.open_head (sym (ap is_some n.key) ∙ sym kind)) (n.least s.head m.open_head (sym (ap is_some m.key) ∙ kind)) in
+    let head : s.head ≡ t.head = omega (arith, m.least t.head n.open_head (sym (ap is_some n.key) ∙ sym kind), n.least s.head m.open_head (sym (ap is_some m.key) ∙ kind)) in
     let key : s.key ≡ t.key = m.key ∙ ap (key_of heads before) head ∙ sym n.key in
     ap₂ (λ (h : ℕ) (k : Option ℕ). let z : Step = record { head = h; key = k } in z) head key
 
@@ -42,11 +36,7 @@ one_plan_fact heads h p q m n =
     m.first ∙ ap (λ (z : List Step). start h ∷ z) rest ∙ sym n.first
 
 pub names_each_fact : (heads : List (RuleAtom ℕ)) (h : ℕ) (p : List Step) → IsPlan heads h p → (j : ℕ) → 1 ≤ j → j ≤ length heads → is_named p j ≡ true
-names_each_fact heads h p m j f t =
-    elim (is_named p j) as (λ b. (is_named p j ≡ b) → b ≡ true) [
-      | true ↦ λ e. refl
-      | false ↦ λ e. absurd (m.all j (record { from = f; to = t; unnamed = e }))
-    ] refl
+names_each_fact heads h p m j f t = true_from_ne_false (is_named p j) (λ e. m.all j (record { from = f; to = t; unnamed = e }))
 
 next_at : (heads : List (RuleAtom ℕ)) (before xs : List Step) → EachNext heads before xs → (i : ℕ) (s : Step) → slice_get xs i ≡ Some s → IsNext heads (before ++ take i xs) s
 next_at heads before [] e i s g = let n : None ≡ Some s = g in absurd (cc)

@@ -13,51 +13,19 @@ abbrev pub opens : ℕ → List Step → ℕ
 opens zero before = 0
 opens (suc n) before = (if is_named before (suc n) then 0 else 1) + opens n before
 
-or-false : (b : Bool) → (b || false) ≡ b
-or-false true = refl
-or-false false = refl
-
-or-comm : (a b : Bool) → (a || b) ≡ (b || a)
-or-comm true true = refl
-or-comm true false = refl
-or-comm false true = refl
-or-comm false false = refl
-
 pub any_push : {A : Type 0} (p : A → Bool) (xs : List A) (x : A) → list_any p (xs ++ x ∷ []) ≡ (p x || list_any p xs)
-any_push p xs x = list_any-append p xs (x ∷ []) ∙ ap (λ b. list_any p xs || b) (or-false (p x)) ∙ or-comm (list_any p xs) (p x)
+any_push p xs x = let apart = list_any-append p xs (x ∷ []) in grind arith
 
 named_push : (before : List Step) (s : Step) (j : ℕ) → is_named (before ++ s ∷ []) j ≡ ((s.head == j) || is_named before j)
 named_push before s j = any_push (λ s. s.head == j) before s
 
 opens_above : (n : ℕ) (before : List Step) (s : Step) → n < s.head → opens n (before ++ s ∷ []) ≡ opens n before
 opens_above zero before s h = refl
-opens_above (suc n) before s h =
-    let other : (s.head == suc n) ≡ false = grind (arith, nat_tests) in
-    let same : is_named (before ++ s ∷ []) (suc n) ≡ is_named before (suc n) = named_push before s (suc n) ∙ ap (λ b. b || is_named before (suc n)) other in
-    let below : opens n (before ++ s ∷ []) ≡ opens n before = opens_above n before s (omega arith) in
-    cc
+opens_above (suc n) before s h = let below = opens_above n before s (omega arith) in grind (arith, nat_tests, named_push before s (suc n))
 
 pub opens_push : (n : ℕ) (before : List Step) (s : Step) → is_named before s.head ≡ false → 1 ≤ s.head → s.head ≤ n → opens n (before ++ s ∷ []) + 1 ≡ opens n before
 opens_push zero before s u f t = absurd (omega arith)
-opens_push (suc n) before s u f t =
-    elim (s.head == suc n) as (λ b. (s.head == suc n ≡ b) → opens (suc n) (before ++ s ∷ []) + 1 ≡ opens (suc n) before) [
-      | true ↦ λ e.
-          let here : s.head ≡ suc n = true-eqb s.head (suc n) (sym e) in
-          let now : is_named (before ++ s ∷ []) (suc n) ≡ true = named_push before s (suc n) ∙ ap (λ b. b || is_named before (suc n)) e in
-          let was : is_named before (suc n) ≡ false = ap (is_named before) (sym here) ∙ u in
-          let below : opens n (before ++ s ∷ []) ≡ opens n before = opens_above n before s (omega arith) in
-          one n before s now was below
-      | false ↦ λ e.
-          let same : is_named (before ++ s ∷ []) (suc n) ≡ is_named before (suc n) = named_push before s (suc n) ∙ ap (λ b. b || is_named before (suc n)) e in
-          let below : opens n (before ++ s ∷ []) + 1 ≡ opens n before = opens_push n before s u f (grind (arith, nat_tests)) in
-          more n before s same below
-    ] refl
-  where
-    one : (n : ℕ) (before : List Step) (s : Step) → is_named (before ++ s ∷ []) (suc n) ≡ true → is_named before (suc n) ≡ false → opens n (before ++ s ∷ []) ≡ opens n before → opens (suc n) (before ++ s ∷ []) + 1 ≡ opens (suc n) before
-    one n before s a b c = rw (a, b, c) (omega arith)
-
-    more : (n : ℕ) (before : List Step) (s : Step) → is_named (before ++ s ∷ []) (suc n) ≡ is_named before (suc n) → opens n (before ++ s ∷ []) + 1 ≡ opens n before → opens (suc n) (before ++ s ∷ []) + 1 ≡ opens (suc n) before
-    more n before s a c = rw a (omega (arith, c))
+opens_push (suc n) before s u f t = grind (arith, nat_tests, named_push before s (suc n), opens_above n before s, opens_push n before s u f)
 
 opens_all : (n : ℕ) → opens n [] ≡ n
 opens_all zero = refl

@@ -1,21 +1,14 @@
 -- Arguments of a functor beside lists of terms.
-use Rattle.std.proofs.Common.{◌≡◌, ◌↔◌, ℕ, Bool, ◌&&◌, ◌||◌, List, [], ◌∷◌, length, Option, Some, None, refl, sym, ap, ap₂, suc, ◌∙◌}
+use Rattle.std.proofs.Common.{◌≡◌, ◌↔◌, ℕ, Bool, ◌&&◌, ◌||◌, List, [], ◌∷◌, length, Some, None, refl, ap, ap₂, suc}
 use Rattle.std.specs.List.{AllByRecursion, list_all, list_any}
-use Rattle.chr_rule.specs.Rules.{Term, Var, Given, Open, Terms, End, And, terms_of}
+use Rattle.chr_rule.specs.Rules.{Term, Var, Given, Open, terms_of}
 use Rattle.chr_rule.specs.Scope.{known_then, known_after_term, known_after_terms, known_after_args, argument_known, arguments_known}
 use Rattle.chr_rule.specs.Terms.{has_variable, have_variable, terms_count, IsCanonical, AreCanonical, is_open}
 
--- arguments as a list
-abbrev list_of : {N : Type 0} → Terms N → List (Term N)
-list_of End = []
-list_of (And t ts) = t ∷ list_of ts
-
-list_again : {N : Type 0} (ts : List (Term N)) → list_of (terms_of ts) ≡ ts
-list_again [] = refl
-list_again (t ∷ ts) = ap (λ us. t ∷ us) (list_again ts)
-
 terms_of-injective : {N : Type 0} (ts us : List (Term N)) → terms_of ts ≡ terms_of us → ts ≡ us
-terms_of-injective ts us h = sym (list_again ts) ∙ ap list_of h ∙ list_again us
+terms_of-injective [] [] h = refl
+terms_of-injective (t ∷ ts) (u ∷ us) h = let rest = terms_of-injective ts us (cc) in cc
+terms_of-injective ts us h = absurd (cc)
 
 -- two open terms are equal where their functors and their lists of arguments are
 pub same-Open : (s t : ℕ) (us vs : List (Term ℕ)) → (Open s (terms_of us) ≡ Open t (terms_of vs)) ↔ ((s ≡ t) × (us ≡ vs))
@@ -27,13 +20,10 @@ pub known-terms : (n : ℕ) (ts : List (Term ℕ)) → arguments_known n (terms_
 known-terms n [] = refl
 known-terms n (t ∷ ts) = ap (λ (b : Bool). argument_known n t && b) (known-terms n ts)
 
-then_same : {A : Type 0} (o : Option ℕ) (f g : ℕ → Option A) → ((n : ℕ) → f n ≡ g n) → known_then o f ≡ known_then o g
-then_same None f g e = refl
-then_same (Some n) f g e = e n
-
 pub known_after-terms : (n : ℕ) (ts : List (Term ℕ)) → known_after_terms n (terms_of ts) ≡ known_after_args n ts
 known_after-terms n [] = refl
-known_after-terms n (t ∷ ts) = then_same (known_after_term n t) (λ m. known_after_terms m (terms_of ts)) (λ m. known_after_args m ts) (λ m. known_after-terms m ts)
+known_after-terms n (t ∷ ts) =
+    elim (known_after_term n t) as (λ o. known_then o (λ m. known_after_terms m (terms_of ts)) ≡ known_then o (λ m. known_after_args m ts)) [ None ↦ refl | Some m ↦ known_after-terms m ts ]
 
 pub count-terms : (ts : List (Term ℕ)) → terms_count (terms_of ts) ≡ length ts
 count-terms [] = refl

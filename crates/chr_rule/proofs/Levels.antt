@@ -1,7 +1,6 @@
 -- A term, level by level.
-use Rattle.std.proofs.Common.{◌≡◌, ◌↔◌, ◌≤◌, ℕ, Bool, true, false, ◌&&◌, IsTrue, List, length, map, nat_le, Box, rules, sym, ap, ◌∙◌, subst, arith}
+use Rattle.std.proofs.Common.{◌≡◌, ◌↔◌, ◌<◌, ◌+◌, ◌-◌, ℕ, Bool, true, false, ◌&&◌, IsTrue, List, length, map, nat_le, Box, rules, sym, ap, ◌∙◌, arith}
 use Rattle.std.specs.List.{AllByRecursion, list_all, list_any}
-use Rattle.std.proofs.lemmas.Bool.{and_parts}
 use Rattle.std.proofs.lemmas.Bool.Decides.{nat_tests}
 use Rattle.std.proofs.lemmas.List.{length-map}
 use Rattle.chr_value.specs.Atoms.{ground}
@@ -9,7 +8,7 @@ use Rattle.chr_value.specs.declared.value.Value.{Value as CodeValue}
 use Rattle.chr_rule.specs.Rules.{Var, Given, Open, terms_of}
 use Rattle.chr_rule.specs.Parts.{argument}
 use Rattle.chr_rule.specs.Scope.{known_after_term, known_after_args, argument_known}
-use Rattle.chr_rule.specs.Terms.{IsCanonical, is_open}
+use Rattle.chr_rule.specs.Terms.{IsCanonical, is_open, left_after_term, left_after_terms}
 use Rattle.chr_rule.specs.declared.term.Term as terms
 use Rattle.chr_rule.specs.declared.term.Term.{Term as CodeTerm, the_lemmas}
 use Rattle.chr_rule.specs.declared.term.Open.{Open as CodeOpen}
@@ -35,27 +34,27 @@ module _ {A : Type 0} (self : CodeTerm A) (o : Box (CodeOpen A) A) (ts : List (C
   pub known_after-parts : (n : ℕ) → known_after_args n (map argument ts) ≡ known_after_term n (argument self)
   known_after-parts n = sym (known_after-terms n (map argument ts)) ∙ sym (ap (known_after_term n) (argument-parts self o ts is are))
 
+  -- what arguments leave below a functor, and what the term leaves
+  pub left-parts : (d room rest : ℕ) → 0 < d → rest + 1 ≡ room → left_after_terms (d - 1) rest (map argument ts) ≡ left_after_term d room (argument self)
+  left-parts d room rest h e = rw (argument-parts self o ts is are) (grind (arith, nat_tests))
+
   -- what is told of the arguments is told of the term
   pub canonical-told : (opens told : Bool) → opens ≡ (nat_le (length ts) 8 && list_any is_open (map argument ts)) → opens ≡ true
       → IsTrue told ↔ AllByRecursion IsCanonical (map argument ts) → IsTrue told ↔ IsCanonical (argument self)
   canonical-told opens told is-open so means =
-      let parts = and_parts (nat_le (length ts) 8) (list_any is_open (map argument ts)) (sym is-open ∙ so) in
-      let l = argument-parts self o ts is are in
+      let count = count-terms (map argument ts) in
+      let long = length-map ts argument in
       let each = canonical-terms (map argument ts) in
-      let few : length ts ≤ 8 = grind (arith, nat_tests, parts.0) in (
-        λ t. (let all = means.0 t in subst IsCanonical (sym l) (omega (arith, few, count-terms (map argument ts), length-map ts argument), variables_where_open (map argument ts) all ∙ parts.1, each.1 all)),
-        λ h. means.1 (each.0 (subst IsCanonical l h).2),
-      )
+      let any = variables_where_open (map argument ts) in
+      rw (argument-parts self o ts is are) (grind (arith, nat_tests))
 
   pub canonical-not : (opens : Bool) → opens ≡ (nat_le (length ts) 8 && list_any is_open (map argument ts)) → opens ≡ false → IsTrue opens ↔ IsCanonical (argument self)
   canonical-not opens is-open so =
-      let l = argument-parts self o ts is are in (
-        λ t. absurd cc,
-        λ h. (let parts = subst IsCanonical l h in
-            let any = sym (variables_where_open (map argument ts) ((canonical-terms (map argument ts)).0 parts.2)) ∙ parts.1 in
-            let few : length ts ≤ 8 = (let k = parts.0 in omega (arith, k, count-terms (map argument ts), length-map ts argument)) in
-            grind (arith, nat_tests, any, few, is-open, so)),
-      )
+      let count = count-terms (map argument ts) in
+      let long = length-map ts argument in
+      let each = canonical-terms (map argument ts) in
+      let any = variables_where_open (map argument ts) in
+      rw (argument-parts self o ts is are) (grind (arith, nat_tests))
 
 pub same-told : {A : Type 0} (self other : CodeTerm A) (a b : Box (CodeOpen A) A) (xs ys : List (CodeTerm A)) (told : Bool) → self ≡ terms.Open a → other ≡ terms.Open b
     → a.value.functor.number ≡ b.value.functor.number → xs ≡ a.value.args.items → ys ≡ b.value.args.items → IsTrue told ↔ (map argument xs ≡ map argument ys) → IsTrue told ↔ (argument self ≡ argument other)

@@ -2,9 +2,7 @@ pub mod Lists
 pub mod Places
 pub mod Arguments
 pub mod Levels
-pub mod Left
 pub mod Heads
-pub mod Bodies
 pub mod Numbers
 pub mod Index
 pub mod Judged

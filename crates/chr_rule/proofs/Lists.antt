@@ -1,6 +1,6 @@
 -- Two lists told apart by an element.
 use Rattle.std.proofs.Common.{◌≡◌, ◌↔◌, ℕ, ◌<◌, Bool, false, IsTrue, List, length, get_or, map, sym, ap, ◌∙◌}
-use Rattle.std.proofs.lemmas.List.{get_or-map, get_or_default}
+use Rattle.std.proofs.lemmas.List.{get_or-map}
 
 same_at : {X Y : Type 0} (f : X → Y) (xs ys : List X) (i : ℕ) (x y : X) → i < length xs → i < length ys → x ≡ get_or xs i x → y ≡ get_or ys i y → map f xs ≡ map f ys → f x ≡ f y
 same_at f xs ys i x y h k ex ey s =
@@ -8,8 +8,3 @@ same_at f xs ys i x y h k ex ey s =
 
 pub differ_at : {X Y : Type 0} (f : X → Y) (xs ys : List X) (i : ℕ) (x y : X) (told : Bool) → i < length xs → i < length ys → x ≡ get_or xs i x → y ≡ get_or ys i y → IsTrue told ↔ (f x ≡ f y) → told ≡ false → IsTrue false ↔ (map f xs ≡ map f ys)
 differ_at f xs ys i x y told h k ex ey means denied = (λ e. absurd (cc), λ s. sym denied ∙ means.1 (same_at f xs ys i x y h k ex ey s))
-
--- the same where the elements are read with a default
-pub differ_there : {X Y : Type 0} (f : X → Y) (xs ys : List X) (i : ℕ) (d : X) (told : Bool) → i < length xs → i < length ys → IsTrue told ↔ (f (get_or xs i d) ≡ f (get_or ys i d)) → told ≡ false → IsTrue false ↔ (map f xs ≡ map f ys)
-differ_there f xs ys i d told h k means denied =
-    differ_at f xs ys i (get_or xs i d) (get_or ys i d) told h k (get_or_default xs i d (get_or xs i d) h) (get_or_default ys i d (get_or ys i d) k) means denied

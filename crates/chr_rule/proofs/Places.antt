@@ -1,7 +1,7 @@
 -- Lists, place by place.
-use Rattle.std.proofs.Common.{◌≡◌, ◌↔◌, ◌<◌, ◌≤◌, ◌+◌, ◌++◌, ℕ, zero, suc, Bool, true, false, ◌||◌, ◌&&◌, IsTrue, List, [], ◌∷◌, length, take, drop, get_or, map, arith, refl, sym, ap, ap₂, ◌∙◌, subst}
-use Rattle.std.specs.List.{AllByRecursion, list_any, list_all}
-use Rattle.std.proofs.lemmas.List.{take_more, take_all, drop_more, drop_all, map_push, length-map}
+use Rattle.std.proofs.Common.{◌≡◌, ◌↔◌, ◌<◌, ◌≤◌, ◌+◌, ◌++◌, ℕ, zero, suc, Bool, true, false, ◌||◌, IsTrue, List, [], ◌∷◌, length, take, drop, get_or, map, arith, refl, sym, ap, ap₂, ◌∙◌, subst}
+use Rattle.std.specs.List.{AllByRecursion, list_any}
+use Rattle.std.proofs.lemmas.List.{take_more, take_all, drop_more, map_push, length-map}
 
 pub all_push : {Y : Type 0} (P : Y → Type 0) (ys : List Y) (y : Y) → AllByRecursion P ys → P y → AllByRecursion P (ys ++ y ∷ [])
 all_push P [] y h p = (p, tt)
@@ -48,13 +48,3 @@ module _ {X Y : Type 0} (f : X → Y) where
 
   pub any_left : (p : Y → Bool) (xs : List X) (i : ℕ) (x : X) → i < length xs → x ≡ get_or xs i x → p (f x) ≡ false → list_any p (map f (drop i xs)) ≡ list_any p (map f (drop (i + 1) xs))
   any_left p xs i x lt e h = ap (list_any p) (map-left xs i x lt e) ∙ ap (λ (b : Bool). b || list_any p (map f (drop (i + 1) xs))) h
-
-  -- whether each of what is left passes a test, where this one doesn't and where it does
-  pub every_here : (p : Y → Bool) (xs : List X) (i : ℕ) (x : X) → i < length xs → x ≡ get_or xs i x → p (f x) ≡ false → list_all p (map f (drop i xs)) ≡ false
-  every_here p xs i x lt e h = ap (list_all p) (map-left xs i x lt e) ∙ ap (λ (b : Bool). b && list_all p (map f (drop (i + 1) xs))) h
-
-  pub every_left : (p : Y → Bool) (xs : List X) (i : ℕ) (x : X) → i < length xs → x ≡ get_or xs i x → p (f x) ≡ true → list_all p (map f (drop i xs)) ≡ list_all p (map f (drop (i + 1) xs))
-  every_left p xs i x lt e h = ap (list_all p) (map-left xs i x lt e) ∙ ap (λ (b : Bool). b && list_all p (map f (drop (i + 1) xs))) h
-
-  pub every_end : (p : Y → Bool) (xs : List X) (i : ℕ) → length xs ≤ i → list_all p (map f (drop i xs)) ≡ true
-  every_end p xs i le = ap (λ ys. list_all p (map f ys)) (drop_all i xs le)

@@ -7,8 +7,8 @@ use Rattle.chr_rule.specs.Rules.{terms_of}
 use Rattle.chr_rule.specs.declared.term.Open.{Open as CodeOpen}
 use Rattle.chr_guard.specs.Values.{term_under, terms_under}
 use Rattle.chr_guard.specs.Bindings.{bound_at}
-use Rattle.chr_guard.proofs.Opened.{argument-parts}
-use Rattle.chr_guard.proofs.Made.{made-more, made-none, made-all}
+use Rattle.chr_rule.proofs.Levels.{argument-parts}
+use Rattle.chr_guard.proofs.Arguments.{made-more, made-none, made-all}
 use Rattle.chr_guard.proofs.body.+made.Goals as goal
 
 pub all_made-returns-in_default : goal.all_made-returns-in_default

@@ -1,4 +1,4 @@
-use Rattle.std.proofs.Common.{◌≡◌, ◌<◌, ◌≤◌, ◌+◌, ◌++◌, ◌∷◌, [], length, map, Some, None, vec_len, sym, ap, ◌∙◌, arith}
+use Rattle.std.proofs.Common.{◌≡◌, ◌+◌, ◌++◌, ◌∷◌, [], length, map, Some, None, sym, ap, ◌∙◌, arith}
 use Rattle.std.specs.Option.{option_map}
 use Rattle.std.proofs.lemmas.List.{length_push, take_all}
 use Rattle.chr_value.specs.Atoms.{ground}
@@ -20,11 +20,7 @@ returns-in_default-clause-none g c = λ no.
 pub push-requires : goal.push-requires
 push-requires g c =
     let some : value_under (bound_at c.args.binding.now) (argument c.term-item.result) ≡ Some (ground c.in-Some.value) = sym c.in_ok-value.ensures ∙ ap (option_map ground) c.in-Some.is in
-    let here : c.loop-term.term-index < length c.deref-term-items.result.now = c.loop-term-test.true in
-    let most : length c.deref-term-items.result.now ≡ vec_len c.args.pattern.now.terms = c.deref-term-items.ensures.len in
-    let fits : vec_len c.args.pattern.now.terms ≤ 8 = c.args.pattern.now.few in
-    let few : length c.loop-term.atom.args ≤ c.loop-term.term-index = c.loop-term.invariant.few in
-    record { room = omega arith; within = (limited (term_under (bound_at c.args.binding.now) (argument c.term-item.result)) (ground c.in-Some.value) some).1 }
+    record { room = omega (arith, c.loop-term-test.true, c.deref-term-items.ensures.len, c.args.pattern.now.few, c.loop-term.invariant.few); within = (limited (term_under (bound_at c.args.binding.now) (argument c.term-item.result)) (ground c.in-Some.value) some).1 }
 
 pub loop-term-preserved : goal.loop-term-preserved
 loop-term-preserved g c =
@@ -33,11 +29,10 @@ loop-term-preserved g c =
     let some : value (argument c.term-item.result) ≡ Some (ground c.in-Some.value) = sym c.in_ok-value.ensures ∙ ap (option_map ground) c.in-Some.is in
     let more : c.push.new.self.args ≡ c.loop-term.atom.args ++ ground c.in-Some.value ∷ [] = ap (λ a. a.args) c.in_ok-push.ensures.ok in
     let len : length c.push.new.self.args ≡ length c.loop-term.atom.args + 1 = ap length more ∙ length_push c.loop-term.atom.args _ in
-    let few : length c.loop-term.atom.args ≤ c.loop-term.term-index = c.loop-term.invariant.few in
     record {
       name = ap (λ a. a.name) c.in_ok-push.ensures.ok ∙ c.loop-term.invariant.name;
       args = values_more argument value terms c.loop-term.term-index c.term-item.result c.loop-term.atom.args (ground c.in-Some.value) c.loop-term-test.true c.term-item.is c.loop-term.invariant.args some ∙ ap (λ l. Some l) (sym more);
-      few = omega arith;
+      few = omega (arith, len, c.loop-term.invariant.few);
     }
 
 pub returns-clause-made : goal.returns-clause-made

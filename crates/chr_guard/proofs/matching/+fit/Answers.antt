@@ -1,14 +1,13 @@
-use Rattle.std.proofs.Common.{◌≡◌, ◌<◌, ◌≤◌, ◌+◌, ◌*◌, length, map, get_or, Some, arith, sym, ap, subst, ◌∙◌}
-use Rattle.std.proofs.lemmas.List.{length-map}
+use Rattle.std.proofs.Common.{◌≡◌, ◌<◌, ◌+◌, ◌*◌, length, map, Some, arith, sym, ap, subst, ◌∙◌}
 use Rattle.chr_value.specs.Atoms.{ground, ground_comp, said}
 use Rattle.chr_rule.specs.Parts.{argument}
 use Rattle.chr_rule.specs.Scope.{argument_known}
 use Rattle.chr_guard.specs.Values.{Valuation, term_under}
 use Rattle.chr_guard.specs.Bindings.{Narrows, NoneUnder, NarrowsIf}
 use Rattle.chr_rule.specs.declared.term.Open.{Open as CodeOpen}
-use Rattle.chr_guard.proofs.Steps.{list_all_at, map_read, read_more, read_stop, read_end}
-use Rattle.chr_guard.proofs.Weights.{term_weight, weights, weight-at}
-use Rattle.chr_guard.proofs.Opened.{argument-Var, known-parts, weight-parts, under-open}
+use Rattle.chr_guard.proofs.Steps.{known_read, read_more, read_stop, read_end}
+use Rattle.chr_guard.proofs.Arguments.{term_weight, weights, weight-at, weight-parts, under-open}
+use Rattle.chr_rule.proofs.Levels.{argument-Var, known-parts}
 use Rattle.chr_guard.proofs.Matched.{told_as}
 use Rattle.chr_guard.proofs.Bindings.{keeps_both, narrows_keeps}
 use Rattle.chr_guard.proofs.matching.+fit.Goals as goal
@@ -23,7 +22,7 @@ fit_term-fit_terms-requires g t c κs within =
     let are = c.deref-in-Comp-2.ensures.value ∙ ap (λ (k : CodeOpen _). k.args.items) c.deref-in-Comp.ensures in
     let weighs = weight-parts _ c.in-Open.open ts c.in-Open.is are in
     let less : 2 * weights (map argument ts) + 1 < 2 * term_weight (argument c.args.term.now) = omega (arith, weighs) in
-    (subst (λ n. 2 * weights (map argument ts) + 1 < n) c.decreases less, (within, (omega arith, known-parts (length c.args.binding.now) _ c.in-Open.open ts c.in-Open.is are c.requires)))
+    (subst (λ n. 2 * weights (map argument ts) + 1 < n) c.decreases less, (within, (omega arith, known-parts _ c.in-Open.open ts c.in-Open.is are (length c.args.binding.now) ∙ c.requires)))
 
 pub fit_term-returns-else-deref-comp-clause-narrows : goal.fit_term-returns-else-deref-comp-clause-narrows
 fit_term-returns-else-deref-comp-clause-narrows g t c =
@@ -38,34 +37,24 @@ pub fit_terms-fit_term-requires : goal.fit_terms-fit_term-requires
 fit_terms-fit_term-requires g t c κs within =
     let terms = c.args.terms.now in
     let here : c.loop-i.i < length terms = omega arith in
-    let there : c.loop-i.i < length (map argument terms) = rw length-map here in
-    let n = length c.args.binding.now in
     let term = c.index-terms-i.result in
-    let known = list_all_at (argument_known n) (map argument terms) c.loop-i.i (argument term) there c.requires in
-    let same : argument term ≡ get_or (map argument terms) c.loop-i.i (argument term) = map_read argument terms c.loop-i.i term here c.index-terms-i.is in
     let le = weight-at terms c.loop-i.i term here c.index-terms-i.is in
     let less : 2 * term_weight (argument term) < 2 * weights (map argument terms) + 1 = omega (arith, le) in
-    (subst (λ m. 2 * term_weight (argument term) < m) c.decreases less, (within, (omega arith, ap (λ m. argument_known m (argument term)) c.loop-i.invariant.places ∙ ap (argument_known n) same ∙ known)))
+    (subst (λ m. 2 * term_weight (argument term) < m) c.decreases less, (within, (omega arith, ap (λ m. argument_known m (argument term)) c.loop-i.invariant.places ∙ known_read (argument_known (length c.args.binding.now)) argument terms c.loop-i.i term here c.index-terms-i.is c.requires)))
 
 pub fit_terms-returns-then-not-fit_term-clause-narrows : goal.fit_terms-returns-then-not-fit_term-clause-narrows
 fit_terms-returns-then-not-fit_term-clause-narrows g t c =
-    let left : c.loop-i.i < length c.args.terms.now = omega arith in
-    let right : c.loop-i.i < length c.args.values.now = omega arith in
-    read_stop term_under argument (λ t. Some (ground t)) c.args.terms.now c.args.values.now c.loop-i.i _ _ left right c.index-terms-i.is c.index-values-i.is c.args.binding.now c.loop-i.binding c.loop-i.invariant
+    read_stop term_under argument (λ t. Some (ground t)) c.args.terms.now c.args.values.now c.loop-i.i _ _ (omega arith) (omega arith) c.index-terms-i.is c.index-values-i.is c.args.binding.now c.loop-i.binding c.loop-i.invariant
     (subst (λ a. NoneUnder (λ v. term_under v (argument c.index-terms-i.result) ≡ Some a) c.loop-i.binding) c.as_ref.ensures (c.if-not-fit_term.ensures.narrows))
 
 pub fit_terms-loop-i-preserved : goal.fit_terms-loop-i-preserved
 fit_terms-loop-i-preserved g t c =
-    let left : c.loop-i.i < length c.args.terms.now = omega arith in
-    let right : c.loop-i.i < length c.args.values.now = omega arith in
-    read_more term_under argument (λ t. Some (ground t)) c.args.terms.now c.args.values.now c.loop-i.i _ _ left right c.index-terms-i.is c.index-values-i.is c.args.binding.now c.loop-i.binding c.fit_term.new.binding c.loop-i.invariant
+    read_more term_under argument (λ t. Some (ground t)) c.args.terms.now c.args.values.now c.loop-i.i _ _ (omega arith) (omega arith) c.index-terms-i.is c.index-values-i.is c.args.binding.now c.loop-i.binding c.fit_term.new.binding c.loop-i.invariant
     (subst (λ a. Narrows (λ v. term_under v (argument c.index-terms-i.result) ≡ Some a) c.loop-i.binding c.fit_term.new.binding) c.as_ref.ensures (c.if-not-fit_term.ensures.narrows))
 
 pub fit_terms-returns-clause-narrows : goal.fit_terms-returns-clause-narrows
 fit_terms-returns-clause-narrows g t c =
-    let left : length c.args.terms.now ≤ c.loop-i.i = omega arith in
-    let right : length c.args.values.now ≤ c.loop-i.i = omega arith in
-    read_end term_under argument (λ t. Some (ground t)) c.args.terms.now c.args.values.now c.loop-i.i c.args.binding.now c.loop-i.binding left right c.loop-i.invariant
+    read_end term_under argument (λ t. Some (ground t)) c.args.terms.now c.args.values.now c.loop-i.i c.args.binding.now c.loop-i.binding (omega arith) (omega arith) c.loop-i.invariant
 
 pub fit_terms-returns-then-not-fit_term-clause-keeps : goal.fit_terms-returns-then-not-fit_term-clause-keeps
 fit_terms-returns-then-not-fit_term-clause-keeps g t c = keeps_both c.args.binding.now c.loop-i.binding c.fit_term.new.binding (narrows_keeps _ c.args.binding.now c.loop-i.binding c.loop-i.invariant) c.fit_term.ensures.keeps

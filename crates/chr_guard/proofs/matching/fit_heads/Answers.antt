@@ -1,4 +1,4 @@
-use Rattle.std.proofs.Common.{◌<◌, ◌≤◌, length, map, Some, arith, sym, subst}
+use Rattle.std.proofs.Common.{◌<◌, length, map, Some, arith, sym, subst}
 use Rattle.std.proofs.lemmas.List.{length-map}
 use Rattle.chr_rule.specs.Parts.{shape}
 use Rattle.chr_guard.specs.Instances.{atom_under}
@@ -16,18 +16,12 @@ fit_head-requires g c =
 
 pub returns-then-not-fit_head : goal.returns-then-not-fit_head
 returns-then-not-fit_head g c =
-    let left : c.loop-i.i < length c.args.heads.now = omega arith in
-    let right : c.loop-i.i < length c.args.atoms.now = omega arith in
-    read_stop atom_under shape (λ a. Some a.now) c.args.heads.now c.args.atoms.now c.loop-i.i c.index-heads-i.result c.index-atoms-i.result left right c.index-heads-i.is c.index-atoms-i.is c.args.binding.now c.loop-i.binding c.loop-i.invariant (c.if-not-fit_head.ensures.narrows)
+    read_stop atom_under shape (λ a. Some a.now) c.args.heads.now c.args.atoms.now c.loop-i.i c.index-heads-i.result c.index-atoms-i.result (omega arith) (omega arith) c.index-heads-i.is c.index-atoms-i.is c.args.binding.now c.loop-i.binding c.loop-i.invariant (c.if-not-fit_head.ensures.narrows)
 
 pub loop-i-preserved : goal.loop-i-preserved
 loop-i-preserved g c =
-    let left : c.loop-i.i < length c.args.heads.now = omega arith in
-    let right : c.loop-i.i < length c.args.atoms.now = omega arith in
-    read_more atom_under shape (λ a. Some a.now) c.args.heads.now c.args.atoms.now c.loop-i.i c.index-heads-i.result c.index-atoms-i.result left right c.index-heads-i.is c.index-atoms-i.is c.args.binding.now c.loop-i.binding c.fit_head.new.binding c.loop-i.invariant (c.if-not-fit_head.ensures.narrows)
+    read_more atom_under shape (λ a. Some a.now) c.args.heads.now c.args.atoms.now c.loop-i.i c.index-heads-i.result c.index-atoms-i.result (omega arith) (omega arith) c.index-heads-i.is c.index-atoms-i.is c.args.binding.now c.loop-i.binding c.fit_head.new.binding c.loop-i.invariant (c.if-not-fit_head.ensures.narrows)
 
 pub returns : goal.returns
 returns g c =
-    let left : length c.args.heads.now ≤ c.loop-i.i = omega arith in
-    let right : length c.args.atoms.now ≤ c.loop-i.i = omega arith in
-    read_end atom_under shape (λ a. Some a.now) c.args.heads.now c.args.atoms.now c.loop-i.i c.args.binding.now c.loop-i.binding left right c.loop-i.invariant
+    read_end atom_under shape (λ a. Some a.now) c.args.heads.now c.args.atoms.now c.loop-i.i c.args.binding.now c.loop-i.binding (omega arith) (omega arith) c.loop-i.invariant

@@ -1,4 +1,4 @@
-use Rattle.std.proofs.Common.{◌≡◌, ◌<◌, ◌≤◌, ◌∙◌, length, map, sym, subst, arith}
+use Rattle.std.proofs.Common.{◌≡◌, ◌∙◌, length, map, sym, subst, arith}
 use Rattle.std.proofs.lemmas.List.{length-map}
 use Rattle.chr_rule.specs.Parts.{shape}
 use Rattle.chr_guard.specs.Matching.{IsAtHead}
@@ -9,10 +9,7 @@ use Rattle.chr_guard.proofs.matching.fit_placed.Goals as goal
 
 pub returns-in_default : goal.returns-in_default
 returns-in_default g c v extends all =
-    let placed = c.args.placed.now in
-    let here : c.loop-number.number-index < length placed = c.loop-number-test.true in
-    let there : c.loop-number.number-index < length (map (λ p. (p.0, p.1.now)) placed) = rw length-map here in
-    stands_nowhere c.args.rule.now (map (λ p. (p.0, p.1.now)) placed) c.loop-number.number-index (c.loop-number-item.result.0, c.loop-number-item.result.1.now) there (map_read (λ p. (p.0, p.1.now)) placed c.loop-number.number-index c.loop-number-item.result here c.loop-number-item.is) (sym c.in_default.ensures.head) v all
+    stands_nowhere c.args.rule.now (map (λ p. (p.0, p.1.now)) c.args.placed.now) c.loop-number.number-index (c.loop-number-item.result.0, c.loop-number-item.result.1.now) (rw length-map c.loop-number-test.true) (map_read (λ p. (p.0, p.1.now)) c.args.placed.now c.loop-number.number-index c.loop-number-item.result c.loop-number-test.true c.loop-number-item.is) (sym c.in_default.ensures.head) v all
 
 pub fit_head-requires : goal.fit_head-requires
 fit_head-requires g c =
@@ -21,21 +18,12 @@ fit_head-requires g c =
 
 pub returns-then-not-fit_head : goal.returns-then-not-fit_head
 returns-then-not-fit_head g c =
-    let placed = c.args.placed.now in
-    let here : c.loop-number.number-index < length placed = c.loop-number-test.true in
-    let there : c.loop-number.number-index < length (map (λ p. (p.0, p.1.now)) placed) = rw length-map here in
-    stands_stop c.args.rule.now (map (λ p. (p.0, p.1.now)) placed) c.loop-number.number-index (c.loop-number-item.result.0, c.loop-number-item.result.1.now) (shape c.in-Some.head.now) c.args.binding.now c.loop-number.binding there (map_read (λ p. (p.0, p.1.now)) placed c.loop-number.number-index c.loop-number-item.result here c.loop-number-item.is) (sym c.in-Some.ensures.head) c.loop-number.invariant c.if-not-fit_head.ensures.narrows
+    stands_stop c.args.rule.now (map (λ p. (p.0, p.1.now)) c.args.placed.now) c.loop-number.number-index (c.loop-number-item.result.0, c.loop-number-item.result.1.now) (shape c.in-Some.head.now) c.args.binding.now c.loop-number.binding (rw length-map c.loop-number-test.true) (map_read (λ p. (p.0, p.1.now)) c.args.placed.now c.loop-number.number-index c.loop-number-item.result c.loop-number-test.true c.loop-number-item.is) (sym c.in-Some.ensures.head) c.loop-number.invariant c.if-not-fit_head.ensures.narrows
 
 pub loop-number-preserved : goal.loop-number-preserved
 loop-number-preserved g c =
-    let placed = c.args.placed.now in
-    let here : c.loop-number.number-index < length placed = c.loop-number-test.true in
-    let there : c.loop-number.number-index < length (map (λ p. (p.0, p.1.now)) placed) = rw length-map here in
-    stands_more c.args.rule.now (map (λ p. (p.0, p.1.now)) placed) c.loop-number.number-index (c.loop-number-item.result.0, c.loop-number-item.result.1.now) (shape c.in-Some.head.now) c.args.binding.now c.loop-number.binding c.fit_head.new.binding there (map_read (λ p. (p.0, p.1.now)) placed c.loop-number.number-index c.loop-number-item.result here c.loop-number-item.is) (sym c.in-Some.ensures.head) c.loop-number.invariant c.if-not-fit_head.ensures.narrows
+    stands_more c.args.rule.now (map (λ p. (p.0, p.1.now)) c.args.placed.now) c.loop-number.number-index (c.loop-number-item.result.0, c.loop-number-item.result.1.now) (shape c.in-Some.head.now) c.args.binding.now c.loop-number.binding c.fit_head.new.binding (rw length-map c.loop-number-test.true) (map_read (λ p. (p.0, p.1.now)) c.args.placed.now c.loop-number.number-index c.loop-number-item.result c.loop-number-test.true c.loop-number-item.is) (sym c.in-Some.ensures.head) c.loop-number.invariant c.if-not-fit_head.ensures.narrows
 
 pub returns : goal.returns
 returns g c =
-    let placed = c.args.placed.now in
-    let past : length placed ≤ c.loop-number.number-index = c.loop-number-test.false in
-    let out : length (map (λ p. (p.0, p.1.now)) placed) ≤ c.loop-number.number-index = rw length-map past in
-    narrows_whole (IsAtHead c.args.rule.now) (map (λ p. (p.0, p.1.now)) placed) c.loop-number.number-index c.args.binding.now c.loop-number.binding out c.loop-number.invariant
+    narrows_whole (IsAtHead c.args.rule.now) (map (λ p. (p.0, p.1.now)) c.args.placed.now) c.loop-number.number-index c.args.binding.now c.loop-number.binding (rw length-map c.loop-number-test.false) c.loop-number.invariant

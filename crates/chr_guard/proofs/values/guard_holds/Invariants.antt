@@ -1,4 +1,4 @@
-use Rattle.std.proofs.Common.{◌↔◌, map, drop}
+use Rattle.std.proofs.Common.{map, take}
 use Rattle.std.specs.List.{AllByRecursion}
 use Rattle.chr_rule.specs.Parts.{comparison}
 use Rattle.chr_guard.specs.Values.{Holds}
@@ -6,4 +6,4 @@ use Rattle.chr_guard.specs.Bindings.{bound_at}
 use Rattle.chr_guard.proofs.values.guard_holds.Given as goal
 
 abbrev pub invariant-loop-test : goal.invariant-loop-test
-invariant-loop-test g l = AllByRecursion (Holds (bound_at l.binding)) (map comparison (drop l.test-index l.test-items)) ↔ AllByRecursion (Holds (bound_at l.binding)) l.rule.guard
+invariant-loop-test g l = AllByRecursion (Holds (bound_at l.binding)) (map comparison (take l.test-index l.test-items))

@@ -1,7 +1,7 @@
-use Rattle.std.proofs.Common.{◌<◌, ◌≤◌, length, refl, arith, sym, ap, ◌∙◌}
+use Rattle.std.proofs.Common.{refl, arith, sym, ap, ◌∙◌}
 use Rattle.chr_rule.specs.declared.term.Open.{Open as CodeOpen}
 use Rattle.chr_guard.specs.Bindings.{bound_at}
-use Rattle.chr_guard.proofs.Compared.{SameFrom, same-next, same-stop, same-end, same-count, same-opens}
+use Rattle.chr_guard.proofs.Arguments.{SameFrom, same-next, same-stop, same-end, same-count, same-opens}
 use Rattle.chr_guard.proofs.binding.Binding.+same.Goals as goal
 
 pub same-returns-then-deref : goal.same-returns-then-deref
@@ -16,26 +16,17 @@ pub all_same-returns-then-terms-others : goal.all_same-returns-then-terms-others
 all_same-returns-then-terms-others g t c = (λ h. absurd (cc), λ e. absurd (c.if-terms-others.true (same-count (bound_at c.args.self.now) c.args.terms.now c.args.others.now e)))
 
 pub all_same-returns-then-not-same : goal.all_same-returns-then-not-same
-all_same-returns-then-not-same g t c =
-    let v = bound_at c.args.self.now in
-    let left : c.loop-i.i < length c.args.terms.now = c.loop-i-test.true in
-    let right : c.loop-i.i < length c.args.others.now = omega arith in (
-      λ h. absurd (cc),
-      λ e. absurd (same-stop v c.args.terms.now c.args.others.now c.loop-i.i c.index-terms-i.result c.index-others-i.result left right c.index-terms-i.is c.index-others-i.is (SameFrom v c.args.terms.now c.args.others.now 0)
-          (λ s. (let z = sym c.if-not-same.true ∙ c.same.ensures.1 s in cc)) c.loop-i.invariant e),
-    )
+all_same-returns-then-not-same g t c = (
+  λ h. absurd (cc),
+  λ e. absurd (same-stop (bound_at c.args.self.now) c.args.terms.now c.args.others.now c.loop-i.i c.index-terms-i.result c.index-others-i.result c.loop-i-test.true (omega arith) c.index-terms-i.is c.index-others-i.is (SameFrom (bound_at c.args.self.now) c.args.terms.now c.args.others.now 0)
+      (λ s. (let z = sym c.if-not-same.true ∙ c.same.ensures.1 s in cc)) c.loop-i.invariant e),
+)
 
 pub all_same-loop-i-preserved : goal.all_same-loop-i-preserved
 all_same-loop-i-preserved g t c =
-    let v = bound_at c.args.self.now in
-    let left : c.loop-i.i < length c.args.terms.now = c.loop-i-test.true in
-    let right : c.loop-i.i < length c.args.others.now = omega arith in
-    same-next v c.args.terms.now c.args.others.now c.loop-i.i c.index-terms-i.result c.index-others-i.result left right c.index-terms-i.is c.index-others-i.is (SameFrom v c.args.terms.now c.args.others.now 0) (c.same.ensures.0 c.if-not-same.false) c.loop-i.invariant
+    same-next (bound_at c.args.self.now) c.args.terms.now c.args.others.now c.loop-i.i c.index-terms-i.result c.index-others-i.result c.loop-i-test.true (omega arith) c.index-terms-i.is c.index-others-i.is (SameFrom (bound_at c.args.self.now) c.args.terms.now c.args.others.now 0) (c.same.ensures.0 c.if-not-same.false) c.loop-i.invariant
 
 pub all_same-returns : goal.all_same-returns
 all_same-returns g t c =
-    let v = bound_at c.args.self.now in
-    let left : length c.args.terms.now ≤ c.loop-i.i = c.loop-i-test.false in
-    let right : length c.args.others.now ≤ c.loop-i.i = omega arith in
-    let whole = c.loop-i.invariant.0 (same-end v c.args.terms.now c.args.others.now c.loop-i.i left right) in
+    let whole = c.loop-i.invariant.0 (same-end (bound_at c.args.self.now) c.args.terms.now c.args.others.now c.loop-i.i c.loop-i-test.false (omega arith)) in
     (λ h. whole, λ e. refl)

@@ -1,10 +1,10 @@
-use Rattle.std.proofs.Common.{◌≡◌, ◌<◌, ◌≤◌, length, Some, refl, arith, sym, ap, ◌∙◌}
+use Rattle.std.proofs.Common.{◌≡◌, Some, refl, arith, sym, ap, ◌∙◌}
 use Rattle.chr_value.specs.Atoms.{ground, ground_comp, said}
 use Rattle.chr_rule.specs.Parts.{argument}
 use Rattle.chr_rule.specs.declared.term.Open.{Open as CodeOpen}
 use Rattle.chr_guard.specs.Values.{term_under}
 use Rattle.chr_guard.specs.Bindings.{bound_at}
-use Rattle.chr_guard.proofs.Opened.{under-open}
+use Rattle.chr_guard.proofs.Arguments.{under-open}
 use Rattle.chr_guard.proofs.Steps.{read_at, read_next, read_whole, read_count}
 use Rattle.chr_guard.proofs.binding.Binding.+stands.Goals as goal
 
@@ -22,25 +22,19 @@ stand_for-returns-then-terms-values g t c =
     (λ h. absurd (cc), λ e. absurd (c.if-terms-values.true (read_count term_under argument (λ v. Some (ground v)) c.args.terms.now c.args.values.now (bound_at c.args.self.now) e)))
 
 pub stand_for-returns-then-not-stands_for : goal.stand_for-returns-then-not-stands_for
-stand_for-returns-then-not-stands_for g t c =
-    let left : c.loop-i.i < length c.args.terms.now = c.loop-i-test.true in
-    let right : c.loop-i.i < length c.args.values.now = omega arith in (
-      λ h. absurd (cc),
-      λ e.
-          sym c.if-not-stands_for.true
-          ∙ c.stands_for.ensures.1 (read_at term_under argument (λ v. Some (ground v)) c.args.terms.now c.args.values.now c.loop-i.i c.index-terms-i.result c.index-values-i.result left right c.index-terms-i.is c.index-values-i.is (bound_at c.args.self.now) e ∙ ap (λ v. Some v) (sym c.as_ref.ensures)),
-    )
+stand_for-returns-then-not-stands_for g t c = (
+  λ h. absurd (cc),
+  λ e.
+      sym c.if-not-stands_for.true
+      ∙ c.stands_for.ensures.1 (read_at term_under argument (λ v. Some (ground v)) c.args.terms.now c.args.values.now c.loop-i.i c.index-terms-i.result c.index-values-i.result c.loop-i-test.true (omega arith) c.index-terms-i.is c.index-values-i.is (bound_at c.args.self.now) e ∙ ap (λ v. Some v) (sym c.as_ref.ensures)),
+)
 
 pub stand_for-loop-i-preserved : goal.stand_for-loop-i-preserved
 stand_for-loop-i-preserved g t c =
-    let left : c.loop-i.i < length c.args.terms.now = c.loop-i-test.true in
-    let right : c.loop-i.i < length c.args.values.now = omega arith in
-    read_next term_under argument (λ v. Some (ground v)) c.args.terms.now c.args.values.now c.loop-i.i c.index-terms-i.result c.index-values-i.result left right c.index-terms-i.is c.index-values-i.is (bound_at c.args.self.now) c.loop-i.invariant
+    read_next term_under argument (λ v. Some (ground v)) c.args.terms.now c.args.values.now c.loop-i.i c.index-terms-i.result c.index-values-i.result c.loop-i-test.true (omega arith) c.index-terms-i.is c.index-values-i.is (bound_at c.args.self.now) c.loop-i.invariant
     (c.stands_for.ensures.0 c.if-not-stands_for.false ∙ ap (λ v. Some v) c.as_ref.ensures)
 
 pub stand_for-returns : goal.stand_for-returns
 stand_for-returns g t c =
-    let left : length c.args.terms.now ≤ c.loop-i.i = c.loop-i-test.false in
-    let right : length c.args.values.now ≤ c.loop-i.i = omega arith in
-    let whole = read_whole term_under argument (λ v. Some (ground v)) c.args.terms.now c.args.values.now c.loop-i.i (bound_at c.args.self.now) left right c.loop-i.invariant in
+    let whole = read_whole term_under argument (λ v. Some (ground v)) c.args.terms.now c.args.values.now c.loop-i.i (bound_at c.args.self.now) c.loop-i-test.false (omega arith) c.loop-i.invariant in
     (λ h. whole, λ e. refl)

@@ -1,13 +1,24 @@
-use Rattle.std.proofs.Common.{◌≡◌, map, None, IsSome, not, refl, sym, subst, ap, ◌∙◌}
+use Rattle.chr_value.specs.Atoms.{Value}
+use Rattle.std.proofs.Common.{◌≡◌, map, None, IsSome, not, refl, sym, subst, ap, ◌∙◌, ℕ, true, Option, Some}
+use Rattle.std.specs.Prelude.{IfSome}
+use Rattle.std.specs.Option.{is_some}
 use Rattle.std.proofs.lemmas.List.{take_all}
 use Rattle.chr_rule.specs.Parts.{argument, shape}
-use Rattle.chr_guard.specs.Values.{term_under, value_under}
+use Rattle.chr_guard.specs.Values.{term_under, value_under, within_limits}
+use Rattle.chr_guard.specs.Terms.{plain_value}
+use Rattle.chr_guard.specs.declared.terms.Plain.{Plain}
+use Rattle.chr_guard.specs.declared.terms.Plain.TheVariants as plains
 use Rattle.chr_guard.specs.Bindings.{bound_at}
 use Rattle.chr_guard.specs.Instances.{all_values}
-use Rattle.chr_guard.proofs.Plains.{plain-some}
 use Rattle.chr_guard.proofs.Under.{none_is_none, no_values, some_values_more, some_atom}
 use Rattle.chr_guard.proofs.binding.Binding.has_values.Goals as goal
 use Rattle.chr_guard.proofs.binding.Binding.has_values.Goals.{else-is_none-via-then-is_none+else-not-is_within, else-is_none-via-else-is_none}
+
+-- numbers and symbols keep the limits
+plain-some : (r : Option Plain) (o : Option (Value ℕ)) → IfSome r (λ a. o ≡ Some (plain_value a)) → is_some r ≡ true → IsSome (within_limits o)
+plain-some (Some (plains.Number n)) o h e = rw h refl
+plain-some (Some (plains.Symbol name)) o h e = rw h refl
+plain-some None o h e = absurd (cc)
 
 pub returns-then-not-is_within : goal.returns-then-not-is_within
 returns-then-not-is_within g c =

@@ -8,10 +8,9 @@ pub loop-variable-preserved : goal.loop-variable-preserved
 loop-variable-preserved g c =
     let here : c.loop-variable.variable < length c.args.self.now = omega (arith, c.loop-variable-test.true, c.variables-variable-end.ensures.count) in
     let len : length c.push.new.self.items ≡ length c.loop-variable.marks.items + 1 = ap length c.in_ok-push.ensures.items ∙ length_push c.loop-variable.marks.items c.of.result in
-    let count : length c.loop-variable.marks.items ≡ c.loop-variable.variable = c.loop-variable.invariant.count in
     record {
       marks = marks_more c.args.self.now c.loop-variable.variable c.loop-variable.marks.items c.push.new.self.items c.of.result here (c.of.ensures ∙ ap mark_of c.at.ensures) c.in_ok-push.ensures.items c.loop-variable.invariant.marks;
-      count = omega arith;
+      count = omega (arith, len, c.loop-variable.invariant.count);
     }
 
 pub returns : goal.returns
