@@ -1,5 +1,5 @@
 //! What the text of a program says of its rules besides their meaning: their lines, and the names of their variables.
-ghost use Rattle.std.specs.Prelude.{◌≡◌, ◌≤◌, ◌<◌, ◌∷◌, [], zero, length, map, flat_map, IfOk, MatchOption};
+ghost use Rattle.std.specs.Prelude.{◌≡◌, ◌≤◌, ◌<◌, zero, length, map, flat_map, IfOk, MatchOption};
 ghost use Rattle.chr_lex.specs.Items.{items, entry};
 ghost use Rattle.chr_lex.specs.Tokens.{lexeme};
 ghost use Rattle.chr_limits.specs.Variables.{seen};
@@ -9,7 +9,7 @@ ghost use Rattle.chr_explain.specs.Headings.{heading_view, lexeme_variables, var
 use chr_grammar::{Statement, parse_statement};
 use chr_lex::fault::ItemError;
 use chr_lex::{Item, Token, Word, next_item, tokens};
-use chr_limits::{Seen, is_seen};
+use chr_limits::{Seen, meet};
 use std::alloc::{AllocError, Allocator};
 
 /// The line of a rule's first byte, and its variables at the places of their numbers.
@@ -17,20 +17,6 @@ use std::alloc::{AllocError, Allocator};
 pub struct Heading<'a> {
     pub line: u32,
     pub variables: Seen<'a>,
-}
-
-/// Adds a variable that was not seen before, if there is room.
-fn meet<'a>(seen: &mut Seen<'a>, name: &'a [u8]) -> Option<()>
-    ensures { Sees result seen.old.items seen.new.items (name.now ∷ []) }
-{
-    if is_seen(seen, name) {
-        return Some(());
-    }
-    if seen.is_full() {
-        return None;
-    }
-    seen.push(name);
-    Some(())
 }
 
 /// Adds the variable that a token is, if it is one.

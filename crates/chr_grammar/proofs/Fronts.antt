@@ -1,5 +1,5 @@
 -- What is read at the front is well formed and stands there; what is read by commas is spelled so.
-use Rattle.std.proofs.Common.{◌≡◌, ◌≤◌, ◌<◌, ℕ, zero, suc, List, [], ◌∷◌, ◌++◌, length, drop, refl, sym, ap, ◌∙◌, arith, Result, Ok, Err, append_assoc, length-append}
+use Rattle.std.proofs.Common.{◌≡◌, ◌≤◌, ◌<◌, ℕ, zero, suc, List, [], ◌∷◌, ◌++◌, length, drop, refl, sym, ap, subst, ◌∙◌, arith, Option, Some, None, Result, Ok, Err, append_assoc, length-append}
 use Rattle.std.specs.List.{AllByRecursion}
 use Rattle.std.proofs.lemmas.Bool.{cond_both}
 use Rattle.std.proofs.lemmas.List.{append-nil}
@@ -8,14 +8,30 @@ use Rattle.chr_lex.specs.declared.fault.Kind.TheVariants.{Syntax}
 use Rattle.chr_lex.specs.declared.mark.Mark.TheVariants.{Comma}
 use Rattle.chr_lex.specs.Reading.{◌>>=◌}
 use Rattle.chr_lex.specs.Tokens.{Lexeme, OfMark}
-use Rattle.chr_grammar.specs.Parsing.{Front, is_comma, NoComma, behind, members_at, several_at, alone, each_by_commas}
+use Rattle.chr_grammar.specs.Parsing.{Front, either, is_comma, NoComma, behind, members_at, several_at, alone, each_by_commas}
 use Rattle.chr_grammar.specs.Spelling.{by_commas, AreByCommas}
 use Rattle.chr_grammar.proofs.Lists.{behind_last}
 use Rattle.chr_grammar.proofs.Signs.{comma_is}
 
+-- what is read is so, or the fault is a fault of syntax
+abbrev pub IfRead : {A : Type 0} → (A → Type 0) → Result A Kind → Type 0
+IfRead P (Ok x) = P x
+IfRead P (Err k) = k ≡ Syntax
+
+pub then_read : {A B : Type 0} (P : A → Type 0) (Q : B → Type 0) (read : Result A Kind) (f : A → Result B Kind) → IfRead P read → ((x : A) → P x → IfRead Q (f x)) → IfRead Q (read >>= f)
+then_read P Q (Ok x) f h go = go x h
+then_read P Q (Err k) f h go = h
+
+pub also_read : {A : Type 0} (P Q : A → Type 0) (read : Result A Kind) → IfRead P read → ((x : A) → P x → Q x) → IfRead Q read
+also_read P Q (Ok x) h go = go x h
+also_read P Q (Err k) h go = h
+
+pub either_both : {A B : Type 0} (o : Option A) (x : B) (f : A → B) (P : B → Type 0) → P x → ((a : A) → o ≡ Some a → P (f a)) → P (either o x f)
+either_both None x f P h go = h
+either_both (Some a) x f P h go = go a refl
+
 abbrev pub FrontRead : {A : Type 0} → (A → Type 0) → (A → List Lexeme) → List Lexeme → Front A → Type 0
-FrontRead Stands spelled ts (Ok x) = Stands x.0 × (ts ≡ spelled x.0 ++ x.1)
-FrontRead Stands spelled ts (Err k) = k ≡ Syntax
+FrontRead {A} Stands spelled ts = IfRead (λ (x : A × List Lexeme). Stands x.0 × (ts ≡ spelled x.0 ++ x.1))
 
 -- members by commas at the front, at least one, each of them well formed
 pub record AreSeveral {A : Type 0} (Stands : A → Type 0) (spelled : A → List Lexeme) (ts : List Lexeme) (xs : List A) (rest : List Lexeme) : Type 0 where
@@ -24,63 +40,10 @@ pub record AreSeveral {A : Type 0} (Stands : A → Type 0) (spelled : A → List
   pub written : ts ≡ by_commas spelled xs ++ rest
 
 abbrev pub SeveralRead : {A : Type 0} → (A → Type 0) → (A → List Lexeme) → List Lexeme → Front (List A) → Type 0
-SeveralRead Stands spelled ts (Ok x) = AreSeveral Stands spelled ts x.0 x.1
-SeveralRead Stands spelled ts (Err k) = k ≡ Syntax
+SeveralRead {A} Stands spelled ts = IfRead (λ (x : List A × List Lexeme). AreSeveral Stands spelled ts x.0 x.1)
 
 abbrev pub ListRead : {A : Type 0} → (A → Type 0) → (A → List Lexeme) → List Lexeme → Result (List A) Kind → Type 0
-ListRead Stands spelled ts (Ok xs) = AreByCommas Stands spelled ts xs
-ListRead Stands spelled ts (Err k) = k ≡ Syntax
-
--- ---- what is read is spelled so
-
-longer : {A : Type 0} (Stands : A → Type 0) (spelled : A → List Lexeme) (a : A) (ts r : List Lexeme) (xs : List A) (rest : List Lexeme) → Stands a → ts ≡ spelled a ++ (OfMark Comma ∷ r) → AreSeveral Stands spelled r xs rest → AreSeveral Stands spelled ts (a ∷ xs) rest
-longer Stands spelled a ts r [] rest stands is h = absurd (omega (arith, h.some))
-longer Stands spelled a ts r (b ∷ bs) rest stands is h = record {
-  some = omega arith;
-  each = (stands, h.each);
-  written = is ∙ ap (λ (x : List Lexeme). spelled a ++ (OfMark Comma ∷ x)) h.written ∙ sym (append_assoc (spelled a) (OfMark Comma ∷ by_commas spelled (b ∷ bs)) rest);
-}
-
-others_read : {A : Type 0} (Stands : A → Type 0) (spelled : A → List Lexeme) (a : A) (ts r : List Lexeme) (read : Front (List A)) → Stands a → ts ≡ spelled a ++ (OfMark Comma ∷ r) → SeveralRead Stands spelled r read
-    → SeveralRead Stands spelled ts (read >>= λ x. Ok (a ∷ x.0, x.1))
-others_read Stands spelled a ts r (Ok x) stands is h = longer Stands spelled a ts r x.0 x.1 stands is h
-others_read Stands spelled a ts r (Err k) stands is h = h
-
-one_read : {A : Type 0} (Stands : A → Type 0) (spelled : A → List Lexeme) (a : A) (ts r : List Lexeme) → Stands a → ts ≡ spelled a ++ r → AreSeveral Stands spelled ts (a ∷ []) r
-one_read Stands spelled a ts r stands is = record { some = omega arith; each = (stands, tt); written = is }
-
-behind_read : {A : Type 0} (Stands : A → Type 0) (spelled : A → List Lexeme) (member : List Lexeme → Front A) (n : ℕ) (a : A) (ts r : List Lexeme) → Stands a → ts ≡ spelled a ++ r
-    → ((ts : List Lexeme) → SeveralRead Stands spelled ts (members_at member n ts)) → SeveralRead Stands spelled ts (behind a r (members_at member n (drop 1 r)))
-behind_read Stands spelled member n a ts [] stands is found = one_read Stands spelled a ts [] stands is
-behind_read Stands spelled member n a ts (s ∷ r) stands is found =
-    cond_both (is_comma s) _ _ (SeveralRead Stands spelled ts)
-    (λ h. others_read Stands spelled a ts r (members_at member n r) stands (is ∙ ap (λ (s : Lexeme). spelled a ++ (s ∷ r)) (comma_is s h)) (found r))
-    (λ h. one_read Stands spelled a ts (s ∷ r) stands is)
-
-first_read : {A : Type 0} (Stands : A → Type 0) (spelled : A → List Lexeme) (member : List Lexeme → Front A) (n : ℕ) (ts : List Lexeme) (read : Front A) → FrontRead Stands spelled ts read
-    → ((ts : List Lexeme) → SeveralRead Stands spelled ts (members_at member n ts)) → SeveralRead Stands spelled ts (read >>= λ a. behind a.0 a.1 (members_at member n (drop 1 a.1)))
-first_read Stands spelled member n ts (Ok x) h found = behind_read Stands spelled member n x.0 ts x.1 h.0 h.1 found
-first_read Stands spelled member n ts (Err k) h found = h
-
-members_found : {A : Type 0} (Stands : A → Type 0) (spelled : A → List Lexeme) (member : List Lexeme → Front A) → ((ts : List Lexeme) → FrontRead Stands spelled ts (member ts)) → (n : ℕ) (ts : List Lexeme) → SeveralRead Stands spelled ts (members_at member n ts)
-members_found Stands spelled member each zero ts = refl
-members_found Stands spelled member each (suc n) ts = first_read Stands spelled member n ts (member ts) (each ts) (members_found Stands spelled member each n)
-
-pub several_found : {A : Type 0} (Stands : A → Type 0) (spelled : A → List Lexeme) (member : List Lexeme → Front A) → ((ts : List Lexeme) → FrontRead Stands spelled ts (member ts)) → (ts : List Lexeme) → SeveralRead Stands spelled ts (several_at member ts)
-several_found Stands spelled member each ts = members_found Stands spelled member each (length ts) ts
-
-alone_found : {A : Type 0} (Stands : A → Type 0) (spelled : A → List Lexeme) (ts : List Lexeme) (xs : List A) (rest : List Lexeme) → AreSeveral Stands spelled ts xs rest → ListRead Stands spelled ts (alone xs rest)
-alone_found Stands spelled ts xs [] h = record { some = h.some; each = h.each; written = h.written ∙ append-nil (by_commas spelled xs) }
-alone_found Stands spelled ts xs (s ∷ rest) h = refl
-
-alone_read : {A : Type 0} (Stands : A → Type 0) (spelled : A → List Lexeme) (ts : List Lexeme) (read : Front (List A)) → SeveralRead Stands spelled ts read → ListRead Stands spelled ts (read >>= λ x. alone x.0 x.1)
-alone_read Stands spelled ts (Ok x) h = alone_found Stands spelled ts x.0 x.1 h
-alone_read Stands spelled ts (Err k) h = h
-
-pub list_found : {A : Type 0} (Stands : A → Type 0) (spelled : A → List Lexeme) (member : List Lexeme → Front A) → ((ts : List Lexeme) → FrontRead Stands spelled ts (member ts)) → (ts : List Lexeme) → ListRead Stands spelled ts (each_by_commas member ts)
-list_found Stands spelled member each ts = alone_read Stands spelled ts (several_at member ts) (several_found Stands spelled member each ts)
-
--- ---- what is spelled so is read
+ListRead Stands spelled ts = IfRead (AreByCommas Stands spelled ts)
 
 -- what is spelled so is read before what stops it
 abbrev pub AgainBefore : {A : Type 0} → (List Lexeme → Type 0) → (A → Type 0) → (A → List Lexeme) → (List Lexeme → Front A) → Type 0
@@ -94,38 +57,72 @@ Ends (s ∷ ts) = s ≡ OfMark Comma
 abbrev pub Again : {A : Type 0} → (A → Type 0) → (A → List Lexeme) → (List Lexeme → Front A) → Type 0
 Again = AgainBefore Ends
 
-members_again : {A : Type 0} (Stops : List Lexeme → Type 0) (Stands : A → Type 0) (spelled : A → List Lexeme) (member : List Lexeme → Front A) → AgainBefore Stops Stands spelled member → ((ts : List Lexeme) → Stops (OfMark Comma ∷ ts))
-    → (n : ℕ) (x : A) (xs : List A) (rest : List Lexeme) → length (x ∷ xs) ≤ n → AllByRecursion Stands (x ∷ xs) → Stops rest → NoComma rest → members_at member n (by_commas spelled (x ∷ xs) ++ rest) ≡ Ok (x ∷ xs, rest)
-members_again Stops Stands spelled member again comma zero x xs rest le each stops none = absurd (omega arith)
-members_again Stops Stands spelled member again comma (suc n) x [] rest le each stops none =
-    let one : member (spelled x ++ rest) ≡ Ok (x, rest) = again x rest each.0 stops in
-    rw one (behind_last x rest (members_at member n (drop 1 rest)) none)
-members_again Stops Stands spelled member again comma (suc n) x (y ∷ xs) rest le each stops none =
-    let others = by_commas spelled (y ∷ xs) ++ rest in
-    let split : by_commas spelled (x ∷ y ∷ xs) ++ rest ≡ spelled x ++ (OfMark Comma ∷ others) = append_assoc (spelled x) (OfMark Comma ∷ by_commas spelled (y ∷ xs)) rest in
-    let one : member (spelled x ++ (OfMark Comma ∷ others)) ≡ Ok (x, OfMark Comma ∷ others) = again x (OfMark Comma ∷ others) each.0 (comma others) in
-    let two : members_at member n others ≡ Ok (y ∷ xs, rest) = members_again Stops Stands spelled member again comma n y xs rest (omega arith) each.1 stops none in
-    ap (members_at member (suc n)) split ∙ rw (one, two) refl
+-- ---- what is read is spelled so
 
-pub several_again : {A : Type 0} (Stops : List Lexeme → Type 0) (Stands : A → Type 0) (spelled : A → List Lexeme) (member : List Lexeme → Front A) → AgainBefore Stops Stands spelled member → ((ts : List Lexeme) → Stops (OfMark Comma ∷ ts))
-    → (xs : List A) (rest : List Lexeme) → 0 < length xs → length xs ≤ length (by_commas spelled xs) → AllByRecursion Stands xs → Stops rest → NoComma rest → several_at member (by_commas spelled xs ++ rest) ≡ Ok (xs, rest)
-several_again Stops Stands spelled member again comma [] rest lt few each stops none = absurd (omega (arith, lt))
-several_again Stops Stands spelled member again comma (x ∷ xs) rest lt few each stops none =
-    let all = length (by_commas spelled (x ∷ xs) ++ rest) in
-    members_again Stops Stands spelled member again comma all x xs rest (omega (arith, few, length-append (by_commas spelled (x ∷ xs)) rest)) each stops none
+module _ {A : Type 0} (Stands : A → Type 0) (spelled : A → List Lexeme) (member : List Lexeme → Front A) (each : (ts : List Lexeme) → FrontRead Stands spelled ts (member ts)) where
+  longer : (a : A) (ts r : List Lexeme) (xs : List A) (rest : List Lexeme) → Stands a → ts ≡ spelled a ++ (OfMark Comma ∷ r) → AreSeveral Stands spelled r xs rest → AreSeveral Stands spelled ts (a ∷ xs) rest
+  longer a ts r [] rest stands is h = absurd (omega (arith, h.some))
+  longer a ts r (b ∷ bs) rest stands is h = record {
+    some = omega arith;
+    each = (stands, h.each);
+    written = is ∙ ap (λ (x : List Lexeme). spelled a ++ (OfMark Comma ∷ x)) h.written ∙ sym (append_assoc (spelled a) (OfMark Comma ∷ by_commas spelled (b ∷ bs)) rest);
+  }
 
-pub no_more : {A : Type 0} (spelled : A → List Lexeme) → ((x : A) → 0 < length (spelled x)) → (xs : List A) → length xs ≤ length (by_commas spelled xs)
-no_more spelled some [] = omega arith
-no_more spelled some (x ∷ []) = let h = some x in omega (arith, h)
-no_more spelled some (x ∷ y ∷ xs) = let h = no_more spelled some (y ∷ xs) in omega (arith, h, length-append (spelled x) (OfMark Comma ∷ by_commas spelled (y ∷ xs)))
+  behind_read : (n : ℕ) (a : A) (ts r : List Lexeme) → Stands a → ts ≡ spelled a ++ r → ((ts : List Lexeme) → SeveralRead Stands spelled ts (members_at member n ts))
+      → SeveralRead Stands spelled ts (behind a r (members_at member n (drop 1 r)))
+  behind_read n a ts [] stands is found = record { some = omega arith; each = (stands, tt); written = is }
+  behind_read n a ts (s ∷ r) stands is found =
+      cond_both (is_comma s) _ _ (SeveralRead Stands spelled ts)
+      (λ h. then_read _ _ (members_at member n r) _ (found r) (λ x k. longer a ts r x.0 x.1 stands (is ∙ ap (λ (s : Lexeme). spelled a ++ (s ∷ r)) (comma_is s h)) k))
+      (λ h. record { some = omega arith; each = (stands, tt); written = is })
 
-pub list_again : {A : Type 0} (Stands : A → Type 0) (spelled : A → List Lexeme) (member : List Lexeme → Front A) → Again Stands spelled member → ((x : A) → 0 < length (spelled x))
-    → (xs : List A) → 0 < length xs → AllByRecursion Stands xs → each_by_commas member (by_commas spelled xs) ≡ Ok xs
-list_again Stands spelled member again some xs lt each =
-    let whole = by_commas spelled xs in
-    let all : several_at member (whole ++ []) ≡ Ok (xs, []) = several_again Ends Stands spelled member again (λ ts. refl) xs [] lt (no_more spelled some xs) each tt tt in
-    ap (each_by_commas member) (sym (append-nil whole)) ∙ rw all refl
+  members_found : (n : ℕ) (ts : List Lexeme) → SeveralRead Stands spelled ts (members_at member n ts)
+  members_found zero ts = refl
+  members_found (suc n) ts = then_read _ _ (member ts) _ (each ts) (λ x h. behind_read n x.0 ts x.1 h.0 h.1 (members_found n))
 
-pub list_read : {A : Type 0} (Stands : A → Type 0) (spelled : A → List Lexeme) (member : List Lexeme → Front A) → Again Stands spelled member → ((x : A) → 0 < length (spelled x))
-    → (ts : List Lexeme) (xs : List A) → AreByCommas Stands spelled ts xs → each_by_commas member ts ≡ Ok xs
-list_read Stands spelled member again some ts xs h = ap (each_by_commas member) h.written ∙ list_again Stands spelled member again some xs h.some h.each
+  pub several_found : (ts : List Lexeme) → SeveralRead Stands spelled ts (several_at member ts)
+  several_found ts = members_found (length ts) ts
+
+  alone_found : (ts : List Lexeme) (xs : List A) (rest : List Lexeme) → AreSeveral Stands spelled ts xs rest → ListRead Stands spelled ts (alone xs rest)
+  alone_found ts xs [] h = record { some = h.some; each = h.each; written = h.written ∙ append-nil (by_commas spelled xs) }
+  alone_found ts xs (s ∷ rest) h = refl
+
+  pub list_found : (ts : List Lexeme) → ListRead Stands spelled ts (each_by_commas member ts)
+  list_found ts = then_read _ _ (several_at member ts) _ (several_found ts) (λ x h. alone_found ts x.0 x.1 h)
+
+  pub list_says : (ts : List Lexeme) (xs : List A) → each_by_commas member ts ≡ Ok xs → AreByCommas Stands spelled ts xs
+  list_says ts xs h = subst (ListRead Stands spelled ts) h (list_found ts)
+
+-- ---- what is spelled so is read
+
+module _ {A : Type 0} (Stops : List Lexeme → Type 0) (Stands : A → Type 0) (spelled : A → List Lexeme) (member : List Lexeme → Front A) (again : AgainBefore Stops Stands spelled member) (comma : (ts : List Lexeme) → Stops (OfMark Comma ∷ ts)) where
+  members_again : (n : ℕ) (x : A) (xs : List A) (rest : List Lexeme) → length (x ∷ xs) ≤ n → AllByRecursion Stands (x ∷ xs) → Stops rest → NoComma rest → members_at member n (by_commas spelled (x ∷ xs) ++ rest) ≡ Ok (x ∷ xs, rest)
+  members_again zero x xs rest le each stops none = absurd (omega arith)
+  members_again (suc n) x [] rest le each stops none =
+      let one : member (spelled x ++ rest) ≡ Ok (x, rest) = again x rest each.0 stops in
+      rw one (behind_last x rest (members_at member n (drop 1 rest)) none)
+  members_again (suc n) x (y ∷ xs) rest le each stops none =
+      let others = by_commas spelled (y ∷ xs) ++ rest in
+      let one : member (spelled x ++ (OfMark Comma ∷ others)) ≡ Ok (x, OfMark Comma ∷ others) = again x (OfMark Comma ∷ others) each.0 (comma others) in
+      let two : members_at member n others ≡ Ok (y ∷ xs, rest) = members_again n y xs rest (omega arith) each.1 stops none in
+      ap (members_at member (suc n)) (append_assoc (spelled x) (OfMark Comma ∷ by_commas spelled (y ∷ xs)) rest) ∙ rw (one, two) refl
+
+  pub several_again : (xs : List A) (rest : List Lexeme) → 0 < length xs → length xs ≤ length (by_commas spelled xs) → AllByRecursion Stands xs → Stops rest → NoComma rest → several_at member (by_commas spelled xs ++ rest) ≡ Ok (xs, rest)
+  several_again [] rest lt few each stops none = absurd (omega (arith, lt))
+  several_again (x ∷ xs) rest lt few each stops none = members_again _ x xs rest (omega (arith, few, length-append (by_commas spelled (x ∷ xs)) rest)) each stops none
+
+module _ {A : Type 0} (Stands : A → Type 0) (spelled : A → List Lexeme) (some : (x : A) → Stands x → 0 < length (spelled x)) where
+  pub no_more : (xs : List A) → AllByRecursion Stands xs → length xs ≤ length (by_commas spelled xs)
+  no_more [] each = omega arith
+  no_more (x ∷ []) each = let h = some x each.0 in omega (arith, h)
+  no_more (x ∷ y ∷ xs) each = let h = no_more (y ∷ xs) each.1 in omega (arith, h, length-append (spelled x) (OfMark Comma ∷ by_commas spelled (y ∷ xs)))
+
+  pub list_read : (member : List Lexeme → Front A) → Again Stands spelled member → (ts : List Lexeme) (xs : List A) → AreByCommas Stands spelled ts xs → each_by_commas member ts ≡ Ok xs
+  list_read member again ts xs h =
+      let whole = by_commas spelled xs in
+      let all : several_at member (whole ++ []) ≡ Ok (xs, []) = several_again Ends Stands spelled member again (λ ts. refl) xs [] h.some (no_more xs h.each) h.each tt tt in
+      ap (each_by_commas member) (h.written ∙ sym (append-nil whole)) ∙ rw all refl
+
+  pub list_refused : (member : List Lexeme → Front A) → ((ts : List Lexeme) → FrontRead Stands spelled ts (member ts)) → Again Stands spelled member
+      → (ts : List Lexeme) (k : Kind) → each_by_commas member ts ≡ Err k → (k ≡ Syntax) × ((xs : List A) → AreByCommas Stands spelled ts xs → ⊥)
+  list_refused member found again ts k h = (subst (ListRead Stands spelled ts) h (list_found Stands spelled member found ts), λ xs a. let x = list_read member again ts xs a in cc)

@@ -6,11 +6,8 @@ pub mod Nodes
 pub mod Phrases
 pub mod Expressions
 pub mod Formulas
-pub mod Formulas_again
-pub mod Members
 pub mod Declarations
 pub mod Members_again
-pub mod Lists_again
 pub mod Cuts
 pub mod Statements
 pub mod Statements_again

@@ -1,50 +1,142 @@
--- What is spelled as a member of a guard or of a body, or as a declaration, is read.
-use Rattle.std.proofs.Common.{◌≡◌, ◌<◌, ℕ, Bool, true, false, List, [], ◌∷◌, ◌++◌, length, length-append, refl, sym, ap, subst, ◌∙◌, arith, append_assoc, Some, None, Ok}
+-- What is read as a member of a guard or of a body is spelled so, and what is spelled so is read.
+use Rattle.std.proofs.Common.{◌≡◌, ℕ, Bool, true, false, List, [], ◌∷◌, ◌++◌, refl, sym, ap, subst, ◌∙◌, append_assoc, Option, Some, None, Ok, Err, ◌<◌, length, length-append, arith}
 use Rattle.std.specs.Prelude.{codes, ◌||◌}
+use Rattle.std.proofs.lemmas.Bool.{cond_both}
+use Rattle.std.proofs.lemmas.Slice.Eq.{bytes_eq-Decides}
+use Rattle.chr_lex.specs.declared.mark.Mark.TheVariants as mark
+use Rattle.chr_lex.specs.Tokens as word
+use Rattle.chr_lex.specs.Tokens.{Lexeme, OfWord, OfMark, Word}
+use Rattle.chr_rule.specs.declared.expression.Relation.{Relation}
+use Rattle.chr_rule.specs.declared.expression.Relation.TheVariants as relation
+use Rattle.chr_grammar.specs.Parsed.{ParsedExpression, ParsedTerm, GuardMember, BodyMember, Number, Variable, Group, Operation, Always, Compared, Same, Differ, Nothing, Is, Add, Declared}
+use Rattle.chr_grammar.specs.Parsing as parsing
+use Rattle.chr_grammar.specs.Parsing.{Front, is_true, is_is, is_open, either, equality, equal, relation_at, compared_at, other_side_at, sides_at, test_by, plain_test_at, test_at, term_at, added_at, is_member_at, last_member_at, member_at, phrase_at, expression_at, is_named, named, sum_operator, product_operator, declared_at}
+use Rattle.chr_grammar.specs.Spelling.{term_spelled, IsParsedTerm, formula_spelled, test_spelled, member_spelled, relation_sign, true_word, IsExpression, IsGuardMember, IsBodyMember, declared_spelled, operator_sign, arguments, IsUnreserved}
+use Rattle.chr_grammar.proofs.Fronts.{then_read, either_both, FrontRead, Again, Ends}
+use Rattle.chr_grammar.proofs.Formulas.{expression_found, NoOperator, expression_again}
+use Rattle.chr_grammar.proofs.Terms.{TermRead, term_found, Shut, term_again}
+use Rattle.chr_grammar.proofs.Phrases.{phrase_found, phrase_again}
 use Rattle.std.specs.List.{AllByRecursion}
 use Rattle.std.specs.Str.{bytes_eq}
 use Rattle.chr_value.proofs.Texts.{neither}
 use Rattle.chr_value.specs.Spelling.{is_reserved}
-use Rattle.chr_lex.specs.declared.mark.Mark.TheVariants as mark
 use Rattle.chr_lex.specs.declared.mark.Mark.TheVariants.{Comma}
-use Rattle.chr_lex.specs.Tokens as word
-use Rattle.chr_lex.specs.Tokens.{Word, Lexeme, OfWord, OfMark}
 use Rattle.chr_rule.specs.declared.expression.Operator.{Operator}
 use Rattle.chr_rule.specs.declared.expression.Operator.TheVariants as operator
-use Rattle.chr_rule.specs.declared.expression.Relation.{Relation}
-use Rattle.chr_rule.specs.declared.expression.Relation.TheVariants as relation
-use Rattle.chr_grammar.specs.Parsed.{ParsedExpression, Number, Variable, Group, Operation, ParsedTerm, GuardMember, Always, Compared, Same, Differ, BodyMember, Nothing, Is, Add, Declared}
-use Rattle.chr_grammar.specs.Parsing as parsing
-use Rattle.chr_grammar.specs.Parsing.{is_true, is_named, named, equality, equal, sum_operator, product_operator, compared_at, plain_test_at, other_side_at, sides_at, test_by, test_at, term_at, added_at, member_at, declared_at, phrase_at, expression_at}
-use Rattle.chr_grammar.specs.Spelling.{term_spelled, IsParsedTerm, formula_spelled, test_spelled, member_spelled, declared_spelled, operator_sign, relation_sign, arguments, IsUnreserved, IsExpression, IsGuardMember, IsBodyMember}
-use Rattle.chr_grammar.proofs.Fronts.{Again, Ends}
-use Rattle.chr_grammar.proofs.Terms.{Shut, term_again}
-use Rattle.chr_grammar.proofs.Phrases.{phrase_again}
 use Rattle.chr_grammar.proofs.Declarations.{AnyDeclared}
-use Rattle.chr_grammar.proofs.Formulas_again.{NoOperator, expression_again}
+
+abbrev pub TestRead : List Lexeme → Front GuardMember → Type 0
+TestRead = FrontRead IsGuardMember test_spelled
+
+pub true_is : (s : Lexeme) → is_true s ≡ true → s ≡ true_word
+true_is (OfWord (word.Name w)) h = ap (λ (w : List ℕ). OfWord (word.Name w)) ((bytes_eq-Decides w (codes "true")).0 h)
+true_is _ h = absurd cc
+
+-- the sign of what was read, or the token itself
+abbrev sign_or : {A : Type 0} → (A → Lexeme) → Lexeme → Option A → Lexeme
+sign_or sign s None = s
+sign_or sign s (Some a) = sign a
+
+relation_is : (s : Lexeme) (r : Relation) → parsing.relation s ≡ Some r → s ≡ relation_sign r
+relation_is (OfMark mark.Less) r h = ap (sign_or relation_sign (OfMark mark.Less)) h
+relation_is s r h = ap (sign_or relation_sign s) h
+
+-- the sign of `==` or `\==`
+abbrev equality_sign : Bool → Lexeme
+equality_sign true = OfMark mark.Equals
+equality_sign false = OfMark mark.Differs
+
+equality_is : (s : Lexeme) (b : Bool) → equality s ≡ Some b → s ≡ equality_sign b
+equality_is (OfMark mark.Equals) b h = ap (sign_or equality_sign (OfMark mark.Equals)) h
+equality_is s b h = ap (sign_or equality_sign s) h
+
+relation_found : (ts r : List Lexeme) (f : ParsedExpression) → IsExpression f → ts ≡ formula_spelled f ++ r → TestRead ts (relation_at f r)
+relation_found ts [] f stands at = refl
+relation_found ts (s ∷ us) f stands at =
+    either_both (parsing.relation s) _ _ (TestRead ts) refl
+    (λ r is. then_read _ _ (expression_at us) _ (expression_found us) (λ x h.
+    let there : ts ≡ formula_spelled f ++ (relation_sign r ∷ (formula_spelled x.0 ++ x.1)) = at ∙ ap (λ (s : Lexeme). formula_spelled f ++ (s ∷ us)) (relation_is s r is) ∙ ap (λ (y : List Lexeme). formula_spelled f ++ (relation_sign r ∷ y)) h.1 in
+    ((stands, h.0), there ∙ sym (append_assoc (formula_spelled f) (relation_sign r ∷ formula_spelled x.0) x.1))))
+
+compared_found : (ts : List Lexeme) → TestRead ts (compared_at ts)
+compared_found ts = then_read _ _ (expression_at ts) _ (expression_found ts) (λ x h. relation_found ts x.1 x.0 h.0 h.1)
+
+plain_test_found : (ts : List Lexeme) → TestRead ts (plain_test_at ts)
+plain_test_found [] = compared_found []
+plain_test_found (s ∷ ts) =
+    cond_both (is_true s) _ _ (TestRead (s ∷ ts)) (λ h. (tt, ap (λ (s : Lexeme). s ∷ ts) (true_is s h))) (λ h. compared_found (s ∷ ts))
+
+equal_is : (same : Bool) (t u : ParsedTerm) → IsParsedTerm t → IsParsedTerm u → IsGuardMember (equal same t u) × (test_spelled (equal same t u) ≡ term_spelled t ++ equality_sign same ∷ term_spelled u)
+equal_is true t u left right = ((left, right), refl)
+equal_is false t u left right = ((left, right), refl)
+
+other_side_found : (same : Bool) (t : ParsedTerm) (ts us : List Lexeme) → IsParsedTerm t → ts ≡ term_spelled t ++ (equality_sign same ∷ us) → TestRead ts (other_side_at same t us)
+other_side_found same t ts us stands at =
+    then_read _ _ (term_at us) _ (term_found us) (λ x h.
+    let is = equal_is same t x.0 stands h.0 in
+    let there : ts ≡ term_spelled t ++ (equality_sign same ∷ (term_spelled x.0 ++ x.1)) = at ∙ ap (λ (y : List Lexeme). term_spelled t ++ (equality_sign same ∷ y)) h.1 in
+    (is.0, there ∙ sym (append_assoc (term_spelled t) (equality_sign same ∷ term_spelled x.0) x.1) ∙ ap (λ (y : List Lexeme). y ++ x.1) (sym is.1)))
+
+sides_found : (ts : List Lexeme) (t : ParsedTerm) (us : List Lexeme) → IsParsedTerm t → ts ≡ term_spelled t ++ us → TestRead ts (sides_at ts t us)
+sides_found ts t [] stands at = plain_test_found ts
+sides_found ts t (e ∷ us) stands at =
+    either_both (equality e) _ _ (TestRead ts) (plain_test_found ts)
+    (λ same is. other_side_found same t ts us stands (at ∙ ap (λ (e : Lexeme). term_spelled t ++ (e ∷ us)) (equality_is e same is)))
+
+by_found : (ts : List Lexeme) (read : Front ParsedTerm) → TermRead ts read → TestRead ts (test_by ts read)
+by_found ts (Ok x) h = sides_found ts x.0 x.1 h.0 h.1
+by_found ts (Err k) h = plain_test_found ts
+
+pub test_found : (ts : List Lexeme) → TestRead ts (test_at ts)
+test_found ts = by_found ts (term_at ts) (term_found ts)
+
+-- ---- bodies
+
+abbrev pub MemberRead : List Lexeme → Front BodyMember → Type 0
+MemberRead = FrontRead IsBodyMember member_spelled
+
+added_found : (ts : List Lexeme) → MemberRead ts (added_at ts)
+added_found ts = then_read _ _ (phrase_at ts) _ (phrase_found ts) (λ x h. h)
+
+last_member_found : (ts : List Lexeme) → MemberRead ts (last_member_at ts)
+last_member_found [] = refl
+last_member_found (s ∷ ts) =
+    cond_both (is_true s) _ _ (MemberRead (s ∷ ts)) (λ h. (tt, ap (λ (s : Lexeme). s ∷ ts) (true_is s h))) (λ h. added_found (s ∷ ts))
+
+is_is_is : (s : Lexeme) → is_is s ≡ true → s ≡ OfMark mark.Is
+is_is_is (OfMark mark.Is) h = refl
+is_is_is _ h = absurd cc
+
+is_member_found : (s : Lexeme) (ts : List Lexeme) → MemberRead (s ∷ OfMark mark.Is ∷ ts) (is_member_at s ts)
+is_member_found (OfWord (word.Variable x)) ts =
+    then_read _ _ (expression_at ts) _ (expression_found ts) (λ e h. (h.0, ap (λ (y : List Lexeme). OfWord (word.Variable x) ∷ OfMark mark.Is ∷ y) h.1))
+is_member_found _ ts = refl
+
+pub member_found : (ts : List Lexeme) → MemberRead ts (member_at ts)
+member_found (s ∷ e ∷ ts) =
+    cond_both (is_is e) _ _ (MemberRead (s ∷ e ∷ ts))
+    (λ h. subst (λ (e : Lexeme). MemberRead (s ∷ e ∷ ts) (is_member_at s ts)) (sym (is_is_is e h)) (is_member_found s ts))
+    (λ h. cond_both (is_open e) _ _ (MemberRead (s ∷ e ∷ ts)) (λ h. added_found (s ∷ e ∷ ts)) (λ h. last_member_found (s ∷ e ∷ ts)))
+member_found ts = last_member_found ts
+
+-- ---- what is spelled so is read
 
 pub all_append : {A : Type 0} (P : A → Type 0) (xs ys : List A) → AllByRecursion P xs → AllByRecursion P ys → AllByRecursion P (xs ++ ys)
 all_append P [] ys a b = b
 all_append P (x ∷ xs) ys a b = (a.0, all_append P xs ys a.1 b)
 
 pub formula_some : (f : ParsedExpression) → 0 < length (formula_spelled f)
-formula_some (Number negative digits) = omega arith
-formula_some (Variable x) = omega arith
-formula_some (Group f) = omega arith
 formula_some (Operation o f g) = omega (arith, length-append (formula_spelled f) (operator_sign o ∷ formula_spelled g))
+formula_some _ = omega arith
 
 -- ---- expressions before something else
 
-ends_product : (rest : List Lexeme) → Ends rest → NoOperator product_operator rest
-ends_product [] h = tt
-ends_product (s ∷ ts) h = rw h refl
-
-ends_sum : (rest : List Lexeme) → Ends rest → NoOperator sum_operator rest
-ends_sum [] h = tt
-ends_sum (s ∷ ts) h = rw h refl
+ends_each : (rest : List Lexeme) → Ends rest → NoOperator product_operator rest × NoOperator sum_operator rest × Shut rest
+ends_each [] h = (tt, tt, tt)
+ends_each (s ∷ ts) h = (rw h refl, rw h refl, rw h refl)
 
 last_expression : (f : ParsedExpression) (rest : List Lexeme) → IsExpression f → Ends rest → expression_at (formula_spelled f ++ rest) ≡ Ok (f, rest)
-last_expression f rest stands ends = expression_again f rest stands (ends_product rest ends) (ends_sum rest ends)
+last_expression f rest stands ends = expression_again f rest stands (ends_each rest ends).0 (ends_each rest ends).1
 
 -- ---- a comparison is no equality, and has no names
 
@@ -54,19 +146,11 @@ Compares s = (equality s ≡ None) × (named s ≡ None)
 -- a comparison is read as itself, and as no operator
 relation_reads : (r : Relation) → Compares (relation_sign r) × (parsing.relation (relation_sign r) ≡ Some r) × (product_operator (relation_sign r) ≡ None) × (sum_operator (relation_sign r) ≡ None)
 relation_reads relation.Less = ((refl, refl), refl, refl, refl)
-relation_reads relation.LessEqual = ((refl, refl), refl, refl, refl)
-relation_reads relation.Greater = ((refl, refl), refl, refl, refl)
-relation_reads relation.GreaterEqual = ((refl, refl), refl, refl, refl)
-relation_reads relation.Equal = ((refl, refl), refl, refl, refl)
-relation_reads relation.Unequal = ((refl, refl), refl, refl, refl)
+relation_reads _ = ((refl, refl), refl, refl, refl)
 
 operator_compares : (o : Operator) → Compares (operator_sign o)
 operator_compares operator.Add = (refl, refl)
-operator_compares operator.Sub = (refl, refl)
-operator_compares operator.Mul = (refl, refl)
-operator_compares operator.Quot = (refl, refl)
-operator_compares operator.Rem = (refl, refl)
-operator_compares operator.Mod = (refl, refl)
+operator_compares _ = (refl, refl)
 
 formula_compares : (f : ParsedExpression) → AllByRecursion Compares (formula_spelled f)
 formula_compares (Number negative digits) = ((refl, refl), tt)
@@ -74,30 +158,16 @@ formula_compares (Variable x) = ((refl, refl), tt)
 formula_compares (Group f) = ((refl, refl), all_append Compares (formula_spelled f) (OfMark mark.Close ∷ []) (formula_compares f) ((refl, refl), tt))
 formula_compares (Operation o f g) = all_append Compares (formula_spelled f) (operator_sign o ∷ formula_spelled g) (formula_compares f) (operator_compares o, formula_compares g)
 
--- a variable or a number is a term of its own
-one_word : (w : Word) (s : Lexeme) (ts : List Lexeme) → named (OfWord w) ≡ None → term_at (OfWord w ∷ s ∷ ts) ≡ Ok (record { depth = 0; word = w } ∷ [], s ∷ ts)
-one_word (word.Name x) s ts h = absurd cc
-one_word (word.Variable x) s ts h = refl
-one_word (word.Number negative digits) s ts h = refl
-
-no_sides : (us : List Lexeme) (w : Word) (s : Lexeme) (ts : List Lexeme) → us ≡ OfWord w ∷ s ∷ ts → named (OfWord w) ≡ None → equality s ≡ None → test_at us ≡ plain_test_at us
-no_sides us w s ts is none other =
-    let read : term_at us ≡ Ok (record { depth = 0; word = w } ∷ [], s ∷ ts) = ap term_at is ∙ one_word w s ts none in
-    ap (test_by us) read ∙ rw other refl
-
-compares : (x : Lexeme) (s : Lexeme) (ts : List Lexeme) → Compares x → equality s ≡ None → test_at (x ∷ s ∷ ts) ≡ plain_test_at (x ∷ s ∷ ts)
-compares (OfWord w) s ts this other = no_sides (OfWord w ∷ s ∷ ts) w s ts refl this.1 other
+compares : (x : Lexeme) (s : Lexeme) (ts : List Lexeme) → Compares x → equality s ≡ None → test_at (x ∷ s ∷ ts) ≡ compared_at (x ∷ s ∷ ts)
+compares (OfWord (word.Name x)) s ts this other = let none = this.1 in absurd cc
+compares (OfWord (word.Variable x)) s ts this other = rw other refl
+compares (OfWord (word.Number negative digits)) s ts this other = rw other refl
 compares (OfMark m) s ts this other = refl
-
-no_true : (x : Lexeme) (ts : List Lexeme) → Compares x → plain_test_at (x ∷ ts) ≡ compared_at (x ∷ ts)
-no_true x ts this =
-    let false_then : is_true x ≡ false = ap (is_named (codes "true")) this.1 in
-    rw false_then refl
 
 comparison : (xs : List Lexeme) (s : Lexeme) (ys : List Lexeme) → 0 < length xs → AllByRecursion Compares xs → Compares s → test_at (xs ++ s ∷ ys) ≡ compared_at (xs ++ s ∷ ys)
 comparison [] s ys some all this = absurd (omega (arith, some))
-comparison (x ∷ []) s ys some all this = compares x s ys all.0 this.0 ∙ no_true x (s ∷ ys) all.0
-comparison (x ∷ y ∷ xs) s ys some all this = compares x y (xs ++ s ∷ ys) all.0 all.1.0.0 ∙ no_true x (y ∷ (xs ++ s ∷ ys)) all.0
+comparison (x ∷ []) s ys some all this = compares x s ys all.0 this.0
+comparison (x ∷ y ∷ xs) s ys some all this = compares x y (xs ++ s ∷ ys) all.0 all.1.0.0
 
 compared_again : (r : Relation) (f g : ParsedExpression) (rest : List Lexeme) → IsExpression f → IsExpression g → Ends rest → compared_at (formula_spelled f ++ (relation_sign r ∷ (formula_spelled g ++ rest))) ≡ Ok (Compared r f g, rest)
 compared_again r f g rest left right ends =
@@ -106,10 +176,6 @@ compared_again r f g rest left right ends =
     let two : expression_at (formula_spelled g ++ rest) ≡ Ok (g, rest) = last_expression g rest right ends in
     let known : parsing.relation (relation_sign r) ≡ Some r = (relation_reads r).1 in
     rw (one, known, two) refl
-
-ends_term : (rest : List Lexeme) → Ends rest → Shut rest
-ends_term [] h = tt
-ends_term (s ∷ ts) h = rw h refl
 
 sides_again : (same : Bool) (e : Lexeme) (t u : ParsedTerm) (rest : List Lexeme) → equality e ≡ Some same → IsParsedTerm t → IsParsedTerm u → Shut (e ∷ []) → Shut rest → test_at ((term_spelled t ++ e ∷ term_spelled u) ++ rest) ≡ Ok (equal same t u, rest)
 sides_again same e t u rest is left right sign shut =
@@ -121,23 +187,20 @@ sides_again same e t u rest is left right sign shut =
     let sides : sides_at all t (e ∷ behind) ≡ other_side_at same t behind = rw is refl in
     ap (test_by all) one ∙ sides ∙ other
 
-always_again : (s : Lexeme) (rest : List Lexeme) → s ≡ OfMark Comma → test_at (OfWord (word.Name (codes "true")) ∷ s ∷ rest) ≡ Ok (Always, s ∷ rest)
-always_again s rest h = subst (λ (s : Lexeme). test_at (OfWord (word.Name (codes "true")) ∷ s ∷ rest) ≡ Ok (Always, s ∷ rest)) (sym h) refl
-
 pub test_again : Again IsGuardMember test_spelled test_at
 test_again Always [] stands ends = refl
-test_again Always (s ∷ rest) stands ends = always_again s rest ends
+test_again Always (s ∷ rest) stands ends = rw ends refl
 test_again (Compared r f g) rest stands ends =
     let split : (formula_spelled f ++ relation_sign r ∷ formula_spelled g) ++ rest ≡ formula_spelled f ++ (relation_sign r ∷ (formula_spelled g ++ rest)) = append_assoc (formula_spelled f) (relation_sign r ∷ formula_spelled g) rest in
     ap test_at split ∙ comparison (formula_spelled f) (relation_sign r) (formula_spelled g ++ rest) (formula_some f) (formula_compares f) (relation_reads r).0 ∙ compared_again r f g rest stands.0 stands.1 ends
-test_again (Same t u) rest stands ends = sides_again true (OfMark mark.Equals) t u rest refl stands.0 stands.1 refl (ends_term rest ends)
-test_again (Differ t u) rest stands ends = sides_again false (OfMark mark.Differs) t u rest refl stands.0 stands.1 refl (ends_term rest ends)
+test_again (Same t u) rest stands ends = sides_again true (OfMark mark.Equals) t u rest refl stands.0 stands.1 refl (ends_each rest ends).2
+test_again (Differ t u) rest stands ends = sides_again false (OfMark mark.Differs) t u rest refl stands.0 stands.1 refl (ends_each rest ends).2
 
-pub test_some : (t : GuardMember) → 0 < length (test_spelled t)
-test_some Always = omega arith
-test_some (Compared r f g) = omega (arith, length-append (formula_spelled f) (relation_sign r ∷ formula_spelled g))
-test_some (Same t u) = omega (arith, length-append (term_spelled t) (OfMark mark.Equals ∷ term_spelled u))
-test_some (Differ t u) = omega (arith, length-append (term_spelled t) (OfMark mark.Differs ∷ term_spelled u))
+pub test_some : (t : GuardMember) → IsGuardMember t → 0 < length (test_spelled t)
+test_some Always stands = omega arith
+test_some (Compared r f g) stands = omega (arith, length-append (formula_spelled f) (relation_sign r ∷ formula_spelled g))
+test_some (Same t u) stands = omega (arith, length-append (term_spelled t) (OfMark mark.Equals ∷ term_spelled u))
+test_some (Differ t u) stands = omega (arith, length-append (term_spelled t) (OfMark mark.Differs ∷ term_spelled u))
 
 -- ---- members of a body
 
@@ -148,16 +211,8 @@ not_true name h =
 member_atom : (name : List ℕ) (ws : List ParsedTerm) (rest : List Lexeme) → IsUnreserved name ws → Ends rest → phrase_at (OfWord (word.Name name) ∷ (arguments ws ++ rest)) ≡ Ok (record { name = name; args = ws }, rest)
     → member_at (OfWord (word.Name name) ∷ (arguments ws ++ rest)) ≡ Ok (Add (record { name = name; args = ws }), rest)
 member_atom name (w ∷ ws) rest stands ends read = rw read refl
-member_atom name [] [] stands ends read =
-    let no = not_true name stands in
-    let step : member_at (OfWord (word.Name name) ∷ []) ≡ added_at (OfWord (word.Name name) ∷ []) = rw no refl in
-    let last : added_at (OfWord (word.Name name) ∷ []) ≡ Ok (Add (record { name = name; args = [] }), []) = rw stands refl in
-    step ∙ last
-member_atom name [] (s ∷ rest) stands ends read =
-    let no = not_true name stands in
-    let step : member_at (OfWord (word.Name name) ∷ OfMark Comma ∷ rest) ≡ added_at (OfWord (word.Name name) ∷ OfMark Comma ∷ rest) = rw no refl in
-    let last : added_at (OfWord (word.Name name) ∷ OfMark Comma ∷ rest) ≡ Ok (Add (record { name = name; args = [] }), OfMark Comma ∷ rest) = rw stands refl in
-    subst (λ (s : Lexeme). member_at (OfWord (word.Name name) ∷ s ∷ rest) ≡ Ok (Add (record { name = name; args = [] }), s ∷ rest)) (sym ends) (step ∙ last)
+member_atom name [] [] stands ends read = rw (stands, not_true name stands) refl
+member_atom name [] (s ∷ rest) stands ends read = rw (ends, stands, not_true name stands) refl
 
 pub member_again : Again IsBodyMember member_spelled member_at
 member_again Nothing [] stands ends = refl
@@ -165,15 +220,14 @@ member_again Nothing (s ∷ rest) stands ends = rw ends refl
 member_again (Is x f) rest stands ends = rw (last_expression f rest stands ends) refl
 member_again (Add p) rest stands ends = member_atom p.name p.args rest stands.unreserved ends (phrase_again p rest stands ends)
 
-pub member_some : (m : BodyMember) → 0 < length (member_spelled m)
-member_some Nothing = omega arith
-member_some (Is x f) = omega arith
-member_some (Add p) = omega arith
+pub member_some : (m : BodyMember) → IsBodyMember m → 0 < length (member_spelled m)
+member_some Nothing stands = omega arith
+member_some _ stands = omega arith
 
 -- ---- declarations
 
 pub declared_again : Again AnyDeclared declared_spelled declared_at
 declared_again d rest stands ends = refl
 
-pub declared_some : (d : Declared) → 0 < length (declared_spelled d)
-declared_some d = omega arith
+pub declared_some : (d : Declared) → AnyDeclared d → 0 < length (declared_spelled d)
+declared_some d stands = omega arith

@@ -1,5 +1,5 @@
 -- The loops that read terms: what is read from a place on.
-use Rattle.std.proofs.Common.{◌≡◌, ◌≤◌, ◌<◌, ℕ, zero, suc, ◌+◌, ◌-◌, true, false, get_or, List, [], ◌∷◌, ◌++◌, length, take, drop, map, refl, sym, ap, ◌∙◌, arith, Ok, Err, length-drop}
+use Rattle.std.proofs.Common.{◌≡◌, ◌<◌, ℕ, zero, suc, ◌+◌, ◌-◌, true, false, get_or, List, [], ◌∷◌, ◌++◌, length, take, drop, map, refl, sym, ap, ◌∙◌, arith, Ok, Err, length-drop}
 use Rattle.std.proofs.lemmas.List.{drop-drop, length-map}
 use Rattle.chr_lex.specs.declared.fault.Kind.TheVariants.{Syntax}
 use Rattle.chr_lex.specs.declared.fault.ItemError.{ItemError}
@@ -8,7 +8,7 @@ use Rattle.chr_lex.specs.declared.mark.Mark.{Mark}
 use Rattle.chr_lex.specs.declared.token.Token.{Token}
 use Rattle.chr_lex.specs.declared.token.Token.TheVariants as tokens
 use Rattle.chr_lex.specs.declared.token.Word.{Word as CodeWord}
-use Rattle.chr_lex.specs.Reading.{◌>>=◌, Fails}
+use Rattle.chr_lex.specs.Reading.{Fails}
 use Rattle.chr_lex.specs.Tokens.{word, lexeme, Word, Lexeme, OfWord, OfMark}
 use Rattle.chr_grammar.specs.Parsed.{TermNode, ParsedTerm}
 use Rattle.chr_grammar.specs.Parsing.{Front, is_close, is_comma, next_at, is_functor, behind_word_at, with_node, nodes_at, term_at}
@@ -20,34 +20,22 @@ pub next_none : (o : ℕ) (ts : List Lexeme) (total : Front ℕ) → 0 < o → t
 next_none zero ts total some is so_far = absurd (omega (arith, some))
 next_none (suc o) ts total some is so_far = sym so_far ∙ ap (next_at (suc o)) is
 
-comma_next : (o : ℕ) (r : List Lexeme) (s : Lexeme) → 0 < o → is_comma s ≡ true → next_at o (s ∷ r) ≡ Ok (o, r)
-comma_next zero r s some comma = absurd (omega (arith, some))
-comma_next (suc o) r s some comma = rw comma refl
-
-other_next : (o : ℕ) (r : List Lexeme) (s : Lexeme) → 0 < o → is_comma s ≡ false → is_close s ≡ false → next_at o (s ∷ r) ≡ Err Syntax
-other_next zero r s some comma close = absurd (omega (arith, some))
-other_next (suc o) r s some comma close = rw (comma, close) refl
-
-close_next : (o : ℕ) (r : List Lexeme) (s : Lexeme) → 0 < o → is_comma s ≡ false → is_close s ≡ true → next_at o (s ∷ r) ≡ next_at (o - 1) r
-close_next zero r s some comma close = absurd (omega (arith, some))
-close_next (suc o) r s some comma close =
-    let less : o ≡ suc o - 1 = omega arith in
-    let one : next_at (suc o) (s ∷ r) ≡ next_at o r = rw (comma, close) refl in
-    one ∙ ap (λ (k : ℕ). next_at k r) less
-
 pub next_comma : (o n : ℕ) (ts : List Token) (d : Token) (total : Front ℕ) → 0 < o → n < length ts → true ≡ is_comma (lexeme (get_or ts n d)) → next_at o (drop n (map lexeme ts)) ≡ total → total ≡ Ok (o, drop (n + 1) (map lexeme ts))
-next_comma o n ts d total some lt comma so_far =
-    sym so_far ∙ ap (next_at o) (token_there ts n d lt) ∙ comma_next o (drop (n + 1) (map lexeme ts)) (lexeme (get_or ts n d)) some (sym comma)
+next_comma zero n ts d total some lt comma so_far = absurd (omega (arith, some))
+next_comma (suc o) n ts d total some lt comma so_far = sym so_far ∙ rw (token_there ts n d lt, ← comma) refl
 
 pub next_stop : (o n : ℕ) (ts : List Token) (d : Token) (total : Front ℕ) → 0 < o → n < length ts → false ≡ is_comma (lexeme (get_or ts n d)) → false ≡ is_close (lexeme (get_or ts n d))
     → next_at o (drop n (map lexeme ts)) ≡ total → total ≡ Err Syntax
-next_stop o n ts d total some lt comma close so_far =
-    sym so_far ∙ ap (next_at o) (token_there ts n d lt) ∙ other_next o (drop (n + 1) (map lexeme ts)) (lexeme (get_or ts n d)) some (sym comma) (sym close)
+next_stop zero n ts d total some lt comma close so_far = absurd (omega (arith, some))
+next_stop (suc o) n ts d total some lt comma close so_far = sym so_far ∙ rw (token_there ts n d lt, ← comma, ← close) refl
 
 pub next_closes : (o n : ℕ) (ts : List Token) (d : Token) (total : Front ℕ) → 0 < o → n < length ts → false ≡ is_comma (lexeme (get_or ts n d)) → true ≡ is_close (lexeme (get_or ts n d))
     → next_at o (drop n (map lexeme ts)) ≡ total → next_at (o - 1) (drop (n + 1) (map lexeme ts)) ≡ total
-next_closes o n ts d total some lt comma close so_far =
-    sym (close_next o (drop (n + 1) (map lexeme ts)) (lexeme (get_or ts n d)) some (sym comma) (sym close)) ∙ ap (next_at o) (sym (token_there ts n d lt)) ∙ so_far
+next_closes zero n ts d total some lt comma close so_far = absurd (omega (arith, some))
+next_closes (suc o) n ts d total some lt comma close so_far =
+    let less : suc o - 1 ≡ o = omega arith in
+    let one : next_at (suc o) (drop n (map lexeme ts)) ≡ next_at o (drop (n + 1) (map lexeme ts)) = rw (token_there ts n d lt, ← comma, ← close) refl in
+    rw (less, ← one) so_far
 
 -- a token at a place, before those behind it
 pub word_there : (ts : List Token) (n : ℕ) (d : Token) (w : CodeWord) → n < length ts → get_or ts n d ≡ tokens.Word w → drop n (map lexeme ts) ≡ OfWord (word w) ∷ drop (n + 1) (map lexeme ts)
@@ -66,9 +54,6 @@ behind_opened w d n ts h =
     let one : behind_word_at w d (drop n ts) ≡ Ok (suc d, drop 1 (drop n ts)) = rw h refl in
     one ∙ ap (λ (x : List Lexeme). Ok (suc d, x)) (drop-drop 1 n ts) ∙ ap (λ (k : ℕ). Ok (k, drop (n + 1) ts)) next
 
-pub behind_other : (w : Word) (d : ℕ) (ts : List Lexeme) → is_functor w ts ≡ false → behind_word_at w d ts ≡ next_at d ts
-behind_other w d ts h = rw h refl
-
 -- ---- nodes
 
 pub first_nodes : (ts : List Token) (n : ℕ) → front_with [] (nodes_at (length ts - n - 0) 0 (drop n (map lexeme ts))) ≡ term_at (drop n (map lexeme ts))
@@ -77,40 +62,14 @@ first_nodes ts n =
     let all : length ts - n - 0 ≡ length (drop n (map lexeme ts)) = omega (arith, whole, length-drop n (map lexeme ts)) in
     none_before (nodes_at (length ts - n - 0) 0 (drop n (map lexeme ts))) ∙ ap (λ (k : ℕ). nodes_at k 0 (drop n (map lexeme ts))) all
 
-pub nodes_none : (front : List TermNode) (n i d : ℕ) (ts : List Lexeme) (total : Front ParsedTerm) → n ≤ i → front_with front (nodes_at (n - i) d ts) ≡ total → total ≡ Err Syntax
-nodes_none front n i d ts total le so_far =
-    let e : n - i ≡ 0 = omega arith in
-    let one : front_with front (nodes_at (n - i) d ts) ≡ Err Syntax = rw e refl in
-    sym so_far ∙ one
-
-pub nodes_end : (front : List TermNode) (n i d : ℕ) (ts : List Lexeme) (total : Front ParsedTerm) → i < n → ts ≡ [] → front_with front (nodes_at (n - i) d ts) ≡ total → total ≡ Err Syntax
-nodes_end front n i d ts total lt is so_far =
-    let e : n - i ≡ suc (n - (i + 1)) = omega arith in
-    let one : front_with front (nodes_at (n - i) d ts) ≡ Err Syntax = rw (e, is) refl in
-    sym so_far ∙ one
-
-pub nodes_mark : (front : List TermNode) (n i d : ℕ) (ts r : List Lexeme) (m : Mark) (total : Front ParsedTerm) → i < n → ts ≡ OfMark m ∷ r → front_with front (nodes_at (n - i) d ts) ≡ total → total ≡ Err Syntax
-nodes_mark front n i d ts r m total lt is so_far =
-    let e : n - i ≡ suc (n - (i + 1)) = omega arith in
-    let one : front_with front (nodes_at (n - i) d ts) ≡ Err Syntax = rw (e, is) refl in
-    sym so_far ∙ one
-
--- one node more
-nodes_step : (front : List TermNode) (n i d : ℕ) (ts r : List Lexeme) (w : Word) (total : Front ParsedTerm) → i < n → ts ≡ OfWord w ∷ r → front_with front (nodes_at (n - i) d ts) ≡ total
-    → front_with front (behind_word_at w d r >>= λ x. with_node (record { depth = d; word = w }) x.0 x.1 (nodes_at (n - (i + 1)) x.0 x.1)) ≡ total
-nodes_step front n i d ts r w total lt is so_far =
-    let e : n - i ≡ suc (n - (i + 1)) = omega arith in
-    let one : front_with front (nodes_at (n - i) d ts) ≡ front_with front (nodes_at (suc (n - (i + 1))) d (OfWord w ∷ r)) = rw (e, is) refl in
-    sym one ∙ so_far
-
 pub nodes_fail : (e : ItemError) (front : List TermNode) (n i d : ℕ) (ts r : List Lexeme) (w : Word) (total : Front ParsedTerm) → i < n → ts ≡ OfWord w ∷ r → Fails e (behind_word_at w d r)
     → front_with front (nodes_at (n - i) d ts) ≡ total → Fails e total
 nodes_fail errors.Memory front n i d ts r w total lt is h so_far = tt
-nodes_fail (errors.Fault k) front n i d ts r w total lt is h so_far = sym (nodes_step front n i d ts r w total lt is so_far) ∙ rw h refl
+nodes_fail (errors.Fault k) front n i d ts r w total lt is h so_far = let e : n - i ≡ suc (n - (i + 1)) = omega arith in sym so_far ∙ rw (e, is, h) refl
 
 pub nodes_done : (front : List TermNode) (n i d : ℕ) (ts r u : List Lexeme) (w : Word) (e : ℕ) (total : Front ParsedTerm) → i < n → ts ≡ OfWord w ∷ r → behind_word_at w d r ≡ Ok (e, u) → e ≡ 0
     → front_with front (nodes_at (n - i) d ts) ≡ total → total ≡ Ok (front ++ record { depth = d; word = w } ∷ [], u)
-nodes_done front n i d ts r u w e total lt is h none so_far = sym (nodes_step front n i d ts r w total lt is so_far) ∙ rw (h, none) refl
+nodes_done front n i d ts r u w e total lt is h none so_far = let less : n - i ≡ suc (n - (i + 1)) = omega arith in sym so_far ∙ rw (less, is, h, none) refl
 
 others_behind : (front : List TermNode) (n : TermNode) (e : ℕ) (u : List Lexeme) (others : Front ParsedTerm) → 0 < e → front_with front (with_node n e u others) ≡ front_with (front ++ n ∷ []) others
 others_behind front n zero u others some = absurd (omega (arith, some))
@@ -120,5 +79,6 @@ pub nodes_go_on : (front : List TermNode) (n i d : ℕ) (ts r u : List Lexeme) (
     → front_with front (nodes_at (n - i) d ts) ≡ total → front_with (front ++ record { depth = d; word = w } ∷ []) (nodes_at (n - (i + 1)) e u) ≡ total
 nodes_go_on front n i d ts r u w e total lt is h some so_far =
     let node : TermNode = record { depth = d; word = w } in
-    let one : front_with front (behind_word_at w d r >>= λ x. with_node node x.0 x.1 (nodes_at (n - (i + 1)) x.0 x.1)) ≡ front_with front (with_node node e u (nodes_at (n - (i + 1)) e u)) = rw h refl in
-    sym (others_behind front node e u (nodes_at (n - (i + 1)) e u) some) ∙ sym one ∙ nodes_step front n i d ts r w total lt is so_far
+    let less : n - i ≡ suc (n - (i + 1)) = omega arith in
+    let one : front_with front (nodes_at (n - i) d ts) ≡ front_with front (with_node node e u (nodes_at (n - (i + 1)) e u)) = rw (less, is, h) refl in
+    sym (one ∙ others_behind front node e u (nodes_at (n - (i + 1)) e u) some) ∙ so_far

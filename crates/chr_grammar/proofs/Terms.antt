@@ -1,16 +1,15 @@
 -- What is read as a term is spelled so, and what is spelled so is read.
-use Rattle.std.proofs.Common.{◌≡◌, ◌≤◌, ◌<◌, ℕ, zero, suc, ◌+◌, ◌-◌, Bool, true, false, ◌&&◌, List, [], ◌∷◌, ◌++◌, length, length-append, drop, refl, sym, ap, ◌∙◌, subst, arith, append_assoc, ltb, Ok, Err}
-use Rattle.std.proofs.lemmas.Bool.{cond_both, ltb-true, ltb-false, lt-ltb, le-ltb}
+use Rattle.std.proofs.Common.{◌≡◌, ◌≤◌, ◌<◌, ℕ, zero, suc, ◌+◌, ◌-◌, Bool, true, false, List, [], ◌∷◌, ◌++◌, length, length-append, drop, refl, sym, ap, ◌∙◌, subst, arith, append_assoc, ltb, Ok, Err}
+use Rattle.std.proofs.lemmas.Bool.{cond_both, and_right, ltb-true, ltb-false, lt-ltb, le-ltb}
 use Rattle.chr_value.proofs.Chosen.{both}
 use Rattle.chr_lex.specs.declared.fault.Kind.{Kind}
 use Rattle.chr_lex.specs.declared.fault.Kind.TheVariants.{Syntax}
 use Rattle.chr_lex.specs.declared.mark.Mark.TheVariants.{Open, Close, Comma}
-use Rattle.chr_lex.specs.Reading.{◌>>=◌}
 use Rattle.chr_lex.specs.Tokens.{Word, Lexeme, OfWord, OfMark}
 use Rattle.chr_grammar.specs.Parsed.{TermNode, ParsedTerm, is_name}
 use Rattle.chr_grammar.specs.Parsing.{Front, is_open, is_close, is_comma, next_at, is_functor, behind_word_at, with_node, nodes_at, term_at}
 use Rattle.chr_grammar.specs.Spelling.{closings, between, nodes_spelled, term_spelled, MayFollow, AreNodes, IsParsedTerm, EndsTerm}
-use Rattle.chr_grammar.proofs.Fronts.{FrontRead}
+use Rattle.chr_grammar.proofs.Fronts.{IfRead, then_read, also_read, FrontRead}
 use Rattle.chr_grammar.proofs.Signs.{open_is, close_is, comma_is}
 
 -- ---- what is read is spelled so
@@ -21,36 +20,22 @@ NextIs d ts zero r = ts ≡ closings d ++ r
 NextIs d ts (suc e) r = (suc e ≤ d) × (ts ≡ closings (d - suc e) ++ (OfMark Comma ∷ r))
 
 abbrev NextRead : ℕ → List Lexeme → Front ℕ → Type 0
-NextRead d ts (Ok x) = NextIs d ts x.0 x.1
-NextRead d ts (Err k) = k ≡ Syntax
-
-one_closing : (d e : ℕ) (r : List Lexeme) → suc e ≤ d → closings (suc d - suc e) ++ r ≡ OfMark Close ∷ (closings (d - suc e) ++ r)
-one_closing d e r h =
-    let one : suc d - suc e ≡ suc (d - suc e) = omega arith in
-    ap (λ (k : ℕ). closings k ++ r) one
+NextRead d ts = IfRead (λ (x : ℕ × List Lexeme). NextIs d ts x.0 x.1)
 
 next_closed : (d e : ℕ) (ts r : List Lexeme) → NextIs d ts e r → NextIs (suc d) (OfMark Close ∷ ts) e r
 next_closed d zero ts r h = ap (λ (x : List Lexeme). OfMark Close ∷ x) h
 next_closed d (suc e) ts r h =
-    (omega (arith, h.0), ap (λ (x : List Lexeme). OfMark Close ∷ x) h.1 ∙ sym (one_closing d e (OfMark Comma ∷ r) h.0))
-
-next_closed_read : (d : ℕ) (ts : List Lexeme) (read : Front ℕ) → NextRead d ts read → NextRead (suc d) (OfMark Close ∷ ts) read
-next_closed_read d ts (Ok x) h = next_closed d x.0 ts x.1 h
-next_closed_read d ts (Err k) h = h
-
-no_closing : (d : ℕ) (r : List Lexeme) → closings (d - d) ++ r ≡ r
-no_closing d r =
-    let none : d - d ≡ 0 = omega arith in
-    ap (λ (k : ℕ). closings k ++ r) none
+    let one : suc d - suc e ≡ suc (d - suc e) = omega (arith, h.0) in
+    (omega (arith, h.0), ap (λ (x : List Lexeme). OfMark Close ∷ x) h.1 ∙ ap (λ (k : ℕ). closings k ++ (OfMark Comma ∷ r)) (sym one))
 
 next_found : (d : ℕ) (ts : List Lexeme) → NextRead d ts (next_at d ts)
 next_found zero ts = refl
 next_found (suc d) [] = refl
 next_found (suc d) (s ∷ ts) =
     cond_both (is_comma s) _ _ (NextRead (suc d) (s ∷ ts))
-    (λ h. (omega arith, ap (λ (s : Lexeme). s ∷ ts) (comma_is s h) ∙ sym (no_closing (suc d) (OfMark Comma ∷ ts))))
+    (λ h. let none : suc d - suc d ≡ 0 = omega arith in (omega arith, rw (none, comma_is s h) refl))
     (λ h. cond_both (is_close s) _ _ (NextRead (suc d) (s ∷ ts))
-    (λ k. subst (λ (s : Lexeme). NextRead (suc d) (s ∷ ts) (next_at d ts)) (sym (close_is s k)) (next_closed_read d ts (next_at d ts) (next_found d ts)))
+    (λ k. subst (λ (s : Lexeme). NextRead (suc d) (s ∷ ts) (next_at d ts)) (sym (close_is s k)) (also_read _ _ (next_at d ts) (next_found d ts) (λ x n. next_closed d x.0 ts x.1 n)))
     (λ k. refl))
 
 -- what is read behind a word
@@ -59,8 +44,7 @@ BehindIs n ts zero r = ts ≡ closings n.depth ++ r
 BehindIs n ts (suc e) r = (suc e ≤ suc n.depth) × (n.depth < suc e → is_name n.word ≡ true) × (ts ≡ between n.depth (suc e) ++ r)
 
 abbrev BehindRead : TermNode → List Lexeme → Front ℕ → Type 0
-BehindRead n ts (Ok x) = BehindIs n ts x.0 x.1
-BehindRead n ts (Err k) = k ≡ Syntax
+BehindRead n ts = IfRead (λ (x : ℕ × List Lexeme). BehindIs n ts x.0 x.1)
 
 turned : (d e : ℕ) (r : List Lexeme) → e ≤ d → between d e ++ r ≡ closings (d - e) ++ (OfMark Comma ∷ r)
 turned d e r h =
@@ -77,10 +61,6 @@ not_deeper n ts zero r h = h
 not_deeper n ts (suc e) r h =
     (omega (arith, h.0), (λ k. absurd (omega (arith, k, h.0))), h.1 ∙ sym (turned n.depth (suc e) r h.0))
 
-not_deeper_read : (n : TermNode) (ts : List Lexeme) (read : Front ℕ) → NextRead n.depth ts read → BehindRead n ts read
-not_deeper_read n ts (Ok x) h = not_deeper n ts x.0 x.1 h
-not_deeper_read n ts (Err k) h = h
-
 deeper : (n : TermNode) (ts : List Lexeme) → is_functor n.word ts ≡ true → BehindIs n ts (suc n.depth) (drop 1 ts)
 deeper n [] h = absurd cc
 deeper n (s ∷ ts) h =
@@ -89,7 +69,8 @@ deeper n (s ∷ ts) h =
 
 behind_found : (n : TermNode) (ts : List Lexeme) → BehindRead n ts (behind_word_at n.word n.depth ts)
 behind_found n ts =
-    cond_both (is_functor n.word ts) _ _ (BehindRead n ts) (λ h. deeper n ts h) (λ h. not_deeper_read n ts (next_at n.depth ts) (next_found n.depth ts))
+    cond_both (is_functor n.word ts) _ _ (BehindRead n ts) (deeper n ts)
+    (λ h. also_read _ _ (next_at n.depth ts) (next_found n.depth ts) (λ x k. not_deeper n ts x.0 x.1 k))
 
 -- what is read as an argument in so many parentheses with what follows it
 abbrev NodesAre : ℕ → List Lexeme → ParsedTerm → List Lexeme → Type 0
@@ -97,8 +78,7 @@ NodesAre d ts [] r = ⊥
 NodesAre d ts (n ∷ ns) r = (n.depth ≡ d) × AreNodes n ns × (ts ≡ OfWord n.word ∷ (nodes_spelled n.depth ns ++ r))
 
 abbrev NodesRead : ℕ → List Lexeme → Front ParsedTerm → Type 0
-NodesRead d ts (Ok x) = NodesAre d ts x.0 x.1
-NodesRead d ts (Err k) = k ≡ Syntax
+NodesRead d ts = IfRead (λ (x : ParsedTerm × List Lexeme). NodesAre d ts x.0 x.1)
 
 one_more : (n : TermNode) (ts us : List Lexeme) (e : ℕ) (ns : ParsedTerm) (r : List Lexeme) → BehindIs n ts (suc e) us → NodesAre (suc e) us ns r → NodesAre n.depth (OfWord n.word ∷ ts) (n ∷ ns) r
 one_more n ts us e [] r h k = absurd k
@@ -111,13 +91,7 @@ one_more n ts us e (m ∷ ns) r h k =
 
 with_found : (n : TermNode) (ts us : List Lexeme) (e : ℕ) (others : Front ParsedTerm) → BehindIs n ts e us → NodesRead e us others → NodesRead n.depth (OfWord n.word ∷ ts) (with_node n e us others)
 with_found n ts us zero others h k = (refl, tt, ap (λ (x : List Lexeme). OfWord n.word ∷ x) h)
-with_found n ts us (suc e) (Ok x) h k = one_more n ts us e x.0 x.1 h k
-with_found n ts us (suc e) (Err f) h k = k
-
-word_found : (n : TermNode) (ts : List Lexeme) (read : Front ℕ) (more : ℕ → List Lexeme → Front ParsedTerm) → BehindRead n ts read → ((e : ℕ) (us : List Lexeme) → NodesRead e us (more e us))
-    → NodesRead n.depth (OfWord n.word ∷ ts) (read >>= λ x. with_node n x.0 x.1 (more x.0 x.1))
-word_found n ts (Ok x) more h found = with_found n ts x.1 x.0 (more x.0 x.1) h (found x.0 x.1)
-word_found n ts (Err k) more h found = h
+with_found n ts us (suc e) others h k = then_read _ _ others _ k (λ x j. one_more n ts us e x.0 x.1 h j)
 
 nodes_found : (n d : ℕ) (ts : List Lexeme) → NodesRead d ts (nodes_at n d ts)
 nodes_found zero d ts = refl
@@ -125,7 +99,7 @@ nodes_found (suc n) d [] = refl
 nodes_found (suc n) d (OfMark m ∷ ts) = refl
 nodes_found (suc n) d (OfWord w ∷ ts) =
     let node : TermNode = record { depth = d; word = w } in
-    word_found node ts (behind_word_at w d ts) (nodes_at n) (behind_found node ts) (nodes_found n)
+    then_read _ _ (behind_word_at w d ts) _ (behind_found node ts) (λ x h. with_found node ts x.1 x.0 (nodes_at n x.0 x.1) h (nodes_found n x.0 x.1))
 
 abbrev pub TermRead : List Lexeme → Front ParsedTerm → Type 0
 TermRead = FrontRead IsParsedTerm term_spelled
@@ -134,12 +108,8 @@ term_is : (ts : List Lexeme) (t : ParsedTerm) (r : List Lexeme) → NodesAre 0 t
 term_is ts [] r h = absurd h
 term_is ts (n ∷ ns) r h = ((h.0, h.1), h.2)
 
-term_read : (ts : List Lexeme) (read : Front ParsedTerm) → NodesRead 0 ts read → TermRead ts read
-term_read ts (Ok x) h = term_is ts x.0 x.1 h
-term_read ts (Err k) h = h
-
 pub term_found : (ts : List Lexeme) → TermRead ts (term_at ts)
-term_found ts = term_read ts (term_at ts) (nodes_found (length ts) 0 ts)
+term_found ts = also_read _ _ (term_at ts) (nodes_found (length ts) 0 ts) (λ x h. term_is ts x.0 x.1 h)
 
 -- ---- what is spelled so is read
 
@@ -148,22 +118,14 @@ abbrev pub Shut : List Lexeme → Type 0
 Shut [] = Unit {0}
 Shut (s ∷ ts) = is_open s ≡ false
 
-not_open : (s : Lexeme) → (s ≡ OfMark Open → ⊥) → is_open s ≡ false
-not_open (OfWord w) h = refl
-not_open (OfMark Open) h = absurd (h refl)
-not_open (OfMark _) h = refl
-
 pub ends_shut : (ts : List Lexeme) → EndsTerm ts → Shut ts
 ends_shut [] h = tt
-ends_shut (s ∷ ts) h = not_open s h
-
-never : (b : Bool) → b && false ≡ false
-never true = refl
-never false = refl
+ends_shut (OfMark Open ∷ ts) h = absurd (h refl)
+ends_shut (s ∷ ts) h = refl
 
 no_functor : (w : Word) (ts : List Lexeme) → Shut ts → is_functor w ts ≡ false
 no_functor w [] h = refl
-no_functor w (s ∷ ts) h = ap (λ (b : Bool). is_name w && b) h ∙ never (is_name w)
+no_functor w (s ∷ ts) h = and_right (is_name w) (is_open s) h
 
 pub behind_shut : (w : Word) (d : ℕ) (ts : List Lexeme) → Shut ts → behind_word_at w d ts ≡ next_at d ts
 behind_shut w d ts h = rw (no_functor w ts h) refl
@@ -173,17 +135,13 @@ closed_again zero rest = refl
 closed_again (suc d) rest = closed_again d rest
 
 turn_again : (k d e : ℕ) (rest : List Lexeme) → d ≡ k + suc e → next_at d (closings k ++ (OfMark Comma ∷ rest)) ≡ Ok (suc e, rest)
-turn_again zero zero e rest h = absurd (omega (arith, h))
+turn_again k zero e rest h = absurd (omega (arith, h))
 turn_again zero (suc d) e rest h = ap (λ (k : ℕ). Ok (k, rest)) (omega (arith, h))
-turn_again (suc k) zero e rest h = absurd (omega (arith, h))
 turn_again (suc k) (suc d) e rest h = turn_again k d e rest (omega (arith, h))
 
 shut_closings : (k : ℕ) (rest : List Lexeme) → Shut rest → Shut (closings k ++ rest)
 shut_closings zero rest h = h
 shut_closings (suc k) rest h = refl
-
-end_again : (w : Word) (d : ℕ) (rest : List Lexeme) → Shut rest → behind_word_at w d (closings d ++ rest) ≡ Ok (0, rest)
-end_again w d rest h = behind_shut w d (closings d ++ rest) (shut_closings d rest h) ∙ closed_again d rest
 
 back_again : (w : Word) (d e : ℕ) (rest : List Lexeme) → 0 < e → e ≤ d → behind_word_at w d (between d e ++ rest) ≡ Ok (e, rest)
 back_again w d zero rest some h = absurd (omega (arith, some))
@@ -192,14 +150,11 @@ back_again w d (suc e) rest some h =
     ∙ behind_shut w d (closings (d - suc e) ++ (OfMark Comma ∷ rest)) (shut_closings (d - suc e) (OfMark Comma ∷ rest) refl)
     ∙ turn_again (d - suc e) d e rest (omega (arith, h))
 
-open_again : (w : Word) (d : ℕ) (rest : List Lexeme) → is_name w ≡ true → behind_word_at w d (OfMark Open ∷ rest) ≡ Ok (suc d, rest)
-open_again w d rest h = rw h refl
-
 next_again : (w : Word) (d e : ℕ) (rest : List Lexeme) (b : Bool) → ltb d e ≡ b → 0 < e → e ≤ suc d → (d < e → is_name w ≡ true) → behind_word_at w d (between d e ++ rest) ≡ Ok (e, rest)
 next_again w d e rest true is some most name =
     let more : d < e = ltb-true d e is in
     let same : suc d ≡ e = omega arith in
-    ap (behind_word_at w d) (opened d e rest more) ∙ open_again w d rest (name more) ∙ ap (λ (k : ℕ). Ok (k, rest)) same
+    ap (behind_word_at w d) (opened d e rest more) ∙ rw (name more, same) refl
 next_again w d e rest false is some most name = back_again w d e rest some (ltb-false d e is)
 
 with_again : (n : TermNode) (e : ℕ) (r : List Lexeme) (t : ParsedTerm) (rest : List Lexeme) → 0 < e → with_node n e r (Ok (t, rest)) ≡ Ok (n ∷ t, rest)
@@ -209,7 +164,7 @@ with_again n (suc e) r t rest h = refl
 nodes_again : (ns : List TermNode) (n : TermNode) (k : ℕ) (rest : List Lexeme) → AreNodes n ns → length ns < k → Shut rest → nodes_at k n.depth (OfWord n.word ∷ (nodes_spelled n.depth ns ++ rest)) ≡ Ok (n ∷ ns, rest)
 nodes_again ns n zero rest are few shut = absurd (omega (arith, few))
 nodes_again [] n (suc k) rest are few shut =
-    let one : behind_word_at n.word n.depth (closings n.depth ++ rest) ≡ Ok (0, rest) = end_again n.word n.depth rest shut in
+    let one : behind_word_at n.word n.depth (closings n.depth ++ rest) ≡ Ok (0, rest) = behind_shut n.word n.depth (closings n.depth ++ rest) (shut_closings n.depth rest shut) ∙ closed_again n.depth rest in
     rw one refl
 nodes_again (m ∷ ns) n (suc k) rest are few shut =
     let follows = are.0 in

@@ -1,9 +1,10 @@
 -- The text without its comments, from a place on.
-use Rattle.std.proofs.Common.{◌≡◌, ◌≤◌, ◌<◌, ℕ, zero, suc, ◌+◌, true, false, cond, List, [], ◌∷◌, ◌++◌, length, take, drop, refl, sym, ap, ◌∙◌, arith, length-take, length-drop, length-append, append_assoc}
+use Rattle.std.proofs.Common.{◌≡◌, ◌≤◌, ◌<◌, ℕ, zero, suc, ◌+◌, true, false, cond, List, [], ◌∷◌, ◌++◌, length, take, drop, refl, sym, ap, ◌∙◌, arith, inl, inr, length-drop, length-append, append_assoc}
 use Rattle.std.specs.Prelude.{◌==◌, ◌||◌}
 use Rattle.std.specs.List.{take_while}
-use Rattle.std.proofs.lemmas.Bool.{and_parts, false_from_ne_true}
+use Rattle.std.proofs.lemmas.Bool.{and_parts, cases_Bool}
 use Rattle.std.proofs.lemmas.Bool.Decides.{nat_tests}
+use Rattle.std.proofs.lemmas.List.{length-take-le}
 use Rattle.std.proofs.lemmas.List.Filters.{length-filter_both}
 use Rattle.chr_lex.specs.Plain.{is_text, as_text, first_is, closes_here, closes, before_close, is_within_line, is_line_end, line_ends, plain, plain_of, block}
 
@@ -31,44 +32,27 @@ pub line_same : (front out : List ℕ) (first n : ℕ) (bs : List ℕ) → first
 line_same front out first n bs h is grown =
     rw (h, grown, append_assoc) (ap (λ (r : List ℕ). front ++ 32 ∷ r) (sym (plain-skip n bs) ∙ ap (λ (k : ℕ). plain k bs) is))
 
-before_len : (n : ℕ) (bs : List ℕ) → n ≤ length bs → take n bs ≡ before_close bs → length (before_close bs) ≡ n
-before_len n bs fits is = omega (arith, length-take n bs, ap length is)
-
-pub block_fits : (n : ℕ) (bs : List ℕ) → 0 < length bs → closes (drop 1 bs) ≡ true → n ≤ length (drop 1 bs) → take n (drop 1 bs) ≡ before_close (drop 1 bs) → n + 3 ≤ length bs
-block_fits n bs some h fits is = omega (arith, closes_fits (drop 1 bs) h, before_len n (drop 1 bs) fits is, length-drop 1 bs)
-
-pub block_same : (front out : List ℕ) (n : ℕ) (bs comment : List ℕ) → closes (drop 1 bs) ≡ true → n ≤ length (drop 1 bs) → take n (drop 1 bs) ≡ before_close (drop 1 bs)
-    → comment ≡ take n (drop 1 bs) → out ≡ (front ++ 1 ∷ []) ++ line_ends comment
-    → out ++ plain_of (drop (n + 3) bs) ≡ front ++ block bs
-block_same front out n bs comment h fits is comment-is grown =
-    let count : n + 3 ≡ 3 + length (before_close (drop 1 bs)) = omega (arith, before_len n (drop 1 bs) fits is) in
-    let there : plain_of (drop (n + 3) bs) ≡ plain (3 + length (before_close (drop 1 bs))) bs = sym (plain-skip (n + 3) bs) ∙ ap (λ (k : ℕ). plain k bs) count in
-    rw (grown, comment-is, is, there, h) (append_assoc (front ++ 1 ∷ []) _ _ ∙ append_assoc front (1 ∷ []) _)
-
-ends_below : (bs : List ℕ) → length (line_ends bs) ≤ length bs
-ends_below bs = omega (arith, length-filter_both is_line_end is_within_line (λ x. refl) bs)
-
-pub block_room : (front out comment : List ℕ) (n : ℕ) → length comment ≤ n → out ≡ (front ++ 1 ∷ []) ++ line_ends comment → length out ≤ length front + (n + 3 + 1)
-block_room front out comment n fits grown =
-    rw grown (omega (arith, length-append (front ++ 1 ∷ []) (line_ends comment), length-append front (1 ∷ []), ends_below comment))
-
--- ---- the bytes that stand for comments are no text
-
-pub text_stays : (b : ℕ) → is_text b ≡ true → as_text b ≡ b
-text_stays b h = rw h refl
-
-pub other_is_bad : (b : ℕ) → is_text b ≡ false → as_text b ≡ 0
-other_is_bad b h = rw h refl
+-- what is written for a comment by `/*`, n bytes long, and what is read after it
+pub block_written : (front out : List ℕ) (n : ℕ) (bs : List ℕ) → 0 < length bs → closes (drop 1 bs) ≡ true → n ≤ length (drop 1 bs) → take n (drop 1 bs) ≡ before_close (drop 1 bs)
+    → out ≡ (front ++ 1 ∷ []) ++ line_ends (take n (drop 1 bs))
+    → (out ++ plain_of (drop (n + 3) bs) ≡ front ++ block bs) × (n + 3 ≤ length bs) × (length out ≤ length front + (n + 3 + 1))
+block_written front out n bs some h fits is grown =
+    let comment = take n (drop 1 bs) in
+    let len : length comment ≡ n = length-take-le n (drop 1 bs) fits in
+    let count : n + 3 ≡ 3 + length (before_close (drop 1 bs)) = omega (arith, len, ap length is) in
+    let there : plain_of (drop (n + 3) bs) ≡ plain (3 + length (before_close (drop 1 bs))) bs = sym (plain-skip (n + 3) bs) ∙ ap (λ (k : ℕ). plain k bs) count in (
+      rw (grown, is, there, h) (append_assoc (front ++ 1 ∷ []) _ _ ∙ append_assoc front (1 ∷ []) _),
+      omega (arith, closes_fits (drop 1 bs) h, count, length-drop 1 bs),
+      rw grown (omega (arith, length-append (front ++ 1 ∷ []) (line_ends comment), length-append front (1 ∷ []), length-filter_both is_line_end is_within_line (λ x. refl) comment)),
+    )
 
 text_above : (b : ℕ) → is_text b ≡ true → 9 ≤ b
 text_above b h = grind (arith, nat_tests, h)
 
-pub bad_is_other : (b : ℕ) → as_text b ≡ 0 → is_text b ≡ false
-bad_is_other b e = false_from_ne_true (is_text b) (λ h. let low : b ≡ 0 = sym (text_stays b h) ∙ e in let high = text_above b h in absurd (omega arith))
-
-pub never : (n : ℕ) → 0 < n → n < 9 → (b : ℕ) → as_text b ≡ n → ⊥
-never n some low b e =
-    (elim (is_text b) as (λ v. is_text b ≡ v → ⊥) [
-      | true ↦ λ h. let same : b ≡ n = sym (text_stays b h) ∙ e in let high = text_above b h in omega arith
-      | false ↦ λ h. let zero_ : 0 ≡ n = sym (other_is_bad b h) ∙ e in omega arith
-    ]) refl
+-- the bytes that stand for comments are no text
+pub never : (n : ℕ) → n < 9 → (b : ℕ) → as_text b ≡ n → (is_text b ≡ false) × (n ≡ 0)
+never n low b e =
+    elim (cases_Bool (is_text b)) [
+      | inl h ↦ let same : as_text b ≡ b = rw h refl in let high = text_above b h in absurd (omega arith)
+      | inr h ↦ let none : as_text b ≡ 0 = rw h refl in (h, omega arith)
+    ]

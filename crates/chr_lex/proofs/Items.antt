@@ -1,25 +1,19 @@
 -- What follows an item.
-use Rattle.std.proofs.Common.{◌≡◌, ◌<◌, ◌≤◌, ℕ, zero, suc, ◌+◌, true, false, cond, List, [], ◌∷◌, length, take, drop, refl, sym, ap, subst, ◌∙◌, arith, length-take, length-drop}
-use Rattle.std.proofs.lemmas.Grind.{common_steps}
+use Rattle.std.proofs.Common.{◌≡◌, ◌<◌, ◌≤◌, ℕ, zero, suc, ◌+◌, true, false, cond, List, [], ◌∷◌, length, take, drop, refl, sym, ap, ◌∙◌, arith, length-take, length-drop}
 use Rattle.std.specs.Prelude.{◌==◌, ◌||◌}
 use Rattle.std.proofs.lemmas.Bool.{eqb-true, and_parts, or_parts, false_from_ne_true}
-use Rattle.std.proofs.lemmas.List.{drop-drop, nil_from_length}
+use Rattle.std.proofs.lemmas.List.{drop-drop, nil_from_length, take_all}
 use Rattle.chr_lex.specs.Plain.{is_layout}
 use Rattle.chr_lex.specs.Items.{Item, is_gap, is_end, before_end, has_end, line_after, lines_after, items, begins_with_layout, BeginsItem}
 
-same_line : (c line : ℕ) → (c == 10) ≡ false → line_after c line ≡ line
-same_line c line h = rw h
+point_ends_no_line : (c : ℕ) (cs : List ℕ) (line : ℕ) → is_end c cs ≡ true → line_after c line ≡ line
+point_ends_no_line c cs line h = rw (eqb-true c 46 (and_parts (c == 46) (begins_with_layout cs) h).0) refl
 
-pub point_ends_no_line : (c : ℕ) (cs : List ℕ) (line : ℕ) → is_end c cs ≡ true → line_after c line ≡ line
-point_ends_no_line c cs line h =
-    let point : c ≡ 46 = eqb-true c 46 (and_parts (c == 46) (begins_with_layout cs) h).0 in
-    rw point refl
-
-pub item_ends_no_line : (b line : ℕ) → is_gap b ≡ false → line_after b line ≡ line
+item_ends_no_line : (b line : ℕ) → is_gap b ≡ false → line_after b line ≡ line
 item_ends_no_line b line h =
-    same_line b line (or_parts ((b == 32) || (b == 9) || (b == 13)) (b == 10) (or_parts (is_layout b) (b == 1) h).0).1
+    rw (or_parts ((b == 32) || (b == 9) || (b == 13)) (b == 10) (or_parts (is_layout b) (b == 1) h).0).1 refl
 
-pub items-behind : (bs : List ℕ) (line : ℕ) → items (suc (length (before_end bs))) line bs ≡ items zero (lines_after (before_end bs) line) (drop (suc (length (before_end bs))) bs)
+items-behind : (bs : List ℕ) (line : ℕ) → items (suc (length (before_end bs))) line bs ≡ items zero (lines_after (before_end bs) line) (drop (suc (length (before_end bs))) bs)
 items-behind [] line = refl
 items-behind (c ∷ cs) line =
     (elim (is_end c cs) as (λ v. is_end c cs ≡ v → items (suc (length (cond v [] (c ∷ before_end cs)))) line (c ∷ cs) ≡ items zero (lines_after (cond v [] (c ∷ before_end cs)) line) (drop (suc (length (cond v [] (c ∷ before_end cs)))) (c ∷ cs))) [
@@ -36,33 +30,32 @@ items-behind_first b bs line gap =
     ]
 
 -- an item, and what is read after it
-pub item_first : (line n : ℕ) (t : List ℕ) → 0 < length t → BeginsItem t → n ≤ length t → take n t ≡ before_end t
-    → items zero line t ≡ record { line = line; bytes = take n t; ended = has_end t } ∷ items zero (lines_after (take n t) line) (drop 1 (drop n t))
-item_first line n [] long begins within is = absurd (omega arith)
-item_first line n (b ∷ bs) long begins within is =
-    let count : length (before_end (b ∷ bs)) ≡ n = ap length (sym is) ∙ (let e : length (take n (b ∷ bs)) ≡ n = omega (arith, length-take n (b ∷ bs)) in e) in
-    let split : items zero line (b ∷ bs) ≡ record { line = line; bytes = before_end (b ∷ bs); ended = has_end (b ∷ bs) } ∷ items (length (before_end (b ∷ bs))) line bs = rw begins refl in
-    let behind = items-behind_first b bs line begins in
-    let e : n + 1 ≡ suc n = omega arith in
-    let far : drop 1 (drop n (b ∷ bs)) ≡ drop n bs = drop-drop 1 n (b ∷ bs) ∙ ap (λ (k : ℕ). drop k (b ∷ bs)) e in
-    let near : drop (length (before_end (b ∷ bs))) bs ≡ drop 1 (drop n (b ∷ bs)) = ap (λ (k : ℕ). drop k bs) count ∙ sym far in
-    let next : items (length (before_end (b ∷ bs))) line bs ≡ items zero (lines_after (before_end (b ∷ bs)) line) (drop 1 (drop n (b ∷ bs))) = behind ∙ ap (items zero (lines_after (before_end (b ∷ bs)) line)) near in
-    let all : items zero line (b ∷ bs) ≡ record { line = line; bytes = before_end (b ∷ bs); ended = has_end (b ∷ bs) } ∷ items zero (lines_after (before_end (b ∷ bs)) line) (drop 1 (drop n (b ∷ bs))) = split ∙ ap (λ (r : List Item). record { line = line; bytes = before_end (b ∷ bs); ended = has_end (b ∷ bs) } ∷ r) next in
-    subst (λ (taken : List ℕ). items zero line (b ∷ bs) ≡ record { line = line; bytes = taken; ended = has_end (b ∷ bs) } ∷ items zero (lines_after taken line) (drop 1 (drop n (b ∷ bs)))) (sym is) all
+pub item_first : (line : ℕ) (t : List ℕ) → 0 < length t → BeginsItem t
+    → items zero line t ≡ record { line = line; bytes = before_end t; ended = has_end t } ∷ items zero (lines_after (before_end t) line) (drop 1 (drop (length (before_end t)) t))
+item_first line [] long begins = absurd (omega arith)
+item_first line (b ∷ bs) long begins =
+    let n = length (before_end (b ∷ bs)) in
+    let e : suc n ≡ n + 1 = omega arith in
+    let far : drop n bs ≡ drop 1 (drop n (b ∷ bs)) = ap (λ (k : ℕ). drop k (b ∷ bs)) e ∙ sym (drop-drop 1 n (b ∷ bs)) in
+    let one : items zero line (b ∷ bs) ≡ record { line = line; bytes = before_end (b ∷ bs); ended = has_end (b ∷ bs) } ∷ items n line bs = rw begins refl in
+    one ∙ ap (λ (r : List Item). record { line = line; bytes = before_end (b ∷ bs); ended = has_end (b ∷ bs) } ∷ r)
+    (items-behind_first b bs line begins ∙ ap (items zero (lines_after (before_end (b ∷ bs)) line)) far)
 
-take_rest : (k : ℕ) (xs : List ℕ) → length xs ≤ k → take k xs ≡ xs
-take_rest k xs h = grind (arith, common_steps)
+-- the item that is before a place, and what is read after that place
+item_read : (line n : ℕ) (t text after : List ℕ) → 0 < length t → BeginsItem t → n ≤ length t → take n t ≡ before_end t → text ≡ take n t → after ≡ drop n t
+    → items zero line t ≡ record { line = line; bytes = text; ended = has_end t } ∷ items zero (lines_after text line) (drop 1 after)
+item_read line n t text after long begins within is text-is after-is =
+    let count : length (before_end t) ≡ n = omega (arith, ap length is, length-take n t) in
+    let bytes : before_end t ≡ text = sym (text-is ∙ is) in
+    item_first line t long begins ∙ rw (count, bytes, ← after-is) refl
 
 -- the item at the end of the text
 pub item_last : (line n : ℕ) (t text after : List ℕ) → 0 < length t → BeginsItem t → n ≤ length t → take n t ≡ before_end t → (has_end t ≡ true → n < length t)
     → text ≡ take n t → after ≡ drop n t → length after < 1
     → items zero line t ≡ record { line = line; bytes = text; ended = false } ∷ items zero (lines_after text line) after
 item_last line n t text after long begins within is ends text-is after-is none =
-    let end : n ≡ length t = omega (arith, length-drop n t, ap length after-is) in
-    let open_ : has_end t ≡ false = false_from_ne_true (has_end t) (λ h. absurd (omega (arith, ends h))) in
-    let nothing : after ≡ [] = nil_from_length after (omega arith) in
-    let gone : drop n t ≡ [] = sym after-is ∙ nothing in
-    item_first line n t long begins within is ∙ rw (open_, gone, text-is, nothing) refl
+    let open_ : has_end t ≡ false = false_from_ne_true (has_end t) (λ h. absurd (omega (arith, ends h, length-drop n t, ap length after-is))) in
+    item_read line n t text after long begins within is text-is after-is ∙ rw (open_, nil_from_length after (omega arith)) refl
 
 -- the item before a point
 pub item_inner : (line n k : ℕ) (t text after : List ℕ) → 0 < length t → BeginsItem t → n ≤ length t → take n t ≡ before_end t → (n < length t → has_end t ≡ true)
@@ -70,5 +63,4 @@ pub item_inner : (line n k : ℕ) (t text after : List ℕ) → 0 < length t →
     → items zero line t ≡ record { line = line; bytes = text; ended = true } ∷ items zero (lines_after text line) (take k (drop 1 after))
 item_inner line n k t text after long begins within is ends text-is after-is some fits =
     let ended : has_end t ≡ true = ends (omega (arith, length-drop n t, ap length after-is)) in
-    let all : take k (drop 1 after) ≡ drop 1 after = take_rest k (drop 1 after) (omega (arith, length-drop 1 after)) in
-    item_first line n t long begins within is ∙ rw (ended, text-is, all, after-is) refl
+    item_read line n t text after long begins within is text-is after-is ∙ rw (ended, take_all k (drop 1 after) (omega (arith, length-drop 1 after))) refl

@@ -1,29 +1,27 @@
 -- The text without its comments is that of the relation.
-use Rattle.std.proofs.Common.{◌≡◌, ℕ, zero, suc, ◌+◌, Bool, true, false, cond, List, [], ◌∷◌, ◌++◌, length, drop, refl, sym, ap, subst, ◌∙◌, arith}
-use Rattle.std.specs.Prelude.{◌==◌, ◌&&◌, ◌||◌}
+use Rattle.std.proofs.Common.{◌≡◌, ◌≤◌, ◌<◌, ℕ, zero, suc, ◌+◌, Bool, true, false, List, [], ◌∷◌, ◌++◌, length, drop, refl, sym, ap, subst, ◌∙◌, arith, inl, inr, length-append}
+use Rattle.std.specs.Prelude.{◌==◌, ◌&&◌, ◌⊎◌}
 use Rattle.std.specs.List.{list_all, take_while}
-use Rattle.std.proofs.lemmas.Bool.{cond_both, and_parts, and_from, or_parts, or_from, eqb-true, eq-eqb, both_ways, false_from_ne_true}
-use Rattle.std.proofs.lemmas.List.{take-append-drop}
+use Rattle.std.proofs.lemmas.Bool.{cases_Bool, and_parts, and_from, or_parts, or_from, eqb-true, true≢false, not_from_false, false_from_ne_true}
+use Rattle.std.proofs.lemmas.List.{append-nil}
 use Rattle.std.proofs.Math.Seq.{drop-append_seam, drop-append-add}
 use Rattle.chr_lex.specs.Plain.{as_text, first_is, closes_here, closes, before_close, is_line_end, is_within_line, line_ends, plain}
 use Rattle.chr_lex.specs.Comments.{begins_comment, ends_line, NoClose, Plain, nothing, code, to_line_end, closed, unclosed}
 use Rattle.chr_lex.proofs.Comments.{plain-skip}
-use Rattle.chr_lex.proofs.Longest.{while_cons, while_none, all_passing, taken}
+use Rattle.chr_lex.proofs.Longest.{while_over}
 
 -- ---- where a comment ends
 
 no_close_behind : (b : ℕ) (bs : List ℕ) → NoClose (b ∷ bs) → NoClose bs
 no_close_behind b bs none front back e = none (b ∷ front) back (ap (λ (r : List ℕ). b ∷ r) e)
 
-first_split : (a : ℕ) (bs : List ℕ) → first_is a bs ≡ true → bs ≡ a ∷ drop 1 bs
-first_split a [] h = absurd cc
-first_split a (b ∷ bs) h = ap (λ (c : ℕ). c ∷ bs) (eqb-true b a h)
+-- the two bytes are at the front
+begins_with : (a c b : ℕ) (bs : List ℕ) → ((b == a) && first_is c bs) ≡ true → a ∷ c ∷ drop 1 bs ≡ b ∷ bs
+begins_with a c b [] h = let none = (and_parts (b == a) false h).1 in absurd cc
+begins_with a c b (d ∷ bs) h = let parts = and_parts (b == a) (d == c) h in rw (eqb-true b a parts.0, eqb-true d c parts.1) refl
 
 no_close_here : (b : ℕ) (bs : List ℕ) → NoClose (b ∷ bs) → closes_here b bs ≡ false
-no_close_here b bs none =
-    false_from_ne_true (closes_here b bs) (λ h.
-    let parts = and_parts (b == 42) (first_is 47 bs) h in
-    none [] (drop 1 bs) (ap (λ (c : ℕ). c ∷ bs) (eqb-true b 42 parts.0) ∙ ap (λ (r : List ℕ). 42 ∷ r) (first_split 47 bs parts.1)))
+no_close_here b bs none = false_from_ne_true (closes_here b bs) (λ h. none [] (drop 1 bs) (sym (begins_with 42 47 b bs h)))
 
 never_closes : (bs : List ℕ) → NoClose bs → closes bs ≡ false
 never_closes [] none = refl
@@ -41,15 +39,9 @@ closes_behind (b ∷ comment) bs none =
     let more = closes_behind comment bs (no_close_behind b (comment ++ 42 ∷ []) none) in
     (rw here more.0, rw here (ap (λ (r : List ℕ). b ∷ r) more.1))
 
-while_to : (p : ℕ → Bool) (xs ys : List ℕ) → list_all p xs ≡ true → take_while p ys ≡ [] → take_while p (xs ++ ys) ≡ xs
-while_to p [] ys all none = none
-while_to p (x ∷ xs) ys all none =
-    let parts = and_parts (p x) (list_all p xs) all in
-    while_cons p x (xs ++ ys) parts.0 ∙ ap (λ (r : List ℕ). x ∷ r) (while_to p xs ys parts.1 none)
-
 line_over : (bs : List ℕ) → ends_line bs ≡ true → take_while is_within_line bs ≡ []
 line_over [] h = refl
-line_over (b ∷ bs) h = while_none is_within_line b bs (rw h refl)
+line_over (b ∷ bs) h = rw h refl
 
 -- ---- what is in the relation is the text without its comments
 
@@ -60,7 +52,7 @@ code_plain b bs out h more =
 
 line_plain : (comment bs out : List ℕ) → list_all is_within_line comment ≡ true → ends_line bs ≡ true → plain zero bs ≡ out → plain zero (37 ∷ (comment ++ bs)) ≡ 32 ∷ out
 line_plain comment bs out within over more =
-    let whole : take_while is_within_line (comment ++ bs) ≡ comment = while_to is_within_line comment bs within (line_over bs over) in
+    let whole : take_while is_within_line (comment ++ bs) ≡ comment = while_over is_within_line comment bs within ∙ rw (line_over bs over) (append-nil comment) in
     let there : plain (length (take_while is_within_line (comment ++ bs))) (comment ++ bs) ≡ out =
     ap (λ (w : List ℕ). plain (length w) (comment ++ bs)) whole ∙ plain-skip (length comment) (comment ++ bs) ∙ ap (plain zero) (drop-append_seam comment bs) ∙ more in
     ap (λ (r : List ℕ). 32 ∷ r) there
@@ -87,107 +79,77 @@ are_plain _ _ (unclosed bs none) = unclosed_plain bs none
 
 -- ---- the text without its comments is in the relation
 
-no_close_in_nothing : NoClose []
-no_close_in_nothing [] back e = absurd cc
-no_close_in_nothing (c ∷ front) back e = absurd cc
+too_short : (bs : List ℕ) → length bs < 2 → NoClose bs
+too_short bs short front back e = omega (arith, ap length e, length-append front (42 ∷ 47 ∷ back))
 
 no_close_cons : (b : ℕ) (bs : List ℕ) → closes_here b bs ≡ false → NoClose bs → NoClose (b ∷ bs)
-no_close_cons b bs here none [] back e =
-    let head : b ≡ 42 = cc in
-    let tail : bs ≡ 47 ∷ back = cc in
-    both_ways (closes_here b bs) here (and_from (b == 42) (first_is 47 bs) (eq-eqb b 42 head) (rw tail refl))
-no_close_cons b bs here none (c ∷ front) back e =
-    let tail : bs ≡ front ++ 42 ∷ 47 ∷ back = cc in
-    none front back tail
+no_close_cons b bs here none [] back e = let head : b ≡ 42 = cc in let tail : bs ≡ 47 ∷ back = cc in absurd (true≢false (rw (head, tail) at here))
+no_close_cons b bs here none (c ∷ front) back e = none front back (ap (drop 1) e)
 
-no_close : (bs : List ℕ) → closes bs ≡ false → NoClose bs
-no_close [] h = no_close_in_nothing
-no_close (b ∷ bs) h =
-    let parts = or_parts (closes_here b bs) (closes bs) h in
-    no_close_cons b bs parts.0 (no_close bs parts.1)
+record Closed (t : List ℕ) : Type 0 where
+  comment : List ℕ
+  rest : List ℕ
+  split : comment ++ 42 ∷ 47 ∷ rest ≡ t
+  none : NoClose (comment ++ 42 ∷ [])
 
-no_close_star : NoClose (42 ∷ [])
-no_close_star [] back e = absurd cc
-no_close_star (c ∷ front) back e = no_close_in_nothing front back (ap (drop 1) e)
+first_close : (t : List ℕ) → Closed t ⊎ NoClose t
+first_close [] = inr (too_short [] (omega arith))
+first_close (b ∷ bs) =
+    elim (cases_Bool (closes_here b bs)) [
+      | inl h ↦ inl record { comment = []; rest = drop 1 bs; split = begins_with 42 47 b bs h; none = too_short (42 ∷ []) (omega arith) }
+      | inr h ↦ elim (first_close bs) [
+        | inl e ↦
+            let here = ap (λ (v : Bool). (b == 42) && v) (first_alike e.comment (47 ∷ e.rest) ∙ ap (first_is 47) e.split) ∙ h in
+            inl record { comment = b ∷ e.comment; rest = e.rest; split = ap (λ (r : List ℕ). b ∷ r) e.split; none = no_close_cons b (e.comment ++ 42 ∷ []) here e.none }
+        | inr none ↦ inr (no_close_cons b bs h none)
+      ]
+    ]
 
-no_close_before : (bs : List ℕ) → closes bs ≡ true → NoClose (before_close bs ++ 42 ∷ []) × (bs ≡ before_close bs ++ 42 ∷ 47 ∷ drop (length (before_close bs) + 2) bs)
-no_close_before [] h = absurd cc
-no_close_before (b ∷ bs) h =
-    (elim (closes_here b bs) as (λ v. closes_here b bs ≡ v → v || closes bs ≡ true
-    → NoClose (cond v [] (b ∷ before_close bs) ++ 42 ∷ []) × (b ∷ bs ≡ cond v [] (b ∷ before_close bs) ++ 42 ∷ 47 ∷ drop (length (cond v [] (b ∷ before_close bs)) + 2) (b ∷ bs))) [
-      | true ↦ λ e t.
-          let parts = and_parts (b == 42) (first_is 47 bs) e in
-          (no_close_star, ap (λ (c : ℕ). c ∷ bs) (eqb-true b 42 parts.0) ∙ ap (λ (r : List ℕ). 42 ∷ r) (first_split 47 bs parts.1))
-      | false ↦ λ e t.
-          let more = no_close_before bs t in
-          let inner = before_close bs in
-          let alike : first_is 47 (inner ++ 42 ∷ []) ≡ first_is 47 bs = first_alike inner (47 ∷ drop (length inner + 2) bs) ∙ ap (first_is 47) (sym more.1) in
-          let here : closes_here b (inner ++ 42 ∷ []) ≡ false = ap (λ (v : Bool). (b == 42) && v) alike ∙ e in
-          let count : suc (length inner) + 2 ≡ suc (length inner + 2) = omega arith in
-          (no_close_cons b (inner ++ 42 ∷ []) here more.0, ap (λ (r : List ℕ). b ∷ r) more.1 ∙ ap (λ (k : ℕ). b ∷ (inner ++ 42 ∷ 47 ∷ drop k (b ∷ bs))) (sym count))
-    ]) refl h
+record Line (t : List ℕ) : Type 0 where
+  comment : List ℕ
+  rest : List ℕ
+  split : comment ++ rest ≡ t
+  within : list_all is_within_line comment ≡ true
+  over : ends_line rest ≡ true
 
-while_stops : (bs : List ℕ) → ends_line (drop (length (take_while is_within_line bs)) bs) ≡ true
-while_stops [] = refl
-while_stops (b ∷ bs) =
-    (elim (is_line_end b) as (λ v. is_line_end b ≡ v → ends_line (drop (length (take_while is_within_line (b ∷ bs))) (b ∷ bs)) ≡ true) [
-      | true ↦ λ h.
-          let none : take_while is_within_line (b ∷ bs) ≡ [] = while_none is_within_line b bs (rw h refl) in
-          ap (λ (w : List ℕ). ends_line (drop (length w) (b ∷ bs))) none ∙ h
-      | false ↦ λ h.
-          let some : take_while is_within_line (b ∷ bs) ≡ b ∷ take_while is_within_line bs = while_cons is_within_line b bs (rw h refl) in
-          ap (λ (w : List ℕ). ends_line (drop (length w) (b ∷ bs))) some ∙ while_stops bs
-    ]) refl
+first_line : (t : List ℕ) → Line t
+first_line [] = record { comment = []; rest = []; split = refl; within = refl; over = refl }
+first_line (b ∷ bs) =
+    elim (cases_Bool (is_line_end b)) [
+      | inl h ↦ record { comment = []; rest = b ∷ bs; split = refl; within = refl; over = h }
+      | inr h ↦
+          let more = first_line bs in
+          record { comment = b ∷ more.comment; rest = more.rest; split = ap (λ (r : List ℕ). b ∷ r) more.split; within = and_from (is_within_line b) _ (not_from_false _ h) more.within; over = more.over }
+    ]
 
-line_found : (b : ℕ) (bs out : List ℕ) → b ≡ 37 → Plain (drop (length (take_while is_within_line bs)) bs) out → Plain (b ∷ bs) (32 ∷ out)
-line_found b bs out percent more =
-    let n = length (take_while is_within_line bs) in
-    let split : take_while is_within_line bs ++ drop n bs ≡ bs = ap (λ (w : List ℕ). w ++ drop n bs) (sym (taken is_within_line bs)) ∙ take-append-drop n bs in
-    let bytes : 37 ∷ (take_while is_within_line bs ++ drop n bs) ≡ b ∷ bs = ap (λ (r : List ℕ). 37 ∷ r) split ∙ ap (λ (c : ℕ). c ∷ bs) (sym percent) in
-    subst (λ (r : List ℕ). Plain r (32 ∷ out)) bytes (to_line_end (take_while is_within_line bs) (drop n bs) out (all_passing is_within_line bs) (while_stops bs) more)
-
-begins_block : (b : ℕ) (bs : List ℕ) → ((b == 47) && first_is 42 bs) ≡ true → 47 ∷ 42 ∷ drop 1 bs ≡ b ∷ bs
-begins_block b bs h =
-    let parts = and_parts (b == 47) (first_is 42 bs) h in
-    ap (λ (r : List ℕ). 47 ∷ r) (sym (first_split 42 bs parts.1)) ∙ ap (λ (c : ℕ). c ∷ bs) (sym (eqb-true b 47 parts.0))
-
-drop_first : (k : ℕ) (bs : List ℕ) → drop (3 + k) bs ≡ drop (k + 2) (drop 1 bs)
-drop_first k [] =
-    let count : 3 + k ≡ suc (k + 2) = omega arith in
-    let less : k + 2 ≡ suc (k + 1) = omega arith in
-    rw (count, less) refl
-drop_first k (b ∷ bs) =
-    let count : 3 + k ≡ suc (k + 2) = omega arith in
-    ap (λ (n : ℕ). drop n (b ∷ bs)) count
-
-block_found : (b : ℕ) (bs out : List ℕ) → ((b == 47) && first_is 42 bs) ≡ true → closes (drop 1 bs) ≡ true → Plain (drop (3 + length (before_close (drop 1 bs))) bs) out
-    → Plain (b ∷ bs) (1 ∷ (line_ends (before_close (drop 1 bs)) ++ out))
-block_found b bs out begins h more =
-    let inside = drop 1 bs in
-    let inner = before_close inside in
-    let ends = no_close_before inside h in
-    let rest : Plain (drop (length inner + 2) inside) out = subst (λ (r : List ℕ). Plain r out) (drop_first (length inner) bs) more in
-    let bytes : 47 ∷ 42 ∷ (inner ++ 42 ∷ 47 ∷ drop (length inner + 2) inside) ≡ b ∷ bs = ap (λ (r : List ℕ). 47 ∷ 42 ∷ r) (sym ends.1) ∙ begins_block b bs begins in
-    subst (λ (r : List ℕ). Plain r (1 ∷ (line_ends inner ++ out))) bytes (closed inner (drop (length inner + 2) inside) out ends.0 rest)
-
-unclosed_found : (b : ℕ) (bs : List ℕ) → ((b == 47) && first_is 42 bs) ≡ true → closes (drop 1 bs) ≡ false → Plain (b ∷ bs) (2 ∷ [])
-unclosed_found b bs begins h = subst (λ (r : List ℕ). Plain r (2 ∷ [])) (begins_block b bs begins) (unclosed (drop 1 bs) (no_close (drop 1 bs) h))
-
-found_from : (bs : List ℕ) (k : ℕ) → Plain (drop k bs) (plain k bs)
-found_from [] zero = nothing
-found_from [] (suc k) = nothing
-found_from (b ∷ bs) (suc k) = found_from bs k
-found_from (b ∷ bs) zero =
-    cond_both (b == 37) _ _ (Plain (b ∷ bs))
-    (λ h. line_found b bs (plain (length (take_while is_within_line bs)) bs) (eqb-true b 37 h) (found_from bs (length (take_while is_within_line bs))))
-    (λ h. cond_both ((b == 47) && first_is 42 bs) _ _ (Plain (b ∷ bs))
-    (λ begins. cond_both (closes (drop 1 bs)) _ _ (Plain (b ∷ bs))
-    (λ c. block_found b bs (plain (3 + length (before_close (drop 1 bs))) bs) begins c (found_from bs (3 + length (before_close (drop 1 bs)))))
-    (λ c. unclosed_found b bs begins c))
-    (λ other. code b bs (plain zero bs) (or_from (b == 37) ((b == 47) && first_is 42 bs) h other) (found_from bs zero)))
+every_text : (k : ℕ) (bs : List ℕ) → length bs ≤ k → (out : List ℕ) × Plain bs out
+every_text k [] fits = ([], nothing)
+every_text zero (b ∷ bs) fits = absurd (omega arith)
+every_text (suc k) (b ∷ bs) fits =
+    elim (cases_Bool (b == 37)) [
+      | inl percent ↦
+          let l = first_line bs in
+          let more = every_text k l.rest (omega (arith, ap length l.split, length-append l.comment l.rest)) in
+          let bytes : 37 ∷ (l.comment ++ l.rest) ≡ b ∷ bs = rw (eqb-true b 37 percent, l.split) refl in
+          (32 ∷ more.0, subst (λ (r : List ℕ). Plain r (32 ∷ more.0)) bytes (to_line_end l.comment l.rest more.0 l.within l.over more.1))
+      | inr other ↦ elim (cases_Bool ((b == 47) && first_is 42 bs)) [
+        | inl begins ↦
+            let bytes = begins_with 47 42 b bs begins in
+            elim (first_close (drop 1 bs)) [
+              | inl c ↦
+                  let more = every_text k c.rest (omega (arith, ap length bytes, ap length c.split, length-append c.comment (42 ∷ 47 ∷ c.rest))) in (
+                    1 ∷ (line_ends c.comment ++ more.0),
+                    subst (λ (r : List ℕ). Plain r (1 ∷ (line_ends c.comment ++ more.0)))
+                        (ap (λ (r : List ℕ). 47 ∷ 42 ∷ r) c.split ∙ bytes) (closed c.comment c.rest more.0 c.none more.1),
+                  )
+              | inr none ↦ (2 ∷ [], subst (λ (r : List ℕ). Plain r (2 ∷ [])) bytes (unclosed (drop 1 bs) none))
+            ]
+        | inr code_ ↦ let more = every_text k bs (omega arith) in (as_text b ∷ more.0, code b bs more.0 (or_from (b == 37) _ other code_) more.1)
+      ]
+    ]
 
 pub is_plain : (bs out : List ℕ) → plain zero bs ≡ out → Plain bs out
-is_plain bs out h = subst (Plain bs) h (found_from bs zero)
+is_plain bs out h = let some = every_text (length bs) bs (omega arith) in subst (Plain bs) (sym (are_plain bs some.0 some.1) ∙ h) some.1
 
 pub one_text : (bs out other : List ℕ) → Plain bs out → Plain bs other → out ≡ other
 one_text bs out other a b = sym (are_plain bs out a) ∙ are_plain bs other b

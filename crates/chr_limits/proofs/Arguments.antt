@@ -1,7 +1,7 @@
 -- How many elements pass a test, and how many arguments a word has, one element more.
-use Rattle.std.proofs.Common.{◌≡◌, ◌<◌, ℕ, suc, ◌+◌, ◌-◌, Bool, true, false, cond, List, [], ◌∷◌, length, filter, nat_eq, nat_lt, map, drop, get_or, refl, ap, ◌∙◌, arith}
+use Rattle.std.proofs.Common.{◌≡◌, ◌<◌, ℕ, suc, ◌+◌, ◌-◌, Bool, true, false, List, ◌∷◌, length, filter, nat_eq, nat_lt, map, drop, get_or, refl, ap, ◌∙◌, arith}
 use Rattle.std.specs.List.{take_while}
-use Rattle.std.proofs.lemmas.Bool.{lt-ltb, eq-eqb, ne_eqb}
+use Rattle.std.proofs.lemmas.Bool.{cond-true, lt-ltb, eq-eqb, ne_eqb}
 use Rattle.std.proofs.lemmas.List.{at_drop_more}
 use Rattle.std.proofs.lemmas.List.Sums.{take_while-cons}
 use Rattle.chr_grammar.specs.Parsed as parsed
@@ -34,20 +34,8 @@ inside d ns = take_while (λ n. nat_lt d n.depth) ns
 abbrev direct : ℕ → List parsed.TermNode → ℕ
 direct d ns = length (filter (λ n. nat_eq n.depth (suc d)) ns)
 
-goes_on : (d : ℕ) (n : parsed.TermNode) (ns : List parsed.TermNode) → d < n.depth → arguments_behind d (n ∷ ns) ≡ direct d (n ∷ inside d ns)
-goes_on d n ns h =
-    let more : cond (nat_lt d n.depth) (n ∷ inside d ns) [] ≡ n ∷ inside d ns = rw (lt-ltb d n.depth h) refl in
-    ap (direct d) (take_while-cons (λ n. nat_lt d n.depth) n ns ∙ more)
-
-one_more : (d : ℕ) (n : parsed.TermNode) (ns : List parsed.TermNode) → n.depth ≡ suc d → arguments_behind d (n ∷ ns) ≡ suc (arguments_behind d ns)
-one_more d n ns h =
-    let more : direct d (n ∷ inside d ns) ≡ suc (direct d (inside d ns)) = rw (eq-eqb n.depth (suc d) h) refl in
-    goes_on d n ns (omega (arith, h)) ∙ more
-
-none_more : (d : ℕ) (n : parsed.TermNode) (ns : List parsed.TermNode) → d < n.depth → (n.depth ≡ suc d → ⊥) → arguments_behind d (n ∷ ns) ≡ arguments_behind d ns
-none_more d n ns lt h =
-    let more : direct d (n ∷ inside d ns) ≡ direct d (inside d ns) = rw (ne_eqb n.depth (suc d) h) refl in
-    goes_on d n ns lt ∙ more
+deeper_more : (d : ℕ) (n : parsed.TermNode) (ns : List parsed.TermNode) → d < n.depth → arguments_behind d (n ∷ ns) ≡ direct d (n ∷ inside d ns)
+deeper_more d n ns h = ap (direct d) (take_while-cons (λ n. nat_lt d n.depth) n ns ∙ cond-true (nat_lt d n.depth) _ _ (lt-ltb d n.depth h))
 
 -- ---- at a step of a loop
 
@@ -58,11 +46,13 @@ pub counted_one : (d k total : ℕ) (ns : List TermNode) (i : ℕ) (e : TermNode
     → k + 1 + arguments_behind d (map node (drop (i + 1) ns)) ≡ total
 counted_one d k total ns i e lt deeper by_one so_far =
     let is : (get_or ns i e).depth ≡ suc d = omega arith in
-    let more = there d ns i e lt ∙ one_more d (node (get_or ns i e)) (map node (drop (i + 1) ns)) is in
+    let one : direct d (node (get_or ns i e) ∷ inside d (map node (drop (i + 1) ns))) ≡ suc (arguments_behind d (map node (drop (i + 1) ns))) = rw (eq-eqb (get_or ns i e).depth (suc d) is) refl in
+    let more = there d ns i e lt ∙ deeper_more d (node (get_or ns i e)) (map node (drop (i + 1) ns)) deeper ∙ one in
     omega (arith, more, so_far)
 
 pub counted_none : (d k total : ℕ) (ns : List TermNode) (i : ℕ) (e : TermNode) → i < length ns → d < (get_or ns i e).depth → ((get_or ns i e).depth - d ≡ 1 → ⊥) → k + arguments_behind d (map node (drop i ns)) ≡ total
     → k + arguments_behind d (map node (drop (i + 1) ns)) ≡ total
 counted_none d k total ns i e lt deeper other so_far =
-    let same = there d ns i e lt ∙ none_more d (node (get_or ns i e)) (map node (drop (i + 1) ns)) deeper (λ h. other (omega (arith, h))) in
+    let none : direct d (node (get_or ns i e) ∷ inside d (map node (drop (i + 1) ns))) ≡ arguments_behind d (map node (drop (i + 1) ns)) = rw (ne_eqb (get_or ns i e).depth (suc d) (λ h. other (omega (arith, h)))) refl in
+    let same = there d ns i e lt ∙ deeper_more d (node (get_or ns i e)) (map node (drop (i + 1) ns)) deeper ∙ none in
     omega (arith, same, so_far)

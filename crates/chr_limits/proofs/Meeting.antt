@@ -1,24 +1,20 @@
 -- Variables seen in turn.
-use Rattle.std.proofs.Common.{◌≡◌, ◌+◌, ◌≤◌, ◌<◌, ℕ, Bool, true, false, ◌&&◌, cond, List, [], ◌∷◌, ◌++◌, length, map, drop, get_or, flat_map, length-append, Option, Some, None, MatchOption, is_some, refl, sym, ap, ◌∙◌, arith}
+use Rattle.std.proofs.Common.{◌≡◌, ◌+◌, ◌≤◌, ◌<◌, ℕ, true, false, cond, List, [], ◌∷◌, ◌++◌, length, map, drop, get_or, flat_map, length-append, Option, Some, None, MatchOption, is_some, refl, sym, ap, ◌∙◌, arith}
+use Rattle.std.proofs.lemmas.Bool.{cond_both, and_parts}
 use Rattle.std.proofs.lemmas.List.{at_drop_more}
 use Rattle.chr_limits.specs.Variables.{is_seen, seen_from}
 use Rattle.chr_limits.specs.Scope.{are_seen}
 
-append_step : (b : Bool) (m n xs ys : List (List ℕ)) → seen_from m (xs ++ ys) ≡ seen_from (seen_from m xs) ys → seen_from n (xs ++ ys) ≡ seen_from (seen_from n xs) ys → cond b (seen_from m (xs ++ ys)) (seen_from n (xs ++ ys)) ≡ seen_from (cond b (seen_from m xs) (seen_from n xs)) ys
-append_step true m n xs ys p q = p
-append_step false m n xs ys p q = q
-
 pub met_from_append : (m xs ys : List (List ℕ)) → seen_from m (xs ++ ys) ≡ seen_from (seen_from m xs) ys
 met_from_append m [] ys = refl
-met_from_append m (x ∷ xs) ys = append_step (is_seen m x) m (m ++ x ∷ []) xs ys (met_from_append m xs ys) (met_from_append (m ++ x ∷ []) xs ys)
-
-longer_step : (b : Bool) (m n xs : List (List ℕ)) → length m ≤ length n → length m ≤ length (seen_from m xs) → length n ≤ length (seen_from n xs) → length m ≤ length (cond b (seen_from m xs) (seen_from n xs))
-longer_step true m n xs h p q = p
-longer_step false m n xs h p q = omega arith
+met_from_append m (x ∷ xs) ys =
+    let n = m ++ x ∷ [] in
+    elim (is_seen m x) as (λ b. cond b (seen_from m (xs ++ ys)) (seen_from n (xs ++ ys)) ≡ seen_from (cond b (seen_from m xs) (seen_from n xs)) ys) [ true ↦ met_from_append m xs ys | false ↦ met_from_append n xs ys ]
 
 pub met_from_longer : (m xs : List (List ℕ)) → length m ≤ length (seen_from m xs)
 met_from_longer m [] = omega arith
-met_from_longer m (x ∷ xs) = longer_step (is_seen m x) m (m ++ x ∷ []) xs (omega (arith, length-append m (x ∷ []))) (met_from_longer m xs) (met_from_longer (m ++ x ∷ []) xs)
+met_from_longer m (x ∷ xs) =
+    cond_both (is_seen m x) _ _ (λ l. length m ≤ length l) (λ h. met_from_longer m xs) (λ h. omega (arith, met_from_longer (m ++ x ∷ []) xs, length-append m (x ∷ [])))
 
 -- too many so far are too many
 pub met_from_more : (m xs ys : List (List ℕ)) → length (seen_from m xs) ≤ length (seen_from m (xs ++ ys))
@@ -28,7 +24,7 @@ pub short_more : (m xs ys : List (List ℕ)) → 24 < length (seen_from m xs) �
 short_more m xs ys h = omega (arith, met_from_more m xs ys)
 
 -- the variables of one element more, as at a step of a loop
-one_more : {X W : Type 0} (h : W → List (List ℕ)) (v : X → W) (m : List (List ℕ)) (xs : List X) (i : ℕ) (d : X) → i < length xs → seen_from m (flat_map h (map v (drop i xs))) ≡ seen_from (seen_from m (h (v (get_or xs i d)))) (flat_map h (map v (drop (i + 1) xs)))
+pub one_more : {X W : Type 0} (h : W → List (List ℕ)) (v : X → W) (m : List (List ℕ)) (xs : List X) (i : ℕ) (d : X) → i < length xs → seen_from m (flat_map h (map v (drop i xs))) ≡ seen_from (seen_from m (h (v (get_or xs i d)))) (flat_map h (map v (drop (i + 1) xs)))
 one_more h v m xs i d k =
     at_drop_more (λ ys. seen_from m (flat_map h (map v ys))) xs i d k ∙ met_from_append m (h (v (get_or xs i d))) (flat_map h (map v (drop (i + 1) xs)))
 
@@ -46,14 +42,10 @@ meet_short h v m b p xs i d k e s f =
 pub short_first : (m : List (List ℕ)) (x : List ℕ) (ys : List (List ℕ)) → 24 < length (seen_from m (x ∷ [])) → 24 < length (seen_from m (x ∷ ys))
 short_first m x ys h = short_more m (x ∷ []) ys h
 
-are_seen_step : (b c : Bool) (l r k : List (List ℕ)) → b && c ≡ true → (c ≡ true → l ≡ k) → cond b l r ≡ k
-are_seen_step true c l r k e f = f e
-are_seen_step false c l r k e f = absurd (cc)
-
 -- those that were seen add nothing
 pub met_from_seen : (m xs : List (List ℕ)) → are_seen m xs ≡ true → seen_from m xs ≡ m
 met_from_seen m [] e = refl
-met_from_seen m (x ∷ xs) e = are_seen_step (is_seen m x) (are_seen m xs) (seen_from m xs) (seen_from (m ++ x ∷ []) xs) m e (met_from_seen m xs)
+met_from_seen m (x ∷ xs) e = let parts = and_parts (is_seen m x) (are_seen m xs) e in rw parts.0 (met_from_seen m xs parts.1)
 
 -- three lists seen in turn
 pub met_in_turn : (xs ys zs m n k : List (List ℕ)) → m ≡ seen_from [] xs → n ≡ seen_from m ys → k ≡ seen_from n zs → seen_from [] (xs ++ ys ++ zs) ≡ k

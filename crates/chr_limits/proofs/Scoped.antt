@@ -1,26 +1,20 @@
 -- The scope of a body, one member more.
-use Rattle.std.proofs.Common.{◌≡◌, ◌+◌, ◌≤◌, ◌<◌, ℕ, Bool, true, false, not, ◌&&◌, ◌||◌, List, [], ◌∷◌, ◌++◌, length, map, drop, get_or, flat_map, length-append, bytes_eq, refl, sym, ap, ◌∙◌, arith}
+use Rattle.std.proofs.Common.{◌≡◌, ◌+◌, ◌≤◌, ◌<◌, ℕ, Bool, true, false, not, ◌&&◌, List, [], ◌∷◌, ◌++◌, length, map, drop, get_or, flat_map, length-append, bytes_eq, refl, sym, ap, ◌∙◌, arith}
 use Rattle.std.specs.List.{list_any}
 use Rattle.std.specs.Bool.{OnTrue}
-use Rattle.std.proofs.lemmas.Bool.{OnTrue_from}
+use Rattle.std.proofs.lemmas.Bool.{OnTrue_from, and_from, and_left, or_left}
 use Rattle.std.proofs.lemmas.List.{at_drop_more}
 use Rattle.std.proofs.lemmas.List.Folds.{list_any-append}
 use Rattle.chr_value.proofs.Chosen.{both}
 use Rattle.chr_grammar.specs.Parsed.{BodyMember}
 use Rattle.chr_limits.specs.Variables.{is_blank, is_seen, seen_from, member_variables}
 use Rattle.chr_limits.specs.Scope.{are_seen, body_in_scope}
-use Rattle.chr_limits.proofs.Meeting.{met_from_append, met_from_longer, met_from_seen}
-
-still_or : (b c : Bool) → b ≡ true → b || c ≡ true
-still_or b c e = rw e refl
-
-still_and : (b c d : Bool) → (c ≡ true → d ≡ true) → b && c ≡ true → b && d ≡ true
-still_and true c d f e = f e
-still_and false c d f e = e
+use Rattle.chr_limits.proofs.Meeting.{one_more as met_more, met_from_append, met_from_longer, met_from_seen}
 
 still_seen : (m : List (List ℕ)) (x y : List ℕ) → is_seen m y ≡ true → is_seen (m ++ x ∷ []) y ≡ true
 still_seen m x y e =
-    still_and (not (is_blank y)) (list_any (bytes_eq y) m) (list_any (bytes_eq y) (m ++ x ∷ [])) (λ h. list_any-append (bytes_eq y) m (x ∷ []) ∙ still_or _ _ h) e
+    let parts = both (not (is_blank y)) (list_any (bytes_eq y) m) e in
+    and_from (not (is_blank y)) _ parts.0 (list_any-append (bytes_eq y) m (x ∷ []) ∙ or_left _ _ parts.1)
 
 -- those that were seen are so after one more
 pub still_all_seen : (m : List (List ℕ)) (x : List ℕ) (ys : List (List ℕ)) → are_seen m ys ≡ true → are_seen (m ++ x ∷ []) ys ≡ true
@@ -34,12 +28,10 @@ skipped : (m xs ys : List (List ℕ)) → are_seen m xs ≡ true → seen_from m
 skipped m xs ys e = met_from_append m xs ys ∙ ap (λ (l : List (List ℕ)). seen_from l ys) (met_from_seen m xs e)
 
 pub stopped : (b c all : Bool) → b ≡ false → (b && c) ≡ all → false ≡ all
-stopped true c all e h = absurd (cc)
-stopped false c all e h = h
+stopped b c all e h = sym (and_left b c e) ∙ h
 
 pub goes_on : (b c all : Bool) → b ≡ true → (b && c) ≡ all → c ≡ all
-goes_on true c all e h = h
-goes_on false c all e h = absurd (cc)
+goes_on b c all e h = rw e at h
 
 pub room_for : (m : List (List ℕ)) (x : List ℕ) (ys : List (List ℕ)) → is_seen m x ≡ false → length (seen_from m (x ∷ ys)) ≤ 24 → length m < 24
 room_for m x ys e h =
@@ -55,9 +47,7 @@ all_met m xs b e = OnTrue_from b _ (λ h. sym (met_from_seen m xs (sym e ∙ h))
 -- a body with one member more, as at a step of a loop
 one_more : {X : Type 0} (v : X → BodyMember) (m : List (List ℕ)) (xs : List X) (i : ℕ) (x : X) → i < length xs → x ≡ get_or xs i x → seen_from m (flat_map member_variables (map v (drop i xs))) ≡ seen_from (seen_from m (member_variables (v x))) (flat_map member_variables (map v (drop (i + 1) xs)))
 one_more v m xs i x lt is =
-    at_drop_more (λ ys. seen_from m (flat_map member_variables (map v ys))) xs i x lt
-    ∙ met_from_append m (member_variables (v (get_or xs i x))) (flat_map member_variables (map v (drop (i + 1) xs)))
-    ∙ ap (λ y. seen_from (seen_from m (member_variables (v y))) (flat_map member_variables (map v (drop (i + 1) xs)))) (sym is)
+    met_more member_variables v m xs i x lt ∙ ap (λ y. seen_from (seen_from m (member_variables (v y))) (flat_map member_variables (map v (drop (i + 1) xs)))) (sym is)
 
 pub room_left : {X : Type 0} (v : X → BodyMember) (m : List (List ℕ)) (xs : List X) (i : ℕ) (x : X) → i < length xs → x ≡ get_or xs i x → length (seen_from m (flat_map member_variables (map v (drop i xs)))) ≤ 24 → length (seen_from m (member_variables (v x))) ≤ 24
 room_left v m xs i x lt is few =

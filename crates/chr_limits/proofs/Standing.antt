@@ -1,18 +1,15 @@
 -- What is judged without a fault is what may stand.
 use Rattle.std.proofs.Common.{◌≡◌, ◌<◌, ◌+◌, Bool, true, false, ltb, ◌||◌, cond, List, [], ◌∷◌, length, filter, Result, Ok, Err, refl, arith}
 use Rattle.std.specs.List.{list_any}
-use Rattle.std.proofs.lemmas.Bool.{ltb-false, le-ltb}
+use Rattle.std.proofs.lemmas.Bool.{ltb-false, le-ltb, or_from}
 use Rattle.chr_value.proofs.Texts.{neither}
 use Rattle.chr_lex.specs.declared.fault.Kind.{Kind}
 use Rattle.chr_grammar.specs.Parsed.{Declared, ParsedAtom, ParsedRule}
 use Rattle.chr_limits.specs.Words.{is_long, phrase_has, rule_has}
 use Rattle.chr_limits.specs.Limits.{has_many_args, has_large_args, has_wide_atom, has_large_term, has_many_parts, is_too_large, is_comparison, is_item}
 use Rattle.chr_limits.specs.Variables.{variables_of, seen}
-use Rattle.chr_limits.specs.Judging.{removes_nothing, is_propagation, rule_judged, declaration_judged, post_judged}
+use Rattle.chr_limits.specs.Judging.{removes_nothing, rule_judged, declaration_judged, post_judged}
 use Rattle.chr_limits.specs.Standing.{IsAllowedRule, AreAllowedDeclarations, AreAllowedPosts}
-
-nor : (a b : Bool) → a ≡ false → b ≡ false → a || b ≡ false
-nor a b h k = rw h k
 
 -- a test that is passed
 pub passed : {A : Type 0} (b : Bool) (k : Kind) (rest : Result A Kind) (x : A) → cond b (Err k) rest ≡ Ok x → (b ≡ false) × (rest ≡ Ok x)
@@ -32,12 +29,6 @@ none_else : (ps : List ParsedAtom) → 0 < length ps → removes_nothing ps ≡ 
 none_else [] h = absurd (omega arith)
 none_else (p ∷ ps) h = refl
 
-removing : (r : ParsedRule) → is_propagation r ≡ false → 0 < length r.removed
-removing r h = some_removed r.removed h
-
-removed : (r : ParsedRule) → 0 < length r.removed → is_propagation r ≡ false
-removed r h = none_else r.removed h
-
 -- what the test of the limits passes keeps to each
 pub stands : (full : Bool) (r : ParsedRule) → rule_judged full r ≡ Ok tt → (full ≡ false) × IsAllowedRule r
 stands full r h =
@@ -51,14 +42,14 @@ stands full r h =
     let parts = neither (ltb 6 (length r.kept + length r.removed) || ltb 16 (length (filter is_comparison r.guard)) || ltb 16 (length (filter is_item r.body))) (ltb 24 (length (seen (variables_of r)))) large.1 in
     let items = neither (ltb 6 (length r.kept + length r.removed) || ltb 16 (length (filter is_comparison r.guard))) (ltb 16 (length (filter is_item r.body))) parts.0 in
     let heads = neither (ltb 6 (length r.kept + length r.removed)) (ltb 16 (length (filter is_comparison r.guard))) items.0 in
-    (whole.0, record { removes = removing r first.0; numbers = second.0; names = words.0; args = words.1; terms = terms.1; heads = ltb-false _ _ heads.0; comparisons = ltb-false _ _ heads.1; items = ltb-false _ _ items.1; variables = ltb-false _ _ parts.1; scoped = held _ _ _ _ third.1 })
+    (whole.0, record { removes = some_removed r.removed first.0; numbers = second.0; names = words.0; args = words.1; terms = terms.1; heads = ltb-false _ _ heads.0; comparisons = ltb-false _ _ heads.1; items = ltb-false _ _ items.1; variables = ltb-false _ _ parts.1; scoped = held _ _ _ _ third.1 })
 
 small : (r : ParsedRule) → IsAllowedRule r → is_too_large r ≡ false
 small r s =
-    nor (rule_has is_long r || has_wide_atom r || has_large_term r) (has_many_parts r) (nor _ _ (nor _ _ s.names s.args) s.terms) (nor _ _ (nor _ _ (nor _ _ (le-ltb _ _ s.heads) (le-ltb _ _ s.comparisons)) (le-ltb _ _ s.items)) (le-ltb _ _ s.variables))
+    or_from (rule_has is_long r || has_wide_atom r || has_large_term r) (has_many_parts r) (or_from _ _ (or_from _ _ s.names s.args) s.terms) (or_from _ _ (or_from _ _ (or_from _ _ (le-ltb _ _ s.heads) (le-ltb _ _ s.comparisons)) (le-ltb _ _ s.items)) (le-ltb _ _ s.variables))
 
 pub passes : (full : Bool) (r : ParsedRule) → (full ≡ false) × IsAllowedRule r → rule_judged full r ≡ Ok tt
-passes full r h = rw (removed r h.1.removes, h.1.numbers, nor full (is_too_large r) h.0 (small r h.1), h.1.scoped) refl
+passes full r h = rw (none_else r.removed h.1.removes, h.1.numbers, or_from full (is_too_large r) h.0 (small r h.1), h.1.scoped) refl
 
 pub declared : (all : List Declared) → declaration_judged all ≡ Ok tt → AreAllowedDeclarations all
 declared all h =
@@ -79,4 +70,4 @@ posted atoms h =
     record { numbers = first.0; names = words.0; args = words.1; terms = large.1; no_variables = third.0 }
 
 pub posts : (atoms : List ParsedAtom) → AreAllowedPosts atoms → post_judged atoms ≡ Ok tt
-posts atoms s = rw (s.numbers, nor _ _ (nor _ _ s.names s.args) s.terms, s.no_variables) refl
+posts atoms s = rw (s.numbers, or_from _ _ (or_from _ _ s.names s.args) s.terms, s.no_variables) refl

@@ -10,8 +10,8 @@
 //!
 //! [`int`] is the whole number that a sign and digits spell, and
 //! [`int_in_range`] is it where it was judged. [`is_seen`] tells a variable
-//! that was seen before from a new one: a rule's variables are counted, and later numbered, in the order in which they
-//! are first seen, and each `_` is a new one.
+//! that was seen before from a new one, and [`meet`] adds a new one: a rule's variables are counted, and later numbered,
+//! in the order in which they are first seen, and each `_` is a new one.
 //!
 //! Each call goes over its item a fixed number of times, looks each variable up among the 24 at most that were seen
 //! before, and counts arguments in terms of 64 words at most. So it takes time in proportion to the item's length.
@@ -29,4 +29,4 @@ mod variables;
 pub use judging::{judge_declaration, judge_post, judge_rule};
 pub use number::{int, int_in_range};
 pub use terms::{MOST_TERM_DEPTH, MOST_TERM_SIZE};
-pub use variables::{Seen, is_seen};
+pub use variables::{Seen, is_seen, meet};

@@ -38,8 +38,8 @@ pub fn is_seen(seen: &[&[u8]], name: &[u8]) -> bool
     false
 }
 
-/// Adds a variable that was not seen before, if there is room.
-fn meet<'a>(seen: &mut Seen<'a>, name: &'a [u8]) -> Option<()>
+/// Adds a variable that was not seen before. None where there are [`MOST_VARIABLES`] already.
+pub fn meet<'a>(seen: &mut Seen<'a>, name: &'a [u8]) -> Option<()>
     ensures { Sees result seen.old.items seen.new.items (name.now ∷ []) }
 {
     if is_seen(seen, name) {

@@ -1,4 +1,4 @@
-use Rattle.chr_grammar.proofs.Formulas_again.{are_expressions, read_before, no_expressions}
+use Rattle.chr_grammar.proofs.Formulas.{are_expressions, read_before, no_expressions}
 use Rattle.chr_grammar.proofs.laws.expressions_by_their_forms.Goals as goal
 
 pub returns : goal.returns

@@ -1,7 +1,7 @@
 use Rattle.std.proofs.Common.{map, true, false}
 use Rattle.chr_lex.specs.Tokens.{word, lexeme}
 use Rattle.chr_grammar.specs.Parsing.{is_functor}
-use Rattle.chr_grammar.proofs.Nodes.{from_place, behind_opened, behind_other}
+use Rattle.chr_grammar.proofs.Nodes.{from_place, behind_opened}
 use Rattle.chr_grammar.proofs.term.behind_word.Goals as goal
 
 pub returns-then-is_functor-clause-same : goal.returns-then-is_functor-clause-same
@@ -10,4 +10,4 @@ returns-then-is_functor-clause-same c =
 
 pub returns-clause-same : goal.returns-clause-same
 returns-clause-same c =
-    rw (behind_other (word c.args.name) c.args.depth _ (from_place (is_functor (word c.args.name)) c.args.tokens.now c.args.from false c.if-is_functor.ensures)) c.next_argument.ensures.same
+    rw (from_place (is_functor (word c.args.name)) c.args.tokens.now c.args.from false c.if-is_functor.ensures) c.next_argument.ensures.same

@@ -1,10 +1,10 @@
-use Rattle.std.proofs.Common.{◌≡◌, ◌<◌, ◌-◌, ◌++◌, ◌∷◌, [], arith, map, length}
+use Rattle.std.proofs.Common.{◌≡◌, ◌<◌, ◌+◌, ◌-◌, ◌++◌, ◌∷◌, [], suc, arith, map, length, refl, sym, ◌∙◌}
 use Rattle.std.proofs.lemmas.Result.{err_from_is_err_and}
 use Rattle.std.proofs.lemmas.List.{map_push}
 use Rattle.chr_lex.specs.Tokens.{word}
 use Rattle.chr_grammar.specs.Views.{node}
 use Rattle.chr_grammar.proofs.Lists.{tokens_past}
-use Rattle.chr_grammar.proofs.Nodes.{first_nodes, nodes_none, nodes_end, nodes_mark, nodes_fail, nodes_done, nodes_go_on, word_there, mark_there}
+use Rattle.chr_grammar.proofs.Nodes.{first_nodes, nodes_fail, nodes_done, nodes_go_on, word_there, mark_there}
 use Rattle.chr_grammar.proofs.term.term_from.Goals as goal
 
 pub loop-init : goal.loop-init
@@ -12,12 +12,14 @@ loop-init g c = record { so_far = rw c.new-nodes.ensures.items (first_nodes c.ar
 
 pub returns-then-at-tokens-clause-same : goal.returns-then-at-tokens-clause-same
 returns-then-at-tokens-clause-same g c =
-    nodes_end (map node c.loop.nodes.items) (length c.args.tokens.now - c.args.from) c.loop.counter c.loop.depth _ _ c.loop-test.true (tokens_past c.args.tokens.now c.loop.at c.if-at-tokens.true) c.loop.invariant.so_far
+    let less : length c.args.tokens.now - c.args.from - c.loop.counter ≡ suc (length c.args.tokens.now - c.args.from - (c.loop.counter + 1)) = omega arith in
+    sym c.loop.invariant.so_far ∙ rw (less, tokens_past c.args.tokens.now c.loop.at c.if-at-tokens.true) refl
 
 pub returns-in_default-clause-same : goal.returns-in_default-clause-same
 returns-in_default-clause-same g c =
     let within : c.loop.at < length c.args.tokens.now = omega arith in
-    nodes_mark (map node c.loop.nodes.items) (length c.args.tokens.now - c.args.from) c.loop.counter c.loop.depth _ _ c.in_default.field-0 _ c.loop-test.true (mark_there c.args.tokens.now c.loop.at _ c.in_default.field-0 within c.in_default.is) c.loop.invariant.so_far
+    let less : length c.args.tokens.now - c.args.from - c.loop.counter ≡ suc (length c.args.tokens.now - c.args.from - (c.loop.counter + 1)) = omega arith in
+    sym c.loop.invariant.so_far ∙ rw (less, mark_there c.args.tokens.now c.loop.at _ c.in_default.field-0 within c.in_default.is) refl
 
 pub returns-in_err-next-clause-same : goal.returns-in_err-next-clause-same
 returns-in_err-next-clause-same g c =
@@ -44,4 +46,5 @@ loop-preserved g c =
 
 pub returns-clause-same : goal.returns-clause-same
 returns-clause-same g c =
-    nodes_none (map node c.loop.nodes.items) (length c.args.tokens.now - c.args.from) c.loop.counter c.loop.depth _ _ c.loop-test.false c.loop.invariant.so_far
+    let none : length c.args.tokens.now - c.args.from - c.loop.counter ≡ 0 = omega arith in
+    sym c.loop.invariant.so_far ∙ rw none refl

@@ -1,6 +1,12 @@
-use Rattle.std.proofs.Common.{lit<}
-use Rattle.chr_lex.proofs.Comments.{text_stays, other_is_bad, bad_is_other, never}
+use Rattle.std.proofs.Common.{arith, lit<, refl}
+use Rattle.chr_lex.proofs.Comments.{never}
 use Rattle.chr_lex.proofs.laws.marks_are_no_text.Goals as goal
 
 pub returns : goal.returns
-returns c = record { text = text_stays; bad = other_is_bad; apart = bad_is_other; comment = never 1 (lit< tt) (lit< tt); unclosed = never 2 (lit< tt) (lit< tt) }
+returns c = record {
+  text = λ b h. rw h refl;
+  bad = λ b h. rw h refl;
+  apart = λ b e. (never 0 (lit< tt) b e).0;
+  comment = λ b e. let none = (never 1 (lit< tt) b e).1 in omega arith;
+  unclosed = λ b e. let none = (never 2 (lit< tt) b e).1 in omega arith;
+}
