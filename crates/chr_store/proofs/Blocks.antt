@@ -1,10 +1,10 @@
 -- How many atoms there are, block by block.
-use Rattle.std.proofs.Common.{◌≡◌, ℕ, zero, suc, ◌+◌, ◌-◌, ◌*◌, ◌/◌, ◌<◌, ◌≤◌, if◌then◌else◌, Bool, List, [], ◌∷◌, ◌++◌, Option, Some, None, inl, inr, refl, sym, ap, subst, arith, length, take, drop, ◌∙◌, slice_get, slice_index, get_or}
+use Rattle.std.proofs.Common.{◌≡◌, ℕ, zero, suc, ◌+◌, ◌-◌, ◌*◌, ◌/◌, ◌<◌, ◌≤◌, List, [], ◌∷◌, ◌++◌, Option, Some, None, inl, inr, refl, sym, ap, subst, arith, length, take, drop, ◌∙◌, slice_get, slice_index, get_or}
 use Rattle.std.specs.List.{slice_set}
 use Rattle.std.proofs.lemmas.Bool.{cases_eq, cases_lt}
-use Rattle.std.proofs.lemmas.Bool.Decides.{eqb_tells}
+use Rattle.std.proofs.lemmas.Bool.Decides.{nat_tests}
 use Rattle.std.specs.declared.boxed.Box.{Box}
-use Rattle.std.proofs.lemmas.List.{drop-map, take_all, length-drop, length-map, map-set, map_push, length-append, length-set, get_or_append_left, get_or-set_same, get_or-set_other}
+use Rattle.std.proofs.lemmas.List.{drop-map, take_rest, length-map, map-set, map_push, length-append, length-set, get_or_append_left, get_or-set_same, get_or-set_other}
 use Rattle.std.proofs.Math.Seq.{get_or-append_seam}
 use Rattle.std.proofs.lemmas.Grind.{get_or_default_zero}
 use Rattle.std.proofs.lemmas.Option.{slice_get-map}
@@ -17,16 +17,13 @@ abbrev pub Slots : Type 0
 Slots = List (Option (Atom ℕ))
 
 one_here : (label k : ℕ) → label / 64 ≡ k → one_in label k ≡ 1
-one_here label k e = elim (eqb_tells (label / 64) k) [ inl t ↦ ap (λ (b : Bool). if b then 1 else 0) t.0 | inr f ↦ absurd (f.1 e) ]
+one_here label k e = grind (arith, nat_tests)
 
 one_elsewhere : (label k : ℕ) → (label / 64 ≡ k → ⊥) → one_in label k ≡ 0
-one_elsewhere label k d = elim (eqb_tells (label / 64) k) [ inl t ↦ absurd (d t.1) | inr f ↦ ap (λ (b : Bool). if b then 1 else 0) f.0 ]
+one_elsewhere label k d = grind (arith, nat_tests, d)
 
 one_at_most : (label k : ℕ) → one_in label k ≤ 1
-one_at_most label k = elim (eqb_tells (label / 64) k) [
-  | inl t ↦ (let e : one_in label k ≡ 1 = one_here label k t.1 in omega (arith, e))
-  | inr f ↦ (let e : one_in label k ≡ 0 = one_elsewhere label k f.1 in omega (arith, e))
-]
+one_at_most label k = grind (arith, nat_tests)
 
 -- no more than there are slots
 at_most_all : (label k : ℕ) (xs : Slots) → atoms_in label k xs ≤ length xs
@@ -109,43 +106,30 @@ counts_skipped xs ns h room = record {
   each = λ k lt. h.each k lt ∙ sym (pushed_none 1 k xs);
 }
 
-pub counts_filled : (xs : Slots) (ns ns' : List ℕ) (a : Atom ℕ) (i : ℕ) → AreCounts xs ns → length xs + 1 < 64 * length ns → i ≡ (length xs + 1) / 64 → ns' ≡ slice_set ns i (slice_index ns i + 1) → AreCounts (xs ++ Some a ∷ []) ns'
-counts_filled xs ns ns' a i h room at set =
-    let same : length ns' ≡ length ns = ap length set ∙ length-set ns i (slice_index ns i + 1) in
-    let more = λ (k : ℕ). pushed_some 1 (length xs + 1) k a xs (omega arith) in
-    record {
-      within = λ one. omega (arith, room, same, length-append xs (Some a ∷ []));
-      each = λ k lt. elim (cases_eq k i) [
-        | inl e ↦
-            let inside : i < length ns = omega (arith, e, lt, same) in
-            let one : one_in (length xs + 1) k ≡ 1 = one_here (length xs + 1) k (sym at ∙ sym e) in
-            let old : slice_index ns i ≡ atoms_in 1 k xs = ap (slice_index ns) (sym e) ∙ h.each k (omega (arith, lt, same)) in
-            ap (λ (l : List ℕ). slice_index l k) set ∙ ap (slice_index (slice_set ns i (slice_index ns i + 1))) e ∙ get_or-set_same ns i (slice_index ns i + 1) 0 inside ∙ omega (arith, old, one, more k)
-        | inr d ↦
-            let one : one_in (length xs + 1) k ≡ 0 = one_elsewhere (length xs + 1) k (λ e. d (sym e ∙ sym at)) in
-            let old : slice_index ns k ≡ atoms_in 1 k xs = h.each k (omega (arith, lt, same)) in
-            ap (λ (l : List ℕ). slice_index l k) set ∙ get_or-set_other ns i k (slice_index ns i + 1) 0 d ∙ omega (arith, old, one, more k)
+-- another count in the block of a label
+counted : (xs ys : Slots) (ns : List ℕ) (i n l : ℕ) → AreCounts xs ns → i ≡ l / 64 → length ys < 64 * length ns → ((k : ℕ) → k < length ns → one_in l k ≡ 1 → k ≡ i → n ≡ atoms_in 1 k ys)
+    → ((k : ℕ) → one_in l k ≡ 0 → atoms_in 1 k xs ≡ atoms_in 1 k ys) → AreCounts ys (slice_set ns i n)
+counted xs ys ns i n l h at within here elsewhere = record {
+  within = λ one. omega (arith, within, length-set ns i n);
+  each = λ k lt.
+      let inside : k < length ns = omega (arith, lt, length-set ns i n) in
+      elim (cases_eq k i) [
+        | inl e ↦ ap (slice_index (slice_set ns i n)) e ∙ get_or-set_same ns i n 0 (omega (arith, e, inside)) ∙ here k inside (one_here l k (sym at ∙ sym e)) e
+        | inr d ↦ get_or-set_other ns i k n 0 d ∙ h.each k inside ∙ elsewhere k (one_elsewhere l k (λ e. d (sym e ∙ sym at)))
       ];
-    }
+}
 
-pub counts_emptied : (xs : Slots) (ns ns' : List ℕ) (a : Atom ℕ) (l i j : ℕ) → AreCounts xs ns → slice_get xs i ≡ Some (Some a) → l ≡ i + 1 → j ≡ l / 64 → i < length xs → ns' ≡ slice_set ns j (slice_index ns j - 1) → AreCounts (slice_set xs i None) ns'
-counts_emptied xs ns ns' a l i j h there label at inside_i set =
-    let same : length ns' ≡ length ns = ap length set ∙ length-set ns j (slice_index ns j - 1) in
+pub counts_filled : (xs : Slots) (ns : List ℕ) (a : Atom ℕ) (i : ℕ) → AreCounts xs ns → length xs + 1 < 64 * length ns → i ≡ (length xs + 1) / 64 → AreCounts (xs ++ Some a ∷ []) (slice_set ns i (slice_index ns i + 1))
+counts_filled xs ns a i h room at =
+    let more = λ (k : ℕ). pushed_some 1 (length xs + 1) k a xs (omega arith) in
+    counted xs (xs ++ Some a ∷ []) ns i (slice_index ns i + 1) (length xs + 1) h at (omega (arith, room, length-append xs (Some a ∷ [])))
+    (λ k lt one e. omega (arith, ap (slice_index ns) e, h.each k lt, one, more k)) (λ k none. omega (arith, none, more k))
+
+pub counts_emptied : (xs : Slots) (ns : List ℕ) (a : Atom ℕ) (l i j : ℕ) → AreCounts xs ns → slice_get xs i ≡ Some (Some a) → l ≡ i + 1 → j ≡ l / 64 → i < length xs → AreCounts (slice_set xs i None) (slice_set ns j (slice_index ns j - 1))
+counts_emptied xs ns a l i j h there label at inside =
     let less = λ (k : ℕ). emptied_at 1 l k i a xs (omega arith) there in
-    record {
-      within = λ one. (let was = h.within (omega arith) in omega (arith, was, same, length-set xs i None));
-      each = λ k lt. elim (cases_eq k j) [
-        | inl e ↦
-            let inside : j < length ns = omega (arith, e, lt, same) in
-            let one : one_in l k ≡ 1 = one_here l k (sym at ∙ sym e) in
-            let old : slice_index ns j ≡ atoms_in 1 k xs = ap (slice_index ns) (sym e) ∙ h.each k (omega (arith, lt, same)) in
-            ap (λ (l : List ℕ). slice_index l k) set ∙ ap (slice_index (slice_set ns j (slice_index ns j - 1))) e ∙ get_or-set_same ns j (slice_index ns j - 1) 0 inside ∙ omega (arith, old, one, less k)
-        | inr d ↦
-            let one : one_in l k ≡ 0 = one_elsewhere l k (λ e. d (sym e ∙ sym at)) in
-            let old : slice_index ns k ≡ atoms_in 1 k xs = h.each k (omega (arith, lt, same)) in
-            ap (λ (l : List ℕ). slice_index l k) set ∙ get_or-set_other ns j k (slice_index ns j - 1) 0 d ∙ omega (arith, old, one, less k)
-      ];
-    }
+    counted xs (slice_set xs i None) ns j (slice_index ns j - 1) l h at (let was = h.within (omega arith) in omega (arith, was, length-set xs i None))
+    (λ k lt one e. omega (arith, ap (slice_index ns) e, h.each k lt, one, less k)) (λ k none. omega (arith, none, less k))
 
 -- the block of a label that was given is counted, with the atom
 pub is_counted : (xs : Slots) (ns : List ℕ) (i j : ℕ) → AreCounts xs ns → i < length xs → j ≡ (i + 1) / 64 → j < length ns
@@ -165,7 +149,7 @@ count_fits xs ns k h lt = omega (arith, h.each k lt, at_most_all 1 k xs)
 
 module _ {A : Type 0} (slots : List (Option (Box (Atom ℕ) A))) (n label : ℕ) where
   left_behind : held (take (length slots - n) (drop n slots)) ≡ drop n (held slots)
-  left_behind = ap held (take_all (length slots - n) (drop n slots) (let m = length-drop n slots in omega arith)) ∙ sym (drop-map atom_of n slots)
+  left_behind = ap held (take_rest slots n) ∙ sym (drop-map atom_of n slots)
 
   pub left_empty : (ns : List ℕ) → AreEmptyAtNone label (held slots) ns → AreEmptyAtNone (label + n) (held (take (length slots - n) (drop n slots))) ns
   left_empty ns h = subst (λ (xs : Slots). AreEmptyAtNone (label + n) xs ns) (sym left_behind) (still_empty n label (held slots) ns h)
@@ -175,9 +159,6 @@ module _ {A : Type 0} (slots : List (Option (Box (Atom ℕ) A))) (n label : ℕ)
     | inl all ↦ ap (entries_from (label + n)) left_behind ∙ ap (λ m. entries_from (label + m) (drop m (held slots))) all ∙ ap (λ l. entries_from l (held slots)) (let e : label + 0 ≡ label = omega arith in e)
     | inr some ↦ ap (entries_from (label + n)) left_behind ∙ passed n label end (held slots) (λ k from to. let is = none k from to in h.empty k is.0 is.1) (omega arith)
   ]
-
-pub step_empty : {A : Type 0} (slots others : List (Option (Box (Atom ℕ) A))) (slot : Option (Box (Atom ℕ) A)) (label : ℕ) (ns : List ℕ) → slots ≡ slot ∷ others → AreEmptyAtNone label (held slots) ns → AreEmptyAtNone (label + 1) (held others) ns
-step_empty slots others slot label ns is h = still_empty 1 label (held (slot ∷ others)) ns (subst (λ xs. AreEmptyAtNone label (held xs) ns) is h)
 
 -- ---- the counts of boxes
 
@@ -191,7 +172,7 @@ module _ {A : Type 0} (slots : List (Option (Box (Atom ℕ) A))) (ns : List ℕ)
       let count : n ≡ slice_index ns i = read ∙ get_or_default_zero ns i n inside in
       let size = length-map slots atom_of in
       subst (λ xs. AreCounts xs (slice_set ns i (n + 1))) (sym (map_push atom_of slots x ∙ ap (λ z. held slots ++ z ∷ []) is))
-      (counts_filled (held slots) ns (slice_set ns i (n + 1)) a i h (omega arith) (omega arith) (ap (λ m. slice_set ns i (m + 1)) count))
+      (rw count (counts_filled (held slots) ns a i h (omega arith) (omega arith)))
 
   pub count_grows : (i n : ℕ) → length slots + 1 < 64 * length ns → i ≡ (length slots + 1) / 64 → n ≡ get_or ns i n → n ≤ length slots
   count_grows i n room at read =
@@ -206,7 +187,7 @@ module _ {A : Type 0} (slots : List (Option (Box (Atom ℕ) A))) (ns : List ℕ)
       let inside = is_counted (held slots) ns i ((i + 1) / 64) h within refl in
       let count : n ≡ slice_index ns ((i + 1) / 64) = read ∙ get_or_default_zero ns ((i + 1) / 64) n inside in
       subst (λ xs. AreCounts xs (slice_set ns ((i + 1) / 64) (n - 1))) (sym (ap (λ (z : Option (Box (Atom ℕ) A)). held (slice_set slots i z)) none ∙ map-set atom_of slots i None))
-      (counts_emptied (held slots) ns (slice_set ns ((i + 1) / 64) (n - 1)) b.value (i + 1) i ((i + 1) / 64) h (slice_get-map atom_of slots i ∙ ap (option_map atom_of) there) refl refl within (ap (λ m. slice_set ns ((i + 1) / 64) (m - 1)) count))
+      (rw count (counts_emptied (held slots) ns b.value (i + 1) i ((i + 1) / 64) h (slice_get-map atom_of slots i ∙ ap (option_map atom_of) there) refl refl within))
 
   pub emptied_one : (i n : ℕ) (b : Box (Atom ℕ) A) → slice_get slots i ≡ Some (Some b) → i < length slots → n ≡ get_or ns ((i + 1) / 64) n → 1 ≤ n
   emptied_one i n b there lt read =

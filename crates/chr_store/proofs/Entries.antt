@@ -3,6 +3,7 @@ use Rattle.std.proofs.Common.{◌≡◌, ℕ, ◌+◌, ◌<◌, ◌≤◌, true,
 use Rattle.std.specs.List.{AllByRecursion}
 use Rattle.std.proofs.lemmas.Bool.Decides.{nat_tests}
 use Rattle.chr_value.specs.Atoms.{Atom}
+use Rattle.chr_value.proofs.Places.{all-push}
 use Rattle.chr_value.specs.Stores.{Store, atom_at, drop_label}
 use Rattle.chr_store.specs.Labels.{Rising, GivenBefore, IsLabelled}
 
@@ -10,13 +11,9 @@ given_push : (n : ℕ) (a : Atom ℕ) (es : Store) → 1 ≤ n → GivenBefore n
 given_push n a [] f h = ((f, omega arith), tt)
 given_push n a (e ∷ es) f h = ((h.0.0, (let b : e.0 < n = h.0.1 in omega arith)), given_push n a es f h.1)
 
-above_push : (k n : ℕ) (a : Atom ℕ) (es : Store) → k < n → AllByRecursion (λ f. k < f.0) es → AllByRecursion (λ f. k < f.0) (es ++ (n, a) ∷ [])
-above_push k n a [] l h = (l, tt)
-above_push k n a (e ∷ es) l h = (h.0, above_push k n a es l h.1)
-
 rising_push : (n : ℕ) (a : Atom ℕ) (es : Store) → GivenBefore n es → Rising es → Rising (es ++ (n, a) ∷ [])
 rising_push n a [] b h = (tt, tt)
-rising_push n a (e ∷ es) b h = (above_push e.0 n a es b.0.1 h.0, rising_push n a es b.1 h.1)
+rising_push n a (e ∷ es) b h = (all-push (λ f. e.0 < f.0) es (n, a) h.0 b.0.1, rising_push n a es b.1 h.1)
 
 pub labelled_push : (n k : ℕ) (a : Atom ℕ) (es : Store) → n ≤ k → IsLabelled (record { entries = es; next = n; limit = k }) → IsLabelled (record { entries = es ++ (n, a) ∷ []; next = n + 1; limit = k })
 labelled_push n k a es w h = record {

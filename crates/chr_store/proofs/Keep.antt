@@ -1,6 +1,7 @@
-use Rattle.std.proofs.Common.{◌≡◌, ℕ, zero, suc, ◌+◌, ◌<◌, ◌≤◌, ◌&&◌, if◌then◌else◌, Bool, true, false, List, Option, Some, None, refl, sym, ap, subst, arith, length, ◌∙◌, nat_lt, inl, inr}
+use Rattle.std.proofs.Common.{◌≡◌, ℕ, zero, suc, ◌+◌, ◌<◌, ◌≤◌, ◌&&◌, if◌then◌else◌, Bool, true, false, List, Option, Some, None, refl, sym, ap, subst, arith, length, ◌∙◌, nat_lt}
 use Rattle.std.specs.Option.{option_map}
-use Rattle.std.proofs.lemmas.Bool.{and_parts, and_from, eq-eqb, eqb-true, lt-ltb, le-ltb, cases_lt, cases_eq, false≢true}
+use Rattle.std.proofs.lemmas.Bool.Decides.{nat_tests}
+use Rattle.std.proofs.lemmas.Bool.{and_parts, and_from, eq-eqb, eqb-true, lt-ltb, le-ltb, false≢true}
 use Rattle.chr_value.specs.Atoms.{Value, Atom}
 use Rattle.chr_value.specs.declared.atom.Pred.{Pred}
 use Rattle.chr_store.specs.declared.keys.KeyValue.{KeyValue}
@@ -51,14 +52,8 @@ fits_own a n kk k h f e =
 
 -- ---- step by step
 
-lt_more : (p n : ℕ) → (p ≡ n → ⊥) → nat_lt p (n + 1) ≡ nat_lt p n
-lt_more p n h = elim (cases_lt p n) [
-  | inl l ↦ lt-ltb p (n + 1) (omega arith) ∙ sym (lt-ltb p n l)
-  | inr l ↦ elim (cases_eq p n) [ inl e ↦ absurd (h e) | inr d ↦ le-ltb p (n + 1) (omega arith) ∙ sym (le-ltb p n l) ]
-]
-
 and_lt_more : (P : Bool) (p n : ℕ) → (p ≡ n → P ≡ true → ⊥) → (P && nat_lt p (n + 1)) ≡ (P && nat_lt p n)
-and_lt_more true p n h = lt_more p n (λ e. h e refl)
+and_lt_more true p n h = let other : p ≡ n → ⊥ = λ e. h e refl in grind (arith, nat_tests, other)
 and_lt_more false p n h = refl
 
 and_lt_not : (P : Bool) (p n : ℕ) → n ≤ p → (P && nat_lt p n) ≡ false

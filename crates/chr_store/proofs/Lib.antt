@@ -2,7 +2,6 @@ pub mod Entries
 pub mod Table
 pub mod Blocks
 pub mod Walks
-pub mod Digests
 pub mod Slots
 pub mod Keep
 pub mod Stored

@@ -1,18 +1,12 @@
 -- Marks of places.
 use Rattle.std.proofs.Common.{◌≡◌, ℕ, zero, suc, ◌+◌, ◌-◌, ◌<◌, ◌≤◌, ◌&&◌, ◌||◌, Bool, true, false, List, [], ◌∷◌, ◌++◌, refl, sym, ap, subst, arith, length, take, ◌∙◌, nat_eq, replicate, slice_set, slice_get}
 use Rattle.std.specs.Option.{unwrap_or}
-use Rattle.std.specs.Prelude.{Result, Ok, Err, OnOk}
+use Rattle.std.proofs.lemmas.List.{take_all, length-append, length-replicate}
+use Rattle.std.proofs.lemmas.Bool.Decides.{nat_tests}
 use Rattle.std.proofs.lemmas.Bool.{and_parts, and_from, eq-eqb, eqb-true, false≢true}
 use Rattle.chr_value.specs.declared.atom.Pred.{Pred}
 use Rattle.chr_store.specs.Index.{Places, is_pred, chosen}
 use Rattle.chr_store.specs.Marks.{IsMarkOf, IsMarked, mark_at, listed, AreMarks}
-
-pub marks_none : AreMarks [] []
-marks_none = λ pred place i h. none pred place
-  where
-    none : (pred : Pred) (place : ℕ) → false ≡ listed [] pred place
-    none pred zero = refl
-    none pred (suc n) = refl
 
 -- ---- more marks
 
@@ -24,20 +18,14 @@ mark_filled (m ∷ ms) n zero = refl
 mark_filled (m ∷ ms) n (suc i) = mark_filled ms n i
 
 apart : (i j : ℕ) → (i ≡ j → ⊥) → nat_eq i j ≡ false
-apart i j h = elim (nat_eq i j) as (λ b. (nat_eq i j ≡ b) → b ≡ false) [ true ↦ λ t. absurd (h (eqb-true i j t)) | false ↦ λ t. refl ] refl
-
-eq_suc : (i j : ℕ) → nat_eq (suc i) (suc j) ≡ nat_eq i j
-eq_suc i j = elim (nat_eq i j) as (λ b. (nat_eq i j ≡ b) → nat_eq (suc i) (suc j) ≡ b) [
-  | true ↦ λ t. eq-eqb (suc i) (suc j) (ap (λ (n : ℕ). suc n) (eqb-true i j t))
-  | false ↦ λ t. apart (suc i) (suc j) (λ e. false≢true (sym t ∙ eq-eqb i j (omega arith)))
-] refl
+apart i j h = grind (arith, nat_tests, h)
 
 pub mark_set : (ms : List Bool) (j i : ℕ) → j < length ms → mark_at (slice_set ms j true) i ≡ (nat_eq i j || mark_at ms i)
 mark_set [] j i u = absurd (omega arith)
 mark_set (m ∷ ms) zero zero u = refl
-mark_set (m ∷ ms) zero (suc i) u = sym (ap (λ (b : Bool). b || mark_at ms i) (apart (suc i) 0 (λ e. absurd (omega arith))))
-mark_set (m ∷ ms) (suc j) zero u = sym (ap (λ (b : Bool). b || m) (apart 0 (suc j) (λ e. absurd (omega arith))))
-mark_set (m ∷ ms) (suc j) (suc i) u = mark_set ms j i (omega arith) ∙ sym (ap (λ (b : Bool). b || mark_at ms i) (eq_suc i j))
+mark_set (m ∷ ms) zero (suc i) u = grind (arith, nat_tests)
+mark_set (m ∷ ms) (suc j) zero u = grind (arith, nat_tests)
+mark_set (m ∷ ms) (suc j) (suc i) u = grind (arith, nat_tests, mark_set ms j i (omega arith))
 
 -- ---- more places
 
@@ -46,10 +34,7 @@ is_place p pred zero = is_pred p.0 pred
 is_place p pred (suc i) = is_pred p.0 pred && nat_eq p.1 (suc i)
 
 swap : (a b c : Bool) → (a || (b || c)) ≡ (b || (a || c))
-swap true true c = refl
-swap true false c = refl
-swap false true c = refl
-swap false false c = refl
+swap a b c = grind arith
 
 listed_push : (ps : Places) (p : Pred × ℕ) (pred : Pred) (place : ℕ) → listed (ps ++ p ∷ []) pred place ≡ (is_place p pred place || listed ps pred place)
 listed_push [] p pred zero = refl
@@ -75,30 +60,20 @@ moved p q m n i t k =
     let place : m ≡ n = eqb-true _ _ both.1 in
     record { low = omega (arith, name, k.low); few = omega (arith, arity, k.few); within = omega (arith, place, k.within); index = omega (arith, name, arity, place, k.index) }
 
+-- two tests of which each tells the other
+tells : (a b : Bool) → (a ≡ true → b ≡ true) → (b ≡ true → a ≡ true) → a ≡ b
+tells true b f g = sym (f refl)
+tells false true f g = g refl
+tells false false f g = refl
+
 -- a place's mark is set
 pub marked : (p : Pred) (m i : ℕ) (old new : List Bool) → IsMarkOf p m i → ((j : ℕ) → mark_at new j ≡ (nat_eq j i || mark_at old j)) → IsMarked p m old new
 marked p m i old new own set = λ pred place j k. set j ∙ ap (λ (b : Bool). b || mark_at old j) (same pred place j k)
   where
     same : (pred : Pred) (place j : ℕ) → IsMarkOf pred place j → nat_eq j i ≡ (is_pred p pred && nat_eq m place)
-    same pred place j k = elim (nat_eq j i) as (λ b. (nat_eq j i ≡ b) → b ≡ (is_pred p pred && nat_eq m place)) [
-      | true ↦ λ t. let e : j ≡ i = eqb-true j i t in sym (same_place p pred m place i own (subst (IsMarkOf pred place) e k))
-      | false ↦ λ t. elim (is_pred p pred && nat_eq m place) as (λ b. ((is_pred p pred && nat_eq m place) ≡ b) → false ≡ b) [
-        | true ↦ λ u.
-            let h : IsMarkOf p m j = moved p pred m place j u k in
-            sym t ∙ eq-eqb j i (h.index ∙ sym own.index)
-        | false ↦ λ u. refl
-      ] refl
-    ] refl
-
--- where it has none, they stay
-pub unmarked : (p : Pred) (m : ℕ) (marks : List Bool) → ((i : ℕ) → IsMarkOf p m i → ⊥) → IsMarked p m marks marks
-unmarked p m marks none = λ pred place j k. ap (λ (b : Bool). b || mark_at marks j) (not pred place j k)
-  where
-    not : (pred : Pred) (place j : ℕ) → IsMarkOf pred place j → false ≡ (is_pred p pred && nat_eq m place)
-    not pred place j k = elim (is_pred p pred && nat_eq m place) as (λ b. ((is_pred p pred && nat_eq m place) ≡ b) → false ≡ b) [
-      | true ↦ λ u. absurd (none j (moved p pred m place j u k))
-      | false ↦ λ u. refl
-    ] refl
+    same pred place j k =
+        tells (nat_eq j i) (is_pred p pred && nat_eq m place) (λ t. same_place p pred m place i own (subst (IsMarkOf pred place) (eqb-true j i t) k))
+        (λ u. let h : IsMarkOf p m j = moved p pred m place j u k in eq-eqb j i (h.index ∙ sym own.index))
 
 -- both marks of a place are set
 pub marks_more : (ps : Places) (p : Pred × ℕ) (old mid new : List Bool) → AreMarks old ps → IsMarked p.0 0 old mid → IsMarked p.0 p.1 mid new → AreMarks new (ps ++ p ∷ [])
@@ -135,23 +110,7 @@ none_chosen (p ∷ ps) pred h (suc n) u =
       | false ↦ λ t. none_chosen ps pred t (suc n) u
     ] h
 
--- what follows on success
-pub on_ok : {X E P Q : Type 0} (r : Result X E) → (P → Q) → OnOk r P → OnOk r Q
-on_ok (Ok x) f h = f h
-on_ok (Err e) f h = tt
-
 -- ---- a table that may have been made longer
-
-pub take_whole : {X : Type 0} (xs : List X) (n : ℕ) → length xs ≤ n → take n xs ≡ xs
-take_whole [] zero u = refl
-take_whole [] (suc n) u = refl
-take_whole (x ∷ xs) zero u = absurd (omega arith)
-take_whole {X} (x ∷ xs) (suc n) u = ap (λ (z : List X). x ∷ z) (take_whole xs n (omega arith))
-
-filled_length : (ms : List Bool) (n : ℕ) → length (ms ++ replicate n false) ≡ length ms + n
-filled_length [] zero = refl
-filled_length [] (suc n) = let z : length (replicate n false) ≡ 0 + n = filled_length [] n in omega arith
-filled_length (m ∷ ms) n = let z : length (ms ++ replicate n false) ≡ length ms + n = filled_length ms n in omega arith
 
 -- the marks are as before, and an index is among them
 pub record IsRoomy (old new : List Bool) (index : ℕ) : Type 0 where
@@ -160,9 +119,9 @@ pub record IsRoomy (old new : List Bool) (index : ℕ) : Type 0 where
 
 pub roomy_filled : (old : List Bool) (index len : ℕ) → len ≡ length old → len ≤ index → IsRoomy old (take (index + 1) old ++ replicate (index + 1 - len) false) index
 roomy_filled old index len e u =
-    let whole : take (index + 1) old ≡ old = take_whole old (index + 1) (omega arith) in
+    let whole : take (index + 1) old ≡ old = take_all (index + 1) old (omega arith) in
     subst (λ (z : List Bool). IsRoomy old (z ++ replicate (index + 1 - len) false) index) (sym whole) (record {
-      within = omega (arith, filled_length old (index + 1 - len));
+      within = omega (arith, length-append old (replicate (index + 1 - len) false), length-replicate (index + 1 - len) false);
       same = λ i. mark_filled old (index + 1 - len) i;
     })
 

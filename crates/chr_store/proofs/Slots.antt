@@ -1,20 +1,21 @@
 -- Slots of a bucket.
-use Rattle.std.proofs.Common.{◌≡◌, ℕ, zero, suc, ◌+◌, ◌-◌, ◌<◌, ◌≤◌, Bool, true, false, ◌==◌, if◌then◌else◌, List, [], ◌∷◌, ◌++◌, Some, None, refl, sym, ap, subst, arith, true-eqb, length, take, drop, slice_index_or, ◌∙◌, slice_set, get_or, inl, inr, length-append, max, ltb}
+use Rattle.std.proofs.Common.{◌≡◌, ℕ, zero, suc, ◌+◌, ◌-◌, ◌<◌, ◌≤◌, Bool, true, false, ◌==◌, if◌then◌else◌, List, [], ◌∷◌, ◌++◌, Option, Some, None, refl, sym, ap, subst, arith, true-eqb, length, take, drop, slice_index_or, ◌∙◌, slice_set, get_or, inl, inr, length-append, max, ltb, add-one}
 use Rattle.std.specs.List.{AllByRecursion, slice_get}
-use Rattle.std.proofs.lemmas.List.{take-append-drop, take-append-le}
-use Rattle.std.proofs.lemmas.Bool.{cases_lt, lt-ltb, eqb-true}
+use Rattle.std.specs.Option.{option_map}
+use Rattle.std.proofs.Math.Seq.{drop-cons}
+use Rattle.std.proofs.lemmas.List.{take-append-drop, take-append-le, take_all, take_more}
+use Rattle.std.proofs.lemmas.Option.{slice_get-get_or, slice_get_past, slice_get_within, get_or_from_slice_get}
+use Rattle.std.proofs.lemmas.Bool.{cases_lt, ltb-false, eqb-true}
 use Rattle.std.proofs.lemmas.Bool.Decides.{nat_tests}
+use Rattle.chr_value.proofs.Places.{all-push}
 use Rattle.chr_store.specs.declared.bucket.Slot.{Slot}
-use Rattle.chr_store.specs.Buckets.{is_live, JumpsAreDead, live_labels, live_slots, drop_number, IsIn, SlotsRise, IsLiveOrNone, HasLabelAt, IsBucket}
+use Rattle.chr_store.specs.Buckets.{is_live, JumpsAreDead, live_labels, live_slots, drop_number, IsIn, SlotsRise, IsLeastBetween, IsLiveOrNone, HasLabelAt, IsBucket}
 
 -- ---- how many live
 
 pub live_few : (ss : List Slot) → length (live_labels ss) ≤ length ss
 live_few [] = omega arith
-live_few (s ∷ ss) = elim (is_live s) as (λ b. length (if b then s.label ∷ live_labels ss else live_labels ss) ≤ length (s ∷ ss)) [
-  | true ↦ (let few = live_few ss in omega arith)
-  | false ↦ (let few = live_few ss in omega arith)
-]
+live_few (s ∷ ss) = let few = live_few ss in grind (arith, nat_tests)
 
 -- ---- a fact by places, over the front and over the rest
 
@@ -64,13 +65,9 @@ kept_pass P (s ∷ ss) h = elim (is_live s) as (λ b. AllByRecursion P (if b the
 
 -- ---- a slot after the others
 
-above_push : (k : ℕ) (s : Slot) (ss : List Slot) → k < s.label → AllByRecursion (λ t. k < t.label) ss → AllByRecursion (λ t. k < t.label) (ss ++ s ∷ [])
-above_push k s [] l h = (l, tt)
-above_push k s (t ∷ ss) l h = (h.0, above_push k s ss l h.1)
-
 pub rise_push : (s : Slot) (ss : List Slot) → AllByRecursion (λ t. t.label < s.label) ss → SlotsRise ss → SlotsRise (ss ++ s ∷ [])
 rise_push s [] b h = (tt, tt)
-rise_push s (t ∷ ss) b h = (above_push t.label s ss b.0 h.0, rise_push s ss b.1 h.1)
+rise_push s (t ∷ ss) b h = (all-push (λ u. t.label < u.label) ss s h.0 b.0, rise_push s ss b.1 h.1)
 
 -- ---- by places
 
@@ -87,35 +84,14 @@ rise_at (s ∷ ss) zero (suc j) d h l u = let k : s.label < (slice_index_or ss j
 rise_at (s ∷ ss) (suc i) zero d h l u = absurd (omega arith)
 rise_at (s ∷ ss) (suc i) (suc j) d h l u = rise_at ss i j d h.1 (omega arith) (omega arith)
 
-pub dead_drop : (ss : List Slot) (p : ℕ) (d : Slot) → p < length ss → is_live (get_or ss p d) ≡ false → live_labels (drop p ss) ≡ live_labels (drop (suc p) ss)
-dead_drop [] p d u h = absurd (omega arith)
-dead_drop (s ∷ ss) zero d u h = ap (λ (b : Bool). if b then s.label ∷ live_labels ss else live_labels ss) h
-dead_drop (s ∷ ss) (suc p) d u h = dead_drop ss p d (omega arith) h
-
-pub dead_take : (ss : List Slot) (p : ℕ) (d : Slot) → p < length ss → is_live (get_or ss p d) ≡ false → live_labels (take p ss) ≡ live_labels (take (suc p) ss)
-dead_take [] p d u h = absurd (omega arith)
-dead_take (s ∷ ss) zero d u h = sym (ap (λ (b : Bool). if b then s.label ∷ live_labels (take 0 ss) else live_labels (take 0 ss)) h)
-dead_take (s ∷ ss) (suc p) d u h = ap (λ (z : List ℕ). if (is_live s) then s.label ∷ z else z) (dead_take ss p d (omega arith) h)
-
 pub live_at : (ss : List Slot) (p : ℕ) (d : Slot) → p < length ss → is_live (get_or ss p d) ≡ true → IsLiveOrNone (slice_get ss p)
-live_at [] p d u h = absurd (omega arith)
-live_at (s ∷ ss) zero d u h = h
-live_at (s ∷ ss) (suc p) d u h = live_at ss p d (omega arith) h
+live_at ss p d u h = subst IsLiveOrNone (sym (slice_get-get_or ss p d u)) h
 
 pub none_at : (ss : List Slot) (p : ℕ) → length ss ≤ p → IsLiveOrNone (slice_get ss p)
-none_at [] p u = tt
-none_at (s ∷ ss) zero u = absurd (omega arith)
-none_at (s ∷ ss) (suc p) u = none_at ss p (omega arith)
+none_at ss p u = subst IsLiveOrNone (sym (slice_get_past ss p u)) tt
 
 pub label_at : (ss : List Slot) (p l : ℕ) (d : Slot) → p < length ss → (get_or ss p d).label ≡ l → HasLabelAt ss p l
-label_at [] p l d u h = absurd (omega arith)
-label_at (s ∷ ss) zero l d u h = ap (λ z. Some z) h
-label_at (s ∷ ss) (suc p) l d u h = label_at ss p l d (omega arith) h
-
-pub within_at : (ss : List Slot) (p l : ℕ) → HasLabelAt ss p l → p < length ss
-within_at [] p l h = let z : None ≡ Some l = h in absurd (cc)
-within_at (s ∷ ss) zero l h = omega arith
-within_at (s ∷ ss) (suc p) l h = let z : p < length ss = within_at ss p l h in omega arith
+label_at ss p l d u h = ap (option_map (λ s. s.label)) (slice_get-get_or ss p d u) ∙ ap (λ z. Some z) h
 
 pub all_map : {X : Type 0} (P Q : X → Type 0) (xs : List X) → ((x : X) → P x → Q x) → AllByRecursion P xs → AllByRecursion Q xs
 all_map P Q [] f h = tt
@@ -244,12 +220,9 @@ rise_pop (x ∷ xs) t h =
     ((up.0, rest.0), (up.1, rest.1))
 
 last_apart : (ss : List Slot) (t : Slot) → slice_get ss (length ss - 1) ≡ Some t → ss ≡ take (length ss - 1) ss ++ t ∷ []
-last_apart [] t h = let z : None ≡ Some t = h in absurd (cc)
-last_apart (s ∷ []) t h = let same : s ≡ t = cc in ap (λ (z : Slot). z ∷ []) same
-last_apart (s ∷ v ∷ ss) t h =
-    let less : suc (length ss) ≡ suc (suc (length ss)) - 1 = omega arith in
-    let rest = last_apart (v ∷ ss) t (subst (λ (n : ℕ). slice_get (v ∷ ss) n ≡ Some t) (let z : length ss ≡ suc (length ss) - 1 = omega arith in z) (subst (λ (n : ℕ). slice_get (s ∷ v ∷ ss) n ≡ Some t) (sym less) h)) in
-    ap (λ (z : List Slot). s ∷ z) rest ∙ ap (λ (n : ℕ). take (suc n) (s ∷ v ∷ ss) ++ t ∷ []) (let z : suc (length ss) - 1 ≡ length ss = omega arith in z) ∙ ap (λ (n : ℕ). take n (s ∷ v ∷ ss) ++ t ∷ []) less
+last_apart ss t h =
+    let within : length ss - 1 < length ss = slice_get_within ss (length ss - 1) t h in
+    sym (take_all (length ss - 1 + 1) ss (omega arith)) ∙ take_more ss (length ss - 1) t within ∙ ap (λ z. take (length ss - 1) ss ++ z ∷ []) (get_or_from_slice_get ss (length ss - 1) t t h)
 
 -- the slots without the last one, which lives
 module _ (ss : List Slot) (t : Slot) (at : slice_get ss (length ss - 1) ≡ Some t) (live : is_live t ≡ true) where
@@ -285,9 +258,7 @@ skip_front (s ∷ ss) zero (suc f) u h = elim (is_live s) as (λ b. (if b then s
 skip_front (s ∷ ss) (suc r) (suc f) u h = elim (is_live s) as (λ b. (if b then s.label ∷ live_labels (take f ss) else live_labels (take f ss)) ≡ [] → live_labels (drop r ss) ≡ live_labels (drop f ss)) [ true ↦ λ k. absurd (cc) | false ↦ λ k. skip_front ss r f (omega arith) k ] h
 
 drop_at : (ss : List Slot) (p : ℕ) (s : Slot) → slice_get ss p ≡ Some s → drop p ss ≡ s ∷ drop (suc p) ss
-drop_at [] p s h = let z : None ≡ Some s = h in absurd (cc)
-drop_at (t ∷ ss) zero s h = let same : t ≡ s = cc in ap (λ (z : Slot). z ∷ ss) same
-drop_at (t ∷ ss) (suc p) s h = drop_at ss p s h
+drop_at ss p s h = drop-cons ss p s (slice_get_within ss p s h) ∙ ap (λ z. z ∷ drop (suc p) ss) (get_or_from_slice_get ss p s s h)
 
 drop_end : (ss : List Slot) (p : ℕ) → slice_get ss p ≡ None → drop p ss ≡ []
 drop_end [] zero h = refl
@@ -319,25 +290,21 @@ label_over [] i k s a h = let z : None ≡ Some s = h in absurd (cc)
 label_over (t ∷ ss) zero k s a h = let same : t ≡ s = cc in subst (λ (z : Slot). k < z.label) same a.0
 label_over (t ∷ ss) (suc i) k s a h = label_over ss i k s a.1 h
 
-front_there : (ss : List Slot) (i : ℕ) (s : Slot) → SlotsRise ss → slice_get ss i ≡ Some s → AllByRecursion (λ t. t.label ≤ s.label) (take (suc i) ss)
-front_there [] i s r h = tt
-front_there (t ∷ ss) zero s r h = let same : t ≡ s = cc in (subst (λ (z : Slot). t.label ≤ z.label) same (omega arith), tt)
-front_there (t ∷ ss) (suc i) s r h = ((let z : t.label < s.label = label_over ss i t.label s r.0 h in omega arith), front_there ss i s r.1 h)
+front_there : (ss : List Slot) (i l : ℕ) (s : Slot) → SlotsRise ss → slice_get ss i ≡ Some s → s.label ≡ l → AllByRecursion (λ t. t.label ≤ l) (take (suc i) ss)
+front_there [] i l s r h e = tt
+front_there (t ∷ ss) zero l s r h e = let same : t ≡ s = cc in (omega (arith, ap (λ (z : Slot). z.label) same, e), tt)
+front_there (t ∷ ss) (suc i) l s r h e = (omega (arith, label_over ss i t.label s r.0 h, e), front_there ss i l s r.1 h e)
 
-later_there : (ss : List Slot) (i : ℕ) (s : Slot) → SlotsRise ss → slice_get ss i ≡ Some s → AllByRecursion (λ t. s.label < t.label) (drop (suc i) ss)
-later_there [] i s r h = tt
-later_there (t ∷ ss) zero s r h = let same : t ≡ s = cc in subst (λ (z : Slot). AllByRecursion (λ u. z.label < u.label) ss) same r.0
-later_there (t ∷ ss) (suc i) s r h = later_there ss i s r.1 h
+later_there : (ss : List Slot) (i l : ℕ) (s : Slot) → SlotsRise ss → slice_get ss i ≡ Some s → s.label ≡ l → AllByRecursion (λ t. l < t.label) (drop (suc i) ss)
+later_there [] i l s r h e = tt
+later_there (t ∷ ss) zero l s r h e = let same : t ≡ s = cc in subst (λ (n : ℕ). AllByRecursion (λ u. n < u.label) ss) (ap (λ (z : Slot). z.label) same ∙ e) r.0
+later_there (t ∷ ss) (suc i) l s r h e = later_there ss i l s r.1 h e
 
 pub front_near : (ss : List Slot) (i l : ℕ) (s : Slot) → SlotsRise ss → slice_get ss i ≡ Some s → s.label ≡ l → AllByRecursion (λ t. t.label ≤ l) (take (i + 1) ss)
-front_near ss i l s r h e =
-    let next : suc i ≡ i + 1 = omega arith in
-    subst (λ (m : ℕ). AllByRecursion (λ t. t.label ≤ m) (take (i + 1) ss)) e (subst (λ (n : ℕ). AllByRecursion (λ t. t.label ≤ s.label) (take n ss)) next (front_there ss i s r h))
+front_near ss i l s r h e = rw add-one (front_there ss i l s r h e)
 
 pub later_near : (ss : List Slot) (i l : ℕ) (s : Slot) → SlotsRise ss → slice_get ss i ≡ Some s → s.label ≡ l → AllByRecursion (λ t. l < t.label) (drop (i + 1) ss)
-later_near ss i l s r h e =
-    let next : suc i ≡ i + 1 = omega arith in
-    subst (λ (m : ℕ). AllByRecursion (λ t. m < t.label) (drop (i + 1) ss)) e (subst (λ (n : ℕ). AllByRecursion (λ t. s.label < t.label) (drop n ss)) next (later_there ss i s r h))
+later_near ss i l s r h e = rw add-one (later_there ss i l s r h e)
 
 -- what the search for the next one has found: those in front are at most `after`, and the others live from a place on
 pub record IsSought (ss : List Slot) (after r p : ℕ) : Type 0 where
@@ -379,14 +346,11 @@ sought_some ss after r p s h e =
     low (x ∷ xs) ys l n a b st u = elim st [ inl e ↦ (let z : x ≤ after = a.0 in absurd (omega arith)) | inr t ↦ low xs ys l n a.1 b t u ]
 
 pub below_last : (ss : List Slot) (s : Slot) (l : ℕ) → SlotsRise ss → slice_get ss (length ss - 1) ≡ Some s → s.label < l → AllByRecursion (λ t. t.label < l) ss
-below_last [] s l r e u = tt
-below_last (t ∷ []) s l r e u = let same : t ≡ s = cc in (subst (λ (z : Slot). z.label < l) (sym same) u, tt)
-below_last (t ∷ v ∷ ss) s l r e u =
-    let rest = below_last (v ∷ ss) s l r.1 (subst (λ (z : ℕ). slice_get (t ∷ v ∷ ss) z ≡ Some s) (more (length ss)) e) u in
-    ((let a : t.label < v.label = r.0.0 in let b : v.label < l = rest.0 in omega arith), rest)
-  where
-    more : (n : ℕ) → suc (suc n) - 1 ≡ suc (suc n - 1)
-    more n = omega arith
+below_last ss s l r e u =
+    let others : List Slot = take (length ss - 1) ss in
+    let apart : ss ≡ others ++ s ∷ [] = last_apart ss s e in
+    let below = all_map (λ t. t.label < s.label) (λ t. t.label < l) others (λ t b. omega arith) (rise_pop others s (subst SlotsRise apart r)).1 in
+    subst (AllByRecursion (λ t. t.label < l)) (sym apart) (all-push (λ t. t.label < l) others s below u)
 
 pub skip_most : (ss : List Slot) (r f m : ℕ) → m ≡ max r f → live_labels (take f ss) ≡ [] → live_labels (drop r ss) ≡ live_labels (drop m ss)
 skip_most ss r f m e h = elim (cases_lt r f) [
@@ -405,9 +369,7 @@ sought_past ss after r f m p rising none most rest live front later = record {
 }
 
 pub get_none : (ss : List Slot) (p : ℕ) → false ≡ ltb p (length ss) → slice_get ss p ≡ None
-get_none [] p h = refl
-get_none (s ∷ ss) zero h = absurd (let z : 0 < length (s ∷ ss) = omega arith in let y : ltb 0 (length (s ∷ ss)) ≡ true = lt-ltb _ _ z in cc)
-get_none (s ∷ ss) (suc p) h = get_none ss p (grind (arith, nat_tests))
+get_none ss p h = slice_get_past ss p (ltb-false p (length ss) (sym h))
 
 -- where the first is above, all are
 pub later_first : (ss : List Slot) (l : ℕ) (s : Slot) → SlotsRise ss → slice_get ss 0 ≡ Some s → l < s.label → AllByRecursion (λ t. l < t.label) ss
@@ -416,3 +378,13 @@ later_first (t ∷ ss) l s r at h =
     let same : t ≡ s = cc in
     let first : l < t.label = subst (λ z. l < z.label) (sym same) h in
     (first, all_map (λ u. t.label < u.label) (λ u. l < u.label) ss (λ u lt. omega arith) r.0)
+
+-- a search in a list that is another by an equation, as the code reads it twice
+pub found_in : (ss ts us : List Slot) (ms : List ℕ) (after below r : ℕ) (found : Option ℕ) → ss ≡ us → ts ≡ us → live_labels us ≡ ms
+    → AllByRecursion (λ s. s.label ≤ after) (take r ss) → AllByRecursion (λ s. after < s.label) (drop r ss)
+    → (AllByRecursion (λ s. s.label ≤ after) (take r ts) → AllByRecursion (λ s. after < s.label) (drop r ts) → IsLeastBetween (live_labels ts) after below found)
+    → IsLeastBetween ms after below found
+found_in ss ts us ms after below r found e f shown front later least =
+    let same : ss ≡ ts = e ∙ sym f in
+    subst (λ (z : List ℕ). IsLeastBetween z after below found) (ap live_labels f ∙ shown)
+    (least (subst (λ (z : List Slot). AllByRecursion (λ s. s.label ≤ after) (take r z)) same front) (subst (λ (z : List Slot). AllByRecursion (λ s. after < s.label) (drop r z)) same later))

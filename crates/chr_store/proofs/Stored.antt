@@ -2,7 +2,8 @@
 use Rattle.std.proofs.Common.{◌≡◌, ℕ, zero, suc, ◌+◌, ◌<◌, ◌≤◌, ◌==◌, ◌&&◌, if◌then◌else◌, Bool, true, false, List, [], ◌∷◌, ◌++◌, Option, Some, None, refl, sym, ap, subst, arith, length, ◌∙◌, slice_get, nat_lt, inl, inr, true-eqb}
 use Rattle.std.specs.List.{AllByRecursion}
 use Rattle.std.specs.Option.{option_map}
-use Rattle.std.proofs.lemmas.Bool.{eq-eqb, lt-ltb, cases_eq}
+use Rattle.std.proofs.lemmas.Bool.{eq-eqb, eqb-true, lt-ltb, cases_eq, cases_lt, false_from_ne_true, false≢true}
+use Rattle.std.proofs.lemmas.Option.{slice_get_past}
 use Rattle.std.proofs.lemmas.Bool.Decides.{nat_tests}
 use Rattle.chr_value.specs.Atoms.{Value, Int, Sym, Comp, Atom}
 use Rattle.chr_value.specs.Stores.{Store, atom_at, drop_label}
@@ -10,6 +11,7 @@ use Rattle.chr_value.specs.declared.names.Name.{Name}
 use Rattle.chr_value.specs.declared.atom.Pred.{Pred}
 use Rattle.chr_value.specs.declared.value.ValueRef.{ValueRef}
 use Rattle.chr_store.specs.declared.keys.Key.{Key}
+use Rattle.chr_store.specs.declared.keys.KeyValue.{KeyValue}
 use Rattle.chr_store.specs.declared.buckets.Buckets.{Buckets}
 use Rattle.chr_store.specs.Labels.{LabelledStore, GivenAtoms, Rising, GivenBefore}
 use Rattle.chr_store.specs.Keys.{arg_at, HasPred, HasKey, Query, key_of, IsLeastMatch}
@@ -28,53 +30,38 @@ pub labels_all : (P : ℕ → Type 0) (k : Key) (es : Store) → AllByRecursion 
 labels_all P k [] h = tt
 labels_all P k (e ∷ es) h = elim (fits k e.1) as (λ b. AllByRecursion P (if b then e.0 ∷ labels_of k es else labels_of k es)) [ true ↦ (h.0, labels_all P k es h.1) | false ↦ labels_all P k es h.1 ]
 
-given_below : (n : ℕ) (es : Store) → GivenBefore n es → AllByRecursion (λ e. e.0 < n) es
-given_below n [] h = tt
-given_below n (e ∷ es) h = (h.0.1, given_below n es h.1)
-
-pub labels_below : (n : ℕ) (k : Key) (es : Store) → GivenBefore n es → AllByRecursion (λ m. m < n) (labels_of k es)
-labels_below n k es h = labels_all (λ m. m < n) k es (given_below n es h)
+-- a change of the labels that leaves the first one, which may have the key
+first_kept : (F : List ℕ → List ℕ) (f g : Bool) (m : ℕ) (new old : List ℕ) → F (m ∷ old) ≡ m ∷ F old → new ≡ (if g then F old else old)
+    → (if f then m ∷ new else new) ≡ (if g then F (if f then m ∷ old else old) else (if f then m ∷ old else old))
+first_kept F true true m new old same e = ap (λ (z : List ℕ). m ∷ z) e ∙ sym same
+first_kept F true false m new old same e = ap (λ (z : List ℕ). m ∷ z) e
+first_kept F false g m new old same e = e
 
 pub labels_push : (k : Key) (n : ℕ) (a : Atom ℕ) (es : Store) → labels_of k (es ++ (n, a) ∷ []) ≡ (if fits k a then labels_of k es ++ n ∷ [] else labels_of k es)
 labels_push k n a [] = refl
-labels_push k n a (e ∷ es) = elim (fits k e.1) as (λ b. (if b then e.0 ∷ labels_of k (es ++ (n, a) ∷ []) else labels_of k (es ++ (n, a) ∷ [])) ≡ (if fits k a then (if b then e.0 ∷ labels_of k es else labels_of k es) ++ n ∷ [] else (if b then e.0 ∷ labels_of k es else labels_of k es))) [
-  | true ↦ ap (λ (z : List ℕ). e.0 ∷ z) (labels_push k n a es) ∙ elim (fits k a) as (λ b. (e.0 ∷ (if b then labels_of k es ++ n ∷ [] else labels_of k es)) ≡ (if b then (e.0 ∷ labels_of k es) ++ n ∷ [] else (e.0 ∷ labels_of k es))) [ true ↦ refl | false ↦ refl ]
-  | false ↦ labels_push k n a es
-]
+labels_push k n a (e ∷ es) = first_kept (λ ms. ms ++ n ∷ []) (fits k e.1) (fits k a) e.0 (labels_of k (es ++ (n, a) ∷ [])) (labels_of k es) refl (labels_push k n a es)
 
 apart_above : (l : ℕ) (ms : List ℕ) → AllByRecursion (λ m. l < m) ms → AllByRecursion (λ m. m ≡ l → ⊥) ms
 apart_above l ms h = all_map (λ m. l < m) (λ m. m ≡ l → ⊥) ms (λ m u e. absurd (omega arith)) h
 
+first_goes : (l m : ℕ) (f g : Bool) (ms : List ℕ) → (m == l) ≡ true → f ≡ g → drop_number l ms ≡ ms → ms ≡ (if g then drop_number l (if f then m ∷ ms else ms) else (if f then m ∷ ms else ms))
+first_goes l m true g ms here fit none = rw (← fit, here, none)
+first_goes l m false g ms here fit none = rw (← fit)
+
 pub labels_drop : (k : Key) (l : ℕ) (a : Atom ℕ) (es : Store) → Rising es → atom_at es l ≡ Some a → labels_of k (drop_label l es) ≡ (if fits k a then drop_number l (labels_of k es) else labels_of k es)
 labels_drop k l a [] r h = let z : None ≡ Some a = h in absurd (cc)
-labels_drop k l a (e ∷ es) r h =
-    elim (e.0 == l) as (λ b. (e.0 == l ≡ b) → (if b then Some e.1 else atom_at es l) ≡ Some a → labels_of k (if b then drop_label l es else e ∷ drop_label l es) ≡ (if fits k a then drop_number l (if fits k e.1 then e.0 ∷ labels_of k es else labels_of k es) else (if fits k e.1 then e.0 ∷ labels_of k es else labels_of k es))) [
-      | true ↦ λ t at. head t at
-      | false ↦ λ t at. tail t at (labels_drop k l a es r.1 at)
-    ] refl h
-  where
-    head : (e.0 == l ≡ true) → Some e.1 ≡ Some a → labels_of k (drop_label l es) ≡ (if fits k a then drop_number l (if fits k e.1 then e.0 ∷ labels_of k es else labels_of k es) else (if fits k e.1 then e.0 ∷ labels_of k es else labels_of k es))
-    head t at =
-        let same : e.0 ≡ l = true-eqb e.0 l (sym t) in
-        let atom : e.1 ≡ a = cc in
-        let up : AllByRecursion (λ f. l < f.0) es = subst (λ z. AllByRecursion (λ f. z < f.0) es) same r.0 in
-        let gone : drop_label l es ≡ es = drop_absent l es up in
-        let none : drop_number l (labels_of k es) ≡ labels_of k es = number_absent l (labels_of k es) (apart_above l (labels_of k es) (labels_all (λ m. l < m) k es up)) in
-        let fit : fits k e.1 ≡ fits k a = ap (fits k) atom in
-        ap (labels_of k) gone ∙ subst (λ b. labels_of k es ≡ (if fits k a then drop_number l (if b then e.0 ∷ labels_of k es else labels_of k es) else (if b then e.0 ∷ labels_of k es else labels_of k es))) (sym fit) (elim (fits k a) as (λ b. labels_of k es ≡ (if b then drop_number l (if b then e.0 ∷ labels_of k es else labels_of k es) else (if b then e.0 ∷ labels_of k es else labels_of k es))) [
-          | true ↦ sym (ap (λ (b : Bool). if b then drop_number l (labels_of k es) else e.0 ∷ drop_number l (labels_of k es)) t ∙ none)
-          | false ↦ refl
-        ])
-
-    tail : (e.0 == l ≡ false) → atom_at es l ≡ Some a → labels_of k (drop_label l es) ≡ (if fits k a then drop_number l (labels_of k es) else labels_of k es) → (if fits k e.1 then e.0 ∷ labels_of k (drop_label l es) else labels_of k (drop_label l es)) ≡ (if fits k a then drop_number l (if fits k e.1 then e.0 ∷ labels_of k es else labels_of k es) else (if fits k e.1 then e.0 ∷ labels_of k es else labels_of k es))
-    tail t at rest =
-        ap (λ (z : List ℕ). if fits k e.1 then e.0 ∷ z else z) rest ∙ elim (fits k e.1) as (λ b. (if b then e.0 ∷ (if fits k a then drop_number l (labels_of k es) else labels_of k es) else (if fits k a then drop_number l (labels_of k es) else labels_of k es)) ≡ (if fits k a then drop_number l (if b then e.0 ∷ labels_of k es else labels_of k es) else (if b then e.0 ∷ labels_of k es else labels_of k es))) [
-          | true ↦ elim (fits k a) as (λ b. (e.0 ∷ (if b then drop_number l (labels_of k es) else labels_of k es)) ≡ (if b then drop_number l (e.0 ∷ labels_of k es) else e.0 ∷ labels_of k es)) [
-            | true ↦ sym (ap (λ (b : Bool). if b then drop_number l (labels_of k es) else e.0 ∷ drop_number l (labels_of k es)) t)
-            | false ↦ refl
-          ]
-          | false ↦ refl
-        ]
+labels_drop k l a (e ∷ es) r h = elim (cases_eq e.0 l) [
+  | inl same ↦
+      let here : (e.0 == l) ≡ true = eq-eqb e.0 l same in
+      let up = subst (λ z. AllByRecursion (λ f. z < f.0) es) same r.0 in
+      let none = number_absent l (labels_of k es) (apart_above l (labels_of k es) (labels_all (λ m. l < m) k es up)) in
+      let fit = ap (fits k) (some_one e.1 a (rw here at h)) in
+      rw (here, drop_absent l es up) (first_goes l e.0 (fits k e.1) (fits k a) (labels_of k es) here fit none)
+  | inr differ ↦
+      let other : (e.0 == l) ≡ false = false_from_ne_true (e.0 == l) (λ t. differ (eqb-true e.0 l t)) in
+      let rest = labels_drop k l a es r.1 (rw other at h) in
+      rw other (first_kept (drop_number l) (fits k e.1) (fits k a) e.0 (labels_of k (drop_label l es)) (labels_of k es) (rw other) rest)
+]
 
 -- ---- the index of no atoms
 
@@ -89,22 +76,17 @@ indexed_none limit places m fits empty = record {
 
 -- ---- the index, one atom more or fewer
 
-place_within : (k : Key) (a : Atom ℕ) → fits k a ≡ true → k.place < length a.args + 1
-place_within k a h = within a.args k.place (λ i e. subst (λ (z : ℕ). key_value_at a z ≡ Some k.value) e (fitting k a h).value)
-  where
-    short : (ts : List (Value ℕ)) (i : ℕ) → option_map key_value (slice_get ts i) ≡ Some k.value → i < length ts
-    short [] i h = absurd (cc)
-    short (u ∷ ts) zero h = omega arith
-    short (u ∷ ts) (suc i) h = let z : i < length ts = short ts i h in omega arith
-
-    within : (ts : List (Value ℕ)) (p : ℕ) → ((i : ℕ) → p ≡ suc i → option_map key_value (slice_get ts i) ≡ Some k.value) → p < length ts + 1
-    within ts zero h = omega arith
-    within ts (suc i) h = let z : i < length ts = short ts i (h i refl) in omega arith
+place_within : (a : Atom ℕ) (n : ℕ) (v : KeyValue) → key_value_at a n ≡ Some v → n < length a.args + 1
+place_within a zero v h = omega arith
+place_within a (suc i) v h = elim (cases_lt i (length a.args)) [
+  | inl lt ↦ omega arith
+  | inr le ↦ (let none : None ≡ Some v = ap (option_map key_value) (sym (slice_get_past a.args i le)) ∙ h in absurd (cc))
+]
 
 -- with all places reached
 all_reached : (places : Places) (a : Atom ℕ) (k : Key) → reached places a (length a.args + 1) k ≡ (chosen places (pred_of k) k.place && fits k a)
 all_reached places a k = elim (chosen places (pred_of k) k.place) as (λ b. ((b && fits k a) && nat_lt k.place (length a.args + 1)) ≡ (b && fits k a)) [
-  | true ↦ elim (fits k a) as (λ b. (fits k a ≡ b) → (b && nat_lt k.place (length a.args + 1)) ≡ b) [ true ↦ λ t. lt-ltb _ _ (place_within k a t) | false ↦ λ t. refl ] refl
+  | true ↦ elim (fits k a) as (λ b. (fits k a ≡ b) → (b && nat_lt k.place (length a.args + 1)) ≡ b) [ true ↦ λ t. lt-ltb _ _ (place_within a k.place k.value (fitting k a t).value) | false ↦ λ t. refl ] refl
   | false ↦ refl
 ]
 
@@ -124,27 +106,23 @@ kept_drop places l a es old new r at h t = λ k. t k ∙ ap (λ (b : Bool). if b
   | false ↦ refl
 ])
 
+pub kept_under : {A : Type 0} (places : Places) (n : ℕ) (es : Store) (m : Buckets A) → AllByRecursion (λ e. e.0 < n) es → IsIndexOf places es m → (k : Key) → AllByRecursion (λ l. l < n) (labels_in m k)
+kept_under places n es m g h k = subst (AllByRecursion (λ l. l < n)) (sym (h k)) (elim (chosen places (pred_of k) k.place) as (λ b. AllByRecursion (λ l. l < n) (if b then labels_of k es else [])) [ true ↦ labels_all (λ l. l < n) k es g | false ↦ tt ])
+
 pub kept_below : {A : Type 0} (places : Places) (n : ℕ) (es : Store) (m : Buckets A) → GivenBefore n es → IsIndexOf places es m → (k : Key) → AllByRecursion (λ l. l < n) (labels_in m k)
-kept_below places n es m g h k = subst (AllByRecursion (λ l. l < n)) (sym (h k)) (elim (chosen places (pred_of k) k.place) as (λ b. AllByRecursion (λ l. l < n) (if b then labels_of k es else [])) [ true ↦ labels_below n k es g | false ↦ tt ])
+kept_below places n es m g = kept_under places n es m (all_map (λ e. (1 ≤ e.0) × (e.0 < n)) (λ e. e.0 < n) es (λ e h. h.1) g)
+
+undone : (l : ℕ) (whole part : Bool) (old mid new : List ℕ) → (whole ≡ false → part ≡ false) → AllByRecursion (λ m. m < l) old → mid ≡ (if part then old ++ l ∷ [] else old) → new ≡ (if whole then drop_number l mid else mid) → new ≡ old
+undone l true true old mid new less below t s = s ∙ ap (drop_number l) t ∙ pushed_back l old below
+undone l true false old mid new less below t s = s ∙ ap (drop_number l) t ∙ number_absent l old (all_map (λ m. m < l) (λ m. m ≡ l → ⊥) old (λ m u e. absurd (omega arith)) below)
+undone l false true old mid new less below t s = absurd (false≢true (sym (less refl)))
+undone l false false old mid new less below t s = s ∙ t
 
 -- what was entered, in part or whole, and left again is as before
 pub kept_undone : {A : Type 0} (places : Places) (n l : ℕ) (a : Atom ℕ) (es : Store) (old mid new : Buckets A) → GivenBefore l es → IsIndexOf places es old → IsChanged (λ ms. ms ++ l ∷ []) places a n old mid → IsChanged (drop_number l) places a (length a.args + 1) mid new → IsIndexOf places es new
-kept_undone places n l a es old mid new g h t s = λ k. s k ∙ ap (λ (b : Bool). if b then drop_number l (labels_in mid k) else labels_in mid k) (all_reached places a k) ∙ back k ∙ h k
-  where
-    below : (k : Key) → AllByRecursion (λ m. m < l) (labels_in old k)
-    below k = kept_below places l es old g h k
-
-    out : (k : Key) → drop_number l (if reached places a n k then labels_in old k ++ l ∷ [] else labels_in old k) ≡ labels_in old k
-    out k = elim (reached places a n k) as (λ b. drop_number l (if b then labels_in old k ++ l ∷ [] else labels_in old k) ≡ labels_in old k) [
-      | true ↦ pushed_back l (labels_in old k) (below k)
-      | false ↦ number_absent l (labels_in old k) (all_map (λ m. m < l) (λ m. m ≡ l → ⊥) (labels_in old k) (λ m u e. absurd (omega arith)) (below k))
-    ]
-
-    back : (k : Key) → (if chosen places (pred_of k) k.place && fits k a then drop_number l (labels_in mid k) else labels_in mid k) ≡ labels_in old k
-    back k = elim (chosen places (pred_of k) k.place && fits k a) as (λ b. (chosen places (pred_of k) k.place && fits k a ≡ b) → (if b then drop_number l (labels_in mid k) else labels_in mid k) ≡ labels_in old k) [
-      | true ↦ λ u. ap (drop_number l) (t k) ∙ out k
-      | false ↦ λ u. t k ∙ ap (λ (b : Bool). if b then labels_in old k ++ l ∷ [] else labels_in old k) (part_reached places a n k u)
-    ] refl
+kept_undone places n l a es old mid new g h t s = λ k.
+    let left = s k ∙ ap (λ (b : Bool). if b then drop_number l (labels_in mid k) else labels_in mid k) (all_reached places a k) in
+    undone l (chosen places (pred_of k) k.place && fits k a) (reached places a n k) (labels_in old k) (labels_in mid k) (labels_in new k) (part_reached places a n k) (kept_below places l es old g h k) (t k) left ∙ h k
 
 -- ---- the least of a key
 
@@ -253,35 +231,32 @@ least_with es k n v after below (Some l) r fit h =
     )
 
 module _ {A : Type 0} (s : LabelledStore) (places : Places) (b : Buckets A) (h : IsIndexed s places b) (pred : Pred) (after below : ℕ) (found : Option ℕ) where
-  -- the labels of the predicate alone, and of a value at a chosen place
-  own_labels : labels_in b (own_key pred) ≡ labels_of (own_key pred) s.entries
-  own_labels = h.index (own_key pred)
-
-  at_labels : (n : ℕ) (v : Value ℕ) → chosen places pred n ≡ true → labels_in b (at_place pred n v) ≡ labels_of (at_place pred n v) s.entries
-  at_labels n v there = h.index (at_place pred n v) ∙ ap (λ (z : Bool). if z then labels_of (at_place pred n v) s.entries else []) there
+  -- the labels of a key of a chosen place
+  key_labels : (k kk : Key) → k ≡ kk → chosen places (pred_of kk) kk.place ≡ true → labels_in b k ≡ labels_of kk s.entries
+  key_labels k kk is there = ap (labels_in b) is ∙ h.index kk ∙ ap (λ (z : Bool). if z then labels_of kk s.entries else []) there
 
   -- a look-up of the predicate alone
   pub found_own : (k : Key) → k ≡ own_key pred → IsLeastBetween (labels_in b k) after below found → IsLeastMatch s.entries (asked pred None after below) found
   found_own k own least =
       least_meets s.entries (asked pred None after below) (own_key pred) found h.labelled.rising (asks_own pred after below)
-      (subst (λ (ms : List ℕ). IsLeastBetween ms after below found) (ap (labels_in b) own ∙ own_labels) least)
+      (subst (λ (ms : List ℕ). IsLeastBetween ms after below found) (key_labels k (own_key pred) own refl) least)
 
   -- a look-up of a number or a symbol at a chosen place
   pub found_at : (k : Key) (n : ℕ) (v : Value ℕ) → k ≡ at_place pred n v → 0 < n → chosen places pred n ≡ true → is_constant v ≡ true → IsLeastBetween (labels_in b k) after below found → IsLeastMatch s.entries (asked pred (Some (n, v)) after below) found
   found_at k n v is over there constant least =
       least_meets s.entries (asked pred (Some (n, v)) after below) (at_place pred n v) found h.labelled.rising (asks_at pred n v after below over constant)
-      (subst (λ (ms : List ℕ). IsLeastBetween ms after below found) (ap (labels_in b) is ∙ at_labels n v there) least)
+      (subst (λ (ms : List ℕ). IsLeastBetween ms after below found) (key_labels k (at_place pred n v) is there) least)
 
   -- a search for any value among the labels of the predicate, and among those of its digest
   pub found_own_with : (k : Key) (n : ℕ) (v : Value ℕ) → k ≡ own_key pred → IsLeastWith s.entries n v (labels_in b k) after below found → IsLeastMatch s.entries (asked pred (Some (n, v)) after below) found
   found_own_with k n v own least =
       least_with s.entries (own_key pred) n v after below found h.labelled.rising (λ a p at. own_fit pred a p)
-      (subst (λ (ms : List ℕ). IsLeastWith s.entries n v ms after below found) (ap (labels_in b) own ∙ own_labels) least)
+      (subst (λ (ms : List ℕ). IsLeastWith s.entries n v ms after below found) (key_labels k (own_key pred) own refl) least)
 
   pub found_at_with : (k : Key) (n : ℕ) (v : Value ℕ) → k ≡ at_place pred n v → 0 < n → chosen places pred n ≡ true → IsLeastWith s.entries n v (labels_in b k) after below found → IsLeastMatch s.entries (asked pred (Some (n, v)) after below) found
   found_at_with k n v is over there least =
       least_with s.entries (at_place pred n v) n v after below found h.labelled.rising (λ a p at. at_fit pred n v a over p at)
-      (subst (λ (ms : List ℕ). IsLeastWith s.entries n v ms after below found) (ap (labels_in b) is ∙ at_labels n v there) least)
+      (subst (λ (ms : List ℕ). IsLeastWith s.entries n v ms after below found) (key_labels k (at_place pred n v) is there) least)
 
 -- ---- a search among labels, for one whose atom has a value at a place
 
@@ -290,25 +265,19 @@ pub record IsPassed (es : Store) (n : ℕ) (v : Value ℕ) (ms : List ℕ) (afte
   pub over : after ≤ from
   pub left : (m : ℕ) → IsIn m ms → after < m → LabelHas es m n v → from < m
 
-pub passed_none : (es : Store) (n : ℕ) (v : Value ℕ) (ms : List ℕ) (after : ℕ) → IsPassed es n v ms after after
-passed_none es n v ms after = record { over = omega arith; left = λ m i o h. o }
-
 pub passed_more : (es : Store) (n : ℕ) (v : Value ℕ) (ms : List ℕ) (after below from l : ℕ) → IsPassed es n v ms after from → IsLeastBetween ms from below (Some l) → (LabelHas es l n v → ⊥) → IsPassed es n v ms after l
 passed_more es n v ms after below from l p least lacks = record {
-  over = (let z : after ≤ from = p.over in let w : from < l = least.1 in omega arith);
-  left = λ m i o h. beyond m h (least.3 m i (p.left m i o h));
+  over = omega (arith, p.over, least.1);
+  left = λ m i o h. elim (cases_eq l m) [
+    | inl e ↦ absurd (lacks (subst (λ (z : ℕ). LabelHas es z n v) (sym e) h))
+    | inr d ↦ omega (arith, least.3 m i (p.left m i o h))
+  ];
 }
-  where
-    beyond : (m : ℕ) → LabelHas es m n v → l ≤ m → l < m
-    beyond m h le = elim (cases_eq l m) [
-      | inl e ↦ absurd (lacks (subst (λ (z : ℕ). LabelHas es z n v) (sym e) h))
-      | inr d ↦ omega arith
-    ]
 
 pub passed_found : (es : Store) (n : ℕ) (v : Value ℕ) (ms : List ℕ) (after below from l : ℕ) → IsPassed es n v ms after from → IsLeastBetween ms from below (Some l) → LabelHas es l n v → IsLeastWith es n v ms after below (Some l)
 passed_found es n v ms after below from l p least has = record {
   there = least.0;
-  over = (let z : after ≤ from = p.over in let w : from < l = least.1 in omega arith);
+  over = omega (arith, p.over, least.1);
   under = least.2;
   has = has;
   least = λ m i o h. least.3 m i (p.left m i o h);
@@ -319,9 +288,6 @@ passed_all es n v ms after below from p none = λ m i o u h. none m i (p.left m 
 
 -- ---- a copy
 
-pub kept_under : {A : Type 0} (places : Places) (n : ℕ) (es : Store) (m : Buckets A) → AllByRecursion (λ e. e.0 < n) es → IsIndexOf places es m → (k : Key) → AllByRecursion (λ l. l < n) (labels_in m k)
-kept_under places n es m g h k = subst (AllByRecursion (λ l. l < n)) (sym (h k)) (elim (chosen places (pred_of k) k.place) as (λ b. AllByRecursion (λ l. l < n) (if b then labels_of k es else [])) [ true ↦ labels_all (λ l. l < n) k es g | false ↦ tt ])
-
 pub before_all : (l : ℕ) (a : Atom ℕ) (es rest : Store) → Rising (es ++ (l, a) ∷ rest) → AllByRecursion (λ e. e.0 < l) es
 before_all l a [] rest h = tt
 before_all l a (e ∷ es) rest h = (first e.0 es h.0, before_all l a es rest h.1)
@@ -329,7 +295,3 @@ before_all l a (e ∷ es) rest h = (first e.0 es h.0, before_all l a es rest h.1
     first : (k : ℕ) (es : Store) → AllByRecursion (λ f. k < f.0) (es ++ (l, a) ∷ rest) → k < l
     first k [] h = h.0
     first k (f ∷ es) h = first k es h.1
-
-pub append_none : (es : Store) → es ++ [] ≡ es
-append_none [] = refl
-append_none (e ∷ es) = ap (λ (z : Store). e ∷ z) (append_none es)

@@ -61,13 +61,10 @@ found xs l i at within = elim (cases_eq l 0) [
 
 -- ---- an atom less
 
-none_dropped : (first l : ℕ) (xs : Slots) → l < first → drop_label l (entries_from first xs) ≡ entries_from first xs
-none_dropped first l xs h = drop_none l (entries_from first xs) (none_below first l xs h)
-
 dropped_at : (first i l : ℕ) (xs : Slots) → l ≡ i + first → entries_from first (slice_set xs i None) ≡ drop_label l (entries_from first xs)
 dropped_at first i l [] e = refl
-dropped_at first zero l (None ∷ xs) e = sym (none_dropped (first + 1) l xs (omega arith))
-dropped_at first zero l (Some a ∷ xs) e = sym (ap (λ (b : Bool). if b then drop_label l (entries_from (first + 1) xs) else (first, a) ∷ drop_label l (entries_from (first + 1) xs)) (eq-eqb first l (omega arith)) ∙ none_dropped (first + 1) l xs (omega arith))
+dropped_at first zero l (None ∷ xs) e = sym (drop_none l (entries_from (first + 1) xs) (none_below (first + 1) l xs (omega arith)))
+dropped_at first zero l (Some a ∷ xs) e = sym (ap (λ (b : Bool). if b then drop_label l (entries_from (first + 1) xs) else (first, a) ∷ drop_label l (entries_from (first + 1) xs)) (eq-eqb first l (omega arith)) ∙ drop_none l (entries_from (first + 1) xs) (none_below (first + 1) l xs (omega arith)))
 dropped_at first (suc i) l (None ∷ xs) e = dropped_at (first + 1) i l xs (omega arith)
 dropped_at first (suc i) l (Some a ∷ xs) e = grind (arith, nat_tests, dropped_at (first + 1) i l xs (let u : l ≡ i + (first + 1) = omega arith in u))
 

@@ -31,20 +31,14 @@ pub seen_other : (s : LabelledStore) (fresh : Option (Atom ℕ)) (active l : ℕ
 seen_other s None active l h d = refl
 seen_other s (Some a) active l h d = sym (others_stay s.next l a s.entries (λ e. d (sym e ∙ sym h.next.0)))
 
+-- a look-up finds the same in a store that has the same atoms under the labels that are looked at
+matches_in : (es fs : Store) (q : Query) (l : ℕ) → ((l : ℕ) → l < q.below → atom_at es l ≡ atom_at fs l) → Matches es q l → Matches fs q l
+matches_in es fs q l same m = record { atom = m.atom; there = sym (same l m.under) ∙ m.there; pred = m.pred; key = m.key; over = m.over; under = m.under }
+
+least_in : (es fs : Store) (q : Query) (found : Option ℕ) → ((l : ℕ) → l < q.below → atom_at es l ≡ atom_at fs l) → IsLeastMatch es q found → IsLeastMatch fs q found
+least_in es fs q None same least = λ l m. least l (matches_in fs es q l (λ l u. sym (same l u)) m)
+least_in es fs q (Some l) same least = (matches_in es fs q l same least.0, λ m w. least.1 m (matches_in fs es q m (λ l u. sym (same l u)) w))
+
 -- a look-up of older labels finds the same with the atom and without
 pub seen_least : (s : LabelledStore) (fresh : Option (Atom ℕ)) (q : Query) (found : Option ℕ) → IsSeen s fresh q.below → IsLeastMatch s.entries q found → IsLeastMatch (seen_with s fresh).entries q found
-seen_least s None q found h least = least
-seen_least s (Some a) q found h least = by_found found least
-  where
-    same : (l : ℕ) → l < q.below → atom_at (s.entries ++ (s.next, a) ∷ []) l ≡ atom_at s.entries l
-    same l u = sym (seen_other s (Some a) q.below l h (λ e. absurd (omega arith)))
-
-    back : (l : ℕ) → Matches (seen_with s (Some a)).entries q l → Matches s.entries q l
-    back l m = record { atom = m.atom; there = sym (same l m.under) ∙ m.there; pred = m.pred; key = m.key; over = m.over; under = m.under }
-
-    on : (l : ℕ) → Matches s.entries q l → Matches (seen_with s (Some a)).entries q l
-    on l m = record { atom = m.atom; there = same l m.under ∙ m.there; pred = m.pred; key = m.key; over = m.over; under = m.under }
-
-    by_found : (found : Option ℕ) → IsLeastMatch s.entries q found → IsLeastMatch (seen_with s (Some a)).entries q found
-    by_found None least = λ l m. least l (back l m)
-    by_found (Some l) least = (on l least.0, λ m w. least.1 m (back m w))
+seen_least s fresh q found h = least_in s.entries (seen_with s fresh).entries q found (λ l u. seen_other s fresh q.below l h (λ e. absurd (omega arith)))

@@ -1,5 +1,5 @@
 -- The labels of each key, in a table and a map, and what an index has under each.
-use Rattle.std.specs.Prelude.{◌≡◌, ℕ, ◌&&◌, if◌then◌else◌, Bool, List, [], ◌∷◌, Option, Some, None, nat_lt, slice_index_or}
+use Rattle.std.specs.Prelude.{◌≡◌, ℕ, ◌&&◌, if◌then◌else◌, Bool, List, [], ◌∷◌, ◌++◌, Option, Some, None, Result, OnOk, OnErr, nat_lt, slice_index_or}
 use Rattle.std.specs.Option.{unwrap_or}
 use Rattle.std.specs.HashMap.{HashMap, get}
 use Rattle.chr_value.specs.Atoms.{Atom}
@@ -24,6 +24,13 @@ found_in rows m k (Some row) = row_at rows row
 
 abbrev pub labels_in : {A : Type 0} → Buckets A → Key → List ℕ
 labels_in b k = found_in b.rows.items b.map k (row_of_key k)
+
+-- what a call answered that puts a label after those of a key: it is there, or the labels are as
+-- before
+abbrev pub IsPut : {X E : Type 0} → Result X E → Key → ℕ → (Key → List ℕ) → (Key → List ℕ) → Type 0
+IsPut r key label old new =
+    OnOk r ((k : Key) → new k ≡ (if same_key key k then old key ++ label ∷ [] else old k))
+    × OnErr r ((k : Key) → new k ≡ old k)
 
 -- a key of the atom at a chosen place below n
 abbrev pub reached : Places → Atom ℕ → ℕ → Key → Bool

@@ -5,7 +5,7 @@ ghost use Rattle.std.specs.Option.{option_copied, unwrap_or};
 ghost use Rattle.chr_store.specs.declared.keys.Key.{Key};
 ghost use Rattle.chr_store.specs.Buckets.{drop_number, IsLeastBetween};
 ghost use Rattle.chr_store.specs.Index.{same_key};
-ghost use Rattle.chr_store.specs.KeyLabels.{labels_in, mapped, row_at, IsChanged};
+ghost use Rattle.chr_store.specs.KeyLabels.{IsPut, labels_in, mapped, row_at, IsChanged};
 
 use crate::chosen::Chosen;
 use crate::keys::{Key, key_at, own_key};
@@ -93,8 +93,7 @@ fn put_in_map<A: Allocator + Copy>(
     label: u64,
 ) -> Result<(), AllocError>
     requires { AllByRecursion (λ m. m < label) (mapped map.old key) }
-    ensures ok { OnOk result ((k : Key) → mapped map.new k ≡ (if same_key key k then mapped map.old key ++ label ∷ [] else mapped map.old k)) }
-    ensures unchanged { OnErr result ((k : Key) → mapped map.new k ≡ mapped map.old k) }
+    ensures { IsPut result key label (mapped map.old) (mapped map.new) }
 {
     map.entry(key)?.or_insert(Labels::new()).push(alloc, label)
 }

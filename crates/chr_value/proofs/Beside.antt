@@ -8,10 +8,8 @@ use Rattle.chr_value.specs.Slots.{value_in, values_in, HasPlace, AreArguments}
 use Rattle.chr_value.specs.declared.value.Comp.{Comp as CodeComp}
 use Rattle.chr_value.specs.declared.slots.Slot.{Slot}
 use Rattle.chr_value.specs.declared.slots.Slot.TheVariants as slots
+use Rattle.chr_value.proofs.Lists.{atom}
 use Rattle.chr_value.proofs.Places.{all-push}
-
-abbrev pub atom : ℕ → List (Value ℕ) → Atom ℕ
-atom name args = record { name = name; args = args }
 
 module _ {A : Type 0} where
   at-end : (cs : List (CodeComp A)) (c : CodeComp A) (d : Value ℕ) → slice_index_or (map ground_comp (cs ++ c ∷ [])) (length cs) d ≡ ground_comp c
@@ -72,14 +70,3 @@ module _ {A : Type 0} where
 
   pub flat-pushed : (cs : List (CodeComp A)) (ss ss' : List Slot) (s : Slot) → ss' ≡ ss ++ s ∷ [] → values_in cs ss' ≡ values_in cs ss ++ value_in cs s ∷ []
   flat-pushed cs ss ss' s is = ap (values_in cs) is ∙ map_push (value_in cs) ss s
-
-  -- one argument more, and no compound value
-  pub plain-pushed : (cs : List (CodeComp A)) (ss ss' : List Slot) (s : Slot) → ss' ≡ ss ++ s ∷ [] → AreArguments cs ss → length ss < 8 → HasPlace cs s → IsWithin (value_in cs s) → AreArguments cs ss'
-  plain-pushed cs ss ss' s is h room place within =
-      let more : length ss' ≡ suc (length ss) = omega (arith, ap length is, length-append ss (s ∷ [])) in
-      record {
-        few = omega (arith, more);
-        fewer = omega (arith, h.fewer, more);
-        places = subst (AllByRecursion (HasPlace cs)) (sym is) (all-push (HasPlace cs) ss s h.places place);
-        within = subst (AllByRecursion IsWithin) (sym (flat-pushed cs ss ss' s is)) (all-push IsWithin (values_in cs ss) (value_in cs s) h.within within);
-      }

@@ -1,9 +1,10 @@
 -- An atom of a table that has a spelling has its names in the table, and keeps its texts in each table that begins so.
-use Rattle.std.proofs.Common.{◌≡◌, ◌<◌, ℕ, zero, suc, true, List, [], ◌∷◌, length, take, map, refl, ap, ◌∙◌, arith}
+use Rattle.std.proofs.Common.{◌≡◌, ◌<◌, ℕ, zero, suc, true, List, [], ◌∷◌, length, take, map, refl, ap₂, arith}
 use Rattle.std.specs.List.{AllByRecursion}
 use Rattle.chr_value.specs.Atoms.{Value, Int, Sym, Comp, Args, Nil, Cons, Atom, TermIsNamed, ArgsAreNamed, AtomIsNamed, renamed, args_renamed, text_of, by_texts}
 use Rattle.chr_value.specs.Naming.{Table}
 use Rattle.chr_value.specs.Spelling.{begins_lower, FitsTerm, ArgsFit, FitsAtom}
+use Rattle.chr_value.proofs.Lists.{atom}
 use Rattle.chr_value.proofs.Said.{text_kept, term_kept}
 
 -- a name's text is not empty
@@ -31,9 +32,7 @@ atom_inside table a fits = record { name = text_inside table a.name fits.name.fi
 
 terms_kept : (a b : Table) (vs : List (Value ℕ)) → take (length a) b ≡ a → AllByRecursion (TermIsNamed (length a)) vs → map (renamed (text_of b)) vs ≡ map (renamed (text_of a)) vs
 terms_kept a b [] h named = refl
-terms_kept a b (v ∷ vs) h named = ap (λ (w : Value (List ℕ)). w ∷ map (renamed (text_of b)) vs) (term_kept a b v h named.0) ∙ ap (λ (ws : List (Value (List ℕ))). renamed (text_of a) v ∷ ws) (terms_kept a b vs h named.1)
+terms_kept a b (v ∷ vs) h named = ap₂ (λ (w : Value (List ℕ)) (ws : List (Value (List ℕ))). w ∷ ws) (term_kept a b v h named.0) (terms_kept a b vs h named.1)
 
 pub atom_kept : (a b : Table) (f : Atom ℕ) → take (length a) b ≡ a → AtomIsNamed (length a) f → by_texts b f ≡ by_texts a f
-atom_kept a b f h named =
-    ap (λ (w : List ℕ). record { name = w; args = map (renamed (text_of b)) f.args }) (text_kept a b f.name h named.name)
-    ∙ ap (λ (ws : List (Value (List ℕ))). record { name = text_of a f.name; args = ws }) (terms_kept a b f.args h named.args)
+atom_kept a b f h named = ap₂ (λ (n : List ℕ) vs. atom n vs) (text_kept a b f.name h named.name) (terms_kept a b f.args h named.args)

@@ -1,10 +1,17 @@
 -- Lists of values beside arguments.
 use Rattle.std.proofs.Common.{◌≡◌, ◌<◌, ◌≤◌, ◌↔◌, ℕ, zero, suc, List, [], ◌∷◌, length, map, get_or, refl, sym, ap, ap₂, ◌∙◌, subst, arith}
 use Rattle.std.specs.List.{AllByRecursion}
-use Rattle.chr_value.specs.Atoms.{Value, Int, Sym, Comp, Args, Nil, Cons, args_of, args_count, renamed, args_renamed, TermIsNamed, ArgsAreNamed}
+use Rattle.chr_value.specs.Atoms.{Value, Int, Sym, Comp, Args, Nil, Cons, args_of, args_count, Atom, renamed, args_renamed, TermIsNamed, ArgsAreNamed}
 use Rattle.chr_value.specs.Limits.{size, args_size}
 use Rattle.chr_value.specs.Spelling.{spell_term, spell_args, FitsTerm, ArgsFit}
 use Rattle.chr_value.specs.Naming.{Table, TermIsKnown, ArgsAreKnown}
+
+abbrev pub atom : {N : Type 0} → N → List (Value N) → Atom N
+atom name args = record { name = name; args = args }
+
+-- an atom as a compound value
+abbrev pub as_value : {N : Type 0} → Atom N → Value N
+as_value a = Comp a.name (args_of a.args)
 
 -- arguments as a list
 abbrev pub list_of : {N : Type 0} → Args N → List (Value N)
@@ -30,9 +37,9 @@ args_in (Sym s) = Nil
 args_in (Comp s vs) = vs
 
 -- two compound values are equal where their functors and their lists of arguments are
-pub same-Comp : (s t : ℕ) (vs ws : List (Value ℕ)) → (Comp s (args_of vs) ≡ Comp t (args_of ws)) ↔ ((s ≡ t) × (vs ≡ ws))
-same-Comp s t vs ws =
-    (λ h. (ap (functor_of 0) h, args_of-injective vs ws (ap args_in h)), λ h. ap₂ (λ (f : ℕ) (us : List (Value ℕ)). Comp f (args_of us)) h.0 h.1)
+pub same-Comp : {N : Type 0} (s t : N) (vs ws : List (Value N)) → (Comp s (args_of vs) ≡ Comp t (args_of ws)) ↔ ((s ≡ t) × (vs ≡ ws))
+same-Comp {N} s t vs ws =
+    (λ h. (ap (functor_of s) h, args_of-injective vs ws (ap args_in h)), λ h. ap₂ (λ (f : N) (us : List (Value N)). Comp f (args_of us)) h.0 h.1)
 
 pub named-args : (n : ℕ) (vs : List (Value ℕ)) → ArgsAreNamed n (args_of vs) ↔ AllByRecursion (TermIsNamed n) vs
 named-args n [] = (λ h. h, λ h. h)

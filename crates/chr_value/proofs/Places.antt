@@ -1,45 +1,32 @@
 -- Lists of which each element says something, place by place.
-use Rattle.std.proofs.Common.{◌≡◌, ◌<◌, ◌≤◌, ◌++◌, ◌+◌, ℕ, zero, suc, Some, List, [], ◌∷◌, length, map, take, drop, get_or, arith, sym, ap, ap₂, ◌∙◌, subst}
+use Rattle.std.proofs.Common.{◌≡◌, ◌<◌, ◌≤◌, ◌++◌, ◌+◌, ℕ, Some, List, [], ◌∷◌, length, map, take, drop, get_or, arith, sym, ap, ap₂, ◌∙◌, subst}
 use Rattle.std.specs.Prelude.{slice_get}
 use Rattle.std.specs.List.{AllByRecursion}
-use Rattle.std.proofs.lemmas.List.{take_more, take_all, drop_more, drop_all, map_push, length-map, length-take-le}
+use Rattle.std.proofs.lemmas.List.{take_more, take_all, drop_more, drop_all, map_push, length-map, length-take-le, get_or-map}
+use Rattle.std.proofs.lemmas.List.Elements.{All-from_recursion, All-get_or}
+use Rattle.std.proofs.lemmas.Option.{slice_get_within, get_or_from_slice_get}
 
 pub all-push : {Y : Type 0} (P : Y → Type 0) (ys : List Y) (y : Y) → AllByRecursion P ys → P y → AllByRecursion P (ys ++ y ∷ [])
 all-push P [] y h p = (p, tt)
 all-push P (z ∷ zs) y h p = (h.0, all-push P zs y h.1 p)
 
-got-suc : {X : Type 0} (xs : List X) (i : ℕ) (x : X) → Some x ≡ slice_get xs i → take (suc i) xs ≡ take i xs ++ x ∷ []
-got-suc [] i x e = absurd cc
-got-suc (y ∷ ys) zero x e = let h : y ≡ x = cc in ap (λ z. z ∷ []) h
-got-suc (y ∷ ys) (suc i) x e = ap (λ zs. y ∷ zs) (got-suc ys i x e)
-
 pub got-more : {X : Type 0} (xs : List X) (i : ℕ) (x : X) → Some x ≡ slice_get xs i → take (i + 1) xs ≡ take i xs ++ x ∷ []
-got-more xs i x e = let n : i + 1 ≡ suc i = omega arith in ap (λ (m : ℕ). take m xs) n ∙ got-suc xs i x e
+got-more xs i x e = rw (take_more xs i x (slice_get_within xs i x (sym e)), get_or_from_slice_get xs i x x (sym e))
 
 module _ {X Y : Type 0} (f : X → Y) where
-  pub got-all : (P : Y → Type 0) (xs : List X) (i : ℕ) (x : X) → Some x ≡ slice_get xs i → AllByRecursion P (map f xs) → P (f x)
-  got-all P [] i x e h = absurd cc
-  got-all P (y ∷ ys) zero x e h = let same : y ≡ x = cc in subst (λ z. P (f z)) same h.0
-  got-all P (y ∷ ys) (suc i) x e h = got-all P ys i x e h.1
-
-  same-there : (xs ys : List X) (i : ℕ) (d e : X) → i < length xs → map f xs ≡ map f ys → f (get_or xs i d) ≡ f (get_or ys i e)
-  same-there [] ys i d e lt h = absurd (omega arith)
-  same-there (x ∷ xs) [] i d e lt h = absurd cc
-  same-there (x ∷ xs) (y ∷ ys) zero d e lt h = cc
-  same-there (x ∷ xs) (y ∷ ys) (suc i) d e lt h = let t : map f xs ≡ map f ys = cc in same-there xs ys i d e (omega arith) t
-
   -- lists that say the same do so at each place
   pub same-at : (xs ys : List X) (i : ℕ) (x y : X) → i < length xs → x ≡ get_or xs i x → y ≡ get_or ys i y → map f xs ≡ map f ys → f x ≡ f y
-  same-at xs ys i x y lt ex ey h = ap f ex ∙ same-there xs ys i x y lt h ∙ sym (ap f ey)
-
-  there : (P : Y → Type 0) (xs : List X) (i : ℕ) (d : X) → AllByRecursion P (map f xs) → i < length xs → P (f (get_or xs i d))
-  there P [] i d h lt = absurd (omega arith)
-  there P (x ∷ xs) zero d h lt = h.0
-  there P (x ∷ xs) (suc i) d h lt = there P xs i d h.1 (omega arith)
+  same-at xs ys i x y lt ex ey h =
+      let within : i < length ys = omega (arith, ap length h, length-map xs f, length-map ys f) in
+      cc (get_or-map f xs i x (f x) lt, get_or-map f ys i y (f x) within)
 
   -- what holds of all holds at each place
   pub all-at : (P : Y → Type 0) (xs : List X) (i : ℕ) (x : X) → i < length xs → x ≡ get_or xs i x → AllByRecursion P (map f xs) → P (f x)
-  all-at P xs i x lt ex h = subst (λ v. P (f v)) (sym ex) (there P xs i x h lt)
+  all-at P xs i x lt ex h =
+      subst P (get_or-map f xs i x (f x) lt ∙ ap f (sym ex)) (All-get_or P (map f xs) i (f x) (rw length-map lt) (All-from_recursion P (map f xs) h))
+
+  pub got-all : (P : Y → Type 0) (xs : List X) (i : ℕ) (x : X) → Some x ≡ slice_get xs i → AllByRecursion P (map f xs) → P (f x)
+  got-all P xs i x e h = all-at P xs i x (slice_get_within xs i x (sym e)) (sym (get_or_from_slice_get xs i x x (sym e))) h
 
   -- what is left, one element less
   pub left-at : (xs : List X) (i : ℕ) (x : X) → i < length xs → x ≡ get_or xs i x → map f (drop i xs) ≡ f x ∷ map f (drop (i + 1) xs)

@@ -1,10 +1,11 @@
 -- What is numbered says the same by the table after it.
-use Rattle.std.proofs.Common.{◌≡◌, ℕ, suc, ◌+◌, ◌<◌, ◌≤◌, length-take, Bool, true, false, cond, ltb, ◌||◌, not, List, [], ◌∷◌, ◌++◌, length, take, map, Some, None, refl, sym, ap, ap₂, subst, ◌∙◌, arith, inl, inr, get_or-take}
+use Rattle.std.proofs.Common.{◌≡◌, ℕ, suc, ◌+◌, ◌<◌, ◌≤◌, length-take, Bool, true, false, cond, ltb, ◌||◌, not, List, [], ◌∷◌, ◌++◌, length, take, map, Option, Some, None, refl, sym, ap, ap₂, subst, ◌∙◌, arith, inl, inr, get_or-take}
 use Rattle.std.proofs.lemmas.Slice.Eq.{bytes_eq-Decides}
 use Rattle.chr_value.specs.Names.{has_text, number_of, with_text, is_text}
-use Rattle.chr_value.specs.Atoms.{Value, Int, Sym, Comp, Args, Nil, Cons, Atom, TermIsNamed, ArgsAreNamed, renamed, args_renamed, text_of, by_texts}
-use Rattle.chr_value.specs.Naming.{◌>>=◌, Table, number_name, numbered_value, numbered_args, number_terms, number_more, numbered_atom}
-use Rattle.chr_value.proofs.Chosen.{bind_some, some_is, chosen}
+use Rattle.chr_value.specs.Atoms.{Value, Int, Sym, Comp, Args, Nil, Cons, args_of, Atom, TermIsNamed, ArgsAreNamed, AtomIsNamed, renamed, args_renamed, text_of, by_texts}
+use Rattle.chr_value.specs.Naming.{◌>>=◌, Table, number_name, numbered_value, numbered_args, number_terms, numbered_atom}
+use Rattle.chr_value.proofs.Chosen.{last, last_two, bind_assoc, some_is, chosen}
+use Rattle.chr_value.proofs.Lists.{atom, as_value, args_of-injective, same-Comp, named-args, renamed-args}
 use Rattle.chr_value.proofs.NameLaws.{keeps-then, grown}
 
 -- the text at the number that a name gets
@@ -64,61 +65,63 @@ mutual
   args_kept a b Nil h i = refl
   args_kept a b (Cons v vs) h i = ap₂ (λ (w : Value (List ℕ)) (ws : Args (List ℕ)). Cons w ws) (term_kept a b v h i.0) (args_kept a b vs h i.1)
 
+-- by the table after it, what was numbered says what it was made of; that table has its names, and begins with the one before
+abbrev Says : {A B : Type 0} → (Table → B → A) → (ℕ → B → Type 0) → Table → A → B × Table → Type 0
+Says by IsNamed table t x = (by x.1 x.0 ≡ t) × IsNamed (length x.1) x.0 × (take (length table) x.1 ≡ table)
+
+abbrev TermSays : Table → Value (List ℕ) → Value ℕ × Table → Type 0
+TermSays = Says (λ new. renamed (text_of new)) TermIsNamed
+
+abbrev ArgsSay : Table → Args (List ℕ) → Args ℕ × Table → Type 0
+ArgsSay = Says (λ new. args_renamed (text_of new)) ArgsAreNamed
+
 mutual
   pub term_says : (table : Table) (t : Value (List ℕ)) (v : Value ℕ) (new : Table) → numbered_value table t ≡ Some (v, new) → (renamed (text_of new) v ≡ t) × TermIsNamed (length new) v × (take (length table) new ≡ table)
-  term_says table (Int z) v new e =
-      let h = some_is (Int z, table) (v, new) e in
-      subst (λ (x : Value ℕ × Table). (renamed (text_of x.1) x.0 ≡ Int z) × TermIsNamed (length x.1) x.0 × (take (length table) x.1 ≡ table)) h (refl, tt, grown table [] true)
+  term_says table (Int z) v new e = subst (TermSays table (Int z)) (some_is (Int z, table) (v, new) e) (refl, tt, grown table [] true)
   term_says table (Sym t) v new e =
-      let a = bind_some (number_name table t) (λ n. Some (Sym n.0, n.1)) (v, new) e in
-      let s = name_says table t a.0.0 a.0.1 a.1 in
-      subst (λ (x : Value ℕ × Table). (renamed (text_of x.1) x.0 ≡ Sym t) × TermIsNamed (length x.1) x.0 × (take (length table) x.1 ≡ table)) (some_is (Sym a.0.0, a.0.1) (v, new) a.2) (ap (λ (w : List ℕ). Sym w) s.0, s.1, s.2)
+      last (number_name table t) (λ n. (Sym n.0, n.1)) (v, new) (TermSays table (Sym t)) e (λ n h.
+      let s = name_says table t n.0 n.1 h in
+      (ap (λ (w : List ℕ). Sym w) s.0, s.1, s.2))
   term_says table (Comp t ts) v new e =
-      let a = bind_some (number_name table t) (λ n. numbered_args n.1 ts >>= λ xs. Some (Comp n.0 xs.0, xs.1)) (v, new) e in
-      let b = bind_some (numbered_args a.0.1 ts) (λ xs. Some (Comp a.0.0 xs.0, xs.1)) (v, new) a.2 in
-      let s = name_says table t a.0.0 a.0.1 a.1 in
-      let r = args_say a.0.1 ts b.0.0 b.0.1 b.1 in
-      let name : text_of b.0.1 a.0.0 ≡ t = text_kept a.0.1 b.0.1 a.0.0 r.2 s.1 ∙ s.0 in
-      let within : a.0.0 < length b.0.1 = omega (arith, s.1, as_long a.0.1 b.0.1 r.2) in
-      subst (λ (x : Value ℕ × Table). (renamed (text_of x.1) x.0 ≡ Comp t ts) × TermIsNamed (length x.1) x.0 × (take (length table) x.1 ≡ table)) (some_is (Comp a.0.0 b.0.0, b.0.1) (v, new) b.2)
-      (ap₂ (λ (w : List ℕ) (ws : Args (List ℕ)). Comp w ws) name r.0, (within, r.1), keeps-then table a.0.1 b.0.1 s.2 r.2)
+      last_two (number_name table t) (λ n. numbered_args n.1 ts) (λ n xs. (Comp n.0 xs.0, xs.1)) (v, new) (TermSays table (Comp t ts)) e (λ n xs h k.
+      let s = name_says table t n.0 n.1 h in
+      let r = args_say n.1 ts xs.0 xs.1 k in
+      let name : text_of xs.1 n.0 ≡ t = text_kept n.1 xs.1 n.0 r.2 s.1 ∙ s.0 in
+      (ap₂ (λ (w : List ℕ) (ws : Args (List ℕ)). Comp w ws) name r.0, (omega (arith, s.1, as_long n.1 xs.1 r.2), r.1), keeps-then table n.1 xs.1 s.2 r.2))
 
-  pub args_say : (table : Table) (ts : Args (List ℕ)) (vs : Args ℕ) (new : Table) → numbered_args table ts ≡ Some (vs, new) → (args_renamed (text_of new) vs ≡ ts) × ArgsAreNamed (length new) vs × (take (length table) new ≡ table)
-  args_say table Nil vs new e =
-      let h = some_is (Nil, table) (vs, new) e in
-      subst (λ (x : Args ℕ × Table). (args_renamed (text_of x.1) x.0 ≡ Nil) × ArgsAreNamed (length x.1) x.0 × (take (length table) x.1 ≡ table)) h (refl, tt, grown table [] true)
+  args_say : (table : Table) (ts : Args (List ℕ)) (vs : Args ℕ) (new : Table) → numbered_args table ts ≡ Some (vs, new) → (args_renamed (text_of new) vs ≡ ts) × ArgsAreNamed (length new) vs × (take (length table) new ≡ table)
+  args_say table Nil vs new e = subst (ArgsSay table Nil) (some_is (Nil, table) (vs, new) e) (refl, tt, grown table [] true)
   args_say table (Cons t ts) vs new e =
-      let a = bind_some (numbered_value table t) (λ x. numbered_args x.1 ts >>= λ xs. Some (Cons x.0 xs.0, xs.1)) (vs, new) e in
-      let b = bind_some (numbered_args a.0.1 ts) (λ xs. Some (Cons a.0.0 xs.0, xs.1)) (vs, new) a.2 in
-      let s = term_says table t a.0.0 a.0.1 a.1 in
-      let r = args_say a.0.1 ts b.0.0 b.0.1 b.1 in
-      let head : renamed (text_of b.0.1) a.0.0 ≡ t = term_kept a.0.1 b.0.1 a.0.0 r.2 s.1 ∙ s.0 in
-      let named : TermIsNamed (length b.0.1) a.0.0 = term_later (length a.0.1) (length b.0.1) a.0.0 (as_long a.0.1 b.0.1 r.2) s.1 in
-      subst (λ (x : Args ℕ × Table). (args_renamed (text_of x.1) x.0 ≡ Cons t ts) × ArgsAreNamed (length x.1) x.0 × (take (length table) x.1 ≡ table)) (some_is (Cons a.0.0 b.0.0, b.0.1) (vs, new) b.2)
-      (ap₂ (λ (w : Value (List ℕ)) (ws : Args (List ℕ)). Cons w ws) head r.0, (named, r.1), keeps-then table a.0.1 b.0.1 s.2 r.2)
+      last_two (numbered_value table t) (λ x. numbered_args x.1 ts) (λ x xs. (Cons x.0 xs.0, xs.1)) (vs, new) (ArgsSay table (Cons t ts)) e (λ x xs h k.
+      let s = term_says table t x.0 x.1 h in
+      let r = args_say x.1 ts xs.0 xs.1 k in
+      let head : renamed (text_of xs.1) x.0 ≡ t = term_kept x.1 xs.1 x.0 r.2 s.1 ∙ s.0 in
+      let named : TermIsNamed (length xs.1) x.0 = term_later (length x.1) (length xs.1) x.0 (as_long x.1 xs.1 r.2) s.1 in
+      (ap₂ (λ (w : Value (List ℕ)) (ws : Args (List ℕ)). Cons w ws) head r.0, (named, r.1), keeps-then table x.1 xs.1 s.2 r.2))
+
+-- a list of terms is numbered as the same arguments are, and an atom as the compound value
+pub as_args : (ts : List (Value (List ℕ))) (table : Table) → numbered_args table (args_of ts) ≡ (number_terms table ts >>= λ x. Some (args_of x.0, x.1))
+unfolding number_terms
+as_args [] table = refl
+as_args (t ∷ ts) table = simp (as_args ts, bind_assoc)
+
+as_comp : (table : Table) (a : Atom (List ℕ)) → numbered_value table (as_value a) ≡ (numbered_atom table a >>= λ x. Some (as_value x.0, x.1))
+unfolding numbered_atom
+as_comp table a = simp (as_args a.args, bind_assoc)
 
 pub terms_say : (table : Table) (ts : List (Value (List ℕ))) (vs : List (Value ℕ)) (new : Table) → number_terms table ts ≡ Some (vs, new) → (map (renamed (text_of new)) vs ≡ ts) × (take (length table) new ≡ table)
-unfolding number_terms
-terms_say table [] vs new e =
-    subst (λ (x : List (Value ℕ) × Table). (map (renamed (text_of x.1)) x.0 ≡ []) × (take (length table) x.1 ≡ table)) (some_is ([], table) (vs, new) e) (refl, grown table [] true)
-terms_say table (t ∷ ts) vs new e =
-    let a = bind_some (numbered_value table t) (λ x. number_terms x.1 ts >>= λ xs. Some (x.0 ∷ xs.0, xs.1)) (vs, new) e in
-    let b = bind_some (number_terms a.0.1 ts) (λ xs. Some (a.0.0 ∷ xs.0, xs.1)) (vs, new) a.2 in
-    let s = term_says table t a.0.0 a.0.1 a.1 in
-    let r = terms_say a.0.1 ts b.0.0 b.0.1 b.1 in
-    let head : renamed (text_of b.0.1) a.0.0 ≡ t = term_kept a.0.1 b.0.1 a.0.0 r.1 s.1 ∙ s.0 in
-    let rest : map (renamed (text_of b.0.1)) b.0.0 ≡ ts = r.0 in
-    subst (λ (x : List (Value ℕ) × Table). (map (renamed (text_of x.1)) x.0 ≡ t ∷ ts) × (take (length table) x.1 ≡ table)) (some_is (a.0.0 ∷ b.0.0, b.0.1) (vs, new) b.2)
-    (ap (λ (w : Value (List ℕ)). w ∷ map (renamed (text_of b.0.1)) b.0.0) head ∙ ap (λ (w : List (Value (List ℕ))). t ∷ w) rest, keeps-then table a.0.1 b.0.1 s.2 r.1)
+terms_say table ts vs new e =
+    let same = as_args ts table ∙ ap (λ (o : Option (List (Value ℕ) × Table)). o >>= λ x. Some (args_of x.0, x.1)) e in
+    let s = args_say table (args_of ts) (args_of vs) new same in
+    (args_of-injective (map (renamed (text_of new)) vs) ts (sym (renamed-args (text_of new) vs) ∙ s.0), s.2)
+
+pub atom_says : (table : Table) (a : Atom (List ℕ)) (f : Atom ℕ) (new : Table) → numbered_atom table a ≡ Some (f, new)
+    → (by_texts new f ≡ a) × AtomIsNamed (length new) f × (take (length table) new ≡ table)
+atom_says table a f new e =
+    let same = as_comp table a ∙ ap (λ (o : Option (Atom ℕ × Table)). o >>= λ x. Some (as_value x.0, x.1)) e in
+    let s = term_says table (as_value a) (as_value f) new same in
+    let is = (same-Comp (text_of new f.name) a.name (map (renamed (text_of new)) f.args) a.args).0 (rw renamed-args at s.0) in
+    (ap₂ (λ (n : List ℕ) vs. atom n vs) is.0 is.1, record { name = s.1.0; args = (named-args (length new) f.args).0 s.1.1 }, s.2)
 
 pub fact_says : (table : Table) (a : Atom (List ℕ)) (f : Atom ℕ) (new : Table) → numbered_atom table a ≡ Some (f, new) → (by_texts new f ≡ a) × (take (length table) new ≡ table)
-unfolding numbered_atom
-fact_says table a f new e =
-    let n = bind_some (number_name table a.name) (λ n. number_more n.0 [] (number_terms n.1 a.args)) (f, new) e in
-    let x = bind_some (number_terms n.0.1 a.args) (λ x. Some (record { name = n.0.0; args = [] ++ x.0 }, x.1)) (f, new) n.2 in
-    let s = name_says table a.name n.0.0 n.0.1 n.1 in
-    let t = terms_say n.0.1 a.args x.0.0 x.0.1 x.1 in
-    let made : Atom ℕ = record { name = n.0.0; args = x.0.0 } in
-    let name : text_of x.0.1 n.0.0 ≡ a.name = text_kept n.0.1 x.0.1 n.0.0 t.1 s.1 ∙ s.0 in
-    let whole : by_texts x.0.1 made ≡ a = ap (λ (w : List ℕ). record { name = w; args = map (renamed (text_of x.0.1)) x.0.0 }) name ∙ ap (λ (w : List (Value (List ℕ))). record { name = a.name; args = w }) t.0 in
-    subst (λ (y : Atom ℕ × Table). (by_texts y.1 y.0 ≡ a) × (take (length table) y.1 ≡ table)) (some_is (made, x.0.1) (f, new) x.2) (whole, keeps-then table n.0.1 x.0.1 s.2 t.1)
+fact_says table a f new e = let s = atom_says table a f new e in (s.0, s.2)

@@ -1,8 +1,6 @@
-use Rattle.std.proofs.Common.{ℕ, List, sym, subst}
 use Rattle.chr_store.specs.Table.{held}
-use Rattle.chr_store.specs.Blocks.{AreCounts}
 use Rattle.chr_store.proofs.Blocks.{counts_begun}
 use Rattle.chr_store.proofs.atoms.make_room.Goals as goal
 
 pub returns-in_ok-push-clause-counted : goal.returns-in_ok-push-clause-counted
-returns-in_ok-push-clause-counted g c = subst (λ (ns : List ℕ). AreCounts (held c.args.slots.now.items) ns) (sym c.in_ok-push.ensures.items) (counts_begun (held c.args.slots.now.items) c.args.counts.now.items c.requires.counted)
+returns-in_ok-push-clause-counted g c = rw c.in_ok-push.ensures.items (counts_begun (held c.args.slots.now.items) c.args.counts.now.items c.requires.counted)

@@ -1,11 +1,12 @@
 use Rattle.std.proofs.Common.{◌≡◌, ℕ, ◌++◌, ◌∷◌, [], List, Option, Some, true, false, if◌then◌else◌, cond, refl, ap, ◌∙◌, arith}
-use Rattle.std.specs.Prelude.{Result, Ok, Err, OnOk, OnErr}
+use Rattle.std.specs.Prelude.{Result, OnOk, OnErr}
 use Rattle.std.specs.Map.{lookup}
 use Rattle.std.specs.Option.{unwrap_or}
 use Rattle.std.proofs.lemmas.Grind.{common_steps}
+use Rattle.std.proofs.lemmas.Result.{on_ok_weaker, on_err_weaker}
 use Rattle.chr_store.specs.declared.keys.Key.{Key}
 use Rattle.chr_store.specs.Index.{same_key}
-use Rattle.chr_store.specs.KeyLabels.{mapped}
+use Rattle.chr_store.specs.KeyLabels.{mapped, IsPut}
 use Rattle.chr_store.specs.KeyLaws.{same_key_true}
 use Rattle.chr_store.proofs.buckets.put_in_map.Goals as goal
 
@@ -17,27 +18,15 @@ module _ {X E : Type 0} (r : Result X E) (es fs : List (Key × List ℕ)) (key :
   shown : (k : Key) → under fs k ≡ (if same_key key k then v else under es k)
   shown k = ap (λ (o : Option (List ℕ)). unwrap_or o []) (written k) ∙ elim (same_key key k) as (λ b. unwrap_or (cond b (Some v) (lookup (same_key k) es)) [] ≡ (if b then v else under es k)) [ true ↦ refl | false ↦ refl ]
 
-  on_success : (w : List ℕ) → OnOk r (v ≡ w) → OnOk r ((k : Key) → under fs k ≡ (if same_key key k then w else under es k))
-  on_success w h = elim r as (λ z. OnOk z (v ≡ w) → OnOk z ((k : Key) → under fs k ≡ (if same_key key k then w else under es k))) [
-    | Ok x ↦ λ e k. shown k ∙ ap (λ (z : List ℕ). if same_key key k then z else under es k) e
-    | Err e ↦ λ u. tt
-  ] h
+  stays : (k : Key) → (if same_key key k then under es key else under es k) ≡ under es k
+  stays k = elim (same_key key k) as (λ b. (same_key key k ≡ b) → (if b then under es key else under es k) ≡ under es k) [ true ↦ λ t. ap (under es) (same_key_true key k t) | false ↦ λ t. refl ] refl
 
-  on_failure : OnErr r (v ≡ under es key) → OnErr r ((k : Key) → under fs k ≡ under es k)
-  on_failure h = elim r as (λ z. OnErr z (v ≡ under es key) → OnErr z ((k : Key) → under fs k ≡ under es k)) [
-    | Ok x ↦ λ u. tt
-    | Err e ↦ λ e k. shown k ∙ ap (λ (z : List ℕ). if same_key key k then z else under es k) e ∙ elim (same_key key k) as (λ b. (same_key key k ≡ b) → (if b then under es key else under es k) ≡ under es k) [
-      | true ↦ λ t. ap (under es) (same_key_true key k t)
-      | false ↦ λ t. refl
-    ] refl
-  ] h
+  on_return : (label : ℕ) → OnOk r (v ≡ under es key ++ label ∷ []) → OnErr r (v ≡ under es key) → IsPut r key label (under es) (under fs)
+  on_return label ok err =
+      let changed : (w : List ℕ) → v ≡ w → (k : Key) → under fs k ≡ (if same_key key k then w else under es k) = λ w e k. shown k ∙ ap (λ (z : List ℕ). if same_key key k then z else under es k) e in
+      (on_ok_weaker r (changed (under es key ++ label ∷ [])) ok, on_err_weaker r (λ e k. changed (under es key) e k ∙ stays k) err)
 
-pub returns-clause-ok : goal.returns-clause-ok
-returns-clause-ok g c =
+pub returns : goal.returns
+returns g c =
     let was : c.or_insert.result.now ≡ mapped c.args.map.now c.args.key = cc (c.or_insert.ensures.value, c.new.ensures, c.in_ok-map.ensures.value) in
-    on_success c.push.result c.args.map.now.entries _ c.args.key c.push.new.self (λ k. grind (arith, common_steps, c.in_ok-map.ensures.update.0 c.push.new.self)) (mapped c.args.map.now c.args.key ++ c.args.label ∷ []) (rw was at c.push.ensures.ok)
-
-pub returns-clause-unchanged : goal.returns-clause-unchanged
-returns-clause-unchanged g c =
-    let was : c.or_insert.result.now ≡ mapped c.args.map.now c.args.key = cc (c.or_insert.ensures.value, c.new.ensures, c.in_ok-map.ensures.value) in
-    on_failure c.push.result c.args.map.now.entries _ c.args.key c.push.new.self (λ k. grind (arith, common_steps, c.in_ok-map.ensures.update.0 c.push.new.self)) (rw was at c.push.ensures.unchanged)
+    on_return c.push.result c.args.map.now.entries _ c.args.key c.push.new.self (λ k. grind (arith, common_steps, c.in_ok-map.ensures.update.0 c.push.new.self)) c.args.label (rw was at c.push.ensures.ok) (rw was at c.push.ensures.unchanged)

@@ -1,5 +1,4 @@
-use Rattle.std.proofs.Common.{◌<◌, ◌+◌, ◌*◌, length, refl, sym, ap, subst, ◌∙◌, arith}
-use Rattle.std.proofs.lemmas.List.{take_all}
+use Rattle.std.proofs.Common.{◌<◌, ◌+◌, ◌*◌, sym, ap, subst, ◌∙◌, arith}
 use Rattle.std.proofs.lemmas.Result.{err_from_is_err_and}
 use Rattle.std.specs.List.{AllByRecursion}
 use Rattle.chr_value.specs.Atoms.{Value, args_of}
@@ -67,20 +66,3 @@ enter_values-loop-text-preserved g t c =
 pub enter_values-returns-clause-enters : goal.enter_values-returns-clause-enters
 enter_values-returns-clause-enters g t c =
     sym c.loop-text.invariant.so_far ∙ terms-end c.loop-text.names _ (left-end text_value c.args.texts.now c.loop-text.text-index c.loop-text-test.false)
-
-pub enter_value-returns-in_ok-enter_name-in-Comp-clause-keeps : goal.enter_value-returns-in_ok-enter_name-in-Comp-clause-keeps
-enter_value-returns-in_ok-enter_name-in-Comp-clause-keeps g t c =
-    keeps-then c.args.names.now c.enter_name-in-Comp.new.names c.enter_values.new.names c.enter_name-in-Comp.ensures.keeps c.enter_values.ensures.keeps
-
-pub enter_value-returns-in_ok-enter_name-in-Comp-clause-fits : goal.enter_value-returns-in_ok-enter_name-in-Comp-clause-fits
-enter_value-returns-in_ok-enter_name-in-Comp-clause-fits g t c = λ h. c.enter_values.ensures.fits c.enter_name-in-Comp.ensures.fits
-
-pub enter_values-loop-text-init : goal.enter_values-loop-text-init
-enter_values-loop-text-init g t c = record { so_far = refl; keeps = take_all (length c.args.names.now) c.args.names.now (omega arith); fits = λ h. h }
-
-pub enter_values-returns-in_err-enter_value-clause-keeps : goal.enter_values-returns-in_err-enter_value-clause-keeps
-enter_values-returns-in_err-enter_value-clause-keeps g t c =
-    keeps-then c.args.names.now c.loop-text.names c.enter_value.new.names c.loop-text.invariant.keeps c.enter_value.ensures.keeps
-
-pub enter_values-returns-in_err-enter_value-clause-fits : goal.enter_values-returns-in_err-enter_value-clause-fits
-enter_values-returns-in_err-enter_value-clause-fits g t c = λ h. c.enter_value.ensures.fits (c.loop-text.invariant.fits h)

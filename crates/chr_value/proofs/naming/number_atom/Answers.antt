@@ -1,16 +1,14 @@
 use Rattle.std.proofs.Common.{◌≡◌, true, Ok, Some, ℕ, sym, ap, ◌∙◌}
-use Rattle.std.proofs.lemmas.Result.{IfOk-from_err, err_from_is_err_and}
+use Rattle.std.proofs.lemmas.Result.{err_from_is_err_and}
 use Rattle.std.specs.List.{AllByRecursion}
 use Rattle.chr_value.specs.Names.{has_text}
 use Rattle.chr_value.specs.Atoms.{Atom}
-use Rattle.chr_value.specs.Naming.{TermIsKnown, AtomIsKnown, table_after, number_name, number_terms, numbered_atom}
+use Rattle.chr_value.specs.Naming.{TermIsKnown, table_after, number_name, number_terms, numbered_atom}
 use Rattle.chr_value.specs.TextAtoms.{text_values, text_atom}
 use Rattle.chr_value.proofs.Again.{read_again}
 use Rattle.chr_value.proofs.Back.{atom_back}
 use Rattle.chr_value.proofs.Chosen.{made-no-fault}
-use Rattle.chr_value.proofs.Entered.{entered-fails, full-where, none_after, some_after, atom-after, atom-none}
-use Rattle.chr_value.proofs.Known.{atom_known}
-use Rattle.chr_value.proofs.NameLaws.{keeps-then}
+use Rattle.chr_value.proofs.Entered.{entered-fails, none_after, some_after, atom-after, atom-none}
 use Rattle.chr_value.proofs.Said.{fact_says}
 use Rattle.chr_value.proofs.naming.number_atom.Given.{Over}
 use Rattle.chr_value.proofs.naming.number_atom.Goals as goal
@@ -40,38 +38,6 @@ returns-in_err-enter_values-clause-gives g c =
 pub returns-in_err-enter_values-clause-again : goal.returns-in_err-enter_values-clause-again
 returns-in_err-enter_values-clause-again g c = λ a apart named is. read_again (λ b. b) c.args.names.now c.enter_values.new.names (text_atom c.args.text.now) c.from_residual-in_err-enter_values.result a (returns-in_err-enter_values-clause-gives g c) apart named is
 
-pub returns-in_err-enter_name-clause-full : goal.returns-in_err-enter_name-clause-full
-returns-in_err-enter_name-clause-full g c =
-    let p = err_from_is_err_and c.from_residual.result c.from_residual.ensures.1 in
-    let new = c.enter_name.new.names in
-    let text = text_atom c.args.text.now in
-    rw (p.1, p.2) (full-where (Unit {0}) (Atom ℕ) (λ table. has_text table text.name ≡ true) (AtomIsKnown new text) c.in_err-enter_name.field-0.0 (number_name c.args.names.now text.name) new (λ known. known.name) c.in_err-enter_name.ensures.enters)
-
-pub returns-in_err-enter_values-clause-full : goal.returns-in_err-enter_values-clause-full
-returns-in_err-enter_values-clause-full g c =
-    let p = err_from_is_err_and c.from_residual-in_err-enter_values.result c.from_residual-in_err-enter_values.ensures.1 in
-    let new = c.enter_values.new.names in
-    let terms = text_values c.deref.result.now in
-    rw (p.1, p.2) (full-where (Unit {0}) (Atom ℕ) (λ table. AllByRecursion (TermIsKnown table) terms) (AtomIsKnown new (text_atom c.args.text.now)) c.in_err-enter_values.field-0.0 (number_terms c.enter_name.new.names terms) new (λ known. rw c.deref.ensures.value known.args) c.in_err-enter_values.ensures.enters)
-
-pub returns-in_err-enter_name-clause-says : goal.returns-in_err-enter_name-clause-says
-returns-in_err-enter_name-clause-says g c = IfOk-from_err c.from_residual.result _ c.from_residual.ensures.0
-
-pub returns-in_err-enter_values-clause-says : goal.returns-in_err-enter_values-clause-says
-returns-in_err-enter_values-clause-says g c = IfOk-from_err c.from_residual-in_err-enter_values.result _ c.from_residual-in_err-enter_values.ensures.0
-
-pub returns-in_err-enter_values-clause-keeps : goal.returns-in_err-enter_values-clause-keeps
-returns-in_err-enter_values-clause-keeps g c =
-    keeps-then c.args.names.now c.enter_name.new.names c.enter_values.new.names c.enter_name.ensures.keeps c.enter_values.ensures.keeps
-
-pub returns-in-Ok-clause-keeps : goal.returns-in-Ok-clause-keeps
-returns-in-Ok-clause-keeps g c =
-    keeps-then c.args.names.now c.enter_name.new.names c.enter_values.new.names c.enter_name.ensures.keeps c.enter_values.ensures.keeps
-
-pub returns-in-Err-clause-keeps : goal.returns-in-Err-clause-keeps
-returns-in-Err-clause-keeps g c =
-    keeps-then c.args.names.now c.enter_name.new.names c.enter_values.new.names c.enter_name.ensures.keeps c.enter_values.ensures.keeps
-
 -- the atom by numbers, once all names are entered
 entered : (g : Over) (c : After-make_atom g) → (a : Atom ℕ) × (numbered_atom c.args.names.now (text_atom c.args.text.now) ≡ Some (a, c.enter_values.new.names))
 entered g c =
@@ -85,12 +51,12 @@ pub returns-in-Ok-clause-gives : goal.returns-in-Ok-clause-gives
 returns-in-Ok-clause-gives g c =
     let made = entered g (goal.at.returns-in-Ok-clause-gives g c).After-make_atom in
     let new = c.enter_values.new.names in
-    made.1 ∙ ap (λ (a : Atom ℕ). Some (a, new)) (sym (c.in-Ok.ensures.gives ∙ atom_back c.args.names.now (text_atom c.args.text.now) made.0 new made.1 c.in-Ok.ensures.distinct))
+    made.1 ∙ ap (λ (a : Atom ℕ). Some (a, new)) (sym (c.in-Ok.ensures.gives ∙ (atom_back c.args.names.now (text_atom c.args.text.now) made.0 new made.1 c.in-Ok.ensures.distinct).0))
 
 pub returns-in-Ok-clause-full : goal.returns-in-Ok-clause-full
 returns-in-Ok-clause-full g c =
-    let known = atom_known c.args.names.now (text_atom c.args.text.now) c.in-Ok.atom c.enter_values.new.names (returns-in-Ok-clause-gives g c) in
-    (λ is. absurd (made-no-fault _ _ is), λ h. absurd (h.1 known))
+    let back = atom_back c.args.names.now (text_atom c.args.text.now) c.in-Ok.atom c.enter_values.new.names (returns-in-Ok-clause-gives g c) c.in-Ok.ensures.distinct in
+    (λ is. absurd (made-no-fault _ _ is), λ h. absurd (h.1 back.1))
 
 pub returns-in-Ok-clause-says : goal.returns-in-Ok-clause-says
 returns-in-Ok-clause-says g c = (fact_says c.args.names.now (text_atom c.args.text.now) c.in-Ok.atom c.enter_values.new.names (returns-in-Ok-clause-gives g c)).0
@@ -101,11 +67,5 @@ returns-in-Ok-clause-again g c = λ a apart named is. read_again (λ b. b) c.arg
 pub returns-in-Err-clause-full : goal.returns-in-Err-clause-full
 returns-in-Err-clause-full g c =
     let made = entered g (goal.at.returns-in-Err-clause-full g c).After-make_atom in
-    let known = atom_known c.args.names.now (text_atom c.args.text.now) made.0 c.enter_values.new.names made.1 in
-    (λ is. absurd cc, λ h. absurd (h.1 known))
-
-pub returns-in-Ok-clause-fits : goal.returns-in-Ok-clause-fits
-returns-in-Ok-clause-fits g c = c.enter_values.ensures.fits c.enter_name.ensures.fits
-
-pub returns-in-Err-clause-fits : goal.returns-in-Err-clause-fits
-returns-in-Err-clause-fits g c = c.enter_values.ensures.fits c.enter_name.ensures.fits
+    let back = atom_back c.args.names.now (text_atom c.args.text.now) made.0 c.enter_values.new.names made.1 c.in-Err.ensures.distinct in
+    (λ is. absurd cc, λ h. absurd (h.1 back.1))

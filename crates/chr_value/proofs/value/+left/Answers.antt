@@ -1,5 +1,5 @@
 use Rattle.std.proofs.Common.{◌-◌, sym, ◌∙◌}
-use Rattle.chr_value.proofs.Left.{left-end, left-next, left-stop}
+use Rattle.chr_value.proofs.Left.{left-next, left-stop}
 use Rattle.chr_value.proofs.value.+left.Goals as goal
 
 pub Comp::left-returns-in_err-rest-2 : goal.Comp::left-returns-in_err-rest-2
@@ -9,6 +9,3 @@ Comp::left-returns-in_err-rest-2 g t c =
 pub Comp::left-loop-value-preserved : goal.Comp::left-loop-value-preserved
 Comp::left-loop-value-preserved g t c =
     sym (left-next (c.args.depth - 1) c.loop-value.rest c.in_ok-rest-2.rest c.deref-value-items.result.now c.loop-value.value-index _ c.loop-value-test.true c.value-item.is (sym c.in_ok-rest-2.ensures)) ∙ c.loop-value.invariant
-
-pub Comp::left-returns : goal.Comp::left-returns
-Comp::left-returns g t c = sym (left-end (c.args.depth - 1) c.loop-value.rest c.deref-value-items.result.now c.loop-value.value-index c.loop-value-test.false) ∙ c.loop-value.invariant

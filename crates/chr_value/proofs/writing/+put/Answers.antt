@@ -1,10 +1,9 @@
 use Rattle.std.proofs.Common.{◌≡◌, ◌++◌, OnOk, List, ℕ, length, take, sym, ap, subst, ◌∙◌, arith}
 use Rattle.std.proofs.lemmas.List.{length-map}
-use Rattle.std.proofs.lemmas.Result.{IfOk-from_err}
 use Rattle.chr_value.specs.Atoms.{ground, grounds, text_of}
 use Rattle.chr_value.proofs.NameLaws.{keeps-then}
 use Rattle.chr_value.proofs.Places.{front-more, front-length, front-all}
-use Rattle.chr_value.proofs.Written.{begun, step, finish, text-Comp}
+use Rattle.chr_value.proofs.Written.{step, finish, text-Comp}
 use Rattle.chr_value.proofs.writing.+put.Goals as goal
 
 pub put_comp-loop-i-preserved : goal.put_comp-loop-i-preserved
@@ -25,33 +24,3 @@ put_comp-returns-clause-writes g t c =
     let count : c.len.result ≡ length vs = omega (arith, c.len.ensures, c.args.comp.now.args.ok.0, length-map c.args.comp.now.args.items ground) in
     subst (λ (w : List ℕ). OnOk c.put_behind.result (c.put_behind.new.out.items ≡ w))
     (finish table c.args.out.now.items (text_of table s) c.loop-i.out.items vs _ c.len.result all count c.loop-i.invariant.written ∙ ap (λ (w : List ℕ). c.args.out.now.items ++ w) (sym (text-Comp table s vs))) c.put_behind.ensures.writes
-
-pub put_comp-returns-clause-keeps : goal.put_comp-returns-clause-keeps
-put_comp-returns-clause-keeps g t c =
-    keeps-then c.args.out.now.items c.loop-i.out.items c.put_behind.new.out.items c.loop-i.invariant.keeps c.put_behind.ensures.keeps
-
-pub put_comp-loop-i-init : goal.put_comp-loop-i-init
-put_comp-loop-i-init g t c = record {
-  written = begun c.args.out.now.items (text_of c.args.names.now c.args.comp.now.functor.number) c.put_name.new.out.items c.in_ok-put_name.ensures.writes;
-  keeps = c.put_name.ensures.keeps;
-}
-
-pub put_comp-returns-in_err-put_name-clause-writes : goal.put_comp-returns-in_err-put_name-clause-writes
-put_comp-returns-in_err-put_name-clause-writes g t c = IfOk-from_err c.from_residual.result _ c.from_residual.ensures.0
-
-pub put_comp-returns-in_err-put_name-clause-keeps : goal.put_comp-returns-in_err-put_name-clause-keeps
-put_comp-returns-in_err-put_name-clause-keeps g t c = c.put_name.ensures.keeps
-
-pub put_comp-returns-in_err-put_before-clause-writes : goal.put_comp-returns-in_err-put_before-clause-writes
-put_comp-returns-in_err-put_before-clause-writes g t c = IfOk-from_err c.from_residual-in_err-put_before.result _ c.from_residual-in_err-put_before.ensures.0
-
-pub put_comp-returns-in_err-put_before-clause-keeps : goal.put_comp-returns-in_err-put_before-clause-keeps
-put_comp-returns-in_err-put_before-clause-keeps g t c =
-    keeps-then c.args.out.now.items c.loop-i.out.items c.put_before.new.out.items c.loop-i.invariant.keeps c.put_before.ensures.keeps
-
-pub put_comp-returns-in_err-put_value-clause-writes : goal.put_comp-returns-in_err-put_value-clause-writes
-put_comp-returns-in_err-put_value-clause-writes g t c = IfOk-from_err c.from_residual-in_err-put_value.result _ c.from_residual-in_err-put_value.ensures.0
-
-pub put_comp-returns-in_err-put_value-clause-keeps : goal.put_comp-returns-in_err-put_value-clause-keeps
-put_comp-returns-in_err-put_value-clause-keeps g t c =
-    keeps-then c.args.out.now.items c.loop-i.out.items c.put_value.new.out.items c.loop-i.invariant.keeps (keeps-then c.loop-i.out.items c.put_before.new.out.items c.put_value.new.out.items c.put_before.ensures.keeps c.put_value.ensures.keeps)

@@ -6,8 +6,5 @@ use Rattle.chr_store.proofs.chosen.Chosen.has.Goals as goal
 
 pub returns-in-Some : goal.returns-in-Some
 returns-in-Some g c =
-    let i = c.self.inside in
-    let pred = c.args.pred in
-    let place = c.args.place in
-    c.mark_at.ensures ∙ ap (λ (ms : List Bool). mark_at ms c.in-Some.index) c.deref-in-Some.ensures.value ∙ c.self.invariant pred place c.in-Some.index c.in-Some.ensures
-    ∙ chosen_listed i.places.items pred place (omega arith) ∙ ap (λ (z : Places). chosen z pred place) c.self.view_is
+    c.mark_at.ensures ∙ ap (λ (ms : List Bool). mark_at ms c.in-Some.index) c.deref-in-Some.ensures.value ∙ c.self.invariant c.args.pred c.args.place c.in-Some.index c.in-Some.ensures
+    ∙ chosen_listed c.self.inside.places.items c.args.pred c.args.place (omega arith) ∙ ap (λ (z : Places). chosen z c.args.pred c.args.place) c.self.view_is

@@ -6,7 +6,5 @@ use Rattle.chr_store.proofs.chosen.Chosen.may_have.Goals as goal
 
 pub returns-in-Some : goal.returns-in-Some
 returns-in-Some g c = λ none place over.
-    let i = c.self.inside in
-    let pred = c.args.pred in
-    let mark = c.mark_at.ensures ∙ ap (λ (ms : List Bool). mark_at ms c.in-Some.index) c.deref.ensures.value ∙ c.self.invariant pred 0 c.in-Some.index c.in-Some.ensures in
-    subst (λ (z : Places). chosen z pred place ≡ false) c.self.view_is (none_chosen i.places.items pred (sym mark ∙ none) place over)
+    let mark = c.mark_at.ensures ∙ ap (λ (ms : List Bool). mark_at ms c.in-Some.index) c.deref.ensures.value ∙ c.self.invariant c.args.pred 0 c.in-Some.index c.in-Some.ensures in
+    subst (λ (z : Places). chosen z c.args.pred place ≡ false) c.self.view_is (none_chosen c.self.inside.places.items c.args.pred (sym mark ∙ none) place over)

@@ -1,15 +1,9 @@
-use Rattle.std.proofs.Common.{List, ℕ, refl, subst, sym, ◌∙◌, Some, None}
+use Rattle.std.proofs.Common.{List, ℕ, subst, sym, ◌∙◌, Some, None}
 use Rattle.std.proofs.lemmas.Bool.{false≢true}
 use Rattle.chr_value.specs.Atoms.{said}
 use Rattle.chr_store.specs.Buckets.{IsLeastBetween}
-use Rattle.chr_store.proofs.Stored.{passed_none, passed_more, passed_found, passed_all}
+use Rattle.chr_store.proofs.Stored.{passed_more, passed_found, passed_all}
 use Rattle.chr_store.proofs.store.Matches.next_with.Goals as goal
-
-pub loop-label-init : goal.loop-label-init
-loop-label-init g c = record {
-  same = refl;
-  passed = passed_none c.args.atoms.now.entries c.args.place (said c.args.value.now) c.args.self.now c.args.after;
-}
 
 pub loop-label-preserved : goal.loop-label-preserved
 loop-label-preserved g c =

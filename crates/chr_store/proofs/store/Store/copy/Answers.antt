@@ -7,14 +7,9 @@ use Rattle.chr_store.specs.Table.{shown}
 use Rattle.chr_store.specs.Index.{Places}
 use Rattle.chr_store.specs.KeyLabels.{IsIndexOf}
 use Rattle.chr_store.specs.Indexed.{IsIndexed}
-use Rattle.chr_store.proofs.Stored.{seen, kept_none, kept_under, kept_push, before_all, append_none}
+use Rattle.std.proofs.lemmas.List.{append-nil}
+use Rattle.chr_store.proofs.Stored.{seen, kept_under, kept_push, before_all}
 use Rattle.chr_store.proofs.store.Store.copy.Goals as goal
-
-pub loop-label-init : goal.loop-label-init
-loop-label-init g c = record {
-  whole = c.into_iter-label-iterator.ensures.into_iter_gives ∙ c.iter-label-items.ensures.rest;
-  index = kept_none c.self.inside.places c.new-buckets.result c.new-buckets.ensures;
-}
 
 pub loop-label-preserved : goal.loop-label-preserved
 loop-label-preserved g c =
@@ -45,7 +40,7 @@ invariant_of-result g c =
     let i = c.self.inside in
     let es : Store = map shown c.loop-label.yielded in
     let none = rest_all shown _ _ _ c.in-None.is c.next.ensures.steps in
-    let whole : es ≡ i.atoms.entries = sym (append_none es) ∙ ap (λ (z : Store). es ++ z) (sym none) ∙ c.loop-label.invariant.whole in
+    let whole : es ≡ i.atoms.entries = sym (append-nil es) ∙ ap (λ (z : Store). es ++ z) (sym none) ∙ c.loop-label.invariant.whole in
     subst (λ (z : GivenAtoms). IsIndexed (record { entries = z.entries; next = z.next; limit = i.limit }) c.in_ok-copy-2.field-0 c.loop-label.buckets) (sym c.in_ok-copy.ensures)
     (record {
       labelled = c.self.invariant.labelled;

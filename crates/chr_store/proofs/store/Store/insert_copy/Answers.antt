@@ -1,5 +1,5 @@
 use Rattle.std.proofs.Common.{ℕ, ◌≤◌, ◌+◌, ◌++◌, ◌∷◌, [], subst, sym, arith, length}
-use Rattle.chr_store.specs.Labels.{GivenAtoms, GivenBefore}
+use Rattle.chr_store.specs.Labels.{GivenAtoms}
 use Rattle.chr_store.specs.Indexed.{IsIndexed}
 use Rattle.chr_store.specs.KeyLabels.{IsChanged}
 use Rattle.chr_store.proofs.Entries.{labelled_push}
@@ -9,16 +9,14 @@ use Rattle.chr_store.proofs.store.Store.insert_copy.Goals as goal
 pub enter-requires : goal.enter-requires
 enter-requires g c =
     let i = c.self.inside in
-    let given : GivenBefore c.next_label-label.result i.atoms.entries = subst (λ n. GivenBefore n i.atoms.entries) (sym c.next_label-label.ensures) c.self.invariant.labelled.given in
-    kept_below i.places c.next_label-label.result i.atoms.entries i.buckets given c.self.invariant.index
+    kept_below i.places c.next_label-label.result i.atoms.entries i.buckets (rw c.next_label-label.ensures c.self.invariant.labelled.given) c.self.invariant.index
 
 pub invariant_of-self : goal.invariant_of-self
 invariant_of-self g c =
     let i = c.self.inside in
     let l = c.next_label-label.result in
     let a = c.args.atom.now in
-    let given : GivenBefore l i.atoms.entries = subst (λ n. GivenBefore n i.atoms.entries) (sym c.next_label-label.ensures) c.self.invariant.labelled.given in
-    record { labelled = c.self.invariant.labelled; index = kept_undone i.places c.in_default.ensures.part.0 l a i.atoms.entries i.buckets c.enter.new.buckets c.leave.new.buckets given c.self.invariant.index c.in_default.ensures.part.1 c.leave.ensures }
+    record { labelled = c.self.invariant.labelled; index = kept_undone i.places c.in_default.ensures.part.0 l a i.atoms.entries i.buckets c.enter.new.buckets c.leave.new.buckets (rw c.next_label-label.ensures c.self.invariant.labelled.given) c.self.invariant.index c.in_default.ensures.part.1 c.leave.ensures }
 
 pub invariant_of-self-in-Ok-push_copy : goal.invariant_of-self-in-Ok-push_copy
 invariant_of-self-in-Ok-push_copy g c =
@@ -38,6 +36,5 @@ invariant_of-self-in_default-push_copy g c =
     let i = c.self.inside in
     let l = c.next_label-label.result in
     let a = c.args.atom.now in
-    let given : GivenBefore l i.atoms.entries = subst (λ n. GivenBefore n i.atoms.entries) (sym c.next_label-label.ensures) c.self.invariant.labelled.given in
     subst (λ (z : GivenAtoms). IsIndexed (record { entries = z.entries; next = z.next; limit = i.limit }) i.places c.leave-in_default-push_copy.new.buckets) (sym c.in_default-push_copy.ensures.unchanged)
-    (record { labelled = c.self.invariant.labelled; index = kept_undone i.places (length a.args + 1) l a i.atoms.entries i.buckets c.enter.new.buckets c.leave-in_default-push_copy.new.buckets given c.self.invariant.index c.in-Ok.ensures.ok c.leave-in_default-push_copy.ensures })
+    (record { labelled = c.self.invariant.labelled; index = kept_undone i.places (length a.args + 1) l a i.atoms.entries i.buckets c.enter.new.buckets c.leave-in_default-push_copy.new.buckets (rw c.next_label-label.ensures c.self.invariant.labelled.given) c.self.invariant.index c.in-Ok.ensures.ok c.leave-in_default-push_copy.ensures })

@@ -1,4 +1,4 @@
-use Rattle.std.proofs.Common.{◌≡◌, subst, sym, ap, ◌∙◌, Some, None}
+use Rattle.std.proofs.Common.{◌≡◌, subst, sym, ap, ◌∙◌, None}
 use Rattle.std.specs.Option.{option_copied}
 use Rattle.chr_value.specs.Stores.{Store, atom_at, drop_label}
 use Rattle.chr_store.specs.Labels.{GivenAtoms, LabelledStore}
@@ -20,6 +20,5 @@ pub invariant_of-self : goal.invariant_of-self
 invariant_of-self g c =
     let i = c.self.inside in
     let es = i.atoms.entries in
-    let there : atom_at es c.args.label ≡ Some c.in-Some.atom.now = sym c.in-Some.ensures in
     subst (λ (z : GivenAtoms). IsIndexed (seen z i.limit) i.places c.leave.new.buckets) (sym c.remove.ensures.rest)
-    (record { labelled = labelled_drop c.args.label i.atoms.next i.limit es c.self.invariant.labelled; index = kept_drop i.places c.args.label c.in-Some.atom.now es i.buckets c.leave.new.buckets c.self.invariant.labelled.rising there c.self.invariant.index c.leave.ensures })
+    (record { labelled = labelled_drop c.args.label i.atoms.next i.limit es c.self.invariant.labelled; index = kept_drop i.places c.args.label c.in-Some.atom.now es i.buckets c.leave.new.buckets c.self.invariant.labelled.rising (sym c.in-Some.ensures) c.self.invariant.index c.leave.ensures })

@@ -1,10 +1,9 @@
-use Rattle.std.proofs.Common.{◌≡◌, ℤ, rules, to_z, of_z, w64, ◌++◌, ◌∷◌, [], sym, ap, subst, ◌∙◌, arith}
-use Rattle.std.proofs.lemmas.Result.{IfOk-from_err, err_from_is_err_and}
+use Rattle.std.proofs.Common.{◌≡◌, ℤ, rules, to_z, of_z, w64, ◌++◌, ◌∷◌, [], sym, ap, subst, ◌∙◌}
 use Rattle.chr_value.specs.Atoms.{Int, ground, ground_comp}
 use Rattle.chr_value.specs.Limits.{IsWithin}
 use Rattle.chr_value.specs.Slots.{comps_of, values_in, AreArguments}
 use Rattle.chr_value.proofs.Levels.{ground-Int, ground-Sym, ground-Comp}
-use Rattle.chr_value.proofs.Beside.{comp-pushed, flat-pushed, plain-pushed, pushed, room-left}
+use Rattle.chr_value.proofs.Beside.{comp-pushed, flat-pushed, pushed, room-left}
 use Rattle.chr_value.proofs.atom.Atom.push.Given.{Over}
 use Rattle.chr_value.proofs.atom.Atom.push.Goals as goal
 use Rattle.chr_value.proofs.atom.Atom.push.Goals.{After-push-in-Comp}
@@ -20,26 +19,8 @@ returns-in-Sym-clause-ok g c =
     let cs = comps_of c.self.inside.comps in
     pushed cs c.self.inside.slots c.self.inside.name.number c.args.self.now _ _ _ c.self.view_is (flat-pushed cs _ c.push-in-Sym.new.self _ c.push-in-Sym.ensures) (sym (ap ground c.in-Sym.is ∙ ground-Sym _ c.in-Sym.name))
 
-pub invariant_of-self : goal.invariant_of-self
-invariant_of-self g c =
-    let cs = comps_of c.self.inside.comps in
-    plain-pushed cs c.self.inside.slots c.push.new.self _ c.push.ensures c.self.invariant (room-left cs c.self.inside.slots c.self.inside.name.number c.args.self.now c.self.view_is c.requires.room) tt (record { depth = omega arith; size = omega arith })
-
-pub invariant_of-self-in-Sym : goal.invariant_of-self-in-Sym
-invariant_of-self-in-Sym g c =
-    let cs = comps_of c.self.inside.comps in
-    plain-pushed cs c.self.inside.slots c.push-in-Sym.new.self _ c.push-in-Sym.ensures c.self.invariant (room-left cs c.self.inside.slots c.self.inside.name.number c.args.self.now c.self.view_is c.requires.room) tt (record { depth = omega arith; size = omega arith })
-
 pub invariant_of-self-in_err-push_comp-in-Comp : goal.invariant_of-self-in_err-push_comp-in-Comp
 invariant_of-self-in_err-push_comp-in-Comp g c = rw c.in_err-push_comp-in-Comp.ensures.err c.self.invariant
-
-pub returns-in_err-push_comp-in-Comp-clause-ok : goal.returns-in_err-push_comp-in-Comp-clause-ok
-returns-in_err-push_comp-in-Comp-clause-ok g c = IfOk-from_err c.from_residual.result _ c.from_residual.ensures.0
-
-pub returns-in_err-push_comp-in-Comp-clause-err : goal.returns-in_err-push_comp-in-Comp-clause-err
-returns-in_err-push_comp-in-Comp-clause-err g c =
-    let p = err_from_is_err_and c.from_residual.result c.from_residual.ensures.1 in
-    rw (p.1, c.in_err-push_comp-in-Comp.ensures.err) c.self.view_is
 
 -- what the compound value said, and what the atom has with it
 says : (g : Over) (c : After-push-in-Comp g) → ground_comp c.into_inner.result ≡ ground c.args.value
@@ -57,6 +38,3 @@ invariant_of-self-in-Comp g c = (with_comp g c).0
 pub returns-in_ok-push_comp-in-Comp-clause-ok : goal.returns-in_ok-push_comp-in-Comp-clause-ok
 returns-in_ok-push_comp-in-Comp-clause-ok g c =
     pushed (comps_of c.self.inside.comps) c.self.inside.slots c.self.inside.name.number c.args.self.now _ _ _ c.self.view_is (with_comp g c).1 (says g c)
-
-pub push-requires-in-Comp : goal.push-requires-in-Comp
-push-requires-in-Comp g c = room-left (comps_of c.self.inside.comps) c.self.inside.slots c.self.inside.name.number c.args.self.now c.self.view_is c.requires.room
