@@ -1,31 +1,18 @@
 -- Lists of views, one of which grew.
-use Rattle.std.proofs.Common.{◌≡◌, ℕ, zero, suc, ◌+◌, ◌<◌, List, [], ◌∷◌, ◌++◌, map, length, get_or, set, sym, ap, ◌∙◌, arith}
+use Rattle.std.proofs.Common.{◌≡◌, ℕ, suc, ◌+◌, ◌<◌, List, [], ◌∷◌, ◌++◌, map, length, get_or, set, sym, ap, ◌∙◌, length-append, arith}
 use Rattle.std.specs.List.{sum_by, concat}
-use Rattle.std.proofs.lemmas.List.{length-map, map-set}
-use Rattle.std.proofs.lemmas.List.Sums.{sum_by-append, sum_by_push}
-use Rattle.chr_pool.proofs.Rules.{ones}
-use Rattle.chr_pool.proofs.Gathers.{get_map}
+use Rattle.std.proofs.lemmas.List.{length-map, map-set, get_or-map}
+use Rattle.std.proofs.lemmas.List.Concat.{concat_is, length-flat_map}
+use Rattle.std.proofs.lemmas.List.Sums.{sum_by-set}
 use Rattle.chr_pool.specs.declared.account.Account.{Account}
-use Rattle.chr_pool.specs.Accounts.{took}
 use Rattle.chr_pool.specs.Handles.{OneGrew}
 
--- the weight of an account's takings after one more
-pub more_taken : (h : ℕ → ℕ) (n : ℕ) (v w : Account) → w ≡ took n v → sum_by h w.taken ≡ sum_by h v.taken + h n
-more_taken h n v w e = ap (λ (u : Account). sum_by h u.taken) e ∙ sum_by_push h v.taken n
-
-grew_at : (h : ℕ → ℕ) (n : ℕ) (xs : List (List ℕ)) (i : ℕ) → i < length xs → sum_by h (concat (set xs i (get_or xs i [] ++ n ∷ []))) ≡ sum_by h (concat xs) + h n
-grew_at h n [] i within = absurd (omega arith)
-grew_at h n (x ∷ xs) zero within = omega (arith, sum_by_push h x n, sum_by-append h (x ++ n ∷ []) (concat xs), sum_by-append h x (concat xs))
-grew_at h n (x ∷ xs) (suc i) within =
-    let r = grew_at h n xs i (omega arith) in
-    omega (arith, r, sum_by-append h x (concat (set xs i (get_or xs i [] ++ n ∷ []))), sum_by-append h x (concat xs))
-
 -- all views together have one number more
-pub one_more : (n : ℕ) (old new : List (List ℕ)) → OneGrew n old new → (h : ℕ → ℕ) → sum_by h (concat new) ≡ sum_by h (concat old) + h n
-one_more n old new grew h = ap (λ l. sum_by h (concat l)) grew.is ∙ grew_at h n old grew.place grew.within
-
 pub one_longer : (n : ℕ) (old new : List (List ℕ)) → OneGrew n old new → length (concat new) ≡ length (concat old) + 1
-one_longer n old new grew = omega (arith, one_more n old new grew (λ (x : ℕ). 1), ones (concat old), ones (concat new))
+one_longer n old new grew =
+    let count : (xs : List (List ℕ)) → length (concat xs) ≡ sum_by length xs = λ xs. ap length (concat_is xs) ∙ length-flat_map (λ x. x) xs in
+    let was = get_or old grew.place [] in
+    omega (arith, count old, count new, ap (sum_by length) grew.is, sum_by-set length old grew.place (was ++ n ∷ []) [] grew.within, length-append was (n ∷ []))
 
 -- a view after two others that are as they were
 pub later_grew : (n : ℕ) (v v' w w' : Account) (old new : List (List ℕ)) → v' ≡ v → w' ≡ w → OneGrew n old new → OneGrew n (v.taken ∷ w.taken ∷ old) (v'.taken ∷ w'.taken ∷ new)
@@ -38,5 +25,5 @@ at_grew n view xs i d x within e =
     record {
       place = i;
       within = (let l = length-map xs view in omega arith);
-      is = map-set view xs i x ∙ ap (set (map view xs) i) (e ∙ ap (λ l. l ++ n ∷ []) (sym (get_map view xs i [] d within)));
+      is = map-set view xs i x ∙ ap (set (map view xs) i) (e ∙ ap (λ l. l ++ n ∷ []) (sym (get_or-map view xs i d [] within)));
     }

@@ -7,11 +7,10 @@ use Rattle.chr_session.specs.declared.desk.Fault.TheVariants as fault
 use Rattle.chr_session.specs.declared.commands.Ended.TheVariants as ended
 use Rattle.chr_session.specs.declared.commands.Received.{Received as CodeReceived}
 use Rattle.chr_session.specs.declared.commands.Received.TheVariants as variants
-use Rattle.chr_session.specs.declared.lines.LineEnd.{LineEnd}
-use Rattle.chr_session.specs.declared.lines.LineEnd.TheVariants.{Whole, TooLong, End}
+use Rattle.chr_session.specs.declared.lines.LineEnd.TheVariants.{End}
 use Rattle.chr_session.specs.declared.parsing.ParsedLine.{ParsedLine}
 use Rattle.chr_session.specs.Lines.{has_line, line_of, after_line, Counted}
-use Rattle.chr_session.specs.Parsing.{without_cr, after_blanks, before_blanks, trimmed, word_of, rest_of, parsed_of}
+use Rattle.chr_session.specs.Parsing.{without_cr, after_blanks, trimmed, word_of, rest_of, parsed_of}
 use Rattle.chr_session.specs.Spelling.{too_long, Received, Spelling, Ending, SpellsFirst, received_of, load_spells, parsed_spells, line_spells, next}
 use Rattle.chr_session.specs.Commands.{Load, Faulty, Right}
 
@@ -29,18 +28,12 @@ load_text count rest enough few = grind (arith, common_steps)
 pub spells_cut : {C : List ℕ → Type 0} {found : Bool} {count : ℕ} {input : List ℕ} → found ≡ false → Counted found count C input → SpellsFirst (load_spells count) (Ending ended.Cut) C input
 spells_cut {C} {found} {count} {input} absent counted = record { rest = []; is = load_cut count input (counted.few absent); told = λ e. absurd (false≢true e) }
 
-pub spells_many : {C : List ℕ → Type 0} {found : Bool} {count : ℕ} {input : List ℕ} → found ≡ true → 65536 < count → Counted found count C input → SpellsFirst (load_spells count) (Spelling (Faulty too_long)) C input
-spells_many {C} {found} {count} {input} present many counted = record { rest = drop count input; is = load_many count input (counted.enough present) many; told = λ _. counted.rest present }
-
-pub spells_load : {C : List ℕ → Type 0} {found : Bool} {count : ℕ} {input : List ℕ} (text : List ℕ) → found ≡ true → count ≤ 65536 → text ≡ take count input → Counted found count C input → SpellsFirst (load_spells count) (Spelling (Right (Load text))) C input
-spells_load {C} {found} {count} {input} text present few same counted = record { rest = drop count input; is = rw same (load_text count input (counted.enough present) few); told = λ _. counted.rest present }
-
 pub spells_refused : {C : List ℕ → Type 0} {count : ℕ} {input : List ℕ} (found : Bool) (received : CodeReceived) (text : List ℕ) → received ≡ (if found then variants.Fault too_long else variants.Ended ended.Cut) → 65536 < count → Counted found count C input → SpellsFirst (load_spells count) (received_of received text) C input
-spells_refused true received text is many counted = rw is (spells_many refl many counted)
+spells_refused {C} {count} {input} true received text is many counted = rw is (record { rest = drop count input; is = load_many count input (counted.enough refl) many; told = λ _. counted.rest refl })
 spells_refused false received text is many counted = rw is (spells_cut refl counted)
 
 pub spells_loaded : {C : List ℕ → Type 0} {count : ℕ} {input : List ℕ} (found : Bool) (received : CodeReceived) (text : List ℕ) → received ≡ (if found then variants.Load else variants.Ended ended.Cut) → count ≤ 65536 → (found ≡ true → text ≡ take count input) → Counted found count C input → SpellsFirst (load_spells count) (received_of received text) C input
-spells_loaded true received text is few same counted = rw is (spells_load text refl few (same refl) counted)
+spells_loaded {C} {count} {input} true received text is few same counted = rw is (record { rest = drop count input; is = rw (same refl) (load_text count input (counted.enough refl) few); told = λ _. counted.rest refl })
 spells_loaded false received text is few same counted = rw is (spells_cut refl counted)
 
 -- a parsed line
@@ -64,18 +57,6 @@ rest_shorter : (text : List ℕ) → length (rest_of text) ≤ length text
 rest_shorter [] = omega arith
 rest_shorter (b ∷ text) = grind (arith, rest_shorter text, front_shorter text)
 
-cr_shorter : (line : List ℕ) → length (without_cr line) ≤ length line
-cr_shorter line = grind (arith, common_steps)
-
-back_shorter : (text : List ℕ) → length (before_blanks text) ≤ length text
-back_shorter text = omega (arith, length-reverse (after_blanks (reverse text)), front_shorter (reverse text), length-reverse text)
-
-pub text_shorter : (line : List ℕ) → length (rest_of (trimmed line)) ≤ length line
-text_shorter line = omega (arith, rest_shorter (trimmed line), back_shorter (after_blanks (without_cr line)), front_shorter (without_cr line), cr_shorter line)
-
-pub too_long_line : (line : List ℕ) → 4097 < length line → 4096 < length (without_cr line)
-too_long_line line long = omega (arith, long_line line)
-
 pub long_seen : {line seen cut : List ℕ} → cut ≡ without_cr seen → seen ≡ line → 4096 < length cut → 4096 < length (without_cr line)
 long_seen cut_is seen_is long = subst (λ (l : List ℕ). 4096 < length (without_cr l)) seen_is (subst (λ (l : List ℕ). 4096 < length l) cut_is long)
 
@@ -83,19 +64,9 @@ pub short_seen : {line seen cut : List ℕ} → cut ≡ without_cr seen → seen
 short_seen cut_is seen_is short = subst (λ (l : List ℕ). length (without_cr l) ≤ 4096) seen_is (subst (λ (l : List ℕ). length l ≤ 4096) cut_is short)
 
 pub short_rest : (line : List ℕ) {rest : List ℕ} → rest ≡ rest_of (trimmed line) → length (without_cr line) ≤ 4096 → length rest ≤ 65536
-short_rest line {rest} e short = omega (arith, ap length e, text_shorter line, long_line line)
-
-whole_goes_on : Whole ≡ End → ⊥
-whole_goes_on e = cc
-
-too_long_goes_on : TooLong ≡ End → ⊥
-too_long_goes_on e = cc
-
-pub spent_whole : {P : Type 0} {end : LineEnd} → end ≡ Whole → ((end ≡ End → ⊥) → P) → P
-spent_whole is spent = spent (λ e. whole_goes_on (sym is ∙ e))
-
-pub spent_too_long : {P : Type 0} {end : LineEnd} → end ≡ TooLong → ((end ≡ End → ⊥) → P) → P
-spent_too_long is spent = spent (λ e. too_long_goes_on (sym is ∙ e))
+short_rest line {rest} e short =
+    let front = after_blanks (without_cr line) in
+    omega (arith, ap length e, rest_shorter (trimmed line), length-reverse (after_blanks (reverse front)), front_shorter (reverse front), length-reverse front, front_shorter (without_cr line))
 
 pub next_of_line : (input : List ℕ) → has_line input ≡ true → next input ≡ line_spells (line_of input) (after_line input)
 unfolding next
@@ -127,9 +98,6 @@ next_cut (b ∷ input) has some = rw has refl
 pub spells_cut_line : {C : List ℕ → Type 0} {input : List ℕ} → has_line input ≡ false → (input ≡ [] → ⊥) → SpellsFirst next (Ending ended.Cut) C input
 spells_cut_line {C} {input} has some = record { rest = []; is = next_cut input has some; told = λ e. absurd (false≢true e) }
 
-next_end : next [] ≡ (Ending ended.End, [])
-unfolding next
-next_end = refl
-
 pub spells_end : {C : List ℕ → Type 0} {input : List ℕ} → input ≡ [] → SpellsFirst next (Ending ended.End) C input
-spells_end {C} {input} none = record { rest = []; is = ap next none ∙ next_end; told = λ e. absurd (false≢true e) }
+unfolding next
+spells_end {C} {input} none = record { rest = []; is = ap next none; told = λ e. absurd (false≢true e) }

@@ -1,14 +1,16 @@
 -- What the line of a command is read as, however it is laid out.
-use Rattle.std.proofs.Common.{◌≡◌, ◌+◌, ◌-◌, ◌<◌, ◌≤◌, ◌⊎◌, ◌==◌, ℕ, Bool, true, false, List, [], ◌∷◌, ◌++◌, length, reverse, not, slice_index, inl, inr, refl, sym, ap, ◌∙◌, append_assoc, append-nil, length-append, arith}
+use Rattle.std.proofs.Common.{◌≡◌, ◌+◌, ◌-◌, ◌<◌, ◌≤◌, ◌⊎◌, ◌==◌, ℕ, Bool, true, false, List, [], ◌∷◌, ◌++◌, length, reverse, not, slice_index, get_or, inl, inr, refl, sym, ap, ◌∙◌, append_assoc, append-nil, length-append, arith}
 use Rattle.std.specs.List.{list_all}
 use Rattle.std.proofs.lemmas.List.{reverse-append, reverse-reverse, get_or-reverse}
 use Rattle.std.proofs.lemmas.List.Folds.{list_all-append}
+use Rattle.std.proofs.lemmas.List.Sorted.{IsPermutation-reverse, All-permutation}
+use Rattle.std.proofs.lemmas.List.Sums.{AllPass-from_list_all, list_all-from_AllPass}
 use Rattle.std.proofs.lemmas.Grind.{common_steps}
 use Rattle.std.proofs.Math.Seq.{get_or-append_seam, take-append_seam}
 use Rattle.chr_session.specs.Lines.{has_line, line_of, after_line}
 use Rattle.chr_session.specs.Parsing.{without_cr, is_blank, after_blanks, before_blanks, trimmed, word_of, rest_of, parsed_of}
 use Rattle.chr_session.specs.Spelling.{parsed_spells, line_spells, next}
-use Rattle.chr_session.specs.Layout.{IsLineEnd, are_blanks, is_margin, IsPlain, IsLine}
+use Rattle.chr_session.specs.Layout.{IsLineEnd, are_blanks, IsPlain, IsLine}
 use Rattle.chr_session.proofs.FirstSpelled.{next_of_line, line_parsed}
 
 -- lines
@@ -16,36 +18,27 @@ use Rattle.chr_session.proofs.FirstSpelled.{next_of_line, line_parsed}
 abbrev pub not_lf : ℕ → Bool
 not_lf b = not (b == 10)
 
-has_after : (p tail : List ℕ) → list_all not_lf p ≡ true → has_line (p ++ 10 ∷ tail) ≡ true
-has_after [] tail h = refl
-has_after (b ∷ p) tail h =
-    let e : not_lf b ≡ true = grind (arith, common_steps, h) in
-    let f : list_all not_lf p ≡ true = grind (arith, common_steps, h) in
-    grind (arith, common_steps, e, has_after p tail f)
+all_cons : (p : ℕ → Bool) (c : ℕ) (b : List ℕ) → list_all p (c ∷ b) ≡ true → (p c ≡ true) × (list_all p b ≡ true)
+all_cons p c b h = (grind (arith, common_steps, h), grind (arith, common_steps, h))
 
-line_before : (p tail : List ℕ) → list_all not_lf p ≡ true → line_of (p ++ 10 ∷ tail) ≡ p
-line_before [] tail h = refl
-line_before (b ∷ p) tail h =
-    let e : not_lf b ≡ true = grind (arith, common_steps, h) in
-    let f : list_all not_lf p ≡ true = grind (arith, common_steps, h) in
-    grind (arith, common_steps, e, line_before p tail f)
+-- what is true of each that passes a test
+pub passes_too : (p q : ℕ → Bool) → ((c : ℕ) → p c ≡ true → q c ≡ true) → (text : List ℕ) → list_all p text ≡ true → list_all q text ≡ true
+passes_too p q more text h = list_all-from_AllPass q text (λ k d within. more (get_or text k d) (AllPass-from_list_all p text h k d within))
 
-tail_after : (p tail : List ℕ) → list_all not_lf p ≡ true → after_line (p ++ 10 ∷ tail) ≡ tail
-tail_after [] tail h = refl
-tail_after (b ∷ p) tail h =
-    let e : not_lf b ≡ true = grind (arith, common_steps, h) in
-    let f : list_all not_lf p ≡ true = grind (arith, common_steps, h) in
-    grind (arith, common_steps, e, tail_after p tail f)
+first_line : (p tail : List ℕ) → list_all not_lf p ≡ true → (has_line (p ++ 10 ∷ tail) ≡ true) × (line_of (p ++ 10 ∷ tail) ≡ p) × (after_line (p ++ 10 ∷ tail) ≡ tail)
+first_line [] tail h = (refl, refl, refl)
+first_line (b ∷ p) tail h =
+    let h' = all_cons not_lf b p h in
+    let i = first_line p tail h'.1 in
+    (grind (arith, common_steps, h'.0, i.0), grind (arith, common_steps, h'.0, i.1), grind (arith, common_steps, h'.0, i.2))
 
 next_line : (p tail : List ℕ) → list_all not_lf p ≡ true → next (p ++ 10 ∷ tail) ≡ line_spells p tail
-next_line p tail h = next_of_line (p ++ 10 ∷ tail) (has_after p tail h) ∙ (ap (λ l. line_spells l (after_line (p ++ 10 ∷ tail))) (line_before p tail h) ∙ ap (λ t. line_spells p t) (tail_after p tail h))
+next_line p tail h =
+    let l = first_line p tail h in
+    next_of_line (p ++ 10 ∷ tail) l.0 ∙ (λ k. line_spells (l.1 k) (l.2 k))
 
 blanks_no_lf : (b : List ℕ) → are_blanks b ≡ true → list_all not_lf b ≡ true
-blanks_no_lf [] h = refl
-blanks_no_lf (c ∷ b) h =
-    let e : is_blank c ≡ true = grind (arith, common_steps, h) in
-    let f : are_blanks b ≡ true = grind (arith, common_steps, h) in
-    grind (arith, common_steps, e, blanks_no_lf b f)
+blanks_no_lf b h = passes_too is_blank not_lf (λ c blank. grind (arith, common_steps, blank)) b h
 
 both_no_lf : (p q : List ℕ) → list_all not_lf p ≡ true → list_all not_lf q ≡ true → list_all not_lf (p ++ q) ≡ true
 both_no_lf p q h k = list_all-append not_lf p q ∙ rw (h, k) refl
@@ -55,10 +48,14 @@ both_no_lf p q h k = list_all-append not_lf p q ∙ rw (h, k) refl
 abbrev pub NoCr : List ℕ → Type 0
 NoCr text = (slice_index text (length text - 1) == 13) ≡ false
 
-pub last_after : (p : List ℕ) (c : ℕ) (q : List ℕ) → slice_index (p ++ c ∷ q) (length (p ++ c ∷ q) - 1) ≡ slice_index (c ∷ q) (length (c ∷ q) - 1)
+last_after : (p : List ℕ) (c : ℕ) (q : List ℕ) → slice_index (p ++ c ∷ q) (length (p ++ c ∷ q) - 1) ≡ slice_index (c ∷ q) (length (c ∷ q) - 1)
 last_after p c q =
     let size : length (p ++ c ∷ q) ≡ length p + length (c ∷ q) = length-append p (c ∷ q) in
     grind (arith, common_steps, size)
+
+-- the last byte of a text that passes a test
+pub last_passes : (p : ℕ → Bool) (c : ℕ) (text : List ℕ) → list_all p (c ∷ text) ≡ true → p (slice_index (c ∷ text) (length (c ∷ text) - 1)) ≡ true
+last_passes p c text h = AllPass-from_list_all p (c ∷ text) h (length (c ∷ text) - 1) 0 (omega arith)
 
 no_cr_both : (p q : List ℕ) → NoCr p → NoCr q → NoCr (p ++ q)
 no_cr_both p [] h k = rw (append-nil p) h
@@ -66,18 +63,13 @@ no_cr_both p (c ∷ q) h k = rw (last_after p c q) k
 
 no_cr_blanks : (b : List ℕ) → are_blanks b ≡ true → NoCr b
 no_cr_blanks [] h = refl
-no_cr_blanks (c ∷ []) h =
-    let e : is_blank c ≡ true = grind (arith, common_steps, h) in
-    grind (arith, common_steps, e)
-no_cr_blanks (c ∷ d ∷ b) h =
-    let f : are_blanks (d ∷ b) ≡ true = grind (arith, common_steps, h) in
-    rw (last_after (c ∷ []) d b) (no_cr_blanks (d ∷ b) f)
+no_cr_blanks (c ∷ b) h = blank_no_cr (slice_index (c ∷ b) (length (c ∷ b) - 1)) (last_passes is_blank c b h)
+  where
+    blank_no_cr : (c : ℕ) → is_blank c ≡ true → (c == 13) ≡ false
+    blank_no_cr c blank = grind (arith, common_steps, blank)
 
 no_cr_plain : (text : List ℕ) → IsPlain text → NoCr text
 no_cr_plain text plain = grind (arith, common_steps, plain.last)
-
-cr_stays : (p : List ℕ) → NoCr p → without_cr p ≡ p
-cr_stays p h = rw h refl
 
 cr_goes : (p : List ℕ) → without_cr (p ++ 13 ∷ []) ≡ p
 cr_goes p =
@@ -89,22 +81,14 @@ cr_goes p =
 
 blanks_go : (b text : List ℕ) → are_blanks b ≡ true → after_blanks (b ++ text) ≡ after_blanks text
 blanks_go [] text h = refl
-blanks_go (c ∷ b) text h =
-    let e : is_blank c ≡ true = grind (arith, common_steps, h) in
-    let f : are_blanks b ≡ true = grind (arith, common_steps, h) in
-    grind (arith, common_steps, e, blanks_go b text f)
+blanks_go (c ∷ b) text h = let h' = all_cons is_blank c b h in grind (arith, common_steps, h'.0, blanks_go b text h'.1)
 
 plain_stays : (text : List ℕ) → is_blank (slice_index text 0) ≡ false → after_blanks text ≡ text
 plain_stays [] h = refl
 plain_stays (c ∷ text) h = let e : is_blank c ≡ false = grind (arith, common_steps, h) in rw e refl
 
 blanks_turned : (b : List ℕ) → are_blanks b ≡ true → are_blanks (reverse b) ≡ true
-blanks_turned [] h = refl
-blanks_turned (c ∷ b) h =
-    let e : is_blank c ≡ true = grind (arith, common_steps, h) in
-    let f : are_blanks b ≡ true = grind (arith, common_steps, h) in
-    let r : reverse (c ∷ b) ≡ reverse b ++ c ∷ [] = reverse-append (c ∷ []) b in
-    rw r (list_all-append is_blank (reverse b) (c ∷ []) ∙ rw (blanks_turned b f, e) refl)
+blanks_turned b h = list_all-from_AllPass is_blank (reverse b) (All-permutation (λ c. is_blank c ≡ true) b (reverse b) (IsPermutation-reverse b) (AllPass-from_list_all is_blank b h))
 
 last_turned : (text : List ℕ) → slice_index (reverse text) 0 ≡ slice_index text (length text - 1)
 last_turned [] = refl
@@ -128,30 +112,25 @@ pub record IsWord (word : List ℕ) : Type 0 where
 word_alone : (word : List ℕ) → list_all (λ b. not (is_blank b)) word ≡ true → (word_of word ≡ word) × (rest_of word ≡ [])
 word_alone [] h = (refl, refl)
 word_alone (c ∷ word) h =
-    let e : is_blank c ≡ false = grind (arith, common_steps, h) in
-    let f : list_all (λ b. not (is_blank b)) word ≡ true = grind (arith, common_steps, h) in
-    let i = word_alone word f in
-    (grind (arith, common_steps, e, i.0), grind (arith, common_steps, e, i.1))
+    let h' = all_cons (λ b. not (is_blank b)) c word h in
+    let i = word_alone word h'.1 in
+    (grind (arith, common_steps, h'.0, i.0), grind (arith, common_steps, h'.0, i.1))
 
 word_apart : (word : List ℕ) (b : ℕ) (text : List ℕ) → list_all (λ b. not (is_blank b)) word ≡ true → is_blank b ≡ true → (word_of (word ++ b ∷ text) ≡ word) × (rest_of (word ++ b ∷ text) ≡ after_blanks text)
 word_apart [] b text h k = (grind (arith, common_steps, k), grind (arith, common_steps, k))
 word_apart (c ∷ word) b text h k =
-    let e : is_blank c ≡ false = grind (arith, common_steps, h) in
-    let f : list_all (λ b. not (is_blank b)) word ≡ true = grind (arith, common_steps, h) in
-    let i = word_apart word b text f k in
-    (grind (arith, common_steps, e, i.0), grind (arith, common_steps, e, i.1))
+    let h' = all_cons (λ b. not (is_blank b)) c word h in
+    let i = word_apart word b text h'.1 k in
+    (grind (arith, common_steps, h'.0, i.0), grind (arith, common_steps, h'.0, i.1))
 
 first_stays : (word text : List ℕ) → 0 < length word → slice_index (word ++ text) 0 ≡ slice_index word 0
 first_stays word text some = grind (arith, common_steps, some)
 
-not_blank : (b : ℕ) → is_margin b ≡ false → is_blank b ≡ false
-not_blank b h = grind (arith, common_steps, h)
-
 word_no_blank : (text : List ℕ) → IsPlain text → is_blank (slice_index text 0) ≡ false
-word_no_blank text plain = not_blank (slice_index text 0) plain.first
+word_no_blank text plain = grind (arith, common_steps, plain.first)
 
 end_no_blank : (text : List ℕ) → IsPlain text → is_blank (slice_index text (length text - 1)) ≡ false
-end_no_blank text plain = not_blank (slice_index text (length text - 1)) plain.last
+end_no_blank text plain = grind (arith, common_steps, plain.last)
 
 -- the line of a word alone, without its end
 trimmed_word : (before word between after : List ℕ) → IsWord word → are_blanks before ≡ true → are_blanks between ≡ true → are_blanks after ≡ true → before_blanks (after_blanks (before ++ (word ++ (between ++ ([] ++ after))))) ≡ word
@@ -178,10 +157,9 @@ pub record HasWords (line word text : List ℕ) : Type 0 where
 split_both : (word between text : List ℕ) → IsWord word → IsPlain text → are_blanks between ≡ true → 0 < length between → HasWords (word ++ (between ++ text)) word text
 split_both word [] text w t c apart = absurd (omega (arith, apart))
 split_both word (b ∷ between) text w t c apart =
-    let e : is_blank b ≡ true = grind (arith, common_steps, c) in
-    let f : are_blanks between ≡ true = grind (arith, common_steps, c) in
-    let s = word_apart word b (between ++ text) w.unbroken e in
-    record { word_is = s.0; text_is = s.1 ∙ (blanks_go between text f ∙ plain_stays text (word_no_blank text t)) }
+    let c' = all_cons is_blank b between c in
+    let s = word_apart word b (between ++ text) w.unbroken c'.0 in
+    record { word_is = s.0; text_is = s.1 ∙ (blanks_go between text c'.1 ∙ plain_stays text (word_no_blank text t)) }
 
 has_words : (before word between text after : List ℕ) → IsWord word → IsPlain text → are_blanks before ≡ true → are_blanks between ≡ true → are_blanks after ≡ true → (text ≡ []) ⊎ (0 < length between) → HasWords (before_blanks (after_blanks (before ++ (word ++ (between ++ (text ++ after)))))) word text
 has_words before word between [] after w t b c d apart =
@@ -198,17 +176,11 @@ has_words before word between (x ∷ text) after w t b c d (inr apart) =
 abbrev body : {word text line : List ℕ} → IsLine word text line → List ℕ
 body {word} {text} l = l.before ++ (word ++ (l.between ++ (text ++ l.after)))
 
-body_no_lf : {word text line : List ℕ} (l : IsLine word text line) → IsWord word → IsPlain text → list_all not_lf (body l) ≡ true
-body_no_lf {word} {text} l w t = both_no_lf l.before (word ++ (l.between ++ (text ++ l.after))) (blanks_no_lf l.before l.blank_before)
-    (both_no_lf word (l.between ++ (text ++ l.after)) w.plain.one_line
-    (both_no_lf l.between (text ++ l.after) (blanks_no_lf l.between l.blank_between)
-    (both_no_lf text l.after t.one_line (blanks_no_lf l.after l.blank_after))))
-
-body_no_cr : {word text line : List ℕ} (l : IsLine word text line) → IsWord word → IsPlain text → NoCr (body l)
-body_no_cr {word} {text} l w t = no_cr_both l.before (word ++ (l.between ++ (text ++ l.after))) (no_cr_blanks l.before l.blank_before)
-    (no_cr_both word (l.between ++ (text ++ l.after)) (no_cr_plain word w.plain)
-    (no_cr_both l.between (text ++ l.after) (no_cr_blanks l.between l.blank_between)
-    (no_cr_both text l.after (no_cr_plain text t) (no_cr_blanks l.after l.blank_after))))
+-- what holds of its parts, and of two texts one after the other
+body_has : {word text line : List ℕ} (P : List ℕ → Type 0) → ((p q : List ℕ) → P p → P q → P (p ++ q)) → ((b : List ℕ) → are_blanks b ≡ true → P b) → (l : IsLine word text line) → P word → P text → P (body l)
+body_has {word} {text} P both blanks l w t =
+    let rest = both l.between (text ++ l.after) (blanks l.between l.blank_between) (both text l.after t (blanks l.after l.blank_after)) in
+    both l.before (word ++ (l.between ++ (text ++ l.after))) (blanks l.before l.blank_before) (both word (l.between ++ (text ++ l.after)) w rest)
 
 line_is_parsed : (p line word text rest : List ℕ) → without_cr line ≡ p → length p ≤ 4096 → HasWords (before_blanks (after_blanks p)) word text → line_spells line rest ≡ parsed_spells (parsed_of word text) text rest
 line_is_parsed p line word text rest cr short words =
@@ -220,11 +192,11 @@ line_is_parsed p line word text rest cr short words =
 by_end : (p line ending word text tail : List ℕ) → IsLineEnd ending → line ≡ p ++ ending → list_all not_lf p ≡ true → NoCr p → length p ≤ 4096 → HasWords (before_blanks (after_blanks p)) word text → next (line ++ tail) ≡ parsed_spells (parsed_of word text) text tail
 by_end p line ending word text tail (inl lf) is one no_cr short words =
     let e : line ++ tail ≡ p ++ 10 ∷ tail = ap (λ l. l ++ tail) (is ∙ ap (λ d. p ++ d) lf) ∙ append_assoc p (10 ∷ []) tail in
-    ap next e ∙ (next_line p tail one ∙ line_is_parsed p p word text tail (cr_stays p no_cr) short words)
+    ap next e ∙ (next_line p tail one ∙ line_is_parsed p p word text tail (rw no_cr refl) short words)
 by_end p line ending word text tail (inr cr_lf) is one no_cr short words =
     let e : line ++ tail ≡ p ++ 13 ∷ 10 ∷ tail = ap (λ l. l ++ tail) (is ∙ ap (λ d. p ++ d) cr_lf) ∙ append_assoc p (13 ∷ 10 ∷ []) tail in
     let f : p ++ 13 ∷ 10 ∷ tail ≡ (p ++ 13 ∷ []) ++ 10 ∷ tail = sym (append_assoc p (13 ∷ []) (10 ∷ tail)) in
     ap next (e ∙ f) ∙ (next_line (p ++ 13 ∷ []) tail (both_no_lf p (13 ∷ []) one refl) ∙ line_is_parsed p (p ++ 13 ∷ []) word text tail (cr_goes p) short words)
 
 pub next_command : (word text line tail : List ℕ) → IsWord word → IsPlain text → IsLine word text line → next (line ++ tail) ≡ parsed_spells (parsed_of word text) text tail
-next_command word text line tail w t l = by_end (body l) line l.ending word text tail l.line_end l.is (body_no_lf l w t) (body_no_cr l w t) l.short (has_words l.before word l.between text l.after w t l.blank_before l.blank_between l.blank_after l.apart)
+next_command word text line tail w t l = by_end (body l) line l.ending word text tail l.line_end l.is (body_has (λ p. list_all not_lf p ≡ true) both_no_lf blanks_no_lf l w.plain.one_line t.one_line) (body_has NoCr no_cr_both no_cr_blanks l (no_cr_plain word w.plain) (no_cr_plain text t)) l.short (has_words l.before word l.between text l.after w t l.blank_before l.blank_between l.blank_after l.apart)

@@ -1,5 +1,5 @@
 -- A session so far.
-use Rattle.std.proofs.Common.{◌≡◌, ℕ, true, List, [], ◌∷◌, ◌++◌, Option, Some, None, Result, Ok, Err, inl, inr, refl, sym, ap, subst, ◌∙◌, append_assoc, append-nil}
+use Rattle.std.proofs.Common.{◌≡◌, ℕ, true, List, [], ◌∷◌, ◌++◌, Option, Some, None, inl, inr, refl, sym, ap, subst, ◌∙◌, append_assoc, append-nil}
 use Rattle.std.proofs.lemmas.Bool.{false≢true}
 use Rattle.std.proofs.lemmas.List.Concat.{flat_map-append}
 use Rattle.std.specs.Option.{option_to_list}
@@ -8,8 +8,6 @@ use Rattle.chr_session.specs.Devices.{Comes}
 use Rattle.chr_session.specs.declared.commands.Ended.{Ended}
 use Rattle.chr_session.specs.declared.commands.Received.{Received as CodeReceived}
 use Rattle.chr_session.specs.declared.commands.Received.TheVariants as variants
-use Rattle.chr_session.specs.declared.session.ServeFault.{ServeFault}
-use Rattle.chr_session.specs.declared.session.ServeFault.TheVariants.{Device, NoMemory}
 use Rattle.chr_session.specs.Commands.{Reply}
 use Rattle.chr_session.specs.Spelling.{Received, Spelling, Ending, next, SpellsFirst, received_of, goes_on}
 use Rattle.chr_session.specs.Commands.{Command, Spelled}
@@ -39,12 +37,9 @@ answers_more step [] old replies mid one answer new r a =
 answers_more step (s ∷ more) old replies mid one answer new r a =
     (r.0, r.1, r.2 ++ option_to_list answer, r.3, ap (λ l. l ++ option_to_list answer) r.4 ∙ append_assoc (option_to_list r.0) r.2 (option_to_list answer), answers_more step more r.1 r.2 mid one answer new r.5 a)
 
-one_reply : (answer : Option Reply) → flat_map reply_bytes (option_to_list answer) ≡ answer_bytes answer
-one_reply None = refl
-one_reply (Some r) = append-nil (reply_bytes r)
-
 bytes_more : (replies : List Reply) (answer : Option Reply) → flat_map reply_bytes (replies ++ option_to_list answer) ≡ flat_map reply_bytes replies ++ answer_bytes answer
-bytes_more replies answer = flat_map-append reply_bytes replies (option_to_list answer) ∙ ap (λ t. flat_map reply_bytes replies ++ t) (one_reply answer)
+bytes_more replies None = ap (flat_map reply_bytes) (append-nil replies) ∙ sym (append-nil (flat_map reply_bytes replies))
+bytes_more replies (Some r) = flat_map-append reply_bytes replies (r ∷ []) ∙ ap (λ t. flat_map reply_bytes replies ++ t) (append-nil (reply_bytes r))
 
 pub session_begins : {D : Type 0} {left : List ℕ → Type 0} (step : D → Command → Reply → D → Type 0) (desk : D) (taken : List ℕ → Type 0) (input : List ℕ) → left input → Underway step desk desk taken taken left input
 session_begins step desk taken input a = record {
@@ -144,14 +139,3 @@ session_stopped {D} {step} {old} {now} {before} {after} {left} {input} underway 
   answers = underway.answers;
   written = subst (λ (t : List ℕ). Wrote before after t) (sym (append-nil (flat_map reply_bytes underway.replies))) underway.written;
 }
-
--- which fault a session ends with
-
-pub no_device : {T : Type 0} → ◌≡◌ {A = Result T ServeFault} (Err NoMemory) (Err Device) → ⊥
-no_device e = cc
-
-pub no_memory : {T : Type 0} → ◌≡◌ {A = Result T ServeFault} (Err Device) (Err NoMemory) → ⊥
-no_memory e = cc
-
-pub not_broken : {T E : Type 0} {value : T} {fault : E} → ◌≡◌ {A = Result T E} (Ok value) (Err fault) → ⊥
-not_broken e = cc

@@ -7,32 +7,26 @@ use Rattle.chr_session.specs.declared.parsing.ParsedLine.TheVariants as lines
 use Rattle.chr_session.specs.Parsing.{is_blank, after_blanks, word_of, rest_of, parsed_of}
 use Rattle.chr_session.proofs.Passed.{some_left}
 
-word_from : (b : ℕ) (text : List ℕ) → is_blank b ≡ false → word_of (b ∷ text) ≡ b ∷ word_of text
-word_from b text e = rw e refl
+goes_on : (b : ℕ) (text : List ℕ) → is_blank b ≡ false → (word_of (b ∷ text) ≡ b ∷ word_of text) × (rest_of (b ∷ text) ≡ rest_of text)
+goes_on b text e = (rw e refl, rw e refl)
 
-rest_from : (b : ℕ) (text : List ℕ) → is_blank b ≡ false → rest_of (b ∷ text) ≡ rest_of text
-rest_from b text e = rw e refl
-
-word_to : (b : ℕ) (text : List ℕ) → is_blank b ≡ true → word_of (b ∷ text) ≡ []
-word_to b text e = rw e refl
-
-rest_to : (b : ℕ) (text : List ℕ) → is_blank b ≡ true → rest_of (b ∷ text) ≡ after_blanks text
-rest_to b text e = rw e refl
+ends : (b : ℕ) (text : List ℕ) → is_blank b ≡ true → (word_of (b ∷ text) ≡ []) × (rest_of (b ∷ text) ≡ after_blanks text)
+ends b text e = (rw e refl, rw e refl)
 
 module _ (text : List ℕ) (i : ℕ) (lt : i < length text) where
   pub word_longer : is_blank (get_or text i 0) ≡ false → word_of text ≡ take i text ++ word_of (drop i text) → word_of text ≡ take (i + 1) text ++ word_of (drop (i + 1) text)
   word_longer e h =
-      let here : word_of (drop i text) ≡ get_or text i 0 ∷ word_of (drop (i + 1) text) = ap word_of (drop_more text i 0 lt) ∙ word_from (get_or text i 0) (drop (i + 1) text) e in
+      let here : word_of (drop i text) ≡ get_or text i 0 ∷ word_of (drop (i + 1) text) = ap word_of (drop_more text i 0 lt) ∙ (goes_on (get_or text i 0) (drop (i + 1) text) e).0 in
       h ∙ ap (λ (t : List ℕ). take i text ++ t) here ∙ sym (append_assoc (take i text) (get_or text i 0 ∷ []) (word_of (drop (i + 1) text))) ∙ ap (λ (t : List ℕ). t ++ word_of (drop (i + 1) text)) (sym (take_more text i 0 lt))
 
   pub rest_later : is_blank (get_or text i 0) ≡ false → rest_of text ≡ rest_of (drop i text) → rest_of text ≡ rest_of (drop (i + 1) text)
-  rest_later e h = h ∙ ap rest_of (drop_more text i 0 lt) ∙ rest_from (get_or text i 0) (drop (i + 1) text) e
+  rest_later e h = h ∙ ap rest_of (drop_more text i 0 lt) ∙ (goes_on (get_or text i 0) (drop (i + 1) text) e).1
 
   pub word_whole : is_blank (get_or text i 0) ≡ true → word_of text ≡ take i text ++ word_of (drop i text) → take i text ≡ word_of text
-  word_whole e h = sym (h ∙ ap (λ (t : List ℕ). take i text ++ t) (ap word_of (drop_more text i 0 lt) ∙ word_to (get_or text i 0) (drop (i + 1) text) e) ∙ append-nil (take i text))
+  word_whole e h = sym (h ∙ ap (λ (t : List ℕ). take i text ++ t) (ap word_of (drop_more text i 0 lt) ∙ (ends (get_or text i 0) (drop (i + 1) text) e).0) ∙ append-nil (take i text))
 
   pub rest_whole : {rest : List ℕ} → is_blank (get_or text i 0) ≡ true → rest ≡ after_blanks (take (length text - (i + 1)) (drop (i + 1) text)) → rest_of text ≡ rest_of (drop i text) → rest ≡ rest_of text
-  rest_whole e is h = is ∙ ap after_blanks (take_rest text (i + 1)) ∙ sym (h ∙ ap rest_of (drop_more text i 0 lt) ∙ rest_to (get_or text i 0) (drop (i + 1) text) e)
+  rest_whole e is h = is ∙ ap after_blanks (take_rest text (i + 1)) ∙ sym (h ∙ ap rest_of (drop_more text i 0 lt) ∙ (ends (get_or text i 0) (drop (i + 1) text) e).1)
 
 either : (q : Bool) → lines.Unknown ≡ (if q then lines.Unknown else lines.Unknown)
 either true = refl

@@ -1,6 +1,6 @@
 -- One piece written after another.
-use Rattle.std.proofs.Common.{◌≡◌, ◌+◌, ◌-◌, ℕ, suc, zero-add, min, List, [], ◌∷◌, ◌++◌, length, take, drop, codes, sym, ap, subst, ◌∙◌, arith, append_assoc}
-use Rattle.std.proofs.Math.Seq.{take-add}
+use Rattle.std.proofs.Common.{◌≡◌, ◌+◌, ◌-◌, ℕ, min, List, [], ◌++◌, length, take, drop, codes, sym, ap, subst, ◌∙◌, arith, append_assoc}
+use Rattle.std.proofs.Math.Seq.{take-add, take-length, take-append-add}
 use Rattle.std.proofs.lemmas.List.{take_rest}
 use Rattle.std.proofs.lemmas.Grind.{common_steps}
 use Rattle.chr_session.specs.Replies.{Wrote, Began}
@@ -16,15 +16,8 @@ wrote_piece {A} {B} {C} bytes at n before piece = record {
 pub wrote_both : {A B C : List ℕ → Type 0} {x y : List ℕ} → Wrote A B x → Wrote B C y → Wrote A C (x ++ y)
 wrote_both {A} {B} {C} {x} {y} first second = record { told = λ all a. subst C (append_assoc all x y) (second.told (all ++ x) (first.told all a)) }
 
-take-all : (x : List ℕ) → take (length x) x ≡ x
-take-all x = grind (arith, common_steps)
-
 take_first : (k : ℕ) (x y : List ℕ) → take (min k (length x)) (x ++ y) ≡ take k x
 take_first k x y = grind (arith, common_steps)
-
-take_past : (k : ℕ) (x y : List ℕ) → take (length x + k) (x ++ y) ≡ x ++ take k y
-take_past k [] y = ap (λ n. take n y) (zero-add k)
-take_past k (b ∷ x) y = let e : length (b ∷ x) + k ≡ suc (length x + k) = omega arith in rw e (ap (λ t. b ∷ t) (take_past k x y))
 
 pub began_first : {A B : List ℕ → Type 0} {x : List ℕ} (y : List ℕ) → Began A B x → Began A B (x ++ y)
 began_first {A} {B} {x} y began = record {
@@ -35,12 +28,12 @@ pub began_second : {A B C : List ℕ → Type 0} {x y : List ℕ} → Wrote A B 
 began_second {A} {B} {C} {x} {y} first second = record {
   told = λ all a.
       let b = second.told (all ++ x) (first.told all a) in
-      let e : (all ++ x) ++ take b.0 y ≡ all ++ take (length x + b.0) (x ++ y) = append_assoc all x (take b.0 y) ∙ ap (λ t. all ++ t) (sym (take_past b.0 x y)) in
+      let e : (all ++ x) ++ take b.0 y ≡ all ++ take (length x + b.0) (x ++ y) = append_assoc all x (take b.0 y) ∙ ap (λ t. all ++ t) (sym (take-append-add x y b.0)) in
       (length x + b.0, subst C e b.1);
 }
 
 pub began_all : {A B : List ℕ → Type 0} {x : List ℕ} → Wrote A B x → Began A B x
-began_all {A} {B} {x} wrote = record { told = λ all a. (length x, subst B (ap (λ t. all ++ t) (sym (take-all x))) (wrote.told all a)) }
+began_all {A} {B} {x} wrote = record { told = λ all a. (length x, subst B (ap (λ t. all ++ t) (sym (take-length x))) (wrote.told all a)) }
 
 -- the pieces of a reply's first line, in a vector that was emptied
 pub line_made : {cleared one two three head : List ℕ} (word details : List ℕ) → cleared ≡ [] → one ≡ cleared ++ word → two ≡ one ++ details → three ≡ two ++ codes "\n" → head ≡ word ++ (details ++ codes "\n") → three ≡ head

@@ -1,21 +1,24 @@
-use Rattle.std.proofs.Common.{◌≡◌, ◌+◌, List, [], ◌∷◌, ◌++◌, length, map, All, refl, sym, ap, ◌∙◌, subst, append-nil, length-append, arith}
+use Rattle.std.proofs.Common.{◌≡◌, ◌+◌, List, [], ◌∷◌, ◌++◌, length, map, All, Some, refl, sym, ap, ◌∙◌, subst, append-nil, length-append, arith}
 use Rattle.std.specs.List.{range_with_len}
 use Rattle.std.specs.Vec.Iter.{into_iter_items}
-use Rattle.std.proofs.lemmas.List.Elements.{All-push}
+use Rattle.std.proofs.lemmas.List.{nil_from_length, map-append, append_assoc}
+use Rattle.std.proofs.lemmas.List.Elements.{All-push, All-pop, All-head, All-tail}
 use Rattle.chr_pool.specs.declared.new_deque.NewDeque.{NewDeque}
 use Rattle.chr_pool.specs.declared.account.Account.{Account}
 use Rattle.chr_pool.specs.Handles.{queue_shape}
 use Rattle.chr_pool.specs.Hands.{hand_deque, hand_capacity, hand_number}
 use Rattle.chr_pool.specs.NewDeques.{new_deque, new_capacity, IsRow, IsNewHand}
-use Rattle.chr_pool.proofs.Gathers.{All-first, All-rest, nothing_left}
-use Rattle.chr_pool.proofs.Settles.{All-left, All-last}
-use Rattle.chr_pool.proofs.Makings.{nothing_stolen, snoc_map}
+use Rattle.chr_pool.proofs.Makings.{nothing_stolen}
 use Rattle.chr_pool.proofs.making.all_hands.Goals as goal
+
+-- one hand more, and one deque less to make a hand of
+one_made : {X Z : Type 0} (f : X → Z) (made new : List X) (x : X) (before rest whole : List Z) → new ≡ made ++ x ∷ [] → before ≡ f x ∷ rest → map f made ++ before ≡ whole → map f new ++ rest ≡ whole
+one_made f made new x before rest whole pushed less was = ap (λ l. map f l ++ rest) pushed ∙ (rw (map-append, append_assoc) (ap (λ l. map f made ++ l) (sym less) ∙ was))
 
 pub invariant_of-push-clause-taken_counted : goal.invariant_of-push-clause-taken_counted
 invariant_of-push-clause-taken_counted g c =
     let D = map new_deque (into_iter_items c.into_iter-deque-iterator.result) in
-    let row = All-last (IsRow D) c.pop.new.self.items c.in-Some-pop.deque_handles (subst (All (IsRow D)) c.in-Some-pop.ensures.items c.loop-deque.invariant.6) in
+    let row = (All-pop (IsRow D) _ c.pop.new.self.items (Some c.in-Some-pop.deque_handles) c.in-Some-pop.ensures.items c.loop-deque.invariant.6).1 in
     let a = c.in-Some.deque.nothing_taken in
     let b = ap (λ (v : Account). v.taken) c.in_ok-queue_handle.ensures.made.1 in
     let e = nothing_stolen c.in-Some-pop.deque_handles.items row.1 in
@@ -32,44 +35,37 @@ loop-deque-preserved g c =
     let steps : into_iter_items at.deque-iterator ≡ deque ∷ left = c.in-Some.ensures.steps.0 in
     let short = ap length steps in
     let Kept : NewDeque g.row.T.Denot → Type 0 = λ d. d.parts + length all ≡ 64 in
-    let rows : All (IsRow D) (c.pop.new.self.items ++ handles ∷ []) = subst (All (IsRow D)) c.in-Some-pop.ensures.items at.invariant.6 in
-    let row = All-last (IsRow D) c.pop.new.self.items handles rows in
+    let rows = All-pop (IsRow D) _ c.pop.new.self.items (Some handles) c.in-Some-pop.ensures.items at.invariant.6 in
     let kept : All Kept (deque ∷ left) = subst (All Kept) steps at.invariant.5 in
     let fewer = ap length c.in-Some-pop.ensures.items in
     let b = ap (λ (v : Account). v.taken) c.in_ok-queue_handle.ensures.made.1 in
-    let e = nothing_stolen handles.items row.1 in
+    let e = nothing_stolen handles.items rows.1.1 in
     let one_part = ap (λ (v : Account). v.parts) c.in_ok-queue_handle.ensures.made.1 in
-    let mine : deque.parts + length all ≡ 64 = All-first Kept deque left kept in
+    let mine : deque.parts + length all ≡ 64 = All-head Kept deque left kept in
     let pushed = c.in_ok-push.ensures.items in (
       tt,
       tt,
       (let was = at.invariant.2 in let gone = c.in-Some.ensures.steps.1 in omega arith),
-      ap (λ l. map hand_deque l ++ map new_deque left) pushed
-          ∙ (snoc_map hand_deque at.made.items _ (map new_deque left)
-          ∙ (ap (λ l. map hand_deque at.made.items ++ map new_deque l) (sym steps) ∙ at.invariant.3)),
+      one_made hand_deque at.made.items _ _ _ _ _ pushed (ap (map new_deque) steps) at.invariant.3,
       rw pushed
           (All-push (IsNewHand D (queue_shape c.args.first.now).0 (length all)) at.made.items _ at.invariant.4
-          (row, c.in_ok-queue_handle.ensures.made.0 ∙ at.invariant.10, one_part, ap (λ n. n + length all) deque.parts_kept ∙ mine, deque.nothing_pushed, λ k. deque.nothing_taken k ++ (b k ++ e k))),
-      All-rest Kept deque left kept,
-      All-left (IsRow D) c.pop.new.self.items (handles ∷ []) rows,
+          (rows.1, c.in_ok-queue_handle.ensures.made.0 ∙ at.invariant.10, one_part, ap (λ n. n + length all) deque.parts_kept ∙ mine, deque.nothing_pushed, λ k. deque.nothing_taken k ++ (b k ++ e k))),
+      All-tail Kept deque left kept,
+      rows.0,
       (let n = at.invariant.7 in omega (arith, n, fewer, short, length-append c.pop.new.self.items (handles ∷ []))),
-      ap (λ l. map hand_number l ++ range_with_len (at.number + 1) (length left)) pushed
-          ∙ (snoc_map hand_number at.made.items _ (range_with_len (at.number + 1) (length left))
-          ∙ (ap (λ n. map hand_number at.made.items ++ range_with_len at.number n) (sym short) ∙ at.invariant.8)),
+      one_made hand_number at.made.items _ _ _ _ _ pushed (ap (range_with_len at.number) short) at.invariant.8,
       (let n = at.invariant.9 in omega (arith, n, short)),
       c.in_ok-queue_handle.ensures.same.0 ∙ at.invariant.10,
       (let n = at.invariant.11 in let p = c.in_ok-queue_handle.ensures.parts in omega (arith, n, p)),
       c.in_ok-queue_handle.ensures.same.1 ∙ at.invariant.12,
       c.in_ok-queue_handle.ensures.same.2 ∙ at.invariant.13,
-      ap (λ l. map hand_capacity l ++ map new_capacity left) pushed
-          ∙ (snoc_map hand_capacity at.made.items _ (map new_capacity left)
-          ∙ (ap (λ l. map hand_capacity at.made.items ++ map new_capacity l) (sym steps) ∙ at.invariant.14)),
+      one_made hand_capacity at.made.items _ _ _ _ _ pushed (ap (map new_capacity) steps) at.invariant.14,
     )
 
 -- At the end no new deque is left: what was made of the first ones and is to be made of the rest is what was made of all.
 all_made : {D X : Type 0} (made : List X) (rest whole : List D → List X) (left all given : List D) → length left ≡ 0 → rest [] ≡ [] → made ++ rest left ≡ whole all → all ≡ given → made ≡ whole given
 all_made made rest whole left all given none empty kept same =
-    sym (append-nil made) ∙ (ap (λ l. made ++ l) (sym empty ∙ ap rest (sym (nothing_left left none))) ∙ (kept ∙ ap whole same))
+    sym (append-nil made) ∙ (ap (λ l. made ++ l) (sym empty ∙ ap rest (sym (nil_from_length left none))) ∙ (kept ∙ ap whole same))
 
 pub returns-clause-deques : goal.returns-clause-deques
 returns-clause-deques g c =

@@ -6,8 +6,9 @@ use Rattle.chr_pool.specs.Handles.{queue_shape}
 use Rattle.chr_pool.specs.Hands.{hand_number, hand_pushed, hand_taken}
 use Rattle.chr_pool.specs.NewDeques.{new_deque, new_capacity, IsNewHand}
 use Rattle.chr_pool.proofs.Rules.{begins}
-use Rattle.chr_pool.proofs.Ids.{All-map}
-use Rattle.chr_pool.proofs.Makings.{new_pool, flat_none}
+use Rattle.std.proofs.lemmas.List.Elements.{All-map}
+use Rattle.chr_pool.proofs.Settles.{flat_none}
+use Rattle.chr_pool.proofs.Makings.{new_pool}
 use Rattle.chr_pool.proofs.making.make.Goals as goal
 
 pub new_as-requires : goal.new_as-requires

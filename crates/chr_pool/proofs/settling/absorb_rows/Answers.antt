@@ -1,19 +1,20 @@
-use Rattle.std.proofs.Common.{◌≡◌, ◌∷◌, map, All, length, sym, ap, ◌∙◌, subst, arith}
+use Rattle.std.proofs.Common.{◌≡◌, ◌∷◌, map, length, sym, ap, ◌∙◌, arith}
 use Rattle.std.specs.Vec.Iter.{into_iter_items}
 use Rattle.chr_pool.specs.Accounts.{all_absorbed}
 use Rattle.std.specs.Prelude.{Vec}
 use Rattle.std.specs.declared.alloc.Global.{Global}
 use Rattle.chr_pool.specs.declared.deque_handle.DequeHandle.{DequeHandle}
-use Rattle.chr_pool.specs.OwnDeques.{own_account, own_deque}
+use Rattle.chr_pool.specs.OwnDeques.{own_deque}
 use Rattle.chr_pool.specs.Hands.{row_accounts, row_deques}
-use Rattle.chr_pool.proofs.Gathers.{nothing_left, All-first, All-rest}
+use Rattle.std.proofs.lemmas.List.{nil_from_length}
+use Rattle.std.proofs.lemmas.List.Elements.{All-head, All-rest}
 use Rattle.chr_pool.proofs.settling.absorb_rows.Goals as goal
 
 pub absorb_row-requires : goal.absorb_row-requires
 absorb_row-requires g c =
     let at = c.loop-row in
     let P : Vec (DequeHandle g.row.T.Denot) Global → Type 0 = λ r. row_deques r ≡ map own_deque at.owns.items in
-    All-first P _ _ (subst (All P) c.in-Some.ensures.steps.0 at.invariant.4)
+    All-head P _ _ (rw c.in-Some.ensures.steps.0 at at.invariant.4)
 
 pub loop-row-preserved : goal.loop-row-preserved
 loop-row-preserved g c =
@@ -25,14 +26,12 @@ loop-row-preserved g c =
       tt,
       (let was = at.invariant.2 in let gone = c.in-Some.ensures.steps.1 in let short = ap length steps in omega arith),
       same ∙ at.invariant.3,
-      rw same (All-rest P _ _ (subst (All P) steps at.invariant.4)),
-      ap (λ vs. all_absorbed vs (map row_accounts (into_iter_items c.next.new.self))) c.absorb_row.ensures.rule
-          ∙ (ap (λ l. all_absorbed (map own_account at.owns.items) (map row_accounts l)) (sym steps) ∙ at.invariant.5),
+      rw same (All-rest P _ _ _ steps at.invariant.4),
+      ap (λ vs. all_absorbed vs (map row_accounts (into_iter_items c.next.new.self))) c.absorb_row.ensures.rule ∙ (rw steps at at.invariant.5),
     )
 
 pub returns-clause-rule : goal.returns-clause-rule
 returns-clause-rule g c =
     let at = c.loop-row in
-    let empty = nothing_left (into_iter_items at.row-iterator) (sym at.invariant.2 ∙ c.in-None.ensures.steps.0) in
-    ap (λ l. all_absorbed (map own_account at.owns.items) (map row_accounts l)) (sym empty)
-    ∙ (at.invariant.5 ∙ ap (λ l. all_absorbed (map own_account c.args.owns.now.items) (map row_accounts l)) c.into_iter-row-iterator.ensures.into_iter_gives.0)
+    let empty = nil_from_length (into_iter_items at.row-iterator) (sym at.invariant.2 ∙ c.in-None.ensures.steps.0) in
+    rw (empty, c.into_iter-row-iterator.ensures.into_iter_gives.0) at at.invariant.5

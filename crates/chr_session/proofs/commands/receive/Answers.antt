@@ -1,11 +1,10 @@
-use Rattle.std.proofs.Common.{◌≡◌, ◌++◌, List, ℕ, ap, ◌∙◌}
+use Rattle.std.proofs.Common.{◌≡◌, ◌++◌, List, ℕ, ap, ◌∙◌, arith}
 use Rattle.chr_session.specs.Spelling.{parsed_spells}
-use Rattle.chr_session.proofs.Causes.{room_for_text}
 use Rattle.chr_session.proofs.FirstSpelled.{spells_parsed}
 use Rattle.chr_session.proofs.commands.receive.Goals as goal
 
 pub append-requires : goal.append-requires
-append-requires g c = room_for_text c.clear.ensures.len c.requires.short c.requires.room c.clear.ensures.capacity
+append-requires g c = omega (arith, c.clear.ensures.len, c.requires.short, c.requires.room, c.clear.ensures.capacity)
 
 pub returns-in-Load-clause-received : goal.returns-in-Load-clause-received
 returns-in-Load-clause-received g c = rw c.in-Load.is c.read_load.ensures.received
