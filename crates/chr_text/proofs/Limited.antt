@@ -14,31 +14,10 @@ use Rattle.chr_value.proofs.Texts.{neither}
 use Rattle.chr_text.specs.Terms.{Placed, inside, behind, values, with_args, terms_of_words, term_of_words, value_words, args_words, words_of, terms_words}
 use Rattle.chr_text.specs.Translation.{placed_word, argument}
 use Rattle.chr_text.specs.Variables.{Seen, in_turn}
-use Rattle.chr_text.proofs.Nested.{IsWord, can_open, AreBehind, AreWords, Falls, falls_up, terms_fall, none_inside, term_words, nodes_words}
+use Rattle.chr_text.proofs.Lists.{turns_count}
+use Rattle.chr_text.proofs.Nested.{IsWord, can_open, AreBehind, AreWords, Falls, front_elim, falls_up, terms_fall, all_behind, none_inside, term_words, nodes_words}
 
--- ---- the size is the number of words
-
-mutual
-  value_size : {N : Type 0} (d : ℕ) (v : Value N) → length (value_words d v) ≡ size v
-  value_size d (Int z) = refl
-  value_size d (Sym s) = refl
-  value_size d (Comp s vs) = ap suc (args_sizes (suc d) vs)
-
-  args_sizes : {N : Type 0} (d : ℕ) (vs : Args N) → length (args_words d vs) ≡ args_size vs
-  args_sizes d Nil = refl
-  args_sizes d (Cons v vs) = length-append (value_words d v) (args_words d vs) ∙ ap₂ (λ (a b : ℕ). a + b) (value_size d v) (args_sizes d vs)
-
-mutual
-  size_words : {N : Type 0} (d : ℕ) (t : Term N) → length (words_of d t) ≡ term_size t
-  size_words d (Var x) = refl
-  size_words d (Given v) = value_size d v
-  size_words d (Open s ts) = ap suc (sizes_words (suc d) ts)
-
-  sizes_words : {N : Type 0} (d : ℕ) (ts : Terms N) → length (terms_words d ts) ≡ terms_size ts
-  sizes_words d End = refl
-  sizes_words d (And t ts) = length-append (words_of d t) (terms_words d ts) ∙ ap₂ (λ (a b : ℕ). a + b) (size_words d t) (sizes_words d ts)
-
--- ---- the depth, by the words that stand deepest
+-- ---- the size is the number of words, and the depth that of the word that stands deepest
 
 -- each word stands in fewer parentheses
 abbrev AreBelow : {N : Type 0} → ℕ → List (Placed N) → Type 0
@@ -48,32 +27,43 @@ below_both : {N : Type 0} (n : ℕ) (xs ys : List (Placed N)) → AreBelow n (xs
 below_both n [] ys all = (tt, all)
 below_both n (x ∷ xs) ys all = let rest = below_both n xs ys all.1 in ((all.0, rest.0), rest.1)
 
-within_both : (n d a b : ℕ) → d + a ≤ n → d + b ≤ n → d + max a b ≤ n
-within_both n d a b h k = grind arith
+-- so large and so deep are words that begin in d parentheses
+abbrev Measures : {N : Type 0} → ℕ → ℕ → List (Placed N) → ℕ → ℕ → Type 0
+Measures n d ws large deep = (length ws ≡ large) × (d ≤ n → AreBelow n ws → d + deep ≤ n)
+
+both_measured : {N : Type 0} (n d : ℕ) (xs ys : List (Placed N)) (k m : ℕ) {a b : ℕ} → Measures n d xs a k → Measures n d ys b m → Measures n d (xs ++ ys) (a + b) (max k m)
+both_measured n d xs ys k m first second =
+    (length-append xs ys ∙ ap₂ (λ (a b : ℕ). a + b) first.0 second.0, λ le all. let parts = below_both n xs ys all in by (first.1 le parts.0) (second.1 le parts.1))
+  where
+    by : d + k ≤ n → d + m ≤ n → d + max k m ≤ n
+    by h i = grind arith
+
+-- a functor, and the words of its arguments
+functor_measured : {N : Type 0} (n d : ℕ) (t : Term N) (ws : List (Placed N)) (k : ℕ) {a : ℕ} → Measures n (suc d) ws a k → Measures n d ((d, t) ∷ ws) (suc a) (suc k)
+functor_measured n d t ws k args = (ap suc args.0, λ le all. let lt = all.0 in let rest = args.1 (omega (arith, lt)) all.1 in omega (arith, rest))
+
+one_measured : {N : Type 0} (n d : ℕ) (t : Term N) → Measures n d ((d, t) ∷ []) 1 1
+one_measured n d t = (refl, λ le all. let lt = all.0 in omega (arith, lt))
 
 mutual
-  value_depth : {N : Type 0} (n d : ℕ) (v : Value N) → AreBelow n (value_words d v) → d + depth v ≤ n
-  value_depth n d (Int z) all = let lt = all.0 in omega (arith, lt)
-  value_depth n d (Sym s) all = let lt = all.0 in omega (arith, lt)
-  value_depth n d (Comp s vs) all = let lt = all.0 in omega (arith, args_depths n (suc d) vs (omega (arith, lt)) all.1)
+  value_measured : {N : Type 0} (n d : ℕ) (v : Value N) → Measures n d (value_words d v) (size v) (depth v)
+  value_measured {N} n d (Int z) = one_measured {N = N} n d (Given (Int z))
+  value_measured {N} n d (Sym s) = one_measured {N = N} n d (Given (Sym s))
+  value_measured {N} n d (Comp s vs) = functor_measured {N = N} n d (Given (Sym s)) (args_words (suc d) vs) (args_depth vs) (args_measured n (suc d) vs)
 
-  args_depths : {N : Type 0} (n d : ℕ) (vs : Args N) → d ≤ n → AreBelow n (args_words d vs) → d + args_depth vs ≤ n
-  args_depths n d Nil le all = omega (arith, le)
-  args_depths n d (Cons v vs) le all =
-      let parts = below_both n (value_words d v) (args_words d vs) all in
-      within_both n d (depth v) (args_depth vs) (value_depth n d v parts.0) (args_depths n d vs le parts.1)
+  args_measured : {N : Type 0} (n d : ℕ) (vs : Args N) → Measures n d (args_words d vs) (args_size vs) (args_depth vs)
+  args_measured n d Nil = (refl, λ le all. omega (arith, le))
+  args_measured n d (Cons v vs) = both_measured n d (value_words d v) (args_words d vs) (depth v) (args_depth vs) (value_measured n d v) (args_measured n d vs)
 
 mutual
-  depth_words : {N : Type 0} (n d : ℕ) (t : Term N) → AreBelow n (words_of d t) → d + term_depth t ≤ n
-  depth_words n d (Var x) all = let lt = all.0 in omega (arith, lt)
-  depth_words n d (Given v) all = value_depth n d v all
-  depth_words n d (Open s ts) all = let lt = all.0 in omega (arith, depths_words n (suc d) ts (omega (arith, lt)) all.1)
+  term_measured : {N : Type 0} (n d : ℕ) (t : Term N) → Measures n d (words_of d t) (term_size t) (term_depth t)
+  term_measured {N} n d (Var x) = one_measured {N = N} n d (Var x)
+  term_measured n d (Given v) = value_measured n d v
+  term_measured {N} n d (Open s ts) = functor_measured {N = N} n d (Given (Sym s)) (terms_words (suc d) ts) (terms_depth ts) (terms_measured n (suc d) ts)
 
-  depths_words : {N : Type 0} (n d : ℕ) (ts : Terms N) → d ≤ n → AreBelow n (terms_words d ts) → d + terms_depth ts ≤ n
-  depths_words n d End le all = omega (arith, le)
-  depths_words n d (And t ts) le all =
-      let parts = below_both n (words_of d t) (terms_words d ts) all in
-      within_both n d (term_depth t) (terms_depth ts) (depth_words n d t parts.0) (depths_words n d ts le parts.1)
+  terms_measured : {N : Type 0} (n d : ℕ) (ts : Terms N) → Measures n d (terms_words d ts) (terms_size ts) (terms_depth ts)
+  terms_measured n d End = (refl, λ le all. omega (arith, le))
+  terms_measured n d (And t ts) = both_measured n d (words_of d t) (terms_words d ts) (term_depth t) (terms_depth ts) (term_measured n d t) (terms_measured n d ts)
 
 nodes_below : (seen : Seen) (ns : List TermNode) → is_deep ns ≡ false → AreBelow 8 (in_turn placed_word seen ns).0
 nodes_below seen [] h = tt
@@ -88,53 +78,52 @@ abbrev one_deeper : {N : Type 0} → ℕ → List (Placed N) → ℕ
 one_deeper d [] = 0
 one_deeper d (t ∷ ts) = cond (ltb d t.0) (cond (eqb t.0 (suc d)) (suc (one_deeper d ts)) (one_deeper d ts)) 0
 
-dropped_case : {N : Type 0} (d k : ℕ) (t : Placed N) (ts : List (Placed N)) (b : Bool) → ltb k t.0 ≡ b → d < k → one_deeper d (behind k ts) ≡ one_deeper d ts
-    → one_deeper d (cond b (behind k ts) (t ∷ ts)) ≡ one_deeper d (t ∷ ts)
-dropped_case d k t ts true is lt rest =
-    let deep : ltb d t.0 ≡ true = grind arith in
-    let other : eqb t.0 (suc d) ≡ false = grind arith in
-    rest ∙ rw (deep, other) refl
-dropped_case d k t ts false is lt rest = refl
-
 -- those in more than k parentheses don't count
 dropped : {N : Type 0} (d k : ℕ) (ts : List (Placed N)) → d < k → one_deeper d (behind k ts) ≡ one_deeper d ts
 dropped d k [] lt = refl
-dropped d k (t ∷ ts) lt = dropped_case d k t ts (ltb k t.0) refl lt (dropped d k ts lt)
-
-deeper_case : {N : Type 0} (d : ℕ) (w : Placed N) (ts : List (Placed N)) (n : ℕ) (b : Bool) → ltb d w.0 ≡ b → one_deeper d ts ≡ n
-    → cond b (cond (eqb w.0 (suc d)) (suc (one_deeper d (behind w.0 ts))) (one_deeper d (behind w.0 ts))) 0 ≡ cond b (cond (eqb w.0 (suc d)) (suc n) n) 0
-deeper_case d w ts n true is rest = ap (λ (k : ℕ). cond (eqb w.0 (suc d)) (suc k) k) (dropped d w.0 ts (ltb-true d w.0 is) ∙ rest)
-deeper_case d w ts n false is rest = refl
+dropped d k (t ∷ ts) lt = front_elim (λ us vs. one_deeper d vs ≡ one_deeper d (t ∷ ts)) k t ts (deeper (dropped d k ts lt)) (λ le. refl)
+  where
+    deeper : one_deeper d (behind k ts) ≡ one_deeper d ts → k < t.0 → one_deeper d (behind k ts) ≡ one_deeper d (t ∷ ts)
+    deeper rest more =
+        let deep : ltb d t.0 ≡ true = grind arith in
+        let other : eqb t.0 (suc d) ≡ false = grind arith in
+        rest ∙ rw (deep, other) refl
 
 words_deeper : {N : Type 0} (d : ℕ) (ws : List (Placed N)) → one_deeper d (terms_of_words ws) ≡ one_deeper d ws
 words_deeper d [] = refl
-words_deeper d (w ∷ ws) = deeper_case d w (terms_of_words ws) (one_deeper d ws) (ltb d w.0) refl (words_deeper d ws)
-
-inside_case : {N : Type 0} (d : ℕ) (t : Placed N) (ts : List (Placed N)) (b : Bool) → ltb d t.0 ≡ b → t.0 ≤ suc d → length (inside d ts) ≡ one_deeper d ts
-    → length (cond b (t.1 ∷ inside d ts) []) ≡ cond b (cond (eqb t.0 (suc d)) (suc (one_deeper d ts)) (one_deeper d ts)) 0
-inside_case d t ts true is le rest =
-    let same : eqb t.0 (suc d) ≡ true = grind arith in
-    rw same (ap suc rest)
-inside_case d t ts false is le rest = refl
+words_deeper d (w ∷ ws) = by (ltb d w.0) refl (words_deeper d ws)
+  where
+    by : (b : Bool) → ltb d w.0 ≡ b → one_deeper d (terms_of_words ws) ≡ one_deeper d ws
+        → cond b (cond (eqb w.0 (suc d)) (suc (one_deeper d (behind w.0 (terms_of_words ws)))) (one_deeper d (behind w.0 (terms_of_words ws)))) 0 ≡ cond b (cond (eqb w.0 (suc d)) (suc (one_deeper d ws)) (one_deeper d ws)) 0
+    by true is rest = ap (λ (k : ℕ). cond (eqb w.0 (suc d)) (suc k) k) (dropped d w.0 (terms_of_words ws) (ltb-true d w.0 is) ∙ rest)
+    by false is rest = refl
 
 inside_count : {N : Type 0} (d : ℕ) (ts : List (Placed N)) → Falls (suc d) ts → length (inside d ts) ≡ one_deeper d ts
 inside_count d [] all = refl
-inside_count d (t ∷ ts) all = inside_case d t ts (ltb d t.0) refl all.0 (inside_count d ts (falls_up t.0 (suc d) ts all.0 all.1))
+inside_count d (t ∷ ts) all = front_elim (λ us vs. length us ≡ one_deeper d (t ∷ ts)) d t ts (deeper (inside_count d ts (falls_up t.0 (suc d) ts all.0 all.1))) not
+  where
+    deeper : length (inside d ts) ≡ one_deeper d ts → d < t.0 → suc (length (inside d ts)) ≡ one_deeper d (t ∷ ts)
+    deeper rest lt =
+        let le = all.0 in
+        let deep : ltb d t.0 ≡ true = grind arith in
+        let same : eqb t.0 (suc d) ≡ true = grind arith in
+        rw (deep, same) (ap suc rest)
+
+    not : t.0 ≤ d → 0 ≡ one_deeper d (t ∷ ts)
+    not le = let shut : ltb d t.0 ≡ false = grind arith in rw shut refl
 
 counted_one : (b : Bool) (n : TermNode) (ns : List TermNode) (k : ℕ) → length ns ≡ k → length (cond b (n ∷ ns) ns) ≡ cond b (suc k) k
 counted_one true n ns k h = ap suc h
 counted_one false n ns k h = h
 
-counted_case : (d : ℕ) (n : TermNode) (ns : List TermNode) (k : ℕ) (a : Bool) → arguments_behind d ns ≡ k
-    → length (filter (λ m. eqb m.depth (suc d)) (cond a (n ∷ take_while (λ m. ltb d m.depth) ns) [])) ≡ cond a (cond (eqb n.depth (suc d)) (suc k) k) 0
-counted_case d n ns k true rest = counted_one (eqb n.depth (suc d)) n (filter (λ m. eqb m.depth (suc d)) (take_while (λ m. ltb d m.depth) ns)) k rest
-counted_case d n ns k false rest = refl
-
 nodes_deeper : (seen : Seen) (d : ℕ) (ns : List TermNode) → arguments_behind d ns ≡ one_deeper d (in_turn placed_word seen ns).0
 nodes_deeper seen d [] = refl
 nodes_deeper seen d (n ∷ ns) =
-    ap (λ ms. length (filter (λ m. eqb m.depth (suc d)) ms)) (take_while-cons (λ m. ltb d m.depth) n ns)
-    ∙ counted_case d n ns (one_deeper d (in_turn placed_word (placed_word seen n).1 ns).0) (ltb d n.depth) (nodes_deeper (placed_word seen n).1 d ns)
+    ap (λ ms. length (filter (λ m. eqb m.depth (suc d)) ms)) (take_while-cons (λ m. ltb d m.depth) n ns) ∙ by (one_deeper d (in_turn placed_word (placed_word seen n).1 ns).0) (ltb d n.depth) (nodes_deeper (placed_word seen n).1 d ns)
+  where
+    by : (k : ℕ) (a : Bool) → arguments_behind d ns ≡ k → length (filter (λ m. eqb m.depth (suc d)) (cond a (n ∷ take_while (λ m. ltb d m.depth) ns) [])) ≡ cond a (cond (eqb n.depth (suc d)) (suc k) k) 0
+    by k true rest = counted_one (eqb n.depth (suc d)) n (filter (λ m. eqb m.depth (suc d)) (take_while (λ m. ltb d m.depth) ns)) k rest
+    by k false rest = refl
 
 -- no word has more than 8 arguments
 abbrev pub AreNarrow : {N : Type 0} → List (Placed N) → Type 0
@@ -153,21 +142,9 @@ nodes_narrow seen (n ∷ ns) h =
 abbrev pub Holds : {N : Type 0} → (Term N → Type 0) → (Term N → Type 0) → Type 0
 Holds {N} P Q = (w : Term N) (ts : List (Term N)) → IsWord w → Q w → AllByRecursion P ts → length ts ≤ 8 → (can_open w ≡ false → ts ≡ []) → P (with_args w ts)
 
-all_inside-case : {N : Type 0} (P : Term N → Type 0) (t : Placed N) (ts : List (Term N)) (b : Bool) → P t.1 → AllByRecursion P ts → AllByRecursion P (cond b (t.1 ∷ ts) [])
-all_inside-case P t ts true h all = (h, all)
-all_inside-case P t ts false h all = tt
-
 all_inside : {N : Type 0} (P : Term N → Type 0) (d : ℕ) (ts : List (Placed N)) → AllByRecursion (λ t. P t.1) ts → AllByRecursion P (inside d ts)
 all_inside P d [] all = tt
-all_inside P d (t ∷ ts) all = all_inside-case P t (inside d ts) (ltb d t.0) all.0 (all_inside P d ts all.1)
-
-all_behind-case : {N : Type 0} (P : Term N → Type 0) (t : Placed N) (ts us : List (Placed N)) (b : Bool) → P t.1 → AllByRecursion (λ t. P t.1) ts → AllByRecursion (λ t. P t.1) us → AllByRecursion (λ t. P t.1) (cond b us (t ∷ ts))
-all_behind-case P t ts us true h all rest = rest
-all_behind-case P t ts us false h all rest = (h, all)
-
-all_behind : {N : Type 0} (P : Term N → Type 0) (d : ℕ) (ts : List (Placed N)) → AllByRecursion (λ t. P t.1) ts → AllByRecursion (λ t. P t.1) (behind d ts)
-all_behind P d [] all = tt
-all_behind P d (t ∷ ts) all = all_behind-case P t ts (behind d ts) (ltb d t.0) all.0 all.1 (all_behind P d ts all.1)
+all_inside P d (t ∷ ts) all = front_elim (λ us vs. AllByRecursion P us) d t ts (λ lt. (all.0, all_inside P d ts all.1)) (λ le. tt)
 
 few_inside : {N : Type 0} (w : Placed N) (ws : List (Placed N)) → AreBehind w ws → one_deeper w.0 ws ≤ 8 → length (inside w.0 (terms_of_words ws)) ≤ 8
 few_inside w ws all few = let e = inside_count w.0 (terms_of_words ws) (terms_fall w ws all) ∙ words_deeper w.0 ws in rw e few
@@ -176,7 +153,7 @@ terms_all : {N : Type 0} (P Q : Term N → Type 0) → Holds P Q → (w : Placed
 terms_all P Q h w [] all narrow fits = tt
 terms_all P Q h w (v ∷ ws) all narrow fits =
     let rest = terms_all P Q h v ws all.1 narrow.1 fits.1 in
-    (h v.1 (inside v.0 (terms_of_words ws)) all.0.word fits.0 (all_inside P v.0 (terms_of_words ws) rest) (few_inside v ws all.1 narrow.0) (none_inside v ws all.1), all_behind P v.0 (terms_of_words ws) rest)
+    (h v.1 (inside v.0 (terms_of_words ws)) all.0.word fits.0 (all_inside P v.0 (terms_of_words ws) rest) (few_inside v ws all.1 narrow.0) (none_inside v ws all.1), all_behind (λ t. P t.1) v.0 (terms_of_words ws) rest)
 
 pub term_all : {N : Type 0} (P Q : Term N → Type 0) → Holds P Q → (ws : List (Placed N)) → AreWords ws → AreNarrow ws → AllByRecursion (λ v. Q v.1) ws → P (term_of_words ws)
 term_all P Q h [] all narrow fits = absurd all
@@ -194,9 +171,8 @@ canonical_all [] all = tt
 canonical_all (t ∷ ts) all = (all.0, canonical_all ts all.1)
 
 variable_where_open : {N : Type 0} (t : Term N) → IsCanonical t → has_variable t ≡ is_open t
-variable_where_open (Var x) h = refl
-variable_where_open (Given v) h = refl
 variable_where_open (Open s ts) h = h.1
+variable_where_open _ h = refl
 
 variables_where_open : {N : Type 0} (ts : List (Term N)) → AllByRecursion IsCanonical ts → have_variable (terms_of ts) ≡ list_any is_open ts
 variables_where_open [] h = refl
@@ -214,18 +190,11 @@ anything [] = tt
 anything (w ∷ ws) = (tt, anything ws)
 
 word_canonical : {N : Type 0} (w : Term N) (ts : List (Term N)) → IsWord w → Whatever w → AllByRecursion IsCanonical ts → length ts ≤ 8 → (can_open w ≡ false → ts ≡ []) → IsCanonical (with_args w ts)
-word_canonical (Var x) ts word q all few shut = tt
-word_canonical (Given (Int z)) ts word q all few shut = tt
-word_canonical (Given (Sym s)) [] word q all few shut = tt
 word_canonical (Given (Sym s)) (t ∷ ts) word q all few shut = functor_canonical s (t ∷ ts) (list_any is_open (t ∷ ts)) refl all few
-word_canonical (Given (Comp s vs)) ts word q all few shut = absurd word
 word_canonical (Open s us) ts word q all few shut = absurd word
+word_canonical _ _ word q all few shut = tt
 
 -- ---- a term that is judged
-
-pub turns_count : {A B : Type 0} (g : Seen → A → B × Seen) (seen : Seen) (as' : List A) → length (in_turn g seen as').0 ≡ length as'
-turns_count g seen [] = refl
-turns_count g seen (a ∷ as') = ap suc (turns_count g (g seen a).1 as')
 
 pub record IsSmall (t : ParsedTerm) : Type 0 where
   pub few : length t ≤ 64
@@ -243,10 +212,11 @@ is_term seen t h nested =
     let is = small t h in
     let made = (argument seen t).0 in
     let words = term_words seen t nested in
-    let count : term_size made ≡ length t = sym (size_words 0 made) ∙ ap length words ∙ turns_count placed_word seen t in
+    let measured = term_measured 8 0 made in
+    let count : term_size made ≡ length t = sym measured.0 ∙ ap length words ∙ turns_count placed_word seen t in
     let below : AreBelow 8 (words_of 0 made) = rw words (nodes_below seen t is.shallow) in
     record {
       canonical = term_all IsCanonical Whatever word_canonical (in_turn placed_word seen t).0 (nodes_words seen t nested) (nodes_narrow seen t is.narrow) (anything (in_turn placed_word seen t).0);
-      depth = omega (arith, depth_words 8 0 made below);
+      depth = omega (arith, measured.1 (omega arith) below);
       size = rw count is.few;
     }

@@ -1,228 +1,198 @@
 -- The words of a term that are numbered make the numbered term.
-use Rattle.std.proofs.Common.{◌≡◌, ℕ, Bool, true, false, cond, ltb, ◌||◌, List, [], ◌∷◌, Option, Some, None, Ok, refl, sym, ap, ap₂, subst, ◌∙◌}
+use Rattle.std.proofs.Common.{◌≡◌, ℕ, suc, Bool, true, false, ltb, ◌||◌, List, [], ◌∷◌, ◌++◌, Option, Some, None, Ok, refl, sym, ap, ap₂, subst, ◌∙◌}
 use Rattle.std.specs.List.{list_any}
 use Rattle.chr_lex.specs.declared.fault.ItemError.{ItemError}
 use Rattle.chr_lex.specs.Reading.{Fails}
-use Rattle.chr_value.specs.Atoms.{Int, Sym, Comp, Cons, args_of}
+use Rattle.chr_value.specs.Atoms.{Value, Int, Sym, Comp, Args, Nil, Cons, args_of}
 use Rattle.chr_value.specs.Naming.{◌>>=◌, Table, number_name, numbered_value, numbered_args}
 use Rattle.chr_value.proofs.Chosen.{bind_some, some_is}
-use Rattle.chr_rule.specs.Rules.{Term, Var, Given, Open, And, terms_of}
+use Rattle.chr_rule.specs.Rules.{Term, Var, Given, Open, Terms, End, And, terms_of}
 use Rattle.chr_rule.specs.Terms.{is_open}
-use Rattle.chr_text.specs.Terms.{Placed, inside, behind, values, functor_with, with_args, terms_of_words, first_of, term_of_words}
+use Rattle.chr_text.specs.Terms.{Placed, inside, behind, values, functor_with, with_args, terms_of_words, term_of_words, value_words, args_words, words_of, terms_words}
 use Rattle.chr_text.specs.Numbering.{or_full, each, numbered_term, numbered_terms, numbered_word}
-use Rattle.chr_text.proofs.Steps.{numbered_is, fails_then}
-use Rattle.chr_text.proofs.Nested.{IsWord, can_open, AreBehind, AreWords, none_inside, one_term}
+use Rattle.chr_text.proofs.Lists.{IfThere, there, if_there, then_there}
+use Rattle.chr_text.proofs.Nested.{IsWord, can_open, AreBehind, AreWords, none_inside, none_behind, term_again}
+use Rattle.chr_text.proofs.Said.{argument_by, argument_says}
+use Rattle.chr_text.proofs.Steps.{numbered_is, fails_as, uncons, each_end}
 
--- ---- one step after another
+-- ---- each in turn
 
--- two that go on in the same way from what is there
-pub bind_same : {A B : Type 0} (o : Option A) (f g : A → Option B) → ((x : A) → o ≡ Some x → f x ≡ g x) → (o >>= f) ≡ (o >>= g)
-bind_same None f g h = refl
-bind_same (Some x) f g h = h x refl
+each_both : {A B : Type 0} (f : Table → A → Option (B × Table)) (table mid new : Table) (as' cs : List A) (bs ds : List B) → each f table as' ≡ Some (bs, mid) → each f mid cs ≡ Some (ds, new) → each f table (as' ++ cs) ≡ Some (bs ++ ds, new)
+each_both f table mid new [] cs bs ds h k = let e = each_end f table mid bs h in rw (← e.0, e.1) k
+each_both f table mid new (a ∷ as') cs bs ds h k =
+    let u = uncons f table mid a as' bs h in
+    let rest = each_both f u.0.1 mid new as' cs u.1 ds u.3 k in
+    rw (u.2, rest) (ap (λ (l : List _). Some (l ++ ds, new)) u.4)
 
-pub bind_bind : {A B C : Type 0} (o : Option A) (f : A → Option B) (g : B → Option C) → ((o >>= f) >>= g) ≡ (o >>= λ x. f x >>= g)
-bind_bind None f g = refl
-bind_bind (Some x) f g = refl
+-- ---- a term that is numbered has its words numbered
 
--- ---- what is numbered is open where it was
+abbrev Numbers : Table → List (Placed (List ℕ)) → List (Placed ℕ) × Table → Type 0
+Numbers table ws x = each numbered_word table ws ≡ Some x
 
-pub opened : (table new : Table) (t : Term (List ℕ)) (u : Term ℕ) → numbered_term table t ≡ Some (u, new) → is_open u ≡ is_open t
-opened table new (Var x) u h = ap (λ (z : Term ℕ × Table). is_open z.0) (sym (some_is {A = Term ℕ × Table} (Var x, table) (u, new) h))
-opened table new (Given v) u h =
-    let x = bind_some (numbered_value table v) (λ x. Some (Given x.0, x.1)) (u, new) h in
-    ap (λ (z : Term ℕ × Table). is_open z.0) (sym (some_is {A = Term ℕ × Table} (Given x.0.0, x.0.1) (u, new) x.2))
-opened table new (Open t ts) u h =
-    let n = bind_some (number_name table t) (λ n. numbered_terms n.1 ts >>= λ xs. Some (Open n.0 xs.0, xs.1)) (u, new) h in
-    let x = bind_some (numbered_terms n.0.1 ts) (λ xs. Some (Open n.0.0 xs.0, xs.1)) (u, new) n.2 in
-    ap (λ (z : Term ℕ × Table). is_open z.0) (sym (some_is {A = Term ℕ × Table} (Open n.0.0 x.0.0, x.0.1) (u, new) x.2))
+name_word : (table : Table) (d : ℕ) (s : List ℕ) (n : ℕ × Table) → number_name table s ≡ Some n → Numbers table ((d, Given (Sym s)) ∷ []) ((d, Given (Sym n.0)) ∷ [], n.1)
+name_word table d s n e = rw e refl
 
-any_opened : (table new : Table) (ts : List (Term (List ℕ))) (us : List (Term ℕ)) → each numbered_term table ts ≡ Some (us, new) → list_any is_open us ≡ list_any is_open ts
-any_opened table new [] us h = ap (λ (z : List (Term ℕ) × Table). list_any is_open z.0) (sym (some_is {A = List (Term ℕ) × Table} ([], table) (us, new) h))
-any_opened table new (t ∷ ts) us h =
-    let x = bind_some (numbered_term table t) (λ x. each numbered_term x.1 ts >>= λ xs. Some (x.0 ∷ xs.0, xs.1)) (us, new) h in
-    let y = bind_some (each numbered_term x.0.1 ts) (λ xs. Some (x.0.0 ∷ xs.0, xs.1)) (us, new) x.2 in
-    sym (ap (λ (z : List (Term ℕ) × Table). list_any is_open z.0) (some_is {A = List (Term ℕ) × Table} (x.0.0 ∷ y.0.0, y.0.1) (us, new) y.2))
-    ∙ ap₂ (λ (a b : Bool). a || b) (opened table x.0.1 t x.0.0 x.1) (any_opened x.0.1 y.0.1 ts y.0.0 y.1)
+-- two parts, one after the other
+then_numbers : {X Y Z : Type 0} (o : Option (X × Table)) (g : Table → Option (Y × Table)) (v : X → List (Placed ℕ)) (w : Y → List (Placed ℕ)) (z : Z → List (Placed ℕ)) (make : X → Y → Z) (table : Table) (ws us : List (Placed (List ℕ)))
+    → IfThere (λ (x : X × Table). Numbers table ws (v x.0, x.1)) o → ((mid : Table) → IfThere (λ (y : Y × Table). Numbers mid us (w y.0, y.1)) (g mid)) → ((x : X) (y : Y) → v x ++ w y ≡ z (make x y))
+    → IfThere (λ (q : Z × Table). Numbers table (ws ++ us) (z q.0, q.1)) (o >>= λ x. g x.1 >>= λ y. Some (make x.0 y.0, y.1))
+then_numbers o g v w z make table ws us first second whole =
+    then_there (λ x. Numbers table ws (v x.0, x.1)) (λ q. Numbers table (ws ++ us) (z q.0, q.1)) o (λ x. g x.1 >>= λ y. Some (make x.0 y.0, y.1)) first
+    (λ x h. then_there (λ y. Numbers x.1 us (w y.0, y.1)) (λ q. Numbers table (ws ++ us) (z q.0, q.1)) (g x.1) (λ y. Some (make x.0 y.0, y.1)) (second x.1)
+    (λ y k. each_both numbered_word table x.1 y.1 ws us (v x.0) (w y.0) h k ∙ ap (λ (l : List (Placed ℕ)). Some (l, y.1)) (whole x.0 y.0)))
+
+mutual
+  value_numbers : (table : Table) (d : ℕ) (v : Value (List ℕ)) → IfThere (λ x. Numbers table (value_words d v) (value_words d x.0, x.1)) (numbered_value table v)
+  value_numbers table d (Int z) = refl
+  value_numbers table d (Sym s) = then_there (λ n. number_name table s ≡ Some n) (λ x. Numbers table ((d, Given (Sym s)) ∷ []) (value_words d x.0, x.1)) (number_name table s) (λ n. Some (Sym n.0, n.1)) (if_there _ (number_name table s) (λ n e. e)) (name_word table d s)
+  value_numbers table d (Comp s vs) =
+      then_numbers (number_name table s) (λ mid. numbered_args mid vs) (λ n. (d, Given (Sym n)) ∷ []) (args_words (suc d)) (value_words d) Comp table ((d, Given (Sym s)) ∷ []) (args_words (suc d) vs) (if_there _ (number_name table s) (name_word table d s)) (λ mid. args_numbers mid (suc d) vs) (λ n xs. refl)
+
+  args_numbers : (table : Table) (d : ℕ) (vs : Args (List ℕ)) → IfThere (λ x. Numbers table (args_words d vs) (args_words d x.0, x.1)) (numbered_args table vs)
+  args_numbers table d Nil = refl
+  args_numbers table d (Cons v vs) =
+      then_numbers (numbered_value table v) (λ mid. numbered_args mid vs) (value_words d) (args_words d) (args_words d) Cons table (value_words d v) (args_words d vs) (value_numbers table d v) (λ mid. args_numbers mid d vs) (λ x xs. refl)
+
+mutual
+  term_numbers : (table : Table) (d : ℕ) (t : Term (List ℕ)) → IfThere (λ x. Numbers table (words_of d t) (words_of d x.0, x.1)) (numbered_term table t)
+  term_numbers table d (Var x) = refl
+  term_numbers table d (Given v) = then_there (λ x. Numbers table (value_words d v) (value_words d x.0, x.1)) (λ x. Numbers table (value_words d v) (words_of d x.0, x.1)) (numbered_value table v) (λ x. Some (Given x.0, x.1)) (value_numbers table d v) (λ x h. h)
+  term_numbers table d (Open s ts) =
+      then_numbers (number_name table s) (λ mid. numbered_terms mid ts) (λ n. (d, Given (Sym n)) ∷ []) (terms_words (suc d)) (words_of d) Open table ((d, Given (Sym s)) ∷ []) (terms_words (suc d) ts) (if_there _ (number_name table s) (name_word table d s)) (λ mid. terms_numbers mid (suc d) ts) (λ n xs. refl)
+
+  terms_numbers : (table : Table) (d : ℕ) (ts : Terms (List ℕ)) → IfThere (λ x. Numbers table (terms_words d ts) (terms_words d x.0, x.1)) (numbered_terms table ts)
+  terms_numbers table d End = refl
+  terms_numbers table d (And t ts) =
+      then_numbers (numbered_term table t) (λ mid. numbered_terms mid ts) (words_of d) (terms_words d) (terms_words d) And table (words_of d t) (terms_words d ts) (term_numbers table d t) (λ mid. terms_numbers mid d ts) (λ x xs. refl)
 
 -- ---- a functor with its arguments
 
-as_terms : (table : Table) (ts : List (Term (List ℕ))) → numbered_terms table (terms_of ts) ≡ (each numbered_term table ts >>= λ xs. Some (terms_of xs.0, xs.1))
-as_terms table [] = refl
-as_terms table (t ∷ ts) =
-    bind_same (numbered_term table t) (λ x. numbered_terms x.1 (terms_of ts) >>= λ xs. Some (And x.0 xs.0, xs.1)) (λ x. (each numbered_term x.1 ts >>= λ xs. Some (terms_of xs.0, xs.1)) >>= λ xs. Some (And x.0 xs.0, xs.1))
-    (λ x e. ap (λ o. o >>= λ xs. Some (And x.0 xs.0, xs.1)) (as_terms x.1 ts))
-    ∙ bind_same (numbered_term table t) (λ x. (each numbered_term x.1 ts >>= λ xs. Some (terms_of xs.0, xs.1)) >>= λ xs. Some (And x.0 xs.0, xs.1)) (λ x. (each numbered_term x.1 ts >>= λ xs. Some (x.0 ∷ xs.0, xs.1)) >>= λ xs. Some (terms_of xs.0, xs.1))
-    (λ x e. bind_bind (each numbered_term x.1 ts) (λ xs. Some (terms_of xs.0, xs.1)) (λ xs. Some (And x.0 xs.0, xs.1)) ∙ sym (bind_bind (each numbered_term x.1 ts) (λ xs. Some (x.0 ∷ xs.0, xs.1)) (λ xs. Some (terms_of xs.0, xs.1))))
-    ∙ sym (bind_bind (numbered_term table t) (λ x. each numbered_term x.1 ts >>= λ xs. Some (x.0 ∷ xs.0, xs.1)) (λ xs. Some (terms_of xs.0, xs.1)))
+opened : (table : Table) (t : Term ℕ) → is_open t ≡ is_open (argument_by table t)
+opened table (Given v) = refl
+opened table _ = refl
 
-as_values : (table : Table) (ts : List (Term (List ℕ))) → list_any is_open ts ≡ false → numbered_args table (args_of (values ts)) ≡ (each numbered_term table ts >>= λ xs. Some (args_of (values xs.0), xs.1))
-as_values table [] none = refl
-as_values table (Var x ∷ ts) none = absurd cc
-as_values table (Open s us ∷ ts) none = absurd cc
-as_values table (Given v ∷ ts) none =
-    bind_same (numbered_value table v) (λ x. numbered_args x.1 (args_of (values ts)) >>= λ xs. Some (Cons x.0 xs.0, xs.1)) (λ x. (each numbered_term x.1 ts >>= λ xs. Some (Given x.0 ∷ xs.0, xs.1)) >>= λ xs. Some (args_of (values xs.0), xs.1))
-    (λ x e. ap (λ o. o >>= λ xs. Some (Cons x.0 xs.0, xs.1)) (as_values x.1 ts none) ∙ bind_bind (each numbered_term x.1 ts) (λ xs. Some (args_of (values xs.0), xs.1)) (λ xs. Some (Cons x.0 xs.0, xs.1)) ∙ sym (bind_bind (each numbered_term x.1 ts) (λ xs. Some (Given x.0 ∷ xs.0, xs.1)) (λ xs. Some (args_of (values xs.0), xs.1))))
-    ∙ sym (bind_bind (numbered_value table v) (λ x. each numbered_term x.1 ts >>= λ xs. Some (Given x.0 ∷ xs.0, xs.1)) (λ xs. Some (args_of (values xs.0), xs.1)))
-    ∙ ap (λ o. o >>= λ xs. Some (args_of (values xs.0), xs.1)) (sym (bind_bind (numbered_value table v) (λ x. Some (Given x.0, x.1)) (λ x. each numbered_term x.1 ts >>= λ xs. Some (x.0 ∷ xs.0, xs.1))))
+-- what is numbered is open where it was
+pub stays_open : (table new : Table) (t : Term (List ℕ)) (u : Term ℕ) → numbered_term table t ≡ Some (u, new) → is_open u ≡ is_open t
+stays_open table new t u h = opened new u ∙ ap is_open (there _ (numbered_term table t) (u, new) (argument_says table t) h).0
 
-functor_with-open : {N : Type 0} (s : N) (ts : List (Term N)) → list_any is_open ts ≡ true → functor_with s ts ≡ Open s (terms_of ts)
-functor_with-open s ts is = rw is refl
+any_open : (table new : Table) (ts : List (Term (List ℕ))) (us : List (Term ℕ)) → each numbered_term table ts ≡ Some (us, new) → list_any is_open us ≡ list_any is_open ts
+any_open table new [] us h = ap (list_any is_open) (sym (each_end numbered_term table new us h).0)
+any_open table new (t ∷ ts) us h =
+    let u = uncons numbered_term table new t ts us h in
+    ap (list_any is_open) (sym u.4) ∙ ap₂ (λ (a b : Bool). a || b) (stays_open table u.0.1 t u.0.0 u.2) (any_open u.0.1 new ts u.1 u.3)
+
+as_terms : (table new : Table) (ts : List (Term (List ℕ))) (us : List (Term ℕ)) → each numbered_term table ts ≡ Some (us, new) → numbered_terms table (terms_of ts) ≡ Some (terms_of us, new)
+as_terms table new [] us h = let e = each_end numbered_term table new us h in rw (← e.0, e.1) refl
+as_terms table new (t ∷ ts) us h =
+    let u = uncons numbered_term table new t ts us h in
+    rw (u.2, as_terms u.0.1 new ts u.1 u.3) (ap (λ (l : List (Term ℕ)). Some (terms_of l, new)) u.4)
+
+as_values : (table new : Table) (ts : List (Term (List ℕ))) (us : List (Term ℕ)) → list_any is_open ts ≡ false → each numbered_term table ts ≡ Some (us, new) → numbered_args table (args_of (values ts)) ≡ Some (args_of (values us), new)
+as_values table new [] us none h = let e = each_end numbered_term table new us h in rw (← e.0, e.1) refl
+as_values table new (Given v ∷ ts) us none h =
+    let u = uncons numbered_term table new (Given v) ts us h in
+    let x = bind_some (numbered_value table v) (λ x. Some (Given x.0, x.1)) u.0 u.2 in
+    let e = some_is {A = Term ℕ × Table} (Given x.0.0, x.0.1) u.0 x.2 in
+    let given : Given x.0.0 ∷ u.1 ≡ us = ap (λ (p : Term ℕ × Table). p.0 ∷ u.1) e ∙ u.4 in
+    let rest : each numbered_term x.0.1 ts ≡ Some (u.1, new) = ap (λ (p : Term ℕ × Table). each numbered_term p.1 ts) e ∙ u.3 in
+    rw (x.1, as_values x.0.1 new ts u.1 none rest) (ap (λ (l : List (Term ℕ)). Some (args_of (values l), new)) given)
+as_values table new (_ ∷ ts) us none h = absurd cc
 
 pub functor_with-values : {N : Type 0} (s : N) (ts : List (Term N)) → list_any is_open ts ≡ false → functor_with s ts ≡ Given (Comp s (args_of (values ts)))
 functor_with-values s ts is = rw is refl
 
--- what a functor's number and the numbered arguments make
-abbrev functor_then : Table → List ℕ → List (Term (List ℕ)) → Option (Term ℕ × Table)
-functor_then table s ts = number_name table s >>= λ n. each numbered_term n.1 ts >>= λ xs. Some (functor_with n.0 xs.0, xs.1)
+functor_made : (table mid new : Table) (s : List ℕ) (n : ℕ) (ts : List (Term (List ℕ))) (us : List (Term ℕ)) → number_name table s ≡ Some (n, mid) → each numbered_term mid ts ≡ Some (us, new) → numbered_term table (functor_with s ts) ≡ Some (functor_with n us, new)
+functor_made table mid new s n ts us e h = by (list_any is_open ts) refl
+  where
+    by : (b : Bool) → list_any is_open ts ≡ b → numbered_term table (functor_with s ts) ≡ Some (functor_with n us, new)
+    by true is = let open_too = any_open mid new ts us h ∙ is in rw (is, open_too, e, as_terms mid new ts us h) refl
+    by false is = let shut_too = any_open mid new ts us h ∙ is in rw (is, shut_too, e, as_values mid new ts us is h) refl
 
-functor_case : (table : Table) (s : List ℕ) (ts : List (Term (List ℕ))) (b : Bool) → list_any is_open ts ≡ b → numbered_term table (functor_with s ts) ≡ functor_then table s ts
-functor_case table s ts true is =
-    ap (numbered_term table) (functor_with-open s ts is)
-    ∙ bind_same (number_name table s) (λ n. numbered_terms n.1 (terms_of ts) >>= λ xs. Some (Open n.0 xs.0, xs.1)) (λ n. each numbered_term n.1 ts >>= λ xs. Some (functor_with n.0 xs.0, xs.1))
-    (λ n e. ap (λ o. o >>= λ xs. Some (Open n.0 xs.0, xs.1)) (as_terms n.1 ts) ∙ bind_bind (each numbered_term n.1 ts) (λ xs. Some (terms_of xs.0, xs.1)) (λ xs. Some (Open n.0 xs.0, xs.1))
-    ∙ bind_same (each numbered_term n.1 ts) (λ xs. Some (Open n.0 (terms_of xs.0), xs.1)) (λ xs. Some (functor_with n.0 xs.0, xs.1)) (λ xs f. ap (λ (t : Term ℕ). Some (t, xs.1)) (sym (functor_with-open n.0 xs.0 (any_opened n.1 xs.1 ts xs.0 f ∙ is)))))
-functor_case table s ts false is =
-    ap (numbered_term table) (functor_with-values s ts is)
-    ∙ bind_bind (number_name table s) (λ n. numbered_args n.1 (args_of (values ts)) >>= λ xs. Some (Comp n.0 xs.0, xs.1)) (λ x. Some (Given x.0, x.1))
-    ∙ bind_same (number_name table s) (λ n. (numbered_args n.1 (args_of (values ts)) >>= λ xs. Some (Comp n.0 xs.0, xs.1)) >>= λ x. Some (Given x.0, x.1)) (λ n. each numbered_term n.1 ts >>= λ xs. Some (functor_with n.0 xs.0, xs.1))
-    (λ n e. bind_bind (numbered_args n.1 (args_of (values ts))) (λ xs. Some (Comp n.0 xs.0, xs.1)) (λ x. Some (Given x.0, x.1))
-    ∙ ap (λ o. o >>= λ xs. Some (Given (Comp n.0 xs.0), xs.1)) (as_values n.1 ts is) ∙ bind_bind (each numbered_term n.1 ts) (λ xs. Some (args_of (values xs.0), xs.1)) (λ xs. Some (Given (Comp n.0 xs.0), xs.1))
-    ∙ bind_same (each numbered_term n.1 ts) (λ xs. Some (Given (Comp n.0 (args_of (values xs.0))), xs.1)) (λ xs. Some (functor_with n.0 xs.0, xs.1)) (λ xs f. ap (λ (t : Term ℕ). Some (t, xs.1)) (sym (functor_with-values n.0 xs.0 (any_opened n.1 xs.1 ts xs.0 f ∙ is)))))
+pub no_args : {N : Type 0} (t : Term N) → with_args t [] ≡ t
+no_args (Given (Sym s)) = refl
+no_args (Given _) = refl
+no_args _ = refl
 
--- a word's number and then the arguments' make the numbered word with its arguments
-abbrev word_then : Table → Term (List ℕ) → List (Term (List ℕ)) → Option (Term ℕ × Table)
-word_then table w ts = numbered_term table w >>= λ n. each numbered_term n.1 ts >>= λ xs. Some (with_args n.0 xs.0, xs.1)
+some_args : (n : ℕ) (new : Table) (us : List (Term ℕ)) {x : Term ℕ} {xs : List (Term ℕ)} → x ∷ xs ≡ us → ◌≡◌ {A = Option (Term ℕ × Table)} (Some (functor_with n us, new)) (Some (with_args (Given (Sym n)) us, new))
+some_args n new us e = rw (← e) refl
 
-named_then : (table : Table) (s : List ℕ) (ts : List (Term (List ℕ))) → word_then table (Given (Sym s)) ts ≡ (number_name table s >>= λ n. each numbered_term n.1 ts >>= λ xs. Some (with_args (Given (Sym n.0)) xs.0, xs.1))
-named_then table s ts =
-    ap (λ o. o >>= λ n. each numbered_term n.1 ts >>= λ xs. Some (with_args n.0 xs.0, xs.1)) (bind_bind (number_name table s) (λ n. Some (Sym n.0, n.1)) (λ x. Some (Given x.0, x.1)))
-    ∙ bind_bind (number_name table s) (λ n. Some (Given (Sym n.0), n.1)) (λ n. each numbered_term n.1 ts >>= λ xs. Some (with_args n.0 xs.0, xs.1))
+alone_made : (table mid new : Table) (w : Term (List ℕ)) (y : Term ℕ) (us : List (Term ℕ)) → numbered_term table w ≡ Some (y, mid) → each numbered_term mid [] ≡ Some (us, new) → numbered_term table (with_args w []) ≡ Some (with_args y us, new)
+alone_made table mid new w y us e h = let f = each_end numbered_term mid new us h in rw (no_args w, ← f.0, no_args y, ← f.1) e
 
-not_empty : {A : Type 0} (x : A) (xs : List A) → x ∷ xs ≡ [] → ⊥
-not_empty x xs h = absurd cc
+-- a word with its arguments
+word_made : (table mid new : Table) (w : Term (List ℕ)) (y : Term ℕ) (ts : List (Term (List ℕ))) (us : List (Term ℕ)) → IsWord w → (can_open w ≡ false → ts ≡ []) → numbered_term table w ≡ Some (y, mid) → each numbered_term mid ts ≡ Some (us, new) → numbered_term table (with_args w ts) ≡ Some (with_args y us, new)
+word_made table mid new w y [] us word shut e h = alone_made table mid new w y us e h
+word_made table mid new (Var x) y (t ∷ ts) us word shut e h = let none = shut refl in absurd cc
+word_made table mid new (Given (Int z)) y (t ∷ ts) us word shut e h = let none = shut refl in absurd cc
+word_made table mid new (Given (Sym s)) y (t ∷ ts) us word shut e h = by (number_name table s) refl e
+  where
+    made : Term ℕ × Table → Type 0
+    made p = each numbered_term p.1 (t ∷ ts) ≡ Some (us, new) → numbered_term table (functor_with s (t ∷ ts)) ≡ Some (with_args p.0 us, new)
 
-some_args : (s : ℕ) (table new : Table) (t : Term (List ℕ)) (ts : List (Term (List ℕ))) (xs : List (Term ℕ)) → each numbered_term table (t ∷ ts) ≡ Some (xs, new) → functor_with s xs ≡ with_args (Given (Sym s)) xs
-some_args s table new t ts [] h =
-    let x = bind_some (numbered_term table t) (λ x. each numbered_term x.1 ts >>= λ xs. Some (x.0 ∷ xs.0, xs.1)) ([], new) h in
-    let y = bind_some (each numbered_term x.0.1 ts) (λ xs. Some (x.0.0 ∷ xs.0, xs.1)) ([], new) x.2 in
-    absurd (not_empty x.0.0 y.0.0 (ap (λ (z : List (Term ℕ) × Table). z.0) (some_is {A = List (Term ℕ) × Table} (x.0.0 ∷ y.0.0, y.0.1) ([], new) y.2)))
-some_args s table new t ts (x ∷ xs) h = refl
-
-word_numbered : (table : Table) (w : Term (List ℕ)) (ts : List (Term (List ℕ))) → IsWord w → (can_open w ≡ false → ts ≡ []) → numbered_term table (with_args w ts) ≡ word_then table w ts
-word_numbered table (Var x) ts word shut = let e = shut refl in rw e refl
-word_numbered table (Given (Int z)) ts word shut = let e = shut refl in rw e refl
-word_numbered table (Given (Sym s)) [] word shut = bind_bind (number_name table s) (λ n. Some (Sym n.0, n.1)) (λ x. Some (Given x.0, x.1)) ∙ sym (named_then table s [])
-word_numbered table (Given (Sym s)) (t ∷ ts) word shut =
-    functor_case table s (t ∷ ts) (list_any is_open (t ∷ ts)) refl
-    ∙ bind_same (number_name table s) (λ n. each numbered_term n.1 (t ∷ ts) >>= λ xs. Some (functor_with n.0 xs.0, xs.1)) (λ n. each numbered_term n.1 (t ∷ ts) >>= λ xs. Some (with_args (Given (Sym n.0)) xs.0, xs.1))
-    (λ n e. bind_same (each numbered_term n.1 (t ∷ ts)) (λ xs. Some (functor_with n.0 xs.0, xs.1)) (λ xs. Some (with_args (Given (Sym n.0)) xs.0, xs.1)) (λ xs f. ap (λ (u : Term ℕ). Some (u, xs.1)) (some_args n.0 n.1 xs.1 t ts xs.0 f)))
-    ∙ sym (named_then table s (t ∷ ts))
-word_numbered table (Given (Comp s vs)) ts word shut = absurd word
-word_numbered table (Open s us) ts word shut = absurd word
+    by : (o : Option (ℕ × Table)) → number_name table s ≡ o → (let v : Option (Value ℕ × Table) = o >>= λ n. Some (Sym n.0, n.1) in let w : Option (Term ℕ × Table) = v >>= λ x. Some (Given x.0, x.1) in w) ≡ Some (y, mid)
+        → numbered_term table (functor_with s (t ∷ ts)) ≡ Some (with_args y us, new)
+    by None is e = absurd cc
+    by (Some n) is e =
+        let named : made (Given (Sym n.0), n.1) = (λ k. functor_made table n.1 new s n.0 (t ∷ ts) us is k ∙ some_args n.0 new us (uncons numbered_term n.1 new t ts us k).4) in
+        subst made (some_is {A = Term ℕ × Table} (Given (Sym n.0), n.1) (y, mid) e) named h
+word_made table mid new (Given (Comp s vs)) y (t ∷ ts) us word shut e h = absurd word
+word_made table mid new (Open s vs) y (t ∷ ts) us word shut e h = absurd word
 
 -- ---- terms one behind another
 
-first_number : {B : Type 0} (table : Table) (t : Placed (List ℕ)) (ts : List (Placed (List ℕ))) (k : List (Placed ℕ) → Table → Option B)
-    → (each numbered_word table (t ∷ ts) >>= λ xs. k xs.0 xs.1) ≡ (numbered_term table t.1 >>= λ x. each numbered_word x.1 ts >>= λ xs. k ((t.0, x.0) ∷ xs.0) xs.1)
-first_number table t ts k =
-    bind_bind (numbered_word table t) (λ y. each numbered_word y.1 ts >>= λ xs. Some (y.0 ∷ xs.0, xs.1)) (λ xs. k xs.0 xs.1)
-    ∙ bind_bind (numbered_term table t.1) (λ x. Some ((t.0, x.0), x.1)) (λ y. (each numbered_word y.1 ts >>= λ xs. Some (y.0 ∷ xs.0, xs.1)) >>= λ xs. k xs.0 xs.1)
-    ∙ bind_same (numbered_term table t.1) (λ x. (each numbered_word x.1 ts >>= λ xs. Some ((t.0, x.0) ∷ xs.0, xs.1)) >>= λ xs. k xs.0 xs.1) (λ x. each numbered_word x.1 ts >>= λ xs. k ((t.0, x.0) ∷ xs.0) xs.1)
-    (λ x e. bind_bind (each numbered_word x.1 ts) (λ xs. Some ((t.0, x.0) ∷ xs.0, xs.1)) (λ xs. k xs.0 xs.1))
-
-shut_first : {N : Type 0} (d : ℕ) (u : Placed N) (us : List (Placed N)) → ltb d u.0 ≡ false → (inside d (u ∷ us) ≡ []) × (behind d (u ∷ us) ≡ u ∷ us)
-shut_first d u us is = rw is (refl, refl)
-
--- a first term that isn't inside stays so
-shut_split : (d : ℕ) (table new : Table) (t : Placed (List ℕ)) (ts : List (Placed (List ℕ))) (xs : List (Placed ℕ)) → ltb d t.0 ≡ false → each numbered_word table (t ∷ ts) ≡ Some (xs, new)
-    → (inside d xs ≡ []) × (behind d xs ≡ xs)
-shut_split d table new t ts xs is h =
-    let x = bind_some (numbered_word table t) (λ y. each numbered_word y.1 ts >>= λ xs. Some (y.0 ∷ xs.0, xs.1)) (xs, new) h in
-    let y = bind_some (each numbered_word x.0.1 ts) (λ xs. Some (x.0.0 ∷ xs.0, xs.1)) (xs, new) x.2 in
-    let z = bind_some (numbered_term table t.1) (λ x. Some ((t.0, x.0), x.1)) x.0 x.1 in
-    let same : t.0 ≡ x.0.0.0 = ap (λ (p : Placed ℕ × Table). p.0.0) (some_is {A = Placed ℕ × Table} ((t.0, z.0.0), z.0.1) x.0 z.2) in
-    let all : x.0.0 ∷ y.0.0 ≡ xs = ap (λ (p : List (Placed ℕ) × Table). p.0) (some_is {A = List (Placed ℕ) × Table} (x.0.0 ∷ y.0.0, y.0.1) (xs, new) y.2) in
-    subst (λ l. (inside d l ≡ []) × (behind d l ≡ l)) all (shut_first d x.0.0 y.0.0 (ap (ltb d) (sym same) ∙ is))
+word_first : (table new : Table) (w : Placed (List ℕ)) (ws : List (Placed (List ℕ))) (xs : List (Placed ℕ)) → each numbered_word table (w ∷ ws) ≡ Some (xs, new)
+    → (y : Term ℕ × Table) × (ys : List (Placed ℕ)) × (numbered_term table w.1 ≡ Some y) × (each numbered_word y.1 ws ≡ Some (ys, new)) × ((w.0, y.0) ∷ ys ≡ xs)
+word_first table new w ws xs h =
+    let u = uncons numbered_word table new w ws xs h in
+    let y = bind_some (numbered_term table w.1) (λ x. Some ((w.0, x.0), x.1)) u.0 u.2 in
+    let e = some_is {A = Placed ℕ × Table} ((w.0, y.0.0), y.0.1) u.0 y.2 in
+    (y.0, u.1, y.1, ap (λ (p : Placed ℕ × Table). each numbered_word p.1 ws) e ∙ u.3, ap (λ (p : Placed ℕ × Table). p.0 ∷ u.1) e ∙ u.4)
 
 -- numbered terms fall apart as those before
-abbrev split_then : {B : Type 0} → Table → ℕ → List (Placed (List ℕ)) → (List (Term ℕ) → List (Placed ℕ) → Table → Option B) → Option B
-split_then table d ts k = each numbered_term table (inside d ts) >>= λ xs. each numbered_word xs.1 (behind d ts) >>= λ ys. k xs.0 ys.0 ys.1
+abbrev Split : ℕ → Table → Table → List (Placed (List ℕ)) → List (Placed ℕ) → Type 0
+Split d table new ts us = (mid : Table) × (each numbered_term table (inside d ts) ≡ Some (inside d us, mid)) × (each numbered_word mid (behind d ts) ≡ Some (behind d us, new))
 
-split_case : {B : Type 0} (table : Table) (d : ℕ) (t : Placed (List ℕ)) (ts : List (Placed (List ℕ))) (k : List (Term ℕ) → List (Placed ℕ) → Table → Option B) (b : Bool) → ltb d t.0 ≡ b
-    → ((new : Table) (j : List (Term ℕ) → List (Placed ℕ) → Table → Option B) → (each numbered_word new ts >>= λ xs. j (inside d xs.0) (behind d xs.0) xs.1) ≡ split_then new d ts j)
-    → (each numbered_word table (t ∷ ts) >>= λ xs. k (inside d xs.0) (behind d xs.0) xs.1)
-    ≡ (each numbered_term table (cond b (t.1 ∷ inside d ts) []) >>= λ xs. each numbered_word xs.1 (cond b (behind d ts) (t ∷ ts)) >>= λ ys. k xs.0 ys.0 ys.1)
-split_case table d t ts k true is rest =
-    first_number table t ts (λ xs new. k (inside d xs) (behind d xs) new)
-    ∙ bind_same (numbered_term table t.1) (λ x. each numbered_word x.1 ts >>= λ xs. k (inside d ((t.0, x.0) ∷ xs.0)) (behind d ((t.0, x.0) ∷ xs.0)) xs.1) (λ x. split_then x.1 d ts (λ xs ys new. k (x.0 ∷ xs) ys new))
-    (λ x e. rw is (rest x.1 (λ xs ys new. k (x.0 ∷ xs) ys new)))
-    ∙ bind_same (numbered_term table t.1) (λ x. split_then x.1 d ts (λ xs ys new. k (x.0 ∷ xs) ys new)) (λ x. (each numbered_term x.1 (inside d ts) >>= λ xs. Some (x.0 ∷ xs.0, xs.1)) >>= λ xs. each numbered_word xs.1 (behind d ts) >>= λ ys. k xs.0 ys.0 ys.1)
-    (λ x e. sym (bind_bind (each numbered_term x.1 (inside d ts)) (λ xs. Some (x.0 ∷ xs.0, xs.1)) (λ xs. each numbered_word xs.1 (behind d ts) >>= λ ys. k xs.0 ys.0 ys.1)))
-    ∙ sym (bind_bind (numbered_term table t.1) (λ x. each numbered_term x.1 (inside d ts) >>= λ xs. Some (x.0 ∷ xs.0, xs.1)) (λ xs. each numbered_word xs.1 (behind d ts) >>= λ ys. k xs.0 ys.0 ys.1))
-split_case table d t ts k false is rest =
-    bind_same (each numbered_word table (t ∷ ts)) (λ xs. k (inside d xs.0) (behind d xs.0) xs.1) (λ xs. k [] xs.0 xs.1)
-    (λ xs e. let shut = shut_split d table xs.1 t ts xs.0 is e in ap₂ (λ a b. k a b xs.1) shut.0 shut.1)
+split : (d : ℕ) (table new : Table) (ts : List (Placed (List ℕ))) (us : List (Placed ℕ)) → each numbered_word table ts ≡ Some (us, new) → Split d table new ts us
+split d table new [] us h = let e = each_end numbered_word table new us h in (table, rw (← e.0) refl, rw (← e.0, ← e.1) refl)
+split d table new (t ∷ ts) us h =
+    let u = word_first table new t ts us h in
+    subst (Split d table new (t ∷ ts)) u.4 (by u.0 u.1 (ltb d t.0) refl u.2 (split d u.0.1 new ts u.1 u.3) (h ∙ ap (λ (l : List (Placed ℕ)). Some (l, new)) (sym u.4)))
+  where
+    by : (y : Term ℕ × Table) (ys : List (Placed ℕ)) (b : Bool) → ltb d t.0 ≡ b → numbered_term table t.1 ≡ Some y → Split d y.1 new ts ys → each numbered_word table (t ∷ ts) ≡ Some ((t.0, y.0) ∷ ys, new) → Split d table new (t ∷ ts) ((t.0, y.0) ∷ ys)
+    by y ys true is e s whole = let first = s.1 in (s.0, rw (is, e, first) refl, rw is s.2)
+    by y ys false is e s whole = (table, rw is refl, rw is whole)
 
-pub split : {B : Type 0} (table : Table) (d : ℕ) (ts : List (Placed (List ℕ))) (k : List (Term ℕ) → List (Placed ℕ) → Table → Option B)
-    → (each numbered_word table ts >>= λ xs. k (inside d xs.0) (behind d xs.0) xs.1) ≡ split_then table d ts k
-split table d [] k = refl
-split table d (t ∷ ts) k = split_case table d t ts k (ltb d t.0) refl (λ new j. split new d ts j)
+-- a word takes the terms inside it
+word_takes : (table mid new : Table) (w : Placed (List ℕ)) (ws : List (Placed (List ℕ))) (y : Term ℕ) (us : List (Placed ℕ)) → IsWord w.1 → AreBehind w ws → numbered_term table w.1 ≡ Some (y, mid) → each numbered_word mid (terms_of_words ws) ≡ Some (us, new)
+    → (last : Table) × (numbered_term table (with_args w.1 (inside w.0 (terms_of_words ws))) ≡ Some (with_args y (inside w.0 us), last)) × (each numbered_word last (behind w.0 (terms_of_words ws)) ≡ Some (behind w.0 us, new))
+word_takes table mid new w ws y us word all e h =
+    let s = split w.0 mid new (terms_of_words ws) us h in
+    (s.0, word_made table mid s.0 w.1 y (inside w.0 (terms_of_words ws)) (inside w.0 us) word (none_inside w ws all) e s.1, s.2)
 
--- ---- words
-
--- numbering words, and making the terms of them
-abbrev terms_then : Table → List (Placed (List ℕ)) → Option (List (Placed ℕ) × Table)
-terms_then table ws = each numbered_word table ws >>= λ xs. Some (terms_of_words xs.0, xs.1)
-
--- a word with the terms inside it, and what is behind these
-abbrev word_put : ℕ → Term ℕ → List (Term ℕ) → List (Placed ℕ) → Table → Option (List (Placed ℕ) × Table)
-word_put d w xs ys new = Some ((d, with_args w xs) ∷ ys, new)
-
-front_numbered : (table : Table) (w : Placed (List ℕ)) (ts : List (Placed (List ℕ))) → IsWord w.1 → (can_open w.1 ≡ false → inside w.0 ts ≡ [])
-    → each numbered_word table ((w.0, with_args w.1 (inside w.0 ts)) ∷ behind w.0 ts) ≡ (numbered_term table w.1 >>= λ n. split_then n.1 w.0 ts (word_put w.0 n.0))
-front_numbered table w ts word shut =
-    bind_bind (numbered_term table (with_args w.1 (inside w.0 ts))) (λ x. Some ((w.0, x.0), x.1)) (λ y. each numbered_word y.1 (behind w.0 ts) >>= λ xs. Some (y.0 ∷ xs.0, xs.1))
-    ∙ ap (λ o. o >>= λ x. each numbered_word x.1 (behind w.0 ts) >>= λ xs. Some ((w.0, x.0) ∷ xs.0, xs.1)) (word_numbered table w.1 (inside w.0 ts) word shut)
-    ∙ bind_bind (numbered_term table w.1) (λ n. each numbered_term n.1 (inside w.0 ts) >>= λ xs. Some (with_args n.0 xs.0, xs.1)) (λ x. each numbered_word x.1 (behind w.0 ts) >>= λ xs. Some ((w.0, x.0) ∷ xs.0, xs.1))
-    ∙ bind_same (numbered_term table w.1) (λ n. (each numbered_term n.1 (inside w.0 ts) >>= λ xs. Some (with_args n.0 xs.0, xs.1)) >>= λ x. each numbered_word x.1 (behind w.0 ts) >>= λ xs. Some ((w.0, x.0) ∷ xs.0, xs.1)) (λ n. split_then n.1 w.0 ts (word_put w.0 n.0))
-    (λ n e. bind_bind (each numbered_term n.1 (inside w.0 ts)) (λ xs. Some (with_args n.0 xs.0, xs.1)) (λ x. each numbered_word x.1 (behind w.0 ts) >>= λ xs. Some ((w.0, x.0) ∷ xs.0, xs.1)))
-
-word_more : (table : Table) (w : Placed (List ℕ)) (ws : List (Placed (List ℕ))) → IsWord w.1 → AreBehind w ws → ((new : Table) → each numbered_word new (terms_of_words ws) ≡ terms_then new ws)
-    → each numbered_word table (terms_of_words (w ∷ ws)) ≡ terms_then table (w ∷ ws)
-word_more table w ws word all rest =
-    front_numbered table w (terms_of_words ws) word (none_inside w ws all)
-    ∙ bind_same (numbered_term table w.1) (λ n. split_then n.1 w.0 (terms_of_words ws) (word_put w.0 n.0)) (λ n. each numbered_word n.1 ws >>= λ xs. Some (terms_of_words ((w.0, n.0) ∷ xs.0), xs.1))
-    (λ n e. sym (split n.1 w.0 (terms_of_words ws) (word_put w.0 n.0))
-    ∙ ap (λ o. o >>= λ xs. word_put w.0 n.0 (inside w.0 xs.0) (behind w.0 xs.0) xs.1) (rest n.1)
-    ∙ bind_bind (each numbered_word n.1 ws) (λ xs. Some (terms_of_words xs.0, xs.1)) (λ xs. word_put w.0 n.0 (inside w.0 xs.0) (behind w.0 xs.0) xs.1))
-    ∙ sym (first_number table w ws (λ xs new. Some (terms_of_words xs, new)))
-
-pub words_numbered : (w : Placed (List ℕ)) (ws : List (Placed (List ℕ))) → AreBehind w ws → (table : Table) → each numbered_word table (terms_of_words ws) ≡ terms_then table ws
-words_numbered w [] all table = refl
-words_numbered w (v ∷ ws) all table = word_more table v ws all.0.word all.1 (words_numbered v ws all.1)
+words_made : (w : Placed (List ℕ)) (ws : List (Placed (List ℕ))) → AreBehind w ws → (table new : Table) (xs : List (Placed ℕ)) → each numbered_word table ws ≡ Some (xs, new) → each numbered_word table (terms_of_words ws) ≡ Some (terms_of_words xs, new)
+words_made w [] all table new xs h = let e = each_end numbered_word table new xs h in rw (← e.0, ← e.1) refl
+words_made w (v ∷ ws) all table new xs h =
+    let u = word_first table new v ws xs h in
+    let s = word_takes table u.0.1 new v ws u.0.0 (terms_of_words u.1) all.0.word all.1 u.2 (words_made v ws all.1 u.0.1 new u.1 u.3) in
+    let first = s.1 in
+    let rest = s.2 in
+    rw (first, rest) (ap (λ (l : List (Placed ℕ)). Some (terms_of_words l, new)) u.4)
 
 -- ---- a term
 
-abbrev first_then : Option (List (Placed ℕ) × Table) → Option (Term ℕ × Table)
-first_then o = o >>= λ xs. Some (first_of xs.0, xs.1)
-
-one_first : (o : Option (Term ℕ × Table))
-    → let placed : Option (Placed ℕ × Table) = o >>= (λ x. Some ((0, x.0), x.1)) in
-    let all : Option (List (Placed ℕ) × Table) = placed >>= (λ y. each numbered_word y.1 [] >>= λ xs. Some (y.0 ∷ xs.0, xs.1)) in first_then all ≡ o
-one_first None = refl
-one_first (Some x) = refl
-
-pub term_numbered : (table : Table) (ws : List (Placed (List ℕ))) → AreWords ws → numbered_term table (term_of_words ws) ≡ (each numbered_word table ws >>= λ xs. Some (term_of_words xs.0, xs.1))
-term_numbered table [] all = absurd all
-term_numbered table (w ∷ ws) all =
-    sym (one_first (numbered_term table (term_of_words (w ∷ ws))))
-    ∙ ap (λ ts. first_then (each numbered_word table ts)) (sym (one_term (w ∷ ws) all))
-    ∙ ap first_then (word_more table w ws all.0 all.2 (words_numbered w ws all.2))
-    ∙ bind_bind (each numbered_word table (w ∷ ws)) (λ xs. Some (terms_of_words xs.0, xs.1)) (λ xs. Some (first_of xs.0, xs.1))
-
 -- what numbering the words gave is what numbering the term gives
 pub term_given : (table new : Table) (ws : List (Placed (List ℕ))) (xs : List (Placed ℕ)) → AreWords ws → or_full (each numbered_word table ws) ≡ Ok (xs, new) → or_full (numbered_term table (term_of_words ws)) ≡ Ok (term_of_words xs, new)
-term_given table new ws xs all h = let e = numbered_is (each numbered_word table ws) (xs, new) h in ap or_full (term_numbered table ws all) ∙ rw e refl
+term_given table new [] xs all h = absurd all
+term_given table new (w ∷ ws) xs all h =
+    let u = word_first table new w ws xs (numbered_is (each numbered_word table (w ∷ ws)) (xs, new) h) in
+    let s = word_takes table u.0.1 new w ws u.0.0 (terms_of_words u.1) all.0 all.2 u.2 (words_made w ws all.2 u.0.1 new u.1 u.3) in
+    let top = all.1 in
+    let none : behind w.0 (terms_of_words ws) ≡ [] = rw top (none_behind w ws all.2) in
+    let last = (each_end numbered_word s.0 new (behind w.0 (terms_of_words u.1)) (ap (each numbered_word s.0) (sym none) ∙ s.2)).1 in
+    let first = s.1 in
+    rw (first, last) (ap (λ (l : List (Placed ℕ)). Ok (term_of_words l, new)) u.4)
 
 pub term_fails : (error : ItemError) (table : Table) (ws : List (Placed (List ℕ))) → AreWords ws → Fails error (or_full (each numbered_word table ws)) → Fails error (or_full (numbered_term table (term_of_words ws)))
-term_fails error table ws all h = rw (term_numbered table ws all) (fails_then error (each numbered_word table ws) (λ xs. Some (term_of_words xs.0, xs.1)) h)
+term_fails error table ws all h =
+    fails_as error (each numbered_word table ws) (numbered_term table (term_of_words ws))
+    (λ x e. (_, ap (each numbered_word table) (sym (term_again ws all)) ∙ there _ (numbered_term table (term_of_words ws)) x (term_numbers table 0 (term_of_words ws)) e)) h

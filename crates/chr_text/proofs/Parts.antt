@@ -5,18 +5,14 @@ use Rattle.std.specs.Borrow.{Bor}
 use Rattle.chr_lex.specs.declared.fault.ItemError.{ItemError}
 use Rattle.chr_lex.specs.Reading.{Fails}
 use Rattle.chr_limits.specs.Views.{names as texts}
-use Rattle.chr_value.proofs.Chosen.{some_is, bind_some}
-use Rattle.chr_value.specs.Atoms.{text_of}
 use Rattle.chr_value.specs.Naming.{◌>>=◌, Table}
 use Rattle.chr_rule.specs.Rules.{RuleAtom, Comparison, BodyItem, Simpagation, of_parts}
 use Rattle.chr_rule.specs.Scope.{IsRule}
 use Rattle.chr_text.specs.Numbering.{or_full, each, numbered_rule_atom, number_test, number_member, number_rule}
 use Rattle.chr_text.specs.Translation.{given}
 use Rattle.chr_text.specs.Variables.{Seen, in_turn}
-use Rattle.chr_text.proofs.Renamed.{rule_stays}
-use Rattle.chr_text.proofs.Said.{rule_says}
-use Rattle.chr_text.proofs.Steps.{numbered_is, fails_then}
-use Rattle.chr_text.proofs.Turns.{each_some, given_somes, given_seen}
+use Rattle.chr_text.proofs.Said.{rule_stays, rule_says}
+use Rattle.chr_text.proofs.Steps.{numbered_is, fails_then, uncons, each_end, each_some, given_somes, given_seen}
 
 -- a part that was numbered, and the variables that were seen by then
 pub record Done {A B C : Type 0} (number : Table → List B → Option (List C × Table)) (g : Seen → A → B × Seen) (start : Seen) (xs : List A) (table : Table) (made : List C) (new : Table) (after : Seen) : Type 0 where
@@ -49,11 +45,8 @@ given_fails f g error table {seen = seen} {start = start} {xs = xs} e h n =
 
 -- as many as there were
 pub each_count : {A B : Type 0} (f : Table → A → Option (B × Table)) (table new : Table) (as' : List A) (ys : List B) → each f table as' ≡ Some (ys, new) → length ys ≡ length as'
-each_count {B = B} f table new [] ys h = ap (λ (p : List B × Table). length p.0) (sym (some_is {A = List B × Table} ([], table) (ys, new) h))
-each_count {B = B} f table new (a ∷ as') ys h =
-    let x = bind_some (f table a) (λ x. each f x.1 as' >>= λ xs. Some (x.0 ∷ xs.0, xs.1)) (ys, new) h in
-    let y = bind_some (each f x.0.1 as') (λ xs. Some (x.0.0 ∷ xs.0, xs.1)) (ys, new) x.2 in
-    ap (λ (p : List B × Table). length p.0) (sym (some_is {A = List B × Table} (x.0.0 ∷ y.0.0, y.0.1) (ys, new) y.2)) ∙ ap suc (each_count f x.0.1 y.0.1 as' y.0.0 y.1)
+each_count f table new [] ys h = ap length (sym (each_end f table new ys h).0)
+each_count f table new (a ∷ as') ys h = let u = uncons f table new a as' ys h in ap length (sym u.4) ∙ ap suc (each_count f u.0.1 new as' u.1 u.3)
 
 pub kept_fails : (error : ItemError) (table : Table) (r : Simpagation (List ℕ)) → Fails error (or_full (each numbered_rule_atom table r.kept)) → Fails error (or_full (number_rule table r))
 kept_fails error table r h = fails_then error (each numbered_rule_atom table r.kept) (λ kept. each numbered_rule_atom kept.1 r.removed >>= λ removed. each number_test removed.1 r.guard >>= λ guard. each number_member guard.1 r.body >>= λ body. Some (of_parts r.variables kept.0 removed.0 guard.0 body.0, body.1)) h
@@ -76,7 +69,7 @@ pub rule_same : (r : Simpagation (List ℕ)) (table t1 t2 t3 t4 : Table) (kept r
     → IsRule r → IsRule (of_parts r.variables kept removed guard body)
 rule_same r table t1 t2 t3 t4 kept removed guard body e1 e2 e3 e4 is =
     let made = of_parts r.variables kept removed guard body in
-    rule_stays (text_of t4) made (subst IsRule (sym (rule_says table t4 r made (rule_done table t1 t2 t3 t4 r kept removed guard body e1 e2 e3 e4)).0) is)
+    rule_stays t4 made (subst IsRule (sym (rule_says table t4 r made (rule_done table t1 t2 t3 t4 r kept removed guard body e1 e2 e3 e4)).0) is)
 
 -- the variables that were seen are so many
 pub as_many : (n : ℕ) (seen : List (Bor (List ℕ))) (after : Seen) → n ≡ length seen → texts seen ≡ after → n ≡ length after

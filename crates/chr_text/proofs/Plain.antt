@@ -1,5 +1,5 @@
 -- The names of an item are letters, digits and `_`: those of its tokens are, and the grammar makes no others.
-use Rattle.std.proofs.Common.{◌≡◌, ℕ, zero, suc, Bool, true, false, List, [], ◌∷◌, drop, Ok, arith}
+use Rattle.std.proofs.Common.{◌≡◌, ℕ, Bool, true, false, List, Ok, arith}
 use Rattle.std.specs.List.{AllByRecursion}
 use Rattle.chr_value.specs.Spelling.{is_name_byte}
 use Rattle.chr_lex.specs.Items.{Item}
@@ -9,8 +9,6 @@ use Rattle.chr_text.specs.Fitting.{WordPlain}
 use Rattle.chr_text.specs.Reading.{item_lexemes}
 use Rattle.chr_text.proofs.Texts.{is_item}
 
--- ---- results
-
 -- ---- words
 
 abbrev pub LexemePlain : Lexeme → Type 0
@@ -19,11 +17,6 @@ LexemePlain (OfMark m) = Unit {0}
 
 abbrev pub AllPlain : List Lexeme → Type 0
 AllPlain ts = AllByRecursion LexemePlain ts
-
-pub all_dropped : {A : Type 0} (P : A → Type 0) (n : ℕ) (xs : List A) → AllByRecursion P xs → AllByRecursion P (drop n xs)
-all_dropped P zero xs all = all
-all_dropped P (suc n) [] all = tt
-all_dropped P (suc n) (x ∷ xs) all = all_dropped P n xs all.1
 
 -- ---- tokens
 

@@ -3,7 +3,7 @@ use Rattle.std.proofs.Common.{◌≡◌, ℕ, List, [], ◌∷◌, ◌++◌, Ok,
 use Rattle.std.specs.List.{AllByRecursion}
 use Rattle.chr_lex.specs.Tokens.{Lexeme, OfWord}
 use Rattle.chr_grammar.specs.Parsed as parsed
-use Rattle.chr_grammar.specs.Parsed.{TermNode, ParsedTerm, ParsedAtom, GuardMember, BodyMember, ParsedRule, Statement, Import, Declaration, Rule}
+use Rattle.chr_grammar.specs.Parsed.{TermNode, ParsedTerm, ParsedAtom, GuardMember, BodyMember, ParsedRule, Statement, Rule}
 use Rattle.chr_grammar.specs.Parsing.{phrases_of, statement_of}
 use Rattle.chr_grammar.specs.Spelling.{by_commas, between, nodes_spelled, term_spelled, further, phrase_spelled, test_spelled, member_spelled, rule_name_spelled, heads_spelled, consequence_spelled, IsParsedTerm, IsParsedAtom, IsGuardMember, IsBodyMember}
 use Rattle.chr_grammar.proofs.Phrases.{are_phrases}
@@ -60,15 +60,13 @@ phrases_are_plain ts ps all h = let are = are_phrases ts ps h in phrases_plain p
 -- ---- guards and bodies
 
 test_plain : (t : GuardMember) → IsGuardMember t → AllPlain (test_spelled t) → TestPlain t
-test_plain parsed.Always is all = tt
-test_plain (parsed.Compared r e f) is all = tt
 test_plain (parsed.Same t u) is all = let parts = both_plain (term_spelled t) _ all in (term_plain t is.0 parts.0, term_plain u is.1 parts.1.1)
 test_plain (parsed.Differ t u) is all = let parts = both_plain (term_spelled t) _ all in (term_plain t is.0 parts.0, term_plain u is.1 parts.1.1)
+test_plain _ is all = tt
 
 member_plain : (m : BodyMember) → IsBodyMember m → AllPlain (member_spelled m) → MemberPlain m
-member_plain parsed.Nothing is all = tt
-member_plain (parsed.Is x e) is all = tt
 member_plain (parsed.Add p) is all = phrase_plain p is all
+member_plain _ is all = tt
 
 members_plain : (ms : List BodyMember) → AllByRecursion IsBodyMember ms → AllPlain (by_commas member_spelled ms) → AllByRecursion MemberPlain ms
 members_plain ms are all = commas_plain IsBodyMember MemberPlain member_spelled member_plain ms are all
@@ -100,6 +98,5 @@ rules_are_plain ts r all h =
     record { kept = heads.0; removed = heads.1; guard = rest.0; body = rest.1 }
 
 pub statements_are_plain : (ts : List Lexeme) (s : Statement) → AllPlain ts → statement_of ts ≡ Ok s → StatementPlain s
-statements_are_plain ts Import plain is = tt
-statements_are_plain ts (Declaration ds) plain is = tt
 statements_are_plain ts (Rule r) plain is = rules_are_plain ts r plain is
+statements_are_plain ts _ plain is = tt

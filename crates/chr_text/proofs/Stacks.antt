@@ -1,15 +1,14 @@
 -- Terms that are built, and stacks of them.
-use Rattle.std.proofs.Common.{◌≡◌, ◌≤◌, ◌<◌, ◌+◌, ℕ, Bool, true, false, List, [], ◌∷◌, ◌++◌, length, get_or, drop, map, reverse, append_assoc, Box, refl, sym, ap, ap₂, ◌∙◌, arith}
-use Rattle.std.specs.Prelude.{nat_lt, if◌then◌else◌}
+use Rattle.std.proofs.Common.{◌≡◌, ◌≤◌, ◌<◌, ◌+◌, ℕ, Bool, true, false, ltb, List, [], ◌∷◌, ◌++◌, length, get_or, drop, map, reverse, append_assoc, Box, refl, sym, ap, ap₂, ◌∙◌, arith}
 use Rattle.std.specs.List.{list_any}
 use Rattle.std.proofs.lemmas.List.{append-nil, map_push, reverse-append, nil_from_length}
-use Rattle.chr_value.specs.Atoms.{Value, Int, Sym, Comp, args_of, grounds}
+use Rattle.chr_value.specs.Atoms.{Value, Comp, args_of, grounds}
 use Rattle.chr_value.specs.declared.value.Value as values_of_code
 use Rattle.chr_value.specs.declared.value.Value.{Value as CodeValue}
 use Rattle.chr_value.specs.declared.value.Comp.{Comp as CodeComp}
 use Rattle.chr_value.specs.declared.names.Name.{Name}
 use Rattle.chr_value.proofs.Levels.{ground-Comp}
-use Rattle.chr_rule.specs.Rules.{Term, Var, Given, Open}
+use Rattle.chr_rule.specs.Rules.{Term, Var, Given}
 use Rattle.chr_rule.specs.Parts.{argument}
 use Rattle.chr_rule.specs.Terms.{is_open}
 use Rattle.chr_rule.specs.declared.term.Term as terms
@@ -22,24 +21,22 @@ use Rattle.chr_text.specs.Terms.{values, functor_with, with_args, inside, behind
 use Rattle.chr_text.specs.Trees.{placed, from_top, is_deeper}
 use Rattle.chr_text.specs.Words.{word_term, placed_word}
 use Rattle.chr_text.specs.declared.trees.PlacedTerm.{PlacedTerm}
-use Rattle.chr_text.proofs.Numbered.{functor_with-values}
+use Rattle.chr_text.proofs.Numbered.{functor_with-values, no_args}
 use Rattle.chr_text.proofs.Places.{map_at}
 
 -- ---- the values among terms
 
 values_first : {N : Type 0} (t : Term N) (ts : List (Term N)) → values (t ∷ []) ++ values ts ≡ values (t ∷ ts)
-values_first (Var x) ts = refl
 values_first (Given v) ts = refl
-values_first (Open s us) ts = refl
+values_first _ ts = refl
 
 pub value_more : {A : Type 0} (made new : List (CodeValue A)) (ts rest : List (CodeTerm A)) (t : CodeTerm A) (total : List (Value ℕ)) → ts ≡ t ∷ rest → grounds new ≡ grounds made ++ values (argument t ∷ [])
     → grounds made ++ values (map argument ts) ≡ total → grounds new ++ values (map argument rest) ≡ total
 value_more made new ts rest t total are more so_far =
-    ap (λ l. l ++ values (map argument rest)) more ∙ append_assoc (grounds made) (values (argument t ∷ [])) (values (map argument rest))
-    ∙ ap (λ l. grounds made ++ l) (values_first (argument t) (map argument rest)) ∙ ap (λ l. grounds made ++ values (map argument l)) (sym are) ∙ so_far
+    rw (more, append_assoc, values_first (argument t) (map argument rest)) (ap (λ l. grounds made ++ values (map argument l)) (sym are) ∙ so_far)
 
 pub all_values : {A : Type 0} (made : List (CodeValue A)) (ts : List (CodeTerm A)) (total : List (Value ℕ)) → length ts ≡ 0 → grounds made ++ values (map argument ts) ≡ total → grounds made ≡ total
-all_values made ts total empty so_far = sym (append-nil (grounds made)) ∙ ap (λ l. grounds made ++ values (map argument l)) (sym (nil_from_length ts empty)) ∙ so_far
+all_values made ts total empty so_far = rw (nil_from_length ts empty, append-nil) at so_far
 
 -- ---- a functor with its arguments
 
@@ -50,24 +47,13 @@ value_made b n ts named are none =
 
 -- ---- a word with its arguments
 
-pub no_args : {N : Type 0} (t : Term N) → with_args t [] ≡ t
-no_args (Var x) = refl
-no_args (Given (Int z)) = refl
-no_args (Given (Sym s)) = refl
-no_args (Given (Comp s vs)) = refl
-no_args (Open s ts) = refl
-
 pub no_name : (w : NumberedWord) (ts : List (Term ℕ)) → ((n : Name) → w ≡ numbered.Name n → ⊥) → with_args (word_term w) ts ≡ word_term w
-no_name (numbered.Variable x) ts other = refl
 no_name (numbered.Name n) ts other = absurd (other n refl)
-no_name (numbered.Number z) ts other = refl
-
-name_args : (n : ℕ) (ts : List (Term ℕ)) → 0 < length ts → with_args (Given (Sym n)) ts ≡ functor_with n ts
-name_args n [] some = absurd (omega arith)
-name_args n (t ∷ ts) some = refl
+no_name _ ts other = refl
 
 pub named_args : (w : NumberedWord) (n : Name) (ts : List (Term ℕ)) → w ≡ numbered.Name n → 0 < length ts → with_args (word_term w) ts ≡ functor_with n.number ts
-named_args w n ts is some = ap (λ v. with_args (word_term v) ts) is ∙ name_args n.number ts some
+named_args w n [] is some = absurd (omega arith)
+named_args w n (t ∷ ts) is some = rw is refl
 
 -- ---- stacks
 
@@ -82,8 +68,8 @@ none_built {A} stack ws empty are = argument-Var A 0 ∙ ap first_of (sym (ap fr
 
 -- a word alone
 pub alone : (words : List NumberedNode) (d : NumberedNode) → 1 ≤ length words → length words < 2 → word_term (get_or words 0 d).word ≡ term_of_words (map placed_word words)
-alone [] d some few = absurd (omega arith)
 alone (w ∷ []) d some few = sym (no_args (word_term w.word))
+alone [] d some few = absurd (omega arith)
 alone (w ∷ v ∷ ws) d some few = absurd (omega arith)
 
 -- the word at a place takes the terms inside it from the stack
@@ -99,34 +85,16 @@ word_built words i place d stack left new args top next within so_far taken rest
 
 -- ---- what is taken from a stack
 
-deep_inside : (d : ℕ) (t : Placed ℕ) (ts : List (Placed ℕ)) → nat_lt d t.0 ≡ true → inside d (t ∷ ts) ≡ t.1 ∷ inside d ts
-deep_inside d t ts deep = ap (λ (b : Bool). if b then t.1 ∷ inside d ts else []) deep
-
-deep_behind : (d : ℕ) (t : Placed ℕ) (ts : List (Placed ℕ)) → nat_lt d t.0 ≡ true → behind d (t ∷ ts) ≡ behind d ts
-deep_behind d t ts deep = ap (λ (b : Bool). if b then behind d ts else t ∷ ts) deep
-
-pub top_behind : {A : Type 0} (d : ℕ) (stack rest : List (PlacedTerm A)) (top : PlacedTerm A) → stack ≡ rest ++ top ∷ [] → is_deeper d (from_top stack) ≡ true → behind d (from_top stack) ≡ behind d (from_top rest)
-top_behind d stack rest top is deeper =
+pub top_taken : {A : Type 0} (d : ℕ) (stack rest : List (PlacedTerm A)) (top : PlacedTerm A) → stack ≡ rest ++ top ∷ [] → is_deeper d (from_top stack) ≡ true
+    → (inside d (from_top stack) ≡ argument top.term ∷ inside d (from_top rest)) × (behind d (from_top stack) ≡ behind d (from_top rest))
+top_taken d stack rest top is deeper =
     let first = top_first stack rest top is in
-    ap (behind d) first ∙ deep_behind d (placed top) (from_top rest) (ap (is_deeper d) (sym first) ∙ deeper)
+    let deep : ltb d top.depth ≡ true = ap (is_deeper d) (sym first) ∙ deeper in
+    rw (first, deep) (refl, refl)
 
-pub top_taken : {A : Type 0} (d : ℕ) (stack rest : List (PlacedTerm A)) (top : PlacedTerm A) (made grown : List (CodeTerm A)) (total : List (Term ℕ)) → stack ≡ rest ++ top ∷ [] → is_deeper d (from_top stack) ≡ true → grown ≡ made ++ top.term ∷ []
-    → map argument made ++ inside d (from_top stack) ≡ total → map argument grown ++ inside d (from_top rest) ≡ total
-top_taken d stack rest top made grown total is deeper grows so_far =
-    let first = top_first stack rest top is in
-    let here : inside d (from_top stack) ≡ argument top.term ∷ inside d (from_top rest) = ap (inside d) first ∙ deep_inside d (placed top) (from_top rest) (ap (is_deeper d) (sym first) ∙ deeper) in
-    ap (λ l. l ++ inside d (from_top rest)) (ap (map argument) grows ∙ map_push argument made top.term) ∙ append_assoc (map argument made) (argument top.term ∷ []) (inside d (from_top rest)) ∙ ap (λ l. map argument made ++ l) (sym here) ∙ so_far
-
-none_inside : (d : ℕ) (ts : List (Placed ℕ)) → is_deeper d ts ≡ false → inside d ts ≡ []
-none_inside d [] h = refl
-none_inside d (t ∷ ts) h = ap (λ (b : Bool). if b then t.1 ∷ inside d ts else []) h
-
-pub all_behind : (d : ℕ) (ts : List (Placed ℕ)) → is_deeper d ts ≡ false → behind d ts ≡ ts
-all_behind d [] h = refl
-all_behind d (t ∷ ts) h = ap (λ (b : Bool). if b then behind d ts else t ∷ ts) h
-
-pub all_taken : (d : ℕ) (ts : List (Placed ℕ)) (made total : List (Term ℕ)) → is_deeper d ts ≡ false → made ++ inside d ts ≡ total → made ≡ total
-all_taken d ts made total h so_far = sym (append-nil made) ∙ ap (λ l. made ++ l) (sym (none_inside d ts h)) ∙ so_far
+pub none_taken : (d : ℕ) (ts : List (Placed ℕ)) → is_deeper d ts ≡ false → (inside d ts ≡ []) × (behind d ts ≡ ts)
+none_taken d [] h = (refl, refl)
+none_taken d (t ∷ ts) h = (rw h refl, rw h refl)
 
 pub is_told : {A : Type 0} (d : ℕ) (stack now : List (PlacedTerm A)) (result b : Bool) → now ≡ stack → result ≡ is_deeper d (from_top now) → result ≡ b → is_deeper d (from_top stack) ≡ b
 is_told d stack now result b same told is = ap (λ s. is_deeper d (from_top s)) (sym same) ∙ sym told ∙ is

@@ -1,5 +1,5 @@
 -- Items that are read one after another, and texts.
-use Rattle.std.proofs.Common.{◌≡◌, ℕ, zero, Bool, true, false, cond, ltb, List, [], ◌∷◌, length, Result, Ok, Err, refl, ap, subst, ◌∙◌}
+use Rattle.std.proofs.Common.{◌≡◌, ◌↔◌, ℕ, zero, Bool, true, false, cond, ltb, List, [], ◌∷◌, length, Result, Ok, Err, refl, ap, subst, ◌∙◌}
 use Rattle.std.proofs.lemmas.Bool.{ltb-false, le-ltb}
 use Rattle.chr_lex.specs.declared.fault.Kind.{Kind}
 use Rattle.chr_lex.specs.declared.fault.ReadFault.{ReadFault}
@@ -43,25 +43,11 @@ is_item e ts h =
 pub item_read : (e : Item) (ts : List Lexeme) → IsItem e ts → item_lexemes e ≡ Ok ts
 item_read e ts is = rw (is.no_bad_byte, is.ended) (lexing.are_read false e.bytes ts is.tokens)
 
--- ---- items
+-- ---- items and texts
 
 on_line : {A B : Type 0} (line : ℕ) (r : Result A Kind) (f : A → Result B ReadFault) (y : B) → (at_line line r >>= f) ≡ Ok y → (x : A) × (r ≡ Ok x) × (f x ≡ Ok y)
 on_line line (Ok x) f y h = (x, refl, h)
 on_line line (Err k) f y h = absurd cc
-
-are_in_order : {A : Type 0} (f : A → Item → Result A Kind) (Step : A → Item → A → Type 0) → ((x : A) (e : Item) (y : A) → f x e ≡ Ok y → Step x e y)
-    → (x : A) (es : List Item) (y : A) → over_items f x es ≡ Ok y → InOrder Step x es y
-are_in_order f Step steps x [] y h = subst (InOrder Step x []) (ok_is x y h) (no_more x)
-are_in_order f Step steps x (e ∷ es) y h =
-    let n = on_line e.line (f x e) (λ next. over_items f next es) y h in
-    item x n.0 y e es (steps x e n.0 n.1) (are_in_order f Step steps n.0 es y n.2)
-
-read_in_order : {A : Type 0} (f : A → Item → Result A Kind) (Step : A → Item → A → Type 0) → ((x : A) (e : Item) (y : A) → Step x e y → f x e ≡ Ok y)
-    → (x : A) (es : List Item) (y : A) → InOrder Step x es y → over_items f x es ≡ Ok y
-read_in_order f Step steps _ _ _ (no_more x) = refl
-read_in_order f Step steps _ _ _ (item x next y e es s more) = rw (steps x e next s) (read_in_order f Step steps next es y more)
-
--- ---- texts
 
 pub has_items : (bytes : List ℕ) → HasItems bytes (items_of bytes)
 has_items bytes = record { out = plain_of bytes; replaced = is_plain bytes (plain_of bytes) refl; items = are_items 1 (plain_of bytes) (items_of bytes) refl }
@@ -69,20 +55,32 @@ has_items bytes = record { out = plain_of bytes; replaced = is_plain bytes (plai
 pub items_read : (bytes : List ℕ) (es : List Item) → HasItems bytes es → items_of bytes ≡ es
 items_read bytes es h = ap (items zero 1) (are_plain bytes h.out h.replaced) ∙ are_read 1 h.out es h.items
 
-pub is_text : {A : Type 0} (f : A → Item → Result A Kind) (Step : A → Item → A → Type 0) → ((x : A) (e : Item) (y : A) → f x e ≡ Ok y → Step x e y)
-    → (x : A) (bytes : List ℕ) (y : A) → of_text f x bytes ≡ Ok y → IsText Step x bytes y
-is_text f Step steps x bytes y h =
-    let p = passed (ltb 65536 (length bytes)) _ (over_items f x (items_of bytes)) y h in
-    record { short = ltb-false _ _ p.0; entries = items_of bytes; has = has_items bytes; in_order = are_in_order f Step steps x (items_of bytes) y p.1 }
+module _ {A : Type 0} (f : A → Item → Result A Kind) (Step : A → Item → A → Type 0) (steps : (x : A) (e : Item) (y : A) → f x e ≡ Ok y ↔ Step x e y) where
+  are_in_order : (x : A) (es : List Item) (y : A) → over_items f x es ≡ Ok y → InOrder Step x es y
+  are_in_order x [] y h = subst (InOrder Step x []) (ok_is x y h) (no_more x)
+  are_in_order x (e ∷ es) y h =
+      let n = on_line e.line (f x e) (λ next. over_items f next es) y h in
+      item x n.0 y e es ((steps x e n.0).0 n.1) (are_in_order n.0 es y n.2)
 
-pub text_read : {A : Type 0} (f : A → Item → Result A Kind) (Step : A → Item → A → Type 0) → ((x : A) (e : Item) (y : A) → Step x e y → f x e ≡ Ok y)
-    → (x : A) (bytes : List ℕ) (y : A) → IsText Step x bytes y → of_text f x bytes ≡ Ok y
-text_read f Step steps x bytes y is = rw (le-ltb _ _ is.short, items_read bytes is.entries is.has) (read_in_order f Step steps x is.entries y is.in_order)
+  read_in_order : (x : A) (es : List Item) (y : A) → InOrder Step x es y → over_items f x es ≡ Ok y
+  read_in_order _ _ _ (no_more x) = refl
+  read_in_order _ _ _ (item x next y e es s more) = rw ((steps x e next).1 s) (read_in_order next es y more)
 
-pub one_text : {A : Type 0} (f : A → Item → Result A Kind) (Step : A → Item → A → Type 0) → ((x : A) (e : Item) (y : A) → Step x e y → f x e ≡ Ok y)
-    → (x : A) (bytes : List ℕ) (y z : A) → IsText Step x bytes y → IsText Step x bytes z → y ≡ z
-one_text f Step steps x bytes y z a b = let h = text_read f Step steps x bytes y a in let k = text_read f Step steps x bytes z b in cc
+  pub is_text : (x : A) (bytes : List ℕ) (y : A) → of_text f x bytes ≡ Ok y → IsText Step x bytes y
+  is_text x bytes y h =
+      let p = passed (ltb 65536 (length bytes)) _ (over_items f x (items_of bytes)) y h in
+      record { short = ltb-false _ _ p.0; entries = items_of bytes; has = has_items bytes; in_order = are_in_order x (items_of bytes) y p.1 }
 
-pub no_text : {A : Type 0} (f : A → Item → Result A Kind) (Step : A → Item → A → Type 0) → ((x : A) (e : Item) (y : A) → Step x e y → f x e ≡ Ok y)
-    → (x : A) (bytes : List ℕ) (g : ReadFault) → of_text f x bytes ≡ Err g → (y : A) → IsText Step x bytes y → ⊥
-no_text f Step steps x bytes g h y is = let k = text_read f Step steps x bytes y is in cc
+  pub text_read : (x : A) (bytes : List ℕ) (y : A) → IsText Step x bytes y → of_text f x bytes ≡ Ok y
+  text_read x bytes y is = rw (le-ltb _ _ is.short, items_read bytes is.entries is.has) (read_in_order x is.entries y is.in_order)
+
+  pub one_text : (x : A) (bytes : List ℕ) (y z : A) → IsText Step x bytes y → IsText Step x bytes z → y ≡ z
+  one_text x bytes y z a b = let h = text_read x bytes y a in let k = text_read x bytes z b in cc
+
+  pub no_text : (x : A) (bytes : List ℕ) (g : ReadFault) → of_text f x bytes ≡ Err g → (y : A) → IsText Step x bytes y → ⊥
+  no_text x bytes g h y is = let k = text_read x bytes y is in cc
+
+-- what each item leaves so is so after all
+pub all_in_order : {A : Type 0} (Step : A → Item → A → Type 0) (P : A → Type 0) → ((x : A) (e : Item) (y : A) → Step x e y → P x → P y) → (x : A) (es : List Item) (y : A) → InOrder Step x es y → P x → P y
+all_in_order Step P h _ _ _ (no_more x) so = so
+all_in_order Step P h _ _ _ (item x next y e es s more) so = all_in_order Step P h next es y more (h x e next s so)

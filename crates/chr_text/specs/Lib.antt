@@ -6,6 +6,7 @@ pub mod Trees
 pub mod Translation
 pub mod Numbering
 pub mod Fitting
+pub mod Ways
 pub mod Reading
 pub mod Forms
 pub mod Faults

@@ -1,11 +1,9 @@
 //! Rules from what is written: names and variables get their numbers.
 ghost use Rattle.std.specs.Prelude.{◌≡◌, ◌≤◌, ◌∷◌, ℕ, List, [], length, IfOk, OnOk};
 ghost use Rattle.chr_lex.specs.Reading.{Gives};
-ghost use Rattle.chr_grammar.specs.Parsed as parsed;
 ghost use Rattle.chr_grammar.specs.Views as by_texts;
 ghost use Rattle.chr_limits.specs.Views.{names as texts};
 ghost use Rattle.chr_rule.specs.Parts.{argument, shape, expression, comparison, member as item_of};
-ghost use Rattle.chr_rule.specs.Rules as rules;
 ghost use Rattle.chr_rule.specs.Rules.{Operation};
 ghost use Rattle.chr_text.specs.Fitting.{TermFits, ShapeFits, ExpressionFits, TestFits, MemberFits, RuleFits};
 ghost use Rattle.chr_text.specs.Numbering as numbering;
@@ -14,8 +12,9 @@ ghost use Rattle.chr_text.specs.Translation as raw;
 ghost use Rattle.chr_text.specs.Translation.{given};
 ghost use Rattle.chr_text.specs.Variables.{in_turn};
 ghost use Rattle.chr_text.specs.Tables.{Table, Keeps};
+ghost use Rattle.chr_text.specs.Ways.{way};
 
-use crate::in_order::{Part, number_parts};
+use crate::in_order::{Made, Part, number_parts};
 use crate::naming::number_name;
 use crate::terms::number_term;
 use crate::variables::number_variable;
@@ -27,78 +26,25 @@ use chr_value::Names;
 use std::alloc::{AllocError, Allocator};
 
 impl<'a, A: Allocator + Copy> Part<Seen<'a>, Term<A>, A> for ParsedTerm<'a, A> {
-    ghost Said = { parsed.ParsedTerm };
-
-    ghost Raw = { rules.Term (List ℕ) };
-
-    ghost Made = { rules.Term ℕ };
-
     ghost before = { λ seen. texts seen.items };
 
-    ghost said = { by_texts.term };
+    ghost way = { way by_texts.term TermFits (given raw.argument) numbering.numbered_term argument };
 
-    ghost made = { argument };
-
-    ghost fits = { TermFits };
-
-    ghost raw = { given raw.argument };
-
-    ghost numbered = { numbering.numbered_term };
-
-    fn number(
-        &self,
-        alloc: A,
-        names: &mut Names<A>,
-        seen: &mut Seen<'a>,
-    ) -> Result<Option<Term<A>>, ItemError> {
+    fn number(&self, alloc: A, names: &mut Names<A>, seen: &mut Seen<'a>) -> Made<Term<A>> {
         Ok(Some(number_term(alloc, names, seen, self)?))
     }
 }
 
 /// A constraint of a rule: its name, then its arguments.
-fn number_phrase<'a, A: Allocator + Copy>(
-    alloc: A,
-    names: &mut Names<A>,
-    seen: &mut Seen<'a>,
-    phrase: &ParsedAtom<'a, A>,
-) -> Result<RuleAtom<A>, ItemError>
-    requires fits { ShapeFits (by_texts.phrase phrase.now) }
-    requires room { length (raw.rule_atom (texts seen.old.items) (by_texts.phrase phrase.now)).1 ≤ 24 }
-    ensures gives { Gives (λ p. (shape p, names.new)) result (or_full (numbering.numbered_rule_atom names.old (raw.rule_atom (texts seen.old.items) (by_texts.phrase phrase.now)).0)) }
-    ensures seen { OnOk result (texts seen.new.items ≡ (raw.rule_atom (texts seen.old.items) (by_texts.phrase phrase.now)).1) }
-    ensures keeps { (t : Table) → Keeps t names.old → Keeps t names.new }
-{
-    let name = number_name(names, phrase.name)?;
-    let terms = number_parts(alloc, names, seen, &phrase.args)?;
-    Ok(RuleAtom { name, terms })
-}
-
 impl<'a, A: Allocator + Copy> Part<Seen<'a>, RuleAtom<A>, A> for ParsedAtom<'a, A> {
-    ghost Said = { parsed.ParsedAtom };
-
-    ghost Raw = { rules.RuleAtom (List ℕ) };
-
-    ghost Made = { rules.RuleAtom ℕ };
-
     ghost before = { λ seen. texts seen.items };
 
-    ghost said = { by_texts.phrase };
+    ghost way = { way by_texts.phrase ShapeFits (given raw.rule_atom) numbering.numbered_rule_atom shape };
 
-    ghost made = { shape };
-
-    ghost fits = { ShapeFits };
-
-    ghost raw = { given raw.rule_atom };
-
-    ghost numbered = { numbering.numbered_rule_atom };
-
-    fn number(
-        &self,
-        alloc: A,
-        names: &mut Names<A>,
-        seen: &mut Seen<'a>,
-    ) -> Result<Option<RuleAtom<A>>, ItemError> {
-        Ok(Some(number_phrase(alloc, names, seen, self)?))
+    fn number(&self, alloc: A, names: &mut Names<A>, seen: &mut Seen<'a>) -> Made<RuleAtom<A>> {
+        let name = number_name(names, self.name)?;
+        let terms = number_parts(alloc, names, seen, &self.args)?;
+        Ok(Some(RuleAtom { name, terms }))
     }
 }
 
@@ -158,30 +104,11 @@ fn number_pair<'a, A: Allocator + Copy>(
 
 /// A comparison; nothing for `true`.
 impl<'a, A: Allocator + Copy> Part<Seen<'a>, Comparison<A>, A> for GuardMember<'a, A> {
-    ghost Said = { parsed.GuardMember };
-
-    ghost Raw = { rules.Comparison (List ℕ) };
-
-    ghost Made = { rules.Comparison ℕ };
-
     ghost before = { λ seen. texts seen.items };
 
-    ghost said = { by_texts.test };
+    ghost way = { way by_texts.test TestFits raw.test numbering.number_test comparison };
 
-    ghost made = { comparison };
-
-    ghost fits = { TestFits };
-
-    ghost raw = { raw.test };
-
-    ghost numbered = { numbering.number_test };
-
-    fn number(
-        &self,
-        alloc: A,
-        names: &mut Names<A>,
-        seen: &mut Seen<'a>,
-    ) -> Result<Option<Comparison<A>>, ItemError> {
+    fn number(&self, alloc: A, names: &mut Names<A>, seen: &mut Seen<'a>) -> Made<Comparison<A>> {
         match self {
             GuardMember::True => Ok(None),
             GuardMember::Compared(relation, left, right) => {
@@ -203,30 +130,11 @@ impl<'a, A: Allocator + Copy> Part<Seen<'a>, Comparison<A>, A> for GuardMember<'
 
 /// A member of the body; nothing for `true`.
 impl<'a, A: Allocator + Copy> Part<Seen<'a>, BodyItem<A>, A> for BodyMember<'a, A> {
-    ghost Said = { parsed.BodyMember };
-
-    ghost Raw = { rules.BodyItem (List ℕ) };
-
-    ghost Made = { rules.BodyItem ℕ };
-
     ghost before = { λ seen. texts seen.items };
 
-    ghost said = { by_texts.member };
+    ghost way = { way by_texts.member MemberFits raw.member numbering.number_member item_of };
 
-    ghost made = { item_of };
-
-    ghost fits = { MemberFits };
-
-    ghost raw = { raw.member };
-
-    ghost numbered = { numbering.number_member };
-
-    fn number(
-        &self,
-        alloc: A,
-        names: &mut Names<A>,
-        seen: &mut Seen<'a>,
-    ) -> Result<Option<BodyItem<A>>, ItemError> {
+    fn number(&self, alloc: A, names: &mut Names<A>, seen: &mut Seen<'a>) -> Made<BodyItem<A>> {
         match self {
             BodyMember::True => Ok(None),
             BodyMember::Is(name, tree) => {
@@ -235,7 +143,9 @@ impl<'a, A: Allocator + Copy> Part<Seen<'a>, BodyItem<A>, A> for BodyMember<'a, 
                 Ok(Some(BodyItem::Is(variable, expression)))
             }
             BodyMember::Add(phrase) => {
-                let pattern = number_phrase(alloc, names, seen, phrase)?;
+                let Some(pattern) = phrase.number(alloc, names, seen)? else {
+                    unreachable!();
+                };
                 Ok(Some(BodyItem::Add(pattern)))
             }
         }

@@ -1,5 +1,5 @@
 //! The parts of a rule as they are written, one after another: names and variables get their numbers.
-ghost use Rattle.std.specs.Prelude.{◌≡◌, ◌≤◌, ◌++◌, List, Option as Optional, length, map, OnOk};
+ghost use Rattle.std.specs.Prelude.{◌≡◌, ◌≤◌, ◌++◌, length, map, OnOk};
 ghost use Rattle.std.specs.List.{AllByRecursion};
 ghost use Rattle.std.specs.Option.{option_map};
 ghost use Rattle.chr_lex.specs.Reading.{Gives};
@@ -7,36 +7,26 @@ ghost use Rattle.chr_text.specs.Numbering.{or_full, each, maybe, put};
 ghost use Rattle.chr_text.specs.Translation.{somes};
 ghost use Rattle.chr_text.specs.Variables.{Seen, in_turn};
 ghost use Rattle.chr_text.specs.Tables.{Table, Keeps};
+ghost use Rattle.chr_text.specs.Ways.{Way};
 
 use chr_lex::fault::ItemError;
 use chr_value::Names;
 use std::alloc::{AllocError, Allocator};
 
+/// What a part stands for, which may be nothing.
+pub(crate) type Made<R> = Result<Option<R>, ItemError>;
+
 /// A part that stands for one of the rule, or for nothing.
 pub(crate) trait Part<S, R: Drop, A: Allocator + Copy> {
-    ghost Said: { Type 0 };
-
-    ghost Raw: { Type 0 };
-
-    ghost Made: { Type 0 };
-
     ghost before: { S → Seen };
 
-    ghost said: { Self → Said };
+    ghost way: { Way Self R };
 
-    ghost made: { R → Made };
-
-    ghost fits: { Said → Type 0 };
-
-    ghost raw: { Seen → Said → Optional Raw × Seen };
-
-    ghost numbered: { Table → Raw → Optional (Made × Table) };
-
-    fn number(&self, alloc: A, names: &mut Names<A>, seen: &mut S) -> Result<Option<R>, ItemError>
-        requires fits { fits (said self.now) }
-        requires room { length (raw (before seen.old) (said self.now)).1 ≤ 24 }
-        ensures gives { Gives (λ o. (option_map made o, names.new)) result (or_full (maybe numbered names.old (raw (before seen.old) (said self.now)).0)) }
-        ensures seen { OnOk result (before seen.new ≡ (raw (before seen.old) (said self.now)).1) }
+    fn number(&self, alloc: A, names: &mut Names<A>, seen: &mut S) -> Made<R>
+        requires fits { way.fits (way.said self.now) }
+        requires room { length (way.raw (before seen.old) (way.said self.now)).1 ≤ 24 }
+        ensures gives { Gives (λ o. (option_map way.made o, names.new)) result (or_full (maybe way.numbered names.old (way.raw (before seen.old) (way.said self.now)).0)) }
+        ensures seen { OnOk result (before seen.new ≡ (way.raw (before seen.old) (way.said self.now)).1) }
         ensures keeps { (t : Table) → Keeps t names.old → Keeps t names.new };
 }
 
@@ -56,11 +46,11 @@ pub(crate) fn number_parts<S, X: Part<S, R, A>, R: Drop, A: Allocator + Copy>(
     seen: &mut S,
     parts: &[X],
 ) -> Result<Vec<R, A>, ItemError>
-    requires grows { (before : Seen) (x : X.Said) → length before ≤ length (X.raw before x).1 }
-    requires fits { AllByRecursion X.fits (map X.said parts.now) }
-    requires room { length (in_turn X.raw (X.before seen.old) (map X.said parts.now)).1 ≤ 24 }
-    ensures gives { Gives (λ v. (map X.made v.items, names.new)) result (or_full (each X.numbered names.old (somes (in_turn X.raw (X.before seen.old) (map X.said parts.now)).0))) }
-    ensures seen { OnOk result (X.before seen.new ≡ (in_turn X.raw (X.before seen.old) (map X.said parts.now)).1) }
+    requires grows { (before : Seen) (x : X.way.Said) → length before ≤ length (X.way.raw before x).1 }
+    requires fits { AllByRecursion X.way.fits (map X.way.said parts.now) }
+    requires room { length (in_turn X.way.raw (X.before seen.old) (map X.way.said parts.now)).1 ≤ 24 }
+    ensures gives { Gives (λ v. (map X.way.made v.items, names.new)) result (or_full (each X.way.numbered names.old (somes (in_turn X.way.raw (X.before seen.old) (map X.way.said parts.now)).0))) }
+    ensures seen { OnOk result (X.before seen.new ≡ (in_turn X.way.raw (X.before seen.old) (map X.way.said parts.now)).1) }
     ensures keeps { (t : Table) → Keeps t names.old → Keeps t names.new }
 {
     let mut made = Vec::new(alloc);

@@ -1,9 +1,11 @@
+use Rattle.std.proofs.Common.{ap}
 use Rattle.std.proofs.lemmas.Result.{err_from_is_err_and}
 use Rattle.chr_grammar.specs.Views as by_texts
 use Rattle.chr_limits.specs.Views.{names as texts}
+use Rattle.chr_text.specs.Numbering.{or_full}
 use Rattle.chr_text.specs.Translation as raw
-use Rattle.chr_text.proofs.Growing.{first_room}
-use Rattle.chr_text.proofs.Steps.{first_fails, second_fails, pair_numbered}
+use Rattle.chr_text.proofs.Seen.{first_room}
+use Rattle.chr_text.proofs.Steps.{numbered_is, first_fails, second_fails, pair_numbered}
 use Rattle.chr_text.proofs.build.number_pair.Goals as goal
 
 pub number_term-requires-clause-fits : goal.number_term-requires-clause-fits
@@ -36,7 +38,7 @@ returns-in_err-right-clause-keeps g c = λ t h. c.in_err-right.ensures.keeps t (
 pub returns-clause-gives : goal.returns-clause-gives
 returns-clause-gives g c =
     let left = raw.argument (texts c.args.seen.now.items) (by_texts.term {Z = g.row.A.Denot} c.args.left.now) in
-    pair_numbered c.args.names.now c.number_term.new.names c.number_term-2.new.names left.0 (raw.argument left.1 (by_texts.term {Z = g.row.A.Denot} c.args.right.now)).0 _ _ c.in_ok-left.ensures.gives (rw (← c.in_ok-left.ensures.seen) c.in_ok-right.ensures.gives)
+    ap or_full (pair_numbered c.args.names.now c.number_term.new.names c.number_term-2.new.names left.0 (raw.argument left.1 (by_texts.term {Z = g.row.A.Denot} c.args.right.now)).0 _ _ (numbered_is _ _ c.in_ok-left.ensures.gives) (numbered_is _ _ (rw (← c.in_ok-left.ensures.seen) c.in_ok-right.ensures.gives)))
 
 pub returns-clause-seen : goal.returns-clause-seen
 returns-clause-seen g c = rw (← c.in_ok-left.ensures.seen) c.in_ok-right.ensures.seen

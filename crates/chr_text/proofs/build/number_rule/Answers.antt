@@ -2,11 +2,12 @@ use Rattle.std.proofs.Common.{map, ap}
 use Rattle.std.proofs.lemmas.Result.{err_from_is_err_and}
 use Rattle.chr_grammar.specs.Views as by_texts
 use Rattle.chr_limits.specs.Views.{names as texts}
+use Rattle.chr_limits.specs.Variables.{phrase_variables, test_variables, member_variables}
 use Rattle.chr_text.specs.Numbering.{or_full, numbered_rule_atom, number_test, number_member}
 use Rattle.chr_text.specs.Translation as raw
-use Rattle.chr_text.proofs.Growing.{shape_grows, test_grows, member_grows, kept_room, heads_room, guard_room}
+use Rattle.chr_text.proofs.Seen.{grows, shape_meets, test_meets, member_meets, kept_room, heads_room, guard_room}
 use Rattle.chr_text.proofs.Parts.{done, given_done, given_room, given_fails, room_as, kept_fails, removed_fails, guard_fails, body_fails, rule_done, rule_same, as_many}
-use Rattle.chr_text.proofs.Turns.{each_some}
+use Rattle.chr_text.proofs.Steps.{each_some}
 use Rattle.chr_text.proofs.build.number_rule.Goals as goal
 
 pub number_parts-requires-clause-room : goal.number_parts-requires-clause-room
@@ -92,13 +93,13 @@ pub returns-clause-keeps : goal.returns-clause-keeps
 returns-clause-keeps g c = λ t h. c.in_ok-body.ensures.keeps t (c.in_ok-guard.ensures.keeps t (c.in_ok-removed.ensures.keeps t (c.in_ok-kept.ensures.keeps t h)))
 
 pub number_parts-requires-clause-grows : goal.number_parts-requires-clause-grows
-number_parts-requires-clause-grows g c = shape_grows
+number_parts-requires-clause-grows g c = grows raw.rule_atom phrase_variables shape_meets
 
 pub number_parts-requires-2-clause-grows : goal.number_parts-requires-2-clause-grows
-number_parts-requires-2-clause-grows g c = shape_grows
+number_parts-requires-2-clause-grows g c = grows raw.rule_atom phrase_variables shape_meets
 
 pub number_parts-requires-3-clause-grows : goal.number_parts-requires-3-clause-grows
-number_parts-requires-3-clause-grows g c = test_grows
+number_parts-requires-3-clause-grows g c = grows raw.test test_variables test_meets
 
 pub number_parts-requires-4-clause-grows : goal.number_parts-requires-4-clause-grows
-number_parts-requires-4-clause-grows g c = member_grows
+number_parts-requires-4-clause-grows g c = grows raw.member member_variables member_meets

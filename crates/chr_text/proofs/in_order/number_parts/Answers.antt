@@ -1,22 +1,22 @@
-use Rattle.std.proofs.Common.{refl, ap, map}
+use Rattle.std.proofs.Common.{ap, map}
 use Rattle.std.proofs.lemmas.Result.{err_from_is_err_and}
 use Rattle.chr_text.proofs.Places.{map_from, map_end, all_from}
-use Rattle.chr_text.proofs.Turns.{turned_first, turned_room, some_turned_fails, some_turned_next, turned_done, turned_seen, each_some}
+use Rattle.chr_text.proofs.Steps.{turned_first, turn_room, turned_fails, turned_next, turned_last}
 use Rattle.chr_text.proofs.in_order.number_parts.Goals as goal
 
 pub loop-part-init : goal.loop-part-init
-loop-part-init g c = turned_first (each_some g.X.Part.numbered) g.X.Part.raw _ _ _ _ (ap (map g.X.Part.made) c.new-made.ensures.items)
+loop-part-init g c = turned_first g.X.Part.way.numbered g.X.Part.way.raw _ _ _ _ (ap (map g.X.Part.way.made) c.new-made.ensures.items)
 
 pub number-requires-clause-fits : goal.number-requires-clause-fits
-number-requires-clause-fits g c = all_from g.X.Part.fits g.X.Part.said c.args.parts.now c.loop-part.part-index c.part-item.result c.requires.fits c.loop-part-test.true c.part-item.is
+number-requires-clause-fits g c = all_from g.X.Part.way.fits g.X.Part.way.said c.args.parts.now c.loop-part.part-index c.part-item.result c.requires.fits c.loop-part-test.true c.part-item.is
 
 pub number-requires-clause-room : goal.number-requires-clause-room
-number-requires-clause-room g c = turned_room (each_some g.X.Part.numbered) g.X.Part.raw c.requires.grows (map_from g.X.Part.said c.args.parts.now c.loop-part.part-index c.part-item.result c.loop-part-test.true c.part-item.is) c.loop-part.invariant c.requires.room
+number-requires-clause-room g c = turn_room g.X.Part.way.raw c.requires.grows _ _ _ _ _ (map_from g.X.Part.way.said c.args.parts.now c.loop-part.part-index c.part-item.result c.loop-part-test.true c.part-item.is) c.loop-part.invariant.seen c.requires.room
 
 pub returns-in_err-one-clause-gives : goal.returns-in_err-one-clause-gives
 returns-in_err-one-clause-gives g c =
     let p = err_from_is_err_and c.from_residual.result c.from_residual.ensures.1 in
-    rw (p.1, p.2) (some_turned_fails g.X.Part.numbered g.X.Part.raw c.in_err-one.field-0.0 (map_from g.X.Part.said c.args.parts.now c.loop-part.part-index c.part-item.result c.loop-part-test.true c.part-item.is) c.in_err-one.ensures.gives c.loop-part.invariant)
+    rw (p.1, p.2) (turned_fails g.X.Part.way.numbered g.X.Part.way.raw c.in_err-one.field-0.0 (map_from g.X.Part.way.said c.args.parts.now c.loop-part.part-index c.part-item.result c.loop-part-test.true c.part-item.is) c.in_err-one.ensures.gives c.loop-part.invariant)
 
 pub returns-in_err-one-clause-keeps : goal.returns-in_err-one-clause-keeps
 returns-in_err-one-clause-keeps g c = λ t h. c.in_err-one.ensures.keeps t (c.loop-part.invariant.keeps t h)
@@ -25,13 +25,13 @@ pub returns-in_err-push_some-clause-keeps : goal.returns-in_err-push_some-clause
 returns-in_err-push_some-clause-keeps g c = λ t h. c.in_ok-one.ensures.keeps t (c.loop-part.invariant.keeps t h)
 
 pub loop-part-preserved : goal.loop-part-preserved
-loop-part-preserved g c = some_turned_next g.X.Part.made g.X.Part.numbered g.X.Part.raw c.loop-part.made.items c.in_ok-one.one (map_from g.X.Part.said c.args.parts.now c.loop-part.part-index c.part-item.result c.loop-part-test.true c.part-item.is) c.in_ok-push_some.ensures c.in_ok-one.ensures.gives c.in_ok-one.ensures.seen c.in_ok-one.ensures.keeps c.loop-part.invariant
+loop-part-preserved g c = turned_next g.X.Part.way.made g.X.Part.way.numbered g.X.Part.way.raw c.loop-part.made.items c.in_ok-one.one (map_from g.X.Part.way.said c.args.parts.now c.loop-part.part-index c.part-item.result c.loop-part-test.true c.part-item.is) c.in_ok-push_some.ensures c.in_ok-one.ensures.gives c.in_ok-one.ensures.seen c.in_ok-one.ensures.keeps c.loop-part.invariant
 
 pub returns-clause-gives : goal.returns-clause-gives
-returns-clause-gives g c = turned_done (each_some g.X.Part.numbered) g.X.Part.raw (λ t. refl) (map_end g.X.Part.said c.args.parts.now c.loop-part.part-index c.loop-part-test.false) c.loop-part.invariant
+returns-clause-gives g c = (turned_last g.X.Part.way.numbered g.X.Part.way.raw (map_end g.X.Part.way.said c.args.parts.now c.loop-part.part-index c.loop-part-test.false) c.loop-part.invariant).0
 
 pub returns-clause-seen : goal.returns-clause-seen
-returns-clause-seen g c = turned_seen (each_some g.X.Part.numbered) g.X.Part.raw (map_end g.X.Part.said c.args.parts.now c.loop-part.part-index c.loop-part-test.false) c.loop-part.invariant
+returns-clause-seen g c = (turned_last g.X.Part.way.numbered g.X.Part.way.raw (map_end g.X.Part.way.said c.args.parts.now c.loop-part.part-index c.loop-part-test.false) c.loop-part.invariant).1
 
 pub returns-clause-keeps : goal.returns-clause-keeps
 returns-clause-keeps g c = c.loop-part.invariant.keeps

@@ -1,4 +1,4 @@
-use Rattle.chr_text.proofs.PostFaults.{posts_faults}
+use Rattle.chr_text.proofs.ProgramFaults.{posts_faults}
 use Rattle.chr_text.proofs.laws.post_faults_by_their_forms.Goals as goal
 
 pub returns : goal.returns

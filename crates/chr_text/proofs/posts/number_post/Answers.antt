@@ -8,9 +8,8 @@ use Rattle.chr_text.specs.Fitting.{ValueFits}
 use Rattle.chr_text.specs.Numbering.{or_full}
 use Rattle.chr_text.specs.Translation.{value, atom_by_texts}
 use Rattle.chr_text.proofs.Places.{map_from, map_end, all_from}
-use Rattle.chr_text.proofs.Facts.{fact_fails, terms_fail}
-use Rattle.chr_text.proofs.Steps.{numbered_is}
-use Rattle.chr_text.proofs.Values.{value_within}
+use Rattle.chr_text.proofs.Steps.{numbered_is, fact_fails, terms_fail}
+use Rattle.chr_text.proofs.Writable.{value_within}
 use Rattle.chr_text.proofs.posts.number_post.Goals as goal
 
 pub returns-in_err-name-clause-gives : goal.returns-in_err-name-clause-gives

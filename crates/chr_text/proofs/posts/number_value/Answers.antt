@@ -2,7 +2,7 @@ use Rattle.std.proofs.Common.{ap}
 use Rattle.std.proofs.lemmas.Result.{err_from_is_err_and}
 use Rattle.chr_grammar.specs.Views as by_texts
 use Rattle.chr_limits.specs.Views.{names as texts}
-use Rattle.chr_text.proofs.Values.{value_room, value_fails, never_functor}
+use Rattle.chr_text.proofs.Writable.{value_room, value_fails, never_functor}
 use Rattle.chr_text.proofs.posts.number_value.Goals as goal
 
 pub number_term-requires-clause-room : goal.number_term-requires-clause-room

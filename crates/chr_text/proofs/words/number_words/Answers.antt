@@ -1,10 +1,11 @@
 use Rattle.chr_grammar.specs.Views.{node}
 use Rattle.chr_limits.specs.Views.{names as texts}
+use Rattle.chr_limits.specs.Variables.{word_variables}
 use Rattle.chr_text.specs.Fitting.{NodeFits}
 use Rattle.chr_text.specs.Translation as raw
-use Rattle.chr_text.proofs.Growing.{node_grows}
+use Rattle.chr_text.proofs.Seen.{grows, word_meets}
 use Rattle.chr_text.proofs.Places.{map_at, all_at}
-use Rattle.chr_text.proofs.Turns.{turn_room}
+use Rattle.chr_text.proofs.Steps.{turn_room}
 use Rattle.chr_text.proofs.words.number_words.Goals as goal
 
 pub number_word-requires-clause-fits : goal.number_word-requires-clause-fits
@@ -12,4 +13,4 @@ number_word-requires-clause-fits g c = all_at NodeFits node c.args.nodes.now c.l
 
 pub number_word-requires-clause-room : goal.number_word-requires-clause-room
 number_word-requires-clause-room g c =
-    turn_room raw.placed_word node_grows (texts c.loop-node.seen.items) _ _ _ _ (map_at node c.args.nodes.now c.loop-node.node-index _ c.loop-node-test.true) c.loop-node.invariant.seen c.requires.room
+    turn_room raw.placed_word (grows raw.placed_word (λ n. word_variables n.word) (λ m n. word_meets m n.word)) (texts c.loop-node.seen.items) _ _ _ _ (map_at node c.args.nodes.now c.loop-node.node-index _ c.loop-node-test.true) c.loop-node.invariant.seen c.requires.room
