@@ -1,5 +1,5 @@
 -- The trials after another, and whether a trial is the next one.
-use Rattle.std.proofs.Common.{◌≡◌, ◌≢◌, Decides, ℕ, ◌+◌, ◌<◌, ◌≤◌, Bool, true, false, ◌==◌, List, [], ◌∷◌, length, Some, refl, sym, ◌∙◌, ap, subst, arith, ⊎_elim, true≢false}
+use Rattle.std.proofs.Common.{◌≡◌, ◌≢◌, Decides, ℕ, ◌+◌, ◌<◌, ◌≤◌, Bool, true, false, ◌==◌, List, [], ◌∷◌, length, Some, refl, sym, ◌∙◌, ap, subst, arith, true≢false}
 use Rattle.std.specs.List.{AllByRecursion}
 use Rattle.std.proofs.lemmas.Bool.Decides.{nat_tests}
 use Rattle.chr_rule.specs.Scope.{IsRule}
@@ -11,7 +11,7 @@ use Rattle.chr_search.specs.Trials.{Space, join_in, IsTrial, IsNext}
 use Rattle.chr_search.specs.Verdicts.{Trial, position, IsFormed, IsTrialOf}
 use Rattle.chr_search.specs.Answers.{IsToldNext}
 use Rattle.chr_search.specs.Fronts.{ComeAfter}
-use Rattle.chr_search.proofs.Positions.{after, after_itself, after_cases, just_after_reaches, passed, passed_reaches}
+use Rattle.chr_search.proofs.Positions.{after, after_itself, just_after_reaches, passed, passed_reaches}
 use Rattle.chr_search.proofs.Plans.{planned_order}
 use Rattle.chr_search.proofs.Descents.{rule_scoped, rule_low, head_low}
 use Rattle.chr_search.proofs.Judging.{few_heads, labels_length}
@@ -22,31 +22,23 @@ use Rattle.chr_search.proofs.PassingOver.{made_of, position_made, trial_of_made}
 
 -- what a position begins is longer, if it comes after it
 longer : (p q : List ℕ) → begins p q ≡ true → at_or_after (just_after p) q ≡ true → length p < length q
-longer [] [] b h = absurd (let z : false ≡ true = h in cc)
 longer [] (y ∷ q) b h = omega arith
-longer (x ∷ p) [] b h = absurd (let z : false ≡ true = b in cc)
-longer (x ∷ p) (y ∷ q) b h =
-    let same : x ≡ y = grind (arith, nat_tests) in
-    let rest : begins p q ≡ true = grind (arith, nat_tests) in
-    let there : at_or_after (just_after p) q ≡ true = ⊎_elim (λ l. absurd (omega arith)) (λ l. l.1) (after_cases x y (just_after p) q h) in
-    let r = longer p q rest there in
-    omega arith
+longer (x ∷ p) (y ∷ q) b h = let r = longer p q in grind (arith, nat_tests)
+longer p q b h = absurd (cc)
 
 -- a trial has as many labels as its rule has heads, at most
 pub many_numbers : (s : Space) → ArePlans s.rules s.plans → (t : List ℕ) (i : IsTrial s t) → length t ≤ length (heads_of (branch s t i).rule) + 2
 many_numbers s ps t i =
     let b = branch s t i in
-    let count : length b.labels ≤ length b.order = grows_count (join_in s b.rule b.order) [] b.labels b.grows (omega arith) in
-    let same : length b.order ≡ length (heads_of b.rule) = (planned_order s.rules s.plans ps b.r b.h b.rule b.order b.planned.rule_is b.planned.order_is).count in
-    subst (λ (z : List ℕ). length z ≤ length (heads_of b.rule) + 2) (sym b.is) (omega arith)
+    let count = grows_count (join_in s b.rule b.order) [] b.labels b.grows (omega arith) in
+    let same = (planned_order s.rules s.plans ps b.r b.h b.rule b.order b.planned.rule_is b.planned.order_is).count in
+    omega (arith, count, same, ap length b.is)
 
 -- and so six
 few_numbers : (s : Space) → ArePlans s.rules s.plans → AllByRecursion IsRule s.rules → (t : List ℕ) → IsTrial s t → length t ≤ 8
 few_numbers s ps all t i =
     let b = branch s t i in
-    let many = many_numbers s ps t i in
-    let few : length (heads_of b.rule) ≤ 6 = few_heads b.rule (rule_scoped s.rules all b.r b.rule b.planned.rule_is) in
-    omega arith
+    omega (arith, many_numbers s ps t i, few_heads b.rule (rule_scoped s.rules all b.r b.rule b.planned.rule_is))
 
 -- where a position begins no longer trial, the first one after it is past all that it begins
 past_after : (p q : List ℕ) → p ≢ [] → at_or_after (past p) q ≡ true → at_or_after (just_after p) q ≡ true
@@ -54,11 +46,7 @@ past_after p q ne h =
     after p q (passed_reaches p q h) (λ e. true≢false (sym h ∙ ap (at_or_after (past p)) (sym e) ∙ (moves_past p p ne (after_itself p)).1))
 
 after_past : (p q : List ℕ) → (begins p q ≡ true → length q ≤ length p) → at_or_after (just_after p) q ≡ true → at_or_after (past p) q ≡ true
-after_past p q short h = passed p q (just_after_reaches p q h) (no (begins p q) refl)
-  where
-    no : (b : Bool) → begins p q ≡ b → b ≡ false
-    no false e = refl
-    no true e = let more : length p < length q = longer p q e h in let few : length q ≤ length p = short e in absurd (omega arith)
+after_past p q short h = passed p q (just_after_reaches p q h) (let more : begins p q ≡ true → length p < length q = λ b. longer p q b h in grind arith)
 
 pub come_after : (s : Space) (p : List ℕ) → p ≢ [] → ((q : List ℕ) → IsTrial s q → begins p q ≡ true → length q ≤ length p) → ComeAfter s (past p) p
 come_after s p ne short q i = (past_after p q ne, after_past p q (short q i))
@@ -84,7 +72,7 @@ pub record Other (s : Space) (p : List ℕ) : Type 0 where
 next_made : (s : Space) (store : LabelledStore) → ArePlans s.rules s.plans → AllByRecursion IsRule s.rules → store.entries ≡ s.store → IsLabelled store → (p : List ℕ) → IsTrial s p → Other s p
 next_made s store ps all st w p i =
     let b = branch s p i in
-    let m = made_of s b.rule b.order b.r b.h (record { planned = b.planned; plans = ps; store = store; entries = st; labelled = w; scoped = rule_scoped s.rules all b.r b.rule b.planned.rule_is; number = rule_low s.rules b.r b.rule b.planned.rule_is; head = head_low s.plans b.r b.h b.order b.planned.order_is }) b.labels b.some b.grows in
+    let m = made_of s b.rule b.order b.r b.h (record { planned = b.planned; plans = ps; store = store; entries = st; labelled = w; scoped = rule_scoped s.rules all b.r b.rule b.planned.rule_is; number = (rule_low s.rules b.r b.rule b.planned.rule_is).0; head = head_low s.plans b.r b.h b.order b.planned.order_is }) b.labels b.some b.grows in
     record {
       trial = m.trial;
       formed = m.is.formed;

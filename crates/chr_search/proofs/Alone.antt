@@ -1,5 +1,5 @@
 -- Trials of the active label alone.
-use Rattle.std.proofs.Common.{◌≡◌, ℕ, ◌+◌, ◌<◌, ◌≤◌, true, List, [], ◌∷◌, map, take, length, Some, slice_get, refl, sym, ◌∙◌, ap, subst, arith, inl, inr, ⊎_elim}
+use Rattle.std.proofs.Common.{◌≡◌, ℕ, ◌+◌, ◌<◌, true, List, [], ◌∷◌, map, take, length, Some, slice_get, refl, sym, ◌∙◌, ap, subst, arith, ap₂}
 use Rattle.std.specs.List.{AllByRecursion}
 use Rattle.std.proofs.lemmas.Bool.Decides.{nat_tests}
 use Rattle.chr_value.specs.Atoms.{Atom}
@@ -11,58 +11,35 @@ use Rattle.chr_model.specs.Stores.{atom_at}
 use Rattle.chr_plan.specs.Plans.{ArePlans}
 use Rattle.chr_plan.specs.declared.order.Step.{Step}
 use Rattle.chr_search.specs.Positions.{at_or_after, past}
-use Rattle.chr_search.specs.Tree.{Beyond}
 use Rattle.chr_search.specs.Trials.{Space, join_in, Child, IsTrial, IsNext, NoneLeft}
 use Rattle.chr_search.specs.Verdicts.{Placed, Trial, position, IsTrialOf}
 use Rattle.chr_search.specs.Fronts.{trial_alone}
 use Rattle.chr_search.specs.PlanByPlan.{HasComeTo, IsActive}
-use Rattle.chr_search.proofs.Positions.{after_first, after_under, after_cases}
 use Rattle.chr_search.proofs.Plans.{heads_in, planned}
 use Rattle.chr_search.proofs.Tree.{least_same}
 use Rattle.chr_search.proofs.Asking.{begins_by}
 use Rattle.chr_search.proofs.Making.{next_trial}
-use Rattle.chr_search.proofs.Descents.{trial_of}
+use Rattle.chr_search.proofs.Descents.{each_trial, is_first, none_left, trial_of}
 use Rattle.chr_search.proofs.Occurring.{order_in, trial_occurs, plan_there}
 
 -- the trials at or after a label past the active one are those of later heads and rules
-later : (s : Space) (r h l x y : ℕ) (ls ms : List ℕ) → s.active < l → IsTrial s (x ∷ y ∷ ms) → at_or_after (r ∷ h ∷ l ∷ ls) (x ∷ y ∷ ms) ≡ true → AtOrAfter r (h + 1) x y
-later s r h l x y ls [] past i e = absurd (let d : 3 ≤ length (x ∷ y ∷ []) = i.deep in omega arith)
-later s r h l x y ls (m ∷ ms) past i e =
-    let first : m ≡ s.active = i.grows.1.1.0.3.turn in
-    ⊎_elim (λ less. inl less)
-    (λ same. inr (
-      same.0,
-      ⊎_elim (λ less. let low : h < y = less in omega arith)
-          (λ twice. absurd (⊎_elim (λ less. let low : l < m = less in omega arith) (λ is. let z : l ≡ m = is.0 in omega arith) (after_cases l m ls ms twice.1)))
-          (after_cases h y (l ∷ ls) (m ∷ ms) same.1),
-    ))
-    (after_cases r x (h ∷ l ∷ ls) (y ∷ m ∷ ms) e)
+later : (s : Space) (r h l x y m : ℕ) (ls ms : List ℕ) → s.active < l → m ≡ s.active → at_or_after (r ∷ h ∷ l ∷ ls) (x ∷ y ∷ m ∷ ms) ≡ true → AtOrAfter r (h + 1) x y
+later s r h l x y m ls ms past first e = grind (arith, nat_tests)
 
 -- a search at such a label has come to the next head
 pub come_past_active : (s : Space) (r h l : ℕ) (ls : List ℕ) → s.active < l → HasComeTo s (r ∷ h ∷ l ∷ ls) r (h + 1)
-come_past_active s r h l ls past = record { later = after_under r (h ∷ []) ((h + 1) ∷ []) (after_first h (h + 1) [] [] (omega arith)); none = none }
-  where
-    none : (t : List ℕ) → IsTrial s t → at_or_after (r ∷ h ∷ l ∷ ls) t ≡ true → at_or_after (r ∷ (h + 1) ∷ []) t ≡ true
-    none [] i e = absurd (let d : 3 ≤ length {A = ℕ} [] = i.deep in omega arith)
-    none (x ∷ []) i e = absurd (let d : 3 ≤ length (x ∷ []) = i.deep in omega arith)
-    none (x ∷ y ∷ ms) i e = order_in r (h + 1) x y ms (later s r h l x y ls ms past i e)
+come_past_active s r h l ls past = record {
+  later = grind (arith, nat_tests);
+  none = each_trial s (λ t. at_or_after (r ∷ h ∷ l ∷ ls) t ≡ true → at_or_after (r ∷ (h + 1) ∷ []) t ≡ true) (λ x y m ms i first e. order_in r (h + 1) x y (m ∷ ms) (later s r h l x y m ls ms past first e));
+}
 
 -- and the other way round
 past_alone : (r h x y a : ℕ) (ls : List ℕ) → AtOrAfter r (h + 1) x y → at_or_after (past (r ∷ h ∷ a ∷ [])) (x ∷ y ∷ ls) ≡ true
-past_alone r h x y a ls o =
-    ⊎_elim (λ less. after_first r x (h ∷ (a + 1) ∷ []) (y ∷ ls) less)
-    (λ same. subst (λ z. at_or_after (r ∷ h ∷ (a + 1) ∷ []) (z ∷ y ∷ ls) ≡ true) same.0 (after_under r (h ∷ (a + 1) ∷ []) (y ∷ ls) (after_first h y ((a + 1) ∷ []) ls (let low : h + 1 ≤ y = same.1 in omega arith)))) o
+past_alone r h x y a ls o = grind (arith, nat_tests)
 
 -- the trial of the active label alone is the first one of its head
-first_at : (s : Space) (x y b c : ℕ) (ls : List ℕ) → IsTrial s (b ∷ c ∷ ls) → AtOrAfter x y b c → at_or_after (x ∷ y ∷ s.active ∷ []) (b ∷ c ∷ ls) ≡ true
-first_at s x y b c [] i o = absurd (let d : 3 ≤ length (b ∷ c ∷ []) = i.deep in omega arith)
-first_at s x y b c (l ∷ ls) i o =
-    let first : l ≡ s.active = i.grows.1.1.0.3.turn in
-    ⊎_elim (λ less. after_first x b (y ∷ s.active ∷ []) (c ∷ l ∷ ls) less)
-    (λ same. subst (λ z. at_or_after (x ∷ y ∷ s.active ∷ []) (z ∷ c ∷ l ∷ ls) ≡ true) same.0 (after_under x (y ∷ s.active ∷ []) (c ∷ l ∷ ls) (from first same.1))) o
-  where
-    from : l ≡ s.active → y ≤ c → at_or_after (y ∷ s.active ∷ []) (c ∷ l ∷ ls) ≡ true
-    from e low = grind (arith, nat_tests)
+first_at : (s : Space) (x y b c l : ℕ) (ls : List ℕ) → l ≡ s.active → AtOrAfter x y b c → at_or_after (x ∷ y ∷ s.active ∷ []) (b ∷ c ∷ l ∷ ls) ≡ true
+first_at s x y b c l ls first o = grind (arith, nat_tests)
 
 -- the active label alone is a trial at each head with its atom's predicate
 alone_there : (s : Space) (p : Pred) → IsActive s p → ArePlans s.rules s.plans → (r h : ℕ) → IsOccurrence s.rules p r h → IsTrial s (r ∷ h ∷ s.active ∷ [])
@@ -76,27 +53,18 @@ alone_there s p a ps r h o =
 pub alone_next : (s : Space) (atom : Atom ℕ) (pred : Pred) (r h x y : ℕ) → ArePlans s.rules s.plans → atom_at s.store s.active ≡ Some atom → pred.name.number ≡ atom.name → pred.arity ≡ length atom.args → IsNextOccurrence s.rules pred r (h + 1) (x, y) → IsNext s (past (r ∷ h ∷ s.active ∷ [])) (x ∷ y ∷ s.active ∷ [])
 alone_next s atom pred r h x y ps live name arity o =
     let active : IsActive s pred = record { atom = atom; live = live; name = name; arity = arity } in
-    let i = alone_there s pred active ps x y o.occurs in
-    record {
-      more = x ∷ y ∷ s.active ∷ [];
-      is = refl;
-      beyond = record { grows = i.grows; deep = i.deep; there = past_alone r h x y s.active (s.active ∷ []) o.after };
-      least = least active;
-    }
-  where
-    least : IsActive s pred → (other : List ℕ) → Beyond (Child s) 3 [] (past (r ∷ h ∷ s.active ∷ [])) other → at_or_after (x ∷ y ∷ s.active ∷ []) other ≡ true
-    least active [] b = absurd (let d : 3 ≤ length {A = ℕ} [] = b.deep in omega arith)
-    least active (c ∷ []) b = absurd (let d : 3 ≤ length (c ∷ []) = b.deep in omega arith)
-    least active (c ∷ d ∷ ls) b =
-        let i : IsTrial s (c ∷ d ∷ ls) = record { grows = b.grows; deep = b.deep } in
-        first_at s x y c d ls i (o.least c d (later s r h (s.active + 1) c d [] ls (omega arith) i b.there) (trial_occurs s pred active ps c d ls i))
+    let place = past (r ∷ h ∷ s.active ∷ []) in
+    (is_first s place (x ∷ y ∷ s.active ∷ [])).1 (record {
+      trial = alone_there s pred active ps x y o.occurs;
+      there = past_alone r h x y s.active (s.active ∷ []) o.after;
+      first = each_trial s (λ t. at_or_after place t ≡ true → at_or_after (x ∷ y ∷ s.active ∷ []) t ≡ true) (λ c d l ls i first e. first_at s x y c d l ls first (o.least c d (later s r h (s.active + 1) c d l [] ls (omega arith) first e) (trial_occurs s pred active ps c d (l ∷ ls) i)));
+    })
 
 pub alone_none : (s : Space) (atom : Atom ℕ) (pred : Pred) (r h : ℕ) → ArePlans s.rules s.plans → atom_at s.store s.active ≡ Some atom → pred.name.number ≡ atom.name → pred.arity ≡ length atom.args → NoneFrom s.rules pred r (h + 1) → NoneLeft s (past (r ∷ h ∷ s.active ∷ []))
-alone_none s atom pred r h ps live name arity n [] b = let d : 3 ≤ length {A = ℕ} [] = b.deep in absurd (omega arith)
-alone_none s atom pred r h ps live name arity n (x ∷ []) b = let d : 3 ≤ length (x ∷ []) = b.deep in absurd (omega arith)
-alone_none s atom pred r h ps live name arity n (x ∷ y ∷ ls) b =
-    let i : IsTrial s (x ∷ y ∷ ls) = record { grows = b.grows; deep = b.deep } in
-    n x y (later s r h (s.active + 1) x y [] ls (omega arith) i b.there) (trial_occurs s pred (record { atom = atom; live = live; name = name; arity = arity }) ps x y ls i)
+alone_none s atom pred r h ps live name arity n =
+    let active : IsActive s pred = record { atom = atom; live = live; name = name; arity = arity } in
+    let place = past (r ∷ h ∷ s.active ∷ []) in
+    (none_left s place).1 (each_trial s (λ t. at_or_after place t ≡ true → ⊥) (λ x y l ls i first e. n x y (later s r h (s.active + 1) x y l [] ls (omega arith) first e) (trial_occurs s pred active ps x y (l ∷ ls) i)))
 
 -- the trial of a position of the active label alone
 pub alone_trial : (s : Space) (rule : Simpagation ℕ) (r h : ℕ) (atom : Atom ℕ) → ArePlans s.rules s.plans → IsTrial s (r ∷ h ∷ s.active ∷ []) → rule_at s.rules r ≡ Some rule → atom_at s.store s.active ≡ Some atom → IsTrialOf s.rules s.plans s.store (trial_alone rule r (record { head = h; label = s.active; atom = atom }))
@@ -107,9 +75,8 @@ alone_trial s rule r h atom ps i is live =
 
 -- there is no other
 one_placed : (ps : List Placed) (l : ℕ) → map (λ (p : Placed). p.label) ps ≡ l ∷ [] → (p : Placed) × (ps ≡ p ∷ []) × (p.label ≡ l)
-one_placed [] l e = absurd (cc)
 one_placed (p ∷ []) l e = (p, refl, cc)
-one_placed (p ∷ q ∷ ps) l e = absurd (cc)
+one_placed ps l e = absurd (cc)
 
 pub alone_is : (s : Space) (t : Trial) (r h : ℕ) (atom : Atom ℕ) → ArePlans s.rules s.plans → IsTrialOf s.rules s.plans s.store t → position t ≡ r ∷ h ∷ s.active ∷ [] → atom_at s.store s.active ≡ Some atom → t ≡ trial_alone t.rule r (record { head = h; label = s.active; atom = atom })
 alone_is s t r h atom ps i is live =
@@ -123,21 +90,17 @@ alone_is s t r h atom ps i is live =
     let there : atom_at s.store p.label ≡ Some p.atom = (subst (AllByRecursion (λ (x : Placed). atom_at s.store x.label ≡ Some x.atom)) one.1 i.live).0 in
     let same : p.atom ≡ atom = some_is p.atom atom (sym there ∙ ap (atom_at s.store) one.2 ∙ live) in
     let placed : p ≡ record { head = h; label = s.active; atom = atom } = placed_is p h s.active atom stands one.2 same in
-    ap (λ n. record t { number = n }) number
-    ∙ ap (λ k. record t { number = r; head = k }) head
-    ∙ ap (λ (xs : List Placed). record { rule = t.rule; number = r; head = h; placed = xs }) (one.1 ∙ ap (λ x. x ∷ []) placed)
+    ap₂ (λ n k. record t { number = n; head = k }) number head ∙ ap (λ (xs : List Placed). record { rule = t.rule; number = r; head = h; placed = xs }) (one.1 ∙ ap (λ x. x ∷ []) placed)
   where
     placed_is : (p : Placed) (h l : ℕ) (a : Atom ℕ) → p.head ≡ h → p.label ≡ l → p.atom ≡ a → p ≡ record { head = h; label = l; atom = a }
     placed_is p h l a e f g = ap (λ k. record p { head = k }) e ∙ ap (λ k. record p { head = h; label = k }) f ∙ ap (λ b. record { head = h; label = l; atom = b }) g
 
 -- where the next trial has one label, that is the active one
 pub alone_found : (s : Space) (place p : List ℕ) (r h : ℕ) (ls : List ℕ) → r ∷ h ∷ ls ≡ p → IsNext s place p → length ls ≡ 1 → IsNext s place (r ∷ h ∷ s.active ∷ [])
-alone_found s place p r h [] e n one = absurd (omega arith)
 alone_found s place p r h (l ∷ []) e n one =
-    let i = next_trial s place (r ∷ h ∷ l ∷ []) (subst (IsNext s place) (sym e) n) in
-    let first : l ≡ s.active = i.grows.1.1.0.3.turn in
-    subst (λ x. IsNext s place (r ∷ h ∷ x ∷ [])) first (subst (IsNext s place) (sym e) n)
-alone_found s place p r h (l ∷ k ∷ ls) e n one = absurd (omega arith)
+    let next = subst (IsNext s place) (sym e) n in
+    subst (λ x. IsNext s place (r ∷ h ∷ x ∷ [])) (next_trial s place (r ∷ h ∷ l ∷ []) next).grows.1.1.0.3.turn next
+alone_found s place p r h ls e n one = absurd (omega arith)
 
 pub not_alone : (s : Space) (place p : List ℕ) (r h : ℕ) (ls : List ℕ) → r ∷ h ∷ ls ≡ p → IsNext s place p → (length ls ≡ 1 → ⊥) → (x y : ℕ) → IsNext s place (x ∷ y ∷ s.active ∷ []) → ⊥
 not_alone s place p r h ls e n more x y m =

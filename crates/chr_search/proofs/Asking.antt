@@ -1,12 +1,11 @@
 -- What is asked of a store for the next partner, and what its answer says.
-use Rattle.std.proofs.Common.{◌≡◌, ◌↔◌, ℕ, zero, suc, ◌+◌, ◌-◌, ◌<◌, ◌≤◌, Bool, true, false, IsTrue, ltb, ◌&&◌, ◌||◌, ◌==◌, take, List, [], ◌∷◌, ◌++◌, length, replicate, Option, Some, None, IfSome, slice_get, refl, sym, ◌∙◌, ap, ap₂, subst, arith, length-append}
+use Rattle.chr_search.specs.Passing.{IsNarrowedIf}
+use Rattle.std.proofs.Common.{◌≡◌, ◌↔◌, ℕ, zero, suc, ◌-◌, ◌<◌, ◌≤◌, Bool, true, false, IsTrue, ltb, ◌&&◌, ◌||◌, ◌==◌, take, List, [], ◌∷◌, ◌++◌, length, replicate, Option, Some, None, slice_get, refl, sym, ◌∙◌, ap, ap₂, subst, arith, length-append}
 use Rattle.std.specs.List.{list_any}
 use Rattle.std.specs.Option.{option_map}
 use Rattle.std.proofs.lemmas.Bool.Decides.{nat_tests}
 use Rattle.std.proofs.lemmas.Option.{slice_get_within, slice_get_past, slice_get-map}
-use Rattle.std.proofs.Math.Seq.{take-append_seam}
 use Rattle.chr_value.specs.Atoms.{Value, Atom}
-use Rattle.chr_value.specs.Stores.{Store}
 use Rattle.chr_value.specs.declared.atom.Pred.{Pred}
 use Rattle.chr_value.proofs.Chosen.{some_is}
 use Rattle.chr_rule.specs.Parts.{argument, shape}
@@ -14,19 +13,21 @@ use Rattle.chr_rule.specs.Rules.{RuleAtom, head_at}
 use Rattle.chr_rule.specs.declared.rule_atom.RuleAtom.{RuleAtom as CodeRuleAtom}
 use Rattle.chr_rule.specs.declared.term.Term.{Term as CodeTerm}
 use Rattle.chr_guard.specs.Values.{Valuation}
-use Rattle.chr_guard.specs.Bindings.{bound_at, Extends}
+use Rattle.chr_guard.specs.Bindings.{bound_at, Extends, NarrowsIf}
 use Rattle.chr_guard.specs.Instances.{atom_under}
 use Rattle.chr_guard.proofs.Bindings.{free_extends}
 use Rattle.chr_model.specs.Stores.{atom_at, among}
 use Rattle.chr_plan.specs.Orders.{heads_of}
 use Rattle.chr_plan.specs.declared.order.Step.{Step}
 use Rattle.chr_store.specs.Labels.{GivenBefore}
-use Rattle.chr_search.specs.Trials.{Join, StandsAt, HasHeadPred, MayFollow}
+use Rattle.chr_search.specs.Trials.{Join, StandsAt, HasHeadPred, MayFollow, IsInTurn}
 use Rattle.chr_search.specs.declared.join.Asked.{Asked}
 use Rattle.chr_search.specs.Partners.{HasPlan, IsReady, key_value, keyed_at, KeyIs, key_in, IsAskedFor}
 use Rattle.chr_search.proofs.Plans.{order_of_plan, step_keyed}
-use Rattle.chr_search.proofs.Following.{follows_live}
-use Rattle.chr_search.proofs.Partners.{IsAsked}
+use Rattle.chr_search.proofs.Following.{follows_live, follows_at}
+use Rattle.chr_search.proofs.Partners.{IsAsked, fit_last, ready_more, no_fit}
+use Rattle.chr_search.proofs.Making.{label_bounds}
+use Rattle.std.proofs.lemmas.List.{length-replicate, take_at}
 
 pub any_among : (ls : List ℕ) (l : ℕ) → list_any (λ y. y == l) ls ≡ among ls l
 any_among [] l = refl
@@ -49,35 +50,16 @@ pub free_ready : (j : Join) (n : ℕ) (binding : List (Option (Value ℕ))) → 
 free_ready j n binding e f = record {
   distinct = tt;
   fit = record {
-    places = ap length f ∙ length_replicate n ∙ e;
+    places = ap length f ∙ length-replicate n None ∙ e;
     exactly = λ v. (λ x. tt, λ x. subst (Extends v) (sym f) (free_extends v n));
   };
 }
-  where
-    length_replicate : (k : ℕ) → length (replicate {A = Option (Value ℕ)} k None) ≡ k
-    length_replicate zero = refl
-    length_replicate (suc k) = let r = length_replicate k in omega arith
 
 -- there is room for a label that may follow
-pub room_at : (j : Join) → HasPlan j → (labels : List ℕ) (step : Step) → slice_get j.order (length labels) ≡ Some step → length labels < 6
-room_at j p labels step at =
-    let less : length labels < length j.order = slice_get_within j.order (length labels) step at in
-    let o = order_of_plan (heads_of j.rule) p.head j.order p.from p.to p.plan in
-    let count : length j.order ≡ length (heads_of j.rule) = o.count in
-    let few : length j.rule.kept + length j.rule.removed ≤ 6 = p.scoped.limits.heads in
-    omega (arith, length-append j.rule.kept j.rule.removed)
-
 pub room : (j : Join) → HasPlan j → (labels : List ℕ) (x : ℕ) → MayFollow j labels x → length labels < 6
-room j p labels x m = room_at j p labels m.step m.step_is
-
--- labels are numbered from 1
-pub label_low : (next : ℕ) (es : Store) → GivenBefore next es → (l : ℕ) (a : Atom ℕ) → atom_at es l ≡ Some a → 1 ≤ l
-label_low next [] g l a e = absurd (let z : None ≡ Some a = e in cc)
-label_low next (x ∷ es) g l a e =
-    elim (x.0 == l) as (λ b. (x.0 == l ≡ b) → 1 ≤ l) [
-      | true ↦ λ b. (let low : 1 ≤ x.0 = g.0.0 in let same : x.0 ≡ l = grind (arith, nat_tests) in omega arith)
-      | false ↦ λ b. label_low next es g.1 l a (sym (grind (arith, nat_tests)) ∙ e)
-    ] refl
+room j p labels x m =
+    let count = (order_of_plan (heads_of j.rule) p.head j.order p.from p.to p.plan).count in
+    omega (arith, slice_get_within j.order (length labels) m.step m.step_is, count, p.scoped.limits.heads, length-append j.rule.kept j.rule.removed)
 
 -- the next head, and what it has at the key's place
 pub record IsKeyed (j : Join) (labels : List ℕ) (binding : List (Option (Value ℕ))) (step : Step) (head : RuleAtom ℕ) (place : ℕ) : Type 0 where
@@ -120,12 +102,8 @@ asked j labels binding from a key after next some r f k e g = record {
   key = subst (KeyIs (bound_at binding) f.head f.step.key) (sym k) f.key;
   over = λ l low. (λ le. omega arith, λ lt. omega arith);
   under = refl;
-  labelled = λ l a there. label_low next j.store g l a there;
+  labelled = λ l a there. (label_bounds next j.store g l a there).0;
 }
-
-pub where_some : {A : Type 0} {P Q : A → Type 0} (o : Option A) → IfSome o P → ((x : A) → P x → Q x) → IfSome o Q
-where_some None p f = tt
-where_some (Some x) p f = f x p
 
 -- the active label may begin
 pub begins_by : (j : Join) (h : ℕ) (head : RuleAtom ℕ) (atom : Atom ℕ) → slice_get j.order 0 ≡ Some (record { head = h; key = None }) → head_at j.rule h ≡ Some head → atom_at j.store j.active ≡ Some atom → HasHeadPred head atom → MayFollow j [] j.active
@@ -145,20 +123,17 @@ begins_pred j step head atom at is live m =
     subst (λ x. HasHeadPred x atom) h (subst (λ x. HasHeadPred m.head x) a m.pred)
 
 -- comparing predicates
-both_equal : (told : Bool) (a b c d : ℕ) → told ≡ ((a == b) && (c == d)) → IsTrue told ↔ ((a ≡ b) × (c ≡ d))
-both_equal told a b c d e = (
-  λ t. (let one : ((a == b) && (c == d)) ≡ true = sym e ∙ t in (grind (arith, nat_tests), grind (arith, nat_tests))),
-  λ h. e ∙ (let x : a ≡ b = h.0 in let y : c ≡ d = h.1 in grind (arith, nat_tests)),
-)
-
 pub pred_decides : (told : Bool) (p q : Pred) (head : RuleAtom ℕ) (atom : Atom ℕ) → told ≡ ((p.name.number == q.name.number) && (p.arity == q.arity)) → p.name.number ≡ atom.name → p.arity ≡ length atom.args → q.name.number ≡ head.name → q.arity ≡ length head.args → IsTrue told ↔ HasHeadPred head atom
-pred_decides told p q head atom e pn pa qn qa =
-    let d = both_equal told p.name.number q.name.number p.arity q.arity e in
-    (λ t. (sym pn ∙ (d.0 t).0 ∙ qn, sym pa ∙ (d.0 t).1 ∙ qa), λ h. d.1 (pn ∙ h.0 ∙ sym qn, pa ∙ h.1 ∙ sym qa))
+pred_decides told p q head atom e pn pa qn qa = (λ t. (grind (arith, nat_tests), grind (arith, nat_tests)), λ h. grind (arith, nat_tests))
 
 -- what is left of a list when its last number is taken off
 pub front : (xs : List ℕ) (x : ℕ) (left all : List ℕ) → all ≡ xs ++ x ∷ [] → left ≡ take (length all - 1) all → left ≡ xs
-front xs x left all e l = l ∙ subst (λ z. take (length z - 1) z ≡ xs) (sym e) (take_front xs)
-  where
-    take_front : (ys : List ℕ) → take (length (ys ++ x ∷ []) - 1) (ys ++ x ∷ []) ≡ ys
-    take_front ys = subst (λ n. take n (ys ++ x ∷ []) ≡ ys) (let e : length ys ≡ length (ys ++ x ∷ []) - 1 = omega (arith, length-append ys (x ∷ [])) in e) (take-append_seam ys (x ∷ []))
+front xs x left all e l = l ∙ ap (λ z. take (length z - 1) z) e ∙ take_at xs (x ∷ []) (length (xs ++ x ∷ []) - 1) (omega (arith, length-append xs (x ∷ [])))
+
+-- one label more
+pub narrowed_by : (j : Join) → HasPlan j → (ls : List ℕ) (old new : List (Option (Value ℕ))) (step : Step) (l : ℕ) → IsReady j ls old → slice_get j.order (length ls) ≡ Some step → among ls l ≡ false → IsInTurn j ls l → (told : Bool) → NarrowsIf (λ v. StandsAt j v step l) told old new → IsNarrowedIf j ls l told new
+narrowed_by j p ls old new step l r at away turn true n =
+    let more = ready_more j ls old new step l r at away n in
+    let f = (fit_last j (bound_at new) j.order ls step l at).0 ((more.fit.exactly (bound_at new)).0 (λ x t e. e)) in
+    (follows_at j p.head p.plan (bound_at new) ls l turn r.distinct step at f.0 f.1, more)
+narrowed_by j p ls old new step l r at away turn false n = λ m x f. no_fit j ls old step l x r at n f

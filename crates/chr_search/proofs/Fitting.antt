@@ -24,7 +24,8 @@ use Rattle.chr_search.specs.Verdicts.{Placed, Trial, labels, at_heads, IsFormed,
 use Rattle.chr_search.proofs.Plans.{distinct_push}
 use Rattle.chr_search.proofs.Partners.{distinct_less}
 use Rattle.chr_search.proofs.Judging.{any_label}
-use Rattle.chr_search.proofs.Making.{map_twice, map_push}
+use Rattle.std.proofs.lemmas.List.{map_push}
+use Rattle.chr_search.proofs.Making.{map_twice}
 use Rattle.chr_search.proofs.Wholes.{atoms_from, in_head_order, places, full_fit, no_instance, completed, never_distinct, never_fits}
 
 -- a trial, as its labels with their atoms are read
@@ -67,7 +68,7 @@ module _ (t : Trial) (formed : IsFormed t) (full : length t.placed ≡ length (h
   heads_by binding b = subst (λ r. IsFit r (HeadsAre r (in_head_order t)) binding) (sym same) (full_fit t formed full binding b)
 
   pub no_part : IsPart t → ⊥
-  no_part p = let left : length t.placed < length (heads_of t.rule) = p.left in absurd (omega arith)
+  no_part p = absurd (omega (arith, p.left))
 
   pub whole_by : Distinct (labels t) → (binding : List (Option (Value ℕ))) → IsInstanceUnder rule (in_head_order t) binding → IsWholeUnder t binding
   whole_by d binding u = completed t formed full d (Some binding) (subst (λ r. IsInstanceUnder r (in_head_order t) binding) same u)
@@ -81,23 +82,16 @@ module _ (t : Trial) (formed : IsFormed t) (full : length t.placed ≡ length (h
 
 -- a rule's only head
 only_head : (hs : List (RuleAtom ℕ)) (h : ℕ) (s : RuleAtom ℕ) → head_in hs h ≡ Some s → length hs ≡ 1 → (h ≡ 1) × (hs ≡ s ∷ [])
-only_head [] h s e one = absurd (omega arith)
-only_head (x ∷ y ∷ hs) h s e one = absurd (omega arith)
-only_head (x ∷ []) zero s e one = absurd (let z : None ≡ Some s = e in cc)
 only_head (x ∷ []) (suc zero) s e one = (refl, ap (λ y. y ∷ []) (some_is x s e))
-only_head (x ∷ []) (suc (suc i)) s e one = absurd (let z : None ≡ Some s = e in cc)
+only_head hs h s e one = absurd (grind arith)
 
 one_place : (ps : List Placed) (h : ℕ) (a : Atom ℕ) → places ps ≡ (h, a) ∷ [] → (length ps ≡ 1) × Distinct (map (λ (p : Placed). p.label) ps) × (h ≡ 1 → a ∷ [] ≡ atoms_from ps 1 1)
-one_place [] h a e = absurd (cc)
-one_place (p ∷ q ∷ ps) h a e = absurd (cc)
 one_place (p ∷ []) h a e =
     let heads : p.head ∷ [] ≡ h ∷ [] = ap (map (λ (z : ℕ × Atom ℕ). z.0)) e in
     let atoms : p.atom ∷ [] ≡ a ∷ [] = ap (map (λ (z : ℕ × Atom ℕ). z.1)) e in
     let head : p.head ≡ h = cc in
-    (refl, (refl, tt), λ one. sym atoms ∙ ap (λ (b : Bool). (if b then p.atom else record { name = 0; args = [] }) ∷ []) (here p.head (head ∙ one)))
-  where
-    here : (n : ℕ) → n ≡ 1 → true ≡ (n == 1)
-    here n e = grind (arith, nat_tests)
+    (refl, (refl, tt), λ one. sym atoms ∙ ap (λ (b : Bool). (if b then p.atom else record { name = 0; args = [] }) ∷ []) (let here : true ≡ (p.head == 1) = grind (arith, nat_tests) in here))
+one_place ps h a e = absurd (cc)
 
 -- an atom at that head
 module _ (rule : Simpagation ℕ) (h : ℕ) (atom : Atom ℕ) (one : length (heads_of rule) ≡ 1) (s : RuleAtom ℕ) (head : head_at rule h ≡ Some s) where
@@ -182,14 +176,13 @@ module _ (t : Trial) (p : Placed) where
 pub formed_less : (t : Trial) (ps : List Placed) (p : Placed) → IsFormed t → t.placed ≡ ps ++ p ∷ [] → 1 ≤ length ps → IsFormed (record t { placed = ps })
 formed_less t ps p f e some =
     let count : length t.placed ≡ length ps + 1 = ap length e ∙ length-append ps (p ∷ []) in
-    let few : length t.placed ≤ length (heads_of t.rule) = f.few in
     record {
       scoped = f.scoped;
       number = f.number;
       head = f.head;
       some = some;
-      few = omega arith;
+      few = omega (arith, f.few);
       distinct = Distinct-left (map (λ (q : Placed). q.head) ps) (p.head ∷ []) (subst Distinct (ap (map (λ (q : Placed). q.head)) e ∙ map_push (λ (q : Placed). q.head) ps p) f.distinct);
       within = ((all_push (λ (q : Placed). (1 ≤ q.head) × (q.head ≤ length (heads_of t.rule)) × (q.label ≤ 4294967295)) ps p).0 (subst (AllByRecursion (λ (q : Placed). (1 ≤ q.head) × (q.head ≤ length (heads_of t.rule)) × (q.label ≤ 4294967295))) e f.within)).0;
-      full = λ all. absurd (omega arith);
+      full = λ all. absurd (omega (arith, f.few));
     }

@@ -10,13 +10,12 @@ use Rattle.chr_guard.proofs.Under.{atom_is}
 use Rattle.chr_model.specs.Stores.{Distinct}
 use Rattle.chr_plan.specs.Orders.{heads_of, IsPlan}
 use Rattle.chr_plan.specs.declared.order.Step.{Step}
-use Rattle.chr_search.specs.Trials.{Join, StandsAt, Fit, HasHeadPred, given_at, HasKeyValue, IsInTurn, MayFollow}
-use Rattle.chr_search.specs.Admissible.{IsLiveFor}
+use Rattle.chr_search.specs.Trials.{IsLiveFor, Join, StandsAt, Fit, HasHeadPred, given_at, HasKeyValue, IsInTurn, MayFollow}
 use Rattle.chr_search.proofs.Plans.{given_is, stands_head, step_key_given}
 
 -- a live label whose atom has the key's value
 pub follows_live : (j : Join) (ls : List ℕ) (l : ℕ) → IsInTurn j ls l → Distinct ls → (v : Valuation) → Fit j v j.order ls → (step : Step) → slice_get j.order (length ls) ≡ Some step → (i : IsLiveFor j step l) → HasKeyValue v i.head step.key i.atom → MayFollow j ls l
-follows_live j ls l turn distinct v fits step step_is i key = record { turn = turn; distinct = distinct; valuation = v; fits = fits; step = step; step_is = step_is; head = i.head; head_is = i.head_is; atom = i.atom; live = i.live; pred = i.pred; key = key }
+follows_live j ls l turn distinct v fits step step_is i key = record { turn = turn; distinct = distinct; valuation = v; fits = fits; step = step; step_is = step_is; here = i; key = key }
 
 -- an atom of a head has its predicate
 has_pred : (v : Valuation) (head : RuleAtom ℕ) (atom : Atom ℕ) → atom_under v head ≡ Some atom → HasHeadPred head atom

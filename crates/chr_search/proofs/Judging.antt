@@ -1,11 +1,13 @@
 -- The labels of a trial.
-use Rattle.std.proofs.Common.{◌≡◌, ◌↔◌, ℕ, ◌+◌, ◌≤◌, Bool, true, false, not, IsTrue, ◌||◌, ◌==◌, List, [], ◌∷◌, ◌++◌, map, take, length, refl, sym, ◌∙◌, ap, subst, arith, length-append, true≢false}
+use Rattle.std.proofs.Common.{◌≡◌, ◌↔◌, ℕ, ◌≤◌, Bool, true, false, not, IsTrue, ◌||◌, ◌==◌, List, [], ◌∷◌, ◌++◌, map, take, length, refl, sym, ◌∙◌, ap, subst, arith, length-append, true≢false}
 use Rattle.std.specs.List.{AllByRecursion, list_any}
 use Rattle.std.proofs.lemmas.List.{take_all, length-map}
 use Rattle.chr_rule.specs.Rules.{RuleAtom, Simpagation}
 use Rattle.chr_rule.specs.Scope.{IsRule}
 use Rattle.chr_model.specs.Stores.{among, Distinct}
 use Rattle.chr_plan.specs.Orders.{heads_of}
+use Rattle.chr_search.proofs.Making.{map_twice}
+use Rattle.std.proofs.Common.{◌⊎◌, inl, inr}
 use Rattle.chr_search.specs.Verdicts.{Placed, Trial, labels, position, IsFormed}
 
 -- labels read one by one
@@ -23,22 +25,15 @@ repeated_first f all xs x there e h n =
     let here : among (map f xs) (f x) ≡ true = sym (any_label f xs (f x)) ∙ sym h ∙ n in
     (λ t. absurd (true≢false (sym t ∙ ap not n)), λ y. absurd (true≢false (sym here ∙ (subst (λ ys. Distinct (map f ys)) e y).0)))
 
-map_twice : {X Y Z : Type 0} (f : X → Y) (g : Y → Z) (xs : List X) → map g (map f xs) ≡ map (λ x. g (f x)) xs
-map_twice f g [] = refl
-map_twice f g (x ∷ xs) = ap (λ ys. g (f x) ∷ ys) (map_twice f g xs)
-
 pub labels_read : {X : Type 0} (as_placed : X → Placed) (t : Trial) (all : List X) (i : ℕ) (ls : List ℕ) → map as_placed all ≡ t.placed → length all ≤ i → ls ≡ map (λ x. (as_placed x).label) (take i all) → ls ≡ labels t
 labels_read as_placed t all i ls e past h =
     h ∙ ap (map (λ x. (as_placed x).label)) (take_all i all past) ∙ sym (map_twice as_placed (λ (p : Placed). p.label) all) ∙ ap (map (λ (p : Placed). p.label)) e
 
-pub few_labels : (t : Trial) → IsFormed t → length t.placed ≤ 6
-few_labels t f =
-    let few : length t.placed ≤ length (heads_of t.rule) = f.few in
-    let limit : length t.rule.kept + length t.rule.removed ≤ 6 = f.scoped.limits.heads in
-    omega (arith, length-append t.rule.kept t.rule.removed)
-
 pub few_heads : (rule : Simpagation ℕ) → IsRule rule → length (heads_of rule) ≤ 6
-few_heads rule r = let limit : length rule.kept + length rule.removed ≤ 6 = r.limits.heads in omega (arith, length-append rule.kept rule.removed)
+few_heads rule r = omega (arith, r.limits.heads, length-append rule.kept rule.removed)
+
+pub few_labels : (t : Trial) → IsFormed t → length t.placed ≤ 6
+few_labels t f = omega (arith, f.few, few_heads t.rule f.scoped)
 
 -- the labels of a position are those of its trial
 pub labels_of_view : (r h : ℕ) (ls : List ℕ) (t : Trial) (p : List ℕ) → r ∷ h ∷ ls ≡ p → p ≡ position t → ls ≡ labels t
@@ -47,25 +42,20 @@ labels_of_view r h ls t p e f = let g : r ∷ h ∷ ls ≡ t.number ∷ t.head �
 pub labels_length : (t : Trial) → length (labels t) ≡ length t.placed
 labels_length t = length-map t.placed (λ p. p.label)
 
+pub count_of_view : (r h : ℕ) (ls : List ℕ) (t : Trial) (p : List ℕ) → r ∷ h ∷ ls ≡ p → p ≡ position t → length ls ≡ length t.placed
+count_of_view r h ls t p e f = ap length (labels_of_view r h ls t p e f) ∙ labels_length t
+
 -- each label is small
 label_small : (ps : List Placed) (n : ℕ) → AllByRecursion (λ p. (1 ≤ p.head) × (p.head ≤ n) × (p.label ≤ 4294967295)) ps → (xs : List ℕ) (x : ℕ) → xs ++ x ∷ [] ≡ map (λ p. p.label) ps → x ≤ 4294967295
+label_small (p ∷ ps) n a [] x e = let same : x ≡ p.label = cc in omega (arith, a.0.2)
+label_small (p ∷ ps) n a (y ∷ xs) x e = label_small ps n a.1 xs x (cc)
 label_small [] n a [] x e = absurd (cc)
 label_small [] n a (y ∷ xs) x e = absurd (cc)
-label_small (p ∷ ps) n a [] x e = let same : x ≡ p.label = cc in let small : p.label ≤ 4294967295 = a.0.2 in omega arith
-label_small (p ∷ ps) n a (y ∷ xs) x e = label_small ps n a.1 xs x (cc)
 
 pub last_small : (t : Trial) → IsFormed t → (xs : List ℕ) (x : ℕ) → xs ++ x ∷ [] ≡ labels t → x ≤ 4294967295
 last_small t f xs x e = label_small t.placed (length (heads_of t.rule)) f.within xs x e
 
 -- the heads of a rule as they are read
-pub kept_few : {X : Type 0} (rule : Simpagation ℕ) → IsRule rule → (f : X → RuleAtom ℕ) (xs : List X) → map f xs ≡ rule.kept → length xs ≤ 6
-kept_few rule r f xs e =
-    let limit : length rule.kept + length rule.removed ≤ 6 = r.limits.heads in
-    let count : length xs ≡ length rule.kept = sym (length-map xs f) ∙ ap length e in
-    omega arith
-
-pub removed_few : {X : Type 0} (rule : Simpagation ℕ) → IsRule rule → (f : X → RuleAtom ℕ) (xs : List X) → map f xs ≡ rule.removed → length xs ≤ 6
-removed_few rule r f xs e =
-    let limit : length rule.kept + length rule.removed ≤ 6 = r.limits.heads in
-    let count : length xs ≡ length rule.removed = sym (length-map xs f) ∙ ap length e in
-    omega arith
+pub read_few : {X : Type 0} (rule : Simpagation ℕ) → IsRule rule → (f : X → RuleAtom ℕ) (xs : List X) → (map f xs ≡ rule.kept) ⊎ (map f xs ≡ rule.removed) → length xs ≤ 6
+read_few rule r f xs (inl e) = omega (arith, r.limits.heads, length-map xs f, ap length e)
+read_few rule r f xs (inr e) = omega (arith, r.limits.heads, length-map xs f, ap length e)

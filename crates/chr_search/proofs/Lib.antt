@@ -20,10 +20,8 @@ pub mod Behind
 pub mod PassingOver
 pub mod After
 pub mod Fronts
-pub mod Levels
 pub mod Below
 pub mod PlanByPlan
 pub mod Occurring
-pub mod First
 pub mod Fitting
 pub mod Alone

@@ -1,5 +1,5 @@
 -- Making the trial of a position.
-use Rattle.std.proofs.Common.{◌≡◌, ℕ, zero, suc, ◌+◌, ◌<◌, ◌≤◌, true, false, ◌==◌, List, [], ◌∷◌, ◌++◌, map, take, drop, length, Some, None, get_or, slice_get, slice_index_or, slice_set, refl, sym, ◌∙◌, ap, ap₂, subst, arith, length-append}
+use Rattle.std.proofs.Common.{◌≡◌, ℕ, zero, suc, ◌+◌, ◌<◌, ◌≤◌, List, [], ◌∷◌, ◌++◌, map, take, drop, length, Some, None, get_or, slice_get, slice_index_or, slice_set, refl, sym, ◌∙◌, ap, ap₂, subst, arith, length-append}
 use Rattle.std.specs.List.{AllByRecursion}
 use Rattle.std.proofs.lemmas.Bool.Decides.{nat_tests}
 use Rattle.std.proofs.lemmas.List.{length-map, take-append-drop, take_all, append-nil, get_or_push}
@@ -10,6 +10,11 @@ use Rattle.chr_rule.specs.Rules.{Simpagation, rule_at}
 use Rattle.chr_rule.specs.Scope.{IsRule}
 use Rattle.chr_model.specs.Stores.{Store, atom_at, among, Distinct}
 use Rattle.chr_model.proofs.Stores.{Distinct-left}
+use Rattle.chr_guard.proofs.Steps.{all_push}
+use Rattle.chr_value.proofs.Chosen.{some_is}
+use Rattle.std.proofs.lemmas.Option.{get_or_from_slice_get, slice_get-map}
+use Rattle.std.proofs.lemmas.List.{map_push, map_more, take_more}
+use Rattle.std.specs.Option.{option_map}
 use Rattle.chr_plan.specs.Orders.{heads_of}
 use Rattle.chr_plan.specs.Plans.{plan_at, ArePlans}
 use Rattle.chr_plan.specs.declared.order.Step.{Step}
@@ -19,7 +24,7 @@ use Rattle.chr_search.specs.Tree.{Grows}
 use Rattle.chr_search.specs.Trials.{Join, MayFollow, Space, join_in, IsPlanned, IsTrial, IsNext}
 use Rattle.chr_search.specs.Verdicts.{Placed, Trial, heads, labels, IsFormed}
 use Rattle.chr_search.proofs.Plans.{heads_in, IsWithin, planned_order}
-use Rattle.chr_search.proofs.Descents.{grows_in}
+use Rattle.chr_search.proofs.Descents.{grows_in, is_first}
 
 pub map_twice : {X Y Z : Type 0} (f : X → Y) (g : Y → Z) (xs : List X) → map g (map f xs) ≡ map (λ x. g (f x)) xs
 map_twice f g [] = refl
@@ -34,20 +39,13 @@ push_set {Z} old new one last i a b is at read same =
 
 -- one number more
 pub take_next : {X : Type 0} (ys : List X) (i : ℕ) (y : X) → slice_get ys i ≡ Some y → take (i + 1) ys ≡ take i ys ++ y ∷ []
-take_next [] i y e = absurd (let z : None ≡ Some y = e in cc)
-take_next (x ∷ ys) zero y e = let same : x ≡ y = (let z : Some x ≡ Some y = e in cc) in ap (λ z. z ∷ []) same
-take_next (x ∷ ys) (suc i) y e = let r = take_next ys i y e in subst (λ n. take n (x ∷ ys) ≡ x ∷ (take i ys ++ y ∷ [])) (let q : suc (i + 1) ≡ suc i + 1 = omega arith in q) (ap (λ zs. x ∷ zs) r)
+take_next ys i y e = take_more ys i y (slice_get_within ys i y e) ∙ ap (λ z. take i ys ++ z ∷ []) (get_or_from_slice_get ys i y y e)
 
-pub map_push : {X Y : Type 0} (f : X → Y) (xs : List X) (x : X) → map f (xs ++ x ∷ []) ≡ map f xs ++ f x ∷ []
-map_push f [] x = refl
-map_push f (y ∷ xs) x = ap (λ zs. f y ∷ zs) (map_push f xs x)
-
-pub map_more : {X Y : Type 0} (f : X → Y) (xs : List X) (i : ℕ) (x : X) (old new : List Y) → old ≡ map f (take i xs) → new ≡ old ++ f x ∷ [] → i < length xs → x ≡ get_or xs i x → new ≡ map f (take (i + 1) xs)
-map_more f xs i x old new e n less is = n ∙ ap (λ ys. ys ++ f x ∷ []) e ∙ sym (map_push f (take i xs) x) ∙ ap (map f) (sym (take_next xs i x (slice_get-get_or xs i x less ∙ ap (λ y. Some y) (sym is))))
+pub map_next : {X Y : Type 0} (f : X → Y) (xs : List X) (i : ℕ) (x : X) (old new : List Y) → old ≡ map f (take i xs) → new ≡ old ++ f x ∷ [] → i < length xs → x ≡ get_or xs i x → new ≡ map f (take (i + 1) xs)
+map_next f xs i x old new e n less is = n ∙ ap₂ (λ ys y. ys ++ f y ∷ []) e is ∙ sym (map_more f xs i x less)
 
 pub same_more : {X Y Z : Type 0} (f : X → Z) (g : Y → Z) (xs : List X) (ys : List Y) (i : ℕ) (x : X) (y : Y) → map f (take i xs) ≡ map g (take i ys) → i < length xs → i < length ys → x ≡ get_or xs i x → y ≡ get_or ys i y → f x ≡ g y → map f (take (i + 1) xs) ≡ map g (take (i + 1) ys)
-same_more f g xs ys i x y e h k ex ey s =
-    map_more g ys i y (map f (take i xs)) (map f (take (i + 1) xs)) e (sym (map_more f xs i x (map f (take i xs)) (map f (take i xs) ++ f x ∷ []) refl refl h ex) ∙ ap (λ z. map f (take i xs) ++ z ∷ []) s) k ey
+same_more f g xs ys i x y e h k ex ey s = map_more f xs i x h ∙ ap₂ (λ zs z. zs ++ z ∷ []) e (ap f (sym ex) ∙ s) ∙ sym (map_more g ys i y k ∙ ap (λ z. map g (take i ys) ++ g z ∷ []) (sym ey))
 
 pub same_all : {X Y Z : Type 0} (f : X → Z) (g : Y → Z) (xs : List X) (ys : List Y) (i : ℕ) → map f (take i xs) ≡ map g (take i ys) → length xs ≤ i → length ys ≤ i → map f xs ≡ map g ys
 same_all f g xs ys i e past over = ap (map f) (sym (take_all i xs past)) ∙ e ∙ ap (map g) (take_all i ys over)
@@ -55,12 +53,25 @@ same_all f g xs ys i e past over = ap (map f) (sym (take_all i xs past)) ∙ e �
 pub read_more : {X : Type 0} (f : X → ℕ) (xs new : List X) (x : X) (ys : List ℕ) (i y : ℕ) → map f xs ≡ take i ys → new ≡ xs ++ x ∷ [] → f x ≡ y → slice_get ys i ≡ Some y → map f new ≡ take (i + 1) ys
 read_more f xs new x ys i y e n s at = ap (map f) n ∙ map_push f xs x ∙ ap₂ (λ zs z. zs ++ z ∷ []) e s ∙ sym (take_next ys i y at)
 
-pub all_push : {X : Type 0} (P : X → Type 0) (xs new : List X) (x : X) → AllByRecursion P xs → new ≡ xs ++ x ∷ [] → P x → AllByRecursion P new
-all_push P xs new x a e p = subst (AllByRecursion P) (sym e) (on xs a)
-  where
-    on : (ys : List _) → AllByRecursion P ys → AllByRecursion P (ys ++ x ∷ [])
-    on [] b = (p, tt)
-    on (y ∷ ys) b = (b.0, on ys b.1)
+pub all_more : {X : Type 0} (P : X → Type 0) (xs new : List X) (x : X) → AllByRecursion P xs → new ≡ xs ++ x ∷ [] → P x → AllByRecursion P new
+all_more P xs new x a e p = subst (AllByRecursion P) (sym e) ((all_push P xs x).1 (a, p))
+
+-- lists of what each number from one on has
+module _ {A : Type 0} (f : ℕ → A) (F : ℕ → ℕ → List A) (none : (h : ℕ) → F h zero ≡ []) (more : (h n : ℕ) → F h (suc n) ≡ f h ∷ F (suc h) n) where
+  pub each_count : (h n : ℕ) → length (F h n) ≡ n
+  each_count h zero = ap length (none h)
+  each_count h (suc n) = ap length (more h n) ∙ ap suc (each_count (suc h) n)
+
+  pub each_append : (h a b : ℕ) → F h (a + b) ≡ F h a ++ F (h + a) b
+  each_append h zero b = ap₂ F (let q : h ≡ h + 0 = omega arith in q) (let q : 0 + b ≡ b = omega arith in q) ∙ ap (λ xs. xs ++ F (h + 0) b) (sym (none h))
+  each_append h (suc a) b =
+      ap (F h) (let q : suc a + b ≡ suc (a + b) = omega arith in q)
+      ∙ more h (a + b)
+      ∙ ap (λ xs. f h ∷ xs) (each_append (suc h) a b ∙ ap (λ n. F (suc h) a ++ F n b) (let q : suc h + a ≡ h + suc a = omega arith in q))
+      ∙ ap (λ xs. xs ++ F (h + suc a) b) (sym (more h a))
+
+  pub each_push : (h i : ℕ) (x : A) (xs new : List A) → xs ≡ F h i → x ≡ f (h + i) → new ≡ xs ++ x ∷ [] → new ≡ F h (i + 1)
+  each_push h i x xs new e g n = n ∙ ap₂ (λ ys y. ys ++ y ∷ []) e g ∙ ap (λ ys. F h i ++ ys) (sym (more (h + i) 0 ∙ ap (λ ys. f (h + i) ∷ ys) (none (suc (h + i))))) ∙ sym (each_append h i 1)
 
 -- the labels of a trial
 pub grows_count : (j : Join) (before more : List ℕ) → Grows (MayFollow j) before more → length before ≤ length j.order → length (before ++ more) ≤ length j.order
@@ -71,7 +82,7 @@ grows_count j before (x ∷ more) g h =
 
 pub grows_live : (j : Join) (before more : List ℕ) → Grows (MayFollow j) before more → (i x : ℕ) → slice_get more i ≡ Some x → (a : Atom ℕ) × (atom_at j.store x ≡ Some a)
 grows_live j before [] g i x e = absurd (let z : None ≡ Some x = e in cc)
-grows_live j before (y ∷ more) g zero x e = let same : y ≡ x = (let z : Some y ≡ Some x = e in cc) in (g.0.atom, subst (λ l. atom_at j.store l ≡ Some g.0.atom) same g.0.live)
+grows_live j before (y ∷ more) g zero x e = (g.0.atom, ap (atom_at j.store) (sym (some_is y x e)) ∙ g.0.live)
 grows_live j before (y ∷ more) g (suc i) x e = grows_live j (before ++ y ∷ []) more g.1 i x e
 
 -- what the parts of an admissible trial are
@@ -88,35 +99,19 @@ parts s r h ls p rule order e t ri oi =
     let g = grows_in s r h rule order q [] ls i.grows.1.1 in
     record { planned = q; some = (let d : 3 ≤ length (r ∷ h ∷ ls) = i.deep in omega arith); count = grows_count (join_in s rule order) [] ls g (omega arith); live = grows_live (join_in s rule order) [] ls g }
 
-pub read_at : (xs : List ℕ) (i d : ℕ) → i < length xs → slice_get xs i ≡ Some (get_or xs i d)
-read_at xs i d h = slice_get-get_or xs i d h
-
 -- what holds of the trial that is made
-label_high : (next : ℕ) (es : Store) → GivenBefore next es → (l : ℕ) (a : Atom ℕ) → atom_at es l ≡ Some a → l < next
-label_high next [] g l a e = absurd (let z : None ≡ Some a = e in cc)
-label_high next (x ∷ es) g l a e =
-    elim (x.0 == l) as (λ b. (x.0 == l ≡ b) → l < next) [
-      | true ↦ λ b. (let less : x.0 < next = g.0.1 in let same : x.0 ≡ l = grind (arith, nat_tests) in omega arith)
-      | false ↦ λ b. label_high next es g.1 l a (sym (grind (arith, nat_tests)) ∙ e)
-    ] refl
+pub label_bounds : (next : ℕ) (es : Store) → GivenBefore next es → (l : ℕ) (a : Atom ℕ) → atom_at es l ≡ Some a → (1 ≤ l) × (l < next)
+label_bounds next [] g l a e = absurd (let z : None ≡ Some a = e in cc)
+label_bounds next (x ∷ es) g l a e = let rest = label_bounds next es g.1 l a in (grind (arith, nat_tests), grind (arith, nat_tests))
 
-small_labels : (s : LabelledStore) → IsLabelled s → (ps : List Placed) → AllByRecursion (λ p. atom_at s.entries p.label ≡ Some p.atom) ps → AllByRecursion (λ p. p.label ≤ 4294967295) ps
-small_labels s w [] a = tt
-small_labels s w (p ∷ ps) a =
-    (let less : p.label < s.next = label_high s.next s.entries w.given p.label p.atom a.0 in let within : s.next ≤ s.limit + 1 = w.within in let limit : s.limit ≤ 4294967295 = w.limit in omega arith, small_labels s w ps a.1)
-
-heads_within : (n : ℕ) (order : List Step) → AllByRecursion (IsWithin n) order → AllByRecursion (λ h. (1 ≤ h) × (h ≤ n)) (heads_in order)
-heads_within n [] a = tt
-heads_within n (x ∷ order) a = (a.0, heads_within n order a.1)
-
-all_take : (P : ℕ → Type 0) (k : ℕ) (xs : List ℕ) → AllByRecursion P xs → AllByRecursion P (take k xs)
-all_take P zero xs a = tt
-all_take P (suc k) [] a = tt
-all_take P (suc k) (x ∷ xs) a = (a.0, all_take P k xs a.1)
-
-placed_within : (n : ℕ) (ps : List Placed) → AllByRecursion (λ h. (1 ≤ h) × (h ≤ n)) (map (λ (p : Placed). p.head) ps) → AllByRecursion (λ p. p.label ≤ 4294967295) ps → AllByRecursion (λ p. (1 ≤ p.head) × (p.head ≤ n) × (p.label ≤ 4294967295)) ps
-placed_within n [] a b = tt
-placed_within n (p ∷ ps) a b = ((a.0.0, a.0.1, b.0), placed_within n ps a.1 b.1)
+placed_within : (s : LabelledStore) → IsLabelled s → (n : ℕ) (order : List Step) (ps : List Placed) → AllByRecursion (IsWithin n) order → map (λ (p : Placed). p.head) ps ≡ take (length ps) (heads_in order) → AllByRecursion (λ p. atom_at s.entries p.label ≡ Some p.atom) ps → AllByRecursion (λ p. (1 ≤ p.head) × (p.head ≤ n) × (p.label ≤ 4294967295)) ps
+placed_within s w n order [] a hs live = tt
+placed_within s w n [] (p ∷ ps) a hs live = absurd (cc)
+placed_within s w n (x ∷ order) (p ∷ ps) a hs live =
+    let head : p.head ≡ x.head = cc in
+    let here = a.0 in
+    let bounds = label_bounds s.next s.entries w.given p.label p.atom live.0 in
+    ((omega arith, omega arith, omega (arith, w.within, w.limit)), placed_within s w n order ps a.1 (cc) live.1)
 
 pub formed : (s : Space) (t : Trial) (order : List Step) (store : LabelledStore) → ArePlans s.rules s.plans → store.entries ≡ s.store → IsLabelled store → IsRule t.rule → 1 ≤ t.number → 1 ≤ t.head → Parts s t.number t.head (labels t) t.rule order
     → heads t ≡ take (length t.placed) (heads_in order) → AllByRecursion (λ p. atom_at s.store p.label ≡ Some p.atom) t.placed → IsFormed t
@@ -134,8 +129,7 @@ formed s t order store ps st w scoped number head p hs live =
       some = omega arith;
       few = omega arith;
       distinct = subst Distinct (sym hs) (Distinct-left (take (length t.placed) (heads_in order)) (drop (length t.placed) (heads_in order)) (subst Distinct (sym (take-append-drop (length t.placed) (heads_in order))) o.distinct));
-      within = placed_within n t.placed (subst (AllByRecursion (λ h. (1 ≤ h) × (h ≤ n))) (sym hs) (all_take (λ h. (1 ≤ h) × (h ≤ n)) (length t.placed) (heads_in order) (heads_within n order o.within)))
-          (small_labels store w t.placed (subst (λ es. AllByRecursion (λ p. atom_at es p.label ≡ Some p.atom) t.placed) (sym st) live));
+      within = placed_within store w n order t.placed o.within hs (subst (λ es. AllByRecursion (λ p. atom_at es p.label ≡ Some p.atom) t.placed) (sym st) live);
       full = λ e h low high.
           let whole : take (length t.placed) (heads_in order) ≡ heads_in order = take_all (length t.placed) (heads_in order) (let l : length (heads_in order) ≡ length order = length-map order (λ (x : Step). x.head) in omega arith) in
           ap (λ (xs : List ℕ). among xs h) (hs ∙ whole) ∙ o.named h low high;
@@ -146,13 +140,11 @@ all_map P f [] a = tt
 all_map P f (x ∷ xs) a = (a.0, all_map P f xs a.1)
 
 pub heads_read : (order : List Step) (i : ℕ) (d : Step) → i < length order → slice_get (heads_in order) i ≡ Some ((get_or order i d).head)
-heads_read [] i d h = absurd (omega arith)
-heads_read (x ∷ order) zero d h = refl
-heads_read (x ∷ order) (suc i) d h = heads_read order i d (omega arith)
+heads_read order i d h = slice_get-map (λ (x : Step). x.head) order i ∙ ap (option_map (λ (x : Step). x.head)) (slice_get-get_or order i d h)
 
 pub parts_as : (s : Space) (r h : ℕ) (ls new : List ℕ) (rule same : Simpagation ℕ) (order : List Step) → Parts s r h ls rule order → new ≡ ls → same ≡ rule → Parts s r h new same order
 parts_as s r h ls new rule same order p e f = subst (λ x. Parts s r h new x order) (sym f) (subst (λ x. Parts s r h x rule order) (sym e) p)
 
 -- the least trial is a trial
 pub next_trial : (s : Space) (place t : List ℕ) → IsNext s place t → IsTrial s t
-next_trial s place t l = subst (IsTrial s) (sym l.is) (record { grows = l.beyond.grows; deep = l.beyond.deep })
+next_trial s place t l = ((is_first s place t).0 l).trial

@@ -1,5 +1,5 @@
 -- Trials where a program has heads of the active atom's predicate.
-use Rattle.std.proofs.Common.{◌≡◌, ℕ, ◌+◌, ◌-◌, ◌*◌, ◌<◌, ◌≤◌, Fits, w8, true, List, [], ◌∷◌, length, Option, Some, None, MatchOption, IfSome, slice_get, sym, ◌∙◌, ap, subst, arith, inl, inr, ⊎_elim}
+use Rattle.std.proofs.Common.{◌≡◌, ℕ, ◌+◌, ◌-◌, ◌*◌, ◌<◌, Fits, w8, true, List, [], ◌∷◌, length, Option, Some, None, MatchOption, IfSome, slice_get, sym, ◌∙◌, ap, subst, arith}
 use Rattle.std.proofs.lemmas.Bool.Decides.{nat_tests}
 use Rattle.chr_value.specs.declared.atom.Pred.{Pred}
 use Rattle.chr_value.proofs.Chosen.{some_is}
@@ -11,28 +11,20 @@ use Rattle.chr_plan.specs.declared.order.Step.{Step}
 use Rattle.chr_search.specs.Positions.{at_or_after}
 use Rattle.chr_search.specs.Trials.{HasHeadPred, Join, Space, IsTrial, NoneLeft}
 use Rattle.chr_search.specs.PlanByPlan.{IsActive, IsJoinOf, IsUnplanned, IsJoinAt, HasComeTo, IsNextJoin}
-use Rattle.chr_search.proofs.Positions.{after_first, after_under, after_cases}
 use Rattle.chr_search.proofs.Plans.{planned, has_plan}
-use Rattle.chr_search.proofs.PlanByPlan.{HasJoin, head_from, head_within, joins_at, rule_at_most, head_at_most}
+use Rattle.chr_search.proofs.Descents.{each_trial, none_left, rule_low}
+use Rattle.chr_search.proofs.PlanByPlan.{HasJoin, head_bounds, joins_at, head_at_most}
 
 -- rules and heads in the order of trials
-pub in_order : (r h x y : ℕ) (ls : List ℕ) → at_or_after (r ∷ h ∷ []) (x ∷ y ∷ ls) ≡ true → AtOrAfter r h x y
-in_order r h x y ls e =
-    ⊎_elim (λ less. inl less)
-    (λ same. inr (same.0, ⊎_elim (λ less. let low : h < y = less in omega arith) (λ twice. let is : h ≡ y = twice.0 in omega arith) (after_cases h y [] ls same.1)))
-    (after_cases r x (h ∷ []) (y ∷ ls) e)
+in_order : (r h x y : ℕ) (ls : List ℕ) → at_or_after (r ∷ h ∷ []) (x ∷ y ∷ ls) ≡ true → AtOrAfter r h x y
+in_order r h x y ls e = grind (arith, nat_tests)
 
 pub order_in : (r h x y : ℕ) (ls : List ℕ) → AtOrAfter r h x y → at_or_after (r ∷ h ∷ []) (x ∷ y ∷ ls) ≡ true
-order_in r h x y ls a =
-    ⊎_elim (λ less. after_first r x (h ∷ []) (y ∷ ls) less)
-    (λ same. subst (λ z. at_or_after (r ∷ h ∷ []) (z ∷ y ∷ ls) ≡ true) same.0 (after_under r (h ∷ []) (y ∷ ls) (from h y ls same.1))) a
-  where
-    from : (h y : ℕ) (ls : List ℕ) → h ≤ y → at_or_after (h ∷ []) (y ∷ ls) ≡ true
-    from h y ls low = grind (arith, nat_tests)
+order_in r h x y ls a = grind (arith, nat_tests)
 
 -- each trial has the predicate of the active atom at its head
 pub trial_occurs : (s : Space) (p : Pred) → IsActive s p → ArePlans s.rules s.plans → (r h : ℕ) (ls : List ℕ) → IsTrial s (r ∷ h ∷ ls) → IsOccurrence s.rules p r h
-trial_occurs s p a ps r h [] i = absurd (let d : 3 ≤ length (r ∷ h ∷ []) = i.deep in omega arith)
+trial_occurs s p a ps r h [] i = absurd (omega (arith, i.deep))
 trial_occurs s p a ps r h (l ∷ ls) i =
     let c = i.grows.1.1.0 in
     let rule = c.0 in
@@ -54,21 +46,18 @@ trial_occurs s p a ps r h (l ∷ ls) i =
 
 -- on to the next occurrence, and to the end
 come_to_occurrence : (s : Space) (p : Pred) → IsActive s p → ArePlans s.rules s.plans → (r h x y : ℕ) → IsNextOccurrence s.rules p r h (x, y) → HasComeTo s (r ∷ h ∷ []) x y
-come_to_occurrence s p a ps r h x y o = record { later = order_in r h x y [] o.after; none = none }
-  where
-    none : (t : List ℕ) → IsTrial s t → at_or_after (r ∷ h ∷ []) t ≡ true → at_or_after (x ∷ y ∷ []) t ≡ true
-    none [] i e = absurd (let d : 3 ≤ length {A = ℕ} [] = i.deep in omega arith)
-    none (b ∷ []) i e = absurd (let d : 3 ≤ length (b ∷ []) = i.deep in omega arith)
-    none (b ∷ c ∷ ls) i e = order_in x y b c ls (o.least b c (in_order r h b c ls e) (trial_occurs s p a ps b c ls i))
+come_to_occurrence s p a ps r h x y o = record {
+  later = order_in r h x y [] o.after;
+  none = each_trial s (λ t. at_or_after (r ∷ h ∷ []) t ≡ true → at_or_after (x ∷ y ∷ []) t ≡ true) (λ b c l ls i first e. order_in x y b c (l ∷ ls) (o.least b c (in_order r h b c (l ∷ ls) e) (trial_occurs s p a ps b c (l ∷ ls) i)));
+}
 
 pub come_to_last : (s : Space) (p : Pred) → IsActive s p → ArePlans s.rules s.plans → (r h : ℕ) → NoneFrom s.rules p r h → NoneLeft s (r ∷ h ∷ [])
-come_to_last s p a ps r h n [] b = let d : 3 ≤ length {A = ℕ} [] = b.deep in absurd (omega arith)
-come_to_last s p a ps r h n (x ∷ []) b = let d : 3 ≤ length (x ∷ []) = b.deep in absurd (omega arith)
-come_to_last s p a ps r h n (x ∷ y ∷ ls) b = n x y (in_order r h x y ls b.there) (trial_occurs s p a ps x y ls (record { grows = b.grows; deep = b.deep }))
+come_to_last s p a ps r h n =
+    (none_left s (r ∷ h ∷ [])).1 (each_trial s (λ t. at_or_after (r ∷ h ∷ []) t ≡ true → ⊥) (λ x y l ls i first e. n x y (in_order r h x y (l ∷ ls) e) (trial_occurs s p a ps x y (l ∷ ls) i)))
 
 -- an occurrence has a plan, and that makes a join
 pub plan_there : (s : Space) (p : Pred) → ArePlans s.rules s.plans → (r h : ℕ) → IsOccurrence s.rules p r h → (order : List Step) × (plan_at s.plans r h ≡ Some order)
-plan_there s p ps r h o = has_plan s.rules s.plans ps r h o.rule o.rule_is (head_from o.rule h o.at.head o.at.head_is) (head_within o.rule h o.at.head o.at.head_is)
+plan_there s p ps r h o = let bounds = head_bounds o.rule h o.at.head o.at.head_is in has_plan s.rules s.plans ps r h o.rule o.rule_is bounds.0 bounds.1
 
 join_there : (s : Space) (p : Pred) → IsActive s p → ArePlans s.rules s.plans → (r h : ℕ) (j : Join) → IsOccurrence s.rules p r h → IsJoinOf s r h j → IsJoinAt s r h j
 join_there s p a ps r h j o k =
@@ -92,10 +81,7 @@ if_there (Some x) a = a
 
 -- a walk through the plans that goes on from one: the next head's number fits, and it is nearer to the end
 pub head_fits : (s : Space) (place : List ℕ) (r h : ℕ) (j : Join) → HasJoin s place r h j → Fits w8 (h + 1)
-head_fits s place r h j k = let small : h ≤ 6 = head_at_most s r h j.rule j.order k.makes in omega arith
+head_fits s place r h j k = omega (arith, head_at_most s r h j.rule j.order k.makes)
 
 pub nearer : (s : Space) (place : List ℕ) (r h x y : ℕ) (j : Join) → at_or_after (r ∷ h ∷ []) (x ∷ y ∷ []) ≡ true → HasJoin s place x y j → (length s.rules + 1 - x) * 8 + (8 - (y + 1)) < (length s.rules + 1 - r) * 8 + (8 - h)
-nearer s place r h x y j later k =
-    let small : y ≤ 6 = head_at_most s x y j.rule j.order k.makes in
-    let within : x ≤ length s.rules = rule_at_most s x y j.rule j.order k.makes in
-    ⊎_elim (λ less. let low : r < x = less in omega arith) (λ same. let is : r ≡ x = same.0 in let low : h ≤ y = same.1 in omega arith) (in_order r h x y [] later)
+nearer s place r h x y j later k = omega (arith, in_order r h x y [] later, head_at_most s x y j.rule j.order k.makes, rule_low s.rules x j.rule k.makes.planned.rule_is)

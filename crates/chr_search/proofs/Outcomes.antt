@@ -1,9 +1,10 @@
 -- What a verdict says of the reach.
-use Rattle.std.proofs.Common.{◌≡◌, ℕ, ◌<◌, ◌≤◌, true, false, ltb, ◌==◌, List, [], ◌∷◌, ◌++◌, map, take, length, Some, None, refl, sym, ◌∙◌, ap, ap₂, subst, arith, true-eqb}
+use Rattle.chr_value.proofs.Chosen.{some_is}
+use Rattle.std.proofs.Common.{◌≡◌, ℕ, ◌<◌, true, false, ◌==◌, List, [], ◌∷◌, ◌++◌, map, take, length, Some, None, refl, sym, ◌∙◌, ap, ap₂, subst, arith, true-eqb}
 use Rattle.std.specs.List.{AllByRecursion}
 use Rattle.std.specs.Option.{option_map}
 use Rattle.std.proofs.lemmas.Bool.Decides.{nat_tests}
-use Rattle.std.proofs.lemmas.List.{length-map}
+use Rattle.std.proofs.lemmas.List.{length-map, map-append, take_at}
 use Rattle.chr_value.specs.Atoms.{Atom}
 use Rattle.chr_rule.specs.Rules.{Simpagation, rule_at}
 use Rattle.chr_guard.specs.Values.{Valuation}
@@ -48,10 +49,6 @@ placed_fit rule store v ls s (p ∷ ps) (x ∷ front) hs lbs w a =
     let here : IsAtHead rule v (x.head, at.2.atom) = ap (option_map (atom_under v)) at.1 ∙ ap (λ o. Some o) at.2.under in
     (subst (λ n. IsAtHead rule v (n, p.atom)) (sym h) (subst (λ y. IsAtHead rule v (x.head, y)) atom here), placed_fit rule store v ls s ps front (cc) (cc) w.1 a.1)
 
-take_front : (front rest : List Step) → take (length front) (heads_in (front ++ rest)) ≡ heads_in front
-take_front [] rest = refl
-take_front (x ∷ front) rest = ap (λ zs. x.head ∷ zs) (take_front front rest)
-
 -- what a trial of the reach has in common with one that it begins with
 record Common (s : Space) (t : Trial) (u : List ℕ) (k : Reach s u) : Type 0 where
   pub same_rule : k.rule ≡ t.number
@@ -72,15 +69,13 @@ common s t ps w u k b =
     let hs : k.head ≡ t.head = grind (arith, nat_tests) in
     let lss : begins (labels t) (labels_in (k.kept ++ k.removed) k.order) ≡ true = grind (arith, nat_tests) in
     let r = reached s ps u k in
-    let ri : Some r.rule ≡ Some t.rule = sym r.planned.rule_is ∙ ap (rule_at s.rules) rs ∙ w.rule_is in
-    let rule_same : r.rule ≡ t.rule = cc in
-    let oi : Some k.order ≡ Some w.order = sym k.order_is ∙ ap₂ (plan_at s.plans) rs hs ∙ w.order_is in
-    let order_same : k.order ≡ w.order = cc in
+    let rule_same : r.rule ≡ t.rule = some_is r.rule t.rule (sym r.planned.rule_is ∙ ap (rule_at s.rules) rs ∙ w.rule_is) in
+    let order_same : k.order ≡ w.order = some_is k.order w.order (sym k.order_is ∙ ap₂ (plan_at s.plans) rs hs ∙ w.order_is) in
     let f = begun_front (λ (x : Step). label_of (k.kept ++ k.removed) x.head) (labels t) k.order lss in
     let n : ℕ = length (heads_of r.rule) in
     let within = subst (AllByRecursion (IsWithin n)) f.2 r.order.within in
     let many : length t.placed ≡ length f.0 = sym (length-map t.placed (λ (p : Placed). p.label)) ∙ ap length f.3 ∙ length-map f.0 (λ (x : Step). label_of (k.kept ++ k.removed) x.head) in
-    let front : heads t ≡ heads_in f.0 = w.heads_are ∙ ap₂ (λ m (o : List Step). take m (heads_in o)) many (sym order_same ∙ f.2) ∙ take_front f.0 f.1 in
+    let front : heads t ≡ heads_in f.0 = w.heads_are ∙ ap₂ (λ m (o : List Step). take m (heads_in o)) many (sym order_same ∙ f.2) ∙ ap (take (length f.0)) (map-append (λ (x : Step). x.head) f.0 f.1) ∙ take_at (heads_in f.0) (heads_in f.1) (length f.0) (length-map f.0 (λ (x : Step). x.head)) in
     record {
       same_rule = rs;
       same_head = hs;
@@ -98,13 +93,8 @@ common s t ps w u k b =
 pub misfit_none : (s : Space) (t : Trial) → ArePlans s.rules s.plans → WasTrialOf s.rules s.plans s.store t → IsFormed t → (IsWhole t → ⊥) → (IsPart t → ⊥) → (u : List ℕ) → Reach s u → begins (position t) u ≡ true → ⊥
 misfit_none s t ps w f nw np u k b =
     let c = common s t ps w u k b in
-    elim (ltb (length t.placed) (length (heads_of t.rule))) as (λ z. (ltb (length t.placed) (length (heads_of t.rule)) ≡ z) → ⊥) [
-      | true ↦ λ e. np (record { left = grind (arith, nat_tests); distinct = c.distinct; valuation = c.valuation; fits = c.fits })
-      | false ↦ λ e.
-          let few : length t.placed ≤ length (heads_of t.rule) = f.few in
-          let many : length (heads_of t.rule) ≤ length t.placed = grind (arith, nat_tests) in
-          nw (record { full = (let q : length t.placed ≡ length (heads_of t.rule) = omega arith in q); distinct = c.distinct; valuation = c.valuation; fits = c.fits; guard = c.guard; right = c.right; body = k.body; body_is = c.body_is })
-    ] refl
+    let part : length t.placed < length (heads_of t.rule) → ⊥ = λ less. np (record { left = less; distinct = c.distinct; valuation = c.valuation; fits = c.fits }) in
+    nw (record { full = (let few = f.few in grind arith); distinct = c.distinct; valuation = c.valuation; fits = c.fits; guard = c.guard; right = c.right; body = k.body; body_is = c.body_is })
 
 -- a part isn't in the reach
 pub part_none : (s : Space) (t : Trial) → ArePlans s.rules s.plans → WasTrialOf s.rules s.plans s.store t → IsPart t → Reach s (position t) → ⊥
@@ -113,12 +103,9 @@ part_none s t ps w p k =
     let rs : k.rule ≡ t.number = cc in
     let lss : labels t ≡ labels_in (k.kept ++ k.removed) k.order = cc in
     let r = reached s ps (position t) k in
-    let ri : Some r.rule ≡ Some t.rule = sym r.planned.rule_is ∙ ap (rule_at s.rules) rs ∙ w.rule_is in
-    let rule_same : r.rule ≡ t.rule = cc in
-    let many : length t.placed ≡ length k.order = sym (length-map t.placed (λ (x : Placed). x.label)) ∙ ap length lss ∙ length-map k.order (λ (x : Step). label_of (k.kept ++ k.removed) x.head) in
+    let rule_same : r.rule ≡ t.rule = some_is r.rule t.rule (sym r.planned.rule_is ∙ ap (rule_at s.rules) rs ∙ w.rule_is) in
     let count : length k.order ≡ length (heads_of t.rule) = r.order.count ∙ ap (λ (x : Simpagation ℕ). length (heads_of x)) rule_same in
-    let left : length t.placed < length (heads_of t.rule) = p.left in
-    omega arith
+    omega (arith, count, p.left, length-map t.placed (λ (x : Placed). x.label), ap length lss, length-map k.order (λ (x : Step). label_of (k.kept ++ k.removed) x.head))
 
 -- a trial with a label that has left the store begins nothing in the reach
 live_among : (j : Join) (before more : List ℕ) → Grows (MayFollow j) before more → (l : ℕ) → among more l ≡ true → (a : Atom ℕ) × (atom_at j.store l ≡ Some a)
@@ -130,9 +117,8 @@ live_among j before (x ∷ more) g l i =
     ] refl
 
 among_begun : (xs ys : List ℕ) (l : ℕ) → begins xs ys ≡ true → among xs l ≡ true → among ys l ≡ true
-among_begun [] ys l b i = absurd (cc)
-among_begun (x ∷ xs) [] l b i = absurd (cc)
 among_begun (x ∷ xs) (y ∷ ys) l b i = let r = among_begun xs ys l in grind (arith, nat_tests, r)
+among_begun xs ys l b i = absurd (grind arith)
 
 pub gone_none : (s : Space) (t : Trial) (l : ℕ) → among (labels t) l ≡ true → atom_at s.store l ≡ None → (u : List ℕ) → Reach s u → begins (position t) u ≡ true → ⊥
 gone_none s t l i gone u k b =
@@ -146,7 +132,7 @@ gone_none s t l i gone u k b =
 -- an admissible trial was one
 was : (store : Store) (ps : List Placed) → AllByRecursion (λ p. atom_at store p.label ≡ Some p.atom) ps → AllByRecursion (λ p. (a : Atom ℕ) → atom_at store p.label ≡ Some a → a ≡ p.atom) ps
 was store [] a = tt
-was store (p ∷ ps) a = ((λ b e. (let z : Some b ≡ Some p.atom = sym e ∙ a.0 in cc)), was store ps a.1)
+was store (p ∷ ps) a = (λ b e. some_is b p.atom (sym e ∙ a.0), was store ps a.1)
 
 pub was_trial : (s : Space) (t : Trial) → IsTrialOf s.rules s.plans s.store t → WasTrialOf s.rules s.plans s.store t
 was_trial s t i = record { rule_is = i.rule_is; order = i.order; order_is = i.order_is; heads_are = i.heads_are; atoms = was s.store t.placed i.live }

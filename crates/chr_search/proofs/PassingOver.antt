@@ -1,5 +1,5 @@
 -- Verdicts on trials in the store, and searches that pass over them.
-use Rattle.std.proofs.Common.{◌≡◌, ◌≢◌, ◌↔◌, ℕ, zero, suc, ◌+◌, ◌<◌, ◌≤◌, true, List, [], ◌∷◌, ◌++◌, map, take, length, length-append, Option, Some, slice_get, refl, sym, ◌∙◌, ap, subst, arith, true≢false}
+use Rattle.std.proofs.Common.{◌≡◌, ◌↔◌, ℕ, zero, suc, ◌+◌, ◌<◌, ◌≤◌, true, List, [], ◌∷◌, ◌++◌, map, take, length, length-append, Option, Some, slice_get, refl, sym, ◌∙◌, ap, subst, arith, true≢false}
 use Rattle.std.specs.List.{AllByRecursion}
 use Rattle.std.proofs.lemmas.List.{length-map}
 use Rattle.chr_value.specs.Atoms.{Value, Atom}
@@ -16,15 +16,15 @@ use Rattle.chr_plan.specs.Plans.{plan_at, ArePlans}
 use Rattle.chr_plan.specs.declared.order.Step.{Step}
 use Rattle.chr_store.specs.Labels.{LabelledStore, IsLabelled}
 use Rattle.chr_search.specs.declared.judged.Verdict.{Verdict}
-use Rattle.chr_search.specs.declared.judged.Verdict.TheVariants.{Misfit, Part, Whole}
+use Rattle.chr_search.specs.declared.judged.Verdict.TheVariants.{Misfit, Part}
 use Rattle.chr_search.specs.Tree.{Grows}
-use Rattle.chr_search.specs.Trials.{Join, StandsAt, Fit, MayFollow, Space, join_in, IsPlanned, IsNext}
+use Rattle.chr_search.specs.Trials.{Join, StandsAt, Fit, MayFollow, Space, join_in, IsPlanned}
 use Rattle.chr_search.specs.Partners.{IsReady}
 use Rattle.chr_search.specs.Verdicts.{Placed, Trial, heads, labels, position, at_heads, IsPart, IsWhole, IsTrialOf}
 use Rattle.chr_search.specs.Answers.{after_verdict}
-use Rattle.chr_search.specs.Passing.{IsTrialIn, HasTrials, AreJudged, PassesOne, Passes}
+use Rattle.chr_search.specs.Passing.{IsTrialIn, HasTrials, AreJudged, Passes}
 use Rattle.chr_search.proofs.Plans.{heads_in}
-use Rattle.chr_search.proofs.Partners.{fit_less, distinct_less}
+use Rattle.chr_search.proofs.Partners.{fit_last, distinct_less}
 use Rattle.chr_search.proofs.Judging.{few_heads, last_small}
 use Rattle.chr_search.proofs.Making.{grows_count, grows_live, Parts, parts_as, formed}
 use Rattle.chr_search.proofs.Wholes.{places, in_head_order, full_fit, no_instance}
@@ -72,7 +72,7 @@ heads_fit j ls t i full binding b =
 pub misfit_here : (j : Join) (ls : List ℕ) (t : Trial) → IsTrialIn j ls t → length t.placed ≡ length (heads_of t.rule) → NoInstance j.rule (in_head_order t) → (IsWhole t → ⊥) × (IsPart t → ⊥)
 misfit_here j ls t i full n = (
   no_instance t i.formed full (subst (λ r. NoInstance r (in_head_order t)) (sym i.rule_is) n),
-  λ p. absurd (let left : length t.placed < length (heads_of t.rule) = p.left in omega arith),
+  λ p. absurd (omega (arith, p.left)),
 )
 
 -- one label more
@@ -82,42 +82,24 @@ repeats j ls l there t i =
     (λ w. n (subst Distinct i.labels_are w.distinct), λ p. n (subst Distinct i.labels_are p.distinct))
 
 pub stands_nowhere : (j : Join) (ls : List ℕ) (binding : List (Option (Value ℕ))) (step : Step) (l : ℕ) → IsReady j ls binding → slice_get j.order (length ls) ≡ Some step → NoneUnder (λ v. StandsAt j v step l) binding → AreJudged j (ls ++ l ∷ []) Misfit
-stands_nowhere j ls binding step l r at n t i = no_fit j (ls ++ l ∷ []) t i (λ v f.
-    let m = fit_less j v j.order ls l f in
-    let z : Some m.0 ≡ Some step = sym m.1 ∙ at in
-    let same : m.0 ≡ step = cc in
-    n v ((r.fit.exactly v).1 m.2) (subst (λ y. StandsAt j v y l) same m.3))
+stands_nowhere j ls binding step l r at n t i = no_fit j (ls ++ l ∷ []) t i (λ v f. let m = (fit_last j v j.order ls step l at).0 f in n v ((r.fit.exactly v).1 m.0) m.1)
 
 heads_of_trial : (j : Join) (ls : List ℕ) (t : Trial) → IsTrialIn j ls t → length (heads_of t.rule) ≡ length j.rule.kept + length j.rule.removed
 heads_of_trial j ls t i = ap (λ r. length (heads_of r)) i.rule_is ∙ length-append j.rule.kept j.rule.removed
 
-few_placed : (j : Join) (ls : List ℕ) (t : Trial) → IsTrialIn j ls t → length ls < length j.rule.kept + length j.rule.removed → length t.placed < length (heads_of t.rule)
-few_placed j ls t i less =
-    let count : length t.placed ≡ length ls = count_of_trial j ls t i in
-    let all : length (heads_of t.rule) ≡ length j.rule.kept + length j.rule.removed = heads_of_trial j ls t i in
-    omega arith
-
 pub is_part : (j : Join) (ls : List ℕ) (binding : List (Option (Value ℕ))) → IsReady j ls binding → length ls < length j.rule.kept + length j.rule.removed → AreJudged j ls Part
 is_part j ls binding r less t i = record {
-  left = few_placed j ls t i less;
+  left = omega (arith, count_of_trial j ls t i, heads_of_trial j ls t i);
   distinct = subst Distinct (sym i.labels_are) r.distinct;
   valuation = bound_at binding;
   fits = ((fit_of_trial j ls t i binding r.fit).exactly (bound_at binding)).0 (λ x v e. e);
 }
 
 pub is_full : (j : Join) (ls : List ℕ) (t : Trial) → IsTrialIn j ls t → length j.rule.kept + length j.rule.removed ≤ length ls → length t.placed ≡ length (heads_of t.rule)
-is_full j ls t i many =
-    let count : length t.placed ≡ length ls = count_of_trial j ls t i in
-    let all : length (heads_of t.rule) ≡ length j.rule.kept + length j.rule.removed = heads_of_trial j ls t i in
-    let few : length t.placed ≤ length (heads_of t.rule) = i.formed.few in
-    omega arith
+is_full j ls t i many = omega (arith, count_of_trial j ls t i, heads_of_trial j ls t i, i.formed.few)
 
 pub room_below : (j : Join) (ls : List ℕ) (t : Trial) → IsTrialIn j ls t → IsPart t → length ls < 6
-room_below j ls t i p =
-    let count : length t.placed ≡ length ls = count_of_trial j ls t i in
-    let left : length t.placed < length (heads_of t.rule) = p.left in
-    let few : length (heads_of t.rule) ≤ 6 = few_heads t.rule i.formed.scoped in
-    omega arith
+room_below j ls t i p = omega (arith, count_of_trial j ls t i, p.left, few_heads t.rule i.formed.scoped)
 
 pub label_small : (j : Join) (ls : List ℕ) (l : ℕ) (t : Trial) → IsTrialIn j (ls ++ l ∷ []) t → l ≤ 4294967295
 label_small j ls l t i = last_small t i.formed ls l (sym i.labels_are)
@@ -127,9 +109,8 @@ abbrev Lives : Store → List ℕ → Type 0
 Lives store ls = (i x : ℕ) → slice_get ls i ≡ Some x → (a : Atom ℕ) × (atom_at store x ≡ Some a)
 
 abbrev made : (store : Store) (ls : List ℕ) (order : List Step) → Lives store ls → List Placed
-made store [] order live = []
-made store (l ∷ ls) [] live = []
 made store (l ∷ ls) (x ∷ order) live = record { head = x.head; label = l; atom = (live 0 l refl).0 } ∷ made store ls order (λ i y e. live (suc i) y e)
+made store ls order live = []
 
 made_labels : (store : Store) (ls : List ℕ) (order : List Step) (live : Lives store ls) → length ls ≤ length order → map (λ (p : Placed). p.label) (made store ls order live) ≡ ls
 made_labels store [] order live h = refl
@@ -137,14 +118,23 @@ made_labels store (l ∷ ls) [] live h = absurd (omega arith)
 made_labels store (l ∷ ls) (x ∷ order) live h = ap (λ zs. l ∷ zs) (made_labels store ls order (λ i y e. live (suc i) y e) (omega arith))
 
 made_heads : (store : Store) (ls : List ℕ) (order : List Step) (live : Lives store ls) → map (λ (p : Placed). p.head) (made store ls order live) ≡ take (length (made store ls order live)) (heads_in order)
-made_heads store [] order live = refl
-made_heads store (l ∷ ls) [] live = refl
 made_heads store (l ∷ ls) (x ∷ order) live = ap (λ zs. x.head ∷ zs) (made_heads store ls order (λ i y e. live (suc i) y e))
+made_heads store ls order live = refl
 
 made_live : (store : Store) (ls : List ℕ) (order : List Step) (live : Lives store ls) → AllByRecursion (λ p. atom_at store p.label ≡ Some p.atom) (made store ls order live)
-made_live store [] order live = tt
-made_live store (l ∷ ls) [] live = tt
 made_live store (l ∷ ls) (x ∷ order) live = ((live 0 l refl).1, made_live store ls order (λ i y e. live (suc i) y e))
+made_live store ls order live = tt
+
+-- what makes trials of the labels of a rule's plan
+pub record Makes (s : Space) (rule : Simpagation ℕ) (order : List Step) (r h : ℕ) : Type 0 where
+  pub planned : IsPlanned s r h rule order
+  pub plans : ArePlans s.rules s.plans
+  pub store : LabelledStore
+  pub entries : store.entries ≡ s.store
+  pub labelled : IsLabelled store
+  pub scoped : IsRule rule
+  pub number : 1 ≤ r
+  pub head : 1 ≤ h
 
 -- a trial of the labels in a join, which is the trial of a position
 pub record Made (s : Space) (rule : Simpagation ℕ) (order : List Step) (r h : ℕ) (ls : List ℕ) : Type 0 where
@@ -152,25 +142,6 @@ pub record Made (s : Space) (rule : Simpagation ℕ) (order : List Step) (r h : 
   pub number : trial.number ≡ r
   pub head : trial.head ≡ h
   pub is : IsTrialIn (join_in s rule order) ls trial
-
-pub trial_made : (s : Space) (rule : Simpagation ℕ) (order : List Step) (r h : ℕ) (ls : List ℕ) (store : LabelledStore) → Parts s r h ls rule order → ArePlans s.rules s.plans → store.entries ≡ s.store → IsLabelled store → IsRule rule → 1 ≤ r → 1 ≤ h → Made s rule order r h ls
-trial_made s rule order r h ls store p ps st w scoped number head =
-    let t : Trial = record { rule = rule; number = r; head = h; placed = made s.store ls order p.live } in
-    let lbs : labels t ≡ ls = made_labels s.store ls order p.live p.count in
-    let hs : heads t ≡ take (length t.placed) (heads_in order) = made_heads s.store ls order p.live in
-    let live = made_live s.store ls order p.live in
-    record {
-      trial = t;
-      number = refl;
-      head = refl;
-      is = record {
-        rule_is = refl;
-        labels_are = lbs;
-        heads_are = hs;
-        live = live;
-        formed = formed s t order store ps st w scoped number head (parts_as s r h ls (labels t) rule rule order p lbs refl) hs live;
-      };
-    }
 
 pub position_made : (s : Space) (rule : Simpagation ℕ) (order : List Step) (r h : ℕ) (ls : List ℕ) → (m : Made s rule order r h ls) → position m.trial ≡ r ∷ h ∷ ls
 position_made s rule order r h ls m = ap (λ n. n ∷ m.trial.head ∷ labels m.trial) m.number ∙ ap (λ n. r ∷ n ∷ labels m.trial) m.head ∙ ap (λ (xs : List ℕ). r ∷ h ∷ xs) m.is.labels_are
@@ -184,43 +155,35 @@ trial_of_made s rule order r h ls m ri oi = record {
   live = m.is.live;
 }
 
--- what makes trials of the labels of a rule's plan
-pub record Makes (s : Space) (rule : Simpagation ℕ) (order : List Step) (r h : ℕ) : Type 0 where
-  pub planned : IsPlanned s r h rule order
-  pub plans : ArePlans s.rules s.plans
-  pub store : LabelledStore
-  pub entries : store.entries ≡ s.store
-  pub labelled : IsLabelled store
-  pub scoped : IsRule rule
-  pub number : 1 ≤ r
-  pub head : 1 ≤ h
-
 pub made_of : (s : Space) (rule : Simpagation ℕ) (order : List Step) (r h : ℕ) → Makes s rule order r h → (ls : List ℕ) → 1 ≤ length ls → Grows (MayFollow (join_in s rule order)) [] ls → Made s rule order r h ls
 made_of s rule order r h m ls some g =
-    trial_made s rule order r h ls m.store (record { planned = m.planned; some = some; count = grows_count (join_in s rule order) [] ls g (omega arith); live = grows_live (join_in s rule order) [] ls g }) m.plans m.entries m.labelled m.scoped m.number m.head
+    let count = grows_count (join_in s rule order) [] ls g (omega arith) in
+    let live = grows_live (join_in s rule order) [] ls g in
+    let t : Trial = record { rule = rule; number = r; head = h; placed = made s.store ls order live } in
+    let lbs : labels t ≡ ls = made_labels s.store ls order live count in
+    let hs : heads t ≡ take (length t.placed) (heads_in order) = made_heads s.store ls order live in
+    let there = made_live s.store ls order live in
+    let p : Parts s r h ls rule order = record { planned = m.planned; some = some; count = count; live = live } in
+    record {
+      trial = t;
+      number = refl;
+      head = refl;
+      is = record {
+        rule_is = refl;
+        labels_are = lbs;
+        heads_are = hs;
+        live = there;
+        formed = formed s t order m.store m.plans m.entries m.labelled m.scoped m.number m.head (parts_as s r h ls (labels t) rule rule order p lbs refl) hs there;
+      };
+    }
 
 pub has_trials : (s : Space) (rule : Simpagation ℕ) (order : List Step) (r h : ℕ) → Makes s rule order r h → HasTrials (join_in s rule order)
 has_trials s rule order r h m ls some g = let t = made_of s rule order r h m ls some g in (t.trial, t.is)
 
-pub one_passed : (s : Space) (rule : Simpagation ℕ) (order : List Step) (r h : ℕ) → Makes s rule order r h → (place ls : List ℕ) → IsNext s place (r ∷ h ∷ ls) → 1 ≤ length ls → Grows (MayFollow (join_in s rule order)) [] ls → (verdict : Verdict) → AreJudged (join_in s rule order) ls verdict → verdict ≢ Whole → PassesOne s place (after_verdict verdict (r ∷ h ∷ ls))
-one_passed s rule order r h m place ls n some g verdict a ne =
-    let t = made_of s rule order r h m ls some g in
-    let is : position t.trial ≡ r ∷ h ∷ ls = position_made s rule order r h ls t in
-    record {
-      judged = record { trial = t.trial; verdict = verdict };
-      next = subst (IsNext s place) (sym is) n;
-      is = trial_of_made s rule order r h ls t m.planned.rule_is m.planned.order_is;
-      formed = t.is.formed;
-      right = a t.trial t.is;
-      other = ne;
-      on = ap (after_verdict verdict) (sym is);
-    }
-
 pub after_labels : (verdict : Verdict) (r h : ℕ) (ls : List ℕ) → 1 ≤ length ls → after_verdict verdict (r ∷ h ∷ ls) ≡ r ∷ h ∷ after_verdict verdict ls
 after_labels verdict r h [] some = absurd (omega arith)
 after_labels Part r h (l ∷ ls) some = refl
-after_labels Whole r h (l ∷ ls) some = refl
-after_labels Misfit r h (l ∷ ls) some = refl
+after_labels verdict r h (l ∷ ls) some = refl
 
 pub pass_more : (s : Space) (n more : ℕ) (place middle after : List ℕ) → Passes s n place middle → Passes s more middle after → Passes s (n + more) place after
 pass_more s zero more place middle after p q = subst (λ k. Passes s k place after) (let e : more ≡ 0 + more = omega arith in e) (subst (λ z. Passes s more z after) p q)

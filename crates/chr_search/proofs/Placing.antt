@@ -10,7 +10,7 @@ use Rattle.chr_plan.specs.declared.order.Step.{Step}
 use Rattle.chr_search.specs.Placed.{ArePlacedIn}
 use Rattle.chr_search.specs.Verdicts.{Placed, Trial, labels, position, IsTrialOf}
 use Rattle.chr_search.proofs.Plans.{heads_in}
-use Rattle.chr_search.proofs.Making.{map_twice, take_next, read_more, all_push, all_map, heads_read}
+use Rattle.chr_search.proofs.Making.{map_twice, take_next, read_more, all_more, all_map, heads_read}
 
 -- what they say of each
 pub placed_at : {X : Type 0} (f : X → Placed) (order : List Step) (store : Store) (xs : List X) (i : ℕ) (x : X) (d : Step) → ArePlacedIn order store (map f xs) → i < length xs → x ≡ get_or xs i x → ((f x).head ≡ (get_or order i d).head) × (atom_at store (f x).label ≡ Some (f x).atom)
@@ -34,7 +34,7 @@ placed_more f order store xs i x d a h k e head live =
     let next : take (i + 1) xs ≡ take i xs ++ x ∷ [] = take_next xs i x (slice_get-get_or xs i x h ∙ ap (λ y. Some y) (sym e)) in
     record {
       heads = read_more (λ x. (f x).head) (take i xs) (take (i + 1) xs) x (heads_in order) i (get_or order i d).head a.heads next head (heads_read order i d k);
-      live = all_push (λ x. atom_at store (f x).label ≡ Some (f x).atom) (take i xs) (take (i + 1) xs) x a.live next live;
+      live = all_more (λ x. atom_at store (f x).label ≡ Some (f x).atom) (take i xs) (take (i + 1) xs) x a.live next live;
     }
 
 -- all

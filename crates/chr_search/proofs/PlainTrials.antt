@@ -11,10 +11,10 @@ use Rattle.chr_model.proofs.Stores.{Distinct-left, among-itself, among-right}
 use Rattle.chr_plan.specs.Plans.{ArePlans}
 use Rattle.chr_plan.specs.declared.order.Step.{Step}
 use Rattle.chr_search.specs.Tree.{Grows}
-use Rattle.chr_search.specs.Trials.{Join, StandsAt, Fit, HasKeyValue, IsInTurn, MayFollow, Space, join_in, IsPlanned, IsTrial}
-use Rattle.chr_search.specs.Admissible.{IsLiveFor, AreLiveFor, AreAdmissible, IsAdmissible}
+use Rattle.chr_search.specs.Trials.{IsLiveFor, Join, StandsAt, Fit, HasKeyValue, IsInTurn, MayFollow, Space, join_in, IsPlanned, IsTrial}
+use Rattle.chr_search.specs.Admissible.{AreLiveFor, AreAdmissible, IsAdmissible}
 use Rattle.chr_search.proofs.Plans.{IsPlanOf, planned}
-use Rattle.chr_search.proofs.Partners.{fit_less}
+use Rattle.chr_search.proofs.Partners.{fit_last}
 use Rattle.chr_search.proofs.Following.{follows_live, follows_at}
 use Rattle.chr_search.proofs.Descents.{grows_in}
 use Rattle.chr_search.proofs.Descents.{trial_of}
@@ -52,24 +52,21 @@ plain_grows j h p labels a front [] e =
 plain_grows j h p labels a front (x ∷ rest) e =
     let whole : labels ≡ front ++ x ∷ (rest ++ a.last ∷ []) = a.ends ∙ ap (λ (z : List ℕ). z ++ a.last ∷ []) e ∙ append_assoc front (x ∷ rest) (a.last ∷ []) in
     let next : a.before ≡ (front ++ x ∷ []) ++ rest = e ∙ sym (append_assoc front (x ∷ []) rest) in
-    let f = fit_less j a.valuation j.order front x (fit_front j a.valuation j.order (front ++ x ∷ []) rest (subst (Fit j a.valuation j.order) next a.fits)) in
+    let l = live_at j j.order front x (rest ++ a.last ∷ []) (subst (AreLiveFor j j.order) whole a.live) in
+    let f = (fit_last j a.valuation j.order front l.0 x l.1).0 (fit_front j a.valuation j.order (front ++ x ∷ []) rest (subst (Fit j a.valuation j.order) next a.fits)) in
     let turn = turn_of j front x (rest ++ a.last ∷ []) a.partners (sym whole ∙ a.first) a.below in
-    (follows_at j h p.plan a.valuation front x turn (Distinct-left front (x ∷ rest) (subst Distinct e a.distinct)) f.0 f.1 f.2 f.3, plain_grows j h p labels a (front ++ x ∷ []) rest next)
-
-nonempty : (xs : List ℕ) (x : ℕ) (ls : List ℕ) → ls ≡ x ∷ xs → 1 ≤ length ls
-nonempty xs x ls e = subst (λ (z : List ℕ). 1 ≤ length z) (sym e) (let q : 1 ≤ length (x ∷ xs) = omega arith in q)
+    (follows_at j h p.plan a.valuation front x turn (Distinct-left front (x ∷ rest) (subst Distinct e a.distinct)) l.0 l.1 f.0 f.1, plain_grows j h p labels a (front ++ x ∷ []) rest next)
 
 pub admissible_trial : (s : Space) → ArePlans s.rules s.plans → (r h : ℕ) (labels : List ℕ) → IsAdmissible s r h labels → IsTrial s (r ∷ h ∷ labels)
 admissible_trial s ps r h labels i =
     let a = i.labels_are in
     let p = planned s.rules s.plans ps r h i.rule i.order i.planned.rule_is i.planned.order_is in
-    trial_of s r h labels i.rule i.order i.planned (nonempty a.partners s.active labels a.first)
+    trial_of s r h labels i.rule i.order i.planned (omega (arith, ap length a.first))
     (subst (Grows (MayFollow (join_in s i.rule i.order)) []) (sym a.ends) (plain_grows (join_in s i.rule i.order) h p labels a [] a.before refl))
 
 -- labels that grow to plain words
 live_push : (j : Join) (steps : List Step) (before : List ℕ) (x : ℕ) → AreLiveFor j steps before → (step : Step) → slice_get steps (length before) ≡ Some step → IsLiveFor j step x → AreLiveFor j steps (before ++ x ∷ [])
-live_push j [] [] x a step e l = absurd (let z : None ≡ Some step = e in cc)
-live_push j [] (y ∷ before) x a step e l = absurd a
+live_push j [] before x a step e l = absurd (let z : None ≡ Some step = e in cc)
 live_push j (s ∷ steps) [] x a step e l = (subst (λ z. IsLiveFor j z x) (sym (some_is s step e)) l, tt)
 live_push j (s ∷ steps) (y ∷ before) x a step e l = (a.0, live_push j steps before x a.1 step e l)
 
@@ -77,7 +74,7 @@ grows_live : (j : Join) (before more : List ℕ) → AreLiveFor j j.order before
 grows_live j before [] a g = subst (AreLiveFor j j.order) (sym (append-nil before)) a
 grows_live j before (x ∷ more) a g =
     subst (AreLiveFor j j.order) (append_assoc before (x ∷ []) more)
-    (grows_live j (before ++ x ∷ []) more (live_push j j.order before x a g.0.step g.0.step_is (record { head = g.0.head; head_is = g.0.head_is; atom = g.0.atom; live = g.0.live; pred = g.0.pred })) g.1)
+    (grows_live j (before ++ x ∷ []) more (live_push j j.order before x a g.0.step g.0.step_is g.0.here) g.1)
 
 below_more : (j : Join) (y : ℕ) (before more : List ℕ) → Grows (MayFollow j) (y ∷ before) more → AllBelow j.bound more
 below_more j y before [] g l i = absurd (cc)
@@ -127,5 +124,5 @@ labels_admissible j (x ∷ more) some g =
 pub trial_admissible : (s : Space) (r h : ℕ) (labels : List ℕ) → IsTrial s (r ∷ h ∷ labels) → IsAdmissible s r h labels
 trial_admissible s r h labels i =
     let c = i.grows.1.0 in
-    let some : 1 ≤ length labels = (let d : 3 ≤ length (r ∷ h ∷ labels) = i.deep in omega arith) in
+    let some : 1 ≤ length labels = omega (arith, i.deep) in
     record { rule = c.0; order = c.1; planned = c.2; labels_are = labels_admissible (join_in s c.0 c.1) labels some (grows_in s r h c.0 c.1 c.2 [] labels i.grows.1.1) }

@@ -1,5 +1,5 @@
 -- Each labelled instance whose labels are the active one and others below the bound is in the reach, once.
-use Rattle.std.proofs.Common.{◌≡◌, ◌≢◌, ℕ, zero, suc, ◌<◌, ◌≤◌, true, false, ◌||◌, ◌==◌, List, [], ◌∷◌, ◌++◌, map, length, append_assoc, Some, None, slice_get, slice_index_or, refl, sym, ◌∙◌, ap, subst, arith, true-eqb, true≢false}
+use Rattle.std.proofs.Common.{◌≡◌, ◌≢◌, ℕ, zero, suc, ◌<◌, ◌≤◌, true, false, ◌==◌, List, [], ◌∷◌, ◌++◌, map, length, append_assoc, Some, None, slice_get, slice_index_or, refl, sym, ◌∙◌, ap, subst, arith, true-eqb, true≢false}
 use Rattle.std.specs.List.{AllByRecursion}
 use Rattle.std.specs.Option.{option_map}
 use Rattle.std.proofs.lemmas.Bool.Decides.{nat_tests}
@@ -12,7 +12,7 @@ use Rattle.chr_guard.specs.Instances.{atom_under, Instance}
 use Rattle.chr_guard.proofs.Under.{under_append}
 use Rattle.chr_model.specs.Stores.{Store, atom_at, among, Distinct, Carry, Labelled}
 use Rattle.chr_model.specs.Programs.{Instances}
-use Rattle.chr_model.proofs.Stores.{among-itself, among-more}
+use Rattle.chr_model.proofs.Stores.{among-append, among-itself, among-more, Distinct-left}
 use Rattle.chr_plan.specs.Orders.{heads_of}
 use Rattle.chr_plan.specs.Plans.{plan_at, ArePlans}
 use Rattle.chr_plan.specs.declared.order.Step.{Step}
@@ -21,6 +21,7 @@ use Rattle.chr_search.specs.Trials.{Join, StandsAt, Fit, IsInTurn, MayFollow, Sp
 use Rattle.chr_search.specs.Reach.{label_of, labels_in, Reach}
 use Rattle.chr_search.proofs.Plans.{heads_in, IsWithin, IsOrder, IsPlanOf, planned, planned_order}
 use Rattle.chr_search.proofs.Descents.{trial_of}
+use Rattle.chr_search.proofs.Partners.{distinct_less}
 use Rattle.chr_search.proofs.Following.{follows_at}
 
 pub get_after : {A : Type 0} (xs : List A) (x : A) (ys : List A) → slice_get (xs ++ x ∷ ys) (length xs) ≡ Some x
@@ -50,24 +51,19 @@ head_fixed ls d (suc j) zero a b p q e = absurd (omega arith)
 head_fixed ls d (suc j) (suc k) a b p q e = ap suc (place_fixed ls d j k (omega arith) (omega arith) e)
 
 -- a label among these is that of a head
-pub head_of : (ls : List ℕ) (l : ℕ) → among ls l ≡ true → (j : ℕ) × (1 ≤ j) × (j ≤ length ls) × (label_of ls j ≡ l)
+pub head_of : (ls : List ℕ) (l : ℕ) → among ls l ≡ true → (i : ℕ) × (i < length ls) × (label_of ls (suc i) ≡ l)
 head_of [] l h = absurd (cc)
 head_of (x ∷ xs) l h =
-    elim (x == l) as (λ b. (x == l ≡ b) → (j : ℕ) × (1 ≤ j) × (j ≤ length (x ∷ xs)) × (label_of (x ∷ xs) j ≡ l)) [
-      | true ↦ λ e. (1, omega arith, omega arith, true-eqb x l (sym e))
-      | false ↦ λ e. let r = head_of xs l (grind (arith, nat_tests)) in later r.0 r.1 r.2 r.3
+    elim (x == l) as (λ b. (x == l ≡ b) → (i : ℕ) × (i < length (x ∷ xs)) × (label_of (x ∷ xs) (suc i) ≡ l)) [
+      | true ↦ λ e. (0, omega arith, true-eqb x l (sym e))
+      | false ↦ λ e. let r = head_of xs l (grind (arith, nat_tests)) in (suc r.0, omega (arith, r.1), r.2)
     ] refl
-  where
-    later : (j : ℕ) → 1 ≤ j → j ≤ length xs → label_of xs j ≡ l → (k : ℕ) × (1 ≤ k) × (k ≤ length (x ∷ xs)) × (label_of (x ∷ xs) k ≡ l)
-    later zero a b e = absurd (omega arith)
-    later (suc j) a b e = (suc (suc j), omega arith, omega arith, e)
 
 -- atoms that labels carry
 Carry_append : (store : Store) (ks : List ℕ) (as' : List (Atom ℕ)) (ls : List ℕ) (bs : List (Atom ℕ)) → Carry store ks as' → Carry store ls bs → Carry store (ks ++ ls) (as' ++ bs)
 Carry_append store [] [] ls bs h k = k
 Carry_append store (l ∷ ks) (a ∷ as') ls bs h k = (h.0, Carry_append store ks as' ls bs h.1 k)
-Carry_append store [] (a ∷ as') ls bs h k = absurd h
-Carry_append store (l ∷ ks) [] ls bs h k = absurd h
+Carry_append store ks as' ls bs h k = absurd h
 
 pub record HeadStands (store : Store) (v : Valuation) (head : RuleAtom ℕ) (l : ℕ) : Type 0 where
   pub atom : Atom ℕ
@@ -75,19 +71,14 @@ pub record HeadStands (store : Store) (v : Valuation) (head : RuleAtom ℕ) (l :
   pub under : atom_under v head ≡ Some atom
 
 heads_carry : (store : Store) (v : Valuation) (hs : List (RuleAtom ℕ)) (as' : List (Atom ℕ)) (ls : List ℕ) → map (atom_under v) hs ≡ map (λ a. Some a) as' → Carry store ls as' → (i : ℕ) → i < length hs → (head : RuleAtom ℕ) × (slice_get hs i ≡ Some head) × HeadStands store v head (slice_index_or ls i 0)
-heads_carry store v [] as' ls e c i h = absurd (omega arith)
-heads_carry store v (x ∷ hs) [] ls e c i h = absurd (cc)
-heads_carry store v (x ∷ hs) (a ∷ as') [] e c i h = absurd c
 heads_carry store v (x ∷ hs) (a ∷ as') (l ∷ ls) e c zero h = (x, refl, record { atom = a; live = c.0; under = cc })
 heads_carry store v (x ∷ hs) (a ∷ as') (l ∷ ls) e c (suc i) h = heads_carry store v hs as' ls (cc) c.1 i (omega arith)
+heads_carry store v hs as' ls e c i h = absurd (grind arith)
 
 carry_length : (store : Store) (v : Valuation) (hs : List (RuleAtom ℕ)) (as' : List (Atom ℕ)) (ls : List ℕ) → map (atom_under v) hs ≡ map (λ a. Some a) as' → Carry store ls as' → length ls ≡ length hs
 carry_length store v [] [] [] e c = refl
-carry_length store v [] [] (l ∷ ls) e c = absurd c
-carry_length store v [] (a ∷ as') ls e c = absurd (cc)
-carry_length store v (x ∷ hs) [] ls e c = absurd (cc)
-carry_length store v (x ∷ hs) (a ∷ as') [] e c = absurd c
 carry_length store v (x ∷ hs) (a ∷ as') (l ∷ ls) e c = let r = carry_length store v hs as' ls (cc) c.1 in omega arith
+carry_length store v hs as' ls e c = absurd (grind arith)
 
 -- distinct labels, one for each head, carry the heads' atoms
 pub record Stands (rule : Simpagation ℕ) (store : Store) (v : Valuation) (ls : List ℕ) : Type 0 where
@@ -119,33 +110,17 @@ fit_front j v ls s (x ∷ front) rest w = (stand_at j v ls s x w.0, fit_front j 
 not_among : (n : ℕ) (ls : List ℕ) → Distinct ls → length ls ≡ n → (x : ℕ) → 1 ≤ x → x ≤ n → (front rest : List Step) → AllByRecursion (IsWithin n) (front ++ rest) → among (heads_in front) x ≡ false → among (labels_in ls front) (label_of ls x) ≡ false
 not_among n ls d e x a b [] rest w h = refl
 not_among n ls d e x a b (y ∷ front) rest w h =
-    elim (label_of ls y.head == label_of ls x) as (λ t. (label_of ls y.head == label_of ls x ≡ t) → (t || among (labels_in ls front) (label_of ls x)) ≡ false) [
-      | true ↦ λ t.
-          let low : 1 ≤ y.head = w.0.0 in
-          let high : y.head ≤ n = w.0.1 in
-          let same : y.head ≡ x = head_fixed ls d y.head x low (omega arith) a (omega arith) (true-eqb (label_of ls y.head) (label_of ls x) (sym t)) in
-          absurd (grind (arith, nat_tests))
-      | false ↦ λ t. not_among n ls d e x a b front rest w.1 (grind (arith, nat_tests))
-    ] refl
+    let same = head_fixed ls d y.head x w.0.0 (omega (arith, w.0.1)) a (omega arith) in
+    let more = not_among n ls d e x a b front rest w.1 in
+    grind (arith, nat_tests)
 
 among_front : (xs ys : List ℕ) (l : ℕ) → among (xs ++ ys) l ≡ false → among xs l ≡ false
-among_front [] ys l e = refl
-among_front (x ∷ xs) ys l e = let r = among_front xs ys l in grind (arith, nat_tests, r)
+among_front xs ys l e = grind (arith, nat_tests, among-append xs ys l)
 
 distinct_before : (front : List Step) (x : Step) (rest : List Step) → Distinct (heads_in (front ++ x ∷ rest)) → among (heads_in front) x.head ≡ false
-distinct_before [] x rest d = refl
-distinct_before (y ∷ front) x rest d =
-    elim (y.head == x.head) as (λ t. (y.head == x.head ≡ t) → (t || among (heads_in front) x.head) ≡ false) [
-      | true ↦ λ t.
-          let same : x.head ≡ y.head = sym (true-eqb y.head x.head (sym t)) in
-          let here : among (heads_in (front ++ x ∷ rest)) x.head ≡ true = ap (λ (z : List ℕ). among z x.head) (map-append (λ (step : Step). step.head) front (x ∷ rest)) ∙ among_mid (heads_in front) (heads_in rest) in
-          absurd (true≢false (sym here ∙ ap (among (heads_in (front ++ x ∷ rest))) same ∙ d.0))
-      | false ↦ λ t. distinct_before front x rest d.1
-    ] refl
-  where
-    among_mid : (xs ys : List ℕ) → among (xs ++ x.head ∷ ys) x.head ≡ true
-    among_mid [] ys = among-itself x.head ys
-    among_mid (z ∷ xs) ys = among-more z (xs ++ x.head ∷ ys) x.head (among_mid xs ys)
+distinct_before front x rest d =
+    let split = map-append (λ (step : Step). step.head) front (x ∷ rest) ∙ sym (append_assoc (heads_in front) (x.head ∷ []) (heads_in rest)) in
+    distinct_less (heads_in front) x.head (Distinct-left (heads_in front ++ x.head ∷ []) (heads_in rest) (subst Distinct split d))
 
 pub distinct_front : (n : ℕ) (ls : List ℕ) → Distinct ls → length ls ≡ n → (front rest : List Step) → AllByRecursion (IsWithin n) (front ++ rest) → Distinct (heads_in (front ++ rest)) → Distinct (labels_in ls front)
 distinct_front n ls d e [] rest w h = tt

@@ -1,5 +1,6 @@
 -- What a search keeps between its steps.
-use Rattle.std.proofs.Common.{◌≡◌, ◌≢◌, ℕ, ◌≤◌, Bool, true, false, List, [], ◌∷◌, ◌++◌, length, Option, Some, None, refl, sym, ◌∙◌, ap, ap₂, subst, arith}
+use Rattle.chr_value.proofs.Chosen.{some_is}
+use Rattle.std.proofs.Common.{◌≡◌, ◌≢◌, ℕ, ◌≤◌, true, false, List, [], ◌∷◌, ◌++◌, length, Option, Some, None, refl, sym, ◌∙◌, ap, ap₂, subst, arith, suc}
 use Rattle.std.proofs.lemmas.Bool.Decides.{nat_tests}
 use Rattle.chr_value.specs.Atoms.{Atom}
 use Rattle.chr_rule.specs.Rules.{Simpagation}
@@ -10,37 +11,31 @@ use Rattle.chr_plan.specs.Orders.{heads_of}
 use Rattle.chr_plan.specs.Plans.{PlanList, plan_at, ArePlans}
 use Rattle.chr_plan.specs.declared.order.Step.{Step}
 use Rattle.chr_search.specs.Positions.{at_or_after, begins, beginning, just_after, past}
-use Rattle.chr_search.specs.Tree.{Grows, Beyond}
-use Rattle.chr_search.specs.Trials.{MayFollow, Space, older, join_in, Child, IsTrial, IsNext, NoneLeft}
+use Rattle.chr_search.specs.Tree.{Grows}
+use Rattle.chr_search.specs.Trials.{MayFollow, Space, older, join_in, IsTrial, IsNext, NoneLeft}
 use Rattle.chr_search.specs.Reach.{label_of, labels_in, Reach, HasNoMore, over, Searching}
 use Rattle.chr_search.proofs.Positions.{after, passed}
 use Rattle.chr_search.proofs.Plans.{has_plan, planned}
-use Rattle.chr_search.proofs.Descents.{head_low, rule_low}
-use Rattle.chr_search.proofs.Reaches.{IsReached, in_reach, head_of, head_fixed, Stands, fit_front, distinct_front}
+use Rattle.chr_search.proofs.Descents.{head_low, rule_low, is_first, none_left}
+use Rattle.chr_search.proofs.Reaches.{IsReached, in_reach, head_of, head_fixed}
 use Rattle.chr_search.proofs.Shrinking.{branch, reached, reach_shrunk, trial_shrunk}
-
--- a trial at or after a position
-at_place : (s : Space) (place t : List ℕ) → at_or_after place t ≡ true → IsTrial s t → Beyond (Child s) 3 [] place t
-at_place s place t h i = record { grows = i.grows; deep = i.deep; there = h }
 
 -- where a search begins
 pub begun : (s : Space) → Searching s beginning None
 begun s = record { kept = λ t r. first t r.trial; least = λ c t e. absurd (let z : Some c ≡ None = sym e in cc) }
   where
-    ones : (r h : ℕ) (ls : List ℕ) → 1 ≤ r → 1 ≤ h → at_or_after (1 ∷ 1 ∷ []) (r ∷ h ∷ ls) ≡ true
-    ones r h ls a b = grind (arith, nat_tests)
-
     first : (t : List ℕ) → IsTrial s t → at_or_after beginning t ≡ true
-    first t i = let b = branch s t i in subst (λ z. at_or_after beginning z ≡ true) (sym b.is) (ones b.r b.h b.labels (rule_low s.rules b.r b.rule b.planned.rule_is) (head_low s.plans b.r b.h b.order b.planned.order_is))
+    first t i =
+        let b = branch s t i in
+        let rule = rule_low s.rules b.r b.rule b.planned.rule_is in
+        let head = head_low s.plans b.r b.h b.order b.planned.order_is in
+        subst (λ z. at_or_after beginning z ≡ true) (sym b.is) (grind (arith, nat_tests))
 
 -- a trial is answered
 pub asked : (s : Space) (place : List ℕ) (candidate : Option (List ℕ)) (found : List ℕ) → Searching s place candidate → IsNext s place found → Searching s place (Some found)
 asked s place candidate found k l = record {
   kept = k.kept;
-  least = λ c t e i h.
-      let same : c ≡ found = (let z : Some found ≡ Some c = e in cc) in
-      let is : found ≡ l.more = l.is in
-      subst (λ z. at_or_after z t ≡ true) (sym is ∙ sym same) (l.least t (at_place s place t h i));
+  least = λ c t e i h. subst (λ z. at_or_after z t ≡ true) (some_is found c e) (((is_first s place found).0 l).first t i h);
 }
 
 pub forgotten : (s : Space) (place : List ℕ) (candidate : Option (List ℕ)) → Searching s place candidate → Searching s place None
@@ -62,17 +57,13 @@ moved_after s place c k isnt = record {
 
 pub moved_past : (s : Space) (place c : List ℕ) → Searching s place (Some c) → ((t : List ℕ) → Reach s t → begins c t ≡ true → ⊥) → Searching s (past c) None
 moved_past s place c k isnt = record {
-  kept = λ t r. passed c t (k.least c t refl r.trial (k.kept t r)) (no (begins c t) (isnt t r));
+  kept = λ t r. passed c t (k.least c t refl r.trial (k.kept t r)) (let no = isnt t r in grind arith);
   least = λ d t e. absurd (let z : Some d ≡ None = sym e in cc);
 }
-  where
-    no : (b : Bool) → (b ≡ true → ⊥) → b ≡ false
-    no true h = absurd (h refl)
-    no false h = refl
 
 -- where no trial is left
 pub nothing_left : (s : Space) (place : List ℕ) (candidate : Option (List ℕ)) → Searching s place candidate → NoneLeft s place → (t : List ℕ) → Reach s t → ⊥
-nothing_left s place candidate k none t r = none t (at_place s place t (k.kept t r) r.trial)
+nothing_left s place candidate k none t r = (none_left s place).0 none t r.trial (k.kept t r)
 
 -- an instance with the active label as its youngest
 pub youngest_reached : (rules : List (Simpagation ℕ)) (plans : PlanList) → ArePlans rules plans → (store : Store) (label r h : ℕ) (kept removed : List ℕ) (body : List (Atom ℕ)) → Labelled (Instances rules) store r kept removed body → IsYoungest (kept ++ removed) label
@@ -86,10 +77,8 @@ none_youngest rules plans ps store label place candidate k none r kept removed b
     let h = head_of (kept ++ removed) label y.there in
     let rule = i.instance.0 in
     let st = Rattle.chr_search.proofs.Reaches.stands rule store kept removed i.kept_atoms i.removed_atoms body i.instance.2 i.distinct i.kept_there i.removed_there in
-    let count : length (kept ++ removed) ≡ length (heads_of rule) = st.count in
-    let high : h.0 ≤ length (kept ++ removed) = h.2 in
-    let p = has_plan rules plans ps r h.0 rule i.instance.1 h.1 (omega arith) in
-    nothing_left (older rules plans store label) place candidate k none _ (youngest_reached rules plans ps store label r h.0 kept removed body i y h.1 high h.3 p.0 p.1)
+    let p = has_plan rules plans ps r (suc h.0) rule i.instance.1 (omega arith) (omega (arith, h.1, st.count)) in
+    nothing_left (older rules plans store label) place candidate k none _ (youngest_reached rules plans ps store label r (suc h.0) kept removed body i y (omega arith) (omega (arith, h.1)) h.2 p.0 p.1)
 
 -- The first label of a trial of the reach is the active one, and stands at the trial's head.
 first_is : (s : Space) → ArePlans s.rules s.plans → (t : List ℕ) (k : Reach s t) → (1 ≤ k.head) × (k.head ≤ length (k.kept ++ k.removed)) × (label_of (k.kept ++ k.removed) k.head ≡ s.active)
@@ -113,31 +102,17 @@ once s ps t u x y er el =
 
 -- positions move on
 pub moves_after : (place t : List ℕ) → at_or_after place t ≡ true → (at_or_after place (just_after t) ≡ true) × (at_or_after (just_after t) place ≡ false)
-moves_after place t h = (later place t h, earlier place t h)
+moves_after (x ∷ p) (y ∷ q) k = let r = moves_after p q in (grind (arith, nat_tests), grind (arith, nat_tests))
+moves_after [] t k = (refl, no_less t)
   where
-    later : (p q : List ℕ) → at_or_after p q ≡ true → at_or_after p (just_after q) ≡ true
-    later [] q k = refl
-    later (x ∷ p) [] k = absurd (cc)
-    later (x ∷ p) (y ∷ q) k = let r = later p q in grind (arith, nat_tests, r)
-
-    earlier : (p q : List ℕ) → at_or_after p q ≡ true → at_or_after (just_after q) p ≡ false
-    earlier [] [] k = refl
-    earlier [] (y ∷ q) k = refl
-    earlier (x ∷ p) [] k = absurd (cc)
-    earlier (x ∷ p) (y ∷ q) k = let r = earlier p q in grind (arith, nat_tests, r)
+    no_less : (q : List ℕ) → at_or_after (just_after q) [] ≡ false
+    no_less [] = refl
+    no_less (y ∷ q) = refl
+moves_after (x ∷ p) [] k = absurd (cc)
 
 pub moves_past : (place t : List ℕ) → t ≢ [] → at_or_after place t ≡ true → (at_or_after place (past t) ≡ true) × (at_or_after (past t) place ≡ false)
-moves_past place t ne h = (later place t ne h, earlier place t ne h)
-  where
-    later : (p q : List ℕ) → q ≢ [] → at_or_after p q ≡ true → at_or_after p (past q) ≡ true
-    later p [] n k = absurd (n refl)
-    later [] (y ∷ q) n k = refl
-    later (x ∷ p) (y ∷ []) n k = grind (arith, nat_tests)
-    later (x ∷ p) (y ∷ z ∷ q) n k = let r = later p (z ∷ q) (λ e. (cc)) in grind (arith, nat_tests, r)
-
-    earlier : (p q : List ℕ) → q ≢ [] → at_or_after p q ≡ true → at_or_after (past q) p ≡ false
-    earlier p [] n k = absurd (n refl)
-    earlier [] (y ∷ []) n k = refl
-    earlier [] (y ∷ z ∷ q) n k = refl
-    earlier (x ∷ p) (y ∷ []) n k = grind (arith, nat_tests)
-    earlier (x ∷ p) (y ∷ z ∷ q) n k = let r = earlier p (z ∷ q) (λ e. (cc)) in grind (arith, nat_tests, r)
+moves_past (x ∷ p) (y ∷ z ∷ q) ne k = let r = moves_past p (z ∷ q) (λ e. (cc)) in (grind (arith, nat_tests), grind (arith, nat_tests))
+moves_past [] (y ∷ []) ne k = (refl, refl)
+moves_past [] (y ∷ z ∷ q) ne k = (refl, refl)
+moves_past (x ∷ p) (y ∷ []) ne k = (grind (arith, nat_tests), grind (arith, nat_tests))
+moves_past p [] ne k = absurd (ne refl)

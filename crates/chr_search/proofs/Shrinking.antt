@@ -1,5 +1,5 @@
 -- A store that has no more than another gives no more trials.
-use Rattle.std.proofs.Common.{◌≡◌, ℕ, ◌<◌, ◌≤◌, true, false, ◌==◌, List, [], ◌∷◌, ◌++◌, length, append_assoc, Some, None, refl, sym, ◌∙◌, subst, arith, ◌⊎◌, inl, inr, true-eqb}
+use Rattle.std.proofs.Common.{◌≡◌, ℕ, ◌<◌, ◌≤◌, true, List, [], ◌∷◌, ◌++◌, length, append_assoc, Some, refl, sym, subst, arith, ◌⊎◌, inl, inr, suc}
 use Rattle.std.proofs.lemmas.Bool.Decides.{nat_tests}
 use Rattle.chr_value.specs.Atoms.{Atom}
 use Rattle.chr_rule.specs.Rules.{Simpagation}
@@ -16,7 +16,7 @@ use Rattle.chr_plan.specs.declared.order.Step.{Step}
 use Rattle.chr_search.specs.Tree.{Grows}
 use Rattle.chr_search.specs.Trials.{Join, Fit, IsInTurn, MayFollow, Space, join_in, IsPlanned, Child, IsTrial}
 use Rattle.chr_search.specs.Reach.{label_of, labels_in, Reach, MayHave, HasNoMore, over}
-use Rattle.chr_search.proofs.Plans.{heads_in, planned_order, IsOrder}
+use Rattle.chr_search.proofs.Plans.{among_push, heads_in, planned_order, IsOrder}
 use Rattle.chr_search.proofs.Descents.{grows_in, trial_of}
 use Rattle.chr_search.proofs.Following.{follows_live}
 use Rattle.chr_search.proofs.Reaches.{Stands, stands, head_of, reach_of}
@@ -30,15 +30,7 @@ turn_seen j [] l t = inl t
 turn_seen j (x ∷ before) l t = inr t
 
 seen_push : (j : Join) (before : List ℕ) (x : ℕ) → AllSeen j before → (x ≡ j.active) ⊎ (x < j.bound) → AllSeen j (before ++ x ∷ [])
-seen_push j before x a s l i =
-    elim (x == l) as (λ b. (x == l ≡ b) → (l ≡ j.active) ⊎ (l < j.bound)) [
-      | true ↦ λ e. subst (λ z. (z ≡ j.active) ⊎ (z < j.bound)) (true-eqb x l (sym e)) s
-      | false ↦ λ e. a l (among_old before e i)
-    ] refl
-  where
-    among_old : (xs : List ℕ) → (x == l) ≡ false → among (xs ++ x ∷ []) l ≡ true → among xs l ≡ true
-    among_old [] e h = grind (arith, nat_tests)
-    among_old (y ∷ xs) e h = let r = among_old xs e in grind (arith, nat_tests, r)
+seen_push j before x a s l i = let old = a l in let more = among_push before x l in grind (arith, nat_tests)
 
 pub grows_seen : (j : Join) (before more : List ℕ) → AllSeen j before → Grows (MayFollow j) before more → AllSeen j (before ++ more)
 grows_seen j before [] a g = subst (AllSeen j) (sym (append-nil before)) a
@@ -85,11 +77,10 @@ pub record Branch (s : Space) (t : List ℕ) : Type 0 where
   pub grows : Grows (MayFollow (join_in s rule order)) [] labels
 
 pub branch : (s : Space) (t : List ℕ) → IsTrial s t → Branch s t
-branch s [] i = absurd (let d : 3 ≤ length {A = ℕ} [] = i.deep in omega arith)
-branch s (r ∷ []) i = absurd (let d : 3 ≤ length (r ∷ []) = i.deep in omega arith)
 branch s (r ∷ h ∷ labels) i =
     let c = i.grows.1.0 in
-    record { r = r; h = h; labels = labels; is = refl; some = (let d : 3 ≤ length (r ∷ h ∷ labels) = i.deep in omega arith); rule = c.0; order = c.1; planned = c.2; grows = grows_in s r h c.0 c.1 c.2 [] labels i.grows.1.1 }
+    record { r = r; h = h; labels = labels; is = refl; some = omega (arith, i.deep); rule = c.0; order = c.1; planned = c.2; grows = grows_in s r h c.0 c.1 c.2 [] labels i.grows.1.1 }
+branch s t i = absurd (omega (arith, i.deep))
 
 none_seen : (j : Join) → AllSeen j []
 none_seen j l i = absurd (cc)
@@ -103,11 +94,7 @@ trial_shrunk s new f t i =
 -- the labels of a trial that has all of an instance
 pub among_named : (ls : List ℕ) (steps : List Step) (j : ℕ) → among (heads_in steps) j ≡ true → among (labels_in ls steps) (label_of ls j) ≡ true
 among_named ls [] j h = absurd (cc)
-among_named ls (x ∷ steps) j h =
-    elim (x.head == j) as (λ b. (x.head == j ≡ b) → among (labels_in ls (x ∷ steps)) (label_of ls j) ≡ true) [
-      | true ↦ λ e. subst (λ z. among (label_of ls x.head ∷ labels_in ls steps) (label_of ls z) ≡ true) (true-eqb x.head j (sym e)) (among-itself (label_of ls x.head) (labels_in ls steps))
-      | false ↦ λ e. among-more (label_of ls x.head) (labels_in ls steps) (label_of ls j) (among_named ls steps j (grind (arith, nat_tests)))
-    ] refl
+among_named ls (x ∷ steps) j h = let more = among_named ls steps j in grind (arith, nat_tests)
 
 -- what a trial of the reach has
 pub record Reached (s : Space) (t : List ℕ) (k : Reach s t) : Type 0 where
@@ -142,9 +129,7 @@ pub reach_named : (s : Space) (ps : ArePlans s.rules s.plans) (t : List ℕ) (k 
 reach_named s ps t k l i =
     let r = reached s ps t k in
     let h = head_of (k.kept ++ k.removed) l i in
-    let count : length (k.kept ++ k.removed) ≡ length (heads_of r.rule) = r.stands.count in
-    let high : h.0 ≤ length (k.kept ++ k.removed) = h.2 in
-    subst (λ z. among (labels_in (k.kept ++ k.removed) k.order) z ≡ true) h.3 (among_named (k.kept ++ k.removed) k.order h.0 (r.order.named h.0 h.1 (omega arith)))
+    subst (λ z. among (labels_in (k.kept ++ k.removed) k.order) z ≡ true) h.2 (among_named (k.kept ++ k.removed) k.order (suc h.0) (r.order.named (suc h.0) (omega arith) (omega (arith, h.1, r.stands.count))))
 
 pub reach_seen : (s : Space) (ps : ArePlans s.rules s.plans) (t : List ℕ) (k : Reach s t) → (l : ℕ) → among (k.kept ++ k.removed) l ≡ true → MayHave s l
 reach_seen s ps t k l i =
@@ -158,11 +143,7 @@ reach_shrunk s ps new f t k =
 
 -- what others do to the store
 pub removed_no_more : (s : Space) (l : ℕ) → HasNoMore s (drop_label l s.store)
-removed_no_more s l m a seen at =
-    elim (l == m) as (λ b. (l == m ≡ b) → atom_at s.store m ≡ Some a) [
-      | true ↦ λ e. absurd (let z : None ≡ Some a = sym (grind (arith, nat_tests, atom_at-drop s.store l m)) ∙ at in cc)
-      | false ↦ λ e. sym (grind (arith, nat_tests, atom_at-drop s.store l m)) ∙ at
-    ] refl
+removed_no_more s l m a seen at = grind (arith, nat_tests, atom_at-drop s.store l m)
 
 pub inserted_no_more : (s : Space) (l : ℕ) (a : Atom ℕ) → s.active < l → s.bound ≤ l → HasNoMore s (s.store ++ (l, a) ∷ [])
 inserted_no_more s l a over_active over_bound m b (inl seen) at = atom_at-old s.store l a m b (λ e. absurd (omega arith)) at

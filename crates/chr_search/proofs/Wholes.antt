@@ -1,5 +1,5 @@
 -- Trials whose heads are all tried.
-use Rattle.std.proofs.Common.{◌≡◌, ◌↔◌, ℕ, zero, suc, ◌+◌, ◌<◌, ◌≤◌, Bool, true, false, ◌==◌, if◌then◌else◌, List, [], ◌∷◌, map, drop, length, Option, Some, None, MatchOption, slice_get, refl, sym, ◌∙◌, ap, ap₂, subst, arith, true-eqb}
+use Rattle.std.proofs.Common.{◌≡◌, ◌↔◌, ℕ, zero, suc, ◌+◌, ◌<◌, ◌≤◌, Bool, true, false, ◌==◌, if◌then◌else◌, List, [], ◌∷◌, map, drop, length, Option, Some, None, MatchOption, slice_get, refl, ◌∙◌, ap, ap₂, subst, arith}
 use Rattle.std.specs.List.{AllByRecursion}
 use Rattle.std.specs.Option.{option_map}
 use Rattle.std.proofs.lemmas.Bool.Decides.{nat_tests}
@@ -32,11 +32,7 @@ places ps = map (λ p. (p.head, p.atom)) ps
 
 at_head : (rule : Simpagation ℕ) (v : Valuation) (ps : List Placed) → AreAtHeads rule (places ps) v → (h : ℕ) → among (map (λ (p : Placed). p.head) ps) h ≡ true → IsAtHead rule v (h, atom_of ps h)
 at_head rule v [] a h i = absurd (cc)
-at_head rule v (p ∷ ps) a h i =
-    elim (p.head == h) as (λ b. (p.head == h ≡ b) → IsAtHead rule v (h, if b then p.atom else atom_of ps h)) [
-      | true ↦ λ e. subst (λ n. IsAtHead rule v (n, p.atom)) (true-eqb p.head h (sym e)) a.0
-      | false ↦ λ e. at_head rule v ps a.1 h (grind (arith, nat_tests))
-    ] refl
+at_head rule v (p ∷ ps) a h i = let rest = at_head rule v ps a.1 h in grind (arith, nat_tests, a.0)
 
 under_from : (v : Valuation) (ps : List Placed) (hs : List (RuleAtom ℕ)) (h : ℕ) → ((i : ℕ) → i < length hs → option_map (atom_under v) (slice_get hs i) ≡ Some (Some (atom_of ps (h + i)))) → map (atom_under v) hs ≡ map (λ a. Some a) (atoms_from ps h (length hs))
 under_from v ps [] h f = refl
@@ -64,8 +60,7 @@ past_first p ps (q ∷ qs) a b = (ap (λ (c : Bool). if c then p.atom else atom_
 
 own_atoms : (ps : List Placed) → Distinct (map (λ (p : Placed). p.head) ps) → AllByRecursion (λ p. atom_of ps p.head ≡ p.atom) ps
 own_atoms [] d = tt
-own_atoms (p ∷ ps) d =
-    (ap (λ (c : Bool). if c then p.atom else atom_of ps p.head) (let e : (p.head == p.head) ≡ true = grind (arith, nat_tests) in e), past_first p ps ps (others_apart ps p.head d.0) (own_atoms ps d.1))
+own_atoms (p ∷ ps) d = (grind (arith, nat_tests), past_first p ps ps (others_apart ps p.head d.0) (own_atoms ps d.1))
 
 back_at : (rule : Simpagation ℕ) (v : Valuation) (all ps : List Placed) → HeadsAre rule (atoms_from all 1 (length (heads_of rule))) v → AllByRecursion (λ p. (1 ≤ p.head) × (p.head ≤ length (heads_of rule)) × (p.label ≤ 4294967295)) ps → AllByRecursion (λ p. atom_of all p.head ≡ p.atom) ps → AreAtHeads rule (places ps) v
 back_at rule v all [] e w o = tt
@@ -112,11 +107,7 @@ whole_instance t f w =
       right = w.right;
       kept_are = parts.0;
       removed_are = parts.1;
-      some_removed = λ e. (
-          let none : length t.rule.removed ≡ 0 = sym (length-map t.rule.removed (atom_under w.valuation)) ∙ ap length parts.1 ∙ length-map (drop (length t.rule.kept) (in_head_order t)) (λ a. Some a) ∙ ap length e in
-          let some : 0 < length t.rule.removed = f.scoped.limits.removed in
-          absurd (omega arith)
-          );
+      some_removed = λ e. absurd (omega (arith, length-map t.rule.removed (atom_under w.valuation), ap length parts.1, length-map (drop (length t.rule.kept) (in_head_order t)) (λ a. Some a), ap length e, f.scoped.limits.removed));
       body_is = w.body_is;
     }
 

@@ -6,15 +6,7 @@ use Rattle.chr_guard.specs.Values.{Valuation}
 use Rattle.chr_model.specs.Stores.{atom_at, Distinct}
 use Rattle.chr_model.specs.Searches.{AllBelow}
 use Rattle.chr_plan.specs.declared.order.Step.{Step}
-use Rattle.chr_search.specs.Trials.{Join, Space, join_in, IsPlanned, HasHeadPred, HasKeyValue, Fit}
-
--- the label is live, and its atom has the predicate of the step's head
-pub record IsLiveFor (j : Join) (step : Step) (l : ℕ) : Type 0 where
-  pub head : RuleAtom ℕ
-  pub head_is : head_at j.rule step.head ≡ Some head
-  pub atom : Atom ℕ
-  pub live : atom_at j.store l ≡ Some atom
-  pub pred : HasHeadPred head atom
+use Rattle.chr_search.specs.Trials.{Join, Space, join_in, IsPlanned, IsLiveFor, HasKeyValue, Fit}
 
 -- each of the labels, at the steps from the first on
 abbrev pub AreLiveFor : Join → List Step → List ℕ → Type 0

@@ -53,6 +53,14 @@ abbrev pub IsInTurn : Join → List ℕ → ℕ → Type 0
 IsInTurn j [] l = l ≡ j.active
 IsInTurn j (x ∷ xs) l = l < j.bound
 
+-- the label is live, and its atom has the predicate of the step's head
+pub record IsLiveFor (j : Join) (step : Step) (l : ℕ) : Type 0 where
+  pub head : RuleAtom ℕ
+  pub head_is : head_at j.rule step.head ≡ Some head
+  pub atom : Atom ℕ
+  pub live : atom_at j.store l ≡ Some atom
+  pub pred : HasHeadPred head atom
+
 -- A label may be tried after these: they are distinct and fit, and its atom has the next head's predicate and, under that
 -- fit, the value of the plan's key.
 pub record MayFollow (j : Join) (before : List ℕ) (l : ℕ) : Type 0 where
@@ -62,11 +70,8 @@ pub record MayFollow (j : Join) (before : List ℕ) (l : ℕ) : Type 0 where
   pub fits : Fit j valuation j.order before
   pub step : Step
   pub step_is : slice_get j.order (length before) ≡ Some step
-  pub head : RuleAtom ℕ
-  pub head_is : head_at j.rule step.head ≡ Some head
-  pub atom : Atom ℕ
-  pub live : atom_at j.store l ≡ Some atom
-  pub pred : HasHeadPred head atom
+  pub here : IsLiveFor j step l
+  pub open here use *
   pub key : HasKeyValue valuation head step.key atom
 
 -- what a search looks through: a program and its plans, over a store, for an active label with partners below a bound

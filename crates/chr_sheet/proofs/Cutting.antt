@@ -19,35 +19,30 @@ pub record IsCut (part : Trial) (r : Row) (n : ℕ) (before : List Placed) (last
   pub formed : IsFormed (lengthened part last)
   pub row : 1 ≤ length before → IsRow (row_of part before)
 
--- a trial of a row, read at its label's place
-trial_read : {X : Type 0} (f : X → Placed) (part : Trial) (xs : List X) (n : ℕ) (x : X) → n < length xs → x ≡ get_or xs n x → lengthened part (f x) ≡ get_or (trials_of (row_of part (map f xs))) n (lengthened part (f x))
-trial_read f part xs n x h e =
-    ap (lengthened part) (ap f e ∙ sym (get_or-map f xs n x (f x) h)) ∙ sym (get_or-map (lengthened part) (map f xs) n (f x) (lengthened part (f x)) (omega (arith, length-map xs f)))
+-- an image of an image, read at its place
+pub image_at : {X Y Z : Type 0} (f : X → Y) (g : Y → Z) (xs : List X) (ys : List Y) (i : ℕ) (x : X) → map f xs ≡ ys → i < length xs → x ≡ get_or xs i x → (i < length (map g ys)) × (g (f x) ≡ get_or (map g ys) i (g (f x)))
+image_at f g xs ys i x is h e =
+    subst (λ zs. (i < length (map g zs)) × (g (f x) ≡ get_or (map g zs) i (g (f x)))) is
+    (omega (arith, length-map (map f xs) g, length-map xs f), ap g (ap f e ∙ sym (get_or-map f xs i x (f x) h)) ∙ sym (get_or-map g (map f xs) i (f x) (g (f x)) (omega (arith, length-map xs f))))
 
-pub trials_count : {X : Type 0} (f : X → Placed) (part : Trial) (xs : List X) → length (trials_of (row_of part (map f xs))) ≡ length xs
-trials_count f part xs = length-map (map f xs) (lengthened part) ∙ length-map xs f
+-- the images before a place, and the one there
+pub cut_images : {X Y Z : Type 0} (f : X → Y) (g : Y → Z) (xs ys : List X) (n : ℕ) (x : X) → n < length (map f xs) → take (n + 1) xs ≡ ys ++ x ∷ [] → (map g (map f ys) ≡ take n (map g (map f xs))) × (n < length (map g (map f xs))) × (g (f x) ≡ get_or (map g (map f xs)) n (g (f x)))
+cut_images f g xs ys n x h e =
+    let within : n < length xs = omega (arith, length-map xs f) in
+    let parts = same_from_push ys (take n xs) x (get_or xs n x) (sym e ∙ take_more xs n x within) in
+    let at = image_at f g xs (map f xs) n x refl within parts.1 in
+    (ap (map g) (ap (map f) parts.0 ∙ sym (take-map f n xs)) ∙ sym (take-map g n (map f xs)), at.0, at.1)
 
 cut_whole : {X : Type 0} (f : X → Placed) (part : Trial) (xs ys : List X) (n : ℕ) (x : X) → IsRow (row_of part (map f xs)) → n < length (map f xs) → take (n + 1) xs ≡ ys ++ x ∷ [] → IsCut part (row_of part (map f xs)) n (map f ys) (f x)
 cut_whole f part xs ys n x r h e =
     let all : List Trial = trials_of (row_of part (map f xs)) in
-    let t : Trial = lengthened part (f x) in
-    let within : n < length xs = omega (arith, length-map xs f) in
-    let here : n < length all = omega (arith, trials_count f part xs) in
-    let parts = same_from_push ys (take n xs) x (get_or xs n x) (sym e ∙ take_more xs n x within) in
-    let at : t ≡ get_or all n t = trial_read f part xs n x within parts.1 in
-    let of = all_at IsFormed all n t here at r.formed in
-    let before : map f ys ≡ take n (map f xs) = ap (map f) parts.0 ∙ sym (take-map f n xs) in
-    let trials : trials_of (row_of part (map f ys)) ≡ take n all = ap (map (lengthened part)) before ∙ sym (take-map (lengthened part) n (map f xs)) in
+    let cut = cut_images f (lengthened part) xs ys n x h e in
+    let of = all_at IsFormed all n (lengthened part (f x)) cut.1 cut.2 r.formed in
     record {
-      trials = trials;
-      trial = slice_get_read all (length all) n t refl here at;
+      trials = cut.0;
+      trial = slice_get_read all (length all) n (lengthened part (f x)) refl cut.1 cut.2;
       formed = of.1;
-      row = λ some. record {
-        part = r.part;
-        some = some;
-        full = r.full;
-        formed = subst (AllByRecursion IsFormed) (sym trials) of.0;
-      };
+      row = λ some. record { part = r.part; some = some; full = r.full; formed = subst (AllByRecursion IsFormed) (sym cut.0) of.0 };
     }
 
 pub cut : {X : Type 0} (f : X → Placed) (part : Trial) (xs ys : List X) (n : ℕ) (x : X) (r : Row) → row_of part (map f xs) ≡ r → IsRow (row_of part (map f xs)) → n < length r.lasts → take (n + 1) xs ≡ ys ++ x ∷ [] → IsCut part r n (map f ys) (f x)
@@ -55,16 +50,8 @@ cut f part xs ys n x r is w h e = subst (λ r. n < length r.lasts → IsCut part
 
 -- the first trial
 pub first_of : {X : Type 0} (f : X → Placed) (r : Row) (xs : List X) (x : X) → map f xs ≡ r.lasts → 1 ≤ length r.lasts → x ≡ get_or xs 0 x → slice_get (trials_of r) 0 ≡ Some (lengthened r.part (f x))
-first_of f r [] x is some e = absurd (let none : length r.lasts ≡ 0 = ap length (sym is) in omega arith)
+first_of f r [] x is some e = absurd (omega (arith, ap length is))
 first_of f r (y ∷ ys) x is some e = subst (λ ls. slice_get (map (lengthened r.part) ls) 0 ≡ Some (lengthened r.part (f x))) is (ap (λ z. Some (lengthened r.part (f z))) (sym e))
-
--- the last one is formed
-pub last_formed : {X : Type 0} (f : X → Placed) (r : Row) (xs : List X) (x : X) → map f xs ≡ r.lasts → IsRow r → x ≡ get_or xs (length xs - 1) x → IsFormed (lengthened r.part (f x))
-last_formed f r xs x is w e =
-    let row : row_of r.part (map f xs) ≡ r = ap (row_of r.part) is in
-    let some : 1 ≤ length r.lasts = w.some in
-    let last : length xs - 1 < length xs = omega (arith, ap length is, length-map xs f) in
-    (all_at IsFormed (trials_of (row_of r.part (map f xs))) (length xs - 1) (lengthened r.part (f x)) (omega (arith, trials_count f r.part xs)) (trial_read f r.part xs (length xs - 1) x last e) (subst (λ (q : Row). AllByRecursion IsFormed (trials_of q)) (sym row) w.formed)).1
 
 -- whether there are labels, told by their number
 pub told_none : {X : Type 0} (xs : List X) (len : ℕ) (told : Bool) → told ≡ (len == 0) → told ≡ true → length xs ≡ len → length xs ≡ 0

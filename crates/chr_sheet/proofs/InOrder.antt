@@ -1,5 +1,5 @@
 -- Trials that are judged in order.
-use Rattle.std.proofs.Common.{◌≡◌, ◌≢◌, ◌⊎◌, ℕ, zero, suc, ◌+◌, ◌<◌, ◌≤◌, List, [], ◌∷◌, ◌++◌, map, take, length, append_assoc, Option, Some, None, MatchOption, Result, Ok, Err, IfOk, slice_get, refl, sym, ◌∙◌, ap, subst, arith, inl, inr, ⊎_elim}
+use Rattle.std.proofs.Common.{◌≡◌, ◌≢◌, ◌⊎◌, ℕ, zero, suc, ◌+◌, ◌≤◌, List, [], ◌∷◌, ◌++◌, map, take, length, append_assoc, Option, Some, None, MatchOption, Result, Ok, Err, IfOk, slice_get, refl, sym, ◌∙◌, ap, subst, arith, inl, inr, ⊎_elim, drop, ◌↔◌, not}
 use Rattle.std.specs.Bool.{⊤}
 use Rattle.std.specs.List.{AllByRecursion}
 use Rattle.std.proofs.lemmas.List.{append-nil, take-map}
@@ -13,13 +13,18 @@ use Rattle.chr_sheet.specs.declared.trials.Trials.TheVariants as some
 use Rattle.chr_sheet.specs.Columns.{column_trials}
 use Rattle.chr_sheet.specs.Kept.{trials_at, judged_at}
 use Rattle.chr_sheet.specs.Rows.{Row, IsRow, misfit, judged_part, listed, trials_of, branch_trials, AreMisfits, AreRight, MustBeWhole}
+use Rattle.chr_value.proofs.Chosen.{some_is}
+use Rattle.std.proofs.lemmas.List.{take-append-drop}
+use Rattle.chr_sheet.proofs.Keeping.{none_whole}
 use Rattle.chr_sheet.specs.Sheets.{AreJudgedInOrder, AreJudgedUpTo}
 
 -- ---- some and then others
 
-pub all_both : {X : Type 0} (P : X → Type 0) (xs ys : List X) → AllByRecursion P xs → AllByRecursion P ys → AllByRecursion P (xs ++ ys)
-all_both P [] ys a b = b
-all_both P (x ∷ xs) ys a b = (a.0, all_both P xs ys a.1 b)
+pub all_both : {X : Type 0} (P : X → Type 0) (xs ys : List X) → AllByRecursion P (xs ++ ys) ↔ (AllByRecursion P xs × AllByRecursion P ys)
+all_both P [] ys = (λ a. (tt, a), λ a. a.1)
+all_both P (x ∷ xs) ys =
+    let rest = all_both P xs ys in
+    (λ a. let r = rest.0 a.1 in ((a.0, r.0), r.1), λ a. (a.0.0, rest.1 (a.0.1, a.1)))
 
 both_in_order : (ts us : List Trial) (js ks : List Judgement) → AreJudgedInOrder ts js → AllByRecursion (λ j. j.verdict ≢ Whole) js → AreJudgedInOrder us ks → AreJudgedInOrder (ts ++ us) (js ++ ks)
 both_in_order ts us [] ks a n b = subst (λ (z : List Trial). AreJudgedInOrder (z ++ us) ks) (sym a) b
@@ -28,17 +33,17 @@ both_in_order (t ∷ ts) us (j ∷ js) ks a n b = (a.0, ⊎_elim (λ w. absurd (
 
 -- a whole one is the last, whatever trials come after it
 whole_in_order : (ts us : List Trial) (js : List Judgement) (w : Judgement) → AreJudgedInOrder ts (js ++ w ∷ []) → w.verdict ≡ Whole → AreJudgedInOrder (ts ++ us) (js ++ w ∷ [])
-whole_in_order [] us [] w a h = absurd a
 whole_in_order (t ∷ ts) us [] w a h = (a.0, ⊎_elim (λ m. inl m) (λ m. absurd (m.0 h)) a.1)
-whole_in_order [] us (j ∷ js) w a h = absurd a
 whole_in_order (t ∷ ts) us (j ∷ js) w a h = (a.0, ⊎_elim (λ m. inl m) (λ m. inr (m.0, whole_in_order ts us js w m.1 h)) a.1)
+whole_in_order [] us [] w a h = absurd a
+whole_in_order [] us (j ∷ js) w a h = absurd a
 
 pub both_up_to : (ts us : List Trial) (a b c : List Judgement) (w : Option Judgement) → AreJudgedUpTo ts a b None → AreJudgedUpTo us b c w → AreJudgedUpTo (ts ++ us) a c w
 both_up_to ts us a b c w x y = (
   x.0 ++ y.0,
   y.1 ∙ ap (λ z. z ++ y.0) x.1 ∙ append_assoc a x.0 y.0,
   subst (AreJudgedInOrder (ts ++ us)) (sym (append_assoc x.0 y.0 (listed w))) (both_in_order ts us x.0 (y.0 ++ listed w) (subst (AreJudgedInOrder ts) (append-nil x.0) x.2) x.3 y.2),
-  all_both (λ (j : Judgement). j.verdict ≢ Whole) x.0 y.0 x.3 y.3,
+  (all_both (λ (j : Judgement). j.verdict ≢ Whole) x.0 y.0).1 (x.3, y.3),
   y.4,
 )
 
@@ -59,10 +64,6 @@ misfits_in_order : (ts : List Trial) → AreJudgedInOrder ts (map misfit ts)
 misfits_in_order [] = refl
 misfits_in_order (t ∷ ts) = (refl, inr (λ e. absurd (cc), misfits_in_order ts))
 
-none_whole : (ts : List Trial) → AllByRecursion (λ j. j.verdict ≢ Whole) (map misfit ts)
-none_whole [] = tt
-none_whole (t ∷ ts) = (λ e. absurd (cc), none_whole ts)
-
 -- ---- trials that are kept together, where none is whole
 
 kept_in_order : {Z : Type 0} (x : CodeTrials Z) → AreJudgedInOrder (trials_at x) (judged_at x)
@@ -71,39 +72,29 @@ kept_in_order (some.Row r) = misfits_in_order (trials_of r)
 kept_in_order (some.Branch r) = (refl, inr (λ e. absurd (cc), misfits_in_order (trials_of r)))
 kept_in_order (some.Column c) = misfits_in_order (column_trials c)
 
-kept_others : {Z : Type 0} (x : CodeTrials Z) → AllByRecursion (λ j. j.verdict ≢ Whole) (judged_at x)
-kept_others (some.One t) = (λ e. absurd (cc), tt)
-kept_others (some.Row r) = none_whole (trials_of r)
-kept_others (some.Branch r) = (λ e. absurd (cc), none_whole (trials_of r))
-kept_others (some.Column c) = none_whole (column_trials c)
-
 all_front : {X : Type 0} (P : X → Type 0) (xs : List X) (n : ℕ) → AllByRecursion P xs → AllByRecursion P (take n xs)
-all_front P [] zero a = tt
-all_front P [] (suc n) a = tt
-all_front P (x ∷ xs) zero a = tt
-all_front P (x ∷ xs) (suc n) a = (a.0, all_front P xs n a.1)
+all_front P xs n a = ((all_both P (take n xs) (drop n xs)).0 (subst (AllByRecursion P) (sym (take-append-drop n xs)) a)).0
 
 front_in_order : (ts : List Trial) (js : List Judgement) (n : ℕ) → AreJudgedInOrder ts js → AllByRecursion (λ j. j.verdict ≢ Whole) js → AreJudgedInOrder (take n ts) (take n js)
-front_in_order [] [] zero a o = refl
+front_in_order (t ∷ ts) (j ∷ js) (suc n) a o = (a.0, ⊎_elim (λ w. absurd (o.0 w.0)) (λ m. inr (m.0, front_in_order ts js n m.1 o.1)) a.1)
+front_in_order ts js zero a o = refl
 front_in_order [] [] (suc n) a o = refl
 front_in_order (t ∷ ts) [] n a o = absurd (cc)
 front_in_order [] (j ∷ js) n a o = absurd a
-front_in_order (t ∷ ts) (j ∷ js) zero a o = refl
-front_in_order (t ∷ ts) (j ∷ js) (suc n) a o = (a.0, ⊎_elim (λ w. absurd (o.0 w.0)) (λ m. inr (m.0, front_in_order ts js n m.1 o.1)) a.1)
 
 up_to : (ts : List Trial) (js a b : List Judgement) → b ≡ a ++ js → AreJudgedInOrder ts js → AllByRecursion (λ j. j.verdict ≢ Whole) js → AreJudgedUpTo ts a b None
 up_to ts js a b e o n = (js, e, subst (AreJudgedInOrder ts) (sym (append-nil js)) o, n, tt)
 
 pub kept_up_to : {Z : Type 0} (x : CodeTrials Z) (a b : List Judgement) → b ≡ a ++ judged_at x → AreJudgedUpTo (trials_at x) a b None
-kept_up_to x a b e = up_to (trials_at x) (judged_at x) a b e (kept_in_order x) (kept_others x)
+kept_up_to x a b e = up_to (trials_at x) (judged_at x) a b e (kept_in_order x) (none_whole x)
 
 front_up_to : {Z : Type 0} (x : CodeTrials Z) (n : ℕ) (a b : List Judgement) → b ≡ a ++ take n (judged_at x) → AreJudgedUpTo (take n (trials_at x)) a b None
-front_up_to x n a b e = up_to (take n (trials_at x)) (take n (judged_at x)) a b e (front_in_order (trials_at x) (judged_at x) n (kept_in_order x) (kept_others x)) (all_front (λ (j : Judgement). j.verdict ≢ Whole) (judged_at x) n (kept_others x))
+front_up_to x n a b e = up_to (take n (trials_at x)) (take n (judged_at x)) a b e (front_in_order (trials_at x) (judged_at x) n (kept_in_order x) (none_whole x)) (all_front (λ (j : Judgement). j.verdict ≢ Whole) (judged_at x) n (none_whole x))
 
 -- the trial after some of them, which is judged alone
 cut_at : (ts : List Trial) (n : ℕ) (t : Trial) → slice_get ts n ≡ Some t → (after : List Trial) × (ts ≡ (take n ts ++ t ∷ []) ++ after)
 cut_at [] n t e = absurd (cc)
-cut_at (u ∷ ts) zero t e = (ts, let same : u ≡ t = cc in ap (λ x. x ∷ ts) same)
+cut_at (u ∷ ts) zero t e = (ts, ap (λ x. x ∷ ts) (some_is u t e))
 cut_at (u ∷ ts) (suc n) t e = let more = cut_at ts n t e in (more.0, ap (λ xs. u ∷ xs) more.1)
 
 only_one : (ts : List Trial) (n : ℕ) (t : Trial) → slice_get ts n ≡ Some t → ts ≡ t ∷ [] → take n ts ++ t ∷ [] ≡ ts
@@ -143,7 +134,7 @@ next_behind r n m = subst (λ k. MatchOption (slice_get (branch_trials r) k) ⊤
 -- with all heads, what isn't a misfit is whole
 pub is_whole : (t : Trial) (v : Verdict) → length t.placed ≡ length (heads_of t.rule) → (IsVerdict t Misfit → ⊥) → IsVerdict t v → v ≡ Whole
 is_whole t Whole full not is = refl
-is_whole t Part full not is = absurd (let left : length t.placed < length (heads_of t.rule) = is.left in omega arith)
+is_whole t Part full not is = absurd (omega (arith, is.left))
 is_whole t Misfit full not is = absurd (not is)
 
 pub must_be : (t : Trial) → length t.placed ≡ length (heads_of t.rule) → (IsVerdict t Misfit → ⊥) → MustBeWhole t
@@ -154,8 +145,7 @@ must_be t full not v is = is_whole t v full not is
 pub few_in_order : (ts : List Trial) (js : List Judgement) → AreJudgedInOrder ts js → length js ≤ length ts
 few_in_order ts [] a = omega arith
 few_in_order [] (j ∷ js) a = absurd a
-few_in_order (t ∷ ts) (j ∷ js) a =
-    ⊎_elim (λ m. let none : length js ≡ 0 = ap length m.1 in omega arith) (λ m. let few : length js ≤ length ts = few_in_order ts js m.1 in omega arith) a.1
+few_in_order (t ∷ ts) (j ∷ js) a = ⊎_elim (λ m. omega (arith, ap length m.1)) (λ m. omega (arith, few_in_order ts js m.1)) a.1
 
 -- where there were none before
 pub in_order_all : (ts : List Trial) (b : List Judgement) (w : Option Judgement) → AreJudgedUpTo ts [] b w → AreJudgedInOrder ts (b ++ listed w)

@@ -3,7 +3,7 @@ use Rattle.std.proofs.Common.{◌≡◌, ℕ, zero, suc, ◌+◌, ◌<◌, ◌�
 use Rattle.std.specs.Bool.{⊤}
 use Rattle.std.specs.List.{AllByRecursion}
 use Rattle.std.specs.Result.{result_ok}
-use Rattle.std.proofs.lemmas.List.{take_all, take_more, length-map, get_or-map}
+use Rattle.std.proofs.lemmas.List.{take_all, take_more, length-map}
 use Rattle.std.proofs.lemmas.Option.{slice_get_read}
 use Rattle.chr_guard.specs.Settled.{Places, Marks, mark_of}
 use Rattle.chr_guard.proofs.Steps.{all_at, all_push}
@@ -13,21 +13,15 @@ use Rattle.chr_search.specs.Verdicts.{Placed, Trial, IsFormed, IsWholeUnder}
 use Rattle.chr_search.specs.Judged.{IsVerdict, IsSettledUnder}
 use Rattle.chr_search.specs.Fronts.{lengthened}
 use Rattle.chr_search.proofs.Judging.{few_heads}
+use Rattle.chr_sheet.proofs.Cutting.{image_at}
 use Rattle.chr_sheet.specs.Rows.{Row, IsRow, trials_of, AreMisfits, AreMisfitsUpTo, IsSettledAt, MustBeWhole}
 
 pub trials_count : {X : Type 0} (f : X → Placed) (r : Row) (xs : List X) → map f xs ≡ r.lasts → length (trials_of r) ≡ length xs
 trials_count f r xs e = length-map r.lasts (lengthened r.part) ∙ ap length (sym e) ∙ length-map xs f
 
 -- a trial at its place
-pub trial_there : {X : Type 0} (f : X → Placed) (r : Row) (xs : List X) (i : ℕ) (x : X) → map f xs ≡ r.lasts → i < length xs → x ≡ get_or xs i x → lengthened r.part (f x) ≡ get_or (trials_of r) i (lengthened r.part (f x))
-trial_there f r xs i x lasts h e =
-    let within : i < length (map f xs) = omega (arith, length-map xs f) in
-    subst (λ ls. lengthened r.part (f x) ≡ get_or (map (lengthened r.part) ls) i (lengthened r.part (f x))) lasts
-    (ap (lengthened r.part) (ap f e ∙ sym (get_or-map f xs i x (f x) h)) ∙ sym (get_or-map (lengthened r.part) (map f xs) i (f x) (lengthened r.part (f x)) within))
-
--- the same, and that it is one of them
 pub trial_at : {X : Type 0} (f : X → Placed) (r : Row) (xs : List X) (i : ℕ) (x : X) → map f xs ≡ r.lasts → i < length xs → x ≡ get_or xs i x → (i < length (trials_of r)) × (lengthened r.part (f x) ≡ get_or (trials_of r) i (lengthened r.part (f x)))
-trial_at f r xs i x lasts h e = (let count = trials_count f r xs lasts in omega arith, trial_there f r xs i x lasts h e)
+trial_at f r xs i x lasts h e = image_at f (lengthened r.part) xs r.lasts i x lasts h e
 
 none_there : (ts : List Trial) (n : ℕ) (P : Trial → Type 0) → length ts ≤ n → MatchOption (slice_get ts n) ⊤ P
 none_there [] n P h = tt
@@ -64,9 +58,8 @@ all_unfit part (p ∷ ps) f a = (f p a.0, all_unfit part ps f a.1)
 
 pub trials_step : {X : Type 0} (f : X → Placed) (r : Row) (xs : List X) (i : ℕ) (x : X) → map f xs ≡ r.lasts → i < length xs → x ≡ get_or xs i x → take (i + 1) (trials_of r) ≡ take i (trials_of r) ++ lengthened r.part (f x) ∷ []
 trials_step f r xs i x lasts h e =
-    let t : Trial = lengthened r.part (f x) in
-    let count : length (trials_of r) ≡ length xs = trials_count f r xs lasts in
-    take_more (trials_of r) i t (omega arith) ∙ ap (λ y. take i (trials_of r) ++ y ∷ []) (sym (trial_there f r xs i x lasts h e))
+    let at = trial_at f r xs i x lasts h e in
+    take_more (trials_of r) i (lengthened r.part (f x)) at.0 ∙ ap (λ y. take i (trials_of r) ++ y ∷ []) (sym at.1)
 
 -- what holds of a row's trials and labels
 pub formed_there : {X : Type 0} (f : X → Placed) (r : Row) (xs : List X) (i : ℕ) (x : X) → IsRow r → map f xs ≡ r.lasts → i < length xs → x ≡ get_or xs i x → IsFormed (lengthened r.part (f x))
@@ -82,7 +75,4 @@ part_few r row = few r.lasts row.some row.formed
   where
     few : (lasts : List Placed) → 1 ≤ length lasts → AllByRecursion IsFormed (map (lengthened r.part) lasts) → length r.part.placed ≤ 5
     few [] some formed = absurd (omega arith)
-    few (p ∷ ps) some formed =
-        let heads : length (heads_of r.part.rule) ≤ 6 = few_heads r.part.rule formed.0.scoped in
-        let full : length r.part.placed + 1 ≡ length (heads_of r.part.rule) = row.full in
-        omega arith
+    few (p ∷ ps) some formed = omega (arith, few_heads r.part.rule formed.0.scoped, row.full)

@@ -29,10 +29,8 @@ others_more (y ∷ xs) x = ap (λ js. others_at y ++ js) (others_more xs x) ∙ 
 
 pub trials_counted : {Z : Type 0} (xs : List (Trials Z)) (i : ℕ) (x : Trials Z) (before here : ℕ) → i < length xs → x ≡ get_or xs i x → before ≡ length (trials_in (take i xs)) → here ≡ length (trials_at x) → before + here ≡ length (trials_in (take (i + 1) xs))
 trials_counted xs i x before here h e b k =
-    let more : take (i + 1) xs ≡ take i xs ++ x ∷ [] = take_more xs i x h ∙ ap (λ y. take i xs ++ y ∷ []) (sym e) in
-    let count : length (trials_in (take (i + 1) xs)) ≡ length (trials_in (take i xs)) + length (trials_at x) =
-    ap (λ ys. length (trials_in ys)) more ∙ ap length (trials_more (take i xs) x) ∙ length-append (trials_in (take i xs)) (trials_at x) in
-    omega arith
+    let more = take_more xs i x h ∙ ap (λ y. take i xs ++ y ∷ []) (sym e) in
+    omega (arith, ap (λ ys. length (trials_in ys)) more, ap length (trials_more (take i xs) x), length-append (trials_in (take i xs)) (trials_at x))
 
 pub others_pushed : {Z : Type 0} (xs new : List (Others Z)) (x : Others Z) → new ≡ xs ++ x ∷ [] → others_in new ≡ others_in xs ++ others_at x
 others_pushed xs new x e = ap others_in e ∙ others_more xs x
@@ -57,10 +55,9 @@ others_length : {Z : Type 0} (x : Others Z) (xs : List (Others Z)) → length (o
 others_length x xs = length-append (others_at x) (others_in xs)
 
 pub others_front : {Z : Type 0} (xs : List (Others Z)) (n : ℕ) → length (others_in (take n xs)) ≤ length (others_in xs)
-others_front [] zero = omega arith
+others_front (x ∷ xs) (suc n) = omega (arith, others_front xs n, others_length x xs, others_length x (take n xs))
 others_front [] (suc n) = omega arith
-others_front (x ∷ xs) zero = omega arith
-others_front (x ∷ xs) (suc n) = let rest = others_front xs n in omega (arith, others_length x xs, others_length x (take n xs))
+others_front xs zero = omega arith
 
 pub others_step : {Z : Type 0} (xs : List (Others Z)) (i : ℕ) (x : Others Z) → i < length xs → x ≡ get_or xs i x → others_in (take (i + 1) xs) ≡ others_in (take i xs) ++ others_at x
 others_step xs i x h e = others_pushed (take i xs) (take (i + 1) xs) x (take_more xs i x h ∙ ap (λ y. take i xs ++ y ∷ []) (sym e))
@@ -69,7 +66,7 @@ pub others_counted : {Z : Type 0} (xs : List (Others Z)) (i : ℕ) (x : Others Z
 others_counted xs i x h e = ap length (others_step xs i x h e) ∙ length-append (others_in (take i xs)) (others_at x)
 
 pub others_within : {Z : Type 0} (xs : List (Others Z)) (i : ℕ) (x : Others Z) → i < length xs → x ≡ get_or xs i x → length (others_in (take i xs)) + length (others_at x) ≤ length (others_in xs)
-others_within xs i x h e = let front = others_front xs (i + 1) in let more = others_counted xs i x h e in omega arith
+others_within xs i x h e = omega (arith, others_front xs (i + 1), others_counted xs i x h e)
 
 -- none of those that are judged together is whole
 misfits_other : (ts : List Trial) → AllByRecursion (λ j. j.verdict ≢ verdicts.Whole) (map misfit ts)

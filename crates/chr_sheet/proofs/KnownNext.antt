@@ -1,29 +1,26 @@
 -- Judgements of trials that are known to come next one after another.
-use Rattle.std.proofs.Common.{◌≡◌, ◌≢◌, ℕ, zero, suc, ◌<◌, ◌≤◌, Bool, true, List, [], ◌∷◌, ◌++◌, map, take, length, get_or, is_some, Bor, Option, Some, None, refl, sym, ◌∙◌, ap, subst, arith}
+use Rattle.std.proofs.Common.{◌≡◌, ◌≢◌, ℕ, zero, suc, ◌<◌, ◌≤◌, Bool, true, List, [], ◌∷◌, ◌++◌, map, length, get_or, is_some, Bor, Option, Some, None, refl, sym, ◌∙◌, ap, subst, arith}
 use Rattle.std.specs.List.{AllByRecursion}
 use Rattle.std.specs.Option.{option_copied}
 use Rattle.std.proofs.lemmas.List.{map_push, map-append, append-nil}
 use Rattle.std.proofs.lemmas.Option.{slice_get_within}
 use Rattle.std.proofs.lemmas.Bool.Decides.{nat_tests}
-use Rattle.chr_rule.specs.Rules.{Simpagation}
 use Rattle.chr_rule.specs.Scope.{IsRule}
 use Rattle.chr_plan.specs.Orders.{heads_of}
 use Rattle.chr_plan.specs.Plans.{ArePlans}
-use Rattle.chr_plan.specs.declared.order.Step.{Step}
 use Rattle.chr_store.specs.Labels.{LabelledStore, IsLabelled}
 use Rattle.chr_search.specs.declared.judged.Verdict.{Verdict}
 use Rattle.chr_search.specs.declared.judged.Verdict.TheVariants as verdicts
 use Rattle.chr_search.specs.Answers.{after_judging, after_verdict}
 use Rattle.chr_search.specs.Fronts.{lengthened, ComeAfter}
 use Rattle.chr_search.specs.Judged.{Judgement, IsVerdict}
-use Rattle.chr_search.specs.Passing.{IsTrialIn}
 use Rattle.chr_search.specs.Positions.{begins, just_after, past}
-use Rattle.chr_search.specs.Tree.{Children, Grows, Beyond}
-use Rattle.chr_search.specs.Trials.{Space, Child, join_in, IsTrial, IsNext}
-use Rattle.chr_search.specs.Verdicts.{Placed, Trial, heads, labels, position, IsFormed, IsPart, IsTrialOf}
+use Rattle.chr_search.specs.Tree.{Children, Grows}
+use Rattle.chr_search.specs.Trials.{Space, Child, join_in, IsTrial}
+use Rattle.chr_search.specs.Verdicts.{Placed, Trial, labels, position, IsFormed, IsPart, IsTrialOf}
 use Rattle.chr_search.proofs.After.{come_after}
 use Rattle.chr_search.proofs.Fronts.{trial_formed}
-use Rattle.chr_search.proofs.Judging.{labels_length, last_small}
+use Rattle.chr_search.proofs.Judging.{labels_length}
 use Rattle.chr_search.proofs.Making.{next_trial, map_twice}
 use Rattle.chr_search.proofs.PassingOver.{fits_at_heads}
 use Rattle.chr_search.proofs.Plans.{planned_order}
@@ -31,10 +28,15 @@ use Rattle.chr_search.proofs.Tree.{append_one}
 use Rattle.chr_guard.proofs.Steps.{all_push}
 use Rattle.chr_sheet.specs.Beside.{last_of}
 use Rattle.chr_sheet.specs.declared.others.Others.{Others}
-use Rattle.chr_sheet.specs.Columns.{Column, Head, at_head, column_trials, IsColumn}
+use Rattle.chr_sheet.specs.Columns.{Column, Head, at_head, column_trials}
 use Rattle.chr_sheet.specs.Others.{others_at, others_in}
 use Rattle.chr_sheet.specs.Rows.{JudgedSheet, Row, IsRow, judgements_of, listed, misfit, trials_of}
+use Rattle.chr_search.proofs.PlanByPlan.{alike_next}
+use Rattle.chr_sheet.proofs.InOrder.{all_both}
+use Rattle.chr_sheet.proofs.OneNext.{longer_position, trial_in}
 use Rattle.chr_sheet.proofs.InRows.{label_low}
+use Rattle.chr_sheet.proofs.Columns.{only_placed}
+use Rattle.chr_sheet.proofs.NextAlone.{active_alone}
 use Rattle.chr_sheet.specs.Sheets.{AreNextInOrder, Reports, done, moves, after_all, IsFireable}
 
 -- ---- a misfit begins no longer admissible trial
@@ -45,8 +47,7 @@ begins_rest [] q b = (q, refl)
 begins_rest (x ∷ p) [] b = absurd (cc)
 begins_rest (x ∷ p) (y ∷ q) b =
     let same : x ≡ y = grind (arith, nat_tests) in
-    let more : begins p q ≡ true = grind (arith, nat_tests) in
-    let r = begins_rest p q more in
+    let r = begins_rest p q (grind (arith, nat_tests)) in
     (r.0, cc (same, r.1))
 
 -- what grows so goes on with the number after these
@@ -57,29 +58,14 @@ child_at C path (y ∷ xs) x more g = subst (λ p. C p x) (append_one path xs y)
 -- a trial with which a longer one begins is a part
 begins_longer : (s : Space) (t : Trial) → ArePlans s.rules s.plans → IsTrialOf s.rules s.plans s.store t → IsFormed t → (x : ℕ) → Child s (position t) x → IsPart t
 begins_longer s t ps i formed x c =
-    let rule : Simpagation ℕ = c.0 in
-    let order : List Step = c.1 in
-    let planned = c.2 in
     let m = c.3 in
-    let rules_are : Some t.rule ≡ Some rule = sym i.rule_is ∙ planned.rule_is in
-    let same : t.rule ≡ rule = cc in
-    let orders_are : Some i.order ≡ Some order = sym i.order_is ∙ planned.order_is in
-    let orders : i.order ≡ order = cc in
-    let count : length order ≡ length (heads_of rule) = (planned_order s.rules s.plans ps t.number t.head rule order planned.rule_is planned.order_is).count in
-    let less : length (labels t) < length order = slice_get_within order (length (labels t)) m.step m.step_is in
-    let all : length (heads_of t.rule) ≡ length (heads_of rule) = ap (λ r. length (heads_of r)) same in
-    let here : IsTrialIn (join_in s rule order) (labels t) t = record {
-      rule_is = same;
-      labels_are = refl;
-      heads_are = subst (λ (o : List Step). heads t ≡ take (length t.placed) (map (λ (step : Step). step.head) o)) orders i.heads_are;
-      live = i.live;
-      formed = formed;
-    } in
+    let here = trial_in s t c.0 c.1 i c.2 formed in
+    let count = (planned_order s.rules s.plans ps t.number t.head c.0 c.1 c.2.rule_is c.2.order_is).count in
     record {
-      left = omega (arith, labels_length t);
+      left = omega (arith, labels_length t, count, slice_get_within c.1 (length (labels t)) m.step m.step_is, ap (λ r. length (heads_of r)) here.rule_is);
       distinct = m.distinct;
       valuation = m.valuation;
-      fits = (fits_at_heads (join_in s rule order) (labels t) t here m.valuation).0 m.fits;
+      fits = (fits_at_heads (join_in s c.0 c.1) (labels t) t here m.valuation).0 m.fits;
     }
 
 misfit_after : (s : Space) (t : Trial) → ArePlans s.rules s.plans → IsTrialOf s.rules s.plans s.store t → IsFormed t → (IsPart t → ⊥) → ComeAfter s (past (position t)) (position t)
@@ -89,7 +75,7 @@ misfit_after s t ps i formed other = come_after s (position t) (λ e. (cc)) shor
     short q k b = by_rest (begins_rest (position t) q b).0 (begins_rest (position t) q b).1
       where
         by_rest : (rest : List ℕ) → q ≡ position t ++ rest → length q ≤ length (position t)
-        by_rest [] e = let same : length q ≡ length (position t) = ap length (e ∙ append-nil (position t)) in omega arith
+        by_rest [] e = omega (arith, ap length (e ∙ append-nil (position t)))
         by_rest (x ∷ more) e = absurd (other (begins_longer s t ps i formed x (child_at (Child s) [] (position t) x more (subst (Grows (Child s) []) e k.grows))))
 
 -- so after a right judgement that isn't whole the next trial is the same, whether it is looked for just after the trial or
@@ -99,20 +85,9 @@ judged_after s j ps i formed verdicts.Part is right other = λ u k. (λ e. e, λ
 judged_after s j ps i formed verdicts.Misfit is right other = misfit_after s j.trial ps i formed right.1
 judged_after s j ps i formed verdicts.Whole is right other = absurd (other refl)
 
-beyond_on : (s : Space) (place t p : List ℕ) → ComeAfter s place t → Beyond (Child s) 3 [] place p → Beyond (Child s) 3 [] (just_after t) p
-beyond_on s place t p c b = record { grows = b.grows; deep = b.deep; there = (c p (record { grows = b.grows; deep = b.deep })).0 b.there }
-
-next_on : (s : Space) (place t p : List ℕ) → ComeAfter s place t → IsNext s (just_after t) p → IsNext s place p
-next_on s place t p c n = record {
-  more = n.more;
-  is = n.is;
-  beyond = record { grows = n.beyond.grows; deep = n.beyond.deep; there = (c n.more (record { grows = n.beyond.grows; deep = n.beyond.deep })).1 n.beyond.there };
-  least = λ other b. n.least other (beyond_on s place t other c b);
-}
-
 order_on : (s : Space) (place t : List ℕ) → ComeAfter s place t → (us : List Trial) → AreNextInOrder s (just_after t) us → AreNextInOrder s place us
 order_on s place t c [] h = tt
-order_on s place t c (u ∷ us) h = ((next_on s place t (position u) c h.0.0, h.0.1), h.1)
+order_on s place t c (u ∷ us) h = ((alike_next s place (just_after t) (position u) c h.0.0, h.0.1), h.1)
 
 -- ---- reports of such judgements
 
@@ -161,19 +136,15 @@ all_trials : (s : Space) (place : List ℕ) (js : List Judgement) → AreNextInO
 all_trials s place [] next = tt
 all_trials s place (j ∷ js) next = (next_trial s place (position j.trial) next.0.0, all_trials s (just_after (position j.trial)) js next.1)
 
-all_parts : (P : Judgement → Type 0) (js ks : List Judgement) → AllByRecursion P (js ++ ks) → AllByRecursion P js × AllByRecursion P ks
-all_parts P [] ks a = (tt, a)
-all_parts P (j ∷ js) ks a = let rest = all_parts P js ks a.1 in ((a.0, rest.0), rest.1)
-
 all_here : {Z : Type 0} (P : Judgement → Type 0) (xs : List (Others Z)) (i : ℕ) (x : Others Z) → i < length xs → x ≡ get_or xs i x → AllByRecursion P (others_in xs) → AllByRecursion P (others_at x)
 all_here P [] i x h e a = absurd (omega arith)
-all_here P (y ∷ xs) zero x h e a = subst (λ z. AllByRecursion P (others_at z)) (sym e) (all_parts P (others_at y) (others_in xs) a).0
-all_here P (y ∷ xs) (suc i) x h e a = all_here P xs i x (omega arith) e (all_parts P (others_at y) (others_in xs) a).1
+all_here P (y ∷ xs) zero x h e a = subst (λ z. AllByRecursion P (others_at z)) (sym e) ((all_both P (others_at y) (others_in xs)).0 a).0
+all_here P (y ∷ xs) (suc i) x h e a = all_here P xs i x (omega arith) e ((all_both P (others_at y) (others_in xs)).0 a).1
 
 pub admissible_here : {Z : Type 0} (s : Space) (place : List ℕ) (sheet : JudgedSheet) (xs : List (Others Z)) (i : ℕ) (x : Others Z) → others_in xs ≡ sheet.others → i < length xs → x ≡ get_or xs i x
     → AreNextInOrder s place (map (λ (j : Judgement). j.trial) (judgements_of sheet)) → AllByRecursion (λ j. IsTrial s (position j.trial)) (others_at x)
 admissible_here s place sheet xs i x are h e next =
-    let all = (all_parts (λ j. IsTrial s (position j.trial)) sheet.others (listed sheet.whole) (all_trials s place (judgements_of sheet) next)).0 in
+    let all = ((all_both (λ (j : Judgement). IsTrial s (position j.trial)) sheet.others (listed sheet.whole)).0 (all_trials s place (judgements_of sheet) next)).0 in
     all_here (λ j. IsTrial s (position j.trial)) xs i x h e (subst (AllByRecursion (λ (j : Judgement). IsTrial s (position j.trial))) (sym are) all)
 
 -- ---- where the search goes on
@@ -185,9 +156,6 @@ after_both place (j ∷ js) ks = after_both (after_judging j) js ks
 after_last : (place : List ℕ) (js all : List Judgement) (j : Judgement) → all ≡ js ++ j ∷ [] → after_all place all ≡ after_judging j
 after_last place js all j e = ap (after_all place) e ∙ after_both place js (j ∷ [])
 
-longer_place : (part : Trial) (p : Placed) → position (lengthened part p) ≡ position part ++ p.label ∷ []
-longer_place part p = ap (λ ls. part.number ∷ part.head ∷ ls) (map_push (λ (x : Placed). x.label) part.placed p)
-
 -- after the last trial of a row
 lasts_split : {X : Type 0} (f : X → Placed) (row : Row) (xs before : List X) (last : X) → map f xs ≡ row.lasts → xs ≡ before ++ last ∷ [] → trials_of row ≡ map (lengthened row.part) (map f before) ++ lengthened row.part (f last) ∷ []
 lasts_split f row xs before last are e =
@@ -198,7 +166,7 @@ pub after_row : {X : Type 0} (f : X → Placed) (place : List ℕ) (row : Row) (
 after_row f place row xs before last are e =
     let front : List Trial = map (lengthened row.part) (map f before) in
     let judged : map misfit (trials_of row) ≡ map misfit front ++ misfit (lengthened row.part (f last)) ∷ [] = ap (map misfit) (lasts_split f row xs before last are e) ∙ map_push misfit front (lengthened row.part (f last)) in
-    after_last place (map misfit front) (map misfit (trials_of row)) (misfit (lengthened row.part (f last))) judged ∙ ap past (longer_place row.part (f last))
+    after_last place (map misfit front) (map misfit (trials_of row)) (misfit (lengthened row.part (f last))) judged ∙ ap past (longer_position row.part (f last))
 
 pub last_low : {X : Type 0} (f : X → Placed) (row : Row) (xs before : List X) (last : X) → IsRow row → map f xs ≡ row.lasts → xs ≡ before ++ last ∷ [] → (f last).label ≤ 4294967295
 last_low f row xs before last k are e =
@@ -217,21 +185,11 @@ last_labels : (t u : Trial) (hs : List Head) → labels u ≡ labels t → label
 last_labels t u [] e = e
 last_labels t u (h ∷ hs) e = last_labels t (at_head t h) hs (head_labels t h)
 
-active_alone : (s : Space) (r h : ℕ) (ls : List ℕ) → length ls ≡ 1 → IsTrial s (r ∷ h ∷ ls) → ls ≡ s.active ∷ []
-active_alone s r h [] one i = absurd (omega arith)
-active_alone s r h (l ∷ []) one i = ap (λ x. x ∷ []) i.grows.1.1.0.3.turn
-active_alone s r h (l ∷ m ∷ ls) one i = absurd (omega arith)
-
 pub after_column : (s : Space) (place : List ℕ) (c : Column) (number head label : ℕ) → length c.first.placed ≡ 1 → IsTrial s (position c.first) → s.active ≡ label
     → number ≡ (last_of c.first (map (at_head c.first) c.more)).number → head ≡ (last_of c.first (map (at_head c.first) c.more)).head → after_all place (map misfit (column_trials c)) ≡ past (number ∷ head ∷ label ∷ [])
 after_column s place c number head label one i active number_is head_is =
-    let alone : labels c.first ≡ s.active ∷ [] = active_alone s c.first.number c.first.head (labels c.first) (labels_length c.first ∙ one) i in
+    let p = only_placed c.first.placed one in
     let last : Trial = last_of c.first (map (at_head c.first) c.more) in
-    let there : labels last ≡ label ∷ [] = last_labels c.first c.first c.more refl ∙ alone ∙ ap (λ l. l ∷ []) active in
+    let there : labels last ≡ label ∷ [] = last_labels c.first c.first c.more refl ∙ ap (map (λ (x : Placed). x.label)) p.1 ∙ ap (λ l. l ∷ []) (active_alone s c.first p.0 p.1 i ∙ active) in
     let same : position last ≡ number ∷ head ∷ label ∷ [] = cc in
     after_more place c.first (map (at_head c.first) c.more) ∙ ap past same
-
-pub small_active : (s : Space) (c : Column) → IsColumn c → IsTrial s (position c.first) → s.active ≤ 4294967295
-small_active s c k i =
-    let alone : labels c.first ≡ s.active ∷ [] = active_alone s c.first.number c.first.head (labels c.first) (labels_length c.first ∙ k.alone) i in
-    last_small c.first k.formed.0 [] s.active (sym alone)

@@ -1,5 +1,6 @@
 -- Trials after which none is left at their head.
-use Rattle.std.proofs.Common.{◌≡◌, ℕ, ◌+◌, ◌<◌, ◌≤◌, true, List, [], ◌∷◌, ◌++◌, map, length, refl, sym, ◌∙◌, ap, subst, arith, inl, inr, ⊎_elim}
+use Rattle.std.proofs.lemmas.Bool.Decides.{nat_tests}
+use Rattle.std.proofs.Common.{◌≡◌, ℕ, ◌+◌, ◌≤◌, true, List, [], ◌∷◌, ◌++◌, map, length, refl, sym, ◌∙◌, ap, subst, arith}
 use Rattle.std.specs.List.{AllByRecursion}
 use Rattle.std.proofs.lemmas.List.{map_push, length_push}
 use Rattle.chr_rule.specs.Scope.{IsRule}
@@ -10,11 +11,11 @@ use Rattle.chr_search.specs.Tree.{NoneFrom}
 use Rattle.chr_search.specs.Trials.{Space, Child, IsTrial}
 use Rattle.chr_search.specs.Verdicts.{Placed, Trial, labels, position, IsTrialOf}
 use Rattle.chr_search.specs.Fronts.{lengthened, MayEnd, ComeAfter}
-use Rattle.chr_search.proofs.Positions.{after_first, after_under, after_cases, after_by}
+use Rattle.chr_search.proofs.Positions.{after_by}
 use Rattle.chr_search.proofs.Judging.{labels_length}
 use Rattle.chr_search.proofs.Making.{next_trial}
 use Rattle.chr_search.proofs.Behind.{shorter}
-use Rattle.chr_search.proofs.Occurring.{order_in}
+use Rattle.chr_search.proofs.Descents.{each_trial}
 use Rattle.chr_search.proofs.Alone.{come_past_active}
 use Rattle.chr_search.proofs.Fronts.{full_after}
 use Rattle.chr_sheet.specs.Rows.{branch_trials, trials_of}
@@ -34,32 +35,17 @@ come_past_head s place t is last =
     ))
   where
     up : (ls : List ℕ) → at_or_after (t.number ∷ t.head ∷ ls) (t.number ∷ (t.head + 1) ∷ []) ≡ true
-    up ls = after_under t.number (t.head ∷ ls) ((t.head + 1) ∷ []) (after_first t.head (t.head + 1) ls [] (omega arith))
+    up ls = grind (arith, nat_tests)
 
 -- where no trial begins with the active label and a number from one on, none is left at the head from there on
 none_left : (s : Space) (r h n : ℕ) → NoneFrom (MayEnd s (r ∷ h ∷ s.active ∷ [])) n → (u : List ℕ) → IsTrial s u → at_or_after (r ∷ h ∷ s.active ∷ n ∷ []) u ≡ true → at_or_after (r ∷ (h + 1) ∷ []) u ≡ true
-none_left s r h n none [] i e = absurd (let d : 3 ≤ length {A = ℕ} [] = i.deep in omega arith)
-none_left s r h n none (x ∷ []) i e = absurd (let d : 3 ≤ length (x ∷ []) = i.deep in omega arith)
-none_left s r h n none (x ∷ y ∷ []) i e = absurd (let d : 3 ≤ length (x ∷ y ∷ []) = i.deep in omega arith)
-none_left s r h n none (x ∷ y ∷ m ∷ ms) i e =
-    let first : m ≡ s.active = i.grows.1.1.0.3.turn in
-    order_in r (h + 1) x y (m ∷ ms)
-    (⊎_elim (λ less. inl less)
-    (λ same. inr (
-      same.0,
-      ⊎_elim (λ less. let low : h < y = less in omega arith)
-          (λ twice. absurd (⊎_elim (λ less. let low : s.active < m = less in omega arith)
-          (λ below. further ms (subst (IsTrial s) (let rule : r ≡ x = same.0 in let head : h ≡ y = twice.0 in let z : x ∷ y ∷ m ∷ ms ≡ r ∷ h ∷ s.active ∷ ms = cc in z) i) below.1)
-          (after_cases s.active m (n ∷ []) ms twice.1)))
-          (after_cases h y (s.active ∷ n ∷ []) (m ∷ ms) same.1),
-    ))
-    (after_cases r x (h ∷ s.active ∷ n ∷ []) (y ∷ m ∷ ms) e))
+none_left s r h n none = each_trial s (λ u. at_or_after (r ∷ h ∷ s.active ∷ n ∷ []) u ≡ true → at_or_after (r ∷ (h + 1) ∷ []) u ≡ true) (λ x y m ms i first e.
+    let out : r ≡ x → h ≡ y → at_or_after (n ∷ []) ms ≡ true → ⊥ = λ rule head. further ms (subst (IsTrial s) (let z : x ∷ y ∷ m ∷ ms ≡ r ∷ h ∷ s.active ∷ ms = cc in z) i) in
+    grind (arith, nat_tests))
   where
     further : (ms : List ℕ) → IsTrial s (r ∷ h ∷ s.active ∷ ms) → at_or_after (n ∷ []) ms ≡ true → ⊥
     further [] i e = absurd (cc)
-    further (k ∷ ks) i e =
-        none k (record { grows = shorter (Child s) [] (r ∷ h ∷ s.active ∷ k ∷ []) ks i.grows; deep = omega arith })
-        (⊎_elim (λ less. let low : n < k = less in omega arith) (λ same. let is : n ≡ k = same.0 in omega arith) (after_cases n k [] ks e))
+    further (k ∷ ks) i e = none k (record { grows = shorter (Child s) [] (r ∷ h ∷ s.active ∷ k ∷ []) ks i.grows; deep = omega arith }) (grind (arith, nat_tests))
 
 -- a trial of one label has the active one
 at_active : (s : Space) (t : Trial) → IsTrial s (position t) → length t.placed ≡ 1 → position t ≡ t.number ∷ t.head ∷ s.active ∷ []
@@ -80,20 +66,17 @@ part_ends s t k one none = λ u j e.
 
 -- so is one with all heads, two labels, and no other past the last of them
 pub full_ends : (s : Space) → ArePlans s.rules s.plans → AllByRecursion IsRule s.rules → (t : Trial) → IsTrial s (position t) → IsTrialOf s.rules s.plans s.store t → length t.placed ≡ length (heads_of t.rule) → (before : List ℕ) (last : ℕ) → labels t ≡ before ++ last ∷ [] → length before ≡ 1 → NoneFrom (MayEnd s (t.number ∷ t.head ∷ before)) (last + 1) → IsLastAtHead s t
-full_ends s ps rs t k i full [] last e one none = absurd (omega arith)
-full_ends s ps rs t k i full (b ∷ c ∷ bs) last e one none = absurd (omega arith)
 full_ends s ps rs t k i full (b ∷ []) last e one none = λ u j a.
     let at : position t ≡ t.number ∷ t.head ∷ b ∷ last ∷ [] = ap (λ (ls : List ℕ). t.number ∷ t.head ∷ ls) e in
     let first : b ≡ s.active = (subst (IsTrial s) at k).grows.1.1.0.3.turn in
     let some : 1 ≤ length t.placed = omega (arith, labels_length t, ap length e) in
     none_left s t.number t.head (last + 1) (subst (λ x. NoneFrom (MayEnd s (t.number ∷ t.head ∷ x ∷ [])) (last + 1)) first none) u j
     (subst (λ p. at_or_after p u ≡ true) (ap past at ∙ ap (λ x. t.number ∷ t.head ∷ x ∷ (last + 1) ∷ []) first) ((full_after s t ps rs i full some u j).1 a))
+full_ends s ps rs t k i full before last e one none = absurd (omega arith)
 
 two_labels : (ls : List ℕ) → length ls ≡ 2 → (first last : ℕ) × (ls ≡ first ∷ last ∷ [])
-two_labels [] e = absurd (omega arith)
-two_labels (x ∷ []) e = absurd (omega arith)
 two_labels (x ∷ y ∷ []) e = (x, y, refl)
-two_labels (x ∷ y ∷ z ∷ ls) e = absurd (omega arith)
+two_labels ls e = absurd (omega arith)
 
 pub pair_ends : (s : Space) → ArePlans s.rules s.plans → AllByRecursion IsRule s.rules → (t : Trial) → IsTrial s (position t) → IsTrialOf s.rules s.plans s.store t → length t.placed ≡ 2 → length (heads_of t.rule) ≡ 2 → HasNoneBeside s t → IsLastAtHead s t
 pair_ends s ps rs t k i two full none =

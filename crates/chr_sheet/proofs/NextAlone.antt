@@ -1,7 +1,7 @@
 -- Trials of the active label alone that come next one after another.
 use Rattle.std.proofs.Common.{◌≡◌, ℕ, ◌+◌, ◌≤◌, List, [], ◌∷◌, ◌++◌, map, length, length-append, Some, get_or, refl, sym, ◌∙◌, ap, subst, arith}
 use Rattle.std.specs.List.{AllByRecursion}
-use Rattle.std.proofs.lemmas.List.{map_push}
+use Rattle.std.proofs.lemmas.List.{map_push, length-map}
 use Rattle.chr_value.specs.Atoms.{Atom}
 use Rattle.chr_value.specs.declared.atom.Pred.{Pred}
 use Rattle.chr_rule.specs.Rules.{Simpagation, rule_at}
@@ -67,18 +67,14 @@ first_is s t p k = alone_is s t t.number t.head p.atom k.plans k.trial_of (ap (�
 
 pub is_alone : {X : Type 0} (f : X → Placed) (s : Space) (t : Trial) (xs : List X) (x : X) → ArePlans s.rules s.plans → AllByRecursion IsRule s.rules → IsTrial s (position t) × IsTrialOf s.rules s.plans s.store t → length (heads_of t.rule) ≡ 1 → IsFormed t → map f xs ≡ t.placed → x ≡ get_or xs 0 x → IsAlone s t (f x)
 is_alone f s t xs x ps rs i full w e is =
-    let some : 1 ≤ length t.placed = w.some in
-    let few : length t.placed ≤ length (heads_of t.rule) = w.few in
-    record { plans = ps; scoped = rs; here = i.0; trial_of = i.1; full = full; placed = only_read f xs x t.placed e (omega arith) is }
+    record { plans = ps; scoped = rs; here = i.0; trial_of = i.1; full = full; placed = only_read f xs x t.placed e (omega (arith, w.some, w.few)) is }
 
 -- the head of the first one is the only one
 pub first_low : (s : Space) (t : Trial) (p : Placed) → IsAlone s t p → IsFormed t → t.head ≤ 1
 first_low s t p k f =
     let placed : t.placed ≡ record { head = t.head; label = s.active; atom = p.atom } ∷ [] = ap (λ (u : Trial). u.placed) (first_is s t p k) in
     let within = (subst (AllByRecursion (λ (x : Placed). (1 ≤ x.head) × (x.head ≤ length (heads_of t.rule)) × (x.label ≤ 4294967295))) placed f.within).0 in
-    let low : t.head ≤ length (heads_of t.rule) = within.1 in
-    let full : length (heads_of t.rule) ≡ 1 = k.full in
-    omega arith
+    omega (arith, within.1, k.full)
 
 pub column_next : (s : Space) (t : Trial) (p : Placed) (pred : Pred) (os : List Head) → IsAlone s t p → pred.name.number ≡ p.atom.name → pred.arity ≡ length p.atom.args → AreNextHeads s.rules pred t.number t.head os → ComeNext s t (map (at_head t) os)
 column_next s t p pred os k name arity e =
@@ -127,12 +123,7 @@ last_all P t (u ∷ us) a = last_all P u us a.1
 
 pub all_alone : (t : Trial) (os : List Head) → length t.placed ≡ 1 → AllByRecursion (λ (u : Trial). length u.placed ≡ 1) (map (at_head t) os)
 all_alone t [] one = tt
-all_alone t (o ∷ os) one = (alike t.placed one, all_alone t os one)
-  where
-    alike : (ps : List Placed) → length ps ≡ 1 → length (map (λ (p : Placed). record p { head = o.head }) ps) ≡ 1
-    alike [] e = e
-    alike (p ∷ []) e = refl
-    alike (p ∷ q ∷ ps) e = absurd (omega arith)
+all_alone t (o ∷ os) one = (length-map t.placed (λ (p : Placed). record p { head = o.head }) ∙ one, all_alone t os one)
 
 -- the last trial's rule and its head are numbered from 1
 pub last_low : (c : Column) → IsColumn c → (number head : ℕ) → let last = last_of c.first (map (at_head c.first) c.more) in number ≡ last.number → head ≡ last.head → (1 ≤ number) × (1 ≤ head)

@@ -1,46 +1,40 @@
 -- Trials that come next one after another: those that differ in their last label, and the part with which they begin.
-use Rattle.std.proofs.Common.{◌≡◌, ℕ, suc, zero, ◌+◌, ◌≤◌, List, [], ◌∷◌, ◌++◌, map, take, length, length-append, get_or, Option, Some, None, MatchOption, refl, sym, ◌∙◌, ap, subst, arith}
+use Rattle.std.proofs.Common.{◌≡◌, ℕ, suc, zero, ◌+◌, ◌≤◌, List, [], ◌∷◌, ◌++◌, map, length, length-append, get_or, Option, Some, None, MatchOption, refl, sym, ◌∙◌, ap, subst, arith}
 use Rattle.std.specs.List.{AllByRecursion}
 use Rattle.std.proofs.lemmas.List.{map_push, length_push, same_from_push}
 use Rattle.chr_rule.specs.Scope.{IsRule}
 use Rattle.chr_plan.specs.Orders.{heads_of}
 use Rattle.chr_plan.specs.Plans.{ArePlans}
-use Rattle.chr_plan.specs.declared.order.Step.{Step}
-use Rattle.chr_model.specs.Stores.{atom_at}
 use Rattle.chr_store.specs.Labels.{LabelledStore, IsLabelled}
 use Rattle.chr_search.specs.declared.front.Front.{Front as CodeFront}
 use Rattle.chr_search.specs.Joined.{join_of}
 use Rattle.chr_search.specs.Positions.{just_after, past}
-use Rattle.chr_search.specs.Tree.{LeastFrom, NoneFrom, Beyond}
-use Rattle.chr_search.specs.Trials.{Join, Space, Child, IsTrial, IsNext, NoneLeft}
-use Rattle.chr_search.specs.Verdicts.{Placed, Trial, heads, labels, position, IsFormed, IsPart, IsTrialOf}
+use Rattle.chr_search.specs.Tree.{LeastFrom, NoneFrom}
+use Rattle.chr_search.specs.Trials.{Join, Space, IsTrial, IsNext, NoneLeft}
+use Rattle.chr_search.specs.Verdicts.{Placed, Trial, labels, position, IsFormed, IsPart, IsTrialOf}
 use Rattle.chr_search.specs.Fronts.{lengthened, MayEnd, IsFront, IsPlacedAfter, ComeAfter}
 use Rattle.chr_search.proofs.Judging.{labels_length, last_small}
 use Rattle.chr_search.proofs.Making.{next_trial, map_twice}
 use Rattle.chr_search.proofs.PassingOver.{is_part}
-use Rattle.chr_search.proofs.Fronts.{end_next, full_after, placed_trial, placed_after, trial_formed}
+use Rattle.chr_search.proofs.Fronts.{end_at, end_next, full_after, placed_trial, placed_after, trial_formed}
 use Rattle.chr_sheet.specs.Rows.{IsRow, trials_of}
 use Rattle.chr_sheet.specs.Sheets.{IsNextTrial, AreNext, AreNextTogether}
 use Rattle.chr_sheet.specs.Beside.{HasEnd, HasBeside, HasNoneBeside, AreEnds, ComeNext, AreInTurn, last_of}
 use Rattle.chr_sheet.proofs.Cutting.{row_of}
-use Rattle.chr_sheet.proofs.OneNext.{end_at}
+use Rattle.chr_sheet.proofs.Columns.{last_at}
+use Rattle.chr_search.proofs.Descents.{none_left}
+use Rattle.chr_search.proofs.PlanByPlan.{alike_next}
+use Rattle.chr_search.specs.Passing.{IsTrialIn}
+use Rattle.chr_sheet.proofs.OneNext.{longer_position, trial_in}
 
 -- from where the same trials lie, the same one comes next
-beyond_back : (s : Space) (place t p : List ℕ) → ComeAfter s place t → Beyond (Child s) 3 [] (just_after t) p → Beyond (Child s) 3 [] place p
-beyond_back s place t p c b = record { grows = b.grows; deep = b.deep; there = (c p (record { grows = b.grows; deep = b.deep })).1 b.there }
-
 pub next_after : (s : Space) (place t p : List ℕ) → ComeAfter s place t → IsNext s place p → IsNext s (just_after t) p
-next_after s place t p c n = record {
-  more = n.more;
-  is = n.is;
-  beyond = record { grows = n.beyond.grows; deep = n.beyond.deep; there = (c n.more (record { grows = n.beyond.grows; deep = n.beyond.deep })).0 n.beyond.there };
-  least = λ other b. n.least other (beyond_back s place t other c b);
-}
+next_after s place t p c = alike_next s (just_after t) place p (λ u i. ((c u i).1, (c u i).0))
 
 are_next_after : (s : Space) (place t : List ℕ) → ComeAfter s place t → (left : ℕ) (more : List Trial) → AreNext s left place more → AreNext s left (just_after t) more
 are_next_after s place t c zero [] h = tt
 are_next_after s place t c zero (x ∷ xs) h = h
-are_next_after s place t c (suc left) [] h = λ other b. h other (beyond_back s place t other c b)
+are_next_after s place t c (suc left) [] h = (none_left s (just_after t)).1 (λ u i e. (none_left s place).0 h u i ((c u i).1 e))
 are_next_after s place t c (suc left) (x ∷ xs) h = ((next_after s place t (position x) c h.0.0, h.0.1), h.1)
 
 -- where no trial is left or asked for, none comes next
@@ -65,7 +59,7 @@ last_trial s t (u ∷ us) k i c = last_trial s u us (next_trial s (just_after (p
 pub together : (s : Space) (most : ℕ) (place after : List ℕ) (t : Trial) (ts : List Trial) → IsNextTrial s place t → AreInTurn s most t ts → ((t : Trial) (more : List Trial) → ts ≡ t ∷ more → IsTrial s (position (last_of t more)) → IsTrialOf s.rules s.plans s.store (last_of t more) → ComeAfter s after (position (last_of t more))) → AreNextTogether s most place ts after
 together s most place after t ts n a k =
     let us = a.0 in
-    let some : 1 ≤ length ts = let count : length ts ≡ suc (length us) = ap length a.1 in omega arith in
+    let some : 1 ≤ length ts = omega (arith, ap length a.1) in
     let last = last_trial s t us (next_trial s place (position t) n.0) n.1 a.3 in
     let behind : ComeAfter s after (position (last_of t us)) = k t us a.1 last.0 last.1 in
     (some, a.2, λ left more h. subst (λ (ts : List Trial). AreNext s (length ts + left) place (ts ++ more)) (sym a.1) (chain s t us place after n a.3 behind left more h (length (t ∷ us) + left) refl))
@@ -78,20 +72,15 @@ pub record LacksOne (s : Space) (part : Trial) : Type 0 where
   pub some : 1 ≤ length part.placed
   pub full : length part.placed + 1 ≡ length (heads_of part.rule)
 
-pub longer_position : (part : Trial) (p : Placed) → position (lengthened part p) ≡ part.number ∷ part.head ∷ (labels part ++ p.label ∷ [])
-longer_position part p = ap (λ (ls : List ℕ). part.number ∷ part.head ∷ ls) (map_push (λ (x : Placed). x.label) part.placed p)
-
 -- it comes next with the next label, just after it comes with one
 come_one : (s : Space) (part : Trial) → LacksOne s part → (p q : Placed) → IsTrialOf s.rules s.plans s.store (lengthened part p) → LeastFrom (MayEnd s (part.number ∷ part.head ∷ labels part)) (p.label + 1) q.label → IsPlacedAfter s part.number part.head (length (labels part)) q → IsNextTrial s (just_after (position (lengthened part p))) (lengthened part q)
 come_one s part k p q i least placed =
     let t : Trial = lengthened part p in
     let u : Trial = lengthened part q in
-    let some : 1 ≤ length part.placed = k.some in
-    let count : length t.placed ≡ length part.placed + 1 = length_push part.placed p in
-    let full : length t.placed ≡ length (heads_of part.rule) = count ∙ k.full in
+    let full : length t.placed ≡ length (heads_of part.rule) = length_push part.placed p ∙ k.full in
     let next : IsNext s (past (position t)) (position u) = subst (λ a. IsNext s (past a) (position u)) (sym (longer_position part p)) (subst (IsNext s (past (part.number ∷ part.head ∷ (labels part ++ p.label ∷ [])))) (sym (longer_position part q))
-    (end_next s part.number part.head (labels part) p.label q.label (omega (arith, labels_length part)) least)) in
-    (next_after s (past (position t)) (position t) (position u) (full_after s t k.plans k.scoped i full (omega arith)) next, placed_trial s part q k.trial_of (subst (λ n. IsPlacedAfter s part.number part.head n q) (labels_length part) placed))
+    (end_next s part.number part.head (labels part) p.label q.label (omega (arith, labels_length part, k.some)) least)) in
+    (next_after s (past (position t)) (position t) (position u) (full_after s t k.plans k.scoped i full (omega (arith, length_push part.placed p))) next, placed_trial s part q k.trial_of (subst (λ n. IsPlacedAfter s part.number part.head n q) (labels_length part) placed))
 
 come_next : (s : Space) (part : Trial) → LacksOne s part → (p : Placed) (ps : List Placed) → IsTrialOf s.rules s.plans s.store (lengthened part p) → AreEnds s part.number part.head (labels part) (p.label + 1) ps → ComeNext s (lengthened part p) (map (lengthened part) ps)
 come_next s part k p [] i e = tt
@@ -115,7 +104,7 @@ row_made s store st w part k whole p more lasts here i is e =
     record {
       row = record {
         part = whole;
-        some = (let count : length lasts ≡ suc (length more) = ap length is in omega arith);
+        some = omega (arith, ap length is);
         full = k.full;
         formed = subst (AllByRecursion IsFormed) (sym trials) (all_formed s store k.plans k.scoped st w (lengthened part p) (map (lengthened part) more) here i next);
       };
@@ -163,17 +152,11 @@ small_end s store st w part k p i placed =
 
 -- the last of the trials of a row
 pub last_read : {X : Type 0} (f : X → Trial) (xs : List X) (i : ℕ) (x : X) (t : Trial) (more : List Trial) → map f xs ≡ t ∷ more → i + 1 ≡ length xs → x ≡ get_or xs i x → last_of t more ≡ f x
-last_read f [] i x t more is count e = absurd (cc)
-last_read f (y ∷ []) zero x t more is count e = let first : f y ≡ t = cc in let none : [] ≡ more = cc in ap (last_of t) (sym none) ∙ sym first ∙ ap f (sym e)
-last_read f (y ∷ []) (suc i) x t more is count e = absurd (omega arith)
-last_read f (y ∷ z ∷ xs) zero x t more is count e = absurd (omega arith)
-last_read f (y ∷ z ∷ xs) (suc i) x t more is count e = let rest : f z ∷ map f xs ≡ more = cc in ap (last_of t) (sym rest) ∙ last_read f (z ∷ xs) i x (f z) (map f xs) refl (omega arith) e
+last_read f xs i x t more is count e = ap (last_of t) (sym is) ∙ sym (last_at f t xs i x count e)
 
 -- past the last of a row's trials
 pub come_behind : (s : Space) → ArePlans s.rules s.plans → AllByRecursion IsRule s.rules → (place : List ℕ) (u : Trial) → place ≡ past (position u) → length u.placed ≡ length (heads_of u.rule) → IsTrial s (position u) → IsTrialOf s.rules s.plans s.store u → ComeAfter s place (position u)
-come_behind s ps rs place u is full k i =
-    let deep : 3 ≤ length (position u) = k.deep in
-    subst (λ q. ComeAfter s q (position u)) (sym is) (full_after s u ps rs i full (omega (arith, labels_length u)))
+come_behind s ps rs place u is full k i = subst (λ q. ComeAfter s q (position u)) (sym is) (full_after s u ps rs i full (omega (arith, k.deep, labels_length u)))
 
 -- the last of a branch's trials
 pub last_behind : (part : Trial) (ts : List Trial) (t : Trial) (more : List Trial) → 1 ≤ length ts → part ∷ ts ≡ t ∷ more → (x : Trial) × (xs : List Trial) × (ts ≡ x ∷ xs) × (last_of t more ≡ last_of x xs)
@@ -184,11 +167,10 @@ last_behind part (x ∷ xs) t more some e = let rest : x ∷ xs ≡ more = cc in
 
 -- the first trial that begins with a part comes next just after it
 first_behind : (s : Space) (part : Trial) → LacksOne s part → (p : Placed) → LeastFrom (MayEnd s (part.number ∷ part.head ∷ labels part)) 0 p.label → IsPlacedAfter s part.number part.head (length (labels part)) p → IsNextTrial s (just_after (position part)) (lengthened part p)
-first_behind s part k p least placed =
-    let some : 1 ≤ length part.placed = k.some in (
-      subst (IsNext s (just_after (position part))) (sym (longer_position part p)) (end_at s part.number part.head (labels part) 0 p.label (omega (arith, labels_length part)) least),
-      placed_trial s part p k.trial_of (subst (λ n. IsPlacedAfter s part.number part.head n p) (labels_length part) placed),
-    )
+first_behind s part k p least placed = (
+  subst (IsNext s (just_after (position part))) (sym (longer_position part p)) (end_at s part.number part.head (labels part) 0 p.label (omega (arith, labels_length part, k.some)) least),
+  placed_trial s part p k.trial_of (subst (λ n. IsPlacedAfter s part.number part.head n p) (labels_length part) placed),
+)
 
 -- the branch of a part and labels
 pub record IsMadeBranch (s : Space) (part : Trial) (lasts : List Placed) : Type 0 where
@@ -215,19 +197,8 @@ pub begins_others : {Z : Type 0} (s : Space) (t : Trial) (f : CodeFront Z) → I
 begins_others s t f front i w left =
     let j : Join = join_of f.join in
     let k = front.join in
-    let rules_are : Some t.rule ≡ Some j.rule = sym i.rule_is ∙ k.planned.rule_is in
-    let rule : t.rule ≡ j.rule = cc in
-    let orders : Some i.order ≡ Some j.order = sym i.order_is ∙ k.planned.order_is in
-    let order : i.order ≡ j.order = cc in
-    let store : s.store ≡ j.store = sym (ap (λ (y : Join). y.store) k.is) in
-    let all : length (heads_of t.rule) ≡ length j.rule.kept + length j.rule.removed = ap (λ r. length (heads_of r)) rule ∙ length-append j.rule.kept j.rule.removed in
-    is_part j (labels t) f.binding.now front.ready (omega (arith, labels_length t)) t (record {
-      rule_is = rule;
-      labels_are = refl;
-      heads_are = subst (λ (o : List Step). heads t ≡ take (length t.placed) (map (λ (step : Step). step.head) o)) order i.heads_are;
-      live = subst (λ x. AllByRecursion (λ (p : Placed). atom_at x p.label ≡ Some p.atom) t.placed) store i.live;
-      formed = w;
-    })
+    let here = subst (λ (x : Join). IsTrialIn x (labels t) t) (sym k.is) (trial_in s t j.rule j.order i k.planned w) in
+    is_part j (labels t) f.binding.now front.ready (omega (arith, labels_length t, ap (λ r. length (heads_of r)) here.rule_is, length-append j.rule.kept j.rule.removed)) t here
 
 -- ---- the least label with which a trial ends
 

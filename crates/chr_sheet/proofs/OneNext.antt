@@ -1,18 +1,18 @@
 -- The next trial of a search: there is one at most, and one that is the least of those that end so.
-use Rattle.std.proofs.Common.{◌≡◌, ℕ, ◌≤◌, List, [], ◌∷◌, ◌++◌, map, length, length-append, take, Some, refl, sym, ◌∙◌, ap, ap₂, arith}
+use Rattle.std.proofs.lemmas.List.{map_push}
+use Rattle.std.proofs.Common.{◌≡◌, ℕ, List, [], ◌∷◌, ◌++◌, map, length, take, Some, refl, sym, ◌∙◌, ap, ap₂, subst}
 use Rattle.std.specs.List.{AllByRecursion}
 use Rattle.chr_rule.specs.Rules.{Simpagation, rule_at}
 use Rattle.chr_model.specs.Stores.{Store, atom_at}
 use Rattle.chr_plan.specs.Plans.{PlanList, plan_at}
 use Rattle.chr_plan.specs.declared.order.Step.{Step}
-use Rattle.chr_search.specs.Tree.{LeastFrom}
-use Rattle.chr_search.specs.Trials.{Space, Child, IsNext}
-use Rattle.chr_search.specs.Verdicts.{Placed, Trial, position, labels, heads, IsTrialOf}
-use Rattle.chr_search.specs.Fronts.{MayEnd}
-use Rattle.chr_search.proofs.Behind.{shorter}
-use Rattle.chr_search.proofs.Fronts.{last_child}
+use Rattle.chr_search.specs.Trials.{Space, join_in, IsPlanned}
+use Rattle.chr_search.specs.Verdicts.{Placed, Trial, position, labels, heads, IsFormed, IsTrialOf}
+use Rattle.chr_search.specs.Fronts.{lengthened}
+use Rattle.chr_value.proofs.Chosen.{some_is}
+use Rattle.chr_search.specs.Passing.{IsTrialIn}
 use Rattle.chr_search.proofs.Same.{same_count}
-use Rattle.chr_search.proofs.Tree.{grows_more, least_same, least_beside}
+use Rattle.chr_search.proofs.Tree.{least_same}
 use Rattle.chr_sheet.specs.Sheets.{IsNextTrial}
 
 placed_is : (p q : Placed) → p.head ≡ q.head → p.label ≡ q.label → p.atom ≡ q.atom → p ≡ q
@@ -28,14 +28,12 @@ trial_is s t rule number head placed =
 -- labels, heads and a store fix what is placed
 placed_same : (store : Store) (ps qs : List Placed) → map (λ (p : Placed). p.label) ps ≡ map (λ (p : Placed). p.label) qs → map (λ (p : Placed). p.head) ps ≡ map (λ (p : Placed). p.head) qs → AllByRecursion (λ p. atom_at store p.label ≡ Some p.atom) ps → AllByRecursion (λ p. atom_at store p.label ≡ Some p.atom) qs → ps ≡ qs
 placed_same store [] [] e f h k = refl
-placed_same store [] (q ∷ qs) e f h k = absurd (cc)
-placed_same store (p ∷ ps) [] e f h k = absurd (cc)
 placed_same store (p ∷ ps) (q ∷ qs) e f h k =
     let label : p.label ≡ q.label = cc in
     let head : p.head ≡ q.head = cc in
-    let found : Some p.atom ≡ Some q.atom = sym h.0 ∙ ap (atom_at store) label ∙ k.0 in
-    let atom : p.atom ≡ q.atom = cc in
+    let atom : p.atom ≡ q.atom = some_is p.atom q.atom (sym h.0 ∙ ap (atom_at store) label ∙ k.0) in
     ap₂ (λ x xs. x ∷ xs) (placed_is p q head label atom) (placed_same store ps qs (cc) (cc) h.1 k.1)
+placed_same store ps qs e f h k = absurd (cc)
 
 -- a position fixes the trial over a store
 pub trial_same : (rules : List (Simpagation ℕ)) (plans : PlanList) (store : Store) (s t : Trial) → IsTrialOf rules plans store s → IsTrialOf rules plans store t → position s ≡ position t → s ≡ t
@@ -43,10 +41,8 @@ trial_same rules plans store s t i j e =
     let number : s.number ≡ t.number = cc in
     let head : s.head ≡ t.head = cc in
     let ls : labels s ≡ labels t = cc in
-    let rules_are : Some s.rule ≡ Some t.rule = sym i.rule_is ∙ ap (rule_at rules) number ∙ j.rule_is in
-    let rule : s.rule ≡ t.rule = cc in
-    let orders : Some i.order ≡ Some j.order = sym i.order_is ∙ ap₂ (plan_at plans) number head ∙ j.order_is in
-    let order : i.order ≡ j.order = cc in
+    let rule : s.rule ≡ t.rule = some_is s.rule t.rule (sym i.rule_is ∙ ap (rule_at rules) number ∙ j.rule_is) in
+    let order : i.order ≡ j.order = some_is i.order j.order (sym i.order_is ∙ ap₂ (plan_at plans) number head ∙ j.order_is) in
     let count : length s.placed ≡ length t.placed = same_count (λ (p : Placed). p.label) s.placed t.placed ls in
     let hs : heads s ≡ heads t = i.heads_are ∙ ap₂ (λ n (o : List Step). take n (map (λ step. step.head) o)) count order ∙ sym j.heads_are in
     let placed : s.placed ≡ t.placed = placed_same store s.placed t.placed ls hs i.live j.live in
@@ -55,13 +51,16 @@ trial_same rules plans store s t i j e =
 pub next_same : (s : Space) (place : List ℕ) (t u : Trial) → IsNextTrial s place t → IsNextTrial s place u → t ≡ u
 next_same s place t u h k = trial_same s.rules s.plans s.store t u h.1 k.1 (least_same _ _ _ _ (position t) (position u) h.0 k.0)
 
--- the least label from one on with which a trial ends is that of the next trial from there on
-pub end_at : (s : Space) (r h : ℕ) (ls : List ℕ) (from x : ℕ) → 1 ≤ length ls → LeastFrom (MayEnd s (r ∷ h ∷ ls)) from x → IsNext s (r ∷ h ∷ (ls ++ from ∷ [])) (r ∷ h ∷ (ls ++ x ∷ []))
-end_at s r h ls from x some e =
-    let path : List ℕ = r ∷ h ∷ ls in
-    let g = shorter (Child s) [] path (x ∷ []) e.holds.grows in
-    least_beside (Child s) 3 [] path from x g (record {
-      holds = last_child (Child s) [] path x e.holds.grows;
-      there = e.there;
-      least = λ y c low. e.least y (record { grows = grows_more (Child s) [] path y g c; deep = omega (arith, length-append ls (y ∷ [])) }) low;
-    }) (omega (arith, length-append ls (x ∷ [])))
+-- the position of a trial with one label more
+pub longer_position : (part : Trial) (p : Placed) → position (lengthened part p) ≡ position part ++ p.label ∷ []
+longer_position part p = ap (λ ls. part.number ∷ part.head ∷ ls) (map_push (λ (x : Placed). x.label) part.placed p)
+
+-- a trial of a plan is one of its join
+pub trial_in : (s : Space) (t : Trial) (rule : Simpagation ℕ) (order : List Step) → IsTrialOf s.rules s.plans s.store t → IsPlanned s t.number t.head rule order → IsFormed t → IsTrialIn (join_in s rule order) (labels t) t
+trial_in s t rule order i p formed = record {
+  rule_is = some_is t.rule rule (sym i.rule_is ∙ p.rule_is);
+  labels_are = refl;
+  heads_are = subst (λ (o : List Step). heads t ≡ take (length t.placed) (map (λ (step : Step). step.head) o)) (some_is i.order order (sym i.order_is ∙ p.order_is)) i.heads_are;
+  live = i.live;
+  formed = formed;
+}

@@ -20,11 +20,11 @@ use Rattle.chr_search.specs.Judged.{Judgement}
 use Rattle.chr_search.specs.Fronts.{lengthened, MayEnd, IsEndFrom, IsFront, IsPlacedAfter}
 use Rattle.chr_search.proofs.Judging.{labels_length}
 use Rattle.chr_search.proofs.Making.{next_trial}
-use Rattle.chr_search.proofs.Fronts.{end_next, end_none, placed_trial, placed_after}
+use Rattle.chr_search.proofs.Fronts.{end_at, end_next, end_none, placed_trial, placed_after}
 use Rattle.chr_search.proofs.Tree.{least_same}
 use Rattle.chr_sheet.specs.Rows.{Row, misfit, judged_part, trials_of}
 use Rattle.chr_sheet.specs.Sheets.{IsNextTrial, IsFrontOf, Reports, done, moves, passes, place_after}
-use Rattle.chr_sheet.proofs.OneNext.{next_same, end_at}
+use Rattle.chr_sheet.proofs.OneNext.{next_same, longer_position}
 
 -- two labels that are compared
 pub next_is : (next : Option ℕ) (l : ℕ) → false ≡ not (option_eq nat_eq next (Some l)) → next ≡ Some l
@@ -41,8 +41,8 @@ reports_both s place mid after js ks n m (passes p a j more c not rest) y = pass
 
 pub reports_few : (s : Space) (place after : List ℕ) (js : List Judgement) (n : ℕ) → Reports s place js n after → n ≤ length js
 reports_few s place after js n (done p) = omega arith
-reports_few s place after js n (moves p a j more c next other rest) = let few : c ≤ length more = reports_few s (after_judging j) after more c rest in omega arith
-reports_few s place after js n (passes p a j more c not rest) = let few : n ≤ length more = reports_few s place after more n rest in omega arith
+reports_few s place after js n (moves p a j more c next other rest) = omega (arith, reports_few s (after_judging j) after more c rest)
+reports_few s place after js n (passes p a j more c not rest) = omega (arith, reports_few s place after more n rest)
 
 -- one judgement
 one_moves : (s : Space) (place : List ℕ) (j : Judgement) → IsNextTrial s place j.trial → j.verdict ≢ Whole → Reports s place (j ∷ []) 1 (after_judging j)
@@ -77,11 +77,8 @@ pub none_reported : (s : Space) (place : List ℕ) (part : Trial) (lasts : List 
 none_reported s place part [] not = done place
 none_reported s place part (p ∷ ps) not = passes place place (misfit (lengthened part p)) (map misfit (map (lengthened part) ps)) 0 (not p) (none_reported s place part ps not)
 
-position_of : (part : Trial) (p : Placed) → position (lengthened part p) ≡ position part ++ p.label ∷ []
-position_of part p = ap (λ ls. part.number ∷ part.head ∷ ls) (map_push (λ (x : Placed). x.label) part.placed p)
-
 next_in : (s : Space) (place : List ℕ) (part : Trial) (p : Placed) → IsNextTrial s place (lengthened part p) → IsNext s place (position part ++ p.label ∷ [])
-next_in s place part p next = subst (IsNext s place) (position_of part p) next.0
+next_in s place part p next = subst (IsNext s place) (longer_position part p) next.0
 
 -- with no label does a trial of the part come next
 pub none_beside : (s : Space) (place : List ℕ) (part : Trial) → ((l : ℕ) → IsNext s place (position part ++ l ∷ []) → ⊥) → (p : Placed) → IsNextTrial s place (lengthened part p) → ⊥
@@ -116,7 +113,7 @@ pub other_atom : (s : Space) (place : List ℕ) (part : Trial) (p : Placed) → 
 other_atom s place part p not is = not (subst (λ n. IsPlacedAfter s part.number part.head n p) (sym (labels_length part)) (placed_after s part p is.1).1)
 
 is_next_in : (s : Space) (place : List ℕ) (part : Trial) (p : Placed) → IsTrialOf s.rules s.plans s.store part → ComesWith s place part (Some p.label) → IsPlacedAfter s part.number part.head (length (labels part)) p → IsNextTrial s place (lengthened part p)
-is_next_in s place part p i comes a = (subst (IsNext s place) (sym (position_of part p)) comes, placed_trial s part p i (placed_at s part p a))
+is_next_in s place part p i comes a = (subst (IsNext s place) (sym (longer_position part p)) comes, placed_trial s part p i (placed_at s part p a))
 
 -- what comes after it
 comes_after : (s : Space) (part : Trial) (l : ℕ) (next : Option ℕ) → 1 ≤ length (labels part) → IsEndFrom s (position part) (l + 1) next → ComesWith s (past (position part ++ l ∷ [])) part next
@@ -124,7 +121,7 @@ comes_after s part l None some e = end_none s part.number part.head (labels part
 comes_after s part l (Some x) some e = end_next s part.number part.head (labels part) l x some e
 
 past_in : (place : List ℕ) (part : Trial) (p : Placed) → after_judging (misfit (lengthened part p)) ≡ place_after place part (Some p.label)
-past_in place part p = ap past (position_of part p)
+past_in place part p = ap past (longer_position part p)
 
 -- so many of a row's trials were met, this one last, and a trial of the part comes next with this label
 abbrev pub HasMet : Space → List ℕ → Trial → List Trial → ℕ → Option ℕ → Option ℕ → Type 0

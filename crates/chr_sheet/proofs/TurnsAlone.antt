@@ -1,5 +1,5 @@
 -- Trials of the active label alone that are reported, one after another.
-use Rattle.std.proofs.Common.{◌≡◌, ◌↔◌, IsTrue, Bool, ℕ, ◌+◌, ◌≤◌, List, [], ◌∷◌, ◌++◌, map, length, Option, Some, None, MatchOption, IfSome, refl, sym, ◌∙◌, ap, ap₂, subst, arith}
+use Rattle.std.proofs.Common.{◌≡◌, ◌↔◌, IsTrue, Bool, ℕ, ◌+◌, ◌≤◌, List, [], ◌∷◌, ◌++◌, map, length, Option, Some, None, MatchOption, IfSome, refl, sym, ◌∙◌, ap, ap₂, subst, arith, not}
 use Rattle.std.specs.List.{AllByRecursion}
 use Rattle.std.proofs.lemmas.List.{map_push}
 use Rattle.chr_value.specs.Atoms.{Atom}
@@ -66,10 +66,7 @@ other_alone s rules t h a = record { rules_are = a.rules_are; plans = a.plans; a
 pub only_head : (t : Trial) (p : Placed) → IsColumnTrial t → t.placed ≡ p ∷ [] → p.head ≡ 1
 only_head t p w e =
     let within = (subst (AllByRecursion (λ (x : Placed). (1 ≤ x.head) × (x.head ≤ length (heads_of t.rule)) × (x.label ≤ 4294967295))) e w.formed.within).0 in
-    let low : 1 ≤ p.head = within.0 in
-    let high : p.head ≤ length (heads_of t.rule) = within.1 in
-    let full : length (heads_of t.rule) ≡ 1 = w.full in
-    omega arith
+    omega (arith, w.full)
 
 -- and it is the trial's
 pub its_head : (s : Space) (rules : List (Simpagation ℕ)) (place : List ℕ) (t : Trial) → IsAloneOf s rules t → IsColumnTrial t → IsNext s place (t.number ∷ t.head ∷ s.active ∷ []) → rule_at rules t.number ≡ Some t.rule → t.head ≡ 1
@@ -78,10 +75,7 @@ its_head s rules place t a w n is =
     let c = i.grows.1.1.0 in
     let q = planned s.rules s.plans a.plans t.number t.head c.0 c.1 c.2.rule_is c.2.order_is in
     let same : c.0 ≡ t.rule = some_is c.0 t.rule (sym c.2.rule_is ∙ ap (λ (rs : List (Simpagation ℕ)). rule_at rs t.number) a.rules_are ∙ is) in
-    let low : 1 ≤ t.head = q.from in
-    let high : t.head ≤ length (heads_of t.rule) = subst (λ (r : Simpagation ℕ). t.head ≤ length (heads_of r)) same q.to in
-    let full : length (heads_of t.rule) ≡ 1 = w.full in
-    omega arith
+    omega (arith, q.from, q.to, w.full, ap (λ (r : Simpagation ℕ). length (heads_of r)) same)
 
 -- a head at which the active label comes next has a small number
 pub next_low : (s : Space) (rules : List (Simpagation ℕ)) (place : List ℕ) (o : ℕ × ℕ) (t : Trial) → IsAloneOf s rules t → AllByRecursion IsRule rules → IsNext s place (o.0 ∷ o.1 ∷ s.active ∷ []) → o.1 ≤ 6
@@ -89,9 +83,7 @@ next_low s rules place o t a scoped n =
     let i : IsTrial s (o.0 ∷ o.1 ∷ s.active ∷ []) = next_trial s place (o.0 ∷ o.1 ∷ s.active ∷ []) n in
     let c = i.grows.1.1.0 in
     let q = planned s.rules s.plans a.plans o.0 o.1 c.0 c.1 c.2.rule_is c.2.order_is in
-    let to : o.1 ≤ length (heads_of c.0) = q.to in
-    let few : length (heads_of c.0) ≤ 6 = few_heads c.0 (rule_scoped rules scoped o.0 c.0 (sym (ap (λ (rs : List (Simpagation ℕ)). rule_at rs o.0) a.rules_are) ∙ c.2.rule_is)) in
-    omega arith
+    omega (arith, q.to, few_heads c.0 (rule_scoped rules scoped o.0 c.0 (sym (ap (λ (rs : List (Simpagation ℕ)). rule_at rs o.0) a.rules_are) ∙ c.2.rule_is)))
 
 -- ---- which trial comes next
 

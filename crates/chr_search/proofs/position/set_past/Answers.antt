@@ -7,9 +7,7 @@ use Rattle.chr_search.proofs.Judging.{last_small}
 use Rattle.chr_search.proofs.position.set_past.Goals as goal
 
 pub overflow_add-last : goal.overflow_add-last
-overflow_add-last c =
-    let small : c.in-Some.last.now ≤ 4294967295 = last_small c.requires.0 c.requires.1 c.in-Some.before.now c.in-Some.last.now (sym (c.requires.2 ∙ c.in-Some.ensures.cases.0)) in
-    omega arith
+overflow_add-last c = omega (arith, last_small c.requires.0 c.requires.1 c.in-Some.before.now c.in-Some.last.now (sym (c.requires.2 ∙ c.in-Some.ensures.cases.0)))
 
 pub returns : goal.returns
 returns c =

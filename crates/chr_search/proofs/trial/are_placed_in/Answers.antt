@@ -29,12 +29,8 @@ returns-then-one-order g c = (
 pub loop-i-preserved : goal.loop-i-preserved
 loop-i-preserved g c =
     let few : length c.args.placed.now ≤ length c.args.order.now = c.if-placed-order.false in
-    let n = placed_more placed_as c.args.order.now c.args.store.now.entries c.args.placed.now c.loop-i.i c.index-placed-i.result (record { head = 0; key = None }) (record { heads = c.loop-i.invariant.heads; live = c.loop-i.invariant.live }) c.loop-i-test.true (omega arith) c.index-placed-i.is c.if-one-order.false
-    (sym c.in-Some.ensures ∙ ap (λ a. Some a) (sym (c.same.ensures.0 c.if-not-same.false))) in
-    record { heads = n.heads; live = n.live }
+    placed_more placed_as c.args.order.now c.args.store.now.entries c.args.placed.now c.loop-i.i c.index-placed-i.result (record { head = 0; key = None }) c.loop-i.invariant c.loop-i-test.true (omega arith) c.index-placed-i.is c.if-one-order.false
+    (sym c.in-Some.ensures ∙ ap (λ a. Some a) (sym (c.same.ensures.0 c.if-not-same.false)))
 
 pub returns : goal.returns
-returns g c = (
-  λ t. placed_all placed_as c.args.order.now c.args.store.now.entries c.args.placed.now c.loop-i.i (record { heads = c.loop-i.invariant.heads; live = c.loop-i.invariant.live }) c.loop-i-test.false c.loop-i.auto.i-end,
-  λ a. refl,
-)
+returns g c = (λ t. placed_all placed_as c.args.order.now c.args.store.now.entries c.args.placed.now c.loop-i.i c.loop-i.invariant c.loop-i-test.false c.loop-i.auto.i-end, λ a. refl)

@@ -1,15 +1,16 @@
 use Rattle.std.proofs.Common.{◌≡◌, ◌≤◌, ◌<◌, length, Some, None, get_or, refl, sym, ◌∙◌, arith}
 use Rattle.chr_model.specs.Stores.{atom_at}
+use Rattle.std.proofs.lemmas.Option.{slice_get-get_or}
 use Rattle.chr_search.specs.Placed.{placed_as}
 use Rattle.chr_search.proofs.Plans.{heads_in}
-use Rattle.chr_search.proofs.Making.{read_at, read_more, all_push, heads_read}
+use Rattle.chr_search.proofs.Making.{read_more, all_more, heads_read}
 use Rattle.chr_search.proofs.Placing.{placed_read}
 use Rattle.chr_search.proofs.trial.place_labels.Goals as goal
 
 pub unreachable-requires : goal.unreachable-requires
 unreachable-requires g c =
     let ls = c.args.labels.now in
-    let live = c.requires.live c.loop-i.i (get_or ls c.loop-i.i 0) (read_at ls c.loop-i.i 0 c.loop-i-test.true) in
+    let live = c.requires.live c.loop-i.i (get_or ls c.loop-i.i 0) (slice_get-get_or ls c.loop-i.i 0 c.loop-i-test.true) in
     let z : None ≡ Some live.0 = c.in_default.ensures ∙ live.1 in
     absurd (cc)
 
@@ -21,8 +22,8 @@ loop-i-preserved g c =
     let count : length ls ≤ length order = c.requires.count in
     record {
       heads = read_more (λ p. p.head) c.loop-i.placed.items c.push_placed.new.placed.items _ (heads_in order) c.loop-i.i _ c.loop-i.invariant.heads c.in_ok-push_placed.ensures refl (heads_read order c.loop-i.i (record { head = 0; key = None }) (omega arith));
-      labels = read_more (λ p. p.label) c.loop-i.placed.items c.push_placed.new.placed.items _ ls c.loop-i.i _ c.loop-i.invariant.labels c.in_ok-push_placed.ensures refl (read_at ls c.loop-i.i 0 here);
-      live = all_push (λ p. atom_at c.args.store.now.entries p.label ≡ Some p.atom) c.loop-i.placed.items c.push_placed.new.placed.items _ c.loop-i.invariant.live c.in_ok-push_placed.ensures (sym c.in-Some.ensures);
+      labels = read_more (λ p. p.label) c.loop-i.placed.items c.push_placed.new.placed.items _ ls c.loop-i.i _ c.loop-i.invariant.labels c.in_ok-push_placed.ensures refl (slice_get-get_or ls c.loop-i.i 0 here);
+      live = all_more (λ p. atom_at c.args.store.now.entries p.label ≡ Some p.atom) c.loop-i.placed.items c.push_placed.new.placed.items _ c.loop-i.invariant.live c.in_ok-push_placed.ensures (sym c.in-Some.ensures);
     }
 
 pub returns : goal.returns

@@ -1,4 +1,4 @@
-use Rattle.std.proofs.Common.{◌≡◌, ◌<◌, length, refl, arith}
+use Rattle.std.proofs.Common.{refl, arith}
 use Rattle.chr_rule.proofs.Lists.{differ_at}
 use Rattle.chr_search.specs.Placed.{placed_as}
 use Rattle.chr_search.proofs.Same.{other_labels, same_count}
@@ -10,19 +10,14 @@ returns-then-not-same_labels g c = other_labels placed_as c.args.placed.now c.ar
 
 pub returns-then-not-same : goal.returns-then-not-same
 returns-then-not-same g c =
-    let count : length c.args.placed.now ≡ length c.args.other.now = same_count (λ p. p.label) c.args.placed.now c.args.other.now (c.if-not-same_labels.ensures.0 refl) in
-    let here : c.loop-i.i < length c.args.placed.now = c.loop-i-test.true in
-    differ_at placed_as c.args.placed.now c.args.other.now c.loop-i.i _ _ _ here (omega arith) c.index-placed-i.is c.index-other-i.is c.same.ensures c.if-not-same.true
+    differ_at placed_as _ _ c.loop-i.i _ _ _ c.loop-i-test.true (omega (arith, c.loop-i-test.true, same_count (λ p. p.label) c.args.placed.now c.args.other.now (c.if-not-same_labels.ensures.0 refl))) c.index-placed-i.is c.index-other-i.is c.same.ensures c.if-not-same.true
 
 pub loop-i-preserved : goal.loop-i-preserved
 loop-i-preserved g c =
-    let count : length c.args.placed.now ≡ length c.args.other.now = same_count (λ p. p.label) c.args.placed.now c.args.other.now (c.if-not-same_labels.ensures.0 refl) in
-    same_more placed_as placed_as c.args.placed.now c.args.other.now c.loop-i.i c.index-placed-i.result c.index-other-i.result c.loop-i.invariant (omega arith) (omega arith) c.index-placed-i.is c.index-other-i.is (c.same.ensures.0 c.if-not-same.false)
+    same_more placed_as placed_as _ _ c.loop-i.i _ _ c.loop-i.invariant c.loop-i-test.true (omega (arith, c.loop-i-test.true, same_count (λ p. p.label) c.args.placed.now c.args.other.now (c.if-not-same_labels.ensures.0 refl))) c.index-placed-i.is c.index-other-i.is (c.same.ensures.0 c.if-not-same.false)
 
 pub returns : goal.returns
 returns g c = (
-  λ t.
-      let count : length c.args.placed.now ≡ length c.args.other.now = same_count (λ p. p.label) c.args.placed.now c.args.other.now (c.if-not-same_labels.ensures.0 refl) in
-      same_all placed_as placed_as c.args.placed.now c.args.other.now c.loop-i.i c.loop-i.invariant (omega arith) (omega arith),
+  λ t. same_all placed_as placed_as _ _ c.loop-i.i c.loop-i.invariant c.loop-i-test.false (omega (arith, c.loop-i-test.false, same_count (λ p. p.label) c.args.placed.now c.args.other.now (c.if-not-same_labels.ensures.0 refl))),
   λ e. refl,
 )

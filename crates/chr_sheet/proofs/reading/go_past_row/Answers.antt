@@ -1,4 +1,4 @@
-use Rattle.std.proofs.Common.{◌≡◌, ◌≤◌, ◌-◌, ◌∷◌, [], ◌++◌, get_or, length, map, sym, ap, subst, ◌∙◌, arith}
+use Rattle.std.proofs.Common.{◌≡◌, ◌≤◌, ◌-◌, ◌∷◌, [], ◌++◌, get_or, length, map, sym, ap, subst, ◌∙◌, arith, ◌<◌}
 use Rattle.std.proofs.lemmas.List.{length-map, length_push}
 use Rattle.chr_plan.specs.Orders.{heads_of}
 use Rattle.chr_search.specs.Fronts.{lengthened}
@@ -8,9 +8,9 @@ use Rattle.chr_search.specs.Verdicts.{Trial, position}
 use Rattle.chr_search.proofs.Making.{map_twice}
 use Rattle.chr_sheet.specs.Beside.{last_of}
 use Rattle.chr_sheet.specs.Rows.{Row}
-use Rattle.chr_sheet.proofs.Cutting.{last_formed}
-use Rattle.chr_sheet.proofs.InRows.{label_low, part_few}
-use Rattle.chr_sheet.proofs.NextBeside.{last_read, longer_position}
+use Rattle.chr_sheet.proofs.InRows.{formed_there, label_low, part_few}
+use Rattle.chr_sheet.proofs.NextBeside.{last_read}
+use Rattle.chr_sheet.proofs.OneNext.{longer_position}
 use Rattle.chr_sheet.proofs.reading.go_past_row.Goals as goal
 
 pub go_past-requires-clause-few : goal.go_past-requires-clause-few
@@ -18,9 +18,11 @@ go_past-requires-clause-few g c = subst (λ t. length t.placed ≤ 5) (sym c.par
 
 pub go_past-requires-clause-last : goal.go_past-requires-clause-last
 go_past-requires-clause-last g c =
-    let r : Row = c.args.row.now in
+    let row = c.part.ensures.row in
     let x = c.index-lasts-lasts.result in
-    subst (λ y. y.label ≤ 4294967295) c.index-lasts-lasts.is (label_low r.part (placed_as x) (last_formed placed_as r c.lasts-lasts.result.now x c.lasts-lasts.ensures.lasts c.part.ensures.row c.index-lasts-lasts.is))
+    let xs = c.lasts-lasts.result.now in
+    let here : length xs - 1 < length xs = omega (arith, ap length c.lasts-lasts.ensures.lasts, length-map xs placed_as, row.some) in
+    subst (λ y. y.label ≤ 4294967295) c.index-lasts-lasts.is (label_low c.args.row.now.part (placed_as x) (formed_there placed_as c.args.row.now xs (length xs - 1) x row c.lasts-lasts.ensures.lasts here c.index-lasts-lasts.is))
 
 -- the last trial has the last of the labels
 pub returns-clause-place : goal.returns-clause-place

@@ -11,7 +11,7 @@ use Rattle.chr_search.specs.Verdicts.{labels, position}
 use Rattle.chr_search.proofs.Judging.{few_heads}
 use Rattle.chr_sheet.specs.Beside.{AreEnds, ComeNext, EndHead, HasEnd, next_from}
 use Rattle.chr_sheet.specs.Rows.{Row, branch_trials, trials_of}
-use Rattle.chr_sheet.proofs.Cutting.{trials_count}
+use Rattle.chr_sheet.proofs.InRows.{trials_count}
 use Rattle.chr_sheet.proofs.NextBeside.{LacksOne, IsMadeBranch, branch_made, begins_others, end_as, labels_read, small_end}
 use Rattle.chr_sheet.proofs.LastAtHead.{branch_ends, part_ends}
 use Rattle.chr_sheet.proofs.reading.in_branch.Goals as goal
@@ -94,5 +94,5 @@ returns-clause-turn g c =
     let row = c.new.ensures in
     let few : length c.push_ends.new.lasts.items ≤ c.args.most - 1 = c.in_ok-push_ends.ensures.few in
     let two : 2 ≤ c.args.most = c.requires.some in
-    let count : length (trials_of c.new.result) ≡ length c.push_ends.new.lasts.items = ap (λ r. length (trials_of r)) row ∙ trials_count placed_as t c.push_ends.new.lasts.items in
+    let count : length (trials_of c.new.result) ≡ length c.push_ends.new.lasts.items = trials_count placed_as c.new.result c.push_ends.new.lasts.items (ap (λ (r : Row). r.lasts) (sym row)) in
     (trials_of c.new.result, ap (λ r. r.part ∷ trials_of c.new.result) row, omega arith, subst (λ r. ComeNext s t (trials_of r)) (sym row) b.next)

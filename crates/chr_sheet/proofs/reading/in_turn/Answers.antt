@@ -7,9 +7,9 @@ use Rattle.chr_sheet.specs.Settings.{space_in}
 use Rattle.chr_search.specs.Verdicts.{Placed, Trial, labels, position}
 use Rattle.chr_search.specs.Fronts.{lengthened, MayEnd}
 use Rattle.chr_search.specs.Tree.{NoneFrom}
-use Rattle.chr_sheet.specs.Rows.{trials_of}
+use Rattle.chr_sheet.specs.Rows.{Row, trials_of}
 use Rattle.chr_sheet.specs.Beside.{ComeNext, EndHead, next_from}
-use Rattle.chr_sheet.proofs.Cutting.{trials_count}
+use Rattle.chr_sheet.proofs.InRows.{trials_count}
 use Rattle.chr_sheet.proofs.NextBeside.{IsBegun, begun, begins_others, small_end, IsMadeRow, row_made}
 use Rattle.chr_sheet.proofs.LastAtHead.{pair_ends, row_ends}
 use Rattle.chr_sheet.proofs.reading.in_turn.Goals as goal
@@ -86,5 +86,5 @@ returns-clause-turn g c =
     let made = pushed g at.In_ok-push_ends (parted g at.In_ok-push) (one g at.In_ok-push) in
     let more = map (lengthened part) made.0 in
     let few : length c.push_ends.new.lasts.items ≤ c.args.most = c.in_ok-push_ends.ensures.few in
-    let count : length (trials_of c.new.result) ≡ length c.push_ends.new.lasts.items = ap (λ r. length (trials_of r)) c.new.ensures ∙ trials_count placed_as part c.push_ends.new.lasts.items in
+    let count : length (trials_of c.new.result) ≡ length c.push_ends.new.lasts.items = trials_count placed_as c.new.result c.push_ends.new.lasts.items (ap (λ (r : Row). r.lasts) (sym c.new.ensures)) in
     (more, ap trials_of c.new.ensures ∙ made.1.trials ∙ ap (λ t. t ∷ more) c.split_last-part.ensures, omega arith, subst (λ t. ComeNext s t more) c.split_last-part.ensures made.1.next)

@@ -1,9 +1,9 @@
-use Rattle.std.proofs.Common.{◌≡◌, ℕ, List, Some, map, length, subst, arith, rules}
+use Rattle.std.proofs.Common.{◌≡◌, ℕ, List, Some, map, subst, arith, rules}
 use Rattle.std.proofs.lemmas.List.{take_all}
 use Rattle.chr_search.specs.Placed.{placed_as}
 use Rattle.chr_search.specs.Fronts.{lengthened}
 use Rattle.chr_search.specs.Trials.{Space}
-use Rattle.chr_search.specs.Verdicts.{Placed, Trial, labels}
+use Rattle.chr_search.specs.Verdicts.{Placed, labels}
 use Rattle.chr_sheet.specs.Rows.{Row, misfit, trials_of}
 use Rattle.chr_sheet.specs.Sheets.{IsFrontOf, IsNextTrial, Reports, place_after}
 use Rattle.chr_sheet.proofs.InRows.{trials_count, trials_step, formed_there, label_low}
@@ -21,9 +21,7 @@ loop-last-init g c = record {
 }
 
 pub has-requires : goal.has-requires
-has-requires g c =
-    let part : Trial = c.args.row.now.part in
-    (c.requires.0, part.number, part.head, labels part, c.loop-last.invariant.front c.requires.0 c.requires.1)
+has-requires g c = (c.requires.0, c.args.row.now.part.number, c.args.row.now.part.head, labels c.args.row.now.part, c.loop-last.invariant.front c.requires.0 c.requires.1)
 
 pub loop-last-preserved-then-ne : goal.loop-last-preserved-then-ne
 loop-last-preserved-then-ne g c =
@@ -46,13 +44,10 @@ loop-last-preserved-then-ne g c =
 
 pub overflow_add-last : goal.overflow_add-last
 overflow_add-last g c =
-    let low = label_low c.args.row.now.part (placed_as c.last-item.result) (formed_there placed_as c.args.row.now c.lasts-last-items.result.now c.loop-last.last-index c.last-item.result c.lasts-last-items.ensures.row c.loop-last.invariant.lasts c.loop-last-test.true c.last-item.is) in
-    omega arith
+    omega (arith, label_low c.args.row.now.part (placed_as c.last-item.result) (formed_there placed_as c.args.row.now c.lasts-last-items.result.now c.loop-last.last-index c.last-item.result c.lasts-last-items.ensures.row c.loop-last.invariant.lasts c.loop-last-test.true c.last-item.is))
 
 pub next-next-requires : goal.next-next-requires
-next-next-requires g c =
-    let part : Trial = c.args.row.now.part in
-    (c.requires.0, part.number, part.head, labels part, c.loop-last.invariant.front c.requires.0 c.requires.1)
+next-next-requires g c = (c.requires.0, c.args.row.now.part.number, c.args.row.now.part.head, labels c.args.row.now.part, c.loop-last.invariant.front c.requires.0 c.requires.1)
 
 pub loop-last-preserved : goal.loop-last-preserved
 loop-last-preserved g c =
@@ -76,8 +71,5 @@ pub returns : goal.returns
 returns g c =
     let r : Row = c.args.row.now in
     let i = c.loop-last.invariant in
-    let count : length (trials_of r) ≡ length c.lasts-last-items.result.now = trials_count placed_as r c.lasts-last-items.result.now i.lasts in
-    record {
-      reports = λ s place f stands next. subst (λ ts. Reports s place (map misfit ts) c.loop-last.count (place_after place r.part c.loop-last.met)) (take_all c.loop-last.last-index (trials_of r) (omega arith)) (i.met s place f stands next).0;
-      low = i.low;
-    }
+    let all = take_all c.loop-last.last-index (trials_of r) (omega (arith, trials_count placed_as r c.lasts-last-items.result.now i.lasts)) in
+    record { reports = λ s place f stands next. subst (λ ts. Reports s place (map misfit ts) c.loop-last.count (place_after place r.part c.loop-last.met)) all (i.met s place f stands next).0; low = i.low }

@@ -10,9 +10,7 @@ use Rattle.chr_sheet.proofs.reporting.meet_alone.Goals.{then-is_at, else-is_at}
 use Rattle.chr_sheet.proofs.reporting.meet_alone.Goals as goal
 
 pub overflow_add-first : goal.overflow_add-first
-overflow_add-first g c =
-    let low : c.args.first.1 ≤ 6 = next_low c.requires.0 c.args.program.now c.requires.1 c.args.first c.args.column.now.first c.requires.2 c.rules-rules.ensures.valid c.requires.3 in
-    omega arith
+overflow_add-first g c = omega (arith, next_low c.requires.0 c.args.program.now c.requires.1 c.args.first c.args.column.now.first c.requires.2 c.rules-rules.ensures.valid c.requires.3)
 
 -- what is told of the last one that was met
 abbrev IsLow : Option (ℕ × ℕ) → Type 0

@@ -1,9 +1,7 @@
 use Rattle.std.proofs.Common.{◌≤◌, ℕ, length, sym, subst, arith}
 use Rattle.chr_search.specs.Fronts.{MayEnd, IsEndFrom}
-use Rattle.chr_search.specs.Trials.{Space}
 use Rattle.chr_sheet.specs.Settings.{space_in}
 use Rattle.chr_search.specs.Verdicts.{Trial, labels, position}
-use Rattle.chr_sheet.specs.Rows.{Row}
 use Rattle.chr_sheet.specs.Sheets.{IsFrontOf}
 use Rattle.chr_sheet.proofs.InRows.{part_few}
 use Rattle.chr_sheet.proofs.Turns.{none_reported, none_ends, next_behind}
@@ -17,10 +15,8 @@ front_of-requires g c =
 
 pub returns-in_default-clause-reports : goal.returns-in_default-clause-reports
 returns-in_default-clause-reports g c =
-    let s : Space = space_in c.args.setting.now c.args.search.now.label in
-    let r : Row = c.args.row.now in
     let none = subst (λ a. (l : ℕ) → MayEnd (space_in c.args.setting.now a) (position c.part.result.now) l → ⊥) c.label.ensures c.in_default.ensures in
-    none_reported s c.args.search.now.place r.part r.lasts (none_ends s c.args.search.now.place r.part (subst (λ part. (l : ℕ) → MayEnd s (position part) l → ⊥) c.part.ensures.part none))
+    none_reported _ _ _ c.args.row.now.lasts (none_ends _ _ _ (subst (λ part. (l : ℕ) → MayEnd (space_in c.args.setting.now c.args.search.now.label) (position part) l → ⊥) c.part.ensures.part none))
 
 -- the front of the row's part, for the search's label
 front : (g : _) (c : In-Some g) → IsFrontOf (space_in c.args.setting.now c.args.search.now.label) c.args.row.now.part c.in-Some.front
@@ -30,29 +26,24 @@ front g c =
 
 pub next-requires : goal.next-requires
 next-requires g c =
-    let s : Space = space_in c.args.setting.now c.args.search.now.label in
-    let part : Trial = c.args.row.now.part in
-    (s, part.number, part.head, labels part, front g (goal.at.next-requires g c).In-Some)
+    (space_in c.args.setting.now c.args.search.now.label, c.args.row.now.part.number, c.args.row.now.part.head, labels c.args.row.now.part, front g (goal.at.next-requires g c).In-Some)
 
 pub returns-in_default-next-clause-reports : goal.returns-in_default-next-clause-reports
 returns-in_default-next-clause-reports g c =
-    let s : Space = space_in c.args.setting.now c.args.search.now.label in
-    let r : Row = c.args.row.now in
-    let ends = (c.next.ensures s r.part.number r.part.head (labels r.part) (front g (goal.at.returns-in_default-next-clause-reports g c).In-Some)).0 in
-    let none = subst (IsEndFrom s (position r.part) 0) c.in_default-next.is ends in
-    none_reported s c.args.search.now.place r.part r.lasts (none_ends s c.args.search.now.place r.part (λ l m. none l m (omega arith)))
+    let part = c.args.row.now.part in
+    let ends = (c.next.ensures _ part.number part.head (labels part) (front g (goal.at.returns-in_default-next-clause-reports g c).In-Some)).0 in
+    let none = subst (IsEndFrom (space_in c.args.setting.now c.args.search.now.label) (position part) 0) c.in_default-next.is ends in
+    none_reported _ _ _ c.args.row.now.lasts (none_ends _ _ _ (λ l m. none l m (omega arith)))
 
 pub pass_met-requires : goal.pass_met-requires
 pass_met-requires g c =
-    let s : Space = space_in c.args.setting.now c.args.search.now.label in
-    let part : Trial = c.args.row.now.part in
-    (s, (c.next.ensures s part.number part.head (labels part) (front g (goal.at.pass_met-requires g c).In-Some)).1)
+    let part = c.args.row.now.part in
+    (space_in c.args.setting.now c.args.search.now.label, (c.next.ensures _ part.number part.head (labels part) (front g (goal.at.pass_met-requires g c).In-Some)).1)
 
 pub returns-clause-reports : goal.returns-clause-reports
 returns-clause-reports g c =
-    let s : Space = space_in c.args.setting.now c.args.search.now.label in
-    let part : Trial = c.args.row.now.part in
+    let s = space_in c.args.setting.now c.args.search.now.label in
+    let part = c.args.row.now.part in
     let there = front g (goal.at.returns-clause-reports g c).In-Some in
     let next = c.next.ensures s part.number part.head (labels part) there in
-    let least = subst (IsEndFrom s (position part) 0) c.in-Some-next.is next.0 in
-    c.pass_met.ensures.reports s next.1 c.requires.stands (next_behind s c.args.search.now.place part c.in-Some-next.first c.requires.place there.some least)
+    c.pass_met.ensures.reports s next.1 c.requires.stands (next_behind s _ part _ c.requires.place there.some (subst (IsEndFrom s (position part) 0) c.in-Some-next.is next.0))

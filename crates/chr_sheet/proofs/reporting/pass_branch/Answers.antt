@@ -13,12 +13,9 @@ use Rattle.chr_sheet.proofs.reporting.pass_branch.Goals as goal
 
 pub returns-then-ne-clause-reports : goal.returns-then-ne-clause-reports
 returns-then-ne-clause-reports g c =
-    let s : Space = space_in c.args.setting.now c.args.search.now.label in
-    let r : Row = c.args.row.now in
-    let place = c.args.search.now.place in
     let isnt : c.is_next.result ≢ Some true = search rules in
-    let told = subst (λ t. IsToldNext s place t c.is_next.result) c.part-part.ensures.part c.is_next.ensures in
-    part_passes s place c.pass_misfits.new.search.place r.part (map misfit (trials_of r)) c.pass_misfits.result (told_not s place r.part c.is_next.result told isnt) c.pass_misfits.ensures.reports
+    let told = subst (λ t. IsToldNext (space_in c.args.setting.now c.args.search.now.label) c.args.search.now.place t c.is_next.result) c.part-part.ensures.part c.is_next.ensures in
+    part_passes _ _ _ _ _ _ (told_not _ _ _ _ told isnt) c.pass_misfits.ensures.reports
 
 pub advance_by-requires : goal.advance_by-requires
 advance_by-requires g c = λ e. subst IsPart (sym c.part-part.ensures.part) c.part-part.ensures.row.part
@@ -33,21 +30,17 @@ pass_behind-requires g c =
 
 pub overflow_add-result : goal.overflow_add-result
 overflow_add-result g c =
-    let s : Space = space_in c.args.setting.now c.advance_by.new.self.label in
-    let r : Row = c.args.row.now in
-    let few = reports_few s c.advance_by.new.self.place c.pass_behind.new.search.place (map misfit (trials_of r)) c.pass_behind.result c.pass_behind.ensures.reports in
-    omega (arith, few, length-map (trials_of r) misfit, c.count_with_part-count.ensures, c.count_with_part-count.type_inv)
+    let few = reports_few _ _ _ (map misfit (trials_of c.args.row.now)) c.pass_behind.result c.pass_behind.ensures.reports in
+    omega (arith, few, length-map (trials_of c.args.row.now) misfit, c.count_with_part-count.ensures, c.count_with_part-count.type_inv)
 
 pub returns-clause-reports : goal.returns-clause-reports
 returns-clause-reports g c =
-    let s : Space = space_in c.args.setting.now c.args.search.now.label in
     let r : Row = c.args.row.now in
-    let place = c.args.search.now.place in
     let mid = c.advance_by.new.self.place in
     let after = c.pass_behind.new.search.place in
     let is : c.is_next.result ≡ Some true = search rules in
     let part = c.part-part.ensures.part in
-    let next = subst (IsNextTrial s place) part (told_is s place c.part-part.result.now c.is_next.result c.is_next.ensures is) in
+    let next = subst (IsNextTrial (space_in c.args.setting.now c.args.search.now.label) c.args.search.now.place) part (told_is _ _ _ _ c.is_next.ensures is) in
     let to = ap (λ (z : SearchState). z.place) c.advance_by.ensures ∙ ap (λ t. just_after (position t)) part in
-    part_moves s place mid after r.part (map misfit (trials_of r)) c.pass_behind.result next to
+    part_moves _ _ mid after r.part (map misfit (trials_of r)) c.pass_behind.result next to
     (subst (λ l. Reports (space_in c.args.setting.now l) mid (map misfit (trials_of r)) c.pass_behind.result after) (ap (λ (z : SearchState). z.label) c.advance_by.ensures) c.pass_behind.ensures.reports)

@@ -3,7 +3,6 @@ use Rattle.chr_search.specs.Fronts.{MayEnd}
 use Rattle.chr_search.specs.Trials.{Space, IsNext}
 use Rattle.chr_sheet.specs.Settings.{space_in}
 use Rattle.chr_search.specs.Verdicts.{Trial, position, IsTrialOf}
-use Rattle.chr_sheet.specs.Rows.{Row}
 use Rattle.chr_sheet.specs.Sheets.{IsFrontOf}
 use Rattle.chr_sheet.proofs.InRows.{part_few}
 use Rattle.chr_sheet.proofs.Turns.{none_reported, none_beside, none_stands, none_ends, row_reported}
@@ -11,18 +10,13 @@ use Rattle.chr_sheet.proofs.reporting.pass_misfits.Goals as goal
 
 pub returns-in_default-clause-reports : goal.returns-in_default-clause-reports
 returns-in_default-clause-reports g c =
-    let s : Space = space_in c.args.setting.now c.args.search.now.label in
-    let r : Row = c.args.row.now in
-    let place = c.args.search.now.place in
-    let none = subst (λ part. (l : ℕ) → IsNext s place (position part ++ l ∷ []) → ⊥) c.part-part.ensures.part c.in_default.ensures in
-    none_reported s place r.part r.lasts (none_beside s place r.part none)
+    let none = subst (λ part. (l : ℕ) → IsNext (space_in c.args.setting.now c.args.search.now.label) c.args.search.now.place (position part ++ l ∷ []) → ⊥) c.part-part.ensures.part c.in_default.ensures in
+    none_reported _ _ _ c.args.row.now.lasts (none_beside _ _ _ none)
 
 pub returns-then-not-stands_in-clause-reports : goal.returns-then-not-stands_in-clause-reports
 returns-then-not-stands_in-clause-reports g c =
-    let s : Space = space_in c.args.setting.now c.args.search.now.label in
-    let r : Row = c.args.row.now in
-    let place = c.args.search.now.place in
-    none_reported s place r.part r.lasts (none_stands s place r.part (λ i. let told = c.stands_in.ensures.1 (subst (IsTrialOf s.rules s.plans s.store) (sym c.part-part.ensures.part) i) in absurd (cc)))
+    let s = space_in c.args.setting.now c.args.search.now.label in
+    none_reported s _ _ c.args.row.now.lasts (none_stands s _ _ (λ i. let told = c.stands_in.ensures.1 (subst (IsTrialOf s.rules s.plans s.store) (sym c.part-part.ensures.part) i) in absurd (cc)))
 
 pub front_of-requires : goal.front_of-requires
 front_of-requires g c =
@@ -31,10 +25,8 @@ front_of-requires g c =
 
 pub returns-in_default-front_of-clause-reports : goal.returns-in_default-front_of-clause-reports
 returns-in_default-front_of-clause-reports g c =
-    let s : Space = space_in c.args.setting.now c.args.search.now.label in
-    let r : Row = c.args.row.now in
     let none = subst (λ a. (l : ℕ) → MayEnd (space_in c.args.setting.now a) (position c.part-part.result.now) l → ⊥) c.label.ensures c.in_default-front_of.ensures in
-    none_reported s c.args.search.now.place r.part r.lasts (none_ends s c.args.search.now.place r.part (subst (λ part. (l : ℕ) → MayEnd s (position part) l → ⊥) c.part-part.ensures.part none))
+    none_reported _ _ _ c.args.row.now.lasts (none_ends _ _ _ (subst (λ part. (l : ℕ) → MayEnd (space_in c.args.setting.now c.args.search.now.label) (position part) l → ⊥) c.part-part.ensures.part none))
 
 pub pass_met-requires : goal.pass_met-requires
 pass_met-requires g c =
@@ -43,5 +35,4 @@ pass_met-requires g c =
 
 pub returns-clause-reports : goal.returns-clause-reports
 returns-clause-reports g c =
-    row_reported c.args.setting.now.program.now c.args.setting.now.plans.now c.args.setting.now.store.now.entries c.label.result c.args.search.now.label c.args.search.now.place c.part-part.result.now c.args.row.now c.in-Some.first c.pass_met.result c.pass_met.new.search.place c.in-Some-front_of.front
-    c.label.ensures c.part-part.ensures.part (c.if-not-stands_in.ensures.0 refl) c.in-Some.ensures c.in-Some-front_of.ensures c.pass_met.ensures.reports
+    row_reported _ _ _ c.label.result _ _ c.part-part.result.now c.args.row.now _ _ _ c.in-Some-front_of.front c.label.ensures c.part-part.ensures.part (c.if-not-stands_in.ensures.0 refl) c.in-Some.ensures c.in-Some-front_of.ensures c.pass_met.ensures.reports

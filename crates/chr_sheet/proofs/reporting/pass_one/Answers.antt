@@ -1,5 +1,4 @@
 use Rattle.std.proofs.Common.{◌≡◌, ◌≢◌, true, Some, refl, rules}
-use Rattle.chr_search.specs.Trials.{Space}
 use Rattle.chr_sheet.specs.Settings.{space_in}
 use Rattle.chr_search.specs.Judged.{Judgement}
 use Rattle.chr_sheet.proofs.Turns.{told_not, told_is, one_moved, one_passes}
@@ -7,15 +6,11 @@ use Rattle.chr_sheet.proofs.reporting.pass_one.Goals as goal
 
 pub returns-then-ne-clause-reports : goal.returns-then-ne-clause-reports
 returns-then-ne-clause-reports g c =
-    let s : Space = space_in c.args.setting.now c.args.search.now.label in
-    let j : Judgement = record { trial = c.args.trial.now; verdict = c.args.verdict } in
     let isnt : c.is_next.result ≢ Some true = search rules in
-    one_passes s c.args.search.now.place j (told_not s c.args.search.now.place j.trial c.is_next.result c.is_next.ensures isnt)
+    one_passes _ _ _ (told_not _ _ _ _ c.is_next.ensures isnt)
 
 pub returns-clause-reports : goal.returns-clause-reports
 returns-clause-reports g c =
-    let s : Space = space_in c.args.setting.now c.args.search.now.label in
     let j : Judgement = record { trial = c.args.trial.now; verdict = c.args.verdict } in
     let is : c.is_next.result ≡ Some true = search rules in
-    let next = told_is s c.args.search.now.place j.trial c.is_next.result c.is_next.ensures is in
-    one_moved s c.args.search.now.place j c.args.search.now.label j.verdict j.trial c.advance_by.new.self next c.requires.other refl refl c.advance_by.ensures
+    one_moved (space_in c.args.setting.now c.args.search.now.label) _ j _ _ _ c.advance_by.new.self (told_is _ _ _ _ c.is_next.ensures is) c.requires.other refl refl c.advance_by.ensures

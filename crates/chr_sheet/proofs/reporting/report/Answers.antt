@@ -1,4 +1,4 @@
-use Rattle.std.proofs.Common.{◌≤◌, ◌+◌, length, length-append, take, refl, sym, ap, subst, ◌∙◌, arith}
+use Rattle.std.proofs.Common.{◌+◌, length, length-append, take, refl, sym, ap, subst, ◌∙◌, arith}
 use Rattle.std.specs.List.{AllByRecursion}
 use Rattle.chr_search.specs.Judged.{Judgement, IsVerdict}
 use Rattle.chr_search.specs.Trials.{Space, older}
@@ -25,21 +25,15 @@ loop-some-preserved g c =
     let more = subst (λ a. Reports (older c.args.program.now c.args.plans.now c.args.store.now.entries a) mid here c.pass_some-count.result after) c.loop-some.invariant.label c.pass_some-count.ensures.reports in
     record {
       all = c.loop-some.invariant.all;
-      right = subst (AllByRecursion (λ j. IsVerdict j.trial j.verdict)) (sym step) (all_both (λ (j : Judgement). IsVerdict j.trial j.verdict) before here c.loop-some.invariant.right c.are_right.ensures.right);
+      right = subst (AllByRecursion (λ j. IsVerdict j.trial j.verdict)) (sym step) ((all_both (λ (j : Judgement). IsVerdict j.trial j.verdict) before here).1 (c.loop-some.invariant.right, c.are_right.ensures.right));
       label = c.pass_some-count.ensures.label ∙ c.loop-some.invariant.label;
       reports = subst (λ js. Reports s c.args.search.now.place js (c.loop-some.count + c.pass_some-count.result) after) (sym step) (reports_both s c.args.search.now.place mid after before here c.loop-some.count c.pass_some-count.result c.loop-some.invariant.reports more);
     }
 
 pub overflow_add-count : goal.overflow_add-count
 overflow_add-count g c =
-    let s : Space = older c.args.program.now c.args.plans.now c.args.store.now.entries c.args.search.now.label in
-    let moved : Space = older c.args.program.now c.args.plans.now c.args.store.now.entries c.loop-some.search.label in
     let xs = c.others-some-items.result.now in
-    let reported : c.loop-some.count ≤ length (others_in (take c.loop-some.some-index xs)) = reports_few s c.args.search.now.place c.loop-some.search.place (others_in (take c.loop-some.some-index xs)) c.loop-some.count c.loop-some.invariant.reports in
-    let more : c.pass_some-count.result ≤ length (others_at c.some-item.result) = reports_few moved c.loop-some.search.place c.pass_some-count.new.search.place (others_at c.some-item.result) c.pass_some-count.result c.pass_some-count.ensures.reports in
+    let reported = reports_few _ _ _ _ _ c.loop-some.invariant.reports in
+    let more = reports_few _ _ _ (others_at c.some-item.result) c.pass_some-count.result c.pass_some-count.ensures.reports in
     let step = ap length (others_step xs c.loop-some.some-index c.some-item.result c.loop-some-test.true c.some-item.is) ∙ length-append (others_in (take c.loop-some.some-index xs)) (others_at c.some-item.result) in
-    let front = others_front xs (c.loop-some.some-index + 1) in
-    let all = ap length c.loop-some.invariant.all in
-    let few = c.others-some-items.ensures.few in
-    let parts = length-append c.args.judgements.now.others (listed c.args.judgements.now.whole) in
-    omega arith
+    omega (arith, reported, more, step, others_front xs (c.loop-some.some-index + 1), ap length c.loop-some.invariant.all, c.others-some-items.ensures.few, length-append c.args.judgements.now.others (listed c.args.judgements.now.whole))

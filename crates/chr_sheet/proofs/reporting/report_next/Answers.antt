@@ -17,20 +17,16 @@ pub loop-some-init : goal.loop-some-init
 loop-some-init g c = record { all = c.others-some-items.ensures.others; right = tt; other = tt; label = refl; place = refl; count = refl }
 
 pub go_past_some-requires : goal.go_past_some-requires
-go_past_some-requires g c =
-    let s : Space = older c.args.program.now c.args.plans.now c.args.store.now.entries c.args.search.now.label in (
-      s,
-      sym c.loop-some.invariant.label,
-      admissible_here s c.args.search.now.place c.args.judgements.now c.others-some-items.result.now c.loop-some.some-index c.some-item.result c.others-some-items.ensures.others c.loop-some-test.true c.some-item.is c.requires.next,
-    )
+go_past_some-requires g c = (
+  older c.args.program.now c.args.plans.now c.args.store.now.entries c.args.search.now.label,
+  sym c.loop-some.invariant.label,
+  admissible_here _ _ _ _ c.loop-some.some-index _ c.others-some-items.ensures.others c.loop-some-test.true c.some-item.is c.requires.next,
+)
 
 pub overflow_add-count : goal.overflow_add-count
 overflow_add-count g c =
     let within = others_within c.others-some-items.result.now c.loop-some.some-index c.some-item.result c.loop-some-test.true c.some-item.is in
-    let all = ap length c.loop-some.invariant.all in
-    let few = c.others-some-items.ensures.few in
-    let parts = length-append c.args.judgements.now.others (listed c.args.judgements.now.whole) in
-    omega (arith, c.loop-some.invariant.count)
+    omega (arith, within, c.loop-some.invariant.count, ap length c.loop-some.invariant.all, c.others-some-items.ensures.few, length-append c.args.judgements.now.others (listed c.args.judgements.now.whole))
 
 pub loop-some-preserved : goal.loop-some-preserved
 loop-some-preserved g c =
@@ -43,8 +39,8 @@ loop-some-preserved g c =
     let more = others_counted xs i c.some-item.result c.loop-some-test.true c.some-item.is in
     record {
       all = was.all;
-      right = subst (AllByRecursion (λ j. IsVerdict j.trial j.verdict)) (sym step) (all_both (λ (j : Judgement). IsVerdict j.trial j.verdict) before here was.right c.are_right.ensures.right);
-      other = subst (AllByRecursion (λ j. j.verdict ≢ Whole)) (sym step) (all_both (λ (j : Judgement). j.verdict ≢ Whole) before here was.other c.are_right.ensures.other);
+      right = subst (AllByRecursion (λ j. IsVerdict j.trial j.verdict)) (sym step) ((all_both (λ (j : Judgement). IsVerdict j.trial j.verdict) before here).1 (was.right, c.are_right.ensures.right));
+      other = subst (AllByRecursion (λ j. j.verdict ≢ Whole)) (sym step) ((all_both (λ (j : Judgement). j.verdict ≢ Whole) before here).1 (was.other, c.are_right.ensures.other));
       label = c.go_past_some.ensures.label ∙ was.label;
       place = c.go_past_some.ensures.place c.loop-some.search.place ∙ ap (λ p. after_all p here) was.place ∙ sym (after_both c.args.search.now.place before here) ∙ ap (after_all c.args.search.now.place) (sym step);
       count = omega (arith, was.count);

@@ -26,7 +26,7 @@ pub returns-then-not-begins : goal.returns-then-not-begins
 returns-then-not-begins g c = λ x t.
     let at = goal.at.returns-then-not-begins g c in
     let j = join_of c.in_ok-join.join in
-    true≢false (sym (c.begins.ensures.1 (active_first j (map (λ p. p.label) c.args.placed.now) x (grown_in _ _ _ j (map (λ p. p.label) c.args.placed.now) x (join g at.In_ok-join) t))) ∙ c.if-not-begins.true)
+    true≢false (sym (c.begins.ensures.1 (active_first j (map (λ p. p.label) c.args.placed.now) x (grown_in _ _ _ j (map (λ p. p.label) c.args.placed.now) x (join g at.In_ok-join).planned (join g at.In_ok-join).is t))) ∙ c.if-not-begins.true)
 
 pub narrow_by_all-requires : goal.narrow_by_all-requires
 narrow_by_all-requires g c = (omega arith, ((join g (goal.at.narrow_by_all-requires g c).In_ok-join).plan, free_ready (join_of c.in_ok-join.join) c.variables.result c.reset.new.self c.variables.ensures.count c.reset.ensures))
@@ -34,7 +34,7 @@ narrow_by_all-requires g c = (omega arith, ((join g (goal.at.narrow_by_all-requi
 pub returns-in_err-labels : goal.returns-in_err-labels
 returns-in_err-labels g c =
     let at = goal.at.returns-in_err-labels g c in
-    rw c.from_residual-in_err-labels.ensures (λ x t. c.in_err-labels.ensures x (grown_in _ _ _ (join_of c.in_ok-join.join) (map (λ p. p.label) c.args.placed.now) x (join g at.In_ok-join) t))
+    rw c.from_residual-in_err-labels.ensures (λ x t. c.in_err-labels.ensures x (grown_in _ _ _ (join_of c.in_ok-join.join) (map (λ p. p.label) c.args.placed.now) x (join g at.In_ok-join).planned (join g at.In_ok-join).is t))
 
 pub returns-in_err-step : goal.returns-in_err-step
 returns-in_err-step g c =
@@ -43,7 +43,7 @@ returns-in_err-step g c =
     let ls = map (λ p. p.label) c.args.placed.now in
     let count : c.len.result ≡ length ls = c.len.ensures.value ∙ ap length c.in_ok-labels.ensures.0 in
     let none : slice_get j.order (length ls) ≡ None = subst (λ n. slice_get j.order n ≡ None) count (past_get j.order c.len.result c.in_err-step.ensures.lookup.0) in
-    rw c.from_residual-in_err-step.ensures (λ x t. let m = follows_in _ _ _ j ls x (join g at.In_ok-join) t in let z : None ≡ Some m.step = sym none ∙ m.step_is in cc)
+    rw c.from_residual-in_err-step.ensures (λ x t. let m = follows_in _ _ _ j ls x (join g at.In_ok-join).planned (join g at.In_ok-join).is t in let z : None ≡ Some m.step = sym none ∙ m.step_is in cc)
 
 -- the labels as they are seen
 seen : (g : _) (c : After-as_slice g) → map (λ p. p.label) c.args.placed.now ≡ c.as_slice.result.now
@@ -58,7 +58,7 @@ pub returns-in_err-level : goal.returns-in_err-level
 returns-in_err-level g c =
     let at = goal.at.returns-in_err-level g c in
     let j = join_of c.in_ok-join.join in
-    rw c.from_residual-in_err-level.ensures (λ x t. c.in_err-level.ensures x (subst (λ zs. MayFollow j zs x) (seen g at.After-as_slice) (follows_in _ _ _ j (map (λ p. p.label) c.args.placed.now) x (join g at.In_ok-join) t)))
+    rw c.from_residual-in_err-level.ensures (λ x t. c.in_err-level.ensures x (subst (λ zs. MayFollow j zs x) (seen g at.After-as_slice) (follows_in _ _ _ j (map (λ p. p.label) c.args.placed.now) x (join g at.In_ok-join).planned (join g at.In_ok-join).is t)))
 
 pub returns : goal.returns
 returns g c =

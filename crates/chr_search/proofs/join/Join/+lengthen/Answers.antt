@@ -13,15 +13,14 @@ use Rattle.chr_search.proofs.join.Join.+lengthen.Goals as goal
 
 pub returns-then-first-active-clause-found : goal.returns-then-first-active-clause-found
 returns-then-first-active-clause-found g t c =
-    let j = join_of c.args.self.now in
-    let high : j.bound ≤ c.args.first = subst (λ x. x ≤ c.args.first) c.active.ensures.value c.if-first-active.true in
-    (lengthened_none j c.args.labels.now.items c.args.first c.args.below.now (none_from_bound j c.args.labels.now.items c.args.first c.requires.some high), refl)
+    let high : c.args.self.now.view.active ≤ c.args.first = subst (λ x. x ≤ c.args.first) c.active.ensures.value c.if-first-active.true in
+    (lengthened_none (join_of c.args.self.now) _ _ _ (none_from_bound (join_of c.args.self.now) _ _ c.requires.some high), refl)
 
 pub returns-then-first-active-clause-keeps : goal.returns-then-first-active-clause-keeps
 returns-then-first-active-clause-keeps g t c = keeps_itself c.args.binding.now
 
 pub push-requires : goal.push-requires
-push-requires g t c = (omega arith, room (join_of c.args.self.now) c.requires.plan c.args.labels.now.items c.args.first (subst (λ ls. MayFollow (join_of c.args.self.now) ls c.args.first) c.as_slice.ensures.value c.if-narrow_by.ensures.narrowed.0))
+push-requires g t c = (omega arith, room _ c.requires.plan _ _ (subst (λ ls. MayFollow (join_of c.args.self.now) ls c.args.first) c.as_slice.ensures.value c.if-narrow_by.ensures.narrowed.0))
 
 pub returns-then-lengthen-clause-found : goal.returns-then-lengthen-clause-found
 returns-then-lengthen-clause-found g t c =
@@ -31,7 +30,7 @@ returns-then-lengthen-clause-found g t c =
     (subst (λ ls. Least (MayFollow j) 1 ls (c.in-Some.next.now ∷ c.in-Some.rest.now) c.lengthen.new.labels.items) c.push.ensures.items c.if-lengthen.ensures.found))
 
 pub returns-then-lengthen-clause-keeps : goal.returns-then-lengthen-clause-keeps
-returns-then-lengthen-clause-keeps g t c = keeps_both c.args.binding.now c.narrow_by.new.narrowed c.lengthen.new.binding c.narrow_by.ensures.keeps c.lengthen.ensures.keeps
+returns-then-lengthen-clause-keeps g t c = keeps_both _ _ _ c.narrow_by.ensures.keeps c.lengthen.ensures.keeps
 
 -- what is left where none was found below the place's label
 same : (g : _) (t : _) (c : After-return_to g t) → c.if-narrow_by.labels.items ≡ c.args.labels.now.items

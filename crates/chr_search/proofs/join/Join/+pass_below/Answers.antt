@@ -18,7 +18,7 @@ use Rattle.chr_search.proofs.join.Join.+pass_below.Goals as goal
 -- no label may be tried after these
 pub returns-in_default-clause-ends : goal.returns-in_default-clause-ends
 returns-in_default-clause-ends g t c =
-    (refl, below_done (join_of c.args.self.now) c.args.instance.now.labels.items c.args.place.now.items c.args.from c.requires.below (λ x m low. c.in_default.ensures x (subst (λ ls. MayFollow (join_of c.args.self.now) ls x) (sym c.as_slice.ensures.value) m)))
+    (refl, below_done _ _ _ _ c.requires.below (λ x m low. c.in_default.ensures x (subst (λ ls. MayFollow (join_of c.args.self.now) ls x) (sym c.as_slice.ensures.value) m)))
 
 pub returns-in_default-clause-keeps : goal.returns-in_default-clause-keeps
 returns-in_default-clause-keeps g t c = keeps_itself c.args.binding.now
@@ -59,20 +59,16 @@ push-requires g t c =
 pub pass_below-below-requires : goal.pass_below-below-requires
 pass_below-below-requires g t c κs within =
     let at = goal.at.pass_below-below-requires g t c in
-    let j = join_of c.args.self.now in
     let i = c.loop-label.invariant in
     let path = c.loop-label.instance.labels.items in
     let label = c.in-Part.label in
     let stop = stopped g t at.In-Part in
     let pushed = pushed g t at.After-push stop.0 in
-    let grown = grows_more (MayFollow j) [] path label i.below.grows stop.2.follows in
-    let less = deeper_less (length path) (length c.args.instance.now.labels.items) (length c.push.new.self.items) (ap length i.labels) (ap length pushed ∙ length-append path (label ∷ [])) (room j c.requires.begins.plan path label stop.2.follows) in (
+    let grown = grows_more _ [] path label i.below.grows stop.2.follows in
+    let less : 6 - length c.push.new.self.items < 6 - length c.args.instance.now.labels.items = omega (arith, ap length i.labels, ap length pushed, length-append path (label ∷ []), room _ c.requires.begins.plan path label stop.2.follows) in (
       subst (λ n. 6 - length c.push.new.self.items < n) c.decreases less,
-      (within, (omega arith, (c.requires.begins, (subst (λ ls. IsReady j ls c.pass_level-beside.new.binding) (sym pushed) stop.2.ready, below_at j c.push.new.self.items c.pass_level-beside.new.place.items 0 (subst (Grows (MayFollow j) []) (sym pushed) grown) (stop.2.place_is ∙ ap (λ ls. ls ++ 0 ∷ []) (sym pushed)))))),
+      (within, (omega arith, (c.requires.begins, (subst (λ ls. IsReady (join_of c.args.self.now) ls c.pass_level-beside.new.binding) (sym pushed) stop.2.ready, below_at _ _ _ 0 (subst (Grows (MayFollow (join_of c.args.self.now)) []) (sym pushed) grown) (stop.2.place_is ∙ ap (λ ls. ls ++ 0 ∷ []) (sym pushed)))))),
     )
-  where
-    deeper_less : (path own new : ℕ) → path ≡ own → new ≡ path + 1 → path < 6 → 6 - new < 6 - own
-    deeper_less path own new e f h = omega arith
 
 pub return_to-requires : goal.return_to-requires
 return_to-requires g t c =
@@ -85,13 +81,10 @@ overflow_add-from g t c =
     let label = c.in-Part.label in
     let follows = (stopped g t (goal.at.overflow_add-from g t c).In-Part).2.follows in
     let t = c.requires.begins.trials (path ++ label ∷ []) (omega (arith, length-append path (label ∷ []))) (grows_more _ [] path label c.loop-label.invariant.below.grows follows) in
-    let low : label ≤ 4294967295 = label_small _ path label t.0 t.1 in
-    omega arith
+    omega (arith, label_small _ path label t.0 t.1)
 
 pub loop-label-smaller : goal.loop-label-smaller
-loop-label-smaller g t c =
-    let stop = stopped g t (goal.at.loop-label-smaller g t c).In-Part in
-    nearer (join_of c.args.self.now) refl c.loop-label.instance.labels.items c.loop-label.from c.in-Part.label stop.2.follows stop.1
+loop-label-smaller g t c = let stop = stopped g t (goal.at.loop-label-smaller g t c).In-Part in nearer _ refl _ _ _ stop.2.follows stop.1
 
 pub loop-label-preserved : goal.loop-label-preserved
 loop-label-preserved g t c =
@@ -102,8 +95,8 @@ loop-label-preserved g t c =
     let stop = stopped g t at.In-Part in
     let left = left g t at.After-pop (pushed g t at.After-push stop.0) in
     let back = returned g t at.After-return_to (known g t at.After-pass_below-below) (kept g t at.After-pass_below-below) in
-    let few : c.loop-label.count + c.pass_level-beside.result.count ≤ c.args.most = (let a = i.few in let b = c.pass_level-beside.ensures.few in omega arith) in
-    let passed = passed_more j c.args.most (c.loop-label.count + c.pass_level-beside.result.count) c.args.place.now.items c.pass_level-beside.new.place.items c.pass_below-below.new.place.items c.pass_below-below.result few (beside g t at.In-Part) c.pass_below-below.ensures.passed in
+    let few : c.loop-label.count + c.pass_level-beside.result.count ≤ c.args.most = omega (arith, i.few, c.pass_level-beside.ensures.few) in
+    let passed = passed_more _ _ _ _ _ _ c.pass_below-below.result few (beside g t at.In-Part) c.pass_below-below.ensures.passed in
     record {
       few = passed.few;
       passes = passed.passes;
@@ -117,18 +110,17 @@ loop-label-preserved g t c =
 -- the level ends
 pub returns-in-End-clause-passed : goal.returns-in-End-clause-passed
 returns-in-End-clause-passed g t c =
-    passed_more (join_of c.args.self.now) c.args.most c.loop-label.count c.args.place.now.items c.loop-label.place.items c.pass_level-beside.new.place.items (record { count = c.pass_level-beside.result.count; end = c.in-End.end }) c.loop-label.invariant.few c.loop-label.invariant.passes
+    passed_more _ _ _ _ _ _ (record { count = c.pass_level-beside.result.count; end = c.in-End.end }) c.loop-label.invariant.few c.loop-label.invariant.passes
     (record { few = c.pass_level-beside.ensures.few; enough = λ e. c.pass_level-beside.ensures.enough (c.in-End.is ∙ ap End e); passes = c.pass_level-beside.ensures.passes })
 
 -- or some are left deeper
 pub returns-in_default-end-clause-passed : goal.returns-in_default-end-clause-passed
 returns-in_default-end-clause-passed g t c =
-    let at = goal.at.returns-in_default-end-clause-passed g t c in
-    let few : c.loop-label.count + c.pass_level-beside.result.count ≤ c.args.most = (let a = c.loop-label.invariant.few in let b = c.pass_level-beside.ensures.few in omega arith) in
-    passed_more (join_of c.args.self.now) c.args.most (c.loop-label.count + c.pass_level-beside.result.count) c.args.place.now.items c.pass_level-beside.new.place.items c.pass_below-below.new.place.items c.pass_below-below.result few (beside g t at.In-Part) c.pass_below-below.ensures.passed
+    let few : c.loop-label.count + c.pass_level-beside.result.count ≤ c.args.most = omega (arith, c.loop-label.invariant.few, c.pass_level-beside.ensures.few) in
+    passed_more _ _ _ _ _ _ _ few (beside g t (goal.at.returns-in_default-end-clause-passed g t c).In-Part) c.pass_below-below.ensures.passed
 
 pub returns-in_default-end-clause-ends : goal.returns-in_default-end-clause-ends
-returns-in_default-end-clause-ends g t c = ends_deeper (join_of c.args.self.now) c.push.new.self.items c.args.instance.now.labels.items c.pass_below-below.new.place.items c.pass_below-below.result.end c.pass_below-below.new.instance.labels.items c.pass_below-below.new.binding c.in_default-end.not-NoneLeft c.pass_below-below.ensures.ends
+returns-in_default-end-clause-ends g t c = ends_deeper (join_of c.args.self.now) c.push.new.self.items c.args.instance.now.labels.items _ c.pass_below-below.result.end _ _ c.in_default-end.not-NoneLeft c.pass_below-below.ensures.ends
 
 pub returns-in_default-end-clause-keeps : goal.returns-in_default-end-clause-keeps
 returns-in_default-end-clause-keeps g t c = subst (λ b. Keeps b c.pass_below-below.new.binding) c.loop-label.invariant.binding (kept g t (goal.at.returns-in_default-end-clause-keeps g t c).After-pass_below-below)

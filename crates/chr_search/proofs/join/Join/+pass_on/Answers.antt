@@ -26,8 +26,7 @@ pass_below-requires g t c =
 -- no label may follow that is as great
 pub returns-then-first-active-clause-ends : goal.returns-then-first-active-clause-ends
 returns-then-first-active-clause-ends g t c =
-    let high = subst (λ x. x < c.args.first) c.active.ensures.value c.if-first-active.true in
-    (refl, above_done (join_of c.args.self.now) c.args.instance.now.labels.items c.args.place.now.items c.args.first c.args.below.now refl c.requires.place high)
+    (refl, above_done (join_of c.args.self.now) _ _ _ c.args.below.now refl c.requires.place (subst (λ x. x < c.args.first) c.active.ensures.value c.if-first-active.true))
 
 pub returns-then-first-active-clause-keeps : goal.returns-then-first-active-clause-keeps
 returns-then-first-active-clause-keeps g t c = keeps_itself c.args.binding.now
@@ -38,7 +37,7 @@ follows g t c = subst (λ ls. MayFollow (join_of c.args.self.now) ls c.args.firs
 
 pub push-requires : goal.push-requires
 push-requires g t c =
-    (omega arith, room (join_of c.args.self.now) c.requires.begins.plan c.args.instance.now.labels.items c.args.first (subst (λ ls. MayFollow (join_of c.args.self.now) ls c.args.first) c.as_slice.ensures.value c.if-narrow_by.ensures.narrowed.0))
+    (omega arith, room _ c.requires.begins.plan _ _ (subst (λ ls. MayFollow (join_of c.args.self.now) ls c.args.first) c.as_slice.ensures.value c.if-narrow_by.ensures.narrowed.0))
 
 pub pass_on-deeper-requires : goal.pass_on-deeper-requires
 pass_on-deeper-requires g t c κs within =
@@ -58,7 +57,7 @@ pass_on-deeper-requires g t c κs within =
 
 -- where some are left below it
 pub returns-in_default-end-clause-ends : goal.returns-in_default-end-clause-ends
-returns-in_default-end-clause-ends g t c = ends_deeper (join_of c.args.self.now) c.push.new.self.items c.args.instance.now.labels.items c.pass_on-deeper.new.place.items c.pass_on-deeper.result.end c.pass_on-deeper.new.instance.labels.items c.pass_on-deeper.new.binding c.in_default-end.not-NoneLeft c.pass_on-deeper.ensures.ends
+returns-in_default-end-clause-ends g t c = ends_deeper (join_of c.args.self.now) c.push.new.self.items c.args.instance.now.labels.items _ c.pass_on-deeper.result.end _ _ c.in_default-end.not-NoneLeft c.pass_on-deeper.ensures.ends
 
 pub returns-in_default-end-clause-keeps : goal.returns-in_default-end-clause-keeps
 returns-in_default-end-clause-keeps g t c = keeps_both c.args.binding.now c.narrow_by.new.narrowed c.pass_on-deeper.new.binding c.narrow_by.ensures.keeps c.pass_on-deeper.ensures.keeps
@@ -92,6 +91,14 @@ left g t c =
           }
     ]
 
+pub return_to-requires : goal.return_to-requires
+return_to-requires g t c =
+    let kept : Keeps c.args.binding.now c.if-narrow_by.binding = elim c.if-narrow_by.branch [
+      | then-narrow_by+in-NoneLeft w ↦ subst (Keeps c.args.binding.now) (sym w.binding-is) (keeps_both c.args.binding.now c.narrow_by.new.narrowed w.pass_on-deeper.new.binding c.narrow_by.ensures.keeps w.pass_on-deeper.ensures.keeps)
+      | else-narrow_by w ↦ subst (Keeps c.args.binding.now) (sym w.binding-is) c.narrow_by.ensures.keeps
+    ] in
+    (omega arith, (c.args.binding.now, c.known-known.ensures, kept))
+
 returned : (g : _) (t : _) (c : After-return_to g t) → c.return_to.new.self ≡ c.args.binding.now
 returned g t c = c.return_to.ensures c.args.binding.now c.known-known.ensures (elim c.if-narrow_by.branch [
   | then-narrow_by+in-NoneLeft w ↦ subst (Keeps c.args.binding.now) (sym w.binding-is) (keeps_both c.args.binding.now c.narrow_by.new.narrowed w.pass_on-deeper.new.binding c.narrow_by.ensures.keeps w.pass_on-deeper.ensures.keeps)
@@ -100,11 +107,9 @@ returned g t c = c.return_to.ensures c.args.binding.now c.known-known.ensures (e
 
 pub overflow_add-first : goal.overflow_add-first
 overflow_add-first g t c =
-    let j = join_of c.args.self.now in
-    let t = c.requires.begins.trials (j.active ∷ []) (omega arith) (c.requires.begins.begins, tt) in
-    let low : j.active ≤ 4294967295 = label_small j [] j.active t.0 t.1 in
-    let under : c.args.first ≤ j.active = subst (λ x. c.args.first ≤ x) c.active.ensures.value c.if-first-active.false in
-    omega arith
+    let t = c.requires.begins.trials (c.args.self.now.view.active ∷ []) (omega arith) (c.requires.begins.begins, tt) in
+    let under : c.args.first ≤ c.args.self.now.view.active = subst (λ x. c.args.first ≤ x) c.active.ensures.value c.if-first-active.false in
+    omega (arith, label_small _ [] c.args.self.now.view.active t.0 t.1)
 
 pub pass_below-beside-requires : goal.pass_below-beside-requires
 pass_below-beside-requires g t c =
@@ -117,7 +122,7 @@ pass_below-beside-requires g t c =
 pub returns-clause-passed : goal.returns-clause-passed
 returns-clause-passed g t c =
     let left = left g t (goal.at.returns-clause-passed g t c).After-return_to in
-    passed_more (join_of c.args.self.now) c.args.most c.if-narrow_by.count c.args.place.now.items c.if-narrow_by.place.items c.pass_below-beside.new.place.items c.pass_below-beside.result left.few left.passes c.pass_below-beside.ensures.passed
+    passed_more _ _ _ _ _ _ c.pass_below-beside.result left.few left.passes c.pass_below-beside.ensures.passed
 
 pub returns-clause-ends : goal.returns-clause-ends
 returns-clause-ends g t c =

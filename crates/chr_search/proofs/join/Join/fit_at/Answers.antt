@@ -4,7 +4,6 @@ use Rattle.chr_rule.specs.Rules.{head_at}
 use Rattle.chr_guard.specs.Instances.{atom_under}
 use Rattle.chr_guard.proofs.Scoped.{IsPlaced}
 use Rattle.chr_guard.proofs.Matched.{head_placed, told_as}
-use Rattle.chr_search.specs.Trials.{StandsAt}
 use Rattle.chr_search.specs.Joined.{join_of}
 use Rattle.chr_search.proofs.Asking.{stands_is}
 use Rattle.chr_search.proofs.join.Join.fit_at.Goals as goal
@@ -15,8 +14,7 @@ fit_head-requires g c =
 
 pub returns-clause-narrows : goal.returns-clause-narrows
 returns-clause-narrows g c =
-    let j = join_of c.args.self.now in
     let s = shape c.in-Some.head.now in
     let a = c.in-Some-get.atom.now in
-    let head : head_at j.rule c.args.step.head ≡ Some s = subst (λ n. head_at j.rule n ≡ Some s) c.from.ensures (sym c.in-Some.ensures.head) in
-    told_as (λ v. atom_under v s ≡ Some a) (λ v. StandsAt j v c.args.step c.args.label) c.fit_head.result c.args.binding.now c.fit_head.new.binding (stands_is j c.args.step c.args.label s a head (sym c.in-Some-get.ensures)) c.fit_head.ensures.narrows
+    let head = subst (λ n. head_at c.args.self.now.rule.now n ≡ Some s) c.from.ensures (sym c.in-Some.ensures.head) in
+    told_as (λ v. atom_under v s ≡ Some a) _ c.fit_head.result c.args.binding.now c.fit_head.new.binding (stands_is (join_of c.args.self.now) c.args.step c.args.label s a head (sym c.in-Some-get.ensures)) c.fit_head.ensures.narrows

@@ -1,65 +1,75 @@
-use Rattle.std.proofs.Common.{◌≡◌, true, [], ◌∷◌, ◌++◌, sym, ◌∙◌, arith}
-use Rattle.chr_model.specs.Stores.{among}
+use Rattle.std.proofs.Common.{◌≡◌, true, false, None, Some, length, [], ◌∷◌, ◌++◌, sym, subst, ◌∙◌, arith, length-append}
+use Rattle.chr_rule.specs.Parts.{shape}
+use Rattle.chr_rule.specs.Scope.{IsRule}
+use Rattle.chr_guard.specs.Matching.{IsFit, HeadsAre, IsInstanceUnder}
 use Rattle.chr_guard.proofs.Bindings.{keeps_itself, keeps_both}
+use Rattle.chr_guard.proofs.Scoped.{IsPlaced}
+use Rattle.chr_guard.proofs.Matched.{head_placed, told_as}
+use Rattle.chr_model.specs.Stores.{Distinct}
+use Rattle.chr_plan.specs.Orders.{heads_of}
 use Rattle.chr_search.specs.Joined.{join_of}
 use Rattle.chr_search.specs.Partners.{IsReady}
-use Rattle.chr_search.proofs.Asking.{any_among}
-use Rattle.chr_search.proofs.Wholes.{in_head_order}
-use Rattle.chr_search.proofs.PassingOver.{repeats}
-use Rattle.chr_search.proofs.Levels.{last_placed, last_gone, last_misfit, last_ready, last_part, last_heads, last_whole, last_none}
+use Rattle.chr_search.specs.Passing.{IsTrialIn}
+use Rattle.chr_search.specs.Verdicts.{Trial}
+use Rattle.chr_search.proofs.Asking.{any_among, stands_is}
+use Rattle.chr_search.proofs.Partners.{ready_more}
+use Rattle.chr_search.proofs.Wholes.{in_head_order, completed}
+use Rattle.chr_search.proofs.PassingOver.{repeats, stands_nowhere, is_part, is_full, heads_fit, misfit_here}
 use Rattle.chr_search.proofs.join.Join.judge_at.Goals.{Else-not-fit_head}
 use Rattle.chr_search.proofs.join.Join.judge_at.Goals as goal
 
 pub returns-then-is_among-clause-tried : goal.returns-then-is_among-clause-tried
-returns-then-is_among-clause-tried g c =
-    let there : among c.args.labels.now c.args.label ≡ true = sym (any_among c.args.labels.now c.args.label) ∙ sym c.is_among.ensures ∙ c.if-is_among.true in
-    repeats (join_of c.args.self.now) c.args.labels.now c.args.label there
+returns-then-is_among-clause-tried g c = repeats _ _ _ (sym (any_among c.args.labels.now c.args.label) ∙ sym c.is_among.ensures ∙ c.if-is_among.true)
 
 pub returns-in_default-clause-tried : goal.returns-in_default-clause-tried
-returns-in_default-clause-tried g c = last_gone (join_of c.args.self.now) c.args.labels.now c.args.at c.args.label c.requires.at c.args.narrowed.now c.requires.ready (sym c.in_default.ensures)
+returns-in_default-clause-tried g c =
+    stands_nowhere (join_of c.args.self.now) _ c.args.narrowed.now c.requires.at.step _ c.requires.ready c.requires.at.step_is (λ v x s. let z : None ≡ Some s.atom = c.in_default.ensures ∙ s.live in absurd (cc))
 
 pub fit_head-requires : goal.fit_head-requires
-fit_head-requires g c = (omega arith, last_placed (join_of c.args.self.now) c.args.labels.now c.args.at c.args.label c.requires.at c.requires.trial.0 c.requires.trial.1 c.args.narrowed.now c.requires.ready)
+fit_head-requires g c =
+    let i = c.requires.trial.1 in
+    (omega arith, subst (λ n. IsPlaced n (shape c.args.at.head.now)) (sym c.requires.ready.fit.places) (head_placed c.args.self.now.rule.now (subst IsRule i.rule_is i.formed.scoped) c.requires.at.step.head (shape c.args.at.head.now) c.requires.at.head_is))
 
 pub returns-then-not-fit_head-clause-tried : goal.returns-then-not-fit_head-clause-tried
 returns-then-not-fit_head-clause-tried g c =
-    last_misfit (join_of c.args.self.now) c.args.labels.now c.args.at c.args.label c.requires.at c.in-Some.atom.now (sym c.in-Some.ensures) c.args.narrowed.now c.fit_head.new.binding c.requires.ready c.if-not-fit_head.ensures.narrows
+    let j = join_of c.args.self.now in
+    let stands = stands_is j c.requires.at.step c.args.label (shape c.args.at.head.now) c.in-Some.atom.now c.requires.at.head_is (sym c.in-Some.ensures) in
+    stands_nowhere j _ c.args.narrowed.now c.requires.at.step _ c.requires.ready c.requires.at.step_is (told_as _ _ false c.args.narrowed.now c.fit_head.new.binding stands c.if-not-fit_head.ensures.narrows)
 
 -- its atom fits
 ready : (g : _) (c : Else-not-fit_head g) → IsReady (join_of c.args.self.now) (c.args.labels.now ++ c.args.label ∷ []) c.fit_head.new.binding
 ready g c =
-    last_ready (join_of c.args.self.now) c.args.labels.now c.args.at c.args.label c.requires.at c.in-Some.atom.now (sym c.in-Some.ensures) c.is_among.result c.is_among.ensures c.if-is_among.false c.args.narrowed.now c.fit_head.new.binding c.requires.ready c.if-not-fit_head.ensures.narrows
+    let j = join_of c.args.self.now in
+    let away = sym (any_among c.args.labels.now c.args.label) ∙ sym c.is_among.ensures ∙ c.if-is_among.false in
+    let stands = stands_is j c.requires.at.step c.args.label (shape c.args.at.head.now) c.in-Some.atom.now c.requires.at.head_is (sym c.in-Some.ensures) in
+    ready_more j _ _ _ c.requires.at.step _ c.requires.ready c.requires.at.step_is away (told_as _ _ true c.args.narrowed.now c.fit_head.new.binding stands c.if-not-fit_head.ensures.narrows)
 
 pub returns-then-not-at-clause-tried : goal.returns-then-not-at-clause-tried
 returns-then-not-at-clause-tried g c =
-    let j = join_of c.args.self.now in
-    let labels = c.args.labels.now in
     let ready = ready g (goal.at.returns-then-not-at-clause-tried g c).Else-not-fit_head in
-    (last_part j labels c.args.at c.args.label c.requires.at c.fit_head.new.binding ready c.if-not-at.true, ready)
+    let last = c.requires.at.last.1 in
+    (is_part _ _ _ ready (grind (arith, length-append c.args.labels.now (c.args.label ∷ []))), ready)
+
+-- no head is left
+full : (g : _) (c : Else-not-fit_head g) → (t : Trial) → IsTrialIn (join_of c.args.self.now) (c.args.labels.now ++ c.args.label ∷ []) t → c.args.at.is_last ≡ true → length t.placed ≡ length (heads_of t.rule)
+full g c t i last = is_full _ _ t i (omega (arith, c.requires.at.last.0 last, length-append c.args.labels.now (c.args.label ∷ [])))
+
+heads : (g : _) (c : Else-not-fit_head g) → (t : Trial) → IsTrialIn (join_of c.args.self.now) (c.args.labels.now ++ c.args.label ∷ []) t → c.args.at.is_last ≡ true → IsFit c.args.self.now.rule.now (HeadsAre c.args.self.now.rule.now (in_head_order t)) c.fit_head.new.binding
+heads g c t i last = heads_fit _ _ t i (full g c t i last) _ (ready g c).fit
 
 pub becomes_instance-requires : goal.becomes_instance-requires
-becomes_instance-requires g c =
-    let j = join_of c.args.self.now in
-    let labels = c.args.labels.now in
-    let ready = ready g (goal.at.becomes_instance-requires g c).Else-not-fit_head in
-    let t = c.requires.trial.0 in
-    (omega arith, (in_head_order t, last_heads j labels c.args.at c.args.label c.requires.at t c.requires.trial.1 c.if-not-at.false c.fit_head.new.binding ready))
+becomes_instance-requires g c = (omega arith, (in_head_order c.requires.trial.0, heads g (goal.at.becomes_instance-requires g c).Else-not-fit_head _ c.requires.trial.1 c.if-not-at.false))
 
 pub returns-then-becomes_instance-clause-tried : goal.returns-then-becomes_instance-clause-tried
 returns-then-becomes_instance-clause-tried g c = λ t i.
-    let j = join_of c.args.self.now in
-    let labels = c.args.labels.now in
-    let ready = ready g (goal.at.returns-then-becomes_instance-clause-tried g c).Else-not-fit_head in
-    last_whole j labels c.args.at c.args.label c.requires.at t i c.if-not-at.false c.fit_head.new.binding c.becomes_instance.new.binding ready
-    (c.if-becomes_instance.ensures.instance (in_head_order t) (last_heads j labels c.args.at c.args.label c.requires.at t i c.if-not-at.false c.fit_head.new.binding ready))
+    let at = (goal.at.returns-then-becomes_instance-clause-tried g c).Else-not-fit_head in
+    completed t i.formed (full g at t i c.if-not-at.false) (subst Distinct (sym i.labels_are) (ready g at).distinct) (Some c.becomes_instance.new.binding)
+    (subst (λ x. IsInstanceUnder x (in_head_order t) c.becomes_instance.new.binding) (sym i.rule_is) (c.if-becomes_instance.ensures.instance (in_head_order t) (heads g at t i c.if-not-at.false)))
 
 pub returns-clause-tried : goal.returns-clause-tried
 returns-clause-tried g c = λ t i.
-    let j = join_of c.args.self.now in
-    let labels = c.args.labels.now in
-    let ready = ready g (goal.at.returns-clause-tried g c).Else-not-fit_head in
-    last_none j labels c.args.at c.args.label c.requires.at t i c.if-not-at.false
-    (c.if-becomes_instance.ensures.instance (in_head_order t) (last_heads j labels c.args.at c.args.label c.requires.at t i c.if-not-at.false c.fit_head.new.binding ready))
+    let at = (goal.at.returns-clause-tried g c).Else-not-fit_head in
+    misfit_here _ _ t i (full g at t i c.if-not-at.false) (c.if-becomes_instance.ensures.instance (in_head_order t) (heads g at t i c.if-not-at.false))
 
 pub returns-then-is_among-clause-keeps : goal.returns-then-is_among-clause-keeps
 returns-then-is_among-clause-keeps g c = keeps_itself c.args.narrowed.now

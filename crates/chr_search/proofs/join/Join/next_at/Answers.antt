@@ -6,7 +6,6 @@ use Rattle.chr_search.proofs.join.Join.next_at.Goals as goal
 
 pub returns-in-Some-clause-least : goal.returns-in-Some-clause-least
 returns-in-Some-clause-least g c =
-    let j = join_of c.args.self.now in
-    let give : GivePartners j c.args.labels.now c.in-Some.partners = subst (λ o. IfSome o (GivePartners j c.args.labels.now)) c.in-Some.is c.requires.level.partners in
-    let least : IsLeastBetween c.in-Some.partners c.saturating_sub.result j.bound c.next_at.result = subst (λ b. IsLeastBetween c.in-Some.partners c.saturating_sub.result b c.next_at.result) c.active.ensures.value c.next_at.ensures.least in
-    give c.args.from c.next_at.result (subst (λ a. IsLeastBetween c.in-Some.partners a j.bound c.next_at.result) c.saturating_sub.ensures least)
+    let give = subst (λ o. IfSome o (GivePartners (join_of c.args.self.now) c.args.labels.now)) c.in-Some.is c.requires.level.partners in
+    let least = subst (λ b. IsLeastBetween c.in-Some.partners c.saturating_sub.result b c.next_at.result) c.active.ensures.value c.next_at.ensures.least in
+    give c.args.from c.next_at.result (subst (λ a. IsLeastBetween c.in-Some.partners a c.args.self.now.view.active c.next_at.result) c.saturating_sub.ensures least)

@@ -10,7 +10,6 @@ returns-in_err-asked g c = subst (IsPartnerFrom (join_of c.args.self.now) c.args
 
 pub returns : goal.returns
 returns g c =
-    let j = join_of c.args.self.now in
-    least_partner j c.args.labels.now c.args.binding.now c.args.from _
-    (asked j c.args.labels.now c.args.binding.now c.args.from c.in_ok-asked.asked _ c.saturating_sub-after.result _ c.requires.some c.requires.ready c.in_ok-asked.ensures refl c.saturating_sub-after.ensures c.next_at.ensures.labelled.given)
+    least_partner (join_of c.args.self.now) _ _ c.args.from _
+    (asked (join_of c.args.self.now) _ _ c.args.from c.in_ok-asked.asked _ c.saturating_sub-after.result _ c.requires.some c.requires.ready c.in_ok-asked.ensures refl c.saturating_sub-after.ensures c.next_at.ensures.labelled.given)
     c.next_at.result c.next_at.ensures.least

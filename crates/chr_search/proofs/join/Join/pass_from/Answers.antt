@@ -8,8 +8,7 @@ use Rattle.chr_search.proofs.join.Join.pass_from.Goals as goal
 
 pub pass_on-requires : goal.pass_on-requires
 pass_on-requires g c =
-    let j = join_of c.args.self.now in
     let empty = sym c.clear.ensures in
-    let ready = free_ready j c.variables.result c.reset.new.self c.variables.ensures.count c.reset.ensures in
+    let ready = free_ready (join_of c.args.self.now) _ _ c.variables.ensures.count c.reset.ensures in
     let place = sym c.copy_labels-all.ensures ∙ sym c.as_slice.ensures.value ∙ c.in-Some.ensures.cases.0 ∙ ap (λ ls. ls ++ c.in-Some.first.now ∷ c.in-Some.below.now) empty in
-    (omega arith, (c.requires.begins, (subst (Grows (MayFollow j) []) empty tt, (subst (λ ls. IsReady j ls c.reset.new.self) empty ready, place))))
+    (omega arith, (c.requires.begins, (subst (Grows (MayFollow (join_of c.args.self.now)) []) empty tt, (subst (λ ls. IsReady (join_of c.args.self.now) ls c.reset.new.self) empty ready, place))))

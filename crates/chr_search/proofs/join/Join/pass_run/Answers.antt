@@ -1,4 +1,4 @@
-use Rattle.std.proofs.Common.{◌≡◌, suc, ◌+◌, refl, ◌≤◌, ℕ, List, [], ◌∷◌, ◌++◌, sym, subst, ◌∙◌, length-append, arith}
+use Rattle.std.proofs.Common.{◌≡◌, suc, ◌+◌, refl, ℕ, List, [], ◌∷◌, ◌++◌, sym, subst, ◌∙◌, length-append, arith}
 use Rattle.chr_guard.specs.Bindings.{Keeps}
 use Rattle.chr_search.specs.declared.passing.Next.TheVariants.{Part, Whole}
 use Rattle.chr_search.specs.Joined.{join_of}
@@ -14,8 +14,7 @@ use Rattle.chr_search.proofs.join.Join.pass_run.Goals as goal
 -- the level, and the binding that it goes with
 level : (g : _) (c : After-next_at g) → IsLevel (join_of c.args.self.now) c.as_slice-labels.result.now c.args.binding.now c.next_at.new.level
 level g c =
-    let j = join_of c.args.self.now in
-    subst (IsLevel j c.as_slice-labels.result.now c.args.binding.now) (sym (c.next_at.ensures.same ∙ c.loop-count.invariant.same)) (subst (λ ls. IsLevel j ls c.args.binding.now c.args.level.now) (sym c.as_slice-labels.ensures.value) c.requires.level)
+    subst (IsLevel (join_of c.args.self.now) c.as_slice-labels.result.now c.args.binding.now) (sym (c.next_at.ensures.same ∙ c.loop-count.invariant.same)) (subst (λ ls. IsLevel (join_of c.args.self.now) ls c.args.binding.now c.args.level.now) (sym c.as_slice-labels.ensures.value) c.requires.level)
 
 pub next_at-requires : goal.next_at-requires
 next_at-requires g c =
@@ -56,13 +55,11 @@ returns-in-Whole-clause-then g c =
 
 pub overflow_add-next : goal.overflow_add-next
 overflow_add-next g c =
-    let j = join_of c.args.self.now in
     let labels = c.as_slice-labels.result.now in
     let label = c.in-Some.label in
     let t = c.requires.begins.trials (labels ++ label ∷ []) (omega (arith, length-append labels (label ∷ [])))
-    (grows_more (MayFollow j) [] labels label (subst (Grows (MayFollow j) []) (sym c.as_slice-labels.ensures.value) c.requires.grows) c.in-Some.ensures.least.holds) in
-    let low : label ≤ 4294967295 = label_small j labels label t.0 t.1 in
-    omega arith
+    (grows_more _ [] labels label (subst (Grows (MayFollow (join_of c.args.self.now)) []) (sym c.as_slice-labels.ensures.value) c.requires.grows) c.in-Some.ensures.least.holds) in
+    omega (arith, label_small _ labels label t.0 t.1)
 
 pub returns-in_default-clause-then : goal.returns-in_default-clause-then
 returns-in_default-clause-then g c = subst (λ (ls : List ℕ). NoneFrom (MayFollow (join_of c.args.self.now) ls) c.loop-count.next) c.as_slice-labels.ensures.value c.in_default.ensures.least

@@ -1,8 +1,8 @@
-use Rattle.std.proofs.Common.{◌≡◌, ◌<◌, ◌≤◌, ◌∷◌, take, length, sym, ap, ap₂, ◌∙◌, ℕ, List, arith}
+use Rattle.std.proofs.Common.{◌∷◌, take, length, ap, ap₂, ℕ, List, arith}
 use Rattle.std.proofs.lemmas.List.{length-map, length-take}
 use Rattle.chr_search.specs.Placed.{placed_as}
 use Rattle.chr_search.proofs.Judging.{labels_read, few_labels}
-use Rattle.chr_search.proofs.Making.{map_more}
+use Rattle.chr_search.proofs.Making.{map_next}
 use Rattle.chr_search.proofs.position.Position.become_of.Goals as goal
 
 pub returns-clause-position : goal.returns-clause-position
@@ -14,11 +14,7 @@ pub push-requires : goal.push-requires
 push-requires g c =
     let all = c.placed-all.result.now in
     let i = c.loop-placed.placed-index in
-    let few : length c.args.trial.now.placed ≤ 6 = few_labels c.args.trial.now c.placed-all.ensures.formed in
-    let read : length all ≡ length c.args.trial.now.placed = sym (length-map all placed_as) ∙ ap length c.placed-all.ensures.placed in
-    let so_far : length c.loop-placed.self-inside.labels.items ≡ length (take i all) = ap length c.loop-placed.invariant ∙ length-map (take i all) (λ p. p.label) in
-    let room : length c.loop-placed.self-inside.labels.items < 6 = omega (arith, length-take i all) in
-    (omega arith, room)
+    (omega arith, omega (arith, few_labels c.args.trial.now c.placed-all.ensures.formed, length-map all placed_as, ap length c.placed-all.ensures.placed, ap length c.loop-placed.invariant, length-map (take i all) (λ p. p.label), length-take i all))
 
 pub loop-placed-preserved : goal.loop-placed-preserved
-loop-placed-preserved g c = map_more (λ p. p.label) c.placed-all.result.now c.loop-placed.placed-index c.placed-item.result c.loop-placed.self-inside.labels.items c.push.new.self.items c.loop-placed.invariant c.push.ensures.items c.loop-placed-test.true c.placed-item.is
+loop-placed-preserved g c = map_next (λ p. p.label) _ _ _ _ _ c.loop-placed.invariant c.push.ensures.items c.loop-placed-test.true c.placed-item.is

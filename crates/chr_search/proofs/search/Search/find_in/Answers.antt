@@ -1,6 +1,6 @@
 use Rattle.std.proofs.Common.{ℕ, ◌+◌, List, [], ◌∷◌, refl, ap, subst}
 use Rattle.chr_search.specs.Tree.{Least, NoneBeyond}
-use Rattle.chr_search.specs.Trials.{Space, older, MayFollow, NoneLeft}
+use Rattle.chr_search.specs.Trials.{older, MayFollow, NoneLeft}
 use Rattle.chr_search.specs.Joined.{join_of}
 use Rattle.chr_search.specs.PlanByPlan.{AreAhead}
 use Rattle.chr_search.proofs.PlanByPlan.{HasJoin, come_to_end, has_join, found_at_join, on_from_join}
@@ -11,8 +11,7 @@ use Rattle.chr_search.proofs.search.Search.find_in.Goals as goal
 -- the join that the walk has come to
 here : (g : _) (c : In-Some g) → HasJoin (older c.args.program.now c.args.plans.now c.args.view.now.store.entries c.args.self.now.label) c.args.self.now.place c.next_join.new.walk.rule c.next_join.new.walk.head (join_of c.in-Some.join)
 here g c =
-    has_join _ _ (ap (older c.args.program.now c.args.plans.now c.args.view.now.store.entries) c.requires.active) c.args.self.now.place c.loop-join.walk.rule c.loop-join.walk.head c.next_join.new.walk.rule c.next_join.new.walk.head (join_of c.in-Some.join) c.loop-join.invariant.come c.in-Some.ensures.next
-    c.requires.plans c.args.view.now.store refl c.active-given.ensures.labelled
+    has_join _ _ (ap (older c.args.program.now c.args.plans.now c.args.view.now.store.entries) c.requires.active) _ _ _ _ _ _ c.loop-join.invariant.come c.in-Some.ensures.next c.requires.plans c.args.view.now.store refl c.active-given.ensures.labelled
 
 pub overflow_add-walk : goal.overflow_add-walk
 overflow_add-walk g c = head_fits _ _ _ _ _ (here g (goal.at.overflow_add-walk g c).In-Some)
@@ -37,11 +36,7 @@ returns-then-find g c =
     (subst (λ (ls : List ℕ). Least (MayFollow (join_of c.in-Some.join)) 1 [] ls c.find.new.labels.items) c.labels_in.ensures c.if-find.ensures)
 
 pub returns : goal.returns
-returns g c =
-    let s : Space = older c.args.program.now c.args.plans.now c.args.view.now.store.entries c.args.self.now.label in
-    let r = c.loop-join.walk.rule in
-    let h = c.loop-join.walk.head in
-    come_to_end s c.args.self.now.place r h c.loop-join.invariant.come (subst (λ l. NoneLeft (older c.args.program.now c.args.plans.now c.args.view.now.store.entries l) (r ∷ h ∷ [])) c.requires.active c.in_default.ensures.next)
+returns g c = come_to_end _ _ _ _ c.loop-join.invariant.come (subst (λ l. NoneLeft (older c.args.program.now c.args.plans.now c.args.view.now.store.entries l) (c.loop-join.walk.rule ∷ c.loop-join.walk.head ∷ [])) c.requires.active c.in_default.ensures.next)
 
 pub loop-join-init : goal.loop-join-init
 loop-join-init g c = record { found = c.found.invariant; come = c.first_walk-walk.ensures.come _ refl; ahead = c.first_walk-walk.ensures.ahead _ refl c.requires.atom }

@@ -1,8 +1,5 @@
-use Rattle.chr_search.specs.Trials.{Space, older}
 use Rattle.chr_search.proofs.After.{gone_after}
 use Rattle.chr_search.proofs.search.Search.go_after.Goals as goal
 
 pub returns-clause-place : goal.returns-clause-place
-returns-clause-place g c =
-    let s : Space = older c.args.program.now c.args.plans.now c.args.store.now.entries c.args.self.now.label in
-    gone_after s c.args.trial.now c.become_after.new.self c.requires c.rules-rules.ensures.valid c.become_after.ensures.most c.become_after.ensures.fewer
+returns-clause-place g c = gone_after _ c.args.trial.now c.become_after.new.self c.requires c.rules-rules.ensures.valid c.become_after.ensures.most c.become_after.ensures.fewer

@@ -1,11 +1,11 @@
 use Rattle.std.proofs.Common.{◌+◌, [], ◌∷◌, refl, ap, subst, ◌∙◌, arith}
 use Rattle.chr_search.specs.declared.passing.End.{End}
-use Rattle.chr_search.specs.Trials.{Space, older, NoneLeft}
+use Rattle.chr_search.specs.Trials.{older, NoneLeft}
 use Rattle.chr_search.specs.Joined.{join_of}
 use Rattle.chr_search.specs.Passing.{EndsIn}
 use Rattle.chr_search.specs.PlanByPlan.{AreAhead}
 use Rattle.chr_search.proofs.PassingOver.{pass_more}
-use Rattle.chr_search.proofs.PlanByPlan.{HasGone, HasJoin, grown, come_to_end, has_join, trials_at, gone_at, on_at, whole_at}
+use Rattle.chr_search.proofs.PlanByPlan.{HasGone, HasJoin, grown, come_to_next_head, come_to_end, has_join, trials_at, gone_at, whole_at}
 use Rattle.chr_search.proofs.Occurring.{head_fits, nearer}
 use Rattle.chr_search.proofs.search.Search.pass_in.Goals.{In-Some, After-pass_in_plan-passed}
 use Rattle.chr_search.proofs.search.Search.pass_in.Goals as goal
@@ -13,9 +13,7 @@ use Rattle.chr_search.proofs.search.Search.pass_in.Goals as goal
 -- the join that the search has come to
 here : (g : _) (c : In-Some g) → HasJoin (older c.args.program.now c.args.plans.now c.args.view.now.store.entries c.args.self.now.label) c.loop-join.self.place c.next_join.new.walk.rule c.next_join.new.walk.head (join_of c.in-Some.join)
 here g c =
-    let i = c.loop-join.invariant in
-    has_join _ _ (ap (older c.args.program.now c.args.plans.now c.args.view.now.store.entries) c.requires.active) c.loop-join.self.place c.loop-join.walk.rule c.loop-join.walk.head c.next_join.new.walk.rule c.next_join.new.walk.head (join_of c.in-Some.join) i.come c.in-Some.ensures.next
-    c.requires.plans c.args.view.now.store refl c.active-given.ensures.labelled
+    has_join _ _ (ap (older c.args.program.now c.args.plans.now c.args.view.now.store.entries) c.requires.active) _ _ _ _ _ _ c.loop-join.invariant.come c.in-Some.ensures.next c.requires.plans c.args.view.now.store refl c.active-given.ensures.labelled
 
 -- and its trials that are passed over
 gone : (g : _) (c : After-pass_in_plan-passed g) → HasJoin (older c.args.program.now c.args.plans.now c.args.view.now.store.entries c.args.self.now.label) c.loop-join.self.place c.next_join.new.walk.rule c.next_join.new.walk.head (join_of c.in-Some.join)
@@ -46,7 +44,7 @@ loop-join-preserved g c =
       few = omega (arith, i.few, c.pass_in_plan-passed.ensures.few);
       label = c.pass_in_plan-passed.ensures.label ∙ i.label;
       passed = pass_more _ _ _ _ _ _ i.passed gone.passed;
-      come = on_at _ _ _ _ h.join _ _ _ _ gone e;
+      come = come_to_next_head _ _ _ _ _ _ gone.come gone.alike h.join.planned h.join.is e;
       ahead = subst (λ l. AreAhead (older c.args.program.now c.args.plans.now c.args.view.now.store.entries l) walk.rule (walk.head + 1) walk.heads) c.requires.active c.in-Some.ensures.ahead;
     }
 
@@ -80,12 +78,7 @@ returns-in-Whole-clause-then g c =
     whole_at _ _ _ _ h.join h.makes _ _ _ p.labels ls _ gone e.0 e.1 c.set_whole.new.self.whole c.set_whole.ensures.number c.set_whole.ensures.kept c.set_whole.ensures.removed c.set_whole.ensures.past
 
 pub returns-clause-then : goal.returns-clause-then
-returns-clause-then g c =
-    let s : Space = older c.args.program.now c.args.plans.now c.args.view.now.store.entries c.args.self.now.label in
-    let r = c.loop-join.walk.rule in
-    let i = c.loop-join.invariant in
-    let h = c.loop-join.walk.head in
-    come_to_end s c.loop-join.self.place r h i.come (subst (λ l. NoneLeft (older c.args.program.now c.args.plans.now c.args.view.now.store.entries l) (r ∷ h ∷ [])) c.requires.active c.in_default.ensures.next)
+returns-clause-then g c = come_to_end _ _ _ _ c.loop-join.invariant.come (subst (λ l. NoneLeft (older c.args.program.now c.args.plans.now c.args.view.now.store.entries l) (c.loop-join.walk.rule ∷ c.loop-join.walk.head ∷ [])) c.requires.active c.in_default.ensures.next)
 
 pub loop-join-init : goal.loop-join-init
 loop-join-init g c = record {

@@ -1,9 +1,9 @@
 use Rattle.std.proofs.Common.{◌≡◌, ◌≤◌, ◌∷◌, [], ◌++◌, map, length, ap, ◌∙◌, arith}
 use Rattle.std.specs.Arc.{arc_value}
 use Rattle.std.proofs.lemmas.List.{length-map}
+use Rattle.std.proofs.lemmas.List.{map_push}
 use Rattle.chr_search.specs.Placed.{placed_as}
 use Rattle.chr_search.specs.Verdicts.{Trial}
-use Rattle.chr_search.proofs.Making.{map_push}
 use Rattle.chr_search.proofs.Fitting.{formed_less}
 use Rattle.chr_search.proofs.trial.Trial.split_last.Goals as goal
 
