@@ -86,10 +86,10 @@ impl<L1: PostLedger, A: Allocator> Call<L1, A> {
 }
 
 /// What comes after a call.
-enum After<L1: PostLedger, A: Allocator> {
-    /// Another call.
-    Call(Call<L1, A>),
-    /// The tickets of a firing are dealt with.
+enum After {
+    /// Another call, which is set.
+    Call,
+    /// The tickets of a firing are dealt with. Where its goal goes on, its next trials are asked for.
     Fired(Fired),
     /// The ticket is left so.
     Left(Left),
@@ -138,7 +138,8 @@ fn judge_sheet<L1: PostLedger, A: Allocator + Copy, G: Gate>(
     ticket: u64,
     given: Result<Sheet<A>, TurnFault>,
     known: Option<Known<L1, A>>,
-) -> After<L1, A>
+    call: &mut Call<L1, A>,
+) -> After
     requires { IfSome known (λ k. IsKnownOf k.version k.search (sheet_of given)) }
 {
     match given {
@@ -147,11 +148,17 @@ fn judge_sheet<L1: PostLedger, A: Allocator + Copy, G: Gate>(
             let alloc = *trials.allocator();
             let trials = KnownTrials::of(trials, known);
             match trials.judge(alloc, &AtTicket { gate, ticket }) {
-                Ok(judgements) => After::Call(fire_or_report(judgements)),
+                Ok(judgements) => {
+                    *call = fire_or_report(judgements);
+                    After::Call
+                }
                 Err(_) => After::Left(Left::Want),
             }
         }
-        Ok(Sheet::Done | Sheet::Gone) => After::Call(Call::Drop),
+        Ok(Sheet::Done | Sheet::Gone) => {
+            *call = Call::Drop;
+            After::Call
+        }
     }
 }
 
@@ -166,9 +173,13 @@ fn left_unclaimed(fault: ClaimFault) -> Left {
 /// What comes after a claim.
 fn after_claim<L1: PostLedger, A: Allocator>(
     answer: Result<Result<Label, ClaimFault>, HoldFault>,
-) -> After<L1, A> {
+    call: &mut Call<L1, A>,
+) -> After {
     match answer {
-        Ok(Ok(_)) => After::Call(Call::Sheet),
+        Ok(Ok(_)) => {
+            *call = Call::Sheet;
+            After::Call
+        }
         Ok(Err(fault)) => After::Left(left_unclaimed(fault)),
         Err(fault) => After::Left(left_by(fault)),
     }
@@ -185,12 +196,13 @@ fn after_claim_sheet<L1: PostLedger, A: Allocator + Copy, G: Gate>(
         ),
         HoldFault,
     >,
-) -> After<L1, A>
+    call: &mut Call<L1, A>,
+) -> After
     requires { IfOk answer (λ r. IfSome r.1 (λ k. IfOk (claimed_of r.0) (IsKnownOf k.version k.search))) }
 {
     match answer {
         Ok((claimed, known)) => match claimed {
-            Ok(given) => judge_sheet(gate, ticket, given, known),
+            Ok(given) => judge_sheet(gate, ticket, given, known, call),
             Err(fault) => After::Left(left_unclaimed(fault)),
         },
         Err(fault) => After::Left(left_by(fault)),
@@ -202,11 +214,12 @@ fn after_sheet<L1: PostLedger, A: Allocator + Copy, G: Gate>(
     gate: &G,
     ticket: u64,
     answer: Result<(Result<Sheet<A>, TurnFault>, Option<Known<L1, A>>), HoldFault>,
-) -> After<L1, A>
+    call: &mut Call<L1, A>,
+) -> After
     requires { IfOk answer (λ r. IfSome r.1 (λ k. IsKnownOf k.version k.search (sheet_of r.0))) }
 {
     match answer {
-        Ok((given, known)) => judge_sheet(gate, ticket, given, known),
+        Ok((given, known)) => judge_sheet(gate, ticket, given, known, call),
         Err(fault) => After::Left(left_by(fault)),
     }
 }
@@ -214,11 +227,18 @@ fn after_sheet<L1: PostLedger, A: Allocator + Copy, G: Gate>(
 /// What comes after a report alone.
 fn after_report<L1: PostLedger, A: Allocator>(
     answer: Result<BatchReport<A>, HoldFault>,
-) -> After<L1, A> {
+    call: &mut Call<L1, A>,
+) -> After {
     match answer {
         Ok(report) => match report.next {
-            Ok(Turn::Trial(_)) => After::Call(Call::Sheet),
-            Ok(Turn::Done | Turn::Gone) => After::Call(Call::Drop),
+            Ok(Turn::Trial(_)) => {
+                *call = Call::Sheet;
+                After::Call
+            }
+            Ok(Turn::Done | Turn::Gone) => {
+                *call = Call::Drop;
+                After::Call
+            }
             Err(fault) => After::Left(left_without_turn(fault)),
         },
         Err(fault) => After::Left(left_by(fault)),
@@ -226,12 +246,14 @@ fn after_report<L1: PostLedger, A: Allocator>(
 }
 
 /// What comes after a firing.
-fn after_firing<L1: PostLedger, A: Allocator>(answer: Result<Firing, FireFault>) -> After<L1, A> {
+fn after_firing<L1: PostLedger, A: Allocator>(
+    answer: Result<Firing, FireFault>,
+    call: &mut Call<L1, A>,
+) -> After {
+    *call = Call::Sheet;
     match answer {
         Ok(Firing::Fired(fired)) => After::Fired(fired),
-        Ok(Firing::Missed) | Err(FireFault::Stale | FireFault::NotWhole) => {
-            After::Call(Call::Sheet)
-        }
+        Ok(Firing::Missed) | Err(FireFault::Stale | FireFault::NotWhole) => After::Call,
         Err(FireFault::NoMemory) => After::Left(Left::Want),
         Err(FireFault::NotHeld) => After::Left(Left::Free),
     }
@@ -240,9 +262,13 @@ fn after_firing<L1: PostLedger, A: Allocator>(answer: Result<Firing, FireFault>)
 /// What comes after a goal was to be dropped.
 fn after_dropping<L1: PostLedger, A: Allocator>(
     answer: Result<Dropping, DropFault>,
-) -> After<L1, A> {
+    call: &mut Call<L1, A>,
+) -> After {
     match answer {
-        Ok(Dropping::Unfinished) => After::Call(Call::Sheet),
+        Ok(Dropping::Unfinished) => {
+            *call = Call::Sheet;
+            After::Call
+        }
         Ok(Dropping::Dropped) | Err(DropFault::NotHeld) => After::Left(Left::Free),
         Err(DropFault::NoMemory) => After::Left(Left::Want),
     }
@@ -253,55 +279,60 @@ fn after_report_sheet<L1: PostLedger, A: Allocator + Copy, G: Gate>(
     gate: &G,
     ticket: u64,
     answer: Result<(SheetReport<A>, Option<Known<L1, A>>), HoldFault>,
-) -> After<L1, A>
+    call: &mut Call<L1, A>,
+) -> After
     requires { IfOk answer (λ r. IfSome r.1 (λ k. IsKnownAfter k.version k.search (following_of r.0.following))) }
 {
     match answer {
         Ok((report, known)) => match report.following {
-            Following::Fire(answer) => after_firing(answer),
-            Following::Drop(answer) => after_dropping(answer),
-            Following::Sheet(given) => judge_sheet(gate, ticket, given, known),
+            Following::Fire(answer) => after_firing(answer, call),
+            Following::Drop(answer) => after_dropping(answer, call),
+            Following::Sheet(given) => judge_sheet(gate, ticket, given, known, call),
             Following::Nothing(fault) => After::Left(left_without_turn(fault)),
         },
         Err(fault) => After::Left(left_by(fault)),
     }
 }
 
-/// Makes a call that may take so many turns. What it gives is judged when the lock is given back.
+/// Makes a call that may take so many turns, and sets the one that comes next. What it gives is judged when the lock is given back.
 fn make<L1: PostLedger, L2: Ledger, A: Allocator + Copy, R: Wait, G: Gate>(
     rt: &R,
     shared: &Shared<L1, L2, A>,
     seat: &mut Seat<L1, L2>,
     gate: &G,
     ticket: u64,
-    call: &Call<L1, A>,
+    call: &mut Call<L1, A>,
     turns: u64,
-) -> After<L1, A>
+) -> After
     ensures number { seat.new.number ≡ seat.old.number }
     ensures posts { seat.new.counts.posts ≡ seat.old.counts.posts }
 {
     match call {
         _ if turns == 0 => After::Left(Left::Spent),
-        Call::Claim if turns == 1 => after_claim(shared.claim(rt, seat, ticket)),
+        Call::Claim if turns == 1 => after_claim(shared.claim(rt, seat, ticket), call),
         Call::Claim => {
             let answer = shared.claim_sheet(rt, seat, ticket, FIRST_SHEET);
-            after_claim_sheet(gate, ticket, answer)
+            after_claim_sheet(gate, ticket, answer, call)
         }
-        Call::Sheet => after_sheet(gate, ticket, shared.sheet(rt, seat, ticket, FIRST_SHEET)),
+        Call::Sheet => {
+            let answer = shared.sheet(rt, seat, ticket, FIRST_SHEET);
+            after_sheet(gate, ticket, answer, call)
+        }
         Call::Report(judged) if turns == 1 => {
-            after_report(shared.report_all(rt, seat, ticket, judged.judgements()))
+            let answer = shared.report_all(rt, seat, ticket, judged.judgements());
+            after_report(answer, call)
         }
         Call::Report(judged) => {
             let most = size_after(judged.judgements().len());
             let answer = shared.report_sheet(rt, seat, ticket, judged, most);
-            after_report_sheet(gate, ticket, answer)
+            after_report_sheet(gate, ticket, answer, call)
         }
         Call::Fire(judged) => match shared.fire(rt, seat, ticket, judged) {
-            Ok(answer) => after_firing(answer),
+            Ok(answer) => after_firing(answer, call),
             Err(fault) => After::Left(left_by(fault)),
         },
         Call::Drop => match shared.drop_goal(rt, seat, ticket) {
-            Ok(answer) => after_dropping(answer),
+            Ok(answer) => after_dropping(answer, call),
             Err(fault) => After::Left(left_by(fault)),
         },
     }
@@ -372,15 +403,11 @@ pub fn work_on_ticket<L1: PostLedger, L2: Ledger, A: Allocator + Copy, R: Wait, 
     let mut call = Call::Claim;
     for _ in rt.forever() {
         let turns = stop.spend(call.turns(), shared.is_closed());
-        let left = match make(rt, shared, seat, gate, ticket, &call, turns) {
-            After::Call(next) => {
-                call = next;
-                continue;
-            }
+        let left = match make(rt, shared, seat, gate, ticket, &mut call, turns) {
+            After::Call => continue,
             After::Fired(fired) => {
                 push_new(rt, shared, hand, fired);
                 if fired.active_lives {
-                    call = Call::Sheet;
                     continue;
                 }
                 Left::Free

@@ -33,8 +33,7 @@ impl Model for Position {
 pub(crate) fn set_alone(labels: &mut Labels, label: Label)
     ensures { labels.new.items ≡ label ∷ [] }
 {
-    labels.clear();
-    labels.push(label);
+    put_at(labels, 0, label);
 }
 
 /// Keeps the first labels, as many as `depth`, and puts one after them.

@@ -24,9 +24,17 @@ use chr_seats::{
 use chr_sheet::Judgements;
 use chr_store::Label;
 use std::alloc::{AllocError, Allocator};
+use std::hint::spin_loop;
 use std::sync::atomic::{AtomicBool, AtomicU64};
 use std::sync::ledger::Ledger;
 use std::sync::{Condvar, Mutex, MutexGuard, Wait};
+
+/// How often a call looks whether the lock is free before its thread sleeps.
+const LOOKS: u32 = 12;
+
+/// How often it pauses between two looks, which takes longer than most holds. What they touch takes longer to move from processor
+/// to processor than most of them take, so it pays to leave the lock for some holds to the thread that has it.
+const PAUSES: u32 = 800;
 
 /// What is under the lock.
 #[derive(Drop)]
@@ -142,6 +150,20 @@ impl<L1: PostLedger, L2: Ledger, A: Allocator + Copy> Shared<L1, L2, A> {
         kept.audit(workers, sessions);
     }
 
+    /// Takes the lock for a call.
+    #[inline(always)]
+    fn begin_hold<R: Wait>(&self, rt: &R) -> MutexGuard<'_, Locked<L1, L2, A>> {
+        for _ in 0..LOOKS {
+            if let Some(locked) = self.locked.try_lock() {
+                return locked;
+            }
+            for _ in 0..PAUSES {
+                spin_loop();
+            }
+        }
+        self.locked.lock(rt)
+    }
+
     /// Ends the hold of a call. Now and then the sessions that sleep are told then, so that they see a run that goes on and on.
     fn end_hold(&self, mut locked: MutexGuard<'_, Locked<L1, L2, A>>) {
         let look = locked.sleepers.count_hold();
@@ -165,7 +187,7 @@ impl<L1: PostLedger, L2: Ledger, A: Allocator + Copy> Shared<L1, L2, A> {
         ensures posts { C.posts ≡ false → seat.new.counts.posts ≡ seat.old.counts.posts }
         ensures others { C.posts ≡ true → seat.new.counts.others ≡ seat.old.counts.others }
     {
-        let mut locked = self.locked.lock(rt);
+        let mut locked = self.begin_hold(rt);
         let answer = locked.kept.hold(seat, call, are_posts);
         self.end_hold(locked);
         answer
@@ -206,7 +228,7 @@ impl<L1: PostLedger, L2: Ledger, A: Allocator + Copy> Shared<L1, L2, A> {
         ensures posts { seat.new.counts.posts ≡ seat.old.counts.posts }
         ensures known { IfOk result (λ r. IfSome r.1 (λ k. IfOk (claimed_of r.0) (IsKnownOf k.version k.search))) }
     {
-        let mut locked = self.locked.lock(rt);
+        let mut locked = self.begin_hold(rt);
         let answer = locked.kept.claim_sheet(seat, ticket, most);
         self.end_hold(locked);
         answer
@@ -226,7 +248,7 @@ impl<L1: PostLedger, L2: Ledger, A: Allocator + Copy> Shared<L1, L2, A> {
         ensures posts { seat.new.counts.posts ≡ seat.old.counts.posts }
         ensures known { IfOk result (λ r. IfSome r.1 (λ k. IsKnownOf k.version k.search (sheet_of r.0))) }
     {
-        let mut locked = self.locked.lock(rt);
+        let mut locked = self.begin_hold(rt);
         let answer = locked.kept.sheet(seat, ticket, most);
         self.end_hold(locked);
         answer
@@ -250,7 +272,7 @@ impl<L1: PostLedger, L2: Ledger, A: Allocator + Copy> Shared<L1, L2, A> {
         ensures posts { seat.new.counts.posts ≡ seat.old.counts.posts }
         ensures known { IfOk result (λ r. IfSome r.1 (λ k. IsKnownAfter k.version k.search (following_of r.0.following))) }
     {
-        let mut locked = self.locked.lock(rt);
+        let mut locked = self.begin_hold(rt);
         let answer = locked.kept.report_sheet(seat, ticket, judged, most);
         self.end_hold(locked);
         answer

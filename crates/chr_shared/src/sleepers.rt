@@ -9,6 +9,8 @@ const HOLDS_A_LOOK: u64 = 512;
 pub struct Sleepers {
     /// How many holds there were by seats, modulo 2^64.
     pub holds: u64,
+    /// How many there were since the sessions that sleep were last told to look, or since any sleeps.
+    pub unseen: u64,
     /// Whether a worker has begun to work.
     pub begun: bool,
     /// How many workers work, including those that were told to and still sleep.
@@ -28,8 +30,12 @@ impl Sleepers {
     /// together look about once in so many holds.
     pub fn count_hold(&mut self) -> bool {
         self.holds = self.holds.wrapping_add(1);
-        let watching = u64::from(self.watching);
-        watching > 0 && self.holds % (HOLDS_A_LOOK * watching) == 0
+        self.unseen = self.unseen.saturating_add(1);
+        let is_due = self.unseen >= HOLDS_A_LOOK * u64::from(self.watching);
+        if is_due {
+            self.unseen = 0;
+        }
+        is_due && self.watching > 0
     }
 
     /// A worker begins to work.
