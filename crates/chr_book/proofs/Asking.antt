@@ -23,12 +23,11 @@ use Rattle.chr_calls.specs.Books.{BookState, space_of, with_tickets}
 use Rattle.chr_calls.specs.Calls.{HoldsLive, Turns, with_candidate_of}
 use Rattle.chr_calls.specs.Batches.{AreTogether, IsNextAfter, NoneAfter}
 use Rattle.chr_calls.specs.Headline.{IsKept}
-use Rattle.chr_calls.proofs.Tickets.{kept_forgotten}
 use Rattle.chr_calls.proofs.Turning.{turns_keep}
 use Rattle.chr_book.specs.Books.{IsHeldSearch}
 use Rattle.chr_book.specs.Given.{ComesNext}
-use Rattle.chr_book.specs.Asked.{HoldsGone, IsLiveSearch, FindsLive, IsTurn}
-use Rattle.chr_book.proofs.Turns.{live_label, holds_live, kept_set}
+use Rattle.chr_book.specs.Asked.{IsLiveSearch, FindsLive, IsTurn}
+use Rattle.chr_book.proofs.Turns.{live_there, holds_live}
 use Rattle.chr_book.proofs.Fired.{label_there}
 use Rattle.chr_book.proofs.Together.{sheet_first, sheet_none}
 
@@ -36,13 +35,11 @@ use Rattle.chr_book.proofs.Together.{sheet_first, sheet_none}
 
 -- where an atom is found under its label
 pub live_search : (b now : BookState) → b ≡ now → (seat t given : ℕ) (s : SearchState) (found : Option (Bor (Atom ℕ))) → IsHeldSearch now.tickets seat t s → is_some found ≡ true → option_copied found ≡ atom_at b.store given → given ≡ s.label → IsLiveSearch now seat t s
-live_search b now e seat t given s found h some is same = record { holds = holds_live b now e seat t s h (live_label b.store given s.label found some is same); place = h.place }
+live_search b now e seat t given s found h some is same = record { holds = holds_live b now e seat t s h ((live_there b.store s.label found (is ∙ ap (atom_at b.store) same)).0 some); place = h.place }
 
-pub live_is : (b : BookState) (seat t : ℕ) (found : Option (Bor SearchState)) (s : Bor SearchState) → FindsLive b seat t (Ok found) → found ≡ Some s → IsLiveSearch b seat t s.now
-live_is b seat t found s h is = subst (λ (o : Option (Bor SearchState)). FindsLive b seat t (Ok o)) is h
-
-pub gone_is : (b : BookState) (seat t : ℕ) (found : Option (Bor SearchState)) → FindsLive b seat t (Ok found) → found ≡ None → HoldsGone b seat t
-gone_is b seat t found h is = subst (λ (o : Option (Bor SearchState)). FindsLive b seat t (Ok o)) is h
+-- what was found, under another name
+pub found_as : (b : BookState) (seat t : ℕ) {found other : Option (Bor SearchState)} → FindsLive b seat t (Ok found) → found ≡ other → FindsLive b seat t (Ok other)
+found_as b seat t h is = subst (λ (o : Option (Bor SearchState)). FindsLive b seat t (Ok o)) is h
 
 pub find_refused : (b : BookState) (seat t : ℕ) (fault : TurnFault) → FindsLive b seat t (Err fault) → Turns b seat t (Err fault) b
 find_refused b seat t turn_fault.NotHeld h = (h, refl)
@@ -109,12 +106,7 @@ sheet_done b now e seat t asked most s items many h next at = none_comes {Z = Un
 
 -- ---- the candidate
 
--- what is kept where it is forgotten, and where it is the next trial
-pub forgotten_keeps : (b : BookState) (t : ℕ) (tickets : List Ticket) → tickets ≡ slice_set b.tickets t (with_candidate None (ticket_at b.tickets t)) → IsKept b → IsKept (with_tickets b tickets)
-forgotten_keeps b t tickets ts k =
-    let x : Ticket = with_candidate None (ticket_at b.tickets t) in
-    kept_set b t x tickets ts (kept_forgotten b t x refl refl refl k)
-
+-- what is kept where it is the next trial
 pub candidate_keeps : (b now : BookState) → b ≡ now → (t : ℕ) (trial : Trial) (tickets : List Ticket) → (seat : ℕ) × ComesNext now seat t trial → tickets ≡ slice_set b.tickets t (with_candidate (Some trial) (ticket_at b.tickets t)) → IsKept b → IsKept (with_tickets b tickets)
 candidate_keeps b now e t trial tickets (seat, h) ts k =
     let next : ComesNext b seat t trial = subst (λ (n : BookState). ComesNext n seat t trial) (sym e) h in

@@ -15,12 +15,13 @@ use Rattle.chr_calls.specs.declared.answers.Sheet.{Sheet as CodeSheet}
 use Rattle.chr_calls.specs.declared.answers.Sheet.TheVariants as sheets
 use Rattle.chr_calls.specs.Turns.{Next}
 use Rattle.chr_calls.specs.Turns as turn
+use Rattle.chr_calls.specs.Tickets.{with_candidate, ticket_at}
 use Rattle.chr_calls.specs.Books.{BookState}
 use Rattle.chr_calls.specs.Calls.{Turns, Drops, FiresOrMisses, with_candidate_of}
 use Rattle.chr_calls.specs.Batches.{Fire, Drop, Sheet, Nothing, Sheets, GivesTrials, IsNextAfter, NoneAfter, IsLastOf, sheet_of}
 use Rattle.chr_calls.specs.Batches as batches
 use Rattle.chr_book.specs.Given.{ComesNext, TellsWhole, FollowsWith, GivesOrDrops}
-use Rattle.chr_book.proofs.Nexts.{next_turned, holds_again, turned_again}
+use Rattle.chr_book.proofs.Nexts.{next_turned, holds_set, turned_again}
 use Rattle.chr_book.proofs.Reported.{given_next}
 
 -- ---- where no judgement is whole and of the next trial
@@ -34,20 +35,14 @@ gives b n seat t most trials h js none = record {
   follows = (h.first, refl, λ j last whole. none j h.first last whole (given_next b n seat t h.first h.turn), again);
 }
   where
-    asked : BookState
-    asked = with_candidate_of b t (Some h.first)
-
-    there : GivesTrials IsNextAfter NoneAfter (most - 1) asked seat t trials n
-    there = record {
+    again : GivesTrials IsNextAfter NoneAfter (most - 1) n seat t trials n
+    again = subst (λ (m : BookState). GivesTrials IsNextAfter NoneAfter (most - 1) m seat t trials n) (sym h.turn.3) (record {
       first = h.first;
       turn = turned_again b n seat t (Some h.first) (Next h.first) h.turn;
       label = h.label;
-      holds = record { holds = holds_again b seat t h.label (Some h.first) h.holds.holds; live = h.holds.live };
+      holds = record { holds = holds_set b.tickets seat t h.label (with_candidate (Some h.first) (ticket_at b.tickets t)) refl refl h.holds.holds; live = h.holds.live };
       together = h.together;
-    }
-
-    again : GivesTrials IsNextAfter NoneAfter (most - 1) n seat t trials n
-    again = subst (λ (m : BookState). GivesTrials IsNextAfter NoneAfter (most - 1) m seat t trials n) (sym h.turn.3) there
+    })
 
 pub sheet_given : {Z : Type 0} (b n : BookState) (seat t most : ℕ) (sheet : CodeSheet Z) (trials : _) → sheet ≡ sheets.Trials trials → Sheets b seat t most (sheet_of (Ok sheet)) n → GivesOrDrops b seat t most (Sheet (sheet_of {Z = Z} (Ok (sheets.Trials trials)))) n
 sheet_given {Z} b n seat t most sheet trials is h = gives b n seat t most (trials_in trials.items) (subst (λ (x : CodeSheet Z). Sheets b seat t most (sheet_of (Ok x)) n) is h)

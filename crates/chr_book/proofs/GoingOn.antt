@@ -1,5 +1,5 @@
 -- Rounds of calls: the last one fires what was found whole or drops the goal, and a book keeps what it has.
-use Rattle.std.proofs.Common.{◌≡◌, inr, ℕ, ◌-◌, ◌<◌, length, take, arith, List, [], ◌∷◌, ◌++◌, Option, Some, None, Result, Ok, OnErr, refl, sym, ◌∙◌, ap, ap₂, subst, slice_set}
+use Rattle.std.proofs.Common.{◌≡◌, inr, ℕ, ◌-◌, ◌<◌, length, take, arith, List, [], ◌∷◌, ◌++◌, Option, Some, None, Ok, refl, sym, ◌∙◌, ap, ap₂, subst, slice_set}
 use Rattle.std.proofs.lemmas.List.{set-set, length-set, append-nil}
 use Rattle.chr_value.specs.Atoms.{Value}
 use Rattle.chr_value.proofs.Chosen.{some_is}
@@ -10,7 +10,7 @@ use Rattle.chr_store.specs.Labels.{LabelledStore}
 use Rattle.chr_model.specs.Goals.{Numbered}
 use Rattle.chr_search.specs.Reach.{SearchState}
 use Rattle.chr_search.specs.Trials.{Space, IsNext, NoneLeft}
-use Rattle.chr_search.specs.Verdicts.{Trial, position}
+use Rattle.chr_search.specs.Verdicts.{position}
 use Rattle.chr_search.specs.Judged.{Judgement}
 use Rattle.chr_search.specs.Passing.{IsWholeNext, IsThen}
 use Rattle.chr_search.specs.declared.judged.Verdict.TheVariants as verdicts
@@ -23,11 +23,11 @@ use Rattle.chr_calls.specs.declared.answers.Fired.{Fired}
 use Rattle.chr_calls.specs.declared.answers.Firing.TheVariants as firing
 use Rattle.chr_calls.specs.declared.answers.Dropping.TheVariants as dropping
 use Rattle.chr_calls.specs.Turns.{Next, Done}
-use Rattle.chr_calls.specs.Tickets.{Ticket, ended, with_candidate, ticket_at, Holds}
-use Rattle.chr_calls.specs.Books.{BookState, space_of, with_tickets, with_entry}
+use Rattle.chr_calls.specs.Tickets.{Ticket, ended, with_candidate, ticket_at}
+use Rattle.chr_calls.specs.Books.{BookState, space_of, with_tickets, with_ticket, with_entry}
 use Rattle.chr_calls.specs.Calls.{HoldsLive, dropped, with_candidate_of}
 use Rattle.chr_calls.specs.Headline.{IsKept}
-use Rattle.chr_calls.proofs.Tickets.{states_stand, ticket_same, numbered_within}
+use Rattle.chr_calls.proofs.Tickets.{ticket_same, numbered_within}
 use Rattle.chr_calls.proofs.Turning.{turns_keep}
 use Rattle.chr_calls.proofs.Fires.{fires_keep}
 use Rattle.chr_calls.proofs.Drops.{drops_keep}
@@ -38,21 +38,10 @@ use Rattle.chr_book.specs.Books.{book_of}
 use Rattle.chr_book.specs.Firings.{MakesFound, EndsRounds}
 use Rattle.chr_book.specs.Given.{ComesNext}
 use Rattle.chr_book.specs.Passed.{PassesTrials, FiresTrial, DropsGoal, IsLast, MakesRounds, MakesFewer, PassesMaking, PassesSome}
-use Rattle.chr_book.proofs.PostedBooks.{rest_back, on_any_err}
+use Rattle.chr_book.proofs.PostedBooks.{rest_back}
 use Rattle.chr_book.proofs.Passes.{IsPast, gone_past, passes_keep}
-use Rattle.chr_book.proofs.Nexts.{next_turned}
+use Rattle.chr_book.proofs.Nexts.{holds_set, next_turned}
 use Rattle.chr_book.proofs.Fired.{FiresWhole, goal_stays, IsWholeOf, next_is_live, with_fired, fires_there, fires_whole, next_fires}
-
--- ---- the ticket with a candidate
-
-there : (b : BookState) (t l : ℕ) (c : Option Trial) → (ticket_at b.tickets t).goal ≡ Numbered l → ticket_at (with_candidate_of b t c).tickets t ≡ with_candidate c (ticket_at b.tickets t)
-there b t l c at = ticket_same b.tickets t (with_candidate c (ticket_at b.tickets t)) (numbered_within b.tickets t l at)
-
-holds_asked : (b : BookState) (seat t l : ℕ) (c : Option Trial) → Holds b.tickets seat t l → Holds (with_candidate_of b t c).tickets seat t l
-holds_asked b seat t l c h = record {
-  state = states_stand b.tickets t t (with_candidate c (ticket_at b.tickets t)) refl refl ∙ h.state;
-  goal = ap (λ (x : Ticket). x.goal) (there b t l c h.goal) ∙ h.goal;
-}
 
 -- ---- a drop
 
@@ -60,16 +49,18 @@ abbrev pub with_dropped : BookState → List (Entry ℕ) → List Ticket → Boo
 with_dropped b log tickets = record { rules = b.rules; plans = b.plans; names = b.names; limit = b.limit; log = log; store = b.store; next = b.next; tickets = tickets }
 
 drops_last : (b : BookState) (seat t l : ℕ) → HoldsLive b seat t l → NoneLeft (space_of b l) (ticket_at b.tickets t).position → DropsGoal seat t b (dropped b seat t)
-drops_last b seat t l h none = record {
-  asked = with_candidate_of b t None;
-  turns = (l, h, none, refl);
-  drops = (
-    l,
-    holds_asked b seat t l None h.holds,
-    λ live. subst (NoneLeft (space_of b l)) (sym (ap (λ (x : Ticket). x.position) (there b t l None h.holds.goal))) none,
-    ap (λ ts. with_tickets (with_entry b seat (Drop t)) ts) (sym (set-set b.tickets t (with_candidate None (ticket_at b.tickets t)) ended)),
-  );
-}
+drops_last b seat t l h none =
+    let x : Ticket = with_candidate None (ticket_at b.tickets t) in
+    record {
+      asked = with_ticket b t x;
+      turns = (l, h, none, refl);
+      drops = (
+        l,
+        holds_set b.tickets seat t l x refl refl h.holds,
+        λ live. subst (NoneLeft (space_of b l)) (sym (ap (λ (y : Ticket). y.position) (ticket_same b.tickets t x (numbered_within b.tickets t l h.holds.goal)))) none,
+        ap (λ ts. with_tickets (with_entry b seat (Drop t)) ts) (sym (set-set b.tickets t x ended)),
+      );
+    }
 
 pub dropped_rounds : (b : BookState) (seat t k l : ℕ) (place : List ℕ) (now tickets : List Ticket) (log : List (Entry ℕ)) → IsPast b seat t k l place now → NoneLeft (space_of b l) place → tickets ≡ slice_set now t ended → log ≡ b.log ++ record { event = Drop t; seat = seat } ∷ []
     → MakesRounds seat t (record { passed = k; last = lasts.Dropped }) b (with_dropped b log tickets)
@@ -84,34 +75,24 @@ dropped_rounds b seat t k l place now tickets log past none ts es = record {
 
 fires_last : (b : BookState) (seat t l : ℕ) (place : List ℕ) (rule : Simpagation ℕ) (w : Whole) (binding : List (Option (Value ℕ))) (f : Fired) (log : List (Entry ℕ)) (tickets : List Ticket) → IsKept b → HoldsLive b seat t l → (ticket_at b.tickets t).position ≡ place → IsWholeNext (space_of b l) place w binding → rule_at b.rules w.number ≡ Some rule → FiresWhole seat t rule w binding f b.tickets b.log tickets log
     → FiresTrial seat t b (with_fired b log w.removed.items tickets)
-fires_last b seat t l place rule w binding f log tickets k h is next of fw = record {
-  judged = j;
-  right = next.under.whole;
-  asked = with_candidate_of b t (Some next.trial);
-  turns = next_turned b seat t next.trial comes;
-  fired = f;
-  fires = next_fires b (with_fired b log w.removed.items tickets) seat t j f comes refl (fires_there b seat t l j rule w binding f log tickets k (inr comes) (next_is_live b seat t next.trial comes) h.holds.goal whole fw);
-}
-  where
-    j : Judgement
-    j = record { trial = next.trial; verdict = verdicts.Whole }
-
-    comes : ComesNext b seat t next.trial
-    comes = record { label = l; holds = h; is = record { next = subst (λ p. IsNext (space_of b l) p (position next.trial)) (sym is) next.next; is = next.is; formed = next.formed } }
-
-    whole : IsWholeOf next.trial l rule w binding
-    whole = record { under = next.under; rule_is = some_is rule next.trial.rule (sym of ∙ ap (rule_at b.rules) next.number_is ∙ next.is.rule_is); number = next.number_is; kept = next.kept_are; removed = next.removed_are; past = next.past_is }
+fires_last b seat t l place rule w binding f log tickets k h is next of fw =
+    let j : Judgement = record { trial = next.trial; verdict = verdicts.Whole } in
+    let comes : ComesNext b seat t next.trial = record { label = l; holds = h; is = record { next = subst (λ p. IsNext (space_of b l) p (position next.trial)) (sym is) next.next; is = next.is; formed = next.formed } } in
+    let whole : IsWholeOf next.trial l rule w binding = record { under = next.under; rule_is = some_is rule next.trial.rule (sym of ∙ ap (rule_at b.rules) next.number_is ∙ next.is.rule_is); number = next.number_is; kept = next.kept_are; removed = next.removed_are; past = next.past_is } in
+    record {
+      judged = j;
+      right = next.under.whole;
+      asked = with_candidate_of b t (Some next.trial);
+      turns = next_turned b seat t next.trial comes;
+      fired = f;
+      fires = next_fires b (with_fired b log w.removed.items tickets) seat t j f comes refl (fires_there b seat t l j rule w binding f log tickets k (inr comes) (next_is_live b seat t next.trial comes) h.holds.goal whole fw);
+    }
 
 pub fired_rounds : (b : BookState) (seat t k l : ℕ) (place : List ℕ) (rule : Simpagation ℕ) (w : Whole) (binding : List (Option (Value ℕ))) (f : Fired) (now tickets : List Ticket) (log : List (Entry ℕ)) → IsKept b → IsPast b seat t k l place now → IsWholeNext (space_of b l) place w binding → rule_at b.rules w.number ≡ Some rule → FiresWhole seat t rule w binding f now b.log tickets log
     → MakesRounds seat t (record { passed = k; last = lasts.Fired }) b (with_fired b log w.removed.items tickets)
 fired_rounds b seat t k l place rule w binding f now tickets log kept past next of fw =
     let middle : BookState = with_tickets b now in
     record { middle = middle; passes = past.passes; last = fires_last middle seat t l place rule w binding f log tickets (passes_keep k b middle seat t past.passes kept) past.live past.at next of fw }
-
--- ---- none of these
-
-pub passed_rounds : (b : BookState) (seat t k l : ℕ) (place : List ℕ) (now : List Ticket) → IsPast b seat t k l place now → MakesRounds seat t (record { passed = k; last = lasts.Passed }) b (with_tickets b now)
-passed_rounds b seat t k l place now past = record { middle = with_tickets b now; passes = past.passes; last = refl }
 
 -- ---- the last of some rounds, by what came after the trials that were passed over
 
@@ -130,7 +111,7 @@ pub ended_rounds : (rules : List (Simpagation ℕ)) (plans : PlanList) (names : 
     → IsKept (book_of rules plans names log st ts) → IsPast (book_of rules plans names log st ts) seat t k l place now → IsThen (space_of (book_of rules plans names log st ts) l) place then i binding → MakesFound rules then i.whole binding more → pushed ≡ now ++ more → EndsRounds seat t then i.whole last pushed log st tickets entries left
     → MakesRounds seat t (record { passed = k; last = last }) (book_of rules plans names log st ts) (book_of rules plans names entries left tickets)
 ended_rounds rules plans names log entries st left ts now more pushed tickets seat t k l place thens.More i binding last kept past next made e h =
-    makes_same h.0 (book_same rules plans names h.2 h.3 (h.1 ∙ none_more now pushed more e made)) (passed_rounds (book_of rules plans names log st ts) seat t k l place now past)
+    makes_same h.0 (book_same rules plans names h.2 h.3 (h.1 ∙ none_more now pushed more e made)) (record { middle = book_of rules plans names log st now; passes = past.passes; last = refl })
 ended_rounds rules plans names log entries st left ts now more pushed tickets seat t k l place thens.Done i binding last kept past next made e h =
     makes_same h.0 (book_same rules plans names refl h.3 refl) (dropped_rounds (book_of rules plans names log st ts) seat t k l place now tickets entries past next (h.1 ∙ ap (λ (xs : List Ticket). slice_set xs t ended) (none_more now pushed more e made)) h.2)
 ended_rounds rules plans names log entries st left ts now more pushed tickets seat t k l place thens.Whole i binding last kept past next made e h =
@@ -148,9 +129,9 @@ fewer_rounds rules plans names log entries st left ts now tickets seat t k l mos
 }
 
 pub finds_label : (s : Space) (place : List ℕ) (come : Then) (i : Instance) (binding : List (Option (Value ℕ))) → IsThen s place come i binding → come ≡ thens.Whole → i.whole.past.label ≡ s.active
-finds_label s place thens.Whole i binding next is = ap (λ (z : SearchState). z.label) next.past_is
-finds_label s place thens.Done i binding next is = absurd (cc)
-finds_label s place thens.More i binding next is = absurd (cc)
+finds_label s place come i binding next is =
+    let w : IsWholeNext s place i.whole binding = subst (λ c. IsThen s place c i binding) is next in
+    ap (λ (z : SearchState). z.label) w.past_is
 
 -- ---- the same by what the functions show
 
@@ -180,14 +161,6 @@ pub cut_rounds : (rules : List (Simpagation ℕ)) (plans : PlanList) (names : Li
 cut_rounds rules plans names log entries st left ts pushed same cut seat t l first most come i h found less e back f es s =
     fewer_rounds rules plans names log entries st left ts (slice_set ts t found.x) cut seat t come.count l most found.over.place (gone_past (book_of rules plans names log st ts) seat t l come i found.binding found.x h found.over)
     (rest_back (slice_set ts t found.x) same cut first (found.more, e ∙ found.tickets) back (f ∙ sym (length-set ts t found.x))) es s less
-
--- ---- of what the book showed before
-
-pub rounds_of : {seat t : ℕ} {r : Rounds} {b now n : BookState} → b ≡ now → MakesRounds seat t r b n → MakesRounds seat t r now n
-rounds_of {seat} {t} {r} {b} {now} {n} e h = subst (λ (m : BookState). MakesRounds seat t r m n) e h
-
-pub fewer_of : {X E : Type 0} {seat t most : ℕ} {b now n : BookState} (r : Result X E) → b ≡ now → MakesFewer seat t most b n → OnErr r (MakesFewer seat t most now n)
-fewer_of {X} {E} {seat} {t} {most} {b} {now} {n} r e h = on_any_err (MakesFewer seat t most now n) r (subst (λ (m : BookState). MakesFewer seat t most m n) e h)
 
 -- ---- what a book keeps
 

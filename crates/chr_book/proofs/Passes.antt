@@ -1,6 +1,6 @@
 -- Trials that are passed over: what a search passes in one go, its ticket's calls pass one by one.
 use Rattle.std.proofs.Common.{◌≡◌, ℕ, zero, suc, List, Option, Some, Ok, refl, sym, ◌∙◌, ap, subst, slice_set}
-use Rattle.std.proofs.lemmas.List.{set-set, set-get_or}
+use Rattle.std.proofs.lemmas.List.{set-get_or}
 use Rattle.chr_value.specs.Atoms.{Value}
 use Rattle.chr_model.specs.Goals.{Numbered}
 use Rattle.chr_search.specs.Trials.{IsNext}
@@ -10,14 +10,16 @@ use Rattle.chr_search.specs.Passing.{PassesOne, Passes}
 use Rattle.chr_search.specs.declared.search.Instance.{Instance}
 use Rattle.chr_search.specs.declared.search.Passed.{Passed}
 use Rattle.chr_calls.specs.Turns.{Next}
-use Rattle.chr_calls.specs.Tickets.{Ticket, ended, with_candidate, going_on, ticket_at}
+use Rattle.chr_calls.specs.Tickets.{Ticket, ended, going_on, ticket_at}
 use Rattle.chr_calls.specs.Books.{BookState, space_of, with_tickets, with_ticket}
-use Rattle.chr_calls.specs.Calls.{HoldsLive, HoldsCandidate, with_candidate_of, after_judgement}
+use Rattle.chr_calls.specs.Calls.{HoldsLive, with_candidate_of}
 use Rattle.chr_calls.specs.Headline.{IsKept}
-use Rattle.chr_calls.proofs.Tickets.{states_stand, ticket_same, numbered_within}
+use Rattle.chr_calls.proofs.Tickets.{ticket_same, numbered_within}
 use Rattle.chr_calls.proofs.Turning.{turns_keep, reports_keep}
 use Rattle.chr_tickets.specs.Passed.{gone_over, PassesOver}
+use Rattle.chr_book.specs.Given.{ComesNext}
 use Rattle.chr_book.specs.Passed.{PassesTrial, PassesTrials}
+use Rattle.chr_book.proofs.Nexts.{holds_set, set_twice, next_turned, now_candidate, with_again}
 
 -- the book where the ticket's search is at a place
 abbrev at_place : BookState → ℕ → List ℕ → BookState
@@ -25,59 +27,30 @@ at_place b t place = with_ticket b t (going_on place (ticket_at b.tickets t))
 
 -- one trial
 passes_one : (b : BookState) (seat t l : ℕ) (place after : List ℕ) → PassesOne (space_of b l) place after → HoldsLive b seat t l → (ticket_at b.tickets t).position ≡ place → PassesTrial seat t b (at_place b t after)
-passes_one b seat t l place after one h is = record {
-  judged = one.judged;
-  right = one.right;
-  asked = with_candidate_of b t (Some one.judged.trial);
-  turns = (l, h, record { next = subst (λ p. IsNext (space_of b l) p (position one.judged.trial)) (sym is) one.next; is = one.is; formed = one.formed }, refl);
-  reports = (holds, one.other, reported);
-}
-  where
-    x : Ticket
-    x = ticket_at b.tickets t
-
-    y : Ticket
-    y = with_candidate (Some one.judged.trial) x
-
-    there : ticket_at (slice_set b.tickets t y) t ≡ y
-    there = ticket_same b.tickets t y (numbered_within b.tickets t l h.holds.goal)
-
-    holds : HoldsCandidate (with_candidate_of b t (Some one.judged.trial)) seat t one.judged.trial
-    holds = record { held = states_stand b.tickets t t y refl refl ∙ h.holds.state; candidate = ap (λ (z : Ticket). z.candidate) there }
-
-    reported : at_place b t after ≡ after_judgement (with_candidate_of b t (Some one.judged.trial)) t one.judged
-    reported = ap (λ ts. with_tickets b ts) (
-        ap (λ p. slice_set b.tickets t (going_on p x)) one.on ∙ sym (set-set b.tickets t y (going_on (after_judging one.judged) x))
-        ∙ ap (λ z. slice_set (slice_set b.tickets t y) t (going_on (after_judging one.judged) z)) (sym there)
-        )
-
--- the ticket at a place goes on to another
-place_twice : (b : BookState) (t l : ℕ) (place after : List ℕ) → (ticket_at b.tickets t).goal ≡ Numbered l → at_place (at_place b t place) t after ≡ at_place b t after
-place_twice b t l place after g =
-    let x = ticket_at b.tickets t in
-    let y = going_on place x in
-    let there : ticket_at (slice_set b.tickets t y) t ≡ y = ticket_same b.tickets t y (numbered_within b.tickets t l g) in
-    ap (λ ts. with_tickets b ts) (ap (λ z. slice_set (slice_set b.tickets t y) t (going_on after z)) there ∙ set-set b.tickets t y (going_on after x))
-
-holds_on : (b : BookState) (seat t l : ℕ) (place : List ℕ) → HoldsLive b seat t l → HoldsLive (at_place b t place) seat t l
-holds_on b seat t l place h =
-    let y = going_on place (ticket_at b.tickets t) in
-    let there : ticket_at (slice_set b.tickets t y) t ≡ y = ticket_same b.tickets t y (numbered_within b.tickets t l h.holds.goal) in
+passes_one b seat t l place after one h is =
+    let comes : ComesNext b seat t one.judged.trial = record { label = l; holds = h; is = record { next = subst (λ p. IsNext (space_of b l) p (position one.judged.trial)) (sym is) one.next; is = one.is; formed = one.formed } } in
     record {
-      holds = record { state = states_stand b.tickets t t y refl refl ∙ h.holds.state; goal = ap (λ (z : Ticket). z.goal) there ∙ h.holds.goal };
-      live = h.live;
+      judged = one.judged;
+      right = one.right;
+      asked = with_candidate_of b t (Some one.judged.trial);
+      turns = next_turned b seat t one.judged.trial comes;
+      reports = (now_candidate b seat t one.judged.trial comes, one.other, ap (at_place b t) one.on ∙ sym (with_again b t l (Some one.judged.trial) (going_on (after_judging one.judged)) h.holds.goal));
     }
 
+-- the ticket at a place
 place_is : (b : BookState) (t l : ℕ) (place : List ℕ) → (ticket_at b.tickets t).goal ≡ Numbered l → (ticket_at (at_place b t place).tickets t).position ≡ place
 place_is b t l place g = ap (λ (z : Ticket). z.position) (ticket_same b.tickets t (going_on place (ticket_at b.tickets t)) (numbered_within b.tickets t l g))
+
+holds_on : (b : BookState) (seat t l : ℕ) (place : List ℕ) → HoldsLive b seat t l → HoldsLive (at_place b t place) seat t l
+holds_on b seat t l place h = record { holds = holds_set b.tickets seat t l (going_on place (ticket_at b.tickets t)) refl refl h.holds; live = h.live }
 
 -- several
 pub passes_all : (k : ℕ) (b : BookState) (seat t l : ℕ) (place after : List ℕ) → Passes (space_of b l) (suc k) place after → HoldsLive b seat t l → (ticket_at b.tickets t).position ≡ place → PassesTrials seat t (suc k) b (at_place b t after)
 passes_all zero b seat t l place after p h is = (at_place b t p.0, passes_one b seat t l place p.0 p.1 h is, ap (at_place b t) p.2)
 passes_all (suc k) b seat t l place after p h is =
     let m = at_place b t p.0 in
-    let rest : PassesTrials seat t (suc k) m (at_place m t after) = passes_all k m seat t l p.0 after p.2 (holds_on b seat t l p.0 h) (place_is b t l p.0 h.holds.goal) in
-    (m, passes_one b seat t l place p.0 p.1 h is, subst (PassesTrials seat t (suc k) m) (place_twice b t l p.0 after h.holds.goal) rest)
+    let twice : at_place m t after ≡ at_place b t after = ap (with_tickets b) (set_twice b.tickets t (going_on p.0 (ticket_at b.tickets t)) (going_on after) (numbered_within b.tickets t l h.holds.goal)) in
+    (m, passes_one b seat t l place p.0 p.1 h is, subst (PassesTrials seat t (suc k) m) twice (passes_all k m seat t l p.0 after p.2 (holds_on b seat t l p.0 h) (place_is b t l p.0 h.holds.goal)))
 
 -- so many trials of a held live goal are passed over where the tickets are these: its search is at a place
 pub record IsPast (b : BookState) (seat t k l : ℕ) (place : List ℕ) (tickets : List Ticket) : Type 0 where

@@ -1,8 +1,8 @@
 -- The judgements of a sheet, reported.
-use Rattle.std.proofs.Common.{◌≡◌, ◌≢◌, inr, ℕ, zero, suc, ◌<◌, ◌≤◌, Bool, true, false, true≢false, List, [], ◌∷◌, ◌++◌, Option, Some, None, MatchOption, Result, Ok, Err, refl, sym, ◌∙◌, ap, subst, slice_set, arith}
+use Rattle.std.proofs.Common.{◌≡◌, ◌≢◌, inr, ℕ, zero, suc, ◌<◌, ◌≤◌, Bool, true, false, true≢false, List, [], ◌∷◌, ◌++◌, Option, Some, None, MatchOption, Result, Ok, refl, sym, ◌∙◌, ap, subst, slice_set, arith}
 use Rattle.std.specs.Bool.{⊤}
 use Rattle.std.specs.List.{AllByRecursion}
-use Rattle.std.proofs.lemmas.List.{set-set, append-nil, same_from_push}
+use Rattle.std.proofs.lemmas.List.{append-nil, same_from_push}
 use Rattle.chr_rule.specs.Rules.{Simpagation, rule_at}
 use Rattle.chr_rule.specs.Scope.{IsRule}
 use Rattle.chr_plan.specs.Plans.{order_in, orders_at}
@@ -20,19 +20,17 @@ use Rattle.chr_sheet.specs.Rows.{JudgedSheet, listed, judgements_of}
 use Rattle.chr_sheet.specs.Sheets.{IsNextTrial, Reports, IsFireable, done, moves, passes}
 use Rattle.chr_calls.specs.declared.answers.TurnFault.{TurnFault}
 use Rattle.chr_calls.specs.Turns.{Turn, Next}
-use Rattle.chr_calls.specs.Turns as turn
 use Rattle.chr_calls.specs.Tickets.{Ticket, ticket_at, going_on, Holds, IsNotHeld}
 use Rattle.chr_calls.specs.Books.{BookState, space_of, with_tickets}
 use Rattle.chr_calls.specs.Calls.{Turns, after_judgement, with_candidate_of}
 use Rattle.chr_calls.specs.Calls as calls
 use Rattle.chr_calls.specs.Batches.{IsLastOf, ReportsAll, asks, ends, reports}
 use Rattle.chr_calls.specs.Headline.{IsKept}
-use Rattle.chr_calls.proofs.Tickets.{ticket_same, states_stand, numbered_within, held_label}
+use Rattle.chr_calls.proofs.Tickets.{ticket_same, numbered_within, held_label}
 use Rattle.chr_calls.proofs.Turning.{next_trial}
-use Rattle.chr_calls.proofs.OneNext.{next_live}
 use Rattle.chr_book.specs.Books.{IsHeldSearch}
 use Rattle.chr_book.specs.Given.{ComesNext, AreFormed, MovesOver, TellsWhole, IsReported}
-use Rattle.chr_book.proofs.Nexts.{one_next, next_turned, now_candidate, moved_same}
+use Rattle.chr_book.proofs.Nexts.{comes, one_next, holds_set, set_twice, next_turned, now_candidate, with_again}
 use Rattle.chr_book.proofs.Batched.{passed_over}
 use Rattle.chr_book.proofs.Turns.{held_in, judged_keeps}
 
@@ -87,44 +85,23 @@ some_moved s place after js count some (moves p a j more c next other rest) = (j
 some_moved s place after js count some (passes p a j more c not rest) = some_moved s place after more count some rest
 
 -- the last of them isn't whole and of the trial that is next after it
-last_passed : (s : Space) (place after : List ℕ) (js before : List Judgement) (count : ℕ) (j : Judgement) → Reports s place js count after → js ≡ before ++ j ∷ [] → j.verdict ≡ Whole → IsNextTrial s after j.trial → ⊥
-last_passed s place after js [] count j (done p) e whole comes = cc
-last_passed s place after js (k ∷ before) count j (done p) e whole comes = cc
-last_passed s place after js [] count j (moves p a i more c next other rest) e whole comes =
-    let same : i ≡ j = cc in
-    other (ap (λ (x : Judgement). x.verdict) same ∙ whole)
-last_passed s place after js (k ∷ before) count j (moves p a i more c next other rest) e whole comes =
-    let same : more ≡ before ++ j ∷ [] = cc in
-    last_passed s (after_judging i) after more before c j rest same whole comes
-last_passed s place after js [] count j (passes p a i more c not rest) e whole comes =
-    let same : i ≡ j = cc in
-    let none : more ≡ [] = cc in
-    not (subst (λ (x : Judgement). IsNextTrial s place x.trial) (sym same) (subst (λ p. IsNextTrial s p j.trial) (stays s place after more count none rest) comes))
+last_passed : (s : Space) (place after : List ℕ) (before : List Judgement) (count : ℕ) (j : Judgement) → Reports s place (before ++ j ∷ []) count after → j.verdict ≡ Whole → IsNextTrial s after j.trial → ⊥
+last_passed s place after [] count j (moves p a i more c next other rest) whole comes = other whole
+last_passed s place after [] count j (passes p a i more c not rest) whole comes = not (subst (λ p. IsNextTrial s p j.trial) (stays place after c rest) comes)
   where
-    stays : (s : Space) (place after : List ℕ) (js : List Judgement) (count : ℕ) → js ≡ [] → Reports s place js count after → after ≡ place
-    stays s place after js count none (done p) = refl
-    stays s place after js count none (moves p a j more c next other rest) = absurd (cc)
-    stays s place after js count none (passes p a j more c not rest) = absurd (cc)
-last_passed s place after js (k ∷ before) count j (passes p a i more c not rest) e whole comes =
-    let same : more ≡ before ++ j ∷ [] = cc in
-    last_passed s place after more before count j rest same whole comes
+    stays : (place after : List ℕ) (count : ℕ) → Reports s place [] count after → after ≡ place
+    stays place after count (done p) = refl
+last_passed s place after (k ∷ before) count j (moves p a i more c next other rest) whole comes = last_passed s (after_judging k) after before c j rest whole comes
+last_passed s place after (k ∷ before) count j (passes p a i more c not rest) whole comes = last_passed s place after before c j rest whole comes
 
 -- one more
 moved_on : (b : BookState) (t l : ℕ) (j : Judgement) (after : List ℕ) (count : ℕ) → (ticket_at b.tickets t).goal ≡ Numbered l → (count ≡ 0 → after ≡ after_judging j) → moved_to (after_judgement b t j) t after count ≡ moved_to b t after (suc count)
 moved_on b t l j after zero goal none = ap (λ (p : List ℕ). with_tickets b (slice_set b.tickets t (going_on p (ticket_at b.tickets t)))) (sym (none refl))
-moved_on b t l j after (suc count) goal none =
-    let x : Ticket = going_on (after_judging j) (ticket_at b.tickets t) in
-    ap (λ (y : Ticket). with_tickets b (slice_set (slice_set b.tickets t x) t (going_on after y))) (ticket_same b.tickets t x (numbered_within b.tickets t l goal))
-    ∙ ap (with_tickets b) (set-set b.tickets t x (going_on after (ticket_at b.tickets t)))
+moved_on b t l j after (suc count) goal none = ap (with_tickets b) (set_twice b.tickets t (going_on (after_judging j) (ticket_at b.tickets t)) (going_on after) (numbered_within b.tickets t l goal))
 
 holds_on : (b : BookState) (seat t l : ℕ) (place : List ℕ) (count : ℕ) → Holds b.tickets seat t l → Holds (moved_to b t place count).tickets seat t l
 holds_on b seat t l place zero h = h
-holds_on b seat t l place (suc count) h =
-    let x : Ticket = going_on place (ticket_at b.tickets t) in
-    record {
-      state = states_stand b.tickets t t x refl refl ∙ h.state;
-      goal = ap (λ (y : Ticket). y.goal) (ticket_same b.tickets t x (numbered_within b.tickets t l h.goal)) ∙ h.goal;
-    }
+holds_on b seat t l place (suc count) h = holds_set b.tickets seat t l (going_on place (ticket_at b.tickets t)) refl refl h
 
 place_on : (b : BookState) (t l : ℕ) (place : List ℕ) (count : ℕ) → (ticket_at b.tickets t).goal ≡ Numbered l → (count ≡ 0 → place ≡ (ticket_at b.tickets t).position) → (ticket_at (moved_to b t place count).tickets t).position ≡ place
 place_on b t l place zero goal none = sym (none refl)
@@ -136,8 +113,7 @@ place_on b t l place (suc count) goal none = ap (λ (y : Ticket). y.position) (t
 comes_there : (s : Space) (b : BookState) (seat t l : ℕ) (place : List ℕ) (trial : Trial) → AreFormed s → space_of b l ≡ s → Holds b.tickets seat t l → (ticket_at b.tickets t).position ≡ place → IsNextTrial s place trial → ComesNext b seat t trial
 comes_there s b seat t l place trial f same h at next =
     let here : IsNextTrial (space_of b l) place trial = subst (λ z. IsNextTrial z place trial) (sym same) next in
-    let is : calls.IsNextTrial b t l trial = record { next = subst (λ p. IsNext (space_of b l) p (position trial)) (sym at) here.0; is = here.1; formed = f place trial next } in
-    record { label = l; holds = record { holds = h; live = next_live b t l trial is }; is = is }
+    comes b seat t (record { label = l; place = place }) trial (record { holds = h; place = sym at }) (f place trial next) here.0 here.1
 
 next_there : (s : Space) (b : BookState) (seat t l : ℕ) (place : List ℕ) (trial : Trial) → space_of b l ≡ s → Holds b.tickets seat t l → (ticket_at b.tickets t).position ≡ place → ComesNext b seat t trial → IsNextTrial s place trial
 next_there s b seat t l place trial same h at comes =
@@ -158,9 +134,7 @@ passed_by : (s : Space) (l : ℕ) → AreFormed s → (b n asked : BookState) (s
 passed_by s l f b n asked seat t place after j more all zero (Ok (Next trial)) same h at not rest e turned left =
     let comes = given_next b asked seat t trial (subst (λ (m : BookState). Turns m seat t (Ok (Next trial)) asked) e turned) in
     passed_over seat t b asked j all 0 (Ok (Next trial)) trial (differs s place j.trial trial not (next_there s b seat t l place trial same h at comes)) comes left
-passed_by s l f b n asked seat t place after j more all zero (Ok turn.Done) same h at not rest e turned left = ends b asked j all (Ok turn.Done) (subst (λ (m : BookState). Turns m seat t (Ok turn.Done) asked) e turned) tt
-passed_by s l f b n asked seat t place after j more all zero (Ok turn.Gone) same h at not rest e turned left = ends b asked j all (Ok turn.Gone) (subst (λ (m : BookState). Turns m seat t (Ok turn.Gone) asked) e turned) tt
-passed_by s l f b n asked seat t place after j more all zero (Err fault) same h at not rest e turned left = ends b asked j all (Err fault) (subst (λ (m : BookState). Turns m seat t (Err fault) asked) e turned) tt
+passed_by s l f b n asked seat t place after j more all zero next same h at not rest e turned left = ends b asked j all next (subst (λ (m : BookState). Turns m seat t next asked) e turned) tt
 passed_by s l f b n asked seat t place after j more all (suc count) next same h at not rest e turned left =
     let some = some_moved s place after more (suc count) (omega arith) rest in
     passed_over seat t b asked j all (suc count) next some.0 (differs s place j.trial some.0 not some.1) (comes_there s b seat t l place some.0 f same h at some.1) left
@@ -173,7 +147,7 @@ all_reported s l f b n asked seat t place after js tail count next same h at (mo
     let moved : BookState = after_judgement b t j in
     let on : n ≡ moved_to moved t after c = e ∙ sym (moved_on b t l j after c h.goal (λ none. none_moved s (after_judging j) after more c none rest)) in
     let place_is = place_on b t l (after_judging j) 1 h.goal (λ none. absurd (omega arith)) in
-    reports b (with_candidate_of b t (Some j.trial)) moved asked j (more ++ tail) tt c next (next_turned b seat t j.trial here) (now_candidate b seat t j.trial here, other, sym (moved_same b t l (Some j.trial) j h.goal))
+    reports b (with_candidate_of b t (Some j.trial)) moved asked j (more ++ tail) tt c next (next_turned b seat t j.trial here) (now_candidate b seat t j.trial here, other, sym (with_again b t l (Some j.trial) (going_on (after_judging j)) h.goal))
     (all_reported s l f moved n asked seat t (after_judging j) after more tail c next same (holds_on b seat t l (after_judging j) 1 h) place_is rest on turned left)
 all_reported s l f b n asked seat t place after js tail count next same h at (passes p a j more c not rest) e turned left =
     passed_by s l f b n asked seat t place after j more (more ++ tail) count next same h at not rest e turned (all_reported s l f b n asked seat t place after more tail count next same h at rest e turned left)
@@ -187,9 +161,7 @@ last_reported b asked seat t l place (Some j) true (Ok (Next trial)) f h at is t
 last_reported b asked seat t l place (Some j) false (Ok (Next trial)) f h at is tells turned =
     let comes = given_next b asked seat t trial turned in
     passed_over seat t b asked j [] 0 (Ok (Next trial)) trial (differs (space_of b l) place j.trial trial (λ next. true≢false (sym (tells.1 next))) (next_there (space_of b l) b seat t l place trial refl h at comes)) comes (asks b asked (Ok (Next trial)) turned)
-last_reported b asked seat t l place (Some j) told (Ok turn.Done) f h at is tells turned = ends b asked j [] (Ok turn.Done) turned tt
-last_reported b asked seat t l place (Some j) told (Ok turn.Gone) f h at is tells turned = ends b asked j [] (Ok turn.Gone) turned tt
-last_reported b asked seat t l place (Some j) told (Err fault) f h at is tells turned = ends b asked j [] (Err fault) turned tt
+last_reported b asked seat t l place (Some j) told next f h at is tells turned = ends b asked j [] next turned tt
 
 -- ---- what is told of it
 
@@ -200,7 +172,7 @@ tells_whole n seat t l place after sheet count told f h at moved tells = record 
 }
   where
     of_last : (w : Option Judgement) → IsFireable (space_of n l) after w told → (j : Judgement) → IsLastOf (sheet.others ++ listed w) j → j.verdict ≡ Whole → IsNextTrial (space_of n l) after j.trial → (w ≡ Some j) × (told ≡ true)
-    of_last None is j last whole next = absurd (last_passed (space_of n l) place after sheet.others last.0 count j moved (sym (append-nil sheet.others) ∙ last.1) whole next)
+    of_last None is j last whole next = absurd (last_passed (space_of n l) place after last.0 count j (subst (λ js. Reports (space_of n l) place js count after) (sym (append-nil sheet.others) ∙ last.1) moved) whole next)
     of_last (Some w) is j last whole next =
         let same : w ≡ j = (same_from_push sheet.others last.0 w j last.1).1 in
         (ap Some same, is.1 (subst (λ (x : Judgement). IsNextTrial (space_of n l) after x.trial) (sym same) next))
@@ -208,29 +180,22 @@ tells_whole n seat t l place after sheet count told f h at moved tells = record 
 -- ---- what is reported of a sheet
 
 pub is_reported : (b n : BookState) (seat t : ℕ) (s after : SearchState) (sheet : JudgedSheet) (count : ℕ) (told : Bool) → IsHeldSearch b.tickets seat t s → MovesOver b s after sheet count told → n ≡ moved_to b t after.place count → IsReported b seat t sheet count told n
-is_reported b n seat t s after sheet count told h over e = subst (IsReported b seat t sheet count told) (sym e) (record {
-  reports = λ next asked turned.
-      all_reported (space_of b s.label) s.label over.formed b m asked seat t s.place after.place sheet.others (listed sheet.whole) count next refl h.holds (sym h.place) over.moved refl turned
-      (last_reported m asked seat t s.label after.place sheet.whole told next over.formed holds at over.whole over.tells turned);
-  tells = tells_whole m seat t s.label s.place after.place sheet count told over.formed holds at over.moved over.tells;
-})
-  where
-    m : BookState
-    m = moved_to b t after.place count
-
-    holds : Holds m.tickets seat t s.label
-    holds = holds_on b seat t s.label after.place count h.holds
-
-    at : (ticket_at m.tickets t).position ≡ after.place
-    at = place_on b t s.label after.place count h.holds.goal (λ none. none_moved (space_of b s.label) s.place after.place sheet.others count none over.moved ∙ h.place)
+is_reported b n seat t s after sheet count told h over e =
+    let m : BookState = moved_to b t after.place count in
+    let holds : Holds m.tickets seat t s.label = holds_on b seat t s.label after.place count h.holds in
+    let at : (ticket_at m.tickets t).position ≡ after.place = place_on b t s.label after.place count h.holds.goal (λ none. none_moved (space_of b s.label) s.place after.place sheet.others count none over.moved ∙ h.place) in
+    subst (IsReported b seat t sheet count told) (sym e) (record {
+      reports = λ next asked turned.
+          all_reported (space_of b s.label) s.label over.formed b m asked seat t s.place after.place sheet.others (listed sheet.whole) count next refl h.holds (sym h.place) over.moved refl turned
+          (last_reported m asked seat t s.label after.place sheet.whole told next over.formed holds at over.whole over.tells turned);
+      tells = tells_whole m seat t s.label s.place after.place sheet count told over.formed holds at over.moved over.tells;
+    })
 
 -- nothing is, where the seat doesn't hold the ticket
 none_reported_of : (b asked : BookState) (seat t : ℕ) (js : List Judgement) (next : Result Turn TurnFault) → IsNotHeld b.tickets seat t → Turns b seat t next asked → ReportsAll seat t b js 0 next asked
 none_reported_of b asked seat t [] next not turned = asks b asked next turned
 none_reported_of b asked seat t (j ∷ js) (Ok (Next trial)) not turned = absurd (not turned.1.holds.state)
-none_reported_of b asked seat t (j ∷ js) (Ok turn.Done) not turned = ends b asked j js (Ok turn.Done) turned tt
-none_reported_of b asked seat t (j ∷ js) (Ok turn.Gone) not turned = ends b asked j js (Ok turn.Gone) turned tt
-none_reported_of b asked seat t (j ∷ js) (Err fault) not turned = ends b asked j js (Err fault) turned tt
+none_reported_of b asked seat t (j ∷ js) next not turned = ends b asked j js next turned tt
 
 pub not_reported : (b : BookState) (seat t : ℕ) (sheet : JudgedSheet) → IsNotHeld b.tickets seat t → IsReported b seat t sheet 0 false b
 not_reported b seat t sheet not = record {

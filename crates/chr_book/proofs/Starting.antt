@@ -1,6 +1,6 @@
 -- A ticket that waits is activated, and its rounds are made: in the store as it is once its atom is entered, which it needn't
 -- be where what fires removes it.
-use Rattle.std.proofs.Common.{◌≡◌, ◌≢◌, ◌==◌, ◌||◌, ℕ, zero, suc, ◌+◌, ◌<◌, ◌≤◌, Bool, true, false, nat_lt, not, if◌then◌else◌, inl, inr, List, [], ◌∷◌, ◌++◌, length, take, Option, Some, Result, Ok, Err, IfOk, OnErr, slice_set, refl, sym, ◌∙◌, ap, ap₂, subst, arith, true-eqb}
+use Rattle.std.proofs.Common.{◌≡◌, ◌≢◌, ◌==◌, ℕ, zero, suc, ◌+◌, ◌<◌, ◌≤◌, true, false, not, if◌then◌else◌, inl, inr, List, [], ◌∷◌, ◌++◌, length, take, Option, Some, Result, Ok, Err, OnErr, slice_set, refl, sym, ◌∙◌, ap, ap₂, subst, arith}
 use Rattle.std.proofs.lemmas.Bool.Decides.{nat_tests}
 use Rattle.std.proofs.lemmas.List.{length-set, length-append, set-set, set-get_or, set-append_left, length-map, append_assoc, append-nil}
 use Rattle.chr_value.specs.Atoms.{Value, Atom}
@@ -10,7 +10,7 @@ use Rattle.chr_log.specs.declared.events.Version.TheVariants.{Two}
 use Rattle.chr_plan.specs.Plans.{PlanList}
 use Rattle.chr_store.specs.Labels.{LabelledStore}
 use Rattle.chr_model.specs.Stores.{Store, atom_at, drop_label, without, among}
-use Rattle.chr_model.specs.Goals.{Goal, Plain, Numbered}
+use Rattle.chr_model.specs.Goals.{Goal, Numbered}
 use Rattle.chr_model.specs.Programs.{Instances}
 use Rattle.chr_model.proofs.Once.{Lawful-once}
 use Rattle.chr_model.proofs.Older.{store_below}
@@ -23,7 +23,6 @@ use Rattle.chr_search.specs.declared.search.Passed.{Passed}
 use Rattle.chr_search.specs.declared.search.Whole.{Whole}
 use Rattle.chr_search.specs.declared.search.Then.{Then}
 use Rattle.chr_search.specs.declared.search.Then.TheVariants as thens
-use Rattle.chr_calls.specs.declared.answers.TicketState.{TicketState}
 use Rattle.chr_calls.specs.declared.answers.TicketState.TheVariants.{Unknown, Waiting, Held}
 use Rattle.chr_calls.specs.Tickets.{Ticket, ended, waiting, activated_by, going_on, ticket_at, state_with, state_of, atom_in}
 use Rattle.chr_calls.specs.Books.{BookState, events, goal_state, space_of}
@@ -40,7 +39,8 @@ use Rattle.chr_book.specs.Books.{book_of}
 use Rattle.chr_book.specs.Firings.{MakesBody, MakesFound, EntersGoal, FiresWaiting, EndsRounds, EndsStart, fires, enters, EntersOrStays}
 use Rattle.chr_book.specs.Passed.{PassesTrials, MakesRounds, StartsRounds, StartsFewer, PassesBefore}
 use Rattle.chr_book.proofs.Fired.{FiresWhole}
-use Rattle.chr_book.proofs.PostedBooks.{plain_is, rest_back, on_any_err}
+use Rattle.chr_book.proofs.PostedBooks.{plain_is, rest_back}
+use Rattle.chr_book.proofs.Nexts.{set_twice}
 use Rattle.chr_book.proofs.Passes.{IsPast, is_past}
 use Rattle.chr_book.proofs.GoingOn.{book_same, makes_same, fired_rounds, ended_rounds, rounds_keep, fewer_keep}
 
@@ -49,35 +49,17 @@ use Rattle.chr_book.proofs.GoingOn.{book_same, makes_same, fired_rounds, ended_r
 -- the state of a ticket that is set
 pub state_there : (ts : List Ticket) (t : ℕ) (x : Ticket) → state_of ts t ≢ Unknown → t < length ts → state_of (slice_set ts t x) t ≡ state_with x.goal x.holder
 state_there ts zero x known within = absurd (known refl)
-state_there ts (suc t) x known within = ap₂ shown (length-set ts (suc t) x) (ticket_same ts (suc t) x within) ∙ tested (nat_lt (suc t) (length ts)) (state_with (ticket_at ts (suc t)).goal (ticket_at ts (suc t)).holder) known
-  where
-    shown : ℕ → Ticket → TicketState
-    shown many y = if nat_lt (suc t) many then state_with y.goal y.holder else Unknown
-
-    tested : (c : Bool) (s : TicketState) → (if c then s else Unknown) ≢ Unknown → (if c then state_with x.goal x.holder else Unknown) ≡ state_with x.goal x.holder
-    tested true s ne = refl
-    tested false s ne = absurd (ne refl)
+state_there ts (suc t) x known within = grind (arith, nat_tests, length-set ts (suc t) x, ticket_same ts (suc t) x within)
 
 -- and of one that stands as before
 pub state_elsewhere : (ts : List Ticket) (t u : ℕ) (x : Ticket) → ticket_at (slice_set ts t x) u ≡ ticket_at ts u → state_of (slice_set ts t x) u ≡ state_of ts u
 state_elsewhere ts t zero x is = refl
-state_elsewhere ts t (suc u) x is = ap₂ shown (length-set ts t x) is
-  where
-    shown : ℕ → Ticket → TicketState
-    shown many y = if nat_lt (suc u) many then state_with y.goal y.holder else Unknown
-
--- its place in the list
-waits_within : (ts : List Ticket) (t : ℕ) → state_of ts t ≡ Waiting → t < length ts
-waits_within ts t waits = (waiting_is ts t waits).within
+state_elsewhere ts t (suc u) x is = grind (arith, nat_tests, length-set ts t x, is)
 
 -- and of one before others
 state_before : (ts more : List Ticket) (t : ℕ) → t < length ts → state_of (ts ++ more) t ≡ state_of ts t
 state_before ts more zero within = refl
-state_before ts more (suc t) within =
-    let all : length (ts ++ more) ≡ length ts + length more = length-append ts more in
-    let here : nat_lt (suc t) (length ts) ≡ true = grind (arith, nat_tests) in
-    let there : nat_lt (suc t) (length (ts ++ more)) ≡ true = grind (arith, nat_tests) in
-    ap₂ (λ (c : Bool) (x : Ticket). if c then state_with x.goal x.holder else Unknown) (there ∙ sym here) (ticket_before ts more (suc t) within)
+state_before ts more (suc t) within = grind (arith, nat_tests, length-append ts more, ticket_before ts more (suc t) within)
 
 -- ---- a ticket whose atom is swapped with another
 
@@ -94,10 +76,10 @@ is_lent b now e t a other ts waits atom rest = record { waits = subst (λ (n : B
 pub waits_lent : {ts now : List Ticket} {t : ℕ} {a : Atom ℕ} → IsLent ts now t a → state_of now t ≡ Waiting
 waits_lent {ts} {now} {t} {a} h =
     ap (λ (xs : List Ticket). state_of xs t) h.lent_is
-    ∙ state_there ts t (with_atom h.other (ticket_at ts t)) (λ e. absurd (let z : Waiting ≡ Unknown = sym h.waits ∙ e in cc)) (waits_within ts t h.waits)
+    ∙ state_there ts t (with_atom h.other (ticket_at ts t)) (λ e. absurd (let z : Waiting ≡ Unknown = sym h.waits ∙ e in cc)) (waiting_is ts t h.waits).within
 
 lent_within : {ts now : List Ticket} {t : ℕ} {a : Atom ℕ} → IsLent ts now t a → t < length now
-lent_within {ts} {now} {t} h = waits_within now t (waits_lent h)
+lent_within {ts} {now} {t} h = (waiting_is now t (waits_lent h)).within
 
 -- also where other tickets come after it
 pub waits_before : {ts now : List Ticket} {t : ℕ} {a : Atom ℕ} (more pushed : List Ticket) → IsLent ts now t a → pushed ≡ now ++ more → state_of pushed t ≡ Waiting
@@ -111,14 +93,11 @@ pub lent_set_before : {ts now : List Ticket} {t : ℕ} {a : Atom ℕ} (more push
 lent_set_before {ts} {now} {t} more pushed y h e = ap (λ (xs : List Ticket). slice_set xs t y) e ∙ set-append_left now more t y (lent_within h) ∙ ap (λ (xs : List Ticket). xs ++ more) (lent_set y h)
 
 -- and where its atom is put back
-put_same : (x : Ticket) (a b : Atom ℕ) → x.goal ≡ Plain a → with_atom a (with_atom b x) ≡ x
-put_same x a b e = ap (λ (g : Goal). with_goal g x) (sym e)
-
 pub put_back : {ts now : List Ticket} {t : ℕ} {a : Atom ℕ} → IsLent ts now t a → slice_set now t (with_atom a (ticket_at now t)) ≡ ts
 put_back {ts} {now} {t} {a} h =
     let x : Ticket = ticket_at ts t in
-    let there : ticket_at now t ≡ with_atom h.other x = ap (λ (xs : List Ticket). ticket_at xs t) h.lent_is ∙ ticket_same ts t (with_atom h.other x) (waits_within ts t h.waits) in
-    lent_set (with_atom a (ticket_at now t)) h ∙ ap (slice_set ts t) (ap (with_atom a) there ∙ put_same x a h.other (plain_is x.goal a h.atom)) ∙ set-get_or ts t ended
+    let there : ticket_at now t ≡ with_atom h.other x = ap (λ (xs : List Ticket). ticket_at xs t) h.lent_is ∙ ticket_same ts t (with_atom h.other x) (waiting_is ts t h.waits).within in
+    lent_set (with_atom a (ticket_at now t)) h ∙ ap (slice_set ts t) (ap (with_atom a) there ∙ ap (λ (g : Goal). with_goal g x) (sym (plain_is x.goal a h.atom))) ∙ set-get_or ts t ended
 
 pub put_back_of : {ts now left new : List Ticket} {t : ℕ} {a : Atom ℕ} → IsLent ts now t a → left ≡ now → new ≡ slice_set left t (with_atom a (ticket_at left t)) → new ≡ ts
 put_back_of {ts} {now} {left} {new} {t} {a} h same e = e ∙ ap (λ (xs : List Ticket). slice_set xs t (with_atom a (ticket_at xs t))) same ∙ put_back h
@@ -126,25 +105,17 @@ put_back_of {ts} {now} {left} {new} {t} {a} h same e = e ∙ ap (λ (xs : List T
 -- the goal has entered, and its search goes on
 pub goes_in : (seat t : ℕ) (place : List ℕ) (a : Atom ℕ) (ts : List Ticket) (log : List (Entry ℕ)) (st : LabelledStore) (now : List Ticket) (entries : List (Entry ℕ)) (after : LabelledStore) (new : List Ticket) → state_of ts t ≡ Waiting → EntersGoal seat t beginning a ts log st now entries after → new ≡ slice_set now t (going_on place (ticket_at now t)) → EntersGoal seat t place a ts log st new entries after
 goes_in seat t place a ts log st now entries after new waits h e = record {
-  tickets = e ∙ ap (λ (xs : List Ticket). slice_set xs t (going_on place (ticket_at xs t))) h.tickets
-      ∙ ap (λ (x : Ticket). slice_set (slice_set ts t y) t (going_on place x)) (ticket_same ts t y (waits_within ts t waits)) ∙ set-set ts t y (going_on place y);
+  tickets = e ∙ ap (λ (xs : List Ticket). slice_set xs t (going_on place (ticket_at xs t))) h.tickets ∙ set_twice ts t (activated_by seat st.next) (going_on place) (waiting_is ts t waits).within;
   logged = h.logged;
   store = h.store;
 }
-  where
-    y : Ticket
-    y = activated_by seat st.next
 
 -- its goal is numbered then
 pub entered_label : {seat t : ℕ} {place : List ℕ} {a : Atom ℕ} {ts now : List Ticket} {log es : List (Entry ℕ)} {st store : LabelledStore} → EntersGoal seat t place a ts log st now es store → state_of ts t ≡ Waiting → (ticket_at now t).goal ≡ Numbered st.next
 entered_label {seat} {t} {place} {a} {ts} {now} {log} {es} {st} {store} h waits =
-    ap (λ (xs : List Ticket). (ticket_at xs t).goal) h.tickets ∙ ap (λ (x : Ticket). x.goal) (ticket_same ts t (going_on place (activated_by seat st.next)) (waits_within ts t waits))
+    ap (λ (xs : List Ticket). (ticket_at xs t).goal) h.tickets ∙ ap (λ (x : Ticket). x.goal) (ticket_same ts t (going_on place (activated_by seat st.next)) (waiting_is ts t waits).within)
 
 -- ---- answers
-
-pub if_ok_weaker : {X E : Type 0} {P Q : X → Type 0} (r : Result X E) → ((x : X) → P x → Q x) → IfOk r P → IfOk r Q
-if_ok_weaker (Ok x) f h = f x h
-if_ok_weaker (Err e) f h = tt
 
 -- memory was refused once it had entered
 pub entered_back : {X E : Type 0} (seat t : ℕ) (place : List ℕ) (a : Atom ℕ) (ts now new : List Ticket) (log es entries : List (Entry ℕ)) (st store after : LabelledStore) (r : Result X E) → EntersGoal seat t place a ts log st now es store → OnErr r (new ≡ now) → OnErr r (entries ≡ es) → OnErr r (after ≡ store) → OnErr r (EntersOrStays seat t place a ts log st new entries after)
@@ -153,19 +124,18 @@ entered_back seat t place a ts now new log es entries st store after (Err x) h e
 
 -- what is found is of a rule
 pub finds_rule : (s : Space) (place : List ℕ) (come : Then) (i : Instance) (binding : List (Option (Value ℕ))) → IsThen s place come i binding → come ≡ thens.Whole → (rule : Simpagation ℕ) × (rule_at s.rules i.whole.number ≡ Some rule)
-finds_rule s place thens.Whole i binding next is = (next.trial.rule, ap (rule_at s.rules) next.number_is ∙ next.is.rule_is)
-finds_rule s place thens.Done i binding next is = absurd (cc)
-finds_rule s place thens.More i binding next is = absurd (cc)
+finds_rule s place come i binding next is =
+    let w : IsWholeNext s place i.whole binding = subst (λ c. IsThen s place c i binding) is next in
+    (w.trial.rule, ap (rule_at s.rules) w.number_is ∙ w.is.rule_is)
 
 -- ---- the book where the ticket is claimed
 
 -- an atom under a label that no other has
 entered_there : (st : Store) (n : ℕ) (a : Atom ℕ) → ((x : Atom ℕ) → atom_at st n ≡ Some x → ⊥) → atom_at (st ++ (n, a) ∷ []) n ≡ Some a
-entered_there [] n a none = grind (arith, true-eqb)
-entered_there ((m, b) ∷ st) n a none = elim (m == n) as (λ c. (m == n ≡ c) → ((if c then Some b else atom_at st n) ≡ Some b → ⊥) → (if c then Some b else atom_at (st ++ (n, a) ∷ []) n) ≡ Some a) [
-  | true ↦ λ e no. absurd (no refl)
-  | false ↦ λ e no. entered_there st n a (λ x at. none x (ap (λ c. if c then Some b else atom_at st n) e ∙ at))
-] refl (none b)
+entered_there [] n a none = grind (arith, nat_tests)
+entered_there ((m, b) ∷ st) n a none =
+    let apart : m ≡ n → ⊥ = λ e. none b (grind (arith, nat_tests)) in
+    grind (arith, nat_tests, entered_there st n a (λ x at. none x (grind (arith, nat_tests))))
 
 -- a ticket that waits, with its atom, and a label that can be given
 pub record IsReady (b : BookState) (t : ℕ) (a : Atom ℕ) : Type 0 where
@@ -181,12 +151,12 @@ claimed_kept : (b : BookState) (seat t : ℕ) (a : Atom ℕ) → IsReady b t a �
 claimed_kept b seat t a h = activated_keeps b seat t a (plain_is (ticket_at b.tickets t).goal a h.atom) h.kept
 
 claimed_ticket : (b : BookState) (seat t : ℕ) (a : Atom ℕ) → IsReady b t a → ticket_at (activated b seat t a).tickets t ≡ activated_by seat b.next
-claimed_ticket b seat t a h = ticket_same b.tickets t (activated_by seat b.next) (waits_within b.tickets t h.waits)
+claimed_ticket b seat t a h = ticket_same b.tickets t (activated_by seat b.next) (waiting_is b.tickets t h.waits).within
 
 claimed_live : (b : BookState) (seat t : ℕ) (a : Atom ℕ) → IsReady b t a → HoldsLive (activated b seat t a) seat t b.next
 claimed_live b seat t a h = record {
   holds = record {
-    state = state_there b.tickets t (activated_by seat b.next) (λ e. absurd (let z : Waiting ≡ Unknown = sym h.waits ∙ e in cc)) (waits_within b.tickets t h.waits);
+    state = state_there b.tickets t (activated_by seat b.next) (λ e. absurd (let z : Waiting ≡ Unknown = sym h.waits ∙ e in cc)) (waiting_is b.tickets t h.waits).within;
     goal = ap (λ (x : Ticket). x.goal) (claimed_ticket b seat t a h);
   };
   live = (a, entered_there b.store b.next a (λ x at. absurd (let less : b.next < b.next = store_below (goal_state b) (Lawful-once Two (Instances b.rules) (events b) (goal_state b) h.kept.lawful) b.next x at in omega arith)));
@@ -199,181 +169,123 @@ fresh seat l (suc k) s place p = refl
 
 claimed_past : (b : BookState) (seat t k : ℕ) (a : Atom ℕ) (place : List ℕ) (now : List Ticket) → IsReady b t a → Passes (space_of (activated b seat t a) b.next) k beginning place → now ≡ slice_set b.tickets t (going_on place (activated_by seat b.next)) → IsPast (activated b seat t a) seat t k b.next place now
 claimed_past b seat t k a place now h p e =
+    let n : BookState = activated b seat t a in
+    let y : Ticket = activated_by seat b.next in
+    let there : ticket_at n.tickets t ≡ y = claimed_ticket b seat t a h in
     is_past k n seat t b.next place now (claimed_live b seat t a h) (subst (λ (x : Ticket). Passes (space_of n b.next) k x.position place) (sym there) p)
     (e ∙ sym (set-set b.tickets t y (going_on place y)) ∙ ap (slice_set n.tickets t) (fresh seat b.next k (space_of n b.next) place p ∙ ap (gone_over k place) (sym there)))
-  where
-    n : BookState
-    n = activated b seat t a
-
-    y : Ticket
-    y = activated_by seat b.next
-
-    there : ticket_at n.tickets t ≡ y
-    there = claimed_ticket b seat t a h
 
 -- ---- the rounds
 
--- as a book shows its parts, once the atom has entered
-abbrev entered_book : List (Simpagation ℕ) → PlanList → List (List ℕ) → List (Entry ℕ) → LabelledStore → List Ticket → ℕ → ℕ → Atom ℕ → BookState
-entered_book rules plans names log st ts seat t a = activated (book_of rules plans names log st ts) seat t a
-
 -- they end where the goal has entered
 enters_rounds : (rules : List (Simpagation ℕ)) (plans : PlanList) (names : List (List ℕ)) (log es entries : List (Entry ℕ)) (st store after : LabelledStore) (ts lent_ts more pushed now new : List Ticket) (seat t k : ℕ) (a : Atom ℕ) (place : List ℕ) (come : Then) (i : Instance) (binding : List (Option (Value ℕ))) (last : Last) → IsReady (book_of rules plans names log st ts) t a
-    → IsLent ts lent_ts t a → Passes (space_of (entered_book rules plans names log st ts seat t a) st.next) k beginning place → IsThen (space_of (entered_book rules plans names log st ts seat t a) st.next) place come i binding → MakesFound rules come i.whole binding more → pushed ≡ lent_ts ++ more
+    → IsLent ts lent_ts t a → Passes (space_of (activated (book_of rules plans names log st ts) seat t a) st.next) k beginning place → IsThen (space_of (activated (book_of rules plans names log st ts) seat t a) st.next) place come i binding → MakesFound rules come i.whole binding more → pushed ≡ lent_ts ++ more
     → EntersGoal seat t place a pushed log st now es store → EndsRounds seat t come i.whole last now es store new entries after
-    → MakesRounds seat t (record { passed = k; last = last }) (entered_book rules plans names log st ts seat t a) (book_of rules plans names entries after new)
+    → MakesRounds seat t (record { passed = k; last = last }) (activated (book_of rules plans names log st ts) seat t a) (book_of rules plans names entries after new)
 enters_rounds rules plans names log es entries st store after ts lent_ts more pushed now new seat t k a place come i binding last h out p next made e g ends =
+    let b : BookState = book_of rules plans names log st ts in
+    let gone : List Ticket = slice_set ts t (going_on place (activated_by seat st.next)) in
+    let claim_log : List (Entry ℕ) = log ++ record { event = Activate t st.next; seat = seat } ∷ [] in
+    let claim_store : LabelledStore = record { entries = st.entries ++ (st.next, a) ∷ []; next = st.next + 1; limit = st.limit } in
     ended_rounds rules plans names claim_log entries claim_store after (slice_set ts t (activated_by seat st.next)) gone more now new seat t k st.next place come i binding last (claimed_kept b seat t a h) (claimed_past b seat t k a place gone h p refl) next made
     (g.tickets ∙ lent_set_before more pushed (going_on place (activated_by seat st.next)) out e)
     (subst (λ (z : LabelledStore). EndsRounds seat t come i.whole last now claim_log z new entries after) g.store
     (subst (λ (z : List (Entry ℕ)). EndsRounds seat t come i.whole last now z store new entries after) g.logged ends))
-  where
-    b : BookState
-    b = book_of rules plans names log st ts
-
-    gone : List Ticket
-    gone = slice_set ts t (going_on place (activated_by seat st.next))
-
-    claim_log : List (Entry ℕ)
-    claim_log = log ++ record { event = Activate t st.next; seat = seat } ∷ []
-
-    claim_store : LabelledStore
-    claim_store = record { entries = st.entries ++ (st.next, a) ∷ []; next = st.next + 1; limit = st.limit }
 
 -- what is removed needn't have entered
+dropped_entered : (l n : ℕ) (a : Atom ℕ) (st : Store) → drop_label l (st ++ (n, a) ∷ []) ≡ (if l == n then drop_label l st else drop_label l st ++ (n, a) ∷ [])
+dropped_entered l n a [] = grind (arith, nat_tests)
+dropped_entered l n a (e ∷ st) = grind (arith, nat_tests, dropped_entered l n a st)
+
 without_entered : (ls : List ℕ) (st : Store) (n : ℕ) (a : Atom ℕ) → among ls n ≡ true → without ls (st ++ (n, a) ∷ []) ≡ without ls st
 without_entered [] st n a h = absurd (cc)
-without_entered (l ∷ ls) st n a h = elim (l == n) as (λ c. (l == n ≡ c) → (c || among ls n) ≡ true → without ls (drop_label l (st ++ (n, a) ∷ [])) ≡ without ls (drop_label l st)) [
-  | true ↦ λ e here. ap (without ls) (dropped st e)
-  | false ↦ λ e there. ap (without ls) (kept st e) ∙ without_entered ls (drop_label l st) n a there
-] refl h
-  where
-    dropped : (es : Store) → l == n ≡ true → drop_label l (es ++ (n, a) ∷ []) ≡ drop_label l es
-    dropped [] e = grind (arith, true-eqb)
-    dropped ((m, x) ∷ es) e = elim (m == l) as (λ c. (if c then drop_label l (es ++ (n, a) ∷ []) else (m, x) ∷ drop_label l (es ++ (n, a) ∷ [])) ≡ (if c then drop_label l es else (m, x) ∷ drop_label l es)) [
-      | true ↦ dropped es e
-      | false ↦ ap (λ (z : Store). (m, x) ∷ z) (dropped es e)
-    ]
-
-    kept : (es : Store) → l == n ≡ false → drop_label l (es ++ (n, a) ∷ []) ≡ drop_label l es ++ (n, a) ∷ []
-    kept [] e = grind (arith, true-eqb)
-    kept ((m, x) ∷ es) e = elim (m == l) as (λ c. (if c then drop_label l (es ++ (n, a) ∷ []) else (m, x) ∷ drop_label l (es ++ (n, a) ∷ [])) ≡ (if c then drop_label l es else (m, x) ∷ drop_label l es) ++ (n, a) ∷ []) [
-      | true ↦ kept es e
-      | false ↦ ap (λ (z : Store). (m, x) ∷ z) (kept es e)
-    ]
+without_entered (l ∷ ls) st n a h = grind (arith, nat_tests, dropped_entered l n a st, without_entered ls (drop_label l st) n a)
 
 -- a firing of a ticket that is gone on, under the label of its search, which is removed
 fires_gone_on : (seat t l : ℕ) (rule : Simpagation ℕ) (i : Instance) (binding : List (Option (Value ℕ))) (place : List ℕ) (a : Atom ℕ) (ts lent_ts more pushed : List Ticket) (log : List (Entry ℕ)) (st : LabelledStore) (new : List Ticket) (entries : List (Entry ℕ)) (after : LabelledStore) → i.whole.past.label ≡ l → among i.whole.removed.items i.whole.past.label ≡ true
     → IsLent ts lent_ts t a → MakesBody rule.body binding more → pushed ≡ lent_ts ++ more → FiresWaiting seat t i.whole pushed log st new entries after
     → FiresWhole seat t rule i.whole binding (record { first = length ts; count = length more; active_lives = false }) (slice_set ts t (going_on place (activated_by seat l))) (log ++ record { event = Activate t l; seat = seat } ∷ []) new entries
-fires_gone_on seat t l rule i binding place a ts lent_ts more pushed log st new entries after label own out makes e h = record {
-  first = sym (length-set ts t x);
-  lives = ap not (sym own);
-  logged = h.logged ∙ ap (λ (z : ℕ). log ++ record { event = Activate t z; seat = seat } ∷ entry ∷ []) label ∙ sym (append_assoc log (record { event = Activate t l; seat = seat } ∷ []) (entry ∷ []));
-  tickets = λ body under. (
-    ap length (makes body under) ∙ length-map body waiting,
-    h.tickets ∙ lent_set_before more pushed ended out e ∙ ap₂ (λ (xs ys : List Ticket). xs ++ ys) (sym (set-set ts t x ended)) (makes body under),
-  );
-}
-  where
-    x : Ticket
-    x = going_on place (activated_by seat l)
-
-    entry : Entry ℕ
-    entry = record { event = Fire t i.whole.number i.whole.kept.items i.whole.removed.items; seat = seat }
+fires_gone_on seat t l rule i binding place a ts lent_ts more pushed log st new entries after label own out makes e h =
+    let x : Ticket = going_on place (activated_by seat l) in
+    let entry : Entry ℕ = record { event = Fire t i.whole.number i.whole.kept.items i.whole.removed.items; seat = seat } in
+    record {
+      first = sym (length-set ts t x);
+      lives = ap not (sym own);
+      logged = h.logged ∙ ap (λ (z : ℕ). log ++ record { event = Activate t z; seat = seat } ∷ entry ∷ []) label ∙ sym (append_assoc log (record { event = Activate t l; seat = seat } ∷ []) (entry ∷ []));
+      tickets = λ body under. (
+        ap length (makes body under) ∙ length-map body waiting,
+        h.tickets ∙ lent_set_before more pushed ended out e ∙ ap₂ (λ (xs ys : List Ticket). xs ++ ys) (sym (set-set ts t x ended)) (makes body under),
+      );
+    }
 
 -- they end where what was found has fired
 fires_rounds : (rules : List (Simpagation ℕ)) (plans : PlanList) (names : List (List ℕ)) (log entries : List (Entry ℕ)) (st after : LabelledStore) (ts lent_ts more pushed new : List Ticket) (seat t k : ℕ) (a : Atom ℕ) (place : List ℕ) (i : Instance) (binding : List (Option (Value ℕ))) → IsReady (book_of rules plans names log st ts) t a
-    → IsLent ts lent_ts t a → Passes (space_of (entered_book rules plans names log st ts seat t a) st.next) k beginning place → IsWholeNext (space_of (entered_book rules plans names log st ts seat t a) st.next) place i.whole binding → MakesFound rules thens.Whole i.whole binding more → pushed ≡ lent_ts ++ more
+    → IsLent ts lent_ts t a → Passes (space_of (activated (book_of rules plans names log st ts) seat t a) st.next) k beginning place → IsWholeNext (space_of (activated (book_of rules plans names log st ts) seat t a) st.next) place i.whole binding → MakesFound rules thens.Whole i.whole binding more → pushed ≡ lent_ts ++ more
     → among i.whole.removed.items i.whole.past.label ≡ true → FiresWaiting seat t i.whole pushed log st new entries after
-    → MakesRounds seat t (record { passed = k; last = lasts.Fired }) (entered_book rules plans names log st ts seat t a) (book_of rules plans names entries after new)
+    → MakesRounds seat t (record { passed = k; last = lasts.Fired }) (activated (book_of rules plans names log st ts) seat t a) (book_of rules plans names entries after new)
 fires_rounds rules plans names log entries st after ts lent_ts more pushed new seat t k a place i binding h out p next made e own f =
+    let b : BookState = book_of rules plans names log st ts in
+    let claim : BookState = activated (book_of rules plans names log st ts) seat t a in
     let label : i.whole.past.label ≡ st.next = ap (λ (z : SearchState). z.label) next.past_is in
     let now : List Ticket = slice_set ts t (going_on place (activated_by seat st.next)) in
     subst (λ (z : LabelledStore). MakesRounds seat t (record { passed = k; last = lasts.Fired }) claim (book_of rules plans names entries z new))
     (ap (λ (z : Store). record { entries = z; next = st.next + 1; limit = st.limit }) (without_entered i.whole.removed.items st.entries st.next a (ap (among i.whole.removed.items) (sym label) ∙ own)) ∙ sym f.store)
     (fired_rounds claim seat t k st.next place made.0 i.whole binding (record { first = length ts; count = length more; active_lives = false }) now new entries (claimed_kept b seat t a h) (claimed_past b seat t k a place now h p refl) next made.1
     (fires_gone_on seat t st.next made.0 i binding place a ts lent_ts more pushed log st new entries after label own out made.2 e f))
-  where
-    b : BookState
-    b = book_of rules plans names log st ts
 
-    claim : BookState
-    claim = entered_book rules plans names log st ts seat t a
+-- the rounds, however they end
+start_makes : (rules : List (Simpagation ℕ)) (plans : PlanList) (names : List (List ℕ)) (log entries : List (Entry ℕ)) (st after : LabelledStore) (ts lent_ts more pushed new : List Ticket) (seat t k : ℕ) (a : Atom ℕ) (place : List ℕ) (come : Then) (i : Instance) (binding : List (Option (Value ℕ))) (last : Last) → IsReady (book_of rules plans names log st ts) t a
+    → IsLent ts lent_ts t a → Passes (older rules plans (st.entries ++ (st.next, a) ∷ []) st.next) k beginning place → IsThen (older rules plans (st.entries ++ (st.next, a) ∷ []) st.next) place come i binding → MakesFound rules come i.whole binding more → pushed ≡ lent_ts ++ more → EndsStart seat t place a come i.whole last pushed log st new entries after
+    → MakesRounds seat t (record { passed = k; last = last }) (activated (book_of rules plans names log st ts) seat t a) (book_of rules plans names entries after new)
+start_makes rules plans names log entries st after ts lent_ts more pushed new seat t k a place come i binding last h out p next made e (fires is own fired f) =
+    makes_same fired refl (fires_rounds rules plans names log entries st after ts lent_ts more pushed new seat t k a place i binding h out p (subst (λ c. IsThen (older rules plans (st.entries ++ (st.next, a) ∷ []) st.next) place c i binding) is next) (subst (λ c. MakesFound rules c i.whole binding more) is made) e own f)
+start_makes rules plans names log entries st after ts lent_ts more pushed new seat t k a place come i binding last h out p next made e (enters now es store g ends) =
+    enters_rounds rules plans names log es entries st store after ts lent_ts more pushed now new seat t k a place come i binding last h out p next made e g ends
 
 -- the claim and the rounds
-pub starts : (rules : List (Simpagation ℕ)) (plans : PlanList) (names : List (List ℕ)) (log entries : List (Entry ℕ)) (st after : LabelledStore) (ts lent_ts more pushed new : List Ticket) (seat t k : ℕ) (a : Atom ℕ) (place : List ℕ) (come : Then) (i : Instance) (binding : List (Option (Value ℕ))) (last : Last) → IsReady (book_of rules plans names log st ts) t a
-    → IsLent ts lent_ts t a → Passes (older rules plans (st.entries ++ (st.next, a) ∷ []) st.next) k beginning place → IsThen (older rules plans (st.entries ++ (st.next, a) ∷ []) st.next) place come i binding → MakesFound rules come i.whole binding more → pushed ≡ lent_ts ++ more → EndsStart seat t place a come i.whole last pushed log st new entries after
-    → StartsRounds seat t (record { passed = k; last = last }) (book_of rules plans names log st ts) (book_of rules plans names entries after new)
-starts rules plans names log entries st after ts lent_ts more pushed new seat t k a place come i binding last h out p next made e (fires is own fired f) = record {
-  label = st.next;
-  claimed = entered_book rules plans names log st ts seat t a;
-  claims = claimed (book_of rules plans names log st ts) seat t a h;
-  makes = makes_same fired refl (fires_rounds rules plans names log entries st after ts lent_ts more pushed new seat t k a place i binding h out p (subst (λ c. IsThen (older rules plans (st.entries ++ (st.next, a) ∷ []) st.next) place c i binding) is next) (subst (λ c. MakesFound rules c i.whole binding more) is made) e own f);
-}
-starts rules plans names log entries st after ts lent_ts more pushed new seat t k a place come i binding last h out p next made e (enters now es store g ends) = record {
-  label = st.next;
-  claimed = entered_book rules plans names log st ts seat t a;
-  claims = claimed (book_of rules plans names log st ts) seat t a h;
-  makes = enters_rounds rules plans names log es entries st store after ts lent_ts more pushed now new seat t k a place come i binding last h out p next made e g ends;
-}
-
--- a ticket that is activated doesn't wait
-held_not_waiting : (ts : List Ticket) (t seat l : ℕ) (place : List ℕ) → state_of ts t ≡ Waiting → state_of (slice_set ts t (going_on place (activated_by seat l))) t ≡ Waiting → ⊥
-held_not_waiting ts t seat l place waits is =
-    let z : Held seat ≡ Waiting = sym (state_there ts t (going_on place (activated_by seat l)) (λ e. absurd (let y : Waiting ≡ Unknown = sym waits ∙ e in cc)) (waits_within ts t waits)) ∙ is in
-    cc
-
--- memory was refused: the tickets of the body are taken back, and the atom is put back where its ticket waits
-pub starts_fewer : (rules : List (Simpagation ℕ)) (plans : PlanList) (names : List (List ℕ)) (log entries : List (Entry ℕ)) (st after : LabelledStore) (ts lent_ts more pushed left cut new : List Ticket) (seat t k most first : ℕ) (a : Atom ℕ) (place : List ℕ) → IsReady (book_of rules plans names log st ts) t a → IsLent ts lent_ts t a → Passes (older rules plans (st.entries ++ (st.next, a) ∷ []) st.next) k beginning place → k < most
-    → pushed ≡ lent_ts ++ more → EntersOrStays seat t place a pushed log st left entries after → cut ≡ take first left → first ≡ length lent_ts → (state_of cut t ≡ Waiting → new ≡ slice_set cut t (with_atom a (ticket_at cut t))) → (state_of cut t ≢ Waiting → new ≡ cut)
-    → StartsFewer seat t most (book_of rules plans names log st ts) (book_of rules plans names entries after new)
-starts_fewer rules plans names log entries st after ts lent_ts more pushed left cut new seat t k most first a place h out p less e (inl same) back f put kept =
-    let here : cut ≡ lent_ts = rest_back lent_ts left cut first (more, same.0 ∙ e) back f in
-    inl (book_same rules plans names same.1 same.2 (put (ap (λ (xs : List Ticket). state_of xs t) here ∙ waits_lent out) ∙ ap (λ (xs : List Ticket). slice_set xs t (with_atom a (ticket_at xs t))) here ∙ put_back out))
-starts_fewer rules plans names log entries st after ts lent_ts more pushed left cut new seat t k most first a place h out p less e (inr g) back f put kept = inr (record {
-  label = st.next;
-  claimed = claim;
-  claims = claimed b seat t a h;
-  makes = record {
-    passed = k;
-    fewer = less;
-    passes = subst (PassesTrials seat t k claim) (sym (book_same rules plans names g.logged g.store (kept (λ is. held_not_waiting ts t seat st.next place out.waits (ap (λ (xs : List Ticket). state_of xs t) (sym now) ∙ is)) ∙ now))) (claimed_past b seat t k a place gone h p refl).passes;
-  };
-})
-  where
-    b : BookState
-    b = book_of rules plans names log st ts
-
-    claim : BookState
-    claim = entered_book rules plans names log st ts seat t a
-
-    gone : List Ticket
-    gone = slice_set ts t (going_on place (activated_by seat st.next))
-
-    as_long : first ≡ length gone
-    as_long = f ∙ ap length out.lent_is ∙ length-set ts t (with_atom out.other (ticket_at ts t)) ∙ sym (length-set ts t (going_on place (activated_by seat st.next)))
-
-    now : cut ≡ gone
-    now = rest_back gone left cut first (more, g.tickets ∙ lent_set_before more pushed (going_on place (activated_by seat st.next)) out e) back as_long
-
--- ---- the same by what the functions show
-
 pub started : (rules : List (Simpagation ℕ)) (plans : PlanList) (names : List (List ℕ)) (log entries : List (Entry ℕ)) (st after : LabelledStore) (ts lent_ts pushed new : List Ticket) (seat t : ℕ) (a : Atom ℕ) (search : SearchState) (place : List ℕ) (come : Passed) (i : Instance) (w : Whole) (last : Last) → IsReady (book_of rules plans names log st ts) t a → IsLent ts lent_ts t a
     → search ≡ record { label = st.next; place = beginning } → PassesBefore (older rules plans (st.entries ++ (st.next, a) ∷ []) search.label) come i search.place place lent_ts pushed → w ≡ i.whole → EndsStart seat t place a come.then w last pushed log st new entries after
     → StartsRounds seat t (record { passed = come.count; last = last }) (book_of rules plans names log st ts) (book_of rules plans names entries after new)
 started rules plans names log entries st after ts lent_ts pushed new seat t a search place come i w last h out begun found same ends =
-    let p = subst (λ (z : SearchState). PassesBefore (older rules plans (st.entries ++ (st.next, a) ∷ []) z.label) come i z.place place lent_ts pushed) begun found in
-    starts rules plans names log entries st after ts lent_ts p.more pushed new seat t come.count a place come.then i p.binding last h out p.passes p.next p.made p.tickets
-    (subst (λ (v : Whole). EndsStart seat t place a come.then v last pushed log st new entries after) same ends)
+    let p = subst (λ (z : SearchState). PassesBefore (older rules plans (st.entries ++ (st.next, a) ∷ []) z.label) come i z.place place lent_ts pushed) begun found in record {
+      label = st.next;
+      claimed = activated (book_of rules plans names log st ts) seat t a;
+      claims = claimed (book_of rules plans names log st ts) seat t a h;
+      makes = start_makes rules plans names log entries st after ts lent_ts p.more pushed new seat t come.count a place come.then i p.binding last h out p.passes p.next p.made p.tickets
+          (subst (λ (v : Whole). EndsStart seat t place a come.then v last pushed log st new entries after) same ends);
+    }
 
-pub started_fewer : (rules : List (Simpagation ℕ)) (plans : PlanList) (names : List (List ℕ)) (log entries : List (Entry ℕ)) (st after : LabelledStore) (ts lent_ts pushed left new : List Ticket) (seat t most first : ℕ) (a : Atom ℕ) (search : SearchState) (place : List ℕ) (come : Passed) (i : Instance) → IsReady (book_of rules plans names log st ts) t a → IsLent ts lent_ts t a
-    → search ≡ record { label = st.next; place = beginning } → PassesBefore (older rules plans (st.entries ++ (st.next, a) ∷ []) search.label) come i search.place place lent_ts pushed → come.count < most → EntersOrStays seat t place a pushed log st left entries after → first ≡ length lent_ts
-    → (state_of (take first left) t ≡ Waiting → new ≡ slice_set (take first left) t (with_atom a (ticket_at (take first left) t))) → (state_of (take first left) t ≢ Waiting → new ≡ take first left)
+-- a ticket that is activated doesn't wait
+held_not_waiting : (ts : List Ticket) (t seat l : ℕ) (place : List ℕ) → state_of ts t ≡ Waiting → state_of (slice_set ts t (going_on place (activated_by seat l))) t ≡ Waiting → ⊥
+held_not_waiting ts t seat l place waits is =
+    let z : Held seat ≡ Waiting = sym (state_there ts t (going_on place (activated_by seat l)) (λ e. absurd (let y : Waiting ≡ Unknown = sym waits ∙ e in cc)) (waiting_is ts t waits).within) ∙ is in
+    cc
+
+-- memory was refused: the tickets of the body are taken back, and the atom is put back where its ticket waits
+pub started_fewer : (rules : List (Simpagation ℕ)) (plans : PlanList) (names : List (List ℕ)) (log entries : List (Entry ℕ)) (st after : LabelledStore) (ts lent_ts pushed left cut new : List Ticket) (seat t most first : ℕ) (a : Atom ℕ) (search : SearchState) (place : List ℕ) (come : Passed) (i : Instance) → IsReady (book_of rules plans names log st ts) t a → IsLent ts lent_ts t a
+    → search ≡ record { label = st.next; place = beginning } → PassesBefore (older rules plans (st.entries ++ (st.next, a) ∷ []) search.label) come i search.place place lent_ts pushed → come.count < most → EntersOrStays seat t place a pushed log st left entries after → cut ≡ take first left → first ≡ length lent_ts
+    → (state_of cut t ≡ Waiting → new ≡ slice_set cut t (with_atom a (ticket_at cut t))) → (state_of cut t ≢ Waiting → new ≡ cut)
     → StartsFewer seat t most (book_of rules plans names log st ts) (book_of rules plans names entries after new)
-started_fewer rules plans names log entries st after ts lent_ts pushed left new seat t most first a search place come i h out begun found less ends f put kept =
-    let p = subst (λ (z : SearchState). PassesBefore (older rules plans (st.entries ++ (st.next, a) ∷ []) z.label) come i z.place place lent_ts pushed) begun found in
-    starts_fewer rules plans names log entries st after ts lent_ts p.more pushed left (take first left) new seat t come.count most first a place h out p.passes less p.tickets ends refl f put kept
+started_fewer rules plans names log entries st after ts lent_ts pushed left cut new seat t most first a search place come i h out begun found less (inl same) back f put kept =
+    let here : cut ≡ lent_ts = rest_back lent_ts left cut first (found.more, same.0 ∙ found.tickets) back f in
+    inl (book_same rules plans names same.1 same.2 (put (ap (λ (xs : List Ticket). state_of xs t) here ∙ waits_lent out) ∙ ap (λ (xs : List Ticket). slice_set xs t (with_atom a (ticket_at xs t))) here ∙ put_back out))
+started_fewer rules plans names log entries st after ts lent_ts pushed left cut new seat t most first a search place come i h out begun found less (inr g) back f put kept =
+    let b : BookState = book_of rules plans names log st ts in
+    let claim : BookState = activated (book_of rules plans names log st ts) seat t a in
+    let passes : Passes (older rules plans (st.entries ++ (st.next, a) ∷ []) st.next) come.count beginning place = (subst (λ (z : SearchState). PassesBefore (older rules plans (st.entries ++ (st.next, a) ∷ []) z.label) come i z.place place lent_ts pushed) begun found).passes in
+    let gone : List Ticket = slice_set ts t (going_on place (activated_by seat st.next)) in
+    let as_long : first ≡ length gone = f ∙ ap length out.lent_is ∙ length-set ts t (with_atom out.other (ticket_at ts t)) ∙ sym (length-set ts t (going_on place (activated_by seat st.next))) in
+    let now : cut ≡ gone = rest_back gone left cut first (found.more, g.tickets ∙ lent_set_before found.more pushed (going_on place (activated_by seat st.next)) out found.tickets) back as_long in
+    inr (record {
+      label = st.next;
+      claimed = claim;
+      claims = claimed b seat t a h;
+      makes = record {
+        passed = come.count;
+        fewer = less;
+        passes = subst (PassesTrials seat t come.count claim) (sym (book_same rules plans names g.logged g.store (kept (λ is. held_not_waiting ts t seat st.next place out.waits (ap (λ (xs : List Ticket). state_of xs t) (sym now) ∙ is)) ∙ now))) (claimed_past b seat t come.count a place gone h passes refl).passes;
+      };
+    })
 
 -- the body was refused
 pub stays_as_is : (rules : List (Simpagation ℕ)) (plans : PlanList) (names : List (List ℕ)) (log : List (Entry ℕ)) (st : LabelledStore) (ts lent_ts left new : List Ticket) (seat t most first : ℕ) (a : Atom ℕ) → IsLent ts lent_ts t a → left ≡ lent_ts → first ≡ length lent_ts → (state_of (take first left) t ≡ Waiting → new ≡ slice_set (take first left) t (with_atom a (ticket_at (take first left) t)))
@@ -391,34 +303,18 @@ pub starts_fewer_keep : (seat t most : ℕ) (b n : BookState) → StartsFewer se
 starts_fewer_keep seat t most b n (inl same) kept = subst IsKept (sym same) kept
 starts_fewer_keep seat t most b n (inr h) kept = fewer_keep seat t most h.claimed n h.makes (claims_keep b h.claimed seat t (Ok h.label) h.claims kept)
 
--- ---- of what the book showed before
+-- ---- the limit of the labels, and that there are perhaps more trials where the last of the rounds passed over one
 
-pub started_of : {seat t : ℕ} {r : Rounds} {b now n : BookState} → b ≡ now → StartsRounds seat t r b n → StartsRounds seat t r now n
-started_of {seat} {t} {r} {b} {now} {n} e h = subst (λ (m : BookState). StartsRounds seat t r m n) e h
+pub ends_show : (seat t : ℕ) (come : Then) (w : Whole) (last : Last) (ts : List Ticket) (log : List (Entry ℕ)) (st : LabelledStore) (new : List Ticket) (entries : List (Entry ℕ)) (after : LabelledStore) → EndsRounds seat t come w last ts log st new entries after → (after.limit ≡ st.limit) × (last ≡ lasts.Passed → come ≡ thens.More)
+ends_show seat t thens.More w last ts log st new entries after h = (ap (λ (z : LabelledStore). z.limit) h.3, λ e. refl)
+ends_show seat t thens.Done w last ts log st new entries after h = (ap (λ (z : LabelledStore). z.limit) h.3, λ e. let d : last ≡ lasts.Dropped = h.0 in absurd (cc))
+ends_show seat t thens.Whole w last ts log st new entries after h = (ap (λ (z : LabelledStore). z.limit) h.1.store, λ e. let f : last ≡ lasts.Fired = h.0 in absurd (cc))
 
-pub started_fewer_of : {X E : Type 0} {seat t most : ℕ} {b now n : BookState} (r : Result X E) → b ≡ now → StartsFewer seat t most b n → OnErr r (StartsFewer seat t most now n)
-started_fewer_of {X} {E} {seat} {t} {most} {b} {now} {n} r e h = on_any_err (StartsFewer seat t most now n) r (subst (λ (m : BookState). StartsFewer seat t most m n) e h)
-
--- ---- the limit of the labels
-
-pub ends_limit : (seat t : ℕ) (come : Then) (w : Whole) (last : Last) (ts : List Ticket) (log : List (Entry ℕ)) (st : LabelledStore) (new : List Ticket) (entries : List (Entry ℕ)) (after : LabelledStore) → EndsRounds seat t come w last ts log st new entries after → after.limit ≡ st.limit
-ends_limit seat t thens.More w last ts log st new entries after h = ap (λ (z : LabelledStore). z.limit) h.3
-ends_limit seat t thens.Done w last ts log st new entries after h = ap (λ (z : LabelledStore). z.limit) h.3
-ends_limit seat t thens.Whole w last ts log st new entries after h = ap (λ (z : LabelledStore). z.limit) h.1.store
-
-pub starts_limit : (seat t : ℕ) (place : List ℕ) (a : Atom ℕ) (come : Then) (w : Whole) (last : Last) (ts : List Ticket) (log : List (Entry ℕ)) (st : LabelledStore) (new : List Ticket) (entries : List (Entry ℕ)) (after : LabelledStore) → EndsStart seat t place a come w last ts log st new entries after → after.limit ≡ st.limit
-starts_limit seat t place a come w last ts log st new entries after (fires is own fired f) = ap (λ (z : LabelledStore). z.limit) f.store
-starts_limit seat t place a come w last ts log st new entries after (enters now es store g ends) = ends_limit seat t come w last now es store new entries after ends ∙ ap (λ (z : LabelledStore). z.limit) g.store
-
--- where the last of the rounds passed over a trial, there are perhaps more
-pub ends_more : (seat t : ℕ) (come : Then) (w : Whole) (last : Last) (ts : List Ticket) (log : List (Entry ℕ)) (st : LabelledStore) (new : List Ticket) (entries : List (Entry ℕ)) (after : LabelledStore) → EndsRounds seat t come w last ts log st new entries after → last ≡ lasts.Passed → come ≡ thens.More
-ends_more seat t thens.More w last ts log st new entries after h e = refl
-ends_more seat t thens.Done w last ts log st new entries after h e = let d : last ≡ lasts.Dropped = h.0 in absurd (cc)
-ends_more seat t thens.Whole w last ts log st new entries after h e = let f : last ≡ lasts.Fired = h.0 in absurd (cc)
-
-pub starts_more : (seat t : ℕ) (place : List ℕ) (a : Atom ℕ) (come : Then) (w : Whole) (last : Last) (ts : List Ticket) (log : List (Entry ℕ)) (st : LabelledStore) (new : List Ticket) (entries : List (Entry ℕ)) (after : LabelledStore) → EndsStart seat t place a come w last ts log st new entries after → last ≡ lasts.Passed → come ≡ thens.More
-starts_more seat t place a come w last ts log st new entries after (fires is own fired f) e = absurd (cc)
-starts_more seat t place a come w last ts log st new entries after (enters now es store g ends) e = ends_more seat t come w last now es store new entries after ends e
+pub starts_show : (seat t : ℕ) (place : List ℕ) (a : Atom ℕ) (come : Then) (w : Whole) (last : Last) (ts : List Ticket) (log : List (Entry ℕ)) (st : LabelledStore) (new : List Ticket) (entries : List (Entry ℕ)) (after : LabelledStore) → EndsStart seat t place a come w last ts log st new entries after → (after.limit ≡ st.limit) × (last ≡ lasts.Passed → come ≡ thens.More)
+starts_show seat t place a come w last ts log st new entries after (fires is own fired f) = (ap (λ (z : LabelledStore). z.limit) f.store, λ e. absurd (cc))
+starts_show seat t place a come w last ts log st new entries after (enters now es store g ends) =
+    let show = ends_show seat t come w last now es store new entries after ends in
+    (show.0 ∙ ap (λ (z : LabelledStore). z.limit) g.store, show.1)
 
 pub stays_limit : (seat t : ℕ) (place : List ℕ) (a : Atom ℕ) (ts : List Ticket) (log : List (Entry ℕ)) (st : LabelledStore) (new : List Ticket) (entries : List (Entry ℕ)) (after : LabelledStore) → EntersOrStays seat t place a ts log st new entries after → after.limit ≡ st.limit
 stays_limit seat t place a ts log st new entries after (inl same) = ap (λ (z : LabelledStore). z.limit) same.2

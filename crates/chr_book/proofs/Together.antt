@@ -6,23 +6,19 @@ use Rattle.chr_search.specs.Positions.{just_after}
 use Rattle.chr_search.specs.Verdicts.{Trial, position}
 use Rattle.chr_search.specs.Answers.{IsAnswerBehind}
 use Rattle.chr_search.specs.declared.search.Ask.{Ask}
-use Rattle.chr_search.specs.declared.search.Ask.TheVariants as answers
 use Rattle.chr_sheet.specs.declared.trials.Trials.{Trials as CodeTrials}
 use Rattle.chr_sheet.specs.Kept.{trials_at, trials_in}
 use Rattle.chr_sheet.specs.Sheets.{AreNext, IsNextTrial}
 use Rattle.chr_calls.specs.Turns.{Next}
 use Rattle.chr_calls.specs.Books.{BookState, space_of}
 use Rattle.chr_calls.specs.Calls.{HoldsLive, Turns}
-use Rattle.chr_calls.specs.Batches.{AreChained, AreTogether, GivesTrials, IsNextBeside, NoneBeside, IsNextAfter, NoneAfter}
+use Rattle.chr_calls.specs.Batches.{AreChained, AreTogether, GivesTrials, IsNextAfter, NoneAfter}
 
 -- ---- the next one behind another
 
 -- what a search answers for it
-pub behind_told : {Z : Type 0} (b now : BookState) → b ≡ now → (l : ℕ) (last next : Trial) (ask : Ask Z) → IsAnswerBehind (space_of b l) (position last) ask → ask ≡ answers.Trial next → IsNextBeside (space_of now l) last next
-behind_told b now e l last next ask h is = subst (λ (m : BookState). IsNextBeside (space_of m l) last next) e (subst (IsAnswerBehind (space_of b l) (position last)) is h)
-
-pub none_told : {Z : Type 0} (b now : BookState) → b ≡ now → (l : ℕ) (last : Trial) (ask : Ask Z) → IsAnswerBehind (space_of b l) (position last) ask → ask ≡ answers.Done → NoneBeside (space_of now l) last
-none_told b now e l last ask h is = subst (λ (m : BookState). NoneBeside (space_of m l) last) e (subst (IsAnswerBehind (space_of b l) (position last)) is h)
+pub behind_told : {Z : Type 0} (b now : BookState) → b ≡ now → (l : ℕ) (last : Trial) {ask told : Ask Z} → IsAnswerBehind (space_of b l) (position last) ask → ask ≡ told → IsAnswerBehind (space_of now l) (position last) told
+behind_told {Z} b now e l last {ask} {told} h is = subst (λ (m : BookState). IsAnswerBehind (space_of m l) (position last) told) e (subst (IsAnswerBehind (space_of b l) (position last)) is h)
 
 -- ---- a trial with those after it
 
@@ -43,27 +39,24 @@ together_first IsNext IsLast most first trials e = subst (λ ts. TogetherSoFar I
 
 -- one more
 pub together_next : (IsNext : Trial → Trial → Type 0) (IsLast : Trial → Type 0) (most : ℕ) (first last next : Trial) (trials new : List Trial) → length trials < most → (h : TogetherSoFar IsNext IsLast most first trials (most - length trials)) → last ≡ h.last → IsNext last next → new ≡ trials ++ next ∷ [] → TogetherSoFar IsNext IsLast most first new (most - length new)
-together_next IsNext IsLast most first last next trials new less h e comes pushed = subst (λ ts. TogetherSoFar IsNext IsLast most first ts (most - length ts)) (sym pushed) (record {
-  before = trials;
-  last = next;
-  are = refl;
-  follow = λ rest more. subst (AreTogether IsNext IsLast (most - 1) first) (sym (append_assoc trials (next ∷ []) rest)) (h.follow (next ∷ rest) (subst (λ n. AreChained IsNext IsLast n h.last (next ∷ rest)) one (there, subst (λ n. AreChained IsNext IsLast n next rest) fewer more)));
-})
-  where
-    there : IsNext h.last next
-    there = subst (λ t. IsNext t next) e comes
+together_next IsNext IsLast most first last next trials new less h e comes pushed =
+    let there : IsNext h.last next = subst (λ t. IsNext t next) e comes in
+    let one : suc (most - 1 - length trials) ≡ most - length trials = omega arith in
+    let fewer : most - length (trials ++ next ∷ []) ≡ most - 1 - length trials = let n : length (trials ++ next ∷ []) ≡ length trials + 1 = length-append trials (next ∷ []) in omega arith in
+    subst (λ ts. TogetherSoFar IsNext IsLast most first ts (most - length ts)) (sym pushed) (record {
+      before = trials;
+      last = next;
+      are = refl;
+      follow = λ rest more. subst (AreTogether IsNext IsLast (most - 1) first) (sym (append_assoc trials (next ∷ []) rest)) (h.follow (next ∷ rest) (subst (λ n. AreChained IsNext IsLast n h.last (next ∷ rest)) one (there, subst (λ n. AreChained IsNext IsLast n next rest) fewer more)));
+    })
 
-    one : suc (most - 1 - length trials) ≡ most - length trials
-    one = omega arith
+-- the last of them, and where it is
+pub some_together : {IsNext : Trial → Trial → Type 0} {IsLast : Trial → Type 0} {most : ℕ} {first : Trial} {trials : List Trial} {left : ℕ} (h : TogetherSoFar IsNext IsLast most first trials left) → length trials ≡ length h.before + 1
+some_together h = ap length h.are ∙ length-append h.before (h.last ∷ [])
 
-    fewer : most - length (trials ++ next ∷ []) ≡ most - 1 - length trials
-    fewer = let n : length (trials ++ next ∷ []) ≡ length trials + 1 = length-append trials (next ∷ []) in omega arith
-
--- the last of them
 pub last_there : (IsNext : Trial → Trial → Type 0) (IsLast : Trial → Type 0) (most : ℕ) (first : Trial) (trials : List Trial) (left : ℕ) (h : TogetherSoFar IsNext IsLast most first trials left) (d : Trial) → get_or trials (length trials - 1) d ≡ h.last
 last_there IsNext IsLast most first trials left h d =
-    let n : length trials ≡ length h.before + 1 = ap length h.are ∙ length-append h.before (h.last ∷ []) in
-    let at : length h.before ≡ length trials - 1 = omega arith in
+    let at : length h.before ≡ length trials - 1 = omega (arith, some_together h) in
     ap (λ ts. get_or ts (length trials - 1) d) h.are ∙ get_or_push h.before h.last d (length trials - 1) at
 
 -- none is left, and there are as many as may be

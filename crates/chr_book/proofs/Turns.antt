@@ -1,10 +1,11 @@
 -- What a call finds of a ticket that is claimed or held, and of its search, and what the book keeps after it.
 use Rattle.std.proofs.Common.{◌≡◌, ◌≢◌, ◌⊎◌, inl, inr, ◌↔◌, ℕ, Bool, true, false, true≢false, List, [], ◌∷◌, ◌++◌, Option, Some, None, MatchOption, is_some, IsTrue, Ok, refl, sym, ◌∙◌, ap, ap₂, subst, slice_set, Bor}
 use Rattle.std.specs.Option.{option_copied}
+use Rattle.std.proofs.lemmas.Option.{none-some}
 use Rattle.chr_value.specs.Atoms.{Atom}
 use Rattle.chr_log.specs.Events.{Entry, Drop}
 use Rattle.chr_model.specs.Stores.{Store, atom_at}
-use Rattle.chr_model.specs.Goals.{Goal, Numbered}
+use Rattle.chr_model.specs.Goals.{Goal}
 use Rattle.chr_search.specs.Trials.{IsNext, NoneLeft}
 use Rattle.chr_search.specs.Reach.{SearchState}
 use Rattle.chr_search.specs.Verdicts.{Trial}
@@ -16,39 +17,37 @@ use Rattle.chr_calls.specs.declared.answers.TicketState.TheVariants as states
 use Rattle.chr_calls.specs.declared.answers.Dropping.TheVariants as dropping
 use Rattle.chr_calls.specs.Turns as turn
 use Rattle.chr_calls.specs.Tickets.{Ticket, ended, marked, going_on, ticket_at, state_of, IsClaimable, waits, rests, IsActive, IsNotHeld, search_with, search_in}
-use Rattle.chr_calls.specs.Books.{BookState, space_of, IsLive, with_tickets, with_ticket}
+use Rattle.chr_calls.specs.Books.{BookState, space_of, IsLive, with_tickets}
 use Rattle.chr_calls.specs.Calls.{HoldsLive, HoldsCandidate, MayBeDropped, Marks, after_judgement, with_candidate_of}
 use Rattle.chr_calls.specs.Headline.{IsKept}
-use Rattle.chr_calls.proofs.Tickets.{held_is}
+use Rattle.chr_calls.proofs.Tickets.{held_is, held_label, kept_forgotten}
 use Rattle.chr_calls.proofs.Drops.{drops_keep}
 use Rattle.chr_calls.proofs.Turning.{turns_keep, reports_keep}
 use Rattle.chr_book.specs.Books.{IsHeldSearch, HasTrialLeft}
 use Rattle.chr_book.specs.Given.{IsToJudge}
 use Rattle.chr_book.specs.Passed.{IsHeldLive}
-use Rattle.chr_book.proofs.Nexts.{next_turned, now_candidate, moved_same}
+use Rattle.chr_book.proofs.Nexts.{next_turned, now_candidate, with_again}
 
 -- ---- what can be claimed
-
-pub claimable_is : {s : TicketState} → IsClaimable s → (s ≡ states.Waiting) ⊎ (s ≡ states.Resting)
-claimable_is waits = inl refl
-claimable_is rests = inr refl
 
 pub is_claimable : (s : TicketState) → (s ≡ states.Waiting) ⊎ (s ≡ states.Resting) → IsClaimable s
 is_claimable s (inl e) = subst IsClaimable (sym e) waits
 is_claimable s (inr e) = subst IsClaimable (sym e) rests
 
 pub not_claimable : (s : TicketState) → (s ≡ states.Waiting → ⊥) → (s ≡ states.Resting → ⊥) → IsClaimable s → ⊥
-not_claimable s w r c = elim (claimable_is c) [ inl e ↦ w e | inr e ↦ r e ]
+not_claimable _ w r waits = w refl
+not_claimable _ w r rests = r refl
 
 -- a ticket that waits or rests is marked
 pub marked_turn : (b : BookState) (t : ℕ) (told : TicketState) (tickets : List Ticket) → told ≡ state_of b.tickets t → (told ≡ states.Waiting) ⊎ (told ≡ states.Resting) → tickets ≡ slice_set b.tickets t (marked true (ticket_at b.tickets t)) → Marks b t (Ok tt) (with_tickets b tickets)
 marked_turn b t told tickets is can ts = (subst IsClaimable is (is_claimable told can), ap (with_tickets b) ts)
 
--- ---- the label's atom
+-- ---- the atom of a label
 
-pub live_label : (store : Store) (given l : ℕ) (found : Option (Bor (Atom ℕ))) → is_some found ≡ true → option_copied found ≡ atom_at store given → given ≡ l → (a : Atom ℕ) × (atom_at store l ≡ Some a)
-live_label store given l None some e same = absurd (cc)
-live_label store given l (Some a) some e same = (a.now, sym (e ∙ ap (atom_at store) same))
+-- it is live where the store shows one
+pub live_there : (store : Store) (l : ℕ) (found : Option (Bor (Atom ℕ))) → option_copied found ≡ atom_at store l → IsTrue (is_some found) ↔ ((a : Atom ℕ) × (atom_at store l ≡ Some a))
+live_there store l None e = (λ some. absurd (cc), λ live. absurd (none-some live.0 (e ∙ live.1)))
+live_there store l (Some x) e = (λ some. (x.now, sym e), λ live. refl)
 
 -- ---- the search of a ticket that is held
 
@@ -84,9 +83,9 @@ may_drop b seat t s h not_left live = subst (NoneLeft (space_of b s.label)) h.pl
 
 -- ---- what is kept
 
--- where one ticket is set
-pub kept_set : (b : BookState) (t : ℕ) (x : Ticket) (tickets : List Ticket) → tickets ≡ slice_set b.tickets t x → IsKept (with_ticket b t x) → IsKept (with_tickets b tickets)
-kept_set b t x tickets e k = subst (λ ts. IsKept (with_tickets b ts)) (sym e) k
+-- where one ticket is set, whose candidate is forgotten
+pub forgotten_set : (b : BookState) (t : ℕ) (x : Ticket) (tickets : List Ticket) → tickets ≡ slice_set b.tickets t x → x.goal ≡ (ticket_at b.tickets t).goal → x.position ≡ (ticket_at b.tickets t).position → x.candidate ≡ None → IsKept b → IsKept (with_tickets b tickets)
+forgotten_set b t x tickets e goal place none k = subst (λ ts. IsKept (with_tickets b ts)) (sym e) (kept_forgotten b t x goal place none k)
 
 -- where a goal is dropped that has no trial left
 pub dropped_keeps : (b now : BookState) → b ≡ now → (seat t : ℕ) (s : SearchState) (entries : List (Entry ℕ)) (tickets : List Ticket) → IsHeldSearch now.tickets seat t s → (HasTrialLeft now s → IsTrue false) → entries ≡ b.log ++ record { event = Drop t; seat = seat } ∷ [] → tickets ≡ slice_set b.tickets t ended → IsKept b
@@ -107,7 +106,7 @@ pub judged_keeps : (b n : BookState) (seat t : ℕ) (j : Judgement) → IsToJudg
 judged_keeps b n seat t j (inl h) right ne after k = reports_keep b n seat t j (Ok tt) right (h, ne, after) k
 judged_keeps b n seat t j (inr h) right ne after k =
     let asked : BookState = with_candidate_of b t (Some j.trial) in
-    reports_keep asked n seat t j (Ok tt) right (now_candidate b seat t j.trial h, ne, after ∙ sym (moved_same b t h.label (Some j.trial) j h.holds.holds.goal))
+    reports_keep asked n seat t j (Ok tt) right (now_candidate b seat t j.trial h, ne, after ∙ sym (with_again b t h.label (Some j.trial) (going_on (after_judging j)) h.holds.holds.goal))
     (turns_keep b asked seat t (Ok (turn.Next j.trial)) (next_turned b seat t j.trial h) k)
 
 pub moved_keeps : (b now : BookState) → b ≡ now → (t : ℕ) (j : Judgement) (tickets : List Ticket) → (seat : ℕ) × IsToJudge now seat t j.trial → IsVerdict j.trial j.verdict → j.verdict ≢ Whole → tickets ≡ slice_set b.tickets t (going_on (after_judging j) (ticket_at b.tickets t)) → IsKept b → IsKept (with_tickets b tickets)
@@ -134,12 +133,9 @@ holds_live b now e seat t s h live = subst (λ (n : BookState). HoldsLive n seat
 -- the seat holds a ticket whose goal is live where an atom is found under its label
 pub found_live : (b now : BookState) → b ≡ now → (seat t given : ℕ) (s : SearchState) (found : Option (Bor (Atom ℕ))) → IsHeldSearch now.tickets seat t s → option_copied found ≡ atom_at b.store given → given ≡ s.label → IsTrue (is_some found) ↔ IsHeldLive now seat t
 found_live b now e seat t given s found h is same =
-    (λ some. (s.label, holds_live b now e seat t s h (live_label b.store given s.label found some is same)), λ live. there found is live)
-  where
-    there : (o : Option (Bor (Atom ℕ))) → option_copied o ≡ atom_at b.store given → IsHeldLive now seat t → is_some o ≡ true
-    there (Some a) shows live = refl
-    there None shows live =
-        let goals : Numbered s.label ≡ Numbered live.0 = sym h.holds.goal ∙ live.1.holds.goal in
-        let label : given ≡ live.0 = cc in
-        let z : None ≡ Some live.1.live.0 = shows ∙ ap₂ (λ (n : BookState) (l : ℕ). atom_at n.store l) e label ∙ live.1.live.1 in
-        absurd (cc)
+    let live = live_there b.store s.label found (is ∙ ap (atom_at b.store) same) in (
+      λ some. (s.label, holds_live b now e seat t s h (live.0 some)),
+      λ there.
+          let label : there.0 ≡ s.label = held_label now.tickets t there.0 s.label there.1.holds.goal h.holds.goal in
+          live.1 (subst (λ (n : BookState). IsLive n s.label) (sym e) (subst (IsLive now) label there.1.live)),
+    )

@@ -24,8 +24,7 @@ heads_there v rules log last run place t r kept removed h =
 some_label : (store : Store) (ls : List ℕ) (as' : List (Atom ℕ)) → Carry store ls as' → as' ≢ [] → (l : ℕ) × (among ls l ≡ true)
 some_label store [] [] c some = absurd (some refl)
 some_label store (l ∷ ls) (a ∷ as') c some = (l, among-itself l ls)
-some_label store [] (a ∷ as') c some = absurd c
-some_label store (l ∷ ls) [] c some = absurd c
+some_label store ls as' c some = absurd c
 
 fired_head : (rules : List (Simpagation ℕ)) (log : List (Event ℕ)) → IsLawful rules log → (place t r : ℕ) (kept removed : List ℕ) → slice_get log place ≡ Some (Fire t r kept removed) → (h : ℕ) × (among (kept ++ removed) h ≡ true)
 fired_head rules log lawful place t r kept removed h =

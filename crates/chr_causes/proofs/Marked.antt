@@ -1,7 +1,7 @@
 -- The labels that are marked, by rising label.
 use Rattle.std.proofs.Common.{◌≡◌, ℕ, zero, suc, ◌+◌, ◌<◌, ◌≤◌, Bool, true, false, ◌||◌, ◌==◌, true≢false, List, [], ◌∷◌, ◌++◌, map, length, take, get_or, refl, sym, ◌∙◌, ap, subst, arith, true-eqb, add-one}
 use Rattle.std.proofs.lemmas.Bool.Decides.{nat_tests}
-use Rattle.std.proofs.lemmas.List.{take_more, map-append}
+use Rattle.std.proofs.lemmas.List.{take_more, length-take-le, map-append, append-nil}
 use Rattle.std.specs.List.{AllByRecursion}
 use Rattle.std.specs.List.Sorted.{IsStrictlyIncreasing}
 use Rattle.chr_rule.specs.Rules.{Simpagation}
@@ -62,12 +62,7 @@ taken_more : (marks : List Bool) (i : ℕ) (b : Bool) → i < length marks → g
 taken_more marks i b lt is =
     ap (marked 1) (take_more marks i false lt ∙ ap (λ x. take i marks ++ x ∷ []) is)
     ∙ marked-push 1 (take i marks) b
-    ∙ ap (λ n. marked 1 (take i marks) ++ marked (1 + n) (b ∷ [])) (taken i marks (omega arith))
-  where
-    taken : (i : ℕ) (marks : List Bool) → i ≤ length marks → length (take i marks) ≡ i
-    taken zero marks le = refl
-    taken (suc i) [] le = absurd (omega arith)
-    taken (suc i) (m ∷ ms) le = ap suc (taken i ms (omega arith))
+    ∙ ap (λ n. marked 1 (take i marks) ++ marked (1 + n) (b ∷ [])) (length-take-le i marks (omega arith))
 
 abbrev pub label_of : Cause → ℕ
 label_of c = c.label
@@ -79,11 +74,7 @@ labels_push marks i old new c lt is l more so_far =
     ∙ sym (taken_more marks i true lt is)
 
 pub labels_pass : (marks : List Bool) (i : ℕ) (old : List Cause) → i < length marks → get_or marks i false ≡ false → map label_of old ≡ marked 1 (take i marks) → map label_of old ≡ marked 1 (take (i + 1) marks)
-labels_pass marks i old lt is so_far = so_far ∙ sym (taken_more marks i false lt is ∙ nil (marked 1 (take i marks)))
-  where
-    nil : (xs : List ℕ) → xs ++ [] ≡ xs
-    nil [] = refl
-    nil (x ∷ xs) = ap (λ ys. x ∷ ys) (nil xs)
+labels_pass marks i old lt is so_far = so_far ∙ sym (taken_more marks i false lt is ∙ append-nil (marked 1 (take i marks)))
 
 -- each has its origin
 abbrev pub AllStand : List (Simpagation ℕ) → List (Event ℕ) → List Cause → Type 0
@@ -108,9 +99,3 @@ marked_all rules log label marks list m labels all = record {
     back : (l : ℕ) → IsCause rules log label l → among (marked 1 marks) l ≡ true
     back zero c = absurd (m.none c)
     back (suc k) c = subst (λ n. among (marked 1 marks) n ≡ true) (let e : 1 + k ≡ suc k = omega arith in e) (marked_out 1 marks k ((m.exact k).1 (subst (IsCause rules log label) (let e : suc k ≡ k + 1 = omega arith in e) c)))
-
-pub taken_all : (marks : List Bool) (n : ℕ) → length marks ≤ n → take n marks ≡ marks
-taken_all [] zero le = refl
-taken_all [] (suc n) le = refl
-taken_all (m ∷ ms) zero le = absurd (omega arith)
-taken_all (m ∷ ms) (suc n) le = ap (λ xs. m ∷ xs) (taken_all ms n (omega arith))

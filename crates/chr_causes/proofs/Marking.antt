@@ -1,16 +1,15 @@
 -- Labels that are marked one after another.
-use Rattle.std.proofs.Common.{◌≡◌, ◌≢◌, ℕ, zero, suc, ◌+◌, ◌-◌, ◌<◌, Bool, true, false, ◌||◌, ◌==◌, List, [], ◌∷◌, ◌++◌, length, take, get_or, set, refl, sym, ◌∙◌, ap, subst, arith, true-eqb, get_or-set_other, get_or-set_same}
+use Rattle.std.proofs.Common.{◌≡◌, ◌≢◌, ℕ, ◌+◌, ◌-◌, ◌<◌, Bool, true, false, ◌||◌, ◌==◌, List, [], ◌∷◌, ◌++◌, length, take, get_or, set, refl, sym, ◌∙◌, ap, subst, arith, true-eqb, get_or-set_other, get_or-set_same}
 use Rattle.std.proofs.Math.ListN.{length-set}
 use Rattle.std.proofs.lemmas.List.{take_more}
+use Rattle.std.proofs.lemmas.List.Elements.{All-from_recursion}
 use Rattle.std.proofs.lemmas.Bool.Decides.{nat_tests}
 use Rattle.chr_model.specs.Stores.{among}
 use Rattle.chr_model.proofs.Stores.{among-append}
 use Rattle.chr_causes.specs.Marks.{AreWithin, Adds}
 
 within_at : (n : ℕ) (labels : List ℕ) (i : ℕ) → i < length labels → AreWithin n labels → (0 < get_or labels i 0) × (get_or labels i 0 < n + 1)
-within_at n [] i h all = absurd (omega arith)
-within_at n (l ∷ ls) zero h all = all.0
-within_at n (l ∷ ls) (suc i) h all = within_at n ls i (omega arith) all.1
+within_at n labels i h all = All-from_recursion (λ l. (0 < l) × (l < n + 1)) labels all i 0 h
 
 one_more : (b c d : Bool) (l k : ℕ) (ls : List ℕ) → c ≡ (b || among ls (k + 1)) → (l ≡ k + 1 → d ≡ true) → (l ≢ k + 1 → d ≡ c) → d ≡ (b || among (ls ++ l ∷ []) (k + 1))
 one_more b c d l k ls h same other =

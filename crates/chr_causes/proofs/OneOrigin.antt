@@ -1,8 +1,8 @@
 -- A label has one origin, and the heads for it have lower labels.
-use Rattle.std.proofs.Common.{◌≡◌, ℕ, zero, suc, ◌+◌, ◌<◌, ◌≤◌, true, List, take, slice_get, Option, Some, refl, sym, ◌∙◌, ap, subst, arith}
+use Rattle.std.proofs.Common.{◌≡◌, ℕ, ◌+◌, ◌<◌, ◌≤◌, true, List, take, slice_get, Some, sym, ◌∙◌, ap, ap₂, subst, arith}
 use Rattle.std.specs.List.{sum_by}
 use Rattle.chr_rule.specs.Rules.{Simpagation}
-use Rattle.chr_log.specs.Events.{Event, Post, Activate, Fire, Drop}
+use Rattle.chr_log.specs.Events.{Event, Activate, Fire}
 use Rattle.chr_model.specs.Stores.{among}
 use Rattle.chr_causes.specs.declared.origins.Origin.{Origin}
 use Rattle.chr_causes.specs.Origins.{IsLawful, tickets_of, next_ticket, Makes, IsOrigin}
@@ -13,10 +13,7 @@ use Rattle.chr_causes.proofs.Fitting.{Fits, event_fits}
 
 -- numbers of which neither is below the other
 both_ways : (i j : ℕ) → (i < j → ⊥) → (j < i → ⊥) → i ≡ j
-both_ways zero zero p q = refl
-both_ways zero (suc j) p q = absurd (p (omega arith))
-both_ways (suc i) zero p q = absurd (q (omega arith))
-both_ways (suc i) (suc j) p q = ap suc (both_ways i j (λ h. p (omega arith)) (λ h. q (omega arith)))
+both_ways i j p q = omega arith
 
 -- one entry gives a label
 pub one_place : (rules : List (Simpagation ℕ)) (log : List (Event ℕ)) → IsLawful rules log → (i j t u l : ℕ) → slice_get log i ≡ Some (Activate t l) → slice_get log j ≡ Some (Activate u l) → i ≡ j
@@ -36,41 +33,25 @@ one_maker rules log m k p q t a b =
     let sums : sum_by (tickets_of rules) (take m log) ≡ sum_by (tickets_of rules) (take k log) = ap (λ n. sum_by (tickets_of rules) (take n log)) same in
     (same, omega (arith, a.number, b.number))
 
-above : (i m : ℕ) → (i ≤ m → ⊥) → m < i
-above zero m p = absurd (p (omega arith))
-above (suc i) zero p = omega arith
-above (suc i) (suc m) p = let h : m < i = above i m (λ h. p (omega arith)) in omega arith
-
 -- a ticket below the next one was made before
 pub made_before : (rules : List (Simpagation ℕ)) (log : List (Event ℕ)) (m p t i : ℕ) → Makes rules log m p t → t < next_ticket rules (take i log) → m < i
-made_before rules log m p t i a below =
-    above i m (λ h. omega (arith, a.number, sum_rises (tickets_of rules) log i m h))
+made_before rules log m p t i a below = let not : i ≤ m → ⊥ = λ h. omega (arith, a.number, sum_rises (tickets_of rules) log i m h) in omega arith
 
-abbrev activation : ℕ → ℕ → Option (Event ℕ)
-activation t l = Some (Activate t l)
-
-same_ticket : (t u l k : ℕ) → activation t l ≡ activation u k → t ≡ u
-same_ticket t u l k h = cc
-
-abbrev origin_at : ℕ → ℕ → ℕ → Origin
+abbrev pub origin_at : ℕ → ℕ → ℕ → Origin
 origin_at i m p = record { activated = i; made = m; nth = p }
-
-same_fields : (i j m k p q : ℕ) → i ≡ j → m ≡ k → p ≡ q → origin_at i m p ≡ origin_at j k q
-same_fields i j m k p q x y z = cc
 
 -- a label has one origin
 pub one_origin : (rules : List (Simpagation ℕ)) (log : List (Event ℕ)) → IsLawful rules log → (l : ℕ) (a b : Origin) → IsOrigin rules log l a → IsOrigin rules log l b → a ≡ b
 one_origin rules log lawful l a b p q =
     let place : a.activated ≡ b.activated = one_place rules log lawful a.activated b.activated p.ticket q.ticket l p.gives q.gives in
-    let ticket : p.ticket ≡ q.ticket = same_ticket p.ticket q.ticket l l (sym p.gives ∙ ap (slice_get log) place ∙ q.gives) in
+    let gives : Some (Activate p.ticket l) ≡ Some (Activate q.ticket l) = sym p.gives ∙ ap (slice_get log) place ∙ q.gives in
+    let ticket : p.ticket ≡ q.ticket = cc in
     let maker = one_maker rules log a.made b.made a.nth b.nth q.ticket (subst (λ t. Makes rules log a.made a.nth t) ticket p.makes) q.makes in
-    same_fields a.activated b.activated a.made b.made a.nth b.nth place maker.0 maker.1
+    ap (λ i. origin_at i a.made a.nth) place ∙ ap₂ (origin_at b.activated) maker.0 maker.1
 
 heads_fit : (rules : List (Simpagation ℕ)) (before : List (Event ℕ)) (e : Event ℕ) → Fits rules before e → (h : ℕ) → among (heads_of e) h ≡ true → (0 < h) × (h < sum_by labels_of before + 1)
-heads_fit rules before (Post t a) fit h has = absurd (cc)
-heads_fit rules before (Activate t l) fit h has = absurd (cc)
 heads_fit rules before (Fire t r kept removed) fit h has = fit h has
-heads_fit rules before (Drop t) fit h has = absurd (cc)
+heads_fit rules before e fit h has = absurd (cc)
 
 -- a head for a label is a lower label
 pub head_below : (rules : List (Simpagation ℕ)) (log : List (Event ℕ)) → IsLawful rules log → (l h : ℕ) → IsHeadFor rules log l h → (0 < h) × (h < l)

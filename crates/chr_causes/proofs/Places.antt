@@ -14,6 +14,7 @@ use Rattle.chr_model.specs.Goals.{Goal, Plain, Numbered, Ended, State, goal_at}
 use Rattle.chr_model.specs.Steps.{Simplify, Propagate, Step, Run}
 use Rattle.chr_model.specs.Programs.{Instances}
 use Rattle.chr_model.proofs.Once.{next_fired}
+use Rattle.chr_model.proofs.Quiet.{waiting_open}
 use Rattle.chr_causes.specs.Origins.{added_count, tickets_of}
 
 -- the state before an event, and the run around it
@@ -51,11 +52,9 @@ tickets_fired rules s t r kept removed n (inr h) =
 
 pub step_tickets : (v : Version) (rules : List (Simpagation ℕ)) (s : State) (e : Event ℕ) (n : State) → Step v (Instances rules) s e n → length n.goals ≡ length s.goals + tickets_of rules e
 step_tickets v rules s (Post t a) n h = ap (λ m. length m.goals) h.after ∙ length-append s.goals (Plain a ∷ [])
-step_tickets v rules s (Activate t l) n h =
-    let e : length n.goals ≡ length s.goals = ap (λ m. length m.goals) h.after ∙ length-set s.goals t (Numbered s.next) in omega arith
+step_tickets v rules s (Activate t l) n h = omega (arith, ap (λ m. length m.goals) h.after ∙ length-set s.goals t (Numbered s.next))
 step_tickets v rules s (Fire t r kept removed) n h = tickets_fired rules s t r kept removed n h
-step_tickets v rules s (Drop t) n h =
-    let e : length n.goals ≡ length s.goals = ap (λ m. length m.goals) h.after ∙ length-set s.goals t Ended in omega arith
+step_tickets v rules s (Drop t) n h = omega (arith, ap (λ m. length m.goals) h.after ∙ length-set s.goals t Ended)
 
 pub run_tickets : (v : Version) (rules : List (Simpagation ℕ)) (es : List (Event ℕ)) (s n : State) → Run v (Instances rules) s es n → length n.goals ≡ length s.goals + sum_by (tickets_of rules) es
 run_tickets v rules [] s n run = let e : length n.goals ≡ length s.goals = ap (λ m. length m.goals) run in omega arith
@@ -87,27 +86,22 @@ zero_more : (gs hs : List Goal) → 0 < length gs → get_or gs 0 Ended ≡ Ende
 zero_more [] hs lt h = absurd (omega arith)
 zero_more (g ∷ gs) hs lt h = (omega arith, h)
 
-zero_ended : (gs : List Goal) (t : ℕ) → 0 < length gs → get_or gs 0 Ended ≡ Ended → (0 < length (slice_set gs t Ended)) × (get_or (slice_set gs t Ended) 0 Ended ≡ Ended)
-zero_ended [] t lt h = absurd (omega arith)
-zero_ended (g ∷ gs) zero lt h = (omega arith, refl)
-zero_ended (g ∷ gs) (suc t) lt h = (omega arith, h)
-
-zero_activated : (gs : List Goal) (t n : ℕ) (a : Atom ℕ) → get_or gs t Ended ≡ Plain a → 0 < length gs → get_or gs 0 Ended ≡ Ended → (0 < length (slice_set gs t (Numbered n))) × (get_or (slice_set gs t (Numbered n)) 0 Ended ≡ Ended)
-zero_activated [] t n a at lt h = absurd (omega arith)
-zero_activated (g ∷ gs) zero n a at lt h = absurd (cc)
-zero_activated (g ∷ gs) (suc t) n a at lt h = (omega arith, h)
+zero_set : (gs : List Goal) (t : ℕ) (g : Goal) → (t ≡ 0 → g ≡ Ended) → 0 < length gs → get_or gs 0 Ended ≡ Ended → (0 < length (slice_set gs t g)) × (get_or (slice_set gs t g) 0 Ended ≡ Ended)
+zero_set [] t g first lt h = absurd (omega arith)
+zero_set (x ∷ gs) zero g first lt h = (omega arith, first refl)
+zero_set (x ∷ gs) (suc t) g first lt h = (omega arith, h)
 
 zero_fired : (I : Rules) (s : State) (t r : ℕ) (kept removed : List ℕ) (n : State) → (Simplify I s t r kept removed n ⊎ Propagate I s t r kept removed n) → NoneAtZero s → NoneAtZero n
 zero_fired I s t r kept removed n (inl h) z =
-    let e = zero_ended s.goals t z.0 z.1 in
+    let e = zero_set s.goals t Ended (λ _. refl) z.0 z.1 in
     subst NoneAtZero (sym h.after) (zero_more (slice_set s.goals t Ended) (map Plain h.body) e.0 e.1)
 zero_fired I s t r kept removed n (inr h) z = subst NoneAtZero (sym h.after) (zero_more s.goals (map Plain h.body) z.0 z.1)
 
 step_zero : (v : Version) (I : Rules) (s : State) (e : Event ℕ) (n : State) → Step v I s e n → NoneAtZero s → NoneAtZero n
 step_zero v I s (Post t a) n h z = subst NoneAtZero (sym h.after) (zero_more s.goals (Plain a ∷ []) z.0 z.1)
-step_zero v I s (Activate t l) n h z = subst NoneAtZero (sym h.after) (zero_activated s.goals t s.next h.atom h.plain z.0 z.1)
+step_zero v I s (Activate t l) n h z = subst NoneAtZero (sym h.after) (zero_set s.goals t (Numbered s.next) (λ first. absurd (waiting_open h.atom (sym h.plain ∙ ap (goal_at s) first ∙ z.1))) z.0 z.1)
 step_zero v I s (Fire t r kept removed) n h z = zero_fired I s t r kept removed n h z
-step_zero v I s (Drop t) n h z = subst NoneAtZero (sym h.after) (zero_ended s.goals t z.0 z.1)
+step_zero v I s (Drop t) n h z = subst NoneAtZero (sym h.after) (zero_set s.goals t Ended (λ _. refl) z.0 z.1)
 
 pub run_zero : (v : Version) (I : Rules) (es : List (Event ℕ)) (s n : State) → Run v I s es n → NoneAtZero s → NoneAtZero n
 run_zero v I [] s n run z = subst NoneAtZero (sym run) z

@@ -1,9 +1,10 @@
 -- Makers and origins, entry by entry.
-use Rattle.std.proofs.Common.{◌≡◌, ℕ, zero, suc, ◌+◌, ◌-◌, ◌<◌, ◌≤◌, ◌⊎◌, inl, inr, List, [], ◌∷◌, ◌++◌, length, take, get_or, slice_get, Some, refl, sym, ◌∙◌, ap, subst, arith, add-one}
+use Rattle.std.proofs.Common.{◌≡◌, ℕ, suc, ◌+◌, ◌-◌, ◌<◌, ◌≤◌, ◌⊎◌, inl, inr, List, [], ◌∷◌, ◌++◌, length, take, get_or, slice_get, Some, refl, sym, ◌∙◌, ap, subst, arith, add-one}
 use Rattle.std.specs.List.{sum_by}
 use Rattle.std.specs.Option.{option_map}
 use Rattle.std.proofs.lemmas.List.{length_push}
-use Rattle.std.proofs.lemmas.Option.{slice_get-map, slice_get_read, slice_get_within}
+use Rattle.std.proofs.lemmas.Option.{slice_get-map, slice_get_read, slice_get_within, gets}
+use Rattle.std.proofs.lemmas.Grind.{common_steps}
 use Rattle.chr_rule.specs.Rules.{Simpagation}
 use Rattle.chr_log.specs.declared.events.Event.{Event as CodeEvent}
 use Rattle.chr_log.specs.declared.events.Event.TheVariants as events
@@ -15,6 +16,7 @@ use Rattle.chr_causes.specs.Makers.{IsNew, HasMade}
 use Rattle.chr_causes.proofs.Prefixes.{sum_more, sum_below}
 use Rattle.chr_causes.proofs.Places.{labels_of}
 use Rattle.chr_causes.proofs.Fitting.{Fits, event_fits}
+use Rattle.chr_causes.proofs.OneOrigin.{origin_at}
 
 -- the event at a place
 pub event_read : {Z : Type 0} (events : List (CodeEvent Z)) (i : ℕ) (x : CodeEvent Z) → i < length events → x ≡ get_or events i x → slice_get (events_of events) i ≡ Some (event_of x)
@@ -49,10 +51,8 @@ labels_more log place n e there count = rw add-one (omega (arith, count, sum_mor
 
 -- an event that is no activation gives no label
 pub no_activation : {Z : Type 0} (x : CodeEvent Z) → ((t l : ℕ) → x ≡ events.Activate t l → ⊥) → labels_of (event_of x) ≡ 0
-no_activation (events.Post t a) other = refl
 no_activation (events.Activate t l) other = absurd (other t l refl)
-no_activation (events.Fire t r kept removed) other = refl
-no_activation (events.Drop t) other = refl
+no_activation x other = refl
 
 pub labels_same : {Z : Type 0} (log : List (Event ℕ)) (place n : ℕ) (x : CodeEvent Z) → slice_get log place ≡ Some (event_of x) → labels_of (event_of x) ≡ 0 → n ≡ sum_by labels_of (take place log) → n ≡ sum_by labels_of (take (place + 1) log)
 labels_same log place n x there none count = omega (arith, labels_more log place n (event_of x) there count, none)
@@ -65,14 +65,7 @@ ticket_within rules log lawful place t l n there count =
 
 -- one element more
 pub get_push : {X : Type 0} (xs : List X) (y : X) (k : ℕ) (x : X) → slice_get (xs ++ y ∷ []) k ≡ Some x → (slice_get xs k ≡ Some x) ⊎ ((k ≡ length xs) × (y ≡ x))
-get_push [] y zero x h = inr (refl, cc)
-get_push [] y (suc k) x h = absurd (cc)
-get_push (z ∷ zs) y zero x h = inl h
-get_push (z ∷ zs) y (suc k) x h =
-    elim (get_push zs y k x h) as (λ _. (slice_get zs k ≡ Some x) ⊎ ((suc k ≡ suc (length zs)) × (y ≡ x))) [
-      | inl e ↦ inl e
-      | inr e ↦ inr (ap suc e.0, e.1)
-    ]
+get_push xs y k x h = grind (arith, common_steps, gets)
 
 -- one goal more
 abbrev maker_at : ℕ → ℕ → Maker
@@ -94,9 +87,6 @@ one_made made n old list new so_far more = record {
     by_side : (k : ℕ) (m : Maker) → (slice_get list k ≡ Some m) ⊎ ((k ≡ length list) × (maker_at made n ≡ m)) → (slice_get old k ≡ Some m) ⊎ IsNew made (n + 1) (length old) k m
     by_side k m (inl h) = made_before k m (so_far.each k m h)
     by_side k m (inr e) = inr (subst (IsNew made (n + 1) (length old) k) e.1 (record { made_is = refl; within = omega arith; place_is = omega (arith, e.0, so_far.places) }))
-
-abbrev pub origin_at : ℕ → ℕ → ℕ → Origin
-origin_at i m p = record { activated = i; made = m; nth = p }
 
 pub more_origins : (rules : List (Simpagation ℕ)) (log : List (Event ℕ)) → IsLawful rules log → (place t l : ℕ) (m : Maker) (makers : List Maker) (list : List Origin) → slice_get log place ≡ Some (Activate t l) → slice_get makers (t - 1) ≡ Some m → length list ≡ sum_by labels_of (take place log) → AllMake rules log makers → AllFrom rules log list → AllFrom rules log (list ++ origin_at place m.made m.nth ∷ [])
 more_origins rules log lawful place t l m makers list there at count all from k o h = by_side (get_push list (origin_at place m.made m.nth) k o h)

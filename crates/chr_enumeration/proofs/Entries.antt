@@ -1,5 +1,5 @@
 -- Entries of a store.
-use Rattle.std.proofs.Common.{◌≡◌, ℕ, zero, suc, true, false, ◌||◌, ◌==◌, List, [], ◌∷◌, ◌++◌, take, drop, Some, None, refl, sym, ◌∙◌, ap, subst, subst₂, arith, true-eqb}
+use Rattle.std.proofs.Common.{◌≡◌, ℕ, zero, suc, true, false, ◌||◌, ◌==◌, List, [], ◌∷◌, ◌++◌, take, drop, Some, None, refl, sym, ap, subst, subst₂, arith, true-eqb}
 use Rattle.std.specs.Prelude.{slice_get}
 use Rattle.std.specs.List.{AllByRecursion}
 use Rattle.std.proofs.lemmas.Bool.Decides.{nat_tests}
@@ -36,16 +36,7 @@ entry_at (x ∷ xs) l h =
 pub stored_at : (store : Store) (i : ℕ) (e : ℕ × Atom ℕ) → Distinct (labels store) → slice_get store i ≡ Some e → atom_at store e.0 ≡ Some e.1
 stored_at [] i e d at = let z : None ≡ Some e = at in absurd (cc)
 stored_at (x ∷ xs) zero e d at = let same : x ≡ e = some_is x e at in subst (λ y. atom_at (x ∷ xs) y.0 ≡ Some y.1) same (grind (arith, nat_tests))
-stored_at (x ∷ xs) (suc i) e d at =
-    let there : among (labels xs) e.0 ≡ true = among_at xs i e at in
-    let rest : atom_at xs e.0 ≡ Some e.1 = stored_at xs i e d.1 at in
-    elim (x.0 == e.0) as (λ b. (x.0 == e.0 ≡ b) → atom_at (x ∷ xs) e.0 ≡ Some e.1) [
-      | true ↦ λ t.
-          let away : among (labels xs) e.0 ≡ false = subst (λ l. among (labels xs) l ≡ false) (true-eqb x.0 e.0 (sym t)) d.0 in
-          let z : false ≡ true = sym away ∙ there in
-          absurd (cc)
-      | false ↦ λ t. grind (arith, nat_tests)
-    ] refl
+stored_at (x ∷ xs) (suc i) e d at = grind (arith, nat_tests, among_at xs i e at, stored_at xs i e d.1 at, d.0)
 
 pub carry_at : (store entries : Store) (i : ℕ) (e : ℕ × Atom ℕ) → Carry store (labels entries) (atoms entries) → slice_get entries i ≡ Some e → atom_at store e.0 ≡ Some e.1
 carry_at store [] i e c at = let z : None ≡ Some e = at in absurd (cc)
@@ -56,27 +47,21 @@ carry_at store (x ∷ xs) (suc i) e c at = carry_at store xs i e c.1 at
 pub carried : (store : Store) (ls : List ℕ) (as' : List (Atom ℕ)) → Carry store ls as' → (entries : Store) × (labels entries ≡ ls) × (atoms entries ≡ as')
 carried store [] [] c = ([], refl, refl)
 carried store (l ∷ ls) (a ∷ as') c = let rest = carried store ls as' c.1 in ((l, a) ∷ rest.0, ap (λ xs. l ∷ xs) rest.1, ap (λ xs. a ∷ xs) rest.2)
-carried store [] (a ∷ as') c = absurd c
-carried store (l ∷ ls) [] c = absurd c
+carried store ls as' c = absurd c
 
 pub carry_both : (store : Store) (ls ms : List ℕ) (as' bs : List (Atom ℕ)) → Carry store ls as' → Carry store ms bs → Carry store (ls ++ ms) (as' ++ bs)
 carry_both store [] ms [] bs c d = d
 carry_both store (l ∷ ls) ms (a ∷ as') bs c d = (c.0, carry_both store ls ms as' bs c.1 d)
-carry_both store [] ms (a ∷ as') bs c d = absurd c
-carry_both store (l ∷ ls) ms [] bs c d = absurd c
+carry_both store ls ms as' bs c d = absurd c
 
 pub carry_take : (store : Store) (k : ℕ) (ls : List ℕ) (as' : List (Atom ℕ)) → Carry store ls as' → Carry store (take k ls) (take k as')
-carry_take store zero [] [] c = tt
+carry_take store zero ls as' c = tt
 carry_take store (suc k) [] [] c = tt
-carry_take store zero (l ∷ ls) (a ∷ as') c = tt
 carry_take store (suc k) (l ∷ ls) (a ∷ as') c = (c.0, carry_take store k ls as' c.1)
-carry_take store k [] (a ∷ as') c = absurd c
-carry_take store k (l ∷ ls) [] c = absurd c
+carry_take store (suc k) ls as' c = absurd c
 
 pub carry_drop : (store : Store) (k : ℕ) (ls : List ℕ) (as' : List (Atom ℕ)) → Carry store ls as' → Carry store (drop k ls) (drop k as')
-carry_drop store zero [] [] c = tt
+carry_drop store zero ls as' c = c
 carry_drop store (suc k) [] [] c = tt
-carry_drop store zero (l ∷ ls) (a ∷ as') c = c
 carry_drop store (suc k) (l ∷ ls) (a ∷ as') c = carry_drop store k ls as' c.1
-carry_drop store k [] (a ∷ as') c = absurd c
-carry_drop store k (l ∷ ls) [] c = absurd c
+carry_drop store (suc k) ls as' c = absurd c

@@ -32,10 +32,9 @@ head_is rule n s a at v =
 -- all heads are picked
 fit_by_heads : (hs : List (RuleAtom ℕ)) (ps : Picks) (v : Valuation) → length ps ≡ length hs → AllPicked ps → ((i : ℕ) (e : ℕ × Atom ℕ) → picked_at ps i ≡ Some e → option_map (atom_under v) (slice_get hs i) ≡ Some (Some e.1)) → AreUnder v hs (atoms (picked ps))
 fit_by_heads [] [] v len all f = refl
-fit_by_heads [] (p ∷ ps) v len all f = absurd (omega arith)
-fit_by_heads (h ∷ hs) [] v len all f = absurd (omega arith)
 fit_by_heads (h ∷ hs) (None ∷ ps) v len all f = let z = all.0 in absurd (cc)
 fit_by_heads (h ∷ hs) (Some p ∷ ps) v len all f = ap₂ (λ x xs. x ∷ xs) (some_is (atom_under v h) (Some p.1) (f 0 p refl)) (fit_by_heads hs ps v (omega arith) all.1 (λ i e at. f (suc i) e at))
+fit_by_heads hs ps v len all f = absurd (omega arith)
 
 -- entries that are an instance's, and the picks among them
 pub all_fit : (rule : Simpagation ℕ) (ps : Picks) (entries : Store) (v : Valuation) → HeadsAre rule (atoms entries) v → Fills ps entries → AllFit rule ps v
@@ -65,21 +64,15 @@ no_whole rule store ps binding p all none entries body w f =
     let same : entries ≡ picked ps = filled ps entries all (whole_length rule store entries body w ∙ sym p.heads) f in
     none body (subst (λ es. IsInstance rule (atoms es) body) same w.instance)
 
--- the labels of a full list of picks
-pub labels_front : (k : ℕ) (ps : Picks) → AllPicked ps → labels (picked (take k ps)) ≡ take k (labels (picked ps))
-labels_front k ps all = ap labels (picked_take k ps all) ∙ sym (take-map (λ (x : ℕ × Atom ℕ). x.0) k (picked ps))
-
-pub labels_back : (k : ℕ) (ps : Picks) → AllPicked ps → labels (picked (drop k ps)) ≡ drop k (labels (picked ps))
-labels_back k ps all = ap labels (picked_drop k ps all) ∙ sym (drop-map (λ (x : ℕ × Atom ℕ). x.0) k (picked ps))
-
+-- the match of a full list of picks
 pub is_match : {A : Type 0} (rule : Simpagation ℕ) (store : Store) (ps : Picks) (binding : List (Option (Value ℕ))) (m : Match A) → IsPartial rule store ps binding → AllPicked ps → IsInstanceUnder rule (atoms (picked ps)) m.binding → m.kept.items ≡ labels (picked (take (length rule.kept) ps)) → m.removed.items ≡ labels (picked (drop (length rule.kept) ps)) → IsMatch rule store (Fills ps) m
 is_match rule store ps binding m p all i kept removed = record {
   entries = picked ps;
   such = fills_itself ps all;
   under = i;
   whole = record { instance = i.instance; distinct = p.distinct; there = p.there };
-  kept = kept ∙ labels_front (length rule.kept) ps all;
-  removed = removed ∙ labels_back (length rule.kept) ps all;
+  kept = kept ∙ ap labels (picked_take (length rule.kept) ps all) ∙ sym (take-map (λ (x : ℕ × Atom ℕ). x.0) (length rule.kept) (picked ps));
+  removed = removed ∙ ap labels (picked_drop (length rule.kept) ps all) ∙ sym (drop-map (λ (x : ℕ × Atom ℕ). x.0) (length rule.kept) (picked ps));
 }
 
 -- one entry more
@@ -118,8 +111,12 @@ no_fit_more rule store ps i e binding p o n is none entries body w f =
     let both = (all_fit_more rule ps i e v o.within o.none).0 (all_fit rule (slice_set ps i (Some e)) entries v (whole_fits rule store entries body w) f) in
     none v ((p.fit.exactly v).1 both.0) (subst (λ k. HeadIs rule k e.1 v) (sym is) both.1)
 
+-- a match whose entries are such too
+match_as : {A : Type 0} {rule : Simpagation ℕ} {store : Store} {Such : Store → Type 0} {m : Match A} (Other : Store → Type 0) (f : IsMatch rule store Such m) → Other f.entries → IsMatch rule store Other m
+match_as Other f other = record { entries = f.entries; such = other; under = f.under; whole = f.whole; kept = f.kept; removed = f.removed }
+
 pub match_less : {A : Type 0} (rule : Simpagation ℕ) (store : Store) (ps : Picks) (i : ℕ) (e : ℕ × Atom ℕ) (m : Match A) → IsOpen ps i → IsMatch rule store (Fills (slice_set ps i (Some e))) m → IsMatch rule store (Fills ps) m
-match_less rule store ps i e m o f = record { entries = f.entries; such = fills_less ps i e f.entries o.none f.such; under = f.under; whole = f.whole; kept = f.kept; removed = f.removed }
+match_less rule store ps i e m o f = match_as (Fills ps) f (fills_less ps i e f.entries o.none f.such)
 
 -- no entry of the store is left to try
 pub no_more : (rule : Simpagation ℕ) (store : Store) (ps : Picks) (i : ℕ) (binding : List (Option (Value ℕ))) → IsPartial rule store ps binding → IsOpen ps i → AllByRecursion (λ (e : ℕ × Atom ℕ). NoMatch rule store (Fills (slice_set ps i (Some e)))) store → NoMatch rule store (Fills ps)
@@ -128,12 +125,10 @@ no_more rule store ps i binding p o all entries body w f =
     let heads = p.heads in
     let inside = o.within in
     let within : i < length entries = omega arith in
-    by_entry (slice_get entries i) refl within
-  where
-    by_entry : (o' : Option (ℕ × Atom ℕ)) → slice_get entries i ≡ o' → i < length entries → ⊥
-    by_entry None at h = let z : None ≡ Some _ = sym at ∙ slice_get-get_or entries i (0, record { name = 0; args = [] }) h in absurd (cc)
-    by_entry (Some e) at h =
-        all_there (λ (x : ℕ × Atom ℕ). NoMatch rule store (Fills (slice_set ps i (Some x)))) store e.0 e.1 all (carry_at store entries i e w.there at) entries body w (fills_more ps i e entries o.within f at)
+    let none : ℕ × Atom ℕ = (0, record { name = 0; args = [] }) in
+    let e = get_or entries i none in
+    let at = slice_get-get_or entries i none within in
+    all_there (λ (x : ℕ × Atom ℕ). NoMatch rule store (Fills (slice_set ps i (Some x)))) store e.0 e.1 all (carry_at store entries i e w.there at) entries body w (fills_more ps i e entries o.within f at)
 
 -- nothing is picked
 pub partial_none : (rule : Simpagation ℕ) (store : Store) (n : ℕ) → n ≡ length rule.kept + length rule.removed → IsPartial rule store (replicate n None) (replicate rule.variables None)
@@ -194,14 +189,7 @@ picks_one n i x few =
     ∙ take_written n nothing i (Some (x.0, x.1.now)) ∙ ap (λ qs. slice_set qs i (Some (x.0, x.1.now))) rest
 
 pub match_has : {A : Type 0} (rule : Simpagation ℕ) (store : Store) (ps : Picks) (i : ℕ) (e : ℕ × Atom ℕ) (m : Match A) → i < length ps → IsMatch rule store (Fills (slice_set ps i (Some e))) m → IsMatch rule store (Has e.0) m
-match_has rule store ps i e m within f = record {
-  entries = f.entries;
-  such = among_at f.entries i e (fills_at ps i e f.entries within f.such);
-  under = f.under;
-  whole = f.whole;
-  kept = f.kept;
-  removed = f.removed;
-}
+match_has rule store ps i e m within f = match_as (Has e.0) f (among_at f.entries i e (fills_at ps i e f.entries within f.such))
 
 -- the entry stands at none of the heads
 pub no_has : (rule : Simpagation ℕ) (store : Store) (n label : ℕ) (a : Atom ℕ) → n ≡ length rule.kept + length rule.removed → atom_at store label ≡ Some a → ((i : ℕ) → i < n → NoMatch rule store (Fills (slice_set (replicate n None) i (Some (label, a))))) → NoMatch rule store (Has label)

@@ -1,6 +1,7 @@
 -- What is picked, one entry more at a time.
-use Rattle.std.proofs.Common.{◌≡◌, ◌≢◌, ◌↔◌, ℕ, zero, suc, ◌<◌, true, false, ◌||◌, ◌==◌, [], ◌∷◌, length, take, drop, replicate, Some, None, refl, sym, ◌∙◌, ap, ap₂, subst, arith, true-eqb, slice_set, get_or-set_same, get_or-set_other}
+use Rattle.std.proofs.Common.{◌≡◌, ◌≢◌, ◌↔◌, ℕ, zero, suc, ◌<◌, true, false, ◌||◌, ◌==◌, [], ◌∷◌, length, take, drop, replicate, Some, None, refl, sym, ◌∙◌, ap, ap₂, subst, ⊎_elim, arith, slice_set, get_or-set_same, get_or-set_other}
 use Rattle.std.specs.Prelude.{slice_get}
+use Rattle.std.proofs.lemmas.Bool.{cases_eq}
 use Rattle.std.proofs.lemmas.Bool.Decides.{nat_tests}
 use Rattle.chr_value.specs.Atoms.{Atom}
 use Rattle.chr_value.proofs.Chosen.{some_is}
@@ -59,13 +60,10 @@ fills_at ps i e entries within f = f i e (get_or-set_same ps i (Some e) None wit
 
 pub set_cases : (ps : Picks) (i j : ℕ) (e x : ℕ × Atom ℕ) (P : ℕ → ℕ × Atom ℕ → Type 0) → i < length ps → picked_at (slice_set ps i (Some e)) j ≡ Some x → P i e → (picked_at ps j ≡ Some x → P j x) → P j x
 set_cases ps i j e x P within at here there =
-    elim (j == i) as (λ b. (j == i ≡ b) → P j x) [
-      | true ↦ λ t.
-          let same : j ≡ i = true-eqb j i (sym t) in
-          let both : Some e ≡ Some x = sym (get_or-set_same ps i (Some e) None within) ∙ ap (picked_at (slice_set ps i (Some e))) (sym same) ∙ at in
-          subst (λ y. P j y) (some_is e x both) (subst (λ k. P k e) (sym same) here)
-      | false ↦ λ t. there (sym (get_or-set_other ps i j (Some e) None (grind (arith, nat_tests))) ∙ at)
-    ] refl
+    ⊎_elim
+    (λ same. subst (λ y. P j y) (some_is e x (sym (get_or-set_same ps i (Some e) None within) ∙ ap (picked_at (slice_set ps i (Some e))) (sym same) ∙ at)) (subst (λ k. P k e) (sym same) here))
+    (λ other. there (sym (get_or-set_other ps i j (Some e) None other) ∙ at))
+    (cases_eq j i)
 
 pub fills_more : (ps : Picks) (i : ℕ) (e : ℕ × Atom ℕ) (entries : Store) → i < length ps → Fills ps entries → slice_get entries i ≡ Some e → Fills (slice_set ps i (Some e)) entries
 fills_more ps i e entries within f here j x at = set_cases ps i j e x (λ k y. slice_get entries k ≡ Some y) within at here (λ old. f j x old)
@@ -79,10 +77,9 @@ fills_itself (Some p ∷ ps) all (suc i) e at = fills_itself ps all.1 i e at
 
 pub filled : (ps : Picks) (entries : Store) → AllPicked ps → length entries ≡ length ps → Fills ps entries → entries ≡ picked ps
 filled [] [] all len f = refl
-filled [] (x ∷ xs) all len f = absurd (omega arith)
-filled (p ∷ ps) [] all len f = absurd (omega arith)
 filled (None ∷ ps) (x ∷ xs) all len f = let z = all.0 in absurd (cc)
 filled (Some p ∷ ps) (x ∷ xs) all len f = ap₂ (λ y ys. y ∷ ys) (some_is x p (f 0 p refl)) (filled ps xs all.1 (omega arith) (λ i e at. f (suc i) e at))
+filled ps xs all len f = absurd (omega arith)
 
 pub picked_take : (k : ℕ) (ps : Picks) → AllPicked ps → picked (take k ps) ≡ take k (picked ps)
 picked_take zero ps all = refl

@@ -1,9 +1,9 @@
 -- Entries that are an instance of a rule, and labelled instances.
-use Rattle.std.proofs.Common.{◌≡◌, ℕ, zero, suc, ◌<◌, true, false, List, [], ◌∷◌, ◌++◌, length, take, drop, Some, None, refl, sym, ◌∙◌, ap, ap₂, subst, get_or}
-use Rattle.std.specs.Prelude.{slice_get}
+use Rattle.std.proofs.Common.{◌≡◌, ℕ, zero, suc, ◌<◌, List, [], ◌∷◌, ◌++◌, length, take, drop, Some, None, refl, sym, ◌∙◌, ap, ap₂, subst, get_or}
 use Rattle.std.specs.List.{AllByRecursion}
 use Rattle.std.proofs.lemmas.List.{take_at, drop_at, take-append-drop}
-use Rattle.std.proofs.lemmas.Option.{slice_get_read}
+use Rattle.std.proofs.lemmas.Bool.{false_from_ne_true}
+use Rattle.std.proofs.lemmas.Option.{none-some, slice_get_read}
 use Rattle.chr_value.specs.Atoms.{Atom}
 use Rattle.chr_value.proofs.Chosen.{some_is}
 use Rattle.chr_rule.specs.Rules.{Simpagation, rule_at}
@@ -65,31 +65,19 @@ labelled rules store r rule entries body at w = record {
 
 all_numbered : (P : Simpagation ℕ → Type 0) (rules : List (Simpagation ℕ)) (r : ℕ) (rule : Simpagation ℕ) → AllByRecursion P rules → rule_at rules r ≡ Some rule → P rule
 all_numbered P rules zero rule all at = let z : None ≡ Some rule = at in absurd (cc)
-all_numbered P rules (suc k) rule all at = by_place rules k all at
-  where
-    by_place : (rs : List (Simpagation ℕ)) (k : ℕ) → AllByRecursion P rs → slice_get rs k ≡ Some rule → P rule
-    by_place [] k a e = let z : None ≡ Some rule = e in absurd (cc)
-    by_place (x ∷ xs) zero a e = subst P (some_is x rule e) a.0
-    by_place (x ∷ xs) (suc k) a e = by_place xs k a.1 e
+all_numbered P [] (suc k) rule all at = let z : None ≡ Some rule = at in absurd (cc)
+all_numbered P (x ∷ xs) (suc zero) rule all at = subst P (some_is x rule at) all.0
+all_numbered P (x ∷ xs) (suc (suc k)) rule all at = all_numbered P xs (suc k) rule all.1 at
 
 pub none_found : (rules : List (Simpagation ℕ)) (store : Store) (label : ℕ) → AllByRecursion (λ (rule : Simpagation ℕ). NoMatch rule store (Has label)) rules → NoneWith (Instances rules) store label
-none_found rules store label all r kept removed body i =
-    elim (among (kept ++ removed) label) as (λ b. (among (kept ++ removed) label ≡ b) → b ≡ false) [
-      | true ↦ λ has.
-          let e = as_entries rules store r kept removed body i in
-          absurd (all_numbered (λ (rule : Simpagation ℕ). NoMatch rule store (Has label)) rules r e.rule all e.at e.entries body e.whole (ap (λ ls. among ls label) e.labels_are ∙ has))
-      | false ↦ λ _. refl
-    ] refl
+none_found rules store label all r kept removed body i = false_from_ne_true (among (kept ++ removed) label) (λ has.
+    let e = as_entries rules store r kept removed body i in
+    all_numbered (λ (rule : Simpagation ℕ). NoMatch rule store (Has label)) rules r e.rule all e.at e.entries body e.whole (ap (λ ls. among ls label) e.labels_are ∙ has))
 
 pub none_there : (rules : List (Simpagation ℕ)) (store : Store) (label : ℕ) → atom_at store label ≡ None → NoneWith (Instances rules) store label
-none_there rules store label away r kept removed body i =
-    elim (among (kept ++ removed) label) as (λ b. (among (kept ++ removed) label ≡ b) → b ≡ false) [
-      | true ↦ λ has.
-          let there = Labelled-there (Instances rules) store r kept removed body label has i in
-          let z : None ≡ Some there.0 = sym away ∙ there.1 in
-          absurd (cc)
-      | false ↦ λ _. refl
-    ] refl
+none_there rules store label away r kept removed body i = false_from_ne_true (among (kept ++ removed) label) (λ has.
+    let there = Labelled-there (Instances rules) store r kept removed body label has i in
+    none-some there.0 (sym away ∙ there.1))
 
 pub is_found : {A : Type 0} (rules : List (Simpagation ℕ)) (store : Store) (label : ℕ) (rule : Simpagation ℕ) (m : Match A) (f : Found A) → rule_at rules f.rule ≡ Some rule → f.kept.items ≡ m.kept.items → f.removed.items ≡ m.removed.items → f.binding ≡ m.binding → IsMatch rule store (Has label) m → IsFound rules store label f
 is_found rules store label rule m f at kept removed binding i =

@@ -48,4 +48,4 @@ changed {Z} {L} {x} first slots t f w shows live is becomes =
 -- where no ticket below n is marked then
 pub still_queued : {Z : Type 0} {m : ℕ} {L : List Ticket} {x : CodeTicket Z} (first : ℕ) (slots : List (Slot Z)) (t n : ℕ) (f : Ticket → Ticket) (w : CodeTicket Z) → AreQueued first slots m → listed first slots ≡ L → (ticket_at L t ≡ ended → ⊥) → Some x ≡ get_or slots (t - first) (Some x) → (ticket_at L t ≡ shown_ticket x → shown_ticket w ≡ f (shown_ticket x)) → n ≤ m → (t < n → (f (ticket_at L t)).stray ≡ false) → AreQueued first (set slots (t - first) (Some w)) n
 still_queued {Z} {m} {L} {x} first slots t n f w queued shows live is becomes le unmarked =
-    kept n (f (ticket_at L t)) w (stands (open_at shows live)) queued shows (changed first slots t f w shows live is becomes) le unmarked
+    kept n (f (ticket_at L t)) (Some w) queued shows (changed first slots t f w shows live is becomes) (λ z. refl) le unmarked

@@ -1,16 +1,15 @@
 -- Tickets that come and go at the ends of the queue.
 use Rattle.std.proofs.Common.{◌≡◌, ℕ, zero, suc, ◌+◌, ◌-◌, ◌^◌, ◌%◌, ◌<◌, ◌≤◌, min, false, List, [], ◌∷◌, ◌++◌, map, Some, None, length, take, drop, get_or, set, replicate, refl, sym, ap, subst, ◌∙◌, ⊎_elim, arith, append-nil, append_assoc}
 use Rattle.std.specs.Option.{IsSome}
-use Rattle.std.proofs.lemmas.Bool.{cases_lt}
-use Rattle.std.proofs.lemmas.List.{get_or_past, get_or_append_left, get_or-append_right, get_or-take, length-append, length-take, length-replicate, map-append, take-append-le, take-map, take-replicate, replicate-append-replicate}
-use Rattle.std.proofs.Math.ListN.{length-set}
+use Rattle.std.proofs.lemmas.Bool.{cases_lt, cases_eq}
+use Rattle.std.proofs.lemmas.List.{get_or_past, get_or_append_left, get_or_push, get_or-take, length-append, length-take, length-replicate, map-append, take-append-le, take-map, take-replicate, replicate-append-replicate}
 use Rattle.std.proofs.Math.Seq.{take-append-add}
 use Rattle.chr_model.specs.Goals.{Ended}
 use Rattle.chr_calls.specs.Tickets.{Ticket, ended, ticket_at, AreQuiet}
 use Rattle.chr_tickets.specs.declared.ticket.Ticket.{Ticket as CodeTicket}
 use Rattle.chr_tickets.specs.Open.{shown_ticket}
 use Rattle.chr_tickets.specs.Listed.{Slot, shown_or_ended, listed, StartsOpen, AreUnmarked, AreQueued}
-use Rattle.chr_tickets.proofs.Listed.{placed, put, read_before, read_at, read_past, unmarked_set}
+use Rattle.chr_tickets.proofs.Listed.{placed, put, read_before, read_at, read_past, unmarked_set, kept}
 use Rattle.chr_tickets.proofs.States.{shown_open}
 
 -- ---- the first slot goes
@@ -31,11 +30,6 @@ ended_first {Z} {first} t k (slot ∷ slots) rest g e at none some is = popped f
 
 -- ---- a slot behind the first is emptied
 
-starts_behind : {Z : Type 0} (slots : List (Slot Z)) (k : ℕ) → 0 < k → StartsOpen slots → StartsOpen (set slots k None)
-starts_behind [] k behind h = h
-starts_behind (slot ∷ slots) zero behind h = absurd (omega arith)
-starts_behind (slot ∷ slots) (suc k) behind h = h
-
 -- no mark comes where a ticket ends
 pub unmarked_end : {Z : Type 0} {first m : ℕ} {slots : List (Slot Z)} {L M : List Ticket} (t : ℕ) → AreQueued first slots m → listed first slots ≡ L → M ≡ set L t ended → AreUnmarked M m
 unmarked_end {Z} {first} {m} {slots} {L} t g e after = subst (λ xs. AreUnmarked xs m) (sym after) (unmarked_set L m m t ended (subst (λ xs. AreUnmarked xs m) e g.marks) (omega arith) (λ l. refl))
@@ -44,12 +38,7 @@ pub ended_behind : {Z : Type 0} {first m : ℕ} {slots : List (Slot Z)} {L : Lis
 ended_behind t k g e at within = put None (placed t k g at within) e
 
 pub queued_behind : {Z : Type 0} {first m : ℕ} {slots : List (Slot Z)} {L : List Ticket} (t k : ℕ) → AreQueued first slots m → listed first slots ≡ L → (first + k) % 2 ^ 64 ≡ t → k < length slots → 0 < k → AreQueued first (set slots k None) m
-queued_behind {Z} {first} {m} {slots} t k g e at within behind = record {
-  some = g.some;
-  fits = (let l = length-set slots k None in let fits = g.fits in omega arith);
-  starts = starts_behind slots k behind g.starts;
-  marks = unmarked_end t g e (ended_behind t k g e at within);
-}
+queued_behind t k g e at within behind = kept _ ended None g e (ended_behind t k g e at within) (λ z. absurd (omega arith)) (omega arith) (λ l. refl)
 
 -- ---- a slot comes last
 
@@ -65,12 +54,11 @@ pub unmarked_push : (L : List Ticket) (m : ℕ) (x : Ticket) → AreUnmarked L m
 unmarked_push L m x u h t l =
     ⊎_elim
     (λ w. ap (λ (y : Ticket). y.stray) (get_or_append_left L (x ∷ []) ended t w) ∙ u t l)
-    (λ past. ap (λ (y : Ticket). y.stray) (get_or-append_right L (x ∷ []) (length L) t ended refl past) ∙ only (t - length L))
+    (λ past. ⊎_elim
+    (λ last. ap (λ (y : Ticket). y.stray) (get_or_push L x ended t (sym last)) ∙ h)
+    (λ out. ap (λ (y : Ticket). y.stray) (get_or_past (L ++ x ∷ []) t ended (let e = length-append L (x ∷ []) in omega arith)))
+    (cases_eq t (length L)))
     (cases_lt t (length L))
-  where
-    only : (k : ℕ) → (ticket_at (x ∷ []) k).stray ≡ false
-    only zero = h
-    only (suc k) = refl
 
 pub queued_push : {Z : Type 0} (first m : ℕ) (slots : List (Slot Z)) (x : CodeTicket Z) → AreQueued first slots m → first + length slots + 1 < 2 ^ 64 → (shown_ticket x).stray ≡ false → AreQueued first (slots ++ Some x ∷ []) m
 queued_push first m slots x g l h = record {
@@ -131,11 +119,12 @@ unfolding listed
 listed_none Z = refl
 
 pub queued_none : {Z : Type 0} (m : ℕ) → AreQueued {Z = Z} 1 [] m
-queued_none {Z} m = record { some = omega arith; fits = omega arith; starts = tt; marks = λ t l. ap (λ xs. (ticket_at xs t).stray) (listed_none Z) ∙ none t }
+unfolding listed
+queued_none m = record { some = omega arith; fits = omega arith; starts = tt; marks = none }
   where
-    none : (t : ℕ) → (ticket_at (ended ∷ []) t).stray ≡ false
-    none zero = refl
-    none (suc t) = refl
+    none : (t : ℕ) → t < m → (ticket_at (ended ∷ []) t).stray ≡ false
+    none zero l = refl
+    none (suc t) l = refl
 
 -- ---- no ticket is open
 

@@ -1,10 +1,11 @@
 -- The list of all tickets, and the queue of those that may be open.
-use Rattle.std.proofs.Common.{◌≡◌, ℕ, zero, suc, ◌+◌, ◌-◌, ◌^◌, ◌%◌, ◌<◌, ◌≤◌, false, List, [], ◌∷◌, ◌++◌, map, Some, length, set, get_or, replicate, refl, sym, ap, subst, ◌∙◌, ⊎_elim, arith}
-use Rattle.std.proofs.lemmas.Bool.{cases_lt, cases_eq}
-use Rattle.std.proofs.lemmas.List.{get_or-set_same, get_or-set_other, get_or_past, get_or_append_left, get_or-append_right, get_or-map, get_or-replicate, set-append_right, length-append, length-map, length-replicate, map-set}
+use Rattle.std.proofs.Common.{◌≡◌, ℕ, zero, suc, ◌+◌, ◌-◌, ◌^◌, ◌%◌, ◌<◌, ◌≤◌, false, List, [], ◌∷◌, ◌++◌, map, length, set, get_or, replicate, refl, sym, ap, subst, ◌∙◌, ⊎_elim, arith}
+use Rattle.std.specs.Option.{IsSome}
+use Rattle.std.proofs.lemmas.Bool.{cases_lt}
+use Rattle.std.proofs.lemmas.List.{get_or_past, get_or_append_left, get_or-append_right, get_or-map, get_or-replicate, set-append_right, length-append, length-map, length-replicate, map-set}
 use Rattle.std.proofs.Math.ListN.{length-set}
 use Rattle.chr_calls.specs.Tickets.{Ticket, ended, ticket_at}
-use Rattle.chr_tickets.specs.declared.ticket.Ticket.{Ticket as CodeTicket}
+use Rattle.chr_calls.proofs.Tickets.{is_set, stands, after_set}
 use Rattle.chr_tickets.specs.Listed.{Slot, shown_or_ended, listed, StartsOpen, AreUnmarked, AreQueued}
 
 pub length_listed : {Z : Type 0} (first : ℕ) (slots : List (Slot Z)) → length (listed first slots) ≡ first + length slots
@@ -47,13 +48,6 @@ missing {Z} {first} {m} {slots} {L} t k g e is small past =
     (λ l. read_past first slots t (let fits = g.fits in omega arith))
     (cases_lt t first)
 
-pub stands : {Z : Type 0} {first m : ℕ} {slots : List (Slot Z)} {L : List Ticket} (t k : ℕ) → AreQueued first slots m → listed first slots ≡ L → (first + k) % 2 ^ 64 ≡ t → k < 2 ^ 64 → (ticket_at L t ≡ ended → ⊥) → Stands first slots t k
-stands {Z} {first} {m} {slots} {L} t k g e is small live =
-    ⊎_elim
-    (λ l. placed t k g is l)
-    (λ past. absurd (live (missing t k g e is small past)))
-    (cases_lt k (length slots))
-
 -- what the list has there
 pub here : {Z : Type 0} {first t k : ℕ} {slots : List (Slot Z)} {L : List Ticket} {slot : Slot Z} → Stands first slots t k → listed first slots ≡ L → slot ≡ get_or slots k slot → ticket_at L t ≡ shown_or_ended slot
 here {Z} {first} {t} {k} {slots} {L} {slot} s e is = ap (λ xs. ticket_at xs t) (sym e) ∙ ap (λ u. ticket_at (listed first slots) u) (sym s.at) ∙ read_at first slots k slot s.within is
@@ -69,29 +63,25 @@ listed_set first slots k slot =
 pub put : {Z : Type 0} {first t k : ℕ} {slots : List (Slot Z)} {L : List Ticket} (slot : Slot Z) → Stands first slots t k → listed first slots ≡ L → listed first (set slots k slot) ≡ set L t (shown_or_ended slot)
 put {Z} {first} {t} {k} {slots} {L} slot s e = listed_set first slots k slot ∙ ap (λ u. set (listed first slots) u (shown_or_ended slot)) s.at ∙ ap (λ xs. set xs t (shown_or_ended slot)) e
 
-starts_set : {Z : Type 0} (slots : List (Slot Z)) (k : ℕ) (x : CodeTicket Z) → StartsOpen slots → StartsOpen (set slots k (Some x))
-starts_set [] k x h = h
-starts_set (slot ∷ slots) zero x h = refl
-starts_set (slot ∷ slots) (suc k) x h = h
+pub starts_set : {Z : Type 0} (slots : List (Slot Z)) (k : ℕ) (slot : Slot Z) → (k ≡ 0 → IsSome slot) → StartsOpen slots → StartsOpen (set slots k slot)
+starts_set [] k slot some h = h
+starts_set (first ∷ slots) zero slot some h = some refl
+starts_set (first ∷ slots) (suc k) slot some h = h
 
 -- ---- marks
 
 pub unmarked_set : (L : List Ticket) (m n t : ℕ) (x : Ticket) → AreUnmarked L m → n ≤ m → (t < n → x.stray ≡ false) → AreUnmarked (set L t x) n
-unmarked_set L m n t x u le h q l =
-    ⊎_elim
-    (λ same. ⊎_elim
-    (λ within. ap (λ (y : Ticket). y.stray) (ap (λ z. ticket_at (set L t x) z) same ∙ get_or-set_same L t x ended within) ∙ h (omega arith))
-    (λ past. ap (λ (y : Ticket). y.stray) (get_or_past (set L t x) q ended (let e = length-set L t x in omega arith)))
-    (cases_lt t (length L)))
-    (λ other. ap (λ (y : Ticket). y.stray) (get_or-set_other L t q x ended other) ∙ u q (omega arith))
-    (cases_eq q t)
+unmarked_set L m n t x u le h q l = elim (after_set L t x q) [
+  | is_set same within is ↦ ap (λ (y : Ticket). y.stray) is ∙ h (omega arith)
+  | stands is ↦ ap (λ (y : Ticket). y.stray) is ∙ u q (omega arith)
+]
 
--- the queue after a change of an open slot, which makes x of its ticket
-pub kept : {Z : Type 0} {first t k m : ℕ} {slots : List (Slot Z)} {L : List Ticket} (n : ℕ) (x : Ticket) (y : CodeTicket Z) → Stands first slots t k → AreQueued first slots m → listed first slots ≡ L → listed first (set slots k (Some y)) ≡ set L t x → n ≤ m → (t < n → x.stray ≡ false) → AreQueued first (set slots k (Some y)) n
-kept {Z} {first} {t} {k} {m} {slots} {L} n x y s g e after le h = record {
+-- the queue after a change of a slot, which makes x of its ticket
+pub kept : {Z : Type 0} {first t k m : ℕ} {slots : List (Slot Z)} {L : List Ticket} (n : ℕ) (x : Ticket) (slot : Slot Z) → AreQueued first slots m → listed first slots ≡ L → listed first (set slots k slot) ≡ set L t x → (k ≡ 0 → IsSome slot) → n ≤ m → (t < n → x.stray ≡ false) → AreQueued first (set slots k slot) n
+kept {Z} {first} {t} {k} {m} {slots} {L} n x slot g e after some le h = record {
   some = g.some;
-  fits = (let l = length-set slots k (Some y) in let fits = g.fits in omega arith);
-  starts = starts_set slots k y g.starts;
+  fits = (let l = length-set slots k slot in let fits = g.fits in omega arith);
+  starts = starts_set slots k slot some g.starts;
   marks = subst (λ xs. AreUnmarked xs n) (sym after) (unmarked_set L m n t x (subst (λ xs. AreUnmarked xs m) e g.marks) le h);
 }
 

@@ -1,8 +1,8 @@
 -- What is known of a ticket by its state.
-use Rattle.std.proofs.Common.{◌≡◌, ℕ, zero, suc, ◌<◌, ◌≤◌, Bool, true, false, nat_lt, if◌then◌else◌, List, Option, length, refl, sym, ap, ◌∙◌, arith}
+use Rattle.std.proofs.Common.{◌≡◌, ℕ, zero, suc, ◌<◌, ◌≤◌, Bool, List, Option, length, refl, sym, ap, ◌∙◌, arith}
 use Rattle.std.proofs.lemmas.Bool.{false≢true}
 use Rattle.std.proofs.lemmas.Bool.Decides.{nat_tests}
-use Rattle.chr_model.specs.Goals.{Goal, Plain, Numbered, Ended}
+use Rattle.chr_model.specs.Goals.{Goal, Numbered, Ended}
 use Rattle.chr_calls.specs.declared.answers.TicketState.{TicketState}
 use Rattle.chr_calls.specs.declared.answers.TicketState.TheVariants as states
 use Rattle.chr_calls.specs.Tickets.{Ticket, ended, ticket_at, state_with, state_of, marked, IsActive, IsClaimable, waits, rests, IsStray}
@@ -28,24 +28,19 @@ shown_marked (goals.Active search candidate holder) mark other = refl
 
 pub state_found : (xs : List Ticket) (t : ℕ) (s : TicketState) → state_of xs t ≡ s → (s ≡ states.Unknown → ⊥) → state_in (ticket_at xs t) ≡ s
 state_found xs zero s e known = absurd (known (sym e))
-state_found xs (suc t) s e known =
-    elim (nat_lt (suc t) (length xs)) as (λ b. (if b then state_in (ticket_at xs (suc t)) else states.Unknown) ≡ s → state_in (ticket_at xs (suc t)) ≡ s) [ true ↦ λ k. k | false ↦ λ k. absurd (known (sym k)) ] e
+state_found xs (suc t) s e known = grind (arith, nat_tests)
 
 pub state_known : (xs : List Ticket) (t : ℕ) → 1 ≤ t → t < length xs → state_of xs t ≡ state_in (ticket_at xs t)
 state_known xs zero one l = absurd (omega arith)
 state_known xs (suc t) one l = grind (arith, nat_tests)
 
 active_by : (goal : Goal) (holder : Option ℕ) → state_with goal holder ≡ states.Resting → IsActiveGoal goal
-active_by (Plain a) holder e = absurd (cc)
 active_by (Numbered l) holder e = (l, refl)
-active_by Ended holder e = absurd (cc)
+active_by g holder e = absurd (cc)
 
 claimable : (s : TicketState) → IsClaimable s → (s ≡ states.Unknown → ⊥) × (s ≡ states.Ended → ⊥)
-claimable states.Unknown x = elim x [ ]
-claimable states.Waiting waits = (λ e. cc, λ e. cc)
-claimable (states.Held holder) x = elim x [ ]
-claimable states.Resting rests = (λ e. cc, λ e. cc)
-claimable states.Ended x = elim x [ ]
+claimable _ waits = (λ e. cc, λ e. cc)
+claimable _ rests = (λ e. cc, λ e. cc)
 
 -- ---- it has not ended
 

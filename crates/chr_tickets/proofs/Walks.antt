@@ -1,6 +1,7 @@
 -- Walks over the queue from its front.
 use Rattle.std.proofs.Common.{◌≡◌, ℕ, ◌+◌, ◌-◌, ◌<◌, ◌≤◌, Bool, true, false, List, length, get_or, refl, sym, ap, subst, ◌∙◌, ⊎_elim, arith, true-eqb}
-use Rattle.std.proofs.lemmas.Bool.{cases_lt, false≢true}
+use borrow.Author.Count.{below_more}
+use Rattle.std.proofs.lemmas.Bool.{cases_lt, false≢true, false_from_ne_true}
 use Rattle.std.proofs.lemmas.Bool.Decides.{nat_tests}
 use Rattle.chr_calls.specs.declared.answers.TicketState.{TicketState}
 use Rattle.chr_calls.specs.declared.answers.TicketState.TheVariants as states
@@ -17,9 +18,6 @@ NonePassBelow p L n = (t : ℕ) → t < n → p (ticket_at L t) ≡ false
 pub below_first : {Z : Type 0} (p : Ticket → Bool) (first : ℕ) (slots : List (Slot Z)) (L : List Ticket) → p ended ≡ false → listed first slots ≡ L → NonePassBelow p L first
 below_first p first slots L fails e t l = ap (λ xs. p (ticket_at xs t)) (sym e) ∙ ap p (read_before first slots t l) ∙ fails
 
-pub below_more : (p : Ticket → Bool) (L : List Ticket) (n : ℕ) → NonePassBelow p L n → p (ticket_at L n) ≡ false → NonePassBelow p L (n + 1)
-below_more p L n h here t l = ⊎_elim (λ less. h t less) (λ rest. let e : t ≡ n = omega arith in ap (λ u. p (ticket_at L u)) e ∙ here) (cases_lt t n)
-
 -- what each has that is at or after a number that the walk has come to
 pub least : (p : Ticket → Bool) (L : List Ticket) (n u : ℕ) → NonePassBelow p L n → p (ticket_at L u) ≡ true → n ≤ u
 least p L n u h passes = ⊎_elim (λ l. absurd (false≢true (sym (h u l) ∙ passes))) (λ le. le) (cases_lt u n)
@@ -34,7 +32,7 @@ at_place first k slots L slot e l is = ap (λ xs. ticket_at xs (first + k)) (sym
 
 -- a step over a slot whose ticket fails
 pub next_place : {Z : Type 0} (p : Ticket → Bool) (first k : ℕ) (slots : List (Slot Z)) (L : List Ticket) (slot : Slot Z) → listed first slots ≡ L → k < length slots → slot ≡ get_or slots k slot → NonePassBelow p L (first + k) → p (shown_or_ended slot) ≡ false → NonePassBelow p L (first + (k + 1))
-next_place p first k slots L slot e l is h fails = subst (NonePassBelow p L) (let z : first + k + 1 ≡ first + (k + 1) = omega arith in z) (below_more p L (first + k) h (ap p (at_place first k slots L slot e l is) ∙ fails))
+next_place p first k slots L slot e l is h fails = subst (NonePassBelow p L) (let z : first + k + 1 ≡ first + (k + 1) = omega arith in z) (below_more (λ t. p (ticket_at L t) ≡ false) (first + k) h (ap p (at_place first k slots L slot e l is) ∙ fails))
 
 -- ---- marks
 
@@ -46,16 +44,9 @@ below_start first m start slots L e u is t l =
     (λ after. ap (λ xs. (ticket_at xs t).stray) (sym e) ∙ u t (omega arith))
     (cases_lt t first)
 
-unmarked_below : (L : List Ticket) (n : ℕ) → ((u : ℕ) → IsStray L u → n ≤ u) → AreUnmarked L n
-unmarked_below L n h t l = off (ticket_at L t).stray (λ e. let le : n ≤ t = h t e in omega arith)
-  where
-    off : (b : Bool) → (b ≡ true → ⊥) → b ≡ false
-    off true k = absurd (k refl)
-    off false k = refl
-
 -- what the walk has found: marks from a number on
 pub queued_least : {Z : Type 0} {first m : ℕ} {slots : List (Slot Z)} {L : List Ticket} (n : ℕ) → AreQueued first slots m → listed first slots ≡ L → ((u : ℕ) → IsStray L u → n ≤ u) → AreQueued first slots n
-queued_least {Z} {first} {m} {slots} {L} n g e h = record { some = g.some; fits = g.fits; starts = g.starts; marks = subst (λ xs. AreUnmarked xs n) (sym e) (unmarked_below L n h) }
+queued_least {Z} {first} {m} {slots} {L} n g e h = record { some = g.some; fits = g.fits; starts = g.starts; marks = subst (λ xs. AreUnmarked xs n) (sym e) (λ t l. false_from_ne_true (ticket_at L t).stray (λ e. (let le : n ≤ t = h t e in omega arith))) }
 
 -- ---- a ticket that no other seat holds
 
@@ -64,11 +55,10 @@ abbrev pub free : ℕ → Ticket → Bool
 free seat x = is_open_for seat (state_in x)
 
 open_for : (seat : ℕ) (s : TicketState) → is_open_for seat s ≡ true → IsOpenFor seat s
-open_for seat states.Unknown h = absurd (false≢true h)
 open_for seat states.Waiting h = waits_for seat
 open_for seat (states.Held holder) h = let e : holder ≡ seat = true-eqb holder seat (sym h) in subst (λ z. IsOpenFor seat (states.Held z)) (sym e) (held_for seat)
 open_for seat states.Resting h = rests_for seat
-open_for seat states.Ended h = absurd (false≢true h)
+open_for seat s h = absurd (false≢true h)
 
 is_open : (seat : ℕ) (s : TicketState) → IsOpenFor seat s → is_open_for seat s ≡ true
 is_open _ _ (waits_for seat) = refl

@@ -1,13 +1,10 @@
 use Rattle.std.proofs.Common.{◌≡◌, ◌++◌, ℕ, List, Some, sym, ap, ◌∙◌, subst, arith}
 use Rattle.std.proofs.lemmas.Result.{err_from_is_err_and}
 use Rattle.chr_rule.specs.Rules.{Simpagation, rule_at}
-use Rattle.chr_model.specs.Goals.{Numbered}
 use Rattle.chr_search.specs.Trials.{older}
 use Rattle.chr_search.specs.declared.search.Whole.{Whole}
 use Rattle.chr_calls.specs.Tickets.{Ticket, ticket_at}
 use Rattle.chr_book.specs.Firings.{MakesFound}
-use Rattle.chr_book.specs.Passed.{PassesSome}
-use Rattle.chr_book.proofs.PostedBooks.{on_any_err}
 use Rattle.chr_book.proofs.Starting.{finds_rule}
 use Rattle.chr_book.proofs.rounds.pass_over.Goals as goal
 
@@ -21,43 +18,35 @@ push_found-requires g c = (
       (finds_rule (older c.args.program.now c.args.plans.now c.args.store.now.entries l) over.place c.pass_over-come.result.then c.pass_over-come.new.instance c.pass_over-come.new.bound over.next is),
 )
 
-pub returns-in_err-push_found-clause-err : goal.returns-in_err-push_found-clause-err
-returns-in_err-push_found-clause-err g c =
-    let t = c.args.ticket in
-    let ts = c.args.tickets.now in
-    on_any_err ((l : ℕ) → (ticket_at ts t).goal ≡ Numbered l → PassesSome (older c.args.program.now c.args.plans.now c.args.store.now.entries l) t c.args.most ts c.push_found.new.tickets) c.from_residual.result (λ l is. record {
-      passed = c.pass_over-come.result;
+pub returns-in_err-push_found : goal.returns-in_err-push_found
+returns-in_err-push_found g c = rw (err_from_is_err_and c.from_residual.result c.from_residual.ensures.1).1 (record {
+  few = tt;
+  more = tt;
+  ok = tt;
+  err = λ l is. record {
+    passed = c.pass_over-come.result;
+    few = c.pass_over-come.ensures.few;
+    instance = c.pass_over-come.new.instance;
+    binding = c.pass_over-come.new.bound;
+    x = ticket_at c.pass_over-come.new.self c.args.ticket;
+    over = c.pass_over-come.ensures.passed l is;
+    tickets = c.in_err-push_found.ensures.err ∙ c.pass_over-come.ensures.others;
+  };
+})
+
+pub returns : goal.returns
+returns g c =
+    let body = c.in_ok-push_found.ensures.ok in
+    record {
       few = c.pass_over-come.ensures.few;
-      instance = c.pass_over-come.new.instance;
-      binding = c.pass_over-come.new.bound;
-      x = ticket_at c.pass_over-come.new.self t;
-      over = c.pass_over-come.ensures.passed l is;
-      tickets = c.in_err-push_found.ensures.err ∙ c.pass_over-come.ensures.others;
-    })
-
-pub returns-in_err-push_found-clause-few : goal.returns-in_err-push_found-clause-few
-returns-in_err-push_found-clause-few g c = rw (err_from_is_err_and c.from_residual.result c.from_residual.ensures.1).1 tt
-
-pub returns-in_err-push_found-clause-more : goal.returns-in_err-push_found-clause-more
-returns-in_err-push_found-clause-more g c = rw (err_from_is_err_and c.from_residual.result c.from_residual.ensures.1).1 tt
-
-pub returns-in_err-push_found-clause-ok : goal.returns-in_err-push_found-clause-ok
-returns-in_err-push_found-clause-ok g c = rw (err_from_is_err_and c.from_residual.result c.from_residual.ensures.1).1 tt
-
-pub returns-clause-few : goal.returns-clause-few
-returns-clause-few g c = c.pass_over-come.ensures.few
-
-pub returns-clause-more : goal.returns-clause-more
-returns-clause-more g c = c.pass_over-come.ensures.more
-
-pub returns-clause-ok : goal.returns-clause-ok
-returns-clause-ok g c =
-    let t = c.args.ticket in
-    let body = c.in_ok-push_found.ensures.ok in λ l is. record {
-      binding = c.pass_over-come.new.bound;
-      x = ticket_at c.pass_over-come.new.self t;
-      over = c.pass_over-come.ensures.passed l is;
-      more = body.0;
-      made = subst (λ (w : Whole). MakesFound c.args.program.now c.pass_over-come.result.then w c.pass_over-come.new.bound body.0) c.whole.ensures body.1;
-      tickets = body.2 ∙ ap (λ (ts : List Ticket). ts ++ body.0) c.pass_over-come.ensures.others;
+      more = c.pass_over-come.ensures.more;
+      ok = λ l is. record {
+        binding = c.pass_over-come.new.bound;
+        x = ticket_at c.pass_over-come.new.self c.args.ticket;
+        over = c.pass_over-come.ensures.passed l is;
+        more = body.0;
+        made = subst (λ (w : Whole). MakesFound c.args.program.now c.pass_over-come.result.then w c.pass_over-come.new.bound body.0) c.whole.ensures body.1;
+        tickets = body.2 ∙ ap (λ (ts : List Ticket). ts ++ body.0) c.pass_over-come.ensures.others;
+      };
+      err = tt;
     }

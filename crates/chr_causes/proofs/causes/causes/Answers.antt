@@ -1,10 +1,11 @@
 use Rattle.std.proofs.Common.{◌+◌, ◌<◌, length, map, refl, sym, ap, subst, ◌∙◌, arith}
+use Rattle.std.proofs.lemmas.List.{take_all}
 use Rattle.chr_log.specs.Events.{events_of}
 use Rattle.chr_causes.specs.declared.causes.Cause.{Cause}
 use Rattle.chr_causes.specs.Origins.{IsOrigin}
 use Rattle.chr_causes.specs.Marks.{AreMarks}
 use Rattle.chr_causes.proofs.Closure.{origin_read}
-use Rattle.chr_causes.proofs.Marked.{label_of, marked, AllStand, labels_push, labels_pass, origins_push, marked_all, taken_all}
+use Rattle.chr_causes.proofs.Marked.{label_of, marked, AllStand, labels_push, labels_pass, origins_push, marked_all}
 use Rattle.chr_causes.proofs.causes.causes.Goals as goal
 use Rattle.chr_causes.proofs.causes.causes.Goals.{then-label-eq0-via-then-label-eq0, then-label-eq0-via-else-label-eq0+then-label-len, then-is_cause+in_ok-push, else-is_cause}
 
@@ -58,5 +59,5 @@ returns g c =
     let list = c.loop-place.list.items in
     marked_all rules log c.args.label marks list
     (subst (AreMarks rules log c.args.label) (sym c.deref-is_cause-items.ensures.value) c.in_ok-marks.ensures)
-    (c.loop-place.invariant.labels ∙ ap (marked 1) (taken_all marks c.loop-place.place c.loop-place-test.false))
+    (c.loop-place.invariant.labels ∙ ap (marked 1) (take_all c.loop-place.place marks c.loop-place-test.false))
     c.loop-place.invariant.origins

@@ -1,9 +1,10 @@
 use Rattle.std.proofs.Common.{◌≡◌, ◌+◌, ◌-◌, List, Bool, true, false, length, slice_set, slice_index_or, sym, ap, subst, ◌∙◌, arith}
+use Rattle.std.proofs.lemmas.List.{take_at, get_or_read}
 use Rattle.chr_log.specs.Events.{event_of, events_of}
 use Rattle.chr_causes.specs.declared.origins.Origin.{Origin}
 use Rattle.chr_causes.specs.Causes.{heads_of}
 use Rattle.chr_causes.specs.Marks.{Adds}
-use Rattle.chr_causes.proofs.Closure.{Traced, traced_first, made_within, heads_fit, heads_traced, traced_passed, traced_all, taken_back, mark_read}
+use Rattle.chr_causes.proofs.Closure.{Traced, traced_first, made_within, heads_fit, heads_traced, traced_passed, traced_all}
 use Rattle.chr_causes.proofs.causes.mark_causes.Goals as goal
 
 abbrev no_origin : Origin
@@ -36,8 +37,8 @@ loop-place-preserved-then-index g c =
     let old = c.loop-place.marks.items in
     let new = c.mark_heads.new.marks in
     let adds : Adds (heads_of (event_of event)) old new = subst (λ (bs : List Bool). Adds (heads_of (event_of event)) bs new) c.deref_mut.ensures.value c.mark_heads.ensures in
-    let here : slice_index_or old p false ≡ true = mark_read old p c.index.result.now true (omega (arith, c.loop-place.invariant.places)) c.if-index.true c.index.ensures in
-    subst (Traced rules log c.args.label p) (sym (taken_back new old c.loop-place.marks.len (adds.places ∙ sym c.loop-place.marks.ok.0)))
+    let here : slice_index_or old p false ≡ true = sym (get_or_read old p c.index.result.now (omega (arith, c.loop-place.invariant.places)) c.index.ensures false) ∙ c.if-index.true in
+    subst (Traced rules log c.args.label p) (sym (take_at new _ c.loop-place.marks.len (adds.places ∙ sym c.loop-place.marks.ok.0)))
     (heads_traced rules c.args.events.now c.requires.lawful c.args.label c.args.origins.now p no_origin event c.requires.origins (omega arith) c.index-events-origins.is old new here adds
     (subst (λ n. Traced rules log c.args.label n old) place c.loop-place.invariant))
 
@@ -47,7 +48,7 @@ loop-place-preserved g c =
     let place : c.loop-place.place ≡ p + 1 = omega arith in
     let rules = c.args.program.now in
     let log = events_of c.args.events.now in
-    traced_passed rules log c.args.label p c.loop-place.marks.items (mark_read c.loop-place.marks.items p c.index.result.now false (omega (arith, c.loop-place.invariant.places)) c.if-index.false c.index.ensures)
+    traced_passed rules log c.args.label p c.loop-place.marks.items (sym (get_or_read c.loop-place.marks.items p c.index.result.now (omega (arith, c.loop-place.invariant.places)) c.index.ensures false) ∙ c.if-index.false)
     (subst (λ n. Traced rules log c.args.label n c.loop-place.marks.items) place c.loop-place.invariant)
 
 pub returns : goal.returns

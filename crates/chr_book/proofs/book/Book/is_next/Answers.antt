@@ -1,5 +1,4 @@
-use Rattle.std.proofs.Common.{◌≡◌, ap, ◌∙◌}
-use Rattle.chr_calls.specs.Books.{BookState}
+use Rattle.std.proofs.Common.{ap, ◌∙◌}
 use Rattle.chr_book.specs.Books.{book_of}
 use Rattle.chr_book.proofs.Nexts.{asked_next}
 use Rattle.chr_book.proofs.book.Book.is_next.Goals as goal
@@ -7,7 +6,4 @@ use Rattle.chr_book.proofs.book.Book.is_next.Goals as goal
 pub returns : goal.returns
 returns g c =
     let x = c.self.inside in
-    let s = c.in_ok-search.search.now in
-    let b : BookState = book_of c.deref.result.now x.plans x.names x.log x.store x.tickets in
-    let is : b ≡ c.args.self.now = ap (λ rules. book_of rules x.plans x.names x.log x.store x.tickets) c.deref.ensures ∙ c.self.view_is in
-    asked_next b c.args.self.now is c.args.seat c.args.ticket s c.args.trial.now c.is_next.result c.in_ok-search.ensures c.placed-placed.ensures.formed c.is_next.ensures
+    asked_next (book_of c.deref.result.now x.plans x.names x.log x.store x.tickets) c.args.self.now (ap (λ rules. book_of rules x.plans x.names x.log x.store x.tickets) c.deref.ensures ∙ c.self.view_is) c.args.seat c.args.ticket c.in_ok-search.search.now c.args.trial.now c.is_next.result c.in_ok-search.ensures c.placed-placed.ensures.formed c.is_next.ensures

@@ -1,7 +1,4 @@
 use Rattle.std.proofs.Common.{◌<◌, arith}
-use Rattle.std.specs.Arc.{arc_value}
-use Rattle.chr_calls.specs.Books.{BookState}
-use Rattle.chr_book.specs.Books.{book_of}
 use Rattle.chr_book.proofs.Reported.{not_reported, none_gone, some_gone, some_kept}
 use Rattle.chr_book.proofs.book.Book.move_over.Goals as goal
 
@@ -15,16 +12,12 @@ returns-then-reported-eq0 g c =
 
 pub invariant_of-self : goal.invariant_of-self
 invariant_of-self g c =
-    let x = c.self.inside in
-    let b : BookState = book_of (arc_value x.program) x.plans x.names x.log x.store x.tickets in
     let r = c.move_search-reported in
     let some : 0 < r.result.count = omega (arith, c.if-reported-eq0.false) in
-    (some_kept b c.args.self.now c.self.view_is c.args.seat c.args.ticket c.in-Some.held.now c.copy-search.result r.new.search c.args.judgements.now r.result.count r.result.whole_is_next c.go_to.new.self r.ensures.right c.in-Some.ensures c.copy-search.ensures r.ensures.moves some c.go_to.ensures c.self.invariant.0, c.self.invariant.1)
+    (some_kept _ _ c.self.view_is c.args.seat c.args.ticket c.in-Some.held.now c.copy-search.result r.new.search c.args.judgements.now r.result.count r.result.whole_is_next c.go_to.new.self r.ensures.right c.in-Some.ensures c.copy-search.ensures r.ensures.moves some c.go_to.ensures c.self.invariant.0, c.self.invariant.1)
 
 pub returns : goal.returns
 returns g c =
-    let x = c.self.inside in
-    let b : BookState = book_of (arc_value x.program) x.plans x.names x.log x.store x.tickets in
     let r = c.move_search-reported in
     let some : 0 < r.result.count = omega (arith, c.if-reported-eq0.false) in
-    some_gone b c.args.self.now c.self.view_is c.args.seat c.args.ticket c.in-Some.held.now c.copy-search.result r.new.search c.args.judgements.now r.result.count r.result.whole_is_next c.go_to.new.self c.in-Some.ensures c.copy-search.ensures r.ensures.moves some c.go_to.ensures
+    some_gone _ _ c.self.view_is c.args.seat c.args.ticket c.in-Some.held.now c.copy-search.result r.new.search c.args.judgements.now r.result.count r.result.whole_is_next c.go_to.new.self c.in-Some.ensures c.copy-search.ensures r.ensures.moves some c.go_to.ensures

@@ -1,4 +1,4 @@
-use Rattle.std.proofs.Common.{◌≡◌, ◌-◌, ◌≤◌, ℕ, sym, ap, subst, ◌∙◌, arith}
+use Rattle.std.proofs.Common.{◌≡◌, ◌-◌, ◌≤◌, ℕ, take, refl, sym, ap, subst, ◌∙◌, arith}
 use Rattle.std.specs.Arc.{arc_value}
 use Rattle.chr_store.specs.Labels.{entered}
 use Rattle.chr_search.specs.Positions.{beginning}
@@ -13,7 +13,7 @@ use Rattle.chr_calls.specs.Books.{BookState}
 use Rattle.chr_book.specs.Books.{book_of}
 use Rattle.chr_book.specs.Passed.{StartsRounds, StartsFewer}
 use Rattle.chr_book.proofs.GoingOn.{finds_label}
-use Rattle.chr_book.proofs.Starting.{is_lent, waits_before, started, started_fewer, stays_as_is, starts_keep, starts_fewer_keep, started_of, starts_limit, starts_more, stays_limit}
+use Rattle.chr_book.proofs.Starting.{is_lent, waits_before, started, started_fewer, stays_as_is, starts_keep, starts_fewer_keep, starts_show, stays_limit}
 use Rattle.chr_book.proofs.book.Book.start_rounds.Given.{Over}
 use Rattle.chr_book.proofs.book.Book.start_rounds.Goals as goal
 use Rattle.chr_book.proofs.book.Book.start_rounds.Goals.{After-take_back, In-Ok-end_start, After-take_back-in_default-end_start}
@@ -42,11 +42,11 @@ cut g c =
     let x = c.self.inside in
     let waits = subst (λ (b : BookState). state_of b.tickets c.args.ticket ≡ Waiting) (sym c.self.view_is) c.requires.waiting in
     subst (λ rules. StartsFewer c.args.seat c.args.ticket c.args.most (book_of rules x.plans x.names x.log x.store x.tickets) (book_of rules x.plans x.names c.end_start.new.log c.end_start.new.store c.take_back-in_default-end_start.new.tickets)) c.deref.ensures
-    (started_fewer c.deref.result.now x.plans x.names x.log c.end_start.new.log x.store c.end_start.new.store x.tickets c.swap_atom.new.self c.pass_over_before.new.tickets c.end_start.new.tickets c.take_back-in_default-end_start.new.tickets c.args.seat c.args.ticket c.args.most c.next-first.result c.swap_atom.new.other c.begin-search.result c.pass_over_before.new.search.place c.in-Ok.come c.pass_over_before.new.instance
+    (started_fewer c.deref.result.now x.plans x.names x.log c.end_start.new.log x.store c.end_start.new.store x.tickets c.swap_atom.new.self c.pass_over_before.new.tickets c.end_start.new.tickets (take c.next-first.result c.end_start.new.tickets) c.take_back-in_default-end_start.new.tickets c.args.seat c.args.ticket c.args.most c.next-first.result c.swap_atom.new.other c.begin-search.result c.pass_over_before.new.search.place c.in-Ok.come c.pass_over_before.new.instance
     (record { kept = subst (λ rules. IsKept (book_of rules x.plans x.names x.log x.store x.tickets)) (sym c.deref.ensures) c.self.invariant.0; waits = waits; atom = c.swap_atom.ensures.atom; room = subst (λ (b : BookState). b.next ≤ b.limit) (sym c.self.view_is) c.requires.room })
     (record { waits = waits; atom = c.swap_atom.ensures.atom; other = x.started; lent_is = c.swap_atom.ensures.rest })
     (c.begin-search.ensures ∙ ap (λ (l : ℕ). record { label = l; place = beginning }) c.next_label.ensures.value)
-    c.in-Ok.ensures.ok (omega (arith, c.in-Ok.ensures.few, c.requires.some)) c.in_default-end_start.ensures.err c.next-first.ensures.value c.take_back-in_default-end_start.ensures.waits c.take_back-in_default-end_start.ensures.other)
+    c.in-Ok.ensures.ok (omega (arith, c.in-Ok.ensures.few, c.requires.some)) c.in_default-end_start.ensures.err refl c.next-first.ensures.value c.take_back-in_default-end_start.ensures.waits c.take_back-in_default-end_start.ensures.other)
 
 -- ---- the goals
 
@@ -54,9 +54,7 @@ pub invariant_of-self : goal.invariant_of-self
 invariant_of-self g c = (starts_fewer_keep _ _ _ _ _ (none g c) c.self.invariant.0, c.self.invariant.1)
 
 pub returns-in_default-clause-err : goal.returns-in_default-clause-err
-returns-in_default-clause-err g c =
-    let x = c.self.inside in
-    subst (λ (b : BookState). StartsFewer c.args.seat c.args.ticket c.args.most b (book_of (arc_value x.program) x.plans x.names x.log x.store c.take_back.new.tickets)) c.self.view_is (none g c)
+returns-in_default-clause-err g c = rw c.self.view_is at (none g c)
 
 pub end_start-requires-clause-waiting : goal.end_start-requires-clause-waiting
 end_start-requires-clause-waiting g c =
@@ -68,7 +66,7 @@ end_start-requires-clause-waiting g c =
 pub invariant_of-self-in-Ok-end_start : goal.invariant_of-self-in-Ok-end_start
 invariant_of-self-in-Ok-end_start g c = (
   starts_keep _ _ _ _ _ (made g c) c.self.invariant.0,
-  starts_limit c.args.seat c.args.ticket c.pass_over_before.new.search.place c.swap_atom.new.other c.in-Ok.come.then c.whole.result.now c.in-Ok-end_start.last c.pass_over_before.new.tickets c.self.inside.log c.self.inside.store c.end_start.new.tickets c.end_start.new.log c.end_start.new.store c.in-Ok-end_start.ensures.ok ∙ c.self.invariant.1,
+  (starts_show c.args.seat c.args.ticket c.pass_over_before.new.search.place c.swap_atom.new.other c.in-Ok.come.then c.whole.result.now c.in-Ok-end_start.last c.pass_over_before.new.tickets c.self.inside.log c.self.inside.store c.end_start.new.tickets c.end_start.new.log c.end_start.new.store c.in-Ok-end_start.ensures.ok).0 ∙ c.self.invariant.1,
 )
 
 pub invariant_of-self-in_default-end_start : goal.invariant_of-self-in_default-end_start
@@ -78,16 +76,14 @@ invariant_of-self-in_default-end_start g c = (
 )
 
 pub returns-in_default-end_start-clause-err : goal.returns-in_default-end_start-clause-err
-returns-in_default-end_start-clause-err g c =
-    let x = c.self.inside in
-    subst (λ (b : BookState). StartsFewer c.args.seat c.args.ticket c.args.most b (book_of (arc_value x.program) x.plans x.names c.end_start.new.log c.end_start.new.store c.take_back-in_default-end_start.new.tickets)) c.self.view_is (cut g c)
+returns-in_default-end_start-clause-err g c = rw c.self.view_is at (cut g c)
 
 pub returns-clause-ok : goal.returns-clause-ok
-returns-clause-ok g c = started_of c.self.view_is (made g (goal.at.returns-clause-ok g c).In-Ok-end_start)
+returns-clause-ok g c = rw c.self.view_is at (made g (goal.at.returns-clause-ok g c).In-Ok-end_start)
 
 pub returns-clause-all : goal.returns-clause-all
 returns-clause-all g c = λ passed.
-    let all : c.in-Ok.come.count ≡ c.args.most - 1 = c.in-Ok.ensures.more (starts_more c.args.seat c.args.ticket c.pass_over_before.new.search.place c.swap_atom.new.other c.in-Ok.come.then c.whole.result.now c.in-Ok-end_start.last c.pass_over_before.new.tickets c.self.inside.log c.self.inside.store c.end_start.new.tickets c.end_start.new.log c.end_start.new.store c.in-Ok-end_start.ensures.ok passed) in
+    let all : c.in-Ok.come.count ≡ c.args.most - 1 = c.in-Ok.ensures.more ((starts_show c.args.seat c.args.ticket c.pass_over_before.new.search.place c.swap_atom.new.other c.in-Ok.come.then c.whole.result.now c.in-Ok-end_start.last c.pass_over_before.new.tickets c.self.inside.log c.self.inside.store c.end_start.new.tickets c.end_start.new.log c.end_start.new.store c.in-Ok-end_start.ensures.ok).1 passed) in
     omega arith
 
 pub swap_atom-requires : goal.swap_atom-requires

@@ -2,17 +2,16 @@ use Rattle.std.proofs.Common.{rules, ◌≡◌, ◌<◌, ◌+◌, ◌-◌, ℕ, 
 use Rattle.std.proofs.lemmas.Result.{err_from_is_err_and}
 use Rattle.chr_plan.specs.Plans.{ArePlans}
 use Rattle.chr_search.specs.Verdicts.{Trial}
-use Rattle.chr_calls.specs.Books.{BookState, space_of}
+use Rattle.chr_calls.specs.Books.{space_of}
 use Rattle.chr_calls.specs.Batches.{IsNextBeside, NoneBeside}
 use Rattle.chr_book.specs.Books.{book_of}
-use Rattle.chr_book.proofs.Together.{behind_told, none_told, together_first, together_next, together_end, together_full, last_there}
+use Rattle.chr_book.proofs.Together.{behind_told, together_first, together_next, together_end, together_full, last_there, some_together}
 use Rattle.chr_book.proofs.book.Book.with_those_behind.Goals.{else-loop-program-test, then-loop-program-test+in_ok-next+in_default}
 use Rattle.chr_book.proofs.book.Book.with_those_behind.Goals as goal
 
 pub loop-program-preserved : goal.loop-program-preserved
 loop-program-preserved g c =
     let x = c.self.inside in
-    let b : BookState = book_of c.deref.result.now x.plans x.names x.log x.store x.tickets in
     let l = c.args.search.now.label in
     let s = space_of c.args.self.now l in
     let trials = c.loop-program.trials.items in
@@ -20,8 +19,8 @@ loop-program-preserved g c =
     let less : length trials < 16 = search rules in
     let there = last_there (IsNextBeside s) (NoneBeside s) 16 c.args.first trials (16 - length trials) c.loop-program.invariant last in
     let is : last ≡ c.loop-program.invariant.last = search rules in
-    let same : b ≡ c.args.self.now = ap (λ rules. book_of rules x.plans x.names x.log x.store x.tickets) c.deref.ensures ∙ c.self.view_is in
-    let next = behind_told b c.args.self.now same l last c.in-Trial.next c.in_ok-next.field-0 c.in_ok-next.ensures c.in-Trial.is in
+    let same = ap (λ rules. book_of rules x.plans x.names x.log x.store x.tickets) c.deref.ensures ∙ c.self.view_is in
+    let next = behind_told _ _ same l last c.in_ok-next.ensures c.in-Trial.is in
     together_next (IsNextBeside s) (NoneBeside s) 16 c.args.first last c.in-Trial.next trials c.push-in-loop-program.new.self.items less c.loop-program.invariant is next (search rules)
 
 pub returns : goal.returns
@@ -37,7 +36,7 @@ returns g c =
           let less : length trials < 16 = search rules in
           let there = last_there (IsNextBeside s) (NoneBeside s) 16 c.args.first trials (16 - length trials) c.loop-program.invariant last in
           let is : last ≡ c.loop-program.invariant.last = search rules in
-          together_end (IsNextBeside s) (NoneBeside s) 16 c.args.first last trials less c.loop-program.invariant is (none_told (book_of w.deref.result.now x.plans x.names x.log x.store x.tickets) c.args.self.now (ap (λ rules. book_of rules x.plans x.names x.log x.store x.tickets) w.deref.ensures ∙ c.self.view_is) l last w.in_ok-next.field-0 w.in_ok-next.ensures w.in_default.is)
+          together_end (IsNextBeside s) (NoneBeside s) 16 c.args.first last trials less c.loop-program.invariant is (behind_told _ _ (ap (λ rules. book_of rules x.plans x.names x.log x.store x.tickets) w.deref.ensures ∙ c.self.view_is) l last w.in_ok-next.ensures w.in_default.is)
     ]
 
 pub returns-in_err-trials : goal.returns-in_err-trials
@@ -54,14 +53,12 @@ loop-program-init g c =
 pub overflow_sub-len : goal.overflow_sub-len
 overflow_sub-len g c =
     let many : c.len-in-loop-program.result ≡ length c.loop-program.trials.items = c.len-in-loop-program.ensures ∙ c.loop-program.trials.ok.0 in
-    let one : length c.loop-program.trials.items ≡ length c.loop-program.invariant.before + 1 = ap length c.loop-program.invariant.are ∙ length-append c.loop-program.invariant.before (c.loop-program.invariant.last ∷ []) in
-    omega arith
+    omega (arith, some_together c.loop-program.invariant)
 
 pub index-last-requires : goal.index-last-requires
 index-last-requires g c =
     let many : c.len-in-loop-program.result ≡ length c.loop-program.trials.items = c.len-in-loop-program.ensures ∙ c.loop-program.trials.ok.0 in
-    let one : length c.loop-program.trials.items ≡ length c.loop-program.invariant.before + 1 = ap length c.loop-program.invariant.are ∙ length-append c.loop-program.invariant.before (c.loop-program.invariant.last ∷ []) in
-    omega (arith, c.len-in-loop-program.ensures)
+    omega (arith, c.len-in-loop-program.ensures, some_together c.loop-program.invariant)
 
 pub behind-requires : goal.behind-requires
 behind-requires g c = subst (λ rules. ArePlans rules c.self.inside.plans) (sym c.deref.ensures) c.self.invariant.0.plans
@@ -74,8 +71,7 @@ loop-program-smaller g c =
     let trials = c.loop-program.trials.items in
     let less : length trials < 16 = subst (λ (n : ℕ). n < 16) (c.len.ensures ∙ c.loop-program.trials.ok.0) c.loop-program-test.true in
     let more : length c.push-in-loop-program.new.self.items ≡ length trials + 1 = ap length c.in_ok-push-2.ensures.items ∙ length-append trials (c.in-Trial.next ∷ []) in
-    let smaller : 16 - length c.push-in-loop-program.new.self.items < 16 - length trials = omega arith in
-    smaller
+    omega (arith, less, more)
 
 pub returns-in_err-push-2 : goal.returns-in_err-push-2
 returns-in_err-push-2 g c = rw (err_from_is_err_and c.from_residual-in_err-push-2.result c.from_residual-in_err-push-2.ensures.1).1 tt

@@ -1,6 +1,6 @@
 use Rattle.std.proofs.Common.{◌≡◌, false, ap, sym, ◌∙◌}
+use Rattle.std.proofs.lemmas.Result.{IfOk-weaker}
 use Rattle.chr_calls.specs.Tickets.{Ticket, waiting, marked}
-use Rattle.chr_tickets.proofs.Made.{if_ok_weaker}
 use Rattle.chr_tickets.proofs.States.{shown_stray}
 use Rattle.chr_tickets.proofs.ticket.Ticket.add_arguments.Goals as goal
 
@@ -8,4 +8,4 @@ pub returns-clause-made : goal.returns-clause-made
 returns-clause-made g c =
     let unmarked : c.args.self.now.stray ≡ false = sym (shown_stray c.args.self.now.goal c.args.self.now.stray) ∙ ap (λ (x : Ticket). x.stray) c.requires in
     let atom = c.add_arguments.new.atom in
-    if_ok_weaker c.add_arguments.result (λ all made yes. (atom, made yes, ap (λ mark. marked mark (waiting atom)) unmarked)) c.add_arguments.ensures.made
+    IfOk-weaker c.add_arguments.result _ _ (λ all made yes. (atom, made yes, ap (λ mark. marked mark (waiting atom)) unmarked)) c.add_arguments.ensures.made

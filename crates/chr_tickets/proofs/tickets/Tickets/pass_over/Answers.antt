@@ -38,10 +38,10 @@ returns-clause-passed g c = λ l is.
     let live = active_open c.args.self.now c.args.ticket c.requires.active in
     let made = tickets_are _ _ _ c.pass_over.new.self c.self.view_is live c.open_at-found.ensures.value in
     subst (PassesOver (older c.args.program.now c.args.plans.now c.args.store.now.entries l) c.pass_over.result c.pass_over.new.instance c.pass_over.new.bound (ticket_at c.args.self.now c.args.ticket))
-    (sym (ap (λ (xs : List Ticket). ticket_at xs c.args.ticket) made ∙ ticket_is _ _ _ (shown_ticket c.pass_over.new.self) c.self.view_is live)) (over g (goal.at.returns-clause-passed g c).After-pass_over (seen _ _ _ c.self.view_is live c.open_at-found.ensures.value) l is)
+    (sym (ap (λ (xs : List Ticket). ticket_at xs c.args.ticket) made ∙ ticket_is c.args.self.now c.args.ticket (shown_ticket c.pass_over.new.self) live)) (over g (goal.at.returns-clause-passed g c).After-pass_over (seen _ _ _ c.self.view_is live c.open_at-found.ensures.value) l is)
 
 pub returns-clause-others : goal.returns-clause-others
 returns-clause-others g c =
     let live = active_open c.args.self.now c.args.ticket c.requires.active in
     let made = tickets_are _ _ _ c.pass_over.new.self c.self.view_is live c.open_at-found.ensures.value in
-    made ∙ ap (set c.args.self.now c.args.ticket) (sym (ap (λ (xs : List Ticket). ticket_at xs c.args.ticket) made ∙ ticket_is _ _ _ (shown_ticket c.pass_over.new.self) c.self.view_is live))
+    made ∙ ap (set c.args.self.now c.args.ticket) (sym (ap (λ (xs : List Ticket). ticket_at xs c.args.ticket) made ∙ ticket_is c.args.self.now c.args.ticket (shown_ticket c.pass_over.new.self) live))
