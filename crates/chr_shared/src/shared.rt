@@ -32,9 +32,24 @@ use std::sync::{Condvar, Mutex, MutexGuard, Wait};
 /// How often a call looks whether the lock is free before its thread sleeps.
 const LOOKS: u32 = 12;
 
-/// How often it pauses between two looks, which takes longer than most holds. What they touch takes longer to move from processor
-/// to processor than most of them take, so it pays to leave the lock for some holds to the thread that has it.
-const PAUSES: u32 = 800;
+/// How often it pauses between two looks where its hold is short. What the hold touches takes longer to move from processor to
+/// processor than the hold takes, so it pays to leave the lock for many holds to the thread that has it.
+const SHORT_HOLD_PAUSES: u32 = 3200;
+
+/// How often it pauses where its hold is long, which pays for the move.
+const LONG_HOLD_PAUSES: u32 = 100;
+
+/// From how many trials on that it may read a hold is a long one.
+const TRIALS_OF_LONG_HOLD: usize = 128;
+
+/// How often a call that may read so many trials pauses between two looks.
+fn pauses_for(most: usize) -> u32 {
+    if most < TRIALS_OF_LONG_HOLD {
+        SHORT_HOLD_PAUSES
+    } else {
+        LONG_HOLD_PAUSES
+    }
+}
 
 /// What is under the lock.
 #[derive(Drop)]
@@ -150,14 +165,14 @@ impl<L1: PostLedger, L2: Ledger, A: Allocator + Copy> Shared<L1, L2, A> {
         kept.audit(workers, sessions);
     }
 
-    /// Takes the lock for a call.
+    /// Takes the lock for a call that pauses so often between two looks.
     #[inline(always)]
-    fn begin_hold<R: Wait>(&self, rt: &R) -> MutexGuard<'_, Locked<L1, L2, A>> {
+    fn begin_hold<R: Wait>(&self, rt: &R, pauses: u32) -> MutexGuard<'_, Locked<L1, L2, A>> {
         for _ in 0..LOOKS {
             if let Some(locked) = self.locked.try_lock() {
                 return locked;
             }
-            for _ in 0..PAUSES {
+            for _ in 0..pauses {
                 spin_loop();
             }
         }
@@ -187,7 +202,7 @@ impl<L1: PostLedger, L2: Ledger, A: Allocator + Copy> Shared<L1, L2, A> {
         ensures posts { C.posts ≡ false → seat.new.counts.posts ≡ seat.old.counts.posts }
         ensures others { C.posts ≡ true → seat.new.counts.others ≡ seat.old.counts.others }
     {
-        let mut locked = self.begin_hold(rt);
+        let mut locked = self.begin_hold(rt, SHORT_HOLD_PAUSES);
         let answer = locked.kept.hold(seat, call, are_posts);
         self.end_hold(locked);
         answer
@@ -228,7 +243,7 @@ impl<L1: PostLedger, L2: Ledger, A: Allocator + Copy> Shared<L1, L2, A> {
         ensures posts { seat.new.counts.posts ≡ seat.old.counts.posts }
         ensures known { IfOk result (λ r. IfSome r.1 (λ k. IfOk (claimed_of r.0) (IsKnownOf k.version k.search))) }
     {
-        let mut locked = self.begin_hold(rt);
+        let mut locked = self.begin_hold(rt, pauses_for(most));
         let answer = locked.kept.claim_sheet(seat, ticket, most);
         self.end_hold(locked);
         answer
@@ -248,7 +263,7 @@ impl<L1: PostLedger, L2: Ledger, A: Allocator + Copy> Shared<L1, L2, A> {
         ensures posts { seat.new.counts.posts ≡ seat.old.counts.posts }
         ensures known { IfOk result (λ r. IfSome r.1 (λ k. IsKnownOf k.version k.search (sheet_of r.0))) }
     {
-        let mut locked = self.begin_hold(rt);
+        let mut locked = self.begin_hold(rt, pauses_for(most));
         let answer = locked.kept.sheet(seat, ticket, most);
         self.end_hold(locked);
         answer
@@ -272,7 +287,7 @@ impl<L1: PostLedger, L2: Ledger, A: Allocator + Copy> Shared<L1, L2, A> {
         ensures posts { seat.new.counts.posts ≡ seat.old.counts.posts }
         ensures known { IfOk result (λ r. IfSome r.1 (λ k. IsKnownAfter k.version k.search (following_of r.0.following))) }
     {
-        let mut locked = self.begin_hold(rt);
+        let mut locked = self.begin_hold(rt, pauses_for(most));
         let answer = locked.kept.report_sheet(seat, ticket, judged, most);
         self.end_hold(locked);
         answer
