@@ -3,7 +3,7 @@ ghost use Rattle.std.specs.Prelude.{◌≡◌, ◌+◌, ◌*◌, ◌<◌, ◌≤
 ghost use Rattle.std.specs.Option.{option_copied};
 ghost use Rattle.std.specs.Iterator.{item_count};
 ghost use Rattle.std.specs.Map.Iter.{TakesFirst};
-ghost use Rattle.chr_value.specs.Stores.{atom_at, drop_label};
+ghost use Rattle.chr_value.specs.Stores.{atom_at, drop_label, greatest_label};
 ghost use Rattle.chr_store.specs.Table.{IsSlotOf, atom_of, held, entries_from, shown};
 ghost use Rattle.chr_store.specs.Blocks.{AreCounts, AreEmptyAtNone};
 
@@ -140,7 +140,7 @@ impl<A: Allocator + Copy> Atoms<A> {
 
     /// Puts a copy of an atom under the next label. E01 where there is no memory, and then nothing has changed.
     pub fn push_copy(&mut self, atom: &Atom<A>) -> Result<(), AllocError>
-        requires { self.old.next ≤ 4294967295 }
+        requires { self.old.next ≤ greatest_label }
         ensures ok { OnOk result (self.new ≡ record { entries = self.old.entries ++ (self.old.next, atom.now) ∷ []; next = self.old.next + 1 }) }
         ensures unchanged { OnErr result (self.new ≡ self.old) }
     {
@@ -155,7 +155,7 @@ impl<A: Allocator + Copy> Atoms<A> {
 
     /// Gives the next label to no atom. E01 where there is no memory, and then nothing has changed.
     pub fn skip(&mut self) -> Result<(), AllocError>
-        requires { self.old.next ≤ 4294967295 }
+        requires { self.old.next ≤ greatest_label }
         ensures ok { OnOk result (self.new ≡ record { entries = self.old.entries; next = self.old.next + 1 }) }
         ensures unchanged { OnErr result (self.new ≡ self.old) }
     {
@@ -197,7 +197,7 @@ impl<A: Allocator + Copy> Atoms<A> {
     /// The atoms with their labels, which rise.
     pub fn iter(&self) -> Constraints<'_, A>
         ensures rest { result ≡ self.now.entries }
-        ensures fits { length result ≤ 4294967295 }
+        ensures fits { length result ≤ greatest_label }
     {
         let (slots, label) = past_empty(&self.slots, &self.counts, 1);
         Constraints {

@@ -4,7 +4,7 @@ ghost use Rattle.std.specs.Option.{option_copied};
 ghost use Rattle.std.specs.Iterator.{AlwaysYields};
 ghost use Rattle.std.specs.Map.Iter.{TakesFirst};
 ghost use Rattle.chr_value.specs.Atoms.{Atom, said};
-ghost use Rattle.chr_value.specs.Stores.{atom_at, drop_label};
+ghost use Rattle.chr_value.specs.Stores.{atom_at, drop_label, greatest_label};
 ghost use Rattle.chr_store.specs.Labels.{IsLabelled, spent};
 ghost use Rattle.chr_store.specs.Buckets.{IsLeastBetween};
 ghost use Rattle.chr_store.specs.Keys.{arg_at, key_of, IsLeastMatch};
@@ -124,7 +124,7 @@ fn matches_of<'s, A: Allocator + Copy>(buckets: &'s Buckets<A>, key: &Key) -> Ma
 impl<A: Allocator + Copy> Store<A> {
     /// A store of no constraints, whose labels go from 1 to the limit.
     pub fn new(alloc: A, limit: u64) -> Store<A>
-        requires { limit ≤ 4294967295 }
+        requires { limit ≤ greatest_label }
         ensures { result ≡ record { entries = []; next = 1; limit = limit } }
     {
         Store {
@@ -140,7 +140,7 @@ impl<A: Allocator + Copy> Store<A> {
     /// [`next_at`](Store::next_at) with a key there needn't go through the labels of the predicate. Places are numbered
     /// from 1. E01 where memory ran out.
     pub fn indexed(alloc: A, limit: u64, places: &[(Pred, u8)]) -> Result<Store<A>, AllocError>
-        requires { limit ≤ 4294967295 }
+        requires { limit ≤ greatest_label }
         ensures { IfOk result (λ made. made ≡ record { entries = []; next = 1; limit = limit }) }
     {
         Ok(Store {
@@ -291,7 +291,7 @@ impl<A: Allocator + Copy> Store<A> {
     /// The constraints with their labels, which rise.
     pub fn iter(&self) -> Constraints<'_, A>
         ensures rest { result ≡ self.now.entries }
-        ensures fits { length result ≤ 4294967295 }
+        ensures fits { length result ≤ greatest_label }
         ensures shows { AlwaysYields (TakesFirst shown) shown result self.now.entries }
         ensures labelled { IsLabelled self.now }
     {

@@ -24,10 +24,17 @@ abbrev mutual
   args_size Nil = 0
   args_size (Cons v vs) = size v + args_size vs
 
--- at most 8 deep and 64 large
+-- how deep and how large a value may be
+abbrev pub most_depth : ℕ
+most_depth = 8
+
+abbrev pub most_size : ℕ
+most_size = 64
+
+-- neither too deep nor too large
 pub record IsWithin {N : Type 0} (v : Value N) : Type 0 where
-  pub depth : depth v ≤ 8
-  pub size : size v ≤ 64
+  pub depth : depth v ≤ most_depth
+  pub size : size v ≤ most_size
 
 -- the room that is left behind what is so deep and so large, where d levels and this room are there
 abbrev pub left_of : ℕ → ℕ → ℕ → ℕ → Option ℕ
