@@ -3,7 +3,7 @@ use Rattle.std.specs.Prelude.{◌≡◌, ◌≢◌, ℕ, Bool, true, not, ◌&&�
 use Rattle.std.specs.Option.{option_map}
 use Rattle.chr_value.specs.Atoms.{Value, Args, Nil, Cons}
 use Rattle.chr_value.specs.Atoms as terms
-use Rattle.chr_value.specs.Limits.{depth, size}
+use Rattle.chr_value.specs.Limits.{depth, size, most_depth, most_size}
 use Rattle.chr_rule.specs.declared.expression.Operator.{Operator}
 use Rattle.chr_rule.specs.declared.expression.Operator.TheVariants.{Add, Sub, Mul, Quot, Rem, Mod}
 use Rattle.chr_rule.specs.declared.expression.Relation.{Relation}
@@ -75,9 +75,9 @@ abbrev mutual
   terms_under v End = Some Nil
   terms_under v (And t ts) = both (λ x xs. Some (Cons x xs)) (term_under v t) (terms_under v ts)
 
--- a value that is at most 8 deep and 64 large; there is none past these limits
+-- a value that is neither too deep nor too large; there is none past these limits
 abbrev pub within_limits : Option (Value ℕ) → Option (Value ℕ)
-within_limits (Some a) = if nat_le (depth a) 8 && nat_le (size a) 64 then Some a else None
+within_limits (Some a) = if nat_le (depth a) most_depth && nat_le (size a) most_size then Some a else None
 within_limits None = None
 
 -- what an argument of a body stands for, and a side of `==` or `\==`, if it is within the limits

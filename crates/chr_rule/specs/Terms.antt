@@ -1,7 +1,7 @@
 -- Which terms a rule may have.
 use Rattle.std.specs.Prelude.{◌≡◌, ℕ, suc, ◌+◌, ◌≤◌, max, Bool, true, false, ◌||◌, List, Option}
 use Rattle.std.specs.List.{AllByRecursion}
-use Rattle.chr_value.specs.Limits.{depth, size, left_of}
+use Rattle.chr_value.specs.Limits.{depth, size, most_depth, most_size, left_of}
 use Rattle.chr_rule.specs.Rules.{Term, Var, Given, Open, Terms, End, And, terms_of, RuleAtom, Comparison, Compared, Same, Differ, BodyItem, Is, Add, Simpagation}
 
 -- a variable stands in the term
@@ -54,11 +54,11 @@ abbrev mutual
   terms_size End = 0
   terms_size (And t ts) = term_size t + terms_size ts
 
--- a term that a rule may have: canonical, at most 8 deep and 64 large
+-- a term that a rule may have: canonical, and neither too deep nor too large
 pub record IsTerm {N : Type 0} (t : Term N) : Type 0 where
   pub canonical : IsCanonical t
-  pub depth : term_depth t ≤ 8
-  pub size : term_size t ≤ 64
+  pub depth : term_depth t ≤ most_depth
+  pub size : term_size t ≤ most_size
 
 -- each argument of a constraint is such a term
 abbrev pub IsRuleAtom : {N : Type 0} → RuleAtom N → Type 0
