@@ -2,6 +2,7 @@
 use Rattle.std.specs.Prelude.{◌≡◌, ℕ, zero, suc, ◌<◌, ◌≤◌, true, ◌==◌, if◌then◌else◌, List, [], ◌∷◌, map, length, take, Option, Some}
 use Rattle.std.specs.List.{AllByRecursion}
 use Rattle.chr_value.specs.Atoms.{Value, Atom}
+use Rattle.chr_value.specs.Stores.{greatest_label}
 use Rattle.chr_rule.specs.Rules.{Simpagation, rule_at}
 use Rattle.chr_rule.specs.Scope.{IsRule}
 use Rattle.chr_guard.specs.Values.{Valuation, Holds}
@@ -49,7 +50,7 @@ pub record IsFormed (t : Trial) : Type 0 where
   pub some : 1 ≤ length t.placed
   pub few : length t.placed ≤ length (heads_of t.rule)
   pub distinct : Distinct (heads t)
-  pub within : AllByRecursion (λ p. (1 ≤ p.head) × (p.head ≤ length (heads_of t.rule)) × (p.label ≤ 4294967295)) t.placed
+  pub within : AllByRecursion (λ p. (1 ≤ p.head) × (p.head ≤ length (heads_of t.rule)) × (p.label ≤ greatest_label)) t.placed
   pub full : length t.placed ≡ length (heads_of t.rule) → (h : ℕ) → 1 ≤ h → h ≤ length (heads_of t.rule) → among (heads t) h ≡ true
 
 -- the label at a head, 0 where there is none; and the labels at the next n heads

@@ -1,6 +1,6 @@
 //! Searches.
 ghost use Rattle.std.specs.Prelude.{◌≡◌, ◌↔◌, ℕ, suc, ◌+◌, ◌≤◌, true, List, ◌∷◌, ◌++◌, [], length, Some, MatchBool, MatchOption, IfOk, IfSome, IsTrue};
-ghost use Rattle.chr_value.specs.Stores.{atom_at};
+ghost use Rattle.chr_value.specs.Stores.{atom_at, greatest_label};
 ghost use Rattle.chr_plan.specs.Plans.{ArePlans};
 ghost use Rattle.chr_store.specs.Labels.{entered};
 ghost use Rattle.chr_search.specs.declared.passing.End.TheVariants as ends;
@@ -423,7 +423,7 @@ impl Search {
     pub fn go_past_alone(&mut self, number: u16, head: u8)
         requires number { 1 ≤ number }
         requires head { 1 ≤ head }
-        requires label { self.old.label ≤ 4294967295 }
+        requires label { self.old.label ≤ greatest_label }
         ensures { self.new ≡ record { label = self.old.label; place = past (number ∷ head ∷ self.old.label ∷ []) } }
     {
         self.position.become_alone(number, head, self.label + 1);
@@ -453,7 +453,7 @@ impl Search {
     /// Moves past a trial of these labels and one more, and past all that it begins.
     pub fn go_past<A: Allocator + Copy>(&mut self, part: &Trial<A>, last: Label)
         requires few { length part.now.placed ≤ 5 }
-        requires last { last ≤ 4294967295 }
+        requires last { last ≤ greatest_label }
         ensures { self.new ≡ record { label = self.old.label; place = past (position_of part.now ++ last ∷ []) } }
     {
         let position = &mut self.position;
