@@ -1,6 +1,7 @@
 //! Reading the next trials of a search.
 ghost use Rattle.std.specs.Prelude.{◌≡◌, ℕ, ◌<◌, ◌≤◌, ◌+◌, List, [], ◌∷◌, ◌++◌, length, map, IfOk, IsTrue, OnOk, MatchOption};
 ghost use Rattle.std.specs.Arc.{arc_value};
+ghost use Rattle.chr_value.specs.Stores.{greatest_label};
 ghost use Rattle.chr_plan.specs.Orders.{heads_of};
 ghost use Rattle.chr_plan.specs.Plans.{ArePlans};
 ghost use Rattle.chr_search.specs.Fronts.{MayEnd, IsFront, IsPlacedAfter, ComeAfter};
@@ -60,7 +61,7 @@ fn push_ends<A: Allocator + Copy>(
     first: Label,
     most: usize,
 ) -> Result<(), AllocError>
-    requires front { (s : Space) × (r : ℕ) × (h : ℕ) × (ls : List ℕ) × (from : ℕ) × IsFront s r h ls front.old × LeastFrom (MayEnd s (r ∷ h ∷ ls)) from first × ((p : PlacedView) → MayEnd s (r ∷ h ∷ ls) p.label → IsPlacedAfter s r h (length ls) p → p.label ≤ 4294967295) }
+    requires front { (s : Space) × (r : ℕ) × (h : ℕ) × (ls : List ℕ) × (from : ℕ) × IsFront s r h ls front.old × LeastFrom (MayEnd s (r ∷ h ∷ ls)) from first × ((p : PlacedView) → MayEnd s (r ∷ h ∷ ls) p.label → IsPlacedAfter s r h (length ls) p → p.label ≤ greatest_label) }
     requires few { length lasts.old.items < most }
     ensures few { OnOk result (length lasts.new.items ≤ most) }
     ensures some { OnOk result (length lasts.old.items < length lasts.new.items) }
@@ -294,7 +295,7 @@ fn go_behind<A: Allocator + Copy>(
     setting: &Setting<'_, A>,
 )
     requires plans { HasPlans setting.now }
-    requires low { search.old.label ≤ 4294967295 }
+    requires low { search.old.label ≤ greatest_label }
     requires last { IsTrue ends_head → EndHead (space_in setting.now search.old.label) (trials_at trials.now) }
     ensures label { search.new.label ≡ search.old.label }
     ensures place { let s = space_in setting.now search.old.label in (t : TrialView) (more : List TrialView) → trials_at trials.now ≡ t ∷ more → IsTrial s (position (last_of t more)) → IsTrialOf s.rules s.plans s.store (last_of t more) → ComeAfter s search.new.place (position (last_of t more)) }

@@ -1,6 +1,7 @@
 //! Reporting the judgements of a sheet.
 ghost use Rattle.std.specs.Prelude.{◌≡◌, ◌≢◌, ◌≤◌, ◌↔◌, IsTrue, Some, ◌∷◌, ◌++◌, ⊤, [], ℕ, List, length, map, MatchOption};
 ghost use Rattle.std.specs.List.{AllByRecursion};
+ghost use Rattle.chr_value.specs.Stores.{greatest_label};
 ghost use Rattle.chr_search.specs.declared.judged.Verdict.TheVariants as verdicts;
 ghost use Rattle.chr_search.specs.Judged.{IsVerdict};
 ghost use Rattle.chr_plan.specs.Plans.{ArePlans};
@@ -70,7 +71,7 @@ fn meet<A: Allocator + Copy>(
 ) -> (usize, Option<Label>)
     requires { (s : Space) × IsFrontOf s row.now.part front.old }
     ensures reports { (s : Space) (place : List ℕ) → IsFrontOf s row.now.part front.old → IsTrialOf s.rules s.plans s.store row.now.part → IsNext s place (position row.now.part ++ first ∷ []) → Reports s place (map misfit (trials_of row.now)) result.0 (place_after place row.now.part result.1) }
-    ensures low { MatchOption result.1 ⊤ (λ last. last ≤ 4294967295) }
+    ensures low { MatchOption result.1 ⊤ (λ last. last ≤ greatest_label) }
 {
     let mut next = Some(first);
     let mut count = 0;
