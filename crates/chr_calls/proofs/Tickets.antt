@@ -248,7 +248,7 @@ still_kept b n x more searching candidate k = record {
 
 -- one of the same rules, store and labels
 abbrev beside : BookState → Table → List (Entry ℕ) → List Ticket → BookState
-beside b names log tickets = record { rules = b.rules; plans = b.plans; names = names; limit = b.limit; log = log; store = b.store; next = b.next; tickets = tickets }
+beside b names log tickets = record b { names = names; log = log; tickets = tickets }
 
 pub kept_beside : (b : BookState) (names : Table) (log : List (Entry ℕ)) (tickets : List Ticket) (x : Ticket) → IsKeptTicket b x → IsKeptTicket (beside b names log tickets) x
 kept_beside b names log tickets x k =
@@ -274,7 +274,7 @@ kept_as_is b n e k = subst IsKept (sym e) k
 
 -- a step that writes an entry
 abbrev stepped : BookState → ℕ → Event ℕ → Store → ℕ → List Ticket → BookState
-stepped b seat e store next tickets = record { rules = b.rules; plans = b.plans; names = b.names; limit = b.limit; log = b.log ++ record { event = e; seat = seat } ∷ []; store = store; next = next; tickets = tickets }
+stepped b seat e store next tickets = record b { log = b.log ++ record { event = e; seat = seat } ∷ []; store = store; next = next; tickets = tickets }
 
 pub stepped_kept : (b : BookState) (seat : ℕ) (e : Event ℕ) (store : Store) (next : ℕ) (tickets : List Ticket) → Step Two (Instances b.rules) (goal_state b) e (goal_state (stepped b seat e store next tickets))
     → YoungestAreGoals (Instances b.rules) (goal_state (stepped b seat e store next tickets)) → AreNamed b (posted_by (e ∷ []))

@@ -41,14 +41,14 @@ IsLive b l = (atom : Atom ℕ) × (atom_at b.store l ≡ Some atom)
 
 -- the book with another table of names
 abbrev pub with_names : BookState → Table → BookState
-with_names b table = record { rules = b.rules; plans = b.plans; names = table; limit = b.limit; log = b.log; store = b.store; next = b.next; tickets = b.tickets }
+with_names b table = record b { names = table }
 
 -- the book with other tickets, with another record of a ticket, and with an entry more
 abbrev pub with_tickets : BookState → List Ticket → BookState
-with_tickets b tickets = record { rules = b.rules; plans = b.plans; names = b.names; limit = b.limit; log = b.log; store = b.store; next = b.next; tickets = tickets }
+with_tickets b tickets = record b { tickets = tickets }
 
 abbrev pub with_ticket : BookState → ℕ → Ticket → BookState
 with_ticket b t x = with_tickets b (slice_set b.tickets t x)
 
 abbrev pub with_entry : BookState → ℕ → Event ℕ → BookState
-with_entry b seat event = record { rules = b.rules; plans = b.plans; names = b.names; limit = b.limit; log = b.log ++ record { event = event; seat = seat } ∷ []; store = b.store; next = b.next; tickets = b.tickets }
+with_entry b seat event = record b { log = b.log ++ record { event = event; seat = seat } ∷ [] }

@@ -63,11 +63,7 @@ Posts b seat atoms (Ok first) n = AreNamed b atoms × (first ≡ length b.ticket
 
 -- the book where ticket t's atom has entered the store under the next label
 abbrev pub activated : BookState → ℕ → ℕ → Atom ℕ → BookState
-activated b seat t a = record {
-  rules = b.rules;
-  plans = b.plans;
-  names = b.names;
-  limit = b.limit;
+activated b seat t a = record b {
   log = b.log ++ record { event = log.Activate t b.next; seat = seat } ∷ [];
   store = b.store ++ (b.next, a) ∷ [];
   next = b.next + 1;
@@ -165,14 +161,9 @@ fired_ticket x trial false = ended
 
 -- the book where the trial has fired: an entry more, the removed labels gone, the body's atoms waiting in order
 abbrev pub fired : BookState → ℕ → ℕ → Trial → List (Atom ℕ) → Bool → BookState
-fired b seat t trial body lives = record {
-  rules = b.rules;
-  plans = b.plans;
-  names = b.names;
-  limit = b.limit;
+fired b seat t trial body lives = record b {
   log = b.log ++ record { event = log.Fire t trial.number (kept_labels trial) (removed_labels trial); seat = seat } ∷ [];
   store = without (removed_labels trial) b.store;
-  next = b.next;
   tickets = slice_set b.tickets t (fired_ticket (ticket_at b.tickets t) trial lives) ++ map waiting body;
 }
 

@@ -32,22 +32,22 @@ activated_by seat l = record { goal = Numbered l; holder = Some seat; stray = fa
 
 -- a ticket that a seat holds again, without its mark
 abbrev pub held_by : ℕ → Ticket → Ticket
-held_by seat x = record { goal = x.goal; holder = Some seat; stray = false; position = x.position; candidate = None }
+held_by seat x = record x { holder = Some seat; stray = false; candidate = None }
 
 -- a ticket that no seat holds any more, marked stray
 abbrev pub put_down : Ticket → Ticket
-put_down x = record { goal = x.goal; holder = None; stray = true; position = x.position; candidate = None }
+put_down x = record x { holder = None; stray = true; candidate = None }
 
 -- a ticket with a mark or without
 abbrev pub marked : Bool → Ticket → Ticket
-marked mark x = record { goal = x.goal; holder = x.holder; stray = mark; position = x.position; candidate = x.candidate }
+marked mark x = record x { stray = mark }
 
 -- a ticket with this candidate, and one whose search goes on at a position
 abbrev pub with_candidate : Option Trial → Ticket → Ticket
-with_candidate candidate x = record { goal = x.goal; holder = x.holder; stray = x.stray; position = x.position; candidate = candidate }
+with_candidate candidate x = record x { candidate = candidate }
 
 abbrev pub going_on : List ℕ → Ticket → Ticket
-going_on place x = record { goal = x.goal; holder = x.holder; stray = x.stray; position = place; candidate = None }
+going_on place x = record x { position = place; candidate = None }
 
 -- The tickets of a book: ticket t is at place t, and at place 0 stands one that has ended.
 abbrev pub ticket_at : List Ticket → ℕ → Ticket
