@@ -24,7 +24,7 @@ state_in x = state_with x.goal x.holder
 
 -- a ticket with this goal, and one that waits with this atom
 abbrev pub with_goal : Goal → Ticket → Ticket
-with_goal goal x = record { goal = goal; holder = x.holder; stray = x.stray; position = x.position; candidate = x.candidate }
+with_goal goal x = record x { goal = goal }
 
 abbrev pub with_atom : Atom ℕ → Ticket → Ticket
 with_atom atom x = with_goal (Plain atom) x
