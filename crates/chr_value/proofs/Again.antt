@@ -1,5 +1,5 @@
 -- What a table's names say is numbered as it was.
-use Rattle.std.proofs.Common.{◌≡◌, ◌<◌, ◌+◌, ℕ, zero, suc, Bool, true, false, ◌||◌, List, [], ◌∷◌, length, map, Option, Some, Result, refl, ap, ap₂, ◌∙◌, arith, subst}
+use Rattle.std.proofs.Common.{◌≡◌, ◌<◌, ℕ, zero, suc, Bool, true, false, ◌||◌, List, [], ◌∷◌, length, map, Option, Some, Result, refl, ap, ap₂, ◌∙◌, arith, subst}
 use Rattle.std.specs.List.{AllByRecursion}
 use Rattle.std.proofs.lemmas.Cmp.{nat_list_eq_equiv}
 use Rattle.chr_value.specs.Names.{is_text, has_text, number_of, HasDistinctTexts}
@@ -27,9 +27,7 @@ has-own (t ∷ ts) (suc n) lt = rw (has-own ts n (omega arith)) (or-true (is_tex
 number-own : (table : Table) (n : ℕ) → HasDistinctTexts table → n < length table → number_of table (text_of table n) ≡ n
 number-own [] n apart lt = absurd (omega arith)
 number-own (t ∷ ts) zero apart lt = rw (nat_list_eq_equiv.refl t) refl
-number-own (t ∷ ts) (suc n) apart lt =
-    let one : 1 + n ≡ suc n = omega arith in
-    rw (nat_list_eq_equiv.symm (text_of ts n) t, lacks t ts n apart.0 (omega arith), number-own ts n apart.1 (omega arith)) one
+number-own (t ∷ ts) (suc n) apart lt = rw (nat_list_eq_equiv.symm (text_of ts n) t, lacks t ts n apart.0 (omega arith), number-own ts n apart.1 (omega arith)) (omega arith)
 
 name_again : (table : Table) (n : ℕ) → HasDistinctTexts table → n < length table → number_name table (text_of table n) ≡ Some (n, table)
 name_again table n apart lt = rw (has-own table n lt, number-own table n apart lt) refl
@@ -73,6 +71,4 @@ fact_again table a apart named = (atom_own table a apart named).0
 
 -- what numbering a text gives, where an atom of the table was written so
 pub read_again : {X : Type 0} (view : X → Atom ℕ) (table new : Table) (text : Atom (List ℕ)) (r : Result X NamesFault) (a : Atom ℕ) → Named view r (numbered_atom table text) new → HasDistinctTexts table → AtomIsNamed (length table) a → text ≡ by_texts table a → Named view r (Some (a, table)) new
-read_again view table new text r a gives apart named is =
-    let e : numbered_atom table text ≡ Some (a, table) = ap (numbered_atom table) is ∙ fact_again table a apart named in
-    subst (λ (w : Option (Atom ℕ × Table)). Named view r w new) e gives
+read_again view table new text r a gives apart named is = subst (λ (w : Option (Atom ℕ × Table)). Named view r w new) (ap (numbered_atom table) is ∙ fact_again table a apart named) gives

@@ -1,15 +1,17 @@
 -- Slots, and the compound values beside them.
-use Rattle.std.proofs.Common.{◌≡◌, ◌<◌, ◌≤◌, ℕ, zero, suc, pos, List, [], ◌∷◌, ◌++◌, length, map, refl, ap, ap₂, subst, sym, ◌∙◌, arith}
+use Rattle.std.proofs.Common.{◌≡◌, ◌<◌, ◌≤◌, ℕ, zero, suc, pos, List, [], ◌∷◌, ◌++◌, length, map, refl, ap, ap₂, subst, sym, ◌∙◌, arith, ◌↔◌, Bool, true, false, IsTrue, take, get_or, Some, slice_set, slice_get}
 use Rattle.std.specs.List.{slice_index_or, AllByRecursion}
 use Rattle.std.proofs.lemmas.List.{length-map, length-append, map_push}
-use Rattle.chr_value.specs.Atoms.{Value, Int, Atom, ground_comp}
+use Rattle.chr_value.specs.Atoms.{Value, Int, Atom, ground_comp, TermIsNamed, ground, grounds}
 use Rattle.chr_value.specs.Limits.{IsWithin}
-use Rattle.chr_value.specs.Slots.{value_in, values_in, HasPlace, AreArguments}
+use Rattle.chr_value.specs.Slots.{value_in, values_in, HasPlace, AreArguments, slot_of, slots_of}
 use Rattle.chr_value.specs.declared.value.Comp.{Comp as CodeComp}
 use Rattle.chr_value.specs.declared.slots.Slot.{Slot}
+use Rattle.chr_value.proofs.Lists.{atom, named-args, same-Comp}
+use Rattle.chr_value.proofs.Places.{all-push, all-at, front-all}
+use Rattle.chr_value.specs.declared.value.Value.{Value as CodeValue}
+use Rattle.chr_value.specs.declared.slots.Kind.{Kind}
 use Rattle.chr_value.specs.declared.slots.Slot.TheVariants as slots
-use Rattle.chr_value.proofs.Lists.{atom}
-use Rattle.chr_value.proofs.Places.{all-push}
 
 module _ {A : Type 0} where
   at-end : (cs : List (CodeComp A)) (c : CodeComp A) (d : Value ℕ) → slice_index_or (map ground_comp (cs ++ c ∷ [])) (length cs) d ≡ ground_comp c
@@ -70,3 +72,48 @@ module _ {A : Type 0} where
 
   pub flat-pushed : (cs : List (CodeComp A)) (ss ss' : List Slot) (s : Slot) → ss' ≡ ss ++ s ∷ [] → values_in cs ss' ≡ values_in cs ss ++ value_in cs s ∷ []
   flat-pushed cs ss ss' s is = ap (values_in cs) is ∙ map_push (value_in cs) ss s
+
+-- ---- compound values, by their arguments
+
+module _ {A : Type 0} where
+  -- the table lacks a name of an argument
+  pub named-not : (n : ℕ) (c : CodeComp A) (xs : List (CodeValue A)) (i : ℕ) (x : CodeValue A) (told : Bool) → xs ≡ c.args.items → i < length xs → x ≡ get_or xs i x → IsTrue told ↔ TermIsNamed n (ground x) → told ≡ false
+      → IsTrue false ↔ TermIsNamed n (ground_comp c)
+  named-not n c xs i x told are lt ex means denied =
+      (λ t. absurd cc, λ h. sym denied ∙ means.1 (all-at ground (TermIsNamed n) xs i x lt ex (subst (λ ys. AllByRecursion (TermIsNamed n) (grounds ys)) (sym are) ((named-args n (grounds c.args.items)).0 h.1))))
+
+  -- it has all
+  pub named-all : (n : ℕ) (c : CodeComp A) (xs : List (CodeValue A)) (i : ℕ) → xs ≡ c.args.items → c.functor.number < n → length xs ≤ i → AllByRecursion (TermIsNamed n) (grounds (take i xs)) → IsTrue true ↔ TermIsNamed n (ground_comp c)
+  named-all n c xs i are functor le h = (λ t. (functor, (named-args n (grounds c.args.items)).1 (subst (AllByRecursion (TermIsNamed n)) (front-all ground xs i le ∙ ap grounds are) h)), λ h. refl)
+
+  pub same-length : (xs ys : List (CodeValue A)) → grounds xs ≡ grounds ys → length xs ≡ length ys
+  same-length xs ys e = sym (length-map xs ground) ∙ ap length e ∙ length-map ys ground
+
+  -- compound values that differ
+  pub same-not : (a b : CodeComp A) → (a.functor.number ≡ b.functor.number → grounds a.args.items ≡ grounds b.args.items → ⊥) → IsTrue false ↔ (ground_comp a ≡ ground_comp b)
+  same-not a b differ = (λ t. absurd cc, λ h. let p = (same-Comp a.functor.number b.functor.number (grounds a.args.items) (grounds b.args.items)).0 h in absurd (differ p.0 p.1))
+
+-- ---- slots by their kinds and words
+
+pub as-many : (ks : List Kind) (ws : List ℕ) → length ws ≤ length ks → length (slots_of ks ws) ≡ length ws
+as-many [] [] le = refl
+as-many [] (w ∷ ws) le = absurd (omega (arith, le))
+as-many (k ∷ ks) [] le = refl
+as-many (k ∷ ks) (w ∷ ws) le = ap suc (as-many ks ws (omega (arith, le)))
+
+pub one-more : (ks : List Kind) (ws : List ℕ) (k : Kind) (w : ℕ) → length ws < length ks → slots_of (slice_set ks (length ws) k) (ws ++ w ∷ []) ≡ slots_of ks ws ++ slot_of k w ∷ []
+one-more [] ws k w lt = absurd (omega (arith, lt))
+one-more (j ∷ []) [] k w lt = refl
+one-more (j ∷ i ∷ ks) [] k w lt = refl
+one-more (j ∷ ks) (v ∷ ws) k w lt = ap (λ (ss : List Slot). slot_of j v ∷ ss) (one-more ks ws k w (omega (arith, lt)))
+
+pub packed-at : (ks : List Kind) (ws : List ℕ) (i : ℕ) (d : Kind) (v : ℕ) → length ws ≤ length ks → i < length ws → Some (slot_of (get_or ks i d) (get_or ws i v)) ≡ slice_get (slots_of ks ws) i
+packed-at [] [] i d v le lt = absurd (omega (arith, lt))
+packed-at [] (w ∷ ws) i d v le lt = absurd (omega (arith, le))
+packed-at (k ∷ ks) [] i d v le lt = absurd (omega (arith, lt))
+packed-at (k ∷ ks) (w ∷ ws) zero d v le lt = refl
+packed-at (k ∷ ks) (w ∷ ws) (suc i) d v le lt = packed-at ks ws i d v (omega (arith, le)) (omega (arith, lt))
+
+-- how many slots there are, where there are eight kinds
+pub shown : (ks : List Kind) (ws : List ℕ) (ss : List Slot) → (length ws ≤ 8) × (length ks ≡ 8) → slots_of ks ws ≡ ss → length ss ≡ length ws
+shown ks ws ss few view = omega (arith, as-many ks ws (omega (arith, few.0, few.1)), ap length view)

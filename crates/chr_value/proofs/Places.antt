@@ -1,6 +1,5 @@
 -- Lists of which each element says something, place by place.
-use Rattle.std.proofs.Common.{◌≡◌, ◌<◌, ◌≤◌, ◌++◌, ◌+◌, ℕ, Some, List, [], ◌∷◌, length, map, take, drop, get_or, arith, sym, ap, ap₂, ◌∙◌, subst}
-use Rattle.std.specs.Prelude.{slice_get}
+use Rattle.std.proofs.Common.{◌≡◌, ◌<◌, ◌≤◌, ◌++◌, ◌+◌, ℕ, Some, List, [], ◌∷◌, length, map, take, drop, get_or, arith, sym, ap, ap₂, ◌∙◌, subst, slice_get}
 use Rattle.std.specs.List.{AllByRecursion}
 use Rattle.std.proofs.lemmas.List.{take_more, take_all, drop_more, drop_all, map_push, length-map, length-take-le, get_or-map}
 use Rattle.std.proofs.lemmas.List.Elements.{All-from_recursion, All-get_or}
@@ -16,9 +15,7 @@ got-more xs i x e = rw (take_more xs i x (slice_get_within xs i x (sym e)), get_
 module _ {X Y : Type 0} (f : X → Y) where
   -- lists that say the same do so at each place
   pub same-at : (xs ys : List X) (i : ℕ) (x y : X) → i < length xs → x ≡ get_or xs i x → y ≡ get_or ys i y → map f xs ≡ map f ys → f x ≡ f y
-  same-at xs ys i x y lt ex ey h =
-      let within : i < length ys = omega (arith, ap length h, length-map xs f, length-map ys f) in
-      cc (get_or-map f xs i x (f x) lt, get_or-map f ys i y (f x) within)
+  same-at xs ys i x y lt ex ey h = cc (get_or-map f xs i x (f x) lt, get_or-map f ys i y (f x) (omega (arith, ap length h, length-map xs f, length-map ys f)))
 
   -- what holds of all holds at each place
   pub all-at : (P : Y → Type 0) (xs : List X) (i : ℕ) (x : X) → i < length xs → x ≡ get_or xs i x → AllByRecursion P (map f xs) → P (f x)

@@ -1,12 +1,14 @@
 -- What is numbered says the same by the table after it.
-use Rattle.std.proofs.Common.{◌≡◌, ℕ, suc, ◌+◌, ◌<◌, ◌≤◌, length-take, Bool, true, false, cond, ltb, ◌||◌, not, List, [], ◌∷◌, ◌++◌, length, take, map, Option, Some, None, refl, sym, ap, ap₂, subst, ◌∙◌, arith, inl, inr, get_or-take}
+use Rattle.std.proofs.Common.{◌≡◌, ℕ, suc, ◌+◌, ◌<◌, ◌≤◌, length-take, Bool, true, false, cond, ltb, ◌||◌, not, List, [], ◌∷◌, ◌++◌, length, take, map, Option, Some, None, refl, sym, ap, ap₂, subst, ◌∙◌, arith, inl, inr, get_or-take, Result, Ok, Err}
 use Rattle.std.proofs.lemmas.Slice.Eq.{bytes_eq-Decides}
 use Rattle.chr_value.specs.Names.{has_text, number_of, with_text, is_text}
 use Rattle.chr_value.specs.Atoms.{Value, Int, Sym, Comp, Args, Nil, Cons, args_of, Atom, TermIsNamed, ArgsAreNamed, AtomIsNamed, renamed, args_renamed, text_of, by_texts}
-use Rattle.chr_value.specs.Naming.{◌>>=◌, Table, number_name, numbered_value, numbered_args, number_terms, numbered_atom}
+use Rattle.chr_value.specs.Naming.{◌>>=◌, Table, number_name, numbered_value, numbered_args, number_terms, numbered_atom, Named, IsEntered, table_after, number_more}
 use Rattle.chr_value.proofs.Chosen.{last, last_two, bind_assoc, some_is, chosen}
 use Rattle.chr_value.proofs.Lists.{atom, as_value, args_of-injective, same-Comp, named-args, renamed-args}
 use Rattle.chr_value.proofs.NameLaws.{keeps-then, grown}
+use Rattle.chr_value.specs.declared.names.NamesFault.{NamesFault}
+use Rattle.chr_value.specs.declared.names.NamesFault.TheVariants as faults
 
 -- the text at the number that a name gets
 abbrev At : Bool → List ℕ → List ℕ → Table → Type 0
@@ -33,9 +35,8 @@ pub name_says : (table : Table) (t : List ℕ) (n : ℕ) (new : Table) → numbe
 name_says table t n new e =
     elim (chosen (has_text table t || ltb (length table) 65536) (Some (number_of table t, with_text table t)) None (Some (n, new)) e) [
       | inl p ↦
-          let h = some_is (number_of table t, with_text table t) (n, new) p.1 in
           let a = text_at table t in
-          subst (λ (x : ℕ × Table). (text_of x.1 x.0 ≡ t) × (x.0 < length x.1) × (take (length table) x.1 ≡ table)) h (a.0, a.1, grown table t (has_text table t))
+          subst (λ (x : ℕ × Table). (text_of x.1 x.0 ≡ t) × (x.0 < length x.1) × (take (length table) x.1 ≡ table)) (some_is (number_of table t, with_text table t) (n, new) p.1) (a.0, a.1, grown table t (has_text table t))
       | inr p ↦ absurd (let k = p.1 in cc)
     ]
 
@@ -86,8 +87,7 @@ mutual
       last_two (number_name table t) (λ n. numbered_args n.1 ts) (λ n xs. (Comp n.0 xs.0, xs.1)) (v, new) (TermSays table (Comp t ts)) e (λ n xs h k.
       let s = name_says table t n.0 n.1 h in
       let r = args_say n.1 ts xs.0 xs.1 k in
-      let name : text_of xs.1 n.0 ≡ t = text_kept n.1 xs.1 n.0 r.2 s.1 ∙ s.0 in
-      (ap₂ (λ (w : List ℕ) (ws : Args (List ℕ)). Comp w ws) name r.0, (omega (arith, s.1, as_long n.1 xs.1 r.2), r.1), keeps-then table n.1 xs.1 s.2 r.2))
+      (ap₂ (λ (w : List ℕ) (ws : Args (List ℕ)). Comp w ws) (text_kept n.1 xs.1 n.0 r.2 s.1 ∙ s.0) r.0, (omega (arith, s.1, as_long n.1 xs.1 r.2), r.1), keeps-then table n.1 xs.1 s.2 r.2))
 
   args_say : (table : Table) (ts : Args (List ℕ)) (vs : Args ℕ) (new : Table) → numbered_args table ts ≡ Some (vs, new) → (args_renamed (text_of new) vs ≡ ts) × ArgsAreNamed (length new) vs × (take (length table) new ≡ table)
   args_say table Nil vs new e = subst (ArgsSay table Nil) (some_is (Nil, table) (vs, new) e) (refl, tt, grown table [] true)
@@ -95,9 +95,7 @@ mutual
       last_two (numbered_value table t) (λ x. numbered_args x.1 ts) (λ x xs. (Cons x.0 xs.0, xs.1)) (vs, new) (ArgsSay table (Cons t ts)) e (λ x xs h k.
       let s = term_says table t x.0 x.1 h in
       let r = args_say x.1 ts xs.0 xs.1 k in
-      let head : renamed (text_of xs.1) x.0 ≡ t = term_kept x.1 xs.1 x.0 r.2 s.1 ∙ s.0 in
-      let named : TermIsNamed (length xs.1) x.0 = term_later (length x.1) (length xs.1) x.0 (as_long x.1 xs.1 r.2) s.1 in
-      (ap₂ (λ (w : Value (List ℕ)) (ws : Args (List ℕ)). Cons w ws) head r.0, (named, r.1), keeps-then table x.1 xs.1 s.2 r.2))
+      (ap₂ (λ (w : Value (List ℕ)) (ws : Args (List ℕ)). Cons w ws) (term_kept x.1 xs.1 x.0 r.2 s.1 ∙ s.0) r.0, (term_later (length x.1) (length xs.1) x.0 (as_long x.1 xs.1 r.2) s.1, r.1), keeps-then table x.1 xs.1 s.2 r.2))
 
 -- a list of terms is numbered as the same arguments are, and an atom as the compound value
 pub as_args : (ts : List (Value (List ℕ))) (table : Table) → numbered_args table (args_of ts) ≡ (number_terms table ts >>= λ x. Some (args_of x.0, x.1))
@@ -111,17 +109,81 @@ as_comp table a = simp (as_args a.args, bind_assoc)
 
 pub terms_say : (table : Table) (ts : List (Value (List ℕ))) (vs : List (Value ℕ)) (new : Table) → number_terms table ts ≡ Some (vs, new) → (map (renamed (text_of new)) vs ≡ ts) × (take (length table) new ≡ table)
 terms_say table ts vs new e =
-    let same = as_args ts table ∙ ap (λ (o : Option (List (Value ℕ) × Table)). o >>= λ x. Some (args_of x.0, x.1)) e in
-    let s = args_say table (args_of ts) (args_of vs) new same in
+    let s = args_say table (args_of ts) (args_of vs) new (as_args ts table ∙ ap (λ (o : Option (List (Value ℕ) × Table)). o >>= λ x. Some (args_of x.0, x.1)) e) in
     (args_of-injective (map (renamed (text_of new)) vs) ts (sym (renamed-args (text_of new) vs) ∙ s.0), s.2)
 
 pub atom_says : (table : Table) (a : Atom (List ℕ)) (f : Atom ℕ) (new : Table) → numbered_atom table a ≡ Some (f, new)
     → (by_texts new f ≡ a) × AtomIsNamed (length new) f × (take (length table) new ≡ table)
 atom_says table a f new e =
-    let same = as_comp table a ∙ ap (λ (o : Option (Atom ℕ × Table)). o >>= λ x. Some (as_value x.0, x.1)) e in
-    let s = term_says table (as_value a) (as_value f) new same in
+    let s = term_says table (as_value a) (as_value f) new (as_comp table a ∙ ap (λ (o : Option (Atom ℕ × Table)). o >>= λ x. Some (as_value x.0, x.1)) e) in
     let is = (same-Comp (text_of new f.name) a.name (map (renamed (text_of new)) f.args) a.args).0 (rw renamed-args at s.0) in
     (ap₂ (λ (n : List ℕ) vs. atom n vs) is.0 is.1, record { name = s.1.0; args = (named-args (length new) f.args).0 s.1.1 }, s.2)
 
 pub fact_says : (table : Table) (a : Atom (List ℕ)) (f : Atom ℕ) (new : Table) → numbered_atom table a ≡ Some (f, new) → (by_texts new f ≡ a) × (take (length table) new ≡ table)
 fact_says table a f new e = let s = atom_says table a f new e in (s.0, s.2)
+
+-- ---- names entered one after another
+
+pub none_after : {Y : Type 0} (o : Option (Y × Table)) → table_after o ≡ None → o ≡ None
+none_after (Some y) e = absurd cc
+none_after None e = refl
+
+pub some_after : {Y : Type 0} (o : Option (Y × Table)) (new : Table) → table_after o ≡ Some new → (y : Y) × (o ≡ Some (y, new))
+some_after (Some y) new e = let t : y.1 ≡ new = cc in (y.0, ap (λ (w : Table). Some (y.0, w)) t)
+some_after None new e = absurd cc
+
+-- what follows takes the table and makes none of its own
+after_bind : {X Y : Type 0} (o : Option (X × Table)) (f : X → Y) → table_after (o >>= λ x. Some (f x.0, x.1)) ≡ table_after o
+after_bind (Some x) f = refl
+after_bind None f = refl
+
+follows : {X Y : Type 0} (o : Option (X × Table)) (f : X × Table → Option (Y × Table)) (g : Table → Option Table) (mid : Table) → table_after o ≡ Some mid → ((x : X × Table) → table_after (f x) ≡ g x.1) → table_after (o >>= f) ≡ g mid
+follows (Some x) f g mid e h = h x ∙ ap g (some_is x.1 mid e)
+follows None f g mid e h = absurd cc
+
+-- the same of what has the same table after it, and lacks a name where the other does
+pub entered-as : {X Y Z : Type 0} (P Q : Table → Type 0) (r : Result X NamesFault) (a : Option (Y × Table)) (b : Option (Z × Table)) (new : Table) → table_after b ≡ table_after a → (Q new → P new) → IsEntered P r a new → IsEntered Q r b new
+entered-as P Q (Ok x) a b new same less h = same ∙ h
+entered-as P Q (Err faults.NoMemory) a b new same less h = h
+entered-as P Q (Err faults.Full) a b new same less h = (none_after b (same ∙ ap table_after h.0), h.1, λ q. h.2 (less q))
+
+pub entered-stop : (W X : Type 0) {Y Z : Type 0} (P Q : Table → Type 0) (e : NamesFault) (a : Option (Y × Table)) (b : Option (Z × Table)) (new : Table) → (a ≡ None → b ≡ None) → (Q new → P new) → IsEntered {X = W} P (Err e) a new → IsEntered {X = X} Q (Err e) b new
+entered-stop W X P Q faults.NoMemory a b new stops less h = h
+entered-stop W X P Q faults.Full a b new stops less h = (stops h.0, h.1, λ q. h.2 (less q))
+
+pub entered-fails : (W : Type 0) {X Y Z : Type 0} (P : Table → Type 0) (view : X → Z) (e : NamesFault) (a : Option (Y × Table)) (b : Option (Z × Table)) (new : Table) → (a ≡ None → b ≡ None) → IsEntered {X = W} P (Err e) a new → Named view (Err e) b new
+entered-fails W P view faults.NoMemory a b new stops h = tt
+entered-fails W P view faults.Full a b new stops h = stops h.0
+
+-- ---- a compound value
+
+pub comp-after : (table mid : Table) (t : List ℕ) (vs : List (Value (List ℕ))) → table_after (number_name table t) ≡ Some mid → table_after (numbered_value table (Comp t (args_of vs))) ≡ table_after (number_terms mid vs)
+comp-after table mid t vs e =
+    follows (number_name table t) (λ n. numbered_args n.1 (args_of vs) >>= λ xs. Some (Comp n.0 xs.0, xs.1)) (λ new. table_after (number_terms new vs)) mid e
+    (λ n. after_bind (numbered_args n.1 (args_of vs)) (λ xs. Comp n.0 xs) ∙ ap table_after (as_args vs n.1) ∙ after_bind (number_terms n.1 vs) args_of)
+
+-- ---- several values
+
+pub terms-after : (table new : Table) (t : Value (List ℕ)) (ts all : List (Value (List ℕ))) → all ≡ t ∷ ts → table_after (numbered_value table t) ≡ Some new → table_after (number_terms table all) ≡ table_after (number_terms new ts)
+unfolding number_terms
+terms-after table new t ts all is e =
+    rw is (follows (numbered_value table t) (λ x. number_terms x.1 ts >>= λ xs. Some (x.0 ∷ xs.0, xs.1)) (λ mid. table_after (number_terms mid ts)) new e (λ x. after_bind (number_terms x.1 ts) (λ vs. x.0 ∷ vs)))
+
+pub terms-none : (table : Table) (t : Value (List ℕ)) (ts all : List (Value (List ℕ))) → all ≡ t ∷ ts → numbered_value table t ≡ None → number_terms table all ≡ None
+unfolding number_terms
+terms-none table t ts all is e = rw (is, e) refl
+
+pub terms-end : (table : Table) (all : List (Value (List ℕ))) → all ≡ [] → table_after (number_terms table all) ≡ Some table
+unfolding number_terms
+terms-end table all is = rw is refl
+
+-- ---- an atom
+
+pub atom-after : (table mid : Table) (a : Atom (List ℕ)) → table_after (number_name table a.name) ≡ Some mid → table_after (numbered_atom table a) ≡ table_after (number_terms mid a.args)
+unfolding numbered_atom
+atom-after table mid a e =
+    follows (number_name table a.name) (λ n. number_more n.0 [] (number_terms n.1 a.args)) (λ new. table_after (number_terms new a.args)) mid e (λ n. after_bind (number_terms n.1 a.args) (λ vs. atom n.0 vs))
+
+pub atom-none : (table : Table) (a : Atom (List ℕ)) → number_name table a.name ≡ None → numbered_atom table a ≡ None
+unfolding numbered_atom
+atom-none table a e = rw e refl

@@ -1,8 +1,7 @@
 -- Texts written one after another.
-use Rattle.std.proofs.Common.{◌≡◌, ℕ, zero, suc, List, [], ◌∷◌, ◌++◌, length, map, None, refl, append_assoc, arith}
+use Rattle.std.proofs.Common.{◌≡◌, ℕ, zero, suc, List, [], ◌∷◌, ◌++◌, length, map, None, refl, append_assoc, arith, slice_get}
 use Rattle.std.proofs.lemmas.List.{append-nil, length-map, map_push}
 use Rattle.std.proofs.lemmas.Bool.Decides.{nat_tests}
-use Rattle.std.specs.Prelude.{slice_get}
 use Rattle.chr_value.specs.Atoms.{Value, Comp, args_of, renamed, text_of}
 use Rattle.chr_value.specs.Spelling.{after_commas, opened, bracketed, mark_before, mark_behind, spell_term}
 use Rattle.chr_value.proofs.Lists.{renamed-args, spell-args}

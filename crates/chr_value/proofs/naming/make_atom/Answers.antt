@@ -11,10 +11,8 @@ use Rattle.chr_value.proofs.naming.make_atom.Goals as goal
 
 pub push-requires-clause-within : goal.push-requires-clause-within
 push-requires-clause-within g c =
-    let items = c.deref-value-items.result.now in
-    let x = c.value-item.result in
-    let within = all-at text_value IsWithin items c.loop-value.value-index x c.loop-value-test.true c.value-item.is (rw c.deref-value-items.ensures.value c.requires.within) in
-    subst IsWithin (sym c.in_ok-make_value.ensures) (within_same (number_of c.args.names.now) (text_value x) within)
+    let within = all-at text_value IsWithin c.deref-value-items.result.now c.loop-value.value-index c.value-item.result c.loop-value-test.true c.value-item.is (rw c.deref-value-items.ensures.value c.requires.within) in
+    subst IsWithin (sym c.in_ok-make_value.ensures) (within_same (number_of c.args.names.now) (text_value c.value-item.result) within)
 
 pub loop-value-preserved : goal.loop-value-preserved
 loop-value-preserved g c =

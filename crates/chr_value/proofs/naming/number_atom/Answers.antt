@@ -8,8 +8,7 @@ use Rattle.chr_value.specs.TextAtoms.{text_values, text_atom}
 use Rattle.chr_value.proofs.Again.{read_again}
 use Rattle.chr_value.proofs.Back.{atom_back}
 use Rattle.chr_value.proofs.Chosen.{made-no-fault}
-use Rattle.chr_value.proofs.Entered.{entered-fails, none_after, some_after, atom-after, atom-none}
-use Rattle.chr_value.proofs.Said.{fact_says}
+use Rattle.chr_value.proofs.Said.{fact_says, entered-fails, none_after, some_after, atom-after, atom-none}
 use Rattle.chr_value.proofs.naming.number_atom.Given.{Over}
 use Rattle.chr_value.proofs.naming.number_atom.Goals as goal
 use Rattle.chr_value.proofs.naming.number_atom.Goals.{After-make_atom}
@@ -27,13 +26,11 @@ returns-in_err-enter_name-clause-again g c = λ a apart named is. read_again (λ
 pub returns-in_err-enter_values-clause-gives : goal.returns-in_err-enter_values-clause-gives
 returns-in_err-enter_values-clause-gives g c =
     let p = err_from_is_err_and c.from_residual-in_err-enter_values.result c.from_residual-in_err-enter_values.ensures.1 in
-    let old = c.args.names.now in
-    let mid = c.enter_name.new.names in
     let text = text_atom c.args.text.now in
     let terms = text_values c.deref.result.now in
-    let after = atom-after old mid text c.in_ok-enter_name.ensures.enters ∙ ap (λ ts. table_after (number_terms mid (text_values ts))) (sym c.deref.ensures.value) in
-    rw (p.1, p.2) (entered-fails (Unit {0}) (λ table. AllByRecursion (TermIsKnown table) terms) (λ (a : Atom ℕ). a) c.in_err-enter_values.field-0.0 (number_terms mid terms) (numbered_atom old text) c.enter_values.new.names
-    (λ none. none_after (numbered_atom old text) (after ∙ ap table_after none)) c.in_err-enter_values.ensures.enters)
+    let after = atom-after c.args.names.now c.enter_name.new.names text c.in_ok-enter_name.ensures.enters ∙ ap (λ ts. table_after (number_terms c.enter_name.new.names (text_values ts))) (sym c.deref.ensures.value) in
+    rw (p.1, p.2) (entered-fails (Unit {0}) (λ table. AllByRecursion (TermIsKnown table) terms) (λ (a : Atom ℕ). a) c.in_err-enter_values.field-0.0 (number_terms c.enter_name.new.names terms) (numbered_atom c.args.names.now text) c.enter_values.new.names
+    (λ none. none_after (numbered_atom c.args.names.now text) (after ∙ ap table_after none)) c.in_err-enter_values.ensures.enters)
 
 pub returns-in_err-enter_values-clause-again : goal.returns-in_err-enter_values-clause-again
 returns-in_err-enter_values-clause-again g c = λ a apart named is. read_again (λ b. b) c.args.names.now c.enter_values.new.names (text_atom c.args.text.now) c.from_residual-in_err-enter_values.result a (returns-in_err-enter_values-clause-gives g c) apart named is
@@ -41,22 +38,18 @@ returns-in_err-enter_values-clause-again g c = λ a apart named is. read_again (
 -- the atom by numbers, once all names are entered
 entered : (g : Over) (c : After-make_atom g) → (a : Atom ℕ) × (numbered_atom c.args.names.now (text_atom c.args.text.now) ≡ Some (a, c.enter_values.new.names))
 entered g c =
-    let old = c.args.names.now in
-    let mid = c.enter_name.new.names in
     let text = text_atom c.args.text.now in
-    some_after (numbered_atom old text) c.enter_values.new.names
-    (atom-after old mid text c.in_ok-enter_name.ensures.enters ∙ ap (λ ts. table_after (number_terms mid (text_values ts))) (sym c.deref.ensures.value) ∙ c.in_ok-enter_values.ensures.enters)
+    some_after (numbered_atom c.args.names.now text) c.enter_values.new.names
+    (atom-after c.args.names.now c.enter_name.new.names text c.in_ok-enter_name.ensures.enters ∙ ap (λ ts. table_after (number_terms c.enter_name.new.names (text_values ts))) (sym c.deref.ensures.value) ∙ c.in_ok-enter_values.ensures.enters)
 
 pub returns-in-Ok-clause-gives : goal.returns-in-Ok-clause-gives
 returns-in-Ok-clause-gives g c =
     let made = entered g (goal.at.returns-in-Ok-clause-gives g c).After-make_atom in
-    let new = c.enter_values.new.names in
-    made.1 ∙ ap (λ (a : Atom ℕ). Some (a, new)) (sym (c.in-Ok.ensures.gives ∙ (atom_back c.args.names.now (text_atom c.args.text.now) made.0 new made.1 c.in-Ok.ensures.distinct).0))
+    made.1 ∙ ap (λ (a : Atom ℕ). Some (a, c.enter_values.new.names)) (sym (c.in-Ok.ensures.gives ∙ (atom_back c.args.names.now (text_atom c.args.text.now) made.0 c.enter_values.new.names made.1 c.in-Ok.ensures.distinct).0))
 
 pub returns-in-Ok-clause-full : goal.returns-in-Ok-clause-full
 returns-in-Ok-clause-full g c =
-    let back = atom_back c.args.names.now (text_atom c.args.text.now) c.in-Ok.atom c.enter_values.new.names (returns-in-Ok-clause-gives g c) c.in-Ok.ensures.distinct in
-    (λ is. absurd (made-no-fault _ _ is), λ h. absurd (h.1 back.1))
+    (λ is. absurd (made-no-fault _ _ is), λ h. absurd (h.1 (atom_back c.args.names.now (text_atom c.args.text.now) c.in-Ok.atom c.enter_values.new.names (returns-in-Ok-clause-gives g c) c.in-Ok.ensures.distinct).1))
 
 pub returns-in-Ok-clause-says : goal.returns-in-Ok-clause-says
 returns-in-Ok-clause-says g c = (fact_says c.args.names.now (text_atom c.args.text.now) c.in-Ok.atom c.enter_values.new.names (returns-in-Ok-clause-gives g c)).0
@@ -67,5 +60,4 @@ returns-in-Ok-clause-again g c = λ a apart named is. read_again (λ b. b) c.arg
 pub returns-in-Err-clause-full : goal.returns-in-Err-clause-full
 returns-in-Err-clause-full g c =
     let made = entered g (goal.at.returns-in-Err-clause-full g c).After-make_atom in
-    let back = atom_back c.args.names.now (text_atom c.args.text.now) made.0 c.enter_values.new.names made.1 c.in-Err.ensures.distinct in
-    (λ is. absurd cc, λ h. absurd (h.1 back.1))
+    (λ is. absurd cc, λ h. absurd (h.1 (atom_back c.args.names.now (text_atom c.args.text.now) made.0 c.enter_values.new.names made.1 c.in-Err.ensures.distinct).1))

@@ -2,30 +2,25 @@ use Rattle.std.proofs.Common.{◌<◌, length, sym, ap, ◌∙◌, arith}
 use Rattle.std.proofs.lemmas.Bool.{false≢true}
 use Rattle.chr_value.specs.Atoms.{ground, grounds}
 use Rattle.chr_value.proofs.Places.{same-at, same-more}
-use Rattle.chr_value.proofs.Comps.{same-not, same-length}
+use Rattle.chr_value.proofs.Beside.{same-not, same-length}
 use Rattle.chr_value.proofs.value.+same.Goals as goal
 use Rattle.chr_value.proofs.value.+same.Goals.{Comp::same-then-self-other-via-then-self-other, Comp::same-then-self-other-via-else-self-other+then-len}
 
 pub Comp::same-returns-then-self-other : goal.Comp::same-returns-then-self-other
 Comp::same-returns-then-self-other g t c =
-    let a = c.args.self.now in
     let b = c.args.other.now in
-    same-not a b (λ functors args. elim c.then-self-other.branch [
+    same-not c.args.self.now b (λ functors args. elim c.then-self-other.branch [
       | Comp::same-then-self-other-via-then-self-other w ↦ w.if-self-other.true functors
-      | Comp::same-then-self-other-via-else-self-other+then-len w ↦ w.if-len.true (omega (arith, w.len.ensures, w.len-else-self-other.ensures, a.args.ok.0, b.args.ok.0, same-length a.args.items b.args.items args))
+      | Comp::same-then-self-other-via-else-self-other+then-len w ↦ w.if-len.true (omega (arith, w.len.ensures, w.len-else-self-other.ensures, c.args.self.now.args.ok.0, b.args.ok.0, same-length c.args.self.now.args.items b.args.items args))
     ])
 
 pub Comp::same-returns-then-not-same : goal.Comp::same-returns-then-not-same
 Comp::same-returns-then-not-same g t c =
-    let a = c.args.self.now in
-    let b = c.args.other.now in
-    same-not a b (λ functors args.
-    let here = same-at ground c.deref-value-items.result.now b.args.items c.loop-i.i _ _ c.loop-i-test.true c.value-item.is c.index.ensures (ap grounds c.deref-value-items.ensures.value ∙ args) in
-    false≢true (sym c.if-not-same.true ∙ c.same.ensures.1 here))
+    same-not c.args.self.now c.args.other.now (λ functors args.
+    false≢true (sym c.if-not-same.true ∙ c.same.ensures.1 (same-at ground c.deref-value-items.result.now c.args.other.now.args.items c.loop-i.i _ _ c.loop-i-test.true c.value-item.is c.index.ensures (ap grounds c.deref-value-items.ensures.value ∙ args))))
 
 pub Comp::same-loop-i-preserved : goal.Comp::same-loop-i-preserved
 Comp::same-loop-i-preserved g t c =
-    let a = c.args.self.now in
     let b = c.args.other.now in
-    let there : c.loop-i.i < length b.args.items = omega (arith, c.loop-i-test.true, ap length c.deref-value-items.ensures.value, c.if-len.false, c.len.ensures, c.len-else-self-other.ensures, a.args.ok.0, b.args.ok.0) in
+    let there : c.loop-i.i < length b.args.items = omega (arith, c.loop-i-test.true, ap length c.deref-value-items.ensures.value, c.if-len.false, c.len.ensures, c.len-else-self-other.ensures, c.args.self.now.args.ok.0, b.args.ok.0) in
     same-more ground c.deref-value-items.result.now b.args.items c.loop-i.i _ _ c.loop-i-test.true there c.value-item.is c.index.ensures (c.same.ensures.0 c.if-not-same.false) c.loop-i.invariant

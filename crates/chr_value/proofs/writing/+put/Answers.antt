@@ -16,11 +16,10 @@ put_comp-loop-i-preserved g t c =
 
 pub put_comp-returns-clause-writes : goal.put_comp-returns-clause-writes
 put_comp-returns-clause-writes g t c =
-    let items = c.deref-value-items.result.now in
     let vs = grounds c.args.comp.now.args.items in
     let table = c.args.names.now in
     let s = c.args.comp.now.functor.number in
-    let all : grounds (take c.loop-i.i items) ≡ vs = front-all ground items c.loop-i.i c.loop-i-test.false ∙ ap grounds c.deref-value-items.ensures.value in
+    let all : grounds (take c.loop-i.i c.deref-value-items.result.now) ≡ vs = front-all ground c.deref-value-items.result.now c.loop-i.i c.loop-i-test.false ∙ ap grounds c.deref-value-items.ensures.value in
     let count : c.len.result ≡ length vs = omega (arith, c.len.ensures, c.args.comp.now.args.ok.0, length-map c.args.comp.now.args.items ground) in
     subst (λ (w : List ℕ). OnOk c.put_behind.result (c.put_behind.new.out.items ≡ w))
     (finish table c.args.out.now.items (text_of table s) c.loop-i.out.items vs _ c.len.result all count c.loop-i.invariant.written ∙ ap (λ (w : List ℕ). c.args.out.now.items ++ w) (sym (text-Comp table s vs))) c.put_behind.ensures.writes

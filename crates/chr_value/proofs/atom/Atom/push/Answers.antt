@@ -1,4 +1,4 @@
-use Rattle.std.proofs.Common.{◌≡◌, ℤ, rules, to_z, of_z, w64, ◌++◌, ◌∷◌, [], sym, ap, subst, ◌∙◌}
+use Rattle.std.proofs.Common.{◌≡◌, ℤ, rules, ◌++◌, ◌∷◌, [], sym, ap, subst, ◌∙◌}
 use Rattle.chr_value.specs.Atoms.{Int, ground, ground_comp}
 use Rattle.chr_value.specs.Limits.{IsWithin}
 use Rattle.chr_value.specs.Slots.{comps_of, values_in, AreArguments}
@@ -11,8 +11,7 @@ use Rattle.chr_value.proofs.atom.Atom.push.Goals.{After-push-in-Comp}
 pub returns-in-Int-clause-ok : goal.returns-in-Int-clause-ok
 returns-in-Int-clause-ok g c =
     let cs = comps_of c.self.inside.comps in
-    let same : to_z w64 (of_z w64 c.in-Int.n) ≡ c.in-Int.n = search rules in
-    pushed cs c.self.inside.slots c.self.inside.name.number c.args.self.now _ _ _ c.self.view_is (flat-pushed cs _ c.push.new.self _ c.push.ensures) (ap (λ (z : ℤ). Int z) same ∙ sym (ap ground c.in-Int.is ∙ ground-Int _ c.in-Int.n))
+    pushed cs c.self.inside.slots c.self.inside.name.number c.args.self.now _ _ _ c.self.view_is (flat-pushed cs _ c.push.new.self _ c.push.ensures) (ap (λ (z : ℤ). Int z) (search rules) ∙ sym (ap ground c.in-Int.is ∙ ground-Int _ c.in-Int.n))
 
 pub returns-in-Sym-clause-ok : goal.returns-in-Sym-clause-ok
 returns-in-Sym-clause-ok g c =
