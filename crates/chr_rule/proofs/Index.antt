@@ -1,9 +1,9 @@
 -- An index of the heads of rules.
-use Rattle.std.proofs.Common.{◌≡◌, ◌↔◌, ℕ, zero, suc, ◌+◌, ◌-◌, ◌<◌, ◌≤◌, ◌⊎◌, inl, inr, List, [], ◌∷◌, ◌++◌, length, get_or, drop, Some, None, slice_get, map, Bool, false, not, ◌&&◌, eqb, refl, sym, ap, subst, ◌∙◌, arith, length-append}
-use Rattle.std.proofs.lemmas.Option.{slice_get_within, get_or_from_slice_get}
+use Rattle.std.proofs.Common.{◌≡◌, ◌↔◌, ℕ, zero, suc, ◌+◌, ◌-◌, ◌<◌, ◌≤◌, ◌⊎◌, inl, inr, List, [], ◌∷◌, ◌++◌, length, get_or, drop, Some, None, slice_get, map, Bool, false, not, ◌&&◌, eqb, refl, sym, ap, subst, ◌∙◌, arith, length-append, ◌≢◌}
+use Rattle.std.proofs.lemmas.Option.{slice_get_within, get_or_from_slice_get, slice_get-map, slice_get_read}
 use Rattle.std.proofs.lemmas.Bool.Decides.{nat_tests}
 use Rattle.std.proofs.lemmas.Grind.{common_steps, elements}
-use Rattle.std.proofs.lemmas.List.{length-map, get_or-drop}
+use Rattle.std.proofs.lemmas.List.{length-map, get_or-drop, map-append, get_or_append_left, get_or-append_right}
 use Rattle.std.proofs.lemmas.List.Elements.{All-from_recursion, recursion_from_All, Contains-get_or}
 use Rattle.std.proofs.lemmas.List.Sorted.{IsPermutation-sym, IsPermutation-insert, Contains-permutation}
 use Rattle.std.specs.List.{AllByRecursion, Contains, insert}
@@ -81,8 +81,7 @@ rest_from list i from r front later = record {
   after = recursion_from_All (λ o. rank from ≤ rank o) (drop i list) (λ k d l. grind (arith, common_steps, later (i + k) d));
   all = λ o h l.
       let before = front h.0 o in
-      let at : i + (h.0 - i) ≡ h.0 = grind arith in
-      (h.0 - i, grind (arith, common_steps), get_or-drop i list (h.0 - i) o ∙ ap (λ k. get_or list k o) at ∙ h.2);
+      (h.0 - i, grind (arith, common_steps), get_or-drop i list (h.0 - i) o ∙ ap (λ k. get_or list k o) (grind arith) ∙ h.2);
 }
 
 -- ranks, and where occurrences of one predicate stand
@@ -134,10 +133,8 @@ module _ (rules : List (Simpagation ℕ)) (list : List Occurrence) (is : IsIndex
   next_fits : (o : Occurrence) → Contains list o → FitsRank (at_head o.pred o.rule (o.head + 1))
   next_fits o listed =
       let there = (is.index o).0 listed in
-      let within = head_within there.rule o.head there.at.head there.at.head_is in
-      let heads = (scoped rules is.all o.rule there.rule there.rule_is).limits.heads in
       let fits = fit o listed in
-      record { arity = fits.arity; rule = fits.rule; head = omega (arith, within, heads) }
+      record { arity = fits.arity; rule = fits.rule; head = omega (arith, head_within there.rule o.head there.at.head there.at.head_is, (scoped rules is.all o.rule there.rule there.rule_is).limits.heads) }
 
   -- an occurrence at or after a rule and a head is listed, and its rank is no less
   there : (p : Pred) (s i r h : ℕ) → FitsRank (at_head p s i) → AtOrAfter s i r h → IsOccurrence rules p r h → Contains list (at_head p r h) × (rank (at_head p s i) ≤ rank (at_head p r h))
@@ -186,3 +183,22 @@ index_pushed rules old new rule number last index added o = (
   ],
   λ h. grind (arith, index o, added o, rule_pushed rules rule h.rule o.rule),
 )
+
+-- ---- the rule or head of a number, read through what holds it
+
+pub numbered_read : {X : Type 0} (f : X → Simpagation ℕ) (xs : List X) (n : ℕ) (x : X) → n ≢ 0 → n ≤ length xs → x ≡ get_or xs (n - 1) x → rule_at (map f xs) n ≡ Some (f x)
+numbered_read f xs zero x ne h e = grind arith
+numbered_read f xs (suc k) x ne h e = grind (arith, slice_get-map, slice_get_read)
+
+-- a head of a number, read from both lists
+head_read : {X : Type 0} (f : X → RuleAtom ℕ) (rule : Simpagation ℕ) (ks rs : List X) (j : ℕ) (x : X) → map f ks ≡ rule.kept → map f rs ≡ rule.removed → j < length ks + length rs → x ≡ get_or (ks ++ rs) j x → head_at rule (suc j) ≡ Some (f x)
+head_read f rule ks rs j x k r l there = rw (← k, ← r, ← map-append, slice_get-map, slice_get_read (ks ++ rs) (length ks + length rs) j x (sym (length-append ks rs)) l there)
+
+-- a kept head, and a removed one, read from their own lists
+pub head_kept : {X : Type 0} (f : X → RuleAtom ℕ) (rule : Simpagation ℕ) (ks rs : List X) (n : ℕ) (x : X) → map f ks ≡ rule.kept → map f rs ≡ rule.removed → n ≢ 0 → n - 1 < length ks → x ≡ get_or ks (n - 1) x → head_at rule n ≡ Some (f x)
+head_kept f rule ks rs zero x k r ne h e = grind arith
+head_kept f rule ks rs (suc j) x k r ne h e = head_read f rule ks rs j x k r (omega arith) (grind (arith, get_or_append_left))
+
+pub head_removed : {X : Type 0} (f : X → RuleAtom ℕ) (rule : Simpagation ℕ) (ks rs : List X) (n : ℕ) (x : X) → map f ks ≡ rule.kept → map f rs ≡ rule.removed → n ≢ 0 → length ks ≤ n - 1 → n ≤ length ks + length rs → x ≡ get_or rs (n - 1 - length ks) x → head_at rule n ≡ Some (f x)
+head_removed f rule ks rs zero x k r ne h l e = grind arith
+head_removed f rule ks rs (suc j) x k r ne h l e = head_read f rule ks rs j x k r (omega arith) (grind (arith, get_or-append_right ks rs (length ks) j x refl))

@@ -1,9 +1,9 @@
 -- What is told of the parts of a rule, piece by piece.
-use Rattle.std.proofs.Common.{◌≡◌, ◌↔◌, ◌+◌, ◌<◌, ◌≤◌, ℕ, Bool, true, IsTrue, eqb, List, ◌++◌, length, map, Some, arith, sym}
+use Rattle.std.proofs.Common.{◌≡◌, ◌↔◌, ◌+◌, ◌<◌, ◌≤◌, ℕ, Bool, true, IsTrue, eqb, List, ◌++◌, length, map, Some, arith, sym, [], ◌∷◌, None, refl}
 use Rattle.std.proofs.lemmas.List.{length-map}
 use Rattle.std.proofs.lemmas.Bool.Decides.{nat_tests}
-use Rattle.chr_rule.specs.Rules.{RuleAtom, Comparison, BodyItem, Simpagation, of_parts}
-use Rattle.chr_rule.specs.Scope.{variable_count, IsWithinLimits, IsRule}
+use Rattle.chr_rule.specs.Rules.{RuleAtom, Comparison, BodyItem, Simpagation, of_parts, Expression, Is}
+use Rattle.chr_rule.specs.Scope.{variable_count, IsWithinLimits, IsRule, expression_known, known_after_args, known_after_heads, known_after_body, known_then}
 use Rattle.chr_rule.specs.Terms.{HasTerms}
 
 abbrev pub AreFew : ℕ → ℕ → ℕ → ℕ → Type 0
@@ -29,3 +29,13 @@ same_rules told m n ks ls rs ss ts us bs ds rule other is-rule is-other v k r t 
 
 pub told_equal : (m n : ℕ) → eqb m n ≡ true → m ≡ n
 told_equal m n h = grind (arith, nat_tests)
+
+-- ---- how many variables are known after heads joined, and after an `is`
+
+pub heads_append : {N : Type 0} (n : ℕ) (xs ys : List (RuleAtom N)) → known_after_heads n (xs ++ ys) ≡ known_then (known_after_heads n xs) (λ m. known_after_heads m ys)
+heads_append n [] ys = refl
+heads_append n (x ∷ xs) ys =
+    elim (known_after_args n x.args) as (λ o. known_then o (λ m. known_after_heads m (xs ++ ys)) ≡ known_then (known_then o (λ m. known_after_heads m xs)) (λ m. known_after_heads m ys)) [ None ↦ refl | Some m ↦ heads_append m xs ys ]
+
+pub after-is : (n x : ℕ) (e : Expression) (ms : List (BodyItem ℕ)) → x ≡ n → expression_known n e ≡ true → known_after_body n (Is x e ∷ ms) ≡ known_after_body (n + 1) ms
+after-is n x e ms same known = grind (arith, nat_tests)

@@ -1,18 +1,55 @@
 -- A term, level by level.
-use Rattle.std.proofs.Common.{◌≡◌, ◌↔◌, ◌<◌, ◌+◌, ◌-◌, ℕ, Bool, true, false, ◌&&◌, IsTrue, List, length, map, nat_le, Box, rules, sym, ap, ◌∙◌, arith}
+use Rattle.std.proofs.Common.{◌≡◌, ◌↔◌, ◌<◌, ◌+◌, ◌-◌, ℕ, Bool, true, false, ◌&&◌, IsTrue, List, length, map, nat_le, Box, rules, sym, ap, ◌∙◌, arith, ◌||◌, [], ◌∷◌, Some, None, refl, ap₂, suc}
 use Rattle.std.specs.List.{AllByRecursion, list_all, list_any}
 use Rattle.std.proofs.lemmas.Bool.Decides.{nat_tests}
 use Rattle.std.proofs.lemmas.List.{length-map}
 use Rattle.chr_value.specs.Atoms.{ground}
 use Rattle.chr_value.specs.declared.value.Value.{Value as CodeValue}
-use Rattle.chr_rule.specs.Rules.{Var, Given, Open, terms_of}
+use Rattle.chr_rule.specs.Rules.{Var, Given, Open, terms_of, Term}
 use Rattle.chr_rule.specs.Parts.{argument}
-use Rattle.chr_rule.specs.Scope.{known_after_term, known_after_args, argument_known}
-use Rattle.chr_rule.specs.Terms.{IsCanonical, is_open, left_after_term, left_after_terms}
-use Rattle.chr_rule.specs.declared.term.Term as terms
+use Rattle.chr_rule.specs.Scope.{known_after_term, known_after_args, argument_known, known_then, known_after_terms, arguments_known}
+use Rattle.chr_rule.specs.Terms.{IsCanonical, is_open, left_after_term, left_after_terms, has_variable, have_variable, terms_count, AreCanonical}
 use Rattle.chr_rule.specs.declared.term.Term.{Term as CodeTerm, the_lemmas}
 use Rattle.chr_rule.specs.declared.term.Open.{Open as CodeOpen}
-use Rattle.chr_rule.proofs.Arguments.{same-Open, known-terms, known_after-terms, count-terms, canonical-terms, variables_where_open}
+use Rattle.chr_rule.specs.declared.term.Term as terms
+
+terms_of-injective : {N : Type 0} (ts us : List (Term N)) → terms_of ts ≡ terms_of us → ts ≡ us
+terms_of-injective [] [] h = refl
+terms_of-injective (t ∷ ts) (u ∷ us) h = let rest = terms_of-injective ts us (cc) in cc
+terms_of-injective ts us h = absurd (cc)
+
+-- two open terms are equal where their functors and their lists of arguments are
+pub same-Open : (s t : ℕ) (us vs : List (Term ℕ)) → (Open s (terms_of us) ≡ Open t (terms_of vs)) ↔ ((s ≡ t) × (us ≡ vs))
+same-Open s t us vs =
+    (λ h. ((cc), terms_of-injective us vs (cc)), λ h. ap₂ (λ (f : ℕ) (ws : List (Term ℕ)). Open f (terms_of ws)) h.0 h.1)
+
+-- the variables of arguments are those of the list
+pub known-terms : (n : ℕ) (ts : List (Term ℕ)) → arguments_known n (terms_of ts) ≡ list_all (argument_known n) ts
+known-terms n [] = refl
+known-terms n (t ∷ ts) = ap (λ (b : Bool). argument_known n t && b) (known-terms n ts)
+
+pub known_after-terms : (n : ℕ) (ts : List (Term ℕ)) → known_after_terms n (terms_of ts) ≡ known_after_args n ts
+known_after-terms n [] = refl
+known_after-terms n (t ∷ ts) =
+    elim (known_after_term n t) as (λ o. known_then o (λ m. known_after_terms m (terms_of ts)) ≡ known_then o (λ m. known_after_args m ts)) [ None ↦ refl | Some m ↦ known_after-terms m ts ]
+
+pub count-terms : (ts : List (Term ℕ)) → terms_count (terms_of ts) ≡ length ts
+count-terms [] = refl
+count-terms (t ∷ ts) = ap suc (count-terms ts)
+
+pub canonical-terms : (ts : List (Term ℕ)) → AreCanonical (terms_of ts) ↔ AllByRecursion IsCanonical ts
+canonical-terms [] = (λ h. h, λ h. h)
+canonical-terms (t ∷ ts) = let rest = canonical-terms ts in (λ h. (h.0, rest.0 h.1), λ h. (h.0, rest.1 h.1))
+
+-- a canonical term has a variable where it isn't a value
+variable_where_open : (t : Term ℕ) → IsCanonical t → has_variable t ≡ is_open t
+variable_where_open (Var x) h = refl
+variable_where_open (Given v) h = refl
+variable_where_open (Open s ts) h = h.1
+
+pub variables_where_open : (ts : List (Term ℕ)) → AllByRecursion IsCanonical ts → have_variable (terms_of ts) ≡ list_any is_open ts
+variables_where_open [] h = refl
+variables_where_open (t ∷ ts) h = ap₂ (λ (a b : Bool). a || b) (variable_where_open t h.0) (variables_where_open ts h.1)
 
 pub argument-Var : (A : Type 0) (x : ℕ) → argument {A = A} (terms.Var x) ≡ Var x
 argument-Var A x = search (rules, the_lemmas)
@@ -42,19 +79,11 @@ module _ {A : Type 0} (self : CodeTerm A) (o : Box (CodeOpen A) A) (ts : List (C
   pub canonical-told : (opens told : Bool) → opens ≡ (nat_le (length ts) 8 && list_any is_open (map argument ts)) → opens ≡ true
       → IsTrue told ↔ AllByRecursion IsCanonical (map argument ts) → IsTrue told ↔ IsCanonical (argument self)
   canonical-told opens told is-open so means =
-      let count = count-terms (map argument ts) in
-      let long = length-map ts argument in
-      let each = canonical-terms (map argument ts) in
-      let any = variables_where_open (map argument ts) in
-      rw (argument-parts self o ts is are) (grind (arith, nat_tests))
+      rw (argument-parts self o ts is are) (grind (arith, variables_where_open (map argument ts), canonical-terms (map argument ts), length-map ts argument, count-terms (map argument ts), nat_tests))
 
   pub canonical-not : (opens : Bool) → opens ≡ (nat_le (length ts) 8 && list_any is_open (map argument ts)) → opens ≡ false → IsTrue opens ↔ IsCanonical (argument self)
   canonical-not opens is-open so =
-      let count = count-terms (map argument ts) in
-      let long = length-map ts argument in
-      let each = canonical-terms (map argument ts) in
-      let any = variables_where_open (map argument ts) in
-      rw (argument-parts self o ts is are) (grind (arith, nat_tests))
+      rw (argument-parts self o ts is are) (grind (arith, variables_where_open (map argument ts), canonical-terms (map argument ts), length-map ts argument, count-terms (map argument ts), nat_tests))
 
 pub same-told : {A : Type 0} (self other : CodeTerm A) (a b : Box (CodeOpen A) A) (xs ys : List (CodeTerm A)) (told : Bool) → self ≡ terms.Open a → other ≡ terms.Open b
     → a.value.functor.number ≡ b.value.functor.number → xs ≡ a.value.args.items → ys ≡ b.value.args.items → IsTrue told ↔ (map argument xs ≡ map argument ys) → IsTrue told ↔ (argument self ≡ argument other)

@@ -1,9 +1,6 @@
 pub mod Lists
 pub mod Places
-pub mod Arguments
 pub mod Levels
-pub mod Heads
-pub mod Numbers
 pub mod Index
 pub mod Judged
 pub mod Written

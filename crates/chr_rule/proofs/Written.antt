@@ -1,6 +1,5 @@
 -- Rules told by their words.
-use Rattle.std.proofs.Common.{◌≡◌, ◌↔◌, ◌<◌, ◌≤◌, ◌+◌, ℕ, ℤ, pos, unsigned_abs, int_lt, Bool, true, false, ◌&&◌, eqb, IsTrue, List, [], ◌∷◌, ◌++◌, append_assoc, length, take, get_or, map, refl, sym, ap, ap₂, ◌∙◌, arith}
-use Rattle.std.specs.List.{flat_map}
+use Rattle.std.proofs.Common.{◌≡◌, ◌↔◌, ◌<◌, ◌≤◌, ◌+◌, ℕ, ℤ, pos, unsigned_abs, int_lt, Bool, true, false, ◌&&◌, eqb, IsTrue, List, [], ◌∷◌, ◌++◌, append_assoc, length, take, get_or, map, refl, sym, ap, ap₂, ◌∙◌, arith, flat_map}
 use Rattle.std.proofs.lemmas.Bool.Decides.{nat_tests}
 use Rattle.std.proofs.lemmas.Grind.{common_steps}
 use Rattle.std.proofs.lemmas.List.{append-nil, flat_map_more}
@@ -39,10 +38,7 @@ all_tell f tells (x ∷ xs) (y ∷ ys) r s l e =
     (ap₂ (λ z zs. z ∷ zs) first.0 rest.0, rest.1)
 
 atoms_tell : Tells atom_words
-atoms_tell a b r s e =
-    let args = all_tell term_words terms_tell a.args b.args r s (cc) (cc) in
-    let name : a.name ≡ b.name = cc in
-    grind arith
+atoms_tell a b r s e = grind (arith, all_tell term_words terms_tell a.args b.args r s (cc) (cc))
 
 same_operators : (o p : Operator) → number_of o ≡ number_of p → o ≡ p
 same_operators o p e = grind arith
@@ -54,8 +50,7 @@ expressions_tell : Tells expression_words
 expressions_tell (Operation o a b) (Operation p c d) r s e =
     let left = expressions_tell a c (expression_words b ++ r) (expression_words d ++ s) (sym (append_assoc (expression_words a) (expression_words b) r) ∙ (cc) ∙ append_assoc (expression_words c) (expression_words d) s) in
     let right = expressions_tell b d r s left.1 in
-    let operator = same_operators o p (cc) in
-    (cc, right.1)
+    (cc (same_operators o p (cc)), right.1)
 expressions_tell (Number m) (Number n) r s e = grind arith
 expressions_tell (Variable x) (Variable y) r s e = (cc, cc)
 expressions_tell x y r s e = grind arith
@@ -63,8 +58,7 @@ expressions_tell x y r s e = grind arith
 tests_tell : Tells test_words
 tests_tell (Compared o a b) (Compared q c d) r s e =
     let same = both_tell expression_words expression_words expressions_tell expressions_tell a c b d r s (cc) in
-    let relation = same_relations o q (cc) in
-    (cc, same.2)
+    (cc (same_relations o q (cc)), same.2)
 tests_tell (Same t u) (Same v w) r s e =
     let same = both_tell term_words term_words terms_tell terms_tell t v u w r s (cc) in
     (cc, same.2)
@@ -85,8 +79,7 @@ rules_tell a b e =
     let kept = all_tell atom_words atoms_tell a.kept b.kept (removed_on a) (removed_on b) (cc) (cc) in
     let removed = all_tell atom_words atoms_tell a.removed b.removed (guard_on a) (guard_on b) (cc) kept.1 in
     let guard = all_tell test_words tests_tell a.guard b.guard (flat_map member_words a.body) (flat_map member_words b.body) (cc) removed.1 in
-    let body = all_tell member_words members_tell a.body b.body [] [] (cc) (append-nil (flat_map member_words a.body) ∙ guard.1 ∙ sym (append-nil (flat_map member_words b.body))) in
-    grind arith
+    grind (arith, all_tell member_words members_tell a.body b.body [] [] (cc) (append-nil (flat_map member_words a.body) ∙ guard.1 ∙ sym (append-nil (flat_map member_words b.body))))
 
 -- equal words are those of equal numbers
 same_numbers : (ns ms : List ℕ) → words ns ≡ words ms → ns ≡ ms

@@ -1,6 +1,5 @@
-use Rattle.std.proofs.Common.{◌<◌, ◌≤◌, arith, get_or, rules}
+use Rattle.std.proofs.Common.{◌<◌, ◌≤◌, arith, get_or, rules, ltb-true, ltb-false}
 use Rattle.std.proofs.Math.Dec.{ltb}
-use Rattle.std.proofs.lemmas.Bool.{ltb-true, ltb-false}
 use Rattle.std.proofs.lemmas.List.Sorted.{IsPartitionedBy-ltb, IsPartitionPoint-from_clause}
 use Rattle.chr_rule.specs.Index.{rank}
 use Rattle.chr_rule.proofs.Index.{by_place}
@@ -10,12 +9,10 @@ pub returns-clause-front : goal.returns-clause-front
 returns-clause-front c = λ k d l.
     let list = c.args.list.now in
     let point = IsPartitionPoint-from_clause (λ o. ltb (rank o) c.rank-rank.result) list _ c.partition_point.ensures.partitioned (IsPartitionedBy-ltb rank list c.rank-rank.result (by_place list c.requires)) (λ a r q k. search rules) in
-    let below : rank (get_or list k d) < c.rank-rank.result = ltb-true _ _ (point.0 k d (omega arith) l) in
-    omega (arith, below)
+    omega (arith, ltb-true _ _ (point.0 k d (omega arith) l))
 
 pub returns-clause-later : goal.returns-clause-later
 returns-clause-later c = λ k d from within.
     let list = c.args.list.now in
     let point = IsPartitionPoint-from_clause (λ o. ltb (rank o) c.rank-rank.result) list _ c.partition_point.ensures.partitioned (IsPartitionedBy-ltb rank list c.rank-rank.result (by_place list c.requires)) (λ a r q k. search rules) in
-    let above : c.rank-rank.result ≤ rank (get_or list k d) = ltb-false _ _ (point.1 k d from within) in
-    omega (arith, above)
+    omega (arith, ltb-false _ _ (point.1 k d from within))

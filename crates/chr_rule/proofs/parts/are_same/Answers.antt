@@ -8,9 +8,7 @@ returns-then-not-is_same g c = differ_at g.P.Part.said c.args.parts.now c.args.o
 
 pub loop-i-preserved : goal.loop-i-preserved
 loop-i-preserved g c =
-    let left : c.loop-i.i < length c.args.parts.now = omega arith in
-    let right : c.loop-i.i < length c.args.others.now = omega arith in
-    same_more g.P.Part.said c.args.parts.now c.args.others.now c.loop-i.i _ _ left right c.index-parts-i.is c.index-others-i.is (c.is_same.ensures.0 c.if-not-is_same.false) c.loop-i.invariant
+    same_more g.P.Part.said c.args.parts.now c.args.others.now c.loop-i.i _ _ (omega arith) (omega arith) c.index-parts-i.is c.index-others-i.is (c.is_same.ensures.0 c.if-not-is_same.false) c.loop-i.invariant
 
 pub returns-then-parts-others : goal.returns-then-parts-others
 returns-then-parts-others g c = differ_long g.P.Part.said c.args.parts.now c.args.others.now c.if-parts-others.true

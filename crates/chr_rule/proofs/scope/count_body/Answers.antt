@@ -1,7 +1,7 @@
 use Rattle.std.proofs.Common.{◌+◌, map, drop, sym, ◌∙◌}
 use Rattle.std.proofs.lemmas.List.{drop_all}
 use Rattle.chr_rule.specs.Parts.{member, expression}
-use Rattle.chr_rule.proofs.Heads.{after-is}
+use Rattle.chr_rule.proofs.Judged.{after-is}
 use Rattle.chr_rule.proofs.Places.{map-left}
 use Rattle.chr_rule.proofs.scope.count_body.Goals as goal
 use Rattle.chr_rule.proofs.scope.count_body.Goals.{in-Is+else-from-known+else-not-is_known, in-Add+else-not-are_known}

@@ -1,5 +1,5 @@
 use Rattle.std.proofs.Common.{rules}
-use Rattle.chr_rule.proofs.Heads.{heads_append}
+use Rattle.chr_rule.proofs.Judged.{heads_append}
 use Rattle.chr_rule.proofs.scope.count_variables.Goals as goal
 
 pub returns-in_err-known : goal.returns-in_err-known

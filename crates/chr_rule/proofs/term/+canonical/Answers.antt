@@ -9,9 +9,8 @@ use Rattle.chr_rule.proofs.term.+canonical.Goals as goal
 
 pub Term::is_canonical-returns-then-are_open : goal.Term::is_canonical-returns-then-are_open
 Term::is_canonical-returns-then-are_open g t c =
-    let opened = c.deref-in-Open.ensures.value ∙ ap (λ (k : CodeOpen _). k.args.items) c.deref.ensures in
     let again = c.deref-then-are_open-2.ensures.value ∙ ap (λ (k : CodeOpen _). k.args.items) c.deref-then-are_open.ensures in
-    let opens = c.are_open.ensures ∙ ap (λ us. nat_le (length us) 8 && list_any is_open (map argument us)) (opened ∙ sym again) in
+    let opens = c.are_open.ensures ∙ ap (λ us. nat_le (length us) 8 && list_any is_open (map argument us)) ((c.deref-in-Open.ensures.value ∙ ap (λ (k : CodeOpen _). k.args.items) c.deref.ensures) ∙ sym again) in
     canonical-told _ c.in-Open.open c.deref-then-are_open-2.result.now c.in-Open.is again c.are_open.result c.are_canonical.result opens c.if-are_open.true c.are_canonical.ensures
 
 pub Term::is_canonical-returns-else-are_open : goal.Term::is_canonical-returns-else-are_open

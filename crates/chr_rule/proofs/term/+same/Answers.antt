@@ -19,9 +19,7 @@ same_terms-returns-then-not-same g t c =
 
 pub same_terms-loop-i-preserved : goal.same_terms-loop-i-preserved
 same_terms-loop-i-preserved g t c =
-    let lx : c.loop-i.i < length c.args.terms.now = omega arith in
-    let ly : c.loop-i.i < length c.args.others.now = omega arith in
-    same_more argument c.args.terms.now c.args.others.now c.loop-i.i _ _ lx ly c.index-terms-i.is c.index-others-i.is (c.same.ensures.0 c.if-not-same.false) c.loop-i.invariant
+    same_more argument c.args.terms.now c.args.others.now c.loop-i.i _ _ (omega arith) (omega arith) c.index-terms-i.is c.index-others-i.is (c.same.ensures.0 c.if-not-same.false) c.loop-i.invariant
 
 pub same_terms-returns-then-terms-others : goal.same_terms-returns-then-terms-others
 same_terms-returns-then-terms-others g t c = differ_long argument c.args.terms.now c.args.others.now c.if-terms-others.true

@@ -7,8 +7,7 @@ use Rattle.chr_rule.proofs.term.are_open.Goals as goal
 
 pub returns-then-is_open : goal.returns-then-is_open
 returns-then-is_open g c =
-    let any = sym c.loop-term.invariant ∙ any_here argument is_open c.args.terms.now c.loop-term.term-index _ c.loop-term-test.true c.term-item.is (sym c.is_open.ensures ∙ c.if-is_open.true) in
-    grind (arith, nat_tests, any)
+    grind (arith, nat_tests, sym c.loop-term.invariant ∙ any_here argument is_open c.args.terms.now c.loop-term.term-index _ c.loop-term-test.true c.term-item.is (sym c.is_open.ensures ∙ c.if-is_open.true))
 
 pub loop-term-preserved : goal.loop-term-preserved
 loop-term-preserved g c =

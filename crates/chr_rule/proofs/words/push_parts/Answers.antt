@@ -1,6 +1,4 @@
-use Rattle.std.proofs.Common.{◌++◌, map, sym, ap, ◌∙◌}
-use Rattle.std.specs.List.{flat_map}
-use Rattle.std.proofs.lemmas.List.{append-nil, take_all}
+use Rattle.std.proofs.Common.{◌++◌, map, sym, ap, ◌∙◌, flat_map, append-nil, take_all}
 use Rattle.chr_rule.specs.Words.{words}
 use Rattle.chr_rule.proofs.Written.{pushed_more}
 use Rattle.chr_rule.proofs.words.push_parts.Goals as goal

@@ -11,15 +11,11 @@ returns-in_default-clause-next c = λ rules s i are.
 
 pub returns-then-ne-clause-next : goal.returns-then-ne-clause-next
 returns-then-ne-clause-next c = λ rules s i are.
-    let pred = ap (λ (h : HeadsFrom). h.pred) c.self.view_is in
-    let rest = ap (λ (h : HeadsFrom). h.rest) (sym c.self.view_is) ∙ c.in-Some.ensures.cases.0 in
-    (subst (AreListedFrom rules _ s i) rest are).0
-    (λ e. (let same = (told_pred c.occurrence-found.result.pred c.self.inside.pred _ c.ne.ensures).1 (ap (λ (o : Occurrence). o.pred) c.occurrence-found.ensures ∙ e ∙ sym pred) in cc))
+    (subst (AreListedFrom rules _ s i) (ap (λ (h : HeadsFrom). h.rest) (sym c.self.view_is) ∙ c.in-Some.ensures.cases.0) are).0
+    (λ e. (let same = (told_pred c.occurrence-found.result.pred c.self.inside.pred _ c.ne.ensures).1 (ap (λ (o : Occurrence). o.pred) c.occurrence-found.ensures ∙ e ∙ sym (ap (λ (h : HeadsFrom). h.pred) c.self.view_is)) in cc))
 
 pub returns-clause-next : goal.returns-clause-next
 returns-clause-next c = λ rules s i are.
     let pred = ap (λ (h : HeadsFrom). h.pred) c.self.view_is in
-    let rest = ap (λ (h : HeadsFrom). h.rest) (sym c.self.view_is) ∙ c.in-Some.ensures.cases.0 in
     let found = ap (λ (o : Occurrence). o.pred) (sym c.occurrence-found.ensures) ∙ (told_pred c.occurrence-found.result.pred c.self.inside.pred _ c.ne.ensures).0 c.if-ne.false in
-    let next = (subst (AreListedFrom rules _ s i) rest are).1 (found ∙ pred) in
-    rw (c.occurrence-found.ensures, pred) next
+    rw (c.occurrence-found.ensures, pred) ((subst (AreListedFrom rules _ s i) (ap (λ (h : HeadsFrom). h.rest) (sym c.self.view_is) ∙ c.in-Some.ensures.cases.0) are).1 (found ∙ pred))

@@ -6,10 +6,8 @@ use Rattle.chr_rule.proofs.occurrences.Occurrences.heads_from.Goals as goal
 
 pub returns-clause-rest : goal.returns-clause-rest
 returns-clause-rest g c =
-    let there = c.place_from-place.ensures in
-    let same = c.deref.ensures.value ∙ sym c.deref-2.ensures.value in
     rw (← ap (λ (i : Index). i.items) c.self.view_is, ← c.deref-2.ensures.value, take_rest)
-    (rw same at (rest_from c.deref.result.now c.place_from-place.result c.args.from (rw c.deref.ensures.value c.self.invariant.rising) there.front there.later))
+    (rw (c.deref.ensures.value ∙ sym c.deref-2.ensures.value) at (rest_from c.deref.result.now c.place_from-place.result c.args.from (rw c.deref.ensures.value c.self.invariant.rising) c.place_from-place.ensures.front c.place_from-place.ensures.later))
 
 pub returns-clause-all_fit : goal.returns-clause-all_fit
 returns-clause-all_fit g c = rw (← c.self.view_is) c.self.invariant.fit

@@ -1,5 +1,4 @@
-use Rattle.std.proofs.Common.{◌≡◌, ap, ◌∙◌, rules}
-use Rattle.std.specs.List.{insert}
+use Rattle.std.proofs.Common.{◌≡◌, ap, ◌∙◌, rules, insert}
 use Rattle.chr_rule.specs.Index.{Index}
 use Rattle.chr_rule.proofs.Index.{inserted, inserted_in_order}
 use Rattle.chr_rule.proofs.occurrences.Occurrences.insert_reserved.Goals as goal

@@ -17,8 +17,7 @@ invariant_of-self-2 g c =
     let xs = c.self.inside.rules.items in
     let items : c.push_reserved.new.self.items ≡ c.self.inside.rules.items ++ c.args.rule ∷ [] = c.push_reserved.ensures.items ∙ ap (λ ys. ys ++ c.args.rule ∷ []) c.reserve.ensures.items in
     let pushed = ap (map arc_value) items ∙ map_push arc_value xs c.args.rule in
-    let count : c.len.result ≡ length c.self.inside.rules.items = search rules in
-    let number = ap (λ n. n + 1) (count ∙ sym (length-map xs arc_value)) in (
+    let number = ap (λ n. n + 1) ((search rules) ∙ sym (length-map xs arc_value)) in (
       few_pushed arc_value xs _ c.args.rule c.args.self.now items c.self.view_is c.requires,
       rw pushed (all_push IsRule (map arc_value xs) (arc_value c.args.rule) c.self.invariant.1 (rw c.deref-2.ensures at c.variables-variables.ensures.valid)),
       rw pushed (index_pushed (map arc_value xs) _ _ (arc_value c.args.rule) (c.len.result + 1) number (rw c.reserve-2.ensures.items c.self.invariant.2) (rw c.deref.ensures at c.add_rule.ensures)),
@@ -26,5 +25,4 @@ invariant_of-self-2 g c =
 
 pub add_rule-requires-clause-last : goal.add_rule-requires-clause-last
 add_rule-requires-clause-last g c =
-    let count : c.len.result ≡ length c.self.inside.rules.items = search rules in
-    numbers_within (map arc_value c.self.inside.rules.items) _ (c.len.result + 1) (ap (λ n. n + 1) (count ∙ sym (length-map c.self.inside.rules.items arc_value))) (rw c.reserve-2.ensures.items c.self.invariant.2)
+    numbers_within (map arc_value c.self.inside.rules.items) _ (c.len.result + 1) (ap (λ n. n + 1) ((search rules) ∙ sym (length-map c.self.inside.rules.items arc_value))) (rw c.reserve-2.ensures.items c.self.invariant.2)

@@ -1,7 +1,7 @@
 use Rattle.std.proofs.Common.{sym, ap, ◌∙◌}
 use Rattle.std.specs.Arc.{arc_value}
 use Rattle.chr_rule.specs.Rules.{rule_at}
-use Rattle.chr_rule.proofs.Numbers.{numbered_read}
+use Rattle.chr_rule.proofs.Index.{numbered_read}
 use Rattle.chr_rule.proofs.program.Program.rule.Goals as goal
 
 pub returns-clause-rule : goal.returns-clause-rule

@@ -1,6 +1,6 @@
 use Rattle.std.proofs.Common.{sym}
 use Rattle.chr_rule.specs.Parts.{shape}
-use Rattle.chr_rule.proofs.Numbers.{head_kept, head_removed}
+use Rattle.chr_rule.proofs.Index.{head_kept, head_removed}
 use Rattle.chr_rule.proofs.rule.Rule.head.Goals as goal
 
 pub returns-clause-head : goal.returns-clause-head
