@@ -91,6 +91,7 @@ pub fn count_body<A: Allocator>(mut known: usize, body: &[BodyItem<A>]) -> Optio
 }
 
 /// How many variables a rule of these parts has, or none where one is used that has no value by then.
+#[tactic(auto, using(crate::proofs::Judged::heads_append))]
 pub fn count_variables<A: Allocator>(
     kept: &[RuleAtom<A>],
     removed: &[RuleAtom<A>],
