@@ -1,6 +1,7 @@
 -- Bindings and the valuations that extend them.
 use Rattle.chr_guard.proofs.Under.{some_is_some}
 use Rattle.std.proofs.Common.{◌≡◌, ◌≢◌, ◌↔◌, ℕ, zero, suc, ◌+◌, ◌<◌, ◌≤◌, Bool, true, false, IsTrue, ◌==◌, if◌then◌else◌, List, [], ◌∷◌, length, take, replicate, Option, Some, None, IsSome, ◌⊎◌, inl, inr, refl, sym, subst, ap, ap₂, ◌∙◌, arith, slice_index_or, slice_set, get_or-set_same, get_or-set_other, length-set}
+use Rattle.std.proofs.lemmas.Grind.{common_steps}
 use Rattle.std.specs.List.{refill}
 use Rattle.std.specs.Int.{bit_at}
 use Rattle.std.proofs.lemmas.List.{length-take-le, length-replicate, take_at, ext_get_or}
@@ -48,9 +49,7 @@ binds_as bits n places binding by len at =
 
 -- where no variable is bound
 pub free_at : (n x : ℕ) → bound_at (replicate n None) x ≡ None
-free_at zero x = refl
-free_at (suc n) zero = refl
-free_at (suc n) (suc x) = free_at n x
+free_at n x = grind (arith, common_steps)
 
 pub none_bound : {A : Type 0} (n : ℕ) (places : List (Bound A)) → length places ≡ 24 → n ≤ 24 → AreBoundBy 0 n places
 none_bound n places full within = grind (arith, bit_at-zero)

@@ -1,7 +1,6 @@
 -- The heads' atoms fix the body's.
-use Rattle.std.proofs.Common.{◌≡◌, ℕ, suc, ◌<◌, ◌≤◌, true, List, [], ◌∷◌, ◌++◌, map, Some, sym, ◌∙◌, ap, ap₂, subst, refl, arith}
+use Rattle.std.proofs.Common.{◌≡◌, ℕ, suc, ◌<◌, true, List, [], ◌∷◌, ◌++◌, map, Some, sym, ◌∙◌, ap, ap₂, subst, refl, arith, option_map}
 use Rattle.std.specs.List.{AllByRecursion, list_all}
-use Rattle.std.specs.Option.{option_map}
 use Rattle.std.proofs.lemmas.Bool.{and_parts, ltb-true}
 use Rattle.chr_value.specs.Atoms.{Int, Comp, Atom}
 use Rattle.chr_rule.specs.Rules.{Term, Var, Given, Open, Terms, End, And, RuleAtom, Expression, Number, Variable, Operation, Comparison, Compared, Same, Differ, BodyItem, Is, Add, Simpagation}
@@ -72,13 +71,11 @@ added_agrees v w n m [] k a = refl
 added_agrees v w n m (Is x e ∷ ms) k a = is_known n m x e ms k (λ _ _ j. added_agrees v w (suc n) m ms j a)
 added_agrees v w n m (Add s ∷ ms) k a =
     add_known n m s ms k (λ known j.
-    let le : n ≤ m = body_below n m ms j in
-    ap₂ (λ y ys. y ∷ ys) (made_agrees v w m s a (args_later n m s.args le known)) (added_agrees v w n m ms j a))
+    ap₂ (λ y ys. y ∷ ys) (made_agrees v w m s a (args_later n m s.args (body_below n m ms j) known)) (added_agrees v w n m ms j a))
 
 -- an instance's body is fixed by its heads
 pub body_fixed : (rule : Simpagation ℕ) → IsRule rule → (kept removed body other : List (Atom ℕ)) → Instance rule kept removed body → Instance rule kept removed other → body ≡ other
 body_fixed rule r kept removed body other i j =
     let s = scoped rule r in
     let agree = heads_agree i.valuation j.valuation 0 s.count (rule.kept ++ rule.removed) (kept ++ removed) s.heads (under_append i.valuation rule.kept rule.removed kept removed i.kept_are i.removed_are) (under_append j.valuation rule.kept rule.removed kept removed j.kept_are j.removed_are) (λ x h. absurd (omega arith)) in
-    let all = body_agrees i.valuation j.valuation s.count rule.variables rule.body s.body agree i.right j.right in
-    somes body other (sym i.body_is ∙ added_agrees i.valuation j.valuation s.count rule.variables rule.body s.body all ∙ j.body_is)
+    somes body other (sym i.body_is ∙ added_agrees i.valuation j.valuation s.count rule.variables rule.body s.body (body_agrees i.valuation j.valuation s.count rule.variables rule.body s.body agree i.right j.right) ∙ j.body_is)

@@ -1,10 +1,7 @@
 pub mod Scoped
 pub mod Under
-pub mod Arguments
 pub mod Fixed
 pub mod Bindings
 pub mod Steps
 pub mod Matched
-pub mod Completed
 pub mod Whole
-pub mod Again

@@ -8,12 +8,10 @@ use Rattle.chr_rule.specs.Rules.{Term, Var, Given, Open, Terms, End, And, RuleAt
 use Rattle.chr_rule.specs.Scope.{known_after_variable, known_after_term, known_after_terms, known_after_args, known_after_heads, known_after_body, known_then, argument_known, arguments_known, expression_known, test_known, IsRule}
 
 if_known : {A P : Type 0} (b : Bool) (o : Option A) (m : A) → (if b then o else None) ≡ Some m → (b ≡ true → o ≡ Some m → P) → P
-if_known true o m e f = f refl e
-if_known false o m e f = let z : None ≡ Some m = e in absurd (cc)
+if_known b o m e f = grind arith
 
 then_known : {A P : Type 0} (o : Option ℕ) (f : ℕ → Option A) (m : A) → known_then o f ≡ Some m → ((k : ℕ) → o ≡ Some k → f k ≡ Some m → P) → P
-then_known (Some k) f m e g = g k refl e
-then_known None f m e g = let z : None ≡ Some m = e in absurd (cc)
+then_known o f m e g = grind arith
 
 -- a variable in a head is known already, or it is the next one
 pub variable_known : {P : Type 0} (n m x : ℕ) → known_after_variable n x ≡ Some m → (x < n → n ≡ m → P) → (x ≡ n → suc n ≡ m → P) → P

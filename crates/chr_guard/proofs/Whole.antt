@@ -1,6 +1,5 @@
 -- Heads that fit, a guard that holds and a completed body are an instance, and nothing else is.
-use Rattle.std.proofs.Common.{◌≡◌, ℕ, ◌+◌, ◌<◌, Bool, true, false, List, [], ◌∷◌, ◌++◌, length, take, drop, map, get_or, Option, Some, None, sym, subst, ap, ◌∙◌, arith}
-use Rattle.std.specs.Prelude.{MatchOption, Result, Ok, Err, IfOk}
+use Rattle.std.proofs.Common.{◌≡◌, ℕ, ◌+◌, ◌<◌, Bool, true, false, List, [], ◌∷◌, ◌++◌, length, take, drop, map, get_or, Option, Some, None, sym, subst, ap, ◌∙◌, arith, MatchOption, Result, Ok, Err, IfOk}
 use Rattle.std.specs.List.{AllByRecursion}
 use Rattle.std.proofs.lemmas.List.{map_more, length-map, take-append-drop, drop_more, map-append}
 use Rattle.chr_value.specs.Atoms.{Value, Atom}
@@ -11,7 +10,7 @@ use Rattle.chr_guard.specs.Bindings.{bound_at, Extends}
 use Rattle.chr_guard.specs.Instances.{atom_under, made_under, AreMadeUnder, added, IsInstance, NoInstance}
 use Rattle.chr_guard.specs.Matching.{HeadsAre, IsFit, IsBody, IsCompleted, CompletedIf, IsInstanceIf, IsInstanceUnder}
 use Rattle.chr_guard.proofs.Scoped.{scoped}
-use Rattle.chr_guard.proofs.Under.{somes, under_append, under_parts, made_append, none_made, added_append}
+use Rattle.chr_guard.proofs.Under.{somes, under_append, under_parts, atoms_append, none_made, added_append}
 use Rattle.chr_guard.proofs.Fixed.{Agree, heads_agree, guard_agrees}
 use Rattle.chr_guard.proofs.Bindings.{extends_itself, bound_settled}
 use Rattle.chr_guard.proofs.Matched.{fit_binds}
@@ -46,9 +45,7 @@ is_instance_under rule r facts binding new f guard done =
         kept_are = parts.0;
         removed_are = parts.1;
         some_removed = λ e. (
-            let none : length rule.removed ≡ 0 = sym (length-map rule.removed (atom_under v)) ∙ ap length parts.1 ∙ length-map (drop (length rule.kept) facts) (λ a. Some a) ∙ ap length e in
-            let some : 0 < length rule.removed = r.limits.removed in
-            absurd (omega arith)
+            absurd (omega (arith, r.limits.removed, sym (length-map rule.removed (atom_under v)) ∙ ap length parts.1 ∙ length-map (drop (length rule.kept) facts) (λ a. Some a) ∙ ap length e))
             );
         body_is = done.body_is;
       };
@@ -93,10 +90,9 @@ module _ (rule : Simpagation ℕ) (binding all : List (Option (Value ℕ))) (sam
 
   pub no_body : ((made : List (Atom ℕ)) → IsBody rule all made → ⊥) → (made : List (Atom ℕ)) → IsBody rule binding made → ⊥
   no_body none made b =
-      let c = b.completes in
       none made (record {
         valuation = b.valuation;
-        completes = record { extends = λ x t at. c.extends x t (sym (same x) ∙ at); heads = λ x h. c.heads x h ∙ sym (same x); right = c.right };
+        completes = record { extends = λ x t at. b.completes.extends x t (sym (same x) ∙ at); heads = λ x h. b.completes.heads x h ∙ sym (same x); right = b.completes.right };
         body_is = b.body_is;
       })
 
@@ -117,13 +113,12 @@ if_ok_as (Err e) f h = h
 pub added_more : {A : Type 0} (f : A → BodyItem ℕ) (v : Valuation) (xs : List A) (i : ℕ) (x : A) (old new : List (Atom ℕ)) → i < length xs → x ≡ get_or xs i x → AreMadeUnder v (added (map f (take i xs))) old → AreMadeUnder v (added (f x ∷ [])) new → AreMadeUnder v (added (map f (take (i + 1) xs))) (old ++ new)
 added_more f v xs i x old new h is o n =
     subst (λ ms. AreMadeUnder v (added ms) (old ++ new)) (sym (map_more f xs i x h ∙ ap (λ y. map f (take i xs) ++ f y ∷ []) (sym is)))
-    (subst (λ ss. AreMadeUnder v ss (old ++ new)) (sym (added_append (map f (take i xs)) (f x ∷ []))) (made_append v (added (map f (take i xs))) (added (f x ∷ [])) old new o n))
+    (subst (λ ss. AreMadeUnder v ss (old ++ new)) (sym (added_append (map f (take i xs)) (f x ∷ []))) (atoms_append (made_under v) (added (map f (take i xs))) (added (f x ∷ [])) old new o n))
 
 -- a constraint of the body without a value
 pub not_made : {A : Type 0} (f : A → BodyItem ℕ) (v : Valuation) (xs : List A) (i : ℕ) (x : A) (s : RuleAtom ℕ) (made : List (Atom ℕ)) → i < length xs → x ≡ get_or xs i x → f x ≡ Add s → made_under v s ≡ None → AreMadeUnder v (added (map f xs)) made → ⊥
 not_made f v xs i x s made h is at none all =
-    let there : drop i xs ≡ x ∷ drop (i + 1) xs = drop_more xs i x h ∙ ap (λ y. y ∷ drop (i + 1) xs) (sym is) in
     let apart : map f xs ≡ map f (take i xs) ++ (Add s ∷ map f (drop (i + 1) xs)) =
-    ap (map f) (sym (take-append-drop i xs)) ∙ map-append f (take i xs) (drop i xs) ∙ ap (λ l. map f (take i xs) ++ map f l) there ∙ ap (λ m. map f (take i xs) ++ (m ∷ map f (drop (i + 1) xs))) at in
+    ap (map f) (sym (take-append-drop i xs)) ∙ map-append f (take i xs) (drop i xs) ∙ ap (λ l. map f (take i xs) ++ map f l) (drop_more xs i x h ∙ ap (λ y. y ∷ drop (i + 1) xs) (sym is)) ∙ ap (λ m. map f (take i xs) ++ (m ∷ map f (drop (i + 1) xs))) at in
     none_made v (added (map f (take i xs))) (added (map f (drop (i + 1) xs))) s made none
     (subst (λ ss. AreMadeUnder v ss made) (added_append (map f (take i xs)) (Add s ∷ map f (drop (i + 1) xs))) (subst (λ ms. AreMadeUnder v (added ms) made) apart all))

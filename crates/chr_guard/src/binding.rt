@@ -134,6 +134,7 @@ impl<'v, A: Allocator> Model for Binding<'v, A> {
 
 impl<'v, A: Allocator + Copy> Binding<'v, A> {
     /// This many variables, at most 24, which are all free.
+    #[tactic(auto, using(crate::proofs::Bindings::told_none))]
     pub fn free(variables: usize) -> Binding<'v, A>
         requires { variables ≤ 24 }
         ensures { result ≡ replicate variables None }
@@ -146,6 +147,7 @@ impl<'v, A: Allocator + Copy> Binding<'v, A> {
     }
 
     /// How many variables there are, at most 24.
+    #[tactic(auto, using(crate::proofs::Bindings::length_binding))]
     pub(crate) fn variables(&self) -> usize
         ensures count { result ≡ length self.now }
         ensures few { result ≤ 24 }
@@ -155,6 +157,7 @@ impl<'v, A: Allocator + Copy> Binding<'v, A> {
 
     /// Becomes one of this many variables, at most 24, which are all free.
     #[inline(always)]
+    #[tactic(auto, using(crate::proofs::Bindings::told_none))]
     pub fn reset(&mut self, variables: usize)
         requires { variables ≤ 24 }
         ensures { self.new ≡ replicate variables None }
@@ -165,6 +168,7 @@ impl<'v, A: Allocator + Copy> Binding<'v, A> {
 
     /// Which variables are bound.
     #[inline(always)]
+    #[tactic(auto, using(crate::proofs::Bindings::known_bits))]
     pub fn known(&self) -> Known
         ensures { AreKnown result self.now }
     {

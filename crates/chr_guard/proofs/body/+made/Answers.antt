@@ -1,6 +1,5 @@
-use Rattle.std.proofs.Common.{◌≡◌, rules, map, Some, arith, sym, ap, ◌∙◌}
-use Rattle.std.specs.Option.{option_map}
-use Rattle.chr_value.specs.Atoms.{Comp, args_of, ground, ground_comp, grounds}
+use Rattle.std.proofs.Common.{◌≡◌, rules, map, Some, arith, sym, ap, ◌∙◌, option_map}
+use Rattle.chr_value.specs.Atoms.{Comp, args_of, ground, grounds}
 use Rattle.chr_value.proofs.Levels.{ground-Comp}
 use Rattle.chr_rule.specs.Parts.{argument}
 use Rattle.chr_rule.specs.Rules.{terms_of}
@@ -8,7 +7,7 @@ use Rattle.chr_rule.specs.declared.term.Open.{Open as CodeOpen}
 use Rattle.chr_guard.specs.Values.{term_under, terms_under}
 use Rattle.chr_guard.specs.Bindings.{bound_at}
 use Rattle.chr_rule.proofs.Levels.{argument-parts}
-use Rattle.chr_guard.proofs.Arguments.{made-more, made-none, made-all}
+use Rattle.chr_guard.proofs.Under.{made-more, made-none, made-all}
 use Rattle.chr_guard.proofs.body.+made.Goals as goal
 
 pub all_made-returns-in_default : goal.all_made-returns-in_default
@@ -29,11 +28,8 @@ all_made-returns g t c = made-all (bound_at c.args.binding.now) c.args.terms.now
 
 pub made-returns-in_ok-new-in-Open : goal.made-returns-in_ok-new-in-Open
 made-returns-in_ok-new-in-Open g t c =
-    let v = bound_at c.args.binding.now in
-    let ts = c.deref-in-Open.result.now in
     let f = c.in-Open.open.value.functor.number in
     let are = c.deref-in-Open.ensures.value ∙ ap (λ (k : CodeOpen _). k.args.items) c.deref.ensures in
     let args : Some (args_of (grounds c.in-Some-2.args.items)) ≡ terms_under (bound_at c.args.binding.now) (terms_of (map argument c.deref-in-Open.result.now)) =
     ap (option_map (λ vs. args_of (grounds vs.items))) (sym c.in-Some-2.is) ∙ c.in_ok-args-in-Open.ensures in
-    let value : ground_comp c.in_ok-new-in-Open.field-0.value ≡ Comp c.in-Open.open.value.functor.number (args_of (grounds c.in-Some-2.args.items)) = search rules in
-    ap (λ x. Some x) (ground-Comp c.in_ok-new-in-Open.field-0 ∙ value) ∙ ap (option_map (Comp f)) args ∙ sym (ap (term_under v) (argument-parts c.args.term.now c.in-Open.open ts c.in-Open.is are))
+    ap (λ x. Some x) (ground-Comp c.in_ok-new-in-Open.field-0 ∙ (search rules)) ∙ ap (option_map (Comp f)) args ∙ sym (ap (term_under (bound_at c.args.binding.now)) (argument-parts c.args.term.now c.in-Open.open c.deref-in-Open.result.now c.in-Open.is are))

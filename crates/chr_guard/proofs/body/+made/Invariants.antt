@@ -3,7 +3,7 @@ use Rattle.chr_rule.specs.Parts.{argument}
 use Rattle.chr_rule.specs.Rules.{terms_of}
 use Rattle.chr_guard.specs.Values.{terms_under}
 use Rattle.chr_guard.specs.Bindings.{bound_at}
-use Rattle.chr_guard.proofs.Arguments.{so_far}
+use Rattle.chr_guard.proofs.Under.{so_far}
 use Rattle.chr_guard.proofs.body.+made.Given as goal
 
 abbrev pub invariant-all_made-loop-term : goal.invariant-all_made-loop-term

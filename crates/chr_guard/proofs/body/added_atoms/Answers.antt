@@ -1,4 +1,4 @@
-use Rattle.std.proofs.Common.{◌≡◌, ◌+◌, ◌++◌, ◌∷◌, [], rules, Some, None, length, map, take, sym, ap, ◌∙◌, subst, arith}
+use Rattle.std.proofs.Common.{◌≡◌, ◌+◌, ◌++◌, ◌∷◌, [], rules, None, length, map, take, sym, ap, ◌∙◌, subst, arith}
 use Rattle.std.proofs.lemmas.List.{append-nil, length_push, length-map, take_all}
 use Rattle.chr_rule.specs.Parts.{shape, member}
 use Rattle.chr_guard.specs.Bindings.{bound_at}
@@ -15,39 +15,33 @@ returns-in_default g c made all =
 
 pub push-requires : goal.push-requires
 push-requires g c =
-    let count : length c.body-item-items.result.now ≡ length c.args.rule.now.body = sym (length-map c.body-item-items.result.now (member {Z = g.row.A.Denot})) ∙ ap length c.body-item-items.ensures.members in
-    (search rules, omega (arith, count, c.loop-item-test.true, c.body-item-items.ensures.valid.limits.body, c.loop-item.invariant.few))
+    (search rules, omega (arith, sym (length-map c.body-item-items.result.now (member {Z = g.row.A.Denot})) ∙ ap length c.body-item-items.ensures.members, c.loop-item-test.true, c.body-item-items.ensures.valid.limits.body, c.loop-item.invariant.few))
 
 pub loop-item-preserved : goal.loop-item-preserved
 loop-item-preserved g c =
     let v = bound_at c.args.binding.now in
     let f = member {Z = g.row.A.Denot} in
-    let items = c.body-item-items.result.now in
     elim c.match-item.branch [
       | in-Is w ↦
           let same : c.match-item.atoms.items ≡ c.loop-item.atoms.items = ap (λ a. a.items) w.atoms-is in
-          let len : length c.match-item.atoms.items ≡ length c.loop-item.atoms.items = ap length same in
           let none : AreMadeUnder v (added (f c.item-item.result ∷ [])) [] = ap (λ m. map (made_under v) (added (m ∷ []))) (ap f w.in-Is.is) in
           record {
-            items = subst (AreMadeUnder v (added (map f (take (c.loop-item.item-index + 1) items)))) (append-nil c.loop-item.atoms.items ∙ sym same)
-                (added_more f v items c.loop-item.item-index c.item-item.result c.loop-item.atoms.items [] c.loop-item-test.true c.item-item.is c.loop-item.invariant.items none);
-            few = omega (arith, len, c.loop-item.invariant.few);
+            items = subst (AreMadeUnder v (added (map f (take (c.loop-item.item-index + 1) c.body-item-items.result.now)))) (append-nil c.loop-item.atoms.items ∙ sym same)
+                (added_more f v c.body-item-items.result.now c.loop-item.item-index c.item-item.result c.loop-item.atoms.items [] c.loop-item-test.true c.item-item.is c.loop-item.invariant.items none);
+            few = omega (arith, ap length same, c.loop-item.invariant.few);
           }
       | in-Add+in_ok-atom-in-Add+in-Some w ↦
           let a = w.in-Some.atom in
           let more : c.match-item.atoms.items ≡ c.loop-item.atoms.items ++ a ∷ [] = ap (λ a. a.items) w.atoms-is ∙ w.push.ensures.items in
-          let len : length c.match-item.atoms.items ≡ length c.loop-item.atoms.items + 1 = ap length more ∙ length_push c.loop-item.atoms.items _ in
-          let made : made_under v (shape w.in-Add.pattern) ≡ Some a = sym w.in_ok-atom-in-Add.ensures ∙ w.in-Some.is in
-          let one : AreMadeUnder v (added (f c.item-item.result ∷ [])) (a ∷ []) = ap (λ m. map (made_under v) (added (m ∷ []))) (ap f w.in-Add.is) ∙ ap (λ o. o ∷ []) made in
+          let one : AreMadeUnder v (added (f c.item-item.result ∷ [])) (a ∷ []) = ap (λ m. map (made_under v) (added (m ∷ []))) (ap f w.in-Add.is) ∙ ap (λ o. o ∷ []) (sym w.in_ok-atom-in-Add.ensures ∙ w.in-Some.is) in
           record {
-            items = subst (AreMadeUnder v (added (map f (take (c.loop-item.item-index + 1) items)))) (sym more)
-                (added_more f v items c.loop-item.item-index c.item-item.result c.loop-item.atoms.items (a ∷ []) c.loop-item-test.true c.item-item.is c.loop-item.invariant.items one);
-            few = omega (arith, len, c.loop-item.invariant.few);
+            items = subst (AreMadeUnder v (added (map f (take (c.loop-item.item-index + 1) c.body-item-items.result.now)))) (sym more)
+                (added_more f v c.body-item-items.result.now c.loop-item.item-index c.item-item.result c.loop-item.atoms.items (a ∷ []) c.loop-item-test.true c.item-item.is c.loop-item.invariant.items one);
+            few = omega (arith, ap length more ∙ length_push c.loop-item.atoms.items _, c.loop-item.invariant.few);
           }
     ]
 
 pub returns : goal.returns
 returns g c =
-    let v = bound_at c.args.binding.now in
     let f = member {Z = g.row.A.Denot} in
-    subst (λ ms. AreMadeUnder v (added ms) c.loop-item.atoms.items) (ap (map f) (take_all c.loop-item.item-index c.body-item-items.result.now c.loop-item-test.false) ∙ c.body-item-items.ensures.members) c.loop-item.invariant.items
+    subst (λ ms. AreMadeUnder (bound_at c.args.binding.now) (added ms) c.loop-item.atoms.items) (ap (map f) (take_all c.loop-item.item-index c.body-item-items.result.now c.loop-item-test.false) ∙ c.body-item-items.ensures.members) c.loop-item.invariant.items

@@ -9,7 +9,7 @@ use Rattle.chr_rule.specs.Parts.{expression, member, shape}
 use Rattle.chr_guard.proofs.Steps.{read_as}
 use Rattle.chr_guard.specs.Instances.{made_under}
 use Rattle.chr_guard.proofs.Under.{none_is_none, some_is_some}
-use Rattle.chr_guard.proofs.Completed.{Completing, completing_start, completing_end, is_place, is_valueless, is_otherwise, is_more, add_more, add_valueless}
+use Rattle.chr_guard.proofs.Matched.{Completing, completing_start, completing_end, is_place, is_valueless, is_otherwise, is_more, add_more, add_valueless}
 use Rattle.chr_guard.proofs.Bindings.{keeps_both, narrows_keeps}
 use Rattle.chr_guard.proofs.body.bind_body.Goals as goal
 use Rattle.chr_guard.proofs.body.bind_body.Goals.{in-Is+in-Some+else-not-bind_number, in-Add+else-not-has_values}
@@ -56,8 +56,7 @@ loop-item-preserved g c =
 
 pub returns-clause-completed : goal.returns-clause-completed
 returns-clause-completed g c =
-    let past : length c.args.rule.now.body ≤ c.loop-item.item-index = subst (λ l. length l ≤ c.loop-item.item-index) c.body-item-items.ensures.members (rw length-map c.loop-item-test.false) in
-    completing_end c.args.rule.now c.loop-item.item-index c.args.binding.now c.loop-item.binding past c.loop-item.invariant
+    completing_end c.args.rule.now c.loop-item.item-index c.args.binding.now c.loop-item.binding (subst (λ l. length l ≤ c.loop-item.item-index) c.body-item-items.ensures.members (rw length-map c.loop-item-test.false)) c.loop-item.invariant
 
 pub returns-in_default-clause-keeps : goal.returns-in_default-clause-keeps
 returns-in_default-clause-keeps g c = narrows_keeps _ c.args.binding.now c.loop-item.binding c.loop-item.invariant.narrows

@@ -1,4 +1,4 @@
-use Rattle.chr_guard.proofs.Completed.{Completing}
+use Rattle.chr_guard.proofs.Matched.{Completing}
 use Rattle.chr_guard.proofs.body.bind_body.Given as goal
 
 abbrev pub invariant-loop-item : goal.invariant-loop-item

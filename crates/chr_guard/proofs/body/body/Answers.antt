@@ -3,14 +3,10 @@ use Rattle.chr_guard.proofs.body.body.Goals as goal
 
 pub returns : goal.returns
 returns g c =
-    let rule = c.args.rule.now in
-    let binding = c.args.binding.now in
-    let all = c.widened-all.result in
-    let new = c.bind_body.new.binding in
     if_ok_as c.added_atoms.result
     (λ made. carried_on made
-    (no_arguments rule binding all c.widened-all.ensures.same new c.if-not-bind_body.ensures.completed)
-    (λ atoms is. is_body rule binding all c.widened-all.ensures.same new atoms.items c.if-not-bind_body.ensures.completed is))
+    (no_arguments c.args.rule.now c.args.binding.now c.widened-all.result c.widened-all.ensures.same c.bind_body.new.binding c.if-not-bind_body.ensures.completed)
+    (λ atoms is. is_body c.args.rule.now c.args.binding.now c.widened-all.result c.widened-all.ensures.same c.bind_body.new.binding atoms.items c.if-not-bind_body.ensures.completed is))
     c.added_atoms.ensures
 
 pub returns-then-not-bind_body : goal.returns-then-not-bind_body

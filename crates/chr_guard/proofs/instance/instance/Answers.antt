@@ -4,11 +4,9 @@ use Rattle.chr_guard.proofs.instance.instance.Goals as goal
 
 pub returns : goal.returns
 returns g c =
-    let rule = c.args.rule.now in
     let facts = map (λ a. a.now) c.args.atoms.now in
-    let binding = c.in-Some.binding in
     if_ok_as c.added_atoms.result
     (λ made. carried_on made
-    (not_added rule facts binding c.in-Some.ensures)
-    (λ atoms is. is_added rule facts atoms.items binding c.in-Some.ensures is))
+    (not_added c.args.rule.now facts c.in-Some.binding c.in-Some.ensures)
+    (λ atoms is. is_added c.args.rule.now facts atoms.items c.in-Some.binding c.in-Some.ensures is))
     c.added_atoms.ensures

@@ -6,7 +6,7 @@ use Rattle.chr_guard.specs.Values.{Valuation, term_under}
 use Rattle.chr_guard.specs.Bindings.{Narrows, NoneUnder, NarrowsIf}
 use Rattle.chr_rule.specs.declared.term.Open.{Open as CodeOpen}
 use Rattle.chr_guard.proofs.Steps.{known_read, read_more, read_stop, read_end}
-use Rattle.chr_guard.proofs.Arguments.{term_weight, weights, weight-at, weight-parts, under-open}
+use Rattle.chr_guard.proofs.Under.{term_weight, weights, weight-at, weight-parts, under-open}
 use Rattle.chr_rule.proofs.Levels.{argument-Var, known-parts}
 use Rattle.chr_guard.proofs.Matched.{told_as}
 use Rattle.chr_guard.proofs.Bindings.{keeps_both, narrows_keeps}
@@ -18,11 +18,9 @@ fit_term-returns-in-Var-clause-narrows g t c =
 
 pub fit_term-fit_terms-requires : goal.fit_term-fit_terms-requires
 fit_term-fit_terms-requires g t c κs within =
-    let ts = c.deref-in-Comp-2.result.now in
     let are = c.deref-in-Comp-2.ensures.value ∙ ap (λ (k : CodeOpen _). k.args.items) c.deref-in-Comp.ensures in
-    let weighs = weight-parts _ c.in-Open.open ts c.in-Open.is are in
-    let less : 2 * weights (map argument ts) + 1 < 2 * term_weight (argument c.args.term.now) = omega (arith, weighs) in
-    (subst (λ n. 2 * weights (map argument ts) + 1 < n) c.decreases less, (within, (omega arith, known-parts _ c.in-Open.open ts c.in-Open.is are (length c.args.binding.now) ∙ c.requires)))
+    let less : 2 * weights (map argument c.deref-in-Comp-2.result.now) + 1 < 2 * term_weight (argument c.args.term.now) = omega (arith, weight-parts _ c.in-Open.open c.deref-in-Comp-2.result.now c.in-Open.is are) in
+    (subst (λ n. 2 * weights (map argument c.deref-in-Comp-2.result.now) + 1 < n) c.decreases less, (within, (omega arith, known-parts _ c.in-Open.open c.deref-in-Comp-2.result.now c.in-Open.is are (length c.args.binding.now) ∙ c.requires)))
 
 pub fit_term-returns-else-deref-comp-clause-narrows : goal.fit_term-returns-else-deref-comp-clause-narrows
 fit_term-returns-else-deref-comp-clause-narrows g t c =
@@ -38,8 +36,7 @@ fit_terms-fit_term-requires g t c κs within =
     let terms = c.args.terms.now in
     let here : c.loop-i.i < length terms = omega arith in
     let term = c.index-terms-i.result in
-    let le = weight-at terms c.loop-i.i term here c.index-terms-i.is in
-    let less : 2 * term_weight (argument term) < 2 * weights (map argument terms) + 1 = omega (arith, le) in
+    let less : 2 * term_weight (argument term) < 2 * weights (map argument terms) + 1 = omega (arith, weight-at terms c.loop-i.i term here c.index-terms-i.is) in
     (subst (λ m. 2 * term_weight (argument term) < m) c.decreases less, (within, (omega arith, ap (λ m. argument_known m (argument term)) c.loop-i.invariant.places ∙ known_read (argument_known (length c.args.binding.now)) argument terms c.loop-i.i term here c.index-terms-i.is c.requires)))
 
 pub fit_terms-returns-then-not-fit_term-clause-narrows : goal.fit_terms-returns-then-not-fit_term-clause-narrows

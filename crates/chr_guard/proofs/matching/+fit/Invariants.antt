@@ -4,7 +4,7 @@ use Rattle.chr_rule.specs.Parts.{argument}
 use Rattle.chr_guard.specs.Values.{term_under}
 use Rattle.chr_guard.specs.Bindings.{Narrows}
 use Rattle.chr_guard.proofs.Steps.{SoFar}
-use Rattle.chr_guard.proofs.Arguments.{term_weight, weights}
+use Rattle.chr_guard.proofs.Under.{term_weight, weights}
 use Rattle.chr_guard.proofs.matching.+fit.Given as goal
 
 abbrev pub invariant-fit_terms-loop-i : goal.invariant-fit_terms-loop-i

@@ -16,5 +16,4 @@ returns-then-not-fit_placed g c =
 pub returns : goal.returns
 returns g c =
     let all = AreAtHeads c.args.rule.now (map (λ p. (p.0, p.1.now)) c.args.placed.now) in
-    let start = c.free-binding.ensures ∙ ap (λ n. replicate n None) c.variables.ensures.count in
-    fit_from_free c.args.rule.now all c.fit_placed.new.binding (subst (λ old. Narrows all old c.fit_placed.new.binding) start c.if-not-fit_placed.ensures)
+    fit_from_free c.args.rule.now all c.fit_placed.new.binding (subst (λ old. Narrows all old c.fit_placed.new.binding) (c.free-binding.ensures ∙ ap (λ n. replicate n None) c.variables.ensures.count) c.if-not-fit_placed.ensures)

@@ -1,7 +1,5 @@
-use Rattle.std.proofs.Common.{◌≡◌, length, map, None, replicate, arith, refl, sym, ap, ◌∙◌}
+use Rattle.std.proofs.Common.{length, map, None, replicate, arith, refl, sym, ap, ◌∙◌, Bor, ℕ}
 use Rattle.std.proofs.lemmas.List.{length-map, length-replicate}
-use denote.Ref.{Bor}
-use Rattle.std.specs.Prelude.{ℕ}
 use Rattle.chr_value.specs.Atoms.{Atom}
 use Rattle.chr_rule.specs.Parts.{shape}
 use Rattle.chr_guard.proofs.Matched.{in_parts, both_placed, fit_both, no_kept, no_removed, too_few}
@@ -9,15 +7,11 @@ use Rattle.chr_guard.proofs.matching.fit_all.Goals as goal
 
 pub fit_heads-requires : goal.fit_heads-requires
 fit_heads-requires g c =
-    let rule = c.args.rule.now in
-    let len : length c.free-binding.result ≡ rule.variables = ap length c.free-binding.ensures ∙ length-replicate c.variables.result None ∙ c.variables.ensures.count in
-    (omega arith, rw (len, c.kept-kept.ensures.heads) (both_placed rule c.kept-kept.ensures.valid).0)
+    (omega arith, rw (ap length c.free-binding.ensures ∙ length-replicate c.variables.result None ∙ c.variables.ensures.count, c.kept-kept.ensures.heads) (both_placed c.args.rule.now c.kept-kept.ensures.valid).0)
 
 pub fit_heads-requires-2 : goal.fit_heads-requires-2
 fit_heads-requires-2 g c =
-    let rule = c.args.rule.now in
-    let len : length c.fit_heads.new.binding ≡ rule.variables = c.if-not-fit_heads.ensures.places ∙ ap length c.free-binding.ensures ∙ length-replicate c.variables.result None ∙ c.variables.ensures.count in
-    (omega arith, rw (len, c.removed-removed.ensures.heads) (both_placed rule c.kept-kept.ensures.valid).1)
+    (omega arith, rw (c.if-not-fit_heads.ensures.places ∙ ap length c.free-binding.ensures ∙ length-replicate c.variables.result None ∙ c.variables.ensures.count, c.removed-removed.ensures.heads) (both_placed c.args.rule.now c.kept-kept.ensures.valid).1)
 
 pub returns : goal.returns
 returns g c =

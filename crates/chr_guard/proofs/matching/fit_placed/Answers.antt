@@ -1,4 +1,4 @@
-use Rattle.std.proofs.Common.{◌≡◌, ◌∙◌, length, map, sym, subst, arith}
+use Rattle.std.proofs.Common.{◌∙◌, map, sym, subst, arith}
 use Rattle.std.proofs.lemmas.List.{length-map}
 use Rattle.chr_rule.specs.Parts.{shape}
 use Rattle.chr_guard.specs.Matching.{IsAtHead}
@@ -13,8 +13,7 @@ returns-in_default g c v extends all =
 
 pub fit_head-requires : goal.fit_head-requires
 fit_head-requires g c =
-    let len : length c.loop-number.binding ≡ c.args.rule.now.variables = c.loop-number.invariant.places ∙ c.requires in
-    (omega arith, subst (λ n. IsPlaced n (shape c.in-Some.head.now)) (sym len) (head_placed c.args.rule.now c.head.ensures.valid c.loop-number-item.result.0 (shape c.in-Some.head.now) (sym c.in-Some.ensures.head)))
+    (omega arith, subst (λ n. IsPlaced n (shape c.in-Some.head.now)) (sym (c.loop-number.invariant.places ∙ c.requires)) (head_placed c.args.rule.now c.head.ensures.valid c.loop-number-item.result.0 (shape c.in-Some.head.now) (sym c.in-Some.ensures.head)))
 
 pub returns-then-not-fit_head : goal.returns-then-not-fit_head
 returns-then-not-fit_head g c =

@@ -1,6 +1,6 @@
 use Rattle.std.proofs.Common.{◌+◌}
 use Rattle.chr_rule.specs.Parts.{expression}
-use Rattle.chr_guard.proofs.Arguments.{weight}
+use Rattle.chr_guard.proofs.Under.{weight}
 use Rattle.chr_guard.proofs.values.+nested.Given as goal
 
 abbrev pub decreases-nested : goal.decreases-nested

@@ -1,6 +1,6 @@
 use Rattle.std.proofs.Common.{sym, ◌∙◌}
 use Rattle.chr_guard.specs.Bindings.{bound_at}
-use Rattle.chr_guard.proofs.Arguments.{left-next, left-stop, left-end}
+use Rattle.chr_guard.proofs.Under.{left-next, left-stop, left-end}
 use Rattle.chr_guard.proofs.binding.Binding.+left.Goals as goal
 
 pub left_behind-returns-in_err-rest : goal.left_behind-returns-in_err-rest

@@ -1,7 +1,7 @@
 use Rattle.std.proofs.Common.{refl, arith, sym, ap, ◌∙◌}
 use Rattle.chr_rule.specs.declared.term.Open.{Open as CodeOpen}
 use Rattle.chr_guard.specs.Bindings.{bound_at}
-use Rattle.chr_guard.proofs.Arguments.{SameFrom, same-next, same-stop, same-end, same-count, same-opens}
+use Rattle.chr_guard.proofs.Under.{SameFrom, same-next, same-stop, same-end, same-count, same-opens}
 use Rattle.chr_guard.proofs.binding.Binding.+same.Goals as goal
 
 pub same-returns-then-deref : goal.same-returns-then-deref
@@ -27,6 +27,4 @@ all_same-loop-i-preserved g t c =
     same-next (bound_at c.args.self.now) c.args.terms.now c.args.others.now c.loop-i.i c.index-terms-i.result c.index-others-i.result c.loop-i-test.true (omega arith) c.index-terms-i.is c.index-others-i.is (SameFrom (bound_at c.args.self.now) c.args.terms.now c.args.others.now 0) (c.same.ensures.0 c.if-not-same.false) c.loop-i.invariant
 
 pub all_same-returns : goal.all_same-returns
-all_same-returns g t c =
-    let whole = c.loop-i.invariant.0 (same-end (bound_at c.args.self.now) c.args.terms.now c.args.others.now c.loop-i.i c.loop-i-test.false (omega arith)) in
-    (λ h. whole, λ e. refl)
+all_same-returns g t c = (λ h. (c.loop-i.invariant.0 (same-end (bound_at c.args.self.now) c.args.terms.now c.args.others.now c.loop-i.i c.loop-i-test.false (omega arith))), λ e. refl)

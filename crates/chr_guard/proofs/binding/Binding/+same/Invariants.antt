@@ -1,6 +1,6 @@
 use Rattle.std.proofs.Common.{◌↔◌}
 use Rattle.chr_guard.specs.Bindings.{bound_at}
-use Rattle.chr_guard.proofs.Arguments.{SameFrom}
+use Rattle.chr_guard.proofs.Under.{SameFrom}
 use Rattle.chr_guard.proofs.binding.Binding.+same.Given as goal
 
 abbrev pub invariant-all_same-loop-i : goal.invariant-all_same-loop-i

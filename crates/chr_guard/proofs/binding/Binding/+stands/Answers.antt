@@ -4,7 +4,7 @@ use Rattle.chr_rule.specs.Parts.{argument}
 use Rattle.chr_rule.specs.declared.term.Open.{Open as CodeOpen}
 use Rattle.chr_guard.specs.Values.{term_under}
 use Rattle.chr_guard.specs.Bindings.{bound_at}
-use Rattle.chr_guard.proofs.Arguments.{under-open}
+use Rattle.chr_guard.proofs.Under.{under-open}
 use Rattle.chr_guard.proofs.Steps.{read_at, read_next, read_whole, read_count}
 use Rattle.chr_guard.proofs.binding.Binding.+stands.Goals as goal
 
@@ -36,5 +36,4 @@ stand_for-loop-i-preserved g t c =
 
 pub stand_for-returns : goal.stand_for-returns
 stand_for-returns g t c =
-    let whole = read_whole term_under argument (λ v. Some (ground v)) c.args.terms.now c.args.values.now c.loop-i.i (bound_at c.args.self.now) c.loop-i-test.false (omega arith) c.loop-i.invariant in
-    (λ h. whole, λ e. refl)
+    (λ h. (read_whole term_under argument (λ v. Some (ground v)) c.args.terms.now c.args.values.now c.loop-i.i (bound_at c.args.self.now) c.loop-i-test.false (omega arith) c.loop-i.invariant), λ e. refl)

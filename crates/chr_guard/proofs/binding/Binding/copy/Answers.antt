@@ -1,4 +1,4 @@
-use Rattle.std.proofs.Common.{◌≡◌, ◌<◌, None, length, slice_index_or, ap, refl, sym, ◌∙◌, arith, length-set, take}
+use Rattle.std.proofs.Common.{◌<◌, None, length, slice_index_or, ap, refl, sym, ◌∙◌, arith, length-set, take}
 use Rattle.std.proofs.lemmas.Grind.{common_steps}
 use Rattle.std.proofs.lemmas.List.{length-replicate}
 use Rattle.chr_guard.specs.Bindings.{told_from}
@@ -15,25 +15,19 @@ loop-variable-init g c = record {
 
 pub loop-variable-preserved : goal.loop-variable-preserved
 loop-variable-preserved g c =
-    let loop = c.loop-variable.invariant in
     let i = c.loop-variable.variable in
     let copies = c.loop-variable.copy-inside.bound.items in
-    let places = c.self.inside.bound.items in
-    let b = c.index-deref-variable.result in
-    let found : b ≡ slice_index_or places i bounds.Free = grind (arith, common_steps) in
-    let written = after_write copies c.deref_mut.result.now i i b c.deref_mut.ensures.value refl in
-    let place : i < length copies = omega (arith, loop.full, c.self.invariant.within, c.loop-variable-test.true) in
+    let written = after_write copies c.deref_mut.result.now i i c.index-deref-variable.result c.deref_mut.ensures.value refl in
+    let place : i < length copies = omega (arith, c.loop-variable.invariant.full, c.self.invariant.within, c.loop-variable-test.true) in
     record {
-      variables = loop.variables;
-      full = ap length written ∙ length-set copies i b ∙ loop.full;
-      items = λ x lt. ap (λ bs. slice_index_or bs x bounds.Free) written ∙ copy_more i places copies b place found loop.items x lt;
+      variables = c.loop-variable.invariant.variables;
+      full = ap length written ∙ length-set copies i c.index-deref-variable.result ∙ c.loop-variable.invariant.full;
+      items = λ x lt. ap (λ bs. slice_index_or bs x bounds.Free) written ∙ copy_more i c.self.inside.bound.items copies c.index-deref-variable.result place (grind (arith, common_steps)) c.loop-variable.invariant.items x lt;
     }
 
 pub returns : goal.returns
 returns g c =
-    let loop = c.loop-variable.invariant in
-    let bits = c.self.inside.known.bits in
     let n = c.self.inside.variables in
     let copies = c.loop-variable.copy-inside.bound.items in
-    ap (λ m. take m (told_from bits 0 copies)) loop.variables
-    ∙ (bound_copy bits n c.self.inside.bound.items copies c.args.self.now c.self.invariant c.self.view_is loop.full (λ x lt. loop.items x (omega (arith, lt, c.loop-variable-test.false)))).1
+    ap (λ m. take m (told_from c.self.inside.known.bits 0 copies)) c.loop-variable.invariant.variables
+    ∙ (bound_copy c.self.inside.known.bits n c.self.inside.bound.items copies c.args.self.now c.self.invariant c.self.view_is c.loop-variable.invariant.full (λ x lt. c.loop-variable.invariant.items x (omega (arith, lt, c.loop-variable-test.false)))).1

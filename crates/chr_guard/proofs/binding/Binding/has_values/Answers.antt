@@ -1,8 +1,5 @@
 use Rattle.chr_value.specs.Atoms.{Value}
-use Rattle.std.proofs.Common.{◌≡◌, map, None, IsSome, not, refl, sym, subst, ap, ◌∙◌, ℕ, true, Option, Some}
-use Rattle.std.specs.Prelude.{IfSome}
-use Rattle.std.specs.Option.{is_some}
-use Rattle.std.proofs.lemmas.List.{take_all}
+use Rattle.std.proofs.Common.{◌≡◌, map, None, IsSome, not, refl, sym, subst, ap, ◌∙◌, ℕ, true, Option, Some, IfSome, is_some, take_all}
 use Rattle.chr_rule.specs.Parts.{argument, shape}
 use Rattle.chr_guard.specs.Values.{term_under, value_under, within_limits}
 use Rattle.chr_guard.specs.Terms.{plain_value}
@@ -27,14 +24,12 @@ returns-then-not-is_within g c =
     let all = no_values argument value c.deref-term-items.result.now c.loop-term.term-index c.term-item.result c.loop-term-test.true c.term-item.is none in (
       λ h. absurd (cc),
       λ h.
-          let some = subst (λ ts. IsSome (all_values value (map argument ts))) (sym c.deref-term-items.ensures.value) ((some_atom value (shape c.args.pattern.now)).1 h) in
-          subst (λ o. IsSome o) all some,
+          subst (λ o. IsSome o) all (subst (λ ts. IsSome (all_values value (map argument ts))) (sym c.deref-term-items.ensures.value) ((some_atom value (shape c.args.pattern.now)).1 h)),
     )
 
 pub loop-term-preserved : goal.loop-term-preserved
 loop-term-preserved g c =
-    let value = value_under (bound_at c.args.self.now) in
-    let more = some_values_more argument value c.deref-term-items.result.now c.loop-term.term-index c.term-item.result c.loop-term-test.true c.term-item.is c.loop-term.invariant in
+    let more = some_values_more argument (value_under (bound_at c.args.self.now)) c.deref-term-items.result.now c.loop-term.term-index c.term-item.result c.loop-term-test.true c.term-item.is c.loop-term.invariant in
     elim c.else-is_none.branch [
       | else-is_none-via-then-is_none+else-not-is_within w ↦ more (w.is_within.ensures.0 w.if-not-is_within.false)
       | else-is_none-via-else-is_none w ↦ more (plain-some c.plain.result (term_under (bound_at c.args.self.now) (argument c.term-item.result)) c.plain.ensures (c.is_none.ensures ∙ ap not w.if-is_none.false))
@@ -43,6 +38,5 @@ loop-term-preserved g c =
 pub returns : goal.returns
 returns g c =
     let value = value_under (bound_at c.args.self.now) in
-    let terms = c.deref-term-items.result.now in
-    let all = subst (λ ts. IsSome (all_values value (map argument ts))) (take_all c.loop-term.term-index terms c.loop-term-test.false ∙ c.deref-term-items.ensures.value) c.loop-term.invariant in
+    let all = subst (λ ts. IsSome (all_values value (map argument ts))) (take_all c.loop-term.term-index c.deref-term-items.result.now c.loop-term-test.false ∙ c.deref-term-items.ensures.value) c.loop-term.invariant in
     (λ h. (some_atom value (shape c.args.pattern.now)).0 all, λ h. refl)

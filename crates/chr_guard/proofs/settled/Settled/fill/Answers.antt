@@ -1,10 +1,9 @@
-use Rattle.std.proofs.Common.{◌≡◌, ◌<◌, ◌≤◌, rules, length, map, get_or, None, sym, subst, ap, ◌∙◌, arith, slice_index_or}
+use Rattle.std.proofs.Common.{◌≡◌, ◌<◌, rules, length, map, get_or, None, sym, subst, ap, ◌∙◌, arith, slice_index_or}
 use Rattle.std.proofs.lemmas.List.{length-map}
 use Rattle.chr_value.specs.Atoms.{Int, Sym}
 use Rattle.chr_guard.specs.declared.settled.Mark.TheVariants as marks
 use Rattle.chr_guard.specs.Settled.{mark_view, IsFilled}
-use Rattle.chr_guard.proofs.Again.{filling_start, filling_put, filling_skip, filling_end, mark_there, nothing_kept}
-use Rattle.chr_guard.proofs.Steps.{read_there}
+use Rattle.chr_guard.proofs.Steps.{read_there, filling_start, filling_put, filling_skip, filling_end, mark_there, nothing_kept}
 use Rattle.chr_guard.proofs.settled.Settled.fill.Goals as goal
 use Rattle.chr_guard.proofs.settled.Settled.fill.Goals.{in-Number, in-Symbol, in_default}
 
@@ -42,7 +41,5 @@ loop-variable-preserved g c =
 
 pub returns : goal.returns
 returns g c =
-    let ms = c.deref-mark-items.result.now in
-    let past : length (map mark_view c.deref-mark-items.result.now) ≤ c.loop-variable.variable = rw length-map c.loop-variable-test.false in
     subst (λ s. IsFilled s c.args.binding.now c.loop-variable.binding) (ap (map mark_view) c.deref-mark-items.ensures.value ∙ c.self.view_is)
-    (filling_end (map mark_view ms) c.loop-variable.variable c.args.binding.now c.loop-variable.binding past c.loop-variable.invariant)
+    (filling_end (map mark_view c.deref-mark-items.result.now) c.loop-variable.variable c.args.binding.now c.loop-variable.binding (rw length-map c.loop-variable-test.false) c.loop-variable.invariant)

@@ -1,6 +1,6 @@
 use Rattle.std.proofs.Common.{map}
 use Rattle.chr_guard.specs.Settled.{mark_view}
-use Rattle.chr_guard.proofs.Again.{Filling}
+use Rattle.chr_guard.proofs.Steps.{Filling}
 use Rattle.chr_guard.proofs.settled.Settled.fill.Given as goal
 
 abbrev pub invariant-loop-variable : goal.invariant-loop-variable

@@ -1,7 +1,7 @@
 use Rattle.std.proofs.Common.{◌≡◌, length, None, sym, ap, subst, ◌∙◌, arith}
 use Rattle.std.proofs.lemmas.List.{length-map, length-replicate}
 use Rattle.chr_guard.specs.Settled.{mark_view, IsFilled}
-use Rattle.chr_guard.proofs.Again.{plain_again}
+use Rattle.chr_guard.proofs.Steps.{plain_again}
 use Rattle.chr_guard.proofs.settled.Settled.plain.Goals as goal
 
 pub fill-requires : goal.fill-requires
