@@ -1,10 +1,6 @@
-pub mod Entries
 pub mod Table
-pub mod Blocks
 pub mod Walks
 pub mod Slots
-pub mod Keep
 pub mod Stored
-pub mod Jumps
 pub mod Marks
 pub mod Views

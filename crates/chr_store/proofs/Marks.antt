@@ -1,6 +1,5 @@
 -- Marks of places.
-use Rattle.std.proofs.Common.{◌≡◌, ℕ, zero, suc, ◌+◌, ◌-◌, ◌<◌, ◌≤◌, ◌&&◌, ◌||◌, Bool, true, false, List, [], ◌∷◌, ◌++◌, refl, sym, ap, subst, arith, length, take, ◌∙◌, nat_eq, replicate, slice_set, slice_get}
-use Rattle.std.specs.Option.{unwrap_or}
+use Rattle.std.proofs.Common.{◌≡◌, ℕ, zero, suc, ◌+◌, ◌-◌, ◌<◌, ◌≤◌, ◌&&◌, ◌||◌, Bool, true, false, List, [], ◌∷◌, ◌++◌, refl, sym, ap, subst, arith, length, take, ◌∙◌, nat_eq, replicate, slice_set, slice_get, unwrap_or}
 use Rattle.std.proofs.lemmas.List.{take_all, length-append, length-replicate}
 use Rattle.std.proofs.lemmas.Bool.Decides.{nat_tests}
 use Rattle.std.proofs.lemmas.Bool.{and_parts, and_from, eq-eqb, eqb-true, false≢true}
@@ -47,8 +46,7 @@ same_place : (p q : Pred) (m n i : ℕ) → IsMarkOf p m i → IsMarkOf q n i �
 same_place p q m n i h k =
     let name : p.name.number ≡ q.name.number = omega (arith, h.index, k.index, h.few, k.few, h.within, k.within) in
     let arity : p.arity ≡ q.arity = omega (arith, name, h.index, k.index, h.within, k.within) in
-    let place : m ≡ n = omega (arith, name, arity, h.index, k.index) in
-    and_from _ _ (and_from _ _ (eq-eqb _ _ name) (eq-eqb _ _ arity)) (eq-eqb _ _ place)
+    and_from _ _ (and_from _ _ (eq-eqb _ _ name) (eq-eqb _ _ arity)) (eq-eqb _ _ (omega (arith, name, arity, h.index, k.index)))
 
 -- a place that is another's has its marks
 moved : (p q : Pred) (m n i : ℕ) → (is_pred p q && nat_eq m n) ≡ true → IsMarkOf q n i → IsMarkOf p m i
@@ -62,9 +60,7 @@ moved p q m n i t k =
 
 -- two tests of which each tells the other
 tells : (a b : Bool) → (a ≡ true → b ≡ true) → (b ≡ true → a ≡ true) → a ≡ b
-tells true b f g = sym (f refl)
-tells false true f g = g refl
-tells false false f g = refl
+tells a b f g = grind arith
 
 -- a place's mark is set
 pub marked : (p : Pred) (m i : ℕ) (old new : List Bool) → IsMarkOf p m i → ((j : ℕ) → mark_at new j ≡ (nat_eq j i || mark_at old j)) → IsMarked p m old new
@@ -81,20 +77,9 @@ marks_more ps p old mid new h first second = λ pred place i k.
     second pred place i k ∙ ap (λ (b : Bool). (is_pred p.0 pred && nat_eq p.1 place) || b) (first pred place i k ∙ ap (λ (b : Bool). (is_pred p.0 pred && nat_eq 0 place) || b) (h pred place i k))
     ∙ both pred place (listed ps pred place) ∙ sym (listed_push ps p pred place)
   where
-    joined : (a b c l : Bool) → c ≡ true → ((a && b) || ((a && c) || l)) ≡ (a || l)
-    joined true true true l e = refl
-    joined true false true l e = refl
-    joined false b true l e = refl
-    joined a b false l e = absurd (false≢true e)
-
-    apart_only : (a b c l : Bool) → c ≡ false → ((a && b) || ((a && c) || l)) ≡ ((a && b) || l)
-    apart_only true b false l e = refl
-    apart_only false b false l e = refl
-    apart_only a b true l e = absurd (false≢true (sym e))
-
     both : (pred : Pred) (place : ℕ) (l : Bool) → ((is_pred p.0 pred && nat_eq p.1 place) || ((is_pred p.0 pred && nat_eq 0 place) || l)) ≡ (is_place p pred place || l)
-    both pred zero l = joined (is_pred p.0 pred) (nat_eq p.1 0) (nat_eq 0 0) l (eq-eqb 0 0 refl)
-    both pred (suc n) l = apart_only (is_pred p.0 pred) (nat_eq p.1 (suc n)) (nat_eq 0 (suc n)) l (apart 0 (suc n) (λ e. absurd (omega arith)))
+    both pred zero l = grind (arith, nat_tests)
+    both pred (suc n) l = grind (arith, nat_tests)
 
 pub chosen_listed : (ps : Places) (pred : Pred) (place : ℕ) → 0 < place → listed ps pred place ≡ chosen ps pred place
 chosen_listed ps pred zero u = absurd (omega arith)
@@ -119,8 +104,7 @@ pub record IsRoomy (old new : List Bool) (index : ℕ) : Type 0 where
 
 pub roomy_filled : (old : List Bool) (index len : ℕ) → len ≡ length old → len ≤ index → IsRoomy old (take (index + 1) old ++ replicate (index + 1 - len) false) index
 roomy_filled old index len e u =
-    let whole : take (index + 1) old ≡ old = take_all (index + 1) old (omega arith) in
-    subst (λ (z : List Bool). IsRoomy old (z ++ replicate (index + 1 - len) false) index) (sym whole) (record {
+    subst (λ (z : List Bool). IsRoomy old (z ++ replicate (index + 1 - len) false) index) (sym (take_all (index + 1) old (omega arith))) (record {
       within = omega (arith, length-append old (replicate (index + 1 - len) false), length-replicate (index + 1 - len) false);
       same = λ i. mark_filled old (index + 1 - len) i;
     })

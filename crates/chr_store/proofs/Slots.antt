@@ -1,15 +1,15 @@
 -- Slots of a bucket.
-use Rattle.std.proofs.Common.{◌≡◌, ℕ, zero, suc, ◌+◌, ◌-◌, ◌<◌, ◌≤◌, Bool, true, false, ◌==◌, if◌then◌else◌, List, [], ◌∷◌, ◌++◌, Option, Some, None, refl, sym, ap, subst, arith, true-eqb, length, take, drop, slice_index_or, ◌∙◌, slice_set, get_or, inl, inr, length-append, max, ltb, add-one}
+use Rattle.std.proofs.Common.{length-take-le, get_or-take, get_or-drop, length-drop, ◌≡◌, ℕ, zero, suc, ◌+◌, ◌-◌, ◌<◌, ◌≤◌, Bool, true, false, ◌==◌, if◌then◌else◌, List, [], ◌∷◌, ◌++◌, Option, Some, None, refl, sym, ap, subst, arith, true-eqb, length, take, drop, slice_index_or, ◌∙◌, slice_set, get_or, inl, inr, length-append, max, ltb, add-one, option_map, nat_eq, unwrap_or, drop-drop, length-set}
 use Rattle.std.specs.List.{AllByRecursion, slice_get}
-use Rattle.std.specs.Option.{option_map}
 use Rattle.std.proofs.Math.Seq.{drop-cons}
-use Rattle.std.proofs.lemmas.List.{take-append-drop, take-append-le, take_all, take_more}
-use Rattle.std.proofs.lemmas.Option.{slice_get-get_or, slice_get_past, slice_get_within, get_or_from_slice_get}
+use Rattle.std.proofs.lemmas.List.Elements.{All-from_recursion, recursion_from_All, All-filter, All-weaker, All-append}
+use Rattle.std.proofs.lemmas.List.{drop_all, take-append-drop, take-append-le, take_all, take_more}
+use Rattle.std.proofs.lemmas.Option.{slice_get_cases, slice_get-get_or, slice_get_past, slice_get_within, get_or_from_slice_get}
 use Rattle.std.proofs.lemmas.Bool.{cases_lt, ltb-false, eqb-true}
 use Rattle.std.proofs.lemmas.Bool.Decides.{nat_tests}
 use Rattle.chr_value.proofs.Places.{all-push}
 use Rattle.chr_store.specs.declared.bucket.Slot.{Slot}
-use Rattle.chr_store.specs.Buckets.{is_live, JumpsAreDead, live_labels, live_slots, drop_number, IsIn, SlotsRise, IsLeastBetween, IsLiveOrNone, HasLabelAt, IsBucket}
+use Rattle.chr_store.specs.Buckets.{is_live, JumpsAreDead, live_labels, live_slots, drop_number, IsIn, SlotsRise, IsLeastBetween, IsLiveOrNone, HasLabelAt, IsBucket, jump_at, AreAlike}
 
 -- ---- how many live
 
@@ -20,15 +20,10 @@ live_few (s ∷ ss) = let few = live_few ss in grind (arith, nat_tests)
 -- ---- a fact by places, over the front and over the rest
 
 pub all_front : {X : Type 0} (P : X → Type 0) (xs : List X) (r : ℕ) → r ≤ length xs → ((k : ℕ) (d : X) → 0 ≤ k → k < r → P (slice_index_or xs k d)) → AllByRecursion P (take r xs)
-all_front P xs zero w h = tt
-all_front P [] (suc r) w h = tt
-all_front P (x ∷ xs) (suc r) w h = (h 0 x (omega arith) (omega arith), all_front P xs r (omega arith) (λ k d l u. h (suc k) d (omega arith) (omega arith)))
+all_front P xs r w h = recursion_from_All P (take r xs) (λ k d l. let u : k < r = omega (arith, l, length-take-le r xs w) in rw (get_or-take r xs k d u) (h k d (omega arith) u))
 
 pub all_rest : {X : Type 0} (P : X → Type 0) (xs : List X) (r : ℕ) → ((k : ℕ) (d : X) → r ≤ k → k < length xs → P (slice_index_or xs k d)) → AllByRecursion P (drop r xs)
-all_rest P [] zero h = tt
-all_rest P [] (suc r) h = tt
-all_rest P (x ∷ xs) zero h = (h 0 x (omega arith) (omega arith), all_rest P xs zero (λ k d l u. h (suc k) d (omega arith) (omega arith)))
-all_rest P (x ∷ xs) (suc r) h = all_rest P xs r (λ k d l u. h (suc k) d (omega arith) (omega arith))
+all_rest P xs r h = recursion_from_All P (drop r xs) (λ k d l. rw (get_or-drop r xs k d) (h (r + k) d (omega arith) (omega (arith, l, length-drop r xs))))
 
 -- ---- the labels of the live ones
 
@@ -52,8 +47,7 @@ living_kept (s ∷ ss) = elim (is_live s) as (λ b. ((is_live s) ≡ b) → live
 
 -- the live ones pass what the slots pass, and where each live label passes, each of them does
 pub kept_all : (P : Slot → Type 0) (ss : List Slot) → AllByRecursion P ss → AllByRecursion P (live_slots ss)
-kept_all P [] h = tt
-kept_all P (s ∷ ss) h = elim (is_live s) as (λ b. AllByRecursion P (if b then s ∷ live_slots ss else live_slots ss)) [ true ↦ (h.0, kept_all P ss h.1) | false ↦ kept_all P ss h.1 ]
+kept_all P ss h = recursion_from_All P (live_slots ss) (All-filter is_live P ss (All-from_recursion P ss h))
 
 pub kept_rise : (ss : List Slot) → SlotsRise ss → SlotsRise (live_slots ss)
 kept_rise [] h = tt
@@ -75,12 +69,7 @@ rise_push s (t ∷ ss) b h = (all-push (λ u. t.label < u.label) ss s h.0 b.0, r
 pub rise_at : (ss : List Slot) (i j : ℕ) (d : Slot) → SlotsRise ss → i ≤ j → j < length ss → (slice_index_or ss i d).label ≤ (slice_index_or ss j d).label
 rise_at [] i j d h l u = absurd (omega arith)
 rise_at (s ∷ ss) zero zero d h l u = omega arith
-rise_at (s ∷ ss) zero (suc j) d h l u = let k : s.label < (slice_index_or ss j d).label = at ss j d h.0 (omega arith) in omega arith
-  where
-    at : (ts : List Slot) (j : ℕ) (d : Slot) → AllByRecursion (λ t. s.label < t.label) ts → j < length ts → s.label < (slice_index_or ts j d).label
-    at [] j d a u = absurd (omega arith)
-    at (t ∷ ts) zero d a u = a.0
-    at (t ∷ ts) (suc j) d a u = at ts j d a.1 (omega arith)
+rise_at (s ∷ ss) zero (suc j) d h l u = let k : s.label < (slice_index_or ss j d).label = All-from_recursion (λ t. s.label < t.label) ss h.0 j d (omega arith) in omega arith
 rise_at (s ∷ ss) (suc i) zero d h l u = absurd (omega arith)
 rise_at (s ∷ ss) (suc i) (suc j) d h l u = rise_at ss i j d h.1 (omega arith) (omega arith)
 
@@ -94,8 +83,7 @@ pub label_at : (ss : List Slot) (p l : ℕ) (d : Slot) → p < length ss → (ge
 label_at ss p l d u h = ap (option_map (λ s. s.label)) (slice_get-get_or ss p d u) ∙ ap (λ z. Some z) h
 
 pub all_map : {X : Type 0} (P Q : X → Type 0) (xs : List X) → ((x : X) → P x → Q x) → AllByRecursion P xs → AllByRecursion Q xs
-all_map P Q [] f h = tt
-all_map P Q (x ∷ xs) f h = (f x h.0, all_map P Q xs f h.1)
+all_map P Q xs f h = recursion_from_All Q xs (All-weaker P Q f xs (All-from_recursion P xs h))
 
 -- no slot has the label, where those up to a place are at most it, those after are above it, and the one at the place has another
 pub apart : (ss : List Slot) (i l : ℕ) (d : Slot) → i < length ss → SlotsRise ss → AllByRecursion (λ s. s.label ≤ l) (take (suc i) ss) → AllByRecursion (λ s. l < s.label) (drop (suc i) ss) → ((get_or ss i d).label ≡ l → ⊥) → AllByRecursion (λ s. s.label ≡ l → ⊥) ss
@@ -196,8 +184,7 @@ among_dead xs t zero live u h = omega arith
 among_dead [] t (suc j) live u h = absurd (let z : t.label ∷ live_labels (take j []) ≡ [] = sym (ap (λ (b : Bool). if b then t.label ∷ live_labels (take j []) else live_labels (take j [])) live) ∙ h in cc)
 among_dead (x ∷ xs) t (suc j) live u h =
     let rest : live_labels (take j (xs ++ t ∷ [])) ≡ [] = elim (is_live x) as (λ b. (if b then x.label ∷ live_labels (take j (xs ++ t ∷ [])) else live_labels (take j (xs ++ t ∷ []))) ≡ [] → live_labels (take j (xs ++ t ∷ [])) ≡ []) [ true ↦ λ e. absurd (cc) | false ↦ λ e. e ] h in
-    let z : j ≤ length xs = among_dead xs t j live (omega arith) rest in
-    omega arith
+    omega (arith, among_dead xs t j live (omega arith) rest)
 
 dead_front : (xs : List Slot) (t : Slot) (j : ℕ) → j ≤ length xs → live_labels (take j (xs ++ t ∷ [])) ≡ [] → live_labels (take j xs) ≡ []
 dead_front xs t j u h = sym (ap live_labels (take-append-le j xs (t ∷ []) u)) ∙ h
@@ -221,8 +208,7 @@ rise_pop (x ∷ xs) t h =
 
 last_apart : (ss : List Slot) (t : Slot) → slice_get ss (length ss - 1) ≡ Some t → ss ≡ take (length ss - 1) ss ++ t ∷ []
 last_apart ss t h =
-    let within : length ss - 1 < length ss = slice_get_within ss (length ss - 1) t h in
-    sym (take_all (length ss - 1 + 1) ss (omega arith)) ∙ take_more ss (length ss - 1) t within ∙ ap (λ z. take (length ss - 1) ss ++ z ∷ []) (get_or_from_slice_get ss (length ss - 1) t t h)
+    sym (take_all (length ss - 1 + 1) ss (omega arith)) ∙ take_more ss (length ss - 1) t (slice_get_within ss (length ss - 1) t h) ∙ ap (λ z. take (length ss - 1) ss ++ z ∷ []) (get_or_from_slice_get ss (length ss - 1) t t h)
 
 -- the slots without the last one, which lives
 module _ (ss : List Slot) (t : Slot) (at : slice_get ss (length ss - 1) ≡ Some t) (live : is_live t ≡ true) where
@@ -261,10 +247,7 @@ drop_at : (ss : List Slot) (p : ℕ) (s : Slot) → slice_get ss p ≡ Some s �
 drop_at ss p s h = drop-cons ss p s (slice_get_within ss p s h) ∙ ap (λ z. z ∷ drop (suc p) ss) (get_or_from_slice_get ss p s s h)
 
 drop_end : (ss : List Slot) (p : ℕ) → slice_get ss p ≡ None → drop p ss ≡ []
-drop_end [] zero h = refl
-drop_end [] (suc p) h = refl
-drop_end (t ∷ ss) zero h = let z : Some t ≡ None = h in absurd (cc)
-drop_end (t ∷ ss) (suc p) h = drop_end ss p h
+drop_end ss p h = elim (slice_get_cases ss p).1 [ inl y ↦ absurd (let z = y.2 in cc) | inr n ↦ drop_all p ss n.0 ]
 
 drop_rise : (ss : List Slot) (p : ℕ) → SlotsRise ss → SlotsRise (drop p ss)
 drop_rise ss zero h = h
@@ -276,8 +259,7 @@ is_in_all P [] n a h = absurd h
 is_in_all P (m ∷ ms) n a h = elim h [ inl e ↦ subst P e a.0 | inr t ↦ is_in_all P ms n a.1 t ]
 
 all_append : (P : ℕ → Type 0) (xs ys : List ℕ) → AllByRecursion P xs → AllByRecursion P ys → AllByRecursion P (xs ++ ys)
-all_append P [] ys a b = b
-all_append P (x ∷ xs) ys a b = (a.0, all_append P xs ys a.1 b)
+all_append P xs ys a b = recursion_from_All P (xs ++ ys) (All-append P xs ys (All-from_recursion P xs a) (All-from_recursion P ys b))
 
 is_in_middle : (xs ys : List ℕ) (l : ℕ) → IsIn l (xs ++ l ∷ ys)
 is_in_middle [] ys l = inl refl
@@ -286,9 +268,7 @@ is_in_middle (x ∷ xs) ys l = inr (is_in_middle xs ys l)
 -- a slot that has the label parts the slots
 
 label_over : (ss : List Slot) (i k : ℕ) (s : Slot) → AllByRecursion (λ t. k < t.label) ss → slice_get ss i ≡ Some s → k < s.label
-label_over [] i k s a h = let z : None ≡ Some s = h in absurd (cc)
-label_over (t ∷ ss) zero k s a h = let same : t ≡ s = cc in subst (λ (z : Slot). k < z.label) same a.0
-label_over (t ∷ ss) (suc i) k s a h = label_over ss i k s a.1 h
+label_over ss i k s a h = subst (λ (z : Slot). k < z.label) (get_or_from_slice_get ss i s s h) (All-from_recursion (λ t. k < t.label) ss a i s (slice_get_within ss i s h))
 
 front_there : (ss : List Slot) (i l : ℕ) (s : Slot) → SlotsRise ss → slice_get ss i ≡ Some s → s.label ≡ l → AllByRecursion (λ t. t.label ≤ l) (take (suc i) ss)
 front_there [] i l s r h e = tt
@@ -317,8 +297,7 @@ pub record IsSought (ss : List Slot) (after r p : ℕ) : Type 0 where
 pub sought_none : (ss : List Slot) (after r p : ℕ) → IsSought ss after r p → slice_get ss p ≡ None → (n : ℕ) → IsIn n (live_labels ss) → after < n → ⊥
 sought_none ss after r p h e n st u =
     let whole : live_labels ss ≡ live_labels (take r ss) ++ [] = living_split r ss ∙ ap (λ (z : List ℕ). live_labels (take r ss) ++ z) (h.skipped ∙ ap live_labels (drop_end ss p e)) in
-    let low : n ≤ after = is_in_all (λ m. m ≤ after) (live_labels (take r ss) ++ []) n (all_append (λ m. m ≤ after) (live_labels (take r ss)) [] (living_all (λ m. m ≤ after) (take r ss) h.front) tt) (subst (IsIn n) whole st) in
-    absurd (omega arith)
+    absurd (omega (arith, is_in_all (λ m. m ≤ after) (live_labels (take r ss) ++ []) n (all_append (λ m. m ≤ after) (live_labels (take r ss)) [] (living_all (λ m. m ≤ after) (take r ss) h.front) tt) (subst (IsIn n) whole st)))
 
 pub record IsNext (ss : List Slot) (after l : ℕ) : Type 0 where
   pub is_in : IsIn l (live_labels ss)
@@ -327,18 +306,14 @@ pub record IsNext (ss : List Slot) (after l : ℕ) : Type 0 where
 
 pub sought_some : (ss : List Slot) (after r p : ℕ) (s : Slot) → IsSought ss after r p → slice_get ss p ≡ Some s → IsNext ss after s.label
 sought_some ss after r p s h e =
-    let live : (is_live s) ≡ true = subst IsLiveOrNone e h.live in
     let at : drop p ss ≡ s ∷ drop (suc p) ss = drop_at ss p s e in
     let tail : List ℕ = live_labels (drop (suc p) ss) in
-    let there : live_labels (drop p ss) ≡ s.label ∷ tail = ap live_labels at ∙ ap (λ (b : Bool). if b then s.label ∷ tail else tail) live in
+    let there : live_labels (drop p ss) ≡ s.label ∷ tail = ap live_labels at ∙ ap (λ (b : Bool). if b then s.label ∷ tail else tail) (subst IsLiveOrNone e h.live) in
     let whole : live_labels ss ≡ live_labels (take r ss) ++ s.label ∷ tail = living_split r ss ∙ ap (λ (z : List ℕ). live_labels (take r ss) ++ z) (h.skipped ∙ there) in
-    let over : AllByRecursion (λ m. after < m) (s.label ∷ tail) = subst (AllByRecursion (λ m. after < m)) (h.skipped ∙ there) (living_all (λ m. after < m) (drop r ss) h.later) in
-    let rises : SlotsRise (s ∷ drop (suc p) ss) = subst SlotsRise at (drop_rise ss p h.rising) in
-    let up : AllByRecursion (λ m. s.label < m) tail = living_all (λ m. s.label < m) (drop (suc p) ss) rises.0 in
     record {
       is_in = subst (IsIn s.label) (sym whole) (is_in_middle (live_labels (take r ss)) tail s.label);
-      over = over.0;
-      least = λ n st u. low (live_labels (take r ss)) tail s.label n (living_all (λ m. m ≤ after) (take r ss) h.front) up (subst (IsIn n) whole st) u;
+      over = (subst (AllByRecursion (λ m. after < m)) (h.skipped ∙ there) (living_all (λ m. after < m) (drop r ss) h.later)).0;
+      least = λ n st u. low (live_labels (take r ss)) tail s.label n (living_all (λ m. m ≤ after) (take r ss) h.front) (living_all (λ m. s.label < m) (drop (suc p) ss) (subst SlotsRise at (drop_rise ss p h.rising)).0) (subst (IsIn n) whole st) u;
     }
   where
     low : (xs ys : List ℕ) (l n : ℕ) → AllByRecursion (λ m. m ≤ after) xs → AllByRecursion (λ m. l < m) ys → IsIn n (xs ++ l ∷ ys) → after < n → l ≤ n
@@ -349,8 +324,7 @@ pub below_last : (ss : List Slot) (s : Slot) (l : ℕ) → SlotsRise ss → slic
 below_last ss s l r e u =
     let others : List Slot = take (length ss - 1) ss in
     let apart : ss ≡ others ++ s ∷ [] = last_apart ss s e in
-    let below = all_map (λ t. t.label < s.label) (λ t. t.label < l) others (λ t b. omega arith) (rise_pop others s (subst SlotsRise apart r)).1 in
-    subst (AllByRecursion (λ t. t.label < l)) (sym apart) (all-push (λ t. t.label < l) others s below u)
+    subst (AllByRecursion (λ t. t.label < l)) (sym apart) (all-push (λ t. t.label < l) others s (all_map (λ t. t.label < s.label) (λ t. t.label < l) others (λ t b. omega arith) (rise_pop others s (subst SlotsRise apart r)).1) u)
 
 pub skip_most : (ss : List Slot) (r f m : ℕ) → m ≡ max r f → live_labels (take f ss) ≡ [] → live_labels (drop r ss) ≡ live_labels (drop m ss)
 skip_most ss r f m e h = elim (cases_lt r f) [
@@ -388,3 +362,147 @@ found_in ss ts us ms after below r found e f shown front later least =
     let same : ss ≡ ts = e ∙ sym f in
     subst (λ (z : List ℕ). IsLeastBetween z after below found) (ap live_labels f ∙ shown)
     (least (subst (λ (z : List Slot). AllByRecursion (λ s. s.label ≤ after) (take r z)) same front) (subst (λ (z : List Slot). AllByRecursion (λ s. after < s.label) (drop r z)) same later))
+
+-- ---- jumps over dead slots
+
+-- ---- slots that are alike
+
+pub alike_same : (ss : List Slot) → AreAlike ss ss
+alike_same [] = tt
+alike_same (s ∷ ss) = (refl, refl, alike_same ss)
+
+pub alike_trans : (ss ts us : List Slot) → AreAlike ss ts → AreAlike ts us → AreAlike ss us
+alike_trans [] [] us h k = k
+alike_trans (s ∷ ss) (t ∷ ts) (u ∷ us) h k = (h.0 ∙ k.0, h.1 ∙ k.1, alike_trans ss ts us h.2 k.2)
+alike_trans [] (t ∷ ts) us h k = absurd h
+alike_trans (s ∷ ss) [] us h k = absurd h
+alike_trans (s ∷ ss) (t ∷ ts) [] h k = absurd k
+
+pub alike_set : (ss : List Slot) (i : ℕ) (t d : Slot) → i < length ss → (get_or ss i d).label ≡ t.label → is_live (get_or ss i d) ≡ is_live t → AreAlike ss (slice_set ss i t)
+alike_set [] i t d u e f = absurd (omega arith)
+alike_set (s ∷ ss) zero t d u e f = (e, f, alike_same ss)
+alike_set (s ∷ ss) (suc i) t d u e f = (refl, refl, alike_set ss i t d (omega arith) e f)
+
+-- what is shown of slots that are alike, from their ends on
+alike_both : (P : List Slot → List Slot → Type 0) → P [] []
+    → ((s t : Slot) (ss ts : List Slot) → s.label ≡ t.label → is_live s ≡ is_live t → AreAlike ss ts → P ss ts → P (s ∷ ss) (t ∷ ts))
+    → (ss ts : List Slot) → AreAlike ss ts → P ss ts
+alike_both P none more [] [] h = none
+alike_both P none more (s ∷ ss) (t ∷ ts) h = more s t ss ts h.0 h.1 h.2 (alike_both P none more ss ts h.2)
+alike_both P none more [] (t ∷ ts) h = absurd h
+alike_both P none more (s ∷ ss) [] h = absurd h
+
+pub alike_living : (ss ts : List Slot) → AreAlike ss ts → live_labels ss ≡ live_labels ts
+alike_living = alike_both (λ ss ts. live_labels ss ≡ live_labels ts) refl (λ s t ss ts label live h rest. rw (label, live, rest))
+
+pub alike_take : (ss ts : List Slot) (f : ℕ) → AreAlike ss ts → AreAlike (take f ss) (take f ts)
+alike_take ss ts zero h = tt
+alike_take ss ts (suc f) h = alike_both (λ ss ts. AreAlike (take (suc f) ss) (take (suc f) ts)) tt (λ s t ss ts label live h _. (label, live, alike_take ss ts f h)) ss ts h
+
+alike_above : (k : ℕ) (ss ts : List Slot) → AreAlike ss ts → AllByRecursion (λ s. k < s.label) ss → AllByRecursion (λ s. k < s.label) ts
+alike_above k =
+    alike_both (λ ss ts. AllByRecursion (λ s. k < s.label) ss → AllByRecursion (λ s. k < s.label) ts) (λ a. a)
+    (λ s t ss ts label live h rest a. (omega (arith, label, a.0), rest a.1))
+
+pub alike_rise : (ss ts : List Slot) → AreAlike ss ts → SlotsRise ss → SlotsRise ts
+alike_rise =
+    alike_both (λ ss ts. SlotsRise ss → SlotsRise ts) (λ r. r)
+    (λ s t ss ts label live h rest r. (subst (λ k. AllByRecursion (λ u. k < u.label) ts) label (alike_above s.label ss ts h r.0), rest r.1))
+
+-- ---- what is dead in front
+
+-- fewer than are dead are dead
+fewer : (ss : List Slot) (a b : ℕ) → b ≤ a → live_labels (take a ss) ≡ [] → live_labels (take b ss) ≡ []
+fewer ss a zero u h = refl
+fewer ss zero (suc b) u h = absurd (omega arith)
+fewer [] (suc a) (suc b) u h = refl
+fewer (s ∷ ss) (suc a) (suc b) u h = elim (is_live s) as (λ t. (if t then s.label ∷ live_labels (take a ss) else live_labels (take a ss)) ≡ [] → (if t then s.label ∷ live_labels (take b ss) else live_labels (take b ss)) ≡ []) [ true ↦ λ k. absurd (cc) | false ↦ λ k. fewer ss a b (omega arith) k ] h
+
+-- dead ones after dead ones
+pub both_dead : (ss : List Slot) (a b j : ℕ) → j ≤ a + b → live_labels (take a ss) ≡ [] → live_labels (take b (drop a ss)) ≡ [] → live_labels (take j ss) ≡ []
+both_dead ss zero b j u h k = fewer ss b j (omega arith) k
+both_dead ss (suc a) b zero u h k = refl
+both_dead [] (suc a) b (suc j) u h k = refl
+both_dead (s ∷ ss) (suc a) b (suc j) u h k = elim (is_live s) as (λ t. (if t then s.label ∷ live_labels (take a ss) else live_labels (take a ss)) ≡ [] → (if t then s.label ∷ live_labels (take j ss) else live_labels (take j ss)) ≡ []) [ true ↦ λ e. absurd (cc) | false ↦ λ e. both_dead ss a b j (omega arith) e k ] h
+
+-- the jump at a place leads over dead slots, within the list
+pub record IsJump (ss : List Slot) (i j : ℕ) : Type 0 where
+  pub within : j ≤ length (drop i ss)
+  pub dead : live_labels (take j (drop i ss)) ≡ []
+
+pub jump_here : (ss : List Slot) (i : ℕ) → JumpsAreDead ss → IsJump ss i (jump_at ss i)
+jump_here [] zero h = record { within = omega arith; dead = refl }
+jump_here [] (suc i) h = record { within = omega arith; dead = refl }
+jump_here (s ∷ ss) zero h = record { within = h.0; dead = h.1 }
+jump_here (s ∷ ss) (suc i) h = let k = jump_here ss i h.2 in record { within = k.within; dead = k.dead }
+
+jump_slot : (ss : List Slot) (i : ℕ) → jump_at ss i ≡ unwrap_or (option_map (λ s. s.jump) (slice_get ss i)) 0
+jump_slot [] i = refl
+jump_slot (s ∷ ss) zero = refl
+jump_slot (s ∷ ss) (suc i) = jump_slot ss i
+
+pub jump_in : (ss : List Slot) (i : ℕ) (d : Slot) → i < length ss → (get_or ss i d).jump ≡ jump_at ss i
+jump_in ss i d u = sym (jump_slot ss i ∙ ap (λ (o : Option Slot). unwrap_or (option_map (λ s. s.jump) o) 0) (slice_get-get_or ss i d u))
+
+-- the jump of the slot that there is at a place, or 0
+pub jump_got : (ss : List Slot) (i : ℕ) (o : Option Slot) → slice_get ss i ≡ o → unwrap_or (option_map (λ s. s.jump) o) 0 ≡ jump_at ss i
+jump_got ss i o h = sym (jump_slot ss i ∙ ap (λ (o : Option Slot). unwrap_or (option_map (λ s. s.jump) o) 0) h)
+
+-- a jump doesn't leave the slots
+pub jump_within : (ss : List Slot) (i : ℕ) → i ≤ length ss → JumpsAreDead ss → i + jump_at ss i ≤ length ss
+jump_within ss i u h = omega (arith, (jump_here ss i h).within, length-drop i ss)
+
+-- and what lives from its end on is what lives from its begin on
+pub jump_living : (ss : List Slot) (i m : ℕ) → m ≡ i + jump_at ss i → JumpsAreDead ss → live_labels (drop i ss) ≡ live_labels (drop m ss)
+jump_living ss i m e h =
+    living_split (jump_at ss i) (drop i ss) ∙ ap (λ (z : List ℕ). z ++ live_labels (drop (jump_at ss i) (drop i ss))) (jump_here ss i h).dead ∙ ap live_labels (drop-drop (jump_at ss i) i ss ∙ ap (λ (n : ℕ). drop n ss) (sym e))
+
+-- a jump to where another begins can be as long as both
+pub jump_both : (ss : List Slot) (i p j : ℕ) → i ≤ p → p ≤ length ss → p ≡ i + jump_at ss i → j ≤ jump_at ss i + jump_at ss p → JumpsAreDead ss → IsJump ss i j
+jump_both ss i p j u v e l h =
+    let next = jump_here ss p h in
+    record {
+      within = omega (arith, length-drop i ss, length-drop p ss, next.within);
+      dead = both_dead (drop i ss) (jump_at ss i) (jump_at ss p) j l (jump_here ss i h).dead (ap (λ (z : List Slot). live_labels (take (jump_at ss p) z)) (drop-drop (jump_at ss i) i ss ∙ ap (λ (n : ℕ). drop n ss) (sym e)) ∙ next.dead);
+    }
+
+-- ---- one slot in place of another
+
+-- with another jump
+pub jumps_set : (ss : List Slot) (i : ℕ) (t d : Slot) → i < length ss → (get_or ss i d).label ≡ t.label → is_live (get_or ss i d) ≡ is_live t → IsJump ss i t.jump → JumpsAreDead ss → JumpsAreDead (slice_set ss i t)
+jumps_set [] i t d u e f j h = absurd (omega arith)
+jumps_set (s ∷ ss) zero t d u e f j h = (j.within, sym (alike_living (take t.jump (s ∷ ss)) (take t.jump (t ∷ ss)) (alike_take (s ∷ ss) (t ∷ ss) t.jump (e, f, alike_same ss))) ∙ j.dead, h.2)
+jumps_set (s ∷ ss) (suc i) t d u e f j h =
+    let same : AreAlike (s ∷ ss) (s ∷ slice_set ss i t) = (refl, refl, alike_set ss i t d (omega arith) e f) in (
+      omega (arith, h.0, length-set ss i t),
+      sym (alike_living (take s.jump (s ∷ ss)) (take s.jump (s ∷ slice_set ss i t)) (alike_take (s ∷ ss) (s ∷ slice_set ss i t) s.jump same)) ∙ h.1,
+      jumps_set ss i t d (omega arith) e f (record { within = j.within; dead = j.dead }) h.2,
+    )
+
+-- dead, with a jump that is at most one more than the next one's
+pub jumps_struck : (ss : List Slot) (i : ℕ) (t : Slot) → is_live t ≡ false → t.jump ≤ jump_at ss (suc i) + 1 → JumpsAreDead ss → JumpsAreDead (slice_set ss i t)
+jumps_struck [] i t d u h = tt
+jumps_struck (s ∷ ss) zero t d u h =
+    ((omega (arith, (jump_here ss 0 h.2).within)), dead t.jump u, h.2)
+  where
+    dead : (j : ℕ) → j ≤ jump_at ss 0 + 1 → live_labels (take j (t ∷ ss)) ≡ []
+    dead zero v = refl
+    dead (suc j) v = ap (λ (b : Bool). if b then t.label ∷ live_labels (take j ss) else live_labels (take j ss)) d ∙ fewer ss (jump_at ss 0) j (omega arith) (jump_here ss 0 h.2).dead
+jumps_struck (s ∷ ss) (suc i) t d u h = (
+  omega (arith, h.0, length-set ss i t),
+  front_struck (s ∷ ss) s.jump (suc i) t d h.1,
+  jumps_struck ss i t d u h.2,
+)
+
+-- ---- the front that is dead
+
+no_more : (xs ys : List ℕ) → ys ≡ xs ++ ys → xs ≡ []
+no_more [] ys e = refl
+no_more (x ∷ xs) ys e = absurd (omega (arith, ap length e, length-append xs ys))
+
+-- where the front up to a place is dead, and nothing lives between that place and another, the front up to that is dead
+pub front_later : (ss : List Slot) (f r : ℕ) → live_labels (take f ss) ≡ [] → live_labels (drop f ss) ≡ live_labels (drop r ss) → live_labels (take r ss) ≡ []
+front_later ss f r h e = no_more (live_labels (take r ss)) (live_labels (drop r ss)) (sym e ∙ sym (living_split f ss ∙ ap (λ (z : List ℕ). z ++ live_labels (drop f ss)) h) ∙ living_split r ss)
+
+pub dead_one : (n : ℕ) → 0 < n → nat_eq n 0 ≡ false
+dead_one n h = grind (arith, nat_tests)

@@ -1,8 +1,7 @@
 -- A store with the labels of its keys.
-use Rattle.std.proofs.Common.{◌≡◌, ℕ, zero, suc, ◌+◌, ◌<◌, ◌≤◌, ◌==◌, ◌&&◌, if◌then◌else◌, Bool, true, false, List, [], ◌∷◌, ◌++◌, Option, Some, None, refl, sym, ap, subst, arith, length, ◌∙◌, slice_get, nat_lt, inl, inr, true-eqb}
+use Rattle.std.proofs.Common.{◌≡◌, ℕ, zero, suc, ◌+◌, ◌<◌, ◌≤◌, ◌==◌, ◌&&◌, if◌then◌else◌, Bool, true, false, List, [], ◌∷◌, ◌++◌, Option, Some, None, refl, sym, ap, subst, arith, length, ◌∙◌, slice_get, nat_lt, inl, inr, true-eqb, option_map}
 use Rattle.std.specs.List.{AllByRecursion}
-use Rattle.std.specs.Option.{option_map}
-use Rattle.std.proofs.lemmas.Bool.{eq-eqb, eqb-true, lt-ltb, cases_eq, cases_lt, false_from_ne_true, false≢true}
+use Rattle.std.proofs.lemmas.Bool.{eq-eqb, eqb-true, lt-ltb, cases_eq, false_from_ne_true, false≢true, and_parts, and_from}
 use Rattle.std.proofs.lemmas.Option.{slice_get_past}
 use Rattle.std.proofs.lemmas.Bool.Decides.{nat_tests}
 use Rattle.chr_value.specs.Atoms.{Value, Int, Sym, Comp, Atom}
@@ -17,12 +16,112 @@ use Rattle.chr_store.specs.Labels.{LabelledStore, GivenAtoms, Rising, GivenBefor
 use Rattle.chr_store.specs.Keys.{arg_at, HasPred, HasKey, Query, key_of, IsLeastMatch}
 use Rattle.chr_store.specs.Indexed.{IsIndexed, LabelHas, IsLeastWith}
 use Rattle.chr_store.specs.Buckets.{drop_number, IsIn, IsLeastBetween}
-use Rattle.chr_store.specs.Index.{own_key, Places, chosen, is_constant, key_value, key_value_at, fits, pred_of}
+use Rattle.chr_store.specs.Index.{own_key, Places, chosen, is_constant, key_value, key_value_at, fits, pred_of, IsKeyAt, is_value, same_key}
 use Rattle.chr_store.specs.KeyLabels.{labels_in, labels_of, reached, IsChanged, IsIndexOf}
-use Rattle.chr_store.proofs.Entries.{drop_absent}
+use Rattle.chr_store.proofs.Table.{drop_absent}
 use Rattle.chr_store.proofs.Slots.{drop_absent as number_absent, pushed_back, all_map}
 use Rattle.chr_store.proofs.Walks.{above}
-use Rattle.chr_store.proofs.Keep.{Fitting, fitting, fits_from, some_one, key_value_of}
+use Rattle.chr_store.specs.KeyLaws.{same_key_true, same_key_refl, same_value_true, same_value_refl, same_parts}
+
+-- ---- an atom's own keys
+
+-- what the parts of an atom's key are
+pub record Fitting (k : Key) (a : Atom ℕ) : Type 0 where
+  pub name : k.name.number ≡ a.name
+  pub arity : k.arity ≡ length a.args
+  pub value : key_value_at a k.place ≡ Some k.value
+
+is_value_some : (v : KeyValue) (o : Option KeyValue) → is_value v o ≡ true → o ≡ Some v
+is_value_some v None h = absurd (cc)
+is_value_some v (Some w) h = ap (λ z. Some z) (sym (same_value_true v w h))
+
+pub fitting : (k : Key) (a : Atom ℕ) → fits k a ≡ true → Fitting k a
+fitting k a h =
+    let p = and_parts _ _ h in
+    let q = and_parts _ _ p.0 in
+    record { name = eqb-true _ _ q.0; arity = eqb-true _ _ q.1; value = is_value_some k.value (key_value_at a k.place) p.1 }
+
+pub fits_from : (k : Key) (a : Atom ℕ) → Fitting k a → fits k a ≡ true
+fits_from k a h = and_from _ _ (and_from _ _ (eq-eqb _ _ h.name) (eq-eqb _ _ h.arity)) (subst (λ (o : Option KeyValue). is_value k.value o ≡ true) (sym h.value) (same_value_refl k.value))
+
+-- an atom's key at a place is each key that fits it there
+pub own_fits : (a : Atom ℕ) (n : ℕ) (kk k : Key) → IsKeyAt a n kk → same_key kk k ≡ true → (fits k a ≡ true) × (k.place ≡ n)
+own_fits a n kk k h t =
+    let e : kk ≡ k = same_key_true kk k t in
+    (subst (λ (z : Key). fits z a ≡ true) e (fits_from kk a (record { name = h.name; arity = h.arity; value = subst (λ (z : ℕ). key_value_at a z ≡ Some kk.value) (sym h.place) h.value })), subst (λ (z : Key). z.place ≡ n) e h.place)
+
+pub some_one : {X : Type 0} (x y : X) → Some x ≡ Some y → x ≡ y
+some_one x y h = cc
+
+pub fits_own : (a : Atom ℕ) (n : ℕ) (kk k : Key) → IsKeyAt a n kk → fits k a ≡ true → k.place ≡ n → same_key kk k ≡ true
+fits_own a n kk k h f e =
+    let p : Fitting k a = fitting k a f in
+    subst (λ (z : Key). same_key kk z ≡ true) (same_parts kk k (h.name ∙ sym p.name) (h.arity ∙ sym p.arity) (h.place ∙ sym e) (some_one _ _ (sym h.value ∙ ap (key_value_at a) (sym e) ∙ p.value))) (same_key_refl kk)
+
+-- ---- step by step
+
+and_lt_more : (P : Bool) (p n : ℕ) → (p ≡ n → P ≡ true → ⊥) → (P && nat_lt p (n + 1)) ≡ (P && nat_lt p n)
+and_lt_more P p n h = grind (arith, nat_tests, h)
+
+and_lt_not : (P : Bool) (p n : ℕ) → n ≤ p → (P && nat_lt p n) ≡ false
+and_lt_not P p n h = grind (arith, nat_tests)
+
+pub unreached : (places : Places) (a : Atom ℕ) (n : ℕ) (k : Key) → n ≤ k.place → reached places a n k ≡ false
+unreached places a n k h = and_lt_not _ k.place n h
+
+pub touched_none : {A : Type 0} (f : List ℕ → List ℕ) (places : Places) (a : Atom ℕ) (m : Buckets A) → IsChanged f places a 0 m m
+touched_none f places a m = λ k. sym (ap (λ (b : Bool). if b then f (labels_in m k) else labels_in m k) (unreached places a 0 k (omega arith)))
+
+pub own_unreached : {A : Type 0} (f : List ℕ → List ℕ) (places : Places) (a : Atom ℕ) (n : ℕ) (kk : Key) (old cur : Buckets A) → IsKeyAt a n kk → IsChanged f places a n old cur → labels_in cur kk ≡ labels_in old kk
+own_unreached f places a n kk old cur h t = t kk ∙ ap (λ (b : Bool). if b then f (labels_in old kk) else labels_in old kk) (unreached places a n kk (let e : kk.place ≡ n = h.place in omega arith))
+
+abbrev pred_from : ℕ → ℕ → Pred
+pred_from n m = record { name = record { number = n }; arity = m }
+
+-- the pred of a key that fits is the atom's
+pred_one : (p q : Pred) → p.name.number ≡ q.name.number → p.arity ≡ q.arity → p ≡ q
+pred_one p q e f = ap (λ (z : ℕ). pred_from z p.arity) e ∙ ap (λ (z : ℕ). pred_from q.name.number z) f
+
+pub touched_same : {A : Type 0} (f : List ℕ → List ℕ) (places : Places) (a : Atom ℕ) (n : ℕ) (pred : Pred) (old cur : Buckets A) → pred.name.number ≡ a.name → pred.arity ≡ length a.args → chosen places pred n ≡ false → IsChanged f places a n old cur → IsChanged f places a (n + 1) old cur
+touched_same f places a n pred old cur name arity not t = λ k. t k ∙ ap (λ (b : Bool). if b then f (labels_in old k) else labels_in old k) (sym (and_lt_more (chosen places (pred_of k) k.place && fits k a) k.place n (λ e both.
+    let p = and_parts _ _ both in
+    let g : Fitting k a = fitting k a p.1 in
+    false≢true (sym not ∙ (subst (λ (z : Pred). chosen places z n ≡ true) (pred_one (pred_of k) pred (g.name ∙ sym name) (g.arity ∙ sym arity)) (subst (λ (z : ℕ). chosen places (pred_of k) z ≡ true) e p.0))))))
+
+pub touched_more : {A : Type 0} (f : List ℕ → List ℕ) (places : Places) (a : Atom ℕ) (n : ℕ) (pred : Pred) (kk : Key) (old cur new : Buckets A) → pred.name.number ≡ a.name → pred.arity ≡ length a.args → chosen places pred n ≡ true → IsKeyAt a n kk → IsChanged f places a n old cur → ((k : Key) → labels_in new k ≡ (if same_key kk k then f (labels_in cur kk) else labels_in cur k)) → IsChanged f places a (n + 1) old new
+touched_more f places a n pred kk old cur new name arity there h t s = λ k. s k ∙ elim (same_key kk k) as (λ b. (same_key kk k ≡ b) → (if b then f (labels_in cur kk) else labels_in cur k) ≡ (if reached places a (n + 1) k then f (labels_in old k) else labels_in old k)) [
+  | true ↦ λ u.
+      let own = own_fits a n kk k h u in
+      let one : pred_of k ≡ pred = pred_one (pred_of k) pred ((fitting k a own.0).name ∙ sym name) ((fitting k a own.0).arity ∙ sym arity) in
+      let lt : nat_lt k.place (n + 1) ≡ true = lt-ltb k.place (n + 1) (let w : k.place ≡ n = own.1 in omega arith) in
+      let r : reached places a (n + 1) k ≡ true = and_from _ _ (and_from _ _ (subst (λ (z : ℕ). chosen places (pred_of k) z ≡ true) (sym own.1) (subst (λ (z : Pred). chosen places z n ≡ true) (sym one) there)) own.0) lt in
+      ap f (own_unreached f places a n kk old cur h t ∙ ap (labels_in old) (same_key_true kk k u)) ∙ sym (ap (λ (b : Bool). if b then f (labels_in old k) else labels_in old k) r)
+  | false ↦ λ u. t k ∙ ap (λ (b : Bool). if b then f (labels_in old k) else labels_in old k) (sym (and_lt_more (chosen places (pred_of k) k.place && fits k a) k.place n (λ e both.
+      false≢true (sym u ∙ fits_own a n kk k h (and_parts _ _ both).1 e))))
+] refl
+
+-- labels that stayed are changed under no place
+pub touched_stayed : {A : Type 0} (f : List ℕ → List ℕ) (places : Places) (a : Atom ℕ) (old new : Buckets A) → ((k : Key) → labels_in new k ≡ labels_in old k) → IsChanged f places a 0 old new
+touched_stayed f places a old new s = λ k. s k ∙ touched_none f places a old k
+
+-- the key of the predicate alone was changed
+pub touched_own : {A : Type 0} (f : List ℕ → List ℕ) (places : Places) (a : Atom ℕ) (pred : Pred) (kk : Key) (old new : Buckets A) → pred.name.number ≡ a.name → pred.arity ≡ length a.args → kk ≡ own_key pred → ((k : Key) → labels_in new k ≡ (if same_key kk k then f (labels_in old kk) else labels_in old k)) → IsChanged f places a 1 old new
+touched_own f places a pred kk old new name arity own s =
+    touched_more f places a 0 pred kk old old new name arity refl (subst (IsKeyAt a 0) (sym own) (record { name = name; arity = arity; place = refl; value = refl })) (touched_none f places a old) s
+
+-- where no place of the predicate is chosen, that is all
+pub touched_rest : {A : Type 0} (f : List ℕ → List ℕ) (places : Places) (a : Atom ℕ) (pred : Pred) (old new : Buckets A) → pred.name.number ≡ a.name → pred.arity ≡ length a.args → ((n : ℕ) → 0 < n → chosen places pred n ≡ false) → (n m : ℕ) → m ≡ n + 1 → IsChanged f places a 1 old new → IsChanged f places a m old new
+touched_rest f places a pred old new name arity none zero m e h = subst (λ (z : ℕ). IsChanged f places a z old new) (omega arith) h
+touched_rest f places a pred old new name arity none (suc n) m e h =
+    subst (λ (z : ℕ). IsChanged f places a z old new) (omega arith)
+    (touched_same f places a (suc n) pred old new name arity (none (suc n) (omega arith)) (touched_rest f places a pred old new name arity none n (suc n) (omega arith) h))
+
+-- ---- the key at a place
+
+-- what stands for an argument
+pub key_value_of : (a : Atom ℕ) (n : ℕ) (v : Value ℕ) → 0 < n → arg_at a n ≡ Some v → key_value_at a n ≡ Some (key_value v)
+key_value_of a zero v u h = absurd (omega arith)
+key_value_of a (suc i) v u h = ap (option_map key_value) h
 
 -- ---- the labels of a key, one atom more or fewer
 
@@ -33,9 +132,7 @@ labels_all P k (e ∷ es) h = elim (fits k e.1) as (λ b. AllByRecursion P (if b
 -- a change of the labels that leaves the first one, which may have the key
 first_kept : (F : List ℕ → List ℕ) (f g : Bool) (m : ℕ) (new old : List ℕ) → F (m ∷ old) ≡ m ∷ F old → new ≡ (if g then F old else old)
     → (if f then m ∷ new else new) ≡ (if g then F (if f then m ∷ old else old) else (if f then m ∷ old else old))
-first_kept F true true m new old same e = ap (λ (z : List ℕ). m ∷ z) e ∙ sym same
-first_kept F true false m new old same e = ap (λ (z : List ℕ). m ∷ z) e
-first_kept F false g m new old same e = e
+first_kept F f g m new old same e = grind arith
 
 pub labels_push : (k : Key) (n : ℕ) (a : Atom ℕ) (es : Store) → labels_of k (es ++ (n, a) ∷ []) ≡ (if fits k a then labels_of k es ++ n ∷ [] else labels_of k es)
 labels_push k n a [] = refl
@@ -45,8 +142,7 @@ apart_above : (l : ℕ) (ms : List ℕ) → AllByRecursion (λ m. l < m) ms → 
 apart_above l ms h = all_map (λ m. l < m) (λ m. m ≡ l → ⊥) ms (λ m u e. absurd (omega arith)) h
 
 first_goes : (l m : ℕ) (f g : Bool) (ms : List ℕ) → (m == l) ≡ true → f ≡ g → drop_number l ms ≡ ms → ms ≡ (if g then drop_number l (if f then m ∷ ms else ms) else (if f then m ∷ ms else ms))
-first_goes l m true g ms here fit none = rw (← fit, here, none)
-first_goes l m false g ms here fit none = rw (← fit)
+first_goes l m f g ms here fit none = grind (arith, nat_tests)
 
 pub labels_drop : (k : Key) (l : ℕ) (a : Atom ℕ) (es : Store) → Rising es → atom_at es l ≡ Some a → labels_of k (drop_label l es) ≡ (if fits k a then drop_number l (labels_of k es) else labels_of k es)
 labels_drop k l a [] r h = let z : None ≡ Some a = h in absurd (cc)
@@ -54,13 +150,10 @@ labels_drop k l a (e ∷ es) r h = elim (cases_eq e.0 l) [
   | inl same ↦
       let here : (e.0 == l) ≡ true = eq-eqb e.0 l same in
       let up = subst (λ z. AllByRecursion (λ f. z < f.0) es) same r.0 in
-      let none = number_absent l (labels_of k es) (apart_above l (labels_of k es) (labels_all (λ m. l < m) k es up)) in
-      let fit = ap (fits k) (some_one e.1 a (rw here at h)) in
-      rw (here, drop_absent l es up) (first_goes l e.0 (fits k e.1) (fits k a) (labels_of k es) here fit none)
+      rw (here, drop_absent l es up) (first_goes l e.0 (fits k e.1) (fits k a) (labels_of k es) here (ap (fits k) (some_one e.1 a (rw here at h))) (number_absent l (labels_of k es) (apart_above l (labels_of k es) (labels_all (λ m. l < m) k es up))))
   | inr differ ↦
       let other : (e.0 == l) ≡ false = false_from_ne_true (e.0 == l) (λ t. differ (eqb-true e.0 l t)) in
-      let rest = labels_drop k l a es r.1 (rw other at h) in
-      rw other (first_kept (drop_number l) (fits k e.1) (fits k a) e.0 (labels_of k (drop_label l es)) (labels_of k es) (rw other) rest)
+      rw other (first_kept (drop_number l) (fits k e.1) (fits k a) e.0 (labels_of k (drop_label l es)) (labels_of k es) (rw other) (labels_drop k l a es r.1 (rw other at h)))
 ]
 
 -- ---- the index of no atoms
@@ -78,17 +171,11 @@ indexed_none limit places m fits empty = record {
 
 place_within : (a : Atom ℕ) (n : ℕ) (v : KeyValue) → key_value_at a n ≡ Some v → n < length a.args + 1
 place_within a zero v h = omega arith
-place_within a (suc i) v h = elim (cases_lt i (length a.args)) [
-  | inl lt ↦ omega arith
-  | inr le ↦ (let none : None ≡ Some v = ap (option_map key_value) (sym (slice_get_past a.args i le)) ∙ h in absurd (cc))
-]
+place_within a (suc i) v h = grind (arith, slice_get_past)
 
 -- with all places reached
 all_reached : (places : Places) (a : Atom ℕ) (k : Key) → reached places a (length a.args + 1) k ≡ (chosen places (pred_of k) k.place && fits k a)
-all_reached places a k = elim (chosen places (pred_of k) k.place) as (λ b. ((b && fits k a) && nat_lt k.place (length a.args + 1)) ≡ (b && fits k a)) [
-  | true ↦ elim (fits k a) as (λ b. (fits k a ≡ b) → (b && nat_lt k.place (length a.args + 1)) ≡ b) [ true ↦ λ t. lt-ltb _ _ (place_within a k.place k.value (fitting k a t).value) | false ↦ λ t. refl ] refl
-  | false ↦ refl
-]
+all_reached places a k = grind (arith, nat_tests, place_within a k.place k.value, fitting k a)
 
 -- what every place reaches, some place reaches only where all do
 part_reached : (places : Places) (a : Atom ℕ) (n : ℕ) (k : Key) → (chosen places (pred_of k) k.place && fits k a) ≡ false → reached places a n k ≡ false
@@ -113,10 +200,7 @@ pub kept_below : {A : Type 0} (places : Places) (n : ℕ) (es : Store) (m : Buck
 kept_below places n es m g = kept_under places n es m (all_map (λ e. (1 ≤ e.0) × (e.0 < n)) (λ e. e.0 < n) es (λ e h. h.1) g)
 
 undone : (l : ℕ) (whole part : Bool) (old mid new : List ℕ) → (whole ≡ false → part ≡ false) → AllByRecursion (λ m. m < l) old → mid ≡ (if part then old ++ l ∷ [] else old) → new ≡ (if whole then drop_number l mid else mid) → new ≡ old
-undone l true true old mid new less below t s = s ∙ ap (drop_number l) t ∙ pushed_back l old below
-undone l true false old mid new less below t s = s ∙ ap (drop_number l) t ∙ number_absent l old (all_map (λ m. m < l) (λ m. m ≡ l → ⊥) old (λ m u e. absurd (omega arith)) below)
-undone l false true old mid new less below t s = absurd (false≢true (sym (less refl)))
-undone l false false old mid new less below t s = s ∙ t
+undone l whole part old mid new less below t s = grind (arith, less, pushed_back l old below, number_absent l old (all_map (λ m. m < l) (λ m. m ≡ l → ⊥) old (λ m u e. absurd (omega arith)) below))
 
 -- what was entered, in part or whole, and left again is as before
 pub kept_undone : {A : Type 0} (places : Places) (n l : ℕ) (a : Atom ℕ) (es : Store) (old mid new : Buckets A) → GivenBefore l es → IsIndexOf places es old → IsChanged (λ ms. ms ++ l ∷ []) places a n old mid → IsChanged (drop_number l) places a (length a.args + 1) mid new → IsIndexOf places es new

@@ -1,13 +1,12 @@
 -- A store with an atom shown under its next label.
-use Rattle.std.proofs.Common.{◌≡◌, ℕ, ◌<◌, Bool, ◌==◌, if◌then◌else◌, [], ◌∷◌, ◌++◌, Option, Some, None, refl, sym, ap, arith, ◌∙◌}
-use Rattle.std.proofs.lemmas.Bool.{eq-eqb}
+use Rattle.std.proofs.Common.{◌≡◌, ℕ, ◌<◌, Bool, ◌==◌, if◌then◌else◌, [], ◌∷◌, ◌++◌, Option, Some, None, refl, sym, ap, arith, ◌∙◌, eq-eqb}
 use Rattle.std.proofs.lemmas.Bool.Decides.{nat_tests}
 use Rattle.chr_value.specs.Atoms.{Atom}
 use Rattle.chr_value.specs.Stores.{Store, atom_at}
 use Rattle.chr_store.specs.Labels.{LabelledStore, GivenBefore, IsLabelled}
 use Rattle.chr_store.specs.Keys.{Query, Matches, IsLeastMatch}
 use Rattle.chr_store.specs.Views.{seen_with, IsSeen}
-use Rattle.chr_store.proofs.Entries.{labelled_push}
+use Rattle.chr_store.proofs.Table.{labelled_push}
 
 -- an atom under a new label leaves the others as they were
 others_stay : (n l : ℕ) (a : Atom ℕ) (es : Store) → (n ≡ l → ⊥) → atom_at (es ++ (n, a) ∷ []) l ≡ atom_at es l

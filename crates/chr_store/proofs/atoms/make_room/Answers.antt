@@ -1,5 +1,5 @@
 use Rattle.chr_store.specs.Table.{held}
-use Rattle.chr_store.proofs.Blocks.{counts_begun}
+use Rattle.chr_store.proofs.Table.{counts_begun}
 use Rattle.chr_store.proofs.atoms.make_room.Goals as goal
 
 pub returns-in_ok-push-clause-counted : goal.returns-in_ok-push-clause-counted

@@ -10,9 +10,8 @@ returns-then-above-eq0 c =
 
 pub returns-then-slots-above : goal.returns-then-slots-above
 returns-then-slots-above c =
-    let r : ℕ = c.place_near-above.result in
-    let e : r ≡ suc (r - 1) = omega arith in
-    apart c.args.slots.now (r - 1) c.args.label _ (omega arith) c.requires
+    let e : c.place_near-above.result ≡ suc (c.place_near-above.result - 1) = omega arith in
+    apart c.args.slots.now (c.place_near-above.result - 1) c.args.label _ (omega arith) c.requires
     (subst (λ (z : ℕ). AllByRecursion (λ s. s.label ≤ c.args.label) (take z c.args.slots.now)) e c.place_near-above.ensures.front)
     (subst (λ (z : ℕ). AllByRecursion (λ s. c.args.label < s.label) (drop z c.args.slots.now)) e c.place_near-above.ensures.later)
     c.if-slots-above.true

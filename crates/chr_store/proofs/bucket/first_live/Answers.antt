@@ -1,7 +1,5 @@
-use Rattle.std.proofs.Common.{ℕ, ◌+◌, ◌≤◌, length, ap, subst, sym, ◌∙◌}
-use Rattle.std.proofs.lemmas.Bool.{eq-eqb}
-use Rattle.chr_store.proofs.Slots.{live_at, none_at}
-use Rattle.chr_store.proofs.Jumps.{jump_in, jump_within, jump_living}
+use Rattle.std.proofs.Common.{ℕ, ◌+◌, ◌≤◌, length, ap, subst, sym, ◌∙◌, eq-eqb}
+use Rattle.chr_store.proofs.Slots.{live_at, none_at, jump_in, jump_within, jump_living}
 use Rattle.chr_store.proofs.bucket.first_live.Goals as goal
 
 pub loop-place-preserved : goal.loop-place-preserved

@@ -1,7 +1,6 @@
 use Rattle.std.proofs.Common.{Some, None}
-use Rattle.chr_store.proofs.Slots.{get_none}
+use Rattle.chr_store.proofs.Slots.{get_none, jump_got}
 use Rattle.chr_store.proofs.Walks.{get_there}
-use Rattle.chr_store.proofs.Jumps.{jump_got}
 use Rattle.chr_store.proofs.bucket.jump_at.Goals as goal
 
 pub returns-in-None : goal.returns-in-None

@@ -1,8 +1,7 @@
 use Rattle.std.proofs.Common.{◌≡◌, ℕ, suc, false, arith, refl, sym, ap, take, slice_set, ◌∙◌, add-one}
 use Rattle.chr_store.specs.declared.bucket.Slot.{Slot}
 use Rattle.chr_store.specs.Buckets.{is_live, jump_at}
-use Rattle.chr_store.proofs.Slots.{struck, rise_struck, front_struck}
-use Rattle.chr_store.proofs.Jumps.{alike_living, alike_take, alike_rise, jumps_struck, dead_one}
+use Rattle.chr_store.proofs.Slots.{struck, rise_struck, front_struck, alike_living, alike_take, alike_rise, jumps_struck, dead_one}
 use Rattle.chr_store.proofs.bucket.mark_dead.Goals as goal
 
 pub join_runs-requires-clause-jumps : goal.join_runs-requires-clause-jumps

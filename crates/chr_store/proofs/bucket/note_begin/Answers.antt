@@ -1,5 +1,5 @@
 use Rattle.std.proofs.Common.{ℕ, ◌+◌, ◌-◌, ◌<◌, length, arith, refl, sym, subst}
-use Rattle.chr_store.proofs.Jumps.{IsJump, alike_same, alike_set, jumps_set, jump_here, jump_in, jump_within}
+use Rattle.chr_store.proofs.Slots.{IsJump, alike_same, alike_set, jumps_set, jump_here, jump_in, jump_within}
 use Rattle.chr_store.proofs.bucket.note_begin.Goals as goal
 
 pub returns-then-jump-eq0-clause-same : goal.returns-then-jump-eq0-clause-same
@@ -13,13 +13,10 @@ bounds-slots-last c = let w = jump_within c.args.slots.now c.args.start (omega (
 
 pub returns-clause-same : goal.returns-clause-same
 returns-clause-same c =
-    let w = jump_within c.args.slots.now c.args.start (omega (arith, c.requires.within)) c.requires.jumps in
-    let u : c.args.start + c.jump_at-jump.result - 1 < length c.args.slots.now = omega (arith, w, c.jump_at-jump.ensures, c.if-jump-eq0.false) in
-    alike_set c.args.slots.now (c.args.start + c.jump_at-jump.result - 1) _ _ u refl refl
+    alike_set c.args.slots.now (c.args.start + c.jump_at-jump.result - 1) _ _ (omega (arith, jump_within c.args.slots.now c.args.start (omega (arith, c.requires.within)) c.requires.jumps, c.jump_at-jump.ensures, c.if-jump-eq0.false)) refl refl
 
 pub returns-clause-jumps : goal.returns-clause-jumps
 returns-clause-jumps c =
-    let w = jump_within c.args.slots.now c.args.start (omega (arith, c.requires.within)) c.requires.jumps in
     let last : ℕ = c.args.start + c.jump_at-jump.result - 1 in
-    let u : c.args.start + c.jump_at-jump.result - 1 < length c.args.slots.now = omega (arith, w, c.jump_at-jump.ensures, c.if-jump-eq0.false) in
+    let u : c.args.start + c.jump_at-jump.result - 1 < length c.args.slots.now = omega (arith, jump_within c.args.slots.now c.args.start (omega (arith, c.requires.within)) c.requires.jumps, c.jump_at-jump.ensures, c.if-jump-eq0.false) in
     jumps_set c.args.slots.now (c.args.start + c.jump_at-jump.result - 1) _ (record { label = 0; jump = 0; back = 0 }) u refl refl (subst (IsJump c.args.slots.now (c.args.start + c.jump_at-jump.result - 1)) (sym (jump_in c.args.slots.now (c.args.start + c.jump_at-jump.result - 1) (record { label = 0; jump = 0; back = 0 }) u)) (jump_here c.args.slots.now (c.args.start + c.jump_at-jump.result - 1) c.requires.jumps)) c.requires.jumps

@@ -1,6 +1,6 @@
 use Rattle.std.proofs.Common.{ℕ, ◌+◌, ◌++◌, ◌∷◌, [], List, length, refl, sym, ◌∙◌}
 use Rattle.std.proofs.lemmas.Result.{err_from_is_err_and}
-use Rattle.chr_store.proofs.Keep.{touched_more, touched_same, touched_own, touched_rest, touched_stayed}
+use Rattle.chr_store.proofs.Stored.{touched_more, touched_same, touched_own, touched_rest, touched_stayed}
 use Rattle.chr_store.proofs.buckets.enter.Goals as goal
 use Rattle.chr_store.proofs.buckets.enter.Goals.{then-has+in_ok-put-2, else-has}
 
@@ -22,10 +22,8 @@ returns-then-not-may_have-clause-ok g c =
 
 pub returns-in_err-put-clause-part : goal.returns-in_err-put-clause-part
 returns-in_err-put-clause-part g c =
-    let p = err_from_is_err_and c.from_residual.result c.from_residual.ensures.1 in
-    rw p.1 (0, touched_stayed (λ (ms : List ℕ). ms ++ c.args.label ∷ []) c.args.places.now c.args.atom.now c.args.buckets.now c.put.new.buckets c.in_err-put.ensures.unchanged)
+    rw (err_from_is_err_and c.from_residual.result c.from_residual.ensures.1).1 (0, touched_stayed (λ (ms : List ℕ). ms ++ c.args.label ∷ []) c.args.places.now c.args.atom.now c.args.buckets.now c.put.new.buckets c.in_err-put.ensures.unchanged)
 
 pub returns-in_err-put-2-clause-part : goal.returns-in_err-put-2-clause-part
 returns-in_err-put-2-clause-part g c =
-    let p = err_from_is_err_and c.from_residual-in_err-put-2.result c.from_residual-in_err-put-2.ensures.1 in
-    rw p.1 (c.loop-place.place, λ k. c.in_err-put-2.ensures.unchanged k ∙ c.loop-place.invariant k)
+    rw (err_from_is_err_and c.from_residual-in_err-put-2.result c.from_residual-in_err-put-2.ensures.1).1 (c.loop-place.place, λ k. c.in_err-put-2.ensures.unchanged k ∙ c.loop-place.invariant k)

@@ -1,6 +1,6 @@
 use Rattle.std.proofs.Common.{◌+◌, length, refl, sym, ◌∙◌}
 use Rattle.chr_store.specs.Buckets.{drop_number}
-use Rattle.chr_store.proofs.Keep.{touched_more, touched_same, touched_own, touched_rest}
+use Rattle.chr_store.proofs.Stored.{touched_more, touched_same, touched_own, touched_rest}
 use Rattle.chr_store.proofs.buckets.leave.Goals as goal
 use Rattle.chr_store.proofs.buckets.leave.Goals.{then-has, else-has}
 

@@ -1,5 +1,4 @@
-use Rattle.std.proofs.Common.{false, Bool, Option, Bor, sym, ap, ◌∙◌}
-use Rattle.std.specs.Option.{option_copied, unwrap_or}
+use Rattle.std.proofs.Common.{false, Bool, Option, Bor, sym, ap, ◌∙◌, option_copied, unwrap_or}
 use Rattle.chr_store.proofs.Table.{looked_at}
 use Rattle.chr_store.proofs.Marks.{mark_got}
 use Rattle.chr_store.proofs.chosen.mark_at.Goals as goal

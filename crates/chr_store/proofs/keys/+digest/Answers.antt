@@ -9,5 +9,4 @@ pub with_comp-loop-value-init : goal.with_comp-loop-value-init
 with_comp-loop-value-init g t c =
     let comp = c.args.comp.now in
     let count : c.len.result ≡ args_count (args_of (grounds comp.args.items)) = omega (arith, count-args (grounds comp.args.items), length-map comp.args.items ground, comp.args.ok.0) in
-    let words : c.mixed-all.result ≡ mixed (mixed c.args.digest comp.functor.number) (args_count (args_of (grounds comp.args.items))) = cc (c.mixed-all.ensures, c.mixed-functor.ensures, c.from.ensures, count) in
-    ap (λ (d : ℕ). digest_after_all d (args_of (grounds comp.args.items))) words
+    ap (λ (d : ℕ). digest_after_all d (args_of (grounds comp.args.items))) (cc (c.mixed-all.ensures, c.mixed-functor.ensures, c.from.ensures, count))

@@ -4,6 +4,4 @@ use Rattle.chr_store.proofs.Table.{at_most}
 use Rattle.chr_store.proofs.atoms.Atoms.iter.Goals as goal
 
 pub returns-clause-fits : goal.returns-clause-fits
-returns-clause-fits g c =
-    let most = at_most 1 (held c.self.inside.slots.items) in
-    rw (c.past_empty-label.ensures.same, c.deref.ensures.value) (omega (arith, most, c.self.invariant.0.within))
+returns-clause-fits g c = rw (c.past_empty-label.ensures.same, c.deref.ensures.value) (omega (arith, at_most 1 (held c.self.inside.slots.items), c.self.invariant.0.within))

@@ -2,8 +2,7 @@ use Rattle.std.proofs.Common.{◌+◌, ◌∙◌, ◌≤◌, ◌∷◌, ◌++◌
 use Rattle.chr_store.specs.Labels.{GivenAtoms}
 use Rattle.chr_store.specs.Table.{held, IsTable}
 use Rattle.chr_store.specs.Blocks.{AreCounts}
-use Rattle.chr_store.proofs.Blocks.{skipped_counts}
-use Rattle.chr_store.proofs.Table.{skipped, skipped_table, without_atom, table_of}
+use Rattle.chr_store.proofs.Table.{skipped, skipped_table, without_atom, table_of, skipped_counts}
 use Rattle.chr_store.proofs.atoms.Atoms.skip.Goals as goal
 
 pub invariant_of-self-2 : goal.invariant_of-self-2
@@ -16,6 +15,4 @@ invariant_of-self-2 g c =
 
 pub returns-clause-ok : goal.returns-clause-ok
 returns-clause-ok g c =
-    let i = c.self.inside in
-    let items = c.push_reserved.ensures.items ∙ ap (λ xs. xs ++ None ∷ []) c.make_room.ensures.slots in
-    ap table_of items ∙ skipped i.slots.items i.live c.self.invariant.0 ∙ ap without_atom c.self.view_is
+    ap table_of (c.push_reserved.ensures.items ∙ ap (λ xs. xs ++ None ∷ []) c.make_room.ensures.slots) ∙ skipped c.self.inside.slots.items c.self.inside.live c.self.invariant.0 ∙ ap without_atom c.self.view_is

@@ -5,5 +5,4 @@ use Rattle.chr_store.proofs.bucket.Bucket.strike.Goals as goal
 
 pub returns-in_default : goal.returns-in_default
 returns-in_default g c =
-    let e : live_labels c.deref.result.now ≡ c.args.self.now = ap live_labels c.deref.ensures.value ∙ c.self.view_is in
-    subst (λ (z : List ℕ). z ≡ drop_number c.args.label z) e (sym (drop_absent c.args.label _ (living_all (λ m. m ≡ c.args.label → ⊥) c.deref.result.now c.in_default.ensures)))
+    subst (λ (z : List ℕ). z ≡ drop_number c.args.label z) (ap live_labels c.deref.ensures.value ∙ c.self.view_is) (sym (drop_absent c.args.label _ (living_all (λ m. m ≡ c.args.label → ⊥) c.deref.result.now c.in_default.ensures)))

@@ -1,8 +1,7 @@
 use Rattle.std.proofs.Common.{◌≡◌, ◌≤◌, ℕ, List, sym, ap, subst, length, drop, ◌∙◌}
 use Rattle.chr_store.specs.declared.bucket.Slot.{Slot}
 use Rattle.chr_store.specs.Buckets.{live_labels, IsBucket}
-use Rattle.chr_store.proofs.Slots.{kept_bucket, living_kept}
-use Rattle.chr_store.proofs.Jumps.{front_later}
+use Rattle.chr_store.proofs.Slots.{kept_bucket, living_kept, front_later}
 use Rattle.chr_store.proofs.bucket.Bucket.tidy.Goals as goal
 
 pub invariant_of-self : goal.invariant_of-self
@@ -10,13 +9,12 @@ invariant_of-self g c = subst (λ (z : List Slot). IsBucket z 0) (sym c.compact.
 
 pub invariant_of-self-else-len-self : goal.invariant_of-self-else-len-self
 invariant_of-self-else-len-self g c =
-    let ss : List Slot = c.self.inside.slots.items in
     let first : ℕ = c.first_live-self-inside.result in
     record {
       rising = c.self.invariant.rising;
       jumps = c.self.invariant.jumps;
       within = subst (λ (z : List Slot). first ≤ length z) c.deref.ensures.value c.first_live-self-inside.ensures.within;
-      front = front_later ss c.self.inside.first first c.self.invariant.front (subst (λ (z : List Slot). live_labels (drop c.self.inside.first z) ≡ live_labels (drop first z)) c.deref.ensures.value c.first_live-self-inside.ensures.rest);
+      front = front_later c.self.inside.slots.items c.self.inside.first first c.self.invariant.front (subst (λ (z : List Slot). live_labels (drop c.self.inside.first z) ≡ live_labels (drop first z)) c.deref.ensures.value c.first_live-self-inside.ensures.rest);
     }
 
 pub returns-then-len-self : goal.returns-then-len-self

@@ -1,9 +1,8 @@
-use Rattle.std.proofs.Common.{ℕ, sym, subst, take, arith, get_or, ◌∙◌}
+use Rattle.std.proofs.Common.{ℕ, sym, subst, take, arith, get_or, ◌∙◌, take_all}
 use Rattle.std.proofs.lemmas.List.{take_more}
 use Rattle.chr_value.specs.declared.atom.Pred.{Pred}
 use Rattle.chr_store.specs.Index.{Places}
 use Rattle.chr_store.specs.Marks.{AreMarks}
-use Rattle.std.proofs.lemmas.List.{take_all}
 use Rattle.chr_store.proofs.Marks.{marks_more}
 use Rattle.chr_store.proofs.chosen.Chosen.of.Goals as goal
 

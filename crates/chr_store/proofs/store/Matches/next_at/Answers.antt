@@ -1,5 +1,4 @@
-use Rattle.std.proofs.Common.{ℕ, List, [], Option, Bor, sym, ap, ◌∙◌}
-use Rattle.std.specs.Option.{option_copied, unwrap_or}
+use Rattle.std.proofs.Common.{ℕ, List, [], Option, Bor, sym, ap, ◌∙◌, option_copied, unwrap_or}
 use Rattle.chr_store.proofs.store.Matches.next_at.Goals as goal
 
 pub returns-in_default-next_near-clause-least : goal.returns-in_default-next_near-clause-least

@@ -1,20 +1,15 @@
-use Rattle.std.proofs.Common.{◌≡◌, subst, sym, ap, ◌∙◌, None}
-use Rattle.std.specs.Option.{option_copied}
-use Rattle.chr_value.specs.Stores.{Store, atom_at, drop_label}
+use Rattle.std.proofs.Common.{◌≡◌, subst, sym, ap, ◌∙◌, option_copied}
+use Rattle.chr_value.specs.Stores.{Store, drop_label}
 use Rattle.chr_store.specs.Labels.{GivenAtoms, LabelledStore}
 use Rattle.chr_store.specs.Indexed.{IsIndexed}
-use Rattle.chr_store.proofs.Entries.{labelled_drop, drop_none}
-use Rattle.chr_store.proofs.Table.{given}
+use Rattle.chr_store.proofs.Table.{given, labelled_drop, drop_none}
 use Rattle.chr_store.proofs.Stored.{seen, kept_drop}
 use Rattle.chr_store.proofs.store.Store.remove.Goals as goal
 
 pub returns-in_default-clause-rest : goal.returns-in_default-clause-rest
 returns-in_default-clause-rest g c =
-    let i = c.self.inside in
-    let es : Store = i.atoms.entries in
-    let none : atom_at es c.args.label ≡ None = sym c.get.ensures ∙ ap option_copied c.in_default.is in
     subst (λ (s : LabelledStore). s ≡ record { entries = drop_label c.args.label s.entries; next = s.next; limit = s.limit }) c.self.view_is
-    (sym (ap (λ (z : Store). seen (given z i.atoms.next) i.limit) (drop_none c.args.label es none)))
+    (sym (ap (λ (z : Store). seen (given z c.self.inside.atoms.next) c.self.inside.limit) (drop_none c.args.label c.self.inside.atoms.entries (sym c.get.ensures ∙ ap option_copied c.in_default.is))))
 
 pub invariant_of-self : goal.invariant_of-self
 invariant_of-self g c =

@@ -1,5 +1,4 @@
-use Rattle.std.proofs.Common.{subst}
-use Rattle.std.specs.Option.{option_copied}
+use Rattle.std.proofs.Common.{subst, option_copied}
 use Rattle.chr_store.specs.Labels.{IsLabelled}
 use Rattle.chr_store.specs.Views.{Seen}
 use Rattle.chr_store.proofs.Views.{seen_labelled}

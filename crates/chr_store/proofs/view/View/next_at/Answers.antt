@@ -1,5 +1,4 @@
-use Rattle.std.proofs.Common.{subst}
-use Rattle.std.specs.Option.{option_copied}
+use Rattle.std.proofs.Common.{subst, option_copied}
 use Rattle.chr_store.specs.Labels.{IsLabelled}
 use Rattle.chr_store.specs.Keys.{key_of, IsLeastMatch}
 use Rattle.chr_store.specs.Views.{Seen}
@@ -9,9 +8,8 @@ use Rattle.chr_store.proofs.view.View.next_at.Goals as goal
 
 pub returns-clause-least : goal.returns-clause-least
 returns-clause-least g c =
-    let i = c.self.inside in
     subst (λ (v : Seen). IsLeastMatch v.store.entries (asked c.args.pred (key_of c.args.key) c.args.after v.active) c.next_at.result) c.self.view_is
-    (seen_least i.store.now (option_copied i.fresh) (asked c.args.pred (key_of c.args.key) c.args.after i.active) c.next_at.result c.self.invariant c.next_at.ensures.least)
+    (seen_least c.self.inside.store.now (option_copied c.self.inside.fresh) (asked c.args.pred (key_of c.args.key) c.args.after c.self.inside.active) c.next_at.result c.self.invariant c.next_at.ensures.least)
 
 pub returns-clause-labelled : goal.returns-clause-labelled
 returns-clause-labelled g c = let i = c.self.inside in subst (λ (v : Seen). IsLabelled v.store) c.self.view_is (seen_labelled i.store.now (option_copied i.fresh) i.active c.self.invariant)
