@@ -55,8 +55,7 @@ all_out (l ∷ ls) (a ∷ as') st u d c =
     both (one_out st l a (u l) c.0)
     (front (a ∷ []) (all_out ls as' (drop_label l st) (λ k. grind (arith, nat_tests, times-drop k l st, u k)) d.1
     (Carry-move st (drop_label l st) ls as' (λ q b i e. atom_at-drop st l q ∙ grind (arith, nat_tests, d.0)) c.1)))
-all_out [] (a ∷ as') st u d c = absurd c
-all_out (l ∷ ls) [] st u d c = absurd c
+all_out ls as' st u d c = grind arith
 
 -- the plain goals
 pub plain_goals-append : (gs hs : List Goal) → plain_goals (gs ++ hs) ≡ plain_goals gs ++ plain_goals hs
@@ -131,9 +130,7 @@ AbstractRun-frame I (f ∷ fs) old new more run = (run.0 ++ more, AbstractStep-f
 
 pub AbstractRun-from : (I : Rules) (fs : List Firing) (old same new : List (Atom ℕ)) → IsPermutation old same → AbstractRun I same fs new → AbstractRun I old fs new
 AbstractRun-from I [] old same new p run = both p run
-AbstractRun-from I (f ∷ fs) old same new p run =
-    let s = run.1 in
-    (run.0, record { rest = s.rest; instance = s.instance; before = both p s.before; after = s.after }, run.2)
+AbstractRun-from I (f ∷ fs) old same new p run = grind (arith, nat_tests, both)
 
 pub Run-erased : (v : Version) (I : Rules) (es : List (Event ℕ)) (s n : State) → LabelsOnce s → (run : Run v I s es n) → AbstractRun I (erase s ++ posted_by es) (firings v I es s n run) (erase n)
 Run-erased v I [] s n u run = equal (erase s ++ []) (erase n) (append-nil (erase s) ∙ ap erase (sym run))
@@ -154,3 +151,7 @@ Run-erased v I (Drop t ∷ es) s n u run =
 
 pub Lawful-erased : (v : Version) (I : Rules) (log : List (Event ℕ)) (last : State) → (run : Lawful v I log last) → AbstractRun I (posted_by log) (firings v I log start last run) (erase last)
 Lawful-erased v I log last run = Run-erased v I log start last start_once run
+
+pub ruleset erasing = (Lawful-erased)
+
+pub ruleset frames = (AbstractStep-frame, AbstractRun-frame)

@@ -1,12 +1,12 @@
 -- A log has at most one last state, where the heads' atoms fix a body's.
-use Rattle.std.proofs.Common.{◌≡◌, ℕ, ◌⊎◌, inl, inr, List, [], ◌∷◌, sym, ◌∙◌, ap, subst, true≢false}
+use Rattle.std.proofs.Common.{◌≡◌, ℕ, ◌⊎◌, inl, inr, List, [], ◌∷◌, sym, ◌∙◌, ap, subst, arith}
 use Rattle.chr_value.specs.Atoms.{Atom}
 use Rattle.chr_log.specs.Events.{Event, Post, Activate, Fire, Drop}
 use Rattle.chr_log.specs.declared.events.Version.{Version}
 use Rattle.chr_model.specs.Abstract.{Rules}
-use Rattle.chr_model.specs.Stores.{Store, among, Labelled}
-use Rattle.chr_model.specs.Goals.{Plain, State}
-use Rattle.chr_model.specs.Steps.{activated, ended, replaced, Simplify, Propagate, Step, Run}
+use Rattle.chr_model.specs.Stores.{Store, Labelled}
+use Rattle.chr_model.specs.Goals.{State}
+use Rattle.chr_model.specs.Steps.{ended, replaced, Simplify, Propagate, Step, Run}
 use Rattle.chr_model.proofs.Stores.{Carry-same, apart}
 use Rattle.chr_model.proofs.Quiet.{same_label}
 
@@ -15,15 +15,10 @@ Fixes I = (r : ℕ) (kept removed body other : List (Atom ℕ)) → I r kept rem
 
 -- a label at a removed head stands at no kept head
 pub never_both : (I : Rules) (s : State) (t r : ℕ) (kept removed : List ℕ) (n m : State) → Simplify I s t r kept removed n → Propagate I s t r kept removed m → ⊥
-never_both I s t r kept removed n m p q =
-    let l : p.label ≡ q.label = same_label p.label q.label (sym p.numbered ∙ q.numbered) in
-    true≢false (sym p.stands ∙ ap (among removed) l ∙ apart kept removed q.label q.instance.distinct q.stands)
+never_both I s t r kept removed n m p q = grind (arith, same_label, apart)
 
 Labelled-same : (I : Rules) → Fixes I → (st : Store) (r : ℕ) (kept removed : List ℕ) (body other : List (Atom ℕ)) → Labelled I st r kept removed body → Labelled I st r kept removed other → body ≡ other
-Labelled-same I fix st r kept removed body other i j =
-    let k = Carry-same st kept i.kept_atoms j.kept_atoms i.kept_there j.kept_there in
-    let m = Carry-same st removed i.removed_atoms j.removed_atoms i.removed_there j.removed_there in
-    fix r j.kept_atoms j.removed_atoms body other (subst (λ x. I r x j.removed_atoms body) k (subst (λ x. I r i.kept_atoms x body) m i.instance)) j.instance
+Labelled-same I fix st r kept removed body other i j = grind (arith, Carry-same)
 
 fired_same : (I : Rules) → Fixes I → (s : State) (t r : ℕ) (kept removed : List ℕ) (n m : State) → (Simplify I s t r kept removed n ⊎ Propagate I s t r kept removed n) → (Simplify I s t r kept removed m ⊎ Propagate I s t r kept removed m) → n ≡ m
 fired_same I fix s t r kept removed n m (inl p) (inl q) = p.after ∙ ap (replaced (ended s t) removed) (Labelled-same I fix s.store r kept removed p.body q.body p.instance q.instance) ∙ sym q.after
@@ -33,10 +28,7 @@ fired_same I fix s t r kept removed n m (inr p) (inl q) = absurd (never_both I s
 
 pub Step-same : (v : Version) (I : Rules) → Fixes I → (s : State) (e : Event ℕ) (n m : State) → Step v I s e n → Step v I s e m → n ≡ m
 Step-same v I fix s (Post t a) n m p q = p.after ∙ sym q.after
-Step-same v I fix s (Activate t l) n m p q =
-    let e : Plain p.atom ≡ Plain q.atom = sym p.plain ∙ q.plain in
-    let a : p.atom ≡ q.atom = cc in
-    p.after ∙ ap (activated s t) a ∙ sym q.after
+Step-same v I fix s (Activate t l) n m p q = grind arith
 Step-same v I fix s (Fire t r kept removed) n m p q = fired_same I fix s t r kept removed n m p q
 Step-same v I fix s (Drop t) n m p q = p.after ∙ sym q.after
 

@@ -52,10 +52,7 @@ pub store_once : (s : State) → LabelsOnce s → (l : ℕ) → times l (labels 
 store_once s few l = let bound : room l s ≤ 1 = few l in grind (arith, nat_tests)
 
 pub store_below : (s : State) → LabelsOnce s → (l : ℕ) (a : Atom ℕ) → atom_at s.store l ≡ Some a → l < s.next
-store_below s few l a h =
-    let one : 1 ≤ times l (labels s.store) = times-there l s.store a h in
-    let bound : room l s ≤ 1 = few l in
-    grind (arith, nat_tests)
+store_below s few l a h = grind (arith, nat_tests, times-there, room)
 
 -- a goal whose search found no instance among the labels below the next one may be dropped
 pub search_done : (I : Rules) (s : State) (l : ℕ) → LabelsOnce s → NoneBelow I s.store s.next l → MayDrop One I s l
@@ -80,3 +77,5 @@ pub store_from_one : (v : Version) (I : Rules) (log : List (Event ℕ)) (last : 
 store_from_one v I log last run (suc l) a at = omega arith
 store_from_one v I log last run zero a at =
     absurd (true≢false (sym (store_given v I log last run zero a at) ∙ ap (λ ls. among ls zero) (given_rising v I log start last run) ∙ below_given 1 (length (given_by log)) zero (omega arith)))
+
+pub ruleset older_runs = (Run-older)

@@ -1,12 +1,12 @@
 -- Labels are given once, and removed at most once.
-use Rattle.std.proofs.Common.{◌≡◌, ℕ, ◌+◌, ◌≤◌, ◌⊎◌, inl, inr, true, cond, leb, List, [], ◌∷◌, length, refl, ◌∙◌, ap, arith}
+use Rattle.std.proofs.Common.{◌≡◌, ℕ, ◌+◌, ◌≤◌, ◌⊎◌, inl, inr, cond, leb, List, [], ◌∷◌, length, refl, ◌∙◌, ap, arith}
 use Rattle.std.proofs.lemmas.List.{map-append}
 use Rattle.std.proofs.lemmas.Bool.Decides.{nat_tests}
 use Rattle.chr_value.specs.Atoms.{Atom}
 use Rattle.chr_log.specs.Events.{Event, Post, Activate, Fire, Drop}
 use Rattle.chr_log.specs.declared.events.Version.{Version}
 use Rattle.chr_model.specs.Abstract.{Rules}
-use Rattle.chr_model.specs.Stores.{Store, without, labels, among, Distinct, Carry, Labelled}
+use Rattle.chr_model.specs.Stores.{Store, without, labels, Distinct, Carry, Labelled}
 use Rattle.chr_model.specs.Goals.{State, start}
 use Rattle.chr_model.specs.Steps.{activated, ended, replaced, Simplify, Propagate, Step, Run}
 use Rattle.chr_model.specs.Logs.{Lawful, removed_by, given_by, times, up_from}
@@ -14,9 +14,7 @@ use Rattle.chr_model.proofs.Stores.{Carry-there, times-append, times-without, ti
 
 -- what is removed leaves as much room
 times_removed : (l : ℕ) (st : Store) (ls : List ℕ) (as' : List (Atom ℕ)) → Distinct ls → Carry st ls as' → times l ls + times l (labels (without ls st)) ≤ times l (labels st)
-times_removed l st ls as' d c =
-    let stood : among ls l ≡ true → 1 ≤ times l (labels st) = λ e. let at = Carry-there st ls as' l e c in times-there l st at.0 at.1 in
-    grind (arith, nat_tests, stood, times-without l ls st, times-distinct l ls d, times-none l ls)
+times_removed l st ls as' d c = grind (arith, nat_tests, Carry-there, times-there, times-without, times-distinct, times-none)
 
 -- how often a label stands in the store or is still to come
 abbrev pub room : ℕ → State → ℕ
@@ -27,14 +25,10 @@ abbrev pub LabelsOnce : State → Type 0
 LabelsOnce s = (l : ℕ) → room l s ≤ 1
 
 room_activated : (l : ℕ) (s : State) (t : ℕ) (a : Atom ℕ) → room l (activated s t a) ≤ room l s
-room_activated l s t a =
-    let e : times l (labels (activated s t a).store) ≡ times l (labels s.store) + times l (s.next ∷ []) = simp map-append (times-append l (labels s.store) (s.next ∷ [])) in
-    grind (arith, nat_tests)
+room_activated l s t a = grind (arith, nat_tests, map-append, times-append)
 
 room_replaced : (l : ℕ) (I : Rules) (s : State) (r : ℕ) (kept removed : List ℕ) (body : List (Atom ℕ)) → Labelled I s.store r kept removed body → times l removed + room l (replaced s removed body) ≤ room l s
-room_replaced l I s r kept removed body i =
-    let h : times l removed + times l (labels (without removed s.store)) ≤ times l (labels s.store) = times_removed l s.store removed i.removed_atoms (Distinct-right kept removed i.distinct) i.removed_there in
-    omega arith
+room_replaced l I s r kept removed body i = grind (arith, nat_tests, times_removed, Distinct-right)
 
 room_fired : (l : ℕ) (I : Rules) (s : State) (t r : ℕ) (kept removed : List ℕ) (n : State) → (Simplify I s t r kept removed n ⊎ Propagate I s t r kept removed n) → times l removed + room l n ≤ room l s
 room_fired l I s t r kept removed n (inl h) = omega (arith, ap (room l) h.after, room_replaced l I (ended s t) r kept removed h.body h.instance)
@@ -71,8 +65,6 @@ next_fired I s t r kept removed n (inr h) = ap (λ m. m.next) h.after
 pub given_rising : (v : Version) (I : Rules) (es : List (Event ℕ)) (s n : State) → Run v I s es n → given_by es ≡ up_from s.next (length (given_by es))
 given_rising v I [] s n run = refl
 given_rising v I (Post t a ∷ es) s n run = given_rising v I es run.0 n run.2 ∙ ap (λ m. up_from m.next (length (given_by es))) run.1.after
-given_rising v I (Activate t l ∷ es) s n run =
-    let e : given_by es ≡ up_from (s.next + 1) (length (given_by es)) = given_rising v I es run.0 n run.2 ∙ ap (λ m. up_from m.next (length (given_by es))) run.1.after in
-    ap (λ x. x ∷ given_by es) run.1.label ∙ ap (λ xs. s.next ∷ xs) e
+given_rising v I (Activate t l ∷ es) s n run = grind (arith, nat_tests, given_rising v I es run.0 n run.2)
 given_rising v I (Fire t r kept removed ∷ es) s n run = given_rising v I es run.0 n run.2 ∙ ap (λ k. up_from k (length (given_by es))) (next_fired I s t r kept removed run.0 run.1)
 given_rising v I (Drop t ∷ es) s n run = given_rising v I es run.0 n run.2 ∙ ap (λ m. up_from m.next (length (given_by es))) run.1.after

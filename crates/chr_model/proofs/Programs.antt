@@ -1,5 +1,5 @@
 -- What holds of a program's instances.
-use Rattle.std.proofs.Common.{◌≡◌, ℕ, zero, suc, ◌⊎◌, inl, inr, List, [], ◌∷◌, Some, None, sym, ◌∙◌, subst, slice_get}
+use Rattle.std.proofs.Common.{◌≡◌, ℕ, zero, suc, ◌⊎◌, inl, inr, List, [], ◌∷◌, Some, None, sym, ◌∙◌, subst, slice_get, arith}
 use Rattle.std.specs.List.{AllByRecursion}
 use Rattle.chr_value.specs.Atoms.{Atom}
 use Rattle.chr_rule.specs.Rules.{Simpagation}
@@ -17,10 +17,7 @@ pub of_zero : (rules : List (Simpagation ℕ)) (kept removed body : List (Atom �
 of_zero rules kept removed body i = let e : None ≡ Some i.0 = i.1 in cc
 
 of_first : (rule : Simpagation ℕ) (rules : List (Simpagation ℕ)) (kept removed body : List (Atom ℕ)) → Instances (rule ∷ rules) 1 kept removed body → Instance rule kept removed body
-of_first rule rules kept removed body i =
-    let e : Some rule ≡ Some i.0 = i.1 in
-    let same : i.0 ≡ rule = cc in
-    subst (λ x. Instance x kept removed body) same i.2
+of_first rule rules kept removed body i = grind arith
 
 -- the instances of one rule, and of two
 pub of_only : (rule : Simpagation ℕ) (r : ℕ) (kept removed body : List (Atom ℕ)) → Instances (rule ∷ []) r kept removed body → Instance rule kept removed body

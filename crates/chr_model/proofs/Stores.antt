@@ -1,5 +1,5 @@
 -- Laws of stores.
-use Rattle.std.proofs.Common.{◌≡◌, ◌≢◌, ℕ, ◌+◌, ◌≤◌, true, false, ◌||◌, ◌==◌, if◌then◌else◌, List, [], ◌∷◌, ◌++◌, Some, None, refl, sym, ◌∙◌, ap₂, subst, arith, true-eqb}
+use Rattle.std.proofs.Common.{◌≡◌, ◌≢◌, ℕ, ◌+◌, ◌≤◌, true, false, ◌||◌, ◌==◌, if◌then◌else◌, List, [], ◌∷◌, ◌++◌, Some, None, refl, sym, subst, arith, true-eqb}
 use Rattle.std.proofs.lemmas.Bool.Decides.{nat_tests}
 use Rattle.chr_value.specs.Atoms.{Atom}
 use Rattle.chr_model.specs.Abstract.{Rules}
@@ -46,26 +46,18 @@ Carry-move s n [] (a ∷ as') f h = h
 Carry-move s n (l ∷ ls) [] f h = h
 
 pub Carry-there : (s : Store) (ls : List ℕ) (as' : List (Atom ℕ)) (l : ℕ) → among ls l ≡ true → Carry s ls as' → (a : Atom ℕ) × (atom_at s l ≡ Some a)
-Carry-there s [] [] l i h = absurd (cc)
 Carry-there s (x ∷ xs) (a ∷ as') l i h =
     elim (x == l) as (λ b. (x == l ≡ b) → (b || among xs l) ≡ true → (c : Atom ℕ) × (atom_at s l ≡ Some c)) [
       | true ↦ λ e _. (a, subst (λ q. atom_at s q ≡ Some a) (true-eqb x l (sym e)) h.0)
       | false ↦ λ _ j. Carry-there s xs as' l j h.1
     ] refl i
-Carry-there s [] (a ∷ as') l i h = absurd h
-Carry-there s (x ∷ xs) [] l i h = absurd h
+Carry-there s xs as' l i h = grind arith
 
 -- the atoms that labels carry are fixed
 pub Carry-same : (st : Store) (ls : List ℕ) (xs ys : List (Atom ℕ)) → Carry st ls xs → Carry st ls ys → xs ≡ ys
 Carry-same st [] [] [] c d = refl
-Carry-same st (l ∷ ls) (x ∷ xs) (y ∷ ys) c d =
-    let e : Some x ≡ Some y = sym c.0 ∙ d.0 in
-    let h : x ≡ y = cc in
-    ap₂ (λ z zs. z ∷ zs) h (Carry-same st ls xs ys c.1 d.1)
-Carry-same st [] (x ∷ xs) ys c d = absurd c
-Carry-same st [] [] (y ∷ ys) c d = absurd d
-Carry-same st (l ∷ ls) [] ys c d = absurd c
-Carry-same st (l ∷ ls) (x ∷ xs) [] c d = absurd d
+Carry-same st (l ∷ ls) (x ∷ xs) (y ∷ ys) c d = grind (arith, nat_tests, Carry-same st ls xs ys c.1 d.1)
+Carry-same st ls xs ys c d = grind arith
 
 -- an instance over a store, whose labels are in another with the same atoms
 pub Labelled-move : (I : Rules) (s n : Store) (r : ℕ) (kept removed : List ℕ) (body : List (Atom ℕ)) → ((l : ℕ) (a : Atom ℕ) → among (kept ++ removed) l ≡ true → atom_at s l ≡ Some a → atom_at n l ≡ Some a) → Labelled I s r kept removed body → Labelled I n r kept removed body

@@ -1,26 +1,78 @@
--- Instances and states of worked runs.
-use Rattle.std.proofs.Common.{◌≡◌, ◌≢◌, ℕ, ◌+◌, ◌≤◌, List, [], ◌∷◌, ◌++◌, length, Some, None, pos, drop, ◌⊎◌, refl, sym, ◌∙◌, ap, arith, inl, inr, slice_index_or, true, false, true≢false}
+-- Over small stores few instances can stand.
+use Rattle.std.proofs.Common.{◌≡◌, ◌≢◌, ℕ, zero, suc, ◌+◌, ◌≤◌, List, [], ◌∷◌, ◌++◌, length, get_or, Some, refl, ◌∙◌, ap, arith, sym, subst, None, pos, drop, ◌⊎◌, inl, inr, slice_index_or, true, false, true≢false}
+use Rattle.std.proofs.lemmas.Bool.Decides.{nat_tests}
 use Rattle.chr_value.specs.Atoms.{Atom, Int}
+use Rattle.chr_model.specs.Abstract.{Rules}
+use Rattle.chr_model.specs.Stores.{Store, atom_at, Carry, Labelled, among, Distinct, Final}
+use Rattle.chr_model.specs.Goals.{Goal, Ended, Plain, Numbered, State, goal_at, start}
+use Rattle.chr_model.specs.Logs.{times}
+use Rattle.chr_model.proofs.Stores.{times-append, times-distinct}
+use Rattle.chr_log.specs.Events.{Event, Post, Activate, Drop}
+use Rattle.chr_log.specs.declared.events.Version.{Version}
+use Rattle.chr_model.specs.Steps as steps
+use Rattle.chr_model.specs.Steps.{posted, activated, ended, MayDrop, Run, Simplify, Propagate}
+use Rattle.chr_model.proofs.Quiet.{same_label, MayDrop-final}
 use Rattle.chr_rule.specs.declared.expression.Relation.TheVariants.{LessEqual}
 use Rattle.chr_rule.specs.Rules.{Variable, Compared, Simpagation}
 use Rattle.chr_guard.specs.Values.{Valuation, Holds}
 use Rattle.chr_guard.specs.Instances.{Instance}
 use Rattle.chr_guard.proofs.Under.{somes, under_length, one_under, atom_is}
-use Rattle.chr_log.specs.Events.{Event}
-use Rattle.chr_log.specs.declared.events.Version.{Version}
-use Rattle.chr_model.specs.Stores.{Store, atom_at, among, Distinct, Carry, Labelled, Final}
-use Rattle.chr_model.specs.Abstract.{Rules}
-use Rattle.chr_model.specs.Goals.{Numbered, State, start, goal_at}
-use Rattle.chr_model.specs.Steps.{Simplify, Propagate, Drop, Run}
 use Rattle.chr_model.specs.Programs.{Instances}
 use Rattle.chr_model.specs.Examples.{shape_of, EndsQuietIn, of, gcd, gcd_zero, gcd_mod, gcd_rules, pair_rule, pair_rules, pair_log_one_label, min_rule, min_rules, token, token_rule, token_rules}
-use Rattle.chr_model.proofs.Steps.{drop_goal}
-use Rattle.chr_model.proofs.Quiet.{MayDrop-final}
+use Rattle.chr_model.proofs.Strict.{drop_goal}
 use Rattle.chr_model.proofs.Programs.{of_only, of_two}
-use Rattle.chr_model.proofs.Alone.{one_head, carry_one, only_atom, second_atom, endings, all_ended}
+
+-- in a store of one label every head would have it
+carry_alone : (k : ℕ) (b : Atom ℕ) (ls : List ℕ) (as' : List (Atom ℕ)) → Carry ((k, b) ∷ []) ls as' → times k ls ≡ length as'
+carry_alone k b [] [] c = refl
+carry_alone k b (l ∷ ls) (a ∷ as') c = grind (arith, nat_tests, carry_alone k b ls as' c.1, c.0)
+carry_alone k b ls as' c = grind arith
+
+-- so there is one head at most
+pub one_head : (I : Rules) (k : ℕ) (b : Atom ℕ) (r : ℕ) (kept removed : List ℕ) (body : List (Atom ℕ)) → (i : Labelled I ((k, b) ∷ []) r kept removed body) → length i.kept_atoms + length i.removed_atoms ≤ 1
+one_head I k b r kept removed body i =
+    omega (arith, times-distinct k (kept ++ removed) i.distinct, times-append k kept removed, carry_alone k b kept i.kept_atoms i.kept_there, carry_alone k b removed i.removed_atoms i.removed_there)
+
+-- the label of a lone head
+pub carry_one : (st : Store) (ls : List ℕ) (as' : List (Atom ℕ)) (a : Atom ℕ) → as' ≡ a ∷ [] → Carry st ls as' → (l : ℕ) × (ls ≡ l ∷ []) × (atom_at st l ≡ Some a)
+carry_one st (l ∷ []) (x ∷ []) a e c = let same : x ≡ a = cc in (l, refl, c.0 ∙ ap Some same)
+carry_one st ls as' a e c = grind arith
+
+-- the label and the atom of a store of one, and the second of a store of two
+pub only_atom : (k : ℕ) (b : Atom ℕ) (l : ℕ) (a : Atom ℕ) → atom_at ((k, b) ∷ []) l ≡ Some a → (k ≡ l) × (b ≡ a)
+only_atom k b l a h = (grind (arith, nat_tests), grind (arith, nat_tests))
+
+pub second_atom : (j : ℕ) (a : Atom ℕ) (k : ℕ) (b : Atom ℕ) (l : ℕ) (x : Atom ℕ) → a ≢ x → atom_at ((j, a) ∷ (k, b) ∷ []) l ≡ Some x → (k ≡ l) × (b ≡ x)
+second_atom j a k b l x ne h = (grind (arith, nat_tests), grind (arith, nat_tests))
+
+-- so many goals that have all ended
+abbrev pub endings : ℕ → List Goal
+endings zero = []
+endings (suc k) = Ended ∷ endings k
+
+pub all_ended : (k t : ℕ) → get_or (endings k) t Ended ≡ Ended
+all_ended zero t = refl
+all_ended (suc k) zero = refl
+all_ended (suc k) (suc t) = all_ended k t
+
+-- ---- what follows a run's first event
+
+pub after_post : (v : Version) (I : Rules) (s : State) (t : ℕ) (a : Atom ℕ) (es : List (Event ℕ)) (n : State) → Run v I s (Post t a ∷ es) n → Run v I (posted s a) es n
+after_post v I s t a es n run = subst (λ m. Run v I m es n) run.1.after run.2
+
+pub after_activate : (v : Version) (I : Rules) (s : State) (t l : ℕ) (a : Atom ℕ) (es : List (Event ℕ)) (n : State) → goal_at s t ≡ Plain a → Run v I s (Activate t l ∷ es) n → Run v I (activated s t a) es n
+after_activate v I s t l a es n at run = grind (arith, nat_tests)
+
+pub after_drop : (v : Version) (I : Rules) (s : State) (t : ℕ) (es : List (Event ℕ)) (n : State) → Run v I s (Drop t ∷ es) n → Run v I (ended s t) es n
+after_drop v I s t es n run = subst (λ m. Run v I m es n) run.1.after run.2
+
+pub drop_allowed : (v : Version) (I : Rules) (s : State) (t l : ℕ) (es : List (Event ℕ)) (n : State) → goal_at s t ≡ Numbered l → Run v I s (Drop t ∷ es) n → MayDrop v I s l
+drop_allowed v I s t l es n at run = subst (MayDrop v I s) (same_label run.1.label l (sym run.1.numbered ∙ at)) run.1.done
+
+-- ---- instances and states of worked runs
 
 -- a drop where no rule applies
-abbrev pub drop_final : {v : Version} {I : Rules} {s : State} {t l : ℕ} → goal_at s t ≡ Numbered l → Final I s.store → (n : State) × Drop v I s t n
+abbrev pub drop_final : {v : Version} {I : Rules} {s : State} {t l : ℕ} → goal_at s t ≡ Numbered l → Final I s.store → (n : State) × steps.Drop v I s t n
 drop_final {v} {I} {s} {t} {l} at f = drop_goal at (MayDrop-final v I s l f)
 
 -- the run of a log whose goals have all ended

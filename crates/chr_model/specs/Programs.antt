@@ -1,6 +1,5 @@
 -- What the rules of a program allow.
 use Rattle.std.specs.Prelude.{◌≡◌, ℕ, List, Some}
-use Rattle.chr_value.specs.Atoms.{Atom}
 use Rattle.chr_rule.specs.Rules.{Simpagation, rule_at}
 use Rattle.chr_guard.specs.Instances.{Instance}
 use Rattle.chr_model.specs.Abstract.{Rules}

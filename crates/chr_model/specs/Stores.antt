@@ -1,5 +1,5 @@
 -- The instances of rules over a store.
-use Rattle.std.specs.Prelude.{◌≡◌, ℕ, Bool, false, true, ◌||◌, ◌==◌, List, [], ◌∷◌, ◌++◌, map, Some}
+use Rattle.std.specs.Prelude.{◌≡◌, ℕ, Bool, false, ◌||◌, ◌==◌, List, [], ◌∷◌, ◌++◌, map, Some}
 use Rattle.chr_value.specs.Atoms.{Atom}
 pub use Rattle.chr_value.specs.Stores.{Store, atom_at, drop_label, without}
 use Rattle.chr_model.specs.Abstract.{Rules}

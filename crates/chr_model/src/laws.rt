@@ -27,6 +27,7 @@ pub fn quiet_is_final()
 
 /// With labels forgotten, the firings of a lawful log are an abstract run from the atoms posted to the erasure of the
 /// last state.
+#[tactic(auto, using(crate::proofs::Erasure::erasing))]
 pub fn firings_are_a_run()
     ensures { (v : Version) (rules : List (Simpagation ℕ)) (log : List (Event ℕ)) (last : State)
         → (run : Lawful v (Instances rules) log last)
@@ -34,12 +35,14 @@ pub fn firings_are_a_run()
 {}
 
 /// A lawful log removes each label at most once.
+#[tactic(auto, using(crate::proofs::Once::removed_once))]
 pub fn removed_at_most_once()
     ensures { (v : Version) (rules : List (Simpagation ℕ)) (log : List (Event ℕ)) (last : State)
         → Lawful v (Instances rules) log last → (l : ℕ) → times l (removed_by log) ≤ 1 }
 {}
 
 /// A lawful log gives the labels 1, 2, .. in order.
+#[tactic(auto, using(crate::proofs::Once::given_rising))]
 pub fn given_in_order()
     ensures { (v : Version) (rules : List (Simpagation ℕ)) (log : List (Event ℕ)) (last : State)
         → Lawful v (Instances rules) log last → given_by log ≡ up_from 1 (length (given_by log)) }
@@ -68,6 +71,7 @@ pub fn last_is_fixed<A: Allocator + Copy>(program: &Program<A>)
 }
 
 /// A lawful log and a step from its last state are a lawful log.
+#[tactic(auto, using(crate::proofs::Strict::pushing))]
 pub fn one_event_more()
     ensures { (v : Version) (rules : List (Simpagation ℕ)) (log : List (Event ℕ)) (event : Event ℕ) (last new : State)
         → Lawful v (Instances rules) log last → Step v (Instances rules) last event new
@@ -76,6 +80,7 @@ pub fn one_event_more()
 
 /// The same logs are lawful where all posted atoms are plain goals from the start, and their firings are an abstract run
 /// from these atoms.
+#[tactic(auto, using(crate::proofs::GoalRuns::posts_to_front, crate::proofs::GoalRuns::posts_to_places, crate::proofs::GoalRuns::posts_erased))]
 pub fn posts_may_come_first()
     ensures front { (v : Version) (rules : List (Simpagation ℕ)) (log : List (Event ℕ)) (last : State)
         → Lawful v (Instances rules) log last → LawfulPostsFirst v (Instances rules) log last }
@@ -88,6 +93,7 @@ pub fn posts_may_come_first()
 {}
 
 /// With its posts moved to the front, a lawful log is a goal-based run from all that it posts to its last state.
+#[tactic(auto, using(crate::proofs::GoalRuns::goal_run))]
 pub fn log_is_a_goal_run()
     ensures { (v : Version) (rules : List (Simpagation ℕ)) (log : List (Event ℕ)) (last : State)
         → Lawful v (Instances rules) log last
@@ -95,6 +101,7 @@ pub fn log_is_a_goal_run()
 {}
 
 /// A step, and a run, may be made beside any further atoms.
+#[tactic(auto, using(crate::proofs::Erasure::frames))]
 pub fn step_beside()
     ensures step { (rules : List (Simpagation ℕ)) (firing : Firing) (old new more : List (Atom ℕ))
         → AbstractStep (Instances rules) firing old new
@@ -120,6 +127,7 @@ pub fn some_label_is_a_goal()
 {}
 
 /// A run neither adds nor revives an instance of labels that were given before it.
+#[tactic(auto, using(crate::proofs::Older::older_runs))]
 pub fn older_instances_were_there()
     ensures { (v : Version) (rules : List (Simpagation ℕ)) (events : List (Event ℕ)) (s new : State)
         → Run v (Instances rules) s events new
@@ -149,12 +157,14 @@ pub fn older_search_allows_a_drop()
 {}
 
 /// Where a lawful log leaves no goal open, its strict log is lawful by version one, and ends in the same state.
+#[tactic(auto, using(crate::proofs::Strict::strict_lawful, crate::proofs::Programs::program_removes))]
 pub fn strict_is_lawful()
     ensures { (v : Version) (rules : List (Simpagation ℕ)) (log : List (Event ℕ)) (last : State)
         → Lawful v (Instances rules) log last → Quiet last → Lawful One (Instances rules) (strict log) last }
 {}
 
 /// What a seat has made in a log and in what follows adds up.
+#[tactic(auto, using(crate::proofs::Seats::sums))]
 pub fn accounts_add_up()
     ensures posts { (log more : List (Entry ℕ)) (seat : ℕ)
         → (made (log ++ more) seat).posts ≡ (made log seat).posts + (made more seat).posts }

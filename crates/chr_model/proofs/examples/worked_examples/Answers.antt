@@ -4,9 +4,8 @@ use Rattle.chr_model.specs.Goals.{Plain, Numbered, Ended, start}
 use Rattle.chr_model.specs.Steps.{posted, activated, ended}
 use Rattle.chr_model.specs.Programs.{Instances}
 use Rattle.chr_model.specs.Examples.{of, gcd, gcd_rules, gcd_log, gcd_log_early_drop, pair_rules, pair_log, min_rules, min_log, token, token_rules, token_log_two, token_log_strict}
-use Rattle.chr_model.proofs.Onward.{after_post, after_activate, after_drop, drop_allowed}
-use Rattle.chr_model.proofs.Steps.{◌▸◌, post, activate, simplify, propagate}
-use Rattle.chr_model.proofs.Worked.{drop_final, quiet, gcd_alone, gcd_nine_six, gcd_six_three, gcd_three_zero, pair_alone, pair_fires, one_label, min_alone, min_fires, token_fires, token_alone, token_partner, token_done}
+use Rattle.chr_model.proofs.Worked.{after_post, after_activate, after_drop, drop_allowed, drop_final, quiet, gcd_alone, gcd_nine_six, gcd_six_three, gcd_three_zero, pair_alone, pair_fires, one_label, min_alone, min_fires, token_fires, token_alone, token_partner, token_done}
+use Rattle.chr_model.proofs.Strict.{◌▸◌, post, activate, simplify, propagate}
 use Rattle.chr_model.proofs.examples.worked_examples.Goals as goal
 
 pub returns-clause-gcd : goal.returns-clause-gcd
