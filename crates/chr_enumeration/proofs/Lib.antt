@@ -1,4 +1,2 @@
 pub mod Entries
-mod Picking
-mod Fitting
-mod Wholes
+pub mod Wholes

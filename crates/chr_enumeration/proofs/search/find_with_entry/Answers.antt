@@ -2,8 +2,7 @@ use Rattle.std.proofs.Common.{◌≤◌, ◌+◌, Some, None, replicate, slice_s
 use borrow.Author.Count.{below_more}
 use Rattle.chr_enumeration.specs.Found.{listed}
 use Rattle.chr_enumeration.specs.Picks.{Fills, IsPartial, IsMatch, NoMatch}
-use Rattle.chr_enumeration.proofs.Picking.{none_among}
-use Rattle.chr_enumeration.proofs.Fitting.{no_fit_more, partial_more, partial_start, none_open, picks_one, match_has, no_has}
+use Rattle.chr_enumeration.proofs.Wholes.{none_among, no_fit_more, partial_more, partial_start, none_open, picks_one, match_has, no_has}
 use Rattle.chr_enumeration.proofs.search.find_with_entry.Goals as goal
 
 pub loop-head-preserved-in_default : goal.loop-head-preserved-in_default

@@ -1,12 +1,12 @@
 use Rattle.std.proofs.Common.{◌≡◌, ◌<◌, ◌≤◌, ℕ, ◌+◌, true, false, length, Some, slice_set, sym, ap, subst, ◌∙◌, arith, lit<}
+use Rattle.std.proofs.lemmas.Grind.{common_steps}
 use Rattle.std.specs.List.{AllByRecursion}
 use Rattle.std.proofs.lemmas.List.{take_all, length-map}
 use Rattle.chr_value.specs.Atoms.{Atom}
 use Rattle.chr_model.specs.Stores.{among, labels, atom_at}
 use Rattle.chr_enumeration.specs.Found.{listed}
-use Rattle.chr_enumeration.specs.Picks.{Picks, picks, picked, Fills, IsPartial, IsMatch, NoMatch}
-use Rattle.chr_enumeration.proofs.Picking.{left, left_less}
-use Rattle.chr_enumeration.proofs.Fitting.{no_repeat, no_fit_more, partial_more, match_less, no_more, picks_set, picks_back, tried_more, stored_there}
+use Rattle.chr_enumeration.specs.Picks.{Picks, picks, picked, Fills, IsPartial, NoMatch}
+use Rattle.chr_enumeration.proofs.Wholes.{left, left_less, no_repeat, no_fit_more, partial_more, match_less, no_more, picks_set, picks_back, tried_more, stored_there}
 use Rattle.chr_enumeration.proofs.slots.+find_match.Goals as goal
 
 pub loop-entry-preserved-then-is_picked : goal.loop-entry-preserved-then-is_picked
@@ -49,13 +49,7 @@ find_match-requires g t c κs within =
     )
 
 pub returns-in-Some-find_match : goal.returns-in-Some-find_match
-returns-in-Some-find_match g t c =
-    let rule = c.args.rule.now in
-    let store = listed c.args.store.now in
-    let ps = picks c.args.slots.now in
-    let place = c.in-Some.place in
-    let x = c.entry-item.result in
-    match_less rule store ps place (x.0, x.1.now) c.in-Some-find_match.found c.in-Some.ensures (subst (λ qs. IsMatch rule store (Fills qs) c.in-Some-find_match.found) (picks_set c.loop-entry.slots ps place x c.loop-entry.invariant.same) c.in-Some-find_match.ensures)
+returns-in-Some-find_match g t c = grind (arith, common_steps, match_less, picks_set, c.in-Some.ensures, c.loop-entry.invariant.same, c.in-Some-find_match.ensures)
 
 pub loop-entry-preserved : goal.loop-entry-preserved
 loop-entry-preserved g t c =

@@ -3,7 +3,7 @@ use Rattle.std.specs.List.{AllByRecursion}
 use Rattle.chr_value.specs.Atoms.{Atom}
 use Rattle.chr_enumeration.specs.Found.{listed}
 use Rattle.chr_enumeration.specs.Picks.{picks, Fills, NoMatch}
-use Rattle.chr_enumeration.proofs.Picking.{left}
+use Rattle.chr_enumeration.proofs.Wholes.{left}
 use Rattle.chr_enumeration.proofs.slots.+find_match.Given as goal
 
 abbrev pub decreases-find_match : goal.decreases-find_match

@@ -6,7 +6,7 @@ use Rattle.chr_guard.proofs.Scoped.{IsPlaced}
 use Rattle.chr_guard.proofs.Bindings.{narrows_as}
 use Rattle.chr_guard.proofs.Matched.{head_placed}
 use Rattle.chr_enumeration.specs.Picks.{HeadIs}
-use Rattle.chr_enumeration.proofs.Fitting.{head_is}
+use Rattle.chr_enumeration.proofs.Wholes.{head_is}
 use Rattle.chr_enumeration.proofs.slots.fit_next.Goals as goal
 
 pub fit_head-requires : goal.fit_head-requires

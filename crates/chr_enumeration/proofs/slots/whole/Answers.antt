@@ -1,16 +1,15 @@
 use Rattle.std.proofs.Common.{◌≡◌, length, sym, ap, ◌∙◌, arith}
+use Rattle.std.proofs.lemmas.Grind.{common_steps}
 use Rattle.std.proofs.lemmas.List.{length-map}
 use Rattle.chr_rule.specs.Parts.{shape}
 use Rattle.chr_model.specs.Stores.{atoms}
 use Rattle.chr_enumeration.specs.Found.{listed}
 use Rattle.chr_enumeration.specs.Picks.{picks, picked}
-use Rattle.chr_enumeration.proofs.Fitting.{fit_whole, no_whole, is_match, labels_taken, labels_dropped}
+use Rattle.chr_enumeration.proofs.Wholes.{fit_whole, no_whole, is_match, labels_taken, labels_dropped}
 use Rattle.chr_enumeration.proofs.slots.whole.Goals as goal
 
 pub instance_from-requires : goal.instance_from-requires
-instance_from-requires g c =
-    let ps = picks c.args.slots.now in
-    (omega arith, (atoms (picked ps), fit_whole c.args.rule.now (listed c.args.store.now) ps c.args.binding c.requires.partial c.requires.all))
+instance_from-requires g c = grind (arith, common_steps, fit_whole, c.requires.partial, c.requires.all)
 
 pub returns-in_err-binding : goal.returns-in_err-binding
 returns-in_err-binding g c =
