@@ -1,10 +1,3 @@
-pub mod Bodies
-pub mod Checked
-pub mod Conditions
-pub mod KeptStates
-pub mod FaultLaws
-pub mod GoalLists
-pub mod PartnersOnly
-pub mod Places
 pub mod Replayed
-pub mod RisingLabels
+pub mod Checked
+pub mod Stores

@@ -1,6 +1,6 @@
 use Rattle.chr_model.specs.Programs.{Instances}
 use Rattle.chr_model.proofs.Programs.{program_fixes}
-use Rattle.chr_check.proofs.FaultLaws.{never_both, one_fault, never_neither}
+use Rattle.chr_check.proofs.Checked.{never_both, one_fault, never_neither}
 use Rattle.chr_check.proofs.laws.fault_or_run.Goals as goal
 
 pub returns : goal.returns
