@@ -1,6 +1,2 @@
-pub mod Grouped
-pub mod Rooms
 pub mod Texts
-pub mod Ticks
-mod Gathered
-mod Drawn
+pub mod Drawn

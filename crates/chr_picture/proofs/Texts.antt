@@ -1,13 +1,10 @@
 -- Texts written one after another in a loop.
-use Rattle.std.proofs.Common.{◌≡◌, ℕ, zero, suc, ◌+◌, ◌≤◌, ◌<◌, List, [], ◌∷◌, ◌++◌, length, drop, get_or, refl, sym, ap, ◌∙◌, append_assoc, arith}
-use Rattle.std.proofs.lemmas.List.{drop_more, append-nil}
-
--- past the last element nothing is left
-pub none_left : {X : Type 0} (xs : List X) (i : ℕ) → length xs ≤ i → drop i xs ≡ []
-none_left [] zero le = refl
-none_left [] (suc i) le = refl
-none_left (x ∷ xs) zero le = absurd (omega arith)
-none_left (x ∷ xs) (suc i) le = none_left xs i (omega arith)
+use Rattle.std.proofs.Common.{◌≡◌, ℕ, zero, suc, ◌+◌, ◌≤◌, ◌<◌, List, [], ◌∷◌, ◌++◌, length, drop, get_or, refl, sym, ap, ◌∙◌, append_assoc, arith, max, take, ◌-◌}
+use Rattle.std.proofs.lemmas.List.{drop_all, drop_more, append-nil}
+use Rattle.chr_picture.specs.declared.picture.Row.{Row}
+use Rattle.chr_picture.specs.Layouts.{label_text, room, most_room}
+use Rattle.chr_picture.specs.declared.layout.Layout.{Layout}
+use Rattle.chr_picture.specs.Svg.{tick_or_none, ticks}
 
 -- the text of one element more; T k is the text of elements of which the first is the k-th
 pub text_more_at : {X Y : Type 0} (T : ℕ → List X → List Y) (f : ℕ → X → List Y) → ((k : ℕ) (y : X) (ys : List X) → T k (y ∷ ys) ≡ f k y ++ T (k + 1) ys)
@@ -24,7 +21,7 @@ text_more {Y = Y} T f step xs all mid new i x lt is e h = text_more_at T f step 
 
 -- all elements are written
 pub text_ends : {X Y : Type 0} (T : ℕ → List X → List Y) → ((k : ℕ) → T k [] ≡ []) → (xs : List X) (all mid : List Y) (i : ℕ) → length xs ≤ i → mid ++ T i (drop i xs) ≡ all → mid ≡ all
-text_ends {Y = Y} T none xs all mid i le h = sym (append-nil mid) ∙ ap (λ (w : List Y). mid ++ w) (sym (ap (T i) (none_left xs i le) ∙ none i)) ∙ h
+text_ends {Y = Y} T none xs all mid i le h = sym (append-nil mid) ∙ ap (λ (w : List Y). mid ++ w) (sym (ap (T i) (drop_all i xs le) ∙ none i)) ∙ h
 
 -- one element more of what is found by going over a list
 pub fold_more : {X S : Type 0} (T : S → List X → S) (f : S → X → S) → ((s : S) (y : X) (ys : List X) → T s (y ∷ ys) ≡ T (f s y) ys)
@@ -33,4 +30,29 @@ fold_more T f step xs all s n i x lt is e h =
     ap (λ m. T m (drop (i + 1) xs)) e ∙ sym (step s x (drop (i + 1) xs)) ∙ ap (T s) (sym (drop_more xs i x lt ∙ ap (λ y. y ∷ drop (i + 1) xs) (sym is))) ∙ h
 
 pub fold_ends : {X S : Type 0} (T : S → List X → S) → ((s : S) → T s [] ≡ s) → (xs : List X) (all s : S) (i : ℕ) → length xs ≤ i → T s (drop i xs) ≡ all → s ≡ all
-fold_ends T none xs all s i le h = sym (ap (T s) (none_left xs i le) ∙ none s) ∙ h
+fold_ends T none xs all s i le h = sym (ap (T s) (drop_all i xs le) ∙ none s) ∙ h
+
+-- ---- the room that the names of rows need, found in a loop
+
+-- one row more
+pub room_more : {Z : Type 0} (table : List (List ℕ)) (step : ℕ) (rows : List (Row Z)) (all most needed new i : ℕ) (row : Row Z) → i < length rows → row ≡ get_or rows i row → needed ≡ room (length (label_text table row)) step row.since → new ≡ max needed most → most_room table step most (drop i rows) ≡ all → most_room table step new (drop (i + 1) rows) ≡ all
+room_more table step rows all most needed new i row lt is needs e h =
+    fold_more (λ s rs. most_room table step s rs) (λ s r. max (room (length (label_text table r)) step r.since) s) (λ s y ys. refl) rows all most new i row lt is (e ∙ ap (λ (n : ℕ). max n most) needs) h
+
+pub room_within : (most needed new limit : ℕ) → needed ≤ limit → most ≤ limit → new ≡ max needed most → new ≤ limit
+room_within most needed new limit a b e = omega arith
+
+-- ---- texts written one after another
+
+pub ruleset grouping = (append_assoc)
+
+-- ---- the columns' lines, written in a loop
+
+pub tick_more : (a : Layout) (every bottom i count : ℕ) (all mid new : List ℕ) → i < count → new ≡ mid ++ tick_or_none a every bottom i → mid ++ ticks a every bottom i (count - i) ≡ all → new ++ ticks a every bottom (i + 1) (count - (i + 1)) ≡ all
+tick_more a every bottom i count all mid new lt e h =
+    let rest = ticks a every bottom (i + 1) (count - (i + 1)) in
+    let left : count - i ≡ suc (count - (i + 1)) = omega arith in
+    ap (λ (w : List ℕ). w ++ rest) e ∙ append_assoc mid (tick_or_none a every bottom i) rest ∙ ap (λ (n : ℕ). mid ++ ticks a every bottom i n) (sym left) ∙ h
+
+pub ticks_end : (a : Layout) (every bottom i count : ℕ) (all mid : List ℕ) → count ≤ i → mid ++ ticks a every bottom i (count - i) ≡ all → mid ≡ all
+ticks_end a every bottom i count all mid le h = grind (arith, append-nil)

@@ -109,7 +109,7 @@ fn layout_of<A: Allocator + Copy>(
 }
 
 /// The columns' lines and numbers, a row for each constraint, and the firings.
-#[tactic(auto, using(crate::proofs::Grouped::grouping))]
+#[tactic(auto, using(crate::proofs::Texts::grouping))]
 fn put_plot<A: Allocator + Copy>(
     out: &mut Vec<u8, A>,
     names: &Names<A>,
@@ -126,7 +126,7 @@ fn put_plot<A: Allocator + Copy>(
 }
 
 /// The caption and the legend, below so many rows.
-#[tactic(auto, using(crate::proofs::Grouped::grouping))]
+#[tactic(auto, using(crate::proofs::Texts::grouping))]
 fn put_below<A: Allocator + Copy>(
     out: &mut Vec<u8, A>,
     names: &Names<A>,
@@ -147,7 +147,7 @@ fn put_below<A: Allocator + Copy>(
 }
 
 /// The text of a picture by its layout, with the predicates of its rows.
-#[tactic(auto, using(crate::proofs::Grouped::grouping))]
+#[tactic(auto, using(crate::proofs::Texts::grouping))]
 fn put_laid_out<A: Allocator + Copy>(
     out: &mut Vec<u8, A>,
     names: &Names<A>,

@@ -30,7 +30,7 @@ fn put<C: Allocator>(out: &mut Vec<u8, C>, piece: Words, n: u64) -> Result<(), A
 }
 
 /// The line of a column, with its number.
-#[tactic(auto, using(crate::proofs::Grouped::grouping))]
+#[tactic(auto, using(crate::proofs::Texts::grouping))]
 fn put_tick<C: Allocator>(
     out: &mut Vec<u8, C>,
     layout: &Layout,
@@ -85,7 +85,7 @@ pub fn put_ticks<C: Allocator>(
 }
 
 /// A label with its atom.
-#[tactic(auto, using(crate::proofs::Grouped::grouping))]
+#[tactic(auto, using(crate::proofs::Texts::grouping))]
 pub fn put_label<A: Allocator + Copy, C: Allocator>(
     out: &mut Vec<u8, C>,
     names: &Names<A>,
@@ -127,7 +127,7 @@ fn put_until<C: Allocator>(
 }
 
 /// A constraint's name before its bar, which begins at `from`.
-#[tactic(auto, using(crate::proofs::Grouped::grouping))]
+#[tactic(auto, using(crate::proofs::Texts::grouping))]
 fn put_row_name<A: Allocator + Copy, C: Allocator>(
     out: &mut Vec<u8, C>,
     names: &Names<A>,
@@ -145,7 +145,7 @@ fn put_row_name<A: Allocator + Copy, C: Allocator>(
 }
 
 /// A constraint's bar.
-#[tactic(auto, using(crate::proofs::Grouped::grouping))]
+#[tactic(auto, using(crate::proofs::Texts::grouping))]
 fn put_bar<C: Allocator>(
     out: &mut Vec<u8, C>,
     from: u64,
@@ -164,7 +164,7 @@ fn put_bar<C: Allocator>(
 }
 
 /// The title of a constraint's bar: its label, its atom, and from which entry to which it is there.
-#[tactic(auto, using(crate::proofs::Grouped::grouping))]
+#[tactic(auto, using(crate::proofs::Texts::grouping))]
 fn put_row_title<A: Allocator + Copy, C: Allocator>(
     out: &mut Vec<u8, C>,
     names: &Names<A>,
@@ -182,7 +182,7 @@ fn put_row_title<A: Allocator + Copy, C: Allocator>(
 }
 
 /// A constraint's row: its name and its bar, whose title says what it is.
-#[tactic(auto, using(crate::proofs::Grouped::grouping))]
+#[tactic(auto, using(crate::proofs::Texts::grouping))]
 fn put_row<A: Allocator + Copy, C: Allocator>(
     out: &mut Vec<u8, C>,
     names: &Names<A>,
@@ -221,7 +221,7 @@ pub fn put_rows<A: Allocator + Copy, C: Allocator>(
 }
 
 /// The point of a firing's line in the row of a label.
-#[tactic(auto, using(crate::proofs::Grouped::grouping))]
+#[tactic(auto, using(crate::proofs::Texts::grouping))]
 fn put_point<A: Allocator, C: Allocator>(
     out: &mut Vec<u8, C>,
     rows: &[Row<A>],
@@ -253,7 +253,7 @@ fn put_points<A: Allocator, C: Allocator>(
 }
 
 /// The mark of a firing in the row of a label.
-#[tactic(auto, using(crate::proofs::Grouped::grouping))]
+#[tactic(auto, using(crate::proofs::Texts::grouping))]
 fn put_mark<A: Allocator, C: Allocator>(
     out: &mut Vec<u8, C>,
     rows: &[Row<A>],
@@ -298,7 +298,7 @@ fn put_names<C: Allocator>(out: &mut Vec<u8, C>, labels: &[Label]) -> Result<(),
 }
 
 /// The labels of a firing's heads.
-#[tactic(auto, using(crate::proofs::Grouped::grouping))]
+#[tactic(auto, using(crate::proofs::Texts::grouping))]
 fn put_heads<C: Allocator>(out: &mut Vec<u8, C>, firing: &Firing) -> Result<(), AllocError>
     ensures { OnOk result (out.new.items ≡ out.old.items ++ heads firing.now) }
 {
@@ -309,7 +309,7 @@ fn put_heads<C: Allocator>(out: &mut Vec<u8, C>, firing: &Firing) -> Result<(), 
 }
 
 /// A firing's group as far as its title.
-#[tactic(auto, using(crate::proofs::Grouped::grouping))]
+#[tactic(auto, using(crate::proofs::Texts::grouping))]
 fn put_firing_title<C: Allocator>(
     out: &mut Vec<u8, C>,
     layout: &Layout,
@@ -324,7 +324,7 @@ fn put_firing_title<C: Allocator>(
 }
 
 /// A firing: a line through the rows of its heads, and a mark in each.
-#[tactic(auto, using(crate::proofs::Grouped::grouping))]
+#[tactic(auto, using(crate::proofs::Texts::grouping))]
 fn put_firing<A: Allocator, C: Allocator>(
     out: &mut Vec<u8, C>,
     rows: &[Row<A>],
@@ -360,7 +360,7 @@ pub fn put_firings<A: Allocator, C: Allocator>(
 }
 
 /// What comes before all else.
-#[tactic(auto, using(crate::proofs::Grouped::grouping))]
+#[tactic(auto, using(crate::proofs::Texts::grouping))]
 pub fn put_head<C: Allocator>(
     out: &mut Vec<u8, C>,
     width: u64,
@@ -376,7 +376,7 @@ pub fn put_head<C: Allocator>(
 }
 
 /// Which entries are drawn, of how many.
-#[tactic(auto, using(crate::proofs::Grouped::grouping))]
+#[tactic(auto, using(crate::proofs::Texts::grouping))]
 pub fn put_caption<C: Allocator>(
     out: &mut Vec<u8, C>,
     layout: &Layout,
@@ -394,7 +394,7 @@ pub fn put_caption<C: Allocator>(
 }
 
 /// A mark in the legend, up to where it is.
-#[tactic(auto, using(crate::proofs::Grouped::grouping))]
+#[tactic(auto, using(crate::proofs::Texts::grouping))]
 fn put_key_mark<C: Allocator>(
     out: &mut Vec<u8, C>,
     layout: &Layout,
@@ -410,7 +410,7 @@ fn put_key_mark<C: Allocator>(
 }
 
 /// What a mark stands for.
-#[tactic(auto, using(crate::proofs::Grouped::grouping))]
+#[tactic(auto, using(crate::proofs::Texts::grouping))]
 pub fn put_key<C: Allocator>(
     out: &mut Vec<u8, C>,
     layout: &Layout,
@@ -429,7 +429,7 @@ pub fn put_key<C: Allocator>(
 }
 
 /// A predicate's colour.
-#[tactic(auto, using(crate::proofs::Grouped::grouping))]
+#[tactic(auto, using(crate::proofs::Texts::grouping))]
 fn put_swatch<C: Allocator>(
     out: &mut Vec<u8, C>,
     layout: &Layout,
@@ -447,7 +447,7 @@ fn put_swatch<C: Allocator>(
 }
 
 /// A predicate's name with how many arguments it has.
-#[tactic(auto, using(crate::proofs::Grouped::grouping))]
+#[tactic(auto, using(crate::proofs::Texts::grouping))]
 fn put_legend_text<A: Allocator + Copy, C: Allocator>(
     out: &mut Vec<u8, C>,
     names: &Names<A>,
@@ -466,7 +466,7 @@ fn put_legend_text<A: Allocator + Copy, C: Allocator>(
 }
 
 /// A predicate's line in the legend.
-#[tactic(auto, using(crate::proofs::Grouped::grouping))]
+#[tactic(auto, using(crate::proofs::Texts::grouping))]
 fn put_legend_line<A: Allocator + Copy, C: Allocator>(
     out: &mut Vec<u8, C>,
     names: &Names<A>,

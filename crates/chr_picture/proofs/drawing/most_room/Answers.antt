@@ -1,4 +1,4 @@
-use Rattle.chr_picture.proofs.Rooms.{room_more, room_within}
+use Rattle.chr_picture.proofs.Texts.{room_more, room_within}
 use Rattle.chr_picture.proofs.drawing.most_room.Goals as goal
 
 pub loop-row-preserved : goal.loop-row-preserved

@@ -1,4 +1,4 @@
-use Rattle.chr_picture.proofs.Ticks.{tick_more, ticks_end}
+use Rattle.chr_picture.proofs.Texts.{tick_more, ticks_end}
 use Rattle.chr_picture.proofs.svg.put_ticks.Goals as goal
 
 pub loop-column-preserved : goal.loop-column-preserved
