@@ -1,10 +1,4 @@
-pub mod Prefixes
-pub mod Places
-pub mod Fitting
 pub mod OneOrigin
-pub mod Leaves
-pub mod Bodies
-pub mod Marking
-pub mod Tracing
-pub mod Closure
+pub mod Places
 pub mod Marked
+pub mod Tracing

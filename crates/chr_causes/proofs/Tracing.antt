@@ -13,10 +13,8 @@ use Rattle.chr_causes.specs.declared.origins.Origin.{Origin}
 use Rattle.chr_causes.specs.declared.origins.Maker.{Maker}
 use Rattle.chr_causes.specs.Origins.{IsLawful, tickets_of, Makes, IsOrigin, Gives}
 use Rattle.chr_causes.specs.Makers.{IsNew, HasMade}
-use Rattle.chr_causes.proofs.Prefixes.{sum_more, sum_below}
+use Rattle.chr_causes.proofs.OneOrigin.{sum_more, sum_below, Fits, event_fits, origin_at}
 use Rattle.chr_causes.proofs.Places.{labels_of}
-use Rattle.chr_causes.proofs.Fitting.{Fits, event_fits}
-use Rattle.chr_causes.proofs.OneOrigin.{origin_at}
 
 -- the event at a place
 pub event_read : {Z : Type 0} (events : List (CodeEvent Z)) (i : ℕ) (x : CodeEvent Z) → i < length events → x ≡ get_or events i x → slice_get (events_of events) i ≡ Some (event_of x)
@@ -42,9 +40,7 @@ more_makers rules log place e old new there count made all k m h = by_side (made
     }
 
 pub tickets_more : (rules : List (Simpagation ℕ)) (log : List (Event ℕ)) (place : ℕ) (e : Event ℕ) (old new : List Maker) → slice_get log place ≡ Some e → length old ≡ sum_by (tickets_of rules) (take place log) → HasMade place (tickets_of rules e) old new → length new ≡ sum_by (tickets_of rules) (take (place + 1) log)
-tickets_more rules log place e old new there count made =
-    let more : sum_by (tickets_of rules) (take (suc place) log) ≡ sum_by (tickets_of rules) (take place log) + tickets_of rules e = sum_more (tickets_of rules) log place e there in
-    rw add-one (omega (arith, made.places, count, more))
+tickets_more rules log place e old new there count made = grind (arith, sum_more)
 
 pub labels_more : (log : List (Event ℕ)) (place n : ℕ) (e : Event ℕ) → slice_get log place ≡ Some e → n ≡ sum_by labels_of (take place log) → n + labels_of e ≡ sum_by labels_of (take (place + 1) log)
 labels_more log place n e there count = rw add-one (omega (arith, count, sum_more labels_of log place e there))

@@ -25,6 +25,7 @@ pub fn heads_have_lower_labels()
 {}
 
 /// All heads of a firing are in the store after the events before it.
+#[tactic(auto, using(crate::proofs::OneOrigin::heads_there))]
 pub fn heads_were_there()
     ensures { (v : Version) (rules : List (Simpagation ℕ)) (log : List (Event ℕ)) (last : State)
         → Lawful v (Instances rules) log last

@@ -1,11 +1,11 @@
 use Rattle.std.proofs.Common.{◌+◌, ◌<◌, length, map, refl, sym, ap, subst, ◌∙◌, arith}
+use Rattle.std.proofs.lemmas.Grind.{common_steps}
 use Rattle.std.proofs.lemmas.List.{take_all}
 use Rattle.chr_log.specs.Events.{events_of}
 use Rattle.chr_causes.specs.declared.causes.Cause.{Cause}
 use Rattle.chr_causes.specs.Origins.{IsOrigin}
 use Rattle.chr_causes.specs.Marks.{AreMarks}
-use Rattle.chr_causes.proofs.Closure.{origin_read}
-use Rattle.chr_causes.proofs.Marked.{label_of, marked, AllStand, labels_push, labels_pass, origins_push, marked_all}
+use Rattle.chr_causes.proofs.Marked.{origin_read, label_of, marked, AllStand, labels_push, labels_pass, origins_push, marked_all}
 use Rattle.chr_causes.proofs.causes.causes.Goals as goal
 use Rattle.chr_causes.proofs.causes.causes.Goals.{then-label-eq0-via-then-label-eq0, then-label-eq0-via-else-label-eq0+then-label-len, then-is_cause+in_ok-push, else-is_cause}
 

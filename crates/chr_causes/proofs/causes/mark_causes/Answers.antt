@@ -1,10 +1,11 @@
 use Rattle.std.proofs.Common.{◌≡◌, ◌+◌, ◌-◌, List, Bool, true, false, length, slice_set, slice_index_or, sym, ap, subst, ◌∙◌, arith}
+use Rattle.std.proofs.lemmas.Grind.{common_steps}
 use Rattle.std.proofs.lemmas.List.{take_at, get_or_read}
 use Rattle.chr_log.specs.Events.{event_of, events_of}
 use Rattle.chr_causes.specs.declared.origins.Origin.{Origin}
 use Rattle.chr_causes.specs.Causes.{heads_of}
 use Rattle.chr_causes.specs.Marks.{Adds}
-use Rattle.chr_causes.proofs.Closure.{Traced, traced_first, made_within, heads_fit, heads_traced, traced_passed, traced_all}
+use Rattle.chr_causes.proofs.Marked.{Traced, traced_first, made_within, heads_fit, heads_traced, traced_passed, traced_all}
 use Rattle.chr_causes.proofs.causes.mark_causes.Goals as goal
 
 abbrev no_origin : Origin

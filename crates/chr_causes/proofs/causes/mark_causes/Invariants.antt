@@ -1,5 +1,5 @@
 use Rattle.chr_log.specs.Events.{events_of}
-use Rattle.chr_causes.proofs.Closure.{Traced}
+use Rattle.chr_causes.proofs.Marked.{Traced}
 use Rattle.chr_causes.proofs.causes.mark_causes.Given as goal
 
 abbrev pub invariant-loop-place : goal.invariant-loop-place

@@ -1,7 +1,7 @@
 use Rattle.std.proofs.Common.{ap}
 use Rattle.chr_log.specs.Events.{event_of}
 use Rattle.chr_causes.specs.Causes.{heads_of}
-use Rattle.chr_causes.proofs.Marking.{second_within, both_added}
+use Rattle.chr_causes.proofs.Marked.{second_within, both_added}
 use Rattle.chr_causes.proofs.causes.mark_heads.Goals as goal
 
 pub mark_labels-requires-in-Fire : goal.mark_labels-requires-in-Fire

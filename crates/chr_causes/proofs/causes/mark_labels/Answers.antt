@@ -1,4 +1,4 @@
-use Rattle.chr_causes.proofs.Marking.{mark_more}
+use Rattle.chr_causes.proofs.Marked.{mark_more}
 use Rattle.chr_causes.proofs.causes.mark_labels.Goals as goal
 
 pub loop-label-preserved : goal.loop-label-preserved

@@ -1,4 +1,4 @@
-use Rattle.chr_causes.proofs.Leaves.{leaf_posted}
+use Rattle.chr_causes.proofs.OneOrigin.{leaf_posted}
 use Rattle.chr_causes.proofs.laws.leaves_were_posted.Goals as goal
 
 pub returns : goal.returns
