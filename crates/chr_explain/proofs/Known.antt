@@ -1,19 +1,34 @@
--- The atoms of goals and of labels, event by event.
-use Rattle.std.proofs.Common.{◌≡◌, ◌≢◌, ℕ, zero, suc, ◌+◌, ◌-◌, ◌<◌, ◌≤◌, ◌⊎◌, inl, inr, Bool, true, false, ◌==◌, if◌then◌else◌, List, [], ◌∷◌, ◌++◌, map, length, take, drop, get_or, set, slice_get, Option, Some, None, refl, sym, ◌∙◌, ap, subst, arith, true-eqb, length-append}
+-- Bodies, values and what is looked up, and what is known of a log as it is gone through.
+use Rattle.std.proofs.Common.{◌≡◌, ℕ, List, [], ◌∷◌, ◌++◌, length, map, take, drop, Option, Some, None, Result, Ok, Err, OnOk, refl, sym, ◌∙◌, ap, subst, arith, ◌+◌, ◌<◌, get_or, append_assoc, suc, ◌-◌, ◌≤◌, slice_get, ◌≢◌, zero, ◌⊎◌, inl, inr, Bool, true, false, ◌==◌, if◌then◌else◌, set, true-eqb, length-append}
+use Rattle.std.specs.List.{AllByRecursion, HoldsAt, sum_by}
+use Rattle.chr_value.specs.Atoms.{Value, Atom}
+use Rattle.chr_rule.specs.Rules.{BodyItem, Is, Add, Simpagation, rule_at}
+use Rattle.chr_rule.specs.Scope.{IsRule}
+use Rattle.chr_guard.specs.Values.{Valuation}
+use Rattle.chr_guard.specs.Bindings.{bound_at}
+use Rattle.chr_guard.specs.Instances.{made_under, AreMadeUnder, added, IsInstance, NoInstance, Instance}
+use Rattle.chr_guard.specs.Matching.{IsInstanceUnder}
+use Rattle.chr_log.specs.Events.{Event, Activate, Fire, event_of, events_of, Post, Drop}
+use Rattle.chr_model.proofs.Programs.{program_fixes}
+use Rattle.chr_explain.specs.Atoms.{listed, atoms_of, IsAtomOf, AreAtoms}
+use Rattle.chr_explain.specs.Goals.{body_atoms, AddsBody, AddsGoal, Follows}
+use Rattle.std.proofs.lemmas.List.{drop_more, append-nil, map_push}
+use Rattle.std.specs.Borrow.{Bor}
+use Rattle.chr_limits.specs.Views.{names}
+use Rattle.chr_explain.specs.Lines.{variable_words, values_from, heading_at}
+use Rattle.std.specs.Option.{option_map, MatchOption, IfSome}
+use Rattle.std.proofs.lemmas.Option.{same_Some, slice_get-map, slice_get_read, slice_get_past}
+use Rattle.chr_log.specs.declared.events.Event.{Event as CodeEvent}
+use Rattle.chr_explain.specs.declared.headings.Heading.{Heading as CodeHeading}
+use Rattle.chr_explain.specs.Headings.{Heading, heading_view}
 use Rattle.std.proofs.Math.ListN.{length-set, length-map}
-use Rattle.std.specs.List.{sum_by}
 use Rattle.std.proofs.lemmas.Bool.Decides.{nat_tests}
-use Rattle.chr_value.specs.Atoms.{Atom}
-use Rattle.chr_rule.specs.Rules.{Simpagation}
-use Rattle.chr_guard.specs.Instances.{Instance, IsInstance}
 use Rattle.chr_guard.proofs.Under.{under_length}
-use Rattle.chr_log.specs.Events.{Event, Post, Activate, Fire, Drop}
 use Rattle.chr_log.specs.declared.events.Version.{Version}
 use Rattle.chr_model.specs.Abstract.{Rules}
 use Rattle.chr_model.specs.Stores.{Store, Carry, Labelled, atom_at}
 use Rattle.chr_model.specs.Goals.{Goal, Plain, Numbered, Ended, State, start, goal_at}
 use Rattle.chr_model.specs.Steps.{Simplify, Propagate, Step, Run}
-use Rattle.chr_model.specs.Steps as steps
 use Rattle.chr_model.specs.Logs.{Lawful}
 use Rattle.chr_model.specs.Programs.{Instances}
 use Rattle.chr_model.proofs.Stores.{atom_at-kept}
@@ -24,9 +39,94 @@ use Rattle.chr_model.proofs.Older.{store_below}
 use Rattle.chr_causes.specs.Origins.{IsLawful}
 use Rattle.chr_causes.proofs.Places.{labels_of, run_next}
 use Rattle.chr_causes.proofs.Tracing.{all_given}
-use Rattle.chr_explain.specs.Atoms.{IsAtomOf, AreAtoms, listed, atoms_of}
 use Rattle.chr_explain.proofs.Lists.{get_before, get_last, get_after, get_push, drop_from, take_to}
-use Rattle.chr_explain.specs.Goals.{AddsBody, Follows}
+use Rattle.chr_model.specs.Steps as steps
+
+-- ---- the atoms of bodies
+
+one_made : (o : Option (Atom ℕ)) (a : Atom ℕ) (xs ys : List (Atom ℕ)) → o ≡ Some a → xs ≡ ys → listed o ++ xs ≡ a ∷ ys
+one_made (Some b) a xs ys is rest = (let same : b ≡ a = cc in ap (λ c. c ∷ xs) same ∙ ap (λ zs. a ∷ zs) rest)
+one_made None a xs ys is rest = absurd (cc)
+
+-- they are those of the body of an instance
+made_is : (v : Valuation) (items : List (BodyItem ℕ)) (made : List (Atom ℕ)) → AreMadeUnder v (added items) made → body_atoms v items ≡ made
+made_is v [] [] h = refl
+made_is v (Is x e ∷ items) made h = made_is v items made h
+made_is v (Add s ∷ items) (a ∷ as') h =
+    let first : made_under v s ≡ Some a = cc in
+    let rest : map (made_under v) (added items) ≡ map (λ b. Some b) as' = cc in
+    one_made (made_under v s) a (body_atoms v items) as' first (made_is v items as' rest)
+made_is v items made h = grind arith
+
+same_rule : (rules : List (Simpagation ℕ)) (r : ℕ) (one two : Simpagation ℕ) → rule_at rules r ≡ Some one → rule_at rules r ≡ Some two → one ≡ two
+same_rule rules r one two p q = (let e : Some one ≡ Some two = sym p ∙ q in cc)
+
+pub adds_body : (rules : List (Simpagation ℕ)) (r : ℕ) (rule : Simpagation ℕ) (heads : List (Atom ℕ)) (binding : List (Option (Value ℕ))) (old new : List (Atom ℕ)) → AllByRecursion IsRule rules → rule_at rules r ≡ Some rule → IsInstanceUnder rule heads binding → new ≡ old ++ body_atoms (bound_at binding) rule.body → AddsBody rules r heads old new
+adds_body rules r rule heads binding old new valid at under is = λ other body there instance.
+    let same : other ≡ rule = same_rule rules r other rule there at in
+    let here : IsInstance rule heads body = subst (λ x. IsInstance x heads body) same instance in
+    let fixed : under.body ≡ body = program_fixes rules valid r (take (length rule.kept) heads) (drop (length rule.kept) heads) under.body body (rule, at, under.instance) (rule, at, here) in
+    is ∙ ap (λ (xs : List (Atom ℕ)). old ++ xs) (made_is (bound_at binding) rule.body under.body under.body_is ∙ fixed)
+
+pub adds_none : (rules : List (Simpagation ℕ)) (r : ℕ) (rule : Simpagation ℕ) (heads old new : List (Atom ℕ)) → rule_at rules r ≡ Some rule → NoInstance rule heads → AddsBody rules r heads old new
+adds_none rules r rule heads old new at none = λ other body there instance.
+    absurd (none body (subst (λ x. IsInstance x heads body) (same_rule rules r other rule there at) instance))
+
+pub fire_follows : (rules : List (Simpagation ℕ)) (e : Event ℕ) (t r : ℕ) (kept removed : List ℕ) (heads goals atoms new : List (Atom ℕ)) → e ≡ Fire t r kept removed → heads ≡ atoms_of atoms kept ++ atoms_of atoms removed → AddsBody rules r heads goals new → Follows rules e goals atoms new atoms
+fire_follows rules e t r kept removed heads goals atoms new is are adds =
+    subst (λ x. Follows rules x goals atoms new atoms) (sym is) (subst (λ hs. AddsBody rules r hs goals new) are adds, refl)
+
+pub activate_follows : (rules : List (Simpagation ℕ)) (e : Event ℕ) (t l : ℕ) (goals seen atoms more : List (Atom ℕ)) → e ≡ Activate t l → seen ≡ goals → AddsGoal t seen atoms more → Follows rules e goals atoms goals more
+activate_follows rules e t l goals seen atoms more is same adds =
+    subst (λ x. Follows rules x goals atoms goals more) (sym is) (refl, subst (λ gs. AddsGoal t gs atoms more) same adds)
+
+-- what follows after an Ok
+pub on_ok : {X E : Type 0} (result : Result X E) (P Q : Type 0) → (P → Q) → OnOk result P → OnOk result Q
+on_ok (Ok x) P Q f h = f h
+on_ok (Err e) P Q f h = tt
+
+pub on_ok_from : {X E P Q : Type 0} (result : Result X E) → OnOk result P → (P → Q) → OnOk result Q
+on_ok_from (Ok x) h f = f h
+on_ok_from (Err e) h f = tt
+
+-- ---- the values of variables, one after another
+
+-- ---- what is looked up by its place
+
+-- what `get` gives
+pub looked : {X : Type 0} (xs : List X) (k : ℕ) (o : Option (Bor X)) → IfSome o (λ x. x.now ≡ get_or xs k x.now) → MatchOption o (length xs ≤ k) (λ x. (k < length xs) × HoldsAt (λ y. x.now ≡ y) xs k) → option_map (λ (x : Bor X). x.now) o ≡ slice_get xs k
+looked xs k (Some x) is at = sym (slice_get_read xs (length xs) k x.now refl at.0 is)
+looked xs k None is past = sym (slice_get_past xs k past)
+
+-- the atom of a head is added if it is known
+pub map_pushed : {X : Type 0} (x : Bor X) (old new : List (Bor X)) → new ≡ old ++ x ∷ [] → map (λ (x : Bor X). x.now) new ≡ map (λ (x : Bor X). x.now) old ++ x.now ∷ []
+map_pushed {X = X} x old new e = ap (map (λ (x : Bor X). x.now)) e ∙ map_push (λ (x : Bor X). x.now) old x
+
+pub head_listed : (atoms : List (Atom ℕ)) (k : ℕ) (a : Atom ℕ) (old new : List (Atom ℕ)) → slice_get atoms k ≡ Some a → new ≡ old ++ a ∷ [] → new ≡ old ++ listed (slice_get atoms k)
+head_listed atoms k a old new at e = e ∙ ap (λ o. old ++ listed o) (sym at)
+
+pub head_unknown : (atoms : List (Atom ℕ)) (k : ℕ) (old : List (Atom ℕ)) → slice_get atoms k ≡ None → old ≡ old ++ listed (slice_get atoms k)
+head_unknown atoms k old at = sym (append-nil old) ∙ ap (λ o. old ++ listed o) (sym at)
+
+twice : {A B C : Type 0} (g : B → C) (f : A → B) (o : Option A) → option_map (λ (x : A). g (f x)) o ≡ option_map g (option_map f o)
+twice g f (Some x) = refl
+twice g f None = refl
+
+pub event_looked : {Z : Type 0} (events : List (CodeEvent Z)) (place : ℕ) (o : Option (Bor (CodeEvent Z))) → option_map (λ (e : Bor (CodeEvent Z)). e.now) o ≡ slice_get events place → option_map (λ (e : Bor (CodeEvent Z)). event_of e.now) o ≡ slice_get (events_of events) place
+event_looked {Z = Z} events place o h = twice event_of (λ (e : Bor (CodeEvent Z)). e.now) o ∙ ap (option_map event_of) h ∙ sym (slice_get-map event_of events place)
+
+at_suc : (hs : List Heading) (r k : ℕ) → r ≡ suc k → heading_at hs r ≡ slice_get hs k
+at_suc hs r k is = ap (heading_at hs) is
+
+pub heading_looked : (hs : List CodeHeading) (r : ℕ) (o : Option (Bor CodeHeading)) → 0 < r → option_map (λ (h : Bor CodeHeading). h.now) o ≡ slice_get hs (r - 1) → option_map (λ (h : Bor CodeHeading). heading_view h.now) o ≡ heading_at (map heading_view hs) r
+heading_looked hs r o some h =
+    twice heading_view (λ (h : Bor CodeHeading). h.now) o ∙ ap (option_map heading_view) h ∙ sym (slice_get-map heading_view hs (r - 1)) ∙ sym (at_suc (map heading_view hs) r (r - 1) (omega (arith, some)))
+
+-- the atom of a ticket's goal, where it is known
+pub goal_given : (goals : List (Atom ℕ)) (k : ℕ) (x atom : Atom ℕ) (old new : List (Atom ℕ)) → slice_get goals k ≡ Some x → slice_get goals k ≡ Some atom → new ≡ old ++ x ∷ [] → new ≡ old ++ atom ∷ []
+goal_given goals k x atom old new at there pushed = let same : x ≡ atom = same_Some x atom (sym at ∙ there) in pushed ∙ ap (λ (a : Atom ℕ). old ++ a ∷ []) same
+
+-- ---- the atoms of goals and of labels, event by event
 
 -- what the lists say of a state: the atoms of its plain goals, and those of its store
 pub record Says (s : State) (goals atoms : List (Atom ℕ)) : Type 0 where
@@ -113,20 +213,17 @@ heads_first None a as' bs is rest = absurd (cc)
 pub carried : (s : State) (goals atoms : List (Atom ℕ)) (ls : List ℕ) (as' : List (Atom ℕ)) → Says s goals atoms → Carry s.store ls as' → atoms_of atoms ls ≡ as'
 carried s goals atoms [] [] says c = refl
 carried s goals atoms (l ∷ ls) (a ∷ as') says c = heads_first (slice_get atoms (l - 1)) a (atoms_of atoms ls) as' (says.stored l a c.0) (carried s goals atoms ls as' says c.1)
-carried s goals atoms [] (a ∷ as') says c = absurd c
-carried s goals atoms (l ∷ ls) [] says c = absurd c
+carried s goals atoms ls as' says c = grind arith
 
 take_front : (xs ys : List (Atom ℕ)) (n : ℕ) → length xs ≡ n → take n (xs ++ ys) ≡ xs
 take_front [] ys zero len = refl
-take_front [] ys (suc n) len = absurd (cc)
-take_front (x ∷ xs) ys zero len = absurd (cc)
 take_front (x ∷ xs) ys (suc n) len = ap (λ zs. x ∷ zs) (take_front xs ys n (omega arith))
+take_front xs ys n len = grind arith
 
 drop_front : (xs ys : List (Atom ℕ)) (n : ℕ) → length xs ≡ n → drop n (xs ++ ys) ≡ ys
 drop_front [] ys zero len = refl
-drop_front [] ys (suc n) len = absurd (cc)
-drop_front (x ∷ xs) ys zero len = absurd (cc)
 drop_front (x ∷ xs) ys (suc n) len = drop_front xs ys n (omega arith)
+drop_front xs ys n len = grind arith
 
 -- the heads' atoms are those of an instance over the store
 pub heads_instance : (rules : List (Simpagation ℕ)) (s : State) (goals atoms : List (Atom ℕ)) (r : ℕ) (kept removed : List ℕ) (body : List (Atom ℕ)) → Says s goals atoms → (i : Labelled (Instances rules) s.store r kept removed body)

@@ -1,10 +1,4 @@
 pub mod Grouped
 pub mod Lists
-pub mod Bodies
 pub mod Known
-pub mod Removed
-pub mod Told
-pub mod Values
-pub mod Explained
-pub mod Looked
 pub mod ExplainedTexts

@@ -1,9 +1,9 @@
-use Rattle.std.proofs.Common.{◌≡◌, ◌++◌, ◌∙◌, ℕ, List, codes, slice_get, ap}
+use Rattle.std.proofs.Common.{◌≡◌, ◌++◌, ◌∙◌, ℕ, List, codes, slice_get, ap, arith}
 use Rattle.std.specs.Fmt.{decimal}
 use Rattle.chr_explain.specs.Reasons.{reason_of}
 use Rattle.chr_explain.specs.Lines.{recorded_view, cause_line}
 use Rattle.chr_explain.specs.Graphs.{quoted, arrows}
-use Rattle.chr_explain.proofs.Bodies.{on_ok_from}
+use Rattle.chr_explain.proofs.Known.{on_ok_from}
 use Rattle.chr_explain.proofs.Lists.{after_two}
 use Rattle.chr_explain.proofs.dot.put_node.Goals as goal
 

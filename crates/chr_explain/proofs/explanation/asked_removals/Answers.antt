@@ -1,8 +1,7 @@
-use Rattle.std.proofs.Common.{length}
+use Rattle.std.proofs.Common.{length, arith}
 use Rattle.chr_log.specs.Events.{events_of}
 use Rattle.chr_explain.specs.Reasons.{AreRemovals, HasRemovals}
-use Rattle.chr_explain.proofs.Told.{if_ok}
-use Rattle.chr_explain.proofs.Explained.{asked}
+use Rattle.chr_explain.proofs.ExplainedTexts.{if_ok, asked}
 use Rattle.chr_explain.proofs.explanation.asked_removals.Goals as goal
 
 pub returns-then-gone : goal.returns-then-gone

@@ -1,4 +1,4 @@
-use Rattle.std.proofs.Common.{rules, ◌∙◌, ℕ, zero, List, Option, map, sym, ap, subst}
+use Rattle.std.proofs.Common.{rules, ◌∙◌, ℕ, zero, List, Option, map, sym, ap, subst, arith}
 use Rattle.std.specs.List.{AllByRecursion, flat_map}
 use Rattle.chr_value.specs.Atoms.{Atom}
 use Rattle.chr_lex.specs.Items.{items}
@@ -6,7 +6,7 @@ use Rattle.chr_log.specs.Events.{events_of}
 use Rattle.chr_causes.specs.declared.causes.Cause.{Cause}
 use Rattle.chr_explain.specs.Headings.{heading_view, item_heading, headings_of}
 use Rattle.chr_explain.specs.Reasons.{reason_of, HasRemovals, IsReason}
-use Rattle.chr_explain.proofs.Explained.{explained}
+use Rattle.chr_explain.proofs.ExplainedTexts.{explained}
 use Rattle.chr_causes.specs.Origins.{IsOrigin}
 use Rattle.chr_explain.specs.Atoms.{AreAtoms}
 use Rattle.chr_explain.proofs.explanation.explanation.Goals as goal

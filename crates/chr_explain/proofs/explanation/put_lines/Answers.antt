@@ -1,4 +1,4 @@
-use Rattle.std.proofs.Common.{◌∙◌, ap, sym, List, [], ◌∷◌, ℕ, ◌++◌, append_assoc}
+use Rattle.std.proofs.Common.{◌∙◌, ap, sym, List, [], ◌∷◌, ℕ, ◌++◌, append_assoc, arith}
 use Rattle.std.proofs.lemmas.List.Folds.{flat_map-map}
 use Rattle.chr_explain.specs.Reasons.{Reason, reason_of}
 use Rattle.chr_explain.specs.Lines.{recorded_view, cause_line}

@@ -1,7 +1,7 @@
 use Rattle.std.proofs.Common.{refl, arith, ◌∙◌, le_of_lt}
 use Rattle.chr_log.specs.Events.{event_of, events_of}
 use Rattle.chr_causes.proofs.Tracing.{event_read}
-use Rattle.chr_explain.proofs.Told.{label_from_one, label_within, entry_within, causes_more, reasons_more}
+use Rattle.chr_explain.proofs.ExplainedTexts.{label_from_one, label_within, entry_within, causes_more, reasons_more}
 use Rattle.std.proofs.lemmas.List.{take_all}
 use Rattle.chr_explain.proofs.reasons.reasons.Goals as goal
 

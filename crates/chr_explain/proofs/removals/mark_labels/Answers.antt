@@ -1,5 +1,5 @@
 use Rattle.std.proofs.Common.{inl, inr, arith}
-use Rattle.chr_explain.proofs.Removed.{mark_more}
+use Rattle.chr_explain.proofs.Lists.{mark_more}
 use Rattle.chr_explain.proofs.removals.mark_labels.Goals as goal
 use Rattle.chr_explain.proofs.removals.mark_labels.Goals.{then-label-gt0+then-label-list, else-label-gt0, else-label-gt0-via-then-label-gt0+else-label-list, else-label-gt0-via-else-label-gt0}
 

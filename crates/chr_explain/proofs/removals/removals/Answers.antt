@@ -1,9 +1,9 @@
-use Rattle.std.proofs.Common.{List, Option, ℕ, sym, subst, ◌∙◌, ◌+◌, ◌≡◌, None, le_of_eq, le_trans, replicate, rules}
+use Rattle.std.proofs.Common.{List, Option, ℕ, sym, subst, ◌∙◌, ◌+◌, ◌≡◌, None, le_of_eq, le_trans, replicate, rules, arith}
 use Rattle.chr_log.specs.Events.{event_of, events_of, Event}
 use Rattle.chr_causes.proofs.Tracing.{event_read}
 use Rattle.chr_explain.specs.Reasons.{removed_of, AreRemovals, Marks}
 use Rattle.std.proofs.Common.{take}
-use Rattle.chr_explain.proofs.Removed.{removals_more, kept_back, none_removed}
+use Rattle.chr_explain.proofs.Lists.{removals_more, kept_back, none_removed}
 use Rattle.std.proofs.lemmas.List.{take_all, length-map}
 use Rattle.chr_explain.proofs.removals.removals.Goals as goal
 

@@ -1,4 +1,4 @@
-use Rattle.std.proofs.Common.{Vec, List, ℕ, Err, sym, subst}
+use Rattle.std.proofs.Common.{Vec, List, ℕ, Err, sym, subst, arith}
 use Rattle.chr_log.specs.declared.events.Event.{Event}
 use Rattle.chr_log.specs.Events.{events_of}
 use Rattle.chr_explain.specs.declared.text.ExplainFault.{ExplainFault}

@@ -1,4 +1,4 @@
-use Rattle.chr_explain.proofs.Looked.{looked, event_looked}
+use Rattle.chr_explain.proofs.Known.{looked, event_looked}
 use Rattle.chr_explain.proofs.writing.event_at.Goals as goal
 
 pub returns : goal.returns

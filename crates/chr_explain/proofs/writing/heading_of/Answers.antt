@@ -2,7 +2,7 @@ use Rattle.std.proofs.Common.{◌≡◌, ◌-◌, slice_get, subst, arith}
 use Rattle.std.specs.Borrow.{Bor}
 use Rattle.std.specs.Option.{option_map}
 use Rattle.chr_explain.specs.declared.headings.Heading.{Heading as CodeHeading}
-use Rattle.chr_explain.proofs.Looked.{looked, heading_looked}
+use Rattle.chr_explain.proofs.Known.{looked, heading_looked}
 use Rattle.chr_explain.proofs.writing.heading_of.Goals as goal
 
 pub returns : goal.returns

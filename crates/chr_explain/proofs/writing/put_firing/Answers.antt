@@ -1,10 +1,10 @@
-use Rattle.std.proofs.Common.{◌++◌, ◌∙◌, Option, map, codes, ap}
+use Rattle.std.proofs.Common.{◌++◌, ◌∙◌, Option, map, codes, ap, arith}
 use Rattle.std.specs.Borrow.{Bor}
 use Rattle.std.specs.Option.{option_map}
 use Rattle.chr_guard.specs.declared.binding.Binding.{Binding}
 use Rattle.chr_explain.specs.Headings.{Heading, heading_view}
 use Rattle.chr_explain.specs.Lines.{rule_words, entry_words, all_heads_words, values_words, heading_at}
-use Rattle.chr_explain.proofs.Bodies.{on_ok_from}
+use Rattle.chr_explain.proofs.Known.{on_ok_from}
 use Rattle.chr_explain.proofs.Lists.{after_two}
 use Rattle.chr_explain.proofs.writing.put_firing.Goals as goal
 

@@ -1,7 +1,7 @@
-use Rattle.std.proofs.Common.{◌++◌, ◌∙◌, ℕ, Option, codes, slice_get, sym, ap}
+use Rattle.std.proofs.Common.{◌++◌, ◌∙◌, ℕ, Option, codes, slice_get, sym, ap, arith}
 use Rattle.chr_explain.specs.Lines.{recorded_view, entry_words, by_words, removal_words}
 use Rattle.chr_log.specs.Events.{events_of}
-use Rattle.chr_explain.proofs.Bodies.{on_ok_from}
+use Rattle.chr_explain.proofs.Known.{on_ok_from}
 use Rattle.chr_explain.proofs.Lists.{after_two}
 use Rattle.chr_explain.proofs.writing.put_removal.Goals as goal
 
