@@ -1,5 +1,5 @@
 -- Sums over the first elements of a list.
-use Rattle.std.proofs.Common.{◌≡◌, ℕ, zero, suc, ◌+◌, ◌<◌, ◌≤◌, List, [], ◌∷◌, take, slice_get, Some, arith, ◌⊎◌, inl, inr, true, ◌++◌, length, refl, sym, ◌∙◌, ap, ap₂, subst, ◌≢◌}
+use Rattle.std.proofs.Common.{◌≡◌, ℕ, zero, suc, ◌+◌, ◌<◌, ◌≤◌, List, [], ◌∷◌, take, slice_get, Some, arith, ◌⊎◌, inl, inr, true, ◌++◌, refl, sym, ◌∙◌, ap, ap₂, subst, ◌≢◌}
 use Rattle.std.specs.List.{sum_by}
 use Rattle.std.proofs.lemmas.List.Sums.{sum_by-cons}
 use Rattle.chr_value.specs.Atoms.{Atom}

@@ -1,5 +1,4 @@
 use Rattle.std.proofs.Common.{◌≡◌, ◌+◌, ◌-◌, List, Bool, true, false, length, slice_set, slice_index_or, sym, ap, subst, ◌∙◌, arith}
-use Rattle.std.proofs.lemmas.Grind.{common_steps}
 use Rattle.std.proofs.lemmas.List.{take_at, get_or_read}
 use Rattle.chr_log.specs.Events.{event_of, events_of}
 use Rattle.chr_causes.specs.declared.origins.Origin.{Origin}
