@@ -12,6 +12,7 @@ ghost use Rattle.chr_lex.specs.Cutting.{Items, HasItems};
 ghost use Rattle.chr_lex.specs.Tokens.{Lexeme, token_at, tokens_from};
 ghost use Rattle.chr_lex.specs.Lexing.{Spells, Longest, Tokens};
 
+#[tactic(auto, using(std::proofs::lemmas::Bool::Decides::nat_tests))]
 /// No byte of a text is taken for a comment: what may be outside of comments stays as it is, and all else is BAD.
 pub fn marks_are_no_text()
     ensures text { (b : ℕ) → is_text b ≡ true → as_text b ≡ b }
@@ -21,6 +22,7 @@ pub fn marks_are_no_text()
     ensures unclosed { (b : ℕ) → as_text b ≡ UNCLOSED → ⊥ }
 {}
 
+#[tactic(auto, using(crate::proofs::Replaced::is_plain, crate::proofs::Replaced::are_plain))]
 /// The text without its comments is that of the grammar.
 pub fn comments_by_their_forms()
     ensures found { (bs out : List ℕ) → plain_of bs ≡ out → Plain bs out }
@@ -28,6 +30,7 @@ pub fn comments_by_their_forms()
     ensures one { (bs out other : List ℕ) → Plain bs out → Plain bs other → out ≡ other }
 {}
 
+#[tactic(auto, using(crate::proofs::Cutting::are_items, crate::proofs::Cutting::are_read))]
 /// The items that are read are those of the grammar, with their lines.
 pub fn items_by_their_forms()
     ensures found { (line : ℕ) (bs : List ℕ) (es : List Item) → items zero line bs ≡ es → Items line bs es }
@@ -35,6 +38,7 @@ pub fn items_by_their_forms()
     ensures one { (line : ℕ) (bs : List ℕ) (es fs : List Item) → Items line bs es → Items line bs fs → es ≡ fs }
 {}
 
+#[tactic(auto, using(crate::proofs::Cutting::has_items, crate::proofs::Replaced::are_plain, crate::proofs::Cutting::are_read))]
 /// The items that are read of a text, comments and all, are those of the grammar.
 pub fn texts_by_their_forms()
     ensures found { (bs : List ℕ) (es : List Item) → items_of bs ≡ es → HasItems bs es }
@@ -49,6 +53,7 @@ pub fn the_longest_token()
     ensures none { (op : Bool) (w rest : List ℕ) (t : Lexeme) → token_at op (w ++ rest) ≡ None → Spells op t w → ⊥ }
 {}
 
+#[tactic(auto, using(crate::proofs::Lexing::are_tokens, crate::proofs::Lexing::are_read, crate::proofs::Lexing::refused))]
 /// The tokens that are read are those of the grammar, and the fault is a fault of syntax where there are none.
 pub fn tokens_by_their_forms()
     ensures found { (op : Bool) (bs : List ℕ) (ts : List Lexeme) → tokens_from zero op bs ≡ Ok ts → Tokens op bs ts }

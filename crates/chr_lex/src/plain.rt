@@ -68,6 +68,7 @@ fn put_line_ends<A: Allocator>(out: &mut Vec<u8, A>, comment: &[u8]) -> Result<(
     Ok(())
 }
 
+#[tactic(auto, using(crate::proofs::Replaced::line_same))]
 /// Writes what a byte, or the comment that begins with it, stands for. The result is how many bytes of the comment follow.
 fn put<A: Allocator>(out: &mut Vec<u8, A>, first: u8, after: &[u8]) -> Result<usize, AllocError>
     ensures same { IfOk result (λ n. out.new.items ++ plain_of (drop n after.now) ≡ out.old.items ++ plain_of (first ∷ after.now)) }

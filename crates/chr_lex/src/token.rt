@@ -46,7 +46,7 @@ fn is_name_byte(b: u8) -> bool
     b.is_ascii_lowercase() || b.is_ascii_uppercase() || b.is_ascii_digit() || b == b'_'
 }
 
-#[tactic(auto, using(crate::proofs::TokenLaws::take_all_passing))]
+#[tactic(auto, using(crate::proofs::Lexing::take_all_passing))]
 /// The bytes at the front that may be in a name.
 fn word_at(text: &[u8]) -> &[u8]
     ensures { result.now ≡ take_while is_name_byte text.now }
@@ -60,7 +60,7 @@ fn word_len(text: &[u8]) -> usize
     text.iter().take_while(|b| is_name_byte(**b)).count()
 }
 
-#[tactic(auto, using(crate::proofs::TokenLaws::take_all_passing))]
+#[tactic(auto, using(crate::proofs::Lexing::take_all_passing))]
 /// The digits at the front.
 fn digits(text: &[u8]) -> &[u8]
     ensures { result.now ≡ take_while is_ascii_digit text.now }

@@ -1,5 +1,5 @@
 use Rattle.std.proofs.Common.{◌-◌, length, arith, ◌∙◌, refl}
-use Rattle.chr_lex.proofs.Items.{item_last, item_inner}
+use Rattle.chr_lex.proofs.Cutting.{item_last, item_inner}
 use Rattle.chr_lex.proofs.item.item_at.Goals as goal
 
 pub returns-in-empty-clause-same : goal.returns-in-empty-clause-same

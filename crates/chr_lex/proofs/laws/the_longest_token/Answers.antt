@@ -1,4 +1,4 @@
-use Rattle.chr_lex.proofs.Longest.{read_longest, longest_read, none_spelled}
+use Rattle.chr_lex.proofs.Lexing.{read_longest, longest_read, none_spelled}
 use Rattle.chr_lex.proofs.laws.the_longest_token.Goals as goal
 
 pub returns : goal.returns

@@ -1,7 +1,7 @@
 use Rattle.std.proofs.Common.{◌≡◌, ◌≤◌, ◌+◌, ◌-◌, ◌++◌, ◌∷◌, [], ℕ, List, true, length, take, drop, ap, ◌∙◌, arith}
 use Rattle.chr_lex.specs.Plain.{closes, before_close, line_ends}
-use Rattle.chr_lex.proofs.Comments.{block_written}
-use Rattle.chr_lex.proofs.TokenLaws.{rest_of}
+use Rattle.chr_lex.proofs.Replaced.{block_written}
+use Rattle.chr_lex.proofs.Lexing.{rest_of}
 use Rattle.chr_lex.proofs.plain.put_block.Goals as goal
 
 pub returns-in_ok-put_line_ends-in-Some : goal.returns-in_ok-put_line_ends-in-Some

@@ -1,4 +1,4 @@
-use Rattle.chr_lex.proofs.Longest.{fits_seen}
+use Rattle.chr_lex.proofs.Lexing.{fits_seen}
 use Rattle.chr_lex.proofs.token.token_at.Goals as goal
 
 pub returns-clause-fits : goal.returns-clause-fits

@@ -2,7 +2,7 @@ use Rattle.std.proofs.Common.{◌≡◌, ◌<◌, ◌++◌, ◌∷◌, [], zero,
 use Rattle.std.specs.Prelude.{Some}
 use Rattle.std.proofs.lemmas.List.{map_push}
 use Rattle.chr_lex.specs.Tokens.{lexeme, is_operand, token_at, tokens_from, tokens_of}
-use Rattle.chr_lex.proofs.TokenLaws.{with_front, goes_on, rest_of}
+use Rattle.chr_lex.proofs.Lexing.{with_front, goes_on, rest_of}
 use Rattle.chr_lex.proofs.token.tokens.Goals as goal
 
 pub loop-rest-preserved : goal.loop-rest-preserved

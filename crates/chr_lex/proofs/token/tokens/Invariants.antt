@@ -1,7 +1,7 @@
 use Rattle.std.proofs.Common.{◌≡◌, zero, length, map}
 use Rattle.chr_lex.specs.Items.{BeginsItem}
 use Rattle.chr_lex.specs.Tokens.{lexeme, tokens_from, tokens_of}
-use Rattle.chr_lex.proofs.TokenLaws.{with_front}
+use Rattle.chr_lex.proofs.Lexing.{with_front}
 use Rattle.chr_lex.proofs.token.tokens.Given as goal
 
 abbrev pub invariant-loop-rest : goal.invariant-loop-rest
