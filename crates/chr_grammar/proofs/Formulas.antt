@@ -6,15 +6,14 @@ use Rattle.chr_lex.specs.declared.mark.Mark.TheVariants as mark
 use Rattle.chr_lex.specs.declared.mark.Mark.TheVariants.{Open, Close}
 use Rattle.chr_lex.specs.Reading.{◌>>=◌}
 use Rattle.chr_lex.specs.Tokens as word
-use Rattle.chr_lex.specs.Tokens.{Word, Lexeme, OfWord, OfMark}
+use Rattle.chr_lex.specs.Tokens.{Lexeme, OfWord, OfMark}
 use Rattle.chr_rule.specs.declared.expression.Operator.{Operator}
 use Rattle.chr_rule.specs.declared.expression.Operator.TheVariants as operator
 use Rattle.chr_grammar.specs.declared.expression.TheConstants.{MOST_DEPTH}
 use Rattle.chr_grammar.specs.Parsed.{ParsedExpression, Group, Operation}
-use Rattle.chr_grammar.specs.Parsing.{Front, is_open, is_close, sum_operator, product_operator, enclosed, fits, factor_at, chain_at, level_at, product_at, sum_at, expression_at}
+use Rattle.chr_grammar.specs.Parsing.{Front, is_mark, sum_operator, product_operator, enclosed, fits, factor_at, chain_at, level_at, product_at, sum_at, expression_at}
 use Rattle.chr_grammar.specs.Spelling.{operator_sign, formula_spelled, binds, holds, depth, IsGrouped, IsExpression, EndsExpression}
-use Rattle.chr_grammar.proofs.Fronts.{IfRead, then_read, either_both, FrontRead}
-use Rattle.chr_grammar.proofs.Signs.{open_is, close_is}
+use Rattle.chr_grammar.proofs.Fronts.{IfRead, then_read, either_both, FrontRead, mark_is}
 use Rattle.chr_lex.specs.declared.fault.Kind.{Kind}
 use Rattle.chr_lex.specs.declared.fault.Kind.TheVariants.{Syntax}
 
@@ -28,9 +27,9 @@ FormulaRead k ts = IfRead (λ (x : ParsedExpression × List Lexeme). Taken k ts 
 closed_found : (ts : List Lexeme) (f : ParsedExpression) (r : List Lexeme) → Taken 1 ts f r → FormulaRead 3 (OfMark Open ∷ ts) (enclosed (Group f) r)
 closed_found ts f [] h = refl
 closed_found ts f (s ∷ r) h =
-    cond_both (is_close s) _ _ (FormulaRead 3 (OfMark Open ∷ ts))
+    cond_both (is_mark Close s) _ _ (FormulaRead 3 (OfMark Open ∷ ts))
     (λ c.
-    let at : ts ≡ formula_spelled f ++ (OfMark Close ∷ r) = h.2 ∙ ap (λ (s : Lexeme). formula_spelled f ++ (s ∷ r)) (close_is s c) in
+    let at : ts ≡ formula_spelled f ++ (OfMark Close ∷ r) = h.2 ∙ ap (λ (s : Lexeme). formula_spelled f ++ (s ∷ r)) (mark_is Close s c) in
     (h.0, omega arith, ap (λ (x : List Lexeme). OfMark Open ∷ x) (at ∙ sym (append_assoc (formula_spelled f) (OfMark Close ∷ []) r))))
     (λ c. refl)
 
@@ -38,8 +37,8 @@ factor_found : (inner : List Lexeme → Front ParsedExpression) → ((ts : List 
 factor_found inner h (OfWord (word.Variable x) ∷ ts) = (tt, omega arith, refl)
 factor_found inner h (OfWord (word.Number negative digits) ∷ ts) = (tt, omega arith, refl)
 factor_found inner h (OfMark m ∷ ts) =
-    cond_both (is_open (OfMark m)) _ _ (FormulaRead 3 (OfMark m ∷ ts))
-    (λ o. subst (λ (s : Lexeme). FormulaRead 3 (s ∷ ts) (inner ts >>= λ x. enclosed (Group x.0) x.1)) (sym (open_is (OfMark m) o)) (then_read _ _ (inner ts) _ (h ts) (λ x k. closed_found ts x.0 x.1 k)))
+    cond_both (is_mark Open (OfMark m)) _ _ (FormulaRead 3 (OfMark m ∷ ts))
+    (λ o. subst (λ (s : Lexeme). FormulaRead 3 (s ∷ ts) (inner ts >>= λ x. enclosed (Group x.0) x.1)) (sym (mark_is Open (OfMark m) o)) (then_read _ _ (inner ts) _ (h ts) (λ x k. closed_found ts x.0 x.1 k)))
     (λ o. refl)
 factor_found inner h _ = refl
 

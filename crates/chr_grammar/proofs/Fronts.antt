@@ -1,5 +1,13 @@
--- What is read at the front is well formed and stands there; what is read by commas is spelled so.
-use Rattle.std.proofs.Common.{◌≡◌, ◌≤◌, ◌<◌, ℕ, zero, suc, List, [], ◌∷◌, ◌++◌, length, drop, refl, sym, ap, subst, ◌∙◌, arith, Option, Some, None, Result, Ok, Err, append_assoc, length-append}
+-- Which token a sign is, where tokens are cut, and what is read at the front or by commas: it is well formed and spelled so, and the other way round.
+use Rattle.std.proofs.Common.{◌≡◌, ℕ, List, true, refl, ap, Some, Bool, false, if◌then◌else◌, [], ◌∷◌, ◌++◌, ◌∙◌, ◌≤◌, ◌<◌, zero, suc, length, drop, sym, subst, arith, Option, None, Result, Ok, Err, append_assoc, length-append}
+use Rattle.std.proofs.lemmas.Slice.Eq.{bytes_eq-Decides}
+use Rattle.chr_lex.specs.declared.mark.Mark.{Mark}
+use Rattle.chr_lex.specs.Marks.{spelling}
+use Rattle.chr_lex.proofs.Lexing.{one_mark}
+use Rattle.chr_lex.specs.Tokens as word
+use Rattle.chr_lex.specs.Tokens.{Lexeme, OfWord, OfMark}
+use Rattle.chr_grammar.specs.Parsing.{is_mark, named, is_named, before, from_first, Front, either, NoComma, behind, members_at, several_at, alone, each_by_commas}
+use Rattle.chr_grammar.specs.Spelling.{a_name, by_commas, AreByCommas}
 use Rattle.std.specs.List.{AllByRecursion}
 use Rattle.std.proofs.lemmas.Bool.{cond_both}
 use Rattle.std.proofs.lemmas.List.{append-nil}
@@ -7,11 +15,40 @@ use Rattle.chr_lex.specs.declared.fault.Kind.{Kind}
 use Rattle.chr_lex.specs.declared.fault.Kind.TheVariants.{Syntax}
 use Rattle.chr_lex.specs.declared.mark.Mark.TheVariants.{Comma}
 use Rattle.chr_lex.specs.Reading.{◌>>=◌}
-use Rattle.chr_lex.specs.Tokens.{Lexeme, OfMark}
-use Rattle.chr_grammar.specs.Parsing.{Front, either, is_comma, NoComma, behind, members_at, several_at, alone, each_by_commas}
-use Rattle.chr_grammar.specs.Spelling.{by_commas, AreByCommas}
 use Rattle.chr_grammar.proofs.Lists.{behind_last}
-use Rattle.chr_grammar.proofs.Signs.{comma_is}
+
+pub mark_is : (m : Mark) (s : Lexeme) → is_mark m s ≡ true → s ≡ OfMark m
+mark_is m (OfMark n) h = ap (λ (k : Mark). OfMark k) (one_mark n m ((bytes_eq-Decides (spelling n) (spelling m)).0 h))
+mark_is m _ h = absurd cc
+
+pub named_is : (s : Lexeme) (name : List ℕ) → named s ≡ Some name → s ≡ a_name name
+named_is (OfWord (word.Name w)) name h = let e : w ≡ name = cc in ap a_name e
+named_is _ name h = absurd cc
+
+pub named_so : (s : Lexeme) (w : List ℕ) → is_named w (named s) ≡ true → s ≡ a_name w
+named_so (OfWord (word.Name v)) w h = ap a_name ((bytes_eq-Decides v w).0 h)
+named_so _ w h = absurd cc
+
+pub splits : (p : Lexeme → Bool) (ts : List Lexeme) → ts ≡ before p ts ++ from_first p ts
+splits p [] = refl
+splits p (s ∷ ts) =
+    elim (p s) as (λ b. s ∷ ts ≡ (if b then [] else s ∷ before p ts) ++ (if b then s ∷ ts else from_first p ts)) [ true ↦ refl | false ↦ ap (λ (x : List Lexeme). s ∷ x) (splits p ts) ]
+
+pub first_such : (p : Lexeme → Bool) (ts r : List Lexeme) (s : Lexeme) → from_first p ts ≡ s ∷ r → p s ≡ true
+first_such p [] r s h = absurd cc
+first_such p (t ∷ ts) r s h =
+    cond_both (p t) (t ∷ ts) (from_first p ts) (λ x. x ≡ s ∷ r → p s ≡ true) (λ is e. let same : s ≡ t = cc in ap p same ∙ is) (λ is e. first_such p ts r s e) h
+
+abbrev pub None_such : (Lexeme → Bool) → List Lexeme → Type 0
+None_such p ts = AllByRecursion (λ s. p s ≡ false) ts
+
+pub cut_past : {A : Type 0} (f : List Lexeme → List Lexeme → A) (p : Lexeme → Bool) (xs ys : List Lexeme) (s : Lexeme) → None_such p xs → p s ≡ true → f (before p (xs ++ s ∷ ys)) (from_first p (xs ++ s ∷ ys)) ≡ f xs (s ∷ ys)
+cut_past f p [] ys s none is = rw is refl
+cut_past f p (x ∷ xs) ys s none is = rw none.0 (cut_past (λ us vs. f (x ∷ us) vs) p xs ys s none.1 is)
+
+pub cut_none : {A : Type 0} (f : List Lexeme → List Lexeme → A) (p : Lexeme → Bool) (xs : List Lexeme) → None_such p xs → f (before p xs) (from_first p xs) ≡ f xs []
+cut_none f p [] none = refl
+cut_none f p (x ∷ xs) none = rw none.0 (cut_none (λ us vs. f (x ∷ us) vs) p xs none.1)
 
 -- what is read is so, or the fault is a fault of syntax
 abbrev pub IfRead : {A : Type 0} → (A → Type 0) → Result A Kind → Type 0
@@ -72,8 +109,8 @@ module _ {A : Type 0} (Stands : A → Type 0) (spelled : A → List Lexeme) (mem
       → SeveralRead Stands spelled ts (behind a r (members_at member n (drop 1 r)))
   behind_read n a ts [] stands is found = record { some = omega arith; each = (stands, tt); written = is }
   behind_read n a ts (s ∷ r) stands is found =
-      cond_both (is_comma s) _ _ (SeveralRead Stands spelled ts)
-      (λ h. then_read _ _ (members_at member n r) _ (found r) (λ x k. longer a ts r x.0 x.1 stands (is ∙ ap (λ (s : Lexeme). spelled a ++ (s ∷ r)) (comma_is s h)) k))
+      cond_both (is_mark Comma s) _ _ (SeveralRead Stands spelled ts)
+      (λ h. then_read _ _ (members_at member n r) _ (found r) (λ x k. longer a ts r x.0 x.1 stands (is ∙ ap (λ (s : Lexeme). spelled a ++ (s ∷ r)) (mark_is Comma s h)) k))
       (λ h. record { some = omega arith; each = (stands, tt); written = is })
 
   members_found : (n : ℕ) (ts : List Lexeme) → SeveralRead Stands spelled ts (members_at member n ts)

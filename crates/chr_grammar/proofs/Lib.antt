@@ -1,14 +1,6 @@
-pub mod Signs
-pub mod Lists
-pub mod Fronts
 pub mod Terms
-pub mod Nodes
-pub mod Phrases
-pub mod Expressions
 pub mod Formulas
-pub mod Declarations
 pub mod Members_again
-pub mod Cuts
+pub mod Fronts
 pub mod Statements
-pub mod Statements_again
-pub mod Rules
+pub mod Lists

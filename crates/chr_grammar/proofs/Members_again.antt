@@ -1,29 +1,37 @@
--- What is read as a member of a guard or of a body is spelled so, and what is spelled so is read.
-use Rattle.std.proofs.Common.{◌≡◌, ℕ, Bool, true, false, List, [], ◌∷◌, ◌++◌, refl, sym, ap, subst, ◌∙◌, append_assoc, Option, Some, None, Ok, Err, ◌<◌, length, length-append, arith}
+-- What is read as a member of a guard, of a body or of a declaration is spelled so, and what is spelled so is read.
+use Rattle.std.proofs.Common.{◌≡◌, false, List, [], ◌∷◌, ◌++◌, refl, ap, ℕ, Bool, true, sym, subst, ◌∙◌, append_assoc, Option, Some, None, Ok, Err, ◌<◌, length, length-append, arith}
+use Rattle.chr_lex.specs.declared.mark.Mark.TheVariants as mark
+use Rattle.chr_lex.specs.Tokens as word
+use Rattle.chr_lex.specs.Tokens.{Lexeme, OfWord, OfMark}
+use Rattle.chr_grammar.specs.Parsed.{Declared, ParsedExpression, ParsedTerm, GuardMember, BodyMember, Number, Variable, Group, Operation, Always, Compared, Same, Differ, Nothing, Is, Add}
+use Rattle.chr_grammar.specs.Parsing.{declared_of, declared_at, Front, is_true, is_mark, equality, equal, relation_at, compared_at, other_side_at, sides_at, test_by, plain_test_at, test_at, term_at, added_at, is_member_at, last_member_at, member_at, phrase_at, expression_at, named, sum_operator, product_operator}
+use Rattle.chr_grammar.specs.Spelling.{declared_spelled, term_spelled, IsParsedTerm, formula_spelled, test_spelled, member_spelled, relation_sign, true_word, IsExpression, IsGuardMember, IsBodyMember, operator_sign, arguments, IsUnreserved}
+use Rattle.chr_grammar.proofs.Fronts.{mark_is, IfRead, then_read, FrontRead, either_both, Again, Ends}
 use Rattle.std.specs.Prelude.{codes, ◌||◌}
 use Rattle.std.proofs.lemmas.Bool.{cond_both}
 use Rattle.std.proofs.lemmas.Slice.Eq.{bytes_eq-Decides}
-use Rattle.chr_lex.specs.declared.mark.Mark.TheVariants as mark
-use Rattle.chr_lex.specs.Tokens as word
-use Rattle.chr_lex.specs.Tokens.{Lexeme, OfWord, OfMark, Word}
 use Rattle.chr_rule.specs.declared.expression.Relation.{Relation}
 use Rattle.chr_rule.specs.declared.expression.Relation.TheVariants as relation
-use Rattle.chr_grammar.specs.Parsed.{ParsedExpression, ParsedTerm, GuardMember, BodyMember, Number, Variable, Group, Operation, Always, Compared, Same, Differ, Nothing, Is, Add, Declared}
 use Rattle.chr_grammar.specs.Parsing as parsing
-use Rattle.chr_grammar.specs.Parsing.{Front, is_true, is_is, is_open, either, equality, equal, relation_at, compared_at, other_side_at, sides_at, test_by, plain_test_at, test_at, term_at, added_at, is_member_at, last_member_at, member_at, phrase_at, expression_at, is_named, named, sum_operator, product_operator, declared_at}
-use Rattle.chr_grammar.specs.Spelling.{term_spelled, IsParsedTerm, formula_spelled, test_spelled, member_spelled, relation_sign, true_word, IsExpression, IsGuardMember, IsBodyMember, declared_spelled, operator_sign, arguments, IsUnreserved}
-use Rattle.chr_grammar.proofs.Fronts.{then_read, either_both, FrontRead, Again, Ends}
 use Rattle.chr_grammar.proofs.Formulas.{expression_found, NoOperator, expression_again}
-use Rattle.chr_grammar.proofs.Terms.{TermRead, term_found, Shut, term_again}
-use Rattle.chr_grammar.proofs.Phrases.{phrase_found, phrase_again}
+use Rattle.chr_grammar.proofs.Terms.{TermRead, term_found, Shut, term_again, phrase_found, phrase_again}
 use Rattle.std.specs.List.{AllByRecursion}
 use Rattle.std.specs.Str.{bytes_eq}
 use Rattle.chr_value.proofs.Texts.{neither}
 use Rattle.chr_value.specs.Spelling.{is_reserved}
-use Rattle.chr_lex.specs.declared.mark.Mark.TheVariants.{Comma}
 use Rattle.chr_rule.specs.declared.expression.Operator.{Operator}
 use Rattle.chr_rule.specs.declared.expression.Operator.TheVariants as operator
-use Rattle.chr_grammar.proofs.Declarations.{AnyDeclared}
+
+abbrev pub AnyDeclared : Declared → Type 0
+AnyDeclared d = Unit {0}
+
+declared_is : (n s d : Lexeme) → IfRead (λ e. n ∷ s ∷ d ∷ [] ≡ declared_spelled e) (declared_of n s d)
+declared_is (OfWord (word.Name name)) (OfMark mark.Slash) (OfWord (word.Number false digits)) = refl
+declared_is _ _ _ = refl
+
+pub declared_found : (ts : List Lexeme) → FrontRead AnyDeclared declared_spelled ts (declared_at ts)
+declared_found (a ∷ b ∷ c ∷ ts) = then_read _ _ (declared_of a b c) _ (declared_is a b c) (λ d h. (tt, ap (λ (x : List Lexeme). x ++ ts) h))
+declared_found _ = refl
 
 abbrev pub TestRead : List Lexeme → Front GuardMember → Type 0
 TestRead = FrontRead IsGuardMember test_spelled
@@ -103,10 +111,6 @@ last_member_found [] = refl
 last_member_found (s ∷ ts) =
     cond_both (is_true s) _ _ (MemberRead (s ∷ ts)) (λ h. (tt, ap (λ (s : Lexeme). s ∷ ts) (true_is s h))) (λ h. added_found (s ∷ ts))
 
-is_is_is : (s : Lexeme) → is_is s ≡ true → s ≡ OfMark mark.Is
-is_is_is (OfMark mark.Is) h = refl
-is_is_is _ h = absurd cc
-
 is_member_found : (s : Lexeme) (ts : List Lexeme) → MemberRead (s ∷ OfMark mark.Is ∷ ts) (is_member_at s ts)
 is_member_found (OfWord (word.Variable x)) ts =
     then_read _ _ (expression_at ts) _ (expression_found ts) (λ e h. (h.0, ap (λ (y : List Lexeme). OfWord (word.Variable x) ∷ OfMark mark.Is ∷ y) h.1))
@@ -114,9 +118,9 @@ is_member_found _ ts = refl
 
 pub member_found : (ts : List Lexeme) → MemberRead ts (member_at ts)
 member_found (s ∷ e ∷ ts) =
-    cond_both (is_is e) _ _ (MemberRead (s ∷ e ∷ ts))
-    (λ h. subst (λ (e : Lexeme). MemberRead (s ∷ e ∷ ts) (is_member_at s ts)) (sym (is_is_is e h)) (is_member_found s ts))
-    (λ h. cond_both (is_open e) _ _ (MemberRead (s ∷ e ∷ ts)) (λ h. added_found (s ∷ e ∷ ts)) (λ h. last_member_found (s ∷ e ∷ ts)))
+    cond_both (is_mark mark.Is e) _ _ (MemberRead (s ∷ e ∷ ts))
+    (λ h. subst (λ (e : Lexeme). MemberRead (s ∷ e ∷ ts) (is_member_at s ts)) (sym (mark_is mark.Is e h)) (is_member_found s ts))
+    (λ h. cond_both (is_mark mark.Open e) _ _ (MemberRead (s ∷ e ∷ ts)) (λ h. added_found (s ∷ e ∷ ts)) (λ h. last_member_found (s ∷ e ∷ ts)))
 member_found ts = last_member_found ts
 
 -- ---- what is spelled so is read

@@ -1,16 +1,18 @@
--- What is read as a term is spelled so, and what is spelled so is read.
+-- What is read as a term or an atom is spelled so, and what is spelled so is read.
 use Rattle.std.proofs.Common.{◌≡◌, ◌≤◌, ◌<◌, ℕ, zero, suc, ◌+◌, ◌-◌, Bool, true, false, List, [], ◌∷◌, ◌++◌, length, length-append, drop, refl, sym, ap, ◌∙◌, subst, arith, append_assoc, ltb, Ok, Err}
 use Rattle.std.proofs.lemmas.Bool.{cond_both, and_right, ltb-true, ltb-false, lt-ltb, le-ltb}
 use Rattle.chr_value.proofs.Chosen.{both}
 use Rattle.chr_lex.specs.declared.fault.Kind.{Kind}
 use Rattle.chr_lex.specs.declared.fault.Kind.TheVariants.{Syntax}
 use Rattle.chr_lex.specs.declared.mark.Mark.TheVariants.{Open, Close, Comma}
-use Rattle.chr_lex.specs.Tokens.{Word, Lexeme, OfWord, OfMark}
-use Rattle.chr_grammar.specs.Parsed.{TermNode, ParsedTerm, is_name}
-use Rattle.chr_grammar.specs.Parsing.{Front, is_open, is_close, is_comma, next_at, is_functor, behind_word_at, with_node, nodes_at, term_at}
-use Rattle.chr_grammar.specs.Spelling.{closings, between, nodes_spelled, term_spelled, MayFollow, AreNodes, IsParsedTerm, EndsTerm}
-use Rattle.chr_grammar.proofs.Fronts.{IfRead, then_read, also_read, FrontRead}
-use Rattle.chr_grammar.proofs.Signs.{open_is, close_is, comma_is}
+use Rattle.chr_lex.specs.Tokens.{Word, Lexeme, OfWord, OfMark, Name}
+use Rattle.chr_grammar.specs.Parsed.{TermNode, ParsedTerm, is_name, ParsedAtom}
+use Rattle.chr_grammar.specs.Parsing.{Front, is_mark, next_at, is_functor, behind_word_at, with_node, nodes_at, term_at, several_at, enclosed, terms_at, args_at, phrase_at, phrases_of}
+use Rattle.chr_grammar.specs.Spelling.{closings, between, nodes_spelled, term_spelled, MayFollow, AreNodes, IsParsedTerm, EndsTerm, by_commas, further, arguments, phrase_spelled, IsUnreserved, IsParsedAtom, AreParsedAtoms}
+use Rattle.chr_grammar.proofs.Fronts.{IfRead, then_read, also_read, FrontRead, mark_is, AreSeveral, Again, Ends, several_found, several_again, no_more, list_says, list_read, list_refused}
+use Rattle.std.specs.List.{AllByRecursion}
+use Rattle.chr_value.specs.Spelling.{is_reserved}
+use Rattle.chr_lex.specs.Reading.{◌>>=◌}
 
 -- ---- what is read is spelled so
 
@@ -32,10 +34,10 @@ next_found : (d : ℕ) (ts : List Lexeme) → NextRead d ts (next_at d ts)
 next_found zero ts = refl
 next_found (suc d) [] = refl
 next_found (suc d) (s ∷ ts) =
-    cond_both (is_comma s) _ _ (NextRead (suc d) (s ∷ ts))
-    (λ h. let none : suc d - suc d ≡ 0 = omega arith in (omega arith, rw (none, comma_is s h) refl))
-    (λ h. cond_both (is_close s) _ _ (NextRead (suc d) (s ∷ ts))
-    (λ k. subst (λ (s : Lexeme). NextRead (suc d) (s ∷ ts) (next_at d ts)) (sym (close_is s k)) (also_read _ _ (next_at d ts) (next_found d ts) (λ x n. next_closed d x.0 ts x.1 n)))
+    cond_both (is_mark Comma s) _ _ (NextRead (suc d) (s ∷ ts))
+    (λ h. let none : suc d - suc d ≡ 0 = omega arith in (omega arith, rw (none, mark_is Comma s h) refl))
+    (λ h. cond_both (is_mark Close s) _ _ (NextRead (suc d) (s ∷ ts))
+    (λ k. subst (λ (s : Lexeme). NextRead (suc d) (s ∷ ts) (next_at d ts)) (sym (mark_is Close s k)) (also_read _ _ (next_at d ts) (next_found d ts) (λ x n. next_closed d x.0 ts x.1 n)))
     (λ k. refl))
 
 -- what is read behind a word
@@ -64,8 +66,8 @@ not_deeper n ts (suc e) r h =
 deeper : (n : TermNode) (ts : List Lexeme) → is_functor n.word ts ≡ true → BehindIs n ts (suc n.depth) (drop 1 ts)
 deeper n [] h = absurd cc
 deeper n (s ∷ ts) h =
-    let b = both (is_name n.word) (is_open s) h in
-    (omega arith, (λ k. b.0), ap (λ (s : Lexeme). s ∷ ts) (open_is s b.1) ∙ sym (opened n.depth (suc n.depth) ts (omega arith)))
+    let b = both (is_name n.word) (is_mark Open s) h in
+    (omega arith, (λ k. b.0), ap (λ (s : Lexeme). s ∷ ts) (mark_is Open s b.1) ∙ sym (opened n.depth (suc n.depth) ts (omega arith)))
 
 behind_found : (n : TermNode) (ts : List Lexeme) → BehindRead n ts (behind_word_at n.word n.depth ts)
 behind_found n ts =
@@ -116,7 +118,7 @@ term_found ts = also_read _ _ (term_at ts) (nodes_found (length ts) 0 ts) (λ x 
 -- no opening parenthesis stands in front
 abbrev pub Shut : List Lexeme → Type 0
 Shut [] = Unit {0}
-Shut (s ∷ ts) = is_open s ≡ false
+Shut (s ∷ ts) = is_mark Open s ≡ false
 
 pub ends_shut : (ts : List Lexeme) → EndsTerm ts → Shut ts
 ends_shut [] h = tt
@@ -125,7 +127,7 @@ ends_shut (s ∷ ts) h = refl
 
 no_functor : (w : Word) (ts : List Lexeme) → Shut ts → is_functor w ts ≡ false
 no_functor w [] h = refl
-no_functor w (s ∷ ts) h = and_right (is_name w) (is_open s) h
+no_functor w (s ∷ ts) h = and_right (is_name w) (is_mark Open s) h
 
 pub behind_shut : (w : Word) (d : ℕ) (ts : List Lexeme) → Shut ts → behind_word_at w d ts ≡ next_at d ts
 behind_shut w d ts h = rw (no_functor w ts h) refl
@@ -205,3 +207,77 @@ term_reads t rest stands ends = term_again t rest stands (ends_shut rest ends)
 
 pub no_term : (ts : List Lexeme) (k : Kind) → term_at ts ≡ Err k → (k ≡ Syntax) × ((t : ParsedTerm) (rest : List Lexeme) → IsParsedTerm t → EndsTerm rest → ts ≡ term_spelled t ++ rest → ⊥)
 no_term ts k h = (subst (TermRead ts) h (term_found ts), λ t rest stands ends at. let x = ap term_at (sym at) ∙ h in let y = term_reads t rest stands ends in cc)
+
+abbrev TermsTaken : List Lexeme → List ParsedTerm → List Lexeme → Type 0
+TermsTaken ts [] rest = ⊥
+TermsTaken ts (t ∷ us) rest = AllByRecursion IsParsedTerm (t ∷ us) × (ts ≡ term_spelled t ++ (further us ++ rest))
+
+abbrev TermsRead : List Lexeme → Front (List ParsedTerm) → Type 0
+TermsRead ts = IfRead (λ (x : List ParsedTerm × List Lexeme). TermsTaken ts x.0 x.1)
+
+-- terms by commas before a closing parenthesis are the first one and the further ones
+joined : (t : ParsedTerm) (us : List ParsedTerm) (rest : List Lexeme) → by_commas term_spelled (t ∷ us) ++ (OfMark Close ∷ rest) ≡ term_spelled t ++ (further us ++ rest)
+joined t [] rest = refl
+joined t (u ∷ us) rest =
+    append_assoc (term_spelled t) (OfMark Comma ∷ by_commas term_spelled (u ∷ us)) (OfMark Close ∷ rest)
+    ∙ ap (λ (x : List Lexeme). term_spelled t ++ (OfMark Comma ∷ x)) (joined u us rest ∙ sym (append_assoc (term_spelled u) (further us) rest))
+
+enclosed_found : (ts : List Lexeme) (us : List ParsedTerm) (rest : List Lexeme) → AreSeveral IsParsedTerm term_spelled ts us rest → TermsRead ts (enclosed us rest)
+enclosed_found ts us [] h = refl
+enclosed_found ts [] (s ∷ rest) h = absurd (omega (arith, h.some))
+enclosed_found ts (t ∷ us) (s ∷ rest) h =
+    cond_both (is_mark Close s) _ _ (TermsRead ts)
+    (λ c. (h.each, h.written ∙ ap (λ (s : Lexeme). by_commas term_spelled (t ∷ us) ++ (s ∷ rest)) (mark_is Close s c) ∙ joined t us rest))
+    (λ c. refl)
+
+terms_found : (ts : List Lexeme) → TermsRead ts (terms_at ts)
+terms_found ts = then_read _ _ (several_at term_at ts) _ (several_found IsParsedTerm term_spelled term_at term_found ts) (λ x h. enclosed_found ts x.0 x.1 h)
+
+abbrev pub PhraseRead : List Lexeme → Front ParsedAtom → Type 0
+PhraseRead = FrontRead IsParsedAtom phrase_spelled
+
+args_some : (name : List ℕ) (ts : List Lexeme) (us : List ParsedTerm) (rest : List Lexeme) → TermsTaken ts us rest
+    → IsParsedAtom (record { name = name; args = us }) × (OfWord (Name name) ∷ OfMark Open ∷ ts ≡ OfWord (Name name) ∷ (arguments us ++ rest))
+args_some name ts [] rest h = absurd h
+args_some name ts (t ∷ us) rest h =
+    (record { unreserved = tt; terms = h.0 }, ap (λ (x : List Lexeme). OfWord (Name name) ∷ OfMark Open ∷ x) (h.1 ∙ sym (append_assoc (term_spelled t) (further us) rest)))
+
+args_found : (name : List ℕ) (ts : List Lexeme) → PhraseRead (OfWord (Name name) ∷ ts) (args_at name ts)
+args_found name [] = cond_both (is_reserved name) _ _ (PhraseRead (OfWord (Name name) ∷ [])) (λ h. refl) (λ h. (record { unreserved = h; terms = tt }, refl))
+args_found name (s ∷ ts) =
+    cond_both (is_mark Open s) _ _ (PhraseRead (OfWord (Name name) ∷ s ∷ ts))
+    (λ h. subst (λ (s : Lexeme). PhraseRead (OfWord (Name name) ∷ s ∷ ts) (terms_at ts >>= λ x. Ok (record { name = name; args = x.0 }, x.1))) (sym (mark_is Open s h)) (then_read _ _ (terms_at ts) _ (terms_found ts) (λ x k. args_some name ts x.0 x.1 k)))
+    (λ h. cond_both (is_reserved name) _ _ (PhraseRead (OfWord (Name name) ∷ s ∷ ts)) (λ k. refl) (λ k. (record { unreserved = k; terms = tt }, refl)))
+
+pub phrase_found : (ts : List Lexeme) → PhraseRead ts (phrase_at ts)
+phrase_found (OfWord (Name name) ∷ ts) = args_found name ts
+phrase_found _ = refl
+
+-- ---- what is spelled so is read
+
+terms_again : (t : ParsedTerm) (us : List ParsedTerm) (rest : List Lexeme) → AllByRecursion IsParsedTerm (t ∷ us) → terms_at ((term_spelled t ++ further us) ++ rest) ≡ Ok (t ∷ us, rest)
+terms_again t us rest each =
+    let at : (term_spelled t ++ further us) ++ rest ≡ by_commas term_spelled (t ∷ us) ++ (OfMark Close ∷ rest) = append_assoc (term_spelled t) (further us) rest ∙ sym (joined t us rest) in
+    let read : several_at term_at (by_commas term_spelled (t ∷ us) ++ (OfMark Close ∷ rest)) ≡ Ok (t ∷ us, OfMark Close ∷ rest) =
+    several_again Shut IsParsedTerm term_spelled term_at term_again (λ ts. refl) (t ∷ us) (OfMark Close ∷ rest) (omega arith) (no_more IsParsedTerm term_spelled term_some (t ∷ us) each) each refl refl in
+    ap terms_at at ∙ rw read refl
+
+args_again : (name : List ℕ) (us : List ParsedTerm) (rest : List Lexeme) → IsUnreserved name us → AllByRecursion IsParsedTerm us → Ends rest → args_at name (arguments us ++ rest) ≡ Ok (record { name = name; args = us }, rest)
+args_again name [] [] stands each ends = rw stands refl
+args_again name [] (s ∷ ts) stands each ends = rw (ends, stands) refl
+args_again name (t ∷ us) rest stands each ends = rw (terms_again t us rest each) refl
+
+pub phrase_again : Again IsParsedAtom phrase_spelled phrase_at
+phrase_again p rest stands ends = args_again p.name p.args rest stands.unreserved stands.terms ends
+
+pub phrase_some : (p : ParsedAtom) → IsParsedAtom p → 0 < length (phrase_spelled p)
+phrase_some p stands = omega arith
+
+pub are_phrases : (ts : List Lexeme) (ps : List ParsedAtom) → phrases_of ts ≡ Ok ps → AreParsedAtoms ts ps
+are_phrases = list_says IsParsedAtom phrase_spelled phrase_at phrase_found
+
+pub phrases_read : (ts : List Lexeme) (ps : List ParsedAtom) → AreParsedAtoms ts ps → phrases_of ts ≡ Ok ps
+phrases_read = list_read IsParsedAtom phrase_spelled phrase_some phrase_at phrase_again
+
+pub no_phrases : (ts : List Lexeme) (k : Kind) → phrases_of ts ≡ Err k → (k ≡ Syntax) × ((ps : List ParsedAtom) → AreParsedAtoms ts ps → ⊥)
+no_phrases = list_refused IsParsedAtom phrase_spelled phrase_some phrase_at phrase_found phrase_again

@@ -5,7 +5,9 @@ use Rattle.std.specs.Str.{bytes_eq}
 use Rattle.chr_value.specs.Spelling.{is_reserved}
 use Rattle.chr_lex.specs.declared.fault.Kind.{Kind}
 use Rattle.chr_lex.specs.declared.fault.Kind.TheVariants.{Syntax}
+use Rattle.chr_lex.specs.declared.mark.Mark.{Mark}
 use Rattle.chr_lex.specs.declared.mark.Mark.TheVariants as mark
+use Rattle.chr_lex.specs.Marks.{spelling}
 use Rattle.chr_lex.specs.Reading.{◌>>=◌}
 use Rattle.chr_lex.specs.Tokens.{Word, Name, Variable, Number, Lexeme, OfWord, OfMark}
 use Rattle.chr_rule.specs.declared.expression.Operator.{Operator}
@@ -26,45 +28,10 @@ Front A = Result (A × List Lexeme) Kind
 
 -- ---- signs
 
-abbrev pub is_open : Lexeme → Bool
-is_open (OfMark mark.Open) = true
-is_open _ = false
-
-abbrev pub is_close : Lexeme → Bool
-is_close (OfMark mark.Close) = true
-is_close _ = false
-
-abbrev pub is_comma : Lexeme → Bool
-is_comma (OfMark mark.Comma) = true
-is_comma _ = false
-
-abbrev pub is_slash : Lexeme → Bool
-is_slash (OfMark mark.Slash) = true
-is_slash _ = false
-
-abbrev pub is_declares : Lexeme → Bool
-is_declares (OfMark mark.Declares) = true
-is_declares _ = false
-
-abbrev pub is_at : Lexeme → Bool
-is_at (OfMark mark.At) = true
-is_at _ = false
-
-abbrev pub is_backslash : Lexeme → Bool
-is_backslash (OfMark mark.Backslash) = true
-is_backslash _ = false
-
-abbrev pub is_bar : Lexeme → Bool
-is_bar (OfMark mark.Bar) = true
-is_bar _ = false
-
-abbrev pub is_is : Lexeme → Bool
-is_is (OfMark mark.Is) = true
-is_is _ = false
-
-abbrev pub is_propagate : Lexeme → Bool
-is_propagate (OfMark mark.Propagate) = true
-is_propagate _ = false
+-- whether the token is this mark
+abbrev pub is_mark : Mark → Lexeme → Bool
+is_mark m (OfMark n) = bytes_eq (spelling n) (spelling m)
+is_mark m _ = false
 
 abbrev pub is_arrow : Lexeme → Bool
 is_arrow (OfMark mark.Simplify) = true
@@ -92,12 +59,12 @@ either (Some x) without with = with x
 -- no comma stands in front
 abbrev pub NoComma : List Lexeme → Type 0
 NoComma [] = Unit {0}
-NoComma (s ∷ ts) = is_comma s ≡ false
+NoComma (s ∷ ts) = is_mark mark.Comma s ≡ false
 
 -- a member, and what follows it: a comma and the others, or something else
 abbrev pub behind : {A : Type 0} → A → List Lexeme → Front (List A) → Front (List A)
 behind x [] others = Ok (x ∷ [], [])
-behind x (s ∷ ts) others = if is_comma s then (others >>= λ y. Ok (x ∷ y.0, y.1)) else Ok (x ∷ [], s ∷ ts)
+behind x (s ∷ ts) others = if is_mark mark.Comma s then (others >>= λ y. Ok (x ∷ y.0, y.1)) else Ok (x ∷ [], s ∷ ts)
 
 -- no more members than so many
 abbrev pub members_at : {A : Type 0} → (List Lexeme → Front A) → ℕ → List Lexeme → Front (List A)
@@ -119,7 +86,7 @@ each_by_commas member ts = several_at member ts >>= λ x. alone x.0 x.1
 -- with a closing parenthesis behind them
 abbrev pub enclosed : {A : Type 0} → A → List Lexeme → Front A
 enclosed x [] = Err Syntax
-enclosed x (s ∷ ts) = if is_close s then Ok (x, ts) else Err Syntax
+enclosed x (s ∷ ts) = if is_mark mark.Close s then Ok (x, ts) else Err Syntax
 
 -- ---- terms
 
@@ -129,12 +96,12 @@ abbrev pub next_at : ℕ → List Lexeme → Front ℕ
 next_at zero ts = Ok (zero, ts)
 next_at (suc d) [] = Err Syntax
 next_at (suc d) (s ∷ ts) =
-    if is_comma s then Ok (suc d, ts) else (if is_close s then next_at d ts else Err Syntax)
+    if is_mark mark.Comma s then Ok (suc d, ts) else (if is_mark mark.Close s then next_at d ts else Err Syntax)
 
 -- a name before an opening parenthesis
 abbrev pub is_functor : Word → List Lexeme → Bool
 is_functor w [] = false
-is_functor w (s ∷ ts) = is_name w && is_open s
+is_functor w (s ∷ ts) = is_name w && is_mark mark.Open s
 
 -- the same behind a word, which may be a functor and stand before its arguments
 abbrev pub behind_word_at : Word → ℕ → List Lexeme → Front ℕ
@@ -168,7 +135,7 @@ terms_at ts = several_at term_at ts >>= λ x. enclosed x.0 x.1
 abbrev pub args_at : List ℕ → List Lexeme → Front ParsedAtom
 args_at name [] = if is_reserved name then Err Syntax else Ok (record { name = name; args = [] }, [])
 args_at name (s ∷ ts) =
-    if is_open s then (terms_at ts >>= λ x. Ok (record { name = name; args = x.0 }, x.1))
+    if is_mark mark.Open s then (terms_at ts >>= λ x. Ok (record { name = name; args = x.0 }, x.1))
     else (if is_reserved name then Err Syntax else Ok (record { name = name; args = [] }, s ∷ ts))
 
 abbrev pub phrase_at : List Lexeme → Front ParsedAtom
@@ -199,7 +166,7 @@ factor_at inner [] = Err Syntax
 factor_at inner (OfWord (Name x) ∷ ts) = Err Syntax
 factor_at inner (OfWord (Variable x) ∷ ts) = Ok (parsed.Variable x, ts)
 factor_at inner (OfWord (Number negative digits) ∷ ts) = Ok (parsed.Number negative digits, ts)
-factor_at inner (OfMark m ∷ ts) = if is_open (OfMark m) then (inner ts >>= λ x. enclosed (parsed.Group x.0) x.1) else Err Syntax
+factor_at inner (OfMark m ∷ ts) = if is_mark mark.Open (OfMark m) then (inner ts >>= λ x. enclosed (parsed.Group x.0) x.1) else Err Syntax
 
 -- To the left: what was read so far is the left side of the next operator. No more operators than so many.
 abbrev pub chain_at : (Lexeme → Option Operator) → (List Lexeme → Front ParsedExpression) → ℕ → ParsedExpression → List Lexeme → Front ParsedExpression
@@ -309,8 +276,8 @@ last_member_at (s ∷ ts) = if is_true s then Ok (parsed.Nothing, ts) else added
 
 abbrev pub member_at : List Lexeme → Front BodyMember
 member_at (s ∷ e ∷ ts) =
-    if is_is e then is_member_at s ts
-    else (if is_open e then added_at (s ∷ e ∷ ts) else last_member_at (s ∷ e ∷ ts))
+    if is_mark mark.Is e then is_member_at s ts
+    else (if is_mark mark.Open e then added_at (s ∷ e ∷ ts) else last_member_at (s ∷ e ∷ ts))
 member_at ts = last_member_at ts
 
 abbrev pub body_of : List Lexeme → Result (List BodyMember) Kind
@@ -341,8 +308,8 @@ pub record IsParted (p : Lexeme → Bool) (ts us vs : List Lexeme) : Type 0 wher
 -- what stands between the parts of a rule
 abbrev pub divides : Divider → Lexeme → Bool
 divides divider.Arrow = is_arrow
-divides divider.Backslash = is_backslash
-divides divider.Bar = is_bar
+divides divider.Backslash = is_mark mark.Backslash
+divides divider.Bar = is_mark mark.Bar
 
 -- two lists with a sign between them, or the second one alone
 abbrev pub parts_by : {A B : Type 0} → (List Lexeme → Result (List A) Kind) → (List Lexeme → Result (List B) Kind) → List Lexeme → List Lexeme → Result (List A × List B) Kind
@@ -354,20 +321,20 @@ abbrev pub heads_by : List Lexeme → List Lexeme → Result (List ParsedAtom ×
 heads_by = parts_by phrases_of phrases_of
 
 abbrev pub heads_of : List Lexeme → Result (List ParsedAtom × List ParsedAtom) Kind
-heads_of ts = heads_by (before is_backslash ts) (from_first is_backslash ts)
+heads_of ts = heads_by (before (is_mark mark.Backslash) ts) (from_first (is_mark mark.Backslash) ts)
 
 abbrev pub all_kept : List Lexeme → Result (List ParsedAtom × List ParsedAtom) Kind
 all_kept ts = phrases_of ts >>= λ kept. Ok (kept, [])
 
 abbrev pub heads_by_arrow : Lexeme → List Lexeme → Result (List ParsedAtom × List ParsedAtom) Kind
-heads_by_arrow s ts = if is_propagate s then all_kept ts else heads_of ts
+heads_by_arrow s ts = if is_mark mark.Propagate s then all_kept ts else heads_of ts
 
 -- the guard and the body
 abbrev pub consequence_by : List Lexeme → List Lexeme → Result (List GuardMember × List BodyMember) Kind
 consequence_by = parts_by tests_of body_of
 
 abbrev pub consequence_of : List Lexeme → Result (List GuardMember × List BodyMember) Kind
-consequence_of ts = consequence_by (before is_bar ts) (from_first is_bar ts)
+consequence_of ts = consequence_by (before (is_mark mark.Bar) ts) (from_first (is_mark mark.Bar) ts)
 
 abbrev pub rule_by : Option (List ℕ) → List Lexeme → List Lexeme → Result ParsedRule Kind
 rule_by rule_name heads [] = Err Syntax
@@ -379,16 +346,16 @@ abbrev pub named_rule_of : Option (List ℕ) → List Lexeme → Result ParsedRu
 named_rule_of rule_name ts = rule_by rule_name (before is_arrow ts) (from_first is_arrow ts)
 
 abbrev pub rule_of : List Lexeme → Result ParsedRule Kind
-rule_of (s ∷ e ∷ ts) = if is_at e then either (named s) (Err Syntax) (λ name. named_rule_of (Some name) ts) else named_rule_of None (s ∷ e ∷ ts)
+rule_of (s ∷ e ∷ ts) = if is_mark mark.At e then either (named s) (Err Syntax) (λ name. named_rule_of (Some name) ts) else named_rule_of None (s ∷ e ∷ ts)
 rule_of ts = named_rule_of None ts
 
 -- ---- declarations
 
 abbrev pub is_opened : List ℕ → Lexeme → Lexeme → Bool
-is_opened w s n = is_open s && is_named w (named n)
+is_opened w s n = is_mark mark.Open s && is_named w (named n)
 
 abbrev pub are_closed : Lexeme → Lexeme → Bool
-are_closed s e = is_close s && is_close e
+are_closed s e = is_mark mark.Close s && is_mark mark.Close e
 
 -- `(chr))`
 abbrev pub is_module : List Lexeme → Bool
@@ -420,5 +387,5 @@ abbrev pub a_rule : List Lexeme → Result Statement Kind
 a_rule ts = rule_of ts >>= λ r. Ok (parsed.Rule r)
 
 abbrev pub statement_of : List Lexeme → Result Statement Kind
-statement_of (s ∷ e ∷ ts) = if is_declares s then either (named e) (Err Syntax) (λ name. directive_of name ts) else a_rule (s ∷ e ∷ ts)
+statement_of (s ∷ e ∷ ts) = if is_mark mark.Declares s then either (named e) (Err Syntax) (λ name. directive_of name ts) else a_rule (s ∷ e ∷ ts)
 statement_of ts = a_rule ts

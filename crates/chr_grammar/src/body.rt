@@ -31,6 +31,7 @@ impl<'a, A: Allocator + Copy> Member<A, &'a [Token<'a>]> for BodyMember<'a, A> {
 
     ghost front = { member_at };
 
+    #[tactic(auto, using(crate::proofs::Lists::short_member))]
     fn read(alloc: A, tokens: &'a [Token<'a>]) -> Result<(Self, &'a [Token<'a>]), ItemError> {
         match tokens {
             [first, second, after @ ..] => match *second {

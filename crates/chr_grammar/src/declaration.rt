@@ -61,6 +61,7 @@ fn are_closed(first: Token, second: Token) -> bool
     is_close(first) && is_close(second)
 }
 
+#[tactic(auto, using(crate::proofs::Lists::short_module, crate::proofs::Lists::long_module))]
 /// `(chr))`
 fn is_module(tokens: &[Token]) -> bool
     ensures { result ≡ is_module (map lexeme tokens.now) }
@@ -73,6 +74,7 @@ fn is_module(tokens: &[Token]) -> bool
     }
 }
 
+#[tactic(auto, using(crate::proofs::Lists::short_library))]
 /// Whether the tokens are `(library(chr))`.
 pub(crate) fn is_library(tokens: &[Token]) -> bool
     ensures { result ≡ is_library (map lexeme tokens.now) }

@@ -97,6 +97,7 @@ fn named_rule<'a, A: Allocator + Copy>(
     })
 }
 
+#[tactic(auto, using(crate::proofs::Lists::short_rule, crate::proofs::Lists::nameless))]
 /// The rule that the tokens are, with `<=>` or with `==>`. Tokens that are no rule are a fault of syntax (E04).
 pub(crate) fn parse_rule<'a, A: Allocator + Copy>(
     alloc: A,

@@ -2,7 +2,8 @@
 
 ghost use Rattle.std.specs.Prelude.{◌≡◌, option_map};
 ghost use Rattle.chr_lex.specs.Tokens.{lexeme};
-ghost use Rattle.chr_grammar.specs.Parsing.{is_open, is_close, is_comma, is_declares, is_at, divides, named, is_true};
+ghost use Rattle.chr_lex.specs.declared.mark.Mark.TheVariants.{Open, Close, Comma, Declares, At};
+ghost use Rattle.chr_grammar.specs.Parsing.{is_mark, divides, named, is_true};
 
 use chr_lex::{Mark, Token, Word};
 
@@ -31,31 +32,31 @@ impl Divider {
 }
 
 pub fn is_open(token: Token) -> bool
-    ensures { result ≡ is_open (lexeme token.entry) }
+    ensures { result ≡ is_mark Open (lexeme token.entry) }
 {
     matches!(token, Token::Mark(Mark::Open))
 }
 
 pub fn is_close(token: Token) -> bool
-    ensures { result ≡ is_close (lexeme token.entry) }
+    ensures { result ≡ is_mark Close (lexeme token.entry) }
 {
     matches!(token, Token::Mark(Mark::Close))
 }
 
 pub fn is_comma(token: Token) -> bool
-    ensures { result ≡ is_comma (lexeme token.entry) }
+    ensures { result ≡ is_mark Comma (lexeme token.entry) }
 {
     matches!(token, Token::Mark(Mark::Comma))
 }
 
 pub fn is_declares(token: Token) -> bool
-    ensures { result ≡ is_declares (lexeme token.entry) }
+    ensures { result ≡ is_mark Declares (lexeme token.entry) }
 {
     matches!(token, Token::Mark(Mark::Declares))
 }
 
 pub fn is_at(token: Token) -> bool
-    ensures { result ≡ is_at (lexeme token.entry) }
+    ensures { result ≡ is_mark At (lexeme token.entry) }
 {
     matches!(token, Token::Mark(Mark::At))
 }

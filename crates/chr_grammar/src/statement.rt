@@ -51,6 +51,7 @@ fn a_rule<'a, A: Allocator + Copy>(
     Ok(Statement::Rule(parse_rule(alloc, tokens)?))
 }
 
+#[tactic(auto, using(crate::proofs::Lists::short_statement))]
 /// The declaration or the rule that the tokens are. Tokens that are neither are a fault of syntax (E04).
 pub fn parse_statement<'a, A: Allocator + Copy>(
     alloc: A,

@@ -131,6 +131,7 @@ fn term_from<'a, A: Allocator + Copy>(
     Err(ItemError::Fault(Kind::Syntax))
 }
 
+#[tactic(auto, using(crate::proofs::Lists::tokens_from_place))]
 /// The longest term at the front, and the tokens after it. No term at the front is a fault of syntax (E04).
 pub(crate) fn parse_term<'a, A: Allocator + Copy>(
     alloc: A,

@@ -2,7 +2,7 @@ use Rattle.std.proofs.Common.{map}
 use Rattle.chr_lex.specs.Tokens.{lexeme}
 use Rattle.chr_grammar.specs.Views.{formula}
 use Rattle.chr_grammar.specs.Parsing.{operator_of, side_at, sum_at}
-use Rattle.chr_grammar.proofs.Expressions.{sum_steps, chain_steps}
+use Rattle.chr_grammar.proofs.Lists.{sum_steps, chain_steps}
 use Rattle.chr_grammar.proofs.expression.+expression.Goals as goal
 
 pub sum-returns : goal.sum-returns

@@ -1,5 +1,5 @@
 use Rattle.std.proofs.Common.{◌+◌, ◌*◌}
-use Rattle.chr_grammar.proofs.Expressions.{rank}
+use Rattle.chr_grammar.proofs.Lists.{rank}
 use Rattle.chr_grammar.proofs.expression.+expression.Given as goal
 
 abbrev pub decreases-sum : goal.decreases-sum

@@ -1,4 +1,4 @@
-use Rattle.chr_grammar.proofs.Phrases.{are_phrases, phrases_read, no_phrases}
+use Rattle.chr_grammar.proofs.Terms.{are_phrases, phrases_read, no_phrases}
 use Rattle.chr_grammar.proofs.laws.atoms_by_their_forms.Goals as goal
 
 pub returns : goal.returns

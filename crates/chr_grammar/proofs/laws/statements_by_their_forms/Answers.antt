@@ -1,5 +1,4 @@
-use Rattle.chr_grammar.proofs.Statements.{says}
-use Rattle.chr_grammar.proofs.Statements_again.{by_texts, one_statement, refused}
+use Rattle.chr_grammar.proofs.Statements.{says, by_texts, one_statement, refused}
 use Rattle.chr_grammar.proofs.laws.statements_by_their_forms.Goals as goal
 
 pub returns : goal.returns

@@ -1,6 +1,6 @@
 use Rattle.std.proofs.Common.{arith}
 use Rattle.chr_grammar.specs.Parsing.{divides}
-use Rattle.chr_grammar.proofs.Rules.{uncut, cut_at}
+use Rattle.chr_grammar.proofs.Lists.{uncut, cut_at}
 use Rattle.chr_grammar.proofs.parts.cut.Goals as goal
 
 pub returns-then-at-tokens : goal.returns-then-at-tokens

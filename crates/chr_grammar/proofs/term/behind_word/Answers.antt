@@ -1,7 +1,7 @@
 use Rattle.std.proofs.Common.{map, true, false}
 use Rattle.chr_lex.specs.Tokens.{word, lexeme}
 use Rattle.chr_grammar.specs.Parsing.{is_functor}
-use Rattle.chr_grammar.proofs.Nodes.{from_place, behind_opened}
+use Rattle.chr_grammar.proofs.Lists.{from_place, behind_opened}
 use Rattle.chr_grammar.proofs.term.behind_word.Goals as goal
 
 pub returns-then-is_functor-clause-same : goal.returns-then-is_functor-clause-same

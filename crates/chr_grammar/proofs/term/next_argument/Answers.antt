@@ -1,6 +1,5 @@
 use Rattle.std.proofs.Common.{arith}
-use Rattle.chr_grammar.proofs.Lists.{tokens_past}
-use Rattle.chr_grammar.proofs.Nodes.{next_none, next_comma, next_stop, next_closes}
+use Rattle.chr_grammar.proofs.Lists.{tokens_past, next_none, next_comma, next_stop, next_closes}
 use Rattle.chr_grammar.proofs.term.next_argument.Goals as goal
 
 pub returns-then-at-tokens-clause-same : goal.returns-then-at-tokens-clause-same

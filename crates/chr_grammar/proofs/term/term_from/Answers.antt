@@ -3,8 +3,7 @@ use Rattle.std.proofs.lemmas.Result.{err_from_is_err_and}
 use Rattle.std.proofs.lemmas.List.{map_push}
 use Rattle.chr_lex.specs.Tokens.{word}
 use Rattle.chr_grammar.specs.Views.{node}
-use Rattle.chr_grammar.proofs.Lists.{tokens_past}
-use Rattle.chr_grammar.proofs.Nodes.{first_nodes, nodes_fail, nodes_done, nodes_go_on, word_there, mark_there}
+use Rattle.chr_grammar.proofs.Lists.{tokens_past, first_nodes, nodes_fail, nodes_done, nodes_go_on, word_there, mark_there}
 use Rattle.chr_grammar.proofs.term.term_from.Goals as goal
 
 pub loop-init : goal.loop-init
