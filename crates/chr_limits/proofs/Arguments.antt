@@ -1,5 +1,5 @@
 -- How many elements pass a test, and how many arguments a word has, one element more.
-use Rattle.std.proofs.Common.{◌≡◌, ◌<◌, ℕ, suc, ◌+◌, ◌-◌, Bool, true, false, List, ◌∷◌, length, filter, nat_eq, nat_lt, map, drop, get_or, refl, ap, ◌∙◌, arith}
+use Rattle.std.proofs.Common.{◌≡◌, ◌<◌, ℕ, suc, ◌+◌, ◌-◌, Bool, true, false, List, ◌∷◌, length, filter, cond, nat_eq, nat_lt, map, drop, get_or, refl, ap, ◌∙◌, arith, ◌≤◌, ◌*◌, []}
 use Rattle.std.specs.List.{take_while}
 use Rattle.std.proofs.lemmas.Bool.{cond-true, lt-ltb, eq-eqb, ne_eqb}
 use Rattle.std.proofs.lemmas.List.{at_drop_more}
@@ -8,23 +8,15 @@ use Rattle.chr_grammar.specs.Parsed as parsed
 use Rattle.chr_grammar.specs.declared.term.TermNode.{TermNode}
 use Rattle.chr_grammar.specs.Views.{node}
 use Rattle.chr_limits.specs.Limits.{arguments_behind}
+use Rattle.chr_limits.specs.Numbers.{decimal_from}
 
-passing : {X W : Type 0} (p : W → Bool) (v : X → W) (xs : List X) (i : ℕ) (d : X) → i < length xs → length (filter p (map v (drop i xs))) ≡ length (filter p (v (get_or xs i d) ∷ map v (drop (i + 1) xs)))
-passing {X} p v xs i d lt = at_drop_more (λ (l : List X). length (filter p (map v l))) xs i d lt
-
-pub passed : {X W : Type 0} (p : W → Bool) (v : X → W) (k total : ℕ) (xs : List X) (i : ℕ) (d : X) → i < length xs → p (v (get_or xs i d)) ≡ true → k + length (filter p (map v (drop i xs))) ≡ total
-    → k + 1 + length (filter p (map v (drop (i + 1) xs))) ≡ total
-passed p v k total xs i d lt h so_far =
-    let one : length (filter p (v (get_or xs i d) ∷ map v (drop (i + 1) xs))) ≡ suc (length (filter p (map v (drop (i + 1) xs)))) = rw h refl in
-    let all = passing p v xs i d lt in
-    omega (arith, one, all, so_far)
-
-pub not_passed : {X W : Type 0} (p : W → Bool) (v : X → W) (k total : ℕ) (xs : List X) (i : ℕ) (d : X) → i < length xs → p (v (get_or xs i d)) ≡ false → k + length (filter p (map v (drop i xs))) ≡ total
-    → k + length (filter p (map v (drop (i + 1) xs))) ≡ total
-not_passed p v k total xs i d lt h so_far =
-    let same : length (filter p (v (get_or xs i d) ∷ map v (drop (i + 1) xs))) ≡ length (filter p (map v (drop (i + 1) xs))) = rw h refl in
-    let all = passing p v xs i d lt in
-    omega (arith, same, all, so_far)
+pub counted : {X W : Type 0} (p : W → Bool) (v : X → W) (k total : ℕ) (xs : List X) (i : ℕ) (d : X) → i < length xs → k + length (filter p (map v (drop i xs))) ≡ total
+    → cond (p (v (get_or xs i d))) (k + 1) k + length (filter p (map v (drop (i + 1) xs))) ≡ total
+counted {X} p v k total xs i d lt so_far = by (p (v (get_or xs i d))) (at_drop_more (λ (l : List X). length (filter p (map v l))) xs i d lt)
+  where
+    by : (b : Bool) → length (filter p (map v (drop i xs))) ≡ length (cond b (v (get_or xs i d) ∷ filter p (map v (drop (i + 1) xs))) (filter p (map v (drop (i + 1) xs)))) → cond b (k + 1) k + length (filter p (map v (drop (i + 1) xs))) ≡ total
+    by true e = omega (arith, e, so_far)
+    by false e = omega (arith, e, so_far)
 
 -- ---- arguments
 
@@ -56,3 +48,7 @@ counted_none d k total ns i e lt deeper other so_far =
     let none : direct d (node (get_or ns i e) ∷ inside d (map node (drop (i + 1) ns))) ≡ arguments_behind d (map node (drop (i + 1) ns)) = rw (ne_eqb (get_or ns i e).depth (suc d) (λ h. other (omega (arith, h)))) refl in
     let same = there d ns i e lt ∙ deeper_more d (node (get_or ns i e)) (map node (drop (i + 1) ns)) deeper ∙ none in
     omega (arith, same, so_far)
+
+pub decimal_least : (n : ℕ) (ds : List ℕ) → n ≤ decimal_from n ds
+decimal_least n [] = omega arith
+decimal_least n (d ∷ ds) = let h = decimal_least (n * 10 + (d - 48)) ds in omega (arith, h)

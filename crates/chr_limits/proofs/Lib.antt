@@ -1,6 +1,3 @@
 pub mod Arguments
-pub mod Digits
-pub mod Distinct
 pub mod Meeting
-pub mod Scoped
 pub mod Standing

@@ -1,25 +1,23 @@
 -- What is judged without a fault is what may stand.
 use Rattle.std.proofs.Common.{◌≡◌, ◌<◌, ◌+◌, Bool, true, false, ltb, ◌||◌, cond, List, [], ◌∷◌, length, filter, Result, Ok, Err, refl, arith}
-use Rattle.std.specs.List.{list_any}
 use Rattle.std.proofs.lemmas.Bool.{ltb-false, le-ltb, or_from}
+use Rattle.std.proofs.lemmas.Bool.Decides.{nat_tests}
 use Rattle.chr_value.proofs.Texts.{neither}
-use Rattle.chr_lex.specs.declared.fault.Kind.{Kind}
 use Rattle.chr_grammar.specs.Parsed.{Declared, ParsedAtom, ParsedRule}
-use Rattle.chr_limits.specs.Words.{is_long, phrase_has, rule_has}
-use Rattle.chr_limits.specs.Limits.{has_many_args, has_large_args, has_wide_atom, has_large_term, has_many_parts, is_too_large, is_comparison, is_item}
+use Rattle.chr_limits.specs.Words.{is_long, rule_has}
+use Rattle.chr_limits.specs.Limits.{has_wide_atom, has_large_term, has_many_parts, is_too_large, is_comparison, is_item}
 use Rattle.chr_limits.specs.Variables.{variables_of, seen}
 use Rattle.chr_limits.specs.Judging.{removes_nothing, rule_judged, declaration_judged, post_judged}
 use Rattle.chr_limits.specs.Standing.{IsAllowedRule, AreAllowedDeclarations, AreAllowedPosts}
 
--- a test that is passed
-pub passed : {A : Type 0} (b : Bool) (k : Kind) (rest : Result A Kind) (x : A) → cond b (Err k) rest ≡ Ok x → (b ≡ false) × (rest ≡ Ok x)
-passed true k rest x h = absurd cc
-passed false k rest x h = (refl, h)
+-- a test that is passed, and one that has to hold
+pub passed : {A E : Type 0} (b : Bool) (e : E) (rest : Result A E) (x : A) → cond b (Err e) rest ≡ Ok x → (b ≡ false) × (rest ≡ Ok x)
+passed true e rest x h = absurd cc
+passed false e rest x h = (refl, h)
 
--- the last test, which has to hold
-held : {A : Type 0} (b : Bool) (k : Kind) (x y : A) → cond b (Ok x) (Err k) ≡ Ok y → b ≡ true
-held true k x y h = refl
-held false k x y h = absurd cc
+pub held : {A E : Type 0} (b : Bool) (e : E) (rest : Result A E) (x : A) → cond b rest (Err e) ≡ Ok x → (b ≡ true) × (rest ≡ Ok x)
+held true e rest x h = (refl, h)
+held false e rest x h = absurd cc
 
 some_removed : (ps : List ParsedAtom) → removes_nothing ps ≡ false → 0 < length ps
 some_removed [] h = absurd cc
@@ -42,7 +40,7 @@ stands full r h =
     let parts = neither (ltb 6 (length r.kept + length r.removed) || ltb 16 (length (filter is_comparison r.guard)) || ltb 16 (length (filter is_item r.body))) (ltb 24 (length (seen (variables_of r)))) large.1 in
     let items = neither (ltb 6 (length r.kept + length r.removed) || ltb 16 (length (filter is_comparison r.guard))) (ltb 16 (length (filter is_item r.body))) parts.0 in
     let heads = neither (ltb 6 (length r.kept + length r.removed)) (ltb 16 (length (filter is_comparison r.guard))) items.0 in
-    (whole.0, record { removes = some_removed r.removed first.0; numbers = second.0; names = words.0; args = words.1; terms = terms.1; heads = ltb-false _ _ heads.0; comparisons = ltb-false _ _ heads.1; items = ltb-false _ _ items.1; variables = ltb-false _ _ parts.1; scoped = held _ _ _ _ third.1 })
+    (whole.0, record { removes = some_removed r.removed first.0; numbers = second.0; names = words.0; args = words.1; terms = terms.1; heads = ltb-false _ _ heads.0; comparisons = ltb-false _ _ heads.1; items = ltb-false _ _ items.1; variables = ltb-false _ _ parts.1; scoped = (held _ _ _ _ third.1).0 })
 
 small : (r : ParsedRule) → IsAllowedRule r → is_too_large r ≡ false
 small r s =
@@ -52,22 +50,13 @@ pub passes : (full : Bool) (r : ParsedRule) → (full ≡ false) × IsAllowedRul
 passes full r h = rw (none_else r.removed h.1.removes, h.1.numbers, or_from full (is_too_large r) h.0 (small r h.1), h.1.scoped) refl
 
 pub declared : (all : List Declared) → declaration_judged all ≡ Ok tt → AreAllowedDeclarations all
-declared all h =
-    let first = passed _ _ _ tt h in
-    let second = passed _ _ _ tt first.1 in
-    record { numbers = first.0; names = second.0 }
+declared all h = grind (arith, nat_tests, h)
 
 pub declares : (all : List Declared) → AreAllowedDeclarations all → declaration_judged all ≡ Ok tt
 declares all s = rw (s.numbers, s.names) refl
 
 pub posted : (atoms : List ParsedAtom) → post_judged atoms ≡ Ok tt → AreAllowedPosts atoms
-posted atoms h =
-    let first = passed _ _ _ tt h in
-    let second = passed _ _ _ tt first.1 in
-    let third = passed _ _ _ tt second.1 in
-    let large = neither (list_any (phrase_has is_long) atoms || list_any has_many_args atoms) (list_any has_large_args atoms) second.0 in
-    let words = neither (list_any (phrase_has is_long) atoms) (list_any has_many_args atoms) large.0 in
-    record { numbers = first.0; names = words.0; args = words.1; terms = large.1; no_variables = third.0 }
+posted atoms h = grind (arith, nat_tests, h)
 
 pub posts : (atoms : List ParsedAtom) → AreAllowedPosts atoms → post_judged atoms ≡ Ok tt
 posts atoms s = rw (s.numbers, or_from _ _ (or_from _ _ s.names s.args) s.terms, s.no_variables) refl

@@ -10,7 +10,7 @@ fn with_digit(number: u64, digit: u8) -> Option<u64>
         .checked_add(u64::from(digit.saturating_sub(b'0')))
 }
 
-#[tactic(auto, using(crate::proofs::Digits::decimal_least))]
+#[tactic(auto, using(crate::proofs::Arguments::decimal_least))]
 /// The number of the digits, unless it passes 64 bits.
 fn magnitude(digits: &[u8]) -> Option<u64>
     ensures { MatchOption result (2 ^ 64 ≤ decimal_from 0 digits.now) (λ n. n ≡ decimal_from 0 digits.now) }

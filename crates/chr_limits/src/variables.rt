@@ -1,6 +1,5 @@
 //! The variables of a rule, and how many there are.
-ghost use Rattle.std.specs.Prelude.{◌≡◌, ◌<◌, ◌∷◌, [], length, map, flat_map, nat_lt, MatchOption};
-ghost use Rattle.chr_lex.specs.Tokens.{word};
+ghost use Rattle.std.specs.Prelude.{◌≡◌, ◌<◌, ◌∷◌, [], ℕ, List, length, map, flat_map, nat_lt, MatchOption};
 ghost use Rattle.chr_grammar.specs.Views as by_texts;
 ghost use Rattle.chr_limits.specs.Variables.{word_variables, term_variables, formula_variables, phrase_variables, test_variables, member_variables, head_variables, variables_of, is_blank, is_seen, seen_from, seen};
 ghost use Rattle.chr_limits.specs.Views.{names, Sees};
@@ -52,38 +51,67 @@ pub fn meet<'a>(seen: &mut Seen<'a>, name: &'a [u8]) -> Option<()>
     Some(())
 }
 
-fn meet_word<'a>(seen: &mut Seen<'a>, part: Word<'a>) -> Option<()>
-    ensures { Sees result seen.old.items seen.new.items (word_variables (word part.entry)) }
-{
-    match part {
-        Word::Variable(name) => meet(seen, name),
-        Word::Name(_) => Some(()),
-        Word::Number { .. } => Some(()),
-    }
+/// A part of a rule as it is written, with variables that are added to those of `S`.
+trait HasVariables<S> {
+    ghost Said: { Type 0 };
+
+    ghost said: { Self → Said };
+
+    /// The variables at their places, in text order.
+    ghost variables: { Said → List (List ℕ) };
+
+    /// Those that were seen.
+    ghost known: { S → List (List ℕ) };
+
+    /// Adds those that were not seen before. None where there are more than [`MOST_VARIABLES`] then.
+    fn add_to(&self, seen: &mut S) -> Option<()>
+        ensures { MatchOption result (24 < length (seen_from (known seen.old) (variables (said self.now)))) (λ _. known seen.new ≡ seen_from (known seen.old) (variables (said self.now))) };
 }
 
-fn meet_words<'a>(seen: &mut Seen<'a>, nodes: &[TermNode<'a>]) -> Option<()>
-    ensures { Sees result seen.old.items seen.new.items (term_variables (map by_texts.node nodes.now)) }
+/// Adds the variables of the parts.
+fn meet_each<S, X: HasVariables<S>>(seen: &mut S, parts: &[X]) -> Option<()>
+    ensures { MatchOption result (24 < length (seen_from (X.known seen.old) (flat_map X.variables (map X.said parts.now)))) (λ _. X.known seen.new ≡ seen_from (X.known seen.old) (flat_map X.variables (map X.said parts.now))) }
 {
-    for node in nodes {
-        meet_word(seen, node.word)?;
-    }
-    Some(())
-}
-
-fn meet_term<'a, A: Allocator>(seen: &mut Seen<'a>, term: &ParsedTerm<'a, A>) -> Option<()>
-    ensures { Sees result seen.old.items seen.new.items (term_variables (by_texts.term term.now)) }
-{
-    meet_words(seen, &term.nodes)
-}
-
-fn meet_terms<'a, A: Allocator>(seen: &mut Seen<'a>, terms: &[ParsedTerm<'a, A>]) -> Option<()>
-    ensures { Sees result seen.old.items seen.new.items (flat_map term_variables (map by_texts.term terms.now)) }
-{
-    for term in terms {
-        meet_term(seen, term)?;
+    for part in parts {
+        part.add_to(seen)?;
     }
     Some(())
+}
+
+impl<'a> HasVariables<Seen<'a>> for TermNode<'a> {
+    ghost use Rattle.chr_grammar.specs.Parsed as parsed;
+
+    ghost Said = { parsed.TermNode };
+
+    ghost said = { by_texts.node };
+
+    ghost variables = { λ n. word_variables n.word };
+
+    ghost known = { λ seen. names seen.items };
+
+    fn add_to(&self, seen: &mut Seen<'a>) -> Option<()> {
+        match self.word {
+            Word::Variable(name) => meet(seen, name),
+            Word::Name(_) => Some(()),
+            Word::Number { .. } => Some(()),
+        }
+    }
+}
+
+impl<'a, A: Allocator> HasVariables<Seen<'a>> for ParsedTerm<'a, A> {
+    ghost use Rattle.chr_grammar.specs.Parsed as parsed;
+
+    ghost Said = { parsed.ParsedTerm };
+
+    ghost said = { by_texts.term };
+
+    ghost variables = { term_variables };
+
+    ghost known = { λ seen. names seen.items };
+
+    fn add_to(&self, seen: &mut Seen<'a>) -> Option<()> {
+        meet_each(seen, &self.nodes)
+    }
 }
 
 #[tactic(auto, using(crate::proofs::Meeting::met_from_append, crate::proofs::Meeting::short_more))]
@@ -101,66 +129,75 @@ fn meet_tree<'a, A: Allocator>(seen: &mut Seen<'a>, tree: &ParsedExpression<'a, 
     }
 }
 
-fn meet_phrases<'a, A: Allocator>(seen: &mut Seen<'a>, phrases: &[ParsedAtom<'a, A>]) -> Option<()>
-    ensures { Sees result seen.old.items seen.new.items (flat_map phrase_variables (map by_texts.phrase phrases.now)) }
-{
-    for phrase in phrases {
-        meet_terms(seen, &phrase.args)?;
-    }
-    Some(())
-}
+impl<'a, A: Allocator> HasVariables<Seen<'a>> for ParsedAtom<'a, A> {
+    ghost use Rattle.chr_grammar.specs.Parsed as parsed;
 
-#[tactic(auto, using(crate::proofs::Meeting::met_from_append, crate::proofs::Meeting::short_more))]
-fn meet_test<'a, A: Allocator>(seen: &mut Seen<'a>, test: &GuardMember<'a, A>) -> Option<()>
-    ensures { Sees result seen.old.items seen.new.items (test_variables (by_texts.test test.now)) }
-{
-    match test {
-        GuardMember::True => Some(()),
-        GuardMember::Compared(_, left, right) => {
-            meet_tree(seen, left)?;
-            meet_tree(seen, right)
-        }
-        GuardMember::Same(left, right) => {
-            meet_term(seen, left)?;
-            meet_term(seen, right)
-        }
-        GuardMember::Differ(left, right) => {
-            meet_term(seen, left)?;
-            meet_term(seen, right)
-        }
+    ghost Said = { parsed.ParsedAtom };
+
+    ghost said = { by_texts.phrase };
+
+    ghost variables = { phrase_variables };
+
+    ghost known = { λ seen. names seen.items };
+
+    fn add_to(&self, seen: &mut Seen<'a>) -> Option<()> {
+        meet_each(seen, &self.args)
     }
 }
 
-fn meet_tests<'a, A: Allocator>(seen: &mut Seen<'a>, tests: &[GuardMember<'a, A>]) -> Option<()>
-    ensures { Sees result seen.old.items seen.new.items (flat_map test_variables (map by_texts.test tests.now)) }
-{
-    for test in tests {
-        meet_test(seen, test)?;
-    }
-    Some(())
-}
+impl<'a, A: Allocator> HasVariables<Seen<'a>> for GuardMember<'a, A> {
+    ghost use Rattle.chr_grammar.specs.Parsed as parsed;
 
-#[tactic(auto, using(crate::proofs::Meeting::short_first))]
-fn meet_member<'a, A: Allocator>(seen: &mut Seen<'a>, member: &BodyMember<'a, A>) -> Option<()>
-    ensures { Sees result seen.old.items seen.new.items (member_variables (by_texts.member member.now)) }
-{
-    match member {
-        BodyMember::True => Some(()),
-        BodyMember::Is(name, tree) => {
-            meet(seen, *name)?;
-            meet_tree(seen, tree)
+    ghost Said = { parsed.GuardMember };
+
+    ghost said = { by_texts.test };
+
+    ghost variables = { test_variables };
+
+    ghost known = { λ seen. names seen.items };
+
+    #[tactic(auto, using(crate::proofs::Meeting::met_from_append, crate::proofs::Meeting::short_more))]
+    fn add_to(&self, seen: &mut Seen<'a>) -> Option<()> {
+        match self {
+            GuardMember::True => Some(()),
+            GuardMember::Compared(_, left, right) => {
+                meet_tree(seen, left)?;
+                meet_tree(seen, right)
+            }
+            GuardMember::Same(left, right) => {
+                left.add_to(seen)?;
+                right.add_to(seen)
+            }
+            GuardMember::Differ(left, right) => {
+                left.add_to(seen)?;
+                right.add_to(seen)
+            }
         }
-        BodyMember::Add(phrase) => meet_terms(seen, &phrase.args),
     }
 }
 
-fn meet_members<'a, A: Allocator>(seen: &mut Seen<'a>, members: &[BodyMember<'a, A>]) -> Option<()>
-    ensures { Sees result seen.old.items seen.new.items (flat_map member_variables (map by_texts.member members.now)) }
-{
-    for member in members {
-        meet_member(seen, member)?;
+impl<'a, A: Allocator> HasVariables<Seen<'a>> for BodyMember<'a, A> {
+    ghost use Rattle.chr_grammar.specs.Parsed as parsed;
+
+    ghost Said = { parsed.BodyMember };
+
+    ghost said = { by_texts.member };
+
+    ghost variables = { member_variables };
+
+    ghost known = { λ seen. names seen.items };
+
+    #[tactic(auto, using(crate::proofs::Meeting::short_first))]
+    fn add_to(&self, seen: &mut Seen<'a>) -> Option<()> {
+        match self {
+            BodyMember::True => Some(()),
+            BodyMember::Is(name, tree) => {
+                meet(seen, *name)?;
+                meet_tree(seen, tree)
+            }
+            BodyMember::Add(phrase) => phrase.add_to(seen),
+        }
     }
-    Some(())
 }
 
 /// The variables of the heads, or None where there are more than [`MOST_VARIABLES`].
@@ -169,8 +206,8 @@ pub(crate) fn head_variables<'a, A: Allocator>(rule: &ParsedRule<'a, A>) -> Opti
     ensures { MatchOption result (24 < length (seen (head_variables (by_texts.raw_rule rule.now)))) (λ known. names known.items ≡ seen (head_variables (by_texts.raw_rule rule.now))) }
 {
     let mut seen = Seen::new();
-    meet_phrases(&mut seen, &rule.heads.kept)?;
-    meet_phrases(&mut seen, &rule.heads.removed)?;
+    meet_each(&mut seen, &rule.heads.kept)?;
+    meet_each(&mut seen, &rule.heads.removed)?;
     Some(seen)
 }
 
@@ -182,10 +219,10 @@ pub(crate) fn has_many_variables<A: Allocator>(rule: &ParsedRule<'_, A>) -> bool
     let Some(mut seen) = head_variables(rule) else {
         return true;
     };
-    if meet_tests(&mut seen, &rule.consequence.guard).is_none() {
+    if meet_each(&mut seen, &rule.consequence.guard).is_none() {
         return true;
     }
-    match meet_members(&mut seen, &rule.consequence.body) {
+    match meet_each(&mut seen, &rule.consequence.body) {
         // There is no room for more.
         Some(()) => seen.len() > MOST_VARIABLES,
         None => true,

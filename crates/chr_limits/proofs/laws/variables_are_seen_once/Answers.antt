@@ -1,4 +1,4 @@
-use Rattle.chr_limits.proofs.Distinct.{same, once, blanks}
+use Rattle.chr_limits.proofs.Meeting.{same, once, blanks}
 use Rattle.chr_limits.proofs.laws.variables_are_seen_once.Goals as goal
 
 pub returns : goal.returns

@@ -6,7 +6,7 @@ use Rattle.chr_grammar.specs.Views.{member, formula, term, phrase}
 use Rattle.chr_limits.specs.Variables.{is_seen, term_variables, formula_variables, phrase_variables, member_variables, seen_from}
 use Rattle.chr_limits.specs.Scope.{are_seen}
 use Rattle.chr_limits.specs.Views.{names}
-use Rattle.chr_limits.proofs.Scoped.{room_for, value_met, all_met}
+use Rattle.chr_limits.proofs.Meeting.{room_for, value_met, all_met}
 use Rattle.chr_limits.proofs.scope.enter.Goals as goal
 
 pub push-requires : goal.push-requires

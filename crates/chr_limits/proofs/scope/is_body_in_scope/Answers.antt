@@ -1,7 +1,7 @@
 use Rattle.std.proofs.lemmas.Bool.{OnTrue_at}
 use Rattle.chr_grammar.specs.Views.{member}
 use Rattle.chr_limits.specs.Views.{names}
-use Rattle.chr_limits.proofs.Scoped.{stopped, goes_on, room_left, still_few, body_more}
+use Rattle.chr_limits.proofs.Meeting.{stopped, goes_on, room_left, still_few, body_more}
 use Rattle.chr_limits.proofs.scope.is_body_in_scope.Goals as goal
 
 pub enter-requires : goal.enter-requires

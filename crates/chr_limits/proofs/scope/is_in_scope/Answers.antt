@@ -3,8 +3,7 @@ use Rattle.chr_grammar.specs.Views.{raw_rule, test}
 use Rattle.chr_limits.specs.Variables.{head_variables, test_variables, member_variables}
 use Rattle.chr_limits.specs.Scope.{are_seen}
 use Rattle.chr_limits.specs.Views.{names}
-use Rattle.chr_limits.proofs.Meeting.{short_more}
-use Rattle.chr_limits.proofs.Scoped.{body_left}
+use Rattle.chr_limits.proofs.Meeting.{short_more, body_left}
 use Rattle.chr_limits.proofs.scope.is_in_scope.Goals as goal
 
 pub returns-in_default : goal.returns-in_default
