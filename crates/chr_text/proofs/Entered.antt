@@ -7,7 +7,7 @@ use Rattle.chr_value.proofs.Inside.{atom_inside}
 use Rattle.chr_text.specs.Named.{RulesAreNamed}
 use Rattle.chr_text.specs.Reading.{Program, program_of, Posts, posts_of}
 use Rattle.chr_text.proofs.Lists.{each_so}
-use Rattle.chr_text.proofs.RuleWritable.{program_held}
+use Rattle.chr_text.proofs.Writable.{program_held}
 use Rattle.chr_text.proofs.Writable as writable
 
 pub program_named : (table : Table) (bytes : List ℕ) (p : Program) → program_of table bytes ≡ Ok p → RulesAreNamed p.1 p.0

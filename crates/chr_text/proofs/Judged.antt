@@ -1,25 +1,143 @@
--- What is judged to stand can be numbered.
-use Rattle.std.proofs.Common.{◌≡◌, ℕ, suc, Bool, false, ◌||◌, List, [], ◌∷◌, length, filter, Ok, refl, ap, arith}
+-- The names of an item are letters, digits and `_`, and what is judged without a fault fits.
+use Rattle.std.proofs.Common.{◌≡◌, ℕ, Bool, true, false, List, Ok, arith, [], ◌∷◌, ◌++◌, subst, suc, ◌||◌, length, filter, refl, ap, ◌∙◌}
 use Rattle.std.specs.List.{AllByRecursion, list_any}
-use Rattle.std.proofs.lemmas.Bool.{ltb-false}
-use Rattle.chr_value.specs.Spelling.{IsName}
-use Rattle.chr_lex.specs.Tokens.{Word, Name, Variable, Number}
+use Rattle.chr_value.specs.Spelling.{is_name_byte, IsName}
+use Rattle.chr_lex.specs.Items.{Item}
+use Rattle.chr_lex.specs.Lexing.{Spells, a_name, a_variable, a_number, below_zero, a_mark, Tokens, no_more, blank, token}
+use Rattle.chr_lex.specs.Tokens.{Lexeme, OfWord, OfMark, is_operand, Word, Name, Variable, Number}
+use Rattle.chr_text.specs.Fitting.{WordPlain, NodePlain, TermPlain, PhrasePlain, TestPlain, MemberPlain, RulePlain, StatementPlain, NamePlain, WordFits, NodeFits, TermFits, ValueFits, PostFits, FormulaFits, ShapeFits, TestFits, MemberFits, RuleFits}
+use Rattle.chr_text.specs.Reading.{item_lexemes, Program}
+use Rattle.chr_text.specs.Forms.{AddsStatement}
+use Rattle.chr_text.proofs.Texts as texts
 use Rattle.chr_grammar.specs.Parsed as parsed
-use Rattle.chr_grammar.specs.Parsed.{ParsedExpression, TermNode, ParsedTerm, ParsedAtom, GuardMember, BodyMember, ParsedRule}
+use Rattle.chr_grammar.specs.Parsed.{TermNode, ParsedTerm, ParsedAtom, GuardMember, BodyMember, ParsedRule, Statement, Rule, ParsedExpression}
+use Rattle.chr_grammar.specs.Parsing.{phrases_of, statement_of}
+use Rattle.chr_grammar.specs.Spelling.{by_commas, between, nodes_spelled, term_spelled, further, phrase_spelled, test_spelled, member_spelled, rule_name_spelled, heads_spelled, consequence_spelled, IsParsedTerm, IsParsedAtom, IsGuardMember, IsBodyMember}
+use Rattle.chr_grammar.proofs.Terms.{are_phrases}
+use Rattle.chr_grammar.proofs.Statements.{says, by_texts}
+use Rattle.std.proofs.lemmas.Bool.{ltb-false}
 use Rattle.chr_rule.specs.Terms.{IsTerm, IsRuleAtom, IsComparison, IsBodyItem}
 use Rattle.chr_limits.specs.Words.{is_out_of_range, is_long, is_variable, formula_has, term_has, phrase_has, test_has, member_has, rule_name_has}
 use Rattle.chr_limits.specs.Limits.{is_large_term, has_large_args, compares_large_terms, adds_large_args, has_many_args, adds_many_args, is_comparison, is_item}
 use Rattle.chr_limits.specs.Judging.{post_judged, rule_judged}
 use Rattle.chr_value.proofs.Texts.{neither}
-use Rattle.chr_limits.proofs.Standing.{posted, stands}
-use Rattle.chr_text.specs.Fitting.{WordPlain, NodePlain, TermPlain, PhrasePlain, TestPlain, MemberPlain, RulePlain, NamePlain, WordFits, NodeFits, TermFits, ValueFits, PostFits, FormulaFits, ShapeFits, TestFits, MemberFits, RuleFits}
+use Rattle.chr_limits.proofs.Standing.{posted, stands, passes}
+use Rattle.chr_limits.specs.Standing.{IsAllowedRule}
 use Rattle.chr_text.specs.Translation.{argument, rule_atom, test, member, somes, after_kept, after_heads, after_guard}
 use Rattle.chr_text.specs.Variables.{Seen, in_turn}
-use Rattle.chr_text.proofs.Nested.{plain_nests}
-use Rattle.chr_text.proofs.Limited.{is_term}
-use Rattle.chr_text.proofs.Lists.{IfThere, turns_so, some_turns_so, turns_count}
-use Rattle.chr_text.proofs.InScope.{rule_known}
-use Rattle.chr_text.proofs.Seen.{all_seen}
+use Rattle.chr_text.proofs.Limited.{plain_nests, is_term}
+use Rattle.chr_text.proofs.Lists.{each_split, IfThere, turns_so, some_turns_so, turns_count}
+use Rattle.chr_text.proofs.InScope.{rule_known, all_seen}
+
+-- ---- words
+
+abbrev pub LexemePlain : Lexeme → Type 0
+LexemePlain (OfWord w) = WordPlain w
+LexemePlain (OfMark m) = Unit {0}
+
+abbrev pub AllPlain : List Lexeme → Type 0
+AllPlain ts = AllByRecursion LexemePlain ts
+
+-- ---- tokens
+
+spelled_plain : (op : Bool) (t : Lexeme) (w : List ℕ) → Spells op t w → LexemePlain t
+spelled_plain _ _ _ (a_name op b bs lower all free) = let n : is_name_byte b ≡ true = grind (arith, lower) in record { first = lower; bytes = rw n all; plain = free }
+spelled_plain _ _ _ (a_variable op b bs upper all) = tt
+spelled_plain _ _ _ (a_number op b bs all) = tt
+spelled_plain _ _ _ (below_zero b bs all) = tt
+spelled_plain _ _ _ (a_mark op m) = tt
+
+tokens_plain : (op : Bool) (bs : List ℕ) (ts : List Lexeme) → Tokens op bs ts → AllPlain ts
+tokens_plain _ _ _ (no_more op) = tt
+tokens_plain _ _ _ (blank op b bs ts gap more) = tokens_plain op bs ts more
+tokens_plain _ _ _ (token op t w rest ts longest more) = (spelled_plain op t w longest.spelled, tokens_plain (is_operand t) rest ts more)
+
+pub lexemes_plain : (e : Item) (ts : List Lexeme) → item_lexemes e ≡ Ok ts → AllPlain ts
+lexemes_plain e ts h = tokens_plain false e.bytes ts (texts.is_item e ts h).tokens
+
+-- ---- terms and atoms
+
+nodes_plain : (d : ℕ) (ns : List TermNode) → AllPlain (nodes_spelled d ns) → AllByRecursion NodePlain ns
+nodes_plain d [] all = tt
+nodes_plain d (n ∷ ns) all =
+    let rest = (each_split LexemePlain (between d n.depth) (OfWord n.word ∷ nodes_spelled n.depth ns) all).1 in
+    (rest.0, nodes_plain n.depth ns rest.1)
+
+term_plain : (t : ParsedTerm) → IsParsedTerm t → AllPlain (term_spelled t) → TermPlain t
+term_plain [] is all = absurd is
+term_plain (n ∷ ns) is all = (is, (all.0, nodes_plain n.depth ns all.1))
+
+further_plain : (ts : List ParsedTerm) → AllByRecursion IsParsedTerm ts → AllPlain (further ts) → AllByRecursion TermPlain ts
+further_plain [] are all = tt
+further_plain (t ∷ ts) are all =
+    let parts = each_split LexemePlain (term_spelled t) (further ts) all.1 in
+    (term_plain t are.0 parts.0, further_plain ts are.1 parts.1)
+
+args_plain : (name : List ℕ) (ts : List ParsedTerm) → AllByRecursion IsParsedTerm ts → AllPlain (phrase_spelled (record { name = name; args = ts })) → AllByRecursion TermPlain ts
+args_plain name [] are all = tt
+args_plain name (t ∷ ts) are all = further_plain (t ∷ ts) are all.1
+
+phrase_plain : (p : ParsedAtom) → IsParsedAtom p → AllPlain (phrase_spelled p) → PhrasePlain p
+phrase_plain p is all = (all.0, args_plain p.name p.args is.terms all)
+
+-- ---- lists by commas
+
+commas_plain : {A : Type 0} (Stands P : A → Type 0) (spelled : A → List Lexeme) → ((x : A) → Stands x → AllPlain (spelled x) → P x) → (xs : List A) → AllByRecursion Stands xs → AllPlain (by_commas spelled xs) → AllByRecursion P xs
+commas_plain Stands P spelled h [] are all = tt
+commas_plain Stands P spelled h (x ∷ []) are all = (h x are.0 all, tt)
+commas_plain Stands P spelled h (x ∷ y ∷ xs) are all =
+    let parts = each_split LexemePlain (spelled x) _ all in
+    (h x are.0 parts.0, commas_plain Stands P spelled h (y ∷ xs) are.1 parts.1.1)
+
+phrases_plain : (ps : List ParsedAtom) → AllByRecursion IsParsedAtom ps → AllPlain (by_commas phrase_spelled ps) → AllByRecursion PhrasePlain ps
+phrases_plain ps are all = commas_plain IsParsedAtom PhrasePlain phrase_spelled phrase_plain ps are all
+
+pub phrases_are_plain : (ts : List Lexeme) (ps : List ParsedAtom) → AllPlain ts → phrases_of ts ≡ Ok ps → AllByRecursion PhrasePlain ps
+phrases_are_plain ts ps all h = let are = are_phrases ts ps h in phrases_plain ps are.each (subst AllPlain are.written all)
+
+-- ---- guards and bodies
+
+test_plain : (t : GuardMember) → IsGuardMember t → AllPlain (test_spelled t) → TestPlain t
+test_plain (parsed.Same t u) is all = let parts = each_split LexemePlain (term_spelled t) _ all in (term_plain t is.0 parts.0, term_plain u is.1 parts.1.1)
+test_plain (parsed.Differ t u) is all = let parts = each_split LexemePlain (term_spelled t) _ all in (term_plain t is.0 parts.0, term_plain u is.1 parts.1.1)
+test_plain _ is all = tt
+
+member_plain : (m : BodyMember) → IsBodyMember m → AllPlain (member_spelled m) → MemberPlain m
+member_plain (parsed.Add p) is all = phrase_plain p is all
+member_plain _ is all = tt
+
+members_plain : (ms : List BodyMember) → AllByRecursion IsBodyMember ms → AllPlain (by_commas member_spelled ms) → AllByRecursion MemberPlain ms
+members_plain ms are all = commas_plain IsBodyMember MemberPlain member_spelled member_plain ms are all
+
+-- ---- rules
+
+heads_plain : (kept removed : List ParsedAtom) → AllByRecursion IsParsedAtom kept → AllByRecursion IsParsedAtom removed → AllPlain (heads_spelled kept removed)
+    → AllByRecursion PhrasePlain kept × AllByRecursion PhrasePlain removed
+heads_plain [] removed k r all = (tt, phrases_plain removed r all)
+heads_plain (p ∷ ps) [] k r all = (phrases_plain (p ∷ ps) k all, tt)
+heads_plain (p ∷ ps) (q ∷ qs) k r all =
+    let parts = each_split LexemePlain (by_commas phrase_spelled (p ∷ ps)) _ all in
+    (phrases_plain (p ∷ ps) k parts.0, phrases_plain (q ∷ qs) r parts.1.1)
+
+consequence_plain : (guard : List GuardMember) (body : List BodyMember) → AllByRecursion IsGuardMember guard → AllByRecursion IsBodyMember body → AllPlain (consequence_spelled guard body)
+    → AllByRecursion TestPlain guard × AllByRecursion MemberPlain body
+consequence_plain [] body g b all = (tt, members_plain body b all)
+consequence_plain (t ∷ ts) body g b all =
+    let parts = each_split LexemePlain (by_commas test_spelled (t ∷ ts)) _ all in
+    (commas_plain IsGuardMember TestPlain test_spelled test_plain (t ∷ ts) g parts.0, members_plain body b parts.1.1)
+
+pub rules_are_plain : (ts : List Lexeme) (r : ParsedRule) → AllPlain ts → statement_of ts ≡ Ok (Rule r) → RulePlain r
+rules_are_plain ts r all h =
+    let is = says ts (Rule r) h in
+    let named = each_split LexemePlain (rule_name_spelled r.rule_name) _ (subst AllPlain is.1 all) in
+    let parts = each_split LexemePlain (heads_spelled r.kept r.removed) _ named.1 in
+    let heads = heads_plain r.kept r.removed is.0.kept is.0.removed parts.0 in
+    let rest = consequence_plain r.guard r.body is.0.guard is.0.body parts.1.1 in
+    record { kept = heads.0; removed = heads.1; guard = rest.0; body = rest.1 }
+
+pub statements_are_plain : (ts : List Lexeme) (s : Statement) → AllPlain ts → statement_of ts ≡ Ok s → StatementPlain s
+statements_are_plain ts (Rule r) plain is = rules_are_plain ts r plain is
+statements_are_plain ts _ plain is = tt
 
 -- none of four tests is passed
 four : (a b c d : Bool) → a || b || c || d ≡ false → (a ≡ false) × (b ≡ false) × (c ≡ false) × (d ≡ false)
@@ -161,3 +279,9 @@ rule_fits full r u h p =
         };
       };
     }
+
+-- a rule of a text
+pub read_fits : (before : Program) (e : Item) (after : Program) (a : AddsStatement before e after) (r : ParsedRule) → a.statement ≡ Rule r → IsAllowedRule r → RuleFits r
+read_fits before e after a r is allowed =
+    let plain = lexemes_plain e a.tokens (texts.item_read e a.tokens a.item) in
+    rule_fits false r tt (passes false r (refl, allowed)) (rules_are_plain a.tokens r plain (by_texts a.tokens a.statement a.says ∙ ap (λ (s : Statement). Ok s) is))

@@ -1,19 +1,39 @@
--- The words of a term that are numbered make the numbered term.
-use Rattle.std.proofs.Common.{◌≡◌, ℕ, suc, Bool, true, false, ltb, ◌||◌, List, [], ◌∷◌, ◌++◌, Option, Some, None, Ok, refl, sym, ap, ap₂, subst, ◌∙◌}
+-- The words of a term that are numbered make the numbered term; the parts of a rule, and terms that are built.
+use Rattle.std.proofs.Common.{◌≡◌, ℕ, suc, Bool, true, false, ltb, ◌||◌, List, [], ◌∷◌, ◌++◌, Option, Some, None, Ok, refl, sym, ap, ap₂, subst, ◌∙◌, ◌≤◌, length, ◌<◌, ◌+◌, get_or, drop, map, reverse, append_assoc, Box, arith}
 use Rattle.std.specs.List.{list_any}
 use Rattle.chr_lex.specs.declared.fault.ItemError.{ItemError}
 use Rattle.chr_lex.specs.Reading.{Fails}
-use Rattle.chr_value.specs.Atoms.{Value, Int, Sym, Comp, Args, Nil, Cons, args_of}
+use Rattle.chr_value.specs.Atoms.{Value, Int, Sym, Comp, Args, Nil, Cons, args_of, grounds}
 use Rattle.chr_value.specs.Naming.{◌>>=◌, Table, number_name, numbered_value, numbered_args}
 use Rattle.chr_value.proofs.Chosen.{bind_some, some_is}
-use Rattle.chr_rule.specs.Rules.{Term, Var, Given, Open, Terms, End, And, terms_of}
+use Rattle.chr_rule.specs.Rules.{Term, Var, Given, Open, Terms, End, And, terms_of, RuleAtom, Comparison, BodyItem, Simpagation, of_parts}
 use Rattle.chr_rule.specs.Terms.{is_open}
-use Rattle.chr_text.specs.Terms.{Placed, inside, behind, values, functor_with, with_args, terms_of_words, term_of_words, value_words, args_words, words_of, terms_words}
-use Rattle.chr_text.specs.Numbering.{or_full, each, numbered_term, numbered_terms, numbered_word}
-use Rattle.chr_text.proofs.Lists.{IfThere, there, if_there, then_there}
-use Rattle.chr_text.proofs.Nested.{IsWord, can_open, AreBehind, AreWords, none_inside, none_behind, term_again}
-use Rattle.chr_text.proofs.Said.{argument_by, argument_says}
-use Rattle.chr_text.proofs.Steps.{numbered_is, fails_as, uncons, each_end}
+use Rattle.chr_text.specs.Terms.{Placed, inside, behind, values, functor_with, with_args, terms_of_words, term_of_words, value_words, args_words, words_of, terms_words, first_of}
+use Rattle.chr_text.specs.Numbering.{or_full, each, numbered_term, numbered_terms, numbered_word, numbered_rule_atom, number_test, number_member, number_rule}
+use Rattle.chr_text.proofs.Lists.{IfThere, there, if_there, then_there, numbered_is, fails_as, uncons, each_end, fails_then, each_some, given_somes, given_seen, map_at}
+use Rattle.chr_text.proofs.Limited.{IsWord, can_open, AreBehind, AreWords, none_inside, none_behind, term_again}
+use Rattle.chr_text.proofs.Said.{argument_by, argument_says, rule_stays, rule_says}
+use Rattle.std.proofs.lemmas.List.{length-map, append-nil, map_push, reverse-append, nil_from_length}
+use Rattle.std.specs.Borrow.{Bor}
+use Rattle.chr_limits.specs.Views.{names as texts}
+use Rattle.chr_rule.specs.Scope.{IsRule}
+use Rattle.chr_text.specs.Translation.{given}
+use Rattle.chr_text.specs.Variables.{Seen, in_turn}
+use Rattle.chr_value.specs.declared.value.Value as values_of_code
+use Rattle.chr_value.specs.declared.value.Value.{Value as CodeValue}
+use Rattle.chr_value.specs.declared.value.Comp.{Comp as CodeComp}
+use Rattle.chr_value.specs.declared.names.Name.{Name}
+use Rattle.chr_value.proofs.Levels.{ground-Comp}
+use Rattle.chr_rule.specs.Parts.{argument}
+use Rattle.chr_rule.specs.declared.term.Term as terms
+use Rattle.chr_rule.specs.declared.term.Term.{Term as CodeTerm}
+use Rattle.chr_rule.proofs.Levels.{argument-Var, argument-Given}
+use Rattle.chr_text.specs.declared.words.NumberedWord.{NumberedWord}
+use Rattle.chr_text.specs.declared.words.NumberedWord.TheVariants as numbered
+use Rattle.chr_text.specs.declared.words.NumberedNode.{NumberedNode}
+use Rattle.chr_text.specs.Trees.{placed, from_top, is_deeper}
+use Rattle.chr_text.specs.Words.{word_term, placed_word}
+use Rattle.chr_text.specs.declared.trees.PlacedTerm.{PlacedTerm}
 
 -- ---- each in turn
 
@@ -196,3 +216,139 @@ pub term_fails : (error : ItemError) (table : Table) (ws : List (Placed (List �
 term_fails error table ws all h =
     fails_as error (each numbered_word table ws) (numbered_term table (term_of_words ws))
     (λ x e. (_, ap (each numbered_word table) (sym (term_again ws all)) ∙ there _ (numbered_term table (term_of_words ws)) x (term_numbers table 0 (term_of_words ws)) e)) h
+
+-- a part that was numbered, and the variables that were seen by then
+pub record Done {A B C : Type 0} (number : Table → List B → Option (List C × Table)) (g : Seen → A → B × Seen) (start : Seen) (xs : List A) (table : Table) (made : List C) (new : Table) (after : Seen) : Type 0 where
+  pub is : number table (in_turn g start xs).0 ≡ Some (made, new)
+  pub seen : after ≡ (in_turn g start xs).1
+
+pub done : {A B C : Type 0} (number : Table → List B → Option (List C × Table)) (g : Seen → A → B × Seen)
+    → {seen start after : Seen} {xs ys : List A} {table new : Table} {made : List C} → seen ≡ start → xs ≡ ys → or_full (number table (in_turn g seen xs).0) ≡ Ok (made, new) → after ≡ (in_turn g seen xs).1 → Done number g start ys table made new after
+done number g {start = start} {xs = xs} {table = table} e h n met = record {
+  is = ap (λ l. number table (in_turn g start l).0) (sym h) ∙ ap (λ l. number table (in_turn g l xs).0) (sym e) ∙ numbered_is _ _ n;
+  seen = met ∙ ap (λ l. (in_turn g l xs).1) e ∙ ap (λ l. (in_turn g start l).1) h;
+}
+
+pub room_as : {A B : Type 0} (g : Seen → A → B × Seen) {seen start : Seen} {xs ys : List A} → seen ≡ start → xs ≡ ys → length (in_turn g start ys).1 ≤ 24 → length (in_turn g seen xs).1 ≤ 24
+room_as g e h n = rw (e, h) n
+
+-- the same, where each gave something
+pub given_done : {A B C : Type 0} (f : Table → B → Option (C × Table)) (g : Seen → A → B × Seen)
+    → {seen start after : Seen} {xs ys : List A} {table new : Table} {made : List C} → seen ≡ start → xs ≡ ys → or_full (each_some f table (in_turn (given g) seen xs).0) ≡ Ok (made, new) → after ≡ (in_turn (given g) seen xs).1 → Done (each f) g start ys table made new after
+given_done f g {seen = seen} {xs = xs} {table = table} e h n met =
+    done (each f) g e h (ap (λ l. or_full (each f table l)) (sym (given_somes g seen xs)) ∙ n) (met ∙ given_seen g seen xs)
+
+pub given_room : {A B : Type 0} (g : Seen → A → B × Seen) {seen start : Seen} {xs ys : List A} → seen ≡ start → xs ≡ ys → length (in_turn g start ys).1 ≤ 24 → length (in_turn (given g) seen xs).1 ≤ 24
+given_room g {start = start} {ys = ys} e h n = room_as (given g) e h (subst (λ (l : Seen). length l ≤ 24) (sym (given_seen g start ys)) n)
+
+pub given_fails : {A B C : Type 0} (f : Table → B → Option (C × Table)) (g : Seen → A → B × Seen) (error : ItemError) (table : Table)
+    → {seen start : Seen} {xs ys : List A} → seen ≡ start → xs ≡ ys → Fails error (or_full (each_some f table (in_turn (given g) seen xs).0)) → Fails error (or_full (each f table (in_turn g start ys).0))
+given_fails f g error table {seen = seen} {start = start} {xs = xs} e h n =
+    subst (λ l. Fails error (or_full (each f table l))) (given_somes g seen xs ∙ ap (λ s. (in_turn g s xs).0) e ∙ ap (λ l. (in_turn g start l).0) h) n
+
+-- as many as there were
+pub each_count : {A B : Type 0} (f : Table → A → Option (B × Table)) (table new : Table) (as' : List A) (ys : List B) → each f table as' ≡ Some (ys, new) → length ys ≡ length as'
+each_count f table new [] ys h = ap length (sym (each_end f table new ys h).0)
+each_count f table new (a ∷ as') ys h = let u = uncons f table new a as' ys h in ap length (sym u.4) ∙ ap suc (each_count f u.0.1 new as' u.1 u.3)
+
+pub kept_fails : (error : ItemError) (table : Table) (r : Simpagation (List ℕ)) → Fails error (or_full (each numbered_rule_atom table r.kept)) → Fails error (or_full (number_rule table r))
+kept_fails error table r h = fails_then error (each numbered_rule_atom table r.kept) (λ kept. each numbered_rule_atom kept.1 r.removed >>= λ removed. each number_test removed.1 r.guard >>= λ guard. each number_member guard.1 r.body >>= λ body. Some (of_parts r.variables kept.0 removed.0 guard.0 body.0, body.1)) h
+
+pub removed_fails : (error : ItemError) (table t1 : Table) (r : Simpagation (List ℕ)) (kept : List (RuleAtom ℕ)) → each numbered_rule_atom table r.kept ≡ Some (kept, t1) → Fails error (or_full (each numbered_rule_atom t1 r.removed)) → Fails error (or_full (number_rule table r))
+removed_fails error table t1 r kept e1 h = rw e1 (fails_then error (each numbered_rule_atom t1 r.removed) (λ removed. each number_test removed.1 r.guard >>= λ guard. each number_member guard.1 r.body >>= λ body. Some (of_parts r.variables kept removed.0 guard.0 body.0, body.1)) h)
+
+pub guard_fails : (error : ItemError) (table t1 t2 : Table) (r : Simpagation (List ℕ)) (kept removed : List (RuleAtom ℕ)) → each numbered_rule_atom table r.kept ≡ Some (kept, t1) → each numbered_rule_atom t1 r.removed ≡ Some (removed, t2) → Fails error (or_full (each number_test t2 r.guard)) → Fails error (or_full (number_rule table r))
+guard_fails error table t1 t2 r kept removed e1 e2 h = rw (e1, e2) (fails_then error (each number_test t2 r.guard) (λ guard. each number_member guard.1 r.body >>= λ body. Some (of_parts r.variables kept removed guard.0 body.0, body.1)) h)
+
+pub body_fails : (error : ItemError) (table t1 t2 t3 : Table) (r : Simpagation (List ℕ)) (kept removed : List (RuleAtom ℕ)) (guard : List (Comparison ℕ)) → each numbered_rule_atom table r.kept ≡ Some (kept, t1) → each numbered_rule_atom t1 r.removed ≡ Some (removed, t2) → each number_test t2 r.guard ≡ Some (guard, t3) → Fails error (or_full (each number_member t3 r.body)) → Fails error (or_full (number_rule table r))
+body_fails error table t1 t2 t3 r kept removed guard e1 e2 e3 h = rw (e1, e2, e3) (fails_then error (each number_member t3 r.body) (λ body. Some (of_parts r.variables kept removed guard body.0, body.1)) h)
+
+pub rule_done : (table t1 t2 t3 t4 : Table) (r : Simpagation (List ℕ)) (kept removed : List (RuleAtom ℕ)) (guard : List (Comparison ℕ)) (body : List (BodyItem ℕ)) → each numbered_rule_atom table r.kept ≡ Some (kept, t1) → each numbered_rule_atom t1 r.removed ≡ Some (removed, t2) → each number_test t2 r.guard ≡ Some (guard, t3) → each number_member t3 r.body ≡ Some (body, t4)
+    → number_rule table r ≡ Some (of_parts r.variables kept removed guard body, t4)
+rule_done table t1 t2 t3 t4 r kept removed guard body e1 e2 e3 e4 = rw (e1, e2, e3, e4) refl
+
+-- a rule stays one
+pub rule_same : (r : Simpagation (List ℕ)) (table t1 t2 t3 t4 : Table) (kept removed : List (RuleAtom ℕ)) (guard : List (Comparison ℕ)) (body : List (BodyItem ℕ)) → each numbered_rule_atom table r.kept ≡ Some (kept, t1) → each numbered_rule_atom t1 r.removed ≡ Some (removed, t2) → each number_test t2 r.guard ≡ Some (guard, t3) → each number_member t3 r.body ≡ Some (body, t4)
+    → IsRule r → IsRule (of_parts r.variables kept removed guard body)
+rule_same r table t1 t2 t3 t4 kept removed guard body e1 e2 e3 e4 is =
+    let made = of_parts r.variables kept removed guard body in
+    rule_stays t4 made (subst IsRule (sym (rule_says table t4 r made (rule_done table t1 t2 t3 t4 r kept removed guard body e1 e2 e3 e4)).0) is)
+
+-- the variables that were seen are so many
+pub as_many : (n : ℕ) (seen : List (Bor (List ℕ))) (after : Seen) → n ≡ length seen → texts seen ≡ after → n ≡ length after
+as_many n seen after many is = many ∙ sym (length-map seen (λ name. name.now)) ∙ ap length is
+
+-- ---- the values among terms
+
+values_first : {N : Type 0} (t : Term N) (ts : List (Term N)) → values (t ∷ []) ++ values ts ≡ values (t ∷ ts)
+values_first (Given v) ts = refl
+values_first _ ts = refl
+
+pub value_more : {A : Type 0} (made new : List (CodeValue A)) (ts rest : List (CodeTerm A)) (t : CodeTerm A) (total : List (Value ℕ)) → ts ≡ t ∷ rest → grounds new ≡ grounds made ++ values (argument t ∷ [])
+    → grounds made ++ values (map argument ts) ≡ total → grounds new ++ values (map argument rest) ≡ total
+value_more made new ts rest t total are more so_far =
+    rw (more, append_assoc, values_first (argument t) (map argument rest)) (ap (λ l. grounds made ++ values (map argument l)) (sym are) ∙ so_far)
+
+pub all_values : {A : Type 0} (made : List (CodeValue A)) (ts : List (CodeTerm A)) (total : List (Value ℕ)) → length ts ≡ 0 → grounds made ++ values (map argument ts) ≡ total → grounds made ≡ total
+all_values made ts total empty so_far = rw (nil_from_length ts empty, append-nil) at so_far
+
+-- ---- a functor with its arguments
+
+pub value_made : {A : Type 0} (b : Box (CodeComp A) A) (n : ℕ) (ts : List (Term ℕ)) → b.value.functor.number ≡ n → grounds b.value.args.items ≡ values ts → list_any is_open ts ≡ false
+    → argument (terms.Given (values_of_code.Comp b)) ≡ functor_with n ts
+value_made b n ts named are none =
+    argument-Given (values_of_code.Comp b) ∙ ap (λ v. Given v) (ground-Comp b) ∙ ap₂ (λ (f : ℕ) vs. Given (Comp f (args_of vs))) named are ∙ sym (functor_with-values n ts none)
+
+-- ---- a word with its arguments
+
+pub no_name : (w : NumberedWord) (ts : List (Term ℕ)) → ((n : Name) → w ≡ numbered.Name n → ⊥) → with_args (word_term w) ts ≡ word_term w
+no_name (numbered.Name n) ts other = absurd (other n refl)
+no_name _ ts other = refl
+
+pub named_args : (w : NumberedWord) (n : Name) (ts : List (Term ℕ)) → w ≡ numbered.Name n → 0 < length ts → with_args (word_term w) ts ≡ functor_with n.number ts
+named_args w n [] is some = absurd (omega arith)
+named_args w n (t ∷ ts) is some = rw is refl
+
+-- ---- stacks
+
+pub top_first : {A : Type 0} (stack rest : List (PlacedTerm A)) (top : PlacedTerm A) → stack ≡ rest ++ top ∷ [] → from_top stack ≡ placed top ∷ from_top rest
+top_first stack rest top is = ap from_top is ∙ ap reverse (map_push placed rest top) ∙ reverse-append (map placed rest) (placed top ∷ [])
+
+pub built : {A : Type 0} (stack rest : List (PlacedTerm A)) (top : PlacedTerm A) (ws : List (Placed ℕ)) → stack ≡ rest ++ top ∷ [] → from_top stack ≡ terms_of_words ws → argument top.term ≡ term_of_words ws
+built stack rest top ws is are = ap first_of (sym (top_first stack rest top is) ∙ are)
+
+pub none_built : {A : Type 0} (stack : List (PlacedTerm A)) (ws : List (Placed ℕ)) → length stack ≡ 0 → from_top stack ≡ terms_of_words ws → argument {A = A} (terms.Var 0) ≡ term_of_words ws
+none_built {A} stack ws empty are = argument-Var A 0 ∙ ap first_of (sym (ap from_top (nil_from_length stack empty)) ∙ are)
+
+-- a word alone
+pub alone : (words : List NumberedNode) (d : NumberedNode) → 1 ≤ length words → length words < 2 → word_term (get_or words 0 d).word ≡ term_of_words (map placed_word words)
+alone (w ∷ []) d some few = sym (no_args (word_term w.word))
+alone [] d some few = absurd (omega arith)
+alone (w ∷ v ∷ ws) d some few = absurd (omega arith)
+
+-- the word at a place takes the terms inside it from the stack
+pub word_built : {A : Type 0} (words : List NumberedNode) (i place : ℕ) (d : NumberedNode) (stack left new : List (PlacedTerm A)) (args : List (CodeTerm A)) (top : PlacedTerm A) → i + 1 ≡ place → place ≤ length words → from_top stack ≡ terms_of_words (map placed_word (drop place words))
+    → map argument args ≡ inside (get_or words i d).depth (from_top stack) → from_top left ≡ behind (get_or words i d).depth (from_top stack) → argument top.term ≡ with_args (word_term (get_or words i d).word) (map argument args) → top.depth ≡ (get_or words i d).depth → new ≡ left ++ top ∷ []
+    → from_top new ≡ terms_of_words (map placed_word (drop i words))
+word_built words i place d stack left new args top next within so_far taken rest made deep grows =
+    let w = get_or words i d in
+    let behind_it = map placed_word (drop place words) in
+    let split : map placed_word (drop i words) ≡ placed_word w ∷ behind_it = map_at placed_word words i d (omega arith) ∙ ap (λ (k : ℕ). placed_word w ∷ map placed_word (drop k words)) next in
+    let one : placed top ≡ (w.depth, with_args (word_term w.word) (inside w.depth (terms_of_words behind_it))) = ap₂ (λ (n : ℕ) (t : Term ℕ). (n, t)) deep (made ∙ ap (with_args (word_term w.word)) (taken ∙ ap (inside w.depth) so_far)) in
+    top_first new left top grows ∙ ap₂ (λ (t : Placed ℕ) ts. t ∷ ts) one (rest ∙ ap (behind w.depth) so_far) ∙ ap terms_of_words (sym split)
+
+-- ---- what is taken from a stack
+
+pub top_taken : {A : Type 0} (d : ℕ) (stack rest : List (PlacedTerm A)) (top : PlacedTerm A) → stack ≡ rest ++ top ∷ [] → is_deeper d (from_top stack) ≡ true
+    → (inside d (from_top stack) ≡ argument top.term ∷ inside d (from_top rest)) × (behind d (from_top stack) ≡ behind d (from_top rest))
+top_taken d stack rest top is deeper =
+    let first = top_first stack rest top is in
+    let deep : ltb d top.depth ≡ true = ap (is_deeper d) (sym first) ∙ deeper in
+    rw (first, deep) (refl, refl)
+
+pub none_taken : (d : ℕ) (ts : List (Placed ℕ)) → is_deeper d ts ≡ false → (inside d ts ≡ []) × (behind d ts ≡ ts)
+none_taken d [] h = (refl, refl)
+none_taken d (t ∷ ts) h = (rw h refl, rw h refl)
+
+pub is_told : {A : Type 0} (d : ℕ) (stack now : List (PlacedTerm A)) (result b : Bool) → now ≡ stack → result ≡ is_deeper d (from_top now) → result ≡ b → is_deeper d (from_top stack) ≡ b
+is_told d stack now result b same told is = ap (λ s. is_deeper d (from_top s)) (sym same) ∙ sym told ∙ is

@@ -5,7 +5,7 @@ use Rattle.chr_lex.specs.Reading.{◌>>=◌}
 use Rattle.chr_value.specs.Naming.{Table, numbered_atom}
 use Rattle.chr_value.proofs.Chosen.{bind_some, some_is}
 use Rattle.chr_grammar.specs.Parsing.{phrases_of}
-use Rattle.chr_grammar.proofs.Phrases.{are_phrases, phrases_read}
+use Rattle.chr_grammar.proofs.Terms.{are_phrases, phrases_read}
 use Rattle.chr_limits.specs.Judging.{post_judged}
 use Rattle.chr_limits.proofs.Standing as standing
 use Rattle.chr_text.specs.Translation.{atom_by_texts}
@@ -13,7 +13,7 @@ use Rattle.chr_text.specs.Numbering.{or_full, each, more}
 use Rattle.chr_text.specs.Reading.{Posts, item_lexemes, with_phrases, with_post, posts_of}
 use Rattle.chr_text.specs.Forms.{AddsAtoms, ArePosts}
 use Rattle.chr_text.proofs.Texts.{bind_ok, is_item, item_read, is_text}
-use Rattle.chr_text.proofs.Steps.{numbered_is}
+use Rattle.chr_text.proofs.Lists.{numbered_is}
 
 adds_atoms : (p : Posts) (e : Item) (q : Posts) → with_post p e ≡ Ok q → AddsAtoms p e q
 adds_atoms p e q h =

@@ -39,6 +39,7 @@ pub fn posts_by_their_forms()
     ensures refused { (table : Table) (bytes : List ℕ) (f : ReadFault) → posts_of table bytes ≡ Err f → (p : Posts) → ArePosts table bytes p → ⊥ }
 {}
 
+#[tactic(auto, using(crate::proofs::ProgramTexts::program_faults))]
 /// Exactly the first fault of a text is given where the text is no program: a text that is too long has a fault in line 0;
 /// else the items before the first faulty one are without fault, the line is that of the faulty item, and the kind is the
 /// first in the order of the kinds that applies to it.
@@ -47,6 +48,7 @@ pub fn program_faults_by_their_forms()
     ensures only { (table : Table) (bytes : List ℕ) (f : ReadFault) → IsProgramFault table bytes f → program_of table bytes ≡ Err f }
 {}
 
+#[tactic(auto, using(crate::proofs::ProgramTexts::posts_faults))]
 /// The same of a text of posts.
 pub fn post_faults_by_their_forms()
     ensures found { (table : Table) (bytes : List ℕ) (f : ReadFault) → posts_of table bytes ≡ Err f → IsPostsFault table bytes f }
@@ -60,18 +62,21 @@ pub fn variables_by_their_names()
     ensures same { (names : List (List ℕ)) (i j : ℕ) (x y : List ℕ) (m n : ℕ) → (i ≡ j → ⊥) → slice_get names i ≡ Some x → slice_get names j ≡ Some y → slice_get (numbers names) i ≡ Some m → slice_get (numbers names) j ≡ Some n → (m ≡ n) ↔ ((x ≡ y) × (is_blank x ≡ false)) }
 {}
 
+#[tactic(auto, using(crate::proofs::Limited::term_words))]
 /// The words of a term in text order, each with how many parentheses it stands in, are those of the text. So the arguments
 /// of a functor are what is written behind it in its parentheses.
 pub fn terms_by_their_words()
     ensures { (seen : Seen) (t : ParsedTerm) → IsParsedTerm t → words_of 0 (argument seen t).0 ≡ (in_turn placed_word seen t).0 }
 {}
 
+#[tactic(auto, using(crate::proofs::InScope::scope_counted))]
 /// A rule is judged to be in scope exactly where the rule by numbers has as many variables as it says, each with a value
 /// where it is used.
 pub fn scope_by_numbers()
     ensures { (r : ParsedRule) → IsParsedRule r → (is_in_scope r ≡ true) ↔ (variable_count ((rule r).kept ++ (rule r).removed) (rule r).guard (rule r).body ≡ Some (rule r).variables) }
 {}
 
+#[tactic(auto, using(crate::proofs::Writable::posts_writable, crate::proofs::Writable::program_writable))]
 /// A log can hold each atom of posts that are read, and each atom that a rule of a program that is read adds, where the
 /// values of the rule's variables are such that atoms of a log can have them, and the arguments are within the limits.
 pub fn what_is_read_can_be_written()
@@ -79,6 +84,7 @@ pub fn what_is_read_can_be_written()
     ensures rules { (table : Table) (bytes : List ℕ) (p : Program) → program_of table bytes ≡ Ok p → HasWritable p.1 p.0 }
 {}
 
+#[tactic(auto, using(crate::proofs::Entered::program_named, crate::proofs::Entered::posts_named, crate::proofs::Entered::posts_kept))]
 /// The table after a text that was read has all names of its rules, or of its atoms. After posts it begins with the names that
 /// it had.
 pub fn texts_enter_their_names()

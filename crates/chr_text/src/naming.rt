@@ -16,7 +16,7 @@ use std::str;
 
 /// The number of a name, which gets the next one where it is new. E01 where memory ran out; E02 exactly where the name is
 /// new and the table full, whatever the allocator says.
-#[tactic(auto, using(crate::proofs::Tables::keeps_more))]
+#[tactic(auto, using(crate::proofs::Lists::keeps_more))]
 pub fn number_name<A: Allocator + Copy>(
     names: &mut Names<A>,
     name: &[u8],

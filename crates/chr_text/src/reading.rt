@@ -154,7 +154,7 @@ fn add_items<S: Items<A>, A: Allocator + Copy>(
 }
 
 /// What a text says, after what there is. After any error `names` is as before.
-#[tactic(auto, using(crate::proofs::Tables::keeps_same))]
+#[tactic(auto, using(crate::proofs::Lists::keeps_same))]
 fn read_text<S: Items<A>, A: Allocator + Copy>(
     alloc: A,
     bytes: &[u8],

@@ -4,8 +4,8 @@ use Rattle.chr_grammar.specs.Views as by_texts
 use Rattle.chr_limits.specs.Views.{names as texts}
 use Rattle.chr_text.specs.Numbering.{or_full}
 use Rattle.chr_text.specs.Translation as raw
-use Rattle.chr_text.proofs.Seen.{first_room}
-use Rattle.chr_text.proofs.Steps.{numbered_is, first_fails, second_fails, pair_numbered}
+use Rattle.chr_text.proofs.InScope.{first_room}
+use Rattle.chr_text.proofs.Lists.{numbered_is, first_fails, second_fails, pair_numbered}
 use Rattle.chr_text.proofs.build.number_pair.Goals as goal
 
 pub number_term-requires-clause-fits : goal.number_term-requires-clause-fits

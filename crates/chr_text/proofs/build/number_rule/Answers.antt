@@ -5,9 +5,9 @@ use Rattle.chr_limits.specs.Views.{names as texts}
 use Rattle.chr_limits.specs.Variables.{phrase_variables, test_variables, member_variables}
 use Rattle.chr_text.specs.Numbering.{or_full, numbered_rule_atom, number_test, number_member}
 use Rattle.chr_text.specs.Translation as raw
-use Rattle.chr_text.proofs.Seen.{grows, shape_meets, test_meets, member_meets, kept_room, heads_room, guard_room}
-use Rattle.chr_text.proofs.Parts.{done, given_done, given_room, given_fails, room_as, kept_fails, removed_fails, guard_fails, body_fails, rule_done, rule_same, as_many}
-use Rattle.chr_text.proofs.Steps.{each_some}
+use Rattle.chr_text.proofs.InScope.{grows, shape_meets, test_meets, member_meets, kept_room, heads_room, guard_room}
+use Rattle.chr_text.proofs.Numbered.{done, given_done, given_room, given_fails, room_as, kept_fails, removed_fails, guard_fails, body_fails, rule_done, rule_same, as_many}
+use Rattle.chr_text.proofs.Lists.{each_some}
 use Rattle.chr_text.proofs.build.number_rule.Goals as goal
 
 pub number_parts-requires-clause-room : goal.number_parts-requires-clause-room

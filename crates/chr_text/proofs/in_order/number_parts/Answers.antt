@@ -1,7 +1,6 @@
 use Rattle.std.proofs.Common.{ap, map}
 use Rattle.std.proofs.lemmas.Result.{err_from_is_err_and}
-use Rattle.chr_text.proofs.Places.{map_from, map_end, all_from}
-use Rattle.chr_text.proofs.Steps.{turned_first, turn_room, turned_fails, turned_next, turned_last}
+use Rattle.chr_text.proofs.Lists.{map_from, map_end, all_from, turned_first, turn_room, turned_fails, turned_next, turned_last}
 use Rattle.chr_text.proofs.in_order.number_parts.Goals as goal
 
 pub loop-part-init : goal.loop-part-init

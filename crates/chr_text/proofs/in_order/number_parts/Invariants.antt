@@ -1,5 +1,5 @@
 use Rattle.std.proofs.Common.{drop, map}
-use Rattle.chr_text.proofs.Steps.{Turned}
+use Rattle.chr_text.proofs.Lists.{Turned}
 use Rattle.chr_text.proofs.in_order.number_parts.Given as goal
 
 abbrev pub invariant-loop-part : goal.invariant-loop-part

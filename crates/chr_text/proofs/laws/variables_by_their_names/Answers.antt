@@ -1,4 +1,4 @@
-use Rattle.chr_text.proofs.PlaceNumbers.{rule_places, one_number}
+use Rattle.chr_text.proofs.InScope.{rule_places, one_number}
 use Rattle.chr_text.proofs.laws.variables_by_their_names.Goals as goal
 
 pub returns : goal.returns

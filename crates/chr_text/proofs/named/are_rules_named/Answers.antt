@@ -2,7 +2,7 @@ use Rattle.std.proofs.Common.{rules, IsTrue, subst, sym}
 use Rattle.std.specs.List.{AllByRecursion}
 use Rattle.std.specs.Arc.{arc_value}
 use Rattle.chr_text.specs.Named.{RuleIsNamed}
-use Rattle.chr_text.proofs.Places.{all_at}
+use Rattle.chr_text.proofs.Lists.{all_at}
 use Rattle.chr_text.proofs.named.are_rules_named.Goals as goal
 
 pub returns-then-not-is_rule_named : goal.returns-then-not-is_rule_named

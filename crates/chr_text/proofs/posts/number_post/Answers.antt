@@ -7,8 +7,7 @@ use Rattle.chr_value.proofs.NameLaws.{first_done, one_more, all_done}
 use Rattle.chr_text.specs.Fitting.{ValueFits}
 use Rattle.chr_text.specs.Numbering.{or_full}
 use Rattle.chr_text.specs.Translation.{value, atom_by_texts}
-use Rattle.chr_text.proofs.Places.{map_from, map_end, all_from}
-use Rattle.chr_text.proofs.Steps.{numbered_is, fact_fails, terms_fail}
+use Rattle.chr_text.proofs.Lists.{map_from, map_end, all_from, numbered_is, fact_fails, terms_fail}
 use Rattle.chr_text.proofs.Writable.{value_within}
 use Rattle.chr_text.proofs.posts.number_post.Goals as goal
 

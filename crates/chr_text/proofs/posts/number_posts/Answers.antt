@@ -5,8 +5,7 @@ use Rattle.chr_value.specs.Naming.{numbered_atom}
 use Rattle.chr_text.specs.Fitting.{PostFits}
 use Rattle.chr_text.specs.Numbering.{or_full}
 use Rattle.chr_text.specs.Translation.{atom_by_texts}
-use Rattle.chr_text.proofs.Places.{map_from, map_end, all_from}
-use Rattle.chr_text.proofs.Steps.{numbered_is, each_fails, each_more, each_done}
+use Rattle.chr_text.proofs.Lists.{map_from, map_end, all_from, numbered_is, each_fails, each_more, each_done}
 use Rattle.chr_text.proofs.posts.number_posts.Goals as goal
 
 pub number_post-requires : goal.number_post-requires

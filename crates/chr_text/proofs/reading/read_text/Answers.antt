@@ -1,5 +1,5 @@
 use Rattle.std.proofs.Math.Seq.{take-length}
-use Rattle.chr_text.proofs.Tables.{keeps_back}
+use Rattle.chr_text.proofs.Lists.{keeps_back}
 use Rattle.chr_text.proofs.reading.read_text.Goals as goal
 
 pub returns-in-Ok-clause-keeps : goal.returns-in-Ok-clause-keeps

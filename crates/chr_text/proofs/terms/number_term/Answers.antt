@@ -4,7 +4,7 @@ use Rattle.chr_grammar.specs.Views as by_texts
 use Rattle.chr_limits.specs.Views.{names as texts}
 use Rattle.chr_text.specs.Terms.{term_of_words}
 use Rattle.chr_text.specs.Words.{placed_word}
-use Rattle.chr_text.proofs.Nested.{nodes_words}
+use Rattle.chr_text.proofs.Limited.{nodes_words}
 use Rattle.chr_text.proofs.Numbered.{term_given, term_fails}
 use Rattle.chr_text.proofs.terms.number_term.Goals as goal
 

@@ -2,8 +2,8 @@ use Rattle.std.proofs.Common.{◌≡◌, ◌-◌, refl, sym, ap, ◌∙◌, drop
 use Rattle.chr_text.specs.Terms.{terms_of_words}
 use Rattle.chr_text.specs.Trees.{from_top}
 use Rattle.chr_text.specs.Words.{placed_word}
-use Rattle.chr_text.proofs.Places.{map_end}
-use Rattle.chr_text.proofs.Stacks.{built, none_built, alone, word_built}
+use Rattle.chr_text.proofs.Lists.{map_end}
+use Rattle.chr_text.proofs.Numbered.{built, none_built, alone, word_built}
 use Rattle.chr_text.proofs.trees.build_term.Goals as goal
 
 pub returns-in-Some : goal.returns-in-Some

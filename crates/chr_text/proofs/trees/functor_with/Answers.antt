@@ -4,7 +4,7 @@ use Rattle.chr_value.specs.Atoms.{grounds}
 use Rattle.chr_value.specs.declared.value.Comp.{Comp as CodeComp}
 use Rattle.chr_rule.specs.Parts.{argument}
 use Rattle.chr_rule.specs.Terms.{is_open}
-use Rattle.chr_text.proofs.Stacks.{value_made}
+use Rattle.chr_text.proofs.Numbered.{value_made}
 use Rattle.chr_text.proofs.trees.functor_with.Goals as goal
 
 pub returns : goal.returns

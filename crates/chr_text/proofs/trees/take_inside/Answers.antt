@@ -3,7 +3,7 @@ use Rattle.std.proofs.lemmas.List.{append-nil, map_push}
 use Rattle.chr_rule.specs.Parts.{argument}
 use Rattle.chr_text.specs.Terms.{inside}
 use Rattle.chr_text.specs.Trees.{from_top}
-use Rattle.chr_text.proofs.Stacks.{is_told, top_taken, none_taken}
+use Rattle.chr_text.proofs.Numbered.{is_told, top_taken, none_taken}
 use Rattle.chr_text.proofs.trees.take_inside.Goals as goal
 
 pub loop-stack-init : goal.loop-stack-init

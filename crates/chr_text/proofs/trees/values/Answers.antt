@@ -2,7 +2,7 @@ use Rattle.std.proofs.Common.{◌≡◌, ◌∷◌, ◌∙◌, sym, ap, map, len
 use Rattle.std.specs.Vec.Iter.{into_iter_items}
 use Rattle.chr_rule.specs.Parts.{argument}
 use Rattle.chr_text.specs.Terms.{values}
-use Rattle.chr_text.proofs.Stacks.{value_more, all_values}
+use Rattle.chr_text.proofs.Numbered.{value_more, all_values}
 use Rattle.chr_text.proofs.trees.values.Goals as goal
 
 pub loop-term-preserved : goal.loop-term-preserved

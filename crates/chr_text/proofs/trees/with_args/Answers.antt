@@ -4,8 +4,7 @@ use Rattle.std.proofs.lemmas.Bool.Decides.{nat_tests}
 use Rattle.chr_rule.specs.Parts.{argument}
 use Rattle.chr_text.specs.Terms.{with_args}
 use Rattle.chr_text.specs.Words.{word_term}
-use Rattle.chr_text.proofs.Numbered.{no_args}
-use Rattle.chr_text.proofs.Stacks.{no_name, named_args}
+use Rattle.chr_text.proofs.Numbered.{no_args, no_name, named_args}
 use Rattle.chr_text.proofs.trees.with_args.Goals as goal
 
 pub returns-in-Name : goal.returns-in-Name

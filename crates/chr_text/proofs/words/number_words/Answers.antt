@@ -3,9 +3,8 @@ use Rattle.chr_limits.specs.Views.{names as texts}
 use Rattle.chr_limits.specs.Variables.{word_variables}
 use Rattle.chr_text.specs.Fitting.{NodeFits}
 use Rattle.chr_text.specs.Translation as raw
-use Rattle.chr_text.proofs.Seen.{grows, word_meets}
-use Rattle.chr_text.proofs.Places.{map_at, all_at}
-use Rattle.chr_text.proofs.Steps.{turn_room}
+use Rattle.chr_text.proofs.InScope.{grows, word_meets}
+use Rattle.chr_text.proofs.Lists.{map_at, all_at, turn_room}
 use Rattle.chr_text.proofs.words.number_words.Goals as goal
 
 pub number_word-requires-clause-fits : goal.number_word-requires-clause-fits

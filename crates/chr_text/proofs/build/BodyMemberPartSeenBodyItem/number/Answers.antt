@@ -4,7 +4,7 @@ use Rattle.chr_limits.specs.Views.{names as texts}
 use Rattle.chr_rule.specs.Rules.{Expression, Is}
 use Rattle.chr_text.specs.Fitting.{MemberFits}
 use Rattle.chr_text.specs.Translation as raw
-use Rattle.chr_text.proofs.Seen.{is_room, expression_fits}
+use Rattle.chr_text.proofs.InScope.{is_room, expression_fits}
 use Rattle.chr_text.proofs.build.BodyMemberPartSeenBodyItem.number.Goals as goal
 
 pub number_variable-variable-requires : goal.number_variable-variable-requires

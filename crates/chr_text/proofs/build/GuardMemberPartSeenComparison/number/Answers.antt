@@ -5,8 +5,8 @@ use Rattle.chr_limits.specs.Views.{names as texts}
 use Rattle.chr_rule.specs.Rules.{Expression, Compared}
 use Rattle.chr_text.specs.Fitting.{TestFits}
 use Rattle.chr_text.specs.Translation as raw
-use Rattle.chr_text.proofs.Seen.{left_fits, expression_fits}
-use Rattle.chr_text.proofs.Steps.{sides_fail, sides_numbered}
+use Rattle.chr_text.proofs.InScope.{left_fits, expression_fits}
+use Rattle.chr_text.proofs.Lists.{sides_fail, sides_numbered}
 use Rattle.chr_text.proofs.build.GuardMemberPartSeenComparison.number.Goals as goal
 
 pub number_tree-requires : goal.number_tree-requires

@@ -7,10 +7,9 @@ use Rattle.chr_limits.specs.Variables.{term_variables}
 use Rattle.chr_rule.specs.Parts.{argument}
 use Rattle.chr_text.specs.Numbering.{or_full, numbered_term, numbered_rule_atom}
 use Rattle.chr_text.specs.Translation as raw
-use Rattle.chr_text.proofs.Seen.{grows, argument_meets}
-use Rattle.chr_text.proofs.Lists.{turns_count}
-use Rattle.chr_text.proofs.Parts.{given_room, given_done, given_fails, each_count}
-use Rattle.chr_text.proofs.Steps.{given_one_fails, given_numbered, name_fails, args_fail, atom_numbered}
+use Rattle.chr_text.proofs.InScope.{grows, argument_meets}
+use Rattle.chr_text.proofs.Lists.{turns_count, given_one_fails, given_numbered, name_fails, args_fail, atom_numbered}
+use Rattle.chr_text.proofs.Numbered.{given_room, given_done, given_fails, each_count}
 use Rattle.chr_text.proofs.build.ParsedAtomPartSeenRuleAtom.number.Goals as goal
 
 pub number_name-requires : goal.number_name-requires

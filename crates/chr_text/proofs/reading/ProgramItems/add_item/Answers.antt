@@ -3,8 +3,7 @@ use Rattle.chr_lex.specs.Items.{entry}
 use Rattle.chr_lex.specs.Tokens.{lexeme}
 use Rattle.chr_grammar.specs.Views as by_texts
 use Rattle.chr_text.specs.Fitting.{StatementPlain}
-use Rattle.chr_text.proofs.Plain.{lexemes_plain}
-use Rattle.chr_text.proofs.Spoken.{statements_are_plain}
+use Rattle.chr_text.proofs.Judged.{lexemes_plain, statements_are_plain}
 use Rattle.chr_text.proofs.reading.ProgramItems.add_item.Goals as goal
 
 pub add_rule-requires : goal.add_rule-requires

@@ -2,9 +2,7 @@ use Rattle.std.proofs.Common.{map}
 use Rattle.chr_lex.specs.Items.{entry}
 use Rattle.chr_lex.specs.Tokens.{lexeme}
 use Rattle.chr_grammar.specs.Views as by_texts
-use Rattle.chr_text.proofs.Plain.{lexemes_plain}
-use Rattle.chr_text.proofs.Spoken.{phrases_are_plain}
-use Rattle.chr_text.proofs.Judged.{posts_fit}
+use Rattle.chr_text.proofs.Judged.{lexemes_plain, phrases_are_plain, posts_fit}
 use Rattle.chr_text.proofs.reading.VecAtomItems.add_item.Goals as goal
 
 pub number_posts-requires : goal.number_posts-requires
