@@ -1,35 +1,33 @@
--- The rules of a text: each is in scope, and its numbers have 64 bits.
-use Rattle.std.proofs.Common.{◌≡◌, ℕ, pos, ◌≤◌, false, List, [], ◌∷◌, ◌++◌, length, take, Some, Ok, refl, sym, ap, subst, ◌∙◌, arith, lit<, length-append}
+-- The rules of a text: each is in scope, its numbers have 64 bits, and what its instances add can be written.
+use Rattle.std.proofs.Common.{◌≡◌, ℕ, pos, ◌≤◌, List, [], ◌∷◌, ◌++◌, length, take, Some, Ok, refl, sym, subst, arith, lit<, length-append, zero, suc, ◌+◌, ◌<◌, slice_get}
 use Rattle.std.specs.List.{AllByRecursion}
 use Rattle.chr_lex.specs.Items.{Item}
-use Rattle.chr_value.specs.Atoms.{Int}
-use Rattle.chr_value.specs.Naming.{◌>>=◌, Table}
-use Rattle.chr_value.proofs.Chosen.{bind_some, some_is}
-use Rattle.chr_rule.specs.Rules.{BodyItem, Is, Add, Simpagation, of_parts}
+use Rattle.chr_value.specs.Atoms.{Int, Atom}
+use Rattle.chr_value.specs.Naming.{Table}
+use Rattle.chr_rule.specs.Rules.{BodyItem, Is, Add, Simpagation}
 use Rattle.chr_rule.specs.Scope.{IsRule}
 use Rattle.chr_rule.specs.Terms.{IsBodyItem}
 use Rattle.chr_grammar.specs.Parsed as parsed
 use Rattle.chr_grammar.specs.Parsed.{Statement}
-use Rattle.chr_grammar.proofs.Statements_again.{weaker, by_texts as statement_read}
+use Rattle.chr_grammar.proofs.Statements.{weaker}
 use Rattle.chr_grammar.proofs.Members_again.{all_append}
-use Rattle.chr_limits.proofs.Standing as standing
 use Rattle.chr_text.specs.Fitting.{FormulaFits, MemberFits}
 use Rattle.chr_text.specs.Variables.{Seen, number_variable, in_turn}
 use Rattle.chr_text.specs.Translation.{expression, member, somes, after_guard, rule}
-use Rattle.chr_text.specs.Numbering.{each, numbered_rule_atom, number_test, number_member, number_rule}
+use Rattle.chr_text.specs.Numbering.{number_rule}
 use Rattle.chr_text.specs.Reading.{Program, program_of}
-use Rattle.chr_text.specs.Forms.{InOrder, no_more, item, Adds, AddsStatement}
-use Rattle.chr_text.specs.Writable.{AddsWritable, HasWritable}
-use Rattle.chr_text.proofs.Judged.{rule_fits}
-use Rattle.chr_text.proofs.Plain.{lexemes_plain}
-use Rattle.chr_text.proofs.Parts.{rule_same}
-use Rattle.chr_text.proofs.Spoken.{rules_are_plain}
-use Rattle.chr_text.proofs.Texts.{item_read}
+use Rattle.chr_text.specs.Forms.{Adds, AddsStatement}
+use Rattle.chr_text.specs.Writable.{AddsWritable, HasWritable, AreWritable}
+use Rattle.chr_text.proofs.Judged.{read_fits}
+use Rattle.chr_text.proofs.Said.{rule_says, rule_stays, item_by}
+use Rattle.chr_text.proofs.Lists.{each_from}
+use Rattle.chr_text.proofs.Texts.{all_in_order}
 use Rattle.chr_text.proofs.ProgramTexts.{is_program}
-use Rattle.chr_text.proofs.Writable.{spelled_fits}
-use Rattle.chr_text.proofs.RuleWritable.{program_writable}
+use Rattle.chr_text.proofs.Writable.{spelled_fits, program_writable}
 use Rattle.chr_value.specs.Spelling.{FitsTerm}
-use Rattle.laws_writable.proofs.Values.{NumbersFit, zeros, zeros_within, ItemHeld, items_kept}
+use Rattle.laws_writable.proofs.Values.{NumbersFit, zeros, zeros_within, ItemHeld, items_kept, instance_fits, body_few, heads_few}
+use Rattle.chr_model.specs.Programs.{Instances}
+use Rattle.chr_model.proofs.Programs.{of_zero}
 
 -- ---- the numbers of a rule
 
@@ -49,32 +47,17 @@ members_fit seen (parsed.Nothing ∷ ms) fits = members_fit seen ms fits.1
 members_fit seen (parsed.Is x e ∷ ms) fits = (formula_fits (number_variable seen x).1 e fits.0, members_fit (member seen (parsed.Is x e)).1 ms fits.1)
 members_fit seen (parsed.Add p ∷ ms) fits = (tt, members_fit (member seen (parsed.Add p)).1 ms fits.1)
 
-item_numbered : (table new : Table) (m : BodyItem (List ℕ)) (b : BodyItem ℕ) → number_member table m ≡ Some (b, new) → ItemNumbers m → ItemNumbers b
-item_numbered table new (Is x e) b h fits = subst (λ (z : BodyItem ℕ × Table). ItemNumbers z.0) (some_is {A = BodyItem ℕ × Table} (Is x e, table) (b, new) h) fits
-item_numbered table new (Add s) b h fits =
-    let x = bind_some (numbered_rule_atom table s) (λ x. Some (Add x.0, x.1)) (b, new) h in
-    subst (λ (z : BodyItem ℕ × Table). ItemNumbers z.0) (some_is {A = BodyItem ℕ × Table} (Add x.0.0, x.0.1) (b, new) x.2) tt
-
-items_numbered : (table new : Table) (ms : List (BodyItem (List ℕ))) (bs : List (BodyItem ℕ)) → each number_member table ms ≡ Some (bs, new) → AllByRecursion ItemNumbers ms → AllByRecursion ItemNumbers bs
-items_numbered table new [] bs h all = subst (λ (z : List (BodyItem ℕ) × Table). AllByRecursion ItemNumbers z.0) (some_is {A = List (BodyItem ℕ) × Table} ([], table) (bs, new) h) tt
-items_numbered table new (m ∷ ms) bs h all =
-    let x = bind_some (number_member table m) (λ x. each number_member x.1 ms >>= λ xs. Some (x.0 ∷ xs.0, xs.1)) (bs, new) h in
-    let y = bind_some (each number_member x.0.1 ms) (λ xs. Some (x.0.0 ∷ xs.0, xs.1)) (bs, new) x.2 in
-    subst (λ (z : List (BodyItem ℕ) × Table). AllByRecursion ItemNumbers z.0) (some_is {A = List (BodyItem ℕ) × Table} (x.0.0 ∷ y.0.0, y.0.1) (bs, new) y.2)
-    (item_numbered table x.0.1 m x.0.0 x.1 all.0, items_numbered x.0.1 y.0.1 ms y.0.0 y.1 all.1)
-
 abbrev IsSound : Simpagation ℕ → Type 0
 IsSound r = IsRule r × AllByRecursion ItemNumbers r.body
 
 rule_numbered : (table new : Table) (r : Simpagation (List ℕ)) (n : Simpagation ℕ) → IsRule r → AllByRecursion ItemNumbers r.body → number_rule table r ≡ Some (n, new) → IsSound n
 rule_numbered table new r n whole all h =
-    let a = bind_some (each numbered_rule_atom table r.kept) _ (n, new) h in
-    let b = bind_some (each numbered_rule_atom a.0.1 r.removed) _ (n, new) a.2 in
-    let c = bind_some (each number_test b.0.1 r.guard) _ (n, new) b.2 in
-    let d = bind_some (each number_member c.0.1 r.body) _ (n, new) c.2 in
-    let made = of_parts r.variables a.0.0 b.0.0 c.0.0 d.0.0 in
-    let sound : IsSound made = (rule_same r table a.0.1 b.0.1 c.0.1 d.0.1 a.0.0 b.0.0 c.0.0 d.0.0 a.1 b.1 c.1 d.1 whole, items_numbered c.0.1 d.0.1 r.body d.0.0 d.1 all) in
-    subst (λ (z : Simpagation ℕ × Table). IsSound z.0) (some_is {A = Simpagation ℕ × Table} (made, d.0.1) (n, new) d.2) sound
+    let same = sym (rule_says table new r n h).0 in
+    (rule_stays new n (subst IsRule same whole), each_from ItemNumbers ItemNumbers (item_by new) item_numbers n.body (subst (λ (q : Simpagation (List ℕ)). AllByRecursion ItemNumbers q.body) same all))
+  where
+    item_numbers : (b : BodyItem ℕ) → ItemNumbers (item_by new b) → ItemNumbers b
+    item_numbers (Is x e) fits = fits
+    item_numbers (Add s) fits = tt
 
 -- ---- the rules of a text
 
@@ -85,20 +68,13 @@ statement_sound : (before : Program) (e : Item) (after : Program) (a : AddsState
 statement_sound before e after a parsed.Import is adds sound = subst AreSound (sym adds) sound
 statement_sound before e after a (parsed.Declaration ds) is adds sound = subst AreSound (sym adds.1) sound
 statement_sound before e after a (parsed.Rule r) is adds sound =
-    let plain = lexemes_plain e a.tokens (item_read e a.tokens a.item) in
-    let read = statement_read a.tokens a.statement a.says in
-    let names = rules_are_plain a.tokens r plain (read ∙ ap (λ (s : Statement). Ok s) is) in
-    let fits = rule_fits false r tt (standing.passes false r (refl, adds.stands)) names in
+    let fits = read_fits before e after a r is adds.stands in
     let new = rule_numbered before.1 adds.table (rule r) adds.new fits.valid (members_fit (after_guard r) r.body fits.body) adds.numbered in
     let few : length (before.0 ++ adds.new ∷ []) ≤ 256 = (let le = adds.room in omega (arith, le, length-append before.0 (adds.new ∷ []))) in
     subst AreSound (sym adds.added) (all_append IsSound before.0 (adds.new ∷ []) sound.0 (new, tt), few)
 
-items_sound : (x : Program) (es : List Item) (y : Program) → InOrder AddsStatement x es y → AreSound x → AreSound y
-items_sound _ _ _ (no_more x) sound = sound
-items_sound _ _ _ (item x next y e es a more) sound = items_sound next es y more (statement_sound x e next a a.statement refl a.adds sound)
-
 program_sound : (table : Table) (bytes : List ℕ) (p : Program) → program_of table bytes ≡ Ok p → AreSound p
-program_sound table bytes p h = let is = is_program table bytes p h in items_sound ([], table) is.entries p is.in_order (tt, omega arith)
+program_sound table bytes p h = let is = is_program table bytes p h in all_in_order AddsStatement AreSound (λ x e y a. statement_sound x e y a a.statement refl a.adds) ([], table) is.entries p is.in_order (tt, omega arith)
 
 -- ---- rules with what they add
 
@@ -128,3 +104,36 @@ program_held table bytes p h =
 
 pub rules_whole : (table : Table) (rules : List (Simpagation ℕ)) → AllByRecursion (RuleHeld table) rules → AllByRecursion IsRule rules
 rules_whole table rules = weaker (RuleHeld table) IsRule (λ r held. held.0) rules
+
+rule_held : (table : Table) (rules : List (Simpagation ℕ)) → AllByRecursion (RuleHeld table) rules → (k : ℕ) (rule : Simpagation ℕ) → slice_get rules k ≡ Some rule → RuleHeld table rule × (k < length rules)
+rule_held table [] all k rule e = absurd (cc)
+rule_held table (x ∷ xs) all zero rule e = let same : x ≡ rule = cc in (subst (RuleHeld table) same all.0, omega arith)
+rule_held table (x ∷ xs) all (suc k) rule e = let rest = rule_held table xs all.1 k rule e in (rest.0, (let lt = rest.1 in omega (arith, lt)))
+
+-- what an instance adds, and how many atoms it has
+pub record Added (table : Table) (rules : List (Simpagation ℕ)) (r : ℕ) (kept removed body : List (Atom ℕ)) : Type 0 where
+  pub body_fits : AreWritable table kept → AreWritable table removed → AreWritable table body
+  pub from : 1 ≤ r
+  pub to : r ≤ length rules
+  pub few : length body ≤ 16
+  pub heads : length kept + length removed ≤ 6
+  pub some : 0 < length removed
+
+pub added_by : (table : Table) (rules : List (Simpagation ℕ)) → AllByRecursion (RuleHeld table) rules → (r : ℕ) (kept removed body : List (Atom ℕ)) → Instances rules r kept removed body → Added table rules r kept removed body
+added_by table rules all zero kept removed body i = absurd (of_zero rules kept removed body i)
+added_by table rules all (suc n) kept removed body i =
+    let held = rule_held table rules all n i.0 i.1 in
+    let heads = heads_few i.0 kept removed body held.0.0 i.2 in
+    record {
+      body_fits = instance_fits table i.0 kept removed body held.0.0 held.0.1 i.2;
+      from = omega arith;
+      to = (let lt = held.1 in omega (arith, lt));
+      few = body_few i.0 kept removed body held.0.0 i.2;
+      heads = heads.0;
+      some = heads.1;
+    }
+
+pub added_writable : (before names : Table) (bytes : List ℕ) (p : Program) (r : ℕ) (kept removed body : List (Atom ℕ))
+    → program_of before bytes ≡ Ok p → take (length p.1) names ≡ p.1 → Instances p.0 r kept removed body → AreWritable names kept → AreWritable names removed → AreWritable names body
+added_writable before names bytes p r kept removed body h keeps i k m =
+    (added_by names p.0 (rules_kept p.1 names p.0 keeps (program_held before bytes p h).0) r kept removed body i).body_fits k m
