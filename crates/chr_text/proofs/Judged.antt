@@ -1,5 +1,5 @@
 -- The names of an item are letters, digits and `_`, and what is judged without a fault fits.
-use Rattle.std.proofs.Common.{◌≡◌, ℕ, Bool, true, false, List, Ok, arith, [], ◌∷◌, ◌++◌, subst, suc, ◌||◌, length, filter, refl, ap, ◌∙◌}
+use Rattle.std.proofs.Common.{◌≡◌, ℕ, Bool, true, false, List, Ok, arith, [], ◌∷◌, subst, suc, ◌||◌, length, filter, refl, ap, ◌∙◌}
 use Rattle.std.specs.List.{AllByRecursion, list_any}
 use Rattle.chr_value.specs.Spelling.{is_name_byte, IsName}
 use Rattle.chr_lex.specs.Items.{Item}

@@ -8,17 +8,8 @@ use Rattle.chr_text.proofs.InScope.{first_room}
 use Rattle.chr_text.proofs.Lists.{numbered_is, first_fails, second_fails, pair_numbered}
 use Rattle.chr_text.proofs.build.number_pair.Goals as goal
 
-pub number_term-requires-clause-fits : goal.number_term-requires-clause-fits
-number_term-requires-clause-fits g c = c.requires.left_fits
-
 pub number_term-requires-clause-room : goal.number_term-requires-clause-room
 number_term-requires-clause-room g c = first_room (texts c.args.seen.now.items) (by_texts.term {Z = g.row.A.Denot} c.args.left.now) (by_texts.term {Z = g.row.A.Denot} c.args.right.now) c.requires.room
-
-pub number_term-requires-2-clause-fits : goal.number_term-requires-2-clause-fits
-number_term-requires-2-clause-fits g c = c.requires.right_fits
-
-pub number_term-requires-2-clause-room : goal.number_term-requires-2-clause-room
-number_term-requires-2-clause-room g c = rw c.in_ok-left.ensures.seen c.requires.room
 
 pub returns-in_err-left-clause-gives : goal.returns-in_err-left-clause-gives
 returns-in_err-left-clause-gives g c =
@@ -32,16 +23,7 @@ returns-in_err-right-clause-gives g c =
     let left = raw.argument (texts c.args.seen.now.items) (by_texts.term {Z = g.row.A.Denot} c.args.left.now) in
     rw (p.1, p.2) (second_fails c.in_err-right.field-0.0 c.args.names.now c.number_term.new.names left.0 (raw.argument left.1 (by_texts.term {Z = g.row.A.Denot} c.args.right.now)).0 _ c.in_ok-left.ensures.gives (rw (← c.in_ok-left.ensures.seen) c.in_err-right.ensures.gives))
 
-pub returns-in_err-right-clause-keeps : goal.returns-in_err-right-clause-keeps
-returns-in_err-right-clause-keeps g c = λ t h. c.in_err-right.ensures.keeps t (c.in_ok-left.ensures.keeps t h)
-
 pub returns-clause-gives : goal.returns-clause-gives
 returns-clause-gives g c =
     let left = raw.argument (texts c.args.seen.now.items) (by_texts.term {Z = g.row.A.Denot} c.args.left.now) in
     ap or_full (pair_numbered c.args.names.now c.number_term.new.names c.number_term-2.new.names left.0 (raw.argument left.1 (by_texts.term {Z = g.row.A.Denot} c.args.right.now)).0 _ _ (numbered_is _ _ c.in_ok-left.ensures.gives) (numbered_is _ _ (rw (← c.in_ok-left.ensures.seen) c.in_ok-right.ensures.gives)))
-
-pub returns-clause-seen : goal.returns-clause-seen
-returns-clause-seen g c = rw (← c.in_ok-left.ensures.seen) c.in_ok-right.ensures.seen
-
-pub returns-clause-keeps : goal.returns-clause-keeps
-returns-clause-keeps g c = λ t h. c.in_ok-right.ensures.keeps t (c.in_ok-left.ensures.keeps t h)

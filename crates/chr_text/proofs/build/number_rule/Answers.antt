@@ -66,9 +66,6 @@ returns-in_err-body-clause-gives g c =
     let p = err_from_is_err_and c.from_residual-in_err-body.result c.from_residual-in_err-body.ensures.1 in
     rw (p.1, p.2) (body_fails c.in_err-body.field-0.0 c.args.names.now _ _ _ (raw.rule r) _ _ _ kept.is removed.is guard.is (rw (← same, ← ap (map (by_texts.member {Z = g.row.A.Denot})) c.deref-4.ensures.value) c.in_err-body.ensures.gives))
 
-pub returns-in_err-body-clause-keeps : goal.returns-in_err-body-clause-keeps
-returns-in_err-body-clause-keeps g c = λ t h. c.in_err-body.ensures.keeps t (c.in_ok-guard.ensures.keeps t (c.in_ok-removed.ensures.keeps t (c.in_ok-kept.ensures.keeps t h)))
-
 pub from_parts-requires : goal.from_parts-requires
 from_parts-requires g c =
     let r = by_texts.raw_rule {Z = g.row.A.Denot} c.args.rule.now in
@@ -89,9 +86,6 @@ returns-clause-gives g c =
     let many = as_many _ c.number_parts-4.new.seen.items (raw.after_body r) c.len.ensures.value body.seen in
     rw (c.from_parts.ensures, many) (ap or_full (rule_done _ _ _ _ _ (raw.rule r) _ _ _ _ kept.is removed.is guard.is body.is))
 
-pub returns-clause-keeps : goal.returns-clause-keeps
-returns-clause-keeps g c = λ t h. c.in_ok-body.ensures.keeps t (c.in_ok-guard.ensures.keeps t (c.in_ok-removed.ensures.keeps t (c.in_ok-kept.ensures.keeps t h)))
-
 pub number_parts-requires-clause-grows : goal.number_parts-requires-clause-grows
 number_parts-requires-clause-grows g c = grows raw.rule_atom phrase_variables shape_meets
 
@@ -103,3 +97,9 @@ number_parts-requires-3-clause-grows g c = grows raw.test test_variables test_me
 
 pub number_parts-requires-4-clause-grows : goal.number_parts-requires-4-clause-grows
 number_parts-requires-4-clause-grows g c = grows raw.member member_variables member_meets
+
+pub returns-in_err-body-clause-keeps : goal.returns-in_err-body-clause-keeps
+returns-in_err-body-clause-keeps g c = λ t h. c.in_err-body.ensures.keeps t (c.in_ok-guard.ensures.keeps t (c.in_ok-removed.ensures.keeps t (c.in_ok-kept.ensures.keeps t h)))
+
+pub returns-clause-keeps : goal.returns-clause-keeps
+returns-clause-keeps g c = λ t h. c.in_ok-body.ensures.keeps t (c.in_ok-guard.ensures.keeps t (c.in_ok-removed.ensures.keeps t (c.in_ok-kept.ensures.keeps t h)))

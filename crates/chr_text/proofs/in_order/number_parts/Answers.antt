@@ -17,12 +17,6 @@ returns-in_err-one-clause-gives g c =
     let p = err_from_is_err_and c.from_residual.result c.from_residual.ensures.1 in
     rw (p.1, p.2) (turned_fails g.X.Part.way.numbered g.X.Part.way.raw c.in_err-one.field-0.0 (map_from g.X.Part.way.said c.args.parts.now c.loop-part.part-index c.part-item.result c.loop-part-test.true c.part-item.is) c.in_err-one.ensures.gives c.loop-part.invariant)
 
-pub returns-in_err-one-clause-keeps : goal.returns-in_err-one-clause-keeps
-returns-in_err-one-clause-keeps g c = λ t h. c.in_err-one.ensures.keeps t (c.loop-part.invariant.keeps t h)
-
-pub returns-in_err-push_some-clause-keeps : goal.returns-in_err-push_some-clause-keeps
-returns-in_err-push_some-clause-keeps g c = λ t h. c.in_ok-one.ensures.keeps t (c.loop-part.invariant.keeps t h)
-
 pub loop-part-preserved : goal.loop-part-preserved
 loop-part-preserved g c = turned_next g.X.Part.way.made g.X.Part.way.numbered g.X.Part.way.raw c.loop-part.made.items c.in_ok-one.one (map_from g.X.Part.way.said c.args.parts.now c.loop-part.part-index c.part-item.result c.loop-part-test.true c.part-item.is) c.in_ok-push_some.ensures c.in_ok-one.ensures.gives c.in_ok-one.ensures.seen c.in_ok-one.ensures.keeps c.loop-part.invariant
 
@@ -31,6 +25,3 @@ returns-clause-gives g c = (turned_last g.X.Part.way.numbered g.X.Part.way.raw (
 
 pub returns-clause-seen : goal.returns-clause-seen
 returns-clause-seen g c = (turned_last g.X.Part.way.numbered g.X.Part.way.raw (map_end g.X.Part.way.said c.args.parts.now c.loop-part.part-index c.loop-part-test.false) c.loop-part.invariant).1
-
-pub returns-clause-keeps : goal.returns-clause-keeps
-returns-clause-keeps g c = c.loop-part.invariant.keeps

@@ -1,4 +1,4 @@
-use Rattle.std.proofs.Common.{refl, ap, map}
+use Rattle.std.proofs.Common.{ap, map}
 use Rattle.std.proofs.lemmas.Result.{err_from_is_err_and}
 use Rattle.chr_grammar.specs.Views as by_texts
 use Rattle.chr_value.specs.Naming.{numbered_atom}
@@ -22,18 +22,6 @@ loop-phrase-preserved g c = record {
   keeps = λ t h. c.in_ok-atom.ensures.keeps t (c.loop-phrase.invariant.keeps t h);
 }
 
-pub loop-phrase-init : goal.loop-phrase-init
-loop-phrase-init g c = record { gives = refl; keeps = λ t h. h }
-
 pub returns-clause-gives : goal.returns-clause-gives
 returns-clause-gives g c =
     ap or_full (each_done numbered_atom c.loop-phrase.atoms.items c.loop-phrase.names _ _ (ap (map atom_by_texts) (map_end (by_texts.phrase {Z = g.row.A.Denot}) c.args.phrases.now c.loop-phrase.phrase-index c.loop-phrase-test.false)) c.loop-phrase.invariant.gives)
-
-pub returns-clause-keeps : goal.returns-clause-keeps
-returns-clause-keeps g c = c.loop-phrase.invariant.keeps
-
-pub returns-in_err-atom-clause-keeps : goal.returns-in_err-atom-clause-keeps
-returns-in_err-atom-clause-keeps g c = λ t h. c.in_err-atom.ensures.keeps t (c.loop-phrase.invariant.keeps t h)
-
-pub returns-in_err-push-clause-keeps : goal.returns-in_err-push-clause-keeps
-returns-in_err-push-clause-keeps g c = λ t h. c.in_ok-atom.ensures.keeps t (c.loop-phrase.invariant.keeps t h)

@@ -22,6 +22,3 @@ pub returns-in_ok-expression-in-Is-clause-gives : goal.returns-in_ok-expression-
 returns-in_ok-expression-in-Is-clause-gives g c =
     let tree = rw c.number_variable-variable.ensures.seen at c.in_ok-expression-in-Is.ensures.gives in
     rw c.in-Is.is (ap₂ (λ (x : ℕ) (e : Expression). Ok (Some (Is x e), c.args.names.now)) (sym c.number_variable-variable.ensures.number) (sym tree))
-
-pub returns-in_ok-expression-in-Is-clause-seen : goal.returns-in_ok-expression-in-Is-clause-seen
-returns-in_ok-expression-in-Is-clause-seen g c = rw (c.in-Is.is, ← c.number_variable-variable.ensures.seen) c.in_ok-expression-in-Is.ensures.seen

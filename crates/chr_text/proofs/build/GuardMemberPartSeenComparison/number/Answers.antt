@@ -24,18 +24,6 @@ returns-in_ok-right-in-Compared-clause-gives g c =
     let right = rw c.in_ok-left-in-Compared.ensures.seen at c.in_ok-right-in-Compared.ensures.gives in
     rw c.in-Compared.is (ap₂ (λ (a b : Expression). Ok (Some (Compared c.in-Compared.relation a b), c.args.names.now)) (sym c.in_ok-left-in-Compared.ensures.gives) (sym right))
 
-pub returns-in_ok-right-in-Compared-clause-seen : goal.returns-in_ok-right-in-Compared-clause-seen
-returns-in_ok-right-in-Compared-clause-seen g c = rw (c.in-Compared.is, ← c.in_ok-left-in-Compared.ensures.seen) c.in_ok-right-in-Compared.ensures.seen
-
-pub number_pair-requires-clause-left_fits : goal.number_pair-requires-clause-left_fits
-number_pair-requires-clause-left_fits g c = (subst (λ m. TestFits (by_texts.test {Z = g.row.A.Denot} m)) c.in-Same.is c.requires.fits).0
-
-pub number_pair-requires-clause-right_fits : goal.number_pair-requires-clause-right_fits
-number_pair-requires-clause-right_fits g c = (subst (λ m. TestFits (by_texts.test {Z = g.row.A.Denot} m)) c.in-Same.is c.requires.fits).1
-
-pub number_pair-requires-clause-room : goal.number_pair-requires-clause-room
-number_pair-requires-clause-room g c = subst (λ m. length (raw.test (texts c.args.seen.now.items) (by_texts.test {Z = g.row.A.Denot} m)).1 ≤ 24) c.in-Same.is c.requires.room
-
 pub returns-in_err-left-in-Same-clause-gives : goal.returns-in_err-left-in-Same-clause-gives
 returns-in_err-left-in-Same-clause-gives g c =
     let p = err_from_is_err_and c.from_residual-in_err-left-in-Same.result c.from_residual-in_err-left-in-Same.ensures.1 in
@@ -45,18 +33,6 @@ pub returns-in_ok-left-in-Same-clause-gives : goal.returns-in_ok-left-in-Same-cl
 returns-in_ok-left-in-Same-clause-gives g c =
     rw c.in-Same.is (sides_numbered c.args.names.now c.number_pair.new.names (texts c.args.seen.now.items) (by_texts.term {Z = g.row.A.Denot} c.in-Same.left) (by_texts.term {Z = g.row.A.Denot} c.in-Same.right) _ _ c.in_ok-left-in-Same.ensures.gives).0
 
-pub returns-in_ok-left-in-Same-clause-seen : goal.returns-in_ok-left-in-Same-clause-seen
-returns-in_ok-left-in-Same-clause-seen g c = rw c.in-Same.is c.in_ok-left-in-Same.ensures.seen
-
-pub number_pair-requires-in-Differ-clause-left_fits : goal.number_pair-requires-in-Differ-clause-left_fits
-number_pair-requires-in-Differ-clause-left_fits g c = (subst (λ m. TestFits (by_texts.test {Z = g.row.A.Denot} m)) c.in-Differ.is c.requires.fits).0
-
-pub number_pair-requires-in-Differ-clause-right_fits : goal.number_pair-requires-in-Differ-clause-right_fits
-number_pair-requires-in-Differ-clause-right_fits g c = (subst (λ m. TestFits (by_texts.test {Z = g.row.A.Denot} m)) c.in-Differ.is c.requires.fits).1
-
-pub number_pair-requires-in-Differ-clause-room : goal.number_pair-requires-in-Differ-clause-room
-number_pair-requires-in-Differ-clause-room g c = subst (λ m. length (raw.test (texts c.args.seen.now.items) (by_texts.test {Z = g.row.A.Denot} m)).1 ≤ 24) c.in-Differ.is c.requires.room
-
 pub returns-in_err-left-in-Differ-clause-gives : goal.returns-in_err-left-in-Differ-clause-gives
 returns-in_err-left-in-Differ-clause-gives g c =
     let p = err_from_is_err_and c.from_residual-in_err-left-in-Differ.result c.from_residual-in_err-left-in-Differ.ensures.1 in
@@ -65,6 +41,3 @@ returns-in_err-left-in-Differ-clause-gives g c =
 pub returns-in_ok-left-in-Differ-clause-gives : goal.returns-in_ok-left-in-Differ-clause-gives
 returns-in_ok-left-in-Differ-clause-gives g c =
     rw c.in-Differ.is (sides_numbered c.args.names.now c.number_pair-in-Differ.new.names (texts c.args.seen.now.items) (by_texts.term {Z = g.row.A.Denot} c.in-Differ.left) (by_texts.term {Z = g.row.A.Denot} c.in-Differ.right) _ _ c.in_ok-left-in-Differ.ensures.gives).1
-
-pub returns-in_ok-left-in-Differ-clause-seen : goal.returns-in_ok-left-in-Differ-clause-seen
-returns-in_ok-left-in-Differ-clause-seen g c = rw c.in-Differ.is c.in_ok-left-in-Differ.ensures.seen

@@ -12,12 +12,6 @@ use Rattle.chr_text.proofs.Lists.{turns_count, given_one_fails, given_numbered, 
 use Rattle.chr_text.proofs.Numbered.{given_room, given_done, given_fails, each_count}
 use Rattle.chr_text.proofs.build.ParsedAtomPartSeenRuleAtom.number.Goals as goal
 
-pub number_name-requires : goal.number_name-requires
-number_name-requires g c = c.requires.fits.name
-
-pub number_parts-requires-clause-fits : goal.number_parts-requires-clause-fits
-number_parts-requires-clause-fits g c = rw c.deref.ensures.value c.requires.fits.args
-
 pub number_parts-requires-clause-room : goal.number_parts-requires-clause-room
 number_parts-requires-clause-room g c = given_room raw.argument refl (ap (map (by_texts.term {Z = g.row.A.Denot})) c.deref.ensures.value) c.requires.room
 
@@ -33,9 +27,6 @@ returns-in_err-terms-clause-gives g c =
     let atom = (raw.rule_atom (texts c.args.seen.now.items) (by_texts.phrase {Z = g.row.A.Denot} c.args.self.now)).0 in
     rw (p.1, p.2) (given_one_fails numbered_rule_atom c.in_err-terms.field-0.0 c.args.names.now atom (args_fail c.in_err-terms.field-0.0 c.args.names.now c.number_name.new.names atom c.in_ok-name.name.number c.in_ok-name.ensures.gives (given_fails numbered_term raw.argument c.in_err-terms.field-0.0 c.number_name.new.names refl (ap (map (by_texts.term {Z = g.row.A.Denot})) c.deref.ensures.value) c.in_err-terms.ensures.gives)))
 
-pub returns-in_err-terms-clause-keeps : goal.returns-in_err-terms-clause-keeps
-returns-in_err-terms-clause-keeps g c = λ t h. c.in_err-terms.ensures.keeps t (c.in_ok-name.ensures.keeps t h)
-
 pub returns-clause-gives : goal.returns-clause-gives
 returns-clause-gives g c =
     let atom = (raw.rule_atom (texts c.args.seen.now.items) (by_texts.phrase {Z = g.row.A.Denot} c.args.self.now)).0 in
@@ -43,9 +34,6 @@ returns-clause-gives g c =
 
 pub returns-clause-seen : goal.returns-clause-seen
 returns-clause-seen g c = (given_done numbered_term raw.argument refl (ap (map (by_texts.term {Z = g.row.A.Denot})) c.deref.ensures.value) c.in_ok-terms.ensures.gives c.in_ok-terms.ensures.seen).seen
-
-pub returns-clause-keeps : goal.returns-clause-keeps
-returns-clause-keeps g c = λ t h. c.in_ok-terms.ensures.keeps t (c.in_ok-name.ensures.keeps t h)
 
 pub number_parts-requires-clause-grows : goal.number_parts-requires-clause-grows
 number_parts-requires-clause-grows g c = grows raw.argument term_variables argument_meets
