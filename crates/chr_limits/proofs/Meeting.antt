@@ -75,10 +75,6 @@ still_all_seen m x (y ∷ ys) e =
     let h = both (is_seen m y) (are_seen m ys) e in
     rw (still_seen m x y h.0) (still_all_seen m x ys h.1)
 
--- what stands in front adds nothing
-skipped : (m xs ys : List (List ℕ)) → are_seen m xs ≡ true → seen_from m (xs ++ ys) ≡ seen_from m ys
-skipped m xs ys e = met_from_append m xs ys ∙ ap (λ (l : List (List ℕ)). seen_from l ys) (met_from_seen m xs e)
-
 pub stopped : (b c all : Bool) → b ≡ false → (b && c) ≡ all → false ≡ all
 stopped b c all e h = sym (and_left b c e) ∙ h
 

@@ -12,16 +12,19 @@ pub fn rules_within_limits()
     ensures { (full : Bool) (r : ParsedRule) → (rule_judged full r ≡ Ok tt) ↔ ((full ≡ false) × IsAllowedRule r) }
 {}
 
+#[tactic(auto, using(std::proofs::lemmas::Bool::Decides::nat_tests, crate::proofs::Standing::declares))]
 /// Exactly the declarations that may stand are judged without a fault.
 pub fn declarations_within_limits()
     ensures { (all : List Declared) → (declaration_judged all ≡ Ok tt) ↔ AreAllowedDeclarations all }
 {}
 
+#[tactic(auto, using(std::proofs::lemmas::Bool::Decides::nat_tests, crate::proofs::Standing::posts))]
 /// Exactly the atoms that may be posted are judged without a fault.
 pub fn atoms_that_may_be_posted()
     ensures { (atoms : List ParsedAtom) → (post_judged atoms ≡ Ok tt) ↔ AreAllowedPosts atoms }
 {}
 
+#[tactic(auto, using(crate::proofs::Meeting::same, crate::proofs::Meeting::once, crate::proofs::Meeting::blanks))]
 /// The variables seen are those at the places, each once; but each `_` is one of its own.
 pub fn variables_are_seen_once()
     ensures same { (names : List (List ℕ)) (x : List ℕ) → list_any (bytes_eq x) (seen names) ≡ list_any (bytes_eq x) names }
