@@ -149,26 +149,22 @@ module _ (j : Join) (x : ℕ) (m : MayFollow j [] x) where
   no_second y n low = omega (arith, m.turn, n.turn)
 
   -- it is a misfit
-  pub first_misfit : AreJudged j (x ∷ []) Misfit → (place after : List ℕ) → place ≡ [] → after ≡ place ++ (x + 1) ∷ [] → PassesIn j 1 place after × NoneBeyond (MayFollow j) 1 [] after
-  first_misfit a (y ∷ ys) after e is = absurd (cc)
-  first_misfit a [] after e is =
+  pub first_misfit : AreJudged j (x ∷ []) Misfit → (after : List ℕ) → after ≡ (x + 1) ∷ [] → PassesIn j 1 [] after × NoneBeyond (MayFollow j) 1 [] after
+  first_misfit a after is =
       let r = misfits_settled j [] [] 1 0 (x + 1) (below_first j) (0, x, refl, first_least, a, refl) in
       let done = below_done j [] ((x + 1) ∷ []) (x + 1) r.1 no_second in
       subst (λ z. PassesIn j 1 [] z × NoneBeyond (MayFollow j) 1 [] z) (sym is) (r.0, subst (NoneBeyond (MayFollow j) 1 []) (sym done.is) done.none)
 
   -- it is whole
-  pub first_whole : (binding : List (Option (Value ℕ))) → AreWhole j (x ∷ []) binding → (place ls : List ℕ) → place ≡ [] → ls ≡ x ∷ [] → EndsIn j place ends.Whole ls binding
-  first_whole binding w (y ∷ ys) ls e is = absurd (cc)
-  first_whole binding w [] ls e is = subst (λ (z : List ℕ). Least (MayFollow j) 1 [] [] z × AreWhole j z binding) (sym is) (below_least j [] [] 0 x (below_first j) first_least, w)
+  pub first_whole : (binding : List (Option (Value ℕ))) → AreWhole j (x ∷ []) binding → (ls : List ℕ) → ls ≡ x ∷ [] → EndsIn j [] ends.Whole ls binding
+  first_whole binding w ls is = subst (λ (z : List ℕ). Least (MayFollow j) 1 [] [] z × AreWhole j z binding) (sym is) (below_least j [] [] 0 x (below_first j) first_least, w)
 
   -- it is a part
-  pub first_part : AreJudged j (x ∷ []) Part → (place one middle : List ℕ) → place ≡ [] → one ≡ place ++ x ∷ [] → middle ≡ one ++ 0 ∷ [] → PassesIn j 1 place middle
-  first_part a (y ∷ ys) one middle e p q = absurd (cc)
-  first_part a [] one middle e p q = subst (PassesIn j 1 []) (sym (q ∙ ap (λ (z : List ℕ). z ++ 0 ∷ []) p)) (part_passed j [] [] 0 [] 0 x refl (below_first j) first_least a)
+  pub first_part : AreJudged j (x ∷ []) Part → (one middle : List ℕ) → one ≡ x ∷ [] → middle ≡ one ++ 0 ∷ [] → PassesIn j 1 [] middle
+  first_part a one middle p q = subst (PassesIn j 1 []) (sym (q ∙ ap (λ (z : List ℕ). z ++ 0 ∷ []) p)) (part_passed j [] [] 0 [] 0 x refl (below_first j) first_least a)
 
-  pub first_below : (place ls one middle : List ℕ) → place ≡ [] → ls ≡ x ∷ [] → one ≡ place ++ x ∷ [] → middle ≡ one ++ 0 ∷ [] → IsBelow j ls middle 0
-  first_below (y ∷ ys) ls one middle e is p q = absurd (cc)
-  first_below [] ls one middle e is p q = below_at j ls middle 0 (subst (Grows (MayFollow j) []) (sym is) (m, tt)) (q ∙ ap (λ (z : List ℕ). z ++ 0 ∷ []) (p ∙ sym is))
+  pub first_below : (ls one middle : List ℕ) → ls ≡ x ∷ [] → one ≡ x ∷ [] → middle ≡ one ++ 0 ∷ [] → IsBelow j ls middle 0
+  first_below ls one middle is p q = below_at j ls middle 0 (subst (Grows (MayFollow j) []) (sym is) (m, tt)) (q ∙ ap (λ (z : List ℕ). z ++ 0 ∷ []) (p ∙ sym is))
 
   pub first_ends : (path : List ℕ) → path ≡ x ∷ [] → (place : List ℕ) (end : End) (ls : List ℕ) (binding : List (Option (Value ℕ))) → EndsBelow j path place end ls binding → EndsIn j place end ls binding
   first_ends path is place ends.NoneLeft ls binding e =

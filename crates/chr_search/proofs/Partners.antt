@@ -10,7 +10,7 @@ use Rattle.chr_guard.specs.Bindings.{bound_at, Extends, Narrows, NoneUnder}
 use Rattle.chr_model.specs.Stores.{atom_at, among, Distinct}
 use Rattle.chr_plan.specs.declared.order.Step.{Step}
 use Rattle.chr_store.specs.Keys.{HasKey, Query, Matches, IsLeastMatch}
-use Rattle.chr_search.specs.Tree.{Children, Least, NoneBeyond, LeastFrom, NoneFrom}
+use Rattle.chr_search.specs.Tree.{Children, Grows, Least, NoneBeyond, LeastFrom, NoneFrom}
 use Rattle.chr_search.specs.Trials.{Join, StandsAt, Fit, HasKeyValue, IsInTurn, MayFollow}
 use Rattle.chr_search.specs.Partners.{IsReady, LengthenedIf, key_value, keyed_at, KeyIs}
 use Rattle.chr_search.proofs.Tree.{Come, come_first, come_at, come_to_end, come_on, come_to, come_past}
@@ -157,6 +157,15 @@ none_from_bound j labels from some high l m low = omega (arith, (in_turn j label
 pub turn_low : (j : Join) → j.bound ≡ j.active → (labels : List ℕ) (l : ℕ) → IsInTurn j labels l → l ≤ j.active
 turn_low j same [] l t = let e : l ≡ j.active = t in omega arith
 turn_low j same (x ∷ labels) l t = let e : l < j.bound = t in omega arith
+
+-- a partner is older than the first label, which is the active one
+pub older_than_first : (j : Join) → j.bound ≡ j.active → (labels : List ℕ) (l : ℕ) → Grows (MayFollow j) [] labels → MayFollow j labels l → (first : ℕ) (others : List ℕ) → labels ≡ first ∷ others → first ≢ l
+older_than_first j same [] l g m first others e = absurd (cc)
+older_than_first j same (x ∷ xs) l g m first others e = λ q.
+    let active : x ≡ j.active = g.0.turn in
+    let low : l < j.bound = m.turn in
+    let is : x ≡ first = cc in
+    absurd (omega arith)
 
 pub none_above : (j : Join) → j.bound ≡ j.active → (labels : List ℕ) (from : ℕ) → j.active < from → NoneFrom (MayFollow j labels) from
 none_above j same labels from high l m low = omega (arith, turn_low j same labels l m.turn)

@@ -105,6 +105,14 @@ EndsIn j place ends.Whole ls binding = Least (MayFollow j) 1 [] place ls × AreW
 EndsIn j place ends.NoneLeft ls binding = NoneBeyond (MayFollow j) 1 [] place
 EndsIn j place ends.Enough ls binding = Unit {0}
 
+-- So many trials of a join are passed over from the first one on, and how that ends. Where there are any, the place moves.
+pub record PassesFirst (j : Join) (place : List ℕ) (n : ℕ) (after : List ℕ) (end : End) (ls : List ℕ) (binding : List (Option (Value ℕ))) : Type 0 where
+  pub labels : List ℕ
+  pub passes : PassesIn j n [] labels
+  pub ends : EndsIn j labels end ls binding
+  pub stays : n ≡ 0 → after ≡ place
+  pub moves : 1 ≤ n → after ≡ labels
+
 -- where a label stands that comes after these: the next head, and whether it is the rule's last
 pub record IsLastHead {Z : Type 0} (j : Join) (ls : List ℕ) (at : LastHead Z) : Type 0 where
   pub step : Step

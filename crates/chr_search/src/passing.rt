@@ -1,12 +1,12 @@
 //! Trials in the store that are judged without being made.
-ghost use Rattle.std.specs.Prelude.{◌≡◌, ◌↔◌, ◌==◌, ◌≤◌, ◌<◌, ◌∷◌, ◌++◌, [], ℕ, length, take, MatchOption, IsTrue};
+ghost use Rattle.std.specs.Prelude.{◌≡◌, ◌≢◌, ◌↔◌, ◌==◌, ◌≤◌, ◌<◌, ◌∷◌, ◌++◌, [], ℕ, List, length, take, MatchOption, IsTrue};
 ghost use Rattle.std.specs.List.{list_any};
 ghost use Rattle.chr_guard.specs.Bindings.{Keeps};
 ghost use Rattle.chr_search.specs.declared.passing.End.TheVariants as ends;
 ghost use Rattle.chr_search.specs.declared.passing.Stop.TheVariants as stops;
 ghost use Rattle.chr_search.specs.Joined.{join_of};
 ghost use Rattle.chr_search.specs.Partners.{HasPlan, IsReady, IsPartnerFrom};
-ghost use Rattle.chr_search.specs.Passing.{IsTrialIn, BeginsTrials, AreMisfits, PassesIn, HasPassed, EndsIn, IsLastHead, IsLevel, IsNarrowedIf, IsTried, ComesNext, settled, IsBelow, EndsBelow, StopsAt};
+ghost use Rattle.chr_search.specs.Passing.{IsTrialIn, BeginsTrials, AreMisfits, PassesIn, PassesFirst, HasPassed, EndsIn, IsLastHead, IsLevel, IsNarrowedIf, IsTried, ComesNext, settled, IsBelow, EndsBelow, StopsAt};
 ghost use Rattle.chr_search.specs.Tree.{Grows};
 ghost use Rattle.chr_search.specs.Trials.{IsInTurn, MayFollow};
 ghost use Rattle.chr_search.specs.Verdicts.{Trial};
@@ -102,6 +102,18 @@ fn is_among(labels: &[Label], label: Label) -> bool
     ensures { result ≡ list_any (λ other. other == label) labels.now }
 {
     labels.iter().any(|other| *other == label)
+}
+
+/// Whether a label that isn't the first of these is one of them.
+#[inline(always)]
+fn is_among_others(labels: &[Label], label: Label) -> bool
+    requires { (first : ℕ) (others : List ℕ) → labels.now ≡ first ∷ others → first ≢ label }
+    ensures { result ≡ list_any (λ other. other == label) labels.now }
+{
+    match labels.split_first() {
+        None => false,
+        Some((_first, others)) => is_among(others, label),
+    }
 }
 
 /// Moves a place behind misfits, where there were any.
@@ -228,15 +240,17 @@ impl<'s, A: Allocator + Copy> Join<'s, A> {
     ) -> Verdict
         requires at { IsLastHead (join_of self.now) labels.now at }
         requires ready { IsReady (join_of self.now) labels.now narrowed.old }
+        requires grows { Grows (MayFollow (join_of self.now)) [] labels.now }
+        requires follows { MayFollow (join_of self.now) labels.now label }
         requires trial { (t : Trial) × IsTrialIn (join_of self.now) (labels.now ++ label ∷ []) t }
         ensures tried { IsTried (join_of self.now) (labels.now ++ label ∷ []) result narrowed.new }
         ensures keeps { Keeps narrowed.old narrowed.new }
     {
-        if is_among(labels, label) {
+        if is_among_others(labels, label) {
             return Verdict::Misfit;
         }
         let Some(atom) = self.view.get(label) else {
-            return Verdict::Misfit;
+            unreachable!();
         };
         if !fit_head(narrowed, at.head, atom) {
             return Verdict::Misfit;
@@ -426,9 +440,11 @@ impl<'s, A: Allocator + Copy> Join<'s, A> {
         }
     }
 
-    /// Passes over the trials as [`pass`](Join::pass) does, from no place on. All of them begin with the active label.
+    /// Passes over the trials from the first one on, up to one that is whole, at most so many. All of them begin with the
+    /// active label. The place becomes that at which the search goes on, but stays where no trial is passed over; where the
+    /// search ends before a trial that is whole, `instance` becomes that one.
     #[inline(always)]
-    fn pass_first(
+    pub(crate) fn pass_first(
         &self,
         most: u64,
         place: &mut Labels,
@@ -436,15 +452,12 @@ impl<'s, A: Allocator + Copy> Join<'s, A> {
         binding: &mut Binding<'s, A>,
     ) -> Passed
         requires begins { BeginsTrials (join_of self.now) }
-        requires place { place.old.items ≡ [] }
-        ensures passed { HasPassed (join_of self.now) most place.old.items result place.new.items }
-        ensures ends { EndsIn (join_of self.now) place.new.items result.end instance.new.labels.items binding.new }
+        ensures few { result.count ≤ most }
+        ensures enough { result.end ≡ ends.Enough → result.count ≡ most }
+        ensures passed { PassesFirst (join_of self.now) place.old.items result.count place.new.items result.end instance.new.labels.items binding.new }
     {
         let Some(at) = self.last_head(&[]) else {
-            return Passed {
-                count: 0,
-                end: End::NoneLeft,
-            };
+            unreachable!();
         };
         if most == 0 {
             return Passed {
@@ -456,7 +469,7 @@ impl<'s, A: Allocator + Copy> Join<'s, A> {
         binding.reset(self.rule.variables());
         match self.judge_at(at, &[], active, binding) {
             Verdict::Misfit => {
-                place.push(active + 1);
+                set_alone(place, active + 1);
                 Passed {
                     count: 1,
                     end: End::NoneLeft,
@@ -471,7 +484,7 @@ impl<'s, A: Allocator + Copy> Join<'s, A> {
             }
             Verdict::Part => {
                 set_alone(&mut instance.labels, active);
-                place.push(active);
+                set_alone(place, active);
                 place.push(0);
                 let below = self.pass_below(0, most - 1, place, instance, binding);
                 Passed {
@@ -482,8 +495,9 @@ impl<'s, A: Allocator + Copy> Join<'s, A> {
         }
     }
 
-    /// Passes over the trials as [`pass`](Join::pass) does, from a place on.
-    fn pass_from(
+    /// Passes over the trials at or after a place up to one that is whole, at most so many. The place becomes that at which
+    /// the search goes on; where it ends before a trial that is whole, `instance` becomes that one.
+    pub(crate) fn pass_from(
         &self,
         most: u64,
         place: &mut Labels,
@@ -502,25 +516,5 @@ impl<'s, A: Allocator + Copy> Join<'s, A> {
             unreachable!();
         };
         self.pass_on(*first, below, most, place, instance, binding)
-    }
-
-    /// Passes over the trials at or after a place up to one that is whole, at most so many. The place becomes that at which
-    /// the search goes on; where it ends before a trial that is whole, `instance` becomes that one.
-    #[inline(always)]
-    pub(crate) fn pass(
-        &self,
-        place: &mut Labels,
-        most: u64,
-        instance: &mut Instance,
-        binding: &mut Binding<'s, A>,
-    ) -> Passed
-        requires begins { BeginsTrials (join_of self.now) }
-        ensures passed { HasPassed (join_of self.now) most place.old.items result place.new.items }
-        ensures ends { EndsIn (join_of self.now) place.new.items result.end instance.new.labels.items binding.new }
-    {
-        if place.is_empty() {
-            return self.pass_first(most, place, instance, binding);
-        }
-        self.pass_from(most, place, instance, binding)
     }
 }

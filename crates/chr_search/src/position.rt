@@ -36,11 +36,24 @@ pub(crate) fn set_alone(labels: &mut Labels, label: Label)
     put_at(labels, 0, label);
 }
 
+/// Takes the last label away where it is the second after the first ones, which are as many as `depth` and stay. That is what
+/// is mostly left of longer trials, and costs less than to truncate.
+#[inline(always)]
+fn shorten(labels: &mut Labels, depth: usize)
+    requires { depth < 6 }
+    ensures { take depth labels.new.items ≡ take depth labels.old.items }
+{
+    if labels.len() == depth + 2 {
+        let _last = labels.pop();
+    }
+}
+
 /// Keeps the first labels, as many as `depth`, and puts one after them.
 pub(crate) fn put_at(labels: &mut Labels, depth: usize, label: Label)
     requires { depth < 6 }
     ensures { labels.new.items ≡ take depth labels.old.items ++ label ∷ [] }
 {
+    shorten(labels, depth);
     if labels.len() == depth + 1 {
         labels[depth] = label;
         return;

@@ -567,15 +567,14 @@ impl Search {
         ensures label { self.new.label ≡ self.old.label }
         ensures passed { PassesPlan (join_of join.now) walk.now.rule walk.now.head self.old.place result.count self.new.place result.end instance.new.labels.items bound.new }
     {
-        if self.position.rule == walk.rule && self.position.head == walk.head {
-            return join.pass(&mut self.position.labels, most, instance, bound);
+        let position = &mut self.position;
+        if position.rule == walk.rule && position.head == walk.head && !position.labels.is_empty() {
+            return join.pass_from(most, &mut position.labels, instance, bound);
         }
-        let mut labels = Labels::new();
-        let passed = join.pass(&mut labels, most, instance, bound);
+        let passed = join.pass_first(most, &mut position.labels, instance, bound);
         if passed.count > 0 {
-            self.position.labels = labels;
-            self.position.rule = walk.rule;
-            self.position.head = walk.head;
+            position.rule = walk.rule;
+            position.head = walk.head;
         }
         passed
     }

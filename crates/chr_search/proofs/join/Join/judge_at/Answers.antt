@@ -1,4 +1,4 @@
-use Rattle.std.proofs.Common.{◌≡◌, true, false, None, Some, length, [], ◌∷◌, ◌++◌, sym, subst, ◌∙◌, arith, length-append}
+use Rattle.std.proofs.Common.{◌≡◌, true, false, None, Some, length, [], ◌∷◌, ◌++◌, refl, sym, subst, ◌∙◌, arith, length-append}
 use Rattle.chr_rule.specs.Parts.{shape}
 use Rattle.chr_rule.specs.Scope.{IsRule}
 use Rattle.chr_guard.specs.Matching.{IsFit, HeadsAre, IsInstanceUnder}
@@ -12,18 +12,20 @@ use Rattle.chr_search.specs.Partners.{IsReady}
 use Rattle.chr_search.specs.Passing.{IsTrialIn}
 use Rattle.chr_search.specs.Verdicts.{Trial}
 use Rattle.chr_search.proofs.Asking.{any_among, stands_is}
-use Rattle.chr_search.proofs.Partners.{ready_more}
+use Rattle.chr_search.proofs.Partners.{ready_more, older_than_first}
 use Rattle.chr_search.proofs.Wholes.{in_head_order, completed}
 use Rattle.chr_search.proofs.PassingOver.{repeats, stands_nowhere, is_part, is_full, heads_fit, misfit_here}
 use Rattle.chr_search.proofs.join.Join.judge_at.Goals.{Else-not-fit_head}
 use Rattle.chr_search.proofs.join.Join.judge_at.Goals as goal
 
-pub returns-then-is_among-clause-tried : goal.returns-then-is_among-clause-tried
-returns-then-is_among-clause-tried g c = repeats _ _ _ (sym (any_among c.args.labels.now c.args.label) ∙ sym c.is_among.ensures ∙ c.if-is_among.true)
+pub is_among_others-requires : goal.is_among_others-requires
+is_among_others-requires g c = older_than_first (join_of c.args.self.now) refl c.args.labels.now c.args.label c.requires.grows c.requires.follows
 
-pub returns-in_default-clause-tried : goal.returns-in_default-clause-tried
-returns-in_default-clause-tried g c =
-    stands_nowhere (join_of c.args.self.now) _ c.args.narrowed.now c.requires.at.step _ c.requires.ready c.requires.at.step_is (λ v x s. let z : None ≡ Some s.atom = c.in_default.ensures ∙ s.live in absurd (cc))
+pub returns-then-is_among_others-clause-tried : goal.returns-then-is_among_others-clause-tried
+returns-then-is_among_others-clause-tried g c = repeats _ _ _ (sym (any_among c.args.labels.now c.args.label) ∙ sym c.is_among_others.ensures ∙ c.if-is_among_others.true)
+
+pub unreachable-requires : goal.unreachable-requires
+unreachable-requires g c = let z : None ≡ Some c.requires.follows.atom = c.in_default.ensures ∙ c.requires.follows.live in absurd (cc)
 
 pub fit_head-requires : goal.fit_head-requires
 fit_head-requires g c =
@@ -40,7 +42,7 @@ returns-then-not-fit_head-clause-tried g c =
 ready : (g : _) (c : Else-not-fit_head g) → IsReady (join_of c.args.self.now) (c.args.labels.now ++ c.args.label ∷ []) c.fit_head.new.binding
 ready g c =
     let j = join_of c.args.self.now in
-    let away = sym (any_among c.args.labels.now c.args.label) ∙ sym c.is_among.ensures ∙ c.if-is_among.false in
+    let away = sym (any_among c.args.labels.now c.args.label) ∙ sym c.is_among_others.ensures ∙ c.if-is_among_others.false in
     let stands = stands_is j c.requires.at.step c.args.label (shape c.args.at.head.now) c.in-Some.atom.now c.requires.at.head_is (sym c.in-Some.ensures) in
     ready_more j _ _ _ c.requires.at.step _ c.requires.ready c.requires.at.step_is away (told_as _ _ true c.args.narrowed.now c.fit_head.new.binding stands c.if-not-fit_head.ensures.narrows)
 
@@ -71,11 +73,8 @@ returns-clause-tried g c = λ t i.
     let at = (goal.at.returns-clause-tried g c).Else-not-fit_head in
     misfit_here _ _ t i (full g at t i c.if-not-at.false) (c.if-becomes_instance.ensures.instance (in_head_order t) (heads g at t i c.if-not-at.false))
 
-pub returns-then-is_among-clause-keeps : goal.returns-then-is_among-clause-keeps
-returns-then-is_among-clause-keeps g c = keeps_itself c.args.narrowed.now
-
-pub returns-in_default-clause-keeps : goal.returns-in_default-clause-keeps
-returns-in_default-clause-keeps g c = keeps_itself c.args.narrowed.now
+pub returns-then-is_among_others-clause-keeps : goal.returns-then-is_among_others-clause-keeps
+returns-then-is_among_others-clause-keeps g c = keeps_itself c.args.narrowed.now
 
 pub returns-then-becomes_instance-clause-keeps : goal.returns-then-becomes_instance-clause-keeps
 returns-then-becomes_instance-clause-keeps g c = keeps_both c.args.narrowed.now c.fit_head.new.binding c.becomes_instance.new.binding c.fit_head.ensures.keeps c.becomes_instance.ensures.keeps

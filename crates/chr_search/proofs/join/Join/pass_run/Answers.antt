@@ -31,8 +31,10 @@ judge_at-requires g c =
     let label = c.in-Some.label in
     let seen = sym c.as_slice-labels.ensures.value in
     let ready = subst (IsReady j labels) (sym c.loop-count.invariant.binding) (subst (λ ls. IsReady j ls c.args.binding.now) seen c.requires.ready) in
-    let grown = grows_more (MayFollow j) [] labels label (subst (Grows (MayFollow j) []) seen c.requires.grows) c.in-Some.ensures.least.holds in
-    (omega arith, ((level g (goal.at.judge_at-requires g c).After-next_at).at, (ready, c.requires.begins.trials (labels ++ label ∷ []) (omega (arith, length-append labels (label ∷ []))) grown)))
+    let grows = subst (Grows (MayFollow j) []) seen c.requires.grows in
+    let follows = c.in-Some.ensures.least.holds in
+    let grown = grows_more (MayFollow j) [] labels label grows follows in
+    (omega arith, ((level g (goal.at.judge_at-requires g c).After-next_at).at, (ready, (grows, (follows, c.requires.begins.trials (labels ++ label ∷ []) (omega (arith, length-append labels (label ∷ []))) grown)))))
 
 pub return_to-requires : goal.return_to-requires
 return_to-requires g c =
