@@ -1,2 +1,1 @@
-pub mod Prefixes
 pub mod Adding

@@ -1,6 +1,6 @@
-use Rattle.std.proofs.Common.{◌≡◌, ◌++◌, ◌∷◌, [], sym, ◌∙◌, ap}
-use Rattle.chr_versions.proofs.Adding.{adds_moves, was_added}
-use Rattle.chr_versions.proofs.Prefixes.{last_of_longer}
+use Rattle.std.proofs.Common.{◌≡◌, ◌++◌, ◌∷◌, [], Some, sym, ◌∙◌, ap}
+use Rattle.chr_versions.specs.Kept.{last_of}
+use Rattle.chr_versions.proofs.Adding.{adds_moves, was_added, last_added}
 use Rattle.chr_versions.proofs.versions.Versions.add.Goals as goal
 
 pub compare_exchange-found-requires : goal.compare_exchange-found-requires
@@ -20,4 +20,4 @@ pub returns : goal.returns
 returns g c =
     let step = c.compare_exchange-found in
     let all : step.new.seen.log ≡ c.again-seen.result.log ++ c.plain-offer.result.ask ∷ [] = was_added step.result c.self.inside.count _ _ c.if-found-count.false step.ensures.7 in
-    last_of_longer step.new.seen.log c.again-seen.result.log c.plain-offer.result.ask c.args.value.now all c.plain-offer.ensures.1
+    ap last_of all ∙ last_added c.again-seen.result.log c.plain-offer.result.ask ∙ ap (λ x. Some x) c.plain-offer.ensures.1

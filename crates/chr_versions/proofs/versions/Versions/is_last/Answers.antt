@@ -2,7 +2,7 @@ use Rattle.std.proofs.Common.{◌≡◌, ◌∙◌, ap, sym, subst, arith}
 use Rattle.std.proofs.lemmas.Bool.Decides.{nat_tests}
 use mathlib.Core.List.{IsPrefix}
 use Rattle.chr_versions.specs.Kept.{last_of}
-use Rattle.chr_versions.proofs.Prefixes.{prefixes_same}
+use Rattle.chr_versions.proofs.Adding.{prefixes_same}
 use Rattle.chr_versions.proofs.versions.Versions.is_last.Goals as goal
 
 pub returns : goal.returns
