@@ -32,11 +32,10 @@ use Rattle.chr_sheet.specs.Columns.{Column, Head, at_head, column_trials}
 use Rattle.chr_sheet.specs.Others.{others_at, others_in}
 use Rattle.chr_sheet.specs.Rows.{JudgedSheet, Row, IsRow, judgements_of, listed, misfit, trials_of}
 use Rattle.chr_search.proofs.PlanByPlan.{alike_next}
-use Rattle.chr_sheet.proofs.InOrder.{all_both}
+use Rattle.chr_sheet.proofs.Keeping.{all_both}
 use Rattle.chr_sheet.proofs.OneNext.{longer_position, trial_in}
-use Rattle.chr_sheet.proofs.InRows.{label_low}
-use Rattle.chr_sheet.proofs.Columns.{only_placed}
-use Rattle.chr_sheet.proofs.NextAlone.{active_alone}
+use Rattle.chr_sheet.proofs.Rows.{label_low, only_placed}
+use Rattle.chr_sheet.proofs.NextBeside.{active_alone}
 use Rattle.chr_sheet.specs.Sheets.{AreNextInOrder, Reports, done, moves, after_all, IsFireable}
 
 -- ---- a misfit begins no longer admissible trial

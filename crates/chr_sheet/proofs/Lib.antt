@@ -1,15 +1,6 @@
-pub mod Cutting
-pub mod Columns
-pub mod InOrder
+pub mod Rows
 pub mod Keeping
-pub mod LastAtHead
-pub mod Pushing
-pub mod InRows
-pub mod InColumns
-pub mod ReadOn
+pub mod NextBeside
 pub mod OneNext
 pub mod Turns
-pub mod TurnsAlone
-pub mod NextBeside
-pub mod NextAlone
 pub mod KnownNext

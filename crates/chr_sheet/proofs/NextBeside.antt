@@ -1,31 +1,75 @@
--- Trials that come next one after another: those that differ in their last label, and the part with which they begin.
-use Rattle.std.proofs.Common.{◌≡◌, ℕ, suc, zero, ◌+◌, ◌≤◌, List, [], ◌∷◌, ◌++◌, map, length, length-append, get_or, Option, Some, None, MatchOption, refl, sym, ◌∙◌, ap, subst, arith}
+-- Trials that come next one after another: those that differ in their last label, the part with which they begin, and those of the active label alone.
+use Rattle.std.proofs.Common.{◌≡◌, ℕ, ◌+◌, List, [], ◌∷◌, ◌++◌, append_assoc, map, length, Option, Some, refl, sym, ◌∙◌, ap, subst, suc, zero, ◌≤◌, length-append, get_or, None, MatchOption, arith, true}
+use Rattle.std.proofs.lemmas.List.{map_push, length_push, same_from_push, length-map}
+use Rattle.chr_search.specs.declared.front.Front.{Front as CodeFront}
+use Rattle.chr_search.specs.Tree.{LeastFrom, NoneFrom}
+use Rattle.chr_search.specs.Trials.{Space, Join, IsTrial, IsNext, NoneLeft, Child}
+use Rattle.chr_search.specs.Verdicts.{Placed, Trial, labels, position, IsFormed, IsPart, IsTrialOf}
+use Rattle.chr_search.specs.Fronts.{MayEnd, IsEndFrom, IsFront, IsPlacedAfter, lengthened, ComeAfter, trial_alone}
+use Rattle.chr_sheet.specs.Beside.{AreEnds, next_from, HasEnd, HasBeside, HasNoneBeside, ComeNext, AreInTurn, last_of, IsLastAtHead, EndHead}
 use Rattle.std.specs.List.{AllByRecursion}
-use Rattle.std.proofs.lemmas.List.{map_push, length_push, same_from_push}
 use Rattle.chr_rule.specs.Scope.{IsRule}
 use Rattle.chr_plan.specs.Orders.{heads_of}
 use Rattle.chr_plan.specs.Plans.{ArePlans}
 use Rattle.chr_store.specs.Labels.{LabelledStore, IsLabelled}
-use Rattle.chr_search.specs.declared.front.Front.{Front as CodeFront}
 use Rattle.chr_search.specs.Joined.{join_of}
-use Rattle.chr_search.specs.Positions.{just_after, past}
-use Rattle.chr_search.specs.Tree.{LeastFrom, NoneFrom}
-use Rattle.chr_search.specs.Trials.{Join, Space, IsTrial, IsNext, NoneLeft}
-use Rattle.chr_search.specs.Verdicts.{Placed, Trial, labels, position, IsFormed, IsPart, IsTrialOf}
-use Rattle.chr_search.specs.Fronts.{lengthened, MayEnd, IsFront, IsPlacedAfter, ComeAfter}
+use Rattle.chr_search.specs.Positions.{just_after, past, at_or_after}
 use Rattle.chr_search.proofs.Judging.{labels_length, last_small}
 use Rattle.chr_search.proofs.Making.{next_trial, map_twice}
 use Rattle.chr_search.proofs.PassingOver.{is_part}
 use Rattle.chr_search.proofs.Fronts.{end_at, end_next, full_after, placed_trial, placed_after, trial_formed}
-use Rattle.chr_sheet.specs.Rows.{IsRow, trials_of}
+use Rattle.chr_sheet.specs.Rows.{IsRow, trials_of, branch_trials}
 use Rattle.chr_sheet.specs.Sheets.{IsNextTrial, AreNext, AreNextTogether}
-use Rattle.chr_sheet.specs.Beside.{HasEnd, HasBeside, HasNoneBeside, AreEnds, ComeNext, AreInTurn, last_of}
-use Rattle.chr_sheet.proofs.Cutting.{row_of}
-use Rattle.chr_sheet.proofs.Columns.{last_at}
-use Rattle.chr_search.proofs.Descents.{none_left}
+use Rattle.chr_sheet.proofs.Rows.{row_of, last_at, column_of, only_read, only_placed}
+use Rattle.chr_search.proofs.Descents.{none_left, each_trial}
 use Rattle.chr_search.proofs.PlanByPlan.{alike_next}
 use Rattle.chr_search.specs.Passing.{IsTrialIn}
 use Rattle.chr_sheet.proofs.OneNext.{longer_position, trial_in}
+use Rattle.chr_value.specs.Atoms.{Atom}
+use Rattle.chr_value.specs.declared.atom.Pred.{Pred}
+use Rattle.chr_rule.specs.Rules.{Simpagation, rule_at}
+use Rattle.chr_rule.specs.Occurrences.{IsNextOccurrence}
+use Rattle.chr_model.specs.Stores.{atom_at}
+use Rattle.chr_search.proofs.Alone.{alone_next, alone_trial, alone_is, come_past_active}
+use Rattle.chr_sheet.specs.Columns.{Head, Column, IsColumn, AreNextHeads, at_head, column_trials}
+use Rattle.std.proofs.lemmas.Bool.Decides.{nat_tests}
+use Rattle.chr_search.proofs.Positions.{after_by}
+use Rattle.chr_search.proofs.Behind.{shorter}
+
+-- ---- labels with which trials end, pushed one after another
+
+-- those that were pushed so far, and the next one
+pub record ArePushed {Z : Type 0} (s : Space) (r h : ℕ) (ls : List ℕ) (from : ℕ) (old new : List Placed) (f : CodeFront Z) (next : Option ℕ) : Type 0 where
+  pub more : List Placed
+  pub is : new ≡ old ++ more
+  pub ends : AreEnds s r h ls from more
+  pub front : IsFront s r h ls f
+  pub next_is : IsEndFrom s (r ∷ h ∷ ls) (next_from from more) next
+
+ends_push : (s : Space) (r h : ℕ) (ls : List ℕ) (from : ℕ) (ps : List Placed) (p : Placed) → AreEnds s r h ls from ps → LeastFrom (MayEnd s (r ∷ h ∷ ls)) (next_from from ps) p.label → IsPlacedAfter s r h (length ls) p → AreEnds s r h ls from (ps ++ p ∷ [])
+ends_push s r h ls from [] p e least placed = (least, placed, tt)
+ends_push s r h ls from (q ∷ ps) p e least placed = (e.0, e.1, ends_push s r h ls (q.label + 1) ps p e.2 least placed)
+
+next_push : (from : ℕ) (ps : List Placed) (p : Placed) → next_from from (ps ++ p ∷ []) ≡ p.label + 1
+next_push from [] p = refl
+next_push from (q ∷ ps) p = next_push (q.label + 1) ps p
+
+pub one_pushed : {X Z : Type 0} (f : X → Placed) (s : Space) (r h : ℕ) (ls : List ℕ) (from : ℕ) (old : List Placed) (xs new : List X) (x : X) (front later : CodeFront Z) (label : ℕ) (next : Option ℕ) → ArePushed s r h ls from old (map f xs) front (Some label) → new ≡ xs ++ x ∷ [] → (f x).label ≡ label → IsPlacedAfter s r h (length ls) (f x)
+    → IsEndFrom s (r ∷ h ∷ ls) (label + 1) next × IsFront s r h ls later → ArePushed s r h ls from old (map f new) later next
+one_pushed f s r h ls from old xs new x front later label next a is e placed k =
+    let p = f x in
+    record {
+      more = a.more ++ p ∷ [];
+      is = ap (map f) is ∙ map_push f xs x ∙ ap (λ ys. ys ++ p ∷ []) a.is ∙ append_assoc old a.more (p ∷ []);
+      ends = ends_push s r h ls from a.more p a.ends (subst (LeastFrom (MayEnd s (r ∷ h ∷ ls)) (next_from from a.more)) (sym e) a.next_is) placed;
+      front = k.1;
+      next_is = subst (λ n. IsEndFrom s (r ∷ h ∷ ls) n next) (sym (next_push from a.more p ∙ ap (λ l. l + 1) e)) k.0;
+    }
+
+pub one_more : {X : Type 0} (xs new : List X) (x : X) → new ≡ xs ++ x ∷ [] → length new ≡ length xs + 1
+one_more xs new x is = ap length is ∙ length_push xs x
+
+-- ---- trials that come next one after another: those that differ in their last label, and the part with which they begin
 
 -- from where the same trials lie, the same one comes next
 pub next_after : (s : Space) (place t p : List ℕ) → ComeAfter s place t → IsNext s place p → IsNext s (just_after t) p
@@ -202,11 +246,222 @@ begins_others s t f front i w left =
 
 -- ---- the least label with which a trial ends
 
-pub end_as : {Z : Type 0} (s : Space) (r h : ℕ) (ls ms : List ℕ) (from : ℕ) (f : CodeFront Z) (end : ℕ) → ls ≡ ms → HasEnd s r h ls from f end → HasEnd s r h ms from f end
-end_as s r h ls ms from f end e = subst (λ xs. HasEnd s r h xs from f end) e
+abbrev pub EndOrNone : {Z : Type 0} → Space → ℕ → ℕ → List ℕ → ℕ → Option (CodeFront Z × ℕ) → Type 0
+EndOrNone s r h ls from found = MatchOption found (NoneFrom (MayEnd s (r ∷ h ∷ ls)) from) (λ x. HasEnd s r h ls from x.0 x.1)
 
-pub beside : {Z : Type 0} (s : Space) (t : Trial) (before : List ℕ) (last : ℕ) (found : Option (CodeFront Z × ℕ)) → length t.placed ≡ length (heads_of t.rule) → labels t ≡ before ++ last ∷ [] → MatchOption found (NoneFrom (MayEnd s (t.number ∷ t.head ∷ before)) (last + 1)) (λ x. HasEnd s t.number t.head before (last + 1) x.0 x.1) → MatchOption found (HasNoneBeside s t) (λ x. HasBeside s t x.0 x.1)
+pub end_as : {Z : Type 0} (s : Space) (r h : ℕ) (ls ms : List ℕ) (from : ℕ) (found now : Option (CodeFront Z × ℕ)) → ls ≡ ms → found ≡ now → EndOrNone s r h ls from found → EndOrNone s r h ms from now
+end_as s r h ls ms from found now e is end = subst (EndOrNone s r h ms from) is (subst (λ xs. EndOrNone s r h xs from found) e end)
+
+abbrev pub BesideOrNone : {Z : Type 0} → Space → Trial → Option (CodeFront Z × ℕ) → Type 0
+BesideOrNone s t found = MatchOption found (HasNoneBeside s t) (λ x. HasBeside s t x.0 x.1)
+
+pub beside : {Z : Type 0} (s : Space) (t : Trial) (before : List ℕ) (last : ℕ) (found : Option (CodeFront Z × ℕ)) → length t.placed ≡ length (heads_of t.rule) → labels t ≡ before ++ last ∷ [] → EndOrNone s t.number t.head before (last + 1) found → BesideOrNone s t found
 beside s t before last None full ls none = λ all others other is some.
     let same = same_from_push before others last other (sym ls ∙ is) in
     subst (λ l. NoneFrom (MayEnd s (t.number ∷ t.head ∷ others)) (l + 1)) same.1 (subst (λ xs. NoneFrom (MayEnd s (t.number ∷ t.head ∷ xs)) (last + 1)) same.0 none)
 beside s t before last (Some x) full ls h = record { full = full; before = before; last = last; labels_are = ls; end = h }
+
+-- ---- trials of the active label alone that come next one after another
+
+-- the trial of the active label alone at a head
+abbrev alone_at : Space → Atom ℕ → Head → Trial
+alone_at s atom o = trial_alone o.rule o.number (record { head = o.head; label = s.active; atom = atom })
+
+-- past one at a rule of one head comes that at the next head, and so on
+come_alone : (s : Space) (atom : Atom ℕ) (pred : Pred) → ArePlans s.rules s.plans → AllByRecursion IsRule s.rules → atom_at s.store s.active ≡ Some atom → pred.name.number ≡ atom.name → pred.arity ≡ length atom.args → (o : Head) (os : List Head) → IsTrialOf s.rules s.plans s.store (alone_at s atom o) → length (heads_of o.rule) ≡ 1 → AreNextHeads s.rules pred o.number o.head os → ComeNext s (alone_at s atom o) (map (alone_at s atom) os)
+come_alone s atom pred ps rs live name arity o [] i one e = tt
+come_alone s atom pred ps rs live name arity o (q ∷ qs) i one e =
+    let t : Trial = alone_at s atom o in
+    let u : Trial = alone_at s atom q in
+    let behind : ComeAfter s (past (position t)) (position t) = full_after s t ps rs i (sym one) (omega arith) in
+    let next : IsNext s (just_after (position t)) (position u) = next_after s (past (position t)) (position t) (position u) behind (alone_next s atom pred o.number o.head q.number q.head ps live name arity e.0) in
+    let trial : IsTrialOf s.rules s.plans s.store u = alone_trial s q.rule q.number q.head atom ps (next_trial s (just_after (position t)) (position u) next) e.1 live in
+    ((next, trial), come_alone s atom pred ps rs live name arity q qs trial e.2 e.3)
+
+-- the label of an admissible trial of one label is the active one
+pub active_alone : (s : Space) (t : Trial) (p : Placed) → t.placed ≡ p ∷ [] → IsTrial s (position t) → p.label ≡ s.active
+active_alone s t p e i = (subst (λ (ps : List Placed). IsTrial s (t.number ∷ t.head ∷ map (λ (x : Placed). x.label) ps)) e i).grows.1.1.0.3.turn
+
+-- the active label of a formed trial is small
+pub active_low : (s : Space) (t : Trial) → IsTrial s (position t) → IsFormed t → s.active ≤ 4294967295
+active_low s t i f = low t.number t.head (length (heads_of t.rule)) t.placed i f.some f.within
+  where
+    low : (r h n : ℕ) (ps : List Placed) → IsTrial s (r ∷ h ∷ map (λ (x : Placed). x.label) ps) → 1 ≤ length ps → AllByRecursion (λ (p : Placed). (1 ≤ p.head) × (p.head ≤ n) × (p.label ≤ 4294967295)) ps → s.active ≤ 4294967295
+    low r h n [] i some w = absurd (omega arith)
+    low r h n (p ∷ ps) i some w = let first : p.label ≡ s.active = i.grows.1.1.0.3.turn in subst (λ l. l ≤ 4294967295) first w.0.2
+
+-- what is known of the first trial of a column
+pub record IsAlone (s : Space) (t : Trial) (p : Placed) : Type 0 where
+  pub plans : ArePlans s.rules s.plans
+  pub scoped : AllByRecursion IsRule s.rules
+  pub here : IsTrial s (position t)
+  pub trial_of : IsTrialOf s.rules s.plans s.store t
+  pub full : length (heads_of t.rule) ≡ 1
+  pub placed : t.placed ≡ p ∷ []
+
+first_live : (s : Space) (t : Trial) (p : Placed) → IsAlone s t p → atom_at s.store s.active ≡ Some p.atom
+first_live s t p k = subst (λ l. atom_at s.store l ≡ Some p.atom) (active_alone s t p k.placed k.here) (subst (AllByRecursion (λ (x : Placed). atom_at s.store x.label ≡ Some x.atom)) k.placed k.trial_of.live).0
+
+first_is : (s : Space) (t : Trial) (p : Placed) → IsAlone s t p → t ≡ alone_at s p.atom (record { rule = t.rule; number = t.number; head = t.head })
+first_is s t p k = alone_is s t t.number t.head p.atom k.plans k.trial_of (ap (λ (ps : List Placed). t.number ∷ t.head ∷ map (λ (x : Placed). x.label) ps) k.placed ∙ ap (λ l. t.number ∷ t.head ∷ l ∷ []) (active_alone s t p k.placed k.here)) (first_live s t p k)
+
+pub is_alone : {X : Type 0} (f : X → Placed) (s : Space) (t : Trial) (xs : List X) (x : X) → ArePlans s.rules s.plans → AllByRecursion IsRule s.rules → IsTrial s (position t) × IsTrialOf s.rules s.plans s.store t → length (heads_of t.rule) ≡ 1 → IsFormed t → map f xs ≡ t.placed → x ≡ get_or xs 0 x → IsAlone s t (f x)
+is_alone f s t xs x ps rs i full w e is =
+    record { plans = ps; scoped = rs; here = i.0; trial_of = i.1; full = full; placed = only_read f xs x t.placed e (omega (arith, w.some, w.few)) is }
+
+-- the head of the first one is the only one
+pub first_low : (s : Space) (t : Trial) (p : Placed) → IsAlone s t p → IsFormed t → t.head ≤ 1
+first_low s t p k f =
+    let placed : t.placed ≡ record { head = t.head; label = s.active; atom = p.atom } ∷ [] = ap (λ (u : Trial). u.placed) (first_is s t p k) in
+    let within = (subst (AllByRecursion (λ (x : Placed). (1 ≤ x.head) × (x.head ≤ length (heads_of t.rule)) × (x.label ≤ 4294967295))) placed f.within).0 in
+    omega (arith, within.1, k.full)
+
+pub column_next : (s : Space) (t : Trial) (p : Placed) (pred : Pred) (os : List Head) → IsAlone s t p → pred.name.number ≡ p.atom.name → pred.arity ≡ length p.atom.args → AreNextHeads s.rules pred t.number t.head os → ComeNext s t (map (at_head t) os)
+column_next s t p pred os k name arity e =
+    let o : Head = record { rule = t.rule; number = t.number; head = t.head } in
+    subst (λ u. ComeNext s u (map (at_head u) os)) (sym (first_is s t p k))
+    (come_alone s p.atom pred k.plans k.scoped (first_live s t p k) name arity o os (subst (IsTrialOf s.rules s.plans s.store) (first_is s t p k) k.trial_of) k.full e)
+
+-- each of the trials is at a rule of one head
+all_full : (rules : List (Simpagation ℕ)) (pred : Pred) (t : Trial) (r h : ℕ) (os : List Head) → AreNextHeads rules pred r h os → AllByRecursion (λ (u : Trial). length (heads_of u.rule) ≡ 1) (map (at_head t) os)
+all_full rules pred t r h [] e = tt
+all_full rules pred t r h (o ∷ os) e = (e.2, all_full rules pred t o.number o.head os e.3)
+
+pub column_made : (s : Space) (store : LabelledStore) → store.entries ≡ s.store → IsLabelled store → (t : Trial) (p : Placed) (pred : Pred) (os : List Head) → IsAlone s t p → pred.name.number ≡ p.atom.name → pred.arity ≡ length p.atom.args → AreNextHeads s.rules pred t.number t.head os → IsColumn (column_of t os)
+column_made s store st w t p pred os k name arity e = record {
+  alone = ap length k.placed;
+  full = (k.full, all_full s.rules pred t t.number t.head os e);
+  formed = all_formed s store k.plans k.scoped st w t (map (at_head t) os) k.here k.trial_of (column_next s t p pred os k name arity e);
+}
+
+-- the last of heads that come next, or the one before them
+abbrev pub last_head : ℕ → ℕ → List Head → ℕ × ℕ
+last_head r h [] = (r, h)
+last_head r h (o ∷ os) = last_head o.number o.head os
+
+head_push : (rules : List (Simpagation ℕ)) (pred : Pred) (r h : ℕ) (os : List Head) (o : Head) → AreNextHeads rules pred r h os → IsNextOccurrence rules pred (last_head r h os).0 ((last_head r h os).1 + 1) (o.number, o.head) → rule_at rules o.number ≡ Some o.rule → length (heads_of o.rule) ≡ 1 → AreNextHeads rules pred r h (os ++ o ∷ [])
+head_push rules pred r h [] o e next is one = (next, is, one, tt)
+head_push rules pred r h (q ∷ qs) o e next is one = (e.0, e.1, e.2, head_push rules pred q.number q.head qs o e.3 next is one)
+
+last_push : (r h : ℕ) (os : List Head) (o : Head) → last_head r h (os ++ o ∷ []) ≡ (o.number, o.head)
+last_push r h [] o = refl
+last_push r h (q ∷ qs) o = last_push q.number q.head qs o
+
+pub heads_push : {X : Type 0} (f : X → Head) (rules : List (Simpagation ℕ)) (pred : Pred) (r h : ℕ) (xs new : List X) (x : X) → AreNextHeads rules pred r h (map f xs) → new ≡ xs ++ x ∷ [] → IsNextOccurrence rules pred (last_head r h (map f xs)).0 ((last_head r h (map f xs)).1 + 1) ((f x).number, (f x).head) → rule_at rules (f x).number ≡ Some (f x).rule → length (f x).rule.kept + length (f x).rule.removed ≡ 1 → AreNextHeads rules pred r h (map f new)
+heads_push f rules pred r h xs new x are items next is count =
+    let o : Head = f x in
+    let one : length (heads_of o.rule) ≡ 1 = length-append o.rule.kept o.rule.removed ∙ count in
+    subst (AreNextHeads rules pred r h) (sym (ap (map f) items ∙ map_push f xs x)) (head_push rules pred r h (map f xs) o are next is one)
+
+pub last_pushed : {X : Type 0} (f : X → Head) (r h : ℕ) (xs new : List X) (x : X) → new ≡ xs ++ x ∷ [] → last_head r h (map f new) ≡ ((f x).number, (f x).head)
+last_pushed f r h xs new x items = ap (last_head r h) (ap (map f) items ∙ map_push f xs x) ∙ last_push r h (map f xs) (f x)
+
+-- what holds of a trial and more holds of the last
+pub last_all : (P : Trial → Type 0) (t : Trial) (us : List Trial) → AllByRecursion P (t ∷ us) → P (last_of t us)
+last_all P t [] a = a.0
+last_all P t (u ∷ us) a = last_all P u us a.1
+
+pub all_alone : (t : Trial) (os : List Head) → length t.placed ≡ 1 → AllByRecursion (λ (u : Trial). length u.placed ≡ 1) (map (at_head t) os)
+all_alone t [] one = tt
+all_alone t (o ∷ os) one = (length-map t.placed (λ (p : Placed). record p { head = o.head }) ∙ one, all_alone t os one)
+
+-- the last trial's rule and its head are numbered from 1
+pub last_low : (c : Column) → IsColumn c → (number head : ℕ) → let last = last_of c.first (map (at_head c.first) c.more) in number ≡ last.number → head ≡ last.head → (1 ≤ number) × (1 ≤ head)
+last_low c w number head e f =
+    let formed = last_all IsFormed c.first (map (at_head c.first) c.more) w.formed in
+    (subst (λ n. 1 ≤ n) (sym e) formed.number, subst (λ n. 1 ≤ n) (sym f) formed.head)
+
+-- ---- trials after which none is left at their head
+
+-- past the active label at a head lie the trials after one that is the last there
+pub come_past_head : (s : Space) (place : List ℕ) (t : Trial) → place ≡ past (t.number ∷ t.head ∷ s.active ∷ []) → IsLastAtHead s t → ComeAfter s place (position t)
+come_past_head s place t is last =
+    subst (λ p. ComeAfter s p (position t)) (sym is) (λ u i. (
+      λ e. after_by (just_after (position t)) (t.number ∷ (t.head + 1) ∷ []) u (up (labels t ++ 0 ∷ [])) ((come_past_active s t.number t.head (s.active + 1) [] (omega arith)).none u i e),
+      λ e. after_by (past (t.number ∷ t.head ∷ s.active ∷ [])) (t.number ∷ (t.head + 1) ∷ []) u (up ((s.active + 1) ∷ [])) (last u i e),
+    ))
+  where
+    up : (ls : List ℕ) → at_or_after (t.number ∷ t.head ∷ ls) (t.number ∷ (t.head + 1) ∷ []) ≡ true
+    up ls = grind (arith, nat_tests)
+
+-- where no trial begins with the active label and a number from one on, none is left at the head from there on
+head_ends : (s : Space) (r h n : ℕ) → NoneFrom (MayEnd s (r ∷ h ∷ s.active ∷ [])) n → (u : List ℕ) → IsTrial s u → at_or_after (r ∷ h ∷ s.active ∷ n ∷ []) u ≡ true → at_or_after (r ∷ (h + 1) ∷ []) u ≡ true
+head_ends s r h n none = each_trial s (λ u. at_or_after (r ∷ h ∷ s.active ∷ n ∷ []) u ≡ true → at_or_after (r ∷ (h + 1) ∷ []) u ≡ true) (λ x y m ms i first e.
+    let out : r ≡ x → h ≡ y → at_or_after (n ∷ []) ms ≡ true → ⊥ = λ rule head. further ms (subst (IsTrial s) (let z : x ∷ y ∷ m ∷ ms ≡ r ∷ h ∷ s.active ∷ ms = cc in z) i) in
+    grind (arith, nat_tests))
+  where
+    further : (ms : List ℕ) → IsTrial s (r ∷ h ∷ s.active ∷ ms) → at_or_after (n ∷ []) ms ≡ true → ⊥
+    further [] i e = absurd (cc)
+    further (k ∷ ks) i e = none k (record { grows = shorter (Child s) [] (r ∷ h ∷ s.active ∷ k ∷ []) ks i.grows; deep = omega arith }) (grind (arith, nat_tests))
+
+-- a trial of one label has the active one
+at_active : (s : Space) (t : Trial) → IsTrial s (position t) → length t.placed ≡ 1 → position t ≡ t.number ∷ t.head ∷ s.active ∷ []
+at_active s t i one =
+    let p = only_placed t.placed one in
+    ap (λ (ps : List Placed). t.number ∷ t.head ∷ map (λ (x : Placed). x.label) ps) p.1 ∙ ap (λ l. t.number ∷ t.head ∷ l ∷ []) (active_alone s t p.0 p.1 i)
+
+-- it is the last at its head where that is its rule's only one, and where it begins no other
+pub alone_ends : (s : Space) → ArePlans s.rules s.plans → AllByRecursion IsRule s.rules → (t : Trial) → IsTrial s (position t) → IsTrialOf s.rules s.plans s.store t → length t.placed ≡ 1 → length (heads_of t.rule) ≡ 1 → IsLastAtHead s t
+alone_ends s ps rs t k i one full = λ u j e.
+    (come_past_active s t.number t.head (s.active + 1) [] (omega arith)).none u j
+    (subst (λ p. at_or_after (past p) u ≡ true) (at_active s t k one) ((full_after s t ps rs i (one ∙ sym full) (omega arith) u j).1 e))
+
+pub part_ends : (s : Space) (t : Trial) → IsTrial s (position t) → length t.placed ≡ 1 → NoneFrom (MayEnd s (position t)) 0 → IsLastAtHead s t
+part_ends s t k one none = λ u j e.
+    let at = at_active s t k one in
+    head_ends s t.number t.head 0 (subst (λ p. NoneFrom (MayEnd s p) 0) at none) u j (subst (λ p. at_or_after (just_after p) u ≡ true) at e)
+
+-- so is one with all heads, two labels, and no other past the last of them
+pub full_ends : (s : Space) → ArePlans s.rules s.plans → AllByRecursion IsRule s.rules → (t : Trial) → IsTrial s (position t) → IsTrialOf s.rules s.plans s.store t → length t.placed ≡ length (heads_of t.rule) → (before : List ℕ) (last : ℕ) → labels t ≡ before ++ last ∷ [] → length before ≡ 1 → NoneFrom (MayEnd s (t.number ∷ t.head ∷ before)) (last + 1) → IsLastAtHead s t
+full_ends s ps rs t k i full (b ∷ []) last e one none = λ u j a.
+    let at : position t ≡ t.number ∷ t.head ∷ b ∷ last ∷ [] = ap (λ (ls : List ℕ). t.number ∷ t.head ∷ ls) e in
+    let first : b ≡ s.active = (subst (IsTrial s) at k).grows.1.1.0.3.turn in
+    let some : 1 ≤ length t.placed = omega (arith, labels_length t, ap length e) in
+    head_ends s t.number t.head (last + 1) (subst (λ x. NoneFrom (MayEnd s (t.number ∷ t.head ∷ x ∷ [])) (last + 1)) first none) u j
+    (subst (λ p. at_or_after p u ≡ true) (ap past at ∙ ap (λ x. t.number ∷ t.head ∷ x ∷ (last + 1) ∷ []) first) ((full_after s t ps rs i full some u j).1 a))
+full_ends s ps rs t k i full before last e one none = absurd (omega arith)
+
+two_labels : (ls : List ℕ) → length ls ≡ 2 → (first last : ℕ) × (ls ≡ first ∷ last ∷ [])
+two_labels (x ∷ y ∷ []) e = (x, y, refl)
+two_labels ls e = absurd (omega arith)
+
+pub pair_ends : (s : Space) → ArePlans s.rules s.plans → AllByRecursion IsRule s.rules → (t : Trial) → IsTrial s (position t) → IsTrialOf s.rules s.plans s.store t → length t.placed ≡ 2 → length (heads_of t.rule) ≡ 2 → HasNoneBeside s t → IsLastAtHead s t
+pair_ends s ps rs t k i two full none =
+    let ls = two_labels (labels t) (labels_length t ∙ two) in
+    full_ends s ps rs t k i (two ∙ sym full) (ls.0 ∷ []) ls.1 ls.2 refl (none (two ∙ sym full) (ls.0 ∷ []) ls.1 ls.2 (omega arith))
+
+-- the last trial of a row and of a branch, where no label is left to push
+last_placed : (part : Trial) (p : Placed) (ps : List Placed) → (q : Placed) × (last_of (lengthened part p) (map (lengthened part) ps) ≡ lengthened part q) × (next_from (p.label + 1) ps ≡ q.label + 1)
+last_placed part p [] = (p, refl, refl)
+last_placed part p (q ∷ qs) = last_placed part q qs
+
+pub row_ends : (s : Space) (part : Trial) → LacksOne s part → length part.placed ≡ 1 → (p : Placed) (ps : List Placed) → IsTrial s (position (lengthened part p)) → IsTrialOf s.rules s.plans s.store (lengthened part p) → ComeNext s (lengthened part p) (map (lengthened part) ps) → NoneFrom (MayEnd s (position part)) (next_from (p.label + 1) ps) → EndHead s (lengthened part p ∷ map (lengthened part) ps)
+row_ends s part k one p ps here i next none =
+    let q = last_placed part p ps in
+    let last = subst (λ t. IsTrial s (position t) × IsTrialOf s.rules s.plans s.store t) q.1 (last_trial s (lengthened part p) (map (lengthened part) ps) here i next) in
+    subst (IsLastAtHead s) (sym q.1)
+    (full_ends s k.plans k.scoped (lengthened part q.0) last.0 last.1 (length_push part.placed q.0 ∙ k.full) (labels part) q.0.label (map_push (λ (x : Placed). x.label) part.placed q.0) (labels_length part ∙ one) (subst (NoneFrom (MayEnd s (position part))) q.2 none))
+
+pub branch_ends : (s : Space) (part : Trial) → LacksOne s part → length part.placed ≡ 1 → (lasts : List Placed) → 1 ≤ length lasts → ComeNext s part (trials_of (row_of part lasts)) → NoneFrom (MayEnd s (position part)) (next_from 0 lasts) → EndHead s (branch_trials (row_of part lasts))
+branch_ends s part k one [] some next none = absurd (omega arith)
+branch_ends s part k one (p ∷ ps) some next none = row_ends s part k one p ps (next_trial s (just_after (position part)) (position (lengthened part p)) next.0.0) next.0.1 next.1 none
+
+-- the last trial of a column
+pub column_ends : (s : Space) → ArePlans s.rules s.plans → AllByRecursion IsRule s.rules → (c : Column) → IsColumn c → (t : Trial) (more : List Trial) → column_trials c ≡ t ∷ more → IsTrial s (position (last_of t more)) → IsTrialOf s.rules s.plans s.store (last_of t more) → IsLastAtHead s (last_of t more)
+column_ends s ps rs c w t more e here i =
+    alone_ends s ps rs (last_of t more) here i (last_all (λ (u : Trial). length u.placed ≡ 1) t more (subst (AllByRecursion (λ (u : Trial). length u.placed ≡ 1)) e (w.alone, all_alone c.first c.more w.alone)))
+    (last_all (λ (u : Trial). length (heads_of u.rule) ≡ 1) t more (subst (AllByRecursion (λ (u : Trial). length (heads_of u.rule) ≡ 1)) e w.full))
+
+-- the trials of a row have its part's rule and head
+abbrev HasHeadOf : Trial → Trial → Type 0
+HasHeadOf part t = (part.number ≡ t.number) × (part.head ≡ t.head)
+
+row_heads : (part : Trial) (ps : List Placed) → AllByRecursion (HasHeadOf part) (map (lengthened part) ps)
+row_heads part [] = tt
+row_heads part (p ∷ ps) = ((refl, refl), row_heads part ps)
+
+pub row_head : (part : Trial) (ps : List Placed) (t : Trial) (more : List Trial) → map (lengthened part) ps ≡ t ∷ more → HasHeadOf part (last_of t more)
+row_head part ps t more e = last_all (HasHeadOf part) t more (subst (AllByRecursion (HasHeadOf part)) e (row_heads part ps))
+
+pub branch_head : (part : Trial) (ps : List Placed) (t : Trial) (more : List Trial) → part ∷ map (lengthened part) ps ≡ t ∷ more → HasHeadOf part (last_of t more)
+branch_head part ps t more e = last_all (HasHeadOf part) t more (subst (AllByRecursion (HasHeadOf part)) e ((refl, refl), row_heads part ps))

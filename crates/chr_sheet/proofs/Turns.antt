@@ -1,11 +1,11 @@
 -- Judgements that are reported, one after another.
-use Rattle.std.proofs.Common.{◌≡◌, ◌≢◌, ◌↔◌, IsTrue, ℕ, suc, ◌+◌, ◌≤◌, Bool, true, false, not, nat_eq, List, [], ◌∷◌, ◌++◌, map, length, Option, Some, None, MatchOption, refl, sym, ◌∙◌, ap, ap₂, subst, arith}
+use Rattle.std.proofs.Common.{◌≡◌, ◌≢◌, ◌↔◌, IsTrue, ℕ, suc, ◌+◌, ◌≤◌, Bool, true, false, not, nat_eq, List, [], ◌∷◌, ◌++◌, map, length, Option, Some, None, MatchOption, refl, sym, ◌∙◌, ap, ap₂, subst, arith, IfSome}
 use Rattle.std.specs.Option.{option_eq}
 use Rattle.std.proofs.lemmas.Bool.{eqb-true, not-false}
 use Rattle.std.proofs.lemmas.Bool.Decides.{nat_tests}
 use Rattle.std.proofs.lemmas.List.{map_push, same_from_push}
-use Rattle.chr_rule.specs.Rules.{Simpagation}
-use Rattle.chr_model.specs.Stores.{Store}
+use Rattle.chr_rule.specs.Rules.{Simpagation, rule_at, heads_of}
+use Rattle.chr_model.specs.Stores.{Store, atom_at}
 use Rattle.chr_plan.specs.Plans.{PlanList}
 use Rattle.chr_search.specs.declared.judged.Verdict.{Verdict}
 use Rattle.chr_search.specs.declared.judged.Verdict.TheVariants.{Whole}
@@ -13,18 +13,32 @@ use Rattle.chr_search.specs.declared.front.Front.{Front}
 use Rattle.chr_search.specs.Positions.{just_after, past}
 use Rattle.chr_search.specs.Reach.{SearchState}
 use Rattle.chr_search.specs.Tree.{LeastFrom}
-use Rattle.chr_search.specs.Trials.{Space, older, IsNext}
+use Rattle.chr_search.specs.Trials.{Space, older, IsNext, IsTrial, NoneLeft}
 use Rattle.chr_search.specs.Verdicts.{Placed, Trial, position, labels, IsTrialOf}
 use Rattle.chr_search.specs.Answers.{IsToldNext, after_judging, after_verdict}
 use Rattle.chr_search.specs.Judged.{Judgement}
-use Rattle.chr_search.specs.Fronts.{lengthened, MayEnd, IsEndFrom, IsFront, IsPlacedAfter}
-use Rattle.chr_search.proofs.Judging.{labels_length}
+use Rattle.chr_search.specs.Fronts.{lengthened, MayEnd, IsEndFrom, IsFront, IsPlacedAfter, trial_alone}
+use Rattle.chr_search.proofs.Judging.{labels_length, few_heads}
 use Rattle.chr_search.proofs.Making.{next_trial}
 use Rattle.chr_search.proofs.Fronts.{end_at, end_next, end_none, placed_trial, placed_after}
 use Rattle.chr_search.proofs.Tree.{least_same}
 use Rattle.chr_sheet.specs.Rows.{Row, misfit, judged_part, trials_of}
 use Rattle.chr_sheet.specs.Sheets.{IsNextTrial, IsFrontOf, Reports, done, moves, passes, place_after}
 use Rattle.chr_sheet.proofs.OneNext.{next_same, longer_position}
+use Rattle.std.specs.List.{AllByRecursion}
+use Rattle.chr_value.specs.Atoms.{Atom}
+use Rattle.chr_value.specs.declared.atom.Pred.{Pred}
+use Rattle.chr_value.proofs.Chosen.{some_is}
+use Rattle.chr_rule.specs.Occurrences.{HeadsFrom, NoneFrom, IsNextOccurrence, AreHeadsFrom}
+use Rattle.chr_rule.specs.Scope.{IsRule}
+use Rattle.chr_search.proofs.Alone.{alone_next, alone_none, alone_trial}
+use Rattle.chr_search.proofs.Descents.{rule_scoped}
+use Rattle.chr_search.proofs.Plans.{planned}
+use Rattle.chr_sheet.specs.Alone.{IsAloneIn, IsAloneOf, place_past}
+use Rattle.chr_sheet.specs.Columns.{Head, Column, at_head, column_trials}
+use Rattle.chr_sheet.proofs.Rows.{IsColumnTrial}
+
+-- ---- judgements that are reported, one after another
 
 -- two labels that are compared
 pub next_is : (next : Option ℕ) (l : ℕ) → false ≡ not (option_eq nat_eq next (Some l)) → next ≡ Some l
@@ -171,3 +185,195 @@ part_moves s place mid after t js n next is rest =
 
 pub part_passes : (s : Space) (place after : List ℕ) (t : Trial) (js : List Judgement) (n : ℕ) → (IsNextTrial s place t → ⊥) → Reports s place js n after → Reports s place (judged_part t ∷ js) n after
 part_passes s place after t js n not rest = passes place after (judged_part t) js n not rest
+
+-- ---- trials of the active label alone that are reported, one after another
+
+-- ---- a trial that has the active label alone
+
+position_alone : (t : Trial) (p : Placed) (l : ℕ) → t.placed ≡ p ∷ [] → p.label ≡ l → position t ≡ t.number ∷ t.head ∷ l ∷ []
+position_alone t p l e is = ap (λ (ps : List Placed). t.number ∷ t.head ∷ map (λ (x : Placed). x.label) ps) e ∙ ap (λ x. t.number ∷ t.head ∷ x ∷ []) is
+
+at_alone : (s : Space) (t : Trial) → IsAloneIn s.store s.active t → position t ≡ t.number ∷ t.head ∷ s.active ∷ []
+at_alone s t a = position_alone t a.placed s.active a.placed_is a.label
+
+-- whether it has it is told of its label and its atom
+same_placed : (store : Store) (active : ℕ) (t : Trial) (p : Placed) → t.placed ≡ p ∷ [] → (a : IsAloneIn store active t) → a.placed ≡ p
+same_placed store active t p e a = let both : a.placed ∷ [] ≡ p ∷ [] = sym a.placed_is ∙ e in cc
+
+pub alone_told : (store : Store) (active : ℕ) (t : Trial) (p : Placed) (atom : Atom ℕ) (told : Bool) → t.placed ≡ p ∷ [] → atom_at store active ≡ Some atom → p.label ≡ active → IsTrue told ↔ (p.atom ≡ atom) → IsTrue told ↔ IsAloneIn store active t
+alone_told store active t p atom told e there label means = (
+  λ h. record { placed = p; placed_is = e; label = label; live = there ∙ ap (λ x. Some x) (sym (means.0 h)) },
+  λ a. means.1 (some_is p.atom atom (ap (λ (x : Placed). Some x.atom) (sym (same_placed store active t p e a)) ∙ sym a.live ∙ there)),
+)
+
+pub alone_label : (store : Store) (active : ℕ) (t : Trial) (p : Placed) → t.placed ≡ p ∷ [] → IsAloneIn store active t → p.label ≡ active
+alone_label store active t p e a = ap (λ (x : Placed). x.label) (sym (same_placed store active t p e a)) ∙ a.label
+
+pub alone_as : (store : Store) (l k : ℕ) (t u : Trial) → l ≡ k → t ≡ u → IsAloneIn store l t → IsAloneIn store k u
+alone_as store l k t u e f a = subst (IsAloneIn store k) f (subst (λ x. IsAloneIn store x t) e a)
+
+-- another head has the same label
+head_alone : (store : Store) (active : ℕ) (t : Trial) (h : Head) → IsAloneIn store active t → IsAloneIn store active (at_head t h)
+head_alone store active t h a = record {
+  placed = record { head = h.head; label = a.placed.label; atom = a.placed.atom };
+  placed_is = ap (map (λ (p : Placed). record p { head = h.head })) a.placed_is;
+  label = a.label;
+  live = a.live;
+}
+
+pub other_alone : (s : Space) (rules : List (Simpagation ℕ)) (t : Trial) (h : Head) → IsAloneOf s rules t → IsAloneOf s rules (at_head t h)
+other_alone s rules t h a = record { rules_are = a.rules_are; plans = a.plans; alone = head_alone s.store s.active t h a.alone }
+
+-- the one head at which a label of a column stands
+pub only_head : (t : Trial) (p : Placed) → IsColumnTrial t → t.placed ≡ p ∷ [] → p.head ≡ 1
+only_head t p w e =
+    let within = (subst (AllByRecursion (λ (x : Placed). (1 ≤ x.head) × (x.head ≤ length (heads_of t.rule)) × (x.label ≤ 4294967295))) e w.formed.within).0 in
+    omega (arith, w.full)
+
+-- and it is the trial's
+pub its_head : (s : Space) (rules : List (Simpagation ℕ)) (place : List ℕ) (t : Trial) → IsAloneOf s rules t → IsColumnTrial t → IsNext s place (t.number ∷ t.head ∷ s.active ∷ []) → rule_at rules t.number ≡ Some t.rule → t.head ≡ 1
+its_head s rules place t a w n is =
+    let i : IsTrial s (t.number ∷ t.head ∷ s.active ∷ []) = next_trial s place (t.number ∷ t.head ∷ s.active ∷ []) n in
+    let c = i.grows.1.1.0 in
+    let q = planned s.rules s.plans a.plans t.number t.head c.0 c.1 c.2.rule_is c.2.order_is in
+    let same : c.0 ≡ t.rule = some_is c.0 t.rule (sym c.2.rule_is ∙ ap (λ (rs : List (Simpagation ℕ)). rule_at rs t.number) a.rules_are ∙ is) in
+    omega (arith, q.from, q.to, w.full, ap (λ (r : Simpagation ℕ). length (heads_of r)) same)
+
+-- a head at which the active label comes next has a small number
+pub next_low : (s : Space) (rules : List (Simpagation ℕ)) (place : List ℕ) (o : ℕ × ℕ) (t : Trial) → IsAloneOf s rules t → AllByRecursion IsRule rules → IsNext s place (o.0 ∷ o.1 ∷ s.active ∷ []) → o.1 ≤ 6
+next_low s rules place o t a scoped n =
+    let i : IsTrial s (o.0 ∷ o.1 ∷ s.active ∷ []) = next_trial s place (o.0 ∷ o.1 ∷ s.active ∷ []) n in
+    let c = i.grows.1.1.0 in
+    let q = planned s.rules s.plans a.plans o.0 o.1 c.0 c.1 c.2.rule_is c.2.order_is in
+    omega (arith, q.to, few_heads c.0 (rule_scoped rules scoped o.0 c.0 (sym (ap (λ (rs : List (Simpagation ℕ)). rule_at rs o.0) a.rules_are) ∙ c.2.rule_is)))
+
+-- ---- which trial comes next
+
+is_next_alone : (s : Space) (rules : List (Simpagation ℕ)) (place : List ℕ) (t : Trial) → IsAloneOf s rules t → IsColumnTrial t → IsNext s place (t.number ∷ t.head ∷ s.active ∷ []) → rule_at rules t.number ≡ Some t.rule → IsNextTrial s place t
+is_next_alone s rules place t a w n is =
+    let k : IsAloneIn s.store s.active t = a.alone in
+    let p : Placed = k.placed in
+    let q : Placed = record { head = t.head; label = s.active; atom = p.atom } in
+    let heads : p.head ≡ t.head = only_head t p w k.placed_is ∙ sym (its_head s rules place t a w n is) in
+    let placed : t.placed ≡ q ∷ [] = k.placed_is ∙ ap (λ h. record p { head = h } ∷ []) heads ∙ ap (λ l. record { head = t.head; label = l; atom = p.atom } ∷ []) k.label in
+    let same : t ≡ trial_alone t.rule t.number q = ap (λ ps. record t { placed = ps }) placed in
+    let there : rule_at s.rules t.number ≡ Some t.rule = ap (λ (rs : List (Simpagation ℕ)). rule_at rs t.number) a.rules_are ∙ is in
+    (subst (IsNext s place) (sym (at_alone s t k)) n, subst (IsTrialOf s.rules s.plans s.store) (sym same) (alone_trial s t.rule t.number t.head p.atom a.plans (next_trial s place (t.number ∷ t.head ∷ s.active ∷ []) n) there k.live))
+
+-- the rule and the head at which the active label alone comes next, or no trial is left
+abbrev pub ComesAt : Space → List ℕ → Option (ℕ × ℕ) → Type 0
+ComesAt s place None = NoneLeft s place
+ComesAt s place (Some o) = IsNext s place (o.0 ∷ o.1 ∷ s.active ∷ [])
+
+abbrev IsTold : List (Simpagation ℕ) → Option (ℕ × ℕ) → Trial → Type 0
+IsTold rules next t = (next ≡ Some (t.number, t.head)) × (rule_at rules t.number ≡ Some t.rule)
+
+not_next_alone : (s : Space) (rules : List (Simpagation ℕ)) (place : List ℕ) (t : Trial) (next : Option (ℕ × ℕ)) → IsAloneOf s rules t → ComesAt s place next → (IsTold rules next t → ⊥) → IsNextTrial s place t → ⊥
+not_next_alone s rules place t None a comes not n = comes n.0.more n.0.beyond
+not_next_alone s rules place t (Some o) a comes not n =
+    let same : t.number ∷ t.head ∷ s.active ∷ [] ≡ o.0 ∷ o.1 ∷ s.active ∷ [] = sym (at_alone s t a.alone) ∙ least_same _ _ _ _ (position t) (o.0 ∷ o.1 ∷ s.active ∷ []) n.0 comes in
+    let number : o.0 ≡ t.number = cc in
+    let head : o.1 ≡ t.head = cc in
+    not (ap₂ (λ r h. Some (r, h)) number head, ap (λ (rs : List (Simpagation ℕ)). rule_at rs t.number) (sym a.rules_are) ∙ n.1.rule_is)
+
+comes_next : (s : Space) (rules : List (Simpagation ℕ)) (t : Trial) (pred : Pred) (next : Option (ℕ × ℕ)) → (a : IsAloneOf s rules t) → pred.name.number ≡ a.alone.placed.atom.name → pred.arity ≡ length a.alone.placed.atom.args → MatchOption next (NoneFrom rules pred t.number (t.head + 1)) (IsNextOccurrence rules pred t.number (t.head + 1)) → ComesAt s (past (t.number ∷ t.head ∷ s.active ∷ [])) next
+comes_next s rules t pred None a name arity o = alone_none s a.alone.placed.atom pred t.number t.head a.plans a.alone.live name arity (subst (λ rs. NoneFrom rs pred t.number (t.head + 1)) (sym a.rules_are) o)
+comes_next s rules t pred (Some x) a name arity o = alone_next s a.alone.placed.atom pred t.number t.head x.0 x.1 a.plans a.alone.live name arity (subst (λ rs. IsNextOccurrence rs pred t.number (t.head + 1) x) (sym a.rules_are) o)
+
+-- ---- the trials of a column in their turn
+
+-- so many of a column's trials were met, this one last, and the active label alone comes next here
+abbrev pub HasMetAlone : Space → List ℕ → List Trial → ℕ → Option (ℕ × ℕ) → Option (ℕ × ℕ) → Type 0
+HasMetAlone s place ts count met next = Reports s place (map misfit ts) count (place_past place s.active met) × ComesAt s (place_past place s.active met) next
+
+pub alone_met_none : (s : Space) (place : List ℕ) (first : ℕ × ℕ) → IsNext s place (first.0 ∷ first.1 ∷ s.active ∷ []) → HasMetAlone s place [] 0 None (Some first)
+alone_met_none s place first next = (done place, next)
+
+pub alone_met_other : (s : Space) (rules : List (Simpagation ℕ)) (place : List ℕ) (t : Trial) (here : ℕ × ℕ) (before after : List Trial) (count : ℕ) (met next : Option (ℕ × ℕ)) → after ≡ before ++ t ∷ [] → here ≡ (t.number, t.head) → IsAloneOf s rules t → ((next ≡ Some here) × (rule_at rules here.0 ≡ Some t.rule) → ⊥) → HasMetAlone s place before count met next → HasMetAlone s place after count met next
+alone_met_other s rules place t here before after count met next e at a not h =
+    let to = place_past place s.active met in
+    let passed = one_passes s to (misfit t) (not_next_alone s rules to t next a h.1 (subst (λ (o : ℕ × ℕ). (next ≡ Some o) × (rule_at rules o.0 ≡ Some t.rule) → ⊥) at not)) in
+    (subst (λ js. Reports s place js count to) (sym (ap (map misfit) e ∙ map_push misfit before t)) (subst (λ n. Reports s place (map misfit before ++ misfit t ∷ []) n to) (let z : count + 0 ≡ count = omega arith in z) (reports_both s place to to (map misfit before) (misfit t ∷ []) count 0 h.0 passed)), h.1)
+
+-- what follows an occurrence of the predicate
+abbrev pub Follows : List (Simpagation ℕ) → Pred → ℕ × ℕ → Option (ℕ × ℕ) → Type 0
+Follows rules pred o then = MatchOption then (NoneFrom rules pred o.0 (o.1 + 1)) (IsNextOccurrence rules pred o.0 (o.1 + 1))
+
+met_here : (s : Space) (rules : List (Simpagation ℕ)) (place : List ℕ) (t : Trial) (pred : Pred) (before after : List Trial) (count : ℕ) (met next then : Option (ℕ × ℕ)) → after ≡ before ++ t ∷ [] → (a : IsAloneOf s rules t) → IsColumnTrial t → pred.name.number ≡ a.alone.placed.atom.name → pred.arity ≡ length a.alone.placed.atom.args → IsTold rules next t → Follows rules pred (t.number, t.head) then
+    → HasMetAlone s place before count met next → HasMetAlone s place after (count + 1) (Some (t.number, t.head)) then
+met_here s rules place t pred before after count met next then e a w name arity told o h =
+    let at = place_past place s.active met in
+    let to = place_past place s.active (Some (t.number, t.head)) in
+    let comes : IsNextTrial s at t = is_next_alone s rules at t a w (subst (ComesAt s at) told.0 h.1) told.1 in
+    let moved : Reports s at (misfit t ∷ []) 1 to = subst (λ p. Reports s at (misfit t ∷ []) 1 (past p)) (at_alone s t a.alone) (moves at (past (position t)) (misfit t) [] 0 comes (λ z. absurd (cc)) (done (past (position t)))) in
+    (subst (λ js. Reports s place js (count + 1) to) (sym (ap (map misfit) e ∙ map_push misfit before t)) (reports_both s place at to (map misfit before) (misfit t ∷ []) count 1 h.0 moved), comes_next s rules t pred then a name arity o)
+
+pub alone_met_one : (s : Space) (rules : List (Simpagation ℕ)) (place : List ℕ) (t : Trial) (p : Placed) (pred : Pred) (here : ℕ × ℕ) (before after : List Trial) (count : ℕ) (met next then : Option (ℕ × ℕ)) → after ≡ before ++ t ∷ [] → here ≡ (t.number, t.head) → t.placed ≡ p ∷ [] → pred.name.number ≡ p.atom.name → pred.arity ≡ length p.atom.args → IsAloneOf s rules t → IsColumnTrial t → (next ≡ Some here) × (rule_at rules here.0 ≡ Some t.rule) → Follows rules pred here then
+    → HasMetAlone s place before count met next → HasMetAlone s place after (count + 1) (Some here) then
+alone_met_one s rules place t p pred here before after count met next then e at one name arity a w told o h =
+    let same : a.alone.placed ≡ p = same_placed s.store s.active t p one a.alone in
+    let at_name : pred.name.number ≡ a.alone.placed.atom.name = name ∙ ap (λ (x : Placed). x.atom.name) (sym same) in
+    let at_arity : pred.arity ≡ length a.alone.placed.atom.args = arity ∙ ap (λ (x : Placed). length x.atom.args) (sym same) in
+    subst (λ (o : ℕ × ℕ). HasMetAlone s place after (count + 1) (Some o) then) (sym at)
+    (met_here s rules place t pred before after count met next then e a w at_name at_arity (subst (λ (o : ℕ × ℕ). (next ≡ Some o) × (rule_at rules o.0 ≡ Some t.rule)) at told) (subst (λ (o : ℕ × ℕ). Follows rules pred o then) at o) h)
+
+-- the predicate of these heads is that of a trial's one label
+abbrev pub ArePredOf : HeadsFrom → Trial → Type 0
+ArePredOf heads t = (p : Placed) → t.placed ≡ p ∷ [] → (heads.pred.name.number ≡ p.atom.name) × (heads.pred.arity ≡ length p.atom.args)
+
+pub pred_of : (heads : HeadsFrom) (pred : Pred) (t : Trial) (p : Placed) → heads.pred ≡ pred → t.placed ≡ p ∷ [] → pred.name.number ≡ p.atom.name → pred.arity ≡ length p.atom.args → ArePredOf heads t
+pred_of heads pred t p is one name arity q e =
+    let both : p ∷ [] ≡ q ∷ [] = sym one ∙ e in
+    let same : p ≡ q = cc in
+    subst (λ (x : Placed). (heads.pred.name.number ≡ x.atom.name) × (heads.pred.arity ≡ length x.atom.args)) same (ap (λ (y : Pred). y.name.number) is ∙ name, ap (λ (y : Pred). y.arity) is ∙ arity)
+
+pub pred_as : (heads new : HeadsFrom) (t : Trial) → new.pred ≡ heads.pred → ArePredOf heads t → ArePredOf new t
+pred_as heads new t is are p e = subst (λ (q : Pred). (q.name.number ≡ p.atom.name) × (q.arity ≡ length p.atom.args)) (sym is) (are p e)
+
+-- the heads after the one that comes next
+abbrev pub AreAfter : List (Simpagation ℕ) → HeadsFrom → Option (ℕ × ℕ) → Type 0
+AreAfter rules heads next = IfSome next (λ o. AreHeadsFrom rules heads o.0 (o.1 + 1))
+
+-- what the heads after one tell of the one that comes then
+pub follows_there : (rules : List (Simpagation ℕ)) (pred : Pred) (heads : HeadsFrom) (o : ℕ × ℕ) (then : Option (ℕ × ℕ)) → MatchOption then (NoneFrom rules pred o.0 (o.1 + 1)) (λ found. IsNextOccurrence rules pred o.0 (o.1 + 1) found × AreHeadsFrom rules heads found.0 (found.1 + 1)) → Follows rules pred o then × AreAfter rules heads then
+follows_there rules pred heads o None none = (none, tt)
+follows_there rules pred heads o (Some x) found = (found.0, found.1)
+
+pub met_as : (s : Space) (place : List ℕ) (ts : List Trial) (count count-now : ℕ) (met met-now next next-now : Option (ℕ × ℕ)) → count-now ≡ count → met-now ≡ met → next-now ≡ next → HasMetAlone s place ts count met next → HasMetAlone s place ts count-now met-now next-now
+met_as s place ts count count-now met met-now next next-now e f g h =
+    subst (λ n. HasMetAlone s place ts n met-now next-now) (sym e) (subst (λ o. HasMetAlone s place ts count o next-now) (sym f) (subst (λ o. HasMetAlone s place ts count met o) (sym g) h))
+
+-- ---- where none comes next
+
+all_passed : (s : Space) (place : List ℕ) (ts : List Trial) → AllByRecursion (λ t. IsNextTrial s place t → ⊥) ts → Reports s place (map misfit ts) 0 place
+all_passed s place [] a = done place
+all_passed s place (t ∷ ts) a = passes place place (misfit t) (map misfit ts) 0 a.0 (all_passed s place ts a.1)
+
+heads_all : (P : Trial → Type 0) (t : Trial) (hs : List Head) → ((h : Head) → P (at_head t h)) → AllByRecursion P (map (at_head t) hs)
+heads_all P t [] f = tt
+heads_all P t (h ∷ hs) f = (f h, heads_all P t hs f)
+
+column_all : (P : Trial → Type 0) (c : Column) → P c.first → ((h : Head) → P (at_head c.first h)) → AllByRecursion P (column_trials c)
+column_all P c p f = (p, heads_all P c.first c.more f)
+
+-- a trial of one label that comes next has the active one, with its atom
+next_alone_in : (s : Space) (place : List ℕ) (t : Trial) (p : Placed) → t.placed ≡ p ∷ [] → IsNextTrial s place t → (p.label ≡ s.active) × (atom_at s.store s.active ≡ Some p.atom)
+next_alone_in s place t p e n =
+    let i = subst (IsTrial s) (position_alone t p p.label e refl) (next_trial s place (position t) n.0) in
+    let first : p.label ≡ s.active = i.grows.1.1.0.3.turn in
+    (first, subst (λ l. atom_at s.store l ≡ Some p.atom) first (subst (AllByRecursion (λ (x : Placed). atom_at s.store x.label ≡ Some x.atom)) e n.1.live).0)
+
+pub none_alone_in : (s : Space) (place : List ℕ) (c : Column) (p : Placed) → c.first.placed ≡ p ∷ [] → (IsAloneIn s.store s.active c.first → ⊥) → Reports s place (map misfit (column_trials c)) 0 place
+none_alone_in s place c p e not =
+    all_passed s place (column_trials c) (column_all (λ t. IsNextTrial s place t → ⊥) c (λ n. out (next_alone_in s place c.first p e n))
+    (λ h n. out (next_alone_in s place (at_head c.first h) (record { head = h.head; label = p.label; atom = p.atom }) (ap (map (λ (x : Placed). record x { head = h.head })) e) n)))
+  where
+    out : (p.label ≡ s.active) × (atom_at s.store s.active ≡ Some p.atom) → ⊥
+    out k = not (record { placed = p; placed_is = e; label = k.0; live = k.1 })
+
+pub none_next_alone : (s : Space) (place : List ℕ) (c : Column) → IsAloneIn s.store s.active c.first → ((r h : ℕ) → IsNext s place (r ∷ h ∷ s.active ∷ []) → ⊥) → Reports s place (map misfit (column_trials c)) 0 place
+none_next_alone s place c a none =
+    all_passed s place (column_trials c) (column_all (λ t. IsNextTrial s place t → ⊥) c (λ n. out c.first a n) (λ h n. out (at_head c.first h) (head_alone s.store s.active c.first h a) n))
+  where
+    out : (t : Trial) → IsAloneIn s.store s.active t → IsNextTrial s place t → ⊥
+    out t k n = none t.number t.head (subst (IsNext s place) (at_alone s t k) n.0)

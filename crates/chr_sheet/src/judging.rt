@@ -85,64 +85,60 @@ impl<A: Allocator + Copy> Judgements<A> {
     }
 }
 
-/// How many trials of a row are misfits, before the first that isn't, and what is kept of that one's binding, where there is
-/// memory for that.
-#[inline(always)]
-fn count_in_row<A: Allocator + Copy, W: Watch>(
-    alloc: A,
-    row: &Row<A>,
-    watch: &W,
-) -> (usize, Option<Settled<A>>)
-    ensures misfits { AreMisfitsUpTo (trials_of row.now) result.0 }
-    ensures settled { IfSome result.1 (IsSettledAt (trials_of row.now) result.0) }
-{
-    let mut binding = Binding::free(0);
-    let Some(fitted) = Fitted::of(row.part(), &mut binding) else {
-        for _ in row.lasts() {
+impl<A: Allocator + Copy> Row<A> {
+    /// How many of its trials are misfits, before the first that isn't, and what is kept of that one's binding, where there is
+    /// memory for that.
+    #[inline(always)]
+    fn count_misfits<W: Watch>(&self, alloc: A, watch: &W) -> (usize, Option<Settled<A>>)
+        ensures misfits { AreMisfitsUpTo (trials_of self.now) result.0 }
+        ensures settled { IfSome result.1 (IsSettledAt (trials_of self.now) result.0) }
+    {
+        let mut binding = Binding::free(0);
+        let Some(fitted) = Fitted::of(self.part(), &mut binding) else {
+            for _ in self.lasts() {
+                watch.before_judging();
+            }
+            return (self.lasts().len(), None);
+        };
+        for (i, last) in self.lasts().iter().enumerate() {
             watch.before_judging();
+            if !fitted.is_misfit(&mut binding, last) {
+                return (i, binding.settled(alloc).ok());
+            }
         }
-        return (row.lasts().len(), None);
-    };
-    for (i, last) in row.lasts().iter().enumerate() {
-        watch.before_judging();
-        if !fitted.is_misfit(&mut binding, last) {
-            return (i, binding.settled(alloc).ok());
-        }
+        (self.lasts().len(), None)
     }
-    (row.lasts().len(), None)
 }
 
-/// How many trials of a column are misfits, before the first that isn't, and what is kept of that one's binding, where there is
-/// memory for that.
-#[inline(always)]
-fn count_in_column<A: Allocator + Copy, W: Watch>(
-    alloc: A,
-    column: &Column<A>,
-    watch: &W,
-) -> (usize, Option<Settled<A>>)
-    ensures misfits { AreMisfitsUpTo (column_trials column.now) result.0 }
-    ensures settled { IfSome result.1 (IsSettledAt (column_trials column.now) result.0) }
-{
-    let first = column.first();
-    let one = &first.placed()[0];
-    let mut binding = Binding::free(0);
-    watch.before_judging();
-    if !is_misfit_alone(&mut binding, first.rule(), one.head, &one.atom) {
-        return (0, binding.settled(alloc).ok());
-    }
-    let (program, more) = column.more();
-    for (i, other) in more.iter().enumerate() {
+impl<A: Allocator + Copy> Column<A> {
+    /// How many of its trials are misfits, before the first that isn't, and what is kept of that one's binding, where there is
+    /// memory for that.
+    #[inline(always)]
+    fn count_misfits<W: Watch>(&self, alloc: A, watch: &W) -> (usize, Option<Settled<A>>)
+        ensures misfits { AreMisfitsUpTo (column_trials self.now) result.0 }
+        ensures settled { IfSome result.1 (IsSettledAt (column_trials self.now) result.0) }
+    {
+        let first = self.first();
+        let one = &first.placed()[0];
+        let mut binding = Binding::free(0);
         watch.before_judging();
-        if !is_misfit_alone(
-            &mut binding,
-            rule_of(program, *other),
-            other.head,
-            &one.atom,
-        ) {
-            return (i + 1, binding.settled(alloc).ok());
+        if !is_misfit_alone(&mut binding, first.rule(), one.head, &one.atom) {
+            return (0, binding.settled(alloc).ok());
         }
+        let (program, more) = self.more();
+        for (i, other) in more.iter().enumerate() {
+            watch.before_judging();
+            if !is_misfit_alone(
+                &mut binding,
+                rule_of(program, *other),
+                other.head,
+                &one.atom,
+            ) {
+                return (i + 1, binding.settled(alloc).ok());
+            }
+        }
+        (more.len() + 1, None)
     }
-    (more.len() + 1, None)
 }
 
 /// How many of these trials aren't whole, before the first that is, and what is kept of that one's binding, where there is
@@ -163,15 +159,15 @@ fn count_others<A: Allocator + Copy, W: Watch>(
             watch.before_judging();
             (0, None)
         }
-        Trials::Row(row) => count_in_row(alloc, row, watch),
+        Trials::Row(row) => row.count_misfits(alloc, watch),
         Trials::Branch(row) => {
             // For the proof: the part is one, and a list can be counted.
             let _count = row.lasts().len();
             watch.before_judging();
-            let (count, settled) = count_in_row(alloc, row, watch);
+            let (count, settled) = row.count_misfits(alloc, watch);
             (count + 1, settled)
         }
-        Trials::Column(column) => count_in_column(alloc, column, watch),
+        Trials::Column(column) => column.count_misfits(alloc, watch),
     }
 }
 

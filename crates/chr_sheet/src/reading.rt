@@ -213,13 +213,14 @@ fn in_branch<'s, A: Allocator + Copy>(
     let placed = part.placed();
     // Each trial at a head begins with the active label, and so with a part that has no other.
     let is_alone = placed.len() == 1;
-    let found = first_end(&part, placed, 0, active, setting, binding);
-    let Some((mut front, first)) = found else {
+    let mut found = first_end(&part, placed, 0, active, setting, binding);
+    let Some(found) = &mut found else {
         return Ok((Trials::One(part), is_alone));
     };
+    let first = found.1;
     let most = most - 1;
-    let mut lasts = front.no_ends(alloc, most)?;
-    push_ends(alloc, &mut front, &mut lasts, first, most)?;
+    let mut lasts = found.0.no_ends(alloc, most)?;
+    push_ends(alloc, &mut found.0, &mut lasts, first, most)?;
     let ends_head = is_alone && lasts.len() < most;
     Ok((Trials::Branch(Row::new(part, lasts)), ends_head))
 }
@@ -260,17 +261,18 @@ fn in_turn<'s, A: Allocator + Copy>(
     // For the proof: the rules are valid, and the labels of a store are at most the greatest.
     let _rules = setting.program.rules();
     let _given = setting.store.next_label();
-    let beside = second_beside(&first, active, setting, binding);
+    let mut beside = second_beside(&first, active, setting, binding);
     // Where the rule has two heads, its full trials at one of them differ in their last label alone.
-    let Some((mut front, second)) = beside else {
+    let Some(beside) = &mut beside else {
         return Ok((Trials::One(first), heads == 2));
     };
+    let second = beside.1;
     let (part, last) = first.split_last();
     // For the proof: what holds of every trial.
     let _placed = part.placed();
-    let mut lasts = front.no_ends(alloc, most)?;
+    let mut lasts = beside.0.no_ends(alloc, most)?;
     lasts.push(last)?;
-    push_ends(alloc, &mut front, &mut lasts, second, most)?;
+    push_ends(alloc, &mut beside.0, &mut lasts, second, most)?;
     let ends_head = heads == 2 && lasts.len() < most;
     Ok((Trials::Row(Row::new(part, lasts)), ends_head))
 }

@@ -25,54 +25,49 @@ pub enum Trials<A: Allocator> {
     Column(Column<A>),
 }
 
-/// What is kept of a row before one of its trials, where there are any, and that one. An `Err` is E01.
-fn split_row<A: Allocator + Copy>(
-    alloc: A,
-    row: Row<A>,
-    index: usize,
-) -> Result<(Option<Trials<A>>, Trial<A>), AllocError>
-    requires { index < length row.lasts }
-    ensures { IfOk result (λ made. IsKeptBefore (some.Row row) index made.0 made.1) }
-{
-    let (part, before, trial) = row.cut(alloc, index)?;
-    if before.is_empty() {
-        return Ok((None, trial));
+/// What is kept before a trial, where there are any before it, and that trial.
+type Split<A> = (Option<Trials<A>>, Trial<A>);
+
+impl<A: Allocator + Copy> Row<A> {
+    /// What is kept of a row before one of its trials, where there are any, and that one. An `Err` is E01.
+    fn split_row(self, alloc: A, index: usize) -> Result<Split<A>, AllocError>
+        requires { index < length self.lasts }
+        ensures { IfOk result (λ made. IsKeptBefore (some.Row self) index made.0 made.1) }
+    {
+        let (part, before, trial) = self.cut(alloc, index)?;
+        if before.is_empty() {
+            return Ok((None, trial));
+        }
+        Ok((Some(Trials::Row(Row::new(part, before))), trial))
     }
-    Ok((Some(Trials::Row(Row::new(part, before))), trial))
+
+    /// What is kept of a branch before one of its trials, where there are any, and that one. An `Err` is E01.
+    fn split_branch(self, alloc: A, index: usize) -> Result<Split<A>, AllocError>
+        requires { index < length (branch_trials self) }
+        ensures { IfOk result (λ made. IsKeptBefore (some.Branch self) index made.0 made.1) }
+    {
+        if index == 0 {
+            return Ok((None, self.into_part()));
+        }
+        let (part, before, trial) = self.cut(alloc, index - 1)?;
+        if before.is_empty() {
+            return Ok((Some(Trials::One(part)), trial));
+        }
+        Ok((Some(Trials::Branch(Row::new(part, before))), trial))
+    }
 }
 
-/// What is kept of a branch before one of its trials, where there are any, and that one. An `Err` is E01.
-fn split_branch<A: Allocator + Copy>(
-    alloc: A,
-    row: Row<A>,
-    index: usize,
-) -> Result<(Option<Trials<A>>, Trial<A>), AllocError>
-    requires { index < length (branch_trials row) }
-    ensures { IfOk result (λ made. IsKeptBefore (some.Branch row) index made.0 made.1) }
-{
-    if index == 0 {
-        return Ok((None, row.into_part()));
-    }
-    let (part, before, trial) = row.cut(alloc, index - 1)?;
-    if before.is_empty() {
-        return Ok((Some(Trials::One(part)), trial));
-    }
-    Ok((Some(Trials::Branch(Row::new(part, before))), trial))
-}
-
-/// What is kept of a column before one of its trials, where there are any, and that one. An `Err` is E01.
-fn split_column<A: Allocator + Copy>(
-    alloc: A,
-    column: Column<A>,
-    index: usize,
-) -> Result<(Option<Trials<A>>, Trial<A>), AllocError>
-    requires { index < length (column_trials column) }
-    ensures { IfOk result (λ made. IsKeptBefore (some.Column column) index made.0 made.1) }
-{
-    let (before, trial) = column.split_at(alloc, index)?;
-    match before {
-        None => Ok((None, trial)),
-        Some(before) => Ok((Some(Trials::Column(before)), trial)),
+impl<A: Allocator + Copy> Column<A> {
+    /// What is kept of a column before one of its trials, where there are any, and that one. An `Err` is E01.
+    fn split_column(self, alloc: A, index: usize) -> Result<Split<A>, AllocError>
+        requires { index < length (column_trials self) }
+        ensures { IfOk result (λ made. IsKeptBefore (some.Column self) index made.0 made.1) }
+    {
+        let (before, trial) = self.split_at(alloc, index)?;
+        match before {
+            None => Ok((None, trial)),
+            Some(before) => Ok((Some(Trials::Column(before)), trial)),
+        }
     }
 }
 
@@ -126,19 +121,15 @@ impl<A: Allocator + Copy> Trials<A> {
     }
 
     /// What is kept of them before one of them, where there are any, and that one. An `Err` is E01.
-    pub(crate) fn split_at(
-        self,
-        alloc: A,
-        index: usize,
-    ) -> Result<(Option<Trials<A>>, Trial<A>), AllocError>
+    pub(crate) fn split_at(self, alloc: A, index: usize) -> Result<Split<A>, AllocError>
         requires { index < length (trials_at self) }
         ensures { IfOk result (λ made. IsKeptBefore self index made.0 made.1) }
     {
         match self {
             Trials::One(trial) => Ok((None, trial)),
-            Trials::Row(row) => split_row(alloc, row, index),
-            Trials::Branch(row) => split_branch(alloc, row, index),
-            Trials::Column(column) => split_column(alloc, column, index),
+            Trials::Row(row) => row.split_row(alloc, index),
+            Trials::Branch(row) => row.split_branch(alloc, index),
+            Trials::Column(column) => column.split_column(alloc, index),
         }
     }
 }

@@ -4,8 +4,7 @@ use Rattle.chr_search.specs.Verdicts.{Trial}
 use Rattle.chr_sheet.specs.Kept.{trials_at, trials_in}
 use Rattle.chr_sheet.specs.Others.{others_in}
 use Rattle.chr_sheet.specs.Sheets.{AreJudgedUpTo}
-use Rattle.chr_sheet.proofs.Keeping.{trials_more, trials_cut, taken_front}
-use Rattle.chr_sheet.proofs.InOrder.{both_up_to, whole_up_to}
+use Rattle.chr_sheet.proofs.Keeping.{trials_more, trials_cut, taken_front, both_up_to, whole_up_to}
 use Rattle.chr_sheet.proofs.judging.judge_all.Goals as goal
 
 pub loop-trials-preserved : goal.loop-trials-preserved

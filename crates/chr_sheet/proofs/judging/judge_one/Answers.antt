@@ -4,8 +4,7 @@ use Rattle.chr_search.specs.Judged.{Judgement, IsVerdict}
 use Rattle.chr_sheet.specs.Others.{others_in}
 use Rattle.chr_sheet.specs.Sheets.{AreJudgedUpTo}
 use Rattle.chr_sheet.specs.declared.others.Others.TheVariants.{One}
-use Rattle.chr_sheet.proofs.Keeping.{others_pushed}
-use Rattle.chr_sheet.proofs.InOrder.{one_whole, one_other}
+use Rattle.chr_sheet.proofs.Keeping.{others_pushed, one_whole, one_other}
 use Rattle.chr_sheet.proofs.judging.judge_one.Goals as goal
 
 pub returns-in-Some-clause-judged : goal.returns-in-Some-clause-judged

@@ -5,8 +5,7 @@ use Rattle.chr_search.specs.Judged.{IsSettledUnder}
 use Rattle.chr_sheet.specs.Kept.{trials_at, judged_at}
 use Rattle.chr_sheet.specs.Others.{others_in}
 use Rattle.chr_sheet.specs.Rows.{AreRight, MustBeWhole, kept_before}
-use Rattle.chr_sheet.proofs.InOrder.{kept_up_to, one_after}
-use Rattle.chr_sheet.proofs.Keeping.{judged_count}
+use Rattle.chr_sheet.proofs.Keeping.{kept_up_to, one_after, judged_count}
 use Rattle.chr_sheet.proofs.judging.judge_some.Goals as goal
 
 pub push_several-requires : goal.push_several-requires

@@ -10,9 +10,7 @@ use Rattle.chr_sheet.specs.Kept.{trials_at}
 use Rattle.chr_sheet.specs.Beside.{EndHead, last_of}
 use Rattle.chr_sheet.specs.Columns.{Column, at_head, column_trials}
 use Rattle.chr_sheet.specs.Rows.{Row, trials_of}
-use Rattle.chr_sheet.proofs.NextBeside.{come_behind, last_behind}
-use Rattle.chr_sheet.proofs.NextAlone.{last_low}
-use Rattle.chr_sheet.proofs.LastAtHead.{come_past_head, column_ends}
+use Rattle.chr_sheet.proofs.NextBeside.{come_behind, last_behind, last_low, come_past_head, column_ends}
 use Rattle.chr_sheet.proofs.reading.go_behind.Goals as goal
 
 pub returns-in-Row-clause-place : goal.returns-in-Row-clause-place

@@ -8,7 +8,7 @@ use Rattle.chr_search.specs.Verdicts.{Trial, position}
 use Rattle.chr_search.proofs.Making.{map_twice}
 use Rattle.chr_sheet.specs.Beside.{last_of}
 use Rattle.chr_sheet.specs.Rows.{Row}
-use Rattle.chr_sheet.proofs.InRows.{formed_there, label_low, part_few}
+use Rattle.chr_sheet.proofs.Rows.{formed_there, label_low, part_few}
 use Rattle.chr_sheet.proofs.NextBeside.{last_read}
 use Rattle.chr_sheet.proofs.OneNext.{longer_position}
 use Rattle.chr_sheet.proofs.reading.go_past_row.Goals as goal

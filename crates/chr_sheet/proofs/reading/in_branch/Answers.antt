@@ -11,9 +11,8 @@ use Rattle.chr_search.specs.Verdicts.{labels, position}
 use Rattle.chr_search.proofs.Judging.{few_heads}
 use Rattle.chr_sheet.specs.Beside.{AreEnds, ComeNext, EndHead, HasEnd, next_from}
 use Rattle.chr_sheet.specs.Rows.{Row, branch_trials, trials_of}
-use Rattle.chr_sheet.proofs.InRows.{trials_count}
-use Rattle.chr_sheet.proofs.NextBeside.{LacksOne, IsMadeBranch, branch_made, begins_others, end_as, labels_read, small_end}
-use Rattle.chr_sheet.proofs.LastAtHead.{branch_ends, part_ends}
+use Rattle.chr_sheet.proofs.Rows.{trials_count}
+use Rattle.chr_sheet.proofs.NextBeside.{LacksOne, IsMadeBranch, branch_made, begins_others, end_as, labels_read, small_end, branch_ends, part_ends}
 use Rattle.chr_sheet.proofs.reading.in_branch.Goals as goal
 use Rattle.chr_sheet.proofs.reading.in_branch.Goals.{After-placed-placed, In-Some, In_ok-push_ends, then-is_alone, else-is_alone}
 
@@ -32,10 +31,10 @@ first_end-found-requires g c =
 lacks : (g : _) (c : In-Some g) → LacksOne (space_in c.args.setting.now c.args.active) c.args.part
 lacks g c = record { plans = c.requires.plans; scoped = c.rules-rules.ensures.valid; trial_of = c.requires.first.1; some = c.placed-placed.ensures.formed.some; full = c.requires.left }
 
-end : (g : _) (c : In-Some g) → let t = c.args.part in HasEnd (space_in c.args.setting.now c.args.active) t.number t.head (labels t) 0 c.in-Some.front c.in-Some.first
+end : (g : _) (c : In-Some g) → let t = c.args.part in HasEnd (space_in c.args.setting.now c.args.active) t.number t.head (labels t) 0 c.in-Some.found.0 c.in-Some.found.1
 end g c =
     let t = c.args.part in
-    end_as (space_in c.args.setting.now c.args.active) t.number t.head _ (labels t) 0 c.in-Some.front c.in-Some.first (labels_read placed_as c.placed-placed.result.now t c.placed-placed.ensures.placed) c.in-Some.ensures
+    end_as (space_in c.args.setting.now c.args.active) t.number t.head _ (labels t) 0 _ _ (labels_read placed_as c.placed-placed.result.now t c.placed-placed.ensures.placed) c.in-Some.is c.first_end-found.ensures
 
 pub push_ends-requires : goal.push_ends-requires
 push_ends-requires g c =
@@ -49,7 +48,7 @@ push_ends-requires g c =
       few = omega arith;
     }
 
-made : (g : _) (c : In_ok-push_ends g) → let s = space_in c.args.setting.now c.args.active in let t = c.args.part in LacksOne s t → HasEnd s t.number t.head (labels t) 0 c.in-Some.front c.in-Some.first → let lasts = map placed_as c.push_ends.new.lasts.items in IsMadeBranch s t lasts × (length c.push_ends.new.lasts.items < c.args.most - 1 → NoneFrom (MayEnd s (position t)) (next_from 0 lasts))
+made : (g : _) (c : In_ok-push_ends g) → let s = space_in c.args.setting.now c.args.active in let t = c.args.part in LacksOne s t → HasEnd s t.number t.head (labels t) 0 c.in-Some.found.0 c.in-Some.found.1 → let lasts = map placed_as c.push_ends.new.lasts.items in IsMadeBranch s t lasts × (length c.push_ends.new.lasts.items < c.args.most - 1 → NoneFrom (MayEnd s (position t)) (next_from 0 lasts))
 made g c k e =
     let s : Space = space_in c.args.setting.now c.args.active in
     let t = c.args.part in
@@ -58,7 +57,7 @@ made g c k e =
     let more : lasts ≡ ends.0 = ends.1 ∙ ap (λ xs. map placed_as xs ++ ends.0) c.in_ok-lasts.ensures in
     let count : length lasts ≡ length c.push_ends.new.lasts.items = length-map c.push_ends.new.lasts.items placed_as in
     let some : length c.in_ok-lasts.lasts.items < length c.push_ends.new.lasts.items = c.in_ok-push_ends.ensures.some in
-    (branch_made s c.args.setting.now.store.now refl c.next_label-given.ensures.labelled t k (begins_others s t c.in-Some.front e.front c.requires.first.1 c.placed-placed.ensures.formed c.requires.left) lasts (omega arith) (subst (AreEnds s t.number t.head (labels t) 0) (sym more) ends.2), λ fewer. subst (λ ps. NoneFrom (MayEnd s (position t)) (next_from 0 ps)) (sym more) (ends.3 fewer))
+    (branch_made s c.args.setting.now.store.now refl c.next_label-given.ensures.labelled t k (begins_others s t c.in-Some.found.0 e.front c.requires.first.1 c.placed-placed.ensures.formed c.requires.left) lasts (omega arith) (subst (AreEnds s t.number t.head (labels t) 0) (sym more) ends.2), λ fewer. subst (λ ps. NoneFrom (MayEnd s (position t)) (next_from 0 ps)) (sym more) (ends.3 fewer))
 
 pub new-requires : goal.new-requires
 new-requires g c = let at = goal.at.new-requires g c in (made g at.In_ok-push_ends (lacks g at.In-Some) (end g at.In-Some)).0.row
@@ -68,7 +67,7 @@ returns-in_default-clause-last g c = λ told.
     let s : Space = space_in c.args.setting.now c.args.active in
     let t = c.args.part in
     part_ends s t c.requires.first.0 (sym (count g (goal.at.returns-in_default-clause-last g c).After-placed-placed) ∙ true-eqb _ 1 (sym told))
-    (subst (λ ls. NoneFrom (MayEnd s (t.number ∷ t.head ∷ ls)) 0) (labels_read placed_as c.placed-placed.result.now t c.placed-placed.ensures.placed) c.in_default.ensures)
+    (end_as s t.number t.head _ (labels t) 0 _ _ (labels_read placed_as c.placed-placed.result.now t c.placed-placed.ensures.placed) c.in_default.is c.first_end-found.ensures)
 
 pub returns-clause-last : goal.returns-clause-last
 returns-clause-last g c = λ told.

@@ -6,10 +6,8 @@ use Rattle.chr_search.specs.Trials.{Space}
 use Rattle.chr_sheet.specs.Settings.{space_in}
 use Rattle.chr_sheet.specs.Beside.{ComeNext, EndHead}
 use Rattle.chr_sheet.specs.Columns.{AreNextHeads, Column, IsColumn, at_head, column_trials, head_in}
-use Rattle.chr_sheet.proofs.Columns.{column_of}
-use Rattle.chr_sheet.proofs.LastAtHead.{alone_ends, column_ends}
-use Rattle.chr_sheet.proofs.NextAlone.{IsAlone, is_alone, first_low, column_next, column_made}
-use Rattle.chr_sheet.proofs.NextBeside.{last_trial}
+use Rattle.chr_sheet.proofs.Rows.{column_of}
+use Rattle.chr_sheet.proofs.NextBeside.{alone_ends, column_ends, IsAlone, is_alone, first_low, column_next, column_made, last_trial}
 use Rattle.chr_sheet.proofs.reading.in_column.Goals as goal
 use Rattle.chr_sheet.proofs.reading.in_column.Goals.{After-pred-pred, In_ok-more, In_ok-program}
 

@@ -9,9 +9,8 @@ use Rattle.chr_search.specs.Fronts.{lengthened, MayEnd}
 use Rattle.chr_search.specs.Tree.{NoneFrom}
 use Rattle.chr_sheet.specs.Rows.{Row, trials_of}
 use Rattle.chr_sheet.specs.Beside.{ComeNext, EndHead, next_from}
-use Rattle.chr_sheet.proofs.InRows.{trials_count}
-use Rattle.chr_sheet.proofs.NextBeside.{IsBegun, begun, begins_others, small_end, IsMadeRow, row_made}
-use Rattle.chr_sheet.proofs.LastAtHead.{pair_ends, row_ends}
+use Rattle.chr_sheet.proofs.Rows.{trials_count}
+use Rattle.chr_sheet.proofs.NextBeside.{BesideOrNone, IsBegun, begun, begins_others, small_end, IsMadeRow, row_made, pair_ends, row_ends}
 use Rattle.chr_sheet.proofs.reading.in_turn.Goals as goal
 use Rattle.chr_sheet.proofs.reading.in_turn.Goals.{After-heads-heads, In_ok-push, In_ok-push_ends, then-heads-eq2, else-heads-eq2}
 
@@ -19,9 +18,10 @@ use Rattle.chr_sheet.proofs.reading.in_turn.Goals.{After-heads-heads, In_ok-push
 heads : (g : _) (c : After-heads-heads g) → length (heads_of c.args.first.rule) ≡ c.heads-heads.result
 heads g c = length-append c.args.first.rule.kept c.args.first.rule.removed ∙ ap (λ r. length r.kept + length r.removed) (sym c.rule.ensures.rule) ∙ sym c.heads-heads.ensures.count
 
-parted : (g : _) (c : In_ok-push g) → IsBegun (space_in c.args.setting.now c.args.active) c.split_last-part.result.0 (placed_as c.split_last-part.result.1) c.in-Some.front c.in-Some.second
+parted : (g : _) (c : In_ok-push g) → IsBegun (space_in c.args.setting.now c.args.active) c.split_last-part.result.0 (placed_as c.split_last-part.result.1) c.in-Some.beside.0 c.in-Some.beside.1
 parted g c =
-    begun (space_in c.args.setting.now c.args.active) c.requires.plans c.rules-rules.ensures.valid c.split_last-part.result.0 (placed_as c.split_last-part.result.1) c.args.first c.in-Some.front c.in-Some.second c.split_last-part.ensures c.requires.first c.in-Some.ensures
+    begun (space_in c.args.setting.now c.args.active) c.requires.plans c.rules-rules.ensures.valid c.split_last-part.result.0 (placed_as c.split_last-part.result.1) c.args.first c.in-Some.beside.0 c.in-Some.beside.1 c.split_last-part.ensures c.requires.first
+    (subst (BesideOrNone (space_in c.args.setting.now c.args.active) c.args.first) c.in-Some.is c.second_beside-beside.ensures)
 
 -- the label that the pushed ones come after
 one : (g : _) (c : In_ok-push g) → c.push.new.self.items ≡ c.split_last-part.result.1 ∷ []
@@ -40,14 +40,14 @@ push_ends-requires g c =
     }
 
 -- those pushed after it, and the row of all
-pushed : (g : _) (c : In_ok-push_ends g) → IsBegun (space_in c.args.setting.now c.args.active) c.split_last-part.result.0 (placed_as c.split_last-part.result.1) c.in-Some.front c.in-Some.second → c.push.new.self.items ≡ c.split_last-part.result.1 ∷ [] → (more : List Placed) × IsMadeRow (space_in c.args.setting.now c.args.active) c.split_last-part.result.0 (placed_as c.split_last-part.result.1) more (map placed_as c.push_ends.new.lasts.items) × (length c.push_ends.new.lasts.items < c.args.most → NoneFrom (MayEnd (space_in c.args.setting.now c.args.active) (position c.split_last-part.result.0)) (next_from (c.split_last-part.result.1.label + 1) more))
+pushed : (g : _) (c : In_ok-push_ends g) → IsBegun (space_in c.args.setting.now c.args.active) c.split_last-part.result.0 (placed_as c.split_last-part.result.1) c.in-Some.beside.0 c.in-Some.beside.1 → c.push.new.self.items ≡ c.split_last-part.result.1 ∷ [] → (more : List Placed) × IsMadeRow (space_in c.args.setting.now c.args.active) c.split_last-part.result.0 (placed_as c.split_last-part.result.1) more (map placed_as c.push_ends.new.lasts.items) × (length c.push_ends.new.lasts.items < c.args.most → NoneFrom (MayEnd (space_in c.args.setting.now c.args.active) (position c.split_last-part.result.0)) (next_from (c.split_last-part.result.1.label + 1) more))
 pushed g c b one =
     let s = space_in c.args.setting.now c.args.active in
     let part = c.split_last-part.result.0 in
     let last = c.split_last-part.result.1 in
     let ends = c.in_ok-push_ends.ensures.ends s part.number part.head (labels part) (last.label + 1) b.end.front b.end.least in
     let all : map placed_as c.push_ends.new.lasts.items ≡ placed_as last ∷ ends.0 = ends.1 ∙ ap (λ xs. map placed_as xs ++ ends.0) one in
-    (ends.0, row_made s c.args.setting.now.store.now refl c.next_label-given.ensures.labelled part b.lacks (begins_others s part c.in-Some.front b.end.front b.lacks.trial_of c.placed-placed.ensures.formed b.lacks.full) (placed_as last) ends.0 (map placed_as c.push_ends.new.lasts.items) b.here b.trial_of all ends.2, ends.3)
+    (ends.0, row_made s c.args.setting.now.store.now refl c.next_label-given.ensures.labelled part b.lacks (begins_others s part c.in-Some.beside.0 b.end.front b.lacks.trial_of c.placed-placed.ensures.formed b.lacks.full) (placed_as last) ends.0 (map placed_as c.push_ends.new.lasts.items) b.here b.trial_of all ends.2, ends.3)
 
 pub new-requires : goal.new-requires
 new-requires g c = let at = goal.at.new-requires g c in (pushed g at.In_ok-push_ends (parted g at.In_ok-push) (one g at.In_ok-push)).1.row
@@ -61,7 +61,7 @@ returns-in_default-clause-last g c = λ told.
     let some : 1 ≤ length t.placed = c.placed.ensures.formed.some in
     let few : length t.placed ≤ length (heads_of t.rule) = c.placed.ensures.formed.few in
     let all : length t.placed ≡ 2 = (let more : length c.placed.result.now + 1 ≡ c.heads-heads.result → ⊥ = c.if-placed-heads.false in omega arith) in
-    pair_ends (space_in c.args.setting.now c.args.active) c.requires.plans c.rules-rules.ensures.valid t c.requires.first.0 c.requires.first.1 all (heads ∙ two) c.in_default.ensures
+    pair_ends (space_in c.args.setting.now c.args.active) c.requires.plans c.rules-rules.ensures.valid t c.requires.first.0 c.requires.first.1 all (heads ∙ two) (subst (BesideOrNone (space_in c.args.setting.now c.args.active) t) c.in_default.is c.second_beside-beside.ensures)
 
 pub returns-clause-last : goal.returns-clause-last
 returns-clause-last g c = λ told.

@@ -4,8 +4,7 @@ use Rattle.chr_value.specs.declared.atom.Pred.{Pred}
 use Rattle.chr_rule.specs.Rules.{Simpagation, rule_at}
 use Rattle.chr_rule.specs.Occurrences.{IsNextOccurrence, AreHeadsFrom}
 use Rattle.chr_sheet.specs.Columns.{head_in, rule_or_none}
-use Rattle.chr_sheet.proofs.NextAlone.{last_head, heads_push, last_pushed}
-use Rattle.chr_sheet.proofs.Pushing.{one_more}
+use Rattle.chr_sheet.proofs.NextBeside.{last_head, heads_push, last_pushed, one_more}
 use Rattle.chr_sheet.proofs.reading.next_heads.Goals as goal
 
 pub heads-preserved : goal.heads-preserved

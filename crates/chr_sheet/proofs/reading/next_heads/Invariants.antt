@@ -1,7 +1,7 @@
 use Rattle.std.proofs.Common.{◌≡◌, ◌+◌, ◌≤◌, ◌-◌, length, map}
 use Rattle.chr_rule.specs.Occurrences.{AreHeadsFrom}
 use Rattle.chr_sheet.specs.Columns.{head_in, AreNextHeads}
-use Rattle.chr_sheet.proofs.NextAlone.{last_head}
+use Rattle.chr_sheet.proofs.NextBeside.{last_head}
 use Rattle.chr_sheet.proofs.reading.next_heads.Given as goal
 
 abbrev pub invariant-heads : goal.invariant-heads

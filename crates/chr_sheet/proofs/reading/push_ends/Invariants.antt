@@ -3,7 +3,7 @@ use Rattle.chr_search.specs.Fronts.{MayEnd, IsFront}
 use Rattle.chr_search.specs.Placed.{placed_as}
 use Rattle.chr_search.specs.Tree.{LeastFrom}
 use Rattle.chr_search.specs.Trials.{Space}
-use Rattle.chr_sheet.proofs.Pushing.{ArePushed}
+use Rattle.chr_sheet.proofs.NextBeside.{ArePushed}
 use Rattle.chr_sheet.proofs.reading.push_ends.Given as goal
 
 abbrev pub invariant-ends : goal.invariant-ends

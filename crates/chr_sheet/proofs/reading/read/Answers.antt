@@ -5,7 +5,7 @@ use Rattle.chr_search.specs.Answers.{IsAnswer}
 use Rattle.chr_sheet.specs.Kept.{trials_at, trials_in}
 use Rattle.chr_sheet.specs.Sheets.{AreNextTogether}
 use Rattle.chr_sheet.proofs.NextBeside.{none_next, none_asked}
-use Rattle.chr_sheet.proofs.ReadOn.{read_on, read_all}
+use Rattle.chr_sheet.proofs.Keeping.{read_on, read_all}
 use Rattle.chr_sheet.proofs.reading.read.Goals as goal
 use Rattle.chr_sheet.proofs.reading.read.Goals.{else-loop-left-test, then-loop-left-test+in_ok-first+in_default}
 

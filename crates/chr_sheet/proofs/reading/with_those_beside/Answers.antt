@@ -5,8 +5,7 @@ use Rattle.chr_search.specs.Verdicts.{position}
 use Rattle.chr_search.proofs.Making.{next_trial}
 use Rattle.chr_sheet.specs.Kept.{trials_at}
 use Rattle.chr_sheet.specs.Beside.{AreInTurn}
-use Rattle.chr_sheet.proofs.NextBeside.{together}
-use Rattle.chr_sheet.proofs.NextAlone.{active_low}
+use Rattle.chr_sheet.proofs.NextBeside.{together, active_low}
 use Rattle.chr_sheet.proofs.reading.with_those_beside.Goals as goal
 
 pub in_turn-requires : goal.in_turn-requires

@@ -4,7 +4,7 @@ use Rattle.chr_search.specs.Positions.{past}
 use Rattle.chr_search.specs.Reach.{SearchState}
 use Rattle.chr_search.specs.Verdicts.{Trial, position}
 use Rattle.chr_sheet.specs.Rows.{Row}
-use Rattle.chr_sheet.proofs.InRows.{part_few}
+use Rattle.chr_sheet.proofs.Rows.{part_few}
 use Rattle.chr_sheet.proofs.KnownNext.{after_row, last_low}
 use Rattle.chr_sheet.proofs.reporting.go_past_row.Goals as goal
 

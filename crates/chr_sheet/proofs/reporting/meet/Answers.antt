@@ -6,7 +6,7 @@ use Rattle.chr_search.specs.Trials.{Space}
 use Rattle.chr_search.specs.Verdicts.{Placed, labels}
 use Rattle.chr_sheet.specs.Rows.{Row, misfit, trials_of}
 use Rattle.chr_sheet.specs.Sheets.{IsFrontOf, IsNextTrial, Reports, place_after}
-use Rattle.chr_sheet.proofs.InRows.{trials_count, trials_step, formed_there, label_low}
+use Rattle.chr_sheet.proofs.Rows.{trials_count, trials_step, formed_there, label_low}
 use Rattle.chr_sheet.proofs.Turns.{ComesWith, met_none, met_other, met_one, next_is, told_other_label, other_label, other_atom}
 use Rattle.chr_sheet.proofs.reporting.meet.Goals.{then-ne-via-then-ne, then-ne-via-else-ne+then-not-has}
 use Rattle.chr_sheet.proofs.reporting.meet.Goals as goal

@@ -3,7 +3,7 @@ use Rattle.std.specs.Bool.{⊤}
 use Rattle.chr_search.specs.Trials.{Space, IsNext}
 use Rattle.chr_sheet.specs.Alone.{IsAloneOf}
 use Rattle.chr_sheet.specs.Columns.{column_trials, head_in}
-use Rattle.chr_sheet.proofs.TurnsAlone.{AreAfter, ArePredOf, HasMetAlone}
+use Rattle.chr_sheet.proofs.Turns.{AreAfter, ArePredOf, HasMetAlone}
 use Rattle.chr_sheet.proofs.reporting.meet_alone.Given as goal
 
 -- the trials so far are reported, and it is known which one comes next

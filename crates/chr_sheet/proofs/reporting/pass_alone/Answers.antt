@@ -6,8 +6,8 @@ use Rattle.chr_sheet.specs.Alone.{IsAloneOf, place_past}
 use Rattle.chr_sheet.specs.Columns.{Column, column_trials}
 use Rattle.chr_sheet.specs.Rows.{misfit}
 use Rattle.chr_sheet.specs.Sheets.{Reports}
-use Rattle.chr_sheet.proofs.Columns.{only_placed}
-use Rattle.chr_sheet.proofs.TurnsAlone.{alone_as, none_alone_in, none_next_alone}
+use Rattle.chr_sheet.proofs.Rows.{only_placed}
+use Rattle.chr_sheet.proofs.Turns.{alone_as, none_alone_in, none_next_alone}
 use Rattle.chr_sheet.proofs.reporting.pass_alone.Goals.{In-Some}
 use Rattle.chr_sheet.proofs.reporting.pass_alone.Goals as goal
 

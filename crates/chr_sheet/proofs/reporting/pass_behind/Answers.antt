@@ -3,7 +3,7 @@ use Rattle.chr_search.specs.Fronts.{MayEnd, IsEndFrom}
 use Rattle.chr_sheet.specs.Settings.{space_in}
 use Rattle.chr_search.specs.Verdicts.{Trial, labels, position}
 use Rattle.chr_sheet.specs.Sheets.{IsFrontOf}
-use Rattle.chr_sheet.proofs.InRows.{part_few}
+use Rattle.chr_sheet.proofs.Rows.{part_few}
 use Rattle.chr_sheet.proofs.Turns.{none_reported, none_ends, next_behind}
 use Rattle.chr_sheet.proofs.reporting.pass_behind.Goals as goal
 use Rattle.chr_sheet.proofs.reporting.pass_behind.Goals.{In-Some}

@@ -5,7 +5,7 @@ use Rattle.chr_search.specs.Reach.{SearchState}
 use Rattle.chr_search.specs.Verdicts.{Trial, position}
 use Rattle.chr_sheet.specs.Rows.{Row, misfit, trials_of}
 use Rattle.chr_sheet.specs.Sheets.{Reports, place_after}
-use Rattle.chr_sheet.proofs.InRows.{part_few}
+use Rattle.chr_sheet.proofs.Rows.{part_few}
 use Rattle.chr_sheet.proofs.reporting.pass_met.Goals as goal
 
 pub go_past-requires-clause-few : goal.go_past-requires-clause-few

@@ -5,8 +5,7 @@ use Rattle.chr_search.specs.Trials.{Space, older}
 use Rattle.chr_sheet.specs.Others.{others_at, others_in}
 use Rattle.chr_sheet.specs.Rows.{listed}
 use Rattle.chr_sheet.specs.Sheets.{Reports, done}
-use Rattle.chr_sheet.proofs.InOrder.{all_both}
-use Rattle.chr_sheet.proofs.Keeping.{others_front, others_step}
+use Rattle.chr_sheet.proofs.Keeping.{all_both, others_front, others_step}
 use Rattle.chr_sheet.proofs.Turns.{reports_both, reports_few}
 use Rattle.chr_sheet.proofs.reporting.report.Goals as goal
 

@@ -8,8 +8,7 @@ use Rattle.chr_search.specs.Trials.{Space, older}
 use Rattle.chr_sheet.specs.Others.{others_at, others_in}
 use Rattle.chr_sheet.specs.Rows.{listed}
 use Rattle.chr_sheet.specs.Sheets.{after_all}
-use Rattle.chr_sheet.proofs.InOrder.{all_both}
-use Rattle.chr_sheet.proofs.Keeping.{others_step, others_counted, others_within}
+use Rattle.chr_sheet.proofs.Keeping.{all_both, others_step, others_counted, others_within}
 use Rattle.chr_sheet.proofs.KnownNext.{admissible_here, after_both, fireable, some_told, told_all}
 use Rattle.chr_sheet.proofs.reporting.report_next.Goals as goal
 

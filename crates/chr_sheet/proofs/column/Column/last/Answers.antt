@@ -2,7 +2,7 @@ use Rattle.std.proofs.Common.{ap}
 use Rattle.std.specs.Arc.{arc_value}
 use Rattle.chr_search.specs.Verdicts.{Trial}
 use Rattle.chr_sheet.specs.Columns.{head_in}
-use Rattle.chr_sheet.proofs.Columns.{last_is}
+use Rattle.chr_sheet.proofs.Rows.{last_is}
 use Rattle.chr_sheet.proofs.column.Column.last.Goals as goal
 
 pub returns-in-Some-clause-number : goal.returns-in-Some-clause-number

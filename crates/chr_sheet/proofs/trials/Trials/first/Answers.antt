@@ -3,7 +3,7 @@ use Rattle.std.proofs.lemmas.Result.{IfOk-weaker}
 use Rattle.chr_search.specs.Placed.{placed_as}
 use Rattle.chr_search.specs.Fronts.{lengthened}
 use Rattle.chr_sheet.specs.Kept.{trials_at}
-use Rattle.chr_sheet.proofs.Cutting.{first_of}
+use Rattle.chr_sheet.proofs.Rows.{first_of}
 use Rattle.chr_sheet.proofs.trials.Trials.first.Goals as goal
 
 pub returns-in_ok-copy-in-Row : goal.returns-in_ok-copy-in-Row

@@ -1,7 +1,6 @@
 use Rattle.std.proofs.Common.{sym, ap, ◌∙◌}
 use Rattle.chr_sheet.specs.Kept.{trials_at}
-use Rattle.chr_sheet.proofs.LastAtHead.{branch_head, row_head}
-use Rattle.chr_sheet.proofs.NextAlone.{last_low}
+use Rattle.chr_sheet.proofs.NextBeside.{branch_head, row_head, last_low}
 use Rattle.chr_sheet.proofs.trials.Trials.last_head.Goals as goal
 
 pub returns-in-Row-clause-is : goal.returns-in-Row-clause-is

@@ -3,11 +3,11 @@ use Rattle.std.specs.List.{AllByRecursion}
 use Rattle.chr_search.specs.declared.judged.Verdict.TheVariants as verdicts
 use Rattle.chr_search.specs.Judged.{IsVerdict}
 use Rattle.chr_sheet.specs.Columns.{column_trials, head_in}
-use Rattle.chr_sheet.proofs.judging.count_in_column.Given as goal
+use Rattle.chr_sheet.proofs.column.Column.count_misfits.Given as goal
 
 -- the trials so far are misfits
 abbrev pub invariant-loop-i : goal.invariant-loop-i
 invariant-loop-i g l = record {
-  more : map (head_in l.program) l.more ≡ l.column.more;
-  misfits : AllByRecursion (λ t. IsVerdict t verdicts.Misfit) (take (l.i + 1) (column_trials l.column));
+  more : map (head_in l.program) l.more ≡ l.self.more;
+  misfits : AllByRecursion (λ t. IsVerdict t verdicts.Misfit) (take (l.i + 1) (column_trials l.self));
 }

@@ -3,25 +3,25 @@ use Rattle.std.proofs.lemmas.List.{length-map}
 use Rattle.chr_search.specs.Fronts.{lengthened}
 use Rattle.chr_search.specs.Placed.{placed_as}
 use Rattle.chr_sheet.specs.Rows.{Row, branch_trials, judged_part, misfit, trials_of}
-use Rattle.chr_sheet.proofs.Cutting.{judged_branch, branch_there, none_before, told_none, told_some}
-use Rattle.chr_sheet.proofs.trials.split_branch.Goals as goal
+use Rattle.chr_sheet.proofs.Rows.{judged_branch, branch_there, none_before, told_none, told_some}
+use Rattle.chr_sheet.proofs.row.Row.split_branch.Goals as goal
 
 pub returns-then-index-eq0 : goal.returns-then-index-eq0
 returns-then-index-eq0 g c =
-    let r : Row = c.args.row in (
+    let r : Row = c.args.self in (
       ap (λ n. take n (judged_part r.part ∷ map misfit (trials_of r))) (sym c.if-index-eq0.true),
       ap (slice_get (branch_trials r)) c.if-index-eq0.true ∙ ap (λ t. Some t) (sym c.into_part.ensures),
     )
 
 pub cut-requires : goal.cut-requires
 cut-requires g c =
-    let r : Row = c.args.row in
+    let r : Row = c.args.self in
     let count : length (trials_of r) ≡ length r.lasts = length-map r.lasts (lengthened r.part) in
     omega arith
 
 pub returns-then-is_empty : goal.returns-then-is_empty
 returns-then-is_empty g c =
-    let r : Row = c.args.row in
+    let r : Row = c.args.self in
     let k = c.in_ok-part.ensures in
     let none = told_none c.in_ok-part.before.items c.in_ok-part.before.len c.is_empty.result c.is_empty.ensures c.if-is_empty.true (omega (arith, c.in_ok-part.before.ok.0)) in (
       ap (λ t. judged_part t ∷ []) k.part_is ∙ judged_branch r [] c.args.index (omega arith) (none_before placed_as c.in_ok-part.part c.in_ok-part.before.items none ∙ k.split.0),
@@ -33,7 +33,7 @@ new-requires g c = c.in_ok-part.ensures.row (told_some placed_as c.in_ok-part.be
 
 pub returns : goal.returns
 returns g c =
-    let r : Row = c.args.row in
+    let r : Row = c.args.self in
     let k = c.in_ok-part.ensures in (
       ap (λ (q : Row). judged_part q.part ∷ map misfit (trials_of q)) c.new.ensures
           ∙ ap (λ t. judged_part t ∷ map misfit (trials_of (record { part = c.in_ok-part.part; lasts = map placed_as c.in_ok-part.before.items }))) k.part_is
