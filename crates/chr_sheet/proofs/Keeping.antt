@@ -1,25 +1,13 @@
 -- What is kept, in several places and in one more, judged in order and read on.
 use Rattle.std.proofs.Common.{◌≡◌, ◌≢◌, ℕ, zero, suc, ◌+◌, ◌<◌, ◌≤◌, List, [], ◌∷◌, ◌++◌, length, length-append, map, take, get_or, append_assoc, refl, sym, ◌∙◌, ap, arith, ◌⊎◌, Option, Some, None, MatchOption, Result, Ok, Err, IfOk, slice_get, subst, inl, inr, ⊎_elim, drop, ◌↔◌, not, ◌-◌}
-use Rattle.std.specs.List.{AllByRecursion}
+use Rattle.chr_sheet.proofs.Words.{AllByRecursion, append-nil, take_more, length-map, take-map, take-append-drop, Whole, Part, Misfit, Trial, column_trials, trials_at, trials_in, judged_at, others_at, others_in, trials_of, misfit, Row, IsRow, judged_part, listed, branch_trials, AreMisfits, AreRight, MustBeWhole, ⊤, heads_of, Judgement, IsVerdict, AreJudgedInOrder, AreJudgedUpTo, AreNext, AreNextTogether, Space}
 use Rattle.std.specs.Iterator.{Yields}
 use Rattle.std.specs.Vec.Iter.{into_iter_items, into_iter_steps}
 use Rattle.std.specs.declared.vec.IntoIter.{IntoIter}
-use Rattle.std.proofs.lemmas.List.{append-nil, take_more, length-map, take-map, take-append-drop}
-use Rattle.chr_search.specs.declared.judged.Verdict.TheVariants.{Whole, Part, Misfit}
-use Rattle.chr_search.specs.Verdicts.{Trial}
 use Rattle.chr_sheet.specs.declared.trials.Trials.{Trials as CodeTrials}
 use Rattle.chr_sheet.specs.declared.others.Others.{Others}
-use Rattle.chr_sheet.specs.Columns.{column_trials}
-use Rattle.chr_sheet.specs.Kept.{trials_at, trials_in, judged_at}
-use Rattle.chr_sheet.specs.Others.{others_at, others_in}
-use Rattle.chr_sheet.specs.Rows.{trials_of, misfit, Row, IsRow, judged_part, listed, branch_trials, AreMisfits, AreRight, MustBeWhole}
-use Rattle.std.specs.Bool.{⊤}
-use Rattle.chr_plan.specs.Orders.{heads_of}
 use Rattle.chr_search.specs.declared.judged.Verdict.{Verdict}
-use Rattle.chr_search.specs.Judged.{Judgement, IsVerdict}
 use Rattle.chr_value.proofs.Chosen.{some_is}
-use Rattle.chr_sheet.specs.Sheets.{AreJudgedInOrder, AreJudgedUpTo, AreNext, AreNextTogether}
-use Rattle.chr_search.specs.Trials.{Space}
 use Rattle.chr_sheet.specs.declared.trials.Trials.TheVariants as some
 
 -- ---- what is kept in several places, and in one more

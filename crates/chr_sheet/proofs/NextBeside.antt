@@ -1,25 +1,16 @@
 -- Trials that come next one after another: those that differ in their last label, the part with which they begin, and those of the active label alone.
 use Rattle.std.proofs.Common.{◌≡◌, ℕ, ◌+◌, List, [], ◌∷◌, ◌++◌, append_assoc, map, length, Option, Some, refl, sym, ◌∙◌, ap, subst, suc, zero, ◌≤◌, length-append, get_or, None, MatchOption, arith, true}
-use Rattle.std.proofs.lemmas.List.{map_push, length_push, same_from_push, length-map}
+use Rattle.chr_sheet.proofs.Words.{map_push, length_push, same_from_push, length-map, Space, Join, IsTrial, IsNext, NoneLeft, Child, Placed, Trial, labels, position, IsFormed, IsPart, IsTrialOf, MayEnd, IsEndFrom, IsFront, IsPlacedAfter, lengthened, ComeAfter, trial_alone, AreEnds, next_from, HasEnd, HasBeside, HasNoneBeside, ComeNext, AreInTurn, last_of, IsLastAtHead, EndHead, AllByRecursion, heads_of, Simpagation, rule_at, just_after, past, at_or_after, IsRow, trials_of, branch_trials, IsNextTrial, AreNext, AreNextTogether, Head, Column, IsColumn, AreNextHeads, at_head, column_trials}
 use Rattle.chr_search.specs.declared.front.Front.{Front as CodeFront}
 use Rattle.chr_search.specs.Tree.{LeastFrom, NoneFrom}
-use Rattle.chr_search.specs.Trials.{Space, Join, IsTrial, IsNext, NoneLeft, Child}
-use Rattle.chr_search.specs.Verdicts.{Placed, Trial, labels, position, IsFormed, IsPart, IsTrialOf}
-use Rattle.chr_search.specs.Fronts.{MayEnd, IsEndFrom, IsFront, IsPlacedAfter, lengthened, ComeAfter, trial_alone}
-use Rattle.chr_sheet.specs.Beside.{AreEnds, next_from, HasEnd, HasBeside, HasNoneBeside, ComeNext, AreInTurn, last_of, IsLastAtHead, EndHead}
-use Rattle.std.specs.List.{AllByRecursion}
 use Rattle.chr_rule.specs.Scope.{IsRule}
-use Rattle.chr_plan.specs.Orders.{heads_of}
 use Rattle.chr_plan.specs.Plans.{ArePlans}
 use Rattle.chr_store.specs.Labels.{LabelledStore, IsLabelled}
 use Rattle.chr_search.specs.Joined.{join_of}
-use Rattle.chr_search.specs.Positions.{just_after, past, at_or_after}
 use Rattle.chr_search.proofs.Judging.{labels_length, last_small}
 use Rattle.chr_search.proofs.Making.{next_trial, map_twice}
 use Rattle.chr_search.proofs.PassingOver.{is_part}
 use Rattle.chr_search.proofs.Fronts.{end_at, end_next, full_after, placed_trial, placed_after, trial_formed}
-use Rattle.chr_sheet.specs.Rows.{IsRow, trials_of, branch_trials}
-use Rattle.chr_sheet.specs.Sheets.{IsNextTrial, AreNext, AreNextTogether}
 use Rattle.chr_sheet.proofs.Rows.{row_of, last_at, column_of, only_read, only_placed}
 use Rattle.chr_search.proofs.Descents.{none_left, each_trial}
 use Rattle.chr_search.proofs.PlanByPlan.{alike_next}
@@ -27,11 +18,9 @@ use Rattle.chr_search.specs.Passing.{IsTrialIn}
 use Rattle.chr_sheet.proofs.OneNext.{longer_position, trial_in}
 use Rattle.chr_value.specs.Atoms.{Atom}
 use Rattle.chr_value.specs.declared.atom.Pred.{Pred}
-use Rattle.chr_rule.specs.Rules.{Simpagation, rule_at}
 use Rattle.chr_rule.specs.Occurrences.{IsNextOccurrence}
 use Rattle.chr_model.specs.Stores.{atom_at}
 use Rattle.chr_search.proofs.Alone.{alone_next, alone_trial, alone_is, come_past_active}
-use Rattle.chr_sheet.specs.Columns.{Head, Column, IsColumn, AreNextHeads, at_head, column_trials}
 use Rattle.std.proofs.lemmas.Bool.Decides.{nat_tests}
 use Rattle.chr_search.proofs.Positions.{after_by}
 use Rattle.chr_search.proofs.Behind.{shorter}

@@ -1,19 +1,13 @@
 -- The next trial of a search: there is one at most, and one that is the least of those that end so.
-use Rattle.std.proofs.lemmas.List.{map_push}
+use Rattle.chr_sheet.proofs.Words.{map_push, AllByRecursion, Simpagation, rule_at, Space, join_in, IsPlanned, Placed, Trial, position, labels, heads, IsFormed, IsTrialOf, lengthened, IsNextTrial}
 use Rattle.std.proofs.Common.{◌≡◌, ℕ, List, [], ◌∷◌, ◌++◌, map, length, take, Some, refl, sym, ◌∙◌, ap, ap₂, subst}
-use Rattle.std.specs.List.{AllByRecursion}
-use Rattle.chr_rule.specs.Rules.{Simpagation, rule_at}
 use Rattle.chr_model.specs.Stores.{Store, atom_at}
 use Rattle.chr_plan.specs.Plans.{PlanList, plan_at}
 use Rattle.chr_plan.specs.declared.order.Step.{Step}
-use Rattle.chr_search.specs.Trials.{Space, join_in, IsPlanned}
-use Rattle.chr_search.specs.Verdicts.{Placed, Trial, position, labels, heads, IsFormed, IsTrialOf}
-use Rattle.chr_search.specs.Fronts.{lengthened}
 use Rattle.chr_value.proofs.Chosen.{some_is}
 use Rattle.chr_search.specs.Passing.{IsTrialIn}
 use Rattle.chr_search.proofs.Same.{same_count}
 use Rattle.chr_search.proofs.Tree.{least_same}
-use Rattle.chr_sheet.specs.Sheets.{IsNextTrial}
 
 placed_is : (p q : Placed) → p.head ≡ q.head → p.label ≡ q.label → p.atom ≡ q.atom → p ≡ q
 placed_is p q head label atom = ap (λ x. record { head = x; label = p.label; atom = p.atom }) head ∙ ap (λ x. record { head = q.head; label = x; atom = p.atom }) label ∙ ap (λ x. record { head = q.head; label = q.label; atom = x }) atom

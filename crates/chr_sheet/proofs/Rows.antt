@@ -1,25 +1,14 @@
 -- Rows and columns: trial by trial, and what they are up to a place.
 use Rattle.std.proofs.Common.{◌≡◌, Bool, true, false, ◌==◌, true-eqb, ℕ, zero, suc, ◌+◌, ◌-◌, ◌<◌, ◌≤◌, List, [], ◌∷◌, ◌++◌, map, take, length, Some, get_or, slice_get, refl, sym, ◌∙◌, ap, subst, arith, Result, Ok, Err, IfOk, IfSome, Option, MatchOption, ◌↔◌, IsTrue}
-use Rattle.std.specs.List.{AllByRecursion}
+use Rattle.chr_sheet.proofs.Words.{AllByRecursion, take_more, take-map, length-map, same_from_push, get_or-map, take_all, length_push, Placed, Trial, IsFormed, IsWholeUnder, at_heads, lengthened, trial_alone, Row, IsRow, trials_of, branch_trials, misfit, judged_part, AreMisfits, AreMisfitsUpTo, IsSettledAt, MustBeWhole, ⊤, heads_of, Simpagation, Misfit, Part, Whole, IsVerdict, IsSettledUnder, last_of, Head, Column, IsColumn, at_head, column_trials}
 use Rattle.std.proofs.lemmas.Bool.Decides.{nat_tests}
-use Rattle.std.proofs.lemmas.List.{take_more, take-map, length-map, same_from_push, get_or-map, take_all, length_push}
 use Rattle.std.proofs.lemmas.Option.{slice_get_read, slice_get_within, get_or_from_slice_get}
 use Rattle.chr_guard.proofs.Steps.{all_at, all_more, all_push, read_there}
-use Rattle.chr_search.specs.Verdicts.{Placed, Trial, IsFormed, IsWholeUnder, at_heads}
-use Rattle.chr_search.specs.Fronts.{lengthened, trial_alone}
-use Rattle.chr_sheet.specs.Rows.{Row, IsRow, trials_of, branch_trials, misfit, judged_part, AreMisfits, AreMisfitsUpTo, IsSettledAt, MustBeWhole}
-use Rattle.std.specs.Bool.{⊤}
 use Rattle.std.specs.Result.{result_ok}
 use Rattle.chr_guard.specs.Settled.{Places, Marks, mark_of}
-use Rattle.chr_plan.specs.Orders.{heads_of}
 use Rattle.chr_search.specs.declared.judged.Verdict.{Verdict}
-use Rattle.chr_search.specs.declared.judged.Verdict.TheVariants.{Misfit, Part, Whole}
-use Rattle.chr_search.specs.Judged.{IsVerdict, IsSettledUnder}
 use Rattle.chr_search.proofs.Judging.{few_heads}
 use Rattle.chr_value.specs.Atoms.{Atom}
-use Rattle.chr_sheet.specs.Beside.{last_of}
-use Rattle.chr_sheet.specs.Columns.{Head, Column, IsColumn, at_head, column_trials}
-use Rattle.chr_rule.specs.Rules.{Simpagation}
 use Rattle.chr_sheet.specs.declared.column.OneHead.{OneHead}
 
 -- ---- rows, and what they are up to a place
@@ -69,17 +58,14 @@ first_of f r [] x is some e = absurd (omega (arith, ap length is))
 first_of f r (y ∷ ys) x is some e = subst (λ ls. slice_get (map (lengthened r.part) ls) 0 ≡ Some (lengthened r.part (f x))) is (ap (λ z. Some (lengthened r.part (f z))) (sym e))
 
 -- whether there are labels, told by their number
-pub told_none : {X : Type 0} (xs : List X) (len : ℕ) (told : Bool) → told ≡ (len == 0) → told ≡ true → length xs ≡ len → length xs ≡ 0
-told_none xs len told e is count = let none : len ≡ 0 = true-eqb len 0 (sym is ∙ e) in omega arith
-
 pub told_some : {X : Type 0} (f : X → Placed) (xs : List X) (len : ℕ) (told : Bool) → told ≡ (len == 0) → told ≡ false → length xs ≡ len → 1 ≤ length (map f xs)
 told_some f [] len told e is count = absurd (grind (arith, nat_tests))
 told_some f (x ∷ xs) len told e is count = omega arith
 
 -- no label, and so no trial
-pub none_before : {X : Type 0} (f : X → Placed) (part : Trial) (xs : List X) → length xs ≡ 0 → [] ≡ trials_of (row_of part (map f xs))
-none_before f part [] e = refl
-none_before f part (x ∷ xs) e = absurd (omega arith)
+pub none_before : {X : Type 0} (f : X → Placed) (part : Trial) (xs : List X) (len : ℕ) (told : Bool) → told ≡ (len == 0) → told ≡ true → length xs ≡ len → [] ≡ trials_of (row_of part (map f xs))
+none_before f part [] len told e is count = refl
+none_before f part (x ∷ xs) len told e is count = absurd (grind (arith, nat_tests))
 
 -- what is kept before a place is judged as all are up to it
 pub judged_row : (ts before : List Trial) (n : ℕ) → before ≡ take n ts → map misfit before ≡ take n (map misfit ts)

@@ -1,10 +1,5 @@
 use Rattle.std.proofs.Common.{◌≡◌, ℕ, IfOk, sym, ap, subst, ◌∙◌}
-use Rattle.std.specs.Arc.{arc_value}
-use Rattle.chr_rule.specs.Rules.{Simpagation}
-use Rattle.chr_search.specs.Fronts.{trial_alone}
-use Rattle.chr_search.specs.Placed.{placed_as}
-use Rattle.chr_search.specs.Verdicts.{Trial, IsFormed}
-use Rattle.chr_sheet.specs.Columns.{at_head, head_in}
+use Rattle.chr_sheet.proofs.Words.{arc_value, Simpagation, trial_alone, placed_as, Trial, IsFormed, at_head, head_in}
 use Rattle.chr_sheet.proofs.Rows.{only_read, at_head_alone}
 use Rattle.chr_sheet.proofs.column.at_other_head.Goals as goal
 use Rattle.chr_sheet.proofs.column.at_other_head.Goals.{In_ok-rule}

@@ -1,6 +1,5 @@
 use Rattle.std.proofs.Common.{◌≡◌, length, take, ap, ◌∙◌, arith}
-use Rattle.std.proofs.lemmas.List.{take_all}
-use Rattle.chr_sheet.specs.Kept.{trials_in}
+use Rattle.chr_sheet.proofs.Words.{take_all, trials_in}
 use Rattle.chr_sheet.proofs.Keeping.{trials_counted}
 use Rattle.chr_sheet.proofs.judging.can_count.Goals as goal
 

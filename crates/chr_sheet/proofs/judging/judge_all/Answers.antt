@@ -1,9 +1,6 @@
 use Rattle.std.proofs.Common.{List, ◌++◌, ◌∙◌, Some, None, sym, ap, subst}
 use Rattle.std.proofs.IntoIterSteps.{All-taken}
-use Rattle.chr_search.specs.Verdicts.{Trial}
-use Rattle.chr_sheet.specs.Kept.{trials_at, trials_in}
-use Rattle.chr_sheet.specs.Others.{others_in}
-use Rattle.chr_sheet.specs.Sheets.{AreJudgedUpTo}
+use Rattle.chr_sheet.proofs.Words.{Trial, trials_at, trials_in, others_in, AreJudgedUpTo}
 use Rattle.chr_sheet.proofs.Keeping.{trials_more, trials_cut, taken_front, both_up_to, whole_up_to}
 use Rattle.chr_sheet.proofs.judging.judge_all.Goals as goal
 

@@ -1,7 +1,5 @@
 use Rattle.std.proofs.Common.{None}
-use Rattle.chr_sheet.specs.Kept.{trials_in}
-use Rattle.chr_sheet.specs.Others.{others_in}
-use Rattle.chr_sheet.specs.Sheets.{AreJudgedUpTo}
+use Rattle.chr_sheet.proofs.Words.{trials_in, others_in, AreJudgedUpTo}
 use Rattle.chr_sheet.proofs.judging.judge_all.Given as goal
 
 -- those so far are judged, and none is whole

@@ -1,8 +1,5 @@
 use Rattle.std.proofs.Common.{◌≡◌, ◌≢◌, ◌∷◌, [], None, sym, ◌∙◌, ap, subst}
-use Rattle.chr_search.specs.declared.judged.Verdict.TheVariants.{Whole}
-use Rattle.chr_search.specs.Judged.{Judgement, IsVerdict}
-use Rattle.chr_sheet.specs.Others.{others_in}
-use Rattle.chr_sheet.specs.Sheets.{AreJudgedUpTo}
+use Rattle.chr_sheet.proofs.Words.{Whole, Judgement, IsVerdict, others_in, AreJudgedUpTo}
 use Rattle.chr_sheet.specs.declared.others.Others.TheVariants.{One}
 use Rattle.chr_sheet.proofs.Keeping.{others_pushed, one_whole, one_other}
 use Rattle.chr_sheet.proofs.judging.judge_one.Goals as goal

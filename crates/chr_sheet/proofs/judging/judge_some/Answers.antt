@@ -1,10 +1,5 @@
 use Rattle.std.proofs.Common.{◌≡◌, ◌⊎◌, ◌∷◌, [], length, IfSome, MatchOption, subst, arith}
-use Rattle.std.specs.Bool.{⊤}
-use Rattle.std.proofs.lemmas.List.{take_all}
-use Rattle.chr_search.specs.Judged.{IsSettledUnder}
-use Rattle.chr_sheet.specs.Kept.{trials_at, judged_at}
-use Rattle.chr_sheet.specs.Others.{others_in}
-use Rattle.chr_sheet.specs.Rows.{AreRight, MustBeWhole, kept_before}
+use Rattle.chr_sheet.proofs.Words.{⊤, take_all, IsSettledUnder, trials_at, judged_at, others_in, AreRight, MustBeWhole, kept_before}
 use Rattle.chr_sheet.proofs.Keeping.{kept_up_to, one_after, judged_count}
 use Rattle.chr_sheet.proofs.judging.judge_some.Goals as goal
 

@@ -1,8 +1,6 @@
 use Rattle.std.proofs.Common.{◌++◌, ◌∙◌, sym, ap}
 use Rattle.chr_sheet.specs.declared.others.Others.TheVariants.{Several}
-use Rattle.chr_sheet.specs.Kept.{judged_at}
-use Rattle.chr_sheet.specs.Others.{others_in}
-use Rattle.chr_sheet.specs.Rows.{kept_before}
+use Rattle.chr_sheet.proofs.Words.{judged_at, others_in, kept_before}
 use Rattle.chr_sheet.proofs.Keeping.{others_pushed}
 use Rattle.chr_sheet.proofs.judging.push_several.Goals as goal
 

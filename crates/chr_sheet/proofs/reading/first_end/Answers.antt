@@ -1,7 +1,5 @@
 use Rattle.std.proofs.Common.{◌∷◌, map, subst}
-use Rattle.chr_search.specs.Trials.{Space}
-use Rattle.chr_sheet.specs.Settings.{space_in}
-use Rattle.chr_search.specs.Fronts.{IsEndFrom, IsFront}
+use Rattle.chr_sheet.proofs.Words.{Space, space_in, IsEndFrom, IsFront}
 use Rattle.chr_sheet.proofs.reading.first_end.Goals as goal
 
 pub returns : goal.returns

@@ -1,15 +1,5 @@
 use Rattle.std.proofs.Common.{◌≡◌, ◌≤◌, ◌∷◌, [], length, map, sym, ap, ap₂, subst, ◌∙◌, arith}
-use Rattle.std.proofs.lemmas.List.{length-map}
-use Rattle.chr_plan.specs.Orders.{heads_of}
-use Rattle.chr_search.specs.Fronts.{lengthened}
-use Rattle.chr_search.specs.Positions.{past}
-use Rattle.chr_search.specs.Trials.{Space}
-use Rattle.chr_sheet.specs.Settings.{space_in}
-use Rattle.chr_search.specs.Verdicts.{Trial, position}
-use Rattle.chr_sheet.specs.Kept.{trials_at}
-use Rattle.chr_sheet.specs.Beside.{EndHead, last_of}
-use Rattle.chr_sheet.specs.Columns.{Column, at_head, column_trials}
-use Rattle.chr_sheet.specs.Rows.{Row, trials_of}
+use Rattle.chr_sheet.proofs.Words.{length-map, heads_of, lengthened, past, Space, space_in, Trial, position, trials_at, EndHead, last_of, Column, at_head, column_trials, Row, trials_of}
 use Rattle.chr_sheet.proofs.NextBeside.{come_behind, last_behind, last_low, come_past_head, column_ends}
 use Rattle.chr_sheet.proofs.reading.go_behind.Goals as goal
 

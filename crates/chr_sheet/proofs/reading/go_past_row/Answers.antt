@@ -1,13 +1,6 @@
 use Rattle.std.proofs.Common.{◌≡◌, ◌≤◌, ◌-◌, ◌∷◌, [], ◌++◌, get_or, length, map, sym, ap, subst, ◌∙◌, arith, ◌<◌}
-use Rattle.std.proofs.lemmas.List.{length-map, length_push}
-use Rattle.chr_plan.specs.Orders.{heads_of}
-use Rattle.chr_search.specs.Fronts.{lengthened}
-use Rattle.chr_search.specs.Placed.{placed_as}
-use Rattle.chr_search.specs.Positions.{past}
-use Rattle.chr_search.specs.Verdicts.{Trial, position}
+use Rattle.chr_sheet.proofs.Words.{length-map, length_push, heads_of, lengthened, placed_as, past, Trial, position, last_of, Row}
 use Rattle.chr_search.proofs.Making.{map_twice}
-use Rattle.chr_sheet.specs.Beside.{last_of}
-use Rattle.chr_sheet.specs.Rows.{Row}
 use Rattle.chr_sheet.proofs.Rows.{formed_there, label_low, part_few}
 use Rattle.chr_sheet.proofs.NextBeside.{last_read}
 use Rattle.chr_sheet.proofs.OneNext.{longer_position}

@@ -1,16 +1,8 @@
 use Rattle.std.proofs.Common.{◌≡◌, ◌<◌, ◌≤◌, ◌+◌, ◌-◌, ◌∷◌, ◌++◌, map, length, refl, sym, ap, subst, ◌∙◌, arith, true-eqb}
 use Rattle.std.proofs.lemmas.Bool.{ltb-true}
-use Rattle.std.proofs.lemmas.List.{length-map}
-use Rattle.chr_plan.specs.Orders.{heads_of}
-use Rattle.chr_search.specs.Placed.{placed_as}
-use Rattle.chr_search.specs.Fronts.{MayEnd}
+use Rattle.chr_sheet.proofs.Words.{length-map, heads_of, placed_as, MayEnd, Space, space_in, labels, position, AreEnds, ComeNext, EndHead, HasEnd, next_from, Row, branch_trials, trials_of}
 use Rattle.chr_search.specs.Tree.{NoneFrom}
-use Rattle.chr_search.specs.Trials.{Space}
-use Rattle.chr_sheet.specs.Settings.{space_in}
-use Rattle.chr_search.specs.Verdicts.{labels, position}
 use Rattle.chr_search.proofs.Judging.{few_heads}
-use Rattle.chr_sheet.specs.Beside.{AreEnds, ComeNext, EndHead, HasEnd, next_from}
-use Rattle.chr_sheet.specs.Rows.{Row, branch_trials, trials_of}
 use Rattle.chr_sheet.proofs.Rows.{trials_count}
 use Rattle.chr_sheet.proofs.NextBeside.{LacksOne, IsMadeBranch, branch_made, begins_others, end_as, labels_read, small_end, branch_ends, part_ends}
 use Rattle.chr_sheet.proofs.reading.in_branch.Goals as goal

@@ -1,11 +1,5 @@
 use Rattle.std.proofs.Common.{◌≡◌, ◌≤◌, ◌-◌, suc, length, map, refl, sym, ap, subst, ◌∙◌, arith}
-use Rattle.std.specs.Arc.{arc_value}
-use Rattle.std.proofs.lemmas.List.{length-map}
-use Rattle.chr_search.specs.Placed.{placed_as}
-use Rattle.chr_search.specs.Trials.{Space}
-use Rattle.chr_sheet.specs.Settings.{space_in}
-use Rattle.chr_sheet.specs.Beside.{ComeNext, EndHead}
-use Rattle.chr_sheet.specs.Columns.{AreNextHeads, Column, IsColumn, at_head, column_trials, head_in}
+use Rattle.chr_sheet.proofs.Words.{arc_value, length-map, placed_as, Space, space_in, ComeNext, EndHead, AreNextHeads, Column, IsColumn, at_head, column_trials, head_in}
 use Rattle.chr_sheet.proofs.Rows.{column_of}
 use Rattle.chr_sheet.proofs.NextBeside.{alone_ends, column_ends, IsAlone, is_alone, first_low, column_next, column_made, last_trial}
 use Rattle.chr_sheet.proofs.reading.in_column.Goals as goal

@@ -1,14 +1,7 @@
 use Rattle.std.proofs.Common.{◌≡◌, ◌≤◌, ◌+◌, List, [], ◌∷◌, ◌++◌, ◌<◌, map, length, length-append, refl, sym, ap, subst, ◌∙◌, arith, true-eqb}
 use Rattle.std.proofs.lemmas.Bool.{ltb-true}
-use Rattle.std.proofs.lemmas.List.{length-map}
-use Rattle.chr_plan.specs.Orders.{heads_of}
-use Rattle.chr_search.specs.Placed.{placed_as}
-use Rattle.chr_sheet.specs.Settings.{space_in}
-use Rattle.chr_search.specs.Verdicts.{Placed, Trial, labels, position}
-use Rattle.chr_search.specs.Fronts.{lengthened, MayEnd}
+use Rattle.chr_sheet.proofs.Words.{length-map, heads_of, placed_as, space_in, Placed, Trial, labels, position, lengthened, MayEnd, Row, trials_of, ComeNext, EndHead, next_from}
 use Rattle.chr_search.specs.Tree.{NoneFrom}
-use Rattle.chr_sheet.specs.Rows.{Row, trials_of}
-use Rattle.chr_sheet.specs.Beside.{ComeNext, EndHead, next_from}
 use Rattle.chr_sheet.proofs.Rows.{trials_count}
 use Rattle.chr_sheet.proofs.NextBeside.{BesideOrNone, IsBegun, begun, begins_others, small_end, IsMadeRow, row_made, pair_ends, row_ends}
 use Rattle.chr_sheet.proofs.reading.in_turn.Goals as goal

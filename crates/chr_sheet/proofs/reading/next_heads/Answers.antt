@@ -1,9 +1,7 @@
 use Rattle.std.proofs.Common.{◌≡◌, ℕ, ◌+◌, length, map, Some, sym, ap, subst, ◌∙◌, arith}
-use Rattle.std.specs.Arc.{arc_value}
+use Rattle.chr_sheet.proofs.Words.{arc_value, Simpagation, rule_at, head_in, rule_or_none}
 use Rattle.chr_value.specs.declared.atom.Pred.{Pred}
-use Rattle.chr_rule.specs.Rules.{Simpagation, rule_at}
 use Rattle.chr_rule.specs.Occurrences.{IsNextOccurrence, AreHeadsFrom}
-use Rattle.chr_sheet.specs.Columns.{head_in, rule_or_none}
 use Rattle.chr_sheet.proofs.NextBeside.{last_head, heads_push, last_pushed, one_more}
 use Rattle.chr_sheet.proofs.reading.next_heads.Goals as goal
 

@@ -1,7 +1,5 @@
 use Rattle.std.proofs.Common.{◌≤◌, ◌∷◌, map, Some, sym, subst, arith}
-use Rattle.chr_search.specs.Fronts.{MayEnd, IsEndFrom}
-use Rattle.chr_search.specs.Placed.{placed_as}
-use Rattle.chr_sheet.specs.Beside.{next_from}
+use Rattle.chr_sheet.proofs.Words.{MayEnd, IsEndFrom, placed_as, next_from}
 use Rattle.chr_sheet.proofs.NextBeside.{ArePushed, one_pushed, one_more}
 use Rattle.chr_sheet.proofs.reading.push_ends.Goals as goal
 use Rattle.chr_sheet.proofs.reading.push_ends.Goals.{In-Some}

@@ -1,8 +1,6 @@
 use Rattle.std.proofs.Common.{◌≡◌, ℕ, ◌<◌, ◌≤◌, ◌-◌, List, ◌∷◌, length, map, None}
-use Rattle.chr_search.specs.Fronts.{MayEnd, IsFront}
-use Rattle.chr_search.specs.Placed.{placed_as}
+use Rattle.chr_sheet.proofs.Words.{MayEnd, IsFront, placed_as, Space}
 use Rattle.chr_search.specs.Tree.{LeastFrom}
-use Rattle.chr_search.specs.Trials.{Space}
 use Rattle.chr_sheet.proofs.NextBeside.{ArePushed}
 use Rattle.chr_sheet.proofs.reading.push_ends.Given as goal
 

@@ -1,9 +1,6 @@
 use Rattle.std.proofs.Common.{◌∙◌, subst}
-use Rattle.std.specs.Arc.{arc_value}
-use Rattle.chr_search.specs.Trials.{Space, older, NoneLeft}
+use Rattle.chr_sheet.proofs.Words.{arc_value, Space, older, NoneLeft, trials_at, trials_in, AreNextTogether}
 use Rattle.chr_search.specs.Answers.{IsAnswer}
-use Rattle.chr_sheet.specs.Kept.{trials_at, trials_in}
-use Rattle.chr_sheet.specs.Sheets.{AreNextTogether}
 use Rattle.chr_sheet.proofs.NextBeside.{none_next, none_asked}
 use Rattle.chr_sheet.proofs.Keeping.{read_on, read_all}
 use Rattle.chr_sheet.proofs.reading.read.Goals as goal

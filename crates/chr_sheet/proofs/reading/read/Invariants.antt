@@ -1,9 +1,5 @@
 use Rattle.std.proofs.Common.{◌≡◌, List, ◌++◌}
-use Rattle.std.specs.Arc.{arc_value}
-use Rattle.chr_search.specs.Trials.{older}
-use Rattle.chr_search.specs.Verdicts.{Trial}
-use Rattle.chr_sheet.specs.Kept.{trials_in}
-use Rattle.chr_sheet.specs.Sheets.{AreNext}
+use Rattle.chr_sheet.proofs.Words.{arc_value, older, Trial, trials_in, AreNext}
 use Rattle.chr_sheet.proofs.reading.read.Given as goal
 
 abbrev pub invariant-loop-left : goal.invariant-loop-left

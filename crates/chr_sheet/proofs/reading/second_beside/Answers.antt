@@ -1,8 +1,5 @@
 use Rattle.std.proofs.Common.{◌≡◌, ◌≤◌, ◌+◌, map, length, sym, ap, ◌∙◌, arith, length-append}
-use Rattle.std.proofs.lemmas.List.{length-map}
-use Rattle.chr_search.specs.Placed.{placed_as}
-use Rattle.chr_search.specs.Trials.{Space}
-use Rattle.chr_sheet.specs.Settings.{space_in}
+use Rattle.chr_sheet.proofs.Words.{length-map, placed_as, Space, space_in}
 use Rattle.chr_search.proofs.Judging.{last_small}
 use Rattle.chr_sheet.proofs.NextBeside.{labels_split, beside}
 use Rattle.chr_sheet.proofs.reading.second_beside.Goals as goal

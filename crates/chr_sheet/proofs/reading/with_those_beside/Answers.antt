@@ -1,10 +1,6 @@
 use Rattle.std.proofs.Common.{sym, subst, arith}
-use Rattle.chr_search.specs.Trials.{Space, IsTrial}
-use Rattle.chr_sheet.specs.Settings.{space_in}
-use Rattle.chr_search.specs.Verdicts.{position}
+use Rattle.chr_sheet.proofs.Words.{Space, IsTrial, space_in, position, trials_at, AreInTurn}
 use Rattle.chr_search.proofs.Making.{next_trial}
-use Rattle.chr_sheet.specs.Kept.{trials_at}
-use Rattle.chr_sheet.specs.Beside.{AreInTurn}
 use Rattle.chr_sheet.proofs.NextBeside.{together, active_low}
 use Rattle.chr_sheet.proofs.reading.with_those_beside.Goals as goal
 

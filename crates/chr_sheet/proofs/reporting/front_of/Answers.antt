@@ -1,5 +1,4 @@
-use Rattle.chr_search.specs.Placed.{placed_as}
-use Rattle.chr_sheet.specs.Settings.{space_in}
+use Rattle.chr_sheet.proofs.Words.{placed_as, space_in}
 use Rattle.chr_sheet.proofs.NextBeside.{labels_read}
 use Rattle.chr_sheet.proofs.Turns.{front_there}
 use Rattle.chr_sheet.proofs.reporting.front_of.Goals as goal

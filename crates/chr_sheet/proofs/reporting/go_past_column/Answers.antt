@@ -1,7 +1,7 @@
 use Rattle.std.proofs.Common.{sym, ap, subst, ◌∙◌, ◌≤◌}
 use Rattle.chr_search.specs.Reach.{SearchState}
 use Rattle.chr_sheet.proofs.NextBeside.{last_low, active_low}
-use Rattle.chr_sheet.proofs.KnownNext.{after_column}
+use Rattle.chr_sheet.proofs.Turns.{after_column}
 use Rattle.chr_sheet.proofs.reporting.go_past_column.Goals as goal
 
 pub go_past_alone-requires-clause-number : goal.go_past_alone-requires-clause-number

@@ -1,11 +1,7 @@
 use Rattle.std.proofs.Common.{◌≤◌, ◌++◌, ◌∷◌, [], length, sym, ap, subst, ◌∙◌}
-use Rattle.chr_search.specs.Placed.{placed_as}
-use Rattle.chr_search.specs.Positions.{past}
-use Rattle.chr_search.specs.Reach.{SearchState}
-use Rattle.chr_search.specs.Verdicts.{Trial, position}
-use Rattle.chr_sheet.specs.Rows.{Row}
+use Rattle.chr_sheet.proofs.Words.{placed_as, past, SearchState, Trial, position, Row}
 use Rattle.chr_sheet.proofs.Rows.{part_few}
-use Rattle.chr_sheet.proofs.KnownNext.{after_row, last_low}
+use Rattle.chr_sheet.proofs.Turns.{after_row, last_low}
 use Rattle.chr_sheet.proofs.reporting.go_past_row.Goals as goal
 
 pub go_past-requires-clause-few : goal.go_past-requires-clause-few

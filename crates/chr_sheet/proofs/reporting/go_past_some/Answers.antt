@@ -1,7 +1,5 @@
 use Rattle.std.proofs.Common.{sym, ap, ◌∙◌}
-use Rattle.chr_sheet.specs.Kept.{judged_at}
-use Rattle.chr_sheet.specs.Others.{others_at}
-use Rattle.chr_sheet.specs.Sheets.{after_all}
+use Rattle.chr_sheet.proofs.Words.{judged_at, others_at, after_all}
 use Rattle.chr_sheet.proofs.reporting.go_past_some.Goals as goal
 
 pub returns-in-Column-clause-place : goal.returns-in-Column-clause-place

@@ -1,6 +1,5 @@
 use Rattle.std.proofs.Common.{◌≡◌, sym, rules}
-use Rattle.chr_search.specs.Placed.{placed_as}
-use Rattle.chr_search.specs.Verdicts.{Placed}
+use Rattle.chr_sheet.proofs.Words.{placed_as, Placed}
 use Rattle.chr_sheet.proofs.Rows.{only_read}
 use Rattle.chr_sheet.proofs.Turns.{alone_told, alone_label}
 use Rattle.chr_sheet.proofs.reporting.is_alone_in.Goals as goal

@@ -1,7 +1,6 @@
 use Rattle.std.proofs.Common.{subst, rules}
-use Rattle.chr_sheet.specs.Settings.{space_in}
+use Rattle.chr_sheet.proofs.Words.{space_in, IsFireable}
 use Rattle.chr_search.specs.Answers.{IsToldNext}
-use Rattle.chr_sheet.specs.Sheets.{IsFireable}
 use Rattle.chr_sheet.proofs.Turns.{told_fireable}
 use Rattle.chr_sheet.proofs.reporting.is_fireable.Goals as goal
 

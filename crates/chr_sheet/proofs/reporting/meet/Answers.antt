@@ -1,11 +1,5 @@
 use Rattle.std.proofs.Common.{◌≡◌, ℕ, List, Some, map, subst, arith, rules}
-use Rattle.std.proofs.lemmas.List.{take_all}
-use Rattle.chr_search.specs.Placed.{placed_as}
-use Rattle.chr_search.specs.Fronts.{lengthened}
-use Rattle.chr_search.specs.Trials.{Space}
-use Rattle.chr_search.specs.Verdicts.{Placed, labels}
-use Rattle.chr_sheet.specs.Rows.{Row, misfit, trials_of}
-use Rattle.chr_sheet.specs.Sheets.{IsFrontOf, IsNextTrial, Reports, place_after}
+use Rattle.chr_sheet.proofs.Words.{take_all, placed_as, lengthened, Space, Placed, labels, Row, misfit, trials_of, IsFrontOf, IsNextTrial, Reports, place_after}
 use Rattle.chr_sheet.proofs.Rows.{trials_count, trials_step, formed_there, label_low}
 use Rattle.chr_sheet.proofs.Turns.{ComesWith, met_none, met_other, met_one, next_is, told_other_label, other_label, other_atom}
 use Rattle.chr_sheet.proofs.reporting.meet.Goals.{then-ne-via-then-ne, then-ne-via-else-ne+then-not-has}

@@ -1,10 +1,5 @@
 use Rattle.std.proofs.Common.{◌≡◌, ◌≤◌, ℕ, List, ◌++◌, ◌∷◌, [], map, take, MatchOption}
-use Rattle.std.specs.Bool.{⊤}
-use Rattle.chr_search.specs.Placed.{placed_as}
-use Rattle.chr_search.specs.Trials.{Space, IsNext}
-use Rattle.chr_search.specs.Verdicts.{IsTrialOf, position}
-use Rattle.chr_sheet.specs.Rows.{trials_of}
-use Rattle.chr_sheet.specs.Sheets.{IsFrontOf}
+use Rattle.chr_sheet.proofs.Words.{⊤, placed_as, Space, IsNext, IsTrialOf, position, trials_of, IsFrontOf}
 use Rattle.chr_sheet.proofs.Turns.{HasMet}
 use Rattle.chr_sheet.proofs.reporting.meet.Given as goal
 

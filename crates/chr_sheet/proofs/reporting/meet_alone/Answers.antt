@@ -1,8 +1,5 @@
 use Rattle.std.proofs.Common.{◌≡◌, ◌≤◌, ℕ, [], ◌∷◌, length, IsTrue, Option, Some, None, MatchOption, refl, sym, ap, ap₂, subst, ◌∙◌, arith, rules}
-use Rattle.std.specs.Bool.{⊤}
-use Rattle.chr_search.specs.Placed.{placed_as}
-use Rattle.chr_search.specs.Verdicts.{Placed, Trial}
-use Rattle.chr_sheet.specs.Columns.{Column, at_head, head_in}
+use Rattle.chr_sheet.proofs.Words.{⊤, placed_as, Placed, Trial, Column, at_head, head_in}
 use Rattle.chr_sheet.proofs.Rows.{only_read, kept_at, kept_there, first_trial, other_trial, other_placed, column_step}
 use Rattle.chr_sheet.proofs.Turns.{other_alone, ArePredOf, AreAfter, alone_met_none, alone_met_other, alone_met_one, follows_there, met_as, next_low, pred_of, pred_as}
 use Rattle.chr_sheet.proofs.reporting.meet_alone.Goals.{then-is_at, else-is_at}

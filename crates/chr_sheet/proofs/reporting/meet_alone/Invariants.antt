@@ -1,8 +1,6 @@
 use Rattle.std.proofs.Common.{◌≡◌, ◌≤◌, ◌+◌, ℕ, List, ◌∷◌, [], map, take, MatchOption}
-use Rattle.std.specs.Bool.{⊤}
-use Rattle.chr_search.specs.Trials.{Space, IsNext}
+use Rattle.chr_sheet.proofs.Words.{⊤, Space, IsNext, column_trials, head_in}
 use Rattle.chr_sheet.specs.Alone.{IsAloneOf}
-use Rattle.chr_sheet.specs.Columns.{column_trials, head_in}
 use Rattle.chr_sheet.proofs.Turns.{AreAfter, ArePredOf, HasMetAlone}
 use Rattle.chr_sheet.proofs.reporting.meet_alone.Given as goal
 

@@ -1,11 +1,6 @@
 use Rattle.std.proofs.Common.{map, refl, sym, ap, subst, ◌∙◌}
-use Rattle.chr_search.specs.Trials.{Space}
-use Rattle.chr_sheet.specs.Settings.{space_in}
-use Rattle.chr_search.specs.Reach.{SearchState}
+use Rattle.chr_sheet.proofs.Words.{Space, space_in, SearchState, Column, column_trials, misfit, Reports}
 use Rattle.chr_sheet.specs.Alone.{IsAloneOf, place_past}
-use Rattle.chr_sheet.specs.Columns.{Column, column_trials}
-use Rattle.chr_sheet.specs.Rows.{misfit}
-use Rattle.chr_sheet.specs.Sheets.{Reports}
 use Rattle.chr_sheet.proofs.Rows.{only_placed}
 use Rattle.chr_sheet.proofs.Turns.{alone_as, none_alone_in, none_next_alone}
 use Rattle.chr_sheet.proofs.reporting.pass_alone.Goals.{In-Some}

@@ -1,8 +1,5 @@
 use Rattle.std.proofs.Common.{◌≤◌, ℕ, length, sym, subst, arith}
-use Rattle.chr_search.specs.Fronts.{MayEnd, IsEndFrom}
-use Rattle.chr_sheet.specs.Settings.{space_in}
-use Rattle.chr_search.specs.Verdicts.{Trial, labels, position}
-use Rattle.chr_sheet.specs.Sheets.{IsFrontOf}
+use Rattle.chr_sheet.proofs.Words.{MayEnd, IsEndFrom, space_in, Trial, labels, position, IsFrontOf}
 use Rattle.chr_sheet.proofs.Rows.{part_few}
 use Rattle.chr_sheet.proofs.Turns.{none_reported, none_ends, next_behind}
 use Rattle.chr_sheet.proofs.reporting.pass_behind.Goals as goal

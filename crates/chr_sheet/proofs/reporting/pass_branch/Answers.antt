@@ -1,13 +1,6 @@
 use Rattle.std.proofs.Common.{◌≡◌, ◌≢◌, true, Some, map, sym, ap, subst, ◌∙◌, arith, rules}
-use Rattle.std.proofs.lemmas.List.{length-map}
-use Rattle.chr_search.specs.Positions.{just_after}
-use Rattle.chr_search.specs.Reach.{SearchState}
-use Rattle.chr_search.specs.Trials.{Space}
-use Rattle.chr_sheet.specs.Settings.{space_in}
-use Rattle.chr_search.specs.Verdicts.{position, IsPart, IsTrialOf}
+use Rattle.chr_sheet.proofs.Words.{length-map, just_after, SearchState, Space, space_in, position, IsPart, IsTrialOf, Row, misfit, trials_of, IsNextTrial, Reports}
 use Rattle.chr_search.specs.Answers.{IsToldNext}
-use Rattle.chr_sheet.specs.Rows.{Row, misfit, trials_of}
-use Rattle.chr_sheet.specs.Sheets.{IsNextTrial, Reports}
 use Rattle.chr_sheet.proofs.Turns.{told_not, told_is, part_moves, part_passes, reports_few}
 use Rattle.chr_sheet.proofs.reporting.pass_branch.Goals as goal
 

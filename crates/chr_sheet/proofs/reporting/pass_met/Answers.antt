@@ -1,10 +1,5 @@
 use Rattle.std.proofs.Common.{◌≤◌, ◌∷◌, ◌++◌, [], MatchOption, length, map, sym, ap, subst, ◌∙◌}
-use Rattle.std.specs.Bool.{⊤}
-use Rattle.chr_search.specs.Positions.{past}
-use Rattle.chr_search.specs.Reach.{SearchState}
-use Rattle.chr_search.specs.Verdicts.{Trial, position}
-use Rattle.chr_sheet.specs.Rows.{Row, misfit, trials_of}
-use Rattle.chr_sheet.specs.Sheets.{Reports, place_after}
+use Rattle.chr_sheet.proofs.Words.{⊤, past, SearchState, Trial, position, Row, misfit, trials_of, Reports, place_after}
 use Rattle.chr_sheet.proofs.Rows.{part_few}
 use Rattle.chr_sheet.proofs.reporting.pass_met.Goals as goal
 

@@ -1,9 +1,5 @@
 use Rattle.std.proofs.Common.{◌≤◌, ℕ, ◌∷◌, ◌++◌, [], length, refl, sym, subst, arith}
-use Rattle.chr_search.specs.Fronts.{MayEnd}
-use Rattle.chr_search.specs.Trials.{Space, IsNext}
-use Rattle.chr_sheet.specs.Settings.{space_in}
-use Rattle.chr_search.specs.Verdicts.{Trial, position, IsTrialOf}
-use Rattle.chr_sheet.specs.Sheets.{IsFrontOf}
+use Rattle.chr_sheet.proofs.Words.{MayEnd, Space, IsNext, space_in, Trial, position, IsTrialOf, IsFrontOf}
 use Rattle.chr_sheet.proofs.Rows.{part_few}
 use Rattle.chr_sheet.proofs.Turns.{none_reported, none_beside, none_stands, none_ends, row_reported}
 use Rattle.chr_sheet.proofs.reporting.pass_misfits.Goals as goal

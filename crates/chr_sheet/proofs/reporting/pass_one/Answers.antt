@@ -1,6 +1,5 @@
 use Rattle.std.proofs.Common.{◌≡◌, ◌≢◌, true, Some, refl, rules}
-use Rattle.chr_sheet.specs.Settings.{space_in}
-use Rattle.chr_search.specs.Judged.{Judgement}
+use Rattle.chr_sheet.proofs.Words.{space_in, Judgement}
 use Rattle.chr_sheet.proofs.Turns.{told_not, told_is, one_moved, one_passes}
 use Rattle.chr_sheet.proofs.reporting.pass_one.Goals as goal
 

@@ -1,10 +1,5 @@
 use Rattle.std.proofs.Common.{◌+◌, length, length-append, take, refl, sym, ap, subst, ◌∙◌, arith}
-use Rattle.std.specs.List.{AllByRecursion}
-use Rattle.chr_search.specs.Judged.{Judgement, IsVerdict}
-use Rattle.chr_search.specs.Trials.{Space, older}
-use Rattle.chr_sheet.specs.Others.{others_at, others_in}
-use Rattle.chr_sheet.specs.Rows.{listed}
-use Rattle.chr_sheet.specs.Sheets.{Reports, done}
+use Rattle.chr_sheet.proofs.Words.{AllByRecursion, Judgement, IsVerdict, Space, older, others_at, others_in, listed, Reports, done}
 use Rattle.chr_sheet.proofs.Keeping.{all_both, others_front, others_step}
 use Rattle.chr_sheet.proofs.Turns.{reports_both, reports_few}
 use Rattle.chr_sheet.proofs.reporting.report.Goals as goal

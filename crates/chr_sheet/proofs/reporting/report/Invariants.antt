@@ -1,9 +1,5 @@
 use Rattle.std.proofs.Common.{◌≡◌, take}
-use Rattle.std.specs.List.{AllByRecursion}
-use Rattle.chr_search.specs.Judged.{IsVerdict}
-use Rattle.chr_search.specs.Trials.{older}
-use Rattle.chr_sheet.specs.Others.{others_in}
-use Rattle.chr_sheet.specs.Sheets.{Reports}
+use Rattle.chr_sheet.proofs.Words.{AllByRecursion, IsVerdict, older, others_in, Reports}
 use Rattle.chr_sheet.proofs.reporting.report.Given as goal
 
 -- those so far are reported

@@ -1,15 +1,8 @@
 use Rattle.std.proofs.Common.{length, length-append, take, refl, sym, ap, subst, ◌∙◌, arith}
 use Rattle.std.specs.Prelude.{◌≢◌}
-use Rattle.std.specs.List.{AllByRecursion}
-use Rattle.std.proofs.lemmas.List.{take_all}
-use Rattle.chr_search.specs.declared.judged.Verdict.TheVariants.{Whole}
-use Rattle.chr_search.specs.Judged.{Judgement, IsVerdict}
-use Rattle.chr_search.specs.Trials.{Space, older}
-use Rattle.chr_sheet.specs.Others.{others_at, others_in}
-use Rattle.chr_sheet.specs.Rows.{listed}
-use Rattle.chr_sheet.specs.Sheets.{after_all}
+use Rattle.chr_sheet.proofs.Words.{AllByRecursion, take_all, Whole, Judgement, IsVerdict, Space, older, others_at, others_in, listed, after_all}
 use Rattle.chr_sheet.proofs.Keeping.{all_both, others_step, others_counted, others_within}
-use Rattle.chr_sheet.proofs.KnownNext.{admissible_here, after_both, fireable, some_told, told_all}
+use Rattle.chr_sheet.proofs.Turns.{admissible_here, after_both, fireable, some_told, told_all}
 use Rattle.chr_sheet.proofs.reporting.report_next.Goals as goal
 
 pub loop-some-init : goal.loop-some-init

@@ -1,10 +1,6 @@
 use Rattle.std.proofs.Common.{◌≡◌, length, take}
 use Rattle.std.specs.Prelude.{◌≢◌}
-use Rattle.std.specs.List.{AllByRecursion}
-use Rattle.chr_search.specs.declared.judged.Verdict.TheVariants.{Whole}
-use Rattle.chr_search.specs.Judged.{IsVerdict}
-use Rattle.chr_sheet.specs.Others.{others_in}
-use Rattle.chr_sheet.specs.Sheets.{after_all}
+use Rattle.chr_sheet.proofs.Words.{AllByRecursion, Whole, IsVerdict, others_in, after_all}
 use Rattle.chr_sheet.proofs.reporting.report_next.Given as goal
 
 -- the search is past those so far

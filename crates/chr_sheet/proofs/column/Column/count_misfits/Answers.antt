@@ -1,8 +1,5 @@
 use Rattle.std.proofs.Common.{◌≡◌, ℕ, ◌+◌, length, subst, sym, ap, ◌∙◌, arith}
-use Rattle.chr_rule.specs.Rules.{Simpagation, heads_of}
-use Rattle.chr_search.specs.Verdicts.{Trial}
-use Rattle.chr_search.specs.Placed.{placed_as}
-use Rattle.chr_sheet.specs.Columns.{Column, at_head, head_in, column_trials}
+use Rattle.chr_sheet.proofs.Words.{Simpagation, heads_of, Trial, placed_as, Column, at_head, head_in, column_trials}
 use Rattle.chr_sheet.proofs.Rows.{only_read, taken_up_to, told_up_to, told_settled, told_more, IsTold, column_count, other_trial, first_told, kept_at, kept_there, other_told}
 use Rattle.chr_sheet.proofs.column.Column.count_misfits.Goals as goal
 use Rattle.chr_sheet.proofs.column.Column.count_misfits.Goals.{After-is_misfit_alone, After-is_misfit_alone-in-loop-i}

@@ -1,8 +1,6 @@
 use Rattle.std.proofs.Common.{◌≡◌, ◌+◌, map, take}
-use Rattle.std.specs.List.{AllByRecursion}
+use Rattle.chr_sheet.proofs.Words.{AllByRecursion, IsVerdict, column_trials, head_in}
 use Rattle.chr_search.specs.declared.judged.Verdict.TheVariants as verdicts
-use Rattle.chr_search.specs.Judged.{IsVerdict}
-use Rattle.chr_sheet.specs.Columns.{column_trials, head_in}
 use Rattle.chr_sheet.proofs.column.Column.count_misfits.Given as goal
 
 -- the trials so far are misfits

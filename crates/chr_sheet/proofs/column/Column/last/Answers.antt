@@ -1,7 +1,5 @@
 use Rattle.std.proofs.Common.{ap}
-use Rattle.std.specs.Arc.{arc_value}
-use Rattle.chr_search.specs.Verdicts.{Trial}
-use Rattle.chr_sheet.specs.Columns.{head_in}
+use Rattle.chr_sheet.proofs.Words.{arc_value, Trial, head_in}
 use Rattle.chr_sheet.proofs.Rows.{last_is}
 use Rattle.chr_sheet.proofs.column.Column.last.Goals as goal
 

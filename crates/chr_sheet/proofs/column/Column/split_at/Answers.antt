@@ -1,8 +1,5 @@
 use Rattle.std.proofs.Common.{◌≡◌, Some, map, length, sym, ap, subst, ◌∙◌}
-use Rattle.std.specs.Arc.{arc_value}
-use Rattle.chr_plan.specs.Orders.{heads_of}
-use Rattle.chr_search.specs.Verdicts.{IsFormed}
-use Rattle.chr_sheet.specs.Columns.{at_head, column_trials, head_in}
+use Rattle.chr_sheet.proofs.Words.{arc_value, heads_of, IsFormed, at_head, column_trials, head_in}
 use Rattle.chr_sheet.proofs.Rows.{IsCutAt, cut_column}
 use Rattle.chr_sheet.proofs.column.Column.split_at.Goals as goal
 use Rattle.chr_sheet.proofs.column.Column.split_at.Goals.{In-Some}

@@ -1,6 +1,5 @@
 use Rattle.std.proofs.Common.{◌∙◌, [], sym, ap}
-use Rattle.chr_sheet.specs.Columns.{Column, column_trials}
-use Rattle.chr_sheet.specs.Rows.{kept_before}
+use Rattle.chr_sheet.proofs.Words.{Column, column_trials, kept_before}
 use Rattle.chr_sheet.proofs.Rows.{judged_row}
 use Rattle.chr_sheet.proofs.column.Column.split_column.Goals as goal
 

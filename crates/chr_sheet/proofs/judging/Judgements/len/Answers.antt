@@ -1,9 +1,6 @@
 use Rattle.std.proofs.Common.{◌≡◌, ℕ, ◌≤◌, List, length, length-append, take, ◌∙◌, ap, arith}
-use Rattle.std.proofs.lemmas.List.{take_all}
-use Rattle.chr_search.specs.Judged.{Judgement}
+use Rattle.chr_sheet.proofs.Words.{take_all, Judgement, others_in, listed}
 use Rattle.chr_sheet.specs.declared.others.Others.{Others}
-use Rattle.chr_sheet.specs.Others.{others_in}
-use Rattle.chr_sheet.specs.Rows.{listed}
 use Rattle.chr_sheet.proofs.Keeping.{others_counted, others_within}
 use Rattle.chr_sheet.proofs.judging.Judgements.len.Goals as goal
 

@@ -1,9 +1,6 @@
 use Rattle.std.proofs.Common.{sym, subst}
 use Rattle.std.specs.Prelude.{◌≢◌}
-use Rattle.std.specs.List.{AllByRecursion}
-use Rattle.chr_search.specs.declared.judged.Verdict.TheVariants.{Whole}
-use Rattle.chr_sheet.specs.Others.{others_at}
-use Rattle.chr_sheet.specs.Rows.{AreRight}
+use Rattle.chr_sheet.proofs.Words.{AllByRecursion, Whole, others_at, AreRight}
 use Rattle.chr_sheet.proofs.Keeping.{none_whole}
 use Rattle.chr_sheet.proofs.others.Others.are_right.Goals as goal
 

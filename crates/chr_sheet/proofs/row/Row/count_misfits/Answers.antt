@@ -1,10 +1,5 @@
 use Rattle.std.proofs.Common.{◌≡◌, ◌∷◌, [], length, length-append, subst, ◌∙◌, arith}
-use Rattle.chr_search.specs.declared.judged.Verdict.TheVariants.{Misfit}
-use Rattle.chr_search.specs.Verdicts.{Placed, Trial, IsFormed}
-use Rattle.chr_search.specs.Judged.{IsVerdict}
-use Rattle.chr_search.specs.Fronts.{lengthened}
-use Rattle.chr_search.specs.Placed.{placed_as}
-use Rattle.chr_sheet.specs.Rows.{Row, trials_of}
+use Rattle.chr_sheet.proofs.Words.{Misfit, Placed, Trial, IsFormed, IsVerdict, lengthened, placed_as, Row, trials_of}
 use Rattle.chr_sheet.proofs.Rows.{image_at, trials_count, formed_there, all_up_to, taken_up_to, IsTold, told_up_to, told_settled, told_more, all_unfit}
 use Rattle.chr_sheet.proofs.row.Row.count_misfits.Goals as goal
 use Rattle.chr_sheet.proofs.row.Row.count_misfits.Goals.{After-is_misfit}

@@ -1,10 +1,6 @@
 use Rattle.std.proofs.Common.{◌≡◌, map, take}
-use Rattle.std.specs.List.{AllByRecursion}
+use Rattle.chr_sheet.proofs.Words.{AllByRecursion, IsVerdict, IsFitted, placed_as, trials_of}
 use Rattle.chr_search.specs.declared.judged.Verdict.TheVariants as verdicts
-use Rattle.chr_search.specs.Judged.{IsVerdict}
-use Rattle.chr_search.specs.Fronts.{IsFitted}
-use Rattle.chr_search.specs.Placed.{placed_as}
-use Rattle.chr_sheet.specs.Rows.{trials_of}
 use Rattle.chr_sheet.proofs.row.Row.count_misfits.Given as goal
 
 -- the trials so far are misfits

@@ -1,6 +1,5 @@
 use Rattle.std.proofs.Common.{Some, map, sym, ap, ◌∙◌}
-use Rattle.chr_search.specs.Placed.{placed_as}
-use Rattle.chr_sheet.specs.Rows.{Row}
+use Rattle.chr_sheet.proofs.Words.{placed_as, Row}
 use Rattle.chr_sheet.proofs.Rows.{IsCut, cut}
 use Rattle.chr_sheet.proofs.row.Row.cut.Goals as goal
 use Rattle.chr_sheet.proofs.row.Row.cut.Goals.{In-Some}

@@ -1,15 +1,13 @@
 use Rattle.std.proofs.Common.{[], ap, ◌∙◌, arith}
-use Rattle.chr_search.specs.Placed.{placed_as}
-use Rattle.chr_sheet.specs.Rows.{Row, trials_of}
-use Rattle.chr_sheet.proofs.Rows.{judged_row, none_before, told_none, told_some}
+use Rattle.chr_sheet.proofs.Words.{placed_as, Row, trials_of}
+use Rattle.chr_sheet.proofs.Rows.{judged_row, none_before, told_some}
 use Rattle.chr_sheet.proofs.row.Row.split_row.Goals as goal
 
 pub returns-then-is_empty : goal.returns-then-is_empty
 returns-then-is_empty g c =
     let r : Row = c.args.self in
     let k = c.in_ok-part.ensures in
-    let none = told_none c.in_ok-part.before.items c.in_ok-part.before.len c.is_empty.result c.is_empty.ensures c.if-is_empty.true (omega (arith, c.in_ok-part.before.ok.0)) in
-    (judged_row (trials_of r) [] c.args.index (none_before placed_as c.in_ok-part.part c.in_ok-part.before.items none ∙ k.split.0), k.split.1)
+    (judged_row (trials_of r) [] c.args.index (none_before placed_as c.in_ok-part.part c.in_ok-part.before.items c.in_ok-part.before.len c.is_empty.result c.is_empty.ensures c.if-is_empty.true (omega (arith, c.in_ok-part.before.ok.0)) ∙ k.split.0), k.split.1)
 
 pub new-requires : goal.new-requires
 new-requires g c = c.in_ok-part.ensures.row (told_some placed_as c.in_ok-part.before.items c.in_ok-part.before.len c.is_empty.result c.is_empty.ensures c.if-is_empty.false (omega (arith, c.in_ok-part.before.ok.0)))

@@ -1,8 +1,6 @@
 use Rattle.std.proofs.Common.{Some, slice_get, sym, ap, ◌∙◌}
 use Rattle.std.proofs.lemmas.Result.{IfOk-weaker}
-use Rattle.chr_search.specs.Placed.{placed_as}
-use Rattle.chr_search.specs.Fronts.{lengthened}
-use Rattle.chr_sheet.specs.Kept.{trials_at}
+use Rattle.chr_sheet.proofs.Words.{placed_as, lengthened, trials_at}
 use Rattle.chr_sheet.proofs.Rows.{first_of}
 use Rattle.chr_sheet.proofs.trials.Trials.first.Goals as goal
 
