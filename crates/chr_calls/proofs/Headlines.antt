@@ -1,5 +1,5 @@
--- What a book keeps gives the headline, and runs keep it.
-use Rattle.std.proofs.Common.{◌≡◌, ℕ, zero, suc, List, [], ◌∷◌, Some, None, Result, refl, ◌∙◌, subst}
+-- The headline, and that no call moves the position of a search back.
+use Rattle.std.proofs.Common.{◌≡◌, ℕ, zero, suc, List, [], ◌∷◌, Some, None, Result, refl, ◌∙◌, subst, true, sym}
 use Rattle.chr_value.specs.Atoms.{Atom}
 use Rattle.chr_rule.specs.Rules.{Simpagation}
 use Rattle.chr_log.specs.declared.events.Version.TheVariants.{Two}
@@ -24,10 +24,9 @@ use Rattle.chr_calls.specs.Books.{BookState, opened, goal_state, events}
 use Rattle.chr_calls.specs.Calls.{Turns, Reports, FiresOrMisses, Drops}
 use Rattle.chr_calls.specs.Batches.{Batch, BatchReport, Batches, ReportsBatch, AreRight}
 use Rattle.chr_calls.specs.Runs.{Call, Run, posts_of, all_posts}
-use Rattle.chr_calls.specs.Runs as calls
 use Rattle.chr_calls.specs.Headline.{Headline, IsKept}
-use Rattle.chr_calls.proofs.Tickets.{goal_there, IsKeptTicket, ended_kept, book_kept}
-use Rattle.chr_calls.proofs.Leading.{HasPosted, Leads, leads_search, leads_same, leads_by}
+use Rattle.chr_calls.proofs.Tickets.{goal_there, IsKeptTicket, ended_kept, book_kept, numbered_within}
+use Rattle.chr_calls.proofs.Leading.{HasPosted, Leads, leads_search, leads_same, leads_by, Comes, was_plain, is_searched, is_over, Follow}
 use Rattle.chr_calls.proofs.Posting.{posts_lead, texts_lead}
 use Rattle.chr_calls.proofs.Claiming.{claims_lead}
 use Rattle.chr_calls.proofs.Marking.{put_downs_search, marks_search, strays_search}
@@ -35,6 +34,13 @@ use Rattle.chr_calls.proofs.Turning.{turns_search, reports_search}
 use Rattle.chr_calls.proofs.Batching.{batches_search, all_search}
 use Rattle.chr_calls.proofs.Fires.{fires_lead}
 use Rattle.chr_calls.proofs.Drops.{drops_lead}
+use Rattle.chr_model.specs.Goals.{Plain, Numbered}
+use Rattle.chr_search.specs.Positions.{at_or_after}
+use Rattle.chr_calls.specs.Moves.{NoneMovesBack}
+use Rattle.chr_calls.specs.Runs as calls
+use Rattle.chr_model.specs.Goals as goals
+
+-- ---- what a book keeps gives the headline, and runs keep it
 
 -- ---- a book as it is opened
 
@@ -101,3 +107,19 @@ pub run_headline : (rules : List (Simpagation ℕ)) (plans : PlanList) (names : 
 run_headline rules plans names limit posts n ps run =
     let leads = run_leads (opened rules plans names limit) posts n run in
     subst (Headline n) leads.posted (kept_headline n (leads.kept (opened_kept rules plans names limit ps)))
+
+-- ---- no call moves the position of a search back
+
+none_back : (b n : BookState) → Follow b.tickets n.tickets → NoneMovesBack b n
+none_back b n f t before after = of_comes (f.each t (numbered_within b.tickets t before.0 before.1))
+  where
+    of_comes : Comes (ticket_at b.tickets t) (ticket_at n.tickets t) → at_or_after (ticket_at b.tickets t).position (ticket_at n.tickets t).position ≡ true
+    of_comes (was_plain a e) = absurd (let z : Numbered before.0 ≡ Plain a = sym before.1 ∙ e in cc)
+    of_comes (is_searched e h) = h
+    of_comes (is_over e) = absurd (let z : Numbered after.0 ≡ goals.Ended = sym after.1 ∙ e in cc)
+
+pub call_moves : (b n : BookState) (seat : ℕ) → Call b seat n → IsKept b → NoneMovesBack b n
+call_moves b n seat call k = none_back b n ((call_leads b n seat call).follows k)
+
+pub run_moves : (b n : BookState) (posts : List (List (Atom ℕ))) → Run b posts n → IsKept b → NoneMovesBack b n
+run_moves b n posts run k = none_back b n ((run_leads b posts n run).follows k)

@@ -9,4 +9,3 @@ pub mod Batching
 pub mod Fires
 pub mod Drops
 pub mod Headlines
-pub mod Moving

@@ -31,12 +31,14 @@ pub fn opened_books_are_kept()
 {}
 
 /// Posts and claims keep what a book keeps.
+#[tactic(auto, using(crate::proofs::Posting::posts_keep, crate::proofs::Claiming::claims_keep))]
 pub fn posts_and_claims_keep()
     ensures posts { (b n : BookState) (seat : ℕ) (atoms : List (Atom ℕ)) (answer : Result ℕ PostFault) → Posts b seat atoms answer n → IsKept b → IsKept n }
     ensures claims { (b n : BookState) (seat t : ℕ) (answer : Result ℕ ClaimFault) → Claims b seat t answer n → IsKept b → IsKept n }
 {}
 
 /// So do trials, reports, firings and drops.
+#[tactic(auto, using(crate::proofs::Turning::turns_keep, crate::proofs::Turning::reports_keep, crate::proofs::Fires::fires_keep, crate::proofs::Drops::drops_keep))]
 pub fn searches_keep()
     ensures turns { (b n : BookState) (seat t : ℕ) (answer : Result Turn TurnFault) → Turns b seat t answer n → IsKept b → IsKept n }
     ensures reports { (b n : BookState) (seat t : ℕ) (j : Judgement) (answer : Result (Unit {0}) ReportFault) → IsVerdict j.trial j.verdict → Reports b seat t j answer n → IsKept b → IsKept n }
@@ -45,12 +47,14 @@ pub fn searches_keep()
 {}
 
 /// So do batches, and reports of batches.
+#[tactic(auto, using(crate::proofs::Batching::batches_keep, crate::proofs::Batching::batch_reports_keep))]
 pub fn batches_keep()
     ensures batches { (b n : BookState) (seat t : ℕ) (answer : Result Batch TurnFault) → Batches b seat t answer n → IsKept b → IsKept n }
     ensures reports { (b n : BookState) (seat t : ℕ) (js : List Judgement) (answer : BatchReport) → AreRight js → ReportsBatch b seat t js answer n → IsKept b → IsKept n }
 {}
 
 /// So do tickets that are put down, and stray marks.
+#[tactic(auto, using(crate::proofs::Marking::put_downs_keep, crate::proofs::Marking::marks_keep))]
 pub fn marks_keep()
     ensures put_downs { (b n : BookState) (seat t : ℕ) (answer : Result (Unit {0}) PutDownFault) → PutsDown b seat t answer n → IsKept b → IsKept n }
     ensures marks { (b n : BookState) (t : ℕ) (answer : Result (Unit {0}) MarkFault) → Marks b t answer n → IsKept b → IsKept n }
@@ -65,6 +69,7 @@ pub fn no_search_moves_back()
 
 /// A report that is taken moves the search on, alone or in a batch; so does a trial that is missed, and one that fires
 /// where its goal lives on.
+#[tactic(auto, using(crate::proofs::Batching::report_batch_moves, crate::proofs::Fires::missed_moves))]
 pub fn searches_move_on()
     ensures reports { (b n : BookState) (seat t : ℕ) (j : Judgement) (done : Unit {0}) → Reports b seat t j (Ok done) n → IsKept b → MovesOn b t n }
     ensures batches { (b n : BookState) (seat t : ℕ) (js : List Judgement) (answer : BatchReport) → AreRight js → ReportsBatch b seat t js answer n → 1 ≤ answer.reported → IsKept b → MovesOn b t n }
@@ -73,11 +78,13 @@ pub fn searches_move_on()
 {}
 
 /// What a book keeps gives the headline, for what its log posts.
+#[tactic(auto, using(crate::proofs::Headlines::kept_headline))]
 pub fn kept_books_have_the_headline()
     ensures { (b : BookState) → IsKept b → Headline b (posted_by (events b)) }
 {}
 
 /// The headline: it holds after any run from a book as it is opened, for the atoms that the run posts.
+#[tactic(auto, using(crate::proofs::Headlines::run_headline))]
 pub fn runs_have_the_headline()
     ensures { (rules : List (Simpagation ℕ)) (plans : PlanList) (names : List (List ℕ)) (limit : ℕ) (posts : List (List (Atom ℕ))) (n : BookState)
         → ArePlans rules plans → Run (opened rules plans names limit) posts n → Headline n (all_posts posts) }

@@ -1,4 +1,4 @@
-use Rattle.chr_calls.proofs.Moving.{call_moves, run_moves}
+use Rattle.chr_calls.proofs.Headlines.{call_moves, run_moves}
 use Rattle.chr_calls.proofs.laws.no_search_moves_back.Goals as goal
 
 pub returns-clause-calls : goal.returns-clause-calls

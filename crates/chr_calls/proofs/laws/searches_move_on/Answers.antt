@@ -1,16 +1,9 @@
 use Rattle.chr_calls.proofs.Turning.{report_moves}
-use Rattle.chr_calls.proofs.Batching.{report_batch_moves}
-use Rattle.chr_calls.proofs.Fires.{missed_moves, fired_moves}
+use Rattle.chr_calls.proofs.Fires.{fired_moves}
 use Rattle.chr_calls.proofs.laws.searches_move_on.Goals as goal
 
 pub returns-clause-reports : goal.returns-clause-reports
 returns-clause-reports c = report_moves
-
-pub returns-clause-batches : goal.returns-clause-batches
-returns-clause-batches c = report_batch_moves
-
-pub returns-clause-missed : goal.returns-clause-missed
-returns-clause-missed c = missed_moves
 
 pub returns-clause-fired : goal.returns-clause-fired
 returns-clause-fired c = fired_moves
