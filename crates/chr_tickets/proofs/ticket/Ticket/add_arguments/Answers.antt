@@ -1,7 +1,7 @@
 use Rattle.std.proofs.Common.{◌≡◌, false, ap, sym, ◌∙◌}
 use Rattle.std.proofs.lemmas.Result.{IfOk-weaker}
 use Rattle.chr_calls.specs.Tickets.{Ticket, waiting, marked}
-use Rattle.chr_tickets.proofs.States.{shown_stray}
+use Rattle.chr_tickets.proofs.Changes.{shown_stray}
 use Rattle.chr_tickets.proofs.ticket.Ticket.add_arguments.Goals as goal
 
 pub returns-clause-made : goal.returns-clause-made

@@ -1,7 +1,6 @@
 use Rattle.std.proofs.Common.{refl, arith}
 use Rattle.chr_calls.specs.Tickets.{Ticket, activated_by}
-use Rattle.chr_tickets.proofs.Changes.{open_at, changed, still_queued}
-use Rattle.chr_tickets.proofs.States.{waiting_open}
+use Rattle.chr_tickets.proofs.Changes.{open_at, changed, still_queued, waiting_open}
 use Rattle.chr_tickets.proofs.tickets.Tickets.activate.Goals as goal
 
 pub open_at-found-requires : goal.open_at-found-requires

@@ -1,9 +1,7 @@
 use Rattle.std.proofs.Common.{arith}
 use Rattle.chr_search.specs.Answers.{after_judging}
 use Rattle.chr_calls.specs.Tickets.{going_on}
-use Rattle.chr_tickets.proofs.Changes.{open_at, changed, still_queued}
-use Rattle.chr_tickets.proofs.Listed.{same_mark}
-use Rattle.chr_tickets.proofs.States.{active_open, active_here}
+use Rattle.chr_tickets.proofs.Changes.{open_at, changed, still_queued, same_mark, active_open, active_here}
 use Rattle.chr_tickets.proofs.tickets.Tickets.advance.Goals as goal
 
 pub open_at-found-requires : goal.open_at-found-requires

@@ -1,7 +1,7 @@
 use Rattle.std.proofs.Common.{◌≤◌, set, length, sym, ap, ◌∙◌, arith}
 use Rattle.std.proofs.lemmas.List.{set-get_or, length-drop}
 use Rattle.chr_calls.specs.Tickets.{ended}
-use Rattle.chr_tickets.proofs.Listed.{missing}
+use Rattle.chr_tickets.proofs.Changes.{missing}
 use Rattle.chr_tickets.proofs.Ends.{ended_first, ended_behind, queued_behind, unmarked_end}
 use Rattle.chr_tickets.proofs.tickets.Tickets.end.Goals as goal
 

@@ -1,8 +1,8 @@
 use Rattle.std.proofs.Common.{◌+◌, ◌<◌, length, refl, ap, ◌∙◌, arith}
 use Rattle.chr_calls.specs.Tickets.{Ticket}
 use Rattle.chr_tickets.specs.Listed.{shown_or_ended}
-use Rattle.chr_tickets.proofs.States.{shown_stray}
-use Rattle.chr_tickets.proofs.Walks.{below_start, at_place, next_place, least, none_left}
+use Rattle.chr_tickets.proofs.Changes.{shown_stray}
+use Rattle.chr_tickets.proofs.Ends.{below_start, at_place, next_place, least, none_left}
 use Rattle.chr_tickets.proofs.tickets.Tickets.first_stray.Goals as goal
 use Rattle.chr_tickets.proofs.tickets.Tickets.first_stray.Goals.{in-Some+else-found, in_default}
 

@@ -1,6 +1,6 @@
 use Rattle.std.proofs.Common.{◌+◌}
 use Rattle.chr_calls.specs.Tickets.{Ticket}
-use Rattle.chr_tickets.proofs.Walks.{NonePassBelow}
+use Rattle.chr_tickets.proofs.Ends.{NonePassBelow}
 use Rattle.chr_tickets.proofs.tickets.Tickets.first_stray.Given as goal
 
 abbrev pub invariant-loop-at : goal.invariant-loop-at

@@ -4,7 +4,7 @@ use Rattle.std.proofs.lemmas.Bool.{cases_lt, false≢true}
 use Rattle.chr_calls.specs.Tickets.{ended, ticket_at}
 use Rattle.chr_tickets.specs.Open.{shown_ticket}
 use Rattle.chr_tickets.specs.Listed.{shown_or_ended}
-use Rattle.chr_tickets.proofs.Listed.{placed, missing, here}
+use Rattle.chr_tickets.proofs.Changes.{placed, missing, here}
 use Rattle.chr_tickets.proofs.tickets.Tickets.found.Goals as goal
 
 pub returns-in_err-found-clause-ticket : goal.returns-in_err-found-clause-ticket

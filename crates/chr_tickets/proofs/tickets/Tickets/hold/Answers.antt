@@ -1,7 +1,6 @@
 use Rattle.std.proofs.Common.{refl, arith}
 use Rattle.chr_calls.specs.Tickets.{held_by}
-use Rattle.chr_tickets.proofs.Changes.{open_at, changed, still_queued}
-use Rattle.chr_tickets.proofs.States.{resting_open, resting_active}
+use Rattle.chr_tickets.proofs.Changes.{open_at, changed, still_queued, resting_open, resting_active}
 use Rattle.chr_tickets.proofs.tickets.Tickets.hold.Goals as goal
 
 pub open_at-found-requires : goal.open_at-found-requires

@@ -1,7 +1,6 @@
 use Rattle.std.proofs.Common.{true, arith}
 use Rattle.chr_calls.specs.Tickets.{marked}
-use Rattle.chr_tickets.proofs.Changes.{open_at, changed, still_queued}
-use Rattle.chr_tickets.proofs.States.{claimable_open, shown_marked}
+use Rattle.chr_tickets.proofs.Changes.{open_at, changed, still_queued, claimable_open, shown_marked}
 use Rattle.chr_tickets.proofs.tickets.Tickets.mark.Goals as goal
 
 pub open_at-found-requires : goal.open_at-found-requires

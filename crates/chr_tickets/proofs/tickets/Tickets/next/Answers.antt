@@ -1,5 +1,5 @@
 use Rattle.std.proofs.Common.{◌≡◌, ◌∙◌, ◌+◌, ap, sym, length, arith}
-use Rattle.chr_tickets.proofs.Listed.{length_listed}
+use Rattle.chr_tickets.proofs.Changes.{length_listed}
 use Rattle.chr_tickets.proofs.tickets.Tickets.next.Goals as goal
 
 pub returns-clause-value : goal.returns-clause-value

@@ -1,7 +1,7 @@
 use Rattle.std.proofs.Common.{◌≡◌, ◌+◌, ◌<◌, length, refl, sym, ap, ◌∙◌, arith}
 use Rattle.chr_tickets.specs.Listed.{shown_or_ended}
-use Rattle.chr_tickets.proofs.Listed.{length_listed}
-use Rattle.chr_tickets.proofs.Walks.{free, below_first, at_place, next_place, least_for, none_left, none_for}
+use Rattle.chr_tickets.proofs.Changes.{length_listed}
+use Rattle.chr_tickets.proofs.Ends.{free, below_first, at_place, next_place, least_for, none_left, none_for}
 use Rattle.chr_tickets.proofs.tickets.Tickets.next_for.Goals as goal
 use Rattle.chr_tickets.proofs.tickets.Tickets.next_for.Goals.{in-Some+else-is_free_for, in_default}
 

@@ -1,5 +1,5 @@
 use Rattle.std.proofs.Common.{◌+◌}
-use Rattle.chr_tickets.proofs.Walks.{NonePassBelow, free}
+use Rattle.chr_tickets.proofs.Ends.{NonePassBelow, free}
 use Rattle.chr_tickets.proofs.tickets.Tickets.next_for.Given as goal
 
 abbrev pub invariant-loop-at : goal.invariant-loop-at

@@ -4,10 +4,7 @@ use Rattle.chr_search.specs.Trials.{older}
 use Rattle.chr_calls.specs.Tickets.{Ticket, ticket_at}
 use Rattle.chr_tickets.specs.Open.{shown_ticket}
 use Rattle.chr_tickets.specs.Passed.{PassesOver}
-use Rattle.chr_tickets.proofs.Changes.{open_at, seen, still_queued}
-use Rattle.chr_tickets.proofs.Listed.{same_mark}
-use Rattle.chr_tickets.proofs.Passed.{still_unmarked, tickets_are, ticket_is}
-use Rattle.chr_tickets.proofs.States.{active_open, active_here}
+use Rattle.chr_tickets.proofs.Changes.{open_at, seen, still_queued, same_mark, still_unmarked, tickets_are, ticket_is, active_open, active_here}
 use Rattle.chr_tickets.proofs.tickets.Tickets.pass_over.Given.{Over}
 use Rattle.chr_tickets.proofs.tickets.Tickets.pass_over.Goals as goal
 use Rattle.chr_tickets.proofs.tickets.Tickets.pass_over.Goals.{After-pass_over}

@@ -1,7 +1,7 @@
 use Rattle.std.proofs.Common.{◌≡◌, ◌++◌, ◌∷◌, ◌+◌, [], Some, length, ap, sym, subst, ◌∙◌, List, arith}
 use Rattle.chr_calls.specs.Tickets.{Ticket, waiting}
 use Rattle.chr_tickets.specs.Listed.{Slot, listed, AreQueued}
-use Rattle.chr_tickets.proofs.Listed.{length_listed}
+use Rattle.chr_tickets.proofs.Changes.{length_listed}
 use Rattle.chr_tickets.proofs.Ends.{listed_push, queued_push}
 use Rattle.chr_tickets.proofs.tickets.Tickets.push.Goals as goal
 

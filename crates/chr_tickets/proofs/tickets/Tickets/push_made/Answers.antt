@@ -2,9 +2,7 @@ use Rattle.std.proofs.Common.{◌≡◌, ◌-◌, ◌++◌, ◌∷◌, [], take,
 use Rattle.chr_calls.specs.Tickets.{Ticket, waiting}
 use Rattle.chr_tickets.specs.Open.{shown_ticket}
 use Rattle.chr_tickets.specs.Listed.{listed, AreQueued}
-use Rattle.chr_tickets.proofs.Changes.{open_at, seen, still_queued}
-use Rattle.chr_tickets.proofs.Made.{made_is, made_set, made_gone, made_open, adds}
-use Rattle.chr_tickets.proofs.Passed.{tickets_are}
+use Rattle.chr_tickets.proofs.Changes.{open_at, seen, still_queued, made_is, made_set, made_gone, made_open, adds, tickets_are}
 use Rattle.chr_tickets.proofs.tickets.Tickets.push_made.Given.{Over}
 use Rattle.chr_tickets.proofs.tickets.Tickets.push_made.Goals as goal
 use Rattle.chr_tickets.proofs.tickets.Tickets.push_made.Goals.{After-open_at-found, After-add_arguments}

@@ -1,7 +1,6 @@
 use Rattle.std.proofs.Common.{arith}
 use Rattle.chr_calls.specs.Tickets.{put_down}
-use Rattle.chr_tickets.proofs.Changes.{open_at, changed, still_queued}
-use Rattle.chr_tickets.proofs.States.{active_open, active_here}
+use Rattle.chr_tickets.proofs.Changes.{open_at, changed, still_queued, active_open, active_here}
 use Rattle.chr_tickets.proofs.tickets.Tickets.put_down.Goals as goal
 
 pub open_at-found-requires : goal.open_at-found-requires

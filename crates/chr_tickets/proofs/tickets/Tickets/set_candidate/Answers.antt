@@ -1,8 +1,6 @@
 use Rattle.std.proofs.Common.{arith}
 use Rattle.chr_calls.specs.Tickets.{with_candidate}
-use Rattle.chr_tickets.proofs.Changes.{open_at, changed, still_queued}
-use Rattle.chr_tickets.proofs.Listed.{same_mark}
-use Rattle.chr_tickets.proofs.States.{active_open, active_here}
+use Rattle.chr_tickets.proofs.Changes.{open_at, changed, still_queued, same_mark, active_open, active_here}
 use Rattle.chr_tickets.proofs.tickets.Tickets.set_candidate.Goals as goal
 
 pub open_at-found-requires : goal.open_at-found-requires

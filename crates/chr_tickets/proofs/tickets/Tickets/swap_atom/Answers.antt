@@ -1,9 +1,7 @@
 use Rattle.std.proofs.Common.{sym, ap, ◌∙◌, arith}
 use Rattle.chr_calls.specs.Tickets.{Ticket, atom_in}
 use Rattle.chr_tickets.specs.Open.{with_atom}
-use Rattle.chr_tickets.proofs.Changes.{open_at, seen, changed, still_queued}
-use Rattle.chr_tickets.proofs.Listed.{same_mark}
-use Rattle.chr_tickets.proofs.States.{waiting_open, waiting_here}
+use Rattle.chr_tickets.proofs.Changes.{open_at, seen, changed, still_queued, same_mark, waiting_open, waiting_here}
 use Rattle.chr_tickets.proofs.tickets.Tickets.swap_atom.Goals as goal
 
 pub open_at-found-requires : goal.open_at-found-requires

@@ -1,8 +1,7 @@
 use Rattle.std.proofs.Common.{false, refl, arith}
 use Rattle.chr_calls.specs.Tickets.{marked}
-use Rattle.chr_tickets.proofs.Changes.{open_at, changed, still_queued}
-use Rattle.chr_tickets.proofs.States.{stray_open, shown_marked}
-use Rattle.chr_tickets.proofs.Walks.{queued_least}
+use Rattle.chr_tickets.proofs.Changes.{open_at, changed, still_queued, stray_open, shown_marked}
+use Rattle.chr_tickets.proofs.Ends.{queued_least}
 use Rattle.chr_tickets.proofs.tickets.Tickets.take_stray.Goals as goal
 
 pub open_at-found-requires : goal.open_at-found-requires
