@@ -1,5 +1,6 @@
 -- Books that are alike to searches, and what is known of the trials in them.
 use Rattle.std.proofs.Common.{◌≡◌, ℕ, zero, suc, ◌+◌, ◌-◌, ⊎_elim, Bool, List, [], ◌∷◌, length, length-append, map, Option, Some, None, IfSome, IfOk, Ok, Err, Result, refl, sym, ◌∙◌, ap, ap₂, subst, arith}
+use Rattle.std.proofs.lemmas.List.{nil_from_length}
 use Rattle.chr_log.specs.Events.{Entry}
 use Rattle.chr_model.specs.Goals.{Numbered}
 use Rattle.chr_search.specs.Positions.{just_after}
@@ -16,7 +17,9 @@ use Rattle.chr_calls.specs.Batches.{Batch, Trials, Following, IsNextAfter, NoneA
 use Rattle.chr_calls.specs.Batches as batch
 use Rattle.chr_calls.proofs.Tickets.{ticket_same, numbered_within}
 use Rattle.chr_book.specs.Books.{IsHeldSearch}
-use Rattle.chr_seats.specs.Holds.{GoesOn}
+use Rattle.chr_seats.specs.declared.answers.HoldFault.{HoldFault}
+use Rattle.chr_seats.specs.Accounts.{SeatState}
+use Rattle.chr_seats.specs.Holds.{GoesOn, IsHold, Makes}
 use Rattle.chr_seats.specs.Versions.{AreAlike, IsVersion, IsVersionOf, IsSearchOf, AreKnownNext, IsKnownOf, IsKnownAfter}
 
 pub alike_self : (b : BookState) → AreAlike b b
@@ -79,17 +82,27 @@ search_of now inside b seat t version search view is of held =
 
 -- the same of what may be known, in a hold
 module _ {K : Type 0} (version : K → Option BookState) (search : K → SearchState) where
-  pub all_given : (known : Option K) (b : BookState) (seat t most : ℕ) (given : Result Batch TurnFault) (n : BookState) (mid now : Option BookState) (number : ℕ) → Sheets b seat t most given n → mid ≡ Some n → now ≡ mid → number ≡ seat
-      → IfSome known (λ k. IsSearchOf now number t (version k) (search k)) → IfSome known (λ k. IsKnownOf (version k) (search k) given)
-  all_given None b seat t most given n mid now number h is same seats k = tt
-  all_given (Some x) b seat t most given n mid now number h is same seats k =
-      given_known b seat t most given n now (version x) (search x) h (same ∙ is) (subst (λ s. IsSearchOf now s t (version x) (search x)) seats k)
+  -- so far as a search may be known
+  some_given : (known : Option K) (b : BookState) (seat t most : ℕ) (given : Result Batch TurnFault) (n : BookState) (now : Option BookState) → Sheets b seat t most given n → now ≡ Some n
+      → IfSome known (λ k. IsSearchOf now seat t (version k) (search k)) → IfSome known (λ k. IsKnownOf (version k) (search k) given)
+  some_given None b seat t most given n now h is k = tt
+  some_given (Some x) b seat t most given n now h is k = given_known b seat t most given n now (version x) (search x) h is k
 
-  pub all_claimed : (known : Option K) (b : BookState) (seat t most : ℕ) (claimed : Result (Result Batch TurnFault) ClaimFault) (n : BookState) (mid now : Option BookState) (number : ℕ) → ClaimsSheet b seat t most claimed n → mid ≡ Some n → now ≡ mid → number ≡ seat
-      → IfSome known (λ k. IsSearchOf now number t (version k) (search k)) → IfSome known (λ k. IfOk claimed (λ given. IsKnownOf (version k) (search k) given))
-  all_claimed None b seat t most claimed n mid now number h is same seats k = tt
-  all_claimed (Some x) b seat t most (Err fault) n mid now number h is same seats k = tt
-  all_claimed (Some x) b seat t most (Ok given) n mid now number h is same seats k = all_given (Some x) h.1 seat t most given n mid now number h.3 is same seats k
+  some_claimed : (known : Option K) (b : BookState) (seat t most : ℕ) (claimed : Result (Result Batch TurnFault) ClaimFault) (n : BookState) (now : Option BookState) → ClaimsSheet b seat t most claimed n → now ≡ Some n
+      → IfSome known (λ k. IsSearchOf now seat t (version k) (search k)) → IfSome known (λ k. IfOk claimed (λ given. IsKnownOf (version k) (search k) given))
+  some_claimed None b seat t most claimed n now h is k = tt
+  some_claimed (Some x) b seat t most (Err fault) n now h is k = tt
+  some_claimed (Some x) b seat t most (Ok given) n now h is k = some_given (Some x) h.1 seat t most given n now h.3 is k
+
+  pub all_given : {X : Type 0} (given : X → Result Batch TurnFault) (old new : Option BookState) (seat after : SeatState) (t most : ℕ) (r : Result (X × Option K) HoldFault) → IsHold (λ b answer n. Sheets b seat.number t most (given answer.0) n) old seat r new after
+      → IfOk r (λ a. IfSome a.1 (λ k. IsSearchOf new seat.number t (version k) (search k))) → IfOk r (λ a. IfSome a.1 (λ k. IsKnownOf (version k) (search k) (given a.0)))
+  all_given given old new seat after t most (Err fault) h k = tt
+  all_given given old new seat after t most (Ok a) h k = some_given a.1 h.book seat.number t most (given a.0) h.next new h.call h.is_next k
+
+  pub all_claimed : {X : Type 0} (claimed : X → Result (Result Batch TurnFault) ClaimFault) (old new : Option BookState) (seat after : SeatState) (t most : ℕ) (r : Result (X × Option K) HoldFault) → IsHold (λ b answer n. ClaimsSheet b seat.number t most (claimed answer.0) n) old seat r new after
+      → IfOk r (λ a. IfSome a.1 (λ k. IsSearchOf new seat.number t (version k) (search k))) → IfOk r (λ a. IfSome a.1 (λ k. IfOk (claimed a.0) (λ given. IsKnownOf (version k) (search k) given)))
+  all_claimed claimed old new seat after t most (Err fault) h k = tt
+  all_claimed claimed old new seat after t most (Ok a) h k = some_claimed a.1 h.book seat.number t most (claimed a.0) h.next new h.call h.is_next k
 
   pub all_following : (known : Option K) (b : BookState) (seat t most : ℕ) (js : List Judgement) (reported : ℕ) (following : Following) (n : BookState) (mid now : Option BookState) (number : ℕ) → ReportsSheet b seat t most js reported following n → mid ≡ Some n → now ≡ mid → number ≡ seat
       → IfSome known (λ k. IsSearchOf now number t (version k) (search k)) → IfSome known (λ k. IsKnownAfter (version k) (search k) following)
@@ -97,7 +110,11 @@ module _ {K : Type 0} (version : K → Option BookState) (search : K → SearchS
   all_following (Some x) b seat t most js reported (batch.Fire answer) n mid now number h is same seats k = tt
   all_following (Some x) b seat t most js reported (batch.Drop answer) n mid now number h is same seats k = tt
   all_following (Some x) b seat t most js reported (batch.Nothing fault) n mid now number h is same seats k = tt
-  all_following (Some x) b seat t most js reported (batch.Sheet given) n mid now number h is same seats k = all_given (Some x) h.asked seat t most given n mid now number h.follows.3 is same seats k
+  all_following (Some x) b seat t most js reported (batch.Sheet given) n mid now number h is same seats k = some_given (Some x) h.asked seat t most given n now h.follows.3 (same ∙ is) (subst (λ s. IsSearchOf now s t (version x) (search x)) seats k)
+
+-- a hold leaves what is there then
+pub makes_in : {Call : BookState → BookState → Type 0} {old mid now : Option BookState} {seat after : SeatState} → now ≡ mid → Makes Call old seat mid after → Makes Call old seat now after
+makes_in {Call} {old} {mid} {now} {seat} {after} same made = subst (λ k. Makes Call old seat k after) (sym same) made
 
 -- what is known of trials is known of those of them that are judged
 judged_next : (s : Space) (place : List ℕ) (ts : List Trial) (js : List Judgement) → AreNextInOrder s place ts → AreJudgedInOrder ts js → AreNextInOrder s place (map (λ (j : Judgement). j.trial) js)
@@ -110,12 +127,9 @@ judged_next s place (t ∷ ts) (j ∷ js) next judged =
     (λ more. (here, subst (λ u. AreNextInOrder s (just_after (position u)) (map (λ (k : Judgement). k.trial) js)) (sym judged.0) (judged_next s (just_after (position t)) ts js next.1 more.1)))
     judged.1
 
-pub judged_known : (version : Option BookState) (search : SearchState) (ts : List Trial) (js : List Judgement) → AreKnownNext version search ts → AreJudgedInOrder ts js → AreKnownNext version search (map (λ (j : Judgement). j.trial) js)
-judged_known version search ts js k judged = record { book = k.book; is = k.is; next = judged_next (space_of k.book search.label) search.place ts js k.next judged }
-
 pub all_judged : {K : Type 0} (version : K → Option BookState) (search : K → SearchState) (known : Option K) (ts : List Trial) (js : List Judgement) → IfSome known (λ k. AreKnownNext (version k) (search k) ts) → AreJudgedInOrder ts js → IfSome known (λ k. AreKnownNext (version k) (search k) (map (λ (j : Judgement). j.trial) js))
 all_judged version search None ts js k judged = tt
-all_judged version search (Some x) ts js k judged = judged_known (version x) (search x) ts js k judged
+all_judged version search (Some x) ts js k judged = record { book = k.book; is = k.is; next = judged_next (space_of k.book (search x).label) (search x).place ts js k.next judged }
 
 -- what is known of trials in the last version holds in the book, where its log is as long as at that version
 pub known_here : (book : Option BookState) (entries : ℕ) (version : Option BookState) (b : BookState) (search : SearchState) (ts : List Trial) → IsVersion book entries version → book ≡ Some b → entries ≡ length b.log → AreKnownNext version search ts → AreNextInOrder (space_of b search.label) search.place ts
@@ -134,12 +148,8 @@ version_on posts seat book b n entries (Some v) on there is =
       λ e.
           let none : length on.more ≡ 0 = omega (arith, at.0) in
           let same : entries ≡ length b.log = omega (arith, at.0) in
-          alike_then v b n (at.1 same) (on.still (empty on.more none)),
+          alike_then v b n (at.1 same) (on.still (nil_from_length on.more none)),
     )
-  where
-    empty : (es : List (Entry ℕ)) → length es ≡ 0 → es ≡ []
-    empty [] e = refl
-    empty (x ∷ es) e = absurd (omega arith)
 
 -- a version that is added, and one that is there already
 pub version_added : (book : Option BookState) (b : BookState) (entries : ℕ) (version : Option BookState) → book ≡ Some b → version ≡ Some b → entries ≡ length b.log → IsVersion book entries version × IsVersionOf book version

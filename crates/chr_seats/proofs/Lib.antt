@@ -1,4 +1,3 @@
 pub mod Accounts
 pub mod Alike
 pub mod Lines
-pub mod Left

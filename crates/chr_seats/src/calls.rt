@@ -50,6 +50,7 @@ impl<A: Allocator + Copy> Call<A, Result<Label, ClaimFault>> for Claim {
 
     ghost needs = { λ c b. ⊤ };
 
+    #[tactic(auto, using(crate::proofs::Lines::claims_go_on))]
     fn make(self, book: &mut Book<A>, seat: u32) -> Result<Label, ClaimFault> {
         book.claim(seat, self.ticket)
     }
@@ -69,6 +70,7 @@ impl<A: Allocator + Copy> Call<A, Result<Sheet<A>, TurnFault>> for AskSheet {
 
     ghost needs = { λ c b. ⊤ };
 
+    #[tactic(auto, using(crate::proofs::Lines::gives_go_on))]
     fn make(self, book: &mut Book<A>, seat: u32) -> Result<Sheet<A>, TurnFault> {
         book.sheet(seat, self.ticket, self.most)
     }
@@ -88,6 +90,7 @@ impl<A: Allocator + Copy> Call<A, Result<Result<Sheet<A>, TurnFault>, ClaimFault
 
     ghost needs = { λ c b. ⊤ };
 
+    #[tactic(auto, using(crate::proofs::Lines::claims_sheet_goes_on))]
     fn make(
         self,
         book: &mut Book<A>,
@@ -151,6 +154,7 @@ impl<'a, A: Allocator + Copy> Call<A, Result<Firing, FireFault>> for Fire<'a, A>
 
     ghost needs = { λ c b. ⊤ };
 
+    #[tactic(auto, using(crate::proofs::Lines::fires_go_on))]
     fn make(self, book: &mut Book<A>, seat: u32) -> Result<Firing, FireFault> {
         book.fire(seat, self.ticket, self.judged)
     }
@@ -169,6 +173,7 @@ impl<A: Allocator + Copy> Call<A, Result<Dropping, DropFault>> for DropGoal {
 
     ghost needs = { λ c b. ⊤ };
 
+    #[tactic(auto, using(crate::proofs::Lines::drops_go_on))]
     fn make(self, book: &mut Book<A>, seat: u32) -> Result<Dropping, DropFault> {
         book.drop_goal(seat, self.ticket)
     }
@@ -205,6 +210,7 @@ impl<'a, A: Allocator + Copy> Call<A, Result<Posted, ReadError>> for PostText<'a
 
     ghost needs = { λ c b. ⊤ };
 
+    #[tactic(auto, using(crate::proofs::Lines::text_goes_on))]
     fn make(self, book: &mut Book<A>, seat: u32) -> Result<Posted, ReadError> {
         book.post_text(seat, self.bytes)
     }

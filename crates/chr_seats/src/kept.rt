@@ -11,12 +11,12 @@ ghost use Rattle.chr_seats.specs.Holds.{GoesOn, HasHeadline, HasRightCounts, IsH
 use crate::answers::HoldFault;
 use crate::calls::{AskSheet, Call, ClaimSheet, ReportSheet};
 use crate::counts::Counts;
-use crate::known::{Known, KnownJudgements};
+use crate::known::{Given, Known, KnownJudgements, Taken};
 use crate::seat::{Blanks, PostLedger, SESSION_SEATS, Seat, Seats, WORKER_SEATS};
 use crate::seating::{merge_all, merged, seat_all};
 use crate::tally::{none_yet, tally};
 use chr_book::Book;
-use chr_calls::{ClaimFault, Following, MarkFault, Sheet, SheetReport, TicketState, TurnFault};
+use chr_calls::{Following, MarkFault, SheetReport, TicketState};
 use chr_search::Search;
 use chr_versions::{Version, Versions};
 use std::alloc::{AllocError, Allocator};
@@ -328,42 +328,40 @@ impl<L1: PostLedger, L2: Ledger, A: Allocator + Copy> Kept<L1, L2, A> {
         Some(&known.search)
     }
 
-    /// The next trials of a ticket, and the search in which they are known to come next, if it is known.
-    pub fn sheet(
+    /// Makes a call by a seat that adds no posts, and looks for the search of a ticket then.
+    fn hold_known<X, C: Call<A, X> + Drop>(
         &mut self,
         seat: &mut Seat<L1, L2>,
         ticket: u64,
-        most: usize,
-    ) -> Result<(Result<Sheet<A>, TurnFault>, Option<Known<L1, A>>), HoldFault>
+        call: C,
+    ) -> Result<(X, Option<Known<L1, A>>), HoldFault>
+        requires posts { C.posts ≡ false }
+        requires needs { (b : BookState) → self.old ≡ Some b → C.needs call b }
+        ensures hold { IsHold (λ b answer n. C.line call seat.old.number b answer.0 n) self.old seat.old result self.new seat.new }
+        ensures posts { seat.new.counts.posts ≡ seat.old.counts.posts }
+        ensures known { IfOk result (λ r. IfSome r.1 (λ k. IsSearchOf self.new seat.old.number ticket k.version k.search)) }
+    {
+        let answer = self.hold(seat, call, false)?;
+        let known = self.known(seat.number, ticket);
+        Ok((answer, known))
+    }
+
+    /// The next trials of a ticket, and the search in which they are known to come next, if it is known.
+    pub fn sheet(&mut self, seat: &mut Seat<L1, L2>, ticket: u64, most: usize) -> Given<L1, A>
         ensures hold { IsHold (λ b answer n. Sheets b seat.old.number ticket most (sheet_of answer.0) n) self.old seat.old result self.new seat.new }
         ensures posts { seat.new.counts.posts ≡ seat.old.counts.posts }
         ensures known { IfOk result (λ r. IfSome r.1 (λ k. IsKnownOf k.version k.search (sheet_of r.0))) }
     {
-        let given = self.hold(seat, AskSheet { ticket, most }, false)?;
-        let known = self.known(seat.number, ticket);
-        Ok((given, known))
+        self.hold_known(seat, ticket, AskSheet { ticket, most })
     }
 
     /// Claims a ticket, and gives its first trials as [`sheet`](Kept::sheet) does.
-    pub fn claim_sheet(
-        &mut self,
-        seat: &mut Seat<L1, L2>,
-        ticket: u64,
-        most: usize,
-    ) -> Result<
-        (
-            Result<Result<Sheet<A>, TurnFault>, ClaimFault>,
-            Option<Known<L1, A>>,
-        ),
-        HoldFault,
-    >
+    pub fn claim_sheet(&mut self, seat: &mut Seat<L1, L2>, ticket: u64, most: usize) -> Taken<L1, A>
         ensures hold { IsHold (λ b answer n. ClaimsSheet b seat.old.number ticket most (claimed_of answer.0) n) self.old seat.old result self.new seat.new }
         ensures posts { seat.new.counts.posts ≡ seat.old.counts.posts }
         ensures known { IfOk result (λ r. IfSome r.1 (λ k. IfOk (claimed_of r.0) (IsKnownOf k.version k.search))) }
     {
-        let claimed = self.hold(seat, ClaimSheet { ticket, most }, false)?;
-        let known = self.known(seat.number, ticket);
-        Ok((claimed, known))
+        self.hold_known(seat, ticket, ClaimSheet { ticket, most })
     }
 
     /// Reports judgements, and makes the call that follows. Gives trials as [`sheet`](Kept::sheet) does.

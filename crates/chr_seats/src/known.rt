@@ -5,8 +5,10 @@ ghost use Rattle.chr_sheet.specs.Rows.{judgements_of};
 ghost use Rattle.chr_sheet.specs.Sheets.{AreJudgedInOrder};
 ghost use Rattle.chr_seats.specs.Versions.{AreKnownNext};
 
+use crate::answers::HoldFault;
 use crate::seat::PostLedger;
 use chr_book::Book;
+use chr_calls::{ClaimFault, Sheet, TurnFault};
 use chr_search::{Judged, Search};
 use chr_sheet::{Judgements, Trials, Watch, judge};
 use chr_versions::Version;
@@ -19,6 +21,18 @@ pub struct Known<L1: PostLedger, A: Allocator> {
     pub(crate) version: Version<L1, Book<A>>,
     pub(crate) search: Search,
 }
+
+/// What a ticket's next trials are given as, with the search in which they are known to come next, if it is known.
+pub type Given<L1, A> = Result<(Result<Sheet<A>, TurnFault>, Option<Known<L1, A>>), HoldFault>;
+
+/// What a claim with its ticket's first trials is given as, with that search.
+pub type Taken<L1, A> = Result<
+    (
+        Result<Result<Sheet<A>, TurnFault>, ClaimFault>,
+        Option<Known<L1, A>>,
+    ),
+    HoldFault,
+>;
 
 /// Trials of a sheet, and perhaps a search in which they are known to come next. Contracts see the trials.
 #[derive(Drop)]

@@ -33,5 +33,5 @@ pub use calls::{
 };
 pub use counts::Counts;
 pub use kept::Kept;
-pub use known::{Known, KnownJudgements, KnownTrials};
+pub use known::{Given, Known, KnownJudgements, KnownTrials, Taken};
 pub use seat::{Blanks, PostLedger, SEATS, SESSION_SEATS, Seat, Seats, WORKER_SEATS};

@@ -1,5 +1,5 @@
 use Rattle.std.proofs.Common.{length, ap, ◌∙◌, rules}
-use Rattle.chr_seats.proofs.Left.{grown, in_memory}
+use Rattle.chr_seats.proofs.Accounts.{grown, in_memory}
 use Rattle.chr_seats.proofs.kept.make.Goals as goal
 
 pub returns-clause-count : goal.returns-clause-count

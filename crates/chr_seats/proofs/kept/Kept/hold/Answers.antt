@@ -1,6 +1,6 @@
 use Rattle.std.proofs.Common.{rules, ◌∙◌, sym, refl}
 use Rattle.chr_seats.proofs.Alike.{version_on}
-use Rattle.chr_seats.proofs.Left.{left, fits}
+use Rattle.chr_seats.proofs.Accounts.{left, fits}
 use Rattle.chr_seats.proofs.kept.Kept.hold.Goals as goal
 
 pub raise-requires-clause-posts : goal.raise-requires-clause-posts
