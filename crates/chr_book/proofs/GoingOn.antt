@@ -1,52 +1,110 @@
--- Rounds of calls: the last one fires what was found whole or drops the goal, and a book keeps what it has.
-use Rattle.std.proofs.Common.{◌≡◌, inr, ℕ, ◌-◌, ◌<◌, length, take, arith, List, [], ◌∷◌, ◌++◌, Option, Some, None, Ok, refl, sym, ◌∙◌, ap, ap₂, subst, slice_set}
-use Rattle.std.proofs.lemmas.List.{set-set, length-set, append-nil}
-use Rattle.chr_value.specs.Atoms.{Value}
+-- Rounds of calls: trials are passed over one by one, and the last round fires what was found whole or drops the goal; those of a
+-- ticket that waits are made in the store as it is once its atom is entered, which it needn't be where what fires removes it.
+use Rattle.std.proofs.Common.{◌≡◌, ℕ, zero, suc, List, Option, Some, Ok, refl, sym, ◌∙◌, ap, subst, slice_set, inr, ◌-◌, ◌<◌, length, take, arith, [], ◌∷◌, ◌++◌, None, ap₂, ◌≢◌, ◌==◌, ◌+◌, ◌≤◌, true, false, not, if◌then◌else◌, inl, Result, Err, OnErr}
+use Rattle.std.proofs.lemmas.List.{set-get_or, set-set, length-set, append-nil, length-append, set-append_left, length-map, append_assoc}
+use Rattle.std.proofs.lemmas.Bool.Decides.{nat_tests}
+use Rattle.chr_value.specs.Atoms.{Value, Atom}
 use Rattle.chr_value.proofs.Chosen.{some_is}
-use Rattle.chr_log.specs.Events.{Entry, Drop}
 use Rattle.chr_rule.specs.Rules.{Simpagation, rule_at}
+use Rattle.chr_log.specs.Events.{Entry, Drop, Activate, Fire}
+use Rattle.chr_log.specs.declared.events.Version.TheVariants.{Two}
+use Rattle.chr_model.specs.Goals.{Goal, Plain, Numbered}
+use Rattle.chr_model.specs.Stores.{Store, atom_at, drop_label, without, among}
+use Rattle.chr_model.specs.Programs.{Instances}
+use Rattle.chr_model.proofs.Once.{Lawful-once}
+use Rattle.chr_model.proofs.Older.{store_below}
 use Rattle.chr_plan.specs.Plans.{PlanList}
 use Rattle.chr_store.specs.Labels.{LabelledStore}
-use Rattle.chr_model.specs.Goals.{Numbered}
-use Rattle.chr_search.specs.Reach.{SearchState}
-use Rattle.chr_search.specs.Trials.{Space, IsNext, NoneLeft}
+use Rattle.chr_search.specs.Trials.{IsNext, Space, NoneLeft, older}
 use Rattle.chr_search.specs.Verdicts.{position}
-use Rattle.chr_search.specs.Judged.{Judgement}
-use Rattle.chr_search.specs.Passing.{IsWholeNext, IsThen}
-use Rattle.chr_search.specs.declared.judged.Verdict.TheVariants as verdicts
-use Rattle.chr_search.specs.declared.search.Passed.{Passed}
-use Rattle.chr_search.specs.declared.search.Whole.{Whole}
+use Rattle.chr_search.specs.Answers.{after_judging}
+use Rattle.chr_search.specs.Passing.{PassesOne, Passes, IsWholeNext, IsThen}
 use Rattle.chr_search.specs.declared.search.Instance.{Instance}
+use Rattle.chr_search.specs.declared.search.Passed.{Passed}
+use Rattle.chr_search.specs.Reach.{SearchState}
+use Rattle.chr_search.specs.Judged.{Judgement}
+use Rattle.chr_search.specs.declared.search.Whole.{Whole}
 use Rattle.chr_search.specs.declared.search.Then.{Then}
+use Rattle.chr_search.specs.Positions.{beginning}
+use Rattle.chr_search.specs.declared.judged.Verdict.TheVariants as verdicts
 use Rattle.chr_search.specs.declared.search.Then.TheVariants as thens
-use Rattle.chr_calls.specs.declared.answers.Fired.{Fired}
-use Rattle.chr_calls.specs.declared.answers.Firing.TheVariants as firing
-use Rattle.chr_calls.specs.declared.answers.Dropping.TheVariants as dropping
 use Rattle.chr_calls.specs.Turns.{Next, Done}
-use Rattle.chr_calls.specs.Tickets.{Ticket, ended, with_candidate, ticket_at}
-use Rattle.chr_calls.specs.Books.{BookState, space_of, with_tickets, with_ticket, with_entry}
-use Rattle.chr_calls.specs.Calls.{HoldsLive, dropped, with_candidate_of}
+use Rattle.chr_calls.specs.Tickets.{Ticket, ended, going_on, ticket_at, with_candidate, waiting, activated_by, state_with, state_of, atom_in}
+use Rattle.chr_calls.specs.Books.{BookState, space_of, with_tickets, with_ticket, with_entry, events, goal_state}
+use Rattle.chr_calls.specs.Calls.{HoldsLive, with_candidate_of, dropped, Activates, Claims, activated}
 use Rattle.chr_calls.specs.Headline.{IsKept}
-use Rattle.chr_calls.proofs.Tickets.{ticket_same, numbered_within}
-use Rattle.chr_calls.proofs.Turning.{turns_keep}
+use Rattle.chr_calls.proofs.Tickets.{ticket_same, numbered_within, ticket_before, waiting_is}
+use Rattle.chr_calls.proofs.Turning.{turns_keep, reports_keep}
+use Rattle.chr_calls.specs.declared.answers.Fired.{Fired}
 use Rattle.chr_calls.proofs.Fires.{fires_keep}
 use Rattle.chr_calls.proofs.Drops.{drops_keep}
+use Rattle.chr_calls.specs.declared.answers.TicketState.TheVariants.{Unknown, Waiting, Held}
+use Rattle.chr_calls.proofs.Claiming.{activated_keeps, claims_keep}
+use Rattle.chr_calls.specs.declared.answers.Firing.TheVariants as firing
+use Rattle.chr_calls.specs.declared.answers.Dropping.TheVariants as dropping
+use Rattle.chr_tickets.specs.Passed.{gone_over, PassesOver}
+use Rattle.chr_tickets.specs.Open.{with_goal, with_atom}
+use Rattle.chr_book.specs.Given.{ComesNext}
+use Rattle.chr_book.specs.Passed.{PassesTrial, PassesTrials, FiresTrial, DropsGoal, IsLast, MakesRounds, MakesFewer, PassesMaking, PassesSome, StartsRounds, StartsFewer, PassesBefore}
+use Rattle.chr_book.proofs.Turns.{at_place, place_is, holds_at, holds_set, set_twice, next_turned, now_candidate, with_again, with_dropped}
 use Rattle.chr_book.specs.declared.rounds.Last.{Last}
-use Rattle.chr_book.specs.declared.rounds.Last.TheVariants as lasts
 use Rattle.chr_book.specs.declared.rounds.Rounds.{Rounds}
 use Rattle.chr_book.specs.Books.{book_of}
-use Rattle.chr_book.specs.Firings.{MakesFound, EndsRounds}
-use Rattle.chr_book.specs.Given.{ComesNext}
-use Rattle.chr_book.specs.Passed.{PassesTrials, FiresTrial, DropsGoal, IsLast, MakesRounds, MakesFewer, PassesMaking, PassesSome}
-use Rattle.chr_book.proofs.PostedBooks.{rest_back}
-use Rattle.chr_book.proofs.Passes.{IsPast, gone_past, passes_keep}
-use Rattle.chr_book.proofs.Nexts.{holds_set, next_turned}
-use Rattle.chr_book.proofs.Fired.{FiresWhole, goal_stays, IsWholeOf, next_is_live, with_fired, fires_there, fires_whole, next_fires}
+use Rattle.chr_book.specs.Firings.{MakesFound, EndsRounds, MakesBody, EntersGoal, FiresWaiting, EndsStart, fires, enters, EntersOrStays}
+use Rattle.chr_book.proofs.Fired.{rest_back, FiresWhole, goal_stays, IsWholeOf, next_is_live, with_fired, fires_there, fires_whole, next_fires}
+use Rattle.chr_book.specs.declared.rounds.Last.TheVariants as lasts
+
+-- ---- trials that are passed over
+
+-- one trial
+passes_one : (b : BookState) (seat t l : ℕ) (place after : List ℕ) → PassesOne (space_of b l) place after → HoldsLive b seat t l → (ticket_at b.tickets t).position ≡ place → PassesTrial seat t b (at_place b t after)
+passes_one b seat t l place after one h is =
+    let comes : ComesNext b seat t one.judged.trial = record { label = l; holds = h; is = record { next = subst (λ p. IsNext (space_of b l) p (position one.judged.trial)) (sym is) one.next; is = one.is; formed = one.formed } } in
+    record {
+      judged = one.judged;
+      right = one.right;
+      asked = with_candidate_of b t (Some one.judged.trial);
+      turns = next_turned b seat t one.judged.trial comes;
+      reports = (now_candidate b seat t one.judged.trial comes, one.other, ap (at_place b t) one.on ∙ sym (with_again b t l (Some one.judged.trial) (going_on (after_judging one.judged)) h.holds.goal));
+    }
+
+holds_on : (b : BookState) (seat t l : ℕ) (place : List ℕ) → HoldsLive b seat t l → HoldsLive (at_place b t place) seat t l
+holds_on b seat t l place h = record { holds = holds_at b seat t l place h.holds; live = h.live }
+
+-- several
+passes_all : (k : ℕ) (b : BookState) (seat t l : ℕ) (place after : List ℕ) → Passes (space_of b l) (suc k) place after → HoldsLive b seat t l → (ticket_at b.tickets t).position ≡ place → PassesTrials seat t (suc k) b (at_place b t after)
+passes_all zero b seat t l place after p h is = (at_place b t p.0, passes_one b seat t l place p.0 p.1 h is, ap (at_place b t) p.2)
+passes_all (suc k) b seat t l place after p h is =
+    let m = at_place b t p.0 in
+    let twice : at_place m t after ≡ at_place b t after = ap (with_tickets b) (set_twice b.tickets t (going_on p.0 (ticket_at b.tickets t)) (going_on after) (numbered_within b.tickets t l h.holds.goal)) in
+    (m, passes_one b seat t l place p.0 p.1 h is, subst (PassesTrials seat t (suc k) m) twice (passes_all k m seat t l p.0 after p.2 (holds_on b seat t l p.0 h) (place_is b t l p.0 h.holds.goal)))
+
+-- so many trials of a held live goal are passed over where the tickets are these: its search is at a place
+pub record IsPast (b : BookState) (seat t k l : ℕ) (place : List ℕ) (tickets : List Ticket) : Type 0 where
+  pub passes : PassesTrials seat t k b (with_tickets b tickets)
+  pub live : HoldsLive (with_tickets b tickets) seat t l
+  pub at : (ticket_at tickets t).position ≡ place
+
+pub is_past : (k : ℕ) (b : BookState) (seat t l : ℕ) (place : List ℕ) (tickets : List Ticket) → HoldsLive b seat t l → Passes (space_of b l) k (ticket_at b.tickets t).position place → tickets ≡ slice_set b.tickets t (gone_over k place (ticket_at b.tickets t)) → IsPast b seat t k l place tickets
+is_past zero b seat t l place tickets h p e = subst (IsPast b seat t 0 l place) (sym (e ∙ set-get_or b.tickets t ended)) (record { passes = refl; live = h; at = sym p })
+is_past (suc k) b seat t l place tickets h p e = subst (IsPast b seat t (suc k) l place) (sym e) (record {
+  passes = passes_all k b seat t l (ticket_at b.tickets t).position place p h refl;
+  live = holds_on b seat t l place h;
+  at = place_is b t l place h.holds.goal;
+})
+
+-- the ticket's search has passed over them
+pub gone_past : (b : BookState) (seat t l : ℕ) (passed : Passed) (instance : Instance) (binding : List (Option (Value ℕ))) (x : Ticket) → HoldsLive b seat t l → (over : PassesOver (space_of b l) passed instance binding (ticket_at b.tickets t) x) → IsPast b seat t passed.count l over.place (slice_set b.tickets t x)
+gone_past b seat t l passed instance binding x h over = is_past passed.count b seat t l over.place (slice_set b.tickets t x) h over.passes (ap (slice_set b.tickets t) over.after_is)
+
+-- what a book keeps
+pub passes_keep : (k : ℕ) (b n : BookState) (seat t : ℕ) → PassesTrials seat t k b n → IsKept b → IsKept n
+passes_keep zero b n seat t p kept = subst IsKept (sym p) kept
+passes_keep (suc k) b n seat t p kept =
+    let one = p.1 in
+    passes_keep k p.0 n seat t p.2 (reports_keep one.asked p.0 seat t one.judged (Ok tt) one.right one.reports (turns_keep b one.asked seat t (Ok (Next one.judged.trial)) one.turns kept))
 
 -- ---- a drop
-
-abbrev pub with_dropped : BookState → List (Entry ℕ) → List Ticket → BookState
-with_dropped b log tickets = record { rules = b.rules; plans = b.plans; names = b.names; limit = b.limit; log = log; store = b.store; next = b.next; tickets = tickets }
 
 drops_last : (b : BookState) (seat t l : ℕ) → HoldsLive b seat t l → NoneLeft (space_of b l) (ticket_at b.tickets t).position → DropsGoal seat t b (dropped b seat t)
 drops_last b seat t l h none =
@@ -107,8 +165,8 @@ makes_same {seat} {t} {k} {last} {other} {b} {n} {m} l e h =
 none_more : (now pushed more : List Ticket) → pushed ≡ now ++ more → more ≡ [] → pushed ≡ now
 none_more now pushed more e none = e ∙ ap (λ (m : List Ticket). now ++ m) none ∙ append-nil now
 
-pub ended_rounds : (rules : List (Simpagation ℕ)) (plans : PlanList) (names : List (List ℕ)) (log entries : List (Entry ℕ)) (st left : LabelledStore) (ts now more pushed tickets : List Ticket) (seat t k l : ℕ) (place : List ℕ) (then : Then) (i : Instance) (binding : List (Option (Value ℕ))) (last : Last)
-    → IsKept (book_of rules plans names log st ts) → IsPast (book_of rules plans names log st ts) seat t k l place now → IsThen (space_of (book_of rules plans names log st ts) l) place then i binding → MakesFound rules then i.whole binding more → pushed ≡ now ++ more → EndsRounds seat t then i.whole last pushed log st tickets entries left
+pub ended_rounds : (rules : List (Simpagation ℕ)) (plans : PlanList) (names : List (List ℕ)) (log entries : List (Entry ℕ)) (st left : LabelledStore) (ts now more pushed tickets : List Ticket) (seat t k l : ℕ) (place : List ℕ) (come : Then) (i : Instance) (binding : List (Option (Value ℕ))) (last : Last)
+    → IsKept (book_of rules plans names log st ts) → IsPast (book_of rules plans names log st ts) seat t k l place now → IsThen (space_of (book_of rules plans names log st ts) l) place come i binding → MakesFound rules come i.whole binding more → pushed ≡ now ++ more → EndsRounds seat t come i.whole last pushed log st tickets entries left
     → MakesRounds seat t (record { passed = k; last = last }) (book_of rules plans names log st ts) (book_of rules plans names entries left tickets)
 ended_rounds rules plans names log entries st left ts now more pushed tickets seat t k l place thens.More i binding last kept past next made e h =
     makes_same h.0 (book_same rules plans names h.2 h.3 (h.1 ∙ none_more now pushed more e made)) (record { middle = book_of rules plans names log st now; passes = past.passes; last = refl })
@@ -128,10 +186,11 @@ fewer_rounds rules plans names log entries st left ts now tickets seat t k l mos
   passes = subst (PassesTrials seat t k (book_of rules plans names log st ts)) (sym (book_same rules plans names e s x)) past.passes;
 }
 
-pub finds_label : (s : Space) (place : List ℕ) (come : Then) (i : Instance) (binding : List (Option (Value ℕ))) → IsThen s place come i binding → come ≡ thens.Whole → i.whole.past.label ≡ s.active
-finds_label s place come i binding next is =
+-- what is found is of a rule, and of the search's label
+pub finds : (s : Space) (place : List ℕ) (come : Then) (i : Instance) (binding : List (Option (Value ℕ))) → IsThen s place come i binding → come ≡ thens.Whole → ((rule : Simpagation ℕ) × (rule_at s.rules i.whole.number ≡ Some rule)) × (i.whole.past.label ≡ s.active)
+finds s place come i binding next is =
     let w : IsWholeNext s place i.whole binding = subst (λ c. IsThen s place c i binding) is next in
-    ap (λ (z : SearchState). z.label) w.past_is
+    ((w.trial.rule, ap (rule_at s.rules) w.number_is ∙ w.is.rule_is), ap (λ (z : SearchState). z.label) w.past_is)
 
 -- ---- the same by what the functions show
 
@@ -139,7 +198,7 @@ pub whole_goal : (b : BookState) (pushed : List Ticket) (seat t l : ℕ) (come :
 whole_goal b pushed seat t l come i w h found same is =
     let past = gone_past b seat t l come i found.binding found.x h found.over in
     goal_stays (slice_set b.tickets t found.x) pushed t l (found.more, found.tickets) past.live.holds.goal
-    ∙ ap Numbered (sym (finds_label (space_of b l) found.over.place come.then i found.binding found.over.next is) ∙ ap (λ (v : Whole). v.past.label) (sym same))
+    ∙ ap Numbered (sym (finds (space_of b l) found.over.place come.then i found.binding found.over.next is).1 ∙ ap (λ (v : Whole). v.past.label) (sym same))
 
 pub makes_rounds : (rules : List (Simpagation ℕ)) (plans : PlanList) (names : List (List ℕ)) (log entries : List (Entry ℕ)) (st left : LabelledStore) (ts pushed tickets : List Ticket) (seat t l : ℕ) (come : Passed) (i : Instance) (w : Whole) (last : Last)
     → IsKept (book_of rules plans names log st ts) → HoldsLive (book_of rules plans names log st ts) seat t l → PassesMaking (space_of (book_of rules plans names log st ts) l) t come i ts pushed → w ≡ i.whole → EndsRounds seat t come.then w last pushed log st tickets entries left
@@ -174,3 +233,288 @@ rounds_keep seat t r b n h kept = last_keeps r.last h.middle n seat t h.last (pa
 
 pub fewer_keep : (seat t most : ℕ) (b n : BookState) → MakesFewer seat t most b n → IsKept b → IsKept n
 fewer_keep seat t most b n h kept = passes_keep h.passed b n seat t h.passes kept
+
+-- ---- what the calls do
+
+-- the state of a ticket that is set
+pub state_there : (ts : List Ticket) (t : ℕ) (x : Ticket) → state_of ts t ≢ Unknown → t < length ts → state_of (slice_set ts t x) t ≡ state_with x.goal x.holder
+state_there ts zero x known within = absurd (known refl)
+state_there ts (suc t) x known within = grind (arith, nat_tests, length-set ts (suc t) x, ticket_same ts (suc t) x within)
+
+-- and of one that stands as before
+pub state_elsewhere : (ts : List Ticket) (t u : ℕ) (x : Ticket) → ticket_at (slice_set ts t x) u ≡ ticket_at ts u → state_of (slice_set ts t x) u ≡ state_of ts u
+state_elsewhere ts t zero x is = refl
+state_elsewhere ts t (suc u) x is = grind (arith, nat_tests, length-set ts t x, is)
+
+-- and of one before others
+state_before : (ts more : List Ticket) (t : ℕ) → t < length ts → state_of (ts ++ more) t ≡ state_of ts t
+state_before ts more zero within = refl
+state_before ts more (suc t) within = grind (arith, nat_tests, length-append ts more, ticket_before ts more (suc t) within)
+
+-- ---- a ticket whose atom is swapped with another
+
+plain_is : (g : Goal) (a : Atom ℕ) → Some a ≡ atom_in g → g ≡ Plain a
+plain_is (Plain b) a e = ap Plain (some_is b a (sym e))
+plain_is g a e = absurd (cc)
+
+-- its atom, and the tickets then
+pub record IsLent (ts now : List Ticket) (t : ℕ) (a : Atom ℕ) : Type 0 where
+  pub waits : state_of ts t ≡ Waiting
+  pub atom : Some a ≡ atom_in (ticket_at ts t).goal
+  pub other : Atom ℕ
+  pub lent_is : now ≡ slice_set ts t (with_atom other (ticket_at ts t))
+
+pub is_lent : (b now : BookState) → b ≡ now → (t : ℕ) (a other : Atom ℕ) (ts : List Ticket) → state_of now.tickets t ≡ Waiting → Some a ≡ atom_in (ticket_at b.tickets t).goal → ts ≡ slice_set b.tickets t (with_atom other (ticket_at b.tickets t)) → IsLent b.tickets ts t a
+is_lent b now e t a other ts waits atom rest = record { waits = subst (λ (n : BookState). state_of n.tickets t ≡ Waiting) (sym e) waits; atom = atom; other = other; lent_is = rest }
+
+pub waits_lent : {ts now : List Ticket} {t : ℕ} {a : Atom ℕ} → IsLent ts now t a → state_of now t ≡ Waiting
+waits_lent {ts} {now} {t} {a} h =
+    ap (λ (xs : List Ticket). state_of xs t) h.lent_is
+    ∙ state_there ts t (with_atom h.other (ticket_at ts t)) (λ e. absurd (let z : Waiting ≡ Unknown = sym h.waits ∙ e in cc)) (waiting_is ts t h.waits).within
+
+lent_within : {ts now : List Ticket} {t : ℕ} {a : Atom ℕ} → IsLent ts now t a → t < length now
+lent_within {ts} {now} {t} h = (waiting_is now t (waits_lent h)).within
+
+-- also where other tickets come after it
+pub waits_before : {ts now : List Ticket} {t : ℕ} {a : Atom ℕ} (more pushed : List Ticket) → IsLent ts now t a → pushed ≡ now ++ more → state_of pushed t ≡ Waiting
+waits_before {ts} {now} {t} {a} more pushed h e = ap (λ (xs : List Ticket). state_of xs t) e ∙ state_before now more t (lent_within h) ∙ waits_lent h
+
+-- the ticket changes
+pub lent_set : {ts now : List Ticket} {t : ℕ} {a : Atom ℕ} (y : Ticket) → IsLent ts now t a → slice_set now t y ≡ slice_set ts t y
+lent_set {ts} {now} {t} y h = ap (λ (xs : List Ticket). slice_set xs t y) h.lent_is ∙ set-set ts t (with_atom h.other (ticket_at ts t)) y
+
+pub lent_set_before : {ts now : List Ticket} {t : ℕ} {a : Atom ℕ} (more pushed : List Ticket) (y : Ticket) → IsLent ts now t a → pushed ≡ now ++ more → slice_set pushed t y ≡ slice_set ts t y ++ more
+lent_set_before {ts} {now} {t} more pushed y h e = ap (λ (xs : List Ticket). slice_set xs t y) e ∙ set-append_left now more t y (lent_within h) ∙ ap (λ (xs : List Ticket). xs ++ more) (lent_set y h)
+
+-- and where its atom is put back
+pub put_back : {ts now : List Ticket} {t : ℕ} {a : Atom ℕ} → IsLent ts now t a → slice_set now t (with_atom a (ticket_at now t)) ≡ ts
+put_back {ts} {now} {t} {a} h =
+    let x : Ticket = ticket_at ts t in
+    let there : ticket_at now t ≡ with_atom h.other x = ap (λ (xs : List Ticket). ticket_at xs t) h.lent_is ∙ ticket_same ts t (with_atom h.other x) (waiting_is ts t h.waits).within in
+    lent_set (with_atom a (ticket_at now t)) h ∙ ap (slice_set ts t) (ap (with_atom a) there ∙ ap (λ (g : Goal). with_goal g x) (sym (plain_is x.goal a h.atom))) ∙ set-get_or ts t ended
+
+pub put_back_of : {ts now left new : List Ticket} {t : ℕ} {a : Atom ℕ} → IsLent ts now t a → left ≡ now → new ≡ slice_set left t (with_atom a (ticket_at left t)) → new ≡ ts
+put_back_of {ts} {now} {left} {new} {t} {a} h same e = e ∙ ap (λ (xs : List Ticket). slice_set xs t (with_atom a (ticket_at xs t))) same ∙ put_back h
+
+-- the goal has entered, and its search goes on
+pub goes_in : (seat t : ℕ) (place : List ℕ) (a : Atom ℕ) (ts : List Ticket) (log : List (Entry ℕ)) (st : LabelledStore) (now : List Ticket) (entries : List (Entry ℕ)) (after : LabelledStore) (new : List Ticket) → state_of ts t ≡ Waiting → EntersGoal seat t beginning a ts log st now entries after → new ≡ slice_set now t (going_on place (ticket_at now t)) → EntersGoal seat t place a ts log st new entries after
+goes_in seat t place a ts log st now entries after new waits h e = record {
+  tickets = e ∙ ap (λ (xs : List Ticket). slice_set xs t (going_on place (ticket_at xs t))) h.tickets ∙ set_twice ts t (activated_by seat st.next) (going_on place) (waiting_is ts t waits).within;
+  logged = h.logged;
+  store = h.store;
+}
+
+-- its goal is numbered then
+pub entered_label : {seat t : ℕ} {place : List ℕ} {a : Atom ℕ} {ts now : List Ticket} {log es : List (Entry ℕ)} {st store : LabelledStore} → EntersGoal seat t place a ts log st now es store → state_of ts t ≡ Waiting → (ticket_at now t).goal ≡ Numbered st.next
+entered_label {seat} {t} {place} {a} {ts} {now} {log} {es} {st} {store} h waits =
+    ap (λ (xs : List Ticket). (ticket_at xs t).goal) h.tickets ∙ ap (λ (x : Ticket). x.goal) (ticket_same ts t (going_on place (activated_by seat st.next)) (waiting_is ts t waits).within)
+
+-- ---- answers
+
+-- memory was refused once it had entered
+pub entered_back : {X E : Type 0} (seat t : ℕ) (place : List ℕ) (a : Atom ℕ) (ts now new : List Ticket) (log es entries : List (Entry ℕ)) (st store after : LabelledStore) (r : Result X E) → EntersGoal seat t place a ts log st now es store → OnErr r (new ≡ now) → OnErr r (entries ≡ es) → OnErr r (after ≡ store) → OnErr r (EntersOrStays seat t place a ts log st new entries after)
+entered_back seat t place a ts now new log es entries st store after (Ok x) h e g s = tt
+entered_back seat t place a ts now new log es entries st store after (Err x) h e g s = inr (record { tickets = e ∙ h.tickets; logged = g ∙ h.logged; store = s ∙ h.store })
+
+-- ---- the book where the ticket is claimed
+
+-- an atom under a label that no other has
+entered_there : (st : Store) (n : ℕ) (a : Atom ℕ) → ((x : Atom ℕ) → atom_at st n ≡ Some x → ⊥) → atom_at (st ++ (n, a) ∷ []) n ≡ Some a
+entered_there [] n a none = grind (arith, nat_tests)
+entered_there ((m, b) ∷ st) n a none =
+    let apart : m ≡ n → ⊥ = λ e. none b (grind (arith, nat_tests)) in
+    grind (arith, nat_tests, entered_there st n a (λ x at. none x (grind (arith, nat_tests))))
+
+-- a ticket that waits, with its atom, and a label that can be given
+pub record IsReady (b : BookState) (t : ℕ) (a : Atom ℕ) : Type 0 where
+  pub kept : IsKept b
+  pub waits : state_of b.tickets t ≡ Waiting
+  pub atom : Some a ≡ atom_in (ticket_at b.tickets t).goal
+  pub room : b.next ≤ b.limit
+
+claimed : (b : BookState) (seat t : ℕ) (a : Atom ℕ) → IsReady b t a → Claims b seat t (Ok b.next) (activated b seat t a)
+claimed b seat t a h = inl (record { can = record { waits = h.waits; room = h.room }; atom = a; goal = plain_is (ticket_at b.tickets t).goal a h.atom; label = refl; after = refl })
+
+claimed_kept : (b : BookState) (seat t : ℕ) (a : Atom ℕ) → IsReady b t a → IsKept (activated b seat t a)
+claimed_kept b seat t a h = activated_keeps b seat t a (plain_is (ticket_at b.tickets t).goal a h.atom) h.kept
+
+claimed_ticket : (b : BookState) (seat t : ℕ) (a : Atom ℕ) → IsReady b t a → ticket_at (activated b seat t a).tickets t ≡ activated_by seat b.next
+claimed_ticket b seat t a h = ticket_same b.tickets t (activated_by seat b.next) (waiting_is b.tickets t h.waits).within
+
+claimed_live : (b : BookState) (seat t : ℕ) (a : Atom ℕ) → IsReady b t a → HoldsLive (activated b seat t a) seat t b.next
+claimed_live b seat t a h = record {
+  holds = record {
+    state = state_there b.tickets t (activated_by seat b.next) (λ e. absurd (let z : Waiting ≡ Unknown = sym h.waits ∙ e in cc)) (waiting_is b.tickets t h.waits).within;
+    goal = ap (λ (x : Ticket). x.goal) (claimed_ticket b seat t a h);
+  };
+  live = (a, entered_there b.store b.next a (λ x at. absurd (let less : b.next < b.next = store_below (goal_state b) (Lawful-once Two (Instances b.rules) (events b) (goal_state b) h.kept.lawful) b.next x at in omega arith)));
+}
+
+-- its search has passed over trials
+fresh : (seat l k : ℕ) (s : Space) (place : List ℕ) → Passes s k beginning place → going_on place (activated_by seat l) ≡ gone_over k place (activated_by seat l)
+fresh seat l zero s place p = ap (λ (q : List ℕ). going_on q (activated_by seat l)) p
+fresh seat l (suc k) s place p = refl
+
+claimed_past : (b : BookState) (seat t k : ℕ) (a : Atom ℕ) (place : List ℕ) (now : List Ticket) → IsReady b t a → Passes (space_of (activated b seat t a) b.next) k beginning place → now ≡ slice_set b.tickets t (going_on place (activated_by seat b.next)) → IsPast (activated b seat t a) seat t k b.next place now
+claimed_past b seat t k a place now h p e =
+    let n : BookState = activated b seat t a in
+    let y : Ticket = activated_by seat b.next in
+    let there : ticket_at n.tickets t ≡ y = claimed_ticket b seat t a h in
+    is_past k n seat t b.next place now (claimed_live b seat t a h) (subst (λ (x : Ticket). Passes (space_of n b.next) k x.position place) (sym there) p)
+    (e ∙ sym (set-set b.tickets t y (going_on place y)) ∙ ap (slice_set n.tickets t) (fresh seat b.next k (space_of n b.next) place p ∙ ap (gone_over k place) (sym there)))
+
+-- ---- the rounds
+
+-- they end where the goal has entered
+enters_rounds : (rules : List (Simpagation ℕ)) (plans : PlanList) (names : List (List ℕ)) (log es entries : List (Entry ℕ)) (st store after : LabelledStore) (ts lent_ts more pushed now new : List Ticket) (seat t k : ℕ) (a : Atom ℕ) (place : List ℕ) (come : Then) (i : Instance) (binding : List (Option (Value ℕ))) (last : Last) → IsReady (book_of rules plans names log st ts) t a
+    → IsLent ts lent_ts t a → Passes (space_of (activated (book_of rules plans names log st ts) seat t a) st.next) k beginning place → IsThen (space_of (activated (book_of rules plans names log st ts) seat t a) st.next) place come i binding → MakesFound rules come i.whole binding more → pushed ≡ lent_ts ++ more
+    → EntersGoal seat t place a pushed log st now es store → EndsRounds seat t come i.whole last now es store new entries after
+    → MakesRounds seat t (record { passed = k; last = last }) (activated (book_of rules plans names log st ts) seat t a) (book_of rules plans names entries after new)
+enters_rounds rules plans names log es entries st store after ts lent_ts more pushed now new seat t k a place come i binding last h out p next made e g ends =
+    let b : BookState = book_of rules plans names log st ts in
+    let gone : List Ticket = slice_set ts t (going_on place (activated_by seat st.next)) in
+    let claim_log : List (Entry ℕ) = log ++ record { event = Activate t st.next; seat = seat } ∷ [] in
+    let claim_store : LabelledStore = record { entries = st.entries ++ (st.next, a) ∷ []; next = st.next + 1; limit = st.limit } in
+    ended_rounds rules plans names claim_log entries claim_store after (slice_set ts t (activated_by seat st.next)) gone more now new seat t k st.next place come i binding last (claimed_kept b seat t a h) (claimed_past b seat t k a place gone h p refl) next made
+    (g.tickets ∙ lent_set_before more pushed (going_on place (activated_by seat st.next)) out e)
+    (subst (λ (z : LabelledStore). EndsRounds seat t come i.whole last now claim_log z new entries after) g.store
+    (subst (λ (z : List (Entry ℕ)). EndsRounds seat t come i.whole last now z store new entries after) g.logged ends))
+
+-- what is removed needn't have entered
+dropped_entered : (l n : ℕ) (a : Atom ℕ) (st : Store) → drop_label l (st ++ (n, a) ∷ []) ≡ (if l == n then drop_label l st else drop_label l st ++ (n, a) ∷ [])
+dropped_entered l n a [] = grind (arith, nat_tests)
+dropped_entered l n a (e ∷ st) = grind (arith, nat_tests, dropped_entered l n a st)
+
+without_entered : (ls : List ℕ) (st : Store) (n : ℕ) (a : Atom ℕ) → among ls n ≡ true → without ls (st ++ (n, a) ∷ []) ≡ without ls st
+without_entered [] st n a h = absurd (cc)
+without_entered (l ∷ ls) st n a h = grind (arith, nat_tests, dropped_entered l n a st, without_entered ls (drop_label l st) n a)
+
+-- a firing of a ticket that is gone on, under the label of its search, which is removed
+fires_gone_on : (seat t l : ℕ) (rule : Simpagation ℕ) (i : Instance) (binding : List (Option (Value ℕ))) (place : List ℕ) (a : Atom ℕ) (ts lent_ts more pushed : List Ticket) (log : List (Entry ℕ)) (st : LabelledStore) (new : List Ticket) (entries : List (Entry ℕ)) (after : LabelledStore) → i.whole.past.label ≡ l → among i.whole.removed.items i.whole.past.label ≡ true
+    → IsLent ts lent_ts t a → MakesBody rule.body binding more → pushed ≡ lent_ts ++ more → FiresWaiting seat t i.whole pushed log st new entries after
+    → FiresWhole seat t rule i.whole binding (record { first = length ts; count = length more; active_lives = false }) (slice_set ts t (going_on place (activated_by seat l))) (log ++ record { event = Activate t l; seat = seat } ∷ []) new entries
+fires_gone_on seat t l rule i binding place a ts lent_ts more pushed log st new entries after label own out makes e h =
+    let x : Ticket = going_on place (activated_by seat l) in
+    let entry : Entry ℕ = record { event = Fire t i.whole.number i.whole.kept.items i.whole.removed.items; seat = seat } in
+    record {
+      first = sym (length-set ts t x);
+      lives = ap not (sym own);
+      logged = h.logged ∙ ap (λ (z : ℕ). log ++ record { event = Activate t z; seat = seat } ∷ entry ∷ []) label ∙ sym (append_assoc log (record { event = Activate t l; seat = seat } ∷ []) (entry ∷ []));
+      tickets = λ body under. (
+        ap length (makes body under) ∙ length-map body waiting,
+        h.tickets ∙ lent_set_before more pushed ended out e ∙ ap₂ (λ (xs ys : List Ticket). xs ++ ys) (sym (set-set ts t x ended)) (makes body under),
+      );
+    }
+
+-- they end where what was found has fired
+fires_rounds : (rules : List (Simpagation ℕ)) (plans : PlanList) (names : List (List ℕ)) (log entries : List (Entry ℕ)) (st after : LabelledStore) (ts lent_ts more pushed new : List Ticket) (seat t k : ℕ) (a : Atom ℕ) (place : List ℕ) (i : Instance) (binding : List (Option (Value ℕ))) → IsReady (book_of rules plans names log st ts) t a
+    → IsLent ts lent_ts t a → Passes (space_of (activated (book_of rules plans names log st ts) seat t a) st.next) k beginning place → IsWholeNext (space_of (activated (book_of rules plans names log st ts) seat t a) st.next) place i.whole binding → MakesFound rules thens.Whole i.whole binding more → pushed ≡ lent_ts ++ more
+    → among i.whole.removed.items i.whole.past.label ≡ true → FiresWaiting seat t i.whole pushed log st new entries after
+    → MakesRounds seat t (record { passed = k; last = lasts.Fired }) (activated (book_of rules plans names log st ts) seat t a) (book_of rules plans names entries after new)
+fires_rounds rules plans names log entries st after ts lent_ts more pushed new seat t k a place i binding h out p next made e own f =
+    let b : BookState = book_of rules plans names log st ts in
+    let claim : BookState = activated (book_of rules plans names log st ts) seat t a in
+    let label : i.whole.past.label ≡ st.next = ap (λ (z : SearchState). z.label) next.past_is in
+    let now : List Ticket = slice_set ts t (going_on place (activated_by seat st.next)) in
+    subst (λ (z : LabelledStore). MakesRounds seat t (record { passed = k; last = lasts.Fired }) claim (book_of rules plans names entries z new))
+    (ap (λ (z : Store). record { entries = z; next = st.next + 1; limit = st.limit }) (without_entered i.whole.removed.items st.entries st.next a (ap (among i.whole.removed.items) (sym label) ∙ own)) ∙ sym f.store)
+    (fired_rounds claim seat t k st.next place made.0 i.whole binding (record { first = length ts; count = length more; active_lives = false }) now new entries (claimed_kept b seat t a h) (claimed_past b seat t k a place now h p refl) next made.1
+    (fires_gone_on seat t st.next made.0 i binding place a ts lent_ts more pushed log st new entries after label own out made.2 e f))
+
+-- the rounds, however they end
+start_makes : (rules : List (Simpagation ℕ)) (plans : PlanList) (names : List (List ℕ)) (log entries : List (Entry ℕ)) (st after : LabelledStore) (ts lent_ts more pushed new : List Ticket) (seat t k : ℕ) (a : Atom ℕ) (place : List ℕ) (come : Then) (i : Instance) (binding : List (Option (Value ℕ))) (last : Last) → IsReady (book_of rules plans names log st ts) t a
+    → IsLent ts lent_ts t a → Passes (older rules plans (st.entries ++ (st.next, a) ∷ []) st.next) k beginning place → IsThen (older rules plans (st.entries ++ (st.next, a) ∷ []) st.next) place come i binding → MakesFound rules come i.whole binding more → pushed ≡ lent_ts ++ more → EndsStart seat t place a come i.whole last pushed log st new entries after
+    → MakesRounds seat t (record { passed = k; last = last }) (activated (book_of rules plans names log st ts) seat t a) (book_of rules plans names entries after new)
+start_makes rules plans names log entries st after ts lent_ts more pushed new seat t k a place come i binding last h out p next made e (fires is own fired f) =
+    makes_same fired refl (fires_rounds rules plans names log entries st after ts lent_ts more pushed new seat t k a place i binding h out p (subst (λ c. IsThen (older rules plans (st.entries ++ (st.next, a) ∷ []) st.next) place c i binding) is next) (subst (λ c. MakesFound rules c i.whole binding more) is made) e own f)
+start_makes rules plans names log entries st after ts lent_ts more pushed new seat t k a place come i binding last h out p next made e (enters now es store g ends) =
+    enters_rounds rules plans names log es entries st store after ts lent_ts more pushed now new seat t k a place come i binding last h out p next made e g ends
+
+-- the claim and the rounds
+pub started : (rules : List (Simpagation ℕ)) (plans : PlanList) (names : List (List ℕ)) (log entries : List (Entry ℕ)) (st after : LabelledStore) (ts lent_ts pushed new : List Ticket) (seat t : ℕ) (a : Atom ℕ) (search : SearchState) (place : List ℕ) (come : Passed) (i : Instance) (w : Whole) (last : Last) → IsReady (book_of rules plans names log st ts) t a → IsLent ts lent_ts t a
+    → search ≡ record { label = st.next; place = beginning } → PassesBefore (older rules plans (st.entries ++ (st.next, a) ∷ []) search.label) come i search.place place lent_ts pushed → w ≡ i.whole → EndsStart seat t place a come.then w last pushed log st new entries after
+    → StartsRounds seat t (record { passed = come.count; last = last }) (book_of rules plans names log st ts) (book_of rules plans names entries after new)
+started rules plans names log entries st after ts lent_ts pushed new seat t a search place come i w last h out begun found same ends =
+    let p = subst (λ (z : SearchState). PassesBefore (older rules plans (st.entries ++ (st.next, a) ∷ []) z.label) come i z.place place lent_ts pushed) begun found in record {
+      label = st.next;
+      claimed = activated (book_of rules plans names log st ts) seat t a;
+      claims = claimed (book_of rules plans names log st ts) seat t a h;
+      makes = start_makes rules plans names log entries st after ts lent_ts p.more pushed new seat t come.count a place come.then i p.binding last h out p.passes p.next p.made p.tickets
+          (subst (λ (v : Whole). EndsStart seat t place a come.then v last pushed log st new entries after) same ends);
+    }
+
+-- a ticket that is activated doesn't wait
+held_not_waiting : (ts : List Ticket) (t seat l : ℕ) (place : List ℕ) → state_of ts t ≡ Waiting → state_of (slice_set ts t (going_on place (activated_by seat l))) t ≡ Waiting → ⊥
+held_not_waiting ts t seat l place waits is =
+    let z : Held seat ≡ Waiting = sym (state_there ts t (going_on place (activated_by seat l)) (λ e. absurd (let y : Waiting ≡ Unknown = sym waits ∙ e in cc)) (waiting_is ts t waits).within) ∙ is in
+    cc
+
+-- memory was refused: the tickets of the body are taken back, and the atom is put back where its ticket waits
+pub started_fewer : (rules : List (Simpagation ℕ)) (plans : PlanList) (names : List (List ℕ)) (log entries : List (Entry ℕ)) (st after : LabelledStore) (ts lent_ts pushed left cut new : List Ticket) (seat t most first : ℕ) (a : Atom ℕ) (search : SearchState) (place : List ℕ) (come : Passed) (i : Instance) → IsReady (book_of rules plans names log st ts) t a → IsLent ts lent_ts t a
+    → search ≡ record { label = st.next; place = beginning } → PassesBefore (older rules plans (st.entries ++ (st.next, a) ∷ []) search.label) come i search.place place lent_ts pushed → come.count < most → EntersOrStays seat t place a pushed log st left entries after → cut ≡ take first left → first ≡ length lent_ts
+    → (state_of cut t ≡ Waiting → new ≡ slice_set cut t (with_atom a (ticket_at cut t))) → (state_of cut t ≢ Waiting → new ≡ cut)
+    → StartsFewer seat t most (book_of rules plans names log st ts) (book_of rules plans names entries after new)
+started_fewer rules plans names log entries st after ts lent_ts pushed left cut new seat t most first a search place come i h out begun found less (inl same) back f put kept =
+    let here : cut ≡ lent_ts = rest_back lent_ts left cut first (found.more, same.0 ∙ found.tickets) back f in
+    inl (book_same rules plans names same.1 same.2 (put (ap (λ (xs : List Ticket). state_of xs t) here ∙ waits_lent out) ∙ ap (λ (xs : List Ticket). slice_set xs t (with_atom a (ticket_at xs t))) here ∙ put_back out))
+started_fewer rules plans names log entries st after ts lent_ts pushed left cut new seat t most first a search place come i h out begun found less (inr g) back f put kept =
+    let b : BookState = book_of rules plans names log st ts in
+    let claim : BookState = activated (book_of rules plans names log st ts) seat t a in
+    let passes : Passes (older rules plans (st.entries ++ (st.next, a) ∷ []) st.next) come.count beginning place = (subst (λ (z : SearchState). PassesBefore (older rules plans (st.entries ++ (st.next, a) ∷ []) z.label) come i z.place place lent_ts pushed) begun found).passes in
+    let gone : List Ticket = slice_set ts t (going_on place (activated_by seat st.next)) in
+    let as_long : first ≡ length gone = f ∙ ap length out.lent_is ∙ length-set ts t (with_atom out.other (ticket_at ts t)) ∙ sym (length-set ts t (going_on place (activated_by seat st.next))) in
+    let now : cut ≡ gone = rest_back gone left cut first (found.more, g.tickets ∙ lent_set_before found.more pushed (going_on place (activated_by seat st.next)) out found.tickets) back as_long in
+    inr (record {
+      label = st.next;
+      claimed = claim;
+      claims = claimed b seat t a h;
+      makes = record {
+        passed = come.count;
+        fewer = less;
+        passes = subst (PassesTrials seat t come.count claim) (sym (book_same rules plans names g.logged g.store (kept (λ is. held_not_waiting ts t seat st.next place out.waits (ap (λ (xs : List Ticket). state_of xs t) (sym now) ∙ is)) ∙ now))) (claimed_past b seat t come.count a place gone h passes refl).passes;
+      };
+    })
+
+-- the body was refused
+pub stays_as_is : (rules : List (Simpagation ℕ)) (plans : PlanList) (names : List (List ℕ)) (log : List (Entry ℕ)) (st : LabelledStore) (ts lent_ts left new : List Ticket) (seat t most first : ℕ) (a : Atom ℕ) → IsLent ts lent_ts t a → left ≡ lent_ts → first ≡ length lent_ts → (state_of (take first left) t ≡ Waiting → new ≡ slice_set (take first left) t (with_atom a (ticket_at (take first left) t)))
+    → StartsFewer seat t most (book_of rules plans names log st ts) (book_of rules plans names log st new)
+stays_as_is rules plans names log st ts lent_ts left new seat t most first a out e f put =
+    let here : take first left ≡ lent_ts = rest_back lent_ts left (take first left) first ([], e ∙ sym (append-nil lent_ts)) refl f in
+    inl (book_same rules plans names refl refl (put (ap (λ (xs : List Ticket). state_of xs t) here ∙ waits_lent out) ∙ ap (λ (xs : List Ticket). slice_set xs t (with_atom a (ticket_at xs t))) here ∙ put_back out))
+
+-- ---- what a book keeps
+
+pub starts_keep : (seat t : ℕ) (r : Rounds) (b n : BookState) → StartsRounds seat t r b n → IsKept b → IsKept n
+starts_keep seat t r b n h kept = rounds_keep seat t r h.claimed n h.makes (claims_keep b h.claimed seat t (Ok h.label) h.claims kept)
+
+pub starts_fewer_keep : (seat t most : ℕ) (b n : BookState) → StartsFewer seat t most b n → IsKept b → IsKept n
+starts_fewer_keep seat t most b n (inl same) kept = subst IsKept (sym same) kept
+starts_fewer_keep seat t most b n (inr h) kept = fewer_keep seat t most h.claimed n h.makes (claims_keep b h.claimed seat t (Ok h.label) h.claims kept)
+
+-- ---- the limit of the labels, and that there are perhaps more trials where the last of the rounds passed over one
+
+pub ends_show : (seat t : ℕ) (come : Then) (w : Whole) (last : Last) (ts : List Ticket) (log : List (Entry ℕ)) (st : LabelledStore) (new : List Ticket) (entries : List (Entry ℕ)) (after : LabelledStore) → EndsRounds seat t come w last ts log st new entries after → (after.limit ≡ st.limit) × (last ≡ lasts.Passed → come ≡ thens.More)
+ends_show seat t thens.More w last ts log st new entries after h = (ap (λ (z : LabelledStore). z.limit) h.3, λ e. refl)
+ends_show seat t thens.Done w last ts log st new entries after h = (ap (λ (z : LabelledStore). z.limit) h.3, λ e. let d : last ≡ lasts.Dropped = h.0 in absurd (cc))
+ends_show seat t thens.Whole w last ts log st new entries after h = (ap (λ (z : LabelledStore). z.limit) h.1.store, λ e. let f : last ≡ lasts.Fired = h.0 in absurd (cc))
+
+pub starts_show : (seat t : ℕ) (place : List ℕ) (a : Atom ℕ) (come : Then) (w : Whole) (last : Last) (ts : List Ticket) (log : List (Entry ℕ)) (st : LabelledStore) (new : List Ticket) (entries : List (Entry ℕ)) (after : LabelledStore) → EndsStart seat t place a come w last ts log st new entries after → (after.limit ≡ st.limit) × (last ≡ lasts.Passed → come ≡ thens.More)
+starts_show seat t place a come w last ts log st new entries after (fires is own fired f) = (ap (λ (z : LabelledStore). z.limit) f.store, λ e. absurd (cc))
+starts_show seat t place a come w last ts log st new entries after (enters now es store g ends) =
+    let show = ends_show seat t come w last now es store new entries after ends in
+    (show.0 ∙ ap (λ (z : LabelledStore). z.limit) g.store, show.1)
+
+pub stays_limit : (seat t : ℕ) (place : List ℕ) (a : Atom ℕ) (ts : List Ticket) (log : List (Entry ℕ)) (st : LabelledStore) (new : List Ticket) (entries : List (Entry ℕ)) (after : LabelledStore) → EntersOrStays seat t place a ts log st new entries after → after.limit ≡ st.limit
+stays_limit seat t place a ts log st new entries after (inl same) = ap (λ (z : LabelledStore). z.limit) same.2
+stays_limit seat t place a ts log st new entries after (inr g) = ap (λ (z : LabelledStore). z.limit) g.store
+
+-- ---- a claim
+
+pub activates : (rules : List (Simpagation ℕ)) (plans : PlanList) (names : List (List ℕ)) (log entries : List (Entry ℕ)) (st after : LabelledStore) (ts now new : List Ticket) (seat t l : ℕ) (a : Atom ℕ) → IsLent ts now t a → st.next ≤ st.limit → l ≡ st.next → EntersGoal seat t beginning a now log st new entries after → Activates (book_of rules plans names log st ts) seat t l (book_of rules plans names entries after new)
+activates rules plans names log entries st after ts now new seat t l a out room label h = record {
+  can = record { waits = out.waits; room = room };
+  atom = a;
+  goal = plain_is (ticket_at ts t).goal a out.atom;
+  label = label;
+  after = book_same rules plans names h.logged h.store (h.tickets ∙ lent_set (activated_by seat st.next) out);
+}

@@ -9,8 +9,9 @@ use Rattle.chr_calls.specs.declared.answers.TurnFault.{TurnFault}
 use Rattle.chr_calls.specs.declared.answers.Fired.{Fired}
 use Rattle.chr_calls.specs.declared.answers.Firing.TheVariants as firing
 use Rattle.chr_calls.specs.Turns.{Turn, Next}
+use Rattle.chr_calls.specs.Tickets.{IsNotHeld}
 use Rattle.chr_calls.specs.Books.{BookState, space_of}
-use Rattle.chr_calls.specs.Calls.{HoldsLive, HoldsCandidate, IsNextTrial, Turns, FiresOrMisses, with_candidate_of}
+use Rattle.chr_calls.specs.Calls.{HoldsLive, HoldsCandidate, HoldsOther, IsNextTrial, Turns, FiresOrMisses, with_candidate_of}
 use Rattle.chr_sheet.specs.Rows.{JudgedSheet, judgements_of}
 use Rattle.chr_sheet.specs.Sheets.{Reports, IsFireable, AreNextInOrder}
 use Rattle.chr_sheet.specs.Sheets as sheets
@@ -25,6 +26,12 @@ pub record ComesNext (b : BookState) (seat t : ℕ) (trial : Trial) : Type 0 whe
 -- a trial past which its judgement moves the search: the ticket's candidate, or its next trial
 abbrev pub IsToJudge : BookState → ℕ → ℕ → Trial → Type 0
 IsToJudge b seat t trial = HoldsCandidate b seat t trial ⊎ ComesNext b seat t trial
+
+-- whether a trial is the candidate of a ticket; none, where the seat doesn't hold the ticket
+abbrev pub TellsCandidate : BookState → ℕ → ℕ → Trial → Option Bool → Type 0
+TellsCandidate b seat t trial None = IsNotHeld b.tickets seat t
+TellsCandidate b seat t trial (Some true) = HoldsCandidate b seat t trial
+TellsCandidate b seat t trial (Some false) = HoldsOther b seat t trial
 
 -- whether a trial comes next, and else another does; none, where asking for one gives none
 abbrev pub IsAskedNext : BookState → ℕ → ℕ → Trial → Option Bool → Type 0

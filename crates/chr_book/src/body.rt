@@ -39,10 +39,10 @@ pub fn push_body<A: Allocator + Copy>(
 {
     let first = tickets.next();
     for item in rule.body() {
-        if push_member(tickets, item, binding).is_err() {
+        let Ok(()) = push_member(tickets, item, binding) else {
             tickets.truncate(first);
             return Err(AllocError);
-        }
+        };
     }
     Ok(())
 }

@@ -47,6 +47,7 @@ mod book;
 mod calls;
 mod firing;
 mod given;
+mod passing;
 mod rounds;
 mod shot;
 mod strict;

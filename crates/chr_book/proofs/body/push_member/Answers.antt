@@ -2,7 +2,7 @@ use Rattle.std.proofs.Common.{[], sym, ap}
 use Rattle.std.proofs.lemmas.List.{append-nil}
 use Rattle.chr_rule.specs.Parts.{shape, member}
 use Rattle.std.proofs.lemmas.Result.{on_ok_weaker}
-use Rattle.chr_book.proofs.PostedBooks.{makes_left, pushes_made}
+use Rattle.chr_book.proofs.Fired.{makes_left, pushes_made}
 use Rattle.chr_book.proofs.body.push_member.Goals as goal
 
 pub returns-in_default-clause-ok : goal.returns-in_default-clause-ok

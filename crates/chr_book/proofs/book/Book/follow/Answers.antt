@@ -3,7 +3,7 @@ use Rattle.std.specs.Bool.{⊤}
 use Rattle.chr_search.specs.Judged.{Judgement}
 use Rattle.chr_search.specs.declared.judged.Verdict.TheVariants.{Whole}
 use Rattle.chr_sheet.specs.Rows.{judgements_of}
-use Rattle.chr_book.proofs.Following.{not_told, whole_fires, whole_stays}
+use Rattle.chr_book.proofs.Sheets.{not_told, whole_fires, whole_stays}
 use Rattle.chr_book.proofs.book.Book.follow.Goals as goal
 
 pub returns-in_default : goal.returns-in_default

@@ -1,4 +1,4 @@
-use Rattle.chr_book.proofs.Following.{sheet_given, sheet_dropped}
+use Rattle.chr_book.proofs.Sheets.{sheet_given, sheet_dropped}
 use Rattle.chr_book.proofs.book.Book.give_or_drop.Goals as goal
 
 pub returns-in_default : goal.returns-in_default

@@ -1,6 +1,6 @@
 use Rattle.std.proofs.Common.{ap, ◌∙◌}
 use Rattle.chr_book.specs.Books.{book_of}
-use Rattle.chr_book.proofs.Nexts.{asked_next}
+use Rattle.chr_book.proofs.Turns.{asked_next}
 use Rattle.chr_book.proofs.book.Book.is_next.Goals as goal
 
 pub returns : goal.returns

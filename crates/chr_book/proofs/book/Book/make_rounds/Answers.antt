@@ -9,8 +9,7 @@ use Rattle.chr_calls.specs.Books.{BookState}
 use Rattle.chr_calls.specs.Calls.{HoldsLive}
 use Rattle.chr_book.specs.Books.{book_of}
 use Rattle.chr_book.specs.Passed.{MakesRounds, MakesFewer}
-use Rattle.chr_book.proofs.GoingOn.{whole_goal, makes_rounds, some_rounds, cut_rounds, rounds_keep, fewer_keep}
-use Rattle.chr_book.proofs.Starting.{ends_show}
+use Rattle.chr_book.proofs.GoingOn.{whole_goal, makes_rounds, some_rounds, cut_rounds, rounds_keep, fewer_keep, ends_show}
 use Rattle.chr_book.proofs.book.Book.make_rounds.Given.{Over}
 use Rattle.chr_book.proofs.book.Book.make_rounds.Goals as goal
 use Rattle.chr_book.proofs.book.Book.make_rounds.Goals.{After-from_residual, After-pass_over, After-truncate, In-Ok}

@@ -4,7 +4,7 @@ use Rattle.chr_calls.specs.Headline.{IsKept}
 use Rattle.chr_sheet.specs.Rows.{judgements_of}
 use Rattle.chr_book.specs.Books.{book_of}
 use Rattle.chr_book.specs.Given.{AreNextIn}
-use Rattle.chr_book.proofs.Reported.{moves_in}
+use Rattle.chr_book.proofs.Sheets.{moves_in}
 use Rattle.chr_book.proofs.book.Book.move_search.Goals as goal
 use Rattle.chr_book.proofs.book.Book.move_search.Goals.{After-deref-program}
 

@@ -2,7 +2,7 @@ use Rattle.std.proofs.Common.{inr, ◌≡◌, ◌≢◌, ◌+◌, Some, None, tr
 use Rattle.std.proofs.lemmas.List.{drop_all}
 use Rattle.chr_search.specs.declared.judged.Verdict.TheVariants.{Whole}
 use Rattle.chr_calls.specs.Turns.{turn_of}
-use Rattle.chr_book.proofs.Batched.{completes_as, completes_here, asked_as, none_ends, whole_ends, stopped, asked_last, one_reported, one_passed}
+use Rattle.chr_book.proofs.Sheets.{completes_as, completes_here, asked_as, none_ends, whole_ends, stopped, asked_last, one_reported, one_passed}
 use Rattle.chr_book.proofs.book.Book.report_batch.Goals.{then-is_next+in_default-verdict, else-is_next, else-loop-judged-test, then-loop-judged-test+in_default, then-loop-judged-test+in-Some+then-is_next+in-Whole}
 use Rattle.chr_book.proofs.book.Book.report_batch.Goals as goal
 

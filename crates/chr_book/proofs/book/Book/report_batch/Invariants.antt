@@ -1,5 +1,5 @@
 use Rattle.std.proofs.Common.{◌≤◌, drop}
-use Rattle.chr_book.proofs.Batched.{Completes}
+use Rattle.chr_book.proofs.Sheets.{Completes}
 use Rattle.chr_book.proofs.book.Book.report_batch.Given as goal
 
 abbrev pub invariant-loop-judged : goal.invariant-loop-judged

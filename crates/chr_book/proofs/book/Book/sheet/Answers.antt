@@ -6,8 +6,8 @@ use Rattle.chr_calls.specs.Books.{space_of}
 use Rattle.chr_calls.specs.Batches.{AreTogether, IsNextAfter, NoneAfter}
 use Rattle.chr_book.specs.Given.{ComesNext}
 use Rattle.chr_book.specs.Asked.{IsLiveSearch}
-use Rattle.chr_book.proofs.Together.{given}
-use Rattle.chr_book.proofs.Asking.{find_refused, found_as, sheet_comes, sheet_done}
+use Rattle.chr_book.proofs.Sheets.{given, sheet_comes, sheet_done}
+use Rattle.chr_book.proofs.Turns.{find_refused, found_as}
 use Rattle.chr_book.proofs.book.Book.sheet.Goals as goal
 use Rattle.chr_book.proofs.book.Book.sheet.Goals.{In-Ok-first, In-Some}
 

@@ -12,8 +12,7 @@ use Rattle.chr_calls.specs.Tickets.{state_of}
 use Rattle.chr_calls.specs.Books.{BookState}
 use Rattle.chr_book.specs.Books.{book_of}
 use Rattle.chr_book.specs.Passed.{StartsRounds, StartsFewer}
-use Rattle.chr_book.proofs.GoingOn.{finds_label}
-use Rattle.chr_book.proofs.Starting.{is_lent, waits_before, started, started_fewer, stays_as_is, starts_keep, starts_fewer_keep, starts_show, stays_limit}
+use Rattle.chr_book.proofs.GoingOn.{finds, is_lent, waits_before, started, started_fewer, stays_as_is, starts_keep, starts_fewer_keep, starts_show, stays_limit}
 use Rattle.chr_book.proofs.book.Book.start_rounds.Given.{Over}
 use Rattle.chr_book.proofs.book.Book.start_rounds.Goals as goal
 use Rattle.chr_book.proofs.book.Book.start_rounds.Goals.{After-take_back, In-Ok-end_start, After-take_back-in_default-end_start}
@@ -109,7 +108,7 @@ end_start-requires-clause-found g c =
     let x = c.self.inside in
     let found = c.in-Ok.ensures.ok in λ is.
     ap (λ (w : Whole). w.past.label) c.whole.ensures
-    ∙ finds_label (older c.deref.result.now x.plans (entered x.store c.swap_atom.new.other).entries c.begin-search.result.label) c.pass_over_before.new.search.place c.in-Ok.come.then c.pass_over_before.new.instance found.binding found.next is
+    ∙ (finds (older c.deref.result.now x.plans (entered x.store c.swap_atom.new.other).entries c.begin-search.result.label) c.pass_over_before.new.search.place c.in-Ok.come.then c.pass_over_before.new.instance found.binding found.next is).1
     ∙ ap (λ (z : SearchState). z.label) c.begin-search.ensures ∙ c.next_label.ensures.value
 
 pub take_back-requires-in_default-end_start : goal.take_back-requires-in_default-end_start

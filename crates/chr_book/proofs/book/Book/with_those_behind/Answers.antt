@@ -5,7 +5,7 @@ use Rattle.chr_search.specs.Verdicts.{Trial}
 use Rattle.chr_calls.specs.Books.{space_of}
 use Rattle.chr_calls.specs.Batches.{IsNextBeside, NoneBeside}
 use Rattle.chr_book.specs.Books.{book_of}
-use Rattle.chr_book.proofs.Together.{behind_told, together_first, together_next, together_end, together_full, last_there, some_together}
+use Rattle.chr_book.proofs.Sheets.{behind_told, together_first, together_next, together_end, together_full, last_there, some_together}
 use Rattle.chr_book.proofs.book.Book.with_those_behind.Goals.{else-loop-program-test, then-loop-program-test+in_ok-next+in_default}
 use Rattle.chr_book.proofs.book.Book.with_those_behind.Goals as goal
 

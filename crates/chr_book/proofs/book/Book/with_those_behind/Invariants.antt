@@ -1,7 +1,7 @@
 use Rattle.std.proofs.Common.{◌-◌, length}
 use Rattle.chr_calls.specs.Books.{space_of}
 use Rattle.chr_calls.specs.Batches.{IsNextBeside, NoneBeside}
-use Rattle.chr_book.proofs.Together.{TogetherSoFar}
+use Rattle.chr_book.proofs.Sheets.{TogetherSoFar}
 use Rattle.chr_book.proofs.book.Book.with_those_behind.Given as goal
 
 abbrev pub invariant-loop-program : goal.invariant-loop-program

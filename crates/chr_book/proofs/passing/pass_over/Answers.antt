@@ -1,0 +1,41 @@
+use Rattle.std.proofs.Common.{◌≡◌, ◌++◌, ℕ, List, Some, sym, ap, ◌∙◌, subst, arith}
+use Rattle.std.proofs.lemmas.Result.{err_from_is_err_and}
+use Rattle.chr_rule.specs.Rules.{Simpagation, rule_at}
+use Rattle.chr_search.specs.Trials.{older}
+use Rattle.chr_search.specs.declared.search.Whole.{Whole}
+use Rattle.chr_calls.specs.Tickets.{Ticket, ticket_at}
+use Rattle.chr_book.specs.Firings.{MakesFound}
+use Rattle.chr_book.proofs.GoingOn.{finds}
+use Rattle.chr_book.proofs.passing.pass_over.Goals as goal
+
+pub push_found-requires : goal.push_found-requires
+push_found-requires g c = (
+  omega arith,
+  λ is.
+      let l = c.requires.active.0 in
+      let over = c.pass_over-come.ensures.passed l c.requires.active.1 in
+      subst (λ (w : Whole). (rule : Simpagation ℕ) × (rule_at c.args.program.now w.number ≡ Some rule)) (sym c.whole.ensures)
+      (finds (older c.args.program.now c.args.plans.now c.args.store.now.entries l) over.place c.pass_over-come.result.then c.pass_over-come.new.instance c.pass_over-come.new.bound over.next is).0,
+)
+
+pub returns-in_err-push_found-clause-err : goal.returns-in_err-push_found-clause-err
+returns-in_err-push_found-clause-err g c = rw (err_from_is_err_and c.from_residual.result c.from_residual.ensures.1).1 (λ l is. record {
+  passed = c.pass_over-come.result;
+  few = c.pass_over-come.ensures.few;
+  instance = c.pass_over-come.new.instance;
+  binding = c.pass_over-come.new.bound;
+  x = ticket_at c.pass_over-come.new.self c.args.ticket;
+  over = c.pass_over-come.ensures.passed l is;
+  tickets = c.in_err-push_found.ensures.err ∙ c.pass_over-come.ensures.others;
+})
+
+pub returns-clause-ok : goal.returns-clause-ok
+returns-clause-ok g c =
+    let body = c.in_ok-push_found.ensures.ok in λ l is. record {
+      binding = c.pass_over-come.new.bound;
+      x = ticket_at c.pass_over-come.new.self c.args.ticket;
+      over = c.pass_over-come.ensures.passed l is;
+      more = body.0;
+      made = subst (λ (w : Whole). MakesFound c.args.program.now c.pass_over-come.result.then w c.pass_over-come.new.bound body.0) c.whole.ensures body.1;
+      tickets = body.2 ∙ ap (λ (ts : List Ticket). ts ++ body.0) c.pass_over-come.ensures.others;
+    }
