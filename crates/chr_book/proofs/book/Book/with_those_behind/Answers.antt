@@ -1,5 +1,4 @@
 use Rattle.std.proofs.Common.{rules, ◌≡◌, ◌<◌, ◌+◌, ◌-◌, ℕ, List, [], ◌∷◌, ◌++◌, length, length-append, ap, subst, ◌∙◌, arith, sym}
-use Rattle.std.proofs.lemmas.Result.{err_from_is_err_and}
 use Rattle.chr_plan.specs.Plans.{ArePlans}
 use Rattle.chr_search.specs.Verdicts.{Trial}
 use Rattle.chr_calls.specs.Books.{space_of}
@@ -39,12 +38,6 @@ returns g c =
           together_end (IsNextBeside s) (NoneBeside s) 16 c.args.first last trials less c.loop-program.invariant is (behind_told _ _ (ap (λ rules. book_of rules x.plans x.names x.log x.store x.tickets) w.deref.ensures ∙ c.self.view_is) l last w.in_ok-next.ensures w.in_default.is)
     ]
 
-pub returns-in_err-trials : goal.returns-in_err-trials
-returns-in_err-trials g c = rw (err_from_is_err_and c.from_residual.result c.from_residual.ensures.1).1 tt
-
-pub returns-in_err-push : goal.returns-in_err-push
-returns-in_err-push g c = rw (err_from_is_err_and c.from_residual-in_err-push.result c.from_residual-in_err-push.ensures.1).1 tt
-
 pub loop-program-init : goal.loop-program-init
 loop-program-init g c =
     let s = space_of c.args.self.now c.args.search.now.label in
@@ -63,15 +56,9 @@ index-last-requires g c =
 pub behind-requires : goal.behind-requires
 behind-requires g c = subst (λ rules. ArePlans rules c.self.inside.plans) (sym c.deref.ensures) c.self.invariant.0.plans
 
-pub returns-in_err-next : goal.returns-in_err-next
-returns-in_err-next g c = rw (err_from_is_err_and c.from_residual-in_err-next.result c.from_residual-in_err-next.ensures.1).1 tt
-
 pub loop-program-smaller : goal.loop-program-smaller
 loop-program-smaller g c =
     let trials = c.loop-program.trials.items in
     let less : length trials < 16 = subst (λ (n : ℕ). n < 16) (c.len.ensures ∙ c.loop-program.trials.ok.0) c.loop-program-test.true in
     let more : length c.push-in-loop-program.new.self.items ≡ length trials + 1 = ap length c.in_ok-push-2.ensures.items ∙ length-append trials (c.in-Trial.next ∷ []) in
     omega (arith, less, more)
-
-pub returns-in_err-push-2 : goal.returns-in_err-push-2
-returns-in_err-push-2 g c = rw (err_from_is_err_and c.from_residual-in_err-push-2.result c.from_residual-in_err-push-2.ensures.1).1 tt
