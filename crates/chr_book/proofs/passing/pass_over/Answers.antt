@@ -18,17 +18,6 @@ push_found-requires g c = (
       (finds (older c.args.program.now c.args.plans.now c.args.store.now.entries l) over.place c.pass_over-come.result.then c.pass_over-come.new.instance c.pass_over-come.new.bound over.next is).0,
 )
 
-pub returns-in_err-push_found-clause-err : goal.returns-in_err-push_found-clause-err
-returns-in_err-push_found-clause-err g c = rw (err_from_is_err_and c.from_residual.result c.from_residual.ensures.1).1 (λ l is. record {
-  passed = c.pass_over-come.result;
-  few = c.pass_over-come.ensures.few;
-  instance = c.pass_over-come.new.instance;
-  binding = c.pass_over-come.new.bound;
-  x = ticket_at c.pass_over-come.new.self c.args.ticket;
-  over = c.pass_over-come.ensures.passed l is;
-  tickets = c.in_err-push_found.ensures.err ∙ c.pass_over-come.ensures.others;
-})
-
 pub returns-clause-ok : goal.returns-clause-ok
 returns-clause-ok g c =
     let body = c.in_ok-push_found.ensures.ok in λ l is. record {
@@ -39,3 +28,14 @@ returns-clause-ok g c =
       made = subst (λ (w : Whole). MakesFound c.args.program.now c.pass_over-come.result.then w c.pass_over-come.new.bound body.0) c.whole.ensures body.1;
       tickets = body.2 ∙ ap (λ (ts : List Ticket). ts ++ body.0) c.pass_over-come.ensures.others;
     }
+
+pub returns-in_err-push_found-clause-err : goal.returns-in_err-push_found-clause-err
+returns-in_err-push_found-clause-err g c = rw (err_from_is_err_and c.from_residual.result c.from_residual.ensures.1).1 (λ l is. record {
+  passed = c.pass_over-come.result;
+  few = c.pass_over-come.ensures.few;
+  instance = c.pass_over-come.new.instance;
+  binding = c.pass_over-come.new.bound;
+  x = ticket_at c.pass_over-come.new.self c.args.ticket;
+  over = c.pass_over-come.ensures.passed l is;
+  tickets = c.in_err-push_found.ensures.err ∙ c.pass_over-come.ensures.others;
+})

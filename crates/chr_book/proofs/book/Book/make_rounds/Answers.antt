@@ -1,10 +1,8 @@
-use Rattle.std.proofs.Common.{◌≡◌, ◌≤◌, ◌-◌, ℕ, sym, ap, ◌∙◌, subst, arith}
+use Rattle.std.proofs.Common.{◌≡◌, ◌-◌, sym, ap, ◌∙◌, subst, arith}
 use Rattle.std.specs.Arc.{arc_value}
 use Rattle.std.proofs.lemmas.Result.{err_from_is_err_and}
 use Rattle.chr_store.specs.Labels.{LabelledStore}
-use Rattle.chr_plan.specs.Plans.{ArePlans}
 use Rattle.chr_calls.specs.Headline.{IsKept}
-use Rattle.chr_calls.specs.Tickets.{ticket_at}
 use Rattle.chr_calls.specs.Books.{BookState}
 use Rattle.chr_calls.specs.Calls.{HoldsLive}
 use Rattle.chr_book.specs.Books.{book_of}
@@ -81,12 +79,3 @@ pub returns-clause-all : goal.returns-clause-all
 returns-clause-all g c = λ passed.
     let all : c.in_ok-come.come.count ≡ c.args.most - 1 = c.in_ok-come.ensures.more ((ends_show c.args.seat c.args.ticket c.in_ok-come.come.then c.whole.result.now c.in-Ok.last c.pass_over.new.tickets c.self.inside.log c.self.inside.store c.end_rounds.new.tickets c.end_rounds.new.log c.end_rounds.new.store c.in-Ok.ensures.ok).1 passed) in
     omega arith
-
-pub pass_over-requires-clause-active : goal.pass_over-requires-clause-active
-pass_over-requires-clause-active g c = (c.requires.held.0, ap (λ (b : BookState). (ticket_at b.tickets c.args.ticket).goal) c.self.view_is ∙ c.requires.held.1.holds.goal)
-
-pub pass_over-requires-clause-plans : goal.pass_over-requires-clause-plans
-pass_over-requires-clause-plans g c = subst (λ rules. ArePlans rules c.self.inside.plans) (sym c.deref.ensures) c.self.invariant.0.plans
-
-pub truncate-requires : goal.truncate-requires
-truncate-requires g c = subst (λ (n : ℕ). 1 ≤ n) (sym c.next-first.ensures.value) c.next-first.ensures.some

@@ -63,6 +63,3 @@ returns g c =
 
 pub move_on-requires-clause-judged : goal.move_on-requires-clause-judged
 move_on-requires-clause-judged g c = (c.args.seat, inr (asked_as c.loop-judged.self c.args.seat c.args.ticket c.trial.result.now c.judged-item.result.trial c.is_next.result (Some true) c.trial.ensures (c.in-Some.is ∙ ap Some c.if-is_next.true) c.is_next.ensures))
-
-pub move_on-requires-clause-other : goal.move_on-requires-clause-other
-move_on-requires-clause-other g c = λ whole. c.in_default-verdict.not-Whole (c.verdict.ensures.verdict ∙ whole)

@@ -1,5 +1,4 @@
 use Rattle.std.proofs.Common.{rules, ◌≡◌, suc, ◌-◌, slice_get, Some, None, refl, arith}
-use Rattle.std.proofs.lemmas.Result.{err_from_is_err_and}
 use Rattle.chr_search.specs.Verdicts.{IsFormed}
 use Rattle.chr_sheet.specs.Kept.{trials_in}
 use Rattle.chr_calls.specs.Books.{space_of}
@@ -7,7 +6,7 @@ use Rattle.chr_calls.specs.Batches.{AreTogether, IsNextAfter, NoneAfter}
 use Rattle.chr_book.specs.Given.{ComesNext}
 use Rattle.chr_book.specs.Asked.{IsLiveSearch}
 use Rattle.chr_book.proofs.Sheets.{given, sheet_comes, sheet_done}
-use Rattle.chr_book.proofs.Turns.{find_refused, found_as}
+use Rattle.chr_book.proofs.Turns.{found_as}
 use Rattle.chr_book.proofs.book.Book.sheet.Goals as goal
 use Rattle.chr_book.proofs.book.Book.sheet.Goals.{In-Ok-first, In-Some}
 
@@ -40,11 +39,6 @@ returns g c =
     given IsNextAfter NoneAfter (c.args.most - 1) c.args.self.now c.args.self.now c.set_candidate.new.self refl c.args.seat c.args.ticket c.in-Some.search.now.label c.in-Ok-first.candidate (trials_in c.in-Ok.trials.items) (live g at.In-Some).holds
     (next.0.label, next.0.holds, next.0.is, c.set_candidate.ensures) next.1
 
-pub returns-in_err-search : goal.returns-in_err-search
-returns-in_err-search g c =
-    let p = err_from_is_err_and c.from_residual.result c.from_residual.ensures.1 in
-    rw (p.1, p.2) (find_refused c.args.self.now c.args.seat c.args.ticket c.in_err-search.field-0.0 c.in_err-search.ensures)
-
 pub forget_candidate-requires : goal.forget_candidate-requires
 forget_candidate-requires g c =
     let gone = found_as c.args.self.now c.args.seat c.args.ticket c.in_ok-search.ensures c.in_default.is in
@@ -54,9 +48,6 @@ pub returns-in_default : goal.returns-in_default
 returns-in_default g c =
     let gone = found_as c.args.self.now c.args.seat c.args.ticket c.in_ok-search.ensures c.in_default.is in
     (gone.label, gone.holds, gone.gone, c.forget_candidate.ensures)
-
-pub read-requires : goal.read-requires
-read-requires g c = c.self.invariant.0.plans
 
 pub returns-in_default-read : goal.returns-in_default-read
 returns-in_default-read g c = (c.in-Some.search.now.label, (live g (goal.at.returns-in_default-read g c).In-Some).holds, refl)

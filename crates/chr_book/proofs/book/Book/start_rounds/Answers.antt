@@ -6,7 +6,6 @@ use Rattle.chr_search.specs.Reach.{SearchState}
 use Rattle.chr_search.specs.Trials.{older}
 use Rattle.chr_search.specs.declared.search.Whole.{Whole}
 use Rattle.chr_calls.specs.declared.answers.TicketState.TheVariants.{Waiting}
-use Rattle.chr_plan.specs.Plans.{ArePlans}
 use Rattle.chr_calls.specs.Headline.{IsKept}
 use Rattle.chr_calls.specs.Tickets.{state_of}
 use Rattle.chr_calls.specs.Books.{BookState}
@@ -85,24 +84,6 @@ returns-clause-all g c = λ passed.
     let all : c.in-Ok.come.count ≡ c.args.most - 1 = c.in-Ok.ensures.more ((starts_show c.args.seat c.args.ticket c.pass_over_before.new.search.place c.swap_atom.new.other c.in-Ok.come.then c.whole.result.now c.in-Ok-end_start.last c.pass_over_before.new.tickets c.self.inside.log c.self.inside.store c.end_start.new.tickets c.end_start.new.log c.end_start.new.store c.in-Ok-end_start.ensures.ok).1 passed) in
     omega arith
 
-pub swap_atom-requires : goal.swap_atom-requires
-swap_atom-requires g c = subst (λ (b : BookState). state_of b.tickets c.args.ticket ≡ Waiting) (sym c.self.view_is) c.requires.waiting
-
-pub pass_over_before-requires-clause-plans : goal.pass_over_before-requires-clause-plans
-pass_over_before-requires-clause-plans g c = subst (λ rules. ArePlans rules c.self.inside.plans) (sym c.deref.ensures) c.self.invariant.0.plans
-
-pub pass_over_before-requires-clause-label : goal.pass_over_before-requires-clause-label
-pass_over_before-requires-clause-label g c = ap (λ (z : SearchState). z.label) c.begin-search.ensures ∙ c.next_label.ensures.value
-
-pub pass_over_before-requires-clause-room : goal.pass_over_before-requires-clause-room
-pass_over_before-requires-clause-room g c = subst (λ (b : BookState). b.next ≤ b.limit) (sym c.self.view_is) c.requires.room
-
-pub take_back-requires : goal.take_back-requires
-take_back-requires g c = subst (λ (n : ℕ). 1 ≤ n) (sym c.next-first.ensures.value) c.next-first.ensures.some
-
-pub end_start-requires-clause-label : goal.end_start-requires-clause-label
-end_start-requires-clause-label g c = c.in-Ok.ensures.label ∙ ap (λ (z : SearchState). z.label) c.begin-search.ensures ∙ c.next_label.ensures.value
-
 pub end_start-requires-clause-found : goal.end_start-requires-clause-found
 end_start-requires-clause-found g c =
     let x = c.self.inside in
@@ -110,6 +91,3 @@ end_start-requires-clause-found g c =
     ap (λ (w : Whole). w.past.label) c.whole.ensures
     ∙ (finds (older c.deref.result.now x.plans (entered x.store c.swap_atom.new.other).entries c.begin-search.result.label) c.pass_over_before.new.search.place c.in-Ok.come.then c.pass_over_before.new.instance found.binding found.next is).1
     ∙ ap (λ (z : SearchState). z.label) c.begin-search.ensures ∙ c.next_label.ensures.value
-
-pub take_back-requires-in_default-end_start : goal.take_back-requires-in_default-end_start
-take_back-requires-in_default-end_start g c = subst (λ (n : ℕ). 1 ≤ n) (sym c.next-first.ensures.value) c.next-first.ensures.some

@@ -1,10 +1,9 @@
-use Rattle.std.proofs.Common.{rules, ◌≡◌, ◌<◌, ◌+◌, ◌-◌, ℕ, List, [], ◌∷◌, ◌++◌, length, length-append, ap, subst, ◌∙◌, arith, sym}
-use Rattle.chr_plan.specs.Plans.{ArePlans}
+use Rattle.std.proofs.Common.{rules, ◌≡◌, ◌<◌, ◌-◌, List, [], ◌∷◌, ◌++◌, length, ap, ◌∙◌}
 use Rattle.chr_search.specs.Verdicts.{Trial}
 use Rattle.chr_calls.specs.Books.{space_of}
 use Rattle.chr_calls.specs.Batches.{IsNextBeside, NoneBeside}
 use Rattle.chr_book.specs.Books.{book_of}
-use Rattle.chr_book.proofs.Sheets.{behind_told, together_first, together_next, together_end, together_full, last_there, some_together}
+use Rattle.chr_book.proofs.Sheets.{behind_told, together_first, together_next, together_end, together_full, last_there}
 use Rattle.chr_book.proofs.book.Book.with_those_behind.Goals.{else-loop-program-test, then-loop-program-test+in_ok-next+in_default}
 use Rattle.chr_book.proofs.book.Book.with_those_behind.Goals as goal
 
@@ -42,23 +41,3 @@ pub loop-program-init : goal.loop-program-init
 loop-program-init g c =
     let s = space_of c.args.self.now c.args.search.now.label in
     together_first (IsNextBeside s) (NoneBeside s) 16 c.args.first c.push.new.self.items (c.in_ok-push.ensures.items ∙ ap (λ (trials : List Trial). trials ++ c.args.first ∷ []) c.in_ok-trials.ensures.items)
-
-pub overflow_sub-len : goal.overflow_sub-len
-overflow_sub-len g c =
-    let many : c.len-in-loop-program.result ≡ length c.loop-program.trials.items = c.len-in-loop-program.ensures ∙ c.loop-program.trials.ok.0 in
-    omega (arith, some_together c.loop-program.invariant)
-
-pub index-last-requires : goal.index-last-requires
-index-last-requires g c =
-    let many : c.len-in-loop-program.result ≡ length c.loop-program.trials.items = c.len-in-loop-program.ensures ∙ c.loop-program.trials.ok.0 in
-    omega (arith, c.len-in-loop-program.ensures, some_together c.loop-program.invariant)
-
-pub behind-requires : goal.behind-requires
-behind-requires g c = subst (λ rules. ArePlans rules c.self.inside.plans) (sym c.deref.ensures) c.self.invariant.0.plans
-
-pub loop-program-smaller : goal.loop-program-smaller
-loop-program-smaller g c =
-    let trials = c.loop-program.trials.items in
-    let less : length trials < 16 = subst (λ (n : ℕ). n < 16) (c.len.ensures ∙ c.loop-program.trials.ok.0) c.loop-program-test.true in
-    let more : length c.push-in-loop-program.new.self.items ≡ length trials + 1 = ap length c.in_ok-push-2.ensures.items ∙ length-append trials (c.in-Trial.next ∷ []) in
-    omega (arith, less, more)
