@@ -1,2 +1,1 @@
-pub mod SoloFixed
 pub mod SoloRuns

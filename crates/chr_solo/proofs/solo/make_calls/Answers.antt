@@ -1,53 +1,50 @@
-use Rattle.std.proofs.Common.{◌≡◌, ◌∙◌, ◌-◌, ◌/◌, sym, subst, arith, MatchOption, Err}
+use Rattle.std.proofs.Common.{◌≡◌, ◌-◌, ◌/◌, sym, subst, arith, MatchOption, Err}
 use Rattle.chr_calls.specs.declared.answers.ClaimFault.TheVariants as claim
-use Rattle.chr_calls.specs.Tickets.{NoneFor, IsLeastFor, IsOpenFor, state_of}
+use Rattle.chr_calls.specs.Tickets.{NoneFor, IsLeastFor}
 use Rattle.chr_calls.specs.Books.{BookState}
 use Rattle.chr_calls.specs.Calls.{Claims}
 use Rattle.chr_solo.specs.Solo.{SoloCall, IsCutShort}
-use Rattle.chr_solo.specs.SoloCode.{known_of, IsAware, SoloSoFar}
+use Rattle.chr_solo.specs.SoloCode.{known_of, SoloSoFar}
 use Rattle.chr_solo.proofs.SoloRuns.{begins, goes_on, ends_full, ends_none, ends_spent, cut_short, cut_start, none_of, on_err}
 use Rattle.chr_solo.proofs.solo.make_calls.Goals as goal
+use Rattle.chr_solo.proofs.solo.make_calls.Goals.{Else-made-gt0}
+
+-- where no round was made, the calls made so far led to the book, and the ticket is the next one
+stays : (g : _) (c : Else-made-gt0 g) → SoloSoFar c.args.seat c.args.book.now c.loop-calls.calls c.make_rounds.new.book (known_of c.loop-calls.known) × IsLeastFor c.make_rounds.new.book.tickets c.args.seat c.in-Some.ticket
+stays g c =
+    let same : c.make_rounds.new.book ≡ c.loop-calls.book = c.in_ok-made.ensures.none (omega (arith, c.if-made-gt0.false)) in (
+      subst (λ (b : BookState). SoloSoFar c.args.seat c.args.book.now c.loop-calls.calls b (known_of c.loop-calls.known)) (sym same) c.loop-calls.invariant.0,
+      subst (λ (b : BookState). IsLeastFor b.tickets c.args.seat c.in-Some.ticket) (sym same) c.in-Some.ensures,
+    )
 
 pub loop-calls-init : goal.loop-calls-init
 loop-calls-init g c = (begins c.args.seat c.args.book.now, omega arith)
 
 pub returns-in_err-made-clause-cut_short : goal.returns-in_err-made-clause-cut_short
 returns-in_err-made-clause-cut_short g c =
-    let most = c.args.most in
-    let calls = c.loop-calls.calls in
-    let left = most - calls in
-    on_err (IsCutShort c.args.seat most c.args.book.now c.make_rounds.new.book) c.from_residual.result
-    (cut_start c.args.seat c.in-Some.ticket most calls ((left - 1) / 2) (left / 2) c.args.book.now c.loop-calls.book c.make_rounds.new.book (known_of c.loop-calls.known) c.loop-calls.invariant.0 c.in_err-made.ensures.nothing c.in-Some.ensures c.in_err-made.ensures.err c.if-calls-most.true (omega (arith, c.if-calls-most.true)) (omega (arith, c.if-calls-most.true)))
+    let left = c.args.most - c.loop-calls.calls in
+    on_err (IsCutShort c.args.seat c.args.most c.args.book.now c.make_rounds.new.book) c.from_residual.result
+    (cut_start c.args.seat c.in-Some.ticket c.args.most c.loop-calls.calls ((left - 1) / 2) (left / 2) c.args.book.now c.loop-calls.book c.make_rounds.new.book (known_of c.loop-calls.known) c.loop-calls.invariant.0 c.in_err-made.ensures.nothing c.in-Some.ensures c.in_err-made.ensures.err c.if-calls-most.true (omega (arith, c.if-calls-most.true)) (omega (arith, c.if-calls-most.true)))
 
 pub call_for-requires-clause-free : goal.call_for-requires-clause-free
-call_for-requires-clause-free g c =
-    let same : c.make_rounds.new.book ≡ c.loop-calls.book = c.in_ok-made.ensures.none (omega (arith, c.if-made-gt0.false)) in
-    subst (λ (m : BookState). IsOpenFor c.args.seat (state_of m.tickets c.in-Some.ticket)) (sym same) c.in-Some.ensures.free
+call_for-requires-clause-free g c = (stays g (goal.at.call_for-requires-clause-free g c).Else-made-gt0).1.free
 
 pub call_for-requires-clause-aware : goal.call_for-requires-clause-aware
-call_for-requires-clause-aware g c =
-    let same : c.make_rounds.new.book ≡ c.loop-calls.book = c.in_ok-made.ensures.none (omega (arith, c.if-made-gt0.false)) in
-    subst (λ (m : BookState). IsAware m c.args.seat c.in-Some.ticket (known_of c.loop-calls.known)) (sym same) (c.loop-calls.invariant.0.aware c.in-Some.ticket c.in-Some.ensures)
+call_for-requires-clause-aware g c = let so = stays g (goal.at.call_for-requires-clause-aware g c).Else-made-gt0 in so.0.aware c.in-Some.ticket so.1
 
 pub returns-in_err-next-clause-cut_short : goal.returns-in_err-next-clause-cut_short
 returns-in_err-next-clause-cut_short g c =
-    let same : c.make_rounds.new.book ≡ c.loop-calls.book = c.in_ok-made.ensures.none (omega (arith, c.if-made-gt0.false)) in
     on_err (IsCutShort c.args.seat c.args.most c.args.book.now c.call_for.new.book) c.from_residual-in_err-next.result
-    (cut_short c.args.seat c.args.most c.loop-calls.calls c.args.book.now c.loop-calls.book (known_of c.loop-calls.known) c.call_for.new.book c.loop-calls.invariant.0 c.if-calls-most.true (c.in_err-next.ensures.err ∙ same))
+    (cut_short c.args.seat c.args.most c.loop-calls.calls c.args.book.now c.make_rounds.new.book (known_of c.loop-calls.known) c.call_for.new.book (stays g (goal.at.returns-in_err-next-clause-cut_short g c).Else-made-gt0).0 c.if-calls-most.true c.in_err-next.ensures.err)
 
 pub loop-calls-preserved : goal.loop-calls-preserved
 loop-calls-preserved g c =
-    let seat = c.args.seat in
-    let t = c.in-Some.ticket in
-    let first = c.args.book.now in
     let b = c.make_rounds.new.book in
     let n = c.call_for.new.book in
     let known = known_of c.loop-calls.known in
-    let same : b ≡ c.loop-calls.book = c.in_ok-made.ensures.none (omega (arith, c.if-made-gt0.false)) in
-    let so = subst (λ (m : BookState). SoloSoFar seat first c.loop-calls.calls m known) (sym same) c.loop-calls.invariant.0 in
-    let least = subst (λ (m : BookState). IsLeastFor m.tickets seat t) (sym same) c.in-Some.ensures in
-    let made = subst (λ o. MatchOption o (Claims b seat t (Err claim.LabelsSpent) n) (λ after. SoloCall seat t b known n (known_of after))) c.in-Some-2.is c.in_ok-next.ensures.ok in
-    (goes_on seat c.loop-calls.calls t first b known n (known_of c.in-Some-2.next) so least made, omega (arith, c.if-calls-most.true))
+    let so = stays g (goal.at.loop-calls-preserved g c).Else-made-gt0 in
+    let made = subst (λ o. MatchOption o (Claims b c.args.seat c.in-Some.ticket (Err claim.LabelsSpent) n) (λ after. SoloCall c.args.seat c.in-Some.ticket b known n (known_of after))) c.in-Some-2.is c.in_ok-next.ensures.ok in
+    (goes_on c.args.seat c.loop-calls.calls c.in-Some.ticket c.args.book.now b known n (known_of c.in-Some-2.next) so.0 so.1 made, omega (arith, c.if-calls-most.true))
 
 pub returns-else-calls-most-clause-solo : goal.returns-else-calls-most-clause-solo
 returns-else-calls-most-clause-solo g c =
@@ -60,12 +57,8 @@ returns-in_default-clause-solo g c =
 
 pub returns-in_default-2-clause-solo : goal.returns-in_default-2-clause-solo
 returns-in_default-2-clause-solo g c =
-    let seat = c.args.seat in
-    let t = c.in-Some.ticket in
-    let first = c.args.book.now in
-    let now = c.make_rounds.new.book in
+    let b = c.make_rounds.new.book in
     let n = c.call_for.new.book in
-    let known = known_of c.loop-calls.known in
-    let same : now ≡ c.loop-calls.book = c.in_ok-made.ensures.none (omega (arith, c.if-made-gt0.false)) in
-    ends_spent seat c.args.most c.loop-calls.calls t first now known n (subst (λ (m : BookState). SoloSoFar seat first c.loop-calls.calls m known) (sym same) c.loop-calls.invariant.0) c.if-calls-most.true (subst (λ (m : BookState). IsLeastFor m.tickets seat t) (sym same) c.in-Some.ensures)
-    (none_of (Claims now seat t (Err claim.LabelsSpent) n) (λ after. SoloCall seat t now known n (known_of after)) c.in_ok-next.field-0 c.in_ok-next.ensures.ok c.in_default-2.not-Some)
+    let so = stays g (goal.at.returns-in_default-2-clause-solo g c).Else-made-gt0 in
+    ends_spent c.args.seat c.args.most c.loop-calls.calls c.in-Some.ticket c.args.book.now b (known_of c.loop-calls.known) n so.0 c.if-calls-most.true so.1
+    (none_of (Claims b c.args.seat c.in-Some.ticket (Err claim.LabelsSpent) n) (λ after. SoloCall c.args.seat c.in-Some.ticket b (known_of c.loop-calls.known) n (known_of after)) c.in_ok-next.field-0 c.in_ok-next.ensures.ok c.in_default-2.not-Some)

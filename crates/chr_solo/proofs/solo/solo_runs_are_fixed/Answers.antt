@@ -1,5 +1,5 @@
 use Rattle.chr_solo.specs.Solo.{Nothing}
-use Rattle.chr_solo.proofs.SoloFixed.{run_same, solo_same, cut_begins}
+use Rattle.chr_solo.proofs.SoloRuns.{run_same, solo_same, cut_begins}
 use Rattle.chr_solo.proofs.solo.solo_runs_are_fixed.Goals as goal
 
 pub returns-clause-runs : goal.returns-clause-runs
