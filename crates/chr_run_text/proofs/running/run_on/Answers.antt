@@ -1,5 +1,4 @@
-use Rattle.chr_run_text.proofs.Texts.{texts}
-use Rattle.chr_run_text.proofs.Made.{is_made, posts_refused}
+use Rattle.chr_run_text.proofs.Texts.{texts, is_made, posts_refused}
 use Rattle.chr_run_text.proofs.running.run_on.Goals as goal
 
 pub returns-in-Ok-run_posted-clause-run : goal.returns-in-Ok-run_posted-clause-run

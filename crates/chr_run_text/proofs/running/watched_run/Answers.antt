@@ -1,6 +1,6 @@
 use Rattle.std.proofs.Common.{subst, sym}
 use Rattle.chr_run_text.specs.RunText.{IsRefused}
-use Rattle.chr_run_text.proofs.Made.{one_run, one_refused}
+use Rattle.chr_run_text.proofs.Texts.{one_run, one_refused}
 use Rattle.chr_run_text.proofs.running.watched_run.Goals as goal
 
 pub returns-in-Ok : goal.returns-in-Ok
