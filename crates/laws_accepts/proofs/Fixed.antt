@@ -15,7 +15,7 @@ use Rattle.chr_calls.specs.Books.{BookState, opened}
 use Rattle.chr_solo.specs.Solo.{IsSolo}
 use Rattle.chr_solo.specs.declared.solo.End.{End}
 use Rattle.chr_solo.specs.declared.solo.End.TheVariants.{Quiet}
-use Rattle.chr_solo.proofs.SoloFixed.{solo_same}
+use Rattle.chr_solo.proofs.SoloRuns.{solo_same}
 use Rattle.chr_check.specs.declared.checking.Verdict.TheVariants.{RunAndFinal}
 use Rattle.chr_run_text.specs.Output.{shown}
 use Rattle.chr_run_text.specs.Texts.{PostsOf}
@@ -23,11 +23,11 @@ use Rattle.chr_run_text.specs.RunText.{seat, posted_book, IsRunOf, IsMade}
 use Rattle.chr_run_text.specs.declared.output.Show.{Show}
 use Rattle.chr_run_text.specs.declared.output.Show.TheVariants as show
 use Rattle.chr_run_text.specs.declared.running.RunOut.{RunOut}
-use Rattle.chr_run_text.proofs.SoloPosts.{posted_rules}
 use Rattle.chr_check_text.specs.CheckTexts.{IsCheckText}
 use Rattle.chr_check_text.specs.declared.checked.Checked.{Checked}
 use Rattle.chr_check_text.specs.declared.checked.CheckTextFault.{CheckTextFault}
 use Rattle.laws_accepts.specs.Accepted.{IsTextRun, verdict_of, IsAnswered}
+use Rattle.laws_accepts.proofs.Stays.{all_stay}
 use Rattle.laws_accepts.proofs.Checked.{same_ok, are_rules, accepted, strict_accepted, text_run_readable}
 
 -- ---- plans
@@ -67,7 +67,7 @@ book_same rules atoms names steps limit b c whole x y =
     let first = posted_book rules x.plans atoms names limit in
     let plans = plans_same rules y.plans x.plans y.are_plans x.are_plans in
     let other = subst (λ (p : PlanList). IsSolo seat steps (posted_book rules p atoms names limit) y.calls c) plans y.solo in
-    let scoped : AllByRecursion IsRule first.rules = subst (AllByRecursion IsRule) (sym (posted_rules (opened rules x.plans names limit) seat atoms)) whole in
+    let scoped : AllByRecursion IsRule first.rules = subst (AllByRecursion IsRule) (sym (all_stay (opened rules x.plans names limit) seat atoms).rules) whole in
     (solo_same seat steps first x.calls y.calls b c scoped x.solo other).1
 
 run_same : (program posts : List ℕ) (steps limit : ℕ) (read : RulesOf program) (posted : PostsOf read.table posts) (rules : List (Simpagation ℕ)) (table : Table) (atoms : List (Atom ℕ)) (names : Table) (b c : BookState)

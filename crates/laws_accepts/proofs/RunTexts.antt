@@ -8,7 +8,7 @@ use Rattle.chr_calls.specs.Books.{BookState}
 use Rattle.chr_solo.specs.declared.solo.End.{End}
 use Rattle.chr_run_text.specs.Texts.{with_posts}
 use Rattle.chr_run_text.specs.RunTexts.{IsRunOfTexts}
-use Rattle.chr_run_text.proofs.Texts.{ok_is, bind_ok}
+use Rattle.chr_text.proofs.Texts.{ok_is, bind_ok}
 use Rattle.laws_accepts.proofs.Posted.{AreRead, none_read, text_read, both_read}
 use Rattle.laws_accepts.proofs.Checked.{IsReadable, run_readable}
 

@@ -25,14 +25,15 @@ use Rattle.chr_check.specs.declared.checking.Verdict.TheVariants.{Run, RunAndFin
 use Rattle.chr_check.specs.declared.fault.CheckFault.{CheckFault}
 use Rattle.chr_check.specs.Faults.{IsRun, IsFinalRun}
 use Rattle.chr_run_text.specs.RunText.{seat, posted_book, IsRunOf}
-use Rattle.chr_run_text.proofs.SoloPosts.{solo_rules, posted_rules}
+use Rattle.chr_solo.proofs.SoloRuns.{run_lasts}
+use Rattle.laws_accepts.proofs.Stays.{all_stay}
 use Rattle.chr_check_text.specs.CheckTexts.{IsAnswer}
 use Rattle.laws_accepts.specs.Accepted.{verdict_of}
 
 rules_same : (rules : List (Simpagation ℕ)) (atoms : List (Atom ℕ)) (names : List (List ℕ)) (steps limit : ℕ) (b : BookState) → IsRunOf rules atoms names steps limit b → b.rules ≡ rules
 rules_same rules atoms names steps limit b run =
-    solo_rules seat run.solo.made (posted_book rules run.plans atoms names limit) Nothing b run.solo.known run.solo.run
-    ∙ posted_rules (opened rules run.plans names limit) seat atoms
+    ap (λ x. x.0) (run_lasts seat run.solo.made (posted_book rules run.plans atoms names limit) Nothing b run.solo.known run.solo.run)
+    ∙ (all_stay (opened rules run.plans names limit) seat atoms).rules
 
 pub lawful_is : (rules : List (Simpagation ℕ)) (atoms : List (Atom ℕ)) (names : List (List ℕ)) (steps limit : ℕ) (b : BookState) → IsRunOf rules atoms names steps limit b → Lawful Two (Instances rules) (events b) (goal_state b)
 lawful_is rules atoms names steps limit b run =
