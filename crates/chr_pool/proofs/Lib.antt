@@ -1,10 +1,6 @@
 pub mod Rules
 pub mod ViewLists
-pub mod Drains
 pub mod Gathers
 pub mod Settles
-pub mod Settled
-pub mod Pools
 pub mod Makings
-pub mod Ids
 pub mod Permutes

@@ -1,11 +1,25 @@
 -- The accounts of all passes, pushed together.
-use Rattle.std.proofs.Common.{◌≡◌, ℕ, ◌+◌, List, [], ◌∷◌, ◌++◌, map, All, length, sym, refl, ap, ◌∙◌, suc, subst, arith}
-use Rattle.std.specs.List.{sum_by, flat_map}
-use Rattle.std.proofs.lemmas.List.{length-map, get_or-map}
+use Rattle.std.proofs.Common.{◌≡◌, ℕ, ◌+◌, List, [], ◌∷◌, ◌++◌, map, All, length, sym, refl, ap, ◌∙◌, suc, subst, arith, get_or, length-append}
+use Rattle.std.specs.List.{sum_by, flat_map, concat}
+use Rattle.std.proofs.lemmas.List.{length-map, get_or-map, map-append}
 use Rattle.std.proofs.lemmas.List.Elements.{All-head, All-tail}
-use Rattle.std.proofs.lemmas.List.Sums.{sum_by-cons, sum_by-append}
+use Rattle.std.proofs.lemmas.List.Sums.{sum_by-cons, sum_by-append, sum_by_push}
 use Rattle.chr_pool.specs.declared.account.Account.{Account}
 use Rattle.chr_pool.specs.Accounts.{join, absorbed, all_absorbed, joined, added, all_added, parts_of}
+use Rattle.std.specs.Prelude.{Vec}
+use Rattle.std.specs.declared.alloc.Global.{Global}
+use Rattle.chr_pool.specs.declared.own_deque.OwnDeque.{OwnDeque}
+use Rattle.chr_pool.specs.declared.deque_handle.DequeHandle.{DequeHandle}
+use Rattle.chr_pool.specs.declared.queue_handle.QueueHandle.{QueueHandle}
+use Rattle.chr_pool.specs.Handles.{queue_account, taken_of, pushed_of, stolen, handle_account}
+use Rattle.chr_pool.specs.Hands.{row_accounts, row_deques, hand_account, hand_handles, hand_queue, hand_pushed, hand_taken}
+use Rattle.chr_pool.specs.OwnDeques.{own_account, own_deque, accounts}
+use Rattle.std.proofs.lemmas.List.Concat.{concat_is, length-flat_map}
+use Rattle.std.proofs.lemmas.List.Folds.{flat_map-map}
+use Rattle.chr_pool.specs.declared.hand.Hand.{Hand}
+use Rattle.chr_pool.specs.declared.inlet.Inlet.{Inlet}
+use Rattle.chr_pool.specs.Inlets.{inlet_pushed, inlet_queue}
+use Rattle.chr_pool.specs.Pools.{pool_pushed, pool_taken}
 
 pub weigh_flat : {X : Type 0} (h : ℕ → ℕ) (f : X → List ℕ) (xs : List X) → sum_by h (flat_map f xs) ≡ sum_by (λ x. sum_by h (f x)) xs
 weigh_flat h f [] = refl
@@ -57,3 +71,102 @@ parts_all_absorbed row (r ∷ rs) vs =
 
 pub All-unmap : {X Y : Type 0} (P : Y → Type 0) (f : X → Y) (xs : List X) → All P (map f xs) → All (λ x. P (f x)) xs
 All-unmap P f xs h k d within = subst P (get_or-map f xs k d (f d) within) (h k (f d) (omega (arith, length-map xs f)))
+
+-- What a deque's worker and the queue's first queue_handle know once they took in all other accounts.
+
+pub own_whole : {X : Type 0} (row : X → List Account) (rs : List X) (vs us : List Account) → us ≡ all_absorbed vs (map row rs) → All (λ p. p ≡ 64) (all_added (parts_of vs) (map (λ r. parts_of (row r)) rs)) → All (λ (v : Account). v.parts ≡ 64) us
+own_whole row rs vs us rule all =
+    All-unmap (λ (p : ℕ). p ≡ 64) (λ (v : Account). v.parts) us (subst (All (λ (p : ℕ). p ≡ 64)) (sym (ap parts_of rule ∙ parts_all_absorbed row rs vs)) all)
+
+-- `v` is of the queue's handle that took in all others
+module _ {T : Type 0} (queue_handles : Vec (QueueHandle T) Global) (rest : List (QueueHandle T)) (queue_handle : QueueHandle T) (v : Account)
+    (popped : queue_handles.items ≡ rest ++ queue_handle ∷ []) (queue_rule : v ≡ joined (queue_account queue_handle) (map queue_account rest)) where
+  pub queue_settled : (w : Account → ℕ) → ((a b : Account) → w (join a b) ≡ w a + w b) → sum_by (λ l. w (queue_account l)) queue_handles.items ≡ w v
+  queue_settled w both =
+      let of_handle : QueueHandle T → ℕ = λ l. w (queue_account l) in
+      omega (arith, ap (sum_by of_handle) popped, sum_by_push of_handle rest queue_handle, ap w queue_rule, weigh_joined w both queue_account (queue_account queue_handle) rest)
+
+  -- and `us` of the deques, each of which took in what is of it in all rows
+  pub settled : (owns : Vec (OwnDeque T) Global) (rows : Vec (Vec (DequeHandle T) Global) Global) (us : List Account) → All (λ r. row_deques r ≡ map own_deque owns.items) rows.items
+      → us ≡ all_absorbed (map own_account owns.items) (map row_accounts rows.items) → (f : Account → List ℕ) → ((a b : Account) → f (join a b) ≡ f a ++ f b) → (h : ℕ → ℕ)
+      → sum_by h (flat_map f (accounts owns rows queue_handles)) ≡ sum_by h (flat_map f us) + sum_by h (f v)
+  settled owns rows us deques own_rule f both h =
+      let w : Account → ℕ = λ a. sum_by h (f a) in
+      let added : (a b : Account) → w (join a b) ≡ w a + w b = λ a b. ap (sum_by h) (both a b) ∙ sum_by-append h (f a) (f b) in
+      let vs = map own_account owns.items in
+      let rs = flat_map row_accounts rows.items in
+      let ls = map queue_account queue_handles.items in
+      let long : All (λ r. length (row_accounts r) ≡ length vs) rows.items = λ k d within. simp length-map (simp length-map at (ap length (deques k d within))) in
+      omega (arith, weigh_flat h f (vs ++ rs ++ ls), weigh_flat h f us, sum_by-append w (vs ++ rs) ls, sum_by-append w vs rs, ap (sum_by w) own_rule, weigh_all_absorbed w added row_accounts rows.items vs long, sum_map w queue_account queue_handles.items, queue_settled w added)
+
+-- What all hands and inlets pushed and took, by the accounts of their passes.
+
+module _ {T : Type 0} where
+  -- the accounts of all passes
+  abbrev pub everyone : List (Hand T) → List (Inlet T) → List Account
+  everyone hs is = map hand_account hs ++ flat_map row_accounts (map hand_handles hs) ++ map queue_account (map hand_queue hs ++ map inlet_queue is)
+
+  pub same_accounts : (owns : Vec (OwnDeque T) Global) (rows : Vec (Vec (DequeHandle T) Global) Global) (queue_handles : Vec (QueueHandle T) Global) (hs : List (Hand T)) (is : List (Inlet T))
+      → map own_account owns.items ≡ map hand_account hs → rows.items ≡ map hand_handles hs → queue_handles.items ≡ map hand_queue hs ++ map inlet_queue is → accounts owns rows queue_handles ≡ everyone hs is
+  same_accounts owns rows queue_handles hs is a b c k = a k ++ flat_map row_accounts (b k) ++ map queue_account (c k)
+
+-- what all passes have, by what those of each hand and of each inlet have together
+module _ {T : Type 0} (h : ℕ → ℕ) (side : Account → List ℕ) (of_hand : Hand T → List ℕ) (of_inlet : Inlet T → List ℕ)
+    (hand : (x : Hand T) → sum_by h (side (hand_account x)) + sum_by h (flat_map side (row_accounts x.deque_handles)) + sum_by h (side (queue_account x.queue_handle)) ≡ sum_by h (of_hand x))
+    (inlet : (x : Inlet T) → side (queue_account x.queue_handle) ≡ of_inlet x) where
+  abbrev weight : Account → ℕ
+  weight v = sum_by h (side v)
+
+  hands_sum : (hs : List (Hand T)) → sum_by weight (map hand_account hs) + sum_by weight (flat_map row_accounts (map hand_handles hs)) + sum_by weight (map queue_account (map hand_queue hs)) ≡ sum_by h (flat_map of_hand hs)
+  hands_sum [] = refl
+  hands_sum (x ∷ hs) =
+      omega (
+        arith,
+        hand x,
+        hands_sum hs,
+        weigh_flat h side (row_accounts x.deque_handles),
+        sum_by-cons weight (hand_account x) (map hand_account hs),
+        sum_by-append weight (row_accounts x.deque_handles) (flat_map row_accounts (map hand_handles hs)),
+        sum_by-cons weight (queue_account x.queue_handle) (map queue_account (map hand_queue hs)),
+        sum_by-append h (of_hand x) (flat_map of_hand hs),
+      )
+
+  inlets_sum : (is : List (Inlet T)) → sum_by weight (map queue_account (map inlet_queue is)) ≡ sum_by h (flat_map of_inlet is)
+  inlets_sum [] = refl
+  inlets_sum (x ∷ is) =
+      omega (arith, ap (sum_by h) (inlet x), inlets_sum is, sum_by-cons weight (queue_account x.queue_handle) (map queue_account (map inlet_queue is)), sum_by-append h (of_inlet x) (flat_map of_inlet is))
+
+  everyone_sum : (hs : List (Hand T)) (is : List (Inlet T)) → sum_by h (flat_map side (everyone hs is)) ≡ sum_by h (flat_map of_hand hs) + sum_by h (flat_map of_inlet is)
+  everyone_sum hs is =
+      let own = map hand_account hs in
+      let rows = flat_map row_accounts (map hand_handles hs) in
+      let queues = map queue_account (map hand_queue hs) in
+      let ends = map queue_account (map inlet_queue is) in
+      let last = ap (sum_by weight) (map-append queue_account (map hand_queue hs) (map inlet_queue is)) ∙ sum_by-append weight queues ends in
+      omega (arith, weigh_flat h side (everyone hs is), sum_by-append weight (own ++ rows) (map queue_account (map hand_queue hs ++ map inlet_queue is)), sum_by-append weight own rows, last, hands_sum hs, inlets_sum is)
+
+module _ {T : Type 0} (h : ℕ → ℕ) (hs : List (Hand T)) (is : List (Inlet T)) where
+  pub everyone_pushed : sum_by h (pushed_of (everyone hs is)) ≡ sum_by h (pool_pushed hs is)
+  everyone_pushed =
+      let hand : (x : Hand T) → sum_by h (hand_account x).pushed + sum_by h (pushed_of (row_accounts x.deque_handles)) + sum_by h (queue_account x.queue_handle).pushed ≡ sum_by h (hand_pushed x) = λ x.
+      let none = flat_none (λ d. (handle_account d).pushed) x.deque_handles.items (λ k d within. (get_or x.deque_handles.items k d).only_taken) in
+      omega (arith, ap (sum_by h) x.queue_only_taken, ap (sum_by h) (flat_map-map (λ v. v.pushed) handle_account x.deque_handles.items ∙ none)) in
+      omega (arith, everyone_sum h (λ v. v.pushed) hand_pushed inlet_pushed hand (λ x. refl) hs is, sum_by-append h (flat_map hand_pushed hs) (flat_map inlet_pushed is))
+
+  pub everyone_taken : sum_by h (taken_of (everyone hs is)) ≡ sum_by h (pool_taken hs)
+  everyone_taken =
+      let hand : (x : Hand T) → sum_by h (hand_account x).taken + sum_by h (taken_of (row_accounts x.deque_handles)) + sum_by h (queue_account x.queue_handle).taken ≡ sum_by h (hand_taken x) = λ x.
+      let rest = concat (map stolen x.deque_handles.items) in
+      let fed = (queue_account x.queue_handle).taken in
+      let same : taken_of (row_accounts x.deque_handles) ≡ rest = flat_map-map (λ v. v.taken) handle_account x.deque_handles.items ∙ sym (concat_is (map stolen x.deque_handles.items) ∙ flat_map-map (λ l. l) stolen x.deque_handles.items) in
+      omega (arith, ap (sum_by h) same, sum_by-append h (hand_account x).taken (fed ++ rest), sum_by-append h fed rest) in
+      omega (arith, everyone_sum h (λ v. v.taken) hand_taken (λ x. []) hand (λ x. x.queue_only_pushed) hs is, ap (sum_by h) (flat_none {X = Inlet T} (λ x. []) is (λ k d within. refl)))
+
+  pub pushed_counted : length (pool_pushed hs is) ≡ sum_by (λ x. x.pushed) hs + sum_by (λ x. x.pushed) is
+  pushed_counted =
+      let of_hands = length-flat_map hand_pushed hs ∙ (λ k. sum_by (λ x. x.pushed_counted k) hs) in
+      let of_inlets = length-flat_map inlet_pushed is ∙ (λ k. sum_by (λ x. x.pushed_counted k) is) in
+      omega (arith, of_hands, of_inlets, length-append (flat_map hand_pushed hs) (flat_map inlet_pushed is))
+
+  pub taken_counted : length (pool_taken hs) ≡ sum_by (λ x. x.taken) hs
+  taken_counted = length-flat_map hand_taken hs ∙ (λ k. sum_by (λ x. x.taken_counted k) hs)

@@ -25,6 +25,7 @@ impl<T: Numbered> DequeHandle<T> {
     ghost use Rattle.chr_pool.specs.Handles.{handle_shape, handle_account};
 
     // Takes the task at the front, or says that another took it first.
+    #[tactic(auto, using(crate::proofs::Rules::takes))]
     fn steal(&mut self) -> Steal<T>
         ensures same { handle_shape self.new ≡ handle_shape self.old }
         ensures rule { MatchSteal result (handle_account self.new ≡ handle_account self.old) (handle_account self.new ≡ handle_account self.old) (λ x. handle_account self.new ≡ took (T.number x) (handle_account self.old)) }

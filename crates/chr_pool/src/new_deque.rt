@@ -42,6 +42,7 @@ impl<T: Numbered + Drop> NewDeque<T> {
     }
 
     /// A handle on it for a hand, which gets one part of its account.
+    #[tactic(auto, using(crate::proofs::Rules::forks))]
     pub(crate) fn split(&mut self) -> Result<DequeHandle<T>, AllocError>
         requires { 1 < self.old.parts }
         ensures same { (new_deque self.new ≡ new_deque self.old) × (self.new.capacity ≡ self.old.capacity) }

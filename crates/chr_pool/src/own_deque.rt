@@ -24,6 +24,7 @@ impl<T: Numbered + Drop> OwnDeque<T> {
     ghost use Rattle.chr_pool.specs.OwnDeques.{own_account, own_deque};
 
     /// Adds the account of what another hand stole to that of the deque's owner.
+    #[tactic(auto, using(crate::proofs::Rules::merges))]
     pub(crate) fn absorb(&mut self, deque_handle: DequeHandle<T>)
         requires { handle_deque deque_handle ≡ own_deque self.old }
         ensures same { own_deque self.new ≡ own_deque self.old }

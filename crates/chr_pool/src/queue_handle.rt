@@ -47,6 +47,7 @@ impl<T: Numbered + Drop> QueueHandle<T> {
     }
 
     /// Adds the account of another handle to this one's.
+    #[tactic(auto, using(crate::proofs::Rules::merges))]
     pub(crate) fn absorb(&mut self, other: QueueHandle<T>)
         requires { (queue_shape other).0 ≡ (queue_shape self.old).0 }
         ensures same { (queue_shape self.new).0 ≡ (queue_shape self.old).0 }
@@ -75,6 +76,7 @@ impl<T: Numbered + Drop> QueueHandle<T> {
     }
 
     /// A new handle on the same queue, which gets one part of this one's account.
+    #[tactic(auto, using(crate::proofs::Rules::forks))]
     pub(crate) fn split(&mut self) -> Result<QueueHandle<T>, AllocError>
         requires { 1 < (queue_account self.old).parts }
         ensures same { ((queue_shape self.new).0 ≡ (queue_shape self.old).0) × ((queue_account self.new).pushed ≡ (queue_account self.old).pushed) × ((queue_account self.new).taken ≡ (queue_account self.old).taken) }

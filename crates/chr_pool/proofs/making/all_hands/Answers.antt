@@ -18,7 +18,7 @@ one_made f made new x before rest whole pushed less was = ap (λ l. map f l ++ r
 pub invariant_of-push-clause-taken_counted : goal.invariant_of-push-clause-taken_counted
 invariant_of-push-clause-taken_counted g c =
     let D = map new_deque (into_iter_items c.into_iter-deque-iterator.result) in
-    let row = (All-pop (IsRow D) _ c.pop.new.self.items (Some c.in-Some-pop.deque_handles) c.in-Some-pop.ensures.items c.loop-deque.invariant.6).1 in
+    let row = (All-pop (IsRow D) _ c.pop.new.self.items (Some c.in-Some-pop.deque_handles) c.in-Some-pop.ensures.items c.loop-deque.invariant.4).1 in
     let a = c.in-Some.deque.nothing_taken in
     let b = ap (λ (v : Account). v.taken) c.in_ok-queue_handle.ensures.made.1 in
     let e = nothing_stolen c.in-Some-pop.deque_handles.items row.1 in
@@ -35,31 +35,29 @@ loop-deque-preserved g c =
     let steps : into_iter_items at.deque-iterator ≡ deque ∷ left = c.in-Some.ensures.steps.0 in
     let short = ap length steps in
     let Kept : NewDeque g.row.T.Denot → Type 0 = λ d. d.parts + length all ≡ 64 in
-    let rows = All-pop (IsRow D) _ c.pop.new.self.items (Some handles) c.in-Some-pop.ensures.items at.invariant.6 in
-    let kept : All Kept (deque ∷ left) = subst (All Kept) steps at.invariant.5 in
+    let rows = All-pop (IsRow D) _ c.pop.new.self.items (Some handles) c.in-Some-pop.ensures.items at.invariant.4 in
+    let kept : All Kept (deque ∷ left) = subst (All Kept) steps at.invariant.3 in
     let fewer = ap length c.in-Some-pop.ensures.items in
     let b = ap (λ (v : Account). v.taken) c.in_ok-queue_handle.ensures.made.1 in
     let e = nothing_stolen handles.items rows.1.1 in
     let one_part = ap (λ (v : Account). v.parts) c.in_ok-queue_handle.ensures.made.1 in
     let mine : deque.parts + length all ≡ 64 = All-head Kept deque left kept in
     let pushed = c.in_ok-push.ensures.items in (
-      tt,
-      tt,
-      (let was = at.invariant.2 in let gone = c.in-Some.ensures.steps.1 in omega arith),
-      one_made hand_deque at.made.items _ _ _ _ _ pushed (ap (map new_deque) steps) at.invariant.3,
+      (let was = at.invariant.0 in let gone = c.in-Some.ensures.steps.1 in omega arith),
+      one_made hand_deque at.made.items _ _ _ _ _ pushed (ap (map new_deque) steps) at.invariant.1,
       rw pushed
-          (All-push (IsNewHand D (queue_shape c.args.first.now).0 (length all)) at.made.items _ at.invariant.4
-          (rows.1, c.in_ok-queue_handle.ensures.made.0 ∙ at.invariant.10, one_part, ap (λ n. n + length all) deque.parts_kept ∙ mine, deque.nothing_pushed, λ k. deque.nothing_taken k ++ (b k ++ e k))),
+          (All-push (IsNewHand D (queue_shape c.args.first.now).0 (length all)) at.made.items _ at.invariant.2
+          (rows.1, c.in_ok-queue_handle.ensures.made.0 ∙ at.invariant.8, one_part, ap (λ n. n + length all) deque.parts_kept ∙ mine, deque.nothing_pushed, λ k. deque.nothing_taken k ++ (b k ++ e k))),
       All-tail Kept deque left kept,
       rows.0,
-      (let n = at.invariant.7 in omega (arith, n, fewer, short, length-append c.pop.new.self.items (handles ∷ []))),
-      one_made hand_number at.made.items _ _ _ _ _ pushed (ap (range_with_len at.number) short) at.invariant.8,
-      (let n = at.invariant.9 in omega (arith, n, short)),
-      c.in_ok-queue_handle.ensures.same.0 ∙ at.invariant.10,
-      (let n = at.invariant.11 in let p = c.in_ok-queue_handle.ensures.parts in omega (arith, n, p)),
-      c.in_ok-queue_handle.ensures.same.1 ∙ at.invariant.12,
-      c.in_ok-queue_handle.ensures.same.2 ∙ at.invariant.13,
-      one_made hand_capacity at.made.items _ _ _ _ _ pushed (ap (map new_capacity) steps) at.invariant.14,
+      (let n = at.invariant.5 in omega (arith, n, fewer, short, length-append c.pop.new.self.items (handles ∷ []))),
+      one_made hand_number at.made.items _ _ _ _ _ pushed (ap (range_with_len at.number) short) at.invariant.6,
+      (let n = at.invariant.7 in omega (arith, n, short)),
+      c.in_ok-queue_handle.ensures.same.0 ∙ at.invariant.8,
+      (let n = at.invariant.9 in let p = c.in_ok-queue_handle.ensures.parts in omega (arith, n, p)),
+      c.in_ok-queue_handle.ensures.same.1 ∙ at.invariant.10,
+      c.in_ok-queue_handle.ensures.same.2 ∙ at.invariant.11,
+      one_made hand_capacity at.made.items _ _ _ _ _ pushed (ap (map new_capacity) steps) at.invariant.12,
     )
 
 -- At the end no new deque is left: what was made of the first ones and is to be made of the rest is what was made of all.
@@ -70,14 +68,14 @@ all_made made rest whole left all given none empty kept same =
 pub returns-clause-deques : goal.returns-clause-deques
 returns-clause-deques g c =
     let at = c.loop-deque in
-    all_made (map hand_deque at.made.items) (map new_deque) (map new_deque) (into_iter_items at.deque-iterator) _ _ (sym at.invariant.2 ∙ c.in-None.ensures.steps.0) refl at.invariant.3 c.into_iter-deque-iterator.ensures.into_iter_gives.0
+    all_made (map hand_deque at.made.items) (map new_deque) (map new_deque) (into_iter_items at.deque-iterator) _ _ (sym at.invariant.0 ∙ c.in-None.ensures.steps.0) refl at.invariant.1 c.into_iter-deque-iterator.ensures.into_iter_gives.0
 
 pub returns-clause-capacities : goal.returns-clause-capacities
 returns-clause-capacities g c =
     let at = c.loop-deque in
-    all_made (map hand_capacity at.made.items) (map new_capacity) (map new_capacity) (into_iter_items at.deque-iterator) _ _ (sym at.invariant.2 ∙ c.in-None.ensures.steps.0) refl at.invariant.14 c.into_iter-deque-iterator.ensures.into_iter_gives.0
+    all_made (map hand_capacity at.made.items) (map new_capacity) (map new_capacity) (into_iter_items at.deque-iterator) _ _ (sym at.invariant.0 ∙ c.in-None.ensures.steps.0) refl at.invariant.12 c.into_iter-deque-iterator.ensures.into_iter_gives.0
 
 pub returns-clause-numbers : goal.returns-clause-numbers
 returns-clause-numbers g c =
     let at = c.loop-deque in
-    all_made (map hand_number at.made.items) (λ l. range_with_len at.number (length l)) (λ l. range_with_len 0 (length l)) (into_iter_items at.deque-iterator) _ _ (sym at.invariant.2 ∙ c.in-None.ensures.steps.0) refl at.invariant.8 c.into_iter-deque-iterator.ensures.into_iter_gives.0
+    all_made (map hand_number at.made.items) (λ l. range_with_len at.number (length l)) (λ l. range_with_len 0 (length l)) (into_iter_items at.deque-iterator) _ _ (sym at.invariant.0 ∙ c.in-None.ensures.steps.0) refl at.invariant.6 c.into_iter-deque-iterator.ensures.into_iter_gives.0

@@ -10,9 +10,7 @@ abbrev pub invariant-loop-deque : goal.invariant-loop-deque
 invariant-loop-deque g l =
     let all = into_iter_items l.initial.deque-iterator in
     let left = into_iter_items l.deque-iterator in
-    (goal.iterator-loop-deque g).can_next l.deque-iterator
-    × (goal.iterator-loop-deque g).is_finite l.deque-iterator
-    × (into_iter_len l.deque-iterator ≡ length left)
+    (into_iter_len l.deque-iterator ≡ length left)
     × (map hand_deque l.made.items ++ map new_deque left ≡ map new_deque all)
     × All (IsNewHand (map new_deque all) (queue_shape l.initial.first).0 (length all)) l.made.items
     × All (λ d. d.parts + length all ≡ 64) left

@@ -5,8 +5,6 @@ use Rattle.chr_pool.proofs.pool.add_queue_handles.Given as goal
 
 abbrev pub invariant-loop-inlet : goal.invariant-loop-inlet
 invariant-loop-inlet g l =
-    (goal.iterator-loop-inlet g).can_next l.inlet-iterator
-    × (goal.iterator-loop-inlet g).is_finite l.inlet-iterator
-    × (into_iter_len l.inlet-iterator ≡ length (into_iter_items l.inlet-iterator))
+    (into_iter_len l.inlet-iterator ≡ length (into_iter_items l.inlet-iterator))
     × (l.queue_handles.items ++ map inlet_queue (into_iter_items l.inlet-iterator) ≡ l.initial.queue_handles.items ++ map inlet_queue (into_iter_items l.initial.inlet-iterator))
     × (length l.queue_handles.items + length (into_iter_items l.inlet-iterator) ≤ vec_capacity l.queue_handles)

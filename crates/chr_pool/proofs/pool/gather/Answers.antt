@@ -7,8 +7,8 @@ use Rattle.chr_pool.specs.Inlets.{inlet_queue}
 use Rattle.chr_pool.specs.OwnDeques.{accounts}
 use Rattle.chr_pool.specs.Pools.{pool_pushed, pool_taken}
 use Rattle.chr_pool.proofs.Rules.{ones}
-use Rattle.chr_pool.proofs.Pools.{same_accounts, everyone_pushed, everyone_taken, pushed_counted, taken_counted}
-use Rattle.chr_pool.proofs.Ids.{rows_fit, parts_fit, queues_fit, queue_parts_fit}
+use Rattle.chr_pool.proofs.Settles.{same_accounts, everyone_pushed, everyone_taken, pushed_counted, taken_counted}
+use Rattle.chr_pool.proofs.Makings.{rows_fit, parts_fit, queues_fit, queue_parts_fit}
 use Rattle.chr_pool.proofs.Permutes.{permutes}
 use Rattle.chr_pool.proofs.pool.gather.Given.{Over}
 use Rattle.chr_pool.proofs.pool.gather.Goals as goal

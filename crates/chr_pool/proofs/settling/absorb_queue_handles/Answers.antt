@@ -11,7 +11,7 @@ pub absorb-requires : goal.absorb-requires
 absorb-requires g c =
     let at = c.loop-queue_handle in
     let P : QueueHandle g.row.T.Denot → Type 0 = λ r. (queue_shape r).0 ≡ (queue_shape at.first).0 in
-    All-head P _ _ (rw c.in-Some.ensures.steps.0 at at.invariant.3)
+    All-head P _ _ (rw c.in-Some.ensures.steps.0 at at.invariant.1)
 
 pub loop-queue_handle-preserved : goal.loop-queue_handle-preserved
 loop-queue_handle-preserved g c =
@@ -19,15 +19,13 @@ loop-queue_handle-preserved g c =
     let steps : into_iter_items at.queue_handle-iterator ≡ c.in-Some.queue_handle ∷ into_iter_items c.next.new.self = c.in-Some.ensures.steps.0 in
     let P : QueueHandle g.row.T.Denot → Type 0 = λ r. (queue_shape r).0 ≡ (queue_shape at.first).0 in
     let same = c.absorb.ensures.same in (
-      tt,
-      tt,
-      (let was = at.invariant.2 in let gone = c.in-Some.ensures.steps.1 in let short = ap length steps in omega arith),
-      rw same (All-rest P _ _ _ steps at.invariant.3),
-      ap (λ v. joined v (map queue_account (into_iter_items c.next.new.self))) c.absorb.ensures.rule ∙ (rw steps at at.invariant.4),
+      (let was = at.invariant.0 in let gone = c.in-Some.ensures.steps.1 in let short = ap length steps in omega arith),
+      rw same (All-rest P _ _ _ steps at.invariant.1),
+      ap (λ v. joined v (map queue_account (into_iter_items c.next.new.self))) c.absorb.ensures.rule ∙ (rw steps at at.invariant.2),
     )
 
 pub returns : goal.returns
 returns g c =
     let at = c.loop-queue_handle in
-    let empty = nil_from_length (into_iter_items at.queue_handle-iterator) (sym at.invariant.2 ∙ c.in-None.ensures.steps.0) in
-    rw (empty, c.into_iter-queue_handle-iterator.ensures.into_iter_gives.0) at at.invariant.4
+    let empty = nil_from_length (into_iter_items at.queue_handle-iterator) (sym at.invariant.0 ∙ c.in-None.ensures.steps.0) in
+    rw (empty, c.into_iter-queue_handle-iterator.ensures.into_iter_gives.0) at at.invariant.2

@@ -6,8 +6,6 @@ use Rattle.chr_pool.proofs.settling.absorb_queue_handles.Given as goal
 
 abbrev pub invariant-loop-queue_handle : goal.invariant-loop-queue_handle
 invariant-loop-queue_handle g l =
-    (goal.iterator-loop-queue_handle g).can_next l.queue_handle-iterator
-    × (goal.iterator-loop-queue_handle g).is_finite l.queue_handle-iterator
-    × (into_iter_len l.queue_handle-iterator ≡ length (into_iter_items l.queue_handle-iterator))
+    (into_iter_len l.queue_handle-iterator ≡ length (into_iter_items l.queue_handle-iterator))
     × All (λ r. (queue_shape r).0 ≡ (queue_shape l.first).0) (into_iter_items l.queue_handle-iterator)
     × (joined (queue_account l.first) (map queue_account (into_iter_items l.queue_handle-iterator)) ≡ joined (queue_account l.initial.first) (map queue_account (into_iter_items l.initial.queue_handle-iterator)))

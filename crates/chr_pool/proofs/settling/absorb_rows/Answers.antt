@@ -14,7 +14,7 @@ pub absorb_row-requires : goal.absorb_row-requires
 absorb_row-requires g c =
     let at = c.loop-row in
     let P : Vec (DequeHandle g.row.T.Denot) Global → Type 0 = λ r. row_deques r ≡ map own_deque at.owns.items in
-    All-head P _ _ (rw c.in-Some.ensures.steps.0 at at.invariant.4)
+    All-head P _ _ (rw c.in-Some.ensures.steps.0 at at.invariant.2)
 
 pub loop-row-preserved : goal.loop-row-preserved
 loop-row-preserved g c =
@@ -22,16 +22,14 @@ loop-row-preserved g c =
     let steps : into_iter_items at.row-iterator ≡ c.in-Some.row ∷ into_iter_items c.next.new.self = c.in-Some.ensures.steps.0 in
     let P : Vec (DequeHandle g.row.T.Denot) Global → Type 0 = λ r. row_deques r ≡ map own_deque at.owns.items in
     let same = c.absorb_row.ensures.same in (
-      tt,
-      tt,
-      (let was = at.invariant.2 in let gone = c.in-Some.ensures.steps.1 in let short = ap length steps in omega arith),
-      same ∙ at.invariant.3,
-      rw same (All-rest P _ _ _ steps at.invariant.4),
-      ap (λ vs. all_absorbed vs (map row_accounts (into_iter_items c.next.new.self))) c.absorb_row.ensures.rule ∙ (rw steps at at.invariant.5),
+      (let was = at.invariant.0 in let gone = c.in-Some.ensures.steps.1 in let short = ap length steps in omega arith),
+      same ∙ at.invariant.1,
+      rw same (All-rest P _ _ _ steps at.invariant.2),
+      ap (λ vs. all_absorbed vs (map row_accounts (into_iter_items c.next.new.self))) c.absorb_row.ensures.rule ∙ (rw steps at at.invariant.3),
     )
 
 pub returns-clause-rule : goal.returns-clause-rule
 returns-clause-rule g c =
     let at = c.loop-row in
-    let empty = nil_from_length (into_iter_items at.row-iterator) (sym at.invariant.2 ∙ c.in-None.ensures.steps.0) in
-    rw (empty, c.into_iter-row-iterator.ensures.into_iter_gives.0) at at.invariant.5
+    let empty = nil_from_length (into_iter_items at.row-iterator) (sym at.invariant.0 ∙ c.in-None.ensures.steps.0) in
+    rw (empty, c.into_iter-row-iterator.ensures.into_iter_gives.0) at at.invariant.3

@@ -7,9 +7,7 @@ use Rattle.chr_pool.proofs.settling.absorb_rows.Given as goal
 
 abbrev pub invariant-loop-row : goal.invariant-loop-row
 invariant-loop-row g l =
-    (goal.iterator-loop-row g).can_next l.row-iterator
-    × (goal.iterator-loop-row g).is_finite l.row-iterator
-    × (into_iter_len l.row-iterator ≡ length (into_iter_items l.row-iterator))
+    (into_iter_len l.row-iterator ≡ length (into_iter_items l.row-iterator))
     × (map own_deque l.owns.items ≡ map own_deque l.initial.owns.items)
     × All (λ r. row_deques r ≡ map own_deque l.owns.items) (into_iter_items l.row-iterator)
     × (all_absorbed (map own_account l.owns.items) (map row_accounts (into_iter_items l.row-iterator)) ≡ all_absorbed (map own_account l.initial.owns.items) (map row_accounts (into_iter_items l.initial.row-iterator)))

@@ -11,16 +11,16 @@ abbrev Whole : Account → Type 0
 Whole v = v.parts ≡ 64
 
 pub drain-requires-clause-whole : goal.drain-requires-clause-whole
-drain-requires-clause-whole g c = All-head Whole _ (map own_account (into_iter_items c.next.new.self)) (rw c.in-Some.ensures.steps.0 at c.loop-own.invariant.4)
+drain-requires-clause-whole g c = All-head Whole _ (map own_account (into_iter_items c.next.new.self)) (rw c.in-Some.ensures.steps.0 at c.loop-own.invariant.2)
 
 pub drain-requires-clause-room : goal.drain-requires-clause-room
 drain-requires-clause-room g c =
     let at = c.loop-own in
     let was = c.args.left.now in
-    let few = rw c.in-Some.ensures.steps.0 at at.invariant.5 in
-    let turn = rw (c.in-Some.ensures.steps.0, c.into_iter-own-iterator.ensures.into_iter_gives.0) at at.invariant.6 in
+    let few = rw c.in-Some.ensures.steps.0 at at.invariant.3 in
+    let turn = rw (c.in-Some.ensures.steps.0, c.into_iter-own-iterator.ensures.into_iter_gives.0) at at.invariant.4 in
     let r = emptied_room g.T.Numbered.number was.items (map own_account c.args.owns.items) at.left.items _ _ (vec_capacity was) turn few (omega (arith, c.requires.room, was.ok.0)) in
-    omega (arith, r, at.invariant.3, at.left.ok.0)
+    omega (arith, r, at.invariant.1, at.left.ok.0)
 
 pub loop-own-preserved : goal.loop-own-preserved
 loop-own-preserved g c =
@@ -29,18 +29,16 @@ loop-own-preserved g c =
     let vs = map own_account (into_iter_items c.next.new.self) in
     let start = map own_account (into_iter_items c.into_iter-own-iterator.result) in
     let steps : into_iter_items at.own-iterator ≡ c.in-Some.own ∷ into_iter_items c.next.new.self = c.in-Some.ensures.steps.0 in (
-      tt,
-      tt,
-      (let n = at.invariant.2 in let gone = c.in-Some.ensures.steps.1 in let short = ap length steps in omega arith),
-      c.drain.ensures.capacity ∙ at.invariant.3,
-      All-tail Whole v vs (rw steps at at.invariant.4),
-      All-tail Few v vs (rw steps at at.invariant.5),
-      emptied_more g.T.Numbered.number c.args.left.now.items start at.left.items c.drain.new.left.items v vs (rw steps at at.invariant.6) c.drain.ensures.rule,
+      (let n = at.invariant.0 in let gone = c.in-Some.ensures.steps.1 in let short = ap length steps in omega arith),
+      c.drain.ensures.capacity ∙ at.invariant.1,
+      All-tail Whole v vs (rw steps at at.invariant.2),
+      All-tail Few v vs (rw steps at at.invariant.3),
+      emptied_more g.T.Numbered.number c.args.left.now.items start at.left.items c.drain.new.left.items v vs (rw steps at at.invariant.4) c.drain.ensures.rule,
     )
 
 pub returns : goal.returns
 returns g c h =
     let at = c.loop-own in
-    let empty = nil_from_length (into_iter_items at.own-iterator) (sym at.invariant.2 ∙ c.in-None.ensures.steps.0) in
-    let turn = rw (empty, c.into_iter-own-iterator.ensures.into_iter_gives.0) at at.invariant.6 in
+    let empty = nil_from_length (into_iter_items at.own-iterator) (sym at.invariant.0 ∙ c.in-None.ensures.steps.0) in
+    let turn = rw (empty, c.into_iter-own-iterator.ensures.into_iter_gives.0) at at.invariant.4 in
     omega (arith, turn h)

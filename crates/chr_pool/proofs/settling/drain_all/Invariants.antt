@@ -7,9 +7,7 @@ use Rattle.chr_pool.proofs.settling.drain_all.Given as goal
 
 abbrev pub invariant-loop-own : goal.invariant-loop-own
 invariant-loop-own g l =
-    (goal.iterator-loop-own g).can_next l.own-iterator
-    × (goal.iterator-loop-own g).is_finite l.own-iterator
-    × (into_iter_len l.own-iterator ≡ length (into_iter_items l.own-iterator))
+    (into_iter_len l.own-iterator ≡ length (into_iter_items l.own-iterator))
     × (vec_capacity l.left ≡ vec_capacity l.initial.left)
     × All (λ (v : Account). v.parts ≡ 64) (map own_account (into_iter_items l.own-iterator))
     × All Few (map own_account (into_iter_items l.own-iterator))

@@ -6,9 +6,7 @@ use Rattle.chr_pool.proofs.settling.take_apart.Given as goal
 
 abbrev pub invariant-loop-hand : goal.invariant-loop-hand
 invariant-loop-hand g l =
-    (goal.iterator-loop-hand g).can_next l.hand-iterator
-    × (goal.iterator-loop-hand g).is_finite l.hand-iterator
-    × (into_iter_len l.hand-iterator ≡ length (into_iter_items l.hand-iterator))
+    (into_iter_len l.hand-iterator ≡ length (into_iter_items l.hand-iterator))
     × (map own_account l.owns.items ++ map hand_account (into_iter_items l.hand-iterator) ≡ map hand_account (into_iter_items l.initial.hand-iterator))
     × (map own_deque l.owns.items ++ map hand_deque (into_iter_items l.hand-iterator) ≡ map hand_deque (into_iter_items l.initial.hand-iterator))
     × (l.rows.items ++ map hand_handles (into_iter_items l.hand-iterator) ≡ map hand_handles (into_iter_items l.initial.hand-iterator))

@@ -4,4 +4,4 @@ use Rattle.chr_pool.proofs.deque_handle.DequeHandle.take.Given as goal
 
 abbrev pub invariant-loop : goal.invariant-loop
 invariant-loop g l =
-    (goal.iterator-loop g).can_next l.iterator' × (goal.iterator-loop g).is_finite l.iterator' × (handle_shape l.self ≡ handle_shape l.initial.self) × (handle_account l.self ≡ handle_account l.initial.self)
+    (handle_shape l.self ≡ handle_shape l.initial.self) × (handle_account l.self ≡ handle_account l.initial.self)

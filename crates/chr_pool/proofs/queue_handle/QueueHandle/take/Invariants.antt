@@ -4,4 +4,4 @@ use Rattle.chr_pool.proofs.queue_handle.QueueHandle.take.Given as goal
 
 abbrev pub invariant-loop : goal.invariant-loop
 invariant-loop g l =
-    (goal.iterator-loop g).can_next l.iterator' × (goal.iterator-loop g).is_finite l.iterator' × (queue_shape l.self ≡ queue_shape l.initial.self) × (queue_account l.self ≡ queue_account l.initial.self)
+    (queue_shape l.self ≡ queue_shape l.initial.self) × (queue_account l.self ≡ queue_account l.initial.self)
