@@ -1,11 +1,7 @@
 pub mod Causes
-pub mod Pieces
 pub mod Passed
 pub mod Words
 pub mod FirstSpelled
 pub mod Written
 pub mod Underway
-pub mod Once
-pub mod Numbers
 pub mod LaidOut
-pub mod CommandsRead

@@ -8,12 +8,9 @@ use Rattle.chr_session.specs.Devices.{Comes}
 use Rattle.chr_session.specs.declared.commands.Ended.{Ended}
 use Rattle.chr_session.specs.declared.commands.Received.{Received as CodeReceived}
 use Rattle.chr_session.specs.declared.commands.Received.TheVariants as variants
-use Rattle.chr_session.specs.Commands.{Reply}
-use Rattle.chr_session.specs.Spelling.{Received, Spelling, Ending, next, SpellsFirst, received_of, goes_on}
-use Rattle.chr_session.specs.Commands.{Command, Spelled}
-use Rattle.chr_session.specs.Replies.{Wrote, Began, reply_bytes, answer_bytes}
-use Rattle.chr_session.specs.Spelling.{Reads}
-use Rattle.chr_session.specs.Replies.{session_bytes}
+use Rattle.chr_session.specs.Spelling.{Received, Spelling, Ending, next, SpellsFirst, received_of, goes_on, Reads}
+use Rattle.chr_session.specs.Commands.{Command, Reply, Spelled}
+use Rattle.chr_session.specs.Replies.{Wrote, Began, reply_bytes, answer_bytes, session_bytes}
 use Rattle.chr_session.specs.Sessions.{RepliesTo, AnswerIs, Answers, Served, Broken, Unread}
 use Rattle.chr_session.proofs.Written.{wrote_both, began_all, began_second}
 
@@ -121,14 +118,8 @@ session_unwritten {D} {step} {old} {now} {new} {before} {mid} {after} {left} {C}
     }
 
 pub not_ended : (h : CodeReceived) (text : List ℕ) → ((how : Ended) → h ≡ variants.Ended how → ⊥) → goes_on (received_of h text) ≡ true
-not_ended variants.Blank text n = refl
-not_ended variants.Load text n = refl
-not_ended variants.Post text n = refl
-not_ended (variants.Wait steps) text n = refl
-not_ended variants.Store text n = refl
-not_ended (variants.Log from) text n = refl
-not_ended (variants.Fault kind) text n = refl
 not_ended (variants.Ended how) text n = absurd (n how refl)
+not_ended other text n = refl
 
 pub session_stopped : {D : Type 0} {step : D → Command → Reply → D → Type 0} {old now : D} {before after left : List ℕ → Type 0} {input : List ℕ} → Underway step old now before after left input → Unread step old now before after input
 session_stopped {D} {step} {old} {now} {before} {after} {left} {input} underway = record {

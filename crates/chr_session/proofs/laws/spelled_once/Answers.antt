@@ -1,4 +1,4 @@
-use Rattle.chr_session.proofs.Once.{spells_once}
+use Rattle.chr_session.proofs.FirstSpelled.{spells_once}
 use Rattle.chr_session.proofs.laws.spelled_once.Goals as goal
 
 pub returns : goal.returns

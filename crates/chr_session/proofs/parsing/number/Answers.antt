@@ -1,6 +1,6 @@
 use Rattle.std.proofs.Common.{◌+◌, ◌*◌, ◌-◌, ◌<◌, ◌≤◌, length, slice_index, arith}
 use Rattle.std.proofs.lemmas.Grind.{common_steps}
-use Rattle.chr_session.proofs.Numbers.{answer_none, answer_some}
+use Rattle.chr_session.proofs.Words.{answer_none, answer_some}
 use Rattle.chr_session.proofs.parsing.number.Goals as goal
 use Rattle.chr_session.proofs.parsing.number.Goals.{then-digit-lt48-via-then-digit-lt48, then-digit-lt48-via-else-digit-lt48+then-digit-gt57}
 

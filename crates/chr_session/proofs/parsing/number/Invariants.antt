@@ -1,5 +1,5 @@
 use Rattle.std.proofs.Common.{length, ◌≡◌, ◌≤◌}
-use Rattle.chr_session.proofs.Numbers.{number_from}
+use Rattle.chr_session.proofs.Words.{number_from}
 use Rattle.chr_session.proofs.parsing.number.Given as goal
 
 abbrev pub invariant-loop-rest : goal.invariant-loop-rest

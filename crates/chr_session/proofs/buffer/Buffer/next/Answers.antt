@@ -1,6 +1,6 @@
 use Rattle.std.proofs.Common.{◌≡◌, ℕ, List, [], length, ap, arith, sym, subst, ◌∙◌, le_of_lt}
 use Rattle.chr_session.specs.Devices.{Comes}
-use Rattle.chr_session.proofs.Pieces.{next_taken, next_ends, refilled, refilled_less, within_end, held_met}
+use Rattle.chr_session.proofs.Passed.{next_taken, next_ends, refilled, refilled_less, within_end, held_met}
 use Rattle.chr_session.proofs.buffer.Buffer.next.Goals as goal
 
 pub returns-then-self-clause-byte : goal.returns-then-self-clause-byte
