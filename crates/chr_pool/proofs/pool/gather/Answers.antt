@@ -9,7 +9,7 @@ use Rattle.chr_pool.specs.Pools.{pool_pushed, pool_taken}
 use Rattle.chr_pool.proofs.Rules.{ones}
 use Rattle.chr_pool.proofs.Settles.{same_accounts, everyone_pushed, everyone_taken, pushed_counted, taken_counted}
 use Rattle.chr_pool.proofs.Makings.{rows_fit, parts_fit, queues_fit, queue_parts_fit}
-use Rattle.chr_pool.proofs.Permutes.{permutes}
+use Rattle.chr_pool.proofs.ViewLists.{permutes}
 use Rattle.chr_pool.proofs.pool.gather.Given.{Over}
 use Rattle.chr_pool.proofs.pool.gather.Goals as goal
 use Rattle.chr_pool.proofs.pool.gather.Goals.{After-add_queue_handles}

@@ -5,7 +5,7 @@ use Rattle.chr_pool.specs.Handles.{handle_account, handle_deque}
 use Rattle.chr_pool.specs.OwnDeques.{own_account, own_deque}
 use Rattle.std.proofs.Math.Seq.{map-set_same}
 use Rattle.std.proofs.lemmas.List.{nil_from_length}
-use Rattle.chr_pool.proofs.Gathers.{absorbed_at, absorbed_at_none, absorbed_turn, next_turn}
+use Rattle.chr_pool.proofs.Settles.{absorbed_at, absorbed_at_none, absorbed_turn, next_turn}
 use Rattle.chr_pool.proofs.settling.absorb_row.Goals as goal
 
 pub absorb-requires : goal.absorb-requires

@@ -3,7 +3,7 @@ use Rattle.std.specs.Vec.Iter.{into_iter_items, into_iter_len}
 use Rattle.chr_pool.specs.Accounts.{absorbed}
 use Rattle.chr_pool.specs.Handles.{handle_account, handle_deque}
 use Rattle.chr_pool.specs.OwnDeques.{own_account, own_deque}
-use Rattle.chr_pool.proofs.Gathers.{absorbed_at}
+use Rattle.chr_pool.proofs.Settles.{absorbed_at}
 use Rattle.chr_pool.proofs.settling.absorb_row.Given as goal
 
 abbrev pub invariant-loop-deque_handle : goal.invariant-loop-deque_handle

@@ -4,7 +4,7 @@ use Rattle.std.proofs.lemmas.List.{nil_from_length}
 use Rattle.std.proofs.lemmas.List.Elements.{All-head, All-tail}
 use Rattle.chr_pool.specs.declared.account.Account.{Account}
 use Rattle.chr_pool.specs.OwnDeques.{own_account}
-use Rattle.chr_pool.proofs.Gathers.{Few, emptied_room, emptied_more}
+use Rattle.chr_pool.proofs.Settles.{Few, emptied_room, emptied_more}
 use Rattle.chr_pool.proofs.settling.drain_all.Goals as goal
 
 abbrev Whole : Account → Type 0

@@ -2,7 +2,7 @@ use Rattle.std.proofs.Common.{◌≡◌, length, map, All, vec_capacity}
 use Rattle.std.specs.Vec.Iter.{into_iter_items, into_iter_len}
 use Rattle.chr_pool.specs.declared.account.Account.{Account}
 use Rattle.chr_pool.specs.OwnDeques.{own_account}
-use Rattle.chr_pool.proofs.Gathers.{Few, Emptied}
+use Rattle.chr_pool.proofs.Settles.{Few, Emptied}
 use Rattle.chr_pool.proofs.settling.drain_all.Given as goal
 
 abbrev pub invariant-loop-own : goal.invariant-loop-own

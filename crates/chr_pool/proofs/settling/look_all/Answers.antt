@@ -4,7 +4,7 @@ use Rattle.chr_pool.specs.declared.account.Account.{Account}
 use Rattle.chr_pool.specs.OwnDeques.{own_account}
 use Rattle.std.proofs.Math.Seq.{map-set_same}
 use borrow.Author.Count.{below_more}
-use Rattle.chr_pool.proofs.Gathers.{Few}
+use Rattle.chr_pool.proofs.Settles.{Few}
 use Rattle.chr_pool.proofs.settling.look_all.Goals as goal
 
 pub look-requires : goal.look-requires

@@ -1,7 +1,7 @@
 use Rattle.std.proofs.Common.{◌≡◌, ◌<◌, ℕ, length, map, get_or}
 use Rattle.chr_pool.specs.declared.account.Account.{Account}
 use Rattle.chr_pool.specs.OwnDeques.{own_account}
-use Rattle.chr_pool.proofs.Gathers.{Few}
+use Rattle.chr_pool.proofs.Settles.{Few}
 use Rattle.chr_pool.proofs.settling.look_all.Given as goal
 
 abbrev pub invariant-loop-i : goal.invariant-loop-i

@@ -5,8 +5,7 @@ use Rattle.chr_pool.specs.Handles.{queue_account, taken_of, pushed_of}
 use Rattle.chr_pool.specs.Hands.{row_accounts}
 use Rattle.chr_pool.specs.OwnDeques.{own_account, accounts}
 use Rattle.chr_pool.proofs.Rules.{ones}
-use Rattle.chr_pool.proofs.Gathers.{Few, all_few}
-use Rattle.chr_pool.proofs.Settles.{settled, own_whole, queue_settled}
+use Rattle.chr_pool.proofs.Settles.{Few, all_few, settled, own_whole, queue_settled}
 use Rattle.chr_pool.proofs.settling.settle.Given.{Over}
 use Rattle.chr_pool.proofs.settling.settle.Goals as goal
 use Rattle.chr_pool.proofs.settling.settle.Goals.{After-absorb_queue_handles}

@@ -1,7 +1,7 @@
 use Rattle.std.proofs.Common.{◌+◌, ◌≤◌, length, vec_capacity, arith}
 use Rattle.crossbeam_deque.specs.Handles.{worker_view}
 use Rattle.chr_pool.specs.OwnDeques.{own_account}
-use Rattle.chr_pool.proofs.Gathers.{room}
+use Rattle.chr_pool.proofs.Settles.{room}
 use Rattle.chr_pool.proofs.Rules.{takes_left, finds}
 use Rattle.chr_pool.proofs.own_deque.OwnDeque.drain.Goals as goal
 

@@ -1,6 +1,6 @@
 use Rattle.std.proofs.Common.{◌≡◌, vec_capacity}
 use Rattle.chr_pool.specs.OwnDeques.{own_account}
-use Rattle.chr_pool.proofs.Gathers.{Turn}
+use Rattle.chr_pool.proofs.Settles.{Turn}
 use Rattle.chr_pool.proofs.own_deque.OwnDeque.drain.Given as goal
 
 abbrev pub invariant-loop : goal.invariant-loop

@@ -3,7 +3,7 @@ use Rattle.crossbeam_queue.specs.SegTies.{SegId}
 use Rattle.std.specs.declared.alloc.Global.{Global}
 use Rattle.crossbeam_deque.specs.Injected.{injector_view}
 use Rattle.chr_pool.specs.Handles.{queue_account}
-use Rattle.chr_pool.proofs.Gathers.{room}
+use Rattle.chr_pool.proofs.Settles.{room}
 use Rattle.chr_pool.proofs.Rules.{takes_left, finds}
 use Rattle.chr_pool.proofs.queue_handle.QueueHandle.drain.Goals as goal
 

@@ -1,6 +1,6 @@
 use Rattle.std.proofs.Common.{◌≡◌, vec_capacity}
 use Rattle.chr_pool.specs.Handles.{queue_shape, queue_account}
-use Rattle.chr_pool.proofs.Gathers.{Turn}
+use Rattle.chr_pool.proofs.Settles.{Turn}
 use Rattle.chr_pool.proofs.queue_handle.QueueHandle.drain.Given as goal
 
 abbrev pub invariant-loop : goal.invariant-loop
