@@ -29,6 +29,7 @@ fn absorb_row<T: Numbered + Drop>(owns: &mut Vec<OwnDeque<T>>, row: Vec<DequeHan
 }
 
 // The same for all hands.
+#[tactic(auto, using(std::proofs::lemmas::List::nil_from_length))]
 fn absorb_rows<T: Numbered + Drop>(owns: &mut Vec<OwnDeque<T>>, rows: Vec<Vec<DequeHandle<T>>>)
     requires { All (λ r. row_deques r ≡ map own_deque owns.old.items) rows.items }
     ensures same { map own_deque owns.new.items ≡ map own_deque owns.old.items }
@@ -40,6 +41,7 @@ fn absorb_rows<T: Numbered + Drop>(owns: &mut Vec<OwnDeque<T>>, rows: Vec<Vec<De
 }
 
 // Adds the accounts of all handles on the queue to one of them.
+#[tactic(auto, using(std::proofs::lemmas::List::nil_from_length))]
 fn absorb_queue_handles<T: Numbered + Drop>(
     first: &mut QueueHandle<T>,
     queue_handles: Vec<QueueHandle<T>>,
@@ -53,6 +55,7 @@ fn absorb_queue_handles<T: Numbered + Drop>(
 }
 
 // Shows of each deque that no more was taken than was pushed.
+#[tactic(auto, using(crate::proofs::Settles::next_turn))]
 fn look_all<T: Numbered + Drop>(owns: &mut Vec<OwnDeque<T>>)
     requires { All (λ v. v.parts ≡ 64) (map own_account owns.old.items) }
     ensures same { map own_account owns.new.items ≡ map own_account owns.old.items }
@@ -64,6 +67,7 @@ fn look_all<T: Numbered + Drop>(owns: &mut Vec<OwnDeque<T>>)
 }
 
 // Takes all tasks that are left in the deques.
+#[tactic(auto, using(crate::proofs::Settles::emptied_room, crate::proofs::Settles::emptied_more, std::proofs::lemmas::List::nil_from_length))]
 fn drain_all<T: Numbered + Drop, R: Wait>(rt: &R, owns: Vec<OwnDeque<T>>, left: &mut Vec<T>)
     requires whole { All (λ v. v.parts ≡ 64) (map own_account owns.items) }
     requires few { All (λ v. length v.taken ≤ length v.pushed) (map own_account owns.items) }

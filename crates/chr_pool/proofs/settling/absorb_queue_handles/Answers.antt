@@ -1,17 +1,10 @@
-use Rattle.std.proofs.Common.{◌≡◌, ◌∷◌, map, length, sym, ap, ◌∙◌, arith}
+use Rattle.std.proofs.Common.{◌≡◌, ◌∷◌, map, length, ap, ◌∙◌, arith}
 use Rattle.std.specs.Vec.Iter.{into_iter_items}
 use Rattle.chr_pool.specs.Accounts.{joined}
 use Rattle.chr_pool.specs.declared.queue_handle.QueueHandle.{QueueHandle}
 use Rattle.chr_pool.specs.Handles.{queue_account, queue_shape}
-use Rattle.std.proofs.lemmas.List.{nil_from_length}
-use Rattle.std.proofs.lemmas.List.Elements.{All-head, All-rest}
+use Rattle.std.proofs.lemmas.List.Elements.{All-rest}
 use Rattle.chr_pool.proofs.settling.absorb_queue_handles.Goals as goal
-
-pub absorb-requires : goal.absorb-requires
-absorb-requires g c =
-    let at = c.loop-queue_handle in
-    let P : QueueHandle g.row.T.Denot → Type 0 = λ r. (queue_shape r).0 ≡ (queue_shape at.first).0 in
-    All-head P _ _ (rw c.in-Some.ensures.steps.0 at at.invariant.1)
 
 pub loop-queue_handle-preserved : goal.loop-queue_handle-preserved
 loop-queue_handle-preserved g c =
@@ -23,9 +16,3 @@ loop-queue_handle-preserved g c =
       rw same (All-rest P _ _ _ steps at.invariant.1),
       ap (λ v. joined v (map queue_account (into_iter_items c.next.new.self))) c.absorb.ensures.rule ∙ (rw steps at at.invariant.2),
     )
-
-pub returns : goal.returns
-returns g c =
-    let at = c.loop-queue_handle in
-    let empty = nil_from_length (into_iter_items at.queue_handle-iterator) (sym at.invariant.0 ∙ c.in-None.ensures.steps.0) in
-    rw (empty, c.into_iter-queue_handle-iterator.ensures.into_iter_gives.0) at at.invariant.2

@@ -1,4 +1,4 @@
-use Rattle.std.proofs.Common.{◌≡◌, ◌∷◌, map, length, sym, ap, ◌∙◌, arith}
+use Rattle.std.proofs.Common.{◌≡◌, ◌∷◌, map, length, ap, ◌∙◌, arith}
 use Rattle.std.specs.Vec.Iter.{into_iter_items}
 use Rattle.chr_pool.specs.Accounts.{all_absorbed}
 use Rattle.std.specs.Prelude.{Vec}
@@ -6,15 +6,8 @@ use Rattle.std.specs.declared.alloc.Global.{Global}
 use Rattle.chr_pool.specs.declared.deque_handle.DequeHandle.{DequeHandle}
 use Rattle.chr_pool.specs.OwnDeques.{own_deque}
 use Rattle.chr_pool.specs.Hands.{row_accounts, row_deques}
-use Rattle.std.proofs.lemmas.List.{nil_from_length}
-use Rattle.std.proofs.lemmas.List.Elements.{All-head, All-rest}
+use Rattle.std.proofs.lemmas.List.Elements.{All-rest}
 use Rattle.chr_pool.proofs.settling.absorb_rows.Goals as goal
-
-pub absorb_row-requires : goal.absorb_row-requires
-absorb_row-requires g c =
-    let at = c.loop-row in
-    let P : Vec (DequeHandle g.row.T.Denot) Global → Type 0 = λ r. row_deques r ≡ map own_deque at.owns.items in
-    All-head P _ _ (rw c.in-Some.ensures.steps.0 at at.invariant.2)
 
 pub loop-row-preserved : goal.loop-row-preserved
 loop-row-preserved g c =
@@ -27,9 +20,3 @@ loop-row-preserved g c =
       rw same (All-rest P _ _ _ steps at.invariant.2),
       ap (λ vs. all_absorbed vs (map row_accounts (into_iter_items c.next.new.self))) c.absorb_row.ensures.rule ∙ (rw steps at at.invariant.3),
     )
-
-pub returns-clause-rule : goal.returns-clause-rule
-returns-clause-rule g c =
-    let at = c.loop-row in
-    let empty = nil_from_length (into_iter_items at.row-iterator) (sym at.invariant.0 ∙ c.in-None.ensures.steps.0) in
-    rw (empty, c.into_iter-row-iterator.ensures.into_iter_gives.0) at at.invariant.3

@@ -1,7 +1,6 @@
-use Rattle.std.proofs.Common.{◌≡◌, ◌∷◌, length, map, vec_capacity, sym, ap, ◌∙◌, arith}
+use Rattle.std.proofs.Common.{◌≡◌, ◌∷◌, length, map, vec_capacity, ap, ◌∙◌, arith}
 use Rattle.std.specs.Vec.Iter.{into_iter_items}
-use Rattle.std.proofs.lemmas.List.{nil_from_length}
-use Rattle.std.proofs.lemmas.List.Elements.{All-head, All-tail}
+use Rattle.std.proofs.lemmas.List.Elements.{All-tail}
 use Rattle.chr_pool.specs.declared.account.Account.{Account}
 use Rattle.chr_pool.specs.OwnDeques.{own_account}
 use Rattle.chr_pool.proofs.Settles.{Few, emptied_room, emptied_more}
@@ -9,9 +8,6 @@ use Rattle.chr_pool.proofs.settling.drain_all.Goals as goal
 
 abbrev Whole : Account → Type 0
 Whole v = v.parts ≡ 64
-
-pub drain-requires-clause-whole : goal.drain-requires-clause-whole
-drain-requires-clause-whole g c = All-head Whole _ (map own_account (into_iter_items c.next.new.self)) (rw c.in-Some.ensures.steps.0 at c.loop-own.invariant.2)
 
 pub drain-requires-clause-room : goal.drain-requires-clause-room
 drain-requires-clause-room g c =
@@ -35,10 +31,3 @@ loop-own-preserved g c =
       All-tail Few v vs (rw steps at at.invariant.3),
       emptied_more g.T.Numbered.number c.args.left.now.items start at.left.items c.drain.new.left.items v vs (rw steps at at.invariant.4) c.drain.ensures.rule,
     )
-
-pub returns : goal.returns
-returns g c h =
-    let at = c.loop-own in
-    let empty = nil_from_length (into_iter_items at.own-iterator) (sym at.invariant.0 ∙ c.in-None.ensures.steps.0) in
-    let turn = rw (empty, c.into_iter-own-iterator.ensures.into_iter_gives.0) at at.invariant.4 in
-    omega (arith, turn h)

@@ -24,9 +24,3 @@ loop-i-preserved g c =
       length-set c.loop-i.owns.items c.loop-i.i c.look.new.self ∙ c.loop-i.invariant.1,
       below_more (λ k. (d : Account) → Few (get_or (map own_account c.args.owns.now.items) k d)) c.loop-i.i c.loop-i.invariant.2 (λ d. subst Few (sym (here d)) c.look.ensures.rule),
     )
-
-pub returns-clause-rule : goal.returns-clause-rule
-returns-clause-rule g c k d within =
-    let s = c.loop-i.invariant.1 in
-    let below : k < c.loop-i.i = omega (arith, s, within, length-map c.args.owns.now.items (own_account {T = g.row.T.Denot})) in
-    c.loop-i.invariant.2 k below d
