@@ -87,6 +87,7 @@ impl<T: Numbered + Drop> Hand<T> {
     ///
     /// One list of `hand_views` gets the task's number at its end. The answer is `None` where nothing was found, or after
     /// 2^58 takings.
+    #[tactic(auto, using(crate::proofs::Rules::takes, crate::proofs::ViewLists::later_grew))]
     pub fn take<R: Wait>(&mut self, rt: &R) -> Option<T>
         ensures same { hand_id self.new ≡ hand_id self.old }
         ensures pushed { hand_pushed self.new ≡ hand_pushed self.old }

@@ -55,7 +55,6 @@ fn absorb_queue_handles<T: Numbered + Drop>(
 }
 
 // Shows of each deque that no more was taken than was pushed.
-#[tactic(auto, using(crate::proofs::Settles::next_turn))]
 fn look_all<T: Numbered + Drop>(owns: &mut Vec<OwnDeque<T>>)
     requires { All (λ v. v.parts ≡ 64) (map own_account owns.old.items) }
     ensures same { map own_account owns.new.items ≡ map own_account owns.old.items }
@@ -67,7 +66,7 @@ fn look_all<T: Numbered + Drop>(owns: &mut Vec<OwnDeque<T>>)
 }
 
 // Takes all tasks that are left in the deques.
-#[tactic(auto, using(crate::proofs::Settles::emptied_room, crate::proofs::Settles::emptied_more, std::proofs::lemmas::List::nil_from_length))]
+#[tactic(auto, using(std::proofs::lemmas::List::nil_from_length))]
 fn drain_all<T: Numbered + Drop, R: Wait>(rt: &R, owns: Vec<OwnDeque<T>>, left: &mut Vec<T>)
     requires whole { All (λ v. v.parts ≡ 64) (map own_account owns.items) }
     requires few { All (λ v. length v.taken ≤ length v.pushed) (map own_account owns.items) }

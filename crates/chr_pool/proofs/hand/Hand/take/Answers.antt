@@ -2,14 +2,11 @@ use Rattle.std.proofs.Common.{◌+◌, ◌∷◌, map, ap, ◌∙◌}
 use Rattle.crossbeam_deque.specs.Handles.{worker_view}
 use Rattle.chr_pool.specs.Handles.{queue_account, stolen, OneGrew}
 use Rattle.chr_pool.specs.Hands.{hand_views}
-use Rattle.chr_pool.proofs.Rules.{takes, finds}
+use Rattle.chr_pool.proofs.Rules.{finds}
 use Rattle.chr_pool.proofs.ViewLists.{later_grew, one_longer}
 use Rattle.chr_pool.proofs.hand.Hand.take.Given.{Over}
 use Rattle.chr_pool.proofs.hand.Hand.take.Goals as goal
 use Rattle.chr_pool.proofs.hand.Hand.take.Goals.{In_ok-task}
-
-pub pop_as-requires-clause-fifo : goal.pop_as-requires-clause-fifo
-pop_as-requires-clause-fifo g c = λ _. takes g.T.Numbered.number _ _ c.args.self.now.some_part
 
 pub pop_as-requires-clause-empty : goal.pop_as-requires-clause-empty
 pop_as-requires-clause-empty g c = finds g.T.Numbered.number _ _
@@ -23,6 +20,3 @@ pub invariant_of-self-2-clause-taken_counted : goal.invariant_of-self-2-clause-t
 invariant_of-self-2-clause-taken_counted g c =
     let me = c.args.self.now in
     one_longer _ (hand_views me) _ (grew g (goal.at.invariant_of-self-2-clause-taken_counted g c).In_ok-task) ∙ ap (λ n. n + 1) me.taken_counted
-
-pub returns-clause-taken : goal.returns-clause-taken
-returns-clause-taken g c = grew g (goal.at.returns-clause-taken g c).In_ok-task
