@@ -7,7 +7,6 @@ use Rattle.chr_session.specs.declared.desk.Fault.TheVariants as fault
 use Rattle.chr_session.specs.declared.commands.Ended.TheVariants as ended
 use Rattle.chr_session.specs.declared.commands.Received.{Received as CodeReceived}
 use Rattle.chr_session.specs.declared.commands.Received.TheVariants as variants
-use Rattle.chr_session.specs.declared.lines.LineEnd.TheVariants.{End}
 use Rattle.chr_session.specs.declared.parsing.ParsedLine.{ParsedLine}
 use Rattle.chr_session.specs.Lines.{has_line, line_of, after_line, Counted}
 use Rattle.chr_session.specs.Parsing.{without_cr, after_blanks, trimmed, word_of, rest_of, parsed_of}

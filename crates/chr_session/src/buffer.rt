@@ -46,6 +46,7 @@ impl Buffer {
     }
 
     /// The next byte, or none at the end of the source.
+    #[tactic(auto, using(crate::proofs::Passed::next_taken, crate::proofs::Passed::next_ends, crate::proofs::Passed::refilled_less, crate::proofs::Passed::within_end, crate::proofs::Passed::held_met))]
     pub fn next<S: Source>(&mut self, source: &mut S) -> Result<Option<u8>, Failed>
         ensures byte { IfOk result (λ b. (input : List ℕ) → Comes self.old (S.left source.old) input → NextIs b (Comes self.new (S.left source.new)) input) }
         ensures budget { IfOk result (λ b. OnSome b (S.budget source.new + length self.new < S.budget source.old + length self.old)) }

@@ -22,6 +22,7 @@ pub enum LineEnd {
 }
 
 /// Passes over the rest of a line. False where the input ends in it.
+#[tactic(auto, using(crate::proofs::Passed::at_some))]
 pub fn skip_line<S: Source>(buffer: &mut Buffer, source: &mut S) -> Result<bool, Failed>
     ensures line { IfOk result (λ found. (input : List ℕ) → Comes buffer.old (S.left source.old) input →
         Skipped found (Comes buffer.new (S.left source.new)) input) }
@@ -55,6 +56,7 @@ fn open_end(is_empty: bool) -> LineEnd
 }
 
 /// Reads a line up to its LF, and keeps it where it has at most 4,097 bytes, which leaves room for a CR.
+#[tactic(auto, using(crate::proofs::Passed::at_some, crate::proofs::Passed::none_begun, crate::proofs::Passed::spent_if_open))]
 pub fn read_line<S: Source, A: Allocator>(
     line: &mut Vec<u8, A>,
     buffer: &mut Buffer,
@@ -102,6 +104,7 @@ pub fn skip_counted<S: Source>(
 }
 
 /// Reads so many bytes. False where the input ends before the last of them.
+#[tactic(auto, using(crate::proofs::Passed::none_kept))]
 pub fn read_counted<S: Source, A: Allocator>(
     count: u32,
     bytes: &mut Vec<u8, A>,

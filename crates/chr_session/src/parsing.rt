@@ -76,6 +76,7 @@ pub fn trimmed(line: &[u8]) -> &[u8]
 }
 
 /// A text's first word, and the text after it and its blanks.
+#[tactic(auto, using(crate::proofs::Words::word_longer, crate::proofs::Words::rest_later, crate::proofs::Words::word_whole, crate::proofs::Words::rest_whole))]
 pub fn split_word(text: &[u8]) -> (&[u8], &[u8])
     ensures word { result.0.now ≡ word_of text.now }
     ensures rest { result.1.now ≡ rest_of text.now }
@@ -89,6 +90,7 @@ pub fn split_word(text: &[u8]) -> (&[u8], &[u8])
 }
 
 /// A number of 1 to 10 digits, at most 4,294,967,295.
+#[tactic(auto, using(crate::proofs::Words::answer_none))]
 fn number(text: &[u8]) -> Option<u32>
     ensures { result ≡ number_of text.now }
 {

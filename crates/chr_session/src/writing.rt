@@ -12,6 +12,7 @@ use itoa::Buffer as Digits;
 use std::alloc::Allocator;
 
 /// Writes all of these bytes.
+#[tactic(auto, using(crate::proofs::Written::wrote_piece))]
 fn write_all<W: Sink>(bytes: &[u8], sink: &mut W) -> Result<(), Failed>
     ensures whole { OnOk result (Wrote (W.taken sink.old) (W.taken sink.new) bytes.now) }
     ensures part { OnErr result (Began (W.taken sink.old) (W.taken sink.new) bytes.now) }
@@ -123,6 +124,7 @@ fn append_details<A: Allocator>(out: &mut Vec<u8, A>, reply: &Reply<A>)
 }
 
 /// Writes a reply's first line into `head`.
+#[tactic(auto, using(crate::proofs::Written::line_made))]
 fn render<A: Allocator>(reply: &Reply<A>, head: &mut Vec<u8, A>)
     requires { 65536 ≤ vec_capacity head.old }
     ensures items { head.new.items ≡ head_of (reply_of reply.now) }
@@ -145,6 +147,7 @@ fn lines_of<A: Allocator>(reply: &Reply<A>) -> &[u8]
 }
 
 /// Writes a reply's bytes; its first line is made in `head`. An `Err` is E25: the sink failed, and took a beginning.
+#[tactic(auto, using(crate::proofs::Causes::caused_later, crate::proofs::Written::wrote_both, crate::proofs::Written::began_first, crate::proofs::Written::began_second))]
 pub fn write_reply<W: Sink, A: Allocator>(
     reply: &Reply<A>,
     head: &mut Vec<u8, A>,

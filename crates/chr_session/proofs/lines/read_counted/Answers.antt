@@ -1,19 +1,7 @@
-use Rattle.std.proofs.Common.{◌≡◌, ◌+◌, ◌∙◌, arith, sym, ap, length, le_trans, le_refl, le_of_eq}
+use Rattle.std.proofs.Common.{◌≡◌, ◌+◌, ◌∙◌, arith, ap, le_trans}
 use Rattle.std.proofs.lemmas.Bool.{false≢true}
-use Rattle.chr_session.proofs.Passed.{counted_end, counted_all, none_kept, kept_taken, kept_byte, kept_all, one_passed, grown}
+use Rattle.chr_session.proofs.Passed.{counted_end, counted_all, kept_taken, kept_byte, kept_all, one_passed, grown}
 use Rattle.chr_session.proofs.lines.read_counted.Goals as goal
-
-pub loop-taken-init : goal.loop-taken-init
-loop-taken-init g c = record {
-  bytes = λ input a. (input, a, none_kept input c.clear.ensures.items);
-  count = ap length c.clear.ensures.items;
-  room = le_trans c.requires.room (le_of_eq (sym c.clear.ensures.capacity));
-  budget = le_refl _;
-  cause = le_refl _;
-}
-
-pub push-requires : goal.push-requires
-push-requires g c = omega (arith, c.loop-taken.bytes.ok.0, c.loop-taken.invariant.count, c.loop-taken-test.true, c.requires.few, c.loop-taken.invariant.room)
 
 pub returns-in-None-clause-bytes : goal.returns-in-None-clause-bytes
 returns-in-None-clause-bytes g c = λ input a. (counted_end c.args.count c.loop-taken-test.true (kept_taken c.loop-taken.invariant.bytes) c.in_ok-next.ensures.byte c.in-None.is input a, λ e. absurd (false≢true e))

@@ -1,35 +1,14 @@
-use Rattle.std.proofs.Common.{◌≡◌, ◌+◌, length, ap, arith, sym, ◌∙◌, le_trans, le_refl, le_of_eq}
-use Rattle.chr_session.proofs.Passed.{at_some, none_begun, line_ends, one_passed, begun_byte, line_passed, line_open, grown, stays_short, spent_if_open}
+use Rattle.std.proofs.Common.{◌≡◌, ◌+◌, length, arith, sym, ◌∙◌, le_trans}
+use Rattle.chr_session.proofs.Passed.{at_some, line_ends, one_passed, begun_byte, line_passed, line_open, grown, stays_short}
 use Rattle.chr_session.proofs.lines.read_line.Goals as goal
-
-pub loop-byte-init : goal.loop-byte-init
-loop-byte-init g c = record {
-  line = λ input a. (input, a, none_begun input c.clear.ensures.items);
-  short = omega (arith, ap length c.clear.ensures.items);
-  room = le_trans c.requires (le_of_eq (sym c.clear.ensures.capacity));
-  budget = omega (arith, ap length c.clear.ensures.items);
-  cause = le_refl _;
-}
-
-pub loop-byte-smaller : goal.loop-byte-smaller
-loop-byte-smaller g c = at_some c.in-Some.is c.in_ok-byte.ensures.budget
-
-pub push-requires : goal.push-requires
-push-requires g c = omega (arith, c.loop-byte.line.ok.0, c.loop-byte.invariant.short, c.loop-byte.invariant.room)
 
 pub returns-then-byte-eq10-clause-line : goal.returns-then-byte-eq10-clause-line
 returns-then-byte-eq10-clause-line g c = line_ends c.in-Some.byte c.loop-byte.invariant.line c.in_ok-byte.ensures.byte c.in-Some.is c.if-byte-eq10.true c.loop-byte.invariant.short
-
-pub returns-then-byte-eq10-clause-budget : goal.returns-then-byte-eq10-clause-budget
-returns-then-byte-eq10-clause-budget g c = λ some. omega (arith, c.loop-byte.invariant.budget, at_some c.in-Some.is c.in_ok-byte.ensures.budget)
 
 pub returns-then-len-eq4097-clause-line : goal.returns-then-len-eq4097-clause-line
 returns-then-len-eq4097-clause-line g c =
     let long : length c.loop-byte.line.items ≡ 4097 = sym c.loop-byte.line.ok.0 ∙ sym c.len.ensures ∙ c.if-len-eq4097.true in
     line_passed _ c.in_ok-found.found c.long_end.result c.in-Some.byte c.loop-byte.invariant.line c.in_ok-byte.ensures.byte c.in-Some.is c.if-byte-eq10.false long c.in_ok-found.ensures.line c.long_end.ensures
-
-pub returns-then-len-eq4097-clause-budget : goal.returns-then-len-eq4097-clause-budget
-returns-then-len-eq4097-clause-budget g c = λ some. omega (arith, c.in_ok-found.ensures.budget, c.loop-byte.invariant.budget, at_some c.in-Some.is c.in_ok-byte.ensures.budget)
 
 pub loop-byte-preserved : goal.loop-byte-preserved
 loop-byte-preserved g c =
@@ -44,6 +23,3 @@ loop-byte-preserved g c =
 
 pub returns-clause-line : goal.returns-clause-line
 returns-clause-line g c = line_open _ _ c.loop-byte.line.len c.is_empty.result c.open_end.result c.loop-byte.invariant.line c.in_ok-byte.ensures.byte c.in_default.is c.loop-byte.line.ok.0 c.is_empty.ensures c.open_end.ensures
-
-pub returns-clause-budget : goal.returns-clause-budget
-returns-clause-budget g c = spent_if_open _ _ _ _ _ c.loop-byte.line.len c.is_empty.result c.open_end.result c.loop-byte.line.ok.0 c.is_empty.ensures c.open_end.ensures c.loop-byte.invariant.budget c.in_ok-byte.ensures.within

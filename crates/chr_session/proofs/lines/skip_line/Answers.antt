@@ -1,9 +1,6 @@
 use Rattle.std.proofs.Common.{le_trans}
-use Rattle.chr_session.proofs.Passed.{at_some, one_passed, skipped_to_end, skipped_byte, skipped_all}
+use Rattle.chr_session.proofs.Passed.{one_passed, skipped_to_end, skipped_byte, skipped_all}
 use Rattle.chr_session.proofs.lines.skip_line.Goals as goal
-
-pub loop-byte-smaller : goal.loop-byte-smaller
-loop-byte-smaller g c = at_some c.in-Some.is c.in_ok-byte.ensures.budget
 
 pub returns-then-byte-eq10-clause-line : goal.returns-then-byte-eq10-clause-line
 returns-then-byte-eq10-clause-line g c = skipped_to_end c.in-Some.byte c.loop-byte.invariant.line c.in_ok-byte.ensures.byte c.in-Some.is c.if-byte-eq10.true
