@@ -31,6 +31,7 @@ use std::marker::Model;
 /// Tickets, numbered from 1. Contracts see the list of them, ended ones too, from place 1 on.
 ///
 /// Tickets end nearly in the order in which they were given, so a queue from the first open one stays short.
+#[derive(Drop)]
 pub struct Tickets<A: Allocator> {
     /// The first slot, if any, has an open ticket.
     slots: Slots<A>,
@@ -38,17 +39,6 @@ pub struct Tickets<A: Allocator> {
     first: u64,
     /// No ticket below this number is marked: a walk for the least mark begins here.
     unmarked: u64,
-}
-
-// Not derived: letting the tickets go is then one call, which is proved here once.
-impl<A: Allocator> Drop for Tickets<A> {
-    fn drop(self) {
-        let Tickets {
-            slots: _,
-            first: _,
-            unmarked: _,
-        } = self;
-    }
 }
 
 impl<A: Allocator> Model for Tickets<A> {

@@ -80,23 +80,12 @@ impl<E> Opened<E> {
 }
 
 /// The versions of a value so far. Contracts see the last one, if there is one.
+#[derive(Drop)]
 pub struct Versions<J: Naming, E> {
     head: Word<E, u64, Law>,
     seen: Seen<E, u64, Law>,
     count: u64,
     of: PhantomData<J>,
-}
-
-// Not derived: letting versions go is then one call, which is proved here once.
-impl<J: Naming, E> Drop for Versions<J, E> {
-    fn drop(self) {
-        let Versions {
-            head: _,
-            seen: _,
-            count: _,
-            of: _,
-        } = self;
-    }
 }
 
 impl<J: Naming, E> Model for Versions<J, E> {
