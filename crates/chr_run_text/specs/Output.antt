@@ -2,8 +2,8 @@
 use Rattle.std.specs.Prelude.{ℕ, List, [], ◌∷◌, ◌++◌, map, length, codes}
 use Rattle.std.specs.Fmt.{decimal}
 use Rattle.chr_value.specs.Stores.{Store}
-use Rattle.chr_log.specs.Events.{Event, event_by_texts, labelled_by_texts, labelled_atoms}
-use Rattle.chr_log.specs.LogText.{entries_text, log_text, store_text}
+use Rattle.chr_log.specs.Events.{Event, event_by_texts}
+use Rattle.chr_log.specs.LogText.{entries_text, log_text, store_lines}
 use Rattle.chr_log.specs.declared.events.Version.TheVariants.{One, Two}
 use Rattle.chr_model.specs.Logs.{strict}
 use Rattle.chr_calls.specs.Books.{BookState, events}
@@ -20,10 +20,6 @@ end_line Open = codes "open\n"
 -- a word and a count, ended by LF
 abbrev pub count_line : List ℕ → ℕ → List ℕ
 count_line word n = word ++ (decimal n ++ 10 ∷ [])
-
--- the constraints of a store, and the entries of a log
-abbrev pub store_lines : List (List ℕ) → Store → List ℕ
-store_lines table store = store_text (map (labelled_by_texts table) (labelled_atoms store))
 
 -- how many constraints there are, and a line for each
 abbrev pub store_part : List (List ℕ) → Store → List ℕ

@@ -1,5 +1,6 @@
 //! From the bytes of texts to a run, and to the bytes shown.
 ghost use Rattle.std.specs.Prelude.{◌≡◌, ◌≤◌, ℕ, List, map, IfOk, IfErr};
+ghost use Rattle.chr_value.specs.Stores.{greatest_label};
 ghost use Rattle.chr_calls.specs.Tickets.{AreQuiet};
 ghost use Rattle.chr_book.specs.Texts.{IsOpenText};
 ghost use Rattle.chr_solo.specs.declared.solo.End.TheVariants.{Quiet};
@@ -74,7 +75,7 @@ fn open<A: Allocator + Copy>(
     program: &[u8],
     labels: Label,
 ) -> Result<Book<A>, RunTextsFault>
-    requires { labels ≤ 4294967295 }
+    requires { labels ≤ greatest_label }
     ensures ok { IfOk result (IsOpenText program.now labels) }
     ensures err { IfErr result (λ fault. (posts : List (List ℕ)) → AreRefused program.now posts fault) }
 {
@@ -151,7 +152,7 @@ pub fn run_texts<A: Allocator + Copy>(
     steps: u64,
     labels: Label,
 ) -> Result<Ran<A>, RunTextsFault>
-    requires { labels ≤ 4294967295 }
+    requires { labels ≤ greatest_label }
     ensures { IsRunTexts program.now (map (λ text. text.now) posts.now) steps labels result }
 {
     watched_run_texts(alloc, program, posts, steps, labels, &mut Unwatched)
@@ -166,7 +167,7 @@ pub fn watched_run_texts<A: Allocator + Copy, W: Watch>(
     labels: Label,
     watch: &mut W,
 ) -> Result<Ran<A>, RunTextsFault>
-    requires { labels ≤ 4294967295 }
+    requires { labels ≤ greatest_label }
     ensures { IsRunTexts program.now (map (λ text. text.now) posts.now) steps labels result }
 {
     let mut book = match open(alloc, program, labels) {
@@ -191,7 +192,7 @@ pub fn run_text<A: Allocator + Copy>(
     labels: Label,
     show: Show,
 ) -> Result<RunOut<A>, RunFault>
-    requires { labels ≤ 4294967295 }
+    requires { labels ≤ greatest_label }
     ensures { IsRunText program.now posts.now steps labels show result }
 {
     watched_run(alloc, program, posts, steps, labels, show, &mut Unwatched)
@@ -207,7 +208,7 @@ pub fn watched_run<A: Allocator + Copy, W: Watch>(
     show: Show,
     watch: &mut W,
 ) -> Result<RunOut<A>, RunFault>
-    requires { labels ≤ 4294967295 }
+    requires { labels ≤ greatest_label }
     ensures { IsRunText program.now posts.now steps labels show result }
 {
     match watched_run_texts(alloc, program, &[posts], steps, labels, watch) {

@@ -2,7 +2,7 @@
 use Rattle.std.specs.Prelude.{◌≡◌, ◌-◌, ◌<◌, ◌≤◌, ◌⊎◌, ◌==◌, ◌||◌, ℕ, Bool, true, false, List, [], ◌++◌, length, codes, not, slice_index}
 use Rattle.std.specs.List.{list_all}
 use Rattle.std.specs.Str.Parse.{digits_value, IsNumeral}
-use Rattle.chr_session.specs.Parsing.{is_blank}
+use Rattle.chr_session.specs.Parsing.{greatest_number, is_blank}
 
 -- LF, with or without a CR directly before it
 abbrev pub IsLineEnd : List ℕ → Type 0
@@ -22,12 +22,12 @@ pub record IsPlain (text : List ℕ) : Type 0 where
   pub first : is_margin (slice_index text 0) ≡ false
   pub last : is_margin (slice_index text (length text - 1)) ≡ false
 
--- 1 to 10 digits, which may begin with zeros, of a number up to 4,294,967,295
+-- 1 to 10 digits, which may begin with zeros, of a number up to the greatest
 pub record IsNumber (digits : List ℕ) (n : ℕ) : Type 0 where
   pub numeral : IsNumeral 10 digits
   pub short : length digits ≤ 10
   pub value : digits_value 10 digits ≡ n
-  pub within : n ≤ 4294967295
+  pub within : n ≤ greatest_number
 
 -- a line of a word and a text, with blanks and tabs before, between and after them
 pub record IsLine (word text line : List ℕ) : Type 0 where

@@ -36,9 +36,13 @@ abbrev pub rest_of : List ℕ → List ℕ
 rest_of [] = []
 rest_of (b ∷ text) = if is_blank b then after_blanks text else rest_of text
 
--- whether a text is a number: 1 to 10 digits, whose value is at most 4,294,967,295
+-- the greatest number that a command may have
+abbrev pub greatest_number : ℕ
+greatest_number = 4294967295
+
+-- whether a text is a number: 1 to 10 digits, whose value is no greater than that
 abbrev pub is_number : List ℕ → Bool
-is_number text = nat_lt 0 (length text) && nat_le (length text) 10 && all_ascii_digits text && nat_le (digits_value 10 text) 4294967295
+is_number text = nat_lt 0 (length text) && nat_le (length text) 10 && all_ascii_digits text && nat_le (digits_value 10 text) greatest_number
 
 abbrev pub number_of : List ℕ → Option ℕ
 number_of text = if is_number text then Some (digits_value 10 text) else None

@@ -4,8 +4,8 @@ use Rattle.std.specs.Prelude.{◌≡◌, ◌+◌, ◌-◌, ℕ, List, [], true, 
 use Rattle.chr_value.specs.declared.label.TheConstants.{GREATEST_LABEL}
 use Rattle.chr_lex.specs.declared.fault.ReadError.{ReadError}
 use Rattle.chr_lex.specs.declared.fault.ReadError.TheVariants as errors
-use Rattle.chr_log.specs.Events.{event_by_texts, labelled_by_texts, labelled_atoms}
-use Rattle.chr_log.specs.LogText.{entries_text, store_text}
+use Rattle.chr_log.specs.Events.{event_by_texts}
+use Rattle.chr_log.specs.LogText.{entries_text, store_lines}
 use Rattle.chr_text.specs.Reading.{program_of}
 use Rattle.chr_calls.specs.Books.{BookState, events}
 use Rattle.chr_book.specs.Texts.{IsOpenText, PostsText}
@@ -66,7 +66,7 @@ WaitReplies seat other = ⊥
 -- how many constraints the store of a book has, and a line for each
 pub record AreStoreLines (b : BookState) (count : ℕ) (lines : List ℕ) : Type 0 where
   pub count_is : count ≡ length b.store
-  pub lines_are : lines ≡ store_text (map (labelled_by_texts b.names) (labelled_atoms b.store))
+  pub lines_are : lines ≡ store_lines b.names b.store
 
 -- the store of the book at some moment
 abbrev pub StoreReplies : SeatState → Reply → Type 0

@@ -1,8 +1,8 @@
 -- What a desk of one seat replies, and the book that it has then.
 use Rattle.std.specs.Prelude.{◌≡◌, ◌-◌, ℕ, List, [], map, length, drop, Option, Some, None, Ok, Err}
 use Rattle.chr_lex.specs.declared.fault.ReadError.TheVariants as errors
-use Rattle.chr_log.specs.Events.{Event, event_by_texts, labelled_by_texts, labelled_atoms}
-use Rattle.chr_log.specs.LogText.{entries_text, store_text}
+use Rattle.chr_log.specs.Events.{Event, event_by_texts}
+use Rattle.chr_log.specs.LogText.{entries_text, store_lines}
 use Rattle.chr_model.specs.Logs.{posted_by}
 use Rattle.chr_model.specs.Programs.{Instances}
 use Rattle.chr_model.specs.Stores.{Final}
@@ -56,7 +56,7 @@ WaitReplies b most other n = ⊥
 
 -- how many constraints the store has, and a line for each; the book is as before
 abbrev pub StoreReplies : BookState → Reply → BookState → Type 0
-StoreReplies b (Stored count lines) n = (count ≡ length b.store) × (lines ≡ store_text (map (labelled_by_texts b.names) (labelled_atoms b.store))) × (n ≡ b)
+StoreReplies b (Stored count lines) n = (count ≡ length b.store) × (lines ≡ store_lines b.names b.store) × (n ≡ b)
 StoreReplies b (Refused faults.NoMemory) n = n ≡ b
 StoreReplies b other n = ⊥
 

@@ -1,5 +1,6 @@
 //! The desk, and the replies to each command.
 ghost use Rattle.std.specs.Prelude.{◌≡◌, ◌≤◌, ℕ, None, Some, vec_len};
+ghost use Rattle.chr_value.specs.Stores.{greatest_label};
 ghost use Rattle.chr_calls.specs.Books.{BookState};
 ghost use Rattle.chr_session.specs.Commands.{reply_of, command_of};
 ghost use Rattle.chr_solo.specs.SoloSteps.{LoadsText, PostReplies, WaitReplies, StoreReplies, LogReplies, BookReplies, SoloReplies};
@@ -33,7 +34,7 @@ fn load<A: Allocator + Copy>(
     book: &mut Option<Book<A>>,
 ) -> Reply<A>
     requires none { book.old ≡ None }
-    requires limit { limit ≤ 4294967295 }
+    requires limit { limit ≤ greatest_label }
     ensures { LoadsText limit text.now (reply_of result) book.new }
 {
     match Book::of_text(alloc, text, limit) {
@@ -110,6 +111,7 @@ fn ask_book<A: Allocator + Copy>(alloc: A, book: &mut Book<A>, command: Command<
 
 impl<A: Allocator> Model for SoloDesk<A> {
     ghost use Rattle.std.specs.Prelude.{◌≤◌, ℕ, Option};
+    ghost use Rattle.chr_value.specs.Stores.{greatest_label};
     ghost use Rattle.chr_rule.specs.Codes.{rule_codes};
     ghost use Rattle.chr_calls.specs.Books.{BookState};
 
@@ -119,13 +121,13 @@ impl<A: Allocator> Model for SoloDesk<A> {
 
     ghost view = { λ d. (d.limit, d.book) };
 
-    ghost invariant = { λ d. d.limit ≤ 4294967295 };
+    ghost invariant = { λ d. d.limit ≤ greatest_label };
 }
 
 impl<A: Allocator + Copy> SoloDesk<A> {
     /// A desk without a program, whose books give labels from 1 to `limit`.
     pub fn new(alloc: A, limit: Label) -> SoloDesk<A>
-        requires { limit ≤ 4294967295 }
+        requires { limit ≤ greatest_label }
         ensures { result ≡ (limit, None) }
     {
         SoloDesk {

@@ -2,6 +2,7 @@
 ghost use Rattle.std.specs.Prelude.{◌≡◌, ◌↔◌, ◌≤◌, ℕ, List, Result, Ok, length};
 ghost use Rattle.std.specs.List.{AllByRecursion};
 ghost use Rattle.chr_value.specs.Atoms.{Atom};
+ghost use Rattle.chr_value.specs.Stores.{greatest_label};
 ghost use Rattle.chr_rule.specs.Scope.{IsRule};
 ghost use Rattle.chr_log.specs.Events.{labelled_atoms};
 ghost use Rattle.chr_log.specs.declared.events.Version.TheVariants.{One, Two};
@@ -56,13 +57,13 @@ pub fn runs_are_answered_so()
 /// store, as long as they keep the limit on length; and so is its strict log. Labels have 32 bits.
 pub fn texts_of_runs_are_read_back()
     ensures log { (program posts : List ℕ) (steps limit : ℕ) (end : End) (b : BookState)
-        → limit ≤ 4294967295 → (run : IsTextRun program posts steps limit end b) → length (shown show.Log end b) ≤ most_bytes
+        → limit ≤ greatest_label → (run : IsTextRun program posts steps limit end b) → length (shown show.Log end b) ≤ most_bytes
         → IsLogText run.read.table (shown show.Log end b) Two (events b) b.names }
     ensures strict_log { (program posts : List ℕ) (steps limit : ℕ) (b : BookState)
-        → limit ≤ 4294967295 → (run : IsTextRun program posts steps limit Quiet b) → length (shown show.Strict Quiet b) ≤ most_bytes
+        → limit ≤ greatest_label → (run : IsTextRun program posts steps limit Quiet b) → length (shown show.Strict Quiet b) ≤ most_bytes
         → IsLogText run.read.table (shown show.Strict Quiet b) One (strict (events b)) b.names }
     ensures store { (program posts : List ℕ) (steps limit : ℕ) (end : End) (b : BookState)
-        → limit ≤ 4294967295 → (run : IsTextRun program posts steps limit end b) → length (shown show.Store end b) ≤ most_bytes
+        → limit ≤ greatest_label → (run : IsTextRun program posts steps limit end b) → length (shown show.Store end b) ≤ most_bytes
         → IsStoreText b.names (shown show.Store end b) (labelled_atoms b.store) b.names }
 {}
 
@@ -71,11 +72,11 @@ pub fn texts_of_runs_are_read_back()
 /// `run`; of its strict log, `run final`. Only want of memory can come between.
 pub fn what_seats_write_is_accepted<A: Allocator>(answer: &Result<Checked<A>, CheckTextFault>)
     ensures whole_log { (program : List ℕ) (limit : ℕ) (end : End) (b : BookState)
-        → limit ≤ 4294967295 → IsOfTexts program limit b → ((end ≡ Quiet) ↔ AreQuiet b.tickets)
+        → limit ≤ greatest_label → IsOfTexts program limit b → ((end ≡ Quiet) ↔ AreQuiet b.tickets)
         → length (shown show.Log end b) ≤ most_bytes → length (shown show.Store end b) ≤ most_bytes
         → IsCheckText program (shown show.Log end b) (shown show.Store end b) answer.now → IsAnswered (verdict_of end) answer.now }
     ensures strict_log { (program : List ℕ) (limit : ℕ) (b : BookState)
-        → limit ≤ 4294967295 → IsOfTexts program limit b → AreQuiet b.tickets
+        → limit ≤ greatest_label → IsOfTexts program limit b → AreQuiet b.tickets
         → length (shown show.Strict Quiet b) ≤ most_bytes → length (shown show.Store Quiet b) ≤ most_bytes
         → IsCheckText program (shown show.Strict Quiet b) (shown show.Store Quiet b) answer.now → IsAnswered RunAndFinal answer.now }
 {}
@@ -90,12 +91,12 @@ pub fn what_a_run_writes_is_accepted<A: Allocator>(
     answer: &Result<Checked<A>, CheckTextFault>,
 )
     ensures whole_log { (program posts : List ℕ) (steps limit : ℕ)
-        → limit ≤ 4294967295
+        → limit ≤ greatest_label
         → IsRunText program posts steps limit show.Log (Ok log.now) → IsRunText program posts steps limit show.Store (Ok store.now)
         → length log.now.bytes.items ≤ most_bytes → length store.now.bytes.items ≤ most_bytes
         → IsCheckText program log.now.bytes.items store.now.bytes.items answer.now → IsAnswered (verdict_of log.now.end) answer.now }
     ensures strict_log { (program posts : List ℕ) (steps limit : ℕ)
-        → limit ≤ 4294967295
+        → limit ≤ greatest_label
         → IsRunText program posts steps limit show.Strict (Ok log.now) → IsRunText program posts steps limit show.Store (Ok store.now)
         → log.now.end ≡ Quiet → length log.now.bytes.items ≤ most_bytes → length store.now.bytes.items ≤ most_bytes
         → IsCheckText program log.now.bytes.items store.now.bytes.items answer.now → IsAnswered RunAndFinal answer.now }
@@ -107,12 +108,12 @@ pub fn what_a_run_of_texts_writes_is_accepted<A: Allocator>(
     answer: &Result<Checked<A>, CheckTextFault>,
 )
     ensures whole_log { (program : List ℕ) (posts : List (List ℕ)) (steps limit : ℕ)
-        → limit ≤ 4294967295 → IsRunTexts program posts steps limit (Ok ran.now)
+        → limit ≤ greatest_label → IsRunTexts program posts steps limit (Ok ran.now)
         → length (shown show.Log ran.now.end ran.now.book) ≤ most_bytes → length (shown show.Store ran.now.end ran.now.book) ≤ most_bytes
         → IsCheckText program (shown show.Log ran.now.end ran.now.book) (shown show.Store ran.now.end ran.now.book) answer.now
         → IsAnswered (verdict_of ran.now.end) answer.now }
     ensures strict_log { (program : List ℕ) (posts : List (List ℕ)) (steps limit : ℕ)
-        → limit ≤ 4294967295 → IsRunTexts program posts steps limit (Ok ran.now) → ran.now.end ≡ Quiet
+        → limit ≤ greatest_label → IsRunTexts program posts steps limit (Ok ran.now) → ran.now.end ≡ Quiet
         → length (shown show.Strict ran.now.end ran.now.book) ≤ most_bytes → length (shown show.Store ran.now.end ran.now.book) ≤ most_bytes
         → IsCheckText program (shown show.Strict ran.now.end ran.now.book) (shown show.Store ran.now.end ran.now.book) answer.now
         → IsAnswered RunAndFinal answer.now }

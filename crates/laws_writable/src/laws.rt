@@ -6,7 +6,7 @@ ghost use Rattle.chr_value.specs.Naming.{Table};
 ghost use Rattle.chr_rule.specs.Scope.{IsRule};
 ghost use Rattle.chr_rule.specs.Rules.{Simpagation};
 ghost use Rattle.chr_log.specs.Events.{Event, event_by_texts, labelled_by_texts, labelled_atoms};
-ghost use Rattle.chr_log.specs.LogText.{log_text, store_text};
+ghost use Rattle.chr_log.specs.LogText.{log_text, store_lines};
 ghost use Rattle.chr_log.specs.declared.events.Version.{Version};
 ghost use Rattle.chr_log_text.specs.Writable.{IsWritable, IsWritableStore, most_bytes};
 ghost use Rattle.chr_model.specs.Goals.{State};
@@ -40,6 +40,6 @@ pub fn lawful_logs_can_be_written()
     ensures store { (before table names : Table) (program : List ℕ) (rules : List (Simpagation ℕ)) (v : Version) (log : List (Event ℕ)) (last : State)
         → program_of before program ≡ Ok (rules, table) → take (length table) names ≡ table
         → AreWritable names (posted_by log) → Lawful v (Instances rules) log last → last.next ≤ 4294967296
-        → length (store_text (map (labelled_by_texts names) (labelled_atoms last.store))) ≤ most_bytes
+        → length (store_lines names last.store) ≤ most_bytes
         → IsWritableStore (map (labelled_by_texts names) (labelled_atoms last.store)) }
 {}

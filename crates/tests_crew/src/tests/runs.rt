@@ -1,5 +1,6 @@
 //! Books for crews, runs on them, and the check of what they leave.
 ghost use Rattle.std.specs.Prelude.{◌≤◌};
+ghost use Rattle.chr_value.specs.Stores.{greatest_label};
 
 use chr_book::Book;
 use chr_calls::TicketState;
@@ -30,7 +31,7 @@ pub fn open_up_to<A: Allocator + Copy>(
     limit: u64,
     posts: &str,
 ) -> Option<Book<A>>
-    requires { limit ≤ 4294967295 }
+    requires { limit ≤ greatest_label }
 {
     let mut book = Book::of_text(alloc, program.as_bytes(), limit).ok()?;
     book.post_text(POSTER, posts.as_bytes()).ok()?;

@@ -1,5 +1,6 @@
 //! The store, up to its limit.
 ghost use Rattle.std.specs.Prelude.{◌≤◌};
+ghost use Rattle.chr_value.specs.Stores.{greatest_label};
 
 use crate::tests::texts::{atoms_of, inserts_text};
 use chr_store::{Store, StoreFault};
@@ -12,7 +13,7 @@ const PRED: Pred = Pred { name: P, arity: 1 };
 
 /// An empty store with a limit, plain or with an index for the place of `p/1`.
 fn empty(alloc: Global, indexed: bool, limit: u64) -> Option<Store<Global>>
-    requires { limit ≤ 4294967295 }
+    requires { limit ≤ greatest_label }
 {
     if indexed {
         return Store::indexed(alloc, limit, &[(PRED, 1)]).ok();
@@ -35,7 +36,7 @@ fn comp_of(alloc: Global, n: i64) -> Option<Comp<Global>> {
 
 /// A store with a limit of at least 3 of `p(1)`, `p(2)` and `p(1)`, or with these numbers under a functor, under 1, 2 and 3.
 fn store_of(alloc: Global, kind: Kind, limit: u64) -> Option<Store<Global>>
-    requires { limit ≤ 4294967295 }
+    requires { limit ≤ greatest_label }
 {
     let (indexed, compound) = kind;
     let text = if compound {
