@@ -10,11 +10,23 @@ use Rattle.chr_calls.specs.Tickets.{Ticket, ticket_at, Holds}
 use Rattle.chr_calls.specs.Books.{BookState, opened, space_of, IsLive}
 use Rattle.chr_text.specs.Named.{RulesAreNamed}
 
-abbrev pub book_of : List (Simpagation ℕ) → PlanList → List (List ℕ) → List (Entry ℕ) → LabelledStore → List Ticket → BookState
-book_of rules plans names log store tickets = record { rules = rules; plans = plans; names = names; limit = store.limit; log = log; store = store.entries; next = store.next; tickets = tickets }
+abbrev pub book_of : List (Simpagation ℕ) → PlanList → List (List ℕ) → List (Entry ℕ) →
+    LabelledStore → List Ticket → BookState
+book_of rules plans names log store tickets =
+    record {
+      rules = rules;
+      plans = plans;
+      names = names;
+      limit = store.limit;
+      log = log;
+      store = store.entries;
+      next = store.next;
+      tickets = tickets;
+    }
 
 -- the book as it is opened, with the plans of its rules
-pub record IsOpened (rules : List (Simpagation ℕ)) (names : List (List ℕ)) (limit : ℕ) (b : BookState) : Type 0 where
+pub record IsOpened (rules : List (Simpagation ℕ)) (names : List (List ℕ)) (limit : ℕ)
+    (b : BookState) : Type 0 where
   pub plans : PlanList
   pub are_plans : ArePlans rules plans
   pub named : RulesAreNamed names rules

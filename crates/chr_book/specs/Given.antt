@@ -35,9 +35,11 @@ TellsCandidate b seat t trial (Some false) = HoldsOther b seat t trial
 
 -- whether a trial comes next, and else another does; none, where asking for one gives none
 abbrev pub IsAskedNext : BookState → ℕ → ℕ → Trial → Option Bool → Type 0
-IsAskedNext b seat t trial None = (other : Trial) (n : BookState) → Turns b seat t (Ok (Next other)) n → ⊥
+IsAskedNext b seat t trial None =
+    (other : Trial) (n : BookState) → Turns b seat t (Ok (Next other)) n → ⊥
 IsAskedNext b seat t trial (Some true) = ComesNext b seat t trial
-IsAskedNext b seat t trial (Some false) = (other : Trial) × (other ≢ trial) × ComesNext b seat t other
+IsAskedNext b seat t trial (Some false) =
+    (other : Trial) × (other ≢ trial) × ComesNext b seat t other
 
 -- the trials that come next in a search are formed
 abbrev pub AreFormed : Space → Type 0
@@ -47,34 +49,42 @@ AreFormed s = (place : List ℕ) (trial : Trial) → sheets.IsNextTrial s place 
 abbrev pub AreNextIn : BookState → SearchState → List Judgement → Type 0
 AreNextIn b s js = AreNextInOrder (space_of b s.label) s.place (map (λ j. j.trial) js)
 
--- A search has moved over the judgements of a sheet that aren't whole: so many were reported; and whether there is one that is
--- whole, and of the trial that is next then.
-pub record MovesOver (b : BookState) (s after : SearchState) (sheet : JudgedSheet) (reported : ℕ) (told : Bool) : Type 0 where
+-- A search has moved over the judgements of a sheet that aren't whole: so many were reported; and
+-- whether there is one that is whole, and of the trial that is next then.
+pub record MovesOver (b : BookState) (s after : SearchState) (sheet : JudgedSheet) (reported : ℕ)
+    (told : Bool) : Type 0 where
   pub label : after.label ≡ s.label
   pub formed : AreFormed (space_of b s.label)
   pub whole : MatchOption sheet.whole ⊤ (λ w. w.verdict ≡ Whole)
   pub moved : Reports (space_of b s.label) s.place sheet.others reported after.place
   pub tells : IsFireable (space_of b s.label) after.place sheet.whole told
 
--- It is told whether the judgement that is whole is of the next trial; and where the last judgement is whole and of the next
--- trial, it is that one, and told so.
-pub record TellsWhole (b : BookState) (seat t : ℕ) (sheet : JudgedSheet) (told : Bool) : Type 0 where
+-- It is told whether the judgement that is whole is of the next trial; and where the last judgement
+-- is whole and of the next trial, it is that one, and told so.
+pub record TellsWhole (b : BookState) (seat t : ℕ) (sheet : JudgedSheet) (told : Bool) : Type
+    0 where
   pub told_next : (j : Judgement) → sheet.whole ≡ Some j → told ≡ true → ComesNext b seat t j.trial
-  pub next_told : (j : Judgement) → IsLastOf (judgements_of sheet) j → j.verdict ≡ Whole → ComesNext b seat t j.trial → (sheet.whole ≡ Some j) × (told ≡ true)
+  pub next_told : (j : Judgement) → IsLastOf (judgements_of sheet) j → j.verdict ≡ Whole →
+      ComesNext b seat t j.trial → (sheet.whole ≡ Some j) × (told ≡ true)
 
--- So many of the judgements that aren't whole were reported, once the next trial is asked for; and whether that is the one that
--- is whole.
-pub record IsReported (b : BookState) (seat t : ℕ) (sheet : JudgedSheet) (reported : ℕ) (told : Bool) (n : BookState) : Type 0 where
-  pub reports : (next : Result Turn TurnFault) (asked : BookState) → Turns n seat t next asked → ReportsAll seat t b (judgements_of sheet) reported next asked
+-- So many of the judgements that aren't whole were reported, once the next trial is asked for; and
+-- whether that is the one that is whole.
+pub record IsReported (b : BookState) (seat t : ℕ) (sheet : JudgedSheet) (reported : ℕ)
+    (told : Bool) (n : BookState) : Type 0 where
+  pub reports : (next : Result Turn TurnFault) (asked : BookState) → Turns n seat t next asked →
+      ReportsAll seat t b (judgements_of sheet) reported next asked
   pub tells : TellsWhole n seat t sheet told
 
 -- the next trial, which is whole, is fired; or memory ran out, and nothing has changed
-abbrev pub FiresNext : {E : Type 0} → BookState → ℕ → ℕ → Judgement → Result Fired E → BookState → Type 0
-FiresNext b seat t j (Ok fired) n = FiresOrMisses (with_candidate_of b t (Some j.trial)) seat t j (Ok (firing.Fired fired)) n
+abbrev pub FiresNext : {E : Type 0} → BookState → ℕ → ℕ → Judgement → Result Fired E → BookState →
+    Type 0
+FiresNext b seat t j (Ok fired) n =
+    FiresOrMisses (with_candidate_of b t (Some j.trial)) seat t j (Ok (firing.Fired fired)) n
 FiresNext b seat t j (Err fault) n = n ≡ b
 
 -- a call follows a report, for what the line of trial answers then
-pub record FollowsWith (b : BookState) (seat t most : ℕ) (js : List Judgement) (following : Following) (n : BookState) : Type 0 where
+pub record FollowsWith (b : BookState) (seat t most : ℕ) (js : List Judgement)
+    (following : Following) (n : BookState) : Type 0 where
   pub next : Result Turn TurnFault
   pub asked : BookState
   pub turned : Turns b seat t next asked
@@ -82,4 +92,7 @@ pub record FollowsWith (b : BookState) (seat t most : ℕ) (js : List Judgement)
 
 -- the same, where no judgement is whole
 abbrev pub GivesOrDrops : BookState → ℕ → ℕ → ℕ → Following → BookState → Type 0
-GivesOrDrops b seat t most following n = (js : List Judgement) → ((j : Judgement) (trial : Trial) → IsLastOf js j → j.verdict ≡ Whole → ComesNext b seat t trial → trial ≢ j.trial) → FollowsWith b seat t most js following n
+GivesOrDrops b seat t most following n =
+    (js : List Judgement) →
+    ((j : Judgement) (trial : Trial) → IsLastOf js j → j.verdict ≡ Whole →
+    ComesNext b seat t trial → trial ≢ j.trial) → FollowsWith b seat t most js following n

@@ -30,7 +30,8 @@ pub record PassesTrial (seat t : ℕ) (b n : BookState) : Type 0 where
 -- so many of them, one after another
 abbrev pub PassesTrials : ℕ → ℕ → ℕ → BookState → BookState → Type 0
 PassesTrials seat t zero b n = n ≡ b
-PassesTrials seat t (suc k) b n = (middle : BookState) × PassesTrial seat t b middle × PassesTrials seat t k middle n
+PassesTrials seat t (suc k) b n =
+    (middle : BookState) × PassesTrial seat t b middle × PassesTrials seat t k middle n
 
 -- the seat holds the ticket, whose goal is live
 abbrev pub IsHeldLive : BookState → ℕ → ℕ → Type 0
@@ -96,8 +97,10 @@ pub record StartsSome (seat t most : ℕ) (b n : BookState) : Type 0 where
 abbrev pub StartsFewer : ℕ → ℕ → ℕ → BookState → BookState → Type 0
 StartsFewer seat t most b n = (n ≡ b) ⊎ StartsSome seat t most b n
 
--- a ticket's search passes over trials, and the tickets of the body of what is found then come after the others
-pub record PassesMaking (s : Space) (t : ℕ) (passed : Passed) (i : Instance) (old new : List Ticket) : Type 0 where
+-- a ticket's search passes over trials, and the tickets of the body of what is found then come
+-- after the others
+pub record PassesMaking (s : Space) (t : ℕ) (passed : Passed) (i : Instance) (old new : List Ticket)
+    : Type 0 where
   pub binding : List (Option (Value ℕ))
   pub x : Ticket
   pub over : PassesOver s passed i binding (ticket_at old t) x
@@ -115,8 +118,10 @@ pub record PassesSome (s : Space) (t most : ℕ) (old new : List Ticket) : Type 
   pub over : PassesOver s passed instance binding (ticket_at old t) x
   pub tickets : new ≡ slice_set old t x
 
--- a search passes over trials from a place to another, and the tickets of the body of what is found then come after the others
-pub record PassesBefore (s : Space) (passed : Passed) (i : Instance) (place after : List ℕ) (old new : List Ticket) : Type 0 where
+-- a search passes over trials from a place to another, and the tickets of the body of what is found
+-- then come after the others
+pub record PassesBefore (s : Space) (passed : Passed) (i : Instance) (place after : List ℕ)
+    (old new : List Ticket) : Type 0 where
   pub passes : Passes s passed.count place after
   pub binding : List (Option (Value ℕ))
   pub next : IsThen s after passed.then i binding

@@ -21,7 +21,8 @@ RefusesText text (errors.Fault fault) = program_of [] text ≡ Err fault
 RefusesText text errors.Memory = Unit {0}
 
 -- the text's atoms have taken the next tickets, and its names are in the table
-pub record PostsAtoms (b : BookState) (seat : ℕ) (bytes : List ℕ) (posted : Posted) (n : BookState) : Type 0 where
+pub record PostsAtoms (b : BookState) (seat : ℕ) (bytes : List ℕ) (posted : Posted) (n : BookState)
+    : Type 0 where
   pub atoms : List (Atom ℕ)
   pub table : Table
   pub reads : posts_of b.names bytes ≡ Ok (atoms, table)

@@ -23,7 +23,17 @@ pub record BookState : Type 0 where
 
 -- a book of these rules and names: no ticket, no entry, an empty store, and the next label is 1
 abbrev pub opened : List (Simpagation ℕ) → PlanList → List (List ℕ) → ℕ → BookState
-opened rules plans names limit = record { rules = rules; plans = plans; names = names; limit = limit; log = []; store = []; next = 1; tickets = ended ∷ [] }
+opened rules plans names limit =
+    record {
+      rules = rules;
+      plans = plans;
+      names = names;
+      limit = limit;
+      log = [];
+      store = [];
+      next = 1;
+      tickets = ended ∷ [];
+    }
 
 -- its goal state, and what its log says without seats
 abbrev pub goal_state : BookState → State

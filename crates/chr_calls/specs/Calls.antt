@@ -1,5 +1,5 @@
--- The table of calls: for each call, its answers with where they come, and the book after it. In each call, what stands
--- first holds first; want of memory comes last, and changes nothing.
+-- The table of calls: for each call, its answers with where they come, and the book after it. In
+-- each call, what stands first holds first; want of memory comes last, and changes nothing.
 use Rattle.std.specs.Prelude.{◌≡◌, ◌≢◌, ℕ, ◌+◌, ◌<◌, ◌≤◌, ◌⊎◌, Bool, true, false, not, List, [], ◌∷◌, ◌++◌, length, map, Option, Some, None, Result, Ok, Err, slice_set}
 use Rattle.std.specs.List.{AllByRecursion}
 use Rattle.chr_value.specs.Atoms.{Atom, AtomIsNamed}
@@ -44,7 +44,8 @@ use Rattle.chr_calls.specs.Books.{BookState, space_of, IsLive, with_tickets, wit
 
 -- the book where an atom is posted under the next ticket, and where these are, in order
 abbrev pub posted : BookState → ℕ → Atom ℕ → BookState
-posted b seat a = with_tickets (with_entry b seat (log.Post (length b.tickets) a)) (b.tickets ++ waiting a ∷ [])
+posted b seat a =
+    with_tickets (with_entry b seat (log.Post (length b.tickets) a)) (b.tickets ++ waiting a ∷ [])
 
 abbrev pub all_posted : BookState → ℕ → List (Atom ℕ) → BookState
 all_posted b seat [] = b
@@ -57,7 +58,8 @@ AreNamed b atoms = AllByRecursion (AtomIsNamed (length b.names)) atoms
 abbrev pub Posts : BookState → ℕ → List (Atom ℕ) → Result ℕ PostFault → BookState → Type 0
 Posts b seat atoms (Err post.UnknownName) n = (AreNamed b atoms → ⊥) × (n ≡ b)
 Posts b seat atoms (Err post.NoMemory) n = AreNamed b atoms × (n ≡ b)
-Posts b seat atoms (Ok first) n = AreNamed b atoms × (first ≡ length b.tickets) × (n ≡ all_posted b seat atoms)
+Posts b seat atoms (Ok first) n =
+    AreNamed b atoms × (first ≡ length b.tickets) × (n ≡ all_posted b seat atoms)
 
 -- ---- claim
 
@@ -89,8 +91,10 @@ pub record Resumes (b : BookState) (seat t l : ℕ) (n : BookState) : Type 0 whe
   pub after : n ≡ with_ticket b t (held_by seat (ticket_at b.tickets t))
 
 abbrev pub Claims : BookState → ℕ → ℕ → Result ℕ ClaimFault → BookState → Type 0
-Claims b seat t (Err (claim.NotWaiting state)) n = (state ≡ state_of b.tickets t) × (IsClaimable state → ⊥) × (n ≡ b)
-Claims b seat t (Err claim.LabelsSpent) n = (state_of b.tickets t ≡ states.Waiting) × (b.limit < b.next) × (n ≡ b)
+Claims b seat t (Err (claim.NotWaiting state)) n =
+    (state ≡ state_of b.tickets t) × (IsClaimable state → ⊥) × (n ≡ b)
+Claims b seat t (Err claim.LabelsSpent) n =
+    (state_of b.tickets t ≡ states.Waiting) × (b.limit < b.next) × (n ≡ b)
 Claims b seat t (Err claim.NoMemory) n = CanActivate b t × (n ≡ b)
 Claims b seat t (Ok l) n = Activates b seat t l n ⊎ Resumes b seat t l n
 
@@ -118,14 +122,18 @@ with_candidate_of b t candidate = with_ticket b t (with_candidate candidate (tic
 abbrev pub Turns : BookState → ℕ → ℕ → Result Turn TurnFault → BookState → Type 0
 Turns b seat t (Err turn_fault.NotHeld) n = IsNotHeld b.tickets seat t × (n ≡ b)
 Turns b seat t (Err turn_fault.NoMemory) n = (l : ℕ) × HoldsLive b seat t l × (n ≡ b)
-Turns b seat t (Ok turn.Gone) n = (l : ℕ) × Holds b.tickets seat t l × (IsLive b l → ⊥) × (n ≡ with_candidate_of b t None)
-Turns b seat t (Ok (turn.Next trial)) n = (l : ℕ) × HoldsLive b seat t l × IsNextTrial b t l trial × (n ≡ with_candidate_of b t (Some trial))
-Turns b seat t (Ok turn.Done) n = (l : ℕ) × HoldsLive b seat t l × IsDone b t l × (n ≡ with_candidate_of b t None)
+Turns b seat t (Ok turn.Gone) n =
+    (l : ℕ) × Holds b.tickets seat t l × (IsLive b l → ⊥) × (n ≡ with_candidate_of b t None)
+Turns b seat t (Ok (turn.Next trial)) n =
+    (l : ℕ) × HoldsLive b seat t l × IsNextTrial b t l trial ×
+    (n ≡ with_candidate_of b t (Some trial))
+Turns b seat t (Ok turn.Done) n =
+    (l : ℕ) × HoldsLive b seat t l × IsDone b t l × (n ≡ with_candidate_of b t None)
 
 -- ---- report and fire
 
--- The seat holds the ticket, and the trial is its candidate: equal in rule number and content, head, labels, and their
--- heads and atoms.
+-- The seat holds the ticket, and the trial is its candidate: equal in rule number and content,
+-- head, labels, and their heads and atoms.
 pub record HoldsCandidate (b : BookState) (seat t : ℕ) (trial : Trial) : Type 0 where
   pub held : state_of b.tickets t ≡ states.Held seat
   pub candidate : (ticket_at b.tickets t).candidate ≡ Some trial
@@ -139,11 +147,14 @@ pub record HoldsOther (b : BookState) (seat t : ℕ) (trial : Trial) : Type 0 wh
 abbrev pub after_judgement : BookState → ℕ → Judgement → BookState
 after_judgement b t j = with_ticket b t (going_on (after_judging j) (ticket_at b.tickets t))
 
-abbrev pub Reports : BookState → ℕ → ℕ → Judgement → Result (Unit {0}) ReportFault → BookState → Type 0
+abbrev pub Reports : BookState → ℕ → ℕ → Judgement → Result (Unit {0}) ReportFault → BookState →
+    Type 0
 Reports b seat t j (Err report.NotHeld) n = IsNotHeld b.tickets seat t × (n ≡ b)
 Reports b seat t j (Err report.Stale) n = HoldsOther b seat t j.trial × (n ≡ b)
-Reports b seat t j (Err report.IsWhole) n = HoldsCandidate b seat t j.trial × (j.verdict ≡ Whole) × (n ≡ b)
-Reports b seat t j (Ok moved) n = HoldsCandidate b seat t j.trial × (j.verdict ≢ Whole) × (n ≡ after_judgement b t j)
+Reports b seat t j (Err report.IsWhole) n =
+    HoldsCandidate b seat t j.trial × (j.verdict ≡ Whole) × (n ≡ b)
+Reports b seat t j (Ok moved) n =
+    HoldsCandidate b seat t j.trial × (j.verdict ≢ Whole) × (n ≡ after_judgement b t j)
 
 -- the candidate is whole, so that it can be fired
 pub record HoldsWhole (b : BookState) (seat t : ℕ) (j : Judgement) : Type 0 where
@@ -159,18 +170,27 @@ abbrev pub fired_ticket : Ticket → Trial → Bool → Ticket
 fired_ticket x trial true = going_on (past (position trial)) x
 fired_ticket x trial false = ended
 
--- the book where the trial has fired: an entry more, the removed labels gone, the body's atoms waiting in order
+-- the book where the trial has fired: an entry more, the removed labels gone, the body's atoms
+-- waiting in order
 abbrev pub fired : BookState → ℕ → ℕ → Trial → List (Atom ℕ) → Bool → BookState
 fired b seat t trial body lives = record b {
-  log = b.log ++ record { event = log.Fire t trial.number (kept_labels trial) (removed_labels trial); seat = seat } ∷ [];
+  log = b.log ++
+      record {
+        event = log.Fire t trial.number (kept_labels trial) (removed_labels trial);
+        seat = seat;
+      } ∷ [];
   store = without (removed_labels trial) b.store;
-  tickets = slice_set b.tickets t (fired_ticket (ticket_at b.tickets t) trial lives) ++ map waiting body;
+  tickets =
+      slice_set b.tickets t (fired_ticket (ticket_at b.tickets t) trial lives) ++ map waiting body;
 }
 
--- The trial is a labelled instance over the store with this body. The goal ends where its label is removed.
-pub record Fires (b : BookState) (t : ℕ) (trial : Trial) (seat : ℕ) (f : Fired) (n : BookState) : Type 0 where
+-- The trial is a labelled instance over the store with this body. The goal ends where its label is
+-- removed.
+pub record Fires (b : BookState) (t : ℕ) (trial : Trial) (seat : ℕ) (f : Fired) (n : BookState)
+    : Type 0 where
   pub body : List (Atom ℕ)
-  pub instance : Labelled (Instances b.rules) b.store trial.number (kept_labels trial) (removed_labels trial) body
+  pub instance : Labelled (Instances b.rules) b.store trial.number (kept_labels trial)
+      (removed_labels trial) body
   pub first : f.first ≡ length b.tickets
   pub count : f.count ≡ length body
   pub label : ℕ
@@ -178,13 +198,17 @@ pub record Fires (b : BookState) (t : ℕ) (trial : Trial) (seat : ℕ) (f : Fir
   pub lives : f.active_lives ≡ not (among (removed_labels trial) label)
   pub after : n ≡ fired b seat t trial body f.active_lives
 
-abbrev pub FiresOrMisses : BookState → ℕ → ℕ → Judgement → Result Firing FireFault → BookState → Type 0
+abbrev pub FiresOrMisses : BookState → ℕ → ℕ → Judgement → Result Firing FireFault → BookState →
+    Type 0
 FiresOrMisses b seat t j (Err fire.NotHeld) n = IsNotHeld b.tickets seat t × (n ≡ b)
 FiresOrMisses b seat t j (Err fire.Stale) n = HoldsOther b seat t j.trial × (n ≡ b)
-FiresOrMisses b seat t j (Err fire.NotWhole) n = HoldsCandidate b seat t j.trial × (j.verdict ≢ Whole) × (n ≡ b)
+FiresOrMisses b seat t j (Err fire.NotWhole) n =
+    HoldsCandidate b seat t j.trial × (j.verdict ≢ Whole) × (n ≡ b)
 FiresOrMisses b seat t j (Err fire.NoMemory) n = HoldsWhole b seat t j × AreLive b j.trial × (n ≡ b)
-FiresOrMisses b seat t j (Ok firing.Missed) n = HoldsWhole b seat t j × (AreLive b j.trial → ⊥) × (n ≡ after_judgement b t j)
-FiresOrMisses b seat t j (Ok (firing.Fired f)) n = HoldsWhole b seat t j × AreLive b j.trial × Fires b t j.trial seat f n
+FiresOrMisses b seat t j (Ok firing.Missed) n =
+    HoldsWhole b seat t j × (AreLive b j.trial → ⊥) × (n ≡ after_judgement b t j)
+FiresOrMisses b seat t j (Ok (firing.Fired f)) n =
+    HoldsWhole b seat t j × AreLive b j.trial × Fires b t j.trial seat f n
 
 -- ---- drop_goal
 
@@ -197,19 +221,27 @@ dropped b seat t = with_tickets (with_entry b seat (log.Drop t)) (slice_set b.ti
 
 abbrev pub Drops : BookState → ℕ → ℕ → Result Dropping DropFault → BookState → Type 0
 Drops b seat t (Err drop.NotHeld) n = IsNotHeld b.tickets seat t × (n ≡ b)
-Drops b seat t (Err drop.NoMemory) n = (l : ℕ) × Holds b.tickets seat t l × MayBeDropped b t l × (n ≡ b)
-Drops b seat t (Ok dropping.Dropped) n = (l : ℕ) × Holds b.tickets seat t l × MayBeDropped b t l × (n ≡ dropped b seat t)
-Drops b seat t (Ok dropping.Unfinished) n = (l : ℕ) × HoldsLive b seat t l × (IsDone b t l → ⊥) × (n ≡ b)
+Drops b seat t (Err drop.NoMemory) n =
+    (l : ℕ) × Holds b.tickets seat t l × MayBeDropped b t l × (n ≡ b)
+Drops b seat t (Ok dropping.Dropped) n =
+    (l : ℕ) × Holds b.tickets seat t l × MayBeDropped b t l × (n ≡ dropped b seat t)
+Drops b seat t (Ok dropping.Unfinished) n =
+    (l : ℕ) × HoldsLive b seat t l × (IsDone b t l → ⊥) × (n ≡ b)
 
 -- ---- put_down, mark_stray, take_stray
 
 abbrev pub PutsDown : BookState → ℕ → ℕ → Result (Unit {0}) PutDownFault → BookState → Type 0
 PutsDown b seat t (Err put_down_fault.NotHeld) n = IsNotHeld b.tickets seat t × (n ≡ b)
-PutsDown b seat t (Ok done) n = (state_of b.tickets t ≡ states.Held seat) × (n ≡ with_ticket b t (put_down (ticket_at b.tickets t)))
+PutsDown b seat t (Ok done) n =
+    (state_of b.tickets t ≡ states.Held seat) ×
+    (n ≡ with_ticket b t (put_down (ticket_at b.tickets t)))
 
 abbrev pub Marks : BookState → ℕ → Result (Unit {0}) MarkFault → BookState → Type 0
-Marks b t (Err (mark.NotWaiting state)) n = (state ≡ state_of b.tickets t) × (IsClaimable state → ⊥) × (n ≡ b)
-Marks b t (Ok done) n = IsClaimable (state_of b.tickets t) × (n ≡ with_ticket b t (marked true (ticket_at b.tickets t)))
+Marks b t (Err (mark.NotWaiting state)) n =
+    (state ≡ state_of b.tickets t) × (IsClaimable state → ⊥) × (n ≡ b)
+Marks b t (Ok done) n =
+    IsClaimable (state_of b.tickets t) × (n ≡ with_ticket b t (marked true (ticket_at b.tickets t)))
 
 abbrev pub TakesStray : BookState → Option ℕ → BookState → Type 0
-TakesStray b answer n = (tickets : List Ticket) × LosesStray b.tickets answer tickets × (n ≡ with_tickets b tickets)
+TakesStray b answer n =
+    (tickets : List Ticket) × LosesStray b.tickets answer tickets × (n ≡ with_tickets b tickets)

@@ -9,8 +9,8 @@ use Rattle.chr_search.specs.Verdicts.{Trial}
 use Rattle.chr_calls.specs.declared.answers.TicketState.{TicketState}
 use Rattle.chr_calls.specs.declared.answers.TicketState.TheVariants.{Unknown, Waiting, Held, Resting, Ended}
 
--- A ticket's goal, the seat that holds it, whether it is marked stray, and its search: a position among the trials and
--- perhaps a current candidate.
+-- A ticket's goal, the seat that holds it, whether it is marked stray, and its search: a position
+-- among the trials and perhaps a current candidate.
 pub record Ticket : Type 0 where
   pub goal : Goal
   pub holder : Option ℕ
@@ -24,11 +24,25 @@ ended = record { goal = goals.Ended; holder = None; stray = false; position = []
 
 -- a ticket of an atom that waits
 abbrev pub waiting : Atom ℕ → Ticket
-waiting atom = record { goal = Plain atom; holder = None; stray = false; position = beginning; candidate = None }
+waiting atom =
+    record {
+      goal = Plain atom;
+      holder = None;
+      stray = false;
+      position = beginning;
+      candidate = None;
+    }
 
 -- a goal that is activated under a label by a seat: its search is at the beginning
 abbrev pub activated_by : ℕ → ℕ → Ticket
-activated_by seat l = record { goal = Numbered l; holder = Some seat; stray = false; position = beginning; candidate = None }
+activated_by seat l =
+    record {
+      goal = Numbered l;
+      holder = Some seat;
+      stray = false;
+      position = beginning;
+      candidate = None;
+    }
 
 -- a ticket that a seat holds again, without its mark
 abbrev pub held_by : ℕ → Ticket → Ticket
@@ -66,7 +80,9 @@ state_with goals.Ended holder = Ended
 -- the state of a ticket: unknown where it was never given
 abbrev pub state_of : List Ticket → ℕ → TicketState
 state_of tickets zero = Unknown
-state_of tickets (suc t) = if nat_lt (suc t) (length tickets) then state_with (ticket_at tickets (suc t)).goal (ticket_at tickets (suc t)).holder else Unknown
+state_of tickets (suc t) =
+    if nat_lt (suc t) (length tickets)
+    then state_with (ticket_at tickets (suc t)).goal (ticket_at tickets (suc t)).holder else Unknown
 
 -- the ticket can be claimed
 pub data IsClaimable : TicketState → Type 0 where
@@ -109,7 +125,9 @@ IsStray tickets t = (ticket_at tickets t).stray ≡ true
 -- the least marked ticket loses its mark, or there is none
 abbrev pub LosesStray : List Ticket → Option ℕ → List Ticket → Type 0
 LosesStray old None new = ((t : ℕ) → IsStray old t → ⊥) × (new ≡ old)
-LosesStray old (Some t) new = IsStray old t × ((u : ℕ) → IsStray old u → t ≤ u) × (new ≡ slice_set old t (marked false (ticket_at old t)))
+LosesStray old (Some t) new =
+    IsStray old t × ((u : ℕ) → IsStray old u → t ≤ u) ×
+    (new ≡ slice_set old t (marked false (ticket_at old t)))
 
 -- the ticket is open, and no other seat holds it
 pub data IsOpenFor : ℕ → TicketState → Type 0 where

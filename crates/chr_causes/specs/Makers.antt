@@ -11,4 +11,5 @@ pub record IsNew (made count before place : ℕ) (maker : Maker) : Type 0 where
 -- one entry has made so many goals more
 pub record HasMade (made count : ℕ) (old new : List Maker) : Type 0 where
   pub places : length new ≡ length old + count
-  pub each : (k : ℕ) (maker : Maker) → slice_get new k ≡ Some maker → (slice_get old k ≡ Some maker) ⊎ IsNew made count (length old) k maker
+  pub each : (k : ℕ) (maker : Maker) → slice_get new k ≡ Some maker →
+      (slice_get old k ≡ Some maker) ⊎ IsNew made count (length old) k maker

@@ -13,10 +13,12 @@ AreWithin count labels = AllByRecursion (λ l. (0 < l) × (l < count + 1)) label
 -- these labels are marked too
 pub record Adds (labels : List ℕ) (old new : List Bool) : Type 0 where
   pub places : length new ≡ length old
-  pub marks : (k : ℕ) → slice_index_or new k false ≡ (slice_index_or old k false || among labels (k + 1))
+  pub marks : (k : ℕ) →
+      slice_index_or new k false ≡ (slice_index_or old k false || among labels (k + 1))
 
 -- those marked are the causes of the label
-pub record AreMarks (rules : List (Simpagation ℕ)) (log : List (Event ℕ)) (label : ℕ) (marks : List Bool) : Type 0 where
+pub record AreMarks (rules : List (Simpagation ℕ)) (log : List (Event ℕ)) (label : ℕ)
+    (marks : List Bool) : Type 0 where
   pub places : length marks ≡ label
   pub none : IsCause rules log label 0 → ⊥
   pub exact : (k : ℕ) → (slice_index_or marks k false ≡ true) ↔ IsCause rules log label (k + 1)

@@ -21,7 +21,8 @@ abbrev pub added_count : Option (Simpagation ℕ) → ℕ
 added_count (Some rule) = length (added rule.body)
 added_count None = 0
 
--- How many tickets an event makes: a post makes one, and a firing one for each constraint that its rule's body adds.
+-- How many tickets an event makes: a post makes one, and a firing one for each constraint that its
+-- rule's body adds.
 abbrev pub tickets_of : List (Simpagation ℕ) → Event ℕ → ℕ
 tickets_of rules (Post t a) = 1
 tickets_of rules (Activate t l) = 0
@@ -33,14 +34,17 @@ abbrev pub next_ticket : List (Simpagation ℕ) → List (Event ℕ) → ℕ
 next_ticket rules log = sum_by (tickets_of rules) log + 1
 
 -- The entry at the place `made` made the ticket, after so many others.
-pub record Makes (rules : List (Simpagation ℕ)) (log : List (Event ℕ)) (made nth ticket : ℕ) : Type 0 where
+pub record Makes (rules : List (Simpagation ℕ)) (log : List (Event ℕ)) (made nth ticket : ℕ) : Type
+    0 where
   pub event : Event ℕ
   pub there : slice_get log made ≡ Some event
   pub within : nth < tickets_of rules event
   pub number : ticket ≡ next_ticket rules (take made log) + nth
 
--- Where a label comes from: an entry gives it to the goal of a ticket, and an entry made the ticket.
-pub record IsOrigin (rules : List (Simpagation ℕ)) (log : List (Event ℕ)) (label : ℕ) (origin : Origin) : Type 0 where
+-- Where a label comes from: an entry gives it to the goal of a ticket, and an entry made the
+-- ticket.
+pub record IsOrigin (rules : List (Simpagation ℕ)) (log : List (Event ℕ)) (label : ℕ)
+    (origin : Origin) : Type 0 where
   pub ticket : ℕ
   pub gives : slice_get log origin.activated ≡ Some (Activate ticket label)
   pub makes : Makes rules log origin.made origin.nth ticket
@@ -52,6 +56,8 @@ pub record Gives (log : List (Event ℕ)) (label : ℕ) : Type 0 where
   pub gives : slice_get log place ≡ Some (Activate ticket label)
 
 -- the origins of all labels that the log gives, from label 1 on
-pub record AreOrigins (rules : List (Simpagation ℕ)) (log : List (Event ℕ)) (list : List Origin) : Type 0 where
-  pub each : (k : ℕ) (origin : Origin) → slice_get list k ≡ Some origin → IsOrigin rules log (k + 1) origin
+pub record AreOrigins (rules : List (Simpagation ℕ)) (log : List (Event ℕ)) (list : List Origin)
+    : Type 0 where
+  pub each : (k : ℕ) (origin : Origin) → slice_get list k ≡ Some origin →
+      IsOrigin rules log (k + 1) origin
   pub all : (label : ℕ) → Gives log label → (0 < label) × (label < length list + 1)

@@ -16,8 +16,8 @@ use Rattle.chr_check_text.specs.declared.checked.CheckPartsFault.TheVariants as 
 use Rattle.chr_check_text.specs.declared.checked.CheckTextFault.{CheckTextFault}
 use Rattle.chr_check_text.specs.declared.checked.CheckTextFault.TheVariants as whole
 
--- a log in parts, whose names are entered into that table: the version of its header, the events of all parts, and the
--- table of the names so far
+-- a log in parts, whose names are entered into that table: the version of its header, the events of
+-- all parts, and the table of the names so far
 pub record LogPartsOf (table : List (List ℕ)) (first : List ℕ) (more : List (List ℕ)) : Type 0 where
   pub version : Version
   pub events : List (Event ℕ)
@@ -44,7 +44,8 @@ whole_fault (faults.Store fault) = whole.Store fault
 whole_fault faults.Memory = whole.Memory
 
 -- all texts are read, and this is what the one log and the store are by the rules
-pub record IsPartsChecked {Z : Type 0} (program first : List ℕ) (more : List (List ℕ)) (store : List ℕ) (made : Checked Z) : Type 0 where
+pub record IsPartsChecked {Z : Type 0} (program first : List ℕ) (more : List (List ℕ))
+    (store : List ℕ) (made : Checked Z) : Type 0 where
   pub read : RulesOf program
   pub logged : LogPartsOf read.table first more
   pub stored : StoreOf logged.names store
@@ -53,12 +54,18 @@ pub record IsPartsChecked {Z : Type 0} (program first : List ℕ) (more : List (
 -- the first text that has a fault has this one
 abbrev pub IsPartsUnread : List ℕ → List ℕ → List (List ℕ) → List ℕ → CheckPartsFault → Type 0
 IsPartsUnread program first more store (faults.Program fault) = program_of [] program ≡ Err fault
-IsPartsUnread program first more store (faults.Log part) = (part.fault ≢ NoMemory) × (read : RulesOf program) × HasLogPartFault read.table first more part.part part.fault
-IsPartsUnread program first more store (faults.Store fault) = (fault ≢ NoMemory) × (read : RulesOf program) × (logged : LogPartsOf read.table first more) × HasStoreFault logged.names store fault
+IsPartsUnread program first more store (faults.Log part) =
+    (part.fault ≢ NoMemory) × (read : RulesOf program) ×
+    HasLogPartFault read.table first more part.part part.fault
+IsPartsUnread program first more store (faults.Store fault) =
+    (fault ≢ NoMemory) × (read : RulesOf program) × (logged : LogPartsOf read.table first more) ×
+    HasStoreFault logged.names store fault
 IsPartsUnread program first more store faults.Memory = Unit {0}
 
--- The check of texts of which the log comes in parts. They are read with one table of names, first the rules, then the
--- parts of the log in order, then the store; and what is checked is the one log that the parts make.
-abbrev pub IsCheckParts : {Z : Type 0} → List ℕ → List ℕ → List (List ℕ) → List ℕ → Result (Checked Z) CheckPartsFault → Type 0
+-- The check of texts of which the log comes in parts. They are read with one table of names, first
+-- the rules, then the parts of the log in order, then the store; and what is checked is the one log
+-- that the parts make.
+abbrev pub IsCheckParts : {Z : Type 0} → List ℕ → List ℕ → List (List ℕ) → List ℕ →
+    Result (Checked Z) CheckPartsFault → Type 0
 IsCheckParts program first more store (Ok made) = IsPartsChecked program first more store made
 IsCheckParts program first more store (Err fault) = IsPartsUnread program first more store fault

@@ -24,19 +24,23 @@ abbrev pub check_of : Result Verdict CheckFault → Result Verdict CheckError
 check_of (Ok verdict) = Ok verdict
 check_of (Err fault) = Err (NotARun fault)
 
--- What is answered of a log and a store: that the log is a run that ends in the store, exactly where it is one; that
--- this run is final, exactly where it is; and a fault exactly where it is the first one.
-pub record IsAnswer (v : Version) (I : Rules) (log : List (Event ℕ)) (store : Store) (answer : Result Verdict CheckFault) : Type 0 where
+-- What is answered of a log and a store: that the log is a run that ends in the store, exactly
+-- where it is one; that this run is final, exactly where it is; and a fault exactly where it is the
+-- first one.
+pub record IsAnswer (v : Version) (I : Rules) (log : List (Event ℕ)) (store : Store)
+    (answer : Result Verdict CheckFault) : Type 0 where
   pub run : IsOk answer ↔ IsRun v I log store
   pub final_run : (answer ≡ Ok RunAndFinal) ↔ IsFinalRun v I log store
   pub fault : (f : CheckFault) → ((answer ≡ Err f) ↔ IsFirstFault v I log store f)
 
 -- the answer, and the line that tells it
-pub record IsTold {Z : Type 0} (v : Version) (I : Rules) (log : List (Event ℕ)) (store : Store) (made : Checked Z) : Type 0 where
+pub record IsTold {Z : Type 0} (v : Version) (I : Rules) (log : List (Event ℕ)) (store : Store)
+    (made : Checked Z) : Type 0 where
   pub answer : IsAnswer v I log store made.answer
   pub line : made.line.items ≡ answer_line made.answer
 
--- a text of a store, whose names are entered into that table: the labels with their atoms, and the table of all names
+-- a text of a store, whose names are entered into that table: the labels with their atoms, and the
+-- table of all names
 pub record StoreOf (table : List (List ℕ)) (text : List ℕ) : Type 0 where
   pub entries : Store
   pub names : List (List ℕ)
@@ -52,11 +56,16 @@ pub record IsChecked {Z : Type 0} (program log store : List ℕ) (made : Checked
 -- the first text that has a fault has this one
 abbrev pub IsUnread : List ℕ → List ℕ → List ℕ → CheckTextFault → Type 0
 IsUnread program log store (faults.Program fault) = program_of [] program ≡ Err fault
-IsUnread program log store (faults.Log fault) = (fault ≢ NoMemory) × (read : RulesOf program) × HasLogFault read.table log fault
-IsUnread program log store (faults.Store fault) = (fault ≢ NoMemory) × (read : RulesOf program) × (logged : LogOf read.table log) × HasStoreFault logged.names store fault
+IsUnread program log store (faults.Log fault) =
+    (fault ≢ NoMemory) × (read : RulesOf program) × HasLogFault read.table log fault
+IsUnread program log store (faults.Store fault) =
+    (fault ≢ NoMemory) × (read : RulesOf program) × (logged : LogOf read.table log) ×
+    HasStoreFault logged.names store fault
 IsUnread program log store faults.Memory = Unit {0}
 
--- The check of three texts. They are read with one table of names, first the rules, then the log, then the store.
-abbrev pub IsCheckText : {Z : Type 0} → List ℕ → List ℕ → List ℕ → Result (Checked Z) CheckTextFault → Type 0
+-- The check of three texts. They are read with one table of names, first the rules, then the log,
+-- then the store.
+abbrev pub IsCheckText : {Z : Type 0} → List ℕ → List ℕ → List ℕ →
+    Result (Checked Z) CheckTextFault → Type 0
 IsCheckText program log store (Ok made) = IsChecked program log store made
 IsCheckText program log store (Err fault) = IsUnread program log store fault

@@ -22,7 +22,9 @@ kind_word StoreDiffers = codes "StoreDiffers"
 
 -- the text, the line and the kind of a fault
 abbrev pub fault_line : CheckFault → List ℕ
-fault_line f = codes "refused E16 " ++ (place_word f.place ++ (32 ∷ decimal f.line ++ (32 ∷ kind_word f.kind ++ 10 ∷ [])))
+fault_line f =
+    codes "refused E16 " ++
+    (place_word f.place ++ (32 ∷ decimal f.line ++ (32 ∷ kind_word f.kind ++ 10 ∷ [])))
 
 abbrev pub answer_line : Result Verdict CheckFault → List ℕ
 answer_line (Ok RunAndFinal) = codes "run final\n"

@@ -12,8 +12,10 @@ use Rattle.chr_enumeration.specs.declared.search.Found.{Found}
 abbrev pub listed : List (ℕ × Bor (Atom ℕ)) → Store
 listed entries = map (λ e. (e.0, e.1.now)) entries
 
--- a labelled instance over the store that has the label, with the one binding of its rule's variables
-pub record IsFound {A : Type 0} (rules : List (Simpagation ℕ)) (store : Store) (label : ℕ) (f : Found A) : Type 0 where
+-- a labelled instance over the store that has the label, with the one binding of its rule's
+-- variables
+pub record IsFound {A : Type 0} (rules : List (Simpagation ℕ)) (store : Store) (label : ℕ)
+    (f : Found A) : Type 0 where
   pub rule : Simpagation ℕ
   pub of_program : rule_at rules f.rule ≡ Some rule
   pub atoms : List (Atom ℕ)

@@ -1,4 +1,5 @@
--- The search for the partners of an instance: for some heads of a rule an entry of the store is picked.
+-- The search for the partners of an instance: for some heads of a rule an entry of the store is
+-- picked.
 use Rattle.std.specs.Prelude.{◌≡◌, ℕ, suc, ◌+◌, ◌<◌, true, List, [], ◌∷◌, length, map, take, drop, Option, Some, None, IsSome, slice_get, slice_index_or}
 use Rattle.std.specs.List.{AllByRecursion}
 use Rattle.std.specs.Option.{option_map}
@@ -53,20 +54,24 @@ abbrev pub AllFit : Simpagation ℕ → Picks → Valuation → Type 0
 AllFit rule ps v = (i : ℕ) (e : ℕ × Atom ℕ) → picked_at ps i ≡ Some e → HeadIs rule (suc i) e.1 v
 
 -- distinct entries of the store, one for each head, are an instance
-pub record IsInstanceOver (rule : Simpagation ℕ) (store entries : Store) (body : List (Atom ℕ)) : Type 0 where
+pub record IsInstanceOver (rule : Simpagation ℕ) (store entries : Store) (body : List (Atom ℕ))
+    : Type 0 where
   pub instance : IsInstance rule (atoms entries) body
   pub distinct : Distinct (labels entries)
   pub there : Carry store (labels entries) (atoms entries)
 
 -- distinct entries of the store are picked, and this is the one binding of their heads' variables
-pub record IsPartial (rule : Simpagation ℕ) (store : Store) (ps : Picks) (binding : List (Option (Value ℕ))) : Type 0 where
+pub record IsPartial (rule : Simpagation ℕ) (store : Store) (ps : Picks)
+    (binding : List (Option (Value ℕ))) : Type 0 where
   pub heads : length ps ≡ length rule.kept + length rule.removed
   pub fit : IsFit rule (AllFit rule ps) binding
   pub distinct : Distinct (labels (picked ps))
   pub there : Carry store (labels (picked ps)) (atoms (picked ps))
 
--- entries such as these are an instance of the rule over the store, with the one binding of the rule's variables
-pub record IsMatch {A : Type 0} (rule : Simpagation ℕ) (store : Store) (Such : Store → Type 0) (m : Match A) : Type 0 where
+-- entries such as these are an instance of the rule over the store, with the one binding of the
+-- rule's variables
+pub record IsMatch {A : Type 0} (rule : Simpagation ℕ) (store : Store) (Such : Store → Type 0)
+    (m : Match A) : Type 0 where
   pub entries : Store
   pub such : Such entries
   pub under : IsInstanceUnder rule (atoms entries) m.binding
@@ -76,4 +81,6 @@ pub record IsMatch {A : Type 0} (rule : Simpagation ℕ) (store : Store) (Such :
 
 -- no such entries are an instance of the rule
 abbrev pub NoMatch : Simpagation ℕ → Store → (Store → Type 0) → Type 0
-NoMatch rule store Such = (entries : Store) (body : List (Atom ℕ)) → IsInstanceOver rule store entries body → Such entries → ⊥
+NoMatch rule store Such =
+    (entries : Store) (body : List (Atom ℕ)) → IsInstanceOver rule store entries body →
+    Such entries → ⊥

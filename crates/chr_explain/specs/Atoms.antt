@@ -11,7 +11,8 @@ use Rattle.chr_model.specs.Programs.{Instances}
 use Rattle.chr_causes.specs.Origins.{Gives}
 
 -- After some first events of the log the store has the atom under the label.
-pub record IsAtomOf (rules : List (Simpagation ℕ)) (log : List (Event ℕ)) (label : ℕ) (atom : Atom ℕ) : Type 0 where
+pub record IsAtomOf (rules : List (Simpagation ℕ)) (log : List (Event ℕ)) (label : ℕ)
+    (atom : Atom ℕ) : Type 0 where
   pub version : Version
   pub place : ℕ
   pub state : State
@@ -19,8 +20,10 @@ pub record IsAtomOf (rules : List (Simpagation ℕ)) (log : List (Event ℕ)) (l
   pub there : atom_at state.store label ≡ Some atom
 
 -- the atoms of all labels that the log gives, from label 1 on
-pub record AreAtoms (rules : List (Simpagation ℕ)) (log : List (Event ℕ)) (atoms : List (Atom ℕ)) : Type 0 where
-  pub each : (k : ℕ) (atom : Atom ℕ) → slice_get atoms k ≡ Some atom → IsAtomOf rules log (k + 1) atom
+pub record AreAtoms (rules : List (Simpagation ℕ)) (log : List (Event ℕ)) (atoms : List (Atom ℕ))
+    : Type 0 where
+  pub each : (k : ℕ) (atom : Atom ℕ) → slice_get atoms k ≡ Some atom →
+      IsAtomOf rules log (k + 1) atom
   pub all : (label : ℕ) → Gives log label → (0 < label) × (label < length atoms + 1)
 
 abbrev pub listed : Option (Atom ℕ) → List (Atom ℕ)

@@ -41,29 +41,39 @@ log_fault NoMemory = faults.Memory
 log_fault fault = faults.Log fault
 
 -- what is explained of a log by the rules, whose text this is
-abbrev pub IsAnswer : List ℕ → List (Simpagation ℕ) → List (List ℕ) → Version → List (Event ℕ) → Question → Result (List ℕ) ExplainFault → Type 0
+abbrev pub IsAnswer : List ℕ → List (Simpagation ℕ) → List (List ℕ) → Version → List (Event ℕ) →
+    Question → Result (List ℕ) ExplainFault → Type 0
 IsAnswer program rules names v log question (Ok out) =
-    ((last : State) × Lawful v (Instances rules) log last) × IsExplanation rules (record { names = names; headings = headings_of program; log = log }) question out
+    ((last : State) × Lawful v (Instances rules) log last) ×
+    IsExplanation rules (record { names = names; headings = headings_of program; log = log })
+    question out
 IsAnswer program rules names v log question (Err (faults.Program fault)) = ⊥
 IsAnswer program rules names v log question (Err (faults.Log fault)) = ⊥
-IsAnswer program rules names v log question (Err (faults.Refused fault)) = IsLogAnswer v (Instances rules) log (Some fault)
-IsAnswer program rules names v log question (Err faults.NotGiven) = ((last : State) × Lawful v (Instances rules) log last) × (Gives log question.label → ⊥)
+IsAnswer program rules names v log question (Err (faults.Refused fault)) =
+    IsLogAnswer v (Instances rules) log (Some fault)
+IsAnswer program rules names v log question (Err faults.NotGiven) =
+    ((last : State) × Lawful v (Instances rules) log last) × (Gives log question.label → ⊥)
 IsAnswer program rules names v log question (Err faults.Memory) = Unit {0}
 
 -- both texts are read, with one table of names, and this is what is answered of the log
-pub record IsRead (program log : List ℕ) (question : Question) (answer : Result (List ℕ) ExplainFault) : Type 0 where
+pub record IsRead (program log : List ℕ) (question : Question)
+    (answer : Result (List ℕ) ExplainFault) : Type 0 where
   pub read : RulesOf program
   pub logged : LogOf read.table log
-  pub answered : IsAnswer program read.rules logged.names logged.version logged.events question answer
+  pub answered : IsAnswer program read.rules logged.names logged.version logged.events question
+      answer
 
--- The explanation of a label of a log, by the bytes of a text of rules and of a text of the log. Where a text can't be
--- read, the fault of the first such text is told.
+-- The explanation of a label of a log, by the bytes of a text of rules and of a text of the log.
+-- Where a text can't be read, the fault of the first such text is told.
 abbrev pub IsExplainText : List ℕ → List ℕ → Question → Result (List ℕ) ExplainFault → Type 0
 IsExplainText program log question (Ok out) = IsRead program log question (Ok out)
 IsExplainText program log question (Err (faults.Program fault)) = program_of [] program ≡ Err fault
-IsExplainText program log question (Err (faults.Log fault)) = (fault ≢ NoMemory) × (read : RulesOf program) × HasLogFault read.table log fault
-IsExplainText program log question (Err (faults.Refused fault)) = IsRead program log question (Err (faults.Refused fault))
-IsExplainText program log question (Err faults.NotGiven) = IsRead program log question (Err faults.NotGiven)
+IsExplainText program log question (Err (faults.Log fault)) =
+    (fault ≢ NoMemory) × (read : RulesOf program) × HasLogFault read.table log fault
+IsExplainText program log question (Err (faults.Refused fault)) =
+    IsRead program log question (Err (faults.Refused fault))
+IsExplainText program log question (Err faults.NotGiven) =
+    IsRead program log question (Err faults.NotGiven)
 IsExplainText program log question (Err faults.Memory) = Unit {0}
 
 -- the bytes of an answer of the code

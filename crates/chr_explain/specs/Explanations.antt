@@ -15,10 +15,13 @@ use Rattle.chr_explain.specs.Graphs.{node}
 -- a line for each cause, or the node of each in a graph
 abbrev pub explanation_text : Form → Recorded → List Reason → List ℕ
 explanation_text Text r reasons = flat_map (λ reason. cause_line r reason ++ 10 ∷ []) reasons
-explanation_text Dot r reasons = codes "digraph causes {\n  node [shape=box];\n" ++ (flat_map (node r) reasons ++ codes "}\n")
+explanation_text Dot r reasons =
+    codes "digraph causes {\n  node [shape=box];\n" ++ (flat_map (node r) reasons ++ codes "}\n")
 
--- The explanation of a label: exactly its causes are shown, each once, by rising label, with their reasons.
-pub record IsExplanation (rules : List (Simpagation ℕ)) (r : Recorded) (question : Question) (out : List ℕ) : Type 0 where
+-- The explanation of a label: exactly its causes are shown, each once, by rising label, with their
+-- reasons.
+pub record IsExplanation (rules : List (Simpagation ℕ)) (r : Recorded) (question : Question)
+    (out : List ℕ) : Type 0 where
   pub atoms : List (Atom ℕ)
   pub known : AreAtoms rules r.log atoms
   pub reasons : List Reason

@@ -16,16 +16,23 @@ abbrev pub body_atoms : Valuation → List (BodyItem ℕ) → List (Atom ℕ)
 body_atoms v items = flat_map (item_atoms v) items
 
 -- the body of the instance of the rule whose heads are these atoms makes goals
-abbrev pub AddsBody : List (Simpagation ℕ) → ℕ → List (Atom ℕ) → List (Atom ℕ) → List (Atom ℕ) → Type 0
-AddsBody rules r heads old new = (rule : Simpagation ℕ) (body : List (Atom ℕ)) → rule_at rules r ≡ Some rule → IsInstance rule heads body → new ≡ old ++ body
+abbrev pub AddsBody : List (Simpagation ℕ) → ℕ → List (Atom ℕ) → List (Atom ℕ) → List (Atom ℕ) →
+    Type 0
+AddsBody rules r heads old new =
+    (rule : Simpagation ℕ) (body : List (Atom ℕ)) → rule_at rules r ≡ Some rule →
+    IsInstance rule heads body → new ≡ old ++ body
 
 -- the label that is given is of the goal of this ticket
 abbrev pub AddsGoal : ℕ → List (Atom ℕ) → List (Atom ℕ) → List (Atom ℕ) → Type 0
-AddsGoal ticket goals old new = (atom : Atom ℕ) → slice_get goals (ticket - 1) ≡ Some atom → new ≡ old ++ atom ∷ []
+AddsGoal ticket goals old new =
+    (atom : Atom ℕ) → slice_get goals (ticket - 1) ≡ Some atom → new ≡ old ++ atom ∷ []
 
--- what an event does to the atoms of goals, from ticket 1 on, and to those of labels, from label 1 on
-abbrev pub Follows : List (Simpagation ℕ) → Event ℕ → List (Atom ℕ) → List (Atom ℕ) → List (Atom ℕ) → List (Atom ℕ) → Type 0
+-- what an event does to the atoms of goals, from ticket 1 on, and to those of labels, from label 1
+-- on
+abbrev pub Follows : List (Simpagation ℕ) → Event ℕ → List (Atom ℕ) → List (Atom ℕ) →
+    List (Atom ℕ) → List (Atom ℕ) → Type 0
 Follows rules (Post t a) goals atoms new more = (new ≡ goals ++ a ∷ []) × (more ≡ atoms)
 Follows rules (Activate t l) goals atoms new more = (new ≡ goals) × AddsGoal t goals atoms more
-Follows rules (Fire t r kept removed) goals atoms new more = AddsBody rules r (atoms_of atoms kept ++ atoms_of atoms removed) goals new × (more ≡ atoms)
+Follows rules (Fire t r kept removed) goals atoms new more =
+    AddsBody rules r (atoms_of atoms kept ++ atoms_of atoms removed) goals new × (more ≡ atoms)
 Follows rules (Drop t) goals atoms new more = (new ≡ goals) × (more ≡ atoms)

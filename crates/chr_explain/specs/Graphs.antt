@@ -17,7 +17,9 @@ abbrev pub arrow : ℕ → List ℕ → ℕ → List ℕ
 arrow to end from = codes "  " ++ (decimal from ++ (codes " -> " ++ (decimal to ++ end)))
 
 abbrev pub firing_arrows : ℕ → List ℕ → List ℕ → List ℕ
-firing_arrows to kept removed = flat_map (arrow to (codes " [style=dashed];\n")) kept ++ flat_map (arrow to (codes ";\n")) removed
+firing_arrows to kept removed =
+    flat_map (arrow to (codes " [style=dashed];\n")) kept ++
+    flat_map (arrow to (codes ";\n")) removed
 
 -- the arrows to a label from the heads of its firing: dashed from a kept head
 abbrev pub arrows : ℕ → Option (Event ℕ) → List ℕ
@@ -30,4 +32,8 @@ arrows to None = []
 -- the node of a cause, with its line as label, and the arrows to it
 abbrev pub node : Recorded → Reason → List ℕ
 node r reason =
-    codes "  " ++ (decimal reason.cause.label ++ (codes " [label=" ++ (quoted (cause_line r reason) ++ (codes "];\n" ++ arrows reason.cause.label (slice_get r.log reason.cause.origin.made)))))
+    codes "  " ++
+    (decimal reason.cause.label ++
+    (codes " [label=" ++
+    (quoted (cause_line r reason) ++
+    (codes "];\n" ++ arrows reason.cause.label (slice_get r.log reason.cause.origin.made)))))

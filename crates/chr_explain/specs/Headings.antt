@@ -9,7 +9,8 @@ use Rattle.chr_limits.specs.Variables.{word_variables, seen}
 use Rattle.chr_limits.specs.Views.{names}
 use Rattle.chr_explain.specs.declared.headings.Heading.{Heading as CodeHeading}
 
--- the line of a rule's first byte, and the rule's variables in text order, each once, and each `_` apart
+-- the line of a rule's first byte, and the rule's variables in text order, each once, and each `_`
+-- apart
 pub record Heading : Type 0 where
   pub line : ℕ
   pub variables : List (List ℕ)
@@ -26,7 +27,8 @@ variables_of lexemes = seen (flat_map lexeme_variables lexemes)
 
 -- No rule may have more than 24 variables.
 abbrev pub with_variables : ℕ → List (List ℕ) → List Heading
-with_variables line variables = if nat_lt 24 (length variables) then [] else record { line = line; variables = variables } ∷ []
+with_variables line variables =
+    if nat_lt 24 (length variables) then [] else record { line = line; variables = variables } ∷ []
 
 -- the heading of a statement that is a rule
 abbrev pub statement_heading : ℕ → List Lexeme → Result parsed.Statement Kind → List Heading

@@ -44,7 +44,8 @@ pub data BodyMember : Type 0 where
   Is : List ℕ → ParsedExpression → BodyMember
   Add : ParsedAtom → BodyMember
 
--- a rule: its name, its heads, its guard and its body. A propagation rule is one that removes nothing.
+-- a rule: its name, its heads, its guard and its body. A propagation rule is one that removes
+-- nothing.
 pub record ParsedRule : Type 0 where
   pub rule_name : Option (List ℕ)
   pub kept : List ParsedAtom

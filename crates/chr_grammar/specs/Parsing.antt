@@ -1,5 +1,5 @@
--- What tokens say, read from the left: posts, declarations and rules. Each step takes what it reads from the front and
--- gives it with the tokens after it.
+-- What tokens say, read from the left: posts, declarations and rules. Each step takes what it reads
+-- from the front and gives it with the tokens after it.
 use Rattle.std.specs.Prelude.{◌≡◌, ℕ, zero, suc, ◌-◌, Bool, true, false, List, [], ◌∷◌, length, drop, ◌&&◌, if◌then◌else◌, Option, Some, None, Result, Ok, Err, codes}
 use Rattle.std.specs.Str.{bytes_eq}
 use Rattle.chr_value.specs.Spelling.{is_reserved}
@@ -64,7 +64,8 @@ NoComma (s ∷ ts) = is_mark mark.Comma s ≡ false
 -- a member, and what follows it: a comma and the others, or something else
 abbrev pub behind : {A : Type 0} → A → List Lexeme → Front (List A) → Front (List A)
 behind x [] others = Ok (x ∷ [], [])
-behind x (s ∷ ts) others = if is_mark mark.Comma s then (others >>= λ y. Ok (x ∷ y.0, y.1)) else Ok (x ∷ [], s ∷ ts)
+behind x (s ∷ ts) others =
+    if is_mark mark.Comma s then (others >>= λ y. Ok (x ∷ y.0, y.1)) else Ok (x ∷ [], s ∷ ts)
 
 -- no more members than so many
 abbrev pub members_at : {A : Type 0} → (List Lexeme → Front A) → ℕ → List Lexeme → Front (List A)
@@ -80,7 +81,8 @@ abbrev pub alone : {A : Type 0} → List A → List Lexeme → Result (List A) K
 alone xs [] = Ok xs
 alone xs (s ∷ ts) = Err Syntax
 
-abbrev pub each_by_commas : {A : Type 0} → (List Lexeme → Front A) → List Lexeme → Result (List A) Kind
+abbrev pub each_by_commas : {A : Type 0} → (List Lexeme → Front A) → List Lexeme →
+    Result (List A) Kind
 each_by_commas member ts = several_at member ts >>= λ x. alone x.0 x.1
 
 -- with a closing parenthesis behind them
@@ -96,7 +98,8 @@ abbrev pub next_at : ℕ → List Lexeme → Front ℕ
 next_at zero ts = Ok (zero, ts)
 next_at (suc d) [] = Err Syntax
 next_at (suc d) (s ∷ ts) =
-    if is_mark mark.Comma s then Ok (suc d, ts) else (if is_mark mark.Close s then next_at d ts else Err Syntax)
+    if is_mark mark.Comma s then Ok (suc d, ts)
+    else (if is_mark mark.Close s then next_at d ts else Err Syntax)
 
 -- a name before an opening parenthesis
 abbrev pub is_functor : Word → List Lexeme → Bool
@@ -133,7 +136,8 @@ terms_at ts = several_at term_at ts >>= λ x. enclosed x.0 x.1
 
 -- what follows the name of an atom
 abbrev pub args_at : List ℕ → List Lexeme → Front ParsedAtom
-args_at name [] = if is_reserved name then Err Syntax else Ok (record { name = name; args = [] }, [])
+args_at name [] =
+    if is_reserved name then Err Syntax else Ok (record { name = name; args = [] }, [])
 args_at name (s ∷ ts) =
     if is_mark mark.Open s then (terms_at ts >>= λ x. Ok (record { name = name; args = x.0 }, x.1))
     else (if is_reserved name then Err Syntax else Ok (record { name = name; args = [] }, s ∷ ts))
@@ -166,19 +170,28 @@ factor_at inner [] = Err Syntax
 factor_at inner (OfWord (Name x) ∷ ts) = Err Syntax
 factor_at inner (OfWord (Variable x) ∷ ts) = Ok (parsed.Variable x, ts)
 factor_at inner (OfWord (Number negative digits) ∷ ts) = Ok (parsed.Number negative digits, ts)
-factor_at inner (OfMark m ∷ ts) = if is_mark mark.Open (OfMark m) then (inner ts >>= λ x. enclosed (parsed.Group x.0) x.1) else Err Syntax
+factor_at inner (OfMark m ∷ ts) =
+    if is_mark mark.Open (OfMark m) then (inner ts >>= λ x. enclosed (parsed.Group x.0) x.1)
+    else Err Syntax
 
--- To the left: what was read so far is the left side of the next operator. No more operators than so many.
-abbrev pub chain_at : (Lexeme → Option Operator) → (List Lexeme → Front ParsedExpression) → ℕ → ParsedExpression → List Lexeme → Front ParsedExpression
+-- To the left: what was read so far is the left side of the next operator. No more operators than
+-- so many.
+abbrev pub chain_at : (Lexeme → Option Operator) → (List Lexeme → Front ParsedExpression) → ℕ →
+    ParsedExpression → List Lexeme → Front ParsedExpression
 chain_at operator side n left [] = Ok (left, [])
-chain_at operator side zero left (s ∷ ts) = either (operator s) (Ok (left, s ∷ ts)) (λ o. Err Syntax)
-chain_at operator side (suc n) left (s ∷ ts) = either (operator s) (Ok (left, s ∷ ts)) (λ o. side ts >>= λ x. chain_at operator side n (parsed.Operation o left x.0) x.1)
+chain_at operator side zero left (s ∷ ts) =
+    either (operator s) (Ok (left, s ∷ ts)) (λ o. Err Syntax)
+chain_at operator side (suc n) left (s ∷ ts) =
+    either (operator s) (Ok (left, s ∷ ts))
+    (λ o. side ts >>= λ x. chain_at operator side n (parsed.Operation o left x.0) x.1)
 
 -- sides with operators of a level between them
-abbrev pub level_at : (Lexeme → Option Operator) → (List Lexeme → Front ParsedExpression) → List Lexeme → Front ParsedExpression
+abbrev pub level_at : (Lexeme → Option Operator) → (List Lexeme → Front ParsedExpression) →
+    List Lexeme → Front ParsedExpression
 level_at operator side ts = side ts >>= λ x. chain_at operator side (MOST_DEPTH - 1) x.0 x.1
 
-abbrev pub product_at : (List Lexeme → Front ParsedExpression) → List Lexeme → Front ParsedExpression
+abbrev pub product_at : (List Lexeme → Front ParsedExpression) → List Lexeme →
+    Front ParsedExpression
 product_at inner = level_at product_operator (factor_at inner)
 
 -- no more parentheses in one another than so many
@@ -191,11 +204,13 @@ abbrev pub operator_of : Level → Lexeme → Option Operator
 operator_of level.Sums = sum_operator
 operator_of level.Products = product_operator
 
-abbrev pub side_at : Level → (List Lexeme → Front ParsedExpression) → List Lexeme → Front ParsedExpression
+abbrev pub side_at : Level → (List Lexeme → Front ParsedExpression) → List Lexeme →
+    Front ParsedExpression
 side_at level.Sums = product_at
 side_at level.Products = factor_at
 
--- A number or a variable has depth 1. An operation is one deeper than its deeper side, and parentheses add one.
+-- A number or a variable has depth 1. An operation is one deeper than its deeper side, and
+-- parentheses add one.
 abbrev pub fits : ℕ → ParsedExpression → Bool
 fits zero f = false
 fits (suc n) (parsed.Number negative digits) = true
@@ -233,7 +248,9 @@ equal false v w = parsed.Differ v w
 -- a relation and what is compared with this expression
 abbrev pub relation_at : ParsedExpression → List Lexeme → Front GuardMember
 relation_at f [] = Err Syntax
-relation_at f (s ∷ ts) = either (relation s) (Err Syntax) (λ r. expression_at ts >>= λ x. Ok (parsed.Compared r f x.0, x.1))
+relation_at f (s ∷ ts) =
+    either (relation s) (Err Syntax)
+    (λ r. expression_at ts >>= λ x. Ok (parsed.Compared r f x.0, x.1))
 
 abbrev pub compared_at : List Lexeme → Front GuardMember
 compared_at ts = expression_at ts >>= λ x. relation_at x.0 x.1
@@ -312,7 +329,8 @@ divides divider.Backslash = is_mark mark.Backslash
 divides divider.Bar = is_mark mark.Bar
 
 -- two lists with a sign between them, or the second one alone
-abbrev pub parts_by : {A B : Type 0} → (List Lexeme → Result (List A) Kind) → (List Lexeme → Result (List B) Kind) → List Lexeme → List Lexeme → Result (List A × List B) Kind
+abbrev pub parts_by : {A B : Type 0} → (List Lexeme → Result (List A) Kind) →
+    (List Lexeme → Result (List B) Kind) → List Lexeme → List Lexeme → Result (List A × List B) Kind
 parts_by first second front [] = second front >>= λ ys. Ok ([], ys)
 parts_by first second front (s ∷ ts) = first front >>= λ xs. second ts >>= λ ys. Ok (xs, ys)
 
@@ -330,7 +348,8 @@ abbrev pub heads_by_arrow : Lexeme → List Lexeme → Result (List ParsedAtom �
 heads_by_arrow s ts = if is_mark mark.Propagate s then all_kept ts else heads_of ts
 
 -- the guard and the body
-abbrev pub consequence_by : List Lexeme → List Lexeme → Result (List GuardMember × List BodyMember) Kind
+abbrev pub consequence_by : List Lexeme → List Lexeme →
+    Result (List GuardMember × List BodyMember) Kind
 consequence_by = parts_by tests_of body_of
 
 abbrev pub consequence_of : List Lexeme → Result (List GuardMember × List BodyMember) Kind
@@ -346,7 +365,9 @@ abbrev pub named_rule_of : Option (List ℕ) → List Lexeme → Result ParsedRu
 named_rule_of rule_name ts = rule_by rule_name (before is_arrow ts) (from_first is_arrow ts)
 
 abbrev pub rule_of : List Lexeme → Result ParsedRule Kind
-rule_of (s ∷ e ∷ ts) = if is_mark mark.At e then either (named s) (Err Syntax) (λ name. named_rule_of (Some name) ts) else named_rule_of None (s ∷ e ∷ ts)
+rule_of (s ∷ e ∷ ts) =
+    if is_mark mark.At e then either (named s) (Err Syntax) (λ name. named_rule_of (Some name) ts)
+    else named_rule_of None (s ∷ e ∷ ts)
 rule_of ts = named_rule_of None ts
 
 -- ---- declarations
@@ -368,7 +389,8 @@ is_library (s ∷ n ∷ ts) = is_opened (codes "library") s n && is_module ts
 is_library _ = false
 
 abbrev pub declared_of : Lexeme → Lexeme → Lexeme → Result Declared Kind
-declared_of (OfWord (Name name)) (OfMark mark.Slash) (OfWord (Number false digits)) = Ok (record { name = name; digits = digits })
+declared_of (OfWord (Name name)) (OfMark mark.Slash) (OfWord (Number false digits)) =
+    Ok (record { name = name; digits = digits })
 declared_of _ _ _ = Err Syntax
 
 abbrev pub declared_at : List Lexeme → Front Declared
@@ -380,12 +402,16 @@ declarations_of = each_by_commas declared_at
 
 abbrev pub directive_of : List ℕ → List Lexeme → Result Statement Kind
 directive_of name ts =
-    if bytes_eq name (codes "chr_constraint") then (declarations_of ts >>= λ ds. Ok (parsed.Declaration ds))
-    else (if bytes_eq name (codes "use_module") && is_library ts then Ok parsed.Import else Err Syntax)
+    if bytes_eq name (codes "chr_constraint")
+    then (declarations_of ts >>= λ ds. Ok (parsed.Declaration ds))
+    else (if bytes_eq name (codes "use_module") && is_library ts then Ok parsed.Import
+    else Err Syntax)
 
 abbrev pub a_rule : List Lexeme → Result Statement Kind
 a_rule ts = rule_of ts >>= λ r. Ok (parsed.Rule r)
 
 abbrev pub statement_of : List Lexeme → Result Statement Kind
-statement_of (s ∷ e ∷ ts) = if is_mark mark.Declares s then either (named e) (Err Syntax) (λ name. directive_of name ts) else a_rule (s ∷ e ∷ ts)
+statement_of (s ∷ e ∷ ts) =
+    if is_mark mark.Declares s then either (named e) (Err Syntax) (λ name. directive_of name ts)
+    else a_rule (s ∷ e ∷ ts)
 statement_of ts = a_rule ts

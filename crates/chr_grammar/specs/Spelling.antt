@@ -22,7 +22,8 @@ by_commas spelled (x ∷ []) = spelled x
 by_commas spelled (x ∷ y ∷ xs) = spelled x ++ OfMark Comma ∷ by_commas spelled (y ∷ xs)
 
 -- at least one member, each of them well formed, by commas
-pub record AreByCommas {A : Type 0} (Stands : A → Type 0) (spelled : A → List Lexeme) (ts : List Lexeme) (xs : List A) : Type 0 where
+pub record AreByCommas {A : Type 0} (Stands : A → Type 0) (spelled : A → List Lexeme)
+    (ts : List Lexeme) (xs : List A) : Type 0 where
   pub some : 0 < length xs
   pub each : AllByRecursion Stands xs
   pub written : ts ≡ by_commas spelled xs
@@ -115,20 +116,22 @@ binds operator.Add = 1
 binds operator.Sub = 1
 binds _ = 2
 
--- how tightly an expression holds together: an operation as its operator binds, all else more tightly
+-- how tightly an expression holds together: an operation as its operator binds, all else more
+-- tightly
 abbrev pub holds : ParsedExpression → ℕ
 holds (Operation o f g) = binds o
 holds _ = 3
 
--- Parentheses stand where they must: what is left of an operator holds together at least as tightly as the operator
--- binds, and what is right of it more tightly.
+-- Parentheses stand where they must: what is left of an operator holds together at least as tightly
+-- as the operator binds, and what is right of it more tightly.
 abbrev pub IsGrouped : ParsedExpression → Type 0
 IsGrouped (Number negative digits) = Unit {0}
 IsGrouped (Variable x) = Unit {0}
 IsGrouped (Group f) = IsGrouped f
 IsGrouped (Operation o f g) = (binds o ≤ holds f) × (binds o < holds g) × IsGrouped f × IsGrouped g
 
--- A number or a variable has depth 1. An operation is one deeper than its deeper side, and parentheses add one.
+-- A number or a variable has depth 1. An operation is one deeper than its deeper side, and
+-- parentheses add one.
 abbrev pub depth : ParsedExpression → ℕ
 depth (Number negative digits) = 1
 depth (Variable x) = 1
@@ -191,7 +194,8 @@ AreBodyMembers = AreByCommas IsBodyMember member_spelled
 -- ---- declarations
 
 abbrev pub declared_spelled : Declared → List Lexeme
-declared_spelled d = OfWord (word.Name d.name) ∷ OfMark mark.Slash ∷ OfWord (word.Number false d.digits) ∷ []
+declared_spelled d =
+    OfWord (word.Name d.name) ∷ OfMark mark.Slash ∷ OfWord (word.Number false d.digits) ∷ []
 
 -- ---- rules
 
@@ -203,7 +207,8 @@ rule_name_spelled (Some name) = OfWord (word.Name name) ∷ OfMark mark.At ∷ [
 abbrev pub heads_spelled : List ParsedAtom → List ParsedAtom → List Lexeme
 heads_spelled [] removed = by_commas phrase_spelled removed
 heads_spelled kept [] = by_commas phrase_spelled kept
-heads_spelled kept removed = by_commas phrase_spelled kept ++ OfMark mark.Backslash ∷ by_commas phrase_spelled removed
+heads_spelled kept removed =
+    by_commas phrase_spelled kept ++ OfMark mark.Backslash ∷ by_commas phrase_spelled removed
 
 -- `==>` where nothing is removed
 abbrev pub arrow_sign : List ParsedAtom → Lexeme
@@ -212,10 +217,13 @@ arrow_sign removed = OfMark mark.Simplify
 
 abbrev pub consequence_spelled : List GuardMember → List BodyMember → List Lexeme
 consequence_spelled [] body = by_commas member_spelled body
-consequence_spelled guard body = by_commas test_spelled guard ++ OfMark mark.Bar ∷ by_commas member_spelled body
+consequence_spelled guard body =
+    by_commas test_spelled guard ++ OfMark mark.Bar ∷ by_commas member_spelled body
 
 abbrev pub rule_spelled : ParsedRule → List Lexeme
-rule_spelled r = rule_name_spelled r.rule_name ++ (heads_spelled r.kept r.removed ++ arrow_sign r.removed ∷ consequence_spelled r.guard r.body)
+rule_spelled r =
+    rule_name_spelled r.rule_name ++
+    (heads_spelled r.kept r.removed ++ arrow_sign r.removed ∷ consequence_spelled r.guard r.body)
 
 pub record IsParsedRule (r : ParsedRule) : Type 0 where
   pub has_heads : 0 < length r.kept + length r.removed
@@ -232,8 +240,10 @@ a_name name = OfWord (word.Name name)
 
 abbrev pub statement_spelled : Statement → List Lexeme
 statement_spelled Import =
-    OfMark mark.Declares ∷ a_name (codes "use_module") ∷ OfMark Open ∷ a_name (codes "library") ∷ OfMark Open ∷ a_name (codes "chr") ∷ OfMark Close ∷ OfMark Close ∷ []
-statement_spelled (Declaration ds) = OfMark mark.Declares ∷ a_name (codes "chr_constraint") ∷ by_commas declared_spelled ds
+    OfMark mark.Declares ∷ a_name (codes "use_module") ∷ OfMark Open ∷ a_name (codes "library") ∷
+    OfMark Open ∷ a_name (codes "chr") ∷ OfMark Close ∷ OfMark Close ∷ []
+statement_spelled (Declaration ds) =
+    OfMark mark.Declares ∷ a_name (codes "chr_constraint") ∷ by_commas declared_spelled ds
 statement_spelled (Rule r) = rule_spelled r
 
 abbrev pub IsStatement : Statement → Type 0

@@ -44,7 +44,14 @@ member (members.Is x e) = parsed.Is x.now (formula e)
 member (members.Add p) = parsed.Add (phrase p)
 
 abbrev pub raw_rule : {Z : Type 0} → ParsedRule Z → parsed.ParsedRule
-raw_rule r = record { rule_name = option_map (λ l. l.now) r.rule_name; kept = map phrase r.heads.kept.items; removed = map phrase r.heads.removed.items; guard = map test r.consequence.guard.items; body = map member r.consequence.body.items }
+raw_rule r =
+    record {
+      rule_name = option_map (λ l. l.now) r.rule_name;
+      kept = map phrase r.heads.kept.items;
+      removed = map phrase r.heads.removed.items;
+      guard = map test r.consequence.guard.items;
+      body = map member r.consequence.body.items;
+    }
 
 abbrev pub declared : Declared → parsed.Declared
 declared d = record { name = d.name.now; digits = d.digits.now }

@@ -33,7 +33,8 @@ pub record AreBoundBy {A : Type 0} (bits variables : ℕ) (places : List (Bound 
   pub full : length places ≡ 24
   pub within : variables ≤ 24
   pub behind : (x : ℕ) → variables ≤ x → bit_at bits x ≡ 0
-  pub bound : (x : ℕ) → bit_at bits x ≡ 1 → IsSome (bound_term (slice_index_or places x bounds.Free))
+  pub bound : (x : ℕ) → bit_at bits x ≡ 1 →
+      IsSome (bound_term (slice_index_or places x bounds.Free))
 
 -- the valuation gives each bound variable its value
 abbrev pub Extends : Valuation → List (Option (Value ℕ)) → Type 0
@@ -49,7 +50,8 @@ abbrev pub NoneUnder : (Valuation → Type 0) → List (Option (Value ℕ)) → 
 NoneUnder P old = (v : Valuation) → Extends v old → P v → ⊥
 
 -- where the answer is yes the binding is narrowed, and where it is no there is none
-abbrev pub NarrowsIf : (Valuation → Type 0) → Bool → List (Option (Value ℕ)) → List (Option (Value ℕ)) → Type 0
+abbrev pub NarrowsIf : (Valuation → Type 0) → Bool → List (Option (Value ℕ)) →
+    List (Option (Value ℕ)) → Type 0
 NarrowsIf P true old new = Narrows P old new
 NarrowsIf P false old new = NoneUnder P old
 

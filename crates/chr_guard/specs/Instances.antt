@@ -43,8 +43,9 @@ added [] = []
 added (Is x e ∷ items) = added items
 added (Add s ∷ items) = s ∷ added items
 
--- An instance of a rule (Frühwirth): a valuation under which the guard holds, each `is` is right and all arguments have
--- values, those of the body within the limits. It keeps, removes and adds these atoms, and it removes something.
+-- An instance of a rule (Frühwirth): a valuation under which the guard holds, each `is` is right
+-- and all arguments have values, those of the body within the limits. It keeps, removes and adds
+-- these atoms, and it removes something.
 pub record Instance (rule : Simpagation ℕ) (kept removed body : List (Atom ℕ)) : Type 0 where
   pub valuation : Valuation
   pub guard : AllByRecursion (Holds valuation) rule.guard
@@ -56,7 +57,8 @@ pub record Instance (rule : Simpagation ℕ) (kept removed body : List (Atom ℕ
 
 -- atoms in head order, the kept heads' first, are an instance that adds this body
 abbrev pub IsInstance : Simpagation ℕ → List (Atom ℕ) → List (Atom ℕ) → Type 0
-IsInstance rule atoms body = Instance rule (take (length rule.kept) atoms) (drop (length rule.kept) atoms) body
+IsInstance rule atoms body =
+    Instance rule (take (length rule.kept) atoms) (drop (length rule.kept) atoms) body
 
 -- they are none, whatever the body
 abbrev pub NoInstance : Simpagation ℕ → List (Atom ℕ) → Type 0

@@ -21,8 +21,10 @@ AreAtHeads rule placed v = AllByRecursion (IsAtHead rule v) placed
 abbrev pub HeadsAre : Simpagation ℕ → List (Atom ℕ) → Valuation → Type 0
 HeadsAre rule atoms v = AreUnder v (rule.kept ++ rule.removed) atoms
 
--- the one binding for what is asked of the valuations: those that extend it are those for which that holds
-pub record IsFit (rule : Simpagation ℕ) (P : Valuation → Type 0) (binding : List (Option (Value ℕ))) : Type 0 where
+-- the one binding for what is asked of the valuations: those that extend it are those for which
+-- that holds
+pub record IsFit (rule : Simpagation ℕ) (P : Valuation → Type 0) (binding : List (Option (Value ℕ)))
+    : Type 0 where
   pub places : length binding ≡ rule.variables
   pub exactly : (v : Valuation) → Extends v binding ↔ P v
 
@@ -30,15 +32,17 @@ pub record IsFit (rule : Simpagation ℕ) (P : Valuation → Type 0) (binding : 
 abbrev pub IsOfHeads : Simpagation ℕ → ℕ → Type 0
 IsOfHeads rule x = (n : ℕ) × (known_after_heads 0 (rule.kept ++ rule.removed) ≡ Some n) × (x < n)
 
--- The valuation completes a binding of the heads' variables: each `is` is right, and a variable of the heads has the value
--- that it is bound to, or none.
-pub record Completes (rule : Simpagation ℕ) (binding : List (Option (Value ℕ))) (v : Valuation) : Type 0 where
+-- The valuation completes a binding of the heads' variables: each `is` is right, and a variable of
+-- the heads has the value that it is bound to, or none.
+pub record Completes (rule : Simpagation ℕ) (binding : List (Option (Value ℕ))) (v : Valuation)
+    : Type 0 where
   pub extends : Extends v binding
   pub heads : (x : ℕ) → IsOfHeads rule x → v x ≡ bound_at binding x
   pub right : AllByRecursion (IsRight v) rule.body
 
 -- the body under a binding of the heads' variables, where each `is` and each argument has a value
-pub record IsBody (rule : Simpagation ℕ) (binding : List (Option (Value ℕ))) (body : List (Atom ℕ)) : Type 0 where
+pub record IsBody (rule : Simpagation ℕ) (binding : List (Option (Value ℕ))) (body : List (Atom ℕ))
+    : Type 0 where
   pub valuation : Valuation
   pub completes : Completes rule binding valuation
   pub body_is : AreMadeUnder valuation (added rule.body) body
@@ -52,18 +56,21 @@ pub record IsCompleted (rule : Simpagation ℕ) (old new : List (Option (Value �
   pub body_is : AreMadeUnder (bound_at new) (added rule.body) body
 
 -- where the answer is yes the binding is completed, and where it is no there is no body under it
-abbrev pub CompletedIf : Simpagation ℕ → Bool → List (Option (Value ℕ)) → List (Option (Value ℕ)) → Type 0
+abbrev pub CompletedIf : Simpagation ℕ → Bool → List (Option (Value ℕ)) → List (Option (Value ℕ)) →
+    Type 0
 CompletedIf rule true old new = IsCompleted rule old new
 CompletedIf rule false old new = (body : List (Atom ℕ)) → IsBody rule old body → ⊥
 
 -- the atoms are an instance that adds the body, and this is the one binding of the rule's variables
-pub record IsInstanceUnder (rule : Simpagation ℕ) (atoms : List (Atom ℕ)) (binding : List (Option (Value ℕ))) : Type 0 where
+pub record IsInstanceUnder (rule : Simpagation ℕ) (atoms : List (Atom ℕ))
+    (binding : List (Option (Value ℕ))) : Type 0 where
   pub fit : IsFit rule (λ v. HeadsAre rule atoms v × AllByRecursion (IsRight v) rule.body) binding
   pub body : List (Atom ℕ)
   pub instance : IsInstance rule atoms body
   pub body_is : AreMadeUnder (bound_at binding) (added rule.body) body
 
--- where the answer is yes this is the binding of the instance, and where it is no the atoms are none
+-- where the answer is yes this is the binding of the instance, and where it is no the atoms are
+-- none
 abbrev pub IsInstanceIf : Simpagation ℕ → List (Atom ℕ) → Bool → List (Option (Value ℕ)) → Type 0
 IsInstanceIf rule atoms true binding = IsInstanceUnder rule atoms binding
 IsInstanceIf rule atoms false binding = NoInstance rule atoms

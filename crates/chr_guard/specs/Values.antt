@@ -16,7 +16,9 @@ Valuation = ℕ → Option (Value ℕ)
 
 -- a number, where it has 64 bits with sign
 abbrev pub in_range : ℤ → Option ℤ
-in_range n = if int_le (negsuc 9223372036854775807) n && int_le n (pos 9223372036854775807) then Some n else None
+in_range n =
+    if int_le (negsuc 9223372036854775807) n && int_le n (pos 9223372036854775807) then Some n
+    else None
 
 abbrev pub is_zero : ℤ → Bool
 is_zero n = int_le n (pos 0) && int_le (pos 0) n
@@ -38,7 +40,8 @@ computed Quot a b = if is_zero b then None else in_range (int_div a b)
 computed Rem a b = if is_zero b then None else in_range (int_rem a b)
 computed Mod a b = if is_zero b then None else in_range (int_mod a b)
 
--- the number that a variable stands for, which has none if it stands for another value or for nothing
+-- the number that a variable stands for, which has none if it stands for another value or for
+-- nothing
 abbrev pub number_in : Option (Value ℕ) → Option ℤ
 number_in (Some (terms.Int n)) = Some n
 number_in (Some (terms.Sym s)) = None
@@ -77,7 +80,8 @@ abbrev mutual
 
 -- a value that is neither too deep nor too large; there is none past these limits
 abbrev pub within_limits : Option (Value ℕ) → Option (Value ℕ)
-within_limits (Some a) = if nat_le (depth a) most_depth && nat_le (size a) most_size then Some a else None
+within_limits (Some a) =
+    if nat_le (depth a) most_depth && nat_le (size a) most_size then Some a else None
 within_limits None = None
 
 -- what an argument of a body stands for, and a side of `==` or `\==`, if it is within the limits
@@ -96,8 +100,10 @@ WhereBoth P (Some a) (Some b) = P a b
 WhereBoth P (Some a) None = ⊥
 WhereBoth P None b = ⊥
 
--- numbers are compared by their relation, values by whether they are equal; no comparison holds where a side has no value
+-- numbers are compared by their relation, values by whether they are equal; no comparison holds
+-- where a side has no value
 abbrev pub Holds : Valuation → Comparison ℕ → Type 0
-Holds v (Compared r a b) = both (λ m n. Some (compares r m n)) (value_of v a) (value_of v b) ≡ Some true
+Holds v (Compared r a b) =
+    both (λ m n. Some (compares r m n)) (value_of v a) (value_of v b) ≡ Some true
 Holds v (Same s t) = WhereBoth (λ a b. a ≡ b) (value_under v s) (value_under v t)
 Holds v (Differ s t) = WhereBoth (λ a b. a ≢ b) (value_under v s) (value_under v t)

@@ -16,11 +16,15 @@ ends_line (b ∷ bs) = is_line_end b
 abbrev pub NoClose : List ℕ → Type 0
 NoClose bs = (front back : List ℕ) → bs ≡ front ++ 42 ∷ 47 ∷ back → ⊥
 
--- The text is the other one once its comments are replaced. A comment by `%` goes to the end of its line, one by `/*` to the next `*/`, whose star
--- is not that of the `/*`, or, where none comes, to the end of the text.
+-- The text is the other one once its comments are replaced. A comment by `%` goes to the end of its
+-- line, one by `/*` to the next `*/`, whose star is not that of the `/*`, or, where none comes, to
+-- the end of the text.
 pub data Plain : List ℕ → List ℕ → Type 0 where
   nothing : Plain [] []
-  code : (b : ℕ) (bs out : List ℕ) → begins_comment b bs ≡ false → Plain bs out → Plain (b ∷ bs) (as_text b ∷ out)
-  to_line_end : (comment bs out : List ℕ) → list_all is_within_line comment ≡ true → ends_line bs ≡ true → Plain bs out → Plain (37 ∷ (comment ++ bs)) (32 ∷ out)
-  closed : (comment bs out : List ℕ) → NoClose (comment ++ 42 ∷ []) → Plain bs out → Plain (47 ∷ 42 ∷ (comment ++ 42 ∷ 47 ∷ bs)) (COMMENT ∷ (line_ends comment ++ out))
+  code : (b : ℕ) (bs out : List ℕ) → begins_comment b bs ≡ false → Plain bs out →
+      Plain (b ∷ bs) (as_text b ∷ out)
+  to_line_end : (comment bs out : List ℕ) → list_all is_within_line comment ≡ true →
+      ends_line bs ≡ true → Plain bs out → Plain (37 ∷ (comment ++ bs)) (32 ∷ out)
+  closed : (comment bs out : List ℕ) → NoClose (comment ++ 42 ∷ []) → Plain bs out →
+      Plain (47 ∷ 42 ∷ (comment ++ 42 ∷ 47 ∷ bs)) (COMMENT ∷ (line_ends comment ++ out))
   unclosed : (bs : List ℕ) → NoClose bs → Plain (47 ∷ 42 ∷ bs) (UNCLOSED ∷ [])

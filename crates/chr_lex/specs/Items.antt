@@ -38,7 +38,8 @@ items skip line [] = []
 items (suc skip) line (b ∷ bs) = items skip (line_after b line) bs
 items zero line (b ∷ bs) =
     if is_gap b then items zero (line_after b line) bs
-    else record { line = line; bytes = before_end (b ∷ bs); ended = has_end (b ∷ bs) } ∷ items (length (before_end (b ∷ bs))) line bs
+    else record { line = line; bytes = before_end (b ∷ bs); ended = has_end (b ∷ bs) } ∷
+    items (length (before_end (b ∷ bs))) line bs
 
 -- nothing, or the first byte of an item
 abbrev pub BeginsItem : List ℕ → Type 0

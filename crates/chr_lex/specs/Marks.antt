@@ -32,7 +32,9 @@ spelling Rem = 114 ∷ 101 ∷ 109 ∷ []  -- rem
 
 -- a longer one before a shorter one
 abbrev pub marks : List Mark
-marks = Simplify ∷ Propagate ∷ SameValue ∷ OtherValue ∷ Differs ∷ Declares ∷ Equals ∷ AtMost ∷ AtLeast ∷ Quotient ∷ Less ∷ Greater ∷ Open ∷ Close ∷ Comma ∷ Bar ∷ At ∷ Backslash ∷ Slash ∷ Plus ∷ Minus ∷ Star ∷ []
+marks = Simplify ∷ Propagate ∷ SameValue ∷ OtherValue ∷ Differs ∷ Declares ∷ Equals ∷ AtMost ∷
+    AtLeast ∷ Quotient ∷ Less ∷ Greater ∷ Open ∷ Close ∷ Comma ∷ Bar ∷ At ∷ Backslash ∷ Slash ∷
+    Plus ∷ Minus ∷ Star ∷ []
 
 abbrev pub word_marks : List Mark
 word_marks = Is ∷ Mod ∷ Rem ∷ []

@@ -41,20 +41,28 @@ is_within_line b = not (is_line_end b)
 abbrev pub line_ends : List ℕ → List ℕ
 line_ends = filter is_line_end
 
--- The text, where the first `skip` bytes belong to the comment before. A `%` and the rest of its line are one blank.
--- From `/*` to the next `*/` it is one COMMENT, and the line ends in between. A `/*` that nothing closes is UNCLOSED, and nothing follows it.
+-- The text, where the first `skip` bytes belong to the comment before. A `%` and the rest of its
+-- line are one blank. From `/*` to the next `*/` it is one COMMENT, and the line ends in between. A
+-- `/*` that nothing closes is UNCLOSED, and nothing follows it.
 abbrev pub plain : ℕ → List ℕ → List ℕ
 plain skip [] = []
 plain (suc skip) (b ∷ bs) = plain skip bs
 plain zero (b ∷ bs) =
     if b == 37 then 32 ∷ plain (length (take_while is_within_line bs)) bs
     else (if (b == 47) && first_is 42 bs then
-    (if closes (drop 1 bs) then COMMENT ∷ (line_ends (before_close (drop 1 bs)) ++ plain (3 + length (before_close (drop 1 bs))) bs) else UNCLOSED ∷ [])
+    (if closes (drop 1 bs)
+    then COMMENT ∷
+    (line_ends (before_close (drop 1 bs)) ++ plain (3 + length (before_close (drop 1 bs))) bs)
+    else UNCLOSED ∷ [])
     else as_text b ∷ plain zero bs)
 
 -- what a comment by `/*`, from its star on, stands for, and the text after it
 abbrev pub block : List ℕ → List ℕ
-block bs = if closes (drop 1 bs) then COMMENT ∷ (line_ends (before_close (drop 1 bs)) ++ plain (3 + length (before_close (drop 1 bs))) bs) else UNCLOSED ∷ []
+block bs =
+    if closes (drop 1 bs)
+    then COMMENT ∷
+    (line_ends (before_close (drop 1 bs)) ++ plain (3 + length (before_close (drop 1 bs))) bs)
+    else UNCLOSED ∷ []
 
 abbrev pub plain_of : List ℕ → List ℕ
 plain_of = plain zero

@@ -64,16 +64,30 @@ signed (Some m) = Some (OfMark m, length (spelling m))
 abbrev pub signed_at : Bool → List ℕ → Option (Lexeme × ℕ)
 signed_at after_operand [] = None
 signed_at after_operand (b ∷ bs) =
-    if (b == 45) && not after_operand && begins_with_digit bs then Some (OfWord (Number true (take_while is_ascii_digit bs)), 1 + length (take_while is_ascii_digit bs))
+    if (b == 45) && not after_operand && begins_with_digit bs
+    then Some (
+      OfWord (Number true (take_while is_ascii_digit bs)),
+      1 + length (take_while is_ascii_digit bs),
+    )
     else signed (find (λ m. starts_with nat_eq (b ∷ bs) (spelling m)) marks)
 
 -- The longest token at the front, and how many bytes it takes.
 abbrev pub token_at : Bool → List ℕ → Option (Lexeme × ℕ)
 token_at after_operand [] = None
 token_at after_operand (b ∷ bs) =
-    if is_ascii_lowercase b then Some (lower_word (take_while is_name_byte (b ∷ bs)), length (take_while is_name_byte (b ∷ bs)))
-    else (if is_ascii_uppercase b || (b == 95) then Some (OfWord (Variable (take_while is_name_byte (b ∷ bs))), length (take_while is_name_byte (b ∷ bs)))
-    else (if is_ascii_digit b then Some (OfWord (Number false (take_while is_ascii_digit (b ∷ bs))), length (take_while is_ascii_digit (b ∷ bs)))
+    if is_ascii_lowercase b
+    then Some
+    (lower_word (take_while is_name_byte (b ∷ bs)), length (take_while is_name_byte (b ∷ bs)))
+    else (if is_ascii_uppercase b || (b == 95)
+    then Some (
+      OfWord (Variable (take_while is_name_byte (b ∷ bs))),
+      length (take_while is_name_byte (b ∷ bs)),
+    )
+    else (if is_ascii_digit b
+    then Some (
+      OfWord (Number false (take_while is_ascii_digit (b ∷ bs))),
+      length (take_while is_ascii_digit (b ∷ bs)),
+    )
     else signed_at after_operand (b ∷ bs)))
 
 abbrev pub token_or_fault : Option (Lexeme × ℕ) → Result (Lexeme × ℕ) Kind
@@ -86,7 +100,8 @@ tokens_from skip after_operand [] = Ok []
 tokens_from (suc skip) after_operand (b ∷ bs) = tokens_from skip after_operand bs
 tokens_from zero after_operand (b ∷ bs) =
     if is_gap b then tokens_from zero after_operand bs
-    else (token_or_fault (token_at after_operand (b ∷ bs)) >>= λ t. tokens_from (t.1 - 1) (is_operand t.0) bs >>= λ ts. Ok (t.0 ∷ ts))
+    else (token_or_fault (token_at after_operand (b ∷ bs))
+    >>= λ t. tokens_from (t.1 - 1) (is_operand t.0) bs >>= λ ts. Ok (t.0 ∷ ts))
 
 abbrev pub tokens_of : List ℕ → Result (List Lexeme) Kind
 tokens_of = tokens_from zero false

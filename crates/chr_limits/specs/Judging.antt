@@ -38,6 +38,7 @@ declaration_judged all =
 abbrev pub post_judged : List ParsedAtom → Result (Unit {0}) Kind
 post_judged atoms =
     if list_any (phrase_has is_out_of_range) atoms then Err NumberRange
-    else (if list_any (phrase_has is_long) atoms || list_any has_many_args atoms || list_any has_large_args atoms
+    else (if list_any (phrase_has is_long) atoms || list_any has_many_args atoms ||
+    list_any has_large_args atoms
     then Err TooMany
     else (if list_any (phrase_has is_variable) atoms then Err Binding else Ok tt))

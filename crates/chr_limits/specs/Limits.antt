@@ -13,8 +13,8 @@ use Rattle.chr_limits.specs.Variables.{variables_of, seen}
 abbrev pub is_deep : ParsedTerm → Bool
 is_deep t = list_any (λ n. nat_le MOST_TERM_DEPTH n.depth) t
 
--- how many arguments a word in so many parentheses has, by the nodes behind it: those one deeper, up
--- to the first that isn't deeper
+-- how many arguments a word in so many parentheses has, by the nodes behind it: those one deeper,
+-- up to the first that isn't deeper
 abbrev pub arguments_behind : ℕ → List TermNode → ℕ
 arguments_behind d ns =
     length (filter (λ n. nat_eq n.depth (suc d)) (take_while (λ n. nat_lt d n.depth) ns))
@@ -69,12 +69,16 @@ is_item (parsed.Is x e) = true
 is_item (parsed.Add p) = true
 
 abbrev pub has_wide_atom : ParsedRule → Bool
-has_wide_atom r = list_any has_many_args r.kept || list_any has_many_args r.removed || list_any adds_many_args r.body
+has_wide_atom r =
+    list_any has_many_args r.kept || list_any has_many_args r.removed ||
+    list_any adds_many_args r.body
 
 -- more than 6 heads, 16 comparisons, 16 body items or 24 variables
 abbrev pub has_many_parts : ParsedRule → Bool
 has_many_parts r =
-    nat_lt 6 (length r.kept + length r.removed) || nat_lt 16 (length (filter is_comparison r.guard)) || nat_lt 16 (length (filter is_item r.body)) || nat_lt 24 (length (seen (variables_of r)))
+    nat_lt 6 (length r.kept + length r.removed) ||
+    nat_lt 16 (length (filter is_comparison r.guard)) ||
+    nat_lt 16 (length (filter is_item r.body)) || nat_lt 24 (length (seen (variables_of r)))
 
 abbrev pub is_too_large : ParsedRule → Bool
 is_too_large r = rule_has is_long r || has_wide_atom r || has_large_term r || has_many_parts r

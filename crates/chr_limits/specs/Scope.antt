@@ -12,8 +12,13 @@ are_seen known names = list_all (is_seen known) names
 abbrev pub body_in_scope : List (List ℕ) → List BodyMember → Bool
 body_in_scope known [] = true
 body_in_scope known (parsed.Nothing ∷ ms) = body_in_scope known ms
-body_in_scope known (parsed.Is x e ∷ ms) = not (is_seen known x) && are_seen known (formula_variables e) && body_in_scope (known ++ x ∷ []) ms
-body_in_scope known (parsed.Add p ∷ ms) = are_seen known (phrase_variables p) && body_in_scope known ms
+body_in_scope known (parsed.Is x e ∷ ms) =
+    not (is_seen known x) && are_seen known (formula_variables e) &&
+    body_in_scope (known ++ x ∷ []) ms
+body_in_scope known (parsed.Add p ∷ ms) =
+    are_seen known (phrase_variables p) && body_in_scope known ms
 
 abbrev pub is_in_scope : ParsedRule → Bool
-is_in_scope r = are_seen (seen (head_variables r)) (flat_map test_variables r.guard) && body_in_scope (seen (head_variables r)) r.body
+is_in_scope r =
+    are_seen (seen (head_variables r)) (flat_map test_variables r.guard) &&
+    body_in_scope (seen (head_variables r)) r.body

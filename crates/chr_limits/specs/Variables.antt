@@ -39,7 +39,8 @@ abbrev pub head_variables : ParsedRule → List (List ℕ)
 head_variables r = flat_map phrase_variables r.kept ++ flat_map phrase_variables r.removed
 
 abbrev pub variables_of : ParsedRule → List (List ℕ)
-variables_of r = head_variables r ++ flat_map test_variables r.guard ++ flat_map member_variables r.body
+variables_of r =
+    head_variables r ++ flat_map test_variables r.guard ++ flat_map member_variables r.body
 
 -- `_`, which is a new variable at each place
 abbrev pub is_blank : List ℕ → Bool
@@ -49,10 +50,12 @@ is_blank name = bytes_eq name (95 ∷ [])
 abbrev pub is_seen : List (List ℕ) → List ℕ → Bool
 is_seen seen name = not (is_blank name) && list_any (bytes_eq name) seen
 
--- the variables seen with those at some places, after those seen before: each once, and each `_` apart
+-- the variables seen with those at some places, after those seen before: each once, and each `_`
+-- apart
 abbrev pub seen_from : List (List ℕ) → List (List ℕ) → List (List ℕ)
 seen_from seen [] = seen
-seen_from seen (name ∷ names) = if is_seen seen name then seen_from seen names else seen_from (seen ++ name ∷ []) names
+seen_from seen (name ∷ names) =
+    if is_seen seen name then seen_from seen names else seen_from (seen ++ name ∷ []) names
 
 -- The number of a variable is its place in this list, from 0.
 abbrev pub seen : List (List ℕ) → List (List ℕ)

@@ -7,5 +7,8 @@ abbrev pub names : List (Bor (List ℕ)) → List (List ℕ)
 names = map (λ name. name.now)
 
 -- the variables at some places were seen after those of `before`, or there are more than 24 then
-abbrev pub Sees : Option (Unit {0}) → List (Bor (List ℕ)) → List (Bor (List ℕ)) → List (List ℕ) → Type 0
-Sees answer before after places = MatchOption answer (24 < length (seen_from (names before) places)) (λ _. names after ≡ seen_from (names before) places)
+abbrev pub Sees : Option (Unit {0}) → List (Bor (List ℕ)) → List (Bor (List ℕ)) → List (List ℕ) →
+    Type 0
+Sees answer before after places =
+    MatchOption answer (24 < length (seen_from (names before) places))
+    (λ _. names after ≡ seen_from (names before) places)

@@ -1,4 +1,5 @@
--- What a name, a variable or a number may not be, and the parts of a rule in which such a word stands.
+-- What a name, a variable or a number may not be, and the parts of a rule in which such a word
+-- stands.
 use Rattle.std.specs.Prelude.{ℕ, Bool, true, false, List, length, nat_lt, is_none, ◌||◌, Option, Some, None}
 use Rattle.std.specs.List.{list_any}
 use Rattle.chr_lex.specs.Tokens.{Word, Name, Variable, Number}
@@ -60,4 +61,6 @@ rule_name_has test (Some name) = test (Name name)
 
 abbrev pub rule_has : (Word → Bool) → ParsedRule → Bool
 rule_has test r =
-    rule_name_has test r.rule_name || list_any (phrase_has test) r.kept || list_any (phrase_has test) r.removed || list_any (test_has test) r.guard || list_any (member_has test) r.body
+    rule_name_has test r.rule_name || list_any (phrase_has test) r.kept ||
+    list_any (phrase_has test) r.removed || list_any (test_has test) r.guard ||
+    list_any (member_has test) r.body

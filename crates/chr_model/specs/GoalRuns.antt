@@ -1,4 +1,5 @@
--- Goal-based runs with tickets forgotten: goals are a multiset, and all posted atoms are plain goals at the start.
+-- Goal-based runs with tickets forgotten: goals are a multiset, and all posted atoms are plain
+-- goals at the start.
 use Rattle.std.specs.Prelude.{◌≡◌, ℕ, List, [], ◌∷◌, map, IsPermutation}
 use Rattle.chr_value.specs.Atoms.{Atom}
 use Rattle.chr_log.specs.Events.{Event, Post, Activate, Fire, Drop}
@@ -18,11 +19,13 @@ pub record SameGoals (a b : State) : Type 0 where
   pub store : a.store ≡ b.store
   pub next : a.next ≡ b.next
 
--- A goal-based run (in the manner of Lam and Sulzmann): steps, one after another. After each the goals may take other
--- tickets.
+-- A goal-based run (in the manner of Lam and Sulzmann): steps, one after another. After each the
+-- goals may take other tickets.
 abbrev pub GoalRun : Version → Rules → State → List (Event ℕ) → State → Type 0
 GoalRun v I s [] n = SameGoals s n
-GoalRun v I s (e ∷ es) n = (middle : State) × (same : State) × Step v I s e middle × SameGoals middle same × GoalRun v I same es n
+GoalRun v I s (e ∷ es) n =
+    (middle : State) × (same : State) × Step v I s e middle × SameGoals middle same ×
+    GoalRun v I same es n
 
 -- the activations, firings and drops of a log, in order
 abbrev pub unposted : List (Event ℕ) → List (Event ℕ)

@@ -1,11 +1,11 @@
--- Goals over a store (in the manner of Lam and Sulzmann). Tickets, numbered from 1, tell goals apart: that is this
--- project's.
+-- Goals over a store (in the manner of Lam and Sulzmann). Tickets, numbered from 1, tell goals
+-- apart: that is this project's.
 use Rattle.std.specs.Prelude.{◌≡◌, ℕ, List, [], ◌∷◌, ◌++◌, slice_index_or}
 use Rattle.chr_value.specs.Atoms.{Atom}
 use Rattle.chr_model.specs.Stores.{Store, atoms}
 
--- A goal: a plain goal, which is an atom that waits outside the store; a numbered goal, which is the label of its atom
--- in the store; or a goal that has ended.
+-- A goal: a plain goal, which is an atom that waits outside the store; a numbered goal, which is
+-- the label of its atom in the store; or a goal that has ended.
 pub data Goal : Type 0 where
   Plain : Atom ℕ → Goal
   Numbered : ℕ → Goal
@@ -46,6 +46,7 @@ numbered_goals (Plain a ∷ gs) = numbered_goals gs
 numbered_goals (Numbered l ∷ gs) = l ∷ numbered_goals gs
 numbered_goals (Ended ∷ gs) = numbered_goals gs
 
--- Erasure: a state with labels forgotten is the multiset of its plain goals and of its store's atoms.
+-- Erasure: a state with labels forgotten is the multiset of its plain goals and of its store's
+-- atoms.
 abbrev pub erase : State → List (Atom ℕ)
 erase s = plain_goals s.goals ++ atoms s.store

@@ -11,7 +11,9 @@ AllBelow bound ls = (l : ℕ) → among ls l ≡ true → l < bound
 
 -- no labelled instance over the store has the label, and only labels below the bound
 abbrev pub NoneBelow : Rules → Store → ℕ → ℕ → Type 0
-NoneBelow I store bound l = (r : ℕ) (kept removed : List ℕ) (body : List (Atom ℕ)) → AllBelow bound (kept ++ removed) → among (kept ++ removed) l ≡ true → Labelled I store r kept removed body → ⊥
+NoneBelow I store bound l =
+    (r : ℕ) (kept removed : List ℕ) (body : List (Atom ℕ)) → AllBelow bound (kept ++ removed) →
+    among (kept ++ removed) l ≡ true → Labelled I store r kept removed body → ⊥
 
 -- the label that was given last
 pub record IsYoungest (ls : List ℕ) (y : ℕ) : Type 0 where
@@ -20,8 +22,13 @@ pub record IsYoungest (ls : List ℕ) (y : ℕ) : Type 0 where
 
 -- the youngest label of each labelled instance over the store is a numbered goal
 abbrev pub YoungestAreGoals : Rules → State → Type 0
-YoungestAreGoals I s = (r : ℕ) (kept removed : List ℕ) (body : List (Atom ℕ)) → Labelled I s.store r kept removed body → (y : ℕ) → IsYoungest (kept ++ removed) y → IsNumbered s y
+YoungestAreGoals I s =
+    (r : ℕ) (kept removed : List ℕ) (body : List (Atom ℕ)) →
+    Labelled I s.store r kept removed body → (y : ℕ) → IsYoungest (kept ++ removed) y →
+    IsNumbered s y
 
 -- no labelled instance over the store has the label as its youngest
 abbrev pub NoneYoungest : Rules → Store → ℕ → Type 0
-NoneYoungest I store l = (r : ℕ) (kept removed : List ℕ) (body : List (Atom ℕ)) → IsYoungest (kept ++ removed) l → Labelled I store r kept removed body → ⊥
+NoneYoungest I store l =
+    (r : ℕ) (kept removed : List ℕ) (body : List (Atom ℕ)) → IsYoungest (kept ++ removed) l →
+    Labelled I store r kept removed body → ⊥

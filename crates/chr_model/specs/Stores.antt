@@ -27,9 +27,10 @@ Carry store (l ∷ ls) (a ∷ as') = (atom_at store l ≡ Some a) × Carry store
 Carry store [] (a ∷ as') = ⊥
 Carry store (l ∷ ls) [] = ⊥
 
--- A labelled instance (Lam and Sulzmann): an instance with a label for each head, all distinct, all in the store,
--- carrying the heads' atoms.
-pub record Labelled (I : Rules) (store : Store) (r : ℕ) (kept removed : List ℕ) (body : List (Atom ℕ)) : Type 0 where
+-- A labelled instance (Lam and Sulzmann): an instance with a label for each head, all distinct, all
+-- in the store, carrying the heads' atoms.
+pub record Labelled (I : Rules) (store : Store) (r : ℕ) (kept removed : List ℕ)
+    (body : List (Atom ℕ)) : Type 0 where
   pub kept_atoms : List (Atom ℕ)
   pub removed_atoms : List (Atom ℕ)
   pub instance : I r kept_atoms removed_atoms body
@@ -39,8 +40,12 @@ pub record Labelled (I : Rules) (store : Store) (r : ℕ) (kept removed : List �
 
 -- the label is in no labelled instance over the store
 abbrev pub NoneWith : Rules → Store → ℕ → Type 0
-NoneWith I store l = (r : ℕ) (kept removed : List ℕ) (body : List (Atom ℕ)) → Labelled I store r kept removed body → among (kept ++ removed) l ≡ false
+NoneWith I store l =
+    (r : ℕ) (kept removed : List ℕ) (body : List (Atom ℕ)) → Labelled I store r kept removed body →
+    among (kept ++ removed) l ≡ false
 
 -- Final (Frühwirth): no rule applies to the store.
 abbrev pub Final : Rules → Store → Type 0
-Final I store = (r : ℕ) (kept removed : List ℕ) (body : List (Atom ℕ)) → Labelled I store r kept removed body → ⊥
+Final I store =
+    (r : ℕ) (kept removed : List ℕ) (body : List (Atom ℕ)) → Labelled I store r kept removed body →
+    ⊥

@@ -30,7 +30,9 @@ most_letters = 640
 
 -- how wide a column is, by how many there are
 abbrev pub step_of : ℕ → ℕ
-step_of count = if nat_lt count 41 then 24 else (if nat_lt count 101 then 10 else (if nat_lt count 161 then 7 else 4))
+step_of count =
+    if nat_lt count 41 then 24
+    else (if nat_lt count 101 then 10 else (if nat_lt count 161 then 7 else 4))
 
 -- of how many entries one has its number below the rows
 abbrev pub every_of : ℕ → ℕ
@@ -38,7 +40,8 @@ every_of count = if nat_lt count 41 then 1 else 10
 
 -- a label with its atom
 abbrev pub label_text : {Z : Type 0} → List (List ℕ) → Row Z → List ℕ
-label_text table r = words w.Hash ++ (decimal r.label ++ (words w.Blank ++ spell (by_texts table r.atom)))
+label_text table r =
+    words w.Hash ++ (decimal r.label ++ (words w.Blank ++ spell (by_texts table r.atom)))
 
 -- how far from where the columns begin a bar begins, by the column that gives its constraint
 abbrev pub offset : ℕ → Option ℕ → ℕ
@@ -52,7 +55,8 @@ room letters step since = letter_width * min letters most_letters - offset step 
 -- the most that the names of rows need, or so_far
 abbrev pub most_room : {Z : Type 0} → List (List ℕ) → ℕ → ℕ → List (Row Z) → ℕ
 most_room table step so_far [] = so_far
-most_room table step so_far (r ∷ rs) = most_room table step (max (room (length (label_text table r)) step r.since) so_far) rs
+most_room table step so_far (r ∷ rs) =
+    most_room table step (max (room (length (label_text table r)) step r.since) so_far) rs
 
 -- the middle of a column
 abbrev pub x_of : Layout → ℕ → ℕ
@@ -62,7 +66,8 @@ x_of a column = a.left + (column + 1) * a.step
 abbrev pub y_of : ℕ → ℕ
 y_of place = 20 + row_height * min place most_places
 
--- where a constraint's bar begins and ends: at the columns that give and remove it, or else where all columns do
+-- where a constraint's bar begins and ends: at the columns that give and remove it, or else where
+-- all columns do
 abbrev pub begin_of : Layout → Option ℕ → ℕ
 begin_of a None = a.left
 begin_of a (Some column) = x_of a column
@@ -92,4 +97,10 @@ index_of (p ∷ ps) q = if (p.0 == q.0) && (p.1 == q.1) then 0 else index_of ps 
 
 -- eight colours that most eyes tell apart (Okabe and Ito), in turn
 unfoldable pub colour : ℕ → Words
-colour n = if n == 0 then w.Blue else (if n == 1 then w.Orange else (if n == 2 then w.Green else (if n == 3 then w.Pink else (if n == 4 then w.Sky else (if n == 5 then w.Vermilion else (if n == 6 then w.Olive else (w.Grey)))))))
+colour n =
+    if n == 0 then w.Blue
+    else (if n == 1 then w.Orange
+    else (if n == 2 then w.Green
+    else (if n == 3 then w.Pink
+    else (if n == 4 then w.Sky
+    else (if n == 5 then w.Vermilion else (if n == 6 then w.Olive else (w.Grey)))))))

@@ -13,7 +13,8 @@ pub record Firing : Type 0 where
   pub removed : List ℕ
 
 abbrev pub firing_of : CodeFiring → Firing
-firing_of f = record { column = f.column; rule = f.rule; kept = f.kept.items; removed = f.removed.items }
+firing_of f =
+    record { column = f.column; rule = f.rule; kept = f.kept.items; removed = f.removed.items }
 
 abbrev pub firings_of : List CodeFiring → List Firing
 firings_of fs = map firing_of fs
@@ -23,7 +24,8 @@ abbrev pub firings_in : ℕ → List (Event ℕ) → List Firing
 firings_in k [] = []
 firings_in k (Post t a ∷ es) = firings_in (k + 1) es
 firings_in k (Activate t l ∷ es) = firings_in (k + 1) es
-firings_in k (Fire t r kept removed ∷ es) = record { column = k; rule = r; kept = kept; removed = removed } ∷ firings_in (k + 1) es
+firings_in k (Fire t r kept removed ∷ es) =
+    record { column = k; rule = r; kept = kept; removed = removed } ∷ firings_in (k + 1) es
 firings_in k (Drop t ∷ es) = firings_in (k + 1) es
 
 -- the labels that events give, each with its column

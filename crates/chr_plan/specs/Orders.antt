@@ -29,7 +29,8 @@ binds (Some head) x = has_variable x head.args
 abbrev pub is_bound : List (RuleAtom ℕ) → List Step → ℕ → Bool
 is_bound heads before x = list_any (λ s. binds (head_in heads s.head) x) before
 
--- an argument is known: a value as it is written, or a bound variable; never a functor with variables in it
+-- an argument is known: a value as it is written, or a bound variable; never a functor with
+-- variables in it
 abbrev pub is_known : (ℕ → Bool) → Term ℕ → Bool
 is_known bound (Var x) = bound x
 is_known bound (Given v) = true
@@ -52,12 +53,14 @@ pub record IsOpen (heads : List (RuleAtom ℕ)) (before : List Step) (j : ℕ) :
   pub to : j ≤ length heads
   pub unnamed : is_named before j ≡ false
 
--- the next step: an open head with its key, one that has a key before those that have none, and then the least number
+-- the next step: an open head with its key, one that has a key before those that have none, and
+-- then the least number
 pub record IsNext (heads : List (RuleAtom ℕ)) (before : List Step) (step : Step) : Type 0 where
   pub open_head : IsOpen heads before step.head
   pub key : step.key ≡ key_of heads before step.head
   pub keyed : (j : ℕ) → IsOpen heads before j → IsSome (key_of heads before j) → IsSome step.key
-  pub least : (j : ℕ) → IsOpen heads before j → is_some (key_of heads before j) ≡ is_some step.key → step.head ≤ j
+  pub least : (j : ℕ) → IsOpen heads before j → is_some (key_of heads before j) ≡ is_some step.key →
+      step.head ≤ j
 
 -- each step is the next after those before it
 abbrev pub EachNext : List (RuleAtom ℕ) → List Step → List Step → Type 0

@@ -23,9 +23,11 @@ plan_at plans r h = order_in (orders_at plans r) h
 -- a plan for each head of the rule
 pub record AreOrders (rule : Simpagation ℕ) (orders : List (List Step)) : Type 0 where
   pub count : length orders ≡ length (heads_of rule)
-  pub each : (i : ℕ) (order : List Step) → slice_get orders i ≡ Some order → IsPlan (heads_of rule) (suc i) order
+  pub each : (i : ℕ) (order : List Step) → slice_get orders i ≡ Some order →
+      IsPlan (heads_of rule) (suc i) order
 
 -- and for each rule of the program
 pub record ArePlans (rules : List (Simpagation ℕ)) (plans : PlanList) : Type 0 where
   pub count : length plans ≡ length rules
-  pub each : (i : ℕ) (rule : Simpagation ℕ) (orders : List (List Step)) → slice_get rules i ≡ Some rule → slice_get plans i ≡ Some orders → AreOrders rule orders
+  pub each : (i : ℕ) (rule : Simpagation ℕ) (orders : List (List Step)) →
+      slice_get rules i ≡ Some rule → slice_get plans i ≡ Some orders → AreOrders rule orders

@@ -6,7 +6,8 @@ use lib.ListN.{get_elem?}
 use Rattle.chr_pool.specs.declared.account.Account.{Account}
 
 abbrev pub account : ℕ → Bool → List ℕ → List ℕ → Account
-account parts joined pushed taken = record { parts = parts; joined = joined; pushed = pushed; taken = taken }
+account parts joined pushed taken =
+    record { parts = parts; joined = joined; pushed = pushed; taken = taken }
 
 -- the second list is the first with some items left out
 abbrev pub Within : List ℕ → List ℕ → Type 0
@@ -15,16 +16,16 @@ Within [] (x ∷ xs) = ⊥
 Within (y ∷ ys) [] = Unit {0}
 Within (y ∷ ys) (x ∷ xs) = ((x ≡ y) × Within ys xs) ⊎ Within ys (x ∷ xs)
 
--- what an account says of all pushes and all takings: an account with no part has neither, and one to which no other was
--- added lists its own in their order
+-- what an account says of all pushes and all takings: an account with no part has neither, and one
+-- to which no other was added lists its own in their order
 abbrev pub Fits : List ℕ → List ℕ → Account → Type 0
 Fits log gone v =
     (v.parts ≡ 0 → (v.pushed ≡ []) × (v.taken ≡ []))
     × (v.joined ≡ false → Within log v.pushed × Within gone v.taken)
 
--- The rule. `log` has all pushes in their order and `gone` all takings in theirs, and what was pushed is what was taken
--- and then the contents. The accounts of all passes together have just these pushes and takings, as multisets: whatever
--- number h gives to each task, the sums are equal.
+-- The rule. `log` has all pushes in their order and `gone` all takings in theirs, and what was
+-- pushed is what was taken and then the contents. The accounts of all passes together have just
+-- these pushes and takings, as multisets: whatever number h gives to each task, the sums are equal.
 pub record Kept (items : List ℕ) (views : List Account) : Type 0 where
   pub parts : sum_by (λ v. v.parts) views ≡ 64
   pub log : List ℕ

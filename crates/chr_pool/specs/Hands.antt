@@ -12,8 +12,8 @@ use Rattle.chr_pool.specs.declared.hand.Hand.{Hand}
 use Rattle.chr_pool.specs.Accounts.{parts_of}
 use Rattle.chr_pool.specs.Handles.{queue_account, queue_shape, handle_shape, handle_account, handle_deque, stolen}
 
--- what no call changes of a hand: its number and capacity, its own deque and the queue, and all deques of the pool
--- in order, with its parts of the account of each
+-- what no call changes of a hand: its number and capacity, its own deque and the queue, and all
+-- deques of the pool in order, with its parts of the account of each
 pub record HandId : Type 0 where
   pub number : ℕ
   pub capacity : ℕ
@@ -47,10 +47,12 @@ module _ {T : Type 0} where
   abbrev pub hand_fed : Hand T → List ℕ
   hand_fed h = (queue_account h.queue_handle).taken
 
-  -- the numbers of the tasks that it took: of its own deque, of the queue, and of the deque of each hand by stealing,
-  -- each list in order
+  -- the numbers of the tasks that it took: of its own deque, of the queue, and of the deque of each
+  -- hand by stealing, each list in order
   abbrev pub hand_views : Hand T → List (List ℕ)
-  hand_views h = (worker_view h.own).taken ∷ (queue_account h.queue_handle).taken ∷ map stolen h.deque_handles.items
+  hand_views h =
+      (worker_view h.own).taken ∷ (queue_account h.queue_handle).taken ∷
+      map stolen h.deque_handles.items
 
   -- the numbers of all tasks that it took
   abbrev pub hand_taken : Hand T → List ℕ

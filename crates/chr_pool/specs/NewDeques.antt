@@ -26,7 +26,8 @@ module _ {T : Type 0} where
   abbrev pub IsRow : List (RowsId × Global) → Vec (DequeHandle T) Global → Type 0
   IsRow deques r = (row_deques r ≡ deques) × All IsNewHandle r.items
 
-  -- a new hand, with handles on these deques and on this queue, and all but n parts of its own deque's account
+  -- a new hand, with handles on these deques and on this queue, and all but n parts of its own
+  -- deque's account
   abbrev pub IsNewHand : List (RowsId × Global) → SegId Global → ℕ → Hand T → Type 0
   IsNewHand deques queue n h =
       IsRow deques h.deque_handles

@@ -20,5 +20,8 @@ module _ {T : Type 0} where
   own_deque o = worker_deque o.worker
 
   -- the accounts of all passes
-  abbrev pub accounts : Vec (OwnDeque T) Global → Vec (Vec (DequeHandle T) Global) Global → Vec (QueueHandle T) Global → List Account
-  accounts owns rows queue_handles = map own_account owns.items ++ flat_map row_accounts rows.items ++ map queue_account queue_handles.items
+  abbrev pub accounts : Vec (OwnDeque T) Global → Vec (Vec (DequeHandle T) Global) Global →
+      Vec (QueueHandle T) Global → List Account
+  accounts owns rows queue_handles =
+      map own_account owns.items ++ flat_map row_accounts rows.items ++
+      map queue_account queue_handles.items

@@ -29,14 +29,16 @@ parts_reached h = map (λ (d : (RowsId × Global) × ℕ). d.1) h.deques
 abbrev pub all_queues : List HandId → List (SegId Global × ℕ) → List (SegId Global × ℕ)
 all_queues hands inlets = map (λ (h : HandId). h.queue) hands ++ inlets
 
--- these are all hands and inlets of one pool: each hand reaches the deques of all hands, in their order; all have handles
--- on one queue; and of the account of each deque, and of the queue, all 64 parts are here
+-- these are all hands and inlets of one pool: each hand reaches the deques of all hands, in their
+-- order; all have handles on one queue; and of the account of each deque, and of the queue, all 64
+-- parts are here
 pub record OfOneMake (hands : List HandId) (inlets : List (SegId Global × ℕ)) : Type 0 where
   pub some_hand : 0 < length hands
   pub few_hands : length hands ≤ 16
   pub few_inlets : length inlets ≤ 16
   pub deques : All (λ h. deques_reached h ≡ map (λ (i : HandId). i.deque) hands) hands
-  pub deque_parts : All (λ n. n ≡ 64) (all_added (map (λ (h : HandId). h.parts) hands) (map parts_reached hands))
+  pub deque_parts : All (λ n. n ≡ 64)
+      (all_added (map (λ (h : HandId). h.parts) hands) (map parts_reached hands))
   pub queue : SegId Global
   pub queues : All (λ q. q.0 ≡ queue) (all_queues hands inlets)
   pub queue_parts : sum_by (λ (q : SegId Global × ℕ). q.1) (all_queues hands inlets) ≡ 64

@@ -1,4 +1,5 @@
--- A code of expressions, by which proofs tell them apart: an expression as a list of marks, operators before their sides.
+-- A code of expressions, by which proofs tell them apart: an expression as a list of marks,
+-- operators before their sides.
 use Rattle.std.specs.Prelude.{◌≡◌, ℕ, zero, suc, ℤ, List, [], ◌∷◌, refl}
 use Rattle.std.proofs.Common.{◌⊎◌, inl, inr, ap, ◌∙◌}
 use Rattle.std.specs.Coded.{Coded, code_by, coded⊎, coded_ℕ, coded_ℤ, coded_list}
@@ -55,14 +56,18 @@ abbrev pub first : List Expression → Expression
 first [] = Variable 0
 first (e ∷ es) = e
 
-abbrev pub marks_back : (e : Expression) (k : List Mark) (es : List Expression) → spelled k ≡ es → spelled (marks e k) ≡ e ∷ es
+abbrev pub marks_back : (e : Expression) (k : List Mark) (es : List Expression) → spelled k ≡ es →
+    spelled (marks e k) ≡ e ∷ es
 marks_back (Number z) k es h = ap (λ (w : List Expression). Number z ∷ w) h
 marks_back (Variable x) k es h = ap (λ (w : List Expression). Variable x ∷ w) h
 marks_back (Operation o a b) k es h =
-    ap (step (inr (inr (number_of o)))) (marks_back a (marks b k) (b ∷ es) (marks_back b k es h)) ∙ ap (λ (p : Operator). Operation p a b ∷ es) (operator_again o)
+    ap (step (inr (inr (number_of o)))) (marks_back a (marks b k) (b ∷ es) (marks_back b k es h)) ∙
+    ap (λ (p : Operator). Operation p a b ∷ es) (operator_again o)
 
 abbrev pub expression_again : (e : Expression) → first (spelled (marks e [])) ≡ e
 expression_again e = ap first (marks_back e [] [] refl)
 
 abbrev pub expression_code : Coded Expression
-expression_code = code_by (List Mark) (coded_list (coded⊎ coded_ℤ (coded⊎ coded_ℕ coded_ℕ))) (λ e. marks e []) (λ ms. first (spelled ms)) expression_again
+expression_code =
+    code_by (List Mark) (coded_list (coded⊎ coded_ℤ (coded⊎ coded_ℕ coded_ℕ))) (λ e. marks e [])
+    (λ ms. first (spelled ms)) expression_again

@@ -14,7 +14,8 @@ pub record Index : Type 0 where
 abbrev pub rank : Occurrence → ℕ
 rank o = ((o.pred.name.number * 256 + o.pred.arity) * 65536 + o.rule) * 256 + o.head
 
--- its numbers are small enough for the order by rank to be that by name, then arity, then rule, then head
+-- its numbers are small enough for the order by rank to be that by name, then arity, then rule,
+-- then head
 pub record FitsRank (o : Occurrence) : Type 0 where
   pub arity : o.pred.arity < 256
   pub rule : o.rule < 65536
@@ -34,7 +35,8 @@ abbrev pub IsIndexOf : List (Simpagation ℕ) → List Occurrence → Type 0
 IsIndexOf rules list = (o : Occurrence) → Contains list o ↔ IsOccurrence rules o.pred o.rule o.head
 
 -- what is left of the list from one on: those that are not before it
-pub record IsRestFrom (list : List Occurrence) (from : Occurrence) (rest : List Occurrence) : Type 0 where
+pub record IsRestFrom (list : List Occurrence) (from : Occurrence) (rest : List Occurrence) : Type
+    0 where
   pub rising : IsRising rest
   pub listed : (o : Occurrence) → Contains rest o → Contains list o
   pub after : AllByRecursion (λ o. rank from ≤ rank o) rest
@@ -47,8 +49,12 @@ HasInserted old one new = (o : Occurrence) → Contains new o ↔ (Contains old 
 -- the new list has what the old one has, and the heads of a rule with a number below a bound
 abbrev pub HasHeadsBelow : ℕ → List Occurrence → ℕ → Simpagation ℕ → List Occurrence → Type 0
 HasHeadsBelow bound old number rule new =
-    (o : Occurrence) → Contains new o ↔ (Contains old o ⊎ ((o.rule ≡ number) × (o.head < bound) × HasPredAt rule o.pred o.head))
+    (o : Occurrence) →
+    Contains new o ↔
+    (Contains old o ⊎ ((o.rule ≡ number) × (o.head < bound) × HasPredAt rule o.pred o.head))
 
 -- the new list has what the old one has, and the heads of a rule with a number
 abbrev pub HasHeadsOf : List Occurrence → ℕ → Simpagation ℕ → List Occurrence → Type 0
-HasHeadsOf old number rule new = (o : Occurrence) → Contains new o ↔ (Contains old o ⊎ ((o.rule ≡ number) × HasPredAt rule o.pred o.head))
+HasHeadsOf old number rule new =
+    (o : Occurrence) →
+    Contains new o ↔ (Contains old o ⊎ ((o.rule ≡ number) × HasPredAt rule o.pred o.head))

@@ -30,22 +30,27 @@ abbrev pub NoneFrom : List (Simpagation ℕ) → Pred → ℕ → ℕ → Type 0
 NoneFrom rules p s i = (r h : ℕ) → AtOrAfter s i r h → IsOccurrence rules p r h → ⊥
 
 -- the least occurrence at or after a rule and a head
-pub record IsNextOccurrence (rules : List (Simpagation ℕ)) (p : Pred) (s i : ℕ) (found : ℕ × ℕ) : Type 0 where
+pub record IsNextOccurrence (rules : List (Simpagation ℕ)) (p : Pred) (s i : ℕ) (found : ℕ × ℕ)
+    : Type 0 where
   pub occurs : IsOccurrence rules p found.0 found.1
   pub after : AtOrAfter s i found.0 found.1
-  pub least : (r h : ℕ) → AtOrAfter s i r h → IsOccurrence rules p r h → AtOrAfter found.0 found.1 r h
+  pub least : (r h : ℕ) → AtOrAfter s i r h → IsOccurrence rules p r h →
+      AtOrAfter found.0 found.1 r h
 
 -- heads of a predicate, as they are listed in order; heads of other predicates may come after them
 pub record HeadsFrom : Type 0 where
   pub pred : Pred
   pub rest : List Occurrence
 
--- the occurrences of a predicate at or after a rule and a head are those at the front of a list, in order
+-- the occurrences of a predicate at or after a rule and a head are those at the front of a list, in
+-- order
 abbrev pub AreListedFrom : List (Simpagation ℕ) → Pred → ℕ → ℕ → List Occurrence → Type 0
 AreListedFrom rules p s i [] = NoneFrom rules p s i
 AreListedFrom rules p s i (o ∷ os) =
     ((o.pred ≡ p → ⊥) → NoneFrom rules p s i)
-    × (o.pred ≡ p → IsNextOccurrence rules p s i (o.rule, o.head) × AreListedFrom rules p o.rule (o.head + 1) os)
+    × (o.pred ≡ p →
+    IsNextOccurrence rules p s i (o.rule, o.head) ×
+    AreListedFrom rules p o.rule (o.head + 1) os)
 
 -- these are the heads of their predicate at or after a rule and a head
 abbrev pub AreHeadsFrom : List (Simpagation ℕ) → HeadsFrom → ℕ → ℕ → Type 0

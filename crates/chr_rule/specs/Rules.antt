@@ -63,8 +63,10 @@ abbrev pub head_at : {N : Type 0} → Simpagation N → ℕ → Option (RuleAtom
 head_at rule n = head_in (heads_of rule) n
 
 -- the rule of these parts
-abbrev pub of_parts : {N : Type 0} → ℕ → List (RuleAtom N) → List (RuleAtom N) → List (Comparison N) → List (BodyItem N) → Simpagation N
-of_parts n kept removed guard body = record { variables = n; kept = kept; removed = removed; guard = guard; body = body }
+abbrev pub of_parts : {N : Type 0} → ℕ → List (RuleAtom N) → List (RuleAtom N) →
+    List (Comparison N) → List (BodyItem N) → Simpagation N
+of_parts n kept removed guard body =
+    record { variables = n; kept = kept; removed = removed; guard = guard; body = body }
 
 -- the rule of a number, from 1
 abbrev pub rule_at : {N : Type 0} → List (Simpagation N) → ℕ → Option (Simpagation N)

@@ -57,16 +57,21 @@ test_known n (Differ s t) = argument_known n s && argument_known n t
 -- an `is` gives a value to the next variable, for the members after it
 abbrev pub known_after_body : {N : Type 0} → ℕ → List (BodyItem N) → Option ℕ
 known_after_body n [] = Some n
-known_after_body n (Is x e ∷ ms) = if (x == n) && expression_known n e then known_after_body (suc n) ms else None
-known_after_body n (Add s ∷ ms) = if list_all (argument_known n) s.args then known_after_body n ms else None
+known_after_body n (Is x e ∷ ms) =
+    if (x == n) && expression_known n e then known_after_body (suc n) ms else None
+known_after_body n (Add s ∷ ms) =
+    if list_all (argument_known n) s.args then known_after_body n ms else None
 
--- how many variables a rule of these parts has, or nothing where one is used that has no value by then
-abbrev pub variable_count : {N : Type 0} → List (RuleAtom N) → List (Comparison N) → List (BodyItem N) → Option ℕ
+-- how many variables a rule of these parts has, or nothing where one is used that has no value by
+-- then
+abbrev pub variable_count : {N : Type 0} → List (RuleAtom N) → List (Comparison N) →
+    List (BodyItem N) → Option ℕ
 variable_count heads guard body =
-    known_then (known_after_heads 0 heads) (λ n. if list_all (test_known n) guard then known_after_body n body else None)
+    known_then (known_after_heads 0 heads)
+    (λ n. if list_all (test_known n) guard then known_after_body n body else None)
 
--- Within the limits: at most 24 variables, 6 heads of which one is removed, 16 comparisons and 16 members of the body. How
--- deep an expression nests is a limit of the text alone.
+-- Within the limits: at most 24 variables, 6 heads of which one is removed, 16 comparisons and 16
+-- members of the body. How deep an expression nests is a limit of the text alone.
 pub record IsWithinLimits {N : Type 0} (rule : Simpagation N) : Type 0 where
   pub variables : rule.variables ≤ 24
   pub removed : 0 < length rule.removed

@@ -90,7 +90,8 @@ member_words (Add p) = words (add_kind ∷ []) ++ atom_words p
 -- how many variables, kept heads, removed heads, comparisons and members of the body there are
 abbrev pub sizes : Simpagation ℕ → List ℕ
 sizes rule =
-    rule.variables ∷ length rule.kept ∷ length rule.removed ∷ length rule.guard ∷ length rule.body ∷ []
+    rule.variables ∷ length rule.kept ∷ length rule.removed ∷ length rule.guard ∷ length rule.body ∷
+    []
 
 abbrev pub rule_words : Simpagation ℕ → List RuleWord
 rule_words rule =

@@ -58,7 +58,8 @@ answer_of answer.NoMemory = list.NoMemory
 abbrev pub said_after : List Said → List SeatCall → List Answer → List Said
 said_after so_far calls [] = so_far
 said_after so_far [] (answer ∷ answers) = so_far
-said_after so_far (call ∷ calls) (answer ∷ answers) = said_after (said call answer ∷ so_far) calls answers
+said_after so_far (call ∷ calls) (answer ∷ answers) =
+    said_after (said call answer ∷ so_far) calls answers
 
 abbrev pub said_by : {Z W : Type 0} → List (CodeSeatCall Z) → List (CodeAnswer W) → List Said
 said_by calls answers = said_after [] (map seat_call_of calls) (map answer_of answers)

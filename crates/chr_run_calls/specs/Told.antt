@@ -35,12 +35,15 @@ asks_for t call = false
 
 -- a call by the seat for the ticket was told trials
 abbrev pub tells : Bool → ℕ → ℕ → Said → Bool
-tells batches seat t said = nat_eq said.by.seat seat && (asks_for t said.by.call && is_some (trials_in batches said.answer))
+tells batches seat t said =
+    nat_eq said.by.seat seat && (asks_for t said.by.call && is_some (trials_in batches said.answer))
 
--- the last answer that told the seat trials for the ticket, where these were the calls and answers so far, the latest first
+-- the last answer that told the seat trials for the ticket, where these were the calls and answers
+-- so far, the latest first
 abbrev pub last_answer : Bool → ℕ → ℕ → List Said → Option list.Answer
 last_answer batches seat t [] = None
-last_answer batches seat t (said ∷ before) = if tells batches seat t said then Some said.answer else last_answer batches seat t before
+last_answer batches seat t (said ∷ before) =
+    if tells batches seat t said then Some said.answer else last_answer batches seat t before
 
 abbrev pub first_of : Option (List Trial) → Option Trial
 first_of (Some (trial ∷ more)) = Some trial
@@ -48,7 +51,8 @@ first_of trials = None
 
 -- the last trial that the seat was told for the ticket, and the last batch
 abbrev pub last_trial : List Said → ℕ → ℕ → Option Trial
-last_trial so_far seat t = option_and_then (λ answer. first_of (trials_in false answer)) (last_answer false seat t so_far)
+last_trial so_far seat t =
+    option_and_then (λ answer. first_of (trials_in false answer)) (last_answer false seat t so_far)
 
 abbrev pub last_batch : List Said → ℕ → ℕ → Option (List Trial)
 last_batch so_far seat t = option_and_then (trials_in true) (last_answer true seat t so_far)
@@ -58,7 +62,8 @@ last_batch so_far seat t = option_and_then (trials_in true) (last_answer true se
 -- a word stands for this judgement, which is the right one for its trial
 abbrev pub StandsFor : List Said → ℕ → ℕ → Word → Judgement → Type 0
 StandsFor so_far seat t (Given given) j = (j ≡ given) × IsVerdict j.trial j.verdict
-StandsFor so_far seat t Own j = (last_trial so_far seat t ≡ Some j.trial) × IsVerdict j.trial j.verdict
+StandsFor so_far seat t Own j =
+    (last_trial so_far seat t ≡ Some j.trial) × IsVerdict j.trial j.verdict
 
 -- it stands for none: the seat was told no trial for the ticket
 abbrev pub StandsForNone : List Said → ℕ → ℕ → Word → Type 0
@@ -70,7 +75,8 @@ abbrev pub AreJudged : List Trial → List Judgement → Type 0
 AreJudged [] [] = ⊤
 AreJudged [] (j ∷ js) = ⊥
 AreJudged (trial ∷ trials) [] = ⊥
-AreJudged (trial ∷ trials) (j ∷ js) = (j.trial ≡ trial) × IsVerdict j.trial j.verdict × AreJudged trials js
+AreJudged (trial ∷ trials) (j ∷ js) =
+    (j.trial ≡ trial) × IsVerdict j.trial j.verdict × AreJudged trials js
 
 -- those of a batch, and none where there was none
 abbrev pub AreOfBatch : Option (List Trial) → List Judgement → Type 0

@@ -27,15 +27,17 @@ store_part table store = count_line (codes "store ") (length store) ++ store_lin
 
 -- how many entries there are, and a line for each
 abbrev pub log_part : List (List ℕ) → List (Event ℕ) → List ℕ
-log_part table log = count_line (codes "log ") (length log) ++ entries_text (map (event_by_texts table) log)
+log_part table log =
+    count_line (codes "log ") (length log) ++ entries_text (map (event_by_texts table) log)
 
 -- the strict log's text, of a run that ends quiet
 abbrev pub strict_text : End → List (List ℕ) → List (Event ℕ) → List ℕ
 strict_text Quiet table log = log_text One (map (event_by_texts table) (strict log))
 strict_text Open table log = []
 
--- What is shown of a book: its end, its store and its log; its store alone; its log alone, with the header of version two; or
--- its strict log, with the header of version one, where no ticket is open.
+-- What is shown of a book: its end, its store and its log; its store alone; its log alone, with the
+-- header of version two; or its strict log, with the header of version one, where no ticket is
+-- open.
 abbrev pub shown : Show → End → BookState → List ℕ
 shown show.All end b = end_line end ++ (store_part b.names b.store ++ log_part b.names (events b))
 shown show.Store end b = store_lines b.names b.store

@@ -25,12 +25,14 @@ abbrev pub seat : ℕ
 seat = 0
 
 -- the book of rules and posted atoms, by a table of names: no label above the limit is given
-abbrev pub posted_book : List (Simpagation ℕ) → PlanList → List (Atom ℕ) → List (List ℕ) → ℕ → BookState
+abbrev pub posted_book : List (Simpagation ℕ) → PlanList → List (Atom ℕ) → List (List ℕ) → ℕ →
+    BookState
 posted_book rules plans atoms names limit = all_posted (opened rules plans names limit) seat atoms
 
--- A run of at most so many calls: the book after the posts and a solo run. It has the headline, and where it is called quiet,
--- which is exactly where no ticket is open, no rule applies to its store.
-pub record IsRunOf (rules : List (Simpagation ℕ)) (atoms : List (Atom ℕ)) (names : List (List ℕ)) (steps limit : ℕ) (b : BookState) : Type 0 where
+-- A run of at most so many calls: the book after the posts and a solo run. It has the headline, and
+-- where it is called quiet, which is exactly where no ticket is open, no rule applies to its store.
+pub record IsRunOf (rules : List (Simpagation ℕ)) (atoms : List (Atom ℕ)) (names : List (List ℕ))
+    (steps limit : ℕ) (b : BookState) : Type 0 where
   pub plans : PlanList
   pub are_plans : ArePlans rules plans
   pub calls : ℕ
@@ -38,7 +40,8 @@ pub record IsRunOf (rules : List (Simpagation ℕ)) (atoms : List (Atom ℕ)) (n
   pub headline : Headline b atoms
 
 -- both texts are read, and this is shown of their run
-pub record IsMade {Z : Type 0} (program posts : List ℕ) (steps limit : ℕ) (show : Show) (made : RunOut Z) : Type 0 where
+pub record IsMade {Z : Type 0} (program posts : List ℕ) (steps limit : ℕ) (show : Show)
+    (made : RunOut Z) : Type 0 where
   pub read : RulesOf program
   pub posted : PostsOf read.table posts
   pub book : BookState
@@ -50,10 +53,12 @@ pub record IsMade {Z : Type 0} (program posts : List ℕ) (steps limit : ℕ) (s
 -- the first text that has a fault has this one
 abbrev pub IsRefused : List ℕ → List ℕ → RunFault → Type 0
 IsRefused program posts (faults.Program fault) = program_of [] program ≡ Err fault
-IsRefused program posts (faults.Posts fault) = (read : RulesOf program) × (posts_of read.table posts ≡ Err fault)
+IsRefused program posts (faults.Posts fault) =
+    (read : RulesOf program) × (posts_of read.table posts ≡ Err fault)
 IsRefused program posts faults.Memory = Unit {0}
 
 -- The run of two texts. Both are read with one table of names, the rules first.
-abbrev pub IsRunText : {Z : Type 0} → List ℕ → List ℕ → ℕ → ℕ → Show → Result (RunOut Z) RunFault → Type 0
+abbrev pub IsRunText : {Z : Type 0} → List ℕ → List ℕ → ℕ → ℕ → Show → Result (RunOut Z) RunFault →
+    Type 0
 IsRunText program posts steps limit show (Ok made) = IsMade program posts steps limit show made
 IsRunText program posts steps limit show (Err fault) = IsRefused program posts fault

@@ -25,9 +25,10 @@ use Rattle.chr_run_text.specs.declared.running.RunFault.TheVariants as whole
 use Rattle.chr_run_text.specs.declared.running.RunTextsFault.{RunTextsFault}
 use Rattle.chr_run_text.specs.declared.running.RunTextsFault.TheVariants as faults
 
--- All texts are read with one table of names, the rules first, and then the posts in order; this is the book after a run of
--- the atoms of all, and its end.
-pub record IsRunOfTexts (program : List ℕ) (posts : List (List ℕ)) (steps limit : ℕ) (end : End) (b : BookState) : Type 0 where
+-- All texts are read with one table of names, the rules first, and then the posts in order; this is
+-- the book after a run of the atoms of all, and its end.
+pub record IsRunOfTexts (program : List ℕ) (posts : List (List ℕ)) (steps limit : ℕ) (end : End)
+    (b : BookState) : Type 0 where
   pub read : RulesOf program
   pub posted : AllPostsOf read.table posts
   pub run : IsRunOf read.rules posted.atoms posted.names steps limit b
@@ -37,12 +38,15 @@ pub record IsRunOfTexts (program : List ℕ) (posts : List (List ℕ)) (steps li
 -- the first text that has a fault has this one
 abbrev pub AreRefused : List ℕ → List (List ℕ) → RunTextsFault → Type 0
 AreRefused program posts (faults.Program fault) = program_of [] program ≡ Err fault
-AreRefused program posts (faults.Posts place fault) = (read : RulesOf program) × HasPostsFault read.table posts place fault
+AreRefused program posts (faults.Posts place fault) =
+    (read : RulesOf program) × HasPostsFault read.table posts place fault
 AreRefused program posts faults.Memory = Unit {0}
 
 -- The run of a text of rules and texts of posts.
-abbrev pub IsRunTexts : {Z : Type 0} → List ℕ → List (List ℕ) → ℕ → ℕ → Result (Ran Z) RunTextsFault → Type 0
-IsRunTexts program posts steps limit (Ok ran) = IsRunOfTexts program posts steps limit ran.end ran.book
+abbrev pub IsRunTexts : {Z : Type 0} → List ℕ → List (List ℕ) → ℕ → ℕ →
+    Result (Ran Z) RunTextsFault → Type 0
+IsRunTexts program posts steps limit (Ok ran) =
+    IsRunOfTexts program posts steps limit ran.end ran.book
 IsRunTexts program posts steps limit (Err fault) = AreRefused program posts fault
 
 -- why a text of this place was not posted, and the same fault where there is one text
@@ -67,7 +71,8 @@ TextsFault b texts (faults.Program fault) = ⊥
 TextsFault b texts (faults.Posts place fault) = HasPostsFault b.names texts place fault
 TextsFault b texts faults.Memory = Unit {0}
 
-abbrev pub ArePosted : BookState → List (List ℕ) → Result (Unit {0}) RunTextsFault → BookState → Type 0
+abbrev pub ArePosted : BookState → List (List ℕ) → Result (Unit {0}) RunTextsFault → BookState →
+    Type 0
 ArePosted b texts (Ok u) n = PostsTexts b texts n
 ArePosted b texts (Err fault) n = TextsFault b texts fault
 

@@ -14,8 +14,9 @@ AreLiveFor j steps [] = Unit {0}
 AreLiveFor j [] (l ∷ ls) = ⊥
 AreLiveFor j (step ∷ steps) (l ∷ ls) = IsLiveFor j step l × AreLiveFor j steps ls
 
--- Admissible labels: the active one and then others below the bound; all are live, each with its head's predicate; those
--- before the last are distinct and fit; and the last has its plan's key value under that fit.
+-- Admissible labels: the active one and then others below the bound; all are live, each with its
+-- head's predicate; those before the last are distinct and fit; and the last has its plan's key
+-- value under that fit.
 pub record AreAdmissible (j : Join) (labels : List ℕ) : Type 0 where
   pub partners : List ℕ
   pub first : labels ≡ j.active ∷ partners

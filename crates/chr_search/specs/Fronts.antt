@@ -34,9 +34,11 @@ MayEnd s path l = IsTrial s (path ++ l ∷ [])
 
 -- the least label from one on with which an admissible trial ends so, or none
 abbrev pub IsEndFrom : Space → List ℕ → ℕ → Option ℕ → Type 0
-IsEndFrom s path from found = MatchOption found (NoneFrom (MayEnd s path) from) (LeastFrom (MayEnd s path) from)
+IsEndFrom s path from found =
+    MatchOption found (NoneFrom (MayEnd s path) from) (LeastFrom (MayEnd s path) from)
 
--- the label has its atom in the store, and stands at the head that comes after so many in the plan of a rule's head
+-- the label has its atom in the store, and stands at the head that comes after so many in the plan
+-- of a rule's head
 pub record IsPlacedAfter (s : Space) (r h n : ℕ) (p : Placed) : Type 0 where
   pub order : List Step
   pub order_is : plan_at s.plans r h ≡ Some order
@@ -57,9 +59,10 @@ pub record IsFront {Z : Type 0} (s : Space) (r h : ℕ) (ls : List ℕ) (f : Cod
   pub step_is : slice_get f.join.order.now (length ls) ≡ Some step
   pub head_is : f.head ≡ step.head
 
--- what is kept for judging the trials that have one label more than this one, and all heads then: its labels are distinct, and
--- its heads fit by this binding
-pub record IsFitted {Z : Type 0} (t : Trial) (j : CodeFitted Z) (binding : List (Option (Value ℕ))) : Type 0 where
+-- what is kept for judging the trials that have one label more than this one, and all heads then:
+-- its labels are distinct, and its heads fit by this binding
+pub record IsFitted {Z : Type 0} (t : Trial) (j : CodeFitted Z) (binding : List (Option (Value ℕ)))
+    : Type 0 where
   pub part : j.part.now ≡ t
   pub last : length t.placed + 1 ≡ length (heads_of t.rule)
   pub distinct : Distinct (labels t)
@@ -68,4 +71,6 @@ pub record IsFitted {Z : Type 0} (t : Trial) (j : CodeFitted Z) (binding : List 
 
 -- from the one position on lie the admissible trials that come after the other
 abbrev pub ComeAfter : Space → List ℕ → List ℕ → Type 0
-ComeAfter s place t = (u : List ℕ) → IsTrial s u → (at_or_after place u ≡ true) ↔ (at_or_after (just_after t) u ≡ true)
+ComeAfter s place t =
+    (u : List ℕ) → IsTrial s u →
+    (at_or_after place u ≡ true) ↔ (at_or_after (just_after t) u ≡ true)

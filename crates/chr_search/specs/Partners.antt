@@ -47,7 +47,8 @@ KeyIs v head (Some place) key =
 abbrev pub key_in : {Z : Type 0} → Asked Z → Option (ℕ × Value ℕ)
 key_in asked = key_of asked.key
 
--- what is asked for the label after these: the predicate of the next head, and its value at the plan's place
+-- what is asked for the label after these: the predicate of the next head, and its value at the
+-- plan's place
 pub record IsAskedFor {Z : Type 0} (j : Join) (labels : List ℕ)
     (binding : List (Option (Value ℕ))) (asked : Asked Z) : Type 0 where
   pub step : Step
@@ -60,13 +61,18 @@ pub record IsAskedFor {Z : Type 0} (j : Join) (labels : List ℕ)
 
 -- the least label from one on that may be tried after these, or none
 abbrev pub IsPartnerFrom : Join → List ℕ → ℕ → Option ℕ → Type 0
-IsPartnerFrom j labels from found = MatchOption found (NoneFrom (MayFollow j labels) from) (LeastFrom (MayFollow j labels) from)
+IsPartnerFrom j labels from found =
+    MatchOption found (NoneFrom (MayFollow j labels) from) (LeastFrom (MayFollow j labels) from)
 
--- the least of these numbers that lies below the bound, from one on, is the label that may be tried after these labels
+-- the least of these numbers that lies below the bound, from one on, is the label that may be tried
+-- after these labels
 abbrev pub GivePartners : Join → List ℕ → List ℕ → Type 0
-GivePartners j labels among = (from : ℕ) (found : Option ℕ) → IsLeastBetween among (from - 1) j.bound found → IsPartnerFrom j labels from found
+GivePartners j labels among =
+    (from : ℕ) (found : Option ℕ) → IsLeastBetween among (from - 1) j.bound found →
+    IsPartnerFrom j labels from found
 
--- where the answer is yes the labels are lengthened to the least at or after a place, and where it is no there are none
+-- where the answer is yes the labels are lengthened to the least at or after a place, and where it
+-- is no there are none
 abbrev pub LengthenedIf : Join → List ℕ → Bool → List ℕ → List ℕ → Type 0
 LengthenedIf j place true old new = Least (MayFollow j) 1 old place new
 LengthenedIf j place false old new = NoneBeyond (MayFollow j) 1 old place × (new ≡ old)

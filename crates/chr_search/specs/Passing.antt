@@ -30,7 +30,8 @@ use Rattle.chr_search.specs.Verdicts.{Trial, labels, heads, position, kept_label
 use Rattle.chr_search.specs.Judged.{Judgement, IsVerdict}
 use Rattle.chr_search.specs.Answers.{after_verdict, after_judging}
 
--- the trial of these labels: it has the join's rule and the heads of its plan, and its labels' atoms in the store
+-- the trial of these labels: it has the join's rule and the heads of its plan, and its labels'
+-- atoms in the store
 pub record IsTrialIn (j : Join) (ls : List ℕ) (t : Trial) : Type 0 where
   pub rule_is : t.rule ≡ j.rule
   pub labels_are : labels t ≡ ls
@@ -40,7 +41,8 @@ pub record IsTrialIn (j : Join) (ls : List ℕ) (t : Trial) : Type 0 where
 
 -- labels that grow to a trial have one
 abbrev pub HasTrials : Join → Type 0
-HasTrials j = (ls : List ℕ) → 1 ≤ length ls → Grows (MayFollow j) [] ls → (t : Trial) × IsTrialIn j ls t
+HasTrials j =
+    (ls : List ℕ) → 1 ≤ length ls → Grows (MayFollow j) [] ls → (t : Trial) × IsTrialIn j ls t
 
 -- trials of a plan begin with the active label
 pub record BeginsTrials (j : Join) : Type 0 where
@@ -52,11 +54,13 @@ pub record BeginsTrials (j : Join) : Type 0 where
 abbrev pub AreJudged : Join → List ℕ → Verdict → Type 0
 AreJudged j ls verdict = (t : Trial) → IsTrialIn j ls t → IsVerdict t verdict
 
--- So many trials of these labels and one more, that one from a label on, one after another: misfits. The next one is looked
--- for from another label on.
+-- So many trials of these labels and one more, that one from a label on, one after another:
+-- misfits. The next one is looked for from another label on.
 abbrev pub AreMisfits : Join → List ℕ → ℕ → ℕ → ℕ → Type 0
 AreMisfits j ls zero from next = next ≡ from
-AreMisfits j ls (suc n) from next = (middle x : ℕ) × AreMisfits j ls n from middle × LeastFrom (MayFollow j ls) middle x × AreJudged j (ls ++ x ∷ []) Misfit × (next ≡ x + 1)
+AreMisfits j ls (suc n) from next =
+    (middle x : ℕ) × AreMisfits j ls n from middle × LeastFrom (MayFollow j ls) middle x ×
+    AreJudged j (ls ++ x ∷ []) Misfit × (next ≡ x + 1)
 
 -- The trial that comes next at a place is judged and isn't whole, and the search goes on after it.
 pub record PassesOne (s : Space) (place after : List ℕ) : Type 0 where
@@ -71,9 +75,11 @@ pub record PassesOne (s : Space) (place after : List ℕ) : Type 0 where
 -- so many of them, one after another
 abbrev pub Passes : Space → ℕ → List ℕ → List ℕ → Type 0
 Passes s zero place after = after ≡ place
-Passes s (suc n) place after = (middle : List ℕ) × PassesOne s place middle × Passes s n middle after
+Passes s (suc n) place after =
+    (middle : List ℕ) × PassesOne s place middle × Passes s n middle after
 
--- Of a join: the least trial at or after these labels is judged and isn't whole, and the others come after it.
+-- Of a join: the least trial at or after these labels is judged and isn't whole, and the others
+-- come after it.
 pub record PassesOneIn (j : Join) (place after : List ℕ) : Type 0 where
   pub trial : List ℕ
   pub least : Least (MayFollow j) 1 [] place trial
@@ -85,11 +91,13 @@ pub record PassesOneIn (j : Join) (place after : List ℕ) : Type 0 where
 -- so many of them, one after another
 abbrev pub PassesIn : Join → ℕ → List ℕ → List ℕ → Type 0
 PassesIn j zero place after = after ≡ place
-PassesIn j (suc n) place after = (middle : List ℕ) × PassesOneIn j place middle × PassesIn j n middle after
+PassesIn j (suc n) place after =
+    (middle : List ℕ) × PassesOneIn j place middle × PassesIn j n middle after
 
--- So many trials of a join are passed over from one place to another: at most as many as were asked for, and as many where that is
--- why no more are.
-pub record HasPassed (j : Join) (most : ℕ) (place : List ℕ) (passed : Passed) (after : List ℕ) : Type 0 where
+-- So many trials of a join are passed over from one place to another: at most as many as were asked
+-- for, and as many where that is why no more are.
+pub record HasPassed (j : Join) (most : ℕ) (place : List ℕ) (passed : Passed) (after : List ℕ)
+    : Type 0 where
   pub few : passed.count ≤ most
   pub enough : passed.end ≡ ends.Enough → passed.count ≡ most
   pub passes : PassesIn j passed.count place after
@@ -98,15 +106,17 @@ pub record HasPassed (j : Join) (most : ℕ) (place : List ℕ) (passed : Passed
 abbrev pub AreWhole : Join → List ℕ → List (Option (Value ℕ)) → Type 0
 AreWhole j ls binding = (t : Trial) → IsTrialIn j ls t → IsWholeUnder t binding
 
--- why no more trials of a join are passed over at a place: the least one is whole, with these labels and this binding; none is
--- left; or as many were passed over as were asked for
+-- why no more trials of a join are passed over at a place: the least one is whole, with these
+-- labels and this binding; none is left; or as many were passed over as were asked for
 abbrev pub EndsIn : Join → List ℕ → End → List ℕ → List (Option (Value ℕ)) → Type 0
 EndsIn j place ends.Whole ls binding = Least (MayFollow j) 1 [] place ls × AreWhole j ls binding
 EndsIn j place ends.NoneLeft ls binding = NoneBeyond (MayFollow j) 1 [] place
 EndsIn j place ends.Enough ls binding = Unit {0}
 
--- So many trials of a join are passed over from the first one on, and how that ends. Where there are any, the place moves.
-pub record PassesFirst (j : Join) (place : List ℕ) (n : ℕ) (after : List ℕ) (end : End) (ls : List ℕ) (binding : List (Option (Value ℕ))) : Type 0 where
+-- So many trials of a join are passed over from the first one on, and how that ends. Where there
+-- are any, the place moves.
+pub record PassesFirst (j : Join) (place : List ℕ) (n : ℕ) (after : List ℕ) (end : End)
+    (ls : List ℕ) (binding : List (Option (Value ℕ))) : Type 0 where
   pub labels : List ℕ
   pub passes : PassesIn j n [] labels
   pub ends : EndsIn j labels end ls binding
@@ -120,30 +130,34 @@ pub record IsLastHead {Z : Type 0} (j : Join) (ls : List ℕ) (at : LastHead Z) 
   pub head_is : head_at j.rule step.head ≡ Some (shape at.head.now)
   pub last : IsTrue at.is_last ↔ (length j.rule.kept + length j.rule.removed ≤ length ls + 1)
 
--- what the trials of these labels and one more have in common: which variables the labels bind, where the last
--- one stands, and perhaps the labels among which it is
-pub record IsLevel {Z : Type 0} (j : Join) (ls : List ℕ) (binding : List (Option (Value ℕ))) (level : CodeLevel Z) : Type 0 where
+-- what the trials of these labels and one more have in common: which variables the labels bind,
+-- where the last one stands, and perhaps the labels among which it is
+pub record IsLevel {Z : Type 0} (j : Join) (ls : List ℕ) (binding : List (Option (Value ℕ)))
+    (level : CodeLevel Z) : Type 0 where
   pub known : AreKnown level.known binding
   pub at : IsLastHead j ls level.at
   pub partners : IfSome level.partners (GivePartners j ls)
 
--- where the answer is yes the label may be tried after these and this binds them all, and where it is no it may not, or none
--- may be tried after it
+-- where the answer is yes the label may be tried after these and this binds them all, and where it
+-- is no it may not, or none may be tried after it
 abbrev pub IsNarrowedIf : Join → List ℕ → ℕ → Bool → List (Option (Value ℕ)) → Type 0
 IsNarrowedIf j ls l true binding = MayFollow j ls l × IsReady j (ls ++ l ∷ []) binding
 IsNarrowedIf j ls l false binding = MayFollow j ls l → (x : ℕ) → MayFollow j (ls ++ l ∷ []) x → ⊥
 
--- the trial of these labels has this verdict, with the binding of a part, or that under which it is whole
+-- the trial of these labels has this verdict, with the binding of a part, or that under which it is
+-- whole
 abbrev pub IsTried : Join → List ℕ → Verdict → List (Option (Value ℕ)) → Type 0
 IsTried j ls Misfit binding = AreJudged j ls Misfit
 IsTried j ls Part binding = AreJudged j ls Part × IsReady j ls binding
 IsTried j ls Whole binding = AreWhole j ls binding
 
--- what comes after n misfits, where from one label on the next is looked for: a part or a whole trial, while they are fewer
--- than were asked for; none; or perhaps more, where they are as many
+-- what comes after n misfits, where from one label on the next is looked for: a part or a whole
+-- trial, while they are fewer than were asked for; none; or perhaps more, where they are as many
 abbrev pub ComesNext : Join → List ℕ → ℕ → ℕ → ℕ → Next → List (Option (Value ℕ)) → Type 0
-ComesNext j ls n most from (nexts.Part x) binding = (n < most) × LeastFrom (MayFollow j ls) from x × IsTried j (ls ++ x ∷ []) Part binding
-ComesNext j ls n most from (nexts.Whole x) binding = (n < most) × LeastFrom (MayFollow j ls) from x × IsTried j (ls ++ x ∷ []) Whole binding
+ComesNext j ls n most from (nexts.Part x) binding =
+    (n < most) × LeastFrom (MayFollow j ls) from x × IsTried j (ls ++ x ∷ []) Part binding
+ComesNext j ls n most from (nexts.Whole x) binding =
+    (n < most) × LeastFrom (MayFollow j ls) from x × IsTried j (ls ++ x ∷ []) Whole binding
 ComesNext j ls n most from nexts.NoneLeft binding = NoneFrom (MayFollow j ls) from
 ComesNext j ls n most from nexts.Enough binding = n ≡ most
 
@@ -152,12 +166,14 @@ abbrev pub settled : ℕ → List ℕ → ℕ → List ℕ → List ℕ
 settled zero ls next place = place
 settled (suc n) ls next place = ls ++ next ∷ []
 
--- A place below labels: these and a rest. What comes there below them goes on with a number from one on.
+-- A place below labels: these and a rest. What comes there below them goes on with a number from
+-- one on.
 pub record IsBelow (j : Join) (ls place : List ℕ) (from : ℕ) : Type 0 where
   pub grows : Grows (MayFollow j) [] ls
   pub rest : List ℕ
   pub is : place ≡ ls ++ rest
-  pub into : (other : List ℕ) → Beyond (MayFollow j) 1 ls rest other → at_or_after (from ∷ []) other ≡ true
+  pub into : (other : List ℕ) → Beyond (MayFollow j) 1 ls rest other →
+      at_or_after (from ∷ []) other ≡ true
   pub back : (other : List ℕ) → at_or_after (from ∷ []) other ≡ true → at_or_after rest other ≡ true
 
 -- a place below labels where none is left below them
@@ -166,25 +182,30 @@ pub record IsDone (j : Join) (ls place : List ℕ) : Type 0 where
   pub is : place ≡ ls ++ rest
   pub none : NoneBeyond (MayFollow j) 1 ls rest
 
--- why no more trials are passed over at a place below labels: as in EndsIn, but perhaps none is left only below these
+-- why no more trials are passed over at a place below labels: as in EndsIn, but perhaps none is
+-- left only below these
 abbrev pub EndsBelow : Join → List ℕ → List ℕ → End → List ℕ → List (Option (Value ℕ)) → Type 0
-EndsBelow j path place ends.Whole ls binding = Least (MayFollow j) 1 [] place ls × AreWhole j ls binding
+EndsBelow j path place ends.Whole ls binding =
+    Least (MayFollow j) 1 [] place ls × AreWhole j ls binding
 EndsBelow j path place ends.NoneLeft ls binding = (ls ≡ path) × IsDone j path place
 EndsBelow j path place ends.Enough ls binding = Unit {0}
 
 -- a place just after a part of these labels and one more, which has this binding
-pub record IsAfterPart (j : Join) (path : List ℕ) (x : ℕ) (place : List ℕ) (binding : List (Option (Value ℕ))) : Type 0 where
+pub record IsAfterPart (j : Join) (path : List ℕ) (x : ℕ) (place : List ℕ)
+    (binding : List (Option (Value ℕ))) : Type 0 where
   pub follows : MayFollow j path x
   pub ready : IsReady j (path ++ x ∷ []) binding
   pub place_is : place ≡ (path ++ x ∷ []) ++ 0 ∷ []
 
 -- the same, or else the last one is a part of these labels and one from a label on
 abbrev pub StopsAt : Join → List ℕ → ℕ → Stop → List ℕ → List ℕ → List (Option (Value ℕ)) → Type 0
-StopsAt j path from (stops.Part x) place ls binding = (ls ≡ path) × (from ≤ x) × IsAfterPart j path x place binding
+StopsAt j path from (stops.Part x) place ls binding =
+    (ls ≡ path) × (from ≤ x) × IsAfterPart j path x place binding
 StopsAt j path from (stops.End end) place ls binding = EndsBelow j path place end ls binding
 
 -- what was found is the next trial at a place, and it is whole under this binding
-pub record IsWholeNext (s : Space) (place : List ℕ) (w : CodeWhole) (binding : List (Option (Value ℕ))) : Type 0 where
+pub record IsWholeNext (s : Space) (place : List ℕ) (w : CodeWhole)
+    (binding : List (Option (Value ℕ))) : Type 0 where
   pub trial : Trial
   pub next : IsNext s place (position trial)
   pub is : IsTrialOf s.rules s.plans s.store trial
@@ -195,7 +216,8 @@ pub record IsWholeNext (s : Space) (place : List ℕ) (w : CodeWhole) (binding :
   pub removed_are : w.removed.items ≡ removed_labels trial
   pub past_is : w.past ≡ record { label = s.active; place = past (position trial) }
 
--- what comes at a place once trials were passed over: one that is whole, which is this instance; none; or perhaps more
+-- what comes at a place once trials were passed over: one that is whole, which is this instance;
+-- none; or perhaps more
 abbrev pub IsThen : Space → List ℕ → CodeThen → Instance → List (Option (Value ℕ)) → Type 0
 IsThen s place thens.Whole i binding = IsWholeNext s place i.whole binding
 IsThen s place thens.Done i binding = NoneLeft s place

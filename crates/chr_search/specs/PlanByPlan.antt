@@ -12,7 +12,8 @@ use Rattle.chr_search.specs.Trials.{Join, MayFollow, Space, join_in, IsPlanned, 
 use Rattle.chr_search.specs.Partners.{HasPlan}
 use Rattle.chr_search.specs.Passing.{PassesIn, EndsIn}
 
--- the label at a head, of labels in a plan's order, 0 where there is none; and the labels at the next n heads
+-- the label at a head, of labels in a plan's order, 0 where there is none; and the labels at the
+-- next n heads
 abbrev pub label_at_head : List Step → List ℕ → ℕ → ℕ
 label_at_head order [] h = 0
 label_at_head [] (l ∷ ls) h = 0
@@ -38,25 +39,29 @@ pub record IsJoinAt (s : Space) (r h : ℕ) (j : Join) : Type 0 where
   pub plan : HasPlan j
   pub begins : MayFollow j [] j.active
 
--- where a place stands in the plan of a rule and a head: its labels, none where it is a place of another plan
+-- where a place stands in the plan of a rule and a head: its labels, none where it is a place of
+-- another plan
 abbrev pub labels_in : List ℕ → ℕ → ℕ → List ℕ
 labels_in [] r h = []
 labels_in (x ∷ []) r h = []
 labels_in (x ∷ y ∷ ls) r h = if (x == r) && (y == h) then ls else []
 
--- So many trials of a plan are passed over from a place on, and how that ends. Where there are any, the place moves.
-pub record PassesPlan (j : Join) (r h : ℕ) (place : List ℕ) (n : ℕ) (after : List ℕ) (end : End) (ls : List ℕ) (binding : List (Option (Value ℕ))) : Type 0 where
+-- So many trials of a plan are passed over from a place on, and how that ends. Where there are any,
+-- the place moves.
+pub record PassesPlan (j : Join) (r h : ℕ) (place : List ℕ) (n : ℕ) (after : List ℕ) (end : End)
+    (ls : List ℕ) (binding : List (Option (Value ℕ))) : Type 0 where
   pub labels : List ℕ
   pub passes : PassesIn j n (labels_in place r h) labels
   pub ends : EndsIn j labels end ls binding
   pub stays : n ≡ 0 → after ≡ place
   pub moves : 1 ≤ n → after ≡ r ∷ h ∷ labels
 
--- A search with this place has come to the plan of a rule and a head: it is at its place or a later one, and no admissible
--- trial from the place on lies before it.
+-- A search with this place has come to the plan of a rule and a head: it is at its place or a later
+-- one, and no admissible trial from the place on lies before it.
 pub record HasComeTo (s : Space) (place : List ℕ) (r h : ℕ) : Type 0 where
   pub later : at_or_after (take 2 place) (r ∷ h ∷ []) ≡ true
-  pub none : (t : List ℕ) → IsTrial s t → at_or_after place t ≡ true → at_or_after (r ∷ h ∷ []) t ≡ true
+  pub none : (t : List ℕ) → IsTrial s t → at_or_after place t ≡ true →
+      at_or_after (r ∷ h ∷ []) t ≡ true
 
 -- from one rule and head on, the join of the next plan whose head has the active atom's predicate
 pub record IsNextJoin (s : Space) (r h x y : ℕ) (j : Join) : Type 0 where

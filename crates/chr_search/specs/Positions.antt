@@ -1,7 +1,9 @@
--- Positions in the order of trials: lists of numbers, which are a rule, a head, and labels in plan order.
+-- Positions in the order of trials: lists of numbers, which are a rule, a head, and labels in plan
+-- order.
 use Rattle.std.specs.Prelude.{ℕ, ◌+◌, Bool, false, true, ◌&&◌, ◌||◌, ◌==◌, nat_lt, List, [], ◌∷◌, ◌++◌}
 
--- whether the second is the first or after it: place by place, and a beginning before what it begins
+-- whether the second is the first or after it: place by place, and a beginning before what it
+-- begins
 abbrev pub at_or_after : List ℕ → List ℕ → Bool
 at_or_after [] ys = true
 at_or_after (x ∷ xs) [] = false

@@ -36,17 +36,19 @@ MayHave s l = (l ≡ s.active) ⊎ (l < s.bound)
 
 -- of these labels the other store has none that the space's own hasn't, with the same atom
 abbrev pub HasNoMore : Space → Store → Type 0
-HasNoMore s store = (l : ℕ) (a : Atom ℕ) → MayHave s l → atom_at store l ≡ Some a → atom_at s.store l ≡ Some a
+HasNoMore s store =
+    (l : ℕ) (a : Atom ℕ) → MayHave s l → atom_at store l ≡ Some a → atom_at s.store l ≡ Some a
 
 -- the same space over another store
 abbrev pub over : Space → Store → Space
 over s store = record s { store = store }
 
--- What a search keeps between its steps: no trial of the reach lies before its position, and its candidate, if it has one,
--- is before every other admissible trial at or after the position.
+-- What a search keeps between its steps: no trial of the reach lies before its position, and its
+-- candidate, if it has one, is before every other admissible trial at or after the position.
 pub record Searching (s : Space) (place : List ℕ) (candidate : Option (List ℕ)) : Type 0 where
   pub kept : (t : List ℕ) → Reach s t → at_or_after place t ≡ true
-  pub least : (c t : List ℕ) → candidate ≡ Some c → IsTrial s t → at_or_after place t ≡ true → at_or_after c t ≡ true
+  pub least : (c t : List ℕ) → candidate ≡ Some c → IsTrial s t → at_or_after place t ≡ true →
+      at_or_after c t ≡ true
 
 -- a search: an active label and a position
 pub record SearchState : Type 0 where

@@ -1,4 +1,5 @@
--- Trials of an active label: a rule, a head, and labels for the heads in the plan's order, the active one first.
+-- Trials of an active label: a rule, a head, and labels for the heads in the plan's order, the
+-- active one first.
 use Rattle.std.specs.Prelude.{◌≡◌, ℕ, zero, suc, ◌<◌, ◌≤◌, List, [], ◌∷◌, length, Option, Some, None, slice_get}
 use Rattle.chr_value.specs.Atoms.{Value, Atom}
 use Rattle.chr_rule.specs.Rules.{Term, RuleAtom, Simpagation, head_at, rule_at}
@@ -10,7 +11,8 @@ use Rattle.chr_plan.specs.declared.order.Step.{Step}
 use Rattle.chr_store.specs.Keys.{arg_at}
 use Rattle.chr_search.specs.Tree.{Children, Grows, Least, NoneBeyond}
 
--- where the partners of an active label are looked for: a rule and a plan of it, over a store, below a bound
+-- where the partners of an active label are looked for: a rule and a plan of it, over a store,
+-- below a bound
 pub record Join : Type 0 where
   pub rule : Simpagation ℕ
   pub order : List Step
@@ -46,7 +48,8 @@ given_at v head (suc i) = value_in v (slice_get head.args i)
 -- the atom has at the key's place the value that the head has there
 abbrev pub HasKeyValue : Valuation → RuleAtom ℕ → Option ℕ → Atom ℕ → Type 0
 HasKeyValue v head None atom = Unit {0}
-HasKeyValue v head (Some place) atom = (value : Value ℕ) × (given_at v head place ≡ Some value) × (arg_at atom place ≡ Some value)
+HasKeyValue v head (Some place) atom =
+    (value : Value ℕ) × (given_at v head place ≡ Some value) × (arg_at atom place ≡ Some value)
 
 -- the active label comes first, and each other label lies below the bound
 abbrev pub IsInTurn : Join → List ℕ → ℕ → Type 0
@@ -61,8 +64,8 @@ pub record IsLiveFor (j : Join) (step : Step) (l : ℕ) : Type 0 where
   pub live : atom_at j.store l ≡ Some atom
   pub pred : HasHeadPred head atom
 
--- A label may be tried after these: they are distinct and fit, and its atom has the next head's predicate and, under that
--- fit, the value of the plan's key.
+-- A label may be tried after these: they are distinct and fit, and its atom has the next head's
+-- predicate and, under that fit, the value of the plan's key.
 pub record MayFollow (j : Join) (before : List ℕ) (l : ℕ) : Type 0 where
   pub turn : IsInTurn j before l
   pub distinct : Distinct before
@@ -74,7 +77,8 @@ pub record MayFollow (j : Join) (before : List ℕ) (l : ℕ) : Type 0 where
   pub open here use *
   pub key : HasKeyValue valuation head step.key atom
 
--- what a search looks through: a program and its plans, over a store, for an active label with partners below a bound
+-- what a search looks through: a program and its plans, over a store, for an active label with
+-- partners below a bound
 pub record Space : Type 0 where
   pub rules : List (Simpagation ℕ)
   pub plans : PlanList
@@ -84,10 +88,12 @@ pub record Space : Type 0 where
 
 -- each partner is older than the active label
 abbrev pub older : List (Simpagation ℕ) → PlanList → Store → ℕ → Space
-older rules plans store label = record { rules = rules; plans = plans; store = store; active = label; bound = label }
+older rules plans store label =
+    record { rules = rules; plans = plans; store = store; active = label; bound = label }
 
 abbrev pub join_in : Space → Simpagation ℕ → List Step → Join
-join_in s rule order = record { rule = rule; order = order; store = s.store; active = s.active; bound = s.bound }
+join_in s rule order =
+    record { rule = rule; order = order; store = s.store; active = s.active; bound = s.bound }
 
 -- a rule and the plan of one of its heads
 pub record IsPlanned (s : Space) (r h : ℕ) (rule : Simpagation ℕ) (order : List Step) : Type 0 where
@@ -98,7 +104,9 @@ pub record IsPlanned (s : Space) (r h : ℕ) (rule : Simpagation ℕ) (order : L
 abbrev pub Child : Space → Children
 Child s [] r = (rule : Simpagation ℕ) × (rule_at s.rules r ≡ Some rule)
 Child s (r ∷ []) h = (rule : Simpagation ℕ) × (order : List Step) × IsPlanned s r h rule order
-Child s (r ∷ h ∷ before) l = (rule : Simpagation ℕ) × (order : List Step) × IsPlanned s r h rule order × MayFollow (join_in s rule order) before l
+Child s (r ∷ h ∷ before) l =
+    (rule : Simpagation ℕ) × (order : List Step) × IsPlanned s r h rule order ×
+    MayFollow (join_in s rule order) before l
 
 -- an admissible trial: a rule, a head and at least the active label
 pub record IsTrial (s : Space) (t : List ℕ) : Type 0 where

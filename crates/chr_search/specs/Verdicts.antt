@@ -41,8 +41,8 @@ position t = t.number ∷ t.head ∷ labels t
 abbrev pub stored : Trial → Store
 stored t = map (λ p. (p.label, p.atom)) t.placed
 
--- What holds of every trial: its labels stand at different heads of its rule, one at least, and at each head where there
--- are as many labels as heads.
+-- What holds of every trial: its labels stand at different heads of its rule, one at least, and at
+-- each head where there are as many labels as heads.
 pub record IsFormed (t : Trial) : Type 0 where
   pub scoped : IsRule t.rule
   pub number : 1 ≤ t.number
@@ -50,8 +50,11 @@ pub record IsFormed (t : Trial) : Type 0 where
   pub some : 1 ≤ length t.placed
   pub few : length t.placed ≤ length (heads_of t.rule)
   pub distinct : Distinct (heads t)
-  pub within : AllByRecursion (λ p. (1 ≤ p.head) × (p.head ≤ length (heads_of t.rule)) × (p.label ≤ greatest_label)) t.placed
-  pub full : length t.placed ≡ length (heads_of t.rule) → (h : ℕ) → 1 ≤ h → h ≤ length (heads_of t.rule) → among (heads t) h ≡ true
+  pub within : AllByRecursion
+      (λ p. (1 ≤ p.head) × (p.head ≤ length (heads_of t.rule)) × (p.label ≤ greatest_label))
+      t.placed
+  pub full : length t.placed ≡ length (heads_of t.rule) → (h : ℕ) → 1 ≤ h →
+      h ≤ length (heads_of t.rule) → among (heads t) h ≡ true
 
 -- the label at a head, 0 where there is none; and the labels at the next n heads
 abbrev pub label_at : List Placed → ℕ → ℕ
@@ -80,8 +83,8 @@ pub record IsPart (t : Trial) : Type 0 where
   pub valuation : Valuation
   pub fits : AreAtHeads t.rule (at_heads t) valuation
 
--- Whole: a labelled instance as to its labels and atoms. No head is left, the labels are distinct and fit, the guard holds
--- and the body has values.
+-- Whole: a labelled instance as to its labels and atoms. No head is left, the labels are distinct
+-- and fit, the guard holds and the body has values.
 pub record IsWhole (t : Trial) : Type 0 where
   pub full : length t.placed ≡ length (heads_of t.rule)
   pub distinct : Distinct (labels t)
@@ -97,18 +100,23 @@ pub record IsWholeUnder (t : Trial) (binding : List (Option (Value ℕ))) : Type
   pub whole : IsWhole t
   pub body_is : AreMadeUnder (bound_at binding) (added t.rule.body) whole.body
 
--- the trial has the rule of its number, the heads of a plan of it, and its labels' atoms in the store
-pub record IsTrialOf (rules : List (Simpagation ℕ)) (plans : PlanList) (store : Store) (t : Trial) : Type 0 where
+-- the trial has the rule of its number, the heads of a plan of it, and its labels' atoms in the
+-- store
+pub record IsTrialOf (rules : List (Simpagation ℕ)) (plans : PlanList) (store : Store) (t : Trial)
+    : Type 0 where
   pub rule_is : rule_at rules t.number ≡ Some t.rule
   pub order : List Step
   pub order_is : plan_at plans t.number t.head ≡ Some order
   pub heads_are : heads t ≡ take (length t.placed) (map (λ step. step.head) order)
   pub live : AllByRecursion (λ p. atom_at store p.label ≡ Some p.atom) t.placed
 
--- the same of a trial that was admissible once: each of its labels has its atom in the store or has left it
-pub record WasTrialOf (rules : List (Simpagation ℕ)) (plans : PlanList) (store : Store) (t : Trial) : Type 0 where
+-- the same of a trial that was admissible once: each of its labels has its atom in the store or has
+-- left it
+pub record WasTrialOf (rules : List (Simpagation ℕ)) (plans : PlanList) (store : Store) (t : Trial)
+    : Type 0 where
   pub rule_is : rule_at rules t.number ≡ Some t.rule
   pub order : List Step
   pub order_is : plan_at plans t.number t.head ≡ Some order
   pub heads_are : heads t ≡ take (length t.placed) (map (λ step. step.head) order)
-  pub atoms : AllByRecursion (λ p. (a : Atom ℕ) → atom_at store p.label ≡ Some a → a ≡ p.atom) t.placed
+  pub atoms : AllByRecursion (λ p. (a : Atom ℕ) → atom_at store p.label ≡ Some a → a ≡ p.atom)
+      t.placed

@@ -14,12 +14,13 @@ pub record AreAlike (b n : BookState) : Type 0 where
   pub plans : n.plans ≡ b.plans
   pub store : n.store ≡ b.store
 
--- The last version, if there is one, is of the book when its log had so many entries. Where it has as many still, the book is
--- alike. Where there is no book, there is no version.
+-- The last version, if there is one, is of the book when its log had so many entries. Where it has
+-- as many still, the book is alike. Where there is no book, there is no version.
 abbrev pub IsVersion : Option BookState → ℕ → Option BookState → Type 0
 IsVersion None entries version = version ≡ None
 IsVersion (Some b) entries None = ⊤
-IsVersion (Some b) entries (Some v) = (entries ≤ length b.log) × (entries ≡ length b.log → AreAlike v b)
+IsVersion (Some b) entries (Some v) =
+    (entries ≤ length b.log) × (entries ≡ length b.log → AreAlike v b)
 
 -- the version is of a book like this one
 pub record IsVersionOf (book version : Option BookState) : Type 0 where
@@ -30,12 +31,14 @@ pub record IsVersionOf (book version : Option BookState) : Type 0 where
   pub alike : AreAlike then now
 
 -- it is, and this is the search of a ticket that a seat holds in the book
-pub record IsSearchOf (book : Option BookState) (seat t : ℕ) (version : Option BookState) (search : SearchState) : Type 0 where
+pub record IsSearchOf (book : Option BookState) (seat t : ℕ) (version : Option BookState)
+    (search : SearchState) : Type 0 where
   pub of : IsVersionOf book version
   pub held : IsHeldSearch of.now.tickets seat t search
 
 -- the trials come next one after another in a search over the version
-pub record AreKnownNext (version : Option BookState) (search : SearchState) (ts : List Trial) : Type 0 where
+pub record AreKnownNext (version : Option BookState) (search : SearchState) (ts : List Trial) : Type
+    0 where
   pub book : BookState
   pub is : version ≡ Some book
   pub next : AreNextInOrder (space_of book search.label) search.place ts

@@ -10,6 +10,7 @@ use Rattle.chr_shared_desk.specs.SharedReplies.{SharedReplies}
 abbrev pub DeskState : Type 0
 DeskState = SeatState × (SegId Global × ℕ)
 
--- from a state of a desk on a shared book a command may have this reply, and leave this state: the inlet stays
+-- from a state of a desk on a shared book a command may have this reply, and leave this state: the
+-- inlet stays
 abbrev pub SharedStep : DeskState → Command → Reply → DeskState → Type 0
 SharedStep old command reply new = SharedReplies old.0 command reply new.0 × (new.1 ≡ old.1)

@@ -25,13 +25,17 @@ pub record Skipped (found : Bool) (after : List ℕ → Type 0) (input : List �
 
 -- how the next line of the input ends, what of it was kept, and what is still to come
 abbrev pub LineIs : LineEnd → List ℕ → (List ℕ → Type 0) → List ℕ → Type 0
-LineIs Whole line after input = (has_line input ≡ true) × (line ≡ line_of input) × (length line ≤ 4097) × after (after_line input)
-LineIs TooLong line after input = (has_line input ≡ true) × (4097 < length (line_of input)) × after (after_line input)
+LineIs Whole line after input =
+    (has_line input ≡ true) × (line ≡ line_of input) × (length line ≤ 4097) ×
+    after (after_line input)
+LineIs TooLong line after input =
+    (has_line input ≡ true) × (4097 < length (line_of input)) × after (after_line input)
 LineIs Cut line after input = (has_line input ≡ false) × (input ≢ [])
 LineIs End line after input = input ≡ []
 
 -- whether the input has so many bytes; then what follows them is still to come
-pub record Counted (found : Bool) (count : ℕ) (after : List ℕ → Type 0) (input : List ℕ) : Type 0 where
+pub record Counted (found : Bool) (count : ℕ) (after : List ℕ → Type 0) (input : List ℕ) : Type
+    0 where
   pub enough : found ≡ true → count ≤ length input
   pub few : found ≡ false → length input < count
   pub rest : found ≡ true → after (drop count input)

@@ -7,7 +7,8 @@ use Rattle.chr_session.specs.declared.parsing.ParsedLine.TheVariants.{Blank, Loa
 
 -- a line without the CR directly before its LF
 abbrev pub without_cr : List ℕ → List ℕ
-without_cr line = if slice_index line (length line - 1) == 13 then take (length line - 1) line else line
+without_cr line =
+    if slice_index line (length line - 1) == 13 then take (length line - 1) line else line
 
 -- a blank or a tab
 abbrev pub is_blank : ℕ → Bool
@@ -42,7 +43,9 @@ greatest_number = 4294967295
 
 -- whether a text is a number: 1 to 10 digits, whose value is no greater than that
 abbrev pub is_number : List ℕ → Bool
-is_number text = nat_lt 0 (length text) && nat_le (length text) 10 && all_ascii_digits text && nat_le (digits_value 10 text) greatest_number
+is_number text =
+    nat_lt 0 (length text) && nat_le (length text) 10 && all_ascii_digits text &&
+    nat_le (digits_value 10 text) greatest_number
 
 abbrev pub number_of : List ℕ → Option ℕ
 number_of text = if is_number text then Some (digits_value 10 text) else None

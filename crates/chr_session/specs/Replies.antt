@@ -44,7 +44,8 @@ place_of other = []
 -- the first line of a reply
 abbrev pub head_of : Reply → List ℕ
 head_of (Loaded rules) = codes "loaded " ++ decimal rules ++ codes "\n"
-head_of (Posted first count) = codes "posted " ++ decimal first ++ codes " " ++ decimal count ++ codes "\n"
+head_of (Posted first count) =
+    codes "posted " ++ decimal first ++ codes " " ++ decimal count ++ codes "\n"
 head_of Quiet = codes "quiet\n"
 head_of Open = codes "open\n"
 head_of (Stored count lines) = codes "store " ++ decimal count ++ codes "\n"

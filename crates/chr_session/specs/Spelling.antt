@@ -25,8 +25,10 @@ too_long = faults.Reading (record { kind = TooLong; line = 0 })
 -- a load of so many bytes, and what follows them; where they are too many they are passed over
 abbrev pub load_spells : ℕ → List ℕ → Received × List ℕ
 load_spells count rest =
-    if nat_lt (length rest) count then (Ending ended.Cut, []) else
-    (Spelling (if nat_lt 65536 count then Faulty too_long else Right (Load (take count rest))), drop count rest)
+    if nat_lt (length rest) count then (Ending ended.Cut, []) else (
+      Spelling (if nat_lt 65536 count then Faulty too_long else Right (Load (take count rest))),
+      drop count rest,
+    )
 
 -- a line as it is parsed, with the text after its word, and what follows the line
 abbrev pub parsed_spells : ParsedLine → List ℕ → List ℕ → Received × List ℕ
@@ -43,7 +45,8 @@ parsed_spells lines.Unknown text rest = (Spelling (Faulty faults.UnknownCommand)
 unfoldable pub line_spells : List ℕ → List ℕ → Received × List ℕ
 line_spells line rest =
     if nat_lt 4096 (length (without_cr line)) then (Spelling (Faulty faults.LineTooLong), rest) else
-    parsed_spells (parsed_of (word_of (trimmed line)) (rest_of (trimmed line))) (rest_of (trimmed line)) rest
+    parsed_spells (parsed_of (word_of (trimmed line)) (rest_of (trimmed line)))
+    (rest_of (trimmed line)) rest
 
 -- how input without a whole line ends: inside a line where there are bytes left
 abbrev pub end_of : List ℕ → Ended
@@ -59,7 +62,8 @@ next input =
 -- the input spells these first, one after another, and then comes the rest
 abbrev pub Reads : List ℕ → List Spelled → List ℕ → Type 0
 Reads input [] rest = rest ≡ input
-Reads input (spelled ∷ more) rest = (tail : List ℕ) × (next input ≡ (Spelling spelled, tail)) × Reads tail more rest
+Reads input (spelled ∷ more) rest =
+    (tail : List ℕ) × (next input ≡ (Spelling spelled, tail)) × Reads tail more rest
 
 -- the input spells these and no others, and then ends so
 pub record Spells (input : List ℕ) (spelled : List Spelled) (how : Ended) : Type 0 where
@@ -84,7 +88,8 @@ goes_on (Spelling spelled) = true
 goes_on (Ending how) = false
 
 -- this is what the input spells first, and what follows is still to come
-pub record SpellsFirst (spells : List ℕ → Received × List ℕ) (received : Received) (after : List ℕ → Type 0) (input : List ℕ) : Type 0 where
+pub record SpellsFirst (spells : List ℕ → Received × List ℕ) (received : Received)
+    (after : List ℕ → Type 0) (input : List ℕ) : Type 0 where
   pub rest : List ℕ
   pub is : spells input ≡ (received, rest)
   pub told : goes_on received ≡ true → after rest

@@ -1,5 +1,5 @@
--- What a desk over a shared book replies, and its seat before and after. What the book was at that moment is not known but
--- by the reply: others work on it.
+-- What a desk over a shared book replies, and its seat before and after. What the book was at that
+-- moment is not known but by the reply: others work on it.
 use Rattle.std.specs.Prelude.{◌≡◌, ◌+◌, ◌-◌, ℕ, List, [], true, false, map, length, drop, Option, Some, None, Result, Ok, Err}
 use Rattle.chr_value.specs.declared.label.TheConstants.{GREATEST_LABEL}
 use Rattle.chr_lex.specs.declared.fault.ReadError.{ReadError}
@@ -19,13 +19,15 @@ use Rattle.chr_session.specs.declared.desk.Fault.{Fault as FaultKind}
 use Rattle.chr_session.specs.declared.desk.Fault.TheVariants as faults
 use Rattle.chr_session.specs.Commands.{Command, Load, Post, Wait, Store, Log, Reply, Loaded, Posted, Quiet, Open, Stored, Logged, Refused}
 
--- a hold made no call: the seat's counts were not what it has made, or no book was there, and the seat has made nothing
+-- a hold made no call: the seat's counts were not what it has made, or no book was there, and the
+-- seat has made nothing
 abbrev pub WasRefused : SeatState → FaultKind → Type 0
 WasRefused seat faults.WrongSeat = (book : Option BookState) × MakesNoCall book seat WrongSeat
 WasRefused seat faults.NoProgram = (book : Option BookState) × MakesNoCall book seat NoBook
 WasRefused seat other = ⊥
 
--- a book of the rules of a text, which are so many, was opened; that it is under the lock from then on no clause says
+-- a book of the rules of a text, which are so many, was opened; that it is under the lock from then
+-- on no clause says
 pub record IsLoaded (text : List ℕ) (count : ℕ) : Type 0 where
   pub book : BookState
   pub opens : IsOpenText text GREATEST_LABEL book
@@ -45,13 +47,17 @@ LoadReplies seat text (Refused faults.WrongSeat) = WasRefused seat faults.WrongS
 LoadReplies seat text reply = BringReplies text reply
 
 -- there was a hold in which the seat had this answer to its post of a text
-abbrev pub WasPost : SeatState → List ℕ → Result (Result PostedTickets ReadError) HoldFault → SeatState → Type 0
-WasPost old text result new = WasHold (λ b answer n. PostsText b old.number text answer n) old result new
+abbrev pub WasPost : SeatState → List ℕ → Result (Result PostedTickets ReadError) HoldFault →
+    SeatState → Type 0
+WasPost old text result new =
+    WasHold (λ b answer n. PostsText b old.number text answer n) old result new
 
 -- a text is posted, or it has a fault, or memory ran out, or no call was made
 abbrev pub PostReplies : SeatState → List ℕ → Reply → SeatState → Type 0
-PostReplies old text (Posted first count) new = WasPost old text (Ok (Ok (record { first = first; count = count }))) new
-PostReplies old text (Refused (faults.Reading fault)) new = WasPost old text (Ok (Err (errors.Fault fault))) new
+PostReplies old text (Posted first count) new =
+    WasPost old text (Ok (Ok (record { first = first; count = count }))) new
+PostReplies old text (Refused (faults.Reading fault)) new =
+    WasPost old text (Ok (Err (errors.Fault fault))) new
 PostReplies old text (Refused faults.NoMemory) new = WasPost old text (Ok (Err errors.Memory)) new
 PostReplies old text (Refused fault) new = WasRefused old fault
 PostReplies old text other new = ⊥
@@ -70,7 +76,8 @@ pub record AreStoreLines (b : BookState) (count : ℕ) (lines : List ℕ) : Type
 
 -- the store of the book at some moment
 abbrev pub StoreReplies : SeatState → Reply → Type 0
-StoreReplies seat (Stored count lines) = (book : Option BookState) × Reads (λ b. AreStoreLines b count lines) book seat
+StoreReplies seat (Stored count lines) =
+    (book : Option BookState) × Reads (λ b. AreStoreLines b count lines) book seat
 StoreReplies seat (Refused faults.NoMemory) = Unit {0}
 StoreReplies seat (Refused fault) = WasRefused seat fault
 StoreReplies seat other = ⊥
@@ -82,7 +89,8 @@ pub record AreLogLines (b : BookState) (from count : ℕ) (lines : List ℕ) : T
 
 -- the log of the book at some moment
 abbrev pub LogReplies : SeatState → ℕ → Reply → Type 0
-LogReplies seat from (Logged count lines) = (book : Option BookState) × Reads (λ b. AreLogLines b from count lines) book seat
+LogReplies seat from (Logged count lines) =
+    (book : Option BookState) × Reads (λ b. AreLogLines b from count lines) book seat
 LogReplies seat from (Refused faults.NoMemory) = Unit {0}
 LogReplies seat from (Refused fault) = WasRefused seat fault
 LogReplies seat from other = ⊥
@@ -99,8 +107,10 @@ abbrev pub posted_by : Reply → ℕ
 posted_by (Posted first count) = count
 posted_by other = 0
 
--- A command to a desk. The seat's posts rise by what the reply says is posted, and nothing else of the seat changes.
-pub record SharedReplies (old : SeatState) (command : Command) (reply : Reply) (new : SeatState) : Type 0 where
+-- A command to a desk. The seat's posts rise by what the reply says is posted, and nothing else of
+-- the seat changes.
+pub record SharedReplies (old : SeatState) (command : Command) (reply : Reply) (new : SeatState)
+    : Type 0 where
   pub answers : Answers old command reply new
   pub number : new.number ≡ old.number
   pub posts : new.counts.posts ≡ old.counts.posts + posted_by reply

@@ -20,7 +20,8 @@ pub record IsAloneOf (s : Space) (rules : List (Simpagation ℕ)) (t : Trial) : 
   pub plans : ArePlans s.rules s.plans
   pub alone : IsAloneIn s.store s.active t
 
--- where the search goes on after the trials of a label alone, of which this rule and head are those of the last
+-- where the search goes on after the trials of a label alone, of which this rule and head are those
+-- of the last
 abbrev pub place_past : List ℕ → ℕ → Option (ℕ × ℕ) → List ℕ
 place_past place label None = place
 place_past place label (Some o) = past (o.0 ∷ o.1 ∷ label ∷ [])

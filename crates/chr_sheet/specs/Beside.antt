@@ -1,4 +1,5 @@
--- The trials beside another: those that come next after it and differ from it in their last label alone.
+-- The trials beside another: those that come next after it and differ from it in their last label
+-- alone.
 use Rattle.std.specs.Prelude.{⊤, ◌≡◌, ℕ, ◌+◌, ◌≤◌, true, List, [], ◌∷◌, ◌++◌, length}
 use Rattle.chr_plan.specs.Orders.{heads_of}
 use Rattle.chr_search.specs.declared.front.Front.{Front as CodeFront}
@@ -9,28 +10,38 @@ use Rattle.chr_search.specs.Verdicts.{Placed, Trial, labels, position}
 use Rattle.chr_search.specs.Fronts.{MayEnd, IsFront, IsPlacedAfter}
 use Rattle.chr_sheet.specs.Sheets.{IsNextTrial}
 
--- a front of a rule, a head and labels, and the least label from one on with which an admissible trial ends that begins with these
-pub record HasEnd {Z : Type 0} (s : Space) (r h : ℕ) (ls : List ℕ) (from : ℕ) (f : CodeFront Z) (end : ℕ) : Type 0 where
+-- a front of a rule, a head and labels, and the least label from one on with which an admissible
+-- trial ends that begins with these
+pub record HasEnd {Z : Type 0} (s : Space) (r h : ℕ) (ls : List ℕ) (from : ℕ) (f : CodeFront Z)
+    (end : ℕ) : Type 0 where
   pub front : IsFront s r h ls f
   pub least : LeastFrom (MayEnd s (r ∷ h ∷ ls)) from end
 
--- A trial has all heads, two at least; a front has all its labels but the last; and this is the least label past that one with
--- which another ends.
-pub record HasBeside {Z : Type 0} (s : Space) (t : Trial) (f : CodeFront Z) (second : ℕ) : Type 0 where
+-- A trial has all heads, two at least; a front has all its labels but the last; and this is the
+-- least label past that one with which another ends.
+pub record HasBeside {Z : Type 0} (s : Space) (t : Trial) (f : CodeFront Z) (second : ℕ) : Type
+    0 where
   pub full : length t.placed ≡ length (heads_of t.rule)
   pub before : List ℕ
   pub last : ℕ
   pub labels_are : labels t ≡ before ++ last ∷ []
   pub end : HasEnd s t.number t.head before (last + 1) f second
 
--- There is none: where it has all heads, two at least, no other ends past its last label that has all its labels but that one.
+-- There is none: where it has all heads, two at least, no other ends past its last label that has
+-- all its labels but that one.
 abbrev pub HasNoneBeside : Space → Trial → Type 0
-HasNoneBeside s t = length t.placed ≡ length (heads_of t.rule) → (before : List ℕ) (last : ℕ) → labels t ≡ before ++ last ∷ [] → 1 ≤ length before → NoneFrom (MayEnd s (t.number ∷ t.head ∷ before)) (last + 1)
+HasNoneBeside s t =
+    length t.placed ≡ length (heads_of t.rule) → (before : List ℕ) (last : ℕ) →
+    labels t ≡ before ++ last ∷ [] → 1 ≤ length before →
+    NoneFrom (MayEnd s (t.number ∷ t.head ∷ before)) (last + 1)
 
--- labels with which admissible trials end: the first is the least one from a number on, and each other the least past the one before
+-- labels with which admissible trials end: the first is the least one from a number on, and each
+-- other the least past the one before
 abbrev pub AreEnds : Space → ℕ → ℕ → List ℕ → ℕ → List Placed → Type 0
 AreEnds s r h ls from [] = ⊤
-AreEnds s r h ls from (p ∷ ps) = LeastFrom (MayEnd s (r ∷ h ∷ ls)) from p.label × IsPlacedAfter s r h (length ls) p × AreEnds s r h ls (p.label + 1) ps
+AreEnds s r h ls from (p ∷ ps) =
+    LeastFrom (MayEnd s (r ∷ h ∷ ls)) from p.label × IsPlacedAfter s r h (length ls) p ×
+    AreEnds s r h ls (p.label + 1) ps
 
 -- from where the label after these is looked for
 abbrev pub next_from : ℕ → List Placed → ℕ
@@ -44,17 +55,20 @@ ComeNext s t (u ∷ us) = IsNextTrial s (just_after (position t)) u × ComeNext 
 
 -- a trial and those that come next after it, at most so many in all
 abbrev pub AreInTurn : Space → ℕ → Trial → List Trial → Type 0
-AreInTurn s most t ts = (more : List Trial) × (ts ≡ t ∷ more) × (length ts ≤ most) × ComeNext s t more
+AreInTurn s most t ts =
+    (more : List Trial) × (ts ≡ t ∷ more) × (length ts ≤ most) × ComeNext s t more
 
 -- the last of a trial and more
 abbrev pub last_of : Trial → List Trial → Trial
 last_of t [] = t
 last_of t (u ∷ us) = last_of u us
 
--- The admissible trials after one are those of later heads and rules: none is left at its head, and none at that of the last of
--- these.
+-- The admissible trials after one are those of later heads and rules: none is left at its head, and
+-- none at that of the last of these.
 abbrev pub IsLastAtHead : Space → Trial → Type 0
-IsLastAtHead s t = (u : List ℕ) → IsTrial s u → at_or_after (just_after (position t)) u ≡ true → at_or_after (t.number ∷ (t.head + 1) ∷ []) u ≡ true
+IsLastAtHead s t =
+    (u : List ℕ) → IsTrial s u → at_or_after (just_after (position t)) u ≡ true →
+    at_or_after (t.number ∷ (t.head + 1) ∷ []) u ≡ true
 
 abbrev pub EndHead : Space → List Trial → Type 0
 EndHead s [] = ⊤

@@ -21,7 +21,8 @@ rule_or_none None = of_parts 0 [] [] [] []
 
 -- a head of a rule of a number among these
 abbrev pub head_in : List (Simpagation ℕ) → CodeOneHead → Head
-head_in rules h = record { rule = rule_or_none (rule_at rules h.number); number = h.number; head = h.head }
+head_in rules h =
+    record { rule = rule_or_none (rule_at rules h.number); number = h.number; head = h.head }
 
 -- a trial, and heads of other rules
 pub record Column : Type 0 where
@@ -30,7 +31,13 @@ pub record Column : Type 0 where
 
 -- a trial's label at another head
 abbrev pub at_head : Trial → Head → Trial
-at_head t h = record { rule = h.rule; number = h.number; head = h.head; placed = map (λ (p : Placed). record p { head = h.head }) t.placed }
+at_head t h =
+    record {
+      rule = h.rule;
+      number = h.number;
+      head = h.head;
+      placed = map (λ (p : Placed). record p { head = h.head }) t.placed;
+    }
 
 -- its trials: the first one, and its label at each of the heads
 abbrev pub column_trials : Column → List Trial
@@ -42,8 +49,10 @@ pub record IsColumn (c : Column) : Type 0 where
   pub full : AllByRecursion (λ t. length (heads_of t.rule) ≡ 1) (column_trials c)
   pub formed : AllByRecursion IsFormed (column_trials c)
 
--- heads of rules of one head: the first is the next one with a predicate past a rule and a head, and each other the next past the
--- one before
+-- heads of rules of one head: the first is the next one with a predicate past a rule and a head,
+-- and each other the next past the one before
 abbrev pub AreNextHeads : List (Simpagation ℕ) → Pred → ℕ → ℕ → List Head → Type 0
 AreNextHeads rules p r h [] = ⊤
-AreNextHeads rules p r h (o ∷ os) = IsNextOccurrence rules p r (h + 1) (o.number, o.head) × (rule_at rules o.number ≡ Some o.rule) × (length (heads_of o.rule) ≡ 1) × AreNextHeads rules p o.number o.head os
+AreNextHeads rules p r h (o ∷ os) =
+    IsNextOccurrence rules p r (h + 1) (o.number, o.head) × (rule_at rules o.number ≡ Some o.rule) ×
+    (length (heads_of o.rule) ≡ 1) × AreNextHeads rules p o.number o.head os

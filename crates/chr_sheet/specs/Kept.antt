@@ -18,8 +18,8 @@ abbrev pub trials_in : {Z : Type 0} → List (CodeTrials Z) → List Trial
 trials_in [] = []
 trials_in (x ∷ xs) = trials_at x ++ trials_in xs
 
--- the judgements of those in one place where none is whole: one alone is a part, a branch is a part and then misfits, and the
--- others are misfits
+-- the judgements of those in one place where none is whole: one alone is a part, a branch is a part
+-- and then misfits, and the others are misfits
 abbrev pub judged_at : {Z : Type 0} → CodeTrials Z → List Judgement
 judged_at (some.One t) = judged_part t ∷ []
 judged_at (some.Row r) = map misfit (trials_of r)
@@ -28,4 +28,5 @@ judged_at (some.Column c) = map misfit (column_trials c)
 
 -- what is kept before one of the trials is judged as all are up to that one
 abbrev pub IsKeptBefore : {Z : Type 0} → CodeTrials Z → ℕ → Option (CodeTrials Z) → Trial → Type 0
-IsKeptBefore all n before t = (kept_before judged_at before ≡ take n (judged_at all)) × (slice_get (trials_at all) n ≡ Some t)
+IsKeptBefore all n before t =
+    (kept_before judged_at before ≡ take n (judged_at all)) × (slice_get (trials_at all) n ≡ Some t)

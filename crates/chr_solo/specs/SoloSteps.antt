@@ -29,14 +29,17 @@ pub record IsLoaded (limit : ℕ) (text : List ℕ) (count : ℕ) (new : Option 
 -- a text is loaded, or it has a fault, or memory ran out: then there is no program as before
 abbrev pub LoadsText : ℕ → List ℕ → Reply → Option BookState → Type 0
 LoadsText limit text (Loaded count) new = IsLoaded limit text count new
-LoadsText limit text (Refused (faults.Reading fault)) new = (program_of [] text ≡ Err fault) × (new ≡ None)
+LoadsText limit text (Refused (faults.Reading fault)) new =
+    (program_of [] text ≡ Err fault) × (new ≡ None)
 LoadsText limit text (Refused faults.NoMemory) new = new ≡ None
 LoadsText limit text other new = ⊥
 
 -- a text is posted, or it has a fault, or memory ran out: then the book is as before
 abbrev pub PostReplies : BookState → List ℕ → Reply → BookState → Type 0
-PostReplies b text (Posted first count) n = PostsText b seat text (Ok (record { first = first; count = count })) n
-PostReplies b text (Refused (faults.Reading fault)) n = PostsText b seat text (Err (errors.Fault fault)) n
+PostReplies b text (Posted first count) n =
+    PostsText b seat text (Ok (record { first = first; count = count })) n
+PostReplies b text (Refused (faults.Reading fault)) n =
+    PostsText b seat text (Err (errors.Fault fault)) n
 PostReplies b text (Refused faults.NoMemory) n = PostsText b seat text (Err errors.Memory) n
 PostReplies b text other n = ⊥
 
@@ -46,17 +49,20 @@ pub record Waited (most : ℕ) (b n : BookState) : Type 0 where
   pub solo : IsSolo seat most b calls n
   pub headline : Headline n (posted_by (events n))
 
--- A solo run ends quiet, exactly where no ticket is open, and then no rule applies to the store; or it ends open. Where memory
--- ran out the book is that of the calls made, and has the headline.
+-- A solo run ends quiet, exactly where no ticket is open, and then no rule applies to the store; or
+-- it ends open. Where memory ran out the book is that of the calls made, and has the headline.
 abbrev pub WaitReplies : BookState → ℕ → Reply → BookState → Type 0
-WaitReplies b most Quiet n = Waited most b n × AreQuiet n.tickets × Final (Instances n.rules) n.store
+WaitReplies b most Quiet n =
+    Waited most b n × AreQuiet n.tickets × Final (Instances n.rules) n.store
 WaitReplies b most Open n = Waited most b n × (AreQuiet n.tickets → ⊥)
-WaitReplies b most (Refused faults.NoMemory) n = IsCutShort seat most b n × Headline n (posted_by (events n))
+WaitReplies b most (Refused faults.NoMemory) n =
+    IsCutShort seat most b n × Headline n (posted_by (events n))
 WaitReplies b most other n = ⊥
 
 -- how many constraints the store has, and a line for each; the book is as before
 abbrev pub StoreReplies : BookState → Reply → BookState → Type 0
-StoreReplies b (Stored count lines) n = (count ≡ length b.store) × (lines ≡ store_lines b.names b.store) × (n ≡ b)
+StoreReplies b (Stored count lines) n =
+    (count ≡ length b.store) × (lines ≡ store_lines b.names b.store) × (n ≡ b)
 StoreReplies b (Refused faults.NoMemory) n = n ≡ b
 StoreReplies b other n = ⊥
 
@@ -66,7 +72,9 @@ events_from b from = drop (from - 1) (events b)
 
 -- how many entries there are from one on, and a line for each; the book is as before
 abbrev pub LogReplies : BookState → ℕ → Reply → BookState → Type 0
-LogReplies b from (Logged count lines) n = (count ≡ length (events_from b from)) × (lines ≡ entries_text (map (event_by_texts b.names) (events_from b from))) × (n ≡ b)
+LogReplies b from (Logged count lines) n =
+    (count ≡ length (events_from b from)) ×
+    (lines ≡ entries_text (map (event_by_texts b.names) (events_from b from))) × (n ≡ b)
 LogReplies b from (Refused faults.NoMemory) n = n ≡ b
 LogReplies b from other n = ⊥
 
@@ -86,4 +94,5 @@ EmptyReplies limit command reply new = (reply ≡ Refused faults.NoProgram) × (
 -- a command to a desk whose books give no label above the limit
 abbrev pub SoloReplies : ℕ → Option BookState → Command → Reply → Option BookState → Type 0
 SoloReplies limit None command reply new = EmptyReplies limit command reply new
-SoloReplies limit (Some b) command reply new = (n : BookState) × BookReplies b command reply n × (new ≡ Some n)
+SoloReplies limit (Some b) command reply new =
+    (n : BookState) × BookReplies b command reply n × (new ≡ Some n)

@@ -31,7 +31,8 @@ IsIn n (m ∷ ms) = (m ≡ n) ⊎ IsIn n ms
 -- the least number over one and under another, or none where there is none
 abbrev pub IsLeastBetween : List ℕ → ℕ → ℕ → Option ℕ → Type 0
 IsLeastBetween ms after below found =
-    MatchOption found ((n : ℕ) → IsIn n ms → after < n → n < below → ⊥) (λ l. IsIn l ms × (after < l) × (l < below) × ((n : ℕ) → IsIn n ms → after < n → l ≤ n))
+    MatchOption found ((n : ℕ) → IsIn n ms → after < n → n < below → ⊥)
+    (λ l. IsIn l ms × (after < l) × (l < below) × ((n : ℕ) → IsIn n ms → after < n → l ≤ n))
 
 -- the labels of the slots rise
 abbrev pub SlotsRise : List Slot → Type 0
@@ -55,7 +56,8 @@ jump_at (s ∷ ss) (suc i) = jump_at ss i
 -- from each slot on, as many as its jump says are dead
 abbrev pub JumpsAreDead : List Slot → Type 0
 JumpsAreDead [] = Unit {0}
-JumpsAreDead (s ∷ ss) = (s.jump ≤ length (s ∷ ss)) × (live_labels (take s.jump (s ∷ ss)) ≡ []) × JumpsAreDead ss
+JumpsAreDead (s ∷ ss) =
+    (s.jump ≤ length (s ∷ ss)) × (live_labels (take s.jump (s ∷ ss)) ≡ []) × JumpsAreDead ss
 
 -- the same labels, live or dead as before
 abbrev pub AreAlike : List Slot → List Slot → Type 0

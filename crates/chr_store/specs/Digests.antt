@@ -7,8 +7,8 @@ use Rattle.chr_value.specs.Atoms.{Value, Int, Sym, Comp, Args, Nil, Cons, args_c
 abbrev pub mixed : ℕ → ℕ → ℕ
 mixed d word = ((d * 11400714819323198485) % 2 ^ 64 + word) % 2 ^ 64
 
--- a digest with a value more, in the order of its text: a functor goes in with how many arguments it
--- has, and a symbol as a functor without any
+-- a digest with a value more, in the order of its text: a functor goes in with how many arguments
+-- it has, and a symbol as a functor without any
 abbrev mutual
   pub digest_after : ℕ → Value ℕ → ℕ
   digest_after d (Int z) = mixed d (cast_unsigned w64 z)

@@ -22,7 +22,8 @@ is_pred p q = nat_eq p.name.number q.name.number && nat_eq p.arity q.arity
 abbrev pub pred_of : Key → Pred
 pred_of k = record { name = k.name; arity = k.arity }
 
--- the place of the predicate is one of these; the place 0, which is the predicate alone, always counts as one
+-- the place of the predicate is one of these; the place 0, which is the predicate alone, always
+-- counts as one
 abbrev pub chosen : Places → Pred → ℕ → Bool
 chosen places pred zero = true
 chosen places pred (suc i) = list_any (λ p. is_pred p.0 pred && nat_eq p.1 (suc i)) places
@@ -69,7 +70,8 @@ same_value (keyed.Digest c) (keyed.Digest d) = nat_eq c d
 
 -- whether two keys are equal
 abbrev pub same_key : Key → Key → Bool
-same_key k l = (is_pred (pred_of k) (pred_of l) && nat_eq k.place l.place) && same_value k.value l.value
+same_key k l =
+    (is_pred (pred_of k) (pred_of l) && nat_eq k.place l.place) && same_value k.value l.value
 
 -- the key is that of a predicate alone
 abbrev pub is_own : Key → Bool

@@ -18,7 +18,8 @@ abbrev pub row_at : List (List ℕ) → ℕ → List ℕ
 row_at rows i = slice_index_or rows i []
 
 -- the labels under a key: in a table where it has a row, and else in a map
-abbrev pub found_in : {S : Type 0} → List (List ℕ) → HashMap Key (List ℕ) S → Key → Option ℕ → List ℕ
+abbrev pub found_in : {S : Type 0} → List (List ℕ) → HashMap Key (List ℕ) S → Key → Option ℕ →
+    List ℕ
 found_in rows m k None = mapped m k
 found_in rows m k (Some row) = row_at rows row
 
@@ -37,8 +38,11 @@ abbrev pub reached : Places → Atom ℕ → ℕ → Key → Bool
 reached places a n k = (chosen places (pred_of k) k.place && fits k a) && nat_lt k.place n
 
 -- the labels are as before, but for a change of those under the keys that were reached
-abbrev pub IsChanged : {A : Type 0} → (List ℕ → List ℕ) → Places → Atom ℕ → ℕ → Buckets A → Buckets A → Type 0
-IsChanged f places a n old new = (k : Key) → labels_in new k ≡ (if reached places a n k then f (labels_in old k) else labels_in old k)
+abbrev pub IsChanged : {A : Type 0} → (List ℕ → List ℕ) → Places → Atom ℕ → ℕ → Buckets A →
+    Buckets A → Type 0
+IsChanged f places a n old new =
+    (k : Key) →
+    labels_in new k ≡ (if reached places a n k then f (labels_in old k) else labels_in old k)
 
 -- the labels of the atoms that have a key
 abbrev pub labels_of : Key → Store → List ℕ
@@ -47,4 +51,5 @@ labels_of k (e ∷ es) = if fits k e.1 then e.0 ∷ labels_of k es else labels_o
 
 -- under each key of a chosen place are exactly the labels of its atoms, once each and rising
 abbrev pub IsIndexOf : {A : Type 0} → Places → Store → Buckets A → Type 0
-IsIndexOf places es b = (k : Key) → labels_in b k ≡ (if chosen places (pred_of k) k.place then labels_of k es else [])
+IsIndexOf places es b =
+    (k : Key) → labels_in b k ≡ (if chosen places (pred_of k) k.place then labels_of k es else [])

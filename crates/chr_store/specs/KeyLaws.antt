@@ -15,20 +15,24 @@ same_value_refl (keyed.Sym s) = eq-eqb s.number s.number refl
 same_value_refl (keyed.Digest d) = eq-eqb d d refl
 
 pub same_value_true : (v w : KeyValue) → same_value v w ≡ true → v ≡ w
-same_value_true (keyed.Int y) (keyed.Int z) h = let e : y ≡ z = (signed_Decides y z).0 h in ap (λ (x : ℤ). keyed.Int x) e
+same_value_true (keyed.Int y) (keyed.Int z) h = let e : y ≡ z =
+    (signed_Decides y z).0 h in ap (λ (x : ℤ). keyed.Int x) e
 same_value_true (keyed.Int y) (keyed.Sym s) h = cc
 same_value_true (keyed.Int y) (keyed.Digest d) h = cc
 same_value_true (keyed.Sym r) (keyed.Int z) h = cc
-same_value_true (keyed.Sym r) (keyed.Sym s) h = ap (λ (n : ℕ). keyed.Sym (record { number = n })) (eqb-true r.number s.number h)
+same_value_true (keyed.Sym r) (keyed.Sym s) h =
+    ap (λ (n : ℕ). keyed.Sym (record { number = n })) (eqb-true r.number s.number h)
 same_value_true (keyed.Sym r) (keyed.Digest d) h = cc
 same_value_true (keyed.Digest c) (keyed.Int z) h = cc
 same_value_true (keyed.Digest c) (keyed.Sym s) h = cc
-same_value_true (keyed.Digest c) (keyed.Digest d) h = ap (λ (n : ℕ). keyed.Digest n) (eqb-true c d h)
+same_value_true (keyed.Digest c) (keyed.Digest d) h =
+    ap (λ (n : ℕ). keyed.Digest n) (eqb-true c d h)
 
 abbrev key_from : ℕ → ℕ → ℕ → KeyValue → Key
 key_from n m p v = record { name = record { number = n }; arity = m; place = p; value = v }
 
-pub same_parts : (k l : Key) → k.name.number ≡ l.name.number → k.arity ≡ l.arity → k.place ≡ l.place → k.value ≡ l.value → k ≡ l
+pub same_parts : (k l : Key) → k.name.number ≡ l.name.number → k.arity ≡ l.arity →
+    k.place ≡ l.place → k.value ≡ l.value → k ≡ l
 same_parts k l name arity place value =
     ap (λ (z : ℕ). key_from z k.arity k.place k.value) name ∙
     ap (λ (z : ℕ). key_from l.name.number z k.place k.value) arity ∙
@@ -40,23 +44,34 @@ same_key_true k l h =
     let p = and_parts _ _ h in
     let q = and_parts _ _ p.0 in
     let r = and_parts _ _ q.0 in
-    same_parts k l (eqb-true _ _ r.0) (eqb-true _ _ r.1) (eqb-true _ _ q.1) (same_value_true _ _ p.1)
+    same_parts k l (eqb-true _ _ r.0) (eqb-true _ _ r.1) (eqb-true _ _ q.1)
+    (same_value_true _ _ p.1)
 
 pub same_key_refl : (k : Key) → same_key k k ≡ true
-same_key_refl k = rw (eq-eqb k.name.number k.name.number refl, eq-eqb k.arity k.arity refl, eq-eqb k.place k.place refl) (same_value_refl k.value)
+same_key_refl k =
+    rw (
+      eq-eqb k.name.number k.name.number refl,
+      eq-eqb k.arity k.arity refl,
+      eq-eqb k.place k.place refl,
+    ) (same_value_refl k.value)
 
 pub same_key_equiv : IsEquivalence same_key
 same_key_equiv = record {
   refl = same_key_refl;
   symm = λ x y. elim (same_key x y) as (λ b. (same_key x y ≡ b) → b ≡ same_key y x) [
-    | true ↦ λ t. sym (subst (λ (z : Key). same_key z x ≡ true) (same_key_true x y t) (same_key_refl x))
+    | true ↦ λ t.
+        sym (subst (λ (z : Key). same_key z x ≡ true) (same_key_true x y t) (same_key_refl x))
     | false ↦ λ t. elim (same_key y x) as (λ b. (same_key y x ≡ b) → false ≡ b) [
-      | true ↦ λ u. let e : x ≡ y = sym (same_key_true y x u) in sym t ∙ subst (λ (z : Key). same_key x z ≡ true) e (same_key_refl x)
+      | true ↦ λ u. let e : x ≡ y =
+          sym (same_key_true y x u) in
+          sym t ∙ subst (λ (z : Key). same_key x z ≡ true) e (same_key_refl x)
       | false ↦ λ u. refl
     ] refl
   ] refl;
   congr = λ x y z t. ap (λ (w : Key). same_key w z) (same_key_true x y t);
 }
 
-pub same_input : (x y : Key) → IsTrue (same_key x y) → fed.u64 (key_word x) ++ value_input x.value ≡ fed.u64 (key_word y) ++ value_input y.value
-same_input x y t = ap (λ (k : Key). fed.u64 (key_word k) ++ value_input k.value) (same_key_true x y t)
+pub same_input : (x y : Key) → IsTrue (same_key x y) →
+    fed.u64 (key_word x) ++ value_input x.value ≡ fed.u64 (key_word y) ++ value_input y.value
+same_input x y t =
+    ap (λ (k : Key). fed.u64 (key_word k) ++ value_input k.value) (same_key_true x y t)

@@ -24,7 +24,8 @@ HasKey (Some key) a = arg_at a key.0 ≡ Some key.1
 abbrev pub key_of : {A : Type 0} → Option (ℕ × ValueRef A) → Option (ℕ × Value ℕ)
 key_of key = option_map (λ k. (k.0, said k.1)) key
 
--- what is asked for: a predicate, perhaps a place with a value, and the labels between which to look
+-- what is asked for: a predicate, perhaps a place with a value, and the labels between which to
+-- look
 pub record Query : Type 0 where
   pub pred : Pred
   pub key : Option (ℕ × Value ℕ)
@@ -43,4 +44,5 @@ pub record Matches (store : Store) (q : Query) (l : ℕ) : Type 0 where
 -- the least of them, or none where there is none
 abbrev pub IsLeastMatch : Store → Query → Option ℕ → Type 0
 IsLeastMatch store q found =
-    MatchOption found ((l : ℕ) → Matches store q l → ⊥) (λ l. Matches store q l × ((m : ℕ) → Matches store q m → l ≤ m))
+    MatchOption found ((l : ℕ) → Matches store q l → ⊥)
+    (λ l. Matches store q l × ((m : ℕ) → Matches store q m → l ≤ m))

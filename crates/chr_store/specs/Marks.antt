@@ -19,7 +19,9 @@ mark_at (m ∷ ms) (suc i) = mark_at ms i
 
 -- marks are as before, but for that of the place, which is set
 abbrev pub IsMarked : Pred → ℕ → List Bool → List Bool → Type 0
-IsMarked pred place old new = (p : Pred) (n i : ℕ) → IsMarkOf p n i → mark_at new i ≡ ((is_pred pred p && nat_eq place n) || mark_at old i)
+IsMarked pred place old new =
+    (p : Pred) (n i : ℕ) → IsMarkOf p n i →
+    mark_at new i ≡ ((is_pred pred p && nat_eq place n) || mark_at old i)
 
 -- the place of the predicate is one of these; the place 0 stands for each of the predicate's
 abbrev pub listed : Places → Pred → ℕ → Bool
@@ -28,4 +30,5 @@ listed places pred (suc i) = list_any (λ p. is_pred p.0 pred && nat_eq p.1 (suc
 
 -- marks tell which places are listed
 abbrev pub AreMarks : List Bool → Places → Type 0
-AreMarks marks places = (pred : Pred) (place i : ℕ) → IsMarkOf pred place i → mark_at marks i ≡ listed places pred place
+AreMarks marks places =
+    (pred : Pred) (place i : ℕ) → IsMarkOf pred place i → mark_at marks i ≡ listed places pred place

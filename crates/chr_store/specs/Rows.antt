@@ -4,9 +4,12 @@ use Rattle.chr_value.specs.declared.atom.Pred.{Pred}
 use Rattle.chr_store.specs.declared.keys.Key.{Key}
 use Rattle.chr_store.specs.Index.{is_own, pred_of}
 
--- the row of a predicate whose name's number is low; nine rows a name, one for each number of arguments
+-- the row of a predicate whose name's number is low; nine rows a name, one for each number of
+-- arguments
 abbrev pub row_of : Pred → Option ℕ
-row_of pred = if nat_lt pred.name.number 1024 && nat_lt pred.arity 9 then Some (pred.name.number * 9 + pred.arity) else None
+row_of pred =
+    if nat_lt pred.name.number 1024 && nat_lt pred.arity 9
+    then Some (pred.name.number * 9 + pred.arity) else None
 
 -- the row of a key, which that of a predicate alone may have
 abbrev pub row_of_key : Key → Option ℕ

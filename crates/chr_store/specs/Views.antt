@@ -13,7 +13,8 @@ abbrev pub seen_with : LabelledStore → Option (Atom ℕ) → LabelledStore
 seen_with s None = s
 seen_with s (Some a) = entered s a
 
--- an atom that isn't entered is shown under the next label, which is the active one and may be given
+-- an atom that isn't entered is shown under the next label, which is the active one and may be
+-- given
 abbrev pub IsNext : LabelledStore → Option (Atom ℕ) → ℕ → Type 0
 IsNext s None active = Unit {0}
 IsNext s (Some a) active = (active ≡ s.next) × (s.next ≤ s.limit)

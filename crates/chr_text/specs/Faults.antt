@@ -46,7 +46,8 @@ RuleHas before r NamesFull = number_rule before.1 (rule r) ≡ None
 RuleHas before r _ = ⊥
 
 abbrev pub StatementHas : Program → Statement → Kind → Type 0
-StatementHas before (Declaration ds) NumberRange = list_any (λ d. is_out_of_range (Number false d.digits)) ds ≡ true
+StatementHas before (Declaration ds) NumberRange =
+    list_any (λ d. is_out_of_range (Number false d.digits)) ds ≡ true
 StatementHas before (Declaration ds) TooMany = list_any (λ d. is_long (Name d.name)) ds ≡ true
 StatementHas before (Rule r) k = RuleHas before r k
 StatementHas before _ _ = ⊥
@@ -63,36 +64,49 @@ PostHas before atoms _ = ⊥
 -- ---- items
 
 -- an item that says this, which has a fault of this kind
-pub record SaysFaulty {S : Type 0} (Says : List Lexeme → S → Type 0) (Has : S → Kind → Type 0) (e : Item) (k : Kind) : Type 0 where
+pub record SaysFaulty {S : Type 0} (Says : List Lexeme → S → Type 0) (Has : S → Kind → Type 0)
+    (e : Item) (k : Kind) : Type 0 where
   pub tokens : List Lexeme
   pub said : S
   pub item : IsItem e tokens
   pub says : Says tokens said
   pub has : Has said k
 
--- The fault of an item: a bad byte; a fault of syntax, where nothing is written so; else one of what it says.
-abbrev pub ItemHas : {S : Type 0} → (List Lexeme → S → Type 0) → (S → Kind → Type 0) → Item → Kind → Type 0
+-- The fault of an item: a bad byte; a fault of syntax, where nothing is written so; else one of
+-- what it says.
+abbrev pub ItemHas : {S : Type 0} → (List Lexeme → S → Type 0) → (S → Kind → Type 0) → Item → Kind →
+    Type 0
 ItemHas Says Has e TooLong = ⊥
 ItemHas Says Has e BadByte = has_bad e.bytes ≡ true
 ItemHas {S} Says Has e Syntax = (ts : List Lexeme) (s : S) → IsItem e ts → Says ts s → ⊥
 ItemHas Says Has e k = SaysFaulty Says Has e k
 
--- Items one after another, where one has a fault after others without, each of which adds to what the ones before it gave.
-pub data FirstFault {A : Type 0} (AddsItem : A → Item → A → Type 0) (Has : A → Item → Kind → Type 0) : A → List Item → ReadFault → Type 0 where
-  here : (before : A) (e : Item) (es : List Item) (k : Kind) → IsFirst (Has before e) k → FirstFault AddsItem Has before (e ∷ es) (record { kind = k; line = e.line })
-  later : (before next : A) (e : Item) (es : List Item) (f : ReadFault) → AddsItem before e next → FirstFault AddsItem Has next es f → FirstFault AddsItem Has before (e ∷ es) f
+-- Items one after another, where one has a fault after others without, each of which adds to what
+-- the ones before it gave.
+pub data FirstFault {A : Type 0} (AddsItem : A → Item → A → Type 0) (Has : A → Item → Kind → Type 0)
+    : A → List Item → ReadFault → Type 0 where
+  here : (before : A) (e : Item) (es : List Item) (k : Kind) → IsFirst (Has before e) k →
+      FirstFault AddsItem Has before (e ∷ es) (record { kind = k; line = e.line })
+  later : (before next : A) (e : Item) (es : List Item) (f : ReadFault) → AddsItem before e next →
+      FirstFault AddsItem Has next es f → FirstFault AddsItem Has before (e ∷ es) f
 
 -- ---- texts
 
--- A text that is too long has a fault in no line; else the fault is that of the first faulty item, at its line.
-pub data IsFault {A : Type 0} (AddsItem : A → Item → A → Type 0) (Has : A → Item → Kind → Type 0) (before : A) (bytes : List ℕ) : ReadFault → Type 0 where
-  too_long : 65536 < length bytes → IsFault AddsItem Has before bytes (record { kind = TooLong; line = 0 })
-  in_item : (es : List Item) (f : ReadFault) → length bytes ≤ 65536 → HasItems bytes es → FirstFault AddsItem Has before es f → IsFault AddsItem Has before bytes f
+-- A text that is too long has a fault in no line; else the fault is that of the first faulty item,
+-- at its line.
+pub data IsFault {A : Type 0} (AddsItem : A → Item → A → Type 0) (Has : A → Item → Kind → Type 0)
+    (before : A) (bytes : List ℕ) : ReadFault → Type 0 where
+  too_long : 65536 < length bytes →
+      IsFault AddsItem Has before bytes (record { kind = TooLong; line = 0 })
+  in_item : (es : List Item) (f : ReadFault) → length bytes ≤ 65536 → HasItems bytes es →
+      FirstFault AddsItem Has before es f → IsFault AddsItem Has before bytes f
 
 -- The text is no program over a table of names, and this is its first fault.
 abbrev pub IsProgramFault : Table → List ℕ → ReadFault → Type 0
-IsProgramFault table bytes f = IsFault AddsStatement (λ before. ItemHas AreStatement (StatementHas before)) ([], table) bytes f
+IsProgramFault table bytes f =
+    IsFault AddsStatement (λ before. ItemHas AreStatement (StatementHas before)) ([], table) bytes f
 
 -- The text is no list of posts over a table of names, and this is its first fault.
 abbrev pub IsPostsFault : Table → List ℕ → ReadFault → Type 0
-IsPostsFault table bytes f = IsFault AddsAtoms (λ before. ItemHas AreParsedAtoms (PostHas before)) ([], table) bytes f
+IsPostsFault table bytes f =
+    IsFault AddsAtoms (λ before. ItemHas AreParsedAtoms (PostHas before)) ([], table) bytes f

@@ -49,7 +49,8 @@ abbrev pub ExpressionFits : Seen → parsed.ParsedExpression → Type 0
 ExpressionFits seen (parsed.Number negative ds) = is_none (whole_number negative ds) ≡ false
 ExpressionFits seen (parsed.Variable x) = length (number_variable seen x).1 ≤ 24
 ExpressionFits seen (parsed.Group e) = ExpressionFits seen e
-ExpressionFits seen (parsed.Operation o a b) = ExpressionFits seen a × ExpressionFits (expression seen a).1 b
+ExpressionFits seen (parsed.Operation o a b) =
+    ExpressionFits seen a × ExpressionFits (expression seen a).1 b
 
 -- an atom of a rule
 pub record ShapeFits (p : ParsedAtom) : Type 0 where
@@ -113,7 +114,8 @@ MemberOf Atoms (parsed.Is x e) = Unit {0}
 MemberOf Atoms (parsed.Add p) = Atoms p
 
 -- each term that a rule compares is such, and each atom
-pub record RuleOf (Terms : ParsedTerm → Type 0) (Atoms : ParsedAtom → Type 0) (r : ParsedRule) : Type 0 where
+pub record RuleOf (Terms : ParsedTerm → Type 0) (Atoms : ParsedAtom → Type 0) (r : ParsedRule)
+    : Type 0 where
   pub kept : AllByRecursion Atoms r.kept
   pub removed : AllByRecursion Atoms r.removed
   pub guard : AllByRecursion (TestOf Terms) r.guard

@@ -26,10 +26,12 @@ pub record IsItem (e : Item) (ts : List Lexeme) : Type 0 where
 -- Items one after another, where each adds to what the ones before it gave.
 pub data InOrder {A : Type 0} (AddsItem : A → Item → A → Type 0) : A → List Item → A → Type 0 where
   no_more : (x : A) → InOrder AddsItem x [] x
-  item : (before next after : A) (e : Item) (es : List Item) → AddsItem before e next → InOrder AddsItem next es after → InOrder AddsItem before (e ∷ es) after
+  item : (before next after : A) (e : Item) (es : List Item) → AddsItem before e next →
+      InOrder AddsItem next es after → InOrder AddsItem before (e ∷ es) after
 
 -- a text that is not too long, whose items give this together
-pub record IsText {A : Type 0} (AddsItem : A → Item → A → Type 0) (before : A) (bytes : List ℕ) (after : A) : Type 0 where
+pub record IsText {A : Type 0} (AddsItem : A → Item → A → Type 0) (before : A) (bytes : List ℕ)
+    (after : A) : Type 0 where
   pub short : length bytes ≤ 65536
   pub entries : List Item
   pub has : HasItems bytes entries

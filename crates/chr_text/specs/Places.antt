@@ -30,4 +30,6 @@ item_places (Is x e) = x ∷ expression_places e
 item_places (Add s) = atom_places s
 
 abbrev pub places : {N : Type 0} → Simpagation N → List ℕ
-places r = flat_map atom_places r.kept ++ flat_map atom_places r.removed ++ flat_map comparison_places r.guard ++ flat_map item_places r.body
+places r =
+    flat_map atom_places r.kept ++ flat_map atom_places r.removed ++
+    flat_map comparison_places r.guard ++ flat_map item_places r.body

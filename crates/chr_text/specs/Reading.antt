@@ -18,16 +18,21 @@ use Rattle.chr_text.specs.Numbering.{or_full, each, more, number_rule}
 
 -- the tokens of an item that has its end point and no bad byte
 abbrev pub item_lexemes : Item → Result (List Lexeme) Kind
-item_lexemes e = if has_bad e.bytes then Err BadByte else (if e.ended then tokens_of e.bytes else Err Syntax)
+item_lexemes e =
+    if has_bad e.bytes then Err BadByte else (if e.ended then tokens_of e.bytes else Err Syntax)
 
--- the items one after another, each over what the ones before it gave; a fault has the line of its item
-abbrev pub over_items : {A : Type 0} → (A → Item → Result A Kind) → A → List Item → Result A ReadFault
+-- the items one after another, each over what the ones before it gave; a fault has the line of its
+-- item
+abbrev pub over_items : {A : Type 0} → (A → Item → Result A Kind) → A → List Item →
+    Result A ReadFault
 over_items f so_far [] = Ok so_far
 over_items f so_far (e ∷ es) = at_line e.line (f so_far e) >>= λ next. over_items f next es
 
 -- nothing, where the text is too long; else what f gives
 abbrev pub of_text : {A : Type 0} → (A → Item → Result A Kind) → A → List ℕ → Result A ReadFault
-of_text f before bytes = if nat_lt 65536 (length bytes) then Err (record { kind = TooLong; line = 0 }) else over_items f before (items_of bytes)
+of_text f before bytes =
+    if nat_lt 65536 (length bytes) then Err (record { kind = TooLong; line = 0 })
+    else over_items f before (items_of bytes)
 
 -- ---- programs
 
@@ -36,7 +41,9 @@ abbrev pub Program : Type 0
 Program = List (Simpagation ℕ) × Table
 
 abbrev pub with_rule : Program → parsed.ParsedRule → Result Program Kind
-with_rule so_far r = rule_judged (nat_le 256 (length so_far.0)) r >>= λ judged. or_full (number_rule so_far.1 (rule r)) >>= λ x. Ok (so_far.0 ++ x.0 ∷ [], x.1)
+with_rule so_far r =
+    rule_judged (nat_le 256 (length so_far.0)) r
+    >>= λ judged. or_full (number_rule so_far.1 (rule r)) >>= λ x. Ok (so_far.0 ++ x.0 ∷ [], x.1)
 
 -- Only a rule adds to a program.
 abbrev pub with_statement : Program → parsed.Statement → Result Program Kind
@@ -64,7 +71,9 @@ abbrev pub Posts : Type 0
 Posts = List (Atom ℕ) × Table
 
 abbrev pub with_phrases : Posts → List parsed.ParsedAtom → Result Posts Kind
-with_phrases so_far ps = post_judged ps >>= λ judged. or_full (more so_far.0 (each numbered_atom so_far.1 (map atom_by_texts ps)))
+with_phrases so_far ps =
+    post_judged ps
+    >>= λ judged. or_full (more so_far.0 (each numbered_atom so_far.1 (map atom_by_texts ps)))
 
 abbrev pub with_post : Posts → Item → Result Posts Kind
 with_post so_far e = item_lexemes e >>= phrases_of >>= with_phrases so_far

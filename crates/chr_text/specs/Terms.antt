@@ -1,4 +1,5 @@
--- A term from its words in text order, each with how many parentheses it stands in, and the words of a term.
+-- A term from its words in text order, each with how many parentheses it stands in, and the words
+-- of a term.
 use Rattle.std.specs.Prelude.{ℕ, suc, List, [], ◌∷◌, ◌++◌, nat_lt, if◌then◌else◌}
 use Rattle.std.specs.List.{list_any}
 use Rattle.chr_value.specs.Atoms.{Value, Int, Sym, Comp, Args, Nil, Cons, args_of}
@@ -28,14 +29,16 @@ values (Open s us ∷ ts) = values ts
 
 -- a functor with its arguments: a value where all of these are values
 abbrev pub functor_with : {N : Type 0} → N → List (Term N) → Term N
-functor_with s ts = if list_any is_open ts then Open s (terms_of ts) else Given (Comp s (args_of (values ts)))
+functor_with s ts =
+    if list_any is_open ts then Open s (terms_of ts) else Given (Comp s (args_of (values ts)))
 
 -- a word with its arguments. Only a name has some.
 abbrev pub with_args : {N : Type 0} → Term N → List (Term N) → Term N
 with_args (Given (Sym s)) (t ∷ ts) = functor_with s (t ∷ ts)
 with_args w ts = w
 
--- the terms of words, from the last word to the first: each word takes the terms behind it that stand in more parentheses
+-- the terms of words, from the last word to the first: each word takes the terms behind it that
+-- stand in more parentheses
 abbrev pub terms_of_words : {N : Type 0} → List (Placed N) → List (Placed N)
 terms_of_words [] = []
 terms_of_words (w ∷ ws) =

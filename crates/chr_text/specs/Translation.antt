@@ -1,4 +1,5 @@
--- Rules and atoms as they are written, by the texts of their names: variables have their numbers, and `true` and parentheses are gone.
+-- Rules and atoms as they are written, by the texts of their names: variables have their numbers,
+-- and `true` and parentheses are gone.
 use Rattle.std.specs.Prelude.{ℕ, ℤ, pos, Bool, true, false, List, [], ◌∷◌, map, length, Option, Some, None}
 use Rattle.chr_value.specs.Atoms.{Value, Int, Sym, Atom}
 use Rattle.chr_rule.specs.Rules.{Term, Var, Given, Open, RuleAtom, Expression, Number, Variable, Operation, Comparison, Compared, Same, Differ, BodyItem, Is, Add, Simpagation, of_parts}
@@ -46,24 +47,43 @@ atom_by_texts p = record { name = p.name; args = map value p.args }
 -- ---- rules
 
 abbrev pub rule_atom : Seen → parsed.ParsedAtom → RuleAtom (List ℕ) × Seen
-rule_atom seen p = (record { name = p.name; args = (in_turn argument seen p.args).0 }, (in_turn argument seen p.args).1)
+rule_atom seen p = (
+  record { name = p.name; args = (in_turn argument seen p.args).0 },
+  (in_turn argument seen p.args).1,
+)
 
 abbrev pub expression : Seen → parsed.ParsedExpression → Expression × Seen
 expression seen (parsed.Number negative ds) = (Number (spelled negative ds), seen)
-expression seen (parsed.Variable x) = (Variable (number_variable seen x).0, (number_variable seen x).1)
+expression seen (parsed.Variable x) =
+    (Variable (number_variable seen x).0, (number_variable seen x).1)
 expression seen (parsed.Group e) = expression seen e
-expression seen (parsed.Operation o a b) = (Operation o (expression seen a).0 (expression (expression seen a).1 b).0, (expression (expression seen a).1 b).1)
+expression seen (parsed.Operation o a b) = (
+  Operation o (expression seen a).0 (expression (expression seen a).1 b).0,
+  (expression (expression seen a).1 b).1,
+)
 
 -- nothing for `true`
 abbrev pub test : Seen → parsed.GuardMember → Option (Comparison (List ℕ)) × Seen
 test seen parsed.Always = (None, seen)
-test seen (parsed.Compared r a b) = (Some (Compared r (expression seen a).0 (expression (expression seen a).1 b).0), (expression (expression seen a).1 b).1)
-test seen (parsed.Same s t) = (Some (Same (argument seen s).0 (argument (argument seen s).1 t).0), (argument (argument seen s).1 t).1)
-test seen (parsed.Differ s t) = (Some (Differ (argument seen s).0 (argument (argument seen s).1 t).0), (argument (argument seen s).1 t).1)
+test seen (parsed.Compared r a b) = (
+  Some (Compared r (expression seen a).0 (expression (expression seen a).1 b).0),
+  (expression (expression seen a).1 b).1,
+)
+test seen (parsed.Same s t) = (
+  Some (Same (argument seen s).0 (argument (argument seen s).1 t).0),
+  (argument (argument seen s).1 t).1,
+)
+test seen (parsed.Differ s t) = (
+  Some (Differ (argument seen s).0 (argument (argument seen s).1 t).0),
+  (argument (argument seen s).1 t).1,
+)
 
 abbrev pub member : Seen → parsed.BodyMember → Option (BodyItem (List ℕ)) × Seen
 member seen parsed.Nothing = (None, seen)
-member seen (parsed.Is x e) = (Some (Is (number_variable seen x).0 (expression (number_variable seen x).1 e).0), (expression (number_variable seen x).1 e).1)
+member seen (parsed.Is x e) = (
+  Some (Is (number_variable seen x).0 (expression (number_variable seen x).1 e).0),
+  (expression (number_variable seen x).1 e).1,
+)
 member seen (parsed.Add p) = (Some (Add (rule_atom seen p).0), (rule_atom seen p).1)
 
 -- the same, as something that is there
@@ -90,4 +110,6 @@ after_body r = (in_turn member (after_guard r) r.body).1
 
 -- the rule: its variables are numbered in the order of its text
 abbrev pub rule : parsed.ParsedRule → Simpagation (List ℕ)
-rule r = of_parts (length (after_body r)) (in_turn rule_atom [] r.kept).0 (in_turn rule_atom (after_kept r) r.removed).0 (somes (in_turn test (after_heads r) r.guard).0) (somes (in_turn member (after_guard r) r.body).0)
+rule r = of_parts (length (after_body r)) (in_turn rule_atom [] r.kept).0
+    (in_turn rule_atom (after_kept r) r.removed).0 (somes (in_turn test (after_heads r) r.guard).0)
+    (somes (in_turn member (after_guard r) r.body).0)

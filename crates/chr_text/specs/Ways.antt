@@ -16,7 +16,8 @@ pub record Way (Part Code : Type 0) : Type 1 where
   pub made : Code → Made
 
 abbrev pub way : {Part Code Said Raw Made : Type 0} → (Part → Said) → (Said → Type 0)
-    → (Seen → Said → Option Raw × Seen) → (Table → Raw → Option (Made × Table)) → (Code → Made) → Way Part Code
+    → (Seen → Said → Option Raw × Seen) → (Table → Raw → Option (Made × Table)) → (Code → Made) →
+    Way Part Code
 way {Said = Said} {Raw = Raw} {Made = Made} said fits raw numbered made = record {
   Said = Said;
   Raw = Raw;

@@ -29,11 +29,13 @@ abbrev mutual
 abbrev pub atom_with : (ℕ → Value ℕ) → RuleAtom ℕ → Atom ℕ
 atom_with v s = record { name = s.name; args = map (term_with v) s.args }
 
--- whatever values the variables have, a log can hold the atom that is added, if its arguments are within the limits
+-- whatever values the variables have, a log can hold the atom that is added, if its arguments are
+-- within the limits
 abbrev pub AddsWritable : Table → BodyItem ℕ → Type 0
 AddsWritable table (Is x e) = Unit {0}
 AddsWritable table (Add s) =
-    (v : ℕ → Value ℕ) → ((x : ℕ) → CanHold table (v x)) → AllByRecursion IsWithin (atom_with v s).args
+    (v : ℕ → Value ℕ) → ((x : ℕ) → CanHold table (v x)) →
+    AllByRecursion IsWithin (atom_with v s).args
     → FitsAtom (by_texts table (atom_with v s))
 
 abbrev pub HasWritable : Table → List (Simpagation ℕ) → Type 0

@@ -16,5 +16,8 @@ module _ (A : RattleType) (alloc : Ghosts A.Denot) where
   lends_slot s r = Lends (option_row (the_row A alloc)) (the_row A alloc) s r Some
 
   -- the slot of a number has it
-  abbrev pub lends_open : MutBor (VecDeque (Slot A.Denot) A.Denot) → ℕ → ℕ → MutBor (CodeTicket A.Denot) → Fml
-  lends_open q first t r = Lends (deque_row (option_row (the_row A alloc)) A alloc) (the_row A alloc) q r (λ w. deque_with_item q.now (t - first) (Some w))
+  abbrev pub lends_open : MutBor (VecDeque (Slot A.Denot) A.Denot) → ℕ → ℕ →
+      MutBor (CodeTicket A.Denot) → Fml
+  lends_open q first t r =
+      Lends (deque_row (option_row (the_row A alloc)) A alloc) (the_row A alloc) q r
+      (λ w. deque_with_item q.now (t - first) (Some w))

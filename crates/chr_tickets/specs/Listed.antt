@@ -25,7 +25,8 @@ StartsOpen (slot ∷ slots) = IsSome slot
 abbrev pub AreUnmarked : List Ticket → ℕ → Type 0
 AreUnmarked tickets number = (t : ℕ) → t < number → (ticket_at tickets t).stray ≡ false
 
--- A queue from its first number: tickets are numbered from 1, within 64 bits, and none below `unmarked` is marked.
+-- A queue from its first number: tickets are numbered from 1, within 64 bits, and none below
+-- `unmarked` is marked.
 pub record AreQueued {Z : Type 0} (first : ℕ) (slots : List (Slot Z)) (unmarked : ℕ) : Type 0 where
   pub some : 1 ≤ first
   pub fits : first + length slots < 2 ^ 64

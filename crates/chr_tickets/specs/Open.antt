@@ -12,8 +12,22 @@ use Rattle.chr_tickets.specs.declared.ticket.Ticket.{Ticket as CodeTicket}
 
 -- a goal with a mark or without
 abbrev pub shown : {Z : Type 0} → CodeGoal Z → Bool → Ticket
-shown (goals.Waiting atom) mark = record { goal = Plain atom; holder = None; stray = mark; position = beginning; candidate = None }
-shown (goals.Active search candidate holder) mark = record { goal = Numbered search.label; holder = holder; stray = mark; position = search.place; candidate = candidate }
+shown (goals.Waiting atom) mark =
+    record {
+      goal = Plain atom;
+      holder = None;
+      stray = mark;
+      position = beginning;
+      candidate = None;
+    }
+shown (goals.Active search candidate holder) mark =
+    record {
+      goal = Numbered search.label;
+      holder = holder;
+      stray = mark;
+      position = search.place;
+      candidate = candidate;
+    }
 
 abbrev pub shown_ticket : {Z : Type 0} → CodeTicket Z → Ticket
 shown_ticket x = shown x.goal x.stray

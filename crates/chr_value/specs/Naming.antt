@@ -18,7 +18,9 @@ Table = List (List ℕ)
 
 -- a name's number, and the table that has it; nothing for a 65,537th name
 abbrev pub number_name : Table → List ℕ → Option (ℕ × Table)
-number_name table t = if has_text table t || nat_lt (length table) 65536 then Some (number_of table t, with_text table t) else None
+number_name table t =
+    if has_text table t || nat_lt (length table) 65536
+    then Some (number_of table t, with_text table t) else None
 
 -- the table has the term's names
 abbrev mutual
@@ -36,32 +38,40 @@ pub record AtomIsKnown (table : Table) (a : Atom (List ℕ)) : Type 0 where
   pub name : has_text table a.name ≡ true
   pub args : AllByRecursion (TermIsKnown table) a.args
 
--- a term by numbers, and the table that has its names: a functor's name comes before those of its arguments
+-- a term by numbers, and the table that has its names: a functor's name comes before those of its
+-- arguments
 abbrev mutual
   pub numbered_value : Table → Value (List ℕ) → Option (Value ℕ × Table)
   numbered_value table (Int z) = Some (Int z, table)
   numbered_value table (Sym t) = number_name table t >>= λ n. Some (Sym n.0, n.1)
-  numbered_value table (Comp t vs) = number_name table t >>= λ n. numbered_args n.1 vs >>= λ xs. Some (Comp n.0 xs.0, xs.1)
+  numbered_value table (Comp t vs) =
+      number_name table t >>= λ n. numbered_args n.1 vs >>= λ xs. Some (Comp n.0 xs.0, xs.1)
 
   pub numbered_args : Table → Args (List ℕ) → Option (Args ℕ × Table)
   numbered_args table Nil = Some (Nil, table)
-  numbered_args table (Cons v vs) = numbered_value table v >>= λ x. numbered_args x.1 vs >>= λ xs. Some (Cons x.0 xs.0, xs.1)
+  numbered_args table (Cons v vs) =
+      numbered_value table v >>= λ x. numbered_args x.1 vs >>= λ xs. Some (Cons x.0 xs.0, xs.1)
 
 -- terms from left to right, each over the table that the one before it left
 unfoldable pub number_terms : Table → List (Value (List ℕ)) → Option (List (Value ℕ) × Table)
 number_terms table [] = Some ([], table)
-number_terms table (t ∷ ts) = numbered_value table t >>= λ x. number_terms x.1 ts >>= λ xs. Some (x.0 ∷ xs.0, xs.1)
+number_terms table (t ∷ ts) =
+    numbered_value table t >>= λ x. number_terms x.1 ts >>= λ xs. Some (x.0 ∷ xs.0, xs.1)
 
 -- an atom of the arguments in front and those to come
-abbrev pub number_more : ℕ → List (Value ℕ) → Option (List (Value ℕ) × Table) → Option (Atom ℕ × Table)
+abbrev pub number_more : ℕ → List (Value ℕ) → Option (List (Value ℕ) × Table) →
+    Option (Atom ℕ × Table)
 number_more name front rest = rest >>= λ x. Some (record { name = name; args = front ++ x.0 }, x.1)
 
 -- an atom: its name, then its arguments
 unfoldable pub numbered_atom : Table → Atom (List ℕ) → Option (Atom ℕ × Table)
-numbered_atom table a = number_name table a.name >>= λ n. number_more n.0 [] (number_terms n.1 a.args)
+numbered_atom table a =
+    number_name table a.name >>= λ n. number_more n.0 [] (number_terms n.1 a.args)
 
--- What a function answered, with the table after it, is what numbering gives, unless memory ran out.
-abbrev pub Named : {X Y : Type 0} → (X → Y) → Result X NamesFault → Option (Y × Table) → Table → Type 0
+-- What a function answered, with the table after it, is what numbering gives, unless memory ran
+-- out.
+abbrev pub Named : {X Y : Type 0} → (X → Y) → Result X NamesFault → Option (Y × Table) → Table →
+    Type 0
 Named view (Ok x) read new = read ≡ Some (view x, new)
 Named view (Err faults.NoMemory) read new = Unit {0}
 Named view (Err faults.Full) read new = read ≡ None

@@ -8,7 +8,8 @@ last_of [] = None
 last_of (v ∷ []) = Some v
 last_of (v ∷ w ∷ vs) = last_of (w ∷ vs)
 
--- The first word is the length of the history. A book has two words, of which this one leaves the second at 0.
+-- The first word is the length of the history. A book has two words, of which this one leaves the
+-- second at 0.
 abbrev pub IsKept : {E : Type 0} → List Cell → List E → Type 0
 IsKept cells log = cells ≡ (length log, true) ∷ (0, true) ∷ []
 
