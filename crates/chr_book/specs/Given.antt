@@ -61,8 +61,8 @@ pub record MovesOver (b : BookState) (s after : SearchState) (sheet : JudgedShee
 
 -- It is told whether the judgement that is whole is of the next trial; and where the last judgement
 -- is whole and of the next trial, it is that one, and told so.
-pub record TellsWhole (b : BookState) (seat t : ℕ) (sheet : JudgedSheet) (told : Bool) : Type
-    0 where
+pub record TellsWhole (b : BookState) (seat t : ℕ) (sheet : JudgedSheet)
+    (told : Bool) : Type 0 where
   pub told_next : (j : Judgement) → sheet.whole ≡ Some j → told ≡ true → ComesNext b seat t j.trial
   pub next_told : (j : Judgement) → IsLastOf (judgements_of sheet) j → j.verdict ≡ Whole →
       ComesNext b seat t j.trial → (sheet.whole ≡ Some j) × (told ≡ true)

@@ -17,8 +17,8 @@ heads_of (Fire t r kept removed) = kept ++ removed
 heads_of (Drop t) = []
 
 -- the label is a head of the entry that made another label's goal
-pub record IsHeadFor (rules : List (Simpagation ℕ)) (log : List (Event ℕ)) (label head : ℕ) : Type
-    0 where
+pub record IsHeadFor (rules : List (Simpagation ℕ)) (log : List (Event ℕ))
+    (label head : ℕ) : Type 0 where
   pub origin : Origin
   pub from : IsOrigin rules log label origin
   pub event : Event ℕ

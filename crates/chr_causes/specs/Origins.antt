@@ -34,8 +34,8 @@ abbrev pub next_ticket : List (Simpagation ℕ) → List (Event ℕ) → ℕ
 next_ticket rules log = sum_by (tickets_of rules) log + 1
 
 -- The entry at the place `made` made the ticket, after so many others.
-pub record Makes (rules : List (Simpagation ℕ)) (log : List (Event ℕ)) (made nth ticket : ℕ) : Type
-    0 where
+pub record Makes (rules : List (Simpagation ℕ)) (log : List (Event ℕ))
+    (made nth ticket : ℕ) : Type 0 where
   pub event : Event ℕ
   pub there : slice_get log made ≡ Some event
   pub within : nth < tickets_of rules event

@@ -35,8 +35,8 @@ abbrev pub IsIndexOf : List (Simpagation ℕ) → List Occurrence → Type 0
 IsIndexOf rules list = (o : Occurrence) → Contains list o ↔ IsOccurrence rules o.pred o.rule o.head
 
 -- what is left of the list from one on: those that are not before it
-pub record IsRestFrom (list : List Occurrence) (from : Occurrence) (rest : List Occurrence) : Type
-    0 where
+pub record IsRestFrom (list : List Occurrence) (from : Occurrence)
+    (rest : List Occurrence) : Type 0 where
   pub rising : IsRising rest
   pub listed : (o : Occurrence) → Contains rest o → Contains list o
   pub after : AllByRecursion (λ o. rank from ≤ rank o) rest

@@ -59,8 +59,8 @@ WasHold Call seat result after =
 
 -- what is said is read of the book that is there, which has the headline, and in which the seat's
 -- counts are what it has made
-pub record Reads (Says : BookState → Type 0) (old : Option BookState) (seat : SeatState) : Type
-    0 where
+pub record Reads (Says : BookState → Type 0) (old : Option BookState)
+    (seat : SeatState) : Type 0 where
   pub book : BookState
   pub is : old ≡ Some book
   pub headline : HasHeadline book

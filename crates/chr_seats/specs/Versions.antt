@@ -37,8 +37,8 @@ pub record IsSearchOf (book : Option BookState) (seat t : ℕ) (version : Option
   pub held : IsHeldSearch of.now.tickets seat t search
 
 -- the trials come next one after another in a search over the version
-pub record AreKnownNext (version : Option BookState) (search : SearchState) (ts : List Trial) : Type
-    0 where
+pub record AreKnownNext (version : Option BookState) (search : SearchState)
+    (ts : List Trial) : Type 0 where
   pub book : BookState
   pub is : version ≡ Some book
   pub next : AreNextInOrder (space_of book search.label) search.place ts

@@ -34,8 +34,8 @@ LineIs Cut line after input = (has_line input ≡ false) × (input ≢ [])
 LineIs End line after input = input ≡ []
 
 -- whether the input has so many bytes; then what follows them is still to come
-pub record Counted (found : Bool) (count : ℕ) (after : List ℕ → Type 0) (input : List ℕ) : Type
-    0 where
+pub record Counted (found : Bool) (count : ℕ) (after : List ℕ → Type 0)
+    (input : List ℕ) : Type 0 where
   pub enough : found ≡ true → count ≤ length input
   pub few : found ≡ false → length input < count
   pub rest : found ≡ true → after (drop count input)

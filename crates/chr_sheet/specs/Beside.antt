@@ -19,8 +19,8 @@ pub record HasEnd {Z : Type 0} (s : Space) (r h : ℕ) (ls : List ℕ) (from : �
 
 -- A trial has all heads, two at least; a front has all its labels but the last; and this is the
 -- least label past that one with which another ends.
-pub record HasBeside {Z : Type 0} (s : Space) (t : Trial) (f : CodeFront Z) (second : ℕ) : Type
-    0 where
+pub record HasBeside {Z : Type 0} (s : Space) (t : Trial) (f : CodeFront Z)
+    (second : ℕ) : Type 0 where
   pub full : length t.placed ≡ length (heads_of t.rule)
   pub before : List ℕ
   pub last : ℕ

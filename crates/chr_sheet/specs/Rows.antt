@@ -83,8 +83,8 @@ abbrev pub IsSplitAt : List Trial → ℕ → List Trial → Trial → Type 0
 IsSplitAt ts n before t = (before ≡ take n ts) × (slice_get ts n ≡ Some t)
 
 -- the same of a row: its part, the labels before one of them, and the trial of that one
-pub record IsCutAt (r : Row) (n : ℕ) (part : Trial) (before : List Placed) (t : Trial) : Type
-    0 where
+pub record IsCutAt (r : Row) (n : ℕ) (part : Trial) (before : List Placed)
+    (t : Trial) : Type 0 where
   pub part_is : part ≡ r.part
   pub split : IsSplitAt (trials_of r) n (trials_of (record { part = part; lasts = before })) t
   pub row : 1 ≤ length before → IsRow (record { part = part; lasts = before })

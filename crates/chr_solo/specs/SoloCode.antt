@@ -18,7 +18,7 @@ abbrev pub IsAware : BookState → ℕ → ℕ → Known → Type 0
 IsAware b seat t known = (j : Judgement) → known ≡ Judged j → HoldsCandidate b seat t j.trial
 
 -- the calls made so far, and what is judged is the candidate of the next ticket
-pub record SoloSoFar (seat : ℕ) (b : BookState) (calls : ℕ) (n : BookState) (known : Known) : Type
-    0 where
+pub record SoloSoFar (seat : ℕ) (b : BookState) (calls : ℕ) (n : BookState)
+    (known : Known) : Type 0 where
   pub run : SoloRun seat calls b Nothing n known
   pub aware : (t : ℕ) → IsLeastFor n.tickets seat t → IsAware n seat t known

@@ -18,6 +18,6 @@ pub record AreCounts (slots : List (Option (Atom ℕ))) (counts : List ℕ) : Ty
   pub each : (k : ℕ) → k < length counts → slice_index counts k ≡ atoms_in 1 k slots
 
 -- where a count is 0, none of these slots has an atom of its block
-pub record AreEmptyAtNone (label : ℕ) (slots : List (Option (Atom ℕ))) (counts : List ℕ) : Type
-    0 where
+pub record AreEmptyAtNone (label : ℕ) (slots : List (Option (Atom ℕ)))
+    (counts : List ℕ) : Type 0 where
   pub empty : (k : ℕ) → k < length counts → slice_index counts k ≡ 0 → atoms_in label k slots ≡ 0

@@ -11,8 +11,8 @@ use Rattle.chr_store.specs.KeyLabels.{IsIndexOf}
 
 -- the labels rise, were given, and keep the limit, and each key of a chosen place has exactly the
 -- labels of its atoms, once each and rising
-pub record IsIndexed {A : Type 0} (s : LabelledStore) (places : Places) (buckets : Buckets A) : Type
-    0 where
+pub record IsIndexed {A : Type 0} (s : LabelledStore) (places : Places)
+    (buckets : Buckets A) : Type 0 where
   pub labelled : IsLabelled s
   pub index : IsIndexOf places s.entries buckets
 

@@ -19,8 +19,8 @@ use Rattle.chr_check_text.specs.declared.checked.CheckTextFault.TheVariants.{Mem
 
 -- A text of rules and a text of posts are read with one table of names, and this is the book after
 -- a run of them, and its end.
-pub record IsTextRun (program posts : List ℕ) (steps limit : ℕ) (end : End) (b : BookState) : Type
-    0 where
+pub record IsTextRun (program posts : List ℕ) (steps limit : ℕ) (end : End)
+    (b : BookState) : Type 0 where
   pub read : RulesOf program
   pub posted : PostsOf read.table posts
   pub run : IsRunOf read.rules posted.atoms posted.names steps limit b
