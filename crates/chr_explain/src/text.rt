@@ -1,10 +1,6 @@
 //! From the bytes of a program and of a log to the bytes of an explanation.
 ghost use Rattle.std.specs.Prelude.{◌≡◌, ◌≤◌, ℕ, List, [], length, Ok, IfOk};
-ghost use Rattle.chr_value.specs.Naming.{Table};
 ghost use Rattle.chr_log.specs.Events.{events_of};
-ghost use Rattle.chr_log_text.specs.Texts.{IsLogText};
-ghost use Rattle.chr_model.specs.Goals.{State};
-ghost use Rattle.chr_model.specs.Logs.{Lawful};
 ghost use Rattle.chr_model.specs.Programs.{Instances};
 ghost use Rattle.chr_text.specs.Reading.{program_of};
 ghost use Rattle.chr_explain.specs.ExplainTexts.{IsLogAnswer, fault_of_log, log_fault, IsAnswer, IsExplainText, bytes_of};
@@ -66,27 +62,6 @@ fn fault_of<A: Allocator + Copy, W: Watch>(
     }
 }
 
-/// Explains by the events of a lawful log.
-fn explain_lawful<A: Allocator + Copy>(
-    alloc: A,
-    text: &[u8],
-    program: &Program<A>,
-    names: &Names<A>,
-    version: Version,
-    events: &[Event<A>],
-    question: Question,
-) -> Result<Vec<u8, A>, ExplainFault>
-    requires lawful { (last : State) × Lawful version (Instances program.now) (events_of events.now) last }
-    requires short { length text.now ≤ 65536 }
-    ensures { IsAnswer text.now program.now names.now version (events_of events.now) question (bytes_of (λ out. out.items) result) }
-{
-    match explanation(alloc, program, text, names, events, question) {
-        Ok(Some(out)) => Ok(out),
-        Ok(None) => Err(ExplainFault::NotGiven),
-        Err(_) => Err(ExplainFault::Memory),
-    }
-}
-
 /// Explains by the events of a log, if it is a run of the rules.
 fn explain_events<A: Allocator + Copy, W: Watch>(
     alloc: A,
@@ -102,9 +77,14 @@ fn explain_events<A: Allocator + Copy, W: Watch>(
     ensures { IsAnswer text.now program.now names.now version (events_of events.now) question (bytes_of (λ out. out.items) result) }
 {
     match fault_of(alloc, program, version, events, watch) {
-        Ok(None) => explain_lawful(alloc, text, program, names, version, events, question),
-        Ok(Some(fault)) => Err(ExplainFault::Refused(fault)),
-        Err(_) => Err(ExplainFault::Memory),
+        Ok(None) => {}
+        Ok(Some(fault)) => return Err(ExplainFault::Refused(fault)),
+        Err(AllocError) => return Err(ExplainFault::Memory),
+    }
+    match explanation(alloc, program, text, names, events, question) {
+        Ok(Some(out)) => Ok(out),
+        Ok(None) => Err(ExplainFault::NotGiven),
+        Err(AllocError) => Err(ExplainFault::Memory),
     }
 }
 
