@@ -1,7 +1,7 @@
 //! The whole text of a picture.
 ghost use Rattle.std.specs.Prelude.{◌≡◌, ◌++◌, ◌≤◌, ◌+◌, [], length, IfOk, OnOk};
 ghost use Rattle.chr_picture.specs.Layouts.{pair_of, pairs_of, label_text, room, most_room, most_rows};
-ghost use Rattle.chr_picture.specs.Svg.{with_predicate, predicates_of, layout_of, width_of, plot, below, laid_out, picture_text};
+ghost use Rattle.chr_picture.specs.Svg.{with_predicate, predicates_of, layout_of, width_of, below, laid_out, picture_text};
 
 use crate::layout::{Layout, MOST_LETTERS, every_of, index_of, step_of, y_of};
 use crate::picture::{Picture, Row};
@@ -108,23 +108,6 @@ fn layout_of<A: Allocator + Copy>(
     })
 }
 
-/// The columns' lines and numbers, a row for each constraint, and the firings.
-#[tactic(auto, using(crate::proofs::Texts::grouping))]
-fn put_plot<A: Allocator + Copy>(
-    out: &mut Vec<u8, A>,
-    names: &Names<A>,
-    layout: &Layout,
-    preds: &[Pred],
-    picture: &Picture<A>,
-) -> Result<(), AllocError>
-    ensures { OnOk result (out.new.items ≡ out.old.items ++ plot names.now layout.now (pairs_of preds.now) picture.now) }
-{
-    let bottom = y_of(picture.rows.len()) - 8;
-    put_ticks(out, layout, every_of(layout.count), bottom)?;
-    put_rows(out, names, layout, preds, &picture.firings, &picture.rows)?;
-    put_firings(out, &picture.rows, layout, &picture.firings)
-}
-
 /// The caption and the legend, below so many rows.
 #[tactic(auto, using(crate::proofs::Texts::grouping))]
 fn put_below<A: Allocator + Copy>(
@@ -161,7 +144,9 @@ fn put_laid_out<A: Allocator + Copy>(
 {
     let rows = picture.rows.len();
     put_head(out, width_of(layout), y_of(rows + preds.len() + 4))?;
-    put_plot(out, names, layout, preds, picture)?;
+    put_ticks(out, layout, every_of(layout.count), y_of(rows) - 8)?;
+    put_rows(out, names, layout, preds, &picture.firings, &picture.rows)?;
+    put_firings(out, &picture.rows, layout, &picture.firings)?;
     put_below(out, names, layout, preds, picture.total, rows)
 }
 
