@@ -18,8 +18,7 @@ use Rattle.chr_explain.specs.Headings.{Heading}
 use Rattle.chr_explain.specs.Lines.{Recorded}
 use Rattle.chr_explain.specs.Explanations.{explanation_text, IsExplanation}
 use Rattle.chr_log.specs.declared.events.Version.{Version}
-use Rattle.chr_log_text.specs.Texts.{IsLogText, HasLogFault}
-use Rattle.chr_log_text.specs.declared.fault.TextFault.{TextFault}
+use Rattle.chr_log_text.specs.Texts.{IsLogText}
 use Rattle.chr_model.specs.Stores.{Store}
 use Rattle.chr_model.specs.Programs.{Instances}
 use Rattle.chr_text.specs.Reading.{program_of}
@@ -30,8 +29,7 @@ use Rattle.chr_check.specs.declared.fault.CheckError.{CheckError}
 use Rattle.chr_check.specs.declared.fault.CheckError.TheVariants.{NoMemory, NotARun}
 use Rattle.chr_check.specs.Faults.{IsFirstFault, IsFaultIn, IsRun}
 use Rattle.chr_explain.specs.declared.text.ExplainFault.{ExplainFault}
-use Rattle.chr_explain.specs.ExplainTexts.{IsLogAnswer, at_log, fault_of_log, log_fault, IsAnswer, IsExplainText}
-use Rattle.chr_log_text.specs.declared.fault.TextFault.TheVariants as text_faults
+use Rattle.chr_explain.specs.ExplainTexts.{IsLogAnswer, at_log, fault_of_log, IsAnswer, IsExplainText}
 use Rattle.chr_check.specs.declared.fault.Place.TheVariants as places
 use Rattle.chr_explain.specs.declared.text.ExplainFault.TheVariants as faults
 
@@ -168,10 +166,3 @@ read_answer program log question rules table names v es (Err (faults.Refused fau
 read_answer program log question rules table names v es (Err faults.NotGiven) p q is = record { read = record { rules = rules; table = table; reads = p }; logged = record { version = v; events = es; names = names; reads = q }; answered = is }
 read_answer program log question rules table names v es (Err faults.Memory) p q is = tt
 read_answer program log question rules table names v es result p q is = grind arith
-
--- the text of the log has a fault
-pub log_unread : (program log : List ℕ) (question : Question) (fault : TextFault) (rules : List (Simpagation ℕ)) (table : List (List ℕ)) → program_of [] program ≡ Ok (rules, table) → HasLogFault table log fault → IsExplainText program log question (Err (log_fault fault))
-log_unread program log question text_faults.NoMemory rules table p h = tt
-log_unread program log question text_faults.TooLong rules table p h = (λ e. absurd (cc), record { rules = rules; table = table; reads = p }, h)
-log_unread program log question (text_faults.BadEntry n) rules table p h = (λ e. absurd (cc), record { rules = rules; table = table; reads = p }, h)
-log_unread program log question (text_faults.NamesFull n) rules table p h = (λ e. absurd (cc), record { rules = rules; table = table; reads = p }, h)

@@ -4,7 +4,6 @@ use Rattle.chr_rule.specs.Rules.{Simpagation}
 use Rattle.chr_log.specs.Events.{Event}
 use Rattle.chr_log.specs.declared.events.Version.{Version}
 use Rattle.chr_log_text.specs.Texts.{HasLogFault, LogOf}
-use Rattle.chr_log_text.specs.declared.fault.TextFault.{TextFault}
 use Rattle.chr_log_text.specs.declared.fault.TextFault.TheVariants.{NoMemory}
 use Rattle.chr_model.specs.Abstract.{Rules}
 use Rattle.chr_model.specs.Goals.{State}
@@ -34,11 +33,6 @@ at_log Store fault = None
 -- a fault, if it is one of the log
 abbrev pub fault_of_log : CheckFault → Option CheckFault
 fault_of_log fault = at_log fault.place fault
-
--- the fault of a text of a log, which is never want of memory
-abbrev pub log_fault : TextFault → ExplainFault
-log_fault NoMemory = faults.Memory
-log_fault fault = faults.Log fault
 
 -- what is explained of a log by the rules, whose text this is
 abbrev pub IsAnswer : List ℕ → List (Simpagation ℕ) → List (List ℕ) → Version → List (Event ℕ) →

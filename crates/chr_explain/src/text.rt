@@ -3,7 +3,7 @@ ghost use Rattle.std.specs.Prelude.{◌≡◌, ◌≤◌, ℕ, List, [], length,
 ghost use Rattle.chr_log.specs.Events.{events_of};
 ghost use Rattle.chr_model.specs.Programs.{Instances};
 ghost use Rattle.chr_text.specs.Reading.{program_of};
-ghost use Rattle.chr_explain.specs.ExplainTexts.{IsLogAnswer, fault_of_log, log_fault, IsAnswer, IsExplainText, bytes_of};
+ghost use Rattle.chr_explain.specs.ExplainTexts.{IsLogAnswer, fault_of_log, IsAnswer, IsExplainText, bytes_of};
 
 use crate::explanation::{Question, explanation};
 use chr_check::fault::{CheckError, CheckFault, Place};
@@ -88,18 +88,6 @@ fn explain_events<A: Allocator + Copy, W: Watch>(
     }
 }
 
-/// The fault of a log's text.
-fn log_fault(fault: TextFault) -> ExplainFault
-    ensures { result ≡ log_fault fault }
-{
-    match fault {
-        TextFault::NoMemory => ExplainFault::Memory,
-        TextFault::NamesFull { .. } | TextFault::TooLong | TextFault::BadEntry { .. } => {
-            ExplainFault::Log(fault)
-        }
-    }
-}
-
 /// Reads a text of a log by the table of names of the rules, and explains.
 fn explain_log<A: Allocator + Copy, W: Watch>(
     alloc: A,
@@ -124,7 +112,10 @@ fn explain_log<A: Allocator + Copy, W: Watch>(
             question,
             watch,
         ),
-        Err(fault) => Err(log_fault(fault)),
+        Err(fault) => match fault {
+            TextFault::NoMemory => Err(ExplainFault::Memory),
+            _ => Err(ExplainFault::Log(fault)),
+        },
     }
 }
 

@@ -1,9 +1,8 @@
-use Rattle.std.proofs.Common.{Vec, List, ℕ, Err, sym, subst, arith}
+use Rattle.std.proofs.Common.{Vec, List, ℕ, subst}
 use Rattle.chr_log.specs.declared.events.Event.{Event}
 use Rattle.chr_log.specs.Events.{events_of}
-use Rattle.chr_explain.specs.declared.text.ExplainFault.{ExplainFault}
-use Rattle.chr_explain.specs.ExplainTexts.{IsAnswer, IsExplainText, bytes_of}
-use Rattle.chr_explain.proofs.ExplainedTexts.{read_answer, log_unread}
+use Rattle.chr_explain.specs.ExplainTexts.{IsAnswer, bytes_of}
+use Rattle.chr_explain.proofs.ExplainedTexts.{read_answer}
 use Rattle.chr_explain.proofs.text.explain_log.Goals as goal
 
 pub returns-in-Ok : goal.returns-in-Ok
@@ -13,7 +12,5 @@ returns-in-Ok g c = λ read.
     read_answer c.args.text.now c.args.log.now c.args.question c.args.program.now c.args.names.now c.read_log.new.names version (events_of c.in-Ok.log.events.items) made read c.in-Ok.ensures.found
     (subst (λ (es : List (Event g.row.A.Denot)). IsAnswer c.args.text.now c.args.program.now c.read_log.new.names version (events_of es) c.args.question made) c.deref.ensures.value c.explain_events.ensures)
 
-pub returns-in-Err : goal.returns-in-Err
-returns-in-Err g c = λ read.
-    subst (λ (f : ExplainFault). IsExplainText c.args.text.now c.args.log.now c.args.question (Err f)) (sym c.log_fault.ensures)
-    (log_unread c.args.text.now c.args.log.now c.args.question c.in-Err.fault c.args.program.now c.args.names.now read c.in-Err.ensures.fault)
+pub returns-in_default : goal.returns-in_default
+returns-in_default g c = λ read. (c.in_default.not-NoMemory, record { rules = c.args.program.now; table = c.args.names.now; reads = read }, c.in-Err.ensures.fault)
