@@ -3,7 +3,6 @@ use Rattle.std.specs.Prelude.{◌≡◌, ◌≢◌, ℕ, ◌-◌, ◌<◌, min, 
 use Rattle.chr_log.specs.Events.{Event}
 use Rattle.chr_log.specs.declared.events.Version.{Version}
 use Rattle.chr_log_text.specs.Texts.{HasLogFault, LogOf}
-use Rattle.chr_log_text.specs.declared.fault.TextFault.{TextFault}
 use Rattle.chr_log_text.specs.declared.fault.TextFault.TheVariants.{NoMemory}
 use Rattle.chr_model.specs.Abstract.{Rules}
 use Rattle.chr_model.specs.Goals.{State}
@@ -19,11 +18,6 @@ use Rattle.chr_picture.specs.declared.text.PictureFault.TheVariants as faults
 use Rattle.chr_picture.specs.Layouts.{most_rows}
 use Rattle.chr_picture.specs.Svg.{picture_text}
 use Rattle.chr_picture.specs.Parts.{IsPicture}
-
--- the fault of a log's text, which is never want of memory
-abbrev pub log_fault : TextFault → PictureFault
-log_fault NoMemory = faults.Memory
-log_fault fault = faults.Log fault
 
 -- how many entries of a log a range has drawn: as far as the log goes, and at most 2,000
 abbrev pub drawn : Range → ℕ → ℕ

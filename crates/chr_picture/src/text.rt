@@ -3,7 +3,7 @@ ghost use Rattle.std.specs.Prelude.{◌≡◌, ◌+◌, ◌-◌, ◌≤◌, ◌<
 ghost use Rattle.chr_log.specs.Events.{events_of};
 ghost use Rattle.chr_model.specs.Programs.{Instances};
 ghost use Rattle.chr_text.specs.Reading.{program_of};
-ghost use Rattle.chr_picture.specs.Texts.{drawn, log_fault, IsDrawn, IsDrawText};
+ghost use Rattle.chr_picture.specs.Texts.{drawn, IsDrawn, IsDrawText};
 
 use crate::drawing::write_picture;
 use crate::gathering::{MOST_COLUMNS, gather};
@@ -99,18 +99,6 @@ fn draw_log<A: Allocator + Copy, W: Watch>(
     }
 }
 
-/// The fault of a log's text.
-fn log_fault(fault: TextFault) -> PictureFault
-    ensures { result ≡ log_fault fault }
-{
-    match fault {
-        TextFault::NoMemory => PictureFault::Memory,
-        TextFault::NamesFull { .. } | TextFault::TooLong | TextFault::BadEntry { .. } => {
-            PictureFault::Log(fault)
-        }
-    }
-}
-
 /// Reads a text of a log by the table of names of the rules, and draws a part of it.
 fn draw_read<A: Allocator + Copy, W: Watch>(
     alloc: A,
@@ -124,7 +112,10 @@ fn draw_read<A: Allocator + Copy, W: Watch>(
 {
     match read_log(alloc, log, names) {
         Ok(read) => draw_log(alloc, program, names, &read, range, watch),
-        Err(fault) => Err(log_fault(fault)),
+        Err(fault) => match fault {
+            TextFault::NoMemory => Err(PictureFault::Memory),
+            _ => Err(PictureFault::Log(fault)),
+        },
     }
 }
 
