@@ -1,4 +1,5 @@
 pub mod Open
+pub mod Made
 pub mod Listed
 pub mod Stray
 pub mod Passed

@@ -1,19 +1,12 @@
 //! A ticket that is open.
-ghost use Rattle.std.specs.Prelude.{◌≡◌, ℕ, ◌≤◌, [], false, Some, None, IsTrue, IfOk, MatchOption};
+ghost use Rattle.std.specs.Prelude.{◌≡◌, ◌≤◌, false, Some, None, IsTrue, IfOk, MatchOption};
 ghost use Rattle.std.specs.Option.{option_copied};
-ghost use Rattle.chr_value.specs.Atoms.{Atom};
-ghost use Rattle.chr_rule.specs.Parts.{shape};
-ghost use Rattle.chr_guard.specs.Bindings.{bound_at};
-ghost use Rattle.chr_guard.specs.Instances.{made_under};
-ghost use Rattle.chr_model.specs.Goals.{Numbered};
 ghost use Rattle.chr_plan.specs.Plans.{ArePlans};
-ghost use Rattle.chr_search.specs.Answers.{after_judging};
-ghost use Rattle.chr_search.specs.Trials.{older};
-ghost use Rattle.chr_search.specs.declared.search.Then.TheVariants as thens;
 ghost use Rattle.chr_calls.specs.declared.answers.TicketState.TheVariants.{Held, Waiting};
 ghost use Rattle.chr_calls.specs.Tickets.{waiting, activated_by, held_by, put_down, with_candidate, going_on, atom_in, search_in};
 ghost use Rattle.chr_tickets.specs.Open.{shown_ticket, state_in, is_open_for, with_atom, IsActiveGoal};
-ghost use Rattle.chr_tickets.specs.Passed.{PassesOver};
+ghost use Rattle.chr_tickets.specs.Made.{atom_under, waiting_bare, WaitsMade};
+ghost use Rattle.chr_tickets.specs.Passed.{advanced, IsCutAt, IsSearchFor, PassesOlder};
 
 use chr_calls::TicketState;
 use chr_guard::{Binding, body};
@@ -99,10 +92,10 @@ impl<A: Allocator + Copy> Ticket<A> {
         pattern: &RuleAtom<A>,
         binding: &Binding<'_, A>,
     ) -> Result<bool, AllocError>
-        requires { shown_ticket self.old ≡ waiting (record { name = (shape pattern.now).name; args = [] }) }
+        requires { shown_ticket self.old ≡ waiting_bare pattern.now }
         ensures mark { (shown_ticket self.new).stray ≡ (shown_ticket self.old).stray }
-        ensures made { IfOk result (λ all. IsTrue all → (atom : Atom ℕ) × (made_under (bound_at binding.now) (shape pattern.now) ≡ Some atom) × (shown_ticket self.new ≡ waiting atom)) }
-        ensures none { IfOk result (λ all. all ≡ false → made_under (bound_at binding.now) (shape pattern.now) ≡ None) }
+        ensures made { IfOk result (λ all. IsTrue all → WaitsMade pattern.now binding.now (shown_ticket self.new)) }
+        ensures none { IfOk result (λ all. all ≡ false → atom_under pattern.now binding.now ≡ None) }
     {
         let Goal::Waiting(atom) = &mut self.goal else {
             unreachable!();
@@ -218,7 +211,7 @@ impl<A: Allocator + Copy> Ticket<A> {
 
     /// Moves the search of an active ticket on after a judged trial, and takes its candidate away.
     pub(crate) fn advance(&mut self, judged: &Judged<A>)
-        ensures { IsActiveGoal (shown_ticket self.old).goal → shown_ticket self.new ≡ going_on (after_judging judged.now) (shown_ticket self.old) }
+        ensures { IsActiveGoal (shown_ticket self.old).goal → shown_ticket self.new ≡ advanced judged.now (shown_ticket self.old) }
     {
         if let Goal::Active {
             search,
@@ -245,8 +238,8 @@ impl<A: Allocator + Copy> Ticket<A> {
         requires active { IsActiveGoal (shown_ticket self.old).goal }
         requires plans { ArePlans program.now plans.now }
         ensures few { result.count ≤ most }
-        ensures more { result.then ≡ thens.More → result.count ≡ most }
-        ensures passed { (l : ℕ) → (shown_ticket self.old).goal ≡ Numbered l → PassesOver (older program.now plans.now store.now.entries l) result instance.new bound.new (shown_ticket self.old) (shown_ticket self.new) }
+        ensures more { IsCutAt most result }
+        ensures passed { PassesOlder program.now plans.now store.now.entries result instance.new bound.new (shown_ticket self.old) (shown_ticket self.new) }
     {
         let Goal::Active {
             search,
@@ -265,7 +258,7 @@ impl<A: Allocator + Copy> Ticket<A> {
 
     /// Puts the search of an active ticket at the place of another one of its label, and takes its candidate away.
     pub(crate) fn go_to(&mut self, place: Search)
-        ensures { (shown_ticket self.old).goal ≡ Numbered place.label → shown_ticket self.new ≡ going_on place.place (shown_ticket self.old) }
+        ensures { IsSearchFor place (shown_ticket self.old) → shown_ticket self.new ≡ going_on place.place (shown_ticket self.old) }
     {
         if let Goal::Active {
             search,

@@ -1,18 +1,12 @@
 //! The tickets of a book.
-ghost use Rattle.std.specs.Prelude.{◌≡◌, ◌↔◌, ℕ, ◌≤◌, ◌++◌, ◌∷◌, [], true, Some, length, take, slice_set, IsSome, IsTrue, OnOk, OnErr, MatchOption};
+ghost use Rattle.std.specs.Prelude.{◌≡◌, ◌↔◌, ◌≤◌, ◌++◌, ◌∷◌, [], true, Some, length, take, slice_set, IsSome, IsTrue, OnOk, OnErr, MatchOption};
 ghost use Rattle.std.specs.Option.{option_copied};
-ghost use Rattle.chr_rule.specs.Parts.{shape};
-ghost use Rattle.chr_guard.specs.Bindings.{bound_at};
-ghost use Rattle.chr_guard.specs.Instances.{made_under};
-ghost use Rattle.chr_model.specs.Goals.{Numbered};
 ghost use Rattle.chr_plan.specs.Plans.{ArePlans};
-ghost use Rattle.chr_search.specs.Answers.{after_judging};
-ghost use Rattle.chr_search.specs.Trials.{older};
-ghost use Rattle.chr_search.specs.declared.search.Then.TheVariants as thens;
 ghost use Rattle.chr_calls.specs.declared.answers.TicketState.TheVariants.{Waiting, Resting};
 ghost use Rattle.chr_calls.specs.Tickets.{ended, waiting, activated_by, held_by, put_down, marked, with_candidate, going_on, ticket_at, state_of, IsClaimable, IsActive, Holds, IsNotHeld, AreQuiet, atom_in, search_in, LosesStray, IsLeastFor, NoneFor};
 ghost use Rattle.chr_tickets.specs.Open.{shown_ticket, with_atom};
-ghost use Rattle.chr_tickets.specs.Passed.{PassesOver};
+ghost use Rattle.chr_tickets.specs.Made.{atom_under};
+ghost use Rattle.chr_tickets.specs.Passed.{advanced, IsCutAt, IsSearchFor, PassesOlder};
 ghost use Rattle.chr_tickets.specs.Stray.{IsFirstStray, NoneStray};
 
 use crate::slots::{Slots, open_at, place_of, pop_ended};
@@ -173,7 +167,7 @@ impl<A: Allocator + Copy> Tickets<A> {
         pattern: &RuleAtom<A>,
         binding: &Binding<'_, A>,
     ) -> Result<(), AllocError>
-        ensures ok { OnOk result (MatchOption (made_under (bound_at binding.now) (shape pattern.now)) (self.new ≡ self.old) (λ atom. self.new ≡ self.old ++ waiting atom ∷ [])) }
+        ensures ok { OnOk result (MatchOption (atom_under pattern.now binding.now) (self.new ≡ self.old) (λ atom. self.new ≡ self.old ++ waiting atom ∷ [])) }
         ensures err { OnErr result (self.new ≡ self.old) }
     {
         let alloc = self.allocator();
@@ -244,7 +238,7 @@ impl<A: Allocator + Copy> Tickets<A> {
     /// Moves the search of an active goal on after a judged trial, and takes its candidate away.
     pub fn advance(&mut self, ticket: u64, judged: &Judged<A>)
         requires { IsActive self.old ticket }
-        ensures { self.new ≡ slice_set self.old ticket (going_on (after_judging judged.now) (ticket_at self.old ticket)) }
+        ensures { self.new ≡ slice_set self.old ticket (advanced judged.now (ticket_at self.old ticket)) }
     {
         let found = open_at(&mut self.slots, self.first, ticket);
         found.advance(judged);
@@ -265,8 +259,8 @@ impl<A: Allocator + Copy> Tickets<A> {
         requires active { IsActive self.old ticket }
         requires plans { ArePlans program.now plans.now }
         ensures few { result.count ≤ most }
-        ensures more { result.then ≡ thens.More → result.count ≡ most }
-        ensures passed { (l : ℕ) → (ticket_at self.old ticket).goal ≡ Numbered l → PassesOver (older program.now plans.now store.now.entries l) result instance.new bound.new (ticket_at self.old ticket) (ticket_at self.new ticket) }
+        ensures more { IsCutAt most result }
+        ensures passed { PassesOlder program.now plans.now store.now.entries result instance.new bound.new (ticket_at self.old ticket) (ticket_at self.new ticket) }
         ensures others { self.new ≡ slice_set self.old ticket (ticket_at self.new ticket) }
     {
         let found = open_at(&mut self.slots, self.first, ticket);
@@ -275,7 +269,7 @@ impl<A: Allocator + Copy> Tickets<A> {
 
     /// Puts the search of an active goal at the place of another one of its label, and takes its candidate away.
     pub fn go_to(&mut self, ticket: u64, place: Search)
-        requires { (ticket_at self.old ticket).goal ≡ Numbered place.label }
+        requires { IsSearchFor place (ticket_at self.old ticket) }
         ensures { self.new ≡ slice_set self.old ticket (going_on place.place (ticket_at self.old ticket)) }
     {
         let found = open_at(&mut self.slots, self.first, ticket);
