@@ -1,10 +1,10 @@
 //! A book, beside what each seat has made of it.
-ghost use Rattle.std.specs.Prelude.{◌≡◌, ◌↔◌, ◌+◌, ◌-◌, ◌^◌, ◌<◌, set, [], true, false, not, length, sum_by, vec_len, IfOk, IfErr, IfSome, IsTrue, IsSome, Some, None};
+ghost use Rattle.std.specs.Prelude.{◌≡◌, ◌↔◌, ◌+◌, ◌-◌, ◌^◌, ◌<◌, ◌≤◌, set, [], true, false, not, length, sum_by, vec_capacity, vec_len, IfOk, IfErr, IfSome, IsTrue, IsSome, Some, None};
 ghost use Rattle.chr_book.specs.Given.{AreNextIn};
 ghost use Rattle.chr_calls.specs.Batches.{ClaimsSheet, ReportsSheet, Sheets, claimed_of, following_of, sheet_of};
 ghost use Rattle.chr_calls.specs.Books.{BookState};
 ghost use Rattle.chr_sheet.specs.Rows.{judgements_of};
-ghost use Rattle.chr_seats.specs.Accounts.{AreNamed, AreSeats, log_of, made_upto, if_so, raised};
+ghost use Rattle.chr_seats.specs.Accounts.{AreCounts, AreNamed, AreSeats, log_of, made_upto, if_so, raised};
 ghost use Rattle.chr_seats.specs.Versions.{IsKnownAfter, IsKnownOf, IsSearchOf, IsVersionOf};
 ghost use Rattle.chr_seats.specs.Holds.{GoesOn, HasHeadline, HasRightCounts, IsHold, IsReading, MarksIn, TakesStrayIn};
 
@@ -109,6 +109,41 @@ fn read_headline<A: Allocator + Copy>(book: &Book<A>)
 }
 
 impl<L1: PostLedger, L2: Ledger, A: Allocator + Copy> Kept<L1, L2, A> {
+    /// A book or none without versions, and all seats, each with its counts.
+    fn seated(
+        book: Option<Book<A>>,
+        counts: [Counts; 32],
+        blanks: Blanks<A>,
+        mut workers: Vec<Seat<L1, L2>, A>,
+        mut sessions: Vec<Seat<L1, L2>, A>,
+    ) -> (Kept<L1, L2, A>, Seats<L1, L2, A>)
+        requires there { L1.loaded ≡ true → IsSome book }
+        requires counts { AreCounts (log_of book) counts }
+        requires named { AreNamed blanks L1.name L1.parts L2.name L2.parts L1.history }
+        requires empty { (vec_len workers ≡ 0) × (vec_len sessions ≡ 0) }
+        requires room { (16 ≤ vec_capacity workers) × (16 ≤ vec_capacity sessions) }
+        ensures book { result.0 ≡ book }
+        ensures workers { AreSeats (log_of book) 0 result.1.workers.items }
+        ensures sessions { AreSeats (log_of book) 16 result.1.sessions.items }
+    {
+        let Blanks {
+            posts,
+            others,
+            versions,
+        } = blanks;
+        let versions = Versions::named(versions);
+        let (posts, others) = seat_all(&counts, posts, others, &mut workers, &mut sessions);
+        let kept = Kept {
+            book,
+            versions,
+            entries: 0,
+            counts,
+            posts,
+            others,
+        };
+        (kept, Seats { workers, sessions })
+    }
+
     /// A book, and all seats, each with the counts of what it has made in the book's log. On E01 the book comes back.
     pub fn with(
         alloc: A,
@@ -121,29 +156,14 @@ impl<L1: PostLedger, L2: Ledger, A: Allocator + Copy> Kept<L1, L2, A> {
         ensures sessions { IfOk result (λ r. AreSeats book.log 16 r.1.sessions.items) }
         ensures back { IfErr result (λ b. b ≡ book) }
     {
-        let (Ok(mut workers), Ok(mut sessions)) = (
+        let (Ok(workers), Ok(sessions)) = (
             Vec::with_capacity(alloc, WORKER_SEATS),
             Vec::with_capacity(alloc, SESSION_SEATS),
         ) else {
             return Err(book);
         };
         let counts = tally(book.log());
-        let Blanks {
-            posts,
-            others,
-            versions,
-        } = blanks;
-        let versions = Versions::named(versions);
-        let (posts, others) = seat_all(&counts, posts, others, &mut workers, &mut sessions);
-        let kept = Kept {
-            book: Some(book),
-            versions,
-            entries: 0,
-            counts,
-            posts,
-            others,
-        };
-        Ok((kept, Seats { workers, sessions }))
+        Ok(Kept::seated(Some(book), counts, blanks, workers, sessions))
     }
 
     /// No book yet, and all seats, which have made nothing. An `Err` is E01.
@@ -157,25 +177,9 @@ impl<L1: PostLedger, L2: Ledger, A: Allocator + Copy> Kept<L1, L2, A> {
         ensures workers { IfOk result (λ r. AreSeats [] 0 r.1.workers.items) }
         ensures sessions { IfOk result (λ r. AreSeats [] 16 r.1.sessions.items) }
     {
-        let mut workers = Vec::with_capacity(alloc, WORKER_SEATS)?;
-        let mut sessions = Vec::with_capacity(alloc, SESSION_SEATS)?;
-        let counts = none_yet();
-        let Blanks {
-            posts,
-            others,
-            versions,
-        } = blanks;
-        let versions = Versions::named(versions);
-        let (posts, others) = seat_all(&counts, posts, others, &mut workers, &mut sessions);
-        let kept = Kept {
-            book: None,
-            versions,
-            entries: 0,
-            counts,
-            posts,
-            others,
-        };
-        Ok((kept, Seats { workers, sessions }))
+        let workers = Vec::with_capacity(alloc, WORKER_SEATS)?;
+        let sessions = Vec::with_capacity(alloc, SESSION_SEATS)?;
+        Ok(Kept::seated(None, none_yet(), blanks, workers, sessions))
     }
 
     /// Whether a seat's counts are those that are kept for its number, which are what it has made.
