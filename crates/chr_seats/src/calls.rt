@@ -24,11 +24,11 @@ pub trait Call<A: Allocator + Copy, X> {
     /// The line of the call in the table: from a seat and a book to the answer and the book after it.
     ghost line: { Self → ℕ → BookState → X → BookState → Type 0 };
 
-    /// Whether it adds posts.
-    ghost posts: { Bool };
+    /// Whether it adds posts. Most calls add none.
+    ghost posts: { Bool } = { false };
 
-    /// What must hold of the book.
-    ghost needs: { Self → BookState → Type 0 };
+    /// What must hold of the book. Most calls need nothing.
+    ghost needs: { Self → BookState → Type 0 } = { λ c b. ⊤ };
 
     /// Makes the call.
     fn make(self, book: &mut Book<A>, seat: u32) -> X
@@ -46,10 +46,6 @@ pub struct Claim {
 impl<A: Allocator + Copy> Call<A, Result<Label, ClaimFault>> for Claim {
     ghost line = { λ c seat b answer n. Claims b seat c.ticket answer n };
 
-    ghost posts = { false };
-
-    ghost needs = { λ c b. ⊤ };
-
     #[tactic(auto, using(crate::proofs::Lines::claims_go_on))]
     fn make(self, book: &mut Book<A>, seat: u32) -> Result<Label, ClaimFault> {
         book.claim(seat, self.ticket)
@@ -66,10 +62,6 @@ pub struct AskSheet {
 impl<A: Allocator + Copy> Call<A, Result<Sheet<A>, TurnFault>> for AskSheet {
     ghost line = { λ c seat b answer n. Sheets b seat c.ticket c.most (sheet_of answer) n };
 
-    ghost posts = { false };
-
-    ghost needs = { λ c b. ⊤ };
-
     #[tactic(auto, using(crate::proofs::Lines::gives_go_on))]
     fn make(self, book: &mut Book<A>, seat: u32) -> Result<Sheet<A>, TurnFault> {
         book.sheet(seat, self.ticket, self.most)
@@ -85,10 +77,6 @@ pub struct ClaimSheet {
 
 impl<A: Allocator + Copy> Call<A, Result<Result<Sheet<A>, TurnFault>, ClaimFault>> for ClaimSheet {
     ghost line = { λ c seat b answer n. ClaimsSheet b seat c.ticket c.most (claimed_of answer) n };
-
-    ghost posts = { false };
-
-    ghost needs = { λ c b. ⊤ };
 
     #[tactic(auto, using(crate::proofs::Lines::claims_sheet_goes_on))]
     fn make(
@@ -112,8 +100,6 @@ pub struct ReportSheet<'a, A: Allocator> {
 impl<'a, A: Allocator + Copy> Call<A, SheetReport<A>> for ReportSheet<'a, A> {
     ghost line = { λ c seat b answer n. ReportsSheet b seat c.ticket c.most (judgements_of c.judgements.now) answer.reported (following_of answer.following) n };
 
-    ghost posts = { false };
-
     ghost needs = { λ c b. IfSome c.known (λ search. AreNextIn b search.now (judgements_of c.judgements.now)) };
 
     fn make(self, book: &mut Book<A>, seat: u32) -> SheetReport<A> {
@@ -131,10 +117,6 @@ pub struct ReportAll<'a, A: Allocator> {
 impl<'a, A: Allocator + Copy> Call<A, BatchReport<A>> for ReportAll<'a, A> {
     ghost line = { λ c seat b answer n. ReportsBatch b seat c.ticket (judgements_of c.judgements.now) (report_of answer) n };
 
-    ghost posts = { false };
-
-    ghost needs = { λ c b. ⊤ };
-
     fn make(self, book: &mut Book<A>, seat: u32) -> BatchReport<A> {
         book.report_all(seat, self.ticket, self.judgements)
     }
@@ -149,10 +131,6 @@ pub struct Fire<'a, A: Allocator> {
 
 impl<'a, A: Allocator + Copy> Call<A, Result<Firing, FireFault>> for Fire<'a, A> {
     ghost line = { λ c seat b answer n. FiresOrMisses b seat c.ticket c.judged.now answer n };
-
-    ghost posts = { false };
-
-    ghost needs = { λ c b. ⊤ };
 
     #[tactic(auto, using(crate::proofs::Lines::fires_go_on))]
     fn make(self, book: &mut Book<A>, seat: u32) -> Result<Firing, FireFault> {
@@ -169,10 +147,6 @@ pub struct DropGoal {
 impl<A: Allocator + Copy> Call<A, Result<Dropping, DropFault>> for DropGoal {
     ghost line = { λ c seat b answer n. Drops b seat c.ticket answer n };
 
-    ghost posts = { false };
-
-    ghost needs = { λ c b. ⊤ };
-
     #[tactic(auto, using(crate::proofs::Lines::drops_go_on))]
     fn make(self, book: &mut Book<A>, seat: u32) -> Result<Dropping, DropFault> {
         book.drop_goal(seat, self.ticket)
@@ -187,10 +161,6 @@ pub struct PutDown {
 
 impl<A: Allocator + Copy> Call<A, Result<(), PutDownFault>> for PutDown {
     ghost line = { λ c seat b answer n. PutsDown b seat c.ticket answer n };
-
-    ghost posts = { false };
-
-    ghost needs = { λ c b. ⊤ };
 
     fn make(self, book: &mut Book<A>, seat: u32) -> Result<(), PutDownFault> {
         book.put_down(seat, self.ticket)
@@ -207,8 +177,6 @@ impl<'a, A: Allocator + Copy> Call<A, Result<Posted, ReadError>> for PostText<'a
     ghost line = { λ c seat b answer n. PostsText b seat c.bytes.now answer n };
 
     ghost posts = { true };
-
-    ghost needs = { λ c b. ⊤ };
 
     #[tactic(auto, using(crate::proofs::Lines::text_goes_on))]
     fn make(self, book: &mut Book<A>, seat: u32) -> Result<Posted, ReadError> {
