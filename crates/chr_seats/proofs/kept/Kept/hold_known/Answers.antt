@@ -1,5 +1,4 @@
-use Rattle.std.proofs.Common.{Option, IfSome, ap, subst, ◌∙◌}
-use Rattle.chr_calls.specs.Books.{BookState}
+use Rattle.std.proofs.Common.{IfSome, ap, subst, ◌∙◌}
 use Rattle.chr_seats.specs.Accounts.{SeatState}
 use Rattle.chr_seats.specs.Versions.{IsSearchOf}
 use Rattle.chr_seats.proofs.Alike.{makes_in}
