@@ -118,12 +118,16 @@ fn first_other(alloc: Global, scene: Scene, label: u64, rows: &[&str]) -> Option
     }
 }
 
-/// A search: a program, posts, the labels that are removed, the active label and its trials.
-type Row<'r> = (&'r str, &'r str, &'r [u64], u64, &'r [&'r str]);
+/// A search: the active label and its trials.
+type Worked<'r> = (u64, &'r [&'r str]);
 
-/// The number of the first trial of a row's search that isn't as expected, 0 where all are. None where memory ran out.
-fn first_wrong(alloc: Global, row: &Row) -> Option<usize> {
-    let (rules, posts, removed, label, trials) = *row;
+/// Searches over one store: a program, posts, the labels that are removed, and the searches.
+type Row<'r> = (&'r str, &'r str, &'r [u64], &'r [Worked<'r>]);
+
+/// The number of the first trial of a search that isn't as expected, 0 where all are. None where memory ran out.
+fn first_wrong(alloc: Global, row: &Row, search: &Worked) -> Option<usize> {
+    let (rules, posts, removed, _) = *row;
+    let (label, trials) = *search;
     let (program, store) = program_and_store(alloc, rules, posts, removed)?;
     let plans = plans_of(alloc, &program)?;
     let scene = Scene {
@@ -230,200 +234,143 @@ fn is_found_twice(
 
 const GCD: &str = "gcd(0) <=> true. gcd(N) \\ gcd(M) <=> N =< M | L is M mod N, gcd(L).";
 
-static ONE_LABEL: Row = (
-    GCD,
-    "gcd(4).",
-    &[],
-    1,
-    &["1.1 [1] Misfit", "2.1 [1] Part", "2.2 [1] Part"],
-);
+/// The joins of two edges that end at a node.
+const JOINED: &str = "edge(X,Y), edge(Y,Z), node(Z) <=> path(X,Z).";
 
-#[test]
-fn one_label_has_no_partner(rt: HostRuntime) {
-    assert!(rt; first_wrong(rt.alloc(), &ONE_LABEL) == Some(0));
-}
+/// The trials of such a join.
+const PATHS: &[&str] = &[
+    "1.3 [4] Part",
+    "1.3 [4, 2] Part",
+    "1.3 [4, 2, 1] Whole",
+    "1.3 [4, 2, 3] Whole",
+];
 
-static GUARDED: Row = (
-    GCD,
-    "gcd(9), gcd(6).",
-    &[],
-    2,
-    &[
-        "1.1 [2] Misfit",
-        "2.1 [2] Part",
-        "2.1 [2, 1] Whole",
-        "2.2 [2] Part",
-        "2.2 [2, 1] Misfit",
-    ],
-);
-
-#[test]
-fn guard_decides_which_of_two_is_kept(rt: HostRuntime) {
-    assert!(rt; first_wrong(rt.alloc(), &GUARDED) == Some(0));
-}
-
-static ELDEST: Row = (
-    GCD,
-    "gcd(9), gcd(6).",
-    &[],
-    1,
-    &["1.1 [1] Misfit", "2.1 [1] Part", "2.2 [1] Part"],
-);
-
-#[test]
-fn younger_labels_are_no_partners(rt: HostRuntime) {
-    assert!(rt; first_wrong(rt.alloc(), &ELDEST) == Some(0));
-}
-
-static REMOVED: Row = (
-    "p, q <=> r.",
-    "p, p, p, p, q.",
-    &[2],
-    5,
-    &[
-        "1.2 [5] Part",
-        "1.2 [5, 1] Whole",
-        "1.2 [5, 3] Whole",
-        "1.2 [5, 4] Whole",
-    ],
-);
-
-#[test]
-fn removed_labels_are_passed_over(rt: HostRuntime) {
-    assert!(rt; first_wrong(rt.alloc(), &REMOVED) == Some(0));
-}
-
-static THREE_HEADS: Row = (
-    "p, p, p <=> q.",
-    "p, p.",
-    &[],
-    2,
-    &[
-        "1.1 [2] Part",
-        "1.1 [2, 1] Part",
-        "1.1 [2, 1, 1] Misfit",
-        "1.2 [2] Part",
-        "1.2 [2, 1] Part",
-        "1.2 [2, 1, 1] Misfit",
-        "1.3 [2] Part",
-        "1.3 [2, 1] Part",
-        "1.3 [2, 1, 1] Misfit",
-    ],
-);
-
-#[test]
-fn one_label_does_not_serve_two_heads(rt: HostRuntime) {
-    assert!(rt; first_wrong(rt.alloc(), &THREE_HEADS) == Some(0));
-}
-
-static JOINED: Row = (
-    "edge(X,Y), edge(Y,Z), node(Z) <=> path(X,Z).",
-    "edge(a,b), edge(b,c), edge(c,b), node(c).",
-    &[],
-    4,
-    &[
-        "1.3 [4] Part",
-        "1.3 [4, 2] Part",
-        "1.3 [4, 2, 1] Whole",
-        "1.3 [4, 2, 3] Whole",
-    ],
-);
-
-#[test]
-fn partners_are_found_by_the_value_that_joins_them(rt: HostRuntime) {
-    assert!(rt; first_wrong(rt.alloc(), &JOINED) == Some(0));
-}
-
-/// Searches with compound values, worked by hand.
-static COMPOUND: [Row; 9] = [
+/// Worked searches.
+static SEARCHES: [Row; 11] = [
+    // One label has no partner.
     (
-        "edge(X,Y), edge(Y,Z), node(Z) <=> path(X,Z).",
-        "edge(f(a),f(b)), edge(f(b),f(c)), edge(f(c),f(b)), node(f(c)), node(c).",
+        GCD,
+        "gcd(4).",
         &[],
-        4,
+        &[(1, &["1.1 [1] Misfit", "2.1 [1] Part", "2.2 [1] Part"])],
+    ),
+    // The guard decides which of two is kept, and younger labels are no partners.
+    (
+        GCD,
+        "gcd(9), gcd(6).",
+        &[],
         &[
-            "1.3 [4] Part",
-            "1.3 [4, 2] Part",
-            "1.3 [4, 2, 1] Whole",
-            "1.3 [4, 2, 3] Whole",
+            (
+                2,
+                &[
+                    "1.1 [2] Misfit",
+                    "2.1 [2] Part",
+                    "2.1 [2, 1] Whole",
+                    "2.2 [2] Part",
+                    "2.2 [2, 1] Misfit",
+                ],
+            ),
+            (1, &["1.1 [1] Misfit", "2.1 [1] Part", "2.2 [1] Part"]),
         ],
     ),
+    // Removed labels are passed over.
     (
-        "edge(X,Y), edge(Y,Z), node(Z) <=> path(X,Z).",
+        "p, q <=> r.",
+        "p, p, p, p, q.",
+        &[2],
+        &[(
+            5,
+            &[
+                "1.2 [5] Part",
+                "1.2 [5, 1] Whole",
+                "1.2 [5, 3] Whole",
+                "1.2 [5, 4] Whole",
+            ],
+        )],
+    ),
+    // A dead label has no trials.
+    (GCD, "gcd(9), gcd(6).", &[2], &[(2, &[])]),
+    // One label doesn't serve two heads.
+    (
+        "p, p, p <=> q.",
+        "p, p.",
+        &[],
+        &[(
+            2,
+            &[
+                "1.1 [2] Part",
+                "1.1 [2, 1] Part",
+                "1.1 [2, 1, 1] Misfit",
+                "1.2 [2] Part",
+                "1.2 [2, 1] Part",
+                "1.2 [2, 1, 1] Misfit",
+                "1.3 [2] Part",
+                "1.3 [2, 1] Part",
+                "1.3 [2, 1, 1] Misfit",
+            ],
+        )],
+    ),
+    // Partners are found by the value that joins them.
+    (
+        JOINED,
+        "edge(a,b), edge(b,c), edge(c,b), node(c).",
+        &[],
+        &[(4, PATHS)],
+    ),
+    // The same of compound values.
+    (
+        JOINED,
         "edge(f(a),f(b)), edge(f(b),f(c)), edge(f(c),f(b)), node(f(c)), node(c).",
         &[],
-        5,
-        &["1.3 [5] Part"],
+        &[(4, PATHS), (5, &["1.3 [5] Part"])],
     ),
     // A term with variables is no key, so all labels of its predicate are tried.
     (
         "p(X), q(f(X)) <=> r.",
         "p(1), q(f(1)), q(f(2)), p(1).",
         &[],
-        4,
-        &["1.1 [4] Part", "1.1 [4, 2] Whole", "1.1 [4, 3] Misfit"],
-    ),
-    (
-        "p(X), q(f(X)) <=> r.",
-        "p(1), q(f(1)), q(f(2)), p(1).",
-        &[],
-        2,
-        &["1.2 [2] Part", "1.2 [2, 1] Whole"],
-    ),
-    (
-        "p(X), q(f(X)) <=> r.",
-        "p(1), q(f(1)), q(f(2)), p(1).",
-        &[],
-        3,
-        &["1.2 [3] Part"],
+        &[
+            (
+                4,
+                &["1.1 [4] Part", "1.1 [4, 2] Whole", "1.1 [4, 3] Misfit"],
+            ),
+            (2, &["1.2 [2] Part", "1.2 [2, 1] Whole"]),
+            (3, &["1.2 [3] Part"]),
+        ],
     ),
     // One without variables is a key.
     (
         "t \\ p(f(1,g(a))) <=> true.",
         "p(f(1,g(a))), p(f(1,g(b))), p(f(1,a)), p(f(1,g(a))), t.",
         &[],
-        5,
-        &["1.1 [5] Part", "1.1 [5, 1] Whole", "1.1 [5, 4] Whole"],
+        &[(5, &["1.1 [5] Part", "1.1 [5, 1] Whole", "1.1 [5, 4] Whole"])],
     ),
     (
         "p(f(X)) <=> X > 0 | true. p(f(X,X)) <=> true.",
         "p(f(1)), p(f(a)), p(1), p(f(1,1)).",
         &[],
-        4,
-        &["1.1 [4] Misfit", "2.1 [4] Whole"],
+        &[(4, &["1.1 [4] Misfit", "2.1 [4] Whole"])],
     ),
     (
         "n(X) <=> n(s(X)).",
         "n(s(s(s(s(s(s(z))))))), n(s(s(s(s(s(s(s(z)))))))).",
         &[],
-        1,
-        &["1.1 [1] Whole"],
-    ),
-    (
-        "n(X) <=> n(s(X)).",
-        "n(s(s(s(s(s(s(z))))))), n(s(s(s(s(s(s(s(z)))))))).",
-        &[],
-        2,
-        &["1.1 [2] Misfit"],
+        &[(1, &["1.1 [1] Whole"]), (2, &["1.1 [2] Misfit"])],
     ),
 ];
 
 #[test]
-fn searches_with_compound_values(rt: HostRuntime) {
-    for row in &COMPOUND {
-        let (_, posts, _, label, _) = row;
-        assert!(rt;
-            first_wrong(rt.alloc(), row) == Some(0),
-            "label {label} of {posts}"
-        );
+fn worked_searches(rt: HostRuntime) {
+    for row in &SEARCHES {
+        let (_, posts, _, searches) = row;
+        for search in *searches {
+            assert!(rt;
+                first_wrong(rt.alloc(), row, search) == Some(0),
+                "label {} of {posts}",
+                search.0
+            );
+        }
     }
-}
-
-static DEAD: Row = (GCD, "gcd(9), gcd(6).", &[2], 2, &[]);
-
-#[test]
-fn dead_label_has_no_trials(rt: HostRuntime) {
-    assert!(rt; first_wrong(rt.alloc(), &DEAD) == Some(0));
 }
 
 #[test]
