@@ -21,7 +21,7 @@ use Rattle.chr_calls.proofs.Headlines.{opened_kept, call_posts, call_keeps}
 use Rattle.chr_book.specs.Texts.{PostsAtoms}
 use Rattle.chr_book.specs.declared.texts.Posted.{Posted}
 use Rattle.laws_accepts.specs.Accepted.{IsOfTexts, opens, posts, goes_on}
-use Rattle.laws_accepts.proofs.Posted.{AreRead, none_read, text_read, both_read, each_says}
+use Rattle.laws_accepts.proofs.Posted.{AreRead, none_read, text_read, both_read, atoms_say}
 use Rattle.laws_accepts.proofs.Stays.{Stays, all_stay, call_stays}
 use Rattle.laws_accepts.proofs.Checked.{IsReadable}
 
@@ -69,8 +69,8 @@ call_read program limit b n seat call none names r =
 posts_read : (program : List ℕ) (limit : ℕ) (b n : BookState) (seat : ℕ) (bytes : List ℕ) (p : Posted) → PostsAtoms b seat bytes p n → IsRead program limit b → IsRead program limit n
 posts_read program limit b n seat bytes p h r =
     let own = text_read b.names bytes (h.atoms, h.table) h.reads in
-    let says = each_says b.names h.table (map (by_texts h.table) h.atoms) h.atoms own.numbered in
-    let call : Call b seat n = calls.PostText h.table h.atoms p.first own.keeps (says.named, h.first, h.after) in
+    let said = atoms_say b.names h.table (map (by_texts h.table) h.atoms) h.atoms own.numbered in
+    let call : Call b seat n = calls.PostText h.table h.atoms p.first own.keeps (said.1, h.first, h.after) in
     called_read program limit b n seat h.table call (subst (Stays (with_names b h.table)) (sym h.after) (all_stay (with_names b h.table) seat h.atoms)) r
     (subst (AreRead r.read.table h.table) (sym (call_posts b n seat call)) (both_read r.read.table b.names h.table (posted_by (events b)) h.atoms r.posted own))
 
