@@ -34,10 +34,9 @@ use Rattle.chr_check_text.specs.declared.checked.CheckTextFault.{CheckTextFault}
 use Rattle.chr_check_text.specs.declared.checked.CheckTextFault.TheVariants as faults
 use Rattle.laws_writable.proofs.Rules.{program_held, rules_whole}
 use Rattle.laws_accepts.specs.Accepted.{IsTextRun, verdict_of, IsAnswered}
-use Rattle.laws_accepts.proofs.Kept.{run_kept}
 use Rattle.laws_accepts.proofs.Posted.{AreRead, text_read}
 use Rattle.laws_accepts.proofs.ReadBack.{log_read, store_read, log_no_fault, store_no_fault}
-use Rattle.laws_accepts.proofs.Runs.{lawful_is, strict_is, whole_answer, strict_answer}
+use Rattle.laws_accepts.proofs.Runs.{run_kept, lawful_is, strict_is, whole_answer, strict_answer}
 
 -- ---- the check of texts that are read
 

@@ -2,7 +2,6 @@ pub mod Runs
 pub mod Distinct
 pub mod Posted
 pub mod Stays
-pub mod Kept
 pub mod ReadBack
 pub mod Checked
 pub mod Fixed

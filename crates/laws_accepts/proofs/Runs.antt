@@ -1,5 +1,5 @@
 -- The events of a book are a run for the checker.
-use Rattle.std.proofs.Common.{◌≡◌, ℕ, ◌↔◌, List, Result, Ok, Err, IsOk, refl, sym, subst, ◌∙◌, ap}
+use Rattle.std.proofs.Common.{◌≡◌, ℕ, zero, suc, ◌+◌, ◌≤◌, ◌↔◌, List, Result, Ok, Err, IsOk, refl, sym, subst, ◌∙◌, ap, arith}
 use Rattle.std.specs.List.{AllByRecursion}
 use Rattle.chr_value.specs.Atoms.{Atom}
 use Rattle.chr_rule.specs.Rules.{Simpagation}
@@ -17,7 +17,7 @@ use Rattle.chr_model.proofs.Strict.{strict_lawful}
 use Rattle.chr_calls.specs.Tickets.{AreQuiet}
 use Rattle.chr_calls.specs.Books.{BookState, opened, goal_state, events}
 use Rattle.chr_calls.proofs.Tickets.{goal_there}
-use Rattle.chr_solo.specs.Solo.{Nothing}
+use Rattle.chr_solo.specs.Solo.{Known, Nothing, SoloCall, claims, asks, fires, reports, drops, SoloRun}
 use Rattle.chr_solo.specs.declared.solo.End.{End}
 use Rattle.chr_solo.specs.declared.solo.End.TheVariants.{Quiet, Open}
 use Rattle.chr_check.specs.declared.checking.Verdict.{Verdict}
@@ -25,19 +25,36 @@ use Rattle.chr_check.specs.declared.checking.Verdict.TheVariants.{Run, RunAndFin
 use Rattle.chr_check.specs.declared.fault.CheckFault.{CheckFault}
 use Rattle.chr_check.specs.Faults.{IsRun, IsFinalRun}
 use Rattle.chr_run_text.specs.RunText.{seat, posted_book, IsRunOf}
-use Rattle.chr_solo.proofs.SoloRuns.{run_lasts}
-use Rattle.laws_accepts.proofs.Stays.{all_stay}
+use Rattle.laws_accepts.proofs.Stays.{Stays, still, stays_then, all_stay, claims_stay, turns_stay, fires_stay, reports_stay, drops_stay}
 use Rattle.chr_check_text.specs.CheckTexts.{IsAnswer}
 use Rattle.laws_accepts.specs.Accepted.{verdict_of}
 
-rules_same : (rules : List (Simpagation ℕ)) (atoms : List (Atom ℕ)) (names : List (List ℕ)) (steps limit : ℕ) (b : BookState) → IsRunOf rules atoms names steps limit b → b.rules ≡ rules
-rules_same rules atoms names steps limit b run =
-    ap (λ x. x.0) (run_lasts seat run.solo.made (posted_book rules run.plans atoms names limit) Nothing b run.solo.known run.solo.run)
-    ∙ (all_stay (opened rules run.plans names limit) seat atoms).rules
+-- ---- a solo run keeps the names and the limit, and gives no label above it
+
+call_stays : (by t : ℕ) (b n : BookState) (known after : Known) → SoloCall by t b known n after → Stays b n
+call_stays by t b n known after (claims l h e) = claims_stay b n by t (Ok l) h
+call_stays by t b n known after (asks turn k h e) = turns_stay b n by t (Ok turn) h
+call_stays by t b n known after (fires j firing k h e) = fires_stay b n by t j (Ok firing) h
+call_stays by t b n known after (reports j moved k h e) = reports_stay b n by t j (Ok moved) h
+call_stays by t b n known after (drops dropping k h e) = drops_stay b n by t (Ok dropping) h
+
+solo_stays : (by calls : ℕ) (b : BookState) (known : Known) (n : BookState) (after : Known) → SoloRun by calls b known n after → Stays b n
+solo_stays by zero b known n after h = still h.0 refl
+solo_stays by (suc calls) b known n after h = stays_then (call_stays by h.0 b h.2 known h.3 h.4) (solo_stays by calls h.2 h.3 n after h.5)
+
+pub run_kept : (rules : List (Simpagation ℕ)) (atoms : List (Atom ℕ)) (names : List (List ℕ)) (steps limit : ℕ) (b : BookState) → IsRunOf rules atoms names steps limit b → (b.names ≡ names) × (b.next ≤ limit + 1) × (b.rules ≡ rules)
+run_kept rules atoms names steps limit b run =
+    let o = opened rules run.plans names limit in
+    let first = posted_book rules run.plans atoms names limit in
+    let s = stays_then (all_stay o seat atoms) (solo_stays seat run.solo.made first Nothing b run.solo.known run.solo.run) in
+    let start : 1 ≤ limit + 1 = omega arith in
+    let le : b.next ≤ b.limit + 1 = s.next start in
+    let same : b.limit ≡ limit = s.limit in
+    (s.names, omega (arith, le, same), s.rules)
 
 pub lawful_is : (rules : List (Simpagation ℕ)) (atoms : List (Atom ℕ)) (names : List (List ℕ)) (steps limit : ℕ) (b : BookState) → IsRunOf rules atoms names steps limit b → Lawful Two (Instances rules) (events b) (goal_state b)
 lawful_is rules atoms names steps limit b run =
-    subst (λ (rs : List (Simpagation ℕ)). Lawful Two (Instances rs) (events b) (goal_state b)) (rules_same rules atoms names steps limit b run) run.headline.lawful
+    subst (λ (rs : List (Simpagation ℕ)). Lawful Two (Instances rs) (events b) (goal_state b)) (run_kept rules atoms names steps limit b run).2 run.headline.lawful
 
 -- ---- a book whose log is lawful
 
