@@ -1,5 +1,5 @@
--- What the check of the texts of a book answers, and so of a run.
-use Rattle.std.proofs.Common.{◌≡◌, ℕ, ◌↔◌, ◌≤◌, List, [], ◌∷◌, length, Result, Ok, Err, refl, sym, ap, ap₂, subst, ◌∙◌, arith}
+-- What the check of the texts of a book answers, and so of a run, also of one of several texts of posts.
+use Rattle.std.proofs.Common.{◌≡◌, ℕ, ◌↔◌, ◌≤◌, List, [], ◌∷◌, length, Result, Ok, Err, refl, sym, ap, ap₂, subst, ◌∙◌, arith, ◌++◌, append_assoc}
 use Rattle.std.specs.List.{AllByRecursion}
 use Rattle.chr_lex.specs.declared.fault.ReadFault.{ReadFault}
 use Rattle.chr_value.specs.Atoms.{Atom}
@@ -15,7 +15,7 @@ use Rattle.chr_log_text.proofs.Whole.{log_once, store_once}
 use Rattle.chr_model.specs.Logs.{Lawful, posted_by, strict}
 use Rattle.chr_model.specs.Programs.{Instances}
 use Rattle.chr_model.specs.Stores.{Store}
-use Rattle.chr_text.specs.Reading.{Program, program_of, RulesOf}
+use Rattle.chr_text.specs.Reading.{Program, program_of, RulesOf, Posts, posts_of}
 use Rattle.chr_calls.specs.Tickets.{AreQuiet}
 use Rattle.chr_calls.specs.Books.{BookState, goal_state, events}
 use Rattle.chr_calls.proofs.Tickets.{posted_strict}
@@ -34,9 +34,12 @@ use Rattle.chr_check_text.specs.declared.checked.CheckTextFault.{CheckTextFault}
 use Rattle.chr_check_text.specs.declared.checked.CheckTextFault.TheVariants as faults
 use Rattle.laws_writable.proofs.Rules.{program_held, rules_whole}
 use Rattle.laws_accepts.specs.Accepted.{IsTextRun, verdict_of, IsAnswered}
-use Rattle.laws_accepts.proofs.Posted.{AreRead, text_read}
-use Rattle.laws_accepts.proofs.ReadBack.{log_read, store_read, log_no_fault, store_no_fault}
+use Rattle.laws_accepts.proofs.ReadBack.{AreRead, text_read, none_read, both_read, log_read, store_read, log_no_fault, store_no_fault}
 use Rattle.laws_accepts.proofs.Runs.{run_kept, lawful_is, strict_is, whole_answer, strict_answer}
+use Rattle.std.proofs.lemmas.List.{append-nil}
+use Rattle.chr_run_text.specs.Texts.{with_posts}
+use Rattle.chr_run_text.specs.RunTexts.{IsRunOfTexts}
+use Rattle.chr_text.proofs.Texts.{ok_is, bind_ok}
 
 -- ---- the check of texts that are read
 
@@ -148,3 +151,28 @@ run_answer program posts steps limit end b answer run is =
 
 pub strict_run_answer : (program posts : List ℕ) (steps limit : ℕ) (b : BookState) (answer : Result Verdict CheckFault) → (run : IsTextRun program posts steps limit Quiet b) → IsAnswer One (Instances run.read.rules) (strict (events b)) b.store answer → answer ≡ Ok RunAndFinal
 strict_run_answer program posts steps limit b answer run is = strict_answer run.read.rules b answer (run_lawful program posts steps limit Quiet b run) (run.quiet.0 refl) is
+
+record Adds (x y : Posts) : Type 0 where
+  own : List (Atom ℕ)
+  is : y.0 ≡ x.0 ++ own
+  read : AreRead x.1 y.1 own
+
+all_read : (x y : Posts) (texts : List (List ℕ)) → with_posts x texts ≡ Ok y → Adds x y
+all_read x y [] h =
+    let none : Adds x x = record { own = []; is = sym (append-nil x.0); read = none_read x.1 } in
+    subst (Adds x) (ok_is x y h) none
+all_read x y (text ∷ texts) h =
+    let first = bind_ok (posts_of x.1 text) (λ o. with_posts (x.0 ++ o.0, o.1) texts) y h in
+    let rest = all_read (x.0 ++ first.0.0, first.0.1) y texts first.2 in
+    record {
+      own = first.0.0 ++ rest.own;
+      is = rest.is ∙ append_assoc x.0 first.0.0 rest.own;
+      read = both_read x.1 first.0.1 y.1 first.0.0 rest.own (text_read x.1 text first.0 first.1) rest.read;
+    }
+
+posts_read : (table names : Table) (texts : List (List ℕ)) (atoms : List (Atom ℕ)) → with_posts ([], table) texts ≡ Ok (atoms, names) → AreRead table names atoms
+posts_read table names texts atoms h = (let a = all_read ([], table) (atoms, names) texts h in subst (AreRead table names) (sym a.is) a.read)
+
+pub texts_run_readable : (program : List ℕ) (posts : List (List ℕ)) (steps limit : ℕ) (end : End) (b : BookState) → limit ≤ 4294967295 → (run : IsRunOfTexts program posts steps limit end b) → IsReadable program run.read b
+texts_run_readable program posts steps limit end b le run =
+    run_readable program run.read run.posted.atoms run.posted.names steps limit b le run.run (posts_read run.read.table run.posted.names posts run.posted.atoms run.posted.reads)

@@ -1,9 +1,7 @@
 pub mod Runs
 pub mod Distinct
-pub mod Posted
 pub mod Stays
 pub mod ReadBack
 pub mod Checked
 pub mod Fixed
 pub mod Seats
-pub mod RunTexts

@@ -21,7 +21,7 @@ use Rattle.chr_calls.proofs.Headlines.{opened_kept, call_posts, call_keeps}
 use Rattle.chr_book.specs.Texts.{PostsAtoms}
 use Rattle.chr_book.specs.declared.texts.Posted.{Posted}
 use Rattle.laws_accepts.specs.Accepted.{IsOfTexts, opens, posts, goes_on}
-use Rattle.laws_accepts.proofs.Posted.{AreRead, none_read, text_read, both_read, atoms_say}
+use Rattle.laws_accepts.proofs.ReadBack.{AreRead, none_read, text_read, both_read, atoms_say}
 use Rattle.laws_accepts.proofs.Stays.{Stays, all_stay, call_stays}
 use Rattle.laws_accepts.proofs.Checked.{IsReadable}
 

@@ -4,8 +4,7 @@ use Rattle.chr_run_text.specs.Output.{shown}
 use Rattle.chr_run_text.specs.declared.output.Show.TheVariants as show
 use Rattle.chr_solo.specs.declared.solo.End.{End}
 use Rattle.chr_check_text.specs.CheckTexts.{IsCheckText}
-use Rattle.laws_accepts.proofs.Checked.{accepted, strict_accepted}
-use Rattle.laws_accepts.proofs.RunTexts.{texts_run_readable}
+use Rattle.laws_accepts.proofs.Checked.{accepted, strict_accepted, texts_run_readable}
 use Rattle.laws_accepts.proofs.laws.what_a_run_of_texts_writes_is_accepted.Goals as goal
 
 pub returns-clause-whole_log : goal.returns-clause-whole_log
