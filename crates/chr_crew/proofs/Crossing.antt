@@ -150,3 +150,7 @@ module _ (L1 L2 A : RattleType) (p : posts.Ghosts L1.Denot) (l : ledger.Ghosts L
   Shared-sync s y f =
       let k = Locked-send s y f in
       search (basis, k) fits 5000 depth 40
+
+-- the same of the bounds that a function has on the memory of its lock
+pub Shared-sync_by : {A : RattleType} {g : Ghosts A.Denot} → IsSend A → IsSync A → Frees g g.dealloc_token → (L1 L2 : RattleType) (p : posts.Ghosts L1.Denot) (l : ledger.Ghosts L1.Denot) (n : naming.Ghosts L1.Denot) (m : ledger.Ghosts L2.Denot) → IsSync (Shared.the_row L1 L2 A p l n m g)
+Shared-sync_by s y f L1 L2 p l n m = Shared-sync L1 L2 _ p l n m _ s y f

@@ -1,20 +1,18 @@
 //! Runs of a crew on a book.
 ghost use Rattle.std.specs.Prelude.{◌≡◌, ◌↔◌, ◌≤◌, ◌<◌, ◌+◌, ◌++◌, ℕ, List, map, length, get_or, sum_by, vec_len, vec_capacity, true, Some, IfOk, IfErr, IsTrue, OnOk};
 ghost use Rattle.chr_log.specs.Events.{Entry};
-ghost use Rattle.chr_model.specs.Logs.{posted_by};
 ghost use Rattle.chr_calls.specs.Tickets.{AreQuiet};
-ghost use Rattle.chr_calls.specs.Books.{events};
-ghost use Rattle.chr_calls.specs.Headline.{Headline};
 ghost use Rattle.chr_pool.specs.Hands.{hand_id};
 ghost use Rattle.chr_pool.specs.Inlets.{inlet_id};
 ghost use Rattle.chr_pool.specs.Pools.{OfOneMake};
 ghost use Rattle.chr_book.specs.Shots.{IsShotOf, Continues};
 ghost use Rattle.chr_seats.specs.Accounts.{AreNamed, log_of, counts_in, made_upto, AreSeats};
+ghost use Rattle.chr_seats.specs.Holds.{HasHeadline};
 ghost use Rattle.chr_crew.specs.Runs.{IsWorkedOn};
 ghost use Rattle.chr_crew.specs.declared.crew.End.TheVariants.{Quiet};
 ghost use Rattle.chr_crew.specs.declared.crew.Cause.TheVariants.{NoMemory};
 
-use crate::gate::Gate;
+use crate::gate::{Gate, Stop};
 use crate::worker::{Worker, join_all, part_all, work_all};
 use chr_book::{Book, Shot};
 use chr_calls::TicketState;
@@ -230,7 +228,7 @@ fn work_together<
     let mut seats = seats;
     deal(rt, &shared, &mut room.hands, &room.tickets);
     join_all(&mut room.hands, &mut seats.workers, &mut room.workers);
-    work_all(rt, &shared, &mut room.workers, gate, turns);
+    work_all(rt, &shared, &mut room.workers, gate, Stop::Turns(turns));
     let kept = shared.into_kept();
     let right = count(&kept, &room.workers, &mut room.counts);
     let book = let_go(kept, seats, &mut room.workers, &mut room.hands);
@@ -240,7 +238,7 @@ fn work_together<
 /// How a run ended that left this book.
 fn end_of<A: Allocator + Copy>(book: &Book<A>) -> End
     ensures end { (result ≡ Quiet) ↔ AreQuiet book.now.tickets }
-    ensures headline { Headline book.now (posted_by (events book.now)) }
+    ensures headline { HasHeadline book.now }
 {
     if book.quiet() {
         End::Quiet
@@ -264,7 +262,7 @@ fn conclude<L1: PostLedger, L2: Ledger, A: Allocator + Copy, R: Wait>(
     ensures same { IfOk result (λ f. (f.book ≡ book) × (f.counts ≡ room.counts)) }
     ensures right { OnOk result (IsTrue right) }
     ensures goes_on { OnOk result (Continues book room.before n) }
-    ensures headline { IfOk result (λ f. Headline f.book (posted_by (events f.book))) }
+    ensures headline { IfOk result (λ f. HasHeadline f.book) }
     ensures end { IfOk result (λ f. (f.end ≡ Quiet) ↔ AreQuiet f.book.tickets) }
     ensures tally { IfOk result (λ f. f.tally.taken + vec_len f.tally.left ≡ f.tally.pushed) }
     ensures memory { IfErr result (λ e. e.cause ≡ NoMemory → (e.book ≡ book) × Continues book room.before n) }
@@ -322,7 +320,7 @@ pub fn run_crew<
     requires there { L1.loaded ≡ true }
     requires named { AreNamed blanks L1.name L1.parts L2.name L2.parts L1.history }
     ensures worked_on { IfOk result (λ f. IsWorkedOn n book f.book) }
-    ensures headline { IfOk result (λ f. Headline f.book (posted_by (events f.book))) }
+    ensures headline { IfOk result (λ f. HasHeadline f.book) }
     ensures all { IfOk result (λ f. vec_len f.counts ≡ n) }
     ensures counts { IfOk result (λ f. (k : ℕ) (d : _) → k < n → get_or f.counts.items k d ≡ counts_in f.book.log (k + 1)) }
     ensures end { IfOk result (λ f. (f.end ≡ Quiet) ↔ AreQuiet f.book.tickets) }

@@ -5,7 +5,7 @@ ghost use Rattle.chr_pool.specs.Hands.{hand_id};
 use crate::gate::{Gate, Stop};
 use crate::work::work;
 use chr_pool::Hand;
-use chr_seats::{PostLedger, Seat};
+use chr_seats::{PostLedger, Seat, WORKER_SEATS};
 use chr_shared::Shared;
 use std::alloc::{Allocator, Global};
 use std::sync::Wait;
@@ -13,11 +13,29 @@ use std::sync::ledger::Ledger;
 use std::thread;
 use std::thread::Threads;
 
-/// A hand and a seat.
+/// What a worker works by: a hand of the pool, and a seat.
 #[derive(Drop)]
 pub struct Worker<L1: PostLedger, L2: Ledger> {
     pub hand: Hand<u64>,
     pub seat: Seat<L1, L2>,
+}
+
+impl<L1: PostLedger, L2: Ledger> Worker<L1, L2> {
+    /// Works by its hand and its seat, as [`work`] says.
+    pub fn work<A: Allocator + Copy, R: Wait, G: Gate>(
+        &mut self,
+        rt: &R,
+        shared: &Shared<L1, L2, A>,
+        gate: &G,
+        stop: Stop,
+    )
+        ensures hand { hand_id self.new.hand ≡ hand_id self.old.hand }
+        ensures number { self.new.seat.number ≡ self.old.seat.number }
+        ensures posts { self.new.seat.counts.posts ≡ self.old.seat.counts.posts }
+    {
+        let Worker { hand, seat } = self;
+        work(rt, shared, hand, seat, gate, stop);
+    }
 }
 
 /// Gives each hand a seat, in order.
@@ -62,39 +80,22 @@ pub fn part_all<L1: PostLedger, L2: Ledger, A: Allocator>(
     }
 }
 
-/// The work of one worker.
-fn work_as<L1: PostLedger, L2: Ledger, A: Allocator + Copy, R: Wait, G: Gate>(
-    rt: &R,
-    shared: &Shared<L1, L2, A>,
-    worker: &mut Worker<L1, L2>,
-    gate: &G,
-    turns: u64,
-)
-    ensures hand { hand_id worker.new.hand ≡ hand_id worker.old.hand }
-    ensures number { worker.new.seat.number ≡ worker.old.seat.number }
-    ensures posts { worker.new.seat.counts.posts ≡ worker.old.seat.counts.posts }
-{
-    let Worker { hand, seat } = worker;
-    work(rt, shared, hand, seat, gate, Stop::Turns(turns));
-}
-
-/// Has all workers work at once, each in a thread of its own. Where no thread can be made, they work in turn.
+/// Has all workers work at once, each in a thread of its own, as long as they are no more than the sixteen that one book has
+/// seats for. Where no thread can be made, they work in turn.
 pub fn work_all<
     L1: PostLedger + Send + Sync,
     L2: Ledger + Send + Sync,
     A: Allocator + Copy + Send + Sync,
     R: Threads + Wait + Sync,
     G: Gate + Sync,
->(rt: &R, shared: &Shared<L1, L2, A>, workers: &mut [Worker<L1, L2>], gate: &G, turns: u64)
-    requires { 0 < length workers.old }
+>(rt: &R, shared: &Shared<L1, L2, A>, workers: &mut [Worker<L1, L2>], gate: &G, stop: Stop)
     ensures hands { (k : ℕ) (d : _) → k < length workers.old → hand_id (get_or workers.new k d).hand ≡ hand_id (get_or workers.old k d).hand }
     ensures numbers { (k : ℕ) (d : _) → k < length workers.old → (get_or workers.new k d).seat.number ≡ (get_or workers.old k d).seat.number }
 {
-    let n = workers.len();
     thread::for_each_mut(
         rt,
         workers,
-        n,
-        &|_, worker| work_as(rt, shared, worker, gate, turns),
+        WORKER_SEATS,
+        &|_, worker| worker.work(rt, shared, gate, stop),
     );
 }
