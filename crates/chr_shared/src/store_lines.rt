@@ -3,7 +3,7 @@ ghost use Rattle.std.specs.Prelude.{◌≡◌, ℕ, List, IfOk};
 ghost use Rattle.chr_value.specs.Stores.{Store as PlainStore};
 ghost use Rattle.chr_shared.specs.Lines.{AreStoreLines, GivesStore};
 
-use crate::lines::Lines;
+use crate::lines::{Lines, Read};
 use chr_log::write_store;
 use chr_store::{Label, Store};
 use chr_value::{Atom, Names};
@@ -17,13 +17,7 @@ pub struct StoreCopy<A: Allocator> {
 }
 
 /// What the lines of a store are made of.
-#[derive(Drop)]
-pub enum StoreRead<A: Allocator> {
-    /// The lines themselves.
-    Lines(Lines<A>),
-    /// A copy of the constraints.
-    Copy(StoreCopy<A>),
-}
+pub type StoreRead<A> = Read<StoreCopy<A>, A>;
 
 /// A copy of the constraints with their labels, which rise. An `Err` is E01.
 fn copy_constraints<A: Allocator + Copy>(
@@ -72,9 +66,9 @@ pub fn read_store<A: Allocator + Copy>(
 {
     let constraints = copy_constraints(alloc, store)?;
     if constraints.len() < names.len() {
-        return Ok(StoreRead::Lines(lines_of(alloc, names, &constraints)?));
+        return Ok(Read::Lines(lines_of(alloc, names, &constraints)?));
     }
-    Ok(StoreRead::Copy(StoreCopy {
+    Ok(Read::Copy(StoreCopy {
         names: names.copy(alloc)?,
         constraints,
     }))
@@ -86,8 +80,8 @@ impl<A: Allocator + Copy> StoreRead<A> {
         ensures { (table : List (List ℕ)) (store : PlainStore) → GivesStore table store self → IfOk result (λ lines. AreStoreLines table store lines) }
     {
         match self {
-            StoreRead::Lines(lines) => Ok(lines),
-            StoreRead::Copy(copy) => lines_of(alloc, &copy.names, &copy.constraints),
+            Read::Lines(lines) => Ok(lines),
+            Read::Copy(copy) => lines_of(alloc, &copy.names, &copy.constraints),
         }
     }
 }
