@@ -1,12 +1,12 @@
 //! The text of values and atoms. Each call writes after the bytes that are there. An `Err` is E01, and those bytes stay.
 ghost use Rattle.std.specs.Prelude.{◌≡◌, ◌++◌, ◌∷◌, [], length, take, OnOk, OnErr};
 ghost use Rattle.std.specs.Fmt.{decimal, signed_decimal};
-ghost use Rattle.chr_value.specs.Atoms.{ground, ground_comp, said, renamed, text_of, by_texts};
+ghost use Rattle.chr_value.specs.Atoms.{ground_comp, said, renamed, text_of, by_texts};
 ghost use Rattle.chr_value.specs.Spelling.{mark_before, mark_behind, spell_term, spell};
 
 use crate::atom::Atom;
 use crate::names::{Name, Names};
-use crate::value::{Comp, Value, ValueRef};
+use crate::value::{Comp, ValueRef};
 use itoa::Buffer;
 use std::alloc::{AllocError, Allocator};
 
@@ -68,22 +68,6 @@ fn put_behind<C: Allocator>(out: &mut Vec<u8, C>, count: usize) -> Result<(), Al
 }
 
 #[cycle(put)]
-fn put_value<A: Allocator + Copy, C: Allocator>(
-    out: &mut Vec<u8, C>,
-    names: &Names<A>,
-    value: &Value<A>,
-) -> Result<(), AllocError>
-    ensures writes { OnOk result (out.new.items ≡ out.old.items ++ spell_term (renamed (text_of names.now) (ground value.now))) }
-    ensures keeps { take (length out.old.items) out.new.items ≡ out.old.items }
-{
-    match value {
-        Value::Int(n) => put_int(out, *n),
-        Value::Sym(name) => put_name(out, names, *name),
-        Value::Comp(comp) => put_comp(out, names, comp),
-    }
-}
-
-#[cycle(put)]
 fn put_comp<A: Allocator + Copy, C: Allocator>(
     out: &mut Vec<u8, C>,
     names: &Names<A>,
@@ -95,7 +79,7 @@ fn put_comp<A: Allocator + Copy, C: Allocator>(
     put_name(out, names, comp.functor)?;
     for (i, value) in comp.args.iter().enumerate() {
         put_before(out, i)?;
-        put_value(out, names, value)?;
+        write_value(out, names, &value.as_ref())?;
     }
     put_behind(out, comp.args.len())
 }
@@ -103,6 +87,7 @@ fn put_comp<A: Allocator + Copy, C: Allocator>(
 /// The bytes of a value: a number in decimal, with `-` in front where it is below zero; a symbol's text; or a functor's text
 /// with the arguments between `(` and `)`, by `,` without blanks. An `Err` may leave part of them after the bytes that were
 /// there.
+#[cycle(put)]
 pub fn write_value<A: Allocator + Copy, C: Allocator>(
     out: &mut Vec<u8, C>,
     names: &Names<A>,
