@@ -36,6 +36,6 @@ mod terms;
 mod values;
 
 pub use binding::{Binding, Bound, Known};
-pub use matching::{fit, fit_head};
+pub use matching::{fit, fit_head, fit_partner};
 pub use settled::Settled;
 pub use values::{guard_holds, holds, value};

@@ -64,26 +64,40 @@ fn fit_terms<'v, A: Allocator + Copy>(
     true
 }
 
-/// The same for the arguments of a head.
+/// The same for the arguments of a head, of which there are as many as an atom has.
 #[inline(always)]
 fn fit_args<'v, A: Allocator + Copy>(
     binding: &mut Binding<'v, A>,
     terms: &[Term<A>],
     atom: &'v Atom<A>,
 ) -> bool
-    requires { list_all (argument_known (length binding.old)) (map argument terms.now) ≡ true }
+    requires known { list_all (argument_known (length binding.old)) (map argument terms.now) ≡ true }
+    requires arity { length terms.now ≡ length atom.now.args }
     ensures narrows { NarrowsIf (λ v. map (term_under v) (map argument terms.now) ≡ map (λ t. Some t) atom.now.args) result binding.old binding.new }
     ensures keeps { Keeps binding.old binding.new }
 {
-    if terms.len() != atom.arity() {
-        return false;
-    }
     for i in 0..terms.len() {
         if !fit_term(binding, &terms[i], atom.arg_at(i)) {
             return false;
         }
     }
     true
+}
+
+/// Extends a binding so that a head equals an atom of its predicate, as [`fit_head`] does, without a look at the predicate.
+#[inline(always)]
+pub fn fit_partner<'v, A: Allocator + Copy>(
+    binding: &mut Binding<'v, A>,
+    head: &RuleAtom<A>,
+    atom: &'v Atom<A>,
+) -> bool
+    requires known { list_all (argument_known (length binding.old)) (shape head.now).args ≡ true }
+    requires name { (shape head.now).name ≡ atom.now.name }
+    requires arity { length (shape head.now).args ≡ length atom.now.args }
+    ensures narrows { NarrowsIf (λ v. atom_under v (shape head.now) ≡ Some atom.now) result binding.old binding.new }
+    ensures keeps { Keeps binding.old binding.new }
+{
+    fit_args(binding, &head.terms, atom)
 }
 
 /// Extends a binding so that a head equals an atom. False only where no valuation that extends it makes them equal.
@@ -98,10 +112,10 @@ pub fn fit_head<'v, A: Allocator + Copy>(
     ensures keeps { Keeps binding.old binding.new }
 {
     let name = atom.name();
-    if head.name.number != name.number {
+    if head.name.number != name.number || head.terms.len() != atom.arity() {
         return false;
     }
-    fit_args(binding, &head.terms, atom)
+    fit_partner(binding, head, atom)
 }
 
 /// The same for several heads.

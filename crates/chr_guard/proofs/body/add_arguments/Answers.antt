@@ -1,4 +1,4 @@
-use Rattle.std.proofs.Common.{◌≡◌, ◌+◌, ◌++◌, ◌∷◌, [], length, map, Some, None, sym, ap, ◌∙◌, arith, option_map}
+use Rattle.std.proofs.Common.{◌≡◌, ◌++◌, ◌∷◌, [], length, map, Some, None, sym, ap, ◌∙◌, arith, option_map}
 use Rattle.std.proofs.lemmas.List.{length_push, take_all}
 use Rattle.chr_value.specs.Atoms.{ground}
 use Rattle.chr_rule.specs.Parts.{argument, shape}

@@ -4,17 +4,13 @@ use Rattle.chr_value.specs.Atoms.{said}
 use Rattle.chr_rule.specs.Parts.{argument}
 use Rattle.chr_rule.specs.Scope.{argument_known}
 use Rattle.chr_guard.specs.Values.{term_under}
-use Rattle.chr_guard.proofs.Steps.{known_read, read_more, read_stop, read_end, read_count}
+use Rattle.chr_guard.proofs.Steps.{known_read, read_more, read_stop, read_end}
 use Rattle.chr_guard.proofs.Bindings.{keeps_both, narrows_keeps}
 use Rattle.chr_guard.proofs.matching.fit_args.Goals as goal
 
-pub returns-then-terms-arity-clause-narrows : goal.returns-then-terms-arity-clause-narrows
-returns-then-terms-arity-clause-narrows g c v extends same =
-    c.if-terms-arity.true (read_count term_under argument (λ t. Some t) c.args.terms.now c.args.atom.now.args v same ∙ sym c.arity.ensures.count)
-
 pub fit_term-requires : goal.fit_term-requires
 fit_term-requires g c =
-    (omega arith, ap (λ m. argument_known m (argument c.index-terms-i.result)) c.loop-i.invariant.places ∙ known_read (argument_known (length c.args.binding.now)) argument c.args.terms.now c.loop-i.i _ c.loop-i-test.true c.index-terms-i.is c.requires)
+    (omega arith, ap (λ m. argument_known m (argument c.index-terms-i.result)) c.loop-i.invariant.places ∙ known_read (argument_known (length c.args.binding.now)) argument c.args.terms.now c.loop-i.i _ c.loop-i-test.true c.index-terms-i.is c.requires.known)
 
 pub returns-then-not-fit_term-clause-narrows : goal.returns-then-not-fit_term-clause-narrows
 returns-then-not-fit_term-clause-narrows g c =

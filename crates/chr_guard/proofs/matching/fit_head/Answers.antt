@@ -1,12 +1,16 @@
-use Rattle.std.proofs.Common.{◌≡◌, List, map, Some, subst, ◌∙◌}
-use Rattle.chr_rule.specs.declared.term.Term.{Term as RuleTerm}
+use Rattle.std.proofs.Common.{Some, sym, ◌∙◌, arith}
 use Rattle.chr_rule.specs.Parts.{shape, argument}
 use Rattle.chr_guard.specs.Values.{term_under}
-use Rattle.chr_guard.specs.Bindings.{NarrowsIf}
-use Rattle.chr_guard.proofs.Matched.{told_head}
+use Rattle.chr_guard.proofs.Steps.{read_count}
+use Rattle.chr_guard.proofs.Under.{atom_is}
 use Rattle.chr_guard.proofs.matching.fit_head.Goals as goal
+use Rattle.chr_guard.proofs.matching.fit_head.Goals.{then-head-name-via-then-head-name, then-head-name-via-else-head-name+then-len-arity}
 
-pub returns-clause-narrows : goal.returns-clause-narrows
-returns-clause-narrows g c =
-    told_head c.fit_args.result (shape c.args.head.now) c.args.atom.now c.args.binding.now c.fit_args.new.binding (c.if-head-name.false ∙ c.name-name.ensures)
-    (subst (λ (ts : List (RuleTerm _)). NarrowsIf (λ v. map (term_under v) (map argument ts) ≡ map (λ t. Some t) c.args.atom.now.args) c.fit_args.result c.args.binding.now c.fit_args.new.binding) c.deref.ensures.value c.fit_args.ensures.narrows)
+pub returns-then-head-name-clause-narrows : goal.returns-then-head-name-clause-narrows
+returns-then-head-name-clause-narrows g c v extends same =
+    let are = (atom_is v (shape c.args.head.now) c.args.atom.now).0 same in
+    let count = read_count term_under argument (λ t. Some t) c.args.head.now.terms.items c.args.atom.now.args v are.1 in
+    elim c.then-head-name.branch [
+      | then-head-name-via-then-head-name w ↦ w.if-head-name.true (are.0 ∙ sym c.name-name.ensures)
+      | then-head-name-via-else-head-name+then-len-arity w ↦ w.if-len-arity.true (omega arith)
+    ]

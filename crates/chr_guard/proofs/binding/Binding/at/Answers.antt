@@ -2,7 +2,6 @@ use Rattle.std.proofs.Common.{◌≡◌, false, true, arith, ap, sym, ◌∙◌}
 use Rattle.std.proofs.lemmas.Grind.{common_steps}
 use Rattle.std.specs.Int.{bit_at}
 use Rattle.chr_guard.specs.Bindings.{bound_term}
-use Rattle.chr_guard.specs.declared.binding.Bound.TheVariants as bounds
 use Rattle.chr_guard.proofs.Bindings.{told_one, told_zero}
 use Rattle.chr_guard.proofs.binding.Binding.at.Goals as goal
 use Rattle.chr_guard.proofs.binding.Binding.at.Goals.{then-self-from-via-then-self-from, then-self-from-via-else-self-from+then-not-has}
