@@ -8,7 +8,7 @@ use Rattle.std.proofs.lemmas.List.{length-take-le, length-replicate, take_at, ex
 use Rattle.std.proofs.lemmas.Nat.Bits.{bit_at-zero}
 use Rattle.std.proofs.lemmas.Bool.{cases_eq}
 use Rattle.std.proofs.lemmas.Bool.Decides.{nat_tests}
-use Rattle.chr_value.specs.Atoms.{Value, Int, Sym, ground_comp}
+use Rattle.chr_value.specs.Atoms.{Value}
 use Rattle.chr_guard.specs.declared.binding.Bound.{Bound}
 use Rattle.chr_guard.specs.declared.binding.Bound.TheVariants as bounds
 use Rattle.chr_guard.specs.Values.{Valuation}
@@ -131,13 +131,17 @@ told_new old x t within free = record {
   );
 }
 
+-- what is bound has one value, and stays bound
+pub bound_settled : (binding : List (Option (Value ℕ))) (x : ℕ) (v : Valuation) → IsSome (bound_at binding x) → Extends v binding → v x ≡ bound_at binding x
+bound_settled binding x v some extends = let t = some_is_some (bound_at binding x) some in extends x t.0 t.1 ∙ sym t.1
+
+pub stays_bound : (P : Valuation → Type 0) (old new : List (Option (Value ℕ))) (x : ℕ) → Narrows P old new → IsSome (bound_at old x) → IsSome (bound_at new x)
+stays_bound P old new x n some = subst (λ o. IsSome o) (sym (bound_settled old x (bound_at new) some ((n.exactly (bound_at new)).0 (extends_itself new)).0)) some
+
 -- a variable is bound already
-pub told_bound : {A : Type 0} (told : Bool) (old : List (Option (Value ℕ))) (x : ℕ) (t : Value ℕ) (b : Bound A) → bound_term b ≡ bound_at old x → (b ≡ bounds.Free → ⊥) → IsTrue told ↔ (bound_term b ≡ Some t) → NarrowsIf (λ v. v x ≡ Some t) told old old
-told_bound true old x t b at ne means = record { places = refl; exactly = λ v. (λ h. (h, h x t (sym at ∙ means.0 refl)), λ h. h.0) }
-told_bound false old x t bounds.Free at ne means = absurd (ne refl)
-told_bound false old x t (bounds.Number n) at ne means = λ v h e. let c : false ≡ true = means.1 (sym (h x (Int n) (sym at)) ∙ e) in absurd (cc)
-told_bound false old x t (bounds.Symbol name) at ne means = λ v h e. let c : false ≡ true = means.1 (sym (h x (Sym name.number) (sym at)) ∙ e) in absurd (cc)
-told_bound false old x t (bounds.Compound c) at ne means = λ v h e. let c : false ≡ true = means.1 (sym (h x (ground_comp c.now) (sym at)) ∙ e) in absurd (cc)
+pub told_bound : (told : Bool) (old : List (Option (Value ℕ))) (x : ℕ) (t : Value ℕ) → IsSome (bound_at old x) → IsTrue told ↔ (bound_at old x ≡ Some t) → NarrowsIf (λ v. v x ≡ Some t) told old old
+told_bound true old x t some means = record { places = refl; exactly = λ v. (λ h. (h, h x t (means.0 refl)), λ h. h.0) }
+told_bound false old x t some means = λ v h e. let c : false ≡ true = means.1 (sym (bound_settled old x v some h) ∙ e) in absurd (cc)
 
 -- one variable, or one term, after another
 pub narrows_both : (P Q : Valuation → Type 0) (old mid new : List (Option (Value ℕ))) → Narrows P old mid → Narrows Q mid new → Narrows (λ v. P v × Q v) old new
@@ -209,10 +213,3 @@ others_stay old new x y t n ne = grind (arith, nat_tests, least.0 y, there y)
 
     there : Extends (changed (bound_at old) x (Some t)) new
     there = (n.exactly (changed (bound_at old) x (Some t))).1 ((λ z a at. grind (arith, nat_tests, least.0 z a, least.1)), grind (arith, nat_tests))
-
--- what is bound has one value, and stays bound
-pub bound_settled : (binding : List (Option (Value ℕ))) (x : ℕ) (v : Valuation) → IsSome (bound_at binding x) → Extends v binding → v x ≡ bound_at binding x
-bound_settled binding x v some extends = let t = some_is_some (bound_at binding x) some in extends x t.0 t.1 ∙ sym t.1
-
-pub stays_bound : (P : Valuation → Type 0) (old new : List (Option (Value ℕ))) (x : ℕ) → Narrows P old new → IsSome (bound_at old x) → IsSome (bound_at new x)
-stays_bound P old new x n some = subst (λ o. IsSome o) (sym (bound_settled old x (bound_at new) some ((n.exactly (bound_at new)).0 (extends_itself new)).0)) some

@@ -244,13 +244,11 @@ impl<'v, A: Allocator + Copy> Binding<'v, A> {
         ensures narrows { NarrowsIf (λ v. v variable ≡ Some (said value.entry)) result self.old self.new }
         ensures keeps { Keeps self.old self.new }
     {
-        match self.at(variable) {
-            Bound::Free => {
-                self.put(variable, value);
-                true
-            }
-            bound => bound.is(&value),
+        if !self.known.has(variable) {
+            self.put(variable, value);
+            return true;
         }
+        self.bound[usize::from(variable)].is(&value)
     }
 
     /// Binds a variable to a number. Where it is bound already, answers whether it is bound to this one.
@@ -259,13 +257,7 @@ impl<'v, A: Allocator + Copy> Binding<'v, A> {
         ensures narrows { NarrowsIf (λ v. v variable ≡ Some (Int number)) result self.old self.new }
         ensures keeps { Keeps self.old self.new }
     {
-        match self.at(variable) {
-            Bound::Free => {
-                self.put(variable, ValueRef::Int(number));
-                true
-            }
-            bound => bound.is(&ValueRef::Int(number)),
-        }
+        self.hold(variable, ValueRef::Int(number))
     }
 
     /// A copy.

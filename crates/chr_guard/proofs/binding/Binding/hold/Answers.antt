@@ -1,16 +1,27 @@
-use Rattle.std.proofs.Common.{◌≡◌, Some, true, sym, ap, ◌∙◌, subst}
+use Rattle.std.proofs.Common.{◌≡◌, ◌↔◌, IsTrue, Some, true, false, sym, ap, ◌∙◌, subst, arith}
+use Rattle.std.proofs.lemmas.Grind.{common_steps}
 use Rattle.chr_value.specs.Atoms.{said}
 use Rattle.chr_guard.specs.Bindings.{bound_term, NarrowsIf}
-use Rattle.chr_guard.proofs.Bindings.{told_new, told_bound, keeps_itself, narrows_keeps}
+use Rattle.chr_guard.proofs.Bindings.{known_bits, told_one, told_zero, told_new, told_bound, keeps_itself, narrows_keeps}
 use Rattle.chr_guard.proofs.binding.Binding.hold.Goals as goal
 
-pub returns-in-Free : goal.returns-in-Free
-returns-in-Free g c =
-    let narrows = subst (NarrowsIf (λ v. v c.args.variable ≡ Some (said c.args.value)) true c.args.self.now) (sym c.put.ensures) (told_new c.args.self.now c.args.variable (said c.args.value) c.requires (sym c.at.ensures ∙ ap bound_term c.in-Free.is)) in
-    record { narrows = narrows; keeps = narrows_keeps (λ v. v c.args.variable ≡ Some (said c.args.value)) c.args.self.now c.put.new.self narrows }
+pub returns-then-not-has : goal.returns-then-not-has
+returns-then-not-has g c =
+    let old = c.args.self.now in
+    let none = told_zero c.self.inside.known.bits c.self.inside.variables c.args.variable c.self.inside.bound.items old c.self.invariant c.self.view_is (λ one. (let z : false ≡ true = sym c.if-not-has.true ∙ c.has.ensures.1 one in cc)) in
+    let narrows = subst (NarrowsIf (λ v. v c.args.variable ≡ Some (said c.args.value)) true old) (sym c.put.ensures) (told_new old c.args.variable (said c.args.value) c.requires (sym none)) in
+    record { narrows = narrows; keeps = narrows_keeps (λ v. v c.args.variable ≡ Some (said c.args.value)) old c.put.new.self narrows }
 
-pub returns-in_default : goal.returns-in_default
-returns-in_default g c = record {
-  narrows = told_bound c.is.result c.args.self.now c.args.variable (said c.args.value) c.at.result c.at.ensures c.in_default.not-Free c.is.ensures;
-  keeps = keeps_itself c.args.self.now;
-}
+pub returns : goal.returns
+returns g c =
+    let bits = c.self.inside.known.bits in
+    let places = c.self.inside.bound.items in
+    let old = c.args.self.now in
+    let one = c.has.ensures.0 c.if-not-has.false in
+    let at = ap bound_term (grind (arith, common_steps)) ∙ told_one bits c.self.inside.variables c.args.variable places old c.self.invariant c.self.view_is one in
+    record {
+      narrows = told_bound c.is.result old c.args.variable (said c.args.value)
+          ((known_bits bits c.self.inside.variables places old c.self.invariant c.self.view_is c.args.variable).0 one)
+          (subst (λ o. IsTrue c.is.result ↔ (o ≡ Some (said c.args.value))) at c.is.ensures);
+      keeps = keeps_itself old;
+    }
