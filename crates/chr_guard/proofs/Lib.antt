@@ -1,5 +1,6 @@
 pub mod Scoped
 pub mod Under
+pub mod Valued
 pub mod Fixed
 pub mod Bindings
 pub mod Steps

@@ -8,7 +8,7 @@ use Rattle.std.proofs.lemmas.Simd.{map-map}
 use Rattle.chr_value.specs.Atoms.{Value, Atom, Int}
 use Rattle.chr_value.proofs.Chosen.{some_is}
 use Rattle.chr_rule.specs.Rules.{RuleAtom, Simpagation, head_at, Expression, BodyItem, Is, Add}
-use Rattle.chr_rule.specs.Scope.{argument_known, IsRule, known_after_heads, known_after_body}
+use Rattle.chr_rule.specs.Scope.{argument_known, expression_known, IsRule, known_after_heads, known_after_body}
 use Rattle.chr_guard.specs.Values.{Valuation, term_under, value_of}
 use Rattle.chr_guard.specs.Bindings.{bound_at, Extends, Narrows, NoneUnder, NarrowsIf}
 use Rattle.chr_guard.specs.Instances.{atom_under, made_under, AreMadeUnder, IsRight, added}
@@ -199,6 +199,9 @@ module _ (rule : Simpagation ℕ) (i x : ℕ) (e : Expression) (old mid : List (
 
   pub is_place : x < length mid
   is_place = is_known done.known rule.variables x e (drop (i + 1) rule.body) turn (λ same _ later. let le : suc done.known ≤ rule.variables = body_below (suc done.known) rule.variables (drop (i + 1) rule.body) later in let len : rule.variables ≤ length mid = done.places in omega arith)
+
+  pub is_below : expression_known x e ≡ true
+  is_below = is_known done.known rule.variables x e (drop (i + 1) rule.body) turn (λ same known _. subst (λ n. expression_known n e ≡ true) (sym same) known)
 
   parts : (v : Valuation) → Completes rule old v → Extends v mid × IsRight v (Is x e)
   parts v c = let two = all_at (IsRight v) rule.body i (Is x e) within there c.right in ((done.narrows.exactly v).1 (c.extends, two.0), two.1)

@@ -2,6 +2,7 @@
 use Rattle.std.specs.Prelude.{◌≡◌, ℕ, zero, suc, Bool, true, false, ◌<◌, ◌≤◌, ◌↔◌, List, [], ◌∷◌, length, Option, Some, None, IsSome, slice_index_or}
 use Rattle.std.specs.Int.{bit_at}
 use Rattle.chr_value.specs.Atoms.{Value, Int, Sym, ground_comp}
+use Rattle.chr_rule.specs.Rules.{Expression, Number, Variable, Operation, Comparison, Compared, Same, Differ}
 use Rattle.chr_guard.specs.declared.binding.Bound.{Bound}
 use Rattle.chr_guard.specs.declared.binding.Bound.TheVariants as bounds
 use Rattle.chr_guard.specs.declared.binding.Known.{Known}
@@ -67,3 +68,15 @@ AreKnown known binding = (x : ℕ) → (bit_at known.bits x ≡ 1) ↔ IsSome (b
 -- the first n variables are bound
 abbrev pub AreBound : ℕ → List (Option (Value ℕ)) → Type 0
 AreBound n binding = (x : ℕ) → x < n → IsSome (bound_at binding x)
+
+-- each variable of an expression is bound
+abbrev pub AllBound : List (Option (Value ℕ)) → Expression → Type 0
+AllBound binding (Number n) = Unit {0}
+AllBound binding (Variable x) = IsSome (bound_at binding x)
+AllBound binding (Operation o a b) = AllBound binding a × AllBound binding b
+
+-- each variable of a comparison is bound, if it is one of numbers
+abbrev pub SidesBound : List (Option (Value ℕ)) → Comparison ℕ → Type 0
+SidesBound binding (Compared r a b) = AllBound binding a × AllBound binding b
+SidesBound binding (Same s t) = Unit {0}
+SidesBound binding (Differ s t) = Unit {0}

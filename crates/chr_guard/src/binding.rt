@@ -1,9 +1,8 @@
 //! What the variables of a rule are bound to.
-ghost use Rattle.std.specs.Prelude.{◌≡◌, ◌≢◌, ◌<◌, ◌≤◌, ◌↔◌, ℕ, List, Option, IsTrue, Some, None, length, replicate, slice_set};
+ghost use Rattle.std.specs.Prelude.{◌≡◌, ◌≢◌, ◌<◌, ◌≤◌, ◌↔◌, ℕ, List, Option, IsTrue, Some, None, IsSome, length, replicate, slice_set};
 ghost use Rattle.std.specs.Int.{bit_at};
 ghost use Rattle.std.specs.Option.{option_map};
 ghost use Rattle.chr_value.specs.Atoms.{said, Int, Value};
-ghost use Rattle.chr_guard.specs.Values.{number_in};
 ghost use Rattle.chr_guard.specs.Bindings.{bound_term, bound_at, NarrowsIf, Keeps, AreKnown, AreBound};
 
 use arrayvec::ArrayVec;
@@ -193,7 +192,7 @@ impl<'v, A: Allocator + Copy> Binding<'v, A> {
         if self.variables <= usize::from(variable) || !self.known.has(variable) {
             return Bound::Free;
         }
-        self.bound[usize::from(variable)]
+        self.bound(variable)
     }
 
     /// How many of the first variables are bound, without a free one among them.
@@ -204,27 +203,13 @@ impl<'v, A: Allocator + Copy> Binding<'v, A> {
         self.known.bits.trailing_ones() as u8
     }
 
-    /// What a variable is bound to, where so many of the first ones are bound: for one of these it takes the fewest steps.
+    /// What a variable is bound to that is bound.
     #[inline(always)]
-    pub(crate) fn among(&self, variable: u8, bound_first: u8) -> Bound<'v, A>
-        requires { AreBound bound_first self.now }
+    pub(crate) fn bound(&self, variable: u8) -> Bound<'v, A>
+        requires { IsSome (bound_at self.now variable) }
         ensures { bound_term result ≡ bound_at self.now variable }
     {
-        if bound_first <= variable {
-            return self.at(variable);
-        }
         self.bound[usize::from(variable)]
-    }
-
-    /// The number that a variable stands for, if it stands for one.
-    #[inline(always)]
-    pub(crate) fn number(&self, variable: u8) -> Option<i64>
-        ensures { result ≡ number_in (bound_at self.now variable) }
-    {
-        match self.at(variable) {
-            Bound::Number(n) => Some(n),
-            _ => None,
-        }
     }
 
     /// Binds a variable anew.

@@ -11,7 +11,7 @@ ghost use Rattle.chr_guard.specs.Matching.{CompletedIf, IsBody};
 
 use crate::binding::Binding;
 use crate::terms::Plain;
-use crate::values::value;
+use crate::values::value_below;
 use arrayvec::ArrayVec;
 use chr_rule::{BodyItem, Rule, RuleAtom, Term};
 use chr_value::{Atom, Comp, Value};
@@ -136,7 +136,7 @@ pub(crate) fn bind_body<A: Allocator + Copy>(rule: &Rule<A>, binding: &mut Bindi
     for item in rule.body() {
         match item {
             BodyItem::Is(x, expr) => {
-                let Some(n) = value(expr, binding) else {
+                let Some(n) = value_below(expr, binding, *x) else {
                     return false;
                 };
                 if !binding.bind_number(*x, n) {

@@ -1,7 +1,6 @@
 //! What rules mean: the value of an expression, when a guard holds, and which atoms are an instance of a rule.
 //!
-//! [`value`], [`holds`] and [`guard_holds`] answer under a
-//! [`Binding`] of a rule's variables. [`fit`] finds the one binding under which some
+//! [`value`] and [`holds`] answer under a [`Binding`] of a rule's variables. [`fit`] finds the one binding under which some
 //! heads of a rule are some atoms, [`body`](body::body) the atoms that the rule then adds, and
 //! [`instance`](instance::instance) decides whether a full list of atoms is an instance of a rule.
 //! [`instance_under`](instance::instance_under) decides the same and gives the binding in place of the body, and
@@ -38,4 +37,4 @@ mod values;
 pub use binding::{Binding, Bound, Known};
 pub use matching::{fit, fit_head, fit_partner};
 pub use settled::Settled;
-pub use values::{guard_holds, holds, value};
+pub use values::{holds, value};

@@ -9,7 +9,7 @@ use Rattle.chr_rule.specs.Parts.{expression, member, shape}
 use Rattle.chr_guard.proofs.Steps.{read_as}
 use Rattle.chr_guard.specs.Instances.{made_under}
 use Rattle.chr_guard.proofs.Under.{none_is_none, some_is_some}
-use Rattle.chr_guard.proofs.Matched.{Completing, completing_start, completing_end, is_place, is_valueless, is_otherwise, is_more, add_more, add_valueless}
+use Rattle.chr_guard.proofs.Matched.{Completing, completing_start, completing_end, is_place, is_below, is_valueless, is_otherwise, is_more, add_more, add_valueless}
 use Rattle.chr_guard.proofs.Bindings.{keeps_both, narrows_keeps}
 use Rattle.chr_guard.proofs.body.bind_body.Goals as goal
 use Rattle.chr_guard.proofs.body.bind_body.Goals.{in-Is+in-Some+else-not-bind_number, in-Add+else-not-has_values}
@@ -17,10 +17,15 @@ use Rattle.chr_guard.proofs.body.bind_body.Goals.{in-Is+in-Some+else-not-bind_nu
 pub loop-item-init : goal.loop-item-init
 loop-item-init g c = completing_start c.args.rule.now c.args.binding.now c.body-item-items.ensures.valid c.requires
 
+pub value_below-requires : goal.value_below-requires
+value_below-requires g c =
+    let read = read_as (member {Z = g.row.A.Denot}) c.body-item-items.result.now c.args.rule.now.body c.loop-item.item-index c.item-item.result (Is c.in-Is.x (expression c.in-Is.expr)) c.body-item-items.ensures.members c.loop-item-test.true c.item-item.is (ap (member {Z = g.row.A.Denot}) c.in-Is.is) in
+    (omega arith, is_below c.args.rule.now c.loop-item.item-index c.in-Is.x (expression c.in-Is.expr) c.args.binding.now c.loop-item.binding read.0 read.1 c.loop-item.invariant)
+
 pub returns-in_default-clause-completed : goal.returns-in_default-clause-completed
 returns-in_default-clause-completed g c =
     let read = read_as (member {Z = g.row.A.Denot}) c.body-item-items.result.now c.args.rule.now.body c.loop-item.item-index c.item-item.result (Is c.in-Is.x (expression c.in-Is.expr)) c.body-item-items.ensures.members c.loop-item-test.true c.item-item.is (ap (member {Z = g.row.A.Denot}) c.in-Is.is) in
-    is_valueless c.args.rule.now c.loop-item.item-index c.in-Is.x (expression c.in-Is.expr) c.args.binding.now c.loop-item.binding read.0 read.1 c.loop-item.invariant (sym c.value.ensures ∙ c.in_default.is)
+    is_valueless c.args.rule.now c.loop-item.item-index c.in-Is.x (expression c.in-Is.expr) c.args.binding.now c.loop-item.binding read.0 read.1 c.loop-item.invariant (sym c.value_below.ensures ∙ c.in_default.is)
 
 pub bind_number-requires : goal.bind_number-requires
 bind_number-requires g c =
@@ -31,7 +36,7 @@ pub returns-then-not-bind_number-clause-completed : goal.returns-then-not-bind_n
 returns-then-not-bind_number-clause-completed g c =
     let same : to_z w64 (of_z w64 c.in-Some.n) ≡ c.in-Some.n = first_of (search rules, grind (arith, common_steps, to_z-of_z)) in
     let read = read_as (member {Z = g.row.A.Denot}) c.body-item-items.result.now c.args.rule.now.body c.loop-item.item-index c.item-item.result (Is c.in-Is.x (expression c.in-Is.expr)) c.body-item-items.ensures.members c.loop-item-test.true c.item-item.is (ap (member {Z = g.row.A.Denot}) c.in-Is.is) in
-    is_otherwise c.args.rule.now c.loop-item.item-index c.in-Is.x (expression c.in-Is.expr) c.args.binding.now c.loop-item.binding read.0 read.1 c.loop-item.invariant c.in-Some.n (sym c.value.ensures ∙ c.in-Some.is) (subst (λ z. NoneUnder (λ v. v c.in-Is.x ≡ Some (Int z)) c.loop-item.binding) same c.if-not-bind_number.ensures.narrows)
+    is_otherwise c.args.rule.now c.loop-item.item-index c.in-Is.x (expression c.in-Is.expr) c.args.binding.now c.loop-item.binding read.0 read.1 c.loop-item.invariant c.in-Some.n (sym c.value_below.ensures ∙ c.in-Some.is) (subst (λ z. NoneUnder (λ v. v c.in-Is.x ≡ Some (Int z)) c.loop-item.binding) same c.if-not-bind_number.ensures.narrows)
 
 pub returns-then-not-has_values-clause-completed : goal.returns-then-not-has_values-clause-completed
 returns-then-not-has_values-clause-completed g c =
@@ -46,7 +51,7 @@ loop-item-preserved g c =
           let same : to_z w64 (of_z w64 w.in-Some.n) ≡ w.in-Some.n = first_of (search rules, grind (arith, common_steps, to_z-of_z)) in
           let read = read_as (member {Z = g.row.A.Denot}) c.body-item-items.result.now c.args.rule.now.body c.loop-item.item-index c.item-item.result (Is w.in-Is.x (expression w.in-Is.expr)) c.body-item-items.ensures.members c.loop-item-test.true c.item-item.is (ap (member {Z = g.row.A.Denot}) w.in-Is.is) in
           subst (Completing c.args.rule.now (c.loop-item.item-index + 1) c.args.binding.now) (sym w.binding-is)
-          (is_more c.args.rule.now c.loop-item.item-index w.in-Is.x (expression w.in-Is.expr) c.args.binding.now c.loop-item.binding read.0 read.1 c.loop-item.invariant w.in-Some.n w.bind_number.new.self (sym w.value.ensures ∙ w.in-Some.is) (subst (λ z. Narrows (λ v. v w.in-Is.x ≡ Some (Int z)) c.loop-item.binding w.bind_number.new.self) same w.if-not-bind_number.ensures.narrows))
+          (is_more c.args.rule.now c.loop-item.item-index w.in-Is.x (expression w.in-Is.expr) c.args.binding.now c.loop-item.binding read.0 read.1 c.loop-item.invariant w.in-Some.n w.bind_number.new.self (sym w.value_below.ensures ∙ w.in-Some.is) (subst (λ z. Narrows (λ v. v w.in-Is.x ≡ Some (Int z)) c.loop-item.binding w.bind_number.new.self) same w.if-not-bind_number.ensures.narrows))
       | in-Add+else-not-has_values w ↦
           let read = read_as (member {Z = g.row.A.Denot}) c.body-item-items.result.now c.args.rule.now.body c.loop-item.item-index c.item-item.result (Add (shape w.in-Add.pattern)) c.body-item-items.ensures.members c.loop-item-test.true c.item-item.is (ap (member {Z = g.row.A.Denot}) w.in-Add.is) in
           let made = some_is_some (made_under (bound_at c.loop-item.binding) (shape w.in-Add.pattern)) (w.has_values.ensures.0 w.if-not-has_values.false) in

@@ -1,6 +1,10 @@
 use Rattle.std.proofs.Common.{◌≡◌, length, true, false, refl, arith}
+use Rattle.chr_guard.proofs.Matched.{fit_binds}
 use Rattle.chr_guard.proofs.Whole.{becomes_if, no_guard}
 use Rattle.chr_guard.proofs.instance.becomes_instance.Goals as goal
+
+pub guard_holds-requires : goal.guard_holds-requires
+guard_holds-requires g c = (omega arith, fit_binds c.args.rule.now c.requires.0 c.args.binding.now c.requires.1)
 
 pub bind_body-requires : goal.bind_body-requires
 bind_body-requires g c = let len : length c.args.binding.now ≡ c.args.rule.now.variables = c.requires.1.places in omega arith

@@ -1,8 +1,6 @@
-use Rattle.std.proofs.Common.{◌≡◌, false, true, arith, ap, sym, ◌∙◌}
-use Rattle.std.proofs.lemmas.Grind.{common_steps}
+use Rattle.std.proofs.Common.{◌≡◌, false, true, arith, sym, ◌∙◌}
 use Rattle.std.specs.Int.{bit_at}
-use Rattle.chr_guard.specs.Bindings.{bound_term}
-use Rattle.chr_guard.proofs.Bindings.{told_one, told_zero}
+use Rattle.chr_guard.proofs.Bindings.{known_bits, told_zero}
 use Rattle.chr_guard.proofs.binding.Binding.at.Goals as goal
 use Rattle.chr_guard.proofs.binding.Binding.at.Goals.{then-self-from-via-then-self-from, then-self-from-via-else-self-from+then-not-has}
 
@@ -15,6 +13,6 @@ returns-then-self-from g c =
       | then-self-from-via-else-self-from+then-not-has w ↦ (let z : false ≡ true = sym w.if-not-has.true ∙ w.has.ensures.1 one in cc)
     ])
 
-pub returns : goal.returns
-returns g c =
-    ap bound_term (grind (arith, common_steps)) ∙ told_one c.self.inside.known.bits c.self.inside.variables c.args.variable c.self.inside.bound.items c.args.self.now c.self.invariant c.self.view_is (c.has.ensures.0 c.if-not-has.false)
+pub bound-requires : goal.bound-requires
+bound-requires g c =
+    (omega arith, (known_bits c.self.inside.known.bits c.self.inside.variables c.self.inside.bound.items c.args.self.now c.self.invariant c.self.view_is c.args.variable).0 (c.has.ensures.0 c.if-not-has.false))

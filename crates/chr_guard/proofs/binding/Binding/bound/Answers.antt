@@ -5,15 +5,14 @@ use Rattle.std.specs.Int.{bit_at}
 use Rattle.chr_guard.specs.Bindings.{bound_term}
 use Rattle.chr_guard.specs.declared.binding.Bound.TheVariants as bounds
 use Rattle.chr_guard.proofs.Bindings.{known_bits, told_one}
-use Rattle.chr_guard.proofs.binding.Binding.among.Goals as goal
+use Rattle.chr_guard.proofs.binding.Binding.bound.Goals as goal
 
 pub returns : goal.returns
 returns g c =
     let bits = c.self.inside.known.bits in
     let n = c.self.inside.variables in
     let x = c.args.variable in
-    let lt : x < c.args.bound_first = omega (arith, c.if-bound_first-variable.false) in
-    let one : bit_at bits x ≡ 1 = (known_bits bits n c.self.inside.bound.items c.args.self.now c.self.invariant c.self.view_is x).1 (c.requires x lt) in
+    let one : bit_at bits x ≡ 1 = (known_bits bits n c.self.inside.bound.items c.args.self.now c.self.invariant c.self.view_is x).1 c.requires in
     let within : x < n = ⊎_elim (λ less. less) (λ le. (let none = c.self.invariant.behind x le in absurd (omega (arith, none, one)))) (cases_lt x n) in
     let found : c.index-deref-from.result ≡ slice_index_or c.self.inside.bound.items x bounds.Free = grind (arith, common_steps) in
     ap bound_term found ∙ told_one bits n x c.self.inside.bound.items c.args.self.now c.self.invariant c.self.view_is one
