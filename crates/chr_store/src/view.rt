@@ -1,5 +1,5 @@
 //! A store as the searches for partners of a label see it.
-ghost use Rattle.std.specs.Prelude.{◌≡◌, ℕ, ◌≤◌, Option, None, IfSome, IsSome};
+ghost use Rattle.std.specs.Prelude.{◌≡◌, ◌≢◌, ℕ, ◌≤◌, Option, None, IfSome, IsSome};
 ghost use Rattle.std.specs.Option.{option_copied};
 ghost use Rattle.chr_value.specs.Stores.{atom_at};
 ghost use Rattle.chr_store.specs.Buckets.{IsLeastBetween};
@@ -92,6 +92,15 @@ impl<'s, A: Allocator + Copy> View<'s, A> {
             Some(atom) if label == self.active => Some(atom),
             _ => self.store.get(label),
         }
+    }
+
+    /// The atom under a label other than the active one.
+    #[inline(always)]
+    pub fn older(&self, label: Label) -> Option<&'s Atom<A>>
+        requires { label ≢ self.now.active }
+        ensures { option_copied result ≡ atom_at self.now.store.entries label }
+    {
+        self.store.get(label)
     }
 
     /// The least label over `after` that is older than the active one and whose atom has the predicate and, where `key` is a
