@@ -1,15 +1,15 @@
 -- Slots of a bucket.
-use Rattle.std.proofs.Common.{length-take-le, get_or-take, get_or-drop, length-drop, ◌≡◌, ℕ, zero, suc, ◌+◌, ◌-◌, ◌<◌, ◌≤◌, Bool, true, false, ◌==◌, if◌then◌else◌, List, [], ◌∷◌, ◌++◌, Option, Some, None, refl, sym, ap, subst, arith, true-eqb, length, take, drop, slice_index_or, ◌∙◌, slice_set, get_or, inl, inr, length-append, max, ltb, add-one, option_map, nat_eq, unwrap_or, drop-drop, length-set}
+use Rattle.std.proofs.Common.{length-take-le, get_or-take, get_or-drop, length-drop, ◌≡◌, ℕ, zero, suc, ◌+◌, ◌-◌, ◌<◌, ◌≤◌, Bool, true, false, ◌==◌, if◌then◌else◌, List, [], ◌∷◌, ◌++◌, Option, Some, None, refl, sym, ap, subst, arith, true-eqb, length, take, drop, slice_index_or, ◌∙◌, slice_set, get_or, inl, inr, length-append, ltb, add-one, option_map, nat_eq, unwrap_or, drop-drop, length-set}
 use Rattle.std.specs.List.{AllByRecursion, slice_get}
 use Rattle.std.proofs.Math.Seq.{drop-cons}
 use Rattle.std.proofs.lemmas.List.Elements.{All-from_recursion, recursion_from_All, All-filter, All-weaker, All-append}
 use Rattle.std.proofs.lemmas.List.{drop_all, take-append-drop, take-append-le, take_all, take_more}
 use Rattle.std.proofs.lemmas.Option.{slice_get_cases, slice_get-get_or, slice_get_past, slice_get_within, get_or_from_slice_get}
-use Rattle.std.proofs.lemmas.Bool.{cases_lt, ltb-false, eqb-true}
+use Rattle.std.proofs.lemmas.Bool.{ltb-false, eqb-true}
 use Rattle.std.proofs.lemmas.Bool.Decides.{nat_tests}
 use Rattle.chr_value.proofs.Places.{all-push}
 use Rattle.chr_store.specs.declared.bucket.Slot.{Slot}
-use Rattle.chr_store.specs.Buckets.{is_live, JumpsAreDead, live_labels, live_slots, drop_number, IsIn, SlotsRise, IsLeastBetween, IsLiveOrNone, HasLabelAt, IsBucket, jump_at, AreAlike}
+use Rattle.chr_store.specs.Buckets.{is_live, JumpsAreDead, live_labels, live_slots, drop_number, IsIn, SlotsRise, IsLeastBetween, IsLiveOrNone, HasLabelAt, IsRun, IsBucket, jump_at, AreAlike}
 
 -- ---- how many live
 
@@ -235,14 +235,6 @@ module _ (ss : List Slot) (t : Slot) (at : slice_get ss (length ss - 1) ≡ Some
 
 -- ---- the next
 
-pub skip_front : (ss : List Slot) (r f : ℕ) → r ≤ f → live_labels (take f ss) ≡ [] → live_labels (drop r ss) ≡ live_labels (drop f ss)
-skip_front ss zero zero u h = refl
-skip_front ss (suc r) zero u h = absurd (omega arith)
-skip_front [] zero (suc f) u h = refl
-skip_front [] (suc r) (suc f) u h = refl
-skip_front (s ∷ ss) zero (suc f) u h = elim (is_live s) as (λ b. (if b then s.label ∷ live_labels (take f ss) else live_labels (take f ss)) ≡ [] → (if b then s.label ∷ live_labels ss else live_labels ss) ≡ live_labels (drop f ss)) [ true ↦ λ k. absurd (cc) | false ↦ λ k. skip_front ss zero f (omega arith) k ] h
-skip_front (s ∷ ss) (suc r) (suc f) u h = elim (is_live s) as (λ b. (if b then s.label ∷ live_labels (take f ss) else live_labels (take f ss)) ≡ [] → live_labels (drop r ss) ≡ live_labels (drop f ss)) [ true ↦ λ k. absurd (cc) | false ↦ λ k. skip_front ss r f (omega arith) k ] h
-
 drop_at : (ss : List Slot) (p : ℕ) (s : Slot) → slice_get ss p ≡ Some s → drop p ss ≡ s ∷ drop (suc p) ss
 drop_at ss p s h = drop-cons ss p s (slice_get_within ss p s h) ∙ ap (λ z. z ∷ drop (suc p) ss) (get_or_from_slice_get ss p s s h)
 
@@ -253,6 +245,22 @@ drop_rise : (ss : List Slot) (p : ℕ) → SlotsRise ss → SlotsRise (drop p ss
 drop_rise ss zero h = h
 drop_rise [] (suc p) h = tt
 drop_rise (s ∷ ss) (suc p) h = drop_rise ss p h.1
+
+drop_jumps : (ss : List Slot) (p : ℕ) → JumpsAreDead ss → JumpsAreDead (drop p ss)
+drop_jumps ss zero h = h
+drop_jumps [] (suc p) h = tt
+drop_jumps (s ∷ ss) (suc p) h = drop_jumps ss p h.2
+
+-- the slots of a bucket from its first one on
+module _ (slots ss : List Slot) (f : ℕ) (same : slots ≡ ss) (bucket : IsBucket ss f) where
+  rest : take (length slots - f) (drop f slots) ≡ drop f ss
+  rest = take_all (length slots - f) (drop f slots) (omega (arith, length-drop f slots)) ∙ ap (drop f) same
+
+  pub run_from : IsRun (take (length slots - f) (drop f slots))
+  run_from = subst IsRun (sym rest) (record { rising = drop_rise ss f bucket.rising; jumps = drop_jumps ss f bucket.jumps })
+
+  pub run_living : live_labels (take (length slots - f) (drop f slots)) ≡ live_labels ss
+  run_living = ap live_labels rest ∙ sym (living_split f ss ∙ ap (λ (z : List ℕ). z ++ live_labels (drop f ss)) bucket.front)
 
 is_in_all : (P : ℕ → Type 0) (ms : List ℕ) (n : ℕ) → AllByRecursion P ms → IsIn n ms → P n
 is_in_all P [] n a h = absurd h
@@ -320,27 +328,21 @@ sought_some ss after r p s h e =
     low [] ys l n a b st u = elim st [ inl e ↦ omega arith | inr t ↦ (let z : l < n = is_in_all (λ m. l < m) ys n b t in omega arith) ]
     low (x ∷ xs) ys l n a b st u = elim st [ inl e ↦ (let z : x ≤ after = a.0 in absurd (omega arith)) | inr t ↦ low xs ys l n a.1 b t u ]
 
+-- and so the least one, which is none where that place is past the end
+pub least_none : (ss : List Slot) (after below r p : ℕ) → IsSought ss after r p → slice_get ss p ≡ None → IsLeastBetween (live_labels ss) after below None
+least_none ss after below r p h e = λ n st u v. sought_none ss after r p h e n st u
+
+pub least_some : (ss : List Slot) (after below r p : ℕ) (s : Slot) → IsSought ss after r p → slice_get ss p ≡ Some s → s.label < below → IsLeastBetween (live_labels ss) after below (Some s.label)
+least_some ss after below r p s h e u = let found = sought_some ss after r p s h e in (found.is_in, found.over, u, found.least)
+
+pub least_past : (ss : List Slot) (after below r p : ℕ) (s : Slot) → IsSought ss after r p → slice_get ss p ≡ Some s → below ≤ s.label → IsLeastBetween (live_labels ss) after below None
+least_past ss after below r p s h e w = λ n st u v. let least : s.label ≤ n = (sought_some ss after r p s h e).least n st u in absurd (omega arith)
+
 pub below_last : (ss : List Slot) (s : Slot) (l : ℕ) → SlotsRise ss → slice_get ss (length ss - 1) ≡ Some s → s.label < l → AllByRecursion (λ t. t.label < l) ss
 below_last ss s l r e u =
     let others : List Slot = take (length ss - 1) ss in
     let apart : ss ≡ others ++ s ∷ [] = last_apart ss s e in
     subst (AllByRecursion (λ t. t.label < l)) (sym apart) (all-push (λ t. t.label < l) others s (all_map (λ t. t.label < s.label) (λ t. t.label < l) others (λ t b. omega arith) (rise_pop others s (subst SlotsRise apart r)).1) u)
-
-pub skip_most : (ss : List Slot) (r f m : ℕ) → m ≡ max r f → live_labels (take f ss) ≡ [] → live_labels (drop r ss) ≡ live_labels (drop m ss)
-skip_most ss r f m e h = elim (cases_lt r f) [
-  | inl l ↦ (let same : m ≡ f = omega arith in skip_front ss r f (omega arith) h ∙ ap (λ (z : ℕ). live_labels (drop z ss)) (sym same))
-  | inr l ↦ (let same : m ≡ r = omega arith in ap (λ (z : ℕ). live_labels (drop z ss)) (sym same))
-]
-
--- where slots are passed over up to the greater of two places, and then dead ones
-pub sought_past : (ss : List Slot) (after r f m p : ℕ) → SlotsRise ss → live_labels (take f ss) ≡ [] → m ≡ max r f → live_labels (drop m ss) ≡ live_labels (drop p ss) → IsLiveOrNone (slice_get ss p) → AllByRecursion (λ s. s.label ≤ after) (take r ss) → AllByRecursion (λ s. after < s.label) (drop r ss) → IsSought ss after r p
-sought_past ss after r f m p rising none most rest live front later = record {
-  rising = rising;
-  front = front;
-  later = later;
-  skipped = skip_most ss r f m most none ∙ rest;
-  live = live;
-}
 
 pub get_none : (ss : List Slot) (p : ℕ) → false ≡ ltb p (length ss) → slice_get ss p ≡ None
 get_none ss p h = slice_get_past ss p (ltb-false p (length ss) (sym h))
@@ -352,16 +354,6 @@ later_first (t ∷ ss) l s r at h =
     let same : t ≡ s = cc in
     let first : l < t.label = subst (λ z. l < z.label) (sym same) h in
     (first, all_map (λ u. t.label < u.label) (λ u. l < u.label) ss (λ u lt. omega arith) r.0)
-
--- a search in a list that is another by an equation, as the code reads it twice
-pub found_in : (ss ts us : List Slot) (ms : List ℕ) (after below r : ℕ) (found : Option ℕ) → ss ≡ us → ts ≡ us → live_labels us ≡ ms
-    → AllByRecursion (λ s. s.label ≤ after) (take r ss) → AllByRecursion (λ s. after < s.label) (drop r ss)
-    → (AllByRecursion (λ s. s.label ≤ after) (take r ts) → AllByRecursion (λ s. after < s.label) (drop r ts) → IsLeastBetween (live_labels ts) after below found)
-    → IsLeastBetween ms after below found
-found_in ss ts us ms after below r found e f shown front later least =
-    let same : ss ≡ ts = e ∙ sym f in
-    subst (λ (z : List ℕ). IsLeastBetween z after below found) (ap live_labels f ∙ shown)
-    (least (subst (λ (z : List Slot). AllByRecursion (λ s. s.label ≤ after) (take r z)) same front) (subst (λ (z : List Slot). AllByRecursion (λ s. after < s.label) (drop r z)) same later))
 
 -- ---- jumps over dead slots
 

@@ -1,7 +1,6 @@
 //! The labels of one key, rising.
 ghost use Rattle.std.specs.Prelude.{◌≡◌, ℕ, false, ◌+◌, ◌<◌, ◌≤◌, ◌++◌, ◌∷◌, ◌↔◌, [], IfOk, IfSome, OnOk, OnErr, IsTrue, length, take, drop, MatchOption, slice_get};
 ghost use Rattle.std.specs.List.{AllByRecursion};
-ghost use Rattle.std.specs.Option.{option_map};
 ghost use Rattle.chr_store.specs.Buckets.{jump_at, JumpsAreDead, AreAlike, drop_number, IsLeastBetween, live_labels, live_slots, SlotsRise, IsLiveOrNone, HasLabelAt};
 
 use std::alloc::{AllocError, Allocator};
@@ -50,6 +49,7 @@ fn place_above(slots: &[Slot], label: u64) -> usize
 
 /// The place of the first slot whose label is above a label. It takes no search where the slot at `near` has that label,
 /// or is the first and above it.
+#[inline(always)]
 fn place_near(slots: &[Slot], near: usize, label: u64) -> usize
     requires { SlotsRise slots.now }
     ensures within { result ≤ length slots.now }
@@ -84,6 +84,7 @@ fn find(slots: &[Slot], near: usize, label: u64) -> Option<usize>
 }
 
 /// The place of the first live slot from a place on, or the length.
+#[inline(always)]
 fn first_live(slots: &[Slot], from: usize) -> usize
     requires within { from ≤ length slots.now }
     requires jumps { JumpsAreDead slots.now }
@@ -204,23 +205,60 @@ fn is_below(slots: &[Slot], label: u64) -> bool
     }
 }
 
-/// The place and the label of the first live slot from a place on, under `below`, where the slots before `first` are dead.
-fn next_in(slots: &[Slot], first: usize, from: usize, below: u64) -> Option<(usize, u64)>
-    requires rising { SlotsRise slots.now }
-    requires within { first ≤ length slots.now }
-    requires from { from ≤ length slots.now }
-    requires jumps { JumpsAreDead slots.now }
-    requires front { live_labels (take first slots.now) ≡ [] }
-    ensures { (after : ℕ) → AllByRecursion (λ s. s.label ≤ after) (take from slots.now) → AllByRecursion (λ s. after < s.label) (drop from slots.now) → IsLeastBetween (live_labels slots.now) after below (option_map (λ p. p.1) result) }
-{
-    let place = first_live(slots, from.max(first));
-    let Some(slot) = slots.get(place) else {
-        return None;
-    };
-    if slot.label < below {
-        Some((place, slot.label))
-    } else {
-        None
+/// The labels of a bucket, to go through. Contracts see the list of them.
+#[derive(Drop)]
+pub struct Run<'s> {
+    slots: &'s [Slot],
+    /// Where the label found last stands.
+    near: usize,
+}
+
+impl<'s> Model for Run<'s> {
+    ghost use Rattle.std.specs.Prelude.{ℕ, List};
+    ghost use Rattle.chr_store.specs.Buckets.{live_labels, IsRun};
+
+    ghost Value = { List ℕ };
+
+    ghost view = { λ r. live_labels r.slots.now };
+
+    ghost invariant = { λ r. IsRun r.slots.now };
+}
+
+impl<'s> Run<'s> {
+    /// No labels.
+    pub fn none() -> Run<'s>
+        ensures { result ≡ [] }
+    {
+        Run {
+            slots: &[],
+            near: 0,
+        }
+    }
+
+    /// An upper bound on how many labels there are.
+    pub fn most(&self) -> usize
+        ensures { length self.now ≤ result }
+    {
+        self.slots.len()
+    }
+
+    /// The least label over `after` and under `below`. It takes no search where `after` is the one found last.
+    #[inline(always)]
+    pub fn next_at(&mut self, after: u64, below: u64) -> Option<u64>
+        ensures least { IsLeastBetween self.old after below result }
+        ensures same { self.new ≡ self.old }
+    {
+        let from = place_near(self.slots, self.near, after);
+        let place = first_live(self.slots, from);
+        let Some(slot) = self.slots.get(place) else {
+            return None;
+        };
+        if slot.label < below {
+            self.near = place;
+            Some(slot.label)
+        } else {
+            None
+        }
     }
 }
 
@@ -241,13 +279,6 @@ impl<A: Allocator + Copy> Bucket<A> {
         ensures { IsTrue result → self.now ≡ [] }
     {
         self.slots.is_empty()
-    }
-
-    /// An upper bound on how many labels there are.
-    pub fn most(&self) -> usize
-        ensures { length self.now ≤ result }
-    {
-        self.slots.len()
     }
 
     /// One label more, above the others. E01 where the bucket could not grow, which is then unchanged.
@@ -321,23 +352,14 @@ impl<A: Allocator + Copy> Bucket<A> {
         self.tidy();
     }
 
-    /// The least label over `after` and under `below`.
-    pub fn next(&self, after: u64, below: u64) -> Option<u64>
-        ensures { IsLeastBetween self.now after below result }
-    {
-        let from = place_above(&self.slots, after);
-        let Some((_, label)) = next_in(&self.slots, self.first, from, below) else {
-            return None;
-        };
-        Some(label)
-    }
-
-    /// The least label over `after` and under `below`, and its place, which as `near` spares the next call a search.
+    /// The labels, to go through.
     #[inline(always)]
-    pub fn next_near(&self, near: usize, after: u64, below: u64) -> Option<(usize, u64)>
-        ensures { IsLeastBetween self.now after below (option_map (λ p. p.1) result) }
+    pub fn run(&self) -> Run<'_>
+        ensures { result ≡ self.now }
     {
-        let from = place_near(&self.slots, near, after);
-        next_in(&self.slots, self.first, from, below)
+        Run {
+            slots: &self.slots[self.first..],
+            near: 0,
+        }
     }
 }

@@ -9,7 +9,7 @@ ghost use Rattle.chr_store.specs.KeyLabels.{IsPut, labels_in, mapped, row_at, Is
 
 use crate::chosen::Chosen;
 use crate::keys::{Key, key_at, own_key};
-use crate::labels::Labels;
+use crate::labels::{Labels, Matches};
 use crate::rows::row_of_key;
 use chr_value::Atom;
 use std::alloc::{AllocError, Allocator};
@@ -39,12 +39,23 @@ impl<A: Allocator + Copy> Buckets<A> {
 
     /// The labels of a key. Where there are none, that may be none or an empty list.
     #[inline(always)]
-    pub fn get(&self, key: &Key) -> Option<&Labels<A>>
+    fn get(&self, key: &Key) -> Option<&Labels<A>>
         ensures { unwrap_or (option_copied result) [] ≡ labels_in self.now key.now }
     {
         match row_of_key(key) {
             None => self.map.get(key),
             Some(row) => self.rows.get(row),
+        }
+    }
+
+    /// The labels of a key, to go through.
+    #[inline(always)]
+    pub fn matches(&self, key: &Key) -> Matches<'_>
+        ensures { result ≡ labels_in self.now key.now }
+    {
+        match self.get(key) {
+            None => Matches::none(),
+            Some(labels) => labels.matches(),
         }
     }
 }
@@ -202,8 +213,5 @@ pub fn next_of<A: Allocator + Copy>(
 ) -> Option<u64>
     ensures { IsLeastBetween (labels_in buckets.now key) after below result }
 {
-    match buckets.get(&key) {
-        None => None,
-        Some(labels) => labels.next(after, below),
-    }
+    buckets.matches(&key).next_at(after, below)
 }

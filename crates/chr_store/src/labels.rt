@@ -1,10 +1,9 @@
 //! The labels of one key, where one alone takes no memory.
 ghost use Rattle.std.specs.Prelude.{◌≡◌, ◌<◌, ◌≤◌, ◌++◌, ◌∷◌, [], OnOk, OnErr, IsTrue, length};
 ghost use Rattle.std.specs.List.{AllByRecursion};
-ghost use Rattle.std.specs.Option.{option_map};
 ghost use Rattle.chr_store.specs.Buckets.{drop_number, IsLeastBetween};
 
-use crate::bucket::Bucket;
+use crate::bucket::{Bucket, Run};
 use std::alloc::{AllocError, Allocator};
 use std::marker::Model;
 
@@ -50,17 +49,6 @@ impl<A: Allocator + Copy> Labels<A> {
         }
     }
 
-    /// An upper bound on how many there are.
-    pub fn most(&self) -> usize
-        ensures { length self.now ≤ result }
-    {
-        match &self.kept {
-            Kept::None => 0,
-            Kept::One(_) => 1,
-            Kept::Many(bucket) => bucket.most(),
-        }
-    }
-
     /// One label more, above the others. E01 where they could not grow, and are then unchanged.
     pub fn push(&mut self, alloc: A, label: u64) -> Result<(), AllocError>
         requires { AllByRecursion (λ m. m < label) self.old }
@@ -98,38 +86,83 @@ impl<A: Allocator + Copy> Labels<A> {
         }
     }
 
-    /// The least label over `after` and under `below`.
-    pub fn next(&self, after: u64, below: u64) -> Option<u64>
-        ensures { IsLeastBetween self.now after below result }
+    /// The labels, to go through.
+    #[inline(always)]
+    pub fn matches(&self) -> Matches<'_>
+        ensures { result ≡ self.now }
     {
-        match &self.kept {
-            Kept::None => None,
-            Kept::One(only) => {
-                if after < *only && *only < below {
-                    Some(*only)
-                } else {
-                    None
-                }
-            }
-            Kept::Many(bucket) => bucket.next(after, below),
+        let walk = match &self.kept {
+            Kept::None => Walk::Many(Run::none()),
+            Kept::One(only) => Walk::One(*only),
+            Kept::Many(bucket) => Walk::Many(bucket.run()),
+        };
+        Matches { walk }
+    }
+}
+
+/// A label, where it is over `after` and under `below`.
+#[inline(always)]
+fn next_alone(only: u64, after: u64, below: u64) -> Option<u64>
+    ensures { IsLeastBetween (only ∷ []) after below result }
+{
+    if after < only && only < below {
+        Some(only)
+    } else {
+        None
+    }
+}
+
+/// How labels are gone through.
+#[derive(Drop)]
+enum Walk<'s> {
+    One(u64),
+    Many(Run<'s>),
+}
+
+/// The labels of a key, to go through. Contracts see the list of them.
+#[derive(Drop)]
+pub struct Matches<'s> {
+    walk: Walk<'s>,
+}
+
+impl<'s> Model for Matches<'s> {
+    ghost use Rattle.std.specs.Prelude.{ℕ, List};
+    ghost use Rattle.chr_store.specs.Kept.{walked_labels};
+
+    ghost Value = { List ℕ };
+
+    ghost view = { λ m. walked_labels m.walk };
+}
+
+impl<'s> Matches<'s> {
+    /// No labels.
+    pub fn none() -> Matches<'s>
+        ensures { result ≡ [] }
+    {
+        Matches {
+            walk: Walk::Many(Run::none()),
         }
     }
 
-    /// The least label over `after` and under `below`, and its place, which as `near` spares the next call a search.
-    #[inline(always)]
-    pub fn next_near(&self, near: usize, after: u64, below: u64) -> Option<(usize, u64)>
-        ensures { IsLeastBetween self.now after below (option_map (λ p. p.1) result) }
+    /// An upper bound on how many there are: those that were taken out may be counted too.
+    pub fn most(&self) -> usize
+        ensures { length self.now ≤ result }
     {
-        match &self.kept {
-            Kept::None => None,
-            Kept::One(only) => {
-                if after < *only && *only < below {
-                    Some((0, *only))
-                } else {
-                    None
-                }
-            }
-            Kept::Many(bucket) => bucket.next_near(near, after, below),
+        match &self.walk {
+            Walk::One(_) => 1,
+            Walk::Many(run) => run.most(),
+        }
+    }
+
+    /// The least label over `after` and under `below`. It takes no search where `after` is the one found last.
+    #[inline(always)]
+    pub fn next_at(&mut self, after: u64, below: u64) -> Option<u64>
+        ensures least { IsLeastBetween self.old after below result }
+        ensures same { self.new ≡ self.old }
+    {
+        match &mut self.walk {
+            Walk::One(only) => next_alone(*only, after, below),
+            Walk::Many(run) => run.next_at(after, below),
         }
     }
 }

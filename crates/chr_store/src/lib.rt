@@ -36,5 +36,6 @@ mod rows;
 mod store;
 mod view;
 
-pub use store::{Label, Matches, Store, StoreFault};
+pub use labels::Matches;
+pub use store::{Label, Store, StoreFault};
 pub use view::View;

@@ -10,7 +10,6 @@ ghost use Rattle.chr_store.specs.Buckets.{IsLeastBetween};
 ghost use Rattle.chr_store.specs.Keys.{arg_at, key_of, IsLeastMatch};
 ghost use Rattle.chr_store.specs.Faults.{given_back};
 ghost use Rattle.chr_store.specs.Indexed.{LabelHas, IsLeastWith};
-ghost use Rattle.chr_store.specs.KeyLabels.{labels_in};
 ghost use Rattle.chr_store.specs.Table.{shown};
 ghost use Rattle.chr_store.specs.declared.store.StoreFault.TheVariants.{LabelsSpent};
 ghost use Rattle.chr_store.specs.declared.store.CopyFault.TheVariants as copying;
@@ -19,7 +18,7 @@ use crate::atoms::{Atoms, Constraints};
 use crate::buckets::{Buckets, enter, leave, next_of};
 use crate::chosen::Chosen;
 use crate::keys::{Key, is_constant, own_key, value_key};
-use crate::labels::Labels;
+use crate::labels::Matches;
 pub use chr_value::Label;
 use chr_value::{Atom, GREATEST_LABEL, Pred, ValueRef};
 use std::alloc::{AllocError, Allocator};
@@ -110,15 +109,25 @@ fn label_has<A: Allocator + Copy>(
     }
 }
 
-/// The labels of a key.
-#[inline(always)]
-fn matches_of<'s, A: Allocator + Copy>(buckets: &'s Buckets<A>, key: &Key) -> Matches<'s, A>
-    ensures { result ≡ labels_in buckets.now key.now }
+/// The least of some labels over `after` and under `below` whose atom has a value at a place.
+fn next_with<A: Allocator + Copy>(
+    mut labels: Matches<'_>,
+    atoms: &Atoms<A>,
+    place: u8,
+    value: &ValueRef<'_, A>,
+    after: Label,
+    below: Label,
+) -> Option<Label>
+    ensures { IsLeastWith atoms.now.entries place (said value.now) labels.entry after below result }
 {
-    Matches {
-        labels: buckets.get(key),
-        near: 0,
+    let mut from = after;
+    while let Some(label) = labels.next_at(from, below) {
+        if label_has(atoms, label, place, value) {
+            return Some(label);
+        }
+        from = label;
     }
+    None
 }
 
 impl<A: Allocator + Copy> Store<A> {
@@ -261,31 +270,43 @@ impl<A: Allocator + Copy> Store<A> {
             return next_of(&self.buckets, own, after, below);
         };
         if place == 0 || !self.places.has(pred, place) {
-            let mut labels = matches_of(&self.buckets, &own);
-            return labels.next_with(&self.atoms, place, &value, after, below);
+            return next_with(
+                self.buckets.matches(&own),
+                &self.atoms,
+                place,
+                &value,
+                after,
+                below,
+            );
         }
         let key = value_key(pred, place, &value);
         if is_constant(&value) {
             return next_of(&self.buckets, key, after, below);
         }
-        let mut labels = matches_of(&self.buckets, &key);
-        labels.next_with(&self.atoms, place, &value, after, below)
+        next_with(
+            self.buckets.matches(&key),
+            &self.atoms,
+            place,
+            &value,
+            after,
+            below,
+        )
     }
 
     /// The labels whose atoms have the predicate and, where `key` is a place and a value, that value at that place: many
     /// calls of [`Matches::next_at`] take one look-up. None only where `key` has a place that has no index, or a compound
     /// value.
-    pub fn matches(&self, pred: Pred, key: Option<(u8, ValueRef<'_, A>)>) -> Option<Matches<'_, A>>
+    pub fn matches(&self, pred: Pred, key: Option<(u8, ValueRef<'_, A>)>) -> Option<Matches<'_>>
         ensures least { IfSome result (λ labels. (after below : ℕ) (found : Option ℕ) → IsLeastBetween labels after below found → IsLeastMatch self.now.entries (record { pred = pred; key = key_of key.entry; after = after; below = below }) found) }
         ensures own { key.entry ≡ None → IsSome result }
     {
         let Some((place, value)) = key else {
-            return Some(matches_of(&self.buckets, &own_key(pred)));
+            return Some(self.buckets.matches(&own_key(pred)));
         };
         if place == 0 || !is_constant(&value) || !self.places.has(pred, place) {
             return None;
         }
-        Some(matches_of(&self.buckets, &value_key(pred, place, &value)))
+        Some(self.buckets.matches(&value_key(pred, place, &value)))
     }
 
     /// The constraints with their labels, which rise.
@@ -313,70 +334,5 @@ impl<A: Allocator + Copy> Store<A> {
             alloc,
             limit: self.limit,
         })
-    }
-}
-
-/// The labels of a key, to go through. Contracts see the list of them.
-#[derive(Drop)]
-pub struct Matches<'s, A: Allocator> {
-    labels: Option<&'s Labels<A>>,
-    near: usize,
-}
-
-impl<'s, A: Allocator> Model for Matches<'s, A> {
-    ghost use Rattle.std.specs.Prelude.{ℕ, List, []};
-    ghost use Rattle.std.specs.Option.{option_copied, unwrap_or};
-
-    ghost Value = { List ℕ };
-
-    ghost view = { λ m. unwrap_or (option_copied m.labels) [] };
-}
-
-impl<'s, A: Allocator + Copy> Matches<'s, A> {
-    /// An upper bound on how many there are: those that were taken out may be counted too.
-    pub fn most(&self) -> usize
-        ensures { length self.now ≤ result }
-    {
-        match self.labels {
-            None => 0,
-            Some(labels) => labels.most(),
-        }
-    }
-
-    /// The least label over `after` and under `below`. It takes no search where `after` is the one found last.
-    #[inline(always)]
-    pub fn next_at(&mut self, after: Label, below: Label) -> Option<Label>
-        ensures least { IsLeastBetween self.old after below result }
-        ensures same { self.new ≡ self.old }
-    {
-        let Some(labels) = self.labels else {
-            return None;
-        };
-        let Some((place, label)) = labels.next_near(self.near, after, below) else {
-            return None;
-        };
-        self.near = place;
-        Some(label)
-    }
-
-    /// The least label over `after` and under `below` whose atom has a value at a place.
-    fn next_with(
-        &mut self,
-        atoms: &Atoms<A>,
-        place: u8,
-        value: &ValueRef<'_, A>,
-        after: Label,
-        below: Label,
-    ) -> Option<Label>
-        ensures { IsLeastWith atoms.now.entries place (said value.now) self.old after below result }
-    {
-        let mut from = after;
-        while let Some(label) = self.next_at(from, below) {
-            if label_has(atoms, label, place, value) {
-                return Some(label);
-            }
-            from = label;
-        }
-        None
     }
 }

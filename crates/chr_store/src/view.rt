@@ -6,7 +6,8 @@ ghost use Rattle.chr_store.specs.Buckets.{IsLeastBetween};
 ghost use Rattle.chr_store.specs.Keys.{key_of, IsLeastMatch};
 ghost use Rattle.chr_store.specs.Labels.{IsLabelled, entered};
 
-use crate::store::{Matches, Store};
+use crate::labels::Matches;
+use crate::store::Store;
 use chr_value::{Atom, Label, Pred, ValueRef};
 use std::alloc::Allocator;
 use std::marker::Model;
@@ -120,7 +121,7 @@ impl<'s, A: Allocator + Copy> View<'s, A> {
     /// The labels whose atoms have the predicate and, where `key` is a place and a value, that value at that place, as far as
     /// they are older than the active one. None only where `key` has a place that has no index, or a compound value.
     #[inline(always)]
-    pub fn matches(&self, pred: Pred, key: Option<(u8, ValueRef<'_, A>)>) -> Option<Matches<'s, A>>
+    pub fn matches(&self, pred: Pred, key: Option<(u8, ValueRef<'_, A>)>) -> Option<Matches<'s>>
         ensures least { IfSome result (λ labels. (after : ℕ) (found : Option ℕ) → IsLeastBetween labels after self.now.active found → IsLeastMatch self.now.store.entries (record { pred = pred; key = key_of key.entry; after = after; below = self.now.active }) found) }
         ensures own { key.entry ≡ None → IsSome result }
     {

@@ -1,6 +1,6 @@
 use Rattle.std.proofs.Common.{◌≡◌, ℕ, ap, arith}
 use Rattle.chr_value.specs.Atoms.{args_of, args_count, ground, grounds}
-use Rattle.chr_store.specs.Digests.{mixed, digest_after_all}
+use Rattle.chr_store.specs.Digests.{digest_after_all}
 use Rattle.std.proofs.lemmas.List.{length-map}
 use Rattle.chr_value.proofs.Lists.{count-args}
 use Rattle.chr_store.proofs.keys.+digest.Goals as goal

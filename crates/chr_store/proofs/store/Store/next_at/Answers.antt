@@ -13,7 +13,7 @@ pub returns-then-place-eq0-clause-least : goal.returns-then-place-eq0-clause-lea
 returns-then-place-eq0-clause-least g c =
     same_asked _ _ c.args.pred (Some (c.in-Some.place, c.in-Some.value)) c.args.key c.args.after c.args.below c.next_with.result c.self.view_is c.in-Some.is
     (found_own_with _ _ _ c.self.invariant c.args.pred c.args.after c.args.below c.next_with.result c.own_key-own.result c.in-Some.place (said c.in-Some.value) c.own_key-own.ensures
-    (subst (λ (ms : List ℕ). IsLeastWith c.self.inside.atoms.entries c.in-Some.place (said c.in-Some.value) ms c.args.after c.args.below c.next_with.result) c.matches_of-labels.ensures c.next_with.ensures))
+    (subst (λ (ms : List ℕ). IsLeastWith c.self.inside.atoms.entries c.in-Some.place (said c.in-Some.value) ms c.args.after c.args.below c.next_with.result) c.matches.ensures c.next_with.ensures))
 
 pub returns-then-is_constant-clause-least : goal.returns-then-is_constant-clause-least
 returns-then-is_constant-clause-least g c =
@@ -26,4 +26,4 @@ returns-clause-least g c =
     same_asked _ _ c.args.pred (Some (c.in-Some.place, c.in-Some.value)) c.args.key c.args.after c.args.below c.next_with-2.result c.self.view_is c.in-Some.is
     (found_at_with _ _ _ c.self.invariant c.args.pred c.args.after c.args.below c.next_with-2.result c.value_key-key.result c.in-Some.place (said c.in-Some.value) c.value_key-key.ensures
     (omega arith) (sym c.has.ensures ∙ c.if-not-has.false)
-    (subst (λ (ms : List ℕ). IsLeastWith c.self.inside.atoms.entries c.in-Some.place (said c.in-Some.value) ms c.args.after c.args.below c.next_with-2.result) c.matches_of-labels-2.ensures c.next_with-2.ensures))
+    (subst (λ (ms : List ℕ). IsLeastWith c.self.inside.atoms.entries c.in-Some.place (said c.in-Some.value) ms c.args.after c.args.below c.next_with-2.result) c.matches-2.ensures c.next_with-2.ensures))
