@@ -9,7 +9,7 @@ use Rattle.std.proofs.lemmas.Bool.{ltb-false, eqb-true}
 use Rattle.std.proofs.lemmas.Bool.Decides.{nat_tests}
 use Rattle.chr_value.proofs.Places.{all-push}
 use Rattle.chr_store.specs.declared.bucket.Slot.{Slot}
-use Rattle.chr_store.specs.Buckets.{is_live, JumpsAreDead, live_labels, live_slots, drop_number, IsIn, SlotsRise, IsLeastBetween, IsLiveOrNone, HasLabelAt, IsRun, IsBucket, jump_at, AreAlike}
+use Rattle.chr_store.specs.Buckets.{is_live, JumpsAreDead, live_labels, live_slots, drop_number, IsIn, SlotsRise, IsLeastBetween, IsLiveOrNone, HasLabelAt, IsBucket, jump_at, AreAlike}
 
 -- ---- how many live
 
@@ -256,8 +256,8 @@ module _ (slots ss : List Slot) (f : ℕ) (same : slots ≡ ss) (bucket : IsBuck
   rest : take (length slots - f) (drop f slots) ≡ drop f ss
   rest = take_all (length slots - f) (drop f slots) (omega (arith, length-drop f slots)) ∙ ap (drop f) same
 
-  pub run_from : IsRun (take (length slots - f) (drop f slots))
-  run_from = subst IsRun (sym rest) (record { rising = drop_rise ss f bucket.rising; jumps = drop_jumps ss f bucket.jumps })
+  pub run_from : IsBucket (take (length slots - f) (drop f slots)) 0
+  run_from = subst (λ (z : List Slot). IsBucket z 0) (sym rest) (record { rising = drop_rise ss f bucket.rising; jumps = drop_jumps ss f bucket.jumps; within = omega arith; front = refl })
 
   pub run_living : live_labels (take (length slots - f) (drop f slots)) ≡ live_labels ss
   run_living = ap live_labels rest ∙ sym (living_split f ss ∙ ap (λ (z : List ℕ). z ++ live_labels (drop f ss)) bucket.front)

@@ -66,12 +66,7 @@ AreAlike [] (t ∷ ts) = ⊥
 AreAlike (s ∷ ss) [] = ⊥
 AreAlike (s ∷ ss) (t ∷ ts) = (s.label ≡ t.label) × (is_live s ≡ is_live t) × AreAlike ss ts
 
--- the slots rise, and jumps lead over dead ones
-pub record IsRun (slots : List Slot) : Type 0 where
-  pub rising : SlotsRise slots
-  pub jumps : JumpsAreDead slots
-
--- a run, whose slots before a place are dead
+-- the slots rise, jumps lead over dead ones, and those before a place are dead
 pub record IsBucket (slots : List Slot) (first : ℕ) : Type 0 where
   pub rising : SlotsRise slots
   pub jumps : JumpsAreDead slots

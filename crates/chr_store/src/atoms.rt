@@ -44,6 +44,7 @@ impl<A: Allocator> Model for Atoms<A> {
 }
 
 /// The index of a label's slot. That of 0, which is no label, is above all others.
+#[inline(always)]
 fn index_of(label: Label) -> usize
     ensures { IsSlotOf label result }
 {
@@ -165,6 +166,7 @@ impl<A: Allocator + Copy> Atoms<A> {
     }
 
     /// The atom under a label.
+    #[inline(always)]
     pub fn get(&self, label: Label) -> Option<&Atom<A>>
         ensures { option_copied result ≡ atom_at self.now.entries label }
     {

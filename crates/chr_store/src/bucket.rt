@@ -215,13 +215,13 @@ pub struct Run<'s> {
 
 impl<'s> Model for Run<'s> {
     ghost use Rattle.std.specs.Prelude.{ℕ, List};
-    ghost use Rattle.chr_store.specs.Buckets.{live_labels, IsRun};
+    ghost use Rattle.chr_store.specs.Buckets.{live_labels, IsBucket};
 
     ghost Value = { List ℕ };
 
     ghost view = { λ r. live_labels r.slots.now };
 
-    ghost invariant = { λ r. IsRun r.slots.now };
+    ghost invariant = { λ r. IsBucket r.slots.now 0 };
 }
 
 impl<'s> Run<'s> {

@@ -235,6 +235,7 @@ impl<A: Allocator + Copy> Store<A> {
     }
 
     /// The atom under a label.
+    #[inline(always)]
     pub fn get(&self, label: Label) -> Option<&Atom<A>>
         ensures { option_copied result ≡ atom_at self.now.entries label }
     {
