@@ -1,5 +1,5 @@
 -- When a label may follow others.
-use Rattle.std.proofs.Common.{◌≡◌, ℕ, List, [], ◌∷◌, length, Option, Some, None, slice_get, refl, sym, ◌∙◌, ap, arith}
+use Rattle.std.proofs.Common.{◌≡◌, ℕ, List, [], ◌∷◌, length, Option, Some, None, slice_get, refl, sym, ◌∙◌, ap, subst, arith}
 use Rattle.std.proofs.lemmas.List.{length-map}
 use Rattle.chr_value.specs.Atoms.{Value, Atom}
 use Rattle.chr_value.proofs.Chosen.{some_is}
@@ -7,7 +7,7 @@ use Rattle.chr_rule.specs.Rules.{RuleAtom, head_at}
 use Rattle.chr_guard.specs.Values.{Valuation, term_under}
 use Rattle.chr_guard.specs.Instances.{atom_under}
 use Rattle.chr_guard.proofs.Under.{atom_is}
-use Rattle.chr_model.specs.Stores.{Distinct}
+use Rattle.chr_model.specs.Stores.{atom_at, Distinct}
 use Rattle.chr_plan.specs.Orders.{heads_of, IsPlan}
 use Rattle.chr_plan.specs.declared.order.Step.{Step}
 use Rattle.chr_search.specs.Trials.{IsLiveFor, Join, StandsAt, Fit, HasHeadPred, given_at, HasKeyValue, IsInTurn, MayFollow}
@@ -40,3 +40,10 @@ follows_at j h p v ls l turn d step at f s =
         let n : None ≡ Some place = sym (ap (λ (y : Step). y.key) first) ∙ k in
         absurd (cc)
     known (y ∷ before) g at head is place k = step_key_given j h v (y ∷ before) step head place p (omega arith) g at is k
+
+-- the atom of a label that may follow has the predicate of the next head
+pub pred_follows : (j : Join) (ls : List ℕ) (l : ℕ) → MayFollow j ls l → (step : Step) → slice_get j.order (length ls) ≡ Some step → (head : RuleAtom ℕ) → head_at j.rule step.head ≡ Some head → (atom : Atom ℕ) → atom_at j.store l ≡ Some atom → HasHeadPred head atom
+pred_follows j ls l m step at head is atom live =
+    let here : m.step ≡ step = some_is m.step step (sym m.step_is ∙ at) in
+    let same : m.head ≡ head = some_is m.head head (sym m.head_is ∙ ap (λ (x : Step). head_at j.rule x.head) here ∙ is) in
+    subst (λ h. HasHeadPred h atom) same (subst (HasHeadPred m.head) (some_is m.atom atom (sym m.live ∙ live)) m.pred)

@@ -1,6 +1,8 @@
 //! Trials in the store that are judged without being made.
-ghost use Rattle.std.specs.Prelude.{◌≡◌, ◌≢◌, ◌↔◌, ◌==◌, ◌≤◌, ◌<◌, ◌∷◌, ◌++◌, [], ℕ, List, length, take, MatchOption, IsTrue};
+ghost use Rattle.std.specs.Prelude.{◌≡◌, ◌≢◌, ◌↔◌, ◌==◌, ◌≤◌, ◌<◌, ◌∷◌, ◌++◌, [], ℕ, List, length, take, Some, IfSome, IsSome, MatchOption, IsTrue};
 ghost use Rattle.std.specs.List.{list_any};
+ghost use Rattle.chr_value.specs.Atoms.{Atom as AtomView};
+ghost use Rattle.chr_value.specs.Stores.{atom_at};
 ghost use Rattle.chr_guard.specs.Bindings.{Keeps};
 ghost use Rattle.chr_search.specs.declared.passing.End.TheVariants as ends;
 ghost use Rattle.chr_search.specs.declared.passing.Stop.TheVariants as stops;
@@ -16,10 +18,11 @@ use crate::judged::Verdict;
 use crate::position::{put_at, set_alone};
 use crate::search::Instance;
 use chr_guard::instance::becomes_instance;
-use chr_guard::{Binding, Known, fit_head};
+use chr_guard::{Binding, Known, fit_partner};
 use chr_log::{Labels, copy_labels};
 use chr_rule::RuleAtom;
 use chr_store::{Label, Matches};
+use chr_value::Atom;
 use std::alloc::Allocator;
 
 /// Why no more trials of a plan are passed over.
@@ -220,6 +223,7 @@ impl<'s, A: Allocator + Copy> Join<'s, A> {
         requires ready { IsReady (join_of self.now) labels.now binding.now }
         requires level { IsLevel (join_of self.now) labels.now binding.now level.old }
         ensures least { IsPartnerFrom (join_of self.now) labels.now from result }
+        ensures older { IsSome level.new.partners → IfSome result (λ label. label < self.now.view.active) }
         ensures same { level.new ≡ level.old }
     {
         match &mut level.partners {
@@ -228,20 +232,39 @@ impl<'s, A: Allocator + Copy> Join<'s, A> {
         }
     }
 
-    /// How the trial of these labels and one more is judged, where `narrowed` is the binding of these labels. For a part it
-    /// becomes its own binding, and for a whole trial that of all variables.
+    /// The atom under a label that was found at a level.
+    #[inline(always)]
+    fn atom_of(&self, level: &Level<'s, A>, label: Label) -> &'s Atom<A>
+        requires older { IsSome level.now.partners → label < self.now.view.active }
+        requires live { (atom : AtomView ℕ) × (atom_at self.now.view.store.entries label ≡ Some atom) }
+        ensures { atom_at self.now.view.store.entries label ≡ Some result.now }
+    {
+        let found = match level.partners {
+            Some(_) => self.view.older(label),
+            None => self.view.get(label),
+        };
+        let Some(atom) = found else {
+            unreachable!();
+        };
+        atom
+    }
+
+    /// How the trial of these labels and one more, which has this atom, is judged, where `narrowed` is the binding of these
+    /// labels. For a part it becomes its own binding, and for a whole trial that of all variables.
     #[inline(always)]
     fn judge_at(
         &self,
         at: LastHead<'s, A>,
         labels: &[Label],
         label: Label,
+        atom: &'s Atom<A>,
         narrowed: &mut Binding<'s, A>,
     ) -> Verdict
         requires at { IsLastHead (join_of self.now) labels.now at }
         requires ready { IsReady (join_of self.now) labels.now narrowed.old }
         requires grows { Grows (MayFollow (join_of self.now)) [] labels.now }
         requires follows { MayFollow (join_of self.now) labels.now label }
+        requires live { atom_at (join_of self.now).store label ≡ Some atom.now }
         requires trial { (t : Trial) × IsTrialIn (join_of self.now) (labels.now ++ label ∷ []) t }
         ensures tried { IsTried (join_of self.now) (labels.now ++ label ∷ []) result narrowed.new }
         ensures keeps { Keeps narrowed.old narrowed.new }
@@ -249,10 +272,7 @@ impl<'s, A: Allocator + Copy> Join<'s, A> {
         if is_among_others(labels, label) {
             return Verdict::Misfit;
         }
-        let Some(atom) = self.view.get(label) else {
-            unreachable!();
-        };
-        if !fit_head(narrowed, at.head, atom) {
+        if !fit_partner(narrowed, at.head, atom) {
             return Verdict::Misfit;
         }
         if !at.is_last {
@@ -294,7 +314,8 @@ impl<'s, A: Allocator + Copy> Join<'s, A> {
                 let then = Next::NoneLeft;
                 return Run { count, next, then };
             };
-            match self.judge_at(level.at, labels, label, binding) {
+            let atom = self.atom_of(level, label);
+            match self.judge_at(level.at, labels, label, atom, binding) {
                 Verdict::Misfit => {}
                 Verdict::Part => {
                     let then = Next::Part(label);
@@ -440,6 +461,24 @@ impl<'s, A: Allocator + Copy> Join<'s, A> {
         }
     }
 
+    /// How the trial of the active label alone is judged. For a part the binding becomes its own, and for a whole trial that
+    /// of all variables.
+    #[inline(always)]
+    fn judge_first(&self, binding: &mut Binding<'s, A>) -> Verdict
+        requires begins { BeginsTrials (join_of self.now) }
+        ensures { IsTried (join_of self.now) (self.now.view.active ∷ []) result binding.new }
+    {
+        let Some(at) = self.last_head(&[]) else {
+            unreachable!();
+        };
+        let active = self.view.active();
+        let Some(atom) = self.view.get(active) else {
+            unreachable!();
+        };
+        binding.reset(self.rule.variables());
+        self.judge_at(at, &[], active, atom, binding)
+    }
+
     /// Passes over the trials from the first one on, up to one that is whole, at most so many. All of them begin with the
     /// active label. The place becomes that at which the search goes on, but stays where no trial is passed over; where the
     /// search ends before a trial that is whole, `instance` becomes that one.
@@ -456,9 +495,6 @@ impl<'s, A: Allocator + Copy> Join<'s, A> {
         ensures enough { result.end ≡ ends.Enough → result.count ≡ most }
         ensures passed { PassesFirst (join_of self.now) place.old.items result.count place.new.items result.end instance.new.labels.items binding.new }
     {
-        let Some(at) = self.last_head(&[]) else {
-            unreachable!();
-        };
         if most == 0 {
             return Passed {
                 count: 0,
@@ -466,8 +502,7 @@ impl<'s, A: Allocator + Copy> Join<'s, A> {
             };
         }
         let active = self.view.active();
-        binding.reset(self.rule.variables());
-        match self.judge_at(at, &[], active, binding) {
+        match self.judge_first(binding) {
             Verdict::Misfit => {
                 set_alone(place, active + 1);
                 Passed {

@@ -24,6 +24,9 @@ next_at-requires g c =
     let level = subst (IsLevel j c.as_slice-labels.result.now c.loop-count.binding) (sym c.loop-count.invariant.same) (subst (λ b. IsLevel j c.as_slice-labels.result.now b c.args.level.now) (sym c.loop-count.invariant.binding) (subst (λ ls. IsLevel j ls c.args.binding.now c.args.level.now) seen c.requires.level)) in
     (omega arith, (c.requires.begins.begins, (c.requires.begins.plan, (ready, level))))
 
+pub atom_of-atom-requires : goal.atom_of-atom-requires
+atom_of-atom-requires g c = let follows = c.in-Some.ensures.least.holds in record { older = λ some. c.in-Some.ensures.older some; live = (follows.atom, follows.live) }
+
 pub judge_at-requires : goal.judge_at-requires
 judge_at-requires g c =
     let j = join_of c.args.self.now in
@@ -34,7 +37,7 @@ judge_at-requires g c =
     let grows = subst (Grows (MayFollow j) []) seen c.requires.grows in
     let follows = c.in-Some.ensures.least.holds in
     let grown = grows_more (MayFollow j) [] labels label grows follows in
-    (omega arith, ((level g (goal.at.judge_at-requires g c).After-next_at).at, (ready, (grows, (follows, c.requires.begins.trials (labels ++ label ∷ []) (omega (arith, length-append labels (label ∷ []))) grown)))))
+    (omega arith, ((level g (goal.at.judge_at-requires g c).After-next_at).at, (ready, (grows, (follows, (c.atom_of-atom.ensures, c.requires.begins.trials (labels ++ label ∷ []) (omega (arith, length-append labels (label ∷ []))) grown))))))
 
 pub return_to-requires : goal.return_to-requires
 return_to-requires g c =
