@@ -105,7 +105,7 @@ impl<'s, A: Allocator + Copy> Join<'s, A> {
         &self,
         labels: &[Label],
         binding: &Binding<'s, A>,
-    ) -> Option<Matches<'s, A>>
+    ) -> Option<Matches<'s>>
         requires plan { HasPlan (join_of self.now) }
         requires ready { IsReady (join_of self.now) labels.now binding.now }
         ensures { IfSome result (GivePartners (join_of self.now) labels.now) }

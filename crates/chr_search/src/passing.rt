@@ -58,7 +58,7 @@ pub(crate) struct Level<'s, A: Allocator> {
     known: Known,
     at: LastHead<'s, A>,
     /// The labels among which it is. None where the store has no index for them, or it is the active one.
-    pub(crate) partners: Option<Matches<'s, A>>,
+    pub(crate) partners: Option<Matches<'s>>,
 }
 
 /// What comes after misfits.
