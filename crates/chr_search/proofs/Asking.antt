@@ -1,6 +1,6 @@
 -- What is asked of a store for the next partner, and what its answer says.
 use Rattle.chr_search.specs.Passing.{IsNarrowedIf}
-use Rattle.std.proofs.Common.{◌≡◌, ◌↔◌, ℕ, zero, suc, ◌-◌, ◌<◌, ◌≤◌, Bool, true, false, IsTrue, ltb, ◌&&◌, ◌||◌, ◌==◌, take, List, [], ◌∷◌, ◌++◌, length, replicate, Option, Some, None, slice_get, refl, sym, ◌∙◌, ap, ap₂, subst, arith, length-append}
+use Rattle.std.proofs.Common.{◌≡◌, ◌≢◌, ◌↔◌, ℕ, zero, suc, ◌-◌, ◌<◌, ◌≤◌, Bool, true, false, IsTrue, ltb, ◌&&◌, ◌||◌, ◌==◌, take, drop, List, [], ◌∷◌, ◌++◌, length, replicate, Option, Some, None, slice_get, refl, sym, ◌∙◌, ap, ap₂, subst, arith, length-append}
 use Rattle.std.specs.List.{list_any}
 use Rattle.std.specs.Option.{option_map}
 use Rattle.std.proofs.lemmas.Bool.Decides.{nat_tests}
@@ -20,18 +20,27 @@ use Rattle.chr_model.specs.Stores.{atom_at, among}
 use Rattle.chr_plan.specs.Orders.{heads_of}
 use Rattle.chr_plan.specs.declared.order.Step.{Step}
 use Rattle.chr_store.specs.Labels.{GivenBefore}
+use Rattle.chr_search.specs.Tree.{Grows}
 use Rattle.chr_search.specs.Trials.{Join, StandsAt, HasHeadPred, MayFollow, IsInTurn}
 use Rattle.chr_search.specs.declared.join.Asked.{Asked}
 use Rattle.chr_search.specs.Partners.{HasPlan, IsReady, key_value, keyed_at, KeyIs, key_in, IsAskedFor}
 use Rattle.chr_search.proofs.Plans.{order_of_plan, step_keyed}
 use Rattle.chr_search.proofs.Following.{follows_live, follows_at}
-use Rattle.chr_search.proofs.Partners.{IsAsked, fit_last, ready_more, no_fit}
+use Rattle.chr_search.proofs.Partners.{IsAsked, fit_last, ready_more, no_fit, older_than_first}
 use Rattle.chr_search.proofs.Making.{label_bounds}
 use Rattle.std.proofs.lemmas.List.{length-replicate, take_at}
 
 pub any_among : (ls : List ℕ) (l : ℕ) → list_any (λ y. y == l) ls ≡ among ls l
 any_among [] l = refl
 any_among (x ∷ ls) l = ap (λ b. (x == l) || b) (any_among ls l)
+
+-- a label that may follow is one of the labels before it where it is one of these but the first
+among_others : (ls : List ℕ) (l : ℕ) → ((first : ℕ) (others : List ℕ) → ls ≡ first ∷ others → first ≢ l) → list_any (λ y. y == l) (drop 1 ls) ≡ among ls l
+among_others [] l away = refl
+among_others (x ∷ ls) l away = let apart : x ≢ l = away x ls refl in let rest = any_among ls l in grind (arith, nat_tests)
+
+pub told_among : (j : Join) → j.bound ≡ j.active → (ls others : List ℕ) (l : ℕ) → Grows (MayFollow j) [] ls → MayFollow j ls l → others ≡ drop 1 ls → (told : Bool) → told ≡ list_any (λ y. y == l) others → among ls l ≡ told
+told_among j same ls others l g m are told e = sym (among_others ls l (older_than_first j same ls l g m)) ∙ ap (list_any (λ y. y == l)) (sym are) ∙ sym e
 
 pub past_get : {A : Type 0} (xs : List A) (i : ℕ) → false ≡ ltb i (length xs) → slice_get xs i ≡ None
 past_get xs i t = slice_get_past xs i (let h : length xs ≤ i = grind (arith, nat_tests) in h)

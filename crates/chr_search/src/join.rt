@@ -101,11 +101,7 @@ impl<'s, A: Allocator + Copy> Join<'s, A> {
     /// The labels among which are those that may be tried after these, to go through. None where there are none, or where
     /// the store keeps no index for them.
     #[inline(always)]
-    pub(crate) fn partners(
-        &self,
-        labels: &[Label],
-        binding: &Binding<'s, A>,
-    ) -> Option<Matches<'s>>
+    pub(crate) fn partners(&self, labels: &[Label], binding: &Binding<'s, A>) -> Option<Matches<'s>>
         requires plan { HasPlan (join_of self.now) }
         requires ready { IsReady (join_of self.now) labels.now binding.now }
         ensures { IfSome result (GivePartners (join_of self.now) labels.now) }

@@ -1,5 +1,5 @@
 //! Trials in the store that are judged without being made.
-ghost use Rattle.std.specs.Prelude.{◌≡◌, ◌≢◌, ◌↔◌, ◌==◌, ◌≤◌, ◌<◌, ◌∷◌, ◌++◌, [], ℕ, List, length, take, Some, IfSome, IsSome, MatchOption, IsTrue};
+ghost use Rattle.std.specs.Prelude.{◌≡◌, ◌↔◌, ◌==◌, ◌≤◌, ◌<◌, ◌∷◌, ◌++◌, [], ℕ, List, length, take, drop, Some, IfSome, IsSome, MatchOption, IsTrue};
 ghost use Rattle.std.specs.List.{list_any};
 ghost use Rattle.chr_value.specs.Atoms.{Atom as AtomView};
 ghost use Rattle.chr_value.specs.Stores.{atom_at};
@@ -49,6 +49,14 @@ struct LastHead<'s, A: Allocator> {
     head: &'s RuleAtom<A>,
     /// Whether no head is left then.
     is_last: bool,
+}
+
+/// The labels of trials but the last.
+#[derive(Clone, Copy)]
+struct Path<'l> {
+    labels: &'l [Label],
+    /// Those that the last may repeat. The first is the active one, and the last is older then.
+    others: &'l [Label],
 }
 
 /// Where the labels of trials are looked for that have the same labels but the last.
@@ -107,15 +115,18 @@ fn is_among(labels: &[Label], label: Label) -> bool
     labels.iter().any(|other| *other == label)
 }
 
-/// Whether a label that isn't the first of these is one of them.
-#[inline(always)]
-fn is_among_others(labels: &[Label], label: Label) -> bool
-    requires { (first : ℕ) (others : List ℕ) → labels.now ≡ first ∷ others → first ≢ label }
-    ensures { result ≡ list_any (λ other. other == label) labels.now }
-{
-    match labels.split_first() {
-        None => false,
-        Some((_first, others)) => is_among(others, label),
+impl<'l> Path<'l> {
+    /// The path of labels.
+    #[inline(always)]
+    fn of(labels: &'l [Label]) -> Path<'l>
+        ensures labels { result.labels.now ≡ labels.now }
+        ensures others { result.others.now ≡ drop 1 labels.now }
+    {
+        let others = match labels.split_first() {
+            None => &[],
+            Some((_first, others)) => others,
+        };
+        Path { labels, others }
     }
 }
 
@@ -249,27 +260,28 @@ impl<'s, A: Allocator + Copy> Join<'s, A> {
         atom
     }
 
-    /// How the trial of these labels and one more, which has this atom, is judged, where `narrowed` is the binding of these
-    /// labels. For a part it becomes its own binding, and for a whole trial that of all variables.
+    /// How the trial of a path and one label more, which has this atom, is judged, where `narrowed` is the binding of the
+    /// path. For a part it becomes its own binding, and for a whole trial that of all variables.
     #[inline(always)]
     fn judge_at(
         &self,
         at: LastHead<'s, A>,
-        labels: &[Label],
+        path: Path<'_>,
         label: Label,
         atom: &'s Atom<A>,
         narrowed: &mut Binding<'s, A>,
     ) -> Verdict
-        requires at { IsLastHead (join_of self.now) labels.now at }
-        requires ready { IsReady (join_of self.now) labels.now narrowed.old }
-        requires grows { Grows (MayFollow (join_of self.now)) [] labels.now }
-        requires follows { MayFollow (join_of self.now) labels.now label }
+        requires others { path.others.now ≡ drop 1 path.labels.now }
+        requires at { IsLastHead (join_of self.now) path.labels.now at }
+        requires ready { IsReady (join_of self.now) path.labels.now narrowed.old }
+        requires grows { Grows (MayFollow (join_of self.now)) [] path.labels.now }
+        requires follows { MayFollow (join_of self.now) path.labels.now label }
         requires live { atom_at (join_of self.now).store label ≡ Some atom.now }
-        requires trial { (t : Trial) × IsTrialIn (join_of self.now) (labels.now ++ label ∷ []) t }
-        ensures tried { IsTried (join_of self.now) (labels.now ++ label ∷ []) result narrowed.new }
+        requires trial { (t : Trial) × IsTrialIn (join_of self.now) (path.labels.now ++ label ∷ []) t }
+        ensures tried { IsTried (join_of self.now) (path.entry.labels.now ++ label ∷ []) result narrowed.new }
         ensures keeps { Keeps narrowed.old narrowed.new }
     {
-        if is_among_others(labels, label) {
+        if is_among(path.others, label) {
             return Verdict::Misfit;
         }
         if !fit_partner(narrowed, at.head, atom) {
@@ -306,16 +318,16 @@ impl<'s, A: Allocator + Copy> Join<'s, A> {
         ensures same { level.new ≡ level.old }
         ensures keeps { Keeps binding.old binding.new }
     {
-        let labels = instance.labels.as_slice();
+        let path = Path::of(instance.labels.as_slice());
         let mut count = 0;
         let mut next = from;
         while count < most {
-            let Some(label) = self.next_at(level, labels, binding, next) else {
+            let Some(label) = self.next_at(level, path.labels, binding, next) else {
                 let then = Next::NoneLeft;
                 return Run { count, next, then };
             };
             let atom = self.atom_of(level, label);
-            match self.judge_at(level.at, labels, label, atom, binding) {
+            match self.judge_at(level.at, path, label, atom, binding) {
                 Verdict::Misfit => {}
                 Verdict::Part => {
                     let then = Next::Part(label);
@@ -476,7 +488,7 @@ impl<'s, A: Allocator + Copy> Join<'s, A> {
             unreachable!();
         };
         binding.reset(self.rule.variables());
-        self.judge_at(at, &[], active, atom, binding)
+        self.judge_at(at, Path::of(&[]), active, atom, binding)
     }
 
     /// Passes over the trials from the first one on, up to one that is whole, at most so many. All of them begin with the

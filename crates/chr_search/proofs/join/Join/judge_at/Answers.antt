@@ -11,26 +11,23 @@ use Rattle.chr_search.specs.Joined.{join_of}
 use Rattle.chr_search.specs.Partners.{IsReady}
 use Rattle.chr_search.specs.Passing.{IsTrialIn}
 use Rattle.chr_search.specs.Verdicts.{Trial}
-use Rattle.chr_search.proofs.Asking.{any_among, stands_is}
+use Rattle.chr_search.proofs.Asking.{told_among, stands_is}
 use Rattle.chr_search.proofs.Following.{pred_follows}
-use Rattle.chr_search.proofs.Partners.{ready_more, older_than_first}
+use Rattle.chr_search.proofs.Partners.{ready_more}
 use Rattle.chr_search.proofs.Wholes.{in_head_order, completed}
 use Rattle.chr_search.proofs.PassingOver.{repeats, stands_nowhere, is_part, is_full, heads_fit, misfit_here}
 use Rattle.chr_search.proofs.join.Join.judge_at.Goals.{Else-not-fit_partner}
 use Rattle.chr_search.proofs.join.Join.judge_at.Goals as goal
 
-pub is_among_others-requires : goal.is_among_others-requires
-is_among_others-requires g c = older_than_first (join_of c.args.self.now) refl c.args.labels.now c.args.label c.requires.grows c.requires.follows
-
-pub returns-then-is_among_others-clause-tried : goal.returns-then-is_among_others-clause-tried
-returns-then-is_among_others-clause-tried g c = repeats _ _ _ (sym (any_among c.args.labels.now c.args.label) ∙ sym c.is_among_others.ensures ∙ c.if-is_among_others.true)
+pub returns-then-is_among-clause-tried : goal.returns-then-is_among-clause-tried
+returns-then-is_among-clause-tried g c = repeats _ _ _ (told_among (join_of c.args.self.now) refl c.args.path.labels.now c.args.path.others.now c.args.label c.requires.grows c.requires.follows c.requires.others c.is_among.result c.is_among.ensures ∙ c.if-is_among.true)
 
 pub fit_partner-requires : goal.fit_partner-requires
 fit_partner-requires g c =
     let i = c.requires.trial.1 in
     let at = c.requires.at in
     let s = shape c.args.at.head.now in
-    let pred = pred_follows (join_of c.args.self.now) c.args.labels.now c.args.label c.requires.follows at.step at.step_is s at.head_is c.args.atom.now c.requires.live in
+    let pred = pred_follows (join_of c.args.self.now) c.args.path.labels.now c.args.label c.requires.follows at.step at.step_is s at.head_is c.args.atom.now c.requires.live in
     (omega arith, (subst (λ n. IsPlaced n s) (sym c.requires.ready.fit.places) (head_placed c.args.self.now.rule.now (subst IsRule i.rule_is i.formed.scoped) at.step.head s at.head_is), (sym pred.0, sym pred.1)))
 
 pub returns-then-not-fit_partner-clause-tried : goal.returns-then-not-fit_partner-clause-tried
@@ -40,10 +37,10 @@ returns-then-not-fit_partner-clause-tried g c =
     stands_nowhere j _ c.args.narrowed.now c.requires.at.step _ c.requires.ready c.requires.at.step_is (told_as _ _ false c.args.narrowed.now c.fit_partner.new.binding stands c.if-not-fit_partner.ensures.narrows)
 
 -- its atom fits
-ready : (g : _) (c : Else-not-fit_partner g) → IsReady (join_of c.args.self.now) (c.args.labels.now ++ c.args.label ∷ []) c.fit_partner.new.binding
+ready : (g : _) (c : Else-not-fit_partner g) → IsReady (join_of c.args.self.now) (c.args.path.labels.now ++ c.args.label ∷ []) c.fit_partner.new.binding
 ready g c =
     let j = join_of c.args.self.now in
-    let away = sym (any_among c.args.labels.now c.args.label) ∙ sym c.is_among_others.ensures ∙ c.if-is_among_others.false in
+    let away = told_among (join_of c.args.self.now) refl c.args.path.labels.now c.args.path.others.now c.args.label c.requires.grows c.requires.follows c.requires.others c.is_among.result c.is_among.ensures ∙ c.if-is_among.false in
     let stands = stands_is j c.requires.at.step c.args.label (shape c.args.at.head.now) c.args.atom.now c.requires.at.head_is c.requires.live in
     ready_more j _ _ _ c.requires.at.step _ c.requires.ready c.requires.at.step_is away (told_as _ _ true c.args.narrowed.now c.fit_partner.new.binding stands c.if-not-fit_partner.ensures.narrows)
 
@@ -51,13 +48,13 @@ pub returns-then-not-at-clause-tried : goal.returns-then-not-at-clause-tried
 returns-then-not-at-clause-tried g c =
     let ready = ready g (goal.at.returns-then-not-at-clause-tried g c).Else-not-fit_partner in
     let last = c.requires.at.last.1 in
-    (is_part _ _ _ ready (grind (arith, length-append c.args.labels.now (c.args.label ∷ []))), ready)
+    (is_part _ _ _ ready (grind (arith, length-append c.args.path.labels.now (c.args.label ∷ []))), ready)
 
 -- no head is left
-full : (g : _) (c : Else-not-fit_partner g) → (t : Trial) → IsTrialIn (join_of c.args.self.now) (c.args.labels.now ++ c.args.label ∷ []) t → c.args.at.is_last ≡ true → length t.placed ≡ length (heads_of t.rule)
-full g c t i last = is_full _ _ t i (omega (arith, c.requires.at.last.0 last, length-append c.args.labels.now (c.args.label ∷ [])))
+full : (g : _) (c : Else-not-fit_partner g) → (t : Trial) → IsTrialIn (join_of c.args.self.now) (c.args.path.labels.now ++ c.args.label ∷ []) t → c.args.at.is_last ≡ true → length t.placed ≡ length (heads_of t.rule)
+full g c t i last = is_full _ _ t i (omega (arith, c.requires.at.last.0 last, length-append c.args.path.labels.now (c.args.label ∷ [])))
 
-heads : (g : _) (c : Else-not-fit_partner g) → (t : Trial) → IsTrialIn (join_of c.args.self.now) (c.args.labels.now ++ c.args.label ∷ []) t → c.args.at.is_last ≡ true → IsFit c.args.self.now.rule.now (HeadsAre c.args.self.now.rule.now (in_head_order t)) c.fit_partner.new.binding
+heads : (g : _) (c : Else-not-fit_partner g) → (t : Trial) → IsTrialIn (join_of c.args.self.now) (c.args.path.labels.now ++ c.args.label ∷ []) t → c.args.at.is_last ≡ true → IsFit c.args.self.now.rule.now (HeadsAre c.args.self.now.rule.now (in_head_order t)) c.fit_partner.new.binding
 heads g c t i last = heads_fit _ _ t i (full g c t i last) _ (ready g c).fit
 
 pub becomes_instance-requires : goal.becomes_instance-requires
@@ -74,8 +71,8 @@ returns-clause-tried g c = λ t i.
     let at = (goal.at.returns-clause-tried g c).Else-not-fit_partner in
     misfit_here _ _ t i (full g at t i c.if-not-at.false) (c.if-becomes_instance.ensures.instance (in_head_order t) (heads g at t i c.if-not-at.false))
 
-pub returns-then-is_among_others-clause-keeps : goal.returns-then-is_among_others-clause-keeps
-returns-then-is_among_others-clause-keeps g c = keeps_itself c.args.narrowed.now
+pub returns-then-is_among-clause-keeps : goal.returns-then-is_among-clause-keeps
+returns-then-is_among-clause-keeps g c = keeps_itself c.args.narrowed.now
 
 pub returns-then-becomes_instance-clause-keeps : goal.returns-then-becomes_instance-clause-keeps
 returns-then-becomes_instance-clause-keeps g c = keeps_both c.args.narrowed.now c.fit_partner.new.binding c.becomes_instance.new.binding c.fit_partner.ensures.keeps c.becomes_instance.ensures.keeps

@@ -6,7 +6,7 @@ use Rattle.chr_search.proofs.join.Join.pass_run.Given as goal
 abbrev pub invariant-loop-count : goal.invariant-loop-count
 invariant-loop-count g l = record {
   few : l.count ≤ l.most;
-  misfits : AreMisfits (join_of l.self) l.labels l.count l.from l.next;
+  misfits : AreMisfits (join_of l.self) l.path.labels.now l.count l.from l.next;
   same : l.level ≡ l.fn.level;
   binding : l.binding ≡ l.fn.binding;
 }
