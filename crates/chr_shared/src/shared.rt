@@ -32,22 +32,30 @@ use std::sync::{Condvar, Mutex, MutexGuard, Wait};
 /// How often a call looks whether the lock is free before its thread sleeps.
 const LOOKS: u32 = 12;
 
-/// How often it pauses between two looks where its hold is short. What the hold touches takes longer to move from processor to
-/// processor than the hold takes, so it pays to leave the lock for many holds to the thread that has it.
-const SHORT_HOLD_PAUSES: u32 = 3200;
+/// How often it pauses after a look at most. What a hold touches takes longer to move from processor to processor than a short
+/// hold takes, so it pays to leave the lock for many holds to the thread that has it.
+const MOST_PAUSES: u32 = 3200;
 
-/// How often it pauses where its hold is long, which pays for the move.
-const LONG_HOLD_PAUSES: u32 = 100;
+/// How often it pauses after its first look where its hold is long, which pays for the move. Each time after that it pauses
+/// twice as often.
+const LONG_HOLD_PAUSES: u32 = 200;
 
 /// From how many trials on that it may read a hold is a long one.
 const TRIALS_OF_LONG_HOLD: usize = 128;
 
-/// How often a call that may read so many trials pauses between two looks.
+/// How often a call that may read so many trials pauses after its first look.
 fn pauses_for(most: usize) -> u32 {
     if most < TRIALS_OF_LONG_HOLD {
-        SHORT_HOLD_PAUSES
+        MOST_PAUSES
     } else {
         LONG_HOLD_PAUSES
+    }
+}
+
+/// Pauses so often.
+fn pause(times: u32) {
+    for _ in 0..times {
+        spin_loop();
     }
 }
 
@@ -165,16 +173,16 @@ impl<L1: PostLedger, L2: Ledger, A: Allocator + Copy> Shared<L1, L2, A> {
         kept.audit(workers, sessions);
     }
 
-    /// Takes the lock for a call that pauses so often between two looks.
+    /// Takes the lock for a call that pauses so often after its first look.
     #[inline(always)]
     fn begin_hold<R: Wait>(&self, rt: &R, pauses: u32) -> MutexGuard<'_, Locked<L1, L2, A>> {
+        let mut pauses = pauses;
         for _ in 0..LOOKS {
             if let Some(locked) = self.locked.try_lock() {
                 return locked;
             }
-            for _ in 0..pauses {
-                spin_loop();
-            }
+            pause(pauses);
+            pauses = pauses.saturating_mul(2).min(MOST_PAUSES);
         }
         self.locked.lock(rt)
     }
@@ -202,7 +210,7 @@ impl<L1: PostLedger, L2: Ledger, A: Allocator + Copy> Shared<L1, L2, A> {
         ensures posts { C.posts ≡ false → seat.new.counts.posts ≡ seat.old.counts.posts }
         ensures others { C.posts ≡ true → seat.new.counts.others ≡ seat.old.counts.others }
     {
-        let mut locked = self.begin_hold(rt, SHORT_HOLD_PAUSES);
+        let mut locked = self.begin_hold(rt, MOST_PAUSES);
         let answer = locked.kept.hold(seat, call, are_posts);
         self.end_hold(locked);
         answer
