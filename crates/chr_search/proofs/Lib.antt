@@ -22,6 +22,7 @@ pub mod After
 pub mod Fronts
 pub mod Below
 pub mod PlanByPlan
+pub mod AtHeads
 pub mod Occurring
 pub mod Fitting
 pub mod Alone

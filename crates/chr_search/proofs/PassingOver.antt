@@ -84,7 +84,7 @@ repeats j ls l there t i =
 pub stands_nowhere : (j : Join) (ls : List ℕ) (binding : List (Option (Value ℕ))) (step : Step) (l : ℕ) → IsReady j ls binding → slice_get j.order (length ls) ≡ Some step → NoneUnder (λ v. StandsAt j v step l) binding → AreJudged j (ls ++ l ∷ []) Misfit
 stands_nowhere j ls binding step l r at n t i = no_fit j (ls ++ l ∷ []) t i (λ v f. let m = (fit_last j v j.order ls step l at).0 f in n v ((r.fit.exactly v).1 m.0) m.1)
 
-heads_of_trial : (j : Join) (ls : List ℕ) (t : Trial) → IsTrialIn j ls t → length (heads_of t.rule) ≡ length j.rule.kept + length j.rule.removed
+pub heads_of_trial : (j : Join) (ls : List ℕ) (t : Trial) → IsTrialIn j ls t → length (heads_of t.rule) ≡ length j.rule.kept + length j.rule.removed
 heads_of_trial j ls t i = ap (λ r. length (heads_of r)) i.rule_is ∙ length-append j.rule.kept j.rule.removed
 
 pub is_part : (j : Join) (ls : List ℕ) (binding : List (Option (Value ℕ))) → IsReady j ls binding → length ls < length j.rule.kept + length j.rule.removed → AreJudged j ls Part

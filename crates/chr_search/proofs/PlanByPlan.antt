@@ -1,7 +1,5 @@
 -- Searches that pass over trials plan by plan.
-use Rattle.std.proofs.lemmas.List.{drop_all}
-use Rattle.chr_value.proofs.Chosen.{some_is}
-use Rattle.std.proofs.Common.{◌≡◌, ℕ, zero, suc, ◌+◌, ◌<◌, ◌≤◌, true, ◌==◌, if◌then◌else◌, List, [], ◌∷◌, map, take, drop, length, get_or, Option, Some, None, slice_get, refl, sym, ◌∙◌, ap, subst, arith, ◌⊎◌, ◌↔◌, ap₂}
+use Rattle.std.proofs.Common.{◌≡◌, ℕ, zero, suc, ◌+◌, ◌<◌, ◌≤◌, true, List, [], ◌∷◌, map, take, length, Option, Some, None, slice_get, refl, sym, ◌∙◌, ap, subst, arith, ◌↔◌, ap₂}
 use Rattle.std.proofs.lemmas.Bool.Decides.{nat_tests}
 use Rattle.std.proofs.lemmas.Option.{slice_get_within}
 use Rattle.chr_value.specs.Atoms.{Value, Atom}
@@ -29,24 +27,8 @@ use Rattle.chr_search.proofs.Judging.{few_heads}
 use Rattle.chr_search.proofs.Descents.{none_left, head_low, rule_low, grows_in, is_first, each_trial, least_out}
 use Rattle.chr_search.proofs.PassingOver.{Makes, made_of, has_trials, position_made, trial_of_made, after_labels}
 
--- labels at heads
-pub label_step : (order : List Step) (ls : List ℕ) (i h : ℕ) (step : Step) → slice_get order i ≡ Some step → i < length ls → label_at_head (drop i order) (drop i ls) h ≡ (if step.head == h then get_or ls i 0 else label_at_head (drop (i + 1) order) (drop (i + 1) ls) h)
-label_step (s ∷ order) (l ∷ ls) zero h step e less = ap (λ (x : Step). if x.head == h then l else label_at_head order ls h) (some_is s step e)
-label_step (s ∷ order) (l ∷ ls) (suc i) h step e less = rw (let q : suc i + 1 ≡ suc (i + 1) = omega arith in q) (label_step order ls i h step e (omega arith))
-label_step order ls i h step e less = absurd (grind arith)
-
-pub label_past : (order : List Step) (ls : List ℕ) (i h : ℕ) → (length order ≤ i) ⊎ (length ls ≤ i) → label_at_head (drop i order) (drop i ls) h ≡ 0
-label_past (s ∷ order) (l ∷ ls) zero h e = absurd (omega arith)
-label_past (s ∷ order) (l ∷ ls) (suc i) h e = label_past order ls i h (grind arith)
-label_past [] ls i h e = rw (drop_all {X = Step} i [] (omega arith)) (nowhere (drop i ls))
-  where
-    nowhere : (ks : List ℕ) → label_at_head [] ks h ≡ 0
-    nowhere [] = refl
-    nowhere (k ∷ ks) = refl
-label_past order [] i h e = rw (drop_all {X = ℕ} i [] (omega arith))
-
 -- these are the labels of a trial
-placed_label : (order : List Step) (ps : List Placed) (h : ℕ) → map (λ (p : Placed). p.head) ps ≡ take (length ps) (heads_in order) → label_at_head order (map (λ (p : Placed). p.label) ps) h ≡ label_at ps h
+pub placed_label : (order : List Step) (ps : List Placed) (h : ℕ) → map (λ (p : Placed). p.head) ps ≡ take (length ps) (heads_in order) → label_at_head order (map (λ (p : Placed). p.label) ps) h ≡ label_at ps h
 placed_label order [] h e = refl
 placed_label [] (p ∷ ps) h e = absurd (cc)
 placed_label (s ∷ order) (p ∷ ps) h e = let head : p.head ≡ s.head = cc in let rest = placed_label order ps h (cc) in cc

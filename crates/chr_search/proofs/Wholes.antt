@@ -49,18 +49,24 @@ from_under v ps (x ∷ hs) h e zero less =
 from_under v ps (x ∷ hs) h e (suc i) less =
     from_under v ps hs (suc h) (cc) i (omega arith) ∙ ap (λ n. Some (Some (atom_of ps n))) (let q : suc h + i ≡ h + suc i = omega arith in q)
 
--- each of them has its own atom
+-- what is at the head of each of them is its own
 others_apart : (ps : List Placed) (h : ℕ) → among (map (λ (p : Placed). p.head) ps) h ≡ false → AllByRecursion (λ q. (h == q.head) ≡ false) ps
 others_apart [] h e = tt
 others_apart (p ∷ ps) h e = ((grind (arith, nat_tests)), others_apart ps h (grind (arith, nat_tests)))
 
-past_first : (p : Placed) (ps qs : List Placed) → AllByRecursion (λ q. (p.head == q.head) ≡ false) qs → AllByRecursion (λ q. atom_of ps q.head ≡ q.atom) qs → AllByRecursion (λ q. atom_of (p ∷ ps) q.head ≡ q.atom) qs
-past_first p ps [] a b = tt
-past_first p ps (q ∷ qs) a b = (ap (λ (c : Bool). if c then p.atom else atom_of ps q.head) a.0 ∙ b.0, past_first p ps qs a.1 b.1)
+module _ {X : Type 0} (f : Placed → X) (at : List Placed → ℕ → X) (more : (p : Placed) (ps : List Placed) (h : ℕ) → at (p ∷ ps) h ≡ (if p.head == h then f p else at ps h)) where
+  past_first : (p : Placed) (ps qs : List Placed) → AllByRecursion (λ q. (p.head == q.head) ≡ false) qs → AllByRecursion (λ q. at ps q.head ≡ f q) qs → AllByRecursion (λ q. at (p ∷ ps) q.head ≡ f q) qs
+  past_first p ps [] a b = tt
+  past_first p ps (q ∷ qs) a b = (more p ps q.head ∙ ap (λ (c : Bool). if c then f p else at ps q.head) a.0 ∙ b.0, past_first p ps qs a.1 b.1)
+
+  pub own : (ps : List Placed) → Distinct (map (λ (p : Placed). p.head) ps) → AllByRecursion (λ p. at ps p.head ≡ f p) ps
+  own [] d = tt
+  own (p ∷ ps) d =
+      let here : (p.head == p.head) ≡ true = grind (arith, nat_tests) in
+      (more p ps p.head ∙ ap (λ (c : Bool). if c then f p else at ps p.head) here, past_first p ps ps (others_apart ps p.head d.0) (own ps d.1))
 
 own_atoms : (ps : List Placed) → Distinct (map (λ (p : Placed). p.head) ps) → AllByRecursion (λ p. atom_of ps p.head ≡ p.atom) ps
-own_atoms [] d = tt
-own_atoms (p ∷ ps) d = (grind (arith, nat_tests), past_first p ps ps (others_apart ps p.head d.0) (own_atoms ps d.1))
+own_atoms = own (λ p. p.atom) atom_of (λ p ps h. refl)
 
 back_at : (rule : Simpagation ℕ) (v : Valuation) (all ps : List Placed) → HeadsAre rule (atoms_from all 1 (length (heads_of rule))) v → AllByRecursion (λ p. (1 ≤ p.head) × (p.head ≤ length (heads_of rule)) × (p.label ≤ 4294967295)) ps → AllByRecursion (λ p. atom_of all p.head ≡ p.atom) ps → AreAtHeads rule (places ps) v
 back_at rule v all [] e w o = tt

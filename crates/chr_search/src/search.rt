@@ -1,5 +1,5 @@
 //! Searches.
-ghost use Rattle.std.specs.Prelude.{◌≡◌, ◌↔◌, ℕ, suc, ◌+◌, ◌≤◌, true, List, ◌∷◌, ◌++◌, [], length, Some, MatchBool, MatchOption, IfOk, IfSome, IsTrue};
+ghost use Rattle.std.specs.Prelude.{◌≡◌, ◌↔◌, ℕ, suc, ◌+◌, ◌-◌, ◌≤◌, true, List, ◌∷◌, ◌++◌, [], length, slice_set, Some, MatchBool, MatchOption, IfOk, IfSome, IsTrue};
 ghost use Rattle.chr_value.specs.Stores.{atom_at, greatest_label};
 ghost use Rattle.chr_plan.specs.Plans.{ArePlans};
 ghost use Rattle.chr_store.specs.Labels.{entered};
@@ -13,17 +13,17 @@ ghost use Rattle.chr_search.specs.Verdicts.{Trial as TrialView, IsPart, position
 ghost use Rattle.chr_search.specs.Fronts.{ComeAfter};
 ghost use Rattle.chr_search.specs.Joined.{join_of};
 ghost use Rattle.chr_search.specs.Passing.{IsTrialIn, BeginsTrials, Passes, IsThen};
-ghost use Rattle.chr_search.specs.PlanByPlan.{label_at_head, labels_at_heads, AreAhead, IsUnplanned, IsJoinOf, labels_in, PassesPlan, HasComeTo, IsNextJoin};
+ghost use Rattle.chr_search.specs.PlanByPlan.{labels_at_heads, AreAhead, IsUnplanned, IsJoinOf, labels_in, PassesPlan, HasComeTo, IsNextJoin};
 
 use crate::join::Join;
 use crate::judged::{Judged, Verdict};
 use crate::passing;
 use crate::passing::End;
-use crate::position::{Position, set_at};
+use crate::position::Position;
 use crate::trial::Trial;
 use chr_guard::Binding;
 use chr_log::Labels;
-use chr_plan::{Plans, Step};
+use chr_plan::Plans;
 use chr_rule::{HeadsFrom, Program};
 use chr_store::{Label, Store, View};
 use chr_value::Atom;
@@ -60,37 +60,49 @@ pub struct Instance {
     whole: Whole,
 }
 
-/// The label at a head, of labels in the order of a plan. 0 where there is none.
-fn label_at_head(order: &[Step], labels: &[Label], head: usize) -> Label
-    ensures { result ≡ label_at_head order.now labels.now head }
+/// Makes labels as many as a count. Which they are then is left open.
+fn resize(labels: &mut Labels, count: usize)
+    requires { count ≤ 6 }
+    ensures { length labels.new.items ≡ count }
 {
-    for (i, label) in labels.iter().enumerate() {
-        let Some(step) = order.get(i) else {
-            return 0;
-        };
-        if usize::from(step.head) == head {
-            return *label;
-        }
+    labels.truncate(count);
+    while labels.len() < count {
+        labels.push(0);
     }
-    0
 }
 
-/// Makes labels those at the next heads from one on, at most six, of labels in the order of a plan.
-fn set_labels_at_heads(
-    found: &mut Labels,
-    order: &[Step],
-    labels: &[Label],
-    first: usize,
-    count: usize,
-)
-    requires first { first ≤ 7 }
-    requires count { count ≤ 6 }
-    ensures { found.new.items ≡ labels_at_heads order.now labels.now first count }
+/// Puts a label at a head: its place is among the kept heads, or after them among the removed ones.
+#[inline(always)]
+fn put_at_head(kept: &mut [Label], removed: &mut [Label], head: u8, label: Label)
+    requires from { 1 ≤ head }
+    requires to { head ≤ length kept.old + length removed.old }
+    ensures { kept.new ++ removed.new ≡ slice_set (kept.old ++ removed.old) (head - 1) label }
 {
-    for i in 0..count {
-        set_at(found, i, label_at_head(order, labels, first + i));
+    let place = usize::from(head) - 1;
+    if place < kept.len() {
+        kept[place] = label;
+    } else {
+        removed[place - kept.len()] = label;
     }
-    found.truncate(count);
+}
+
+/// Puts the labels of a trial, one for each head in the order of the plan, at their heads.
+fn put_at_heads<A: Allocator + Copy>(
+    kept: &mut [Label],
+    removed: &mut [Label],
+    join: &Join<'_, A>,
+    labels: &[Label],
+)
+    requires trial { (t : TrialView) × IsTrialIn (join_of join.now) labels.now t }
+    requires full { length labels.now ≡ length join.now.rule.now.kept + length join.now.rule.now.removed }
+    requires kept { length kept.old ≡ length join.now.rule.now.kept }
+    requires removed { length removed.old ≡ length join.now.rule.now.removed }
+    ensures kept { kept.new ≡ labels_at_heads join.now.order.now labels.now 1 (length join.now.rule.now.kept) }
+    ensures removed { removed.new ≡ labels_at_heads join.now.order.now labels.now (suc (length join.now.rule.now.kept)) (length join.now.rule.now.removed) }
+{
+    for i in 0..labels.len() {
+        put_at_head(kept, removed, join.order[i].head, labels[i]);
+    }
 }
 
 impl Instance {
@@ -114,11 +126,12 @@ impl Instance {
         &self.whole
     }
 
-    /// Sets the trial to that of the labels, by the rule and the head at which a walk stands.
+    /// Sets the trial to that of the labels, one for each head, by the rule and the head at which a walk stands.
     fn set_whole<A: Allocator + Copy>(&mut self, join: &Join<'_, A>, walk: &Walk<'_>)
         requires rule { 1 ≤ walk.now.rule }
         requires head { 1 ≤ walk.now.head }
         requires trial { (t : TrialView) × IsTrialIn (join_of join.now) self.old.labels.items t }
+        requires full { length self.old.labels.items ≡ length join.now.rule.now.kept + length join.now.rule.now.removed }
         ensures number { self.new.whole.number ≡ walk.now.rule }
         ensures kept { self.new.whole.kept.items ≡ labels_at_heads join.now.order.now self.old.labels.items 1 (length join.now.rule.now.kept) }
         ensures removed { self.new.whole.removed.items ≡ labels_at_heads join.now.order.now self.old.labels.items (suc (length join.now.rule.now.kept)) (length join.now.rule.now.removed) }
@@ -126,11 +139,12 @@ impl Instance {
     {
         let labels = self.labels.as_slice();
         let whole = &mut self.whole;
-        let kept = join.rule.kept().len();
-        let removed = join.rule.removed().len();
         whole.number = walk.rule;
-        set_labels_at_heads(&mut whole.kept, join.order, labels, 1, kept);
-        set_labels_at_heads(&mut whole.removed, join.order, labels, kept + 1, removed);
+        resize(&mut whole.kept, join.rule.kept().len());
+        resize(&mut whole.removed, join.rule.removed().len());
+        let kept = whole.kept.as_mut_slice();
+        let removed = whole.removed.as_mut_slice();
+        put_at_heads(kept, removed, join, labels);
         whole.past.label = join.view.active();
         whole.past.position.set_past(walk.rule, walk.head, labels);
     }

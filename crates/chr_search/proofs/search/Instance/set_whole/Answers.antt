@@ -1,22 +1,33 @@
-use Rattle.std.proofs.Common.{inl, inr, length, sym, ap, ap₂, ◌∙◌, arith}
+use Rattle.std.proofs.Common.{ℕ, List, inl, inr, length, sym, ap, subst, ◌∙◌}
 use Rattle.std.proofs.lemmas.List.{length-map}
+use Rattle.arrayvec.proofs.ArrayVecLemmas.{items-with_items}
 use Rattle.chr_rule.specs.Parts.{shape}
+use Rattle.chr_search.specs.Joined.{join_of}
+use Rattle.chr_search.specs.Passing.{IsTrialIn}
 use Rattle.chr_search.specs.PlanByPlan.{labels_at_heads}
+use Rattle.chr_search.specs.Verdicts.{Trial}
 use Rattle.chr_search.proofs.Judging.{read_few}
 use Rattle.chr_search.proofs.search.Instance.set_whole.Goals as goal
 
-pub set_labels_at_heads-requires-clause-count : goal.set_labels_at_heads-requires-clause-count
-set_labels_at_heads-requires-clause-count g c = read_few _ c.kept-kept.ensures.valid shape c.kept-kept.result.now (inl c.kept-kept.ensures.heads)
+pub resize-requires : goal.resize-requires
+resize-requires g c = read_few _ c.kept.ensures.valid shape c.kept.result.now (inl c.kept.ensures.heads)
 
-pub set_labels_at_heads-requires-2-clause-count : goal.set_labels_at_heads-requires-2-clause-count
-set_labels_at_heads-requires-2-clause-count g c = read_few _ c.removed-removed.ensures.valid shape c.removed-removed.result.now (inr c.removed-removed.ensures.heads)
+pub resize-requires-2 : goal.resize-requires-2
+resize-requires-2 g c = read_few _ c.removed.ensures.valid shape c.removed.result.now (inr c.removed.ensures.heads)
 
-pub set_labels_at_heads-requires-2-clause-first : goal.set_labels_at_heads-requires-2-clause-first
-set_labels_at_heads-requires-2-clause-first g c = omega (arith, read_few _ c.kept-kept.ensures.valid shape c.kept-kept.result.now (inl c.kept-kept.ensures.heads))
+pub put_at_heads-requires-clause-trial : goal.put_at_heads-requires-clause-trial
+put_at_heads-requires-clause-trial g c = subst (λ (ls : List ℕ). (t : Trial) × IsTrialIn (join_of c.args.join.now) ls t) (sym c.as_slice-labels.ensures.value) c.requires.trial
 
-pub overflow_add-kept : goal.overflow_add-kept
-overflow_add-kept g c = omega (arith, read_few _ c.kept-kept.ensures.valid shape c.kept-kept.result.now (inl c.kept-kept.ensures.heads))
+pub put_at_heads-requires-clause-full : goal.put_at_heads-requires-clause-full
+put_at_heads-requires-clause-full g c = ap length c.as_slice-labels.ensures.value ∙ c.requires.full
+
+pub put_at_heads-requires-clause-kept : goal.put_at_heads-requires-clause-kept
+put_at_heads-requires-clause-kept g c = ap length c.as_mut_slice-kept.ensures.value ∙ c.resize.ensures ∙ sym (length-map c.kept.result.now shape) ∙ ap length c.kept.ensures.heads
+
+pub put_at_heads-requires-clause-removed : goal.put_at_heads-requires-clause-removed
+put_at_heads-requires-clause-removed g c = ap length c.as_mut_slice-removed.ensures.value ∙ c.resize-2.ensures ∙ sym (length-map c.removed.result.now shape) ∙ ap length c.removed.ensures.heads
 
 pub returns-clause-kept : goal.returns-clause-kept
 returns-clause-kept g c =
-    c.set_labels_at_heads.ensures ∙ ap₂ (λ ls n. labels_at_heads c.args.join.now.order.now ls 1 n) c.as_slice-labels.ensures.value (sym (length-map c.kept-kept.result.now shape) ∙ ap length c.kept-kept.ensures.heads)
+    items-with_items c.resize.new.labels c.put_at_heads.new.kept (c.put_at_heads.auto.kept ∙ ap length c.as_mut_slice-kept.ensures.value)
+    ∙ c.put_at_heads.ensures.kept ∙ ap (λ ls. labels_at_heads c.args.join.now.order.now ls 1 (length c.args.join.now.rule.now.kept)) c.as_slice-labels.ensures.value

@@ -2,12 +2,14 @@ use Rattle.std.proofs.Common.{◌+◌, [], ◌∷◌, refl, ap, subst, ◌∙◌
 use Rattle.chr_search.specs.declared.passing.End.{End}
 use Rattle.chr_search.specs.Trials.{older, NoneLeft}
 use Rattle.chr_search.specs.Joined.{join_of}
-use Rattle.chr_search.specs.Passing.{EndsIn}
+use Rattle.chr_search.specs.Passing.{IsTrialIn, AreWhole, EndsIn}
+use Rattle.chr_search.specs.Verdicts.{Trial}
 use Rattle.chr_search.specs.PlanByPlan.{AreAhead}
 use Rattle.chr_search.proofs.PassingOver.{pass_more}
 use Rattle.chr_search.proofs.PlanByPlan.{HasGone, HasJoin, grown, come_to_next_head, come_to_end, has_join, trials_at, gone_at, whole_at}
+use Rattle.chr_search.proofs.AtHeads.{whole_count}
 use Rattle.chr_search.proofs.Occurring.{head_fits, nearer}
-use Rattle.chr_search.proofs.search.Search.pass_in.Goals.{In-Some, After-pass_in_plan-passed}
+use Rattle.chr_search.proofs.search.Search.pass_in.Goals.{In-Some, In-Whole, After-pass_in_plan-passed}
 use Rattle.chr_search.proofs.search.Search.pass_in.Goals as goal
 
 -- the join that the search has come to
@@ -53,14 +55,22 @@ returns-in-Enough-clause-passed g c =
     let at = goal.at.returns-in-Enough-clause-passed g c in
     pass_more _ _ _ _ _ _ c.loop-join.invariant.passed (gone g at.After-pass_in_plan-passed (here g at.In-Some)).passed
 
-pub set_whole-requires-clause-trial : goal.set_whole-requires-clause-trial
-set_whole-requires-clause-trial g c =
-    let h = here g (goal.at.set_whole-requires-clause-trial g c).In-Some in
+-- the labels of the trial that is whole
+whole_in : (g : _) (c : In-Whole g) → HasJoin (older c.args.program.now c.args.plans.now c.args.view.now.store.entries c.args.self.now.label) c.loop-join.self.place c.next_join.new.walk.rule c.next_join.new.walk.head (join_of c.in-Some.join)
+    → (t : Trial) × IsTrialIn (join_of c.in-Some.join) c.pass_in_plan-passed.new.instance.labels.items t × AreWhole (join_of c.in-Some.join) c.pass_in_plan-passed.new.instance.labels.items c.pass_in_plan-passed.new.bound
+whole_in g c h =
     let p = c.pass_in_plan-passed.ensures.passed in
     let ls = c.pass_in_plan-passed.new.instance.labels.items in
     let e = subst (λ (end : End). EndsIn (join_of c.in-Some.join) p.labels end ls c.pass_in_plan-passed.new.bound) c.in-Whole.is p.ends in
     let g = grown (join_of c.in-Some.join) p.labels ls e.0 in
-    trials_at _ _ _ _ h.join h.makes ls g.0 g.1
+    let t = trials_at _ _ _ _ h.join h.makes ls g.0 g.1 in
+    (t.0, t.1, e.1)
+
+pub set_whole-requires-clause-trial : goal.set_whole-requires-clause-trial
+set_whole-requires-clause-trial g c = let at = goal.at.set_whole-requires-clause-trial g c in let whole = whole_in g at.In-Whole (here g at.In-Some) in (whole.0, whole.1)
+
+pub set_whole-requires-clause-full : goal.set_whole-requires-clause-full
+set_whole-requires-clause-full g c = let at = goal.at.set_whole-requires-clause-full g c in let whole = whole_in g at.In-Whole (here g at.In-Some) in whole_count _ _ whole.0 whole.1 _ whole.2
 
 pub returns-in-Whole-clause-passed : goal.returns-in-Whole-clause-passed
 returns-in-Whole-clause-passed g c =
