@@ -6,11 +6,9 @@ use Rattle.std.proofs.lemmas.Option.{slice_get_past}
 use Rattle.std.proofs.lemmas.Bool.Decides.{nat_tests}
 use Rattle.chr_value.specs.Atoms.{Value, Int, Sym, Comp, Atom}
 use Rattle.chr_value.specs.Stores.{Store, atom_at, drop_label}
-use Rattle.chr_value.specs.declared.names.Name.{Name}
 use Rattle.chr_value.specs.declared.atom.Pred.{Pred}
 use Rattle.chr_value.specs.declared.value.ValueRef.{ValueRef}
-use Rattle.chr_store.specs.declared.keys.Key.{Key}
-use Rattle.chr_store.specs.declared.keys.KeyValue.{KeyValue}
+use Rattle.chr_store.specs.KeyParts.{Key, KeyValue}
 use Rattle.chr_store.specs.declared.buckets.Buckets.{Buckets}
 use Rattle.chr_store.specs.Labels.{LabelledStore, GivenAtoms, Rising, GivenBefore}
 use Rattle.chr_store.specs.Keys.{arg_at, HasPred, HasKey, Query, key_of, IsLeastMatch}
@@ -275,7 +273,7 @@ constant_one : (u v : Value ℕ) → is_constant v ≡ true → key_value u ≡ 
 constant_one (Int y) (Int z) c h = cc
 constant_one (Int y) (Sym s) c h = cc
 constant_one (Sym r) (Int z) c h = cc
-constant_one (Sym r) (Sym s) c h = let e : ◌≡◌ {A = Name} (record { number = r }) (record { number = s }) = cc in ap (λ (n : Name). Sym n.number) e
+constant_one (Sym r) (Sym s) c h = cc
 constant_one (Comp r us) (Int z) c h = cc
 constant_one (Comp r us) (Sym s) c h = cc
 constant_one u (Comp s vs) c h = cc

@@ -1,14 +1,13 @@
 -- Keys, by which atoms are found.
-use Rattle.std.specs.Prelude.{◌≡◌, ℕ, zero, suc, ◌+◌, ◌*◌, ◌&&◌, Bool, true, false, List, length, Option, Some, None, pos, nat_eq, slice_get}
+use Rattle.std.specs.Prelude.{◌≡◌, ℕ, zero, suc, ◌+◌, ◌*◌, ◌&&◌, ◌++◌, Bool, true, false, List, length, Option, Some, None, pos, nat_eq, slice_get}
 use Rattle.std.specs.Option.{option_map}
 use Rattle.std.specs.Ordering.{int_eq}
 use Rattle.std.specs.List.{list_any}
 use Rattle.std.specs.Hash as fed
 use Rattle.chr_value.specs.Atoms.{Value, Int, Sym, Comp, Atom}
 use Rattle.chr_value.specs.declared.atom.Pred.{Pred}
-use Rattle.chr_store.specs.declared.keys.KeyValue.{KeyValue}
-use Rattle.chr_store.specs.declared.keys.KeyValue.TheVariants as keyed
-use Rattle.chr_store.specs.declared.keys.Key.{Key}
+use Rattle.chr_store.specs.KeyParts.{Key, KeyValue, word_of}
+use Rattle.chr_store.specs.KeyParts as keyed
 use Rattle.chr_store.specs.Digests.{digest_after}
 
 -- places of predicates
@@ -37,7 +36,7 @@ is_constant (Comp s vs) = false
 -- what stands for a value in keys: for a compound one its digest, which others may have too
 abbrev pub key_value : Value ℕ → KeyValue
 key_value (Int z) = keyed.Int z
-key_value (Sym s) = keyed.Sym (record { number = s })
+key_value (Sym s) = keyed.Sym s
 key_value (Comp s vs) = keyed.Digest (digest_after 0 (Comp s vs))
 
 -- the key of a predicate alone
@@ -62,7 +61,7 @@ same_value (keyed.Int y) (keyed.Int z) = int_eq y z
 same_value (keyed.Int y) (keyed.Sym s) = false
 same_value (keyed.Int y) (keyed.Digest d) = false
 same_value (keyed.Sym r) (keyed.Int z) = false
-same_value (keyed.Sym r) (keyed.Sym s) = nat_eq r.number s.number
+same_value (keyed.Sym r) (keyed.Sym s) = nat_eq r s
 same_value (keyed.Sym r) (keyed.Digest d) = false
 same_value (keyed.Digest c) (keyed.Int z) = false
 same_value (keyed.Digest c) (keyed.Sym s) = false
@@ -88,11 +87,9 @@ fits k a =
     (nat_eq k.name.number a.name && nat_eq k.arity (length a.args))
     && is_value k.value (key_value_at a k.place)
 
--- what a key is hashed by
+-- what a key is hashed by: a word of its predicate and its place, and that of its value
 abbrev pub key_word : Key → ℕ
 key_word k = k.name.number * 65536 + k.arity * 256 + k.place
 
-abbrev pub value_input : KeyValue → List (List ℕ)
-value_input (keyed.Int z) = fed.i64 z
-value_input (keyed.Sym s) = fed.u64 s.number
-value_input (keyed.Digest d) = fed.u64 d
+abbrev pub key_input : Key → List (List ℕ)
+key_input k = fed.u64 (key_word k) ++ fed.u64 (word_of k.value)

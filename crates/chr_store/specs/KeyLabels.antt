@@ -4,7 +4,7 @@ use Rattle.std.specs.Option.{unwrap_or}
 use Rattle.std.specs.HashMap.{HashMap, get}
 use Rattle.chr_value.specs.Atoms.{Atom}
 use Rattle.chr_value.specs.Stores.{Store}
-use Rattle.chr_store.specs.declared.keys.Key.{Key}
+use Rattle.chr_store.specs.KeyParts.{Key}
 use Rattle.chr_store.specs.declared.buckets.Buckets.{Buckets}
 use Rattle.chr_store.specs.Index.{Places, chosen, fits, same_key, pred_of}
 use Rattle.chr_store.specs.Rows.{row_of_key}

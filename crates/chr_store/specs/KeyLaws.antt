@@ -1,17 +1,15 @@
 -- Equality of keys.
-use Rattle.std.specs.Prelude.{◌≡◌, ℕ, ℤ, ◌++◌, true, false, IsTrue}
+use Rattle.std.specs.Prelude.{◌≡◌, ℕ, ℤ, true, false, IsTrue}
 use Rattle.std.proofs.Common.{refl, sym, ap, subst, ◌∙◌}
 use Rattle.std.proofs.lemmas.Bool.{and_parts, eq-eqb, eqb-true}
 use Rattle.std.specs.Cmp.{IsEquivalence, signed_Decides}
-use Rattle.std.specs.Hash as fed
-use Rattle.chr_store.specs.declared.keys.KeyValue.{KeyValue}
-use Rattle.chr_store.specs.declared.keys.KeyValue.TheVariants as keyed
-use Rattle.chr_store.specs.declared.keys.Key.{Key}
-use Rattle.chr_store.specs.Index.{same_key, same_value, key_word, value_input}
+use Rattle.chr_store.specs.KeyParts.{Key, KeyValue}
+use Rattle.chr_store.specs.KeyParts as keyed
+use Rattle.chr_store.specs.Index.{same_key, same_value, key_input}
 
 pub same_value_refl : (v : KeyValue) → same_value v v ≡ true
 same_value_refl (keyed.Int z) = (signed_Decides z z).1 refl
-same_value_refl (keyed.Sym s) = eq-eqb s.number s.number refl
+same_value_refl (keyed.Sym s) = eq-eqb s s refl
 same_value_refl (keyed.Digest d) = eq-eqb d d refl
 
 pub same_value_true : (v w : KeyValue) → same_value v w ≡ true → v ≡ w
@@ -21,7 +19,7 @@ same_value_true (keyed.Int y) (keyed.Sym s) h = cc
 same_value_true (keyed.Int y) (keyed.Digest d) h = cc
 same_value_true (keyed.Sym r) (keyed.Int z) h = cc
 same_value_true (keyed.Sym r) (keyed.Sym s) h =
-    ap (λ (n : ℕ). keyed.Sym (record { number = n })) (eqb-true r.number s.number h)
+    ap (λ (n : ℕ). keyed.Sym n) (eqb-true r s h)
 same_value_true (keyed.Sym r) (keyed.Digest d) h = cc
 same_value_true (keyed.Digest c) (keyed.Int z) h = cc
 same_value_true (keyed.Digest c) (keyed.Sym s) h = cc
@@ -71,7 +69,5 @@ same_key_equiv = record {
   congr = λ x y z t. ap (λ (w : Key). same_key w z) (same_key_true x y t);
 }
 
-pub same_input : (x y : Key) → IsTrue (same_key x y) →
-    fed.u64 (key_word x) ++ value_input x.value ≡ fed.u64 (key_word y) ++ value_input y.value
-same_input x y t =
-    ap (λ (k : Key). fed.u64 (key_word k) ++ value_input k.value) (same_key_true x y t)
+pub same_input : (x y : Key) → IsTrue (same_key x y) → key_input x ≡ key_input y
+same_input x y t = ap key_input (same_key_true x y t)

@@ -6,6 +6,7 @@ pub mod Faults
 pub mod Buckets
 pub mod Kept
 pub mod Digests
+pub mod KeyParts
 pub mod Index
 pub mod Rows
 pub mod KeyLabels

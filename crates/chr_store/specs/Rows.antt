@@ -1,7 +1,7 @@
 -- The rows that predicates have in tables.
 use Rattle.std.specs.Prelude.{ℕ, ◌+◌, ◌*◌, ◌&&◌, if◌then◌else◌, Option, Some, None, nat_lt}
 use Rattle.chr_value.specs.declared.atom.Pred.{Pred}
-use Rattle.chr_store.specs.declared.keys.Key.{Key}
+use Rattle.chr_store.specs.KeyParts.{Key}
 use Rattle.chr_store.specs.Index.{is_own, pred_of}
 
 -- the row of a predicate whose name's number is low; nine rows a name, one for each number of

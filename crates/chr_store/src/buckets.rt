@@ -2,7 +2,7 @@
 ghost use Rattle.std.specs.Prelude.{◌≡◌, ℕ, ◌+◌, ◌<◌, ◌++◌, ◌∷◌, [], OnOk, OnErr, length, if◌then◌else◌, nat_eq};
 ghost use Rattle.std.specs.List.{AllByRecursion};
 ghost use Rattle.std.specs.Option.{option_copied, unwrap_or};
-ghost use Rattle.chr_store.specs.declared.keys.Key.{Key};
+ghost use Rattle.chr_store.specs.KeyParts.{Key};
 ghost use Rattle.chr_store.specs.Buckets.{drop_number, IsLeastBetween};
 ghost use Rattle.chr_store.specs.Index.{same_key};
 ghost use Rattle.chr_store.specs.KeyLabels.{IsPut, labels_in, mapped, row_at, IsChanged};

@@ -2,31 +2,47 @@
 ghost use Rattle.std.specs.Prelude.{◌≡◌, ◌<◌, ◌≤◌, length};
 ghost use Rattle.chr_value.specs.Atoms.{ground, ground_comp, said};
 ghost use Rattle.chr_store.specs.Digests.{mixed, digest_after};
-ghost use Rattle.chr_store.specs.Index.{IsKeyAt, is_constant, is_own, key_value, own_key, same_value, pred_of};
+ghost use Rattle.chr_store.specs.Index.{IsKeyAt, is_constant, is_own, key_value, own_key, pred_of};
+ghost use Rattle.chr_store.specs.KeyParts.{value_of};
 
 use chr_value::{Atom, Comp, Name, Pred, Value, ValueRef};
 use std::alloc::Allocator;
 use std::hash::{Hash, Hasher};
+use std::marker::Model;
 
 /// By how much a digest is multiplied before the next word is added.
 const FACTOR: u64 = 0x9e37_79b9_7f4a_7c15;
 
-/// What a key has for a value: a number or a symbol, or the digest of a compound value, which others may have too.
-#[derive(Clone, Copy)]
-enum KeyValue {
-    Int(i64),
-    Sym(Name),
-    Digest(u64),
+/// What the word of a key is: a number or a symbol, or the digest of a compound value, which others may have too.
+#[derive(Clone, Copy, PartialEq, Eq)]
+enum Kind {
+    Int,
+    Sym,
+    Digest,
 }
 
 /// What atoms are found by: a predicate, and what stands for a value at a place. At the place 0 that is the number 0. The
-/// predicate's parts are its own fields, so that a key takes 24 bytes.
+/// value's word lies apart from its kind, so that a key takes 16 bytes. Contracts see what the two stand for.
 #[derive(Clone, Copy, Drop)]
 pub struct Key {
+    word: u64,
     name: Name,
     arity: u8,
     place: u8,
-    value: KeyValue,
+    kind: Kind,
+}
+
+impl Model for Key {
+    ghost use Rattle.std.specs.Prelude.{◌<◌, ◌^◌};
+    ghost use Rattle.chr_store.specs.KeyParts.{Key as KeyParts, value_of, kind_of, word_of};
+
+    ghost Value = { KeyParts };
+
+    ghost view = { λ k. record { name = k.name; arity = k.arity; place = k.place; value = value_of k.kind k.word } };
+
+    ghost invariant = { λ k. k.word < 2 ^ 64 };
+
+    ghost inverse = { λ k. record { word = word_of k.value; name = k.name; arity = k.arity; place = k.place; kind = kind_of k.value } };
 }
 
 /// A digest with one word more.
@@ -62,30 +78,15 @@ fn with_comp<A: Allocator>(digest: u64, comp: &Comp<A>) -> u64
     all
 }
 
-impl KeyValue {
-    /// What stands for a value.
-    #[inline(always)]
-    fn of<A: Allocator>(value: &ValueRef<'_, A>) -> KeyValue
-        ensures { result ≡ key_value (said value.now) }
-    {
-        match value {
-            ValueRef::Int(n) => KeyValue::Int(*n),
-            ValueRef::Sym(name) => KeyValue::Sym(*name),
-            ValueRef::Comp(comp) => KeyValue::Digest(with_comp(0, comp)),
-        }
-    }
-
-    /// Whether two are equal.
-    #[inline(always)]
-    fn same(&self, other: &KeyValue) -> bool
-        ensures { result ≡ same_value self.now other.now }
-    {
-        match (self, other) {
-            (KeyValue::Int(m), KeyValue::Int(n)) => *m == *n,
-            (KeyValue::Sym(s), KeyValue::Sym(t)) => s.number == t.number,
-            (KeyValue::Digest(c), KeyValue::Digest(d)) => *c == *d,
-            _ => false,
-        }
+/// What a value's word is, and the word.
+#[inline(always)]
+fn parts_of<A: Allocator>(value: &ValueRef<'_, A>) -> (Kind, u64)
+    ensures { value_of result.0 result.1 ≡ key_value (said value.now) }
+{
+    match value {
+        ValueRef::Int(n) => (Kind::Int, n.cast_unsigned()),
+        ValueRef::Sym(name) => (Kind::Sym, u64::from(name.number)),
+        ValueRef::Comp(comp) => (Kind::Digest, with_comp(0, comp)),
     }
 }
 
@@ -106,7 +107,7 @@ impl Key {
     pub fn is_own(&self) -> bool
         ensures { result ≡ is_own self.now }
     {
-        self.place == 0 && self.value.same(&KeyValue::Int(0))
+        self.place == 0 && self.kind == Kind::Int && self.word == 0
     }
 }
 
@@ -123,7 +124,8 @@ impl PartialEq for Key {
         self.name.number == other.name.number
             && self.arity == other.arity
             && self.place == other.place
-            && self.value.same(&other.value)
+            && self.kind == other.kind
+            && self.word == other.word
     }
 }
 
@@ -134,12 +136,10 @@ impl Eq for Key {
 }
 
 impl Hash for Key {
-    ghost use Rattle.std.specs.Prelude.{◌++◌};
-    ghost use Rattle.std.specs.Hash as fed;
-    ghost use Rattle.chr_store.specs.Index.{key_word, value_input};
+    ghost use Rattle.chr_store.specs.Index.{key_input};
     ghost use Rattle.chr_store.specs.KeyLaws.{same_input};
 
-    ghost hash_input = { λ k. fed.u64 (key_word k) ++ value_input k.value };
+    ghost hash_input = { key_input };
 
     ghost respects_eq = { same_input };
 
@@ -147,11 +147,7 @@ impl Hash for Key {
         state.write_u64(
             self.name.number as u64 * 65536 + self.arity as u64 * 256 + self.place as u64,
         );
-        match self.value {
-            KeyValue::Int(n) => state.write_i64(n),
-            KeyValue::Sym(name) => state.write_u64(name.number as u64),
-            KeyValue::Digest(digest) => state.write_u64(digest),
-        }
+        state.write_u64(self.word);
     }
 }
 
@@ -172,10 +168,11 @@ pub fn own_key(pred: Pred) -> Key
     ensures { result ≡ own_key pred }
 {
     Key {
+        word: 0,
         name: pred.name,
         arity: pred.arity,
         place: 0,
-        value: KeyValue::Int(0),
+        kind: Kind::Int,
     }
 }
 
@@ -184,11 +181,13 @@ pub fn own_key(pred: Pred) -> Key
 pub fn value_key<A: Allocator>(pred: Pred, place: u8, value: &ValueRef<'_, A>) -> Key
     ensures { result ≡ record { name = pred.name; arity = pred.arity; place = place; value = key_value (said value.now) } }
 {
+    let (kind, word) = parts_of(value);
     Key {
+        word,
         name: pred.name,
         arity: pred.arity,
         place,
-        value: KeyValue::of(value),
+        kind,
     }
 }
 

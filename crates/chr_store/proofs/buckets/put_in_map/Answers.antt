@@ -2,7 +2,7 @@ use Rattle.std.proofs.Common.{◌≡◌, ℕ, ◌++◌, ◌∷◌, [], List, Opt
 use Rattle.std.specs.Map.{lookup}
 use Rattle.std.proofs.lemmas.Grind.{common_steps}
 use Rattle.std.proofs.lemmas.Result.{on_ok_weaker, on_err_weaker}
-use Rattle.chr_store.specs.declared.keys.Key.{Key}
+use Rattle.chr_store.specs.KeyParts.{Key}
 use Rattle.chr_store.specs.Index.{same_key}
 use Rattle.chr_store.specs.KeyLabels.{mapped, IsPut}
 use Rattle.chr_store.specs.KeyLaws.{same_key_true}
