@@ -89,7 +89,7 @@ fn made_argument<A: Allocator + Copy>(alloc: A, term: &Term<A>, binding: &Bindin
 
 /// Adds the arguments of a constraint of a body to an atom of its name that has none: each is counted before it is
 /// made. False where one has no value within the limits. Then, and on an `Err`, which is E01, the atom may have some of
-/// them. Only compound values take memory.
+/// them. Only compound values and arguments from the fourth on take memory.
 #[inline(always)]
 pub fn add_arguments<A: Allocator + Copy>(
     alloc: A,
@@ -111,7 +111,7 @@ pub fn add_arguments<A: Allocator + Copy>(
 }
 
 /// The atom that a constraint of a body stands for, or None where an argument has no value within the limits. Only
-/// compound values take memory. An `Err` is E01.
+/// compound values and arguments from the fourth on take memory. An `Err` is E01.
 pub fn make_atom<A: Allocator + Copy>(
     alloc: A,
     pattern: &RuleAtom<A>,
@@ -154,7 +154,8 @@ pub(crate) fn bind_body<A: Allocator + Copy>(rule: &Rule<A>, binding: &mut Bindi
 }
 
 /// The atoms that a rule's body adds, in written order, under a binding of the rule's variables. None only where an
-/// argument has no value within the limits. Only compound values take memory. An `Err` is E01.
+/// argument has no value within the limits. Only compound values and arguments from the fourth on take memory. An `Err`
+/// is E01.
 pub fn added_atoms<A: Allocator + Copy>(
     alloc: A,
     rule: &Rule<A>,
@@ -179,7 +180,7 @@ pub fn added_atoms<A: Allocator + Copy>(
 
 /// The atoms that a rule's body adds, in written order, under a binding of its heads' variables. None only where an
 /// argument or an `is` has no value, as with a variable that is free or past the limits, or where the variable of an
-/// `is` is bound to another value. Only compound values take memory. An `Err` is E01.
+/// `is` is bound to another value. Only compound values and arguments from the fourth on take memory. An `Err` is E01.
 pub fn body<A: Allocator + Copy>(
     alloc: A,
     rule: &Rule<A>,

@@ -55,7 +55,7 @@ pub fn instance_under<'v, A: Allocator + Copy>(
 }
 
 /// The body of the instance of a rule whose heads are these atoms, in head order: kept heads first. None where they are
-/// no instance, whatever the body. Only compound values take memory. An `Err` is E01.
+/// no instance, whatever the body. Only compound values and arguments from the fourth on take memory. An `Err` is E01.
 pub fn instance<A: Allocator + Copy>(
     alloc: A,
     rule: &Rule<A>,

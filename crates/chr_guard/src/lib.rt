@@ -8,8 +8,8 @@
 //! where there is none.
 //!
 //! Heads match by structure: a variable is bound to an atom's argument or to a part of one, and a binding borrows the
-//! compound values among these from the atoms. So nothing takes memory but what makes atoms of compound values, which
-//! answers E01 where memory runs out.
+//! compound values among these from the atoms. So nothing takes memory but what makes atoms, which answers E01 where
+//! memory runs out.
 //!
 //! An argument in a body, and a side of `==` or `\==`, has no value past [`MOST_DEPTH`](chr_value::MOST_DEPTH) or
 //! [`MOST_SIZE`](chr_value::MOST_SIZE). Such values are counted, and none is made to be counted or compared.

@@ -1,5 +1,5 @@
 -- Lists of which each element says something, place by place.
-use Rattle.std.proofs.Common.{◌≡◌, ◌<◌, ◌≤◌, ◌++◌, ◌+◌, ℕ, Some, List, [], ◌∷◌, length, map, take, drop, get_or, arith, sym, ap, ap₂, ◌∙◌, subst, slice_get}
+use Rattle.std.proofs.Common.{◌≡◌, ◌<◌, ◌≤◌, ◌++◌, ◌+◌, ℕ, zero, suc, Some, List, [], ◌∷◌, length, map, take, drop, get_or, arith, sym, ap, ap₂, ◌∙◌, subst, slice_get}
 use Rattle.std.specs.List.{AllByRecursion}
 use Rattle.std.proofs.lemmas.List.{take_more, take_all, drop_more, drop_all, map_push, length-map, length-take-le, get_or-map}
 use Rattle.std.proofs.lemmas.List.Elements.{All-from_recursion, All-get_or}
@@ -11,6 +11,23 @@ all-push P (z ∷ zs) y h p = (h.0, all-push P zs y h.1 p)
 
 pub got-more : {X : Type 0} (xs : List X) (i : ℕ) (x : X) → Some x ≡ slice_get xs i → take (i + 1) xs ≡ take i xs ++ x ∷ []
 got-more xs i x e = rw (take_more xs i x (slice_get_within xs i x (sym e)), get_or_from_slice_get xs i x x (sym e))
+
+-- what holds of all elements holds of each
+pub got : {X : Type 0} (P : X → Type 0) (xs : List X) (i : ℕ) (x : X) → Some x ≡ slice_get xs i → AllByRecursion P xs → P x
+got P [] i x e h = absurd cc
+got P (z ∷ zs) zero x e h = let same : z ≡ x = cc in subst P same h.0
+got P (z ∷ zs) (suc i) x e h = got P zs i x e h.1
+
+-- an element of the front of a list, and one behind it
+pub got-in-front : {X : Type 0} (xs ys : List X) (i : ℕ) (x : X) → Some x ≡ slice_get xs i → Some x ≡ slice_get (xs ++ ys) i
+got-in-front [] ys i x e = absurd cc
+got-in-front (z ∷ zs) ys zero x e = e
+got-in-front (z ∷ zs) ys (suc i) x e = got-in-front zs ys i x e
+
+pub got-behind : {X : Type 0} (xs ys : List X) (i j : ℕ) (x : X) → i ≡ length xs + j → Some x ≡ slice_get ys j → Some x ≡ slice_get (xs ++ ys) i
+got-behind [] ys i j x is e = let same : j ≡ i = omega (arith, is) in e ∙ ap (λ k. slice_get ys k) same
+got-behind (z ∷ zs) ys zero j x is e = absurd (omega (arith, is))
+got-behind (z ∷ zs) ys (suc i) j x is e = got-behind zs ys i j x (omega (arith, is)) e
 
 module _ {X Y : Type 0} (f : X → Y) where
   -- lists that say the same do so at each place

@@ -1,5 +1,5 @@
 -- The slots in which an atom's arguments lie, and the compound values beside them.
-use Rattle.std.specs.Prelude.{ℕ, ◌<◌, ◌≤◌, ◌%◌, pos, List, [], ◌∷◌, map, length, Option, Some, None, Vec, Box}
+use Rattle.std.specs.Prelude.{ℕ, ◌≡◌, ◌<◌, ◌≤◌, ◌-◌, ◌%◌, pos, List, [], ◌∷◌, ◌++◌, map, length, take, Option, Some, None, Box}
 use Rattle.std.specs.Int.{cast_signed, w64}
 use Rattle.std.specs.List.{slice_index_or, AllByRecursion}
 use Rattle.chr_value.specs.Atoms.{Value, Int, Sym, ground_comp}
@@ -9,6 +9,8 @@ use Rattle.chr_value.specs.declared.slots.Slot.{Slot}
 use Rattle.chr_value.specs.declared.slots.Slot.TheVariants as slots
 use Rattle.chr_value.specs.declared.slots.Kind.{Kind}
 use Rattle.chr_value.specs.declared.slots.Kind.TheVariants as kinds
+use Rattle.chr_value.specs.declared.slots.Front.{Front}
+use Rattle.chr_value.specs.declared.beside.Rest.{Rest}
 
 -- a slot's kind
 abbrev pub kind_of : Slot → Kind
@@ -28,10 +30,29 @@ slots_of [] ws = []
 slots_of (k ∷ ks) [] = []
 slots_of (k ∷ ks) (w ∷ ws) = slot_of k w ∷ slots_of ks ws
 
--- the compound values in the box, of which there are none without one
-abbrev pub comps_of : {A : Type 0} → Option (Box (Vec (CodeComp A) A) A) → List (CodeComp A)
+-- the slots that lie in the atom itself
+abbrev pub own_slots : Front → List Slot
+own_slots f = slots_of f.kinds (take f.arity f.words)
+
+-- the slots that lie beside it, of which there are none without a box
+abbrev pub further_slots : {A : Type 0} → Option (Box (Rest A) A) → List Slot
+further_slots None = []
+further_slots (Some b) = b.value.slots.items
+
+-- the compound values beside it
+abbrev pub comps_of : {A : Type 0} → Option (Box (Rest A) A) → List (CodeComp A)
 comps_of None = []
-comps_of (Some b) = b.value.items
+comps_of (Some b) = b.value.comps.items
+
+-- all slots of an atom
+abbrev pub all_slots : {A : Type 0} → Front → Option (Box (Rest A) A) → List Slot
+all_slots f r = own_slots f ++ further_slots r
+
+-- as many slots as arguments, of which the first three lie in the atom itself
+pub record LieInOrder {A : Type 0} (f : Front) (r : Option (Box (Rest A) A)) : Type 0 where
+  pub arity : length (all_slots f r) ≡ f.arity
+  pub own : length (own_slots f) ≤ 3
+  pub further : length (further_slots r) ≤ f.arity - 3
 
 -- what a slot says, beside these compound values
 abbrev pub value_in : {A : Type 0} → List (CodeComp A) → Slot → Value ℕ

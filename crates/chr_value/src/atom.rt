@@ -1,14 +1,18 @@
 //! Predicates and atoms.
-ghost use Rattle.std.specs.Prelude.{◌≡◌, ◌<◌, ◌≤◌, ◌↔◌, ◌++◌, ◌∷◌, [], length, map, slice_get, IsTrue, IfSome, IfOk, OnOk, OnErr};
+ghost use Rattle.std.specs.Prelude.{◌≡◌, ◌<◌, ◌≤◌, ◌↔◌, ◌++◌, ◌∷◌, [], Some, length, slice_get, IsTrue, IsSome, IfSome, IfOk, OnOk, OnErr};
 ghost use Rattle.std.specs.Option.{option_map};
-ghost use Rattle.chr_value.specs.Atoms.{ground, ground_comp, said, AtomIsNamed};
+ghost use Rattle.chr_value.specs.Atoms.{ground, said, AtomIsNamed};
 ghost use Rattle.chr_value.specs.Limits.{IsWithin};
-ghost use Rattle.chr_value.specs.Slots.{comps_of, value_in, HasPlace};
+ghost use Rattle.chr_value.specs.Slots.{all_slots, comps_of, LieInOrder};
+ghost use Rattle.chr_value.specs.declared.slots.Slot.TheVariants as slots;
 
+use crate::beside::{
+    Beside, copy_beside, count_of, further_at, open, push_comp, push_further, value_at,
+};
 use crate::names::Name;
-use crate::slots::{Slot, Slots};
+use crate::slots::{Front, OWN_SLOTS, Slot};
 use crate::value::{Comp, Value, ValueRef};
-use std::alloc::{AllocError, Allocator};
+use std::alloc::{AllocError, Allocator, Global};
 use std::default::MadeWith;
 use std::marker::Model;
 
@@ -22,87 +26,88 @@ pub struct Pred {
     pub arity: u8,
 }
 
-/// Compound values. None takes no memory.
-type Comps<A> = Option<Box<Vec<Comp<A>, A>, A>>;
-
-/// How many compound values there are.
-fn count_of<A: Allocator>(comps: &Comps<A>) -> usize
-    ensures { result ≡ length (comps_of comps.now) }
+/// Adds a slot after the others. There is room for it.
+#[inline(always)]
+fn push_slot<A: Allocator>(front: &mut Front, beside: &mut Beside<A>, slot: Slot)
+    requires order { LieInOrder front.old beside.old }
+    requires few { front.old.arity < 8 }
+    requires open { 3 ≤ front.old.arity → IsSome beside.old }
+    ensures order { LieInOrder front.new beside.new }
+    ensures name { front.new.name ≡ front.old.name }
+    ensures slots { all_slots front.new beside.new ≡ all_slots front.old beside.old ++ slot ∷ [] }
+    ensures comps { comps_of beside.new ≡ comps_of beside.old }
 {
-    match comps {
-        None => 0,
-        Some(list) => list.len(),
+    if usize::from(front.arity) < OWN_SLOTS {
+        front.push(slot);
+        return;
     }
+    push_further(beside, slot);
+    front.count_further();
 }
 
-/// Adds a compound value after the others. An `Err` is E01, and nothing has changed.
-fn push_comp<A: Allocator + Copy>(
-    comps: &mut Comps<A>,
+/// Adds a number or a symbol after the other arguments. An `Err` is E01, and nothing has changed.
+#[inline(always)]
+fn push_constant<A: Allocator + Copy>(
+    front: &mut Front,
+    beside: &mut Beside<A>,
     alloc: A,
-    comp: Comp<A>,
+    slot: Slot,
 ) -> Result<(), AllocError>
-    ensures ok { OnOk result (comps_of comps.new ≡ comps_of comps.old ++ comp ∷ []) }
-    ensures err { OnErr result (comps_of comps.new ≡ comps_of comps.old) }
+    requires order { LieInOrder front.old beside.old }
+    requires few { front.old.arity < 8 }
+    ensures order { LieInOrder front.new beside.new }
+    ensures name { front.new.name ≡ front.old.name }
+    ensures ok { OnOk result (all_slots front.new beside.new ≡ all_slots front.old beside.old ++ slot ∷ []) }
+    ensures err { OnErr result (all_slots front.new beside.new ≡ all_slots front.old beside.old) }
+    ensures comps { comps_of beside.new ≡ comps_of beside.old }
 {
-    if let Some(list) = comps {
-        list.reserve(1)?;
-        list.push_reserved(comp);
-        return Ok(());
+    if usize::from(front.arity) >= OWN_SLOTS {
+        open(beside, alloc)?;
     }
-    let mut list = Vec::with_capacity(alloc, 1)?;
-    list.push_reserved(comp);
-    *comps = Some(Box::new(alloc, list)?);
+    push_slot(front, beside, slot);
     Ok(())
 }
 
-/// Copies of compound values. An `Err` is E01.
-fn copy_comps<A: Allocator + Copy>(comps: &Comps<A>, alloc: A) -> Result<Comps<A>, AllocError>
-    ensures { IfOk result (λ made. map ground_comp (comps_of made) ≡ map ground_comp (comps_of comps.now)) }
+/// Adds a compound value after the other arguments. An `Err` is E01, and nothing has changed.
+fn push_compound<A: Allocator + Copy>(
+    front: &mut Front,
+    beside: &mut Beside<A>,
+    alloc: A,
+    comp: Comp<A>,
+) -> Result<(), AllocError>
+    requires order { LieInOrder front.old beside.old }
+    requires few { front.old.arity < 8 }
+    requires fewer { length (comps_of beside.old) ≤ front.old.arity }
+    ensures order { LieInOrder front.new beside.new }
+    ensures name { front.new.name ≡ front.old.name }
+    ensures ok { OnOk result (all_slots front.new beside.new ≡ all_slots front.old beside.old ++ slots.Comp (length (comps_of beside.old)) ∷ []) }
+    ensures err { OnErr result (all_slots front.new beside.new ≡ all_slots front.old beside.old) }
+    ensures comps { OnOk result (comps_of beside.new ≡ comps_of beside.old ++ comp ∷ []) }
+    ensures same { OnErr result (comps_of beside.new ≡ comps_of beside.old) }
 {
-    let Some(list) = comps else {
-        return Ok(None);
-    };
-    let mut copies = Vec::with_capacity(alloc, list.len())?;
-    for comp in list.iter() {
-        copies.push_reserved(comp.copy(alloc)?);
-    }
-    Ok(Some(Box::new(alloc, copies)?))
-}
-
-/// What a slot says, beside these compound values.
-#[inline(always)]
-fn value_at<A: Allocator>(slot: Slot, comps: &Comps<A>) -> ValueRef<'_, A>
-    requires { HasPlace (comps_of comps.now) slot }
-    ensures { said result ≡ value_in (comps_of comps.now) slot }
-{
-    match slot {
-        Slot::Int(n) => ValueRef::Int(n),
-        Slot::Sym(name) => ValueRef::Sym(name),
-        Slot::Comp(place) => {
-            let Some(list) = comps else {
-                unreachable!();
-            };
-            ValueRef::Comp(&list[usize::from(place)])
-        }
-    }
+    let place = count_of(beside);
+    push_comp(beside, alloc, comp)?;
+    push_slot(front, beside, Slot::Comp(place as u8));
+    Ok(())
 }
 
 /// A predicate with its arguments, at most [`MOST_ARGS`], each within the limits of values. Contracts see a name and a list
 /// of values.
 pub struct Atom<A: Allocator> {
-    slots: Slots,
-    comps: Comps<A>,
-    name: Name,
+    front: Front,
+    beside: Beside<A>,
     alloc: A,
 }
+
+// Atoms are stored, copied and moved everywhere.
+const _: () = prove!(size_of::<Atom<Global>>() == 48);
 
 // Not derived: letting an atom go is then one call, which is proved here once.
 impl<A: Allocator> Drop for Atom<A> {
     fn drop(self) {
         let Atom {
-            slots: _,
-            comps: _,
-            name: _,
+            front: _,
+            beside: _,
             alloc: _,
         } = self;
     }
@@ -111,16 +116,16 @@ impl<A: Allocator> Drop for Atom<A> {
 impl<A: Allocator> Model for Atom<A> {
     ghost use Rattle.std.specs.Prelude.{ℕ};
     ghost use Rattle.chr_value.specs.Atoms.{Atom};
-    ghost use Rattle.chr_value.specs.Slots.{comps_of, values_in, AreArguments};
+    ghost use Rattle.chr_value.specs.Slots.{all_slots, comps_of, values_in, AreArguments, LieInOrder};
     ghost use Rattle.chr_value.specs.Code.{value_codes};
 
     ghost Value = { Atom ℕ };
 
     ghost coded = { Prim.hlevel value_codes };
 
-    ghost view = { λ a. record { name = a.name.number; args = values_in (comps_of a.comps) a.slots } };
+    ghost view = { λ a. record { name = a.front.name.number; args = values_in (comps_of a.beside) (all_slots a.front a.beside) } };
 
-    ghost invariant = { λ a. AreArguments (comps_of a.comps) a.slots };
+    ghost invariant = { λ a. LieInOrder a.front a.beside × AreArguments (comps_of a.beside) (all_slots a.front a.beside) };
 }
 
 impl<A: Allocator + Copy> Atom<A> {
@@ -129,28 +134,29 @@ impl<A: Allocator + Copy> Atom<A> {
         ensures { result ≡ record { name = name.number; args = [] } }
     {
         Atom {
-            slots: Slots::new(),
-            comps: None,
-            name,
+            front: Front::new(name),
+            beside: None,
             alloc,
         }
     }
 
     /// The predicate's name.
+    #[inline(always)]
     pub fn name(&self) -> Name
         ensures { result.number ≡ self.now.name }
     {
-        self.name
+        self.front.name
     }
 
     /// The predicate: the name, and how many arguments there are.
+    #[inline(always)]
     pub fn pred(&self) -> Pred
         ensures name { result.name.number ≡ self.now.name }
         ensures arity { result.arity ≡ length self.now.args }
     {
         Pred {
-            name: self.name,
-            arity: self.slots.len() as u8,
+            name: self.front.name,
+            arity: self.front.arity,
         }
     }
 
@@ -160,7 +166,7 @@ impl<A: Allocator + Copy> Atom<A> {
         ensures count { result ≡ length self.now.args }
         ensures fits { length self.now.args ≤ 8 }
     {
-        self.slots.len()
+        usize::from(self.front.arity)
     }
 
     /// An argument, by its index. It is within the limits of values.
@@ -170,7 +176,20 @@ impl<A: Allocator + Copy> Atom<A> {
         ensures value { Some (said result) ≡ slice_get self.now.args index }
         ensures within { IsWithin (said result) }
     {
-        value_at(self.slots.at(index), &self.comps)
+        if index < OWN_SLOTS {
+            return value_at(self.front.at(index), &self.beside);
+        }
+        self.further_arg_at(index)
+    }
+
+    /// The same for an argument from the fourth on.
+    fn further_arg_at(&self, index: usize) -> ValueRef<'_, A>
+        requires further { 3 ≤ index }
+        requires within { index < length self.now.args }
+        ensures value { Some (said result) ≡ slice_get self.now.args index }
+        ensures within { IsWithin (said result) }
+    {
+        value_at(further_at(&self.beside, index - OWN_SLOTS), &self.beside)
     }
 
     /// The same, or None where there is no such argument.
@@ -179,14 +198,14 @@ impl<A: Allocator + Copy> Atom<A> {
         ensures value { option_map said result ≡ slice_get self.now.args index }
         ensures within { IfSome result (λ value. IsWithin (said value)) }
     {
-        if self.slots.len() <= index {
+        if self.arity() <= index {
             return None;
         }
         Some(self.arg_at(index))
     }
 
-    /// Adds an argument after the others, of which there are fewer than [`MOST_ARGS`]. Only a compound value takes memory. An
-    /// `Err` is E01, and nothing has changed.
+    /// Adds an argument after the others, of which there are fewer than [`MOST_ARGS`]. A compound value takes memory, and so
+    /// does an argument from the fourth on. An `Err` is E01, and nothing has changed.
     #[inline(always)]
     pub fn push(&mut self, value: Value<A>) -> Result<(), AllocError>
         requires room { length self.old.args < 8 }
@@ -194,26 +213,22 @@ impl<A: Allocator + Copy> Atom<A> {
         ensures ok { OnOk result (self.new ≡ record { name = self.old.name; args = self.old.args ++ ground value ∷ [] }) }
         ensures err { OnErr result (self.new ≡ self.old) }
     {
+        let (front, beside, alloc) = (&mut self.front, &mut self.beside, self.alloc);
         match value {
-            Value::Int(n) => self.slots.push(Slot::Int(n)),
-            Value::Sym(name) => self.slots.push(Slot::Sym(name)),
-            Value::Comp(comp) => {
-                let place = count_of(&self.comps);
-                push_comp(&mut self.comps, self.alloc, Box::into_inner(comp))?;
-                self.slots.push(Slot::Comp(place as u8));
-            }
+            Value::Int(n) => push_constant(front, beside, alloc, Slot::Int(n)),
+            Value::Sym(name) => push_constant(front, beside, alloc, Slot::Sym(name)),
+            Value::Comp(comp) => push_compound(front, beside, alloc, Box::into_inner(comp)),
         }
-        Ok(())
     }
 
     /// Whether a table of `count` names has the atom's name and all names of its arguments.
     pub fn is_named(&self, count: usize) -> bool
         ensures { IsTrue result ↔ AtomIsNamed count self.now }
     {
-        if count <= self.name.number as usize {
+        if count <= self.front.name.number as usize {
             return false;
         }
-        for index in 0..self.slots.len() {
+        for index in 0..self.arity() {
             if !self.arg_at(index).is_named(count) {
                 return false;
             }
@@ -225,10 +240,10 @@ impl<A: Allocator + Copy> Atom<A> {
     pub fn same(&self, other: &Atom<A>) -> bool
         ensures { IsTrue result ↔ (self.now ≡ other.now) }
     {
-        if self.name.number != other.name.number || self.slots.len() != other.slots.len() {
+        if self.front.name.number != other.front.name.number || self.arity() != other.arity() {
             return false;
         }
-        for index in 0..self.slots.len() {
+        for index in 0..self.arity() {
             if !self.arg_at(index).same(&other.arg_at(index)) {
                 return false;
             }
@@ -240,7 +255,7 @@ impl<A: Allocator + Copy> Atom<A> {
     pub fn copy(&self, alloc: A) -> Result<Atom<A>, AllocError>
         ensures { IfOk result (λ made. made ≡ self.now) }
     {
-        let mut made = Atom::new(alloc, self.name);
+        let mut made = Atom::new(alloc, self.front.name);
         made.become_copy(self)?;
         Ok(made)
     }
@@ -251,14 +266,13 @@ impl<A: Allocator + Copy> Atom<A> {
         ensures ok { OnOk result (self.new ≡ other.now) }
         ensures err { OnErr result (self.new ≡ self.old) }
     {
-        // Most atoms have no compound values, and then it takes no call.
-        let comps = match &other.comps {
+        // Beside most atoms lies nothing, and then it takes no call.
+        let beside = match &other.beside {
             None => None,
-            _ => copy_comps(&other.comps, self.alloc)?,
+            _ => copy_beside(&other.beside, self.alloc)?,
         };
-        self.comps = comps;
-        self.name = other.name;
-        self.slots.become_copy(&other.slots);
+        self.beside = beside;
+        self.front = other.front;
         Ok(())
     }
 }

@@ -15,8 +15,9 @@
 //! - A [`TextAtom`] is an atom as a text has it, whose names are borrowed from that text, and
 //!   [`number_atom`] makes an atom of it.
 //!
-//! An atom's numbers and symbols lie in the atom itself, and its compound values in one list beside it, which takes no
-//! memory where there are none. So an atom without compound values is made and copied without memory.
+//! An atom's first three arguments lie in the atom itself. Those from the fourth on, and the compound values of all, lie
+//! in a box beside it, which takes no memory where there are none. So an atom of at most three numbers and symbols is made
+//! and copied without memory.
 //!
 //! Contracts see a table as the list of its texts, a value as a `Value ℕ` and an atom as an `Atom ℕ`, both over the
 //! numbers of names, and values and atoms of a text as the same over texts. Which bytes are a name, which names are
@@ -35,12 +36,13 @@
 //!   is the text's atom. It is refused as full exactly where the table is then full and lacks one of its names. An atom
 //!   that was written by a table is read by it as the same atom, and the table is unchanged.
 //!
-//! Memory is taken by `Names::intern`, `Names::copy`, `Atom::push`, each `copy` of compound values and of atoms that have
-//! some, and by the calls of [`naming`] and [`writing`], and by no other call. Whether a call that may take memory gets it,
-//! no contract says.
+//! Memory is taken by `Names::intern`, `Names::copy`, `Atom::push`, each copy of a compound value and of an atom that has
+//! something beside it, and by the calls of [`naming`] and [`writing`], and by no other call. Whether a call that may take
+//! memory gets it, no contract says.
 #![tactic(auto)]
 
 mod atom;
+mod beside;
 mod label;
 mod names;
 mod naming;

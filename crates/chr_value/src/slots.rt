@@ -1,10 +1,8 @@
-//! The slots in which an atom's arguments lie.
-ghost use Rattle.std.specs.Prelude.{◌≡◌, ◌<◌, ◌≤◌, ◌++◌, ◌∷◌, [], Some, length, slice_get};
-ghost use Rattle.chr_value.specs.Slots.{kind_of, slot_of};
+//! The slots in which an atom's arguments lie, and those of them that lie in the atom itself.
+ghost use Rattle.std.specs.Prelude.{◌≡◌, ◌<◌, ◌≤◌, ◌+◌, ◌++◌, ◌∷◌, [], Some, slice_get};
+ghost use Rattle.chr_value.specs.Slots.{kind_of, slot_of, own_slots};
 
 use crate::names::Name;
-use arrayvec::ArrayVec;
-use std::marker::Model;
 
 /// An argument: a number, a symbol, or the place of a compound value beside the arguments.
 #[derive(Clone, Copy, Debug)]
@@ -22,9 +20,9 @@ pub(crate) enum Kind {
     Comp,
 }
 
-impl Default for Kind {
+impl Default for Slot {
     fn default() -> Self {
-        Kind::Int
+        Slot::Int(0)
     }
 }
 
@@ -66,78 +64,66 @@ fn slot_of(kind: Kind, word: u64) -> Slot
     }
 }
 
-/// How many slots there may be.
-const MOST_SLOTS: usize = 8;
+/// How many slots lie in the atom itself.
+pub(crate) const OWN_SLOTS: usize = 3;
 
-/// At most eight slots. Kinds and words lie apart: so an atom takes 104 bytes and not 160. There are always eight kinds, which
-/// are copied as one word; those past the last slot say nothing. Contracts see the list of the slots.
-#[derive(Drop)]
-pub(crate) struct Slots {
-    words: ArrayVec<u64, MOST_SLOTS>,
-    kinds: [Kind; MOST_SLOTS],
+/// What each atom has by itself: its name, how many arguments it has, and the slots of the first of them. Kinds and words
+/// lie apart: so this takes 32 bytes, and is copied as a whole. What lies past the last slot says nothing.
+#[derive(Clone, Copy)]
+pub(crate) struct Front {
+    words: [u64; OWN_SLOTS],
+    pub(crate) name: Name,
+    kinds: [Kind; OWN_SLOTS],
+    pub(crate) arity: u8,
 }
 
-impl Model for Slots {
-    ghost use Rattle.std.specs.Prelude.{◌≡◌, ◌≤◌, List, length};
-    ghost use Rattle.chr_value.specs.Slots.{slots_of};
-    ghost use Rattle.chr_value.specs.declared.slots.Slot.{Slot as ListedSlot};
-
-    ghost Value = { List ListedSlot };
-
-    ghost view = { λ s. slots_of s.kinds s.words.items };
-
-    ghost invariant = { λ s. (length s.words.items ≤ 8) × (length s.kinds ≡ 8) };
-}
-
-impl Slots {
-    /// No slots.
-    pub(crate) fn new() -> Slots
-        ensures { result ≡ [] }
+impl Front {
+    /// A name without arguments.
+    pub(crate) fn new(name: Name) -> Front
+        ensures name { result.name ≡ name }
+        ensures arity { result.arity ≡ 0 }
+        ensures slots { own_slots result ≡ [] }
     {
-        Slots {
-            words: ArrayVec::new(),
-            kinds: [Kind::Int; MOST_SLOTS],
+        Front {
+            words: [0; OWN_SLOTS],
+            name,
+            kinds: [Kind::Int; OWN_SLOTS],
+            arity: 0,
         }
-    }
-
-    /// How many there are.
-    #[inline(always)]
-    pub(crate) fn len(&self) -> usize
-        ensures count { result ≡ length self.now }
-        ensures fits { length self.now ≤ 8 }
-    {
-        self.words.len()
     }
 
     /// A slot, by its index.
     #[inline(always)]
     pub(crate) fn at(&self, index: usize) -> Slot
-        requires { index < length self.now }
-        ensures { Some result ≡ slice_get self.now index }
+        requires own { index < 3 }
+        requires within { index < self.now.arity }
+        ensures { Some result ≡ slice_get (own_slots self.now) index }
     {
-        let word = self.words.as_slice()[index];
-        slot_of(self.kinds[index], word)
+        slot_of(self.kinds[index], self.words[index])
     }
 
-    /// Adds a slot after the others.
+    /// Adds an argument, whose slot lies here after the others.
     #[inline(always)]
     pub(crate) fn push(&mut self, slot: Slot)
-        requires { length self.old < 8 }
-        ensures { self.new ≡ self.old ++ slot ∷ [] }
+        requires { self.old.arity < 3 }
+        ensures name { self.new.name ≡ self.old.name }
+        ensures arity { self.new.arity ≡ self.old.arity + 1 }
+        ensures slots { own_slots self.new ≡ own_slots self.old ++ slot ∷ [] }
     {
-        self.kinds[self.words.len()] = kind_of(slot);
-        self.words.push(word_of(slot));
+        let index = usize::from(self.arity);
+        self.kinds[index] = kind_of(slot);
+        self.words[index] = word_of(slot);
+        self.arity += 1;
     }
 
-    /// Makes these a copy of others, which is written where these lie.
-    #[inline(always)]
-    pub(crate) fn become_copy(&mut self, other: &Slots)
-        ensures { self.new ≡ other.now }
+    /// Counts an argument whose slot lies elsewhere, since there is no room here.
+    pub(crate) fn count_further(&mut self)
+        requires full { 3 ≤ self.old.arity }
+        requires few { self.old.arity < 8 }
+        ensures name { self.new.name ≡ self.old.name }
+        ensures arity { self.new.arity ≡ self.old.arity + 1 }
+        ensures slots { own_slots self.new ≡ own_slots self.old }
     {
-        self.words.clear();
-        for word in other.words.as_slice() {
-            self.words.push(*word);
-        }
-        self.kinds = other.kinds;
+        self.arity += 1;
     }
 }

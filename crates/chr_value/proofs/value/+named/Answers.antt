@@ -1,6 +1,6 @@
 use Rattle.chr_value.specs.Atoms.{TermIsNamed, ground}
 use Rattle.chr_value.proofs.Places.{all-more}
-use Rattle.chr_value.proofs.Beside.{named-not, named-all}
+use Rattle.chr_value.proofs.Arguments.{named-not, named-all}
 use Rattle.chr_value.proofs.value.+named.Goals as goal
 
 pub Comp::is_named-returns-then-not-is_named : goal.Comp::is_named-returns-then-not-is_named

@@ -2,7 +2,7 @@ use Rattle.std.proofs.Common.{◌<◌, length, sym, ap, ◌∙◌, arith}
 use Rattle.std.proofs.lemmas.Bool.{false≢true}
 use Rattle.chr_value.specs.Atoms.{ground, grounds}
 use Rattle.chr_value.proofs.Places.{same-at, same-more}
-use Rattle.chr_value.proofs.Beside.{same-not, same-length}
+use Rattle.chr_value.proofs.Arguments.{same-not, same-length}
 use Rattle.chr_value.proofs.value.+same.Goals as goal
 use Rattle.chr_value.proofs.value.+same.Goals.{Comp::same-then-self-other-via-then-self-other, Comp::same-then-self-other-via-else-self-other+then-len}
 

@@ -1,39 +1,44 @@
-use Rattle.std.proofs.Common.{◌≡◌, ℤ, rules, ◌++◌, ◌∷◌, [], sym, ap, subst, ◌∙◌}
+use Rattle.std.proofs.Common.{◌≡◌, rules, ℤ, sym, ap, ◌∙◌}
 use Rattle.chr_value.specs.Atoms.{Int, ground, ground_comp}
-use Rattle.chr_value.specs.Limits.{IsWithin}
-use Rattle.chr_value.specs.Slots.{comps_of, values_in, AreArguments}
+use Rattle.chr_value.specs.Slots.{all_slots, comps_of}
+use Rattle.chr_value.specs.declared.names.Name.{Name}
 use Rattle.chr_value.proofs.Levels.{ground-Int, ground-Sym, ground-Comp}
-use Rattle.chr_value.proofs.Beside.{comp-pushed, flat-pushed, pushed, room-left}
+use Rattle.chr_value.proofs.Arguments.{Pushed, constant-pushed, compound-pushed, atom-pushed, room-left}
 use Rattle.chr_value.proofs.atom.Atom.push.Given.{Over}
 use Rattle.chr_value.proofs.atom.Atom.push.Goals as goal
-use Rattle.chr_value.proofs.atom.Atom.push.Goals.{After-push-in-Comp}
+use Rattle.chr_value.proofs.atom.Atom.push.Goals.{Joined-value, in-Int, in-Sym, in-Comp}
 
-pub returns-in-Int-clause-ok : goal.returns-in-Int-clause-ok
-returns-in-Int-clause-ok g c =
-    let cs = comps_of c.self.inside.comps in
-    pushed cs c.self.inside.slots c.self.inside.name.number c.args.self.now _ _ _ c.self.view_is (flat-pushed cs _ c.push.new.self _ c.push.ensures) (ap (λ (z : ℤ). Int z) (search rules) ∙ sym (ap ground c.in-Int.is ∙ ground-Int _ c.in-Int.n))
+pushed : (g : Over) (c : Joined-value g) → Pushed c.match-value.result (comps_of c.self.inside.beside) (comps_of c.match-value.self-inside.beside) (all_slots c.self.inside.front c.self.inside.beside) (all_slots c.match-value.self-inside.front c.match-value.self-inside.beside) (ground c.args.value)
+pushed g c =
+    let cs = comps_of c.self.inside.beside in
+    let ss = all_slots c.self.inside.front c.self.inside.beside in
+    let room = room-left cs ss c.self.inside.front.name.number c.args.self.now c.self.view_is c.requires.room in
+    elim c.match-value.branch [
+      | in-Int w ↦ rw (w.result-is, w.self-inside-is)
+          (constant-pushed _ cs _ ss _ _ _ c.self.invariant.1 room tt (ap (λ (z : ℤ). Int z) (search rules) ∙ sym (ap ground w.in-Int.is ∙ ground-Int _ w.in-Int.n)) c.requires.within w.push_constant.ensures.ok w.push_constant.ensures.err w.push_constant.ensures.comps)
+      | in-Sym w ↦ rw (w.result-is, w.self-inside-is)
+          (constant-pushed _ cs _ ss _ _ _ c.self.invariant.1 room tt (sym (ap ground w.in-Sym.is ∙ ground-Sym _ w.in-Sym.name)) c.requires.within w.push_constant-in-Sym.ensures.ok w.push_constant-in-Sym.ensures.err w.push_constant-in-Sym.ensures.comps)
+      | in-Comp w ↦ rw (w.result-is, w.self-inside-is)
+          (compound-pushed _ cs _ ss _ w.into_inner.result _ c.self.invariant.1 room (ap ground_comp w.into_inner.ensures ∙ sym (ap ground w.in-Comp.is ∙ ground-Comp w.in-Comp.comp)) c.requires.within w.push_compound.ensures.ok w.push_compound.ensures.err w.push_compound.ensures.comps w.push_compound.ensures.same)
+    ]
 
-pub returns-in-Sym-clause-ok : goal.returns-in-Sym-clause-ok
-returns-in-Sym-clause-ok g c =
-    let cs = comps_of c.self.inside.comps in
-    pushed cs c.self.inside.slots c.self.inside.name.number c.args.self.now _ _ _ c.self.view_is (flat-pushed cs _ c.push-in-Sym.new.self _ c.push-in-Sym.ensures) (sym (ap ground c.in-Sym.is ∙ ground-Sym _ c.in-Sym.name))
+pub invariant_of-self : goal.invariant_of-self
+invariant_of-self g c = (
+  elim c.match-value.branch [
+    | in-Int w ↦ rw w.self-inside-is w.push_constant.ensures.order
+    | in-Sym w ↦ rw w.self-inside-is w.push_constant-in-Sym.ensures.order
+    | in-Comp w ↦ rw w.self-inside-is w.push_compound.ensures.order
+  ],
+  (pushed g c).0,
+)
 
-pub invariant_of-self-in_err-push_comp-in-Comp : goal.invariant_of-self-in_err-push_comp-in-Comp
-invariant_of-self-in_err-push_comp-in-Comp g c = rw c.in_err-push_comp-in-Comp.ensures.err c.self.invariant
-
--- what the compound value said, and what the atom has with it
-says : (g : Over) (c : After-push-in-Comp g) → ground_comp c.into_inner.result ≡ ground c.args.value
-says g c = ap ground_comp c.into_inner.ensures ∙ sym (ap ground c.in-Comp.is ∙ ground-Comp c.in-Comp.comp)
-
-with_comp : (g : Over) (c : After-push-in-Comp g) → AreArguments (comps_of c.push_comp.new.comps) c.push-in-Comp.new.self × (values_in (comps_of c.push_comp.new.comps) c.push-in-Comp.new.self ≡ values_in (comps_of c.self.inside.comps) c.self.inside.slots ++ ground_comp c.into_inner.result ∷ [])
-with_comp g c =
-    let cs = comps_of c.self.inside.comps in
-    let ss = c.self.inside.slots in
-    comp-pushed cs _ ss _ c.into_inner.result c.count_of-place.result c.self.invariant (room-left cs ss c.self.inside.name.number c.args.self.now c.self.view_is c.requires.room) (subst IsWithin (sym (says g c)) c.requires.within) c.in_ok-push_comp-in-Comp.ensures.ok c.push-in-Comp.ensures c.count_of-place.ensures
-
-pub invariant_of-self-in-Comp : goal.invariant_of-self-in-Comp
-invariant_of-self-in-Comp g c = (with_comp g c).0
-
-pub returns-in_ok-push_comp-in-Comp-clause-ok : goal.returns-in_ok-push_comp-in-Comp-clause-ok
-returns-in_ok-push_comp-in-Comp-clause-ok g c =
-    pushed (comps_of c.self.inside.comps) c.self.inside.slots c.self.inside.name.number c.args.self.now _ _ _ c.self.view_is (with_comp g c).1 (says g c)
+pub returns-clause-ok : goal.returns-clause-ok
+returns-clause-ok g c =
+    let cs = comps_of c.self.inside.beside in
+    let ss = all_slots c.self.inside.front c.self.inside.beside in
+    let name : c.match-value.self-inside.front.name.number ≡ c.self.inside.front.name.number = elim c.match-value.branch [
+      | in-Int w ↦ ap (λ (i : _). i.front.name.number) w.self-inside-is ∙ ap (λ (n : Name). n.number) w.push_constant.ensures.name
+      | in-Sym w ↦ ap (λ (i : _). i.front.name.number) w.self-inside-is ∙ ap (λ (n : Name). n.number) w.push_constant-in-Sym.ensures.name
+      | in-Comp w ↦ ap (λ (i : _). i.front.name.number) w.self-inside-is ∙ ap (λ (n : Name). n.number) w.push_compound.ensures.name
+    ] in
+    atom-pushed _ cs _ ss _ _ _ _ c.args.self.now (pushed g c) name c.self.view_is

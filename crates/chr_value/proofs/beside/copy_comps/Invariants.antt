@@ -1,6 +1,6 @@
 use Rattle.std.proofs.Common.{◌≡◌, ◌≤◌, length, map, take, vec_len, vec_capacity}
 use Rattle.chr_value.specs.Atoms.{ground_comp}
-use Rattle.chr_value.proofs.atom.copy_comps.Given as goal
+use Rattle.chr_value.proofs.beside.copy_comps.Given as goal
 
 abbrev pub invariant-loop-comp : goal.invariant-loop-comp
 invariant-loop-comp g l = record {
