@@ -1,20 +1,21 @@
 -- Atoms in slots by label.
-use Rattle.std.proofs.Common.{◌≡◌, ℕ, zero, suc, ◌+◌, ◌-◌, ◌<◌, ◌≤◌, if◌then◌else◌, Bool, List, [], ◌∷◌, ◌++◌, Option, Some, None, inl, inr, refl, sym, ap, arith, length, ◌∙◌, slice_get, slice_set, Bor, true, false, ◌==◌, ◌*◌, ◌/◌, subst, take, drop, slice_index, get_or, option_map}
+use Rattle.std.proofs.Common.{◌≡◌, ◌≢◌, ◌⊎◌, ℕ, zero, suc, ◌+◌, ◌-◌, ◌<◌, ◌≤◌, if◌then◌else◌, Bool, List, [], ◌∷◌, ◌++◌, Option, Some, None, inl, inr, refl, sym, ap, ap₂, arith, length, ◌∙◌, slice_get, slice_set, Bor, true, false, ◌==◌, ◌*◌, ◌/◌, subst, take, drop, slice_index, get_or, option_map, slice_index_or, count_by, is_some, IsSome}
 use Rattle.std.specs.Option.{option_flatten, option_map, option_copied}
 use Rattle.std.specs.Slice.{IsItemAt}
-use Rattle.std.specs.declared.boxed.Box.{Box}
 use Rattle.std.proofs.lemmas.Bool.{eq-eqb, cases_eq, cases_lt}
 use Rattle.std.proofs.lemmas.Bool.Decides.{nat_tests}
-use Rattle.std.proofs.lemmas.List.{map-set, map_push, length-map, length-append, length-set, drop-map, take_rest, get_or_append_left, get_or-set_same, get_or-set_other}
-use Rattle.std.proofs.lemmas.Option.{slice_get-map, slice_get_past, slice_get_read}
+use Rattle.std.proofs.lemmas.List.{take_more, map_push, length-map, length-append, length-set, drop-map, take_rest, get_or_append_left, get_or-set_same, get_or-set_other}
+use Rattle.std.proofs.lemmas.List.Elements.{All-from_recursion, recursion_from_All, All-set}
+use Rattle.std.proofs.lemmas.Option.{slice_get-map, slice_get_past, slice_get_read, slice_get_within}
 use Rattle.chr_value.specs.Atoms.{Atom}
 use Rattle.chr_value.specs.Stores.{Store, atom_at, drop_label}
 use Rattle.chr_store.specs.Labels.{GivenAtoms, Rising, GivenBefore, IsLabelled}
-use Rattle.chr_store.specs.Table.{atom_of, held, entries_from, IsSlotOf, IsTable}
+use Rattle.chr_store.specs.Table.{Held, atom_in, no_slot, held_in, entries_from, IsSlotOf, IsOwnSlot, AreApart, IsTable}
 use Rattle.std.specs.List.{AllByRecursion}
 use Rattle.chr_value.proofs.Places.{all-push}
 use Rattle.std.proofs.Math.Seq.{get_or-append_seam}
 use Rattle.std.proofs.lemmas.Grind.{get_or_default_zero}
+use Rattle.slab.specs.Slab.{Slab, get, slab_len, Updates}
 use Rattle.chr_store.specs.Blocks.{one_in, atoms_in, AreCounts, AreEmptyAtNone}
 
 given_push : (n : ℕ) (a : Atom ℕ) (es : Store) → 1 ≤ n → GivenBefore n es → GivenBefore (n + 1) (es ++ (n, a) ∷ [])
@@ -59,9 +60,9 @@ labelled_drop l n k es h = record {
   limit = h.limit;
 }
 
--- what contracts see of slots, without a label, and with an atom more
-abbrev pub table_of : {A : Type 0} → List (Option (Box (Atom ℕ) A)) → GivenAtoms
-table_of slots = record { entries = entries_from 1 (held slots); next = length slots + 1 }
+-- what contracts see of a slab and the slots of labels, without a label, and with an atom more
+abbrev pub table_of : Held → List ℕ → GivenAtoms
+table_of held slots = record { entries = entries_from 1 (held_in held slots); next = length slots + 1 }
 
 abbrev pub without_label : ℕ → GivenAtoms → GivenAtoms
 without_label l s = record { entries = drop_label l s.entries; next = s.next }
@@ -79,17 +80,18 @@ given es n = record { entries = es; next = n }
 both : (es fs : Store) (m n : ℕ) → es ≡ fs → m ≡ n → given es m ≡ given fs n
 both es fs m n e f = ap (λ z. given z m) e ∙ ap (given fs) f
 
-abbrev pub Slots : Type 0
-Slots = List (Option (Atom ℕ))
+-- the atom of each label, or none
+abbrev pub Labelled : Type 0
+Labelled = List (Option (Atom ℕ))
 
 -- ---- the atom of a label
 
-none_below : (first l : ℕ) (xs : Slots) → l < first → atom_at (entries_from first xs) l ≡ None
+none_below : (first l : ℕ) (xs : Labelled) → l < first → atom_at (entries_from first xs) l ≡ None
 none_below first l [] h = refl
 none_below first l (None ∷ xs) h = none_below (first + 1) l xs (omega arith)
 none_below first l (Some a ∷ xs) h = grind (arith, nat_tests, none_below (first + 1) l xs (let u : l < first + 1 = omega arith in u))
 
-at_slot : (first i l : ℕ) (xs : Slots) → l ≡ i + first → atom_at (entries_from first xs) l ≡ option_flatten (slice_get xs i)
+at_slot : (first i l : ℕ) (xs : Labelled) → l ≡ i + first → atom_at (entries_from first xs) l ≡ option_flatten (slice_get xs i)
 at_slot first i l [] e = refl
 at_slot first zero l (None ∷ xs) e = none_below (first + 1) l xs (omega arith)
 at_slot first zero l (Some a ∷ xs) e = ap (λ (b : Bool). if b then Some a else atom_at (entries_from (first + 1) xs) l) (eq-eqb first l (omega arith))
@@ -97,7 +99,7 @@ at_slot first (suc i) l (None ∷ xs) e = at_slot (first + 1) i l xs (omega arit
 at_slot first (suc i) l (Some a ∷ xs) e = grind (arith, nat_tests, at_slot (first + 1) i l xs (let u : l ≡ i + (first + 1) = omega arith in u))
 
 -- a look-up in the slots is one in the entries
-pub found : (xs : Slots) (l i : ℕ) → IsSlotOf l i → length xs ≤ 4294967295 → atom_at (entries_from 1 xs) l ≡ option_flatten (slice_get xs i)
+pub found : (xs : Labelled) (l i : ℕ) → IsSlotOf l i → length xs ≤ 4294967295 → atom_at (entries_from 1 xs) l ≡ option_flatten (slice_get xs i)
 found xs l i at within = elim (cases_eq l 0) [
   | inl e ↦ none_below 1 l xs (omega arith) ∙ sym (ap option_flatten (slice_get_past xs i (let u : 4294967295 ≤ i = at.none e in omega arith)))
   | inr d ↦ at_slot 1 i l xs (let u : i + 1 ≡ l = at.own (omega arith) in omega arith)
@@ -105,14 +107,14 @@ found xs l i at within = elim (cases_eq l 0) [
 
 -- ---- an atom less
 
-dropped_at : (first i l : ℕ) (xs : Slots) → l ≡ i + first → entries_from first (slice_set xs i None) ≡ drop_label l (entries_from first xs)
+dropped_at : (first i l : ℕ) (xs : Labelled) → l ≡ i + first → entries_from first (slice_set xs i None) ≡ drop_label l (entries_from first xs)
 dropped_at first i l [] e = refl
 dropped_at first zero l (None ∷ xs) e = sym (drop_none l (entries_from (first + 1) xs) (none_below (first + 1) l xs (omega arith)))
 dropped_at first zero l (Some a ∷ xs) e = sym (ap (λ (b : Bool). if b then drop_label l (entries_from (first + 1) xs) else (first, a) ∷ drop_label l (entries_from (first + 1) xs)) (eq-eqb first l (omega arith)) ∙ drop_none l (entries_from (first + 1) xs) (none_below (first + 1) l xs (omega arith)))
 dropped_at first (suc i) l (None ∷ xs) e = dropped_at (first + 1) i l xs (omega arith)
 dropped_at first (suc i) l (Some a ∷ xs) e = grind (arith, nat_tests, dropped_at (first + 1) i l xs (let u : l ≡ i + (first + 1) = omega arith in u))
 
-fewer : (first i : ℕ) (xs : Slots) (a : Atom ℕ) → slice_get xs i ≡ Some (Some a) → length (entries_from first (slice_set xs i None)) + 1 ≡ length (entries_from first xs)
+fewer : (first i : ℕ) (xs : Labelled) (a : Atom ℕ) → slice_get xs i ≡ Some (Some a) → length (entries_from first (slice_set xs i None)) + 1 ≡ length (entries_from first xs)
 fewer first i [] a h = absurd (cc)
 fewer first zero (None ∷ xs) a h = absurd (cc)
 fewer first zero (Some b ∷ xs) a h = omega arith
@@ -121,25 +123,22 @@ fewer first (suc i) (Some b ∷ xs) a h = (let less = fewer (first + 1) i xs a h
 
 -- ---- an atom more
 
-pushed_at : (first l : ℕ) (a : Atom ℕ) (xs : Slots) → l ≡ length xs + first → entries_from first (xs ++ Some a ∷ []) ≡ entries_from first xs ++ (l, a) ∷ []
+pushed_at : (first l : ℕ) (a : Atom ℕ) (xs : Labelled) → l ≡ length xs + first → entries_from first (xs ++ Some a ∷ []) ≡ entries_from first xs ++ (l, a) ∷ []
 pushed_at first l a [] e = ap (λ n. (n, a) ∷ []) (omega arith)
 pushed_at first l a (None ∷ xs) e = pushed_at (first + 1) l a xs (omega arith)
 pushed_at first l a (Some b ∷ xs) e = ap (λ (es : Store). (first, b) ∷ es) (pushed_at (first + 1) l a xs (omega arith))
 
-skipped_at : (first : ℕ) (xs : Slots) → entries_from first (xs ++ None ∷ []) ≡ entries_from first xs
+skipped_at : (first : ℕ) (xs : Labelled) → entries_from first (xs ++ None ∷ []) ≡ entries_from first xs
 skipped_at first [] = refl
 skipped_at first (None ∷ xs) = skipped_at (first + 1) xs
 skipped_at first (Some b ∷ xs) = ap (λ (es : Store). (first, b) ∷ es) (skipped_at (first + 1) xs)
 
-pub at_most : (first : ℕ) (xs : Slots) → length (entries_from first xs) ≤ length xs
+pub at_most : (first : ℕ) (xs : Labelled) → length (entries_from first xs) ≤ length xs
 at_most first [] = omega arith
 at_most first (None ∷ xs) = let rest = at_most (first + 1) xs in omega arith
 at_most first (Some a ∷ xs) = let rest = at_most (first + 1) xs in omega arith
 
-pub few : (xs : Slots) (live : ℕ) → IsTable xs live → live ≤ 4294967295
-few xs live t = let most = at_most 1 xs in let counted : live ≡ length (entries_from 1 xs) = t.counted in let within : length xs ≤ 4294967295 = t.within in omega arith
-
--- ---- over the boxes
+-- ---- over the slab
 
 -- what a `get` of a slice shows
 pub looked_at : {X : Type 0} (xs : List X) (i : ℕ) (r : Option (Bor X)) → IsItemAt xs i r → slice_get xs i ≡ option_copied r
@@ -147,57 +146,38 @@ looked_at xs i None h = slice_get_past xs i h.3
 looked_at xs i (Some x) h = slice_get_read xs (length xs) i x.now refl h.3.0 h.1
 
 -- the atom of a slot that there is
-abbrev pub atom_in : {A : Type 0} → Option (Option (Box (Atom ℕ) A)) → Option (Atom ℕ)
-atom_in slot = option_flatten (option_map atom_of slot)
+abbrev pub seen_in : Held → Option ℕ → Option (Atom ℕ)
+seen_in held slot = option_flatten (option_map (atom_in held) slot)
 
-module _ {A : Type 0} (slots : List (Option (Box (Atom ℕ) A))) (live : ℕ) (t : IsTable (held slots) live) where
+-- a label more, with its slot
+module _ (held : Held) (slots : List ℕ) (s : ℕ) where
+  with_none : atom_in held s ≡ None → table_of held (slots ++ s ∷ []) ≡ without_atom (table_of held slots)
+  with_none is = both _ _ _ _ (ap (entries_from 1) (map_push (atom_in held) slots s ∙ ap (λ x. held_in held slots ++ x ∷ []) is) ∙ skipped_at 1 (held_in held slots)) (omega (arith, length-append slots (s ∷ [])))
+
+  with_some : (a : Atom ℕ) → atom_in held s ≡ Some a → table_of held (slots ++ s ∷ []) ≡ with_atom a (table_of held slots)
+  with_some a is = both _ _ _ _ (ap (entries_from 1) (map_push (atom_in held) slots s ∙ ap (λ x. held_in held slots ++ x ∷ []) is) ∙ pushed_at 1 (length slots + 1) a (held_in held slots) (omega (arith, length-map slots (atom_in held)))) (omega (arith, length-append slots (s ∷ [])))
+
+-- the labels up to one
+module _ (held : Held) (slots : List ℕ) (i : ℕ) (lt : i < length slots) (made : GivenAtoms) (so_far : made ≡ table_of held (take i slots)) where
+  next_slot : take (i + 1) slots ≡ take i slots ++ slice_index slots i ∷ []
+  next_slot = take_more slots i 0 lt
+
+  pub copied_none : atom_in held (slice_index slots i) ≡ None → without_atom made ≡ table_of held (take (i + 1) slots)
+  copied_none is = ap without_atom so_far ∙ sym (ap (table_of held) next_slot ∙ with_none held (take i slots) (slice_index slots i) is)
+
+  pub copied_some : (a : Atom ℕ) → atom_in held (slice_index slots i) ≡ Some a → with_atom a made ≡ table_of held (take (i + 1) slots)
+  copied_some a is = ap (with_atom a) so_far ∙ sym (ap (table_of held) next_slot ∙ with_some held (take i slots) (slice_index slots i) a is)
+
+module _ (held : Held) (slots : List ℕ) (t : IsTable held slots) where
+  fits : length (held_in held slots) ≤ 4294967295
+  fits = let within : length slots ≤ 4294967295 = t.within in omega (arith, length-map slots (atom_in held))
+
   -- a look-up in the slots is one in the entries
-  pub seen : (l i : ℕ) → IsSlotOf l i → atom_at (entries_from 1 (held slots)) l ≡ atom_in (slice_get slots i)
-  seen l i at = found (held slots) l i at t.within ∙ ap option_flatten (slice_get-map atom_of slots i)
+  pub seen : (l i : ℕ) → IsSlotOf l i → atom_at (entries_from 1 (held_in held slots)) l ≡ seen_in held (slice_get slots i)
+  seen l i at = found (held_in held slots) l i at fits ∙ ap option_flatten (slice_get-map (atom_in held) slots i)
 
-  pub unseen : (l i : ℕ) → IsSlotOf l i → length slots ≤ i → atom_at (entries_from 1 (held slots)) l ≡ None
-  unseen l i at h = seen l i at ∙ ap atom_in (slice_get_past slots i h)
-
-  fits : length slots ≤ 4294967295
-  fits = let within : length (held slots) ≤ 4294967295 = t.within in omega (arith, length-map slots atom_of)
-
-  -- an emptied slot takes its label out of the entries
-  pub emptied : (l i : ℕ) (x : Option (Box (Atom ℕ) A)) → IsSlotOf l i → i < length slots → x ≡ None → table_of (slice_set slots i x) ≡ without_label l (table_of slots)
-  emptied l i x at h none = ap (λ (z : Option (Box (Atom ℕ) A)). table_of (slice_set slots i z)) none
-      ∙ both _ _ _ _ (ap (entries_from 1) (map-set atom_of slots i None) ∙ dropped_at 1 i l (held slots) (let u : i + 1 ≡ l = at.own (label_is l i at h) in omega arith)) (ap (λ n. n + 1) (length-set slots i None))
-    where
-      label_is : (l i : ℕ) → IsSlotOf l i → i < length slots → 1 ≤ l
-      label_is l i at h = elim (cases_eq l 0) [ inl e ↦ absurd (let u : 4294967295 ≤ i = at.none e in omega (arith, fits)) | inr d ↦ omega arith ]
-
-  pub one_fewer : (i : ℕ) (x : Option (Box (Atom ℕ) A)) (b : Box (Atom ℕ) A) → slice_get slots i ≡ Some (Some b) → x ≡ None → length (entries_from 1 (held (slice_set slots i x))) + 1 ≡ live
-  one_fewer i x b there none =
-      ap (λ (z : Option (Box (Atom ℕ) A)). length (entries_from 1 (held (slice_set slots i z))) + 1) none ∙ ap (λ z. length (entries_from 1 z) + 1) (map-set atom_of slots i None)
-      ∙ fewer 1 i (held slots) b.value (slice_get-map atom_of slots i ∙ ap (option_map atom_of) there) ∙ sym t.counted
-
-  pub emptied_table : (i : ℕ) (x : Option (Box (Atom ℕ) A)) (b : Box (Atom ℕ) A) → slice_get slots i ≡ Some (Some b) → x ≡ None → IsTable (held (slice_set slots i x)) (live - 1)
-  emptied_table i x b there none = record {
-    counted = (let less = one_fewer i x b there none in omega arith);
-    within = omega (arith, fits, length-map (slice_set slots i x) atom_of, length-set slots i x);
-  }
-
-  pub filled : (x : Option (Box (Atom ℕ) A)) (a : Atom ℕ) → atom_of x ≡ Some a → table_of (slots ++ x ∷ []) ≡ with_atom a (table_of slots)
-  filled x a is = both _ _ _ _ (ap (entries_from 1) (map_push atom_of slots x ∙ ap (λ z. held slots ++ z ∷ []) is) ∙ pushed_at 1 (length slots + 1) a (held slots) (omega (arith, length-map slots atom_of))) (omega (arith, length-append slots (x ∷ [])))
-
-  pub filled_table : (x : Option (Box (Atom ℕ) A)) (a : Atom ℕ) → atom_of x ≡ Some a → length slots + 1 ≤ 4294967295 → IsTable (held (slots ++ x ∷ [])) (live + 1)
-  filled_table x a is h = record {
-    counted = (let more = ap (λ (s : GivenAtoms). length s.entries) (filled x a is) in let was : live ≡ length (entries_from 1 (held slots)) = t.counted in omega (arith, length-append (entries_from 1 (held slots)) ((length slots + 1, a) ∷ [])));
-    within = omega (arith, length-map (slots ++ x ∷ []) atom_of, length-append slots (x ∷ []));
-  }
-
-  -- a slot that stays without an atom
-  pub skipped : table_of (slots ++ None ∷ []) ≡ without_atom (table_of slots)
-  skipped = both _ _ _ _ (ap (entries_from 1) (map_push atom_of slots None) ∙ skipped_at 1 (held slots)) (omega (arith, length-append slots (None ∷ [])))
-
-  pub skipped_table : length slots + 1 ≤ 4294967295 → IsTable (held (slots ++ None ∷ [])) live
-  skipped_table h = record {
-    counted = t.counted ∙ sym (ap (λ (s : GivenAtoms). length s.entries) skipped);
-    within = omega (arith, length-map (slots ++ None ∷ []) atom_of, length-append slots (None ∷ []));
-  }
+  pub unseen : (l i : ℕ) → IsSlotOf l i → length slots ≤ i → atom_at (entries_from 1 (held_in held slots)) l ≡ None
+  unseen l i at h = seen l i at ∙ ap (seen_in held) (slice_get_past slots i h)
 
 -- ---- how many atoms there are, block by block
 
@@ -210,37 +190,37 @@ one_elsewhere label k d = grind (arith, nat_tests, d)
 one_at_most : (label k : ℕ) → one_in label k ≤ 1
 one_at_most label k = grind (arith, nat_tests)
 
--- no more than there are slots
-at_most_all : (label k : ℕ) (xs : Slots) → atoms_in label k xs ≤ length xs
+-- no more than there are labels
+at_most_all : (label k : ℕ) (xs : Labelled) → atoms_in label k xs ≤ length xs
 at_most_all label k [] = omega arith
 at_most_all label k (None ∷ xs) = omega (arith, at_most_all (label + 1) k xs)
 at_most_all label k (Some a ∷ xs) = omega (arith, at_most_all (label + 1) k xs, one_at_most label k)
 
--- none in a block that no slot has come to
-none_yet : (label k : ℕ) (xs : Slots) → label + length xs ≤ 64 * k → atoms_in label k xs ≡ 0
+-- none in a block that no label has come to
+none_yet : (label k : ℕ) (xs : Labelled) → label + length xs ≤ 64 * k → atoms_in label k xs ≡ 0
 none_yet label k [] h = refl
 none_yet label k (None ∷ xs) h = none_yet (label + 1) k xs (omega arith)
 none_yet label k (Some a ∷ xs) h = omega (arith, one_elsewhere label k (λ e. absurd (omega (arith, e))), none_yet (label + 1) k xs (omega arith))
 
-pushed_none : (label k : ℕ) (xs : Slots) → atoms_in label k (xs ++ None ∷ []) ≡ atoms_in label k xs
+pushed_none : (label k : ℕ) (xs : Labelled) → atoms_in label k (xs ++ None ∷ []) ≡ atoms_in label k xs
 pushed_none label k [] = refl
 pushed_none label k (None ∷ xs) = pushed_none (label + 1) k xs
 pushed_none label k (Some a ∷ xs) = ap (λ n. one_in label k + n) (pushed_none (label + 1) k xs)
 
-pushed_some : (label l k : ℕ) (a : Atom ℕ) (xs : Slots) → l ≡ label + length xs → atoms_in label k (xs ++ Some a ∷ []) ≡ atoms_in label k xs + one_in l k
+pushed_some : (label l k : ℕ) (a : Atom ℕ) (xs : Labelled) → l ≡ label + length xs → atoms_in label k (xs ++ Some a ∷ []) ≡ atoms_in label k xs + one_in l k
 pushed_some label l k a [] e = ap (λ n. one_in n k + 0) (let same : label ≡ l = omega arith in same) ∙ (omega arith)
 pushed_some label l k a (None ∷ xs) e = pushed_some (label + 1) l k a xs (omega arith)
 pushed_some label l k a (Some b ∷ xs) e = (let rest = pushed_some (label + 1) l k a xs (omega arith) in omega (arith, rest))
 
-emptied_at : (label l k i : ℕ) (a : Atom ℕ) (xs : Slots) → l ≡ label + i → slice_get xs i ≡ Some (Some a) → atoms_in label k (slice_set xs i None) + one_in l k ≡ atoms_in label k xs
+emptied_at : (label l k i : ℕ) (a : Atom ℕ) (xs : Labelled) → l ≡ label + i → slice_get xs i ≡ Some (Some a) → atoms_in label k (slice_set xs i None) + one_in l k ≡ atoms_in label k xs
 emptied_at label l k i a [] e h = absurd (cc)
 emptied_at label l k zero a (None ∷ xs) e h = absurd (cc)
 emptied_at label l k zero a (Some b ∷ xs) e h = (let same : one_in l k ≡ one_in label k = ap (λ n. one_in n k) (let s : l ≡ label = omega arith in s) in omega (arith, same))
 emptied_at label l k (suc i) a (None ∷ xs) e h = emptied_at (label + 1) l k i a xs (omega arith) h
 emptied_at label l k (suc i) a (Some b ∷ xs) e h = (let rest = emptied_at (label + 1) l k i a xs (omega arith) h in omega (arith, rest))
 
--- slots whose blocks have no atom are passed over
-pub passed : (n label end : ℕ) (xs : Slots) → ((k : ℕ) → label / 64 ≤ k → k < end → atoms_in label k xs ≡ 0) → label + n ≤ end * 64 → entries_from (label + n) (drop n xs) ≡ entries_from label xs
+-- labels whose blocks have no atom are passed over
+pub passed : (n label end : ℕ) (xs : Labelled) → ((k : ℕ) → label / 64 ≤ k → k < end → atoms_in label k xs ≡ 0) → label + n ≤ end * 64 → entries_from (label + n) (drop n xs) ≡ entries_from label xs
 passed zero label end xs none h = ap (λ l. entries_from l xs) (let e : label + 0 ≡ label = omega arith in e)
 passed (suc n) label end [] none h = refl
 passed (suc n) label end (None ∷ xs) none h =
@@ -249,7 +229,7 @@ passed (suc n) label end (None ∷ xs) none h =
 passed (suc n) label end (Some a ∷ xs) none h = absurd (omega (arith, one_here label (label / 64) refl, none (label / 64) (omega arith) (omega arith)))
 
 -- and what is left has no more atoms
-fewer_left : (n label k : ℕ) (xs : Slots) → atoms_in label k xs ≡ 0 → atoms_in (label + n) k (drop n xs) ≡ 0
+fewer_left : (n label k : ℕ) (xs : Labelled) → atoms_in label k xs ≡ 0 → atoms_in (label + n) k (drop n xs) ≡ 0
 fewer_left zero label k xs h = ap (λ l. atoms_in l k xs) (let e : label + 0 ≡ label = omega arith in e) ∙ h
 fewer_left (suc n) label k [] h = refl
 fewer_left (suc n) label k (None ∷ xs) h = ap (λ l. atoms_in l k (drop n xs)) (let e : label + suc n ≡ label + 1 + n = omega arith in e) ∙ fewer_left n (label + 1) k xs h
@@ -257,17 +237,20 @@ fewer_left (suc n) label k (Some a ∷ xs) h =
     ap (λ l. atoms_in l k (drop n xs)) (let e : label + suc n ≡ label + 1 + n = omega arith in e)
     ∙ fewer_left n (label + 1) k xs (let all : one_in label k + atoms_in (label + 1) k xs ≡ 0 = h in omega (arith, all))
 
-pub still_empty : (n label : ℕ) (xs : Slots) (ns : List ℕ) → AreEmptyAtNone label xs ns → AreEmptyAtNone (label + n) (drop n xs) ns
+pub still_empty : (n label : ℕ) (xs : Labelled) (ns : List ℕ) → AreEmptyAtNone label xs ns → AreEmptyAtNone (label + n) (drop n xs) ns
 still_empty n label xs ns h = record { empty = λ k lt none. fewer_left n label k xs (h.empty k lt none) }
 
 -- ---- the counts
 
-none_ahead : (xs : Slots) (ns : List ℕ) → AreCounts xs ns → atoms_in 1 (length ns) xs ≡ 0
+pub empty_at_none : (xs : Labelled) (ns : List ℕ) → AreCounts xs ns → AreEmptyAtNone 1 xs ns
+empty_at_none xs ns h = record { empty = λ k lt none. sym (h.each k lt) ∙ none }
+
+none_ahead : (xs : Labelled) (ns : List ℕ) → AreCounts xs ns → atoms_in 1 (length ns) xs ≡ 0
 none_ahead [] ns h = refl
 none_ahead (x ∷ xs) ns h = none_yet 1 (length ns) (x ∷ xs) (let was : length (x ∷ xs) < 64 * length ns = h.within (omega arith) in omega arith)
 
 -- a block that no label has come to is counted
-pub counts_begun : (xs : Slots) (ns : List ℕ) → AreCounts xs ns → AreCounts xs (ns ++ 0 ∷ [])
+pub counts_begun : (xs : Labelled) (ns : List ℕ) → AreCounts xs ns → AreCounts xs (ns ++ 0 ∷ [])
 counts_begun xs ns h =
     let more = length-append ns (0 ∷ []) in
     record {
@@ -279,14 +262,14 @@ counts_begun xs ns h =
       ];
     }
 
-pub counts_skipped : (xs : Slots) (ns : List ℕ) → AreCounts xs ns → length xs + 1 < 64 * length ns → AreCounts (xs ++ None ∷ []) ns
+pub counts_skipped : (xs : Labelled) (ns : List ℕ) → AreCounts xs ns → length xs + 1 < 64 * length ns → AreCounts (xs ++ None ∷ []) ns
 counts_skipped xs ns h room = record {
   within = λ one. omega (arith, room, length-append xs (None ∷ []));
   each = λ k lt. h.each k lt ∙ sym (pushed_none 1 k xs);
 }
 
 -- another count in the block of a label
-counted : (xs ys : Slots) (ns : List ℕ) (i n l : ℕ) → AreCounts xs ns → i ≡ l / 64 → length ys < 64 * length ns → ((k : ℕ) → k < length ns → one_in l k ≡ 1 → k ≡ i → n ≡ atoms_in 1 k ys)
+counted : (xs ys : Labelled) (ns : List ℕ) (i n l : ℕ) → AreCounts xs ns → i ≡ l / 64 → length ys < 64 * length ns → ((k : ℕ) → k < length ns → one_in l k ≡ 1 → k ≡ i → n ≡ atoms_in 1 k ys)
     → ((k : ℕ) → one_in l k ≡ 0 → atoms_in 1 k xs ≡ atoms_in 1 k ys) → AreCounts ys (slice_set ns i n)
 counted xs ys ns i n l h at within here elsewhere = record {
   within = λ one. omega (arith, within, length-set ns i n);
@@ -298,69 +281,236 @@ counted xs ys ns i n l h at within here elsewhere = record {
       ];
 }
 
-pub counts_filled : (xs : Slots) (ns : List ℕ) (a : Atom ℕ) (i : ℕ) → AreCounts xs ns → length xs + 1 < 64 * length ns → i ≡ (length xs + 1) / 64 → AreCounts (xs ++ Some a ∷ []) (slice_set ns i (slice_index ns i + 1))
+pub counts_filled : (xs : Labelled) (ns : List ℕ) (a : Atom ℕ) (i : ℕ) → AreCounts xs ns → length xs + 1 < 64 * length ns → i ≡ (length xs + 1) / 64 → AreCounts (xs ++ Some a ∷ []) (slice_set ns i (slice_index ns i + 1))
 counts_filled xs ns a i h room at =
     let more = λ (k : ℕ). pushed_some 1 (length xs + 1) k a xs (omega arith) in
     counted xs (xs ++ Some a ∷ []) ns i (slice_index ns i + 1) (length xs + 1) h at (omega (arith, room, length-append xs (Some a ∷ [])))
     (λ k lt one e. omega (arith, ap (slice_index ns) e, h.each k lt, one, more k)) (λ k none. omega (arith, none, more k))
 
-pub counts_emptied : (xs : Slots) (ns : List ℕ) (a : Atom ℕ) (l i j : ℕ) → AreCounts xs ns → slice_get xs i ≡ Some (Some a) → l ≡ i + 1 → j ≡ l / 64 → i < length xs → AreCounts (slice_set xs i None) (slice_set ns j (slice_index ns j - 1))
+pub counts_emptied : (xs : Labelled) (ns : List ℕ) (a : Atom ℕ) (l i j : ℕ) → AreCounts xs ns → slice_get xs i ≡ Some (Some a) → l ≡ i + 1 → j ≡ l / 64 → i < length xs → AreCounts (slice_set xs i None) (slice_set ns j (slice_index ns j - 1))
 counts_emptied xs ns a l i j h there label at inside =
     let less = λ (k : ℕ). emptied_at 1 l k i a xs (omega arith) there in
     counted xs (slice_set xs i None) ns j (slice_index ns j - 1) l h at (let was = h.within (omega arith) in omega (arith, was, length-set xs i None))
     (λ k lt one e. omega (arith, ap (slice_index ns) e, h.each k lt, one, less k)) (λ k none. omega (arith, none, less k))
 
 -- the block of a label that was given is counted, with the atom
-pub is_counted : (xs : Slots) (ns : List ℕ) (i j : ℕ) → AreCounts xs ns → i < length xs → j ≡ (i + 1) / 64 → j < length ns
+pub is_counted : (xs : Labelled) (ns : List ℕ) (i j : ℕ) → AreCounts xs ns → i < length xs → j ≡ (i + 1) / 64 → j < length ns
 is_counted xs ns i j h inside at = let was = h.within (omega arith) in omega (arith, was)
 
-pub counts_one : (xs : Slots) (ns : List ℕ) (a : Atom ℕ) (i j : ℕ) → AreCounts xs ns → slice_get xs i ≡ Some (Some a) → i < length xs → j ≡ (i + 1) / 64 → 1 ≤ slice_index ns j
+pub counts_one : (xs : Labelled) (ns : List ℕ) (a : Atom ℕ) (i j : ℕ) → AreCounts xs ns → slice_get xs i ≡ Some (Some a) → i < length xs → j ≡ (i + 1) / 64 → 1 ≤ slice_index ns j
 counts_one xs ns a i j h there inside at = omega (arith, h.each j (is_counted xs ns i j h inside at), one_here (i + 1) j (sym at), emptied_at 1 (i + 1) j i a xs (omega arith) there)
 
-pub count_fits : (xs : Slots) (ns : List ℕ) (k : ℕ) → AreCounts xs ns → k < length ns → slice_index ns k ≤ length xs
+pub count_fits : (xs : Labelled) (ns : List ℕ) (k : ℕ) → AreCounts xs ns → k < length ns → slice_index ns k ≤ length xs
 count_fits xs ns k h lt = omega (arith, h.each k lt, at_most_all 1 k xs)
 
--- ---- slots in front that are passed over
+pub count_grows : (xs : Labelled) (ns : List ℕ) (i n : ℕ) → AreCounts xs ns → length xs + 1 < 64 * length ns → i ≡ (length xs + 1) / 64 → n ≡ get_or ns i n → n ≤ length xs
+count_grows xs ns i n h room at read =
+    let inside : i < length ns = omega arith in
+    omega (arith, read ∙ get_or_default_zero ns i n inside, count_fits xs ns i h inside)
 
-module _ {A : Type 0} (slots : List (Option (Box (Atom ℕ) A))) (n label : ℕ) where
-  left_behind : held (take (length slots - n) (drop n slots)) ≡ drop n (held slots)
-  left_behind = ap held (take_rest slots n) ∙ sym (drop-map atom_of n slots)
+-- ---- a slot that is written
 
-  pub left_empty : (ns : List ℕ) → AreEmptyAtNone label (held slots) ns → AreEmptyAtNone (label + n) (held (take (length slots - n) (drop n slots))) ns
-  left_empty ns h = subst (λ (xs : Slots). AreEmptyAtNone (label + n) xs ns) (sym left_behind) (still_empty n label (held slots) ns h)
+all_at : {X : Type 0} (P : X → Type 0) (xs : List X) (i : ℕ) (x : X) → slice_get xs i ≡ Some x → AllByRecursion P xs → P x
+all_at P [] i x e h = absurd (cc)
+all_at P (y ∷ ys) zero x e h = let same : y ≡ x = cc in subst P same h.0
+all_at P (y ∷ ys) (suc i) x e h = all_at P ys i x e h.1
 
-  pub left_same : (ns : List ℕ) (end : ℕ) → AreEmptyAtNone label (held slots) ns → ((k : ℕ) → label / 64 ≤ k → k < end → (k < length ns) × (slice_index ns k ≡ 0)) → n ≤ end * 64 - label → entries_from (label + n) (held (take (length slots - n) (drop n slots))) ≡ entries_from label (held slots)
+all_set : {X : Type 0} (P : X → Type 0) (xs : List X) (i : ℕ) (x : X) → P x → AllByRecursion P xs → AllByRecursion P (slice_set xs i x)
+all_set P xs i x p h = recursion_from_All P (slice_set xs i x) (All-set P xs i x p (All-from_recursion P xs h))
+
+module _ (old new : Held) (k : ℕ) (others : (other : ℕ) → other ≢ k → atom_in new other ≡ atom_in old other) where
+  -- the other ones keep what they have
+  held_same : (slots : List ℕ) → AllByRecursion (λ s. s ≢ k) slots → held_in new slots ≡ held_in old slots
+  held_same [] h = refl
+  held_same (s ∷ slots) h = ap₂ (λ x (xs : Labelled). x ∷ xs) (others s h.0) (held_same slots h.1)
+
+  own_same : (s : ℕ) (slots : List ℕ) → s ≢ k → (s ≡ no_slot) ⊎ IsOwnSlot old s slots → (s ≡ no_slot) ⊎ IsOwnSlot new s slots
+  own_same s slots d o = elim o [ inl e ↦ inl e | inr is ↦ inr (record { full = subst IsSome (sym (others s d)) is.full; own = is.own }) ]
+
+  apart_same : (slots : List ℕ) → AllByRecursion (λ s. s ≢ k) slots → AreApart old slots → AreApart new slots
+  apart_same [] h a = tt
+  apart_same (s ∷ slots) h a = (own_same s slots h.0 a.0, apart_same slots h.1 a.1)
+
+not_none : (x : Option (Atom ℕ)) → x ≡ None → IsSome x → ⊥
+not_none None e h = absurd (cc)
+not_none (Some a) e h = absurd (cc)
+
+-- a slot without an atom is that of no label
+unused : (held : Held) (k : ℕ) (slots : List ℕ) → atom_in held k ≡ None → k < no_slot → AreApart held slots → AllByRecursion (λ s. s ≢ k) slots
+unused held k [] none lt a = tt
+unused held k (s ∷ slots) none lt a = (elim a.0 [ inl e ↦ λ same. omega arith | inr o ↦ λ same. not_none (atom_in held s) (ap (atom_in held) same ∙ none) o.full ], unused held k slots none lt a.1)
+
+-- one label more, without a slot and with one
+apart_skipped : (held : Held) (slots : List ℕ) → atom_in held no_slot ≡ None → AreApart held slots → AreApart held (slots ++ no_slot ∷ [])
+apart_skipped held [] none a = (inl refl, tt)
+apart_skipped held (s ∷ slots) none a = (
+  elim a.0 [
+    | inl e ↦ inl e
+    | inr o ↦ inr (record { full = o.full; own = all-push (λ other. other ≢ s) slots no_slot o.own (λ same. not_none (atom_in held s) (ap (atom_in held) (sym same) ∙ none) o.full) })
+  ],
+  apart_skipped held slots none a.1,
+)
+
+apart_filled : (held : Held) (k : ℕ) (slots : List ℕ) → IsSome (atom_in held k) → AllByRecursion (λ s. s ≢ k) slots → AreApart held slots → AreApart held (slots ++ k ∷ [])
+apart_filled held k [] full free a = (inr (record { full = full; own = tt }), tt)
+apart_filled held k (s ∷ slots) full free a = (
+  elim a.0 [
+    | inl e ↦ inl e
+    | inr o ↦ inr (record { full = o.full; own = all-push (λ other. other ≢ s) slots k o.own (λ same. free.0 (sym same)) })
+  ],
+  apart_filled held k slots full free.1 a.1,
+)
+
+-- the slab with an atom more, in a slot that had none
+pub record IsFilled (old new : Held) (k : ℕ) (a : Atom ℕ) : Type 0 where
+  pub none : atom_in old k ≡ None
+  pub changed : atom_in new k ≡ Some a
+  pub others : (other : ℕ) → other ≢ k → atom_in new other ≡ atom_in old other
+  pub counted : count_by is_some new ≡ count_by is_some old + 1
+  pub free : k < no_slot
+
+-- an insert into a slab that has room
+pub filled_by : (old room new : Slab (Atom ℕ)) (k key : ℕ) (x a : Atom ℕ) → room.slots ≡ old.slots → k ≡ room.vacant_key → key ≡ room.vacant_key → k < no_slot → x ≡ a → get room key ≡ None → Updates room new key (Some x) → slab_len new ≡ slab_len room + 1 → IsFilled old.slots new.slots k a
+filled_by old room new k key x a same at is free copied none u len =
+    let e : key ≡ k = is ∙ sym at in
+    record {
+      none = ap (λ xs. slice_index_or xs k None) (sym same) ∙ ap (get room) (sym e) ∙ none;
+      changed = ap (get new) (sym e) ∙ u.changed ∙ ap Some copied;
+      others = λ other d. u.others other (λ z. d (z ∙ e)) ∙ ap (λ xs. slice_index_or xs other None) same;
+      counted = len ∙ ap (λ (xs : Held). count_by is_some xs + 1) same;
+      free = free;
+    }
+
+-- and without the atom of a slot
+pub record IsEmptied (old new : Held) (k : ℕ) (a : Atom ℕ) : Type 0 where
+  pub there : atom_in old k ≡ Some a
+  pub others : (other : ℕ) → other ≢ k → atom_in new other ≡ atom_in old other
+  pub counted : count_by is_some new + 1 ≡ count_by is_some old
+
+module _ (old new : Held) (slots : List ℕ) (t : IsTable old slots) where
+  module _ (k : ℕ) (a : Atom ℕ) (f : IsFilled old new k a) where
+    free : AllByRecursion (λ s. s ≢ k) slots
+    free = unused old k slots f.none f.free t.apart
+
+    same : held_in new slots ≡ held_in old slots
+    same = held_same old new k f.others slots free
+
+    filled_held : held_in new (slots ++ k ∷ []) ≡ held_in old slots ++ Some a ∷ []
+    filled_held = map_push (atom_in new) slots k ∙ ap₂ (λ (xs : Labelled) x. xs ++ x ∷ []) same f.changed
+
+    pub filled : table_of new (slots ++ k ∷ []) ≡ with_atom a (table_of old slots)
+    filled = with_some new slots k a f.changed ∙ ap (λ xs. with_atom a (given (entries_from 1 xs) (length slots + 1))) same
+
+    pub filled_table : length slots + 1 ≤ 4294967295 → IsTable new (slots ++ k ∷ [])
+    filled_table h = record {
+      counted = (let more = ap (λ (s : GivenAtoms). length s.entries) filled in let was : count_by is_some old ≡ length (entries_from 1 (held_in old slots)) = t.counted in omega (arith, f.counted, length-append (entries_from 1 (held_in old slots)) ((length slots + 1, a) ∷ [])));
+      within = omega (arith, length-append slots (k ∷ []));
+      none = f.others no_slot (λ e. omega (arith, f.free)) ∙ t.none;
+      apart = apart_filled new k slots (subst IsSome (sym f.changed) refl) free (apart_same old new k f.others slots free t.apart);
+    }
+
+    pub filled_counts : (ns : List ℕ) (i n : ℕ) → AreCounts (held_in old slots) ns → length slots + 1 < 64 * length ns → i ≡ (length slots + 1) / 64 → n ≡ get_or ns i n → AreCounts (held_in new (slots ++ k ∷ [])) (slice_set ns i (n + 1))
+    filled_counts ns i n h room at read =
+        let size = length-map slots (atom_in old) in
+        subst (λ xs. AreCounts xs (slice_set ns i (n + 1))) (sym filled_held)
+        (rw (read ∙ get_or_default_zero ns i n (omega arith)) (counts_filled (held_in old slots) ns a i h (omega arith) (omega arith)))
+
+  module _ (k i : ℕ) (a : Atom ℕ) (e : IsEmptied old new k a) (slot : slice_get slots i ≡ Some k) where
+    still_none : atom_in new no_slot ≡ None
+    still_none = e.others no_slot (λ same. let z : None ≡ Some a = sym t.none ∙ ap (atom_in old) same ∙ e.there in cc) ∙ t.none
+
+    empties : (i : ℕ) (ss : List ℕ) → slice_get ss i ≡ Some k → AreApart old ss → (held_in new (slice_set ss i no_slot) ≡ slice_set (held_in old ss) i None) × AreApart new (slice_set ss i no_slot)
+    empties i [] at h = absurd (cc)
+    empties zero (s ∷ ss) at h =
+        let same : s ≡ k = cc in
+        let rest : AllByRecursion (λ other. other ≢ k) ss = elim h.0 [
+          | inl none ↦ absurd (let z : None ≡ Some a = sym t.none ∙ ap (atom_in old) (sym none ∙ same) ∙ e.there in cc)
+          | inr o ↦ subst (λ z. AllByRecursion (λ other. other ≢ z) ss) same o.own
+        ] in
+        (ap₂ (λ x (xs : Labelled). x ∷ xs) still_none (held_same old new k e.others ss rest), (inl refl, apart_same old new k e.others ss rest h.1))
+    empties (suc i) (s ∷ ss) at h =
+        let rest = empties i ss at h.1 in
+        let differs : s ≢ k = elim h.0 [
+          | inl none ↦ λ same. let z : None ≡ Some a = sym t.none ∙ ap (atom_in old) (sym none ∙ same) ∙ e.there in absurd (cc)
+          | inr o ↦ λ same. all_at (λ other. other ≢ s) ss i k at o.own (sym same)
+        ] in (
+          ap₂ (λ x (xs : Labelled). x ∷ xs) (e.others s differs) rest.0,
+          (
+            elim (own_same old new k e.others s ss differs h.0) [
+              | inl none ↦ inl none
+              | inr o ↦ inr (record { full = o.full; own = all_set (λ other. other ≢ s) ss i no_slot (λ same. not_none (atom_in new s) (ap (atom_in new) (sym same) ∙ still_none) o.full) o.own })
+            ],
+            rest.1,
+          ),
+        )
+
+    emptied_held : held_in new (slice_set slots i no_slot) ≡ slice_set (held_in old slots) i None
+    emptied_held = (empties i slots slot t.apart).0
+
+    inside : i < length slots
+    inside = slice_get_within slots i k slot
+
+    there : slice_get (held_in old slots) i ≡ Some (Some a)
+    there = slice_get-map (atom_in old) slots i ∙ ap (option_map (atom_in old)) slot ∙ ap Some e.there
+
+    -- the label of an emptied slot leaves the entries
+    pub emptied : (l : ℕ) → IsSlotOf l i → table_of new (slice_set slots i no_slot) ≡ without_label l (table_of old slots)
+    emptied l at = both _ _ _ _ (ap (entries_from 1) emptied_held ∙ dropped_at 1 i l (held_in old slots) (let u : i + 1 ≡ l = at.own label_is in omega arith)) (ap (λ n. n + 1) (length-set slots i no_slot))
+      where
+        label_is : 1 ≤ l
+        label_is = elim (cases_eq l 0) [ inl z ↦ absurd (let u : 4294967295 ≤ i = at.none z in omega (arith, inside, t.within)) | inr d ↦ omega arith ]
+
+    pub emptied_table : IsTable new (slice_set slots i no_slot)
+    emptied_table = record {
+      counted = omega (arith, e.counted, t.counted, ap (λ xs. length (entries_from 1 xs)) emptied_held, fewer 1 i (held_in old slots) a there);
+      within = omega (arith, t.within, length-set slots i no_slot);
+      none = still_none;
+      apart = (empties i slots slot t.apart).1;
+    }
+
+    module _ (ns : List ℕ) (n : ℕ) (h : AreCounts (held_in old slots) ns) (read : n ≡ get_or ns ((i + 1) / 64) n) where
+      within : i < length (held_in old slots)
+      within = omega (arith, inside, length-map slots (atom_in old))
+
+      count : n ≡ slice_index ns ((i + 1) / 64)
+      count = read ∙ get_or_default_zero ns ((i + 1) / 64) n (is_counted (held_in old slots) ns i ((i + 1) / 64) h within refl)
+
+      pub emptied_counts : AreCounts (held_in new (slice_set slots i no_slot)) (slice_set ns ((i + 1) / 64) (n - 1))
+      emptied_counts = subst (λ xs. AreCounts xs (slice_set ns ((i + 1) / 64) (n - 1))) (sym emptied_held)
+          (rw count (counts_emptied (held_in old slots) ns a (i + 1) i ((i + 1) / 64) h there refl refl within))
+
+      pub emptied_one : 1 ≤ n
+      emptied_one = omega (arith, count, counts_one (held_in old slots) ns a i ((i + 1) / 64) h there within refl)
+
+module _ (held : Held) (slots : List ℕ) (t : IsTable held slots) where
+  skipped_held : held_in held (slots ++ no_slot ∷ []) ≡ held_in held slots ++ None ∷ []
+  skipped_held = map_push (atom_in held) slots no_slot ∙ ap (λ x. held_in held slots ++ x ∷ []) t.none
+
+  pub skipped : table_of held (slots ++ no_slot ∷ []) ≡ without_atom (table_of held slots)
+  skipped = with_none held slots no_slot t.none
+
+  pub skipped_table : length slots + 1 ≤ 4294967295 → IsTable held (slots ++ no_slot ∷ [])
+  skipped_table h = record {
+    counted = t.counted ∙ sym (ap (λ (s : GivenAtoms). length s.entries) skipped);
+    within = omega (arith, length-append slots (no_slot ∷ []));
+    none = t.none;
+    apart = apart_skipped held slots t.none t.apart;
+  }
+
+  pub skipped_counts : (ns : List ℕ) → AreCounts (held_in held slots) ns → length slots + 1 < 64 * length ns → AreCounts (held_in held (slots ++ no_slot ∷ [])) ns
+  skipped_counts ns h room = subst (λ xs. AreCounts xs ns) (sym skipped_held) (counts_skipped (held_in held slots) ns h (omega (arith, length-map slots (atom_in held))))
+
+-- ---- labels in front that are passed over
+
+module _ (held : Held) (slots : List ℕ) (n label : ℕ) where
+  left_behind : held_in held (take (length slots - n) (drop n slots)) ≡ drop n (held_in held slots)
+  left_behind = ap (held_in held) (take_rest slots n) ∙ sym (drop-map (atom_in held) n slots)
+
+  pub left_empty : (ns : List ℕ) → AreEmptyAtNone label (held_in held slots) ns → AreEmptyAtNone (label + n) (held_in held (take (length slots - n) (drop n slots))) ns
+  left_empty ns h = subst (λ (xs : Labelled). AreEmptyAtNone (label + n) xs ns) (sym left_behind) (still_empty n label (held_in held slots) ns h)
+
+  pub left_same : (ns : List ℕ) (end : ℕ) → AreEmptyAtNone label (held_in held slots) ns → ((k : ℕ) → label / 64 ≤ k → k < end → (k < length ns) × (slice_index ns k ≡ 0)) → n ≤ end * 64 - label → entries_from (label + n) (held_in held (take (length slots - n) (drop n slots))) ≡ entries_from label (held_in held slots)
   left_same ns end h none within = elim (cases_eq n 0) [
-    | inl all ↦ ap (entries_from (label + n)) left_behind ∙ ap (λ m. entries_from (label + m) (drop m (held slots))) all ∙ ap (λ l. entries_from l (held slots)) (let e : label + 0 ≡ label = omega arith in e)
-    | inr some ↦ ap (entries_from (label + n)) left_behind ∙ passed n label end (held slots) (λ k from to. let is = none k from to in h.empty k is.0 is.1) (omega arith)
+    | inl all ↦ ap (entries_from (label + n)) left_behind ∙ ap (λ m. entries_from (label + m) (drop m (held_in held slots))) all ∙ ap (λ l. entries_from l (held_in held slots)) (let e : label + 0 ≡ label = omega arith in e)
+    | inr some ↦ ap (entries_from (label + n)) left_behind ∙ passed n label end (held_in held slots) (λ k from to. let is = none k from to in h.empty k is.0 is.1) (omega arith)
   ]
-
--- ---- the counts of boxes
-
-module _ {A : Type 0} (slots : List (Option (Box (Atom ℕ) A))) (ns : List ℕ) (h : AreCounts (held slots) ns) where
-  pub skipped_counts : length slots + 1 < 64 * length ns → AreCounts (held (slots ++ None ∷ [])) ns
-  skipped_counts room = subst (λ xs. AreCounts xs ns) (sym (map_push atom_of slots None)) (counts_skipped (held slots) ns h (omega (arith, length-map slots atom_of)))
-
-  pub filled_counts : (i n : ℕ) (x : Option (Box (Atom ℕ) A)) (a : Atom ℕ) → atom_of x ≡ Some a → length slots + 1 < 64 * length ns → i ≡ (length slots + 1) / 64 → n ≡ get_or ns i n → AreCounts (held (slots ++ x ∷ [])) (slice_set ns i (n + 1))
-  filled_counts i n x a is room at read =
-      let size = length-map slots atom_of in
-      subst (λ xs. AreCounts xs (slice_set ns i (n + 1))) (sym (map_push atom_of slots x ∙ ap (λ z. held slots ++ z ∷ []) is))
-      (rw (read ∙ get_or_default_zero ns i n (omega arith)) (counts_filled (held slots) ns a i h (omega arith) (omega arith)))
-
-  pub count_grows : (i n : ℕ) → length slots + 1 < 64 * length ns → i ≡ (length slots + 1) / 64 → n ≡ get_or ns i n → n ≤ length slots
-  count_grows i n room at read =
-      let inside : i < length ns = omega arith in
-      omega (arith, read ∙ get_or_default_zero ns i n inside, count_fits (held slots) ns i h inside, length-map slots atom_of)
-
-  pub emptied_counts : (i n : ℕ) (x : Option (Box (Atom ℕ) A)) (b : Box (Atom ℕ) A) → slice_get slots i ≡ Some (Some b) → x ≡ None → i < length slots → n ≡ get_or ns ((i + 1) / 64) n → AreCounts (held (slice_set slots i x)) (slice_set ns ((i + 1) / 64) (n - 1))
-  emptied_counts i n x b there none lt read =
-      let within : i < length (held slots) = omega (arith, length-map slots atom_of) in
-      let count : n ≡ slice_index ns ((i + 1) / 64) = read ∙ get_or_default_zero ns ((i + 1) / 64) n (is_counted (held slots) ns i ((i + 1) / 64) h within refl) in
-      subst (λ xs. AreCounts xs (slice_set ns ((i + 1) / 64) (n - 1))) (sym (ap (λ (z : Option (Box (Atom ℕ) A)). held (slice_set slots i z)) none ∙ map-set atom_of slots i None))
-      (rw count (counts_emptied (held slots) ns b.value (i + 1) i ((i + 1) / 64) h (slice_get-map atom_of slots i ∙ ap (option_map atom_of) there) refl refl within))
-
-  pub emptied_one : (i n : ℕ) (b : Box (Atom ℕ) A) → slice_get slots i ≡ Some (Some b) → i < length slots → n ≡ get_or ns ((i + 1) / 64) n → 1 ≤ n
-  emptied_one i n b there lt read =
-      let size = length-map slots atom_of in
-      let within : i < length (held slots) = omega arith in
-      omega (arith, read ∙ get_or_default_zero ns ((i + 1) / 64) n (is_counted (held slots) ns i ((i + 1) / 64) h within refl), counts_one (held slots) ns b.value i ((i + 1) / 64) h (slice_get-map atom_of slots i ∙ ap (option_map atom_of) there) within refl)

@@ -6,18 +6,18 @@ use Rattle.chr_value.specs.Atoms.{Atom}
 abbrev pub one_in : ℕ → ℕ → ℕ
 one_in label block = if nat_eq (label / 64) block then 1 else 0
 
--- how many of these slots have an atom and a label of a block, where the first slot has this label
+-- how many of these are atoms with a label of a block, where the first one has this label
 abbrev pub atoms_in : ℕ → ℕ → List (Option (Atom ℕ)) → ℕ
 atoms_in label block [] = 0
-atoms_in label block (None ∷ slots) = atoms_in (label + 1) block slots
-atoms_in label block (Some a ∷ slots) = one_in label block + atoms_in (label + 1) block slots
+atoms_in label block (None ∷ atoms) = atoms_in (label + 1) block atoms
+atoms_in label block (Some a ∷ atoms) = one_in label block + atoms_in (label + 1) block atoms
 
 -- the counts are those of the blocks, and each label that was given has one
-pub record AreCounts (slots : List (Option (Atom ℕ))) (counts : List ℕ) : Type 0 where
-  pub within : 1 ≤ length slots → length slots < 64 * length counts
-  pub each : (k : ℕ) → k < length counts → slice_index counts k ≡ atoms_in 1 k slots
+pub record AreCounts (atoms : List (Option (Atom ℕ))) (counts : List ℕ) : Type 0 where
+  pub within : 1 ≤ length atoms → length atoms < 64 * length counts
+  pub each : (k : ℕ) → k < length counts → slice_index counts k ≡ atoms_in 1 k atoms
 
--- where a count is 0, none of these slots has an atom of its block
-pub record AreEmptyAtNone (label : ℕ) (slots : List (Option (Atom ℕ)))
+-- where a count is 0, none of these is an atom of its block
+pub record AreEmptyAtNone (label : ℕ) (atoms : List (Option (Atom ℕ)))
     (counts : List ℕ) : Type 0 where
-  pub empty : (k : ℕ) → k < length counts → slice_index counts k ≡ 0 → atoms_in label k slots ≡ 0
+  pub empty : (k : ℕ) → k < length counts → slice_index counts k ≡ 0 → atoms_in label k atoms ≡ 0

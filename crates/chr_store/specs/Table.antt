@@ -1,33 +1,54 @@
--- Slots by label, each with an atom or none.
-use Rattle.std.specs.Prelude.{◌≡◌, ℕ, ◌+◌, ◌≤◌, List, [], ◌∷◌, length, map, Option, Some, None}
+-- Atoms in the slots of a slab, by label.
+use Rattle.std.specs.Prelude.{◌≡◌, ◌≢◌, ◌⊎◌, ⊤, ℕ, ◌+◌, ◌≤◌, List, [], ◌∷◌, length, map, count_by, slice_index_or, Option, Some, None, is_some, IsSome}
 use Rattle.std.specs.Borrow.{Bor}
-use Rattle.std.specs.Option.{option_map}
-use Rattle.std.specs.declared.boxed.Box.{Box}
+use Rattle.std.specs.List.{AllByRecursion}
 use Rattle.chr_value.specs.Atoms.{Atom}
 use Rattle.chr_value.specs.Stores.{Store, greatest_label}
 
--- the atom of a slot's box, and of each one's
-abbrev pub atom_of : {A : Type 0} → Option (Box (Atom ℕ) A) → Option (Atom ℕ)
-atom_of slot = option_map (λ b. b.value) slot
+-- what a slab has, slot by slot
+abbrev pub Held : Type 0
+Held = List (Option (Atom ℕ))
 
-abbrev pub held : {A : Type 0} → List (Option (Box (Atom ℕ) A)) → List (Option (Atom ℕ))
-held slots = map atom_of slots
+-- the atom in a slot, or none
+abbrev pub atom_in : Held → ℕ → Option (Atom ℕ)
+atom_in held slot = slice_index_or held slot None
 
--- the atoms of these slots with their labels, where the first slot has this one
+-- the slot of a label that has no atom
+abbrev pub no_slot : ℕ
+no_slot = 4294967295
+
+-- what there is in each of these slots
+abbrev pub held_in : Held → List ℕ → List (Option (Atom ℕ))
+held_in held slots = map (atom_in held) slots
+
+-- these atoms with their labels, where the first one has this label
 abbrev pub entries_from : ℕ → List (Option (Atom ℕ)) → Store
 entries_from label [] = []
-entries_from label (None ∷ slots) = entries_from (label + 1) slots
-entries_from label (Some a ∷ slots) = (label, a) ∷ entries_from (label + 1) slots
+entries_from label (None ∷ atoms) = entries_from (label + 1) atoms
+entries_from label (Some a ∷ atoms) = (label, a) ∷ entries_from (label + 1) atoms
 
 -- the index of a label's slot, which for 0, no label, is above those of all labels
 pub record IsSlotOf (label i : ℕ) : Type 0 where
   pub own : 1 ≤ label → i + 1 ≡ label
   pub none : label ≡ 0 → greatest_label ≤ i
 
--- a count says how many slots have an atom, and the labels keep within the greatest one
-pub record IsTable (slots : List (Option (Atom ℕ))) (live : ℕ) : Type 0 where
-  pub counted : live ≡ length (entries_from 1 slots)
+-- a slot of one label alone, with its atom
+pub record IsOwnSlot (held : Held) (slot : ℕ) (others : List ℕ) : Type 0 where
+  pub full : IsSome (atom_in held slot)
+  pub own : AllByRecursion (λ other. other ≢ slot) others
+
+-- each label has a slot of its own, or none
+abbrev pub AreApart : Held → List ℕ → Type 0
+AreApart held [] = ⊤
+AreApart held (slot ∷ slots) =
+    ((slot ≡ no_slot) ⊎ IsOwnSlot held slot slots) × AreApart held slots
+
+-- the slab has the atoms of the labels and no more, and the labels keep within the greatest one
+pub record IsTable (held : Held) (slots : List ℕ) : Type 0 where
+  pub counted : count_by is_some held ≡ length (entries_from 1 (held_in held slots))
   pub within : length slots ≤ greatest_label
+  pub none : atom_in held no_slot ≡ None
+  pub apart : AreApart held slots
 
 -- the label and the atom that an item shows
 abbrev pub shown : ℕ × Bor (Atom ℕ) → ℕ × Atom ℕ

@@ -4,43 +4,48 @@ ghost use Rattle.std.specs.Option.{option_copied};
 ghost use Rattle.std.specs.Iterator.{item_count};
 ghost use Rattle.std.specs.Map.Iter.{TakesFirst};
 ghost use Rattle.chr_value.specs.Stores.{atom_at, drop_label, greatest_label};
-ghost use Rattle.chr_store.specs.Table.{IsSlotOf, atom_of, held, entries_from, shown};
+ghost use Rattle.chr_store.specs.Table.{Held, IsSlotOf, no_slot, held_in, entries_from, shown};
 ghost use Rattle.chr_store.specs.Blocks.{AreCounts, AreEmptyAtNone};
+ghost use Rattle.slab.specs.Slab.{HasRoomFor};
 
 use chr_value::{Atom, Label};
+use slab::Slab;
 use std::alloc::{AllocError, Allocator};
 use std::marker::Model;
 
-/// The atom of a label, until it is taken out.
-pub type Held<A> = Option<Box<Atom<A>, A>>;
+/// The slot of a label that has no atom.
+const NO_SLOT: u32 = u32::MAX;
 
 /// How many labels, one after another, are counted together.
 const BLOCK: usize = 64;
 
-/// Atoms under labels, which are given from 1 on, each once. The slot of a label stays where its atom is taken out.
-/// Contracts see the list of the labels with their atoms, which rises, and the label that comes next.
+/// Atoms under labels, which are given from 1 on, each once. They lie in one slab, where the slot of an atom that is taken
+/// out is given again; 4 bytes for its label stay. Contracts see the list of the labels with their atoms, which rises, and
+/// the label that comes next.
 #[derive(Drop)]
 pub struct Atoms<A: Allocator> {
-    slots: Vec<Held<A>, A>,
+    /// The atoms, each in a slot that the slab picks.
+    held: Slab<Atom<A>, A>,
+    /// The slot of each label that was given, from 1 on, or [`NO_SLOT`].
+    slots: Vec<u32, A>,
     /// How many atoms each block of labels has.
     counts: Vec<u32, A>,
-    live: usize,
 }
 
 impl<A: Allocator> Model for Atoms<A> {
     ghost use Rattle.std.specs.Prelude.{◌+◌, length};
     ghost use Rattle.chr_value.specs.Code.{value_codes};
     ghost use Rattle.chr_store.specs.Labels.{GivenAtoms};
-    ghost use Rattle.chr_store.specs.Table.{entries_from, held, IsTable};
+    ghost use Rattle.chr_store.specs.Table.{entries_from, held_in, IsTable};
     ghost use Rattle.chr_store.specs.Blocks.{AreCounts};
 
     ghost Value = { GivenAtoms };
 
     ghost coded = { Prim.hlevel value_codes };
 
-    ghost view = { λ a. record { entries = entries_from 1 (held a.slots.items); next = length a.slots.items + 1 } };
+    ghost view = { λ a. record { entries = entries_from 1 (held_in a.held.slots a.slots.items); next = length a.slots.items + 1 } };
 
-    ghost invariant = { λ a. IsTable (held a.slots.items) a.live × AreCounts (held a.slots.items) a.counts.items };
+    ghost invariant = { λ a. IsTable a.held.slots a.slots.items × AreCounts (held_in a.held.slots a.slots.items) a.counts.items };
 }
 
 /// The index of a label's slot. That of 0, which is no label, is above all others.
@@ -51,25 +56,31 @@ fn index_of(label: Label) -> usize
     (label as usize).wrapping_sub(1)
 }
 
-/// A copy of what a slot has.
-fn copy_of<A: Allocator + Copy>(alloc: A, slot: &Held<A>) -> Result<Held<A>, AllocError>
-    ensures { IfOk result (λ made. atom_of made ≡ atom_of slot.now) }
+/// Makes room for an atom, and tells the slot that it will have. An `Err` is E01.
+fn reserve_slot<A: Allocator>(held: &mut Slab<Atom<A>, A>) -> Result<u32, AllocError>
+    ensures same { held.new.slots ≡ held.old.slots }
+    ensures room { OnOk result (HasRoomFor held.new 1) }
+    ensures next { IfOk result (λ slot. slot ≡ held.new.vacant_key) }
+    ensures fits { IfOk result (λ slot. slot < no_slot) }
 {
-    match slot {
-        None => Ok(None),
-        Some(atom) => Ok(Some(Box::new(alloc, atom.copy(alloc)?)?)),
+    held.reserve(1)?;
+    let slot = held.vacant_key();
+    // The slab never has more slots than there are labels, but none of its contracts says so.
+    if slot >= NO_SLOT as usize {
+        return Err(AllocError);
     }
+    Ok(slot as u32)
 }
 
-/// Makes room for one slot more, and a count for the block of its label. An `Err` is E01.
+/// Makes room for one label more, and a count for its block. An `Err` is E01.
 fn make_room<A: Allocator>(
-    slots: &mut Vec<Held<A>, A>,
+    slots: &mut Vec<u32, A>,
     counts: &mut Vec<u32, A>,
 ) -> Result<(), AllocError>
     requires fits { length slots.old.items ≤ 4294967294 }
-    requires counted { AreCounts (held slots.old.items) counts.old.items }
+    requires begun { 1 ≤ length slots.old.items → length slots.old.items < 64 * length counts.old.items }
     ensures slots { slots.new.items ≡ slots.old.items }
-    ensures counted { AreCounts (held slots.old.items) counts.new.items }
+    ensures counted { (held : Held) → AreCounts (held_in held slots.old.items) counts.old.items → AreCounts (held_in held slots.old.items) counts.new.items }
     ensures block { OnOk result (length slots.old.items + 1 < 64 * length counts.new.items) }
     ensures place { OnOk result (vec_len slots.new < vec_capacity slots.new) }
 {
@@ -93,17 +104,12 @@ fn next_block(counts: &[u32], from: usize) -> usize
 }
 
 /// The slots with the first one's label, but for those in front whose blocks have no atom.
-fn past_empty<'s, A: Allocator>(
-    slots: &'s [Held<A>],
-    counts: &[u32],
-    label: Label,
-) -> (&'s [Held<A>], Label)
+fn past_empty<'s>(slots: &'s [u32], counts: &[u32], label: Label) -> (&'s [u32], Label)
     requires fits { label + length slots.now ≤ 4294967296 }
-    requires empty { AreEmptyAtNone label (held slots.now) counts.now }
     ensures fits { result.1 + length result.0.now ≤ 4294967296 }
     ensures fewer { length result.0.now ≤ length slots.now }
-    ensures empty { AreEmptyAtNone result.1 (held result.0.now) counts.now }
-    ensures same { entries_from result.1 (held result.0.now) ≡ entries_from label (held slots.now) }
+    ensures empty { (held : Held) → AreEmptyAtNone label (held_in held slots.now) counts.now → AreEmptyAtNone result.1 (held_in held result.0.now) counts.now }
+    ensures same { (held : Held) → AreEmptyAtNone label (held_in held slots.now) counts.now → entries_from result.1 (held_in held result.0.now) ≡ entries_from label (held_in held slots.now) }
 {
     let block = next_block(counts, label as usize / BLOCK);
     let empty = block
@@ -119,9 +125,9 @@ impl<A: Allocator + Copy> Atoms<A> {
         ensures { result ≡ record { entries = []; next = 1 } }
     {
         Atoms {
+            held: Slab::new(alloc),
             slots: Vec::new(alloc),
             counts: Vec::new(alloc),
-            live: 0,
         }
     }
 
@@ -129,7 +135,7 @@ impl<A: Allocator + Copy> Atoms<A> {
     pub fn len(&self) -> usize
         ensures { result ≡ length self.now.entries }
     {
-        self.live
+        self.held.len()
     }
 
     /// The label that [`push_copy`](Atoms::push_copy) gives next.
@@ -145,12 +151,12 @@ impl<A: Allocator + Copy> Atoms<A> {
         ensures ok { OnOk result (self.new ≡ record { entries = self.old.entries ++ (self.old.next, atom.now) ∷ []; next = self.old.next + 1 }) }
         ensures unchanged { OnErr result (self.new ≡ self.old) }
     {
-        let alloc = *self.slots.allocator();
-        let copied = Box::new(alloc, atom.copy(alloc)?)?;
         make_room(&mut self.slots, &mut self.counts)?;
+        let slot = reserve_slot(&mut self.held)?;
+        let copied = atom.copy(*self.slots.allocator())?;
+        self.held.insert_reserved(copied);
         self.counts[(self.slots.len() + 1) / BLOCK] += 1;
-        self.slots.push_reserved(Some(copied));
-        self.live += 1;
+        self.slots.push_reserved(slot);
         Ok(())
     }
 
@@ -161,7 +167,7 @@ impl<A: Allocator + Copy> Atoms<A> {
         ensures unchanged { OnErr result (self.new ≡ self.old) }
     {
         make_room(&mut self.slots, &mut self.counts)?;
-        self.slots.push_reserved(None);
+        self.slots.push_reserved(NO_SLOT);
         Ok(())
     }
 
@@ -173,10 +179,7 @@ impl<A: Allocator + Copy> Atoms<A> {
         let Some(slot) = self.slots.get(index_of(label)) else {
             return None;
         };
-        match slot {
-            None => None,
-            Some(atom) => Some(atom),
-        }
+        self.held.get(*slot as usize)
     }
 
     /// Takes the atom under a label out. Takes no memory.
@@ -188,12 +191,12 @@ impl<A: Allocator + Copy> Atoms<A> {
         if self.slots.len() <= index {
             return None;
         }
-        let Some(atom) = self.slots[index].take() else {
+        let Some(atom) = self.held.try_remove(self.slots[index] as usize) else {
             return None;
         };
-        self.live -= 1;
+        self.slots[index] = NO_SLOT;
         self.counts[(index + 1) / BLOCK] -= 1;
-        Some(Box::into_inner(atom))
+        Some(atom)
     }
 
     /// The atoms with their labels, which rise.
@@ -203,6 +206,7 @@ impl<A: Allocator + Copy> Atoms<A> {
     {
         let (slots, label) = past_empty(&self.slots, &self.counts, 1);
         Constraints {
+            held: &self.held,
             slots,
             counts: &self.counts,
             label,
@@ -213,24 +217,28 @@ impl<A: Allocator + Copy> Atoms<A> {
     pub fn copy(&self, alloc: A) -> Result<Atoms<A>, AllocError>
         ensures { IfOk result (λ made. made ≡ self.now) }
     {
-        let mut slots = Vec::with_capacity(alloc, self.slots.len())?;
+        let mut made = Atoms {
+            held: Slab::with_capacity(alloc, self.held.len())?,
+            slots: Vec::with_capacity(alloc, self.slots.len())?,
+            counts: Vec::with_capacity(alloc, self.counts.len())?,
+        };
         for slot in &self.slots {
-            slots.push(copy_of(alloc, slot)?)?;
+            match self.held.get(*slot as usize) {
+                None => made.skip()?,
+                Some(atom) => made.push_copy(atom)?,
+            }
         }
-        let counts = Vec::from_slice(alloc, &self.counts)?;
-        Ok(Atoms {
-            slots,
-            counts,
-            live: self.live,
-        })
+        Ok(made)
     }
 }
 
 /// Constraints with their labels, which rise. Contracts see the list of those that are left.
 #[derive(Drop)]
 pub struct Constraints<'s, A: Allocator> {
-    slots: &'s [Held<A>],
-    /// How many atoms each block has, also of the slots that have been passed.
+    held: &'s Slab<Atom<A>, A>,
+    /// The slots of the labels that are left.
+    slots: &'s [u32],
+    /// How many atoms each block has, also of the labels that have been passed.
     counts: &'s [u32],
     label: Label,
 }
@@ -239,16 +247,16 @@ impl<'s, A: Allocator> Model for Constraints<'s, A> {
     ghost use Rattle.std.specs.Prelude.{◌+◌, ◌≤◌, length};
     ghost use Rattle.chr_value.specs.Stores.{Store};
     ghost use Rattle.chr_value.specs.Code.{value_codes};
-    ghost use Rattle.chr_store.specs.Table.{entries_from, held};
+    ghost use Rattle.chr_store.specs.Table.{entries_from, held_in};
     ghost use Rattle.chr_store.specs.Blocks.{AreEmptyAtNone};
 
     ghost Value = { Store };
 
     ghost coded = { Prim.hlevel value_codes };
 
-    ghost view = { λ c. entries_from c.label (held c.slots.now) };
+    ghost view = { λ c. entries_from c.label (held_in c.held.now.slots c.slots.now) };
 
-    ghost invariant = { λ c. (c.label + length c.slots.now ≤ 4294967296) × AreEmptyAtNone c.label (held c.slots.now) c.counts.now };
+    ghost invariant = { λ c. (c.label + length c.slots.now ≤ 4294967296) × AreEmptyAtNone c.label (held_in c.held.now.slots c.slots.now) c.counts.now };
 }
 
 impl<'s, A: Allocator> Iterator for Constraints<'s, A> {
@@ -264,7 +272,7 @@ impl<'s, A: Allocator> Iterator for Constraints<'s, A> {
             let (slots, next) = past_empty(others, self.counts, label + 1);
             self.slots = slots;
             self.label = next;
-            if let Some(atom) = slot {
+            if let Some(atom) = self.held.get(*slot as usize) {
                 return Some((label, atom));
             }
         }

@@ -1,13 +1,13 @@
-use Rattle.std.proofs.Common.{◌≡◌, ℕ, ◌∙◌, ◌∷◌, ◌++◌, [], List, Option, sym, ap, take, arith, get_or}
-use Rattle.std.proofs.lemmas.List.{take_more, map_push, length-map, get_or-map}
-use Rattle.chr_value.specs.Atoms.{Atom}
-use Rattle.chr_store.specs.Table.{atom_of, held}
+use Rattle.std.proofs.Common.{◌<◌, ◌∙◌, sym, ap, length, option_copied, arith}
+use Rattle.chr_store.proofs.Table.{copied_none, copied_some}
+use Rattle.chr_store.proofs.atoms.Atoms.copy.Goals.{in-None+in_ok-skip-in-None, in-Some+in_ok-push_copy-in-Some}
 use Rattle.chr_store.proofs.atoms.Atoms.copy.Goals as goal
 
 pub loop-slot-preserved : goal.loop-slot-preserved
 loop-slot-preserved g c =
     let items = c.deref-slot-items.result.now in
-    let x = atom_of c.slot-item.result in
-    let at : get_or (held items) c.loop-slot.slot-index x ≡ atom_of c.in_ok-copy_of.field-0 = get_or-map atom_of items c.loop-slot.slot-index c.slot-item.result x (omega arith) ∙ ap atom_of (sym c.slot-item.is) ∙ sym c.in_ok-copy_of.ensures in
-    ap held c.in_ok-push.ensures.items ∙ map_push atom_of c.loop-slot.slots.items c.in_ok-copy_of.field-0 ∙ ap (λ (xs : List (Option (Atom ℕ))). xs ++ atom_of c.in_ok-copy_of.field-0 ∷ []) c.loop-slot.invariant
-    ∙ sym (take_more (held items) c.loop-slot.slot-index x (omega (arith, length-map items atom_of)) ∙ ap (λ z. take c.loop-slot.slot-index (held items) ++ z ∷ []) at)
+    let inside : c.loop-slot.slot-index < length items = omega arith in
+    elim c.match-get.branch [
+      | in-None+in_ok-skip-in-None w ↦ w.made-is ∙ w.in_ok-skip-in-None.ensures.ok ∙ copied_none c.self.inside.held.slots items c.loop-slot.slot-index inside c.loop-slot.made c.loop-slot.invariant (sym c.get.ensures ∙ ap option_copied w.in-None.is)
+      | in-Some+in_ok-push_copy-in-Some w ↦ w.made-is ∙ w.in_ok-push_copy-in-Some.ensures.ok ∙ copied_some c.self.inside.held.slots items c.loop-slot.slot-index inside c.loop-slot.made c.loop-slot.invariant w.in-Some.atom.now (sym c.get.ensures ∙ ap option_copied w.in-Some.is)
+    ]

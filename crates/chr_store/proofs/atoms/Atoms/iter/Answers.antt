@@ -1,7 +1,12 @@
 use Rattle.std.proofs.Common.{arith}
-use Rattle.chr_store.specs.Table.{held}
-use Rattle.chr_store.proofs.Table.{at_most}
+use Rattle.std.proofs.lemmas.List.{length-map}
+use Rattle.chr_store.specs.Table.{atom_in, held_in}
+use Rattle.chr_store.specs.Blocks.{AreEmptyAtNone}
+use Rattle.chr_store.proofs.Table.{at_most, empty_at_none}
 use Rattle.chr_store.proofs.atoms.Atoms.iter.Goals as goal
 
 pub returns-clause-fits : goal.returns-clause-fits
-returns-clause-fits g c = rw (c.past_empty-label.ensures.same, c.deref.ensures.value) (omega (arith, at_most 1 (held c.self.inside.slots.items), c.self.invariant.0.within))
+returns-clause-fits g c =
+    let i = c.self.inside in
+    let empty : AreEmptyAtNone 1 (held_in i.held.slots c.deref.result.now) c.deref-2.result.now = rw (c.deref.ensures.value, c.deref-2.ensures.value) (empty_at_none (held_in i.held.slots i.slots.items) i.counts.items c.self.invariant.1) in
+    rw (c.past_empty-label.ensures.same i.held.slots empty, c.deref.ensures.value) (omega (arith, at_most 1 (held_in i.held.slots i.slots.items), length-map i.slots.items (atom_in i.held.slots), c.self.invariant.0.within))
