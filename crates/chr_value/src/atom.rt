@@ -19,6 +19,9 @@ use std::marker::Model;
 /// How many arguments an atom may have, and a functor.
 pub const MOST_ARGS: usize = 8;
 
+/// How many arguments lie in an atom itself.
+pub const OWN_ARGS: usize = OWN_SLOTS;
+
 /// A predicate: a name and how many arguments it takes.
 #[derive(Clone, Copy, PartialEq, Eq, Debug, Hash)]
 pub struct Pred {
@@ -177,9 +180,20 @@ impl<A: Allocator + Copy> Atom<A> {
         ensures within { IsWithin (said result) }
     {
         if index < OWN_SLOTS {
-            return value_at(self.front.at(index), &self.beside);
+            return self.own_arg_at(index);
         }
         self.further_arg_at(index)
+    }
+
+    /// An argument that lies in the atom itself, by its index: one of the first [`OWN_ARGS`].
+    #[inline(always)]
+    pub fn own_arg_at(&self, index: usize) -> ValueRef<'_, A>
+        requires own { index < 3 }
+        requires within { index < length self.now.args }
+        ensures value { Some (said result) ≡ slice_get self.now.args index }
+        ensures within { IsWithin (said result) }
+    {
+        value_at(self.front.at(index), &self.beside)
     }
 
     /// The same for an argument from the fourth on.

@@ -51,7 +51,7 @@ mod text_atom;
 mod value;
 mod writing;
 
-pub use atom::{Atom, MOST_ARGS, Pred};
+pub use atom::{Atom, MOST_ARGS, OWN_ARGS, Pred};
 pub use label::{GREATEST_LABEL, Label};
 pub use names::{MOST_NAME_BYTES, MOST_NAMES, Name, Names, NamesFault};
 pub use naming::{name_number, number_atom};
