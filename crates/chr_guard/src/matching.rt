@@ -1,5 +1,5 @@
 //! Which binding makes heads of a rule equal to atoms.
-ghost use Rattle.std.specs.Prelude.{◌≡◌, true, Some, length, map, MatchOption};
+ghost use Rattle.std.specs.Prelude.{◌≡◌, ◌<◌, ◌≤◌, true, Some, length, map, slice_get, MatchOption};
 ghost use Rattle.std.specs.List.{list_all, AllByRecursion};
 ghost use Rattle.chr_value.specs.Atoms.{ground, said};
 ghost use Rattle.chr_rule.specs.Parts.{argument, shape};
@@ -11,7 +11,7 @@ ghost use Rattle.chr_guard.specs.Matching.{AreAtHeads, HeadsAre, IsFit};
 
 use crate::binding::Binding;
 use chr_rule::{Rule, RuleAtom, Term};
-use chr_value::{Atom, Value, ValueRef};
+use chr_value::{Atom, OWN_ARGS, Value, ValueRef};
 use std::alloc::Allocator;
 
 /// Extends a binding so that a term equals a value. False only where no valuation that extends it makes them equal.
@@ -64,7 +64,58 @@ fn fit_terms<'v, A: Allocator + Copy>(
     true
 }
 
-/// The same for the arguments of a head, of which there are as many as an atom has.
+/// An argument of an atom, by its index, which is one that lies in the atom itself where `is_own` says so.
+#[inline(always)]
+fn arg_of<'v, A: Allocator + Copy>(atom: &'v Atom<A>, index: usize, is_own: bool) -> ValueRef<'v, A>
+    requires within { index < length atom.now.args }
+    requires own { is_own ≡ true → index < 3 }
+    ensures { Some (said result) ≡ slice_get atom.now.args index }
+{
+    if is_own {
+        atom.own_arg_at(index)
+    } else {
+        atom.arg_at(index)
+    }
+}
+
+/// The same for the arguments of a head, of which there are as many as an atom has, all in the atom itself where `are_own`
+/// says so.
+#[inline(always)]
+fn fit_each<'v, A: Allocator + Copy>(
+    binding: &mut Binding<'v, A>,
+    terms: &[Term<A>],
+    atom: &'v Atom<A>,
+    are_own: bool,
+) -> bool
+    requires known { list_all (argument_known (length binding.old)) (map argument terms.now) ≡ true }
+    requires arity { length terms.now ≡ length atom.now.args }
+    requires own { are_own ≡ true → length terms.now ≤ 3 }
+    ensures narrows { NarrowsIf (λ v. map (term_under v) (map argument terms.now) ≡ map (λ t. Some t) atom.now.args) result binding.old binding.new }
+    ensures keeps { Keeps binding.old binding.new }
+{
+    for i in 0..terms.len() {
+        if !fit_term(binding, &terms[i], arg_of(atom, i, are_own)) {
+            return false;
+        }
+    }
+    true
+}
+
+/// The same for many arguments, which takes a call.
+fn fit_many<'v, A: Allocator + Copy>(
+    binding: &mut Binding<'v, A>,
+    terms: &[Term<A>],
+    atom: &'v Atom<A>,
+) -> bool
+    requires known { list_all (argument_known (length binding.old)) (map argument terms.now) ≡ true }
+    requires arity { length terms.now ≡ length atom.now.args }
+    ensures narrows { NarrowsIf (λ v. map (term_under v) (map argument terms.now) ≡ map (λ t. Some t) atom.now.args) result binding.old binding.new }
+    ensures keeps { Keeps binding.old binding.new }
+{
+    fit_each(binding, terms, atom, false)
+}
+
+/// The same for any arguments. Most atoms have few, which lie in them.
 #[inline(always)]
 fn fit_args<'v, A: Allocator + Copy>(
     binding: &mut Binding<'v, A>,
@@ -76,12 +127,11 @@ fn fit_args<'v, A: Allocator + Copy>(
     ensures narrows { NarrowsIf (λ v. map (term_under v) (map argument terms.now) ≡ map (λ t. Some t) atom.now.args) result binding.old binding.new }
     ensures keeps { Keeps binding.old binding.new }
 {
-    for i in 0..terms.len() {
-        if !fit_term(binding, &terms[i], atom.arg_at(i)) {
-            return false;
-        }
+    if terms.len() <= OWN_ARGS {
+        fit_each(binding, terms, atom, true)
+    } else {
+        fit_many(binding, terms, atom)
     }
-    true
 }
 
 /// Extends a binding so that a head equals an atom of its predicate, as [`fit_head`] does, without a look at the predicate.

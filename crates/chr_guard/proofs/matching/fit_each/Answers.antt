@@ -6,7 +6,7 @@ use Rattle.chr_rule.specs.Scope.{argument_known}
 use Rattle.chr_guard.specs.Values.{term_under}
 use Rattle.chr_guard.proofs.Steps.{known_read, read_more, read_stop, read_end}
 use Rattle.chr_guard.proofs.Bindings.{keeps_both, narrows_keeps}
-use Rattle.chr_guard.proofs.matching.fit_args.Goals as goal
+use Rattle.chr_guard.proofs.matching.fit_each.Goals as goal
 
 pub fit_term-requires : goal.fit_term-requires
 fit_term-requires g c =
@@ -15,15 +15,15 @@ fit_term-requires g c =
 pub returns-then-not-fit_term-clause-narrows : goal.returns-then-not-fit_term-clause-narrows
 returns-then-not-fit_term-clause-narrows g c =
     let values = c.args.atom.now.args in
-    let value = said c.arg_at.result in
-    let there : value ≡ get_or values c.loop-i.i value = sym (get_or_from_slice_get values c.loop-i.i value value (sym c.arg_at.ensures.value)) in
+    let value = said c.arg_of.result in
+    let there : value ≡ get_or values c.loop-i.i value = sym (get_or_from_slice_get values c.loop-i.i value value (sym c.arg_of.ensures)) in
     read_stop term_under argument (λ t. Some t) c.args.terms.now values c.loop-i.i c.index-terms-i.result value c.loop-i-test.true (omega arith) c.index-terms-i.is there c.args.binding.now c.loop-i.binding c.loop-i.invariant (c.if-not-fit_term.ensures.narrows)
 
 pub loop-i-preserved : goal.loop-i-preserved
 loop-i-preserved g c =
     let values = c.args.atom.now.args in
-    let value = said c.arg_at.result in
-    let there : value ≡ get_or values c.loop-i.i value = sym (get_or_from_slice_get values c.loop-i.i value value (sym c.arg_at.ensures.value)) in
+    let value = said c.arg_of.result in
+    let there : value ≡ get_or values c.loop-i.i value = sym (get_or_from_slice_get values c.loop-i.i value value (sym c.arg_of.ensures)) in
     read_more term_under argument (λ t. Some t) c.args.terms.now values c.loop-i.i c.index-terms-i.result value c.loop-i-test.true (omega arith) c.index-terms-i.is there c.args.binding.now c.loop-i.binding c.fit_term.new.binding c.loop-i.invariant (c.if-not-fit_term.ensures.narrows)
 
 pub returns-clause-narrows : goal.returns-clause-narrows
