@@ -32,7 +32,6 @@ use Rattle.chr_value.proofs.value.Value.TheLaws.TheKnot as value
 use Rattle.chr_value.proofs.names.Names.TheSendSync as names
 use Rattle.chr_plan.proofs.plans.Plans.TheSendSync as plans
 use Rattle.chr_store.proofs.buckets.Buckets.TheSendSync as buckets
-use Rattle.chr_store.proofs.chosen.Chosen.TheSendSync as chosen
 use Rattle.chr_tickets.specs.contracts.ticket.Ticket as Ticket
 use Rattle.chr_tickets.specs.contracts.tickets.Tickets as Tickets
 use Rattle.chr_book.specs.contracts.book.Book as Book
@@ -112,7 +111,7 @@ module _ (A : RattleType) (g : Ghosts A.Denot) where
   pub Store-send : IsSend A → Frees g g.dealloc_token → IsSend (Store.the_row A g)
   Store-send s f =
       let a = Atoms-send s f in
-      let i = fields-send (InsideStore.the_type A g) (search (basis, a) fits 5000 depth 40, (search (basis, buckets.the_field_send) fits 5000 depth 40, (search (basis, chosen.the_send) fits 5000 depth 40, (s, (search sendable, tt))))) in
+      let i = fields-send (InsideStore.the_type A g) (search (basis, a) fits 5000 depth 40, (search (basis, buckets.the_field_send) fits 5000 depth 40, (s, (search sendable, tt)))) in
       search (basis, i) fits 5000 depth 40
 
   pub Trial-send : IsSend A → IsSync A → Frees g g.dealloc_token → IsSend (Trial.the_row A g)

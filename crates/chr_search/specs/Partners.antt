@@ -10,7 +10,7 @@ use Rattle.chr_guard.specs.Matching.{IsFit}
 use Rattle.chr_plan.specs.Orders.{heads_of, IsPlan}
 use Rattle.chr_plan.specs.declared.order.Step.{Step}
 use Rattle.chr_model.specs.Stores.{Distinct}
-use Rattle.chr_store.specs.Buckets.{IsLeastBetween}
+use Rattle.chr_index.specs.Buckets.{IsLeastBetween}
 use Rattle.chr_store.specs.Keys.{key_of}
 use Rattle.chr_search.specs.declared.join.Asked.{Asked}
 use Rattle.chr_search.specs.Tree.{Least, NoneBeyond, LeastFrom, NoneFrom}

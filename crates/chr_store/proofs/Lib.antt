@@ -1,6 +1,7 @@
+pub mod KeyLaws
 pub mod Table
 pub mod Walks
-pub mod Slots
-pub mod Stored
 pub mod Marks
+pub mod Stored
+pub mod Keeping
 pub mod Views

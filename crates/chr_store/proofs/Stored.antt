@@ -13,13 +13,13 @@ use Rattle.chr_store.specs.declared.buckets.Buckets.{Buckets}
 use Rattle.chr_store.specs.Labels.{LabelledStore, GivenAtoms, Rising, GivenBefore}
 use Rattle.chr_store.specs.Keys.{arg_at, HasPred, HasKey, Query, key_of, IsLeastMatch}
 use Rattle.chr_store.specs.Indexed.{IsIndexed, LabelHas, IsLeastWith}
-use Rattle.chr_store.specs.Buckets.{drop_number, IsIn, IsLeastBetween}
+use Rattle.chr_index.specs.Buckets.{drop_number, IsIn, IsLeastBetween}
 use Rattle.chr_store.specs.Index.{own_key, Places, chosen, is_constant, key_value, key_value_at, fits, pred_of, IsKeyAt, is_value, same_key}
-use Rattle.chr_store.specs.KeyLabels.{labels_in, labels_of, reached, IsChanged, IsIndexOf}
+use Rattle.chr_store.specs.KeyLabels.{labels_in, labels_with, reached, IsChanged, IsIndexOf}
 use Rattle.chr_store.proofs.Table.{drop_absent}
-use Rattle.chr_store.proofs.Slots.{drop_absent as number_absent, pushed_back, all_map}
+use Rattle.chr_index.proofs.Slots.{drop_absent as number_absent, pushed_back, all_map}
 use Rattle.chr_store.proofs.Walks.{above}
-use Rattle.chr_store.specs.KeyLaws.{same_key_true, same_key_refl, same_value_true, same_value_refl, same_parts}
+use Rattle.chr_store.proofs.KeyLaws.{same_key_true, same_key_refl, same_value_true, same_value_refl, same_parts}
 
 -- ---- an atom's own keys
 
@@ -77,7 +77,7 @@ abbrev pred_from : ℕ → ℕ → Pred
 pred_from n m = record { name = record { number = n }; arity = m }
 
 -- the pred of a key that fits is the atom's
-pred_one : (p q : Pred) → p.name.number ≡ q.name.number → p.arity ≡ q.arity → p ≡ q
+pub pred_one : (p q : Pred) → p.name.number ≡ q.name.number → p.arity ≡ q.arity → p ≡ q
 pred_one p q e f = ap (λ (z : ℕ). pred_from z p.arity) e ∙ ap (λ (z : ℕ). pred_from q.name.number z) f
 
 pub touched_same : {A : Type 0} (f : List ℕ → List ℕ) (places : Places) (a : Atom ℕ) (n : ℕ) (pred : Pred) (old cur : Buckets A) → pred.name.number ≡ a.name → pred.arity ≡ length a.args → chosen places pred n ≡ false → IsChanged f places a n old cur → IsChanged f places a (n + 1) old cur
@@ -123,18 +123,18 @@ key_value_of a (suc i) v u h = ap (option_map key_value) h
 
 -- ---- the labels of a key, one atom more or fewer
 
-pub labels_all : (P : ℕ → Type 0) (k : Key) (es : Store) → AllByRecursion (λ e. P e.0) es → AllByRecursion P (labels_of k es)
+pub labels_all : (P : ℕ → Type 0) (k : Key) (es : Store) → AllByRecursion (λ e. P e.0) es → AllByRecursion P (labels_with k es)
 labels_all P k [] h = tt
-labels_all P k (e ∷ es) h = elim (fits k e.1) as (λ b. AllByRecursion P (if b then e.0 ∷ labels_of k es else labels_of k es)) [ true ↦ (h.0, labels_all P k es h.1) | false ↦ labels_all P k es h.1 ]
+labels_all P k (e ∷ es) h = elim (fits k e.1) as (λ b. AllByRecursion P (if b then e.0 ∷ labels_with k es else labels_with k es)) [ true ↦ (h.0, labels_all P k es h.1) | false ↦ labels_all P k es h.1 ]
 
 -- a change of the labels that leaves the first one, which may have the key
 first_kept : (F : List ℕ → List ℕ) (f g : Bool) (m : ℕ) (new old : List ℕ) → F (m ∷ old) ≡ m ∷ F old → new ≡ (if g then F old else old)
     → (if f then m ∷ new else new) ≡ (if g then F (if f then m ∷ old else old) else (if f then m ∷ old else old))
 first_kept F f g m new old same e = grind arith
 
-pub labels_push : (k : Key) (n : ℕ) (a : Atom ℕ) (es : Store) → labels_of k (es ++ (n, a) ∷ []) ≡ (if fits k a then labels_of k es ++ n ∷ [] else labels_of k es)
+pub labels_push : (k : Key) (n : ℕ) (a : Atom ℕ) (es : Store) → labels_with k (es ++ (n, a) ∷ []) ≡ (if fits k a then labels_with k es ++ n ∷ [] else labels_with k es)
 labels_push k n a [] = refl
-labels_push k n a (e ∷ es) = first_kept (λ ms. ms ++ n ∷ []) (fits k e.1) (fits k a) e.0 (labels_of k (es ++ (n, a) ∷ [])) (labels_of k es) refl (labels_push k n a es)
+labels_push k n a (e ∷ es) = first_kept (λ ms. ms ++ n ∷ []) (fits k e.1) (fits k a) e.0 (labels_with k (es ++ (n, a) ∷ [])) (labels_with k es) refl (labels_push k n a es)
 
 apart_above : (l : ℕ) (ms : List ℕ) → AllByRecursion (λ m. l < m) ms → AllByRecursion (λ m. m ≡ l → ⊥) ms
 apart_above l ms h = all_map (λ m. l < m) (λ m. m ≡ l → ⊥) ms (λ m u e. absurd (omega arith)) h
@@ -142,16 +142,16 @@ apart_above l ms h = all_map (λ m. l < m) (λ m. m ≡ l → ⊥) ms (λ m u e.
 first_goes : (l m : ℕ) (f g : Bool) (ms : List ℕ) → (m == l) ≡ true → f ≡ g → drop_number l ms ≡ ms → ms ≡ (if g then drop_number l (if f then m ∷ ms else ms) else (if f then m ∷ ms else ms))
 first_goes l m f g ms here fit none = grind (arith, nat_tests)
 
-pub labels_drop : (k : Key) (l : ℕ) (a : Atom ℕ) (es : Store) → Rising es → atom_at es l ≡ Some a → labels_of k (drop_label l es) ≡ (if fits k a then drop_number l (labels_of k es) else labels_of k es)
+pub labels_drop : (k : Key) (l : ℕ) (a : Atom ℕ) (es : Store) → Rising es → atom_at es l ≡ Some a → labels_with k (drop_label l es) ≡ (if fits k a then drop_number l (labels_with k es) else labels_with k es)
 labels_drop k l a [] r h = let z : None ≡ Some a = h in absurd (cc)
 labels_drop k l a (e ∷ es) r h = elim (cases_eq e.0 l) [
   | inl same ↦
       let here : (e.0 == l) ≡ true = eq-eqb e.0 l same in
       let up = subst (λ z. AllByRecursion (λ f. z < f.0) es) same r.0 in
-      rw (here, drop_absent l es up) (first_goes l e.0 (fits k e.1) (fits k a) (labels_of k es) here (ap (fits k) (some_one e.1 a (rw here at h))) (number_absent l (labels_of k es) (apart_above l (labels_of k es) (labels_all (λ m. l < m) k es up))))
+      rw (here, drop_absent l es up) (first_goes l e.0 (fits k e.1) (fits k a) (labels_with k es) here (ap (fits k) (some_one e.1 a (rw here at h))) (number_absent l (labels_with k es) (apart_above l (labels_with k es) (labels_all (λ m. l < m) k es up))))
   | inr differ ↦
       let other : (e.0 == l) ≡ false = false_from_ne_true (e.0 == l) (λ t. differ (eqb-true e.0 l t)) in
-      rw other (first_kept (drop_number l) (fits k e.1) (fits k a) e.0 (labels_of k (drop_label l es)) (labels_of k es) (rw other) (labels_drop k l a es r.1 (rw other at h)))
+      rw other (first_kept (drop_number l) (fits k e.1) (fits k a) e.0 (labels_with k (drop_label l es)) (labels_with k es) (rw other) (labels_drop k l a es r.1 (rw other at h)))
 ]
 
 -- ---- the index of no atoms
@@ -164,6 +164,13 @@ indexed_none limit places m fits empty = record {
   labelled = record { rising = tt; given = tt; first = omega arith; within = omega arith; limit = fits };
   index = kept_none places m empty;
 }
+
+-- the places that the labels are kept with
+pub indexed_by : {A : Type 0} (s : LabelledStore) (places own : Places) (m : Buckets A) → own ≡ places → IsIndexed s places m → IsIndexed s own m
+indexed_by s places own m e h = subst (λ (z : Places). IsIndexed s z m) (sym e) h
+
+pub changed_by : {A : Type 0} (f : List ℕ → List ℕ) (places own : Places) (a : Atom ℕ) (n : ℕ) (old new : Buckets A) → own ≡ places → IsChanged f own a n old new → IsChanged f places a n old new
+changed_by f places own a n old new e h = subst (λ (z : Places). IsChanged f z a n old new) e h
 
 -- ---- the index, one atom more or fewer
 
@@ -180,19 +187,19 @@ part_reached : (places : Places) (a : Atom ℕ) (n : ℕ) (k : Key) → (chosen 
 part_reached places a n k h = ap (λ (b : Bool). b && nat_lt k.place n) h
 
 pub kept_push : {A : Type 0} (places : Places) (n : ℕ) (a : Atom ℕ) (es : Store) (old new : Buckets A) → IsIndexOf places es old → IsChanged (λ ms. ms ++ n ∷ []) places a (length a.args + 1) old new → IsIndexOf places (es ++ (n, a) ∷ []) new
-kept_push places n a es old new h t = λ k. t k ∙ ap (λ (b : Bool). if b then labels_in old k ++ n ∷ [] else labels_in old k) (all_reached places a k) ∙ subst (λ (z : List ℕ). (if chosen places (pred_of k) k.place && fits k a then z ++ n ∷ [] else z) ≡ (if chosen places (pred_of k) k.place then labels_of k (es ++ (n, a) ∷ []) else [])) (sym (h k)) (elim (chosen places (pred_of k) k.place) as (λ b. (if b && fits k a then (if b then labels_of k es else []) ++ n ∷ [] else (if b then labels_of k es else [])) ≡ (if b then labels_of k (es ++ (n, a) ∷ []) else [])) [
+kept_push places n a es old new h t = λ k. t k ∙ ap (λ (b : Bool). if b then labels_in old k ++ n ∷ [] else labels_in old k) (all_reached places a k) ∙ subst (λ (z : List ℕ). (if chosen places (pred_of k) k.place && fits k a then z ++ n ∷ [] else z) ≡ (if chosen places (pred_of k) k.place then labels_with k (es ++ (n, a) ∷ []) else [])) (sym (h k)) (elim (chosen places (pred_of k) k.place) as (λ b. (if b && fits k a then (if b then labels_with k es else []) ++ n ∷ [] else (if b then labels_with k es else [])) ≡ (if b then labels_with k (es ++ (n, a) ∷ []) else [])) [
   | true ↦ sym (labels_push k n a es)
   | false ↦ refl
 ])
 
 pub kept_drop : {A : Type 0} (places : Places) (l : ℕ) (a : Atom ℕ) (es : Store) (old new : Buckets A) → Rising es → atom_at es l ≡ Some a → IsIndexOf places es old → IsChanged (drop_number l) places a (length a.args + 1) old new → IsIndexOf places (drop_label l es) new
-kept_drop places l a es old new r at h t = λ k. t k ∙ ap (λ (b : Bool). if b then drop_number l (labels_in old k) else labels_in old k) (all_reached places a k) ∙ subst (λ (z : List ℕ). (if chosen places (pred_of k) k.place && fits k a then drop_number l z else z) ≡ (if chosen places (pred_of k) k.place then labels_of k (drop_label l es) else [])) (sym (h k)) (elim (chosen places (pred_of k) k.place) as (λ b. (if b && fits k a then drop_number l (if b then labels_of k es else []) else (if b then labels_of k es else [])) ≡ (if b then labels_of k (drop_label l es) else [])) [
+kept_drop places l a es old new r at h t = λ k. t k ∙ ap (λ (b : Bool). if b then drop_number l (labels_in old k) else labels_in old k) (all_reached places a k) ∙ subst (λ (z : List ℕ). (if chosen places (pred_of k) k.place && fits k a then drop_number l z else z) ≡ (if chosen places (pred_of k) k.place then labels_with k (drop_label l es) else [])) (sym (h k)) (elim (chosen places (pred_of k) k.place) as (λ b. (if b && fits k a then drop_number l (if b then labels_with k es else []) else (if b then labels_with k es else [])) ≡ (if b then labels_with k (drop_label l es) else [])) [
   | true ↦ sym (labels_drop k l a es r at)
   | false ↦ refl
 ])
 
 pub kept_under : {A : Type 0} (places : Places) (n : ℕ) (es : Store) (m : Buckets A) → AllByRecursion (λ e. e.0 < n) es → IsIndexOf places es m → (k : Key) → AllByRecursion (λ l. l < n) (labels_in m k)
-kept_under places n es m g h k = subst (AllByRecursion (λ l. l < n)) (sym (h k)) (elim (chosen places (pred_of k) k.place) as (λ b. AllByRecursion (λ l. l < n) (if b then labels_of k es else [])) [ true ↦ labels_all (λ l. l < n) k es g | false ↦ tt ])
+kept_under places n es m g h k = subst (AllByRecursion (λ l. l < n)) (sym (h k)) (elim (chosen places (pred_of k) k.place) as (λ b. AllByRecursion (λ l. l < n) (if b then labels_with k es else [])) [ true ↦ labels_all (λ l. l < n) k es g | false ↦ tt ])
 
 pub kept_below : {A : Type 0} (places : Places) (n : ℕ) (es : Store) (m : Buckets A) → GivenBefore n es → IsIndexOf places es m → (k : Key) → AllByRecursion (λ l. l < n) (labels_in m k)
 kept_below places n es m g = kept_under places n es m (all_map (λ e. (1 ≤ e.0) × (e.0 < n)) (λ e. e.0 < n) es (λ e h. h.1) g)
@@ -213,10 +220,10 @@ pub record Under (k : Key) (es : Store) (l : ℕ) : Type 0 where
   pub there : atom_at es l ≡ Some atom
   pub fit : fits k atom ≡ true
 
-pub under_is_in : (k : Key) (es : Store) (l : ℕ) → Rising es → IsIn l (labels_of k es) → Under k es l
+pub under_is_in : (k : Key) (es : Store) (l : ℕ) → Rising es → IsIn l (labels_with k es) → Under k es l
 under_is_in k [] l r h = absurd h
 under_is_in k (e ∷ es) l r h =
-    elim (fits k e.1) as (λ b. (fits k e.1 ≡ b) → IsIn l (if b then e.0 ∷ labels_of k es else labels_of k es) → Under k (e ∷ es) l) [
+    elim (fits k e.1) as (λ b. (fits k e.1 ≡ b) → IsIn l (if b then e.0 ∷ labels_with k es else labels_with k es) → Under k (e ∷ es) l) [
       | true ↦ λ t st. elim st [
         | inl same ↦ record { atom = e.1; there = ap (λ (b : Bool). if b then Some e.1 else atom_at es l) (eq-eqb e.0 l same); fit = t }
         | inr more ↦ later (under_is_in k es l r.1 more)
@@ -227,12 +234,12 @@ under_is_in k (e ∷ es) l r h =
     later : Under k es l → Under k (e ∷ es) l
     later u = record { atom = u.atom; there = (let lt : e.0 < l = above e.0 es l u.atom r.0 u.there in grind (arith, nat_tests, u.there)); fit = u.fit }
 
-pub is_in_under : (k : Key) (es : Store) (l : ℕ) (a : Atom ℕ) → atom_at es l ≡ Some a → fits k a ≡ true → IsIn l (labels_of k es)
+pub is_in_under : (k : Key) (es : Store) (l : ℕ) (a : Atom ℕ) → atom_at es l ≡ Some a → fits k a ≡ true → IsIn l (labels_with k es)
 is_in_under k [] l a h f = let z : None ≡ Some a = h in absurd (cc)
 is_in_under k (e ∷ es) l a h f =
-    elim (e.0 == l) as (λ b. (e.0 == l ≡ b) → (if b then Some e.1 else atom_at es l) ≡ Some a → IsIn l (if fits k e.1 then e.0 ∷ labels_of k es else labels_of k es)) [
-      | true ↦ λ t at. let atom : e.1 ≡ a = cc in subst (λ (b : Bool). IsIn l (if b then e.0 ∷ labels_of k es else labels_of k es)) (sym (ap (fits k) atom ∙ f)) (inl (true-eqb e.0 l (sym t)))
-      | false ↦ λ t at. elim (fits k e.1) as (λ b. IsIn l (if b then e.0 ∷ labels_of k es else labels_of k es)) [ true ↦ inr (is_in_under k es l a at f) | false ↦ is_in_under k es l a at f ]
+    elim (e.0 == l) as (λ b. (e.0 == l ≡ b) → (if b then Some e.1 else atom_at es l) ≡ Some a → IsIn l (if fits k e.1 then e.0 ∷ labels_with k es else labels_with k es)) [
+      | true ↦ λ t at. let atom : e.1 ≡ a = cc in subst (λ (b : Bool). IsIn l (if b then e.0 ∷ labels_with k es else labels_with k es)) (sym (ap (fits k) atom ∙ f)) (inl (true-eqb e.0 l (sym t)))
+      | false ↦ λ t at. elim (fits k e.1) as (λ b. IsIn l (if b then e.0 ∷ labels_with k es else labels_with k es)) [ true ↦ inr (is_in_under k es l a at f) | false ↦ is_in_under k es l a at f ]
     ] refl h
 
 -- a key says what a query asks
@@ -240,7 +247,7 @@ pub record Asks (k : Key) (q : Query) : Type 0 where
   pub met : (a : Atom ℕ) → fits k a ≡ true → HasPred q.pred a × HasKey q.key a
   pub fit : (a : Atom ℕ) → HasPred q.pred a → HasKey q.key a → fits k a ≡ true
 
-pub least_meets : (es : Store) (q : Query) (k : Key) (found : Option ℕ) → Rising es → Asks k q → IsLeastBetween (labels_of k es) q.after q.below found → IsLeastMatch es q found
+pub least_meets : (es : Store) (q : Query) (k : Key) (found : Option ℕ) → Rising es → Asks k q → IsLeastBetween (labels_with k es) q.after q.below found → IsLeastMatch es q found
 least_meets es q k None r asks h = λ l m. h l (is_in_under k es l m.atom m.there (asks.fit m.atom m.pred m.key)) m.over m.under
 least_meets es q k (Some l) r asks h =
     let u = under_is_in k es l r h.0 in
@@ -303,7 +310,7 @@ same_asked {A} s t pred key given after below found e f h =
     (subst (λ (z : Option (ℕ × ValueRef A)). IsLeastMatch s.entries (asked pred (key_of z) after below) found) (sym f) h)
 
 -- the labels of a key of the predicate, among which those of each atom with the value are
-least_with : (es : Store) (k : Key) (n : ℕ) (v : Value ℕ) (after below : ℕ) (found : Option ℕ) → Rising es → ((a : Atom ℕ) → HasPred (pred_of k) a → arg_at a n ≡ Some v → fits k a ≡ true) → IsLeastWith es n v (labels_of k es) after below found → IsLeastMatch es (asked (pred_of k) (Some (n, v)) after below) found
+least_with : (es : Store) (k : Key) (n : ℕ) (v : Value ℕ) (after below : ℕ) (found : Option ℕ) → Rising es → ((a : Atom ℕ) → HasPred (pred_of k) a → arg_at a n ≡ Some v → fits k a ≡ true) → IsLeastWith es n v (labels_with k es) after below found → IsLeastMatch es (asked (pred_of k) (Some (n, v)) after below) found
 least_with es k n v after below None r fit h = λ l m. h l (is_in_under k es l m.atom m.there (fit m.atom m.pred m.key)) m.over m.under (record { atom = m.atom; there = m.there; has = m.key })
 least_with es k n v after below (Some l) r fit h =
     let u = under_is_in k es l r h.there in
@@ -314,8 +321,8 @@ least_with es k n v after below (Some l) r fit h =
 
 module _ {A : Type 0} (s : LabelledStore) (places : Places) (b : Buckets A) (h : IsIndexed s places b) (pred : Pred) (after below : ℕ) (found : Option ℕ) where
   -- the labels of a key of a chosen place
-  key_labels : (k kk : Key) → k ≡ kk → chosen places (pred_of kk) kk.place ≡ true → labels_in b k ≡ labels_of kk s.entries
-  key_labels k kk is there = ap (labels_in b) is ∙ h.index kk ∙ ap (λ (z : Bool). if z then labels_of kk s.entries else []) there
+  key_labels : (k kk : Key) → k ≡ kk → chosen places (pred_of kk) kk.place ≡ true → labels_in b k ≡ labels_with kk s.entries
+  key_labels k kk is there = ap (labels_in b) is ∙ h.index kk ∙ ap (λ (z : Bool). if z then labels_with kk s.entries else []) there
 
   -- a look-up of the predicate alone
   pub found_own : (k : Key) → k ≡ own_key pred → IsLeastBetween (labels_in b k) after below found → IsLeastMatch s.entries (asked pred None after below) found
@@ -377,3 +384,8 @@ before_all l a (e ∷ es) rest h = (first e.0 es h.0, before_all l a es rest h.1
     first : (k : ℕ) (es : Store) → AllByRecursion (λ f. k < f.0) (es ++ (l, a) ∷ rest) → k < l
     first k [] h = h.0
     first k (f ∷ es) h = first k es h.1
+
+-- a label among those given
+pub given_at : (n l : ℕ) (a : Atom ℕ) (es rest : Store) → GivenBefore n (es ++ (l, a) ∷ rest) → l < n
+given_at n l a [] rest h = h.0.1
+given_at n l a (e ∷ es) rest h = given_at n l a es rest h.1

@@ -1,7 +1,6 @@
 -- A label in a rising store, an atom's argument at a place, and what a look-up gives.
-use Rattle.std.proofs.Common.{◌≡◌, ℕ, ◌<◌, true, false, ◌==◌, if◌then◌else◌, List, [], ◌∷◌, Some, None, refl, sym, subst, true-eqb, ltb, length, slice_index_or, ltb-true}
-use Rattle.std.specs.List.{AllByRecursion, slice_get}
-use Rattle.std.proofs.lemmas.Option.{slice_get_read}
+use Rattle.std.proofs.Common.{◌≡◌, ℕ, ◌<◌, true, false, ◌==◌, if◌then◌else◌, [], ◌∷◌, Some, None, refl, sym, subst, true-eqb}
+use Rattle.std.specs.List.{AllByRecursion}
 use Rattle.chr_value.specs.Atoms.{Atom}
 use Rattle.chr_value.specs.Stores.{Store, atom_at}
 
@@ -13,6 +12,3 @@ above l (e ∷ es) m a h at =
       | true ↦ λ t _. subst (λ z. l < z) (true-eqb e.0 m (sym t)) h.0
       | false ↦ λ t k. above l es m a h.1 k
     ] refl at
-
-pub get_there : {A : Type 0} (xs : List A) (i : ℕ) (x : A) → true ≡ ltb i (length xs) → x ≡ slice_index_or xs i x → slice_get xs i ≡ Some x
-get_there xs i x t e = slice_get_read xs (length xs) i x refl (ltb-true i (length xs) (sym t)) e

@@ -1,12 +1,11 @@
 -- Keys, by which atoms are found.
-use Rattle.std.specs.Prelude.{◌≡◌, ℕ, zero, suc, ◌+◌, ◌*◌, ◌&&◌, ◌++◌, Bool, true, false, List, length, Option, Some, None, pos, nat_eq, slice_get}
+use Rattle.std.specs.Prelude.{◌≡◌, ℕ, zero, suc, ◌&&◌, Bool, true, false, List, length, Option, Some, None, pos, nat_eq, slice_get}
 use Rattle.std.specs.Option.{option_map}
 use Rattle.std.specs.Ordering.{int_eq}
-use Rattle.std.specs.List.{list_any}
-use Rattle.std.specs.Hash as fed
+use Rattle.std.specs.List.{list_any, position_from}
 use Rattle.chr_value.specs.Atoms.{Value, Int, Sym, Comp, Atom}
 use Rattle.chr_value.specs.declared.atom.Pred.{Pred}
-use Rattle.chr_store.specs.KeyParts.{Key, KeyValue, word_of}
+use Rattle.chr_store.specs.KeyParts.{Key, KeyValue}
 use Rattle.chr_store.specs.KeyParts as keyed
 use Rattle.chr_store.specs.Digests.{digest_after}
 
@@ -26,6 +25,14 @@ pred_of k = record { name = k.name; arity = k.arity }
 abbrev pub chosen : Places → Pred → ℕ → Bool
 chosen places pred zero = true
 chosen places pred (suc i) = list_any (λ p. is_pred p.0 pred && nat_eq p.1 (suc i)) places
+
+-- the number of a chosen place, which the place 0 has none of
+abbrev pub is_place : Pred → ℕ → Pred × ℕ → Bool
+is_place pred place p = is_pred p.0 pred && nat_eq p.1 place
+
+abbrev pub number_of : Places → Pred → ℕ → Option ℕ
+number_of places pred zero = None
+number_of places pred (suc i) = position_from (is_place pred (suc i)) 0 places
 
 -- a number or a symbol
 abbrev pub is_constant : Value ℕ → Bool
@@ -86,10 +93,3 @@ abbrev pub fits : Key → Atom ℕ → Bool
 fits k a =
     (nat_eq k.name.number a.name && nat_eq k.arity (length a.args))
     && is_value k.value (key_value_at a k.place)
-
--- what a key is hashed by: a word of its predicate and its place, and that of its value
-abbrev pub key_word : Key → ℕ
-key_word k = k.name.number * 65536 + k.arity * 256 + k.place
-
-abbrev pub key_input : Key → List (List ℕ)
-key_input k = fed.u64 (key_word k) ++ fed.u64 (word_of k.value)

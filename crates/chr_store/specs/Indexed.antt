@@ -5,7 +5,7 @@ use Rattle.chr_store.specs.Labels.{LabelledStore, IsLabelled}
 use Rattle.chr_value.specs.Atoms.{Value, Atom}
 use Rattle.chr_value.specs.Stores.{Store, atom_at}
 use Rattle.chr_store.specs.Keys.{arg_at}
-use Rattle.chr_store.specs.Buckets.{IsIn}
+use Rattle.chr_index.specs.Buckets.{IsIn}
 use Rattle.chr_store.specs.Index.{Places}
 use Rattle.chr_store.specs.KeyLabels.{IsIndexOf}
 

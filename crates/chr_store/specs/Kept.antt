@@ -1,15 +1,9 @@
--- The labels of a key, in each way that they are kept or gone through.
+-- The labels of a key, in each way that they are kept.
 use Rattle.std.specs.Prelude.{ℕ, List, [], ◌∷◌}
 use Rattle.chr_store.specs.declared.labels.Kept.{Kept}
 use Rattle.chr_store.specs.declared.labels.Kept.TheVariants as ways
-use Rattle.chr_store.specs.declared.labels.Walk.{Walk}
-use Rattle.chr_store.specs.declared.labels.Walk.TheVariants as walks
 
 abbrev pub kept_labels : {A : Type 0} → Kept A → List ℕ
 kept_labels ways.None = []
 kept_labels (ways.One label) = label ∷ []
 kept_labels (ways.Many bucket) = bucket.value
-
-abbrev pub walked_labels : Walk → List ℕ
-walked_labels (walks.One label) = label ∷ []
-walked_labels (walks.Many run) = run

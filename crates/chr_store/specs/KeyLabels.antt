@@ -1,37 +1,56 @@
--- The labels of each key, in a table and a map, and what an index has under each.
-use Rattle.std.specs.Prelude.{◌≡◌, ℕ, ◌&&◌, if◌then◌else◌, Bool, List, [], ◌∷◌, ◌++◌, Option, Some, None, Result, OnOk, OnErr, nat_lt, slice_index_or}
-use Rattle.std.specs.Option.{unwrap_or}
-use Rattle.std.specs.HashMap.{HashMap, get}
+-- The labels of each key, in a table and in indexes, and what there is under each.
+use Rattle.std.specs.Prelude.{◌≡◌, ℕ, zero, suc, ◌+◌, ◌*◌, ◌&&◌, if◌then◌else◌, Bool, List, [], ◌∷◌, Option, Some, None, nat_lt, slice_index_or}
 use Rattle.chr_value.specs.Atoms.{Atom}
 use Rattle.chr_value.specs.Stores.{Store}
-use Rattle.chr_store.specs.KeyParts.{Key}
+use Rattle.chr_index.specs.declared.table.Key.{Key as IndexKey}
+use Rattle.chr_index.specs.Indexed.{Indexed, labels_of}
+use Rattle.chr_value.specs.declared.atom.Pred.{Pred}
+use Rattle.chr_store.specs.KeyParts.{Key, KeyValue, Sym, value_of, kind_of, word_of}
 use Rattle.chr_store.specs.declared.buckets.Buckets.{Buckets}
-use Rattle.chr_store.specs.Index.{Places, chosen, fits, same_key, pred_of}
-use Rattle.chr_store.specs.Rows.{row_of_key}
+use Rattle.chr_store.specs.Index.{Places, chosen, fits, is_own, number_of, pred_of, same_value}
+use Rattle.chr_store.specs.Rows.{row_of}
 
--- the labels that a map has under a key
-abbrev pub mapped : {S : Type 0} → HashMap Key (List ℕ) S → Key → List ℕ
-mapped m k = unwrap_or (get same_key m k) []
+-- the key of a value in an index of its place, and the labels there, where 64 bits can say the value
+abbrev pub index_key : KeyValue → IndexKey
+index_key v = record { word = word_of v; kind = kind_of v }
+
+abbrev pub is_word : KeyValue → Bool
+is_word v = same_value v (value_of (kind_of v) (word_of v))
+
+abbrev pub value_labels : Indexed → KeyValue → List ℕ
+value_labels i v = if is_word v then labels_of i (index_key v) else []
+
+-- the labels in the index with a number, past the last one none
+abbrev pub index_at : List Indexed → ℕ → KeyValue → List ℕ
+index_at [] n v = []
+index_at (i ∷ is) zero v = value_labels i v
+index_at (i ∷ is) (suc n) v = index_at is n v
+
+abbrev pub place_labels : List Indexed → KeyValue → Option ℕ → List ℕ
+place_labels indexes v None = []
+place_labels indexes v (Some n) = index_at indexes n v
 
 -- the labels in a row of a table, past its end none
 abbrev pub row_at : List (List ℕ) → ℕ → List ℕ
 row_at rows i = slice_index_or rows i []
 
--- the labels under a key: in a table where it has a row, and else in a map
-abbrev pub found_in : {S : Type 0} → List (List ℕ) → HashMap Key (List ℕ) S → Key → Option ℕ →
-    List ℕ
-found_in rows m k None = mapped m k
-found_in rows m k (Some row) = row_at rows row
+-- the labels of a predicate that has no row
+abbrev pub other_key : Pred → KeyValue
+other_key pred = Sym (pred.name.number * 256 + pred.arity)
 
+abbrev pub other_labels : Indexed → Pred → List ℕ
+other_labels i pred = if nat_lt pred.arity 256 then value_labels i (other_key pred) else []
+
+-- the labels of a predicate: in a table where it has a row, and else in an index
+abbrev pub pred_labels : List (List ℕ) → Indexed → Pred → Option ℕ → List ℕ
+pred_labels rows others pred None = other_labels others pred
+pred_labels rows others pred (Some row) = row_at rows row
+
+-- the labels under a key
 abbrev pub labels_in : {A : Type 0} → Buckets A → Key → List ℕ
-labels_in b k = found_in b.rows.items b.map k (row_of_key k)
-
--- what a call answered that puts a label after those of a key: it is there, or the labels are as
--- before
-abbrev pub IsPut : {X E : Type 0} → Result X E → Key → ℕ → (Key → List ℕ) → (Key → List ℕ) → Type 0
-IsPut r key label old new =
-    OnOk r ((k : Key) → new k ≡ (if same_key key k then old key ++ label ∷ [] else old k))
-    × OnErr r ((k : Key) → new k ≡ old k)
+labels_in b k =
+    if is_own k then pred_labels b.rows.items b.others (pred_of k) (row_of (pred_of k))
+    else place_labels b.indexes.items k.value (number_of b.places (pred_of k) k.place)
 
 -- a key of the atom at a chosen place below n
 abbrev pub reached : Places → Atom ℕ → ℕ → Key → Bool
@@ -45,11 +64,11 @@ IsChanged f places a n old new =
     labels_in new k ≡ (if reached places a n k then f (labels_in old k) else labels_in old k)
 
 -- the labels of the atoms that have a key
-abbrev pub labels_of : Key → Store → List ℕ
-labels_of k [] = []
-labels_of k (e ∷ es) = if fits k e.1 then e.0 ∷ labels_of k es else labels_of k es
+abbrev pub labels_with : Key → Store → List ℕ
+labels_with k [] = []
+labels_with k (e ∷ es) = if fits k e.1 then e.0 ∷ labels_with k es else labels_with k es
 
 -- under each key of a chosen place are exactly the labels of its atoms, once each and rising
 abbrev pub IsIndexOf : {A : Type 0} → Places → Store → Buckets A → Type 0
 IsIndexOf places es b =
-    (k : Key) → labels_in b k ≡ (if chosen places (pred_of k) k.place then labels_of k es else [])
+    (k : Key) → labels_in b k ≡ (if chosen places (pred_of k) k.place then labels_with k es else [])

@@ -2,8 +2,8 @@
 use Rattle.std.specs.Prelude.{ℕ, ℤ}
 use Rattle.std.specs.Int.{w64, cast_signed, cast_unsigned}
 use Rattle.chr_value.specs.declared.names.Name.{Name}
-use Rattle.chr_store.specs.declared.keys.Kind.{Kind}
-use Rattle.chr_store.specs.declared.keys.Kind.TheVariants as kinds
+use Rattle.chr_index.specs.declared.table.Kind.{Kind}
+use Rattle.chr_index.specs.declared.table.Kind.TheVariants as kinds
 
 -- a number or a symbol, or the digest of a compound value, which others may have too
 pub data KeyValue : Type 0 where

@@ -3,7 +3,6 @@ pub mod Table
 pub mod Blocks
 pub mod Keys
 pub mod Faults
-pub mod Buckets
 pub mod Kept
 pub mod Digests
 pub mod KeyParts
@@ -11,6 +10,5 @@ pub mod Index
 pub mod Rows
 pub mod KeyLabels
 pub mod Marks
-pub mod KeyLaws
 pub mod Indexed
 pub mod Views

@@ -1,8 +1,9 @@
 -- A table of marks, which tells the places of predicates.
-use Rattle.std.specs.Prelude.{◌≡◌, ℕ, zero, suc, ◌+◌, ◌*◌, ◌<◌, ◌&&◌, ◌||◌, Bool, false, List, [], ◌∷◌, nat_eq}
-use Rattle.std.specs.List.{list_any}
+use Rattle.std.specs.Prelude.{◌≡◌, ℕ, zero, suc, ◌+◌, ◌*◌, ◌<◌, ◌&&◌, if◌then◌else◌, List, [], ◌∷◌, Option, Some, None, nat_eq}
+use Rattle.std.specs.List.{position_from}
+use Rattle.std.specs.Option.{option_or}
 use Rattle.chr_value.specs.declared.atom.Pred.{Pred}
-use Rattle.chr_store.specs.Index.{Places, is_pred}
+use Rattle.chr_store.specs.Index.{Places, is_pred, number_of}
 
 -- the index of the mark of a place
 pub record IsMarkOf (pred : Pred) (place i : ℕ) : Type 0 where
@@ -12,23 +13,24 @@ pub record IsMarkOf (pred : Pred) (place i : ℕ) : Type 0 where
   pub index : i ≡ pred.name.number * 81 + pred.arity * 9 + place
 
 -- the mark at an index, past the end none
-abbrev pub mark_at : List Bool → ℕ → Bool
-mark_at [] i = false
+abbrev pub mark_at : List (Option ℕ) → ℕ → Option ℕ
+mark_at [] i = None
 mark_at (m ∷ ms) zero = m
 mark_at (m ∷ ms) (suc i) = mark_at ms i
 
--- marks are as before, but for that of the place, which is set
-abbrev pub IsMarked : Pred → ℕ → List Bool → List Bool → Type 0
-IsMarked pred place old new =
+-- marks are as before, but for that of the place, which is set where it was none
+abbrev pub IsMarked : Pred → ℕ → ℕ → List (Option ℕ) → List (Option ℕ) → Type 0
+IsMarked pred place number old new =
     (p : Pred) (n i : ℕ) → IsMarkOf p n i →
-    mark_at new i ≡ ((is_pred pred p && nat_eq place n) || mark_at old i)
+    mark_at new i
+    ≡ option_or (mark_at old i) (if is_pred pred p && nat_eq place n then Some number else None)
 
--- the place of the predicate is one of these; the place 0 stands for each of the predicate's
-abbrev pub listed : Places → Pred → ℕ → Bool
-listed places pred zero = list_any (λ p. is_pred p.0 pred) places
-listed places pred (suc i) = list_any (λ p. is_pred p.0 pred && nat_eq p.1 (suc i)) places
+-- the number of a place, and at the place 0 that of the predicate's first one
+abbrev pub first_of : Places → Pred → ℕ → Option ℕ
+first_of places pred zero = position_from (λ p. is_pred p.0 pred) 0 places
+first_of places pred (suc i) = number_of places pred (suc i)
 
--- marks tell which places are listed
-abbrev pub AreMarks : List Bool → Places → Type 0
+-- marks tell the numbers of places
+abbrev pub AreMarks : List (Option ℕ) → Places → Type 0
 AreMarks marks places =
-    (pred : Pred) (place i : ℕ) → IsMarkOf pred place i → mark_at marks i ≡ listed places pred place
+    (pred : Pred) (place i : ℕ) → IsMarkOf pred place i → mark_at marks i ≡ first_of places pred place

@@ -1,8 +1,6 @@
 -- The rows that predicates have in tables.
 use Rattle.std.specs.Prelude.{ℕ, ◌+◌, ◌*◌, ◌&&◌, if◌then◌else◌, Option, Some, None, nat_lt}
 use Rattle.chr_value.specs.declared.atom.Pred.{Pred}
-use Rattle.chr_store.specs.KeyParts.{Key}
-use Rattle.chr_store.specs.Index.{is_own, pred_of}
 
 -- the row of a predicate whose name's number is low; nine rows a name, one for each number of
 -- arguments
@@ -10,7 +8,3 @@ abbrev pub row_of : Pred → Option ℕ
 row_of pred =
     if nat_lt pred.name.number 1024 && nat_lt pred.arity 9
     then Some (pred.name.number * 9 + pred.arity) else None
-
--- the row of a key, which that of a predicate alone may have
-abbrev pub row_of_key : Key → Option ℕ
-row_of_key k = if is_own k then row_of (pred_of k) else None

@@ -1,61 +1,69 @@
 //! The labels of each key.
-ghost use Rattle.std.specs.Prelude.{◌≡◌, ℕ, ◌+◌, ◌<◌, ◌++◌, ◌∷◌, [], OnOk, OnErr, length, if◌then◌else◌, nat_eq};
+ghost use Rattle.std.specs.Prelude.{◌≡◌, ℕ, ◌+◌, ◌<◌, ◌≤◌, ◌&&◌, ◌++◌, ◌∷◌, [], true, IfSome, Some, OnOk, OnErr, length, if◌then◌else◌, nat_eq};
 ghost use Rattle.std.specs.List.{AllByRecursion};
-ghost use Rattle.std.specs.Option.{option_copied, unwrap_or};
-ghost use Rattle.chr_store.specs.KeyParts.{Key};
-ghost use Rattle.chr_store.specs.Buckets.{drop_number, IsLeastBetween};
-ghost use Rattle.chr_store.specs.Index.{same_key};
-ghost use Rattle.chr_store.specs.KeyLabels.{IsPut, labels_in, mapped, row_at, IsChanged};
+ghost use Rattle.chr_value.specs.Stores.{greatest_label};
+ghost use Rattle.chr_index.specs.Buckets.{drop_number};
+ghost use Rattle.chr_store.specs.KeyParts.{Key, KeyValue};
+ghost use Rattle.chr_store.specs.Index.{chosen, is_pred, number_of, own_key, pred_of, same_key, same_value};
+ghost use Rattle.chr_store.specs.KeyLabels.{labels_in, row_at, index_at, other_labels, IsChanged};
 
 use crate::chosen::Chosen;
-use crate::keys::{Key, key_at, own_key};
-use crate::labels::{Labels, Matches};
-use crate::rows::row_of_key;
-use chr_value::Atom;
+use crate::keys::{Key, key_at, other_key};
+use crate::labels::Labels;
+use crate::rows::row_of;
+use chr_index::{Index, Matches};
+use chr_value::{Atom, Label, Pred};
 use std::alloc::{AllocError, Allocator};
-use std::collections::HashMap;
-use std::hash::{BuildHasherDefault, FoldHasher};
 
-/// Labels under keys, which are found by a hash.
-type Mapped<A> = HashMap<Key, Labels<A>, BuildHasherDefault<FoldHasher>, A>;
-
-/// The labels of each key. Those of a predicate alone stand in a row of a table, where its name's number is low.
+/// The labels of each key: those of a predicate alone in a row of a table, where its name's number is low, and those of a
+/// value in the index of its place.
 #[derive(Drop)]
 pub struct Buckets<A: Allocator> {
+    pub places: Chosen<A>,
     rows: Vec<Labels<A>, A>,
-    map: Mapped<A>,
+    others: Index<A>,
+    indexes: Vec<Index<A>, A>,
 }
 
 impl<A: Allocator + Copy> Buckets<A> {
-    /// No labels under any key. Takes no memory.
-    pub fn new(alloc: A) -> Buckets<A>
-        ensures { (k : Key) → labels_in result k ≡ [] }
+    /// No labels under any key, with an index for each of these places. Takes no memory.
+    pub fn new(alloc: A, places: Chosen<A>) -> Buckets<A>
+        ensures none { (k : Key) → labels_in result k ≡ [] }
+        ensures places { result.places ≡ places }
     {
         Buckets {
+            places,
             rows: Vec::new(alloc),
-            map: HashMap::new(alloc),
+            others: Index::new(alloc),
+            indexes: Vec::new(alloc),
         }
     }
 
-    /// The labels of a key. Where there are none, that may be none or an empty list.
+    /// The labels of a predicate, to go through.
     #[inline(always)]
-    fn get(&self, key: &Key) -> Option<&Labels<A>>
-        ensures { unwrap_or (option_copied result) [] ≡ labels_in self.now key.now }
+    pub fn of_pred(&self, pred: Pred) -> Matches<'_>
+        ensures { result ≡ labels_in self.now (own_key pred) }
     {
-        match row_of_key(key) {
-            None => self.map.get(key),
-            Some(row) => self.rows.get(row),
-        }
-    }
-
-    /// The labels of a key, to go through.
-    #[inline(always)]
-    pub fn matches(&self, key: &Key) -> Matches<'_>
-        ensures { result ≡ labels_in self.now key.now }
-    {
-        match self.get(key) {
+        let Some(row) = row_of(pred) else {
+            return self.others.matches(other_key(pred));
+        };
+        match self.rows.get(row) {
             None => Matches::none(),
             Some(labels) => labels.matches(),
+        }
+    }
+
+    /// The labels of a key of a chosen place, to go through. None where the place isn't chosen, or is 0.
+    #[inline(always)]
+    pub fn at_place(&self, key: &Key) -> Option<Matches<'_>>
+        ensures { IfSome result (λ labels. (labels ≡ labels_in self.now key.now) × (0 < key.now.place) × (chosen self.now.places (pred_of key.now) key.now.place ≡ true)) }
+    {
+        let Some(number) = self.places.number(key.pred(), key.place()) else {
+            return None;
+        };
+        match self.indexes.get(number) {
+            None => Some(Matches::none()),
+            Some(index) => Some(index.matches(key.in_index())),
         }
     }
 }
@@ -76,7 +84,7 @@ fn put_in_row<A: Allocator + Copy>(
     rows: &mut Vec<Labels<A>, A>,
     alloc: A,
     row: usize,
-    label: u64,
+    label: Label,
 ) -> Result<(), AllocError>
     requires { AllByRecursion (λ m. m < label) (row_at rows.old.items row) }
     ensures ok { OnOk result ((i : ℕ) → row_at rows.new.items i ≡ (if nat_eq row i then row_at rows.old.items row ++ label ∷ [] else row_at rows.old.items i)) }
@@ -87,7 +95,7 @@ fn put_in_row<A: Allocator + Copy>(
 }
 
 /// Takes a label from those of a row.
-fn take_from_row<A: Allocator + Copy>(rows: &mut Vec<Labels<A>, A>, row: usize, label: u64)
+fn take_from_row<A: Allocator + Copy>(rows: &mut Vec<Labels<A>, A>, row: usize, label: Label)
     ensures { (i : ℕ) → row_at rows.new.items i ≡ (if nat_eq row i then drop_number label (row_at rows.old.items row) else row_at rows.old.items i) }
 {
     if row < rows.len() {
@@ -95,64 +103,133 @@ fn take_from_row<A: Allocator + Copy>(rows: &mut Vec<Labels<A>, A>, row: usize, 
     }
 }
 
-/// Puts a label after those of a key. E01 where its labels or the map could not grow: the labels are as before.
-#[inline(never)]
-fn put_in_map<A: Allocator + Copy>(
-    map: &mut Mapped<A>,
+/// Makes indexes up to the one with a number. E01 where that could not be.
+fn make_index<A: Allocator + Copy>(
+    indexes: &mut Vec<Index<A>, A>,
     alloc: A,
-    key: Key,
-    label: u64,
+    number: usize,
 ) -> Result<(), AllocError>
-    requires { AllByRecursion (λ m. m < label) (mapped map.old key) }
-    ensures { IsPut result key label (mapped map.old) (mapped map.new) }
+    ensures same { (n : ℕ) (v : KeyValue) → index_at indexes.new.items n v ≡ index_at indexes.old.items n v }
+    ensures made { OnOk result (number < length indexes.new.items) }
 {
-    map.entry(key)?.or_insert(Labels::new()).push(alloc, label)
+    while indexes.len() <= number {
+        indexes.push(Index::new(alloc))?;
+    }
+    Ok(())
 }
 
-/// Takes a label from those of a key.
-#[inline(never)]
-fn take_from_map<A: Allocator + Copy>(map: &mut Mapped<A>, key: Key, label: u64)
-    ensures { (k : Key) → mapped map.new k ≡ (if same_key key k then drop_number label (mapped map.old key) else mapped map.old k) }
+/// Puts a label after those of a key's value in the index with a number. E01 where that could not grow: the labels are as
+/// before.
+fn put_in_index<A: Allocator + Copy>(
+    indexes: &mut Vec<Index<A>, A>,
+    alloc: A,
+    number: usize,
+    key: &Key,
+    label: Label,
+) -> Result<(), AllocError>
+    requires below { AllByRecursion (λ m. m < label) (index_at indexes.old.items number key.now.value) }
+    requires fits { label ≤ greatest_label }
+    ensures ok { OnOk result ((n : ℕ) (v : KeyValue) → index_at indexes.new.items n v ≡ (if nat_eq number n && same_value key.now.value v then index_at indexes.old.items number key.now.value ++ label ∷ [] else index_at indexes.old.items n v)) }
+    ensures unchanged { OnErr result ((n : ℕ) (v : KeyValue) → index_at indexes.new.items n v ≡ index_at indexes.old.items n v) }
 {
-    let bare = match map.get_mut(&key) {
-        None => false,
-        Some(labels) => {
-            labels.remove(label);
-            labels.is_bare()
-        }
-    };
-    if bare {
-        let _ = map.remove(&key);
+    make_index(indexes, alloc, number)?;
+    indexes[number].put(key.in_index(), label)
+}
+
+/// Takes a label from those of a key's value in the index with a number.
+fn take_from_index<A: Allocator + Copy>(
+    indexes: &mut Vec<Index<A>, A>,
+    number: usize,
+    key: &Key,
+    label: Label,
+)
+    ensures { (n : ℕ) (v : KeyValue) → index_at indexes.new.items n v ≡ (if nat_eq number n && same_value key.now.value v then drop_number label (index_at indexes.old.items number key.now.value) else index_at indexes.old.items n v) }
+{
+    if number < indexes.len() {
+        indexes[number].take(key.in_index(), label);
     }
 }
 
-/// Puts a label after those of a key. E01 where the labels could not grow, which are then as before.
+/// Puts a label after those of a predicate without a row. E01 where that could not be: the labels are as before.
+#[inline(never)]
+fn put_in_others<A: Allocator + Copy>(
+    others: &mut Index<A>,
+    pred: Pred,
+    label: Label,
+) -> Result<(), AllocError>
+    requires below { AllByRecursion (λ m. m < label) (other_labels others.old pred) }
+    requires fits { label ≤ greatest_label }
+    ensures ok { OnOk result ((p : Pred) → other_labels others.new p ≡ (if is_pred pred p then other_labels others.old pred ++ label ∷ [] else other_labels others.old p)) }
+    ensures unchanged { OnErr result ((p : Pred) → other_labels others.new p ≡ other_labels others.old p) }
+{
+    others.put(other_key(pred), label)
+}
+
+/// Takes a label from those of a predicate without a row.
+#[inline(never)]
+fn take_from_others<A: Allocator + Copy>(others: &mut Index<A>, pred: Pred, label: Label)
+    ensures { (p : Pred) → other_labels others.new p ≡ (if is_pred pred p then drop_number label (other_labels others.old pred) else other_labels others.old p) }
+{
+    others.take(other_key(pred), label);
+}
+
+/// Puts a label after those of a predicate. E01 where they could not grow, which are then as before.
 #[inline(always)]
-pub fn put<A: Allocator + Copy>(
+fn put_own<A: Allocator + Copy>(
     buckets: &mut Buckets<A>,
     alloc: A,
-    key: Key,
-    label: u64,
+    pred: Pred,
+    label: Label,
 ) -> Result<(), AllocError>
-    requires { AllByRecursion (λ m. m < label) (labels_in buckets.old key) }
-    ensures ok { OnOk result ((k : Key) → labels_in buckets.new k ≡ (if same_key key k then labels_in buckets.old key ++ label ∷ [] else labels_in buckets.old k)) }
+    requires below { AllByRecursion (λ m. m < label) (labels_in buckets.old (own_key pred)) }
+    requires fits { label ≤ greatest_label }
+    ensures ok { OnOk result ((k : Key) → labels_in buckets.new k ≡ (if same_key (own_key pred) k then labels_in buckets.old (own_key pred) ++ label ∷ [] else labels_in buckets.old k)) }
     ensures unchanged { OnErr result ((k : Key) → labels_in buckets.new k ≡ labels_in buckets.old k) }
+    ensures places { buckets.new.places ≡ buckets.old.places }
 {
-    match row_of_key(&key) {
-        None => put_in_map(&mut buckets.map, alloc, key, label),
+    match row_of(pred) {
+        None => put_in_others(&mut buckets.others, pred, label),
         Some(row) => put_in_row(&mut buckets.rows, alloc, row, label),
     }
 }
 
-/// Takes a label from those of a key. Takes no memory.
+/// Takes a label from those of a predicate. Takes no memory.
 #[inline(always)]
-pub fn take<A: Allocator + Copy>(buckets: &mut Buckets<A>, key: Key, label: u64)
-    ensures { (k : Key) → labels_in buckets.new k ≡ (if same_key key k then drop_number label (labels_in buckets.old key) else labels_in buckets.old k) }
+fn take_own<A: Allocator + Copy>(buckets: &mut Buckets<A>, pred: Pred, label: Label)
+    ensures labels { (k : Key) → labels_in buckets.new k ≡ (if same_key (own_key pred) k then drop_number label (labels_in buckets.old (own_key pred)) else labels_in buckets.old k) }
+    ensures places { buckets.new.places ≡ buckets.old.places }
 {
-    match row_of_key(&key) {
-        None => take_from_map(&mut buckets.map, key, label),
+    match row_of(pred) {
+        None => take_from_others(&mut buckets.others, pred, label),
         Some(row) => take_from_row(&mut buckets.rows, row, label),
     }
+}
+
+/// Puts a label after those of a key of a chosen place. E01 where they could not grow, which are then as before.
+fn put_at<A: Allocator + Copy>(
+    buckets: &mut Buckets<A>,
+    alloc: A,
+    number: usize,
+    key: &Key,
+    label: Label,
+) -> Result<(), AllocError>
+    requires there { number_of buckets.old.places (pred_of key.now) key.now.place ≡ Some number }
+    requires below { AllByRecursion (λ m. m < label) (labels_in buckets.old key.now) }
+    requires fits { label ≤ greatest_label }
+    ensures ok { OnOk result ((k : Key) → labels_in buckets.new k ≡ (if same_key key.now k then labels_in buckets.old key.now ++ label ∷ [] else labels_in buckets.old k)) }
+    ensures unchanged { OnErr result ((k : Key) → labels_in buckets.new k ≡ labels_in buckets.old k) }
+    ensures places { buckets.new.places ≡ buckets.old.places }
+{
+    put_in_index(&mut buckets.indexes, alloc, number, key, label)
+}
+
+/// Takes a label from those of a key of a chosen place. Takes no memory.
+fn take_at<A: Allocator + Copy>(buckets: &mut Buckets<A>, number: usize, key: &Key, label: Label)
+    requires { number_of buckets.old.places (pred_of key.now) key.now.place ≡ Some number }
+    ensures labels { (k : Key) → labels_in buckets.new k ≡ (if same_key key.now k then drop_number label (labels_in buckets.old key.now) else labels_in buckets.old k) }
+    ensures places { buckets.new.places ≡ buckets.old.places }
+{
+    take_from_index(&mut buckets.indexes, number, key, label);
 }
 
 /// Puts a label after those of each key of an atom at a chosen place. Where that could not grow, the keys of the places
@@ -160,58 +237,43 @@ pub fn take<A: Allocator + Copy>(buckets: &mut Buckets<A>, key: Key, label: u64)
 pub fn enter<A: Allocator + Copy>(
     buckets: &mut Buckets<A>,
     alloc: A,
-    places: &Chosen<A>,
     atom: &Atom<A>,
-    label: u64,
+    label: Label,
 ) -> Result<(), AllocError>
-    requires { (k : Key) → AllByRecursion (λ m. m < label) (labels_in buckets.old k) }
-    ensures ok { OnOk result (IsChanged (λ ms. ms ++ label ∷ []) places.now atom.now (length atom.now.args + 1) buckets.old buckets.new) }
-    ensures part { OnErr result ((n : ℕ) × IsChanged (λ ms. ms ++ label ∷ []) places.now atom.now n buckets.old buckets.new) }
+    requires below { (k : Key) → AllByRecursion (λ m. m < label) (labels_in buckets.old k) }
+    requires fits { label ≤ greatest_label }
+    ensures ok { OnOk result (IsChanged (λ ms. ms ++ label ∷ []) buckets.old.places atom.now (length atom.now.args + 1) buckets.old buckets.new) }
+    ensures part { OnErr result ((n : ℕ) × IsChanged (λ ms. ms ++ label ∷ []) buckets.old.places atom.now n buckets.old buckets.new) }
+    ensures places { buckets.new.places ≡ buckets.old.places }
 {
     let pred = atom.pred();
-    put(buckets, alloc, own_key(pred), label)?;
-    if !places.may_have(pred) {
+    put_own(buckets, alloc, pred, label)?;
+    if !buckets.places.may_have(pred) {
         return Ok(());
     }
     let end = atom.arity() as u8 + 1;
     for place in 1..end {
-        if places.has(pred, place) {
-            put(buckets, alloc, key_at(atom, place), label)?;
+        if let Some(number) = buckets.places.number(pred, place) {
+            put_at(buckets, alloc, number, &key_at(atom, place), label)?;
         }
     }
     Ok(())
 }
 
 /// Takes a label from those of each key of an atom at a chosen place. Takes no memory.
-pub fn leave<A: Allocator + Copy>(
-    buckets: &mut Buckets<A>,
-    places: &Chosen<A>,
-    atom: &Atom<A>,
-    label: u64,
-)
-    ensures { IsChanged (drop_number label) places.now atom.now (length atom.now.args + 1) buckets.old buckets.new }
+pub fn leave<A: Allocator + Copy>(buckets: &mut Buckets<A>, atom: &Atom<A>, label: Label)
+    ensures changed { IsChanged (drop_number label) buckets.old.places atom.now (length atom.now.args + 1) buckets.old buckets.new }
+    ensures places { buckets.new.places ≡ buckets.old.places }
 {
     let pred = atom.pred();
-    take(buckets, own_key(pred), label);
-    if !places.may_have(pred) {
+    take_own(buckets, pred, label);
+    if !buckets.places.may_have(pred) {
         return;
     }
     let end = atom.arity() as u8 + 1;
     for place in 1..end {
-        if places.has(pred, place) {
-            take(buckets, key_at(atom, place), label);
+        if let Some(number) = buckets.places.number(pred, place) {
+            take_at(buckets, number, &key_at(atom, place), label);
         }
     }
-}
-
-/// The least label of a key over `after` and under `below`.
-pub fn next_of<A: Allocator + Copy>(
-    buckets: &Buckets<A>,
-    key: Key,
-    after: u64,
-    below: u64,
-) -> Option<u64>
-    ensures { IsLeastBetween (labels_in buckets.now key) after below result }
-{
-    buckets.matches(&key).next_at(after, below)
 }

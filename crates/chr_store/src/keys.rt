@@ -1,25 +1,18 @@
 //! The keys of atoms.
-ghost use Rattle.std.specs.Prelude.{◌≡◌, ◌<◌, ◌≤◌, length};
+ghost use Rattle.std.specs.Prelude.{◌≡◌, ◌<◌, ◌≤◌, length, true};
 ghost use Rattle.chr_value.specs.Atoms.{ground, ground_comp, said};
 ghost use Rattle.chr_store.specs.Digests.{mixed, digest_after};
-ghost use Rattle.chr_store.specs.Index.{IsKeyAt, is_constant, is_own, key_value, own_key, pred_of};
+ghost use Rattle.chr_store.specs.Index.{IsKeyAt, is_constant, key_value, own_key, pred_of};
 ghost use Rattle.chr_store.specs.KeyParts.{value_of};
+ghost use Rattle.chr_store.specs.KeyLabels.{index_key, is_word, other_key};
 
+use chr_index::{Key as IndexKey, Kind};
 use chr_value::{Atom, Comp, Name, Pred, Value, ValueRef};
 use std::alloc::Allocator;
-use std::hash::{Hash, Hasher};
 use std::marker::Model;
 
 /// By how much a digest is multiplied before the next word is added.
 const FACTOR: u64 = 0x9e37_79b9_7f4a_7c15;
-
-/// What the word of a key is: a number or a symbol, or the digest of a compound value, which others may have too.
-#[derive(Clone, Copy, PartialEq, Eq)]
-enum Kind {
-    Int,
-    Sym,
-    Digest,
-}
 
 /// What atoms are found by: a predicate, and what stands for a value at a place. At the place 0 that is the number 0. The
 /// value's word lies apart from its kind, so that a key takes 16 bytes. Contracts see what the two stand for.
@@ -102,52 +95,24 @@ impl Key {
         }
     }
 
-    /// Whether it is the key of a predicate alone.
+    /// The place.
     #[inline(always)]
-    pub fn is_own(&self) -> bool
-        ensures { result ≡ is_own self.now }
+    pub fn place(&self) -> u8
+        ensures { result ≡ self.now.place }
     {
-        self.place == 0 && self.kind == Kind::Int && self.word == 0
+        self.place
     }
-}
 
-impl PartialEq for Key {
-    ghost use Rattle.chr_store.specs.Index.{same_key};
-    ghost use Rattle.chr_store.specs.KeyLaws.{same_key_equiv};
-    ghost use Rattle.std.specs.Cmp.{partial_equiv_from_equiv};
-
-    ghost eq = { same_key };
-
-    ghost laws = { partial_equiv_from_equiv same_key_equiv };
-
-    fn eq(&self, other: &Key) -> bool {
-        self.name.number == other.name.number
-            && self.arity == other.arity
-            && self.place == other.place
-            && self.kind == other.kind
-            && self.word == other.word
-    }
-}
-
-impl Eq for Key {
-    ghost use Rattle.chr_store.specs.KeyLaws.{same_key_equiv};
-
-    ghost laws = { same_key_equiv };
-}
-
-impl Hash for Key {
-    ghost use Rattle.chr_store.specs.Index.{key_input};
-    ghost use Rattle.chr_store.specs.KeyLaws.{same_input};
-
-    ghost hash_input = { key_input };
-
-    ghost respects_eq = { same_input };
-
-    fn hash<H: Hasher>(&self, state: &mut H) {
-        state.write_u64(
-            self.name.number as u64 * 65536 + self.arity as u64 * 256 + self.place as u64,
-        );
-        state.write_u64(self.word);
+    /// What stands for the value in an index of the place.
+    #[inline(always)]
+    pub fn in_index(&self) -> IndexKey
+        ensures key { result ≡ index_key self.now.value }
+        ensures word { is_word self.now.value ≡ true }
+    {
+        IndexKey {
+            word: self.word,
+            kind: self.kind,
+        }
     }
 }
 
@@ -173,6 +138,18 @@ pub fn own_key(pred: Pred) -> Key
         arity: pred.arity,
         place: 0,
         kind: Kind::Int,
+    }
+}
+
+/// What stands for a predicate in an index of predicates.
+#[inline(always)]
+pub fn other_key(pred: Pred) -> IndexKey
+    ensures key { result ≡ index_key (other_key pred) }
+    ensures few { pred.arity < 256 }
+{
+    IndexKey {
+        word: u64::from(pred.name.number) * 256 + u64::from(pred.arity),
+        kind: Kind::Sym,
     }
 }
 

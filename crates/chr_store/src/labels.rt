@@ -1,9 +1,10 @@
 //! The labels of one key, where one alone takes no memory.
-ghost use Rattle.std.specs.Prelude.{◌≡◌, ◌<◌, ◌≤◌, ◌++◌, ◌∷◌, [], OnOk, OnErr, IsTrue, length};
+ghost use Rattle.std.specs.Prelude.{◌≡◌, ◌<◌, ◌++◌, ◌∷◌, [], OnOk, OnErr, IsTrue};
 ghost use Rattle.std.specs.List.{AllByRecursion};
-ghost use Rattle.chr_store.specs.Buckets.{drop_number, IsLeastBetween};
+ghost use Rattle.chr_index.specs.Buckets.{drop_number};
 
-use crate::bucket::{Bucket, Run};
+use chr_index::{Bucket, Matches};
+use chr_value::Label;
 use std::alloc::{AllocError, Allocator};
 use std::marker::Model;
 
@@ -11,7 +12,7 @@ use std::marker::Model;
 #[derive(Drop)]
 pub(crate) enum Kept<A: Allocator> {
     None,
-    One(u64),
+    One(Label),
     Many(Box<Bucket<A>, A>),
 }
 
@@ -50,7 +51,7 @@ impl<A: Allocator + Copy> Labels<A> {
     }
 
     /// One label more, above the others. E01 where they could not grow, and are then unchanged.
-    pub fn push(&mut self, alloc: A, label: u64) -> Result<(), AllocError>
+    pub fn push(&mut self, alloc: A, label: Label) -> Result<(), AllocError>
         requires { AllByRecursion (λ m. m < label) self.old }
         ensures ok { OnOk result (self.new ≡ self.old ++ label ∷ []) }
         ensures unchanged { OnErr result (self.new ≡ self.old) }
@@ -72,7 +73,7 @@ impl<A: Allocator + Copy> Labels<A> {
     }
 
     /// Takes a label out, where it is there. Takes no memory.
-    pub fn remove(&mut self, label: u64)
+    pub fn remove(&mut self, label: Label)
         ensures { self.new ≡ drop_number label self.old }
     {
         match &mut self.kept {
@@ -91,78 +92,10 @@ impl<A: Allocator + Copy> Labels<A> {
     pub fn matches(&self) -> Matches<'_>
         ensures { result ≡ self.now }
     {
-        let walk = match &self.kept {
-            Kept::None => Walk::Many(Run::none()),
-            Kept::One(only) => Walk::One(*only),
-            Kept::Many(bucket) => Walk::Many(bucket.run()),
-        };
-        Matches { walk }
-    }
-}
-
-/// A label, where it is over `after` and under `below`.
-#[inline(always)]
-fn next_alone(only: u64, after: u64, below: u64) -> Option<u64>
-    ensures { IsLeastBetween (only ∷ []) after below result }
-{
-    if after < only && only < below {
-        Some(only)
-    } else {
-        None
-    }
-}
-
-/// How labels are gone through.
-#[derive(Drop)]
-enum Walk<'s> {
-    One(u64),
-    Many(Run<'s>),
-}
-
-/// The labels of a key, to go through. Contracts see the list of them.
-#[derive(Drop)]
-pub struct Matches<'s> {
-    walk: Walk<'s>,
-}
-
-impl<'s> Model for Matches<'s> {
-    ghost use Rattle.std.specs.Prelude.{ℕ, List};
-    ghost use Rattle.chr_store.specs.Kept.{walked_labels};
-
-    ghost Value = { List ℕ };
-
-    ghost view = { λ m. walked_labels m.walk };
-}
-
-impl<'s> Matches<'s> {
-    /// No labels.
-    pub fn none() -> Matches<'s>
-        ensures { result ≡ [] }
-    {
-        Matches {
-            walk: Walk::Many(Run::none()),
-        }
-    }
-
-    /// An upper bound on how many there are: those that were taken out may be counted too.
-    pub fn most(&self) -> usize
-        ensures { length self.now ≤ result }
-    {
-        match &self.walk {
-            Walk::One(_) => 1,
-            Walk::Many(run) => run.most(),
-        }
-    }
-
-    /// The least label over `after` and under `below`. It takes no search where `after` is the one found last.
-    #[inline(always)]
-    pub fn next_at(&mut self, after: u64, below: u64) -> Option<u64>
-        ensures least { IsLeastBetween self.old after below result }
-        ensures same { self.new ≡ self.old }
-    {
-        match &mut self.walk {
-            Walk::One(only) => next_alone(*only, after, below),
-            Walk::Many(run) => run.next_at(after, below),
+        match &self.kept {
+            Kept::None => Matches::none(),
+            Kept::One(only) => Matches::one(*only),
+            Kept::Many(bucket) => Matches::of(bucket),
         }
     }
 }

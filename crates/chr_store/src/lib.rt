@@ -27,7 +27,6 @@
 #![tactic(auto)]
 
 mod atoms;
-mod bucket;
 mod buckets;
 mod chosen;
 mod keys;
@@ -36,6 +35,6 @@ mod rows;
 mod store;
 mod view;
 
-pub use labels::Matches;
+pub use chr_index::Matches;
 pub use store::{Label, Store, StoreFault};
 pub use view::View;

@@ -1,8 +1,7 @@
 //! The rows that predicates have in tables, which are found without a hash.
 ghost use Rattle.std.specs.Prelude.{◌≡◌};
-ghost use Rattle.chr_store.specs.Rows.{row_of, row_of_key};
+ghost use Rattle.chr_store.specs.Rows.{row_of};
 
-use crate::keys::Key;
 use chr_value::Pred;
 
 /// How many names have rows: those with the lowest numbers. A table has no more than this many times [`ARITIES`].
@@ -19,18 +18,6 @@ pub fn row_of(pred: Pred) -> Option<usize>
     let arity = pred.arity as usize;
     if pred.name.number < NAMES && arity < ARITIES {
         Some(pred.name.number as usize * ARITIES + arity)
-    } else {
-        None
-    }
-}
-
-/// The row of a key, which that of a predicate alone may have.
-#[inline(always)]
-pub fn row_of_key(key: &Key) -> Option<usize>
-    ensures { result ≡ row_of_key key.now }
-{
-    if key.is_own() {
-        row_of(key.pred())
     } else {
         None
     }

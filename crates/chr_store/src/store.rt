@@ -6,7 +6,7 @@ ghost use Rattle.std.specs.Map.Iter.{TakesFirst};
 ghost use Rattle.chr_value.specs.Atoms.{Atom, said};
 ghost use Rattle.chr_value.specs.Stores.{atom_at, drop_label, greatest_label};
 ghost use Rattle.chr_store.specs.Labels.{IsLabelled, spent};
-ghost use Rattle.chr_store.specs.Buckets.{IsLeastBetween};
+ghost use Rattle.chr_index.specs.Buckets.{IsLeastBetween};
 ghost use Rattle.chr_store.specs.Keys.{arg_at, key_of, IsLeastMatch};
 ghost use Rattle.chr_store.specs.Faults.{given_back};
 ghost use Rattle.chr_store.specs.Indexed.{LabelHas, IsLeastWith};
@@ -15,10 +15,10 @@ ghost use Rattle.chr_store.specs.declared.store.StoreFault.TheVariants.{LabelsSp
 ghost use Rattle.chr_store.specs.declared.store.CopyFault.TheVariants as copying;
 
 use crate::atoms::{Atoms, Constraints};
-use crate::buckets::{Buckets, enter, leave, next_of};
+use crate::buckets::{Buckets, enter, leave};
 use crate::chosen::Chosen;
-use crate::keys::{Key, is_constant, own_key, value_key};
-use crate::labels::Matches;
+use crate::keys::{is_constant, value_key};
+use chr_index::Matches;
 pub use chr_value::Label;
 use chr_value::{Atom, GREATEST_LABEL, Pred, ValueRef};
 use std::alloc::{AllocError, Allocator};
@@ -49,7 +49,6 @@ pub enum CopyFault {
 pub struct Store<A: Allocator> {
     atoms: Atoms<A>,
     buckets: Buckets<A>,
-    places: Chosen<A>,
     alloc: A,
     limit: u64,
 }
@@ -60,7 +59,6 @@ impl<A: Allocator> Drop for Store<A> {
         let Store {
             atoms: _,
             buckets: _,
-            places: _,
             alloc: _,
             limit: _,
         } = self;
@@ -78,7 +76,7 @@ impl<A: Allocator> Model for Store<A> {
 
     ghost view = { λ s. record { entries = s.atoms.entries; next = s.atoms.next; limit = s.limit } };
 
-    ghost invariant = { λ s. IsIndexed (record { entries = s.atoms.entries; next = s.atoms.next; limit = s.limit }) s.places s.buckets };
+    ghost invariant = { λ s. IsIndexed (record { entries = s.atoms.entries; next = s.atoms.next; limit = s.limit }) s.buckets.places s.buckets };
 }
 
 /// Whether an atom has a value at a place. Places are numbered from 1.
@@ -138,8 +136,7 @@ impl<A: Allocator + Copy> Store<A> {
     {
         Store {
             atoms: Atoms::new(alloc),
-            buckets: Buckets::new(alloc),
-            places: Chosen::new(alloc),
+            buckets: Buckets::new(alloc, Chosen::new(alloc)),
             alloc,
             limit,
         }
@@ -154,8 +151,7 @@ impl<A: Allocator + Copy> Store<A> {
     {
         Ok(Store {
             atoms: Atoms::new(alloc),
-            buckets: Buckets::new(alloc),
-            places: Chosen::of(alloc, places)?,
+            buckets: Buckets::new(alloc, Chosen::of(alloc, places)?),
             alloc,
             limit,
         })
@@ -205,12 +201,12 @@ impl<A: Allocator + Copy> Store<A> {
         if label > self.limit {
             return Err(CopyFault::LabelsSpent);
         }
-        let Ok(()) = enter(&mut self.buckets, self.alloc, &self.places, atom, label) else {
-            leave(&mut self.buckets, &self.places, atom, label);
+        let Ok(()) = enter(&mut self.buckets, self.alloc, atom, label) else {
+            leave(&mut self.buckets, atom, label);
             return Err(CopyFault::NoMemory);
         };
         let Ok(()) = self.atoms.push_copy(atom) else {
-            leave(&mut self.buckets, &self.places, atom, label);
+            leave(&mut self.buckets, atom, label);
             return Err(CopyFault::NoMemory);
         };
         Ok(label)
@@ -250,7 +246,7 @@ impl<A: Allocator + Copy> Store<A> {
         let Some(atom) = self.atoms.get(label) else {
             return None;
         };
-        leave(&mut self.buckets, &self.places, atom, label);
+        leave(&mut self.buckets, atom, label);
         self.atoms.remove(label)
     }
 
@@ -266,32 +262,23 @@ impl<A: Allocator + Copy> Store<A> {
         ensures least { IsLeastMatch self.now.entries (record { pred = pred; key = key_of key.entry; after = after; below = below }) result }
         ensures labelled { IsLabelled self.now }
     {
-        let own = own_key(pred);
         let Some((place, value)) = key else {
-            return next_of(&self.buckets, own, after, below);
+            return self.buckets.of_pred(pred).next_at(after, below);
         };
-        if place == 0 || !self.places.has(pred, place) {
+        let Some(mut labels) = self.buckets.at_place(&value_key(pred, place, &value)) else {
             return next_with(
-                self.buckets.matches(&own),
+                self.buckets.of_pred(pred),
                 &self.atoms,
                 place,
                 &value,
                 after,
                 below,
             );
-        }
-        let key = value_key(pred, place, &value);
+        };
         if is_constant(&value) {
-            return next_of(&self.buckets, key, after, below);
+            return labels.next_at(after, below);
         }
-        next_with(
-            self.buckets.matches(&key),
-            &self.atoms,
-            place,
-            &value,
-            after,
-            below,
-        )
+        next_with(labels, &self.atoms, place, &value, after, below)
     }
 
     /// The labels whose atoms have the predicate and, where `key` is a place and a value, that value at that place: many
@@ -302,12 +289,12 @@ impl<A: Allocator + Copy> Store<A> {
         ensures own { key.entry ≡ None → IsSome result }
     {
         let Some((place, value)) = key else {
-            return Some(self.buckets.matches(&own_key(pred)));
+            return Some(self.buckets.of_pred(pred));
         };
-        if place == 0 || !is_constant(&value) || !self.places.has(pred, place) {
+        if !is_constant(&value) {
             return None;
         }
-        Some(self.buckets.matches(&value_key(pred, place, &value)))
+        self.buckets.at_place(&value_key(pred, place, &value))
     }
 
     /// The constraints with their labels, which rise.
@@ -324,14 +311,13 @@ impl<A: Allocator + Copy> Store<A> {
     pub fn copy(&self, alloc: A) -> Result<Store<A>, AllocError>
         ensures { IfOk result (λ made. made ≡ self.now) }
     {
-        let mut buckets = Buckets::new(alloc);
+        let mut buckets = Buckets::new(alloc, self.buckets.places.copy(alloc)?);
         for (label, atom) in self.atoms.iter() {
-            enter(&mut buckets, alloc, &self.places, atom, label)?;
+            enter(&mut buckets, alloc, atom, label)?;
         }
         Ok(Store {
             atoms: self.atoms.copy(alloc)?,
             buckets,
-            places: self.places.copy(alloc)?,
             alloc,
             limit: self.limit,
         })

@@ -2,12 +2,12 @@
 ghost use Rattle.std.specs.Prelude.{◌≡◌, ◌≢◌, ℕ, ◌≤◌, Option, None, IfSome, IsSome};
 ghost use Rattle.std.specs.Option.{option_copied};
 ghost use Rattle.chr_value.specs.Stores.{atom_at};
-ghost use Rattle.chr_store.specs.Buckets.{IsLeastBetween};
+ghost use Rattle.chr_index.specs.Buckets.{IsLeastBetween};
 ghost use Rattle.chr_store.specs.Keys.{key_of, IsLeastMatch};
 ghost use Rattle.chr_store.specs.Labels.{IsLabelled, entered};
 
-use crate::labels::Matches;
 use crate::store::Store;
+use chr_index::Matches;
 use chr_value::{Atom, Label, Pred, ValueRef};
 use std::alloc::Allocator;
 use std::marker::Model;

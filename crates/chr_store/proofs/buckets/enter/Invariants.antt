@@ -1,6 +1,9 @@
-use Rattle.std.proofs.Common.{◌++◌, ◌∷◌, []}
+use Rattle.std.proofs.Common.{◌≡◌, ◌++◌, ◌∷◌, []}
 use Rattle.chr_store.specs.KeyLabels.{IsChanged}
 use Rattle.chr_store.proofs.buckets.enter.Given as goal
 
 abbrev pub invariant-loop-place : goal.invariant-loop-place
-invariant-loop-place g l = IsChanged (λ ms. ms ++ l.label ∷ []) l.places l.atom l.place l.fn.buckets l.buckets
+invariant-loop-place g l = record {
+  changed : IsChanged (λ ms. ms ++ l.label ∷ []) l.fn.buckets.places l.atom l.place l.fn.buckets l.buckets;
+  places : l.buckets.places ≡ l.fn.buckets.places;
+}

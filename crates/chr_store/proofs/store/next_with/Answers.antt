@@ -1,7 +1,7 @@
 use Rattle.std.proofs.Common.{List, ℕ, subst, sym, ◌∙◌, Some, None}
 use Rattle.std.proofs.lemmas.Bool.{false≢true}
 use Rattle.chr_value.specs.Atoms.{said}
-use Rattle.chr_store.specs.Buckets.{IsLeastBetween}
+use Rattle.chr_index.specs.Buckets.{IsLeastBetween}
 use Rattle.chr_store.proofs.Stored.{passed_more, passed_found, passed_all}
 use Rattle.chr_store.proofs.store.next_with.Goals as goal
 

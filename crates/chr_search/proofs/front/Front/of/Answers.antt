@@ -1,7 +1,7 @@
 use Rattle.std.proofs.Common.{◌≡◌, ◌≤◌, map, length, Some, None, slice_get, refl, sym, ◌∙◌, ap, subst, arith, true≢false}
 use Rattle.std.proofs.lemmas.List.{length-map}
 use Rattle.chr_store.specs.Views.{Seen}
-use Rattle.chr_store.proofs.Walks.{get_there}
+use Rattle.chr_index.proofs.Slots.{get_there}
 use Rattle.chr_search.specs.Trials.{Space, older, MayFollow}
 use Rattle.chr_search.specs.Joined.{join_of}
 use Rattle.chr_search.specs.PlanByPlan.{IsUnplanned, IsJoinOf}

@@ -1,5 +1,5 @@
 use Rattle.std.proofs.Common.{◌≡◌, ◌-◌, ◌≤◌, length, Some, None, refl, sym, subst, ◌∙◌, arith}
-use Rattle.chr_store.proofs.Walks.{get_there}
+use Rattle.chr_index.proofs.Slots.{get_there}
 use Rattle.chr_value.specs.Atoms.{said}
 use Rattle.chr_rule.specs.Parts.{argument, shape}
 use Rattle.chr_rule.specs.Rules.{head_at}

@@ -1,6 +1,6 @@
 use Rattle.std.proofs.lemmas.Bool.Decides.{nat_tests}
 use Rattle.std.proofs.Common.{length, sym, ◌∙◌, ◌≤◌, arith}
-use Rattle.chr_store.proofs.Walks.{get_there}
+use Rattle.chr_index.proofs.Slots.{get_there}
 use Rattle.chr_search.specs.Joined.{join_of}
 use Rattle.chr_search.proofs.Partners.{repeated, no_step}
 use Rattle.chr_search.proofs.Asking.{any_among, narrowed_by}

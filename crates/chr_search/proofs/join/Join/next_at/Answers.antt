@@ -1,5 +1,5 @@
 use Rattle.std.proofs.Common.{IfSome, subst}
-use Rattle.chr_store.specs.Buckets.{IsLeastBetween}
+use Rattle.chr_index.specs.Buckets.{IsLeastBetween}
 use Rattle.chr_search.specs.Joined.{join_of}
 use Rattle.chr_search.specs.Partners.{GivePartners}
 use Rattle.chr_search.proofs.join.Join.next_at.Goals as goal

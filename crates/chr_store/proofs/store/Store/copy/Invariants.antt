@@ -7,5 +7,6 @@ use Rattle.chr_store.proofs.store.Store.copy.Given as goal
 abbrev pub invariant-loop-label : goal.invariant-loop-label
 invariant-loop-label g l = record {
   whole : map shown l.yielded ++ l.label-iterator ≡ l.self-inside.atoms.entries;
-  index : IsIndexOf l.self-inside.places (map shown l.yielded) l.buckets;
+  index : IsIndexOf l.self-inside.buckets.places (map shown l.yielded) l.buckets;
+  places : l.buckets.places ≡ l.self-inside.buckets.places;
 }

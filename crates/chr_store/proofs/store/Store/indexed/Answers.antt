@@ -6,5 +6,5 @@ use Rattle.chr_store.proofs.store.Store.indexed.Goals as goal
 
 pub invariant_of-result : goal.invariant_of-result
 invariant_of-result g c =
-    subst (λ (z : GivenAtoms). IsIndexed (record { entries = z.entries; next = z.next; limit = c.args.limit }) c.in_ok-of.field-0 c.new-2.result) (sym c.new.ensures)
-    (indexed_none c.args.limit c.in_ok-of.field-0 c.new-2.result c.requires c.new-2.ensures)
+    subst (λ (z : GivenAtoms). IsIndexed (record { entries = z.entries; next = z.next; limit = c.args.limit }) c.new-2.result.places c.new-2.result) (sym c.new.ensures)
+    (indexed_none c.args.limit c.new-2.result.places c.new-2.result c.requires c.new-2.ensures.none)

@@ -3,7 +3,7 @@ use Rattle.chr_value.specs.Stores.{Store, drop_label}
 use Rattle.chr_store.specs.Labels.{GivenAtoms, LabelledStore}
 use Rattle.chr_store.specs.Indexed.{IsIndexed}
 use Rattle.chr_store.proofs.Table.{given, labelled_drop, drop_none}
-use Rattle.chr_store.proofs.Stored.{seen, kept_drop}
+use Rattle.chr_store.proofs.Stored.{seen, indexed_by, kept_drop}
 use Rattle.chr_store.proofs.store.Store.remove.Goals as goal
 
 pub returns-in_default-clause-rest : goal.returns-in_default-clause-rest
@@ -15,5 +15,8 @@ pub invariant_of-self : goal.invariant_of-self
 invariant_of-self g c =
     let i = c.self.inside in
     let es = i.atoms.entries in
-    subst (λ (z : GivenAtoms). IsIndexed (seen z i.limit) i.places c.leave.new.buckets) (sym c.remove.ensures.rest)
-    (record { labelled = labelled_drop c.args.label i.atoms.next i.limit es c.self.invariant.labelled; index = kept_drop i.places c.args.label c.in-Some.atom.now es i.buckets c.leave.new.buckets c.self.invariant.labelled.rising (sym c.in-Some.ensures) c.self.invariant.index c.leave.ensures })
+    let old = i.buckets.places in
+    let l = c.leave.ensures in
+    indexed_by (seen c.remove.new.self i.limit) old c.leave.new.buckets.places c.leave.new.buckets l.places
+    (subst (λ (z : GivenAtoms). IsIndexed (seen z i.limit) old c.leave.new.buckets) (sym c.remove.ensures.rest)
+    (record { labelled = labelled_drop c.args.label i.atoms.next i.limit es c.self.invariant.labelled; index = kept_drop old c.args.label c.in-Some.atom.now es i.buckets c.leave.new.buckets c.self.invariant.labelled.rising (sym c.in-Some.ensures) c.self.invariant.index l.changed }))

@@ -1,6 +1,6 @@
 use Rattle.std.proofs.Common.{ℕ, Option, IfSome, subst, option_copied}
 use Rattle.std.proofs.lemmas.Option.{IfSome_then}
-use Rattle.chr_store.specs.Buckets.{IsLeastBetween}
+use Rattle.chr_index.specs.Buckets.{IsLeastBetween}
 use Rattle.chr_store.specs.Keys.{key_of, IsLeastMatch}
 use Rattle.chr_store.specs.Views.{Seen}
 use Rattle.chr_store.proofs.Stored.{asked}

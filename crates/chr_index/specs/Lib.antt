@@ -1,0 +1,4 @@
+pub mod Buckets
+pub mod Walked
+pub mod Probing
+pub mod Indexed
