@@ -47,7 +47,7 @@ pub(crate) enum Link {
     Bucket(u32),
 }
 
-/// A key with its link, in 16 bytes.
+/// A key with its link.
 #[derive(Clone, Copy, Drop)]
 pub(crate) struct Entry {
     word: u64,
@@ -55,6 +55,8 @@ pub(crate) struct Entry {
     kind: Kind,
     state: State,
 }
+
+const _: () = prove!(size_of::<Entry>() == 16);
 
 /// An entry with no key.
 const VACANT: Entry = Entry {

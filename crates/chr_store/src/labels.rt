@@ -1,5 +1,5 @@
 //! The labels of one key, where one alone takes no memory.
-ghost use Rattle.std.specs.Prelude.{◌≡◌, ◌<◌, ◌++◌, ◌∷◌, [], OnOk, OnErr, IsTrue};
+ghost use Rattle.std.specs.Prelude.{◌≡◌, ◌<◌, ◌++◌, ◌∷◌, [], OnOk, OnErr};
 ghost use Rattle.std.specs.List.{AllByRecursion};
 ghost use Rattle.chr_index.specs.Buckets.{drop_number};
 
@@ -37,17 +37,6 @@ impl<A: Allocator + Copy> Labels<A> {
         ensures { result ≡ [] }
     {
         Labels { kept: Kept::None }
-    }
-
-    /// Whether there are none, and no memory is held. Where there are none but it is held, the answer is false.
-    pub fn is_bare(&self) -> bool
-        ensures { IsTrue result → self.now ≡ [] }
-    {
-        match &self.kept {
-            Kept::None => true,
-            Kept::One(_) => false,
-            Kept::Many(bucket) => bucket.has_no_slots(),
-        }
     }
 
     /// One label more, above the others. E01 where they could not grow, and are then unchanged.
