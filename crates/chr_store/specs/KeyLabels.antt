@@ -10,7 +10,7 @@ use Rattle.chr_store.specs.declared.buckets.Buckets.{Buckets}
 use Rattle.chr_store.specs.Index.{Places, chosen, fits, is_own, number_of, pred_of, same_value}
 use Rattle.chr_store.specs.Rows.{row_of}
 
--- the key of a value in an index of its place, and the labels there, where 64 bits can say the value
+-- the key of a value in the index of its place, and the labels there, where 64 bits can say it
 abbrev pub index_key : KeyValue → IndexKey
 index_key v = record { word = word_of v; kind = kind_of v }
 

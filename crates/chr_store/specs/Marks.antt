@@ -33,4 +33,5 @@ first_of places pred (suc i) = number_of places pred (suc i)
 -- marks tell the numbers of places
 abbrev pub AreMarks : List (Option ℕ) → Places → Type 0
 AreMarks marks places =
-    (pred : Pred) (place i : ℕ) → IsMarkOf pred place i → mark_at marks i ≡ first_of places pred place
+    (pred : Pred) (place i : ℕ) → IsMarkOf pred place i →
+    mark_at marks i ≡ first_of places pred place
