@@ -25,32 +25,32 @@ use chr_sheet::Judgements;
 use chr_store::Label;
 use std::alloc::{AllocError, Allocator};
 use std::hint::spin_loop;
-use std::sync::atomic::{AtomicBool, AtomicU64};
+use std::sync::atomic::{AtomicBool, AtomicU64, Ordering};
 use std::sync::ledger::Ledger;
 use std::sync::{Condvar, Mutex, MutexGuard, Wait};
+use std::thread;
 
 /// How often a call looks whether the lock is free before its thread sleeps.
-const LOOKS: u32 = 12;
+const MOST_LOOKS: u32 = 500;
 
-/// How often it pauses after a look at most. What a hold touches takes longer to move from processor to processor than a short
-/// hold takes, so it pays to leave the lock for many holds to the thread that has it.
+/// How often the processor pauses between two looks at most.
 const MOST_PAUSES: u32 = 3200;
 
-/// How often it pauses after its first look where its hold is long, which pays for the move. Each time after that it pauses
-/// twice as often.
+/// How often it pauses before the second look of a call whose hold is long. Each time after that it pauses twice as often.
 const LONG_HOLD_PAUSES: u32 = 200;
+
+/// How often it pauses at most while a long hold of another lasts: some ten times as long as such a hold.
+const PAUSES_BESIDE_LONG_HOLD: u32 = 2000;
+
+/// Through how many looks at most a call leaves the lock to those who make one short hold after another. What a hold touches
+/// takes longer to move from processor to processor than a short hold takes, so it pays that one thread makes many.
+const MOST_LEFT: u32 = 64;
+
+/// After how many holds their number is told to those who wait. So many between two looks are one after another.
+const HOLDS_TOLD_TOGETHER: u64 = 16;
 
 /// From how many trials on that it may read a hold is a long one.
 const TRIALS_OF_LONG_HOLD: usize = 128;
-
-/// How often a call that may read so many trials pauses after its first look.
-fn pauses_for(most: usize) -> u32 {
-    if most < TRIALS_OF_LONG_HOLD {
-        MOST_PAUSES
-    } else {
-        LONG_HOLD_PAUSES
-    }
-}
 
 /// Pauses so often.
 fn pause(times: u32) {
@@ -78,6 +78,10 @@ pub struct Shared<L1: PostLedger, L2: Ledger, A: Allocator> {
     pub(crate) news: AtomicU64,
     /// Whether workers that wait for the end are to end.
     pub(crate) closed: AtomicBool,
+    /// Whether the lock is held long. Those who hold it set this, and those who wait for it read it.
+    is_held_long: AtomicBool,
+    /// How many holds seats have made, modulo 2^64, told after each sixteenth. Those who wait for the lock read it.
+    told_holds: AtomicU64,
 }
 
 // Not derived, as for a book.
@@ -89,6 +93,8 @@ impl<L1: PostLedger, L2: Ledger, A: Allocator> Drop for Shared<L1, L2, A> {
             watched: _,
             news: _,
             closed: _,
+            is_held_long: _,
+            told_holds: _,
         } = self;
     }
 }
@@ -103,6 +109,8 @@ impl<L1: PostLedger, L2: Ledger, A: Allocator + Copy> Shared<L1, L2, A> {
             watched: Condvar::new(),
             news: AtomicU64::new(0),
             closed: AtomicBool::new(false),
+            is_held_long: AtomicBool::new(false),
+            told_holds: AtomicU64::new(0),
         }
     }
 
@@ -157,6 +165,8 @@ impl<L1: PostLedger, L2: Ledger, A: Allocator + Copy> Shared<L1, L2, A> {
             watched: _,
             news: _,
             closed: _,
+            is_held_long: _,
+            told_holds: _,
         } = self;
         locked.into_inner().kept
     }
@@ -173,27 +183,100 @@ impl<L1: PostLedger, L2: Ledger, A: Allocator + Copy> Shared<L1, L2, A> {
         kept.audit(workers, sessions);
     }
 
-    /// Takes the lock for a call that pauses so often after its first look.
-    #[inline(always)]
-    fn begin_hold<R: Wait>(&self, rt: &R, pauses: u32) -> MutexGuard<'_, Locked<L1, L2, A>> {
+    /// Takes the lock for a call with a short hold.
+    #[inline(never)]
+    fn begin_hold<R: Wait>(&self, rt: &R) -> MutexGuard<'_, Locked<L1, L2, A>> {
+        match self.locked.try_lock() {
+            Some(locked) => locked,
+            None => self.wait_for_lock(rt, MOST_PAUSES),
+        }
+    }
+
+    /// Takes the lock for a call with a long hold.
+    #[inline(never)]
+    fn begin_long_hold<R: Wait>(&self, rt: &R) -> MutexGuard<'_, Locked<L1, L2, A>> {
+        let locked = match self.locked.try_lock() {
+            Some(locked) => locked,
+            None => self.wait_for_lock(rt, LONG_HOLD_PAUSES),
+        };
+        self.is_held_long.store(true, Ordering::SeqCst);
+        locked
+    }
+
+    /// Takes the lock, which was held just now. Where it is held long its end is waited for; else the processor pauses so often
+    /// before the next look, and twice as often each time after that. While others make many holds it is left to them for a time.
+    /// Before each look the thread lets those run that want its processor, of which one may have the lock.
+    fn wait_for_lock<R: Wait>(&self, rt: &R, pauses: u32) -> MutexGuard<'_, Locked<L1, L2, A>> {
         let mut pauses = pauses;
-        for _ in 0..LOOKS {
+        let mut seen = self.told_holds.load(Ordering::SeqCst);
+        let mut left = 0;
+        for _ in 0..MOST_LOOKS {
+            if !self.outlasts_long_hold() {
+                pause(pauses);
+                pauses = pauses.saturating_mul(2).min(MOST_PAUSES);
+                thread::yield_now();
+            }
+            let told = self.told_holds.load(Ordering::SeqCst);
+            if told != seen && left < MOST_LEFT {
+                seen = told;
+                left += 1;
+                continue;
+            }
+            left = 0;
             if let Some(locked) = self.locked.try_lock() {
                 return locked;
             }
-            pause(pauses);
-            pauses = pauses.saturating_mul(2).min(MOST_PAUSES);
         }
         self.locked.lock(rt)
+    }
+
+    /// Waits while the lock is held long, but not for ever. False where it wasn't.
+    fn outlasts_long_hold(&self) -> bool {
+        if !self.is_held_long.load(Ordering::SeqCst) {
+            return false;
+        }
+        for _ in 0..PAUSES_BESIDE_LONG_HOLD {
+            pause(1);
+            if !self.is_held_long.load(Ordering::SeqCst) {
+                // The lock is given back just after the mark is taken off.
+                pause(1);
+                return true;
+            }
+        }
+        thread::yield_now();
+        true
     }
 
     /// Ends the hold of a call. Now and then the sessions that sleep are told then, so that they see a run that goes on and on.
     fn end_hold(&self, mut locked: MutexGuard<'_, Locked<L1, L2, A>>) {
         let look = locked.sleepers.count_hold();
+        let holds = locked.sleepers.holds;
+        if holds % HOLDS_TOLD_TOGETHER == 0 {
+            self.told_holds.store(holds, Ordering::SeqCst);
+        }
         drop(locked);
         if look {
             self.watched.notify_all();
         }
+    }
+
+    /// Takes the lock for a call that may read so many trials.
+    #[inline(always)]
+    fn begin_reading<R: Wait>(&self, rt: &R, most: usize) -> MutexGuard<'_, Locked<L1, L2, A>> {
+        if most < TRIALS_OF_LONG_HOLD {
+            self.begin_hold(rt)
+        } else {
+            self.begin_long_hold(rt)
+        }
+    }
+
+    /// Ends the hold of a call that may have read so many trials.
+    #[inline(always)]
+    fn end_reading(&self, locked: MutexGuard<'_, Locked<L1, L2, A>>, most: usize) {
+        if TRIALS_OF_LONG_HOLD <= most {
+            self.is_held_long.store(false, Ordering::SeqCst);
+        }
+        self.end_hold(locked);
     }
 
     /// Makes a call by a seat, which adds posts or other entries.
@@ -210,7 +293,12 @@ impl<L1: PostLedger, L2: Ledger, A: Allocator + Copy> Shared<L1, L2, A> {
         ensures posts { C.posts ≡ false → seat.new.counts.posts ≡ seat.old.counts.posts }
         ensures others { C.posts ≡ true → seat.new.counts.others ≡ seat.old.counts.others }
     {
-        let mut locked = self.begin_hold(rt, MOST_PAUSES);
+        // A client waits for its post, so that one doesn't leave the lock to workers.
+        let mut locked = if are_posts {
+            self.locked.lock(rt)
+        } else {
+            self.begin_hold(rt)
+        };
         let answer = locked.kept.hold(seat, call, are_posts);
         self.end_hold(locked);
         answer
@@ -251,9 +339,9 @@ impl<L1: PostLedger, L2: Ledger, A: Allocator + Copy> Shared<L1, L2, A> {
         ensures posts { seat.new.counts.posts ≡ seat.old.counts.posts }
         ensures known { IfOk result (λ r. IfSome r.1 (λ k. IfOk (claimed_of r.0) (IsKnownOf k.version k.search))) }
     {
-        let mut locked = self.begin_hold(rt, pauses_for(most));
+        let mut locked = self.begin_reading(rt, most);
         let answer = locked.kept.claim_sheet(seat, ticket, most);
-        self.end_hold(locked);
+        self.end_reading(locked, most);
         answer
     }
 
@@ -271,9 +359,9 @@ impl<L1: PostLedger, L2: Ledger, A: Allocator + Copy> Shared<L1, L2, A> {
         ensures posts { seat.new.counts.posts ≡ seat.old.counts.posts }
         ensures known { IfOk result (λ r. IfSome r.1 (λ k. IsKnownOf k.version k.search (sheet_of r.0))) }
     {
-        let mut locked = self.begin_hold(rt, pauses_for(most));
+        let mut locked = self.begin_reading(rt, most);
         let answer = locked.kept.sheet(seat, ticket, most);
-        self.end_hold(locked);
+        self.end_reading(locked, most);
         answer
     }
 
@@ -295,9 +383,9 @@ impl<L1: PostLedger, L2: Ledger, A: Allocator + Copy> Shared<L1, L2, A> {
         ensures posts { seat.new.counts.posts ≡ seat.old.counts.posts }
         ensures known { IfOk result (λ r. IfSome r.1 (λ k. IsKnownAfter k.version k.search (following_of r.0.following))) }
     {
-        let mut locked = self.begin_hold(rt, pauses_for(most));
+        let mut locked = self.begin_reading(rt, most);
         let answer = locked.kept.report_sheet(seat, ticket, judged, most);
-        self.end_hold(locked);
+        self.end_reading(locked, most);
         answer
     }
 
