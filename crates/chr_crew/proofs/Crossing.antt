@@ -32,6 +32,7 @@ use Rattle.chr_value.proofs.value.Value.TheLaws.TheKnot as value
 use Rattle.chr_value.proofs.names.Names.TheSendSync as names
 use Rattle.chr_plan.proofs.plans.Plans.TheSendSync as plans
 use Rattle.chr_store.proofs.buckets.Buckets.TheSendSync as buckets
+use Rattle.slab.proofs.Slab.TheSendSync as slabs
 use Rattle.chr_tickets.specs.contracts.ticket.Ticket as Ticket
 use Rattle.chr_tickets.specs.contracts.tickets.Tickets as Tickets
 use Rattle.chr_book.specs.contracts.book.Book as Book
@@ -58,10 +59,6 @@ fields-send T all = recorded_send (Struct (shape T)) T.D T.to T.to_one (struct_s
 
 fields-sync : (T : Declared) → AllSync (shape T).fields → IsSync (row T)
 fields-sync T all = recorded_sync (Struct (shape T)) T.D T.to T.to_one (struct_sync (shape T) all)
-
--- a list of boxes that may lack
-boxes-send : (A R : RattleType) (g : Ghosts A.Denot) → IsSend R → IsSend A → Frees g g.dealloc_token → IsSend (Vec.the_field (Option.the_row (Box.the_row R A g)) A g).row
-boxes-send A R g r s f = search basis fits 5000 depth 40
 
 module _ (A : RattleType) (g : Ghosts A.Denot) where
   pub Atom-send : IsSend A → Frees g g.dealloc_token → IsSend (Atom.the_row A g)
@@ -104,8 +101,8 @@ module _ (A : RattleType) (g : Ghosts A.Denot) where
 
   Atoms-send : IsSend A → Frees g g.dealloc_token → IsSend (Atoms.the_row A g)
   Atoms-send s f =
-      let boxes = boxes-send A (Atom.the_row A g) g (Atom-send s f) s f in
-      let i = fields-send (InsideAtoms.the_type A g) (boxes, (search basis fits 5000 depth 40, (search sendable, tt))) in
+      let held = slabs.the_send (Atom.the_row A g) A g (Atom-send s f) s f in
+      let i = fields-send (InsideAtoms.the_type A g) (search (basis, held) fits 5000 depth 40, (search basis fits 5000 depth 40, (search basis fits 5000 depth 40, tt))) in
       search (basis, i) fits 5000 depth 40
 
   pub Store-send : IsSend A → Frees g g.dealloc_token → IsSend (Store.the_row A g)

@@ -33,8 +33,8 @@ pub enum Left {
     WrongSeat,
 }
 
-/// How many trials the first sheet of a goal has at most.
-const FIRST_SHEET: usize = MOST_IN_BATCH;
+/// How many trials a sheet has at most that follows few judgements or none.
+const LEAST_SHEET: usize = MOST_IN_BATCH;
 
 /// How many trials any sheet has at most.
 const LARGEST_SHEET: usize = 256;
@@ -95,10 +95,10 @@ enum After {
     Left(Left),
 }
 
-/// How many trials the sheet after so many judgements has at most: twice as many, so that a goal of many trials takes few
-/// holds.
+/// How many trials the sheet after so many judgements has at most: twice as many, so that goals of many trials take few
+/// holds. A worker's next goal often takes about as many as the last one.
 fn size_after(judged: usize) -> usize {
-    judged.saturating_mul(2).max(FIRST_SHEET).min(LARGEST_SHEET)
+    judged.saturating_mul(2).max(LEAST_SHEET).min(LARGEST_SHEET)
 }
 
 /// How a worker leaves a ticket where a hold made no call.
@@ -139,6 +139,7 @@ fn judge_sheet<L1: PostLedger, A: Allocator + Copy, G: Gate>(
     given: Result<Sheet<A>, TurnFault>,
     known: Option<Known<L1, A>>,
     call: &mut Call<L1, A>,
+    judged: &mut usize,
 ) -> After
     requires { IfSome known (λ k. IsKnownOf k.version k.search (sheet_of given)) }
 {
@@ -149,6 +150,7 @@ fn judge_sheet<L1: PostLedger, A: Allocator + Copy, G: Gate>(
             let trials = KnownTrials::of(trials, known);
             match trials.judge(alloc, &AtTicket { gate, ticket }) {
                 Ok(judgements) => {
+                    *judged = judgements.judgements().len();
                     *call = fire_or_report(judgements);
                     After::Call
                 }
@@ -197,12 +199,13 @@ fn after_claim_sheet<L1: PostLedger, A: Allocator + Copy, G: Gate>(
         HoldFault,
     >,
     call: &mut Call<L1, A>,
+    judged: &mut usize,
 ) -> After
     requires { IfOk answer (λ r. IfSome r.1 (λ k. IfOk (claimed_of r.0) (IsKnownOf k.version k.search))) }
 {
     match answer {
         Ok((claimed, known)) => match claimed {
-            Ok(given) => judge_sheet(gate, ticket, given, known, call),
+            Ok(given) => judge_sheet(gate, ticket, given, known, call, judged),
             Err(fault) => After::Left(left_unclaimed(fault)),
         },
         Err(fault) => After::Left(left_by(fault)),
@@ -215,11 +218,12 @@ fn after_sheet<L1: PostLedger, A: Allocator + Copy, G: Gate>(
     ticket: u64,
     answer: Result<(Result<Sheet<A>, TurnFault>, Option<Known<L1, A>>), HoldFault>,
     call: &mut Call<L1, A>,
+    judged: &mut usize,
 ) -> After
     requires { IfOk answer (λ r. IfSome r.1 (λ k. IsKnownOf k.version k.search (sheet_of r.0))) }
 {
     match answer {
-        Ok((given, known)) => judge_sheet(gate, ticket, given, known, call),
+        Ok((given, known)) => judge_sheet(gate, ticket, given, known, call, judged),
         Err(fault) => After::Left(left_by(fault)),
     }
 }
@@ -280,6 +284,7 @@ fn after_report_sheet<L1: PostLedger, A: Allocator + Copy, G: Gate>(
     ticket: u64,
     answer: Result<(SheetReport<A>, Option<Known<L1, A>>), HoldFault>,
     call: &mut Call<L1, A>,
+    judged: &mut usize,
 ) -> After
     requires { IfOk answer (λ r. IfSome r.1 (λ k. IsKnownAfter k.version k.search (following_of r.0.following))) }
 {
@@ -287,7 +292,7 @@ fn after_report_sheet<L1: PostLedger, A: Allocator + Copy, G: Gate>(
         Ok((report, known)) => match report.following {
             Following::Fire(answer) => after_firing(answer, call),
             Following::Drop(answer) => after_dropping(answer, call),
-            Following::Sheet(given) => judge_sheet(gate, ticket, given, known, call),
+            Following::Sheet(given) => judge_sheet(gate, ticket, given, known, call, judged),
             Following::Nothing(fault) => After::Left(left_without_turn(fault)),
         },
         Err(fault) => After::Left(left_by(fault)),
@@ -303,31 +308,32 @@ fn make<L1: PostLedger, L2: Ledger, A: Allocator + Copy, R: Wait, G: Gate>(
     ticket: u64,
     call: &mut Call<L1, A>,
     turns: u64,
+    judged: &mut usize,
 ) -> After
     ensures number { seat.new.number ≡ seat.old.number }
     ensures posts { seat.new.counts.posts ≡ seat.old.counts.posts }
 {
+    let most = size_after(*judged);
     match call {
         _ if turns == 0 => After::Left(Left::Spent),
         Call::Claim if turns == 1 => after_claim(shared.claim(rt, seat, ticket), call),
         Call::Claim => {
-            let answer = shared.claim_sheet(rt, seat, ticket, FIRST_SHEET);
-            after_claim_sheet(gate, ticket, answer, call)
+            let answer = shared.claim_sheet(rt, seat, ticket, most);
+            after_claim_sheet(gate, ticket, answer, call, judged)
         }
         Call::Sheet => {
-            let answer = shared.sheet(rt, seat, ticket, FIRST_SHEET);
-            after_sheet(gate, ticket, answer, call)
+            let answer = shared.sheet(rt, seat, ticket, most);
+            after_sheet(gate, ticket, answer, call, judged)
         }
-        Call::Report(judged) if turns == 1 => {
-            let answer = shared.report_all(rt, seat, ticket, judged.judgements());
+        Call::Report(judgements) if turns == 1 => {
+            let answer = shared.report_all(rt, seat, ticket, judgements.judgements());
             after_report(answer, call)
         }
-        Call::Report(judged) => {
-            let most = size_after(judged.judgements().len());
-            let answer = shared.report_sheet(rt, seat, ticket, judged, most);
-            after_report_sheet(gate, ticket, answer, call)
+        Call::Report(judgements) => {
+            let answer = shared.report_sheet(rt, seat, ticket, judgements, most);
+            after_report_sheet(gate, ticket, answer, call, judged)
         }
-        Call::Fire(judged) => match shared.fire(rt, seat, ticket, judged) {
+        Call::Fire(whole) => match shared.fire(rt, seat, ticket, whole) {
             Ok(answer) => after_firing(answer, call),
             Err(fault) => After::Left(left_by(fault)),
         },
@@ -394,6 +400,7 @@ pub fn work_on_ticket<L1: PostLedger, L2: Ledger, A: Allocator + Copy, R: Wait, 
     seat: &mut Seat<L1, L2>,
     gate: &G,
     stop: &mut Stop,
+    judged: &mut usize,
     ticket: u64,
 ) -> Left
     ensures hand { hand_id hand.new ≡ hand_id hand.old }
@@ -403,7 +410,7 @@ pub fn work_on_ticket<L1: PostLedger, L2: Ledger, A: Allocator + Copy, R: Wait, 
     let mut call = Call::Claim;
     for _ in rt.forever() {
         let turns = stop.spend(call.turns(), shared.is_closed());
-        let left = match make(rt, shared, seat, gate, ticket, &mut call, turns) {
+        let left = match make(rt, shared, seat, gate, ticket, &mut call, turns, judged) {
             After::Call => continue,
             After::Fired(fired) => {
                 push_new(rt, shared, hand, fired);

@@ -2,9 +2,10 @@
 //!
 //! [`work`](work::work) is what one worker does: it takes a ticket from the pool of `chr_pool`, by its hand, or else a stray
 //! one of the book, claims it by its seat, and goes through the trials of its goal until that ends. Each call of the book is
-//! made in a hold of the lock of `chr_shared`. One hold claims the ticket and gives its next trials, sixteen at most; they
-//! are judged while the lock is free, a [`Gate`] called before each judgement, up to the first that is whole; and one more
-//! hold reports the judgements and fires, drops the goal, or gives the next trials, twice as many as before and at most 256.
+//! made in a hold of the lock of `chr_shared`. One hold claims the ticket and gives its first trials; they are judged while
+//! the lock is free, a [`Gate`] called before each judgement, up to the first that is whole; and one more hold reports the
+//! judgements and fires, drops the goal, or gives the next trials. What a hold gives is sixteen trials, or twice as many as
+//! the worker judged of what the last one gave, and at most 256.
 //! New tickets go on the worker's hand, where other workers may steal them. After each 32 tickets a worker looks first into
 //! the queue that sessions feed and for a stray ticket, in turn, so that tickets of its own without end keep none of these
 //! waiting.

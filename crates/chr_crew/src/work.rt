@@ -83,6 +83,7 @@ fn look_once<L1: PostLedger, L2: Ledger, A: Allocator + Copy, R: Wait, G: Gate>(
     gate: &G,
     stop: &mut Stop,
     worked: &mut u64,
+    judged: &mut usize,
 ) -> Next
     ensures hand { hand_id hand.new ≡ hand_id hand.old }
     ensures number { seat.new.number ≡ seat.old.number }
@@ -96,7 +97,7 @@ fn look_once<L1: PostLedger, L2: Ledger, A: Allocator + Copy, R: Wait, G: Gate>(
     let Some(ticket) = find(rt, shared, hand, *worked) else {
         return rest(rt, shared, *stop, seen);
     };
-    let left = work_on_ticket(rt, shared, hand, seat, gate, stop, ticket);
+    let left = work_on_ticket(rt, shared, hand, seat, gate, stop, judged, ticket);
     let looked_elsewhere = looks_elsewhere(*worked);
     *worked = worked.wrapping_add(1);
     match (left, *stop) {
@@ -133,9 +134,19 @@ pub fn work<L1: PostLedger, L2: Ledger, A: Allocator + Copy, R: Wait, G: Gate>(
 {
     let mut stop = stop;
     let mut worked: u64 = 0;
+    let mut judged = 0;
     shared.begin(rt);
     for _ in rt.forever() {
-        match look_once(rt, shared, hand, seat, gate, &mut stop, &mut worked) {
+        match look_once(
+            rt,
+            shared,
+            hand,
+            seat,
+            gate,
+            &mut stop,
+            &mut worked,
+            &mut judged,
+        ) {
             Next::Look => {}
             Next::Leave => {
                 shared.announce(rt);
